@@ -1,0 +1,12 @@
+pub mod BitLemmas
+pub mod Turning
+pub mod Lanes
+pub mod PairLemmas
+pub mod RunLemmas
+pub mod Spans
+pub mod Steps
+pub mod PlaneLemmas
+pub mod BoardLemmas
+pub mod Boards
+pub mod CellLemmas
+pub mod GridLemmas

@@ -1,0 +1,204 @@
+-- Blocks on the plane
+use Rattle.std.proofs.Common.{◌≡◌, ℕ, Bool, true, false, ◌&&◌, not, ◌<◌, ◌≤◌, ◌+◌, ◌-◌, ◌%◌, zero, suc, refl, arith, ◌⊎◌, inl, inr}
+use Rattle.std.specs.Prelude.{ℤ, pos, negsuc, ◌+ℤ◌, ◌-ℤ◌, nat_lt}
+use Rattle.std.proofs.lemmas.Int.{ints}
+use Rattle.std.proofs.lemmas.Bool.Decides.{nat_tests}
+use Rattle.bbm_rule.specs.Plane.{State, partner, step, turned}
+use Rattle.bbm_rule.specs.Rows.{mate}
+use Rattle.bbm_rule.specs.Board.{Board, live}
+use Rattle.bbm_rule.proofs.Steps.{step_dead}
+use Rattle.bbm_rule.proofs.BitLemmas.{by_lt_or_le, by_eq_or_not}
+use Rattle.bbm_rule.proofs.PairLemmas.{mate_even, mate_odd}
+
+-- the coordinate that stands at place n of a row with a margin of one
+abbrev pub ext : ℕ → ℤ
+ext zero = negsuc 0
+ext (suc n) = pos n
+
+pub dead_block : turned false false false false ≡ false
+unfolding turned
+dead_block = refl
+
+-- a turn undoes itself
+pub turned_twice : (a b c d : Bool) → turned (turned a d b c) (turned d a c b) (turned b c a d) (turned c b d a) ≡ a
+unfolding turned
+turned_twice true true true true = refl
+turned_twice true true true false = refl
+turned_twice true true false true = refl
+turned_twice true true false false = refl
+turned_twice true false true true = refl
+turned_twice true false true false = refl
+turned_twice true false false true = refl
+turned_twice true false false false = refl
+turned_twice false true true true = refl
+turned_twice false true true false = refl
+turned_twice false true false true = refl
+turned_twice false true false false = refl
+turned_twice false false true true = refl
+turned_twice false false true false = refl
+turned_twice false false false true = refl
+turned_twice false false false false = refl
+
+pub mate_twice : (j : ℕ) → mate (mate j) ≡ j
+mate_twice j =
+    by_eq_or_not (j % 2) 0
+    (λ even. rw (mate_even j even) (mate_odd j even))
+    (λ odd.
+    let i : ℕ = j - 1 in
+    let e : j ≡ 1 + i = omega arith in
+    let even : i % 2 ≡ 0 = omega arith in
+    rw (e, mate_odd i even) (mate_even i even))
+
+-- ---- the partner of a coordinate
+pred_pos : (i : ℕ) → pos (suc i) -ℤ pos 1 ≡ pos i
+pred_pos i = omega (arith, ints)
+
+next_neg : (i : ℕ) → negsuc (suc i) +ℤ pos 1 ≡ negsuc i
+next_neg i = omega (arith, ints)
+
+mate_of_odd : (i : ℕ) → i % 2 ≡ 0 → mate (suc i) ≡ i
+mate_of_odd i even = let e : suc i ≡ 1 + i = omega arith in rw e (mate_odd i even)
+
+pub partner-even_pos : (t n : ℕ) → t % 2 ≡ 0 → partner t (pos n) ≡ pos (mate n)
+unfolding partner
+partner-even_pos t n at_even =
+    by_eq_or_not (n % 2) 0
+    (λ even. rw (at_even, even, mate_even n even) (omega (arith, ints)))
+    (λ odd.
+    let i : ℕ = n - 1 in
+    let e : n ≡ suc i = omega arith in
+    let even : i % 2 ≡ 0 = omega arith in
+    let one : suc i % 2 ≡ 1 = omega arith in
+    rw (at_even, e, one, mate_of_odd i even) (pred_pos i))
+
+pub partner-even_neg : (t n : ℕ) → t % 2 ≡ 0 → partner t (negsuc n) ≡ negsuc (mate n)
+unfolding partner
+partner-even_neg t n at_even =
+    by_eq_or_not (n % 2) 0
+    (λ even. let one : (n + 1) % 2 ≡ 1 = omega arith in rw (at_even, one, mate_even n even) (omega (arith, ints)))
+    (λ odd.
+    let i : ℕ = n - 1 in
+    let e : n ≡ suc i = omega arith in
+    let even : i % 2 ≡ 0 = omega arith in
+    let none : (suc i + 1) % 2 ≡ 0 = omega arith in
+    rw (at_even, e, none, mate_of_odd i even) (next_neg i))
+
+pub partner-odd_neg : (t n : ℕ) → t % 2 ≡ 1 → partner t (negsuc (suc n)) ≡ negsuc (suc (mate n))
+unfolding partner
+partner-odd_neg t n at_odd =
+    by_eq_or_not (n % 2) 0
+    (λ even. let none : (suc n + 1) % 2 ≡ 0 = omega arith in rw (at_odd, none, mate_even n even) (omega (arith, ints)))
+    (λ odd.
+    let i : ℕ = n - 1 in
+    let e : n ≡ suc i = omega arith in
+    let even : i % 2 ≡ 0 = omega arith in
+    let one : (suc (suc i) + 1) % 2 ≡ 1 = omega arith in
+    rw (at_odd, e, one, mate_of_odd i even) (next_neg (suc i)))
+
+pub partner-odd_ext : (t n : ℕ) → t % 2 ≡ 1 → partner t (ext n) ≡ ext (mate n)
+unfolding partner mate
+partner-odd_ext t zero at_odd = rw at_odd refl
+partner-odd_ext t (suc zero) at_odd = rw at_odd refl
+partner-odd_ext t (suc (suc n)) at_odd =
+    by_eq_or_not (n % 2) 0
+    (λ even.
+    let one : suc n % 2 ≡ 1 = omega arith in
+    let none : suc (suc n) % 2 ≡ 0 = omega arith in
+    let place : suc (suc n) + 1 ≡ suc (suc (suc n)) = omega arith in
+    rw (at_odd, one, none, place) (omega (arith, ints)))
+    (λ odd.
+    let one : suc n % 2 ≡ 0 = omega arith in
+    let none : suc (suc n) % 2 ≡ 1 = omega arith in
+    let place : suc (suc n) - 1 ≡ suc n = omega arith in
+    rw (at_odd, one, none, place) (omega (arith, ints)))
+
+pub partner_twice : (t : ℕ) (u : ℤ) → partner t (partner t u) ≡ u
+partner_twice t u = by_eq_or_not (t % 2) 0 (λ even. at_even u even) (λ odd. at_odd u (omega arith))
+  where
+    at_even : (u : ℤ) → t % 2 ≡ 0 → partner t (partner t u) ≡ u
+    at_even (pos n) even = rw (partner-even_pos t n even, partner-even_pos t (mate n) even, mate_twice n) refl
+    at_even (negsuc n) even = rw (partner-even_neg t n even, partner-even_neg t (mate n) even, mate_twice n) refl
+
+    at_ext : (n : ℕ) → t % 2 ≡ 1 → partner t (partner t (ext n)) ≡ ext n
+    at_ext n odd = rw (partner-odd_ext t n odd, partner-odd_ext t (mate n) odd, mate_twice n) refl
+
+    at_odd : (u : ℤ) → t % 2 ≡ 1 → partner t (partner t u) ≡ u
+    at_odd (pos n) odd = at_ext (suc n) odd
+    at_odd (negsuc zero) odd = at_ext zero odd
+    at_odd (negsuc (suc n)) odd = rw (partner-odd_neg t n odd, partner-odd_neg t (mate n) odd, mate_twice n) refl
+
+-- a step undoes itself
+pub step_twice : (t : ℕ) (s : State) (x y : ℤ) → step t (step t s) x y ≡ s x y
+unfolding step
+step_twice t s x y = rw (partner_twice t x, partner_twice t y) (turned_twice (s x y) (s (partner t x) y) (s x (partner t y)) (s (partner t x) (partner t y)))
+
+-- ---- outside a board
+abbrev pub is_out : ℕ → ℤ → Bool
+is_out n (pos x) = not (nat_lt x n)
+is_out n (negsuc x) = true
+
+pub column_dead : (b : Board) (u v : ℤ) → is_out b.width u ≡ true → live b u v ≡ false
+column_dead b (pos x) (pos y) h = rw (from_not (nat_lt x b.width) h) refl
+  where
+    from_not : (t : Bool) → not t ≡ true → t ≡ false
+    from_not true h = cc
+    from_not false h = refl
+column_dead b (pos x) (negsuc y) h = refl
+column_dead b (negsuc x) v h = refl
+
+pub row_dead : (b : Board) (u v : ℤ) → is_out b.height v ≡ true → live b u v ≡ false
+row_dead b (pos x) (pos y) h = rw (from_not (nat_lt y b.height) h) (and_false (nat_lt x b.width) _)
+  where
+    from_not : (t : Bool) → not t ≡ true → t ≡ false
+    from_not true h = cc
+    from_not false h = refl
+
+    and_false : (a b : Bool) → (a && false && b) ≡ false
+    and_false true b = refl
+    and_false false b = refl
+row_dead b (pos x) (negsuc y) h = refl
+row_dead b (negsuc x) v h = refl
+
+-- a coordinate and its partner are outside, so that its blocks are dead
+pub record IsFar (t : ℕ) (n : ℕ) (u : ℤ) : Type 0 where
+  pub own : is_out n u ≡ true
+  pub other : is_out n (partner t u) ≡ true
+
+pub far_column : (t : ℕ) (b : Board) (u v : ℤ) → IsFar t b.width u → step t (live b) u v ≡ false
+far_column t b u v far = step_dead t (live b) u v (column_dead b u v far.own) (column_dead b (partner t u) (partner t v) far.other) (column_dead b (partner t u) v far.other) (column_dead b u (partner t v) far.own)
+
+pub far_row : (t : ℕ) (b : Board) (u v : ℤ) → IsFar t b.height v → step t (live b) u v ≡ false
+far_row t b u v far = step_dead t (live b) u v (row_dead b u v far.own) (row_dead b (partner t u) (partner t v) far.other) (row_dead b (partner t u) v far.own) (row_dead b u (partner t v) far.other)
+
+out_pos : (n x : ℕ) → n ≤ x → is_out n (pos x) ≡ true
+out_pos n x le = let e : nat_lt x n ≡ false = grind (arith, nat_tests) in rw e refl
+
+pub mate_ge : (j n : ℕ) → n % 2 ≡ 0 → n ≤ j → n ≤ mate j
+mate_ge j n whole le =
+    by_eq_or_not (j % 2) 0
+    (λ even. rw (mate_even j even) (omega arith))
+    (λ odd.
+    let i : ℕ = j - 1 in
+    let e : j ≡ 1 + i = omega arith in
+    rw (e, mate_odd i (omega arith)) (omega arith))
+
+abbrev pub IsNear : ℕ → ℤ → Type 0
+IsNear n u = (x : ℕ) × (u ≡ pos x) × (x < n)
+
+abbrev pub IsNearExt : ℕ → ℤ → Type 0
+IsNearExt n u = (x : ℕ) × (u ≡ ext x) × (x < n + 2)
+
+pub even_cases : (t n : ℕ) (u : ℤ) → t % 2 ≡ 0 → n % 2 ≡ 0 → IsNear n u ⊎ IsFar t n u
+even_cases t n (pos x) at_even whole =
+    by_lt_or_le x n (λ l. inl (x, refl, l)) (λ le. inr (record { own = out_pos n x le; other = rw (partner-even_pos t x at_even) (out_pos n (mate x) (mate_ge x n whole le)) }))
+even_cases t n (negsuc x) at_even whole = inr (record { own = refl; other = rw (partner-even_neg t x at_even) refl })
+
+pub odd_cases : (t n : ℕ) (u : ℤ) → t % 2 ≡ 1 → n % 2 ≡ 0 → IsNearExt n u ⊎ IsFar t n u
+odd_cases t n (pos x) at_odd whole =
+    by_lt_or_le (suc x) (n + 2) (λ l. inl (suc x, refl, l)) (λ le. inr (record { own = out_pos n x (omega arith); other = rw (partner-odd_ext t (suc x) at_odd) (out_ext (mate (suc x)) (mate_ge (suc x) (n + 2) (omega arith) le)) }))
+  where
+    out_ext : (y : ℕ) → n + 2 ≤ y → is_out n (ext y) ≡ true
+    out_ext zero le = absurd (omega arith)
+    out_ext (suc y) le = out_pos n y (omega arith)
+odd_cases t n (negsuc zero) at_odd whole = inl (zero, refl, omega arith)
+odd_cases t n (negsuc (suc x)) at_odd whole = inr (record { own = refl; other = rw (partner-odd_neg t x at_odd) refl })

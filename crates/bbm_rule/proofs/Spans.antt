@@ -1,0 +1,87 @@
+-- Numbers in a span, and the two coordinates of a block
+use Rattle.std.proofs.Common.{◌≡◌, ℕ, zero, suc, ◌+◌, ◌%◌, ◌<◌, ◌≤◌, true, false, ◌&&◌, eqb, ltb, leb, refl, sym, ap, ◌∙◌, arith, inl, inr, ◌⊎◌, add-one}
+use Rattle.std.specs.Prelude.{ℤ, pos, negsuc, ◌+ℤ◌, ◌-ℤ◌}
+use Rattle.std.proofs.lemmas.Bool.{and_parts, and_from, ne_eqb, cases_Bool, cond-true, cond-false, eqb-true, eqb-false, leb-true, ltb-true, le-leb, lt-ltb}
+use Rattle.std.proofs.lemmas.Int.{ints}
+use Rattle.std.proofs.lemmas.Bool.Decides.{nat_tests}
+use Rattle.bbm_rule.specs.Plane.{parity, partner}
+use Rattle.bbm_rule.specs.Spans.{in_span}
+
+-- the same tests, where the same facts hold
+same_tests : (f n k m : ℕ) → (f ≤ k → f ≤ m) → (f ≤ m → f ≤ k) → (k < f + n → m < f + n) → (m < f + n → k < f + n) →
+    (leb f k && ltb k (f + n)) ≡ (leb f m && ltb m (f + n))
+same_tests f n k m p q r s = grind (arith, nat_tests)
+
+pub in_span-pos : (f n k : ℕ) → in_span f n (pos k) ≡ (leb f k && ltb k (f + n))
+unfolding in_span
+in_span-pos f n k = refl
+
+pub in_span-negsuc : (f n k : ℕ) → in_span f n (negsuc k) ≡ false
+unfolding in_span
+in_span-negsuc f n k = refl
+
+pub span_parts : (f n k : ℕ) → in_span f n (pos k) ≡ true → (f ≤ k) × (k < f + n)
+unfolding in_span
+span_parts f n k h = let p = and_parts (leb f k) (ltb k (f + n)) h in (leb-true f k p.0, ltb-true k (f + n) p.1)
+
+pub span_from : (f n k : ℕ) → f ≤ k → k < f + n → in_span f n (pos k) ≡ true
+unfolding in_span
+span_from f n k p q = and_from (leb f k) (ltb k (f + n)) (le-leb f k p) (lt-ltb k (f + n) q)
+
+-- the other coordinate of a block is next to it
+pub partner_near : (t : ℕ) (z : ℤ) → (partner t z ≡ z +ℤ pos 1) ⊎ (partner t z ≡ z -ℤ pos 1)
+unfolding partner
+partner_near t z = elim (cases_Bool (eqb (parity z) (t % 2))) [
+  | inl e ↦ inl (cond-true _ _ _ e)
+  | inr e ↦ inr (cond-false _ _ _ e)
+]
+
+partner_up : (t : ℕ) (z : ℤ) → eqb (parity z) (t % 2) ≡ true → partner t z ≡ z +ℤ pos 1
+unfolding partner
+partner_up t z e = cond-true _ _ _ e
+
+partner_down : (t : ℕ) (z : ℤ) → eqb (parity z) (t % 2) ≡ false → partner t z ≡ z -ℤ pos 1
+unfolding partner
+partner_down t z e = cond-false _ _ _ e
+
+pub less_one : (m : ℕ) → pos (suc m) -ℤ pos 1 ≡ pos m
+less_one m = omega (arith, ints)
+
+less_one_negative : (k : ℕ) → negsuc k -ℤ pos 1 ≡ negsuc (suc k)
+less_one_negative k = omega (arith, ints)
+
+pub more_one_negative : (k : ℕ) → negsuc (suc k) +ℤ pos 1 ≡ negsuc k
+more_one_negative k = omega (arith, ints)
+
+up_even : (f n k : ℕ) → f % 2 ≡ 0 → n % 2 ≡ 0 → k % 2 ≡ 0 → in_span f n (pos (k + 1)) ≡ in_span f n (pos k)
+unfolding in_span
+up_even f n k pf pn pk = same_tests f n (k + 1) k (λ h. omega arith) (λ h. omega arith) (λ h. omega arith) (λ h. omega arith)
+
+even_up : (f n t k : ℕ) → f % 2 ≡ 0 → n % 2 ≡ 0 → t % 2 ≡ 0 → eqb (k % 2) (t % 2) ≡ true →
+    in_span f n (partner t (pos k)) ≡ in_span f n (pos k)
+even_up f n t k pf pn pt e =
+    ap (in_span f n) (partner_up t (pos k) e) ∙ up_even f n k pf pn (eqb-true (k % 2) (t % 2) e ∙ pt)
+
+even_down : (f n t k : ℕ) → f % 2 ≡ 0 → n % 2 ≡ 0 → t % 2 ≡ 0 → eqb (k % 2) (t % 2) ≡ false →
+    in_span f n (partner t (pos k)) ≡ in_span f n (pos k)
+even_down f n t zero pf pn pt e = absurd (eqb-false 0 (t % 2) e (sym pt))
+even_down f n t (suc m) pf pn pt e =
+    let odd : suc m % 2 ≡ t % 2 → ⊥ = eqb-false (suc m % 2) (t % 2) e in
+    let even : m % 2 ≡ 0 = omega (arith, odd) in
+    ap (in_span f n) (partner_down t (pos (suc m)) e ∙ less_one m) ∙ sym (up_even f n m pf pn even) ∙ ap (λ k. in_span f n (pos k)) (add-one m)
+
+negative_partner : (f n t k : ℕ) → t % 2 ≡ 0 → in_span f n (partner t (negsuc k)) ≡ false
+negative_partner f n t zero pt =
+    ap (in_span f n) (partner_down t (negsuc 0) (ne_eqb 1 (t % 2) (λ h. omega arith)) ∙ less_one_negative 0) ∙ in_span-negsuc f n 1
+negative_partner f n t (suc k) pt = elim (cases_Bool (eqb (parity (negsuc (suc k))) (t % 2))) [
+  | inl e ↦ ap (in_span f n) (partner_up t (negsuc (suc k)) e ∙ more_one_negative k) ∙ in_span-negsuc f n k
+  | inr e ↦ ap (in_span f n) (partner_down t (negsuc (suc k)) e ∙ less_one_negative (suc k)) ∙ in_span-negsuc f n (suc (suc k))
+]
+
+-- an even step keeps a coordinate in an even span, or outside it
+pub even_span : (f n t : ℕ) (z : ℤ) → f % 2 ≡ 0 → n % 2 ≡ 0 → t % 2 ≡ 0 → in_span f n (partner t z) ≡ in_span f n z
+even_span f n t (pos k) pf pn pt = elim (cases_Bool (eqb (k % 2) (t % 2))) [
+  | inl e ↦ even_up f n t k pf pn pt e
+  | inr e ↦ even_down f n t k pf pn pt e
+]
+even_span f n t (negsuc k) pf pn pt = negative_partner f n t k pt ∙ sym (in_span-negsuc f n k)

@@ -1,0 +1,116 @@
+-- The bitwise formula of a turn.
+use Rattle.std.proofs.Common.{◌≡◌, ℕ, Bool, true, false, ◌&&◌, ◌||◌, refl, bit_and, bit_or, ◌<◌, List, [], ◌∷◌, get_or, nat_eq}
+use Rattle.std.proofs.lemmas.Bool.{eqb-true}
+use Rattle.std.specs.Prelude.{bit_xor}
+use Rattle.bbm_rule.specs.Plane.{turned}
+use Rattle.bbm_rule.specs.Words.{turn_of, AreTurned}
+use Rattle.bbm_rule.specs.Bits.{bit}
+use Rattle.bbm_rule.proofs.BitLemmas.{holds_below, below_from_test, xor, bit-and, bit-or, bit-xor}
+
+-- the flips of the two diagonals, and of all four
+abbrev pub crossed_of : ℕ → ℕ → ℕ → ℕ → ℕ
+crossed_of ul ur ll lr =
+    bit_xor (bit_xor ul ur) (bit_and (bit_xor ul ur) (bit_or (bit_xor ul lr) (bit_xor ur ll)))
+
+abbrev pub flip_main_of : ℕ → ℕ → ℕ → ℕ → ℕ
+flip_main_of ul ur ll lr =
+    bit_or (bit_xor (bit_xor ul lr) (bit_and (bit_xor ul lr) (bit_or ur ll))) (crossed_of ul ur ll lr)
+
+abbrev pub flip_anti_of : ℕ → ℕ → ℕ → ℕ → ℕ
+flip_anti_of ul ur ll lr =
+    bit_or (bit_xor (bit_xor ur ll) (bit_and (bit_xor ur ll) (bit_or ul lr))) (crossed_of ul ur ll lr)
+
+-- one bit of each answer
+by_cases_ul : (a b c d : Bool) → xor a (xor (xor a d) (xor a d && (b || c)) || xor (xor a b) (xor a b && (xor a d || xor b c))) ≡ turned a d b c
+unfolding turned
+by_cases_ul true true true true = refl
+by_cases_ul true true true false = refl
+by_cases_ul true true false true = refl
+by_cases_ul true true false false = refl
+by_cases_ul true false true true = refl
+by_cases_ul true false true false = refl
+by_cases_ul true false false true = refl
+by_cases_ul true false false false = refl
+by_cases_ul false true true true = refl
+by_cases_ul false true true false = refl
+by_cases_ul false true false true = refl
+by_cases_ul false true false false = refl
+by_cases_ul false false true true = refl
+by_cases_ul false false true false = refl
+by_cases_ul false false false true = refl
+by_cases_ul false false false false = refl
+
+by_cases_ur : (a b c d : Bool) → xor b (xor (xor b c) (xor b c && (a || d)) || xor (xor a b) (xor a b && (xor a d || xor b c))) ≡ turned b c a d
+unfolding turned
+by_cases_ur true true true true = refl
+by_cases_ur true true true false = refl
+by_cases_ur true true false true = refl
+by_cases_ur true true false false = refl
+by_cases_ur true false true true = refl
+by_cases_ur true false true false = refl
+by_cases_ur true false false true = refl
+by_cases_ur true false false false = refl
+by_cases_ur false true true true = refl
+by_cases_ur false true true false = refl
+by_cases_ur false true false true = refl
+by_cases_ur false true false false = refl
+by_cases_ur false false true true = refl
+by_cases_ur false false true false = refl
+by_cases_ur false false false true = refl
+by_cases_ur false false false false = refl
+
+by_cases_ll : (a b c d : Bool) → xor c (xor (xor b c) (xor b c && (a || d)) || xor (xor a b) (xor a b && (xor a d || xor b c))) ≡ turned c b d a
+unfolding turned
+by_cases_ll true true true true = refl
+by_cases_ll true true true false = refl
+by_cases_ll true true false true = refl
+by_cases_ll true true false false = refl
+by_cases_ll true false true true = refl
+by_cases_ll true false true false = refl
+by_cases_ll true false false true = refl
+by_cases_ll true false false false = refl
+by_cases_ll false true true true = refl
+by_cases_ll false true true false = refl
+by_cases_ll false true false true = refl
+by_cases_ll false true false false = refl
+by_cases_ll false false true true = refl
+by_cases_ll false false true false = refl
+by_cases_ll false false false true = refl
+by_cases_ll false false false false = refl
+
+by_cases_lr : (a b c d : Bool) → xor d (xor (xor a d) (xor a d && (b || c)) || xor (xor a b) (xor a b && (xor a d || xor b c))) ≡ turned d a c b
+unfolding turned
+by_cases_lr true true true true = refl
+by_cases_lr true true true false = refl
+by_cases_lr true true false true = refl
+by_cases_lr true true false false = refl
+by_cases_lr true false true true = refl
+by_cases_lr true false true false = refl
+by_cases_lr true false false true = refl
+by_cases_lr true false false false = refl
+by_cases_lr false true true true = refl
+by_cases_lr false true true false = refl
+by_cases_lr false true false true = refl
+by_cases_lr false true false false = refl
+by_cases_lr false false true true = refl
+by_cases_lr false false true false = refl
+by_cases_lr false false false true = refl
+by_cases_lr false false false false = refl
+
+pub words_turned : (ul ur ll lr : ℕ) → AreTurned ul ur ll lr (bit_xor ul (flip_main_of ul ur ll lr)) (bit_xor ur (flip_anti_of ul ur ll lr)) (bit_xor ll (flip_anti_of ul ur ll lr)) (bit_xor lr (flip_main_of ul ur ll lr))
+words_turned ul ur ll lr = record {
+  upper_left = λ j. simp (bit-xor, bit-or, bit-and) (by_cases_ul (bit ul j) (bit ur j) (bit ll j) (bit lr j));
+  upper_right = λ j. simp (bit-xor, bit-or, bit-and) (by_cases_ur (bit ul j) (bit ur j) (bit ll j) (bit lr j));
+  lower_left = λ j. simp (bit-xor, bit-or, bit-and) (by_cases_ll (bit ul j) (bit ur j) (bit ll j) (bit lr j));
+  lower_right = λ j. simp (bit-xor, bit-or, bit-and) (by_cases_lr (bit ul j) (bit ur j) (bit ll j) (bit lr j));
+}
+
+abbrev pub turns : List ℕ
+turns = 0 ∷ 8 ∷ 4 ∷ 3 ∷ 2 ∷ 5 ∷ 9 ∷ 7 ∷ 1 ∷ 6 ∷ 10 ∷ 11 ∷ 12 ∷ 13 ∷ 14 ∷ 15 ∷ []
+
+turns_tested : holds_below (λ n. nat_eq (get_or turns n 0) (turn_of n)) 16 ≡ true
+unfolding turn_of bit turned
+turns_tested = refl
+
+pub get_or-turns : (n : ℕ) → n < 16 → get_or turns n 0 ≡ turn_of n
+get_or-turns n l = eqb-true _ _ (below_from_test (λ n. nat_eq (get_or turns n 0) (turn_of n)) 16 turns_tested n l)

@@ -1,0 +1,70 @@
+-- A plane of bits in words, for this crate's own functions: the cell at place p is bit p % 64 of word p / 64
+use Rattle.std.specs.Prelude.{◌≡◌, ◌==◌, ◌&&◌, Bool, true, false, if◌then◌else◌, ℕ, ◌+◌, ◌-◌, ◌*◌, ◌/◌, ◌%◌, ◌<◌, ◌≤◌, List, slice_index, ◌≢◌, nat_le, ℤ, pos, negsuc}
+use Rattle.bbm_rule.specs.Plane.{turned}
+use Rattle.bbm_rule.specs.Bits.{bit}
+
+-- whether the cell at place p is live
+unfoldable pub cell_at : List ℕ → ℕ → Bool
+cell_at words p = bit (slice_index words (p / 64)) (p % 64)
+
+-- the other place of a pair: 0 and 1, 2 and 3, and so on
+unfoldable pub mate : ℕ → ℕ
+mate j = if j % 2 == 0 then j + 1 else j - 1
+
+-- two words one above the other, before and after each of their 32 blocks is turned
+pub record ArePairsTurned (a b a' b' : ℕ) : Type 0 where
+  pub upper : (j : ℕ) → j < 64 → bit a' j ≡ turned (bit a j) (bit b (mate j)) (bit a (mate j)) (bit b j)
+  pub lower : (j : ℕ) → j < 64 → bit b' j ≡ turned (bit b j) (bit a (mate j)) (bit b (mate j)) (bit a j)
+
+-- the 64 cells from place p on are the bits of v
+pub record HasWindow (words : List ℕ) (p v : ℕ) : Type 0 where
+  pub cells : (j : ℕ) → j < 64 → bit v j ≡ cell_at words (p + j)
+
+-- only the 64 cells from place p on change, to the bits of v
+pub record SetsWindow (p v : ℕ) (old new : List ℕ) : Type 0 where
+  pub cells : (j : ℕ) → j < 64 → cell_at new (p + j) ≡ bit v j
+  pub before : (q : ℕ) → q < p → cell_at new q ≡ cell_at old q
+  pub after : (q : ℕ) → p + 64 ≤ q → cell_at new q ≡ cell_at old q
+
+-- The blocks of the n cells from place p on and the n cells a row of s cells below are turned, and no other cell changes.
+pub record TurnsRun (p n s : ℕ) (old new : List ℕ) : Type 0 where
+  pub upper : (j : ℕ) → j < n → cell_at new (p + j) ≡ turned (cell_at old (p + j)) (cell_at old (p + s + mate j)) (cell_at old (p + mate j)) (cell_at old (p + s + j))
+  pub lower : (j : ℕ) → j < n → cell_at new (p + s + j) ≡ turned (cell_at old (p + s + j)) (cell_at old (p + mate j)) (cell_at old (p + s + mate j)) (cell_at old (p + j))
+  pub before : (q : ℕ) → q < p → cell_at new q ≡ cell_at old q
+  pub between : (q : ℕ) → p + n ≤ q → q < p + s → cell_at new q ≡ cell_at old q
+  pub after : (q : ℕ) → p + s + n ≤ q → cell_at new q ≡ cell_at old q
+
+-- The blocks of r pairs of rows of s cells are turned, the first at place p, and no other cell changes.
+pub record TurnsRows (p s r : ℕ) (old new : List ℕ) : Type 0 where
+  pub upper : (i j : ℕ) → i < r → j < s → let q = p + 2 * (i * s) in cell_at new (q + j) ≡ turned (cell_at old (q + j)) (cell_at old (q + s + mate j)) (cell_at old (q + mate j)) (cell_at old (q + s + j))
+  pub lower : (i j : ℕ) → i < r → j < s → let q = p + 2 * (i * s) in cell_at new (q + s + j) ≡ turned (cell_at old (q + s + j)) (cell_at old (q + mate j)) (cell_at old (q + s + mate j)) (cell_at old (q + j))
+  pub before : (q : ℕ) → q < p → cell_at new q ≡ cell_at old q
+  pub after : (q : ℕ) → p + 2 * (r * s) ≤ q → cell_at new q ≡ cell_at old q
+
+-- only the cell at place p changes, to the value
+pub record SetsPlace (p : ℕ) (value : Bool) (old new : List ℕ) : Type 0 where
+  pub there : cell_at new p ≡ value
+  pub elsewhere : (q : ℕ) → q ≢ p → cell_at new q ≡ cell_at old q
+
+-- the place of the cell at (x, y) in rows of s cells, with a margin of one cell
+abbrev pub place_in : ℕ → ℤ → ℤ → ℕ
+place_in s (pos x) (pos y) = s * (y + 1) + (x + 1)
+place_in s (pos x) (negsuc y) = 0
+place_in s (negsuc x) y = 0
+
+-- whether a place of the rows is a cell of the board, and not of the margin
+abbrev pub is_inner : ℕ → ℕ → ℕ → ℕ → Bool
+is_inner w h x y = nat_le 1 x && nat_le x w && nat_le 1 y && nat_le y h
+
+-- some cell of the margin of one cell is live
+pub record HasLiveMargin (w h s : ℕ) (words : List ℕ) : Type 0 where
+  pub x : ℕ
+  pub y : ℕ
+  pub column : x < w + 2
+  pub row : y < h + 2
+  pub outer : is_inner w h x y ≡ false
+  pub lives : cell_at words (s * y + x) ≡ true
+
+-- no cell of it is
+abbrev pub HasDeadMargin : ℕ → ℕ → ℕ → List ℕ → Type 0
+HasDeadMargin w h s words = (x y : ℕ) → x < w + 2 → y < h + 2 → is_inner w h x y ≡ false → cell_at words (s * y + x) ≡ false

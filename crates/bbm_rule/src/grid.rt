@@ -1,0 +1,268 @@
+//! A rectangle of cells as bits, and its step.
+
+ghost use Rattle.std.specs.Prelude.{◌≡◌, ◌≤◌, ◌%◌, ◌<◌, IsTrue, IfOk, OnOk, OnErr, false, pos, ℤ};
+ghost use Rattle.bbm_rule.specs.Board.{Board, live, is_inside, HasSameSize, IsStep, Leaves, SetsCell};
+
+use crate::block::Cell;
+use crate::cells::{cell_bit, has_live_margin, place, put_cell};
+use crate::rows::{turn_all_aligned, turn_all_shifted};
+use std::alloc::{AllocError, Global};
+use std::marker::Model;
+
+/// What [`Grid::step`] answers where a cell outside the grid would become live.
+#[derive(Clone, Copy, Debug, PartialEq, Eq)]
+pub struct Left;
+
+/// A rectangle of cells of the plane, each live or dead. Its upper left corner is the cell (0, 0), and the cells outside
+/// it are dead. Width and height are even, from 2 to 1024.
+// A row is `stride` words of bits, and a margin of one cell is kept around the rectangle: the cell (x, y) is bit x + 1 of row
+// y + 1, counted from the first bit of the row. So no block of either partition is cut by the border.
+#[derive(Drop)]
+pub struct Grid {
+    width: usize,
+    height: usize,
+    // the words of a row: there is room for a margin on both sides
+    stride: usize,
+    words: Vec<u64>,
+}
+
+impl Model for Grid {
+    ghost use Rattle.bbm_rule.specs.Board.{Board};
+
+    ghost Value = { Board };
+
+    ghost use Rattle.bbm_rule.specs.GridFields.{board_of, IsGrid};
+
+    ghost view = { board_of };
+
+    ghost invariant = { IsGrid };
+}
+
+impl Grid {
+    /// A grid of the width and the height, with no live cell. Both are even, from 2 to 1024.
+    ///
+    /// The error is want of memory. No other function of a grid takes memory.
+    pub fn new(alloc: Global, width: u32, height: u32) -> Result<Grid, AllocError>
+        requires width { (2 ≤ width) × (width ≤ 1024) × (width % 2 ≡ 0) }
+        requires height { (2 ≤ height) × (height ≤ 1024) × (height % 2 ≡ 0) }
+        ensures size { IfOk result (λ g. (g.width ≡ width) × (g.height ≡ height)) }
+        ensures dead { IfOk result (λ g. (x y : ℤ) → live g x y ≡ false) }
+    {
+        let width = width as usize;
+        let height = height as usize;
+        let stride = width / 64 + 1;
+        let words = vec![in alloc; 0u64; stride * (height + 2)]?;
+        Ok(Grid {
+            width,
+            height,
+            stride,
+            words,
+        })
+    }
+
+    /// Whether the cell is inside the grid: its column from 0 to below the width, its row from 0 to below the height.
+    pub fn holds(&self, cell: Cell) -> bool
+        ensures { result ≡ is_inside self.now cell.x cell.y }
+    {
+        0 <= cell.x
+            && 0 <= cell.y
+            && (cell.x as usize) < self.width
+            && (cell.y as usize) < self.height
+    }
+
+    /// Whether the cell, which is inside the grid, is live.
+    pub fn get(&self, cell: Cell) -> bool
+        requires { IsTrue (is_inside self.now cell.x cell.y) }
+        ensures { result ≡ live self.now cell.x cell.y }
+    {
+        cell_bit(&self.words, place(self.stride, cell))
+    }
+
+    /// Makes the cell, which is inside the grid, live where `value` is true and dead where it is not.
+    pub fn set(&mut self, cell: Cell, value: bool)
+        requires { IsTrue (is_inside self.old cell.x cell.y) }
+        ensures cells { SetsCell cell.x cell.y value self.old self.new }
+        ensures size { HasSameSize self.old self.new }
+    {
+        let at = place(self.stride, cell);
+        put_cell(&mut self.words, at, value);
+    }
+
+    /// The step at time `t`: every block of that time's partition turns, those that lie across the border too.
+    ///
+    /// The error is [`Left`], and comes exactly where a cell outside the grid would become live. The grid is then unchanged.
+    /// At an even time no block lies across the border, so nothing leaves.
+    pub fn step(&mut self, t: u32) -> Result<(), Left>
+        ensures stepped { OnOk result (IsStep t self.old self.new) }
+        ensures left { OnErr result (Leaves t self.old) }
+        ensures unchanged { OnErr result (self.new ≡ self.old) }
+        ensures size { HasSameSize self.old self.new }
+    {
+        if t % 2 == 0 {
+            turn_all_shifted(&mut self.words, self.stride, self.height / 2);
+            return Ok(());
+        }
+        let pairs = self.height / 2 + 1;
+        turn_all_aligned(&mut self.words, self.stride, pairs);
+        if has_live_margin(&self.words, self.stride, self.width, self.height) {
+            // A turn undoes itself.
+            turn_all_aligned(&mut self.words, self.stride, pairs);
+            return Err(Left);
+        }
+        Ok(())
+    }
+}
+
+#[cfg(test)]
+mod tests {
+    use super::*;
+    use std::test::Fail;
+
+    fn is_live(grid: &Grid, x: i32, y: i32) -> bool {
+        let cell = Cell { x, y };
+        grid.holds(cell) && grid.get(cell)
+    }
+
+    fn put(grid: &mut Grid, cells: &[(i32, i32)]) {
+        for k in 0..cells.len() {
+            let cell = Cell {
+                x: cells[k].0,
+                y: cells[k].1,
+            };
+            if grid.holds(cell) {
+                grid.set(cell, true);
+            }
+        }
+    }
+
+    // whether these cells are live, and no other with coordinates from -1 to 199
+    fn shows(grid: &Grid, cells: &[(i32, i32)]) -> bool {
+        for y in -1..200i32 {
+            for x in -1..200i32 {
+                let mut wanted = false;
+                for k in 0..cells.len() {
+                    if cells[k].0 == x && cells[k].1 == y {
+                        wanted = true;
+                    }
+                }
+                if is_live(grid, x, y) != wanted {
+                    return false;
+                }
+            }
+        }
+        true
+    }
+
+    #[test]
+    fn two_balls_collide(rt: HostRuntime) -> Result<(), Fail> {
+        let mut grid = Grid::new(rt.alloc(), 8, 8)?;
+        put(&mut grid, &[(2, 2), (5, 5)]);
+        assert!(rt; shows(&grid, &[(2, 2), (5, 5)]));
+        assert_eq!(rt; grid.step(0), Ok(()));
+        assert!(rt; shows(&grid, &[(3, 3), (4, 4)]));
+        assert_eq!(rt; grid.step(1), Ok(()));
+        assert!(rt; shows(&grid, &[(3, 4), (4, 3)]));
+        assert_eq!(rt; grid.step(2), Ok(()));
+        assert!(rt; shows(&grid, &[(2, 5), (5, 2)]));
+        Ok(())
+    }
+
+    // each corner of the grid is alone in its block of an odd step, and no even step moves it out
+    #[test]
+    fn a_lone_ball_leaves(rt: HostRuntime) -> Result<(), Fail> {
+        for (x, y) in [(0, 0), (5, 0), (0, 3), (5, 3)] {
+            let mut grid = Grid::new(rt.alloc(), 6, 4)?;
+            put(&mut grid, &[(x, y), (3, 1), (3, 2)]);
+            assert_eq!(rt; grid.step(1), Err(Left));
+            assert!(rt; shows(&grid, &[(x, y), (3, 1), (3, 2)]));
+            assert_eq!(rt; grid.step(7), Err(Left));
+            assert!(rt; shows(&grid, &[(x, y), (3, 1), (3, 2)]));
+            assert_eq!(rt; grid.step(2), Ok(()));
+        }
+        Ok(())
+    }
+
+    // four cells by two from (2, 3) on: each block of either partition has none of them, or two side by side
+    #[test]
+    fn a_mirror_stays(rt: HostRuntime) -> Result<(), Fail> {
+        let mut grid = Grid::new(rt.alloc(), 8, 8)?;
+        let mirror = [
+            (2, 3),
+            (3, 3),
+            (4, 3),
+            (5, 3),
+            (2, 4),
+            (3, 4),
+            (4, 4),
+            (5, 4),
+        ];
+        put(&mut grid, &mirror);
+        for t in 0..4u32 {
+            assert_eq!(rt; grid.step(t), Ok(()));
+            assert!(rt; shows(&grid, &mirror), "at {t}");
+        }
+        Ok(())
+    }
+
+    // balls that go down and right, and balls that go up and left, over the ends of words
+    #[test]
+    fn balls_cross_words(rt: HostRuntime) -> Result<(), Fail> {
+        let mut grid = Grid::new(rt.alloc(), 130, 4)?;
+        put(&mut grid, &[(60, 0), (62, 0), (124, 0), (126, 0)]);
+        assert_eq!(rt; grid.step(0), Ok(()));
+        assert!(rt; shows(&grid, &[(61, 1), (63, 1), (125, 1), (127, 1)]));
+        assert_eq!(rt; grid.step(1), Ok(()));
+        assert!(rt; shows(&grid, &[(62, 2), (64, 2), (126, 2), (128, 2)]));
+        assert_eq!(rt; grid.step(2), Ok(()));
+        assert!(rt; shows(&grid, &[(63, 3), (65, 3), (127, 3), (129, 3)]));
+        assert_eq!(rt; grid.step(3), Err(Left));
+        let mut grid = Grid::new(rt.alloc(), 130, 4)?;
+        put(&mut grid, &[(63, 3), (65, 3), (127, 3), (129, 3)]);
+        assert_eq!(rt; grid.step(0), Ok(()));
+        assert!(rt; shows(&grid, &[(62, 2), (64, 2), (126, 2), (128, 2)]));
+        assert_eq!(rt; grid.step(1), Ok(()));
+        assert!(rt; shows(&grid, &[(61, 1), (63, 1), (125, 1), (127, 1)]));
+        assert_eq!(rt; grid.step(2), Ok(()));
+        assert!(rt; shows(&grid, &[(60, 0), (62, 0), (124, 0), (126, 0)]));
+        assert_eq!(rt; grid.step(3), Err(Left));
+        Ok(())
+    }
+
+    #[test]
+    fn the_largest_grid_steps(rt: HostRuntime) -> Result<(), Fail> {
+        let mut grid = Grid::new(rt.alloc(), 1024, 1024)?;
+        put(&mut grid, &[(1023, 1023)]);
+        assert!(rt; is_live(&grid, 1023, 1023));
+        assert_eq!(rt; grid.step(0), Ok(()));
+        assert!(rt; is_live(&grid, 1022, 1022) && !is_live(&grid, 1023, 1023));
+        assert_eq!(rt; grid.step(1), Ok(()));
+        assert!(rt; is_live(&grid, 1021, 1021) && !is_live(&grid, 1022, 1022));
+        put(&mut grid, &[(1023, 1023)]);
+        assert_eq!(rt; grid.step(1), Err(Left));
+        assert!(rt; is_live(&grid, 1021, 1021) && is_live(&grid, 1023, 1023));
+        Ok(())
+    }
+
+    #[test]
+    fn holds_its_cells_alone(rt: HostRuntime) -> Result<(), Fail> {
+        let mut grid = Grid::new(rt.alloc(), 6, 4)?;
+        for (x, y, inside) in [
+            (0, 0, true),
+            (5, 3, true),
+            (6, 3, false),
+            (5, 4, false),
+            (-1, 0, false),
+            (0, -1, false),
+        ] {
+            assert_eq!(rt; grid.holds(Cell { x, y }), inside);
+        }
+        let cell = Cell { x: 4, y: 1 };
+        assert!(rt; grid.holds(cell));
+        grid.set(cell, true);
+        assert!(rt; shows(&grid, &[(4, 1)]));
+        assert!(rt; grid.holds(cell));
+        grid.set(cell, false);
+        assert!(rt; shows(&grid, &[]));
+        Ok(())
+    }
+}

@@ -1,0 +1,186 @@
+//! Many blocks at a time, on words of bits.
+
+ghost use Rattle.std.specs.Prelude.{◌≡◌, ◌+◌, ◌<◌, ◌≤◌, ℕ, length, slice_index};
+ghost use Rattle.bbm_rule.specs.Words.{AreTurned, AreTurnedAt, TurnsBetween};
+
+use std::simd::prelude::*;
+
+/// Turns 64 blocks: bit j of the four words is the upper left, upper right, lower left and lower right cell of block j, a
+/// set bit being a live cell. The new words are given in the same order.
+#[inline(always)]
+pub fn turn_words(
+    upper_left: u64,
+    upper_right: u64,
+    lower_left: u64,
+    lower_right: u64,
+) -> (u64, u64, u64, u64)
+    ensures { AreTurned upper_left upper_right lower_left lower_right result.0 result.1 result.2 result.3 }
+{
+    // `a ^ (a & b)` stands for `a & !b`.
+    let main = upper_left ^ lower_right;
+    let anti = upper_right ^ lower_left;
+    let differ = upper_left ^ upper_right;
+    let crossed = differ ^ (differ & (main | anti));
+    let flip_main = (main ^ (main & (upper_right | lower_left))) | crossed;
+    let flip_anti = (anti ^ (anti & (upper_left | lower_right))) | crossed;
+    (
+        upper_left ^ flip_main,
+        upper_right ^ flip_anti,
+        lower_left ^ flip_anti,
+        lower_right ^ flip_main,
+    )
+}
+
+// the same for four words at each corner
+#[inline(always)]
+fn turn_vectors(
+    upper_lefts: u64x4,
+    upper_rights: u64x4,
+    lower_lefts: u64x4,
+    lower_rights: u64x4,
+) -> (u64x4, u64x4, u64x4, u64x4)
+    ensures lanes { (k : ℕ) → k < 4 → AreTurnedAt k upper_lefts upper_rights lower_lefts lower_rights result.0 result.1 result.2 result.3 }
+    ensures long { (length result.0 ≡ 4) × (length result.1 ≡ 4) × (length result.2 ≡ 4) × (length result.3 ≡ 4) }
+{
+    let main = upper_lefts ^ lower_rights;
+    let anti = upper_rights ^ lower_lefts;
+    let differ = upper_lefts ^ upper_rights;
+    let crossed = differ ^ (differ & (main | anti));
+    let flip_main = (main ^ (main & (upper_rights | lower_lefts))) | crossed;
+    let flip_anti = (anti ^ (anti & (upper_lefts | lower_rights))) | crossed;
+    (
+        upper_lefts ^ flip_main,
+        upper_rights ^ flip_anti,
+        lower_lefts ^ flip_anti,
+        lower_rights ^ flip_main,
+    )
+}
+
+// turns the words at four places from `at` on
+#[inline(always)]
+fn turn_chunk(
+    upper_left: &mut [u64],
+    upper_right: &mut [u64],
+    lower_left: &mut [u64],
+    lower_right: &mut [u64],
+    at: usize,
+)
+    requires { (at + 4 ≤ length upper_left.old) × (at + 4 ≤ length upper_right.old) × (at + 4 ≤ length lower_left.old) × (at + 4 ≤ length lower_right.old) }
+    ensures { TurnsBetween at (at + 4) upper_left.old upper_right.old lower_left.old lower_right.old upper_left.new upper_right.new lower_left.new lower_right.new }
+{
+    let (a, b, c, d) = turn_vectors(
+        u64x4::from_slice(&upper_left[at..]),
+        u64x4::from_slice(&upper_right[at..]),
+        u64x4::from_slice(&lower_left[at..]),
+        u64x4::from_slice(&lower_right[at..]),
+    );
+    a.copy_to_slice(&mut upper_left[at..]);
+    b.copy_to_slice(&mut upper_right[at..]);
+    c.copy_to_slice(&mut lower_left[at..]);
+    d.copy_to_slice(&mut lower_right[at..]);
+}
+
+// turns the words at one place
+#[inline(always)]
+fn turn_one(
+    upper_left: &mut [u64],
+    upper_right: &mut [u64],
+    lower_left: &mut [u64],
+    lower_right: &mut [u64],
+    at: usize,
+)
+    requires { (at < length upper_left.old) × (at < length upper_right.old) × (at < length lower_left.old) × (at < length lower_right.old) }
+    ensures { TurnsBetween at (at + 1) upper_left.old upper_right.old lower_left.old lower_right.old upper_left.new upper_right.new lower_left.new lower_right.new }
+{
+    let (a, b, c, d) = turn_words(
+        upper_left[at],
+        upper_right[at],
+        lower_left[at],
+        lower_right[at],
+    );
+    upper_left[at] = a;
+    upper_right[at] = b;
+    lower_left[at] = c;
+    lower_right[at] = d;
+}
+
+/// Turns the blocks of four slices of the same length, 64 at each place, as [`turn_words`] does: upper left, upper right,
+/// lower left and lower right cells.
+pub fn turn_lanes(
+    upper_left: &mut [u64],
+    upper_right: &mut [u64],
+    lower_left: &mut [u64],
+    lower_right: &mut [u64],
+)
+    requires upper { length upper_right.old ≡ length upper_left.old }
+    requires left { length lower_left.old ≡ length upper_left.old }
+    requires right { length lower_right.old ≡ length upper_left.old }
+    ensures { (k : ℕ) → k < length upper_left.old → AreTurnedAt k upper_left.old upper_right.old lower_left.old lower_right.old upper_left.new upper_right.new lower_left.new lower_right.new }
+{
+    let n = upper_left.len();
+    let mut at = 0;
+    while n - at >= 4 {
+        turn_chunk(upper_left, upper_right, lower_left, lower_right, at);
+        at += 4;
+    }
+    for k in at..n {
+        turn_one(upper_left, upper_right, lower_left, lower_right, k);
+    }
+}
+
+#[cfg(test)]
+mod tests {
+    use super::*;
+    use std::test::Fail;
+
+    #[test]
+    fn turns_words(rt: HostRuntime) {
+        assert_eq!(rt;
+            turn_words(0xAAAA, 0xCCCC, 0xF0F0, 0xFF00),
+            (0xA9E8, 0xCE98, 0xF2A4, 0xFC42)
+        );
+    }
+
+    // each length from 0 to 17, beside the words one by one
+    #[test]
+    fn turns_lanes(rt: HostRuntime) -> Result<(), Fail> {
+        for n in 0..18usize {
+            let mut upper_left = Vec::new(rt.alloc());
+            let mut upper_right = Vec::new(rt.alloc());
+            let mut lower_left = Vec::new(rt.alloc());
+            let mut lower_right = Vec::new(rt.alloc());
+            let mut word = 0x9E37_79B9_7F4A_7C15u64;
+            for _ in 0..n {
+                upper_left.push(word)?;
+                upper_right.push(word.rotate_left(7) ^ 0x1234_5678_9ABC_DEF0)?;
+                lower_left.push(word.rotate_left(19))?;
+                lower_right.push(!word.rotate_left(31))?;
+                word = word.wrapping_mul(0xD134_2543_DE82_EF95).wrapping_add(1);
+            }
+            let a = upper_left.clone()?;
+            let b = upper_right.clone()?;
+            let c = lower_left.clone()?;
+            let d = lower_right.clone()?;
+            assert_eq!(rt; upper_right.len(), upper_left.len());
+            assert_eq!(rt; lower_left.len(), upper_left.len());
+            assert_eq!(rt; lower_right.len(), upper_left.len());
+            assert_eq!(rt; a.len(), upper_left.len());
+            assert_eq!(rt; b.len(), upper_left.len());
+            assert_eq!(rt; c.len(), upper_left.len());
+            assert_eq!(rt; d.len(), upper_left.len());
+            turn_lanes(
+                &mut upper_left,
+                &mut upper_right,
+                &mut lower_left,
+                &mut lower_right,
+            );
+            for k in 0..upper_left.len() {
+                assert_eq!(rt;
+                    (upper_left[k], upper_right[k], lower_left[k], lower_right[k]),
+                    turn_words(a[k], b[k], c[k], d[k])
+                );
+            }
+        }
+        Ok(())
+    }
+}

@@ -1,0 +1,111 @@
+-- A layout with one more line.
+use Rattle.std.proofs.Common.{◌≡◌, ℕ, ◌||◌, ◌&&◌, Bool, true, false, not, cond, List, [], ◌∷◌, ◌++◌, map, length, Option, None, Some, eqb, refl, sym, ap, subst, ◌∙◌, arith, append_assoc, append-nil}
+use Rattle.std.specs.Prelude.{◌==◌, ℤ}
+use Rattle.std.proofs.lemmas.Bool.Decides.{nat_tests}
+use Rattle.std.proofs.lemmas.List.{map-append}
+use Rattle.std.proofs.lemmas.List.Folds.{list_any-append}
+use Rattle.bbm_rule.specs.declared.block.Cell.{Cell}
+use Rattle.section_text.specs.Codes.{code_where}
+use Rattle.pattern.specs.declared.parts.Rectangle.{Rectangle}
+use Rattle.pattern.specs.declared.parts.Port.{Port}
+use Rattle.pattern.specs.declared.parts.Size.{Size}
+use Rattle.pattern.specs.declared.parts.Part.{Part}
+use Rattle.pattern.specs.declared.parts.Part.TheVariants.{Mirror, Ball, In, Out, Waste}
+use Rattle.pattern.specs.Layout.{Pattern}
+use Rattle.pattern.specs.Lines.{parts_of, is_late, order_fault, limit_fault, cell_fault, begins, ends, holds, begun, ended, AreGoodAfter}
+use Rattle.pattern.proofs.Orders.{some, late_mirror, late_ball, late_in, late_out}
+
+-- no code: the test was not failed
+pub no_code : (b : Bool) (code : ℕ) → code_where b code ≡ None → b ≡ false
+no_code true code e = absurd cc
+no_code false code e = refl
+
+is_zero : (n : ℕ) → not (n == 0) ≡ false → n ≡ 0
+is_zero n e = grind (arith, nat_tests)
+
+none_of : {X : Type 0} (xs : List X) → some xs ≡ false → xs ≡ []
+none_of [] e = refl
+none_of (x ∷ xs) e = let none : length (x ∷ xs) ≡ 0 = is_zero (length (x ∷ xs)) e in absurd (omega arith)
+
+-- none of some lists has an element
+module _ {A B C D : Type 0} (ks : List A) (ls : List B) (ms : List C) (ns : List D) where
+  pub record AreEmpty : Type 0 where
+    pub first : ks ≡ []
+    pub second : ls ≡ []
+    pub third : ms ≡ []
+    pub fourth : ns ≡ []
+
+  bits : (a b c d : Bool) → (a || (b || (c || d))) ≡ false → (a ≡ false) × (b ≡ false) × (c ≡ false) × (d ≡ false)
+  bits false false false false e = (refl, refl, refl, refl)
+  bits true b c d e = absurd cc
+  bits false true c d e = absurd cc
+  bits false false true d e = absurd cc
+  bits false false false true e = absurd cc
+
+  pub are_empty : (some ks || (some ls || (some ms || some ns))) ≡ false → AreEmpty
+  are_empty e =
+      let none = bits (some ks) (some ls) (some ms) (some ns) e in
+      record { first = none_of ks none.0; second = none_of ls none.1; third = none_of ms none.2; fourth = none_of ns none.3 }
+
+-- the line stands behind the others of its kind, and no line of a later kind stands
+module _ (p v : Pattern) (same : v ≡ p) (part : Part) (follows : order_fault (parts_of v) part ≡ None) where
+  not_late : is_late (parts_of p) part ≡ false
+  unfolding order_fault
+  not_late = subst (λ (q : Pattern). is_late (parts_of q) part ≡ false) same (no_code (is_late (parts_of v) part) 6 follows)
+
+  on_old : (q : Pattern) → parts_of q ≡ parts_of p ++ part ∷ [] → parts_of q ≡ parts_of v ++ part ∷ []
+  on_old q e = e ∙ ap (λ (u : Pattern). parts_of u ++ part ∷ []) (sym same)
+
+  pub with_mirror : (r : Rectangle) (ms : List Rectangle) → part ≡ Mirror r → ms ≡ p.mirrors ++ r ∷ [] → parts_of (record p { mirrors = ms }) ≡ parts_of v ++ part ∷ []
+  with_mirror r ms is more =
+      let none = are_empty p.balls p.ins p.outs p.wastes (sym (late_mirror p r) ∙ ap (is_late (parts_of p)) (sym is) ∙ not_late) in
+      on_old (record p { mirrors = ms }) (rw (more, none.first, none.second, none.third, none.fourth, is, map-append Mirror p.mirrors (r ∷ [])) (simp (append-nil) refl))
+
+  pub with_ball : (c : Cell) (bs : List Cell) → part ≡ Ball c → bs ≡ p.balls ++ c ∷ [] → parts_of (record p { balls = bs }) ≡ parts_of v ++ part ∷ []
+  with_ball c bs is more =
+      let none = are_empty p.ins p.ins p.outs p.wastes (twice (some p.ins) (some p.outs) (some p.wastes) (sym (late_ball p c) ∙ ap (is_late (parts_of p)) (sym is) ∙ not_late)) in
+      on_old (record p { balls = bs }) (rw (more, none.second, none.third, none.fourth, is, map-append Ball p.balls (c ∷ [])) (simp (append-nil, append_assoc) refl))
+    where
+      twice : (a b c : Bool) → (a || (b || c)) ≡ false → (a || (a || (b || c))) ≡ false
+      twice a b c e = grind arith
+
+  pub with_in : (q : Port) (is : List Port) → part ≡ In q → is ≡ p.ins ++ q ∷ [] → parts_of (record p { ins = is }) ≡ parts_of v ++ part ∷ []
+  with_in q ins is more =
+      let none = are_empty p.outs p.outs p.outs p.wastes (thrice (some p.outs) (some p.wastes) (sym (late_in p q) ∙ ap (is_late (parts_of p)) (sym is) ∙ not_late)) in
+      on_old (record p { ins = ins }) (rw (more, none.third, none.fourth, is, map-append In p.ins (q ∷ [])) (simp (append-nil, append_assoc) refl))
+    where
+      thrice : (a b : Bool) → (a || b) ≡ false → (a || (a || (a || b))) ≡ false
+      thrice a b e = grind arith
+
+  pub with_out : (q : Port) (os : List Port) → part ≡ Out q → os ≡ p.outs ++ q ∷ [] → parts_of (record p { outs = os }) ≡ parts_of v ++ part ∷ []
+  with_out q os is more =
+      let none = none_of p.wastes (sym (late_out p q) ∙ ap (is_late (parts_of p)) (sym is) ∙ not_late) in
+      on_old (record p { outs = os }) (rw (more, none, is, map-append Out p.outs (q ∷ [])) (simp (append-nil, append_assoc) refl))
+
+  pub with_waste : (c : Cell) (ws : List Cell) → part ≡ Waste c → ws ≡ p.wastes ++ c ∷ [] → parts_of (record p { wastes = ws }) ≡ parts_of v ++ part ∷ []
+  with_waste c ws is more =
+      on_old (record p { wastes = ws }) (rw (more, is, map-append Waste p.wastes (c ∷ [])) (simp (append_assoc) refl))
+
+-- ---- one more good line
+
+good_push : (s : Size) (before parts : List Part) (part : Part) → AreGoodAfter s before parts → limit_fault part ≡ None → cell_fault s (before ++ parts) part ≡ None → AreGoodAfter s before (parts ++ part ∷ [])
+good_push s before [] part good limit cells = (limit, subst (λ (l : List Part). cell_fault s l part ≡ None) (append-nil before) cells, tt)
+good_push s before (q ∷ parts) part good limit cells =
+    (good.0, good.1, good_push s (before ++ q ∷ []) parts part good.2 limit (subst (λ (l : List Part). cell_fault s l part ≡ None) (sym (append_assoc before (q ∷ []) parts)) cells))
+
+pub good_more : (s : Size) (p v : Pattern) (same : v ≡ p) (q : List Part) (part : Part) → AreGoodAfter s [] (parts_of p) → q ≡ parts_of v ++ part ∷ [] → limit_fault part ≡ None → cell_fault s (parts_of v) part ≡ None → AreGoodAfter s [] q
+good_more s p v same q part good more limit cells =
+    subst (AreGoodAfter s []) (sym more) (good_push s [] (parts_of v) part (subst (λ (u : Pattern). AreGoodAfter s [] (parts_of u)) (sym same) good) limit cells)
+
+-- ---- the cells that are taken after one more line
+
+or_last : (a b : Bool) → (a || (b || false)) ≡ (a || b)
+or_last a b = grind arith
+
+pub begun_push : (parts : List Part) (part : Part) (x y : ℤ) → begun (parts ++ part ∷ []) x y ≡ (begun parts x y || (begins part && holds part x y))
+unfolding begun
+begun_push parts part x y = list_any-append (λ b. begins b && holds b x y) parts (part ∷ []) ∙ or_last _ _
+
+pub ended_push : (parts : List Part) (part : Part) (x y : ℤ) → ended (parts ++ part ∷ []) x y ≡ (ended parts x y || (ends part && holds part x y))
+unfolding ended
+ended_push parts part x y = list_any-append (λ b. ends b && holds b x y) parts (part ∷ []) ∙ or_last _ _

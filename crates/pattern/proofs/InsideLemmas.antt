@@ -1,0 +1,133 @@
+-- What begins in a good layout lies inside it.
+use Rattle.std.proofs.Common.{◌≡◌, ℕ, zero, suc, ◌+◌, ◌≤◌, ◌<◌, ◌%◌, ℤ, pos, negsuc, Bool, true, false, not, ◌&&◌, ◌||◌, None, List, [], ◌∷◌, ◌++◌, map, length, get_or, refl, arith, ap, ◌∙◌, sym}
+use Rattle.std.specs.List.{list_any, list_all}
+use Rattle.std.proofs.lemmas.Bool.Decides.{nat_tests, Decides-int_eq}
+use Rattle.std.proofs.lemmas.List.Folds.{list_all-append, list_all-map}
+use Rattle.bbm_rule.specs.Spans.{in_span}
+use Rattle.bbm_rule.specs.declared.block.Cell.{Cell}
+use Rattle.section_text.specs.Codes.{code_where}
+use Rattle.pattern.specs.declared.parts.Rectangle.{Rectangle}
+use Rattle.pattern.specs.declared.parts.Port.{Port}
+use Rattle.pattern.specs.declared.parts.Size.{Size}
+use Rattle.pattern.specs.declared.parts.Part.{Part}
+use Rattle.pattern.specs.declared.parts.Part.TheVariants.{Mirror, Ball, In}
+use Rattle.pattern.specs.Layout.{Pattern, is_at, in_rectangle, in_layout, in_cells, in_rectangles, in_ports_on, start}
+use Rattle.pattern.specs.Lines.{parts_of, size_fault, cell_fault, is_inside, is_taken, is_side, AreGoodAfter}
+
+and_left : (a b : Bool) → (a && b) ≡ true → a ≡ true
+and_left true b h = refl
+and_left false b h = h
+
+and_right : (a b : Bool) → (a && b) ≡ true → b ≡ true
+and_right true b h = h
+and_right false b h = cc
+
+-- ---- the size
+
+pub record IsSideLength (n : ℕ) : Type 0 where
+  pub least : 2 ≤ n
+  pub most : n ≤ 512
+  pub even : n % 2 ≡ 0
+
+no_code : (a : Bool) (n : ℕ) → code_where (not a) n ≡ None → a ≡ true
+no_code true n e = refl
+no_code false n e = cc
+
+side_length : (n : ℕ) → is_side n ≡ true → IsSideLength n
+side_length n e = record { least = grind (arith, nat_tests); most = grind (arith, nat_tests); even = grind (arith, nat_tests) }
+
+pub size_sides : (s : Size) → size_fault s ≡ None → IsSideLength s.w × IsSideLength s.h
+unfolding size_fault
+size_sides s e =
+    let good : (is_side s.w && is_side s.h && _) ≡ true = no_code _ 2 e in
+    let both : (is_side s.w && is_side s.h) ≡ true = and_left _ _ good in
+    (side_length s.w (and_left _ _ both), side_length s.h (and_right _ _ both))
+
+-- ---- the parts
+
+first_holds : (a b : Bool) → code_where (not a || b) 7 ≡ None → a ≡ true
+first_holds true b e = refl
+first_holds false b e = cc
+
+part_inside : (s : Size) (before : List Part) (part : Part) → cell_fault s before part ≡ None → is_inside s part ≡ true
+unfolding cell_fault
+part_inside s before part e = first_holds (is_inside s part) (is_taken before part) e
+
+parts_inside : (s : Size) (before parts : List Part) → AreGoodAfter s before parts → list_all (is_inside s) parts ≡ true
+parts_inside s before [] h = refl
+parts_inside s before (part ∷ parts) h = rw (part_inside s before part h.1, parts_inside s (before ++ part ∷ []) parts h.2) refl
+
+pub record BeginsInside (p : Pattern) : Type 0 where
+  pub mirrors : list_all (λ r. is_inside p.size (Mirror r)) p.mirrors ≡ true
+  pub balls : list_all (λ c. is_inside p.size (Ball c)) p.balls ≡ true
+  pub ins : list_all (λ q. is_inside p.size (In q)) p.ins ≡ true
+
+pub begins_inside : (p : Pattern) → AreGoodAfter p.size [] (parts_of p) → BeginsInside p
+begins_inside p h =
+    let all = parts_inside p.size [] (parts_of p) h in
+    let test : Part → Bool = is_inside p.size in
+    let one = sym (list_all-append test (map Mirror p.mirrors) _) ∙ all in
+    let two = sym (list_all-append test (map Ball p.balls) _) ∙ and_right _ _ one in
+    let three = sym (list_all-append test (map In p.ins) _) ∙ and_right _ _ two in
+    record {
+      mirrors = sym (list_all-map test Mirror p.mirrors) ∙ and_left _ _ one;
+      balls = sym (list_all-map test Ball p.balls) ∙ and_left _ _ two;
+      ins = sym (list_all-map test In p.ins) ∙ and_left _ _ three;
+    }
+
+mirror_fits : (s : Size) (r : Rectangle) → is_inside s (Mirror r) ≡ true → (r.x + r.w ≤ s.w) × (r.y + r.h ≤ s.h)
+unfolding is_inside
+mirror_fits s r e = (grind (arith, nat_tests), grind (arith, nat_tests))
+
+pub mirrors_fit : (s : Size) (rs : List Rectangle) → list_all (λ r. is_inside s (Mirror r)) rs ≡ true → s.w ≤ 512 → s.h ≤ 512 → (k : ℕ) (d : Rectangle) → k < length rs → ((get_or rs k d).x + (get_or rs k d).w ≤ 512) × ((get_or rs k d).y + (get_or rs k d).h ≤ 512)
+mirrors_fit s [] e w h k d lt = absurd (omega arith)
+mirrors_fit s (r ∷ rs) e w h zero d lt = let f = mirror_fits s r (and_left _ _ e) in (omega (arith, f.0), omega (arith, f.1))
+mirrors_fit s (r ∷ rs) e w h (suc k) d lt = mirrors_fit s rs (and_right _ _ e) w h k d (omega arith)
+
+-- ---- the start
+
+one_or_rest : (here rest b : Bool) → (here ≡ true → b ≡ true) → (rest ≡ true → b ≡ true) → (here || rest) ≡ true → b ≡ true
+one_or_rest true rest b f g h = f refl
+one_or_rest false rest b f g h = g h
+
+any_among : {X : Type 0} (p q : X → Bool) (b : Bool) → ((x : X) → q x ≡ true → p x ≡ true → b ≡ true) → (xs : List X) → list_all q xs ≡ true → list_any p xs ≡ true → b ≡ true
+any_among p q b f [] all some = cc
+any_among p q b f (x ∷ xs) all some = one_or_rest (p x) (list_any p xs) b (f x (and_left _ _ all)) (any_among p q b f xs (and_right _ _ all)) some
+
+span_within : (a n m : ℕ) (x : ℤ) → a + n ≤ m → in_span a n x ≡ true → in_span 0 m x ≡ true
+unfolding in_span
+span_within a n m (pos x) fits e = grind (arith, nat_tests)
+span_within a n m (negsuc x) fits e = cc
+
+rectangle_inside : (s : Size) (r : Rectangle) (x y : ℤ) → is_inside s (Mirror r) ≡ true → in_rectangle r x y ≡ true → in_layout s x y ≡ true
+rectangle_inside s r x y e h =
+    let f = mirror_fits s r e in
+    let across : in_span 0 s.w x ≡ true = span_within r.x r.w s.w x f.0 (and_left _ _ h) in
+    let down : in_span 0 s.h y ≡ true = span_within r.y r.h s.h y f.1 (and_right _ _ h) in
+    rw (across, down) refl
+
+at_inside : (s : Size) (c : Cell) (x y : ℤ) → in_layout s c.x c.y ≡ true → is_at c x y ≡ true → in_layout s x y ≡ true
+at_inside s c x y e h =
+    let across : c.x ≡ x = (Decides-int_eq c.x x).0 (and_left _ _ h) in
+    let down : c.y ≡ y = (Decides-int_eq c.y y).0 (and_right _ _ h) in
+    ap (λ (u : ℤ). in_layout s u y) (sym across) ∙ ap (λ (v : ℤ). in_layout s c.x v) (sym down) ∙ e
+
+ball_inside : (s : Size) (c : Cell) (x y : ℤ) → is_inside s (Ball c) ≡ true → is_at c x y ≡ true → in_layout s x y ≡ true
+unfolding is_inside
+ball_inside s c x y e h = at_inside s c x y e h
+
+port_inside : (s : Size) (b : Bool) (q : Port) (x y : ℤ) → is_inside s (In q) ≡ true → (b && is_at q.cell x y) ≡ true → in_layout s x y ≡ true
+unfolding is_inside
+port_inside s b q x y e h = at_inside s q.cell x y e (and_right _ _ h)
+
+or_either : (a b c d : Bool) → (a || b || c) ≡ true → (a ≡ true → d ≡ true) → (b ≡ true → d ≡ true) → (c ≡ true → d ≡ true) → d ≡ true
+or_either true b c d h f g k = f refl
+or_either false b c d h f g k = one_or_rest b c d g k h
+
+pub start_inside : (p : Pattern) (on : List ℕ → Bool) → BeginsInside p → (x y : ℤ) → start p on x y ≡ true → in_layout p.size x y ≡ true
+unfolding start
+start_inside p on all x y h =
+    or_either (in_rectangles p.mirrors x y) (in_cells p.balls x y) (in_ports_on on p.ins x y) _ h
+    (any_among _ (λ (r : Rectangle). is_inside p.size (Mirror r)) _ (λ r e a. rectangle_inside p.size r x y e a) p.mirrors all.mirrors)
+    (any_among _ (λ (c : Cell). is_inside p.size (Ball c)) _ (λ c e a. ball_inside p.size c x y e a) p.balls all.balls)
+    (any_among _ (λ (q : Port). is_inside p.size (In q)) _ (λ q e a. port_inside p.size (on q.name) q x y e a) p.ins all.ins)

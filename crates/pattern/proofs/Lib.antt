@@ -1,0 +1,13 @@
+pub mod CellLists
+pub mod RectangleLemmas
+mod NameSets
+pub mod Orders
+pub mod Added
+pub mod TakenLemmas
+pub mod ReadingLemmas
+pub mod Printed
+pub mod InsideLemmas
+pub mod StartLemmas
+pub mod RunLemmas
+mod Spelling
+mod RoundTrip

@@ -1,0 +1,26 @@
+-- Which names a set has after one more.
+use Rattle.std.proofs.Common.{◌≡◌, ℕ, ◌||◌, Bool, true, false, List, [], ◌∷◌, ◌++◌, take, refl, sym, ap, ◌∙◌, inl, inr, subst, arith}
+use Rattle.std.specs.Str.{bytes_eq}
+use Rattle.std.specs.List.{list_any}
+use Rattle.std.proofs.lemmas.Bool.{cases_Bool}
+use Rattle.std.proofs.lemmas.Slice.Eq.{bytes_eq-Decides}
+use Rattle.std.proofs.lemmas.List.Folds.{list_any-append}
+use Rattle.pattern.specs.Lines.{has}
+
+or_right : (a b : Bool) → (a || (b || false)) ≡ (a || b)
+or_right a b = grind arith
+
+pub has_push : (d : List (List ℕ)) (m n : List ℕ) → has (d ++ m ∷ []) n ≡ (has d n || bytes_eq n m)
+has_push d m n = list_any-append (bytes_eq n) d (m ∷ []) ∙ or_right (has d n) (bytes_eq n m)
+
+or_true : (a b : Bool) → a ≡ true → a ≡ (a || b)
+or_true a b e = grind arith
+
+or_false : (a b : Bool) → b ≡ false → a ≡ (a || b)
+or_false a b e = grind arith
+
+pub has_again : (d : List (List ℕ)) (m n : List ℕ) → has d m ≡ true → has d n ≡ (has d n || bytes_eq n m)
+has_again d m n h = elim (cases_Bool (bytes_eq n m)) [
+  | inl e ↦ or_true (has d n) (bytes_eq n m) (subst (λ k. has d k ≡ true) (sym ((bytes_eq-Decides n m).0 e)) h)
+  | inr e ↦ or_false (has d n) (bytes_eq n m) e
+]

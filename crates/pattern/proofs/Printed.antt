@@ -1,0 +1,56 @@
+-- The lists of a layout, printed one after the other, are its text.
+use Rattle.std.proofs.Common.{◌≡◌, ℕ, List, [], ◌∷◌, ◌++◌, map, refl, sym, ap, ap₂, ◌∙◌, append_assoc}
+use Rattle.std.specs.Prelude.{codes}
+use Rattle.std.specs.List.{flat_map}
+use Rattle.std.proofs.lemmas.Grind.{flat_map-append}
+use Rattle.std.proofs.lemmas.List.Folds.{flat_map-map}
+use Rattle.section_text.specs.Spelling.{line_text}
+use Rattle.pattern.specs.declared.parts.Part.TheVariants.{Mirror, Ball, In, Out, Waste}
+use Rattle.pattern.specs.Layout.{Pattern}
+use Rattle.pattern.specs.Lines.{parts_of}
+use Rattle.pattern.specs.Text.{cell_words, rectangle_words, port_words, size_words, part_text, layout_text}
+
+module _ (p : Pattern) where
+  mirrors : List ℕ
+  mirrors = flat_map (λ r. line_text (codes "mirror") (rectangle_words r)) p.mirrors
+
+  balls : List ℕ
+  balls = flat_map (λ c. line_text (codes "ball") (cell_words c)) p.balls
+
+  ins : List ℕ
+  ins = flat_map (λ q. line_text (codes "in") (port_words q)) p.ins
+
+  outs : List ℕ
+  outs = flat_map (λ q. line_text (codes "out") (port_words q)) p.outs
+
+  wastes : List ℕ
+  wastes = flat_map (λ c. line_text (codes "waste") (cell_words c)) p.wastes
+
+  parts_text : flat_map part_text (parts_of p) ≡ mirrors ++ (balls ++ (ins ++ (outs ++ wastes)))
+  unfolding mirrors balls ins outs wastes
+  parts_text =
+      flat_map-append part_text (map Mirror p.mirrors) (map Ball p.balls ++ (map In p.ins ++ (map Out p.outs ++ map Waste p.wastes)))
+      ∙ ap₂ (λ a b. a ++ b) (flat_map-map part_text Mirror p.mirrors) (
+        flat_map-append part_text (map Ball p.balls) (map In p.ins ++ (map Out p.outs ++ map Waste p.wastes))
+        ∙ ap₂ (λ a b. a ++ b) (flat_map-map part_text Ball p.balls) (
+          flat_map-append part_text (map In p.ins) (map Out p.outs ++ map Waste p.wastes)
+          ∙ ap₂ (λ a b. a ++ b) (flat_map-map part_text In p.ins) (
+            flat_map-append part_text (map Out p.outs) (map Waste p.wastes)
+            ∙ ap₂ (λ a b. a ++ b) (flat_map-map part_text Out p.outs) (flat_map-map part_text Waste p.wastes))))
+
+  regroup : (s m b i o w e : List ℕ) → ((((((s ++ m) ++ b) ++ i) ++ o) ++ w) ++ e) ≡ (s ++ (m ++ (b ++ (i ++ (o ++ w))))) ++ e
+  regroup s m b i o w e = ap (λ l. l ++ e) (simp append_assoc refl)
+
+  pub printed : (a b c d k f g : List ℕ) → a ≡ line_text (codes "layout") (size_words p.size)
+      → b ≡ a ++ flat_map (λ r. line_text (codes "mirror") (rectangle_words r)) p.mirrors
+      → c ≡ b ++ flat_map (λ c. line_text (codes "ball") (cell_words c)) p.balls
+      → d ≡ c ++ flat_map (λ q. line_text (codes "in") (port_words q)) p.ins
+      → k ≡ d ++ flat_map (λ q. line_text (codes "out") (port_words q)) p.outs
+      → f ≡ k ++ flat_map (λ c. line_text (codes "waste") (cell_words c)) p.wastes
+      → g ≡ f ++ codes "end\n" → g ≡ layout_text p
+  unfolding layout_text mirrors balls ins outs wastes
+  printed a b c d k f g ea eb ec ed ek ef eg =
+      let s = line_text (codes "layout") (size_words p.size) in
+      eg ∙ ap (λ l. l ++ codes "end\n") (ef ∙ ap (λ l. l ++ wastes) (ek ∙ ap (λ l. l ++ outs) (ed ∙ ap (λ l. l ++ ins) (ec ∙ ap (λ l. l ++ balls) (eb ∙ ap (λ l. l ++ mirrors) ea)))))
+      ∙ regroup s mirrors balls ins outs wastes (codes "end\n")
+      ∙ ap (λ l. (s ++ l) ++ codes "end\n") (sym parts_text)

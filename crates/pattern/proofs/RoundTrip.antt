@@ -1,0 +1,27 @@
+-- The layout section has one text.
+use Rattle.std.proofs.Common.{ℕ, ◌+◌, List, length, drop, ◌∙◌, sym, ap, append_assoc}
+use Rattle.std.specs.List.{flat_map}
+use Rattle.section_text.specs.Words.{lines_of}
+use Rattle.section_text.specs.Section.{section_of}
+use Rattle.section_text.specs.declared.section.Form.TheVariants.{Header, Item, End}
+use Rattle.section_text.proofs.Spelled.{section_text_is}
+use Rattle.section_text.proofs.Again.{section_again, lines_of_lines}
+use Rattle.pattern.specs.Lines.{parts_of}
+use Rattle.pattern.specs.Grammars.{layout_grammar}
+use Rattle.pattern.specs.Text.{layout_text, form_text}
+use Rattle.pattern.specs.Laws.{PrintsWhatIsRead, ReadsWhatIsPrinted}
+use Rattle.pattern.proofs.Spelling.{form_line}
+
+pub prints_what_is_read : PrintsWhatIsRead
+unfolding layout_text
+prints_what_is_read ports n ls p e =
+    section_text_is (layout_grammar ports) form_text form_line n ls p.size (parts_of p) e
+    ∙ sym (append_assoc (form_text (Header p.size)) (flat_map (λ i. form_text (Item i)) (parts_of p)) (form_text End))
+
+pub reads_what_is_printed : ReadsWhatIsPrinted
+reads_what_is_printed ports text from n m p e =
+    let ls = drop from (lines_of text) in
+    let printed = prints_what_is_read ports n ls p e in
+    ap (λ (t : List ℕ). section_of (layout_grammar ports) m (lines_of t)) (sym printed)
+    ∙ ap (section_of (layout_grammar ports) m) (lines_of_lines text from (length (parts_of p) + 2))
+    ∙ section_again (layout_grammar ports) n m ls p.size (parts_of p) e

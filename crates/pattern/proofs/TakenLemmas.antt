@@ -1,0 +1,128 @@
+-- The cells of a line, and the cells that are taken.
+use Rattle.std.proofs.Common.{◌≡◌, ℕ, zero, suc, ◌+◌, ◌%◌, ◌<◌, ◌≤◌, ◌||◌, ◌&&◌, ℤ, pos, Bool, true, false, not, cond, List, [], ◌∷◌, ◌++◌, map, None, Some, Option, if◌then◌else◌, refl, sym, ap, subst, ◌∙◌, arith}
+use Rattle.std.specs.Prelude.{All, nat_le, ◌==◌}
+use Rattle.std.specs.List.{AllByRecursion, list_any, flat_map, range_with_len}
+use Rattle.std.proofs.lemmas.Bool.Decides.{nat_tests}
+use Rattle.std.proofs.lemmas.List.Elements.{All-from_recursion}
+use Rattle.bbm_rule.specs.Board.{Board, live, is_inside as is_on_board}
+use Rattle.bbm_rule.specs.Spans.{in_span}
+use Rattle.bbm_rule.proofs.Boards.{inside_is_span}
+use Rattle.bbm_rule.specs.declared.block.Cell.{Cell}
+use Rattle.section_text.specs.Codes.{code_where}
+use Rattle.pattern.specs.declared.parts.Rectangle.{Rectangle}
+use Rattle.pattern.specs.declared.parts.Size.{Size}
+use Rattle.pattern.specs.declared.parts.Part.{Part}
+use Rattle.pattern.specs.declared.parts.Part.TheVariants.{Mirror, Ball, In, Out, Waste}
+use Rattle.pattern.specs.Layout.{Pattern, cell, row_cells, rectangle_cells, in_cells, in_layout}
+use Rattle.pattern.specs.Lines.{parts_of, is_side, size_fault, is_inside, cells_of, begins, ends, holds, begun, ended, is_taken, cell_fault}
+use Rattle.pattern.proofs.Added.{no_code, begun_push, ended_push}
+
+-- ---- a size within its limits
+
+pub record IsSized (s : Size) : Type 0 where
+  pub width : (2 ≤ s.w) × (s.w ≤ 512) × (s.w % 2 ≡ 0)
+  pub height : (2 ≤ s.h) × (s.h ≤ 512) × (s.h % 2 ≡ 0)
+  pub steps : s.steps ≤ 4096
+
+all_three : (a b c : Bool) → not (a && b && c) ≡ false → (a ≡ true) × (b ≡ true) × (c ≡ true)
+all_three true true true e = (refl, refl, refl)
+all_three true true false e = absurd cc
+all_three true false c e = absurd cc
+all_three false b c e = absurd cc
+
+side : (n : ℕ) → is_side n ≡ true → (2 ≤ n) × (n ≤ 512) × (n % 2 ≡ 0)
+side n e = grind (arith, nat_tests)
+
+pub is_sized : (s : Size) → size_fault s ≡ None → IsSized s
+unfolding size_fault
+is_sized s e =
+    let good = all_three (is_side s.w) (is_side s.h) (nat_le s.steps 4096) (no_code _ 2 e) in
+    record { width = side s.w good.0; height = side s.h good.1; steps = grind (arith, nat_tests, good.2) }
+
+-- ---- cells that lie inside
+
+abbrev IsInside : Size → Cell → Type 0
+IsInside s c = in_layout s c.x c.y ≡ true
+
+in_span_of : (n x : ℕ) → x < n → in_span 0 n (pos x) ≡ true
+unfolding in_span
+in_span_of n x h = grind (arith, nat_tests)
+
+row_inside : (s : Size) (x n y : ℕ) → x + n ≤ s.w → y < s.h → AllByRecursion (IsInside s) (row_cells x n y)
+row_inside s x zero y wide high = tt
+row_inside s x (suc n) y wide high =
+    let here : IsInside s (cell x y) = rw (in_span_of s.w x (omega arith), in_span_of s.h y high) refl in
+    (here, row_inside s (x + 1) n y (omega arith) high)
+
+append_inside : (s : Size) (xs ys : List Cell) → AllByRecursion (IsInside s) xs → AllByRecursion (IsInside s) ys → AllByRecursion (IsInside s) (xs ++ ys)
+append_inside s [] ys front back = back
+append_inside s (x ∷ xs) ys front back = (front.0, append_inside s xs ys front.1 back)
+
+rows_inside : (s : Size) (x w y n : ℕ) → x + w ≤ s.w → y + n ≤ s.h → AllByRecursion (IsInside s) (flat_map (row_cells x w) (range_with_len y n))
+rows_inside s x w y zero wide high = tt
+rows_inside s x w y (suc n) wide high = append_inside s (row_cells x w y) (flat_map (row_cells x w) (range_with_len (y + 1) n)) (row_inside s x w y wide (omega arith)) (rows_inside s x w (y + 1) n wide (omega arith))
+
+both : (a b : Bool) → (a && b) ≡ true → (a ≡ true) × (b ≡ true)
+both true true e = (refl, refl)
+both true false e = absurd cc
+both false b e = absurd cc
+
+at_most : (a b : ℕ) → nat_le a b ≡ true → a ≤ b
+at_most a b e = grind (arith, nat_tests)
+
+-- where the corner of a mirror that lies inside is
+pub mirror_fits : (s : Size) (r : Rectangle) → is_inside s (Mirror r) ≡ true → (r.x + r.w ≤ s.w) × (r.y + r.h ≤ s.h)
+unfolding is_inside
+mirror_fits s r e = let fits = both (nat_le (r.x + r.w) s.w) (nat_le (r.y + r.h) s.h) e in (at_most _ _ fits.0, at_most _ _ fits.1)
+
+cells_inside_by : (s : Size) (part : Part) → is_inside s part ≡ true → AllByRecursion (IsInside s) (cells_of part)
+unfolding is_inside cells_of rectangle_cells
+cells_inside_by s (Mirror r) e = let fits = mirror_fits s r e in rows_inside s r.x r.w r.y r.h fits.0 fits.1
+cells_inside_by s (Ball c) e = (e, tt)
+cells_inside_by s (In p) e = (e, tt)
+cells_inside_by s (Out p) e = (e, tt)
+cells_inside_by s (Waste c) e = (e, tt)
+
+on_board : (b : Board) (s : Size) → b.width ≡ s.w → b.height ≡ s.h → (c : Cell) → IsInside s c → is_on_board b c.x c.y ≡ true
+on_board b s w h c e = inside_is_span b c.x c.y ∙ rw (w, h) e
+
+all_on_board : (b : Board) (s : Size) → b.width ≡ s.w → b.height ≡ s.h → (cells : List Cell) → AllByRecursion (IsInside s) cells → AllByRecursion (λ c. is_on_board b c.x c.y ≡ true) cells
+all_on_board b s w h [] inside = tt
+all_on_board b s w h (c ∷ cells) inside = (on_board b s w h c inside.0, all_on_board b s w h cells inside.1)
+
+-- the cells of a line that lies inside are on a board of the layout's size
+pub cells_on_board : (b : Board) (s : Size) → b.width ≡ s.w → b.height ≡ s.h → (part : Part) (cells : List Cell) → cells ≡ cells_of part → is_inside s part ≡ true → All (λ c. is_on_board b c.x c.y ≡ true) cells
+cells_on_board b s w h part cells same inside =
+    let P : List Cell → Type 0 = λ cs. All (λ c. is_on_board b c.x c.y ≡ true) cs in
+    subst P (sym same) (All-from_recursion (λ c. is_on_board b c.x c.y ≡ true) (cells_of part) (all_on_board b s w h (cells_of part) (cells_inside_by s part inside)))
+
+-- ---- cells that are taken
+
+any_same : (p q : Cell → Bool) → ((c : Cell) → p c ≡ q c) → (cells : List Cell) → list_any p cells ≡ list_any q cells
+any_same p q same [] = refl
+any_same p q same (c ∷ cells) = rw (same c, any_same p q same cells) refl
+
+pub taken_by : (one other : Board) (parts : List Part) (part : Part) (cells : List Cell) → ((x y : ℤ) → live one x y ≡ begun parts x y) → ((x y : ℤ) → live other x y ≡ ended parts x y) → cells ≡ cells_of part
+    → (if begins part then list_any (λ c. live one c.x c.y) cells else list_any (λ c. live other c.x c.y) cells) ≡ is_taken parts part
+unfolding is_taken
+taken_by one other parts part cells same_begun same_ended are =
+    rw (are, any_same (λ c. live one c.x c.y) (λ c. begun parts c.x c.y) (λ c. same_begun c.x c.y) (cells_of part), any_same (λ c. live other c.x c.y) (λ c. ended parts c.x c.y) (λ c. same_ended c.x c.y) (cells_of part)) refl
+
+-- ---- the boards after one more line
+
+module _ (old new : Board) (parts more : List Part) (part : Part) (cells : List Cell) (are : cells ≡ cells_of part) (longer : more ≡ parts ++ part ∷ []) where
+  pub begun_more : ((x y : ℤ) → live old x y ≡ begun parts x y) → ((x y : ℤ) → live new x y ≡ (live old x y || (begins part && in_cells cells x y))) → (x y : ℤ) → live new x y ≡ begun more x y
+  begun_more before after x y = after x y ∙ rw (before x y, are, longer, begun_push parts part x y) refl
+
+  pub ended_more : ((x y : ℤ) → live old x y ≡ ended parts x y) → ((x y : ℤ) → live new x y ≡ (live old x y || (ends part && in_cells cells x y))) → (x y : ℤ) → live new x y ≡ ended more x y
+  ended_more before after x y = after x y ∙ rw (before x y, are, longer, ended_push parts part x y) refl
+
+-- ---- the code for the cells of a line
+
+pub cells_free : (s : Size) (parts : List Part) (part : Part) → is_inside s part ≡ true → is_taken parts part ≡ false → cell_fault s parts part ≡ None
+unfolding cell_fault
+cells_free s parts part inside free = rw (inside, free) refl
+
+pub cells_taken : (s : Size) (parts : List Part) (part : Part) → is_inside s part ≡ true → is_taken parts part ≡ true → cell_fault s parts part ≡ Some 7
+unfolding cell_fault
+cells_taken s parts part inside taken = rw (inside, taken) refl

@@ -1,0 +1,9 @@
+-- The lines so far are printed.
+use Rattle.std.proofs.Common.{◌≡◌, ◌++◌, take}
+use Rattle.std.specs.List.{flat_map}
+use Rattle.section_text.specs.Spelling.{line_text}
+use Rattle.pattern.specs.Text.{port_words}
+use Rattle.pattern.proofs.printing.print_ports.Given as goal
+
+abbrev pub invariant-loop-port : goal.invariant-loop-port
+invariant-loop-port l = l.out.items ≡ l.fn.out.items ++ flat_map (λ p. line_text l.word (port_words p)) (take l.port-index l.ports)

@@ -1,0 +1,8 @@
+-- The set has the names so far.
+use Rattle.std.proofs.Common.{◌≡◌, true, take}
+use Rattle.std.specs.List.{list_all}
+use Rattle.pattern.specs.Lines.{has}
+use Rattle.pattern.proofs.reading.has_all.Given as goal
+
+abbrev pub invariant-loop-name : goal.invariant-loop-name
+invariant-loop-name l = list_all (λ n. has l.set.keys n) (take l.name-index l.names) ≡ true

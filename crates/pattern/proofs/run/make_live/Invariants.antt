@@ -1,0 +1,10 @@
+use Rattle.std.proofs.Common.{◌≡◌, ℤ, ◌||◌, take}
+use Rattle.bbm_rule.specs.Board.{live, HasSameSize}
+use Rattle.pattern.specs.Layout.{in_cells}
+use Rattle.pattern.proofs.run.make_live.Given as goal
+
+abbrev pub invariant-loop-cell : goal.invariant-loop-cell
+invariant-loop-cell l = record {
+  cells : (x y : ℤ) → live l.grid x y ≡ (live l.fn.grid x y || in_cells (take l.cell-index l.cells) x y);
+  size : HasSameSize l.fn.grid l.grid;
+}

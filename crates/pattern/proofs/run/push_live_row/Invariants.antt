@@ -1,0 +1,8 @@
+use Rattle.std.proofs.Common.{◌≡◌, ◌++◌}
+use Rattle.std.specs.List.{filter}
+use Rattle.bbm_rule.specs.Board.{live}
+use Rattle.pattern.specs.Layout.{row_cells}
+use Rattle.pattern.proofs.run.push_live_row.Given as goal
+
+abbrev pub invariant-loop-x : goal.invariant-loop-x
+invariant-loop-x l = l.out.items ≡ l.fn.out.items ++ filter (λ c. live l.fn.grid c.x c.y) (row_cells 0 l.x l.y)

@@ -1,0 +1,10 @@
+-- The cells so far are taken.
+use Rattle.std.proofs.Common.{◌≡◌, ◌||◌, ℤ, take}
+use Rattle.bbm_rule.specs.Board.{live, HasSameSize}
+use Rattle.pattern.specs.Layout.{in_cells}
+use Rattle.pattern.proofs.taken.take_cells.Given as goal
+
+abbrev pub invariant-loop-cell : goal.invariant-loop-cell
+invariant-loop-cell l =
+    ((x y : ℤ) → live l.grid x y ≡ (live l.fn.grid x y || in_cells (take l.cell-index l.cells) x y))
+    × HasSameSize l.fn.grid l.grid

@@ -1,0 +1,18 @@
+-- The fields of a draft, and what contracts see of them.
+use Rattle.std.specs.Prelude.{◌≡◌, ℤ}
+use Rattle.bbm_rule.specs.Board.{live}
+use Rattle.pattern.specs.declared.draft.Draft.TheInside.{Inside}
+use Rattle.pattern.specs.Layout.{Pattern}
+use Rattle.pattern.specs.Lines.{parts_of, begun, ended}
+
+abbrev pub pattern_of : Inside → Pattern
+pattern_of a = a.layout
+
+-- the grids have the size of the layout, and their live cells are those that are taken
+pub record IsDraft (a : Inside) : Type 0 where
+  pub begun_width : a.begun.width ≡ a.layout.size.w
+  pub begun_height : a.begun.height ≡ a.layout.size.h
+  pub ended_width : a.ended.width ≡ a.layout.size.w
+  pub ended_height : a.ended.height ≡ a.layout.size.h
+  pub begun : (x y : ℤ) → live a.begun x y ≡ begun (parts_of a.layout) x y
+  pub ended : (x y : ℤ) → live a.ended x y ≡ ended (parts_of a.layout) x y

@@ -1,0 +1,73 @@
+-- The line forms of the layout section: what the words of a line say.
+use Rattle.std.specs.Prelude.{ℕ, ◌+◌, List, length, Option, Some, None, codes, ◌==◌, if◌then◌else◌}
+use Rattle.section_text.specs.Words.{◌>>=◌, is_at, name_at, number_at}
+use Rattle.section_text.specs.declared.section.Form.{Form}
+use Rattle.section_text.specs.declared.section.Form.TheVariants.{Header, Item, End}
+use Rattle.bbm_rule.specs.declared.block.Cell.{Cell}
+use Rattle.pattern.specs.declared.parts.Rectangle.{Rectangle}
+use Rattle.pattern.specs.declared.parts.Port.{Port}
+use Rattle.pattern.specs.declared.parts.Size.{Size}
+use Rattle.pattern.specs.declared.parts.Part.{Part}
+use Rattle.pattern.specs.declared.parts.Part.TheVariants.{Mirror, Ball, In, Out, Waste}
+use Rattle.pattern.specs.Layout.{cell}
+
+abbrev pub Line : Type 0
+Line = Form Size Part
+
+-- the cell that word i and the next one are
+unfoldable pub cell_from : List (List ℕ) → ℕ → Option Cell
+cell_from ws i = do
+  x ← number_at ws i
+  y ← number_at ws (i + 1)
+  Some (cell x y)
+
+-- a keyword and a cell
+unfoldable pub lone_cell : List (List ℕ) → Option Cell
+lone_cell ws = if length ws == 3 then cell_from ws 1 else None
+
+-- a keyword, a name and a cell
+unfoldable pub named_cell : List (List ℕ) → Option Port
+named_cell ws = do
+  n ← name_at ws 1
+  c ← cell_from ws 2
+  Some (record { name = n; cell = c })
+
+unfoldable pub port_of : List (List ℕ) → Option Port
+port_of ws = if length ws == 4 then named_cell ws else None
+
+-- a keyword and four numbers
+unfoldable pub corner_and_sides : List (List ℕ) → Option Rectangle
+corner_and_sides ws = do
+  x ← number_at ws 1
+  y ← number_at ws 2
+  w ← number_at ws 3
+  h ← number_at ws 4
+  Some (record { x = x; y = y; w = w; h = h })
+
+unfoldable pub rectangle_of : List (List ℕ) → Option Rectangle
+rectangle_of ws = if length ws == 5 then corner_and_sides ws else None
+
+-- a keyword and three numbers
+unfoldable pub sides_and_steps : List (List ℕ) → Option Size
+sides_and_steps ws = do
+  w ← number_at ws 1
+  h ← number_at ws 2
+  steps ← number_at ws 3
+  Some (record { w = w; h = h; steps = steps })
+
+unfoldable pub size_of : List (List ℕ) → Option Size
+size_of ws = if length ws == 4 then sides_and_steps ws else None
+
+unfoldable pub end_of : List (List ℕ) → Option Line
+end_of ws = if length ws == 1 then Some End else None
+
+unfoldable pub form_of : List (List ℕ) → Option Line
+form_of ws =
+    if is_at ws 0 (codes "layout") then (size_of ws >>= λ s. Some (Header s))
+    else if is_at ws 0 (codes "mirror") then (rectangle_of ws >>= λ r. Some (Item (Mirror r)))
+    else if is_at ws 0 (codes "ball") then (lone_cell ws >>= λ c. Some (Item (Ball c)))
+    else if is_at ws 0 (codes "in") then (port_of ws >>= λ p. Some (Item (In p)))
+    else if is_at ws 0 (codes "out") then (port_of ws >>= λ p. Some (Item (Out p)))
+    else if is_at ws 0 (codes "waste") then (lone_cell ws >>= λ c. Some (Item (Waste c)))
+    else if is_at ws 0 (codes "end") then end_of ws
+    else None

@@ -1,0 +1,22 @@
+-- The layout section.
+use Rattle.std.specs.Prelude.{List}
+use Rattle.section_text.specs.Section.{Grammar}
+use Rattle.section_text.specs.declared.ports.PortNames.{PortNames}
+use Rattle.pattern.specs.declared.parts.Size.{Size}
+use Rattle.pattern.specs.declared.parts.Part.{Part}
+use Rattle.pattern.specs.Layout.{Pattern}
+use Rattle.pattern.specs.Forms.{form_of}
+use Rattle.pattern.specs.Lines.{parts_of, size_fault, part_fault, missing_fault}
+
+-- the section, where ports have these names
+abbrev pub layout_grammar : PortNames → Grammar Size Part
+layout_grammar ports = record {
+  form = form_of;
+  header_fault = size_fault;
+  item_fault = part_fault ports;
+  end_fault = λ size parts. missing_fault ports parts;
+}
+
+-- what the section of a layout gives: its first line and the others
+abbrev pub layout_value : Pattern → Size × List Part
+layout_value p = (p.size, parts_of p)

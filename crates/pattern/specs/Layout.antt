@@ -1,0 +1,62 @@
+-- What a layout says: the size of its rectangle, its steps, and what stands where.
+use Rattle.std.specs.Prelude.{ℕ, ℤ, pos, ◌+◌, ◌&&◌, ◌||◌, Bool, List, map}
+use Rattle.std.specs.List.{list_any, flat_map, range_with_len}
+use Rattle.std.specs.Ordering.{int_eq}
+use Rattle.bbm_rule.specs.Plane.{State, run}
+use Rattle.bbm_rule.specs.Spans.{in_span}
+use Rattle.bbm_rule.specs.declared.block.Cell.{Cell}
+use Rattle.pattern.specs.declared.parts.Rectangle.{Rectangle}
+use Rattle.pattern.specs.declared.parts.Port.{Port}
+use Rattle.pattern.specs.declared.parts.Size.{Size}
+
+pub record Pattern : Type 0 where
+  pub size : Size
+  pub mirrors : List Rectangle
+  pub balls : List Cell
+  pub ins : List Port
+  pub outs : List Port
+  pub wastes : List Cell
+
+-- ---- sets of cells
+
+abbrev pub is_at : Cell → State
+is_at c x y = int_eq c.x x && int_eq c.y y
+
+abbrev pub in_rectangle : Rectangle → State
+in_rectangle r x y = in_span r.x r.w x && in_span r.y r.h y
+
+-- the whole rectangle of the layout, whose upper left cell is the origin of the plane
+abbrev pub in_layout : Size → State
+in_layout s x y = in_span 0 s.w x && in_span 0 s.h y
+
+abbrev pub in_cells : List Cell → State
+in_cells cells x y = list_any (λ c. is_at c x y) cells
+
+abbrev pub in_rectangles : List Rectangle → State
+in_rectangles rectangles x y = list_any (λ r. in_rectangle r x y) rectangles
+
+-- the cells of the ports whose name is on
+abbrev pub in_ports_on : (List ℕ → Bool) → List Port → State
+in_ports_on on ports x y = list_any (λ p. on p.name && is_at p.cell x y) ports
+
+-- ---- the run
+
+-- The plane at time 0: the mirrors, the balls, and the input cells whose name is on.
+unfoldable pub start : Pattern → (List ℕ → Bool) → State
+start p on x y = in_rectangles p.mirrors x y || in_cells p.balls x y || in_ports_on on p.ins x y
+
+-- the plane at time t
+abbrev pub plane_at : Pattern → (List ℕ → Bool) → ℕ → State
+plane_at p on t = run (start p on) t
+
+-- ---- lists of cells
+
+abbrev pub cell : ℕ → ℕ → Cell
+cell x y = record { x = pos x; y = pos y }
+
+abbrev pub row_cells : ℕ → ℕ → ℕ → List Cell
+row_cells x n y = map (λ c. cell c y) (range_with_len x n)
+
+-- the cells of a rectangle, in order of y and then x
+unfoldable pub rectangle_cells : Rectangle → List Cell
+rectangle_cells r = flat_map (λ y. row_cells r.x r.w y) (range_with_len r.y r.h)

@@ -1,0 +1,20 @@
+-- The fields of a layout, and what contracts see of them.
+use Rattle.std.specs.Prelude.{◌≡◌, None, []}
+use Rattle.pattern.specs.declared.layout.Layout.TheInside.{Inside}
+use Rattle.pattern.specs.Layout.{Pattern}
+use Rattle.pattern.specs.Lines.{parts_of, size_fault, AreGoodAfter}
+
+abbrev pub pattern_of : Inside → Pattern
+pattern_of a = record {
+  size = a.size;
+  mirrors = a.mirrors.items;
+  balls = a.balls.items;
+  ins = a.ins.items;
+  outs = a.outs.items;
+  wastes = a.wastes.items;
+}
+
+-- its first line and its others are good
+pub record IsLayout (a : Inside) : Type 0 where
+  pub size : size_fault a.size ≡ None
+  pub parts : AreGoodAfter a.size [] (parts_of (pattern_of a))

@@ -1,0 +1,12 @@
+pub mod Layout
+pub mod Lines
+pub mod LayoutView
+pub mod Forms
+pub mod Assign
+pub mod DraftView
+pub mod Grammars
+pub mod ReadingState
+pub mod ReadingView
+pub mod Text
+pub mod Run
+pub mod Laws

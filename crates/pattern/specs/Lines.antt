@@ -1,0 +1,167 @@
+-- The lines of a layout, and which line is good after which lines. What stands where is read from the lines themselves.
+use Rattle.std.specs.Prelude.{◌≡◌, ℕ, ◌+◌, ◌%◌, ◌==◌, ◌&&◌, ◌||◌, Bool, not, true, false, List, [], ◌∷◌, ◌++◌, map, nat_lt, nat_le, Option, Some, None, if◌then◌else◌}
+use Rattle.std.specs.List.{list_any, list_all}
+use Rattle.std.specs.Str.{bytes_eq}
+use Rattle.bbm_rule.specs.Plane.{State}
+use Rattle.bbm_rule.specs.declared.block.Cell.{Cell}
+use Rattle.section_text.specs.Codes.{or_else, code_where}
+use Rattle.section_text.specs.declared.ports.PortNames.{PortNames}
+use Rattle.section_text.specs.declared.ports.PortNames.TheVariants.{Any, Only}
+use Rattle.pattern.specs.declared.parts.Rectangle.{Rectangle}
+use Rattle.pattern.specs.declared.parts.Port.{Port}
+use Rattle.pattern.specs.declared.parts.Size.{Size}
+use Rattle.pattern.specs.declared.parts.Part.{Part}
+use Rattle.pattern.specs.declared.parts.Part.TheVariants.{Mirror, Ball, In, Out, Waste}
+use Rattle.pattern.specs.Layout.{Pattern, is_at, in_rectangle, in_layout, rectangle_cells}
+
+-- the lines of a layout between its first and its last
+abbrev pub parts_of : Pattern → List Part
+parts_of p = map Mirror p.mirrors ++ (map Ball p.balls ++ (map In p.ins ++ (map Out p.outs ++ map Waste p.wastes)))
+
+-- ---- limits
+
+abbrev pub is_side : ℕ → Bool
+is_side n = nat_le 2 n && nat_le n 512 && (n % 2 == 0)
+
+-- width and height even, 2 to 512; at most 4096 steps
+unfoldable pub size_fault : Size → Option ℕ
+size_fault s = code_where (not (is_side s.w && is_side s.h && nat_le s.steps 4096)) 2
+
+abbrev pub is_mirror_side : ℕ → Bool
+is_mirror_side n = nat_le 1 n && nat_le n 512
+
+-- the sides of a mirror are 1 to 512
+unfoldable pub limit_fault : Part → Option ℕ
+limit_fault (Mirror r) = code_where (not (is_mirror_side r.w && is_mirror_side r.h)) 2
+limit_fault (Ball c) = None
+limit_fault (In p) = None
+limit_fault (Out p) = None
+limit_fault (Waste c) = None
+
+-- ---- order
+
+-- the kinds of line come in this order
+unfoldable pub rank_of : Part → ℕ
+rank_of (Mirror r) = 0
+rank_of (Ball c) = 1
+rank_of (In p) = 2
+rank_of (Out p) = 3
+rank_of (Waste c) = 4
+
+-- whether a line of a later kind stands before it
+unfoldable pub is_late : List Part → Part → Bool
+is_late before part = list_any (λ b. nat_lt (rank_of part) (rank_of b)) before
+
+unfoldable pub order_fault : List Part → Part → Option ℕ
+order_fault before part = code_where (is_late before part) 6
+
+-- ---- names
+
+abbrev pub has : List (List ℕ) → List ℕ → Bool
+has names n = list_any (bytes_eq n) names
+
+abbrev pub is_any : PortNames → Bool
+is_any Any = true
+is_any (Only ins outs) = false
+
+abbrev pub is_in_name : PortNames → List ℕ → Bool
+is_in_name Any n = true
+is_in_name (Only ins outs) n = has ins.items n
+
+abbrev pub is_out_name : PortNames → List ℕ → Bool
+is_out_name Any n = true
+is_out_name (Only ins outs) n = has outs.items n
+
+-- the name of an input cell is one of the inputs, that of an output cell one of the outputs
+unfoldable pub name_fault : PortNames → Part → Option ℕ
+name_fault ports (Mirror r) = None
+name_fault ports (Ball c) = None
+name_fault ports (In p) = code_where (not (is_in_name ports p.name)) 3
+name_fault ports (Out p) = code_where (not (is_out_name ports p.name)) 3
+name_fault ports (Waste c) = None
+
+-- ---- cells
+
+unfoldable pub cells_of : Part → List Cell
+cells_of (Mirror r) = rectangle_cells r
+cells_of (Ball c) = c ∷ []
+cells_of (In p) = p.cell ∷ []
+cells_of (Out p) = p.cell ∷ []
+cells_of (Waste c) = c ∷ []
+
+-- whether all its cells lie inside the layout
+unfoldable pub is_inside : Size → Part → Bool
+is_inside s (Mirror r) = nat_le (r.x + r.w) s.w && nat_le (r.y + r.h) s.h
+is_inside s (Ball c) = in_layout s c.x c.y
+is_inside s (In p) = in_layout s p.cell.x p.cell.y
+is_inside s (Out p) = in_layout s p.cell.x p.cell.y
+is_inside s (Waste c) = in_layout s c.x c.y
+
+-- mirrors, balls and input cells take their cells at the start
+unfoldable pub begins : Part → Bool
+begins (Mirror r) = true
+begins (Ball c) = true
+begins (In p) = true
+begins (Out p) = false
+begins (Waste c) = false
+
+-- mirrors, output cells and waste cells take theirs at the end
+unfoldable pub ends : Part → Bool
+ends (Mirror r) = true
+ends (Ball c) = false
+ends (In p) = false
+ends (Out p) = true
+ends (Waste c) = true
+
+abbrev pub holds : Part → State
+holds part x y = list_any (λ c. is_at c x y) (cells_of part)
+
+-- the cells that are taken at the start, and at the end
+unfoldable pub begun : List Part → State
+begun parts x y = list_any (λ b. begins b && holds b x y) parts
+
+unfoldable pub ended : List Part → State
+ended parts x y = list_any (λ b. ends b && holds b x y) parts
+
+-- one of its cells is taken at the start, where it takes them then, or at the end
+unfoldable pub is_taken : List Part → Part → Bool
+is_taken before part =
+    if begins part then list_any (λ c. begun before c.x c.y) (cells_of part)
+    else list_any (λ c. ended before c.x c.y) (cells_of part)
+
+unfoldable pub cell_fault : Size → List Part → Part → Option ℕ
+cell_fault s before part = code_where (not (is_inside s part) || is_taken before part) 7
+
+-- ---- a line after the lines before it
+
+-- the code of the tests that come before those of the cells
+unfoldable pub line_fault : PortNames → List Part → Part → Option ℕ
+line_fault ports before part = or_else (order_fault before part) (or_else (limit_fault part) (name_fault ports part))
+
+unfoldable pub part_fault : PortNames → Size → List Part → Part → Option ℕ
+part_fault ports s before part = or_else (line_fault ports before part) (cell_fault s before part)
+
+-- each input and each output has a cell
+abbrev pub is_in : List ℕ → Part → Bool
+is_in n (Mirror r) = false
+is_in n (Ball c) = false
+is_in n (In p) = bytes_eq n p.name
+is_in n (Out p) = false
+is_in n (Waste c) = false
+
+abbrev pub is_out : List ℕ → Part → Bool
+is_out n (Mirror r) = false
+is_out n (Ball c) = false
+is_out n (In p) = false
+is_out n (Out p) = bytes_eq n p.name
+is_out n (Waste c) = false
+
+unfoldable pub missing_fault : PortNames → List Part → Option ℕ
+missing_fault Any parts = None
+missing_fault (Only ins outs) parts =
+    code_where (not (list_all (λ n. list_any (is_in n) parts) ins.items && list_all (λ n. list_any (is_out n) parts) outs.items)) 11
+
+-- each line keeps the limits, and its cells are inside and free after the lines before it
+abbrev pub AreGoodAfter : Size → List Part → List Part → Type 0
+AreGoodAfter s before [] = Unit {0}
+AreGoodAfter s before (part ∷ parts) = (limit_fault part ≡ None) × (cell_fault s before part ≡ None) × AreGoodAfter s (before ++ part ∷ []) parts

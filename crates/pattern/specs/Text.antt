@@ -1,0 +1,48 @@
+-- The text of a layout: each line spelled in the one way.
+use Rattle.std.specs.Prelude.{ℕ, ℤ, pos, negsuc, List, [], ◌∷◌, ◌++◌, codes}
+use Rattle.std.specs.List.{flat_map}
+use Rattle.std.specs.Fmt.{decimal}
+use Rattle.section_text.specs.Spelling.{line_text}
+use Rattle.section_text.specs.declared.section.Form.TheVariants.{Header, Item, End}
+use Rattle.bbm_rule.specs.declared.block.Cell.{Cell}
+use Rattle.pattern.specs.declared.parts.Rectangle.{Rectangle}
+use Rattle.pattern.specs.declared.parts.Port.{Port}
+use Rattle.pattern.specs.declared.parts.Size.{Size}
+use Rattle.pattern.specs.declared.parts.Part.{Part}
+use Rattle.pattern.specs.declared.parts.Part.TheVariants.{Mirror, Ball, In, Out, Waste}
+use Rattle.pattern.specs.Layout.{Pattern}
+use Rattle.pattern.specs.Lines.{parts_of}
+use Rattle.pattern.specs.Forms.{Line}
+
+-- the coordinate of a cell of a layout, which is not negative
+abbrev pub coordinate : ℤ → ℕ
+coordinate (pos n) = n
+coordinate (negsuc n) = 0
+
+abbrev pub cell_words : Cell → List (List ℕ)
+cell_words c = decimal (coordinate c.x) ∷ decimal (coordinate c.y) ∷ []
+
+abbrev pub rectangle_words : Rectangle → List (List ℕ)
+rectangle_words r = decimal r.x ∷ decimal r.y ∷ decimal r.w ∷ decimal r.h ∷ []
+
+abbrev pub port_words : Port → List (List ℕ)
+port_words p = p.name ∷ cell_words p.cell
+
+abbrev pub size_words : Size → List (List ℕ)
+size_words s = decimal s.w ∷ decimal s.h ∷ decimal s.steps ∷ []
+
+abbrev pub part_text : Part → List ℕ
+part_text (Mirror r) = line_text (codes "mirror") (rectangle_words r)
+part_text (Ball c) = line_text (codes "ball") (cell_words c)
+part_text (In p) = line_text (codes "in") (port_words p)
+part_text (Out p) = line_text (codes "out") (port_words p)
+part_text (Waste c) = line_text (codes "waste") (cell_words c)
+
+-- the text of a line, by its form
+abbrev pub form_text : Line → List ℕ
+form_text (Header s) = line_text (codes "layout") (size_words s)
+form_text (Item part) = part_text part
+form_text End = line_text (codes "end") []
+
+unfoldable pub layout_text : Pattern → List ℕ
+layout_text p = line_text (codes "layout") (size_words p.size) ++ flat_map part_text (parts_of p) ++ line_text (codes "end") []

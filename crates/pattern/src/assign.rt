@@ -1,0 +1,118 @@
+//! The assign section: which names are on.
+ghost use Rattle.std.specs.Prelude.{◌≡◌, ℕ, true, List};
+ghost use Rattle.section_text.specs.Words.{words_of};
+ghost use Rattle.section_text.specs.FeedState.{IsLine, line_bytes};
+ghost use Rattle.section_text.specs.Section.{Reads};
+ghost use Rattle.pattern.specs.Lines.{has};
+ghost use Rattle.pattern.specs.Assign.{lone, lone_name, assign_form, assign_grammar, assign_value, on_fault};
+
+use crate::names::index_of;
+use indexmap::IndexSet;
+use section_text::{Feed, Form, Line, LineFault, Name, ReadFault, Section, read_section};
+use std::alloc::Global;
+
+#[tactic(auto, unfolding(crate::specs::Assign::lone))]
+fn lone_on(feed: &Feed, line: &Line, form: Form<(), Name>) -> Option<Form<(), Name>>
+    requires { IsLine feed.now line.now }
+    ensures { result ≡ lone (words_of (line_bytes feed.now line.now)) form }
+{
+    if feed.words(line) == 1 {
+        Some(form)
+    } else {
+        None
+    }
+}
+
+#[tactic(auto, unfolding(crate::specs::Assign::lone_name))]
+fn lone_name_on(feed: &Feed, line: &Line) -> Option<Name>
+    requires { IsLine feed.now line.now }
+    ensures { result ≡ lone_name (words_of (line_bytes feed.now line.now)) }
+{
+    if feed.words(line) != 2 {
+        return None;
+    }
+    feed.name(line, 1)
+}
+
+#[tactic(auto, unfolding(crate::specs::Assign::assign_form))]
+fn line_form(feed: &Feed, line: &Line) -> Option<Form<(), Name>>
+    requires { IsLine feed.now line.now }
+    ensures { result ≡ assign_form (words_of (line_bytes feed.now line.now)) }
+{
+    if feed.is(line, 0, b"assign") {
+        lone_on(feed, line, Form::Header(()))
+    } else if feed.is(line, 0, b"on") {
+        Some(Form::Item(lone_name_on(feed, line)?))
+    } else if feed.is(line, 0, b"end") {
+        lone_on(feed, line, Form::End)
+    } else {
+        None
+    }
+}
+
+// The names that may be on, and those that are.
+#[derive(Drop)]
+struct Assigning<'a> {
+    ins: &'a [Name],
+    known: IndexSet<Name>,
+    on: IndexSet<Name>,
+    ghost indexed: { (n : List ℕ) → has known.keys n ≡ has ins.now n },
+}
+
+impl<'a> Section for Assigning<'a> {
+    type Header = ();
+
+    type Item = Name;
+
+    ghost grammar = { λ r. assign_grammar r.ins.now };
+
+    ghost header = { λ _. tt };
+
+    ghost items = { λ r. r.on.keys };
+
+    fn form(&self, feed: &Feed, line: &Line) -> Option<Form<(), Name>> {
+        line_form(feed, line)
+    }
+
+    fn begin(&mut self, _head: ()) -> Result<(), LineFault> {
+        Ok(())
+    }
+
+    #[tactic(auto, unfolding(crate::specs::Assign::on_fault))]
+    fn add(&mut self, name: Name) -> Result<(), LineFault> {
+        if !self.known.contains(&name) {
+            return Err(LineFault::Code(3));
+        }
+        match self.on.insert(name) {
+            Ok(true) => Ok(()),
+            Ok(false) => Err(LineFault::Code(4)),
+            Err(_) => Err(LineFault::Memory),
+        }
+    }
+
+    fn missing(&self) -> Option<u8> {
+        None
+    }
+}
+
+/// Reads an assign section, in which the names of `ins` may be on, each once: the names that are on, in the order of
+/// their lines. Code 3 refuses a name that is not of `ins`, code 4 one that is on already. After a fault the feed
+/// answers it for good.
+pub fn read_assign(alloc: Global, feed: &mut Feed, ins: &[Name]) -> Result<Vec<Name>, ReadFault>
+    requires { feed.old.closed ≡ true }
+    ensures reads { Reads (assign_grammar ins.now) (λ names. assign_value names.items) feed.old feed.new result }
+{
+    let Ok(known) = index_of(alloc, ins) else {
+        return Err(feed.starve());
+    };
+    let mut reading = Assigning {
+        ins,
+        known,
+        on: IndexSet::new(alloc),
+    };
+    read_section(feed, &mut reading)?;
+    match reading.on.as_slice().to_vec(alloc) {
+        Ok(names) => Ok(names),
+        Err(_) => Err(feed.starve()),
+    }
+}

@@ -1,0 +1,130 @@
+//! A layout to which lines are added.
+ghost use Rattle.std.specs.Prelude.{◌≡◌, ◌++◌, [], ◌∷◌, None, OnOk, OnErr, IfOk, IfErr, All, true};
+ghost use Rattle.section_text.specs.Adding.{FaultIs};
+ghost use Rattle.bbm_rule.specs.Board.{is_inside as is_on_board};
+ghost use Rattle.pattern.specs.Lines.{cells_of, cell_fault, is_inside, limit_fault, order_fault, parts_of, size_fault};
+
+use crate::layout::Layout;
+use crate::parts::{Part, Size};
+use crate::rectangle::push_rectangle;
+use crate::taken::{meets_in, take_where};
+use bbm_rule::{Cell, Grid};
+use section_text::LineFault;
+use std::alloc::{AllocError, Global};
+use std::marker::Model;
+
+/// The layout of the lines so far, with the cells that are taken at the start and at the end.
+#[derive(Drop)]
+pub(crate) struct Draft {
+    layout: Layout,
+    begun: Grid,
+    ended: Grid,
+}
+
+impl Model for Draft {
+    ghost use Rattle.pattern.specs.Layout.{Pattern};
+
+    ghost Value = { Pattern };
+
+    ghost use Rattle.pattern.specs.DraftView.{pattern_of, IsDraft};
+
+    ghost view = { pattern_of };
+
+    ghost invariant = { IsDraft };
+}
+
+// The cells of a line that lies inside.
+#[tactic(auto, unfolding(crate::specs::Lines::cells_of, crate::specs::Lines::is_inside))]
+fn cells_in(alloc: Global, part: &Part, size: Size) -> Result<Vec<Cell>, AllocError>
+    requires inside { is_inside size part.now ≡ true }
+    requires good { size_fault size ≡ None }
+    ensures { IfOk result (λ cells. cells.items ≡ cells_of part.now) }
+{
+    let mut cells = Vec::new(alloc);
+    match part {
+        Part::Mirror(r) => push_rectangle(&mut cells, *r)?,
+        Part::Ball(cell) => cells.push(*cell)?,
+        Part::In(port) => cells.push(port.cell)?,
+        Part::Out(port) => cells.push(port.cell)?,
+        Part::Waste(cell) => cells.push(*cell)?,
+    }
+    Ok(cells)
+}
+
+impl Draft {
+    /// No lines after the first.
+    pub(crate) fn new(alloc: Global, size: Size) -> Result<Draft, AllocError>
+        requires { size_fault size ≡ None }
+        ensures size { IfOk result (λ draft. draft.size ≡ size) }
+        ensures parts { IfOk result (λ draft. parts_of draft ≡ []) }
+    {
+        let begun = Grid::new(alloc, size.w, size.h)?;
+        let ended = Grid::new(alloc, size.w, size.h)?;
+        Ok(Draft {
+            layout: Layout::new(alloc, size),
+            begun,
+            ended,
+        })
+    }
+
+    /// The layout of the lines.
+    pub(crate) fn into_layout(self) -> Layout
+        ensures { result ≡ self }
+    {
+        let Draft {
+            layout,
+            begun: _,
+            ended: _,
+        } = self;
+        layout
+    }
+
+    /// Code 6 where a line of a later kind stands already.
+    pub(crate) fn order_code(&self, part: &Part) -> Option<u8>
+        ensures { result ≡ order_fault (parts_of self.now) part.now }
+    {
+        self.layout.order_code(part)
+    }
+
+    // The cells of a line, where they are inside and free.
+    #[tactic(auto, unfolding(crate::specs::Lines::cell_fault))]
+    fn free_cells(&self, alloc: Global, part: &Part) -> Result<Vec<Cell>, LineFault>
+        ensures cells { IfOk result (λ cells. cells.items ≡ cells_of part.now) }
+        ensures inside { OnOk result (is_inside self.now.size part.now ≡ true) }
+        ensures free { OnOk result (cell_fault self.now.size (parts_of self.now) part.now ≡ None) }
+        ensures fault { IfErr result (λ e. FaultIs e (cell_fault self.now.size (parts_of self.now) part.now)) }
+    {
+        let size = self.layout.size();
+        if !part.is_inside(size) {
+            return Err(LineFault::Code(7));
+        }
+        let Ok(cells) = cells_in(alloc, part, size) else {
+            return Err(LineFault::Memory);
+        };
+        if meets_in(part.begins(), &self.begun, &self.ended, &cells) {
+            return Err(LineFault::Code(7));
+        }
+        Ok(cells)
+    }
+
+    /// Adds a line that stands in its place and keeps the limits. A fault changes nothing.
+    pub(crate) fn add(&mut self, alloc: Global, part: Part) -> Result<(), LineFault>
+        requires order { order_fault (parts_of self.old) part ≡ None }
+        requires limit { limit_fault part ≡ None }
+        ensures free { OnOk result (cell_fault self.old.size (parts_of self.old) part ≡ None) }
+        ensures size { self.new.size ≡ self.old.size }
+        ensures parts { OnOk result (parts_of self.new ≡ parts_of self.old ++ part ∷ []) }
+        ensures err { OnErr result (self.new ≡ self.old) }
+        ensures fault { IfErr result (λ e. FaultIs e (cell_fault self.old.size (parts_of self.old) part)) }
+    {
+        let cells = self.free_cells(alloc, &part)?;
+        let begins = part.begins();
+        let ends = part.ends();
+        let Ok(()) = self.layout.add(part) else {
+            return Err(LineFault::Memory);
+        };
+        take_where(begins, &mut self.begun, &cells);
+        take_where(ends, &mut self.ended, &cells);
+        Ok(())
+    }
+}

@@ -1,0 +1,137 @@
+//! The line forms of the layout section.
+ghost use Rattle.std.specs.Prelude.{◌≡◌, ◌≤◌};
+ghost use Rattle.section_text.specs.Words.{words_of};
+ghost use Rattle.section_text.specs.FeedState.{IsLine, line_bytes};
+ghost use Rattle.pattern.specs.Forms.{cell_from, lone_cell, named_cell, port_of, corner_and_sides, rectangle_of, sides_and_steps, size_of, end_of, form_of};
+
+use crate::parts::{Part, Port, Rectangle, Size};
+use bbm_rule::Cell;
+use section_text::{Feed, Form, Line};
+
+#[tactic(auto, unfolding(crate::specs::Forms::cell_from))]
+fn cell_at(feed: &Feed, line: &Line, index: usize) -> Option<Cell>
+    requires line { IsLine feed.now line.now }
+    requires near { index ≤ 8 }
+    ensures { result ≡ cell_from (words_of (line_bytes feed.now line.now)) index }
+{
+    let x = feed.number(line, index)?;
+    let y = feed.number(line, index + 1)?;
+    Some(Cell {
+        x: x as i32,
+        y: y as i32,
+    })
+}
+
+#[tactic(auto, unfolding(crate::specs::Forms::lone_cell))]
+fn lone_cell_on(feed: &Feed, line: &Line) -> Option<Cell>
+    requires { IsLine feed.now line.now }
+    ensures { result ≡ lone_cell (words_of (line_bytes feed.now line.now)) }
+{
+    if feed.words(line) != 3 {
+        return None;
+    }
+    cell_at(feed, line, 1)
+}
+
+#[tactic(auto, unfolding(crate::specs::Forms::named_cell))]
+fn named_cell_on(feed: &Feed, line: &Line) -> Option<Port>
+    requires { IsLine feed.now line.now }
+    ensures { result ≡ named_cell (words_of (line_bytes feed.now line.now)) }
+{
+    let name = feed.name(line, 1)?;
+    let cell = cell_at(feed, line, 2)?;
+    Some(Port { name, cell })
+}
+
+#[tactic(auto, unfolding(crate::specs::Forms::port_of))]
+fn port_on(feed: &Feed, line: &Line) -> Option<Port>
+    requires { IsLine feed.now line.now }
+    ensures { result ≡ port_of (words_of (line_bytes feed.now line.now)) }
+{
+    if feed.words(line) != 4 {
+        return None;
+    }
+    named_cell_on(feed, line)
+}
+
+#[tactic(auto, unfolding(crate::specs::Forms::corner_and_sides))]
+fn corner_and_sides_on(feed: &Feed, line: &Line) -> Option<Rectangle>
+    requires { IsLine feed.now line.now }
+    ensures { result ≡ corner_and_sides (words_of (line_bytes feed.now line.now)) }
+{
+    let x = feed.number(line, 1)?;
+    let y = feed.number(line, 2)?;
+    let w = feed.number(line, 3)?;
+    let h = feed.number(line, 4)?;
+    Some(Rectangle { x, y, w, h })
+}
+
+#[tactic(auto, unfolding(crate::specs::Forms::rectangle_of))]
+fn rectangle_on(feed: &Feed, line: &Line) -> Option<Rectangle>
+    requires { IsLine feed.now line.now }
+    ensures { result ≡ rectangle_of (words_of (line_bytes feed.now line.now)) }
+{
+    if feed.words(line) != 5 {
+        return None;
+    }
+    corner_and_sides_on(feed, line)
+}
+
+#[tactic(auto, unfolding(crate::specs::Forms::sides_and_steps))]
+fn sides_and_steps_on(feed: &Feed, line: &Line) -> Option<Size>
+    requires { IsLine feed.now line.now }
+    ensures { result ≡ sides_and_steps (words_of (line_bytes feed.now line.now)) }
+{
+    let w = feed.number(line, 1)?;
+    let h = feed.number(line, 2)?;
+    let steps = feed.number(line, 3)?;
+    Some(Size { w, h, steps })
+}
+
+#[tactic(auto, unfolding(crate::specs::Forms::size_of))]
+fn size_on(feed: &Feed, line: &Line) -> Option<Size>
+    requires { IsLine feed.now line.now }
+    ensures { result ≡ size_of (words_of (line_bytes feed.now line.now)) }
+{
+    if feed.words(line) != 4 {
+        return None;
+    }
+    sides_and_steps_on(feed, line)
+}
+
+#[tactic(auto, unfolding(crate::specs::Forms::end_of))]
+fn end_on(feed: &Feed, line: &Line) -> Option<Form<Size, Part>>
+    requires { IsLine feed.now line.now }
+    ensures { result ≡ end_of (words_of (line_bytes feed.now line.now)) }
+{
+    if feed.words(line) == 1 {
+        Some(Form::End)
+    } else {
+        None
+    }
+}
+
+/// The form of a line, if it has one.
+#[tactic(auto, unfolding(crate::specs::Forms::form_of))]
+pub(crate) fn line_form(feed: &Feed, line: &Line) -> Option<Form<Size, Part>>
+    requires { IsLine feed.now line.now }
+    ensures { result ≡ form_of (words_of (line_bytes feed.now line.now)) }
+{
+    if feed.is(line, 0, b"layout") {
+        Some(Form::Header(size_on(feed, line)?))
+    } else if feed.is(line, 0, b"mirror") {
+        Some(Form::Item(Part::Mirror(rectangle_on(feed, line)?)))
+    } else if feed.is(line, 0, b"ball") {
+        Some(Form::Item(Part::Ball(lone_cell_on(feed, line)?)))
+    } else if feed.is(line, 0, b"in") {
+        Some(Form::Item(Part::In(port_on(feed, line)?)))
+    } else if feed.is(line, 0, b"out") {
+        Some(Form::Item(Part::Out(port_on(feed, line)?)))
+    } else if feed.is(line, 0, b"waste") {
+        Some(Form::Item(Part::Waste(lone_cell_on(feed, line)?)))
+    } else if feed.is(line, 0, b"end") {
+        end_on(feed, line)
+    } else {
+        None
+    }
+}

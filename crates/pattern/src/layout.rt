@@ -1,0 +1,144 @@
+//! Layouts.
+ghost use Rattle.std.specs.Prelude.{◌≡◌, ◌++◌, [], ◌∷◌, None, OnOk, OnErr};
+ghost use Rattle.pattern.specs.Lines.{cell_fault, limit_fault, is_late, order_fault, parts_of, size_fault};
+
+use crate::parts::{Part, Port, Rectangle, Size};
+use bbm_rule::Cell;
+use std::alloc::{AllocError, Global};
+use std::marker::Model;
+
+/// A layout: a rectangle of cells, and what stands in it. Contracts see its size and its lists, as a `Pattern`.
+///
+/// Width and height are even, 2 to 512; the steps are at most 4096. All cells lie inside. Mirrors, balls and
+/// input cells share no cell; mirrors, output cells and waste cells share no cell.
+#[derive(Drop)]
+pub struct Layout {
+    pub(crate) size: Size,
+    pub(crate) mirrors: Vec<Rectangle>,
+    pub(crate) balls: Vec<Cell>,
+    pub(crate) ins: Vec<Port>,
+    pub(crate) outs: Vec<Port>,
+    pub(crate) wastes: Vec<Cell>,
+}
+
+impl Model for Layout {
+    ghost use Rattle.pattern.specs.Layout.{Pattern};
+
+    ghost Value = { Pattern };
+
+    ghost use Rattle.pattern.specs.LayoutView.{pattern_of, IsLayout};
+
+    ghost view = { pattern_of };
+
+    ghost invariant = { IsLayout };
+}
+
+impl Layout {
+    // A layout in which nothing stands.
+    pub(crate) fn new(alloc: Global, size: Size) -> Layout
+        requires { size_fault size ≡ None }
+        ensures size { result.size ≡ size }
+        ensures parts { parts_of result ≡ [] }
+    {
+        Layout {
+            size,
+            mirrors: Vec::new(alloc),
+            balls: Vec::new(alloc),
+            ins: Vec::new(alloc),
+            outs: Vec::new(alloc),
+            wastes: Vec::new(alloc),
+        }
+    }
+
+    // Whether a line of a later kind stands already.
+    #[tactic(auto, using(crate::proofs::Orders::late_mirror, crate::proofs::Orders::late_ball, crate::proofs::Orders::late_in, crate::proofs::Orders::late_out, crate::proofs::Orders::late_waste))]
+    fn has_later(&self, part: &Part) -> bool
+        ensures { result ≡ is_late (parts_of self.now) part.now }
+    {
+        let waste = !self.wastes.is_empty();
+        let output = !self.outs.is_empty() | waste;
+        let input = !self.ins.is_empty() | output;
+        let ball = !self.balls.is_empty() | input;
+        match part {
+            Part::Mirror(_) => ball,
+            Part::Ball(_) => input,
+            Part::In(_) => output,
+            Part::Out(_) => waste,
+            Part::Waste(_) => false,
+        }
+    }
+
+    // Code 6 where a line of a later kind stands already.
+    #[tactic(auto, unfolding(crate::specs::Lines::order_fault))]
+    pub(crate) fn order_code(&self, part: &Part) -> Option<u8>
+        ensures { result ≡ order_fault (parts_of self.now) part.now }
+    {
+        if self.has_later(part) {
+            Some(6)
+        } else {
+            None
+        }
+    }
+
+    // Adds a line that is good after the others. Want of memory changes nothing.
+    pub(crate) fn add(&mut self, part: Part) -> Result<(), AllocError>
+        requires order { order_fault (parts_of self.old) part ≡ None }
+        requires limit { limit_fault part ≡ None }
+        requires cells { cell_fault self.old.size (parts_of self.old) part ≡ None }
+        ensures size { self.new.size ≡ self.old.size }
+        ensures parts { OnOk result (parts_of self.new ≡ parts_of self.old ++ part ∷ []) }
+        ensures err { OnErr result (self.new ≡ self.old) }
+    {
+        match part {
+            Part::Mirror(rectangle) => self.mirrors.push(rectangle)?,
+            Part::Ball(cell) => self.balls.push(cell)?,
+            Part::In(port) => self.ins.push(port)?,
+            Part::Out(port) => self.outs.push(port)?,
+            Part::Waste(cell) => self.wastes.push(cell)?,
+        }
+        Ok(())
+    }
+
+    /// The width, the height and the steps.
+    pub fn size(&self) -> Size
+        ensures size { result ≡ self.now.size }
+        ensures limits { size_fault result ≡ None }
+    {
+        self.size
+    }
+
+    /// The mirrors, in the order of their lines.
+    pub fn mirrors(&self) -> &[Rectangle]
+        ensures { result.now ≡ self.now.mirrors }
+    {
+        self.mirrors.as_slice()
+    }
+
+    /// The cells that are live at the start whatever is on, in the order of their lines.
+    pub fn balls(&self) -> &[Cell]
+        ensures { result.now ≡ self.now.balls }
+    {
+        self.balls.as_slice()
+    }
+
+    /// The input cells, in the order of their lines.
+    pub fn ins(&self) -> &[Port]
+        ensures { result.now ≡ self.now.ins }
+    {
+        self.ins.as_slice()
+    }
+
+    /// The output cells, in the order of their lines.
+    pub fn outs(&self) -> &[Port]
+        ensures { result.now ≡ self.now.outs }
+    {
+        self.outs.as_slice()
+    }
+
+    /// The cells whose end is left open, in the order of their lines.
+    pub fn wastes(&self) -> &[Cell]
+        ensures { result.now ≡ self.now.wastes }
+    {
+        self.wastes.as_slice()
+    }
+}

@@ -1,0 +1,22 @@
+//! Layouts of the billiard ball model: their text, their start, and their whole run.
+#![tactic(auto)]
+
+mod assign;
+mod draft;
+mod form;
+pub mod laws;
+mod layout;
+mod names;
+mod parts;
+mod printing;
+mod reading;
+mod rectangle;
+mod run;
+mod taken;
+
+pub use assign::read_assign;
+pub use layout::Layout;
+pub use parts::{Part, Port, Rectangle, Size};
+pub use printing::print_layout;
+pub use reading::read_layout;
+pub use run::{RunEnd, run_plain, start_cells};

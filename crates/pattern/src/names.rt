@@ -1,0 +1,46 @@
+//! Sets of names.
+ghost use Rattle.std.specs.Prelude.{◌≡◌, ◌||◌, ◌<◌, ℕ, List, OnOk, OnErr, IfOk};
+ghost use Rattle.std.specs.Str.{bytes_eq};
+ghost use Rattle.indexmap.specs.IndexSet.{spare};
+ghost use Rattle.pattern.specs.Lines.{has};
+
+use indexmap::IndexSet;
+use section_text::Name;
+use std::alloc::{AllocError, Global};
+
+/// Adds a name, if it is not there.
+#[tactic(auto, using(crate::proofs::NameSets::has_push, crate::proofs::NameSets::has_again))]
+pub(crate) fn add_name(index: &mut IndexSet<Name>, name: Name) -> Result<(), AllocError>
+    ensures ok { OnOk result ((n : List ℕ) → has index.new.keys n ≡ (has index.old.keys n || bytes_eq n name)) }
+    ensures err { OnErr result (index.new.keys ≡ index.old.keys) }
+{
+    match index.insert(name) {
+        Ok(true) => Ok(()),
+        Ok(false) => Ok(()),
+        Err(_) => Err(AllocError),
+    }
+}
+
+/// Adds a name, if it is not there, where there is room.
+#[tactic(auto, using(crate::proofs::NameSets::has_push, crate::proofs::NameSets::has_again))]
+pub(crate) fn put_name(index: &mut IndexSet<Name>, name: Name)
+    requires { 0 < spare index.old }
+    ensures { (n : List ℕ) → has index.new.keys n ≡ (has index.old.keys n || bytes_eq n name) }
+{
+    match index.insert(name) {
+        Ok(true) => {}
+        Ok(false) => {}
+        Err(_) => unreachable!(),
+    }
+}
+
+/// The set of the names of a list.
+pub(crate) fn index_of(alloc: Global, names: &[Name]) -> Result<IndexSet<Name>, AllocError>
+    ensures { IfOk result (λ index. (n : List ℕ) → has index.keys n ≡ has names.now n) }
+{
+    let mut index = IndexSet::new(alloc);
+    for name in names {
+        add_name(&mut index, *name)?;
+    }
+    Ok(index)
+}

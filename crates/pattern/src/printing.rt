@@ -1,0 +1,140 @@
+//! The text of a layout.
+ghost use Rattle.std.specs.Prelude.{◌≡◌, ◌++◌, [], ◌∷◌, OnOk, IfOk, codes};
+ghost use Rattle.std.specs.List.{flat_map};
+ghost use Rattle.std.specs.Fmt.{decimal};
+ghost use Rattle.section_text.specs.Spelling.{spaced, line_text};
+ghost use Rattle.pattern.specs.Text.{cell_words, coordinate, layout_text, port_words, rectangle_words, size_words};
+
+use crate::layout::Layout;
+use crate::parts::{Port, Rectangle, Size};
+use bbm_rule::Cell;
+use std::alloc::{AllocError, Global};
+
+fn print_number(alloc: Global, out: &mut Vec<u8>, number: u32) -> Result<(), AllocError>
+    ensures { OnOk result (out.new.items ≡ out.old.items ++ spaced (decimal number)) }
+{
+    let digits = number.to_string(alloc)?;
+    out.push(b' ')?;
+    out.extend_from_slice(digits.as_bytes())?;
+    Ok(())
+}
+
+// A coordinate of a cell, which is not negative in a layout.
+fn natural(x: i32) -> u32
+    ensures { result ≡ coordinate x }
+{
+    if x < 0 { 0 } else { x as u32 }
+}
+
+fn print_cell(alloc: Global, out: &mut Vec<u8>, cell: Cell) -> Result<(), AllocError>
+    ensures { OnOk result (out.new.items ≡ out.old.items ++ flat_map spaced (cell_words cell)) }
+{
+    print_number(alloc, out, natural(cell.x))?;
+    print_number(alloc, out, natural(cell.y))?;
+    Ok(())
+}
+
+fn print_size(alloc: Global, out: &mut Vec<u8>, size: Size) -> Result<(), AllocError>
+    ensures { OnOk result (out.new.items ≡ out.old.items ++ line_text (codes "layout") (size_words size)) }
+{
+    out.extend_from_slice(b"layout")?;
+    print_number(alloc, out, size.w)?;
+    print_number(alloc, out, size.h)?;
+    print_number(alloc, out, size.steps)?;
+    out.push(b'\n')?;
+    Ok(())
+}
+
+fn print_mirror(alloc: Global, out: &mut Vec<u8>, r: Rectangle) -> Result<(), AllocError>
+    ensures { OnOk result (out.new.items ≡ out.old.items ++ line_text (codes "mirror") (rectangle_words r)) }
+{
+    out.extend_from_slice(b"mirror")?;
+    print_number(alloc, out, r.x)?;
+    print_number(alloc, out, r.y)?;
+    print_number(alloc, out, r.w)?;
+    print_number(alloc, out, r.h)?;
+    out.push(b'\n')?;
+    Ok(())
+}
+
+fn print_mirrors(
+    alloc: Global,
+    out: &mut Vec<u8>,
+    mirrors: &[Rectangle],
+) -> Result<(), AllocError>
+    ensures { OnOk result (out.new.items ≡ out.old.items ++ flat_map (λ r. line_text (codes "mirror") (rectangle_words r)) mirrors.now) }
+{
+    for mirror in mirrors {
+        print_mirror(alloc, out, *mirror)?;
+    }
+    Ok(())
+}
+
+fn print_lone_cell(
+    alloc: Global,
+    out: &mut Vec<u8>,
+    word: &[u8],
+    cell: Cell,
+) -> Result<(), AllocError>
+    ensures { OnOk result (out.new.items ≡ out.old.items ++ line_text word.now (cell_words cell)) }
+{
+    out.extend_from_slice(word)?;
+    print_cell(alloc, out, cell)?;
+    out.push(b'\n')?;
+    Ok(())
+}
+
+fn print_cells(
+    alloc: Global,
+    out: &mut Vec<u8>,
+    word: &[u8],
+    cells: &[Cell],
+) -> Result<(), AllocError>
+    ensures { OnOk result (out.new.items ≡ out.old.items ++ flat_map (λ c. line_text word.now (cell_words c)) cells.now) }
+{
+    for cell in cells {
+        print_lone_cell(alloc, out, word, *cell)?;
+    }
+    Ok(())
+}
+
+fn print_port(alloc: Global, out: &mut Vec<u8>, word: &[u8], port: &Port) -> Result<(), AllocError>
+    ensures { OnOk result (out.new.items ≡ out.old.items ++ line_text word.now (port_words port.now)) }
+{
+    out.extend_from_slice(word)?;
+    out.push(b' ')?;
+    out.extend_from_slice(port.name.bytes())?;
+    print_cell(alloc, out, port.cell)?;
+    out.push(b'\n')?;
+    Ok(())
+}
+
+fn print_ports(
+    alloc: Global,
+    out: &mut Vec<u8>,
+    word: &[u8],
+    ports: &[Port],
+) -> Result<(), AllocError>
+    ensures { OnOk result (out.new.items ≡ out.old.items ++ flat_map (λ p. line_text word.now (port_words p)) ports.now) }
+{
+    for port in ports {
+        print_port(alloc, out, word, port)?;
+    }
+    Ok(())
+}
+
+/// The text of a layout, from its size line to its `end` line. It is the text that the layout was read from, and is read as
+/// the same layout (see the laws of this crate). The error is want of memory.
+pub fn print_layout(alloc: Global, layout: &Layout) -> Result<Vec<u8>, AllocError>
+    ensures { IfOk result (λ text. text.items ≡ layout_text layout.now) }
+{
+    let mut out = Vec::new(alloc);
+    print_size(alloc, &mut out, layout.size())?;
+    print_mirrors(alloc, &mut out, layout.mirrors())?;
+    print_cells(alloc, &mut out, b"ball", layout.balls())?;
+    print_ports(alloc, &mut out, b"in", layout.ins())?;
+    print_ports(alloc, &mut out, b"out", layout.outs())?;
+    print_cells(alloc, &mut out, b"waste", layout.wastes())?;
+    out.extend_from_slice(b"end\n")?;
+    Ok(out)
+}

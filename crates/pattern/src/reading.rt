@@ -1,0 +1,249 @@
+//! The reader of the layout section.
+ghost use Rattle.std.specs.Prelude.{◌≡◌, ◌||◌, ◌<◌, ℕ, true, [], List, IfOk};
+ghost use Rattle.std.specs.List.{list_all};
+ghost use Rattle.indexmap.specs.IndexSet.{spare};
+ghost use Rattle.section_text.specs.Section.{Reads};
+ghost use Rattle.pattern.specs.Lines.{has, is_any, is_in, is_out, is_in_name, is_out_name, line_fault, missing_fault, name_fault, parts_of};
+ghost use Rattle.pattern.specs.Grammars.{layout_grammar, layout_value};
+
+use crate::draft::Draft;
+use crate::form::line_form;
+use crate::layout::Layout;
+use crate::names::{index_of, put_name};
+use crate::parts::{Part, Size};
+use indexmap::IndexSet;
+use section_text::{Feed, Form, Line, LineFault, Name, PortNames, ReadFault, Section, read_section};
+use std::alloc::{AllocError, Global};
+use std::marker::Model;
+
+// A layout that is read, and the names of its ports.
+#[derive(Drop)]
+struct Reading<'a> {
+    alloc: Global,
+    ports: &'a PortNames,
+    // the names that ports may have, where not all are good
+    known_ins: IndexSet<Name>,
+    known_outs: IndexSet<Name>,
+    // the names that have a port
+    seen_ins: IndexSet<Name>,
+    seen_outs: IndexSet<Name>,
+    draft: Draft,
+}
+
+impl<'a> Model for Reading<'a> {
+    ghost use Rattle.pattern.specs.ReadingState.{ReadingState};
+
+    ghost Value = { ReadingState };
+
+    ghost use Rattle.pattern.specs.ReadingView.{reading_state, IsReading};
+
+    ghost view = { reading_state };
+
+    ghost invariant = { IsReading };
+}
+
+fn are_any(ports: &PortNames) -> bool
+    ensures { result ≡ is_any ports.now }
+{
+    match ports {
+        PortNames::Any => true,
+        PortNames::Only { ins: _, outs: _ } => false,
+    }
+}
+
+// Whether the set has all these names.
+fn has_all(set: &IndexSet<Name>, names: &[Name]) -> bool
+    ensures { result ≡ list_all (λ n. has set.now.keys n) names.now }
+{
+    for name in names {
+        if !set.contains(name) {
+            return false;
+        }
+    }
+    true
+}
+
+// Notes that the name of a port has one.
+fn note_port(ins: &mut IndexSet<Name>, outs: &mut IndexSet<Name>, part: &Part)
+    requires room_in { 0 < spare ins.old }
+    requires room_out { 0 < spare outs.old }
+    ensures ins { (n : List ℕ) → has ins.new.keys n ≡ (has ins.old.keys n || is_in n part.now) }
+    ensures outs { (n : List ℕ) → has outs.new.keys n ≡ (has outs.old.keys n || is_out n part.now) }
+{
+    match part {
+        Part::In(port) => put_name(ins, port.name),
+        Part::Out(port) => put_name(outs, port.name),
+        Part::Mirror(_) => {}
+        Part::Ball(_) => {}
+        Part::Waste(_) => {}
+    }
+}
+
+impl<'a> Reading<'a> {
+    // No lines. The size is that of the smallest layout, until the first line is read.
+    #[tactic(auto, unfolding(crate::specs::Lines::size_fault))]
+    fn new(alloc: Global, ports: &'a PortNames) -> Result<Reading<'a>, AllocError>
+        ensures ports { IfOk result (λ reading. reading.ports ≡ ports.now) }
+        ensures parts { IfOk result (λ reading. parts_of reading.layout ≡ []) }
+    {
+        let (known_ins, known_outs) = known_names(alloc, ports)?;
+        let smallest = Size {
+            w: 2,
+            h: 2,
+            steps: 0,
+        };
+        let draft = Draft::new(alloc, smallest)?;
+        Ok(Reading {
+            alloc,
+            ports,
+            known_ins,
+            known_outs,
+            seen_ins: IndexSet::new(alloc),
+            seen_outs: IndexSet::new(alloc),
+            draft,
+        })
+    }
+
+    fn into_layout(self) -> Layout
+        ensures { result ≡ self.entry.layout }
+    {
+        let Reading {
+            alloc: _,
+            ports: _,
+            known_ins: _,
+            known_outs: _,
+            seen_ins: _,
+            seen_outs: _,
+            draft,
+        } = self;
+        draft.into_layout()
+    }
+
+    // Code 3 where a port may not have its name.
+    #[tactic(auto, unfolding(crate::specs::Lines::name_fault))]
+    fn name_code(&self, part: &Part) -> Option<u8>
+        ensures { result ≡ name_fault self.now.ports part.now }
+    {
+        let any = are_any(self.ports);
+        match part {
+            Part::In(port) => {
+                if any || self.known_ins.contains(&port.name) {
+                    return None;
+                }
+                Some(3)
+            }
+            Part::Out(port) => {
+                if any || self.known_outs.contains(&port.name) {
+                    return None;
+                }
+                Some(3)
+            }
+            _ => None,
+        }
+    }
+
+    // The code of the first test that a line fails before those of its cells.
+    #[tactic(auto, unfolding(crate::specs::Lines::line_fault))]
+    fn line_code(&self, part: &Part) -> Option<u8>
+        ensures { result ≡ line_fault self.now.ports (parts_of self.now.layout) part.now }
+    {
+        if let Some(code) = self.draft.order_code(part) {
+            return Some(code);
+        }
+        if let Some(code) = part.limit_code() {
+            return Some(code);
+        }
+        self.name_code(part)
+    }
+}
+
+// The names that ports may have, where not all are good.
+fn known_names(
+    alloc: Global,
+    ports: &PortNames,
+) -> Result<(IndexSet<Name>, IndexSet<Name>), AllocError>
+    ensures ins { IfOk result (λ known. (n : List ℕ) → is_in_name ports.now n ≡ (is_any ports.now || has known.0.keys n)) }
+    ensures outs { IfOk result (λ known. (n : List ℕ) → is_out_name ports.now n ≡ (is_any ports.now || has known.1.keys n)) }
+{
+    match ports {
+        PortNames::Any => Ok((IndexSet::new(alloc), IndexSet::new(alloc))),
+        PortNames::Only { ins, outs } => {
+            let ins = index_of(alloc, ins)?;
+            let outs = index_of(alloc, outs)?;
+            Ok((ins, outs))
+        }
+    }
+}
+
+impl<'a> Section for Reading<'a> {
+    type Header = Size;
+
+    type Item = Part;
+
+    ghost grammar = { λ r. layout_grammar r.ports };
+
+    ghost header = { λ r. r.layout.size };
+
+    ghost items = { λ r. parts_of r.layout };
+
+    fn form(&self, feed: &Feed, line: &Line) -> Option<Form<Size, Part>> {
+        line_form(feed, line)
+    }
+
+    fn begin(&mut self, size: Size) -> Result<(), LineFault> {
+        if let Some(code) = size.limit_code() {
+            return Err(LineFault::Code(code));
+        }
+        let Ok(draft) = Draft::new(self.alloc, size) else {
+            return Err(LineFault::Memory);
+        };
+        self.draft = draft;
+        Ok(())
+    }
+
+    #[tactic(auto, using(crate::proofs::ReadingLemmas::in_order, crate::proofs::ReadingLemmas::in_limits), unfolding(crate::specs::Lines::part_fault))]
+    fn add(&mut self, part: Part) -> Result<(), LineFault> {
+        if let Some(code) = self.line_code(&part) {
+            return Err(LineFault::Code(code));
+        }
+        if self.seen_ins.reserve(1).is_err() || self.seen_outs.reserve(1).is_err() {
+            return Err(LineFault::Memory);
+        }
+        self.draft.add(self.alloc, part)?;
+        note_port(&mut self.seen_ins, &mut self.seen_outs, &part);
+        Ok(())
+    }
+
+    fn missing(&self) -> Option<u8> {
+        match self.ports {
+            PortNames::Any => None,
+            PortNames::Only { ins, outs } => {
+                let has_ins = has_all(&self.seen_ins, ins);
+                let has_outs = has_all(&self.seen_outs, outs);
+                if has_ins & has_outs { None } else { Some(11) }
+            }
+        }
+    }
+}
+
+/// Reads a layout section: the size line, and mirrors, balls, inputs, outputs and wastes in this order.
+///
+/// Where the names of ports are given, an input cell is named by one of the inputs and an output cell by one of the
+/// outputs (else code 3), and each of them has a cell (else code 11). Code 2 refuses a number outside its limits,
+/// code 6 a line out of its place, code 7 a cell that is taken or outside. After a fault the feed answers it for good.
+pub fn read_layout(
+    alloc: Global,
+    feed: &mut Feed,
+    ports: &PortNames,
+) -> Result<Layout, ReadFault>
+    requires { feed.old.closed ≡ true }
+    ensures reads { Reads (layout_grammar ports.now) layout_value feed.old feed.new result }
+{
+    let Ok(mut reading) = Reading::new(alloc, ports) else {
+        return Err(feed.starve());
+    };
+    match read_section(feed, &mut reading) {
+        Ok(()) => Ok(reading.into_layout()),
+        Err(fault) => Err(fault),
+    }
+}

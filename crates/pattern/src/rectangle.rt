@@ -1,0 +1,58 @@
+//! The cells of rectangles.
+ghost use Rattle.std.specs.Prelude.{◌≡◌, ◌+◌, ◌≤◌, ◌<◌, ◌++◌, OnOk};
+ghost use Rattle.pattern.specs.Layout.{row_cells, rectangle_cells};
+
+use crate::parts::Rectangle;
+use bbm_rule::Cell;
+use std::alloc::AllocError;
+
+fn push_row(out: &mut Vec<Cell>, x: u32, w: u32, y: u32) -> Result<(), AllocError>
+    requires columns { x + w ≤ 512 }
+    requires row { y < 512 }
+    ensures { OnOk result (out.new.items ≡ out.old.items ++ row_cells x w y) }
+{
+    for column in x..x + w {
+        out.push(Cell {
+            x: column as i32,
+            y: y as i32,
+        })?;
+    }
+    Ok(())
+}
+
+// Puts the cells of the rectangle behind the others, row by row.
+pub(crate) fn push_rectangle(out: &mut Vec<Cell>, r: Rectangle) -> Result<(), AllocError>
+    requires columns { r.x + r.w ≤ 512 }
+    requires rows { r.y + r.h ≤ 512 }
+    ensures { OnOk result (out.new.items ≡ out.old.items ++ rectangle_cells r) }
+{
+    for row in r.y..r.y + r.h {
+        push_row(out, r.x, r.w, row)?;
+    }
+    Ok(())
+}
+
+#[cfg(test)]
+mod tests {
+    use super::*;
+    use std::test::Fail;
+
+    #[test]
+    fn row_by_row(rt: HostRuntime) -> Result<(), Fail> {
+        let mut cells = Vec::new(rt.alloc());
+        push_rectangle(
+            &mut cells,
+            Rectangle {
+                x: 3,
+                y: 510,
+                w: 2,
+                h: 2,
+            },
+        )?;
+        assert_eq!(rt; cells.len(), 4);
+        for (k, x, y) in [(0, 3, 510), (1, 4, 510), (2, 3, 511), (3, 4, 511)] {
+            assert_eq!(rt; cells[k], Cell { x, y });
+        }
+        Ok(())
+    }
+}

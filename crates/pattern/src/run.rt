@@ -1,0 +1,193 @@
+//! The start of a layout, and its whole run.
+ghost use Rattle.std.specs.Prelude.{◌≡◌, ◌+◌, ◌≤◌, ◌<◌, ◌++◌, ◌||◌, true, ℕ, ℤ, List, map, OnOk, IfOk, MatchOption};
+ghost use Rattle.std.specs.List.{All, flat_map, filter};
+ghost use Rattle.bbm_rule.specs.Board.{HasSameSize, is_inside, live};
+ghost use Rattle.pattern.specs.Layout.{in_cells, rectangle_cells, row_cells, start};
+ghost use Rattle.pattern.specs.Lines.{has};
+ghost use Rattle.pattern.specs.Run.{IsRunEnd, RunLeaves, RunsInside, live_cells, start_list};
+
+use crate::layout::Layout;
+use crate::names::index_of;
+use crate::parts::{Port, Rectangle, Size};
+use crate::rectangle::push_rectangle;
+use bbm_rule::{Cell, Grid};
+use indexmap::IndexSet;
+use section_text::Name;
+use std::alloc::{AllocError, Global};
+
+/// How the whole run of a layout ends.
+#[derive(Debug, PartialEq, Eq, Drop)]
+pub enum RunEnd {
+    /// No cell outside the layout was ever live. These cells are live at the end, in order of y and then x.
+    Cells(Vec<Cell>),
+    /// The first step that makes a cell outside the layout live: step k leads from time k - 1 to time k.
+    LeftAt(u32),
+}
+
+fn push_mirrors(out: &mut Vec<Cell>, mirrors: &[Rectangle]) -> Result<(), AllocError>
+    requires { All (λ r. (r.x + r.w ≤ 512) × (r.y + r.h ≤ 512)) mirrors.now }
+    ensures { OnOk result (out.new.items ≡ out.old.items ++ flat_map rectangle_cells mirrors.now) }
+{
+    for mirror in mirrors {
+        push_rectangle(out, *mirror)?;
+    }
+    Ok(())
+}
+
+fn push_ports_in(out: &mut Vec<Cell>, ports: &[Port], on: &IndexSet<Name>) -> Result<(), AllocError>
+    ensures { OnOk result (out.new.items ≡ out.old.items ++ map (λ q. q.cell) (filter (λ q. has on.now.keys q.name) ports.now)) }
+{
+    for port in ports {
+        if on.contains(&port.name) {
+            out.push(port.cell)?;
+        }
+    }
+    Ok(())
+}
+
+// The cells of the ports whose name is on.
+fn push_ports_on(
+    alloc: Global,
+    out: &mut Vec<Cell>,
+    ports: &[Port],
+    on: &[Name],
+) -> Result<(), AllocError>
+    ensures { OnOk result (out.new.items ≡ out.old.items ++ map (λ q. q.cell) (filter (λ q. has on.now q.name) ports.now)) }
+{
+    let on = index_of(alloc, on)?;
+    push_ports_in(out, ports, &on)
+}
+
+/// The cells that are live at the start where the names `on` are on: those of the mirrors, row by row, the balls, and
+/// the input cells whose name is on. The error is want of memory.
+pub fn start_cells(alloc: Global, layout: &Layout, on: &[Name]) -> Result<Vec<Cell>, AllocError>
+    ensures order { IfOk result (λ cells. cells.items ≡ start_list layout.now (λ n. has on.now n)) }
+    ensures cells { IfOk result (λ cells. (x y : ℤ) → in_cells cells.items x y ≡ start layout.now (has on.now) x y) }
+{
+    let mut cells = Vec::new(alloc);
+    push_mirrors(&mut cells, layout.mirrors.as_slice())?;
+    cells.extend_from_slice(layout.balls.as_slice())?;
+    push_ports_on(alloc, &mut cells, layout.ins.as_slice(), on)?;
+    Ok(cells)
+}
+
+// Makes the cells live.
+fn make_live(grid: &mut Grid, cells: &[Cell])
+    requires inside { (x y : ℤ) → in_cells cells.now x y ≡ true → is_inside grid.old x y ≡ true }
+    ensures cells { (x y : ℤ) → live grid.new x y ≡ (live grid.old x y || in_cells cells.now x y) }
+    ensures size { HasSameSize grid.old grid.new }
+{
+    for cell in cells {
+        grid.set(*cell, true);
+    }
+}
+
+// A grid of the layout's size with the cells of the start.
+fn start_grid(alloc: Global, layout: &Layout, on: &[Name]) -> Result<Grid, AllocError>
+    ensures size { IfOk result (λ g. (g.width ≡ layout.now.size.w) × (g.height ≡ layout.now.size.h)) }
+    ensures cells { IfOk result (λ g. (x y : ℤ) → live g x y ≡ start layout.now (has on.now) x y) }
+{
+    let cells = start_cells(alloc, layout, on)?;
+    let mut grid = Grid::new(alloc, layout.size.w, layout.size.h)?;
+    make_live(&mut grid, cells.as_slice());
+    Ok(grid)
+}
+
+// Makes every step, or all before the first that leaves the layout, and answers the number of that one.
+fn run_all(grid: &mut Grid, size: Size) -> Option<u32>
+    requires { (grid.old.width ≡ size.w) × (grid.old.height ≡ size.h) }
+    ensures run { MatchOption result (RunsInside size (live grid.old) (live grid.new)) (λ k. RunLeaves size (live grid.old) k) }
+    ensures size { HasSameSize grid.old grid.new }
+{
+    for t in 0..size.steps {
+        if grid.step(t).is_err() {
+            return Some(t + 1);
+        }
+    }
+    None
+}
+
+// Puts the live ones of the first w cells of row y behind the others.
+fn push_live_row(out: &mut Vec<Cell>, grid: &Grid, w: u32, y: u32) -> Result<(), AllocError>
+    requires columns { (w ≤ grid.now.width) × (w ≤ 512) }
+    requires row { (y < grid.now.height) × (y < 512) }
+    ensures { OnOk result (out.new.items ≡ out.old.items ++ filter (λ c. live grid.now c.x c.y) (row_cells 0 w y)) }
+{
+    for x in 0..w {
+        let cell = Cell {
+            x: x as i32,
+            y: y as i32,
+        };
+        if grid.get(cell) {
+            out.push(cell)?;
+        }
+    }
+    Ok(())
+}
+
+// The live cells in order of y and then x.
+fn live_list(alloc: Global, grid: &Grid, size: Size) -> Result<Vec<Cell>, AllocError>
+    requires same { (grid.now.width ≡ size.w) × (grid.now.height ≡ size.h) }
+    requires small { (size.w ≤ 512) × (size.h ≤ 512) }
+    ensures { IfOk result (λ cells. cells.items ≡ live_cells size (live grid.now)) }
+{
+    let mut cells = Vec::new(alloc);
+    for y in 0..size.h {
+        push_live_row(&mut cells, grid, size.w, y)?;
+    }
+    Ok(cells)
+}
+
+/// Runs the whole layout from the start where the names `on` are on, on the unbounded plane. The error is want of
+/// memory.
+///
+/// The steps are those of the billiard ball model (Margolus 1984) on the layout's rectangle; the run ends early, and
+/// only then, where a cell outside that rectangle becomes live.
+pub fn run_plain(alloc: Global, layout: &Layout, on: &[Name]) -> Result<RunEnd, AllocError>
+    ensures { IfOk result (λ end. IsRunEnd layout.now (λ n. has on.now n) end) }
+{
+    let size = layout.size;
+    let mut grid = start_grid(alloc, layout, on)?;
+    match run_all(&mut grid, size) {
+        Some(step) => Ok(RunEnd::LeftAt(step)),
+        None => Ok(RunEnd::Cells(live_list(alloc, &grid, size)?)),
+    }
+}
+
+#[cfg(test)]
+mod tests {
+    use super::*;
+    use std::test::Fail;
+
+    fn is_list(cells: &[Cell], wanted: &[(i32, i32)]) -> bool {
+        cells.iter().map(|c| (c.x, c.y)).eq(wanted.iter().copied())
+    }
+
+    #[test]
+    fn ports_whose_name_is_on(rt: HostRuntime) -> Result<(), Fail> {
+        let alloc = rt.alloc();
+        let a = Name::of(b"a").expect(&rt, "a name");
+        let b = Name::of(b"b").expect(&rt, "a name");
+        let c = Name::of(b"c").expect(&rt, "a name");
+        let ports = [
+            Port {
+                name: a,
+                cell: Cell { x: 4, y: 6 },
+            },
+            Port {
+                name: b,
+                cell: Cell { x: 1, y: 1 },
+            },
+            Port {
+                name: a,
+                cell: Cell { x: 6, y: 8 },
+            },
+        ];
+        let mut cells = Vec::new(alloc);
+        push_ports_on(alloc, &mut cells, &ports, &[])?;
+        assert!(rt; cells.is_empty());
+        push_ports_on(alloc, &mut cells, &ports, &[c, a, a])?;
+        assert!(rt; is_list(&cells, &[(4, 6), (6, 8)]));
+        Ok(())
+    }
+}

@@ -1,0 +1,55 @@
+//! Cells that are taken, as the live cells of a grid.
+ghost use Rattle.std.specs.Prelude.{◌≡◌, ◌||◌, ◌&&◌, ℤ, All, true, if◌then◌else◌};
+ghost use Rattle.std.specs.List.{list_any};
+ghost use Rattle.bbm_rule.specs.Board.{live, is_inside, HasSameSize};
+ghost use Rattle.pattern.specs.Layout.{in_cells};
+
+use bbm_rule::{Cell, Grid};
+
+// Whether one of the cells is taken.
+fn meets(grid: &Grid, cells: &[Cell]) -> bool
+    requires { All (λ c. is_inside grid.now c.x c.y ≡ true) cells.now }
+    ensures { result ≡ list_any (λ c. live grid.now c.x c.y) cells.now }
+{
+    for cell in cells {
+        if grid.get(*cell) {
+            return true;
+        }
+    }
+    false
+}
+
+// Takes the cells.
+fn take_cells(grid: &mut Grid, cells: &[Cell])
+    requires { All (λ c. is_inside grid.old c.x c.y ≡ true) cells.now }
+    ensures taken { (x y : ℤ) → live grid.new x y ≡ (live grid.old x y || in_cells cells.now x y) }
+    ensures size { HasSameSize grid.old grid.new }
+{
+    for cell in cells {
+        grid.set(*cell, true);
+    }
+}
+
+/// Whether one of the cells is taken in the first grid, where `first` is true, or in the second.
+pub(crate) fn meets_in(first: bool, one: &Grid, other: &Grid, cells: &[Cell]) -> bool
+    requires one { All (λ c. is_inside one.now c.x c.y ≡ true) cells.now }
+    requires other { All (λ c. is_inside other.now c.x c.y ≡ true) cells.now }
+    ensures { result ≡ (if first then list_any (λ c. live one.now c.x c.y) cells.now else list_any (λ c. live other.now c.x c.y) cells.now) }
+{
+    if first {
+        meets(one, cells)
+    } else {
+        meets(other, cells)
+    }
+}
+
+/// Takes the cells where `takes` is true.
+pub(crate) fn take_where(takes: bool, grid: &mut Grid, cells: &[Cell])
+    requires { All (λ c. is_inside grid.old c.x c.y ≡ true) cells.now }
+    ensures taken { (x y : ℤ) → live grid.new x y ≡ (live grid.old x y || (takes && in_cells cells.now x y)) }
+    ensures size { HasSameSize grid.old grid.new }
+{
+    if takes {
+        take_cells(grid, cells);
+    }
+}

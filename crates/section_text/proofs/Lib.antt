@@ -1,0 +1,11 @@
+pub mod Lines
+pub mod Digits
+pub mod NameLemmas
+pub mod NamesAt
+pub mod Steps
+pub mod Numbers
+pub mod Spelled
+pub mod WordPlaces
+pub mod Again
+pub mod Whole
+pub mod Spellings

@@ -1,0 +1,9 @@
+pub mod Words
+pub mod Faults
+pub mod FeedState
+pub mod FeedView
+pub mod NameView
+pub mod Section
+pub mod Adding
+pub mod Codes
+pub mod Spelling

@@ -1,0 +1,11 @@
+-- How a line is spelled.
+use Rattle.std.specs.Prelude.{ℕ, List, [], ◌∷◌, ◌++◌}
+use Rattle.std.specs.List.{flat_map}
+
+-- a word behind a space
+abbrev pub spaced : List ℕ → List ℕ
+spaced word = 32 ∷ word
+
+-- a line: its first word, the others, and a line feed
+abbrev pub line_text : List ℕ → List (List ℕ) → List ℕ
+line_text word words = (word ++ flat_map spaced words) ++ 10 ∷ []

@@ -1,0 +1,315 @@
+//! A text in pieces, taken line by line.
+ghost use Rattle.std.specs.Prelude.{drop, ◌≡◌, ℕ, ◌+◌, ◌-◌, ◌^◌, ◌<◌, ◌≤◌, ◌↔◌, true, false, List, [], ◌∷◌, ◌++◌, length, Option, Some, None, Ok, Err, IsTrue, IsOk, IfOk, IfErr, ◌≢◌, OnOk, OnErr, IfSome, MatchOption, unwrap_or, slice_get, slice_range, option_and_then};
+ghost use Rattle.std.specs.Option.{option_copied, option_map, ForSome};
+ghost use Rattle.std.specs.List.{position, list_all};
+ghost use Rattle.section_text.specs.Words.{is_digit, is_number, read_on, is_at, is_line_feed, is_space, rest_of, words_of, number_of, number_at, name_at, names_at};
+ghost use Rattle.section_text.specs.declared.fault.ReadFault.TheVariants.{Memory};
+ghost use Rattle.section_text.specs.Faults.{refusal};
+ghost use Rattle.section_text.specs.FeedState.{FeedState, ahead, after_lines, IsLine, line_bytes, TakesLine, RunsOut};
+
+use crate::fault::{PushFault, ReadFault, Refusal};
+use crate::name::Name;
+use crate::names::Names;
+use std::alloc::Global;
+use std::marker::Model;
+
+/// The longest text, in bytes.
+pub const LONGEST: usize = 16_777_216;
+
+/// A text that comes in pieces and is then taken line by line. Once a reader has met a fault, it answers that for good.
+#[derive(Drop)]
+pub struct Feed {
+    bytes: Vec<u8>,
+    at: usize,
+    lines: u32,
+    is_closed: bool,
+    stop: Option<ReadFault>,
+}
+
+impl Model for Feed {
+    ghost use Rattle.section_text.specs.FeedState.{FeedState};
+
+    ghost Value = { FeedState };
+
+    ghost use Rattle.section_text.specs.FeedView.{feed_state, IsFeed};
+
+    ghost view = { feed_state };
+
+    ghost invariant = { IsFeed };
+}
+
+/// A line of a feed: its number in the stream, and its place in the text.
+#[derive(Clone, Copy, Debug)]
+pub struct Line {
+    number: u32,
+    from: usize,
+    to: usize,
+}
+
+// How many bytes stand between a place and the next line feed.
+fn line_length(bytes: &[u8], at: usize) -> Option<usize>
+    requires { at ≤ length bytes.now }
+    ensures { result ≡ position is_line_feed (drop at bytes.now) }
+{
+    first_line_feed(&bytes[at..])
+}
+
+fn first_line_feed(bytes: &[u8]) -> Option<usize>
+    ensures { result ≡ position is_line_feed bytes.now }
+{
+    bytes.iter().position(|b| *b == b'\n')
+}
+
+fn word_in(line: &[u8], index: usize) -> Option<&[u8]>
+    ensures { option_copied result ≡ slice_get (words_of line.now) index }
+{
+    line.split(|b| *b == b' ').nth(index)
+}
+
+fn words_in(line: &[u8]) -> usize
+    ensures { result ≡ length (words_of line.now) }
+{
+    line.split(|b| *b == b' ').count()
+}
+
+fn is_number_word(word: &[u8]) -> bool
+    ensures { result ≡ is_number word.now }
+{
+    match word {
+        [] => false,
+        [first, rest @ ..] => {
+            are_digits(word) && rest.len() < 9 && (rest.is_empty() || *first > b'0')
+        }
+    }
+}
+
+fn are_digits(word: &[u8]) -> bool
+    ensures { result ≡ list_all is_digit word.now }
+{
+    word.iter().all(|b| b.is_ascii_digit())
+}
+
+// What at most nine digits spell.
+fn read_digits(word: &[u8]) -> u32
+    requires digits { list_all is_digit word.now ≡ true }
+    requires few { length word.now ≤ 9 }
+    ensures { result ≡ read_on 0 word.now }
+{
+    let mut number = 0u32;
+    for b in word {
+        number = 10 * number + u32::from(*b - b'0');
+    }
+    number
+}
+
+// The number that a word is, if it is one.
+#[tactic(auto, unfolding(crate::specs::Words::number_of))]
+fn number_from(word: &[u8]) -> Option<u32>
+    ensures number { result ≡ number_of word.now }
+    ensures small { IfSome result (λ n. n < 10 ^ 9) }
+{
+    if is_number_word(word) {
+        Some(read_digits(word))
+    } else {
+        None
+    }
+}
+
+impl Feed {
+    /// The empty text.
+    pub fn new(alloc: Global) -> Feed
+        ensures { result ≡ record { text = []; taken = 0; closed = false; stop = None } }
+    {
+        Feed {
+            bytes: Vec::new(alloc),
+            at: 0,
+            lines: 0,
+            is_closed: false,
+            stop: None,
+        }
+    }
+
+    /// Adds a piece at the end of the text. A refusal changes nothing.
+    pub fn push(&mut self, piece: &[u8]) -> Result<(), PushFault>
+        requires { self.old.closed ≡ false }
+        ensures ok { OnOk result (self.new ≡ record self.old { text = self.old.text ++ piece.now }) }
+        ensures err { OnErr result (self.new ≡ self.old) }
+        ensures too_long { (result ≡ Err PushFault.TooLong) ↔ (16777216 < length self.old.text + length piece.now) }
+    {
+        if piece.len() > LONGEST - self.bytes.len() {
+            return Err(PushFault::TooLong);
+        }
+        match self.bytes.extend_from_slice(piece) {
+            Ok(()) => Ok(()),
+            Err(_) => Err(PushFault::Memory),
+        }
+    }
+
+    /// Ends the text.
+    pub fn close(&mut self)
+        ensures { self.new ≡ record self.old { closed = true } }
+    {
+        self.is_closed = true;
+    }
+
+    /// Whether the text has ended.
+    pub fn closed(&self) -> bool
+        ensures { result ≡ self.now.closed }
+    {
+        self.is_closed
+    }
+
+    /// The fault that the feed answers for good, if a reader met one.
+    pub fn fault(&self) -> Option<ReadFault>
+        ensures { result ≡ self.now.stop }
+    {
+        self.stop
+    }
+
+    /// The next line that is ended, else code 12.
+    pub fn take(&mut self) -> Result<Line, ReadFault>
+        requires { self.old.closed ≡ true }
+        ensures stopped { ForSome self.old.stop (λ fault. (result ≡ Err fault) × (self.new ≡ self.old)) }
+        ensures next { self.old.stop ≡ None → IfOk result (TakesLine self.old self.new) }
+        ensures none { self.old.stop ≡ None → IfErr result (RunsOut self.old self.new) }
+    {
+        if let Some(fault) = self.stop {
+            return Err(fault);
+        }
+        match line_length(&self.bytes, self.at) {
+            Some(len) => {
+                let line = Line {
+                    number: self.lines + 1,
+                    from: self.at,
+                    to: self.at + len,
+                };
+                self.at += len + 1;
+                self.lines += 1;
+                Ok(line)
+            }
+            None => {
+                let fault = ReadFault::Refused(Refusal {
+                    line: self.lines + 1,
+                    code: 12,
+                });
+                self.stop = Some(fault);
+                Err(fault)
+            }
+        }
+    }
+
+    // The bytes of a line.
+    fn line(&self, line: &Line) -> &[u8]
+        requires { IsLine self.now line.now }
+        ensures { result.now ≡ line_bytes self.now line.now }
+    {
+        &self.bytes[line.from..line.to]
+    }
+
+    /// How many words a line has.
+    pub fn words(&self, line: &Line) -> usize
+        requires { IsLine self.now line.now }
+        ensures { result ≡ length (words_of (line_bytes self.now line.now)) }
+    {
+        words_in(self.line(line))
+    }
+
+    /// A word of a line.
+    pub fn word(&self, line: &Line, index: usize) -> Option<&[u8]>
+        requires { IsLine self.now line.now }
+        ensures { option_copied result ≡ slice_get (words_of (line_bytes self.now line.now)) index }
+    {
+        word_in(self.line(line), index)
+    }
+
+    /// A word of a line, as a number.
+    #[tactic(auto, unfolding(crate::specs::Words::number_at))]
+    pub fn number(&self, line: &Line, index: usize) -> Option<u32>
+        requires { IsLine self.now line.now }
+        ensures number { result ≡ number_at (words_of (line_bytes self.now line.now)) index }
+        ensures small { IfSome result (λ n. n < 10 ^ 9) }
+    {
+        number_from(self.word(line, index)?)
+    }
+
+    /// A word of a line, as a name.
+    #[tactic(auto, unfolding(crate::specs::Words::name_at))]
+    pub fn name(&self, line: &Line, index: usize) -> Option<Name>
+        requires { IsLine self.now line.now }
+        ensures { result ≡ name_at (words_of (line_bytes self.now line.now)) index }
+    {
+        Name::of(self.word(line, index)?)
+    }
+
+    /// As many names as `count`, from a word of a line on.
+    pub fn names(&self, line: &Line, from: usize, count: usize) -> Option<Names>
+        requires line { IsLine self.now line.now }
+        requires few { count ≤ 4 }
+        requires near { from ≤ 8 }
+        ensures { result ≡ names_at (words_of (line_bytes self.now line.now)) from count }
+    {
+        let mut names = Names::new();
+        for i in 0..count {
+            names.push(self.name(line, from + i)?);
+        }
+        Some(names)
+    }
+
+    /// Whether a word of a line is this one.
+    #[tactic(auto, unfolding(crate::specs::Words::is_at))]
+    pub fn is(&self, line: &Line, index: usize, expected: &[u8]) -> bool
+        requires { IsLine self.now line.now }
+        ensures { result ≡ is_at (words_of (line_bytes self.now line.now)) index expected.now }
+    {
+        match self.word(line, index) {
+            Some(word) => word == expected,
+            None => false,
+        }
+    }
+
+    /// Refuses a line, for good.
+    pub fn refuse(&mut self, line: &Line, code: u8) -> ReadFault
+        ensures answer { result ≡ unwrap_or self.old.stop (refusal line.now.number code) }
+        ensures stopped { self.new ≡ record self.old { stop = Some result } }
+    {
+        let fault = self.stop.unwrap_or(ReadFault::Refused(Refusal {
+            line: line.number,
+            code,
+        }));
+        self.stop = Some(fault);
+        fault
+    }
+
+    /// Says that a reader found no memory, for good.
+    pub fn starve(&mut self) -> ReadFault
+        ensures answer { result ≡ unwrap_or self.old.stop Memory }
+        ensures stopped { self.new ≡ record self.old { stop = Some result } }
+    {
+        let fault = self.stop.unwrap_or(ReadFault::Memory);
+        self.stop = Some(fault);
+        fault
+    }
+
+    /// Whether nothing follows the lines that were taken, else code 12.
+    pub fn finish(&mut self) -> Result<(), ReadFault>
+        requires { self.old.closed ≡ true }
+        ensures stopped { ForSome self.old.stop (λ fault. (result ≡ Err fault) × (self.new ≡ self.old)) }
+        ensures ok { self.old.stop ≡ None → OnOk result ((ahead self.old ≡ []) × (rest_of self.old.text ≡ []) × (self.new ≡ self.old)) }
+        ensures more { self.old.stop ≡ None → OnErr result (ahead self.old ≡ [] → rest_of self.old.text ≢ []) }
+        ensures fault { self.old.stop ≡ None → IfErr result (λ fault. (fault ≡ refusal (self.old.taken + 1) 12)
+            × (self.new ≡ record self.old { stop = Some fault })) }
+    {
+        if let Some(fault) = self.stop {
+            return Err(fault);
+        }
+        if self.at == self.bytes.len() {
+            return Ok(());
+        }
+        let fault = ReadFault::Refused(Refusal {
+            line: self.lines + 1,
+            code: 12,
+        });
+        self.stop = Some(fault);
+        Err(fault)
+    }
+}

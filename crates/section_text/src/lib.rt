@@ -1,0 +1,18 @@
+//! Texts of sections: lines, words, numbers and names, and the refusals of their readers.
+#![tactic(auto)]
+
+mod fault;
+mod feed;
+mod name;
+mod names;
+mod ports;
+mod reader;
+mod section;
+
+pub use fault::{PushFault, ReadFault, Refusal};
+pub use feed::{Feed, Line};
+pub use name::Name;
+pub use names::Names;
+pub use ports::PortNames;
+pub use reader::{Section, read_section};
+pub use section::{Form, LineFault};

@@ -1,0 +1,11 @@
+//! Which names the ports of a layout may have.
+
+use crate::name::Name;
+
+/// The names that the ports of a layout may have: any, or only those of a circuit's inputs and outputs. Where they
+/// are given, each of them has a port.
+#[derive(Drop)]
+pub enum PortNames {
+    Any,
+    Only { ins: Vec<Name>, outs: Vec<Name> },
+}
