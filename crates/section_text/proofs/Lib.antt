@@ -9,3 +9,4 @@ pub mod WordPlaces
 pub mod Again
 pub mod Whole
 pub mod Spellings
+pub mod Joined

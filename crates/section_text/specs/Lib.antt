@@ -7,3 +7,4 @@ pub mod Section
 pub mod Adding
 pub mod Codes
 pub mod Spelling
+pub mod Sections

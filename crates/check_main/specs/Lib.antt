@@ -1,0 +1,5 @@
+pub mod Device
+pub mod Over
+pub mod RunText
+pub mod Status
+pub mod Stream

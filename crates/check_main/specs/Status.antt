@@ -1,0 +1,26 @@
+-- The exit status for how a command ended, and the line for a fault.
+use Rattle.std.specs.Prelude.{◌≡◌, ℕ, Bool, false, List, Option, Ok, Err, Result, codes}
+use Rattle.std.specs.Io.KnownBytes.{Appends}
+use Rattle.check_main.specs.declared.outcome.Outcome.{Outcome}
+use Rattle.check_main.specs.declared.outcome.Outcome.TheVariants.{Yes, No, Refused}
+use Rattle.check_main.specs.declared.fault.CheckFault.{CheckFault}
+use Rattle.check_main.specs.declared.fault.CheckFault.TheVariants.{Read, Write, TooLong, Memory}
+
+abbrev pub status_for : Result Outcome CheckFault → ℕ
+status_for (Ok Yes) = 0
+status_for (Ok No) = 1
+status_for (Ok Refused) = 3
+status_for (Err Read) = 4
+status_for (Err Write) = 4
+status_for (Err TooLong) = 4
+status_for (Err Memory) = 5
+
+abbrev pub line_for : CheckFault → List ℕ
+line_for Read = codes "bbmcheck: read fault\n"
+line_for Write = codes "bbmcheck: write fault\n"
+line_for TooLong = codes "bbmcheck: text too long\n"
+line_for Memory = codes "bbmcheck: out of memory\n"
+
+-- the line for a fault was written to a writer, unless that failed
+abbrev pub Says : Option (List ℕ) → Option (List ℕ) → Bool → CheckFault → Type 0
+Says held held' has_failed fault = has_failed ≡ false → Appends held held' (line_for fault)

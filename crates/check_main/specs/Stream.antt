@@ -1,0 +1,52 @@
+-- Reading a text to its end, and writing what is answered.
+use Rattle.std.specs.Prelude.{◌≡◌, ◌<◌, ◌≤◌, ◌++◌, ℕ, true, List, None, length}
+use Rattle.std.specs.declared.option.Option.{Option}
+use Rattle.std.specs.Io.KnownBytes.{Consumes, IsAtEnd, Appends}
+use Rattle.section_text.specs.FeedState.{FeedState}
+use Rattle.check_main.specs.declared.outcome.Outcome.{Outcome}
+
+-- the most bytes of a text, 16 MiB
+abbrev pub text_limit : ℕ
+text_limit = 16777216
+
+-- the reader gave the text, and has no more
+pub record ReadsAll (old new : Option (List ℕ)) (text : List ℕ) : Type 0 where
+  pub given : Consumes old new text
+  pub ended : IsAtEnd new
+  pub within : length text ≤ text_limit
+
+-- the reader gave a byte past the limit
+pub record GivesTooMuch (old new : Option (List ℕ)) : Type 0 where
+  pub text : List ℕ
+  pub given : Consumes old new text
+  pub beyond : text_limit < length text
+
+-- the feed is all of a text, of which no line is taken
+abbrev pub whole_text : List ℕ → FeedState
+whole_text text = record { text = text; taken = 0; closed = true; stop = None }
+
+-- the writer took the first bytes of the output
+pub record TakesPrefix (old new : Option (List ℕ)) (output : List ℕ) : Type 0 where
+  pub taken : List ℕ
+  pub rest : List ℕ
+  pub whole : output ≡ taken ++ rest
+  pub appended : Appends old new taken
+
+-- A command is a relation: which output, with which outcome, is right for a text.
+
+-- a text was read whole, and an output that is right for it was written, with its outcome
+pub record Answers (R : List ℕ → List ℕ → Outcome → Type 0) (left left' held held' : Option (List ℕ)) (outcome : Outcome) : Type 0 where
+  pub text : List ℕ
+  pub output : List ℕ
+  pub read : ReadsAll left left' text
+  pub right : R text output outcome
+  pub written : Appends held held' output
+
+-- a text was read whole, and the first bytes of an output that is right for it were written
+pub record BreaksOff (R : List ℕ → List ℕ → Outcome → Type 0) (left left' held held' : Option (List ℕ)) : Type 0 where
+  pub text : List ℕ
+  pub output : List ℕ
+  pub outcome : Outcome
+  pub read : ReadsAll left left' text
+  pub right : R text output outcome
+  pub written : TakesPrefix held held' output

@@ -1,0 +1,205 @@
+//! The whole program, over the words and the streams that it is given.
+ghost use Rattle.std.specs.Prelude.{◌≡◌, ◌≢◌, ◌≤◌, ◌⊎◌, false, true, IfOk, IfErr, IsErrOf, OnOk, map};
+ghost use Rattle.clap.specs.Words.{kind_of};
+ghost use Rattle.command_line.specs.CommandLine.{IsAccepted, AsksForHelp};
+ghost use Rattle.check_main.specs.RunText.{IsRunOf};
+ghost use Rattle.check_main.specs.Status.{status_for, line_for, Says};
+ghost use Rattle.check_main.specs.Stream.{Answers, BreaksOff, GivesTooMuch};
+
+use crate::stream::{run_stream, write_whole};
+use crate::{CheckFault, Outcome, Sink, Source};
+use clap::Error;
+use clap::error::ErrorKind;
+use command_line::{Request, read_words};
+use std::alloc::Global;
+
+// Statuses.
+const DONE: u8 = 0;
+
+const NO: u8 = 1;
+
+const WORDS_REFUSED: u8 = 2;
+
+const TEXT_REFUSED: u8 = 3;
+
+const DEVICE_FAULT: u8 = 4;
+
+const NOT_DECIDED: u8 = 5;
+
+/// Does what the words ask for and gives the exit status. The words have no program's name.
+///
+/// - 0: the command is done, or help was asked for and written
+/// - 1: a ball left the rectangle
+/// - 2: the words were refused
+/// - 3: the text was refused, and `writer` was told the line and why
+/// - 4: `reader` or `writer` failed, or the text is longer than 16 MiB
+/// - 5: memory ran out
+///
+/// What is wrong with the words, and a line for a status of 4 or 5, is said to `errors`, and that a write to
+/// it fails changes nothing.
+pub fn program<'a, R: Source, W: Sink, E: Sink>(
+    alloc: Global,
+    words: &'a [&'a str],
+    reader: &mut R,
+    writer: &mut W,
+    errors: &mut E,
+) -> u8
+    requires reader_works { R.has_failed reader.old ≡ false }
+    requires writer_works { W.has_failed writer.old ≡ false }
+    ensures range { result ≤ 5 }
+    ensures accepted { IsAccepted (map (λ s. s.now) words.entry.now) → result ≢ 2 }
+    ensures unread { ¬ IsAccepted (map (λ s. s.now) words.entry.now) → reader.new ≡ reader.old }
+    ensures help { ¬ IsAccepted (map (λ s. s.now) words.entry.now) → result ≢ 2 → result ≢ 5 →
+        AsksForHelp (map (λ s. s.now) words.entry.now) }
+
+    ensures yes { IsAccepted (map (λ s. s.now) words.entry.now) → result ≡ 0
+        → Answers IsRunOf (R.left reader.old) (R.left reader.new)
+        (W.held writer.old) (W.held writer.new) Outcome.Yes }
+
+    ensures no { result ≡ 1 → Answers IsRunOf (R.left reader.old) (R.left reader.new)
+        (W.held writer.old) (W.held writer.new) Outcome.No }
+    ensures words { result ≡ 2 → (reader.new ≡ reader.old) × (writer.new ≡ writer.old) }
+    ensures refused { result ≡ 3 → Answers IsRunOf (R.left reader.old) (R.left reader.new)
+        (W.held writer.old) (W.held writer.new) Outcome.Refused }
+    // Each fault comes only where it is one, and its line is said.
+    ensures device { result ≡ 4 →
+        ((R.has_failed reader.new ≡ true)
+        × Says (E.held errors.old) (E.held errors.new) (E.has_failed errors.new) CheckFault.Read)
+        ⊎ ((W.has_failed writer.new ≡ true)
+        × Says (E.held errors.old) (E.held errors.new) (E.has_failed errors.new) CheckFault.Write)
+        ⊎ (GivesTooMuch (R.left reader.old) (R.left reader.new)
+        × Says (E.held errors.old) (E.held errors.new) (E.has_failed errors.new) CheckFault.TooLong) }
+    ensures works { result ≢ 4 → W.has_failed writer.new ≡ false }
+    ensures unwritten { result ≡ 4 → W.has_failed writer.new ≡ false → writer.new ≡ writer.old }
+
+    ensures prefix { IsAccepted (map (λ s. s.now) words.entry.now)
+        → result ≡ 4 → W.has_failed writer.new ≡ true
+        → BreaksOff IsRunOf (R.left reader.old) (R.left reader.new)
+        (W.held writer.old) (W.held writer.new) }
+
+    ensures not_decided { result ≡ 5 → (writer.new ≡ writer.old)
+        × Says (E.held errors.old) (E.held errors.new) (E.has_failed errors.new) CheckFault.Memory }
+
+    // Where an answer or help was written, nothing is said.
+    ensures quiet { result ≢ 2 → result ≢ 4 → result ≢ 5 → errors.new ≡ errors.old }
+{
+    match read_words(alloc, words) {
+        Ok(request) => {
+            let ended = serve(alloc, request, reader, writer);
+            status_of(ended, errors)
+        }
+        Err(error) => explain(alloc, &error, writer, errors),
+    }
+}
+
+// Each command is a call over the two streams.
+fn serve<R: Source, W: Sink>(
+    alloc: Global,
+    request: Request,
+    reader: &mut R,
+    writer: &mut W,
+) -> Result<Outcome, CheckFault>
+    requires reader_works { R.has_failed reader.old ≡ false }
+    requires writer_works { W.has_failed writer.old ≡ false }
+    ensures answered { IfOk result (Answers IsRunOf (R.left reader.old) (R.left reader.new)
+        (W.held writer.old) (W.held writer.new)) }
+    ensures works { OnOk result (W.has_failed writer.new ≡ false) }
+    ensures read { IsErrOf result CheckFault.Read → R.has_failed reader.new ≡ true }
+    ensures too_long { IsErrOf result CheckFault.TooLong →
+        GivesTooMuch (R.left reader.old) (R.left reader.new) }
+    ensures write { IsErrOf result CheckFault.Write → W.has_failed writer.new ≡ true }
+    ensures prefix { IsErrOf result CheckFault.Write →
+        BreaksOff IsRunOf (R.left reader.old) (R.left reader.new)
+        (W.held writer.old) (W.held writer.new) }
+    ensures unwritten { IfErr result (λ fault. fault ≢ CheckFault.Write → writer.new ≡ writer.old) }
+{
+    match request {
+        Request::Run => run_stream(alloc, reader, writer),
+    }
+}
+
+// The status for how a command ended, whose fault is said to `errors`.
+fn status_of<E: Sink>(ended: Result<Outcome, CheckFault>, errors: &mut E) -> u8
+    ensures status { result ≡ status_for ended }
+    ensures quiet { OnOk ended (errors.new ≡ errors.old) }
+    ensures said { IfErr ended (Says (E.held errors.old) (E.held errors.new) (E.has_failed errors.new)) }
+{
+    match ended {
+        Ok(Outcome::Yes) => DONE,
+        Ok(Outcome::No) => NO,
+        Ok(Outcome::Refused) => TEXT_REFUSED,
+        Err(fault) => {
+            say(errors, fault);
+            match fault {
+                CheckFault::Read | CheckFault::Write | CheckFault::TooLong => DEVICE_FAULT,
+                CheckFault::Memory => NOT_DECIDED,
+            }
+        }
+    }
+}
+
+// Help goes to the writer, and what is wrong with the words to `errors`.
+fn explain<W: Sink, E: Sink>(alloc: Global, error: &Error, writer: &mut W, errors: &mut E) -> u8
+    requires { W.has_failed writer.old ≡ false }
+    ensures range { (result ≡ 0) ⊎ (result ≡ 2) ⊎ (result ≡ 4) ⊎ (result ≡ 5) }
+    ensures help { result ≢ 2 → result ≢ 5 →
+        (kind_of error.now ≡ ErrorKind.DisplayHelp) ⊎ (kind_of error.now ≡ ErrorKind.DisplayVersion) }
+    ensures words { result ≡ 2 → writer.new ≡ writer.old }
+    ensures device { result ≡ 4 → (W.has_failed writer.new ≡ true)
+        × Says (E.held errors.old) (E.held errors.new) (E.has_failed errors.new) CheckFault.Write }
+    ensures works { result ≢ 4 → W.has_failed writer.new ≡ false }
+    ensures not_decided { result ≡ 5 → (writer.new ≡ writer.old)
+        × Says (E.held errors.old) (E.held errors.new) (E.has_failed errors.new) CheckFault.Memory }
+    ensures quiet { result ≡ 0 → errors.new ≡ errors.old }
+    ensures memory { kind_of error.now ≡ ErrorKind.OutOfMemory → result ≡ 5 }
+{
+    if matches!(error.kind(), ErrorKind::OutOfMemory) {
+        say(errors, CheckFault::Memory);
+        return NOT_DECIDED;
+    }
+    let Ok(text) = error.to_string(alloc) else {
+        say(errors, CheckFault::Memory);
+        return NOT_DECIDED;
+    };
+    match error.kind() {
+        ErrorKind::DisplayHelp | ErrorKind::DisplayVersion => show(&text, writer, errors),
+        _ => {
+            let _ = write_whole(errors, text.as_bytes());
+            WORDS_REFUSED
+        }
+    }
+}
+
+// Writes help.
+fn show<W: Sink, E: Sink>(text: &str, writer: &mut W, errors: &mut E) -> u8
+    requires { W.has_failed writer.old ≡ false }
+    ensures range { (result ≡ 0) ⊎ (result ≡ 4) }
+    ensures device { result ≡ 4 → (W.has_failed writer.new ≡ true)
+        × Says (E.held errors.old) (E.held errors.new) (E.has_failed errors.new) CheckFault.Write }
+    ensures quiet { result ≡ 0 → errors.new ≡ errors.old }
+    ensures works { result ≡ 0 → W.has_failed writer.new ≡ false }
+{
+    if write_whole(writer, text.as_bytes()) {
+        return DONE;
+    }
+    say(errors, CheckFault::Write);
+    DEVICE_FAULT
+}
+
+// Says the one line for a fault, without memory.
+fn say<E: Sink>(errors: &mut E, fault: CheckFault)
+    ensures { Says (E.held errors.old) (E.held errors.new) (E.has_failed errors.new) fault }
+{
+    let _ = write_whole(errors, line_for(fault).as_bytes());
+}
+
+fn line_for(fault: CheckFault) -> &'static str
+    ensures { result.now ≡ line_for fault }
+{
+    match fault {
+        CheckFault::Read => "bbmcheck: read fault\n",
+        CheckFault::Write => "bbmcheck: write fault\n",
+        CheckFault::TooLong => "bbmcheck: text too long\n",
+        CheckFault::Memory => "bbmcheck: out of memory\n",
+    }
+}

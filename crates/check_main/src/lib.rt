@@ -1,0 +1,21 @@
+//! The commands and the whole program, over any reader and any writer.
+#![tactic(auto)]
+
+mod device;
+mod fault;
+mod front;
+mod outcome;
+mod run;
+mod stream;
+
+pub use device::{Over, Sink, Source};
+pub use fault::CheckFault;
+pub use front::program;
+pub use outcome::Outcome;
+pub use stream::run_stream;
+
+#[cfg(test)]
+mod tests;
+
+#[cfg(test)]
+mod run_tests;

@@ -1,0 +1,20 @@
+//! How a command ends whose text was read.
+
+/// How a command ended whose answer was written.
+#[derive(Clone, Copy, Debug, PartialEq, Eq)]
+pub enum Outcome {
+    /// The command is done.
+    Yes,
+    /// A ball left the rectangle.
+    No,
+    /// The text was refused.
+    Refused,
+}
+
+/// What a command answers to a text.
+#[derive(Drop)]
+pub struct Answered {
+    pub outcome: Outcome,
+    /// What is to be written.
+    pub output: Vec<u8>,
+}

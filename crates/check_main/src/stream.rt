@@ -1,0 +1,110 @@
+//! From a reader's bytes to a writer's.
+ghost use Rattle.std.specs.Prelude.{◌≡◌, ◌≢◌, true, false, IfOk, IfErr, IsErrOf, OnOk};
+ghost use Rattle.std.specs.Io.KnownBytes.{Appends};
+ghost use Rattle.check_main.specs.RunText.{IsRunOf};
+ghost use Rattle.check_main.specs.Stream.{Answers, BreaksOff, ReadsAll, GivesTooMuch, TakesPrefix, whole_text};
+
+use crate::outcome::Answered;
+use crate::run::run_text;
+use crate::{CheckFault, Outcome, Sink, Source};
+use section_text::{Feed, PushFault};
+use std::alloc::Global;
+
+// What one read asks for, in bytes.
+const BLOCK: usize = 65_536;
+
+// Each read but the last gives a byte, and a text has at most 16 MiB.
+const MOST_READS: usize = 16_777_217;
+
+/// Runs a layout under an assignment: reads the whole text, at most 16 MiB, and writes the answer once it is
+/// complete. `No` is a ball that leaves the rectangle.
+pub fn run_stream<R: Source, W: Sink>(
+    alloc: Global,
+    reader: &mut R,
+    writer: &mut W,
+) -> Result<Outcome, CheckFault>
+    requires reader_works { R.has_failed reader.old ≡ false }
+    requires writer_works { W.has_failed writer.old ≡ false }
+    ensures answered { IfOk result (Answers IsRunOf (R.left reader.old) (R.left reader.new)
+        (W.held writer.old) (W.held writer.new)) }
+    ensures works { OnOk result ((R.has_failed reader.new ≡ false) × (W.has_failed writer.new ≡ false)) }
+    ensures read { IsErrOf result CheckFault.Read → R.has_failed reader.new ≡ true }
+    ensures too_long { IsErrOf result CheckFault.TooLong →
+        GivesTooMuch (R.left reader.old) (R.left reader.new) }
+    ensures write { IsErrOf result CheckFault.Write → W.has_failed writer.new ≡ true }
+    ensures prefix { IsErrOf result CheckFault.Write →
+        BreaksOff IsRunOf (R.left reader.old) (R.left reader.new)
+        (W.held writer.old) (W.held writer.new) }
+    ensures unwritten { IfErr result (λ fault. fault ≢ CheckFault.Write → writer.new ≡ writer.old) }
+{
+    let mut feed = read_text(alloc, reader)?;
+    let Ok(answered) = run_text(alloc, &mut feed) else {
+        return Err(CheckFault::Memory);
+    };
+    write_answer(writer, &answered)
+}
+
+// Reads up to the end. A read of no byte ends the text.
+fn read_text<R: Source>(alloc: Global, reader: &mut R) -> Result<Feed, CheckFault>
+    requires { R.has_failed reader.old ≡ false }
+    ensures read_all { IfOk result (λ feed. ReadsAll (R.left reader.old) (R.left reader.new) feed.text) }
+    ensures whole { IfOk result (λ feed. feed ≡ whole_text feed.text) }
+    ensures works { OnOk result (R.has_failed reader.new ≡ false) }
+    ensures read { IsErrOf result CheckFault.Read → R.has_failed reader.new ≡ true }
+    ensures too_long { IsErrOf result CheckFault.TooLong →
+        GivesTooMuch (R.left reader.old) (R.left reader.new) }
+    ensures no_write { IfErr result (λ fault. fault ≢ CheckFault.Write) }
+{
+    let mut feed = Feed::new(alloc);
+    let mut block = [0u8; BLOCK];
+    for _ in 0..MOST_READS {
+        let Ok(count) = reader.read(&mut block) else {
+            return Err(CheckFault::Read);
+        };
+        if count == 0 {
+            feed.close();
+            return Ok(feed);
+        }
+        match feed.push(&block[..count]) {
+            Ok(()) => {}
+            Err(PushFault::TooLong) => return Err(CheckFault::TooLong),
+            Err(PushFault::Memory) => return Err(CheckFault::Memory),
+        }
+    }
+    unreachable!()
+}
+
+// Writes an answer that is complete.
+fn write_answer<W: Sink>(writer: &mut W, answered: &Answered) -> Result<Outcome, CheckFault>
+    requires { W.has_failed writer.old ≡ false }
+    ensures outcome { IfOk result (λ outcome. outcome ≡ answered.now.outcome) }
+    ensures all { OnOk result (Appends (W.held writer.old) (W.held writer.new) answered.now.output.items) }
+    ensures works { OnOk result (W.has_failed writer.new ≡ false) }
+    ensures only { IfErr result (λ fault. fault ≡ CheckFault.Write) }
+    ensures fails { IfErr result (λ fault. W.has_failed writer.new ≡ true) }
+    ensures prefix { IfErr result (λ fault.
+        TakesPrefix (W.held writer.old) (W.held writer.new) answered.now.output.items) }
+{
+    if write_whole(writer, &answered.output) {
+        Ok(answered.outcome)
+    } else {
+        Err(CheckFault::Write)
+    }
+}
+
+/// Writes all of `bytes`, or answers false where the writer failed.
+pub(crate) fn write_whole<W: Sink>(writer: &mut W, bytes: &[u8]) -> bool
+    ensures all { result ≡ true → Appends (W.held writer.old) (W.held writer.new) bytes.now }
+    ensures works { result ≡ true → W.has_failed writer.new ≡ W.has_failed writer.old }
+    ensures fails { result ≡ false → W.has_failed writer.new ≡ true }
+    ensures prefix { result ≡ false → TakesPrefix (W.held writer.old) (W.held writer.new) bytes.now }
+{
+    let mut rest = bytes;
+    while !rest.is_empty() {
+        match writer.write(rest) {
+            Ok(0) | Err(_) => return false,
+            Ok(count) => rest = &rest[count..],
+        }
+    }
+    true
+}

@@ -1,0 +1,10 @@
+-- Each step of the builder does to the command what clap's definition of it does.
+use Rattle.std.proofs.Common.{◌∙◌, ap, ap₂}
+use Rattle.std.proofs.lemmas.Result.{IfOk-weaker}
+use Rattle.clap.specs.Words.{App, Shape, with_subcommand}
+use Rattle.command_line.proofs.command.Goals as goal
+
+pub returns : goal.returns
+returns c =
+    let shape : App → Shape = λ a. a.top in
+    IfOk-weaker c.subcommand.result _ _ (λ r h. h.shape c.plain.ensures.local ∙ ap₂ with_subcommand c.in_ok-top.ensures.app (ap shape c.plain.ensures.app)) c.subcommand.ensures

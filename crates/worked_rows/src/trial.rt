@@ -1,0 +1,59 @@
+//! Puts a case through the program.
+
+use crate::cases::Case;
+use check_main::{Over, program};
+use std::alloc::Global;
+use std::fmt;
+
+/// What a case does that it must not do.
+#[derive(Drop)]
+pub enum Difference {
+    Status { wanted: u8, got: u8 },
+    Output { equal_lines: usize },
+    Errors { equal_lines: usize },
+}
+
+impl fmt::Display for Difference {
+    fn fmt<W: fmt::Write>(&self, f: &mut fmt::Formatter<W>) -> fmt::Result {
+        match self {
+            Difference::Status { wanted, got } => {
+                write!(f, "the status is {got} and not {wanted}")
+            }
+            Difference::Output { equal_lines } => {
+                write!(f, "standard output differs after {equal_lines} equal lines")
+            }
+            Difference::Errors { equal_lines } => {
+                write!(f, "standard error differs after {equal_lines} equal lines")
+            }
+        }
+    }
+}
+
+/// The first thing in which a case does not hold.
+pub fn difference_of(alloc: Global, case: &Case<'_>) -> Option<Difference> {
+    let mut reader = Over::new(case.input.as_slice());
+    let mut writer = Over::new(Vec::new(alloc));
+    let mut errors = Over::new(Vec::new(alloc));
+    let got = program(alloc, &case.words, &mut reader, &mut writer, &mut errors);
+    if got != case.status {
+        return Some(Difference::Status {
+            wanted: case.status,
+            got,
+        });
+    }
+    if let Some(equal_lines) = first_difference(&case.output, &writer.into_inner()) {
+        return Some(Difference::Output { equal_lines });
+    }
+    let equal_lines = first_difference(&case.errors, &errors.into_inner())?;
+    Some(Difference::Errors { equal_lines })
+}
+
+// How many lines are equal before the first that is not, where the texts differ.
+fn first_difference(wanted: &Option<Vec<u8>>, got: &[u8]) -> Option<usize> {
+    let wanted = wanted.as_ref()?.as_slice();
+    if wanted == got {
+        return None;
+    }
+    let same = wanted.iter().zip(got).take_while(|(a, b)| a == b);
+    Some(same.filter(|(a, _)| **a == b'\n').count())
+}

@@ -1,0 +1,107 @@
+#!/usr/bin/env python3
+"""make_cases.py FOLDER.. --stage K [--commands A,B] [--also NAME].. [--largest BYTES]
+    > crates/worked_rows/data/cases.txt
+
+Writes case folders as one file of cases, in the form that crates/worked_rows/src/cases.rt tells.
+
+A case folder has args (one line of words), stdin or stdin_repeat (`COUNT UNIT`), stdout (left out: any
+output), status (left out: 0), since and until (left out: 1, and for ever) and stderr (left out: any).
+A case is taken where K lies between its since and its until, and the first of its words is one of the
+commands or it is about words alone: status 2, or help. --also takes a case of that name in any case.
+--largest leaves out cases whose stdin has more bytes; a stdin_repeat is short however much it stands for.
+"""
+import argparse
+import sys
+from pathlib import Path
+
+HEAD = """\
+# Command lines, each with what it is given and what it must do. tools/make_cases.py writes this file.
+#
+# `case` names a case, and `words` has its words, parted by single spaces. Below `input`, `output` and
+# `errors` stands a text: of standard input, output and error. A line of it comes after a bar and a space, and
+# a bar alone is an empty line. Text without a line feed after it comes after a backslash and a space.
+# `3 times` before either repeats it. A part without lines is the empty text. Where `input` is left out it is
+# empty, and where `output` or `errors` is left out anything may be written there. `status` is the exit status.
+# An empty line, and a line of this kind, say nothing.
+"""
+
+
+def number(path, default):
+    return int(path.read_text()) if path.exists() else default
+
+
+def text_lines(text):
+    """The lines that stand for a text, of which runs of equal lines are put in one."""
+    lines = text.split(b"\n")
+    last = lines.pop()
+    at = 0
+    while at < len(lines):
+        end = at
+        while end < len(lines) and lines[end] == lines[at]:
+            end += 1
+        mark = b"| " + lines[at] if lines[at] else b"|"
+        if end - at > 3:
+            yield b"%d times %s" % (end - at, mark)
+        else:
+            yield from [mark] * (end - at)
+        at = end
+    if last:
+        yield b"\\ " + last
+
+
+def repeat_lines(text):
+    count, unit = text.rstrip(b"\n").split(b" ", 1)
+    yield b"%s times \\ %s" % (count, unit)
+
+
+def case_lines(folder):
+    words = (folder / "args").read_text().split()
+    yield b"case " + folder.name.encode()
+    yield " ".join(["words", *words]).encode()
+    repeat = folder / "stdin_repeat"
+    given = list(repeat_lines(repeat.read_bytes()) if repeat.exists() else text_lines((folder / "stdin").read_bytes()))
+    if given:
+        yield b"input"
+        yield from given
+    for name, file in (("output", "stdout"), ("errors", "stderr")):
+        path = folder / file
+        if path.exists():
+            yield name.encode()
+            yield from text_lines(path.read_bytes())
+    yield b"status %d" % number(folder / "status", 0)
+
+
+def is_taken(folder, options):
+    if folder.name in options.also:
+        return True
+    if not number(folder / "since", 1) <= options.stage <= number(folder / "until", options.stage):
+        return False
+    given = folder / "stdin"
+    if options.largest is not None and given.exists() and given.stat().st_size > options.largest:
+        return False
+    words = (folder / "args").read_text().split()
+    if words and words[0] in options.commands:
+        return True
+    return not words or words[0].startswith("-") or number(folder / "status", 0) == 2
+
+
+def main():
+    parser = argparse.ArgumentParser(usage=__doc__)
+    parser.add_argument("folders", nargs="+", type=Path)
+    parser.add_argument("--stage", type=int, required=True)
+    parser.add_argument("--commands", type=lambda names: names.split(","), default=["run"])
+    parser.add_argument("--also", action="append", default=[])
+    parser.add_argument("--largest", type=int)
+    options = parser.parse_args()
+    found = sorted((args.parent for folder in options.folders for args in folder.glob("**/args")), key=lambda f: f.name)
+    missing = set(options.also) - {folder.name for folder in found}
+    if missing:
+        sys.exit("no case " + ", ".join(sorted(missing)))
+    out = sys.stdout.buffer
+    out.write(HEAD.encode())
+    for folder in found:
+        if is_taken(folder, options):
+            out.write(b"\n" + b"\n".join(case_lines(folder)) + b"\n")
+
+
+main()
