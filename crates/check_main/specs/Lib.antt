@@ -3,3 +3,4 @@ pub mod Over
 pub mod RunText
 pub mod Status
 pub mod Stream
+pub mod Laws

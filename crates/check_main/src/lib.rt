@@ -4,6 +4,7 @@
 mod device;
 mod fault;
 mod front;
+pub mod laws;
 mod outcome;
 mod run;
 mod stream;

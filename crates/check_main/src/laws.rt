@@ -1,0 +1,8 @@
+//! Laws of the definitions, each the contract of a function without a body.
+ghost use Rattle.check_main.specs.Laws.{HasOneAnswer};
+ghost use Rattle.check_main.specs.RunText.{IsRunOf};
+
+/// What `run` writes for a text, and how it ends, is a function of the text.
+pub fn run_has_one_answer()
+    ensures { HasOneAnswer IsRunOf }
+{}
