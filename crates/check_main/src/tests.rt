@@ -310,3 +310,18 @@ fn ignores_that_errors_cannot_be_written(rt: HostRuntime) {
         assert!(rt; unheard(rt.alloc(), &["run"], 1_000, room) == 0);
     }
 }
+
+#[test]
+fn names_each_fault_in_words(rt: HostRuntime) -> Result<(), Fail> {
+    let words = [
+        (CheckFault::Read, "read fault"),
+        (CheckFault::Write, "write fault"),
+        (CheckFault::TooLong, "text too long"),
+        (CheckFault::Memory, "out of memory"),
+    ];
+    for (fault, text) in words {
+        let shown = fault.to_string(rt.alloc())?;
+        assert!(rt; shown.as_str() == text);
+    }
+    Ok(())
+}
