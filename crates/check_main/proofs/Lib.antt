@@ -1,2 +1,3 @@
-mod Asking
+mod AskedLemmas
 mod OneAnswer
+mod InNames

@@ -21,7 +21,8 @@ use Rattle.pattern.specs.Lines.{parts_of, has}
 use Rattle.pattern.specs.Grammars.{layout_value}
 use Rattle.pattern.specs.Run.{IsRunEnd, EndsWith, LeavesAt, StaysInside, GoesOutside}
 use Rattle.check_main.specs.declared.outcome.Outcome.{Outcome}
-use Rattle.check_main.specs.RunText.{IsRunOf, Answered, Asked, SaysRunEnd, cell_line, end_text, end_outcome, run_asked}
+use Rattle.check_main.specs.RunText.{IsRunOf, RunAsked, SaysRunEnd, cell_line, end_text, end_outcome, run_asked}
+use Rattle.check_main.specs.Answers.{Answered}
 use Rattle.check_main.specs.Laws.{HasOneAnswer}
 
 -- ---- a layout from its lines
@@ -137,15 +138,17 @@ one_end p on (LeftAt k) (LeftAt j) h h' = elim (cases_order k j) [
   ]
 ]
 
-one_run : (asked : Asked) (output output' : List ℕ) (outcome outcome' : Outcome) → SaysRunEnd asked output outcome → SaysRunEnd asked output' outcome' → (output ≡ output') × (outcome ≡ outcome')
+one_run : (asked : RunAsked) (output output' : List ℕ) (outcome outcome' : Outcome) → SaysRunEnd asked output outcome → SaysRunEnd asked output' outcome' → (output ≡ output') × (outcome ≡ outcome')
 one_run asked output output' outcome outcome' h h' =
     let same : h'.layout ≡ h.layout = one_layout h'.layout h.layout (h'.lines ∙ sym h.lines) in
     let ends = one_end h.layout (has asked.1) h.end h'.end h.run (subst (λ (p : Pattern). IsRunEnd p (has asked.1) h'.end) same h'.run) in
     (h.says ∙ ends.0 ∙ sym h'.says, h.ends ∙ ends.1 ∙ sym h'.ends)
 
-answered_once : (read : Result Asked Refusal) (output output' : List ℕ) (outcome outcome' : Outcome) → Answered read output outcome → Answered read output' outcome' → (output ≡ output') × (outcome ≡ outcome')
-answered_once (Ok asked) output output' outcome outcome' h h' = one_run asked output output' outcome outcome' h h'
-answered_once (Err refusal) output output' outcome outcome' h h' = (h.0 ∙ sym h'.0, h.1 ∙ sym h'.1)
+-- a command that has one answer to what is asked has one to each text
+pub answered_once : {A : Type 0} (says : A → List ℕ → Outcome → Type 0) → ((asked : A) (output output' : List ℕ) (outcome outcome' : Outcome) → says asked output outcome → says asked output' outcome' → (output ≡ output') × (outcome ≡ outcome'))
+    → (read : Result A Refusal) (output output' : List ℕ) (outcome outcome' : Outcome) → Answered says read output outcome → Answered says read output' outcome' → (output ≡ output') × (outcome ≡ outcome')
+answered_once says once (Ok asked) output output' outcome outcome' h h' = once asked output output' outcome outcome' h h'
+answered_once says once (Err refusal) output output' outcome outcome' h h' = (h.0 ∙ sym h'.0, h.1 ∙ sym h'.1)
 
 pub one_answer : HasOneAnswer IsRunOf
-one_answer text output output' outcome outcome' h h' = answered_once (run_asked text) output output' outcome outcome' h h'
+one_answer text output output' outcome outcome' h h' = answered_once SaysRunEnd one_run (run_asked text) output output' outcome outcome' h h'

@@ -1,6 +1,9 @@
+pub mod Answers
 pub mod Device
 pub mod Over
 pub mod RunText
 pub mod Status
 pub mod Stream
 pub mod Laws
+pub mod ValueText
+pub mod Commands

@@ -1,10 +1,10 @@
 -- What `run` answers to a text: the whole run of a layout from the names that are on, or the refusal of the text.
-use Rattle.std.specs.Prelude.{◌≡◌, ℕ, List, [], ◌∷◌, ◌++◌, length, Result, Ok, Err, codes}
+use Rattle.std.specs.Prelude.{◌≡◌, ℕ, List, [], ◌∷◌, ◌++◌, length, Result, codes}
 use Rattle.std.specs.List.{flat_map}
 use Rattle.std.specs.Fmt.{decimal, signed_decimal}
-use Rattle.section_text.specs.Words.{lines_of, rest_of}
+use Rattle.section_text.specs.Words.{lines_of}
 use Rattle.section_text.specs.Spelling.{line_text}
-use Rattle.section_text.specs.Sections.{section_then, finished}
+use Rattle.section_text.specs.Sections.{section_then}
 use Rattle.section_text.specs.declared.fault.Refusal.{Refusal}
 use Rattle.section_text.specs.declared.ports.PortNames.TheVariants.{Any}
 use Rattle.bbm_rule.specs.declared.block.Cell.{Cell}
@@ -16,10 +16,10 @@ use Rattle.pattern.specs.declared.run.RunEnd.TheVariants.{Cells, LeftAt}
 use Rattle.pattern.specs.Layout.{Pattern}
 use Rattle.pattern.specs.Lines.{has}
 use Rattle.pattern.specs.Grammars.{layout_grammar, layout_value}
-use Rattle.pattern.specs.Assign.{assign_grammar}
 use Rattle.pattern.specs.Run.{IsRunEnd}
 use Rattle.check_main.specs.declared.outcome.Outcome.{Outcome}
-use Rattle.check_main.specs.declared.outcome.Outcome.TheVariants.{Yes, No, Refused}
+use Rattle.check_main.specs.declared.outcome.Outcome.TheVariants.{Yes, No}
+use Rattle.check_main.specs.Answers.{Answered, names_asked}
 
 -- ---- what is read
 
@@ -32,22 +32,15 @@ in_name (Out p) = []
 in_name (Waste c) = []
 
 -- the lines of a layout, and the names that are on
-abbrev pub Asked : Type 0
-Asked = (Size × List Part) × List (List ℕ)
+abbrev pub RunAsked : Type 0
+RunAsked = (Size × List Part) × List (List ℕ)
 
--- After a layout: an assign section in which the names of its input cells may be on, and nothing more.
-abbrev pub names_asked : List ℕ → Size → List Part → ℕ → List (List ℕ) → Result Asked Refusal
-names_asked text size parts n ahead =
-    section_then (assign_grammar (flat_map in_name parts)) n ahead (λ _ names m rest. finished m rest (rest_of text) ((size, parts), names))
-
--- the whole text
-unfoldable pub run_asked : List ℕ → Result Asked Refusal
-run_asked text = section_then (layout_grammar Any) 0 (lines_of text) (names_asked text)
+-- a layout section, an assign section in which the names of its input cells may be on, and nothing more
+unfoldable pub run_asked : List ℕ → Result RunAsked Refusal
+run_asked text =
+    section_then (layout_grammar Any) 0 (lines_of text) (λ size parts n ahead. names_asked text (size, parts) (flat_map in_name parts) n ahead)
 
 -- ---- what is written
-
-abbrev pub refusal_line : Refusal → List ℕ
-refusal_line r = line_text (codes "refused") (decimal r.line ∷ decimal r.code ∷ [])
 
 abbrev pub cell_line : Cell → List ℕ
 cell_line c = line_text (signed_decimal c.x) (signed_decimal c.y ∷ [])
@@ -61,7 +54,7 @@ end_outcome (Cells cells) = Yes
 end_outcome (LeftAt k) = No
 
 -- the layout of these lines was run with these names on, and this says how it ended
-pub record SaysRunEnd (asked : Asked) (output : List ℕ) (outcome : Outcome) : Type 0 where
+pub record SaysRunEnd (asked : RunAsked) (output : List ℕ) (outcome : Outcome) : Type 0 where
   pub layout : Pattern
   pub end : RunEnd
   pub lines : layout_value layout ≡ asked.0
@@ -69,10 +62,6 @@ pub record SaysRunEnd (asked : Asked) (output : List ℕ) (outcome : Outcome) : 
   pub says : output ≡ end_text end
   pub ends : outcome ≡ end_outcome end
 
-abbrev pub Answered : Result Asked Refusal → List ℕ → Outcome → Type 0
-Answered (Ok asked) output outcome = SaysRunEnd asked output outcome
-Answered (Err refusal) output outcome = (output ≡ refusal_line refusal) × (outcome ≡ Refused)
-
 -- what `run` writes for a text, and how it ends
 abbrev pub IsRunOf : List ℕ → List ℕ → Outcome → Type 0
-IsRunOf text output outcome = Answered (run_asked text) output outcome
+IsRunOf text output outcome = Answered SaysRunEnd (run_asked text) output outcome

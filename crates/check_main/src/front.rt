@@ -1,12 +1,12 @@
 //! The whole program, over the words and the streams that it is given.
 ghost use Rattle.std.specs.Prelude.{◌≡◌, ◌≢◌, ◌≤◌, ◌⊎◌, false, true, IfOk, IfErr, IsErrOf, OnOk, map};
 ghost use Rattle.clap.specs.Words.{kind_of};
-ghost use Rattle.command_line.specs.CommandLine.{IsAccepted, AsksForHelp};
-ghost use Rattle.check_main.specs.RunText.{IsRunOf};
+ghost use Rattle.command_line.specs.CommandLine.{IsAccepted, AsksForHelp, asked_by};
+ghost use Rattle.check_main.specs.Commands.{IsAnswerTo};
 ghost use Rattle.check_main.specs.Status.{status_for, line_for, Says};
 ghost use Rattle.check_main.specs.Stream.{Answers, BreaksOff, GivesTooMuch};
 
-use crate::stream::{run_stream, write_whole};
+use crate::stream::{run_stream, value_stream, write_whole};
 use crate::{CheckFault, Outcome, Sink, Source};
 use clap::Error;
 use clap::error::ErrorKind;
@@ -53,13 +53,16 @@ pub fn program<'a, R: Source, W: Sink, E: Sink>(
         AsksForHelp (map (λ s. s.now) words.entry.now) }
 
     ensures yes { IsAccepted (map (λ s. s.now) words.entry.now) → result ≡ 0
-        → Answers IsRunOf (R.left reader.old) (R.left reader.new)
+        → Answers (IsAnswerTo (asked_by (map (λ s. s.now) words.entry.now)))
+        (R.left reader.old) (R.left reader.new)
         (W.held writer.old) (W.held writer.new) Outcome.Yes }
 
-    ensures no { result ≡ 1 → Answers IsRunOf (R.left reader.old) (R.left reader.new)
+    ensures no { result ≡ 1 → Answers (IsAnswerTo (asked_by (map (λ s. s.now) words.entry.now)))
+        (R.left reader.old) (R.left reader.new)
         (W.held writer.old) (W.held writer.new) Outcome.No }
     ensures words { result ≡ 2 → (reader.new ≡ reader.old) × (writer.new ≡ writer.old) }
-    ensures refused { result ≡ 3 → Answers IsRunOf (R.left reader.old) (R.left reader.new)
+    ensures refused { result ≡ 3 → Answers (IsAnswerTo (asked_by (map (λ s. s.now) words.entry.now)))
+        (R.left reader.old) (R.left reader.new)
         (W.held writer.old) (W.held writer.new) Outcome.Refused }
     // Each fault comes only where it is one, and its line is said.
     ensures device { result ≡ 4 →
@@ -74,7 +77,8 @@ pub fn program<'a, R: Source, W: Sink, E: Sink>(
 
     ensures prefix { IsAccepted (map (λ s. s.now) words.entry.now)
         → result ≡ 4 → W.has_failed writer.new ≡ true
-        → BreaksOff IsRunOf (R.left reader.old) (R.left reader.new)
+        → BreaksOff (IsAnswerTo (asked_by (map (λ s. s.now) words.entry.now)))
+        (R.left reader.old) (R.left reader.new)
         (W.held writer.old) (W.held writer.new) }
 
     ensures not_decided { result ≡ 5 → (writer.new ≡ writer.old)
@@ -101,7 +105,7 @@ fn serve<R: Source, W: Sink>(
 ) -> Result<Outcome, CheckFault>
     requires reader_works { R.has_failed reader.old ≡ false }
     requires writer_works { W.has_failed writer.old ≡ false }
-    ensures answered { IfOk result (Answers IsRunOf (R.left reader.old) (R.left reader.new)
+    ensures answered { IfOk result (Answers (IsAnswerTo request) (R.left reader.old) (R.left reader.new)
         (W.held writer.old) (W.held writer.new)) }
     ensures works { OnOk result (W.has_failed writer.new ≡ false) }
     ensures read { IsErrOf result CheckFault.Read → R.has_failed reader.new ≡ true }
@@ -109,12 +113,13 @@ fn serve<R: Source, W: Sink>(
         GivesTooMuch (R.left reader.old) (R.left reader.new) }
     ensures write { IsErrOf result CheckFault.Write → W.has_failed writer.new ≡ true }
     ensures prefix { IsErrOf result CheckFault.Write →
-        BreaksOff IsRunOf (R.left reader.old) (R.left reader.new)
+        BreaksOff (IsAnswerTo request) (R.left reader.old) (R.left reader.new)
         (W.held writer.old) (W.held writer.new) }
     ensures unwritten { IfErr result (λ fault. fault ≢ CheckFault.Write → writer.new ≡ writer.old) }
 {
     match request {
         Request::Run => run_stream(alloc, reader, writer),
+        Request::Value => value_stream(alloc, reader, writer),
     }
 }
 

@@ -1,6 +1,7 @@
 //! The commands and the whole program, over any reader and any writer.
 #![tactic(auto)]
 
+mod asking;
 mod device;
 mod fault;
 mod front;
@@ -8,12 +9,13 @@ pub mod laws;
 mod outcome;
 mod run;
 mod stream;
+mod value;
 
 pub use device::{Over, Sink, Source};
 pub use fault::CheckFault;
 pub use front::program;
 pub use outcome::Outcome;
-pub use stream::run_stream;
+pub use stream::{run_stream, value_stream};
 
 #[cfg(test)]
 mod tests;

@@ -2,17 +2,16 @@
 ghost use Rattle.std.specs.Prelude.{◌≡◌, ◌++◌, [], ◌∷◌, true, None, IfOk, OnOk, codes, length, map};
 ghost use Rattle.std.specs.Fmt.{decimal};
 ghost use Rattle.std.specs.List.{flat_map};
-ghost use Rattle.section_text.specs.FeedState.{ahead};
 ghost use Rattle.section_text.specs.Section.{Gives};
 ghost use Rattle.section_text.specs.Spelling.{line_text};
 ghost use Rattle.pattern.specs.Grammars.{layout_value};
-ghost use Rattle.pattern.specs.Lines.{parts_of};
-ghost use Rattle.check_main.specs.RunText.{IsRunOf, SaysRunEnd, cell_line, end_outcome, end_text, names_asked, refusal_line, run_asked};
+ghost use Rattle.check_main.specs.RunText.{IsRunOf, SaysRunEnd, cell_line, end_outcome, end_text, run_asked};
 
+use crate::asking::{read_names, refusal_text};
 use crate::outcome::{Answered, Outcome};
 use bbm_rule::Cell;
-use pattern::{Layout, RunEnd, read_assign, read_layout, run_plain};
-use section_text::{Feed, Name, PortNames, ReadFault, Refusal};
+use pattern::{Layout, RunEnd, read_layout, run_plain};
+use section_text::{Feed, Name, PortNames, ReadFault};
 use std::alloc::{AllocError, Global};
 
 // The names of the input cells.
@@ -22,29 +21,6 @@ fn in_names(alloc: Global, layout: &Layout) -> Result<Vec<Name>, AllocError>
     layout.ins().iter().map(|port| port.name).collect(alloc)
 }
 
-// Reads the names that are on, and the end of the text.
-fn read_names(
-    alloc: Global,
-    feed: &mut Feed,
-    layout: Layout,
-) -> Result<(Layout, Vec<Name>), ReadFault>
-    requires closed { feed.old.closed ≡ true }
-    requires going { feed.old.stop ≡ None }
-    ensures { Gives (λ asked. (layout_value asked.0, asked.1.items)) result
-        (names_asked feed.old.text layout.size (parts_of layout) feed.old.taken (ahead feed.old)) }
-{
-    let Ok(ins) = in_names(alloc, &layout) else {
-        return Err(ReadFault::Memory);
-    };
-    match read_assign(alloc, feed, &ins) {
-        Err(fault) => Err(fault),
-        Ok(on) => match feed.finish() {
-            Err(fault) => Err(fault),
-            Ok(()) => Ok((layout, on)),
-        },
-    }
-}
-
 // Reads a layout, the names that are on, and the end of the text.
 fn read_asked(alloc: Global, feed: &mut Feed) -> Result<(Layout, Vec<Name>), ReadFault>
     requires closed { feed.old.closed ≡ true }
@@ -52,17 +28,17 @@ fn read_asked(alloc: Global, feed: &mut Feed) -> Result<(Layout, Vec<Name>), Rea
     requires going { feed.old.stop ≡ None }
     ensures { Gives (λ asked. (layout_value asked.0, asked.1.items)) result (run_asked feed.old.text) }
 {
-    match read_layout(alloc, feed, &PortNames::Any) {
+    let layout = match read_layout(alloc, feed, &PortNames::Any) {
+        Err(fault) => return Err(fault),
+        Ok(layout) => layout,
+    };
+    let Ok(ins) = in_names(alloc, &layout) else {
+        return Err(ReadFault::Memory);
+    };
+    match read_names(alloc, feed, &ins) {
         Err(fault) => Err(fault),
-        Ok(layout) => read_names(alloc, feed, layout),
+        Ok(on) => Ok((layout, on)),
     }
-}
-
-fn refusal_text(alloc: Global, refusal: Refusal) -> Result<Vec<u8>, AllocError>
-    ensures { IfOk result (λ text. text.items ≡ refusal_line refusal) }
-{
-    let line = format!(in alloc; "refused {} {}\n", refusal.line, refusal.code)?;
-    Ok(line.into_bytes())
 }
 
 fn print_cell(alloc: Global, out: &mut Vec<u8>, cell: Cell) -> Result<(), AllocError>

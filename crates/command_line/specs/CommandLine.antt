@@ -1,15 +1,26 @@
 -- The command line, as clap's definitions see it.
-use Rattle.std.specs.Prelude.{◌≡◌, ◌⊎◌, List, [], true, codes}
-use Rattle.clap.specs.Words.{App, IsAmong, Text, fault_of, new_app, with_subcommand}
+use Rattle.std.specs.Prelude.{◌≡◌, ◌⊎◌, List, [], true, codes, if◌then◌else◌}
+use Rattle.std.specs.Option.{option_map_or}
+use Rattle.std.specs.Str.{bytes_eq}
+use Rattle.clap.specs.Words.{App, IsAmong, Text, fault_of, new_app, subcommand_of, with_subcommand}
 use Rattle.clap.specs.Simple.{on_top}
 use Rattle.clap.specs.declared.error.kind.ErrorKind.TheVariants as kind
+use Rattle.command_line.specs.declared.Request.{Request}
+use Rattle.command_line.specs.declared.Request.TheVariants.{Run, Value}
 
 abbrev pub top_app : App
 top_app = on_top (λ s. record s { no_binary_name = true; subcommand_required = true }) (new_app (codes "bbmcheck"))
 
--- one command, without options
+-- the commands, which have no options
 abbrev pub bbmcheck : App
-bbmcheck = with_subcommand top_app (new_app (codes "run")).top
+bbmcheck = with_subcommand (with_subcommand top_app (new_app (codes "run")).top) (new_app (codes "value")).top
+
+abbrev pub request_named : Text → Request
+request_named name = if bytes_eq name (codes "value") then Value else Run
+
+-- the command that the words name
+abbrev pub asked_by : List Text → Request
+asked_by words = option_map_or (λ p. request_named p.0) (subcommand_of bbmcheck words) Run
 
 -- nothing is wrong with the words, and they ask for no help
 abbrev pub IsAccepted : List Text → Type 0

@@ -4,7 +4,7 @@
 ghost use Rattle.std.specs.Prelude.{◌≡◌, IfOk, map, false};
 ghost use Rattle.clap.specs.Words.{FailsBy, app_of, fault_of, new_app};
 ghost use Rattle.clap.specs.declared.builder.command.Command.TheViews.{out-Command as fields_of};
-ghost use Rattle.command_line.specs.CommandLine.{bbmcheck, top_app};
+ghost use Rattle.command_line.specs.CommandLine.{asked_by, bbmcheck, top_app};
 
 use clap::{Command, Error};
 use std::alloc::{AllocError, Global};
@@ -14,21 +14,30 @@ use std::alloc::{AllocError, Global};
 pub enum Request {
     /// Runs a layout under an assignment.
     Run,
+    /// Evaluates a circuit under an assignment.
+    Value,
 }
 
 /// Reads the words after the program's name, of which the first is the command. The error is `clap`'s: it
 /// says what is wrong with the words, or has the text of the help that they ask for.
 pub fn read_words<'a>(alloc: Global, words: &'a [&'a str]) -> Result<Request, Error>
-    ensures { FailsBy (fault_of bbmcheck (map (λ s. s.now) words.entry.now)) result }
+    ensures request { IfOk result (λ request. request ≡ asked_by (map (λ s. s.now) words.entry.now)) }
+    ensures fails { FailsBy (fault_of bbmcheck (map (λ s. s.now) words.entry.now)) result }
 {
-    command(alloc)?.try_get_matches_from(words)?;
-    Ok(Request::Run)
+    let matches = command(alloc)?.try_get_matches_from(words)?;
+    let request = match matches.subcommand_name() {
+        Some("value") => Request::Value,
+        _ => Request::Run,
+    };
+    Ok(request)
 }
 
 fn command<'a>(alloc: Global) -> Result<Command<'a>, AllocError>
     ensures { IfOk result (λ command. app_of command ≡ bbmcheck) }
 {
-    top(alloc)?.subcommand(plain(alloc, "run", "Runs a layout under an assignment"))
+    top(alloc)?
+        .subcommand(plain(alloc, "run", "Runs a layout under an assignment"))?
+        .subcommand(plain(alloc, "value", "Evaluates a circuit under an assignment"))
 }
 
 // The command line without its commands.
@@ -66,7 +75,8 @@ mod tests {
     fn reads_the_command(rt: HostRuntime) -> Result<(), Fail> {
         assert!(rt; read_words(rt.alloc(), &["run"])? == Request::Run);
         assert!(rt; kind_of(rt.alloc(), &[]) == Some(ErrorKind::MissingSubcommand));
-        assert!(rt; kind_of(rt.alloc(), &["value"]) == Some(ErrorKind::InvalidSubcommand));
+        assert!(rt; read_words(rt.alloc(), &["value"])? == Request::Value);
+        assert!(rt; kind_of(rt.alloc(), &["check"]) == Some(ErrorKind::InvalidSubcommand));
         assert!(rt; kind_of(rt.alloc(), &["run", "x"]) == Some(ErrorKind::UnknownArgument));
         assert!(rt; kind_of(rt.alloc(), &["--help"]) == Some(ErrorKind::DisplayHelp));
         Ok(())

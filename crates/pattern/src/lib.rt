@@ -7,6 +7,7 @@ mod form;
 pub mod laws;
 mod layout;
 mod names;
+mod on;
 mod parts;
 mod printing;
 mod reading;
@@ -16,6 +17,7 @@ mod taken;
 
 pub use assign::read_assign;
 pub use layout::Layout;
+pub use on::are_on;
 pub use parts::{Part, Port, Rectangle, Size};
 pub use printing::print_layout;
 pub use reading::read_layout;

@@ -7,4 +7,5 @@ use Rattle.command_line.proofs.command.Goals as goal
 pub returns : goal.returns
 returns c =
     let shape : App → Shape = λ a. a.top in
-    IfOk-weaker c.subcommand.result _ _ (λ r h. h.shape c.plain.ensures.local ∙ ap₂ with_subcommand c.in_ok-top.ensures.app (ap shape c.plain.ensures.app)) c.subcommand.ensures
+    let one = c.in_ok-subcommand.ensures.shape c.plain.ensures.local ∙ ap₂ with_subcommand c.in_ok-top.ensures.app (ap shape c.plain.ensures.app) in
+    IfOk-weaker c.subcommand-2.result _ _ (λ r h. h.shape c.plain-2.ensures.local ∙ ap₂ with_subcommand one (ap shape c.plain-2.ensures.app)) c.subcommand-2.ensures

@@ -9,6 +9,6 @@ is_free : is_simple_and_free bbmcheck ≡ true
 unfolding clap_on_literals
 is_free = refl
 
-pub returns : goal.returns
-returns c =
-    sym (ap₂ fault_of c.in_ok-command.ensures refl) ∙ c.in_ok-try_get_matches_from.ensures.kinds (ap is_simple_and_free c.in_ok-command.ensures ∙ is_free)
+pub returns-clause-fails : goal.returns-clause-fails
+returns-clause-fails c =
+    sym (ap₂ fault_of c.in_ok-command.ensures refl) ∙ c.in_ok-matches.ensures.kinds (ap is_simple_and_free c.in_ok-command.ensures ∙ is_free)

@@ -1,16 +1,34 @@
--- The layout, and what comes after it.
-use Rattle.std.proofs.Common.{◌≡◌, ℕ, List, None, sym, ap, subst, ◌∙◌, refl}
-use Rattle.section_text.specs.FeedState.{FeedState, ahead}
-use Rattle.section_text.specs.Section.{Fails, Gives}
+-- The layout, the names that are on, and the end of the text.
+use Rattle.std.proofs.Common.{ℕ, List, sym, ◌∙◌}
+use Rattle.std.specs.List.{flat_map}
 use Rattle.section_text.specs.declared.ports.PortNames.TheVariants.{Any}
+use Rattle.pattern.specs.declared.parts.Part.{Part}
+use Rattle.pattern.specs.declared.parts.Size.{Size}
 use Rattle.pattern.specs.Layout.{Pattern}
 use Rattle.pattern.specs.Grammars.{layout_grammar, layout_value}
-use Rattle.check_main.specs.RunText.{run_asked, names_asked}
-use Rattle.check_main.proofs.Asking.{layout_failed, layout_read, gives_along}
+use Rattle.check_main.specs.RunText.{in_name, run_asked}
+use Rattle.check_main.proofs.AskedLemmas.{first_failed, then_failed, then_read}
+use Rattle.check_main.proofs.InNames.{in_names_are}
 use Rattle.check_main.proofs.run.read_asked.Goals as goal
 
-pub returns-in-Err : goal.returns-in-Err
-returns-in-Err c = layout_failed c.args.feed.now c.read_layout.new.feed c.requires.unread c.requires.going c.in-Err.fault c.in-Err.ensures.reads
+lines : Size → List Part → Size × List Part
+lines size parts = (size, parts)
 
-pub returns-in-Ok : goal.returns-in-Ok
-returns-in-Ok c = gives_along _ c.read_names.result (run_asked c.args.feed.now.text) _ (layout_read c.args.feed.now c.read_layout.new.feed c.requires.unread c.requires.going c.in-Ok.layout c.in-Ok.ensures.reads) c.read_names.ensures
+names : Size → List Part → List (List ℕ)
+names size parts = flat_map in_name parts
+
+pub returns-in-Err : goal.returns-in-Err
+unfolding run_asked lines names
+returns-in-Err c = first_failed {A = Pattern} (layout_grammar Any) layout_value lines names c.args.feed.now c.read_layout.new.feed c.requires.unread c.requires.going c.in-Err.fault c.in-Err.ensures.reads
+
+pub returns-in-Err-read_names : goal.returns-in-Err-read_names
+unfolding run_asked lines names
+returns-in-Err-read_names c =
+    then_failed {A = Pattern} (layout_grammar Any) layout_value lines names c.args.feed.now c.read_layout.new.feed c.requires.unread c.requires.going c.in-Ok.layout c.deref.result.now c.in-Err-read_names.fault c.in-Ok.ensures.reads
+        (c.deref.ensures.value ∙ c.in-Ok-in_names.ensures ∙ sym (in_names_are c.in-Ok.layout)) c.in-Err-read_names.ensures
+
+pub returns-in-Ok-read_names : goal.returns-in-Ok-read_names
+unfolding run_asked lines names
+returns-in-Ok-read_names c =
+    then_read {A = Pattern} (layout_grammar Any) layout_value lines names c.args.feed.now c.read_layout.new.feed c.requires.unread c.requires.going c.in-Ok.layout c.deref.result.now c.in-Ok-read_names.on.items c.in-Ok.ensures.reads
+        (c.deref.ensures.value ∙ c.in-Ok-in_names.ensures ∙ sym (in_names_are c.in-Ok.layout)) c.in-Ok-read_names.ensures

@@ -1,0 +1,12 @@
+pub mod Orders
+pub mod Spelling
+pub mod RoundTrip
+pub mod Places
+pub mod Bridging
+pub mod Naming
+pub mod Valuations
+pub mod Loops
+pub mod Drafts
+pub mod Fitting
+pub mod Values
+pub mod Counting

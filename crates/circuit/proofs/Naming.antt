@@ -1,0 +1,184 @@
+-- The names of wires.
+use Rattle.std.proofs.Common.{◌≡◌, ℕ, zero, suc, ◌+◌, ◌<◌, ◌≤◌, ◌||◌, Bool, true, false, cond, List, [], ◌∷◌, ◌++◌, length, take, Option, Some, None, refl, sym, ap, subst, ◌∙◌, arith, inl, inr, append_assoc, length-append}
+use Rattle.std.specs.Prelude.{option_map, slice_get}
+use Rattle.std.specs.List.{position}
+use Rattle.std.specs.Str.{bytes_eq}
+use Rattle.std.proofs.lemmas.List.{append-nil}
+use Rattle.std.proofs.lemmas.List.Sums.{sum_by-cons}
+use Rattle.std.proofs.lemmas.Bool.{cases_Bool, cases_lt, le-ltb}
+use Rattle.std.proofs.lemmas.List.Folds.{list_any-append}
+use Rattle.circuit.specs.declared.entry.Kind.{Kind}
+use Rattle.circuit.specs.declared.entry.Kind.TheVariants.{Input, Output, Spill}
+use Rattle.circuit.specs.declared.entry.Kind.TheVariants.{Gate as GateLine}
+use Rattle.circuit.specs.declared.entry.Entry.{Entry}
+use Rattle.circuit.specs.Gates.{rule_of, defines}
+use Rattle.circuit.specs.Rules.{defined, has, define, gate_count, is_gate}
+use Rattle.circuit.specs.Meaning.{Gate, place_of, wires_after}
+use Rattle.circuit.specs.Bridge.{number, is_input, input_count, input_names, gate_in, gates_of, FitsKind, AreGoodAfter}
+use Rattle.circuit.specs.Laws.{WiresAreNamed, NamesAreOwn, InputsAreFirst}
+use Rattle.circuit.proofs.Places.{has_front, has_left, number_left, number_new, bytes_same, position_number, look_up}
+use Rattle.circuit.proofs.Bridging.{names_pass, define_first, defined_push, push_cons, input_cons, count_append, no_inputs}
+
+-- ---- the place of a name, and its number
+
+place_number : (d : List (List ℕ)) (n : List ℕ) → place_of n d ≡ cond (has d n) (Some (number d n)) None
+unfolding place_of number
+place_number [] n = refl
+place_number (m ∷ ms) n = elim (cases_Bool (bytes_eq n m)) [
+  | inl e ↦ rw e refl
+  | inr e ↦ rw e (ap (option_map (λ i. i + 1)) (place_number ms n) ∙ mapped (has ms n) (number ms n))
+]
+  where
+    mapped : (b : Bool) (k : ℕ) → option_map (λ i. i + 1) (cond b (Some k) None) ≡ cond b (Some (k + 1)) None
+    mapped true k = refl
+    mapped false k = refl
+
+absent_length : (d : List (List ℕ)) (n : List ℕ) → has d n ≡ false → length d ≤ number d n
+unfolding number
+absent_length [] n h = omega arith
+absent_length (m ∷ ms) n h = elim (cases_Bool (bytes_eq n m)) [
+  | inl e ↦ absurd (clash m n ms e h)
+  | inr e ↦ let i = absent_length ms n (sym (has_front m n ms e) ∙ h) in rw e (omega (arith, i))
+]
+  where
+    clash : (m n : List ℕ) (ms : List (List ℕ)) → bytes_eq n m ≡ true → has (m ∷ ms) n ≡ false → ⊥
+    clash m n ms t h = cc (rw t at h)
+
+pub place_position : (d : List (List ℕ)) (n : List ℕ) → place_of n d ≡ position (bytes_eq n) d
+place_position d n = elim (cases_Bool (has d n)) [
+  | inl h ↦ place_number d n ∙ ap (λ b. cond b (Some (number d n)) None) h ∙ sym (position_number d n h)
+  | inr h ↦ place_number d n ∙ ap (λ b. cond b (Some (number d n)) None) h
+      ∙ sym (look_up d n ∙ ap (λ b. cond b (Some (number d n)) None) (le-ltb _ _ (absent_length d n h)))
+]
+
+-- ---- each wire has a name
+
+wires_line : (names : List (List ℕ)) (n : ℕ) (kind : Kind) (ins outs : List (List ℕ)) (rest : List Entry) → FitsKind (record { kind = kind; ins = ins; outs = outs }) →
+    ((m : ℕ) → wires_after m (gates_of names rest) + input_count rest ≡ m + length (defined rest)) →
+    wires_after n (gate_in names ins outs kind ++ gates_of names rest) + input_count (record { kind = kind; ins = ins; outs = outs } ∷ rest) ≡ n + length (outs ++ defined rest)
+unfolding wires_after
+wires_line names n Input ins outs rest fits more =
+    omega (arith, input_cons (record { kind = Input; ins = ins; outs = outs }) rest, length-append outs (defined rest), fits.1, more n)
+wires_line names n (GateLine k) ins outs rest fits more =
+    omega (arith, input_cons (record { kind = GateLine k; ins = ins; outs = outs }) rest, length-append outs (defined rest), fits.1, more (n + defines (rule_of k)))
+wires_line names n Output ins outs rest fits more =
+    omega (arith, input_cons (record { kind = Output; ins = ins; outs = outs }) rest, length-append outs (defined rest), fits.1, more n)
+wires_line names n Spill ins outs rest fits more =
+    omega (arith, input_cons (record { kind = Spill; ins = ins; outs = outs }) rest, length-append outs (defined rest), fits.1, more n)
+
+wires_more : (names : List (List ℕ)) (n : ℕ) (before rest : List Entry) → AreGoodAfter before rest → wires_after n (gates_of names rest) + input_count rest ≡ n + length (defined rest)
+unfolding AreGoodAfter wires_after
+wires_more names n before [] good = refl
+wires_more names n before (r ∷ rest) good =
+    wires_line names n r.kind r.ins r.outs rest good.0.fits (λ m. wires_more names m (before ++ r ∷ []) rest good.1)
+
+pub wires_are_named : WiresAreNamed
+wires_are_named entries good = let all = wires_more (defined entries) (input_count entries) [] entries good in omega (arith, all)
+
+-- ---- each gate's line has a gate
+
+counted_line : (names : List (List ℕ)) (kind : Kind) (ins outs : List (List ℕ)) (gates : List Gate) → length (gate_in names ins outs kind ++ gates) ≡ cond (is_gate kind) 1 0 + length gates
+counted_line names Input ins outs gates = omega arith
+counted_line names (GateLine k) ins outs gates = omega arith
+counted_line names Output ins outs gates = omega arith
+counted_line names Spill ins outs gates = omega arith
+
+pub gates_counted : (names : List (List ℕ)) (entries : List Entry) → length (gates_of names entries) ≡ gate_count entries
+gates_counted names [] = refl
+gates_counted names (r ∷ entries) =
+    let more : gate_count (r ∷ entries) ≡ cond (is_gate r.kind) 1 0 + gate_count entries = sum_by-cons (λ (r : Entry). cond (is_gate r.kind) 1 0) r entries in
+    counted_line names r.kind r.ins r.outs (gates_of names entries) ∙ ap (λ n. cond (is_gate r.kind) 1 0 + n) (gates_counted names entries) ∙ sym more
+
+-- ---- the inputs are the first wires
+
+no_names : (rest : List Entry) → input_count rest ≡ 0 → input_names rest ≡ []
+no_names [] e = refl
+no_names (r ∷ rest) e = elim (cases_Bool (is_input r.kind)) [
+  | inl i ↦ absurd (omega (arith, sym (input_cons r rest) ∙ e, ap {B = ℕ} (λ b. cond b 1 0) i))
+  | inr i ↦ ap (λ b. cond b r.outs [] ++ input_names rest) i ∙ no_names rest (omega (arith, sym (input_cons r rest) ∙ e))
+]
+
+inputs_line : (before rest : List Entry) (kind : Kind) (ins outs : List (List ℕ)) → AreGoodAfter before (record { kind = kind; ins = ins; outs = outs } ∷ rest) →
+    take (input_count rest) (defined rest) ≡ input_names rest →
+    take (input_count (record { kind = kind; ins = ins; outs = outs } ∷ rest)) (outs ++ defined rest) ≡ cond (is_input kind) outs [] ++ input_names rest
+unfolding AreGoodAfter
+inputs_line before rest Input ins [] good same = absurd (omega (arith, good.0.fits.1))
+inputs_line before rest Input ins (n ∷ []) good same =
+    let more : input_count (record { kind = Input; ins = ins; outs = n ∷ [] } ∷ rest) ≡ suc (input_count rest) = input_cons (record { kind = Input; ins = ins; outs = n ∷ [] }) rest ∙ omega arith in
+    ap (λ k. take k (n ∷ defined rest)) more ∙ ap (λ (l : List (List ℕ)). n ∷ l) same
+inputs_line before rest Input ins (n ∷ m ∷ outs) good same = absurd (omega (arith, good.0.fits.1))
+inputs_line before rest (GateLine k) ins outs good same =
+    let r : Entry = record { kind = GateLine k; ins = ins; outs = outs } in
+    let here : gate_count (before ++ r ∷ []) ≡ gate_count before + 1 = count_append (λ (r : Entry). is_gate r.kind) before (r ∷ []) in
+    let none = no_inputs (before ++ r ∷ []) rest good.1 (omega (arith, here)) in
+    let zero_inputs : input_count (r ∷ rest) ≡ 0 = input_cons r rest ∙ omega (arith, none) in
+    ap (λ k. take k (outs ++ defined rest)) zero_inputs ∙ sym (no_names rest none)
+inputs_line before rest Output ins [] good same =
+    let less : input_count (record { kind = Output; ins = ins; outs = [] } ∷ rest) ≡ input_count rest = input_cons (record { kind = Output; ins = ins; outs = [] }) rest ∙ omega arith in
+    ap (λ k. take k (defined rest)) less ∙ same
+inputs_line before rest Output ins (n ∷ outs) good same = absurd (omega (arith, good.0.fits.1))
+inputs_line before rest Spill ins [] good same =
+    let less : input_count (record { kind = Spill; ins = ins; outs = [] } ∷ rest) ≡ input_count rest = input_cons (record { kind = Spill; ins = ins; outs = [] }) rest ∙ omega arith in
+    ap (λ k. take k (defined rest)) less ∙ same
+inputs_line before rest Spill ins (n ∷ outs) good same = absurd (omega (arith, good.0.fits.1))
+
+inputs_lead : (before rest : List Entry) → AreGoodAfter before rest → take (input_count rest) (defined rest) ≡ input_names rest
+unfolding AreGoodAfter
+inputs_lead before [] good = refl
+inputs_lead before (r ∷ rest) good = inputs_line before rest r.kind r.ins r.outs good (inputs_lead (before ++ r ∷ []) rest good.1)
+
+pub inputs_are_first : InputsAreFirst
+inputs_are_first entries good = inputs_lead [] entries good
+
+-- ---- each wire has a name of its own
+
+abbrev AreOwn : List (List ℕ) → Type 0
+AreOwn d = (w : ℕ) (n : List ℕ) → slice_get d w ≡ Some n → (number d n ≡ w) × (has d n ≡ true)
+
+slice_left : (d e : List (List ℕ)) (w : ℕ) → w < length d → slice_get (d ++ e) w ≡ slice_get d w
+slice_left [] e w h = absurd (omega arith)
+slice_left (m ∷ d) e zero h = refl
+slice_left (m ∷ d) e (suc w) h = slice_left d e w (omega arith)
+
+slice_last : (d : List (List ℕ)) (n m : List ℕ) (w : ℕ) → length d ≤ w → slice_get (d ++ n ∷ []) w ≡ Some m → (n ≡ m) × (length d ≡ w)
+slice_last [] n m zero h at = (is n m at, refl)
+  where
+    is : (x y : List ℕ) → ◌≡◌ {A = Option (List ℕ)} (Some x) (Some y) → x ≡ y
+    is x y e = cc
+slice_last [] n m (suc w) h at = absurd cc
+slice_last (k ∷ d) n m zero h at = absurd (omega arith)
+slice_last (k ∷ d) n m (suc w) h at = let r = slice_last d n m w (omega arith) at in (r.0, omega (arith, r.1))
+
+own_push : (d : List (List ℕ)) (n : List ℕ) → AreOwn d → has d n ≡ false → AreOwn (d ++ n ∷ [])
+own_push d n own new w m at = elim (cases_lt w (length d)) [
+  | inl small ↦
+      let o = own w m (sym (slice_left d (n ∷ []) w small) ∙ at) in
+      (number_left d (n ∷ []) m o.1 ∙ o.0, has_left d (n ∷ []) m o.1)
+  | inr large ↦
+      let last = slice_last d n m w large at in
+      subst (λ (k : List ℕ). (number (d ++ n ∷ []) k ≡ w) × (has (d ++ n ∷ []) k ≡ true)) last.0
+      (number_new d [] n new (bytes_same n) ∙ last.1, rw (list_any-append (bytes_eq n) d (n ∷ []), bytes_same n) (or_true (has d n)))
+]
+  where
+    or_true : (b : Bool) → (b || true) ≡ true
+    or_true true = refl
+    or_true false = refl
+
+own_all : (d ns : List (List ℕ)) → AreOwn d → define d ns ≡ None → AreOwn (d ++ ns)
+own_all d [] own h = subst AreOwn (sym (append-nil d)) own
+own_all d (n ∷ ns) own h =
+    let first = define_first d n ns h in
+    subst AreOwn (append_assoc d (n ∷ []) ns) (own_all (d ++ n ∷ []) ns (own_push d n own first.0) first.1)
+
+own_good : (before rest : List Entry) → AreGoodAfter before rest → AreOwn (defined before) → AreOwn (defined (before ++ rest))
+unfolding AreGoodAfter
+own_good before [] good own = subst (λ (l : List Entry). AreOwn (defined l)) (sym (append-nil before)) own
+own_good before (r ∷ rest) good own =
+    let pass = names_pass before r good.0.adds in
+    let here : AreOwn (defined (before ++ r ∷ [])) = subst AreOwn (sym (defined_push before r)) (own_all (defined before) r.outs own pass.1) in
+    subst (λ (l : List Entry). AreOwn (defined l)) (push_cons before r rest) (own_good (before ++ r ∷ []) rest good.1 here)
+
+pub names_are_own : NamesAreOwn
+names_are_own entries w name good at =
+    let own = own_good [] entries good (λ w n at. absurd cc) w name at in
+    place_number (defined entries) name ∙ ap (λ b. cond b (Some (number (defined entries) name)) None) own.1 ∙ ap (λ (k : ℕ). Some k) own.0

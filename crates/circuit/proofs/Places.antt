@@ -1,0 +1,135 @@
+-- The places of names.
+use Rattle.std.proofs.Common.{◌≡◌, ℕ, zero, suc, ◌+◌, ◌<◌, ◌≤◌, Bool, true, false, cond, List, [], ◌∷◌, ◌++◌, map, length, Option, Some, None, refl, sym, ap, ap₂, ◌∙◌, arith, inl, inr}
+use Rattle.std.specs.List.{All, position, position_or_len}
+use Rattle.std.specs.Str.{bytes_eq}
+use Rattle.std.proofs.lemmas.Bool.{cond-true, cases_Bool, true≢false, lt-ltb, ltb-false}
+use Rattle.std.proofs.lemmas.List.Recursion.{is_position_or_len}
+use Rattle.std.specs.Prelude.{nat_lt}
+use Rattle.std.specs.Bool.{Decides}
+use Rattle.std.proofs.lemmas.Slice.Eq.{bytes_eq-Decides}
+use Rattle.std.proofs.lemmas.List.Folds.{list_any-append}
+use Rattle.circuit.specs.Rules.{has, consume}
+use Rattle.circuit.specs.Bridge.{number}
+
+-- what has says at the front of a list
+pub has_front : (m n : List ℕ) (ms : List (List ℕ)) → bytes_eq n m ≡ false → has (m ∷ ms) n ≡ has ms n
+has_front m n ms e = rw e refl
+
+pub has_left : (d e : List (List ℕ)) (n : List ℕ) → has d n ≡ true → has (d ++ e) n ≡ true
+has_left d e n h = rw (list_any-append (bytes_eq n) d e, h) refl
+
+pub number_below : (d : List (List ℕ)) (n : List ℕ) → has d n ≡ true → number d n < length d
+unfolding number
+number_below [] n h = absurd (true≢false (sym h))
+number_below (m ∷ ms) n h = elim (cases_Bool (bytes_eq n m)) [
+  | inl e ↦ rw e (omega arith)
+  | inr e ↦ let i = number_below ms n (sym (has_front m n ms e) ∙ h) in rw e (omega arith)
+]
+
+pub number_left : (d e : List (List ℕ)) (n : List ℕ) → has d n ≡ true → number (d ++ e) n ≡ number d n
+unfolding number
+number_left [] e n h = absurd (true≢false (sym h))
+number_left (m ∷ ms) e n h = elim (cases_Bool (bytes_eq n m)) [
+  | inl q ↦ rw q refl
+  | inr q ↦ rw q (ap (λ k. k + 1) (number_left ms e n (sym (has_front m n ms q) ∙ h)))
+]
+
+pub number_new : (d e : List (List ℕ)) (n : List ℕ) → has d n ≡ false → bytes_eq n n ≡ true → number (d ++ n ∷ e) n ≡ length d
+unfolding number
+number_new [] e n h q = rw q refl
+number_new (m ∷ ms) e n h q = elim (cases_Bool (bytes_eq n m)) [
+  | inl t ↦ absurd (clash m n ms t h)
+  | inr t ↦ rw t (ap (λ k. k + 1) (number_new ms e n (sym (has_front m n ms t) ∙ h) q) ∙ omega arith)
+]
+  where
+    clash : (m n : List ℕ) (ms : List (List ℕ)) → bytes_eq n m ≡ true → has (m ∷ ms) n ≡ false → ⊥
+    clash m n ms t h = true≢false (sym (rw t refl) ∙ h)
+
+-- position and number
+number_position : (d : List (List ℕ)) (n : List ℕ) → number d n ≡ position_or_len (bytes_eq n) d
+unfolding number
+number_position d n = is_position_or_len (λ d. number d n) (bytes_eq n) (at_none n) (λ m ms. at_next m ms n) d
+  where
+    at_none : (n : List ℕ) → number [] n ≡ 0
+    at_none n = refl
+
+    at_next : (m : List ℕ) (ms : List (List ℕ)) (n : List ℕ) → number (m ∷ ms) n ≡ cond (bytes_eq n m) 0 (1 + number ms n)
+    at_next m ms n = ap (λ k. cond (bytes_eq n m) 0 k) (omega arith)
+
+pub bytes_same : (n : List ℕ) → bytes_eq n n ≡ true
+bytes_same n = decided (bytes_eq n n) (bytes_eq-Decides n n)
+  where
+    decided : (b : Bool) → Decides b (n ≡ n) → b ≡ true
+    decided true h = refl
+    decided false h = h.1 refl
+
+pub position_number : (d : List (List ℕ)) (n : List ℕ) → has d n ≡ true → position (bytes_eq n) d ≡ Some (number d n)
+position_number d n h =
+    let same = number_position d n in
+    ap (λ k. cond (nat_lt k (length d)) (Some k) None) (sym same) ∙ cond-true _ _ _ (lt-ltb (number d n) (length d) (number_below d n h))
+
+-- ---- names that are there
+abbrev pub Have : List (List ℕ) → List (List ℕ) → Type 0
+Have d [] = Unit {0}
+Have d (n ∷ ns) = (has d n ≡ true) × Have d ns
+
+pub have_left : (d e ns : List (List ℕ)) → Have d ns → Have (d ++ e) ns
+have_left d e [] h = tt
+have_left d e (n ∷ ns) h = (has_left d e n h.0, have_left d e ns h.1)
+
+pub numbers_left : (d e ns : List (List ℕ)) → Have d ns → map (number (d ++ e)) ns ≡ map (number d) ns
+numbers_left d e [] h = refl
+numbers_left d e (n ∷ ns) h = ap₂ (λ x xs. x ∷ xs) (number_left d e n h.0) (numbers_left d e ns h.1)
+
+pub all_cons : {A : Type 0} (P : A → Type 0) (x : A) (xs : List A) → P x → All P xs → All P (x ∷ xs)
+all_cons P x xs p all zero d h = p
+all_cons P x xs p all (suc k) d h = all k d (omega arith)
+
+pub numbers_below : (d ns : List (List ℕ)) → Have d ns → All (λ w. w < length d) (map (number d) ns)
+numbers_below d [] h = λ k e l. absurd (omega arith)
+numbers_below d (n ∷ ns) h = all_cons (λ w. w < length d) (number d n) (map (number d) ns) (number_below d n h.0) (numbers_below d ns h.1)
+
+pub consume_have : (d c ns : List (List ℕ)) → consume d c ns ≡ None → Have d ns
+consume_have d c [] e = tt
+consume_have d c (n ∷ ns) e = elim (cases_Bool (has d n)) [
+  | inl h ↦ elim (cases_Bool (has c n)) [
+    | inl q ↦ absurd (used (rw (h, q) at e))
+    | inr q ↦ (h, consume_have d (c ++ n ∷ []) ns (rw (h, q) at e))
+  ]
+  | inr h ↦ absurd (unknown (rw h at e))
+]
+  where
+    used : ◌≡◌ {A = Option ℕ} (Some 5) None → ⊥
+    used e = cc
+
+    unknown : ◌≡◌ {A = Option ℕ} (Some 3) None → ⊥
+    unknown e = cc
+
+-- ---- what a look-up finds
+number_at_most : (d : List (List ℕ)) (n : List ℕ) → number d n ≤ length d
+unfolding number
+number_at_most [] n = omega arith
+number_at_most (m ∷ ms) n = elim (cases_Bool (bytes_eq n m)) [
+  | inl e ↦ rw e (omega arith)
+  | inr e ↦ let i = number_at_most ms n in rw e (omega arith)
+]
+
+pub look_up : (d : List (List ℕ)) (n : List ℕ) → position (bytes_eq n) d ≡ cond (nat_lt (number d n) (length d)) (Some (number d n)) None
+look_up d n = ap (λ k. cond (nat_lt k (length d)) (Some k) None) (sym (number_position d n))
+
+pub found_number : (d : List (List ℕ)) (n : List ℕ) (i : ℕ) → Some i ≡ position (bytes_eq n) d → i ≡ number d n
+found_number d n i e = found (nat_lt (number d n) (length d)) (number d n) i (e ∙ look_up d n)
+  where
+    found : (b : Bool) (k i : ℕ) → Some i ≡ cond b (Some k) None → i ≡ k
+    found true k i e = cc
+    found false k i e = absurd cc
+
+pub absent_number : (d : List (List ℕ)) (n : List ℕ) → ◌≡◌ {A = Option ℕ} None (position (bytes_eq n) d) → length d ≡ number d n
+absent_number d n e =
+    let most = number_at_most d n in
+    let least = ltb-false (number d n) (length d) (absent (nat_lt (number d n) (length d)) (number d n) (e ∙ look_up d n)) in
+    omega arith
+  where
+    absent : (b : Bool) (k : ℕ) → None ≡ cond b (Some k) None → b ≡ false
+    absent true k e = absurd cc
+    absent false k e = refl

@@ -1,0 +1,22 @@
+-- The circuit section has one text.
+use Rattle.std.proofs.Common.{ℕ, ◌+◌, List, length, drop, ◌∙◌, sym, ap, append_assoc}
+use Rattle.std.specs.List.{flat_map}
+use Rattle.section_text.specs.Words.{lines_of}
+use Rattle.section_text.specs.Section.{section_of}
+use Rattle.section_text.specs.declared.section.Form.TheVariants.{Header, Item, End}
+use Rattle.section_text.proofs.Spelled.{section_text_is}
+use Rattle.section_text.proofs.Again.{section_again, lines_of_lines}
+use Rattle.circuit.specs.Grammars.{circuit_grammar}
+use Rattle.circuit.specs.Text.{circuit_text, form_text}
+use Rattle.circuit.specs.Laws.{PrintsWhatIsRead, ReadsWhatIsPrinted}
+use Rattle.circuit.proofs.Spelling.{form_line}
+
+pub prints_what_is_read : PrintsWhatIsRead
+unfolding circuit_text
+prints_what_is_read n ls entries e = section_text_is circuit_grammar form_text form_line n ls tt entries e ∙ sym (append_assoc (form_text (Header tt)) (flat_map (λ i. form_text (Item i)) entries) (form_text End))
+
+pub reads_what_is_printed : ReadsWhatIsPrinted
+reads_what_is_printed text from n m entries e =
+    let ls = drop from (lines_of text) in
+    let printed = prints_what_is_read n ls entries e in
+    ap (λ (t : List ℕ). section_of circuit_grammar m (lines_of t)) (sym printed) ∙ ap (section_of circuit_grammar m) (lines_of_lines text from (length entries + 2)) ∙ section_again circuit_grammar n m ls tt entries e

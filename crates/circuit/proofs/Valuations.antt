@@ -1,0 +1,153 @@
+-- Gates that are ordered have at most one valuation. Where none is an inverse gate there is one, and `evaluate` finds it.
+use Rattle.std.proofs.Common.{◌≡◌, ℕ, zero, suc, ◌+◌, ◌-◌, ◌<◌, ◌≤◌, Bool, false, List, [], ◌∷◌, ◌++◌, map, get_or, length, Option, Some, refl, sym, ap, ap₂, subst, ◌∙◌, arith, inl, inr, length-append, get_or-append-add}
+use Rattle.std.specs.Prelude.{option_and_then}
+use Rattle.std.specs.List.{All, range_with_len}
+use Rattle.std.proofs.lemmas.List.{length-map, get_or_append_left}
+use Rattle.std.proofs.lemmas.List.FromFn.{get_or-map-range_with_len}
+use Rattle.std.proofs.lemmas.Bool.{cases_lt, true≢false}
+use Rattle.circuit.specs.Gates.{Rule, Source, Fredkin, Cswap, Interact, Switch, Delay, Unswitch, Uninteract, row, uses, defines, is_inverse}
+use Rattle.circuit.specs.Meaning.{Gate, Netlist, Valuation, HasRow, Satisfies, AreOrdered, wires_after, wires, AreForward}
+use Rattle.circuit.specs.Bridge.{read, AreValues}
+use Rattle.circuit.specs.Evaluate.{evaluate}
+use Rattle.circuit.specs.Laws.{HasValuation, HasAtMostOneValuation}
+use Rattle.circuit.proofs.Places.{all_cons}
+
+-- ---- each gate has a row
+len_0 : (xs : List Bool) → length xs ≡ 0 → xs ≡ []
+len_0 [] h = refl
+len_0 (a ∷ xs) h = absurd (omega arith)
+
+len_1 : (xs : List Bool) → length xs ≡ 1 → (a : Bool) × (xs ≡ a ∷ [])
+len_1 [] h = absurd (omega arith)
+len_1 (a ∷ xs) h = (a, ap (λ l. a ∷ l) (len_0 xs (omega arith)))
+
+len_2 : (xs : List Bool) → length xs ≡ 2 → (a b : Bool) × (xs ≡ a ∷ b ∷ [])
+len_2 [] h = absurd (omega arith)
+len_2 (a ∷ xs) h = let r = len_1 xs (omega arith) in (a, r.0, ap (λ l. a ∷ l) r.1)
+
+len_3 : (xs : List Bool) → length xs ≡ 3 → (a b c : Bool) × (xs ≡ a ∷ b ∷ c ∷ [])
+len_3 [] h = absurd (omega arith)
+len_3 (a ∷ xs) h = let r = len_2 xs (omega arith) in (a, r.0, r.1, ap (λ l. a ∷ l) r.2)
+
+abbrev pub RowOf : Rule → List Bool → Type 0
+RowOf kind xs = (r : List Bool) × (row kind xs ≡ Some r) × (length r ≡ defines kind)
+
+pub row_of : (kind : Rule) (xs : List Bool) → is_inverse kind ≡ false → length xs ≡ uses kind → RowOf kind xs
+unfolding row
+row_of (Source b) xs f h = (b ∷ [], ap (row (Source b)) (len_0 xs h), refl)
+row_of Fredkin xs f h = let r = len_3 xs h in (_, ap (row Fredkin) r.3, refl)
+row_of Cswap xs f h = let r = len_3 xs h in (_, ap (row Cswap) r.3, refl)
+row_of Interact xs f h = let r = len_2 xs h in (_, ap (row Interact) r.2, refl)
+row_of Switch xs f h = let r = len_2 xs h in (_, ap (row Switch) r.2, refl)
+row_of (Delay n) xs f h = let r = len_1 xs h in (_, ap (row (Delay n)) r.1, refl)
+row_of Unswitch xs f h = absurd (true≢false f)
+row_of Uninteract xs f h = absurd (true≢false f)
+
+some_same : (x y : List Bool) (o : Option (List Bool)) → o ≡ Some x → o ≡ Some y → x ≡ y
+some_same x y o e f = cc
+
+-- ---- lists
+all_tail : {A : Type 0} (P : A → Type 0) (x : A) (xs : List A) → All P (x ∷ xs) → All P xs
+all_tail P x xs all = λ k d h. all (suc k) d (omega arith)
+
+all_head : {A : Type 0} (P : A → Type 0) (x : A) (xs : List A) → All P (x ∷ xs) → P x
+all_head P x xs all = all 0 x (omega arith)
+
+pub map_below : (n : ℕ) (f g : Valuation) (ws : List ℕ) → All (λ w. w < n) ws → ((w : ℕ) → w < n → f w ≡ g w) → map f ws ≡ map g ws
+map_below n f g [] all same = refl
+map_below n f g (w ∷ ws) all same =
+    ap₂ (λ b bs. b ∷ bs) (same w (all_head (λ w. w < n) w ws all)) (map_below n f g ws (all_tail (λ w. w < n) w ws all) same)
+
+pub map_range : (r : List Bool) (n k : ℕ) (f : Valuation) → length r ≡ k → ((i : ℕ) → i < k → f (n + i) ≡ get_or r i false) → map f (range_with_len n k) ≡ r
+map_range [] n zero f e h = refl
+map_range [] n (suc k) f e h = absurd (omega arith)
+map_range (b ∷ r) n zero f e h = absurd (omega arith)
+map_range (b ∷ r) n (suc k) f e h =
+    ap₂ (λ b bs. b ∷ bs) (ap f (at_0 n) ∙ h 0 (omega arith))
+    (map_range r (n + 1) k f (omega arith) (λ i l. ap f (next n i) ∙ h (suc i) (omega arith)))
+  where
+    at_0 : (n : ℕ) → n ≡ n + 0
+    at_0 n = omega arith
+
+    next : (n i : ℕ) → n + 1 + i ≡ n + suc i
+    next n i = omega arith
+
+-- ---- what is evaluated
+-- the values found begin with those that were there, and each later gate has its row
+record Found (vs : List Bool) (gs : List Gate) (out : List Bool) : Type 0 where
+  all : length out ≡ wires_after (length vs) gs
+  longer : length vs ≤ length out
+  same : (w : ℕ) → w < length vs → read out w ≡ read vs w
+  rows : All (HasRow (read out)) gs
+
+found_all : (vs : List Bool) (gs : List Gate) → AreOrdered (length vs) gs → AreForward gs → (out : List Bool) × (evaluate vs gs ≡ Some out) × Found vs gs out
+unfolding evaluate AreOrdered wires_after
+found_all vs [] ordered forward = (vs, refl, record { all = refl; longer = omega arith; same = λ w h. refl; rows = λ k d h. absurd (omega arith) })
+found_all vs (g ∷ gs) ordered forward =
+    let s = row_of g.kind (map (read vs) g.ins) (all_head (λ g. is_inverse g.kind ≡ false) g gs forward) (length-map g.ins (read vs) ∙ ordered.1) in
+    let total : length (vs ++ s.0) ≡ length vs + defines g.kind = length-append vs s.0 ∙ ap (λ n. length vs + n) s.2 in
+    let more = found_all (vs ++ s.0) gs (subst (λ n. AreOrdered n gs) (sym total) ordered.3) (all_tail (λ g. is_inverse g.kind ≡ false) g gs forward) in
+    let out : List Bool = more.0 in
+    let rest : Found (vs ++ s.0) gs out = more.2 in
+    let below : (w : ℕ) → w < length vs → read out w ≡ read vs w =
+    λ w h. rest.same w (omega (arith, total)) ∙ get_or_append_left vs s.0 false w h in
+    let here : HasRow (read out) g = ap (row g.kind) (map_below (length vs) (read out) (read vs) g.ins ordered.0 below) ∙ s.1
+    ∙ ap Some (sym (ap (map (read out)) ordered.2 ∙ map_range s.0 (length vs) (defines g.kind) (read out) s.2
+    (λ i h. rest.same (length vs + i) (omega (arith, total)) ∙ get_or-append-add vs s.0 i false))) in
+    (out, ap (option_and_then (λ r. evaluate (vs ++ r) gs)) s.1 ∙ more.1, record {
+      all = rest.all ∙ ap (λ n. wires_after n gs) total;
+      longer = omega (arith, total, rest.longer);
+      same = below;
+      rows = all_cons (HasRow (read out)) g gs here rest.rows;
+    })
+
+-- ---- only one
+unique_after : (n : ℕ) (gs : List Gate) (v v' : Valuation) → AreOrdered n gs → All (HasRow v) gs → All (HasRow v') gs →
+    ((w : ℕ) → w < n → v w ≡ v' w) → (w : ℕ) → w < wires_after n gs → v w ≡ v' w
+unfolding AreOrdered wires_after
+unique_after n [] v v' ordered rows rows' same w h = same w h
+unique_after n (g ∷ gs) v v' ordered rows rows' same w h =
+    let ins : map v g.ins ≡ map v' g.ins = map_below n v v' g.ins ordered.0 same in
+    let outs : map v g.outs ≡ map v' g.outs =
+    some_same _ _ (row g.kind (map v g.ins)) (all_head (HasRow v) g gs rows) (ap (row g.kind) ins ∙ all_head (HasRow v') g gs rows') in
+    let range : map v (range_with_len n (defines g.kind)) ≡ map v' (range_with_len n (defines g.kind)) =
+    ap (map v) (sym ordered.2) ∙ outs ∙ ap (map v') ordered.2 in
+    unique_after (n + defines g.kind) gs v v' ordered.3 (all_tail (HasRow v) g gs rows) (all_tail (HasRow v') g gs rows')
+    (λ w l. elim (cases_lt w n) [
+      | inl small ↦ same w small
+      | inr large ↦
+          sym (get_or-map-range_with_len v n (defines g.kind) (w - n) w false (omega arith) (omega arith))
+          ∙ ap (λ bs. get_or bs (w - n) false) range
+          ∙ get_or-map-range_with_len v' n (defines g.kind) (w - n) w false (omega arith) (omega arith)
+    ])
+    w h
+
+pub at_most_one : HasAtMostOneValuation
+at_most_one n a v v' ordered s s' w h =
+    unique_after n.given n.gates v v' ordered s.rows s'.rows (λ i l. s.given i l ∙ sym (s'.given i l)) w h
+
+some_is : (x y : List Bool) → Some x ≡ Some y → x ≡ y
+some_is x y e = cc
+
+-- what is evaluated are the values
+pub evaluated : (n : Netlist) (a : Valuation) (given vs : List Bool) → AreOrdered n.given n.gates → AreForward n.gates → length given ≡ n.given → ((i : ℕ) → i < n.given → read given i ≡ a i) →
+    evaluate given n.gates ≡ Some vs → AreValues n a vs
+evaluated n a given vs ordered forward len same e =
+    let found = found_all given n.gates (subst (λ m. AreOrdered m n.gates) (sym len) ordered) forward in
+    let is : found.0 ≡ vs = some_is _ _ (sym found.1 ∙ e) in
+    let f : Found given n.gates vs = subst (λ (out : List Bool). Found given n.gates out) is found.2 in
+    let all : length vs ≡ wires n = f.all ∙ ap (λ m. wires_after m n.gates) len in
+    let s : Satisfies n a (read vs) = record { given = λ i h. f.same i (omega (arith, len)) ∙ same i h; rows = f.rows } in
+    record { all = all; satisfies = s; only = λ v t w h. at_most_one n a v (read vs) ordered t s w (omega (arith, all)) }
+
+pub has_valuation : HasValuation
+has_valuation n a ordered forward =
+    let given : List Bool = map a (range_with_len 0 n.given) in
+    let len : length given ≡ n.given = length-map (range_with_len 0 n.given) a ∙ length-range 0 n.given in
+    let found = found_all given n.gates (subst (λ m. AreOrdered m n.gates) (sym len) ordered) forward in
+    let values : AreValues n a found.0 = evaluated n a given found.0 ordered forward len (λ i h. get_or-map-range_with_len a 0 n.given i i false h (omega arith)) found.1 in
+    (read found.0, values.satisfies)
+  where
+    length-range : (m n : ℕ) → length (range_with_len m n) ≡ n
+    length-range m zero = refl
+    length-range m (suc n) = omega (arith, length-range (m + 1) n)

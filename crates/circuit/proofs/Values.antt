@@ -1,0 +1,23 @@
+-- The values of wires by their names.
+use Rattle.std.proofs.Common.{◌≡◌, ℕ, zero, suc, ◌+◌, ◌<◌, Bool, List, [], ◌∷◌, ◌++◌, length, take, get_or, sym, ap, ◌∙◌, arith, append_assoc}
+use Rattle.std.proofs.lemmas.List.{append-nil}
+use Rattle.circuit.specs.Text.{value_line, value_lines}
+
+value_lines_more : (ns : List (List ℕ)) (vs : List Bool) (k : ℕ) (n : List ℕ) (d : Bool) → k < length ns → k < length vs → n ≡ get_or ns k n →
+    value_lines (take (k + 1) ns) (take (k + 1) vs) ≡ value_lines (take k ns) (take k vs) ++ value_line n (get_or vs k d)
+unfolding value_lines
+value_lines_more [] vs k n d h l is = absurd (omega arith)
+value_lines_more (m ∷ ns) [] k n d h l is = absurd (omega arith)
+value_lines_more (m ∷ ns) (b ∷ vs) zero n d h l is = append-nil (value_line m b) ∙ sym (ap (λ (x : List ℕ). value_line x b) is)
+value_lines_more (m ∷ ns) (b ∷ vs) (suc k) n d h l is =
+    ap (λ j. value_lines (take j (m ∷ ns)) (take j (b ∷ vs))) (one_more k) ∙ ap (λ (t : List ℕ). value_line m b ++ t) (value_lines_more ns vs k n d (omega arith) (omega arith) is)
+    ∙ sym (append_assoc (value_line m b) (value_lines (take k ns) (take k vs)) (value_line n (get_or vs k d)))
+  where
+    one_more : (k : ℕ) → suc k + 1 ≡ suc (k + 1)
+    one_more k = omega arith
+
+pub printed_more : (out before new : List ℕ) (ns : List (List ℕ)) (vs : List Bool) (k : ℕ) (n : List ℕ) (d : Bool) → k < length ns → k < length vs → n ≡ get_or ns k n →
+    before ≡ out ++ value_lines (take k ns) (take k vs) → new ≡ before ++ value_line n (get_or vs k d) → new ≡ out ++ value_lines (take (k + 1) ns) (take (k + 1) vs)
+printed_more out before new ns vs k n d h l is so_far here =
+    here ∙ ap (λ (t : List ℕ). t ++ value_line n (get_or vs k d)) so_far ∙ append_assoc out (value_lines (take k ns) (take k vs)) (value_line n (get_or vs k d))
+    ∙ ap (λ (t : List ℕ). out ++ t) (sym (value_lines_more ns vs k n d h l is))

@@ -1,0 +1,21 @@
+use Rattle.std.proofs.Common.{◌≡◌, sym, ap, ◌∙◌, List, [], length, arith, map, subst}
+use Rattle.circuit.specs.declared.entry.Entry.{Entry}
+use Rattle.circuit.specs.Wiring.{gate_of}
+use Rattle.circuit.specs.Rules.{defined, consumed, gate_count}
+use Rattle.circuit.specs.Bridge.{AreGood, AreGoodAfter, gates_of}
+use Rattle.circuit.proofs.draft.Draft.new.Goals as goal
+
+pub invariant_of-result : goal.invariant_of-result
+unfolding AreGoodAfter
+invariant_of-result c =
+    let entries : [] ≡ c.new-3.result.items = sym c.new-3.ensures.items in
+    let wired : c.new-4.result.items ≡ [] = c.new-4.ensures.items in
+    record {
+      wires = c.new.ensures.empty ∙ ap defined entries;
+      consumed = c.new-2.ensures.empty ∙ ap consumed entries;
+      gates = ap gate_count entries;
+      few_gates = omega arith;
+      few_wires = omega (arith, ap (λ (l : List Entry). length (defined l)) entries);
+      good = subst AreGood entries tt;
+      wired = ap (map gate_of) wired ∙ ap (λ (l : List Entry). gates_of (defined l) l) entries;
+    }

@@ -1,0 +1,26 @@
+use Rattle.std.proofs.Common.{◌≡◌, ◌<◌, ◌∙◌, List, Option, length, map, get_or, slice_get, sym, ap, ap₂, refl, arith}
+use Rattle.circuit.specs.declared.entry.Entry.{Entry}
+use Rattle.std.specs.Prelude.{option_map}
+use Rattle.std.proofs.lemmas.List.{length-map}
+use Rattle.std.proofs.lemmas.Option.{slice_get-map, slice_get_read}
+use Rattle.circuit.specs.declared.wiring.GateWires.{GateWires}
+use Rattle.circuit.specs.Rules.{defined}
+use Rattle.circuit.specs.Bridge.{gates_of}
+use Rattle.circuit.specs.Meaning.{Gate}
+use Rattle.circuit.specs.Wiring.{gate_of}
+use Rattle.circuit.proofs.netlist.Circuit.gate.Goals as goal
+
+pub bounds-as_slice-number : goal.bounds-as_slice-number
+bounds-as_slice-number c =
+    let same : map gate_of c.self.inside.wired.items ≡ gates_of (defined c.args.self.now) c.args.self.now = c.self.invariant.wired ∙ ap (λ (l : List Entry). gates_of (defined l) l) c.self.view_is in
+    omega (arith, c.number.ensures, c.requires, length-map c.self.inside.wired.items gate_of, ap length same, ap length c.as_slice.ensures.value)
+
+pub returns : goal.returns
+returns c =
+    let kept : List GateWires = c.self.inside.wired.items in
+    let same : map gate_of kept ≡ gates_of (defined c.args.self.now) c.args.self.now = c.self.invariant.wired ∙ ap (λ (l : List Entry). gates_of (defined l) l) c.self.view_is in
+    let within : c.args.gate < length kept = omega (arith, c.requires, length-map kept gate_of, ap length same) in
+    let is : c.index-as_slice-number.result ≡ get_or kept c.args.gate c.index-as_slice-number.result =
+    c.index-as_slice-number.is ∙ ap₂ (λ (l : List GateWires) k. get_or l k c.index-as_slice-number.result) c.as_slice.ensures.value c.number.ensures in
+    ap (λ (gs : List Gate). slice_get gs c.args.gate) (sym same) ∙ slice_get-map gate_of kept c.args.gate
+    ∙ ap (λ (o : Option GateWires). option_map gate_of o) (slice_get_read kept (length kept) c.args.gate c.index-as_slice-number.result refl within is)

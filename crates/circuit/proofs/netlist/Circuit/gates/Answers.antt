@@ -1,0 +1,23 @@
+use Rattle.std.proofs.Common.{List, length, subst, ap, arith}
+use Rattle.circuit.specs.declared.entry.Entry.{Entry}
+use Rattle.std.proofs.lemmas.List.{length-map}
+use Rattle.circuit.specs.Rules.{defined}
+use Rattle.circuit.specs.Bridge.{gates_of, input_count}
+use Rattle.circuit.specs.Meaning.{AreOrdered, AreForward}
+use Rattle.circuit.specs.Wiring.{gate_of}
+use Rattle.circuit.proofs.Bridging.{gates_are_ordered}
+use Rattle.circuit.proofs.Naming.{gates_counted}
+use Rattle.circuit.proofs.netlist.Circuit.gates.Goals as goal
+
+pub returns-clause-few : goal.returns-clause-few
+returns-clause-few c =
+    let entries : List Entry = c.self.inside.entries.items in
+    omega (arith, c.len.ensures, length-map c.self.inside.wired.items gate_of, ap length c.self.invariant.wired, gates_counted (defined entries) entries, c.self.invariant.few_gates)
+
+pub returns-clause-ordered : goal.returns-clause-ordered
+returns-clause-ordered c =
+    subst (λ (l : List Entry). AreOrdered (input_count l) (gates_of (defined l) l)) c.self.view_is (gates_are_ordered c.self.inside.entries.items c.self.invariant.good).0
+
+pub returns-clause-forward : goal.returns-clause-forward
+returns-clause-forward c =
+    subst (λ (l : List Entry). AreForward (gates_of (defined l) l)) c.self.view_is (gates_are_ordered c.self.inside.entries.items c.self.invariant.good).1

@@ -1,0 +1,102 @@
+-- From the lines of a circuit, by names, to its gates, by the numbers of wires.
+use Rattle.std.specs.Prelude.{◌≡◌, ℕ, ◌+◌, ◌<◌, Bool, true, false, if◌then◌else◌, List, [], ◌∷◌, ◌++◌, map, length, None, ⊤, slice_index_or}
+use Rattle.std.specs.List.{flat_map, count_by}
+use Rattle.std.specs.Str.{bytes_eq}
+use Rattle.circuit.specs.declared.entry.Kind.{Kind}
+use Rattle.circuit.specs.declared.entry.Kind.TheVariants.{Input, Output, Spill}
+use Rattle.circuit.specs.declared.entry.Kind.TheVariants.{Gate as GateLine}
+use Rattle.circuit.specs.declared.entry.Entry.{Entry}
+use Rattle.circuit.specs.Gates.{rule_of, uses, defines}
+use Rattle.circuit.specs.Rules.{defined, gate_count, add_fault}
+use Rattle.circuit.specs.Meaning.{Gate, Netlist, Circuit, Valuation, Satisfies, wires}
+
+-- the number of a wire: the place of its name in the order of definition
+unfoldable pub number : List (List ℕ) → List ℕ → ℕ
+number [] n = 0
+number (m ∷ ms) n = if bytes_eq n m then 0 else (number ms n + 1)
+
+abbrev pub is_input : Kind → Bool
+is_input Input = true
+is_input (GateLine k) = false
+is_input Output = false
+is_input Spill = false
+
+abbrev pub input_count : List Entry → ℕ
+input_count entries = count_by (λ r. is_input r.kind) entries
+
+-- the gate of a line, where the wires have these names
+abbrev pub gate_in : List (List ℕ) → List (List ℕ) → List (List ℕ) → Kind → List Gate
+gate_in names ins outs Input = []
+gate_in names ins outs (GateLine k) = record { kind = rule_of k; ins = map (number names) ins; outs = map (number names) outs } ∷ []
+gate_in names ins outs Output = []
+gate_in names ins outs Spill = []
+
+abbrev pub gates_of : List (List ℕ) → List Entry → List Gate
+gates_of names entries = flat_map (λ r. gate_in names r.ins r.outs r.kind) entries
+
+-- the gates of a circuit, over its inputs
+abbrev pub netlist_of : List Entry → Netlist
+netlist_of entries = record { given = input_count entries; gates = gates_of (defined entries) entries }
+
+-- the circuit of lines
+abbrev pub circuit_of : List Entry → Circuit
+circuit_of entries = record { netlist = netlist_of entries; names = defined entries }
+
+-- the names of the inputs, in the order of their lines
+abbrev pub input_names : List Entry → List (List ℕ)
+input_names entries = flat_map (λ r. if is_input r.kind then r.outs else []) entries
+
+-- the names of the outputs, in the order of their lines
+abbrev pub is_output : Kind → Bool
+is_output Input = false
+is_output (GateLine k) = false
+is_output Output = true
+is_output Spill = false
+
+abbrev pub output_names : List Entry → List (List ℕ)
+output_names entries = flat_map (λ r. if is_output r.kind then r.ins else []) entries
+
+-- ---- which lines make a circuit
+abbrev pub kind_ins : Kind → ℕ
+kind_ins Input = 0
+kind_ins (GateLine k) = uses (rule_of k)
+kind_ins Output = 1
+kind_ins Spill = 1
+
+abbrev pub kind_outs : Kind → ℕ
+kind_outs Input = 1
+kind_outs (GateLine k) = defines (rule_of k)
+kind_outs Output = 0
+kind_outs Spill = 0
+
+-- the line has as many names as its kind
+abbrev pub FitsKind : Entry → Type 0
+FitsKind r = (length r.ins ≡ kind_ins r.kind) × (length r.outs ≡ kind_outs r.kind)
+
+-- no input comes after a gate
+abbrev pub InputsFirst : List Entry → Entry → Type 0
+InputsFirst before r = is_input r.kind ≡ true → gate_count before ≡ 0
+
+-- the line is good after those before it
+pub record IsGoodAfter (before : List Entry) (r : Entry) : Type 0 where
+  pub adds : add_fault before r ≡ None
+  pub fits : FitsKind r
+  pub inputs_first : InputsFirst before r
+
+-- each line is good after those before it
+unfoldable pub AreGoodAfter : List Entry → List Entry → Type 0
+AreGoodAfter before [] = ⊤
+AreGoodAfter before (r ∷ rest) = IsGoodAfter before r × AreGoodAfter (before ++ r ∷ []) rest
+
+abbrev pub AreGood : List Entry → Type 0
+AreGood entries = AreGoodAfter [] entries
+
+-- the values of wires that are listed, and false for all others
+abbrev pub read : List Bool → Valuation
+read vs w = slice_index_or vs w false
+
+-- vs lists each wire's value in the one valuation that satisfies the netlist where the given wires have the values a
+pub record AreValues (n : Netlist) (a : Valuation) (vs : List Bool) : Type 0 where
+  pub all : length vs ≡ wires n
+  pub satisfies : Satisfies n a (read vs)
+  pub only : (v : Valuation) → Satisfies n a v → (w : ℕ) → w < length vs → v w ≡ read vs w

@@ -1,0 +1,18 @@
+-- The fields of a circuit, and what contracts see of them: the lines.
+use Rattle.std.specs.Prelude.{◌≡◌, ◌≤◌, List, None, length, map}
+use Rattle.circuit.specs.declared.entry.Entry.{Entry}
+use Rattle.circuit.specs.declared.netlist.Circuit.TheInside.{Inside}
+use Rattle.circuit.specs.Rules.{defined, consumed, gate_count, unused}
+use Rattle.circuit.specs.Bridge.{AreGood, gates_of}
+use Rattle.circuit.specs.Wiring.{gate_of}
+
+abbrev pub circuit_entries : Inside → List Entry
+circuit_entries a = a.entries.items
+
+pub record IsCircuit (a : Inside) : Type 0 where
+  pub wires : a.wires.keys ≡ defined a.entries.items
+  pub all_used : unused (consumed a.entries.items) (defined a.entries.items) ≡ None
+  pub few_wires : length (defined a.entries.items) ≤ 4096
+  pub few_gates : gate_count a.entries.items ≤ 1024
+  pub good : AreGood a.entries.items
+  pub wired : map gate_of a.wired.items ≡ gates_of (defined a.entries.items) a.entries.items

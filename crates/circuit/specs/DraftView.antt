@@ -1,0 +1,19 @@
+-- The fields of a draft and of a circuit, and what contracts see of them: the lines.
+use Rattle.std.specs.Prelude.{◌≡◌, ◌≤◌, List, length, map}
+use Rattle.circuit.specs.declared.entry.Entry.{Entry}
+use Rattle.circuit.specs.declared.draft.Draft.TheInside.{Inside}
+use Rattle.circuit.specs.Rules.{defined, consumed, gate_count}
+use Rattle.circuit.specs.Bridge.{AreGood, gates_of}
+use Rattle.circuit.specs.Wiring.{gate_of}
+
+abbrev pub draft_entries : Inside → List Entry
+draft_entries a = a.entries.items
+
+pub record IsDraft (a : Inside) : Type 0 where
+  pub wires : a.wires.keys ≡ defined a.entries.items
+  pub consumed : a.consumed.keys ≡ consumed a.entries.items
+  pub gates : a.gates ≡ gate_count a.entries.items
+  pub few_gates : a.gates ≤ 1024
+  pub few_wires : length (defined a.entries.items) ≤ 4096
+  pub good : AreGood a.entries.items
+  pub wired : map gate_of a.wired.items ≡ gates_of (defined a.entries.items) a.entries.items

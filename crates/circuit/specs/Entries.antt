@@ -1,0 +1,15 @@
+-- The lines of a circuit.
+use Rattle.std.specs.Prelude.{ℕ, List}
+use Rattle.circuit.specs.declared.entry.Kind.{Kind}
+use Rattle.circuit.specs.declared.entry.Kind.TheVariants.{Input, Gate, Output, Spill}
+use Rattle.circuit.specs.declared.entry.Entry.{Entry}
+
+-- the order of the kinds of line
+abbrev pub rank_of : Kind → ℕ
+rank_of Input = 0
+rank_of (Gate k) = 1
+rank_of Output = 2
+rank_of Spill = 3
+
+abbrev pub entry : Kind → List (List ℕ) → List (List ℕ) → Entry
+entry kind ins outs = record { kind = kind; ins = ins; outs = outs }

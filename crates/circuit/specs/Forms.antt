@@ -1,0 +1,67 @@
+-- The line forms of the circuit section.
+use Rattle.std.specs.Prelude.{ℕ, ◌+◌, Bool, true, false, List, [], ◌∷◌, length, Option, Some, None, codes, ◌==◌, if◌then◌else◌}
+use Rattle.section_text.specs.Words.{◌>>=◌, is_at, name_at, names_at, number_at}
+use Rattle.section_text.specs.declared.section.Form.{Form}
+use Rattle.section_text.specs.declared.section.Form.TheVariants.{Header, Item, End}
+use Rattle.circuit.specs.declared.entry.GateKind.{GateKind}
+use Rattle.circuit.specs.declared.entry.GateKind.TheVariants.{Source, Fredkin, Cswap, Interact, Switch, Delay}
+use Rattle.circuit.specs.declared.entry.Kind.TheVariants.{Input, Gate, Output, Spill}
+use Rattle.circuit.specs.declared.entry.Entry.{Entry}
+use Rattle.circuit.specs.Entries.{entry}
+use Rattle.circuit.specs.Gates.{rule_of, uses, defines}
+
+-- a keyword and a name
+unfoldable pub lone_name : List (List ℕ) → Option (List ℕ)
+lone_name ws = if length ws == 2 then name_at ws 1 else None
+
+-- a word that is a bit
+unfoldable pub bit_at : List (List ℕ) → ℕ → Option Bool
+bit_at ws i = if is_at ws i (codes "0") then Some false else (if is_at ws i (codes "1") then Some true else None)
+
+-- the kind that a gate's line begins with
+unfoldable pub gate_kind : List (List ℕ) → Option GateKind
+gate_kind ws =
+    if is_at ws 0 (codes "source") then (bit_at ws 1 >>= λ b. Some (Source b))
+    else if is_at ws 0 (codes "fredkin") then Some Fredkin
+    else if is_at ws 0 (codes "cswap") then Some Cswap
+    else if is_at ws 0 (codes "interact") then Some Interact
+    else if is_at ws 0 (codes "switch") then Some Switch
+    else if is_at ws 0 (codes "delay") then (number_at ws 1 >>= λ n. Some (Delay n))
+    else None
+
+-- how many words stand before the names
+abbrev pub words_before : GateKind → ℕ
+words_before (Source b) = 2
+words_before Fredkin = 1
+words_before Cswap = 1
+words_before Interact = 1
+words_before Switch = 1
+words_before (Delay n) = 2
+
+unfoldable pub gate_names : List (List ℕ) → GateKind → Option Entry
+gate_names ws kind = do
+  ins ← names_at ws (words_before kind) (uses (rule_of kind))
+  outs ← names_at ws (words_before kind + uses (rule_of kind) + 1) (defines (rule_of kind))
+  Some (entry (Gate kind) ins outs)
+
+-- a gate: its kind, the names that it consumes, an arrow, the names that it defines
+unfoldable pub gate_entry : List (List ℕ) → Option Entry
+gate_entry ws = do
+  kind ← gate_kind ws
+  if length ws == words_before kind + uses (rule_of kind) + 1 + defines (rule_of kind) then (if is_at ws (words_before kind + uses (rule_of kind)) (codes "->") then gate_names ws kind else None) else None
+
+abbrev pub Line : Type 0
+Line = Form (Unit {0}) Entry
+
+-- a line that is one word
+unfoldable pub lone : List (List ℕ) → Line → Option Line
+lone ws f = if length ws == 1 then Some f else None
+
+unfoldable pub form_of : List (List ℕ) → Option Line
+form_of ws =
+    if is_at ws 0 (codes "circuit") then lone ws (Header tt)
+    else if is_at ws 0 (codes "end") then lone ws End
+    else if is_at ws 0 (codes "input") then (lone_name ws >>= λ n. Some (Item (entry Input [] (n ∷ []))))
+    else if is_at ws 0 (codes "output") then (lone_name ws >>= λ n. Some (Item (entry Output (n ∷ []) [])))
+    else if is_at ws 0 (codes "spill") then (lone_name ws >>= λ n. Some (Item (entry Spill (n ∷ []) [])))
+    else (gate_entry ws >>= λ r. Some (Item r))

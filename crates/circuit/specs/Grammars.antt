@@ -1,0 +1,23 @@
+-- The circuit section.
+use Rattle.std.specs.Prelude.{ℕ, List, Option, Some, None}
+use Rattle.section_text.specs.Section.{Grammar}
+use Rattle.circuit.specs.declared.entry.Entry.{Entry}
+use Rattle.section_text.specs.Codes.{or_else}
+use Rattle.circuit.specs.Forms.{form_of}
+use Rattle.circuit.specs.Rules.{order_fault, add_fault, unused, defined, consumed}
+
+abbrev pub missing_code : Option (List ℕ) → Option ℕ
+missing_code None = None
+missing_code (Some n) = Some 11
+
+abbrev pub circuit_grammar : Grammar (Unit {0}) Entry
+circuit_grammar = record {
+  form = form_of;
+  header_fault = λ h. None;
+  item_fault = λ h entries r. or_else (order_fault entries r) (add_fault entries r);
+  end_fault = λ h entries. missing_code (unused (consumed entries) (defined entries));
+}
+
+-- what the section of a circuit gives
+abbrev pub circuit_value : List Entry → Unit {0} × List Entry
+circuit_value entries = (tt, entries)

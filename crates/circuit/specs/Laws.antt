@@ -1,0 +1,43 @@
+-- Laws of the circuit section.
+use Rattle.std.specs.Prelude.{◌≡◌, ℕ, ◌+◌, ◌<◌, List, length, take, drop, Some, Ok, slice_get}
+use Rattle.section_text.specs.Words.{lines_of}
+use Rattle.std.specs.List.{flat_map}
+use Rattle.section_text.specs.Section.{section_of, ended_line}
+use Rattle.circuit.specs.declared.entry.Entry.{Entry}
+use Rattle.circuit.specs.Grammars.{circuit_grammar}
+use Rattle.circuit.specs.Text.{circuit_text}
+use Rattle.circuit.specs.Rules.{defined}
+use Rattle.circuit.specs.Meaning.{Netlist, Valuation, Satisfies, AreOrdered, AreForward, wires, wire_of}
+use Rattle.circuit.specs.Bridge.{AreGood, input_count, input_names, gates_of, netlist_of, circuit_of}
+
+-- the text of a circuit that is read is the text of the lines that it is read from
+abbrev pub PrintsWhatIsRead : Type 0
+PrintsWhatIsRead = (n : ℕ) (ls : List (List ℕ)) (entries : List Entry) → section_of circuit_grammar n ls ≡ Ok (tt, entries) → flat_map ended_line (take (length entries + 2) ls) ≡ circuit_text entries
+
+-- and is read as the same circuit again, wherever it stands
+abbrev pub ReadsWhatIsPrinted : Type 0
+ReadsWhatIsPrinted = (text : List ℕ) (from n m : ℕ) (entries : List Entry) → section_of circuit_grammar n (drop from (lines_of text)) ≡ Ok (tt, entries) → section_of circuit_grammar m (lines_of (circuit_text entries)) ≡ Ok (tt, entries)
+
+-- The gates of a good list of lines are ordered, and none is an inverse gate
+abbrev pub GatesAreOrdered : Type 0
+GatesAreOrdered = (entries : List Entry) → AreGood entries → AreOrdered (input_count entries) (gates_of (defined entries) entries) × AreForward (gates_of (defined entries) entries)
+
+-- ordered gates without inverse gates have a valuation, whatever the given wires are
+abbrev pub HasValuation : Type 0
+HasValuation = (n : Netlist) (a : Valuation) → AreOrdered n.given n.gates → AreForward n.gates → (v : Valuation) × Satisfies n a v
+
+-- ordered gates have at most one, with inverse gates too
+abbrev pub HasAtMostOneValuation : Type 0
+HasAtMostOneValuation = (n : Netlist) (a u v : Valuation) → AreOrdered n.given n.gates → Satisfies n a u → Satisfies n a v → (w : ℕ) → w < wires n → u w ≡ v w
+
+-- the wires of a circuit have names of their own: the wire of the name of a wire is that wire
+abbrev pub NamesAreOwn : Type 0
+NamesAreOwn = (entries : List Entry) (w : ℕ) (name : List ℕ) → AreGood entries → slice_get (defined entries) w ≡ Some name → wire_of (circuit_of entries) name ≡ Some w
+
+-- each wire has a name
+abbrev pub WiresAreNamed : Type 0
+WiresAreNamed = (entries : List Entry) → AreGood entries → length (defined entries) ≡ wires (netlist_of entries)
+
+-- the inputs are the first wires
+abbrev pub InputsAreFirst : Type 0
+InputsAreFirst = (entries : List Entry) → AreGood entries → take (input_count entries) (defined entries) ≡ input_names entries

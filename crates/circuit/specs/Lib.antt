@@ -1,0 +1,14 @@
+pub mod Gates
+pub mod Entries
+pub mod Forms
+pub mod Rules
+pub mod Grammars
+pub mod DraftView
+pub mod CircuitView
+pub mod Text
+pub mod Laws
+pub mod Meaning
+pub mod Bridge
+pub mod Evaluate
+pub mod Wiring
+pub mod Ports

@@ -1,0 +1,72 @@
+-- Circuits of conservative logic (Fredkin and Toffoli 1982) by the numbers of their wires, and what they mean.
+use Rattle.std.specs.Prelude.{◌≡◌, ℕ, ◌+◌, ◌<◌, Bool, false, if◌then◌else◌, List, [], ◌∷◌, map, length, Option, Some, None, ⊤, slice_get, option_map}
+use Rattle.std.specs.List.{All, range_with_len}
+use Rattle.std.specs.Str.{bytes_eq}
+use Rattle.circuit.specs.Gates.{Rule, row, uses, defines, is_inverse}
+
+-- a gate, by the numbers of its wires
+pub record Gate : Type 0 where
+  pub kind : Rule
+  pub ins : List ℕ
+  pub outs : List ℕ
+
+-- Gates over some given wires: the inputs of a circuit, or the cuts of a module. The given wires are numbered first
+pub record Netlist : Type 0 where
+  pub given : ℕ
+  pub gates : List Gate
+
+-- A circuit: its netlist, whose given wires are the inputs, and the name of each wire
+pub record Circuit : Type 0 where
+  pub netlist : Netlist
+  pub names : List (List ℕ)
+
+-- the place of a name
+unfoldable pub place_of : List ℕ → List (List ℕ) → Option ℕ
+place_of n [] = None
+place_of n (m ∷ ms) = if bytes_eq n m then Some 0 else option_map (λ i. i + 1) (place_of n ms)
+
+-- the wire of a name
+abbrev pub wire_of : Circuit → List ℕ → Option ℕ
+wire_of c n = place_of n c.names
+
+-- a truth value for each wire
+abbrev pub Valuation : Type 0
+Valuation = ℕ → Bool
+
+abbrev pub HasRow : Valuation → Gate → Type 0
+HasRow v g = row g.kind (map v g.ins) ≡ Some (map v g.outs)
+
+-- the first n gates have their rows
+abbrev pub RowsBelow : ℕ → List Gate → Valuation → Type 0
+RowsBelow n gates v = (k : ℕ) (g : Gate) → k < n → slice_get gates k ≡ Some g → HasRow v g
+
+-- v satisfies the gates where the given wires have the values a
+pub record Satisfies (n : Netlist) (a v : Valuation) : Type 0 where
+  pub given : (i : ℕ) → i < n.given → v i ≡ a i
+  pub rows : All (HasRow v) n.gates
+
+-- the value of a wire, by its name
+abbrev pub value_of : Option ℕ → Valuation → Bool
+value_of None v = false
+value_of (Some w) v = v w
+
+abbrev pub values_by_name : Circuit → Valuation → List ℕ → Bool
+values_by_name c v n = value_of (wire_of c n) v
+
+-- n wires are defined so far. Each gate uses wires that are defined before it, and defines the next ones
+unfoldable pub AreOrdered : ℕ → List Gate → Type 0
+AreOrdered n [] = ⊤
+AreOrdered n (g ∷ gs) =
+    All (λ w. w < n) g.ins × (length g.ins ≡ uses g.kind) × (g.outs ≡ range_with_len n (defines g.kind)) × AreOrdered (n + defines g.kind) gs
+
+-- none of the gates is an inverse gate
+abbrev pub AreForward : List Gate → Type 0
+AreForward gates = All (λ g. is_inverse g.kind ≡ false) gates
+
+-- how many wires there are after the gates
+unfoldable pub wires_after : ℕ → List Gate → ℕ
+wires_after n [] = n
+wires_after n (g ∷ gs) = wires_after (n + defines g.kind) gs
+
+abbrev pub wires : Netlist → ℕ
+wires n = wires_after n.given n.gates

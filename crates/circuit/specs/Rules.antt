@@ -1,0 +1,85 @@
+-- Which line is good after which lines. What was defined and consumed is read from the lines themselves.
+use Rattle.std.specs.Prelude.{ℕ, ◌+◌, Bool, true, false, ◌&&◌, ◌||◌, List, [], ◌∷◌, ◌++◌, length, Option, Some, None, nat_lt, nat_le, ◌==◌, if◌then◌else◌}
+use Rattle.std.specs.List.{flat_map, list_any, count_by}
+use Rattle.std.specs.Str.{bytes_eq}
+use Rattle.circuit.specs.declared.entry.GateKind.TheVariants.{Source, Fredkin, Cswap, Interact, Switch, Delay}
+use Rattle.circuit.specs.declared.entry.Kind.{Kind}
+use Rattle.circuit.specs.declared.entry.Kind.TheVariants.{Input, Gate, Output, Spill}
+use Rattle.circuit.specs.declared.entry.Entry.{Entry}
+use Rattle.section_text.specs.Codes.{or_else, code_where}
+use Rattle.circuit.specs.Entries.{rank_of}
+
+-- the wires that lines define, in order
+abbrev pub defined : List Entry → List (List ℕ)
+defined entries = flat_map (λ r. r.outs) entries
+
+-- the wires that lines consume, in order
+abbrev pub consumed : List Entry → List (List ℕ)
+consumed entries = flat_map (λ r. r.ins) entries
+
+abbrev pub is_gate : Kind → Bool
+is_gate Input = false
+is_gate (Gate k) = true
+is_gate Output = false
+is_gate Spill = false
+
+abbrev pub gate_count : List Entry → ℕ
+gate_count entries = count_by (λ r. is_gate r.kind) entries
+
+-- whether a list of names has the name
+abbrev pub has : List (List ℕ) → List ℕ → Bool
+has names n = list_any (bytes_eq n) names
+
+-- ---- codes 3, 4 and 5, from left to right; a line's own names count as they are passed
+
+-- the names are consumed one after the other, where d was defined and c was consumed
+abbrev pub consume : List (List ℕ) → List (List ℕ) → List (List ℕ) → Option ℕ
+consume d c [] = None
+consume d c (n ∷ ns) = if has d n then (if has c n then Some 5 else consume d (c ++ n ∷ []) ns) else Some 3
+
+-- the names are defined one after the other, where d was defined
+abbrev pub define : List (List ℕ) → List (List ℕ) → Option ℕ
+define d [] = None
+define d (n ∷ ns) = if has d n then Some 4 else define (d ++ n ∷ []) ns
+
+abbrev pub name_fault : List Entry → Entry → Option ℕ
+name_fault entries r = or_else (consume (defined entries) (consumed entries) r.ins) (define (defined entries) r.outs)
+
+-- ---- code 2
+
+abbrev pub is_wrong_delay : Kind → Bool
+is_wrong_delay Input = false
+is_wrong_delay (Gate (Source b)) = false
+is_wrong_delay (Gate Fredkin) = false
+is_wrong_delay (Gate Cswap) = false
+is_wrong_delay (Gate Interact) = false
+is_wrong_delay (Gate Switch) = false
+is_wrong_delay (Gate (Delay n)) = n == 0 || nat_lt 4096 n
+is_wrong_delay Output = false
+is_wrong_delay Spill = false
+
+abbrev pub passes_limit : List Entry → Entry → Bool
+passes_limit entries r = is_wrong_delay r.kind || (nat_lt 4096 (length (defined entries) + length r.outs) || (is_gate r.kind && nat_le 1024 (gate_count entries)))
+
+abbrev pub limit_fault : List Entry → Entry → Option ℕ
+limit_fault entries r = code_where (passes_limit entries r) 2
+
+-- the first of codes 2 to 5
+unfoldable pub add_fault : List Entry → Entry → Option ℕ
+add_fault entries r = or_else (limit_fault entries r) (name_fault entries r)
+
+-- ---- codes 6 and 11
+
+-- the rank of the last line, or 0
+abbrev pub last_rank : List Entry → ℕ
+last_rank [] = 0
+last_rank (r ∷ []) = rank_of r.kind
+last_rank (r ∷ s ∷ entries) = last_rank (s ∷ entries)
+
+abbrev pub order_fault : List Entry → Entry → Option ℕ
+order_fault entries r = code_where (nat_lt (rank_of r.kind) (last_rank entries)) 6
+
+-- the first wire that nobody consumes
+abbrev pub unused : List (List ℕ) → List (List ℕ) → Option (List ℕ)
+unused c [] = None
+unused c (n ∷ ns) = if has c n then unused c ns else Some n

@@ -1,0 +1,72 @@
+-- The text of a circuit: each line spelled in the one way.
+use Rattle.std.specs.Prelude.{ℕ, Bool, true, false, List, [], ◌∷◌, ◌++◌, codes}
+use Rattle.std.specs.List.{flat_map}
+use Rattle.std.specs.Fmt.{decimal}
+use Rattle.circuit.specs.declared.entry.GateKind.{GateKind}
+use Rattle.circuit.specs.declared.entry.GateKind.TheVariants.{Source, Fredkin, Cswap, Interact, Switch, Delay}
+use Rattle.circuit.specs.declared.entry.Kind.{Kind}
+use Rattle.circuit.specs.declared.entry.Kind.TheVariants.{Input, Gate, Output, Spill}
+use Rattle.circuit.specs.declared.entry.Entry.{Entry}
+use Rattle.section_text.specs.declared.section.Form.TheVariants.{Header, Item, End}
+use Rattle.section_text.specs.Spelling.{line_text}
+use Rattle.circuit.specs.Forms.{Line}
+
+abbrev pub bit_word : Bool → List ℕ
+bit_word true = codes "1"
+bit_word false = codes "0"
+
+-- the keyword of a gate
+abbrev pub gate_word : GateKind → List ℕ
+gate_word (Source b) = codes "source"
+gate_word Fredkin = codes "fredkin"
+gate_word Cswap = codes "cswap"
+gate_word Interact = codes "interact"
+gate_word Switch = codes "switch"
+gate_word (Delay n) = codes "delay"
+
+-- what stands between the keyword of a gate and its names
+abbrev pub gate_number : GateKind → List (List ℕ)
+gate_number (Source b) = bit_word b ∷ []
+gate_number Fredkin = []
+gate_number Cswap = []
+gate_number Interact = []
+gate_number Switch = []
+gate_number (Delay n) = decimal n ∷ []
+
+-- the first word of a entry, and the others
+unfoldable pub first_word : Kind → List ℕ
+first_word Input = codes "input"
+first_word (Gate k) = gate_word k
+first_word Output = codes "output"
+first_word Spill = codes "spill"
+
+abbrev pub words_by : List (List ℕ) → List (List ℕ) → Kind → List (List ℕ)
+words_by ins outs Input = outs
+words_by ins outs (Gate k) = gate_number k ++ (ins ++ codes "->" ∷ outs)
+words_by ins outs Output = ins
+words_by ins outs Spill = ins
+
+unfoldable pub more_words : Entry → List (List ℕ)
+more_words r = words_by r.ins r.outs r.kind
+
+unfoldable pub entry_text : Entry → List ℕ
+entry_text r = line_text (first_word r.kind) (more_words r)
+
+unfoldable pub circuit_text : List Entry → List ℕ
+circuit_text entries = line_text (codes "circuit") [] ++ flat_map entry_text entries ++ line_text (codes "end") []
+
+-- the text of a line, by its form
+abbrev pub form_text : Line → List ℕ
+form_text (Header h) = line_text (codes "circuit") []
+form_text (Item r) = entry_text r
+form_text End = line_text (codes "end") []
+
+-- a wire's name and its value
+unfoldable pub value_line : List ℕ → Bool → List ℕ
+value_line n v = line_text n (bit_word v ∷ [])
+
+-- the values of wires by their names, a line for each
+unfoldable pub value_lines : List (List ℕ) → List Bool → List ℕ
+value_lines [] vs = []
+value_lines (n ∷ ns) [] = []
+value_lines (n ∷ ns) (v ∷ vs) = value_line n v ++ value_lines ns vs

@@ -1,0 +1,20 @@
+-- The gates as the code keeps them.
+use Rattle.std.specs.Prelude.{ℕ, List, [], ◌∷◌, take}
+use Rattle.std.specs.List.{range_with_len}
+use Rattle.circuit.specs.declared.entry.Kind.{Kind}
+use Rattle.circuit.specs.declared.entry.Kind.TheVariants.{Input, Output, Spill}
+use Rattle.circuit.specs.declared.entry.Kind.TheVariants.{Gate as GateLine}
+use Rattle.circuit.specs.declared.wiring.GateWires.{GateWires}
+use Rattle.circuit.specs.Gates.{rule_of, uses, defines}
+use Rattle.circuit.specs.Meaning.{Gate}
+
+-- the gate that is kept
+abbrev pub gate_of : GateWires → Gate
+gate_of g = record { kind = rule_of g.kind; ins = take (uses (rule_of g.kind)) g.ins; outs = take (defines (rule_of g.kind)) g.outs }
+
+-- the gate of a line of this kind, if it is a gate's line
+abbrev pub gate_at : Kind → List ℕ → ℕ → List Gate
+gate_at Input ins first = []
+gate_at (GateLine k) ins first = record { kind = rule_of k; ins = take (uses (rule_of k)) ins; outs = range_with_len first (defines (rule_of k)) } ∷ []
+gate_at Output ins first = []
+gate_at Spill ins first = []

@@ -1,0 +1,247 @@
+//! Circuits, line by line.
+ghost use Rattle.std.specs.Prelude.{◌≡◌, ◌==◌, ◌+◌, ◌-◌, ◌<◌, ◌≤◌, true, [], ◌∷◌, ◌++◌, length, Option, None, Some, OnOk, OnErr, IfOk, IfErr, slice_get};
+ghost use Rattle.std.specs.Option.{option_copied};
+ghost use Rattle.circuit.specs.Entries.{entry};
+ghost use Rattle.circuit.specs.Gates.{rule_of, uses, defines};
+ghost use Rattle.circuit.specs.declared.entry.Kind.TheVariants.{Input, Gate, Output, Spill};
+ghost use Rattle.circuit.specs.declared.entry.GateKind.TheVariants.{Source};
+ghost use Rattle.circuit.specs.Rules.{add_fault, limit_fault, passes_limit, is_wrong_delay, is_gate, gate_count, defined, consumed, unused, has};
+ghost use Rattle.section_text.specs.Adding.{FaultIs};
+ghost use Rattle.circuit.specs.Bridge.{FitsKind, InputsFirst, AreValues, netlist_of, input_count, read};
+
+use crate::entry::{Entry, GateKind, Kind};
+use crate::netlist::Circuit;
+use crate::sets::{consume_all, define_all};
+use crate::wiring::{GateWires, add_wires, wire_numbers};
+use indexmap::IndexSet;
+use section_text::{LineFault, Name, Names};
+use std::alloc::Global;
+use std::marker::Model;
+
+// The most wires of a circuit.
+const WIRES: usize = 4096;
+
+// The most gates of a circuit.
+const GATES: usize = 1024;
+
+/// A circuit to which lines are added: inputs, then gates, outputs and spills. Contracts see the lines so far.
+#[derive(Drop)]
+pub struct Draft {
+    wires: IndexSet<Name>,
+    consumed: IndexSet<Name>,
+    entries: Vec<Entry>,
+    wired: Vec<GateWires>,
+    gates: usize,
+}
+
+impl Model for Draft {
+    ghost use Rattle.std.specs.Prelude.{List};
+    ghost use Rattle.circuit.specs.declared.entry.Entry.{Entry};
+
+    ghost Value = { List Entry };
+
+    ghost use Rattle.circuit.specs.DraftView.{draft_entries, IsDraft};
+
+    ghost view = { draft_entries };
+
+    ghost invariant = { IsDraft };
+}
+
+/// A draft that is no circuit, and its first wire, in order of definition, that nobody consumes.
+#[derive(Drop)]
+pub struct Unused {
+    pub draft: Draft,
+    pub wire: Name,
+}
+
+fn is_wrong(kind: Kind) -> bool
+    ensures { result ≡ is_wrong_delay kind }
+{
+    match kind {
+        Kind::Gate(GateKind::Delay(n)) => n == 0 || n > 4096,
+        _ => false,
+    }
+}
+
+fn is_gate_kind(kind: Kind) -> bool
+    ensures { result ≡ is_gate kind }
+{
+    match kind {
+        Kind::Gate(_) => true,
+        _ => false,
+    }
+}
+
+// The first name that is not among the consumed ones.
+fn first_unused(wires: &[Name], consumed: &IndexSet<Name>) -> Option<Name>
+    ensures { result ≡ unused consumed.now.keys wires.now }
+{
+    for name in wires {
+        if !consumed.contains(name) {
+            return Some(*name);
+        }
+    }
+    None
+}
+
+impl Draft {
+    /// No lines.
+    pub fn new(alloc: Global) -> Draft
+        ensures { result ≡ [] }
+    {
+        Draft {
+            wires: IndexSet::new(alloc),
+            consumed: IndexSet::new(alloc),
+            entries: Vec::new(alloc),
+            wired: Vec::new(alloc),
+            gates: 0,
+        }
+    }
+
+    // Whether the line would pass a limit.
+    fn passes(&self, entry: &Entry) -> bool
+        ensures { result ≡ passes_limit self.now entry.now }
+    {
+        is_wrong(entry.kind)
+            || self.wires.len() + entry.outs.as_slice().len() > WIRES
+            || (is_gate_kind(entry.kind) && self.gates >= GATES)
+    }
+
+    // Adds a line, whatever the kinds of the lines before it. A fault changes nothing.
+    #[tactic(auto, unfolding(crate::specs::Rules::add_fault))]
+    pub(crate) fn add(&mut self, entry: Entry) -> Result<(), LineFault>
+        requires fits { FitsKind entry }
+        requires inputs_first { InputsFirst self.old entry }
+        ensures ok { OnOk result ((add_fault self.old entry ≡ None) × (self.new ≡ self.old ++ entry ∷ [])) }
+        ensures err { OnErr result (self.new ≡ self.old) }
+        ensures fault { IfErr result (λ e. FaultIs e (add_fault self.old entry)) }
+    {
+        if self.passes(&entry) {
+            return Err(LineFault::Code(2));
+        }
+        let consumed = self.consumed.len();
+        let wires = self.wires.len();
+        let wired = self.wired.len();
+        let ins = wire_numbers(&self.wires, entry.ins.as_slice());
+        consume_all(&self.wires, &mut self.consumed, entry.ins.as_slice())?;
+        if let Err(fault) = define_all(&mut self.wires, entry.outs.as_slice()) {
+            self.consumed.truncate(consumed);
+            return Err(fault);
+        }
+        let is_gate = is_gate_kind(entry.kind);
+        if add_wires(&mut self.wired, entry.kind, ins, wires as u16).is_err() {
+            self.consumed.truncate(consumed);
+            self.wires.truncate(wires);
+            return Err(LineFault::Memory);
+        }
+        if self.entries.push(entry).is_err() {
+            self.consumed.truncate(consumed);
+            self.wires.truncate(wires);
+            self.wired.truncate(wired);
+            return Err(LineFault::Memory);
+        }
+        if is_gate {
+            self.gates += 1;
+        }
+        Ok(())
+    }
+
+    /// Whether inputs may still be added: no gate, and no source, was added yet.
+    pub fn takes_inputs(&self) -> bool
+        ensures { result ≡ (gate_count self.now == 0) }
+    {
+        self.gates == 0
+    }
+
+    /// Adds an input, which defines a wire, where `takes_inputs()`. The code is 2 where the wire would be the 4097th,
+    /// 4 where the name is defined already. A fault changes nothing.
+    pub fn add_input(&mut self, name: Name) -> Result<(), LineFault>
+        requires { gate_count self.old ≡ 0 }
+        ensures ok { OnOk result ((add_fault self.old (entry Input [] (name ∷ [])) ≡ None) × (self.new ≡ self.old ++ entry Input [] (name ∷ []) ∷ [])) }
+        ensures err { OnErr result (self.new ≡ self.old) }
+        ensures fault { IfErr result (λ e. FaultIs e (add_fault self.old (entry Input [] (name ∷ [])))) }
+    {
+        self.add(Entry::input(name))
+    }
+
+    /// Adds a source, a gate without inputs whose wire has the value `bit`. The code is 2 where the wire would be the
+    /// 4097th or the gate the 1025th, 4 where the name is defined already. A fault changes nothing.
+    pub fn add_source(&mut self, bit: bool, name: Name) -> Result<(), LineFault>
+        ensures ok { OnOk result ((add_fault self.old (entry (Gate (Source bit)) [] (name ∷ [])) ≡ None) × (self.new ≡ self.old ++ entry (Gate (Source bit)) [] (name ∷ []) ∷ [])) }
+        ensures err { OnErr result (self.new ≡ self.old) }
+        ensures fault { IfErr result (λ e. FaultIs e (add_fault self.old (entry (Gate (Source bit)) [] (name ∷ [])))) }
+    {
+        self.add(Entry::source(bit, name))
+    }
+
+    /// Adds a gate, which consumes the wires `ins` and defines the wires `outs`, as many as its kind has. The code is
+    /// that of the first test that fails: 2 where a delay is not 1..4096, or there would be more than 4096 wires or
+    /// 1024 gates; then, from left to right, 3 where a name of `ins` is not defined, 5 where it is consumed already,
+    /// and 4 where a name of `outs` is defined already. A fault changes nothing.
+    pub fn add_gate(
+        &mut self,
+        kind: GateKind,
+        ins: &[Name],
+        outs: &[Name],
+    ) -> Result<(), LineFault>
+        requires ins { length ins.now ≡ uses (rule_of kind) }
+        requires outs { length outs.now ≡ defines (rule_of kind) }
+        ensures ok { OnOk result ((add_fault self.old (entry (Gate kind) ins.now outs.now) ≡ None) × (self.new ≡ self.old ++ entry (Gate kind) ins.now outs.now ∷ [])) }
+        ensures err { OnErr result (self.new ≡ self.old) }
+        ensures fault { IfErr result (λ e. FaultIs e (add_fault self.old (entry (Gate kind) ins.now outs.now))) }
+    {
+        let few_ins = kind.ins();
+        let few_outs = kind.outs();
+        prove!(few_ins <= 3 && few_outs <= 4);
+        self.add(Entry {
+            kind: Kind::Gate(kind),
+            ins: Names::of(ins),
+            outs: Names::of(outs),
+        })
+    }
+
+    /// Adds an output, which consumes a wire. The code is 3 where the name is not defined, 5 where the wire is consumed
+    /// already. A fault changes nothing.
+    pub fn add_output(&mut self, name: Name) -> Result<(), LineFault>
+        ensures ok { OnOk result ((add_fault self.old (entry Output (name ∷ []) []) ≡ None) × (self.new ≡ self.old ++ entry Output (name ∷ []) [] ∷ [])) }
+        ensures err { OnErr result (self.new ≡ self.old) }
+        ensures fault { IfErr result (λ e. FaultIs e (add_fault self.old (entry Output (name ∷ []) []))) }
+    {
+        self.add(Entry::output(name))
+    }
+
+    /// Adds a spill, which consumes a wire that is no output. The code is 3 where the name is not defined, 5 where the
+    /// wire is consumed already. A fault changes nothing.
+    pub fn add_spill(&mut self, name: Name) -> Result<(), LineFault>
+        ensures ok { OnOk result ((add_fault self.old (entry Spill (name ∷ []) []) ≡ None) × (self.new ≡ self.old ++ entry Spill (name ∷ []) [] ∷ [])) }
+        ensures err { OnErr result (self.new ≡ self.old) }
+        ensures fault { IfErr result (λ e. FaultIs e (add_fault self.old (entry Spill (name ∷ []) []))) }
+    {
+        self.add(Entry::spill(name))
+    }
+
+    // The first wire that nobody consumes.
+    pub(crate) fn missing(&self) -> Option<Name>
+        ensures { result ≡ unused (consumed self.now) (defined self.now) }
+    {
+        first_unused(self.wires.as_slice(), &self.consumed)
+    }
+
+    /// The circuit of these lines, if each wire is consumed. Takes no memory.
+    pub fn finish(self) -> Result<Circuit, Unused>
+        ensures ok { IfOk result (λ c. (c ≡ self) × (unused (consumed self) (defined self) ≡ None)) }
+        ensures err { IfErr result (λ u. (u.draft ≡ self) × (unused (consumed self) (defined self) ≡ Some u.wire)) }
+    {
+        if let Some(wire) = first_unused(self.wires.as_slice(), &self.consumed) {
+            return Err(Unused { draft: self, wire });
+        }
+        let Draft {
+            wires,
+            consumed: _,
+            entries,
+            wired,
+            gates: _,
+        } = self;
+        Ok(Circuit { wires, entries, wired })
+    }
+}

@@ -1,0 +1,143 @@
+//! The lines of a circuit.
+ghost use Rattle.std.specs.Prelude.{◌≡◌, ◌≤◌, [], ◌∷◌};
+ghost use Rattle.circuit.specs.Entries.{rank_of, entry};
+ghost use Rattle.circuit.specs.Gates.{rule_of, uses, defines};
+ghost use Rattle.circuit.specs.declared.entry.Kind.TheVariants.{Input, Gate, Output, Spill};
+ghost use Rattle.circuit.specs.declared.entry.GateKind.TheVariants.{Source};
+
+use section_text::{Name, Names};
+
+/// The kinds of gate (Fredkin and Toffoli 1982), with the order of their wires. A source has no input, and all others
+/// keep the number of ones.
+#[derive(Clone, Copy, Debug, PartialEq, Eq)]
+pub enum GateKind {
+    /// One wire, which has this value.
+    Source(bool),
+    /// `c x y -> d u v`: d is c; where c is true u is x and v is y, else u is y and v is x.
+    Fredkin,
+    /// `c x y -> d u v`: d is c; where c is true u is y and v is x, else u is x and v is y.
+    Cswap,
+    /// `p q -> a b c d`: a and d are p and q; b is q without p; c is p without q.
+    Interact,
+    /// `c x -> d y z`: d is c; y is x where c is true, z is x where it is false; the other one is false.
+    Switch,
+    /// `a -> b`: b is a. The number, 1..4096, is the delay in steps.
+    Delay(u32),
+}
+
+/// The kinds of line.
+#[derive(Clone, Copy, Debug, PartialEq, Eq)]
+pub enum Kind {
+    Input,
+    Gate(GateKind),
+    Output,
+    Spill,
+}
+
+/// A line of a circuit: its kind, the wires that it consumes, and the wires that it defines.
+#[derive(Drop)]
+pub struct Entry {
+    pub kind: Kind,
+    pub ins: Names,
+    pub outs: Names,
+}
+
+impl GateKind {
+    /// How many wires a gate of this kind consumes.
+    pub fn ins(self) -> usize
+        ensures count { result ≡ uses (rule_of self) }
+        ensures few { result ≤ 3 }
+    {
+        match self {
+            GateKind::Source(_) => 0,
+            GateKind::Fredkin => 3,
+            GateKind::Cswap => 3,
+            GateKind::Interact => 2,
+            GateKind::Switch => 2,
+            GateKind::Delay(_) => 1,
+        }
+    }
+
+    /// How many wires a gate of this kind defines.
+    pub fn outs(self) -> usize
+        ensures count { result ≡ defines (rule_of self) }
+        ensures few { result ≤ 4 }
+    {
+        match self {
+            GateKind::Source(_) => 1,
+            GateKind::Fredkin => 3,
+            GateKind::Cswap => 3,
+            GateKind::Interact => 4,
+            GateKind::Switch => 3,
+            GateKind::Delay(_) => 1,
+        }
+    }
+}
+
+impl Kind {
+    /// The place of the kind in the order of a circuit's lines.
+    pub fn rank(self) -> u8
+        ensures rank { result ≡ rank_of self }
+    {
+        match self {
+            Kind::Input => 0,
+            Kind::Gate(_) => 1,
+            Kind::Output => 2,
+            Kind::Spill => 3,
+        }
+    }
+}
+
+fn one(name: Name) -> Names
+    ensures { result ≡ name ∷ [] }
+{
+    let mut names = Names::new();
+    names.push(name);
+    names
+}
+
+impl Entry {
+    /// An input, which defines a wire.
+    pub fn input(name: Name) -> Entry
+        ensures { result ≡ entry Input [] (name ∷ []) }
+    {
+        Entry {
+            kind: Kind::Input,
+            ins: Names::new(),
+            outs: one(name),
+        }
+    }
+
+    /// A source, which defines a wire.
+    pub fn source(bit: bool, name: Name) -> Entry
+        ensures { result ≡ entry (Gate (Source bit)) [] (name ∷ []) }
+    {
+        Entry {
+            kind: Kind::Gate(GateKind::Source(bit)),
+            ins: Names::new(),
+            outs: one(name),
+        }
+    }
+
+    /// An output, which consumes a wire.
+    pub fn output(name: Name) -> Entry
+        ensures { result ≡ entry Output (name ∷ []) [] }
+    {
+        Entry {
+            kind: Kind::Output,
+            ins: one(name),
+            outs: Names::new(),
+        }
+    }
+
+    /// A spill, which consumes a wire.
+    pub fn spill(name: Name) -> Entry
+        ensures { result ≡ entry Spill (name ∷ []) [] }
+    {
+        Entry {
+            kind: Kind::Spill,
+            ins: one(name),
+            outs: Names::new(),
+        }
+    }
+}

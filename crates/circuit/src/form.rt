@@ -1,0 +1,135 @@
+//! The line forms of the circuit section.
+ghost use Rattle.std.specs.Prelude.{◌≡◌, ◌+◌, ◌≤◌, [], ◌∷◌};
+ghost use Rattle.section_text.specs.Words.{words_of};
+ghost use Rattle.section_text.specs.FeedState.{IsLine, line_bytes};
+ghost use Rattle.circuit.specs.Forms.{lone_name, bit_at, gate_kind, words_before, gate_names, gate_entry, lone, form_of};
+
+use crate::entry::{GateKind, Kind, Entry};
+use section_text::{Feed, Form, Line, Name, Names};
+
+#[tactic(auto, unfolding(crate::specs::Forms::lone_name))]
+fn lone_name_of(feed: &Feed, line: &Line) -> Option<Name>
+    requires { IsLine feed.now line.now }
+    ensures { result ≡ lone_name (words_of (line_bytes feed.now line.now)) }
+{
+    if feed.words(line) != 2 {
+        return None;
+    }
+    feed.name(line, 1)
+}
+
+#[tactic(auto, unfolding(crate::specs::Forms::bit_at))]
+fn bit_of(feed: &Feed, line: &Line, index: usize) -> Option<bool>
+    requires { IsLine feed.now line.now }
+    ensures { result ≡ bit_at (words_of (line_bytes feed.now line.now)) index }
+{
+    if feed.is(line, index, b"0") {
+        Some(false)
+    } else if feed.is(line, index, b"1") {
+        Some(true)
+    } else {
+        None
+    }
+}
+
+#[tactic(auto, unfolding(crate::specs::Forms::gate_kind))]
+fn gate_kind_of(feed: &Feed, line: &Line) -> Option<GateKind>
+    requires { IsLine feed.now line.now }
+    ensures { result ≡ gate_kind (words_of (line_bytes feed.now line.now)) }
+{
+    if feed.is(line, 0, b"source") {
+        Some(GateKind::Source(bit_of(feed, line, 1)?))
+    } else if feed.is(line, 0, b"fredkin") {
+        Some(GateKind::Fredkin)
+    } else if feed.is(line, 0, b"cswap") {
+        Some(GateKind::Cswap)
+    } else if feed.is(line, 0, b"interact") {
+        Some(GateKind::Interact)
+    } else if feed.is(line, 0, b"switch") {
+        Some(GateKind::Switch)
+    } else if feed.is(line, 0, b"delay") {
+        Some(GateKind::Delay(feed.number(line, 1)?))
+    } else {
+        None
+    }
+}
+
+fn words_before_names(kind: GateKind) -> usize
+    ensures count { result ≡ words_before kind }
+    ensures few { result ≤ 2 }
+{
+    match kind {
+        GateKind::Source(_) => 2,
+        GateKind::Fredkin => 1,
+        GateKind::Cswap => 1,
+        GateKind::Interact => 1,
+        GateKind::Switch => 1,
+        GateKind::Delay(_) => 2,
+    }
+}
+
+#[tactic(auto, unfolding(crate::specs::Forms::gate_names))]
+fn gate_names_of(feed: &Feed, line: &Line, kind: GateKind) -> Option<Entry>
+    requires { IsLine feed.now line.now }
+    ensures { result ≡ gate_names (words_of (line_bytes feed.now line.now)) kind }
+{
+    let first = words_before_names(kind);
+    let count = kind.ins();
+    let ins = feed.names(line, first, count)?;
+    let outs = feed.names(line, first + count + 1, kind.outs())?;
+    Some(Entry {
+        kind: Kind::Gate(kind),
+        ins,
+        outs,
+    })
+}
+
+#[tactic(auto, unfolding(crate::specs::Forms::gate_entry))]
+fn gate_entry_of(feed: &Feed, line: &Line) -> Option<Entry>
+    requires { IsLine feed.now line.now }
+    ensures { result ≡ gate_entry (words_of (line_bytes feed.now line.now)) }
+{
+    let kind = gate_kind_of(feed, line)?;
+    let before = words_before_names(kind) + kind.ins();
+    if feed.words(line) != before + 1 + kind.outs() {
+        return None;
+    }
+    if !feed.is(line, before, b"->") {
+        return None;
+    }
+    gate_names_of(feed, line, kind)
+}
+
+// The form of a line that is one word.
+#[tactic(auto, unfolding(crate::specs::Forms::lone))]
+fn lone_of(feed: &Feed, line: &Line, form: Form<(), Entry>) -> Option<Form<(), Entry>>
+    requires { IsLine feed.now line.now }
+    ensures { result ≡ lone (words_of (line_bytes feed.now line.now)) form }
+{
+    if feed.words(line) == 1 {
+        Some(form)
+    } else {
+        None
+    }
+}
+
+/// The form of a line, if it has one.
+#[tactic(auto, unfolding(crate::specs::Forms::form_of))]
+pub fn line_form(feed: &Feed, line: &Line) -> Option<Form<(), Entry>>
+    requires { IsLine feed.now line.now }
+    ensures { result ≡ form_of (words_of (line_bytes feed.now line.now)) }
+{
+    if feed.is(line, 0, b"circuit") {
+        lone_of(feed, line, Form::Header(()))
+    } else if feed.is(line, 0, b"end") {
+        lone_of(feed, line, Form::End)
+    } else if feed.is(line, 0, b"input") {
+        Some(Form::Item(Entry::input(lone_name_of(feed, line)?)))
+    } else if feed.is(line, 0, b"output") {
+        Some(Form::Item(Entry::output(lone_name_of(feed, line)?)))
+    } else if feed.is(line, 0, b"spill") {
+        Some(Form::Item(Entry::spill(lone_name_of(feed, line)?)))
+    } else {
+        Some(Form::Item(gate_entry_of(feed, line)?))
+    }
+}

@@ -1,0 +1,135 @@
+//! Circuits: their wires, their gates, and their values.
+ghost use Rattle.std.specs.Prelude.{◌≡◌, ◌<◌, ◌≤◌, Some, length, take, slice_get, IfOk};
+ghost use Rattle.circuit.specs.Rules.{defined};
+ghost use Rattle.circuit.specs.Bridge.{AreValues, circuit_of, input_count, input_names, is_input, netlist_of, read};
+ghost use Rattle.circuit.specs.Meaning.{AreForward, AreOrdered, wire_of, wires};
+ghost use Rattle.circuit.specs.Wiring.{gate_of};
+
+use crate::entry::{Entry, Kind};
+use crate::number::{GateNo, WireNo};
+use crate::wiring::{GateWires, values_of};
+use indexmap::IndexSet;
+use section_text::Name;
+use std::alloc::{AllocError, Global};
+use std::marker::Model;
+
+/// A circuit of conservative logic (Fredkin and Toffoli 1982): each wire is defined once and consumed once, and a gate
+/// uses wires that were defined before it. It has at most 4096 wires and 1024 gates. Contracts see its lines.
+#[derive(Drop)]
+pub struct Circuit {
+    pub(crate) wires: IndexSet<Name>,
+    pub(crate) entries: Vec<Entry>,
+    pub(crate) wired: Vec<GateWires>,
+}
+
+impl Model for Circuit {
+    ghost use Rattle.std.specs.Prelude.{List};
+    ghost use Rattle.circuit.specs.declared.entry.Entry.{Entry};
+
+    ghost Value = { List Entry };
+
+    ghost use Rattle.circuit.specs.CircuitView.{circuit_entries, IsCircuit};
+
+    ghost view = { circuit_entries };
+
+    ghost invariant = { IsCircuit };
+}
+
+fn is_input_kind(kind: Kind) -> bool
+    ensures { result ≡ is_input kind }
+{
+    match kind {
+        Kind::Input => true,
+        _ => false,
+    }
+}
+
+fn count_inputs(entries: &[Entry]) -> usize
+    ensures { result ≡ input_count entries.now }
+{
+    entries
+        .iter()
+        .filter(|entry| is_input_kind(entry.kind))
+        .count()
+}
+
+impl Circuit {
+    // The lines of the circuit.
+    pub(crate) fn entries(&self) -> &[Entry]
+        ensures { result.now ≡ self.now }
+    {
+        self.entries.as_slice()
+    }
+
+    // The names of the wires, by their numbers.
+    pub(crate) fn names(&self) -> &[Name]
+        ensures names { result.now ≡ defined self.now }
+        ensures all { length (defined self.now) ≡ wires (netlist_of self.now) }
+    {
+        self.wires.as_slice()
+    }
+
+    /// How many inputs the circuit has. They are its first wires, in the order of their lines.
+    pub fn inputs(&self) -> usize
+        ensures count { result ≡ (netlist_of self.now).given }
+        ensures first { take result (defined self.now) ≡ input_names self.now }
+        ensures named { length (input_names self.now) ≡ result }
+    {
+        count_inputs(self.entries.as_slice())
+    }
+
+    /// How many wires the circuit has, at most 4096. They are numbered from 0 in order of definition.
+    pub fn wires(&self) -> usize
+        ensures count { result ≡ wires (netlist_of self.now) }
+        ensures named { result ≡ length (defined self.now) }
+        ensures few { result ≤ 4096 }
+    {
+        self.wires.len()
+    }
+
+    /// The wire of this name, if there is one.
+    pub fn wire(&self, name: &Name) -> Option<WireNo>
+        ensures { result ≡ wire_of (circuit_of self.now) name.now }
+    {
+        let index = self.wires.get_index_of(name)?;
+        Some(WireNo::of(index as u16))
+    }
+
+    /// The name of a wire, for a number below `wires()`.
+    pub fn name(&self, wire: WireNo) -> Name
+        requires { wire < length (defined self.now) }
+        ensures name { slice_get (defined self.now) wire ≡ Some result }
+        ensures own { wire_of (circuit_of self.now) result ≡ Some wire }
+    {
+        self.wires.as_slice()[wire.number() as usize]
+    }
+
+    /// How many gates the circuit has, at most 1024, sources among them. They are numbered from 0 in the order of
+    /// their lines. Each of them uses wires that inputs and earlier gates define, and has its row at every input.
+    pub fn gates(&self) -> usize
+        ensures count { result ≡ length (netlist_of self.now).gates }
+        ensures few { result ≤ 1024 }
+        ensures ordered { AreOrdered (netlist_of self.now).given (netlist_of self.now).gates }
+        ensures forward { AreForward (netlist_of self.now).gates }
+    {
+        self.wired.len()
+    }
+
+    /// A gate, for a number below `gates()`: its kind, and the wires that it uses and defines.
+    pub fn gate(&self, gate: GateNo) -> GateWires
+        requires { gate < length (netlist_of self.now).gates }
+        ensures { slice_get (netlist_of self.now).gates gate ≡ Some (gate_of result) }
+    {
+        self.wired.as_slice()[gate.number() as usize]
+    }
+
+    /// Each wire's value, by its number, in the one valuation in which the inputs have these values, one for each
+    /// input. `AllocError` is want of memory.
+    pub fn values(&self, alloc: Global, inputs: &[bool]) -> Result<Vec<bool>, AllocError>
+        requires { length inputs.now ≡ (netlist_of self.now).given }
+        ensures { IfOk result (λ vs. AreValues (netlist_of self.now) (read inputs.now) vs.items) }
+    {
+        let values = values_of(alloc, inputs, self.wired.as_slice())?;
+        Ok(values)
+    }
+}

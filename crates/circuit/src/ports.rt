@@ -1,0 +1,53 @@
+//! The names of a circuit's inputs and outputs.
+ghost use Rattle.std.specs.Prelude.{◌≡◌, [], ◌∷◌, ◌++◌, length, OnOk, IfOk};
+ghost use Rattle.circuit.specs.Bridge.{input_names, is_input, is_output, netlist_of, output_names};
+ghost use Rattle.circuit.specs.Ports.{ArePorts};
+
+use crate::entry::{Entry, Kind};
+use crate::netlist::Circuit;
+use section_text::{Name, PortNames};
+use std::alloc::{AllocError, Global};
+
+fn add_inputs(names: &mut Vec<Name>, entry: &Entry) -> Result<(), AllocError>
+    ensures { OnOk result (names.new.items ≡ names.old.items ++ input_names (entry.now ∷ [])) }
+{
+    match entry.kind {
+        Kind::Input => names.extend_from_slice(entry.outs.as_slice()),
+        _ => Ok(()),
+    }
+}
+
+fn add_outputs(names: &mut Vec<Name>, entry: &Entry) -> Result<(), AllocError>
+    ensures { OnOk result (names.new.items ≡ names.old.items ++ output_names (entry.now ∷ [])) }
+{
+    match entry.kind {
+        Kind::Output => names.extend_from_slice(entry.ins.as_slice()),
+        _ => Ok(()),
+    }
+}
+
+fn ports_of(
+    ins: &mut Vec<Name>,
+    outs: &mut Vec<Name>,
+    entries: &[Entry],
+) -> Result<(), AllocError>
+    ensures ins { OnOk result (ins.new.items ≡ ins.old.items ++ input_names entries.now) }
+    ensures outs { OnOk result (outs.new.items ≡ outs.old.items ++ output_names entries.now) }
+{
+    for entry in entries {
+        add_inputs(ins, entry)?;
+        add_outputs(outs, entry)?;
+    }
+    Ok(())
+}
+
+/// The names of the inputs and of the outputs, each in the order of their lines. A spill is no output.
+pub fn port_names(alloc: Global, circuit: &Circuit) -> Result<PortNames, AllocError>
+    ensures ports { IfOk result (ArePorts (input_names circuit.now) (output_names circuit.now)) }
+    ensures count { length (input_names circuit.now) ≡ (netlist_of circuit.now).given }
+{
+    let mut ins = Vec::with_capacity(alloc, circuit.inputs())?;
+    let mut outs = Vec::new(alloc);
+    ports_of(&mut ins, &mut outs, circuit.entries())?;
+    Ok(PortNames::Only { ins, outs })
+}

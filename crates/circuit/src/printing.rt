@@ -1,0 +1,127 @@
+//! The text of a circuit.
+ghost use Rattle.std.specs.Prelude.{◌≡◌, length, [], ◌∷◌, ◌++◌, codes, OnOk, IfOk};
+ghost use Rattle.std.specs.List.{flat_map};
+ghost use Rattle.section_text.specs.Spelling.{spaced};
+ghost use Rattle.circuit.specs.Bridge.{netlist_of};
+ghost use Rattle.circuit.specs.Meaning.{wires};
+ghost use Rattle.circuit.specs.Rules.{defined};
+ghost use Rattle.circuit.specs.Text.{value_line, value_lines, gate_word, gate_number, first_word, more_words, entry_text, circuit_text};
+
+use crate::entry::{Entry, GateKind, Kind};
+use crate::netlist::Circuit;
+use section_text::Name;
+use std::alloc::{AllocError, Global};
+
+fn print_names(out: &mut Vec<u8>, names: &[Name]) -> Result<(), AllocError>
+    ensures { OnOk result (out.new.items ≡ out.old.items ++ flat_map spaced names.now) }
+{
+    for name in names {
+        out.push(b' ')?;
+        out.extend_from_slice(name.bytes())?;
+    }
+    Ok(())
+}
+
+// The keyword of a gate, and its bit or number.
+fn print_gate(alloc: Global, out: &mut Vec<u8>, kind: GateKind) -> Result<(), AllocError>
+    ensures { OnOk result (out.new.items ≡ out.old.items ++ (gate_word kind ++ flat_map spaced (gate_number kind))) }
+{
+    match kind {
+        GateKind::Source(true) => out.extend_from_slice(b"source 1"),
+        GateKind::Source(false) => out.extend_from_slice(b"source 0"),
+        GateKind::Fredkin => out.extend_from_slice(b"fredkin"),
+        GateKind::Cswap => out.extend_from_slice(b"cswap"),
+        GateKind::Interact => out.extend_from_slice(b"interact"),
+        GateKind::Switch => out.extend_from_slice(b"switch"),
+        GateKind::Delay(n) => {
+            let number = n.to_string(alloc)?;
+            out.extend_from_slice(b"delay ")?;
+            out.extend_from_slice(number.as_bytes())
+        }
+    }
+}
+
+#[tactic(auto, unfolding(crate::specs::Text::entry_text, crate::specs::Text::first_word, crate::specs::Text::more_words))]
+fn print_entry(alloc: Global, out: &mut Vec<u8>, entry: &Entry) -> Result<(), AllocError>
+    ensures { OnOk result (out.new.items ≡ out.old.items ++ entry_text entry.now) }
+{
+    match entry.kind {
+        Kind::Input => {
+            out.extend_from_slice(b"input")?;
+            print_names(out, entry.outs.as_slice())?;
+        }
+        Kind::Gate(kind) => {
+            print_gate(alloc, out, kind)?;
+            print_names(out, entry.ins.as_slice())?;
+            out.extend_from_slice(b" ->")?;
+            print_names(out, entry.outs.as_slice())?;
+        }
+        Kind::Output => {
+            out.extend_from_slice(b"output")?;
+            print_names(out, entry.ins.as_slice())?;
+        }
+        Kind::Spill => {
+            out.extend_from_slice(b"spill")?;
+            print_names(out, entry.ins.as_slice())?;
+        }
+    }
+    out.push(b'\n')?;
+    Ok(())
+}
+
+fn print_entries(alloc: Global, out: &mut Vec<u8>, entries: &[Entry]) -> Result<(), AllocError>
+    ensures { OnOk result (out.new.items ≡ out.old.items ++ flat_map entry_text entries.now) }
+{
+    for entry in entries {
+        print_entry(alloc, out, entry)?;
+    }
+    Ok(())
+}
+
+/// The text of the circuit section.
+#[tactic(auto, unfolding(crate::specs::Text::circuit_text))]
+pub fn print_circuit(alloc: Global, circuit: &Circuit) -> Result<Vec<u8>, AllocError>
+    ensures { IfOk result (λ text. text.items ≡ circuit_text circuit.now) }
+{
+    let mut out = Vec::new(alloc);
+    out.extend_from_slice(b"circuit\n")?;
+    print_entries(alloc, &mut out, circuit.entries())?;
+    out.extend_from_slice(b"end\n")?;
+    Ok(out)
+}
+
+#[tactic(auto, unfolding(crate::specs::Text::value_line))]
+fn print_value(out: &mut Vec<u8>, name: &Name, value: bool) -> Result<(), AllocError>
+    ensures { OnOk result (out.new.items ≡ out.old.items ++ value_line name.now value) }
+{
+    out.extend_from_slice(name.bytes())?;
+    if value {
+        out.extend_from_slice(b" 1\n")
+    } else {
+        out.extend_from_slice(b" 0\n")
+    }
+}
+
+fn print_each(out: &mut Vec<u8>, names: &[Name], values: &[bool]) -> Result<(), AllocError>
+    requires { length values.now ≡ length names.now }
+    ensures { OnOk result (out.new.items ≡ out.old.items ++ value_lines names.now values.now) }
+{
+    for i in 0..names.len() {
+        print_value(out, &names[i], values[i])?;
+    }
+    Ok(())
+}
+
+/// A line `NAME 0` or `NAME 1` for each wire, in order of definition, for a value of each wire.
+pub fn print_values(
+    alloc: Global,
+    circuit: &Circuit,
+    values: &[bool],
+) -> Result<Vec<u8>, AllocError>
+    requires { length values.now ≡ wires (netlist_of circuit.now) }
+    ensures { IfOk result (λ text. text.items ≡ value_lines (defined circuit.now) values.now) }
+{
+    let mut out = Vec::new(alloc);
+    print_each(&mut out, circuit.names(), values)?;
+    Ok(out)
+}

@@ -1,0 +1,83 @@
+//! The reader of the circuit section.
+ghost use Rattle.std.specs.Prelude.{◌≡◌, ◌==◌, true, if◌then◌else◌};
+ghost use Rattle.section_text.specs.Section.{Reads};
+ghost use Rattle.circuit.specs.Rules.{last_rank, gate_count};
+ghost use Rattle.circuit.specs.Grammars.{circuit_grammar, circuit_value};
+
+use crate::draft::Draft;
+use crate::form::line_form;
+use crate::entry::Entry;
+use crate::netlist::Circuit;
+use section_text::{Feed, Form, Line, LineFault, ReadFault, Section, read_section};
+use std::alloc::Global;
+
+// A circuit that is read: the lines so far, and the rank of the last one.
+#[derive(Drop)]
+struct Reading {
+    draft: Draft,
+    rank: u8,
+    ghost ranked: { rank ≡ last_rank draft },
+    ghost no_gate: { (if rank == 0 then gate_count draft else 0) ≡ 0 },
+}
+
+impl Section for Reading {
+    type Header = ();
+
+    type Item = Entry;
+
+    ghost grammar = { λ _. circuit_grammar };
+
+    ghost header = { λ _. tt };
+
+    ghost items = { λ r. r.draft };
+
+    fn form(&self, feed: &Feed, line: &Line) -> Option<Form<(), Entry>> {
+        line_form(feed, line)
+    }
+
+    fn begin(&mut self, _head: ()) -> Result<(), LineFault> {
+        Ok(())
+    }
+
+    fn add(&mut self, entry: Entry) -> Result<(), LineFault> {
+        let next = entry.kind.rank();
+        if next < self.rank {
+            return Err(LineFault::Code(6));
+        }
+        match self.draft.add(entry) {
+            Ok(()) => {
+                self.rank = next;
+                Ok(())
+            }
+            Err(fault) => Err(fault),
+        }
+    }
+
+    fn missing(&self) -> Option<u8> {
+        match self.draft.missing() {
+            Some(_) => Some(11),
+            None => None,
+        }
+    }
+}
+
+/// Reads a circuit section.
+pub fn read_circuit(alloc: Global, feed: &mut Feed) -> Result<Circuit, ReadFault>
+    requires { feed.old.closed ≡ true }
+    ensures { Reads circuit_grammar circuit_value feed.old feed.new result }
+{
+    let mut reading = Reading {
+        draft: Draft::new(alloc),
+        rank: 0,
+    };
+    match read_section(feed, &mut reading) {
+        Err(fault) => Err(fault),
+        Ok(()) => {
+            let Reading { draft, rank: _ } = reading;
+            match draft.finish() {
+                Ok(circuit) => Ok(circuit),
+                Err(_) => unreachable!(),
+            }
+        }
+    }
+}

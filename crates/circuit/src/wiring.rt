@@ -1,0 +1,168 @@
+//! Gates by the numbers of their wires, and the values of wires, gate after gate.
+ghost use Rattle.std.specs.Prelude.{◌≡◌, ◌≤◌, ◌<◌, ◌^◌, ◌++◌, Bool, List, Some, map, length, take, option_map, OnOk, OnErr, IfOk};
+ghost use Rattle.std.specs.List.{range_with_len};
+ghost use Rattle.circuit.specs.Gates.{row, rule_of, uses};
+ghost use Rattle.circuit.specs.Bridge.{read, number};
+ghost use Rattle.circuit.specs.Evaluate.{evaluate};
+ghost use Rattle.circuit.specs.Wiring.{gate_of, gate_at};
+
+use crate::entry::{GateKind, Kind};
+use crate::number::WireNo;
+use indexmap::IndexSet;
+use section_text::Name;
+use std::alloc::{AllocError, Global};
+
+/// A gate of a circuit: its kind, and the numbers of its wires. Contracts see it by `gate_of`.
+#[derive(Clone, Copy)]
+pub struct GateWires {
+    kind: GateKind,
+    ins: [WireNo; 4],
+    outs: [WireNo; 4],
+}
+
+impl GateWires {
+    /// The kind of the gate.
+    pub fn kind(&self) -> GateKind
+        ensures kind { result ≡ self.now.kind }
+        ensures rule { rule_of result ≡ (gate_of self.now).kind }
+    {
+        self.kind
+    }
+
+    /// The wires that the gate uses, in the order of its line.
+    pub fn ins(&self) -> &[WireNo]
+        ensures { result.now ≡ (gate_of self.now).ins }
+    {
+        &self.ins[..self.kind.ins()]
+    }
+
+    /// The wires that the gate defines, in the order of its line.
+    pub fn outs(&self) -> &[WireNo]
+        ensures { result.now ≡ (gate_of self.now).outs }
+    {
+        &self.outs[..self.kind.outs()]
+    }
+}
+
+fn wire_number(wires: &IndexSet<Name>, name: Name) -> WireNo
+    requires { length wires.now.keys ≤ 4096 }
+    ensures { result ≡ number wires.now.keys name }
+{
+    match wires.get_index_of(&name) {
+        Some(index) => WireNo::of(index as u16),
+        None => WireNo::of(wires.len() as u16),
+    }
+}
+
+/// The numbers of wires that are named.
+pub(crate) fn wire_numbers(wires: &IndexSet<Name>, names: &[Name]) -> [WireNo; 4]
+    requires few { length names.now ≤ 4 }
+    requires fits { length wires.now.keys ≤ 4096 }
+    ensures { take (length names.now) result ≡ map (number wires.now.keys) names.now }
+{
+    let none = WireNo::of(0);
+    match names {
+        [] => [none, none, none, none],
+        [a] => [wire_number(wires, *a), none, none, none],
+        [a, b] => [wire_number(wires, *a), wire_number(wires, *b), none, none],
+        [a, b, c] => [
+            wire_number(wires, *a),
+            wire_number(wires, *b),
+            wire_number(wires, *c),
+            none,
+        ],
+        [a, b, c, d] => [
+            wire_number(wires, *a),
+            wire_number(wires, *b),
+            wire_number(wires, *c),
+            wire_number(wires, *d),
+        ],
+        _ => unreachable!(),
+    }
+}
+
+// Four wires, from this one on.
+fn next_four(first: u16) -> [WireNo; 4]
+    requires { first ≤ 4096 }
+    ensures { result ≡ range_with_len first 4 }
+{
+    [
+        WireNo::of(first),
+        WireNo::of(first + 1),
+        WireNo::of(first + 2),
+        WireNo::of(first + 3),
+    ]
+}
+
+/// Adds the gate of a line, if it is a gate's line. The wires that it defines are numbered from `first` on. An error
+/// changes nothing.
+pub(crate) fn add_wires(
+    gates: &mut Vec<GateWires>,
+    kind: Kind,
+    ins: [WireNo; 4],
+    first: u16,
+) -> Result<(), AllocError>
+    requires { first ≤ 4096 }
+    ensures ok { OnOk result (map gate_of gates.new.items ≡ map gate_of gates.old.items ++ gate_at kind ins first) }
+    ensures kept { OnOk result (take (length gates.old.items) gates.new.items ≡ gates.old.items) }
+    ensures err { OnErr result (gates.new.items ≡ gates.old.items) }
+{
+    match kind {
+        Kind::Gate(kind) => {
+            let outs = next_four(first);
+            gates.push(GateWires { kind, ins, outs })?;
+            Ok(())
+        }
+        _ => Ok(()),
+    }
+}
+
+fn value_at(values: &[bool], wire: WireNo) -> bool
+    ensures { result ≡ read values.now wire }
+{
+    values
+        .get(wire.number() as usize)
+        .copied()
+        .unwrap_or(false)
+}
+
+/// Adds the values of the wires that the gate defines.
+#[tactic(auto, unfolding(crate::specs::Gates::row))]
+fn push_outs(values: &mut Vec<bool>, gate: GateWires) -> Result<(), AllocError>
+    ensures { OnOk result (option_map (λ (r : List Bool). values.old.items ++ r) (row (rule_of gate.kind) (map (read values.old.items) (take (uses (rule_of gate.kind)) gate.ins))) ≡ Some values.new.items) }
+{
+    let [x, y, z, _] = gate.ins;
+    let a = value_at(values.as_slice(), x);
+    let b = value_at(values.as_slice(), y);
+    let c = value_at(values.as_slice(), z);
+    match gate.kind {
+        GateKind::Source(bit) => values.extend_from_slice(&[bit])?,
+        GateKind::Fredkin => {
+            let (u, v) = if a { (b, c) } else { (c, b) };
+            values.extend_from_slice(&[a, u, v])?
+        }
+        GateKind::Cswap => {
+            let (u, v) = if a { (c, b) } else { (b, c) };
+            values.extend_from_slice(&[a, u, v])?
+        }
+        GateKind::Interact => values.extend_from_slice(&[a & b, !a & b, a & !b, a & b])?,
+        GateKind::Switch => values.extend_from_slice(&[a, a & b, !a & b])?,
+        GateKind::Delay(_) => values.extend_from_slice(&[a])?,
+    }
+    Ok(())
+}
+
+/// The values of all wires, those that are given first.
+pub(crate) fn values_of(
+    alloc: Global,
+    given: &[bool],
+    gates: &[GateWires],
+) -> Result<Vec<bool>, AllocError>
+    ensures { IfOk result (λ vs. evaluate given.now (map gate_of gates.now) ≡ Some vs.items) }
+{
+    let mut values = given.to_vec(alloc)?;
+    for gate in gates {
+        push_outs(&mut values, *gate)?;
+    }
+    Ok(values)
+}

@@ -1,0 +1,31 @@
+//! Which names are on.
+ghost use Rattle.std.specs.Prelude.{◌≡◌, ◌++◌, map, OnOk, IfOk};
+ghost use Rattle.pattern.specs.Lines.{has};
+
+use crate::names::index_of;
+use indexmap::IndexSet;
+use section_text::Name;
+use std::alloc::{AllocError, Global};
+
+fn push_bits(
+    bits: &mut Vec<bool>,
+    names: &[Name],
+    on: &IndexSet<Name>,
+) -> Result<(), AllocError>
+    ensures { OnOk result (bits.new.items ≡ bits.old.items ++ map (λ n. has on.now.keys n) names.now) }
+{
+    for name in names {
+        bits.push(on.contains(name))?;
+    }
+    Ok(())
+}
+
+/// For each of the names whether it is on, that is, one of the names `on`. The error is want of memory.
+pub fn are_on(alloc: Global, names: &[Name], on: &[Name]) -> Result<Vec<bool>, AllocError>
+    ensures { IfOk result (λ bits. bits.items ≡ map (λ n. has on.now n) names.now) }
+{
+    let on = index_of(alloc, on)?;
+    let mut bits = Vec::new(alloc);
+    push_bits(&mut bits, names, &on)?;
+    Ok(bits)
+}
