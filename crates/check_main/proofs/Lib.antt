@@ -1,3 +1,4 @@
 mod AskedLemmas
 mod OneAnswer
 mod InNames
+mod OneValue

@@ -1,8 +1,14 @@
 //! Laws of the definitions, each the contract of a function without a body.
 ghost use Rattle.check_main.specs.Laws.{HasOneAnswer};
 ghost use Rattle.check_main.specs.RunText.{IsRunOf};
+ghost use Rattle.check_main.specs.ValueText.{IsValueOf};
 
 /// What `run` writes for a text, and how it ends, is a function of the text.
 pub fn run_has_one_answer()
     ensures { HasOneAnswer IsRunOf }
+{}
+
+/// What `value` writes for a text, and how it ends, is a function of the text.
+pub fn value_has_one_answer()
+    ensures { HasOneAnswer IsValueOf }
 {}

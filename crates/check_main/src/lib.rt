@@ -22,3 +22,6 @@ mod tests;
 
 #[cfg(test)]
 mod run_tests;
+
+#[cfg(test)]
+mod value_tests;
