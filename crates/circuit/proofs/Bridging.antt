@@ -49,7 +49,7 @@ numbers_new d (n ∷ ns) e h =
     let rest = numbers_new (d ++ n ∷ []) ns e first.1 in
     let same : (d ++ n ∷ []) ++ (ns ++ e) ≡ d ++ (n ∷ (ns ++ e)) = append_assoc d (n ∷ []) (ns ++ e) in
     ap₂ (λ x xs. x ∷ xs) (number_new d (ns ++ e) n first.0 (bytes_same n)) (
-      ap (λ (names : List (List ℕ)). map (number names) ns) (sym same) ∙ rest ∙ ap (λ k. range_with_len k (length ns)) (length-append d (n ∷ [])))
+    ap (λ (names : List (List ℕ)). map (number names) ns) (sym same) ∙ rest ∙ ap (λ k. range_with_len k (length ns)) (length-append d (n ∷ [])))
 
 -- ---- defined, counts, one line at a time
 pub defined_push : (before : List Entry) (r : Entry) → defined (before ++ r ∷ []) ≡ defined before ++ r.outs
@@ -95,11 +95,12 @@ ordered_line names before rest (GateLine k) ins outs good later e f =
     let pass = names_pass before _ good.adds in
     let have : Have (defined before) ins = consume_have (defined before) (consumed before) ins pass.0 in
     let numbers : map (number names) ins ≡ map (number (defined before)) ins =
-    ap (λ (names : List (List ℕ)). map (number names) ins) e ∙ numbers_left (defined before) (outs ++ defined rest) ins have in
-    (subst (λ ws. All (λ w. w < length (defined before)) ws) (sym numbers) (numbers_below (defined before) ins have),
-    length-map ins (number names) ∙ good.fits.0,
-    ap (λ (names : List (List ℕ)). map (number names) outs) e ∙ numbers_new (defined before) outs (defined rest) pass.1 ∙ ap (range_with_len (length (defined before))) good.fits.1,
-    subst (λ m. AreOrdered m (gates_of names rest)) (length-append (defined before) outs ∙ ap (λ k. length (defined before) + k) good.fits.1) later)
+    ap (λ (names : List (List ℕ)). map (number names) ins) e ∙ numbers_left (defined before) (outs ++ defined rest) ins have in (
+      subst (λ ws. All (λ w. w < length (defined before)) ws) (sym numbers) (numbers_below (defined before) ins have),
+      length-map ins (number names) ∙ good.fits.0,
+      ap (λ (names : List (List ℕ)). map (number names) outs) e ∙ numbers_new (defined before) outs (defined rest) pass.1 ∙ ap (range_with_len (length (defined before))) good.fits.1,
+      subst (λ m. AreOrdered m (gates_of names rest)) (length-append (defined before) outs ∙ ap (λ k. length (defined before) + k) good.fits.1) later,
+    )
 ordered_line names before rest Output ins outs good later e f =
     subst (λ m. AreOrdered m (gates_of names rest)) (length-append (defined before) outs ∙ omega (arith, good.fits.1)) later
 ordered_line names before rest Spill ins outs good later e f =

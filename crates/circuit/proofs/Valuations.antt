@@ -93,13 +93,16 @@ found_all vs (g ∷ gs) ordered forward =
     λ w h. rest.same w (omega (arith, total)) ∙ get_or_append_left vs s.0 false w h in
     let here : HasRow (read out) g = ap (row g.kind) (map_below (length vs) (read out) (read vs) g.ins ordered.0 below) ∙ s.1
     ∙ ap Some (sym (ap (map (read out)) ordered.2 ∙ map_range s.0 (length vs) (defines g.kind) (read out) s.2
-    (λ i h. rest.same (length vs + i) (omega (arith, total)) ∙ get_or-append-add vs s.0 i false))) in
-    (out, ap (option_and_then (λ r. evaluate (vs ++ r) gs)) s.1 ∙ more.1, record {
-      all = rest.all ∙ ap (λ n. wires_after n gs) total;
-      longer = omega (arith, total, rest.longer);
-      same = below;
-      rows = all_cons (HasRow (read out)) g gs here rest.rows;
-    })
+    (λ i h. rest.same (length vs + i) (omega (arith, total)) ∙ get_or-append-add vs s.0 i false))) in (
+      out,
+      ap (option_and_then (λ r. evaluate (vs ++ r) gs)) s.1 ∙ more.1,
+      record {
+        all = rest.all ∙ ap (λ n. wires_after n gs) total;
+        longer = omega (arith, total, rest.longer);
+        same = below;
+        rows = all_cons (HasRow (read out)) g gs here rest.rows;
+      },
+    )
 
 -- ---- only one
 unique_after : (n : ℕ) (gs : List Gate) (v v' : Valuation) → AreOrdered n gs → All (HasRow v) gs → All (HasRow v') gs →

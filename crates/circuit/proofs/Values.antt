@@ -1,6 +1,11 @@
--- The values of wires by their names.
+-- The values of wires: their one valuation, their list, and their text.
 use Rattle.std.proofs.Common.{◌≡◌, ℕ, zero, suc, ◌+◌, ◌<◌, Bool, List, [], ◌∷◌, ◌++◌, length, take, get_or, sym, ap, ◌∙◌, arith, append_assoc}
 use Rattle.std.proofs.lemmas.List.{append-nil}
+use Rattle.circuit.specs.Meaning.{wires}
+use Rattle.circuit.specs.Bridge.{netlist_of}
+use Rattle.circuit.specs.Laws.{HasOneValuation, ListsValues}
+use Rattle.circuit.proofs.Bridging.{gates_are_ordered}
+use Rattle.circuit.proofs.Valuations.{has_valuation, at_most_one, map_range}
 use Rattle.circuit.specs.Text.{value_line, value_lines}
 
 value_lines_more : (ns : List (List ℕ)) (vs : List Bool) (k : ℕ) (n : List ℕ) (d : Bool) → k < length ns → k < length vs → n ≡ get_or ns k n →
@@ -21,3 +26,16 @@ pub printed_more : (out before new : List ℕ) (ns : List (List ℕ)) (vs : List
 printed_more out before new ns vs k n d h l is so_far here =
     here ∙ ap (λ (t : List ℕ). t ++ value_line n (get_or vs k d)) so_far ∙ append_assoc out (value_lines (take k ns) (take k vs)) (value_line n (get_or vs k d))
     ∙ ap (λ (t : List ℕ). out ++ t) (sym (value_lines_more ns vs k n d h l is))
+
+pub has_one_valuation : HasOneValuation
+has_one_valuation entries a good =
+    let gates = gates_are_ordered entries good in
+    let found = has_valuation (netlist_of entries) a gates.0 gates.1 in
+    (found.0, found.1, λ u s w h. at_most_one (netlist_of entries) a u found.0 gates.0 s found.1 w h)
+
+pub lists_values : ListsValues
+lists_values n a v vs values s =
+    map_range vs 0 (wires n) v values.all (λ i h. ap v (plus_zero i) ∙ values.only v s i (omega (arith, values.all, h)))
+  where
+    plus_zero : (i : ℕ) → 0 + i ≡ i
+    plus_zero i = omega arith

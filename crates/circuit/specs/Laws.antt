@@ -1,14 +1,14 @@
 -- Laws of the circuit section.
-use Rattle.std.specs.Prelude.{◌≡◌, ℕ, ◌+◌, ◌<◌, List, length, take, drop, Some, Ok, slice_get}
+use Rattle.std.specs.Prelude.{◌≡◌, ℕ, ◌+◌, ◌<◌, Bool, List, length, map, take, drop, Some, Ok, slice_get}
 use Rattle.section_text.specs.Words.{lines_of}
-use Rattle.std.specs.List.{flat_map}
+use Rattle.std.specs.List.{flat_map, range_with_len}
 use Rattle.section_text.specs.Section.{section_of, ended_line}
 use Rattle.circuit.specs.declared.entry.Entry.{Entry}
 use Rattle.circuit.specs.Grammars.{circuit_grammar}
 use Rattle.circuit.specs.Text.{circuit_text}
 use Rattle.circuit.specs.Rules.{defined}
 use Rattle.circuit.specs.Meaning.{Netlist, Valuation, Satisfies, AreOrdered, AreForward, wires, wire_of}
-use Rattle.circuit.specs.Bridge.{AreGood, input_count, input_names, gates_of, netlist_of, circuit_of}
+use Rattle.circuit.specs.Bridge.{AreGood, AreValues, input_count, input_names, gates_of, netlist_of, circuit_of}
 
 -- the text of a circuit that is read is the text of the lines that it is read from
 abbrev pub PrintsWhatIsRead : Type 0
@@ -29,6 +29,15 @@ HasValuation = (n : Netlist) (a : Valuation) → AreOrdered n.given n.gates → 
 -- ordered gates have at most one, with inverse gates too
 abbrev pub HasAtMostOneValuation : Type 0
 HasAtMostOneValuation = (n : Netlist) (a u v : Valuation) → AreOrdered n.given n.gates → Satisfies n a u → Satisfies n a v → (w : ℕ) → w < wires n → u w ≡ v w
+
+-- a circuit of good lines has one valuation, whatever its inputs are
+abbrev pub HasOneValuation : Type 0
+HasOneValuation = (entries : List Entry) (a : Valuation) → AreGood entries →
+    (v : Valuation) × Satisfies (netlist_of entries) a v × ((u : Valuation) → Satisfies (netlist_of entries) a u → (w : ℕ) → w < wires (netlist_of entries) → u w ≡ v w)
+
+-- what lists the values lists them of every valuation that satisfies the netlist
+abbrev pub ListsValues : Type 0
+ListsValues = (n : Netlist) (a v : Valuation) (vs : List Bool) → AreValues n a vs → Satisfies n a v → map v (range_with_len 0 (wires n)) ≡ vs
 
 -- the wires of a circuit have names of their own: the wire of the name of a wire is that wire
 abbrev pub NamesAreOwn : Type 0

@@ -1,13 +1,12 @@
 //! Circuits, line by line.
-ghost use Rattle.std.specs.Prelude.{◌≡◌, ◌==◌, ◌+◌, ◌-◌, ◌<◌, ◌≤◌, true, [], ◌∷◌, ◌++◌, length, Option, None, Some, OnOk, OnErr, IfOk, IfErr, slice_get};
-ghost use Rattle.std.specs.Option.{option_copied};
+ghost use Rattle.std.specs.Prelude.{◌≡◌, ◌==◌, ◌+◌, ◌-◌, true, [], ◌∷◌, ◌++◌, length, Option, None, Some, OnOk, OnErr, IfOk, IfErr};
 ghost use Rattle.circuit.specs.Entries.{entry};
 ghost use Rattle.circuit.specs.Gates.{rule_of, uses, defines};
 ghost use Rattle.circuit.specs.declared.entry.Kind.TheVariants.{Input, Gate, Output, Spill};
 ghost use Rattle.circuit.specs.declared.entry.GateKind.TheVariants.{Source};
-ghost use Rattle.circuit.specs.Rules.{add_fault, limit_fault, passes_limit, is_wrong_delay, is_gate, gate_count, defined, consumed, unused, has};
+ghost use Rattle.circuit.specs.Rules.{add_fault, passes_limit, is_wrong_delay, is_gate, gate_count, defined, consumed, unused};
 ghost use Rattle.section_text.specs.Adding.{FaultIs};
-ghost use Rattle.circuit.specs.Bridge.{FitsKind, InputsFirst, AreValues, netlist_of, input_count, read};
+ghost use Rattle.circuit.specs.Bridge.{FitsKind, InputsFirst};
 
 use crate::entry::{Entry, GateKind, Kind};
 use crate::netlist::Circuit;
@@ -178,12 +177,7 @@ impl Draft {
     /// that of the first test that fails: 2 where a delay is not 1..4096, or there would be more than 4096 wires or
     /// 1024 gates; then, from left to right, 3 where a name of `ins` is not defined, 5 where it is consumed already,
     /// and 4 where a name of `outs` is defined already. A fault changes nothing.
-    pub fn add_gate(
-        &mut self,
-        kind: GateKind,
-        ins: &[Name],
-        outs: &[Name],
-    ) -> Result<(), LineFault>
+    pub fn add_gate(&mut self, kind: GateKind, ins: &[Name], outs: &[Name]) -> Result<(), LineFault>
         requires ins { length ins.now ≡ uses (rule_of kind) }
         requires outs { length outs.now ≡ defines (rule_of kind) }
         ensures ok { OnOk result ((add_fault self.old (entry (Gate kind) ins.now outs.now) ≡ None) × (self.new ≡ self.old ++ entry (Gate kind) ins.now outs.now ∷ [])) }
@@ -242,6 +236,10 @@ impl Draft {
             wired,
             gates: _,
         } = self;
-        Ok(Circuit { wires, entries, wired })
+        Ok(Circuit {
+            wires,
+            entries,
+            wired,
+        })
     }
 }

@@ -1,10 +1,10 @@
 //! The line forms of the circuit section.
-ghost use Rattle.std.specs.Prelude.{◌≡◌, ◌+◌, ◌≤◌, [], ◌∷◌};
+ghost use Rattle.std.specs.Prelude.{◌≡◌, ◌+◌, ◌≤◌};
 ghost use Rattle.section_text.specs.Words.{words_of};
 ghost use Rattle.section_text.specs.FeedState.{IsLine, line_bytes};
 ghost use Rattle.circuit.specs.Forms.{lone_name, bit_at, gate_kind, words_before, gate_names, gate_entry, lone, form_of};
 
-use crate::entry::{GateKind, Kind, Entry};
+use crate::entry::{Entry, GateKind, Kind};
 use section_text::{Feed, Form, Line, Name, Names};
 
 #[tactic(auto, unfolding(crate::specs::Forms::lone_name))]

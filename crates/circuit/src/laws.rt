@@ -1,5 +1,5 @@
 //! Laws of the definitions.
-ghost use Rattle.circuit.specs.Laws.{PrintsWhatIsRead, ReadsWhatIsPrinted, GatesAreOrdered, HasValuation, HasAtMostOneValuation, WiresAreNamed, NamesAreOwn, InputsAreFirst};
+ghost use Rattle.circuit.specs.Laws.{PrintsWhatIsRead, ReadsWhatIsPrinted, GatesAreOrdered, HasValuation, HasAtMostOneValuation, HasOneValuation, ListsValues, WiresAreNamed, NamesAreOwn, InputsAreFirst};
 
 /// The text of a circuit that is read is the text of the lines that it is read from, and it is read as the same circuit again.
 pub fn one_text()
@@ -12,14 +12,24 @@ pub fn gates_are_ordered()
     ensures { GatesAreOrdered }
 {}
 
-/// A circuit without inverse gates has a valuation, whatever its inputs are.
+/// Ordered gates without inverse gates have a valuation, whatever the given wires are.
 pub fn has_valuation()
     ensures { HasValuation }
 {}
 
-/// A circuit has at most one valuation for its inputs.
+/// Ordered gates, inverse gates among them, have at most one valuation for their given wires.
 pub fn has_at_most_one_valuation()
     ensures { HasAtMostOneValuation }
+{}
+
+/// A circuit has exactly one valuation, whatever its inputs are.
+pub fn has_one_valuation()
+    ensures { HasOneValuation }
+{}
+
+/// What `Circuit::values` answers are the values of that valuation, from wire 0 on.
+pub fn lists_values()
+    ensures { ListsValues }
 {}
 
 /// Wires are numbered in order of definition, inputs first, and each has a name of its own.

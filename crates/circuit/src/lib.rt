@@ -1,4 +1,5 @@
-//! Circuits of conservative logic: their lines, their text, and how they are built.
+//! Circuits of conservative logic (Fredkin and Toffoli 1982): built line by line or read from their text, printed, and
+//! evaluated.
 #![tactic(auto)]
 
 mod draft;
@@ -20,6 +21,7 @@ pub use number::{GateNo, WireNo};
 pub use ports::port_names;
 pub use printing::{print_circuit, print_values};
 pub use reading::read_circuit;
+/// Why a draft does not take a line: the code, 2 to 5, of the first test that the line fails, or want of memory.
 pub use section_text::LineFault as CircuitFault;
 pub use wiring::GateWires;
 

@@ -64,7 +64,7 @@ impl Circuit {
     // The names of the wires, by their numbers.
     pub(crate) fn names(&self) -> &[Name]
         ensures names { result.now ≡ defined self.now }
-        ensures all { length (defined self.now) ≡ wires (netlist_of self.now) }
+        ensures count { length result.now ≡ wires (netlist_of self.now) }
     {
         self.wires.as_slice()
     }

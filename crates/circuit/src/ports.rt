@@ -1,6 +1,6 @@
 //! The names of a circuit's inputs and outputs.
 ghost use Rattle.std.specs.Prelude.{◌≡◌, [], ◌∷◌, ◌++◌, length, OnOk, IfOk};
-ghost use Rattle.circuit.specs.Bridge.{input_names, is_input, is_output, netlist_of, output_names};
+ghost use Rattle.circuit.specs.Bridge.{input_names, netlist_of, output_names};
 ghost use Rattle.circuit.specs.Ports.{ArePorts};
 
 use crate::entry::{Entry, Kind};
@@ -26,11 +26,7 @@ fn add_outputs(names: &mut Vec<Name>, entry: &Entry) -> Result<(), AllocError>
     }
 }
 
-fn ports_of(
-    ins: &mut Vec<Name>,
-    outs: &mut Vec<Name>,
-    entries: &[Entry],
-) -> Result<(), AllocError>
+fn ports_of(ins: &mut Vec<Name>, outs: &mut Vec<Name>, entries: &[Entry]) -> Result<(), AllocError>
     ensures ins { OnOk result (ins.new.items ≡ ins.old.items ++ input_names entries.now) }
     ensures outs { OnOk result (outs.new.items ≡ outs.old.items ++ output_names entries.now) }
 {

@@ -5,8 +5,8 @@ ghost use Rattle.circuit.specs.Rules.{last_rank, gate_count};
 ghost use Rattle.circuit.specs.Grammars.{circuit_grammar, circuit_value};
 
 use crate::draft::Draft;
-use crate::form::line_form;
 use crate::entry::Entry;
+use crate::form::line_form;
 use crate::netlist::Circuit;
 use section_text::{Feed, Form, Line, LineFault, ReadFault, Section, read_section};
 use std::alloc::Global;

@@ -1,5 +1,5 @@
 //! Gates by the numbers of their wires, and the values of wires, gate after gate.
-ghost use Rattle.std.specs.Prelude.{◌≡◌, ◌≤◌, ◌<◌, ◌^◌, ◌++◌, Bool, List, Some, map, length, take, option_map, OnOk, OnErr, IfOk};
+ghost use Rattle.std.specs.Prelude.{◌≡◌, ◌≤◌, ◌++◌, Bool, List, Some, map, length, take, option_map, OnOk, OnErr, IfOk};
 ghost use Rattle.std.specs.List.{range_with_len};
 ghost use Rattle.circuit.specs.Gates.{row, rule_of, uses};
 ghost use Rattle.circuit.specs.Bridge.{read, number};
@@ -120,10 +120,7 @@ pub(crate) fn add_wires(
 fn value_at(values: &[bool], wire: WireNo) -> bool
     ensures { result ≡ read values.now wire }
 {
-    values
-        .get(wire.number() as usize)
-        .copied()
-        .unwrap_or(false)
+    values.get(wire.number() as usize).copied().unwrap_or(false)
 }
 
 /// Adds the values of the wires that the gate defines.

@@ -1,14 +1,14 @@
 -- Readers one after the other read sections one after the other.
-use Rattle.std.proofs.Common.{◌≡◌, ℕ, ◌+◌, List, [], ◌∷◌, length, drop, Option, Some, None, Result, Ok, Err, refl, sym, ap, subst, ◌∙◌, arith}
-use Rattle.std.specs.Prelude.{IfOk, IfErr, OnOk, OnErr, ◌≢◌}
+use Rattle.std.proofs.Common.{◌≡◌, ℕ, ◌+◌, List, [], ◌∷◌, length, drop, None, Result, Ok, Err, refl, sym, ap, subst, ◌∙◌}
+use Rattle.std.specs.Prelude.{◌≢◌}
 use Rattle.std.proofs.lemmas.List.{drop-drop}
-use Rattle.section_text.specs.Words.{lines_of, rest_of}
+use Rattle.section_text.specs.Words.{lines_of}
 use Rattle.section_text.specs.Faults.{refusal}
-use Rattle.section_text.specs.FeedState.{FeedState, ahead, after_lines}
+use Rattle.section_text.specs.FeedState.{FeedState, ahead}
 use Rattle.section_text.specs.declared.fault.Refusal.{Refusal}
 use Rattle.section_text.specs.declared.fault.ReadFault.{ReadFault}
 use Rattle.section_text.specs.declared.fault.ReadFault.TheVariants.{Refused, Memory}
-use Rattle.section_text.specs.Section.{Grammar, section_of, refused_at, Reads, ReadsSection, Fails}
+use Rattle.section_text.specs.Section.{Grammar, section_of, refused_at, Reads, Fails}
 use Rattle.section_text.specs.Sections.{go_on, section_then, finished}
 
 module _ {H I A B : Type 0} (g : Grammar H I) (view : A → H × List I) (old new : FeedState) (going : old.stop ≡ None) (next : H → List I → ℕ → List (List ℕ) → Result B Refusal) where
@@ -19,7 +19,7 @@ module _ {H I A B : Type 0} (g : Grammar H I) (view : A → H × List I) (old ne
       let k = length (view a).1 + 2 in
       let taken : new.taken ≡ old.taken + k = ap (λ (f : FeedState). f.taken) done.after in
       let rest : ahead new ≡ drop k (ahead old) =
-          ap ahead done.after ∙ sym (drop-drop k old.taken (lines_of old.text)) in
+      ap ahead done.after ∙ sym (drop-drop k old.taken (lines_of old.text)) in
       ap (λ (r : Result (H × List I) Refusal). go_on r (λ h items. next h items (old.taken + (length items + 2)) (drop (length items + 2) (ahead old)))) done.gives
       ∙ ap (λ (n : ℕ). next (view a).0 (view a).1 n (drop k (ahead old))) (sym taken)
       ∙ ap (next (view a).0 (view a).1 new.taken) (sym rest)

@@ -8,3 +8,5 @@ pub mod Adding
 pub mod Codes
 pub mod Spelling
 pub mod Sections
+pub mod Laws
+pub mod CountedList

@@ -13,10 +13,15 @@ use crate::names::Names;
 use std::alloc::Global;
 use std::marker::Model;
 
-/// The longest text, in bytes.
+/// The longest text, in bytes: 16 MiB.
 pub const LONGEST: usize = 16_777_216;
 
-/// A text that comes in pieces and is then taken line by line. Once a reader has met a fault, it answers that for good.
+/// A text that comes in pieces and is then taken line by line.
+///
+/// Before it is closed it takes pieces, after that readers take its lines. The text is the pieces joined, wherever it
+/// was cut, of at most 16,777,216 bytes. A line ends at a line feed, which is not part of it, and its words are the
+/// parts between spaces: two spaces in a row, and a space at an end, make an empty word. Once a reader has met a
+/// fault, every later one answers that same fault, and the text stays as it is.
 #[derive(Drop)]
 pub struct Feed {
     bytes: Vec<u8>,
@@ -38,7 +43,8 @@ impl Model for Feed {
     ghost invariant = { IsFeed };
 }
 
-/// A line of a feed: its number in the stream, and its place in the text.
+/// A line that a feed gave: its number in the stream, counted from 1, and its place in the text, in bytes. It is read
+/// by the feed that gave it.
 #[derive(Clone, Copy, Debug)]
 pub struct Line {
     number: u32,
@@ -116,7 +122,7 @@ fn number_from(word: &[u8]) -> Option<u32>
 }
 
 impl Feed {
-    /// The empty text.
+    /// The empty text, not closed. It takes no memory until the first piece.
     pub fn new(alloc: Global) -> Feed
         ensures { result ≡ record { text = []; taken = 0; closed = false; stop = None } }
     {
@@ -129,12 +135,14 @@ impl Feed {
         }
     }
 
-    /// Adds a piece at the end of the text. A refusal changes nothing.
+    /// Adds a piece of any length at the end of the text, before the feed is closed. It is `TooLong` exactly where the
+    /// text would pass 16,777,216 bytes, and `Memory` where there is no memory for it. Both change nothing.
     pub fn push(&mut self, piece: &[u8]) -> Result<(), PushFault>
         requires { self.old.closed ≡ false }
         ensures ok { OnOk result (self.new ≡ record self.old { text = self.old.text ++ piece.now }) }
         ensures err { OnErr result (self.new ≡ self.old) }
         ensures too_long { (result ≡ Err PushFault.TooLong) ↔ (16777216 < length self.old.text + length piece.now) }
+        ensures within { length self.new.text ≤ 16777216 }
     {
         if piece.len() > LONGEST - self.bytes.len() {
             return Err(PushFault::TooLong);
@@ -145,14 +153,14 @@ impl Feed {
         }
     }
 
-    /// Ends the text.
+    /// Ends the text: no piece comes after this, and readers may begin.
     pub fn close(&mut self)
         ensures { self.new ≡ record self.old { closed = true } }
     {
         self.is_closed = true;
     }
 
-    /// Whether the text has ended.
+    /// Whether the text has ended. Pieces come before that, and readers after it.
     pub fn closed(&self) -> bool
         ensures { result ≡ self.now.closed }
     {
@@ -166,7 +174,8 @@ impl Feed {
         self.stop
     }
 
-    /// The next line that is ended, else code 12.
+    /// The next line that a line feed ends. Where there is none, code 12 at the line after those taken, for good. A
+    /// feed that has a fault answers that.
     pub fn take(&mut self) -> Result<Line, ReadFault>
         requires { self.old.closed ≡ true }
         ensures stopped { ForSome self.old.stop (λ fault. (result ≡ Err fault) × (self.new ≡ self.old)) }
@@ -206,7 +215,7 @@ impl Feed {
         &self.bytes[line.from..line.to]
     }
 
-    /// How many words a line has.
+    /// How many words a line has: one more than its spaces.
     pub fn words(&self, line: &Line) -> usize
         requires { IsLine self.now line.now }
         ensures { result ≡ length (words_of (line_bytes self.now line.now)) }
@@ -214,7 +223,7 @@ impl Feed {
         words_in(self.line(line))
     }
 
-    /// A word of a line.
+    /// A word of a line by its index from 0, or None past the last one.
     pub fn word(&self, line: &Line, index: usize) -> Option<&[u8]>
         requires { IsLine self.now line.now }
         ensures { option_copied result ≡ slice_get (words_of (line_bytes self.now line.now)) index }
@@ -222,7 +231,8 @@ impl Feed {
         word_in(self.line(line), index)
     }
 
-    /// A word of a line, as a number.
+    /// A word of a line as a number: `0`, or at most nine digits of which the first is no `0`. None for any other word,
+    /// and past the last one.
     #[tactic(auto, unfolding(crate::specs::Words::number_at))]
     pub fn number(&self, line: &Line, index: usize) -> Option<u32>
         requires { IsLine self.now line.now }
@@ -232,7 +242,7 @@ impl Feed {
         number_from(self.word(line, index)?)
     }
 
-    /// A word of a line, as a name.
+    /// A word of a line as a name. None for a word that is no name, and past the last one.
     #[tactic(auto, unfolding(crate::specs::Words::name_at))]
     pub fn name(&self, line: &Line, index: usize) -> Option<Name>
         requires { IsLine self.now line.now }
@@ -241,7 +251,8 @@ impl Feed {
         Name::of(self.word(line, index)?)
     }
 
-    /// As many names as `count`, from a word of a line on.
+    /// As many names as `count`, at most four, from a word of a line on, where `from` is at most eight. None where one
+    /// of these words is no name, or is not there.
     pub fn names(&self, line: &Line, from: usize, count: usize) -> Option<Names>
         requires line { IsLine self.now line.now }
         requires few { count ≤ 4 }
@@ -255,7 +266,7 @@ impl Feed {
         Some(names)
     }
 
-    /// Whether a word of a line is this one.
+    /// Whether a word of a line is this one. Past the last word it is false.
     #[tactic(auto, unfolding(crate::specs::Words::is_at))]
     pub fn is(&self, line: &Line, index: usize, expected: &[u8]) -> bool
         requires { IsLine self.now line.now }
@@ -267,7 +278,7 @@ impl Feed {
         }
     }
 
-    /// Refuses a line, for good.
+    /// Refuses a line with a code, for good. A feed that has a fault already answers that one, and keeps it.
     pub fn refuse(&mut self, line: &Line, code: u8) -> ReadFault
         ensures answer { result ≡ unwrap_or self.old.stop (refusal line.now.number code) }
         ensures stopped { self.new ≡ record self.old { stop = Some result } }
@@ -280,7 +291,7 @@ impl Feed {
         fault
     }
 
-    /// Says that a reader found no memory, for good.
+    /// Says that a reader found no memory, for good. A feed that has a fault already answers that one, and keeps it.
     pub fn starve(&mut self) -> ReadFault
         ensures answer { result ≡ unwrap_or self.old.stop Memory }
         ensures stopped { self.new ≡ record self.old { stop = Some result } }
@@ -290,7 +301,8 @@ impl Feed {
         fault
     }
 
-    /// Whether nothing follows the lines that were taken, else code 12.
+    /// Whether nothing follows the lines that were taken. Where a line or bytes without a line feed are left, code 12
+    /// at the line after those taken, for good. A feed that has a fault answers that.
     pub fn finish(&mut self) -> Result<(), ReadFault>
         requires { self.old.closed ≡ true }
         ensures stopped { ForSome self.old.stop (λ fault. (result ≡ Err fault) × (self.new ≡ self.old)) }
@@ -299,8 +311,8 @@ impl Feed {
         ensures fault { self.old.stop ≡ None → IfErr result (λ fault. (fault ≡ refusal (self.old.taken + 1) 12)
             × (self.new ≡ record self.old { stop = Some fault })) }
     {
-        if let Some(fault) = self.stop {
-            return Err(fault);
+        if let Some(first) = self.stop {
+            return Err(first);
         }
         if self.at == self.bytes.len() {
             return Ok(());

@@ -3,6 +3,7 @@
 
 mod fault;
 mod feed;
+pub mod laws;
 mod name;
 mod names;
 mod ports;
@@ -16,3 +17,6 @@ pub use names::Names;
 pub use ports::PortNames;
 pub use reader::{Section, read_section};
 pub use section::{Form, LineFault};
+
+#[cfg(test)]
+mod tests;

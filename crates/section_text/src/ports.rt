@@ -6,6 +6,8 @@ use crate::name::Name;
 /// are given, each of them has a port.
 #[derive(Drop)]
 pub enum PortNames {
+    /// Any name is good, and none has to be there.
     Any,
+    /// An input port has a name of `ins`, an output port one of `outs`.
     Only { ins: Vec<Name>, outs: Vec<Name> },
 }

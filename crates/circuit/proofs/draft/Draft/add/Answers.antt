@@ -49,4 +49,3 @@ invariant_of-self-else-is_gate c =
       wired = wired;
       gates = search rules;
     })
-

@@ -1,0 +1,28 @@
+-- Laws of texts and of sections.
+use Rattle.std.specs.Prelude.{◌≡◌, ℕ, ◌+◌, ◌^◌, ◌<◌, List, ◌++◌, length, take, Some, Ok}
+use Rattle.std.specs.Fmt.{decimal}
+use Rattle.std.specs.List.{flat_map}
+use Rattle.section_text.specs.Words.{number_of, lines_of, rest_of}
+use Rattle.section_text.specs.Section.{Grammar, section_of, ended_line}
+
+-- a word that is a number is how that number is written
+abbrev pub OneSpelling : Type 0
+OneSpelling = (word : List ℕ) (n : ℕ) → number_of word ≡ Some n → word ≡ decimal n
+
+-- no number of a text has more than nine digits
+abbrev pub NumbersAreShort : Type 0
+NumbersAreShort = (word : List ℕ) (n : ℕ) → number_of word ≡ Some n → n < 10 ^ 9
+
+-- and each number of at most nine digits can be written
+abbrev pub EachNumberHasASpelling : Type 0
+EachNumberHasASpelling = (n : ℕ) → n < 10 ^ 9 → number_of (decimal n) ≡ Some n
+
+-- the lines, each with its line feed, and the bytes after the last one are the text
+abbrev pub NoByteIsLost : Type 0
+NoByteIsLost = (text : List ℕ) → flat_map ended_line (lines_of text) ++ rest_of text ≡ text
+
+-- What a section gives is given by its own lines: its header, its items and its end, wherever they stand, and
+-- whatever lines follow them.
+abbrev pub IsReadFromItsOwnLines : {H I : Type 0} → Grammar H I → Type 0
+IsReadFromItsOwnLines {H} {I} g = (n m : ℕ) (ls others : List (List ℕ)) (header : H) (items : List I) → section_of g n ls ≡ Ok (header, items)
+    → section_of g m (take (length items + 2) ls ++ others) ≡ Ok (header, items)
