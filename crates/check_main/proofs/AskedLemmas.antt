@@ -1,9 +1,9 @@
 -- What is read of a text of two sections.
-use Rattle.std.proofs.Common.{◌≡◌, ℕ, ◌+◌, List, [], drop, None, Result, Ok, Err, refl, sym, ap, subst, ◌∙◌}
+use Rattle.std.proofs.Common.{◌≡◌, ℕ, ◌+◌, List, [], drop, None, Result, Ok, Err, sym, ap, subst, ◌∙◌}
 use Rattle.std.specs.Prelude.{◌≢◌}
 use Rattle.section_text.specs.Words.{lines_of, rest_of}
 use Rattle.section_text.specs.FeedState.{FeedState, ahead}
-use Rattle.section_text.specs.Section.{Grammar, Reads, Fails, Gives}
+use Rattle.section_text.specs.Section.{Grammar, Reads, Fails}
 use Rattle.section_text.specs.Sections.{section_then, finished}
 use Rattle.section_text.specs.Faults.{refusal}
 use Rattle.section_text.specs.declared.fault.Refusal.{Refusal}
@@ -38,7 +38,7 @@ module _ {A : Type 0} (view : A → Unit {0} × List (List ℕ)) (names : List (
   pub text_goes_on : (a : A) (fault : ReadFault) → Reads (assign_grammar names) view old mid (Ok a) → (ahead mid ≡ [] → rest_of mid.text ≢ []) → fault ≡ refusal (mid.taken + 1) 12 → Fails fault (names_read old.text names old.taken (ahead old))
   text_goes_on a fault reads more is =
       fails_along fault (names_read old.text names old.taken (ahead old)) (finished mid.taken (ahead mid) (rest_of mid.text) ((view a).1)) (read_on a reads)
-          (more_fails mid.taken (ahead mid) (rest_of mid.text) ((view a).1) fault more is)
+      (more_fails mid.taken (ahead mid) (rest_of mid.text) ((view a).1) fault more is)
 
 -- ---- the first section, and then the names
 
@@ -68,8 +68,8 @@ module _ {H I A V : Type 0} (g : Grammar H I) (view : A → H × List I) (value 
   pub then_failed : (a : A) (these : List (List ℕ)) (fault : ReadFault) → Reads g view old mid (Ok a) → these ≡ names (view a).0 (view a).1 → Fails fault (names_read mid.text these mid.taken (ahead mid)) → Fails fault (asked old.text)
   then_failed a these fault reads same fails =
       fails_along fault (asked old.text) (with_value (value (view a).0 (view a).1) (names_read mid.text these mid.taken (ahead mid)))
-          (first_read a reads ∙ ap (λ k. names_asked mid.text (value (view a).0 (view a).1) k mid.taken (ahead mid)) (sym same))
-          (with_fails (value (view a).0 (view a).1) fault (names_read mid.text these mid.taken (ahead mid)) fails)
+      (first_read a reads ∙ ap (λ k. names_asked mid.text (value (view a).0 (view a).1) k mid.taken (ahead mid)) (sym same))
+      (with_fails (value (view a).0 (view a).1) fault (names_read mid.text these mid.taken (ahead mid)) fails)
 
   pub then_read : (a : A) (these on : List (List ℕ)) → Reads g view old mid (Ok a) → these ≡ names (view a).0 (view a).1 → names_read mid.text these mid.taken (ahead mid) ≡ Ok on → asked old.text ≡ Ok (value (view a).0 (view a).1, on)
   then_read a these on reads same read =

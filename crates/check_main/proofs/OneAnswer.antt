@@ -1,5 +1,5 @@
 -- A text has one answer.
-use Rattle.std.proofs.Common.{◌≡◌, ◌⊎◌, ℕ, ◌<◌, ◌≤◌, ◌+◌, List, [], ◌∷◌, ◌++◌, map, length, Bool, true, false, Option, Some, None, Result, Ok, Err, refl, sym, ap, ap₂, subst, ◌∙◌, arith, inl, inr, append-nil}
+use Rattle.std.proofs.Common.{◌≡◌, ℕ, List, [], ◌∷◌, ◌++◌, map, length, Bool, Option, Some, None, Result, Ok, Err, refl, sym, ap, subst, ◌∙◌, inl, inr, append-nil}
 use Rattle.std.specs.Prelude.{codes}
 use Rattle.std.specs.Fmt.{decimal}
 use Rattle.std.specs.List.{flat_map, filter_map}
@@ -19,7 +19,7 @@ use Rattle.pattern.specs.declared.run.RunEnd.TheVariants.{Cells, LeftAt}
 use Rattle.pattern.specs.Layout.{Pattern}
 use Rattle.pattern.specs.Lines.{parts_of, has}
 use Rattle.pattern.specs.Grammars.{layout_value}
-use Rattle.pattern.specs.Run.{IsRunEnd, EndsWith, LeavesAt, StaysInside, GoesOutside}
+use Rattle.pattern.specs.Run.{IsRunEnd, StaysInside, GoesOutside}
 use Rattle.check_main.specs.declared.outcome.Outcome.{Outcome}
 use Rattle.check_main.specs.RunText.{IsRunOf, RunAsked, SaysRunEnd, cell_line, end_text, end_outcome, run_asked}
 use Rattle.check_main.specs.Answers.{Answered}

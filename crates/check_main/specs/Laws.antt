@@ -1,7 +1,6 @@
 -- Laws of the answers.
 use Rattle.std.specs.Prelude.{◌≡◌, ℕ, List}
 use Rattle.check_main.specs.declared.outcome.Outcome.{Outcome}
-use Rattle.check_main.specs.RunText.{IsRunOf}
 
 -- a command has one answer to each text
 abbrev pub HasOneAnswer : (List ℕ → List ℕ → Outcome → Type 0) → Type 0

@@ -4,8 +4,8 @@ ghost use Rattle.section_text.specs.FeedState.{ahead};
 ghost use Rattle.section_text.specs.Section.{Gives};
 ghost use Rattle.check_main.specs.Answers.{names_read, refusal_line};
 
-use section_text::{Feed, Name, ReadFault, Refusal};
 use pattern::read_assign;
+use section_text::{Feed, Name, ReadFault, Refusal};
 use std::alloc::{AllocError, Global};
 
 /// Reads which of the names are on, and the end of the text.

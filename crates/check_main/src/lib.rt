@@ -18,10 +18,8 @@ pub use outcome::Outcome;
 pub use stream::{run_stream, value_stream};
 
 #[cfg(test)]
-mod tests;
-
-#[cfg(test)]
 mod run_tests;
-
+#[cfg(test)]
+mod tests;
 #[cfg(test)]
 mod value_tests;

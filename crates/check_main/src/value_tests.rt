@@ -33,7 +33,11 @@ fn refuses_a_changed_line(rt: HostRuntime) -> Result<(), Fail> {
         ("circuit\n", "layout 8 8 3\n", "refused 1 1\n"),
         ("interact p q", "interact p p", "refused 4 5\n"),
         ("-> a b c d", "-> a a c d", "refused 4 4\n"),
-        ("interact p q -> a b c d", "delay 5000 r -> b", "refused 4 2\n"),
+        (
+            "interact p q -> a b c d",
+            "delay 5000 r -> b",
+            "refused 4 2\n",
+        ),
         ("interact p q -> a b c d", "delay 1 r -> b", "refused 4 3\n"),
         ("output d\n", "", "refused 8 11\n"),
         ("on p\n", "on r\n", "refused 11 3\n"),

@@ -5,6 +5,7 @@ pub mod Orders
 pub mod Added
 pub mod TakenLemmas
 pub mod ReadingLemmas
+pub mod Named
 pub mod Printed
 pub mod InsideLemmas
 pub mod StartLemmas

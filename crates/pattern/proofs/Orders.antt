@@ -1,8 +1,7 @@
 -- Lines in the order of their kinds.
-use Rattle.std.proofs.Common.{◌≡◌, ℕ, ◌||◌, ◌&&◌, Bool, true, false, not, List, [], ◌∷◌, ◌++◌, map, length, None, eqb, refl, sym, ap, ◌∙◌, arith, append_assoc, append-nil}
+use Rattle.std.proofs.Common.{◌≡◌, ℕ, ◌||◌, ◌&&◌, Bool, false, not, List, [], ◌∷◌, ◌++◌, map, length, refl, arith}
 use Rattle.std.specs.Prelude.{nat_lt, ◌==◌}
 use Rattle.std.specs.List.{list_any}
-use Rattle.std.proofs.lemmas.List.{map-append}
 use Rattle.std.proofs.lemmas.List.Folds.{list_any-append}
 use Rattle.bbm_rule.specs.declared.block.Cell.{Cell}
 use Rattle.pattern.specs.declared.parts.Rectangle.{Rectangle}
@@ -10,7 +9,7 @@ use Rattle.pattern.specs.declared.parts.Port.{Port}
 use Rattle.pattern.specs.declared.parts.Part.{Part}
 use Rattle.pattern.specs.declared.parts.Part.TheVariants.{Mirror, Ball, In, Out, Waste}
 use Rattle.pattern.specs.Layout.{Pattern}
-use Rattle.pattern.specs.Lines.{parts_of, rank_of, is_late, order_fault}
+use Rattle.pattern.specs.Lines.{parts_of, rank_of, is_late}
 
 -- whether a list has an element
 abbrev pub some : {X : Type 0} → List X → Bool
@@ -27,15 +26,17 @@ module _ (p : Pattern) (k : ℕ) where
   late_by : list_any (λ b. nat_lt k (rank_of b)) (parts_of p) ≡ ((nat_lt k 0 && some p.mirrors) || ((nat_lt k 1 && some p.balls) || ((nat_lt k 2 && some p.ins) || ((nat_lt k 3 && some p.outs) || (nat_lt k 4 && some p.wastes)))))
   unfolding rank_of
   late_by =
-      rw (list_any-append (λ b. nat_lt k (rank_of b)) (map Mirror p.mirrors) (map Ball p.balls ++ (map In p.ins ++ (map Out p.outs ++ map Waste p.wastes))),
-          list_any-append (λ b. nat_lt k (rank_of b)) (map Ball p.balls) (map In p.ins ++ (map Out p.outs ++ map Waste p.wastes)),
-          list_any-append (λ b. nat_lt k (rank_of b)) (map In p.ins) (map Out p.outs ++ map Waste p.wastes),
-          list_any-append (λ b. nat_lt k (rank_of b)) (map Out p.outs) (map Waste p.wastes),
-          any_map k Mirror (nat_lt k 0) (λ x. refl) p.mirrors,
-          any_map k Ball (nat_lt k 1) (λ x. refl) p.balls,
-          any_map k In (nat_lt k 2) (λ x. refl) p.ins,
-          any_map k Out (nat_lt k 3) (λ x. refl) p.outs,
-          any_map k Waste (nat_lt k 4) (λ x. refl) p.wastes) refl
+      rw (
+        list_any-append (λ b. nat_lt k (rank_of b)) (map Mirror p.mirrors) (map Ball p.balls ++ (map In p.ins ++ (map Out p.outs ++ map Waste p.wastes))),
+        list_any-append (λ b. nat_lt k (rank_of b)) (map Ball p.balls) (map In p.ins ++ (map Out p.outs ++ map Waste p.wastes)),
+        list_any-append (λ b. nat_lt k (rank_of b)) (map In p.ins) (map Out p.outs ++ map Waste p.wastes),
+        list_any-append (λ b. nat_lt k (rank_of b)) (map Out p.outs) (map Waste p.wastes),
+        any_map k Mirror (nat_lt k 0) (λ x. refl) p.mirrors,
+        any_map k Ball (nat_lt k 1) (λ x. refl) p.balls,
+        any_map k In (nat_lt k 2) (λ x. refl) p.ins,
+        any_map k Out (nat_lt k 3) (λ x. refl) p.outs,
+        any_map k Waste (nat_lt k 4) (λ x. refl) p.wastes,
+      ) refl
 
 module _ (p : Pattern) where
   pub late_mirror : (r : Rectangle) → is_late (parts_of p) (Mirror r) ≡ (some p.balls || (some p.ins || (some p.outs || some p.wastes)))

@@ -1,5 +1,5 @@
 -- The lists of a layout, printed one after the other, are its text.
-use Rattle.std.proofs.Common.{◌≡◌, ℕ, List, [], ◌∷◌, ◌++◌, map, refl, sym, ap, ap₂, ◌∙◌, append_assoc}
+use Rattle.std.proofs.Common.{◌≡◌, ℕ, List, ◌++◌, map, refl, sym, ap, ap₂, ◌∙◌, append_assoc}
 use Rattle.std.specs.Prelude.{codes}
 use Rattle.std.specs.List.{flat_map}
 use Rattle.std.proofs.lemmas.Grind.{flat_map-append}
@@ -31,12 +31,12 @@ module _ (p : Pattern) where
   parts_text =
       flat_map-append part_text (map Mirror p.mirrors) (map Ball p.balls ++ (map In p.ins ++ (map Out p.outs ++ map Waste p.wastes)))
       ∙ ap₂ (λ a b. a ++ b) (flat_map-map part_text Mirror p.mirrors) (
-        flat_map-append part_text (map Ball p.balls) (map In p.ins ++ (map Out p.outs ++ map Waste p.wastes))
-        ∙ ap₂ (λ a b. a ++ b) (flat_map-map part_text Ball p.balls) (
-          flat_map-append part_text (map In p.ins) (map Out p.outs ++ map Waste p.wastes)
-          ∙ ap₂ (λ a b. a ++ b) (flat_map-map part_text In p.ins) (
-            flat_map-append part_text (map Out p.outs) (map Waste p.wastes)
-            ∙ ap₂ (λ a b. a ++ b) (flat_map-map part_text Out p.outs) (flat_map-map part_text Waste p.wastes))))
+      flat_map-append part_text (map Ball p.balls) (map In p.ins ++ (map Out p.outs ++ map Waste p.wastes))
+      ∙ ap₂ (λ a b. a ++ b) (flat_map-map part_text Ball p.balls) (
+      flat_map-append part_text (map In p.ins) (map Out p.outs ++ map Waste p.wastes)
+      ∙ ap₂ (λ a b. a ++ b) (flat_map-map part_text In p.ins) (
+      flat_map-append part_text (map Out p.outs) (map Waste p.wastes)
+      ∙ ap₂ (λ a b. a ++ b) (flat_map-map part_text Out p.outs) (flat_map-map part_text Waste p.wastes))))
 
   regroup : (s m b i o w e : List ℕ) → ((((((s ++ m) ++ b) ++ i) ++ o) ++ w) ++ e) ≡ (s ++ (m ++ (b ++ (i ++ (o ++ w))))) ++ e
   regroup s m b i o w e = ap (λ l. l ++ e) (simp append_assoc refl)

@@ -1,5 +1,5 @@
 -- What a reader of layouts knows of the lines so far.
-use Rattle.std.proofs.Common.{◌≡◌, ℕ, ◌&&◌, Bool, true, false, not, List, [], ◌∷◌, Option, None, Some, Vec, refl, sym, ap, subst, ◌∙◌}
+use Rattle.std.proofs.Common.{◌≡◌, ℕ, ◌&&◌, Bool, not, List, [], ◌∷◌, Option, None, Some, Vec, refl, sym, ap, ◌∙◌}
 use Rattle.std.specs.List.{list_all, list_any}
 use Rattle.std.specs.Global.{Global}
 use Rattle.section_text.specs.Codes.{or_else, code_where}
@@ -8,11 +8,11 @@ use Rattle.section_text.specs.declared.ports.PortNames.TheVariants.{Any, Only}
 use Rattle.pattern.specs.declared.parts.Part.{Part}
 use Rattle.pattern.specs.Lines.{has, is_in, is_out, order_fault, limit_fault, name_fault, line_fault, missing_fault}
 
-no_code_first : (a b : Option ℕ) → or_else a b ≡ None → a ≡ None
+pub no_code_first : (a b : Option ℕ) → or_else a b ≡ None → a ≡ None
 no_code_first None b e = refl
 no_code_first (Some code) b e = absurd cc
 
-no_code_second : (a b : Option ℕ) → or_else a b ≡ None → b ≡ None
+pub no_code_second : (a b : Option ℕ) → or_else a b ≡ None → b ≡ None
 no_code_second None b e = e
 no_code_second (Some code) b e = absurd cc
 

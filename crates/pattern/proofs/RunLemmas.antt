@@ -5,7 +5,7 @@ use Rattle.std.proofs.lemmas.Bool.{cases_lt}
 use Rattle.std.proofs.lemmas.Bool.Decides.{Decides-int_eq}
 use Rattle.std.proofs.lemmas.List.Folds.{list_any_at}
 use Rattle.bbm_rule.specs.Plane.{State, step, run}
-use Rattle.bbm_rule.specs.Board.{Board, live, is_inside, HasSameSize, IsStep, Leaves}
+use Rattle.bbm_rule.specs.Board.{Board, live, is_inside, IsStep, Leaves}
 use Rattle.bbm_rule.specs.declared.block.Cell.{Cell}
 use Rattle.bbm_rule.proofs.Boards.{inside_is_span, live_is_inside}
 use Rattle.pattern.specs.declared.parts.Size.{Size}
@@ -73,9 +73,6 @@ pub among : (cells : List Cell) (i : ℕ) (d : Cell) → i < length cells → in
 among cells i d lt =
     let c : Cell = get_or cells i d in
     list_any_at (λ (e : Cell). is_at e c.x c.y) cells i d lt (rw ((Decides-int_eq c.x c.x).1 refl, (Decides-int_eq c.y c.y).1 refl) refl)
-
-pub inside_of_size : (a b : Board) → HasSameSize a b → (x y : ℤ) → is_inside a x y ≡ true → is_inside b x y ≡ true
-inside_of_size a b e x y h = inside_is_span b x y ∙ rw (e.0, e.1) (sym (inside_is_span a x y) ∙ h)
 
 -- ---- the end of the run
 

@@ -1,5 +1,5 @@
 -- Each line of the layout section is the spelling of its form.
-use Rattle.std.proofs.Common.{◌≡◌, ℕ, ◌+◌, Bool, true, false, cond, eqb, List, [], ◌∷◌, length, Option, Some, None, refl, sym, ap, subst, ◌∙◌, inl, inr}
+use Rattle.std.proofs.Common.{◌≡◌, ℕ, ◌+◌, true, eqb, List, [], ◌∷◌, length, Option, Some, ap, subst, inl, inr}
 use Rattle.std.specs.Prelude.{slice_get, codes}
 use Rattle.std.specs.Fmt.{decimal}
 use Rattle.std.proofs.lemmas.Bool.{eqb-true}
@@ -13,11 +13,10 @@ use Rattle.bbm_rule.specs.declared.block.Cell.{Cell}
 use Rattle.pattern.specs.declared.parts.Rectangle.{Rectangle}
 use Rattle.pattern.specs.declared.parts.Port.{Port}
 use Rattle.pattern.specs.declared.parts.Size.{Size}
-use Rattle.pattern.specs.declared.parts.Part.{Part}
 use Rattle.pattern.specs.declared.parts.Part.TheVariants.{Mirror, Ball, In, Out, Waste}
 use Rattle.pattern.specs.Layout.{cell}
 use Rattle.pattern.specs.Forms.{Line, cell_from, lone_cell, named_cell, port_of, corner_and_sides, rectangle_of, sides_and_steps, size_of, end_of, form_of}
-use Rattle.pattern.specs.Text.{coordinate, cell_words, rectangle_words, port_words, size_words, part_text, form_text}
+use Rattle.pattern.specs.Text.{coordinate, cell_words, rectangle_words, port_words, size_words, form_text}
 
 -- two words are a cell
 record CellAt (ws : List (List ℕ)) (i j : ℕ) (c : Cell) : Type 0 where
@@ -52,7 +51,7 @@ port_spelled ws w p at e =
     option_and_then_some (λ c. Some (record { name = n; cell = c })) (cell_from ws 2) p rest (λ c at_cell made.
     let words = cell_spelled ws 2 c at_cell in
     subst (λ (q : Port). ws ≡ w ∷ port_words q) (port_is (record { name = n; cell = c }) p made)
-        (four_words ws w n (decimal (coordinate c.x)) (decimal (coordinate c.y)) (eqb-true _ _ found.0) (is_at_is ws 0 w at) (name_at_is ws 1 n named) words.column words.row)))
+    (four_words ws w n (decimal (coordinate c.x)) (decimal (coordinate c.y)) (eqb-true _ _ found.0) (is_at_is ws 0 w at) (name_at_is ws 1 n named) words.column words.row)))
 
 rectangle_is : (x y : Rectangle) → ◌≡◌ {A = Option Rectangle} (Some x) (Some y) → x ≡ y
 rectangle_is x y e = cc
@@ -66,7 +65,7 @@ rectangle_spelled ws v r at e =
     option_and_then_some (λ w. number_at ws 4 >>= λ h. Some (record { x = x; y = y; w = w; h = h })) (number_at ws 3) r ry (λ w ew rw'.
     option_and_then_some (λ h. Some (record { x = x; y = y; w = w; h = h })) (number_at ws 4) r rw' (λ h eh made.
     subst (λ (q : Rectangle). ws ≡ v ∷ rectangle_words q) (rectangle_is (record { x = x; y = y; w = w; h = h }) r made)
-        (five_words ws v (decimal x) (decimal y) (decimal w) (decimal h) (eqb-true _ _ found.0) (is_at_is ws 0 v at) (number_at_spelled ws 1 x ex) (number_at_spelled ws 2 y ey) (number_at_spelled ws 3 w ew) (number_at_spelled ws 4 h eh))))))
+    (five_words ws v (decimal x) (decimal y) (decimal w) (decimal h) (eqb-true _ _ found.0) (is_at_is ws 0 v at) (number_at_spelled ws 1 x ex) (number_at_spelled ws 2 y ey) (number_at_spelled ws 3 w ew) (number_at_spelled ws 4 h eh))))))
 
 size_is : (x y : Size) → ◌≡◌ {A = Option Size} (Some x) (Some y) → x ≡ y
 size_is x y e = cc
@@ -79,7 +78,7 @@ size_spelled ws v s at e =
     option_and_then_some (λ h. number_at ws 3 >>= λ t. Some (record { w = w; h = h; steps = t })) (number_at ws 2) s rw' (λ h eh rh.
     option_and_then_some (λ t. Some (record { w = w; h = h; steps = t })) (number_at ws 3) s rh (λ t et made.
     subst (λ (q : Size). ws ≡ v ∷ size_words q) (size_is (record { w = w; h = h; steps = t }) s made)
-        (four_words ws v (decimal w) (decimal h) (decimal t) (eqb-true _ _ found.0) (is_at_is ws 0 v at) (number_at_spelled ws 1 w ew) (number_at_spelled ws 2 h eh) (number_at_spelled ws 3 t et)))))
+    (four_words ws v (decimal w) (decimal h) (decimal t) (eqb-true _ _ found.0) (is_at_is ws 0 v at) (number_at_spelled ws 1 w ew) (number_at_spelled ws 2 h eh) (number_at_spelled ws 3 t et)))))
 
 -- the first word of a form, and the others
 first_of : Line → List ℕ

@@ -1,15 +1,11 @@
 -- The start as a list of cells.
-use Rattle.std.proofs.Common.{◌≡◌, ℕ, ℤ, Bool, true, false, cond, ◌&&◌, ◌||◌, List, [], ◌∷◌, ◌++◌, map, refl, arith, ap, ◌∙◌, sym}
+use Rattle.std.proofs.Common.{◌≡◌, ℕ, ℤ, Bool, true, false, cond, ◌&&◌, ◌||◌, List, [], ◌∷◌, ◌++◌, map, refl, ap, ◌∙◌}
 use Rattle.std.specs.List.{flat_map, filter, list_any}
-use Rattle.std.specs.Str.{bytes_eq}
-use Rattle.std.specs.Cmp.Lexicographic.{bytes_decides}
-use Rattle.std.proofs.lemmas.Bool.Decides.{same_from_decides}
 use Rattle.std.proofs.lemmas.List.Folds.{list_any-append}
 use Rattle.bbm_rule.specs.declared.block.Cell.{Cell}
 use Rattle.pattern.specs.declared.parts.Rectangle.{Rectangle}
 use Rattle.pattern.specs.declared.parts.Port.{Port}
 use Rattle.pattern.specs.Layout.{Pattern, is_at, in_cells, in_rectangles, in_ports_on, rectangle_cells, start}
-use Rattle.pattern.specs.Lines.{has}
 use Rattle.pattern.specs.Run.{start_list}
 use Rattle.pattern.proofs.RectangleLemmas.{in_rectangle_cells}
 
@@ -38,11 +34,3 @@ in_start_list p on x y =
 pub start_list_made : (p : Pattern) (on : List ℕ → Bool) (a b c : List Cell) → a ≡ flat_map rectangle_cells p.mirrors → b ≡ a ++ p.balls → c ≡ b ++ map (λ q. q.cell) (filter (λ q. on q.name) p.ins) → c ≡ start_list p on
 unfolding start_list
 start_list_made p on a b c e f g = g ∙ ap (λ (l : List Cell). l ++ map (λ (q : Port). q.cell) (filter (λ (q : Port). on q.name) p.ins)) (f ∙ ap (λ (l : List Cell). l ++ p.balls) e)
-
--- ---- a set of names
-
-same_either_way : (a b : List ℕ) → bytes_eq a b ≡ bytes_eq b a
-same_either_way a b = same_from_decides _ _ (bytes_decides a b) ((λ e. sym ((bytes_decides b a).0 e)), (λ e. (bytes_decides b a).1 (sym e)))
-
-pub has_pushed : (keys keys' names : List (List ℕ)) (name : List ℕ) → ((n : List ℕ) → has keys' n ≡ cond (bytes_eq name n) true (has keys n)) → ((n : List ℕ) → has keys n ≡ has names n) → (n : List ℕ) → has keys' n ≡ has (names ++ name ∷ []) n
-has_pushed keys keys' names name put same n = rw (put n, same n, list_any-append (bytes_eq n) names (name ∷ []), same_either_way name n) (grind arith)

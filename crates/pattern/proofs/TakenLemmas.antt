@@ -1,6 +1,6 @@
 -- The cells of a line, and the cells that are taken.
-use Rattle.std.proofs.Common.{◌≡◌, ℕ, zero, suc, ◌+◌, ◌%◌, ◌<◌, ◌≤◌, ◌||◌, ◌&&◌, ℤ, pos, Bool, true, false, not, cond, List, [], ◌∷◌, ◌++◌, map, None, Some, Option, if◌then◌else◌, refl, sym, ap, subst, ◌∙◌, arith}
-use Rattle.std.specs.Prelude.{All, nat_le, ◌==◌}
+use Rattle.std.proofs.Common.{◌≡◌, ℕ, zero, suc, ◌+◌, ◌%◌, ◌<◌, ◌≤◌, ◌||◌, ◌&&◌, ℤ, pos, Bool, true, false, not, List, [], ◌∷◌, ◌++◌, None, Some, if◌then◌else◌, refl, sym, subst, ◌∙◌, arith}
+use Rattle.std.specs.Prelude.{All, nat_le}
 use Rattle.std.specs.List.{AllByRecursion, list_any, flat_map, range_with_len}
 use Rattle.std.proofs.lemmas.Bool.Decides.{nat_tests}
 use Rattle.std.proofs.lemmas.List.Elements.{All-from_recursion}
@@ -8,13 +8,12 @@ use Rattle.bbm_rule.specs.Board.{Board, live, is_inside as is_on_board}
 use Rattle.bbm_rule.specs.Spans.{in_span}
 use Rattle.bbm_rule.proofs.Boards.{inside_is_span}
 use Rattle.bbm_rule.specs.declared.block.Cell.{Cell}
-use Rattle.section_text.specs.Codes.{code_where}
 use Rattle.pattern.specs.declared.parts.Rectangle.{Rectangle}
 use Rattle.pattern.specs.declared.parts.Size.{Size}
 use Rattle.pattern.specs.declared.parts.Part.{Part}
 use Rattle.pattern.specs.declared.parts.Part.TheVariants.{Mirror, Ball, In, Out, Waste}
-use Rattle.pattern.specs.Layout.{Pattern, cell, row_cells, rectangle_cells, in_cells, in_layout}
-use Rattle.pattern.specs.Lines.{parts_of, is_side, size_fault, is_inside, cells_of, begins, ends, holds, begun, ended, is_taken, cell_fault}
+use Rattle.pattern.specs.Layout.{cell, row_cells, rectangle_cells, in_cells, in_layout}
+use Rattle.pattern.specs.Lines.{is_side, size_fault, is_inside, cells_of, begins, ends, begun, ended, is_taken, cell_fault}
 use Rattle.pattern.proofs.Added.{no_code, begun_push, ended_push}
 
 -- ---- a size within its limits

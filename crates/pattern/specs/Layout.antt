@@ -1,5 +1,5 @@
 -- What a layout says: the size of its rectangle, its steps, and what stands where.
-use Rattle.std.specs.Prelude.{ℕ, ℤ, pos, ◌+◌, ◌&&◌, ◌||◌, Bool, List, map}
+use Rattle.std.specs.Prelude.{ℕ, pos, ◌&&◌, ◌||◌, Bool, List, map}
 use Rattle.std.specs.List.{list_any, flat_map, range_with_len}
 use Rattle.std.specs.Ordering.{int_eq}
 use Rattle.bbm_rule.specs.Plane.{State, run}

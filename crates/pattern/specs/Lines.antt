@@ -1,18 +1,16 @@
 -- The lines of a layout, and which line is good after which lines. What stands where is read from the lines themselves.
-use Rattle.std.specs.Prelude.{◌≡◌, ℕ, ◌+◌, ◌%◌, ◌==◌, ◌&&◌, ◌||◌, Bool, not, true, false, List, [], ◌∷◌, ◌++◌, map, nat_lt, nat_le, Option, Some, None, if◌then◌else◌}
-use Rattle.std.specs.List.{list_any, list_all}
+use Rattle.std.specs.Prelude.{◌≡◌, ℕ, ◌+◌, ◌%◌, ◌==◌, ◌&&◌, ◌||◌, Bool, not, true, false, List, [], ◌∷◌, ◌++◌, map, nat_lt, nat_le, Option, None, if◌then◌else◌}
+use Rattle.std.specs.List.{All, list_any, list_all}
 use Rattle.std.specs.Str.{bytes_eq}
 use Rattle.bbm_rule.specs.Plane.{State}
 use Rattle.bbm_rule.specs.declared.block.Cell.{Cell}
 use Rattle.section_text.specs.Codes.{or_else, code_where}
 use Rattle.section_text.specs.declared.ports.PortNames.{PortNames}
 use Rattle.section_text.specs.declared.ports.PortNames.TheVariants.{Any, Only}
-use Rattle.pattern.specs.declared.parts.Rectangle.{Rectangle}
-use Rattle.pattern.specs.declared.parts.Port.{Port}
 use Rattle.pattern.specs.declared.parts.Size.{Size}
 use Rattle.pattern.specs.declared.parts.Part.{Part}
 use Rattle.pattern.specs.declared.parts.Part.TheVariants.{Mirror, Ball, In, Out, Waste}
-use Rattle.pattern.specs.Layout.{Pattern, is_at, in_rectangle, in_layout, rectangle_cells}
+use Rattle.pattern.specs.Layout.{Pattern, is_at, in_layout, rectangle_cells}
 
 -- the lines of a layout between its first and its last
 abbrev pub parts_of : Pattern → List Part
@@ -160,6 +158,11 @@ unfoldable pub missing_fault : PortNames → List Part → Option ℕ
 missing_fault Any parts = None
 missing_fault (Only ins outs) parts =
     code_where (not (list_all (λ n. list_any (is_in n) parts) ins.items && list_all (λ n. list_any (is_out n) parts) outs.items)) 11
+
+-- the names of the ports are good, and each input and each output that is asked for has a cell
+pub record AreNamed (ports : PortNames) (parts : List Part) : Type 0 where
+  pub good : All (λ part. name_fault ports part ≡ None) parts
+  pub whole : missing_fault ports parts ≡ None
 
 -- each line keeps the limits, and its cells are inside and free after the lines before it
 abbrev pub AreGoodAfter : Size → List Part → List Part → Type 0

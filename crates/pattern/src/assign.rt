@@ -96,8 +96,18 @@ impl<'a> Section for Assigning<'a> {
 }
 
 /// Reads an assign section, in which the names of `ins` may be on, each once: the names that are on, in the order of
-/// their lines. Code 3 refuses a name that is not of `ins`, code 4 one that is on already. After a fault the feed
-/// answers it for good.
+/// their lines.
+///
+/// The error is want of memory, or the first line that is refused, counted from 1 over the whole feed, with the code of
+/// the first test that it fails:
+///
+/// - 12: it is not there or not ended;
+/// - 1: it has none of the forms of this section;
+/// - 6: it is out of its place;
+/// - 3: the name is none of `ins`;
+/// - 4: the name is on already.
+///
+/// After an error the feed answers it for good.
 pub fn read_assign(alloc: Global, feed: &mut Feed, ins: &[Name]) -> Result<Vec<Name>, ReadFault>
     requires { feed.old.closed ≡ true }
     ensures reads { Reads (assign_grammar ins.now) (λ names. assign_value names.items) feed.old feed.new result }

@@ -1,6 +1,6 @@
 //! Layouts.
 ghost use Rattle.std.specs.Prelude.{◌≡◌, ◌++◌, [], ◌∷◌, None, OnOk, OnErr};
-ghost use Rattle.pattern.specs.Lines.{cell_fault, limit_fault, is_late, order_fault, parts_of, size_fault};
+ghost use Rattle.pattern.specs.Lines.{AreGoodAfter, cell_fault, limit_fault, is_late, order_fault, parts_of, size_fault};
 
 use crate::parts::{Part, Port, Rectangle, Size};
 use bbm_rule::Cell;
@@ -73,11 +73,7 @@ impl Layout {
     pub(crate) fn order_code(&self, part: &Part) -> Option<u8>
         ensures { result ≡ order_fault (parts_of self.now) part.now }
     {
-        if self.has_later(part) {
-            Some(6)
-        } else {
-            None
-        }
+        if self.has_later(part) { Some(6) } else { None }
     }
 
     // Adds a line that is good after the others. Want of memory changes nothing.
@@ -99,10 +95,11 @@ impl Layout {
         Ok(())
     }
 
-    /// The width, the height and the steps.
+    /// The width and the height, in cells, and the steps: even sides of 2 to 512, and at most 4096 steps.
     pub fn size(&self) -> Size
         ensures size { result ≡ self.now.size }
         ensures limits { size_fault result ≡ None }
+        ensures good { AreGoodAfter result [] (parts_of self.now) }
     {
         self.size
     }

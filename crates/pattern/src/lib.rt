@@ -14,6 +14,8 @@ mod reading;
 mod rectangle;
 mod run;
 mod taken;
+#[cfg(test)]
+mod tests;
 
 pub use assign::read_assign;
 pub use layout::Layout;

@@ -7,11 +7,7 @@ use indexmap::IndexSet;
 use section_text::Name;
 use std::alloc::{AllocError, Global};
 
-fn push_bits(
-    bits: &mut Vec<bool>,
-    names: &[Name],
-    on: &IndexSet<Name>,
-) -> Result<(), AllocError>
+fn push_bits(bits: &mut Vec<bool>, names: &[Name], on: &IndexSet<Name>) -> Result<(), AllocError>
     ensures { OnOk result (bits.new.items ≡ bits.old.items ++ map (λ n. has on.now.keys n) names.now) }
 {
     for name in names {

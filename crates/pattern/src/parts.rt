@@ -6,7 +6,8 @@ ghost use Rattle.pattern.specs.Lines.{begins, ends, is_inside, is_side, is_mirro
 use bbm_rule::Cell;
 use section_text::Name;
 
-/// A filled rectangle of cells: the column and the row of its upper left cell, its width and its height, in cells.
+/// A filled rectangle of cells: the column and the row of its upper left cell, its width and its height, in cells. In a
+/// layout the sides are 1 to 512, and all its cells lie inside.
 #[derive(Clone, Copy, Debug, PartialEq, Eq)]
 pub struct Rectangle {
     pub x: u32,
@@ -15,14 +16,15 @@ pub struct Rectangle {
     pub h: u32,
 }
 
-/// A cell of an input or of an output, with the name of its wire.
+/// A cell of an input or of an output, with the name of its wire. Several cells may have one name.
 #[derive(Clone, Copy)]
 pub struct Port {
     pub name: Name,
     pub cell: Cell,
 }
 
-/// The first line of a layout: its width and its height in cells, and how many steps it runs.
+/// The first line of a layout: its width and its height in cells, and how many steps it runs. In a layout the sides are
+/// even, 2 to 512, and the steps are at most 4096.
 #[derive(Clone, Copy, Debug, PartialEq, Eq)]
 pub struct Size {
     pub w: u32,
@@ -33,10 +35,15 @@ pub struct Size {
 /// A line of a layout between its first and its last.
 #[derive(Clone, Copy)]
 pub enum Part {
+    /// Cells that are live at the start and at the end.
     Mirror(Rectangle),
+    /// A cell that is live at the start.
     Ball(Cell),
+    /// A cell that is live at the start where its input is on.
     In(Port),
+    /// A cell that is live at the end where its output is on.
     Out(Port),
+    /// A cell whose end is left open.
     Waste(Cell),
 }
 
@@ -72,7 +79,7 @@ impl Size {
         }
     }
 
-    /// Whether the cell lies in the rectangle of this size at the origin.
+    /// Whether the cell lies in the rectangle of this size at the origin: its column is 0 to `w` - 1, its row 0 to `h` - 1.
     #[tactic(auto, unfolding(bbm_rule::specs::Spans::in_span))]
     pub fn holds(self, cell: Cell) -> bool
         ensures { result ≡ in_layout self cell.x cell.y }
@@ -118,13 +125,7 @@ impl Part {
         ensures { result ≡ limit_fault self.now }
     {
         match self {
-            Part::Mirror(r) => {
-                if has_mirror_sides(*r) {
-                    None
-                } else {
-                    Some(2)
-                }
-            }
+            Part::Mirror(r) => { if has_mirror_sides(*r) { None } else { Some(2) } }
             _ => None,
         }
     }

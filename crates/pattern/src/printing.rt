@@ -57,11 +57,7 @@ fn print_mirror(alloc: Global, out: &mut Vec<u8>, r: Rectangle) -> Result<(), Al
     Ok(())
 }
 
-fn print_mirrors(
-    alloc: Global,
-    out: &mut Vec<u8>,
-    mirrors: &[Rectangle],
-) -> Result<(), AllocError>
+fn print_mirrors(alloc: Global, out: &mut Vec<u8>, mirrors: &[Rectangle]) -> Result<(), AllocError>
     ensures { OnOk result (out.new.items ≡ out.old.items ++ flat_map (λ r. line_text (codes "mirror") (rectangle_words r)) mirrors.now) }
 {
     for mirror in mirrors {

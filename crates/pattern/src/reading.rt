@@ -3,7 +3,7 @@ ghost use Rattle.std.specs.Prelude.{◌≡◌, ◌||◌, ◌<◌, ℕ, true, [],
 ghost use Rattle.std.specs.List.{list_all};
 ghost use Rattle.indexmap.specs.IndexSet.{spare};
 ghost use Rattle.section_text.specs.Section.{Reads};
-ghost use Rattle.pattern.specs.Lines.{has, is_any, is_in, is_out, is_in_name, is_out_name, line_fault, missing_fault, name_fault, parts_of};
+ghost use Rattle.pattern.specs.Lines.{AreNamed, has, is_any, is_in, is_out, is_in_name, is_out_name, line_fault, missing_fault, name_fault, parts_of};
 ghost use Rattle.pattern.specs.Grammars.{layout_grammar, layout_value};
 
 use crate::draft::Draft;
@@ -12,7 +12,9 @@ use crate::layout::Layout;
 use crate::names::{index_of, put_name};
 use crate::parts::{Part, Size};
 use indexmap::IndexSet;
-use section_text::{Feed, Form, Line, LineFault, Name, PortNames, ReadFault, Section, read_section};
+use section_text::{
+    Feed, Form, Line, LineFault, Name, PortNames, ReadFault, Section, read_section,
+};
 use std::alloc::{AllocError, Global};
 use std::marker::Model;
 
@@ -226,18 +228,25 @@ impl<'a> Section for Reading<'a> {
     }
 }
 
-/// Reads a layout section: the size line, and mirrors, balls, inputs, outputs and wastes in this order.
+/// Reads a layout section: the size line, mirrors, balls, inputs, outputs and wastes in this order, and `end`.
 ///
 /// Where the names of ports are given, an input cell is named by one of the inputs and an output cell by one of the
-/// outputs (else code 3), and each of them has a cell (else code 11). Code 2 refuses a number outside its limits,
-/// code 6 a line out of its place, code 7 a cell that is taken or outside. After a fault the feed answers it for good.
-pub fn read_layout(
-    alloc: Global,
-    feed: &mut Feed,
-    ports: &PortNames,
-) -> Result<Layout, ReadFault>
+/// outputs, and each of them has a cell. The error is want of memory, or the first line that is refused, counted from 1
+/// over the whole feed, with the code of the first test that it fails:
+///
+/// - 12: it is not there or not ended;
+/// - 1: it has none of the forms of this section;
+/// - 6: it is out of its place;
+/// - 11: it is `end`, and an input or an output has no cell;
+/// - 2: a number is outside its limits;
+/// - 3: a port may not have this name;
+/// - 7: a cell is outside the layout, or is taken.
+///
+/// After an error the feed answers it for good.
+pub fn read_layout(alloc: Global, feed: &mut Feed, ports: &PortNames) -> Result<Layout, ReadFault>
     requires { feed.old.closed ≡ true }
     ensures reads { Reads (layout_grammar ports.now) layout_value feed.old feed.new result }
+    ensures names { IfOk result (λ l. AreNamed ports.now (parts_of l)) }
 {
     let Ok(mut reading) = Reading::new(alloc, ports) else {
         return Err(feed.starve());

@@ -10,6 +10,7 @@ use crate::layout::Layout;
 use crate::names::index_of;
 use crate::parts::{Port, Rectangle, Size};
 use crate::rectangle::push_rectangle;
+use crate::taken::make_live;
 use bbm_rule::{Cell, Grid};
 use indexmap::IndexSet;
 use section_text::Name;
@@ -69,17 +70,6 @@ pub fn start_cells(alloc: Global, layout: &Layout, on: &[Name]) -> Result<Vec<Ce
     cells.extend_from_slice(layout.balls.as_slice())?;
     push_ports_on(alloc, &mut cells, layout.ins.as_slice(), on)?;
     Ok(cells)
-}
-
-// Makes the cells live.
-fn make_live(grid: &mut Grid, cells: &[Cell])
-    requires inside { (x y : ℤ) → in_cells cells.now x y ≡ true → is_inside grid.old x y ≡ true }
-    ensures cells { (x y : ℤ) → live grid.new x y ≡ (live grid.old x y || in_cells cells.now x y) }
-    ensures size { HasSameSize grid.old grid.new }
-{
-    for cell in cells {
-        grid.set(*cell, true);
-    }
 }
 
 // A grid of the layout's size with the cells of the start.

@@ -19,8 +19,8 @@ fn meets(grid: &Grid, cells: &[Cell]) -> bool
     false
 }
 
-// Takes the cells.
-fn take_cells(grid: &mut Grid, cells: &[Cell])
+/// Makes the cells live, and leaves the others as they are.
+pub(crate) fn make_live(grid: &mut Grid, cells: &[Cell])
     requires { All (λ c. is_inside grid.old c.x c.y ≡ true) cells.now }
     ensures taken { (x y : ℤ) → live grid.new x y ≡ (live grid.old x y || in_cells cells.now x y) }
     ensures size { HasSameSize grid.old grid.new }
@@ -50,6 +50,6 @@ pub(crate) fn take_where(takes: bool, grid: &mut Grid, cells: &[Cell])
     ensures size { HasSameSize grid.old grid.new }
 {
     if takes {
-        take_cells(grid, cells);
+        make_live(grid, cells);
     }
 }

@@ -10,3 +10,4 @@ pub mod Again
 pub mod Whole
 pub mod Spellings
 pub mod Joined
+pub mod Good

@@ -25,10 +25,10 @@ pub returns-in-Err-read_names : goal.returns-in-Err-read_names
 unfolding run_asked lines names
 returns-in-Err-read_names c =
     then_failed {A = Pattern} (layout_grammar Any) layout_value lines names c.args.feed.now c.read_layout.new.feed c.requires.unread c.requires.going c.in-Ok.layout c.deref.result.now c.in-Err-read_names.fault c.in-Ok.ensures.reads
-        (c.deref.ensures.value ∙ c.in-Ok-in_names.ensures ∙ sym (in_names_are c.in-Ok.layout)) c.in-Err-read_names.ensures
+    (c.deref.ensures.value ∙ c.in-Ok-in_names.ensures ∙ sym (in_names_are c.in-Ok.layout)) c.in-Err-read_names.ensures
 
 pub returns-in-Ok-read_names : goal.returns-in-Ok-read_names
 unfolding run_asked lines names
 returns-in-Ok-read_names c =
     then_read {A = Pattern} (layout_grammar Any) layout_value lines names c.args.feed.now c.read_layout.new.feed c.requires.unread c.requires.going c.in-Ok.layout c.deref.result.now c.in-Ok-read_names.on.items c.in-Ok.ensures.reads
-        (c.deref.ensures.value ∙ c.in-Ok-in_names.ensures ∙ sym (in_names_are c.in-Ok.layout)) c.in-Ok-read_names.ensures
+    (c.deref.ensures.value ∙ c.in-Ok-in_names.ensures ∙ sym (in_names_are c.in-Ok.layout)) c.in-Ok-read_names.ensures

@@ -1,7 +1,7 @@
 -- The inputs have the values that say whether their names are on.
-use Rattle.std.proofs.Common.{◌≡◌, ℕ, Bool, List, map, length, refl, ap, ◌∙◌, subst}
+use Rattle.std.proofs.Common.{ℕ, Bool, List, map, length, refl, ap, ◌∙◌, subst}
 use Rattle.std.proofs.lemmas.List.{length-map}
-use Rattle.circuit.specs.Bridge.{AreValues, input_names, netlist_of, read}
+use Rattle.circuit.specs.Bridge.{AreValues, netlist_of, read}
 use Rattle.circuit.specs.Rules.{defined}
 use Rattle.circuit.specs.Text.{value_lines}
 use Rattle.pattern.specs.Lines.{has}

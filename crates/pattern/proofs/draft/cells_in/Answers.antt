@@ -1,4 +1,4 @@
-use Rattle.std.proofs.Common.{◌≡◌, true, ◌∙◌, sym, ap, subst, arith}
+use Rattle.std.proofs.Common.{◌≡◌, true, subst, arith}
 use Rattle.pattern.specs.declared.parts.Part.{Part}
 use Rattle.pattern.specs.Lines.{is_inside}
 use Rattle.pattern.proofs.TakenLemmas.{is_sized, mirror_fits}

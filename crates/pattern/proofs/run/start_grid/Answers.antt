@@ -1,10 +1,13 @@
-use Rattle.std.proofs.Common.{◌≡◌, true, List, arith, ap, ◌∙◌, sym}
+use Rattle.std.proofs.Common.{◌≡◌, true, ℤ, arith, ap, ◌∙◌, sym}
+use Rattle.std.specs.Prelude.{All}
+use Rattle.std.proofs.lemmas.List.Elements.{All-same}
+use Rattle.bbm_rule.specs.Board.{is_inside}
 use Rattle.bbm_rule.specs.declared.block.Cell.{Cell}
 use Rattle.pattern.specs.Layout.{Pattern, in_cells, start}
 use Rattle.pattern.specs.LayoutView.{pattern_of}
 use Rattle.pattern.specs.Lines.{has}
 use Rattle.pattern.proofs.InsideLemmas.{size_sides, begins_inside, start_inside}
-use Rattle.pattern.proofs.RunLemmas.{inside_is_layout}
+use Rattle.pattern.proofs.RunLemmas.{among, inside_is_layout}
 use Rattle.pattern.proofs.run.start_grid.Goals as goal
 
 pub new-requires-clause-width : goal.new-requires-clause-width
@@ -17,9 +20,9 @@ pub make_live-requires : goal.make_live-requires
 make_live-requires c =
     let p : Pattern = pattern_of c.layout.inside in
     let on = has c.args.on.now in
-    record {
-      inside = λ x y e.
-          let listed : in_cells c.in_ok-cells.cells.items x y ≡ true = ap (λ (l : List Cell). in_cells l x y) (sym c.as_slice.ensures.value) ∙ e in
-          let begun : start p on x y ≡ true = ap (λ (q : Pattern). start q on x y) c.layout.view_is ∙ sym (c.in_ok-cells.ensures.cells x y) ∙ listed in
-          inside_is_layout c.in_ok-grid.grid p.size c.in_ok-grid.ensures.size.0 c.in_ok-grid.ensures.size.1 x y ∙ start_inside p on (begins_inside p c.layout.invariant.parts) x y begun;
-    }
+    let grid = c.in_ok-grid.grid in
+    let cells = c.in_ok-cells.cells.items in
+    let begun : (x y : ℤ) → in_cells cells x y ≡ true → start p on x y ≡ true = λ x y e. ap (λ (q : Pattern). start q on x y) c.layout.view_is ∙ sym (c.in_ok-cells.ensures.cells x y) ∙ e in
+    let inside : (x y : ℤ) → in_cells cells x y ≡ true → is_inside grid x y ≡ true = λ x y e. inside_is_layout grid p.size c.in_ok-grid.ensures.size.0 c.in_ok-grid.ensures.size.1 x y ∙ start_inside p on (begins_inside p c.layout.invariant.parts) x y (begun x y e) in
+    let all : All (λ (q : Cell). is_inside grid q.x q.y ≡ true) cells = λ k d lt. inside _ _ (among cells k d lt) in
+    All-same (λ (q : Cell). is_inside grid q.x q.y ≡ true) _ cells c.as_slice.ensures.value all

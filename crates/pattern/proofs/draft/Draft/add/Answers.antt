@@ -1,6 +1,5 @@
 -- The grids hold the cells that are taken, those of the line among them.
 use Rattle.std.proofs.Common.{◌≡◌, ◌||◌, ◌&&◌, true, sym, ap, subst, ◌∙◌}
-use Rattle.pattern.specs.declared.parts.Part.{Part}
 use Rattle.pattern.specs.declared.parts.Size.{Size}
 use Rattle.bbm_rule.specs.Board.{live}
 use Rattle.pattern.specs.Layout.{Pattern, in_cells}

@@ -1,8 +1,7 @@
 -- The grids hold the cells that are taken.
-use Rattle.std.proofs.Common.{◌≡◌, true, false, if◌then◌else◌, List, None, Some, sym, ap, subst, ◌∙◌}
+use Rattle.std.proofs.Common.{◌≡◌, true, if◌then◌else◌, None, Some, sym, ap, subst, ◌∙◌}
 use Rattle.std.specs.List.{list_any}
 use Rattle.bbm_rule.specs.Board.{live}
-use Rattle.pattern.specs.declared.parts.Part.{Part}
 use Rattle.pattern.specs.declared.parts.Size.{Size}
 use Rattle.pattern.specs.Layout.{Pattern}
 use Rattle.pattern.specs.Lines.{parts_of, is_inside, is_taken, cells_of, cell_fault}

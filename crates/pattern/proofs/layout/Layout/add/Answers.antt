@@ -1,6 +1,5 @@
 -- One more line of each kind.
-use Rattle.std.proofs.Common.{◌≡◌, [], ◌∷◌, ◌++◌, None, sym, ap, subst, ◌∙◌}
-use Rattle.pattern.specs.declared.parts.Part.{Part}
+use Rattle.std.proofs.Common.{◌≡◌, [], ◌∷◌, ◌++◌, None, sym, subst}
 use Rattle.pattern.specs.Layout.{Pattern}
 use Rattle.pattern.specs.LayoutView.{pattern_of}
 use Rattle.pattern.specs.Lines.{parts_of, cell_fault}

@@ -15,7 +15,7 @@ returns-then-has_ins-has_outs c =
     let outs = c.has_all-has_outs.ensures ∙ ap (list_all (λ (n : List ℕ). has c.self.inside.seen_outs.keys n)) c.deref-in-Only.ensures.value in
     let both = sym (ap₂ (λ a b. a && b) ins outs) ∙ c.if-has_ins-has_outs.true in
     subst (λ (r : ReadingState). None ≡ missing_fault r.ports (parts_of r.layout)) c.self.view_is
-        (missing_by c.self.inside.ports.now (parts_of c.self.inside.draft) c.in-Only.ins c.in-Only.outs c.self.inside.seen_ins.keys c.self.inside.seen_outs.keys c.in-Only.is c.self.invariant.seen_ins c.self.invariant.seen_outs true both)
+    (missing_by c.self.inside.ports.now (parts_of c.self.inside.draft) c.in-Only.ins c.in-Only.outs c.self.inside.seen_ins.keys c.self.inside.seen_outs.keys c.in-Only.is c.self.invariant.seen_ins c.self.invariant.seen_outs true both)
 
 pub returns-else-has_ins-has_outs : goal.returns-else-has_ins-has_outs
 returns-else-has_ins-has_outs c =
@@ -23,4 +23,4 @@ returns-else-has_ins-has_outs c =
     let outs = c.has_all-has_outs.ensures ∙ ap (list_all (λ (n : List ℕ). has c.self.inside.seen_outs.keys n)) c.deref-in-Only.ensures.value in
     let both = sym (ap₂ (λ a b. a && b) ins outs) ∙ c.if-has_ins-has_outs.false in
     subst (λ (r : ReadingState). Some 11 ≡ missing_fault r.ports (parts_of r.layout)) c.self.view_is
-        (missing_by c.self.inside.ports.now (parts_of c.self.inside.draft) c.in-Only.ins c.in-Only.outs c.self.inside.seen_ins.keys c.self.inside.seen_outs.keys c.in-Only.is c.self.invariant.seen_ins c.self.invariant.seen_outs false both)
+    (missing_by c.self.inside.ports.now (parts_of c.self.inside.draft) c.in-Only.ins c.in-Only.outs c.self.inside.seen_ins.keys c.self.inside.seen_outs.keys c.in-Only.is c.self.invariant.seen_ins c.self.invariant.seen_outs false both)

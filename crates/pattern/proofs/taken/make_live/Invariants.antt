@@ -1,8 +1,8 @@
--- The cells so far are taken.
+-- The cells so far are live.
 use Rattle.std.proofs.Common.{◌≡◌, ◌||◌, ℤ, take}
 use Rattle.bbm_rule.specs.Board.{live, HasSameSize}
 use Rattle.pattern.specs.Layout.{in_cells}
-use Rattle.pattern.proofs.taken.take_cells.Given as goal
+use Rattle.pattern.proofs.taken.make_live.Given as goal
 
 abbrev pub invariant-loop-cell : goal.invariant-loop-cell
 invariant-loop-cell l =

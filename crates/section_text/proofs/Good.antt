@@ -1,0 +1,94 @@
+-- What was read is good: neither the header, nor an item after those before it, nor the end had a fault.
+use Rattle.std.proofs.Common.{◌≡◌, ℕ, ◌+◌, List, [], ◌∷◌, ◌++◌, Option, Some, None, Result, Ok, refl, sym, ap, subst, ◌∙◌, append_assoc}
+use Rattle.std.proofs.lemmas.List.{append-nil}
+use Rattle.section_text.specs.Words.{words_of}
+use Rattle.section_text.specs.declared.section.Form.{Form}
+use Rattle.section_text.specs.declared.section.Form.TheVariants.{Header, Item, End}
+use Rattle.section_text.specs.declared.fault.Refusal.{Refusal}
+use Rattle.section_text.specs.declared.fault.ReadFault.{ReadFault}
+use Rattle.section_text.specs.FeedState.{FeedState, ahead}
+use Rattle.section_text.specs.Section.{Grammar, unless, line_after, header_line, section_of, body_of, Reads}
+
+module _ {H I : Type 0} (g : Grammar H I) where
+  -- each item has no fault after the items before it
+  abbrev pub AreFaultless : H → List I → List I → Type 0
+  AreFaultless h before [] = Unit {0}
+  AreFaultless h before (i ∷ items) = (g.item_fault h before i ≡ None) × AreFaultless h (before ++ i ∷ []) items
+
+  pub record IsFaultless (h : H) (items : List I) : Type 0 where
+    pub header : g.header_fault h ≡ None
+    pub each : AreFaultless h [] items
+    pub end : g.end_fault h items ≡ None
+
+  record BodyFaultless (h : H) (before : List I) (h' : H) (rows : List I) : Type 0 where
+    pub more : List I
+    pub rows_are : rows ≡ before ++ more
+    pub same : h' ≡ h
+    pub each : AreFaultless h before more
+    pub end : g.end_fault h rows ≡ None
+
+  unless_ok : (n : ℕ) (o : Option ℕ) (r : Result (H × List I) Refusal) (y : H × List I) → unless n o r ≡ Ok y → (o ≡ None) × (r ≡ Ok y)
+  unless_ok n None r y e = (refl, e)
+  unless_ok n (Some code) r y e = absurd cc
+
+  ok_is : (x y : H × List I) → ◌≡◌ {A = Result (H × List I) Refusal} (Ok x) (Ok y) → x ≡ y
+  ok_is x y e = cc
+
+  line_faultless : (ls : List (List ℕ)) (h : H) (before : List I) (n : ℕ) (h' : H) (rows : List I) (o : Option (Form H I))
+      → line_after g h before n (λ i. body_of g h (before ++ i ∷ []) (n + 1) ls) o ≡ Ok (h', rows)
+      → ((i : I) → body_of g h (before ++ i ∷ []) (n + 1) ls ≡ Ok (h', rows) → BodyFaultless h (before ++ i ∷ []) h' rows) → BodyFaultless h before h' rows
+  line_faultless ls h before n h' rows None e rec = absurd cc
+  line_faultless ls h before n h' rows (Some (Header k)) e rec = absurd cc
+  line_faultless ls h before n h' rows (Some (Item i)) e rec =
+      let good = unless_ok n (g.item_fault h before i) (body_of g h (before ++ i ∷ []) (n + 1) ls) (h', rows) e in
+      let t = rec i good.1 in
+      record {
+        more = i ∷ t.more;
+        rows_are = t.rows_are ∙ append_assoc before (i ∷ []) t.more;
+        same = t.same;
+        each = (good.0, t.each);
+        end = t.end;
+      }
+  line_faultless ls h before n h' rows (Some End) e rec =
+      let good = unless_ok n (g.end_fault h before) (Ok (h, before)) (h', rows) e in
+      let are = ok_is (h, before) (h', rows) good.1 in
+      let rows_are : before ≡ rows = ap (λ (p : H × List I). p.1) are in
+      record {
+        more = [];
+        rows_are = sym rows_are ∙ sym (append-nil before);
+        same = sym (ap (λ (p : H × List I). p.0) are);
+        each = tt;
+        end = subst (λ (l : List I). g.end_fault h l ≡ None) rows_are good.0;
+      }
+
+  body_faultless : (ls : List (List ℕ)) (h : H) (before : List I) (n : ℕ) (h' : H) (rows : List I) → body_of g h before n ls ≡ Ok (h', rows) → BodyFaultless h before h' rows
+  unfolding body_of
+  body_faultless [] h before n h' rows e = absurd cc
+  body_faultless (l ∷ ls) h before n h' rows e = line_faultless ls h before n h' rows (g.form (words_of l)) e (λ i. body_faultless ls h (before ++ i ∷ []) (n + 1) h' rows)
+
+  header_faultless : (ls : List (List ℕ)) (n : ℕ) (h : H) (rows : List I) (o : Option (Form H I)) → header_line g n (λ k. body_of g k [] (n + 1) ls) o ≡ Ok (h, rows) → IsFaultless h rows
+  header_faultless ls n h rows None e = absurd cc
+  header_faultless ls n h rows (Some (Item i)) e = absurd cc
+  header_faultless ls n h rows (Some End) e = absurd cc
+  header_faultless ls n h rows (Some (Header k)) e =
+      let good = unless_ok n (g.header_fault k) (body_of g k [] (n + 1) ls) (h, rows) e in
+      let t = body_faultless ls k [] (n + 1) h rows good.1 in
+      record {
+        header = subst (λ (j : H). g.header_fault j ≡ None) (sym t.same) good.0;
+        each = subst (λ (j : H). AreFaultless j [] rows) (sym t.same) (subst (AreFaultless k []) (sym t.rows_are) t.each);
+        end = subst (λ (j : H). g.end_fault j rows ≡ None) (sym t.same) t.end;
+      }
+
+  pub read_faultless : (n : ℕ) (ls : List (List ℕ)) (h : H) (rows : List I) → section_of g n ls ≡ Ok (h, rows) → IsFaultless h rows
+  unfolding section_of
+  read_faultless n [] h rows e = absurd cc
+  read_faultless n (l ∷ ls) h rows e = header_faultless ls n h rows (g.form (words_of l)) e
+
+  -- what a reader answered is good
+  module _ {A : Type 0} (view : A → H × List I) (old new : FeedState) (a : A) (reads : Reads g view old new (Ok a)) where
+    faultless_by : (stop : Option ReadFault) → old.stop ≡ stop → IsFaultless (view a).0 (view a).1
+    faultless_by (Some fault) e = absurd (reads.stopped fault e).0
+    faultless_by None e = read_faultless old.taken (ahead old) (view a).0 (view a).1 (reads.reads e).gives
+
+    pub reads_faultless : IsFaultless (view a).0 (view a).1
+    reads_faultless = faultless_by old.stop refl
