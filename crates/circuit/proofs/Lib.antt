@@ -10,3 +10,4 @@ pub mod Drafts
 pub mod Fitting
 pub mod Values
 pub mod Counting
+pub mod GateLaws

@@ -1,7 +1,8 @@
 -- Laws of the circuit section.
 use Rattle.std.specs.Prelude.{◌≡◌, ℕ, ◌+◌, ◌<◌, Bool, List, length, map, take, drop, Some, Ok, slice_get}
 use Rattle.section_text.specs.Words.{lines_of}
-use Rattle.std.specs.List.{flat_map, range_with_len}
+use Rattle.circuit.specs.Gates.{Rule, Source, Switch, Unswitch, Interact, Uninteract, row}
+use Rattle.std.specs.List.{count_by, flat_map, range_with_len}
 use Rattle.section_text.specs.Section.{section_of, ended_line}
 use Rattle.circuit.specs.declared.entry.Entry.{Entry}
 use Rattle.circuit.specs.Grammars.{circuit_grammar}
@@ -50,3 +51,20 @@ WiresAreNamed = (entries : List Entry) → AreGood entries → length (defined e
 -- the inputs are the first wires
 abbrev pub InputsAreFirst : Type 0
 InputsAreFirst = (entries : List Entry) → AreGood entries → take (input_count entries) (defined entries) ≡ input_names entries
+
+-- how many of the bits are true
+abbrev pub ones : List Bool → ℕ
+ones bits = count_by (λ b. b) bits
+
+-- conservative logic: every gate but a source keeps the number of ones
+abbrev pub GatesKeepOnes : Type 0
+GatesKeepOnes = (rule : Rule) (ins outs : List Bool) → ((b : Bool) → rule ≡ Source b → ⊥) → row rule ins ≡ Some outs → ones outs ≡ ones ins
+
+-- one gate turns back what another does, and has no row but for that
+pub record Undoes (gate inverse : Rule) : Type 0 where
+  pub undone : (ins outs : List Bool) → row gate ins ≡ Some outs → row inverse outs ≡ Some ins
+  pub only : (ins outs : List Bool) → row inverse ins ≡ Some outs → row gate outs ≡ Some ins
+
+pub record InverseGatesUndo : Type 0 where
+  pub switch : Undoes Switch Unswitch
+  pub interact : Undoes Interact Uninteract

@@ -1,5 +1,5 @@
 //! Laws of the definitions.
-ghost use Rattle.circuit.specs.Laws.{PrintsWhatIsRead, ReadsWhatIsPrinted, GatesAreOrdered, HasValuation, HasAtMostOneValuation, HasOneValuation, ListsValues, WiresAreNamed, NamesAreOwn, InputsAreFirst};
+ghost use Rattle.circuit.specs.Laws.{PrintsWhatIsRead, ReadsWhatIsPrinted, GatesAreOrdered, HasValuation, HasAtMostOneValuation, HasOneValuation, ListsValues, WiresAreNamed, NamesAreOwn, InputsAreFirst, GatesKeepOnes, InverseGatesUndo};
 
 /// The text of a circuit that is read is the text of the lines that it is read from, and it is read as the same circuit again.
 pub fn one_text()
@@ -37,4 +37,14 @@ pub fn wires_are_named()
     ensures named { WiresAreNamed }
     ensures own { NamesAreOwn }
     ensures first { InputsAreFirst }
+{}
+
+/// Every gate but a source keeps the number of ones (Fredkin and Toffoli 1982).
+pub fn gates_keep_ones()
+    ensures { GatesKeepOnes }
+{}
+
+/// `unswitch` turns back what `switch` does and `uninteract` what `interact` does, and they have no row but for that.
+pub fn inverse_gates_undo()
+    ensures { InverseGatesUndo }
 {}

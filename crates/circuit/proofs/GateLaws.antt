@@ -1,0 +1,234 @@
+-- What gates keep, and which gates undo which.
+use Rattle.std.proofs.Common.{◌≡◌, ℕ, Bool, true, false, List, [], ◌∷◌, Option, Some, None, refl, sym, ap, subst, ◌∙◌}
+use Rattle.std.specs.List.{count_by}
+use Rattle.circuit.specs.Gates.{Rule, Source, Fredkin, Cswap, Interact, Switch, Delay, Unswitch, Uninteract, row, is_inverse}
+use Rattle.circuit.specs.Laws.{ones, GatesKeepOnes, Undoes, InverseGatesUndo}
+
+none : {outs : List Bool} → ◌≡◌ {A = Option (List Bool)} None (Some outs) → ⊥
+none e = absurd cc
+
+list_is : (x y : List Bool) → ◌≡◌ {A = Option (List Bool)} (Some x) (Some y) → x ≡ y
+list_is x y e = cc
+
+switch_undone : (ins outs : List Bool) → row Switch ins ≡ Some outs → row Unswitch outs ≡ Some ins
+unfolding row
+switch_undone ([]) outs e = absurd (none e)
+switch_undone (b0 ∷ []) outs e = absurd (none e)
+switch_undone (false ∷ false ∷ []) outs e = subst (λ (o : List Bool). row Unswitch o ≡ Some (false ∷ false ∷ [])) (list_is (false ∷ false ∷ false ∷ []) outs e) refl
+switch_undone (false ∷ true ∷ []) outs e = subst (λ (o : List Bool). row Unswitch o ≡ Some (false ∷ true ∷ [])) (list_is (false ∷ false ∷ true ∷ []) outs e) refl
+switch_undone (true ∷ false ∷ []) outs e = subst (λ (o : List Bool). row Unswitch o ≡ Some (true ∷ false ∷ [])) (list_is (true ∷ false ∷ false ∷ []) outs e) refl
+switch_undone (true ∷ true ∷ []) outs e = subst (λ (o : List Bool). row Unswitch o ≡ Some (true ∷ true ∷ [])) (list_is (true ∷ true ∷ false ∷ []) outs e) refl
+switch_undone (b0 ∷ b1 ∷ b ∷ bs) outs e = absurd (none e)
+
+unswitch_undone : (ins outs : List Bool) → row Unswitch ins ≡ Some outs → row Switch outs ≡ Some ins
+unfolding row
+unswitch_undone ([]) outs e = absurd (none e)
+unswitch_undone (b0 ∷ []) outs e = absurd (none e)
+unswitch_undone (b0 ∷ b1 ∷ []) outs e = absurd (none e)
+unswitch_undone (false ∷ false ∷ false ∷ []) outs e = subst (λ (o : List Bool). row Switch o ≡ Some (false ∷ false ∷ false ∷ [])) (list_is (false ∷ false ∷ []) outs e) refl
+unswitch_undone (false ∷ false ∷ true ∷ []) outs e = subst (λ (o : List Bool). row Switch o ≡ Some (false ∷ false ∷ true ∷ [])) (list_is (false ∷ true ∷ []) outs e) refl
+unswitch_undone (false ∷ true ∷ false ∷ []) outs e = absurd (none e)
+unswitch_undone (false ∷ true ∷ true ∷ []) outs e = absurd (none e)
+unswitch_undone (true ∷ false ∷ false ∷ []) outs e = subst (λ (o : List Bool). row Switch o ≡ Some (true ∷ false ∷ false ∷ [])) (list_is (true ∷ false ∷ []) outs e) refl
+unswitch_undone (true ∷ false ∷ true ∷ []) outs e = absurd (none e)
+unswitch_undone (true ∷ true ∷ false ∷ []) outs e = subst (λ (o : List Bool). row Switch o ≡ Some (true ∷ true ∷ false ∷ [])) (list_is (true ∷ true ∷ []) outs e) refl
+unswitch_undone (true ∷ true ∷ true ∷ []) outs e = absurd (none e)
+unswitch_undone (b0 ∷ b1 ∷ b2 ∷ b ∷ bs) outs e = absurd (none e)
+
+interact_undone : (ins outs : List Bool) → row Interact ins ≡ Some outs → row Uninteract outs ≡ Some ins
+unfolding row
+interact_undone ([]) outs e = absurd (none e)
+interact_undone (b0 ∷ []) outs e = absurd (none e)
+interact_undone (false ∷ false ∷ []) outs e = subst (λ (o : List Bool). row Uninteract o ≡ Some (false ∷ false ∷ [])) (list_is (false ∷ false ∷ false ∷ false ∷ []) outs e) refl
+interact_undone (false ∷ true ∷ []) outs e = subst (λ (o : List Bool). row Uninteract o ≡ Some (false ∷ true ∷ [])) (list_is (false ∷ true ∷ false ∷ false ∷ []) outs e) refl
+interact_undone (true ∷ false ∷ []) outs e = subst (λ (o : List Bool). row Uninteract o ≡ Some (true ∷ false ∷ [])) (list_is (false ∷ false ∷ true ∷ false ∷ []) outs e) refl
+interact_undone (true ∷ true ∷ []) outs e = subst (λ (o : List Bool). row Uninteract o ≡ Some (true ∷ true ∷ [])) (list_is (true ∷ false ∷ false ∷ true ∷ []) outs e) refl
+interact_undone (b0 ∷ b1 ∷ b ∷ bs) outs e = absurd (none e)
+
+uninteract_undone : (ins outs : List Bool) → row Uninteract ins ≡ Some outs → row Interact outs ≡ Some ins
+unfolding row
+uninteract_undone ([]) outs e = absurd (none e)
+uninteract_undone (false ∷ []) outs e = absurd (none e)
+uninteract_undone (true ∷ []) outs e = absurd (none e)
+uninteract_undone (false ∷ false ∷ []) outs e = absurd (none e)
+uninteract_undone (false ∷ true ∷ []) outs e = absurd (none e)
+uninteract_undone (true ∷ false ∷ []) outs e = absurd (none e)
+uninteract_undone (true ∷ true ∷ []) outs e = absurd (none e)
+uninteract_undone (false ∷ false ∷ false ∷ []) outs e = absurd (none e)
+uninteract_undone (false ∷ false ∷ true ∷ []) outs e = absurd (none e)
+uninteract_undone (false ∷ true ∷ false ∷ []) outs e = absurd (none e)
+uninteract_undone (false ∷ true ∷ true ∷ []) outs e = absurd (none e)
+uninteract_undone (true ∷ false ∷ false ∷ []) outs e = absurd (none e)
+uninteract_undone (true ∷ false ∷ true ∷ []) outs e = absurd (none e)
+uninteract_undone (true ∷ true ∷ false ∷ []) outs e = absurd (none e)
+uninteract_undone (true ∷ true ∷ true ∷ []) outs e = absurd (none e)
+uninteract_undone (false ∷ false ∷ false ∷ false ∷ []) outs e = subst (λ (o : List Bool). row Interact o ≡ Some (false ∷ false ∷ false ∷ false ∷ [])) (list_is (false ∷ false ∷ []) outs e) refl
+uninteract_undone (false ∷ false ∷ false ∷ true ∷ []) outs e = absurd (none e)
+uninteract_undone (false ∷ false ∷ true ∷ false ∷ []) outs e = subst (λ (o : List Bool). row Interact o ≡ Some (false ∷ false ∷ true ∷ false ∷ [])) (list_is (true ∷ false ∷ []) outs e) refl
+uninteract_undone (false ∷ false ∷ true ∷ true ∷ []) outs e = absurd (none e)
+uninteract_undone (false ∷ true ∷ false ∷ false ∷ []) outs e = subst (λ (o : List Bool). row Interact o ≡ Some (false ∷ true ∷ false ∷ false ∷ [])) (list_is (false ∷ true ∷ []) outs e) refl
+uninteract_undone (false ∷ true ∷ false ∷ true ∷ []) outs e = absurd (none e)
+uninteract_undone (false ∷ true ∷ true ∷ false ∷ []) outs e = absurd (none e)
+uninteract_undone (false ∷ true ∷ true ∷ true ∷ []) outs e = absurd (none e)
+uninteract_undone (true ∷ false ∷ false ∷ false ∷ []) outs e = absurd (none e)
+uninteract_undone (true ∷ false ∷ false ∷ true ∷ []) outs e = subst (λ (o : List Bool). row Interact o ≡ Some (true ∷ false ∷ false ∷ true ∷ [])) (list_is (true ∷ true ∷ []) outs e) refl
+uninteract_undone (true ∷ false ∷ true ∷ false ∷ []) outs e = absurd (none e)
+uninteract_undone (true ∷ false ∷ true ∷ true ∷ []) outs e = absurd (none e)
+uninteract_undone (true ∷ true ∷ false ∷ false ∷ []) outs e = absurd (none e)
+uninteract_undone (true ∷ true ∷ false ∷ true ∷ []) outs e = absurd (none e)
+uninteract_undone (true ∷ true ∷ true ∷ false ∷ []) outs e = absurd (none e)
+uninteract_undone (true ∷ true ∷ true ∷ true ∷ []) outs e = absurd (none e)
+uninteract_undone (false ∷ false ∷ false ∷ false ∷ b ∷ bs) outs e = absurd (none e)
+uninteract_undone (false ∷ false ∷ false ∷ true ∷ b ∷ bs) outs e = absurd (none e)
+uninteract_undone (false ∷ false ∷ true ∷ false ∷ b ∷ bs) outs e = absurd (none e)
+uninteract_undone (false ∷ false ∷ true ∷ true ∷ b ∷ bs) outs e = absurd (none e)
+uninteract_undone (false ∷ true ∷ false ∷ false ∷ b ∷ bs) outs e = absurd (none e)
+uninteract_undone (false ∷ true ∷ false ∷ true ∷ b ∷ bs) outs e = absurd (none e)
+uninteract_undone (false ∷ true ∷ true ∷ false ∷ b ∷ bs) outs e = absurd (none e)
+uninteract_undone (false ∷ true ∷ true ∷ true ∷ b ∷ bs) outs e = absurd (none e)
+uninteract_undone (true ∷ false ∷ false ∷ false ∷ b ∷ bs) outs e = absurd (none e)
+uninteract_undone (true ∷ false ∷ false ∷ true ∷ b ∷ bs) outs e = absurd (none e)
+uninteract_undone (true ∷ false ∷ true ∷ false ∷ b ∷ bs) outs e = absurd (none e)
+uninteract_undone (true ∷ false ∷ true ∷ true ∷ b ∷ bs) outs e = absurd (none e)
+uninteract_undone (true ∷ true ∷ false ∷ false ∷ b ∷ bs) outs e = absurd (none e)
+uninteract_undone (true ∷ true ∷ false ∷ true ∷ b ∷ bs) outs e = absurd (none e)
+uninteract_undone (true ∷ true ∷ true ∷ false ∷ b ∷ bs) outs e = absurd (none e)
+uninteract_undone (true ∷ true ∷ true ∷ true ∷ b ∷ bs) outs e = absurd (none e)
+
+pub inverse_gates_undo : InverseGatesUndo
+inverse_gates_undo = record {
+  switch = record { undone = switch_undone; only = unswitch_undone };
+  interact = record { undone = interact_undone; only = uninteract_undone };
+}
+
+fredkin_keeps : (ins outs : List Bool) → row Fredkin ins ≡ Some outs → ones outs ≡ ones ins
+unfolding row
+fredkin_keeps ([]) outs e = absurd (none e)
+fredkin_keeps (b0 ∷ []) outs e = absurd (none e)
+fredkin_keeps (b0 ∷ b1 ∷ []) outs e = absurd (none e)
+fredkin_keeps (false ∷ false ∷ false ∷ []) outs e = ap ones (sym (list_is (false ∷ false ∷ false ∷ []) outs e))
+fredkin_keeps (false ∷ false ∷ true ∷ []) outs e = ap ones (sym (list_is (false ∷ true ∷ false ∷ []) outs e))
+fredkin_keeps (false ∷ true ∷ false ∷ []) outs e = ap ones (sym (list_is (false ∷ false ∷ true ∷ []) outs e))
+fredkin_keeps (false ∷ true ∷ true ∷ []) outs e = ap ones (sym (list_is (false ∷ true ∷ true ∷ []) outs e))
+fredkin_keeps (true ∷ false ∷ false ∷ []) outs e = ap ones (sym (list_is (true ∷ false ∷ false ∷ []) outs e))
+fredkin_keeps (true ∷ false ∷ true ∷ []) outs e = ap ones (sym (list_is (true ∷ false ∷ true ∷ []) outs e))
+fredkin_keeps (true ∷ true ∷ false ∷ []) outs e = ap ones (sym (list_is (true ∷ true ∷ false ∷ []) outs e))
+fredkin_keeps (true ∷ true ∷ true ∷ []) outs e = ap ones (sym (list_is (true ∷ true ∷ true ∷ []) outs e))
+fredkin_keeps (b0 ∷ b1 ∷ b2 ∷ b ∷ bs) outs e = absurd (none e)
+
+cswap_keeps : (ins outs : List Bool) → row Cswap ins ≡ Some outs → ones outs ≡ ones ins
+unfolding row
+cswap_keeps ([]) outs e = absurd (none e)
+cswap_keeps (b0 ∷ []) outs e = absurd (none e)
+cswap_keeps (b0 ∷ b1 ∷ []) outs e = absurd (none e)
+cswap_keeps (false ∷ false ∷ false ∷ []) outs e = ap ones (sym (list_is (false ∷ false ∷ false ∷ []) outs e))
+cswap_keeps (false ∷ false ∷ true ∷ []) outs e = ap ones (sym (list_is (false ∷ false ∷ true ∷ []) outs e))
+cswap_keeps (false ∷ true ∷ false ∷ []) outs e = ap ones (sym (list_is (false ∷ true ∷ false ∷ []) outs e))
+cswap_keeps (false ∷ true ∷ true ∷ []) outs e = ap ones (sym (list_is (false ∷ true ∷ true ∷ []) outs e))
+cswap_keeps (true ∷ false ∷ false ∷ []) outs e = ap ones (sym (list_is (true ∷ false ∷ false ∷ []) outs e))
+cswap_keeps (true ∷ false ∷ true ∷ []) outs e = ap ones (sym (list_is (true ∷ true ∷ false ∷ []) outs e))
+cswap_keeps (true ∷ true ∷ false ∷ []) outs e = ap ones (sym (list_is (true ∷ false ∷ true ∷ []) outs e))
+cswap_keeps (true ∷ true ∷ true ∷ []) outs e = ap ones (sym (list_is (true ∷ true ∷ true ∷ []) outs e))
+cswap_keeps (b0 ∷ b1 ∷ b2 ∷ b ∷ bs) outs e = absurd (none e)
+
+interact_keeps : (ins outs : List Bool) → row Interact ins ≡ Some outs → ones outs ≡ ones ins
+unfolding row
+interact_keeps ([]) outs e = absurd (none e)
+interact_keeps (b0 ∷ []) outs e = absurd (none e)
+interact_keeps (false ∷ false ∷ []) outs e = ap ones (sym (list_is (false ∷ false ∷ false ∷ false ∷ []) outs e))
+interact_keeps (false ∷ true ∷ []) outs e = ap ones (sym (list_is (false ∷ true ∷ false ∷ false ∷ []) outs e))
+interact_keeps (true ∷ false ∷ []) outs e = ap ones (sym (list_is (false ∷ false ∷ true ∷ false ∷ []) outs e))
+interact_keeps (true ∷ true ∷ []) outs e = ap ones (sym (list_is (true ∷ false ∷ false ∷ true ∷ []) outs e))
+interact_keeps (b0 ∷ b1 ∷ b ∷ bs) outs e = absurd (none e)
+
+switch_keeps : (ins outs : List Bool) → row Switch ins ≡ Some outs → ones outs ≡ ones ins
+unfolding row
+switch_keeps ([]) outs e = absurd (none e)
+switch_keeps (b0 ∷ []) outs e = absurd (none e)
+switch_keeps (false ∷ false ∷ []) outs e = ap ones (sym (list_is (false ∷ false ∷ false ∷ []) outs e))
+switch_keeps (false ∷ true ∷ []) outs e = ap ones (sym (list_is (false ∷ false ∷ true ∷ []) outs e))
+switch_keeps (true ∷ false ∷ []) outs e = ap ones (sym (list_is (true ∷ false ∷ false ∷ []) outs e))
+switch_keeps (true ∷ true ∷ []) outs e = ap ones (sym (list_is (true ∷ true ∷ false ∷ []) outs e))
+switch_keeps (b0 ∷ b1 ∷ b ∷ bs) outs e = absurd (none e)
+
+delay_keeps : (n : ℕ) (ins outs : List Bool) → row (Delay n) ins ≡ Some outs → ones outs ≡ ones ins
+unfolding row
+delay_keeps n ([]) outs e = absurd (none e)
+delay_keeps n (false ∷ []) outs e = ap ones (sym (list_is (false ∷ []) outs e))
+delay_keeps n (true ∷ []) outs e = ap ones (sym (list_is (true ∷ []) outs e))
+delay_keeps n (b0 ∷ b ∷ bs) outs e = absurd (none e)
+
+unswitch_keeps : (ins outs : List Bool) → row Unswitch ins ≡ Some outs → ones outs ≡ ones ins
+unfolding row
+unswitch_keeps ([]) outs e = absurd (none e)
+unswitch_keeps (b0 ∷ []) outs e = absurd (none e)
+unswitch_keeps (b0 ∷ b1 ∷ []) outs e = absurd (none e)
+unswitch_keeps (false ∷ false ∷ false ∷ []) outs e = ap ones (sym (list_is (false ∷ false ∷ []) outs e))
+unswitch_keeps (false ∷ false ∷ true ∷ []) outs e = ap ones (sym (list_is (false ∷ true ∷ []) outs e))
+unswitch_keeps (false ∷ true ∷ false ∷ []) outs e = absurd (none e)
+unswitch_keeps (false ∷ true ∷ true ∷ []) outs e = absurd (none e)
+unswitch_keeps (true ∷ false ∷ false ∷ []) outs e = ap ones (sym (list_is (true ∷ false ∷ []) outs e))
+unswitch_keeps (true ∷ false ∷ true ∷ []) outs e = absurd (none e)
+unswitch_keeps (true ∷ true ∷ false ∷ []) outs e = ap ones (sym (list_is (true ∷ true ∷ []) outs e))
+unswitch_keeps (true ∷ true ∷ true ∷ []) outs e = absurd (none e)
+unswitch_keeps (b0 ∷ b1 ∷ b2 ∷ b ∷ bs) outs e = absurd (none e)
+
+uninteract_keeps : (ins outs : List Bool) → row Uninteract ins ≡ Some outs → ones outs ≡ ones ins
+unfolding row
+uninteract_keeps ([]) outs e = absurd (none e)
+uninteract_keeps (false ∷ []) outs e = absurd (none e)
+uninteract_keeps (true ∷ []) outs e = absurd (none e)
+uninteract_keeps (false ∷ false ∷ []) outs e = absurd (none e)
+uninteract_keeps (false ∷ true ∷ []) outs e = absurd (none e)
+uninteract_keeps (true ∷ false ∷ []) outs e = absurd (none e)
+uninteract_keeps (true ∷ true ∷ []) outs e = absurd (none e)
+uninteract_keeps (false ∷ false ∷ false ∷ []) outs e = absurd (none e)
+uninteract_keeps (false ∷ false ∷ true ∷ []) outs e = absurd (none e)
+uninteract_keeps (false ∷ true ∷ false ∷ []) outs e = absurd (none e)
+uninteract_keeps (false ∷ true ∷ true ∷ []) outs e = absurd (none e)
+uninteract_keeps (true ∷ false ∷ false ∷ []) outs e = absurd (none e)
+uninteract_keeps (true ∷ false ∷ true ∷ []) outs e = absurd (none e)
+uninteract_keeps (true ∷ true ∷ false ∷ []) outs e = absurd (none e)
+uninteract_keeps (true ∷ true ∷ true ∷ []) outs e = absurd (none e)
+uninteract_keeps (false ∷ false ∷ false ∷ false ∷ []) outs e = ap ones (sym (list_is (false ∷ false ∷ []) outs e))
+uninteract_keeps (false ∷ false ∷ false ∷ true ∷ []) outs e = absurd (none e)
+uninteract_keeps (false ∷ false ∷ true ∷ false ∷ []) outs e = ap ones (sym (list_is (true ∷ false ∷ []) outs e))
+uninteract_keeps (false ∷ false ∷ true ∷ true ∷ []) outs e = absurd (none e)
+uninteract_keeps (false ∷ true ∷ false ∷ false ∷ []) outs e = ap ones (sym (list_is (false ∷ true ∷ []) outs e))
+uninteract_keeps (false ∷ true ∷ false ∷ true ∷ []) outs e = absurd (none e)
+uninteract_keeps (false ∷ true ∷ true ∷ false ∷ []) outs e = absurd (none e)
+uninteract_keeps (false ∷ true ∷ true ∷ true ∷ []) outs e = absurd (none e)
+uninteract_keeps (true ∷ false ∷ false ∷ false ∷ []) outs e = absurd (none e)
+uninteract_keeps (true ∷ false ∷ false ∷ true ∷ []) outs e = ap ones (sym (list_is (true ∷ true ∷ []) outs e))
+uninteract_keeps (true ∷ false ∷ true ∷ false ∷ []) outs e = absurd (none e)
+uninteract_keeps (true ∷ false ∷ true ∷ true ∷ []) outs e = absurd (none e)
+uninteract_keeps (true ∷ true ∷ false ∷ false ∷ []) outs e = absurd (none e)
+uninteract_keeps (true ∷ true ∷ false ∷ true ∷ []) outs e = absurd (none e)
+uninteract_keeps (true ∷ true ∷ true ∷ false ∷ []) outs e = absurd (none e)
+uninteract_keeps (true ∷ true ∷ true ∷ true ∷ []) outs e = absurd (none e)
+uninteract_keeps (false ∷ false ∷ false ∷ false ∷ b ∷ bs) outs e = absurd (none e)
+uninteract_keeps (false ∷ false ∷ false ∷ true ∷ b ∷ bs) outs e = absurd (none e)
+uninteract_keeps (false ∷ false ∷ true ∷ false ∷ b ∷ bs) outs e = absurd (none e)
+uninteract_keeps (false ∷ false ∷ true ∷ true ∷ b ∷ bs) outs e = absurd (none e)
+uninteract_keeps (false ∷ true ∷ false ∷ false ∷ b ∷ bs) outs e = absurd (none e)
+uninteract_keeps (false ∷ true ∷ false ∷ true ∷ b ∷ bs) outs e = absurd (none e)
+uninteract_keeps (false ∷ true ∷ true ∷ false ∷ b ∷ bs) outs e = absurd (none e)
+uninteract_keeps (false ∷ true ∷ true ∷ true ∷ b ∷ bs) outs e = absurd (none e)
+uninteract_keeps (true ∷ false ∷ false ∷ false ∷ b ∷ bs) outs e = absurd (none e)
+uninteract_keeps (true ∷ false ∷ false ∷ true ∷ b ∷ bs) outs e = absurd (none e)
+uninteract_keeps (true ∷ false ∷ true ∷ false ∷ b ∷ bs) outs e = absurd (none e)
+uninteract_keeps (true ∷ false ∷ true ∷ true ∷ b ∷ bs) outs e = absurd (none e)
+uninteract_keeps (true ∷ true ∷ false ∷ false ∷ b ∷ bs) outs e = absurd (none e)
+uninteract_keeps (true ∷ true ∷ false ∷ true ∷ b ∷ bs) outs e = absurd (none e)
+uninteract_keeps (true ∷ true ∷ true ∷ false ∷ b ∷ bs) outs e = absurd (none e)
+uninteract_keeps (true ∷ true ∷ true ∷ true ∷ b ∷ bs) outs e = absurd (none e)
+
+pub gates_keep_ones : GatesKeepOnes
+gates_keep_ones (Source b) ins outs no_source e = absurd (no_source b refl)
+gates_keep_ones Fredkin ins outs no_source e = fredkin_keeps ins outs e
+gates_keep_ones Cswap ins outs no_source e = cswap_keeps ins outs e
+gates_keep_ones Interact ins outs no_source e = interact_keeps ins outs e
+gates_keep_ones Switch ins outs no_source e = switch_keeps ins outs e
+gates_keep_ones (Delay n) ins outs no_source e = delay_keeps n ins outs e
+gates_keep_ones Unswitch ins outs no_source e = unswitch_keeps ins outs e
+gates_keep_ones Uninteract ins outs no_source e = uninteract_keeps ins outs e
