@@ -1,0 +1,248 @@
+"""`run` and `value` once more, in plain Python and straight from docs/FORMATS.md: no code is shared with the program.
+
+answer(command, text) gives the exit status and what is written for a text of bytes.
+"""
+import re
+
+NUMBER = re.compile(rb"(0|[1-9][0-9]{0,8})\Z")
+NAME = re.compile(rb"[a-z][a-z0-9_]{0,31}\Z")
+HEADER, ITEM, END = "header", "item", "end"
+
+
+class Refused(Exception):
+    """A line and a code."""
+
+
+def numbers(words):
+    """The numbers that all these words are, or None."""
+    return [int(w) for w in words] if all(NUMBER.match(w) for w in words) else None
+
+
+class Lines:
+    def __init__(self, text):
+        self.parts = text.split(b"\n")
+        self.taken = 0
+
+    def take(self):
+        if self.taken == len(self.parts) - 1:
+            raise Refused(self.taken + 1, 12)
+        self.taken += 1
+        return self.parts[self.taken - 1].split(b" ")
+
+    def finish(self):
+        if self.parts[self.taken:] != [b""]:
+            raise Refused(self.taken + 1, 12)
+
+
+def read_section(lines, section):
+    kind = None
+    while kind != END:
+        words = lines.take()
+        form = section.form(words)
+        if form is None:
+            raise Refused(lines.taken, 1)
+        if (form[0] == HEADER) != (kind is None):
+            raise Refused(lines.taken, 6)
+        kind = form[0]
+        code = getattr(section, kind)(*form[1:])
+        if code:
+            raise Refused(lines.taken, code)
+    return section
+
+
+# ---- layouts
+
+PARTS = [b"mirror", b"ball", b"in", b"out", b"waste"]
+
+
+class Layout:
+    def __init__(self):
+        self.rank = 0
+        self.begun, self.ended, self.live, self.ins = set(), set(), set(), []
+
+    def form(self, words):
+        word, rest = words[0], words[1:]
+        if words == [b"end"]:
+            return (END,)
+        if word == b"layout" and len(rest) == 3 and numbers(rest):
+            return (HEADER, *numbers(rest))
+        if word not in PARTS:
+            return None
+        named = word in (b"in", b"out")
+        name = rest.pop(0) if named and rest else None
+        count = 4 if word == b"mirror" else 2
+        if named and not (name and NAME.match(name)) or len(rest) != count or numbers(rest) is None:
+            return None
+        return (ITEM, PARTS.index(word), name, numbers(rest))
+
+    def header(self, w, h, steps):
+        self.w, self.h, self.steps = w, h, steps
+        good = all(2 <= side <= 512 and side % 2 == 0 for side in (w, h)) and steps <= 4096
+        return None if good else 2
+
+    def item(self, rank, name, at):
+        x, y, w, h = at if rank == 0 else (*at, 1, 1)
+        if rank < self.rank:
+            return 6
+        if not (1 <= w <= 512 and 1 <= h <= 512):
+            return 2
+        if x + w > self.w or y + h > self.h:
+            return 7
+        cells = {(u, v) for u in range(x, x + w) for v in range(y, y + h)}
+        if cells & (self.begun if rank < 3 else self.ended):
+            return 7
+        self.rank = rank
+        self.begun |= cells if rank < 3 else set()
+        self.ended |= cells if rank not in (1, 2) else set()
+        self.live |= cells if rank < 2 else set()
+        if rank == 2:
+            self.ins.append((name, (x, y)))
+        return None
+
+    def end(self):
+        return None
+
+
+def stepped(live, time):
+    """The live cells after the step from that time: each block of two by two cells by the rule."""
+    odd = time % 2
+    corners = {((x - odd) // 2 * 2 + odd, (y - odd) // 2 * 2 + odd) for x, y in live}
+    after = set()
+    for x, y in corners:
+        block = [(x, y), (x + 1, y), (x, y + 1), (x + 1, y + 1)]
+        bits = [cell in live for cell in block]
+        if sum(bits) == 1:
+            bits.reverse()
+        elif bits in ([True, False, False, True], [False, True, True, False]):
+            bits = [not bit for bit in bits]
+        after |= {cell for cell, bit in zip(block, bits) if bit}
+    return after
+
+
+def run(text):
+    lines = Lines(text)
+    layout = read_section(lines, Layout())
+    on = read_section(lines, Assign({name for name, _ in layout.ins})).on
+    lines.finish()
+    live = layout.live | {cell for name, cell in layout.ins if name in on}
+    for time in range(layout.steps):
+        live = stepped(live, time)
+        if any(not (0 <= x < layout.w and 0 <= y < layout.h) for x, y in live):
+            return 1, b"left %d\n" % (time + 1)
+    rows = sorted(live, key=lambda cell: (cell[1], cell[0]))
+    return 0, b"cells %d\n" % len(rows) + b"".join(b"%d %d\n" % cell for cell in rows)
+
+
+# ---- circuits
+
+LONE = {b"input": 0, b"output": 2, b"spill": 3}
+GATES = {b"source": (0, 1), b"fredkin": (3, 3), b"cswap": (3, 3), b"interact": (2, 4), b"switch": (2, 3), b"delay": (1, 1)}
+ROWS = {
+    b"fredkin": lambda c, x, y: [c, x, y] if c else [c, y, x],
+    b"cswap": lambda c, x, y: [c, y, x] if c else [c, x, y],
+    b"interact": lambda p, q: [p and q, q and not p, p and not q, p and q],
+    b"switch": lambda c, x: [c, c and x, x and not c],
+    b"delay": lambda a: [a],
+}
+
+
+class Circuit:
+    def __init__(self):
+        self.rank, self.wires, self.used, self.inputs, self.gates = 0, [], set(), [], []
+
+    def form(self, words):
+        word, rest = words[0], words[1:]
+        if words in ([b"circuit"], [b"end"]):
+            return (HEADER if word == b"circuit" else END,)
+        if word in LONE:
+            if len(rest) != 1 or not NAME.match(rest[0]):
+                return None
+            return (ITEM, LONE[word], word, None, *(([], rest) if word == b"input" else (rest, [])))
+        if word not in GATES:
+            return None
+        number = None
+        if word in (b"source", b"delay"):
+            number = numbers(rest[:1])
+            if not number or word == b"source" and number[0] > 1:
+                return None
+            rest = rest[1:]
+        uses, defines = GATES[word]
+        ins, arrow, outs = rest[:uses], rest[uses:uses + 1], rest[uses + 1:]
+        if arrow != [b"->"] or len(outs) != defines or not all(NAME.match(name) for name in ins + outs):
+            return None
+        return (ITEM, 1, word, number and number[0], ins, outs)
+
+    def header(self):
+        return None
+
+    def item(self, rank, word, number, ins, outs):
+        if rank < self.rank:
+            return 6
+        if word == b"delay" and not 1 <= number <= 4096:
+            return 2
+        if len(self.wires) + len(outs) > 4096 or rank == 1 and len(self.gates) == 1024:
+            return 2
+        for name in ins:
+            if name not in self.wires:
+                return 3
+            if name in self.used:
+                return 5
+            self.used.add(name)
+        for name in outs:
+            if name in self.wires:
+                return 4
+            self.wires.append(name)
+        self.rank = rank
+        self.inputs += outs if rank == 0 else []
+        self.gates += [(word, number, ins, outs)] if rank == 1 else []
+        return None
+
+    def end(self):
+        return 11 if set(self.wires) - self.used else None
+
+
+def value(text):
+    lines = Lines(text)
+    circuit = read_section(lines, Circuit())
+    on = read_section(lines, Assign(set(circuit.inputs))).on
+    lines.finish()
+    values = {name: name in on for name in circuit.inputs}
+    for word, number, ins, outs in circuit.gates:
+        row = [number == 1] if word == b"source" else ROWS[word](*(values[name] for name in ins))
+        values.update(zip(outs, row))
+    return 0, b"".join(b"%s %d\n" % (name, values[name]) for name in circuit.wires)
+
+
+# ---- assign sections
+
+class Assign:
+    def __init__(self, known):
+        self.known, self.on = known, set()
+
+    def form(self, words):
+        if words in ([b"assign"], [b"end"]):
+            return (HEADER if words == [b"assign"] else END,)
+        if len(words) == 2 and words[0] == b"on" and NAME.match(words[1]):
+            return (ITEM, words[1])
+        return None
+
+    def header(self):
+        return None
+
+    def item(self, name):
+        if name not in self.known:
+            return 3
+        if name in self.on:
+            return 4
+        self.on.add(name)
+        return None
+
+    def end(self):
+        return None
+
+
+def answer(command, text):
+    try:
+        return {"run": run, "value": value}[command](text)
+    except Refused as refused:
+        return 3, b"refused %d %d\n" % refused.args
