@@ -1,0 +1,57 @@
+-- A fault that `owner_table` names means that the boxes do not tile
+use Rattle.std.proofs.Common.{◌≡◌, ℕ, ◌+◌, ◌-◌, ◌*◌, ◌/◌, ◌%◌, ◌<◌, ◌≤◌, true, refl, ap₂, ◌∙◌, arith}
+use Rattle.std.specs.Prelude.{pos}
+use Rattle.std.proofs.lemmas.Bool.{and_from, and_parts}
+use Rattle.bbm_rule.specs.Spans.{in_span}
+use Rattle.bbm_rule.proofs.Spans.{span_from, span_parts}
+use Rattle.module_box.specs.Boxes.{in_box}
+use Rattle.module_box.specs.Tiling.{rectangle_of}
+use Rattle.module_box.specs.Laws.{FaultMeansNoTiling}
+use Rattle.module_box.specs.declared.boxes.Box2.{Box2}
+use Rattle.module_box.specs.declared.tile.TileFault.TheVariants.{Outside, Overlap, Gap, Memory}
+use Rattle.module_box.proofs.Tilings.{div_small}
+
+-- the lower right cell of a box is in it
+last_cell : (b : Box2) → 2 ≤ b.w → 2 ≤ b.h → in_box b (pos (b.x + b.w - 1)) (pos (b.y + b.h - 1)) ≡ true
+unfolding in_box
+last_cell b p q = and_from _ _ (span_from b.x b.w (b.x + b.w - 1) (omega arith) (omega arith)) (span_from b.y b.h (b.y + b.h - 1) (omega arith) (omega arith))
+
+below_sides : (w h i k : ℕ) → in_box (rectangle_of w h) (pos i) (pos k) ≡ true → (i < w) × (k < h)
+unfolding in_box
+below_sides w h i k e =
+    let p = and_parts (in_span 0 w (pos i)) (in_span 0 h (pos k)) e in
+    let q = span_parts 0 w i p.0 in
+    let r = span_parts 0 h k p.1 in
+    (omega (arith, q.1), omega (arith, r.1))
+
+from_sides : (w h i k : ℕ) → i < w → k < h → in_box (rectangle_of w h) (pos i) (pos k) ≡ true
+unfolding in_box
+from_sides w h i k p q = and_from _ _ (span_from 0 w i (omega arith) (omega arith)) (span_from 0 h k (omega arith) (omega arith))
+
+corner_column : (w n : ℕ) → 2 ≤ w → w % 2 ≡ 0 → 2 * (n % (w / 2)) < w
+corner_column w n a e =
+    let p : 0 < w / 2 = omega arith in
+    let q : n % (w / 2) < w / 2 = omega arith in
+    omega arith
+
+corner_row : (w h n : ℕ) → n < (h / 2) * (w / 2) → 2 * (n / (w / 2)) < h
+corner_row w h n b = let d = div_small (h / 2) (w / 2) n b in omega (arith, d)
+
+pub no_tiling : FaultMeansNoTiling
+no_tiling w h boxes (Outside n) task f m tile =
+    let b = f.1.0 in
+    let s = task.sides n b f.1.1 in
+    let p = below_sides w h (b.x + b.w - 1) (b.y + b.h - 1) (tile.inside _ _ n b f.1.1 (last_cell b s.0 s.1)) in
+    f.1.2 (record { right = omega (arith, p.0, s.0); bottom = omega (arith, p.1, s.1) })
+no_tiling w h boxes (Overlap c) task f m tile =
+    let t = f.1 in
+    let same = tile.once c.x c.y t.one t.other t.first.area t.second.area t.first.numbered t.second.numbered t.first.has t.second.has in
+    omega (arith, same, t.apart)
+no_tiling w h boxes (Gap c) task f m tile =
+    let bad = f.0 in
+    let inside : in_box (rectangle_of w h) c.x c.y ≡ true =
+    ap₂ (in_box (rectangle_of w h)) bad.x bad.y
+    ∙ from_sides w h (2 * (bad.place % (w / 2))) (2 * (bad.place / (w / 2))) (corner_column w bad.place task.width.0 task.width.2) (corner_row w h bad.place bad.within) in
+    let g = tile.covered c.x c.y inside in
+    f.1 g.0 (record { area = g.1; numbered = g.2; has = g.3 })
+no_tiling w h boxes Memory task f m tile = m refl

@@ -1,0 +1,226 @@
+-- What is known of a rising list by comparing its keys with a key
+use Rattle.std.proofs.Common.{◌≡◌, ℕ, zero, suc, ◌+◌, ◌-◌, ◌<◌, ◌≤◌, List, [], ◌∷◌, ◌++◌, length, get_or, true, Option, Some, None, Ordering, Less, Equal, Greater, refl, sym, ap, subst, ◌∙◌, inl, inr, ◌⊎◌, arith, rules, eqb}
+use Rattle.std.specs.Prelude.{ℤ, ◌≢◌, slice_get, if◌then◌else◌}
+use Rattle.std.specs.Ordering.{nat_cmp, int_cmp, ordering_reverse, int_eq}
+use Rattle.std.specs.Cmp.{IsTotalOrder}
+use Rattle.std.proofs.lemmas.Option.{slice_get-get_or, slice_get_within}
+use Rattle.std.proofs.lemmas.Cmp.{then_total, on_total, nat_cmp_total, int_cmp_total, tied_itself}
+use Rattle.std.proofs.lemmas.Map.Lookups.{CmpEqualImpliesEq, exact_pairs, exact_unsigned, exact_signed}
+use Rattle.std.proofs.lemmas.Bool.{and_parts, cases_Bool, cond-true, cond-false, eqb-true}
+use Rattle.bbm_rule.specs.declared.block.Cell.{Cell}
+use Rattle.module_box.specs.declared.schedules.Moment.{Moment}
+use Rattle.module_box.specs.declared.schedules.Held.{Held}
+use Rattle.module_box.specs.declared.schedules.Event.{Event}
+use Rattle.module_box.specs.Moments.{cell_cmp, moment_cmp}
+use Rattle.module_box.specs.Schedules.{IsRising, is_at, is_then, held_at, event_at}
+
+-- ---- the two orders
+pub cell_total : IsTotalOrder cell_cmp
+unfolding cell_cmp
+cell_total = then_total (on_total (λ (c : Cell). c.y) int_cmp_total) (on_total (λ (c : Cell). c.x) int_cmp_total)
+
+pub moment_total : IsTotalOrder moment_cmp
+unfolding moment_cmp
+moment_total = then_total (on_total (λ (m : Moment). m.time) nat_cmp_total) (on_total (λ (m : Moment). m.cell) cell_total)
+
+abbrev cell_key : Cell → ℤ × ℤ
+cell_key c = (c.y, c.x)
+
+pub cell_exact : CmpEqualImpliesEq cell_cmp
+unfolding cell_cmp
+cell_exact a b e =
+    let unkey : ℤ × ℤ → Cell = λ k. record { x = k.1; y = k.0 } in
+    ap unkey (exact_pairs int_cmp int_cmp exact_signed exact_signed (cell_key a) (cell_key b) e)
+
+abbrev moment_key : Moment → ℕ × (ℤ × ℤ)
+moment_key m = (m.time, (m.cell.y, m.cell.x))
+
+pub moment_exact : CmpEqualImpliesEq moment_cmp
+unfolding moment_cmp cell_cmp
+moment_exact a b e =
+    let unkey : ℕ × (ℤ × ℤ) → Moment = λ k. record { time = k.0; cell = record { x = k.1.1; y = k.1.0 } } in
+    ap unkey (exact_pairs nat_cmp _ exact_unsigned (exact_pairs int_cmp int_cmp exact_signed exact_signed) (moment_key a) (moment_key b) e)
+
+-- ---- bounds of a search
+-- the keys before `low` are less than k, and those from `high` on are greater
+pub record IsBetween {A K : Type 0} (cmp : K → K → Ordering) (key : A → K) (xs : List A) (k : K) (low high : ℕ) : Type 0 where
+  pub below : (i : ℕ) (a : A) → i < low → slice_get xs i ≡ Some a → cmp (key a) k ≡ Less
+  pub above : (i : ℕ) (a : A) → high ≤ i → slice_get xs i ≡ Some a → cmp k (key a) ≡ Less
+
+lower_or_same : (i m : ℕ) → i < m + 1 → (i < m) ⊎ (i ≡ m)
+lower_or_same i m h = grind arith
+
+same_or_higher : (i m : ℕ) → m ≤ i → (m < i) ⊎ (m ≡ i)
+same_or_higher i m h = grind arith
+
+same_some : {A : Type 0} (o : Option A) (a b : A) → o ≡ Some a → o ≡ Some b → a ≡ b
+same_some o a b e f = cc
+
+pub raise_low : {A K : Type 0} (cmp : K → K → Ordering) (key : A → K) (xs : List A) (k : K) (low high m : ℕ) (a : A) → IsTotalOrder cmp → IsRising cmp key xs →
+    IsBetween cmp key xs k low high → slice_get xs m ≡ Some a → cmp (key a) k ≡ Less → IsBetween cmp key xs k (m + 1) high
+raise_low cmp key xs k low high m a total rising b at less = record {
+  below = λ i a' h e. elim (lower_or_same i m h) [
+    | inl lt ↦ total.trans (key a') (key a) k (rising.rises i m a' a lt e at) less
+    | inr same ↦ ap (λ z. cmp (key z) k) (same_some (slice_get xs m) a' a (ap (slice_get xs) (sym same) ∙ e) at) ∙ less
+  ];
+  above = b.above;
+}
+
+pub drop_high : {A K : Type 0} (cmp : K → K → Ordering) (key : A → K) (xs : List A) (k : K) (low high m : ℕ) (a : A) → IsTotalOrder cmp → IsRising cmp key xs →
+    IsBetween cmp key xs k low high → slice_get xs m ≡ Some a → cmp (key a) k ≡ Greater → IsBetween cmp key xs k low m
+drop_high cmp key xs k low high m a total rising b at greater = record {
+  below = b.below;
+  above = λ i a' h e.
+      let less : cmp k (key a) ≡ Less = total.antisymm k (key a) ∙ ap ordering_reverse greater in
+      elim (same_or_higher i m h) [
+        | inl lt ↦ total.trans k (key a) (key a') less (rising.rises m i a a' lt at e)
+        | inr same ↦ ap (λ z. cmp k (key z)) (same_some (slice_get xs m) a' a (ap (slice_get xs) same ∙ e) at) ∙ less
+      ];
+}
+
+less_equal : Less ≡ Equal → ⊥
+less_equal e = cc
+
+below_or_from : (i m : ℕ) → (i < m) ⊎ (m ≤ i)
+below_or_from i m = grind arith
+
+-- the bounds have met: the key is not there
+pub is_absent : {A K : Type 0} (cmp : K → K → Ordering) (key : A → K) (xs : List A) (k : K) (low high : ℕ) → IsTotalOrder cmp → IsBetween cmp key xs k low high → high ≤ low →
+    (i : ℕ) (a : A) → slice_get xs i ≡ Some a → key a ≢ k
+is_absent cmp key xs k low high total b met i a e same =
+    let tied : cmp (key a) k ≡ Equal = ap (λ z. cmp z k) same ∙ tied_itself total k in
+    let tied' : cmp k (key a) ≡ Equal = ap (λ z. cmp k z) same ∙ tied_itself total k in
+    elim (below_or_from i low) [
+      | inl lt ↦ less_equal (sym (b.below i a lt e) ∙ tied)
+      | inr ge ↦ less_equal (sym (b.above i a (omega arith) e) ∙ tied')
+    ]
+
+-- an earlier element has another key
+pub is_first : {A K : Type 0} (cmp : K → K → Ordering) (key : A → K) (xs : List A) (m : ℕ) (a : A) → IsTotalOrder cmp → IsRising cmp key xs → slice_get xs m ≡ Some a →
+    (i : ℕ) (b : A) → i < m → slice_get xs i ≡ Some b → key b ≢ key a
+is_first cmp key xs m a total rising at i b lt e same =
+    less_equal (sym (rising.rises i m b a lt e at) ∙ ap (λ z. cmp z (key a)) same ∙ tied_itself total (key a))
+
+-- ---- what the lookups give
+int_eq_is : (a b : ℤ) → int_eq a b ≡ true → a ≡ b
+int_eq_is a b h = search rules
+
+int_eq_itself : (a : ℤ) → int_eq a a ≡ true
+int_eq_itself a = search rules
+
+eqb_itself : (a : ℕ) → eqb a a ≡ true
+eqb_itself a = search rules
+
+at_cell : (c d : Cell) → is_at c d.x d.y ≡ true → c ≡ d
+at_cell c d h =
+    let p = and_parts (int_eq c.x d.x) (int_eq c.y d.y) h in
+    let mk : ℤ → ℤ → Cell = λ x y. record { x = x; y = y } in
+    ap (λ x. mk x c.y) (int_eq_is _ _ p.0) ∙ ap (λ y. mk d.x y) (int_eq_is _ _ p.1)
+
+at_own_cell : (c : Cell) → is_at c c.x c.y ≡ true
+at_own_cell c = rw (int_eq_itself c.x, int_eq_itself c.y)
+
+pub then_moment : (m n : Moment) → is_then m n.time n.cell.x n.cell.y ≡ true → m ≡ n
+then_moment m n h =
+    let p = and_parts (eqb m.time n.time) (is_at m.cell n.cell.x n.cell.y) h in
+    let mk : ℕ → Cell → Moment = λ t c. record { time = t; cell = c } in
+    ap (λ t. mk t m.cell) (eqb-true m.time n.time p.0) ∙ ap (λ c. mk n.time c) (at_cell m.cell n.cell p.1)
+
+then_own_moment : (m : Moment) → is_then m m.time m.cell.x m.cell.y ≡ true
+then_own_moment m = rw (eqb_itself m.time, at_own_cell m.cell)
+
+pub held_none : (hs : List Held) (c : Cell) → ((i : ℕ) (h : Held) → slice_get hs i ≡ Some h → h.cell ≢ c) → held_at hs c.x c.y ≡ None
+unfolding held_at
+held_none [] c f = refl
+held_none (h ∷ hs) c f = elim (cases_Bool (is_at h.cell c.x c.y)) [
+  | inl e ↦ absurd (f 0 h refl (at_cell h.cell c e))
+  | inr e ↦ cond-false _ _ _ e ∙ held_none hs c (λ i h'. f (suc i) h')
+]
+
+pub held_some : (hs : List Held) (i : ℕ) (h : Held) → slice_get hs i ≡ Some h → ((j : ℕ) (h' : Held) → j < i → slice_get hs j ≡ Some h' → h'.cell ≢ h.cell) →
+    held_at hs h.cell.x h.cell.y ≡ Some h.signal
+unfolding held_at
+held_some [] i h e f = absurd (none_some e)
+  where
+    none_some : {A : Type 0} {a : A} → None ≡ Some a → ⊥
+    none_some e = cc
+held_some (g ∷ hs) zero h e f =
+    let same : g ≡ h = same_some (Some g) g h refl e in
+    subst (λ h. (if is_at g.cell h.cell.x h.cell.y then Some g.signal else held_at hs h.cell.x h.cell.y) ≡ Some h.signal) same (cond-true _ _ _ (at_own_cell g.cell))
+held_some (g ∷ hs) (suc i) h e f = elim (cases_Bool (is_at g.cell h.cell.x h.cell.y)) [
+  | inl t ↦ absurd (f 0 g (omega arith) refl (at_cell g.cell h.cell t))
+  | inr n ↦ cond-false _ _ _ n ∙ held_some hs i h e (λ j h' lt. f (suc j) h' (omega arith))
+]
+
+pub event_none : (es : List Event) (m : Moment) → ((i : ℕ) (e : Event) → slice_get es i ≡ Some e → e.at ≢ m) → event_at es m.time m.cell.x m.cell.y ≡ None
+unfolding event_at
+event_none [] m f = refl
+event_none (h ∷ hs) m f = elim (cases_Bool (is_then h.at m.time m.cell.x m.cell.y)) [
+  | inl e ↦ absurd (f 0 h refl (then_moment h.at m e))
+  | inr e ↦ cond-false _ _ _ e ∙ event_none hs m (λ i h'. f (suc i) h')
+]
+
+pub event_some : (es : List Event) (i : ℕ) (h : Event) → slice_get es i ≡ Some h → ((j : ℕ) (h' : Event) → j < i → slice_get es j ≡ Some h' → h'.at ≢ h.at) →
+    event_at es h.at.time h.at.cell.x h.at.cell.y ≡ Some h.signal
+unfolding event_at
+event_some [] i h e f = absurd (none_some e)
+  where
+    none_some : {A : Type 0} {a : A} → None ≡ Some a → ⊥
+    none_some e = cc
+event_some (g ∷ hs) zero h e f =
+    let same : g ≡ h = same_some (Some g) g h refl e in
+    subst (λ h. (if is_then g.at h.at.time h.at.cell.x h.at.cell.y then Some g.signal else event_at hs h.at.time h.at.cell.x h.at.cell.y) ≡ Some h.signal) same (cond-true _ _ _ (then_own_moment g.at))
+event_some (g ∷ hs) (suc i) h e f = elim (cases_Bool (is_then g.at h.at.time h.at.cell.x h.at.cell.y)) [
+  | inl t ↦ absurd (f 0 g (omega arith) refl (then_moment g.at h.at t))
+  | inr n ↦ cond-false _ _ _ n ∙ event_some hs i h e (λ j h' lt. f (suc j) h' (omega arith))
+]
+
+pub held_found : (hs : List Held) (i : ℕ) (h : Held) (c : Cell) → h.cell ≡ c → slice_get hs i ≡ Some h → ((j : ℕ) (h' : Held) → j < i → slice_get hs j ≡ Some h' → h'.cell ≢ h.cell) →
+    held_at hs c.x c.y ≡ Some h.signal
+held_found hs i h c same e f = subst (λ (c : Cell). held_at hs c.x c.y ≡ Some h.signal) same (held_some hs i h e f)
+
+pub event_found : (es : List Event) (i : ℕ) (h : Event) (m : Moment) → h.at ≡ m → slice_get es i ≡ Some h → ((j : ℕ) (h' : Event) → j < i → slice_get es j ≡ Some h' → h'.at ≢ h.at) →
+    event_at es m.time m.cell.x m.cell.y ≡ Some h.signal
+event_found es i h m same e f = subst (λ (m : Moment). event_at es m.time m.cell.x m.cell.y ≡ Some h.signal) same (event_some es i h e f)
+
+-- ---- rising lists that grow
+pushed : {A : Type 0} (xs : List A) (x : A) (i : ℕ) (a : A) → slice_get (xs ++ x ∷ []) i ≡ Some a → (slice_get xs i ≡ Some a) ⊎ ((i ≡ length xs) × (x ≡ a))
+pushed [] x zero a e = inr (refl, cc)
+pushed [] x (suc i) a e = inl e
+pushed (y ∷ xs) x zero a e = inl e
+pushed (y ∷ xs) x (suc i) a e = elim (pushed xs x i a e) [
+  | inl h ↦ inl h
+  | inr h ↦ inr (ap suc h.0, h.1)
+]
+
+last_or_before : (i n : ℕ) → i < n → (i ≡ n - 1) ⊎ (i < n - 1)
+last_or_before i n h = grind arith
+
+pub rising_none : {A K : Type 0} (cmp : K → K → Ordering) (key : A → K) → IsRising cmp key []
+rising_none cmp key = record { rises = λ i j a b lt e f. cc }
+
+-- one more element, whose key comes after that of the last
+pub rising_push : {A K : Type 0} (cmp : K → K → Ordering) (key : A → K) (xs : List A) (x : A) → IsTotalOrder cmp → IsRising cmp key xs →
+    ((a : A) → slice_get xs (length xs - 1) ≡ Some a → cmp (key a) (key x) ≡ Less) → IsRising cmp key (xs ++ x ∷ [])
+rising_push {A = A} cmp key xs x total rising last = record {
+  rises = λ i j a b lt e f. elim (pushed xs x j b f) [
+    | inl g ↦ elim (pushed xs x i a e) [
+      | inl h ↦ rising.rises i j a b lt h g
+      | inr h ↦ absurd (let w = slice_get_within xs j b g in omega (arith, w, h.0))
+    ]
+    | inr g ↦ elim (pushed xs x i a e) [
+      | inl h ↦ ap (λ z. cmp (key a) (key z)) (sym g.1) ∙ before i a h
+      | inr h ↦ absurd (omega (arith, g.0, h.0))
+    ]
+  ];
+}
+  where
+    before : (i : ℕ) (a : A) → slice_get xs i ≡ Some a → cmp (key a) (key x) ≡ Less
+    before i a h = elim (last_or_before i (length xs) (slice_get_within xs i a h)) [
+      | inl e ↦ last a (ap (slice_get xs) (sym e) ∙ h)
+      | inr l ↦
+          let m = length xs - 1 in
+          let z = get_or xs m a in
+          let at : slice_get xs m ≡ Some z = slice_get-get_or xs m a (omega arith) in
+          total.trans (key a) (key z) (key x) (rising.rises i m a z l h at) (last z at)
+    ]

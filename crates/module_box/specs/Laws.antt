@@ -1,0 +1,43 @@
+-- What the laws of this crate say
+use Rattle.std.specs.Prelude.{◌≡◌, ◌≢◌, ℕ, ℤ, ◌%◌, List, slice_get, Some, IsTrue, IsFalse}
+use Rattle.bbm_rule.specs.Plane.{State, step}
+use Rattle.module_box.specs.Boxes.{in_box, in_ring, in_halo, IsEven, Tile}
+use Rattle.module_box.specs.Tiling.{rectangle_of, IsTask, IsTileFault}
+use Rattle.module_box.specs.declared.boxes.Box2.{Box2}
+use Rattle.module_box.specs.declared.tile.TileFault.{TileFault}
+use Rattle.module_box.specs.declared.tile.TileFault.TheVariants.{Memory}
+
+-- the same cells of the box are live
+abbrev pub SameInBox : Box2 → State → State → Type 0
+SameInBox b s s' = (x y : ℤ) → IsTrue (in_box b x y) → s x y ≡ s' x y
+
+-- no cell outside the box is live
+abbrev pub LiesInBox : Box2 → State → Type 0
+LiesInBox b s = (x y : ℤ) → IsFalse (in_box b x y) → IsFalse (s x y)
+
+-- An even step keeps what lies in an even box there, and what it makes in the box depends on the box alone
+pub record EvenStep (b : Box2) (t : ℕ) : Type 0 where
+  pub stays : (s : State) → LiesInBox b s → LiesInBox b (step t s)
+  pub local : (s s' : State) → SameInBox b s s' → SameInBox b (step t s) (step t s')
+
+abbrev pub EvenStepStaysInBox : Type 0
+EvenStepStaysInBox = (b : Box2) (t : ℕ) → IsEven b → t % 2 ≡ 0 → EvenStep b t
+
+-- the same cells of the halo are live
+abbrev pub SameInHalo : Box2 → State → State → Type 0
+SameInHalo b s s' = (x y : ℤ) → IsTrue (in_halo b x y) → s x y ≡ s' x y
+
+-- What a step of either partition makes in a box depends on the box and its halo alone
+abbrev pub StepDependsOnBoxAndHalo : Type 0
+StepDependsOnBoxAndHalo = (b : Box2) (t : ℕ) (s s' : State) → SameInBox b s s' → SameInHalo b s s' → SameInBox b (step t s) (step t s')
+
+-- A cell in the halo of box i that box j has is in the ring of box j
+abbrev pub HaloCellIsRingCellOfOwner : Type 0
+HaloCellIsRingCellOfOwner = (rectangle : Box2) (boxes : List Box2) → Tile rectangle boxes →
+    (i j : ℕ) (b b' : Box2) (x y : ℤ) → slice_get boxes i ≡ Some b → slice_get boxes j ≡ Some b' →
+    IsTrue (in_halo b x y) → IsTrue (in_box b' x y) → IsTrue (in_ring b' x y)
+
+-- Where `owner_table` names a fault other than want of memory, the boxes do not tile the rectangle
+abbrev pub FaultMeansNoTiling : Type 0
+FaultMeansNoTiling = (w h : ℕ) (boxes : List Box2) (fault : TileFault) → IsTask w h boxes → IsTileFault w h boxes fault → fault ≢ Memory →
+    ¬ Tile (rectangle_of w h) boxes

@@ -1,0 +1,12 @@
+-- What the fields of a schedule stand for
+use Rattle.module_box.specs.declared.schedules.Schedule.TheInside.{Inside}
+use Rattle.module_box.specs.Moments.{cell_cmp, moment_cmp}
+use Rattle.module_box.specs.Schedules.{Signals, IsRising, cell_of, moment_of}
+
+abbrev pub signals : Inside → Signals
+signals s = record { held = s.held.items; events = s.events.items }
+
+-- both lists rise
+pub record IsSchedule (s : Inside) : Type 0 where
+  pub held : IsRising cell_cmp cell_of s.held.items
+  pub events : IsRising moment_cmp moment_of s.events.items

@@ -1,0 +1,48 @@
+-- Signals at cells and times
+use Rattle.std.specs.Prelude.{◌≡◌, ℕ, ℤ, ◌<◌, ◌&&◌, ◌==◌, Bool, if◌then◌else◌, List, [], ◌∷◌, Option, Some, None, unwrap_or, slice_get}
+use Rattle.std.specs.declared.cmp.Ordering.{Ordering}
+use Rattle.std.specs.declared.cmp.Ordering.TheVariants.{Less}
+use Rattle.std.specs.Ordering.{int_eq}
+use Rattle.bbm_rule.specs.declared.block.Cell.{Cell}
+use Rattle.module_box.specs.declared.schedules.Moment.{Moment}
+use Rattle.module_box.specs.declared.schedules.Held.{Held}
+use Rattle.module_box.specs.declared.schedules.Event.{Event}
+use Rattle.module_box.specs.declared.schedules.Signal.{Signal}
+use Rattle.module_box.specs.declared.schedules.Signal.TheVariants.{Zero}
+
+-- the held signals and the events of a schedule
+pub record Signals : Type 0 where
+  pub held : List Held
+  pub events : List Event
+
+-- whether the cell is (x, y)
+abbrev pub is_at : Cell → ℤ → ℤ → Bool
+is_at c x y = int_eq c.x x && int_eq c.y y
+
+-- whether the moment is time t at the cell (x, y)
+abbrev pub is_then : Moment → ℕ → ℤ → ℤ → Bool
+is_then m t x y = (m.time == t) && is_at m.cell x y
+
+-- the signal of the first element with the cell (x, y)
+unfoldable pub held_at : List Held → ℤ → ℤ → Option Signal
+held_at [] x y = None
+held_at (h ∷ hs) x y = if is_at h.cell x y then Some h.signal else held_at hs x y
+
+-- the signal of the first element with the time t and the cell (x, y)
+unfoldable pub event_at : List Event → ℕ → ℤ → ℤ → Option Signal
+event_at [] t x y = None
+event_at (e ∷ es) t x y = if is_then e.at t x y then Some e.signal else event_at es t x y
+
+-- the held signal of the cell, else its event at t, else `Zero`
+unfoldable pub signal_at : Signals → ℕ → ℤ → ℤ → Signal
+signal_at s t x y = unwrap_or (held_at s.held x y) (unwrap_or (event_at s.events t x y) Zero)
+
+-- each key comes before those after it
+pub record IsRising {A K : Type 0} (cmp : K → K → Ordering) (key : A → K) (xs : List A) : Type 0 where
+  pub rises : (i j : ℕ) (a b : A) → i < j → slice_get xs i ≡ Some a → slice_get xs j ≡ Some b → cmp (key a) (key b) ≡ Less
+
+abbrev pub cell_of : Held → Cell
+cell_of h = h.cell
+
+abbrev pub moment_of : Event → Moment
+moment_of e = e.at

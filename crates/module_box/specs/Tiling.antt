@@ -1,0 +1,110 @@
+-- Boxes that tile a rectangle, by its blocks of two by two cells
+use Rattle.std.specs.Prelude.{◌≡◌, ℕ, ℤ, pos, ◌<◌, ◌≤◌, ◌+◌, ◌*◌, ◌/◌, ◌%◌, List, length, Some, slice_get, slice_index, IsTrue}
+use Rattle.std.specs.Int.RustNames.{unsigned_abs}
+use Rattle.module_box.specs.Boxes.{in_box, IsEven, Tile}
+use Rattle.module_box.specs.declared.boxes.Box2.{Box2}
+use Rattle.bbm_rule.specs.declared.block.Cell.{Cell}
+use Rattle.module_box.specs.declared.tile.TileFault.{TileFault}
+use Rattle.module_box.specs.declared.tile.TileFault.TheVariants.{Outside, Overlap, Gap, Memory}
+
+-- the corner of the block at a place, where the blocks are counted row by row
+abbrev pub corner_x : ℕ → ℕ → ℤ
+corner_x columns place = pos (2 * (place % columns))
+
+abbrev pub corner_y : ℕ → ℕ → ℤ
+corner_y columns place = pos (2 * (place / columns))
+
+-- the rectangle of this width and height with its upper left corner at (0, 0)
+abbrev pub rectangle_of : ℕ → ℕ → Box2
+rectangle_of w h = record { x = 0; y = 0; w = w; h = h }
+
+-- the box is inside that rectangle
+pub record IsInside (w h : ℕ) (b : Box2) : Type 0 where
+  pub right : b.x + b.w ≤ w
+  pub bottom : b.y + b.h ≤ h
+
+-- box i has the cell (x, y)
+pub record Holds (boxes : List Box2) (x y : ℤ) (i : ℕ) : Type 0 where
+  pub area : Box2
+  pub numbered : slice_get boxes i ≡ Some area
+  pub has : IsTrue (in_box area x y)
+
+-- box i and no other has the cell
+pub record IsHolder (boxes : List Box2) (x y : ℤ) (i : ℕ) : Type 0 where
+  pub holds : Holds boxes x y i
+  pub only : (j : ℕ) → Holds boxes x y j → j ≡ i
+
+-- the first n boxes are inside the rectangle
+abbrev pub AllInside : ℕ → ℕ → ℕ → List Box2 → Type 0
+AllInside w h n boxes = (k : ℕ) (b : Box2) → k < n → slice_get boxes k ≡ Some b → IsInside w h b
+
+-- each block before the place lies in one box
+abbrev pub AllHeld : ℕ → ℕ → List Box2 → Type 0
+AllHeld columns place boxes = (k : ℕ) → k < place → (i : ℕ) × IsHolder boxes (corner_x columns k) (corner_y columns k) i
+
+-- a block that lies in two boxes or in none, the first such
+pub record IsBadBlock (w h : ℕ) (boxes : List Box2) (c : Cell) : Type 0 where
+  pub inside : AllInside w h (length boxes) boxes
+  pub place : ℕ
+  pub within : place < (h / 2) * (w / 2)
+  pub x : c.x ≡ corner_x (w / 2) place
+  pub y : c.y ≡ corner_y (w / 2) place
+  pub before : AllHeld (w / 2) place boxes
+
+-- two boxes have the cell (x, y)
+pub record HeldTwice (boxes : List Box2) (x y : ℤ) : Type 0 where
+  pub one : ℕ
+  pub other : ℕ
+  pub apart : one < other
+  pub first : Holds boxes x y one
+  pub second : Holds boxes x y other
+
+-- the first box that is not inside, else the first block that lies in two boxes or in none
+abbrev pub IsTileFault : ℕ → ℕ → List Box2 → TileFault → Type 0
+IsTileFault w h boxes (Outside n) = AllInside w h n boxes × ((b : Box2) × (slice_get boxes n ≡ Some b) × ¬ IsInside w h b)
+IsTileFault w h boxes (Overlap c) = IsBadBlock w h boxes c × HeldTwice boxes c.x c.y
+IsTileFault w h boxes (Gap c) = IsBadBlock w h boxes c × ((i : ℕ) → ¬ Holds boxes c.x c.y i)
+IsTileFault w h boxes Memory = Unit {0}
+
+-- the first box from `from` on that has the cell, or their number
+pub record IsNextHolder (boxes : List Box2) (x y : ℤ) (from i : ℕ) : Type 0 where
+  pub bound : i ≤ length boxes
+  pub not_before : from ≤ length boxes → from ≤ i
+  pub none : (k : ℕ) → from ≤ k → k < i → ¬ Holds boxes x y k
+  pub found : i < length boxes → Holds boxes x y i
+
+-- what `owner_table` asks of its caller
+pub record IsTask (w h : ℕ) (boxes : List Box2) : Type 0 where
+  pub width : (2 ≤ w) × (w ≤ 512) × (w % 2 ≡ 0)
+  pub height : (2 ≤ h) × (h ≤ 512) × (h % 2 ≡ 0)
+  pub even : (k : ℕ) (b : Box2) → slice_get boxes k ≡ Some b → IsEven b
+  pub sides : (k : ℕ) (b : Box2) → slice_get boxes k ≡ Some b → (2 ≤ b.w) × (2 ≤ b.h)
+
+-- a rectangle, and the number of a box for each of its blocks, row by row
+pub record Owning : Type 0 where
+  pub width : ℕ
+  pub height : ℕ
+  pub numbers : List ℕ
+
+-- its rectangle
+abbrev pub rectangle : Owning → Box2
+rectangle o = rectangle_of o.width o.height
+
+-- the column or row of the block that has a column or row of cells
+abbrev pub half : ℤ → ℕ
+half z = unsigned_abs z / 2
+
+-- the number for the block that has the cell (x, y)
+unfoldable pub owner_of : Owning → ℤ → ℤ → ℕ
+owner_of o x y = slice_index o.numbers (half y * (o.width / 2) + half x)
+
+-- its sides, and one number for each block
+pub record IsTable (o : Owning) : Type 0 where
+  pub width : (2 ≤ o.width) × (o.width ≤ 512) × (o.width % 2 ≡ 0)
+  pub height : (2 ≤ o.height) × (o.height ≤ 512) × (o.height % 2 ≡ 0)
+  pub sized : length o.numbers ≡ (o.height / 2) * (o.width / 2)
+
+-- the boxes tile the rectangle, and the number for each of its cells is that of the box that has the cell
+pub record AreOwners (o : Owning) (boxes : List Box2) : Type 0 where
+  pub tile : Tile (rectangle o) boxes
+  pub named : (x y : ℤ) → IsTrue (in_box (rectangle o) x y) → (b : Box2) × (slice_get boxes (owner_of o x y) ≡ Some b) × IsTrue (in_box b x y)

@@ -1,0 +1,23 @@
+//! Laws on the definitions alone.
+
+ghost use Rattle.module_box.specs.Laws.{EvenStepStaysInBox, FaultMeansNoTiling, StepDependsOnBoxAndHalo, HaloCellIsRingCellOfOwner};
+
+/// An even step maps the cells of an even box into the box, and what it makes there depends on the box alone.
+pub fn even_step_stays_in_box()
+    ensures { EvenStepStaysInBox }
+{}
+
+/// What a step makes in a box depends on the box and its halo alone.
+pub fn step_depends_on_box_and_halo()
+    ensures { StepDependsOnBoxAndHalo }
+{}
+
+/// Where boxes tile a rectangle, a cell of a halo that lies in a box is in that box's ring.
+pub fn halo_cell_is_ring_cell_of_owner()
+    ensures { HaloCellIsRingCellOfOwner }
+{}
+
+/// Where [`owner_table`](crate::owner_table) names a fault other than want of memory, the boxes do not tile the rectangle.
+pub fn fault_means_no_tiling()
+    ensures { FaultMeansNoTiling }
+{}

@@ -1,0 +1,218 @@
+//! Signals at cells and times.
+
+ghost use Rattle.std.specs.Prelude.{◌≡◌};
+ghost use Rattle.module_box.specs.Moments.{cell_cmp, moment_cmp};
+ghost use Rattle.module_box.specs.Schedules.{IsRising, cell_of, moment_of, held_at, event_at, signal_at};
+
+use bbm_rule::Cell;
+use std::cmp::Ordering;
+use std::marker::Model;
+
+/// What stands at a cell. A wire is named by its number among the wires that its module knows.
+#[derive(Clone, Copy, Debug, PartialEq, Eq)]
+pub enum Signal {
+    /// Dead.
+    Zero,
+    /// Live.
+    One,
+    /// Live exactly where the wire of this number is true.
+    Wire(u16),
+}
+
+/// A cell at a time.
+#[derive(Clone, Copy, Debug, PartialEq, Eq)]
+pub struct Moment {
+    pub time: u32,
+    pub cell: Cell,
+}
+
+/// A signal that a cell has at all times.
+#[derive(Clone, Copy, Debug, PartialEq, Eq)]
+pub struct Held {
+    pub cell: Cell,
+    pub signal: Signal,
+}
+
+/// A signal that a cell has at one time.
+#[derive(Clone, Copy, Debug, PartialEq, Eq)]
+pub struct Event {
+    pub at: Moment,
+    pub signal: Signal,
+}
+
+/// Signals at cells and times. Where nothing is said of a cell and a time, the signal is [`Signal::Zero`].
+// The held signals rise strictly by y and x of their cells, the events by time, y and x.
+#[derive(Debug, Drop)]
+pub struct Schedule {
+    held: Vec<Held>,
+    events: Vec<Event>,
+}
+
+impl Model for Schedule {
+    ghost use Rattle.module_box.specs.Schedules.{Signals};
+
+    ghost Value = { Signals };
+
+    ghost use Rattle.module_box.specs.ScheduleFields.{signals, IsSchedule};
+
+    ghost view = { signals };
+
+    ghost invariant = { IsSchedule };
+}
+
+/// The order of cells, by y, then x.
+#[tactic(auto, unfolding(crate::specs::Moments::cell_cmp))]
+pub fn compare_cells(a: Cell, b: Cell) -> Ordering
+    ensures { result ≡ cell_cmp a b }
+{
+    a.y.cmp(&b.y).then(a.x.cmp(&b.x))
+}
+
+impl Moment {
+    /// The order of moments, by time, then y, then x.
+    #[tactic(auto, unfolding(crate::specs::Moments::moment_cmp))]
+    pub fn compare(self, other: Moment) -> Ordering
+        ensures { result ≡ moment_cmp self other }
+    {
+        self.time
+            .cmp(&other.time)
+            .then(compare_cells(self.cell, other.cell))
+    }
+}
+
+// the signal that the list holds for the cell.
+fn find_held(held: &[Held], cell: Cell) -> Option<Signal>
+    requires { IsRising cell_cmp cell_of held.now }
+    ensures { result ≡ held_at held.now cell.x cell.y }
+{
+    let mut low = 0;
+    let mut high = held.len();
+    'search: while low < high {
+        let middle = low + (high - low) / 2;
+        let found = held[middle];
+        match compare_cells(found.cell, cell) {
+            Ordering::Less => low = middle + 1,
+            Ordering::Greater => high = middle,
+            Ordering::Equal => return Some(found.signal),
+        }
+    }
+    None
+}
+
+// the signal that the list has for the cell at the time.
+fn find_event(events: &[Event], moment: Moment) -> Option<Signal>
+    requires { IsRising moment_cmp moment_of events.now }
+    ensures { result ≡ event_at events.now moment.time moment.cell.x moment.cell.y }
+{
+    let mut low = 0;
+    let mut high = events.len();
+    'search: while low < high {
+        let middle = low + (high - low) / 2;
+        let found = events[middle];
+        match found.at.compare(moment) {
+            Ordering::Less => low = middle + 1,
+            Ordering::Greater => high = middle,
+            Ordering::Equal => return Some(found.signal),
+        }
+    }
+    None
+}
+
+impl Schedule {
+    /// The signals of two lists. The held signals rise strictly by y, then x of their cells; the events rise strictly by time,
+    /// then y, then x. Both lists may be empty.
+    pub fn new(held: Vec<Held>, events: Vec<Event>) -> Schedule
+        requires held { IsRising cell_cmp cell_of held.items }
+        requires events { IsRising moment_cmp moment_of events.items }
+        ensures held { result.held ≡ held.items }
+        ensures events { result.events ≡ events.items }
+    {
+        Schedule { held, events }
+    }
+
+    /// The held signals, rising strictly by y, then x of their cells.
+    pub fn held(&self) -> &[Held]
+        ensures same { result.now ≡ self.now.held }
+        ensures rising { IsRising cell_cmp cell_of result.now }
+    {
+        &self.held
+    }
+
+    /// The events, rising strictly by time, then y, then x.
+    pub fn events(&self) -> &[Event]
+        ensures same { result.now ≡ self.now.events }
+        ensures rising { IsRising moment_cmp moment_of result.now }
+    {
+        &self.events
+    }
+
+    /// The signal of the cell at time `t`: what the cell holds, else its event at `t`, else [`Signal::Zero`].
+    ///
+    /// No memory is taken.
+    #[tactic(auto, unfolding(crate::specs::Schedules::signal_at))]
+    pub fn at(&self, t: u32, cell: Cell) -> Signal
+        ensures { result ≡ signal_at self.now t cell.x cell.y }
+    {
+        if let Some(signal) = find_held(&self.held, cell) {
+            return signal;
+        }
+        match find_event(&self.events, Moment { time: t, cell }) {
+            Some(signal) => signal,
+            None => Signal::Zero,
+        }
+    }
+}
+
+#[cfg(test)]
+mod tests {
+    use super::*;
+    use std::alloc::{AllocError, Global};
+    use std::test::Fail;
+
+    // (4, 1) and (3, 2) hold a signal, (5, 1) and (2, 2) have events at time 3, (3, 2) and (5, 1) at time 5
+    fn small_schedule(alloc: Global) -> Result<Schedule, AllocError> {
+        let mut held = Vec::new(alloc);
+        held.push(Held {
+            cell: Cell { x: 4, y: 1 },
+            signal: Signal::One,
+        })?;
+        held.push(Held {
+            cell: Cell { x: 3, y: 2 },
+            signal: Signal::Wire(7),
+        })?;
+        let mut events = Vec::new(alloc);
+        events.push(event(3, Cell { x: 5, y: 1 }, Signal::Wire(1)))?;
+        events.push(event(3, Cell { x: 2, y: 2 }, Signal::One))?;
+        events.push(event(5, Cell { x: 3, y: 2 }, Signal::Wire(2)))?;
+        Ok(Schedule::new(held, events))
+    }
+
+    fn event(time: u32, cell: Cell, signal: Signal) -> Event
+        ensures at { result.at ≡ record { time = time; cell = cell } }
+    {
+        let at = Moment { time, cell };
+        Event { at, signal }
+    }
+
+    #[test]
+    fn held_event_or_zero(rt: HostRuntime) -> Result<(), Fail> {
+        let schedule = small_schedule(rt.alloc())?;
+        for (t, x, y, signal) in [
+            (3, 4, 1, Signal::One),
+            (0, 4, 1, Signal::One),
+            (3, 3, 2, Signal::Wire(7)),
+            (5, 3, 2, Signal::Wire(7)),
+            (3, 5, 1, Signal::Wire(1)),
+            (5, 5, 1, Signal::Zero),
+            (3, 2, 2, Signal::One),
+            (4, 2, 2, Signal::Zero),
+            (3, 1, 5, Signal::Zero),
+            (3, -4, 1, Signal::Zero),
+        ] {
+            assert_eq!(rt; schedule.at(t, Cell { x, y }), signal, "at {t}, {x}, {y}");
+        }
+        let empty = Schedule::new(Vec::new(rt.alloc()), Vec::new(rt.alloc()));
+        assert_eq!(rt; empty.at(3, Cell { x: 4, y: 1 }), Signal::Zero);
+        Ok(())
+    }
+}
