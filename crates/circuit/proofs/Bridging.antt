@@ -12,7 +12,8 @@ use Rattle.circuit.specs.declared.entry.Kind.TheVariants.{Input, Output, Spill}
 use Rattle.circuit.specs.declared.entry.Kind.TheVariants.{Gate as GateLine}
 use Rattle.circuit.specs.declared.entry.Entry.{Entry}
 use Rattle.circuit.specs.Gates.{rule_of, is_inverse}
-use Rattle.circuit.specs.Rules.{defined, consumed, has, consume, define, is_gate, gate_count, add_fault, limit_fault, name_fault}
+use Rattle.section_text.specs.Words.{has}
+use Rattle.circuit.specs.Rules.{defined, consumed, consume, define, is_gate, gate_count, add_fault, limit_fault, name_fault}
 use Rattle.section_text.specs.Codes.{or_else}
 use Rattle.circuit.specs.Meaning.{AreOrdered, AreForward, Gate}
 use Rattle.circuit.specs.Wiring.{gate_at}

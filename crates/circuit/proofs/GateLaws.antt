@@ -1,8 +1,7 @@
 -- What gates keep, and which gates undo which.
-use Rattle.std.proofs.Common.{◌≡◌, ℕ, Bool, true, false, List, [], ◌∷◌, Option, Some, None, refl, sym, ap, subst, ◌∙◌}
-use Rattle.std.specs.List.{count_by}
-use Rattle.circuit.specs.Gates.{Rule, Source, Fredkin, Cswap, Interact, Switch, Delay, Unswitch, Uninteract, row, is_inverse}
-use Rattle.circuit.specs.Laws.{ones, GatesKeepOnes, Undoes, InverseGatesUndo}
+use Rattle.std.proofs.Common.{◌≡◌, ℕ, Bool, true, false, List, [], ◌∷◌, Option, Some, None, refl, sym, ap, subst}
+use Rattle.circuit.specs.Gates.{Source, Fredkin, Cswap, Interact, Switch, Delay, Unswitch, Uninteract, row}
+use Rattle.circuit.specs.Laws.{ones, GatesKeepOnes, InverseGatesUndo}
 
 none : {outs : List Bool} → ◌≡◌ {A = Option (List Bool)} None (Some outs) → ⊥
 none e = absurd cc

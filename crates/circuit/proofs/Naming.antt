@@ -12,7 +12,8 @@ use Rattle.circuit.specs.declared.entry.Kind.TheVariants.{Input, Output, Spill}
 use Rattle.circuit.specs.declared.entry.Kind.TheVariants.{Gate as GateLine}
 use Rattle.circuit.specs.declared.entry.Entry.{Entry}
 use Rattle.circuit.specs.Gates.{rule_of, defines}
-use Rattle.circuit.specs.Rules.{defined, has, define, gate_count, is_gate}
+use Rattle.section_text.specs.Words.{has}
+use Rattle.circuit.specs.Rules.{defined, define, gate_count, is_gate}
 use Rattle.circuit.specs.Meaning.{Gate, place_of, wires_after}
 use Rattle.circuit.specs.Bridge.{number, is_input, input_count, input_names, gate_in, gates_of, FitsKind, AreGoodAfter}
 use Rattle.circuit.specs.Laws.{WiresAreNamed, NamesAreOwn, InputsAreFirst}

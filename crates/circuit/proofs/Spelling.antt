@@ -3,8 +3,8 @@ use Rattle.std.proofs.Common.{◌≡◌, ℕ, ◌+◌, Bool, true, false, cond, 
 use Rattle.std.specs.Prelude.{slice_get, codes}
 use Rattle.std.specs.Fmt.{decimal}
 use Rattle.std.proofs.lemmas.Bool.{eqb-true}
-use Rattle.std.proofs.lemmas.Option.{cond_some, option_and_then_some}
-use Rattle.section_text.specs.Words.{◌>>=◌, words_of, is_at, name_at, names_at, number_at}
+use Rattle.std.proofs.lemmas.Option.{cond_some, option_and_then_some, same_Some}
+use Rattle.section_text.specs.Words.{◌>>=◌, words_of, is_at, name_at, names_at, number_at, lone, lone_name}
 use Rattle.section_text.specs.Section.{ended_line}
 use Rattle.section_text.specs.declared.section.Form.TheVariants.{Header, Item, End}
 use Rattle.section_text.proofs.WordPlaces.{is_at_is, name_at_is, names_at_are, assembled, line_from_words}
@@ -15,7 +15,7 @@ use Rattle.circuit.specs.declared.entry.Entry.{Entry}
 use Rattle.circuit.specs.Entries.{entry}
 use Rattle.circuit.specs.Gates.{rule_of, uses, defines}
 use Rattle.section_text.proofs.Spellings.{chosen, passed, one_word, two_words, number_at_spelled}
-use Rattle.circuit.specs.Forms.{Line, lone, lone_name, bit_at, gate_kind, words_before, gate_names, gate_entry, form_of}
+use Rattle.circuit.specs.Forms.{Line, bit_at, gate_kind, words_before, gate_names, gate_entry, form_of}
 use Rattle.circuit.specs.Text.{bit_word, gate_word, gate_number, first_word, words_by, more_words, entry_text, form_text}
 
 -- the first word of a form, and the others
@@ -54,22 +54,16 @@ bit_spelled : (ws : List (List ℕ)) (i : ℕ) (b : Bool) → bit_at ws i ≡ So
 unfolding bit_at
 bit_spelled ws i b e =
     elim (chosen (is_at ws i (codes "0")) (Some false) (cond (is_at ws i (codes "1")) (Some true) None) (Some b) e) [
-      | inl p ↦ is_at_is ws i (codes "0") p.0 ∙ ap (λ (x : Bool). Some (bit_word x)) (bool_is false b p.1)
+      | inl p ↦ is_at_is ws i (codes "0") p.0 ∙ ap (λ (x : Bool). Some (bit_word x)) (same_Some false b p.1)
       | inr p ↦ let found = cond_some (is_at ws i (codes "1")) true b p.1 in is_at_is ws i (codes "1") found.0 ∙ ap (λ (x : Bool). Some (bit_word x)) found.1
     ]
-  where
-    bool_is : (x y : Bool) → ◌≡◌ {A = Option Bool} (Some x) (Some y) → x ≡ y
-    bool_is x y e = cc
 
 -- the head of a gate line
 abbrev HeadIs : List (List ℕ) → GateKind → Type 0
 HeadIs ws kind = take (words_before kind) ws ≡ gate_word kind ∷ gate_number kind
 
-kind_is : (x y : GateKind) → ◌≡◌ {A = Option GateKind} (Some x) (Some y) → x ≡ y
-kind_is x y e = cc
-
 plain_head : (ws : List (List ℕ)) (x kind : GateKind) → ◌≡◌ {A = Option GateKind} (Some x) (Some kind) → HeadIs ws x → HeadIs ws kind
-plain_head ws x kind e h = subst (HeadIs ws) (kind_is x kind e) h
+plain_head ws x kind e h = subst (HeadIs ws) (same_Some x kind e) h
 
 head_spelled : (ws : List (List ℕ)) (kind : GateKind) → gate_kind ws ≡ Some kind → HeadIs ws kind
 unfolding gate_kind
@@ -92,9 +86,6 @@ head_spelled ws kind e =
       ]
     ]
 
-entry_is : (x y : Entry) → ◌≡◌ {A = Option Entry} (Some x) (Some y) → x ≡ y
-entry_is x y e = cc
-
 -- a gate's entry
 gate_spelled : (ws : List (List ℕ)) (r : Entry) → gate_entry ws ≡ Some r → ws ≡ first_word r.kind ∷ more_words r
 unfolding gate_entry gate_names first_word more_words
@@ -105,10 +96,7 @@ gate_spelled ws r e =
     option_and_then_some (λ ins. names_at ws (words_before kind + uses (rule_of kind) + 1) (defines (rule_of kind)) >>= λ outs. Some (entry (Gate kind) ins outs)) (names_at ws (words_before kind) (uses (rule_of kind))) r arrow.1 (λ ins some_ins rest_ins.
     option_and_then_some (λ outs. Some (entry (Gate kind) ins outs)) (names_at ws (words_before kind + uses (rule_of kind) + 1) (defines (rule_of kind))) r rest_ins (λ outs some_outs made.
     let whole = assembled ws (gate_word kind ∷ gate_number kind) ins outs (codes "->") (words_before kind) (uses (rule_of kind)) (defines (rule_of kind)) (head_spelled ws kind known) (names_at_are ws _ _ ins some_ins) (is_at_is ws _ (codes "->") arrow.0) (names_at_are ws _ _ outs some_outs) (eqb-true _ _ count.0) in
-    subst (λ (x : Entry). ws ≡ first_word x.kind ∷ words_by x.ins x.outs x.kind) (entry_is (entry (Gate kind) ins outs) r made) whole)))
-
-line_is : (x y : Line) → ◌≡◌ {A = Option Line} (Some x) (Some y) → x ≡ y
-line_is x y e = cc
+    subst (λ (x : Entry). ws ≡ first_word x.kind ∷ words_by x.ins x.outs x.kind) (same_Some (entry (Gate kind) ins outs) r made) whole)))
 
 abbrev SpelledAs : List (List ℕ) → Line → Type 0
 SpelledAs ws f = ws ≡ first_of f ∷ others_of f
@@ -121,12 +109,12 @@ form_words ws f e =
       | inr p ↦ elim (chosen (is_at ws 0 (codes "end")) _ _ (Some f) p.1) [
         | inl q ↦ let a = lone_spelled ws (codes "end") End f q.0 q.1 in subst (SpelledAs ws) a.1 a.0
         | inr q ↦ elim (chosen (is_at ws 0 (codes "input")) _ _ (Some f) q.1) [
-          | inl r ↦ option_and_then_some (λ n. Some (Item (entry Input [] (n ∷ [])))) (lone_name ws) f r.1 (λ n named made. subst (SpelledAs ws) (line_is (Item (entry Input [] (n ∷ []))) f made) (named_spelled ws (codes "input") n r.0 named))
+          | inl r ↦ option_and_then_some (λ n. Some (Item (entry Input [] (n ∷ [])))) (lone_name ws) f r.1 (λ n named made. subst (SpelledAs ws) (same_Some (Item (entry Input [] (n ∷ []))) f made) (named_spelled ws (codes "input") n r.0 named))
           | inr r ↦ elim (chosen (is_at ws 0 (codes "output")) _ _ (Some f) r.1) [
-            | inl s ↦ option_and_then_some (λ n. Some (Item (entry Output (n ∷ []) []))) (lone_name ws) f s.1 (λ n named made. subst (SpelledAs ws) (line_is (Item (entry Output (n ∷ []) [])) f made) (named_spelled ws (codes "output") n s.0 named))
+            | inl s ↦ option_and_then_some (λ n. Some (Item (entry Output (n ∷ []) []))) (lone_name ws) f s.1 (λ n named made. subst (SpelledAs ws) (same_Some (Item (entry Output (n ∷ []) [])) f made) (named_spelled ws (codes "output") n s.0 named))
             | inr s ↦ elim (chosen (is_at ws 0 (codes "spill")) _ _ (Some f) s.1) [
-              | inl t ↦ option_and_then_some (λ n. Some (Item (entry Spill (n ∷ []) []))) (lone_name ws) f t.1 (λ n named made. subst (SpelledAs ws) (line_is (Item (entry Spill (n ∷ []) [])) f made) (named_spelled ws (codes "spill") n t.0 named))
-              | inr t ↦ option_and_then_some (λ r. Some (Item r)) (gate_entry ws) f t.1 (λ r known made. subst (SpelledAs ws) (line_is (Item r) f made) (gate_spelled ws r known))
+              | inl t ↦ option_and_then_some (λ n. Some (Item (entry Spill (n ∷ []) []))) (lone_name ws) f t.1 (λ n named made. subst (SpelledAs ws) (same_Some (Item (entry Spill (n ∷ []) [])) f made) (named_spelled ws (codes "spill") n t.0 named))
+              | inr t ↦ option_and_then_some (λ r. Some (Item r)) (gate_entry ws) f t.1 (λ r known made. subst (SpelledAs ws) (same_Some (Item r) f made) (gate_spelled ws r known))
             ]
           ]
         ]

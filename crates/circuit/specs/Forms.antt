@@ -1,6 +1,6 @@
 -- The line forms of the circuit section.
 use Rattle.std.specs.Prelude.{ℕ, ◌+◌, Bool, true, false, List, [], ◌∷◌, length, Option, Some, None, codes, ◌==◌, if◌then◌else◌}
-use Rattle.section_text.specs.Words.{◌>>=◌, is_at, name_at, names_at, number_at}
+use Rattle.section_text.specs.Words.{◌>>=◌, is_at, names_at, number_at, lone, lone_name}
 use Rattle.section_text.specs.declared.section.Form.{Form}
 use Rattle.section_text.specs.declared.section.Form.TheVariants.{Header, Item, End}
 use Rattle.circuit.specs.declared.entry.GateKind.{GateKind}
@@ -9,10 +9,6 @@ use Rattle.circuit.specs.declared.entry.Kind.TheVariants.{Input, Gate, Output, S
 use Rattle.circuit.specs.declared.entry.Entry.{Entry}
 use Rattle.circuit.specs.Entries.{entry}
 use Rattle.circuit.specs.Gates.{rule_of, uses, defines}
-
--- a keyword and a name
-unfoldable pub lone_name : List (List ℕ) → Option (List ℕ)
-lone_name ws = if length ws == 2 then name_at ws 1 else None
 
 -- a word that is a bit
 unfoldable pub bit_at : List (List ℕ) → ℕ → Option Bool
@@ -52,10 +48,6 @@ gate_entry ws = do
 
 abbrev pub Line : Type 0
 Line = Form (Unit {0}) Entry
-
--- a line that is one word
-unfoldable pub lone : List (List ℕ) → Line → Option Line
-lone ws f = if length ws == 1 then Some f else None
 
 unfoldable pub form_of : List (List ℕ) → Option Line
 form_of ws =

@@ -11,4 +11,3 @@ pub mod Meaning
 pub mod Bridge
 pub mod Evaluate
 pub mod Wiring
-pub mod Ports

@@ -1,11 +1,11 @@
 -- Which line is good after which lines. What was defined and consumed is read from the lines themselves.
 use Rattle.std.specs.Prelude.{ℕ, ◌+◌, Bool, true, false, ◌&&◌, ◌||◌, List, [], ◌∷◌, ◌++◌, length, Option, Some, None, nat_lt, nat_le, ◌==◌, if◌then◌else◌}
-use Rattle.std.specs.List.{flat_map, list_any, count_by}
-use Rattle.std.specs.Str.{bytes_eq}
+use Rattle.std.specs.List.{flat_map, count_by}
 use Rattle.circuit.specs.declared.entry.GateKind.TheVariants.{Source, Fredkin, Cswap, Interact, Switch, Delay}
 use Rattle.circuit.specs.declared.entry.Kind.{Kind}
 use Rattle.circuit.specs.declared.entry.Kind.TheVariants.{Input, Gate, Output, Spill}
 use Rattle.circuit.specs.declared.entry.Entry.{Entry}
+use Rattle.section_text.specs.Words.{has}
 use Rattle.section_text.specs.Codes.{or_else, code_where}
 use Rattle.circuit.specs.Entries.{rank_of}
 
@@ -25,10 +25,6 @@ is_gate Spill = false
 
 abbrev pub gate_count : List Entry → ℕ
 gate_count entries = count_by (λ r. is_gate r.kind) entries
-
--- whether a list of names has the name
-abbrev pub has : List (List ℕ) → List ℕ → Bool
-has names n = list_any (bytes_eq n) names
 
 -- ---- codes 3, 4 and 5, from left to right; a line's own names count as they are passed
 

@@ -2,21 +2,10 @@
 ghost use Rattle.std.specs.Prelude.{◌≡◌, ◌+◌, ◌≤◌};
 ghost use Rattle.section_text.specs.Words.{words_of};
 ghost use Rattle.section_text.specs.FeedState.{IsLine, line_bytes};
-ghost use Rattle.circuit.specs.Forms.{lone_name, bit_at, gate_kind, words_before, gate_names, gate_entry, lone, form_of};
+ghost use Rattle.circuit.specs.Forms.{bit_at, gate_kind, words_before, gate_names, gate_entry, form_of};
 
 use crate::entry::{Entry, GateKind, Kind};
-use section_text::{Feed, Form, Line, Name, Names};
-
-#[tactic(auto, unfolding(crate::specs::Forms::lone_name))]
-fn lone_name_of(feed: &Feed, line: &Line) -> Option<Name>
-    requires { IsLine feed.now line.now }
-    ensures { result ≡ lone_name (words_of (line_bytes feed.now line.now)) }
-{
-    if feed.words(line) != 2 {
-        return None;
-    }
-    feed.name(line, 1)
-}
+use section_text::{Feed, Form, Line};
 
 #[tactic(auto, unfolding(crate::specs::Forms::bit_at))]
 fn bit_of(feed: &Feed, line: &Line, index: usize) -> Option<bool>
@@ -100,19 +89,6 @@ fn gate_entry_of(feed: &Feed, line: &Line) -> Option<Entry>
     gate_names_of(feed, line, kind)
 }
 
-// The form of a line that is one word.
-#[tactic(auto, unfolding(crate::specs::Forms::lone))]
-fn lone_of(feed: &Feed, line: &Line, form: Form<(), Entry>) -> Option<Form<(), Entry>>
-    requires { IsLine feed.now line.now }
-    ensures { result ≡ lone (words_of (line_bytes feed.now line.now)) form }
-{
-    if feed.words(line) == 1 {
-        Some(form)
-    } else {
-        None
-    }
-}
-
 /// The form of a line, if it has one.
 #[tactic(auto, unfolding(crate::specs::Forms::form_of))]
 pub fn line_form(feed: &Feed, line: &Line) -> Option<Form<(), Entry>>
@@ -120,15 +96,15 @@ pub fn line_form(feed: &Feed, line: &Line) -> Option<Form<(), Entry>>
     ensures { result ≡ form_of (words_of (line_bytes feed.now line.now)) }
 {
     if feed.is(line, 0, b"circuit") {
-        lone_of(feed, line, Form::Header(()))
+        feed.lone(line, Form::Header(()))
     } else if feed.is(line, 0, b"end") {
-        lone_of(feed, line, Form::End)
+        feed.lone(line, Form::End)
     } else if feed.is(line, 0, b"input") {
-        Some(Form::Item(Entry::input(lone_name_of(feed, line)?)))
+        Some(Form::Item(Entry::input(feed.lone_name(line)?)))
     } else if feed.is(line, 0, b"output") {
-        Some(Form::Item(Entry::output(lone_name_of(feed, line)?)))
+        Some(Form::Item(Entry::output(feed.lone_name(line)?)))
     } else if feed.is(line, 0, b"spill") {
-        Some(Form::Item(Entry::spill(lone_name_of(feed, line)?)))
+        Some(Form::Item(Entry::spill(feed.lone_name(line)?)))
     } else {
         Some(Form::Item(gate_entry_of(feed, line)?))
     }

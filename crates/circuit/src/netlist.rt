@@ -1,5 +1,5 @@
 //! Circuits: their wires, their gates, and their values.
-ghost use Rattle.std.specs.Prelude.{◌≡◌, ◌<◌, ◌≤◌, Some, length, take, slice_get, IfOk};
+ghost use Rattle.std.specs.Prelude.{◌≡◌, ◌<◌, ◌≤◌, Some, length, take, slice_get, IfOk, IfSome};
 ghost use Rattle.circuit.specs.Rules.{defined};
 ghost use Rattle.circuit.specs.Bridge.{AreValues, circuit_of, input_count, input_names, is_input, netlist_of, read};
 ghost use Rattle.circuit.specs.Meaning.{AreForward, AreOrdered, wire_of, wires};
@@ -87,9 +87,10 @@ impl Circuit {
         self.wires.len()
     }
 
-    /// The wire of this name, if there is one.
+    /// The wire of this name, if there is one. Its number is below `wires()`.
     pub fn wire(&self, name: &Name) -> Option<WireNo>
-        ensures { result ≡ wire_of (circuit_of self.now) name.now }
+        ensures wire { result ≡ wire_of (circuit_of self.now) name.now }
+        ensures below { IfSome result (λ w. w < wires (netlist_of self.now)) }
     {
         let index = self.wires.get_index_of(name)?;
         Some(WireNo::of(index as u16))

@@ -1,7 +1,7 @@
 //! The names of a circuit's inputs and outputs.
-ghost use Rattle.std.specs.Prelude.{◌≡◌, [], ◌∷◌, ◌++◌, length, OnOk, IfOk};
+ghost use Rattle.std.specs.Prelude.{◌≡◌, [], ◌∷◌, ◌++◌, length, Some, OnOk, IfOk};
+ghost use Rattle.section_text.specs.Ports.{named_ports};
 ghost use Rattle.circuit.specs.Bridge.{input_names, netlist_of, output_names};
-ghost use Rattle.circuit.specs.Ports.{ArePorts};
 
 use crate::entry::{Entry, Kind};
 use crate::netlist::Circuit;
@@ -39,7 +39,7 @@ fn ports_of(ins: &mut Vec<Name>, outs: &mut Vec<Name>, entries: &[Entry]) -> Res
 
 /// The names of the inputs and of the outputs, each in the order of their lines. A spill is no output.
 pub fn port_names(alloc: Global, circuit: &Circuit) -> Result<PortNames, AllocError>
-    ensures ports { IfOk result (ArePorts (input_names circuit.now) (output_names circuit.now)) }
+    ensures ports { IfOk result (λ names. named_ports names ≡ Some (record { ins = input_names circuit.now; outs = output_names circuit.now })) }
     ensures count { length (input_names circuit.now) ≡ (netlist_of circuit.now).given }
 {
     let mut ins = Vec::with_capacity(alloc, circuit.inputs())?;

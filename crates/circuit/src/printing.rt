@@ -9,15 +9,14 @@ ghost use Rattle.circuit.specs.Text.{value_line, value_lines, gate_word, gate_nu
 
 use crate::entry::{Entry, GateKind, Kind};
 use crate::netlist::Circuit;
-use section_text::Name;
+use section_text::{Name, print_number, print_word};
 use std::alloc::{AllocError, Global};
 
 fn print_names(out: &mut Vec<u8>, names: &[Name]) -> Result<(), AllocError>
     ensures { OnOk result (out.new.items ≡ out.old.items ++ flat_map spaced names.now) }
 {
     for name in names {
-        out.push(b' ')?;
-        out.extend_from_slice(name.bytes())?;
+        print_word(out, name.bytes())?;
     }
     Ok(())
 }
@@ -34,9 +33,8 @@ fn print_gate(alloc: Global, out: &mut Vec<u8>, kind: GateKind) -> Result<(), Al
         GateKind::Interact => out.extend_from_slice(b"interact"),
         GateKind::Switch => out.extend_from_slice(b"switch"),
         GateKind::Delay(n) => {
-            let number = n.to_string(alloc)?;
-            out.extend_from_slice(b"delay ")?;
-            out.extend_from_slice(number.as_bytes())
+            out.extend_from_slice(b"delay")?;
+            print_number(alloc, out, n)
         }
     }
 }

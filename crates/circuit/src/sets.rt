@@ -1,6 +1,7 @@
 //! Names that are consumed and defined, one after the other.
 ghost use Rattle.std.specs.Prelude.{◌≡◌, ◌+◌, true, false, [], ◌∷◌, ◌++◌, None, OnOk, OnErr, IfErr};
-ghost use Rattle.circuit.specs.Rules.{has, consume, define};
+ghost use Rattle.section_text.specs.Words.{has};
+ghost use Rattle.circuit.specs.Rules.{consume, define};
 ghost use Rattle.section_text.specs.Adding.{FaultIs};
 
 use indexmap::IndexSet;

@@ -12,6 +12,7 @@ use Rattle.pattern.specs.declared.parts.Size.{Size}
 use Rattle.pattern.specs.declared.parts.Part.{Part}
 use Rattle.pattern.specs.declared.parts.Part.TheVariants.{Mirror, Ball, In}
 use Rattle.pattern.specs.Layout.{Pattern, is_at, in_rectangle, in_layout, in_cells, in_rectangles, in_ports_on, start}
+use Rattle.pattern.proofs.TakenLemmas.{mirror_fits}
 use Rattle.pattern.specs.Lines.{parts_of, size_fault, cell_fault, is_inside, is_taken, is_side, AreGoodAfter}
 
 and_left : (a b : Bool) → (a && b) ≡ true → a ≡ true
@@ -74,10 +75,6 @@ begins_inside p h =
       balls = sym (list_all-map test Ball p.balls) ∙ and_left _ _ two;
       ins = sym (list_all-map test In p.ins) ∙ and_left _ _ three;
     }
-
-mirror_fits : (s : Size) (r : Rectangle) → is_inside s (Mirror r) ≡ true → (r.x + r.w ≤ s.w) × (r.y + r.h ≤ s.h)
-unfolding is_inside
-mirror_fits s r e = (grind (arith, nat_tests), grind (arith, nat_tests))
 
 pub mirrors_fit : (s : Size) (rs : List Rectangle) → list_all (λ r. is_inside s (Mirror r)) rs ≡ true → s.w ≤ 512 → s.h ≤ 512 → (k : ℕ) (d : Rectangle) → k < length rs → ((get_or rs k d).x + (get_or rs k d).w ≤ 512) × ((get_or rs k d).y + (get_or rs k d).h ≤ 512)
 mirrors_fit s [] e w h k d lt = absurd (omega arith)

@@ -4,6 +4,7 @@ mod NameSets
 pub mod Orders
 pub mod Added
 pub mod TakenLemmas
+pub mod OwnCells
 pub mod ReadingLemmas
 pub mod Named
 pub mod Printed

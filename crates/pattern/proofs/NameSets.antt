@@ -4,7 +4,7 @@ use Rattle.std.specs.Str.{bytes_eq}
 use Rattle.std.proofs.lemmas.Bool.{cases_Bool}
 use Rattle.std.proofs.lemmas.Slice.Eq.{bytes_eq-Decides}
 use Rattle.std.proofs.lemmas.List.Folds.{list_any-append}
-use Rattle.pattern.specs.Lines.{has}
+use Rattle.section_text.specs.Words.{has}
 
 or_right : (a b : Bool) → (a || (b || false)) ≡ (a || b)
 or_right a b = grind arith

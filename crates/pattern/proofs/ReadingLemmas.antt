@@ -3,10 +3,12 @@ use Rattle.std.proofs.Common.{◌≡◌, ℕ, ◌&&◌, Bool, not, List, [], ◌
 use Rattle.std.specs.List.{list_all, list_any}
 use Rattle.std.specs.Global.{Global}
 use Rattle.section_text.specs.Codes.{or_else, code_where}
+use Rattle.section_text.specs.Ports.{Named, named_ports}
 use Rattle.section_text.specs.declared.ports.PortNames.{PortNames}
 use Rattle.section_text.specs.declared.ports.PortNames.TheVariants.{Any, Only}
 use Rattle.pattern.specs.declared.parts.Part.{Part}
-use Rattle.pattern.specs.Lines.{has, is_in, is_out, order_fault, limit_fault, name_fault, line_fault, missing_fault}
+use Rattle.section_text.specs.Words.{has}
+use Rattle.pattern.specs.Lines.{is_in, is_out, order_fault, limit_fault, name_fault, line_fault, missing_fault}
 
 pub no_code_first : (a b : Option ℕ) → or_else a b ≡ None → a ≡ None
 no_code_first None b e = refl
@@ -16,7 +18,7 @@ pub no_code_second : (a b : Option ℕ) → or_else a b ≡ None → b ≡ None
 no_code_second None b e = e
 no_code_second (Some code) b e = absurd cc
 
-module _ (ports : PortNames) (before : List Part) (part : Part) (good : line_fault ports before part ≡ None) where
+module _ (ports : Option Named) (before : List Part) (part : Part) (good : line_fault ports before part ≡ None) where
   pub in_order : order_fault before part ≡ None
   unfolding line_fault
   in_order = no_code_first (order_fault before part) (or_else (limit_fault part) (name_fault ports part)) good
@@ -32,7 +34,7 @@ all_same p q same (n ∷ names) = ap (λ b. b && list_all p names) (same n) ∙ 
 
 -- what is missing at the end
 module _ (ports : PortNames) (parts : List Part) where
-  pub none_missing : ports ≡ Any → None ≡ missing_fault ports parts
+  pub none_missing : ports ≡ Any → None ≡ missing_fault (named_ports ports) parts
   unfolding missing_fault
   none_missing any = rw any refl
 
@@ -43,6 +45,6 @@ module _ (ports : PortNames) (parts : List Part) where
         ap (λ b. b && list_all (λ n. has seen_outs n) outs.items) (all_same (λ n. has seen_ins n) (λ n. list_any (is_in n) parts) same_ins ins.items)
         ∙ ap (λ b. list_all (λ n. list_any (is_in n) parts) ins.items && b) (all_same (λ n. has seen_outs n) (λ n. list_any (is_out n) parts) same_outs outs.items)
 
-    pub missing_by : (b : Bool) → (list_all (λ n. has seen_ins n) ins.items && list_all (λ n. has seen_outs n) outs.items) ≡ b → code_where (not b) 11 ≡ missing_fault ports parts
+    pub missing_by : (b : Bool) → (list_all (λ n. has seen_ins n) ins.items && list_all (λ n. has seen_outs n) outs.items) ≡ b → code_where (not b) 11 ≡ missing_fault (named_ports ports) parts
     unfolding missing_fault
     missing_by b e = rw only (ap (λ k. code_where (not k) 11) (sym e ∙ all_seen))

@@ -1,22 +1,13 @@
 -- The assign section: which names are on.
-use Rattle.std.specs.Prelude.{ℕ, not, List, length, Option, Some, None, codes, ◌==◌, if◌then◌else◌}
-use Rattle.section_text.specs.Words.{◌>>=◌, is_at, name_at}
+use Rattle.std.specs.Prelude.{ℕ, not, List, Option, Some, None, codes, if◌then◌else◌}
+use Rattle.section_text.specs.Words.{◌>>=◌, is_at, has, lone, lone_name}
 use Rattle.section_text.specs.Codes.{or_else, code_where}
 use Rattle.section_text.specs.Section.{Grammar}
 use Rattle.section_text.specs.declared.section.Form.{Form}
 use Rattle.section_text.specs.declared.section.Form.TheVariants.{Header, Item, End}
-use Rattle.pattern.specs.Lines.{has}
 
 abbrev pub AssignLine : Type 0
 AssignLine = Form (Unit {0}) (List ℕ)
-
--- a line of one word
-unfoldable pub lone : List (List ℕ) → AssignLine → Option AssignLine
-lone ws form = if length ws == 1 then Some form else None
-
--- a keyword and a name
-unfoldable pub lone_name : List (List ℕ) → Option (List ℕ)
-lone_name ws = if length ws == 2 then name_at ws 1 else None
 
 unfoldable pub assign_form : List (List ℕ) → Option AssignLine
 assign_form ws =

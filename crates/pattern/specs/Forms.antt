@@ -1,6 +1,6 @@
 -- The line forms of the layout section: what the words of a line say.
 use Rattle.std.specs.Prelude.{ℕ, ◌+◌, List, length, Option, Some, None, codes, ◌==◌, if◌then◌else◌}
-use Rattle.section_text.specs.Words.{◌>>=◌, is_at, name_at, number_at}
+use Rattle.section_text.specs.Words.{◌>>=◌, is_at, name_at, number_at, lone}
 use Rattle.section_text.specs.declared.section.Form.{Form}
 use Rattle.section_text.specs.declared.section.Form.TheVariants.{Header, Item, End}
 use Rattle.bbm_rule.specs.declared.block.Cell.{Cell}
@@ -58,9 +58,6 @@ sides_and_steps ws = do
 unfoldable pub size_of : List (List ℕ) → Option Size
 size_of ws = if length ws == 4 then sides_and_steps ws else None
 
-unfoldable pub end_of : List (List ℕ) → Option Line
-end_of ws = if length ws == 1 then Some End else None
-
 unfoldable pub form_of : List (List ℕ) → Option Line
 form_of ws =
     if is_at ws 0 (codes "layout") then (size_of ws >>= λ s. Some (Header s))
@@ -69,5 +66,5 @@ form_of ws =
     else if is_at ws 0 (codes "in") then (port_of ws >>= λ p. Some (Item (In p)))
     else if is_at ws 0 (codes "out") then (port_of ws >>= λ p. Some (Item (Out p)))
     else if is_at ws 0 (codes "waste") then (lone_cell ws >>= λ c. Some (Item (Waste c)))
-    else if is_at ws 0 (codes "end") then end_of ws
+    else if is_at ws 0 (codes "end") then lone ws End
     else None

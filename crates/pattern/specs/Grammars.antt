@@ -1,15 +1,15 @@
 -- The layout section.
-use Rattle.std.specs.Prelude.{List}
+use Rattle.std.specs.Prelude.{List, Option}
 use Rattle.section_text.specs.Section.{Grammar}
-use Rattle.section_text.specs.declared.ports.PortNames.{PortNames}
+use Rattle.section_text.specs.Ports.{Named}
 use Rattle.pattern.specs.declared.parts.Size.{Size}
 use Rattle.pattern.specs.declared.parts.Part.{Part}
 use Rattle.pattern.specs.Layout.{Pattern}
 use Rattle.pattern.specs.Forms.{form_of}
 use Rattle.pattern.specs.Lines.{parts_of, size_fault, part_fault, missing_fault}
 
--- the section, where ports have these names
-abbrev pub layout_grammar : PortNames → Grammar Size Part
+-- the section, where ports have these names, or any
+abbrev pub layout_grammar : Option Named → Grammar Size Part
 layout_grammar ports = record {
   form = form_of;
   header_fault = size_fault;

@@ -1,9 +1,9 @@
 -- Laws of the layout section.
-use Rattle.std.specs.Prelude.{◌≡◌, ℕ, ◌+◌, List, length, take, drop, Ok}
+use Rattle.std.specs.Prelude.{◌≡◌, ℕ, ◌+◌, List, length, take, drop, Option, Ok}
 use Rattle.std.specs.List.{flat_map}
 use Rattle.section_text.specs.Words.{lines_of}
 use Rattle.section_text.specs.Section.{section_of, ended_line}
-use Rattle.section_text.specs.declared.ports.PortNames.{PortNames}
+use Rattle.section_text.specs.Ports.{Named}
 use Rattle.pattern.specs.Layout.{Pattern}
 use Rattle.pattern.specs.Lines.{parts_of}
 use Rattle.pattern.specs.Grammars.{layout_grammar, layout_value}
@@ -11,12 +11,12 @@ use Rattle.pattern.specs.Text.{layout_text}
 
 -- the text of a layout that is read is the text of the lines that it is read from
 abbrev pub PrintsWhatIsRead : Type 0
-PrintsWhatIsRead = (ports : PortNames) (n : ℕ) (ls : List (List ℕ)) (p : Pattern) →
+PrintsWhatIsRead = (ports : Option Named) (n : ℕ) (ls : List (List ℕ)) (p : Pattern) →
     section_of (layout_grammar ports) n ls ≡ Ok (layout_value p) →
     flat_map ended_line (take (length (parts_of p) + 2) ls) ≡ layout_text p
 
 -- and it is read as the same layout again, wherever it stands
 abbrev pub ReadsWhatIsPrinted : Type 0
-ReadsWhatIsPrinted = (ports : PortNames) (text : List ℕ) (from n m : ℕ) (p : Pattern) →
+ReadsWhatIsPrinted = (ports : Option Named) (text : List ℕ) (from n m : ℕ) (p : Pattern) →
     section_of (layout_grammar ports) n (drop from (lines_of text)) ≡ Ok (layout_value p) →
     section_of (layout_grammar ports) m (lines_of (layout_text p)) ≡ Ok (layout_value p)

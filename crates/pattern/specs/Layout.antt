@@ -1,5 +1,5 @@
 -- What a layout says: the size of its rectangle, its steps, and what stands where.
-use Rattle.std.specs.Prelude.{ℕ, pos, ◌&&◌, ◌||◌, Bool, List, map}
+use Rattle.std.specs.Prelude.{◌≡◌, ℕ, pos, ◌&&◌, ◌||◌, Bool, List, map, slice_get, Some}
 use Rattle.std.specs.List.{list_any, flat_map, range_with_len}
 use Rattle.std.specs.Ordering.{int_eq}
 use Rattle.bbm_rule.specs.Plane.{State, run}
@@ -38,6 +38,10 @@ in_rectangles rectangles x y = list_any (λ r. in_rectangle r x y) rectangles
 -- the cells of the ports whose name is on
 abbrev pub in_ports_on : (List ℕ → Bool) → List Port → State
 in_ports_on on ports x y = list_any (λ p. on p.name && is_at p.cell x y) ports
+
+-- no two ports stand at one cell
+abbrev pub HaveOwnCells : List Port → Type 0
+HaveOwnCells ports = (i j : ℕ) (p q : Port) → slice_get ports i ≡ Some p → slice_get ports j ≡ Some q → p.cell ≡ q.cell → i ≡ j
 
 -- ---- the run
 

@@ -1,12 +1,12 @@
 -- The lines of a layout, and which line is good after which lines. What stands where is read from the lines themselves.
-use Rattle.std.specs.Prelude.{◌≡◌, ℕ, ◌+◌, ◌%◌, ◌==◌, ◌&&◌, ◌||◌, Bool, not, true, false, List, [], ◌∷◌, ◌++◌, map, nat_lt, nat_le, Option, None, if◌then◌else◌}
+use Rattle.std.specs.Prelude.{◌≡◌, ℕ, ◌+◌, ◌%◌, ◌==◌, ◌&&◌, ◌||◌, Bool, not, true, false, List, [], ◌∷◌, ◌++◌, map, nat_lt, nat_le, Option, Some, None, if◌then◌else◌}
 use Rattle.std.specs.List.{All, list_any, list_all}
 use Rattle.std.specs.Str.{bytes_eq}
 use Rattle.bbm_rule.specs.Plane.{State}
 use Rattle.bbm_rule.specs.declared.block.Cell.{Cell}
+use Rattle.section_text.specs.Words.{has}
 use Rattle.section_text.specs.Codes.{or_else, code_where}
-use Rattle.section_text.specs.declared.ports.PortNames.{PortNames}
-use Rattle.section_text.specs.declared.ports.PortNames.TheVariants.{Any, Only}
+use Rattle.section_text.specs.Ports.{Named}
 use Rattle.pattern.specs.declared.parts.Size.{Size}
 use Rattle.pattern.specs.declared.parts.Part.{Part}
 use Rattle.pattern.specs.declared.parts.Part.TheVariants.{Mirror, Ball, In, Out, Waste}
@@ -53,25 +53,22 @@ is_late before part = list_any (λ b. nat_lt (rank_of part) (rank_of b)) before
 unfoldable pub order_fault : List Part → Part → Option ℕ
 order_fault before part = code_where (is_late before part) 6
 
--- ---- names
+-- ---- names; any is good where no names of ports are given
 
-abbrev pub has : List (List ℕ) → List ℕ → Bool
-has names n = list_any (bytes_eq n) names
+abbrev pub is_any : Option Named → Bool
+is_any None = true
+is_any (Some names) = false
 
-abbrev pub is_any : PortNames → Bool
-is_any Any = true
-is_any (Only ins outs) = false
+abbrev pub is_in_name : Option Named → List ℕ → Bool
+is_in_name None n = true
+is_in_name (Some names) n = has names.ins n
 
-abbrev pub is_in_name : PortNames → List ℕ → Bool
-is_in_name Any n = true
-is_in_name (Only ins outs) n = has ins.items n
-
-abbrev pub is_out_name : PortNames → List ℕ → Bool
-is_out_name Any n = true
-is_out_name (Only ins outs) n = has outs.items n
+abbrev pub is_out_name : Option Named → List ℕ → Bool
+is_out_name None n = true
+is_out_name (Some names) n = has names.outs n
 
 -- the name of an input cell is one of the inputs, that of an output cell one of the outputs
-unfoldable pub name_fault : PortNames → Part → Option ℕ
+unfoldable pub name_fault : Option Named → Part → Option ℕ
 name_fault ports (Mirror r) = None
 name_fault ports (Ball c) = None
 name_fault ports (In p) = code_where (not (is_in_name ports p.name)) 3
@@ -133,10 +130,10 @@ cell_fault s before part = code_where (not (is_inside s part) || is_taken before
 -- ---- a line after the lines before it
 
 -- the code of the tests that come before those of the cells
-unfoldable pub line_fault : PortNames → List Part → Part → Option ℕ
+unfoldable pub line_fault : Option Named → List Part → Part → Option ℕ
 line_fault ports before part = or_else (order_fault before part) (or_else (limit_fault part) (name_fault ports part))
 
-unfoldable pub part_fault : PortNames → Size → List Part → Part → Option ℕ
+unfoldable pub part_fault : Option Named → Size → List Part → Part → Option ℕ
 part_fault ports s before part = or_else (line_fault ports before part) (cell_fault s before part)
 
 -- each input and each output has a cell
@@ -154,13 +151,13 @@ is_out n (In p) = false
 is_out n (Out p) = bytes_eq n p.name
 is_out n (Waste c) = false
 
-unfoldable pub missing_fault : PortNames → List Part → Option ℕ
-missing_fault Any parts = None
-missing_fault (Only ins outs) parts =
-    code_where (not (list_all (λ n. list_any (is_in n) parts) ins.items && list_all (λ n. list_any (is_out n) parts) outs.items)) 11
+unfoldable pub missing_fault : Option Named → List Part → Option ℕ
+missing_fault None parts = None
+missing_fault (Some names) parts =
+    code_where (not (list_all (λ n. list_any (is_in n) parts) names.ins && list_all (λ n. list_any (is_out n) parts) names.outs)) 11
 
 -- the names of the ports are good, and each input and each output that is asked for has a cell
-pub record AreNamed (ports : PortNames) (parts : List Part) : Type 0 where
+pub record AreNamed (ports : Option Named) (parts : List Part) : Type 0 where
   pub good : All (λ part. name_fault ports part ≡ None) parts
   pub whole : missing_fault ports parts ≡ None
 

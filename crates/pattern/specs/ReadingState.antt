@@ -1,8 +1,9 @@
 -- What contracts see of a reader of layouts.
-use Rattle.section_text.specs.declared.ports.PortNames.{PortNames}
+use Rattle.std.specs.Prelude.{Option}
+use Rattle.section_text.specs.Ports.{Named}
 use Rattle.pattern.specs.Layout.{Pattern}
 
 pub record ReadingState : Type 0 where
-  pub ports : PortNames
+  pub ports : Option Named
   -- the layout of the lines so far
   pub layout : Pattern

@@ -1,15 +1,17 @@
 -- The fields of a reader of layouts, and what contracts see of them.
 use Rattle.std.specs.Prelude.{◌≡◌, ◌||◌, ℕ, List}
 use Rattle.std.specs.List.{list_any}
+use Rattle.section_text.specs.Ports.{named_ports}
 use Rattle.pattern.specs.declared.reading.Reading.TheInside.{Inside}
-use Rattle.pattern.specs.Lines.{has, is_any, is_in, is_in_name, is_out, is_out_name, parts_of}
+use Rattle.section_text.specs.Words.{has}
+use Rattle.pattern.specs.Lines.{is_any, is_in, is_in_name, is_out, is_out_name, parts_of}
 use Rattle.pattern.specs.ReadingState.{ReadingState}
 
 abbrev pub reading_state : Inside → ReadingState
-reading_state a = record { ports = a.ports.now; layout = a.draft }
+reading_state a = record { ports = named_ports a.ports.now; layout = a.draft }
 
 pub record IsReading (a : Inside) : Type 0 where
-  pub known_ins : (n : List ℕ) → is_in_name a.ports.now n ≡ (is_any a.ports.now || has a.known_ins.keys n)
-  pub known_outs : (n : List ℕ) → is_out_name a.ports.now n ≡ (is_any a.ports.now || has a.known_outs.keys n)
+  pub known_ins : (n : List ℕ) → is_in_name (named_ports a.ports.now) n ≡ (is_any (named_ports a.ports.now) || has a.known_ins.keys n)
+  pub known_outs : (n : List ℕ) → is_out_name (named_ports a.ports.now) n ≡ (is_any (named_ports a.ports.now) || has a.known_outs.keys n)
   pub seen_ins : (n : List ℕ) → has a.seen_ins.keys n ≡ list_any (is_in n) (parts_of a.draft)
   pub seen_outs : (n : List ℕ) → has a.seen_outs.keys n ≡ list_any (is_out n) (parts_of a.draft)

@@ -1,38 +1,14 @@
 //! The assign section: which names are on.
 ghost use Rattle.std.specs.Prelude.{◌≡◌, ℕ, true, List};
-ghost use Rattle.section_text.specs.Words.{words_of};
+ghost use Rattle.section_text.specs.Words.{words_of, has};
 ghost use Rattle.section_text.specs.FeedState.{IsLine, line_bytes};
 ghost use Rattle.section_text.specs.Section.{Reads};
-ghost use Rattle.pattern.specs.Lines.{has};
-ghost use Rattle.pattern.specs.Assign.{lone, lone_name, assign_form, assign_grammar, assign_value, on_fault};
+ghost use Rattle.pattern.specs.Assign.{assign_form, assign_grammar, assign_value, on_fault};
 
 use crate::names::index_of;
 use indexmap::IndexSet;
 use section_text::{Feed, Form, Line, LineFault, Name, ReadFault, Section, read_section};
 use std::alloc::Global;
-
-#[tactic(auto, unfolding(crate::specs::Assign::lone))]
-fn lone_on(feed: &Feed, line: &Line, form: Form<(), Name>) -> Option<Form<(), Name>>
-    requires { IsLine feed.now line.now }
-    ensures { result ≡ lone (words_of (line_bytes feed.now line.now)) form }
-{
-    if feed.words(line) == 1 {
-        Some(form)
-    } else {
-        None
-    }
-}
-
-#[tactic(auto, unfolding(crate::specs::Assign::lone_name))]
-fn lone_name_on(feed: &Feed, line: &Line) -> Option<Name>
-    requires { IsLine feed.now line.now }
-    ensures { result ≡ lone_name (words_of (line_bytes feed.now line.now)) }
-{
-    if feed.words(line) != 2 {
-        return None;
-    }
-    feed.name(line, 1)
-}
 
 #[tactic(auto, unfolding(crate::specs::Assign::assign_form))]
 fn line_form(feed: &Feed, line: &Line) -> Option<Form<(), Name>>
@@ -40,11 +16,11 @@ fn line_form(feed: &Feed, line: &Line) -> Option<Form<(), Name>>
     ensures { result ≡ assign_form (words_of (line_bytes feed.now line.now)) }
 {
     if feed.is(line, 0, b"assign") {
-        lone_on(feed, line, Form::Header(()))
+        feed.lone(line, Form::Header(()))
     } else if feed.is(line, 0, b"on") {
-        Some(Form::Item(lone_name_on(feed, line)?))
+        Some(Form::Item(feed.lone_name(line)?))
     } else if feed.is(line, 0, b"end") {
-        lone_on(feed, line, Form::End)
+        feed.lone(line, Form::End)
     } else {
         None
     }

@@ -2,14 +2,16 @@
 ghost use Rattle.std.specs.Prelude.{◌≡◌, ◌≤◌};
 ghost use Rattle.section_text.specs.Words.{words_of};
 ghost use Rattle.section_text.specs.FeedState.{IsLine, line_bytes};
-ghost use Rattle.pattern.specs.Forms.{cell_from, lone_cell, named_cell, port_of, corner_and_sides, rectangle_of, sides_and_steps, size_of, end_of, form_of};
+ghost use Rattle.pattern.specs.Forms.{cell_from, lone_cell, named_cell, port_of, corner_and_sides, rectangle_of, sides_and_steps, size_of, form_of};
 
 use crate::parts::{Part, Port, Rectangle, Size};
 use bbm_rule::Cell;
 use section_text::{Feed, Form, Line};
 
+/// The cell that a word of a line and the next one are, by its column and its row, where `index` is at most eight. None
+/// where one of the two is no number, or is not there.
 #[tactic(auto, unfolding(crate::specs::Forms::cell_from))]
-fn cell_at(feed: &Feed, line: &Line, index: usize) -> Option<Cell>
+pub fn read_cell(feed: &Feed, line: &Line, index: usize) -> Option<Cell>
     requires line { IsLine feed.now line.now }
     requires near { index ≤ 8 }
     ensures { result ≡ cell_from (words_of (line_bytes feed.now line.now)) index }
@@ -30,7 +32,7 @@ fn lone_cell_on(feed: &Feed, line: &Line) -> Option<Cell>
     if feed.words(line) != 3 {
         return None;
     }
-    cell_at(feed, line, 1)
+    read_cell(feed, line, 1)
 }
 
 #[tactic(auto, unfolding(crate::specs::Forms::named_cell))]
@@ -39,7 +41,7 @@ fn named_cell_on(feed: &Feed, line: &Line) -> Option<Port>
     ensures { result ≡ named_cell (words_of (line_bytes feed.now line.now)) }
 {
     let name = feed.name(line, 1)?;
-    let cell = cell_at(feed, line, 2)?;
+    let cell = read_cell(feed, line, 2)?;
     Some(Port { name, cell })
 }
 
@@ -99,18 +101,6 @@ fn size_on(feed: &Feed, line: &Line) -> Option<Size>
     sides_and_steps_on(feed, line)
 }
 
-#[tactic(auto, unfolding(crate::specs::Forms::end_of))]
-fn end_on(feed: &Feed, line: &Line) -> Option<Form<Size, Part>>
-    requires { IsLine feed.now line.now }
-    ensures { result ≡ end_of (words_of (line_bytes feed.now line.now)) }
-{
-    if feed.words(line) == 1 {
-        Some(Form::End)
-    } else {
-        None
-    }
-}
-
 /// The form of a line, if it has one.
 #[tactic(auto, unfolding(crate::specs::Forms::form_of))]
 pub(crate) fn line_form(feed: &Feed, line: &Line) -> Option<Form<Size, Part>>
@@ -130,7 +120,7 @@ pub(crate) fn line_form(feed: &Feed, line: &Line) -> Option<Form<Size, Part>>
     } else if feed.is(line, 0, b"waste") {
         Some(Form::Item(Part::Waste(lone_cell_on(feed, line)?)))
     } else if feed.is(line, 0, b"end") {
-        end_on(feed, line)
+        feed.lone(line, Form::End)
     } else {
         None
     }

@@ -1,5 +1,6 @@
 //! Layouts.
 ghost use Rattle.std.specs.Prelude.{◌≡◌, ◌++◌, [], ◌∷◌, None, OnOk, OnErr};
+ghost use Rattle.pattern.specs.Layout.{HaveOwnCells};
 ghost use Rattle.pattern.specs.Lines.{AreGoodAfter, cell_fault, limit_fault, is_late, order_fault, parts_of, size_fault};
 
 use crate::parts::{Part, Port, Rectangle, Size};
@@ -118,16 +119,18 @@ impl Layout {
         self.balls.as_slice()
     }
 
-    /// The input cells, in the order of their lines.
+    /// The input cells, in the order of their lines. No two stand at one cell.
     pub fn ins(&self) -> &[Port]
-        ensures { result.now ≡ self.now.ins }
+        ensures same { result.now ≡ self.now.ins }
+        ensures apart { HaveOwnCells result.now }
     {
         self.ins.as_slice()
     }
 
-    /// The output cells, in the order of their lines.
+    /// The output cells, in the order of their lines. No two stand at one cell.
     pub fn outs(&self) -> &[Port]
-        ensures { result.now ≡ self.now.outs }
+        ensures same { result.now ≡ self.now.outs }
+        ensures apart { HaveOwnCells result.now }
     {
         self.outs.as_slice()
     }

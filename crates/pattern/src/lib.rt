@@ -18,9 +18,12 @@ mod taken;
 mod tests;
 
 pub use assign::read_assign;
+pub use form::read_cell;
 pub use layout::Layout;
 pub use on::are_on;
 pub use parts::{Part, Port, Rectangle, Size};
-pub use printing::print_layout;
+pub use printing::{print_cell, print_layout};
 pub use reading::read_layout;
+pub use rectangle::push_rectangle;
 pub use run::{RunEnd, run_plain, start_cells};
+pub use taken::{is_any_live, make_live};

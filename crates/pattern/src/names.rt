@@ -2,7 +2,7 @@
 ghost use Rattle.std.specs.Prelude.{◌≡◌, ◌||◌, ◌<◌, ℕ, List, OnOk, OnErr, IfOk};
 ghost use Rattle.std.specs.Str.{bytes_eq};
 ghost use Rattle.indexmap.specs.IndexSet.{spare};
-ghost use Rattle.pattern.specs.Lines.{has};
+ghost use Rattle.section_text.specs.Words.{has};
 
 use indexmap::IndexSet;
 use section_text::Name;

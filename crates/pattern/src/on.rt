@@ -1,6 +1,6 @@
 //! Which names are on.
 ghost use Rattle.std.specs.Prelude.{◌≡◌, ◌++◌, map, OnOk, IfOk};
-ghost use Rattle.pattern.specs.Lines.{has};
+ghost use Rattle.section_text.specs.Words.{has};
 
 use crate::names::index_of;
 use indexmap::IndexSet;

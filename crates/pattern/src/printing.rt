@@ -1,23 +1,14 @@
 //! The text of a layout.
-ghost use Rattle.std.specs.Prelude.{◌≡◌, ◌++◌, [], ◌∷◌, OnOk, IfOk, codes};
+ghost use Rattle.std.specs.Prelude.{◌≡◌, ◌++◌, [], ◌∷◌, ℕ, List, OnOk, OnErr, IfOk, codes};
 ghost use Rattle.std.specs.List.{flat_map};
-ghost use Rattle.std.specs.Fmt.{decimal};
 ghost use Rattle.section_text.specs.Spelling.{spaced, line_text};
 ghost use Rattle.pattern.specs.Text.{cell_words, coordinate, layout_text, port_words, rectangle_words, size_words};
 
 use crate::layout::Layout;
 use crate::parts::{Port, Rectangle, Size};
 use bbm_rule::Cell;
+use section_text::{print_number, print_word};
 use std::alloc::{AllocError, Global};
-
-fn print_number(alloc: Global, out: &mut Vec<u8>, number: u32) -> Result<(), AllocError>
-    ensures { OnOk result (out.new.items ≡ out.old.items ++ spaced (decimal number)) }
-{
-    let digits = number.to_string(alloc)?;
-    out.push(b' ')?;
-    out.extend_from_slice(digits.as_bytes())?;
-    Ok(())
-}
 
 // A coordinate of a cell, which is not negative in a layout.
 fn natural(x: i32) -> u32
@@ -26,8 +17,11 @@ fn natural(x: i32) -> u32
     if x < 0 { 0 } else { x as u32 }
 }
 
-fn print_cell(alloc: Global, out: &mut Vec<u8>, cell: Cell) -> Result<(), AllocError>
-    ensures { OnOk result (out.new.items ≡ out.old.items ++ flat_map spaced (cell_words cell)) }
+/// Writes the column and the row of a cell at the end of `out`, each behind a space. A negative one, which no cell of a
+/// layout has, is written as 0. After want of memory a part of them may stand there.
+pub fn print_cell(alloc: Global, out: &mut Vec<u8>, cell: Cell) -> Result<(), AllocError>
+    ensures ok { OnOk result (out.new.items ≡ out.old.items ++ flat_map spaced (cell_words cell)) }
+    ensures err { OnErr result ((part : List ℕ) × (out.new.items ≡ out.old.items ++ part)) }
 {
     print_number(alloc, out, natural(cell.x))?;
     print_number(alloc, out, natural(cell.y))?;
@@ -98,8 +92,7 @@ fn print_port(alloc: Global, out: &mut Vec<u8>, word: &[u8], port: &Port) -> Res
     ensures { OnOk result (out.new.items ≡ out.old.items ++ line_text word.now (port_words port.now)) }
 {
     out.extend_from_slice(word)?;
-    out.push(b' ')?;
-    out.extend_from_slice(port.name.bytes())?;
+    print_word(out, port.name.bytes())?;
     print_cell(alloc, out, port.cell)?;
     out.push(b'\n')?;
     Ok(())

@@ -3,7 +3,9 @@ ghost use Rattle.std.specs.Prelude.{◌≡◌, ◌||◌, ◌<◌, ℕ, true, [],
 ghost use Rattle.std.specs.List.{list_all};
 ghost use Rattle.indexmap.specs.IndexSet.{spare};
 ghost use Rattle.section_text.specs.Section.{Reads};
-ghost use Rattle.pattern.specs.Lines.{AreNamed, has, is_any, is_in, is_out, is_in_name, is_out_name, line_fault, missing_fault, name_fault, parts_of};
+ghost use Rattle.section_text.specs.Ports.{named_ports};
+ghost use Rattle.section_text.specs.Words.{has};
+ghost use Rattle.pattern.specs.Lines.{AreNamed, is_any, is_in, is_out, is_in_name, is_out_name, line_fault, missing_fault, name_fault, parts_of};
 ghost use Rattle.pattern.specs.Grammars.{layout_grammar, layout_value};
 
 use crate::draft::Draft;
@@ -45,7 +47,7 @@ impl<'a> Model for Reading<'a> {
 }
 
 fn are_any(ports: &PortNames) -> bool
-    ensures { result ≡ is_any ports.now }
+    ensures { result ≡ is_any (named_ports ports.now) }
 {
     match ports {
         PortNames::Any => true,
@@ -85,7 +87,7 @@ impl<'a> Reading<'a> {
     // No lines. The size is that of the smallest layout, until the first line is read.
     #[tactic(auto, unfolding(crate::specs::Lines::size_fault))]
     fn new(alloc: Global, ports: &'a PortNames) -> Result<Reading<'a>, AllocError>
-        ensures ports { IfOk result (λ reading. reading.ports ≡ ports.now) }
+        ensures ports { IfOk result (λ reading. reading.ports ≡ named_ports ports.now) }
         ensures parts { IfOk result (λ reading. parts_of reading.layout ≡ []) }
     {
         let (known_ins, known_outs) = known_names(alloc, ports)?;
@@ -164,8 +166,8 @@ fn known_names(
     alloc: Global,
     ports: &PortNames,
 ) -> Result<(IndexSet<Name>, IndexSet<Name>), AllocError>
-    ensures ins { IfOk result (λ known. (n : List ℕ) → is_in_name ports.now n ≡ (is_any ports.now || has known.0.keys n)) }
-    ensures outs { IfOk result (λ known. (n : List ℕ) → is_out_name ports.now n ≡ (is_any ports.now || has known.1.keys n)) }
+    ensures ins { IfOk result (λ known. (n : List ℕ) → is_in_name (named_ports ports.now) n ≡ (is_any (named_ports ports.now) || has known.0.keys n)) }
+    ensures outs { IfOk result (λ known. (n : List ℕ) → is_out_name (named_ports ports.now) n ≡ (is_any (named_ports ports.now) || has known.1.keys n)) }
 {
     match ports {
         PortNames::Any => Ok((IndexSet::new(alloc), IndexSet::new(alloc))),
@@ -245,8 +247,8 @@ impl<'a> Section for Reading<'a> {
 /// After an error the feed answers it for good.
 pub fn read_layout(alloc: Global, feed: &mut Feed, ports: &PortNames) -> Result<Layout, ReadFault>
     requires { feed.old.closed ≡ true }
-    ensures reads { Reads (layout_grammar ports.now) layout_value feed.old feed.new result }
-    ensures names { IfOk result (λ l. AreNamed ports.now (parts_of l)) }
+    ensures reads { Reads (layout_grammar (named_ports ports.now)) layout_value feed.old feed.new result }
+    ensures names { IfOk result (λ l. AreNamed (named_ports ports.now) (parts_of l)) }
 {
     let Ok(mut reading) = Reading::new(alloc, ports) else {
         return Err(feed.starve());

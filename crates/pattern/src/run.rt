@@ -3,7 +3,7 @@ ghost use Rattle.std.specs.Prelude.{◌≡◌, ◌+◌, ◌≤◌, ◌<◌, ◌+
 ghost use Rattle.std.specs.List.{All, flat_map, filter};
 ghost use Rattle.bbm_rule.specs.Board.{HasSameSize, is_inside, live};
 ghost use Rattle.pattern.specs.Layout.{in_cells, rectangle_cells, row_cells, start};
-ghost use Rattle.pattern.specs.Lines.{has};
+ghost use Rattle.section_text.specs.Words.{has};
 ghost use Rattle.pattern.specs.Run.{IsRunEnd, RunLeaves, RunsInside, live_cells, start_list};
 
 use crate::layout::Layout;

@@ -6,8 +6,8 @@ ghost use Rattle.pattern.specs.Layout.{in_cells};
 
 use bbm_rule::{Cell, Grid};
 
-// Whether one of the cells is taken.
-fn meets(grid: &Grid, cells: &[Cell]) -> bool
+/// Whether one of the cells, which are on the grid, is live.
+pub fn is_any_live(grid: &Grid, cells: &[Cell]) -> bool
     requires { All (λ c. is_inside grid.now c.x c.y ≡ true) cells.now }
     ensures { result ≡ list_any (λ c. live grid.now c.x c.y) cells.now }
 {
@@ -19,8 +19,8 @@ fn meets(grid: &Grid, cells: &[Cell]) -> bool
     false
 }
 
-/// Makes the cells live, and leaves the others as they are.
-pub(crate) fn make_live(grid: &mut Grid, cells: &[Cell])
+/// Makes the cells, which are on the grid, live, and leaves the others as they are.
+pub fn make_live(grid: &mut Grid, cells: &[Cell])
     requires { All (λ c. is_inside grid.old c.x c.y ≡ true) cells.now }
     ensures taken { (x y : ℤ) → live grid.new x y ≡ (live grid.old x y || in_cells cells.now x y) }
     ensures size { HasSameSize grid.old grid.new }
@@ -37,9 +37,9 @@ pub(crate) fn meets_in(first: bool, one: &Grid, other: &Grid, cells: &[Cell]) ->
     ensures { result ≡ (if first then list_any (λ c. live one.now c.x c.y) cells.now else list_any (λ c. live other.now c.x c.y) cells.now) }
 {
     if first {
-        meets(one, cells)
+        is_any_live(one, cells)
     } else {
-        meets(other, cells)
+        is_any_live(other, cells)
     }
 }
 

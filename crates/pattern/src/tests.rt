@@ -291,6 +291,24 @@ fn cells_of_a_size(rt: HostRuntime) {
 }
 
 #[test]
+fn cells_of_a_line(rt: HostRuntime) -> Result<(), Fail> {
+    let mut feed = fed(&rt, rt.alloc(), b"cut 3 170 x\n", WHOLE);
+    assert_eq!(rt; feed.fault(), None);
+    let line = feed.take()?;
+    assert!(rt; read_cell(&feed, &line, 1) == Some(Cell { x: 3, y: 170 }));
+    for index in [0, 2, 3, 4] {
+        assert!(rt; read_cell(&feed, &line, index).is_none(), "{index}");
+    }
+    let mut out = Vec::new(rt.alloc());
+    out.extend_from_slice(b"cut")?;
+    print_cell(rt.alloc(), &mut out, Cell { x: 3, y: 170 })?;
+    assert_eq!(rt; out.as_slice(), b"cut 3 170".as_slice());
+    print_cell(rt.alloc(), &mut out, Cell { x: -1, y: 0 })?;
+    assert_eq!(rt; out.as_slice(), b"cut 3 170 0 0".as_slice());
+    Ok(())
+}
+
+#[test]
 fn prints_what_was_read(rt: HostRuntime) -> Result<(), Fail> {
     let alloc = rt.alloc();
     let texts = [

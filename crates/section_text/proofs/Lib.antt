@@ -11,3 +11,4 @@ pub mod Whole
 pub mod Spellings
 pub mod Joined
 pub mod Good
+pub mod Splitting

@@ -10,3 +10,5 @@ pub mod Spelling
 pub mod Sections
 pub mod Laws
 pub mod CountedList
+pub mod Ports
+pub mod Listed

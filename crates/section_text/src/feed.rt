@@ -1,9 +1,10 @@
 //! A text in pieces, taken line by line.
-ghost use Rattle.std.specs.Prelude.{drop, ◌≡◌, ℕ, ◌+◌, ◌-◌, ◌^◌, ◌<◌, ◌≤◌, ◌↔◌, true, false, List, [], ◌∷◌, ◌++◌, length, Option, Some, None, Ok, Err, IsTrue, IsOk, IfOk, IfErr, ◌≢◌, OnOk, OnErr, IfSome, MatchOption, unwrap_or, slice_get, slice_range, option_and_then};
+ghost use Rattle.std.specs.Prelude.{drop, ◌≡◌, ℕ, ◌+◌, ◌-◌, ◌^◌, ◌<◌, ◌≤◌, ◌↔◌, true, false, List, [], ◌∷◌, ◌++◌, length, Option, Some, None, Ok, Err, IsTrue, IsOk, IfOk, IfErr, ◌≢◌, OnOk, OnErr, IfSome, MatchOption, unwrap_or, slice_get, slice_range, option_and_then, map};
 ghost use Rattle.std.specs.Option.{option_copied, option_map, ForSome};
 ghost use Rattle.std.specs.List.{position, list_all};
-ghost use Rattle.section_text.specs.Words.{is_digit, is_number, read_on, is_at, is_line_feed, is_space, rest_of, words_of, number_of, number_at, name_at, names_at};
+ghost use Rattle.section_text.specs.Words.{is_digit, is_number, read_on, is_at, is_line_feed, is_space, rest_of, words_of, number_of, number_at, name_at, names_at, lone, lone_number, lone_name, five};
 ghost use Rattle.section_text.specs.declared.fault.ReadFault.TheVariants.{Memory};
+ghost use Rattle.section_text.specs.Listed.{listed};
 ghost use Rattle.section_text.specs.Faults.{refusal};
 ghost use Rattle.section_text.specs.FeedState.{FeedState, ahead, after_lines, IsLine, line_bytes, TakesLine, RunsOut};
 
@@ -52,6 +53,59 @@ pub struct Line {
     to: usize,
 }
 
+/// The words of a line of five, in order.
+#[derive(Clone, Copy)]
+pub struct FiveWords<'a> {
+    pub first: &'a [u8],
+    pub second: &'a [u8],
+    pub third: &'a [u8],
+    pub fourth: &'a [u8],
+    pub fifth: &'a [u8],
+}
+
+fn first_space(line: &[u8]) -> Option<usize>
+    ensures { result ≡ position is_space line.now }
+{
+    line.iter().position(|b| *b == b' ')
+}
+
+// The first word of a line that has more, and what stands behind its space.
+fn split_word(line: &[u8]) -> Option<(&[u8], &[u8])>
+    ensures some { IfSome result (λ r. words_of line.now ≡ r.0.now ∷ words_of r.1.now) }
+    ensures none { result ≡ None → words_of line.now ≡ line.now ∷ [] }
+{
+    let space = first_space(line)?;
+    Some((&line[..space], &line[space + 1..]))
+}
+
+// The words of a line of five.
+fn five_in(line: &[u8]) -> Option<FiveWords<'_>>
+    ensures { option_map listed result ≡ five (words_of line.now) }
+{
+    let Some((first, rest)) = split_word(line) else {
+        return None;
+    };
+    let Some((second, rest)) = split_word(rest) else {
+        return None;
+    };
+    let Some((third, rest)) = split_word(rest) else {
+        return None;
+    };
+    let Some((fourth, fifth)) = split_word(rest) else {
+        return None;
+    };
+    match split_word(fifth) {
+        Some(_) => None,
+        None => Some(FiveWords {
+            first,
+            second,
+            third,
+            fourth,
+            fifth,
+        }),
+    }
+}
+
 // How many bytes stand between a place and the next line feed.
 fn line_length(bytes: &[u8], at: usize) -> Option<usize>
     requires { at ≤ length bytes.now }
@@ -75,7 +129,7 @@ fn word_in(line: &[u8], index: usize) -> Option<&[u8]>
 fn words_in(line: &[u8]) -> usize
     ensures { result ≡ length (words_of line.now) }
 {
-    line.split(|b| *b == b' ').count()
+    1 + line.iter().filter(|b| **b == b' ').count()
 }
 
 fn is_number_word(word: &[u8]) -> bool
@@ -108,9 +162,9 @@ fn read_digits(word: &[u8]) -> u32
     number
 }
 
-// The number that a word is, if it is one.
+/// The number that a word is: `0`, or at most nine digits of which the first is no `0`. None for any other word.
 #[tactic(auto, unfolding(crate::specs::Words::number_of))]
-fn number_from(word: &[u8]) -> Option<u32>
+pub fn read_number(word: &[u8]) -> Option<u32>
     ensures number { result ≡ number_of word.now }
     ensures small { IfSome result (λ n. n < 10 ^ 9) }
 {
@@ -239,7 +293,7 @@ impl Feed {
         ensures number { result ≡ number_at (words_of (line_bytes self.now line.now)) index }
         ensures small { IfSome result (λ n. n < 10 ^ 9) }
     {
-        number_from(self.word(line, index)?)
+        read_number(self.word(line, index)?)
     }
 
     /// A word of a line as a name. None for a word that is no name, and past the last one.
@@ -249,6 +303,51 @@ impl Feed {
         ensures { result ≡ name_at (words_of (line_bytes self.now line.now)) index }
     {
         Name::of(self.word(line, index)?)
+    }
+
+    /// `said`, where a line has one word. None for any other line.
+    #[tactic(auto, unfolding(crate::specs::Words::lone))]
+    pub fn lone<A: Drop>(&self, line: &Line, said: A) -> Option<A>
+        requires { IsLine self.now line.now }
+        ensures { result ≡ lone (words_of (line_bytes self.now line.now)) said }
+    {
+        match self.words(line) {
+            1 => Some(said),
+            _ => None,
+        }
+    }
+
+    /// The words of a line of five. None for any other line. It takes one pass over the line.
+    pub fn five_words(&self, line: &Line) -> Option<FiveWords<'_>>
+        requires { IsLine self.now line.now }
+        ensures { option_map listed result ≡ five (words_of (line_bytes self.now line.now)) }
+    {
+        five_in(self.line(line))
+    }
+
+    /// The number of a line of two words, a keyword and a number. None for any other line.
+    #[tactic(auto, unfolding(crate::specs::Words::lone_number))]
+    pub fn lone_number(&self, line: &Line) -> Option<u32>
+        requires { IsLine self.now line.now }
+        ensures number { result ≡ lone_number (words_of (line_bytes self.now line.now)) }
+        ensures small { IfSome result (λ n. n < 10 ^ 9) }
+    {
+        match self.words(line) {
+            2 => self.number(line, 1),
+            _ => None,
+        }
+    }
+
+    /// The name of a line of two words, a keyword and a name. None for any other line.
+    #[tactic(auto, unfolding(crate::specs::Words::lone_name))]
+    pub fn lone_name(&self, line: &Line) -> Option<Name>
+        requires { IsLine self.now line.now }
+        ensures { result ≡ lone_name (words_of (line_bytes self.now line.now)) }
+    {
+        match self.words(line) {
+            2 => self.name(line, 1),
+            _ => None,
+        }
     }
 
     /// As many names as `count`, at most four, from a word of a line on, where `from` is at most eight. None where one

@@ -9,14 +9,16 @@ mod names;
 mod ports;
 mod reader;
 mod section;
+mod spelling;
 
 pub use fault::{PushFault, ReadFault, Refusal};
-pub use feed::{Feed, Line};
+pub use feed::{Feed, FiveWords, Line, read_number};
 pub use name::Name;
 pub use names::Names;
 pub use ports::PortNames;
 pub use reader::{Section, read_section};
 pub use section::{Form, LineFault};
+pub use spelling::{print_number, print_word};
 
 #[cfg(test)]
 mod tests;

@@ -8,6 +8,7 @@ use crate::feed::{Feed, LONGEST, Line};
 use crate::name::Name;
 use crate::names::Names;
 use crate::reader::read_section;
+use crate::spelling::{print_number, print_word};
 use crate::tests::counted_list::CountedList;
 use std::alloc::{AllocError, Global};
 use std::process::Abort;
@@ -193,6 +194,59 @@ fn names_of_a_line(rt: HostRuntime) -> Result<(), Fail> {
     let mut more = Names::new();
     more.push(c);
     assert!(rt; more.as_slice() == [c].as_slice());
+    Ok(())
+}
+
+#[test]
+fn lone_words(rt: HostRuntime) -> Result<(), Fail> {
+    let cases: [(&[u8], Option<u8>, Option<u32>, Option<&[u8]>); 12] = [
+        (b"end", Some(5), None, None),
+        (b"", Some(5), None, None),
+        (b"end ", None, None, None),
+        (b"cut 7", None, Some(7), None),
+        (b"cut 999999999", None, Some(999_999_999), None),
+        (b"cut 07", None, None, None),
+        (b"cut 7 8", None, None, None),
+        (b"cut  7", None, None, None),
+        (b"wire b_2", None, None, Some(b"b_2")),
+        (b"wire B", None, None, None),
+        (b"wire b_2 c", None, None, None),
+        (b"wire b_2 ", None, None, None),
+    ];
+    for (text, said, number, name) in cases {
+        let mut feed = Feed::new(rt.alloc());
+        feed.push(text)?;
+        feed.push(b"\n")?;
+        feed.close();
+        let line = taken(&rt, &mut feed);
+        assert_eq!(rt; feed.lone(&line, 5u8), said, "{text:?}");
+        assert_eq!(rt; feed.lone_number(&line), number, "{text:?}");
+        match (feed.lone_name(&line), name) {
+            (Some(found), Some(wanted)) => assert_eq!(rt; found.bytes(), wanted),
+            (found, wanted) => assert!(rt; found.is_none() & wanted.is_none(), "{text:?}"),
+        }
+    }
+    Ok(())
+}
+
+#[test]
+fn written_words(rt: HostRuntime) -> Result<(), Fail> {
+    let mut out = Vec::new(rt.alloc());
+    out.push(b'x')?;
+    print_word(&mut out, b"cut")?;
+    assert_eq!(rt; out.as_slice(), [120, 32, 99, 117, 116].as_slice());
+    print_word(&mut out, b"")?;
+    print_number(rt.alloc(), &mut out, 0)?;
+    assert_eq!(rt;
+        out.as_slice(),
+        [120, 32, 99, 117, 116, 32, 32, 48].as_slice()
+    );
+    let mut largest = Vec::new(rt.alloc());
+    print_number(rt.alloc(), &mut largest, 4_294_967_295)?;
+    assert_eq!(rt;
+        largest.as_slice(),
+        [32, 52, 50, 57, 52, 57, 54, 55, 50, 57, 53].as_slice()
+    );
     Ok(())
 }
 

@@ -1,6 +1,6 @@
 -- The names so far are in the set, and no others.
 use Rattle.std.proofs.Common.{◌≡◌, ℕ, List, take}
-use Rattle.pattern.specs.Lines.{has}
+use Rattle.section_text.specs.Words.{has}
 use Rattle.pattern.proofs.names.index_of.Given as goal
 
 abbrev pub invariant-loop-name : goal.invariant-loop-name

@@ -1,6 +1,6 @@
 -- The bits of the names so far.
 use Rattle.std.proofs.Common.{◌≡◌, ◌++◌, map, take}
-use Rattle.pattern.specs.Lines.{has}
+use Rattle.section_text.specs.Words.{has}
 use Rattle.pattern.proofs.on.push_bits.Given as goal
 
 abbrev pub invariant-loop-name : goal.invariant-loop-name

@@ -1,7 +1,7 @@
 -- The set has the names so far.
 use Rattle.std.proofs.Common.{◌≡◌, true, take}
 use Rattle.std.specs.List.{list_all}
-use Rattle.pattern.specs.Lines.{has}
+use Rattle.section_text.specs.Words.{has}
 use Rattle.pattern.proofs.reading.has_all.Given as goal
 
 abbrev pub invariant-loop-name : goal.invariant-loop-name

@@ -1,6 +1,6 @@
 -- The names of the ports are good.
-use Rattle.std.proofs.Common.{subst, sym}
-use Rattle.section_text.specs.declared.ports.PortNames.{PortNames}
+use Rattle.std.proofs.Common.{Option, subst, sym}
+use Rattle.section_text.specs.Ports.{Named, named_ports}
 use Rattle.section_text.proofs.Good.{reads_faultless}
 use Rattle.pattern.specs.Lines.{AreNamed, parts_of}
 use Rattle.pattern.specs.Layout.{Pattern}
@@ -10,5 +10,5 @@ use Rattle.pattern.proofs.reading.read_layout.Goals as goal
 pub returns-in-Ok-read_section-clause-names : goal.returns-in-Ok-read_section-clause-names
 returns-in-Ok-read_section-clause-names c =
     let read = faultless_named _ _ _ (reads_faultless _ _ _ _ _ c.in-Ok-read_section.ensures.reads) in
-    subst (λ (q : Pattern). AreNamed c.args.ports.now (parts_of q)) (sym c.into_layout.ensures)
-    (subst (λ (ports : PortNames). AreNamed ports (parts_of c.read_section.new.section.layout)) c.in-Ok.ensures.ports read)
+    subst (λ (q : Pattern). AreNamed (named_ports c.args.ports.now) (parts_of q)) (sym c.into_layout.ensures)
+    (subst (λ (ports : Option Named). AreNamed ports (parts_of c.read_section.new.section.layout)) c.in-Ok.ensures.ports read)

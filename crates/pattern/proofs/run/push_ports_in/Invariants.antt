@@ -1,6 +1,6 @@
 use Rattle.std.proofs.Common.{◌≡◌, ◌++◌, take, map}
 use Rattle.std.specs.List.{filter}
-use Rattle.pattern.specs.Lines.{has}
+use Rattle.section_text.specs.Words.{has}
 use Rattle.pattern.proofs.run.push_ports_in.Given as goal
 
 abbrev pub invariant-loop-port : goal.invariant-loop-port

@@ -2,7 +2,7 @@ use Rattle.std.proofs.Common.{◌≡◌, ℤ, sym, subst}
 use Rattle.bbm_rule.specs.Board.{live}
 use Rattle.pattern.specs.Layout.{Pattern, start}
 use Rattle.pattern.specs.LayoutView.{pattern_of}
-use Rattle.pattern.specs.Lines.{has}
+use Rattle.section_text.specs.Words.{has}
 use Rattle.pattern.specs.Run.{LeavesAt, EndsWith}
 use Rattle.pattern.proofs.InsideLemmas.{size_sides}
 use Rattle.pattern.proofs.RunLemmas.{leaves_at, ends_with}

@@ -5,7 +5,7 @@ use Rattle.pattern.specs.declared.parts.Rectangle.{Rectangle}
 use Rattle.pattern.specs.declared.parts.Port.{Port}
 use Rattle.pattern.specs.Layout.{Pattern, in_cells, rectangle_cells}
 use Rattle.pattern.specs.LayoutView.{pattern_of}
-use Rattle.pattern.specs.Lines.{has}
+use Rattle.section_text.specs.Words.{has}
 use Rattle.pattern.specs.Run.{start_list}
 use Rattle.pattern.proofs.InsideLemmas.{size_sides, begins_inside, mirrors_fit}
 use Rattle.pattern.proofs.StartLemmas.{in_start_list, start_list_made}

@@ -2,7 +2,8 @@
 use Rattle.std.proofs.Common.{◌≡◌, ◌&&◌, true, false, None, Some, List, ℕ, sym, ap, ap₂, subst, ◌∙◌}
 use Rattle.std.specs.List.{list_all}
 use Rattle.pattern.specs.ReadingState.{ReadingState}
-use Rattle.pattern.specs.Lines.{has, parts_of, missing_fault}
+use Rattle.section_text.specs.Words.{has}
+use Rattle.pattern.specs.Lines.{parts_of, missing_fault}
 use Rattle.pattern.proofs.ReadingLemmas.{none_missing, missing_by}
 use Rattle.pattern.proofs.reading.ReadingSection.missing.Goals as goal
 

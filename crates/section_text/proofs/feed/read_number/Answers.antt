@@ -1,7 +1,7 @@
 use Rattle.std.proofs.Common.{◌≡◌, ◌<◌, ◌^◌, true, sym, ◌∙◌, arith}
 use Rattle.section_text.specs.Words.{is_number, read_on}
 use Rattle.section_text.proofs.Numbers.{number_small}
-use Rattle.section_text.proofs.feed.number_from.Goals as goal
+use Rattle.section_text.proofs.feed.read_number.Goals as goal
 
 pub returns-then-is_number_word-clause-small : goal.returns-then-is_number_word-clause-small
 returns-then-is_number_word-clause-small c =

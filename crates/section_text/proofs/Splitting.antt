@@ -1,0 +1,73 @@
+-- The words of a line, one after the other.
+use Rattle.std.proofs.Common.{◌≡◌, ◌==◌, if◌then◌else◌, ℕ, suc, ◌+◌, ◌-◌, ◌<◌, ◌≤◌, Bool, true, false, cond, List, [], ◌∷◌, take, drop, length, Option, Some, None, nat_lt, refl, sym, ap, ◌∙◌, arith}
+use Rattle.std.specs.List.{All, position, position_or_len}
+use Rattle.std.proofs.lemmas.List.{length-drop, take_all}
+use Rattle.std.proofs.lemmas.Bool.Decides.{nat_tests}
+use Rattle.std.proofs.lemmas.List.Splits.{length-slice_split, slice_split_first, slice_split_none}
+use Rattle.std.proofs.lemmas.List.Sums.{fails_before_first}
+use Rattle.section_text.specs.Words.{is_space, words_of, five}
+
+-- where the first space is
+found_by : (b : Bool) (p i : ℕ) → cond b (Some p) None ≡ Some i → (b ≡ true) × (p ≡ i)
+found_by true p i e = (refl, cc)
+found_by false p i e = absurd cc
+
+missed_by : (b : Bool) (p : ℕ) → cond b (Some p) None ≡ None → b ≡ false
+missed_by true p e = absurd cc
+missed_by false p e = refl
+
+below : (a b : ℕ) → nat_lt a b ≡ true → a < b
+below a b e = grind (arith, nat_tests)
+
+not_below : (a b : ℕ) → nat_lt a b ≡ false → b ≤ a
+not_below a b e = grind (arith, nat_tests)
+
+pub split_some : (line : List ℕ) (i : ℕ) → position is_space line ≡ Some i → words_of line ≡ take i line ∷ words_of (take (length line - (i + 1)) (drop (i + 1) line))
+split_some line i e =
+    let at = found_by (nat_lt (position_or_len is_space line) (length line)) (position_or_len is_space line) i e in
+    let within = below (position_or_len is_space line) (length line) at.0 in
+    slice_split_first is_space line 0 within
+    ∙ ap (λ k. take k line ∷ words_of (drop (k + 1) line)) at.1
+    ∙ ap (λ l. take i line ∷ words_of l) (sym (take_all (length line - (i + 1)) (drop (i + 1) line) (let n = length-drop (i + 1) line in omega (arith, n))))
+
+pub split_none : (line : List ℕ) → position is_space line ≡ None → words_of line ≡ line ∷ []
+split_none line e =
+    let past = not_below (position_or_len is_space line) (length line) (missed_by (nat_lt (position_or_len is_space line) (length line)) (position_or_len is_space line) e) in
+    slice_split_none is_space line (λ k d h. fails_before_first is_space line k d (omega (arith, past, h)))
+
+-- ---- lines of fewer or more words than five
+
+pub one_word : (l : List ℕ) → words_of l ≡ l ∷ [] → None ≡ five (words_of l)
+unfolding five
+one_word l a = rw a refl
+
+pub two_words : (l w r : List ℕ) → words_of l ≡ w ∷ words_of r → words_of r ≡ r ∷ [] → None ≡ five (words_of l)
+unfolding five
+two_words l w r a b = rw (a, b) refl
+
+pub three_words : (l w r v s : List ℕ) → words_of l ≡ w ∷ words_of r → words_of r ≡ v ∷ words_of s → words_of s ≡ s ∷ [] → None ≡ five (words_of l)
+unfolding five
+three_words l w r v s a b c = rw (a, b, c) refl
+
+pub four_words : (l w r v s u t : List ℕ) → words_of l ≡ w ∷ words_of r → words_of r ≡ v ∷ words_of s → words_of s ≡ u ∷ words_of t → words_of t ≡ t ∷ [] → None ≡ five (words_of l)
+unfolding five
+four_words l w r v s u t a b c d = rw (a, b, c, d) refl
+
+-- a line has a word
+some_words : (l : List ℕ) → 0 < length (words_of l)
+some_words l = let n = length-slice_split is_space l in omega (arith, n)
+
+not_five : (n : ℕ) → (suc (suc (suc (suc (suc (suc n))))) == 5) ≡ false
+not_five n = grind arith
+
+six_or_more : (zs : List (List ℕ)) → 0 < length zs → (ws : List (List ℕ)) → None ≡ (if suc (suc (suc (suc (suc (length zs))))) == 5 then Some ws else None)
+six_or_more [] h ws = absurd (omega arith)
+six_or_more (z ∷ zs) h ws = rw (not_five (length zs)) refl
+
+pub many_words : (l w r v s u t x y z y' : List ℕ) → words_of l ≡ w ∷ words_of r → words_of r ≡ v ∷ words_of s → words_of s ≡ u ∷ words_of t → words_of t ≡ x ∷ words_of y → words_of y ≡ z ∷ words_of y' → None ≡ five (words_of l)
+unfolding five
+many_words l w r v s u t x y z y' a b c d e = rw (a, b, c, d, e) (six_or_more (words_of y') (some_words y') (w ∷ v ∷ u ∷ x ∷ z ∷ words_of y'))
+
+pub five_are : (l w r v s u t x y : List ℕ) → words_of l ≡ w ∷ words_of r → words_of r ≡ v ∷ words_of s → words_of s ≡ u ∷ words_of t → words_of t ≡ x ∷ words_of y → words_of y ≡ y ∷ [] → Some (w ∷ v ∷ u ∷ x ∷ y ∷ []) ≡ five (words_of l)
+unfolding five
+five_are l w r v s u t x y a b c d e = rw (a, b, c, d, e) refl

@@ -1,0 +1,25 @@
+//! How words are written.
+ghost use Rattle.std.specs.Prelude.{◌≡◌, ◌++◌, ℕ, List, OnOk, OnErr};
+ghost use Rattle.std.specs.Fmt.{decimal};
+ghost use Rattle.section_text.specs.Spelling.{spaced};
+
+use std::alloc::{AllocError, Global};
+
+/// Writes a space and a word at the end of `out`. After want of memory a part of them may stand there.
+pub fn print_word(out: &mut Vec<u8>, word: &[u8]) -> Result<(), AllocError>
+    ensures ok { OnOk result (out.new.items ≡ out.old.items ++ spaced word.now) }
+    ensures err { OnErr result ((part : List ℕ) × (out.new.items ≡ out.old.items ++ part)) }
+{
+    out.push(b' ')?;
+    out.extend_from_slice(word)?;
+    Ok(())
+}
+
+/// Writes a space and a number, in decimal, at the end of `out`. After want of memory a part of them may stand there.
+pub fn print_number(alloc: Global, out: &mut Vec<u8>, number: u32) -> Result<(), AllocError>
+    ensures ok { OnOk result (out.new.items ≡ out.old.items ++ spaced (decimal number)) }
+    ensures err { OnErr result ((part : List ℕ) × (out.new.items ≡ out.old.items ++ part)) }
+{
+    let digits = number.to_string(alloc)?;
+    print_word(out, digits.as_bytes())
+}
