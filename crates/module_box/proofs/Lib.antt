@@ -5,3 +5,5 @@ pub mod BoxCells
 pub mod Tilings
 pub mod NoTilings
 pub mod Rising
+pub mod WireLists
+pub mod LocalNets

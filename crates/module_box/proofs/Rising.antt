@@ -184,7 +184,7 @@ pub event_found : (es : List Event) (i : ℕ) (h : Event) (m : Moment) → h.at 
 event_found es i h m same e f = subst (λ (m : Moment). event_at es m.time m.cell.x m.cell.y ≡ Some h.signal) same (event_some es i h e f)
 
 -- ---- rising lists that grow
-pushed : {A : Type 0} (xs : List A) (x : A) (i : ℕ) (a : A) → slice_get (xs ++ x ∷ []) i ≡ Some a → (slice_get xs i ≡ Some a) ⊎ ((i ≡ length xs) × (x ≡ a))
+pub pushed : {A : Type 0} (xs : List A) (x : A) (i : ℕ) (a : A) → slice_get (xs ++ x ∷ []) i ≡ Some a → (slice_get xs i ≡ Some a) ⊎ ((i ≡ length xs) × (x ≡ a))
 pushed [] x zero a e = inr (refl, cc)
 pushed [] x (suc i) a e = inl e
 pushed (y ∷ xs) x zero a e = inl e

@@ -4,4 +4,7 @@ pub mod OwnersFields
 pub mod Moments
 pub mod Schedules
 pub mod ScheduleFields
+pub mod Locals
+pub mod LocalGates
+pub mod LocalsFields
 pub mod Laws

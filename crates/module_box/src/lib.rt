@@ -1,4 +1,4 @@
-//! Boxes of cells that tile a rectangle, and signals at cells and times.
+//! Boxes of cells that tile a rectangle, signals at cells and times, and the wires that a module knows.
 //!
 //! A module of a pattern has a box of cells. The ring of a box is its outermost cells, its halo the cells around it: as no
 //! block of the Margolus neighbourhood is wider than two cells, what a step makes in a box depends on the box and its halo
@@ -6,15 +6,20 @@
 //! such box by itself.
 //!
 //! `specs/Boxes.antt` has these definitions, on the unbounded plane.
+//!
+//! A module cuts some wires of a circuit and uses some of its gates. It knows the wires that it cuts and those that these gates
+//! define, by numbers of its own. `specs/Locals.antt` says which lines name such wires and gates, and what their numbers mean.
 #![tactic(auto)]
 
 mod boxes;
 pub mod laws;
+mod locals;
 mod owners;
 mod schedules;
 mod tile;
 
 pub use boxes::Box2;
+pub use locals::Locals;
 pub use owners::Owners;
 pub use schedules::{Event, Held, Moment, Schedule, Signal, compare_cells};
 pub use tile::{TileFault, owner_table};

@@ -1,0 +1,234 @@
+//! The wires that a module knows, and the gates that it uses, numbered anew.
+
+ghost use Rattle.std.specs.Prelude.{◌≡◌, ◌==◌, ◌<◌, ◌≤◌, ◌^◌, ◌++◌, map, length, position, is_some, slice_get, slice_index, IsTrue, Some, OnOk, IfOk, IfSome};
+ghost use Rattle.std.specs.List.{All};
+ghost use Rattle.circuit.specs.Bridge.{netlist_of};
+ghost use Rattle.circuit.specs.Gates.{uses};
+ghost use Rattle.circuit.specs.Meaning.{Gate, wires};
+ghost use Rattle.circuit.specs.Wiring.{gate_of};
+ghost use Rattle.module_box.specs.LocalGates.{kept_gate};
+ghost use Rattle.module_box.specs.Locals.{AreDifferent, AreLocalLines, AreLocalsOf, circuit_wire, is_among, local_wires};
+
+use circuit::{Circuit, GateKind, GateNo, GateWires, WireNo};
+use indexmap::IndexSet;
+use std::alloc::{AllocError, Global};
+use std::marker::Model;
+
+// A gate over the wires that a module knows, by their numbers there: the wires that it uses, and the first of those that it
+// defines, which are numbered one after the other.
+#[derive(Clone, Copy, Debug)]
+struct LocalGate {
+    kind: GateKind,
+    ins: [u16; 4],
+    first: u16,
+}
+
+/// The wires that a module knows: its cuts, then the outputs of the gates that it uses, numbered from 0 in this order. With
+/// them those gates, over these numbers.
+#[derive(Debug, Drop)]
+pub struct Locals {
+    given: usize,
+    gates: Vec<LocalGate>,
+    circuit_wires: IndexSet<u16>,
+    circuit_gates: Vec<GateNo>,
+}
+
+impl Model for Locals {
+    ghost use Rattle.module_box.specs.Locals.{LocalNet};
+
+    ghost Value = { LocalNet };
+
+    ghost use Rattle.module_box.specs.LocalsFields.{local_net, IsLocalNet};
+
+    ghost view = { local_net };
+
+    ghost invariant = { IsLocalNet };
+}
+
+// Adds wires that are not known yet.
+fn add_wires(known: &mut IndexSet<u16>, wires: &[WireNo]) -> Result<(), AllocError>
+    requires { AreDifferent (known.old.keys ++ wires.now) }
+    ensures { OnOk result (known.new.keys ≡ known.old.keys ++ wires.now) }
+{
+    for wire in wires {
+        known.insert(wire.number())?;
+    }
+    Ok(())
+}
+
+// The number here of a wire that is known.
+fn local_number(known: &IndexSet<u16>, wire: WireNo) -> u16
+    requires few { length known.now.keys ≤ 2 ^ 16 }
+    requires known { IsTrue (is_among known.now.keys wire) }
+    ensures within { result < length known.now.keys }
+    ensures wire { slice_index known.now.keys result ≡ wire }
+{
+    match known.get_index_of(&wire.number()) {
+        Some(index) => index as u16,
+        None => unreachable!(),
+    }
+}
+
+// The gate over the wires that are known. Those that it defines come next.
+fn local_gate(known: &IndexSet<u16>, gate: GateWires) -> LocalGate
+    requires few { length known.now.keys < 2 ^ 16 }
+    requires known { All (λ w. IsTrue (is_among known.now.keys w)) (gate_of gate).ins }
+    requires fits { length (gate_of gate).ins ≡ uses (gate_of gate).kind }
+    ensures kind { (kept_gate result).kind ≡ (gate_of gate).kind }
+    ensures within { All (λ w. w < length known.now.keys) (kept_gate result).ins }
+    ensures ins { map (slice_index known.now.keys) (kept_gate result).ins ≡ (gate_of gate).ins }
+    ensures first { result.first ≡ length known.now.keys }
+{
+    let mut ins = [0; 4];
+    for (place, wire) in gate.ins().iter().enumerate() {
+        ins[place] = local_number(known, *wire);
+    }
+    LocalGate {
+        kind: gate.kind(),
+        ins,
+        first: known.len() as u16,
+    }
+}
+
+impl Locals {
+    /// The wires and gates that the lines of a module name: the wires of the circuit that it cuts, at most 10, and the gates
+    /// that it uses, at most 64, in the order of the circuit. Each of them uses wires that are cut or that one before it
+    /// defines, and no wire is cut twice, or cut and defined. `AllocError` is want of memory.
+    pub fn new(
+        alloc: Global,
+        circuit: &Circuit,
+        cuts: &[WireNo],
+        gates: &[GateNo],
+    ) -> Result<Locals, AllocError>
+        requires { AreLocalLines (netlist_of circuit.now) cuts.now gates.now }
+        ensures locals { IfOk result (λ l. AreLocalsOf (netlist_of circuit.now) l) }
+        ensures wires { IfOk result (λ l. l.circuit_wires ≡ local_wires (netlist_of circuit.now) cuts.now gates.now) }
+        ensures gates { IfOk result (λ l. l.circuit_gates ≡ gates.now) }
+        ensures given { IfOk result (λ l. l.netlist.given ≡ length cuts.now) }
+    {
+        let gate_count = circuit.gates();
+        let mut known = IndexSet::new(alloc);
+        let mut local_gates = Vec::with_capacity(alloc, gates.len())?;
+        add_wires(&mut known, cuts)?;
+        'gates: for used in gates {
+            prove!((used.number() as usize) < gate_count);
+            let gate = circuit.gate(*used);
+            let local = local_gate(&known, gate);
+            local_gates.push(local)?;
+            add_wires(&mut known, gate.outs())?;
+        }
+        Ok(Locals {
+            given: cuts.len(),
+            gates: local_gates,
+            circuit_wires: known,
+            circuit_gates: gates.to_vec(alloc)?,
+        })
+    }
+
+    /// How many wires the module knows, at most 266: 10 cuts, and 4 wires of each of 64 gates.
+    pub fn wires(&self) -> usize
+        ensures count { result ≡ length self.now.circuit_wires }
+        ensures sized { result ≡ wires self.now.netlist }
+        ensures few { result ≤ 266 }
+    {
+        self.circuit_wires.len()
+    }
+
+    /// The number here, below `wires()`, of a wire of the circuit, if the module knows it.
+    pub fn local(&self, wire: WireNo) -> Option<u16>
+        ensures place { result ≡ position (λ w. w == wire) self.now.circuit_wires }
+        ensures found { is_some result ≡ is_among self.now.circuit_wires wire }
+        ensures within { IfSome result (λ i. i < length self.now.circuit_wires) }
+        ensures same { IfSome result (λ i. circuit_wire self.now i ≡ wire) }
+    {
+        let index = self.circuit_wires.get_index_of(&wire.number())?;
+        Some(index as u16)
+    }
+}
+
+#[cfg(test)]
+mod tests {
+    use super::*;
+    use circuit::Draft;
+    use section_text::Name;
+    use std::process::Abort;
+    use std::test::Fail;
+
+    fn name_of(rt: &impl Abort, word: &[u8]) -> Name {
+        Name::of(word).expect(rt, "a name")
+    }
+
+    // inputs p and q are wires 0 and 1, the gates' outputs a to h are wires 2 to 9
+    fn small_circuit(rt: &impl Abort, alloc: Global) -> Result<Circuit, Fail>
+        ensures { IfOk result (λ c. wires (netlist_of c) ≡ 10) }
+    {
+        let [p, q, a, b, c, d, e, f, g, h] = [
+            b"p", b"q", b"a", b"b", b"c", b"d", b"e", b"f", b"g", b"h",
+        ].map(|word| name_of(rt, word));
+        let mut draft = Draft::new(alloc);
+        assert!(rt; draft.takes_inputs());
+        draft.add_input(p)?;
+        assert!(rt; draft.takes_inputs());
+        draft.add_input(q)?;
+        draft.add_gate(GateKind::Interact, &[p, q], &[a, b, c, d])?;
+        draft.add_gate(GateKind::Switch, &[b, c], &[e, f, g])?;
+        draft.add_gate(GateKind::Delay(5), &[f], &[h])?;
+        for wire in [a, d, e, g, h] {
+            draft.add_output(wire)?;
+        }
+        let Ok(circuit) = draft.finish() else {
+            panic!(rt; "an unused wire");
+        };
+        assert!(rt; circuit.wires() == 10);
+        Ok(circuit)
+    }
+
+    // asserts that the gate of this number uses and defines these wires
+    fn expect_gate(
+        rt: &impl Abort,
+        circuit: &Circuit,
+        gate: GateNo,
+        ins: &[WireNo],
+        outs: &[WireNo],
+    )
+        ensures { (g : Gate) × (slice_get (netlist_of circuit.now).gates gate ≡ Some g) × (g.ins ≡ ins.now) × (g.outs ≡ outs.now) }
+    {
+        assert!(rt; (gate.number() as usize) < circuit.gates());
+        let wires = circuit.gate(gate);
+        assert!(rt; wires.ins() == ins);
+        assert!(rt; wires.outs() == outs);
+    }
+
+    // a module that cuts c and b, and uses the switch and the delay
+    fn small_locals(rt: &impl Abort, alloc: Global) -> Result<Locals, Fail> {
+        let circuit = small_circuit(rt, alloc)?;
+        let switch = GateNo::of(1);
+        let delay = GateNo::of(2);
+        let [b, c, e, f] = [WireNo::of(3), WireNo::of(4), WireNo::of(6), WireNo::of(7)];
+        let [g, h] = [WireNo::of(8), WireNo::of(9)];
+        expect_gate(rt, &circuit, switch, &[b, c], &[e, f, g]);
+        expect_gate(rt, &circuit, delay, &[f], &[h]);
+        let locals = Locals::new(alloc, &circuit, &[c, b], &[switch, delay])?;
+        Ok(locals)
+    }
+
+    #[test]
+    fn cuts_then_outputs(rt: HostRuntime) -> Result<(), Fail> {
+        let locals = small_locals(&rt, rt.alloc())?;
+        assert_eq!(rt; locals.wires(), 6);
+        for (wire, local) in [
+            (4, Some(0)),
+            (3, Some(1)),
+            (6, Some(2)),
+            (7, Some(3)),
+            (8, Some(4)),
+            (9, Some(5)),
+            (0, None),
+            (2, None),
+            (5, None),
+        ] {
+            assert_eq!(rt; locals.local(WireNo::of(wire)), local, "wire {wire}");
+        }
+        Ok(())
+    }
+}
