@@ -1,0 +1,17 @@
+pub mod KnownLemmas
+pub mod BorderLines
+pub mod BuiltLemmas
+pub mod CountLemmas
+pub mod Growing
+pub mod Keeping
+pub mod Lists
+pub mod LocalLemmas
+pub mod ModuleLemmas
+pub mod ModulePushes
+pub mod OrderLemmas
+pub mod PortLemmas
+pub mod Soundness
+pub mod StarLemmas
+pub mod TileLemmas
+mod Spelling
+mod RoundTrip

@@ -1,0 +1,53 @@
+-- Elements of lists, by their places.
+use Rattle.std.proofs.Common.{◌≡◌, ◌⊎◌, ℕ, zero, suc, Bool, true, false, ◌||◌, List, [], ◌∷◌, ◌++◌, Option, Some, refl, sym, inl, inr}
+use Rattle.std.specs.Prelude.{slice_get}
+use Rattle.std.specs.List.{list_any}
+
+pub or_parts : (a b : Bool) → (a || b) ≡ true → (a ≡ true) ⊎ (b ≡ true)
+or_parts true b h = inl refl
+or_parts false b h = inr h
+
+pub or_left : (a b : Bool) → a ≡ true → (a || b) ≡ true
+or_left true b h = refl
+or_left false b h = absurd cc
+
+pub or_right : (a b : Bool) → b ≡ true → (a || b) ≡ true
+or_right true b h = refl
+or_right false b h = h
+
+pub same_truth : (a b : Bool) → (a ≡ true → b ≡ true) → (b ≡ true → a ≡ true) → a ≡ b
+same_truth true true f g = refl
+same_truth true false f g = sym (f refl)
+same_truth false true f g = g refl
+same_truth false false f g = refl
+
+pub some_is : {A : Type 0} (a b : A) → ◌≡◌ {A = Option A} (Some a) (Some b) → a ≡ b
+some_is a b e = cc
+
+-- an element that passes a test
+pub record IsPassed {A : Type 0} (test : A → Bool) (xs : List A) : Type 0 where
+  pub place : ℕ
+  pub element : A
+  pub stands : slice_get xs place ≡ Some element
+  pub passes : test element ≡ true
+
+one_later : {A : Type 0} (test : A → Bool) (x : A) (xs : List A) → IsPassed test xs → IsPassed test (x ∷ xs)
+one_later test x xs p = record { place = suc p.place; element = p.element; stands = p.stands; passes = p.passes }
+
+pub passed : {A : Type 0} (test : A → Bool) (xs : List A) → list_any test xs ≡ true → IsPassed test xs
+passed test [] h = absurd cc
+passed test (x ∷ xs) h = elim (or_parts (test x) (list_any test xs) h) [
+  | inl here ↦ record { place = 0; element = x; stands = refl; passes = here }
+  | inr later ↦ one_later test x xs (passed test xs later)
+]
+
+pub any_at : {A : Type 0} (test : A → Bool) (xs : List A) (i : ℕ) (a : A) → slice_get xs i ≡ Some a → test a ≡ true → list_any test xs ≡ true
+any_at test [] i a e h = absurd cc
+any_at test (x ∷ xs) zero a e h = rw (some_is x a e, h) refl
+any_at test (x ∷ xs) (suc i) a e h = or_right (test x) (list_any test xs) (any_at test xs i a e h)
+
+-- an element keeps its place when others come behind it
+pub kept : {A : Type 0} (xs ys : List A) (i : ℕ) (a : A) → slice_get xs i ≡ Some a → slice_get (xs ++ ys) i ≡ Some a
+kept [] ys i a e = absurd cc
+kept (x ∷ xs) ys zero a e = e
+kept (x ∷ xs) ys (suc i) a e = kept xs ys i a e

@@ -1,0 +1,148 @@
+-- Lines that are good one after the other make good modules.
+use Rattle.std.proofs.Common.{◌≡◌, ◌⊎◌, ℕ, zero, suc, ◌+◌, ◌<◌, ◌≤◌, ℤ, Bool, true, false, not, ◌&&◌, List, [], ◌∷◌, ◌++◌, length, Some, None, refl, sym, ap, subst, ◌∙◌, inl, inr, arith, pos, negsuc, append-nil, append_assoc}
+use Rattle.std.specs.Prelude.{slice_get}
+use Rattle.std.specs.List.{list_all}
+use Rattle.std.proofs.lemmas.Bool.{and_parts, true≢false}
+use Rattle.std.proofs.lemmas.Bool.Decides.{nat_tests}
+use Rattle.bbm_rule.specs.Spans.{in_span}
+use Rattle.std.proofs.lemmas.Option.{slice_get_within}
+use Rattle.bbm_rule.specs.declared.block.Cell.{Cell}
+use Rattle.pattern.specs.Layout.{in_cells, is_at}
+use Rattle.pattern.specs.declared.parts.Port.{Port}
+use Rattle.pattern.specs.declared.parts.Size.{Size}
+use Rattle.section_text.proofs.Good.{AreFaultless, IsFaultless}
+use Rattle.module_box.specs.Boxes.{in_box, Tile}
+use Rattle.module_box.specs.Tiling.{IsInside}
+use Rattle.module_box.specs.declared.boxes.Box2.{Box2}
+use Rattle.certificate.specs.Entries.{Setting, ModuleLines, with_line, change_last, last_of, add_line, modules_of, present, areas, known}
+use Rattle.certificate.specs.Rules.{whole, box_cells, in_boxes, is_local, is_incomplete, lacks_port, leaves_gap, entry_fault, end_fault}
+use Rattle.certificate.specs.Grammars.{certificate_grammar}
+use Rattle.certificate.specs.Modules.{IsModule, HasPorts, AreModules}
+use Rattle.certificate.specs.BuilderView.{AreSound}
+use Rattle.certificate.specs.declared.entry.Entry.{Entry}
+use Rattle.certificate.specs.declared.entry.Entry.TheVariants.{Module, Cut, Use, Edge, Halo}
+use Rattle.certificate.proofs.BuiltLemmas.{good_module, line_sound, module_sound, sound_none, or_false, last_is}
+use Rattle.certificate.proofs.Growing.{modules_push}
+use Rattle.certificate.proofs.Keeping.{good_line, IsGoodLine}
+use Rattle.certificate.proofs.Lists.{any_at, or_parts, passed, some_is}
+use Rattle.certificate.proofs.ModulePushes.{no_code, new_wire, good_use, cut_pushed, use_pushed, edge_pushed, halo_pushed}
+use Rattle.certificate.proofs.PortLemmas.{cell_same, in_box_cells}
+
+module _ (g : Setting) (es : List Entry) (sound : AreSound g (modules_of es)) where
+  -- one more line of the last module
+  inner_sound : (i : Entry) → add_line (modules_of es) i ≡ change_last (with_line i) (modules_of es) → (good : IsGoodLine g es i) → (IsModule g good.module_lines → IsModule g (with_line i good.module_lines)) → AreSound g (modules_of (es ++ i ∷ []))
+  inner_sound i step good grows =
+      subst (AreSound g) (sym (modules_push es i ∙ step))
+      (line_sound g (modules_of es) i sound (λ m some. subst (λ k. IsModule g k → IsModule g (with_line i k)) (some_is good.module_lines m (sym good.last ∙ some)) grows))
+
+  sound_push : (i : Entry) → entry_fault g es i ≡ None → AreSound g (modules_of (es ++ i ∷ []))
+  unfolding entry_fault add_line
+  sound_push (Module b) e =
+      subst (AreSound g) (sym (modules_push es (Module b))) (module_sound g (modules_of es) b sound (good_module g (modules_of es) (present es) b e))
+  sound_push (Cut n) e =
+      let good = good_line g es (Cut n) e in
+      let words = new_wire g.circuit _ _ n good.words in
+      inner_sound (Cut n) refl good (λ is. cut_pushed g good.module_lines is n good.follows words.1.wire words.1.named words.0 words.1.new)
+  sound_push (Use k) e =
+      let good = good_line g es (Use k) e in
+      let words = good_use g.circuit _ _ k good.words in
+      inner_sound (Use k) refl good (λ is. use_pushed g good.module_lines k is good.follows words.0 words.1)
+  sound_push (Edge d) e =
+      let good = good_line g es (Edge d) e in
+      inner_sound (Edge d) refl good (λ is. edge_pushed g good.module_lines is d good.follows good.words)
+  sound_push (Halo d) e =
+      let good = good_line g es (Halo d) e in
+      inner_sound (Halo d) refl good (λ is. halo_pushed g good.module_lines is d good.follows good.words)
+
+sound_all : (g : Setting) (v : ℕ) (more before : List Entry) → AreSound g (modules_of before) → AreFaultless (certificate_grammar g) v before more → AreSound g (modules_of (before ++ more))
+sound_all g v [] before sound good = subst (λ l. AreSound g (modules_of l)) (sym (append-nil before)) sound
+sound_all g v (i ∷ more) before sound good =
+    subst (λ l. AreSound g (modules_of l)) (append_assoc before (i ∷ []) more) (sound_all g v more (before ++ i ∷ []) (sound_push g before sound i good.0) good.1)
+
+none_sound : (g : Setting) → AreSound g (modules_of [])
+unfolding modules_of
+none_sound g = sound_none g []
+
+-- ---- the end
+
+not_false : (a : Bool) → not a ≡ false → a ≡ true
+not_false true h = refl
+not_false false h = sym h
+
+-- a test that all cells of a list pass
+cell_passes : (test : Cell → Bool) (cells : List Cell) (d : Cell) → list_all test cells ≡ true → in_cells cells d.x d.y ≡ true → test d ≡ true
+cell_passes test [] d all there = absurd cc
+cell_passes test (c ∷ cells) d all there =
+    let both = and_parts (test c) (list_all test cells) all in
+    elim (or_parts (is_at c d.x d.y) (in_cells cells d.x d.y) there) [
+      | inl here ↦ sym (ap test (cell_same c d here)) ∙ both.0
+      | inr more ↦ cell_passes test cells d both.1 more
+    ]
+
+span_inside : (a n m : ℕ) (x : ℤ) → a + n ≤ m → in_span a n x ≡ true → in_span 0 m x ≡ true
+unfolding in_span
+span_inside a n m (pos x) fits e = grind (arith, nat_tests)
+span_inside a n m (negsuc x) fits e = cc
+
+box_inside : (s : Size) (b : Box2) (x y : ℤ) → IsInside s.w s.h b → in_box b x y ≡ true → in_box (whole s) x y ≡ true
+unfolding in_box
+box_inside s b x y fits h =
+    let both = and_parts (in_span b.x b.w x) (in_span b.y b.h y) h in
+    rw (span_inside b.x b.w s.w x fits.right both.0, span_inside b.y b.h s.h y fits.bottom both.1) refl
+
+area_at : (ms : List ModuleLines) (i : ℕ) (b : Box2) → slice_get (areas ms) i ≡ Some b → (m : ModuleLines) × (slice_get ms i ≡ Some m) × (m.area ≡ b)
+area_at [] i b e = absurd cc
+area_at (m ∷ ms) zero b e = (m, refl, some_is m.area b e)
+area_at (m ∷ ms) (suc i) b e = area_at ms i b e
+
+at_cell : ℤ → ℤ → Cell
+at_cell x y = record { x = x; y = y }
+
+module _ (g : Setting) (ms : List ModuleLines) (sound : AreSound g ms) where
+  tiles : leaves_gap g.size (areas ms) ≡ false → Tile (whole g.size) (areas ms)
+  unfolding at_cell
+  tiles full = record {
+    covered = λ x y h.
+        let there : in_boxes (areas ms) x y ≡ true = cell_passes (λ c. in_boxes (areas ms) c.x c.y) (box_cells (whole g.size)) (at_cell x y) (not_false _ full) (in_box_cells (whole g.size) x y ∙ h) in
+        let p = passed (λ (b : Box2). in_box b x y) (areas ms) there in
+        (p.place, p.element, p.stands, p.passes);
+    once = sound.apart.once;
+    inside = λ x y i b e h.
+        let m = area_at ms i b e in
+        box_inside g.size b x y (subst (IsInside g.size.w g.size.h) m.2 (sound.each i m.0 m.1).inside) h;
+  }
+
+  has_ports : (m : ModuleLines) → lacks_port g m ≡ false → HasPorts g m
+  unfolding lacks_port
+  has_ports m none = record {
+    local = λ i p at inside. known_by (is_local g.circuit (known g.circuit m) p.name)
+        (λ unknown. true≢false (sym (any_at (λ (q : Port). in_box m.area q.cell.x q.cell.y && not (is_local g.circuit (known g.circuit m) q.name)) g.ports i p at (rw (inside, unknown) refl)) ∙ none));
+  }
+    where
+      known_by : (b : Bool) → (b ≡ false → ⊥) → b ≡ true
+      known_by true f = refl
+      known_by false f = absurd (f refl)
+
+  here_or_before : (i n : ℕ) → i < n → (i + 1 < n) ⊎ (i + 1 ≡ n)
+  here_or_before i n h = grind arith
+
+  all_ported : is_incomplete g (last_of ms) ≡ false → (k : ℕ) (m : ModuleLines) → slice_get ms k ≡ Some m → lacks_port g m ≡ false
+  all_ported whole k m e = elim (here_or_before k (length ms) (slice_get_within ms k m e)) [
+    | inl lt ↦ sound.ported k m lt e
+    | inr at ↦ ap (is_incomplete g) (sym (last_is ms k m at e)) ∙ whole
+  ]
+
+  pub good_modules : is_incomplete g (last_of ms) ≡ false → leaves_gap g.size (areas ms) ≡ false → AreModules g ms
+  good_modules complete full = record {
+    few = sound.few;
+    each = sound.each;
+    ports = λ k m e. has_ports m (all_ported complete k m e);
+    tile = tiles full;
+  }
+
+pub faultless_modules : (g : Setting) (v : ℕ) (es : List Entry) → IsFaultless (certificate_grammar g) v es → AreModules g (modules_of es)
+unfolding end_fault
+faultless_modules g v es good =
+    let sound = sound_all g v es [] (none_sound g) good.each in
+    let parts = or_false (is_incomplete g (present es)) (leaves_gap g.size (areas (modules_of es))) (no_code _ 11 good.end) in
+    good_modules g (modules_of es) sound parts.0 parts.1

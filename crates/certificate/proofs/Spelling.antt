@@ -1,0 +1,144 @@
+-- Each line of the certificate section is the spelling of its form.
+use Rattle.std.proofs.Common.{◌≡◌, ℕ, true, eqb, List, [], ◌∷◌, length, Option, Some, None, ap, subst, inl, inr}
+use Rattle.std.specs.Prelude.{slice_get, codes}
+use Rattle.std.specs.Fmt.{decimal}
+use Rattle.std.proofs.lemmas.Bool.{eqb-true}
+use Rattle.std.proofs.lemmas.Option.{option_and_then_some, same_Some}
+use Rattle.section_text.specs.Words.{◌>>=◌, words_of, is_at, lone, lone_number, lone_name, name_at, number_at}
+use Rattle.section_text.specs.Section.{ended_line}
+use Rattle.section_text.specs.declared.section.Form.TheVariants.{Header, Item, End}
+use Rattle.section_text.proofs.Spellings.{chosen, passed, number_at_spelled, one_word, two_words, five_words}
+use Rattle.section_text.proofs.WordPlaces.{is_at_is, name_at_is, line_from_words}
+use Rattle.bbm_rule.specs.declared.block.Cell.{Cell}
+use Rattle.module_box.specs.declared.boxes.Box2.{Box2}
+use Rattle.pattern.specs.Layout.{cell}
+use Rattle.pattern.specs.Forms.{cell_from}
+use Rattle.pattern.specs.Text.{coordinate}
+use Rattle.certificate.specs.declared.entry.Border.{Border}
+use Rattle.certificate.specs.declared.entry.Entry.TheVariants.{Module, Cut, Use, Edge, Halo}
+use Rattle.certificate.specs.Forms.{Line, corner_and_sides, area_of, time_at, signal_at, timed_cell, border_of, form_of}
+use Rattle.certificate.specs.Text.{area_words, time_word, signal_word, border_words, form_text}
+
+-- two words are a cell
+record CellAt (ws : List (List ℕ)) (i j : ℕ) (c : Cell) : Type 0 where
+  column : slice_get ws i ≡ Some (decimal (coordinate c.x))
+  row : slice_get ws j ≡ Some (decimal (coordinate c.y))
+
+cell_spelled : (ws : List (List ℕ)) (c : Cell) → cell_from ws 2 ≡ Some c → CellAt ws 2 3 c
+unfolding cell_from
+cell_spelled ws c e =
+    option_and_then_some (λ x. number_at ws 3 >>= λ y. Some (cell x y)) (number_at ws 2) c e (λ x first rest.
+    option_and_then_some (λ y. Some (cell x y)) (number_at ws 3) c rest (λ y second made.
+    subst (CellAt ws 2 3) (same_Some (cell x y) c made) (record { column = number_at_spelled ws 2 x first; row = number_at_spelled ws 3 y second })))
+
+time_spelled : (ws : List (List ℕ)) (i : ℕ) (t : Option ℕ) → time_at ws i ≡ Some t → slice_get ws i ≡ Some (time_word t)
+unfolding time_at
+time_spelled ws i t e =
+    elim (chosen (is_at ws i (codes "*")) _ _ (Some t) e) [
+      | inl p ↦ subst (λ (s : Option ℕ). slice_get ws i ≡ Some (time_word s)) (same_Some None t p.1) (is_at_is ws i (codes "*") p.0)
+      | inr p ↦
+          option_and_then_some (λ n. Some (Some n)) (number_at ws i) t p.1 (λ n found made.
+          subst (λ (s : Option ℕ). slice_get ws i ≡ Some (time_word s)) (same_Some (Some n) t made) (number_at_spelled ws i n found))
+    ]
+
+signal_spelled : (ws : List (List ℕ)) (i : ℕ) (s : Option (List ℕ)) → signal_at ws i ≡ Some s → slice_get ws i ≡ Some (signal_word s)
+unfolding signal_at
+signal_spelled ws i s e =
+    elim (chosen (is_at ws i (codes "1")) _ _ (Some s) e) [
+      | inl p ↦ subst (λ (r : Option (List ℕ)). slice_get ws i ≡ Some (signal_word r)) (same_Some None s p.1) (is_at_is ws i (codes "1") p.0)
+      | inr p ↦
+          option_and_then_some (λ n. Some (Some n)) (name_at ws i) s p.1 (λ n found made.
+          subst (λ (r : Option (List ℕ)). slice_get ws i ≡ Some (signal_word r)) (same_Some (Some n) s made) (name_at_is ws i n found))
+    ]
+
+area_spelled : (ws : List (List ℕ)) (v : List ℕ) (b : Box2) → is_at ws 0 v ≡ true → area_of ws ≡ Some b → ws ≡ v ∷ area_words b
+unfolding area_of corner_and_sides
+area_spelled ws v b at e =
+    let found = passed (eqb (length ws) 5) (corner_and_sides ws) b e in
+    option_and_then_some (λ x. number_at ws 2 >>= λ y. number_at ws 3 >>= λ w. number_at ws 4 >>= λ h. Some (record { x = x; y = y; w = w; h = h })) (number_at ws 1) b found.1 (λ x ex rx.
+    option_and_then_some (λ y. number_at ws 3 >>= λ w. number_at ws 4 >>= λ h. Some (record { x = x; y = y; w = w; h = h })) (number_at ws 2) b rx (λ y ey ry.
+    option_and_then_some (λ w. number_at ws 4 >>= λ h. Some (record { x = x; y = y; w = w; h = h })) (number_at ws 3) b ry (λ w ew rw'.
+    option_and_then_some (λ h. Some (record { x = x; y = y; w = w; h = h })) (number_at ws 4) b rw' (λ h eh made.
+    subst (λ (q : Box2). ws ≡ v ∷ area_words q) (same_Some (record { x = x; y = y; w = w; h = h }) b made)
+    (five_words ws v (decimal x) (decimal y) (decimal w) (decimal h) (eqb-true _ _ found.0) (is_at_is ws 0 v at) (number_at_spelled ws 1 x ex) (number_at_spelled ws 2 y ey) (number_at_spelled ws 3 w ew) (number_at_spelled ws 4 h eh))))))
+
+border_spelled : (ws : List (List ℕ)) (v : List ℕ) (b : Border) → is_at ws 0 v ≡ true → border_of ws ≡ Some b → ws ≡ v ∷ border_words b
+unfolding border_of timed_cell
+border_spelled ws v b at e =
+    let found = passed (eqb (length ws) 5) (timed_cell ws) b e in
+    option_and_then_some (λ t. cell_from ws 2 >>= λ c. signal_at ws 4 >>= λ s. Some (record { time = t; cell = c; signal = s })) (time_at ws 1) b found.1 (λ t timed rest.
+    option_and_then_some (λ c. signal_at ws 4 >>= λ s. Some (record { time = t; cell = c; signal = s })) (cell_from ws 2) b rest (λ c at_cell last.
+    option_and_then_some (λ s. Some (record { time = t; cell = c; signal = s })) (signal_at ws 4) b last (λ s signalled made.
+    let place = cell_spelled ws c at_cell in
+    subst (λ (q : Border). ws ≡ v ∷ border_words q) (same_Some (record { time = t; cell = c; signal = s }) b made)
+    (five_words ws v (time_word t) (decimal (coordinate c.x)) (decimal (coordinate c.y)) (signal_word s) (eqb-true _ _ found.0) (is_at_is ws 0 v at) (time_spelled ws 1 t timed) place.column place.row (signal_spelled ws 4 s signalled)))))
+
+number_spelled : (ws : List (List ℕ)) (v : List ℕ) (n : ℕ) → is_at ws 0 v ≡ true → lone_number ws ≡ Some n → ws ≡ v ∷ decimal n ∷ []
+unfolding lone_number
+number_spelled ws v n at e =
+    let found = passed (eqb (length ws) 2) (number_at ws 1) n e in
+    two_words ws v (decimal n) (eqb-true _ _ found.0) (is_at_is ws 0 v at) (number_at_spelled ws 1 n found.1)
+
+name_spelled : (ws : List (List ℕ)) (v n : List ℕ) → is_at ws 0 v ≡ true → lone_name ws ≡ Some n → ws ≡ v ∷ n ∷ []
+unfolding lone_name
+name_spelled ws v n at e =
+    let found = passed (eqb (length ws) 2) (name_at ws 1) n e in
+    two_words ws v n (eqb-true _ _ found.0) (is_at_is ws 0 v at) (name_at_is ws 1 n found.1)
+
+-- the first word of a form, and the others
+first_of : Line → List ℕ
+first_of (Header version) = codes "certificate"
+first_of (Item (Module b)) = codes "module"
+first_of (Item (Cut n)) = codes "cut"
+first_of (Item (Use k)) = codes "use"
+first_of (Item (Edge b)) = codes "edge"
+first_of (Item (Halo b)) = codes "halo"
+first_of End = codes "end"
+
+others_of : Line → List (List ℕ)
+others_of (Header version) = decimal version ∷ []
+others_of (Item (Module b)) = area_words b
+others_of (Item (Cut n)) = n ∷ []
+others_of (Item (Use k)) = decimal k ∷ []
+others_of (Item (Edge b)) = border_words b
+others_of (Item (Halo b)) = border_words b
+others_of End = []
+
+abbrev SpelledAs : List (List ℕ) → Line → Type 0
+SpelledAs ws f = ws ≡ first_of f ∷ others_of f
+
+form_words : (ws : List (List ℕ)) (f : Line) → form_of ws ≡ Some f → SpelledAs ws f
+unfolding form_of lone first_of others_of
+form_words ws f e =
+    elim (chosen (is_at ws 0 (codes "edge")) _ _ (Some f) e) [
+      | inl p ↦ option_and_then_some (λ b. Some (Item (Edge b))) (border_of ws) f p.1 (λ b found made. subst (SpelledAs ws) (same_Some (Item (Edge b)) f made) (border_spelled ws (codes "edge") b p.0 found))
+      | inr p ↦ elim (chosen (is_at ws 0 (codes "halo")) _ _ (Some f) p.1) [
+        | inl q ↦ option_and_then_some (λ b. Some (Item (Halo b))) (border_of ws) f q.1 (λ b found made. subst (SpelledAs ws) (same_Some (Item (Halo b)) f made) (border_spelled ws (codes "halo") b q.0 found))
+        | inr q ↦ elim (chosen (is_at ws 0 (codes "cut")) _ _ (Some f) q.1) [
+          | inl r ↦ option_and_then_some (λ n. Some (Item (Cut n))) (lone_name ws) f r.1 (λ n found made. subst (SpelledAs ws) (same_Some (Item (Cut n)) f made) (name_spelled ws (codes "cut") n r.0 found))
+          | inr r ↦ elim (chosen (is_at ws 0 (codes "use")) _ _ (Some f) r.1) [
+            | inl s ↦ option_and_then_some (λ k. Some (Item (Use k))) (lone_number ws) f s.1 (λ k found made. subst (SpelledAs ws) (same_Some (Item (Use k)) f made) (number_spelled ws (codes "use") k s.0 found))
+            | inr s ↦ elim (chosen (is_at ws 0 (codes "module")) _ _ (Some f) s.1) [
+              | inl t ↦ option_and_then_some (λ b. Some (Item (Module b))) (area_of ws) f t.1 (λ b found made. subst (SpelledAs ws) (same_Some (Item (Module b)) f made) (area_spelled ws (codes "module") b t.0 found))
+              | inr t ↦ elim (chosen (is_at ws 0 (codes "certificate")) _ _ (Some f) t.1) [
+                | inl u ↦ option_and_then_some (λ v. Some (Header v)) (lone_number ws) f u.1 (λ v found made. subst (SpelledAs ws) (same_Some (Header v) f made) (number_spelled ws (codes "certificate") v u.0 found))
+                | inr u ↦
+                    let at_end = passed (is_at ws 0 (codes "end")) (lone ws End) f u.1 in
+                    let alone = passed (eqb (length ws) 1) (Some End) f at_end.1 in
+                    subst (SpelledAs ws) (same_Some End f alone.1) (one_word ws (codes "end") (eqb-true _ _ alone.0) (is_at_is ws 0 (codes "end") at_end.0))
+              ]
+            ]
+          ]
+        ]
+      ]
+    ]
+
+pub form_line : (l : List ℕ) (f : Line) → form_of (words_of l) ≡ Some f → ended_line l ≡ form_text f
+unfolding first_of others_of
+form_line l (Header v) e = ap ended_line (line_from_words l (codes "certificate") (decimal v ∷ []) (form_words (words_of l) (Header v) e))
+form_line l (Item (Module b)) e = ap ended_line (line_from_words l (codes "module") (area_words b) (form_words (words_of l) (Item (Module b)) e))
+form_line l (Item (Cut n)) e = ap ended_line (line_from_words l (codes "cut") (n ∷ []) (form_words (words_of l) (Item (Cut n)) e))
+form_line l (Item (Use k)) e = ap ended_line (line_from_words l (codes "use") (decimal k ∷ []) (form_words (words_of l) (Item (Use k)) e))
+form_line l (Item (Edge b)) e = ap ended_line (line_from_words l (codes "edge") (border_words b) (form_words (words_of l) (Item (Edge b)) e))
+form_line l (Item (Halo b)) e = ap ended_line (line_from_words l (codes "halo") (border_words b) (form_words (words_of l) (Item (Halo b)) e))
+form_line l End e = ap ended_line (line_from_words l (codes "end") [] (form_words (words_of l) End e))

@@ -1,0 +1,84 @@
+-- The fields of a certificate that is being read, and what contracts see of them
+use Rattle.std.specs.Prelude.{◌≡◌, ℕ, ◌+◌, ◌<◌, ◌≤◌, ℤ, ◌&&◌, Bool, false, List, [], map, length, Option, Some, slice_get, IsTrue}
+use Rattle.std.specs.List.{list_any}
+use Rattle.bbm_rule.specs.Board.{Board, live}
+use Rattle.bbm_rule.specs.declared.block.Cell.{Cell}
+use Rattle.module_box.specs.Boxes.{in_box}
+use Rattle.module_box.specs.declared.boxes.Box2.{Box2}
+use Rattle.certificate.specs.Entries.{Setting, ModuleLines, modules_of, last_of, areas, counts_of, known, edges, halos}
+use Rattle.certificate.specs.Rules.{in_boxes, is_starred, same_cell, lacks_port}
+use Rattle.certificate.specs.Modules.{IsModule}
+use Rattle.certificate.specs.declared.entry.Counts.{Counts}
+use Rattle.certificate.specs.declared.entry.Entry.{Entry}
+use Rattle.certificate.specs.declared.entry.Entry.TheVariants.{Module, Cut, Use, Edge, Halo}
+use Rattle.certificate.specs.declared.builder.Builder.TheInside.{Inside}
+
+-- what the certificate is for, and the lines so far
+pub record BuilderState : Type 0 where
+  pub setting : Setting
+  pub entries : List Entry
+
+abbrev pub builder_state : Inside → BuilderState
+builder_state a = record { setting = a.site; entries = a.entries.items }
+
+-- what is kept of the last module is what its lines say
+pub record IsPresent (g : Setting) (m : ModuleLines) (last : Option Entry) (names : List (List ℕ)) (local : List ℕ) (e h : List Cell) : Type 0 where
+  pub final : last_of m.lines ≡ last
+  pub ports : (f : List ℕ → Bool) → list_any f names ≡ list_any (λ p. in_box m.area p.cell.x p.cell.y && f p.name) g.ports
+  pub wires : local ≡ known g.circuit m
+  -- the same cells, whatever their order
+  pub stars : (c : Cell) → list_any (same_cell c) e ≡ list_any (is_starred c) (edges m)
+  pub halo_stars : (c : Cell) → list_any (same_cell c) h ≡ list_any (is_starred c) (halos m)
+
+-- no cell lies in two of the boxes
+pub record AreApart (boxes : List Box2) : Type 0 where
+  pub once : (x y : ℤ) (i j : ℕ) (b b' : Box2) → slice_get boxes i ≡ Some b → slice_get boxes j ≡ Some b' →
+      IsTrue (in_box b x y) → IsTrue (in_box b' x y) → i ≡ j
+
+-- the modules so far are good
+pub record AreSound (g : Setting) (ms : List ModuleLines) : Type 0 where
+  pub few : length ms ≤ 1024
+  pub each : (k : ℕ) (m : ModuleLines) → slice_get ms k ≡ Some m → IsModule g m
+  pub apart : AreApart (areas ms)
+  -- of all but the last, the ports' wires are local
+  pub ported : (i : ℕ) (m : ModuleLines) → i + 1 < length ms → slice_get ms i ≡ Some m → lacks_port g m ≡ false
+
+-- the modules so far, and what is kept of all of them
+pub record AreBuilt (g : Setting) (ms : List ModuleLines) (covered : Board) (counts : List Counts) : Type 0 where
+  pub sound : AreSound g ms
+  pub width : covered.width ≡ g.size.w
+  pub height : covered.height ≡ g.size.h
+  pub cells : (x y : ℤ) → live covered x y ≡ in_boxes (areas ms) x y
+  pub counted : counts ≡ map counts_of ms
+
+-- what is kept of the lines is what they say
+pub record IsKept (g : Setting) (es : List Entry) (covered : Board) (counts : List Counts) (last : Option Entry) (names : List (List ℕ)) (local : List ℕ) (e h : List Cell) : Type 0 where
+  pub built : AreBuilt g (modules_of es) covered counts
+  pub none : modules_of es ≡ [] → names ≡ []
+  pub present : (m : ModuleLines) → last_of (modules_of es) ≡ Some m → IsPresent g m last names local e h
+
+abbrev pub IsBuilder : Inside → Type 0
+IsBuilder a = IsKept a.site a.entries.items a.covered a.modules.items a.last a.names.items a.known.keys a.edges.keys a.halos.keys
+
+-- ---- the counts of a module with one more line
+
+unfoldable pub counted : Entry → Counts → Counts
+counted (Module b) k = k
+counted (Cut n) k = record k { cuts = k.cuts + 1 }
+counted (Use g) k = record k { gates = k.gates + 1 }
+counted (Edge e) k = record k { edges = k.edges + 1 }
+counted (Halo e) k = record k { halos = k.halos + 1 }
+
+-- no count is near its greatest value
+pub record IsSmall (k : Counts) : Type 0 where
+  pub few_cuts : k.cuts ≤ 10
+  pub few_gates : k.gates ≤ 64
+  pub few_borders : k.edges + k.halos ≤ 65536
+
+-- the line is no `module` line
+abbrev pub IsInner : Entry → Type 0
+IsInner (Module b) = ⊥
+IsInner (Cut n) = Unit {0}
+IsInner (Use k) = Unit {0}
+IsInner (Edge e) = Unit {0}
+IsInner (Halo e) = Unit {0}

@@ -1,0 +1,12 @@
+pub mod Entries
+pub mod Orders
+pub mod Rules
+pub mod Forms
+pub mod Grammars
+pub mod SiteView
+pub mod Modules
+pub mod BuilderView
+pub mod CertView
+pub mod Text
+pub mod Laws
+pub mod BorderWords

@@ -1,0 +1,55 @@
+-- What the modules of a certificate are that was read
+use Rattle.std.specs.Prelude.{◌≡◌, ℕ, ◌<◌, ◌≤◌, ◌%◌, List, length, Some, slice_get, IsTrue, IsFalse, IfSome}
+use Rattle.std.specs.List.{All}
+use Rattle.module_box.specs.Boxes.{in_box, in_ring, in_halo, IsEven, Tile}
+use Rattle.module_box.specs.Locals.{AreLocalLines}
+use Rattle.module_box.specs.Tiling.{IsInside}
+use Rattle.module_box.specs.declared.boxes.Box2.{Box2}
+use Rattle.pattern.specs.declared.parts.Port.{Port}
+use Rattle.certificate.specs.Entries.{Setting, ModuleLines, areas, cuts, gates, edges, halos, cut_wires, known}
+use Rattle.certificate.specs.Orders.{AreInOrder}
+use Rattle.certificate.specs.Rules.{whole, is_local, border_count, border_limit}
+use Rattle.certificate.specs.declared.entry.Border.{Border}
+
+-- the time of an edge or halo line is odd and below the steps, and its signal is `1` or a local wire
+pub record IsBorder (g : Setting) (local : List ℕ) (e : Border) : Type 0 where
+  pub time : IfSome e.time (λ t. (t % 2 ≡ 1) × (t < g.size.steps))
+  pub signal : IfSome e.signal (λ name. IsTrue (is_local g.circuit local name))
+
+-- an edge is in the ring of the box, and not on the rim of the rectangle
+pub record IsEdge (g : Setting) (area : Box2) (local : List ℕ) (e : Border) : Type 0 where
+  pub ring : IsTrue (in_ring area e.cell.x e.cell.y)
+  pub rim : IsFalse (in_ring (whole g.size) e.cell.x e.cell.y)
+  pub border : IsBorder g local e
+
+-- a halo line is in the halo of the box, and inside the rectangle
+pub record IsHalo (g : Setting) (area : Box2) (local : List ℕ) (e : Border) : Type 0 where
+  pub halo : IsTrue (in_halo area e.cell.x e.cell.y)
+  pub inside : IsTrue (in_box (whole g.size) e.cell.x e.cell.y)
+  pub border : IsBorder g local e
+
+-- A module: its box is even, has sides of 2 to 64 and lies inside the rectangle. Its cuts and used gates make wires local one
+-- after the other. Its lines are in order, and its edge and halo lines stand where they may and name local wires.
+pub record IsModule (g : Setting) (m : ModuleLines) : Type 0 where
+  pub even : IsEven m.area
+  pub wide : (2 ≤ m.area.w) × (m.area.w ≤ 64)
+  pub high : (2 ≤ m.area.h) × (m.area.h ≤ 64)
+  pub inside : IsInside g.size.w g.size.h m.area
+  -- each cut is a wire of the circuit
+  pub named : length (cut_wires g.circuit m) ≡ length (cuts m)
+  pub local : AreLocalLines g.circuit.netlist (cut_wires g.circuit m) (gates m)
+  pub order : AreInOrder m.lines
+  pub few_borders : border_count m ≤ border_limit
+  pub edge_lines : All (IsEdge g m.area (known g.circuit m)) (edges m)
+  pub halo_lines : All (IsHalo g m.area (known g.circuit m)) (halos m)
+
+-- the wires of the ports in the module's box are local
+pub record HasPorts (g : Setting) (m : ModuleLines) : Type 0 where
+  pub local : (i : ℕ) (p : Port) → slice_get g.ports i ≡ Some p → IsTrue (in_box m.area p.cell.x p.cell.y) → IsTrue (is_local g.circuit (known g.circuit m) p.name)
+
+-- the modules of a certificate: their boxes tile the rectangle
+pub record AreModules (g : Setting) (ms : List ModuleLines) : Type 0 where
+  pub few : length ms ≤ 1024
+  pub each : (k : ℕ) (m : ModuleLines) → slice_get ms k ≡ Some m → IsModule g m
+  pub ports : (k : ℕ) (m : ModuleLines) → slice_get ms k ≡ Some m → HasPorts g m
+  pub tile : Tile (whole g.size) (areas ms)

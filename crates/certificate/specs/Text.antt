@@ -1,0 +1,45 @@
+-- The text of a certificate: each line spelled in the one way.
+use Rattle.std.specs.Prelude.{ℕ, List, [], ◌∷◌, ◌++◌, Option, Some, None, codes}
+use Rattle.std.specs.List.{flat_map}
+use Rattle.std.specs.Fmt.{decimal}
+use Rattle.section_text.specs.Spelling.{line_text}
+use Rattle.section_text.specs.declared.section.Form.TheVariants.{Header, Item, End}
+use Rattle.pattern.specs.Text.{cell_words}
+use Rattle.module_box.specs.declared.boxes.Box2.{Box2}
+use Rattle.certificate.specs.declared.entry.Border.{Border}
+use Rattle.certificate.specs.declared.entry.Entry.{Entry}
+use Rattle.certificate.specs.declared.entry.Entry.TheVariants.{Module, Cut, Use, Edge, Halo}
+use Rattle.certificate.specs.Forms.{Line}
+use Rattle.certificate.specs.Grammars.{CertState}
+
+abbrev pub area_words : Box2 → List (List ℕ)
+area_words b = decimal b.x ∷ decimal b.y ∷ decimal b.w ∷ decimal b.h ∷ []
+
+-- a time, or `*` for every odd time
+abbrev pub time_word : Option ℕ → List ℕ
+time_word None = codes "*"
+time_word (Some t) = decimal t
+
+-- the name of a wire, or the constant `1`
+abbrev pub signal_word : Option (List ℕ) → List ℕ
+signal_word None = codes "1"
+signal_word (Some name) = name
+
+abbrev pub border_words : Border → List (List ℕ)
+border_words e = time_word e.time ∷ (cell_words e.cell ++ signal_word e.signal ∷ [])
+
+abbrev pub entry_text : Entry → List ℕ
+entry_text (Module b) = line_text (codes "module") (area_words b)
+entry_text (Cut name) = line_text (codes "cut") (name ∷ [])
+entry_text (Use number) = line_text (codes "use") (decimal number ∷ [])
+entry_text (Edge e) = line_text (codes "edge") (border_words e)
+entry_text (Halo e) = line_text (codes "halo") (border_words e)
+
+-- the text of a line, by its form
+abbrev pub form_text : Line → List ℕ
+form_text (Header version) = line_text (codes "certificate") (decimal version ∷ [])
+form_text (Item entry) = entry_text entry
+form_text End = line_text (codes "end") []
+
+unfoldable pub certificate_text : CertState → List ℕ
+certificate_text c = line_text (codes "certificate") (decimal c.version ∷ []) ++ flat_map entry_text c.entries ++ line_text (codes "end") []

@@ -1,0 +1,70 @@
+//! Certificates.
+ghost use Rattle.std.specs.Prelude.{◌≡◌, ◌<◌, ◌≤◌, length, map, slice_get, Some};
+ghost use Rattle.certificate.specs.Entries.{counts_of, modules_of};
+ghost use Rattle.certificate.specs.Grammars.{setting_of};
+ghost use Rattle.certificate.specs.Modules.{AreModules};
+
+use crate::entry::{Counts, Entry};
+use circuit::Circuit;
+use pattern::Layout;
+use std::marker::Model;
+
+/// A certificate, which cuts a layout of a circuit into modules. Contracts see what it is for, its version and its lines, as a
+/// `CertState`.
+#[derive(Drop)]
+pub struct Cert<'a> {
+    pub(crate) circuit: &'a Circuit,
+    pub(crate) layout: &'a Layout,
+    pub(crate) version: u32,
+    pub(crate) entries: Vec<Entry>,
+    pub(crate) modules: Vec<Counts>,
+}
+
+impl<'a> Model for Cert<'a> {
+    ghost use Rattle.certificate.specs.Grammars.{CertState};
+
+    ghost Value = { CertState };
+
+    ghost use Rattle.certificate.specs.CertView.{cert_state, IsCert};
+
+    ghost view = { cert_state };
+
+    ghost invariant = { IsCert };
+}
+
+impl<'a> Cert<'a> {
+    // The version that the header names.
+    pub(crate) fn version(&self) -> u32
+        ensures { result ≡ self.now.version }
+    {
+        self.version
+    }
+
+    // The lines between the header and the end.
+    pub(crate) fn entries(&self) -> &[Entry]
+        ensures { result.now ≡ self.now.entries }
+    {
+        self.entries.as_slice()
+    }
+
+    /// How many modules the certificate has, at most 1024. They are numbered from 0 in the order of their lines.
+    ///
+    /// Their boxes tile the layout's rectangle. Each box has an even corner and even sides of 2 to 64. The used gates of a
+    /// module rise, and what they use is local before them. Its edge lines are in its ring and not on the rectangle's rim, its
+    /// halo lines in its halo and inside the rectangle; their times are odd and below the steps, their wires are local, and
+    /// they are in order. So are the wires of the ports in its box.
+    pub fn modules(&self) -> usize
+        ensures count { result ≡ length (modules_of self.now.entries) }
+        ensures good { AreModules (setting_of self.now.circuit self.now.layout) (modules_of self.now.entries) }
+    {
+        self.modules.len()
+    }
+
+    /// The box of a module, and how many lines of each kind it has, for a number below `modules()`.
+    pub fn counts(&self, number: usize) -> Counts
+        requires { number < length (modules_of self.now.entries) }
+        ensures { slice_get (map counts_of (modules_of self.now.entries)) number ≡ Some result }
+    {
+        self.modules[number]
+    }
+}

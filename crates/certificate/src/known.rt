@@ -1,0 +1,74 @@
+//! The wires that are local in a module, by their numbers in the circuit.
+ghost use Rattle.std.specs.Prelude.{◌≡◌, ◌≤◌, ◌<◌, ◌+◌, ◌++◌, ◌∷◌, [], length, true, false};
+ghost use Rattle.std.specs.List.{list_all};
+ghost use Rattle.indexmap.specs.IndexSet.{spare};
+ghost use Rattle.module_box.specs.Locals.{is_among};
+ghost use Rattle.certificate.specs.Rules.{are_new};
+
+use circuit::WireNo;
+use indexmap::IndexSet;
+
+/// Whether the wire is local.
+#[tactic(auto, using(crate::proofs::KnownLemmas::among))]
+pub(crate) fn knows(known: &IndexSet<u16>, wire: u16) -> bool
+    ensures { result ≡ is_among known.now.keys wire }
+{
+    known.contains(&wire)
+}
+
+/// Whether all these wires are local.
+pub(crate) fn knows_all(known: &IndexSet<u16>, wires: &[WireNo]) -> bool
+    ensures { result ≡ list_all (is_among known.now.keys) wires.now }
+{
+    for wire in wires {
+        if !knows(known, wire.number()) {
+            return false;
+        }
+    }
+    true
+}
+
+fn stands_before(wires: &[WireNo], wire: WireNo) -> bool
+    ensures { result ≡ is_among wires.now wire }
+{
+    wires.iter().any(|w| w.number() == wire.number())
+}
+
+/// Whether none of these wires is local, and none stands twice.
+pub(crate) fn are_all_new(known: &IndexSet<u16>, wires: &[WireNo]) -> bool
+    ensures { result ≡ are_new known.now.keys wires.now }
+{
+    for at in 0..wires.len() {
+        let wire = wires[at];
+        let is_known = knows(known, wire.number());
+        let stands_twice = stands_before(&wires[..at], wire);
+        if is_known | stands_twice {
+            return false;
+        }
+    }
+    true
+}
+
+/// Makes a wire local that is not, where there is room.
+pub(crate) fn learn(known: &mut IndexSet<u16>, wire: u16)
+    requires room { 0 < spare known.old }
+    requires new { is_among known.old.keys wire ≡ false }
+    ensures keys { known.new.keys ≡ known.old.keys ++ wire ∷ [] }
+    ensures room { spare known.old ≤ spare known.new + 1 }
+{
+    match known.insert(wire) {
+        Ok(_) => {}
+        Err(_) => unreachable!(),
+    }
+}
+
+/// Makes wires local that are not, where there is room for them.
+pub(crate) fn learn_all(known: &mut IndexSet<u16>, wires: &[WireNo])
+    requires room { length wires.now ≤ spare known.old }
+    requires new { are_new known.old.keys wires.now ≡ true }
+    ensures { known.new.keys ≡ known.old.keys ++ wires.now }
+{
+    for wire in wires {
+        learn(known, wire.number());
+    }
+}

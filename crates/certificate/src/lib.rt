@@ -1,0 +1,29 @@
+//! Certificates, which cut a layout of a circuit into modules: their text, their modules, and their digest.
+//!
+//! A module has a box of cells, wires that are cut in it, gates of the circuit that it uses, and lines that say what the cells
+//! of the box's ring and halo carry at odd times. `specs/Rules.antt` says which line is good after which, and
+//! `specs/Modules.antt` what is known of the modules of a certificate that was read.
+#![tactic(auto)]
+
+mod builder;
+mod cert;
+mod counts;
+mod digest;
+mod entry;
+mod form;
+mod known;
+pub mod laws;
+mod order;
+mod printing;
+mod reading;
+mod rules;
+mod site;
+mod stars;
+#[cfg(test)]
+mod tests;
+mod tiles;
+
+pub use cert::Cert;
+pub use entry::{Border, Counts, Entry};
+pub use printing::print_certificate;
+pub use reading::read_certificate;

@@ -1,0 +1,123 @@
+//! The text of a certificate.
+ghost use Rattle.std.specs.Prelude.{◌≡◌, ◌++◌, [], ◌∷◌, OnOk, IfOk, codes};
+ghost use Rattle.std.specs.List.{flat_map};
+ghost use Rattle.std.specs.Fmt.{decimal};
+ghost use Rattle.section_text.specs.Spelling.{spaced, line_text};
+ghost use Rattle.certificate.specs.Text.{area_words, time_word, signal_word, border_words, entry_text, certificate_text};
+
+use crate::cert::Cert;
+use crate::entry::{Border, Entry};
+use module_box::Box2;
+use pattern::print_cell;
+use section_text::{Name, print_number, print_word};
+use std::alloc::{AllocError, Global};
+
+fn print_header(alloc: Global, out: &mut Vec<u8>, version: u32) -> Result<(), AllocError>
+    ensures { OnOk result (out.new.items ≡ out.old.items ++ line_text (codes "certificate") (decimal version ∷ [])) }
+{
+    out.extend_from_slice(b"certificate")?;
+    print_number(alloc, out, version)?;
+    out.push(b'\n')?;
+    Ok(())
+}
+
+fn print_module(alloc: Global, out: &mut Vec<u8>, area: Box2) -> Result<(), AllocError>
+    ensures { OnOk result (out.new.items ≡ out.old.items ++ line_text (codes "module") (area_words area)) }
+{
+    out.extend_from_slice(b"module")?;
+    print_number(alloc, out, area.x)?;
+    print_number(alloc, out, area.y)?;
+    print_number(alloc, out, area.w)?;
+    print_number(alloc, out, area.h)?;
+    out.push(b'\n')?;
+    Ok(())
+}
+
+fn print_cut(out: &mut Vec<u8>, name: Name) -> Result<(), AllocError>
+    ensures { OnOk result (out.new.items ≡ out.old.items ++ line_text (codes "cut") (name ∷ [])) }
+{
+    out.extend_from_slice(b"cut")?;
+    print_word(out, name.bytes())?;
+    out.push(b'\n')?;
+    Ok(())
+}
+
+fn print_use(alloc: Global, out: &mut Vec<u8>, number: u32) -> Result<(), AllocError>
+    ensures { OnOk result (out.new.items ≡ out.old.items ++ line_text (codes "use") (decimal number ∷ [])) }
+{
+    out.extend_from_slice(b"use")?;
+    print_number(alloc, out, number)?;
+    out.push(b'\n')?;
+    Ok(())
+}
+
+// A time, or `*` for every odd time.
+fn print_time(alloc: Global, out: &mut Vec<u8>, time: Option<u32>) -> Result<(), AllocError>
+    ensures { OnOk result (out.new.items ≡ out.old.items ++ spaced (time_word time)) }
+{
+    match time {
+        None => print_word(out, b"*"),
+        Some(number) => print_number(alloc, out, number),
+    }
+}
+
+// The name of a wire, or the constant `1`.
+fn print_signal(out: &mut Vec<u8>, signal: Option<Name>) -> Result<(), AllocError>
+    ensures { OnOk result (out.new.items ≡ out.old.items ++ spaced (signal_word signal)) }
+{
+    match signal {
+        None => print_word(out, b"1"),
+        Some(name) => print_word(out, name.bytes()),
+    }
+}
+
+fn print_border(
+    alloc: Global,
+    out: &mut Vec<u8>,
+    word: &[u8],
+    border: &Border,
+) -> Result<(), AllocError>
+    ensures { OnOk result (out.new.items ≡ out.old.items ++ line_text word.now (border_words border.now)) }
+{
+    out.extend_from_slice(word)?;
+    print_time(alloc, out, border.time)?;
+    print_cell(alloc, out, border.cell)?;
+    print_signal(out, border.signal)?;
+    out.push(b'\n')?;
+    Ok(())
+}
+
+fn print_entry(alloc: Global, out: &mut Vec<u8>, entry: &Entry) -> Result<(), AllocError>
+    ensures { OnOk result (out.new.items ≡ out.old.items ++ entry_text entry.now) }
+{
+    match entry {
+        Entry::Module(area) => print_module(alloc, out, *area),
+        Entry::Cut(name) => print_cut(out, *name),
+        Entry::Use(number) => print_use(alloc, out, *number),
+        Entry::Edge(border) => print_border(alloc, out, b"edge", border),
+        Entry::Halo(border) => print_border(alloc, out, b"halo", border),
+    }
+}
+
+fn print_entries(alloc: Global, out: &mut Vec<u8>, entries: &[Entry]) -> Result<(), AllocError>
+    ensures { OnOk result (out.new.items ≡ out.old.items ++ flat_map entry_text entries.now) }
+{
+    for entry in entries {
+        print_entry(alloc, out, entry)?;
+    }
+    Ok(())
+}
+
+/// The text of a certificate: the bytes of its section, from its header line to its `end` line with the line feed. It is the
+/// text that the certificate was read from, and is read as the same certificate (see the laws of this crate). The error is
+/// want of memory.
+#[tactic(auto, unfolding(crate::specs::Text::certificate_text))]
+pub fn print_certificate(alloc: Global, cert: &Cert) -> Result<Vec<u8>, AllocError>
+    ensures { IfOk result (λ text. text.items ≡ certificate_text cert.now) }
+{
+    let mut out = Vec::new(alloc);
+    print_header(alloc, &mut out, cert.version())?;
+    print_entries(alloc, &mut out, cert.entries())?;
+    out.extend_from_slice(b"end\n")?;
+    Ok(out)
+}

@@ -1,0 +1,127 @@
+//! The reader of the certificate section.
+ghost use Rattle.std.specs.Prelude.{◌≡◌, [], true, IfOk};
+ghost use Rattle.section_text.specs.Section.{Reads};
+ghost use Rattle.certificate.specs.Grammars.{certificate_grammar, certificate_value, setting_of};
+
+use crate::builder::Builder;
+use crate::cert::Cert;
+use crate::entry::Entry;
+use crate::form::line_form;
+use crate::site::Site;
+use circuit::Circuit;
+use pattern::Layout;
+use section_text::{Feed, Form, Line, LineFault, ReadFault, Section, read_section};
+use std::alloc::{AllocError, Global};
+
+// The only version so far.
+const VERSION: u32 = 1;
+
+// A certificate that is read: its version, and its lines so far.
+#[derive(Drop)]
+struct Reading<'a> {
+    alloc: Global,
+    version: u32,
+    builder: Builder<'a>,
+}
+
+impl<'a> Section for Reading<'a> {
+    type Header = u32;
+
+    type Item = Entry;
+
+    ghost grammar = { λ r. certificate_grammar r.builder.setting };
+
+    ghost header = { λ r. r.version };
+
+    ghost items = { λ r. r.builder.entries };
+
+    fn form(&self, feed: &Feed, line: &Line) -> Option<Form<u32, Entry>> {
+        line_form(feed, line)
+    }
+
+    fn begin(&mut self, version: u32) -> Result<(), LineFault> {
+        if version != VERSION {
+            return Err(LineFault::Code(2));
+        }
+        self.version = version;
+        Ok(())
+    }
+
+    fn add(&mut self, entry: Entry) -> Result<(), LineFault> {
+        self.builder.add(self.alloc, entry)
+    }
+
+    fn missing(&self) -> Option<u8> {
+        self.builder.missing()
+    }
+}
+
+fn begin_reading<'a>(
+    alloc: Global,
+    circuit: &'a Circuit,
+    layout: &'a Layout,
+) -> Result<Reading<'a>, AllocError>
+    ensures setting { IfOk result (λ r. r.builder.setting ≡ setting_of circuit.now layout.now) }
+    ensures entries { IfOk result (λ r. r.builder.entries ≡ []) }
+{
+    let site = Site::new(alloc, circuit, layout)?;
+    let builder = Builder::new(alloc, site)?;
+    Ok(Reading {
+        alloc,
+        version: VERSION,
+        builder,
+    })
+}
+
+/// Reads a certificate section for a circuit and a layout, whose ports are named as the circuit's wires are.
+///
+/// The error is want of memory, or the first line that is refused, counted from 1 over the whole feed, with the code of the
+/// first test that it fails:
+///
+/// - 12: it is not there or not ended;
+/// - 1: it has none of the forms of this section;
+/// - 6: it is out of its place, or its list does not rise;
+/// - 11: it is `module` or `end`, and a port in the box of the module before it has a wire that is not local there; or it is
+///   `end`, and some cell of the rectangle lies in no box;
+/// - 2: the version is not 1, a side of a box is odd or not 2 to 64, or there are more than 1024 modules, ten cuts, 64 used
+///   gates, or 65,536 edge and halo lines of a module;
+/// - 8: a box has an odd corner, or a cell outside the rectangle or in an earlier box;
+/// - 10: an edge or halo line may not stand at its cell or time;
+/// - 3: there is no wire of this name, or no gate of this number;
+/// - 4: a wire that is cut, or an output of a gate that is used, is local already;
+/// - 9: the wire of a signal, or an input of a gate that is used, is not local.
+///
+/// After an error the feed answers it for good.
+pub fn read_certificate<'a>(
+    alloc: Global,
+    feed: &mut Feed,
+    circuit: &'a Circuit,
+    layout: &'a Layout,
+) -> Result<Cert<'a>, ReadFault>
+    requires { feed.old.closed ≡ true }
+    ensures reads { Reads (certificate_grammar (setting_of circuit.now layout.now)) certificate_value feed.old feed.new result }
+    ensures circuit { IfOk result (λ cert. cert.circuit ≡ circuit.now) }
+    ensures layout { IfOk result (λ cert. cert.layout ≡ layout.now) }
+{
+    let Ok(mut reading) = begin_reading(alloc, circuit, layout) else {
+        return Err(feed.starve());
+    };
+    match read_section(feed, &mut reading) {
+        Err(fault) => Err(fault),
+        Ok(()) => {
+            let Reading {
+                alloc: _,
+                version,
+                builder,
+            } = reading;
+            let (entries, modules) = builder.into_parts();
+            Ok(Cert {
+                circuit,
+                layout,
+                version,
+                entries,
+                modules,
+            })
+        }
+    }
+}
