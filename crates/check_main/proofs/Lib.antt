@@ -2,3 +2,4 @@ mod AskedLemmas
 mod OneAnswer
 mod InNames
 mod OneValue
+pub mod ModuleText

@@ -17,7 +17,8 @@ use Rattle.pattern.specs.declared.parts.Size.{Size}
 use Rattle.pattern.specs.declared.run.RunEnd.{RunEnd}
 use Rattle.pattern.specs.declared.run.RunEnd.TheVariants.{Cells, LeftAt}
 use Rattle.pattern.specs.Layout.{Pattern}
-use Rattle.pattern.specs.Lines.{parts_of, has}
+use Rattle.section_text.specs.Words.{has}
+use Rattle.pattern.specs.Lines.{parts_of}
 use Rattle.pattern.specs.Grammars.{layout_value}
 use Rattle.pattern.specs.Run.{IsRunEnd, StaysInside, GoesOutside}
 use Rattle.check_main.specs.declared.outcome.Outcome.{Outcome}

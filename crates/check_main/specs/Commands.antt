@@ -1,8 +1,9 @@
 -- What each command answers.
 use Rattle.std.specs.Prelude.{ℕ, List}
 use Rattle.command_line.specs.declared.Request.{Request}
-use Rattle.command_line.specs.declared.Request.TheVariants.{Run, Value}
+use Rattle.command_line.specs.declared.Request.TheVariants.{Run, Value, Modules}
 use Rattle.check_main.specs.declared.outcome.Outcome.{Outcome}
+use Rattle.check_main.specs.ModulesText.{IsModulesOf}
 use Rattle.check_main.specs.RunText.{IsRunOf}
 use Rattle.check_main.specs.ValueText.{IsValueOf}
 
@@ -10,3 +11,4 @@ use Rattle.check_main.specs.ValueText.{IsValueOf}
 abbrev pub IsAnswerTo : Request → List ℕ → List ℕ → Outcome → Type 0
 IsAnswerTo Run = IsRunOf
 IsAnswerTo Value = IsValueOf
+IsAnswerTo Modules = IsModulesOf

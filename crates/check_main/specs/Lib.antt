@@ -7,3 +7,5 @@ pub mod Stream
 pub mod Laws
 pub mod ValueText
 pub mod Commands
+pub mod BundleText
+pub mod ModulesText

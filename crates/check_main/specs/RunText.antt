@@ -1,12 +1,11 @@
 -- What `run` answers to a text: the whole run of a layout from the names that are on, or the refusal of the text.
-use Rattle.std.specs.Prelude.{◌≡◌, ℕ, List, [], ◌∷◌, ◌++◌, length, Result, codes}
+use Rattle.std.specs.Prelude.{◌≡◌, ℕ, List, [], ◌∷◌, ◌++◌, length, None, Result, codes}
 use Rattle.std.specs.List.{flat_map}
 use Rattle.std.specs.Fmt.{decimal, signed_decimal}
-use Rattle.section_text.specs.Words.{lines_of}
+use Rattle.section_text.specs.Words.{lines_of, has}
 use Rattle.section_text.specs.Spelling.{line_text}
 use Rattle.section_text.specs.Sections.{section_then}
 use Rattle.section_text.specs.declared.fault.Refusal.{Refusal}
-use Rattle.section_text.specs.declared.ports.PortNames.TheVariants.{Any}
 use Rattle.bbm_rule.specs.declared.block.Cell.{Cell}
 use Rattle.pattern.specs.declared.parts.Part.{Part}
 use Rattle.pattern.specs.declared.parts.Part.TheVariants.{Mirror, Ball, In, Out, Waste}
@@ -14,7 +13,6 @@ use Rattle.pattern.specs.declared.parts.Size.{Size}
 use Rattle.pattern.specs.declared.run.RunEnd.{RunEnd}
 use Rattle.pattern.specs.declared.run.RunEnd.TheVariants.{Cells, LeftAt}
 use Rattle.pattern.specs.Layout.{Pattern}
-use Rattle.pattern.specs.Lines.{has}
 use Rattle.pattern.specs.Grammars.{layout_grammar, layout_value}
 use Rattle.pattern.specs.Run.{IsRunEnd}
 use Rattle.check_main.specs.declared.outcome.Outcome.{Outcome}
@@ -38,7 +36,7 @@ RunAsked = (Size × List Part) × List (List ℕ)
 -- a layout section, an assign section in which the names of its input cells may be on, and nothing more
 unfoldable pub run_asked : List ℕ → Result RunAsked Refusal
 run_asked text =
-    section_then (layout_grammar Any) 0 (lines_of text) (λ size parts n ahead. names_asked text (size, parts) (flat_map in_name parts) n ahead)
+    section_then (layout_grammar None) 0 (lines_of text) (λ size parts n ahead. names_asked text (size, parts) (flat_map in_name parts) n ahead)
 
 -- ---- what is written
 

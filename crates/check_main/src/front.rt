@@ -6,7 +6,7 @@ ghost use Rattle.check_main.specs.Commands.{IsAnswerTo};
 ghost use Rattle.check_main.specs.Status.{status_for, line_for, Says};
 ghost use Rattle.check_main.specs.Stream.{Answers, BreaksOff, GivesTooMuch};
 
-use crate::stream::{run_stream, value_stream, write_whole};
+use crate::stream::{modules_stream, run_stream, value_stream, write_whole};
 use crate::{CheckFault, Outcome, Sink, Source};
 use clap::Error;
 use clap::error::ErrorKind;
@@ -120,6 +120,7 @@ fn serve<R: Source, W: Sink>(
     match request {
         Request::Run => run_stream(alloc, reader, writer),
         Request::Value => value_stream(alloc, reader, writer),
+        Request::Modules => modules_stream(alloc, reader, writer),
     }
 }
 

@@ -1,5 +1,6 @@
 //! Laws of the definitions, each the contract of a function without a body.
 ghost use Rattle.check_main.specs.Laws.{HasOneAnswer};
+ghost use Rattle.check_main.specs.ModulesText.{IsModulesOf};
 ghost use Rattle.check_main.specs.RunText.{IsRunOf};
 ghost use Rattle.check_main.specs.ValueText.{IsValueOf};
 
@@ -11,4 +12,9 @@ pub fn run_has_one_answer()
 /// What `value` writes for a text, and how it ends, is a function of the text.
 pub fn value_has_one_answer()
     ensures { HasOneAnswer IsValueOf }
+{}
+
+/// What `modules` writes for a text, and how it ends, is a function of the text.
+pub fn modules_has_one_answer()
+    ensures { HasOneAnswer IsModulesOf }
 {}

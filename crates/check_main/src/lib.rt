@@ -6,6 +6,7 @@ mod device;
 mod fault;
 mod front;
 pub mod laws;
+mod modules;
 mod outcome;
 mod run;
 mod stream;
@@ -15,7 +16,7 @@ pub use device::{Over, Sink, Source};
 pub use fault::CheckFault;
 pub use front::program;
 pub use outcome::Outcome;
-pub use stream::{run_stream, value_stream};
+pub use stream::{modules_stream, run_stream, value_stream};
 
 #[cfg(test)]
 mod run_tests;

@@ -1,10 +1,12 @@
 //! From a reader's bytes to a writer's.
 ghost use Rattle.std.specs.Prelude.{◌≡◌, ◌≢◌, true, false, IfOk, IfErr, IsErrOf, OnOk};
 ghost use Rattle.std.specs.Io.KnownBytes.{Appends};
+ghost use Rattle.check_main.specs.ModulesText.{IsModulesOf};
 ghost use Rattle.check_main.specs.RunText.{IsRunOf};
 ghost use Rattle.check_main.specs.ValueText.{IsValueOf};
 ghost use Rattle.check_main.specs.Stream.{Answers, BreaksOff, ReadsAll, GivesTooMuch, TakesPrefix, whole_text};
 
+use crate::modules::modules_text;
 use crate::outcome::Answered;
 use crate::run::run_text;
 use crate::value::value_text;
@@ -67,6 +69,32 @@ pub fn value_stream<R: Source, W: Sink>(
 {
     let mut feed = read_text(alloc, reader)?;
     let answered = value_text(alloc, &mut feed).map_err(|_| CheckFault::Memory)?;
+    write_answer(writer, &answered)
+}
+
+/// Lists the modules of a bundle's certificate: reads the whole text, at most 16 MiB, and writes the answer once it is
+/// complete. The outcome is `Yes` or `Refused`.
+pub fn modules_stream<R: Source, W: Sink>(
+    alloc: Global,
+    reader: &mut R,
+    writer: &mut W,
+) -> Result<Outcome, CheckFault>
+    requires reader_works { R.has_failed reader.old ≡ false }
+    requires writer_works { W.has_failed writer.old ≡ false }
+    ensures answered { IfOk result (Answers IsModulesOf (R.left reader.old) (R.left reader.new)
+        (W.held writer.old) (W.held writer.new)) }
+    ensures works { OnOk result ((R.has_failed reader.new ≡ false) × (W.has_failed writer.new ≡ false)) }
+    ensures read { IsErrOf result CheckFault.Read → R.has_failed reader.new ≡ true }
+    ensures too_long { IsErrOf result CheckFault.TooLong →
+        GivesTooMuch (R.left reader.old) (R.left reader.new) }
+    ensures write { IsErrOf result CheckFault.Write → W.has_failed writer.new ≡ true }
+    ensures prefix { IsErrOf result CheckFault.Write →
+        BreaksOff IsModulesOf (R.left reader.old) (R.left reader.new)
+        (W.held writer.old) (W.held writer.new) }
+    ensures unwritten { IfErr result (λ fault. fault ≢ CheckFault.Write → writer.new ≡ writer.old) }
+{
+    let mut feed = read_text(alloc, reader)?;
+    let answered = modules_text(alloc, &mut feed).map_err(|_| CheckFault::Memory)?;
     write_answer(writer, &answered)
 }
 

@@ -179,7 +179,7 @@ fn unrecognized(alloc: Global, word: &str) -> Result<String, Fail> {
 
 #[test]
 fn refuses_other_commands(rt: HostRuntime) -> Result<(), Fail> {
-    for word in ["check", "modules", "migrate", "prove", ""] {
+    for word in ["check", "migrate", "prove", ""] {
         let seen = call_program(rt.alloc(), &[word], TEXT.as_bytes(), MUCH_ROOM);
         assert!(rt; seen.status == 2 && seen.written.is_empty());
         let said = unrecognized(rt.alloc(), word)?;
@@ -190,10 +190,10 @@ fn refuses_other_commands(rt: HostRuntime) -> Result<(), Fail> {
 
 #[test]
 fn refuses_words(rt: HostRuntime) {
-    let many: [(&[&str], &str); 6] = [
+    let many: [(&[&str], &str); 7] = [
         (
             &[],
-            "error: 'bbmcheck' requires a subcommand but one was not provided\n  [subcommands: run, value, help]\n\nUsage: bbmcheck <COMMAND>\n\nFor more information, try '--help'.\n",
+            "error: 'bbmcheck' requires a subcommand but one was not provided\n  [subcommands: run, value, modules, help]\n\nUsage: bbmcheck <COMMAND>\n\nFor more information, try '--help'.\n",
         ),
         (
             &["run", "x"],
@@ -215,6 +215,10 @@ fn refuses_words(rt: HostRuntime) {
             &["value", "x"],
             "error: unexpected argument 'x' found\n\nUsage: bbmcheck value\n\nFor more information, try '--help'.\n",
         ),
+        (
+            &["modules", "x"],
+            "error: unexpected argument 'x' found\n\nUsage: bbmcheck modules\n\nFor more information, try '--help'.\n",
+        ),
     ];
     for (words, said) in many {
         let seen = call_program(rt.alloc(), words, TEXT.as_bytes(), MUCH_ROOM);
@@ -224,19 +228,23 @@ fn refuses_words(rt: HostRuntime) {
 }
 
 const HELP: &str =
-    "Checks billiard ball patterns, over standard input and output\n\nUsage: bbmcheck <COMMAND>\n\nCommands:\n  run    Runs a layout under an assignment\n  value  Evaluates a circuit under an assignment\n  help   Print this message or the help of the given subcommand(s)\n\nOptions:\n  -h, --help  Print help\n";
+    "Checks billiard ball patterns, over standard input and output\n\nUsage: bbmcheck <COMMAND>\n\nCommands:\n  run      Runs a layout under an assignment\n  value    Evaluates a circuit under an assignment\n  modules  Lists the modules of a certificate\n  help     Print this message or the help of the given subcommand(s)\n\nOptions:\n  -h, --help  Print help\n";
 
 const RUN_HELP: &str =
     "Runs a layout under an assignment\n\nUsage: bbmcheck run\n\nOptions:\n  -h, --help  Print help\n";
 
+const MODULES_HELP: &str =
+    "Lists the modules of a certificate\n\nUsage: bbmcheck modules\n\nOptions:\n  -h, --help  Print help\n";
+
 #[test]
 fn prints_help(rt: HostRuntime) {
-    let many: [(&[&str], &str); 5] = [
+    let many: [(&[&str], &str); 6] = [
         (&["--help"], HELP),
         (&["-h"], HELP),
         (&["help"], HELP),
         (&["run", "--help"], RUN_HELP),
         (&["help", "run"], RUN_HELP),
+        (&["modules", "--help"], MODULES_HELP),
     ];
     for (words, help) in many {
         let seen = call_program(rt.alloc(), words, TEXT.as_bytes(), MUCH_ROOM);

@@ -16,6 +16,8 @@ pub enum Request {
     Run,
     /// Evaluates a circuit under an assignment.
     Value,
+    /// Lists the modules of a certificate.
+    Modules,
 }
 
 /// Reads the words after the program's name, of which the first is the command. The error is `clap`'s: it
@@ -27,6 +29,7 @@ pub fn read_words<'a>(alloc: Global, words: &'a [&'a str]) -> Result<Request, Er
     let matches = command(alloc)?.try_get_matches_from(words)?;
     let request = match matches.subcommand_name() {
         Some("value") => Request::Value,
+        Some("modules") => Request::Modules,
         _ => Request::Run,
     };
     Ok(request)
@@ -37,7 +40,8 @@ fn command<'a>(alloc: Global) -> Result<Command<'a>, AllocError>
 {
     top(alloc)?
         .subcommand(plain(alloc, "run", "Runs a layout under an assignment"))?
-        .subcommand(plain(alloc, "value", "Evaluates a circuit under an assignment"))
+        .subcommand(plain(alloc, "value", "Evaluates a circuit under an assignment"))?
+        .subcommand(plain(alloc, "modules", "Lists the modules of a certificate"))
 }
 
 // The command line without its commands.
@@ -76,6 +80,7 @@ mod tests {
         assert!(rt; read_words(rt.alloc(), &["run"])? == Request::Run);
         assert!(rt; kind_of(rt.alloc(), &[]) == Some(ErrorKind::MissingSubcommand));
         assert!(rt; read_words(rt.alloc(), &["value"])? == Request::Value);
+        assert!(rt; read_words(rt.alloc(), &["modules"])? == Request::Modules);
         assert!(rt; kind_of(rt.alloc(), &["check"]) == Some(ErrorKind::InvalidSubcommand));
         assert!(rt; kind_of(rt.alloc(), &["run", "x"]) == Some(ErrorKind::UnknownArgument));
         assert!(rt; kind_of(rt.alloc(), &["--help"]) == Some(ErrorKind::DisplayHelp));

@@ -8,4 +8,5 @@ pub returns : goal.returns
 returns c =
     let shape : App → Shape = λ a. a.top in
     let one = c.in_ok-subcommand.ensures.shape c.plain.ensures.local ∙ ap₂ with_subcommand c.in_ok-top.ensures.app (ap shape c.plain.ensures.app) in
-    IfOk-weaker c.subcommand-2.result _ _ (λ r h. h.shape c.plain-2.ensures.local ∙ ap₂ with_subcommand one (ap shape c.plain-2.ensures.app)) c.subcommand-2.ensures
+    let two = c.in_ok-subcommand-2.ensures.shape c.plain-2.ensures.local ∙ ap₂ with_subcommand one (ap shape c.plain-2.ensures.app) in
+    IfOk-weaker c.subcommand-3.result _ _ (λ r h. h.shape c.plain-3.ensures.local ∙ ap₂ with_subcommand two (ap shape c.plain-3.ensures.app)) c.subcommand-3.ensures

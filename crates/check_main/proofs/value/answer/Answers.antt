@@ -4,7 +4,7 @@ use Rattle.std.proofs.lemmas.List.{length-map}
 use Rattle.circuit.specs.Bridge.{AreValues, netlist_of, read}
 use Rattle.circuit.specs.Rules.{defined}
 use Rattle.circuit.specs.Text.{value_lines}
-use Rattle.pattern.specs.Lines.{has}
+use Rattle.section_text.specs.Words.{has}
 use Rattle.check_main.proofs.value.answer.Goals as goal
 
 pub values-requires : goal.values-requires

@@ -1,0 +1,52 @@
+-- What `modules` answers to a text: a line for each module of a bundle's certificate, or the refusal of the text.
+use Rattle.std.specs.Prelude.{◌≡◌, ℕ, ◌+◌, List, [], ◌∷◌, ◌++◌, map, codes, Result, Ok, Err}
+use Rattle.std.specs.Fmt.{decimal}
+use Rattle.section_text.specs.Section.{Fails}
+use Rattle.section_text.specs.Spelling.{line_text}
+use Rattle.section_text.specs.declared.fault.ReadFault.{ReadFault}
+use Rattle.section_text.specs.declared.fault.Refusal.{Refusal}
+use Rattle.certificate.specs.Entries.{counts_of, modules_of}
+use Rattle.module_box.specs.declared.boxes.Box2.{Box2}
+use Rattle.certificate.specs.declared.entry.Counts.{Counts}
+use Rattle.check_main.specs.declared.outcome.Outcome.{Outcome}
+use Rattle.check_main.specs.declared.outcome.Outcome.TheVariants.{Yes}
+use Rattle.check_main.specs.Answers.{Answered}
+use Rattle.check_main.specs.BundleText.{Bundle, bundle_of}
+
+-- the corner and the sides of a box
+abbrev pub area_words : Box2 → List (List ℕ)
+area_words b = decimal b.x ∷ decimal b.y ∷ decimal b.w ∷ decimal b.h ∷ []
+
+-- how many lines of each kind there are
+abbrev pub count_words : Counts → List (List ℕ)
+count_words k =
+    codes "cuts" ∷ decimal k.cuts ∷ codes "gates" ∷ decimal k.gates
+    ∷ codes "edges" ∷ decimal k.edges ∷ codes "halos" ∷ decimal k.halos ∷ codes "stops" ∷ decimal k.stops ∷ []
+
+-- the line of the module of this number
+unfoldable pub module_line : ℕ → Counts → List ℕ
+module_line n k = line_text (codes "module") (decimal n ∷ (area_words k.area ++ count_words k))
+
+-- the lines of modules, numbered from n on
+unfoldable pub module_lines : ℕ → List Counts → List ℕ
+module_lines n [] = []
+module_lines n (k ∷ ks) = module_line n k ++ module_lines (n + 1) ks
+
+-- the box of each module and how many lines of each kind it has, in order
+pub record SaysModules (bundle : Bundle) (output : List ℕ) (outcome : Outcome) : Type 0 where
+  pub says : output ≡ module_lines 0 (map counts_of (modules_of bundle.entries))
+  pub ends : outcome ≡ Yes
+
+-- what `modules` writes for a text, and how it ends
+abbrev pub IsModulesOf : List ℕ → List ℕ → Outcome → Type 0
+IsModulesOf text output outcome = Answered SaysModules (bundle_of text) output outcome
+
+-- what comes of reading a bundle: the lines of its modules, or the refusal, or want of memory
+pub record ArePrinted (read : Result Bundle Refusal) (output : List ℕ) : Type 0 where
+  pub bundle : Bundle
+  pub was_read : read ≡ Ok bundle
+  pub lines : output ≡ module_lines 0 (map counts_of (modules_of bundle.entries))
+
+abbrev pub PrintsModules : {V : Type 0} → (V → List ℕ) → Result Bundle Refusal → Result V ReadFault → Type 0
+PrintsModules bytes read (Ok out) = ArePrinted read (bytes out)
+PrintsModules bytes read (Err fault) = Fails fault read
