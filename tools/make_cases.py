@@ -9,6 +9,9 @@ output), status (left out: 0), since and until (left out: 1, and for ever) and s
 A case is taken where K lies between its since and its until, and the first of its words is one of the
 commands or it is about words alone: status 2, or help. --also takes a case of that name in any case.
 --largest leaves out cases whose stdin has more bytes; a stdin_repeat is short however much it stands for.
+
+The repository's file is made with `--stage 3 --commands run,value,modules --largest 200000`. That leaves out the five cases with
+as many edge and halo lines as a module may have, or one more: each is over a megabyte. tools/compare makes such bundles itself.
 """
 import argparse
 import sys

@@ -1,4 +1,5 @@
-"""`run` and `value` once more, in plain Python and straight from docs/FORMATS.md: no code is shared with the program.
+"""`run`, `value` and `modules` once more, in plain Python and straight from docs/FORMATS.md: no code is shared with the
+program.
 
 answer(command, text) gives the exit status and what is written for a text of bytes.
 """
@@ -56,9 +57,10 @@ PARTS = [b"mirror", b"ball", b"in", b"out", b"waste"]
 
 
 class Layout:
-    def __init__(self):
-        self.rank = 0
-        self.begun, self.ended, self.live, self.ins = set(), set(), set(), []
+    def __init__(self, known=None):
+        """known: which names an `in` and an `out` may have and must have, or None where any name is good."""
+        self.rank, self.known = 0, known
+        self.begun, self.ended, self.live, self.ports = set(), set(), set(), {b"in": [], b"out": []}
 
     def form(self, words):
         word, rest = words[0], words[1:]
@@ -86,6 +88,8 @@ class Layout:
             return 6
         if not (1 <= w <= 512 and 1 <= h <= 512):
             return 2
+        if self.known and name and name not in self.known[PARTS[rank]]:
+            return 3
         if x + w > self.w or y + h > self.h:
             return 7
         cells = {(u, v) for u in range(x, x + w) for v in range(y, y + h)}
@@ -95,12 +99,13 @@ class Layout:
         self.begun |= cells if rank < 3 else set()
         self.ended |= cells if rank not in (1, 2) else set()
         self.live |= cells if rank < 2 else set()
-        if rank == 2:
-            self.ins.append((name, (x, y)))
+        if name:
+            self.ports[PARTS[rank]].append((name, (x, y)))
         return None
 
     def end(self):
-        return None
+        having = {kind: {name for name, _ in ports} for kind, ports in self.ports.items()}
+        return 11 if self.known and any(self.known[kind] - having[kind] for kind in having) else None
 
 
 def stepped(live, time):
@@ -122,9 +127,10 @@ def stepped(live, time):
 def run(text):
     lines = Lines(text)
     layout = read_section(lines, Layout())
-    on = read_section(lines, Assign({name for name, _ in layout.ins})).on
+    ins = layout.ports[b"in"]
+    on = read_section(lines, Assign({name for name, _ in ins})).on
     lines.finish()
-    live = layout.live | {cell for name, cell in layout.ins if name in on}
+    live = layout.live | {cell for name, cell in ins if name in on}
     for time in range(layout.steps):
         live = stepped(live, time)
         if any(not (0 <= x < layout.w and 0 <= y < layout.h) for x, y in live):
@@ -148,7 +154,7 @@ ROWS = {
 
 class Circuit:
     def __init__(self):
-        self.rank, self.wires, self.used, self.inputs, self.gates = 0, [], set(), [], []
+        self.rank, self.wires, self.used, self.inputs, self.gates, self.outputs = 0, [], set(), [], [], []
 
     def form(self, words):
         word, rest = words[0], words[1:]
@@ -195,6 +201,7 @@ class Circuit:
         self.rank = rank
         self.inputs += outs if rank == 0 else []
         self.gates += [(word, number, ins, outs)] if rank == 1 else []
+        self.outputs += ins if rank == 2 else []
         return None
 
     def end(self):
@@ -241,8 +248,163 @@ class Assign:
         return None
 
 
+# ---- certificates
+
+KINDS = [b"cut", b"use", b"edge", b"halo"]
+
+
+def cells_of(x, y, w, h):
+    return {(u, v) for u in range(x, x + w) for v in range(y, y + h)}
+
+
+def ring_of(x, y, w, h):
+    return cells_of(x, y, w, h) - cells_of(x + 1, y + 1, w - 2, h - 2)
+
+
+class Module:
+    def __init__(self, box, inside, rim):
+        x, y, w, h = box
+        self.box, self.cells = box, cells_of(*box)
+        # the cells that a line of the kind may name
+        self.places = {b"edge": ring_of(*box) - rim, b"halo": ring_of(x - 1, y - 1, w + 2, h + 2) & inside}
+        # by kind what its lines say: names, gate numbers, and pairs of a place and a signal
+        self.lines = {kind: [] for kind in KINDS}
+        # the cells that * lines name
+        self.held = {b"edge": set(), b"halo": set()}
+        self.rank, self.local = 0, set()
+
+
+class Certificate:
+    def __init__(self, circuit, layout):
+        self.layout, self.wires = layout, set(circuit.wires)
+        self.gates = [(ins, outs) for _, _, ins, outs in circuit.gates]
+        w, h = layout.w, layout.h
+        self.inside, self.rim = cells_of(0, 0, w, h), ring_of(0, 0, w, h)
+        self.modules, self.covered = [], set()
+
+    def form(self, words):
+        word, rest = words[0], words[1:]
+        if words == [b"end"]:
+            return (END,)
+        if word == b"certificate" and len(rest) == 1 and numbers(rest):
+            return (HEADER, *numbers(rest))
+        if word == b"module" and len(rest) == 4 and numbers(rest):
+            return (ITEM, self.module, numbers(rest))
+        if word == b"cut" and len(rest) == 1 and NAME.match(rest[0]):
+            return (ITEM, self.cut, rest[0])
+        if word == b"use" and len(rest) == 1 and numbers(rest):
+            return (ITEM, self.use, *numbers(rest))
+        if word in (b"edge", b"halo") and len(rest) == 4:
+            time, *at, signal = rest
+            if (time == b"*" or numbers([time])) and numbers(at) and (signal == b"1" or NAME.match(signal)):
+                return (ITEM, self.border, word, None if time == b"*" else int(time), *numbers(at), signal)
+        return None
+
+    def header(self, version):
+        return None if version == 1 else 2
+
+    def item(self, line, *words):
+        return line(*words)
+
+    def module(self, box):
+        x, y, w, h = box
+        if self.lacks_a_port():
+            return 11
+        if any(side % 2 or not 2 <= side <= 64 for side in (w, h)) or len(self.modules) == 1024:
+            return 2
+        if x % 2 or y % 2 or x + w > self.layout.w or y + h > self.layout.h:
+            return 8
+        module = Module(box, self.inside, self.rim)
+        if module.cells & self.covered:
+            return 8
+        self.covered |= module.cells
+        self.modules.append(module)
+        return None
+
+    def is_out_of_place(self, kind):
+        return not self.modules or KINDS.index(kind) < self.modules[-1].rank
+
+    def cut(self, name):
+        if self.is_out_of_place(b"cut"):
+            return 6
+        module = self.modules[-1]
+        if len(module.lines[b"cut"]) == 10:
+            return 2
+        if name not in self.wires:
+            return 3
+        if name in module.local:
+            return 4
+        module.local.add(name)
+        return self.take(b"cut", name)
+
+    def use(self, gate):
+        if self.is_out_of_place(b"use") or gate <= max(self.modules[-1].lines[b"use"], default=-1):
+            return 6
+        module = self.modules[-1]
+        if len(module.lines[b"use"]) == 64:
+            return 2
+        if gate >= len(self.gates):
+            return 3
+        ins, outs = self.gates[gate]
+        if set(ins) - module.local:
+            return 9
+        if set(outs) & module.local:
+            return 4
+        module.local |= set(outs)
+        return self.take(b"use", gate)
+
+    def border(self, kind, time, x, y, signal):
+        # a * line comes before every line with a time
+        place = (-1 if time is None else time, y, x)
+        if self.is_out_of_place(kind):
+            return 6
+        module = self.modules[-1]
+        if module.lines[kind] and place <= module.lines[kind][-1][0]:
+            return 6
+        if len(module.lines[b"edge"]) + len(module.lines[b"halo"]) == 65536:
+            return 2
+        if (x, y) not in module.places[kind]:
+            return 10
+        if time is not None:
+            if time % 2 == 0 or time >= self.layout.steps or (-1, y, x) in module.held[kind]:
+                return 10
+        if signal != b"1":
+            if signal not in self.wires:
+                return 3
+            if signal not in module.local:
+                return 9
+        if time is None:
+            module.held[kind].add(place)
+        return self.take(kind, (place, signal))
+
+    def take(self, kind, what):
+        module = self.modules[-1]
+        module.lines[kind].append(what)
+        module.rank = KINDS.index(kind)
+        return None
+
+    def lacks_a_port(self):
+        ports = self.layout.ports[b"in"] + self.layout.ports[b"out"]
+        last = self.modules[-1:]
+        return any(cell in module.cells and name not in module.local for module in last for name, cell in ports)
+
+    def end(self):
+        return 11 if self.lacks_a_port() or self.covered != self.inside else None
+
+
+def modules(text):
+    lines = Lines(text)
+    circuit = read_section(lines, Circuit())
+    known = {b"in": set(circuit.inputs), b"out": set(circuit.outputs)}
+    certificate = read_section(lines, Certificate(circuit, read_section(lines, Layout(known))))
+    lines.finish()
+    rows = [(number, *module.box, *(len(module.lines[kind]) for kind in KINDS))
+            for number, module in enumerate(certificate.modules)]
+    return 0, b"".join(b"module %d %d %d %d %d cuts %d gates %d edges %d halos %d stops 0\n" % row for row in rows)
+
+
 def answer(command, text):
     try:
-        return {"run": run, "value": value}[command](text)
+        return {"run": run, "value": value, "modules": modules}[command](text)
     except Refused as refused:
         return 3, b"refused %d %d\n" % refused.args
