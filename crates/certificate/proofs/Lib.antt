@@ -1,3 +1,9 @@
+pub mod TimetableLemmas
+pub mod FlatParts
+pub mod InnerLines
+pub mod BorderOrder
+pub mod Pairs
+pub mod BoxPlaces
 pub mod KnownLemmas
 pub mod BorderLines
 pub mod BuiltLemmas

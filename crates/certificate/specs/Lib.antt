@@ -8,5 +8,10 @@ pub mod Modules
 pub mod BuilderView
 pub mod CertView
 pub mod Text
+pub mod Signals
+pub mod Jobs
+pub mod ModuleParts
+pub mod Timetables
+pub mod JobFields
 pub mod Laws
 pub mod BorderWords

@@ -11,7 +11,9 @@ mod counts;
 mod digest;
 mod entry;
 mod form;
+mod job;
 mod known;
+mod lines;
 pub mod laws;
 mod order;
 mod printing;
@@ -22,8 +24,10 @@ mod stars;
 #[cfg(test)]
 mod tests;
 mod tiles;
+mod timetable;
 
 pub use cert::Cert;
 pub use entry::{Border, Counts, Entry};
+pub use job::{Demand, Job, Stop};
 pub use printing::print_certificate;
 pub use reading::read_certificate;

@@ -1,0 +1,177 @@
+-- The edge and halo lines of a module rise, those with a `*` by their cells, the others by time and cell.
+use Rattle.std.proofs.Common.{◌≡◌, ℕ, ◌+◌, Bool, true, false, ◌&&◌, ◌||◌, List, [], ◌∷◌, Option, Some, None, Ordering, Less, Equal, Greater, refl, sym, ap, subst, ◌∙◌, arith, map}
+use Rattle.std.specs.List.{flat_map, list_all}
+use Rattle.std.specs.Ordering.{nat_cmp, is_lt, ordering_then}
+use Rattle.std.proofs.lemmas.Bool.{and_parts}
+use Rattle.module_box.specs.Moments.{cell_cmp, moment_cmp}
+use Rattle.module_box.specs.Schedules.{IsRising, moment_of, cell_of as held_cell}
+use Rattle.module_box.specs.declared.schedules.Event.{Event}
+use Rattle.module_box.specs.declared.schedules.Held.{Held}
+use Rattle.module_box.specs.declared.schedules.Signal.{Signal}
+use Rattle.certificate.specs.Entries.{edge_in, halo_in}
+use Rattle.certificate.specs.Jobs.{held_by, event_by}
+use Rattle.certificate.specs.Orders.{AreInOrder, rank_of, number_of, cell_of, line_cmp, is_cut, may_precede, time_rank}
+use Rattle.certificate.specs.Signals.{renumber_held, renumber_event}
+use Rattle.certificate.specs.declared.entry.Border.{Border}
+use Rattle.certificate.specs.declared.entry.Entry.{Entry}
+use Rattle.certificate.specs.declared.entry.Entry.TheVariants.{Module, Cut, Use, Edge, Halo}
+use Rattle.certificate.proofs.Lists.{some_is}
+use Rattle.certificate.proofs.Pairs.{Each, Pairs, pairs_flat, rising_of}
+
+-- one line comes before another
+abbrev pub Before : Border → Border → Type 0
+Before d e = ordering_then (nat_cmp (time_rank d.time) (time_rank e.time)) (cell_cmp d.cell e.cell) ≡ Less
+
+each_of_test : (test : Entry → Bool) (lines : List Entry) → list_all test lines ≡ true → Each (λ j. test j ≡ true) lines
+unfolding Each
+each_of_test test [] h = tt
+each_of_test test (j ∷ lines) h =
+    let both = and_parts (test j) (list_all test lines) h in
+    (both.0, each_of_test test lines both.1)
+
+pub pairs_of_order : (lines : List Entry) → AreInOrder lines → Pairs (λ i j. may_precede i j ≡ true) lines
+unfolding AreInOrder Pairs
+pairs_of_order [] h = tt
+pairs_of_order (i ∷ lines) h = (each_of_test (may_precede i) lines h.0, pairs_of_order lines h.1)
+
+is_less : (o : Ordering) (b : Bool) → b ≡ false → (is_lt o || b) ≡ true → o ≡ Less
+is_less Less b e h = refl
+is_less Equal b e h = absurd cc
+is_less Greater b e h = absurd cc
+
+edge_before : (d e : Border) → may_precede (Edge d) (Edge e) ≡ true → Before d e
+unfolding may_precede line_cmp rank_of number_of cell_of is_cut
+edge_before d e h = is_less _ false refl h
+
+halo_before : (d e : Border) → may_precede (Halo d) (Halo e) ≡ true → Before d e
+unfolding may_precede line_cmp rank_of number_of cell_of is_cut
+halo_before d e h = is_less _ false refl h
+
+edge_first : (d : Border) (j : Entry) → may_precede (Edge d) j ≡ true → Each (Before d) (edge_in j)
+unfolding Each
+edge_first d (Module b) h = tt
+edge_first d (Cut n) h = tt
+edge_first d (Use k) h = tt
+edge_first d (Edge e) h = (edge_before d e h, tt)
+edge_first d (Halo e) h = tt
+
+halo_first : (d : Border) (j : Entry) → may_precede (Halo d) j ≡ true → Each (Before d) (halo_in j)
+unfolding Each
+halo_first d (Module b) h = tt
+halo_first d (Cut n) h = tt
+halo_first d (Use k) h = tt
+halo_first d (Edge e) h = tt
+halo_first d (Halo e) h = (halo_before d e h, tt)
+
+edges_between : (i : Entry) → Each (λ d. (j : Entry) → may_precede i j ≡ true → Each (Before d) (edge_in j)) (edge_in i)
+unfolding Each
+edges_between (Module b) = tt
+edges_between (Cut n) = tt
+edges_between (Use k) = tt
+edges_between (Edge d) = (edge_first d, tt)
+edges_between (Halo e) = tt
+
+halos_between : (i : Entry) → Each (λ d. (j : Entry) → may_precede i j ≡ true → Each (Before d) (halo_in j)) (halo_in i)
+unfolding Each
+halos_between (Module b) = tt
+halos_between (Cut n) = tt
+halos_between (Use k) = tt
+halos_between (Edge e) = tt
+halos_between (Halo d) = (halo_first d, tt)
+
+edge_alone : (i : Entry) → Pairs Before (edge_in i)
+unfolding Each Pairs
+edge_alone (Module b) = tt
+edge_alone (Cut n) = tt
+edge_alone (Use k) = tt
+edge_alone (Edge e) = (tt, tt)
+edge_alone (Halo e) = tt
+
+halo_alone : (i : Entry) → Pairs Before (halo_in i)
+unfolding Each Pairs
+halo_alone (Module b) = tt
+halo_alone (Cut n) = tt
+halo_alone (Use k) = tt
+halo_alone (Edge e) = tt
+halo_alone (Halo e) = (tt, tt)
+
+pub edges_rise : (lines : List Entry) → AreInOrder lines → Pairs Before (flat_map edge_in lines)
+edges_rise lines o = pairs_flat (λ i j. may_precede i j ≡ true) Before edge_in edges_between edge_alone lines (pairs_of_order lines o)
+
+pub halos_rise : (lines : List Entry) → AreInOrder lines → Pairs Before (flat_map halo_in lines)
+halos_rise lines o = pairs_flat (λ i j. may_precede i j ≡ true) Before halo_in halos_between halo_alone lines (pairs_of_order lines o)
+
+-- ---- what the lines say
+
+abbrev HeldBefore : Held → Held → Type 0
+HeldBefore a b = cell_cmp a.cell b.cell ≡ Less
+
+abbrev EventBefore : Event → Event → Type 0
+EventBefore a b = moment_cmp a.at b.at ≡ Less
+
+both_starred : (a b : Option ℕ) (c : Ordering) → a ≡ None → b ≡ None → ordering_then (nat_cmp (time_rank a) (time_rank b)) c ≡ Less → c ≡ Less
+both_starred None None c s u h = h
+both_starred None (Some v) c s u h = absurd cc
+both_starred (Some t) b c s u h = absurd cc
+
+earlier_later : (a b : ℕ) (o : Ordering) → nat_cmp (a + 1) (b + 1) ≡ o → nat_cmp a b ≡ o
+earlier_later a b Less h = grind arith
+earlier_later a b Equal h = grind arith
+earlier_later a b Greater h = grind arith
+
+both_timed : (a b : Option ℕ) (t v : ℕ) (c : Ordering) → a ≡ Some t → b ≡ Some v → ordering_then (nat_cmp (time_rank a) (time_rank b)) c ≡ Less → ordering_then (nat_cmp t v) c ≡ Less
+both_timed (Some a) (Some b) t v c s u h =
+    let e : nat_cmp a b ≡ nat_cmp (a + 1) (b + 1) = earlier_later a b _ refl in
+    subst (λ x. ordering_then (nat_cmp x v) c ≡ Less) (some_is a t s) (subst (λ y. ordering_then (nat_cmp a y) c ≡ Less) (some_is b v u) (ap (λ o. ordering_then o c) e ∙ h))
+both_timed None b t v c s u h = absurd cc
+both_timed (Some a) None t v c s u h = absurd cc
+
+module _ (σ : Border → Signal) where
+  held_first : (d : Border) (t : Option ℕ) → d.time ≡ t → (e : Border) (u : Option ℕ) → e.time ≡ u → Before d e →
+      Each (λ a. Each (HeldBefore a) (held_by e u (σ e))) (held_by d t (σ d))
+  unfolding Each
+  held_first d None s e None u h = ((both_starred d.time e.time (cell_cmp d.cell e.cell) s u h, tt), tt)
+  held_first d None s e (Some v) u h = (tt, tt)
+  held_first d (Some t) s e u v h = tt
+
+  event_first : (d : Border) (t : Option ℕ) → d.time ≡ t → (e : Border) (u : Option ℕ) → e.time ≡ u → Before d e →
+      Each (λ a. Each (EventBefore a) (event_by e u (σ e))) (event_by d t (σ d))
+  unfolding Each moment_cmp
+  event_first d None s e v u h = tt
+  event_first d (Some t) s e None u h = (tt, tt)
+  event_first d (Some t) s e (Some v) u h = ((both_timed d.time e.time t v (cell_cmp d.cell e.cell) s u h, tt), tt)
+
+  held_by_time : (d : Border) (t : Option ℕ) → d.time ≡ t → Each (λ a. (e : Border) → Before d e → Each (HeldBefore a) (held_by e e.time (σ e))) (held_by d t (σ d))
+  unfolding Each
+  held_by_time d None s = ((λ e h. (held_first d None s e e.time refl h).0), tt)
+  held_by_time d (Some t) s = tt
+
+  event_by_time : (d : Border) (t : Option ℕ) → d.time ≡ t → Each (λ a. (e : Border) → Before d e → Each (EventBefore a) (event_by e e.time (σ e))) (event_by d t (σ d))
+  unfolding Each
+  event_by_time d None s = tt
+  event_by_time d (Some t) s = ((λ e h. (event_first d (Some t) s e e.time refl h).0), tt)
+
+  held_alone : (d : Border) (t : Option ℕ) → Pairs HeldBefore (held_by d t (σ d))
+  unfolding Each Pairs
+  held_alone d None = (tt, tt)
+  held_alone d (Some t) = tt
+
+  event_alone : (d : Border) (t : Option ℕ) → Pairs EventBefore (event_by d t (σ d))
+  unfolding Each Pairs
+  event_alone d None = tt
+  event_alone d (Some t) = (tt, tt)
+
+  held_pairs : (es : List Border) → Pairs Before es → Pairs HeldBefore (flat_map (λ e. held_by e e.time (σ e)) es)
+  held_pairs es p = pairs_flat Before HeldBefore (λ e. held_by e e.time (σ e)) (λ d. held_by_time d d.time refl) (λ d. held_alone d d.time) es p
+
+  event_pairs : (es : List Border) → Pairs Before es → Pairs EventBefore (flat_map (λ e. event_by e e.time (σ e)) es)
+  event_pairs es p = pairs_flat Before EventBefore (λ e. event_by e e.time (σ e)) (λ d. event_by_time d d.time refl) (λ d. event_alone d d.time) es p
+
+  -- also by other numbers of the wires
+  pub held_rises : (f : ℕ → ℕ) (es : List Border) → Pairs Before es → (hs : List Held) → map (renumber_held f) hs ≡ flat_map (λ e. held_by e e.time (σ e)) es →
+      IsRising cell_cmp held_cell hs
+  held_rises f es p hs e = rising_of cell_cmp held_cell (renumber_held f) (λ a. refl) hs _ e (held_pairs es p)
+
+  pub events_rise : (f : ℕ → ℕ) (es : List Border) → Pairs Before es → (hs : List Event) → map (renumber_event f) hs ≡ flat_map (λ e. event_by e e.time (σ e)) es →
+      IsRising moment_cmp moment_of hs
+  events_rise f es p hs e = rising_of moment_cmp moment_of (renumber_event f) (λ a. refl) hs _ e (event_pairs es p)

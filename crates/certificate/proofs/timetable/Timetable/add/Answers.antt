@@ -1,0 +1,15 @@
+use Rattle.std.proofs.Common.{◌≡◌, ◌++◌, [], ◌∷◌, List}
+use Rattle.circuit.specs.Bridge.{circuit_of}
+use Rattle.certificate.specs.Jobs.{event_by, held_by}
+use Rattle.certificate.specs.Timetables.{IsTimetable}
+use Rattle.certificate.specs.declared.entry.Border.{Border}
+use Rattle.certificate.proofs.TimetableLemmas.{both_ok, with_border}
+use Rattle.certificate.proofs.timetable.Timetable.add.Goals as goal
+
+-- src/timetable.rt:75:5
+pub returns : goal.returns
+returns c =
+    let s = c.local_signal-signal in
+    let circuit = circuit_of c.args.circuit.now in
+    let locals = c.args.locals.now in
+    both_ok c.push.result _ _ _ (λ h e es t. with_border circuit locals es c.args.border.now s.result c.args.self.now c.push.new.self s.ensures.same s.ensures.own h e t) c.push.ensures.held c.push.ensures.events

@@ -1,0 +1,16 @@
+-- The lines of one module
+use Rattle.std.specs.Prelude.{Bool, true, false, if◌then◌else◌, List, [], ◌∷◌}
+use Rattle.certificate.specs.declared.entry.Entry.{Entry}
+use Rattle.certificate.specs.declared.entry.Entry.TheVariants.{Module, Cut, Use, Edge, Halo}
+
+abbrev pub is_module : Entry → Bool
+is_module (Module b) = true
+is_module (Cut n) = false
+is_module (Use k) = false
+is_module (Edge e) = false
+is_module (Halo e) = false
+
+-- the lines before the next `module` line
+unfoldable pub inner : List Entry → List Entry
+inner [] = []
+inner (i ∷ entries) = if is_module i then [] else i ∷ inner entries

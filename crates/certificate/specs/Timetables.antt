@@ -1,0 +1,30 @@
+-- The signals of edge or halo lines over the wires of a module
+use Rattle.std.specs.Prelude.{◌≡◌, List, map, IfSome, IsTrue}
+use Rattle.std.specs.List.{All}
+use Rattle.circuit.specs.Meaning.{Circuit, wires}
+use Rattle.module_box.specs.Locals.{LocalNet, circuit_wire}
+use Rattle.certificate.specs.Entries.{edge_in, halo_in}
+use Rattle.certificate.specs.Jobs.{line_signals}
+use Rattle.certificate.specs.Rules.{is_local}
+use Rattle.certificate.specs.Signals.{IsBelow, renumber_held, renumber_event}
+use Rattle.certificate.specs.declared.entry.Border.{Border}
+use Rattle.certificate.specs.declared.entry.Entry.{Entry}
+use Rattle.certificate.specs.declared.timetable.Side.{Side}
+use Rattle.certificate.specs.declared.timetable.Side.TheVariants.{Ring, Halo}
+use Rattle.certificate.specs.declared.timetable.Timetable.{Timetable}
+
+-- what a line says of cells of this side
+abbrev pub borders_in : Side → Entry → List Border
+borders_in Ring i = edge_in i
+borders_in Halo i = halo_in i
+
+-- the wire that the line names, if it names one, is one of the module's
+abbrev pub IsNamedLocal : Circuit → LocalNet → Border → Type 0
+IsNamedLocal c l e = IfSome e.signal (λ name. IsTrue (is_local c l.circuit_wires name))
+
+-- what is held and what happens is what the lines say, and each wire is one of the module's
+pub record IsTimetable (c : Circuit) (l : LocalNet) (es : List Border) (t : Timetable) : Type 0 where
+  pub held : map (renumber_held (circuit_wire l)) t.held.items ≡ (line_signals c es).held
+  pub events : map (renumber_event (circuit_wire l)) t.events.items ≡ (line_signals c es).events
+  pub own_held : All (λ h. IsBelow (wires l.netlist) h.signal) t.held.items
+  pub own_events : All (λ e. IsBelow (wires l.netlist) e.signal) t.events.items

@@ -1,0 +1,131 @@
+//! The signals of a module's edge and halo lines, over the wires that the module knows.
+ghost use Rattle.std.specs.Prelude.{◌≡◌, ◌<◌, ◌++◌, [], ◌∷◌, List, Some, IfOk, IfSome, IsTrue, OnOk};
+ghost use Rattle.std.specs.List.{All, flat_map};
+ghost use Rattle.circuit.specs.Bridge.{circuit_of};
+ghost use Rattle.circuit.specs.Meaning.{wire_of, wires};
+ghost use Rattle.module_box.specs.Locals.{circuit_wire};
+ghost use Rattle.certificate.specs.Jobs.{event_by, held_by, line_signal, line_signals};
+ghost use Rattle.certificate.specs.Orders.{AreInOrder};
+ghost use Rattle.certificate.specs.Rules.{is_local};
+ghost use Rattle.certificate.specs.Signals.{IsBelow, renumber_signal, renumber_signals};
+ghost use Rattle.certificate.specs.Timetables.{IsTimetable, borders_in, IsNamedLocal};
+ghost use Rattle.certificate.specs.declared.entry.Border.{Border};
+
+use crate::entry::{Border, Entry};
+use circuit::Circuit;
+use module_box::{Event, Held, Locals, Moment, Schedule, Signal};
+use section_text::Name;
+use std::alloc::{AllocError, Global};
+
+/// The cells that a line is about: of the ring of a module's box, or of its halo.
+#[derive(Clone, Copy)]
+pub(crate) enum Side {
+    Ring,
+    Halo,
+}
+
+// What the lines so far say: at all odd times, and at single ones.
+#[derive(Drop)]
+struct Timetable {
+    held: Vec<Held>,
+    events: Vec<Event>,
+}
+
+// The module's own number of a wire that is local.
+fn local_wire(circuit: &Circuit, locals: &Locals, name: &Name) -> u16
+    requires { IsTrue (is_local (circuit_of circuit.now) locals.now.circuit_wires name.now) }
+    ensures wire { wire_of (circuit_of circuit.now) name.now ≡ Some (circuit_wire locals.now result) }
+    ensures below { result < wires locals.now.netlist }
+{
+    let known = locals.wires();
+    let Some(wire) = circuit.wire(name) else {
+        unreachable!();
+    };
+    match locals.local(wire) {
+        Some(local) => {
+            prove!((local as usize) < known);
+            local
+        }
+        None => unreachable!(),
+    }
+}
+
+fn local_signal(circuit: &Circuit, locals: &Locals, signal: &Option<Name>) -> Signal
+    requires { IfSome signal.now (λ name. IsTrue (is_local (circuit_of circuit.now) locals.now.circuit_wires name)) }
+    ensures same { renumber_signal (circuit_wire locals.now) result ≡ line_signal (circuit_of circuit.now) signal.now }
+    ensures own { IsBelow (wires locals.now.netlist) result }
+{
+    match signal {
+        None => Signal::One,
+        Some(name) => Signal::Wire(local_wire(circuit, locals, name)),
+    }
+}
+
+impl Timetable {
+    fn push(&mut self, border: &Border, signal: Signal) -> Result<(), AllocError>
+        ensures held { OnOk result (self.new.held.items ≡ self.old.held.items ++ held_by border.now border.now.time signal) }
+        ensures events { OnOk result (self.new.events.items ≡ self.old.events.items ++ event_by border.now border.now.time signal) }
+    {
+        let cell = border.cell;
+        match border.time {
+            None => self.held.push(Held { cell, signal })?,
+            Some(time) => self.events.push(Event {
+                at: Moment { time, cell },
+                signal,
+            })?,
+        }
+        Ok(())
+    }
+
+    // Adds an edge or halo line.
+    fn add(&mut self, circuit: &Circuit, locals: &Locals, border: &Border) -> Result<(), AllocError>
+        requires { IsNamedLocal (circuit_of circuit.now) locals.now border.now }
+        ensures { OnOk result ((es : List Border) → IsTimetable (circuit_of circuit.now) locals.now es self.old → IsTimetable (circuit_of circuit.now) locals.now (es ++ border.now ∷ []) self.new) }
+    {
+        let signal = local_signal(circuit, locals, &border.signal);
+        self.push(border, signal)
+    }
+
+    // Adds a line, if it is about cells of this side.
+    fn add_line(
+        &mut self,
+        circuit: &Circuit,
+        locals: &Locals,
+        side: Side,
+        line: &Entry,
+    ) -> Result<(), AllocError>
+        requires { All (IsNamedLocal (circuit_of circuit.now) locals.now) (borders_in side line.now) }
+        ensures { OnOk result ((es : List Border) → IsTimetable (circuit_of circuit.now) locals.now es self.old → IsTimetable (circuit_of circuit.now) locals.now (es ++ borders_in side line.now) self.new) }
+    {
+        match (side, line) {
+            (Side::Ring, Entry::Edge(border)) => self.add(circuit, locals, border),
+            (Side::Halo, Entry::Halo(border)) => self.add(circuit, locals, border),
+            _ => Ok(()),
+        }
+    }
+}
+
+/// The signals of a module's lines about cells of its ring or of its halo.
+pub(crate) fn signals_of(
+    alloc: Global,
+    circuit: &Circuit,
+    locals: &Locals,
+    side: Side,
+    lines: &[Entry],
+) -> Result<Schedule, AllocError>
+    requires order { AreInOrder lines.now }
+    requires local { All (IsNamedLocal (circuit_of circuit.now) locals.now) (flat_map (borders_in side) lines.now) }
+    ensures same { IfOk result (λ s. renumber_signals (circuit_wire locals.now) s ≡ line_signals (circuit_of circuit.now) (flat_map (borders_in side) lines.now)) }
+    ensures held { IfOk result (λ s. All (λ h. IsBelow (wires locals.now.netlist) h.signal) s.held) }
+    ensures events { IfOk result (λ s. All (λ e. IsBelow (wires locals.now.netlist) e.signal) s.events) }
+{
+    let mut table = Timetable {
+        held: Vec::new(alloc),
+        events: Vec::new(alloc),
+    };
+    'lines: for line in lines {
+        table.add_line(circuit, locals, side, line)?;
+    }
+    Ok(Schedule::new(table.held, table.events))
+}
+
