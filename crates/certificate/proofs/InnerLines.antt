@@ -5,11 +5,11 @@ use Rattle.std.proofs.lemmas.List.{append-nil, append_assoc, drop_all, take_all,
 use Rattle.certificate.specs.ModuleParts.{inner, is_module}
 use Rattle.certificate.specs.declared.entry.Entry.{Entry}
 
-inner_module : (e : Entry) (es : List Entry) → is_module e ≡ true → inner (e ∷ es) ≡ []
+pub inner_module : (e : Entry) (es : List Entry) → is_module e ≡ true → inner (e ∷ es) ≡ []
 unfolding inner
 inner_module e es m = rw m refl
 
-inner_other : (e : Entry) (es : List Entry) → is_module e ≡ false → inner (e ∷ es) ≡ e ∷ inner es
+pub inner_other : (e : Entry) (es : List Entry) → is_module e ≡ false → inner (e ∷ es) ≡ e ∷ inner es
 unfolding inner
 inner_other e es m = rw m refl
 

@@ -1,3 +1,7 @@
+pub mod JobLemmas
+pub mod PlanLemmas
+pub mod JobLists
+pub mod ModuleSplit
 pub mod TimetableLemmas
 pub mod FlatParts
 pub mod InnerLines

@@ -15,3 +15,4 @@ pub mod Timetables
 pub mod JobFields
 pub mod Laws
 pub mod BorderWords
+pub mod PlanView

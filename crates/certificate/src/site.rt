@@ -51,7 +51,8 @@ fn add_port(index: &mut IndexMap<Cell, Name>, port: &Port) -> Result<(), AllocEr
     }
 }
 
-fn index_ports(alloc: Global, ports: &[Port]) -> Result<IndexMap<Cell, Name>, AllocError>
+/// The name of the port at each cell that has one.
+pub(crate) fn index_ports(alloc: Global, ports: &[Port]) -> Result<IndexMap<Cell, Name>, AllocError>
     requires { HaveOwnCells ports.now }
     ensures { IfOk result (λ index. IsIndexOf index ports.now) }
 {

@@ -1,8 +1,8 @@
 //! The signals of a module's edge and halo lines, over the wires that the module knows.
-ghost use Rattle.std.specs.Prelude.{◌≡◌, ◌<◌, ◌++◌, [], ◌∷◌, List, Some, IfOk, IfSome, IsTrue, OnOk};
+ghost use Rattle.std.specs.Prelude.{◌≡◌, ◌++◌, [], ◌∷◌, List, IfOk, IfSome, IsTrue, OnOk};
 ghost use Rattle.std.specs.List.{All, flat_map};
 ghost use Rattle.circuit.specs.Bridge.{circuit_of};
-ghost use Rattle.circuit.specs.Meaning.{wire_of, wires};
+ghost use Rattle.circuit.specs.Meaning.{wires};
 ghost use Rattle.module_box.specs.Locals.{circuit_wire};
 ghost use Rattle.certificate.specs.Jobs.{event_by, held_by, line_signal, line_signals};
 ghost use Rattle.certificate.specs.Orders.{AreInOrder};
@@ -12,6 +12,7 @@ ghost use Rattle.certificate.specs.Timetables.{IsTimetable, borders_in, IsNamedL
 ghost use Rattle.certificate.specs.declared.entry.Border.{Border};
 
 use crate::entry::{Border, Entry};
+use crate::plan::local_name;
 use circuit::Circuit;
 use module_box::{Event, Held, Locals, Moment, Schedule, Signal};
 use section_text::Name;
@@ -31,25 +32,6 @@ struct Timetable {
     events: Vec<Event>,
 }
 
-// The module's own number of a wire that is local.
-fn local_wire(circuit: &Circuit, locals: &Locals, name: &Name) -> u16
-    requires { IsTrue (is_local (circuit_of circuit.now) locals.now.circuit_wires name.now) }
-    ensures wire { wire_of (circuit_of circuit.now) name.now ≡ Some (circuit_wire locals.now result) }
-    ensures below { result < wires locals.now.netlist }
-{
-    let known = locals.wires();
-    let Some(wire) = circuit.wire(name) else {
-        unreachable!();
-    };
-    match locals.local(wire) {
-        Some(local) => {
-            prove!((local as usize) < known);
-            local
-        }
-        None => unreachable!(),
-    }
-}
-
 fn local_signal(circuit: &Circuit, locals: &Locals, signal: &Option<Name>) -> Signal
     requires { IfSome signal.now (λ name. IsTrue (is_local (circuit_of circuit.now) locals.now.circuit_wires name)) }
     ensures same { renumber_signal (circuit_wire locals.now) result ≡ line_signal (circuit_of circuit.now) signal.now }
@@ -57,7 +39,7 @@ fn local_signal(circuit: &Circuit, locals: &Locals, signal: &Option<Name>) -> Si
 {
     match signal {
         None => Signal::One,
-        Some(name) => Signal::Wire(local_wire(circuit, locals, name)),
+        Some(name) => Signal::Wire(local_name(circuit, locals, name)),
     }
 }
 

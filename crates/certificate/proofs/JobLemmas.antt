@@ -1,0 +1,68 @@
+-- What a module's lines give to its job.
+use Rattle.std.proofs.Common.{◌≡◌, ℕ, ◌+◌, ◌<◌, ◌≤◌, ◌^◌, length, List, [], Some, None, sym, ap, subst, ◌∙◌, arith, get_or}
+use Rattle.std.specs.Prelude.{slice_get}
+use Rattle.std.specs.List.{All, flat_map}
+use Rattle.std.proofs.lemmas.List.Elements.{All-nil}
+use Rattle.std.proofs.lemmas.Option.{slice_get-get_or, slice_get_within}
+use Rattle.circuit.specs.Bridge.{circuit_of, netlist_of}
+use Rattle.circuit.specs.Meaning.{Netlist, wires}
+use Rattle.circuit.specs.declared.entry.Entry.{Entry as CircuitLine}
+use Rattle.pattern.specs.Layout.{Pattern}
+use Rattle.pattern.specs.Lines.{size_fault}
+use Rattle.pattern.specs.declared.parts.Size.{Size}
+use Rattle.pattern.proofs.TakenLemmas.{IsSized, is_sized}
+use Rattle.module_box.specs.Locals.{AreLocalLines, LocalNet, local_wires}
+use Rattle.certificate.specs.Entries.{Setting, ModuleLines, cuts, cut_wires, gates, known, edges, halos}
+use Rattle.certificate.specs.Grammars.{setting_of}
+use Rattle.certificate.specs.Modules.{IsModule, IsEdge, IsHalo}
+use Rattle.certificate.specs.Timetables.{IsNamedLocal}
+use Rattle.certificate.specs.declared.entry.Border.{Border}
+use Rattle.certificate.specs.declared.job.Stop.{Stop}
+
+-- the numbers of gates are small
+pub small_gates : (n : Netlist) (cw gs : List ℕ) → AreLocalLines n cw gs → length n.gates ≤ 1024 → All (λ k. k < 2 ^ 16) gs
+small_gates n cw gs h few k d lt =
+    let is = h.known k (get_or gs k d) (slice_get-get_or gs k d lt) in
+    let within = slice_get_within n.gates (get_or gs k d) is.gate is.numbered in
+    omega (arith, within, few)
+
+-- a box inside a layout lies within 512 cells, and a layout has at most 4096 steps
+pub within_512 : (g : Setting) (m : ModuleLines) (s : Size) → s ≡ g.size → size_fault s ≡ None → IsModule g m → (m.area.x + m.area.w ≤ 512) × (m.area.y + m.area.h ≤ 512) × (s.steps ≤ 4096)
+within_512 g m s is limits h =
+    let sized = is_sized s limits in
+    let inside = subst (λ (t : Size). (m.area.x + m.area.w ≤ t.w) × (m.area.y + m.area.h ≤ t.h)) (sym is) (h.inside.right, h.inside.bottom) in
+    let wide = sized.width.1 in
+    let high = sized.height.1 in
+    let right = inside.0 in
+    let bottom = inside.1 in
+    (omega (arith, wide, right), omega (arith, high, bottom), sized.steps)
+
+-- the wires that edge and halo lines name are the module's
+pub edges_named : (g : Setting) (m : ModuleLines) (l : LocalNet) → l.circuit_wires ≡ known g.circuit m → IsModule g m → All (IsNamedLocal g.circuit l) (edges m)
+edges_named g m l is h k d lt = subst (λ ws. IsNamedLocal g.circuit (record l { circuit_wires = ws }) (get_or (edges m) k d)) (sym is) (h.edge_lines k d lt).border.signal
+
+pub halos_named : (g : Setting) (m : ModuleLines) (l : LocalNet) → l.circuit_wires ≡ known g.circuit m → IsModule g m → All (IsNamedLocal g.circuit l) (halos m)
+halos_named g m l is h k d lt = subst (λ ws. IsNamedLocal g.circuit (record l { circuit_wires = ws }) (get_or (halos m) k d)) (sym is) (h.halo_lines k d lt).border.signal
+
+-- ---- what was made of the lines, where ls are the lines of the circuit cs
+
+pub few_gates : (ls cs : List CircuitLine) (n : ℕ) → ls ≡ cs → n ≡ length (netlist_of ls).gates → n ≤ 1024 → length (netlist_of cs).gates ≤ 1024
+few_gates ls cs n e count few = subst (λ k. k ≤ 1024) (count ∙ ap (λ l. length (netlist_of l).gates) e) few
+
+pub lists_local : (ls cs : List CircuitLine) (p : Pattern) (m : ModuleLines) (cw gs : List ℕ) → ls ≡ cs → cw ≡ cut_wires (circuit_of ls) m → gs ≡ gates m →
+    IsModule (setting_of cs p) m → AreLocalLines (netlist_of ls) cw gs
+lists_local ls cs p m cw gs e ce ge h =
+    let of_lines : AreLocalLines (netlist_of ls) (cut_wires (circuit_of ls) m) (gates m) = subst (λ l. AreLocalLines (netlist_of l) (cut_wires (circuit_of l) m) (gates m)) (sym e) h.local in
+    subst (λ c. AreLocalLines (netlist_of ls) c gs) (sym ce) (subst (AreLocalLines (netlist_of ls) (cut_wires (circuit_of ls) m)) (sym ge) of_lines)
+
+pub wires_known : (ls cs : List CircuitLine) (m : ModuleLines) (cw gs ws : List ℕ) → ls ≡ cs → cw ≡ cut_wires (circuit_of ls) m → gs ≡ gates m →
+    ws ≡ local_wires (netlist_of ls) cw gs → ws ≡ known (circuit_of cs) m
+wires_known ls cs m cw gs ws e ce ge we =
+    we ∙ ap (λ c. local_wires (netlist_of ls) c gs) ce ∙ ap (local_wires (netlist_of ls) (cut_wires (circuit_of ls) m)) ge ∙ ap (λ l. known (circuit_of l) m) e
+
+pub cut_count : (ls cs : List CircuitLine) (p : Pattern) (m : ModuleLines) (cw : List ℕ) (n : ℕ) → ls ≡ cs → cw ≡ cut_wires (circuit_of ls) m → n ≡ length cw →
+    IsModule (setting_of cs p) m → n ≡ length (cuts m)
+cut_count ls cs p m cw n e ce ne h = ne ∙ ap length ce ∙ ap (λ l. length (cut_wires (circuit_of l) m)) e ∙ h.named
+
+pub none_own : (n : ℕ) (stops : List Stop) → stops ≡ [] → All (λ s. s.wire < n) stops
+none_own n stops e = subst (All (λ s. s.wire < n)) (sym e) (All-nil (λ s. s.wire < n))

@@ -1,0 +1,180 @@
+-- The indexes of a layout's cells, and the ports in a module's box.
+use Rattle.std.proofs.Common.{◌≡◌, ℕ, zero, suc, ◌+◌, ℤ, Bool, true, false, ◌||◌, if◌then◌else◌, List, [], ◌∷◌, ◌<◌, ◌≤◌, get_or, length, Option, Some, None, refl, sym, ap, ap₂, subst, ◌∙◌, arith}
+use Rattle.std.specs.Prelude.{slice_get, IsTrue, IfSome}
+use Rattle.std.specs.List.{list_any, flat_map}
+use Rattle.std.specs.HashMap.{HashMap, get}
+use Rattle.std.proofs.lemmas.List.Folds.{list_any-append}
+use Rattle.bbm_rule.specs.declared.block.Cell.{Cell}
+use Rattle.circuit.specs.Bridge.{circuit_of}
+use Rattle.circuit.specs.Meaning.{Circuit}
+use Rattle.circuit.specs.declared.entry.Entry.{Entry as CircuitLine}
+use Rattle.pattern.specs.Layout.{Pattern, is_at, in_cells, in_rectangles, rectangle_cells}
+use Rattle.pattern.specs.declared.parts.Port.{Port}
+use Rattle.pattern.specs.declared.parts.Rectangle.{Rectangle}
+use Rattle.pattern.specs.declared.parts.Size.{Size}
+use Rattle.pattern.specs.Lines.{AreGoodAfter, parts_of, size_fault}
+use Rattle.pattern.proofs.InsideLemmas.{size_sides, begins_inside, mirrors_fit}
+use Rattle.pattern.proofs.RectangleLemmas.{in_rectangle_cells}
+use Rattle.module_box.specs.Boxes.{in_box}
+use Rattle.module_box.specs.Tiling.{IsInside}
+use Rattle.module_box.specs.declared.boxes.Box2.{Box2}
+use Rattle.module_box.specs.declared.schedules.Signal.TheVariants.{One}
+use Rattle.certificate.specs.Entries.{ModuleLines, known}
+use Rattle.certificate.specs.Grammars.{setting_of}
+use Rattle.certificate.specs.Jobs.{port_at, named_wire, signal_of, start_signal, demand_elsewhere, end_demand}
+use Rattle.certificate.specs.declared.job.Demand.TheVariants as Demanded
+use Rattle.certificate.specs.Modules.{HasPorts}
+use Rattle.certificate.specs.PlanView.{KnowsPorts}
+use Rattle.certificate.specs.Rules.{is_local, same_cell}
+use Rattle.certificate.specs.SiteView.{IsIndexOf}
+use Rattle.certificate.proofs.BoxPlaces.{skipped}
+use Rattle.certificate.proofs.Lists.{kept, same_truth}
+use Rattle.certificate.proofs.PortLemmas.{cell_same, cell_itself}
+
+-- ---- sets of cells
+
+cell_turned : (c d : Cell) → same_cell c d ≡ true → same_cell d c ≡ true
+cell_turned c d h = ap (λ (e : Cell). same_cell e c) (sym (cell_same c d h)) ∙ cell_itself c
+
+same_turned : (c d : Cell) → same_cell c d ≡ same_cell d c
+same_turned c d = same_truth _ _ (cell_turned c d) (cell_turned d c)
+
+-- the cells of a list that are this one
+pub cells_turned : (cells : List Cell) (c : Cell) → list_any (same_cell c) cells ≡ in_cells cells c.x c.y
+cells_turned [] c = refl
+cells_turned (d ∷ cells) c = ap₂ (λ a b. a || b) (same_turned c d) (cells_turned cells c)
+
+in_mirrors : (rs : List Rectangle) (x y : ℤ) → in_cells (flat_map rectangle_cells rs) x y ≡ in_rectangles rs x y
+in_mirrors [] x y = refl
+in_mirrors (r ∷ rs) x y = list_any-append (λ (c : Cell). is_at c x y) (rectangle_cells r) (flat_map rectangle_cells rs) ∙ rw (in_rectangle_cells r x y, in_mirrors rs x y) refl
+
+pub mirrors_turned : (rs : List Rectangle) (c : Cell) → list_any (same_cell c) (flat_map rectangle_cells rs) ≡ in_rectangles rs c.x c.y
+mirrors_turned rs c = cells_turned (flat_map rectangle_cells rs) c ∙ in_mirrors rs c.x c.y
+
+-- ---- ports by their cells
+
+-- the port at a cell is one of the ports
+pub record StandsAt (ports : List Port) (x y : ℤ) (name : List ℕ) : Type 0 where
+  pub number : ℕ
+  pub port : Port
+  pub numbered : slice_get ports number ≡ Some port
+  pub stands : is_at port.cell x y ≡ true
+  pub named : port.name ≡ name
+
+stands_later : (p : Port) (ports : List Port) (x y : ℤ) (name : List ℕ) → StandsAt ports x y name → StandsAt (p ∷ ports) x y name
+stands_later p ports x y name s = record { number = suc s.number; port = s.port; numbered = s.numbered; stands = s.stands; named = s.named }
+
+some_name : (a b : List ℕ) → ◌≡◌ {A = Option (List ℕ)} (Some a) (Some b) → a ≡ b
+some_name a b e = cc
+
+first_stands : (b : Bool) (p : Port) (ports : List Port) (x y : ℤ) (name : List ℕ) → is_at p.cell x y ≡ b → (port_at ports x y ≡ Some name → StandsAt ports x y name)
+    → (if b then Some p.name else port_at ports x y) ≡ Some name → StandsAt (p ∷ ports) x y name
+first_stands true p ports x y name h more e = record { number = 0; port = p; numbered = refl; stands = h; named = some_name p.name name e }
+first_stands false p ports x y name h more e = stands_later p ports x y name (more e)
+
+pub port_stands : (ports : List Port) (x y : ℤ) (name : List ℕ) → port_at ports x y ≡ Some name → StandsAt ports x y name
+unfolding port_at
+port_stands [] x y name e = absurd cc
+port_stands (p ∷ ports) x y name e = first_stands (is_at p.cell x y) p ports x y name refl (port_stands ports x y name) e
+
+absent_here : (b : Bool) (n : List ℕ) (o : Option (List ℕ)) → (if b then Some n else o) ≡ None → (b ≡ false) × (o ≡ None)
+absent_here true n o e = absurd cc
+absent_here false n o e = (refl, e)
+
+-- where no port is found, none stands
+pub none_stands : (ports : List Port) (x y : ℤ) → port_at ports x y ≡ None → (i : ℕ) (p : Port) → slice_get ports i ≡ Some p → is_at p.cell x y ≡ true → ⊥
+unfolding port_at
+none_stands [] x y e i p at h = cc
+none_stands (q ∷ ports) x y e zero p at h =
+    let r = absent_here (is_at q.cell x y) q.name (port_at ports x y) e in
+    let same : q ≡ p = cc in
+    let there : is_at q.cell x y ≡ true = ap (λ (s : Port). is_at s.cell x y) same ∙ h in
+    let not_there : is_at q.cell x y ≡ false = r.0 in
+    cc (there, not_there)
+none_stands (q ∷ ports) x y e (suc i) p at h = none_stands ports x y (absent_here (is_at q.cell x y) q.name (port_at ports x y) e).1 i p at h
+
+module _ {S : Type 0} (index : HashMap Cell (List ℕ) S) (ports : List Port) (is : IsIndexOf index ports) (c : Cell) where
+  found_some : (name : List ℕ) → port_at ports c.x c.y ≡ Some name → get same_cell index c ≡ Some name
+  found_some name e =
+      let s = port_stands ports c.x c.y name e in
+      ap (λ (d : Cell). get same_cell index d) (sym (cell_same s.port.cell c s.stands)) ∙ is.there s.number s.port s.numbered ∙ ap (λ (n : List ℕ). Some n) s.named
+
+  found_none : (o : Option (List ℕ)) → get same_cell index c ≡ o → port_at ports c.x c.y ≡ None → o ≡ None
+  found_none None at e = refl
+  found_none (Some name) at e =
+      let p = is.only c name at in
+      absurd (none_stands ports c.x c.y e p.number p.port p.numbered (ap (λ (d : Cell). is_at d c.x c.y) p.stands ∙ cell_itself c))
+
+  found : (o : Option (List ℕ)) → port_at ports c.x c.y ≡ o → get same_cell index c ≡ o
+  found None e = found_none _ refl e
+  found (Some name) e = found_some name e
+
+  pub port_found : get same_cell index c ≡ port_at ports c.x c.y
+  port_found = found _ refl
+
+-- ---- the ports in the box of a module
+
+module _ (lines : List CircuitLine) (p : Pattern) (m : ModuleLines) (has : HasPorts (setting_of lines p) m) where
+  abbrev is_known : List ℕ → Type 0
+  is_known name = IsTrue (is_local (circuit_of lines) (known (circuit_of lines) m) name)
+
+  abbrev AreKnown : List Port → Type 0
+  AreKnown ports = (i : ℕ) (q : Port) → slice_get ports i ≡ Some q → IsTrue (in_box m.area q.cell.x q.cell.y) → is_known q.name
+
+  knows_port : (ports : List Port) → AreKnown ports → (x y : ℤ) → IsTrue (in_box m.area x y) → (o : Option (List ℕ)) → port_at ports x y ≡ o → IfSome o is_known
+  knows_port ports each x y inside None e = tt
+  knows_port ports each x y inside (Some name) e =
+      let s = port_stands ports x y name e in
+      let there : IsTrue (in_box m.area s.port.cell.x s.port.cell.y) = ap (λ (c : Cell). in_box m.area c.x c.y) (cell_same s.port.cell (record { x = x; y = y }) s.stands) ∙ inside in
+      subst (λ (n : List ℕ). is_known n) s.named (each s.number s.port s.numbered there)
+
+  pub cells_have_ports : KnowsPorts (circuit_of lines) (known (circuit_of lines) m) p.ins m.area × KnowsPorts (circuit_of lines) (known (circuit_of lines) m) p.outs m.area
+  cells_have_ports = (
+    λ x y inside. knows_port p.ins (λ i q e. has.local i q (kept p.ins p.outs i q e)) x y inside _ refl,
+    λ x y inside. knows_port p.outs (λ i q e. has.local (length p.ins + i) q (skipped p.ins p.outs (length p.ins) i refl ∙ e)) x y inside _ refl,
+  )
+
+-- ---- what a cell carries at time 0
+
+pub start_one : (c : Circuit) (p : Pattern) (x y : ℤ) (a b : Bool) → a ≡ in_rectangles p.mirrors x y → b ≡ in_cells p.balls x y → (a || b) ≡ true → One ≡ start_signal c p x y
+unfolding start_signal
+start_one c p x y a b mirror ball h = rw (sym mirror, sym ball, h) refl
+
+pub start_port : (c : Circuit) (p : Pattern) (x y : ℤ) (a b : Bool) → a ≡ in_rectangles p.mirrors x y → b ≡ in_cells p.balls x y → (a || b) ≡ false → (o : Option (List ℕ)) → o ≡ port_at p.ins x y → signal_of (named_wire c o) ≡ start_signal c p x y
+unfolding start_signal
+start_port c p x y a b mirror ball h o port = rw (sym mirror, sym ball, h, sym port) refl
+
+-- ---- what a cell is to be at the last time
+
+pub end_live : (c : Circuit) (p : Pattern) (x y : ℤ) (a : Bool) → a ≡ in_rectangles p.mirrors x y → a ≡ true → Demanded.Live ≡ end_demand c p x y
+unfolding end_demand
+end_live c p x y a mirror h = rw (sym mirror, h) refl
+
+pub end_port : (c : Circuit) (p : Pattern) (x y : ℤ) (a : Bool) → a ≡ in_rectangles p.mirrors x y → a ≡ false → (o : Option (List ℕ)) → o ≡ port_at p.outs x y → demand_elsewhere c o (in_cells p.wastes x y) ≡ end_demand c p x y
+unfolding end_demand
+end_port c p x y a mirror h o port = rw (sym mirror, h, sym port) refl
+
+-- ---- the mirrors of a layout
+
+pub fit_in_layout : (p : Pattern) (s : Size) → s ≡ p.size → size_fault s ≡ None → AreGoodAfter s [] (parts_of p)
+    → (k : ℕ) (d : Rectangle) → k < length p.mirrors → ((get_or p.mirrors k d).x + (get_or p.mirrors k d).w ≤ 512) × ((get_or p.mirrors k d).y + (get_or p.mirrors k d).h ≤ 512)
+fit_in_layout p s is limits good =
+    let sides = size_sides p.size (ap size_fault (sym is) ∙ limits) in
+    let all = begins_inside p (subst (λ (t : Size). AreGoodAfter t [] (parts_of p)) is good) in
+    mirrors_fit p.size p.mirrors all.mirrors sides.0.most sides.1.most
+
+-- ---- the box of a module
+
+pub box_fits : (s : Size) (b : Box2) → size_fault s ≡ None → IsInside s.w s.h b → (b.x + b.w ≤ 512) × (b.y + b.h ≤ 512)
+box_fits s b limits inside =
+    let sides = size_sides s limits in
+    let wide = sides.0.most in let high = sides.1.most in
+    let right = inside.right in let bottom = inside.bottom in
+    (omega (arith, wide, right), omega (arith, high, bottom))
+
+-- the ports in the box, where the module's wires have these numbers in the circuit
+pub locals_have_ports : (lines : List CircuitLine) (p : Pattern) (m : ModuleLines) → HasPorts (setting_of lines p) m → (local : List ℕ) → local ≡ known (circuit_of lines) m
+    → KnowsPorts (circuit_of lines) local p.ins m.area × KnowsPorts (circuit_of lines) local p.outs m.area
+locals_have_ports lines p m has local are =
+    let both : List ℕ → Type 0 = λ ws. KnowsPorts (circuit_of lines) ws p.ins m.area × KnowsPorts (circuit_of lines) ws p.outs m.area in
+    subst both (sym are) (cells_have_ports lines p m has)

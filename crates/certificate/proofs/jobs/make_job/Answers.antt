@@ -1,0 +1,146 @@
+use Rattle.std.proofs.Common.{◌≡◌, ◌<◌, ◌≤◌, length, sym, ap, subst, ◌∙◌, refl}
+use Rattle.std.specs.List.{All}
+use Rattle.circuit.specs.Bridge.{circuit_of, netlist_of}
+use Rattle.module_box.specs.Locals.{AreLocalsOf}
+use Rattle.certificate.specs.Entries.{ModuleLines, cut_wires, gates, edges, halos}
+use Rattle.certificate.specs.Grammars.{setting_of}
+use Rattle.certificate.specs.Jobs.{line_signals}
+use Rattle.certificate.specs.Signals.{renumber_signals}
+use Rattle.certificate.specs.Timetables.{IsNamedLocal}
+use Rattle.certificate.specs.JobFields.{job_state}
+use Rattle.certificate.proofs.BoxPlaces.{start_found, demand_found}
+use Rattle.certificate.proofs.JobLemmas.{small_gates, within_512, edges_named, halos_named, few_gates, lists_local, wires_known, cut_count, none_own}
+use Rattle.certificate.proofs.PlanLemmas.{locals_have_ports}
+use Rattle.certificate.proofs.jobs.make_job.Goals as goal
+
+-- src/jobs.rt:33:17
+pub used_gates-requires : goal.used_gates-requires
+used_gates-requires c =
+    let cs = c.args.plan.now.circuit in
+    let m : ModuleLines = record { area = c.args.area; lines = c.args.lines.now } in
+    let g = c.gates-gate_count in
+    small_gates (netlist_of cs) (cut_wires (circuit_of cs) m) (gates m) c.requires.module.local (few_gates _ cs g.result c.circuit-circuit.ensures g.ensures.count g.ensures.few)
+
+-- src/jobs.rt:34:18
+pub new-requires : goal.new-requires
+new-requires c =
+    let m : ModuleLines = record { area = c.args.area; lines = c.args.lines.now } in
+    lists_local _ c.args.plan.now.circuit c.args.plan.now.layout m c.as_slice.result.now c.as_slice-2.result.now c.circuit-circuit.ensures
+    (c.as_slice.ensures.value ∙ c.in_ok-cuts.ensures) (c.as_slice-2.ensures.value ∙ c.in_ok-gates.ensures) c.requires.module
+
+-- src/jobs.rt:35:18
+pub starts-requires-clause-columns : goal.starts-requires-clause-columns
+starts-requires-clause-columns c =
+    (within_512 (setting_of c.args.plan.now.circuit c.args.plan.now.layout) (record { area = c.args.area; lines = c.args.lines.now }) c.size-size.result
+    (c.size-size.ensures.size ∙ ap (λ p. p.size) c.layout.ensures) c.size-size.ensures.limits c.requires.module).0
+
+-- src/jobs.rt:35:18
+pub starts-requires-clause-rows : goal.starts-requires-clause-rows
+starts-requires-clause-rows c =
+    (within_512 (setting_of c.args.plan.now.circuit c.args.plan.now.layout) (record { area = c.args.area; lines = c.args.lines.now }) c.size-size.result
+    (c.size-size.ensures.size ∙ ap (λ p. p.size) c.layout.ensures) c.size-size.ensures.limits c.requires.module).1
+
+-- src/jobs.rt:35:18
+pub starts-requires-clause-ports : goal.starts-requires-clause-ports
+starts-requires-clause-ports c =
+    let m : ModuleLines = record { area = c.args.area; lines = c.args.lines.now } in
+    (locals_have_ports c.args.plan.now.circuit c.args.plan.now.layout m c.requires.ports _
+    (wires_known _ c.args.plan.now.circuit m c.as_slice.result.now c.as_slice-2.result.now _ c.circuit-circuit.ensures
+    (c.as_slice.ensures.value ∙ c.in_ok-cuts.ensures) (c.as_slice-2.ensures.value ∙ c.in_ok-gates.ensures) c.in_ok-locals.ensures.wires)).0
+
+-- src/jobs.rt:36:19
+pub demands-requires-clause-columns : goal.demands-requires-clause-columns
+demands-requires-clause-columns c =
+    (within_512 (setting_of c.args.plan.now.circuit c.args.plan.now.layout) (record { area = c.args.area; lines = c.args.lines.now }) c.size-size.result
+    (c.size-size.ensures.size ∙ ap (λ p. p.size) c.layout.ensures) c.size-size.ensures.limits c.requires.module).0
+
+-- src/jobs.rt:36:19
+pub demands-requires-clause-rows : goal.demands-requires-clause-rows
+demands-requires-clause-rows c =
+    (within_512 (setting_of c.args.plan.now.circuit c.args.plan.now.layout) (record { area = c.args.area; lines = c.args.lines.now }) c.size-size.result
+    (c.size-size.ensures.size ∙ ap (λ p. p.size) c.layout.ensures) c.size-size.ensures.limits c.requires.module).1
+
+-- src/jobs.rt:36:19
+pub demands-requires-clause-ports : goal.demands-requires-clause-ports
+demands-requires-clause-ports c =
+    let m : ModuleLines = record { area = c.args.area; lines = c.args.lines.now } in
+    (locals_have_ports c.args.plan.now.circuit c.args.plan.now.layout m c.requires.ports _
+    (wires_known _ c.args.plan.now.circuit m c.as_slice.result.now c.as_slice-2.result.now _ c.circuit-circuit.ensures
+    (c.as_slice.ensures.value ∙ c.in_ok-cuts.ensures) (c.as_slice-2.ensures.value ∙ c.in_ok-gates.ensures) c.in_ok-locals.ensures.wires)).1
+
+-- src/jobs.rt:37:17
+pub signals_of-requires-clause-local : goal.signals_of-requires-clause-local
+signals_of-requires-clause-local c =
+    let cs = c.args.plan.now.circuit in
+    let m : ModuleLines = record { area = c.args.area; lines = c.args.lines.now } in
+    let known_wires = wires_known _ cs m c.as_slice.result.now c.as_slice-2.result.now _ c.circuit-circuit.ensures
+        (c.as_slice.ensures.value ∙ c.in_ok-cuts.ensures) (c.as_slice-2.ensures.value ∙ c.in_ok-gates.ensures) c.in_ok-locals.ensures.wires in
+    subst (λ ls. All (IsNamedLocal (circuit_of ls) c.in_ok-locals.locals) (edges m)) (sym c.circuit-circuit.ensures)
+    (edges_named (setting_of cs c.args.plan.now.layout) m c.in_ok-locals.locals known_wires c.requires.module)
+
+-- src/jobs.rt:38:17
+pub signals_of-requires-2-clause-local : goal.signals_of-requires-2-clause-local
+signals_of-requires-2-clause-local c =
+    let cs = c.args.plan.now.circuit in
+    let m : ModuleLines = record { area = c.args.area; lines = c.args.lines.now } in
+    let known_wires = wires_known _ cs m c.as_slice.result.now c.as_slice-2.result.now _ c.circuit-circuit.ensures
+        (c.as_slice.ensures.value ∙ c.in_ok-cuts.ensures) (c.as_slice-2.ensures.value ∙ c.in_ok-gates.ensures) c.in_ok-locals.ensures.wires in
+    subst (λ ls. All (IsNamedLocal (circuit_of ls) c.in_ok-locals.locals) (halos m)) (sym c.circuit-circuit.ensures)
+    (halos_named (setting_of cs c.args.plan.now.layout) m c.in_ok-locals.locals known_wires c.requires.module)
+
+-- src/jobs.rt:39:5
+pub invariant_of-result : goal.invariant_of-result
+invariant_of-result c =
+    let m : ModuleLines = record { area = c.args.area; lines = c.args.lines.now } in
+    let limits = within_512 (setting_of c.args.plan.now.circuit c.args.plan.now.layout) m c.size-size.result
+        (c.size-size.ensures.size ∙ ap (λ p. p.size) c.layout.ensures) c.size-size.ensures.limits c.requires.module in
+    record {
+      even = c.requires.module.even;
+      width = (c.requires.module.wide.0, c.requires.module.wide.1, limits.0);
+      height = (c.requires.module.high.0, c.requires.module.high.1, limits.1);
+      steps = limits.2;
+      own = record {
+        starts = c.in_ok-starts.ensures.own;
+        demands = c.in_ok-demands.ensures.own;
+        edge_held = c.in_ok-edges.ensures.held;
+        edge_events = c.in_ok-edges.ensures.events;
+        halo_held = c.in_ok-halos.ensures.held;
+        halo_events = c.in_ok-halos.ensures.events;
+        stops = none_own _ c.new-2.result.items c.new-2.ensures.items;
+      };
+      no_stops = c.new-2.ensures.items;
+    }
+
+-- src/jobs.rt:21:1
+pub returns : goal.returns
+returns c =
+    let cs = c.args.plan.now.circuit in
+    let p = c.args.plan.now.layout in
+    let m : ModuleLines = record { area = c.args.area; lines = c.args.lines.now } in
+    let l = c.in_ok-locals.locals in
+    let circuit_is = c.circuit-circuit.ensures in
+    let cuts_are = c.as_slice.ensures.value ∙ c.in_ok-cuts.ensures in
+    let gates_are = c.as_slice-2.ensures.value ∙ c.in_ok-gates.ensures in
+    let j = job_state (record {
+      area = c.args.area;
+      steps = c.size-size.result.steps;
+      locals = l;
+      starts = c.in_ok-starts.starts;
+      demands = c.in_ok-demands.demands;
+      edges = c.in_ok-edges.edges;
+      halos = c.in_ok-halos.halos;
+      stops = c.new-2.result;
+    }) in
+    record {
+      area = refl;
+      steps = ap (λ s. s.steps) (c.size-size.ensures.size ∙ ap (λ q. q.size) c.layout.ensures);
+      locals = subst (λ ls. AreLocalsOf (netlist_of ls) l) circuit_is c.in_ok-locals.ensures.locals;
+      cut = cut_count _ cs p m c.as_slice.result.now _ circuit_is cuts_are c.in_ok-locals.ensures.given c.requires.module;
+      wires = wires_known _ cs m c.as_slice.result.now c.as_slice-2.result.now _ circuit_is cuts_are gates_are c.in_ok-locals.ensures.wires;
+      used = c.in_ok-locals.ensures.gates ∙ gates_are;
+      start = start_found (circuit_of cs) p c.args.area j refl c.in_ok-starts.ensures.cells;
+      demand = demand_found (circuit_of cs) p c.args.area j refl c.in_ok-demands.ensures.cells;
+      edges = c.in_ok-edges.ensures.same ∙ ap (λ ls. line_signals (circuit_of ls) (edges m)) circuit_is;
+      halos = c.in_ok-halos.ensures.same ∙ ap (λ ls. line_signals (circuit_of ls) (halos m)) circuit_is;
+      stops = c.new-2.ensures.items;
+    }
