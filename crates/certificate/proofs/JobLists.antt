@@ -1,8 +1,8 @@
 -- The jobs of the modules so far.
-use Rattle.std.proofs.Common.{◌≡◌, ◌⊎◌, ℕ, zero, suc, ◌+◌, ◌-◌, ◌<◌, ◌≤◌, false, List, [], ◌∷◌, ◌++◌, length, drop, Some, refl, sym, ap, subst, ◌∙◌, arith, inl, inr, get_or}
+use Rattle.std.proofs.Common.{◌≡◌, ◌⊎◌, ℕ, zero, suc, ◌+◌, ◌-◌, ◌<◌, ◌≤◌, false, List, [], ◌∷◌, ◌++◌, length, take, drop, Some, refl, sym, ap, subst, ◌∙◌, arith, inl, inr, get_or}
 use Rattle.std.specs.Prelude.{slice_get}
 use Rattle.std.proofs.Math.Seq.{drop-cons, drop-nil}
-use Rattle.std.proofs.lemmas.List.{drop_all, length-drop}
+use Rattle.std.proofs.lemmas.List.{drop_all, length-drop, take_all}
 use Rattle.std.proofs.lemmas.Option.{slice_get_within}
 use Rattle.circuit.specs.Meaning.{Circuit}
 use Rattle.pattern.specs.Layout.{Pattern}
@@ -41,6 +41,12 @@ none_left : {X : Type 0} (n : ℕ) (xs : List X) → drop n xs ≡ [] → length
 none_left n xs e =
     let h : length xs - n ≡ 0 = sym (length-drop n xs) ∙ ap length e in
     omega (arith, h)
+
+-- the part of a list from a place on
+pub rest_of_lines : {X : Type 0} (xs : List X) (n : ℕ) → take (length xs - n) (drop n xs) ≡ drop n xs
+rest_of_lines xs n =
+    let h = length-drop n xs in
+    take_all (length xs - n) (drop n xs) (omega (arith, h))
 
 -- ---- the modules before a line have their jobs
 

@@ -102,3 +102,10 @@ split_module b es = module_first b es ∙ extends es (record { area = b; lines =
 
 pub split_other : (e : Entry) (es : List Entry) → is_module e ≡ false → modules_of (e ∷ es) ≡ modules_of es
 split_other e es h = other_first e es h
+
+pub no_module : (e : Entry) → ((b : Box2) → e ≡ Module b → ⊥) → is_module e ≡ false
+no_module (Module b) h = absurd (h b refl)
+no_module (Cut n) h = refl
+no_module (Use k) h = refl
+no_module (Edge b) h = refl
+no_module (Halo b) h = refl
