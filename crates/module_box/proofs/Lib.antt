@@ -7,3 +7,7 @@ pub mod NoTilings
 pub mod Rising
 pub mod WireLists
 pub mod LocalNets
+pub mod CutWords
+pub mod WordRows
+pub mod LocalRows
+pub mod EqualTests

@@ -1,8 +1,12 @@
 -- What the laws of this crate say
 use Rattle.std.specs.Prelude.{◌≡◌, ◌≢◌, ℕ, ℤ, ◌%◌, List, slice_get, Some, IsTrue, IsFalse}
+use Rattle.std.specs.Bool.{Decides}
 use Rattle.bbm_rule.specs.Plane.{State, step}
 use Rattle.module_box.specs.Boxes.{in_box, in_ring, in_halo, IsEven, Tile}
 use Rattle.module_box.specs.Tiling.{rectangle_of, IsTask, IsTileFault}
+use Rattle.module_box.specs.Schedules.{Signals}
+use Rattle.module_box.specs.Locals.{LocalNet}
+use Rattle.module_box.specs.Equality.{same_locals, same_signals}
 use Rattle.module_box.specs.declared.boxes.Box2.{Box2}
 use Rattle.module_box.specs.declared.tile.TileFault.{TileFault}
 use Rattle.module_box.specs.declared.tile.TileFault.TheVariants.{Memory}
@@ -41,3 +45,11 @@ HaloCellIsRingCellOfOwner = (rectangle : Box2) (boxes : List Box2) → Tile rect
 abbrev pub FaultMeansNoTiling : Type 0
 FaultMeansNoTiling = (w h : ℕ) (boxes : List Box2) (fault : TileFault) → IsTask w h boxes → IsTileFault w h boxes fault → fault ≢ Memory →
     ¬ Tile (rectangle_of w h) boxes
+
+-- Two modules' wires and gates are equal by `==` exactly where they are the same
+abbrev pub LocalsEqualityDecides : Type 0
+LocalsEqualityDecides = (l m : LocalNet) → Decides (same_locals l m) (l ≡ m)
+
+-- and so are two schedules
+abbrev pub ScheduleEqualityDecides : Type 0
+ScheduleEqualityDecides = (s t : Signals) → Decides (same_signals s t) (s ≡ t)

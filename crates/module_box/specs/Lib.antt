@@ -7,4 +7,6 @@ pub mod ScheduleFields
 pub mod Locals
 pub mod LocalGates
 pub mod LocalsFields
+pub mod LocalValues
+pub mod Equality
 pub mod Laws

@@ -1,6 +1,6 @@
 //! Laws on the definitions alone.
 
-ghost use Rattle.module_box.specs.Laws.{EvenStepStaysInBox, FaultMeansNoTiling, StepDependsOnBoxAndHalo, HaloCellIsRingCellOfOwner};
+ghost use Rattle.module_box.specs.Laws.{EvenStepStaysInBox, FaultMeansNoTiling, StepDependsOnBoxAndHalo, HaloCellIsRingCellOfOwner, LocalsEqualityDecides, ScheduleEqualityDecides};
 
 /// An even step maps the cells of an even box into the box, and what it makes there depends on the box alone.
 pub fn even_step_stays_in_box()
@@ -20,4 +20,11 @@ pub fn halo_cell_is_ring_cell_of_owner()
 /// Where [`owner_table`](crate::owner_table) names a fault other than want of memory, the boxes do not tile the rectangle.
 pub fn fault_means_no_tiling()
     ensures { FaultMeansNoTiling }
+{}
+
+/// Two [`Locals`](crate::Locals) are equal exactly where contracts see the same of both, and so are two
+/// [`Schedule`](crate::Schedule)s.
+pub fn equality_is_of_content()
+    ensures locals { LocalsEqualityDecides }
+    ensures schedules { ScheduleEqualityDecides }
 {}

@@ -12,11 +12,13 @@
 #![tactic(auto)]
 
 mod boxes;
+mod equalities;
 pub mod laws;
 mod locals;
 mod owners;
 mod schedules;
 mod tile;
+mod values;
 
 pub use boxes::Box2;
 pub use locals::Locals;

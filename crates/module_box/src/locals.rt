@@ -17,20 +17,20 @@ use std::marker::Model;
 // A gate over the wires that a module knows, by their numbers there: the wires that it uses, and the first of those that it
 // defines, which are numbered one after the other.
 #[derive(Clone, Copy, Debug)]
-struct LocalGate {
-    kind: GateKind,
-    ins: [u16; 4],
-    first: u16,
+pub(crate) struct LocalGate {
+    pub(crate) kind: GateKind,
+    pub(crate) ins: [u16; 4],
+    pub(crate) first: u16,
 }
 
 /// The wires that a module knows: its cuts, then the outputs of the gates that it uses, numbered from 0 in this order. With
 /// them those gates, over these numbers.
 #[derive(Debug, Drop)]
 pub struct Locals {
-    given: usize,
-    gates: Vec<LocalGate>,
-    circuit_wires: IndexSet<u16>,
-    circuit_gates: Vec<GateNo>,
+    pub(crate) given: usize,
+    pub(crate) gates: Vec<LocalGate>,
+    pub(crate) circuit_wires: IndexSet<u16>,
+    pub(crate) circuit_gates: Vec<GateNo>,
 }
 
 impl Model for Locals {

@@ -1,0 +1,112 @@
+-- Whether two values are the same in all that contracts see of them
+use Rattle.std.specs.Prelude.{ℕ, Bool, true, false, Option, Some, None, nat_eq}
+use Rattle.std.specs.Bool.{beq}
+use Rattle.std.specs.Ordering.{int_eq, on, eq_of_both}
+use Rattle.std.specs.Cmp.{IsEquivalence, and_equiv, on_equiv, nat_eq_equiv, int_eq_equiv, bool_eq_equiv}
+use Rattle.std.specs.Cmp.Lexicographic.{pointwise, lists_equiv, options_equiv}
+use Rattle.std.specs.Option.{option_eq}
+use Rattle.bbm_rule.specs.declared.block.Cell.{Cell}
+use Rattle.circuit.specs.Gates.{Rule, Source, Fredkin, Cswap, Interact, Switch, Delay, Unswitch, Uninteract}
+use Rattle.circuit.specs.Meaning.{Gate}
+use Rattle.module_box.specs.declared.schedules.Held.{Held}
+use Rattle.module_box.specs.declared.schedules.Event.{Event}
+use Rattle.module_box.specs.declared.schedules.Signal.{Signal}
+use Rattle.module_box.specs.declared.schedules.Signal.TheVariants.{Zero, One, Wire}
+use Rattle.module_box.specs.Schedules.{Signals}
+use Rattle.module_box.specs.Locals.{LocalNet}
+
+-- ---- schedules
+abbrev pub is_one : Signal → Bool
+is_one Zero = false
+is_one One = true
+is_one (Wire w) = false
+
+abbrev pub wire_named : Signal → Option ℕ
+wire_named Zero = None
+wire_named One = None
+wire_named (Wire w) = Some w
+
+abbrev pub same_signal : Signal → Signal → Bool
+same_signal = eq_of_both (on is_one beq) (on wire_named (option_eq nat_eq))
+
+abbrev pub same_cell : Cell → Cell → Bool
+same_cell = eq_of_both (on (λ c. c.x) int_eq) (on (λ c. c.y) int_eq)
+
+abbrev pub same_held : Held → Held → Bool
+same_held = eq_of_both (on (λ h. h.cell) same_cell) (on (λ h. h.signal) same_signal)
+
+abbrev pub same_event : Event → Event → Bool
+same_event = eq_of_both (on (λ e. e.at.time) nat_eq) (eq_of_both (on (λ e. e.at.cell) same_cell) (on (λ e. e.signal) same_signal))
+
+abbrev pub same_signals : Signals → Signals → Bool
+same_signals = eq_of_both (on (λ s. s.held) (pointwise same_held)) (on (λ s. s.events) (pointwise same_event))
+
+-- these tests are equivalences
+signal_equivalence : IsEquivalence same_signal
+signal_equivalence = and_equiv (on_equiv is_one bool_eq_equiv) (on_equiv wire_named (options_equiv nat_eq_equiv))
+
+cell_equivalence : IsEquivalence same_cell
+cell_equivalence = and_equiv (on_equiv (λ c. c.x) int_eq_equiv) (on_equiv (λ c. c.y) int_eq_equiv)
+
+held_equivalence : IsEquivalence same_held
+held_equivalence = and_equiv (on_equiv (λ h. h.cell) cell_equivalence) (on_equiv (λ h. h.signal) signal_equivalence)
+
+event_equivalence : IsEquivalence same_event
+event_equivalence = and_equiv (on_equiv (λ e. e.at.time) nat_eq_equiv) (and_equiv (on_equiv (λ e. e.at.cell) cell_equivalence) (on_equiv (λ e. e.signal) signal_equivalence))
+
+pub signals_equivalence : IsEquivalence same_signals
+signals_equivalence = and_equiv (on_equiv (λ s. s.held) (lists_equiv held_equivalence)) (on_equiv (λ s. s.events) (lists_equiv event_equivalence))
+
+-- ---- the wires and gates of modules
+abbrev pub rule_place : Rule → ℕ
+rule_place (Source b) = 0
+rule_place Fredkin = 1
+rule_place Cswap = 2
+rule_place Interact = 3
+rule_place Switch = 4
+rule_place (Delay n) = 5
+rule_place Unswitch = 6
+rule_place Uninteract = 7
+
+abbrev pub source_bit : Rule → Option Bool
+source_bit (Source b) = Some b
+source_bit Fredkin = None
+source_bit Cswap = None
+source_bit Interact = None
+source_bit Switch = None
+source_bit (Delay n) = None
+source_bit Unswitch = None
+source_bit Uninteract = None
+
+abbrev pub delay_number : Rule → Option ℕ
+delay_number (Source b) = None
+delay_number Fredkin = None
+delay_number Cswap = None
+delay_number Interact = None
+delay_number Switch = None
+delay_number (Delay n) = Some n
+delay_number Unswitch = None
+delay_number Uninteract = None
+
+abbrev pub same_rule : Rule → Rule → Bool
+same_rule = eq_of_both (on rule_place nat_eq) (eq_of_both (on source_bit (option_eq beq)) (on delay_number (option_eq nat_eq)))
+
+abbrev pub same_gate : Gate → Gate → Bool
+same_gate = eq_of_both (on (λ g. g.kind) same_rule) (eq_of_both (on (λ g. g.ins) (pointwise nat_eq)) (on (λ g. g.outs) (pointwise nat_eq)))
+
+abbrev pub same_locals : LocalNet → LocalNet → Bool
+same_locals =
+    eq_of_both (eq_of_both (eq_of_both (on (λ l. l.netlist.given) nat_eq) (on (λ l. l.netlist.gates) (pointwise same_gate))) (on (λ l. l.circuit_wires) (pointwise nat_eq)))
+    (on (λ l. l.circuit_gates) (pointwise nat_eq))
+
+-- these tests are equivalences
+rule_equivalence : IsEquivalence same_rule
+rule_equivalence = and_equiv (on_equiv rule_place nat_eq_equiv) (and_equiv (on_equiv source_bit (options_equiv bool_eq_equiv)) (on_equiv delay_number (options_equiv nat_eq_equiv)))
+
+pub gate_equivalence : IsEquivalence same_gate
+gate_equivalence = and_equiv (on_equiv (λ g. g.kind) rule_equivalence) (and_equiv (on_equiv (λ g. g.ins) (lists_equiv nat_eq_equiv)) (on_equiv (λ g. g.outs) (lists_equiv nat_eq_equiv)))
+
+pub locals_equivalence : IsEquivalence same_locals
+locals_equivalence =
+    and_equiv (and_equiv (and_equiv (on_equiv (λ l. l.netlist.given) nat_eq_equiv) (on_equiv (λ l. l.netlist.gates) (lists_equiv gate_equivalence))) (on_equiv (λ l. l.circuit_wires) (lists_equiv nat_eq_equiv)))
+    (on_equiv (λ l. l.circuit_gates) (lists_equiv nat_eq_equiv))

@@ -1,0 +1,66 @@
+//! Equality of schedules, and of the wires and gates that modules know: by whole content.
+
+ghost use Rattle.std.specs.Prelude.{◌≡◌};
+ghost use Rattle.std.specs.Cmp.{on_equiv, partial_equiv_from_equiv};
+ghost use Rattle.std.specs.Ordering.{on};
+ghost use Rattle.module_box.specs.Equality.{same_gate, gate_equivalence, same_locals, locals_equivalence, same_signals, signals_equivalence};
+ghost use Rattle.module_box.specs.LocalGates.{kept_gate};
+
+use crate::locals::{LocalGate, Locals};
+use crate::schedules::Schedule;
+
+impl PartialEq for Schedule {
+    ghost eq = { same_signals };
+
+    ghost laws = { partial_equiv_from_equiv signals_equivalence };
+
+    fn eq(&self, other: &Schedule) -> bool {
+        let held = self.held() == other.held();
+        let events = self.events() == other.events();
+        held & events
+    }
+}
+
+impl Eq for Schedule {
+    ghost laws = { signals_equivalence };
+}
+
+impl LocalGate {
+    // The wires that the gate uses.
+    fn ins(&self) -> &[u16]
+        ensures { result.now ≡ (kept_gate self.now).ins }
+    {
+        &self.ins[..self.kind.ins()]
+    }
+}
+
+impl PartialEq for LocalGate {
+    ghost eq = { on kept_gate same_gate };
+
+    ghost laws = { partial_equiv_from_equiv (on_equiv kept_gate gate_equivalence) };
+
+    fn eq(&self, other: &LocalGate) -> bool {
+        let kind = self.kind == other.kind;
+        let ins = self.ins() == other.ins();
+        kind & ins & (self.first == other.first)
+    }
+}
+
+impl PartialEq for Locals {
+    ghost eq = { same_locals };
+
+    ghost laws = { partial_equiv_from_equiv locals_equivalence };
+
+    fn eq(&self, other: &Locals) -> bool {
+        let cuts = self.given == other.given;
+        let gates = self.gates == other.gates;
+        // as slices, since two sets are equal in whatever order their elements stand
+        let wires = self.circuit_wires.as_slice() == other.circuit_wires.as_slice();
+        let numbers = self.circuit_gates == other.circuit_gates;
+        cuts & gates & wires & numbers
+    }
+}
+
+impl Eq for Locals {
+    ghost laws = { locals_equivalence };
+}
