@@ -1,0 +1,176 @@
+-- From the cells that were looked at, in order, to the first fault
+use Rattle.std.proofs.Common.{◌≡◌, ◌≢◌, ℕ, Bool, true, false, not, ◌&&◌, ◌⊎◌, inl, inr, ◌<◌, ◌≤◌, ◌+◌, ◌-◌, ◌%◌, refl, arith, sym, ◌∙◌, ap, subst, Option, Some, None}
+use Rattle.std.specs.Prelude.{ℤ, pos, negsuc, ◌+ℤ◌, ◌-ℤ◌, ◌<ℤ◌}
+use Rattle.std.proofs.lemmas.Bool.{and_parts, and_from, false≢true}
+use Rattle.std.proofs.lemmas.Int.{ints}
+use Rattle.bbm_rule.specs.Spans.{in_span}
+use Rattle.module_box.specs.Boxes.{in_box, in_ring}
+use Rattle.module_box.specs.declared.boxes.Box2.{Box2}
+use Rattle.bbm_rule.proofs.Spans.{span_parts, span_from, in_span-negsuc}
+use Rattle.circuit.specs.Meaning.{Valuation}
+use Rattle.certificate.specs.Signals.{is_live, Meets}
+use Rattle.certificate.specs.Jobs.{JobState, job_demand}
+use Rattle.module_box.specs.Schedules.{signal_at}
+use Rattle.local_run.specs.Runs.{local_run}
+use Rattle.local_run.specs.Faults.{IsEdgeFault, IsEndFault, IsFaultUnder, assignments}
+use Rattle.module_box.specs.declared.schedules.Signal.{Signal}
+use Rattle.certificate.specs.declared.job.Demand.{Demand}
+use Rattle.certificate.specs.declared.job.Demand.TheVariants as Demanded
+use Rattle.local_run.specs.declared.fault.Kind.{Kind}
+use Rattle.local_run.specs.declared.fault.Kind.TheVariants.{Edge, Stop, End}
+use Rattle.local_run.specs.Places.{inner}
+use Rattle.module_box.proofs.RingTests.{ring_read}
+use Rattle.local_run.specs.Scans.{IsLeastBelow, IsStride, IsSought, IsFirst, IsFree, valuation}
+use Rattle.local_run.specs.declared.values.Values.{Values}
+
+-- ---- numbers of columns and rows
+pub inner_in_span : (c n k : ℕ) → k < n → in_span c n (inner c k) ≡ true
+unfolding inner
+inner_in_span c n k l = span_from c n (c + k) (omega arith) (omega arith)
+
+pub inner_in_box : (b : Box2) (x y : ℕ) → x < b.w → y < b.h → in_box b (inner b.x x) (inner b.y y) ≡ true
+unfolding in_box
+inner_in_box b x y lx ly = and_from _ _ (inner_in_span b.x b.w x lx) (inner_in_span b.y b.h y ly)
+
+pub record At (c n : ℕ) (z : ℤ) : Type 0 where
+  pub number : ℕ
+  pub below : number < n
+  pub is : z ≡ inner c number
+
+pub span_at : (c n : ℕ) (z : ℤ) → in_span c n z ≡ true → At c n z
+unfolding inner
+span_at c n (pos k) h =
+    let p = span_parts c n k h in
+    record { number = k - c; below = omega arith; is = ap pos (omega arith) }
+span_at c n (negsuc k) h = absurd (false≢true (sym (in_span-negsuc c n k) ∙ h))
+
+inner_less : (c k m : ℕ) → inner c k <ℤ inner c m → k < m
+unfolding inner
+inner_less c k m h = omega (arith, ints, h)
+
+-- ---- the least number
+pub least_map : (n : ℕ) (P Q : ℕ → Type 0) → ((a : ℕ) → a < n → P a → Q a) → ((a : ℕ) → a < n → Q a → P a) → (r : Option ℕ) → IsLeastBelow n P r → IsLeastBelow n Q r
+least_map n P Q f g None h = λ a l q. h a l (g a l q)
+least_map n P Q f g (Some a) h = (h.0, f a h.0 h.1, λ b l q. h.2 b l (g b (omega (arith, l, h.0)) q))
+
+-- no cell but those of the ring has a fault of its edge
+pub edge_none : (j : JobState) (n : ℕ) (u : ℕ → Valuation) (t : ℕ) (k : Kind) (x y : ℤ) → Edge ≡ k → in_ring j.area x y ≡ false →
+    IsLeastBelow n (λ a. IsFaultUnder j (u a) t k x y) None
+edge_none j n u t k x y e out a l f =
+    let g : IsEdgeFault j (u a) t x y = subst (λ (k' : Kind). IsFaultUnder j (u a) t k' x y) (sym e) f in
+    false≢true (sym out ∙ g.ring)
+
+pub end_least : (j : JobState) (n : ℕ) (u : ℕ → Valuation) (f : ℕ → Bool) (s : Signal) (d : Demand) (t : ℕ) (k : Kind) (x y : ℤ) (r : Option ℕ) → End ≡ k → IsSought j t k →
+    in_box j.area x y ≡ true → job_demand j x y ≡ d → ((v : Valuation) (b : Bool) → Meets v d b → b ≡ is_live v s) → ((v : Valuation) (b : Bool) → b ≡ is_live v s → Meets v d b) →
+    ((a : ℕ) → a < n → f a ≡ local_run j (u a) t x y) → IsLeastBelow n (λ a. f a ≢ is_live (u a) s) r → IsLeastBelow n (λ a. IsFaultUnder j (u a) t k x y) r
+end_least j n u f s d t k x y r e sought inside ed to from same h =
+    subst (λ (k' : Kind). IsLeastBelow n (λ a. IsFaultUnder j (u a) t k' x y) r) e
+    (least_map n (λ a. f a ≢ is_live (u a) s) (λ a. IsFaultUnder j (u a) t End x y)
+    (λ a l ne. record {
+      last = at_end;
+      inside = inside;
+      differs = λ meets. ne (same a l ∙ to (u a) _ (subst (λ (d' : Demand). Meets (u a) d' (local_run j (u a) t x y)) ed meets));
+    })
+    (λ a l fault is. fault.differs (subst (λ (d' : Demand). Meets (u a) d' (local_run j (u a) t x y)) (sym ed) (from (u a) _ (sym (same a l) ∙ is))))
+    r h)
+  where
+    at_end : t ≡ j.steps
+    at_end = subst (λ (k' : Kind). IsSought j t k') (sym e) sought
+
+-- ---- cells in order
+fault_in_box : (j : JobState) (v : Valuation) (t : ℕ) (kind : Kind) (x y : ℤ) → IsSought j t kind → IsFaultUnder j v t kind x y → in_box j.area x y ≡ true
+unfolding in_ring
+fault_in_box j v t Edge x y s f = (and_parts _ _ f.ring).0
+fault_in_box j v t Stop x y s f = absurd s
+fault_in_box j v t End x y s f = f.inside
+
+abbrev pub FreeAt : JobState → Values → ℕ → Kind → ℕ → ℕ → ℕ → Type 0
+FreeAt j vs t kind x y a = ¬ IsFaultUnder j (valuation vs a) t kind (inner j.area.x x) (inner j.area.y y)
+
+pub free_from : (j : JobState) (vs : Values) (t : ℕ) (kind : Kind) → IsSought j t kind →
+    ((x y a : ℕ) → x < j.area.w → y < j.area.h → a < assignments j → FreeAt j vs t kind x y a) → IsFree j vs t kind
+unfolding in_box
+free_from j vs t kind s free x y a l f =
+    let h = and_parts _ _ (fault_in_box j _ t kind x y s f) in
+    let px = span_at j.area.x j.area.w x h.0 in
+    let py = span_at j.area.y j.area.h y h.1 in
+    free px.number py.number a px.below py.below l
+    (subst (λ (z : ℤ). IsFaultUnder j (valuation vs a) t kind z (inner j.area.y py.number)) px.is
+    (subst (λ (z : ℤ). IsFaultUnder j (valuation vs a) t kind x z) py.is f))
+
+pub first_from : (j : JobState) (vs : Values) (t : ℕ) (kind : Kind) (x y a : ℕ) (cx cy : ℤ) → IsSought j t kind → cx ≡ inner j.area.x x → cy ≡ inner j.area.y y →
+    x < j.area.w → y < j.area.h →
+    ((x' y' a' : ℕ) → x' < j.area.w → y' < y → a' < assignments j → FreeAt j vs t kind x' y' a') →
+    ((x' a' : ℕ) → x' < x → a' < assignments j → FreeAt j vs t kind x' y a') →
+    IsLeastBelow (assignments j) (λ a'. IsFaultUnder j (valuation vs a') t kind (inner j.area.x x) (inner j.area.y y)) (Some a) →
+    IsFirst j vs t kind (record { time = t; kind = kind; cell = record { x = cx; y = cy }; assignment = a })
+unfolding in_box
+first_from j vs t kind x y a cx cy s ex ey lx ly rows cells least = rw (ex, ey) (record {
+  at_time = refl;
+  same_kind = refl;
+  small = least.0;
+  fault = least.1;
+  row = λ x' y' a' l less f.
+      let h = and_parts _ _ (fault_in_box j _ t kind x' y' s f) in
+      let px = span_at j.area.x j.area.w x' h.0 in
+      let py = span_at j.area.y j.area.h y' h.1 in
+      rows px.number py.number a' px.below (inner_less j.area.y py.number y (subst (λ (z : ℤ). z <ℤ inner j.area.y y) py.is less)) l
+      (subst (λ (z : ℤ). IsFaultUnder j (valuation vs a') t kind z (inner j.area.y py.number)) px.is
+      (subst (λ (z : ℤ). IsFaultUnder j (valuation vs a') t kind x' z) py.is f));
+  column = λ x' a' l less f.
+      let h = and_parts _ _ (fault_in_box j _ t kind x' (inner j.area.y y) s f) in
+      let px = span_at j.area.x j.area.w x' h.0 in
+      cells px.number a' (inner_less j.area.x px.number x (subst (λ (z : ℤ). z <ℤ inner j.area.x x) px.is less)) l
+      (subst (λ (z : ℤ). IsFaultUnder j (valuation vs a') t kind z (inner j.area.y y)) px.is f);
+  assignment = least.2;
+})
+
+-- ---- cells that are passed over
+none_of : (b : Bool) → (b && not (true && true)) ≡ false
+none_of true = refl
+none_of false = refl
+
+one_less : (c k : ℕ) → 1 ≤ k → inner c k -ℤ pos 1 ≡ pos (c + (k - 1))
+unfolding inner
+one_less c k l = let e : c + k ≡ 1 + (c + (k - 1)) = omega arith in ap (λ n. pos n -ℤ pos 1) e ∙ less_pos (c + (k - 1))
+  where
+    less_pos : (n : ℕ) → pos (1 + n) -ℤ pos 1 ≡ pos n
+    less_pos n = omega (arith, ints)
+
+one_more : (c k : ℕ) → inner c k +ℤ pos 1 ≡ pos (c + (k + 1))
+unfolding inner
+one_more c k = omega (arith, ints)
+
+both_beside : (c n k : ℕ) → 1 ≤ k → k + 1 < n → (in_span c n (inner c k -ℤ pos 1) && in_span c n (inner c k +ℤ pos 1)) ≡ true
+both_beside c n k l h = and_from _ _
+    (ap (in_span c n) (one_less c k l) ∙ span_from c n (c + (k - 1)) (omega arith) (omega arith))
+    (ap (in_span c n) (one_more c k) ∙ span_from c n (c + (k + 1)) (omega arith) (omega arith))
+
+-- a cell between the first and the last one of a row between the first and the last one is not in the ring
+not_in_ring : (b : Box2) (x y : ℕ) → 1 ≤ x → x + 1 < b.w → 1 ≤ y → y + 1 < b.h → in_ring b (inner b.x x) (inner b.y y) ≡ false
+not_in_ring b x y lx hx ly hy =
+    sym (ring_read b (inner b.x x) (inner b.y y) _ true true refl (sym (both_beside b.x b.w x lx hx)) (sym (both_beside b.y b.h y ly hy))) ∙ none_of _
+
+-- where a row is passed over, it is so from its first cell to its last one
+abbrev pub IsAtEnd : ℕ → ℕ → ℕ → Type 0
+IsAtEnd w x stride = (stride ≡ 1) ⊎ ((x ≡ 0) ⊎ (w ≤ x + 1))
+
+pub still_at_end : (kind : Kind) (w h y x stride : ℕ) → IsStride kind w h y stride → IsAtEnd w x stride → IsAtEnd w (x + stride) stride
+still_at_end kind w h y x stride s at = elim s.2 [
+  | inl one ↦ inl one
+  | inr both ↦ let e = both.ends in elim at [
+    | inl one ↦ inl one
+    | inr rest ↦ inr (inr (omega arith))
+  ]
+]
+
+pub passed_over : (j : JobState) (u : Valuation) (t : ℕ) (kind : Kind) (x x' y stride : ℕ) → IsStride kind j.area.w j.area.h y stride → IsAtEnd j.area.w x stride →
+    x < x' → x' < x + stride → x' < j.area.w → ¬ IsFaultUnder j u t kind (inner j.area.x x') (inner j.area.y y)
+passed_over j u t kind x x' y stride s at after before within f = elim s.2 [
+  | inl one ↦ omega arith
+  | inr both ↦ let e = both.ends in elim at [
+    | inl one ↦ omega arith
+    | inr (inl start) ↦ edge_none j 1 (λ a. u) t kind _ _ both.edge (not_in_ring j.area x' y (omega arith) (omega arith) both.between.0 both.between.1) 0 (omega arith) f
+    | inr (inr last) ↦ omega arith
+  ]
+]

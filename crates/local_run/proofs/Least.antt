@@ -1,0 +1,68 @@
+-- A job has one least fault
+use Rattle.std.proofs.Common.{◌≡◌, ℕ, suc, zero, Some, None, Ordering, Less, Equal, Greater, refl, sym, ap, ◌∙◌}
+use Rattle.std.specs.Prelude.{ℤ, ◌≢◌}
+use Rattle.std.specs.Ordering.{nat_cmp, int_cmp, ordering_reverse}
+use Rattle.std.specs.Cmp.{IsTotalOrder}
+use Rattle.std.proofs.lemmas.Cmp.{then_total, on_total, nat_cmp_total, int_cmp_total}
+use Rattle.std.proofs.lemmas.Map.Lookups.{CmpEqualImpliesEq, exact_pairs, exact_unsigned, exact_signed}
+use Rattle.local_run.specs.Order.{kind_number, fault_cmp}
+use Rattle.module_box.specs.Moments.{cell_cmp}
+use Rattle.bbm_rule.specs.declared.block.Cell.{Cell}
+use Rattle.local_run.specs.Laws.{LeastFaultIsUnique}
+use Rattle.local_run.specs.declared.fault.Fault.{Fault}
+use Rattle.local_run.specs.declared.fault.Kind.{Kind}
+use Rattle.local_run.specs.declared.fault.Kind.TheVariants.{Edge, Stop, End}
+
+cell_total : IsTotalOrder cell_cmp
+unfolding cell_cmp
+cell_total = then_total (on_total (λ (c : Cell). c.y) int_cmp_total) (on_total (λ (c : Cell). c.x) int_cmp_total)
+
+fault_total : IsTotalOrder fault_cmp
+unfolding fault_cmp
+fault_total = then_total (on_total (λ (f : Fault). f.time) nat_cmp_total) (then_total (on_total (λ (f : Fault). kind_number f.kind) nat_cmp_total)
+    (then_total (on_total (λ (f : Fault). f.cell) cell_total) (on_total (λ (f : Fault). f.assignment) nat_cmp_total)))
+
+kind_of : ℕ → Kind
+kind_of zero = Edge
+kind_of (suc zero) = Stop
+kind_of (suc (suc n)) = End
+
+kind_back : (k : Kind) → kind_of (kind_number k) ≡ k
+unfolding kind_of
+kind_back Edge = refl
+kind_back Stop = refl
+kind_back End = refl
+
+abbrev Key : Type 0
+Key = ℕ × (ℕ × ((ℤ × ℤ) × ℕ))
+
+abbrev key : Fault → Key
+key f = (f.time, (kind_number f.kind, ((f.cell.y, f.cell.x), f.assignment)))
+
+abbrev unkey : Key → Fault
+unkey k = record { time = k.0; kind = kind_of k.1.0; cell = record { x = k.1.1.0.1; y = k.1.1.0.0 }; assignment = k.1.1.1 }
+
+unkey-key : (f : Fault) → unkey (key f) ≡ f
+unkey-key f = ap (λ k. record { time = f.time; kind = k; cell = f.cell; assignment = f.assignment }) (kind_back f.kind)
+
+fault_exact : CmpEqualImpliesEq fault_cmp
+unfolding fault_cmp cell_cmp
+fault_exact a b e =
+    sym (unkey-key a) ∙ ap unkey (exact_pairs nat_cmp _ exact_unsigned (exact_pairs nat_cmp _ exact_unsigned (exact_pairs _ nat_cmp (exact_pairs int_cmp int_cmp exact_signed exact_signed) exact_unsigned)) (key a) (key b) e) ∙ unkey-key b
+
+both_ways : (o p : Ordering) → o ≡ ordering_reverse p → o ≢ Greater → p ≢ Greater → o ≡ Equal
+both_ways Less Less e n m = absurd (elim_less e)
+  where
+    elim_less : Less ≡ Greater → ⊥
+    elim_less e = cc
+both_ways Less Equal e n m = e
+both_ways Less Greater e n m = absurd (m refl)
+both_ways Equal p e n m = refl
+both_ways Greater p e n m = absurd (n refl)
+
+pub least_unique : LeastFaultIsUnique
+least_unique j None None f g = refl
+least_unique j None (Some b) f g = absurd (f b g.0)
+least_unique j (Some a) None f g = absurd (g a f.0)
+least_unique j (Some a) (Some b) f g =
+    ap Some (fault_exact a b (both_ways (fault_cmp a b) (fault_cmp b a) (fault_total.antisymm a b) (f.1 b g.0) (g.1 a f.0)))

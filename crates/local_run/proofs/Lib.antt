@@ -1,0 +1,9 @@
+pub mod OwnWires
+pub mod LocalRuns
+pub mod Decided
+pub mod Least
+pub mod LaneLemmas
+pub mod Scans
+pub mod Firsts
+pub mod Stepping
+pub mod Leasts

@@ -1,0 +1,71 @@
+-- What a job names is one of its own wires, at each cell and time
+use Rattle.std.proofs.Common.{◌≡◌, ℕ, zero, suc, Bool, true, false, List, [], ◌∷◌, arith, inl, inr}
+use Rattle.std.specs.Prelude.{ℤ, slice_get, unwrap_or, if◌then◌else◌}
+use Rattle.std.specs.List.{All}
+use Rattle.std.proofs.lemmas.Bool.{cases_Bool, cond-false}
+use Rattle.circuit.specs.Meaning.{wires}
+use Rattle.module_box.specs.Boxes.{in_box}
+use Rattle.module_box.specs.Schedules.{Signals, is_at, is_then, held_at, event_at, signal_at}
+use Rattle.module_box.specs.declared.schedules.Event.{Event}
+use Rattle.module_box.specs.declared.schedules.Held.{Held}
+use Rattle.module_box.specs.declared.schedules.Signal.{Signal}
+use Rattle.module_box.specs.declared.schedules.Signal.TheVariants.{Zero}
+use Rattle.certificate.specs.Jobs.{JobState, NamesOwnWires, job_start, job_demand, place_in}
+use Rattle.certificate.specs.Signals.{IsBelow, IsDemandBelow}
+use Rattle.certificate.specs.declared.job.Demand.TheVariants as Demanded
+
+all_tail : {A : Type 0} (P : A → Type 0) (x : A) (xs : List A) → All P (x ∷ xs) → All P xs
+all_tail P x xs all = λ k d h. all (suc k) d (omega arith)
+
+all_head : {A : Type 0} (P : A → Type 0) (x : A) (xs : List A) → All P (x ∷ xs) → P x
+all_head P x xs all = all 0 x (omega arith)
+
+-- an element of a list, or another value
+item : {A : Type 0} (P : A → Type 0) (xs : List A) (i : ℕ) (d : A) → All P xs → P d → P (unwrap_or (slice_get xs i) d)
+item P [] i d all h = h
+item P (x ∷ xs) zero d all h = all_head P x xs all
+item P (x ∷ xs) (suc i) d all h = item P xs i d (all_tail P x xs all) h
+
+-- either value of a choice
+chosen : {A : Type 0} (P : A → Type 0) (b : Bool) (x y : A) → P x → P y → P (if b then x else y)
+chosen P true x y h k = h
+chosen P false x y h k = k
+
+held : (n : ℕ) (hs : List Held) (x y : ℤ) (d : Signal) → All (λ h. IsBelow n h.signal) hs → IsBelow n d → IsBelow n (unwrap_or (held_at hs x y) d)
+unfolding held_at
+held n [] x y d all b = b
+held n (h ∷ hs) x y d all b = elim (cases_Bool (is_at h.cell x y)) [
+  | inl e ↦ rw e (all_head (λ (g : Held). IsBelow n g.signal) h hs all)
+  | inr e ↦ rw e (held n hs x y d (all_tail (λ (g : Held). IsBelow n g.signal) h hs all) b)
+]
+
+event : (n : ℕ) (es : List Event) (t : ℕ) (x y : ℤ) (d : Signal) → All (λ e. IsBelow n e.signal) es → IsBelow n d → IsBelow n (unwrap_or (event_at es t x y) d)
+unfolding event_at
+event n [] t x y d all b = b
+event n (e ∷ es) t x y d all b = elim (cases_Bool (is_then e.at t x y)) [
+  | inl h ↦ rw h (all_head (λ (g : Event). IsBelow n g.signal) e es all)
+  | inr h ↦ rw h (event n es t x y d (all_tail (λ (g : Event). IsBelow n g.signal) e es all) b)
+]
+
+scheduled : (n : ℕ) (s : Signals) (t : ℕ) (x y : ℤ) → All (λ h. IsBelow n h.signal) s.held → All (λ e. IsBelow n e.signal) s.events → IsBelow n (signal_at s t x y)
+unfolding signal_at
+scheduled n s t x y hs es = held n s.held x y (unwrap_or (event_at s.events t x y) Zero) hs (event n s.events t x y Zero es tt)
+
+pub start_below : (j : JobState) (x y : ℤ) → NamesOwnWires j → IsBelow (wires j.locals.netlist) (job_start j x y)
+unfolding job_start
+start_below j x y own = chosen (IsBelow (wires j.locals.netlist)) (in_box j.area x y) _ Zero (item (IsBelow (wires j.locals.netlist)) j.starts (place_in j.area x y) Zero own.starts tt) tt
+
+pub demand_below : (j : JobState) (x y : ℤ) → NamesOwnWires j → IsDemandBelow (wires j.locals.netlist) (job_demand j x y)
+unfolding job_demand
+demand_below j x y own = chosen (IsDemandBelow (wires j.locals.netlist)) (in_box j.area x y) _ Demanded.Dead (item (IsDemandBelow (wires j.locals.netlist)) j.demands (place_in j.area x y) Demanded.Dead own.demands tt) tt
+
+pub edge_below : (j : JobState) (t : ℕ) (x y : ℤ) → NamesOwnWires j → IsBelow (wires j.locals.netlist) (signal_at j.edges t x y)
+edge_below j t x y own = scheduled (wires j.locals.netlist) j.edges t x y own.edge_held own.edge_events
+
+pub halo_below : (j : JobState) (t : ℕ) (x y : ℤ) → NamesOwnWires j → IsBelow (wires j.locals.netlist) (signal_at j.halos t x y)
+halo_below j t x y own = scheduled (wires j.locals.netlist) j.halos t x y own.halo_held own.halo_events
+
+-- a cell outside the box is dead at time 0
+pub start_outside : (j : JobState) (x y : ℤ) → in_box j.area x y ≡ false → job_start j x y ≡ Zero
+unfolding job_start
+start_outside j x y out = cond-false _ _ _ out

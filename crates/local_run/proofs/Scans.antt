@@ -1,0 +1,224 @@
+-- Words of assignments, and the first that differs
+use Rattle.std.proofs.Common.{◌≡◌, ◌≢◌, ℕ, Bool, true, false, ◌<◌, ◌≤◌, ◌+◌, ◌*◌, ◌/◌, ◌%◌, ◌^◌, refl, arith, sym, ◌∙◌, ap, ap₂, subst, List, [], ◌∷◌, zero, suc, length, get_or, set, get_or-set_same, get_or-set_other, w64}
+use Rattle.std.specs.Prelude.{bit_xor}
+use Rattle.std.specs.Int.{bit_at, trailing_zeros}
+use Rattle.std.proofs.lemmas.Nat.Bits.{bit_at-trailing_zeros, bit_at_ones}
+use Rattle.std.proofs.lemmas.Nat.{xor_lt}
+use Rattle.bbm_rule.specs.Bits.{bit}
+use Rattle.bbm_rule.proofs.BitLemmas.{by_lt_or_le, by_eq_or_not, xor, bit-xor, bit-zero}
+use Rattle.certificate.specs.Signals.{IsBelow}
+use Rattle.module_box.specs.declared.schedules.Signal.{Signal}
+use Rattle.module_box.specs.declared.schedules.Signal.TheVariants.{Zero, One, Wire}
+use Rattle.std.proofs.Math.Nat.{mul-le-mul_left}
+use Rattle.module_box.specs.LocalValues.{value_of}
+use Rattle.local_run.specs.Scans.{HasRow}
+use Rattle.local_run.specs.Lanes.{lane, plane_of, SetsWord}
+use Rattle.local_run.specs.declared.planes.Planes.{Planes}
+use Rattle.local_run.specs.declared.values.Values.{Values}
+
+xor_same : (a b : Bool) → xor a b ≡ false → a ≡ b
+xor_same true true h = refl
+xor_same true false h = cc
+xor_same false true h = cc
+xor_same false false h = refl
+
+xor_differ : (a b : Bool) → xor a b ≡ true → a ≢ b
+xor_differ true true h e = cc
+xor_differ true false h e = cc
+xor_differ false true h e = cc
+xor_differ false false h e = cc
+
+bit-one : (n j : ℕ) → bit_at n j ≡ 1 → bit n j ≡ true
+unfolding bit
+bit-one n j h = rw h refl
+
+bit-none : (n j : ℕ) → bit_at n j ≡ 0 → bit n j ≡ false
+unfolding bit
+bit-none n j h = rw h refl
+
+-- ---- a place in rows of words
+pub quotient : (k b : ℕ) → b < 64 → (64 * k + b) / 64 ≡ k
+quotient k b l = omega arith
+
+pub remainder : (k b : ℕ) → b < 64 → (64 * k + b) % 64 ≡ b
+remainder k b l = omega arith
+
+value_in_word : (words k b w : ℕ) (values : List ℕ) → b < 64 → bit (get_or values (words * w + k) 0) b ≡ value_of words values (64 * k + b) w
+unfolding value_of
+value_in_word words k b w values l = rw (quotient k b l, remainder k b l) refl
+
+get_or_any : (s : List ℕ) (i d e : ℕ) → i < length s → get_or s i d ≡ get_or s i e
+get_or_any [] i d e l = absurd (omega arith)
+get_or_any (x ∷ s) zero d e l = refl
+get_or_any (x ∷ s) (suc i) d e l = get_or_any s i d e (omega arith)
+
+pub row_in_word : (words k b w v d : ℕ) (rows : List ℕ) → b < 64 → words * w + k < length rows → v ≡ get_or rows (words * w + k) d → bit v b ≡ value_of words rows (64 * k + b) w
+row_in_word words k b w v d rows l room e = ap (λ n. bit n b) (e ∙ get_or_any rows _ d 0 room) ∙ value_in_word words k b w rows l
+
+pub lane_in_word : (p : Planes) (s : List ℕ) (x y k b v d : ℕ) → b < 64 → plane_of p x y ≡ s → p.words * (p.stride * (y / 2) + x / 2) + k < length s →
+    v ≡ get_or s (p.words * (p.stride * (y / 2) + x / 2) + k) d → bit v b ≡ lane p (64 * k + b) x y
+unfolding lane
+lane_in_word p s x y k b v d l es room e = rw (quotient k b l, remainder k b l, es) (ap (λ n. bit n b) (e ∙ get_or_any s _ d 0 room))
+
+pub plane_odd : (p : Planes) (x y : ℕ) → x % 2 ≡ 0 → y % 2 ≡ 0 → plane_of p x y ≡ p.odd.items
+unfolding plane_of
+plane_odd p x y ex ey = rw (ex, ey) refl
+
+pub plane_down : (p : Planes) (x y : ℕ) → x % 2 ≡ 0 → y % 2 ≡ 1 → plane_of p x y ≡ p.down.items
+unfolding plane_of
+plane_down p x y ex ey = rw (ex, ey) refl
+
+pub plane_right : (p : Planes) (x y : ℕ) → x % 2 ≡ 1 → y % 2 ≡ 0 → plane_of p x y ≡ p.right.items
+unfolding plane_of
+plane_right p x y ex ey = rw (ex, ey) refl
+
+pub plane_even : (p : Planes) (x y : ℕ) → x % 2 ≡ 1 → y % 2 ≡ 1 → plane_of p x y ≡ p.even.items
+unfolding plane_of
+plane_even p x y ex ey = rw (ex, ey) refl
+
+-- ---- the first difference
+split_place : (a k : ℕ) → 64 * k ≤ a → a < 64 * (k + 1) → a ≡ 64 * k + (a % 64)
+split_place a k l h = omega arith
+
+pub block_same : (f g : ℕ → Bool) (k v w : ℕ) → ((b : ℕ) → b < 64 → bit v b ≡ f (64 * k + b)) → ((b : ℕ) → b < 64 → bit w b ≡ g (64 * k + b)) →
+    ((a : ℕ) → a < 64 * k → f a ≡ g a) → bit_xor v w ≡ 0 → (a : ℕ) → a < 64 * (k + 1) → f a ≡ g a
+block_same f g k v w fv gw before e a l = by_lt_or_le a (64 * k) (before a) (λ h.
+    let at : a ≡ 64 * k + (a % 64) = split_place a k h l in
+    let small : a % 64 < 64 = omega arith in
+    let same : bit v (a % 64) ≡ bit w (a % 64) = xor_same _ _ (sym (bit-xor v w (a % 64)) ∙ ap (λ n. bit n (a % 64)) e ∙ bit-zero (a % 64)) in
+    ap f at ∙ sym (fv (a % 64) small) ∙ same ∙ gw (a % 64) small ∙ ap g (sym at))
+
+pub block_differs : (f g : ℕ → Bool) (k v w : ℕ) → v < 2 ^ 64 → w < 2 ^ 64 → ((b : ℕ) → b < 64 → bit v b ≡ f (64 * k + b)) → ((b : ℕ) → b < 64 → bit w b ≡ g (64 * k + b)) →
+    ((a : ℕ) → a < 64 * k → f a ≡ g a) → bit_xor v w ≢ 0 →
+    let z = 64 * k + trailing_zeros w64 (bit_xor v w) in (f z ≢ g z) × ((a : ℕ) → a < z → f a ≡ g a)
+block_differs f g k v w sv sw fv gw before e =
+    let n : ℕ = bit_xor v w in
+    let small : n < 2 ^ 64 = xor_lt 64 v w sv sw in
+    let found = bit_at-trailing_zeros w64 n (omega arith) small in
+    let z : ℕ = trailing_zeros w64 n in
+    let lz : z < 64 = found.0 in (
+      (λ same. xor_differ _ _ (sym (bit-xor v w z) ∙ bit-one n z found.1) (fv z lz ∙ same ∙ sym (gw z lz))),
+      (λ a l. by_lt_or_le a (64 * k) (before a) (λ h.
+          let at : a ≡ 64 * k + (a % 64) = split_place a k h (omega arith) in
+          let under : a % 64 < z = omega arith in
+          let in_word : a % 64 < 64 = omega arith in
+          let same : bit v (a % 64) ≡ bit w (a % 64) = xor_same _ _ (sym (bit-xor v w (a % 64)) ∙ bit-none n (a % 64) (found.2 (a % 64) under)) in
+          ap f at ∙ sym (fv (a % 64) in_word) ∙ same ∙ gw (a % 64) in_word ∙ ap g (sym at))),
+    )
+
+pub bit_ones : (b : ℕ) → b < 64 → bit 18446744073709551615 b ≡ true
+bit_ones b l = bit-one 18446744073709551615 b (bit_at_ones 64 b l)
+
+-- ---- the row of a signal
+pub row_from : (vs : Values) (n : ℕ) (s : Signal) → IsBelow n s → vs.words * n ≤ length vs.rows.items → HasRow vs s
+row_from vs n Zero b l = tt
+row_from vs n One b l = tt
+row_from vs n (Wire w) b l = let m : vs.words * (w + 1) ≤ vs.words * n = mul-le-mul_left vs.words (omega arith) in omega arith
+
+-- ---- a word that is set
+pub unique_place : (w c c' r r' : ℕ) → r < w → r' < w → w * c + r ≡ w * c' + r' → (c ≡ c') × (r ≡ r')
+unique_place w c c' r r' l l' e = by_lt_or_le c c'
+    (λ h. let m : w * (c + 1) ≤ w * c' = mul-le-mul_left w (omega arith) in absurd (omega arith))
+    (λ g. by_lt_or_le c' c
+    (λ h. let m : w * (c' + 1) ≤ w * c = mul-le-mul_left w (omega arith) in absurd (omega arith))
+    (λ k. let q : c ≡ c' = omega arith in (q, by_sum q)))
+  where
+    by_sum : c ≡ c' → r ≡ r'
+    by_sum q = let m : w * c ≡ w * c' = ap (λ n. w * n) q in omega arith
+
+lane_at : (q : Planes) (a x y w st : ℕ) (s : List ℕ) → q.words ≡ w → q.stride ≡ st → plane_of q x y ≡ s → lane q a x y ≡ bit (get_or s (w * (st * (y / 2) + x / 2) + a / 64) 0) (a % 64)
+unfolding lane
+lane_at q a x y w st s ew es e =
+    ap₂ (λ v r. bit (get_or (plane_of q x y) (v * (r * (y / 2) + x / 2) + a / 64) 0) (a % 64)) ew es
+    ∙ ap (λ z. bit (get_or z (w * (st * (y / 2) + x / 2) + a / 64) 0) (a % 64)) e
+
+pub sets_word : (p q : Planes) (x y k word : ℕ) → q.words ≡ p.words → q.stride ≡ p.stride → x / 2 < p.stride → k < p.words →
+    p.words * (p.stride * (y / 2) + x / 2) + k < length (plane_of p x y) →
+    ((x' y' : ℕ) → x' % 2 ≡ x % 2 → y' % 2 ≡ y % 2 → plane_of q x' y' ≡ set (plane_of p x y) (p.words * (p.stride * (y / 2) + x / 2) + k) word) →
+    ((x' y' : ℕ) → x' % 2 ≡ x % 2 → y' % 2 ≡ y % 2 → plane_of p x' y' ≡ plane_of p x y) →
+    ((x' y' : ℕ) → ((x' % 2 ≡ x % 2) × (y' % 2 ≡ y % 2) → ⊥) → plane_of q x' y' ≡ plane_of p x' y') → SetsWord x y k word p q
+unfolding lane
+sets_word p q x y k word ew es lx lk room same old other = record {
+  there = λ b l.
+      let e : place_at (64 * k + b) x y ≡ n = ap (λ m. p.words * (p.stride * (y / 2) + x / 2) + m) (quotient k b l) in
+      lane_at q (64 * k + b) x y p.words p.stride _ ew es (same x y refl refl)
+      ∙ ap₂ (λ m r. bit (get_or (set (plane_of p x y) n word) m 0) r) e (remainder k b l)
+      ∙ ap (λ v. bit v b) (get_or-set_same (plane_of p x y) n word 0 room);
+  rest = λ a x' y' la lx' differ. by_eq_or_not (x' % 2) (x % 2)
+      (λ ex. by_eq_or_not (y' % 2) (y % 2)
+      (λ ey. lane_at q a x' y' p.words p.stride _ ew es (same x' y' ex ey)
+      ∙ ap (λ v. bit v (a % 64)) (get_or-set_other (plane_of p x y) n (place_at a x' y') word 0 (apart a x' y' la lx' differ ex ey))
+      ∙ sym (lane_at p a x' y' p.words p.stride _ refl refl (old x' y' ex ey)))
+      (λ ny. lane_at q a x' y' p.words p.stride _ ew es (other x' y' (λ h. ny h.1)) ∙ sym (lane_at p a x' y' p.words p.stride _ refl refl refl)))
+      (λ nx. lane_at q a x' y' p.words p.stride _ ew es (other x' y' (λ h. nx h.0)) ∙ sym (lane_at p a x' y' p.words p.stride _ refl refl refl));
+}
+  where
+    n : ℕ
+    n = p.words * (p.stride * (y / 2) + x / 2) + k
+
+    place_at : ℕ → ℕ → ℕ → ℕ
+    place_at a x' y' = p.words * (p.stride * (y' / 2) + x' / 2) + a / 64
+
+    apart : (a x' y' : ℕ) → a < 64 * p.words → x' / 2 < p.stride → ((x' ≡ x) × (y' ≡ y) × (a / 64 ≡ k) → ⊥) → x' % 2 ≡ x % 2 → y' % 2 ≡ y % 2 → place_at a x' y' ≢ n
+    apart a x' y' la lx' differ ex ey e =
+        let first = unique_place p.words (p.stride * (y' / 2) + x' / 2) (p.stride * (y / 2) + x / 2) (a / 64) k (omega arith) lk e in
+        let second = unique_place p.stride (y' / 2) (y / 2) (x' / 2) (x / 2) lx' lx first.0 in
+        let h0 : x' / 2 ≡ x / 2 = second.1 in
+        let h1 : y' / 2 ≡ y / 2 = second.0 in
+        differ (omega arith, omega arith, first.1)
+
+pub sets_odd : (p q : Planes) (x y k word : ℕ) → q.words ≡ p.words → q.stride ≡ p.stride → x / 2 < p.stride → k < p.words → p.words * (p.stride * (y / 2) + x / 2) + k < length p.odd.items →
+    x % 2 ≡ 0 → y % 2 ≡ 0 → q.odd.items ≡ set p.odd.items (p.words * (p.stride * (y / 2) + x / 2) + k) word → q.right.items ≡ p.right.items → q.down.items ≡ p.down.items → q.even.items ≡ p.even.items → SetsWord x y k word p q
+sets_odd p q x y k word ew es lx lk room px py e_odd e_right e_down e_even =
+    sets_word p q x y k word ew es lx lk (subst (λ (z : List ℕ). p.words * (p.stride * (y / 2) + x / 2) + k < length z) (sym (plane_odd p x y px py)) room)
+    (λ x' y' ex ey. plane_odd q x' y' (ex ∙ px) (ey ∙ py) ∙ e_odd ∙ ap (λ z. set z (p.words * (p.stride * (y / 2) + x / 2) + k) word) (sym (plane_odd p x y px py)))
+    (λ x' y' ex ey. plane_odd p x' y' (ex ∙ px) (ey ∙ py) ∙ sym (plane_odd p x y px py))
+    (λ x' y' differ. by_eq_or_not (x' % 2) 0
+    (λ ex. by_eq_or_not (y' % 2) 0
+    (λ ey. absurd (differ (omega arith, omega arith)))
+    (λ oy. plane_down q x' y' (omega arith) (omega arith) ∙ e_down ∙ sym (plane_down p x' y' (omega arith) (omega arith))))
+    (λ ox. by_eq_or_not (y' % 2) 0
+    (λ ey. plane_right q x' y' (omega arith) (omega arith) ∙ e_right ∙ sym (plane_right p x' y' (omega arith) (omega arith)))
+    (λ oy. plane_even q x' y' (omega arith) (omega arith) ∙ e_even ∙ sym (plane_even p x' y' (omega arith) (omega arith)))))
+
+pub sets_down : (p q : Planes) (x y k word : ℕ) → q.words ≡ p.words → q.stride ≡ p.stride → x / 2 < p.stride → k < p.words → p.words * (p.stride * (y / 2) + x / 2) + k < length p.down.items →
+    x % 2 ≡ 0 → y % 2 ≡ 1 → q.odd.items ≡ p.odd.items → q.right.items ≡ p.right.items → q.down.items ≡ set p.down.items (p.words * (p.stride * (y / 2) + x / 2) + k) word → q.even.items ≡ p.even.items → SetsWord x y k word p q
+sets_down p q x y k word ew es lx lk room px py e_odd e_right e_down e_even =
+    sets_word p q x y k word ew es lx lk (subst (λ (z : List ℕ). p.words * (p.stride * (y / 2) + x / 2) + k < length z) (sym (plane_down p x y px py)) room)
+    (λ x' y' ex ey. plane_down q x' y' (ex ∙ px) (ey ∙ py) ∙ e_down ∙ ap (λ z. set z (p.words * (p.stride * (y / 2) + x / 2) + k) word) (sym (plane_down p x y px py)))
+    (λ x' y' ex ey. plane_down p x' y' (ex ∙ px) (ey ∙ py) ∙ sym (plane_down p x y px py))
+    (λ x' y' differ. by_eq_or_not (x' % 2) 0
+    (λ ex. by_eq_or_not (y' % 2) 0
+    (λ ey. plane_odd q x' y' (omega arith) (omega arith) ∙ e_odd ∙ sym (plane_odd p x' y' (omega arith) (omega arith)))
+    (λ oy. absurd (differ (omega arith, omega arith))))
+    (λ ox. by_eq_or_not (y' % 2) 0
+    (λ ey. plane_right q x' y' (omega arith) (omega arith) ∙ e_right ∙ sym (plane_right p x' y' (omega arith) (omega arith)))
+    (λ oy. plane_even q x' y' (omega arith) (omega arith) ∙ e_even ∙ sym (plane_even p x' y' (omega arith) (omega arith)))))
+
+pub sets_right : (p q : Planes) (x y k word : ℕ) → q.words ≡ p.words → q.stride ≡ p.stride → x / 2 < p.stride → k < p.words → p.words * (p.stride * (y / 2) + x / 2) + k < length p.right.items →
+    x % 2 ≡ 1 → y % 2 ≡ 0 → q.odd.items ≡ p.odd.items → q.right.items ≡ set p.right.items (p.words * (p.stride * (y / 2) + x / 2) + k) word → q.down.items ≡ p.down.items → q.even.items ≡ p.even.items → SetsWord x y k word p q
+sets_right p q x y k word ew es lx lk room px py e_odd e_right e_down e_even =
+    sets_word p q x y k word ew es lx lk (subst (λ (z : List ℕ). p.words * (p.stride * (y / 2) + x / 2) + k < length z) (sym (plane_right p x y px py)) room)
+    (λ x' y' ex ey. plane_right q x' y' (ex ∙ px) (ey ∙ py) ∙ e_right ∙ ap (λ z. set z (p.words * (p.stride * (y / 2) + x / 2) + k) word) (sym (plane_right p x y px py)))
+    (λ x' y' ex ey. plane_right p x' y' (ex ∙ px) (ey ∙ py) ∙ sym (plane_right p x y px py))
+    (λ x' y' differ. by_eq_or_not (x' % 2) 0
+    (λ ex. by_eq_or_not (y' % 2) 0
+    (λ ey. plane_odd q x' y' (omega arith) (omega arith) ∙ e_odd ∙ sym (plane_odd p x' y' (omega arith) (omega arith)))
+    (λ oy. plane_down q x' y' (omega arith) (omega arith) ∙ e_down ∙ sym (plane_down p x' y' (omega arith) (omega arith))))
+    (λ ox. by_eq_or_not (y' % 2) 0
+    (λ ey. absurd (differ (omega arith, omega arith)))
+    (λ oy. plane_even q x' y' (omega arith) (omega arith) ∙ e_even ∙ sym (plane_even p x' y' (omega arith) (omega arith)))))
+
+pub sets_even : (p q : Planes) (x y k word : ℕ) → q.words ≡ p.words → q.stride ≡ p.stride → x / 2 < p.stride → k < p.words → p.words * (p.stride * (y / 2) + x / 2) + k < length p.even.items →
+    x % 2 ≡ 1 → y % 2 ≡ 1 → q.odd.items ≡ p.odd.items → q.right.items ≡ p.right.items → q.down.items ≡ p.down.items → q.even.items ≡ set p.even.items (p.words * (p.stride * (y / 2) + x / 2) + k) word → SetsWord x y k word p q
+sets_even p q x y k word ew es lx lk room px py e_odd e_right e_down e_even =
+    sets_word p q x y k word ew es lx lk (subst (λ (z : List ℕ). p.words * (p.stride * (y / 2) + x / 2) + k < length z) (sym (plane_even p x y px py)) room)
+    (λ x' y' ex ey. plane_even q x' y' (ex ∙ px) (ey ∙ py) ∙ e_even ∙ ap (λ z. set z (p.words * (p.stride * (y / 2) + x / 2) + k) word) (sym (plane_even p x y px py)))
+    (λ x' y' ex ey. plane_even p x' y' (ex ∙ px) (ey ∙ py) ∙ sym (plane_even p x y px py))
+    (λ x' y' differ. by_eq_or_not (x' % 2) 0
+    (λ ex. by_eq_or_not (y' % 2) 0
+    (λ ey. plane_odd q x' y' (omega arith) (omega arith) ∙ e_odd ∙ sym (plane_odd p x' y' (omega arith) (omega arith)))
+    (λ oy. plane_down q x' y' (omega arith) (omega arith) ∙ e_down ∙ sym (plane_down p x' y' (omega arith) (omega arith))))
+    (λ ox. by_eq_or_not (y' % 2) 0
+    (λ ey. plane_right q x' y' (omega arith) (omega arith) ∙ e_right ∙ sym (plane_right p x' y' (omega arith) (omega arith)))
+    (λ oy. absurd (differ (omega arith, omega arith)))))

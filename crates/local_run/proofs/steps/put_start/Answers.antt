@@ -1,0 +1,30 @@
+use Rattle.std.proofs.Common.{arith, ◌≡◌, ◌+◌, ℕ, ap, ◌∙◌, subst}
+use Rattle.bbm_rule.proofs.BitLemmas.{by_lt_or_le}
+use Rattle.module_box.specs.declared.boxes.Box2.{Box2}
+use Rattle.certificate.specs.Signals.{is_live}
+use Rattle.local_run.specs.Runs.{local_run}
+use Rattle.local_run.specs.Places.{inner}
+use Rattle.local_run.specs.Lanes.{lane}
+use Rattle.local_run.specs.Scans.{valuation}
+use Rattle.local_run.proofs.Stepping.{run_start}
+use Rattle.local_run.proofs.steps.put_start.Goals as goal
+
+pub cells-preserved : goal.cells-preserved
+cells-preserved c =
+    let j = c.args.job.now in
+    let h = c.put.ensures in
+    let m = c.cells.invariant in
+    let room = c.requires.ready.room in
+    let count = c.requires.ready.count in
+    let ew : c.area-area.result.w ≡ j.area.w = ap (λ (b : Box2). b.w) c.area-area.ensures.area in
+    let s0 = m.size.0 in
+    let s1 = m.size.1 in
+    record {
+      size = (h.size.0 ∙ m.size.0, h.size.1 ∙ m.size.1, h.size.2 ∙ m.size.2);
+      above = λ a x y la lx ly. h.rest a (1 + x) (1 + y) (omega arith) (omega arith) (λ e. let e1 = e.1 in omega arith) ∙ m.above a x y la lx ly;
+      here = λ a x la lx. by_lt_or_le x c.cells.x
+          (λ l. h.rest a (1 + x) (1 + c.rows.y) (omega arith) (omega arith) (λ e. let e0 = e.0 in omega arith) ∙ m.here a x la l)
+          (λ g. let e : c.cells.x ≡ x = omega arith in
+          subst (λ (n : ℕ). lane c.put.new.planes a (1 + n) (1 + c.rows.y) ≡ local_run j (valuation c.args.values.now a) 0 (inner j.area.x n) (inner j.area.y c.rows.y)) e
+          (h.there a (omega arith) ∙ ap (is_live (valuation c.args.values.now a)) c.start_at.ensures.is ∙ run_start j (valuation c.args.values.now a) _ _));
+    }

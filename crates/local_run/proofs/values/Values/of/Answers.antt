@@ -1,0 +1,40 @@
+use Rattle.std.proofs.Common.{ℕ, subst, ap, ◌∙◌, arith, ◌^◌, ◌≡◌, ◌≤◌, ◌<◌, ◌*◌, ◌%◌, length}
+use Rattle.std.proofs.Math.Pow.{pow_mono}
+use Rattle.std.proofs.lemmas.Nat.{pow_pos}
+use Rattle.std.specs.Int.{div_ceil}
+use Rattle.circuit.specs.Meaning.{AreOrdered, wires}
+use Rattle.module_box.specs.Locals.{LocalNet}
+use Rattle.module_box.specs.LocalValues.{IsLocalValuation, value_of}
+use Rattle.local_run.specs.Faults.{assignments}
+use Rattle.local_run.proofs.values.Values.of.Goals as goal
+
+-- so many cuts have so many assignments, and these so many words
+shifted : (n : ℕ) → n ≤ 10 → 1 * 2 ^ n % 18446744073709551616 ≡ 2 ^ n
+shifted n few = omega (arith, pow_mono few)
+
+enough : (n w : ℕ) → n ≤ 10 → w ≡ div_ceil (1 * 2 ^ n % 18446744073709551616) 64 → (0 < w) × (w ≤ 16) × (1 * 2 ^ n % 18446744073709551616 ≤ 64 * w)
+enough n w few e = by_size (1 * 2 ^ n % 18446744073709551616) (omega (arith, shifted n few, pow_pos n)) (omega (arith, shifted n few, pow_mono few)) e
+  where
+    by_size : (m : ℕ) → 0 < m → m ≤ 1024 → w ≡ div_ceil m 64 → (0 < w) × (w ≤ 16) × (m ≤ 64 * w)
+    by_size m some small h = (omega (arith, h), omega (arith, h), omega (arith, h))
+
+pub value_rows-requires : goal.value_rows-requires
+value_rows-requires c = (enough c.cuts-count.result c.div_ceil-words.result c.cuts-count.ensures.few c.div_ceil-words.ensures).1
+
+pub returns : goal.returns
+returns c =
+    let e = c.locals-locals.ensures in
+    let w = enough c.cuts-count.result c.div_ceil-words.result c.cuts-count.ensures.few c.div_ceil-words.ensures in
+    let count : 1 * 2 ^ c.cuts-count.result % 18446744073709551616 ≡ assignments c.args.job.now =
+        shifted c.cuts-count.result c.cuts-count.ensures.few ∙ ap (λ n. 2 ^ n) c.cuts-count.ensures.count ∙ ap (λ (l : LocalNet). 2 ^ l.netlist.given) e in
+    record {
+      job = c.requires;
+      ordered = subst (λ (l : LocalNet). AreOrdered l.netlist.given l.netlist.gates) e c.cuts-count.ensures.ordered;
+      wide = (w.0, w.1);
+      count = count;
+      room = w.2;
+      long = let h : length c.in_ok-rows.rows.items ≡ c.div_ceil-words.result * wires c.args.job.now.locals.netlist =
+          c.in_ok-rows.ensures.long ∙ ap (λ (l : LocalNet). c.div_ceil-words.result * wires l.netlist) e in omega (arith, h);
+      local = λ a l. subst (λ (m : LocalNet). IsLocalValuation m a (value_of c.div_ceil-words.result c.in_ok-rows.rows.items a)) e
+          (c.in_ok-rows.ensures.local a (omega (arith, count, l, w.2)));
+    }

@@ -1,0 +1,69 @@
+-- The faults of a job, and the least of them
+use Rattle.std.specs.Prelude.{◌≡◌, ◌≢◌, ℕ, ℤ, ◌<◌, ◌%◌, ◌^◌, Option, Some, None, Contains, IsTrue}
+use Rattle.std.specs.declared.cmp.Ordering.TheVariants.{Greater}
+use Rattle.std.proofs.Props.{props}
+use Rattle.circuit.specs.Meaning.{Valuation}
+use Rattle.module_box.specs.Boxes.{in_box, in_ring}
+use Rattle.module_box.specs.LocalValues.{IsLocalValuation}
+use Rattle.module_box.specs.Schedules.{signal_at}
+use Rattle.certificate.specs.Jobs.{JobState, job_demand}
+use Rattle.certificate.specs.Signals.{is_live, Meets}
+use Rattle.certificate.specs.declared.job.Stop as listed
+use Rattle.local_run.specs.Order.{fault_cmp}
+use Rattle.local_run.specs.Runs.{local_run}
+use Rattle.local_run.specs.declared.fault.Fault.{Fault}
+use Rattle.local_run.specs.declared.fault.Kind.{Kind}
+use Rattle.local_run.specs.declared.fault.Kind.TheVariants.{Edge, Stop, End}
+
+-- at an odd time below the steps, a cell of the ring is not as its edge signal says
+pub record IsEdgeFault (j : JobState) (u : Valuation) (t : ℕ) (x y : ℤ) : Type 0 where
+  pub odd : t % 2 ≡ 1
+  pub early : t < j.steps
+  pub ring : IsTrue (in_ring j.area x y)
+  pub differs : local_run j u t x y ≢ is_live u (signal_at j.edges t x y)
+
+-- at the time of a stop, its cell is not as its wire says
+pub record IsStopFault (j : JobState) (u : Valuation) (t : ℕ) (x y : ℤ) : Type 0 where
+  pub stop : listed.Stop
+  pub is_listed : Contains j.stops stop
+  pub time : stop.at.time ≡ t
+  pub column : stop.at.cell.x ≡ x
+  pub row : stop.at.cell.y ≡ y
+  pub differs : local_run j u t x y ≢ u stop.wire
+
+-- at the last time, a cell of the box does not meet its demand
+pub record IsEndFault (j : JobState) (u : Valuation) (t : ℕ) (x y : ℤ) : Type 0 where
+  pub last : t ≡ j.steps
+  pub inside : IsTrue (in_box j.area x y)
+  pub differs : ¬ Meets u (job_demand j x y) (local_run j u t x y)
+
+-- the cell (x, y) has a fault of the kind at time t, where the wires have these values
+abbrev pub IsFaultUnder : JobState → Valuation → ℕ → Kind → ℤ → ℤ → Type 0
+IsFaultUnder j u t Edge x y = IsEdgeFault j u t x y
+IsFaultUnder j u t Stop x y = IsStopFault j u t x y
+IsFaultUnder j u t End x y = IsEndFault j u t x y
+
+-- how many assignments there are: one for each choice of the values of the cuts
+abbrev pub assignments : JobState → ℕ
+assignments j = 2 ^ j.locals.netlist.given
+
+-- a local valuation under the fault's assignment that has it
+pub record HasFault (j : JobState) (f : Fault) : Type 0 where
+  pub values : Valuation
+  pub local : IsLocalValuation j.locals f.assignment values
+  pub differs : IsFaultUnder j values f.time f.kind f.cell.x f.cell.y
+
+-- a fault of the job: there is such a valuation
+pub record IsFault (j : JobState) (f : Fault) : Type 0 where
+  pub in_range : f.assignment < assignments j
+  pub shown : ∥ HasFault j f ∥₁
+
+-- the job's least fault, or `None` where it has no fault
+abbrev pub IsLeastFault : JobState → Option Fault → Type 0
+IsLeastFault j None = (f : Fault) → ¬ IsFault j f
+IsLeastFault j (Some f) = IsFault j f × ((g : Fault) → IsFault j g → fault_cmp f g ≢ Greater)
+
+-- any two proofs of it are equal
+pub IsLeastFault-prop : (j : JobState) (o : Option Fault) → IsProp (IsLeastFault j o)
+IsLeastFault-prop j None = Prim.hlevel props
+IsLeastFault-prop j (Some f) = Prim.hlevel props

@@ -1,0 +1,23 @@
+-- What four planes of words stand for: for each cell a bit under each assignment
+use Rattle.std.specs.Prelude.{◌≡◌, ◌==◌, if◌then◌else◌, Bool, ℕ, ◌+◌, ◌*◌, ◌/◌, ◌%◌, List, slice_index, ◌<◌}
+use Rattle.bbm_rule.specs.Bits.{bit}
+use Rattle.local_run.specs.declared.planes.Planes.{Planes}
+
+-- how many words a cell has, and how many cells a row and rows a plane
+abbrev pub HasSize : ℕ → ℕ → ℕ → Planes → Type 0
+HasSize words stride rows p = (p.words ≡ words) × (p.stride ≡ stride) × (p.rows ≡ rows)
+
+-- the plane of a cell, by the parities of its column and row
+unfoldable pub plane_of : Planes → ℕ → ℕ → List ℕ
+plane_of p x y =
+    if x % 2 == 0 then (if y % 2 == 0 then p.odd.items else p.down.items)
+    else (if y % 2 == 0 then p.right.items else p.even.items)
+
+-- whether the cell at column x and row y, counted from the ring, is live under assignment a
+unfoldable pub lane : Planes → ℕ → ℕ → ℕ → Bool
+lane p a x y = bit (slice_index (plane_of p x y) (p.words * (p.stride * (y / 2) + x / 2) + a / 64)) (a % 64)
+
+-- only the word k of the cell changes
+pub record SetsWord (x y k word : ℕ) (p q : Planes) : Type 0 where
+  pub there : (b : ℕ) → b < 64 → lane q (64 * k + b) x y ≡ bit word b
+  pub rest : (a x' y' : ℕ) → a < 64 * p.words → x' / 2 < p.stride → ((x' ≡ x) × (y' ≡ y) × (a / 64 ≡ k) → ⊥) → lane q a x' y' ≡ lane p a x' y'

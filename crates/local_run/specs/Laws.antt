@@ -1,0 +1,34 @@
+-- What the laws of this crate say
+use Rattle.std.specs.Prelude.{◌≡◌, ℕ, ◌<◌, ◌↔◌, Option, None}
+use Rattle.circuit.specs.Meaning.{Valuation, AreOrdered}
+use Rattle.module_box.specs.LocalValues.{IsLocalValuation}
+use Rattle.module_box.specs.Laws.{LiesInBox}
+use Rattle.certificate.specs.Jobs.{JobState, IsJob}
+use Rattle.local_run.specs.Faults.{IsFault, IsFaultUnder, IsLeastFault, assignments}
+use Rattle.local_run.specs.Runs.{local_run}
+use Rattle.local_run.specs.Shown.{job_of, fault_of}
+use Rattle.local_run.specs.declared.fault.Fault.{Fault}
+use Rattle.local_run.specs.declared.finding.Finding.{Finding}
+
+-- two findings of one job have one fault
+abbrev pub FindingsAgree : Type 0
+FindingsAgree = (f g : Finding) → job_of f ≡ job_of g → fault_of f ≡ fault_of g
+
+-- a finding without a fault says that its job has none
+abbrev pub NoneMeansNoFault : Type 0
+NoneMeansNoFault = (f : Finding) (x : Fault) → fault_of f ≡ None → ¬ IsFault (job_of f) x
+
+-- a job has one least fault, or none
+abbrev pub LeastFaultIsUnique : Type 0
+LeastFaultIsUnique = (j : JobState) (f g : Option Fault) → IsLeastFault j f → IsLeastFault j g → f ≡ g
+
+-- Where no gate uses a wire before it is defined, any one local valuation under an assignment tells whether the job has a fault
+-- under it
+abbrev pub FaultsAreDecided : Type 0
+FaultsAreDecided = (j : JobState) (f : Fault) (u : Valuation) → IsJob j → AreOrdered j.locals.netlist.given j.locals.netlist.gates →
+    f.assignment < assignments j → IsLocalValuation j.locals f.assignment u →
+    IsFault j f ↔ IsFaultUnder j u f.time f.kind f.cell.x f.cell.y
+
+-- no cell outside the box is ever live
+abbrev pub StaysInBox : Type 0
+StaysInBox = (j : JobState) (u : Valuation) (t : ℕ) → IsJob j → LiesInBox j.area (local_run j u t)

@@ -1,0 +1,9 @@
+pub mod Runs
+pub mod Order
+pub mod Faults
+pub mod Shown
+pub mod Laws
+pub mod Across
+pub mod Lanes
+pub mod Places
+pub mod Scans

@@ -1,0 +1,15 @@
+-- The coordinates of the cells of a box and of the cells around it, counted from the box
+use Rattle.std.specs.Prelude.{ℕ, ℤ, pos, ◌+◌, ◌-ℤ◌, ◌≤◌}
+use Rattle.module_box.specs.declared.boxes.Box2.{Box2}
+
+-- number k of the columns or rows of a box whose first is c
+unfoldable pub inner : ℕ → ℕ → ℤ
+inner c k = pos (c + k)
+
+-- the same, where the one before the first has number 0
+unfoldable pub outer : ℕ → ℕ → ℤ
+outer c k = pos (c + k) -ℤ pos 1
+
+-- the box is near the plane's corner, and so is the place
+abbrev pub IsSmall : Box2 → ℕ → ℕ → Type 0
+IsSmall b x y = (b.x ≤ 512) × (b.y ≤ 512) × (x ≤ 66) × (y ≤ 66)

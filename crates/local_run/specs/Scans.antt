@@ -1,0 +1,108 @@
+-- The run of a job under all assignments, and the first of its faults
+use Rattle.std.specs.Prelude.{◌≡◌, ℕ, ℤ, ◌+◌, ◌*◌, ◌/◌, ◌%◌, ◌<◌, ◌≤◌, ◌<ℤ◌, length, Option, Some, None, ◌⊎◌}
+use Rattle.circuit.specs.Meaning.{Valuation, AreOrdered, wires}
+use Rattle.module_box.specs.LocalValues.{IsLocalValuation, value_of}
+use Rattle.module_box.specs.Schedules.{signal_at}
+use Rattle.module_box.specs.declared.boxes.Box2.{Box2}
+use Rattle.module_box.specs.declared.schedules.Signal.{Signal}
+use Rattle.module_box.specs.declared.schedules.Signal.TheVariants.{Zero, One, Wire}
+use Rattle.certificate.specs.Jobs.{JobState, IsJob}
+use Rattle.certificate.specs.Signals.{is_live}
+use Rattle.local_run.specs.Faults.{IsFaultUnder, assignments}
+use Rattle.local_run.specs.Lanes.{HasSize, lane}
+use Rattle.local_run.specs.Places.{inner, outer}
+use Rattle.local_run.specs.Runs.{local_run}
+use Rattle.local_run.specs.declared.fault.Fault.{Fault}
+use Rattle.local_run.specs.declared.fault.Kind.{Kind}
+use Rattle.local_run.specs.declared.fault.Kind.TheVariants.{Edge, Stop, End}
+use Rattle.local_run.specs.declared.planes.Planes.{Planes}
+use Rattle.local_run.specs.declared.values.Values.{Values}
+
+-- the least number below n of which a fact holds
+abbrev pub IsLeastBelow : ℕ → (ℕ → Type 0) → Option ℕ → Type 0
+IsLeastBelow n P None = (a : ℕ) → a < n → ¬ P a
+IsLeastBelow n P (Some a) = (a < n) × P a × ((b : ℕ) → b < a → ¬ P b)
+
+-- the values of the wires under assignment a
+abbrev pub valuation : Values → ℕ → Valuation
+valuation vs a = value_of vs.words vs.rows.items a
+
+-- there is a row for the wire that it names
+abbrev pub HasRow : Values → Signal → Type 0
+HasRow vs Zero = Unit {0}
+HasRow vs One = Unit {0}
+HasRow vs (Wire w) = vs.words * w + vs.words ≤ length vs.rows.items
+
+-- what a run needs of a job and of the values of its wires
+pub record IsReady (j : JobState) (vs : Values) : Type 0 where
+  pub job : IsJob j
+  pub ordered : AreOrdered j.locals.netlist.given j.locals.netlist.gates
+  pub wide : (0 < vs.words) × (vs.words ≤ 16)
+  pub count : vs.count ≡ assignments j
+  pub room : vs.count ≤ 64 * vs.words
+  pub long : vs.words * wires j.locals.netlist ≤ length vs.rows.items
+  pub local : (a : ℕ) → a < assignments j → IsLocalValuation j.locals a (valuation vs a)
+
+-- the cells of the box are those of the run at time t, under each assignment
+pub record Shows (j : JobState) (vs : Values) (t : ℕ) (p : Planes) : Type 0 where
+  pub size : HasSize vs.words (j.area.w / 2 + 1) (j.area.h / 2 + 1) p
+  pub cells : (a x y : ℕ) → a < assignments j → x < j.area.w → y < j.area.h →
+      lane p a (1 + x) (1 + y) ≡ local_run j (valuation vs a) t (inner j.area.x x) (inner j.area.y y)
+
+-- whether faults of the kind are sought at the time
+abbrev pub IsSought : JobState → ℕ → Kind → Type 0
+IsSought j t Edge = (t % 2 ≡ 1) × (t < j.steps)
+IsSought j t Stop = ⊥
+IsSought j t End = t ≡ j.steps
+
+-- How far apart the cells of row y of a box are that can have a fault of the kind: next to each other, or the first and the last
+pub record HasBothEnds (kind : Kind) (w h y stride : ℕ) : Type 0 where
+  pub edge : Edge ≡ kind
+  pub between : (1 ≤ y) × (y + 1 < h)
+  pub ends : stride + 1 ≡ w
+
+abbrev pub IsStride : Kind → ℕ → ℕ → ℕ → ℕ → Type 0
+IsStride kind w h y stride = (1 ≤ stride) × (stride ≤ 64) × ((stride ≡ 1) ⊎ HasBothEnds kind w h y stride)
+
+-- f comes first among the faults of a kind at a time
+pub record IsFirst (j : JobState) (vs : Values) (t : ℕ) (kind : Kind) (f : Fault) : Type 0 where
+  pub at_time : f.time ≡ t
+  pub same_kind : f.kind ≡ kind
+  pub small : f.assignment < assignments j
+  pub fault : IsFaultUnder j (valuation vs f.assignment) t kind f.cell.x f.cell.y
+  pub row : (x y : ℤ) (a : ℕ) → a < assignments j → y <ℤ f.cell.y → ¬ IsFaultUnder j (valuation vs a) t kind x y
+  pub column : (x : ℤ) (a : ℕ) → a < assignments j → x <ℤ f.cell.x → ¬ IsFaultUnder j (valuation vs a) t kind x f.cell.y
+  pub assignment : (a : ℕ) → a < f.assignment → ¬ IsFaultUnder j (valuation vs a) t kind f.cell.x f.cell.y
+
+-- there is no fault of the kind at the time
+abbrev pub IsFree : JobState → Values → ℕ → Kind → Type 0
+IsFree j vs t kind = (x y : ℤ) (a : ℕ) → a < assignments j → ¬ IsFaultUnder j (valuation vs a) t kind x y
+
+-- a cell, counted from the halo, becomes what the signal says, and no other changes
+pub record PutsCell (vs : Values) (x y : ℕ) (signal : Signal) (p q : Planes) : Type 0 where
+  pub size : HasSize p.words p.stride p.rows q
+  pub there : (a : ℕ) → a < 64 * vs.words → lane q a x y ≡ is_live (valuation vs a) signal
+  pub rest : (a x' y' : ℕ) → a < 64 * vs.words → x' / 2 < p.stride → ((x' ≡ x) × (y' ≡ y) → ⊥) → lane q a x' y' ≡ lane p a x' y'
+
+-- whether a cell, counted from the halo, is outside the box
+abbrev pub IsOuter : Box2 → ℕ → ℕ → Type 0
+IsOuter b x y = (1 ≤ x) × (x ≤ b.w) × (1 ≤ y) × (y ≤ b.h) → ⊥
+
+-- the cell of the halo is what its signal says, under each assignment
+abbrev pub HasHaloAt : JobState → Values → ℕ → Planes → ℕ → ℕ → Type 0
+HasHaloAt j vs t p x y = (a : ℕ) → a < assignments j → IsOuter j.area x y →
+    lane p a x y ≡ is_live (valuation vs a) (signal_at j.halos t (outer j.area.x x) (outer j.area.y y))
+
+-- all cells of the halo are
+abbrev pub HasHalo : JobState → Values → ℕ → Planes → Type 0
+HasHalo j vs t p = (a x y : ℕ) → a < assignments j → x < j.area.w + 2 → y < j.area.h + 2 → IsOuter j.area x y →
+    lane p a x y ≡ is_live (valuation vs a) (signal_at j.halos t (outer j.area.x x) (outer j.area.y y))
+
+-- no cell changes but the one at (x, y), counted from the halo
+abbrev pub SameElsewhere : JobState → Planes → Planes → ℕ → ℕ → Type 0
+SameElsewhere j p q x y = (a x' y' : ℕ) → a < assignments j → x' < j.area.w + 2 → ((x' ≡ x) × (y' ≡ y) → ⊥) → lane q a x' y' ≡ lane p a x' y'
+
+-- after a time: its first fault, or the cells of the next time, where it has none
+abbrev pub IsAfter : JobState → Values → ℕ → Planes → Option Fault → Type 0
+IsAfter j vs t p None = Shows j vs (t + 1) p × (t % 2 ≡ 1 → IsFree j vs t Edge)
+IsAfter j vs t p (Some f) = (t % 2 ≡ 1) × IsFirst j vs t Edge f

@@ -1,0 +1,27 @@
+//! Laws of findings.
+ghost use Rattle.local_run.specs.Laws.{FindingsAgree, NoneMeansNoFault, LeastFaultIsUnique, FaultsAreDecided, StaysInBox};
+
+/// Two findings of one job have one fault.
+pub fn findings_agree()
+    ensures { FindingsAgree }
+{}
+
+/// A finding without a fault says that its job has none.
+pub fn none_means_no_fault()
+    ensures { NoneMeansNoFault }
+{}
+
+/// A job has one least fault, or none.
+pub fn least_fault_is_unique()
+    ensures { LeastFaultIsUnique }
+{}
+
+/// Any one local valuation under an assignment tells whether the job has a fault under it.
+pub fn faults_are_decided()
+    ensures { FaultsAreDecided }
+{}
+
+/// No cell outside the box is ever live.
+pub fn stays_in_box()
+    ensures { StaysInBox }
+{}

@@ -1,0 +1,23 @@
+//! Runs of modules by themselves, under all assignments of their cuts, and what they find.
+//!
+//! A module's run begins with the cells of its box that are live at time 0. An even step is made inside the box. An odd step is
+//! made on the box together with the live cells of its halo, and cut back to the box. A fault is a cell that is not as the
+//! module says: at an odd time a cell of the ring, at the time of a stop its cell, at the last time any cell of the box.
+//! `specs/Runs.antt` and `specs/Faults.antt` have these definitions, over whole numbers, cells of the plane and valuations.
+//!
+//! The step is that of Norman Margolus's billiard ball model (Physics-like Models of Computation, 1984).
+#![tactic(auto)]
+
+mod fault;
+mod finding;
+pub mod laws;
+mod places;
+mod planes;
+mod run;
+mod scan;
+mod steps;
+mod values;
+
+pub use fault::{Fault, Kind};
+pub use finding::Finding;
+pub use run::run_job;

@@ -1,0 +1,83 @@
+//! Cells of a job by their places in its box, and in the box together with its halo.
+ghost use Rattle.std.specs.Prelude.{◌≡◌, ◌+◌, ◌<◌, ◌≤◌};
+ghost use Rattle.circuit.specs.Meaning.{wires};
+ghost use Rattle.module_box.specs.Boxes.{in_ring};
+ghost use Rattle.module_box.specs.Schedules.{signal_at};
+ghost use Rattle.certificate.specs.Jobs.{job_demand, job_start};
+ghost use Rattle.certificate.specs.Signals.{IsBelow, IsDemandBelow};
+ghost use Rattle.local_run.specs.Places.{inner, outer, IsSmall};
+
+use bbm_rule::Cell;
+use certificate::{Demand, Job};
+use module_box::{Box2, Signal};
+
+/// The cell at a column and row of the box, for columns and rows below 67 of a box whose corner has coordinates of at most 512.
+#[tactic(auto, unfolding(crate::specs::Places::inner))]
+pub fn inner_cell(area: Box2, x: usize, y: usize) -> Cell
+    requires { IsSmall area x y }
+    ensures x { result.x ≡ inner area.x x }
+    ensures y { result.y ≡ inner area.y y }
+{
+    Cell {
+        x: (area.x as usize + x) as i32,
+        y: (area.y as usize + y) as i32,
+    }
+}
+
+/// The same, where columns and rows are counted from the halo.
+#[tactic(auto, unfolding(crate::specs::Places::outer))]
+pub fn outer_cell(area: Box2, x: usize, y: usize) -> Cell
+    requires { IsSmall area x y }
+    ensures x { result.x ≡ outer area.x x }
+    ensures y { result.y ≡ outer area.y y }
+{
+    Cell {
+        x: (area.x as usize + x) as i32 - 1,
+        y: (area.y as usize + y) as i32 - 1,
+    }
+}
+
+/// What the cell at a column and row of the box carries at time 0.
+pub fn start_at(job: &Job, x: usize, y: usize) -> Signal
+    requires { (x < job.now.area.w) × (y < job.now.area.h) }
+    ensures is { result ≡ job_start job.now (inner job.now.area.x x) (inner job.now.area.y y) }
+    ensures below { IsBelow (wires job.now.locals.netlist) result }
+{
+    job.start(inner_cell(job.area(), x, y))
+}
+
+/// What it is to be at the last time.
+pub fn demand_at(job: &Job, x: usize, y: usize) -> Demand
+    requires { (x < job.now.area.w) × (y < job.now.area.h) }
+    ensures is { result ≡ job_demand job.now (inner job.now.area.x x) (inner job.now.area.y y) }
+    ensures below { IsDemandBelow (wires job.now.locals.netlist) result }
+{
+    job.demand(inner_cell(job.area(), x, y))
+}
+
+/// What it carries at an odd time, if it is in the ring.
+pub fn edge_at(job: &Job, time: u32, x: usize, y: usize) -> Signal
+    requires { (x < job.now.area.w) × (y < job.now.area.h) }
+    ensures is { result ≡ signal_at job.now.edges time (inner job.now.area.x x) (inner job.now.area.y y) }
+    ensures below { IsBelow (wires job.now.locals.netlist) result }
+{
+    job.edges().at(time, inner_cell(job.area(), x, y))
+}
+
+/// What the cell at a column and row, counted from the halo, carries at an odd time, if it is in the halo.
+pub fn halo_at(job: &Job, time: u32, x: usize, y: usize) -> Signal
+    requires { (x < job.now.area.w + 2) × (y < job.now.area.h + 2) }
+    ensures is { result ≡ signal_at job.now.halos time (outer job.now.area.x x) (outer job.now.area.y y) }
+    ensures below { IsBelow (wires job.now.locals.netlist) result }
+{
+    job.halos().at(time, outer_cell(job.area(), x, y))
+}
+
+/// Whether the cell at a column and row of the box is in its ring.
+pub fn is_ring(job: &Job, x: usize, y: usize) -> bool
+    requires { (x < job.now.area.w) × (y < job.now.area.h) }
+    ensures { result ≡ in_ring job.now.area (inner job.now.area.x x) (inner job.now.area.y y) }
+{
+    let area = job.area();
+    area.in_ring(inner_cell(area, x, y))
+}

@@ -1,0 +1,66 @@
+//! The run of a job, and its finding.
+ghost use Rattle.std.specs.Prelude.{◌≡◌, ◌<◌, IfOk};
+ghost use Rattle.std.specs.Arc.{arc_value};
+ghost use Rattle.local_run.specs.Faults.{IsLeastFault};
+ghost use Rattle.local_run.specs.Scans.{IsAfter, IsReady, Shows};
+ghost use Rattle.local_run.specs.Shown.{digest_of, number_of, job_of};
+
+use crate::fault::{Fault, Kind};
+use crate::finding::Finding;
+use crate::planes::Planes;
+use crate::scan::first_fault;
+use crate::steps::{even_time, odd_time, put_start};
+use crate::values::Values;
+use certificate::Job;
+use std::alloc::{AllocError, Global};
+use std::sync::Arc;
+
+// One time of the run, or its first fault.
+fn one_time(planes: &mut Planes, values: &Values, job: &Job, time: u32) -> Option<Fault>
+    requires ready { IsReady job.now values.now }
+    requires early { time < job.now.steps }
+    requires shows { Shows job.now values.now time planes.old }
+    ensures { IsAfter job.now values.now time planes.new result }
+{
+    if time % 2 == 0 {
+        even_time(planes, values, job, time);
+        return None;
+    }
+    if let Some(fault) = first_fault(planes, values, job, time, Kind::Edge) {
+        return Some(fault);
+    }
+    odd_time(planes, values, job, time);
+    None
+}
+
+// The least fault of the job, by a run under all assignments at once.
+fn least_fault(alloc: Global, job: &Job) -> Result<Option<Fault>, AllocError>
+    ensures { IfOk result (λ o. IsLeastFault job.now o) }
+{
+    let area = job.area();
+    let values = Values::of(alloc, job)?;
+    let mut planes = Planes::new(alloc, area.w as usize, area.h as usize, values.words())?;
+    put_start(&mut planes, &values, job);
+    for time in 0..job.steps() {
+        if let Some(fault) = one_time(&mut planes, &values, job, time) {
+            return Ok(Some(fault));
+        }
+    }
+    Ok(first_fault(&planes, &values, job, job.steps(), Kind::End))
+}
+
+/// Runs a job under all assignments of its cuts, for a module of this number of the certificate with this digest. This is the
+/// only maker of findings. `AllocError` is want of memory, and nothing else keeps it from a finding.
+pub fn run_job(
+    alloc: Global,
+    digest: [u8; 32],
+    number: usize,
+    job: Arc<Job>,
+) -> Result<Finding, AllocError>
+    ensures digest { IfOk result (λ f. digest_of f ≡ digest) }
+    ensures number { IfOk result (λ f. number_of f ≡ number) }
+    ensures job { IfOk result (λ f. job_of f ≡ arc_value job) }
+{
+    let fault = least_fault(alloc, &job)?;
+    Ok(Finding::new(digest, number, job, fault))
+}

@@ -1,0 +1,94 @@
+//! The first fault of a kind at a time.
+ghost use Rattle.std.specs.Prelude.{◌≡◌, ◌+◌, ◌<◌, ◌≤◌, MatchOption};
+ghost use Rattle.local_run.specs.Faults.{IsFaultUnder, assignments};
+ghost use Rattle.local_run.specs.Places.{inner};
+ghost use Rattle.local_run.specs.Scans.{IsFirst, IsFree, IsLeastBelow, IsReady, IsSought, IsStride, Shows, valuation};
+
+use crate::fault::{Fault, Kind};
+use crate::places::{demand_at, edge_at, inner_cell, is_ring};
+use crate::planes::Planes;
+use crate::values::Values;
+use certificate::{Demand, Job};
+use module_box::Signal;
+
+// The least assignment under which the cell at a column and row of the box has a fault of the kind.
+fn cell_fault(
+    planes: &Planes,
+    values: &Values,
+    job: &Job,
+    time: u32,
+    kind: Kind,
+    x: usize,
+    y: usize,
+) -> Option<u32>
+    requires ready { IsReady job.now values.now }
+    requires shows { Shows job.now values.now time planes.now }
+    requires sought { IsSought job.now time kind }
+    requires place { (x < job.now.area.w) × (y < job.now.area.h) }
+    ensures { IsLeastBelow (assignments job.now) (λ a. IsFaultUnder job.now (valuation values.now a) time kind (inner job.now.area.x x) (inner job.now.area.y y)) result }
+{
+    match kind {
+        Kind::Edge => {
+            if !is_ring(job, x, y) {
+                return None;
+            }
+            values.first_difference(planes, 1 + x, 1 + y, edge_at(job, time, x, y))
+        }
+        Kind::Stop => None,
+        Kind::End => match demand_at(job, x, y) {
+            Demand::Dead => values.first_difference(planes, 1 + x, 1 + y, Signal::Zero),
+            Demand::Live => values.first_difference(planes, 1 + x, 1 + y, Signal::One),
+            Demand::Wire(wire) => {
+                values.first_difference(planes, 1 + x, 1 + y, Signal::Wire(wire))
+            }
+            Demand::Any => None,
+        },
+    }
+}
+
+// How far apart the cells of row y are that can have a fault of the kind. Only cells of the ring have edge faults: of the rows
+// between the first and the last one these are the first and the last cell.
+fn stride_of(kind: Kind, width: usize, height: usize, y: usize) -> usize
+    requires { (2 ≤ width) × (width ≤ 64) × (y < height) × (height ≤ 64) }
+    ensures { IsStride kind width height y result }
+{
+    match kind {
+        Kind::Edge if 0 < y && y + 1 < height => width - 1,
+        _ => 1,
+    }
+}
+
+/// The first fault of the kind at the time, by row, column and assignment.
+pub fn first_fault(
+    planes: &Planes,
+    values: &Values,
+    job: &Job,
+    time: u32,
+    kind: Kind,
+) -> Option<Fault>
+    requires ready { IsReady job.now values.now }
+    requires shows { Shows job.now values.now time planes.now }
+    requires sought { IsSought job.now time kind }
+    ensures { MatchOption result (IsFree job.now values.now time kind) (λ f. IsFirst job.now values.now time kind f) }
+{
+    let area = job.area();
+    let width = area.w as usize;
+    let height = area.h as usize;
+    'rows: for y in 0..height {
+        let stride = stride_of(kind, width, height, y);
+        let mut x = 0;
+        'cells: while x < width {
+            if let Some(assignment) = cell_fault(planes, values, job, time, kind, x, y) {
+                let cell = inner_cell(area, x, y);
+                return Some(Fault {
+                    time,
+                    kind,
+                    cell,
+                    assignment,
+                });
+            }
+            x += stride;
+        }
+    }
+    None
+}
