@@ -1,3 +1,4 @@
+pub mod EqualJobs
 pub mod JobLemmas
 pub mod PlanLemmas
 pub mod JobLists

@@ -16,3 +16,4 @@ pub mod JobFields
 pub mod Laws
 pub mod BorderWords
 pub mod PlanView
+pub mod Equality

@@ -10,6 +10,7 @@ mod cert;
 mod counts;
 mod digest;
 mod entry;
+mod equality;
 mod form;
 mod job;
 mod jobs;

@@ -32,7 +32,7 @@ both r s d e join left right =
 pub lists : {A : Type 0} (E : A → A → Bool) → ((x y : A) → Decides (E x y) (x ≡ y)) → (xs ys : List A) → Decides (pointwise E xs ys) (xs ≡ ys)
 lists E d xs ys = slice_eq-Decides d xs ys (pointwise E xs ys) refl
 
-options : {A : Type 0} (E : A → A → Bool) → ((x y : A) → Decides (E x y) (x ≡ y)) → (p q : Option A) → Decides (option_eq E p q) (p ≡ q)
+pub options : {A : Type 0} (E : A → A → Bool) → ((x y : A) → Decides (E x y) (x ≡ y)) → (p q : Option A) → Decides (option_eq E p q) (p ≡ q)
 options E d None None = (λ e. refl, λ e. refl)
 options E d None (Some y) = (λ e. absurd cc, λ e. absurd cc)
 options E d (Some x) None = (λ e. absurd cc, λ e. absurd cc)
@@ -53,12 +53,12 @@ signal_back Zero = refl
 signal_back One = refl
 signal_back (Wire w) = refl
 
-signal_decides : (a b : Signal) → Decides (same_signal a b) (a ≡ b)
+pub signal_decides : (a b : Signal) → Decides (same_signal a b) (a ≡ b)
 signal_decides a b =
     both _ _ (booleans_Decides (is_one a) (is_one b)) (options nat_eq Decides-eqb (wire_named a) (wire_named b))
     (λ one wire. sym (signal_back a) ∙ ap₂ signal_of one wire ∙ signal_back b) (λ e. ap is_one e) (λ e. ap wire_named e)
 
-cell_decides : (a b : Cell) → Decides (same_cell a b) (a ≡ b)
+pub cell_decides : (a b : Cell) → Decides (same_cell a b) (a ≡ b)
 cell_decides a b = both _ _ (signed_Decides a.x b.x) (signed_Decides a.y b.y) (λ x y i. record { x = x i; y = y i }) (λ e. ap (λ c. c.x) e) (λ e. ap (λ c. c.y) e)
 
 pub held_decides : (a b : Held) → Decides (same_held a b) (a ≡ b)

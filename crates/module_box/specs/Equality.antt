@@ -42,10 +42,10 @@ abbrev pub same_signals : Signals → Signals → Bool
 same_signals = eq_of_both (on (λ s. s.held) (pointwise same_held)) (on (λ s. s.events) (pointwise same_event))
 
 -- these tests are equivalences
-signal_equivalence : IsEquivalence same_signal
+pub signal_equivalence : IsEquivalence same_signal
 signal_equivalence = and_equiv (on_equiv is_one bool_eq_equiv) (on_equiv wire_named (options_equiv nat_eq_equiv))
 
-cell_equivalence : IsEquivalence same_cell
+pub cell_equivalence : IsEquivalence same_cell
 cell_equivalence = and_equiv (on_equiv (λ c. c.x) int_eq_equiv) (on_equiv (λ c. c.y) int_eq_equiv)
 
 held_equivalence : IsEquivalence same_held

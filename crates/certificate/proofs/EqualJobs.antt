@@ -1,0 +1,109 @@
+-- The tests of equality answer whether two jobs are equal.
+use Rattle.std.proofs.Common.{◌≡◌, ℕ, zero, suc, nat_eq, Bool, List, Option, Some, None, refl, sym, ap, ap₂, ◌∙◌}
+use Rattle.std.specs.Bool.{Decides}
+use Rattle.std.specs.Cmp.Lexicographic.{pointwise}
+use Rattle.std.proofs.lemmas.Bool.Decides.{Decides-eqb}
+use Rattle.module_box.proofs.EqualTests.{both, lists, options, signal_decides, cell_decides, signals_decides, locals_decides}
+use Rattle.module_box.specs.Equality.{same_signal}
+use Rattle.module_box.specs.declared.boxes.Box2.{Box2}
+use Rattle.module_box.specs.declared.schedules.Signal.{Signal}
+use Rattle.module_box.specs.declared.schedules.Signal.TheVariants.{Zero, One, Wire}
+use Rattle.module_box.specs.contracts.schedules.SignalPartialEq.TheImpl as signals
+use Rattle.certificate.specs.Equality.{same_box, demand_place, wire_asked, same_demand, same_stop}
+use Rattle.certificate.specs.Laws.{JobEqualityDecides}
+use Rattle.certificate.specs.declared.job.Demand.{Demand}
+use Rattle.certificate.specs.declared.job.Demand.TheVariants as Demanded
+use Rattle.certificate.specs.declared.job.Stop.{Stop}
+use Rattle.certificate.specs.contracts.job.DemandPartialEq.TheImpl as demands
+
+-- the derived tests are these
+signal_test : (a b : Signal) → signals.eq-value.it a b ≡ same_signal a b
+signal_test Zero Zero = refl
+signal_test Zero One = refl
+signal_test Zero (Wire v) = refl
+signal_test One Zero = refl
+signal_test One One = refl
+signal_test One (Wire v) = refl
+signal_test (Wire w) Zero = refl
+signal_test (Wire w) One = refl
+signal_test (Wire w) (Wire v) = refl
+
+pub signal_tests : (xs ys : List Signal) → pointwise signals.eq-value.it xs ys ≡ pointwise same_signal xs ys
+signal_tests xs ys i = pointwise (λ a b. signal_test a b i) xs ys
+
+demand_test : (a b : Demand) → demands.eq-value.it a b ≡ same_demand a b
+demand_test Demanded.Dead Demanded.Dead = refl
+demand_test Demanded.Dead Demanded.Live = refl
+demand_test Demanded.Dead (Demanded.Wire v) = refl
+demand_test Demanded.Dead Demanded.Any = refl
+demand_test Demanded.Live Demanded.Dead = refl
+demand_test Demanded.Live Demanded.Live = refl
+demand_test Demanded.Live (Demanded.Wire v) = refl
+demand_test Demanded.Live Demanded.Any = refl
+demand_test (Demanded.Wire w) Demanded.Dead = refl
+demand_test (Demanded.Wire w) Demanded.Live = refl
+demand_test (Demanded.Wire w) (Demanded.Wire v) = refl
+demand_test (Demanded.Wire w) Demanded.Any = refl
+demand_test Demanded.Any Demanded.Dead = refl
+demand_test Demanded.Any Demanded.Live = refl
+demand_test Demanded.Any (Demanded.Wire v) = refl
+demand_test Demanded.Any Demanded.Any = refl
+
+pub demand_tests : (xs ys : List Demand) → pointwise demands.eq-value.it xs ys ≡ pointwise same_demand xs ys
+demand_tests xs ys i = pointwise (λ a b. demand_test a b i) xs ys
+
+-- ---- and they decide
+
+box_decides : (a b : Box2) → Decides (same_box a b) (a ≡ b)
+box_decides a b =
+    both _ _
+    (both {R = ((a.x ≡ b.x) × (a.y ≡ b.y)) × (a.w ≡ b.w)} _ _
+    (both {R = (a.x ≡ b.x) × (a.y ≡ b.y)} _ _ (Decides-eqb a.x b.x) (Decides-eqb a.y b.y) (λ x y. (x, y)) (λ p. p.0) (λ p. p.1))
+    (Decides-eqb a.w b.w) (λ p w. (p, w)) (λ p. p.0) (λ p. p.1))
+    (Decides-eqb a.h b.h) (λ p h i. record { x = p.0.0 i; y = p.0.1 i; w = p.1 i; h = h i })
+    (λ e. ((ap (λ c. c.x) e, ap (λ c. c.y) e), ap (λ c. c.w) e)) (λ e. ap (λ c. c.h) e)
+
+demand_from : ℕ → Option ℕ → Demand
+demand_from zero w = Demanded.Dead
+demand_from (suc zero) w = Demanded.Live
+demand_from (suc (suc zero)) None = Demanded.Any
+demand_from (suc (suc zero)) (Some w) = Demanded.Wire w
+demand_from (suc (suc (suc n))) w = Demanded.Any
+
+demand_back : (a : Demand) → demand_from (demand_place a) (wire_asked a) ≡ a
+unfolding demand_from
+demand_back Demanded.Dead = refl
+demand_back Demanded.Live = refl
+demand_back (Demanded.Wire w) = refl
+demand_back Demanded.Any = refl
+
+demand_decides : (a b : Demand) → Decides (same_demand a b) (a ≡ b)
+demand_decides a b =
+    both _ _ (Decides-eqb (demand_place a) (demand_place b)) (options nat_eq Decides-eqb (wire_asked a) (wire_asked b))
+    (λ place wire. sym (demand_back a) ∙ ap₂ demand_from place wire ∙ demand_back b) (λ e. ap demand_place e) (λ e. ap wire_asked e)
+
+stop_decides : (a b : Stop) → Decides (same_stop a b) (a ≡ b)
+stop_decides a b =
+    both _ _ (Decides-eqb a.at.time b.at.time)
+    (both {R = (a.at.cell ≡ b.at.cell) × (a.wire ≡ b.wire)} _ _ (cell_decides a.at.cell b.at.cell) (Decides-eqb a.wire b.wire) (λ cell wire. (cell, wire)) (λ p. p.0) (λ p. p.1))
+    (λ time rest i. record { at = record { time = time i; cell = rest.0 i }; wire = rest.1 i })
+    (λ e. ap (λ s. s.at.time) e) (λ e. (ap (λ s. s.at.cell) e, ap (λ s. s.wire) e))
+
+pub jobs_decide : JobEqualityDecides
+jobs_decide j k =
+    both _ _
+    (both {R = ((((j.area ≡ k.area) × (j.steps ≡ k.steps)) × (j.locals ≡ k.locals)) × ((j.starts ≡ k.starts) × (j.demands ≡ k.demands))) × ((j.edges ≡ k.edges) × (j.halos ≡ k.halos))} _ _
+    (both {R = (((j.area ≡ k.area) × (j.steps ≡ k.steps)) × (j.locals ≡ k.locals)) × ((j.starts ≡ k.starts) × (j.demands ≡ k.demands))} _ _
+    (both {R = ((j.area ≡ k.area) × (j.steps ≡ k.steps)) × (j.locals ≡ k.locals)} _ _
+    (both {R = (j.area ≡ k.area) × (j.steps ≡ k.steps)} _ _ (box_decides j.area k.area) (Decides-eqb j.steps k.steps) (λ p q. (p, q)) (λ p. p.0) (λ p. p.1))
+    (locals_decides j.locals k.locals) (λ p q. (p, q)) (λ p. p.0) (λ p. p.1))
+    (both {R = (j.starts ≡ k.starts) × (j.demands ≡ k.demands)} _ _ (lists same_signal signal_decides j.starts k.starts) (lists same_demand demand_decides j.demands k.demands) (λ p q. (p, q)) (λ p. p.0) (λ p. p.1))
+    (λ p q. (p, q)) (λ p. p.0) (λ p. p.1))
+    (both {R = (j.edges ≡ k.edges) × (j.halos ≡ k.halos)} _ _ (signals_decides j.edges k.edges) (signals_decides j.halos k.halos) (λ p q. (p, q)) (λ p. p.0) (λ p. p.1))
+    (λ p q. (p, q)) (λ p. p.0) (λ p. p.1))
+    (lists same_stop stop_decides j.stops k.stops)
+    (λ p stops i. record {
+      area = p.0.0.0.0 i; steps = p.0.0.0.1 i; locals = p.0.0.1 i; starts = p.0.1.0 i; demands = p.0.1.1 i; edges = p.1.0 i; halos = p.1.1 i; stops = stops i;
+    })
+    (λ e. ((((ap (λ l. l.area) e, ap (λ l. l.steps) e), ap (λ l. l.locals) e), (ap (λ l. l.starts) e, ap (λ l. l.demands) e)), (ap (λ l. l.edges) e, ap (λ l. l.halos) e)))
+    (λ e. ap (λ l. l.stops) e)
