@@ -103,7 +103,14 @@ jobs_decide j k =
     (λ p q. (p, q)) (λ p. p.0) (λ p. p.1))
     (lists same_stop stop_decides j.stops k.stops)
     (λ p stops i. record {
-      area = p.0.0.0.0 i; steps = p.0.0.0.1 i; locals = p.0.0.1 i; starts = p.0.1.0 i; demands = p.0.1.1 i; edges = p.1.0 i; halos = p.1.1 i; stops = stops i;
+      area = p.0.0.0.0 i;
+      steps = p.0.0.0.1 i;
+      locals = p.0.0.1 i;
+      starts = p.0.1.0 i;
+      demands = p.0.1.1 i;
+      edges = p.1.0 i;
+      halos = p.1.1 i;
+      stops = stops i;
     })
     (λ e. ((((ap (λ l. l.area) e, ap (λ l. l.steps) e), ap (λ l. l.locals) e), (ap (λ l. l.starts) e, ap (λ l. l.demands) e)), (ap (λ l. l.edges) e, ap (λ l. l.halos) e)))
     (λ e. ap (λ l. l.stops) e)

@@ -18,12 +18,7 @@ use std::alloc::{AllocError, Global};
 use std::sync::Arc;
 
 // The job of the module that has this box and these lines.
-fn make_job(
-    alloc: Global,
-    plan: &Plan,
-    area: Box2,
-    lines: &[Entry],
-) -> Result<Job, AllocError>
+fn make_job(alloc: Global, plan: &Plan, area: Box2, lines: &[Entry]) -> Result<Job, AllocError>
     requires module { IsModule (setting_of plan.now.circuit plan.now.layout) (record { area = area; lines = lines.now }) }
     requires ports { HasPorts (setting_of plan.now.circuit plan.now.layout) (record { area = area; lines = lines.now }) }
     ensures { IfOk result (λ j. IsJobOf (circuit_of plan.now.circuit) plan.now.layout (record { area = area; lines = lines.now }) j) }

@@ -13,6 +13,8 @@ mod entry;
 mod equality;
 mod form;
 mod job;
+#[cfg(test)]
+mod job_tests;
 mod jobs;
 mod known;
 pub mod laws;

@@ -12,7 +12,7 @@ use std::process::Abort;
 use std::test::Fail;
 
 /// A text that has ended, given in pieces of so many bytes.
-fn fed(rt: &impl Abort, alloc: Global, text: &[u8], piece: usize) -> Feed
+pub(crate) fn fed(rt: &impl Abort, alloc: Global, text: &[u8], piece: usize) -> Feed
     requires { 0 < piece }
     ensures { result.closed ≡ true }
 {
@@ -26,10 +26,14 @@ fn fed(rt: &impl Abort, alloc: Global, text: &[u8], piece: usize) -> Feed
 }
 
 /// The whole text in one piece.
-const WHOLE: usize = 16_777_216;
+pub(crate) const WHOLE: usize = 16_777_216;
 
 /// The two sections before a certificate.
-fn before(rt: &impl Abort, alloc: Global, feed: &mut Feed) -> Result<(Circuit, Layout), Fail>
+pub(crate) fn before(
+    rt: &impl Abort,
+    alloc: Global,
+    feed: &mut Feed,
+) -> Result<(Circuit, Layout), Fail>
     requires { feed.old.closed ≡ true }
 {
     let circuit = read_circuit(alloc, feed)?;
@@ -68,13 +72,13 @@ fn all_counts(rt: &impl Abort, alloc: Global, text: &[u8]) -> Result<Vec<Counts>
 
 // ---- two balls that meet in the middle of four modules
 
-const CIRCUIT: &str =
+pub(crate) const CIRCUIT: &str =
     "circuit\ninput p\ninput q\ninteract p q -> a b c d\noutput a\noutput b\noutput c\noutput d\nend\n";
 
-const LAYOUT: &str =
+pub(crate) const LAYOUT: &str =
     "layout 8 8 3\nin p 2 2\nin q 5 5\nout a 5 2\nout b 2 2\nout c 5 5\nout d 2 5\nend\n";
 
-const CERTIFICATE: &str =
+pub(crate) const CERTIFICATE: &str =
     "certificate 1\nmodule 0 0 4 4\ncut p\ncut q\nuse 0\nedge 1 3 3 p\nhalo 1 4 4 q\nmodule 4 0 4 4\ncut p\ncut q\nuse 0\nhalo 1 3 3 p\nhalo 1 4 4 q\nmodule 0 4 4 4\ncut p\ncut q\nuse 0\nhalo 1 3 3 p\nhalo 1 4 4 q\nmodule 4 4 4 4\ncut p\ncut q\nuse 0\nedge 1 4 4 q\nhalo 1 3 3 p\nend\n";
 
 /// What `sha256sum` gives for the bytes of that certificate.

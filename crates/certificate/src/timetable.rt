@@ -110,4 +110,3 @@ pub(crate) fn signals_of(
     }
     Ok(Schedule::new(table.held, table.events))
 }
-

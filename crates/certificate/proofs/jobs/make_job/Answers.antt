@@ -74,7 +74,7 @@ signals_of-requires-clause-local c =
     let cs = c.args.plan.now.circuit in
     let m : ModuleLines = record { area = c.args.area; lines = c.args.lines.now } in
     let known_wires = wires_known _ cs m c.as_slice.result.now c.as_slice-2.result.now _ c.circuit-circuit.ensures
-        (c.as_slice.ensures.value ∙ c.in_ok-cuts.ensures) (c.as_slice-2.ensures.value ∙ c.in_ok-gates.ensures) c.in_ok-locals.ensures.wires in
+    (c.as_slice.ensures.value ∙ c.in_ok-cuts.ensures) (c.as_slice-2.ensures.value ∙ c.in_ok-gates.ensures) c.in_ok-locals.ensures.wires in
     subst (λ ls. All (IsNamedLocal (circuit_of ls) c.in_ok-locals.locals) (edges m)) (sym c.circuit-circuit.ensures)
     (edges_named (setting_of cs c.args.plan.now.layout) m c.in_ok-locals.locals known_wires c.requires.module)
 
@@ -84,7 +84,7 @@ signals_of-requires-2-clause-local c =
     let cs = c.args.plan.now.circuit in
     let m : ModuleLines = record { area = c.args.area; lines = c.args.lines.now } in
     let known_wires = wires_known _ cs m c.as_slice.result.now c.as_slice-2.result.now _ c.circuit-circuit.ensures
-        (c.as_slice.ensures.value ∙ c.in_ok-cuts.ensures) (c.as_slice-2.ensures.value ∙ c.in_ok-gates.ensures) c.in_ok-locals.ensures.wires in
+    (c.as_slice.ensures.value ∙ c.in_ok-cuts.ensures) (c.as_slice-2.ensures.value ∙ c.in_ok-gates.ensures) c.in_ok-locals.ensures.wires in
     subst (λ ls. All (IsNamedLocal (circuit_of ls) c.in_ok-locals.locals) (halos m)) (sym c.circuit-circuit.ensures)
     (halos_named (setting_of cs c.args.plan.now.layout) m c.in_ok-locals.locals known_wires c.requires.module)
 
@@ -93,7 +93,7 @@ pub invariant_of-result : goal.invariant_of-result
 invariant_of-result c =
     let m : ModuleLines = record { area = c.args.area; lines = c.args.lines.now } in
     let limits = within_512 (setting_of c.args.plan.now.circuit c.args.plan.now.layout) m c.size-size.result
-        (c.size-size.ensures.size ∙ ap (λ p. p.size) c.layout.ensures) c.size-size.ensures.limits c.requires.module in
+    (c.size-size.ensures.size ∙ ap (λ p. p.size) c.layout.ensures) c.size-size.ensures.limits c.requires.module in
     record {
       even = c.requires.module.even;
       width = (c.requires.module.wide.0, c.requires.module.wide.1, limits.0);

@@ -54,20 +54,20 @@ lines-preserved c =
     let b = circuit_of s.circuit in
     elim c.match-entry.branch [
       | in-Module+in_ok-job+in_ok-new+in_ok-push w ↦
-        let plan_is : c.in_ok-plan.plan ≡ record { circuit = s.circuit; layout = s.layout } = c.in_ok-plan.ensures ∙ ap (λ (t : CertState). record { circuit = t.circuit; layout = t.layout }) c.self.view_is in
-        let line_is : Module w.in-Module.area ≡ get_or es c.lines.place (Module w.in-Module.area) = subst (λ e. e ≡ get_or es c.lines.place e) w.in-Module.is c.index-entries-place.is in
-        let inner_is : w.inner_lines.result.now ≡ inner (drop (c.lines.place + 1) es) = w.inner_lines.ensures ∙ ap inner (rest_of_lines es (c.lines.place + 1)) in
-        let grown : c.match-entry.jobs.items ≡ c.lines.jobs.items ++ w.in_ok-new.field-0 ∷ [] = ap (λ v. v.items) w.jobs-is ∙ w.in_ok-push.ensures.items in
-        let made : IsJobOf b s.layout (record { area = w.in-Module.area; lines = inner (drop (c.lines.place + 1) es) }) w.in_ok-job.job =
-            subst (λ ls. IsJobOf b s.layout (record { area = w.in-Module.area; lines = ls }) w.in_ok-job.job) inner_is
-            (subst (λ (q : PlanState). IsJobOf (circuit_of q.circuit) q.layout (record { area = w.in-Module.area; lines = w.inner_lines.result.now }) w.in_ok-job.job) plan_is w.in_ok-job.ensures) in
-        let kept : IsJobOf b s.layout (record { area = w.in-Module.area; lines = inner (drop (c.lines.place + 1) es) }) (arc_value w.in_ok-new.field-0) =
-            subst (IsJobOf b s.layout (record { area = w.in-Module.area; lines = inner (drop (c.lines.place + 1) es) })) (sym w.in_ok-new.ensures.ok) made in
-        subst (HaveJobs b s.layout es (c.lines.place + 1)) (sym (ap (map arc_value) grown ∙ map-append arc_value c.lines.jobs.items (w.in_ok-new.field-0 ∷ [])))
-        (one_job_more b s.layout es c.lines.place w.in-Module.area (map arc_value c.lines.jobs.items) (arc_value w.in_ok-new.field-0) c.lines-test.true line_is kept c.lines.invariant)
+          let plan_is : c.in_ok-plan.plan ≡ record { circuit = s.circuit; layout = s.layout } = c.in_ok-plan.ensures ∙ ap (λ (t : CertState). record { circuit = t.circuit; layout = t.layout }) c.self.view_is in
+          let line_is : Module w.in-Module.area ≡ get_or es c.lines.place (Module w.in-Module.area) = subst (λ e. e ≡ get_or es c.lines.place e) w.in-Module.is c.index-entries-place.is in
+          let inner_is : w.inner_lines.result.now ≡ inner (drop (c.lines.place + 1) es) = w.inner_lines.ensures ∙ ap inner (rest_of_lines es (c.lines.place + 1)) in
+          let grown : c.match-entry.jobs.items ≡ c.lines.jobs.items ++ w.in_ok-new.field-0 ∷ [] = ap (λ v. v.items) w.jobs-is ∙ w.in_ok-push.ensures.items in
+          let made : IsJobOf b s.layout (record { area = w.in-Module.area; lines = inner (drop (c.lines.place + 1) es) }) w.in_ok-job.job =
+          subst (λ ls. IsJobOf b s.layout (record { area = w.in-Module.area; lines = ls }) w.in_ok-job.job) inner_is
+          (subst (λ (q : PlanState). IsJobOf (circuit_of q.circuit) q.layout (record { area = w.in-Module.area; lines = w.inner_lines.result.now }) w.in_ok-job.job) plan_is w.in_ok-job.ensures) in
+          let kept : IsJobOf b s.layout (record { area = w.in-Module.area; lines = inner (drop (c.lines.place + 1) es) }) (arc_value w.in_ok-new.field-0) =
+          subst (IsJobOf b s.layout (record { area = w.in-Module.area; lines = inner (drop (c.lines.place + 1) es) })) (sym w.in_ok-new.ensures.ok) made in
+          subst (HaveJobs b s.layout es (c.lines.place + 1)) (sym (ap (map arc_value) grown ∙ map-append arc_value c.lines.jobs.items (w.in_ok-new.field-0 ∷ [])))
+          (one_job_more b s.layout es c.lines.place w.in-Module.area (map arc_value c.lines.jobs.items) (arc_value w.in_ok-new.field-0) c.lines-test.true line_is kept c.lines.invariant)
       | in_default w ↦
-        subst (λ v. HaveJobs b s.layout es (c.lines.place + 1) (map arc_value v.items)) (sym w.jobs-is)
-        (other_line b s.layout es c.lines.place c.index-entries-place.result (map arc_value c.lines.jobs.items) c.lines-test.true c.index-entries-place.is (no_module c.index-entries-place.result w.in_default.not-Module) c.lines.invariant)
+          subst (λ v. HaveJobs b s.layout es (c.lines.place + 1) (map arc_value v.items)) (sym w.jobs-is)
+          (other_line b s.layout es c.lines.place c.index-entries-place.result (map arc_value c.lines.jobs.items) c.lines-test.true c.index-entries-place.is (no_module c.index-entries-place.result w.in_default.not-Module) c.lines.invariant)
     ]
 
 -- src/jobs.rt:57:5
