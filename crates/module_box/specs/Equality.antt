@@ -1,4 +1,4 @@
--- Whether two values are the same in all that contracts see of them
+-- Whether two values are the same in all that contracts see of them: `equality_is_of_content` is the law that the tests answer this
 use Rattle.std.specs.Prelude.{ℕ, Bool, true, false, Option, Some, None, nat_eq}
 use Rattle.std.specs.Bool.{beq}
 use Rattle.std.specs.Ordering.{int_eq, on, eq_of_both}

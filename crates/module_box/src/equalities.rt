@@ -64,3 +64,50 @@ impl PartialEq for Locals {
 impl Eq for Locals {
     ghost laws = { locals_equivalence };
 }
+
+#[cfg(test)]
+mod tests {
+    use super::*;
+    use crate::examples::{circuit_of, whole};
+    use crate::schedules::{Event, Held, Moment, Signal};
+    use bbm_rule::Cell;
+    use std::alloc::{AllocError, Global};
+    use std::test::Fail;
+
+    #[test]
+    fn modules_with_another_delay(rt: HostRuntime) -> Result<(), Fail> {
+        let text = b"circuit\ninput a\ndelay 3 a -> b\noutput b\nend\n";
+        let other = b"circuit\ninput a\ndelay 4 a -> b\noutput b\nend\n";
+        let circuit = circuit_of(&rt, rt.alloc(), text)?;
+        let other = circuit_of(&rt, rt.alloc(), other)?;
+        let locals = whole(&rt, rt.alloc(), &circuit)?;
+        assert!(rt; locals == whole(&rt, rt.alloc(), &circuit)?);
+        assert!(rt; locals != whole(&rt, rt.alloc(), &other)?);
+        Ok(())
+    }
+
+    // a cell that holds a wire, and an event
+    fn schedule(alloc: Global, wire: u16, time: u32) -> Result<Schedule, AllocError> {
+        let cell = Cell { x: 4, y: 1 };
+        let mut held = Vec::new(alloc);
+        held.push(Held {
+            cell,
+            signal: Signal::Wire(wire),
+        })?;
+        let mut events = Vec::new(alloc);
+        events.push(Event {
+            at: Moment { time, cell },
+            signal: Signal::One,
+        })?;
+        Ok(Schedule::new(held, events))
+    }
+
+    #[test]
+    fn schedules_with_another_signal(rt: HostRuntime) -> Result<(), Fail> {
+        let one = schedule(rt.alloc(), 2, 5)?;
+        assert!(rt; one == schedule(rt.alloc(), 2, 5)?);
+        assert!(rt; one != schedule(rt.alloc(), 3, 5)?);
+        assert!(rt; one != schedule(rt.alloc(), 2, 4)?);
+        Ok(())
+    }
+}

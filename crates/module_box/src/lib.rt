@@ -9,6 +9,7 @@
 //!
 //! A module cuts some wires of a circuit and uses some of its gates. It knows the wires that it cuts and those that these gates
 //! define, by numbers of its own. `specs/Locals.antt` says which lines name such wires and gates, and what their numbers mean.
+//! Where its cuts have values the others follow, as `specs/LocalValues.antt` says.
 #![tactic(auto)]
 
 mod boxes;
@@ -25,3 +26,6 @@ pub use locals::Locals;
 pub use owners::Owners;
 pub use schedules::{Event, Held, Moment, Schedule, Signal, compare_cells};
 pub use tile::{TileFault, owner_table};
+
+#[cfg(test)]
+mod examples;

@@ -173,3 +173,105 @@ impl Locals {
         Ok(rows)
     }
 }
+
+#[cfg(test)]
+mod tests {
+    use super::*;
+    use crate::examples::{circuit_of, whole};
+    use std::test::Fail;
+
+    // a gate of each kind, the first four over the inputs
+    const GATES: &[u8] = b"circuit
+input a
+input b
+input c
+input d
+input e
+input f
+input g
+input h
+input i
+input j
+fredkin a b c -> k l m
+cswap d e f -> n o p
+interact g h -> q r s t
+switch i j -> u v w
+source 1 -> x
+delay 7 x -> y
+output k
+output l
+output m
+output n
+output o
+output p
+output q
+output r
+output s
+output t
+output u
+output v
+output w
+output y
+end
+";
+
+    // bits for the cuts, and the values of the wires a to y: the cuts have the bits, the others follow by the gates' tables
+    const TABLE: [(u32, &[u8]); 8] = [
+        (0, b"0000000000000000000000011"),
+        (329, b"1001001010100100001010011"),
+        (658, b"0100100101001010010000111"),
+        (987, b"1101101111110101100111011"),
+        (36, b"0010010000010001000000011"),
+        (365, b"1011011010101110001010011"),
+        (694, b"0110110101011011010000111"),
+        (1023, b"1111111111111111100111011"),
+    ];
+
+    #[test]
+    fn values_by_the_tables(rt: HostRuntime) -> Result<(), Fail> {
+        let circuit = circuit_of(&rt, rt.alloc(), GATES)?;
+        let locals = whole(&rt, rt.alloc(), &circuit)?;
+        assert_eq!(rt; locals.cuts(), 10);
+        let rows = locals.value_rows(rt.alloc(), 16)?;
+        for (bits, values) in TABLE {
+            let found = locals.local_values(rt.alloc(), bits)?;
+            let higher = locals.local_values(rt.alloc(), bits + 5 * 1024)?;
+            assert_eq!(rt; found.len(), values.len());
+            for (wire, sign) in values.iter().enumerate() {
+                let value = *sign == b'1';
+                assert_eq!(rt;
+                    found.get(wire).copied(),
+                    Some(value),
+                    "wire {wire} at {bits}"
+                );
+                assert_eq!(rt;
+                    higher.get(wire).copied(),
+                    Some(value),
+                    "wire {wire} at {bits}"
+                );
+                let word = rows.get(16 * wire + bits as usize / 64).copied();
+                let bit = word.map(|word| (word >> (bits % 64)) % 2 == 1);
+                assert_eq!(rt; bit, Some(value), "row {wire} at {bits}");
+            }
+        }
+        Ok(())
+    }
+
+    #[test]
+    fn no_cuts(rt: HostRuntime) -> Result<(), Fail> {
+        let circuit = circuit_of(
+            &rt,
+            rt.alloc(),
+            b"circuit\nsource 1 -> a\ndelay 3 a -> b\nsource 0 -> c\noutput b\noutput c\nend\n",
+        )?;
+        let locals = whole(&rt, rt.alloc(), &circuit)?;
+        assert_eq!(rt; locals.cuts(), 0);
+        let values = locals.local_values(rt.alloc(), 1)?;
+        assert!(rt; values.as_slice() == [true, true, false].as_slice());
+        let rows = locals.value_rows(rt.alloc(), 1)?;
+        assert!(rt; rows.as_slice() == [u64::MAX, u64::MAX, 0].as_slice());
+        let rows = locals.value_rows(rt.alloc(), 0)?;
+        assert!(rt; rows.is_empty());
+        Ok(())
+    }
+}

@@ -7,7 +7,7 @@ use Rattle.std.proofs.lemmas.List.Elements.{All-nil, All-cons}
 use Rattle.std.proofs.lemmas.List.Folds.{list_any_at}
 use Rattle.std.proofs.lemmas.Option.{same_Some, slice_get_within, get_or_from_slice_get}
 use Rattle.circuit.specs.Bridge.{netlist_of}
-use Rattle.circuit.specs.Meaning.{Gate, Netlist, wires}
+use Rattle.circuit.specs.Meaning.{Gate, Netlist}
 use Rattle.module_box.specs.Locals.{outs_of, local_wires, is_among, AreDifferent, IsKnown, AreLocalLines}
 use Rattle.module_box.proofs.locals.tests.small_locals.Goals as goal
 
