@@ -26,7 +26,7 @@ returns c =
     let e = c.locals-locals.ensures in
     let w = enough c.cuts-count.result c.div_ceil-words.result c.cuts-count.ensures.few c.div_ceil-words.ensures in
     let count : 1 * 2 ^ c.cuts-count.result % 18446744073709551616 ≡ assignments c.args.job.now =
-        shifted c.cuts-count.result c.cuts-count.ensures.few ∙ ap (λ n. 2 ^ n) c.cuts-count.ensures.count ∙ ap (λ (l : LocalNet). 2 ^ l.netlist.given) e in
+    shifted c.cuts-count.result c.cuts-count.ensures.few ∙ ap (λ n. 2 ^ n) c.cuts-count.ensures.count ∙ ap (λ (l : LocalNet). 2 ^ l.netlist.given) e in
     record {
       job = c.requires;
       ordered = subst (λ (l : LocalNet). AreOrdered l.netlist.given l.netlist.gates) e c.cuts-count.ensures.ordered;

@@ -1,0 +1,44 @@
+#!/usr/bin/env python3
+"""make_module.py SIDE CUTS STEPS: writes a bundle of one module of SIDE by SIDE cells that has no fault, the same one each time.
+
+Mirrors wall the module off. Inside the walls there are some more mirrors and an input cell for each cut, whose balls run for all
+steps. Every cell inside that is no mirror is waste, so whatever is live there at the end is no fault.
+"""
+import random
+import sys
+
+
+def cells_of(x, y, w, h):
+    return {(u, v) for u in range(x, x + w) for v in range(y, y + h)}
+
+
+def walls(side):
+    """Mirrors of two cells across that leave the ring free. A block has none of their cells, all four, or two side by side, so
+    they stay."""
+    top, bottom, left, right = 1, side - 3, 2, side - 4
+    return [
+        (left, top, right + 2 - left, 2), (left, bottom, right + 2 - left, 2),
+        (left, top + 2, 2, bottom - top - 2), (right, top + 2, 2, bottom - top - 2),
+    ]
+
+
+def module(rng, side, cuts, steps):
+    mirrors = walls(side)
+    lit = set().union(*(cells_of(*mirror) for mirror in mirrors))
+    inside = cells_of(4, 3, side - 8, side - 6)
+    for _ in range(side // 4):
+        mirror = (rng.randrange(4, side - 5, 2), rng.randrange(3, side - 4, 2), 2, 2)
+        if not cells_of(*mirror) & lit:
+            mirrors.append(mirror)
+            lit |= cells_of(*mirror)
+    free = sorted(inside - lit)
+    names = [f"i{k}" for k in range(cuts)]
+    lines = ["circuit", *(f"input {name}" for name in names), *(f"spill {name}" for name in names), "end"]
+    lines += [f"layout {side} {side} {steps}", *("mirror %d %d %d %d" % mirror for mirror in mirrors)]
+    lines += ["in %s %d %d" % (name, *cell) for name, cell in zip(names, rng.sample(free, cuts))]
+    lines += ["waste %d %d" % cell for cell in free]
+    lines += ["end", "certificate 1", f"module 0 0 {side} {side}", *(f"cut {name}" for name in names), "end"]
+    return "".join(line + "\n" for line in lines)
+
+
+sys.stdout.write(module(random.Random(1982), *map(int, sys.argv[1:4])))

@@ -1,0 +1,389 @@
+//! The findings of a bundle's modules in plain Rust, by the same dense algorithm as the proved program and without proofs, to
+//! measure it against. The bundle must be good: its lines are not tested.
+
+use std::collections::HashMap;
+use std::io::{Read, Write};
+
+/// What a cell carries, by the number of its row in the values of a module.
+type Row = usize;
+
+const ZERO: Row = 0;
+const ONE: Row = 1;
+
+type Place = (usize, usize);
+
+// ---- reading
+
+struct Gate<'a> {
+    kind: &'a str,
+    number: usize,
+    ins: Vec<&'a str>,
+    outs: Vec<&'a str>,
+}
+
+/// What a cell is to be at the last time. Any other is dead.
+enum Demand<'a> {
+    Live,
+    Wire(&'a str),
+    Any,
+}
+
+struct Module<'a> {
+    area: [usize; 4],
+    cuts: Vec<&'a str>,
+    used: Vec<usize>,
+    edges: Vec<Border<'a>>,
+    halos: Vec<Border<'a>>,
+}
+
+struct Border<'a> {
+    /// None is every odd time.
+    time: Option<usize>,
+    cell: Place,
+    signal: &'a str,
+}
+
+#[derive(Default)]
+struct Bundle<'a> {
+    gates: Vec<Gate<'a>>,
+    steps: usize,
+    /// By cell, a wire or `1`.
+    start: HashMap<Place, &'a str>,
+    demands: HashMap<Place, Demand<'a>>,
+    modules: Vec<Module<'a>>,
+}
+
+fn number(word: &str) -> usize {
+    word.parse().expect("a number")
+}
+
+fn border<'a>(words: &[&'a str]) -> Border<'a> {
+    let time = if words[0] == "*" { None } else { Some(number(words[0])) };
+    Border { time, cell: (number(words[1]), number(words[2])), signal: words[3] }
+}
+
+fn gate<'a>(words: &[&'a str]) -> Gate<'a> {
+    let has_number = matches!(words[0], "source" | "delay");
+    let first = 1 + usize::from(has_number);
+    let arrow = words.iter().position(|word| *word == "->").expect("an arrow");
+    Gate {
+        kind: words[0],
+        number: if has_number { number(words[1]) } else { 0 },
+        ins: words[first..arrow].to_vec(),
+        outs: words[arrow + 1..].to_vec(),
+    }
+}
+
+impl<'a> Bundle<'a> {
+    fn read(text: &'a str) -> Bundle<'a> {
+        let mut bundle = Bundle::default();
+        for line in text.lines() {
+            bundle.add(&line.split(' ').collect::<Vec<_>>());
+        }
+        bundle
+    }
+
+    fn add(&mut self, words: &[&'a str]) {
+        match words {
+            ["layout", _, _, steps] => self.steps = number(steps),
+            ["mirror", rest @ ..] => self.add_mirror(rest),
+            ["ball", x, y] => drop(self.start.insert((number(x), number(y)), "1")),
+            ["in", wire, x, y] => drop(self.start.insert((number(x), number(y)), wire)),
+            ["out", wire, x, y] => drop(self.demands.insert((number(x), number(y)), Demand::Wire(wire))),
+            ["waste", x, y] => drop(self.demands.insert((number(x), number(y)), Demand::Any)),
+            ["module", rest @ ..] => {
+                let area = [0, 1, 2, 3].map(|k| number(rest[k]));
+                self.modules.push(Module { area, cuts: vec![], used: vec![], edges: vec![], halos: vec![] });
+            }
+            ["cut", wire] => self.last().cuts.push(wire),
+            ["use", gate] => self.last().used.push(number(gate)),
+            ["edge", rest @ ..] => self.last().edges.push(border(rest)),
+            ["halo", rest @ ..] => self.last().halos.push(border(rest)),
+            _ if words.contains(&"->") => self.gates.push(gate(words)),
+            _ => {}
+        }
+    }
+
+    fn add_mirror(&mut self, words: &[&'a str]) {
+        let [x, y, w, h] = [0, 1, 2, 3].map(|k| number(words[k]));
+        for cell in (y..y + h).flat_map(|v| (x..x + w).map(move |u| (u, v))) {
+            self.start.insert(cell, "1");
+            self.demands.insert(cell, Demand::Live);
+        }
+    }
+
+    fn last(&mut self) -> &mut Module<'a> {
+        self.modules.last_mut().expect("a module")
+    }
+}
+
+// ---- values under all assignments
+
+/// For each wire of a module a row of words: bit b of word k is its value under assignment 64 k + b.
+struct Values<'a> {
+    words: usize,
+    count: usize,
+    names: HashMap<&'a str, Row>,
+    rows: Vec<u64>,
+}
+
+impl<'a> Values<'a> {
+    fn of(bundle: &Bundle<'a>, module: &Module<'a>) -> Values<'a> {
+        let count = 1usize << module.cuts.len();
+        let mut values = Values { words: count.div_ceil(64), count, names: HashMap::new(), rows: vec![] };
+        values.push("0", |_| 0);
+        values.push("1", |_| !0);
+        for (cut, wire) in module.cuts.iter().enumerate() {
+            values.push(wire, |k| (0..64).filter(|b| (64 * k + b) >> cut & 1 == 1).map(|b| 1 << b).sum());
+        }
+        for used in &module.used {
+            values.push_gate(&bundle.gates[*used]);
+        }
+        values
+    }
+
+    fn push(&mut self, wire: &'a str, word: impl FnMut(usize) -> u64) {
+        self.names.insert(wire, self.rows.len() / self.words);
+        self.rows.extend((0..self.words).map(word));
+    }
+
+    fn push_gate(&mut self, gate: &Gate<'a>) {
+        let ins: Vec<Vec<u64>> = gate.ins.iter().map(|wire| self.row(self.names[wire]).to_vec()).collect();
+        for (which, wire) in gate.outs.iter().enumerate() {
+            self.push(wire, |k| {
+                let ins: Vec<u64> = ins.iter().map(|row| row[k]).collect();
+                gate_word(gate, &ins, which)
+            });
+        }
+    }
+
+    fn row(&self, row: Row) -> &[u64] {
+        &self.rows[self.words * row..self.words * (row + 1)]
+    }
+}
+
+/// The value of an output of a gate.
+fn gate_word(gate: &Gate, ins: &[u64], which: usize) -> u64 {
+    let choice = |c: u64, x: u64, y: u64| (c & x) | (!c & y);
+    match (gate.kind, ins) {
+        ("source", []) => 0u64.wrapping_sub(gate.number as u64),
+        ("delay", &[a]) => a,
+        ("fredkin", &[c, x, y]) => [c, choice(c, x, y), choice(c, y, x)][which],
+        ("cswap", &[c, x, y]) => [c, choice(c, y, x), choice(c, x, y)][which],
+        ("interact", &[p, q]) => [p & q, !p & q, p & !q, p & q][which],
+        ("switch", &[c, x]) => [c, c & x, !c & x][which],
+        _ => panic!("a gate of an unknown kind"),
+    }
+}
+
+// ---- signals at cells and times
+
+struct Schedule {
+    held: Vec<(Place, Row)>,
+    events: Vec<((usize, Place), Row)>,
+}
+
+impl Schedule {
+    fn of(borders: &[Border], values: &Values) -> Schedule {
+        let mut schedule = Schedule { held: vec![], events: vec![] };
+        for Border { time, cell: (x, y), signal } in borders {
+            let row = values.names[signal];
+            match time {
+                None => schedule.held.push(((*y, *x), row)),
+                Some(time) => schedule.events.push(((*time, (*y, *x)), row)),
+            }
+        }
+        schedule
+    }
+
+    fn at(&self, time: usize, x: usize, y: usize) -> Row {
+        if let Ok(k) = self.held.binary_search_by_key(&(y, x), |held| held.0) {
+            return self.held[k].1;
+        }
+        let found = self.events.binary_search_by_key(&(time, (y, x)), |event| event.0);
+        found.map_or(ZERO, |k| self.events[k].1)
+    }
+}
+
+// ---- planes
+
+fn turn_words(ul: u64, ur: u64, dl: u64, dr: u64) -> (u64, u64, u64, u64) {
+    let main = ul ^ dr;
+    let anti = ur ^ dl;
+    let crossed = (ul ^ ur) & !(main | anti);
+    let flip_main = (main & !(ur | dl)) | crossed;
+    let flip_anti = (anti & !(ul | dr)) | crossed;
+    (ul ^ flip_main, ur ^ flip_anti, dl ^ flip_anti, dr ^ flip_main)
+}
+
+fn turn_lanes(upper_left: &mut [u64], upper_right: &mut [u64], lower_left: &mut [u64], lower_right: &mut [u64]) {
+    for (((a, b), c), d) in upper_left.iter_mut().zip(upper_right).zip(lower_left).zip(lower_right) {
+        (*a, *b, *c, *d) = turn_words(*a, *b, *c, *d);
+    }
+}
+
+/// The cells of a box and its halo, counted from the halo, in four planes by the parities of column and row in the box.
+struct Planes {
+    words: usize,
+    stride: usize,
+    odd: Vec<u64>,
+    right: Vec<u64>,
+    down: Vec<u64>,
+    even: Vec<u64>,
+}
+
+impl Planes {
+    fn new(width: usize, height: usize, words: usize) -> Planes {
+        let stride = width / 2 + 1;
+        let plane = || vec![0; words * stride * (height / 2 + 1)];
+        Planes { words, stride, odd: plane(), right: plane(), down: plane(), even: plane() }
+    }
+
+    fn cell(&self, x: usize, y: usize) -> &[u64] {
+        let plane = match (x % 2, y % 2) {
+            (0, 0) => &self.odd,
+            (0, _) => &self.down,
+            (_, 0) => &self.right,
+            _ => &self.even,
+        };
+        let at = self.words * (self.stride * (y / 2) + x / 2);
+        &plane[at..at + self.words]
+    }
+
+    fn put(&mut self, x: usize, y: usize, row: &[u64]) {
+        let plane = match (x % 2, y % 2) {
+            (0, 0) => &mut self.odd,
+            (0, _) => &mut self.down,
+            (_, 0) => &mut self.right,
+            _ => &mut self.even,
+        };
+        let at = self.words * (self.stride * (y / 2) + x / 2);
+        plane[at..at + self.words].copy_from_slice(row);
+    }
+
+    /// Turns the blocks of box and halo.
+    fn odd_step(&mut self) {
+        turn_lanes(&mut self.odd, &mut self.right, &mut self.down, &mut self.even);
+    }
+
+    /// Turns the blocks of the box.
+    fn even_step(&mut self) {
+        let (across, below) = (self.words, self.words * self.stride);
+        let long = self.even.len() - across - below;
+        turn_lanes(
+            &mut self.even[..long],
+            &mut self.down[across..][..long],
+            &mut self.right[below..][..long],
+            &mut self.odd[across + below..][..long],
+        );
+    }
+}
+
+// ---- the run of a module
+
+struct Run<'a> {
+    bundle: &'a Bundle<'a>,
+    area: [usize; 4],
+    values: Values<'a>,
+    edges: Schedule,
+    halos: Schedule,
+    planes: Planes,
+}
+
+/// The cells of the outermost columns and rows, by row.
+fn ring(width: usize, height: usize) -> impl Iterator<Item = Place> {
+    let stride = move |y| if y == 0 || y + 1 == height { 1 } else { width - 1 };
+    (0..height).flat_map(move |y| (0..width).step_by(stride(y)).map(move |x| (x, y)))
+}
+
+impl<'a> Run<'a> {
+    fn new(bundle: &'a Bundle<'a>, module: &Module<'a>) -> Run<'a> {
+        let values = Values::of(bundle, module);
+        let edges = Schedule::of(&module.edges, &values);
+        let halos = Schedule::of(&module.halos, &values);
+        let planes = Planes::new(module.area[2], module.area[3], values.words);
+        Run { bundle, area: module.area, values, edges, halos, planes }
+    }
+
+    fn cells(&self) -> impl Iterator<Item = Place> + use<> {
+        let [_, _, w, h] = self.area;
+        (0..h).flat_map(move |y| (0..w).map(move |x| (x, y)))
+    }
+
+    fn put_start(&mut self) {
+        let [left, top, ..] = self.area;
+        for (x, y) in self.cells() {
+            if let Some(signal) = self.bundle.start.get(&(left + x, top + y)) {
+                self.planes.put(x + 1, y + 1, self.values.row(self.values.names[signal]));
+            }
+        }
+    }
+
+    fn put_halo(&mut self, time: usize) {
+        let [left, top, w, h] = self.area;
+        for (x, y) in ring(w + 2, h + 2) {
+            // what would be left of the rectangle, or above it, has no signal
+            let row = if left + x == 0 || top + y == 0 { ZERO } else { self.halos.at(time, left + x - 1, top + y - 1) };
+            self.planes.put(x, y, self.values.row(row));
+        }
+    }
+
+    /// The least assignment under which a cell of the box is not as the row says.
+    fn difference(&self, x: usize, y: usize, wanted: Row) -> Option<usize> {
+        let cells = self.planes.cell(x + 1, y + 1);
+        let words = cells.iter().zip(self.values.row(wanted)).map(|(a, b)| a ^ b);
+        let (k, word) = words.enumerate().find(|(_, word)| *word != 0)?;
+        let assignment = 64 * k + word.trailing_zeros() as usize;
+        (assignment < self.values.count).then_some(assignment)
+    }
+
+    fn edge_fault(&self, time: usize) -> Option<(Place, usize)> {
+        let [left, top, w, h] = self.area;
+        ring(w, h).find_map(|(x, y)| {
+            let assignment = self.difference(x, y, self.edges.at(time, left + x, top + y))?;
+            Some(((left + x, top + y), assignment))
+        })
+    }
+
+    fn end_fault(&self) -> Option<(Place, usize)> {
+        let [left, top, ..] = self.area;
+        self.cells().find_map(|(x, y)| {
+            let cell = (left + x, top + y);
+            let wanted = match self.bundle.demands.get(&cell) {
+                None => ZERO,
+                Some(Demand::Live) => ONE,
+                Some(Demand::Wire(wire)) => self.values.names[wire],
+                Some(Demand::Any) => return None,
+            };
+            Some((cell, self.difference(x, y, wanted)?))
+        })
+    }
+
+    fn finding(&mut self) -> String {
+        self.put_start();
+        for time in 0..self.bundle.steps {
+            if time % 2 == 0 {
+                self.planes.even_step();
+                continue;
+            }
+            if let Some(((x, y), assignment)) = self.edge_fault(time) {
+                return format!("{time} edge {x} {y} {assignment}");
+            }
+            self.put_halo(time);
+            self.planes.odd_step();
+        }
+        match self.end_fault() {
+            Some(((x, y), assignment)) => format!("{} end {x} {y} {assignment}", self.bundle.steps),
+            None => "none".to_string(),
+        }
+    }
+}
+
+fn main() -> std::io::Result<()> {
+    let mut text = String::new();
+    std::io::stdin().read_to_string(&mut text)?;
+    let bundle = Bundle::read(&text);
+    let line = |(number, module)| format!("module {number} {}\n", Run::new(&bundle, module).finding());
+    let lines: Vec<String> = bundle.modules.iter().enumerate().map(line).collect();
+    std::io::stdout().write_all(lines.concat().as_bytes())
+}

@@ -1,0 +1,172 @@
+"""Random small bundles whose border lines and ports are mostly right: the whole pattern is run first, under each assignment of the
+inputs, and what a cell then carries is looked for among the wires of its module. Some lines are made wrong afterwards."""
+from random_bundle import gates_of, ring, tiles
+from reference import ROWS, stepped
+
+SHARE_WRONG = 0.3
+
+
+def cells_of(x, y, w, h):
+    return {(u, v) for u in range(x, x + w) for v in range(y, y + h)}
+
+
+class Tables:
+    """For each wire its table: bit a is its value under assignment a of the inputs."""
+
+    def __init__(self, inputs, gates):
+        self.full = (1 << (1 << len(inputs))) - 1
+        self.of = {name: sum(1 << a for a in range(1 << len(inputs)) if a >> k & 1) for k, name in enumerate(inputs)}
+        for line, ins, outs in gates:
+            kind, number = line.split(" ")[:2]
+            if kind == "source":
+                self.of[outs[0]] = self.full * int(number)
+                continue
+            rows = [ROWS[kind.encode()](*(self.of[wire] >> a & 1 == 1 for wire in ins)) for a in range(self.full.bit_length())]
+            self.of.update((wire, sum(row[k] << a for a, row in enumerate(rows))) for k, wire in enumerate(outs))
+
+
+def mirrors_of(rng, width, height):
+    """Boxes apart from each other, most of them whole blocks, which stay as they are."""
+    boxes, taken = [], set()
+    for _ in range(rng.choice([0, 0, 1, 2])):
+        w, h = rng.choice([(2, 2), (2, 2), (2, 2), (1, 2), (1, 1)])
+        box = (rng.randint(0, width - w), rng.randint(0, height - h), w, h)
+        if not taken & cells_of(*box):
+            boxes.append(box)
+            taken |= cells_of(*box)
+    return boxes
+
+
+def start_cells(rng, free, names):
+    """Cells of balls, and one or two of each input, all apart."""
+    free = rng.sample(sorted(free), len(free))
+    ins = [(name, free.pop()) for name in names]
+    balls = [free.pop() for _ in range(rng.choice([0, 0, 1, 2])) if free]
+    ins += [(name, free.pop()) for name in names if free and rng.random() < 0.3]
+    return balls, ins
+
+
+def history_of(tables, fixed, ins, steps):
+    """At each time, for each cell that is live under some assignment those under which it is."""
+    history = [{} for _ in range(steps + 1)]
+    for a in range(tables.full.bit_length()):
+        live = set(fixed) | {cell for name, cell in ins if tables.of[name] >> a & 1}
+        for time, seen in enumerate(history):
+            for cell in live:
+                seen[cell] = seen.get(cell, 0) | 1 << a
+            live = stepped(live, time)
+    return history
+
+
+def locals_of(rng, names, gates):
+    """All inputs are cut, or the outputs of some gates in place of them and of what made them."""
+    cuts, used, local = list(names), [], set(names)
+    rng.shuffle(cuts)
+    for number, (_, ins, outs) in enumerate(gates):
+        if local.issuperset(ins) and rng.random() < 0.9:
+            used.append(number)
+            local.update(outs)
+        elif len(cuts) < 3 and not local.intersection(outs):
+            cuts.append(outs[0])
+            local.add(outs[0])
+    return cuts, used, sorted(local)
+
+
+def signal_for(rng, tables, local, table):
+    """A local signal with this table, or any where there is none."""
+    same = [wire for wire in local if tables.of[wire] == table] + ["1"] * (table == tables.full)
+    return rng.choice(same or [*local, "1"])
+
+
+def right_lines(rng, tables, local, cells, history):
+    """By place the signals of these cells. A place has time -1 where it is every odd time."""
+    odd = range(1, len(history) - 1, 2)
+    lines = {}
+    for x, y in sorted(cells):
+        carried = [history[time].get((x, y), 0) for time in odd]
+        if carried and carried[0] and len(set(carried)) == 1 and rng.random() < 0.7:
+            lines[-1, y, x] = signal_for(rng, tables, local, carried[0])
+            continue
+        lines |= {(time, y, x): signal_for(rng, tables, local, table) for time, table in zip(odd, carried) if table}
+    return lines
+
+
+def make_wrong(rng, lines, local, cells, steps):
+    """Drops a line, gives one another signal, or adds one."""
+    way = rng.randrange(3)
+    if lines and way < 2:
+        place = rng.choice(sorted(lines))
+        if way == 0:
+            del lines[place]
+        else:
+            lines[place] = rng.choice([*local, "1"])
+    elif cells and steps > 1:
+        x, y = rng.choice(sorted(cells))
+        if (-1, y, x) not in lines:
+            lines[rng.randrange(1, steps, 2), y, x] = rng.choice([*local, "1"])
+
+
+def border_texts(kind, lines):
+    for (time, y, x), signal in sorted(lines.items()):
+        yield f"{kind} {'*' if time < 0 else time} {x} {y} {signal}"
+
+
+def module_lines(rng, tables, box, rim, inside, known, history):
+    x, y, w, h = box
+    cuts, used, local = known
+    texts = ["module %d %d %d %d" % box, *(f"cut {wire}" for wire in cuts), *(f"use {number}" for number in used)]
+    halo = ring(x - 1, y - 1, w + 2, h + 2) & inside
+    for kind, cells in (("edge", ring(*box) - rim), ("halo", halo)):
+        lines = right_lines(rng, tables, local, cells, history)
+        if rng.random() < SHARE_WRONG:
+            make_wrong(rng, lines, local, cells, len(history) - 1)
+        texts += border_texts(kind, lines)
+    return texts
+
+
+def end_cells(rng, tables, owners, solid, free, last):
+    """Waste cells, and wires at cells where they are carried at the last time; now and then at a cell where they are not."""
+    wastes, outs = [], []
+    for cell, table in sorted(last.items()):
+        if cell in owners and cell not in solid:
+            same = [wire for wire in free if wire in owners[cell] and tables.of[wire] == table]
+            if same and rng.random() < 0.7:
+                outs.append((rng.choice(same), cell))
+            elif rng.random() < 0.85:
+                wastes.append(cell)
+    others = sorted(set(owners) - solid - set(last))
+    if others and rng.random() < SHARE_WRONG:
+        cell = rng.choice(others)
+        local = [wire for wire in free if wire in owners[cell]]
+        if local and rng.random() < 0.7:
+            outs.append((rng.choice(local), cell))
+        else:
+            wastes.append(cell)
+    return wastes, outs
+
+
+def meant_bundle(rng):
+    """The bundle's text: sides of modules of 2 to 8, and at most three cuts a module, now and then up to ten."""
+    width, height, steps = 2 * rng.randint(2, 6), 2 * rng.randint(2, 6), rng.choice([0, 1, 2, 3, 4, 5, 8, 12])
+    many = rng.randint(4, 10) if rng.random() < 0.03 else 0
+    names = [f"i{k}" for k in range(many or rng.choice([0, 1, 2, 2, 3]))]
+    _, free, gates = gates_of(rng, names, rng.choice([0, 1, 2, 3]))
+    tables, inside = Tables(names, gates), cells_of(0, 0, width, height)
+    mirrors = mirrors_of(rng, width, height)
+    solid = set().union(*(cells_of(*mirror) for mirror in mirrors))
+    balls, ins = start_cells(rng, inside - solid, names)
+    history = history_of(tables, solid | set(balls), ins, steps)
+    boxes = tiles(rng, 0, 0, width, height, rng.choice([2, 4, 8, 8]))
+    known = [locals_of(rng, names, gates) for _ in boxes]
+    owners = {cell: local for box, (_, _, local) in zip(boxes, known) for cell in cells_of(*box)}
+    wastes, outs = end_cells(rng, tables, owners, solid, free, history[-1])
+    outputs = sorted({wire for wire, _ in outs})
+    texts = ["circuit", *(f"input {name}" for name in names), *(line for line, _, _ in gates)]
+    texts += [f"output {wire}" for wire in outputs] + [f"spill {wire}" for wire in free if wire not in outputs] + ["end"]
+    texts += [f"layout {width} {height} {steps}", *("mirror %d %d %d %d" % box for box in mirrors)]
+    texts += ["ball %d %d" % cell for cell in balls] + ["in %s %d %d" % (name, *cell) for name, cell in ins]
+    texts += ["out %s %d %d" % (wire, *cell) for wire, cell in outs] + ["waste %d %d" % cell for cell in wastes] + ["end"]
+    texts.append("certificate 1")
+    for box, what in zip(boxes, known):
+        texts += module_lines(rng, tables, box, ring(0, 0, width, height), inside, what, history)
+    return "".join(text + "\n" for text in texts + ["end"]).encode()

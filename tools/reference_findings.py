@@ -1,0 +1,90 @@
+"""The least faults of a bundle's modules, in plain Python and straight from the definitions: a module is run by itself under one
+assignment after another, its live cells are a set, and all of its faults are made before the least is taken.
+
+answer(text) gives the exit status of worked_findings and what it writes.
+"""
+from reference import PARTS, ROWS, Certificate, Circuit, Layout, Lines, Refused, cells_of, read_section, ring_of, stepped
+
+KINDS = ["edge", "stop", "end"]
+
+
+class Pattern(Layout):
+    """A layout with the cells of its mirrors and its waste cells."""
+
+    def __init__(self, known):
+        super().__init__(known)
+        self.cells = {part: set() for part in PARTS}
+
+    def item(self, rank, name, at):
+        code = super().item(rank, name, at)
+        if code is None:
+            self.cells[PARTS[rank]] |= cells_of(*(at if rank == 0 else (*at, 1, 1)))
+        return code
+
+
+def local_values(circuit, module, assignment):
+    """Cut i has the value of bit i; the outputs of the used gates follow by their rows. The signal `1` is always true."""
+    values = {name: bool(assignment >> i & 1) for i, name in enumerate(module.lines[b"cut"])}
+    for number in module.lines[b"use"]:
+        word, bit, ins, outs = circuit.gates[number]
+        row = [bit == 1] if word == b"source" else ROWS[word](*(values[name] for name in ins))
+        values.update(zip(outs, row))
+    return values | {b"1": True}
+
+
+def true_cells(module, kind, time, values):
+    """The cells whose edge or halo signal at an odd time is true."""
+    return {(x, y) for (when, y, x), signal in module.lines[kind] if when in (-1, time) and values[signal]}
+
+
+def start_of(layout, module, values):
+    ins = {cell for name, cell in layout.ports[b"in"] if cell in module.cells and values[name]}
+    return layout.live & module.cells | ins
+
+
+def wanted_at_end(layout, module, values):
+    outs = {cell for name, cell in layout.ports[b"out"] if cell in module.cells and values[name]}
+    return layout.cells[b"mirror"] & module.cells | outs
+
+
+def faults_under(layout, module, values):
+    """All faults under one assignment: the time, the kind's number, y and x."""
+    live, ring = start_of(layout, module, values), ring_of(*module.box)
+    for time in range(layout.steps):
+        if time % 2 == 0:
+            live = stepped(live, time)
+            continue
+        differ = live & ring ^ true_cells(module, b"edge", time, values)
+        yield from ((time, 0, y, x) for x, y in differ)
+        live = stepped(live | true_cells(module, b"halo", time, values), time) & module.cells
+    differ = (live ^ wanted_at_end(layout, module, values)) - layout.cells[b"waste"]
+    yield from ((layout.steps, 2, y, x) for x, y in differ)
+
+
+def least_fault(circuit, layout, module):
+    faults = set()
+    for assignment in range(1 << len(module.lines[b"cut"])):
+        values = local_values(circuit, module, assignment)
+        faults |= {(*fault, assignment) for fault in faults_under(layout, module, values)}
+    return min(faults, default=None)
+
+
+def line_of(number, fault):
+    if fault is None:
+        return b"module %d none\n" % number
+    time, kind, y, x, assignment = fault
+    return b"module %d %d %s %d %d %d\n" % (number, time, KINDS[kind].encode(), x, y, assignment)
+
+
+def answer(text):
+    lines = Lines(text)
+    try:
+        circuit = read_section(lines, Circuit())
+        known = {b"in": set(circuit.inputs), b"out": set(circuit.outputs)}
+        layout = read_section(lines, Pattern(known))
+        certificate = read_section(lines, Certificate(circuit, layout))
+        lines.finish()
+    except Refused as refused:
+        return 1, b"refused %d %d\n" % refused.args
+    faults = [least_fault(circuit, layout, module) for module in certificate.modules]
+    return 0, b"".join(line_of(number, fault) for number, fault in enumerate(faults))
