@@ -1,5 +1,5 @@
 -- The edge and halo lines of a module rise, those with a `*` by their cells, the others by time and cell.
-use Rattle.std.proofs.Common.{◌≡◌, ℕ, ◌+◌, Bool, true, false, ◌&&◌, ◌||◌, List, [], ◌∷◌, Option, Some, None, Ordering, Less, Equal, Greater, refl, sym, ap, subst, ◌∙◌, arith, map}
+use Rattle.std.proofs.Common.{◌≡◌, ℕ, ◌+◌, Bool, true, false, ◌||◌, List, [], ◌∷◌, Option, Some, None, Ordering, Less, Equal, Greater, refl, ap, subst, ◌∙◌, arith, map}
 use Rattle.std.specs.List.{flat_map, list_all}
 use Rattle.std.specs.Ordering.{nat_cmp, is_lt, ordering_then}
 use Rattle.std.proofs.lemmas.Bool.{and_parts}

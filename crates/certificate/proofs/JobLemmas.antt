@@ -1,22 +1,20 @@
 -- What a module's lines give to its job.
-use Rattle.std.proofs.Common.{◌≡◌, ℕ, ◌+◌, ◌<◌, ◌≤◌, ◌^◌, length, List, [], Some, None, sym, ap, subst, ◌∙◌, arith, get_or}
-use Rattle.std.specs.Prelude.{slice_get}
-use Rattle.std.specs.List.{All, flat_map}
+use Rattle.std.proofs.Common.{◌≡◌, ℕ, ◌+◌, ◌<◌, ◌≤◌, ◌^◌, length, List, [], None, sym, ap, subst, ◌∙◌, arith, get_or}
+use Rattle.std.specs.List.{All}
 use Rattle.std.proofs.lemmas.List.Elements.{All-nil}
 use Rattle.std.proofs.lemmas.Option.{slice_get-get_or, slice_get_within}
 use Rattle.circuit.specs.Bridge.{circuit_of, netlist_of}
-use Rattle.circuit.specs.Meaning.{Netlist, wires}
+use Rattle.circuit.specs.Meaning.{Netlist}
 use Rattle.circuit.specs.declared.entry.Entry.{Entry as CircuitLine}
 use Rattle.pattern.specs.Layout.{Pattern}
 use Rattle.pattern.specs.Lines.{size_fault}
 use Rattle.pattern.specs.declared.parts.Size.{Size}
-use Rattle.pattern.proofs.TakenLemmas.{IsSized, is_sized}
+use Rattle.pattern.proofs.TakenLemmas.{is_sized}
 use Rattle.module_box.specs.Locals.{AreLocalLines, LocalNet, local_wires}
 use Rattle.certificate.specs.Entries.{Setting, ModuleLines, cuts, cut_wires, gates, known, edges, halos}
 use Rattle.certificate.specs.Grammars.{setting_of}
-use Rattle.certificate.specs.Modules.{IsModule, IsEdge, IsHalo}
+use Rattle.certificate.specs.Modules.{IsModule}
 use Rattle.certificate.specs.Timetables.{IsNamedLocal}
-use Rattle.certificate.specs.declared.entry.Border.{Border}
 use Rattle.certificate.specs.declared.job.Stop.{Stop}
 
 -- the numbers of gates are small

@@ -1,7 +1,7 @@
 -- The jobs of the modules so far.
 use Rattle.std.proofs.Common.{◌≡◌, ◌⊎◌, ℕ, zero, suc, ◌+◌, ◌-◌, ◌<◌, ◌≤◌, false, List, [], ◌∷◌, ◌++◌, length, take, drop, Some, refl, sym, ap, subst, ◌∙◌, arith, inl, inr, get_or}
 use Rattle.std.specs.Prelude.{slice_get}
-use Rattle.std.proofs.Math.Seq.{drop-cons, drop-nil}
+use Rattle.std.proofs.Math.Seq.{drop-cons}
 use Rattle.std.proofs.lemmas.List.{drop_all, length-drop, take_all}
 use Rattle.std.proofs.lemmas.Option.{slice_get_within}
 use Rattle.circuit.specs.Meaning.{Circuit}

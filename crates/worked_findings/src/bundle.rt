@@ -1,6 +1,7 @@
 //! From a bundle's text to its jobs.
 
 ghost use Rattle.std.specs.Prelude.{◌≡◌, true};
+
 use crate::trouble::Trouble;
 use certificate::{Job, read_certificate};
 use circuit::{port_names, read_circuit};

@@ -48,7 +48,10 @@ fn print_fault(rt: &impl Print, number: usize, fault: Fault) -> io::Result<()> {
         assignment,
     } = fault;
     let kind = word_of(kind);
-    println!(rt; "module {number} {time} {kind} {} {} {assignment}", cell.x, cell.y)
+    println!(rt;
+        "module {number} {time} {kind} {} {} {assignment}",
+        cell.x, cell.y
+    )
 }
 
 fn word_of(kind: Kind) -> &'static str {

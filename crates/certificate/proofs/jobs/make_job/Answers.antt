@@ -1,11 +1,10 @@
-use Rattle.std.proofs.Common.{◌≡◌, ◌<◌, ◌≤◌, length, sym, ap, subst, ◌∙◌, refl}
+use Rattle.std.proofs.Common.{sym, ap, subst, ◌∙◌, refl}
 use Rattle.std.specs.List.{All}
 use Rattle.circuit.specs.Bridge.{circuit_of, netlist_of}
 use Rattle.module_box.specs.Locals.{AreLocalsOf}
 use Rattle.certificate.specs.Entries.{ModuleLines, cut_wires, gates, edges, halos}
 use Rattle.certificate.specs.Grammars.{setting_of}
 use Rattle.certificate.specs.Jobs.{line_signals}
-use Rattle.certificate.specs.Signals.{renumber_signals}
 use Rattle.certificate.specs.Timetables.{IsNamedLocal}
 use Rattle.certificate.specs.JobFields.{job_state}
 use Rattle.certificate.proofs.BoxPlaces.{start_found, demand_found}

@@ -1,8 +1,8 @@
-use Rattle.std.proofs.Common.{◌≡◌, List, [], ◌∷◌, ◌++◌, ◌+◌, length, map, drop, get_or, sym, ap, subst, ◌∙◌}
+use Rattle.std.proofs.Common.{◌≡◌, [], ◌∷◌, ◌++◌, ◌+◌, map, drop, get_or, sym, ap, subst, ◌∙◌}
 use Rattle.std.specs.Arc.{arc_value}
 use Rattle.std.proofs.lemmas.List.{map-append}
 use Rattle.circuit.specs.Bridge.{circuit_of}
-use Rattle.certificate.specs.Entries.{ModuleLines, modules_of}
+use Rattle.certificate.specs.Entries.{modules_of}
 use Rattle.certificate.specs.Grammars.{CertState, setting_of}
 use Rattle.certificate.specs.Jobs.{AreJobsOf, IsJobOf}
 use Rattle.certificate.specs.ModuleParts.{inner}

@@ -1,8 +1,4 @@
-use Rattle.std.proofs.Common.{◌≡◌, ◌++◌, [], ◌∷◌, List}
 use Rattle.circuit.specs.Bridge.{circuit_of}
-use Rattle.certificate.specs.Jobs.{event_by, held_by}
-use Rattle.certificate.specs.Timetables.{IsTimetable}
-use Rattle.certificate.specs.declared.entry.Border.{Border}
 use Rattle.certificate.proofs.TimetableLemmas.{both_ok, with_border}
 use Rattle.certificate.proofs.timetable.Timetable.add.Goals as goal
 
