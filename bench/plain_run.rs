@@ -8,10 +8,9 @@ const FIRST_OF_PAIR: u64 = 0x5555_5555_5555_5555;
 fn turn_words(ul: u64, ur: u64, dl: u64, dr: u64) -> (u64, u64, u64, u64) {
     let main = ul ^ dr;
     let anti = ur ^ dl;
-    let differ = ul ^ ur;
-    let crossed = differ ^ (differ & (main | anti));
-    let flip_main = (main ^ (main & (ur | dl))) | crossed;
-    let flip_anti = (anti ^ (anti & (ul | dr))) | crossed;
+    let changed = (ul | dr) ^ (ur | dl);
+    let flip_main = changed & !anti;
+    let flip_anti = changed & !main;
     (ul ^ flip_main, ur ^ flip_anti, dl ^ flip_anti, dr ^ flip_main)
 }
 

@@ -30,24 +30,23 @@ and_l = zip2 bit_and
 abbrev or_l : List ℕ → List ℕ → List ℕ
 or_l = zip2 bit_or
 
-abbrev pub crossed_l : List ℕ → List ℕ → List ℕ → List ℕ → List ℕ
-crossed_l ul ur ll lr = xor_l (xor_l ul ur) (and_l (xor_l ul ur) (or_l (xor_l ul lr) (xor_l ur ll)))
+abbrev pub changed_l : List ℕ → List ℕ → List ℕ → List ℕ → List ℕ
+changed_l ul ur ll lr = xor_l (or_l ul lr) (or_l ur ll)
 
 abbrev pub flip_main_l : List ℕ → List ℕ → List ℕ → List ℕ → List ℕ
-flip_main_l ul ur ll lr = or_l (xor_l (xor_l ul lr) (and_l (xor_l ul lr) (or_l ur ll))) (crossed_l ul ur ll lr)
+flip_main_l ul ur ll lr = xor_l (changed_l ul ur ll lr) (and_l (changed_l ul ur ll lr) (xor_l ur ll))
 
 abbrev pub flip_anti_l : List ℕ → List ℕ → List ℕ → List ℕ → List ℕ
-flip_anti_l ul ur ll lr = or_l (xor_l (xor_l ur ll) (and_l (xor_l ur ll) (or_l ul lr))) (crossed_l ul ur ll lr)
+flip_anti_l ul ur ll lr = xor_l (changed_l ul ur ll lr) (and_l (changed_l ul ur ll lr) (xor_l ul lr))
 
 pub vectors_turned : (ul ur ll lr : List ℕ) → length ul ≡ 4 → length ur ≡ 4 → length ll ≡ 4 → length lr ≡ 4 → (k : ℕ) → k < 4 → AreTurnedAt k ul ur ll lr (xor_l ul (flip_main_l ul ur ll lr)) (xor_l ur (flip_anti_l ul ur ll lr)) (xor_l ll (flip_anti_l ul ur ll lr)) (xor_l lr (flip_main_l ul ur ll lr))
 vectors_turned ul ur ll lr lul lur ldl ldr k l =
     let hul = own_lanes ul lul in let hur = own_lanes ur lur in let hdl = own_lanes ll ldl in let hdr = own_lanes lr ldr in
     let main = zip_lanes bit_xor _ _ _ _ hul hdr in
     let anti = zip_lanes bit_xor _ _ _ _ hur hdl in
-    let differ = zip_lanes bit_xor _ _ _ _ hul hur in
-    let crossed = zip_lanes bit_xor _ _ _ _ differ (zip_lanes bit_and _ _ _ _ differ (zip_lanes bit_or _ _ _ _ main anti)) in
-    let flip_main = zip_lanes bit_or _ _ _ _ (zip_lanes bit_xor _ _ _ _ main (zip_lanes bit_and _ _ _ _ main (zip_lanes bit_or _ _ _ _ hur hdl))) crossed in
-    let flip_anti = zip_lanes bit_or _ _ _ _ (zip_lanes bit_xor _ _ _ _ anti (zip_lanes bit_and _ _ _ _ anti (zip_lanes bit_or _ _ _ _ hul hdr))) crossed in
+    let changed = zip_lanes bit_xor _ _ _ _ (zip_lanes bit_or _ _ _ _ hul hdr) (zip_lanes bit_or _ _ _ _ hur hdl) in
+    let flip_main = zip_lanes bit_xor _ _ _ _ changed (zip_lanes bit_and _ _ _ _ changed anti) in
+    let flip_anti = zip_lanes bit_xor _ _ _ _ changed (zip_lanes bit_and _ _ _ _ changed main) in
     let a = (zip_lanes bit_xor _ _ _ _ hul flip_main) in
     let b = (zip_lanes bit_xor _ _ _ _ hur flip_anti) in
     let c = (zip_lanes bit_xor _ _ _ _ hdl flip_anti) in
@@ -59,10 +58,9 @@ vectors_long ul ur ll lr lul lur ldl ldr =
     let long : (v w : List ℕ) (op : ℕ → ℕ → ℕ) → length v ≡ 4 → length w ≡ 4 → length (zip2 op v w) ≡ 4 = λ v w op p q. length-zip2 op v w (omega (arith, p, q)) ∙ p in
     let main = long ul lr bit_xor lul ldr in
     let anti = long ur ll bit_xor lur ldl in
-    let differ = long ul ur bit_xor lul lur in
-    let crossed = long _ _ bit_xor differ (long _ _ bit_and differ (long _ _ bit_or main anti)) in
-    let flip_main = long _ _ bit_or (long _ _ bit_xor main (long _ _ bit_and main (long _ _ bit_or lur ldl))) crossed in
-    let flip_anti = long _ _ bit_or (long _ _ bit_xor anti (long _ _ bit_and anti (long _ _ bit_or lul ldr))) crossed in
+    let changed = long _ _ bit_xor (long ul lr bit_or lul ldr) (long ur ll bit_or lur ldl) in
+    let flip_main = long _ _ bit_xor changed (long _ _ bit_and changed anti) in
+    let flip_anti = long _ _ bit_xor changed (long _ _ bit_and changed main) in
     (long _ _ bit_xor lul flip_main, long _ _ bit_xor lur flip_anti, long _ _ bit_xor ldl flip_anti, long _ _ bit_xor ldr flip_main)
 
 -- a chunk that is loaded, turned and stored

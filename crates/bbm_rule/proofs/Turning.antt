@@ -7,21 +7,20 @@ use Rattle.bbm_rule.specs.Words.{turn_of, AreTurned}
 use Rattle.bbm_rule.specs.Bits.{bit}
 use Rattle.bbm_rule.proofs.BitLemmas.{holds_below, below_from_test, xor, bit-and, bit-or, bit-xor}
 
--- the flips of the two diagonals, and of all four
-abbrev pub crossed_of : ℕ → ℕ → ℕ → ℕ → ℕ
-crossed_of ul ur ll lr =
-    bit_xor (bit_xor ul ur) (bit_and (bit_xor ul ur) (bit_or (bit_xor ul lr) (bit_xor ur ll)))
+-- where a block is one that is not as it was, and the flips of the two diagonals
+abbrev pub changed_of : ℕ → ℕ → ℕ → ℕ → ℕ
+changed_of ul ur ll lr = bit_xor (bit_or ul lr) (bit_or ur ll)
 
 abbrev pub flip_main_of : ℕ → ℕ → ℕ → ℕ → ℕ
 flip_main_of ul ur ll lr =
-    bit_or (bit_xor (bit_xor ul lr) (bit_and (bit_xor ul lr) (bit_or ur ll))) (crossed_of ul ur ll lr)
+    bit_xor (changed_of ul ur ll lr) (bit_and (changed_of ul ur ll lr) (bit_xor ur ll))
 
 abbrev pub flip_anti_of : ℕ → ℕ → ℕ → ℕ → ℕ
 flip_anti_of ul ur ll lr =
-    bit_or (bit_xor (bit_xor ur ll) (bit_and (bit_xor ur ll) (bit_or ul lr))) (crossed_of ul ur ll lr)
+    bit_xor (changed_of ul ur ll lr) (bit_and (changed_of ul ur ll lr) (bit_xor ul lr))
 
 -- one bit of each answer
-by_cases_ul : (a b c d : Bool) → xor a (xor (xor a d) (xor a d && (b || c)) || xor (xor a b) (xor a b && (xor a d || xor b c))) ≡ turned a d b c
+by_cases_ul : (a b c d : Bool) → xor a (xor (xor (a || d) (b || c)) (xor (a || d) (b || c) && xor b c)) ≡ turned a d b c
 unfolding turned
 by_cases_ul true true true true = refl
 by_cases_ul true true true false = refl
@@ -40,7 +39,7 @@ by_cases_ul false false true false = refl
 by_cases_ul false false false true = refl
 by_cases_ul false false false false = refl
 
-by_cases_ur : (a b c d : Bool) → xor b (xor (xor b c) (xor b c && (a || d)) || xor (xor a b) (xor a b && (xor a d || xor b c))) ≡ turned b c a d
+by_cases_ur : (a b c d : Bool) → xor b (xor (xor (a || d) (b || c)) (xor (a || d) (b || c) && xor a d)) ≡ turned b c a d
 unfolding turned
 by_cases_ur true true true true = refl
 by_cases_ur true true true false = refl
@@ -59,7 +58,7 @@ by_cases_ur false false true false = refl
 by_cases_ur false false false true = refl
 by_cases_ur false false false false = refl
 
-by_cases_ll : (a b c d : Bool) → xor c (xor (xor b c) (xor b c && (a || d)) || xor (xor a b) (xor a b && (xor a d || xor b c))) ≡ turned c b d a
+by_cases_ll : (a b c d : Bool) → xor c (xor (xor (a || d) (b || c)) (xor (a || d) (b || c) && xor a d)) ≡ turned c b d a
 unfolding turned
 by_cases_ll true true true true = refl
 by_cases_ll true true true false = refl
@@ -78,7 +77,7 @@ by_cases_ll false false true false = refl
 by_cases_ll false false false true = refl
 by_cases_ll false false false false = refl
 
-by_cases_lr : (a b c d : Bool) → xor d (xor (xor a d) (xor a d && (b || c)) || xor (xor a b) (xor a b && (xor a d || xor b c))) ≡ turned d a c b
+by_cases_lr : (a b c d : Bool) → xor d (xor (xor (a || d) (b || c)) (xor (a || d) (b || c) && xor b c)) ≡ turned d a c b
 unfolding turned
 by_cases_lr true true true true = refl
 by_cases_lr true true true false = refl

@@ -19,10 +19,9 @@ pub fn turn_words(
     // `a ^ (a & b)` stands for `a & !b`.
     let main = upper_left ^ lower_right;
     let anti = upper_right ^ lower_left;
-    let differ = upper_left ^ upper_right;
-    let crossed = differ ^ (differ & (main | anti));
-    let flip_main = (main ^ (main & (upper_right | lower_left))) | crossed;
-    let flip_anti = (anti ^ (anti & (upper_left | lower_right))) | crossed;
+    let changed = (upper_left | lower_right) ^ (upper_right | lower_left);
+    let flip_main = changed ^ (changed & anti);
+    let flip_anti = changed ^ (changed & main);
     (
         upper_left ^ flip_main,
         upper_right ^ flip_anti,
@@ -44,10 +43,9 @@ fn turn_vectors(
 {
     let main = upper_lefts ^ lower_rights;
     let anti = upper_rights ^ lower_lefts;
-    let differ = upper_lefts ^ upper_rights;
-    let crossed = differ ^ (differ & (main | anti));
-    let flip_main = (main ^ (main & (upper_rights | lower_lefts))) | crossed;
-    let flip_anti = (anti ^ (anti & (upper_lefts | lower_rights))) | crossed;
+    let changed = (upper_lefts | lower_rights) ^ (upper_rights | lower_lefts);
+    let flip_main = changed ^ (changed & anti);
+    let flip_anti = changed ^ (changed & main);
     (
         upper_lefts ^ flip_main,
         upper_rights ^ flip_anti,

@@ -1,5 +1,5 @@
 -- From the cells that were looked at, in order, to the first fault
-use Rattle.std.proofs.Common.{◌≡◌, ◌≢◌, ℕ, Bool, true, false, not, ◌&&◌, ◌⊎◌, inl, inr, ◌<◌, ◌≤◌, ◌+◌, ◌-◌, ◌%◌, refl, arith, sym, ◌∙◌, ap, subst, Option, Some, None}
+use Rattle.std.proofs.Common.{◌≡◌, ◌≢◌, ℕ, Bool, true, false, not, ◌&&◌, ◌⊎◌, inl, inr, ◌<◌, ◌≤◌, ◌+◌, ◌-◌, refl, arith, sym, ◌∙◌, ap, subst, Option, Some, None}
 use Rattle.std.specs.Prelude.{ℤ, pos, negsuc, ◌+ℤ◌, ◌-ℤ◌, ◌<ℤ◌}
 use Rattle.std.proofs.lemmas.Bool.{and_parts, and_from, false≢true}
 use Rattle.std.proofs.lemmas.Int.{ints}
@@ -10,12 +10,10 @@ use Rattle.bbm_rule.proofs.Spans.{span_parts, span_from, in_span-negsuc}
 use Rattle.circuit.specs.Meaning.{Valuation}
 use Rattle.certificate.specs.Signals.{is_live, Meets}
 use Rattle.certificate.specs.Jobs.{JobState, job_demand}
-use Rattle.module_box.specs.Schedules.{signal_at}
 use Rattle.local_run.specs.Runs.{local_run}
-use Rattle.local_run.specs.Faults.{IsEdgeFault, IsEndFault, IsFaultUnder, assignments}
+use Rattle.local_run.specs.Faults.{IsEdgeFault, IsFaultUnder, assignments}
 use Rattle.module_box.specs.declared.schedules.Signal.{Signal}
 use Rattle.certificate.specs.declared.job.Demand.{Demand}
-use Rattle.certificate.specs.declared.job.Demand.TheVariants as Demanded
 use Rattle.local_run.specs.declared.fault.Kind.{Kind}
 use Rattle.local_run.specs.declared.fault.Kind.TheVariants.{Edge, Stop, End}
 use Rattle.local_run.specs.Places.{inner}

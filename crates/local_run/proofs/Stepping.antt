@@ -236,7 +236,7 @@ halo_cells j vs t p ready shows halo a x y la lx ly =
     no_less l h = omega arith
 
     margin : IsOuter j.area x y → lane p a x y ≡ s (outer j.area.x x) (outer j.area.y y)
-    margin m = halo a x y la lx ly m ∙ sym (with_halo_outside j u t (local_run j u t) _ _ (stays j u t ready.job _ _ (box_out j.area x y m)) (margin_halo j.area x y ready.job.width.0 ready.job.height.0 lx ly m))
+    margin m = halo x y lx ly a la m ∙ sym (with_halo_outside j u t (local_run j u t) _ _ (stays j u t ready.job _ _ (box_out j.area x y m)) (margin_halo j.area x y ready.job.width.0 ready.job.height.0 lx ly m))
 
     inside : (x0 y0 : ℕ) → x0 < j.area.w → y0 < j.area.h → lane p a (1 + x0) (1 + y0) ≡ s (outer j.area.x (1 + x0)) (outer j.area.y (1 + y0))
     inside x0 y0 l0 l1 = shows.cells a x0 y0 la l0 l1

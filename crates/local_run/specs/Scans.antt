@@ -95,8 +95,7 @@ HasHaloAt j vs t p x y = (a : ℕ) → a < assignments j → IsOuter j.area x y 
 
 -- all cells of the halo are
 abbrev pub HasHalo : JobState → Values → ℕ → Planes → Type 0
-HasHalo j vs t p = (a x y : ℕ) → a < assignments j → x < j.area.w + 2 → y < j.area.h + 2 → IsOuter j.area x y →
-    lane p a x y ≡ is_live (valuation vs a) (signal_at j.halos t (outer j.area.x x) (outer j.area.y y))
+HasHalo j vs t p = (x y : ℕ) → x < j.area.w + 2 → y < j.area.h + 2 → HasHaloAt j vs t p x y
 
 -- no cell changes but the one at (x, y), counted from the halo
 abbrev pub SameElsewhere : JobState → Planes → Planes → ℕ → ℕ → Type 0

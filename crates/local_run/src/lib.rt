@@ -5,6 +5,9 @@
 //! module says: at an odd time a cell of the ring, at the time of a stop its cell, at the last time any cell of the box.
 //! `specs/Runs.antt` and `specs/Faults.antt` have these definitions, over whole numbers, cells of the plane and valuations.
 //!
+//! All assignments are run at once: each cell has a bit for each of them, and the cells lie in planes whose words are turned
+//! together. Faults are looked for in their order, so the first one that is found is the least.
+//!
 //! The step is that of Norman Margolus's billiard ball model (Physics-like Models of Computation, 1984).
 #![tactic(auto)]
 

@@ -132,12 +132,10 @@ impl Planes {
             } else {
                 self.down[at]
             }
+        } else if y % 2 == 0 {
+            self.right[at]
         } else {
-            if y % 2 == 0 {
-                self.right[at]
-            } else {
-                self.even[at]
-            }
+            self.even[at]
         }
     }
 
@@ -154,12 +152,10 @@ impl Planes {
             } else {
                 self.down[at] = word;
             }
+        } else if y % 2 == 0 {
+            self.right[at] = word;
         } else {
-            if y % 2 == 0 {
-                self.right[at] = word;
-            } else {
-                self.even[at] = word;
-            }
+            self.even[at] = word;
         }
     }
 }
