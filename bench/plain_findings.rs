@@ -1,6 +1,9 @@
 //! The findings of a bundle's modules in plain Rust, by the same dense algorithm as the proved program and without proofs, to
 //! measure it against. The bundle must be good: its lines are not tested.
 
+mod plain_rule;
+
+use plain_rule::turn_words;
 use std::collections::HashMap;
 use std::io::{Read, Write};
 
@@ -206,15 +209,6 @@ impl Schedule {
 }
 
 // ---- planes
-
-fn turn_words(ul: u64, ur: u64, dl: u64, dr: u64) -> (u64, u64, u64, u64) {
-    let main = ul ^ dr;
-    let anti = ur ^ dl;
-    let changed = (ul | dr) ^ (ur | dl);
-    let flip_main = changed & !anti;
-    let flip_anti = changed & !main;
-    (ul ^ flip_main, ur ^ flip_anti, dl ^ flip_anti, dr ^ flip_main)
-}
 
 fn turn_lanes(upper_left: &mut [u64], upper_right: &mut [u64], lower_left: &mut [u64], lower_right: &mut [u64]) {
     for (((a, b), c), d) in upper_left.iter_mut().zip(upper_right).zip(lower_left).zip(lower_right) {

@@ -1,18 +1,12 @@
 //! The command `run` in plain Rust, with the same algorithm and without proofs, to measure the proved program against.
 
+mod plain_rule;
+
+use plain_rule::turn_words;
 use std::collections::HashSet;
 use std::io::{Read, Write};
 
 const FIRST_OF_PAIR: u64 = 0x5555_5555_5555_5555;
-
-fn turn_words(ul: u64, ur: u64, dl: u64, dr: u64) -> (u64, u64, u64, u64) {
-    let main = ul ^ dr;
-    let anti = ur ^ dl;
-    let changed = (ul | dr) ^ (ur | dl);
-    let flip_main = changed & !anti;
-    let flip_anti = changed & !main;
-    (ul ^ flip_main, ur ^ flip_anti, dl ^ flip_anti, dr ^ flip_main)
-}
 
 fn turn_pairs(upper: u64, lower: u64) -> (u64, u64) {
     let (ul, ur, dl, dr) = turn_words(
