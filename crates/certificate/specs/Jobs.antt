@@ -132,6 +132,8 @@ pub record IsJobOf (c : Circuit) (p : Pattern) (m : ModuleLines) (j : JobState) 
   pub demand : (x y : ℤ) → IsTrue (in_box m.area x y) → renumber_demand (circuit_wire j.locals) (job_demand j x y) ≡ end_demand c p x y
   pub edges : renumber_signals (circuit_wire j.locals) j.edges ≡ line_signals c (edges m)
   pub halos : renumber_signals (circuit_wire j.locals) j.halos ≡ line_signals c (halos m)
+  -- it names no wires but its own
+  pub own : NamesOwnWires j
   pub stops : j.stops ≡ []
 
 -- the jobs of modules, one for each

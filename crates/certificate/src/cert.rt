@@ -1,12 +1,13 @@
 //! Certificates.
-ghost use Rattle.std.specs.Prelude.{◌≡◌, ◌<◌, ◌≤◌, length, map, slice_get, Some};
+ghost use Rattle.std.specs.Prelude.{◌≡◌, ◌<◌, ◌≤◌, length, map, slice_get, Some, None};
+ghost use Rattle.pattern.specs.Lines.{size_fault};
 ghost use Rattle.certificate.specs.Entries.{counts_of, modules_of};
 ghost use Rattle.certificate.specs.Grammars.{setting_of};
 ghost use Rattle.certificate.specs.Modules.{AreModules};
 
 use crate::entry::{Counts, Entry};
 use circuit::Circuit;
-use pattern::Layout;
+use pattern::{Layout, Size};
 use std::marker::Model;
 
 /// A certificate, which cuts a layout of a circuit into modules. Contracts see what it is for, its version and its lines, as a
@@ -45,6 +46,14 @@ impl<'a> Cert<'a> {
         ensures { result.now ≡ self.now.entries }
     {
         self.entries.as_slice()
+    }
+
+    /// The width, the height and the steps of the layout: even sides of 2 to 512, and at most 4096 steps.
+    pub fn size(&self) -> Size
+        ensures size { result ≡ self.now.layout.size }
+        ensures limits { size_fault result ≡ None }
+    {
+        self.layout.size()
     }
 
     /// How many modules the certificate has, at most 1024. They are numbered from 0 in the order of their lines.

@@ -63,6 +63,7 @@ fn all_counts(rt: &impl Abort, alloc: Global, text: &[u8]) -> Result<Vec<Counts>
     let cert = read_certificate(alloc, &mut feed, &circuit, &layout)?;
     assert!(rt; feed.closed());
     feed.finish()?;
+    assert!(rt; cert.size() == layout.size());
     let mut list = Vec::new(alloc);
     for number in 0..cert.modules() {
         list.push(cert.counts(number))?;

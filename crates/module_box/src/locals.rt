@@ -144,6 +144,17 @@ impl Locals {
         let index = self.circuit_wires.get_index_of(&wire.number())?;
         Some(index as u16)
     }
+
+    /// The wire of the circuit that has this number here, for a number below `wires()`.
+    pub fn wire(&self, number: u16) -> WireNo
+        requires { number < length self.now.circuit_wires }
+        ensures { result ≡ circuit_wire self.now number }
+    {
+        match self.circuit_wires.get_index(number as usize) {
+            Some(wire) => WireNo::of(*wire),
+            None => unreachable!(),
+        }
+    }
 }
 
 #[cfg(test)]
@@ -216,6 +227,7 @@ mod tests {
     fn cuts_then_outputs(rt: HostRuntime) -> Result<(), Fail> {
         let locals = small_locals(&rt, rt.alloc())?;
         assert_eq!(rt; locals.wires(), 6);
+        assert_eq!(rt; locals.wire(2), WireNo::of(6));
         for (wire, local) in [
             (4, Some(0)),
             (3, Some(1)),

@@ -141,5 +141,14 @@ returns c =
       demand = demand_found (circuit_of cs) p c.args.area j refl c.in_ok-demands.ensures.cells;
       edges = c.in_ok-edges.ensures.same ∙ ap (λ ls. line_signals (circuit_of ls) (edges m)) circuit_is;
       halos = c.in_ok-halos.ensures.same ∙ ap (λ ls. line_signals (circuit_of ls) (halos m)) circuit_is;
+      own = record {
+        starts = c.in_ok-starts.ensures.own;
+        demands = c.in_ok-demands.ensures.own;
+        edge_held = c.in_ok-edges.ensures.held;
+        edge_events = c.in_ok-edges.ensures.events;
+        halo_held = c.in_ok-halos.ensures.held;
+        halo_events = c.in_ok-halos.ensures.events;
+        stops = none_own _ c.new-2.result.items c.new-2.ensures.items;
+      };
       stops = c.new-2.ensures.items;
     }

@@ -1,0 +1,127 @@
+-- The laws of books
+use Rattle.std.proofs.Common.{◌≡◌, ◌≢◌, ◌∙◌, ◌<◌, ℕ, Bool, true, false, not, length, Option, None, Some, refl, sym, ap, subst, arith, nat_eq, nat_lt}
+use Rattle.std.specs.Prelude.{is_some, if◌then◌else◌, slice_get, IsSome}
+use Rattle.std.specs.Option.{option_eq}
+use Rattle.std.specs.Cmp.Lexicographic.{pointwise, bytes_decides}
+use Rattle.std.proofs.lemmas.Bool.Decides.{nat_tests}
+use Rattle.std.proofs.lemmas.List.{get_or-set_same, get_or-set_other}
+use Rattle.std.proofs.lemmas.Option.{slice_get_within, same_Some}
+use Rattle.certificate.specs.Equality.{same_job}
+use Rattle.certificate.specs.Jobs.{JobState}
+use Rattle.certificate.proofs.EqualJobs.{jobs_decide}
+use Rattle.local_run.specs.Faults.{IsLeastFault}
+use Rattle.local_run.specs.Shown.{digest_of, number_of, job_of, fault_of}
+use Rattle.local_run.specs.declared.finding.Finding.{Finding}
+use Rattle.local_run.proofs.Least.{least_unique}
+use Rattle.audit_core.specs.Book.{BookView, IsBook, IsOwn, after_filing, found_in, is_job_of, reply_to}
+use Rattle.audit_core.specs.Laws.{AcceptsItsOwn, BooksAgree, DoublesWhatIsHeld, HoldsWhatIsAccepted, HoldsNothingElse, KeepsWhatIsHeld, KnowsItsOwn, StaysBook}
+use Rattle.audit_core.specs.declared.reply.Mismatch.{Mismatch}
+use Rattle.audit_core.specs.declared.reply.Mismatch.TheVariants.{Digest, Number, Content}
+use Rattle.audit_core.specs.declared.reply.Reply.{Reply}
+use Rattle.audit_core.specs.declared.reply.Reply.TheVariants.{Stranger, Double, Accepted}
+use Rattle.audit_core.proofs.Filings.{IsBook-accepted, accepted-inside, accepted-new, accepted-own, after_filing-other, after_filing-with_found, is_job_of-true, reply_to-held, reply_to-new}
+
+none_held : (o : Option Finding) → is_some o ≡ false → o ≡ None
+none_held None e = refl
+none_held (Some f) e = cc
+
+-- ---- a finding of the book's own passes the tests
+
+own-digest : (b : BookView) (n : ℕ) (f : Finding) → IsOwn b n f → pointwise nat_eq (digest_of f) b.digest ≡ true
+own-digest b n f own = (bytes_decides (digest_of f) b.digest).1 own.digest
+
+own-number : (b : BookView) (f : Finding) → IsOwn b (number_of f) f → nat_lt (number_of f) (length b.jobs) ≡ true
+own-number b f own =
+    let below : number_of f < length b.jobs = slice_get_within b.jobs (number_of f) (job_of f) own.job in
+    grind (arith, nat_tests)
+
+own-job : (b : BookView) (n : ℕ) (f : Finding) → IsOwn b n f → is_job_of b.jobs n (job_of f) ≡ true
+unfolding is_job_of
+own-job b n f own = ap (λ (o : Option JobState). option_eq same_job o (Some (job_of f))) own.job ∙ (jobs_decide (job_of f) (job_of f)).1 refl
+
+pub accepts-its-own : AcceptsItsOwn
+accepts-its-own b f e = (accepted-own b f e, none_held _ (accepted-new b f e))
+
+no_stranger : (b : BookView) (f : Finding) (mismatch : Mismatch) (held : Bool) → IsOwn b (number_of f) f → is_some (found_in b (number_of f)) ≡ held → reply_to b f ≢ Stranger mismatch
+no_stranger b f mismatch true own held e =
+    let double = reply_to-held b f (own-digest b _ f own) (own-number b f own) (own-job b _ f own) held in
+    cc
+no_stranger b f mismatch false own held e =
+    let new = reply_to-new b f (own-digest b _ f own) (own-number b f own) (own-job b _ f own) held in
+    cc
+
+pub knows-its-own : KnowsItsOwn
+knows-its-own b f k mismatch own = no_stranger b f mismatch _ (subst (λ (n : ℕ). IsOwn b n f) (sym own.number_is) own) refl
+
+-- the outcomes of the four tests of a finding that is answered `Double`
+record IsDouble (digest number job held : Bool) (n k : ℕ) : Type 0 where
+  pub digest_is : digest ≡ true
+  pub number_is : number ≡ true
+  pub job_is : job ≡ true
+  pub held_is : held ≡ true
+  pub same : n ≡ k
+
+doubles : (digest number job held : Bool) (n k : ℕ) → (if not digest then Stranger Digest else if not number then Stranger Number else if not job then Stranger Content else if held then Double n else Accepted) ≡ Double k → IsDouble digest number job held n k
+doubles false number job held n k e = cc
+doubles true false job held n k e = cc
+doubles true true false held n k e = cc
+doubles true true true true n k e = record { digest_is = refl; number_is = refl; job_is = refl; held_is = refl; same = cc }
+doubles true true true false n k e = cc
+
+double_tells : (b : BookView) (f : Finding) (k : ℕ) → reply_to b f ≡ Double k → IsDouble (pointwise nat_eq (digest_of f) b.digest) (nat_lt (number_of f) (length b.jobs)) (is_job_of b.jobs (number_of f) (job_of f)) (is_some (found_in b (number_of f))) (number_of f) k
+unfolding reply_to
+double_tells b f k e = doubles _ _ _ _ (number_of f) k e
+
+double-own : (b : BookView) (f : Finding) (k : ℕ) → reply_to b f ≡ Double k → IsOwn b k f
+double-own b f k e =
+    let p = double_tells b f k e in
+    let own : IsOwn b (number_of f) f =
+    record { digest = (bytes_decides (digest_of f) b.digest).0 p.digest_is; number_is = refl; job = is_job_of-true b.jobs (number_of f) (job_of f) p.job_is } in
+    subst (λ (n : ℕ). IsOwn b n f) p.same own
+
+pub doubles-what_is_held : DoublesWhatIsHeld
+doubles-what_is_held b f k e =
+    let p = double_tells b f k e in
+    (double-own b f k e, subst (λ (n : ℕ). IsSome (found_in b n)) p.same p.held_is)
+
+-- ---- what a filing leaves
+
+pub holds-what_is_accepted : HoldsWhatIsAccepted
+holds-what_is_accepted b f is e =
+    ap (λ (v : BookView). found_in v (number_of f)) (after_filing-with_found b f e) ∙ get_or-set_same b.held (number_of f) (Some f) None (accepted-inside b f is e)
+
+-- a number whose finding was accepted held none before
+other_number : (b : BookView) (f g : Finding) (k : ℕ) → reply_to b f ≡ Accepted → found_in b k ≡ Some g → k ≢ number_of f
+other_number b f g k e held same =
+    let new : is_some (found_in b k) ≡ false = ap (λ (n : ℕ). is_some (found_in b n)) same ∙ accepted-new b f e in
+    let old : is_some (found_in b k) ≡ true = ap is_some held in
+    cc
+
+keeps : (b : BookView) (f g : Finding) (k : ℕ) (r : Reply) → reply_to b f ≡ r → found_in b k ≡ Some g → found_in (after_filing b f) k ≡ Some g
+keeps b f g k Accepted e held =
+    ap (λ (v : BookView). found_in v k) (after_filing-with_found b f e) ∙ get_or-set_other b.held (number_of f) k (Some f) None (other_number b f g k e held) ∙ held
+keeps b f g k (Stranger mismatch) e held = ap (λ (v : BookView). found_in v k) (after_filing-other b f (λ s. cc)) ∙ held
+keeps b f g k (Double n) e held = ap (λ (v : BookView). found_in v k) (after_filing-other b f (λ s. cc)) ∙ held
+
+pub keeps-what_is_held : KeepsWhatIsHeld
+keeps-what_is_held b f g k held = keeps b f g k (reply_to b f) refl held
+
+pub holds-nothing_else : HoldsNothingElse
+holds-nothing_else b f other = ap (λ (v : BookView). v.held) (after_filing-other b f other)
+
+stays : (b : BookView) (f : Finding) (r : Reply) → reply_to b f ≡ r → IsBook b → IsBook (after_filing b f)
+stays b f Accepted e is = subst IsBook (sym (after_filing-with_found b f e)) (IsBook-accepted b f (number_of f) refl is e)
+stays b f (Stranger mismatch) e is = subst IsBook (sym (after_filing-other b f (λ s. cc))) is
+stays b f (Double n) e is = subst IsBook (sym (after_filing-other b f (λ s. cc))) is
+
+pub stays-book : StaysBook
+stays-book b f is = stays b f (reply_to b f) refl is
+
+-- ---- two books
+
+pub books-agree : BooksAgree
+books-agree b c k f g is other jobs held there =
+    let mine = (is.own k f held).job in
+    let theirs = (other.own k g there).job in
+    let same : job_of f ≡ job_of g = same_Some _ _ (sym mine ∙ ap (λ js. slice_get js k) jobs ∙ theirs) in
+    least_unique (job_of f) (fault_of f) (fault_of g) f.honest (subst (λ (j : JobState). IsLeastFault j (fault_of g)) (sym same) g.honest)

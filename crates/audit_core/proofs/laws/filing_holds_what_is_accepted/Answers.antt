@@ -1,0 +1,5 @@
+use Rattle.audit_core.proofs.BookLaws.{holds-what_is_accepted, holds-nothing_else, keeps-what_is_held, stays-book}
+use Rattle.audit_core.proofs.laws.filing_holds_what_is_accepted.Goals as goal
+
+pub returns : goal.returns
+returns c = record { accepted = holds-what_is_accepted; kept = keeps-what_is_held; nothing_else = holds-nothing_else; book = stays-book }

@@ -1,0 +1,16 @@
+-- What is concluded of a certificate and a book
+use Rattle.std.specs.Prelude.{List}
+use Rattle.circuit.specs.Bridge.{circuit_of}
+use Rattle.certificate.specs.Entries.{Setting, ModuleLines, modules_of}
+use Rattle.certificate.specs.Grammars.{CertState, setting_of}
+use Rattle.certificate.specs.Jobs.{JobState, AreJobsOf}
+
+abbrev pub setting : CertState → Setting
+setting s = setting_of s.circuit s.layout
+
+abbrev pub modules : CertState → List ModuleLines
+modules s = modules_of s.entries
+
+-- these are the jobs of the certificate's modules
+abbrev pub AreOwnJobs : CertState → List JobState → Type 0
+AreOwnJobs s jobs = AreJobsOf (circuit_of s.circuit) s.layout (modules s) jobs

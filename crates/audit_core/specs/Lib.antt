@@ -1,0 +1,5 @@
+pub mod Book
+pub mod BookFields
+pub mod Laws
+pub mod Verdicts
+pub mod Concluding

@@ -1,0 +1,75 @@
+-- The verdict on the modules of a certificate
+use Rattle.std.specs.Prelude.{◌≡◌, ℕ, ◌+◌, ◌<◌, ◌++◌, List, [], ◌∷◌, length, Option, Some, slice_get}
+use Rattle.std.specs.Option.{option_map, option_to_list}
+use Rattle.certificate.specs.Entries.{Setting, ModuleLines}
+use Rattle.certificate.specs.Jobs.{JobState}
+use Rattle.local_run.specs.Faults.{IsFault, IsLeastFault}
+use Rattle.local_run.specs.Shown.{job_of}
+use Rattle.local_run.specs.declared.fault.Fault.{Fault}
+use Rattle.local_run.specs.declared.finding.Finding.{Finding}
+use Rattle.border_match.specs.BorderFaults.{IsBorderFault, AreBorderFaultsOf}
+use Rattle.border_match.specs.declared.fault.BorderFault.{BorderFault}
+use Rattle.audit_core.specs.Book.{BookView, found_in}
+use Rattle.audit_core.specs.declared.verdict.ReportLine.{ReportLine}
+use Rattle.audit_core.specs.declared.verdict.ReportLine.TheVariants.{Local, Border}
+use Rattle.audit_core.specs.declared.verdict.Verdict.{Verdict}
+use Rattle.audit_core.specs.declared.verdict.Verdict.TheVariants.{Yes, No}
+
+-- ---- what is accepted
+
+-- no job has a fault, and no module has a border fault
+pub record Accepts (g : Setting) (ms : List ModuleLines) (jobs : List JobState) : Type 0 where
+  pub no_fault : (number : ℕ) (j : JobState) (f : Fault) → slice_get jobs number ≡ Some j → ¬ IsFault j f
+  pub no_border_fault : (number : ℕ) (f : BorderFault) → ¬ IsBorderFault g ms number f
+
+-- ---- the lines of a report
+
+-- the least fault of each of the jobs, or `None`
+pub record AreLeastFaults (jobs : List JobState) (fs : List (Option Fault)) : Type 0 where
+  pub count : length fs ≡ length jobs
+  pub each : (number : ℕ) (j : JobState) (f : Option Fault) → slice_get jobs number ≡ Some j → slice_get fs number ≡ Some f → IsLeastFault j f
+
+abbrev pub local_line : ℕ → Option Fault → Option ReportLine
+local_line number f = option_map (λ f. Local number f) f
+
+abbrev pub border_line : ℕ → Option BorderFault → Option ReportLine
+border_line number f = option_map (λ f. Border number f) f
+
+-- of each module, from this number on: its least fault, and then its least border fault
+unfoldable pub lines_from : ℕ → List (Option Fault) → List (Option BorderFault) → List ReportLine
+lines_from number [] borders = []
+lines_from number (f ∷ faults) [] = []
+lines_from number (f ∷ faults) (b ∷ borders) =
+    option_to_list (local_line number f) ++ option_to_list (border_line number b) ++ lines_from (number + 1) faults borders
+
+-- all lines on modules of these jobs
+pub record AreReportLines (g : Setting) (ms : List ModuleLines) (jobs : List JobState) (lines : List ReportLine) : Type 0 where
+  pub faults : List (Option Fault)
+  pub are_least : AreLeastFaults jobs faults
+  pub borders : List (Option BorderFault)
+  pub are_border_faults : AreBorderFaultsOf g ms borders
+  pub lines_are : lines ≡ lines_from 0 faults borders
+
+-- `Yes` where the modules are accepted, and else `No` with all lines
+unfoldable pub IsVerdict : Setting → List ModuleLines → List JobState → Verdict → Type 0
+IsVerdict g ms jobs Yes = Accepts g ms jobs
+IsVerdict g ms jobs (No lines) = (¬ Accepts g ms jobs) × AreReportLines g ms jobs lines.items
+
+-- ---- which findings a verdict needs
+
+-- the book holds a finding for this number, and it is of this whole job
+pub record IsHeld (b : BookView) (number : ℕ) (j : JobState) : Type 0 where
+  pub finding : Finding
+  pub held : found_in b number ≡ Some finding
+  pub whole : job_of finding ≡ j
+
+-- it does for each of the jobs below this number
+abbrev pub AreHeldBelow : BookView → List JobState → ℕ → Type 0
+AreHeldBelow b jobs count = (number : ℕ) (j : JobState) → number < count → slice_get jobs number ≡ Some j → IsHeld b number j
+
+-- the first of the jobs for which it does not
+pub record IsFirstMissing (b : BookView) (jobs : List JobState) (number : ℕ) : Type 0 where
+  pub job : JobState
+  pub numbered : slice_get jobs number ≡ Some job
+  pub missing : ¬ IsHeld b number job
+  pub before : AreHeldBelow b jobs number

@@ -1,0 +1,113 @@
+//! From what a book holds to the verdict.
+ghost use Rattle.std.specs.Prelude.{◌≡◌, ◌++◌, ℕ, IfOk, OnOk, Err, length, map};
+ghost use Rattle.std.specs.Arc.{arc_value};
+ghost use Rattle.std.specs.Option.{option_to_list};
+ghost use Rattle.border_match.specs.BorderFaults.{AreBorderFaultsOf};
+ghost use Rattle.audit_core.specs.Concluding.{AreOwnJobs, modules, setting};
+ghost use Rattle.audit_core.specs.Verdicts.{AreHeldBelow, AreLeastFaults, IsFirstMissing, IsVerdict, border_line, lines_from, local_line};
+ghost use Rattle.audit_core.specs.declared.verdict.Unfinished.TheVariants.{Missing};
+
+use crate::book::BookState;
+use crate::verdict::{ReportLine, Unfinished, Verdict};
+use border_match::BorderFault;
+use certificate::{Cert, Job};
+use local_run::Fault;
+use std::alloc::{AllocError, Global};
+use std::sync::Arc;
+
+/// The verdict on a certificate for its circuit and its layout: from its jobs, the least border fault of each of its modules, and
+/// what a book holds.
+///
+/// `Missing` names the first module for whose whole job the book holds no finding, whatever the book's own digest and jobs are.
+/// `Memory` is want of memory.
+pub fn conclude(
+    alloc: Global,
+    _cert: &Cert<'_>,
+    jobs: &[Arc<Job>],
+    borders: &[Option<BorderFault>],
+    book: &BookState,
+) -> Result<Verdict, Unfinished>
+    requires own { AreOwnJobs _cert.now (map arc_value jobs.now) }
+    requires borders { AreBorderFaultsOf (setting _cert.now) (modules _cert.now) borders.now }
+    ensures held { OnOk result (AreHeldBelow book.now (map arc_value jobs.now) (length jobs.now)) }
+    ensures verdict { IfOk result (λ v. IsVerdict (setting _cert.now) (modules _cert.now) (map arc_value jobs.now) v) }
+    ensures missing { (number : ℕ) → result ≡ Err (Missing number) → IsFirstMissing book.now (map arc_value jobs.now) number }
+{
+    let faults = held_faults(alloc, jobs, book)?;
+    let lines = report_lines(alloc, &faults, borders)?;
+    if lines.is_empty() {
+        return Ok(Verdict::Yes);
+    }
+    Ok(Verdict::No(lines))
+}
+
+// The least faults of the jobs, by the findings that the book holds for them.
+fn held_faults(
+    alloc: Global,
+    jobs: &[Arc<Job>],
+    book: &BookState,
+) -> Result<Vec<Option<Fault>>, Unfinished>
+    ensures held { OnOk result (AreHeldBelow book.now (map arc_value jobs.now) (length jobs.now)) }
+    ensures least { IfOk result (λ fs. AreLeastFaults (map arc_value jobs.now) fs.items) }
+    ensures missing { (number : ℕ) → result ≡ Err (Missing number) → IsFirstMissing book.now (map arc_value jobs.now) number }
+{
+    let mut faults = Vec::with_capacity(alloc, jobs.len())?;
+    'modules: for (number, job) in jobs.iter().enumerate() {
+        let Some(finding) = book.found_for(number, job) else {
+            return Err(Unfinished::Missing(number));
+        };
+        faults.push(finding.fault())?;
+    }
+    Ok(faults)
+}
+
+// The lines of the report, module by module.
+fn report_lines(
+    alloc: Global,
+    faults: &[Option<Fault>],
+    borders: &[Option<BorderFault>],
+) -> Result<Vec<ReportLine>, AllocError>
+    requires { length faults.now ≡ length borders.now }
+    ensures { IfOk result (λ lines. lines.items ≡ lines_from 0 faults.now borders.now) }
+{
+    let mut lines = Vec::new(alloc);
+    'modules: for (number, fault) in faults.iter().enumerate() {
+        push_line(&mut lines, local_line(number, *fault))?;
+        push_line(&mut lines, border_line(number, borders[number]))?;
+    }
+    Ok(lines)
+}
+
+fn local_line(number: usize, fault: Option<Fault>) -> Option<ReportLine>
+    ensures { result ≡ local_line number fault }
+{
+    match fault {
+        Some(fault) => Some(ReportLine::Local {
+            module: number,
+            fault,
+        }),
+        None => None,
+    }
+}
+
+fn border_line(number: usize, fault: Option<BorderFault>) -> Option<ReportLine>
+    ensures { result ≡ border_line number fault }
+{
+    match fault {
+        Some(fault) => Some(ReportLine::Border {
+            module: number,
+            fault,
+        }),
+        None => None,
+    }
+}
+
+fn push_line(lines: &mut Vec<ReportLine>, line: Option<ReportLine>) -> Result<(), AllocError>
+    ensures { OnOk result (lines.new.items ≡ lines.old.items ++ option_to_list line) }
+{
+    if let Some(line) = line {
+        lines.push(line)?;
+        return Ok(());
+    }
+    Ok(())
+}

@@ -1,0 +1,24 @@
+//! The book of a certificate, which holds for each module what its run found, and the verdict on the certificate.
+//!
+//! A finding is held only where it is for the book's certificate, for one of its numbers and for the book's whole job of that
+//! number, and where nothing is held for that number yet. `specs/Book.antt` says what a book is, which reply a finding gets and
+//! what filing makes of a book.
+//!
+//! There is a verdict only where a finding is held for each module's own whole job. It is yes where no job has a fault and no
+//! border has one, and else no, with the least faults in the order of the modules. `specs/Verdicts.antt` has the definitions.
+#![tactic(auto)]
+
+mod book;
+mod concluding;
+pub mod laws;
+mod reply;
+#[cfg(test)]
+mod tests;
+mod verdict;
+#[cfg(test)]
+mod verdict_tests;
+
+pub use book::{BookState, NotFiled};
+pub use concluding::conclude;
+pub use reply::{Mismatch, Reply};
+pub use verdict::{ReportLine, Unfinished, Verdict};

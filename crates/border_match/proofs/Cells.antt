@@ -1,0 +1,121 @@
+-- Cells of a halo, and the modules that have them
+use Rattle.std.proofs.Common.{◌≡◌, ℕ, ◌+◌, ◌-◌, ◌<◌, ◌≤◌, ◌%◌, List, map, length, Bool, true, false, ◌||◌, ◌&&◌, Some, refl, sym, ap, subst, ◌∙◌, inl, inr, ◌⊎◌, arith, get_or}
+use Rattle.std.specs.Prelude.{ℤ, pos, ◌+ℤ◌, ◌-ℤ◌, ◌≢◌, ◌↔◌, IsTrue, slice_get, option_map}
+use Rattle.std.specs.Arc.{arc_value}
+use Rattle.std.proofs.lemmas.List.{length-map}
+use Rattle.std.proofs.lemmas.Option.{slice_get-map, slice_get-get_or, slice_get_within}
+use Rattle.std.proofs.lemmas.Bool.{and_parts, and_from, lt-ltb}
+use Rattle.std.proofs.lemmas.Int.{ints}
+use Rattle.bbm_rule.specs.Spans.{in_span}
+use Rattle.module_box.specs.Boxes.{in_box, in_halo}
+use Rattle.module_box.specs.Tiling.{owner_of}
+use Rattle.module_box.specs.declared.boxes.Box2.{Box2}
+use Rattle.module_box.specs.declared.schedules.Signal.{Signal}
+use Rattle.module_box.proofs.BoxCells.{in_span_nat, in_box_nats, same_some}
+use Rattle.module_box.proofs.RingTests.{halo_read}
+use Rattle.certificate.specs.Jobs.{JobState}
+use Rattle.border_match.specs.Boards.{job_halo, job_edge, jobs_of, IsReady, Faults, Differ, is_near}
+use Rattle.border_match.specs.declared.borders.Borders.{Borders}
+use Rattle.border_match.specs.declared.fault.BorderFault.{BorderFault}
+
+-- ---- jobs and owners
+
+pub job_at : {A : Type 0} (v : A → JobState) (xs : List A) (k : ℕ) (d : A) (j : JobState) → k < length xs → j ≡ v (get_or xs k d) → slice_get (map v xs) k ≡ Some j
+job_at v xs k d j lt same = slice_get-map v xs k ∙ ap (option_map v) (slice_get-get_or xs k d lt) ∙ ap Some (sym same)
+
+pub owner_within : (b : Borders) (x y : ℤ) → IsReady b → in_box b.whole x y ≡ true → owner_of b.owners.now x y < length b.jobs.now
+owner_within b x y ready h =
+    let m = ready.0.holder x y h in
+    subst (λ n. owner_of b.owners.now x y < n) (length-map b.jobs.now arc_value) (slice_get_within (jobs_of b) (owner_of b.owners.now x y) m.0 m.1)
+
+pub differ_is : (b : Borders) (t : ℕ) (x y : ℤ) (owner : JobState) (halo edge : Signal) (r : Bool) → slice_get (jobs_of b) (owner_of b.owners.now x y) ≡ Some owner →
+    halo ≡ job_halo b.job.now t x y → edge ≡ job_edge owner t x y → IsTrue r ↔ (halo ≢ edge) → IsTrue r ↔ Differ b t x y
+differ_is b t x y owner halo edge r numbered e f h = (
+  λ yes. record { owner = owner; numbered = numbered; differ = λ same. h.0 yes (e ∙ same ∙ sym f) },
+  λ d. h.1 (λ same. d.differ (sym e ∙ same ∙ f ∙ ap (λ (z : JobState). job_edge z t x y) (same_some (slice_get (jobs_of b) (owner_of b.owners.now x y)) owner d.owner numbered d.numbered))),
+)
+
+pub fault_is : (b : Borders) (f : BorderFault) (r : Bool) → f.time % 2 ≡ 1 → f.time < b.job.now.steps → (in_box b.whole f.cell.x f.cell.y && in_halo b.job.now.area f.cell.x f.cell.y) ≡ true →
+    IsTrue r ↔ Differ b f.time f.cell.x f.cell.y → IsTrue r ↔ Faults b f
+fault_is b f r odd early reached h =
+    let both = and_parts (in_box b.whole f.cell.x f.cell.y) (in_halo b.job.now.area f.cell.x f.cell.y) reached in
+    (λ yes. record { odd = odd; early = early; inside = both.0; halo = both.1; different = h.0 yes }, λ g. h.1 g.different)
+
+pub reached : (b : Borders) (f : BorderFault) → Faults b f → (in_box b.whole f.cell.x f.cell.y && in_halo b.job.now.area f.cell.x f.cell.y) ≡ true
+reached b f g = and_from _ _ g.inside g.halo
+
+-- ---- columns and rows of a halo
+
+near_parts : (b : Box2) (x y : ℤ) → in_halo b x y ≡ true →
+    ((in_span b.x b.w (x -ℤ pos 1) || in_span b.x b.w x || in_span b.x b.w (x +ℤ pos 1)) ≡ true) × ((in_span b.y b.h (y -ℤ pos 1) || in_span b.y b.h y || in_span b.y b.h (y +ℤ pos 1)) ≡ true)
+near_parts b x y h = and_parts _ _ (and_parts _ _ (halo_read b x y _ _ _ refl refl refl ∙ h)).1
+
+or_cases : (a b : Bool) → (a || b) ≡ true → (a ≡ true) ⊎ (b ≡ true)
+or_cases true b h = inl refl
+or_cases false b h = inr h
+
+-- one of the three next to x is in the span
+near_one : (f n : ℕ) (x : ℤ) → (in_span f n (x -ℤ pos 1) || in_span f n x || in_span f n (x +ℤ pos 1)) ≡ true →
+    (y : ℤ) × ((y ≡ x -ℤ pos 1) ⊎ ((y ≡ x) ⊎ (y ≡ x +ℤ pos 1))) × (in_span f n y ≡ true)
+near_one f n x h = elim (or_cases _ _ h) [
+  | inl h' ↦ elim (or_cases _ _ h') [
+    | inl p ↦ (x -ℤ pos 1, inl refl, p)
+    | inr p ↦ (x, inr (inl refl), p)
+  ]
+  | inr p ↦ (x +ℤ pos 1, inr (inr refl), p)
+]
+
+near_bounds : (f n k j : ℕ) (x y : ℤ) → x ≡ pos k → y ≡ pos j → (y ≡ x -ℤ pos 1) ⊎ ((y ≡ x) ⊎ (y ≡ x +ℤ pos 1)) → f ≤ j → j < f + n → (f - 1 ≤ k) × (k < f + n + 1)
+near_bounds f n k j x y p q (inl e) c d = (omega (arith, ints), omega (arith, ints))
+near_bounds f n k j x y p q (inr (inl e)) c d = (omega (arith, ints), omega (arith, ints))
+near_bounds f n k j x y p q (inr (inr e)) c d = (omega (arith, ints), omega (arith, ints))
+
+near_nat : (f n : ℕ) (x : ℤ) (k : ℕ) → x ≡ pos k → (in_span f n (x -ℤ pos 1) || in_span f n x || in_span f n (x +ℤ pos 1)) ≡ true → (f - 1 ≤ k) × (k < f + n + 1)
+near_nat f n x k e h =
+    let y = near_one f n x h in
+    let at = in_span_nat f n y.0 y.2 in
+    near_bounds f n k at.0 x y.0 e at.1 y.1 at.2 at.3
+
+-- where a fault is, counted from the rectangle's corner
+pub record IsPlaced (b : Borders) (f : BorderFault) : Type 0 where
+  pub column : ℕ
+  pub x : f.cell.x ≡ pos column
+  pub left : b.job.now.area.x - 1 ≤ column
+  pub right : column < b.job.now.area.x + b.job.now.area.w + 1
+  pub row : ℕ
+  pub y : f.cell.y ≡ pos row
+  pub top : b.job.now.area.y - 1 ≤ row
+  pub bottom : row < b.job.now.area.y + b.job.now.area.h + 1
+
+pub placed : (b : Borders) (f : BorderFault) → Faults b f → IsPlaced b f
+placed b f g =
+    let area = b.job.now.area in
+    let near = near_parts area f.cell.x f.cell.y g.halo in
+    let at = in_box_nats b.whole f.cell.x f.cell.y g.inside in
+    let ax = at.0 in let ay = at.1 in
+    let sx = near_nat area.x area.w f.cell.x ax.0 ax.1 near.0 in
+    let sy = near_nat area.y area.h f.cell.y ay.0 ay.1 near.1 in
+    record { column = ax.0; x = ax.1; left = sx.0; right = sx.1; row = ay.0; y = ay.1; top = sy.0; bottom = sy.1 }
+
+-- ---- boxes that a halo reaches
+
+beside_bounds : (f n g m i j : ℕ) (x y : ℤ) → x ≡ pos i → y ≡ pos j → (y ≡ x -ℤ pos 1) ⊎ ((y ≡ x) ⊎ (y ≡ x +ℤ pos 1)) → g ≤ i → i < g + m → f ≤ j → j < f + n → (g < f + n + 1) × (f < g + m + 1)
+beside_bounds f n g m i j x y p q (inl e) a b c d = (omega (arith, ints), omega (arith, ints))
+beside_bounds f n g m i j x y p q (inr (inl e)) a b c d = (omega (arith, ints), omega (arith, ints))
+beside_bounds f n g m i j x y p q (inr (inr e)) a b c d = (omega (arith, ints), omega (arith, ints))
+
+near_span : (f n g m : ℕ) (x : ℤ) → (in_span f n (x -ℤ pos 1) || in_span f n x || in_span f n (x +ℤ pos 1)) ≡ true → in_span g m x ≡ true → (g < f + n + 1) × (f < g + m + 1)
+near_span f n g m x h k =
+    let y = near_one f n x h in
+    let at = in_span_nat f n y.0 y.2 in
+    let here = in_span_nat g m x k in
+    beside_bounds f n g m here.0 at.0 x y.0 here.1 at.1 y.1 here.2 here.3 at.2 at.3
+
+pub near_boxes : (a b : Box2) (x y : ℤ) → in_halo a x y ≡ true → in_box b x y ≡ true → is_near a b ≡ true
+unfolding in_box
+near_boxes a b x y h k =
+    let near = near_parts a x y h in
+    let here = and_parts (in_span b.x b.w x) (in_span b.y b.h y) k in
+    let sx = near_span a.x a.w b.x b.w x near.0 here.0 in
+    let sy = near_span a.y a.h b.y b.h y near.1 here.1 in
+    and_from _ _ (and_from _ _ (and_from _ _ (lt-ltb _ _ sx.0) (lt-ltb _ _ sx.1)) (lt-ltb _ _ sy.0)) (lt-ltb _ _ sy.1)

@@ -1,0 +1,24 @@
+-- The order of border faults
+use Rattle.std.proofs.Common.{ℕ, ap}
+use Rattle.std.specs.Prelude.{ℤ}
+use Rattle.std.specs.Ordering.{nat_cmp, int_cmp}
+use Rattle.std.specs.Cmp.{IsTotalOrder}
+use Rattle.std.proofs.lemmas.Cmp.{then_total, on_total, nat_cmp_total}
+use Rattle.std.proofs.lemmas.Map.Lookups.{CmpEqualImpliesEq, exact_pairs, exact_unsigned, exact_signed}
+use Rattle.module_box.specs.Moments.{cell_cmp}
+use Rattle.module_box.proofs.Rising.{cell_total}
+use Rattle.border_match.specs.BorderFaults.{border_cmp}
+use Rattle.border_match.specs.declared.fault.BorderFault.{BorderFault}
+
+pub border_total : IsTotalOrder border_cmp
+unfolding border_cmp
+border_total = then_total (on_total (λ (f : BorderFault). f.time) nat_cmp_total) (on_total (λ (f : BorderFault). f.cell) cell_total)
+
+abbrev key : BorderFault → ℕ × (ℤ × ℤ)
+key f = (f.time, (f.cell.y, f.cell.x))
+
+pub border_exact : CmpEqualImpliesEq border_cmp
+unfolding border_cmp cell_cmp
+border_exact a b e =
+    let unkey : ℕ × (ℤ × ℤ) → BorderFault = λ k. record { time = k.0; cell = record { x = k.1.1; y = k.1.0 } } in
+    ap unkey (exact_pairs nat_cmp _ exact_unsigned (exact_pairs int_cmp int_cmp exact_signed exact_signed) (key a) (key b) e)

@@ -1,0 +1,10 @@
+pub mod FaultOrder
+pub mod Least
+pub mod OwnSignals
+pub mod Cells
+pub mod Steps
+pub mod Renumbered
+pub mod Modules
+pub mod Bridge
+pub mod Unique
+pub mod SameSignals

@@ -1,0 +1,35 @@
+-- Where a module has no border fault, halo and edge signals are the same
+use Rattle.std.proofs.Common.{◌≡◌, sym, ap, ◌∙◌, inl, inr}
+use Rattle.std.specs.Prelude.{◌≢◌}
+use Rattle.std.proofs.lemmas.Bool.{cases_Bool, false≢true}
+use Rattle.module_box.specs.Equality.{same_signal}
+use Rattle.module_box.specs.declared.schedules.Signal.{Signal}
+use Rattle.module_box.proofs.EqualTests.{signal_decides}
+use Rattle.certificate.specs.Signals.{is_live}
+use Rattle.border_match.specs.BorderFaults.{halo_signal, edge_signal}
+use Rattle.border_match.specs.Laws.{NoFaultMeansSameSignals}
+use Rattle.border_match.proofs.Modules.{area_at}
+
+-- signals that do not differ are the same
+not_different : (a b : Signal) → (a ≢ b → ⊥) → a ≡ b
+not_different a b h = elim (cases_Bool (same_signal a b)) [
+  | inl same ↦ (signal_decides a b).0 same
+  | inr other ↦ absurd (h (λ same. false≢true (sym other ∙ (signal_decides a b).1 same)))
+]
+
+pub same_signals : NoFaultMeansSameSignals
+same_signals g ms i k m owner t x y v none beside =
+    ap (is_live v) (not_different (halo_signal g.circuit m t x y) (edge_signal g.circuit owner t x y) (λ differ.
+    none (record { time = t; cell = record { x = x; y = y } }) (record {
+      odd = beside.odd;
+      early = beside.early;
+      inside = beside.tile.inside x y k owner.area (area_at ms k owner beside.owner_numbered) beside.owned;
+      lines = m;
+      numbered = beside.numbered;
+      halo = beside.halo;
+      owner_number = k;
+      owner = owner;
+      owner_numbered = beside.owner_numbered;
+      owned = beside.owned;
+      differ = differ;
+    })))

@@ -1,0 +1,206 @@
+-- One more event, module, time, column or row
+use Rattle.std.proofs.Common.{◌≡◌, ℕ, suc, ◌+◌, ◌-◌, ◌<◌, ◌≤◌, List, [], ◌∷◌, length, Bool, true, false, Some, None, Less, Equal, Greater, refl, sym, ap, ap₂, subst, ◌∙◌, inl, inr, ◌⊎◌, arith}
+use Rattle.std.specs.Prelude.{ℤ, pos, ◌≢◌, slice_get, unwrap_or}
+use Rattle.std.specs.Arc.{arc_value}
+use Rattle.std.specs.Ordering.{nat_cmp}
+use Rattle.std.proofs.lemmas.List.{length-map}
+use Rattle.std.proofs.lemmas.Option.{slice_get_within}
+use Rattle.std.proofs.lemmas.Bool.{cond-false, false≢true, cases_Bool}
+use Rattle.std.proofs.lemmas.Bool.Decides.{nat_tests}
+use Rattle.std.proofs.lemmas.Cmp.{tied_itself}
+use Rattle.bbm_rule.specs.declared.block.Cell.{Cell}
+use Rattle.module_box.specs.Boxes.{in_box}
+use Rattle.module_box.specs.Locals.{circuit_wire}
+use Rattle.module_box.specs.Schedules.{Signals, held_at, event_at, signal_at, is_then}
+use Rattle.module_box.specs.Tiling.{owner_of}
+use Rattle.module_box.specs.declared.schedules.Event.{Event}
+use Rattle.module_box.specs.declared.schedules.Moment.{Moment}
+use Rattle.module_box.specs.declared.schedules.Signal.TheVariants.{Zero}
+use Rattle.module_box.proofs.BoxCells.{same_some}
+use Rattle.module_box.proofs.Rising.{then_moment}
+use Rattle.certificate.specs.Jobs.{JobState}
+use Rattle.certificate.specs.Signals.{renumber_signal}
+use Rattle.border_match.specs.BorderFaults.{border_cmp}
+use Rattle.border_match.specs.Boards.{jobs_of, IsReady, Faults, IsNamed, IsNamedBelow, IsEdgeNamed, IsEdgeNamedBelow, IsEdgeNamedAt, IsHeld, IsHeldAt, IsHeldInRow, IsHeldBefore, IsHeldAbove, is_near}
+use Rattle.border_match.specs.declared.borders.Borders.{Borders}
+use Rattle.border_match.specs.declared.fault.BorderFault.{BorderFault}
+use Rattle.border_match.proofs.FaultOrder.{border_total}
+use Rattle.border_match.proofs.Cells.{near_boxes, placed}
+
+lower_or_same : (i m : ℕ) → i < m + 1 → (i < m) ⊎ (i ≡ m)
+lower_or_same i m h = grind arith
+
+same_fault : (time : ℕ) (cell : Cell) (f : BorderFault) → f.time ≡ time → f.cell ≡ cell → f ≡ record { time = time; cell = cell }
+same_fault time cell f p q = let mk : ℕ → Cell → BorderFault = λ t c. record { time = t; cell = c } in ap₂ mk p q
+
+-- ---- events
+
+pub named_step : (events : List Event) (i : ℕ) (e : Event) (f : BorderFault) → slice_get events i ≡ Some e → IsNamedBelow (i + 1) events f →
+    IsNamedBelow i events f ⊎ (f ≡ record { time = e.at.time; cell = e.at.cell })
+named_step events i e f got h = elim (lower_or_same h.named.place i h.below) [
+  | inl lt ↦ inl (record { named = h.named; below = lt })
+  | inr same ↦ inr (
+      let is = same_some (slice_get events i) h.named.event e (ap (slice_get events) (sym same) ∙ h.named.got) got in
+      same_fault e.at.time e.at.cell f (sym h.named.time ∙ ap (λ (z : Event). z.at.time) is) (sym h.named.cell ∙ ap (λ (z : Event). z.at.cell) is))
+]
+
+pub named_all : (events : List Event) (k : ℕ) (f : BorderFault) → length events ≤ k → IsNamed events f → IsNamedBelow k events f
+named_all events k f le h =
+    let within = slice_get_within events h.place h.event h.got in
+    record { named = h; below = omega (arith, within) }
+
+-- ---- modules
+
+pub edges_step : (b : Borders) (k : ℕ) (f : BorderFault) → IsEdgeNamedBelow (k + 1) b f → IsEdgeNamedBelow k b f ⊎ IsEdgeNamedAt k b f
+edges_step b k f h = elim (lower_or_same (owner_of b.owners.now f.cell.x f.cell.y) k h.1) [
+  | inl lt ↦ inl (h.0, lt)
+  | inr same ↦ inr (h.0, same)
+]
+
+pub edges_all : (b : Borders) (k : ℕ) (f : BorderFault) → length b.jobs.now ≤ k → IsEdgeNamed b f → IsEdgeNamedBelow k b f
+edges_all b k f le h =
+    let within : owner_of b.owners.now f.cell.x f.cell.y < length b.jobs.now =
+    subst (λ n. owner_of b.owners.now f.cell.x f.cell.y < n) (length-map b.jobs.now arc_value) (slice_get_within (jobs_of b) _ h.owner h.numbered) in
+    (h, omega (arith, within))
+
+other_is : (b : Borders) (k : ℕ) (other : JobState) (f : BorderFault) → slice_get (jobs_of b) k ≡ Some other → (h : IsEdgeNamedAt k b f) → h.0.owner ≡ other
+other_is b k other f e h = same_some (slice_get (jobs_of b) k) h.0.owner other (ap (slice_get (jobs_of b)) (sym h.1) ∙ h.0.numbered) e
+
+pub edges_named : (b : Borders) (k : ℕ) (other : JobState) (f : BorderFault) → slice_get (jobs_of b) k ≡ Some other → IsEdgeNamedAt k b f → IsNamed other.edges.events f
+edges_named b k other f e h =
+    let P : JobState → Type 0 = λ j. IsNamed j.edges.events f in
+    subst P (other_is b k other f e h) h.0.named
+
+pub near_needed : (b : Borders) (k : ℕ) (other : JobState) (f : BorderFault) → IsReady b → slice_get (jobs_of b) k ≡ Some other → Faults b f → IsEdgeNamedAt k b f →
+    is_near b.job.now.area other.area ≡ true
+near_needed b k other f ready e g h =
+    let m = ready.0.holder f.cell.x f.cell.y g.inside in
+    let same : m.0 ≡ other = same_some (slice_get (jobs_of b) k) m.0 other (ap (slice_get (jobs_of b)) (sym h.1) ∙ m.1) e in
+    near_boxes b.job.now.area other.area f.cell.x f.cell.y g.halo (ap (λ (j : JobState). in_box j.area f.cell.x f.cell.y) (sym same) ∙ m.2)
+
+-- ---- times
+
+lower_or_eq : (i m : ℕ) → i ≤ m → (i < m) ⊎ (i ≡ m)
+lower_or_eq i m h = grind arith
+
+nat_less : (a b : ℕ) → a < b → nat_cmp a b ≡ Less
+nat_less a b h = grind (arith, nat_tests)
+
+time_less : (m n : BorderFault) → m.time < n.time → border_cmp m n ≡ Less
+unfolding border_cmp
+time_less m n h = rw (nat_less m.time n.time h)
+
+pub first_is_least : (time : ℕ) (cell : Cell) (f : BorderFault) → time ≤ f.time → f.cell ≡ cell → border_cmp (record { time = time; cell = cell }) f ≢ Greater
+first_is_least time cell f le same g =
+    let m : BorderFault = record { time = time; cell = cell } in
+    elim (lower_or_eq time f.time le) [
+      | inl lt ↦ less_greater (sym (time_less m f lt) ∙ g)
+      | inr e ↦ equal_greater (sym (tied_itself border_total m) ∙ ap (λ z. border_cmp m z) (sym (same_fault time cell f (sym e) same)) ∙ g)
+    ]
+  where
+    less_greater : Less ≡ Greater → ⊥
+    less_greater e = cc
+
+    equal_greater : Equal ≡ Greater → ⊥
+    equal_greater e = cc
+
+pub no_fault_step : (F : BorderFault → Type 0) (cell : Cell) (time : ℕ) → ((f : BorderFault) → F f → f.cell ≡ cell → f.time < time → ⊥) → (F (record { time = time; cell = cell }) → ⊥) →
+    (f : BorderFault) → F f → f.cell ≡ cell → f.time < time + 1 → ⊥
+no_fault_step F cell time before here f g same lt = elim (lower_or_same f.time time lt) [
+  | inl l ↦ before f g same l
+  | inr e ↦ here (subst F (same_fault time cell f e same) g)
+]
+
+pub not_before : (a b : ℕ) → (a < b → ⊥) → b ≤ a
+not_before a b h = omega arith
+
+pub not_true : (b : Bool) → b ≡ false → b ≡ true → ⊥
+not_true b p q = false≢true (sym p ∙ q)
+
+-- ---- a fault is named by an event, or what holds at the other times differs
+
+event_named : (es : List Event) (f : BorderFault) → (event_at es f.time f.cell.x f.cell.y ≡ None) ⊎ IsNamed es f
+unfolding event_at
+event_named [] f = inl refl
+event_named (e ∷ es) f = elim (cases_Bool (is_then e.at f.time f.cell.x f.cell.y)) [
+  | inl t ↦
+      let here : Moment = record { time = f.time; cell = f.cell } in
+      let same : e.at ≡ here = then_moment e.at here t in
+      inr (record { place = 0; event = e; got = refl; time = ap (λ (m : Moment). m.time) same; cell = ap (λ (m : Moment). m.cell) same })
+  | inr differs ↦ elim (event_named es f) [
+    | inl none ↦ inl (cond-false _ _ _ differs ∙ none)
+    | inr h ↦ inr (record { place = suc h.place; event = h.event; got = h.got; time = h.time; cell = h.cell })
+  ]
+]
+
+-- at two times without an event the signals are the same
+same_without : (s : Signals) (t t' : ℕ) (x y : ℤ) → event_at s.events t x y ≡ None → event_at s.events t' x y ≡ None → signal_at s t x y ≡ signal_at s t' x y
+unfolding signal_at
+same_without s t t' x y e e' = ap (λ z. unwrap_or (held_at s.held x y) (unwrap_or z Zero)) (e ∙ sym e')
+
+pub fault_covered : (b : Borders) (f : BorderFault) → IsReady b → Faults b f → IsNamed b.job.now.halos.events f ⊎ (IsEdgeNamed b f ⊎ IsHeld b f)
+fault_covered b f ready g =
+    let x = f.cell.x in
+    let y = f.cell.y in
+    let d = g.different in
+    elim (event_named b.job.now.halos.events f) [
+      | inr h ↦ inl h
+      | inl none ↦ elim (event_named d.owner.edges.events f) [
+        | inr h ↦ inr (inl (record { owner = d.owner; numbered = d.numbered; named = h }))
+        | inl none' ↦ inr (inr (record {
+          owner = d.owner;
+          numbered = d.numbered;
+          differ = λ alike. d.differ (
+              ap (renumber_signal (circuit_wire b.job.now.locals)) (same_without b.job.now.halos f.time 0 x y none (ready.1.halos x y)) ∙ alike
+              ∙ ap (renumber_signal (circuit_wire d.owner.locals)) (same_without d.owner.edges 0 f.time x y ((ready.0.quiet _ d.owner d.numbered).edges x y) none'));
+        }))
+      ]
+    ]
+
+-- ---- columns and rows
+
+pub no_column : (b : Borders) (y x : ℕ) (f : BorderFault) → x ≡ b.job.now.area.x - 1 → Faults b f → IsHeldBefore b y x f → ⊥
+no_column b y x f e g h =
+    let p = placed b f g in
+    let same = pos_same h.at p.column (sym h.column ∙ p.x) in
+    let left = p.left in let before = h.before in
+    omega (arith, left, before, same, e)
+  where
+    pos_same : (i k : ℕ) → pos i ≡ pos k → i ≡ k
+    pos_same i k e = cc
+
+pub column_step : (b : Borders) (y x : ℕ) (c : Cell) (f : BorderFault) → c.x ≡ pos x → c.y ≡ pos y → IsHeldBefore b y (x + 1) f → IsHeldBefore b y x f ⊎ IsHeldAt b c f
+column_step b y x c f ex ey h =
+    let mk : ℤ → ℤ → Cell = λ x y. record { x = x; y = y } in
+    elim (lower_or_same h.at x h.before) [
+      | inl lt ↦ inl (record { held = h.held; at = h.at; column = h.column; before = lt })
+      | inr same ↦ inr (h.held.0, ap₂ mk (h.column ∙ ap pos same ∙ sym ex) (h.held.1 ∙ sym ey))
+    ]
+
+pub all_columns : (b : Borders) (y x : ℕ) (f : BorderFault) → b.job.now.area.x + b.job.now.area.w + 1 ≤ x → Faults b f → IsHeldInRow b y f → IsHeldBefore b y x f
+all_columns b y x f le g h =
+    let p = placed b f g in
+    let right = p.right in
+    record { held = h; at = p.column; column = p.x; before = omega (arith, right, le) }
+
+pub no_row : (b : Borders) (y : ℕ) (f : BorderFault) → y ≡ b.job.now.area.y - 1 → Faults b f → IsHeldAbove b y f → ⊥
+no_row b y f e g h =
+    let p = placed b f g in
+    let same = pos_same h.at p.row (sym h.row ∙ p.y) in
+    let top = p.top in let above = h.above in
+    omega (arith, top, above, same, e)
+  where
+    pos_same : (i k : ℕ) → pos i ≡ pos k → i ≡ k
+    pos_same i k e = cc
+
+pub row_step : (b : Borders) (y : ℕ) (f : BorderFault) → IsHeldAbove b (y + 1) f → IsHeldAbove b y f ⊎ IsHeldInRow b y f
+row_step b y f h = elim (lower_or_same h.at y h.above) [
+  | inl lt ↦ inl (record { held = h.held; at = h.at; row = h.row; above = lt })
+  | inr same ↦ inr (h.held, h.row ∙ ap pos same)
+]
+
+pub all_rows : (b : Borders) (y : ℕ) (f : BorderFault) → b.job.now.area.y + b.job.now.area.h + 1 ≤ y → Faults b f → IsHeld b f → IsHeldAbove b y f
+all_rows b y f le g h =
+    let p = placed b f g in
+    let bottom = p.bottom in
+    record { held = h; at = p.row; row = p.y; above = omega (arith, bottom, le) }

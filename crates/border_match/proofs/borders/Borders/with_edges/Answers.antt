@@ -1,0 +1,10 @@
+use Rattle.std.proofs.Common.{arith}
+use Rattle.border_match.proofs.Least.{better_then, better_for}
+use Rattle.border_match.proofs.Steps.{edges_step, edges_all}
+use Rattle.border_match.proofs.borders.Borders.with_edges.Goals as goal
+
+pub modules-preserved : goal.modules-preserved
+modules-preserved c = better_then _ _ _ _ _ _ _ c.modules.invariant c.with_edges_of-least.ensures (λ h f r. edges_step c.args.self.now c.modules.number h r)
+
+pub returns : goal.returns
+returns c = better_for _ _ _ _ _ c.modules.invariant (λ h f r. edges_all c.args.self.now c.modules.number h (omega arith) r)

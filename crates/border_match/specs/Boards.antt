@@ -1,0 +1,123 @@
+-- Border faults by the jobs of the modules, and the parts of a search for them
+use Rattle.std.specs.Prelude.{◌≡◌, ◌≢◌, ℕ, ℤ, pos, ◌+◌, ◌<◌, ◌%◌, ◌&&◌, Bool, List, map, Some, None, slice_get, nat_lt, IsTrue}
+use Rattle.std.specs.Arc.{arc_value}
+use Rattle.bbm_rule.specs.declared.block.Cell.{Cell}
+use Rattle.module_box.specs.Boxes.{in_box, in_halo}
+use Rattle.module_box.specs.Locals.{circuit_wire}
+use Rattle.module_box.specs.Schedules.{event_at, signal_at}
+use Rattle.module_box.specs.Tiling.{Owning, rectangle, owner_of}
+use Rattle.module_box.specs.declared.boxes.Box2.{Box2}
+use Rattle.module_box.specs.declared.schedules.Event.{Event}
+use Rattle.module_box.specs.declared.schedules.Signal.{Signal}
+use Rattle.certificate.specs.Jobs.{JobState}
+use Rattle.certificate.specs.Signals.{renumber_signal}
+use Rattle.border_match.specs.declared.borders.Borders.{Borders}
+use Rattle.border_match.specs.declared.fault.BorderFault.{BorderFault}
+
+-- ---- border faults by jobs
+
+-- what a job says of a cell of its halo, by the wires of the circuit
+abbrev pub job_halo : JobState → ℕ → ℤ → ℤ → Signal
+job_halo j t x y = renumber_signal (circuit_wire j.locals) (signal_at j.halos t x y)
+
+-- and of a cell of its ring
+abbrev pub job_edge : JobState → ℕ → ℤ → ℤ → Signal
+job_edge j t x y = renumber_signal (circuit_wire j.locals) (signal_at j.edges t x y)
+
+-- the job says another thing of the cell (x, y) of its halo than the job of the module that has the cell
+pub record AreDifferent (o : Owning) (jobs : List JobState) (j : JobState) (t : ℕ) (x y : ℤ) : Type 0 where
+  pub owner : JobState
+  pub numbered : slice_get jobs (owner_of o x y) ≡ Some owner
+  pub differ : job_halo j t x y ≢ job_edge owner t x y
+
+-- a border fault of the module with the job j
+pub record IsJobFault (w : Box2) (o : Owning) (jobs : List JobState) (j : JobState) (f : BorderFault) : Type 0 where
+  pub odd : f.time % 2 ≡ 1
+  pub early : f.time < j.steps
+  pub inside : IsTrue (in_box w f.cell.x f.cell.y)
+  pub halo : IsTrue (in_halo j.area f.cell.x f.cell.y)
+  pub different : AreDifferent o jobs j f.time f.cell.x f.cell.y
+
+-- no edge and no halo of the job changes at time 0
+pub record IsQuiet (j : JobState) : Type 0 where
+  pub halos : (x y : ℤ) → event_at j.halos.events 0 x y ≡ None
+  pub edges : (x y : ℤ) → event_at j.edges.events 0 x y ≡ None
+
+-- the owner of each cell of the rectangle is the number of a job whose box has the cell
+pub record IsBoard (w : Box2) (o : Owning) (jobs : List JobState) : Type 0 where
+  pub same : w ≡ rectangle o
+  pub holder : (x y : ℤ) → IsTrue (in_box w x y) → (j : JobState) × (slice_get jobs (owner_of o x y) ≡ Some j) × IsTrue (in_box j.area x y)
+  pub quiet : (k : ℕ) (j : JobState) → slice_get jobs k ≡ Some j → IsQuiet j
+
+-- ---- the same of a module among its neighbours
+
+abbrev pub jobs_of : Borders → List JobState
+jobs_of b = map arc_value b.jobs.now
+
+abbrev pub IsReady : Borders → Type 0
+IsReady b = IsBoard b.whole b.owners.now (jobs_of b) × IsQuiet b.job.now
+
+abbrev pub Faults : Borders → BorderFault → Type 0
+Faults b f = IsJobFault b.whole b.owners.now (jobs_of b) b.job.now f
+
+abbrev pub Differ : Borders → ℕ → ℤ → ℤ → Type 0
+Differ b t x y = AreDifferent b.owners.now (jobs_of b) b.job.now t x y
+
+-- ---- which faults a part of the search finds
+
+-- an event of the list is at the time and cell of f
+pub record IsNamed (events : List Event) (f : BorderFault) : Type 0 where
+  pub place : ℕ
+  pub event : Event
+  pub got : slice_get events place ≡ Some event
+  pub time : event.at.time ≡ f.time
+  pub cell : event.at.cell ≡ f.cell
+
+-- one of the first k is
+pub record IsNamedBelow (k : ℕ) (events : List Event) (f : BorderFault) : Type 0 where
+  pub named : IsNamed events f
+  pub below : named.place < k
+
+-- an event of the edge of the module that has the cell is
+pub record IsEdgeNamed (b : Borders) (f : BorderFault) : Type 0 where
+  pub owner : JobState
+  pub numbered : slice_get (jobs_of b) (owner_of b.owners.now f.cell.x f.cell.y) ≡ Some owner
+  pub named : IsNamed owner.edges.events f
+
+-- and that is one of the first k modules
+abbrev pub IsEdgeNamedBelow : ℕ → Borders → BorderFault → Type 0
+IsEdgeNamedBelow k b f = IsEdgeNamed b f × (owner_of b.owners.now f.cell.x f.cell.y < k)
+
+-- and that is module k
+abbrev pub IsEdgeNamedAt : ℕ → Borders → BorderFault → Type 0
+IsEdgeNamedAt k b f = IsEdgeNamed b f × (owner_of b.owners.now f.cell.x f.cell.y ≡ k)
+
+-- at the other times, without an event, the signals at the cell differ
+abbrev pub IsHeld : Borders → BorderFault → Type 0
+IsHeld b f = Differ b 0 f.cell.x f.cell.y
+
+-- they do, and this is the cell
+abbrev pub IsHeldAt : Borders → Cell → BorderFault → Type 0
+IsHeldAt b c f = IsHeld b f × (f.cell ≡ c)
+
+-- they do, and the cell is in row y
+abbrev pub IsHeldInRow : Borders → ℕ → BorderFault → Type 0
+IsHeldInRow b y f = IsHeld b f × (f.cell.y ≡ pos y)
+
+-- before column x
+pub record IsHeldBefore (b : Borders) (y x : ℕ) (f : BorderFault) : Type 0 where
+  pub held : IsHeldInRow b y f
+  pub at : ℕ
+  pub column : f.cell.x ≡ pos at
+  pub before : at < x
+
+-- above row y
+pub record IsHeldAbove (b : Borders) (y : ℕ) (f : BorderFault) : Type 0 where
+  pub held : IsHeld b f
+  pub at : ℕ
+  pub row : f.cell.y ≡ pos at
+  pub above : at < y
+
+-- a box and the halo of another may have cells in common, as far as their corners and sides tell
+abbrev pub is_near : Box2 → Box2 → Bool
+is_near a b = nat_lt b.x (a.x + a.w + 1) && nat_lt a.x (b.x + b.w + 1) && nat_lt b.y (a.y + a.h + 1) && nat_lt a.y (b.y + b.h + 1)

@@ -1,0 +1,27 @@
+-- Candidates for the least of some border faults
+use Rattle.std.specs.Prelude.{◌≢◌, Option, Some, None}
+use Rattle.std.specs.declared.cmp.Ordering.TheVariants.{Greater}
+use Rattle.border_match.specs.BorderFaults.{border_cmp}
+use Rattle.border_match.specs.declared.fault.BorderFault.{BorderFault}
+
+-- the candidate, if there is one, is one of F
+abbrev pub IsSound : (BorderFault → Type 0) → Option BorderFault → Type 0
+IsSound F None = Unit {0}
+IsSound F (Some f) = F f
+
+-- there is a candidate, and it is at most h
+abbrev pub Covers : Option BorderFault → BorderFault → Type 0
+Covers None h = ⊥
+Covers (Some f) h = border_cmp f h ≢ Greater
+
+-- the least of F, or `None` where F is empty
+pub record IsLeast (F : BorderFault → Type 0) (o : Option BorderFault) : Type 0 where
+  pub sound : IsSound F o
+  pub least : (h : BorderFault) → F h → Covers o h
+
+-- A candidate for the least of F becomes another: it is one of F if the old was, what the old was at most the new is at most,
+-- and so are all of F with P
+pub record IsBetter (F P : BorderFault → Type 0) (old new : Option BorderFault) : Type 0 where
+  pub sound : IsSound F old → IsSound F new
+  pub kept : (h : BorderFault) → Covers old h → Covers new h
+  pub covers : (h : BorderFault) → F h → P h → Covers new h

@@ -1,0 +1,30 @@
+-- What the laws of this crate say
+use Rattle.std.specs.Prelude.{◌≡◌, ℕ, ℤ, ◌<◌, ◌%◌, List, Option, Some, None, slice_get, IsTrue}
+use Rattle.circuit.specs.Meaning.{Valuation}
+use Rattle.module_box.specs.Boxes.{in_box, in_halo, Tile}
+use Rattle.certificate.specs.Entries.{Setting, ModuleLines, areas}
+use Rattle.certificate.specs.Rules.{whole}
+use Rattle.certificate.specs.Signals.{is_live}
+use Rattle.border_match.specs.BorderFaults.{halo_signal, edge_signal, IsLeastBorderFault}
+use Rattle.border_match.specs.declared.fault.BorderFault.{BorderFault}
+
+-- a module has one least border fault, or none
+abbrev pub LeastBorderFaultIsUnique : Type 0
+LeastBorderFaultIsUnique = (g : Setting) (ms : List ModuleLines) (i : ℕ) (f h : Option BorderFault) →
+    IsLeastBorderFault g ms i f → IsLeastBorderFault g ms i h → f ≡ h
+
+-- (t, x, y) is an odd time below the steps and a cell of the halo of module i, and module k has the cell
+pub record AreBeside (g : Setting) (ms : List ModuleLines) (i k : ℕ) (m owner : ModuleLines) (t : ℕ) (x y : ℤ) : Type 0 where
+  pub tile : Tile (whole g.size) (areas ms)
+  pub numbered : slice_get ms i ≡ Some m
+  pub owner_numbered : slice_get ms k ≡ Some owner
+  pub odd : t % 2 ≡ 1
+  pub early : t < g.size.steps
+  pub halo : IsTrue (in_halo m.area x y)
+  pub owned : IsTrue (in_box owner.area x y)
+
+-- where module i has no border fault, its halo signal and the owner's edge signal are true under the same valuations
+abbrev pub NoFaultMeansSameSignals : Type 0
+NoFaultMeansSameSignals = (g : Setting) (ms : List ModuleLines) (i k : ℕ) (m owner : ModuleLines) (t : ℕ) (x y : ℤ) (v : Valuation) →
+    IsLeastBorderFault g ms i None → AreBeside g ms i k m owner t x y →
+    is_live v (halo_signal g.circuit m t x y) ≡ is_live v (edge_signal g.circuit owner t x y)

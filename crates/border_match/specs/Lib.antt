@@ -1,0 +1,4 @@
+pub mod BorderFaults
+pub mod Candidates
+pub mod Boards
+pub mod Laws

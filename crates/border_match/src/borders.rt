@@ -1,0 +1,237 @@
+//! The borders of one module.
+ghost use Rattle.std.specs.Prelude.{◌≡◌, ◌≢◌, ◌<◌, ◌↔◌, ◌&&◌, List, length, map, slice_get, IsTrue, Some};
+ghost use Rattle.std.specs.Arc.{arc_value};
+ghost use Rattle.circuit.specs.Meaning.{wires};
+ghost use Rattle.module_box.specs.Boxes.{in_box, in_halo};
+ghost use Rattle.module_box.specs.Locals.{circuit_wire};
+ghost use Rattle.module_box.specs.Tiling.{owner_of};
+ghost use Rattle.certificate.specs.Signals.{IsBelow, renumber_signal};
+ghost use Rattle.border_match.specs.Boards.{Differ, Faults, IsEdgeNamed, IsEdgeNamedAt, IsHeld, IsHeldAt, IsHeldInRow, IsNamed, IsReady, is_near, job_edge, job_halo, jobs_of};
+ghost use Rattle.border_match.specs.Candidates.{IsBetter, IsLeast};
+ghost use Rattle.border_match.specs.declared.fault.BorderFault.{BorderFault};
+
+use crate::fault::{BorderFault, lesser};
+use bbm_rule::Cell;
+use certificate::Job;
+use module_box::{Box2, Event, Owners, Signal};
+use std::sync::Arc;
+
+/// The borders of a module: the layout's rectangle, the number of the module that has each cell of it, the jobs of all modules,
+/// and the job of this one.
+#[derive(Clone, Copy)]
+pub(crate) struct Borders<'a> {
+    pub(crate) whole: Box2,
+    pub(crate) owners: &'a Owners,
+    pub(crate) jobs: &'a [Arc<Job>],
+    pub(crate) job: &'a Job,
+}
+
+// What a module says, by the wires of the circuit in place of its own.
+fn circuit_signal(job: &Job, signal: Signal) -> Signal
+    requires { IsBelow (wires job.now.locals.netlist) signal }
+    ensures { result ≡ renumber_signal (circuit_wire job.now.locals) signal }
+{
+    let locals = job.locals();
+    let _count = locals.wires();
+    match signal {
+        Signal::Zero => Signal::Zero,
+        Signal::One => Signal::One,
+        Signal::Wire(wire) => Signal::Wire(locals.wire(wire).number()),
+    }
+}
+
+// What a module says of a cell of its halo at a time.
+fn halo_signal(job: &Job, time: u32, cell: Cell) -> Signal
+    ensures { result ≡ job_halo job.now time cell.x cell.y }
+{
+    // A job names no wires but its own, as its box tells with it.
+    let _area = job.area();
+    circuit_signal(job, job.halos().at(time, cell))
+}
+
+// What a module says of a cell of its ring at a time.
+fn edge_signal(job: &Job, time: u32, cell: Cell) -> Signal
+    ensures { result ≡ job_edge job.now time cell.x cell.y }
+{
+    let _area = job.area();
+    circuit_signal(job, job.edges().at(time, cell))
+}
+
+// Whether the halo of the one box may reach the other.
+fn are_near(a: Box2, b: Box2) -> bool
+    ensures { result ≡ is_near a b }
+{
+    let left = (b.x as u64) < a.x as u64 + a.w as u64 + 1;
+    let right = (a.x as u64) < b.x as u64 + b.w as u64 + 1;
+    let top = (b.y as u64) < a.y as u64 + a.h as u64 + 1;
+    let bottom = (a.y as u64) < b.y as u64 + b.h as u64 + 1;
+    left & right & top & bottom
+}
+
+impl<'a> Borders<'a> {
+    // The job of the module that has a cell of the rectangle.
+    fn owner(&self, cell: Cell) -> &'a Job
+        requires ready { IsReady self.now }
+        requires inside { IsTrue (in_box self.now.whole cell.x cell.y) }
+        ensures { slice_get (jobs_of self.now) (owner_of self.now.owners.now cell.x cell.y) ≡ Some result.now }
+    {
+        &self.jobs[self.owners.owner(cell)]
+    }
+
+    // Whether the cell is in the module's halo and in the rectangle.
+    fn reaches(&self, cell: Cell) -> bool
+        ensures { result ≡ (in_box self.now.whole cell.x cell.y && in_halo self.now.job.now.area cell.x cell.y) }
+    {
+        self.whole.holds(cell) & self.job.area().in_halo(cell)
+    }
+
+    // Whether the module says another thing of a cell of the rectangle than the module that has it.
+    fn differs(&self, time: u32, cell: Cell) -> bool
+        requires ready { IsReady self.now }
+        requires inside { IsTrue (in_box self.now.whole cell.x cell.y) }
+        ensures { IsTrue result ↔ Differ self.now time cell.x cell.y }
+    {
+        let owner = self.owner(cell);
+        halo_signal(self.job, time, cell) != edge_signal(owner, time, cell)
+    }
+
+    // Whether this is a border fault of the module.
+    fn is_fault(&self, fault: BorderFault) -> bool
+        requires { IsReady self.now }
+        ensures { IsTrue result ↔ Faults self.now fault }
+    {
+        if fault.time % 2 != 1 {
+            return false;
+        }
+        if fault.time >= self.job.steps() {
+            return false;
+        }
+        if !self.reaches(fault.cell) {
+            return false;
+        }
+        self.differs(fault.time, fault.cell)
+    }
+
+    // The lesser of the candidate and the fault, if it is one.
+    fn with_fault(&self, best: Option<BorderFault>, fault: BorderFault) -> Option<BorderFault>
+        requires { IsReady self.now }
+        ensures { IsBetter (Faults self.now) (λ h. h ≡ fault) best result }
+    {
+        if self.is_fault(fault) {
+            return lesser(best, fault);
+        }
+        best
+    }
+
+    // The least of the candidate and the faults that the events name.
+    fn with_events(&self, best: Option<BorderFault>, events: &[Event]) -> Option<BorderFault>
+        requires { IsReady self.now }
+        ensures { IsBetter (Faults self.now) (IsNamed events.now) best result }
+    {
+        let mut least = best;
+        'events: for event in events {
+            let fault = BorderFault {
+                time: event.at.time,
+                cell: event.at.cell,
+            };
+            least = self.with_fault(least, fault);
+        }
+        least
+    }
+
+    // The least of the candidate and the faults that the edges of one module name.
+    fn with_edges_of(&self, best: Option<BorderFault>, number: usize) -> Option<BorderFault>
+        requires ready { IsReady self.now }
+        requires number { number < length self.now.jobs.now }
+        ensures { IsBetter (Faults self.now) (IsEdgeNamedAt number self.now) best result }
+    {
+        let other: &Job = &self.jobs[number];
+        if !are_near(self.job.area(), other.area()) {
+            return best;
+        }
+        self.with_events(best, other.edges().events())
+    }
+
+    // The least of the candidate and the faults that the edges of the modules name.
+    fn with_edges(&self, best: Option<BorderFault>) -> Option<BorderFault>
+        requires { IsReady self.now }
+        ensures { IsBetter (Faults self.now) (IsEdgeNamed self.now) best result }
+    {
+        let mut least = best;
+        'modules: for number in 0..self.jobs.len() {
+            least = self.with_edges_of(least, number);
+        }
+        least
+    }
+
+    // The lesser of the candidate and the first fault of a cell.
+    fn with_first_at(&self, best: Option<BorderFault>, cell: Cell) -> Option<BorderFault>
+        requires { IsReady self.now }
+        ensures { IsBetter (Faults self.now) (λ h. h.cell ≡ cell) best result }
+    {
+        'times: for time in 0..self.job.steps() {
+            let fault = BorderFault { time, cell };
+            if self.is_fault(fault) {
+                return lesser(best, fault);
+            }
+        }
+        best
+    }
+
+    // The lesser of the candidate and the first fault of a cell, if halo and edge signal differ where no line names a time. No
+    // line names time 0, so those signals are found there. The first fault is soon met, since only a time that a line names for
+    // the cell can be without one.
+    fn with_cell(&self, best: Option<BorderFault>, cell: Cell) -> Option<BorderFault>
+        requires { IsReady self.now }
+        ensures { IsBetter (Faults self.now) (IsHeldAt self.now cell) best result }
+    {
+        if !self.reaches(cell) {
+            return best;
+        }
+        if !self.differs(0, cell) {
+            return best;
+        }
+        self.with_first_at(best, cell)
+    }
+
+    // The least of the candidate and the faults of those cells of a row for which such signals differ.
+    fn with_row(&self, best: Option<BorderFault>, y: u32) -> Option<BorderFault>
+        requires ready { IsReady self.now }
+        requires row { y < 1024 }
+        ensures { IsBetter (Faults self.now) (IsHeldInRow self.now y) best result }
+    {
+        let area = self.job.area();
+        let mut least = best;
+        'columns: for x in area.x.saturating_sub(1)..area.x + area.w + 1 {
+            let cell = Cell {
+                x: x as i32,
+                y: y as i32,
+            };
+            least = self.with_cell(least, cell);
+        }
+        least
+    }
+
+    // The least of the candidate and the faults of those cells of the halo for which such signals differ.
+    fn with_halo(&self, best: Option<BorderFault>) -> Option<BorderFault>
+        requires { IsReady self.now }
+        ensures { IsBetter (Faults self.now) (IsHeld self.now) best result }
+    {
+        let area = self.job.area();
+        let mut least = best;
+        'rows: for y in area.y.saturating_sub(1)..area.y + area.h + 1 {
+            least = self.with_row(least, y);
+        }
+        least
+    }
+
+    // The module's least border fault.
+    pub(crate) fn least_fault(&self) -> Option<BorderFault>
+        requires { IsReady self.now }
+        ensures { IsLeast (Faults self.now) result }
+    {
+        let by_halo = self.with_events(None, self.job.halos().events());
+        let by_edges = self.with_edges(by_halo);
+        self.with_halo(by_edges)
+    }
+}

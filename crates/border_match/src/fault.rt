@@ -1,0 +1,46 @@
+//! Border faults, and their order.
+ghost use Rattle.std.specs.Prelude.{◌≡◌, ◌⊎◌, Some};
+ghost use Rattle.border_match.specs.BorderFaults.{border_cmp};
+ghost use Rattle.border_match.specs.Candidates.{Covers};
+ghost use Rattle.border_match.specs.declared.fault.BorderFault.{BorderFault};
+
+use bbm_rule::Cell;
+use module_box::compare_cells;
+use std::cmp::Ordering;
+
+/// A time and a cell at which a module does not say the same as the module that has the cell: the halo signal of the one and the
+/// edge signal of the other are neither the same constant nor the same wire of the circuit.
+#[derive(Clone, Copy, Debug, PartialEq, Eq)]
+pub struct BorderFault {
+    /// Odd, and below the layout's steps.
+    pub time: u32,
+    /// In the halo of the module, and in the layout's rectangle.
+    pub cell: Cell,
+}
+
+impl BorderFault {
+    /// The order of border faults: by time, y and x.
+    #[tactic(auto, unfolding(crate::specs::BorderFaults::border_cmp))]
+    pub fn compare(self, other: BorderFault) -> Ordering
+        ensures { result ≡ border_cmp self other }
+    {
+        self.time
+            .cmp(&other.time)
+            .then(compare_cells(self.cell, other.cell))
+    }
+}
+
+// The lesser of a candidate, if there is one, and a fault.
+pub(crate) fn lesser(best: Option<BorderFault>, fault: BorderFault) -> Option<BorderFault>
+    ensures kept { (h : BorderFault) → Covers best h → Covers result h }
+    ensures covered { Covers result fault }
+    ensures one { (result ≡ best) ⊎ (result ≡ Some fault) }
+{
+    match best {
+        Some(other) => match other.compare(fault) {
+            Ordering::Greater => Some(fault),
+            _ => best,
+        },
+        None => Some(fault),
+    }
+}

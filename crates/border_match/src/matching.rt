@@ -1,0 +1,83 @@
+//! The border faults of the modules of a certificate.
+ghost use Rattle.std.specs.Prelude.{◌≡◌, IfOk, map};
+ghost use Rattle.std.specs.Arc.{arc_value};
+ghost use Rattle.circuit.specs.Bridge.{circuit_of};
+ghost use Rattle.certificate.specs.Entries.{areas, modules_of};
+ghost use Rattle.certificate.specs.Grammars.{setting_of};
+ghost use Rattle.certificate.specs.Jobs.{AreJobsOf};
+ghost use Rattle.module_box.specs.Tiling.{AreOwners};
+ghost use Rattle.border_match.specs.BorderFaults.{AreBorderFaultsOf};
+
+use crate::borders::Borders;
+use crate::fault::BorderFault;
+use certificate::{Cert, Job};
+use module_box::{Box2, Owners, TileFault, owner_table};
+use std::alloc::{AllocError, Global};
+use std::sync::Arc;
+
+// The boxes of the modules.
+fn areas_of(alloc: Global, cert: &Cert) -> Result<Vec<Box2>, AllocError>
+    ensures { IfOk result (λ boxes. boxes.items ≡ areas (modules_of cert.now.entries)) }
+{
+    let mut areas = Vec::new(alloc);
+    'modules: for number in 0..cert.modules() {
+        areas.push(cert.counts(number).area)?;
+    }
+    Ok(areas)
+}
+
+// Which module has each cell of the layout's rectangle.
+fn owners_of(alloc: Global, cert: &Cert) -> Result<Owners, AllocError>
+    ensures width { IfOk result (λ o. o.width ≡ cert.now.layout.size.w) }
+    ensures height { IfOk result (λ o. o.height ≡ cert.now.layout.size.h) }
+    ensures owners { IfOk result (λ o. AreOwners o (areas (modules_of cert.now.entries))) }
+{
+    let _count = cert.modules();
+    let size = cert.size();
+    let areas = areas_of(alloc, cert)?;
+    match owner_table(alloc, size.w, size.h, &areas) {
+        Ok(owners) => Ok(owners),
+        Err(fault) => {
+            // The boxes of a certificate tile the rectangle.
+            prove!(matches!(&fault, TileFault::Memory));
+            Err(AllocError)
+        }
+    }
+}
+
+/// The least border fault of each module of the certificate, by time, then y, then x, or `None` where the module has none; one
+/// for each module, in their order. `specs/BorderFaults.antt` says what a border fault is.
+///
+/// The jobs are the certificate's, as [`Cert::jobs`](certificate::Cert::jobs) makes them.
+///
+/// `AllocError` is want of memory, which is taken for the modules' boxes, a table of the rectangle's blocks of two by two cells,
+/// and the answer.
+pub fn match_borders(
+    alloc: Global,
+    cert: &Cert,
+    jobs: &[Arc<Job>],
+) -> Result<Vec<Option<BorderFault>>, AllocError>
+    requires { AreJobsOf (circuit_of cert.now.circuit) cert.now.layout (modules_of cert.now.entries) (map arc_value jobs.now) }
+    ensures { IfOk result (λ faults. AreBorderFaultsOf (setting_of cert.now.circuit cert.now.layout) (modules_of cert.now.entries) faults.items) }
+{
+    let _count = cert.modules();
+    let size = cert.size();
+    let whole = Box2 {
+        x: 0,
+        y: 0,
+        w: size.w,
+        h: size.h,
+    };
+    let owners = owners_of(alloc, cert)?;
+    let mut faults = Vec::new(alloc);
+    'jobs: for job in jobs {
+        let borders = Borders {
+            whole,
+            owners: &owners,
+            jobs,
+            job,
+        };
+        faults.push(borders.least_fault())?;
+    }
+    Ok(faults)
+}
