@@ -3,3 +3,5 @@ mod OneAnswer
 mod InNames
 mod OneValue
 pub mod ModuleText
+mod Bundles
+mod Runs

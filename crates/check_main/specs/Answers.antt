@@ -1,16 +1,12 @@
 -- What is common to the answers of all commands.
-use Rattle.std.specs.Prelude.{◌≡◌, ℕ, List, [], ◌∷◌, Result, Ok, Err, codes}
-use Rattle.std.specs.Fmt.{decimal}
+use Rattle.std.specs.Prelude.{◌≡◌, ℕ, List, Result, Ok, Err}
 use Rattle.section_text.specs.Words.{rest_of}
-use Rattle.section_text.specs.Spelling.{line_text}
 use Rattle.section_text.specs.Sections.{section_then, finished}
 use Rattle.section_text.specs.declared.fault.Refusal.{Refusal}
 use Rattle.pattern.specs.Assign.{assign_grammar}
+use Rattle.report.specs.ReportText.{refusal_line}
 use Rattle.check_main.specs.declared.outcome.Outcome.{Outcome}
 use Rattle.check_main.specs.declared.outcome.Outcome.TheVariants.{Refused}
-
-abbrev pub refusal_line : Refusal → List ℕ
-refusal_line r = line_text (codes "refused") (decimal r.line ∷ decimal r.code ∷ [])
 
 -- What is asked is answered as the command says, and a refusal by its line.
 abbrev pub Answered : {A : Type 0} → (A → List ℕ → Outcome → Type 0) → Result A Refusal → List ℕ → Outcome → Type 0

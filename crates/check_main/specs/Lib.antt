@@ -8,4 +8,6 @@ pub mod Laws
 pub mod ValueText
 pub mod Commands
 pub mod BundleText
+pub mod BundleReading
+pub mod CheckText
 pub mod ModulesText

@@ -1,10 +1,7 @@
 -- What `modules` answers to a text: a line for each module of a bundle's certificate, or the refusal of the text.
-use Rattle.std.specs.Prelude.{◌≡◌, ℕ, ◌+◌, List, [], ◌∷◌, ◌++◌, map, codes, Result, Ok, Err}
+use Rattle.std.specs.Prelude.{◌≡◌, ℕ, ◌+◌, List, [], ◌∷◌, ◌++◌, map, codes}
 use Rattle.std.specs.Fmt.{decimal}
-use Rattle.section_text.specs.Section.{Fails}
 use Rattle.section_text.specs.Spelling.{line_text}
-use Rattle.section_text.specs.declared.fault.ReadFault.{ReadFault}
-use Rattle.section_text.specs.declared.fault.Refusal.{Refusal}
 use Rattle.certificate.specs.Entries.{counts_of, modules_of}
 use Rattle.module_box.specs.declared.boxes.Box2.{Box2}
 use Rattle.certificate.specs.declared.entry.Counts.{Counts}
@@ -40,13 +37,3 @@ pub record SaysModules (bundle : Bundle) (output : List ℕ) (outcome : Outcome)
 -- what `modules` writes for a text, and how it ends
 abbrev pub IsModulesOf : List ℕ → List ℕ → Outcome → Type 0
 IsModulesOf text output outcome = Answered SaysModules (bundle_of text) output outcome
-
--- what comes of reading a bundle: the lines of its modules, or the refusal, or want of memory
-pub record ArePrinted (read : Result Bundle Refusal) (output : List ℕ) : Type 0 where
-  pub bundle : Bundle
-  pub was_read : read ≡ Ok bundle
-  pub lines : output ≡ module_lines 0 (map counts_of (modules_of bundle.entries))
-
-abbrev pub PrintsModules : {V : Type 0} → (V → List ℕ) → Result Bundle Refusal → Result V ReadFault → Type 0
-PrintsModules bytes read (Ok out) = ArePrinted read (bytes out)
-PrintsModules bytes read (Err fault) = Fails fault read

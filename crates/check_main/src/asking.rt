@@ -1,12 +1,12 @@
 //! What the commands over two sections have in common.
-ghost use Rattle.std.specs.Prelude.{◌≡◌, true, None, IfOk};
+ghost use Rattle.std.specs.Prelude.{◌≡◌, true, None};
 ghost use Rattle.section_text.specs.FeedState.{ahead};
 ghost use Rattle.section_text.specs.Section.{Gives};
-ghost use Rattle.check_main.specs.Answers.{names_read, refusal_line};
+ghost use Rattle.check_main.specs.Answers.{names_read};
 
 use pattern::read_assign;
-use section_text::{Feed, Name, ReadFault, Refusal};
-use std::alloc::{AllocError, Global};
+use section_text::{Feed, Name, ReadFault};
+use std::alloc::Global;
 
 /// Reads which of the names are on, and the end of the text.
 pub(crate) fn read_names(
@@ -25,12 +25,4 @@ pub(crate) fn read_names(
             Ok(()) => Ok(on),
         },
     }
-}
-
-/// The line for a refusal.
-pub(crate) fn refusal_text(alloc: Global, refusal: Refusal) -> Result<Vec<u8>, AllocError>
-    ensures { IfOk result (λ text. text.items ≡ refusal_line refusal) }
-{
-    let line = format!(in alloc; "refused {} {}\n", refusal.line, refusal.code)?;
-    Ok(line.into_bytes())
 }

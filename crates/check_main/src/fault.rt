@@ -1,5 +1,7 @@
 //! Why a call over a reader and a writer gave no outcome.
 
+use audit_core::Unfinished;
+use std::alloc::AllocError;
 use thiserror::Error;
 
 /// The text of each is what the program says of it.
@@ -16,4 +18,32 @@ pub enum CheckFault {
     TooLong,
     #[error("out of memory")]
     Memory,
+    /// Some module was not run.
+    #[error("findings missing")]
+    Missing,
+}
+
+impl From<AllocError> for CheckFault {
+    ghost use Rattle.std.specs.Prelude.{◌≡◌};
+    ghost use Rattle.check_main.specs.declared.fault.CheckFault.TheVariants.{Memory};
+
+    ghost from_gives = { λ _ fault. fault ≡ Memory };
+
+    fn from(_: AllocError) -> CheckFault {
+        CheckFault::Memory
+    }
+}
+
+impl From<Unfinished> for CheckFault {
+    ghost use Rattle.std.specs.Prelude.{◌≡◌};
+    ghost use Rattle.check_main.specs.Status.{fault_of};
+
+    ghost from_gives = { λ unfinished fault. fault ≡ fault_of unfinished };
+
+    fn from(unfinished: Unfinished) -> CheckFault {
+        match unfinished {
+            Unfinished::Missing(_) => CheckFault::Missing,
+            Unfinished::Memory => CheckFault::Memory,
+        }
+    }
 }

@@ -6,7 +6,7 @@ ghost use Rattle.check_main.specs.Commands.{IsAnswerTo};
 ghost use Rattle.check_main.specs.Status.{status_for, line_for, Says};
 ghost use Rattle.check_main.specs.Stream.{Answers, BreaksOff, GivesTooMuch};
 
-use crate::stream::{modules_stream, run_stream, value_stream, write_whole};
+use crate::stream::{check_stream, modules_stream, run_stream, value_stream, write_whole};
 use crate::{CheckFault, Outcome, Sink, Source};
 use clap::Error;
 use clap::error::ErrorKind;
@@ -29,11 +29,11 @@ const NOT_DECIDED: u8 = 5;
 /// Does what the words ask for and gives the exit status. The words have no program's name.
 ///
 /// - 0: the command is done, or help was asked for and written
-/// - 1: a ball left the rectangle
+/// - 1: the verdict is no, or a ball left the rectangle
 /// - 2: the words were refused
 /// - 3: the text was refused, and `writer` was told the line and why
 /// - 4: `reader` or `writer` failed, or the text is longer than 16 MiB
-/// - 5: memory ran out
+/// - 5: memory ran out, or the finding of a module is missing
 ///
 /// What is wrong with the words, and a line for a status of 4 or 5, is said to `errors`, and that a write to
 /// it fails changes nothing.
@@ -82,7 +82,9 @@ pub fn program<'a, R: Source, W: Sink, E: Sink>(
         (W.held writer.old) (W.held writer.new) }
 
     ensures not_decided { result ≡ 5 → (writer.new ≡ writer.old)
-        × Says (E.held errors.old) (E.held errors.new) (E.has_failed errors.new) CheckFault.Memory }
+        × (Says (E.held errors.old) (E.held errors.new) (E.has_failed errors.new) CheckFault.Memory
+        ⊎ ((asked_by (map (λ s. s.now) words.entry.now) ≡ Request.Check)
+        × Says (E.held errors.old) (E.held errors.new) (E.has_failed errors.new) CheckFault.Missing)) }
 
     // Where an answer or help was written, nothing is said.
     ensures quiet { result ≢ 2 → result ≢ 4 → result ≢ 5 → errors.new ≡ errors.old }
@@ -116,8 +118,10 @@ fn serve<R: Source, W: Sink>(
         BreaksOff (IsAnswerTo request) (R.left reader.old) (R.left reader.new)
         (W.held writer.old) (W.held writer.new) }
     ensures unwritten { IfErr result (λ fault. fault ≢ CheckFault.Write → writer.new ≡ writer.old) }
+    ensures missing { IsErrOf result CheckFault.Missing → request ≡ Request.Check }
 {
     match request {
+        Request::Check => check_stream(alloc, reader, writer),
         Request::Run => run_stream(alloc, reader, writer),
         Request::Value => value_stream(alloc, reader, writer),
         Request::Modules => modules_stream(alloc, reader, writer),
@@ -138,7 +142,7 @@ fn status_of<E: Sink>(ended: Result<Outcome, CheckFault>, errors: &mut E) -> u8
             say(errors, fault);
             match fault {
                 CheckFault::Read | CheckFault::Write | CheckFault::TooLong => DEVICE_FAULT,
-                CheckFault::Memory => NOT_DECIDED,
+                CheckFault::Memory | CheckFault::Missing => NOT_DECIDED,
             }
         }
     }
@@ -207,5 +211,6 @@ fn line_for(fault: CheckFault) -> &'static str
         CheckFault::Write => "bbmcheck: write fault\n",
         CheckFault::TooLong => "bbmcheck: text too long\n",
         CheckFault::Memory => "bbmcheck: out of memory\n",
+        CheckFault::Missing => "bbmcheck: findings missing\n",
     }
 }

@@ -2,6 +2,8 @@
 #![tactic(auto)]
 
 mod asking;
+mod bundle;
+mod check;
 mod device;
 mod fault;
 mod front;
@@ -16,7 +18,7 @@ pub use device::{Over, Sink, Source};
 pub use fault::CheckFault;
 pub use front::program;
 pub use outcome::Outcome;
-pub use stream::{modules_stream, run_stream, value_stream};
+pub use stream::{check_stream, modules_stream, run_stream, value_stream};
 
 #[cfg(test)]
 mod run_tests;

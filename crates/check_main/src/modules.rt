@@ -1,19 +1,17 @@
 //! Lists the modules of a bundle's certificate.
-ghost use Rattle.std.specs.Prelude.{◌≡◌, ◌++◌, [], ◌∷◌, None, true, map, OnOk, IfOk};
+ghost use Rattle.std.specs.Prelude.{◌≡◌, ◌++◌, [], ◌∷◌, map, OnOk, IfErr, IfOk};
 ghost use Rattle.section_text.specs.Spelling.{spaced};
 ghost use Rattle.std.specs.Fmt.{decimal};
 ghost use Rattle.std.specs.List.{flat_map};
 ghost use Rattle.certificate.specs.Entries.{counts_of, modules_of};
-ghost use Rattle.check_main.specs.BundleText.{bundle_of};
-ghost use Rattle.check_main.specs.ModulesText.{IsModulesOf, PrintsModules, area_words, count_words, module_line, module_lines};
+ghost use Rattle.check_main.specs.BundleReading.{bundle_by};
+ghost use Rattle.check_main.specs.ModulesText.{SaysModules, area_words, count_words, module_line, module_lines};
 
-use crate::asking::refusal_text;
+use crate::CheckFault;
 use crate::outcome::{Answered, Outcome};
-use certificate::{Cert, Counts, read_certificate};
-use circuit::{port_names, read_circuit};
+use certificate::{Cert, Counts};
 use module_box::Box2;
-use pattern::read_layout;
-use section_text::{Feed, ReadFault, print_number, print_word};
+use section_text::{print_number, print_word};
 use std::alloc::{AllocError, Global};
 
 // A space and a number.
@@ -86,53 +84,14 @@ fn print_modules(alloc: Global, cert: &Cert) -> Result<Vec<u8>, AllocError>
     Ok(out)
 }
 
-// Reads a bundle up to the end of the text, and prints the lines of its modules.
-fn read_and_print(alloc: Global, feed: &mut Feed) -> Result<Vec<u8>, ReadFault>
-    requires closed { feed.old.closed ≡ true }
-    requires unread { feed.old.taken ≡ 0 }
-    requires going { feed.old.stop ≡ None }
-    ensures { PrintsModules (λ out. out.items) (bundle_of feed.old.text) result }
+/// Lists the modules of a certificate.
+pub(crate) fn list_modules(alloc: Global, cert: &Cert<'_>) -> Result<Answered, CheckFault>
+    ensures says { IfOk result (λ answered. SaysModules (bundle_by cert.now) answered.output.items answered.outcome) }
+    ensures memory { IfErr result (λ fault. fault ≡ CheckFault.Memory) }
 {
-    let circuit = match read_circuit(alloc, feed) {
-        Err(fault) => return Err(fault),
-        Ok(circuit) => circuit,
-    };
-    let Ok(ports) = port_names(alloc, &circuit) else {
-        return Err(ReadFault::Memory);
-    };
-    let layout = match read_layout(alloc, feed, &ports) {
-        Err(fault) => return Err(fault),
-        Ok(layout) => layout,
-    };
-    let cert = match read_certificate(alloc, feed, &circuit, &layout) {
-        Err(fault) => return Err(fault),
-        Ok(cert) => cert,
-    };
-    if let Err(fault) = feed.finish() {
-        return Err(fault);
-    }
-    match print_modules(alloc, &cert) {
-        Ok(out) => Ok(out),
-        Err(_) => Err(ReadFault::Memory),
-    }
-}
-
-/// Answers a text that is read whole.
-pub(crate) fn modules_text(alloc: Global, feed: &mut Feed) -> Result<Answered, AllocError>
-    requires closed { feed.old.closed ≡ true }
-    requires unread { feed.old.taken ≡ 0 }
-    requires going { feed.old.stop ≡ None }
-    ensures { IfOk result (λ answered. IsModulesOf feed.old.text answered.output.items answered.outcome) }
-{
-    match read_and_print(alloc, feed) {
-        Err(ReadFault::Memory) => Err(AllocError),
-        Err(ReadFault::Refused(refusal)) => Ok(Answered {
-            outcome: Outcome::Refused,
-            output: refusal_text(alloc, refusal)?,
-        }),
-        Ok(output) => Ok(Answered {
-            outcome: Outcome::Yes,
-            output,
-        }),
-    }
+    let output = print_modules(alloc, cert)?;
+    Ok(Answered {
+        outcome: Outcome::Yes,
+        output,
+    })
 }

@@ -3,9 +3,9 @@
 /// How a command ended whose answer was written.
 #[derive(Clone, Copy, Debug, PartialEq, Eq)]
 pub enum Outcome {
-    /// The command is done.
+    /// The verdict is yes, or another command is done.
     Yes,
-    /// A ball left the rectangle.
+    /// The verdict is no, or a ball left the rectangle.
     No,
     /// The text was refused.
     Refused,

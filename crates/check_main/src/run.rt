@@ -7,10 +7,11 @@ ghost use Rattle.section_text.specs.Spelling.{line_text};
 ghost use Rattle.pattern.specs.Grammars.{layout_value};
 ghost use Rattle.check_main.specs.RunText.{IsRunOf, SaysRunEnd, cell_line, end_outcome, end_text, run_asked};
 
-use crate::asking::{read_names, refusal_text};
+use crate::asking::read_names;
 use crate::outcome::{Answered, Outcome};
 use bbm_rule::Cell;
 use pattern::{Layout, RunEnd, read_layout, run_plain};
+use report::refusal_text;
 use section_text::{Feed, Name, PortNames, ReadFault};
 use std::alloc::{AllocError, Global};
 

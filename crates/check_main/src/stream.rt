@@ -1,12 +1,13 @@
 //! From a reader's bytes to a writer's.
 ghost use Rattle.std.specs.Prelude.{◌≡◌, ◌≢◌, true, false, IfOk, IfErr, IsErrOf, OnOk};
 ghost use Rattle.std.specs.Io.KnownBytes.{Appends};
+ghost use Rattle.check_main.specs.CheckText.{IsReportOf};
 ghost use Rattle.check_main.specs.ModulesText.{IsModulesOf};
 ghost use Rattle.check_main.specs.RunText.{IsRunOf};
 ghost use Rattle.check_main.specs.ValueText.{IsValueOf};
 ghost use Rattle.check_main.specs.Stream.{Answers, BreaksOff, ReadsAll, GivesTooMuch, TakesPrefix, whole_text};
 
-use crate::modules::modules_text;
+use crate::bundle::{Question, bundle_text};
 use crate::outcome::Answered;
 use crate::run::run_text;
 use crate::value::value_text;
@@ -19,6 +20,32 @@ const BLOCK: usize = 65_536;
 
 // Each read but the last gives a byte, and a text has at most 16 MiB.
 const MOST_READS: usize = 16_777_217;
+
+/// Checks a bundle: reads the whole text, at most 16 MiB, runs the modules of its certificate one after the other, and writes the
+/// report once it is complete. `Yes` and `No` are the verdict.
+pub fn check_stream<R: Source, W: Sink>(
+    alloc: Global,
+    reader: &mut R,
+    writer: &mut W,
+) -> Result<Outcome, CheckFault>
+    requires reader_works { R.has_failed reader.old ≡ false }
+    requires writer_works { W.has_failed writer.old ≡ false }
+    ensures answered { IfOk result (Answers IsReportOf (R.left reader.old) (R.left reader.new)
+        (W.held writer.old) (W.held writer.new)) }
+    ensures works { OnOk result ((R.has_failed reader.new ≡ false) × (W.has_failed writer.new ≡ false)) }
+    ensures read { IsErrOf result CheckFault.Read → R.has_failed reader.new ≡ true }
+    ensures too_long { IsErrOf result CheckFault.TooLong →
+        GivesTooMuch (R.left reader.old) (R.left reader.new) }
+    ensures write { IsErrOf result CheckFault.Write → W.has_failed writer.new ≡ true }
+    ensures prefix { IsErrOf result CheckFault.Write →
+        BreaksOff IsReportOf (R.left reader.old) (R.left reader.new)
+        (W.held writer.old) (W.held writer.new) }
+    ensures unwritten { IfErr result (λ fault. fault ≢ CheckFault.Write → writer.new ≡ writer.old) }
+{
+    let mut feed = read_text(alloc, reader)?;
+    let answered = bundle_text(alloc, &mut feed, Question::Report)?;
+    write_answer(writer, &answered)
+}
 
 /// Runs a layout under an assignment: reads the whole text, at most 16 MiB, and writes the answer once it is
 /// complete. `No` is a ball that leaves the rectangle.
@@ -40,6 +67,7 @@ pub fn run_stream<R: Source, W: Sink>(
         BreaksOff IsRunOf (R.left reader.old) (R.left reader.new)
         (W.held writer.old) (W.held writer.new) }
     ensures unwritten { IfErr result (λ fault. fault ≢ CheckFault.Write → writer.new ≡ writer.old) }
+    ensures not_missing { IfErr result (λ fault. fault ≢ CheckFault.Missing) }
 {
     let mut feed = read_text(alloc, reader)?;
     let answered = run_text(alloc, &mut feed).map_err(|_| CheckFault::Memory)?;
@@ -66,6 +94,7 @@ pub fn value_stream<R: Source, W: Sink>(
         BreaksOff IsValueOf (R.left reader.old) (R.left reader.new)
         (W.held writer.old) (W.held writer.new) }
     ensures unwritten { IfErr result (λ fault. fault ≢ CheckFault.Write → writer.new ≡ writer.old) }
+    ensures not_missing { IfErr result (λ fault. fault ≢ CheckFault.Missing) }
 {
     let mut feed = read_text(alloc, reader)?;
     let answered = value_text(alloc, &mut feed).map_err(|_| CheckFault::Memory)?;
@@ -92,9 +121,10 @@ pub fn modules_stream<R: Source, W: Sink>(
         BreaksOff IsModulesOf (R.left reader.old) (R.left reader.new)
         (W.held writer.old) (W.held writer.new) }
     ensures unwritten { IfErr result (λ fault. fault ≢ CheckFault.Write → writer.new ≡ writer.old) }
+    ensures not_missing { IfErr result (λ fault. fault ≢ CheckFault.Missing) }
 {
     let mut feed = read_text(alloc, reader)?;
-    let answered = modules_text(alloc, &mut feed).map_err(|_| CheckFault::Memory)?;
+    let answered = bundle_text(alloc, &mut feed, Question::Modules)?;
     write_answer(writer, &answered)
 }
 
@@ -108,6 +138,7 @@ fn read_text<R: Source>(alloc: Global, reader: &mut R) -> Result<Feed, CheckFaul
     ensures too_long { IsErrOf result CheckFault.TooLong →
         GivesTooMuch (R.left reader.old) (R.left reader.new) }
     ensures no_write { IfErr result (λ fault. fault ≢ CheckFault.Write) }
+    ensures not_missing { IfErr result (λ fault. fault ≢ CheckFault.Missing) }
 {
     let mut feed = Feed::new(alloc);
     let mut block = [0u8; BLOCK];

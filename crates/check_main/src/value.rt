@@ -4,10 +4,11 @@ ghost use Rattle.section_text.specs.Section.{Gives};
 ghost use Rattle.circuit.specs.Bridge.{input_names, netlist_of};
 ghost use Rattle.check_main.specs.ValueText.{IsValueOf, SaysValues, value_asked};
 
-use crate::asking::{read_names, refusal_text};
+use crate::asking::read_names;
 use crate::outcome::{Answered, Outcome};
 use circuit::{Circuit, port_names, print_values, read_circuit};
 use pattern::are_on;
+use report::refusal_text;
 use section_text::{Feed, Name, PortNames, ReadFault};
 use std::alloc::{AllocError, Global};
 

@@ -12,6 +12,8 @@ use std::alloc::{AllocError, Global};
 /// A command.
 #[derive(Clone, Copy, Debug, PartialEq, Eq)]
 pub enum Request {
+    /// Checks a bundle: a circuit, a layout and a certificate.
+    Check,
     /// Runs a layout under an assignment.
     Run,
     /// Evaluates a circuit under an assignment.
@@ -28,6 +30,7 @@ pub fn read_words<'a>(alloc: Global, words: &'a [&'a str]) -> Result<Request, Er
 {
     let matches = command(alloc)?.try_get_matches_from(words)?;
     let request = match matches.subcommand_name() {
+        Some("check") => Request::Check,
         Some("value") => Request::Value,
         Some("modules") => Request::Modules,
         _ => Request::Run,
@@ -39,6 +42,7 @@ fn command<'a>(alloc: Global) -> Result<Command<'a>, AllocError>
     ensures { IfOk result (λ command. app_of command ≡ bbmcheck) }
 {
     top(alloc)?
+        .subcommand(plain(alloc, "check", "Checks a layout against its circuit by a certificate"))?
         .subcommand(plain(alloc, "run", "Runs a layout under an assignment"))?
         .subcommand(plain(alloc, "value", "Evaluates a circuit under an assignment"))?
         .subcommand(plain(alloc, "modules", "Lists the modules of a certificate"))
@@ -81,7 +85,8 @@ mod tests {
         assert!(rt; kind_of(rt.alloc(), &[]) == Some(ErrorKind::MissingSubcommand));
         assert!(rt; read_words(rt.alloc(), &["value"])? == Request::Value);
         assert!(rt; read_words(rt.alloc(), &["modules"])? == Request::Modules);
-        assert!(rt; kind_of(rt.alloc(), &["check"]) == Some(ErrorKind::InvalidSubcommand));
+        assert!(rt; read_words(rt.alloc(), &["check"])? == Request::Check);
+        assert!(rt; kind_of(rt.alloc(), &["migrate"]) == Some(ErrorKind::InvalidSubcommand));
         assert!(rt; kind_of(rt.alloc(), &["run", "x"]) == Some(ErrorKind::UnknownArgument));
         assert!(rt; kind_of(rt.alloc(), &["--help"]) == Some(ErrorKind::DisplayHelp));
         Ok(())

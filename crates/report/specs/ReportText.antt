@@ -1,0 +1,57 @@
+-- What is written of a bundle: the line for its refusal, or the report on its certificate
+use Rattle.std.specs.Prelude.{ℕ, List, [], ◌∷◌, ◌++◌, length, codes}
+use Rattle.std.specs.Fmt.{decimal, signed_decimal}
+use Rattle.std.specs.List.{flat_map}
+use Rattle.hex.specs.Hex.{encode_lower}
+use Rattle.sha2.specs.Sha256.{sha256}
+use Rattle.section_text.specs.Spelling.{line_text}
+use Rattle.section_text.specs.declared.fault.Refusal.{Refusal}
+use Rattle.certificate.specs.Entries.{modules_of}
+use Rattle.certificate.specs.Grammars.{CertState}
+use Rattle.certificate.specs.Text.{certificate_text}
+use Rattle.local_run.specs.declared.fault.Fault.{Fault}
+use Rattle.local_run.specs.declared.fault.Kind.{Kind}
+use Rattle.local_run.specs.declared.fault.Kind.TheVariants.{Edge, Stop, End}
+use Rattle.border_match.specs.declared.fault.BorderFault.{BorderFault}
+use Rattle.audit_core.specs.declared.verdict.ReportLine.{ReportLine}
+use Rattle.audit_core.specs.declared.verdict.ReportLine.TheVariants.{Local, Border}
+use Rattle.audit_core.specs.declared.verdict.Verdict.{Verdict}
+use Rattle.audit_core.specs.declared.verdict.Verdict.TheVariants.{Yes, No}
+
+-- the line for a refusal: `refused`, the line of the text, and the code
+abbrev pub refusal_line : Refusal → List ℕ
+refusal_line r = line_text (codes "refused") (decimal r.line ∷ decimal r.code ∷ [])
+
+-- the word for a kind of fault
+abbrev pub kind_word : Kind → List ℕ
+kind_word Edge = codes "edge"
+kind_word Stop = codes "stop"
+kind_word End = codes "end"
+
+-- a fault of a job: its kind, its time, its cell and its assignment
+abbrev pub fault_words : Fault → List (List ℕ)
+fault_words f = kind_word f.kind ∷ decimal f.time ∷ signed_decimal f.cell.x ∷ signed_decimal f.cell.y ∷ decimal f.assignment ∷ []
+
+-- a border fault: its time and its cell
+abbrev pub border_words : BorderFault → List (List ℕ)
+border_words f = decimal f.time ∷ signed_decimal f.cell.x ∷ signed_decimal f.cell.y ∷ []
+
+-- the line for a fault of a module
+abbrev pub fault_line : ReportLine → List ℕ
+fault_line (Local m f) = line_text (codes "local") (decimal m ∷ fault_words f)
+fault_line (Border m f) = line_text (codes "border") (decimal m ∷ border_words f)
+
+-- `yes`, or `no` and then the lines for the faults
+abbrev pub verdict_lines : Verdict → List ℕ
+verdict_lines Yes = line_text (codes "verdict") (codes "yes" ∷ [])
+verdict_lines (No lines) = line_text (codes "verdict") (codes "no" ∷ []) ++ flat_map fault_line lines.items
+
+-- before the verdict: the version of reports, the certificate's digest in lower case, and how many modules it has
+abbrev pub opening_lines : List ℕ → ℕ → List ℕ
+opening_lines digest modules =
+    line_text (codes "bbmcheck") (codes "1" ∷ []) ++ line_text (codes "certificate") (encode_lower digest ∷ [])
+    ++ line_text (codes "modules") (decimal modules ∷ [])
+
+-- the report on a certificate
+unfoldable pub report_lines : CertState → Verdict → List ℕ
+report_lines c v = opening_lines (sha256 (certificate_text c)) (length (modules_of c.entries)) ++ verdict_lines v
