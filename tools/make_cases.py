@@ -1,5 +1,5 @@
 #!/usr/bin/env python3
-"""make_cases.py FOLDER.. --stage K [--commands A,B] [--also NAME].. [--largest BYTES]
+"""make_cases.py FOLDER.. --stage K [--commands A,B] [--also NAME].. [--largest BYTES] [--bundles FOLDER [--without WORD,WORD]]
     > crates/worked_rows/data/cases.txt
 
 Writes case folders as one file of cases, in the form that crates/worked_rows/src/cases.rt tells.
@@ -9,9 +9,12 @@ output), status (left out: 0), since and until (left out: 1, and for ever) and s
 A case is taken where K lies between its since and its until, and the first of its words is one of the
 commands or it is about words alone: status 2, or help. --also takes a case of that name in any case.
 --largest leaves out cases whose stdin has more bytes; a stdin_repeat is short however much it stands for.
+--bundles adds a case of `check` for each NAME_v1.txt of a folder, whose report is NAME_v1.report, but for the bundles that have a
+line which begins with one of the words of --without.
 
-The repository's file is made with `--stage 3 --commands run,value,modules --largest 200000`. That leaves out the five cases with
-as many edge and halo lines as a module may have, or one more: each is over a megabyte. tools/compare makes such bundles itself.
+The repository's file is made with `--stage 5 --commands run,value,modules,check --largest 200000`, and with the bundles without
+`stop,delay,keep,unswitch,uninteract`. That leaves out the cases with as many edge and halo lines as a module may have, or one
+more: each is over a megabyte. tools/compare makes such bundles itself.
 """
 import argparse
 import sys
@@ -74,6 +77,22 @@ def case_lines(folder):
     yield b"status %d" % number(folder / "status", 0)
 
 
+def bundle_lines(text):
+    """A case of `check` for a bundle, whose report lies beside it."""
+    report = text.with_suffix(".report").read_bytes()
+    yield b"case bundle_" + text.stem.encode()
+    yield b"words check"
+    yield b"input"
+    yield from text_lines(text.read_bytes())
+    yield b"output"
+    yield from text_lines(report)
+    yield b"status %d" % (1 if b"\nverdict no\n" in report else 0)
+
+
+def has_word(text, words):
+    return any(line.split(b" ", 1)[0].decode() in words for line in text.read_bytes().split(b"\n"))
+
+
 def is_taken(folder, options):
     if folder.name in options.also:
         return True
@@ -95,6 +114,8 @@ def main():
     parser.add_argument("--commands", type=lambda names: names.split(","), default=["run"])
     parser.add_argument("--also", action="append", default=[])
     parser.add_argument("--largest", type=int)
+    parser.add_argument("--bundles", type=Path)
+    parser.add_argument("--without", type=lambda words: words.split(","), default=[])
     options = parser.parse_args()
     found = sorted((args.parent for folder in options.folders for args in folder.glob("**/args")), key=lambda f: f.name)
     missing = set(options.also) - {folder.name for folder in found}
@@ -105,6 +126,10 @@ def main():
     for folder in found:
         if is_taken(folder, options):
             out.write(b"\n" + b"\n".join(case_lines(folder)) + b"\n")
+    if options.bundles:
+        for text in sorted(options.bundles.glob("*_v1.txt")):
+            if not has_word(text, options.without):
+                out.write(b"\n" + b"\n".join(bundle_lines(text)) + b"\n")
 
 
 main()

@@ -21,6 +21,8 @@ pub use outcome::Outcome;
 pub use stream::{check_stream, modules_stream, run_stream, value_stream};
 
 #[cfg(test)]
+mod check_tests;
+#[cfg(test)]
 mod run_tests;
 #[cfg(test)]
 mod tests;

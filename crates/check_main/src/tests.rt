@@ -179,7 +179,7 @@ fn unrecognized(alloc: Global, word: &str) -> Result<String, Fail> {
 
 #[test]
 fn refuses_other_commands(rt: HostRuntime) -> Result<(), Fail> {
-    for word in ["check", "migrate", "prove", ""] {
+    for word in ["migrate", "prove", ""] {
         let seen = call_program(rt.alloc(), &[word], TEXT.as_bytes(), MUCH_ROOM);
         assert!(rt; seen.status == 2 && seen.written.is_empty());
         let said = unrecognized(rt.alloc(), word)?;
@@ -190,10 +190,10 @@ fn refuses_other_commands(rt: HostRuntime) -> Result<(), Fail> {
 
 #[test]
 fn refuses_words(rt: HostRuntime) {
-    let many: [(&[&str], &str); 7] = [
+    let many: [(&[&str], &str); 8] = [
         (
             &[],
-            "error: 'bbmcheck' requires a subcommand but one was not provided\n  [subcommands: run, value, modules, help]\n\nUsage: bbmcheck <COMMAND>\n\nFor more information, try '--help'.\n",
+            "error: 'bbmcheck' requires a subcommand but one was not provided\n  [subcommands: check, run, value, modules, help]\n\nUsage: bbmcheck <COMMAND>\n\nFor more information, try '--help'.\n",
         ),
         (
             &["run", "x"],
@@ -212,6 +212,10 @@ fn refuses_words(rt: HostRuntime) {
             "error: unrecognized subcommand 'rum'\n\n  tip: a similar subcommand exists: 'run'\n\nUsage: bbmcheck <COMMAND>\n\nFor more information, try '--help'.\n",
         ),
         (
+            &["check", "--workers", "2"],
+            "error: unexpected argument '--workers' found\n\nUsage: bbmcheck check\n\nFor more information, try '--help'.\n",
+        ),
+        (
             &["value", "x"],
             "error: unexpected argument 'x' found\n\nUsage: bbmcheck value\n\nFor more information, try '--help'.\n",
         ),
@@ -228,23 +232,27 @@ fn refuses_words(rt: HostRuntime) {
 }
 
 const HELP: &str =
-    "Checks billiard ball patterns, over standard input and output\n\nUsage: bbmcheck <COMMAND>\n\nCommands:\n  run      Runs a layout under an assignment\n  value    Evaluates a circuit under an assignment\n  modules  Lists the modules of a certificate\n  help     Print this message or the help of the given subcommand(s)\n\nOptions:\n  -h, --help  Print help\n";
+    "Checks billiard ball patterns, over standard input and output\n\nUsage: bbmcheck <COMMAND>\n\nCommands:\n  check    Checks a layout against its circuit by a certificate\n  run      Runs a layout under an assignment\n  value    Evaluates a circuit under an assignment\n  modules  Lists the modules of a certificate\n  help     Print this message or the help of the given subcommand(s)\n\nOptions:\n  -h, --help  Print help\n";
 
 const RUN_HELP: &str =
     "Runs a layout under an assignment\n\nUsage: bbmcheck run\n\nOptions:\n  -h, --help  Print help\n";
+
+const CHECK_HELP: &str =
+    "Checks a layout against its circuit by a certificate\n\nUsage: bbmcheck check\n\nOptions:\n  -h, --help  Print help\n";
 
 const MODULES_HELP: &str =
     "Lists the modules of a certificate\n\nUsage: bbmcheck modules\n\nOptions:\n  -h, --help  Print help\n";
 
 #[test]
 fn prints_help(rt: HostRuntime) {
-    let many: [(&[&str], &str); 6] = [
+    let many: [(&[&str], &str); 7] = [
         (&["--help"], HELP),
         (&["-h"], HELP),
         (&["help"], HELP),
         (&["run", "--help"], RUN_HELP),
         (&["help", "run"], RUN_HELP),
         (&["modules", "--help"], MODULES_HELP),
+        (&["check", "--help"], CHECK_HELP),
     ];
     for (words, help) in many {
         let seen = call_program(rt.alloc(), words, TEXT.as_bytes(), MUCH_ROOM);
@@ -330,6 +338,7 @@ fn names_each_fault_in_words(rt: HostRuntime) -> Result<(), Fail> {
         (CheckFault::Write, "write fault"),
         (CheckFault::TooLong, "text too long"),
         (CheckFault::Memory, "out of memory"),
+        (CheckFault::Missing, "findings missing"),
     ];
     for (fault, text) in words {
         let shown = fault.to_string(rt.alloc())?;

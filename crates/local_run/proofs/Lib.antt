@@ -7,3 +7,4 @@ pub mod Scans
 pub mod Firsts
 pub mod Stepping
 pub mod Leasts
+pub mod ModuleJobs

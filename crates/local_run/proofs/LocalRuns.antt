@@ -47,7 +47,7 @@ live_same n u u' Zero same b = refl
 live_same n u u' One same b = refl
 live_same n u u' (Wire w) same b = same w b
 
-step_all_same : (t : ℕ) (s s' : State) (x y : ℤ) → ((x' y' : ℤ) → s x' y' ≡ s' x' y') → step t s x y ≡ step t s' x y
+pub step_all_same : (t : ℕ) (s s' : State) (x y : ℤ) → ((x' y' : ℤ) → s x' y' ≡ s' x' y') → step t s x y ≡ step t s' x y
 step_all_same t s s' x y same = step_same t s s' x y (same _ _) (same _ _) (same _ _) (same _ _)
 
 with_halo_same : (j : JobState) (n : ℕ) (u u' : Valuation) (t : ℕ) (s s' : State) (x y : ℤ) → AgreeBelow n u u' → IsBelow n (signal_at j.halos t x y) →

@@ -69,3 +69,8 @@ halo_below j t x y own = scheduled (wires j.locals.netlist) j.halos t x y own.ha
 pub start_outside : (j : JobState) (x y : ℤ) → in_box j.area x y ≡ false → job_start j x y ≡ Zero
 unfolding job_start
 start_outside j x y out = cond-false _ _ _ out
+
+-- and nothing but that is asked of it
+pub demand_outside : (j : JobState) (x y : ℤ) → in_box j.area x y ≡ false → job_demand j x y ≡ Demanded.Dead
+unfolding job_demand
+demand_outside j x y out = cond-false _ _ _ out

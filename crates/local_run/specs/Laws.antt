@@ -1,9 +1,12 @@
 -- What the laws of this crate say
 use Rattle.std.specs.Prelude.{◌≡◌, ℕ, ◌<◌, ◌↔◌, Option, None}
-use Rattle.circuit.specs.Meaning.{Valuation, AreOrdered}
+use Rattle.circuit.specs.Meaning.{Circuit, Valuation, AreOrdered}
+use Rattle.pattern.specs.Layout.{Pattern}
 use Rattle.module_box.specs.LocalValues.{IsLocalValuation}
 use Rattle.module_box.specs.Laws.{LiesInBox}
-use Rattle.certificate.specs.Jobs.{JobState, IsJob}
+use Rattle.module_box.specs.Locals.{AreDifferent}
+use Rattle.certificate.specs.Entries.{ModuleLines, known}
+use Rattle.certificate.specs.Jobs.{JobState, IsJob, IsJobOf}
 use Rattle.local_run.specs.Faults.{IsFault, IsFaultUnder, IsLeastFault, assignments}
 use Rattle.local_run.specs.Runs.{local_run}
 use Rattle.local_run.specs.Shown.{job_of, fault_of}
@@ -28,6 +31,11 @@ abbrev pub FaultsAreDecided : Type 0
 FaultsAreDecided = (j : JobState) (f : Fault) (u : Valuation) → IsJob j → AreOrdered j.locals.netlist.given j.locals.netlist.gates →
     f.assignment < assignments j → IsLocalValuation j.locals f.assignment u →
     IsFault j f ↔ IsFaultUnder j u f.time f.kind f.cell.x f.cell.y
+
+-- jobs of one module have the same faults, where no wire of the module is cut or defined twice
+abbrev pub JobsOfOneModuleAgree : Type 0
+JobsOfOneModuleAgree = (c : Circuit) (p : Pattern) (m : ModuleLines) (j k : JobState) (f : Fault) → AreDifferent (known c m) → IsJobOf c p m j → IsJobOf c p m k →
+    IsFault j f → IsFault k f
 
 -- no cell outside the box is ever live
 abbrev pub StaysInBox : Type 0

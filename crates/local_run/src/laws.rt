@@ -1,5 +1,5 @@
 //! Laws of findings.
-ghost use Rattle.local_run.specs.Laws.{FindingsAgree, NoneMeansNoFault, LeastFaultIsUnique, FaultsAreDecided, StaysInBox};
+ghost use Rattle.local_run.specs.Laws.{FindingsAgree, NoneMeansNoFault, LeastFaultIsUnique, FaultsAreDecided, JobsOfOneModuleAgree, StaysInBox};
 
 /// Two findings of one job have one fault.
 pub fn findings_agree()
@@ -19,6 +19,11 @@ pub fn least_fault_is_unique()
 /// Any one local valuation under an assignment tells whether the job has a fault under it.
 pub fn faults_are_decided()
     ensures { FaultsAreDecided }
+{}
+
+/// Jobs of one module have the same faults: what is not pinned in a job makes no difference.
+pub fn jobs_of_one_module_agree()
+    ensures { JobsOfOneModuleAgree }
 {}
 
 /// No cell outside the box is ever live.

@@ -91,6 +91,6 @@ fn report_of_a_no(rt: HostRuntime) -> Result<(), Fail> {
 #[test]
 fn line_of_a_refusal(rt: HostRuntime) -> Result<(), Fail> {
     let text = refusal_text(rt.alloc(), Refusal { line: 37, code: 11 })?;
-    assert!(rt; text.as_slice() == b"refused 37 11\n");
+    assert!(rt; text.as_slice() == b"refused 37 11\n".as_slice());
     Ok(())
 }
