@@ -1,3 +1,5 @@
+pub mod Draws
+pub mod Claims
 pub mod Book
 pub mod BookFields
 pub mod Laws

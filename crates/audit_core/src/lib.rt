@@ -9,6 +9,7 @@
 #![tactic(auto)]
 
 mod book;
+mod claim;
 mod concluding;
 pub mod laws;
 mod reply;
@@ -19,6 +20,7 @@ mod verdict;
 mod verdict_tests;
 
 pub use book::{BookState, NotFiled};
+pub use claim::Claim;
 pub use concluding::conclude;
 pub use reply::{Mismatch, Reply};
 pub use verdict::{ReportLine, Unfinished, Verdict};
