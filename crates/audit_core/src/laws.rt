@@ -1,5 +1,15 @@
 //! Laws of books, each the contract of a function without a body.
-ghost use Rattle.audit_core.specs.Laws.{AcceptsItsOwn, BooksAgree, DoublesWhatIsHeld, FullBookHoldsAll, HoldsWhatIsAccepted, HoldsNothingElse, KeepsWhatIsHeld, KnowsItsOwn, StaysBook};
+ghost use Rattle.audit_core.specs.Laws.{AcceptsItsOwn, BooksAgree, ClosedAnswersClosed, DoublesWhatIsHeld, FullBookHoldsAll, HoldsWhatIsAccepted, HoldsNothingElse, KeepsWhatIsHeld, KnowsItsOwn, StaysBook, StaysReplayed};
+
+/// A closed book answers `Closed` to every finding, and no other book does.
+pub fn closed_book_answers_closed()
+    ensures { ClosedAnswersClosed }
+{}
+
+/// Where a book's history replays to it, it does so after each filing and after a closing.
+pub fn history_replays()
+    ensures { StaysReplayed }
+{}
 
 /// A finding that is accepted is the book's own, by digest, number and whole job, and none is held for its number. One that is
 /// answered `Double` is the book's own, and one is held for its number. One that is the book's own is no stranger.
