@@ -14,7 +14,7 @@ use Rattle.certificate.specs.Jobs.{JobState}
 use Rattle.certificate.proofs.EqualJobs.{jobs_decide}
 use Rattle.local_run.specs.Shown.{digest_of, number_of, job_of}
 use Rattle.local_run.specs.declared.finding.Finding.{Finding}
-use Rattle.audit_core.specs.Book.{BookView, IsBook, IsOwn, accepted_in, after_closing, after_filing, filing_of, found_in, held_after, is_job_of, reply_to}
+use Rattle.audit_core.specs.Book.{BookView, IsBook, IsOwn, accepted_in, after_closing, after_filing, count_after, filing_of, found_in, held_after, is_job_of, reply_to}
 use Rattle.audit_core.specs.declared.entry.Entry.{Entry}
 use Rattle.audit_core.specs.declared.entry.Entry.TheVariants.{Filed}
 use Rattle.audit_core.specs.declared.entry.Filing.{Filing}
@@ -208,6 +208,22 @@ accepted_in-accepted b f is e =
 
 pub accepted_in-other : (b : BookView) (f : Finding) → reply_to b f ≢ Accepted → accepted_in (after_filing b f) ≡ accepted_in b
 accepted_in-other b f other = ap (sum_by counted) (held_after-other b.held f (reply_to b f) other)
+
+by_reply : (b : BookView) (f : Finding) (r : Reply) → reply_to b f ≡ r → IsBook b → accepted_in (after_filing b f) ≡ count_after (accepted_in b) r
+by_reply b f Accepted e is = accepted_in-accepted b f is e
+by_reply b f Closed e is = accepted_in-other b f (λ s. cc)
+by_reply b f (Stranger mismatch) e is = accepted_in-other b f (λ s. cc)
+by_reply b f (Double number) e is = accepted_in-other b f (λ s. cc)
+
+pub accepted_in-filed : (b c after : BookView) (f : Finding) (r : Reply) → IsBook b → b ≡ c → r ≡ reply_to c f → after ≡ after_filing c f → accepted_in after ≡ count_after (accepted_in c) r
+accepted_in-filed b c after f r is same e left =
+    ap accepted_in left ∙ by_reply c f (reply_to c f) refl (subst IsBook same is) ∙ ap (count_after (accepted_in c)) (sym e)
+
+pub count_after-other : (n : ℕ) (r : Reply) → (r ≡ Accepted → ⊥) → count_after n r ≡ n
+count_after-other n Accepted other = absurd (other refl)
+count_after-other n Closed other = refl
+count_after-other n (Stranger mismatch) other = refl
+count_after-other n (Double number) other = refl
 
 -- ---- what a book says of a number
 

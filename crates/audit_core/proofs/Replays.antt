@@ -1,6 +1,6 @@
 -- The history of a book replays to it
-use Rattle.std.proofs.Common.{◌≡◌, ◌∙◌, ◌+◌, ◌<◌, ◌++◌, ◌∷◌, ℕ, suc, zero, inl, inr, List, [], length, Option, None, Some, refl, sym, ap, arith, nat_eq, get_or, set, length-append}
-use Rattle.std.specs.Prelude.{is_some, replicate}
+use Rattle.std.proofs.Common.{◌≡◌, ◌∙◌, ◌+◌, ◌<◌, ◌++◌, ◌∷◌, ℕ, suc, zero, Bool, inl, inr, List, [], length, Option, None, Some, refl, sym, ap, arith, nat_eq, get_or, set, length-append, true, false}
+use Rattle.std.specs.Prelude.{if◌then◌else◌, is_some, replicate}
 use Rattle.std.proofs.lemmas.Bool.Decides.{eqb_tells}
 use Rattle.std.proofs.lemmas.Grind.{common_steps}
 use Rattle.std.proofs.lemmas.List.{get_or-set_same, get_or-set_other, length-replicate}
@@ -9,10 +9,11 @@ use Rattle.std.specs.List.{count_by}
 use Rattle.certificate.specs.Jobs.{JobState}
 use Rattle.local_run.specs.Shown.{digest_of, number_of, job_of}
 use Rattle.local_run.specs.declared.finding.Finding.{Finding}
-use Rattle.audit_core.specs.Replay.{Replayed, AreDue, IsDue, accepted_after, after_entry, beginning, has_number, replay, replay_from, rule}
+use Rattle.audit_core.specs.Replay.{Replayed, AreDue, IsDue, accepted_after, after_entry, beginning, has_closing, has_number, replay, replay_from, rule}
 use Rattle.audit_core.specs.Book.{BookView, IsBook, IsReplayed, accepted_in, after_closing, after_filing, filing_of, held_after, is_job_of, new_book, reply_to}
 use Rattle.audit_core.specs.declared.entry.Entry.{Entry}
 use Rattle.audit_core.specs.declared.entry.Entry.TheVariants.{Filed, Closing}
+use Rattle.audit_core.specs.declared.entry.Filing.{Filing}
 use Rattle.audit_core.specs.declared.reply.Reply.{Reply}
 use Rattle.audit_core.specs.declared.reply.Reply.TheVariants.{Closed, Stranger, Double, Accepted}
 use Rattle.audit_core.proofs.Filings.{accepted-inside, accepted_in-accepted, accepted_in-other, held_after-accepted, held_after-other}
@@ -114,3 +115,26 @@ none-found (suc n) (suc k) f e = none-found n k f e
 pub IsBook-new : (digest : List ℕ) (jobs : List JobState) → IsBook (new_book digest jobs)
 unfolding new_book
 IsBook-new digest jobs = record { places = length-replicate (length jobs) None; own = λ k f e. absurd (none-found (length jobs) k f e) }
+
+-- ---- closing entries
+
+pub has_closing-push : (es : List Entry) (f : Filing) → has_closing (es ++ Filed f ∷ []) ≡ has_closing es
+has_closing-push [] f = refl
+has_closing-push (Filed x ∷ es) f = has_closing-push es f
+has_closing-push (Closing ∷ es) f = refl
+
+closed-from : (p : Replayed) (es : List Entry) → (replay_from p es).closed ≡ (if p.closed then true else has_closing es)
+closed-from p [] = by_case p.closed
+  where
+    by_case : (b : Bool) → b ≡ (if b then true else false)
+    by_case true = refl
+    by_case false = refl
+closed-from p (Filed f ∷ es) = closed-from (after_entry p (Filed f)) es
+closed-from p (Closing ∷ es) = closed-from (after_entry p Closing) es ∙ by_case p.closed
+  where
+    by_case : (b : Bool) → true ≡ (if b then true else true)
+    by_case true = refl
+    by_case false = refl
+
+pub closed-by_its_history : (b : BookView) → IsReplayed b → b.closed ≡ has_closing b.history
+closed-by_its_history b is = sym is.closed_is ∙ closed-from beginning b.history

@@ -1,5 +1,5 @@
 -- A book: which reply a finding gets, and what filing and closing make of the book
-use Rattle.std.specs.Prelude.{◌≡◌, ℕ, Bool, true, false, List, [], ◌∷◌, ◌++◌, length, replicate, Option, Some, None, is_some, slice_get, slice_index_or, slice_set}
+use Rattle.std.specs.Prelude.{◌≡◌, ℕ, ◌+◌, Bool, true, false, List, [], ◌∷◌, ◌++◌, length, replicate, Option, Some, None, is_some, slice_get, slice_index_or, slice_set}
 use Rattle.std.specs.List.{count_by}
 use Rattle.std.specs.Option.{option_eq}
 use Rattle.certificate.specs.Equality.{same_job}
@@ -53,6 +53,13 @@ held_after held f Accepted = slice_set held (number_of f) (Some f)
 held_after held f Closed = held
 held_after held f (Stranger mismatch) = held
 held_after held f (Double number) = held
+
+-- for how many numbers a finding is held after a reply, where one was held for so many
+abbrev pub count_after : ℕ → Reply → ℕ
+count_after count Accepted = count + 1
+count_after count Closed = count
+count_after count (Stranger mismatch) = count
+count_after count (Double number) = count
 
 -- the book after a filing
 abbrev pub after_filing : BookView → Finding → BookView

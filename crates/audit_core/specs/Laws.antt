@@ -4,6 +4,7 @@ use Rattle.local_run.specs.Shown.{number_of, fault_of}
 use Rattle.local_run.specs.declared.finding.Finding.{Finding}
 use Rattle.audit_core.specs.Book.{BookView, IsBook, IsOwn, IsReplayed, accepted_in, after_closing, after_filing, found_in, reply_to}
 use Rattle.audit_core.specs.Verdicts.{AreHeldBelow}
+use Rattle.audit_core.specs.Replay.{has_closing}
 use Rattle.audit_core.specs.declared.reply.Mismatch.{Mismatch}
 use Rattle.audit_core.specs.declared.reply.Reply.TheVariants.{Closed, Stranger, Double, Accepted}
 
@@ -43,6 +44,10 @@ StaysBook = (b : BookView) (f : Finding) → IsBook b → IsBook (after_filing b
 -- a history that replays to the book does so after a filing, and after a closing
 abbrev pub StaysReplayed : Type 0
 StaysReplayed = (b : BookView) → IsBook b → IsReplayed b → ((f : Finding) → IsReplayed (after_filing b f)) × IsReplayed (after_closing b)
+
+-- a book to which its history replays is closed where the history has a closing entry, and nowhere else
+abbrev pub ClosedByItsHistory : Type 0
+ClosedByItsHistory = (b : BookView) → IsReplayed b → b.closed ≡ has_closing b.history
 
 -- what two books of the same jobs hold for one number has the same fault
 abbrev pub BooksAgree : Type 0

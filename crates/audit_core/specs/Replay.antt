@@ -53,6 +53,12 @@ replay_from p (e ∷ es) = replay_from (after_entry p e) es
 abbrev pub replay : List Entry → Replayed
 replay history = replay_from beginning history
 
+-- whether a history has a closing entry
+abbrev pub has_closing : List Entry → Bool
+has_closing [] = false
+has_closing (Filed f ∷ es) = has_closing es
+has_closing (Closing ∷ es) = true
+
 -- the stored reply is the one that the rule gives there
 abbrev pub IsDue : List ℕ → ℕ → Replayed → Entry → Type 0
 IsDue own count p (Filed f) = f.reply ≡ rule own count p.closed (has_number p.accepted f.number) f.digest f.number f.same

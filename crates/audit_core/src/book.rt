@@ -51,7 +51,7 @@ pub struct NotFiled {
 impl BookState {
     ghost use Rattle.local_run.specs.Shown.{job_of, number_of};
     ghost use Rattle.audit_core.specs.Verdicts.{IsHeld};
-    ghost use Rattle.audit_core.specs.Book.{IsOwn, IsReplayed, accepted_in, after_closing, after_filing, filing_of, found_in, is_job_of, new_book, reply_to};
+    ghost use Rattle.audit_core.specs.Book.{IsOwn, IsReplayed, accepted_in, after_closing, after_filing, count_after, filing_of, found_in, is_job_of, new_book, reply_to};
 
     /// An open book of these jobs, numbered from 0 in their order, in which nothing is held, without history. `AllocError` is want
     /// of memory.
@@ -80,6 +80,7 @@ impl BookState {
     pub fn file(&mut self, finding: Finding) -> Result<Reply, NotFiled>
         ensures reply { IfOk result (λ r. r ≡ reply_to self.old finding) }
         ensures after { IfOk result (λ _. self.new ≡ after_filing self.old finding) }
+        ensures counted { IfOk result (λ r. accepted_in self.new ≡ count_after (accepted_in self.old) r) }
         ensures room { OnOk result (length self.new.history < 2 ^ 64) }
         ensures unchanged { OnErr result (self.new ≡ self.old) }
         ensures returned { IfErr result (λ e. e.finding ≡ finding) }

@@ -1,14 +1,16 @@
 //! Laws of books, each the contract of a function without a body.
-ghost use Rattle.audit_core.specs.Laws.{AcceptsItsOwn, BooksAgree, ClosedAnswersClosed, DoublesWhatIsHeld, FullBookHoldsAll, HoldsWhatIsAccepted, HoldsNothingElse, KeepsWhatIsHeld, KnowsItsOwn, StaysBook, StaysReplayed};
+ghost use Rattle.audit_core.specs.Laws.{AcceptsItsOwn, BooksAgree, ClosedAnswersClosed, ClosedByItsHistory, DoublesWhatIsHeld, FullBookHoldsAll, HoldsWhatIsAccepted, HoldsNothingElse, KeepsWhatIsHeld, KnowsItsOwn, StaysBook, StaysReplayed};
 
 /// A closed book answers `Closed` to every finding, and no other book does.
 pub fn closed_book_answers_closed()
     ensures { ClosedAnswersClosed }
 {}
 
-/// Where a book's history replays to it, it does so after each filing and after a closing.
+/// Where a book's history replays to it, it does so after each filing and after a closing; and the book is closed where the
+/// history has a closing entry, and nowhere else.
 pub fn history_replays()
-    ensures { StaysReplayed }
+    ensures stays { StaysReplayed }
+    ensures closed { ClosedByItsHistory }
 {}
 
 /// A finding that is accepted is the book's own, by digest, number and whole job, and none is held for its number. One that is

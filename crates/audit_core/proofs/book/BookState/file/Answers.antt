@@ -4,7 +4,7 @@ use Rattle.audit_core.specs.BookFields.{book_view}
 use Rattle.audit_core.specs.declared.entry.Entry.TheVariants.{Filed}
 use Rattle.audit_core.specs.declared.entry.Filing.{Filing}
 use Rattle.audit_core.specs.declared.reply.Reply.TheVariants.{Accepted}
-use Rattle.audit_core.proofs.Filings.{IsBook-filed, accepted-inside, accepted_in-accepted, accepted_in-other, left-accepted, left-other}
+use Rattle.audit_core.proofs.Filings.{IsBook-filed, accepted-inside, accepted_in-accepted, accepted_in-filed, accepted_in-other, left-accepted, left-other}
 use Rattle.audit_core.proofs.Replays.{IsReplayed-filed}
 use Rattle.audit_core.proofs.book.BookState.file.Goals as goal
 use Rattle.audit_core.proofs.book.BookState.file.Goals.{After-push_reserved}
@@ -51,6 +51,12 @@ returns-in_default-clause-after c =
     let d = (goal.at.returns-in_default-clause-after c).After-push_reserved in
     without d c.in_default.not-Accepted ∙ ap (λ (b : BookView). after_filing b c.args.finding) c.self.view_is
 
+pub returns-in_default-clause-counted : goal.returns-in_default-clause-counted
+returns-in_default-clause-counted c =
+    let d = (goal.at.returns-in_default-clause-counted c).After-push_reserved in
+    accepted_in-filed (book d) c.args.self.now _ c.args.finding _ c.self.invariant.book c.self.view_is (ap (λ (x : Filing). x.reply) c.filing_of-filing.ensures)
+    (without d c.in_default.not-Accepted ∙ ap (λ (b : BookView). after_filing b c.args.finding) c.self.view_is)
+
 pub index_mut-requires : goal.index_mut-requires
 index_mut-requires c =
     let d = (goal.at.index_mut-requires c).After-push_reserved in
@@ -73,3 +79,9 @@ pub returns-clause-after : goal.returns-clause-after
 returns-clause-after c =
     let d = (goal.at.returns-clause-after c).After-push_reserved in
     with_found d c.in-Accepted.is ∙ ap (λ (b : BookView). after_filing b c.args.finding) c.self.view_is
+
+pub returns-clause-counted : goal.returns-clause-counted
+returns-clause-counted c =
+    let d = (goal.at.returns-clause-counted c).After-push_reserved in
+    accepted_in-filed (book d) c.args.self.now _ c.args.finding _ c.self.invariant.book c.self.view_is (ap (λ (x : Filing). x.reply) c.filing_of-filing.ensures)
+    (with_found d c.in-Accepted.is ∙ ap (λ (b : BookView). after_filing b c.args.finding) c.self.view_is)
