@@ -137,6 +137,11 @@ stays-book b f is = IsBook-filed b f is
 pub stays-replayed : StaysReplayed
 stays-replayed b book is = ((λ f. IsReplayed-filed b f book is), IsReplayed-closed b is)
 
+-- a filing that is accepted changes nothing at another number
+pub held-elsewhere : (b : BookView) (f : Finding) (k : ℕ) → reply_to b f ≡ Accepted → k ≢ number_of f → found_in (after_filing b f) k ≡ found_in b k
+held-elsewhere b f k e other =
+    ap (λ (xs : List (Option Finding)). get_or xs k None) (held_after-accepted b f e) ∙ get_or-set_other b.held (number_of f) k (Some f) None other
+
 -- ---- two books
 
 pub books-agree : BooksAgree

@@ -10,7 +10,7 @@ use Rattle.certificate.specs.Jobs.{JobState}
 use Rattle.local_run.specs.Shown.{digest_of, number_of, job_of}
 use Rattle.local_run.specs.declared.finding.Finding.{Finding}
 use Rattle.audit_core.specs.Replay.{Replayed, AreDue, IsDue, accepted_after, after_entry, beginning, has_closing, has_number, replay, replay_from, rule}
-use Rattle.audit_core.specs.Book.{BookView, IsBook, IsReplayed, accepted_in, after_closing, after_filing, filing_of, held_after, is_job_of, new_book, reply_to}
+use Rattle.audit_core.specs.Book.{BookView, IsBook, IsReplayed, accepted_in, after_closing, after_filing, filing_of, held_after, is_job_of, new_book, reply_to, found_in}
 use Rattle.audit_core.specs.declared.entry.Entry.{Entry}
 use Rattle.audit_core.specs.declared.entry.Entry.TheVariants.{Filed, Closing}
 use Rattle.audit_core.specs.declared.entry.Filing.{Filing}
@@ -138,3 +138,12 @@ closed-from p (Closing ∷ es) = closed-from (after_entry p Closing) es ∙ by_c
 
 pub closed-by_its_history : (b : BookView) → IsReplayed b → b.closed ≡ has_closing b.history
 closed-by_its_history b is = sym is.closed_is ∙ closed-from beginning b.history
+
+found-nothing : (n k : ℕ) → get_or (nothing n) k None ≡ None
+found-nothing zero k = refl
+found-nothing (suc n) zero = refl
+found-nothing (suc n) (suc k) = found-nothing n k
+
+pub found_in-new : (digest : List ℕ) (jobs : List JobState) (k : ℕ) → found_in (new_book digest jobs) k ≡ None
+unfolding new_book
+found_in-new digest jobs k = found-nothing (length jobs) k

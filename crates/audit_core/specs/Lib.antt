@@ -8,3 +8,4 @@ pub mod CoreFields
 pub mod Laws
 pub mod Verdicts
 pub mod Concluding
+pub mod CoreLaws
