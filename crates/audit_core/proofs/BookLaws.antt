@@ -1,5 +1,5 @@
 -- The laws of books
-use Rattle.std.proofs.Common.{◌≡◌, ◌≢◌, ◌∙◌, ◌<◌, ℕ, Bool, true, false, not, length, Option, None, Some, refl, sym, ap, subst, arith, nat_eq, nat_lt}
+use Rattle.std.proofs.Common.{◌≡◌, ◌≢◌, ◌∙◌, ◌<◌, ℕ, Bool, true, false, not, List, length, get_or, Option, None, Some, refl, sym, ap, subst, arith, nat_eq, nat_lt}
 use Rattle.std.specs.Prelude.{is_some, if◌then◌else◌, slice_get, IsSome}
 use Rattle.std.specs.Option.{option_eq}
 use Rattle.std.specs.Cmp.Lexicographic.{pointwise, bytes_decides}
@@ -13,13 +13,14 @@ use Rattle.local_run.specs.Faults.{IsLeastFault}
 use Rattle.local_run.specs.Shown.{digest_of, number_of, job_of, fault_of}
 use Rattle.local_run.specs.declared.finding.Finding.{Finding}
 use Rattle.local_run.proofs.Least.{least_unique}
-use Rattle.audit_core.specs.Book.{BookView, IsBook, IsOwn, after_filing, found_in, is_job_of, reply_to}
-use Rattle.audit_core.specs.Laws.{AcceptsItsOwn, BooksAgree, DoublesWhatIsHeld, HoldsWhatIsAccepted, HoldsNothingElse, KeepsWhatIsHeld, KnowsItsOwn, StaysBook}
+use Rattle.audit_core.specs.Book.{BookView, IsOwn, after_filing, found_in, is_job_of, reply_to}
+use Rattle.audit_core.specs.Laws.{AcceptsItsOwn, BooksAgree, ClosedAnswersClosed, DoublesWhatIsHeld, HoldsWhatIsAccepted, HoldsNothingElse, KeepsWhatIsHeld, KnowsItsOwn, StaysBook, StaysReplayed}
 use Rattle.audit_core.specs.declared.reply.Mismatch.{Mismatch}
 use Rattle.audit_core.specs.declared.reply.Mismatch.TheVariants.{Digest, Number, Content}
 use Rattle.audit_core.specs.declared.reply.Reply.{Reply}
-use Rattle.audit_core.specs.declared.reply.Reply.TheVariants.{Stranger, Double, Accepted}
-use Rattle.audit_core.proofs.Filings.{IsBook-accepted, accepted-inside, accepted-new, accepted-own, after_filing-other, after_filing-with_found, is_job_of-true, reply_to-held, reply_to-new}
+use Rattle.audit_core.specs.declared.reply.Reply.TheVariants.{Closed, Stranger, Double, Accepted}
+use Rattle.audit_core.proofs.Filings.{IsBook-filed, accepted-inside, accepted-new, accepted-own, held_after-accepted, held_after-other, is_job_of-true, reply_to-closed, reply_to-held, reply_to-new}
+use Rattle.audit_core.proofs.Replays.{IsReplayed-closed, IsReplayed-filed}
 
 none_held : (o : Option Finding) → is_some o ≡ false → o ≡ None
 none_held None e = refl
@@ -42,18 +43,21 @@ own-job b n f own = ap (λ (o : Option JobState). option_eq same_job o (Some (jo
 pub accepts-its-own : AcceptsItsOwn
 accepts-its-own b f e = (accepted-own b f e, none_held _ (accepted-new b f e))
 
-no_stranger : (b : BookView) (f : Finding) (mismatch : Mismatch) (held : Bool) → IsOwn b (number_of f) f → is_some (found_in b (number_of f)) ≡ held → reply_to b f ≢ Stranger mismatch
-no_stranger b f mismatch true own held e =
-    let double = reply_to-held b f (own-digest b _ f own) (own-number b f own) (own-job b _ f own) held in
+no_stranger : (b : BookView) (f : Finding) (mismatch : Mismatch) (closed held : Bool) → IsOwn b (number_of f) f → b.closed ≡ closed → is_some (found_in b (number_of f)) ≡ held → reply_to b f ≢ Stranger mismatch
+no_stranger b f mismatch true held own is held_is e =
+    let closed = reply_to-closed b f is in
     cc
-no_stranger b f mismatch false own held e =
-    let new = reply_to-new b f (own-digest b _ f own) (own-number b f own) (own-job b _ f own) held in
+no_stranger b f mismatch false true own is held_is e =
+    let double = reply_to-held b f is (own-digest b _ f own) (own-number b f own) (own-job b _ f own) held_is in
+    cc
+no_stranger b f mismatch false false own is held_is e =
+    let new = reply_to-new b f is (own-digest b _ f own) (own-number b f own) (own-job b _ f own) held_is in
     cc
 
 pub knows-its-own : KnowsItsOwn
-knows-its-own b f k mismatch own = no_stranger b f mismatch _ (subst (λ (n : ℕ). IsOwn b n f) (sym own.number_is) own) refl
+knows-its-own b f k mismatch own = no_stranger b f mismatch _ _ (subst (λ (n : ℕ). IsOwn b n f) (sym own.number_is) own) refl refl
 
--- the outcomes of the four tests of a finding that is answered `Double`
+-- the outcomes of the tests of a finding that is answered `Double`
 record IsDouble (digest number job held : Bool) (n k : ℕ) : Type 0 where
   pub digest_is : digest ≡ true
   pub number_is : number ≡ true
@@ -61,16 +65,33 @@ record IsDouble (digest number job held : Bool) (n k : ℕ) : Type 0 where
   pub held_is : held ≡ true
   pub same : n ≡ k
 
-doubles : (digest number job held : Bool) (n k : ℕ) → (if not digest then Stranger Digest else if not number then Stranger Number else if not job then Stranger Content else if held then Double n else Accepted) ≡ Double k → IsDouble digest number job held n k
-doubles false number job held n k e = cc
-doubles true false job held n k e = cc
-doubles true true false held n k e = cc
-doubles true true true true n k e = record { digest_is = refl; number_is = refl; job_is = refl; held_is = refl; same = cc }
-doubles true true true false n k e = cc
+doubles : (closed digest number job held : Bool) (n k : ℕ) → (if closed then Closed else if not digest then Stranger Digest else if not number then Stranger Number else if not job then Stranger Content else if held then Double n else Accepted) ≡ Double k → IsDouble digest number job held n k
+doubles true digest number job held n k e = cc
+doubles false false number job held n k e = cc
+doubles false true false job held n k e = cc
+doubles false true true false held n k e = cc
+doubles false true true true true n k e = record { digest_is = refl; number_is = refl; job_is = refl; held_is = refl; same = cc }
+doubles false true true true false n k e = cc
 
 double_tells : (b : BookView) (f : Finding) (k : ℕ) → reply_to b f ≡ Double k → IsDouble (pointwise nat_eq (digest_of f) b.digest) (nat_lt (number_of f) (length b.jobs)) (is_job_of b.jobs (number_of f) (job_of f)) (is_some (found_in b (number_of f))) (number_of f) k
 unfolding reply_to
-double_tells b f k e = doubles _ _ _ _ (number_of f) k e
+double_tells b f k e = doubles _ _ _ _ _ (number_of f) k e
+
+-- the tests of an open book answer something else than `Closed`
+not_closed : (closed digest number job held : Bool) (n : ℕ) → (if closed then Closed else if not digest then Stranger Digest else if not number then Stranger Number else if not job then Stranger Content else if held then Double n else Accepted) ≡ Closed → closed ≡ true
+not_closed true digest number job held n e = refl
+not_closed false false number job held n e = cc
+not_closed false true false job held n e = cc
+not_closed false true true false held n e = cc
+not_closed false true true true true n e = cc
+not_closed false true true true false n e = cc
+
+closed_tells : (b : BookView) (f : Finding) → reply_to b f ≡ Closed → b.closed ≡ true
+unfolding reply_to
+closed_tells b f e = not_closed _ _ _ _ _ (number_of f) e
+
+pub closed-answers-closed : ClosedAnswersClosed
+closed-answers-closed b f = (closed_tells b f, reply_to-closed b f)
 
 double-own : (b : BookView) (f : Finding) (k : ℕ) → reply_to b f ≡ Double k → IsOwn b k f
 double-own b f k e =
@@ -88,7 +109,7 @@ doubles-what_is_held b f k e =
 
 pub holds-what_is_accepted : HoldsWhatIsAccepted
 holds-what_is_accepted b f is e =
-    ap (λ (v : BookView). found_in v (number_of f)) (after_filing-with_found b f e) ∙ get_or-set_same b.held (number_of f) (Some f) None (accepted-inside b f is e)
+    ap (λ (xs : List (Option Finding)). get_or xs (number_of f) None) (held_after-accepted b f e) ∙ get_or-set_same b.held (number_of f) (Some f) None (accepted-inside b f is e)
 
 -- a number whose finding was accepted held none before
 other_number : (b : BookView) (f g : Finding) (k : ℕ) → reply_to b f ≡ Accepted → found_in b k ≡ Some g → k ≢ number_of f
@@ -99,23 +120,27 @@ other_number b f g k e held same =
 
 keeps : (b : BookView) (f g : Finding) (k : ℕ) (r : Reply) → reply_to b f ≡ r → found_in b k ≡ Some g → found_in (after_filing b f) k ≡ Some g
 keeps b f g k Accepted e held =
-    ap (λ (v : BookView). found_in v k) (after_filing-with_found b f e) ∙ get_or-set_other b.held (number_of f) k (Some f) None (other_number b f g k e held) ∙ held
-keeps b f g k (Stranger mismatch) e held = ap (λ (v : BookView). found_in v k) (after_filing-other b f (λ s. cc)) ∙ held
-keeps b f g k (Double n) e held = ap (λ (v : BookView). found_in v k) (after_filing-other b f (λ s. cc)) ∙ held
+    ap (λ (xs : List (Option Finding)). get_or xs k None) (held_after-accepted b f e) ∙ get_or-set_other b.held (number_of f) k (Some f) None (other_number b f g k e held) ∙ held
+keeps b f g k Closed e held = ap (λ (xs : List (Option Finding)). get_or xs k None) (held_after-other b.held f _ (λ s. cc)) ∙ held
+keeps b f g k (Stranger mismatch) e held = ap (λ (xs : List (Option Finding)). get_or xs k None) (held_after-other b.held f _ (λ s. cc)) ∙ held
+keeps b f g k (Double n) e held = ap (λ (xs : List (Option Finding)). get_or xs k None) (held_after-other b.held f _ (λ s. cc)) ∙ held
 
 pub keeps-what_is_held : KeepsWhatIsHeld
 keeps-what_is_held b f g k held = keeps b f g k (reply_to b f) refl held
 
 pub holds-nothing_else : HoldsNothingElse
-holds-nothing_else b f other = ap (λ (v : BookView). v.held) (after_filing-other b f other)
-
-stays : (b : BookView) (f : Finding) (r : Reply) → reply_to b f ≡ r → IsBook b → IsBook (after_filing b f)
-stays b f Accepted e is = subst IsBook (sym (after_filing-with_found b f e)) (IsBook-accepted b f (number_of f) refl is e)
-stays b f (Stranger mismatch) e is = subst IsBook (sym (after_filing-other b f (λ s. cc))) is
-stays b f (Double n) e is = subst IsBook (sym (after_filing-other b f (λ s. cc))) is
+holds-nothing_else b f other = held_after-other b.held f (reply_to b f) other
 
 pub stays-book : StaysBook
-stays-book b f is = stays b f (reply_to b f) refl is
+stays-book b f is = IsBook-filed b f is
+
+pub stays-replayed : StaysReplayed
+stays-replayed b book is = ((λ f. IsReplayed-filed b f book is), IsReplayed-closed b is)
+
+-- a filing that is accepted changes nothing at another number
+pub held-elsewhere : (b : BookView) (f : Finding) (k : ℕ) → reply_to b f ≡ Accepted → k ≢ number_of f → found_in (after_filing b f) k ≡ found_in b k
+held-elsewhere b f k e other =
+    ap (λ (xs : List (Option Finding)). get_or xs k None) (held_after-accepted b f e) ∙ get_or-set_other b.held (number_of f) k (Some f) None other
 
 -- ---- two books
 

@@ -1,5 +1,5 @@
 -- Replies, and what filing keeps
-use Rattle.std.proofs.Common.{◌≡◌, ◌≢◌, ◌∙◌, ◌+◌, ◌<◌, ◌≤◌, ℕ, Bool, true, false, not, cond, inl, inr, List, length, map, Option, None, Some, refl, sym, ap, ap₂, subst, arith, nat_eq, nat_lt, get_or, set}
+use Rattle.std.proofs.Common.{◌≡◌, ◌≢◌, ◌∙◌, ◌+◌, ◌<◌, ◌≤◌, ◌++◌, ◌∷◌, ℕ, suc, zero, Bool, true, false, not, cond, inl, inr, List, [], length, map, Option, None, Some, refl, sym, ap, ap₂, subst, arith, nat_eq, nat_lt, get_or, set}
 use Rattle.std.specs.Prelude.{is_some, if◌then◌else◌, slice_get}
 use Rattle.std.specs.Borrow.{Bor}
 use Rattle.std.specs.Option.{IfSome, option_copied, option_eq, option_map}
@@ -7,38 +7,46 @@ use Rattle.std.specs.Cmp.Lexicographic.{pointwise, same_text}
 use Rattle.std.proofs.lemmas.Bool.Decides.{eqb_tells, nat_tests}
 use Rattle.std.proofs.lemmas.List.{get_or-set_same, get_or-set_other, length-set}
 use Rattle.std.proofs.lemmas.List.Sums.{sum_by-set}
+use Rattle.std.specs.List.{sum_by}
 use Rattle.std.proofs.lemmas.Option.{slice_get-map, slice_get_read}
 use Rattle.certificate.specs.Equality.{same_job}
 use Rattle.certificate.specs.Jobs.{JobState}
 use Rattle.certificate.proofs.EqualJobs.{jobs_decide}
 use Rattle.local_run.specs.Shown.{digest_of, number_of, job_of}
 use Rattle.local_run.specs.declared.finding.Finding.{Finding}
-use Rattle.audit_core.specs.Book.{BookView, IsBook, IsOwn, accepted_in, after_filing, after_reply, found_in, is_job_of, reply_to}
+use Rattle.audit_core.specs.Book.{BookView, IsBook, IsOwn, accepted_in, after_closing, after_filing, count_after, filing_of, found_in, held_after, is_job_of, reply_to}
+use Rattle.audit_core.specs.declared.entry.Entry.{Entry}
+use Rattle.audit_core.specs.declared.entry.Entry.TheVariants.{Filed}
+use Rattle.audit_core.specs.declared.entry.Filing.{Filing}
 use Rattle.audit_core.specs.declared.reply.Mismatch.TheVariants.{Digest, Number, Content}
 use Rattle.audit_core.specs.declared.reply.Reply.{Reply}
-use Rattle.audit_core.specs.declared.reply.Reply.TheVariants.{Stranger, Double, Accepted}
+use Rattle.audit_core.specs.declared.reply.Reply.TheVariants.{Closed, Stranger, Double, Accepted}
 
 -- ---- which reply, by the tests
 
-pub reply_to-other_digest : (b : BookView) (f : Finding) → pointwise nat_eq (digest_of f) b.digest ≡ false → reply_to b f ≡ Stranger Digest
+pub reply_to-closed : (b : BookView) (f : Finding) → b.closed ≡ true → reply_to b f ≡ Closed
 unfolding reply_to
-reply_to-other_digest b f digest = rw digest
+reply_to-closed b f closed = rw closed
 
-pub reply_to-other_number : (b : BookView) (f : Finding) → pointwise nat_eq (digest_of f) b.digest ≡ true → nat_lt (number_of f) (length b.jobs) ≡ false → reply_to b f ≡ Stranger Number
+pub reply_to-other_digest : (b : BookView) (f : Finding) → b.closed ≡ false → pointwise nat_eq (digest_of f) b.digest ≡ false → reply_to b f ≡ Stranger Digest
 unfolding reply_to
-reply_to-other_number b f digest number = rw (digest, number)
+reply_to-other_digest b f closed digest = rw (closed, digest)
 
-pub reply_to-other_job : (b : BookView) (f : Finding) → pointwise nat_eq (digest_of f) b.digest ≡ true → nat_lt (number_of f) (length b.jobs) ≡ true → is_job_of b.jobs (number_of f) (job_of f) ≡ false → reply_to b f ≡ Stranger Content
+pub reply_to-other_number : (b : BookView) (f : Finding) → b.closed ≡ false → pointwise nat_eq (digest_of f) b.digest ≡ true → nat_lt (number_of f) (length b.jobs) ≡ false → reply_to b f ≡ Stranger Number
 unfolding reply_to
-reply_to-other_job b f digest number job = rw (digest, number, job)
+reply_to-other_number b f closed digest number = rw (closed, digest, number)
 
-pub reply_to-held : (b : BookView) (f : Finding) → pointwise nat_eq (digest_of f) b.digest ≡ true → nat_lt (number_of f) (length b.jobs) ≡ true → is_job_of b.jobs (number_of f) (job_of f) ≡ true → is_some (found_in b (number_of f)) ≡ true → reply_to b f ≡ Double (number_of f)
+pub reply_to-other_job : (b : BookView) (f : Finding) → b.closed ≡ false → pointwise nat_eq (digest_of f) b.digest ≡ true → nat_lt (number_of f) (length b.jobs) ≡ true → is_job_of b.jobs (number_of f) (job_of f) ≡ false → reply_to b f ≡ Stranger Content
 unfolding reply_to
-reply_to-held b f digest number job held = rw (digest, number, job, held)
+reply_to-other_job b f closed digest number job = rw (closed, digest, number, job)
 
-pub reply_to-new : (b : BookView) (f : Finding) → pointwise nat_eq (digest_of f) b.digest ≡ true → nat_lt (number_of f) (length b.jobs) ≡ true → is_job_of b.jobs (number_of f) (job_of f) ≡ true → is_some (found_in b (number_of f)) ≡ false → reply_to b f ≡ Accepted
+pub reply_to-held : (b : BookView) (f : Finding) → b.closed ≡ false → pointwise nat_eq (digest_of f) b.digest ≡ true → nat_lt (number_of f) (length b.jobs) ≡ true → is_job_of b.jobs (number_of f) (job_of f) ≡ true → is_some (found_in b (number_of f)) ≡ true → reply_to b f ≡ Double (number_of f)
 unfolding reply_to
-reply_to-new b f digest number job held = rw (digest, number, job, held)
+reply_to-held b f closed digest number job held = rw (closed, digest, number, job, held)
+
+pub reply_to-new : (b : BookView) (f : Finding) → b.closed ≡ false → pointwise nat_eq (digest_of f) b.digest ≡ true → nat_lt (number_of f) (length b.jobs) ≡ true → is_job_of b.jobs (number_of f) (job_of f) ≡ true → is_some (found_in b (number_of f)) ≡ false → reply_to b f ≡ Accepted
+unfolding reply_to
+reply_to-new b f closed digest number job held = rw (closed, digest, number, job, held)
 
 -- ---- the tests as the code makes them
 
@@ -68,37 +76,47 @@ unfolding is_job_of
 is_job_of-at view ys n y job below at =
     ap (λ (o : Option JobState). option_eq same_job o (Some job)) (slice_get-map view ys n ∙ ap (option_map view) (slice_get_read ys (length ys) n y refl below at))
 
-pub job-told : {Y : Type 0} (view : Y → JobState) (b : BookView) (f : Finding) (ys seen : List Y) (n : ℕ) (y : Y) (own theirs : JobState) (r : Bool) → map view ys ≡ b.jobs → seen ≡ ys → n ≡ number_of f → n < length seen → y ≡ get_or seen n y → own ≡ view y → theirs ≡ job_of f → r ≡ not (same_job own theirs) → r ≡ not (is_job_of b.jobs (number_of f) (job_of f))
-job-told view b f ys seen n y own theirs r jobs all number below at o t e =
-    let there : is_job_of (map view seen) n (job_of f) ≡ same_job (view y) (job_of f) = is_job_of-at view seen n y (job_of f) below at in
-    let of_book : map view seen ≡ b.jobs = ap (map view) all ∙ jobs in
-    e ∙ ap₂ (λ x z. not (same_job x z)) o t ∙ ap not (sym there) ∙ ap₂ (λ js k. not (is_job_of js k (job_of f))) of_book number
+-- the test of the job, as the code makes it
+pub job-told : {Y : Type 0} (view : Y → JobState) (jobs : List JobState) (ys seen : List Y) (n : ℕ) (y : Y) (own theirs : JobState) (r : Bool) → map view ys ≡ jobs → seen ≡ ys → n < length seen → y ≡ get_or seen n y → own ≡ view y → r ≡ same_job own theirs → r ≡ is_job_of jobs n theirs
+job-told view jobs ys seen n y own theirs r of_book all below at o e =
+    let there : is_job_of (map view seen) n theirs ≡ same_job (view y) theirs = is_job_of-at view seen n y theirs below at in
+    let whole : map view seen ≡ jobs = ap (map view) all ∙ of_book in
+    e ∙ ap (λ x. same_job x theirs) o ∙ sym there ∙ ap (λ js. is_job_of js n theirs) whole
 
-pub job-differs : (x r : Bool) → r ≡ not x → r ≡ true → x ≡ false
-job-differs x r e differs = not_true x (sym e ∙ differs)
+is_job_of-past : {Y : Type 0} (view : Y → JobState) (ys : List Y) (n : ℕ) (job : JobState) → length ys ≤ n → is_job_of (map view ys) n job ≡ false
+unfolding is_job_of
+is_job_of-past view ys n job past = ap (λ (o : Option JobState). option_eq same_job o (Some job)) (slice_get-map view ys n ∙ ap (option_map view) (slice_get_past ys n past))
+  where
+    slice_get_past : {X : Type 0} (xs : List X) (k : ℕ) → length xs ≤ k → slice_get xs k ≡ None
+    slice_get_past [] k le = refl
+    slice_get_past (x ∷ xs) zero le = absurd (omega (arith, le))
+    slice_get_past (x ∷ xs) (suc k) le = slice_get_past xs k (omega (arith, le))
 
-pub job-agrees : (x r : Bool) → r ≡ not x → r ≡ false → x ≡ true
-job-agrees x r e agrees = not_false x (sym e ∙ agrees)
+pub no_job-told : {Y : Type 0} (view : Y → JobState) (jobs : List JobState) (ys seen : List Y) (n : ℕ) (job : JobState) → map view ys ≡ jobs → seen ≡ ys → length seen ≤ n → false ≡ is_job_of jobs n job
+no_job-told view jobs ys seen n job of_book all past =
+    sym (is_job_of-past view seen n job past) ∙ ap (λ js. is_job_of js n job) (ap (map view) all ∙ of_book)
 
 -- ---- what a reply tells
 
--- the outcomes of the four tests of a finding that is accepted
-record Passes (digest number job held : Bool) : Type 0 where
+-- the outcomes of the tests of a finding that is accepted
+record Passes (closed digest number job held : Bool) : Type 0 where
+  pub closed_is : closed ≡ false
   pub digest_is : digest ≡ true
   pub number_is : number ≡ true
   pub job_is : job ≡ true
   pub held_is : held ≡ false
 
-passes : (digest number job held : Bool) (n : ℕ) → (if not digest then Stranger Digest else if not number then Stranger Number else if not job then Stranger Content else if held then Double n else Accepted) ≡ Accepted → Passes digest number job held
-passes false number job held n e = cc
-passes true false job held n e = cc
-passes true true false held n e = cc
-passes true true true true n e = cc
-passes true true true false n e = record { digest_is = refl; number_is = refl; job_is = refl; held_is = refl }
+passes : (closed digest number job held : Bool) (n : ℕ) → (if closed then Closed else if not digest then Stranger Digest else if not number then Stranger Number else if not job then Stranger Content else if held then Double n else Accepted) ≡ Accepted → Passes closed digest number job held
+passes true digest number job held n e = cc
+passes false false number job held n e = cc
+passes false true false job held n e = cc
+passes false true true false held n e = cc
+passes false true true true true n e = cc
+passes false true true true false n e = record { closed_is = refl; digest_is = refl; number_is = refl; job_is = refl; held_is = refl }
 
-accepted-passes : (b : BookView) (f : Finding) → reply_to b f ≡ Accepted → Passes (pointwise nat_eq (digest_of f) b.digest) (nat_lt (number_of f) (length b.jobs)) (is_job_of b.jobs (number_of f) (job_of f)) (is_some (found_in b (number_of f)))
+accepted-passes : (b : BookView) (f : Finding) → reply_to b f ≡ Accepted → Passes b.closed (pointwise nat_eq (digest_of f) b.digest) (nat_lt (number_of f) (length b.jobs)) (is_job_of b.jobs (number_of f) (job_of f)) (is_some (found_in b (number_of f)))
 unfolding reply_to
-accepted-passes b f e = passes _ _ _ _ (number_of f) e
+accepted-passes b f e = passes _ _ _ _ _ (number_of f) e
 
 -- a job that passes the test is the job of that number
 same_option : (o : Option JobState) (job : JobState) → option_eq same_job o (Some job) ≡ true → o ≡ Some job
@@ -122,11 +140,27 @@ accepted-number b f e =
 pub accepted-new : (b : BookView) (f : Finding) → reply_to b f ≡ Accepted → is_some (found_in b (number_of f)) ≡ false
 accepted-new b f e = (accepted-passes b f e).held_is
 
--- ---- what filing keeps
+-- ---- what is held after a filing
 
--- whose a finding is does not depend on what is held
-own-moved : (b : BookView) (held : List (Option Finding)) (n : ℕ) (f : Finding) → IsOwn b n f → IsOwn (record b { held = held }) n f
-own-moved b held n f p = record { digest = p.digest; number_is = p.number_is; job = p.job }
+pub accepted-inside : (b : BookView) (f : Finding) → IsBook b → reply_to b f ≡ Accepted → number_of f < length b.held
+accepted-inside b f is e =
+    let below : number_of f < length b.jobs = accepted-number b f e in
+    omega (arith, is.places)
+
+pub held_after-accepted : (b : BookView) (f : Finding) → reply_to b f ≡ Accepted → held_after b.held f (reply_to b f) ≡ set b.held (number_of f) (Some f)
+unfolding held_after
+held_after-accepted b f e = ap (held_after b.held f) e
+
+pub held_after-other : (held : List (Option Finding)) (f : Finding) (r : Reply) → r ≢ Accepted → held_after held f r ≡ held
+unfolding held_after
+held_after-other held f Accepted other = absurd (other refl)
+held_after-other held f Closed other = refl
+held_after-other held f (Stranger mismatch) other = refl
+held_after-other held f (Double number) other = refl
+
+-- whose a finding is depends on the digest and the jobs alone
+own-moved : (b c : BookView) (n : ℕ) (f : Finding) → b.digest ≡ c.digest → b.jobs ≡ c.jobs → IsOwn b n f → IsOwn c n f
+own-moved b c n f digest jobs p = record { digest = p.digest ∙ digest; number_is = p.number_is; job = ap (λ js. slice_get js n) (sym jobs) ∙ p.job }
 
 own-set : (b : BookView) (n : ℕ) (f : Finding) → n < length b.held → IsOwn b n f → IsBook b → (k : ℕ) (g : Finding) → get_or (set b.held n (Some f)) k None ≡ Some g → IsOwn b k g
 own-set b n f inside own is k g e =
@@ -138,39 +172,58 @@ own-set b n f inside own is k g e =
       | inr q ↦ is.own k g (sym (get_or-set_other b.held n k (Some f) None (λ s. q.1 (sym s))) ∙ e)
     ]
 
--- the book that holds a finding more
-abbrev pub with_found : BookView → ℕ → Finding → BookView
-with_found b n f = record b { held = set b.held n (Some f) }
+-- a book that holds what another one held after a filing
+book-of : (b c : BookView) (held : List (Option Finding)) → b.digest ≡ c.digest → b.jobs ≡ c.jobs → c.held ≡ held → length held ≡ length b.jobs → ((k : ℕ) (g : Finding) → get_or held k None ≡ Some g → IsOwn b k g) → IsBook c
+book-of b c held digest jobs same places own = record {
+  places = ap length same ∙ places ∙ ap length jobs;
+  own = λ k g h. own-moved b c k g digest jobs (own k g (ap (λ (xs : List (Option Finding)). get_or xs k None) (sym same) ∙ h));
+}
 
-pub accepted-inside : (b : BookView) (f : Finding) → IsBook b → reply_to b f ≡ Accepted → number_of f < length b.held
-accepted-inside b f is e =
-    let below : number_of f < length b.jobs = accepted-number b f e in
-    omega (arith, is.places)
+filed-by : (b : BookView) (f : Finding) (r : Reply) → reply_to b f ≡ r → IsBook b → IsBook (after_filing b f)
+filed-by b f Accepted e is =
+    let inside = accepted-inside b f is e in
+    book-of b (after_filing b f) (set b.held (number_of f) (Some f)) refl refl (held_after-accepted b f e)
+    (length-set b.held (number_of f) (Some f) ∙ is.places)
+    (own-set b (number_of f) f inside (accepted-own b f e) is)
+filed-by b f Closed e is = book-of b (after_filing b f) b.held refl refl (held_after-other b.held f _ (λ s. cc)) is.places is.own
+filed-by b f (Stranger mismatch) e is = book-of b (after_filing b f) b.held refl refl (held_after-other b.held f _ (λ s. cc)) is.places is.own
+filed-by b f (Double number) e is = book-of b (after_filing b f) b.held refl refl (held_after-other b.held f _ (λ s. cc)) is.places is.own
 
-IsBook-with_found : (b : BookView) (f : Finding) → IsBook b → reply_to b f ≡ Accepted → IsBook (with_found b (number_of f) f)
-IsBook-with_found b f is e =
-    let inside : number_of f < length b.held = accepted-inside b f is e in
-    record {
-      places = length-set b.held (number_of f) (Some f) ∙ is.places;
-      own = λ k g h. own-moved b (set b.held (number_of f) (Some f)) k g (own-set b (number_of f) f inside (accepted-own b f e) is k g h);
-    }
+pub IsBook-filed : (b : BookView) (f : Finding) → IsBook b → IsBook (after_filing b f)
+IsBook-filed b f is = filed-by b f (reply_to b f) refl is
 
-pub IsBook-accepted : (b : BookView) (f : Finding) (n : ℕ) → n ≡ number_of f → IsBook b → reply_to b f ≡ Accepted → IsBook (with_found b n f)
-IsBook-accepted b f n number is e = subst (λ (k : ℕ). IsBook (with_found b k f)) (sym number) (IsBook-with_found b f is e)
+pub IsBook-closed : (b : BookView) → IsBook b → IsBook (after_closing b)
+IsBook-closed b is = book-of b (after_closing b) b.held refl refl refl is.places is.own
 
 abbrev counted : Option Finding → ℕ
 counted o = cond (is_some o) 1 0
 
-accepted_in-with_found : (b : BookView) (f : Finding) → IsBook b → reply_to b f ≡ Accepted → accepted_in (with_found b (number_of f) f) ≡ accepted_in b + 1
-accepted_in-with_found b f is e =
+pub accepted_in-accepted : (b : BookView) (f : Finding) → IsBook b → reply_to b f ≡ Accepted → accepted_in (after_filing b f) ≡ accepted_in b + 1
+accepted_in-accepted b f is e =
     let inside : number_of f < length b.held = accepted-inside b f is e in
     let sum = sum_by-set counted b.held (number_of f) (Some f) None inside in
     let none : counted (get_or b.held (number_of f) None) ≡ counted None = ap (λ (t : Bool). cond t 1 0) (accepted-new b f e) in
-    omega (arith, sum, none)
+    let one : accepted_in (after_filing b f) ≡ sum_by counted (set b.held (number_of f) (Some f)) = ap (sum_by counted) (held_after-accepted b f e) in
+    omega (arith, sum, none, one)
 
-pub accepted_in-accepted : (b : BookView) (f : Finding) (n count : ℕ) → n ≡ number_of f → count ≡ accepted_in b → IsBook b → reply_to b f ≡ Accepted → count + 1 ≡ accepted_in (with_found b n f)
-accepted_in-accepted b f n count number counts is e =
-    ap (λ (k : ℕ). k + 1) counts ∙ sym (accepted_in-with_found b f is e) ∙ ap (λ (k : ℕ). accepted_in (with_found b k f)) (sym number)
+pub accepted_in-other : (b : BookView) (f : Finding) → reply_to b f ≢ Accepted → accepted_in (after_filing b f) ≡ accepted_in b
+accepted_in-other b f other = ap (sum_by counted) (held_after-other b.held f (reply_to b f) other)
+
+by_reply : (b : BookView) (f : Finding) (r : Reply) → reply_to b f ≡ r → IsBook b → accepted_in (after_filing b f) ≡ count_after (accepted_in b) r
+by_reply b f Accepted e is = accepted_in-accepted b f is e
+by_reply b f Closed e is = accepted_in-other b f (λ s. cc)
+by_reply b f (Stranger mismatch) e is = accepted_in-other b f (λ s. cc)
+by_reply b f (Double number) e is = accepted_in-other b f (λ s. cc)
+
+pub accepted_in-filed : (b c after : BookView) (f : Finding) (r : Reply) → IsBook b → b ≡ c → r ≡ reply_to c f → after ≡ after_filing c f → accepted_in after ≡ count_after (accepted_in c) r
+accepted_in-filed b c after f r is same e left =
+    ap accepted_in left ∙ by_reply c f (reply_to c f) refl (subst IsBook same is) ∙ ap (count_after (accepted_in c)) (sym e)
+
+pub count_after-other : (n : ℕ) (r : Reply) → (r ≡ Accepted → ⊥) → count_after n r ≡ n
+count_after-other n Accepted other = absurd (other refl)
+count_after-other n Closed other = refl
+count_after-other n (Stranger mismatch) other = refl
+count_after-other n (Double number) other = refl
 
 -- ---- what a book says of a number
 
@@ -178,20 +231,19 @@ pub found-own : (b : BookView) (n : ℕ) (o : Option (Bor Finding)) → IsBook b
 found-own b n None is e = tt
 found-own b n (Some f) is e = is.own n f.now (sym e)
 
--- ---- what filing leaves
+-- ---- what the code leaves
 
-pub after_filing-with_found : (b : BookView) (f : Finding) → reply_to b f ≡ Accepted → after_filing b f ≡ with_found b (number_of f) f
-unfolding after_reply
-after_filing-with_found b f e = ap (after_reply b f) e
+pub left-accepted : (b : BookView) (f : Finding) (filing : Filing) (history : List Entry) → filing ≡ filing_of b f → history ≡ b.history ++ Filed filing ∷ [] → filing.reply ≡ Accepted
+    → record b { held = set b.held filing.number (Some f); history = history } ≡ after_filing b f
+left-accepted b f filing history is entries e =
+    let accepted : reply_to b f ≡ Accepted = sym (ap (λ (x : Filing). x.reply) is) ∙ e in
+    let held : set b.held filing.number (Some f) ≡ held_after b.held f (reply_to b f) = ap (λ (k : ℕ). set b.held k (Some f)) (ap (λ (x : Filing). x.number) is) ∙ sym (held_after-accepted b f accepted) in
+    let all : history ≡ (after_filing b f).history = entries ∙ ap (λ (x : Filing). b.history ++ Filed x ∷ []) is in
+    (λ i. record b { held = held i; history = all i })
 
-pub after_filing-accepted : (b : BookView) (f : Finding) (n : ℕ) → n ≡ number_of f → reply_to b f ≡ Accepted → with_found b n f ≡ after_filing b f
-after_filing-accepted b f n number e = ap (λ (k : ℕ). with_found b k f) number ∙ sym (after_filing-with_found b f e)
-
-after_reply-other : (b : BookView) (f : Finding) (r : Reply) → r ≢ Accepted → after_reply b f r ≡ b
-unfolding after_reply
-after_reply-other b f Accepted other = absurd (other refl)
-after_reply-other b f (Stranger mismatch) other = refl
-after_reply-other b f (Double number) other = refl
-
-pub after_filing-other : (b : BookView) (f : Finding) → reply_to b f ≢ Accepted → after_filing b f ≡ b
-after_filing-other b f other = after_reply-other b f (reply_to b f) other
+pub left-other : (b : BookView) (f : Finding) (filing : Filing) (history : List Entry) → filing ≡ filing_of b f → history ≡ b.history ++ Filed filing ∷ [] → (filing.reply ≡ Accepted → ⊥)
+    → record b { history = history } ≡ after_filing b f
+left-other b f filing history is entries other =
+    let held : b.held ≡ held_after b.held f (reply_to b f) = sym (held_after-other b.held f (reply_to b f) (λ e. other (ap (λ (x : Filing). x.reply) is ∙ e))) in
+    let all : history ≡ (after_filing b f).history = entries ∙ ap (λ (x : Filing). b.history ++ Filed x ∷ []) is in
+    (λ i. record b { held = held i; history = all i })

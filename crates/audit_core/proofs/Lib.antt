@@ -1,5 +1,10 @@
 pub mod Filings
+pub mod Replays
 pub mod BookLaws
+pub mod Counting
+pub mod CoreSteps
+pub mod EventLaws
+pub mod OneVerdict
 pub mod HeldJobs
 pub mod ReportLines
 pub mod Conclusions

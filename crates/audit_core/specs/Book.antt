@@ -1,26 +1,30 @@
--- A book: which reply a finding gets, and what filing makes of the book
-use Rattle.std.specs.Prelude.{◌≡◌, ℕ, Bool, not, if◌then◌else◌, List, length, replicate, nat_eq, nat_lt, Option, Some, None, is_some, slice_get, slice_index_or, slice_set}
-use Rattle.std.specs.Cmp.Lexicographic.{pointwise}
+-- A book: which reply a finding gets, and what filing and closing make of the book
+use Rattle.std.specs.Prelude.{◌≡◌, ℕ, ◌+◌, Bool, true, false, List, [], ◌∷◌, ◌++◌, length, replicate, Option, Some, None, is_some, slice_get, slice_index_or, slice_set}
 use Rattle.std.specs.List.{count_by}
 use Rattle.std.specs.Option.{option_eq}
 use Rattle.certificate.specs.Equality.{same_job}
 use Rattle.certificate.specs.Jobs.{JobState}
 use Rattle.local_run.specs.Shown.{digest_of, number_of, job_of}
 use Rattle.local_run.specs.declared.finding.Finding.{Finding}
-use Rattle.audit_core.specs.declared.reply.Mismatch.TheVariants.{Digest, Number, Content}
+use Rattle.audit_core.specs.Replay.{rule, replay, beginning, has_number, AreDue}
+use Rattle.audit_core.specs.declared.entry.Entry.{Entry}
+use Rattle.audit_core.specs.declared.entry.Entry.TheVariants.{Filed, Closing}
+use Rattle.audit_core.specs.declared.entry.Filing.{Filing}
 use Rattle.audit_core.specs.declared.reply.Reply.{Reply}
-use Rattle.audit_core.specs.declared.reply.Reply.TheVariants.{Stranger, Double, Accepted}
+use Rattle.audit_core.specs.declared.reply.Reply.TheVariants.{Closed, Stranger, Double, Accepted}
 
--- A book as contracts see it: the digest of its certificate, the jobs, and for each of their numbers the finding that is held
--- for it, or `None`
+-- A book as contracts see it: the digest of its certificate, the jobs, for each of their numbers the finding that is held for it,
+-- or `None`, whether it is closed, and an entry for each filing and each closing so far
 pub record BookView : Type 0 where
   pub digest : List ℕ
   pub jobs : List JobState
   pub held : List (Option Finding)
+  pub closed : Bool
+  pub history : List Entry
 
--- a book in which nothing is held
+-- an open book in which nothing is held, without history
 unfoldable pub new_book : List ℕ → List JobState → BookView
-new_book digest jobs = record { digest = digest; jobs = jobs; held = replicate (length jobs) None }
+new_book digest jobs = record { digest = digest; jobs = jobs; held = replicate (length jobs) None; closed = false; history = [] }
 
 -- the finding that is held for a number
 abbrev pub found_in : BookView → ℕ → Option Finding
@@ -37,21 +41,33 @@ is_job_of jobs number job = option_eq same_job (slice_get jobs number) (Some job
 -- the reply to a finding: the first that applies
 unfoldable pub reply_to : BookView → Finding → Reply
 reply_to b f =
-    if not (pointwise nat_eq (digest_of f) b.digest) then Stranger Digest
-    else if not (nat_lt (number_of f) (length b.jobs)) then Stranger Number
-    else if not (is_job_of b.jobs (number_of f) (job_of f)) then Stranger Content
-    else if is_some (found_in b (number_of f)) then Double (number_of f)
-    else Accepted
+    rule b.digest (length b.jobs) b.closed (is_some (found_in b (number_of f))) (digest_of f) (number_of f) (is_job_of b.jobs (number_of f) (job_of f))
 
--- what a reply leaves
-unfoldable pub after_reply : BookView → Finding → Reply → BookView
-after_reply b f Accepted = record b { held = slice_set b.held (number_of f) (Some f) }
-after_reply b f (Stranger mismatch) = b
-after_reply b f (Double number) = b
+-- the entry of a filing
+abbrev pub filing_of : BookView → Finding → Filing
+filing_of b f = record { digest = digest_of f; number = number_of f; same = is_job_of b.jobs (number_of f) (job_of f); reply = reply_to b f }
+
+-- what is held after a reply
+unfoldable pub held_after : List (Option Finding) → Finding → Reply → List (Option Finding)
+held_after held f Accepted = slice_set held (number_of f) (Some f)
+held_after held f Closed = held
+held_after held f (Stranger mismatch) = held
+held_after held f (Double number) = held
+
+-- for how many numbers a finding is held after a reply, where one was held for so many
+abbrev pub count_after : ℕ → Reply → ℕ
+count_after count Accepted = count + 1
+count_after count Closed = count
+count_after count (Stranger mismatch) = count
+count_after count (Double number) = count
 
 -- the book after a filing
 abbrev pub after_filing : BookView → Finding → BookView
-after_filing b f = after_reply b f (reply_to b f)
+after_filing b f = record b { held = held_after b.held f (reply_to b f); history = b.history ++ Filed (filing_of b f) ∷ [] }
+
+-- the book after it is closed
+abbrev pub after_closing : BookView → BookView
+after_closing b = record b { closed = true; history = b.history ++ Closing ∷ [] }
 
 -- the finding is for the book's digest, for this number and for the book's whole job of it
 pub record IsOwn (b : BookView) (number : ℕ) (f : Finding) : Type 0 where
@@ -63,3 +79,11 @@ pub record IsOwn (b : BookView) (number : ℕ) (f : Finding) : Type 0 where
 pub record IsBook (b : BookView) : Type 0 where
   pub places : length b.held ≡ length b.jobs
   pub own : (number : ℕ) (f : Finding) → found_in b number ≡ Some f → IsOwn b number f
+
+-- The history replays to what the book is: each stored reply is the one that the rule gives there, the numbers that were accepted
+-- are those for which a finding is held, and as many, and the book is closed where the history says so
+pub record IsReplayed (b : BookView) : Type 0 where
+  pub due : AreDue b.digest (length b.jobs) beginning b.history
+  pub accepted : (number : ℕ) → has_number (replay b.history).accepted number ≡ is_some (found_in b number)
+  pub count : length (replay b.history).accepted ≡ accepted_in b
+  pub closed_is : (replay b.history).closed ≡ b.closed

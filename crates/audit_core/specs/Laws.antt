@@ -1,11 +1,12 @@
 -- Laws of books
-use Rattle.std.specs.Prelude.{◌≡◌, ◌≢◌, ℕ, length, None, Some, IsSome}
+use Rattle.std.specs.Prelude.{◌≡◌, ◌≢◌, ◌↔◌, ℕ, length, None, Some, IsSome, true}
 use Rattle.local_run.specs.Shown.{number_of, fault_of}
 use Rattle.local_run.specs.declared.finding.Finding.{Finding}
-use Rattle.audit_core.specs.Book.{BookView, IsBook, IsOwn, accepted_in, after_filing, found_in, reply_to}
+use Rattle.audit_core.specs.Book.{BookView, IsBook, IsOwn, IsReplayed, accepted_in, after_closing, after_filing, found_in, reply_to}
 use Rattle.audit_core.specs.Verdicts.{AreHeldBelow}
+use Rattle.audit_core.specs.Replay.{has_closing}
 use Rattle.audit_core.specs.declared.reply.Mismatch.{Mismatch}
-use Rattle.audit_core.specs.declared.reply.Reply.TheVariants.{Stranger, Double, Accepted}
+use Rattle.audit_core.specs.declared.reply.Reply.TheVariants.{Closed, Stranger, Double, Accepted}
 
 -- what is accepted is the book's own, and nothing is held for its number
 abbrev pub AcceptsItsOwn : Type 0
@@ -18,6 +19,10 @@ DoublesWhatIsHeld = (b : BookView) (f : Finding) (number : ℕ) → reply_to b f
 -- what is the book's own is no stranger
 abbrev pub KnowsItsOwn : Type 0
 KnowsItsOwn = (b : BookView) (f : Finding) (number : ℕ) (mismatch : Mismatch) → IsOwn b number f → reply_to b f ≢ Stranger mismatch
+
+-- a closed book answers `Closed`, and no other does
+abbrev pub ClosedAnswersClosed : Type 0
+ClosedAnswersClosed = (b : BookView) (f : Finding) → (reply_to b f ≡ Closed) ↔ (b.closed ≡ true)
 
 -- what is accepted is held from then on
 abbrev pub HoldsWhatIsAccepted : Type 0
@@ -35,6 +40,14 @@ HoldsNothingElse = (b : BookView) (f : Finding) → reply_to b f ≢ Accepted �
 -- a filing leaves a book
 abbrev pub StaysBook : Type 0
 StaysBook = (b : BookView) (f : Finding) → IsBook b → IsBook (after_filing b f)
+
+-- a history that replays to the book does so after a filing, and after a closing
+abbrev pub StaysReplayed : Type 0
+StaysReplayed = (b : BookView) → IsBook b → IsReplayed b → ((f : Finding) → IsReplayed (after_filing b f)) × IsReplayed (after_closing b)
+
+-- a book to which its history replays is closed where the history has a closing entry, and nowhere else
+abbrev pub ClosedByItsHistory : Type 0
+ClosedByItsHistory = (b : BookView) → IsReplayed b → b.closed ≡ has_closing b.history
 
 -- what two books of the same jobs hold for one number has the same fault
 abbrev pub BooksAgree : Type 0

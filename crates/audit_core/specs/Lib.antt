@@ -1,5 +1,11 @@
+pub mod Draws
+pub mod Claims
+pub mod Replay
 pub mod Book
 pub mod BookFields
+pub mod Core
+pub mod CoreFields
 pub mod Laws
 pub mod Verdicts
 pub mod Concluding
+pub mod CoreLaws

@@ -1,7 +1,8 @@
 //! The state of a book.
-ghost use Rattle.std.specs.Prelude.{◌≡◌, ◌≤◌, length, map, IfOk, IfErr, IfNone, IfSome, OnErr, replicate, None, Some, option_copied};
+ghost use Rattle.std.specs.Prelude.{◌≡◌, ◌<◌, ◌≤◌, ◌^◌, length, map, IfOk, IfErr, IfNone, IfSome, OnErr, OnOk, replicate, None, Some, option_copied};
 ghost use Rattle.std.specs.Arc.{arc_value};
 
+use crate::entry::{Entry, Filing};
 use crate::reply::{Mismatch, Reply};
 use certificate::Job;
 use local_run::Finding;
@@ -9,17 +10,19 @@ use std::alloc::{AllocError, Global};
 use std::marker::Model;
 use std::sync::Arc;
 
-/// The jobs of a certificate, under its digest, and for each of their numbers the finding that is held for it, if there is one.
-/// Contracts see it as a `BookView`.
+/// The jobs of a certificate, under its digest, and for each of their numbers the finding that is held for it, if there is one; and
+/// an entry for each filing so far. Contracts see it as a `BookView`.
 ///
 /// By its type each finding that is held was made for the book's digest, for the number that it is held for, and for the book's
-/// whole job of that number.
+/// whole job of that number; and the history replays to what the book holds and to whether it is closed.
 #[derive(Drop)]
 pub struct BookState {
     digest: [u8; 32],
     jobs: Vec<Arc<Job>>,
     found: Vec<Option<Finding>>,
     accepted: usize,
+    closed: bool,
+    history: Vec<Entry>,
 }
 
 impl Model for BookState {
@@ -46,11 +49,12 @@ pub struct NotFiled {
 }
 
 impl BookState {
-    ghost use Rattle.local_run.specs.Shown.{job_of};
+    ghost use Rattle.local_run.specs.Shown.{job_of, number_of};
     ghost use Rattle.audit_core.specs.Verdicts.{IsHeld};
-    ghost use Rattle.audit_core.specs.Book.{IsOwn, accepted_in, after_filing, found_in, new_book, reply_to};
+    ghost use Rattle.audit_core.specs.Book.{IsOwn, IsReplayed, accepted_in, after_closing, after_filing, count_after, filing_of, found_in, is_job_of, new_book, reply_to};
 
-    /// A book of these jobs, numbered from 0 in their order, in which nothing is held. `AllocError` is want of memory.
+    /// An open book of these jobs, numbered from 0 in their order, in which nothing is held, without history. `AllocError` is want
+    /// of memory.
     pub fn new(
         alloc: Global,
         digest: [u8; 32],
@@ -64,47 +68,109 @@ impl BookState {
             jobs,
             found,
             accepted: 0,
+            closed: false,
+            history: Vec::new(alloc),
         })
     }
 
-    /// Files a finding. It is held from now on where the reply is `Accepted`; otherwise it is dropped, and what is held stays.
+    /// Files a finding. It is held from now on where the reply is `Accepted`; otherwise it is dropped, and what is held stays. The
+    /// history gets an entry whatever the reply is.
     ///
-    /// `NotFiled` is want of memory: then the book is as before, and the finding comes back. So far all memory is found by
-    /// `new`, and this call asks for none.
+    /// `NotFiled` is want of memory: then the book is as before, and the finding comes back.
     pub fn file(&mut self, finding: Finding) -> Result<Reply, NotFiled>
         ensures reply { IfOk result (λ r. r ≡ reply_to self.old finding) }
         ensures after { IfOk result (λ _. self.new ≡ after_filing self.old finding) }
+        ensures counted { IfOk result (λ r. accepted_in self.new ≡ count_after (accepted_in self.old) r) }
+        ensures room { OnOk result (length self.new.history < 2 ^ 64) }
         ensures unchanged { OnErr result (self.new ≡ self.old) }
         ensures returned { IfErr result (λ e. e.finding ≡ finding) }
     {
-        let number = finding.number();
-        let reply = self.reply_to(&finding);
-        let Reply::Accepted = reply else {
-            return Ok(reply);
+        let filing = self.filing_of(&finding);
+        if self.history.reserve(1).is_err() {
+            return Err(NotFiled { finding });
+        }
+        self.history.push_reserved(Entry::Filed(filing));
+        let Reply::Accepted = filing.reply else {
+            return Ok(filing.reply);
         };
         self.accepted += 1;
-        self.found[number] = Some(finding);
-        Ok(reply)
+        self.found[filing.number] = Some(finding);
+        Ok(filing.reply)
     }
 
-    // The reply that the finding gets.
-    fn reply_to(&self, finding: &Finding) -> Reply
-        ensures { result ≡ reply_to self.now finding.now }
+    // The entry that the finding gets.
+    fn filing_of(&self, finding: &Finding) -> Filing
+        ensures { result ≡ filing_of self.now finding.now }
     {
         let number = finding.number();
+        let same = self.has_job(number, finding.job());
+        Filing {
+            digest: finding.digest(),
+            number,
+            same,
+            reply: self.reply_to(finding, same),
+        }
+    }
+
+    // Whether this is the whole job of that number.
+    fn has_job(&self, number: usize, job: &Job) -> bool
+        ensures { result ≡ is_job_of self.now.jobs number job.now }
+    {
+        match self.jobs.get(number) {
+            Some(own) => **own == *job,
+            None => false,
+        }
+    }
+
+    // The reply that the finding gets. `same`: its job is the book's of its number.
+    fn reply_to(&self, finding: &Finding, same: bool) -> Reply
+        requires { same ≡ is_job_of self.now.jobs (number_of finding.now) (job_of finding.now) }
+        ensures { result ≡ reply_to self.now finding.now }
+    {
+        if self.closed {
+            return Reply::Closed;
+        }
         if finding.digest() != self.digest {
             return Reply::Stranger(Mismatch::Digest);
         }
-        let Some(own) = self.jobs.get(number) else {
+        let number = finding.number();
+        if number >= self.jobs.len() {
             return Reply::Stranger(Mismatch::Number);
-        };
-        if **own != **finding.job() {
+        }
+        if !same {
             return Reply::Stranger(Mismatch::Content);
         }
         match self.found(number) {
             Some(_) => Reply::Double(number),
             None => Reply::Accepted,
         }
+    }
+
+    /// Closes the book, with an entry that says so: from now on each finding is answered `Closed`. `AllocError` is want of memory:
+    /// then the book is as before.
+    pub fn close(&mut self) -> Result<(), AllocError>
+        ensures after { OnOk result (self.new ≡ after_closing self.old) }
+        ensures unchanged { OnErr result (self.new ≡ self.old) }
+    {
+        self.history.push(Entry::Closing)?;
+        self.closed = true;
+        Ok(())
+    }
+
+    /// Whether the book is closed.
+    pub fn is_closed(&self) -> bool
+        ensures { result ≡ self.now.closed }
+    {
+        self.closed
+    }
+
+    /// What was filed and when the book was closed, in this order. It replays to what the book holds and to whether it is closed.
+    pub fn history(&self) -> &[Entry]
+        ensures entries { result.now ≡ self.now.history }
+        ensures replays { IsReplayed self.now }
+    {
+        let history = &self.history;
+        history.as_slice()
     }
 
     /// The finding that is held for a number. It was made for the book's digest, for this number and for the book's whole job of

@@ -1,5 +1,45 @@
 //! Laws of books, each the contract of a function without a body.
-ghost use Rattle.audit_core.specs.Laws.{AcceptsItsOwn, BooksAgree, DoublesWhatIsHeld, FullBookHoldsAll, HoldsWhatIsAccepted, HoldsNothingElse, KeepsWhatIsHeld, KnowsItsOwn, StaysBook};
+ghost use Rattle.audit_core.specs.CoreLaws.{AcceptsOneForEach, DrawsEachOnce, EmptyWhereAllAreDrawn, EventsKeepWhatIsHeld, EventsReplay, HoldsHonestOwn, HoldsWhatWasAccepted, OnlyAcceptedChangesWhatIsHeld, VerdictIsOne};
+ghost use Rattle.audit_core.specs.Laws.{AcceptsItsOwn, BooksAgree, ClosedAnswersClosed, ClosedByItsHistory, DoublesWhatIsHeld, FullBookHoldsAll, HoldsWhatIsAccepted, HoldsNothingElse, KeepsWhatIsHeld, KnowsItsOwn, StaysBook, StaysReplayed};
+
+/// Whatever happens to a new core: each number below the next was drawn by one seat, once, and no other by any; and a claim answers
+/// `Empty` only where all numbers were drawn.
+pub fn core_draws_each_once()
+    ensures once { DrawsEachOnce }
+    ensures empty { EmptyWhereAllAreDrawn }
+{}
+
+/// Whatever happens to a new core: the findings held are those that were answered `Accepted`, one for each number, each honest and of
+/// the book's whole job; and the history replays to the book.
+pub fn core_holds_what_was_accepted()
+    ensures accepted { HoldsWhatWasAccepted }
+    ensures one { AcceptsOneForEach }
+    ensures honest { HoldsHonestOwn }
+    ensures replays { EventsReplay }
+{}
+
+/// No event changes a finding that is held. No claim, no loss and no filing that is not answered `Accepted` changes what is held.
+pub fn events_keep_what_is_held()
+    ensures kept { EventsKeepWhatIsHeld }
+    ensures only { OnlyAcceptedChangesWhatIsHeld }
+{}
+
+/// The modules of a certificate have one verdict: two books from which it is concluded give the same.
+pub fn verdict_is_one()
+    ensures { VerdictIsOne }
+{}
+
+/// A closed book answers `Closed` to every finding, and no other book does.
+pub fn closed_book_answers_closed()
+    ensures { ClosedAnswersClosed }
+{}
+
+/// Where a book's history replays to it, it does so after each filing and after a closing; and the book is closed where the
+/// history has a closing entry, and nowhere else.
+pub fn history_replays()
+    ensures stays { StaysReplayed }
+    ensures closed { ClosedByItsHistory }
+{}
 
 /// A finding that is accepted is the book's own, by digest, number and whole job, and none is held for its number. One that is
 /// answered `Double` is the book's own, and one is held for its number. One that is the book's own is no stranger.

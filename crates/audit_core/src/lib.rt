@@ -2,15 +2,21 @@
 //!
 //! A finding is held only where it is for the book's certificate, for one of its numbers and for the book's whole job of that
 //! number, and where nothing is held for that number yet. `specs/Book.antt` says what a book is, which reply a finding gets and
-//! what filing makes of a book.
+//! what filing makes of a book. Its history replays to it, by `specs/Replay.antt`.
+//!
+//! The core is the machine of one thread whose steps the threads of a check make: seats claim numbers, findings are filed, and
+//! numbers are lost. `specs/Core.antt` has its steps, and `specs/Claims.antt` what a claim gives.
 //!
 //! There is a verdict only where a finding is held for each module's own whole job. It is yes where no job has a fault and no
 //! border has one, and else no, with the least faults in the order of the modules. `specs/Verdicts.antt` has the definitions.
 #![tactic(auto)]
 
 mod book;
+mod claim;
 mod concluding;
+mod entry;
 pub mod laws;
+mod machine;
 mod reply;
 #[cfg(test)]
 mod tests;
@@ -19,6 +25,9 @@ mod verdict;
 mod verdict_tests;
 
 pub use book::{BookState, NotFiled};
+pub use claim::Claim;
 pub use concluding::conclude;
+pub use entry::{Entry, Filing};
+pub use machine::{Answer, Core, Event, NotApplied};
 pub use reply::{Mismatch, Reply};
 pub use verdict::{ReportLine, Unfinished, Verdict};

@@ -14,6 +14,8 @@ pub enum Mismatch {
 /// The answer to a filing: the first that applies, in this order.
 #[derive(Clone, Copy, Debug, PartialEq, Eq)]
 pub enum Reply {
+    /// The book is closed.
+    Closed,
     /// The finding is not one of this book's.
     Stranger(Mismatch),
     /// A finding is held for this number already.

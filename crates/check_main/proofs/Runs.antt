@@ -3,19 +3,11 @@ use Rattle.std.proofs.Common.{◌≡◌, ◌∙◌, ℕ, List, refl, sym, ap, su
 use Rattle.certificate.specs.Grammars.{CertState}
 use Rattle.certificate.specs.Jobs.{JobState}
 use Rattle.local_run.specs.declared.finding.Finding.{Finding}
-use Rattle.audit_core.specs.Book.{BookView, after_filing, after_reply, new_book, reply_to}
+use Rattle.audit_core.specs.Book.{BookView, after_filing, new_book}
 use Rattle.audit_core.specs.Concluding.{AreOwnJobs}
-use Rattle.audit_core.specs.declared.reply.Reply.{Reply}
-use Rattle.audit_core.specs.declared.reply.Reply.TheVariants.{Stranger, Double, Accepted}
-
-keeps : (b : BookView) (f : Finding) (r : Reply) → (after_reply b f r).jobs ≡ b.jobs
-unfolding after_reply
-keeps b f Accepted = refl
-keeps b f (Stranger mismatch) = refl
-keeps b f (Double number) = refl
 
 pub filing_keeps_jobs : (b : BookView) (f : Finding) → (after_filing b f).jobs ≡ b.jobs
-filing_keeps_jobs b f = keeps b f (reply_to b f)
+filing_keeps_jobs b f = refl
 
 new_jobs : (digest : List ℕ) (jobs : List JobState) → (new_book digest jobs).jobs ≡ jobs
 unfolding new_book

@@ -1,4 +1,4 @@
-use Rattle.std.proofs.Common.{◌≡◌, ◌∙◌, sym, length, map, replicate, None, rules}
+use Rattle.std.proofs.Common.{◌≡◌, ◌∙◌, sym, length, map, replicate, None, false, rules}
 use Rattle.std.specs.Arc.{arc_value}
 use Rattle.std.proofs.lemmas.List.{length-map}
 use Rattle.audit_core.specs.Book.{new_book}
@@ -10,4 +10,4 @@ returns c =
     let found : c.in_ok-found.found.items ≡ replicate (length c.args.jobs.items) None = search rules in
     let places : length (map arc_value c.args.jobs.items) ≡ length c.args.jobs.items = length-map c.args.jobs.items arc_value in
     let held : c.in_ok-found.found.items ≡ replicate (length (map arc_value c.args.jobs.items)) None = found ∙ (λ i. replicate (sym places i) None) in
-    (λ i. record { digest = c.args.digest; jobs = map arc_value c.args.jobs.items; held = held i })
+    (λ i. record { digest = c.args.digest; jobs = map arc_value c.args.jobs.items; held = held i; closed = false; history = c.new.ensures.items i })

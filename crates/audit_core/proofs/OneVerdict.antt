@@ -1,0 +1,50 @@
+-- The modules of a certificate have one verdict
+use Rattle.std.proofs.Common.{◌≡◌, ◌∙◌, ◌<◌, ◌≤◌, ◌∷◌, ℕ, suc, zero, List, [], length, Option, None, Some, refl, sym, ap₂, arith}
+use Rattle.std.specs.Prelude.{slice_get}
+use Rattle.std.proofs.lemmas.Option.{slice_get_within}
+use Rattle.certificate.specs.Entries.{Setting, ModuleLines}
+use Rattle.certificate.specs.Jobs.{JobState}
+use Rattle.local_run.specs.declared.fault.Fault.{Fault}
+use Rattle.local_run.proofs.Least.{least_unique}
+use Rattle.border_match.specs.BorderFaults.{AreBorderFaultsOf}
+use Rattle.border_match.specs.declared.fault.BorderFault.{BorderFault}
+use Rattle.border_match.proofs.Unique.{least_unique as least_border_unique}
+use Rattle.audit_core.specs.CoreLaws.{VerdictIsOne}
+use Rattle.audit_core.specs.Verdicts.{AreLeastFaults, AreReportLines, IsVerdict, lines_from}
+use Rattle.audit_core.specs.declared.verdict.ReportLine.{ReportLine}
+use Rattle.audit_core.specs.declared.verdict.Verdict.TheVariants.{Yes, No}
+
+same-lists : {X : Type 0} (xs ys : List X) → length xs ≡ length ys → ((k : ℕ) (x y : X) → slice_get xs k ≡ Some x → slice_get ys k ≡ Some y → x ≡ y) → xs ≡ ys
+same-lists [] [] len each = refl
+same-lists [] (y ∷ ys) len each = absurd (omega (arith, len))
+same-lists (x ∷ xs) [] len each = absurd (omega (arith, len))
+same-lists (x ∷ xs) (y ∷ ys) len each = ap₂ (λ z zs. z ∷ zs) (each zero x y refl refl) (same-lists xs ys (omega (arith, len)) (λ k. each (suc k)))
+
+none-past : {X : Type 0} (xs : List X) (k : ℕ) → slice_get xs k ≡ None → length xs ≤ k
+none-past [] k e = omega arith
+none-past (x ∷ xs) zero e = absurd cc
+none-past (x ∷ xs) (suc k) e = let rest = none-past xs k e in omega (arith, rest)
+
+faults-same : (jobs : List JobState) (fs gs : List (Option Fault)) → AreLeastFaults jobs fs → AreLeastFaults jobs gs → fs ≡ gs
+faults-same jobs fs gs a b = same-lists fs gs (a.count ∙ sym b.count) each
+  where
+    each : (k : ℕ) (x y : Option Fault) → slice_get fs k ≡ Some x → slice_get gs k ≡ Some y → x ≡ y
+    each k x y hx hy = by_job (slice_get jobs k) refl
+      where
+        by_job : (o : Option JobState) → slice_get jobs k ≡ o → x ≡ y
+        by_job None e = let past = none-past jobs k e in let below : k < length fs = slice_get_within fs k x hx in absurd (omega (arith, past, below, a.count))
+        by_job (Some j) e = least_unique j x y (a.each k j x e hx) (b.each k j y e hy)
+
+borders-same : (g : Setting) (ms : List ModuleLines) (fs gs : List (Option BorderFault)) → AreBorderFaultsOf g ms fs → AreBorderFaultsOf g ms gs → fs ≡ gs
+borders-same g ms fs gs a b = same-lists fs gs (a.count ∙ sym b.count) (λ k x y hx hy. least_border_unique g ms k x y (a.each k x hx) (b.each k y hy))
+
+lines-same : (g : Setting) (ms : List ModuleLines) (jobs : List JobState) (xs ys : List ReportLine) → AreReportLines g ms jobs xs → AreReportLines g ms jobs ys → xs ≡ ys
+lines-same g ms jobs xs ys a b =
+    a.lines_are ∙ (λ i. lines_from 0 (faults-same jobs a.faults b.faults a.are_least b.are_least i) (borders-same g ms a.borders b.borders a.are_border_faults b.are_border_faults i)) ∙ sym b.lines_are
+
+pub verdict-is-one : VerdictIsOne
+unfolding IsVerdict
+verdict-is-one g ms jobs Yes Yes v w = tt
+verdict-is-one g ms jobs Yes (No lines) v w = w.0 v
+verdict-is-one g ms jobs (No lines) Yes v w = v.0 w
+verdict-is-one g ms jobs (No lines) (No others) v w = lines-same g ms jobs lines.items others.items v.1 w.1

@@ -1,0 +1,27 @@
+-- Numbers that were drawn, as lists
+use Rattle.std.specs.Prelude.{◌≡◌, ℕ, ◌+◌, ◌==◌, nat_lt, if◌then◌else◌, List, [], ◌∷◌, length}
+
+-- f of each, added up
+abbrev pub total : {X : Type 0} → (X → ℕ) → List X → ℕ
+total f [] = 0
+total f (x ∷ xs) = f x + total f xs
+
+-- how often x stands in a list
+abbrev pub times : ℕ → List ℕ → ℕ
+times x [] = 0
+times x (y ∷ ys) = (if y == x then 1 else 0) + times x ys
+
+-- 1 for a number below n, and else 0
+abbrev pub once_below : ℕ → ℕ → ℕ
+once_below x n = if nat_lt x n then 1 else 0
+
+-- one more than the last of a list, and 0 for the empty list
+abbrev pub end_of : List ℕ → ℕ
+end_of [] = 0
+end_of (y ∷ []) = y + 1
+end_of (y ∷ z ∷ zs) = end_of (z ∷ zs)
+
+-- As many numbers stand in the lists as the counter says: each number below it in one list, once, and no other in any
+pub record IsDrawn (counter : ℕ) (lists : List (List ℕ)) : Type 0 where
+  pub whole : total length lists ≡ counter
+  pub once : (x : ℕ) → total (times x) lists ≡ once_below x counter

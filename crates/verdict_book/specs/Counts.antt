@@ -1,0 +1,16 @@
+-- What a share counts
+use Rattle.std.specs.Prelude.{ℕ, ◌+◌}
+use Rattle.audit_core.specs.Book.{count_after}
+use Rattle.audit_core.specs.declared.reply.Reply.{Reply}
+
+-- the replies, and those of them that were `Accepted`
+pub record Counts : Type 0 where
+  pub filed : ℕ
+  pub accepted : ℕ
+
+abbrev pub no_counts : Counts
+no_counts = record { filed = 0; accepted = 0 }
+
+-- after one reply more
+abbrev pub counted : Counts → Reply → Counts
+counted c r = record { filed = c.filed + 1; accepted = count_after c.accepted r }

@@ -1,0 +1,75 @@
+//! The locked book.
+ghost use Rattle.std.specs.Prelude.{◌≡◌, ◌≢◌, ◌≤◌, ◌<◌, ℕ, [], replicate, IfErr, IfOk, OnErr};
+ghost use Rattle.audit_core.specs.declared.reply.Reply.TheVariants.{Closed};
+ghost use Rattle.verdict_book.specs.Counts.{counted, no_counts};
+
+use crate::kept::Kept;
+use crate::share::Share;
+use audit_core::{BookState, NotFiled, Reply};
+use local_run::Finding;
+use std::alloc::{AllocError, Global};
+use std::marker::Model;
+use std::sync::ledger::{Blank, Ledger};
+use std::sync::{Mutex, Wait};
+
+/// A book that threads share, over a ledger `F` of filings and a ledger `A` of acceptances. Its shares name both, so a share of
+/// another book does not fit. Contracts see it as the number of its shares.
+#[derive(Drop)]
+pub struct Book<F: Ledger, A: Ledger> {
+    pub(crate) kept: Mutex<Kept<F, A>>,
+    pub(crate) shares: usize,
+}
+
+impl<F: Ledger, A: Ledger> Model for Book<F, A> {
+    ghost Value = { ℕ };
+
+    ghost view = { λ b. b.shares };
+
+    ghost invariant = { λ b. (b.shares ≡ F.parts) × (b.shares ≡ A.parts) × (0 < b.shares) };
+}
+
+impl<F: Ledger, A: Ledger> Book<F, A> {
+    /// Puts a state without history under a lock, with 1 to 64 shares, of which none has counted anything. Each blank is its
+    /// ledger's, and has as many parts. `AllocError` is want of memory: all that was given is dropped.
+    pub fn open(
+        alloc: Global,
+        f: Blank,
+        a: Blank,
+        state: BookState,
+        shares: usize,
+    ) -> Result<(Book<F, A>, Vec<Share<F, A>>), AllocError>
+        requires filings { (f.name ≡ F.name) × (f.parts ≡ F.parts) × (f.parts ≡ shares) }
+        requires acceptances { (a.name ≡ A.name) × (a.parts ≡ A.parts) × (a.parts ≡ shares) }
+        requires count { (0 < shares) × (shares ≤ 64) }
+        requires fresh { state.history ≡ [] }
+        ensures book { IfOk result (λ r. r.0 ≡ shares) }
+        ensures shares { IfOk result (λ r. r.1.items ≡ replicate shares no_counts) }
+    {
+        let (filings, mut all_filings) = f.open::<F>();
+        let (acceptances, mut all_acceptances) = a.open::<A>();
+        let mut parts = Vec::with_capacity(alloc, shares)?;
+        for _share in 0..shares {
+            let share = Share::new(all_filings.split_off(1, 0), all_acceptances.split_off(1, 0));
+            parts.push(share)?;
+        }
+        let kept = Mutex::new(Kept::new(state, filings, acceptances));
+        Ok((Book { kept, shares }, parts))
+    }
+
+    /// Files a finding, in one turn under the lock, for which it may wait. The reply is not `Closed`. The share counts it.
+    ///
+    /// `NotFiled` is want of memory: the finding comes back, and the share is as before.
+    pub fn file<R: Wait>(
+        &self,
+        rt: &R,
+        mine: &mut Share<F, A>,
+        finding: Finding,
+    ) -> Result<Reply, NotFiled>
+        ensures not_closed { IfOk result (λ r. r ≢ Closed) }
+        ensures counted { IfOk result (λ r. mine.new ≡ counted mine.old r) }
+        ensures unchanged { OnErr result (mine.new ≡ mine.old) }
+        ensures returned { IfErr result (λ e. e.finding ≡ finding) }
+    {
+        self.kept.lock(rt).file(mine, finding)
+    }
+}

@@ -1,0 +1,50 @@
+//! The end of a locked book.
+ghost use Rattle.std.specs.Prelude.{◌≡◌, ◌<◌, ◌↔◌, false, length, sum_by, vec_len, IfErr, IfOk, IsErr};
+ghost use Rattle.audit_core.specs.Book.{IsReplayed, accepted_in};
+ghost use Rattle.audit_core.specs.Replay.{has_closing};
+
+use crate::book::Book;
+use crate::share::Share;
+use audit_core::BookState;
+use std::sync::ledger::Ledger;
+
+/// The book out of its lock, and what all its shares counted.
+#[derive(Drop)]
+pub struct Gathered {
+    pub state: BookState,
+    /// How many replies were given.
+    pub filed: u64,
+    /// How many of them were `Accepted`.
+    pub accepted: u64,
+}
+
+/// The book and the shares that are there, since one is missing.
+#[derive(Drop)]
+pub struct NotAll<F: Ledger, A: Ledger> {
+    pub book: Book<F, A>,
+    pub shares: Vec<Share<F, A>>,
+}
+
+/// Takes a book out of its lock, and adds up what all its shares counted.
+///
+/// `NotAll` says that a share is missing: it is tested before any is joined, and all that was given comes back. Takes no memory.
+pub fn gather<F: Ledger, A: Ledger>(
+    book: Book<F, A>,
+    shares: Vec<Share<F, A>>,
+) -> Result<Gathered, NotAll<F, A>>
+    ensures missing { IsErr result ↔ (vec_len shares < book) }
+    ensures returned { IfErr result (λ e. (e.book ≡ book) × (e.shares ≡ shares)) }
+    ensures replays { IfOk result (λ g. IsReplayed g.state) }
+    ensures no_closing { IfOk result (λ g. has_closing g.state.history ≡ false) }
+    ensures still_open { IfOk result (λ g. g.state.closed ≡ false) }
+    ensures filed { IfOk result (λ g. g.filed ≡ length g.state.history) }
+    ensures all_filed { IfOk result (λ g. g.filed ≡ sum_by (λ s. s.filed) shares.items) }
+    ensures accepted { IfOk result (λ g. g.accepted ≡ accepted_in g.state) }
+    ensures all_accepted { IfOk result (λ g. g.accepted ≡ sum_by (λ s. s.accepted) shares.items) }
+{
+    if shares.len() < book.shares {
+        return Err(NotAll { book, shares });
+    }
+    let Book { kept, shares: _ } = book;
+    Ok(kept.into_inner().total(shares))
+}
