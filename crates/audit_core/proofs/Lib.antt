@@ -4,3 +4,7 @@ pub mod HeldJobs
 pub mod ReportLines
 pub mod Conclusions
 pub mod FullBooks
+pub mod LayoutCells
+pub mod JobSignals
+pub mod WholeRuns
+pub mod Examples

@@ -3,3 +3,5 @@ pub mod BookFields
 pub mod Laws
 pub mod Verdicts
 pub mod Concluding
+pub mod Implements
+pub mod HeadlineLaws
