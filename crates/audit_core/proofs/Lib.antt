@@ -8,3 +8,4 @@ pub mod LayoutCells
 pub mod JobSignals
 pub mod WholeRuns
 pub mod Examples
+pub mod YesMeansCorrect
