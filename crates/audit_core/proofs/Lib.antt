@@ -7,5 +7,6 @@ pub mod FullBooks
 pub mod LayoutCells
 pub mod JobSignals
 pub mod WholeRuns
+pub mod InputRuns
 pub mod Examples
 pub mod YesMeansCorrect

@@ -1,15 +1,14 @@
 -- The run of the whole plane is that of the jobs
-use Rattle.std.proofs.Common.{◌≡◌, ℕ, zero, suc, ◌<◌, ◌≤◌, ◌%◌, Bool, true, false, not, ◌&&◌, ◌||◌, List, [], ◌∷◌, Option, Some, refl, sym, ap, ap₂, subst, ◌∙◌, inl, inr, arith}
+use Rattle.std.proofs.Common.{◌≡◌, ℕ, zero, suc, ◌<◌, ◌≤◌, ◌%◌, Bool, true, false, not, ◌&&◌, ◌||◌, List, Some, refl, sym, ap, ap₂, subst, ◌∙◌, inl, inr, arith}
 use Rattle.std.specs.Prelude.{ℤ, ◌≢◌, slice_get}
 use Rattle.std.proofs.lemmas.Bool.{cases_Bool, false≢true, true≢false, not_from_false, not-true}
 use Rattle.bbm_rule.specs.Plane.{State, step, run}
-use Rattle.bbm_rule.proofs.Steps.{step_same, step_dead}
+use Rattle.bbm_rule.proofs.Steps.{step_dead}
 use Rattle.circuit.specs.Bridge.{circuit_of, netlist_of}
-use Rattle.circuit.specs.Meaning.{Satisfies, Valuation, value_of, values_by_name, wire_of}
+use Rattle.circuit.specs.Meaning.{Satisfies, Valuation, values_by_name}
 use Rattle.circuit.specs.declared.entry.Entry.{Entry}
 use Rattle.circuit.proofs.Valuations.{has_valuation}
-use Rattle.pattern.specs.Layout.{Pattern, in_cells, in_ports_on, in_rectangles, is_at, start}
-use Rattle.pattern.specs.declared.parts.Port.{Port}
+use Rattle.pattern.specs.Layout.{Pattern}
 use Rattle.module_box.specs.Boxes.{in_box, some_neighbour, in_ring, in_halo}
 use Rattle.module_box.specs.Laws.{LiesInBox, SameInBox}
 use Rattle.module_box.specs.LocalValues.{seen_by}
@@ -33,7 +32,7 @@ use Rattle.local_run.proofs.OwnWires as own
 use Rattle.border_match.proofs.Modules.{area_at}
 use Rattle.border_match.proofs.SameSignals.{same_signals}
 use Rattle.audit_core.specs.Implements.{run_under}
-use Rattle.audit_core.specs.HeadlineLaws.{IsBundle, IsAcceptedBundle, IsInputName, IsRunOfJobs, StartsAsJobs, StepsAsJobs, EndsAsAsked, AcceptedIsCorrect, InputsDecideTheRun}
+use Rattle.audit_core.specs.HeadlineLaws.{IsBundle, IsAcceptedBundle, IsRunOfJobs, StartsAsJobs, StepsAsJobs, EndsAsAsked, AcceptedIsCorrect}
 use Rattle.audit_core.proofs.JobSignals.{Known, Owner, known_job, job_even, owner_of, meets_seen, live_renumbered, rim_edge_dead, outer_halo_dead, edge_by_circuit, halo_by_circuit}
 use Rattle.audit_core.proofs.LayoutCells.{live_start, start_outside, whole_inside, whole_even, mirror_inside, IsOutput, is_output, met_mirror, met_output, met_other}
 
@@ -293,23 +292,3 @@ correct lines p ms jobs all = record {
     | inr out ↦ absurd (true≢false (sym live ∙ (all_times lines p ms jobs inputs v t all s h).outside x y out))
   ];
 }
-
--- ---- the start by the inputs alone
-
-same_value : (o : Option ℕ) (w : ℕ) (u v : Valuation) → o ≡ Some w → v w ≡ u w → value_of o v ≡ value_of o u
-same_value o w u v e h = ap (λ (o : Option ℕ). value_of o v) e ∙ h ∙ sym (ap (λ (o : Option ℕ). value_of o u) e)
-
-same_ports : (f g : List ℕ → Bool) (ports : List Port) (x y : ℤ) → ((i : ℕ) (q : Port) → slice_get ports i ≡ Some q → f q.name ≡ g q.name) →
-    in_ports_on f ports x y ≡ in_ports_on g ports x y
-same_ports f g [] x y same = refl
-same_ports f g (q ∷ ports) x y same =
-    ap₂ (λ a b. (a && is_at q.cell x y) || b) (same 0 q refl) (same_ports f g ports x y (λ i r e. same (suc i) r e))
-
-pub inputs_decide : InputsDecideTheRun
-unfolding run start
-inputs_decide lines p inputs v zero x y s named =
-    ap (λ b. in_rectangles p.mirrors x y || in_cells p.balls x y || b)
-    (same_ports _ _ p.ins x y (λ i q e. let is : IsInputName lines q.name = named i q e in same_value (wire_of (circuit_of lines) q.name) is.wire inputs v is.named (s.given is.wire is.is_given)))
-inputs_decide lines p inputs v (suc t) x y s named =
-    step_same t _ _ x y (inputs_decide lines p inputs v t _ _ s named) (inputs_decide lines p inputs v t _ _ s named)
-    (inputs_decide lines p inputs v t _ _ s named) (inputs_decide lines p inputs v t _ _ s named)

@@ -1,10 +1,11 @@
 -- Why a yes means the whole pattern, step by step
-use Rattle.std.specs.Prelude.{◌≡◌, ℕ, suc, ℤ, ◌<◌, ◌≤◌, List, None, [], Some, slice_get, IsTrue, IsFalse}
-use Rattle.circuit.specs.Bridge.{circuit_of, netlist_of}
+use Rattle.std.specs.Prelude.{◌≡◌, ℕ, suc, ℤ, ◌<◌, ◌≤◌, List, None, [], Some, slice_get, take, IsTrue, IsFalse}
+use Rattle.circuit.specs.Bridge.{circuit_of, input_names, netlist_of, output_names}
+use Rattle.circuit.specs.Rules.{defined}
 use Rattle.circuit.specs.Meaning.{AreForward, AreOrdered, Satisfies, Valuation, values_by_name, wire_of}
 use Rattle.circuit.specs.declared.entry.Entry.{Entry}
 use Rattle.pattern.specs.Layout.{Pattern}
-use Rattle.pattern.specs.Lines.{AreGoodAfter, parts_of, size_fault}
+use Rattle.pattern.specs.Lines.{AreGoodAfter, AreNamed, parts_of, size_fault}
 use Rattle.pattern.specs.declared.parts.Port.{Port}
 use Rattle.module_box.specs.Boxes.{in_box}
 use Rattle.module_box.specs.LocalValues.{seen_by}
@@ -70,11 +71,20 @@ pub record IsInputName (lines : List Entry) (name : List ℕ) : Type 0 where
   pub named : wire_of (circuit_of lines) name ≡ Some wire
   pub is_given : wire < (netlist_of lines).given
 
--- Where input cells have the names of inputs, the run depends on the values of the inputs alone.
+-- each input cell has the name of an input
+abbrev pub HasInputNames : List Entry → Pattern → Type 0
+HasInputNames lines p = (i : ℕ) (q : Port) → slice_get p.ins i ≡ Some q → IsInputName lines q.name
+
+-- It is so in a layout that was read with the names of the circuit's ports. `Circuit::inputs`, `port_names` and `read_layout` say what
+-- is asked here.
+abbrev pub ReadLayoutHasInputNames : Type 0
+ReadLayoutHasInputNames = (lines : List Entry) (p : Pattern) → take (netlist_of lines).given (defined lines) ≡ input_names lines →
+    AreNamed (Some (record { ins = input_names lines; outs = output_names lines })) (parts_of p) → HasInputNames lines p
+
+-- Then the run depends on the values of the inputs alone: it is that in which just the input cells begin whose input is true.
 abbrev pub InputsDecideTheRun : Type 0
-InputsDecideTheRun = (lines : List Entry) (p : Pattern) (inputs v : Valuation) (t : ℕ) (x y : ℤ) → Satisfies (netlist_of lines) inputs v →
-    ((i : ℕ) (q : Port) → slice_get p.ins i ≡ Some q → IsInputName lines q.name) →
-    run_under (circuit_of lines) p v t x y ≡ run_under (circuit_of lines) p inputs t x y
+InputsDecideTheRun = (lines : List Entry) (p : Pattern) (inputs v : Valuation) (t : ℕ) (x y : ℤ) → HasInputNames lines p →
+    Satisfies (netlist_of lines) inputs v → run_under (circuit_of lines) p v t x y ≡ run_under (circuit_of lines) p inputs t x y
 
 -- ---- some bundle with an odd time is accepted, so the laws are not about nothing
 

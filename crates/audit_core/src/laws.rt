@@ -1,5 +1,5 @@
 //! Laws of books, each the contract of a function without a body.
-ghost use Rattle.audit_core.specs.HeadlineLaws.{AcceptedIsCorrect, EndsAsAsked, Example, InputsDecideTheRun, StartsAsJobs, StepsAsJobs};
+ghost use Rattle.audit_core.specs.HeadlineLaws.{AcceptedIsCorrect, EndsAsAsked, Example, InputsDecideTheRun, ReadLayoutHasInputNames, StartsAsJobs, StepsAsJobs};
 ghost use Rattle.audit_core.specs.Laws.{AcceptsItsOwn, BooksAgree, DoublesWhatIsHeld, FullBookHoldsAll, HoldsWhatIsAccepted, HoldsNothingElse, KeepsWhatIsHeld, KnowsItsOwn, StaysBook};
 
 /// A finding that is accepted is the book's own, by digest, number and whole job, and none is held for its number. One that is
@@ -49,9 +49,11 @@ pub fn accepted_is_correct()
     ensures { AcceptedIsCorrect }
 {}
 
-/// Where input cells have the names of inputs, the run depends on the values of the inputs alone.
+/// In a layout that was read with the names of the circuit's ports input cells have the names of inputs, and then the run depends
+/// on the values of the inputs alone.
 pub fn inputs_decide_the_run()
-    ensures { InputsDecideTheRun }
+    ensures named { ReadLayoutHasInputNames }
+    ensures decided { InputsDecideTheRun }
 {}
 
 /// Some bundle with an odd time is accepted.
