@@ -10,6 +10,8 @@
 
 mod book;
 mod concluding;
+#[cfg(test)]
+mod headline_tests;
 pub mod laws;
 mod reply;
 #[cfg(test)]
