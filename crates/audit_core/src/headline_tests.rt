@@ -43,10 +43,15 @@ fn has(cells: &[Cell], cell: Cell) -> bool {
     cells.iter().any(|other| *other == cell)
 }
 
+fn is_between(first: u32, count: u32, place: i32) -> bool {
+    let (first, place) = (i64::from(first), i64::from(place));
+    first <= place && place < first + i64::from(count)
+}
+
 fn covers(mirror: &Rectangle, cell: Cell) -> bool {
-    let (x, y) = (i64::from(cell.x), i64::from(cell.y));
-    let (left, top) = (i64::from(mirror.x), i64::from(mirror.y));
-    left <= x && x < left + i64::from(mirror.w) && top <= y && y < top + i64::from(mirror.h)
+    let across = is_between(mirror.x, mirror.w, cell.x);
+    let down = is_between(mirror.y, mirror.h, cell.y);
+    across & down
 }
 
 fn is_true(circuit: &Circuit, values: &[bool], name: &Name) -> bool {
@@ -58,9 +63,17 @@ fn is_true(circuit: &Circuit, values: &[bool], name: &Name) -> bool {
 
 /// Whether a cell that is no waste cell is to be live at the end.
 fn is_wanted(circuit: &Circuit, layout: &Layout, values: &[bool], cell: Cell) -> bool {
-    layout.mirrors().iter().any(|mirror| covers(mirror, cell))
-        || layout.outs().iter().any(|port| port.cell == cell
-            && is_true(circuit, values, &port.name))
+    for mirror in layout.mirrors() {
+        if covers(mirror, cell) {
+            return true;
+        }
+    }
+    for port in layout.outs() {
+        if port.cell == cell {
+            return is_true(circuit, values, &port.name);
+        }
+    }
+    false
 }
 
 /// The names of the inputs that are true.
@@ -97,8 +110,71 @@ fn cells_at_the_end(
     }
 }
 
-/// A bundle of at most 16 by 16 cells is accepted, and each whole run of it ends with its mirrors, the outputs whose wire is true,
-/// and nothing else but at waste cells.
+/// The values of as many inputs as the circuit has.
+fn inputs_of(
+    rt: &impl Abort,
+    alloc: Global,
+    circuit: &Circuit,
+    choice: [bool; 2],
+) -> Result<Vec<bool>, Fail> {
+    let [first, second] = choice;
+    match circuit.inputs() {
+        1 => Ok(vec![in alloc; first]?),
+        2 => Ok(vec![in alloc; first, second]?),
+        _ => panic!(rt; "other inputs"),
+    }
+}
+
+/// The cell is live at the end where it is to be, or it is a waste cell.
+fn cell_is_right(
+    circuit: &Circuit,
+    layout: &Layout,
+    values: &[bool],
+    cells: &[Cell],
+    cell: Cell,
+) -> bool {
+    if has(layout.wastes(), cell) {
+        return true;
+    }
+    has(cells, cell) == is_wanted(circuit, layout, values, cell)
+}
+
+/// All cells of a rectangle of 16 by 16 are.
+fn cells_are_right(
+    rt: &impl Abort,
+    circuit: &Circuit,
+    layout: &Layout,
+    values: &[bool],
+    cells: &[Cell],
+) {
+    for y in 0..16 {
+        for x in 0..16 {
+            let right = cell_is_right(circuit, layout, values, cells, Cell { x, y });
+            assert!(rt; right, "at {x} {y}");
+        }
+    }
+}
+
+/// The whole run from these inputs ends with the layout's mirrors, the outputs whose wire is true, and nothing else but at waste
+/// cells.
+fn ends_as_asked(
+    rt: &impl Abort,
+    alloc: Global,
+    circuit: &Circuit,
+    ports: &PortNames,
+    layout: &Layout,
+    choice: [bool; 2],
+) -> Result<(), Fail> {
+    let inputs = inputs_of(rt, alloc, circuit, choice)?;
+    assert!(rt; inputs.len() == circuit.inputs());
+    let values = circuit.values(alloc, &inputs)?;
+    let on = names_on(rt, alloc, ports, &inputs)?;
+    let cells = cells_at_the_end(rt, alloc, layout, &on)?;
+    cells_are_right(rt, circuit, layout, &values, &cells);
+    Ok(())
+}
+
+/// A bundle of at most 16 by 16 cells is accepted, and each whole run of it ends as is asked.
 fn computes(rt: &impl Abort, alloc: Global, text: &str) -> Result<(), Fail> {
     let mut feed = fed(rt, alloc, text.as_bytes());
     let circuit = read_circuit(alloc, &mut feed)?;
@@ -109,26 +185,7 @@ fn computes(rt: &impl Abort, alloc: Global, text: &str) -> Result<(), Fail> {
     let certificate = read_certificate(alloc, &mut feed, &circuit, &layout)?;
     assert_eq!(rt; verdict_on(rt, alloc, &certificate)?, Verdict::Yes);
     for choice in CHOICES {
-        let mut inputs = Vec::new(alloc);
-        for input in choice.iter().take(circuit.inputs()) {
-            inputs.push(*input)?;
-        }
-        assert!(rt; inputs.len() == circuit.inputs());
-        let values = circuit.values(alloc, &inputs)?;
-        let on = names_on(rt, alloc, &ports, &inputs)?;
-        let cells = cells_at_the_end(rt, alloc, &layout, &on)?;
-        for y in 0..16 {
-            for x in 0..16 {
-                let cell = Cell { x, y };
-                if !has(layout.wastes(), cell) {
-                    assert_eq!(rt;
-                        has(&cells, cell),
-                        is_wanted(&circuit, &layout, &values, cell),
-                        "{choice:?} at {x} {y}"
-                    );
-                }
-            }
-        }
+        ends_as_asked(rt, alloc, &circuit, &ports, &layout, choice)?;
     }
     Ok(())
 }
