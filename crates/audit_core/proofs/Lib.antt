@@ -9,3 +9,9 @@ pub mod HeldJobs
 pub mod ReportLines
 pub mod Conclusions
 pub mod FullBooks
+pub mod LayoutCells
+pub mod JobSignals
+pub mod WholeRuns
+pub mod InputRuns
+pub mod Examples
+pub mod YesMeansCorrect

@@ -9,3 +9,5 @@ pub mod Laws
 pub mod Verdicts
 pub mod Concluding
 pub mod CoreLaws
+pub mod Implements
+pub mod HeadlineLaws

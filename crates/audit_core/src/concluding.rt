@@ -1,11 +1,14 @@
 //! From what a book holds to the verdict.
-ghost use Rattle.std.specs.Prelude.{◌≡◌, ◌++◌, ℕ, IfOk, OnOk, Err, length, map};
+ghost use Rattle.std.specs.Prelude.{◌≡◌, ◌++◌, ℕ, IfOk, OnOk, Ok, Err, length, map};
 ghost use Rattle.std.specs.Arc.{arc_value};
 ghost use Rattle.std.specs.Option.{option_to_list};
+ghost use Rattle.circuit.specs.Bridge.{circuit_of};
 ghost use Rattle.border_match.specs.BorderFaults.{AreBorderFaultsOf};
 ghost use Rattle.audit_core.specs.Concluding.{AreOwnJobs, modules, setting};
+ghost use Rattle.audit_core.specs.Implements.{IsCorrect};
 ghost use Rattle.audit_core.specs.Verdicts.{AreHeldBelow, AreLeastFaults, IsFirstMissing, IsVerdict, border_line, lines_from, local_line};
 ghost use Rattle.audit_core.specs.declared.verdict.Unfinished.TheVariants.{Missing};
+ghost use Rattle.audit_core.specs.declared.verdict.Verdict.TheVariants.{Yes};
 
 use crate::book::BookState;
 use crate::verdict::{ReportLine, Unfinished, Verdict};
@@ -18,21 +21,28 @@ use std::sync::Arc;
 /// The verdict on a certificate for its circuit and its layout: from its jobs, the least border fault of each of its modules, and
 /// what a book holds.
 ///
+/// Where it is `Yes`, the whole pattern computes the circuit, for all values of the inputs, and nothing ever leaves its rectangle:
+/// `specs/Implements.antt` says what that is.
+///
 /// `Missing` names the first module for whose whole job the book holds no finding, whatever the book's own digest and jobs are.
 /// `Memory` is want of memory.
 pub fn conclude(
     alloc: Global,
-    _cert: &Cert<'_>,
+    cert: &Cert<'_>,
     jobs: &[Arc<Job>],
     borders: &[Option<BorderFault>],
     book: &BookState,
 ) -> Result<Verdict, Unfinished>
-    requires own { AreOwnJobs _cert.now (map arc_value jobs.now) }
-    requires borders { AreBorderFaultsOf (setting _cert.now) (modules _cert.now) borders.now }
+    requires own { AreOwnJobs cert.now (map arc_value jobs.now) }
+    requires borders { AreBorderFaultsOf (setting cert.now) (modules cert.now) borders.now }
     ensures held { OnOk result (AreHeldBelow book.now (map arc_value jobs.now) (length jobs.now)) }
-    ensures verdict { IfOk result (λ v. IsVerdict (setting _cert.now) (modules _cert.now) (map arc_value jobs.now) v) }
+    ensures verdict { IfOk result (λ v. IsVerdict (setting cert.now) (modules cert.now) (map arc_value jobs.now) v) }
     ensures missing { (number : ℕ) → result ≡ Err (Missing number) → IsFirstMissing book.now (map arc_value jobs.now) number }
+    ensures correct { result ≡ Ok Yes → IsCorrect (circuit_of cert.now.circuit) cert.now.layout }
 {
+    // What is known of the layout, the circuit and the modules.
+    let _size = cert.size();
+    let _count = cert.modules();
     let faults = held_faults(alloc, jobs, book)?;
     let lines = report_lines(alloc, &faults, borders)?;
     if lines.is_empty() {

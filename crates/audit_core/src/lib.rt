@@ -15,6 +15,8 @@ mod book;
 mod claim;
 mod concluding;
 mod entry;
+#[cfg(test)]
+mod headline_tests;
 pub mod laws;
 mod machine;
 mod reply;

@@ -1,6 +1,8 @@
 //! Certificates.
-ghost use Rattle.std.specs.Prelude.{◌≡◌, ◌<◌, ◌≤◌, length, map, slice_get, Some, None};
-ghost use Rattle.pattern.specs.Lines.{size_fault};
+ghost use Rattle.std.specs.Prelude.{◌≡◌, ◌<◌, ◌≤◌, [], length, map, slice_get, Some, None};
+ghost use Rattle.circuit.specs.Bridge.{netlist_of};
+ghost use Rattle.circuit.specs.Meaning.{AreForward, AreOrdered};
+ghost use Rattle.pattern.specs.Lines.{AreGoodAfter, parts_of, size_fault};
 ghost use Rattle.certificate.specs.Entries.{counts_of, modules_of};
 ghost use Rattle.certificate.specs.Grammars.{setting_of};
 ghost use Rattle.certificate.specs.Modules.{AreModules};
@@ -48,10 +50,12 @@ impl<'a> Cert<'a> {
         self.entries.as_slice()
     }
 
-    /// The width, the height and the steps of the layout: even sides of 2 to 512, and at most 4096 steps.
+    /// The width, the height and the steps of the layout: even sides of 2 to 512, and at most 4096 steps. All that stands in the
+    /// layout is inside, and no cell is taken twice at the start, or twice at the end.
     pub fn size(&self) -> Size
         ensures size { result ≡ self.now.layout.size }
         ensures limits { size_fault result ≡ None }
+        ensures good { AreGoodAfter result [] (parts_of self.now.layout) }
     {
         self.layout.size()
     }
@@ -61,11 +65,15 @@ impl<'a> Cert<'a> {
     /// Their boxes tile the layout's rectangle. Each box has an even corner and even sides of 2 to 64. The used gates of a
     /// module rise, and what they use is local before them. Its edge lines are in its ring and not on the rectangle's rim, its
     /// halo lines in its halo and inside the rectangle; their times are odd and below the steps, their wires are local, and
-    /// they are in order. So are the wires of the ports in its box.
+    /// they are in order. So are the wires of the ports in its box. Each gate of the circuit uses wires that are defined before
+    /// it, and has its row at every input.
     pub fn modules(&self) -> usize
         ensures count { result ≡ length (modules_of self.now.entries) }
         ensures good { AreModules (setting_of self.now.circuit self.now.layout) (modules_of self.now.entries) }
+        ensures ordered { AreOrdered (netlist_of self.now.circuit).given (netlist_of self.now.circuit).gates }
+        ensures forward { AreForward (netlist_of self.now.circuit).gates }
     {
+        let _gates = self.circuit.gates();
         self.modules.len()
     }
 

@@ -1,11 +1,14 @@
 -- What the laws of this crate say
-use Rattle.std.specs.Prelude.{◌≡◌, ◌≢◌, ℕ, ℤ, ◌%◌, List, slice_get, Some, IsTrue, IsFalse}
+use Rattle.std.specs.Prelude.{◌≡◌, ◌≢◌, ℕ, ℤ, ◌<◌, ◌%◌, ◌^◌, List, slice_get, Some, IsTrue, IsFalse}
 use Rattle.std.specs.Bool.{Decides}
 use Rattle.bbm_rule.specs.Plane.{State, step}
+use Rattle.bbm_rule.specs.Bits.{bit}
+use Rattle.circuit.specs.Meaning.{Netlist, Satisfies, Valuation, wires}
 use Rattle.module_box.specs.Boxes.{in_box, in_ring, in_halo, IsEven, Tile}
 use Rattle.module_box.specs.Tiling.{rectangle_of, IsTask, IsTileFault}
 use Rattle.module_box.specs.Schedules.{Signals}
-use Rattle.module_box.specs.Locals.{LocalNet}
+use Rattle.module_box.specs.Locals.{LocalNet, AreLocalsOf}
+use Rattle.module_box.specs.LocalValues.{IsLocalValuation, seen_by}
 use Rattle.module_box.specs.Equality.{same_locals, same_signals}
 use Rattle.module_box.specs.declared.boxes.Box2.{Box2}
 use Rattle.module_box.specs.declared.tile.TileFault.{TileFault}
@@ -53,3 +56,18 @@ LocalsEqualityDecides = (l m : LocalNet) → Decides (same_locals l m) (l ≡ m)
 -- and so are two schedules
 abbrev pub ScheduleEqualityDecides : Type 0
 ScheduleEqualityDecides = (s t : Signals) → Decides (same_signals s t) (s ≡ t)
+
+-- every choice of values for some cuts is that of an assignment
+abbrev pub ChoicesAreAssignments : Type 0
+ChoicesAreAssignments = (cuts : ℕ) (values : Valuation) → (a : ℕ) × (a < 2 ^ cuts) × ((i : ℕ) → i < cuts → bit a i ≡ values i)
+
+-- under the assignment the values of the circuit's wires are the module's one local valuation
+pub record SeesCircuit (l : LocalNet) (v : Valuation) (a : ℕ) : Type 0 where
+  pub is_local : IsLocalValuation l a (seen_by l v)
+  pub only : (u : Valuation) → IsLocalValuation l a u → (i : ℕ) → i < wires l.netlist → u i ≡ seen_by l v i
+
+-- Where v satisfies the circuit's netlist, and the assignment gives each cut its value in v, each wire of the module has its
+-- value in v
+abbrev pub LocalValuesAgree : Type 0
+LocalValuesAgree = (n : Netlist) (l : LocalNet) (inputs v : Valuation) (a : ℕ) → AreLocalsOf n l → Satisfies n inputs v →
+    ((i : ℕ) → i < l.netlist.given → bit a i ≡ seen_by l v i) → SeesCircuit l v a

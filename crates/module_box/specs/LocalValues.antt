@@ -5,11 +5,15 @@ use Rattle.circuit.specs.declared.entry.GateKind.{GateKind}
 use Rattle.circuit.specs.declared.entry.GateKind.TheVariants.{Source, Fredkin, Cswap, Interact, Switch, Delay}
 use Rattle.circuit.specs.Meaning.{Valuation, Satisfies}
 use Rattle.circuit.specs.Bridge.{AreValues}
-use Rattle.module_box.specs.Locals.{LocalNet}
+use Rattle.module_box.specs.Locals.{LocalNet, circuit_wire}
 
 -- the local valuations of a module under an assignment: cut i has the value of bit i, and the outputs of the gates follow by their rows
 abbrev pub IsLocalValuation : LocalNet → ℕ → Valuation → Type 0
 IsLocalValuation l cut_bits v = Satisfies l.netlist (bit cut_bits) v
+
+-- the values of the circuit's wires, by the numbers that they have in the module
+abbrev pub seen_by : LocalNet → Valuation → Valuation
+seen_by l v i = v (circuit_wire l i)
 
 -- vs lists each wire's value in the one local valuation under the assignment
 abbrev pub AreLocalValues : LocalNet → ℕ → List Bool → Type 0

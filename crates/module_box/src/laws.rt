@@ -1,6 +1,6 @@
 //! Laws on the definitions alone.
 
-ghost use Rattle.module_box.specs.Laws.{EvenStepStaysInBox, FaultMeansNoTiling, StepDependsOnBoxAndHalo, HaloCellIsRingCellOfOwner, LocalsEqualityDecides, ScheduleEqualityDecides};
+ghost use Rattle.module_box.specs.Laws.{ChoicesAreAssignments, EvenStepStaysInBox, FaultMeansNoTiling, StepDependsOnBoxAndHalo, HaloCellIsRingCellOfOwner, LocalsEqualityDecides, LocalValuesAgree, ScheduleEqualityDecides};
 
 /// An even step maps the cells of an even box into the box, and what it makes there depends on the box alone.
 pub fn even_step_stays_in_box()
@@ -27,4 +27,11 @@ pub fn fault_means_no_tiling()
 pub fn equality_is_of_content()
     ensures locals { LocalsEqualityDecides }
     ensures schedules { ScheduleEqualityDecides }
+{}
+
+/// Some assignment gives each cut the value that its wire has in the circuit; and under such an assignment each wire of the module
+/// has its value in the circuit.
+pub fn local_values_agree()
+    ensures assignment { ChoicesAreAssignments }
+    ensures agree { LocalValuesAgree }
 {}

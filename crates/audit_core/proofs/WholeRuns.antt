@@ -1,0 +1,294 @@
+-- The run of the whole plane is that of the jobs
+use Rattle.std.proofs.Common.{◌≡◌, ℕ, zero, suc, ◌<◌, ◌≤◌, ◌%◌, Bool, true, false, not, ◌&&◌, ◌||◌, List, Some, refl, sym, ap, ap₂, subst, ◌∙◌, inl, inr, arith}
+use Rattle.std.specs.Prelude.{ℤ, ◌≢◌, slice_get}
+use Rattle.std.proofs.lemmas.Bool.{cases_Bool, false≢true, true≢false, not_from_false, not-true}
+use Rattle.bbm_rule.specs.Plane.{State, step, run}
+use Rattle.bbm_rule.proofs.Steps.{step_dead}
+use Rattle.circuit.specs.Bridge.{circuit_of, netlist_of}
+use Rattle.circuit.specs.Meaning.{Satisfies, Valuation, values_by_name}
+use Rattle.circuit.specs.declared.entry.Entry.{Entry}
+use Rattle.circuit.proofs.Valuations.{has_valuation}
+use Rattle.pattern.specs.Layout.{Pattern}
+use Rattle.module_box.specs.Boxes.{in_box, some_neighbour, in_ring, in_halo}
+use Rattle.module_box.specs.Laws.{LiesInBox, SameInBox}
+use Rattle.module_box.specs.LocalValues.{seen_by}
+use Rattle.module_box.specs.Schedules.{signal_at}
+use Rattle.module_box.proofs.BoxSteps.{even_stays, even_local}
+use Rattle.module_box.proofs.Neighbours.{some_neighbour_more, block_x, block_y, block_both, halo_parts, ring_from, near_step, halo_in_ring}
+use Rattle.module_box.proofs.SeenValues.{choices_are_assignments, local_values_agree}
+use Rattle.certificate.specs.Entries.{ModuleLines, areas}
+use Rattle.certificate.specs.Jobs.{JobState, job_start, job_demand, end_demand}
+use Rattle.certificate.specs.Rules.{whole}
+use Rattle.certificate.specs.Signals.{is_live, Meets}
+use Rattle.certificate.specs.declared.job.Demand.{Demand}
+use Rattle.certificate.specs.declared.job.Demand.TheVariants as Demanded
+use Rattle.local_run.specs.Runs.{with_halo, local_run}
+use Rattle.local_run.specs.Faults.{IsFaultUnder}
+use Rattle.local_run.specs.declared.fault.Fault.{Fault}
+use Rattle.local_run.specs.declared.fault.Kind.{Kind}
+use Rattle.local_run.specs.declared.fault.Kind.TheVariants.{Edge, End}
+use Rattle.local_run.proofs.LocalRuns.{even_or_odd, local_even, local_odd}
+use Rattle.local_run.proofs.OwnWires as own
+use Rattle.border_match.proofs.Modules.{area_at}
+use Rattle.border_match.proofs.SameSignals.{same_signals}
+use Rattle.audit_core.specs.Implements.{run_under}
+use Rattle.audit_core.specs.HeadlineLaws.{IsBundle, IsAcceptedBundle, IsRunOfJobs, StartsAsJobs, StepsAsJobs, EndsAsAsked, AcceptedIsCorrect}
+use Rattle.audit_core.proofs.JobSignals.{Known, Owner, known_job, job_even, owner_of, meets_seen, live_renumbered, rim_edge_dead, outer_halo_dead, edge_by_circuit, halo_by_circuit}
+use Rattle.audit_core.proofs.LayoutCells.{live_start, start_outside, whole_inside, whole_even, mirror_inside, IsOutput, is_output, met_mirror, met_output, met_other}
+
+or-false : (b : Bool) → (b || false) ≡ b
+or-false true = refl
+or-false false = refl
+
+stable : (a b : Bool) → ¬ (a ≢ b) → a ≡ b
+stable true true n = refl
+stable true false n = absurd (n true≢false)
+stable false true n = absurd (n false≢true)
+stable false false n = refl
+
+stable_meets : (v : Valuation) (d : Demand) (b : Bool) → ¬ (¬ Meets v d b) → Meets v d b
+stable_meets v Demanded.Dead b n = stable b false n
+stable_meets v Demanded.Live b n = stable b true n
+stable_meets v (Demanded.Wire w) b n = stable b (v w) n
+stable_meets v Demanded.Any b n = tt
+
+-- what the laws on a step share
+record Setting (lines : List Entry) (p : Pattern) (ms : List ModuleLines) (jobs : List JobState) (inputs v : Valuation) : Type 0 where
+  all : IsAcceptedBundle lines p ms jobs
+  satisfied : Satisfies (netlist_of lines) inputs v
+
+-- ---- the start
+
+pub starts : StartsAsJobs
+unfolding run local_run
+starts lines p ms jobs v b = record {
+  outside = λ x y out. start_outside p (values_by_name (circuit_of lines) v) x y b.laid_out out;
+  inside = λ i j e x y h.
+      let k = known_job lines p ms jobs i j b e in
+      sym (live_renumbered j.locals v (job_start j x y) _ (k.is_job.start x y (ap (λ a. in_box a x y) (sym k.is_job.area) ∙ h))
+      ∙ live_start (circuit_of lines) p v x y b.laid_out);
+}
+
+-- ---- no fault
+
+abbrev fault_at : ℕ → Kind → ℤ → ℤ → ℕ → Fault
+fault_at t kind x y a = record { time = t; kind = kind; cell = record { x = x; y = y }; assignment = a }
+
+-- where the wires have their values in the circuit, no job has a fault
+no_fault : (lines : List Entry) (p : Pattern) (ms : List ModuleLines) (jobs : List JobState) (inputs v : Valuation) (i t : ℕ) (j : JobState) (kind : Kind) (x y : ℤ) →
+    Setting lines p ms jobs inputs v → slice_get jobs i ≡ Some j → ¬ IsFaultUnder j (seen_by j.locals v) t kind x y
+no_fault lines p ms jobs inputs v i t j kind x y set e differs =
+    let k = known_job lines p ms jobs i j set.all.bundle e in
+    let a = choices_are_assignments j.locals.netlist.given (seen_by j.locals v) in
+    let agree = local_values_agree (netlist_of lines) j.locals inputs v a.0 k.is_job.locals set.satisfied a.2 in
+    set.all.accepted.no_fault i j (fault_at t kind x y a.0) e (record {
+      in_range = a.1;
+      shown = ∣ record { values = seen_by j.locals v; local = agree.is_local; differs = differs } ∣₁;
+    })
+
+no_edge_fault : (lines : List Entry) (p : Pattern) (ms : List ModuleLines) (jobs : List JobState) (inputs v : Valuation) (i t : ℕ) (j : JobState) (x y : ℤ) →
+    Setting lines p ms jobs inputs v → slice_get jobs i ≡ Some j → t % 2 ≡ 1 → t < p.size.steps → in_ring j.area x y ≡ true →
+    local_run j (seen_by j.locals v) t x y ≡ is_live (seen_by j.locals v) (signal_at j.edges t x y)
+no_edge_fault lines p ms jobs inputs v i t j x y set e odd early ring =
+    let k = known_job lines p ms jobs i j set.all.bundle e in
+    stable _ _ (λ differ. no_fault lines p ms jobs inputs v i t j Edge x y set e (record {
+      odd = odd;
+      early = subst (λ n. t < n) (sym k.is_job.steps) early;
+      ring = ring;
+      differs = differ;
+    }))
+
+no_end_fault : (lines : List Entry) (p : Pattern) (ms : List ModuleLines) (jobs : List JobState) (inputs v : Valuation) (i : ℕ) (j : JobState) (x y : ℤ) →
+    Setting lines p ms jobs inputs v → slice_get jobs i ≡ Some j → in_box j.area x y ≡ true →
+    Meets (seen_by j.locals v) (job_demand j x y) (local_run j (seen_by j.locals v) p.size.steps x y)
+no_end_fault lines p ms jobs inputs v i j x y set e h =
+    let k = known_job lines p ms jobs i j set.all.bundle e in
+    stable_meets _ (job_demand j x y) _ (λ differ. no_fault lines p ms jobs inputs v i p.size.steps j End x y set e (record {
+      last = sym k.is_job.steps;
+      inside = h;
+      differs = differ;
+    }))
+
+-- ---- local runs stay in their boxes
+
+local_stays : (lines : List Entry) (p : Pattern) (ms : List ModuleLines) (i : ℕ) (j : JobState) (u : Valuation) (t : ℕ) → Known lines p ms i j → LiesInBox j.area (local_run j u t)
+unfolding local_run
+local_stays lines p ms i j u zero k x y out = ap (is_live u) (own.start_outside j x y out)
+local_stays lines p ms i j u (suc t) k x y out = elim (even_or_odd t) [
+  | inl e ↦ local_even j u t _ x y e ∙ even_stays j.area t _ (job_even lines p ms i j k) e (local_stays lines p ms i j u t k) x y out
+  | inr o ↦ local_odd j u t _ x y o ∙ ap (λ q. q && step t (with_halo j u t (local_run j u t)) x y) out
+]
+
+-- ---- an even step
+
+even_outside : (lines : List Entry) (p : Pattern) (ms : List ModuleLines) (jobs : List JobState) (inputs v : Valuation) (t : ℕ) →
+    Setting lines p ms jobs inputs v → t % 2 ≡ 0 → IsRunOfJobs lines p jobs v t → LiesInBox (whole p.size) (run_under (circuit_of lines) p v (suc t))
+unfolding run
+even_outside lines p ms jobs inputs v t set e now =
+    even_stays (whole p.size) t (run_under (circuit_of lines) p v t) (whole_even p.size set.all.bundle.limits) e now.outside
+
+even_inside : (lines : List Entry) (p : Pattern) (ms : List ModuleLines) (jobs : List JobState) (inputs v : Valuation) (t i : ℕ) (j : JobState) →
+    Setting lines p ms jobs inputs v → t % 2 ≡ 0 → IsRunOfJobs lines p jobs v t → slice_get jobs i ≡ Some j →
+    SameInBox j.area (run_under (circuit_of lines) p v (suc t)) (local_run j (seen_by j.locals v) (suc t))
+unfolding run local_run
+even_inside lines p ms jobs inputs v t i j set e now at x y h =
+    let k = known_job lines p ms jobs i j set.all.bundle at in
+    even_local j.area t (run_under (circuit_of lines) p v t) (local_run j (seen_by j.locals v) t) (job_even lines p ms i j k) e (now.inside i j at) x y h
+    ∙ sym (local_even j (seen_by j.locals v) t _ x y e)
+
+-- ---- an odd step
+
+-- what is outside the rectangle is outside every box
+outer : (lines : List Entry) (p : Pattern) (ms : List ModuleLines) (jobs : List JobState) (x y : ℤ) (o : Owner lines p ms jobs x y) → IsBundle lines p ms jobs → (x' y' : ℤ) →
+    not (in_box (whole p.size) x' y') ≡ true → not (in_box o.job.area x' y') ≡ true
+outer lines p ms jobs x y o b x' y' out = elim (cases_Bool (in_box o.job.area x' y')) [
+  | inl h ↦ absurd (false≢true (sym (not-true _ out) ∙ b.are_modules.tile.inside x' y' o.number o.known.of.area (area_at ms o.number o.known.of o.known.numbered) (ap (λ a. in_box a x' y') (sym o.known.is_job.area) ∙ h)))
+  | inr h ↦ not_from_false _ h
+]
+
+-- a cell with a neighbour outside the rectangle is dead
+rim_dead : (lines : List Entry) (p : Pattern) (ms : List ModuleLines) (jobs : List JobState) (inputs v : Valuation) (t : ℕ) (x y : ℤ) →
+    Setting lines p ms jobs inputs v → t % 2 ≡ 1 → t < p.size.steps → IsRunOfJobs lines p jobs v t →
+    some_neighbour (λ x' y'. not (in_box (whole p.size) x' y')) x y ≡ true → run_under (circuit_of lines) p v t x y ≡ false
+rim_dead lines p ms jobs inputs v t x y set odd early now near = elim (cases_Bool (in_box (whole p.size) x y)) [
+  | inr out ↦ now.outside x y out
+  | inl h ↦
+      let o : Owner lines p ms jobs x y = owner_of lines p ms jobs x y set.all.bundle h in
+      let ring = ring_from o.job.area x y o.owned (some_neighbour_more _ (λ x' y'. not (in_box o.job.area x' y')) x y (outer lines p ms jobs x y o set.all.bundle) near) in
+      now.inside o.number o.job o.numbered x y o.owned
+      ∙ no_edge_fault lines p ms jobs inputs v o.number t o.job x y set o.numbered odd early ring
+      ∙ rim_edge_dead lines p ms o.number o.job v t x y o.known (ring_from (whole p.size) x y h near)
+]
+
+odd_outside : (lines : List Entry) (p : Pattern) (ms : List ModuleLines) (jobs : List JobState) (inputs v : Valuation) (t : ℕ) →
+    Setting lines p ms jobs inputs v → t % 2 ≡ 1 → t < p.size.steps → IsRunOfJobs lines p jobs v t →
+    LiesInBox (whole p.size) (run_under (circuit_of lines) p v (suc t))
+unfolding run
+odd_outside lines p ms jobs inputs v t set odd early now x y out =
+    let q : State = λ x' y'. not (in_box (whole p.size) x' y') in
+    let h : q x y ≡ true = not_from_false _ out in
+    step_dead t (run_under (circuit_of lines) p v t) x y (now.outside x y out)
+    (rim_dead lines p ms jobs inputs v t _ _ set odd early now (block_both q t x y h))
+    (rim_dead lines p ms jobs inputs v t _ _ set odd early now (block_x q t x y h))
+    (rim_dead lines p ms jobs inputs v t _ _ set odd early now (block_y q t x y h))
+
+-- what stands in the box and its halo before an odd step
+with_halo_inside : (j : JobState) (u : Valuation) (t : ℕ) (s : State) (x y : ℤ) → in_box j.area x y ≡ true → with_halo j u t s x y ≡ s x y
+unfolding with_halo in_halo
+with_halo_inside j u t s x y h =
+    ap (λ q. s x y || ((not q && some_neighbour (in_box j.area) x y) && is_live u (signal_at j.halos t x y))) h ∙ or-false (s x y)
+
+with_halo_outside : (j : JobState) (u : Valuation) (t : ℕ) (s : State) (x y : ℤ) → s x y ≡ false → in_halo j.area x y ≡ true → with_halo j u t s x y ≡ is_live u (signal_at j.halos t x y)
+unfolding with_halo
+with_halo_outside j u t s x y dead h = ap₂ (λ q r. q || (r && is_live u (signal_at j.halos t x y))) dead h
+
+-- a cell of the halo is what the halo lines say
+halo_agrees : (lines : List Entry) (p : Pattern) (ms : List ModuleLines) (jobs : List JobState) (inputs v : Valuation) (t i : ℕ) (j : JobState) (x y : ℤ) →
+    Setting lines p ms jobs inputs v → t % 2 ≡ 1 → t < p.size.steps → IsRunOfJobs lines p jobs v t → slice_get jobs i ≡ Some j → in_halo j.area x y ≡ true →
+    run_under (circuit_of lines) p v t x y ≡ is_live (seen_by j.locals v) (signal_at j.halos t x y)
+halo_agrees lines p ms jobs inputs v t i j x y set odd early now at halo =
+    let b : IsBundle lines p ms jobs = set.all.bundle in
+    let k = known_job lines p ms jobs i j b at in
+    elim (cases_Bool (in_box (whole p.size) x y)) [
+      | inr out ↦ now.outside x y out ∙ sym (outer_halo_dead lines p ms i j v t x y k out)
+      | inl h ↦
+          let o : Owner lines p ms jobs x y = owner_of lines p ms jobs x y b h in
+          let beside : in_halo k.of.area x y ≡ true = ap (λ a. in_halo a x y) (sym k.is_job.area) ∙ halo in
+          let owned : in_box o.known.of.area x y ≡ true = ap (λ a. in_box a x y) (sym o.known.is_job.area) ∙ o.owned in
+          let ring : in_ring o.known.of.area x y ≡ true = halo_in_ring (whole p.size) (areas ms) b.are_modules.tile i o.number k.of.area o.known.of.area x y
+          (area_at ms i k.of k.numbered) (area_at ms o.number o.known.of o.known.numbered) beside owned in
+          now.inside o.number o.job o.numbered x y o.owned
+          ∙ no_edge_fault lines p ms jobs inputs v o.number t o.job x y set o.numbered odd early (ap (λ a. in_ring a x y) o.known.is_job.area ∙ ring)
+          ∙ edge_by_circuit lines p ms o.number o.job v t x y o.known
+          ∙ sym (same_signals _ ms i o.number k.of o.known.of t x y v (set.all.accepted.no_border_fault i) (record {
+            tile = b.are_modules.tile;
+            numbered = k.numbered;
+            owner_numbered = o.known.numbered;
+            odd = odd;
+            early = early;
+            halo = beside;
+            owned = owned;
+          }))
+          ∙ sym (halo_by_circuit lines p ms i j v t x y k)
+    ]
+
+odd_inside : (lines : List Entry) (p : Pattern) (ms : List ModuleLines) (jobs : List JobState) (inputs v : Valuation) (t i : ℕ) (j : JobState) →
+    Setting lines p ms jobs inputs v → t % 2 ≡ 1 → t < p.size.steps → IsRunOfJobs lines p jobs v t → slice_get jobs i ≡ Some j →
+    SameInBox j.area (run_under (circuit_of lines) p v (suc t)) (local_run j (seen_by j.locals v) (suc t))
+unfolding run local_run
+odd_inside lines p ms jobs inputs v t i j set odd early now at x y h =
+    let u : Valuation = seen_by j.locals v in
+    let m : State = with_halo j u t (local_run j u t) in
+    let k = known_job lines p ms jobs i j set.all.bundle at in
+    near_step j.area t (run_under (circuit_of lines) p v t) m
+    (λ x' y' g. now.inside i j at x' y' g ∙ sym (with_halo_inside j u t (local_run j u t) x' y' g))
+    (λ x' y' g. halo_agrees lines p ms jobs inputs v t i j x' y' set odd early now at g
+    ∙ sym (with_halo_outside j u t (local_run j u t) x' y' (local_stays lines p ms i j u t k x' y' (halo_parts j.area x' y' g).0) g))
+    x y h
+    ∙ sym (local_odd j u t (local_run j u t) x y odd ∙ ap (λ q. q && step t m x y) h)
+
+pub steps : StepsAsJobs
+steps lines p ms jobs inputs v t all s early now =
+    let set : Setting lines p ms jobs inputs v = record { all = all; satisfied = s } in
+    elim (even_or_odd t) [
+      | inl e ↦ record {
+        outside = even_outside lines p ms jobs inputs v t set e now;
+        inside = λ i j at. even_inside lines p ms jobs inputs v t i j set e now at;
+      }
+      | inr o ↦ record {
+        outside = odd_outside lines p ms jobs inputs v t set o early now;
+        inside = λ i j at. odd_inside lines p ms jobs inputs v t i j set o early now at;
+      }
+    ]
+
+-- ---- the end
+
+met : (lines : List Entry) (p : Pattern) (ms : List ModuleLines) (jobs : List JobState) (inputs v : Valuation) (x y : ℤ) → Setting lines p ms jobs inputs v →
+    IsRunOfJobs lines p jobs v p.size.steps → in_box (whole p.size) x y ≡ true →
+    Meets v (end_demand (circuit_of lines) p x y) (run_under (circuit_of lines) p v p.size.steps x y)
+met lines p ms jobs inputs v x y set now h =
+    let o : Owner lines p ms jobs x y = owner_of lines p ms jobs x y set.all.bundle h in
+    let here : in_box o.known.of.area x y ≡ true = ap (λ a. in_box a x y) (sym o.known.is_job.area) ∙ o.owned in
+    let seen = meets_seen o.job.locals v (job_demand o.job x y) _ (no_end_fault lines p ms jobs inputs v o.number o.job x y set o.numbered o.owned) in
+    let P : Demand → Type 0 = λ d. Meets v d (local_run o.job (seen_by o.job.locals v) p.size.steps x y) in
+    let Q : Bool → Type 0 = λ b. Meets v (end_demand (circuit_of lines) p x y) b in
+    subst Q (sym (now.inside o.number o.job o.numbered x y o.owned)) (subst P (o.known.is_job.demand x y here) seen)
+
+pub ends : EndsAsAsked
+ends lines p ms jobs inputs v all s now =
+    let set : Setting lines p ms jobs inputs v = record { all = all; satisfied = s } in
+    let good = all.bundle.laid_out in
+    let c = circuit_of lines in
+    record {
+      mirrors = λ x y h. met_mirror c p v x y _ h (met lines p ms jobs inputs v x y set now (mirror_inside p x y good h));
+      outputs = λ i q e.
+          let is : IsOutput p q = is_output p good i q e in
+          met_output c p v q.cell.x q.cell.y q.name _ is.no_mirror is.port (met lines p ms jobs inputs v q.cell.x q.cell.y set now is.inside);
+      elsewhere = λ x y mirror port waste. elim (cases_Bool (in_box (whole p.size) x y)) [
+        | inl h ↦ met_other c p v x y _ mirror port waste (met lines p ms jobs inputs v x y set now h)
+        | inr out ↦ now.outside x y out
+      ];
+    }
+
+-- ---- all times
+
+all_times : (lines : List Entry) (p : Pattern) (ms : List ModuleLines) (jobs : List JobState) (inputs v : Valuation) (t : ℕ) → IsAcceptedBundle lines p ms jobs →
+    Satisfies (netlist_of lines) inputs v → t ≤ p.size.steps → IsRunOfJobs lines p jobs v t
+all_times lines p ms jobs inputs v zero all s h = starts lines p ms jobs v all.bundle
+all_times lines p ms jobs inputs v (suc t) all s h =
+    steps lines p ms jobs inputs v t all s (omega arith) (all_times lines p ms jobs inputs v t all s (omega arith))
+
+pub correct : AcceptedIsCorrect
+correct lines p ms jobs all = record {
+  implements = λ inputs.
+      let found = has_valuation (netlist_of lines) inputs all.bundle.ordered all.bundle.forward in
+      record {
+        values = found.0;
+        satisfied = found.1;
+        looks = ends lines p ms jobs inputs found.0 all found.1 (all_times lines p ms jobs inputs found.0 p.size.steps all found.1 (omega arith));
+      };
+  stays = λ inputs v t s h x y live. elim (cases_Bool (in_box (whole p.size) x y)) [
+    | inl inside ↦ sym (whole_inside p.size x y) ∙ inside
+    | inr out ↦ absurd (true≢false (sym live ∙ (all_times lines p ms jobs inputs v t all s h).outside x y out))
+  ];
+}

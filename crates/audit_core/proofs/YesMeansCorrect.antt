@@ -1,0 +1,38 @@
+-- From a yes to the whole pattern
+use Rattle.std.proofs.Common.{◌≡◌, [], None, List, subst}
+use Rattle.circuit.specs.Bridge.{circuit_of, netlist_of}
+use Rattle.circuit.specs.Meaning.{AreForward, AreOrdered}
+use Rattle.pattern.specs.Lines.{AreGoodAfter, parts_of, size_fault}
+use Rattle.pattern.specs.declared.parts.Size.{Size}
+use Rattle.certificate.specs.Grammars.{CertState}
+use Rattle.certificate.specs.Jobs.{JobState}
+use Rattle.certificate.specs.Modules.{AreModules}
+use Rattle.audit_core.specs.Concluding.{AreOwnJobs, modules, setting}
+use Rattle.audit_core.specs.Implements.{IsCorrect}
+use Rattle.audit_core.specs.Verdicts.{IsVerdict}
+use Rattle.audit_core.specs.declared.verdict.Verdict.TheVariants.{Yes}
+use Rattle.audit_core.proofs.WholeRuns.{correct}
+
+-- what a certificate says of its circuit, its layout and its modules
+pub record IsRead (s : CertState) (size : Size) : Type 0 where
+  pub ordered : AreOrdered (netlist_of s.circuit).given (netlist_of s.circuit).gates
+  pub forward : AreForward (netlist_of s.circuit).gates
+  pub same : size ≡ s.layout.size
+  pub limits : size_fault size ≡ None
+  pub laid_out : AreGoodAfter size [] (parts_of s.layout)
+  pub are_modules : AreModules (setting s) (modules s)
+
+pub yes_means-correct : (s : CertState) (size : Size) (jobs : List JobState) → IsRead s size → AreOwnJobs s jobs → IsVerdict (setting s) (modules s) jobs Yes →
+    IsCorrect (circuit_of s.circuit) s.layout
+unfolding IsVerdict
+yes_means-correct s size jobs is own accepted = correct s.circuit s.layout (modules s) jobs (record {
+  bundle = record {
+    ordered = is.ordered;
+    forward = is.forward;
+    limits = subst (λ (z : Size). size_fault z ≡ None) is.same is.limits;
+    laid_out = subst (λ (z : Size). AreGoodAfter z [] (parts_of s.layout)) is.same is.laid_out;
+    are_modules = is.are_modules;
+    are_jobs = own;
+  };
+  accepted = accepted;
+})

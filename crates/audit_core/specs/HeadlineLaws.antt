@@ -1,0 +1,97 @@
+-- Why a yes means the whole pattern, step by step
+use Rattle.std.specs.Prelude.{◌≡◌, ℕ, suc, ℤ, ◌<◌, ◌≤◌, List, None, [], Some, slice_get, take, IsTrue, IsFalse}
+use Rattle.circuit.specs.Bridge.{circuit_of, input_names, netlist_of, output_names}
+use Rattle.circuit.specs.Rules.{defined}
+use Rattle.circuit.specs.Meaning.{AreForward, AreOrdered, Satisfies, Valuation, values_by_name, wire_of}
+use Rattle.circuit.specs.declared.entry.Entry.{Entry}
+use Rattle.pattern.specs.Layout.{Pattern}
+use Rattle.pattern.specs.Lines.{AreGoodAfter, AreNamed, parts_of, size_fault}
+use Rattle.pattern.specs.declared.parts.Port.{Port}
+use Rattle.module_box.specs.Boxes.{in_box}
+use Rattle.module_box.specs.LocalValues.{seen_by}
+use Rattle.certificate.specs.Entries.{ModuleLines}
+use Rattle.certificate.specs.Grammars.{setting_of}
+use Rattle.certificate.specs.Jobs.{JobState, AreJobsOf}
+use Rattle.certificate.specs.Modules.{AreModules}
+use Rattle.certificate.specs.Rules.{whole}
+use Rattle.local_run.specs.Runs.{local_run}
+use Rattle.audit_core.specs.Implements.{IsCorrect, LooksAsAsked, run_under}
+use Rattle.audit_core.specs.Verdicts.{Accepts}
+
+-- What is known of a bundle that was read: the lines of its circuit, its layout, its modules and their jobs. `Circuit::gates`,
+-- `Layout::size`, `Cert::modules` and `Cert::jobs` say it.
+pub record IsBundle (lines : List Entry) (p : Pattern) (ms : List ModuleLines) (jobs : List JobState) : Type 0 where
+  pub ordered : AreOrdered (netlist_of lines).given (netlist_of lines).gates
+  pub forward : AreForward (netlist_of lines).gates
+  pub limits : size_fault p.size ≡ None
+  pub laid_out : AreGoodAfter p.size [] (parts_of p)
+  pub are_modules : AreModules (setting_of lines p) ms
+  pub are_jobs : AreJobsOf (circuit_of lines) p ms jobs
+
+-- the values of the circuit's wires, and a bundle that is accepted
+pub record IsAcceptedBundle (lines : List Entry) (p : Pattern) (ms : List ModuleLines) (jobs : List JobState) : Type 0 where
+  pub bundle : IsBundle lines p ms jobs
+  pub accepted : Accepts (setting_of lines p) ms jobs
+
+-- At time t no cell outside the rectangle is live, and in the box of each job the plane is the job's run by itself, where the
+-- job's wires have the values that they have in the circuit.
+pub record IsRunOfJobs (lines : List Entry) (p : Pattern) (jobs : List JobState) (v : Valuation) (t : ℕ) : Type 0 where
+  pub outside : (x y : ℤ) → IsFalse (in_box (whole p.size) x y) → IsFalse (run_under (circuit_of lines) p v t x y)
+  pub inside : (i : ℕ) (j : JobState) → slice_get jobs i ≡ Some j → (x y : ℤ) → IsTrue (in_box j.area x y) →
+      run_under (circuit_of lines) p v t x y ≡ local_run j (seen_by j.locals v) t x y
+
+-- it is so at the start
+abbrev pub StartsAsJobs : Type 0
+StartsAsJobs = (lines : List Entry) (p : Pattern) (ms : List ModuleLines) (jobs : List JobState) (v : Valuation) →
+    IsBundle lines p ms jobs → IsRunOfJobs lines p jobs v 0
+
+-- where it is so before a step, and neither a job nor a border has a fault, it is so after the step
+abbrev pub StepsAsJobs : Type 0
+StepsAsJobs = (lines : List Entry) (p : Pattern) (ms : List ModuleLines) (jobs : List JobState) (inputs v : Valuation) (t : ℕ) →
+    IsAcceptedBundle lines p ms jobs → Satisfies (netlist_of lines) inputs v → t < p.size.steps →
+    IsRunOfJobs lines p jobs v t → IsRunOfJobs lines p jobs v (suc t)
+
+-- where it is so after the last step, and no job has a fault, the plane looks as the layout asks
+abbrev pub EndsAsAsked : Type 0
+EndsAsAsked = (lines : List Entry) (p : Pattern) (ms : List ModuleLines) (jobs : List JobState) (inputs v : Valuation) →
+    IsAcceptedBundle lines p ms jobs → Satisfies (netlist_of lines) inputs v →
+    IsRunOfJobs lines p jobs v p.size.steps →
+    LooksAsAsked p (values_by_name (circuit_of lines) v) (run_under (circuit_of lines) p v p.size.steps)
+
+-- so what is accepted is correct
+abbrev pub AcceptedIsCorrect : Type 0
+AcceptedIsCorrect = (lines : List Entry) (p : Pattern) (ms : List ModuleLines) (jobs : List JobState) →
+    IsAcceptedBundle lines p ms jobs → IsCorrect (circuit_of lines) p
+
+-- ---- the start by the inputs alone
+
+-- the name is that of an input
+pub record IsInputName (lines : List Entry) (name : List ℕ) : Type 0 where
+  pub wire : ℕ
+  pub named : wire_of (circuit_of lines) name ≡ Some wire
+  pub is_given : wire < (netlist_of lines).given
+
+-- each input cell has the name of an input
+abbrev pub HasInputNames : List Entry → Pattern → Type 0
+HasInputNames lines p = (i : ℕ) (q : Port) → slice_get p.ins i ≡ Some q → IsInputName lines q.name
+
+-- It is so in a layout that was read with the names of the circuit's ports. `Circuit::inputs`, `port_names` and `read_layout` say what
+-- is asked here.
+abbrev pub ReadLayoutHasInputNames : Type 0
+ReadLayoutHasInputNames = (lines : List Entry) (p : Pattern) → take (netlist_of lines).given (defined lines) ≡ input_names lines →
+    AreNamed (Some (record { ins = input_names lines; outs = output_names lines })) (parts_of p) → HasInputNames lines p
+
+-- Then the run depends on the values of the inputs alone: it is that in which just the input cells begin whose input is true.
+abbrev pub InputsDecideTheRun : Type 0
+InputsDecideTheRun = (lines : List Entry) (p : Pattern) (inputs v : Valuation) (t : ℕ) (x y : ℤ) → HasInputNames lines p →
+    Satisfies (netlist_of lines) inputs v → run_under (circuit_of lines) p v t x y ≡ run_under (circuit_of lines) p inputs t x y
+
+-- ---- some bundle with an odd time is accepted, so the laws are not about nothing
+
+pub record Example : Type 0 where
+  pub lines : List Entry
+  pub layout : Pattern
+  pub modules : List ModuleLines
+  pub jobs : List JobState
+  pub long : 2 ≤ layout.size.steps
+  pub accepted : IsAcceptedBundle lines layout modules jobs

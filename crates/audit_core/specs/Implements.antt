@@ -1,0 +1,48 @@
+-- What a yes promises: the layout computes the circuit.
+--
+-- It is said in words that stand in four other files. Read first, in this order: the plane, a step and a run
+-- (bbm_rule/specs/Plane.antt); what a layout says, and the plane at time 0 and at time t (pattern/specs/Layout.antt); the rows of
+-- the gates (circuit/specs/Gates.antt); which valuations satisfy a circuit (circuit/specs/Meaning.antt).
+use Rattle.std.specs.Prelude.{◌≡◌, ℕ, ℤ, ◌≤◌, Bool, List, slice_get, Some, IsTrue, IsFalse}
+use Rattle.std.specs.List.{list_any}
+use Rattle.bbm_rule.specs.Plane.{State}
+use Rattle.circuit.specs.Meaning.{Circuit, Valuation, Satisfies, values_by_name}
+use Rattle.pattern.specs.Layout.{Pattern, is_at, in_cells, in_rectangles, plane_at}
+use Rattle.pattern.specs.Run.{StaysInside}
+use Rattle.pattern.specs.declared.parts.Port.{Port}
+
+-- ---- one run
+
+-- the cells of the ports
+abbrev pub in_ports : List Port → State
+in_ports ports x y = list_any (λ q. is_at q.cell x y) ports
+
+-- How the plane is to look after the last step, where `value` gives each wire its truth value: mirrors are live, an output cell
+-- is live exactly where its wire is true, and every other cell is dead. Of waste cells nothing is asked.
+pub record LooksAsAsked (p : Pattern) (value : List ℕ → Bool) (state : State) : Type 0 where
+  pub mirrors : (x y : ℤ) → IsTrue (in_rectangles p.mirrors x y) → IsTrue (state x y)
+  pub outputs : (i : ℕ) (q : Port) → slice_get p.outs i ≡ Some q → state q.cell.x q.cell.y ≡ value q.name
+  pub elsewhere : (x y : ℤ) → IsFalse (in_rectangles p.mirrors x y) → IsFalse (in_ports p.outs x y) → IsFalse (in_cells p.wastes x y) →
+      IsFalse (state x y)
+
+-- the plane at time t of the run that begins with the mirrors, the balls and the input cells whose wire is true. An input's wire
+-- has the value that the input has
+abbrev pub run_under : Circuit → Pattern → Valuation → ℕ → State
+run_under c p v t = plane_at p (values_by_name c v) t
+
+-- ---- all runs
+
+-- The inputs have these values. Then the circuit has a valuation, and after the layout's steps the plane looks as asked.
+pub record Computes (c : Circuit) (p : Pattern) (inputs : Valuation) : Type 0 where
+  pub values : Valuation
+  pub satisfied : Satisfies c.netlist inputs values
+  pub looks : LooksAsAsked p (values_by_name c values) (run_under c p values p.size.steps)
+
+-- it does so for all values of the inputs
+abbrev pub Implements : Circuit → Pattern → Type 0
+Implements c p = (inputs : Valuation) → Computes c p inputs
+
+-- and at no time up to the last step there is a live cell outside the rectangle
+pub record IsCorrect (c : Circuit) (p : Pattern) : Type 0 where
+  pub implements : Implements c p
+  pub stays : (inputs v : Valuation) (t : ℕ) → Satisfies c.netlist inputs v → t ≤ p.size.steps → StaysInside p.size (run_under c p v t)

@@ -1,0 +1,81 @@
+-- The values of a circuit's wires, as a module sees them
+use Rattle.std.proofs.Common.{◌≡◌, ℕ, zero, suc, ◌+◌, ◌*◌, ◌/◌, ◌%◌, ◌<◌, ◌^◌, Bool, true, false, eqb, get_or, List, Some, refl, sym, ap, subst, ◌∙◌, arith}
+use Rattle.std.specs.Prelude.{slice_get}
+use Rattle.std.specs.List.{All}
+use Rattle.std.proofs.lemmas.Simd.{map-map}
+use Rattle.std.proofs.lemmas.Nat.Bits.{bit_at_lowest, bit_at-suc}
+use Rattle.std.proofs.lemmas.Option.{slice_get-get_or, slice_get_within, get_or_from_slice_get}
+use Rattle.bbm_rule.specs.Bits.{bit}
+use Rattle.bbm_rule.specs.Plane.{one_if}
+use Rattle.circuit.specs.Gates.{row}
+use Rattle.circuit.specs.Meaning.{Gate, Netlist, Valuation, HasRow, Satisfies}
+use Rattle.circuit.proofs.Valuations.{at_most_one}
+use Rattle.module_box.specs.Locals.{LocalNet, AreLocalsOf, circuit_wire, renumber_gate}
+use Rattle.module_box.specs.LocalValues.{IsLocalValuation, seen_by}
+use Rattle.module_box.specs.Laws.{ChoicesAreAssignments, LocalValuesAgree}
+
+-- ---- the number whose first n bits are these
+
+from_bits : ℕ → Valuation → ℕ
+from_bits zero f = 0
+from_bits (suc n) f = one_if (f 0) + 2 * from_bits n (λ i. f (suc i))
+
+one_if_small : (b : Bool) → one_if b < 2
+one_if_small true = omega arith
+one_if_small false = omega arith
+
+from_bits_below : (n : ℕ) (f : Valuation) → from_bits n f < 2 ^ n
+unfolding from_bits
+from_bits_below zero f = omega arith
+from_bits_below (suc n) f = omega (arith, one_if_small (f 0), from_bits_below n (λ i. f (suc i)))
+
+low_part : (b : Bool) (m : ℕ) → (one_if b + 2 * m) % 2 ≡ one_if b
+low_part true m = omega arith
+low_part false m = omega arith
+
+is_one : (b : Bool) → eqb (one_if b) 1 ≡ b
+is_one true = refl
+is_one false = refl
+
+low_bit : (b : Bool) (m : ℕ) → bit (one_if b + 2 * m) 0 ≡ b
+unfolding bit
+low_bit b m = ap (λ k. eqb k 1) (bit_at_lowest (one_if b + 2 * m) ∙ low_part b m) ∙ is_one b
+
+half : (b : Bool) (m : ℕ) → (one_if b + 2 * m) / 2 ≡ m
+half true m = omega arith
+half false m = omega arith
+
+next_bit : (n i : ℕ) → bit n (suc i) ≡ bit (n / 2) i
+unfolding bit
+next_bit n i = ap (λ k. eqb k 1) (bit_at-suc n i)
+
+bit-from_bits : (n : ℕ) (f : Valuation) (i : ℕ) → i < n → bit (from_bits n f) i ≡ f i
+unfolding from_bits
+bit-from_bits zero f i h = absurd (omega arith)
+bit-from_bits (suc n) f zero h = low_bit (f 0) (from_bits n (λ i. f (suc i)))
+bit-from_bits (suc n) f (suc i) h =
+    next_bit (one_if (f 0) + 2 * from_bits n (λ i. f (suc i))) i
+    ∙ ap (λ m. bit m i) (half (f 0) (from_bits n (λ i. f (suc i)))) ∙ bit-from_bits n (λ i. f (suc i)) i (omega arith)
+
+pub choices_are_assignments : ChoicesAreAssignments
+choices_are_assignments n f = (from_bits n f, from_bits_below n f, bit-from_bits n f)
+
+-- ---- the rows of a module's gates
+
+row_seen : (f : ℕ → ℕ) (v : Valuation) (g : Gate) → HasRow v (renumber_gate f g) → HasRow (λ i. v (f i)) g
+row_seen f v g h = ap (row g.kind) (sym (map-map v f g.ins)) ∙ h ∙ ap Some (map-map v f g.outs)
+
+row_at : (v : Valuation) (gates : List Gate) (k : ℕ) (g : Gate) → All (HasRow v) gates → slice_get gates k ≡ Some g → HasRow v g
+row_at v gates k g all e = subst (HasRow v) (get_or_from_slice_get gates k g g e) (all k g (slice_get_within gates k g e))
+
+seen_valuation : (n : Netlist) (l : LocalNet) (inputs v : Valuation) (a : ℕ) → AreLocalsOf n l → Satisfies n inputs v →
+    ((i : ℕ) → i < l.netlist.given → bit a i ≡ seen_by l v i) → IsLocalValuation l a (seen_by l v)
+seen_valuation n l inputs v a are s bits = record {
+  given = λ i h. sym (bits i h);
+  rows = λ k d h. row_seen (circuit_wire l) v (get_or l.netlist.gates k d) (row_at v n.gates _ _ s.rows (are.used k _ (slice_get-get_or l.netlist.gates k d h)));
+}
+
+pub local_values_agree : LocalValuesAgree
+local_values_agree n l inputs v a are s bits =
+    let seen = seen_valuation n l inputs v a are s bits in
+    record { is_local = seen; only = λ u local i h. at_most_one l.netlist (bit a) u (seen_by l v) are.ordered local seen i h }

@@ -1,0 +1,5 @@
+use Rattle.module_box.proofs.SeenValues.{choices_are_assignments, local_values_agree}
+use Rattle.module_box.proofs.laws.local_values_agree.Goals as goal
+
+pub returns : goal.returns
+returns c = record { assignment = choices_are_assignments; agree = local_values_agree }
