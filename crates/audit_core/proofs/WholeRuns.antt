@@ -31,8 +31,9 @@ use Rattle.local_run.proofs.LocalRuns.{even_or_odd, local_even, local_odd}
 use Rattle.local_run.proofs.OwnWires as own
 use Rattle.border_match.proofs.Modules.{area_at}
 use Rattle.border_match.proofs.SameSignals.{same_signals}
-use Rattle.audit_core.specs.Implements.{run_under}
+use Rattle.audit_core.specs.Implements.{LooksAsAsked, run_under}
 use Rattle.audit_core.specs.HeadlineLaws.{IsBundle, IsAcceptedBundle, IsRunOfJobs, StartsAsJobs, StepsAsJobs, EndsAsAsked, AcceptedIsCorrect}
+use Rattle.audit_core.proofs.InputRuns.{inputs_decide}
 use Rattle.audit_core.proofs.JobSignals.{Known, Owner, known_job, job_even, owner_of, meets_seen, live_renumbered, rim_edge_dead, outer_halo_dead, edge_by_circuit, halo_by_circuit}
 use Rattle.audit_core.proofs.LayoutCells.{live_start, start_outside, whole_inside, whole_even, mirror_inside, IsOutput, is_output, met_mirror, met_output, met_other}
 
@@ -278,17 +279,28 @@ all_times lines p ms jobs inputs v zero all s h = starts lines p ms jobs v all.b
 all_times lines p ms jobs inputs v (suc t) all s h =
     steps lines p ms jobs inputs v t all s (omega arith) (all_times lines p ms jobs inputs v t all s (omega arith))
 
+-- what looks as asked looks so wherever the same cells are live
+looks_same : (p : Pattern) (value : List ℕ → Bool) (now then : State) → ((x y : ℤ) → now x y ≡ then x y) → LooksAsAsked p value now → LooksAsAsked p value then
+looks_same p value now then same looks = record {
+  mirrors = λ x y h. sym (same x y) ∙ looks.mirrors x y h;
+  outputs = λ i q e. sym (same q.cell.x q.cell.y) ∙ looks.outputs i q e;
+  elsewhere = λ x y mirror port waste. sym (same x y) ∙ looks.elsewhere x y mirror port waste;
+}
+
 pub correct : AcceptedIsCorrect
-correct lines p ms jobs all = record {
+correct lines p ms jobs named all = record {
   implements = λ inputs.
       let found = has_valuation (netlist_of lines) inputs all.bundle.ordered all.bundle.forward in
       record {
         values = found.0;
         satisfied = found.1;
-        looks = ends lines p ms jobs inputs found.0 all found.1 (all_times lines p ms jobs inputs found.0 p.size.steps all found.1 (omega arith));
+        looks = looks_same p (values_by_name (circuit_of lines) found.0) _ _ (λ x y. inputs_decide lines p inputs found.0 p.size.steps x y named found.1)
+        (ends lines p ms jobs inputs found.0 all found.1 (all_times lines p ms jobs inputs found.0 p.size.steps all found.1 (omega arith)));
       };
-  stays = λ inputs v t s h x y live. elim (cases_Bool (in_box (whole p.size) x y)) [
-    | inl inside ↦ sym (whole_inside p.size x y) ∙ inside
-    | inr out ↦ absurd (true≢false (sym live ∙ (all_times lines p ms jobs inputs v t all s h).outside x y out))
-  ];
+  stays = λ inputs t h x y live.
+      let found = has_valuation (netlist_of lines) inputs all.bundle.ordered all.bundle.forward in
+      elim (cases_Bool (in_box (whole p.size) x y)) [
+        | inl inside ↦ sym (whole_inside p.size x y) ∙ inside
+        | inr out ↦ absurd (true≢false (sym live ∙ sym (inputs_decide lines p inputs found.0 t x y named found.1) ∙ (all_times lines p ms jobs inputs found.0 t all found.1 h).outside x y out))
+      ];
 }

@@ -1,16 +1,18 @@
 -- From a yes to the whole pattern
-use Rattle.std.proofs.Common.{◌≡◌, [], None, List, subst}
-use Rattle.circuit.specs.Bridge.{circuit_of, netlist_of}
+use Rattle.std.proofs.Common.{◌≡◌, [], None, Some, List, subst, take}
+use Rattle.circuit.specs.Bridge.{circuit_of, input_names, netlist_of}
 use Rattle.circuit.specs.Meaning.{AreForward, AreOrdered}
-use Rattle.pattern.specs.Lines.{AreGoodAfter, parts_of, size_fault}
+use Rattle.circuit.specs.Rules.{defined}
+use Rattle.pattern.specs.Lines.{AreGoodAfter, AreNamed, parts_of, size_fault}
 use Rattle.pattern.specs.declared.parts.Size.{Size}
 use Rattle.certificate.specs.Grammars.{CertState}
 use Rattle.certificate.specs.Jobs.{JobState}
 use Rattle.certificate.specs.Modules.{AreModules}
-use Rattle.audit_core.specs.Concluding.{AreOwnJobs, modules, setting}
+use Rattle.audit_core.specs.Concluding.{AreOwnJobs, modules, port_names_of, setting}
 use Rattle.audit_core.specs.Implements.{IsCorrect}
 use Rattle.audit_core.specs.Verdicts.{IsVerdict}
 use Rattle.audit_core.specs.declared.verdict.Verdict.TheVariants.{Yes}
+use Rattle.audit_core.proofs.InputRuns.{read_layout-names}
 use Rattle.audit_core.proofs.WholeRuns.{correct}
 
 -- what a certificate says of its circuit, its layout and its modules
@@ -21,11 +23,13 @@ pub record IsRead (s : CertState) (size : Size) : Type 0 where
   pub limits : size_fault size ≡ None
   pub laid_out : AreGoodAfter size [] (parts_of s.layout)
   pub are_modules : AreModules (setting s) (modules s)
+  pub inputs : take (netlist_of s.circuit).given (defined s.circuit) ≡ input_names s.circuit
+  pub named : AreNamed (Some (port_names_of s.circuit)) (parts_of s.layout)
 
 pub yes_means-correct : (s : CertState) (size : Size) (jobs : List JobState) → IsRead s size → AreOwnJobs s jobs → IsVerdict (setting s) (modules s) jobs Yes →
     IsCorrect (circuit_of s.circuit) s.layout
 unfolding IsVerdict
-yes_means-correct s size jobs is own accepted = correct s.circuit s.layout (modules s) jobs (record {
+yes_means-correct s size jobs is own accepted = correct s.circuit s.layout (modules s) jobs (read_layout-names s.circuit s.layout is.inputs is.named) (record {
   bundle = record {
     ordered = is.ordered;
     forward = is.forward;

@@ -1,6 +1,8 @@
 -- What is concluded of a certificate and a book
 use Rattle.std.specs.Prelude.{List}
-use Rattle.circuit.specs.Bridge.{circuit_of}
+use Rattle.section_text.specs.Ports.{Named}
+use Rattle.circuit.specs.Bridge.{circuit_of, input_names, output_names}
+use Rattle.circuit.specs.declared.entry.Entry.{Entry}
 use Rattle.certificate.specs.Entries.{Setting, ModuleLines, modules_of}
 use Rattle.certificate.specs.Grammars.{CertState, setting_of}
 use Rattle.certificate.specs.Jobs.{JobState, AreJobsOf}
@@ -14,3 +16,7 @@ modules s = modules_of s.entries
 -- these are the jobs of the certificate's modules
 abbrev pub AreOwnJobs : CertState → List JobState → Type 0
 AreOwnJobs s jobs = AreJobsOf (circuit_of s.circuit) s.layout (modules s) jobs
+
+-- the names that the ports of a layout for the circuit may have
+abbrev pub port_names_of : List Entry → Named
+port_names_of lines = record { ins = input_names lines; outs = output_names lines }

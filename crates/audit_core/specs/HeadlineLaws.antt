@@ -58,11 +58,6 @@ EndsAsAsked = (lines : List Entry) (p : Pattern) (ms : List ModuleLines) (jobs :
     IsRunOfJobs lines p jobs v p.size.steps →
     LooksAsAsked p (values_by_name (circuit_of lines) v) (run_under (circuit_of lines) p v p.size.steps)
 
--- so what is accepted is correct
-abbrev pub AcceptedIsCorrect : Type 0
-AcceptedIsCorrect = (lines : List Entry) (p : Pattern) (ms : List ModuleLines) (jobs : List JobState) →
-    IsAcceptedBundle lines p ms jobs → IsCorrect (circuit_of lines) p
-
 -- ---- the start by the inputs alone
 
 -- the name is that of an input
@@ -85,6 +80,13 @@ ReadLayoutHasInputNames = (lines : List Entry) (p : Pattern) → take (netlist_o
 abbrev pub InputsDecideTheRun : Type 0
 InputsDecideTheRun = (lines : List Entry) (p : Pattern) (inputs v : Valuation) (t : ℕ) (x y : ℤ) → HasInputNames lines p →
     Satisfies (netlist_of lines) inputs v → run_under (circuit_of lines) p v t x y ≡ run_under (circuit_of lines) p inputs t x y
+
+-- ---- the whole
+
+-- so what is accepted is correct, where input cells have the names of inputs
+abbrev pub AcceptedIsCorrect : Type 0
+AcceptedIsCorrect = (lines : List Entry) (p : Pattern) (ms : List ModuleLines) (jobs : List JobState) →
+    HasInputNames lines p → IsAcceptedBundle lines p ms jobs → IsCorrect (circuit_of lines) p
 
 -- ---- some bundle with an odd time is accepted, so the laws are not about nothing
 

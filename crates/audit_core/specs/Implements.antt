@@ -25,18 +25,18 @@ pub record LooksAsAsked (p : Pattern) (value : List ℕ → Bool) (state : State
   pub elsewhere : (x y : ℤ) → IsFalse (in_rectangles p.mirrors x y) → IsFalse (in_ports p.outs x y) → IsFalse (in_cells p.wastes x y) →
       IsFalse (state x y)
 
--- the plane at time t of the run that begins with the mirrors, the balls and the input cells whose wire is true. An input's wire
--- has the value that the input has
+-- the plane at time t of the run that begins with the mirrors, the balls and the input cells whose wire is true under v
 abbrev pub run_under : Circuit → Pattern → Valuation → ℕ → State
 run_under c p v t = plane_at p (values_by_name c v) t
 
 -- ---- all runs
 
--- The inputs have these values. Then the circuit has a valuation, and after the layout's steps the plane looks as asked.
+-- The inputs have these values. Then the circuit has a valuation, and after the layout's steps the plane that began with the true
+-- inputs looks as asked under it.
 pub record Computes (c : Circuit) (p : Pattern) (inputs : Valuation) : Type 0 where
   pub values : Valuation
   pub satisfied : Satisfies c.netlist inputs values
-  pub looks : LooksAsAsked p (values_by_name c values) (run_under c p values p.size.steps)
+  pub looks : LooksAsAsked p (values_by_name c values) (run_under c p inputs p.size.steps)
 
 -- it does so for all values of the inputs
 abbrev pub Implements : Circuit → Pattern → Type 0
@@ -45,4 +45,4 @@ Implements c p = (inputs : Valuation) → Computes c p inputs
 -- and at no time up to the last step there is a live cell outside the rectangle
 pub record IsCorrect (c : Circuit) (p : Pattern) : Type 0 where
   pub implements : Implements c p
-  pub stays : (inputs v : Valuation) (t : ℕ) → Satisfies c.netlist inputs v → t ≤ p.size.steps → StaysInside p.size (run_under c p v t)
+  pub stays : (inputs : Valuation) (t : ℕ) → t ≤ p.size.steps → StaysInside p.size (run_under c p inputs t)

@@ -1,10 +1,11 @@
 //! From what a book holds to the verdict.
-ghost use Rattle.std.specs.Prelude.{◌≡◌, ◌++◌, ℕ, IfOk, OnOk, Ok, Err, length, map};
+ghost use Rattle.std.specs.Prelude.{◌≡◌, ◌++◌, ℕ, IfOk, OnOk, Ok, Err, Some, length, map};
 ghost use Rattle.std.specs.Arc.{arc_value};
 ghost use Rattle.std.specs.Option.{option_to_list};
 ghost use Rattle.circuit.specs.Bridge.{circuit_of};
+ghost use Rattle.pattern.specs.Lines.{AreNamed, parts_of};
 ghost use Rattle.border_match.specs.BorderFaults.{AreBorderFaultsOf};
-ghost use Rattle.audit_core.specs.Concluding.{AreOwnJobs, modules, setting};
+ghost use Rattle.audit_core.specs.Concluding.{AreOwnJobs, modules, port_names_of, setting};
 ghost use Rattle.audit_core.specs.Implements.{IsCorrect};
 ghost use Rattle.audit_core.specs.Verdicts.{AreHeldBelow, AreLeastFaults, IsFirstMissing, IsVerdict, border_line, lines_from, local_line};
 ghost use Rattle.audit_core.specs.declared.verdict.Unfinished.TheVariants.{Missing};
@@ -18,8 +19,8 @@ use local_run::Fault;
 use std::alloc::{AllocError, Global};
 use std::sync::Arc;
 
-/// The verdict on a certificate for its circuit and its layout: from its jobs, the least border fault of each of its modules, and
-/// what a book holds.
+/// The verdict on a certificate for its circuit and its layout, which was read with the names of the circuit's ports: from its jobs,
+/// the least border fault of each of its modules, and what a book holds.
 ///
 /// Where it is `Yes`, the whole pattern computes the circuit, for all values of the inputs, and nothing ever leaves its rectangle:
 /// `specs/Implements.antt` says what that is.
@@ -33,6 +34,7 @@ pub fn conclude(
     borders: &[Option<BorderFault>],
     book: &BookState,
 ) -> Result<Verdict, Unfinished>
+    requires named { AreNamed (Some (port_names_of cert.now.circuit)) (parts_of cert.now.layout) }
     requires own { AreOwnJobs cert.now (map arc_value jobs.now) }
     requires borders { AreBorderFaultsOf (setting cert.now) (modules cert.now) borders.now }
     ensures held { OnOk result (AreHeldBelow book.now (map arc_value jobs.now) (length jobs.now)) }

@@ -18,7 +18,7 @@ use Rattle.circuit.specs.Grammars.{circuit_grammar, circuit_value}
 use Rattle.circuit.specs.declared.entry.Entry.{Entry as CircuitLine}
 use Rattle.pattern.specs.Grammars.{layout_grammar, layout_value}
 use Rattle.pattern.specs.Layout.{Pattern}
-use Rattle.pattern.specs.Lines.{parts_of}
+use Rattle.pattern.specs.Lines.{AreNamed, parts_of}
 use Rattle.pattern.specs.declared.parts.Part.{Part}
 use Rattle.pattern.specs.declared.parts.Part.TheVariants.{Mirror, Ball, In, Out, Waste}
 use Rattle.pattern.specs.declared.parts.Port.{Port}
@@ -28,14 +28,17 @@ use Rattle.certificate.specs.Grammars.{CertState, certificate_grammar, certifica
 use Rattle.certificate.specs.declared.entry.Entry.{Entry}
 use Rattle.check_main.specs.Answers.{Answered}
 use Rattle.check_main.specs.BundleReading.{SaysOf, TellsRefusal, bundle_by}
-use Rattle.check_main.specs.BundleText.{Bundle, bundle_of, in_port, out_port, port_names_of, setting_by}
-use Rattle.check_main.specs.CheckText.{SaysReport}
+use Rattle.audit_core.specs.Concluding.{port_names_of}
+use Rattle.check_main.specs.BundleText.{Bundle, bundle_of, in_port, out_port, setting_by}
+use Rattle.audit_core.specs.Implements.{IsCorrect}
+use Rattle.check_main.specs.CheckText.{IsRightBundle, SaysReport}
 use Rattle.check_main.specs.ModulesText.{SaysModules}
 use Rattle.check_main.specs.declared.bundle.Question.{Question}
 use Rattle.check_main.specs.declared.bundle.Question.TheVariants.{Report, Modules}
 use Rattle.check_main.specs.declared.fault.CheckFault.{CheckFault}
 use Rattle.check_main.specs.declared.outcome.Answered.{Answered as Answer}
 use Rattle.check_main.specs.declared.outcome.Outcome.{Outcome}
+use Rattle.check_main.specs.declared.outcome.Outcome.TheVariants as ended
 
 -- ---- the ports of a layout, by its lines
 
@@ -174,3 +177,21 @@ report_says question bundle r is says = subst (λ q. IfOk r (λ a. SaysOf q bund
 
 pub modules_says : (question : Question) (bundle : Bundle) (r : Result Answer CheckFault) → question ≡ Modules → IfOk r (λ a. SaysModules bundle a.output.items a.outcome) → IfOk r (λ a. SaysOf question bundle a.output.items a.outcome)
 modules_says question bundle r is says = subst (λ q. IfOk r (λ a. SaysOf q bundle a.output.items a.outcome)) (sym is) says
+
+pub other_question : Modules ≡ Report → ⊥
+other_question e = cc
+
+-- ---- what a yes means
+
+pub refused_not_yes : ended.Refused ≡ ended.Yes → ⊥
+refused_not_yes e = cc
+
+-- the ports of the certificate's layout are named as those of its circuit
+pub named_by : (circuit : List CircuitLine) (layout : Pattern) (ports : Option Named) (c : CertState) → ports ≡ Some (port_names_of circuit) → c.circuit ≡ circuit → c.layout ≡ layout → AreNamed ports (parts_of layout) →
+    AreNamed (Some (port_names_of c.circuit)) (parts_of c.layout)
+named_by circuit layout ports c are same_circuit same_layout named =
+    subst (λ (p : Pattern). AreNamed (Some (port_names_of c.circuit)) (parts_of p)) (sym same_layout)
+    (subst (λ cs. AreNamed (Some (port_names_of cs)) (parts_of layout)) (sym same_circuit) (subst (λ o. AreNamed o (parts_of layout)) are named))
+
+pub right_bundle : (text : List ℕ) (c : CertState) → bundle_of text ≡ Ok (bundle_by c) → IsCorrect (circuit_of c.circuit) c.layout → IsRightBundle text
+right_bundle text c reads correct = record { bundle = bundle_by c; reads = reads; layout = c.layout; lines = refl; correct = correct }

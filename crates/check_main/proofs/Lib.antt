@@ -5,3 +5,4 @@ mod OneValue
 pub mod ModuleText
 mod Bundles
 mod Runs
+mod OneReport

@@ -106,7 +106,7 @@ module _ (p : Pattern) where
   wastes_are = split_five waste_of (map Mirror p.mirrors) (map Ball p.balls) (map In p.ins) (map Out p.outs) (map Waste p.wastes)
       ∙ rw (picks_none waste_of Mirror (λ r. refl) p.mirrors, picks_none waste_of Ball (λ c. refl) p.balls, picks_none waste_of In (λ q. refl) p.ins, picks_none waste_of Out (λ q. refl) p.outs, picks_all waste_of Waste (λ c. c) (λ c. refl) p.wastes, map_same p.wastes) refl
 
-one_layout : (p q : Pattern) → layout_value p ≡ layout_value q → p ≡ q
+pub one_layout : (p q : Pattern) → layout_value p ≡ layout_value q → p ≡ q
 one_layout p q e =
     let s = ap (λ (v : Size × List Part). v.0) e in
     let parts = ap (λ (v : Size × List Part). v.1) e in

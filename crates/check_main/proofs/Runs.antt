@@ -5,6 +5,10 @@ use Rattle.certificate.specs.Jobs.{JobState}
 use Rattle.local_run.specs.declared.finding.Finding.{Finding}
 use Rattle.audit_core.specs.Book.{BookView, after_filing, new_book}
 use Rattle.audit_core.specs.Concluding.{AreOwnJobs}
+use Rattle.audit_core.specs.declared.verdict.Verdict.{Verdict}
+use Rattle.audit_core.specs.declared.verdict.Verdict.TheVariants as verdict
+use Rattle.check_main.specs.CheckText.{verdict_outcome}
+use Rattle.check_main.specs.declared.outcome.Outcome.TheVariants as ended
 
 pub filing_keeps_jobs : (b : BookView) (f : Finding) → (after_filing b f).jobs ≡ b.jobs
 filing_keeps_jobs b f = refl
@@ -17,3 +21,8 @@ new_jobs digest jobs = refl
 pub own_jobs : (c : CertState) (made shown : List JobState) (digest : List ℕ) (old new : BookView) → AreOwnJobs c made → old ≡ new_book digest made → new.jobs ≡ old.jobs → shown ≡ new.jobs → AreOwnJobs c shown
 own_jobs c made shown digest old new own opened kept is =
     subst (AreOwnJobs c) (sym (is ∙ kept ∙ ap (λ (b : BookView). b.jobs) opened ∙ new_jobs digest made)) own
+
+-- only a yes ends as one
+pub yes_verdict : (v : Verdict) → verdict_outcome v ≡ ended.Yes → v ≡ verdict.Yes
+yes_verdict verdict.Yes e = refl
+yes_verdict (verdict.No lines) e = absurd cc

@@ -3,9 +3,8 @@ use Rattle.std.specs.Prelude.{ℕ, List, [], ◌∷◌, ◌++◌, Result, Some}
 use Rattle.std.specs.List.{flat_map}
 use Rattle.section_text.specs.Words.{lines_of, rest_of}
 use Rattle.section_text.specs.Sections.{section_then, finished}
-use Rattle.section_text.specs.Ports.{Named}
 use Rattle.section_text.specs.declared.fault.Refusal.{Refusal}
-use Rattle.circuit.specs.Bridge.{circuit_of, input_names, output_names}
+use Rattle.circuit.specs.Bridge.{circuit_of}
 use Rattle.circuit.specs.Grammars.{circuit_grammar}
 use Rattle.circuit.specs.declared.entry.Entry.{Entry as CircuitLine}
 use Rattle.pattern.specs.Grammars.{layout_grammar}
@@ -15,6 +14,7 @@ use Rattle.pattern.specs.declared.parts.Port.{Port}
 use Rattle.pattern.specs.declared.parts.Size.{Size}
 use Rattle.certificate.specs.Entries.{Setting}
 use Rattle.certificate.specs.Grammars.{certificate_grammar}
+use Rattle.audit_core.specs.Concluding.{port_names_of}
 use Rattle.certificate.specs.declared.entry.Entry.{Entry}
 
 -- what was read of a bundle: the lines of each section
@@ -46,10 +46,6 @@ setting_by circuit size parts = record {
   size = size;
   ports = flat_map in_port parts ++ flat_map out_port parts;
 }
-
--- the names that the ports of the layout may have
-abbrev pub port_names_of : List CircuitLine → Named
-port_names_of circuit = record { ins = input_names circuit; outs = output_names circuit }
 
 -- A circuit section, a layout section whose ports are named as its inputs and outputs, a certificate section for both, and
 -- nothing more.

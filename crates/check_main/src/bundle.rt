@@ -1,5 +1,10 @@
 //! Reads a bundle, and answers what is asked of it.
-ghost use Rattle.std.specs.Prelude.{◌≡◌, true, None, IfErr, IfOk, IsErrOf};
+ghost use Rattle.std.specs.Prelude.{◌≡◌, true, None, Some, IfErr, IfOk, IsErrOf};
+ghost use Rattle.circuit.specs.Bridge.{circuit_of};
+ghost use Rattle.pattern.specs.Lines.{AreNamed, parts_of};
+ghost use Rattle.audit_core.specs.Concluding.{port_names_of};
+ghost use Rattle.audit_core.specs.Implements.{IsCorrect};
+ghost use Rattle.check_main.specs.CheckText.{IsRightBundle};
 ghost use Rattle.check_main.specs.BundleReading.{IsAnswerOf, SaysOf, TellsRefusal, bundle_by};
 ghost use Rattle.check_main.specs.Status.{IsUndecided};
 
@@ -33,6 +38,7 @@ pub(crate) fn bundle_text(
     requires unread { feed.old.taken ≡ 0 }
     requires going { feed.old.stop ≡ None }
     ensures answered { IfOk result (λ answered. IsAnswerOf question feed.old.text answered.output.items answered.outcome) }
+    ensures correct { IfOk result (λ answered. question ≡ Question.Report → answered.outcome ≡ Outcome.Yes → IsRightBundle feed.old.text) }
     ensures undecided { IfErr result IsUndecided }
     ensures missing { IsErrOf result CheckFault.Missing → question ≡ Question.Report }
 {
@@ -73,7 +79,9 @@ fn refused(alloc: Global, fault: ReadFault) -> Result<Answered, CheckFault>
 }
 
 fn answer(alloc: Global, cert: &Cert<'_>, question: Question) -> Result<Answered, CheckFault>
+    requires named { AreNamed (Some (port_names_of cert.now.circuit)) (parts_of cert.now.layout) }
     ensures answered { IfOk result (λ answered. SaysOf question (bundle_by cert.now) answered.output.items answered.outcome) }
+    ensures correct { IfOk result (λ answered. question ≡ Question.Report → answered.outcome ≡ Outcome.Yes → IsCorrect (circuit_of cert.now.circuit) cert.now.layout) }
     ensures undecided { IfErr result IsUndecided }
     ensures missing { IsErrOf result CheckFault.Missing → question ≡ Question.Report }
 {

@@ -1,5 +1,9 @@
 //! Checks a certificate: runs its modules one after the other, and reports what was found.
-ghost use Rattle.std.specs.Prelude.{◌≡◌, IfErr, IfOk, OnOk};
+ghost use Rattle.std.specs.Prelude.{◌≡◌, IfErr, IfOk, Ok, OnOk, Some};
+ghost use Rattle.circuit.specs.Bridge.{circuit_of};
+ghost use Rattle.pattern.specs.Lines.{AreNamed, parts_of};
+ghost use Rattle.audit_core.specs.Concluding.{port_names_of};
+ghost use Rattle.audit_core.specs.Implements.{IsCorrect};
 ghost use Rattle.check_main.specs.BundleReading.{bundle_by};
 ghost use Rattle.check_main.specs.CheckText.{IsVerdictOn, SaysReport, verdict_outcome};
 ghost use Rattle.check_main.specs.Status.{IsUndecided};
@@ -15,7 +19,9 @@ use std::alloc::{AllocError, Global};
 
 /// The report on a certificate.
 pub(crate) fn report_on(alloc: Global, cert: &Cert<'_>) -> Result<Answered, CheckFault>
+    requires named { AreNamed (Some (port_names_of cert.now.circuit)) (parts_of cert.now.layout) }
     ensures says { IfOk result (λ answered. SaysReport (bundle_by cert.now) answered.output.items answered.outcome) }
+    ensures correct { IfOk result (λ answered. answered.outcome ≡ Outcome.Yes → IsCorrect (circuit_of cert.now.circuit) cert.now.layout) }
     ensures undecided { IfErr result IsUndecided }
 {
     let verdict = verdict_on(alloc, cert)?;
@@ -28,9 +34,13 @@ pub(crate) fn report_on(alloc: Global, cert: &Cert<'_>) -> Result<Answered, Chec
 
 // The verdict on a certificate, from runs of all its modules.
 fn verdict_on(alloc: Global, cert: &Cert<'_>) -> Result<Verdict, CheckFault>
+    requires named { AreNamed (Some (port_names_of cert.now.circuit)) (parts_of cert.now.layout) }
     ensures verdict { IfOk result (IsVerdictOn cert.now) }
+    ensures correct { result ≡ Ok Verdict.Yes → IsCorrect (circuit_of cert.now.circuit) cert.now.layout }
     ensures undecided { IfErr result IsUndecided }
 {
+    // What is known of the modules.
+    let _count = cert.modules();
     let digest = cert.digest(alloc)?;
     let mut book = BookState::new(alloc, digest, cert.jobs(alloc)?)?;
     run_all(alloc, &mut book)?;

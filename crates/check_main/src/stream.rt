@@ -1,7 +1,7 @@
 //! From a reader's bytes to a writer's.
-ghost use Rattle.std.specs.Prelude.{◌≡◌, ◌≢◌, true, false, IfOk, IfErr, IsErrOf, OnOk};
+ghost use Rattle.std.specs.Prelude.{◌≡◌, ◌≢◌, true, false, Ok, IfOk, IfErr, IsErrOf, OnOk};
 ghost use Rattle.std.specs.Io.KnownBytes.{Appends};
-ghost use Rattle.check_main.specs.CheckText.{IsReportOf};
+ghost use Rattle.check_main.specs.CheckText.{IsReportOf, ReadsRightBundle};
 ghost use Rattle.check_main.specs.ModulesText.{IsModulesOf};
 ghost use Rattle.check_main.specs.RunText.{IsRunOf};
 ghost use Rattle.check_main.specs.ValueText.{IsValueOf};
@@ -23,6 +23,8 @@ const MOST_READS: usize = 16_777_217;
 
 /// Checks a bundle: reads the whole text, at most 16 MiB, runs the modules of its certificate one after the other, and writes the
 /// report once it is complete. `Yes` and `No` are the verdict.
+///
+/// Where it is `Yes`, the text is a bundle, and the whole pattern of its layout computes its circuit: `IsCorrect` of `audit_core`.
 pub fn check_stream<R: Source, W: Sink>(
     alloc: Global,
     reader: &mut R,
@@ -32,6 +34,7 @@ pub fn check_stream<R: Source, W: Sink>(
     requires writer_works { W.has_failed writer.old ≡ false }
     ensures answered { IfOk result (Answers IsReportOf (R.left reader.old) (R.left reader.new)
         (W.held writer.old) (W.held writer.new)) }
+    ensures correct { result ≡ Ok Outcome.Yes → ReadsRightBundle (R.left reader.old) (R.left reader.new) }
     ensures works { OnOk result ((R.has_failed reader.new ≡ false) × (W.has_failed writer.new ≡ false)) }
     ensures read { IsErrOf result CheckFault.Read → R.has_failed reader.new ≡ true }
     ensures too_long { IsErrOf result CheckFault.TooLong →

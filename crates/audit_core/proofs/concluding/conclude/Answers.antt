@@ -32,6 +32,8 @@ returns-then-is_empty-clause-correct c is =
       limits = c.size-size.ensures.limits;
       laid_out = c.size-size.ensures.good;
       are_modules = c.modules-count.ensures.good;
+      inputs = c.modules-count.ensures.inputs;
+      named = c.requires.named;
     } in
     yes_means-correct c.args.cert.now c.size-size.result (map arc_value c.args.jobs.now) read c.requires.own (returns-then-is_empty-clause-verdict c)
 

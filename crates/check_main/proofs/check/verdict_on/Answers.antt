@@ -1,5 +1,5 @@
 -- The book is for the certificate's own jobs.
-use Rattle.std.proofs.Common.{map}
+use Rattle.std.proofs.Common.{map, ◌∙◌}
 use Rattle.std.specs.Arc.{arc_value}
 use Rattle.check_main.proofs.Runs.{own_jobs}
 use Rattle.check_main.proofs.check.verdict_on.Goals as goal
@@ -14,7 +14,11 @@ conclude-requires-clause-own c =
 
 pub returns-clause-verdict : goal.returns-clause-verdict
 returns-clause-verdict c = record {
+  good = c.modules-count.ensures.good;
   jobs = map arc_value c.jobs-3.result.now;
   are_jobs = own_jobs c.args.cert.now (map arc_value c.in_ok-jobs.field-0.items) _ c.in_ok-digest.digest c.in_ok-book.book c.run_all.new.book c.in_ok-jobs.ensures c.in_ok-book.ensures c.in_ok-run_all.ensures c.jobs-3.ensures;
   judged = c.in_ok-verdict.ensures.verdict;
 }
+
+pub returns-clause-correct : goal.returns-clause-correct
+returns-clause-correct c is = c.conclude.ensures.correct (c.in_ok-verdict.was ∙ is)

@@ -1,9 +1,14 @@
-use Rattle.std.proofs.Common.{subst}
-use Rattle.circuit.specs.Bridge.{netlist_of}
+use Rattle.std.proofs.Common.{◌≡◌, ◌∙◌, ap, subst, sym, take}
+use Rattle.circuit.specs.Bridge.{input_names, netlist_of}
 use Rattle.circuit.specs.Meaning.{AreForward}
+use Rattle.circuit.specs.Rules.{defined}
 use Rattle.certificate.specs.Grammars.{CertState}
 use Rattle.certificate.proofs.cert.Cert.modules.Goals as goal
 
--- src/cert.rt:70:5
 pub returns-clause-forward : goal.returns-clause-forward
 returns-clause-forward c = subst (λ (s : CertState). AreForward (netlist_of s.circuit).gates) c.self.view_is c.gates-gates.ensures.forward
+
+pub returns-clause-inputs : goal.returns-clause-inputs
+returns-clause-inputs c =
+    subst (λ (s : CertState). take (netlist_of s.circuit).given (defined s.circuit) ≡ input_names s.circuit) c.self.view_is
+    (ap (λ n. take n (defined c.self.inside.circuit.now)) (sym c.inputs-inputs.ensures.count) ∙ c.inputs-inputs.ensures.first)
