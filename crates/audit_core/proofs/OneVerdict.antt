@@ -20,7 +20,7 @@ same-lists [] (y ∷ ys) len each = absurd (omega (arith, len))
 same-lists (x ∷ xs) [] len each = absurd (omega (arith, len))
 same-lists (x ∷ xs) (y ∷ ys) len each = ap₂ (λ z zs. z ∷ zs) (each zero x y refl refl) (same-lists xs ys (omega (arith, len)) (λ k. each (suc k)))
 
-none-past : {X : Type 0} (xs : List X) (k : ℕ) → slice_get xs k ≡ None → length xs ≤ k
+pub none-past : {X : Type 0} (xs : List X) (k : ℕ) → slice_get xs k ≡ None → length xs ≤ k
 none-past [] k e = omega arith
 none-past (x ∷ xs) zero e = absurd cc
 none-past (x ∷ xs) (suc k) e = let rest = none-past xs k e in omega (arith, rest)

@@ -38,7 +38,7 @@ use Rattle.check_main.specs.declared.bundle.Question.TheVariants.{Report, Module
 use Rattle.check_main.specs.declared.fault.CheckFault.{CheckFault}
 use Rattle.check_main.specs.declared.outcome.Answered.{Answered as Answer}
 use Rattle.check_main.specs.declared.outcome.Outcome.{Outcome}
-use Rattle.check_main.specs.declared.outcome.Outcome.TheVariants as ended
+use Rattle.check_main.specs.declared.outcome.Outcome.TheVariants as outcomes
 
 -- ---- the ports of a layout, by its lines
 
@@ -183,7 +183,7 @@ other_question e = cc
 
 -- ---- what a yes means
 
-pub refused_not_yes : ended.Refused ≡ ended.Yes → ⊥
+pub refused_not_yes : outcomes.Refused ≡ outcomes.Yes → ⊥
 refused_not_yes e = cc
 
 -- the ports of the certificate's layout are named as those of its circuit

@@ -56,9 +56,10 @@ pub returns-in-Err-finish-clause-correct : goal.returns-in-Err-finish-clause-cor
 returns-in-Err-finish-clause-correct c = IfOk-weaker c.refused-in-Err-finish.result _ _ (λ answered told question yes. absurd (refused_not_yes (sym told.ends ∙ yes))) c.refused-in-Err-finish.ensures.told
 
 pub answer-requires : goal.answer-requires
-answer-requires c =
-    named_by c.in-Ok.circuit c.in-Ok-read_layout.layout (named_ports c.in-Ok-port_names.ports) c.in-Ok-read_certificate.cert c.in-Ok-port_names.ensures.ports
-    c.in-Ok-read_certificate.ensures.circuit c.in-Ok-read_certificate.ensures.layout c.in-Ok-read_layout.ensures.names
+answer-requires c = record {
+  named = named_by c.in-Ok.circuit c.in-Ok-read_layout.layout (named_ports c.in-Ok-port_names.ports) c.in-Ok-read_certificate.cert c.in-Ok-port_names.ensures.ports
+      c.in-Ok-read_certificate.ensures.circuit c.in-Ok-read_certificate.ensures.layout c.in-Ok-read_layout.ensures.names;
+}
 
 pub returns-clause-correct : goal.returns-clause-correct
 returns-clause-correct c =

@@ -1,7 +1,7 @@
 -- The book is for the certificate's own jobs.
-use Rattle.std.proofs.Common.{map, ◌∙◌}
+use Rattle.std.proofs.Common.{◌≡◌, Ok, ap, map, refl, ◌∙◌}
 use Rattle.std.specs.Arc.{arc_value}
-use Rattle.check_main.proofs.Runs.{own_jobs}
+use Rattle.check_main.proofs.Runs.{own_jobs, same_ok}
 use Rattle.check_main.proofs.check.verdict_on.Goals as goal
 
 pub match_borders-requires : goal.match_borders-requires
@@ -21,4 +21,6 @@ returns-clause-verdict c = record {
 }
 
 pub returns-clause-correct : goal.returns-clause-correct
-returns-clause-correct c is = c.conclude.ensures.correct (c.in_ok-verdict.was ∙ is)
+returns-clause-correct c is =
+    let was : c.conclude.result ≡ Ok c.in_ok-verdict.verdict = c.in_ok-verdict.was in
+    c.conclude.ensures.correct (was ∙ ap Ok (same_ok c.in_ok-verdict.verdict _ (Ok c.in_ok-verdict.verdict) refl is))
