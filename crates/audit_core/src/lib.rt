@@ -14,6 +14,8 @@
 mod book;
 mod claim;
 mod concluding;
+#[cfg(test)]
+mod core_tests;
 mod entry;
 #[cfg(test)]
 mod headline_tests;

@@ -157,6 +157,13 @@ impl Core {
         self.next
     }
 
+    /// How many seats there are.
+    pub fn seats(&self) -> usize
+        ensures { result ≡ length self.now.draws }
+    {
+        self.draws.len()
+    }
+
     /// The numbers that a seat drew, in their order. Over all seats these are the numbers below the next, each once.
     pub fn draws(&self, seat: usize) -> &[usize]
         requires { seat < length self.now.draws }

@@ -31,9 +31,9 @@ pub(crate) const LOWER_RIGHT: &str = "cut p\ncut q\nuse 0\nedge 1 4 4 q\nhalo 1 
 
 /// A certificate's digest and jobs.
 #[derive(Drop)]
-struct Work {
-    digest: [u8; 32],
-    jobs: Vec<Arc<Job>>,
+pub(crate) struct Work {
+    pub(crate) digest: [u8; 32],
+    pub(crate) jobs: Vec<Arc<Job>>,
 }
 
 /// A text that has ended.
@@ -47,7 +47,7 @@ pub(crate) fn fed(rt: &impl Abort, alloc: Global, text: &[u8]) -> Feed
 }
 
 /// The certificate of the four modules, the first with these lines.
-fn work_of(rt: &impl Abort, alloc: Global, upper_left: &str) -> Result<Work, Fail> {
+pub(crate) fn work_of(rt: &impl Abort, alloc: Global, upper_left: &str) -> Result<Work, Fail> {
     let text = format!(in alloc;
         "{CIRCUIT}{LAYOUT}certificate 1\nmodule 0 0 4 4\n{upper_left}module 4 0 4 4\n{SIDE}module 0 4 4 4\n{SIDE}module 4 4 4 4\n{LOWER_RIGHT}end\n"
     )?;
@@ -65,7 +65,7 @@ fn work_of(rt: &impl Abort, alloc: Global, upper_left: &str) -> Result<Work, Fai
 }
 
 /// The finding of the job at a place of the list, under a digest and a number.
-fn finding(
+pub(crate) fn finding(
     rt: &impl Abort,
     alloc: Global,
     digest: [u8; 32],
@@ -77,8 +77,14 @@ fn finding(
     Ok(run_job(alloc, digest, number, jobs[place].clone()?)?)
 }
 
-/// The reply to a finding, which is filed.
-fn reply(rt: &impl Abort, book: &mut BookState, finding: Finding) -> Reply {
+/// The reply to a finding, which is filed: a second time, if no memory was found for the first.
+pub(crate) fn reply(rt: &impl Abort, book: &mut BookState, finding: Finding) -> Reply {
+    let before = (book.history().len(), book.accepted());
+    let finding = match book.file(finding) {
+        Ok(reply) => return reply,
+        Err(NotFiled { finding }) => finding,
+    };
+    assert_eq!(rt; (book.history().len(), book.accepted()), before);
     match book.file(finding) {
         Ok(reply) => reply,
         Err(NotFiled { finding: _ }) => panic!(rt; "no memory"),

@@ -9,6 +9,8 @@ mod book;
 mod gathering;
 mod kept;
 mod share;
+#[cfg(test)]
+mod tests;
 
 pub use book::Book;
 pub use gathering::{Gathered, NotAll, gather};
