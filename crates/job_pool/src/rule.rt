@@ -1,8 +1,9 @@
-// What the desk's word and the views of its seats keep, and the four kinds of step.
+//! The rule of the desk's one word, and the four kinds of step on it: a claim, a look, a split and a join.
 use atomic_table::{Join, Play, Split, TableRule};
 use std::collections::LinkedList;
 
-/// What a seat knows: the numbers that it drew, a count that the word has reached, and how many seats' places it has. No value of it is made.
+/// What a seat knows: the numbers that it drew, a count that the word has reached, and of how many seats it has the place. No value
+/// of it is made.
 pub struct View {
     pub draws: LinkedList<u64>,
     pub seen: u64,
@@ -16,6 +17,7 @@ pub struct Size {
     pub seats: u64,
 }
 
+/// The rule of a desk.
 pub struct Numbered;
 
 impl<S> TableRule<S, View, Size> for Numbered {
@@ -26,6 +28,7 @@ impl<S> TableRule<S, View, Size> for Numbered {
     ghost first = { opener };
 }
 
+/// A claim adds 1 to the word, and the seat draws what it found.
 pub struct Claims;
 
 impl<S> Play<S, View> for Claims {
@@ -34,6 +37,7 @@ impl<S> Play<S, View> for Claims {
     ghost then = { Drew };
 }
 
+/// A look leaves the word, and the seat has seen what it found.
 pub struct Looks;
 
 impl<S> Play<S, View> for Looks {
@@ -42,6 +46,7 @@ impl<S> Play<S, View> for Looks {
     ghost then = { Saw };
 }
 
+/// A split gives a new seat one place. A join gives one seat the places and the draws of another.
 pub struct Places;
 
 impl Split<View> for Places {
