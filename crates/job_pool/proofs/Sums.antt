@@ -1,0 +1,167 @@
+-- Sums over lists, and lists of numbers that were drawn.
+use Rattle.std.proofs.Common.{◌≡◌, ℕ, zero, suc, ◌+◌, ◌-◌, ◌<◌, ◌≤◌, max, min, List, [], ◌∷◌, ◌++◌, map, length, get_or, set, refl, sym, ap, ◌∙◌, subst, arith, length-append, append_assoc}
+use Rattle.std.proofs.lemmas.List.{append-nil}
+use mathlib.Core.Option.{some, some-injective, some-ne-none}
+use lib.ListN.{get_elem?}
+use Rattle.std.proofs.lemmas.Bool.Decides.{nat_tests}
+use Rattle.audit_core.specs.Draws.{total, times, end_of, IsDrawn}
+use Rattle.job_pool.specs.Lists.{late, early, top, front, joined}
+
+module _ {X : Type 0} where
+  pub total_set : (f : X → ℕ) (xs : List X) (i : ℕ) (v w : X) → get_elem? xs i ≡ some v → total f (set xs i w) + f v ≡ total f xs + f w
+  total_set f [] i v w e = absurd (some-ne-none v (sym e))
+  total_set f (x ∷ xs) zero v w e = let h : f x ≡ f v = ap f (some-injective x v e) in omega arith
+  total_set f (x ∷ xs) (suc i) v w e = let h = total_set f xs i v w e in omega arith
+
+  pub total_snoc : (f : X → ℕ) (xs : List X) (y : X) → total f (xs ++ y ∷ []) ≡ total f xs + f y
+  total_snoc f [] y = omega arith
+  total_snoc f (x ∷ xs) y = let h = total_snoc f xs y in omega arith
+
+  pub total-add : (f g : X → ℕ) (xs : List X) → total (λ x. f x + g x) xs ≡ total f xs + total g xs
+  total-add f g [] = refl
+  total-add f g (x ∷ xs) = let h = total-add f g xs in omega arith
+
+  pub total-map : {Y : Type 0} (f : X → ℕ) (g : Y → X) (ys : List Y) → total f (map g ys) ≡ total (λ y. f (g y)) ys
+  total-map f g [] = refl
+  total-map f g (y ∷ ys) = let h = total-map f g ys in omega arith
+
+  pub total_same : (f g : X → ℕ) (xs : List X) → ((x : X) → f x ≡ g x) → total f xs ≡ total g xs
+  total_same f g [] same = refl
+  total_same f g (x ∷ xs) same = let h = total_same f g xs same in let e = same x in omega arith
+
+  pub total_le : (f g : X → ℕ) (xs : List X) → ((i : ℕ) (x : X) → get_elem? xs i ≡ some x → f x ≤ g x) → total f xs ≤ total g xs
+  total_le f g [] each = omega arith
+  total_le f g (x ∷ xs) each = let h = total_le f g xs (λ i y e. each (suc i) y e) in let e = each 0 x refl in omega arith
+
+  pub at_le : (f : X → ℕ) (xs : List X) (i : ℕ) (v : X) → get_elem? xs i ≡ some v → f v ≤ total f xs
+  at_le f [] i v e = absurd (some-ne-none v (sym e))
+  at_le f (x ∷ xs) zero v e = let h : f x ≡ f v = ap f (some-injective x v e) in omega arith
+  at_le f (x ∷ xs) (suc i) v e = let h = at_le f xs i v e in omega arith
+
+pub times-append : (x : ℕ) (xs ys : List ℕ) → times x (xs ++ ys) ≡ times x xs + times x ys
+times-append x [] ys = omega arith
+times-append x (y ∷ xs) ys = let h = times-append x xs ys in omega arith
+
+pub late-append : (n : ℕ) (xs ys : List ℕ) → late n (xs ++ ys) ≡ late n xs + late n ys
+late-append n [] ys = omega arith
+late-append n (y ∷ xs) ys = let h = late-append n xs ys in omega arith
+
+pub top-append : (xs ys : List ℕ) → top (xs ++ ys) ≡ max (top xs) (top ys)
+top-append [] ys = omega arith
+top-append (y ∷ xs) ys = let h = top-append xs ys in omega arith
+
+pub end_of-snoc : (xs : List ℕ) (x : ℕ) → end_of (xs ++ x ∷ []) ≡ x + 1
+end_of-snoc [] x = refl
+end_of-snoc (y ∷ []) x = refl
+end_of-snoc (y ∷ z ∷ zs) x = end_of-snoc (z ∷ zs) x
+
+pub front-snoc : (xs : List ℕ) (x : ℕ) → front (xs ++ x ∷ []) ≡ xs
+front-snoc [] x = refl
+front-snoc (y ∷ []) x = refl
+front-snoc (y ∷ z ∷ zs) x = ap (λ l. y ∷ l) (front-snoc (z ∷ zs) x)
+
+pub end_of-last : (xs : List ℕ) (n d : ℕ) → length xs ≡ n + 1 → end_of xs ≡ get_or xs n d + 1
+end_of-last [] n d e = absurd (omega arith)
+end_of-last (y ∷ []) zero d e = refl
+end_of-last (y ∷ []) (suc n) d e = absurd (omega arith)
+end_of-last (y ∷ z ∷ zs) zero d e = absurd (omega arith)
+end_of-last (y ∷ z ∷ zs) (suc n) d e = end_of-last (z ∷ zs) n d (omega arith)
+
+-- one more draw, which is above all that there were
+pub pushed : (xs ys : List ℕ) (x n : ℕ) → ys ≡ xs ++ x ∷ [] → top xs ≤ x → length xs ≤ top xs → top xs ≤ n
+    → (top ys ≡ x + 1) × (length ys ≤ top ys) × (top ys ≡ end_of ys) × (top (front ys) ≤ n)
+pushed xs ys x n is above rising below =
+    let t : top (xs ++ x ∷ []) ≡ x + 1 = let a = top-append xs (x ∷ []) in omega arith in
+    let l = length-append xs (x ∷ []) in
+    let e = end_of-snoc xs x in
+    let f = ap top (front-snoc xs x) in
+    subst (λ (zs : List ℕ). (top zs ≡ x + 1) × (length zs ≤ top zs) × (top zs ≡ end_of zs) × (top (front zs) ≤ n)) (sym is) (t, omega arith, omega arith, omega arith)
+
+pub none_late : (n : ℕ) (xs : List ℕ) → top xs ≤ n → late n xs ≡ 0
+none_late n [] h = refl
+none_late n (y ∷ ys) h = let l = none_late n ys (omega arith) in grind (arith, nat_tests)
+
+pub early_or_late : (n : ℕ) (xs : List ℕ) → early n xs + late n xs ≡ length xs
+early_or_late n [] = refl
+early_or_late n (y ∷ ys) = let h = early_or_late n ys in grind (arith, nat_tests)
+
+pub early_suc : (k : ℕ) (xs : List ℕ) → early (suc k) xs ≡ early k xs + times k xs
+early_suc k [] = refl
+early_suc k (y ∷ ys) = let h = early_suc k ys in grind (arith, nat_tests)
+
+pub early_zero : (xs : List ℕ) → early 0 xs ≡ 0
+early_zero [] = refl
+early_zero (y ∷ ys) = let h = early_zero ys in grind (arith, nat_tests)
+
+nothing : {X : Type 0} (xs : List X) → total (λ v. 0) xs ≡ 0
+nothing [] = refl
+nothing (y ∷ ys) = let h = nothing ys in omega arith
+
+-- as many numbers below n were drawn as n and the counter allow
+pub early_in_all : (counter : ℕ) (lists : List (List ℕ)) → IsDrawn counter lists → (n : ℕ) → total (early n) lists ≡ min n counter
+early_in_all counter lists r zero = total_same (early 0) (λ _. 0) lists early_zero ∙ (nothing lists ∙ omega arith)
+early_in_all counter lists r (suc k) =
+    let h = early_in_all counter lists r k in
+    let s = total_same (early (suc k)) (λ xs. early k xs + times k xs) lists (early_suc k) in
+    let a = total-add (early k) (times k) lists in
+    let o = r.once k in
+    grind (arith, nat_tests)
+
+pub late_in_all : (counter : ℕ) (lists : List (List ℕ)) → IsDrawn counter lists → (n : ℕ) → total (late n) lists ≡ counter - n
+late_in_all counter lists r n =
+    let e = early_in_all counter lists r n in
+    let s = total_same (λ xs. early n xs + late n xs) length lists (early_or_late n) in
+    let a = total-add (early n) (late n) lists in
+    let w = r.whole in
+    omega arith
+
+-- the seat at i draws the next number
+pub draw_keeps : (counter : ℕ) (lists : List (List ℕ)) (i : ℕ) (xs : List ℕ) → get_elem? lists i ≡ some xs → IsDrawn counter lists → IsDrawn (suc counter) (set lists i (xs ++ counter ∷ []))
+draw_keeps counter lists i xs at r = let ys : List ℕ = xs ++ counter ∷ [] in record {
+  whole = let t = total_set length lists i xs ys at in let a = length-append xs (counter ∷ []) in let w = r.whole in omega arith;
+  once = λ x. let t = total_set (times x) lists i xs ys at in let a = times-append x xs (counter ∷ []) in let o = r.once x in grind (arith, nat_tests);
+}
+
+-- a list gets another appended, which is emptied
+pub merge_keeps : (counter : ℕ) (lists : List (List ℕ)) (i j : ℕ) (xs ys : List ℕ) → get_elem? lists i ≡ some xs → get_elem? (set lists i (xs ++ ys)) j ≡ some ys → IsDrawn counter lists → IsDrawn counter (set (set lists i (xs ++ ys)) j [])
+merge_keeps counter lists i j xs ys at there r = let zs : List ℕ = xs ++ ys in record {
+  whole = let t = total_set length lists i xs zs at in let u = total_set length (set lists i zs) j ys [] there in let a = length-append xs ys in let w = r.whole in omega arith;
+  once = λ x. let t = total_set (times x) lists i xs zs at in let u = total_set (times x) (set lists i zs) j ys [] there in let a = times-append x xs ys in let o = r.once x in omega arith;
+}
+
+-- an empty list more
+pub empty_keeps : (counter : ℕ) (lists : List (List ℕ)) → IsDrawn counter lists → IsDrawn counter (lists ++ [] ∷ [])
+empty_keeps counter lists r = record {
+  whole = let t = total_snoc length lists [] in let w = r.whole in omega arith;
+  once = λ x. let t = total_snoc (times x) lists [] in let o = r.once x in omega arith;
+}
+
+pub at_head : (xs : List ℕ) (x : ℕ) → get_elem? xs 0 ≡ some x → get_or xs 0 0 ≡ x
+at_head [] x e = absurd (some-ne-none x (sym e))
+at_head (y ∷ ys) x e = some-injective y x e
+
+pub joined-snoc : (xss : List (List ℕ)) (ys : List ℕ) → joined (xss ++ ys ∷ []) ≡ joined xss ++ ys
+joined-snoc [] ys = append-nil ys
+joined-snoc (xs ∷ xss) ys = ap (λ zs. xs ++ zs) (joined-snoc xss ys) ∙ sym (append_assoc xs (joined xss) ys)
+
+pub length-joined : (xss : List (List ℕ)) → length (joined xss) ≡ total length xss
+length-joined [] = refl
+length-joined (xs ∷ xss) = let h = length-joined xss in let a = length-append xs (joined xss) in omega arith
+
+pub times-joined : (x : ℕ) (xss : List (List ℕ)) → times x (joined xss) ≡ total (times x) xss
+times-joined x [] = refl
+times-joined x (xs ∷ xss) = let h = times-joined x xss in let a = times-append x xs (joined xss) in omega arith
+
+-- lists that stand end to end in one
+pub joined_drawn : (counter : ℕ) (lists : List (List ℕ)) → IsDrawn counter (joined lists ∷ []) → IsDrawn counter lists
+joined_drawn counter lists r = record {
+  whole = let w = r.whole in let l = length-joined lists in omega arith;
+  once = λ x. let o = r.once x in let t = times-joined x lists in omega arith;
+}
+
+pub early-append : (n : ℕ) (xs ys : List ℕ) → early n (xs ++ ys) ≡ early n xs + early n ys
+early-append n [] ys = omega arith
+early-append n (y ∷ xs) ys = let h = early-append n xs ys in omega arith
+
+pub early_more : (n i : ℕ) (xs ys : List ℕ) → ys ≡ xs ++ i ∷ [] → i < n → early n ys ≡ early n xs + 1
+early_more n i xs ys is below = let e = ap (early n) is in let a = early-append n xs (i ∷ []) in grind (arith, nat_tests)

@@ -1,0 +1,42 @@
+use Rattle.std.proofs.Common.{◌≡◌, ◌≤◌, ◌+◌, ap, sym, ◌∙◌, arith, [], ◌∷◌, ◌++◌}
+use Rattle.std.proofs.lemmas.Bool.Decides.{nat_tests}
+use Rattle.job_pool.specs.declared.rule.View.{View}
+use Rattle.audit_core.specs.Draws.{end_of}
+use Rattle.job_pool.specs.Lists.{top}
+use Rattle.job_pool.proofs.Sums.{none_late, pushed, end_of-snoc}
+use Rattle.job_pool.proofs.Moves.{claims}
+use Rattle.job_pool.proofs.desk.Desk.claim.Goals as goal
+
+pub fetch_add-found-requires : goal.fetch_add-found-requires
+fetch_add-found-requires c = let desk = c.args.self.now in let seat = c.args.seat.now in
+    let below : end_of seat.drawn.items ≤ seat.numbers = let e = c.has_ended.ensures in let f = c.if-has_ended.false in grind (arith, nat_tests) in
+    let clear : top seat.seat.me.0.draws ≤ desk.table.shared.key.numbers = let t = ap top seat.same in omega arith in (
+      c.requires.0,
+      omega arith,
+      claims desk.table.shared.key desk.table.shared.table_id.slots seat.seat.id seat.seat.me (omega arith) seat.one_place (none_late desk.table.shared.key.numbers seat.seat.me.0.draws clear),
+    )
+
+pub invariant_of-seat : goal.invariant_of-seat
+invariant_of-seat c = let seat = c.args.seat.now in
+    let below : end_of seat.drawn.items ≤ seat.numbers = let e = c.has_ended.ensures in let f = c.if-has_ended.false in grind (arith, nat_tests) in
+    let d = c.fetch_add-found.ensures.2 in
+    let seen : c.fetch_add-found.new.seat.me.0.seen ≡ c.fetch_add-found.result + 1 = ap (λ (v : View). v.seen) d.1 in
+    let p = pushed seat.drawn.items c.push_reserved.new.self.items c.fetch_add-found.result seat.numbers c.push_reserved.ensures.items (omega arith) seat.rising (omega arith) in
+    record {
+      same = ap (λ (v : View). v.draws) d.1 ∙ (ap (λ l. l ++ c.fetch_add-found.result ∷ []) seat.same ∙ sym c.push_reserved.ensures.items);
+      one_place = ap (λ (v : View). v.places) d.1 ∙ seat.one_place;
+      no_slot = d.2 ∙ seat.no_slot;
+      room = omega arith;
+      seen_above = omega arith;
+      rising = p.1;
+      last_is_top = p.2;
+      front_below = p.3;
+    }
+
+pub returns-else-found-self-clause-answer : goal.returns-else-found-self-clause-answer
+returns-else-found-self-clause-answer c =
+    let d = c.fetch_add-found.ensures.2 in
+    let e = ap (λ (v : View). end_of v.draws) d.1 in
+    let f = end_of-snoc c.args.seat.now.seat.me.0.draws c.fetch_add-found.result in
+    let seen : c.fetch_add-found.new.seat.me.0.seen ≡ c.fetch_add-found.result + 1 = ap (λ (v : View). v.seen) d.1 in
+    omega arith

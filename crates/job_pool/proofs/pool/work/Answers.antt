@@ -1,0 +1,27 @@
+use Rattle.std.proofs.Common.{◌≡◌, ◌<◌, ◌++◌, List, length, take, drop, map, All, false, arith, rules, ap, sym, ◌∙◌, subst}
+use Rattle.std.proofs.lemmas.List.Elements.{All-same}
+use Rattle.job_pool.specs.declared.desk.DeskSeat.{DeskSeat}
+use Rattle.job_pool.specs.declared.worker.Worker.{Worker}
+use Rattle.job_pool.specs.Seats.{IsSeatOf, drawn_by}
+use Rattle.job_pool.specs.Work.{filed_by, seats_of, shares_of}
+use Rattle.job_pool.proofs.Filed.{all_seats, every_number_was_filed, whole}
+use Rattle.job_pool.proofs.pool.work.Goals as goal
+
+pub close-requires : goal.close-requires
+close-requires g c = let desk = c.in-Ok.desk in let before = c.as_mut_slice.result.now in let now = c.run_all.new.workers in
+    let len : length now ≡ length before = search rules in
+    let same : take c.hire-workers.result.len (now ++ drop (length now) c.hire-workers.result.items) ≡ now = whole _ now c.hire-workers.result.items (len ∙ ap length c.as_mut_slice.ensures.value) (search rules) in
+    subst {A = List DeskSeat} (All (IsSeatOf desk)) (sym (c.dismiss-seats.ensures.seats ∙ ap seats_of same)) (all_seats desk before now len c.run_all.ensures)
+
+pub returns-clause-filed : goal.returns-clause-filed
+returns-clause-filed g c = λ fed. let desk = c.in-Ok.desk in let before = c.as_mut_slice.result.now in let now = c.run_all.new.workers in
+    let len : length now ≡ length before = search rules in
+    let same : take c.hire-workers.result.len (now ++ drop (length now) c.hire-workers.result.items) ≡ now = whole _ now c.hire-workers.result.items (len ∙ ap length c.as_mut_slice.ensures.value) (search rules) in
+    let P : Worker g.row.F.Denot g.row.A.Denot → Type 0 = λ w. w.starved ≡ false in
+    let quiet : All P now = All-same P _ _ (sym same) (c.dismiss-seats.ensures.starved fed) in
+    let some_worker : 0 < length before = search rules in
+    let closed = c.in-Ok-close.ensures in
+    let sum = every_number_was_filed desk before now len c.run_all.ensures _ _ some_worker quiet (closed.draws ∙ ap (map drawn_by) (c.dismiss-seats.ensures.seats ∙ ap seats_of same)) closed.all.drawn in
+    let start = ap filed_by (ap shares_of c.as_mut_slice.ensures.value ∙ c.hire-workers.ensures.shares) in
+    let back = ap filed_by (c.dismiss-seats.ensures.shares ∙ ap shares_of same) in
+    omega (arith, back, sum, start, c.in-Ok.ensures.desk.0)

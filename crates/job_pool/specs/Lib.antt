@@ -1,0 +1,5 @@
+pub mod Lists
+pub mod Rule
+pub mod Seats
+pub mod Closings
+pub mod Work

@@ -1,0 +1,36 @@
+-- Lists of draws
+use Rattle.std.specs.Prelude.{◌≡◌, ℕ, ◌+◌, ◌≤◌, max, nat_lt, if◌then◌else◌, List, [], ◌∷◌, ◌++◌, length, All}
+use Rattle.audit_core.specs.Draws.{IsDrawn}
+
+-- how many of a list are n or more
+abbrev pub late : ℕ → List ℕ → ℕ
+late n [] = 0
+late n (y ∷ ys) = (if nat_lt y n then 0 else 1) + late n ys
+
+-- how many of a list are below n
+abbrev pub early : ℕ → List ℕ → ℕ
+early n [] = 0
+early n (y ∷ ys) = (if nat_lt y n then 1 else 0) + early n ys
+
+-- one more than the greatest of a list, and 0 for the empty list
+abbrev pub top : List ℕ → ℕ
+top [] = 0
+top (y ∷ ys) = max (y + 1) (top ys)
+
+-- a list without its last
+abbrev pub front : List ℕ → List ℕ
+front [] = []
+front (y ∷ []) = []
+front (y ∷ z ∷ zs) = y ∷ front (z ∷ zs)
+
+-- lists end to end
+abbrev pub joined : List (List ℕ) → List ℕ
+joined [] = []
+joined (xs ∷ xss) = xs ++ joined xss
+
+-- What the seats of a closed desk drew, a list for each: of each, only the last may be n or more
+pub record AreAllDraws (n seats counter : ℕ) (lists : List (List ℕ)) : Type 0 where
+  pub count : length lists ≡ seats
+  pub drawn : IsDrawn counter lists
+  pub at_most : counter ≤ n + seats
+  pub only_last : All (λ xs. top (front xs) ≤ n) lists

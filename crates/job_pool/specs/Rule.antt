@@ -1,0 +1,83 @@
+-- The desk rule: what holds of the desk's word and of the views of all its seats, whoever draws; and what each step on the word
+-- tells
+use Rattle.std.specs.Prelude.{◌≡◌, ℕ, ◌+◌, ◌-◌, ◌≤◌, max, List, [], ◌∷◌, ◌++◌, map, length, slice_index}
+use mathlib.Core.Option.{some}
+use lib.ListN.{get_elem?}
+use Rattle.atomic_table.specs.Table.{State, Me, Step}
+use Rattle.audit_core.specs.Draws.{total, IsDrawn}
+use Rattle.job_pool.specs.Lists.{late, top, front}
+use Rattle.job_pool.specs.declared.rule.Size.{Size}
+use Rattle.job_pool.specs.declared.rule.View.{View}
+
+-- ---- the rule
+
+-- One view, where there are n numbers and as many were drawn as the word says: it has at most as many draws of n or more as it
+-- has places, in a view with one place only the last draw is one, and what it has seen is above each of its draws and at most
+-- the word. A view with no place has nothing
+pub record Fits (n word : ℕ) (v : View) : Type 0 where
+  pub late_within : late n v.draws ≤ v.places
+  pub only_last : v.places ≡ 1 → late n (front v.draws) ≡ 0
+  pub seen_within : v.seen ≤ word
+  pub seen_above : top v.draws ≤ v.seen
+  pub spent : v.places ≡ 0 → (v.draws ≡ []) × (v.seen ≡ 0)
+
+abbrev pub lists_of : List View → List (List ℕ)
+lists_of = map (λ v. v.draws)
+
+-- each number below the word was drawn, once; and the places of all views add up to the seats opened
+pub record IsDealt (n seats word : ℕ) (views : List View) : Type 0 where
+  pub drawn : IsDrawn word (lists_of views)
+  pub places : total (λ v. v.places) views ≡ seats
+  pub each : (seat : ℕ) (v : View) → get_elem? views seat ≡ some v → Fits n word v
+
+-- a desk has one word
+abbrev pub IsKept : {S : Type 0} → Size → State S View → Type 0
+IsKept size s = (length s.words ≡ 1) × IsDealt size.numbers size.seats (slice_index s.words 0) s.views
+
+-- ---- views
+
+abbrev pub view : List ℕ → ℕ → ℕ → View
+view draws seen places = record { draws = draws; seen = seen; places = places }
+
+-- the first seat has all places
+abbrev pub opener : Size → View
+opener size = view [] 0 size.seats
+
+-- ---- steps
+
+-- a claim appends what it found
+abbrev pub drew : View → ℕ → View
+drew v found = view (v.draws ++ found ∷ []) (found + 1) v.places
+
+-- a look sees what it found
+abbrev pub saw : View → ℕ → View
+saw v found = view v.draws found v.places
+
+-- what is found is at least what was seen
+abbrev pub Drew : {S : Type 0} → Step S → Me S View → ℕ → Me S View → Type 0
+Drew step before found after = (before.0.seen ≤ found) × (after.0 ≡ drew before.0 found) × (after.1 ≡ before.1)
+
+abbrev pub Saw : {S : Type 0} → Step S → Me S View → ℕ → Me S View → Type 0
+Saw step before found after = (before.0.seen ≤ found) × (after.0 ≡ saw before.0 found) × (after.1 ≡ before.1)
+
+-- a split gives one place away, to a seat that drew nothing
+abbrev pub fewer : View → View
+fewer v = view v.draws v.seen (v.places - 1)
+
+abbrev pub one_place : View → View
+one_place v = view [] 0 1
+
+-- a join puts two lists in one, and the other seat is spent
+abbrev pub both : View → View → View
+both v w = view (v.draws ++ w.draws) (max v.seen w.seen) (v.places + w.places)
+
+abbrev pub spent : View
+spent = view [] 0 0
+
+-- ---- the end
+
+-- one view has all places, and so all draws
+pub record IsWhole (n seats word : ℕ) (v : View) : Type 0 where
+  pub places : v.places ≡ seats
+  pub drawn : IsDrawn word (v.draws ∷ [])
+  pub bounded : word ≤ n + seats

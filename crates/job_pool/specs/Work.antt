@@ -1,0 +1,30 @@
+-- What workers did
+use Rattle.std.specs.Prelude.{◌≡◌, ℕ, ◌+◌, ◌<◌, false, List, map, sum_by}
+use Rattle.audit_core.specs.Draws.{end_of}
+use Rattle.verdict_book.specs.Counts.{Counts}
+use Rattle.job_pool.specs.Lists.{early}
+use Rattle.job_pool.specs.Seats.{IsSeatOf, IsNewSeatOf, drawn_by, numbers_of}
+use Rattle.job_pool.specs.declared.desk.Desk.{Desk}
+use Rattle.job_pool.specs.declared.desk.DeskSeat.{DeskSeat}
+use Rattle.job_pool.specs.declared.worker.Worker.{Worker}
+
+-- the filings of some shares, in sum
+abbrev pub filed_by : List Counts → ℕ
+filed_by shares = sum_by (λ (s : Counts). s.filed) shares
+
+module _ {F A : Type 0} where
+  -- a worker that may begin
+  abbrev pub IsReady : Desk → Worker F A → Type 0
+  IsReady desk w = IsNewSeatOf desk w.seat × (w.starved ≡ false)
+
+  -- A worker that did not stop for want of memory filed as many findings as it drew numbers of the desk, and drew on to the end
+  pub record HasWorked (desk : Desk) (before after : Worker F A) : Type 0 where
+    pub seat : IsSeatOf desk after.seat
+    pub filed : after.starved ≡ false → after.share.filed ≡ before.share.filed + early (numbers_of desk) (drawn_by after.seat)
+    pub ended : after.starved ≡ false → numbers_of desk < end_of (drawn_by after.seat)
+
+  abbrev pub shares_of : List (Worker F A) → List Counts
+  shares_of = map (λ w. w.share)
+
+  abbrev pub seats_of : List (Worker F A) → List DeskSeat
+  seats_of = map (λ w. w.seat)

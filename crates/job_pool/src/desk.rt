@@ -1,0 +1,144 @@
+//! The desk as threads share it, and the seats that they draw with.
+ghost use Rattle.std.specs.Prelude.{◌≡◌, ◌-◌, ◌<◌, ◌≤◌, [], length, vec_len, vec_capacity, IfOk, All};
+ghost use Rattle.audit_core.specs.Draws.{end_of};
+ghost use Rattle.job_pool.specs.Lists.{front, top};
+
+use crate::rule::{Claims, Looks, Numbered, Places, Size, View};
+use atomic_table::{Seat, Table};
+use audit_core::Claim;
+use std::alloc::{AllocError, Global};
+
+/// Hands out the numbers below a count of at most 1024, each once, to 1 to 64 seats that were opened with it.
+///
+/// It is one word, the next number, and it keeps the desk rule at each moment, whoever draws: each number below the word was
+/// drawn by one seat, once. A claim adds 1 to the word, in one atomic step; a look at the word, and the splits and joins of
+/// seats by `open` and `close`, add nothing. There is no other step.
+#[derive(Drop)]
+pub struct Desk {
+    pub(crate) table: Table<(), View, Size, Numbered, Global>,
+    pub(crate) numbers: usize,
+    pub(crate) seats: usize,
+    ghost counts: { (table.shared.table_id.words ≡ 1) × (table.shared.table_id.slots ≡ 0) },
+    ghost size: { (table.shared.key.numbers ≡ numbers) × (table.shared.key.seats ≡ seats) },
+    ghost small: { (numbers ≤ 1024) × (0 < seats) × (seats ≤ 64) },
+}
+
+/// One of the seats that were opened with a desk, with the numbers that it drew. It is drawn with by one thread at a time.
+///
+/// A seat that is dropped is missing when its desk is closed.
+#[derive(Drop)]
+pub struct DeskSeat {
+    pub(crate) seat: Seat<(), View>,
+    pub(crate) drawn: Vec<usize>,
+    pub(crate) numbers: usize,
+    ghost same: { seat.me.0.draws ≡ drawn.items },
+    ghost one_place: { seat.me.0.places ≡ 1 },
+    ghost no_slot: { seat.me.1 ≡ [] },
+    ghost room: { numbers < vec_capacity drawn },
+    ghost seen_above: { top drawn.items ≤ seat.me.0.seen },
+    ghost rising: { length drawn.items ≤ top drawn.items },
+    ghost last_is_top: { top drawn.items ≡ end_of drawn.items },
+    ghost front_below: { top (front drawn.items) ≤ numbers },
+}
+
+impl DeskSeat {
+    ghost use Rattle.audit_core.specs.Claims.{has_ended};
+
+    // Whether the seat met the end: then it draws no more.
+    fn has_ended(&self) -> bool
+        ensures { result ≡ has_ended self.now.numbers self.now.drawn.items }
+    {
+        let count = self.drawn.len();
+        count > 0 && self.drawn[count - 1] >= self.numbers
+    }
+}
+
+impl Desk {
+    ghost use Rattle.job_pool.specs.Rule.{view};
+    ghost use Rattle.job_pool.specs.Seats.{IsClaim, IsNewSeatOf, IsSeatOf, Tells, drawn_by, numbers_of, seats_opened, seen_by};
+
+    /// A desk for the numbers below `numbers`, and its seats. All memory that they need is found here. `AllocError` is want of
+    /// memory.
+    pub fn open(
+        alloc: Global,
+        numbers: usize,
+        seats: usize,
+    ) -> Result<(Desk, Vec<DeskSeat>), AllocError>
+        requires { (numbers ≤ 1024) × (0 < seats) × (seats ≤ 64) }
+        ensures desk { IfOk result (λ o. (numbers_of o.0 ≡ numbers) × (seats_opened o.0 ≡ seats)) }
+        ensures count { IfOk result (λ o. vec_len o.1 ≡ seats) }
+        ensures seats { IfOk result (λ o. All (IsNewSeatOf o.0) o.1.items) }
+    {
+        let size = Size {
+            numbers: numbers as u64,
+            seats: seats as u64,
+        };
+        let (table, whole) = Table::<(), View, Size, Numbered, Global>::of_words(
+            alloc,
+            &[0],
+            &size,
+        )?;
+        let desk = Desk {
+            table,
+            numbers,
+            seats,
+        };
+        let opened = desk.cut(alloc, whole)?;
+        Ok((desk, opened))
+    }
+
+    // Cuts one place off for each seat, which has room for all numbers and for the draw that tells it that there are no more.
+    fn cut(&self, alloc: Global, mut rest: Seat<(), View>) -> Result<Vec<DeskSeat>, AllocError>
+        requires { (rest.table_id ≡ self.now.table.shared.table_id) × (rest.me.0 ≡ view [] 0 (seats_opened self.now)) }
+        ensures count { IfOk result (λ v. vec_len v ≡ seats_opened self.now) }
+        ensures each { IfOk result (λ v. All (IsNewSeatOf self.now) v.items) }
+    {
+        let mut opened = Vec::with_capacity(alloc, self.seats)?;
+        for _ in 0..self.seats {
+            let drawn = Vec::with_capacity(alloc, self.numbers + 1)?;
+            let seat = self.table.shared.split_seat::<Places>(&mut rest);
+            opened.push_reserved(DeskSeat {
+                seat,
+                drawn,
+                numbers: self.numbers,
+            });
+        }
+        Ok(opened)
+    }
+
+    /// Draws the next number for a seat, by one atomic step, which neither waits nor takes memory.
+    ///
+    /// `Empty` is the answer where all numbers were drawn, by whatever seats. A seat that met it draws no more.
+    pub fn claim(&self, seat: &mut DeskSeat) -> Claim
+        requires { IsSeatOf self.now seat.old }
+        ensures seat { IsSeatOf self.now seat.new }
+        ensures claim { IsClaim (numbers_of self.now) seat.old seat.new result }
+        ensures answer { Tells (numbers_of self.now) seat.old seat.new result }
+        ensures seen { seen_by seat.old ≤ seen_by seat.new }
+    {
+        if seat.has_ended() {
+            return Claim::Empty;
+        }
+        let found = self.table.shared.fetch_add::<Claims>(&mut seat.seat, 0, 1) as usize;
+        seat.drawn.push_reserved(found);
+        if found < self.numbers {
+            Claim::Number(found)
+        } else {
+            Claim::Empty
+        }
+    }
+
+    /// How many numbers are left, by one look at the word, which neither waits nor takes memory. A later answer to the same
+    /// seat is never greater.
+    pub fn left(&self, seat: &mut DeskSeat) -> usize
+        requires { IsSeatOf self.now seat.old }
+        ensures seat { IsSeatOf self.now seat.new }
+        ensures left { result ≡ numbers_of self.now - seen_by seat.new }
+        ensures falls { result ≤ numbers_of self.now - seen_by seat.old }
+        ensures seen { seen_by seat.old ≤ seen_by seat.new }
+        ensures draws { drawn_by seat.new ≡ drawn_by seat.old }
+    {
+        let found = self.table.shared.load::<Looks>(&mut seat.seat, 0) as usize;
+        self.numbers.saturating_sub(found)
+    }
+}

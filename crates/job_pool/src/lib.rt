@@ -1,0 +1,26 @@
+//! The desk that hands out the numbers of jobs to threads, and the workers that run the jobs and file what they find.
+//!
+//! A desk is one word, the next number, and a claim is one atomic step on it: it neither waits nor takes memory. What each seat
+//! knows of the word is in its view. `specs/Rule.antt` has the desk rule, which holds of the word and all views at each moment,
+//! and `specs/Seats.antt` says what a claim tells its seat, by the core's own definition of a claim.
+//!
+//! `work` gives each share of a book to a worker with a seat of its own. It files one finding for each draw below the number of
+//! jobs, and by the desk rule each number is drawn once: so where there was memory, each job's finding was filed.
+#![tactic(auto)]
+
+mod close;
+mod desk;
+mod gate;
+mod pool;
+mod rule;
+mod worker;
+
+pub use close::{CloseFault, Closed};
+pub use desk::{Desk, DeskSeat};
+pub use gate::{Gate, OpenGate};
+pub use pool::{WorkEnd, work};
+
+#[cfg(test)]
+mod tests;
+#[cfg(test)]
+mod work_tests;

@@ -1,0 +1,188 @@
+//! Workers in threads of their own.
+ghost use Rattle.std.specs.Prelude.{◌≡◌, ℕ, ◌+◌, ◌<◌, ◌≤◌, false, [], length, slice_index_or, vec_len, vec_capacity, All, IfOk};
+ghost use Rattle.job_pool.specs.Seats.{IsNewSeatOf, numbers_of, seats_opened};
+ghost use Rattle.job_pool.specs.Work.{HasWorked, IsReady, filed_by, seats_of, shares_of};
+
+use crate::desk::{Desk, DeskSeat};
+use crate::gate::Gate;
+use crate::worker::Worker;
+use certificate::Job;
+use std::alloc::{AllocError, Global};
+use std::sync::ledger::Ledger;
+use std::sync::{Arc, Wait};
+use std::thread;
+use std::thread::Threads;
+use verdict_book::{Book, Share};
+
+/// What is left where all workers have ended.
+#[derive(Drop)]
+pub struct WorkEnd<F: Ledger, A: Ledger> {
+    /// All shares that were handed in, in their order.
+    pub shares: Vec<Share<F, A>>,
+    /// Whether there was no memory for something. Otherwise the finding of each job was filed.
+    pub memory: bool,
+}
+
+// Room for the workers, and later for their seats and shares.
+#[derive(Drop)]
+struct Rooms<F: Ledger, A: Ledger> {
+    workers: Vec<Worker<F, A>>,
+    seats: Vec<DeskSeat>,
+    shares: Vec<Share<F, A>>,
+}
+
+/// Runs all jobs and files their findings, by one worker a share. Each worker draws numbers at a desk, runs their jobs and
+/// files the findings, in a thread of its own where one can be made, until no number is left.
+///
+/// There are at most 1024 jobs, numbered from 0 in their order, and 1 to 64 shares of the book. All workers have ended when it
+/// returns. A worker that finds no memory stops, and leaves the numbers that are left to the others.
+pub fn work<F: Ledger + Sync, A: Ledger + Sync, G: Gate + Sync, R: Threads + Wait + Sync>(
+    rt: &R,
+    alloc: Global,
+    gate: &G,
+    digest: [u8; 32],
+    jobs: &[Arc<Job>],
+    book: &Book<F, A>,
+    shares: Vec<Share<F, A>>,
+) -> WorkEnd<F, A>
+    requires jobs { length jobs.now ≤ 1024 }
+    requires shares { (0 < vec_len shares) × (vec_len shares ≤ 64) }
+    ensures back { vec_len result.shares ≡ vec_len shares }
+    ensures filed { result.memory ≡ false → filed_by result.shares.items ≡ filed_by shares.items + length jobs.now }
+{
+    let Ok((desk, seats, rooms)) = prepare(alloc, jobs.len(), shares.len()) else {
+        return WorkEnd {
+            shares,
+            memory: true,
+        };
+    };
+    let Rooms {
+        workers,
+        seats: ended,
+        shares: returned,
+    } = rooms;
+    let mut workers = hire(seats, shares, workers, &desk);
+    run_all(
+        rt,
+        alloc,
+        gate,
+        digest,
+        jobs,
+        &desk,
+        book,
+        workers.as_mut_slice(),
+    );
+    let (seats, shares, starved) = dismiss(workers, ended, returned);
+    let Ok(_closed) = desk.close(alloc, seats) else {
+        return WorkEnd {
+            shares,
+            memory: true,
+        };
+    };
+    WorkEnd {
+        shares,
+        memory: starved,
+    }
+}
+
+// A desk, and room for its workers.
+fn prepare<F: Ledger, A: Ledger>(
+    alloc: Global,
+    numbers: usize,
+    count: usize,
+) -> Result<(Desk, Vec<DeskSeat>, Rooms<F, A>), AllocError>
+    requires { (numbers ≤ 1024) × (0 < count) × (count ≤ 64) }
+    ensures desk { IfOk result (λ p. (numbers_of p.0 ≡ numbers) × (seats_opened p.0 ≡ count) × (vec_len p.1 ≡ count)) }
+    ensures seats { IfOk result (λ p. All (IsNewSeatOf p.0) p.1.items) }
+    ensures empty { IfOk result (λ p. (p.2.workers.items ≡ []) × (p.2.seats.items ≡ []) × (p.2.shares.items ≡ [])) }
+    ensures room { IfOk result (λ p. (count ≤ vec_capacity p.2.workers) × (count ≤ vec_capacity p.2.seats) × (count ≤ vec_capacity p.2.shares)) }
+{
+    let workers = Vec::with_capacity(alloc, count)?;
+    let seats = Vec::with_capacity(alloc, count)?;
+    let shares = Vec::with_capacity(alloc, count)?;
+    let rooms = Rooms {
+        workers,
+        seats,
+        shares,
+    };
+    let (desk, seats) = Desk::open(alloc, numbers, count)?;
+    Ok((desk, seats, rooms))
+}
+
+// One worker for each share.
+fn hire<F: Ledger, A: Ledger>(
+    mut seats: Vec<DeskSeat>,
+    shares: Vec<Share<F, A>>,
+    mut workers: Vec<Worker<F, A>>,
+    desk: &Desk,
+) -> Vec<Worker<F, A>>
+    requires seats { All (IsNewSeatOf desk.now) seats.items }
+    requires count { vec_len seats ≡ vec_len shares }
+    requires empty { workers.items ≡ [] }
+    requires room { vec_len shares ≤ vec_capacity workers }
+    ensures count { vec_len result ≡ vec_len shares }
+    ensures shares { shares_of result.items ≡ shares.items }
+    ensures ready { All (IsReady desk.now) result.items }
+{
+    for share in shares {
+        let Some(seat) = seats.pop() else {
+            unreachable!()
+        };
+        workers.push_reserved(Worker {
+            seat,
+            share,
+            starved: false,
+        });
+    }
+    workers
+}
+
+// Each worker runs in a thread of its own.
+fn run_all<F: Ledger + Sync, A: Ledger + Sync, G: Gate + Sync, R: Threads + Wait + Sync>(
+    rt: &R,
+    alloc: Global,
+    gate: &G,
+    digest: [u8; 32],
+    jobs: &[Arc<Job>],
+    desk: &Desk,
+    book: &Book<F, A>,
+    workers: &mut [Worker<F, A>],
+)
+    requires some { 0 < length workers.old }
+    requires ready { All (IsReady desk.now) workers.old }
+    requires all { numbers_of desk.now ≡ length jobs.now }
+    ensures { (i : ℕ) (d : _) → i < length workers.old → HasWorked desk.now (slice_index_or workers.old i d) (slice_index_or workers.new i d) }
+{
+    let threads = workers.len();
+    thread::for_each_mut(
+        rt,
+        workers,
+        threads,
+        &|_, worker| worker.run(rt, alloc, gate, digest, jobs, desk, book),
+    );
+}
+
+// The seats and the shares, and whether a worker stopped for want of memory.
+fn dismiss<F: Ledger, A: Ledger>(
+    workers: Vec<Worker<F, A>>,
+    mut seats: Vec<DeskSeat>,
+    mut shares: Vec<Share<F, A>>,
+) -> (Vec<DeskSeat>, Vec<Share<F, A>>, bool)
+    requires empty { (seats.items ≡ []) × (shares.items ≡ []) }
+    requires room { (vec_len workers ≤ vec_capacity seats) × (vec_len workers ≤ vec_capacity shares) }
+    ensures seats { result.0.items ≡ seats_of workers.items }
+    ensures shares { result.1.items ≡ shares_of workers.items }
+    ensures starved { result.2 ≡ false → All (λ w. w.starved ≡ false) workers.items }
+{
+    let starved = workers.iter().any(|w| w.starved);
+    for worker in workers {
+        let Worker {
+            seat,
+            share,
+            starved: _,
+        } = worker;
+        seats.push_reserved(seat);
+        shares.push_reserved(share);
+    }
+    (seats, shares, starved)
+}

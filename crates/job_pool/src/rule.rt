@@ -1,0 +1,66 @@
+//! The rule of the desk's one word, and the four kinds of step on it: a claim, a look, a split and a join.
+use atomic_table::{Join, Play, Split, TableRule};
+use std::collections::LinkedList;
+
+/// What a seat knows: the numbers that it drew, a count that the word has reached, and of how many seats it has the place. No value
+/// of it is made.
+pub struct View {
+    pub draws: LinkedList<u64>,
+    pub seen: u64,
+    pub places: u64,
+}
+
+/// How many numbers a desk hands out, and to how many seats.
+#[derive(Drop)]
+pub struct Size {
+    pub numbers: u64,
+    pub seats: u64,
+}
+
+/// The rule of a desk.
+pub struct Numbered;
+
+impl<S> TableRule<S, View, Size> for Numbered {
+    ghost use Rattle.job_pool.specs.Rule.{IsKept, opener};
+
+    ghost holds = { IsKept };
+
+    ghost first = { opener };
+}
+
+/// A claim adds 1 to the word, and the seat draws what it found.
+pub struct Claims;
+
+impl<S> Play<S, View> for Claims {
+    ghost use Rattle.job_pool.specs.Rule.{Drew};
+
+    ghost then = { Drew };
+}
+
+/// A look leaves the word, and the seat has seen what it found.
+pub struct Looks;
+
+impl<S> Play<S, View> for Looks {
+    ghost use Rattle.job_pool.specs.Rule.{Saw};
+
+    ghost then = { Saw };
+}
+
+/// A split gives a new seat one place. A join gives one seat the places and the draws of another.
+pub struct Places;
+
+impl Split<View> for Places {
+    ghost use Rattle.job_pool.specs.Rule.{fewer, one_place};
+
+    ghost left = { fewer };
+
+    ghost right = { one_place };
+}
+
+impl Join<View> for Places {
+    ghost use Rattle.job_pool.specs.Rule.{both, spent};
+
+    ghost both = { both };
+
+    ghost spent = { spent };
+}
