@@ -25,8 +25,9 @@ pub record LooksAsAsked (p : Pattern) (value : List ℕ → Bool) (state : State
   pub elsewhere : (x y : ℤ) → IsFalse (in_rectangles p.mirrors x y) → IsFalse (in_ports p.outs x y) → IsFalse (in_cells p.wastes x y) →
       IsFalse (state x y)
 
--- the plane at time t of the run that begins with the mirrors, the balls and the input cells whose wire is true. An input's wire
--- has the value that the input has
+-- The plane at time t of the run that begins with the mirrors, the balls and the input cells whose wire is true. Input cells of a
+-- bundle that was read have the names of inputs, and an input's wire has the value that the input has, so this run is decided by
+-- the values of the inputs alone (`InputsDecideTheRun` in HeadlineLaws.antt).
 abbrev pub run_under : Circuit → Pattern → Valuation → ℕ → State
 run_under c p v t = plane_at p (values_by_name c v) t
 
