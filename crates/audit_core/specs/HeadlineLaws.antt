@@ -28,7 +28,7 @@ pub record IsBundle (lines : List Entry) (p : Pattern) (ms : List ModuleLines) (
   pub are_modules : AreModules (setting_of lines p) ms
   pub are_jobs : AreJobsOf (circuit_of lines) p ms jobs
 
--- the values of the circuit's wires, and a bundle that is accepted
+-- such a bundle, in which neither a job nor a border has a fault
 pub record IsAcceptedBundle (lines : List Entry) (p : Pattern) (ms : List ModuleLines) (jobs : List JobState) : Type 0 where
   pub bundle : IsBundle lines p ms jobs
   pub accepted : Accepts (setting_of lines p) ms jobs
@@ -58,7 +58,7 @@ EndsAsAsked = (lines : List Entry) (p : Pattern) (ms : List ModuleLines) (jobs :
     IsRunOfJobs lines p jobs v p.size.steps →
     LooksAsAsked p (values_by_name (circuit_of lines) v) (run_under (circuit_of lines) p v p.size.steps)
 
--- ---- the start by the inputs alone
+-- ---- the run by the inputs alone
 
 -- the name is that of an input
 pub record IsInputName (lines : List Entry) (name : List ℕ) : Type 0 where

@@ -20,8 +20,25 @@ const WIRE: &str = "circuit\ninput a\noutput a\nend\n";
 /// The certificate of two balls that meet in one module.
 const ONE_MODULE: &str = "certificate 1\nmodule 0 0 8 8\ncut p\ncut q\nuse 0\nend\n";
 
-/// The values of up to two inputs.
-const CHOICES: [[bool; 2]; 4] = [[false, false], [true, false], [false, true], [true, true]];
+/// A switch of three mirrors, and its layout.
+const SWITCH: &str =
+    "circuit\ninput c\ninput x\nswitch c x -> d y z\noutput d\noutput y\noutput z\nend\nlayout 22 20 10\nmirror 10 5 4 2\nmirror 13 8 4 2\nmirror 5 8 2 4\nin c 4 15\nin x 6 13\nout d 11 8\nout y 12 7\nout z 9 10\nend\n";
+
+/// A controlled exchange of four mirrors, and its layout.
+const EXCHANGE: &str =
+    "circuit\ninput c\ninput x\ninput y\nfredkin c x y -> d u v\noutput d\noutput u\noutput v\nend\nlayout 20 20 11\nmirror 10 11 4 2\nmirror 6 9 2 4\nmirror 7 6 4 2\nmirror 12 7 2 2\nin c 9 11\nin x 8 11\nin y 11 8\nout d 9 11\nout u 8 11\nout v 11 8\nend\n";
+
+/// The values of up to three inputs.
+const CHOICES: [[bool; 3]; 8] = [
+    [false, false, false],
+    [true, false, false],
+    [false, true, false],
+    [true, true, false],
+    [false, false, true],
+    [true, false, true],
+    [false, true, true],
+    [true, true, true],
+];
 
 /// The verdict on a certificate, by a book with the findings of all its jobs.
 fn verdict_on(rt: &impl Abort, alloc: Global, certificate: &Cert) -> Result<Verdict, Fail> {
@@ -115,12 +132,13 @@ fn inputs_of(
     rt: &impl Abort,
     alloc: Global,
     circuit: &Circuit,
-    choice: [bool; 2],
+    choice: [bool; 3],
 ) -> Result<Vec<bool>, Fail> {
-    let [first, second] = choice;
+    let [first, second, third] = choice;
     match circuit.inputs() {
         1 => Ok(vec![in alloc; first]?),
         2 => Ok(vec![in alloc; first, second]?),
+        3 => Ok(vec![in alloc; first, second, third]?),
         _ => panic!(rt; "other inputs"),
     }
 }
@@ -139,7 +157,7 @@ fn cell_is_right(
     has(cells, cell) == is_wanted(circuit, layout, values, cell)
 }
 
-/// All cells of a rectangle of 16 by 16 are.
+/// All cells of a rectangle of 22 by 22 are.
 fn cells_are_right(
     rt: &impl Abort,
     circuit: &Circuit,
@@ -147,8 +165,8 @@ fn cells_are_right(
     values: &[bool],
     cells: &[Cell],
 ) {
-    for y in 0..16 {
-        for x in 0..16 {
+    for y in 0..22 {
+        for x in 0..22 {
             let right = cell_is_right(circuit, layout, values, cells, Cell { x, y });
             assert!(rt; right, "at {x} {y}");
         }
@@ -163,7 +181,7 @@ fn ends_as_asked(
     circuit: &Circuit,
     ports: &PortNames,
     layout: &Layout,
-    choice: [bool; 2],
+    choice: [bool; 3],
 ) -> Result<(), Fail> {
     let inputs = inputs_of(rt, alloc, circuit, choice)?;
     assert!(rt; inputs.len() == circuit.inputs());
@@ -174,7 +192,7 @@ fn ends_as_asked(
     Ok(())
 }
 
-/// A bundle of at most 16 by 16 cells is accepted, and each whole run of it ends as is asked.
+/// A bundle of at most 22 by 22 cells is accepted, and each whole run of it ends as is asked.
 fn computes(rt: &impl Abort, alloc: Global, text: &str) -> Result<(), Fail> {
     let mut feed = fed(rt, alloc, text.as_bytes());
     let circuit = read_circuit(alloc, &mut feed)?;
@@ -237,6 +255,23 @@ fn balls_at_a_mirror(rt: HostRuntime) -> Result<(), Fail> {
         alloc,
         &format!(in alloc;
             "{WIRE}layout 8 8 4\nmirror 4 3 2 2\nin a 2 2\nout a 1 1\nend\ncertificate 1\nmodule 0 0 8 8\ncut a\nend\n"
+        )?,
+    )
+}
+
+#[test]
+fn gates_of_mirrors(rt: HostRuntime) -> Result<(), Fail> {
+    let alloc = rt.alloc();
+    computes(
+        &rt,
+        alloc,
+        &format!(in alloc; "{SWITCH}certificate 1\nmodule 0 0 22 20\ncut c\ncut x\nuse 0\nend\n")?,
+    )?;
+    computes(
+        &rt,
+        alloc,
+        &format!(in alloc;
+            "{EXCHANGE}certificate 1\nmodule 0 0 20 20\ncut c\ncut x\ncut y\nuse 0\nend\n"
         )?,
     )
 }
