@@ -15,3 +15,4 @@ pub mod WholeRuns
 pub mod InputRuns
 pub mod Examples
 pub mod YesMeansCorrect
+pub mod NamedPorts

@@ -19,11 +19,11 @@ use local_run::Fault;
 use std::alloc::{AllocError, Global};
 use std::sync::Arc;
 
-/// The verdict on a certificate for its circuit and its layout, which was read with the names of the circuit's ports: from its jobs,
-/// the least border fault of each of its modules, and what a book holds.
+/// The verdict on a certificate for its circuit and its layout: from its jobs, the least border fault of each of its modules, and
+/// what a book holds.
 ///
-/// Where it is `Yes`, the whole pattern computes the circuit, for all values of the inputs, and nothing ever leaves its rectangle:
-/// `specs/Implements.antt` says what that is.
+/// Where it is `Yes`, and the layout was read with the names of the circuit's ports, the whole pattern computes the circuit, for all
+/// values of the inputs, and nothing leaves its rectangle: `specs/Implements.antt` says what that is.
 ///
 /// `Missing` names the first module for whose whole job the book holds no finding, whatever the book's own digest and jobs are.
 /// `Memory` is want of memory.
@@ -34,13 +34,13 @@ pub fn conclude(
     borders: &[Option<BorderFault>],
     book: &BookState,
 ) -> Result<Verdict, Unfinished>
-    requires named { AreNamed (Some (port_names_of cert.now.circuit)) (parts_of cert.now.layout) }
     requires own { AreOwnJobs cert.now (map arc_value jobs.now) }
     requires borders { AreBorderFaultsOf (setting cert.now) (modules cert.now) borders.now }
     ensures held { OnOk result (AreHeldBelow book.now (map arc_value jobs.now) (length jobs.now)) }
     ensures verdict { IfOk result (λ v. IsVerdict (setting cert.now) (modules cert.now) (map arc_value jobs.now) v) }
     ensures missing { (number : ℕ) → result ≡ Err (Missing number) → IsFirstMissing book.now (map arc_value jobs.now) number }
-    ensures correct { result ≡ Ok Yes → IsCorrect (circuit_of cert.now.circuit) cert.now.layout }
+    ensures correct { result ≡ Ok Yes → AreNamed (Some (port_names_of cert.now.circuit)) (parts_of cert.now.layout) →
+        IsCorrect (circuit_of cert.now.circuit) cert.now.layout }
 {
     // What is known of the layout, the circuit and the modules.
     let _size = cert.size();

@@ -18,7 +18,7 @@ use Rattle.circuit.specs.Grammars.{circuit_grammar, circuit_value}
 use Rattle.circuit.specs.declared.entry.Entry.{Entry as CircuitLine}
 use Rattle.pattern.specs.Grammars.{layout_grammar, layout_value}
 use Rattle.pattern.specs.Layout.{Pattern}
-use Rattle.pattern.specs.Lines.{AreNamed, parts_of}
+use Rattle.pattern.specs.Lines.{parts_of}
 use Rattle.pattern.specs.declared.parts.Part.{Part}
 use Rattle.pattern.specs.declared.parts.Part.TheVariants.{Mirror, Ball, In, Out, Waste}
 use Rattle.pattern.specs.declared.parts.Port.{Port}
@@ -185,13 +185,6 @@ other_question e = cc
 
 pub refused_not_yes : outcomes.Refused ≡ outcomes.Yes → ⊥
 refused_not_yes e = cc
-
--- the ports of the certificate's layout are named as those of its circuit
-pub named_by : (circuit : List CircuitLine) (layout : Pattern) (ports : Option Named) (c : CertState) → ports ≡ Some (port_names_of circuit) → c.circuit ≡ circuit → c.layout ≡ layout → AreNamed ports (parts_of layout) →
-    AreNamed (Some (port_names_of c.circuit)) (parts_of c.layout)
-named_by circuit layout ports c are same_circuit same_layout named =
-    subst (λ (p : Pattern). AreNamed (Some (port_names_of c.circuit)) (parts_of p)) (sym same_layout)
-    (subst (λ cs. AreNamed (Some (port_names_of cs)) (parts_of layout)) (sym same_circuit) (subst (λ o. AreNamed o (parts_of layout)) are named))
 
 pub right_bundle : (text : List ℕ) (c : CertState) → bundle_of text ≡ Ok (bundle_by c) → IsCorrect (circuit_of c.circuit) c.layout → IsRightBundle text
 right_bundle text c reads correct = record { bundle = bundle_by c; reads = reads; layout = c.layout; lines = refl; correct = correct }

@@ -120,9 +120,10 @@ same_certificate bundle c d a b =
 one_said : (bundle : Bundle) (output output' : List ℕ) (outcome outcome' : Outcome) → SaysReport bundle output outcome → SaysReport bundle output' outcome' → (output ≡ output') × (outcome ≡ outcome')
 one_said bundle output output' outcome outcome' h h' =
     let same : h.certificate ≡ h'.certificate = same_certificate bundle h.certificate h'.certificate h.its_own h'.its_own in
-    let said : SaysTheSame h.verdict h'.verdict = one_verdict h.certificate h.verdict h'.verdict h.is_verdict (subst (λ c. IsVerdictOn c h'.verdict) (sym same) h'.is_verdict) in
-    (h.says ∙ same_lines h.certificate h.verdict h'.verdict said ∙ ap (λ c. report_lines c h'.verdict) same ∙ sym h'.says,
-     h.ends ∙ same_outcome h.verdict h'.verdict said ∙ sym h'.ends)
+    let said : SaysTheSame h.verdict h'.verdict = one_verdict h.certificate h.verdict h'.verdict h.is_verdict (subst (λ c. IsVerdictOn c h'.verdict) (sym same) h'.is_verdict) in (
+      h.says ∙ same_lines h.certificate h.verdict h'.verdict said ∙ ap (λ c. report_lines c h'.verdict) same ∙ sym h'.says,
+      h.ends ∙ same_outcome h.verdict h'.verdict said ∙ sym h'.ends,
+    )
 
 pub one_report : HasOneAnswer IsReportOf
 one_report text output output' outcome outcome' h h' = answered_once SaysReport one_said (bundle_of text) output output' outcome outcome' h h'

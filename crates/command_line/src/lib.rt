@@ -42,7 +42,11 @@ fn command<'a>(alloc: Global) -> Result<Command<'a>, AllocError>
     ensures { IfOk result (λ command. app_of command ≡ bbmcheck) }
 {
     top(alloc)?
-        .subcommand(plain(alloc, "check", "Checks a layout against its circuit by a certificate"))?
+        .subcommand(plain(
+            alloc,
+            "check",
+            "Checks a layout against its circuit by a certificate",
+        ))?
         .subcommand(plain(alloc, "run", "Runs a layout under an assignment"))?
         .subcommand(plain(alloc, "value", "Evaluates a circuit under an assignment"))?
         .subcommand(plain(alloc, "modules", "Lists the modules of a certificate"))

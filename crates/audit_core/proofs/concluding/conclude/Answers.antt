@@ -24,7 +24,7 @@ returns-then-is_empty-clause-verdict c =
     verdict-yes c.args.cert.now (map arc_value c.args.jobs.now) c.deref.result.now c.args.borders.now (all d) (sym c.in_ok-lines.ensures ∙ is_empty_list c.in_ok-lines.lines.items none)
 
 pub returns-then-is_empty-clause-correct : goal.returns-then-is_empty-clause-correct
-returns-then-is_empty-clause-correct c is =
+returns-then-is_empty-clause-correct c is named =
     let read : IsRead c.args.cert.now c.size-size.result = record {
       ordered = c.modules-count.ensures.ordered;
       forward = c.modules-count.ensures.forward;
@@ -33,7 +33,7 @@ returns-then-is_empty-clause-correct c is =
       laid_out = c.size-size.ensures.good;
       are_modules = c.modules-count.ensures.good;
       inputs = c.modules-count.ensures.inputs;
-      named = c.requires.named;
+      named = named;
     } in
     yes_means-correct c.args.cert.now c.size-size.result (map arc_value c.args.jobs.now) read c.requires.own (returns-then-is_empty-clause-verdict c)
 

@@ -2,9 +2,10 @@
 use Rattle.std.proofs.Common.{◌∙◌, sym}
 use Rattle.std.proofs.lemmas.Result.{IfOk-weaker}
 use Rattle.section_text.specs.Ports.{named_ports}
+use Rattle.audit_core.proofs.NamedPorts.{named_by}
 use Rattle.check_main.specs.BundleReading.{SaysOf}
 use Rattle.check_main.specs.BundleText.{bundle_of}
-use Rattle.check_main.proofs.Bundles.{bundle_answers, bundle_goes_on, bundle_read, certificate_failed, circuit_failed, going_3, layout_failed, named_by, refusal_answers, refused_not_yes, right_bundle}
+use Rattle.check_main.proofs.Bundles.{bundle_answers, bundle_goes_on, bundle_read, certificate_failed, circuit_failed, going_3, layout_failed, refusal_answers, refused_not_yes, right_bundle}
 use Rattle.check_main.proofs.bundle.bundle_text.Goals as goal
 
 pub returns-in-Err-clause-answered : goal.returns-in-Err-clause-answered

@@ -23,4 +23,4 @@ returns-clause-verdict c = record {
 pub returns-clause-correct : goal.returns-clause-correct
 returns-clause-correct c is =
     let was : c.conclude.result ≡ Ok c.in_ok-verdict.verdict = c.in_ok-verdict.was in
-    c.conclude.ensures.correct (was ∙ ap Ok (same_ok c.in_ok-verdict.verdict _ (Ok c.in_ok-verdict.verdict) refl is))
+    c.conclude.ensures.correct (was ∙ ap Ok (same_ok c.in_ok-verdict.verdict _ (Ok c.in_ok-verdict.verdict) refl is)) c.requires.named
