@@ -1,5 +1,6 @@
 #!/usr/bin/env python3
-"""make_cases.py FOLDER.. --stage K [--commands A,B] [--also NAME].. [--largest BYTES] [--bundles FOLDER [--without WORD,WORD]]
+"""make_cases.py FOLDER.. --stage K [--commands A,B] [--also NAME].. [--largest BYTES] [--bundles FOLDER [--without WORD,WORD]
+    [--runs BYTES]]
     > crates/worked_rows/data/cases.txt
 
 Writes case folders as one file of cases, in the form that crates/worked_rows/src/cases.rt tells.
@@ -11,14 +12,20 @@ commands or it is about words alone: status 2, or help. --also takes a case of t
 --largest leaves out cases whose stdin has more bytes; a stdin_repeat is short however much it stands for.
 --bundles adds a case of `check` for each NAME_v1.txt of a folder, whose report is NAME_v1.report, but for the bundles that have a
 line which begins with one of the words of --without.
+--runs adds for each of them that has at most so many bytes, at most four inputs and no waste cell, a case of `run` for each
+assignment of its inputs; what is to be listed is made from the circuit alone (tools/meaning.py).
 
 The repository's file is made with `--stage 5 --commands run,value,modules,check --largest 200000`, and with the bundles without
-`stop,delay,keep,unswitch,uninteract`. That leaves out the cases with as many edge and halo lines as a module may have, or one
+`stop,delay,keep,unswitch,uninteract` and `--runs 3000`. That leaves out the cases with as many edge and halo lines as a module may have, or one
 more: each is over a megabyte. tools/compare makes such bundles itself.
 """
 import argparse
 import sys
 from pathlib import Path
+
+sys.dont_write_bytecode = True
+sys.path.insert(0, str(Path(__file__).resolve().parent))
+from meaning import ends  # noqa: E402
 
 HEAD = """\
 # Command lines, each with what it is given and what it must do. tools/make_cases.py writes this file.
@@ -89,6 +96,24 @@ def bundle_lines(text):
     yield b"status %d" % (1 if b"\nverdict no\n" in report else 0)
 
 
+def run_lines(text, most):
+    """The cases of `run` for the bundle's layout."""
+    bundle = text.read_bytes()
+    inputs = bundle.split(b"\nend\n", 1)[0].count(b"\ninput ")
+    if len(bundle) > most or inputs > 4 or b"\nwaste " in bundle:
+        return
+    for number, (asked, live, _) in enumerate(ends(bundle)):
+        rows = sorted(live, key=lambda cell: (cell[1], cell[0]))
+        yield b""
+        yield b"case run_of_%s_%d" % (text.stem.encode(), number)
+        yield b"words run"
+        yield b"input"
+        yield from text_lines(asked)
+        yield b"output"
+        yield from text_lines(b"cells %d\n" % len(rows) + b"".join(b"%d %d\n" % cell for cell in rows))
+        yield b"status 0"
+
+
 def has_word(text, words):
     return any(line.split(b" ", 1)[0].decode() in words for line in text.read_bytes().split(b"\n"))
 
@@ -115,6 +140,7 @@ def main():
     parser.add_argument("--also", action="append", default=[])
     parser.add_argument("--largest", type=int)
     parser.add_argument("--bundles", type=Path)
+    parser.add_argument("--runs", type=int, default=0)
     parser.add_argument("--without", type=lambda words: words.split(","), default=[])
     options = parser.parse_args()
     found = sorted((args.parent for folder in options.folders for args in folder.glob("**/args")), key=lambda f: f.name)
@@ -130,6 +156,7 @@ def main():
         for text in sorted(options.bundles.glob("*_v1.txt")):
             if not has_word(text, options.without):
                 out.write(b"\n" + b"\n".join(bundle_lines(text)) + b"\n")
+                out.write(b"".join(line + b"\n" for line in run_lines(text, options.runs)))
 
 
 main()
