@@ -1,7 +1,8 @@
 #!/usr/bin/env python3
-"""make_module.py SIDE CUTS STEPS: writes a bundle of one module of SIDE by SIDE cells that has no fault, the same one each time.
+"""make_module.py SIDE CUTS STEPS [ACROSS]: writes a bundle of ACROSS by ACROSS modules (one by default) of SIDE by SIDE cells,
+which have no fault. It is the same bundle each time.
 
-Mirrors wall the module off. Inside the walls there are some more mirrors and an input cell for each cut, whose balls run for all
+Mirrors wall each module off. Inside the walls there are some more mirrors and an input cell for each cut, whose balls run for all
 steps. Every cell inside that is no mirror is waste, so whatever is live there at the end is no fault.
 """
 import random
@@ -22,7 +23,8 @@ def walls(side):
     ]
 
 
-def module(rng, side, cuts, steps):
+def module(rng, side, cuts):
+    """The mirrors, the input cells and the waste cells of one module."""
     mirrors = walls(side)
     lit = set().union(*(cells_of(*mirror) for mirror in mirrors))
     inside = cells_of(4, 3, side - 8, side - 6)
@@ -32,13 +34,23 @@ def module(rng, side, cuts, steps):
             mirrors.append(mirror)
             lit |= cells_of(*mirror)
     free = sorted(inside - lit)
+    return mirrors, rng.sample(free, cuts), free
+
+
+def bundle(rng, side, cuts, steps, across=1):
     names = [f"i{k}" for k in range(cuts)]
+    mirrors, ins, wastes, modules = [], [], [], []
+    for top in range(0, side * across, side):
+        for left in range(0, side * across, side):
+            own, starts, free = module(rng, side, cuts)
+            mirrors += [f"mirror {left + x} {top + y} {w} {h}" for x, y, w, h in own]
+            ins += [f"in {name} {left + x} {top + y}" for name, (x, y) in zip(names, starts)]
+            wastes += [f"waste {left + x} {top + y}" for x, y in free]
+            modules += [f"module {left} {top} {side} {side}", *(f"cut {name}" for name in names)]
     lines = ["circuit", *(f"input {name}" for name in names), *(f"spill {name}" for name in names), "end"]
-    lines += [f"layout {side} {side} {steps}", *("mirror %d %d %d %d" % mirror for mirror in mirrors)]
-    lines += ["in %s %d %d" % (name, *cell) for name, cell in zip(names, rng.sample(free, cuts))]
-    lines += ["waste %d %d" % cell for cell in free]
-    lines += ["end", "certificate 1", f"module 0 0 {side} {side}", *(f"cut {name}" for name in names), "end"]
+    lines += [f"layout {side * across} {side * across} {steps}", *mirrors, *ins, *wastes, "end"]
+    lines += ["certificate 1", *modules, "end"]
     return "".join(line + "\n" for line in lines)
 
 
-sys.stdout.write(module(random.Random(1982), *map(int, sys.argv[1:4])))
+sys.stdout.write(bundle(random.Random(1982), *map(int, sys.argv[1:])))

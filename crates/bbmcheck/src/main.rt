@@ -30,7 +30,7 @@ fn main(rt: HostRuntime) -> ExitCode {
     let Ok(words) = borrowed(rt.alloc(), &owned) else {
         return out_of_memory(&rt);
     };
-    let status = program(rt.alloc(), &words, &mut reader, &mut writer, &mut errors);
+    let status = program(&rt, rt.alloc(), &words, &mut reader, &mut writer, &mut errors);
     ExitCode::from(status)
 }
 

@@ -27,14 +27,12 @@ use Rattle.certificate.specs.Entries.{Setting}
 use Rattle.certificate.specs.Grammars.{CertState, certificate_grammar, certificate_value, setting_of}
 use Rattle.certificate.specs.declared.entry.Entry.{Entry}
 use Rattle.check_main.specs.Answers.{Answered}
-use Rattle.check_main.specs.BundleReading.{SaysOf, TellsRefusal, bundle_by}
+use Rattle.check_main.specs.BundleReading.{TellsRefusal, bundle_by}
 use Rattle.audit_core.specs.Concluding.{port_names_of}
 use Rattle.check_main.specs.BundleText.{Bundle, bundle_of, in_port, out_port, setting_by}
 use Rattle.audit_core.specs.Implements.{IsCorrect}
 use Rattle.check_main.specs.CheckText.{IsRightBundle, SaysReport}
 use Rattle.check_main.specs.ModulesText.{SaysModules}
-use Rattle.check_main.specs.declared.bundle.Question.{Question}
-use Rattle.check_main.specs.declared.bundle.Question.TheVariants.{Report, Modules}
 use Rattle.check_main.specs.declared.fault.CheckFault.{CheckFault}
 use Rattle.check_main.specs.declared.outcome.Answered.{Answered as Answer}
 use Rattle.check_main.specs.declared.outcome.Outcome.{Outcome}
@@ -168,18 +166,8 @@ refusal_answers says read fault output outcome fails told =
     let fails' : Fails (Refused told.refusal) read = subst (λ f. Fails f read) told.refused fails in
     subst (λ r. Answered says r output outcome) (sym fails') (told.says, told.ends)
 
-pub bundle_answers : (question : Question) (read : Result Bundle Refusal) (cert : CertState) (output : List ℕ) (outcome : Outcome) → read ≡ Ok (bundle_by cert) → SaysOf question (bundle_by cert) output outcome → Answered (SaysOf question) read output outcome
-bundle_answers question read cert output outcome was_read says = subst (λ r. Answered (SaysOf question) r output outcome) (sym was_read) says
-
--- what answers one question answers the question that is the same
-pub report_says : (question : Question) (bundle : Bundle) (r : Result Answer CheckFault) → question ≡ Report → IfOk r (λ a. SaysReport bundle a.output.items a.outcome) → IfOk r (λ a. SaysOf question bundle a.output.items a.outcome)
-report_says question bundle r is says = subst (λ q. IfOk r (λ a. SaysOf q bundle a.output.items a.outcome)) (sym is) says
-
-pub modules_says : (question : Question) (bundle : Bundle) (r : Result Answer CheckFault) → question ≡ Modules → IfOk r (λ a. SaysModules bundle a.output.items a.outcome) → IfOk r (λ a. SaysOf question bundle a.output.items a.outcome)
-modules_says question bundle r is says = subst (λ q. IfOk r (λ a. SaysOf q bundle a.output.items a.outcome)) (sym is) says
-
-pub other_question : Modules ≡ Report → ⊥
-other_question e = cc
+pub bundle_answers : (says : Bundle → List ℕ → Outcome → Type 0) (read : Result Bundle Refusal) (cert : CertState) (output : List ℕ) (outcome : Outcome) → read ≡ Ok (bundle_by cert) → says (bundle_by cert) output outcome → Answered says read output outcome
+bundle_answers says read cert output outcome was_read said = subst (λ r. Answered says r output outcome) (sym was_read) said
 
 -- ---- what a yes means
 

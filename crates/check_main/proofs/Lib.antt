@@ -6,3 +6,4 @@ pub mod ModuleText
 mod Bundles
 mod Runs
 mod OneReport
+pub mod Closings

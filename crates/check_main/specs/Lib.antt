@@ -11,3 +11,4 @@ pub mod BundleText
 pub mod BundleReading
 pub mod CheckText
 pub mod ModulesText
+pub mod Audits

@@ -1,5 +1,5 @@
 -- The exit status for how a command ended, and the line for a fault.
-use Rattle.std.specs.Prelude.{◌≡◌, ℕ, Bool, false, List, Option, Ok, Err, Result, codes}
+use Rattle.std.specs.Prelude.{◌≡◌, ℕ, Bool, true, false, List, Option, Ok, Err, Result, codes}
 use Rattle.std.specs.Io.KnownBytes.{Appends}
 use Rattle.check_main.specs.declared.outcome.Outcome.{Outcome}
 use Rattle.check_main.specs.declared.outcome.Outcome.TheVariants.{Yes, No, Refused}
@@ -25,10 +25,11 @@ line_for TooLong = codes "bbmcheck: text too long\n"
 line_for Memory = codes "bbmcheck: out of memory\n"
 line_for Missing = codes "bbmcheck: findings missing\n"
 
--- why there is no outcome where there is no verdict
-abbrev pub fault_of : Unfinished → CheckFault
-fault_of (unfinished.Missing number) = Missing
-fault_of unfinished.Memory = Memory
+-- why there is no outcome where there is no verdict, and there was no memory for something that the workers did, or there was
+abbrev pub fault_after : Unfinished → Bool → CheckFault
+fault_after (unfinished.Missing number) true = Memory
+fault_after (unfinished.Missing number) false = Missing
+fault_after unfinished.Memory memory = Memory
 
 -- want of memory, or a module that was not run
 abbrev pub IsUndecided : CheckFault → Type 0

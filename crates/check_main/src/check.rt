@@ -1,30 +1,40 @@
-//! Checks a certificate: runs its modules one after the other, and reports what was found.
-ghost use Rattle.std.specs.Prelude.{◌≡◌, IfErr, IfOk, Ok, OnOk, Some};
+//! Checks a certificate: has its modules run by workers, and reports what was found.
+ghost use Rattle.std.specs.Prelude.{◌≡◌, ◌<◌, ◌≤◌, IfErr, IfOk, Ok, Some};
 ghost use Rattle.circuit.specs.Bridge.{circuit_of};
 ghost use Rattle.pattern.specs.Lines.{AreNamed, parts_of};
 ghost use Rattle.audit_core.specs.Concluding.{port_names_of};
 ghost use Rattle.audit_core.specs.Implements.{IsCorrect};
 ghost use Rattle.check_main.specs.BundleReading.{bundle_by};
 ghost use Rattle.check_main.specs.CheckText.{IsVerdictOn, SaysReport, verdict_outcome};
-ghost use Rattle.check_main.specs.Status.{IsUndecided};
+ghost use Rattle.check_main.specs.Status.{IsUndecided, fault_after};
 
 use crate::CheckFault;
+use crate::auditing::{Audited, audit};
 use crate::outcome::{Answered, Outcome};
-use audit_core::{BookState, Verdict, conclude};
+use audit_core::{Unfinished, Verdict, conclude};
 use border_match::match_borders;
 use certificate::Cert;
-use local_run::run_job;
+use job_pool::Gate;
 use report::report_text;
-use std::alloc::{AllocError, Global};
+use std::alloc::Global;
+use std::sync::Wait;
+use std::thread::Threads;
 
-/// The report on a certificate.
-pub(crate) fn report_on(alloc: Global, cert: &Cert<'_>) -> Result<Answered, CheckFault>
+/// The report on a certificate, whose modules so many workers run.
+pub(crate) fn report_on<G: Gate + Sync, R: Threads + Wait + Sync>(
+    rt: &R,
+    alloc: Global,
+    cert: &Cert<'_>,
+    workers: usize,
+    gate: &G,
+) -> Result<Answered, CheckFault>
+    requires workers { (0 < workers) × (workers ≤ 64) }
     requires named { AreNamed (Some (port_names_of cert.now.circuit)) (parts_of cert.now.layout) }
     ensures says { IfOk result (λ answered. SaysReport (bundle_by cert.now) answered.output.items answered.outcome) }
     ensures correct { IfOk result (λ answered. answered.outcome ≡ Outcome.Yes → IsCorrect (circuit_of cert.now.circuit) cert.now.layout) }
     ensures undecided { IfErr result IsUndecided }
 {
-    let verdict = verdict_on(alloc, cert)?;
+    let verdict = verdict_on(rt, alloc, cert, workers, gate)?;
     let output = report_text(alloc, cert, &verdict)?;
     Ok(Answered {
         outcome: outcome_of(&verdict),
@@ -32,8 +42,15 @@ pub(crate) fn report_on(alloc: Global, cert: &Cert<'_>) -> Result<Answered, Chec
     })
 }
 
-// The verdict on a certificate, from runs of all its modules.
-fn verdict_on(alloc: Global, cert: &Cert<'_>) -> Result<Verdict, CheckFault>
+// The verdict on a certificate, from what the workers filed.
+fn verdict_on<G: Gate + Sync, R: Threads + Wait + Sync>(
+    rt: &R,
+    alloc: Global,
+    cert: &Cert<'_>,
+    workers: usize,
+    gate: &G,
+) -> Result<Verdict, CheckFault>
+    requires workers { (0 < workers) × (workers ≤ 64) }
     requires named { AreNamed (Some (port_names_of cert.now.circuit)) (parts_of cert.now.layout) }
     ensures verdict { IfOk result (IsVerdictOn cert.now) }
     ensures correct { result ≡ Ok Verdict.Yes → IsCorrect (circuit_of cert.now.circuit) cert.now.layout }
@@ -41,28 +58,24 @@ fn verdict_on(alloc: Global, cert: &Cert<'_>) -> Result<Verdict, CheckFault>
 {
     // What is known of the modules.
     let _count = cert.modules();
-    let digest = cert.digest(alloc)?;
-    let mut book = BookState::new(alloc, digest, cert.jobs(alloc)?)?;
-    run_all(alloc, &mut book)?;
-    let borders = match_borders(alloc, cert, book.jobs())?;
-    let verdict = conclude(alloc, cert, book.jobs(), &borders, &book)?;
-    Ok(verdict)
+    let Audited { state, memory } = audit(rt, alloc, cert, workers, gate)?;
+    let jobs = cert.jobs(alloc)?;
+    let borders = match_borders(alloc, cert, &jobs)?;
+    match conclude(alloc, cert, &jobs, &borders, &state) {
+        Ok(verdict) => Ok(verdict),
+        Err(unfinished) => Err(fault_after(unfinished, memory)),
+    }
 }
 
-// Runs the jobs of a book in their order, and files what is found.
-fn run_all(alloc: Global, book: &mut BookState) -> Result<(), AllocError>
-    ensures { OnOk result (book.new.jobs ≡ book.old.jobs) }
+// Why there is no verdict, where there was or was not memory for all that the workers found.
+fn fault_after(unfinished: Unfinished, memory: bool) -> CheckFault
+    ensures { result ≡ fault_after unfinished memory }
 {
-    let digest = book.digest();
-    let count = book.jobs().len();
-    for number in 0..count {
-        let job = book.jobs()[number].clone()?;
-        let finding = run_job(alloc, digest, number, job)?;
-        let Ok(_reply) = book.file(finding) else {
-            return Err(AllocError);
-        };
+    match unfinished {
+        Unfinished::Missing(_) if memory => CheckFault::Memory,
+        Unfinished::Missing(_) => CheckFault::Missing,
+        Unfinished::Memory => CheckFault::Memory,
     }
-    Ok(())
 }
 
 fn outcome_of(verdict: &Verdict) -> Outcome

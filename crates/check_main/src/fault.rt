@@ -1,6 +1,5 @@
 //! Why a call over a reader and a writer gave no outcome.
 
-use audit_core::Unfinished;
 use std::alloc::AllocError;
 use thiserror::Error;
 
@@ -31,19 +30,5 @@ impl From<AllocError> for CheckFault {
 
     fn from(_: AllocError) -> CheckFault {
         CheckFault::Memory
-    }
-}
-
-impl From<Unfinished> for CheckFault {
-    ghost use Rattle.std.specs.Prelude.{◌≡◌};
-    ghost use Rattle.check_main.specs.Status.{fault_of};
-
-    ghost from_gives = { λ unfinished fault. fault ≡ fault_of unfinished };
-
-    fn from(unfinished: Unfinished) -> CheckFault {
-        match unfinished {
-            Unfinished::Missing(_) => CheckFault::Missing,
-            Unfinished::Memory => CheckFault::Memory,
-        }
     }
 }

@@ -1,5 +1,5 @@
 //! The whole program, over the words and the streams that it is given.
-ghost use Rattle.std.specs.Prelude.{◌≡◌, ◌≢◌, ◌≤◌, ◌⊎◌, false, true, IfOk, IfErr, IsErrOf, OnOk, map};
+ghost use Rattle.std.specs.Prelude.{◌≡◌, ◌≢◌, ◌<◌, ◌≤◌, ◌⊎◌, false, true, IfOk, IfErr, IsErrOf, OnOk, map};
 ghost use Rattle.clap.specs.Words.{kind_of};
 ghost use Rattle.command_line.specs.CommandLine.{IsAccepted, AsksForHelp, asked_by};
 ghost use Rattle.check_main.specs.Commands.{IsAnswerTo};
@@ -10,8 +10,11 @@ use crate::stream::{check_stream, modules_stream, run_stream, value_stream, writ
 use crate::{CheckFault, Outcome, Sink, Source};
 use clap::Error;
 use clap::error::ErrorKind;
-use command_line::{Request, read_words};
+use command_line::{Asked, Request, read_words};
+use job_pool::OpenGate;
 use std::alloc::Global;
+use std::sync::Wait;
+use std::thread::Threads;
 
 // Statuses.
 const DONE: u8 = 0;
@@ -37,13 +40,19 @@ const NOT_DECIDED: u8 = 5;
 ///
 /// What is wrong with the words, and a line for a status of 4 or 5, is said to `errors`, and that a write to
 /// it fails changes nothing.
-pub fn program<'a, R: Source, W: Sink, E: Sink>(
+pub fn program<'a, T, R, W, E>(
+    rt: &T,
     alloc: Global,
     words: &'a [&'a str],
     reader: &mut R,
     writer: &mut W,
     errors: &mut E,
 ) -> u8
+where
+    T: Threads + Wait + Sync,
+    R: Source,
+    W: Sink,
+    E: Sink,
     requires reader_works { R.has_failed reader.old ≡ false }
     requires writer_works { W.has_failed writer.old ≡ false }
     ensures range { result ≤ 5 }
@@ -90,8 +99,8 @@ pub fn program<'a, R: Source, W: Sink, E: Sink>(
     ensures quiet { result ≢ 2 → result ≢ 4 → result ≢ 5 → errors.new ≡ errors.old }
 {
     match read_words(alloc, words) {
-        Ok(request) => {
-            let ended = serve(alloc, request, reader, writer);
+        Ok(asked) => {
+            let ended = serve(rt, alloc, asked, reader, writer);
             status_of(ended, errors)
         }
         Err(error) => explain(alloc, &error, writer, errors),
@@ -99,15 +108,17 @@ pub fn program<'a, R: Source, W: Sink, E: Sink>(
 }
 
 // Each command is a call over the two streams.
-fn serve<R: Source, W: Sink>(
+fn serve<T: Threads + Wait + Sync, R: Source, W: Sink>(
+    rt: &T,
     alloc: Global,
-    request: Request,
+    asked: Asked,
     reader: &mut R,
     writer: &mut W,
 ) -> Result<Outcome, CheckFault>
+    requires workers { (0 < asked.workers) × (asked.workers ≤ 64) }
     requires reader_works { R.has_failed reader.old ≡ false }
     requires writer_works { W.has_failed writer.old ≡ false }
-    ensures answered { IfOk result (Answers (IsAnswerTo request) (R.left reader.old) (R.left reader.new)
+    ensures answered { IfOk result (Answers (IsAnswerTo asked.request) (R.left reader.old) (R.left reader.new)
         (W.held writer.old) (W.held writer.new)) }
     ensures works { OnOk result (W.has_failed writer.new ≡ false) }
     ensures read { IsErrOf result CheckFault.Read → R.has_failed reader.new ≡ true }
@@ -115,13 +126,13 @@ fn serve<R: Source, W: Sink>(
         GivesTooMuch (R.left reader.old) (R.left reader.new) }
     ensures write { IsErrOf result CheckFault.Write → W.has_failed writer.new ≡ true }
     ensures prefix { IsErrOf result CheckFault.Write →
-        BreaksOff (IsAnswerTo request) (R.left reader.old) (R.left reader.new)
+        BreaksOff (IsAnswerTo asked.request) (R.left reader.old) (R.left reader.new)
         (W.held writer.old) (W.held writer.new) }
     ensures unwritten { IfErr result (λ fault. fault ≢ CheckFault.Write → writer.new ≡ writer.old) }
-    ensures missing { IsErrOf result CheckFault.Missing → request ≡ Request.Check }
+    ensures missing { IsErrOf result CheckFault.Missing → asked.request ≡ Request.Check }
 {
-    match request {
-        Request::Check => check_stream(alloc, reader, writer),
+    match asked.request {
+        Request::Check => check_stream(rt, alloc, reader, writer, asked.workers, &OpenGate),
         Request::Run => run_stream(alloc, reader, writer),
         Request::Value => value_stream(alloc, reader, writer),
         Request::Modules => modules_stream(alloc, reader, writer),

@@ -2,6 +2,7 @@
 #![tactic(auto)]
 
 mod asking;
+mod auditing;
 mod bundle;
 mod check;
 mod device;
@@ -14,12 +15,15 @@ mod run;
 mod stream;
 mod value;
 
+pub use auditing::{Audited, audit};
 pub use device::{Over, Sink, Source};
 pub use fault::CheckFault;
 pub use front::program;
 pub use outcome::Outcome;
 pub use stream::{check_stream, modules_stream, run_stream, value_stream};
 
+#[cfg(test)]
+mod audit_tests;
 #[cfg(test)]
 mod check_tests;
 #[cfg(test)]

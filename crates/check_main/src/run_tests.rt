@@ -7,7 +7,7 @@ const ANSWER: &[u8; 16] = b"cells 2\n5 2\n2 5\n";
 
 #[test]
 fn runs_two_balls(rt: HostRuntime) {
-    let seen = call_program(rt.alloc(), &["run"], TEXT.as_bytes(), MUCH_ROOM);
+    let seen = call_program(&rt, rt.alloc(), &["run"], TEXT.as_bytes(), MUCH_ROOM);
     assert!(rt; seen.status == 0 && seen.said.is_empty());
     assert!(rt; seen.written.as_slice() == ANSWER.as_slice());
 }
@@ -20,7 +20,7 @@ fn reads_a_text_however_it_is_cut(rt: HostRuntime) {
             piece,
             calls_left: 1_000,
         };
-        let seen = call_program(rt.alloc(), &["run"], pieces, MUCH_ROOM);
+        let seen = call_program(&rt, rt.alloc(), &["run"], pieces, MUCH_ROOM);
         assert!(rt; seen.status == 0 && seen.written.as_slice() == ANSWER.as_slice());
     }
 }
@@ -39,7 +39,7 @@ fn refuses_a_changed_line(rt: HostRuntime) -> Result<(), Fail> {
     ];
     for (line, changed, said) in many {
         let text = TEXT.replace(rt.alloc(), line, changed)?;
-        let seen = call_program(rt.alloc(), &["run"], text.as_bytes(), MUCH_ROOM);
+        let seen = call_program(&rt, rt.alloc(), &["run"], text.as_bytes(), MUCH_ROOM);
         assert!(rt; seen.status == 3 && seen.said.is_empty(), "{changed}");
         assert!(rt; seen.written.as_slice() == said.as_bytes(), "{changed}");
     }
@@ -48,7 +48,7 @@ fn refuses_a_changed_line(rt: HostRuntime) -> Result<(), Fail> {
 
 #[test]
 fn refuses_an_empty_text(rt: HostRuntime) {
-    let seen = call_program(rt.alloc(), &["run"], [].as_slice(), MUCH_ROOM);
+    let seen = call_program(&rt, rt.alloc(), &["run"], [].as_slice(), MUCH_ROOM);
     assert!(rt; seen.status == 3 && seen.written.as_slice() == b"refused 1 12\n".as_slice());
 }
 
@@ -56,7 +56,7 @@ fn refuses_an_empty_text(rt: HostRuntime) {
 fn tells_the_step_that_leaves(rt: HostRuntime) {
     // The first step takes the ball to the far corner of the rectangle, the second out of it.
     let text = b"layout 2 2 2\nin a 0 0\nend\nassign\non a\nend\n";
-    let seen = call_program(rt.alloc(), &["run"], text.as_slice(), MUCH_ROOM);
+    let seen = call_program(&rt, rt.alloc(), &["run"], text.as_slice(), MUCH_ROOM);
     assert!(rt; seen.status == 1 && seen.said.is_empty());
     assert!(rt; seen.written.as_slice() == b"left 2\n".as_slice());
 }
@@ -64,7 +64,7 @@ fn tells_the_step_that_leaves(rt: HostRuntime) {
 #[test]
 fn writes_the_front_of_the_answer_before_a_write_fails(rt: HostRuntime) {
     for room in 0..ANSWER.len() {
-        let seen = call_program(rt.alloc(), &["run"], TEXT.as_bytes(), room);
+        let seen = call_program(&rt, rt.alloc(), &["run"], TEXT.as_bytes(), room);
         assert!(rt; seen.status == 4 && seen.written.as_slice() == &ANSWER[..room]);
     }
 }

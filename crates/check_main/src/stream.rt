@@ -1,5 +1,5 @@
 //! From a reader's bytes to a writer's.
-ghost use Rattle.std.specs.Prelude.{◌≡◌, ◌≢◌, true, false, Ok, IfOk, IfErr, IsErrOf, OnOk};
+ghost use Rattle.std.specs.Prelude.{◌≡◌, ◌≢◌, ◌<◌, ◌≤◌, true, false, Ok, IfOk, IfErr, IsErrOf, OnOk};
 ghost use Rattle.std.specs.Io.KnownBytes.{Appends};
 ghost use Rattle.check_main.specs.CheckText.{IsReportOf, ReadsRightBundle};
 ghost use Rattle.check_main.specs.ModulesText.{IsModulesOf};
@@ -7,13 +7,16 @@ ghost use Rattle.check_main.specs.RunText.{IsRunOf};
 ghost use Rattle.check_main.specs.ValueText.{IsValueOf};
 ghost use Rattle.check_main.specs.Stream.{Answers, BreaksOff, ReadsAll, GivesTooMuch, TakesPrefix, whole_text};
 
-use crate::bundle::{Question, bundle_text};
+use crate::bundle::{modules_of_text, report_of_text};
 use crate::outcome::Answered;
 use crate::run::run_text;
 use crate::value::value_text;
 use crate::{CheckFault, Outcome, Sink, Source};
+use job_pool::Gate;
 use section_text::{Feed, PushFault};
 use std::alloc::Global;
+use std::sync::Wait;
+use std::thread::Threads;
 
 // What one read asks for, in bytes.
 const BLOCK: usize = 65_536;
@@ -21,15 +24,25 @@ const BLOCK: usize = 65_536;
 // Each read but the last gives a byte, and a text has at most 16 MiB.
 const MOST_READS: usize = 16_777_217;
 
-/// Checks a bundle: reads the whole text, at most 16 MiB, runs the modules of its certificate one after the other, and writes the
-/// report once it is complete. `Yes` and `No` are the verdict.
+/// Checks a bundle: reads the whole text, at most 16 MiB, has the modules of its certificate run by 1 to 64 workers, and writes the
+/// report once it is complete. `Yes` and `No` are the verdict. What is written is the same for every number of workers, every gate
+/// and every order in which they end.
 ///
 /// Where it is `Yes`, the text is a bundle, and the whole pattern of its layout computes its circuit: `IsCorrect` of `audit_core`.
-pub fn check_stream<R: Source, W: Sink>(
+pub fn check_stream<T, R, W, G>(
+    rt: &T,
     alloc: Global,
     reader: &mut R,
     writer: &mut W,
+    workers: usize,
+    gate: &G,
 ) -> Result<Outcome, CheckFault>
+where
+    T: Threads + Wait + Sync,
+    R: Source,
+    W: Sink,
+    G: Gate + Sync,
+    requires workers { (0 < workers) × (workers ≤ 64) }
     requires reader_works { R.has_failed reader.old ≡ false }
     requires writer_works { W.has_failed writer.old ≡ false }
     ensures answered { IfOk result (Answers IsReportOf (R.left reader.old) (R.left reader.new)
@@ -46,7 +59,7 @@ pub fn check_stream<R: Source, W: Sink>(
     ensures unwritten { IfErr result (λ fault. fault ≢ CheckFault.Write → writer.new ≡ writer.old) }
 {
     let mut feed = read_text(alloc, reader)?;
-    let answered = bundle_text(alloc, &mut feed, Question::Report)?;
+    let answered = report_of_text(rt, alloc, &mut feed, workers, gate)?;
     write_answer(writer, &answered)
 }
 
@@ -127,7 +140,7 @@ pub fn modules_stream<R: Source, W: Sink>(
     ensures not_missing { IfErr result (λ fault. fault ≢ CheckFault.Missing) }
 {
     let mut feed = read_text(alloc, reader)?;
-    let answered = bundle_text(alloc, &mut feed, Question::Modules)?;
+    let answered = modules_of_text(alloc, &mut feed)?;
     write_answer(writer, &answered)
 }
 

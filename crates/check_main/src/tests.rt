@@ -3,7 +3,9 @@ use crate::{CheckFault, Outcome, Over, program, run_stream};
 use std::alloc::Global;
 use std::io;
 use std::io::{ErrorKind, Read, Write};
+use std::sync::Wait;
 use std::test::Fail;
+use std::thread::Threads;
 
 /// A layout in which two balls collide, and both its inputs.
 pub(crate) const TEXT: &str =
@@ -141,7 +143,8 @@ pub(crate) struct Seen {
 }
 
 /// What the program does with some words, over a reader and a writer with that much room.
-pub(crate) fn call_program<'a, R: Read + Drop>(
+pub(crate) fn call_program<'a, T: Threads + Wait + Sync, R: Read + Drop>(
+    rt: &T,
     alloc: Global,
     words: &'a [&'a str],
     reader: R,
@@ -154,7 +157,7 @@ pub(crate) fn call_program<'a, R: Read + Drop>(
         errs: true,
     });
     let mut errors = Over::new(Vec::new(alloc));
-    let status = program(alloc, words, &mut source, &mut writer, &mut errors);
+    let status = program(rt, alloc, words, &mut source, &mut writer, &mut errors);
     let FailingWriter {
         taken,
         room: _,
@@ -180,7 +183,7 @@ fn unrecognized(alloc: Global, word: &str) -> Result<String, Fail> {
 #[test]
 fn refuses_other_commands(rt: HostRuntime) -> Result<(), Fail> {
     for word in ["migrate", "prove", ""] {
-        let seen = call_program(rt.alloc(), &[word], TEXT.as_bytes(), MUCH_ROOM);
+        let seen = call_program(&rt, rt.alloc(), &[word], TEXT.as_bytes(), MUCH_ROOM);
         assert!(rt; seen.status == 2 && seen.written.is_empty());
         let said = unrecognized(rt.alloc(), word)?;
         assert!(rt; seen.said.as_slice() == said.as_bytes(), "{word}");
@@ -190,7 +193,7 @@ fn refuses_other_commands(rt: HostRuntime) -> Result<(), Fail> {
 
 #[test]
 fn refuses_words(rt: HostRuntime) {
-    let many: [(&[&str], &str); 8] = [
+    let many: [(&[&str], &str); 9] = [
         (
             &[],
             "error: 'bbmcheck' requires a subcommand but one was not provided\n  [subcommands: check, run, value, modules, help]\n\nUsage: bbmcheck <COMMAND>\n\nFor more information, try '--help'.\n",
@@ -212,8 +215,12 @@ fn refuses_words(rt: HostRuntime) {
             "error: unrecognized subcommand 'rum'\n\n  tip: a similar subcommand exists: 'run'\n\nUsage: bbmcheck <COMMAND>\n\nFor more information, try '--help'.\n",
         ),
         (
-            &["check", "--workers", "2"],
-            "error: unexpected argument '--workers' found\n\nUsage: bbmcheck check\n\nFor more information, try '--help'.\n",
+            &["check", "--workers", "65"],
+            "error: invalid value '65' for '--workers <N>': 65 is not in 1..=64\n\nFor more information, try '--help'.\n",
+        ),
+        (
+            &["check", "--workers", "0"],
+            "error: invalid value '0' for '--workers <N>': 0 is not in 1..=64\n\nFor more information, try '--help'.\n",
         ),
         (
             &["value", "x"],
@@ -225,7 +232,7 @@ fn refuses_words(rt: HostRuntime) {
         ),
     ];
     for (words, said) in many {
-        let seen = call_program(rt.alloc(), words, TEXT.as_bytes(), MUCH_ROOM);
+        let seen = call_program(&rt, rt.alloc(), words, TEXT.as_bytes(), MUCH_ROOM);
         assert!(rt; seen.status == 2 && seen.written.is_empty());
         assert!(rt; seen.said.as_slice() == said.as_bytes());
     }
@@ -238,7 +245,7 @@ const RUN_HELP: &str =
     "Runs a layout under an assignment\n\nUsage: bbmcheck run\n\nOptions:\n  -h, --help  Print help\n";
 
 const CHECK_HELP: &str =
-    "Checks a layout against its circuit by a certificate\n\nUsage: bbmcheck check\n\nOptions:\n  -h, --help  Print help\n";
+    "Checks a layout against its circuit by a certificate\n\nUsage: bbmcheck check [OPTIONS]\n\nOptions:\n      --workers <N>  How many workers share the modules, 1 to 64 [default: 1]\n  -h, --help         Print help\n";
 
 const MODULES_HELP: &str =
     "Lists the modules of a certificate\n\nUsage: bbmcheck modules\n\nOptions:\n  -h, --help  Print help\n";
@@ -255,7 +262,7 @@ fn prints_help(rt: HostRuntime) {
         (&["check", "--help"], CHECK_HELP),
     ];
     for (words, help) in many {
-        let seen = call_program(rt.alloc(), words, TEXT.as_bytes(), MUCH_ROOM);
+        let seen = call_program(&rt, rt.alloc(), words, TEXT.as_bytes(), MUCH_ROOM);
         assert!(rt; seen.status == 0 && seen.said.is_empty());
         assert!(rt; seen.written.as_slice() == help.as_bytes());
     }
@@ -270,7 +277,7 @@ fn reads_nothing_for_wrong_words(rt: HostRuntime) {
             piece: 1,
             calls_left: 0,
         };
-        assert!(rt; call_program(rt.alloc(), words, failing, MUCH_ROOM).status == status);
+        assert!(rt; call_program(&rt, rt.alloc(), words, failing, MUCH_ROOM).status == status);
     }
 }
 
@@ -281,7 +288,7 @@ fn names_a_read_fault(rt: HostRuntime) {
         piece: 8,
         calls_left: 1,
     };
-    let seen = call_program(rt.alloc(), &["run"], failing, MUCH_ROOM);
+    let seen = call_program(&rt, rt.alloc(), &["run"], failing, MUCH_ROOM);
     assert!(rt; seen.status == 4 && seen.written.is_empty());
     assert!(rt; seen.said.as_slice() == b"bbmcheck: read fault\n".as_slice());
 }
@@ -291,7 +298,7 @@ fn names_a_text_that_is_too_long(rt: HostRuntime) {
     let endless = Endless {
         one_at_a_time: false,
     };
-    let seen = call_program(rt.alloc(), &["run"], endless, MUCH_ROOM);
+    let seen = call_program(&rt, rt.alloc(), &["run"], endless, MUCH_ROOM);
     assert!(rt; seen.status == 4 && seen.written.is_empty());
     assert!(rt; seen.said.as_slice() == b"bbmcheck: text too long\n".as_slice());
 }
@@ -300,14 +307,20 @@ fn names_a_text_that_is_too_long(rt: HostRuntime) {
 fn names_a_write_fault(rt: HostRuntime) {
     let many: [(&[&str], &[u8]); 2] = [(&["run"], b"cell"), (&["--help"], b"Chec")];
     for (words, beginning) in many {
-        let seen = call_program(rt.alloc(), words, TEXT.as_bytes(), 4);
+        let seen = call_program(&rt, rt.alloc(), words, TEXT.as_bytes(), 4);
         assert!(rt; seen.status == 4 && seen.written.as_slice() == beginning);
         assert!(rt; seen.said.as_slice() == b"bbmcheck: write fault\n".as_slice());
     }
 }
 
 /// The status where standard error takes so many bytes and then fails.
-fn unheard<'a>(alloc: Global, words: &'a [&'a str], calls_left: u32, room: usize) -> u8 {
+fn unheard<'a, T: Threads + Wait + Sync>(
+    rt: &T,
+    alloc: Global,
+    words: &'a [&'a str],
+    calls_left: u32,
+    room: usize,
+) -> u8 {
     let mut reader = Over::new(FailingReader {
         text: TEXT.as_bytes(),
         piece: 8,
@@ -319,15 +332,15 @@ fn unheard<'a>(alloc: Global, words: &'a [&'a str], calls_left: u32, room: usize
         room,
         errs: true,
     });
-    program(alloc, words, &mut reader, &mut writer, &mut errors)
+    program(rt, alloc, words, &mut reader, &mut writer, &mut errors)
 }
 
 #[test]
 fn ignores_that_errors_cannot_be_written(rt: HostRuntime) {
     for room in [0, 1, 10, 12] {
-        assert!(rt; unheard(rt.alloc(), &["prove"], 0, room) == 2);
-        assert!(rt; unheard(rt.alloc(), &["run"], 3, room) == 4);
-        assert!(rt; unheard(rt.alloc(), &["run"], 1_000, room) == 0);
+        assert!(rt; unheard(&rt, rt.alloc(), &["prove"], 0, room) == 2);
+        assert!(rt; unheard(&rt, rt.alloc(), &["run"], 3, room) == 4);
+        assert!(rt; unheard(&rt, rt.alloc(), &["run"], 1_000, room) == 0);
     }
 }
 

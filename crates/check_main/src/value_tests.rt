@@ -2,7 +2,9 @@
 use crate::tests::{FailingReader, MUCH_ROOM, call_program};
 use crate::{CheckFault, Outcome, Over, value_stream};
 use std::alloc::Global;
+use std::sync::Wait;
 use std::test::Fail;
+use std::thread::Threads;
 
 /// A collision gate with both inputs named, of which one is on.
 const TEXT: &str =
@@ -10,20 +12,26 @@ const TEXT: &str =
 
 const ANSWER: &str = "p 1\nq 0\na 0\nb 0\nc 1\nd 0\n";
 
-fn is_answered(alloc: Global, text: &str, status: u8, answer: &str) -> bool {
-    let seen = call_program(alloc, &["value"], text.as_bytes(), MUCH_ROOM);
+fn is_answered<T: Threads + Wait + Sync>(
+    rt: &T,
+    alloc: Global,
+    text: &str,
+    status: u8,
+    answer: &str,
+) -> bool {
+    let seen = call_program(rt, alloc, &["value"], text.as_bytes(), MUCH_ROOM);
     seen.status == status && seen.said.is_empty() && seen.written.as_slice() == answer.as_bytes()
 }
 
 #[test]
 fn evaluates_a_gate(rt: HostRuntime) -> Result<(), Fail> {
-    assert!(rt; is_answered(rt.alloc(), TEXT, 0, ANSWER));
+    assert!(rt; is_answered(&rt, rt.alloc(), TEXT, 0, ANSWER));
     let none = TEXT.replace(rt.alloc(), "on p\n", "")?;
-    assert!(rt; is_answered(rt.alloc(), &none, 0, "p 0\nq 0\na 0\nb 0\nc 0\nd 0\n"));
+    assert!(rt; is_answered(&rt, rt.alloc(), &none, 0, "p 0\nq 0\na 0\nb 0\nc 0\nd 0\n"));
     let other = TEXT.replace(rt.alloc(), "on p\n", "on q\n")?;
-    assert!(rt; is_answered(rt.alloc(), &other, 0, "p 0\nq 1\na 0\nb 1\nc 0\nd 0\n"));
+    assert!(rt; is_answered(&rt, rt.alloc(), &other, 0, "p 0\nq 1\na 0\nb 1\nc 0\nd 0\n"));
     let both = TEXT.replace(rt.alloc(), "on p\n", "on q\non p\n")?;
-    assert!(rt; is_answered(rt.alloc(), &both, 0, "p 1\nq 1\na 1\nb 0\nc 0\nd 1\n"));
+    assert!(rt; is_answered(&rt, rt.alloc(), &both, 0, "p 1\nq 1\na 1\nb 0\nc 0\nd 1\n"));
     Ok(())
 }
 
@@ -48,7 +56,7 @@ fn refuses_a_changed_line(rt: HostRuntime) -> Result<(), Fail> {
     ];
     for (line, changed, said) in many {
         let text = TEXT.replace(rt.alloc(), line, changed)?;
-        assert!(rt; is_answered(rt.alloc(), &text, 3, said), "{changed}");
+        assert!(rt; is_answered(&rt, rt.alloc(), &text, 3, said), "{changed}");
     }
     Ok(())
 }
@@ -61,7 +69,7 @@ fn reads_a_text_however_it_is_cut(rt: HostRuntime) {
             piece,
             calls_left: 1_000,
         };
-        let seen = call_program(rt.alloc(), &["value"], pieces, MUCH_ROOM);
+        let seen = call_program(&rt, rt.alloc(), &["value"], pieces, MUCH_ROOM);
         assert!(rt; seen.status == 0 && seen.written.as_slice() == ANSWER.as_bytes());
     }
 }

@@ -1,19 +1,32 @@
 -- The command line, as clap's definitions see it.
-use Rattle.std.specs.Prelude.{◌≡◌, ◌⊎◌, List, [], true, codes, if◌then◌else◌}
+use Rattle.std.specs.Prelude.{◌≡◌, ◌⊎◌, List, [], ◌∷◌, Some, true, codes, if◌then◌else◌}
 use Rattle.std.specs.Option.{option_map_or}
 use Rattle.std.specs.Str.{bytes_eq}
-use Rattle.clap.specs.Words.{App, IsAmong, Text, fault_of, new_app, subcommand_of, with_subcommand}
+use Rattle.clap.specs.Words.{App, IsAmong, Rule, Text, fault_of, new_app, new_rule, subcommand_of, with_rule, with_subcommand}
 use Rattle.clap.specs.Simple.{on_top}
+use Rattle.clap.specs.declared.builder.value_parser.ValueParser.TheVariants as vp
 use Rattle.clap.specs.declared.error.kind.ErrorKind.TheVariants as kind
 use Rattle.command_line.specs.declared.Request.{Request}
 use Rattle.command_line.specs.declared.Request.TheVariants.{Check, Run, Value, Modules}
 
+-- `--workers N`, a whole number of 1 to 64, and 1 where it is left out
+abbrev pub workers_rule : Rule
+workers_rule = record (new_rule (codes "workers")) {
+  long = Some (codes "workers");
+  value_names = 1;
+  parser = Some (vp.Unsigned 1 64);
+  defaults = codes "1" ∷ [];
+}
+
+abbrev pub check_app : App
+check_app = with_rule (new_app (codes "check")) workers_rule
+
 abbrev pub top_app : App
 top_app = on_top (λ s. record s { no_binary_name = true; subcommand_required = true }) (new_app (codes "bbmcheck"))
 
--- the commands, which have no options
+-- the commands, of which `check` has an option
 abbrev pub bbmcheck : App
-bbmcheck = with_subcommand (with_subcommand (with_subcommand (with_subcommand top_app (new_app (codes "check")).top) (new_app (codes "run")).top) (new_app (codes "value")).top) (new_app (codes "modules")).top
+bbmcheck = with_subcommand (with_subcommand (with_subcommand (with_subcommand top_app check_app.top) (new_app (codes "run")).top) (new_app (codes "value")).top) (new_app (codes "modules")).top
 
 abbrev pub request_named : Text → Request
 request_named name =

@@ -1,13 +1,15 @@
 //! What the words of a command line ask for.
 #![tactic(auto)]
 
-ghost use Rattle.std.specs.Prelude.{◌≡◌, IfOk, map, false};
-ghost use Rattle.clap.specs.Words.{FailsBy, app_of, fault_of, new_app};
+ghost use Rattle.std.specs.Prelude.{◌≡◌, ◌≤◌, IfOk, map, false};
+ghost use Rattle.clap.specs.Words.{FailsBy, app_of, fault_of, new_app, rule_of};
 ghost use Rattle.clap.specs.declared.builder.command.Command.TheViews.{out-Command as fields_of};
-ghost use Rattle.command_line.specs.CommandLine.{asked_by, bbmcheck, top_app};
+ghost use Rattle.command_line.specs.CommandLine.{asked_by, bbmcheck, check_app, top_app, workers_rule};
 
-use clap::{Command, Error};
+use clap::{Arg, Command, Error, value_parser};
 use std::alloc::{AllocError, Global};
+
+const MOST_WORKERS: usize = 64;
 
 /// A command.
 #[derive(Clone, Copy, Debug, PartialEq, Eq)]
@@ -22,10 +24,19 @@ pub enum Request {
     Modules,
 }
 
-/// Reads the words after the program's name, of which the first is the command. The error is `clap`'s: it
-/// says what is wrong with the words, or has the text of the help that they ask for.
-pub fn read_words<'a>(alloc: Global, words: &'a [&'a str]) -> Result<Request, Error>
-    ensures request { IfOk result (λ request. request ≡ asked_by (map (λ s. s.now) words.entry.now)) }
+/// A command, and how many workers share the modules of a certificate, 1 to 64.
+#[derive(Clone, Copy, Debug, PartialEq, Eq)]
+pub struct Asked {
+    pub request: Request,
+    pub workers: usize,
+}
+
+/// Reads the words after the program's name, of which the first is the command. `check` may have `--workers` with a whole number
+/// of 1 to 64; without it there is one worker. The error is `clap`'s: it says what is wrong with the words, or has the text of the
+/// help that they ask for.
+pub fn read_words<'a>(alloc: Global, words: &'a [&'a str]) -> Result<Asked, Error>
+    ensures request { IfOk result (λ asked. asked.request ≡ asked_by (map (λ s. s.now) words.entry.now)) }
+    ensures workers { IfOk result (λ asked. (1 ≤ asked.workers) × (asked.workers ≤ 64)) }
     ensures fails { FailsBy (fault_of bbmcheck (map (λ s. s.now) words.entry.now)) result }
 {
     let matches = command(alloc)?.try_get_matches_from(words)?;
@@ -35,18 +46,19 @@ pub fn read_words<'a>(alloc: Global, words: &'a [&'a str]) -> Result<Request, Er
         Some("modules") => Request::Modules,
         _ => Request::Run,
     };
-    Ok(request)
+    let options = matches.subcommand_matches("check");
+    let workers = options.and_then(|found| found.get_one::<usize>("workers"));
+    Ok(Asked {
+        request,
+        workers: workers.unwrap_or(1).clamp(1, MOST_WORKERS),
+    })
 }
 
 fn command<'a>(alloc: Global) -> Result<Command<'a>, AllocError>
     ensures { IfOk result (λ command. app_of command ≡ bbmcheck) }
 {
     top(alloc)?
-        .subcommand(plain(
-            alloc,
-            "check",
-            "Checks a layout against its circuit by a certificate",
-        ))?
+        .subcommand(check(alloc)?)?
         .subcommand(plain(alloc, "run", "Runs a layout under an assignment"))?
         .subcommand(plain(alloc, "value", "Evaluates a circuit under an assignment"))?
         .subcommand(plain(alloc, "modules", "Lists the modules of a certificate"))
@@ -63,6 +75,32 @@ fn top<'a>(alloc: Global) -> Result<Command<'a>, AllocError>
             .no_binary_name(true)
             .subcommand_required(true),
     )
+}
+
+// The command that has an option.
+fn check<'a>(alloc: Global) -> Result<Command<'a>, AllocError>
+    ensures app { IfOk result (λ command. app_of command ≡ check_app) }
+    ensures local { IfOk result (λ command. (fields_of command).has_globals ≡ false) }
+{
+    plain(
+        alloc,
+        "check",
+        "Checks a layout against its circuit by a certificate",
+    )
+    .arg(workers(alloc))
+}
+
+// Its option.
+fn workers<'a>(alloc: Global) -> Arg<'a>
+    ensures rule { rule_of result ≡ workers_rule }
+    ensures own { result.global ≡ false }
+{
+    Arg::new(alloc, "workers")
+        .long("workers")
+        .value_name("N")
+        .help("How many workers share the modules, 1 to 64")
+        .value_parser(value_parser!(u64).range(1..=64))
+        .default_value("1")
 }
 
 // A command without options.
@@ -85,14 +123,46 @@ mod tests {
 
     #[test]
     fn reads_the_command(rt: HostRuntime) -> Result<(), Fail> {
-        assert!(rt; read_words(rt.alloc(), &["run"])? == Request::Run);
+        assert!(rt; read_words(rt.alloc(), &["run"])?.request == Request::Run);
         assert!(rt; kind_of(rt.alloc(), &[]) == Some(ErrorKind::MissingSubcommand));
-        assert!(rt; read_words(rt.alloc(), &["value"])? == Request::Value);
-        assert!(rt; read_words(rt.alloc(), &["modules"])? == Request::Modules);
-        assert!(rt; read_words(rt.alloc(), &["check"])? == Request::Check);
+        assert!(rt; read_words(rt.alloc(), &["value"])?.request == Request::Value);
+        assert!(rt; read_words(rt.alloc(), &["modules"])?.request == Request::Modules);
+        assert!(rt; read_words(rt.alloc(), &["check"])?.request == Request::Check);
         assert!(rt; kind_of(rt.alloc(), &["migrate"]) == Some(ErrorKind::InvalidSubcommand));
         assert!(rt; kind_of(rt.alloc(), &["run", "x"]) == Some(ErrorKind::UnknownArgument));
         assert!(rt; kind_of(rt.alloc(), &["--help"]) == Some(ErrorKind::DisplayHelp));
         Ok(())
+    }
+
+    /// How many workers the words ask for.
+    fn workers_in(alloc: Global, words: &[&str]) -> Option<usize> {
+        read_words(alloc, words).ok().map(|asked| asked.workers)
+    }
+
+    #[test]
+    fn reads_the_workers(rt: HostRuntime) {
+        let alloc = rt.alloc();
+        assert_eq!(rt; workers_in(alloc, &["check"]), Some(1));
+        assert_eq!(rt; workers_in(alloc, &["check", "--workers", "1"]), Some(1));
+        assert_eq!(rt; workers_in(alloc, &["check", "--workers", "7"]), Some(7));
+        assert_eq!(rt; workers_in(alloc, &["check", "--workers=64"]), Some(64));
+        for number in ["0", "65", "-1", "1.5", "two", "", "18446744073709551617"] {
+            let words = ["check", "--workers", number];
+            assert!(rt;
+                kind_of(alloc, &words) == Some(ErrorKind::ValueValidation),
+                "{number}"
+            );
+        }
+    }
+
+    #[test]
+    fn only_check_has_workers(rt: HostRuntime) {
+        for command in ["run", "value", "modules"] {
+            let words = [command, "--workers", "2"];
+            assert!(rt;
+                kind_of(rt.alloc(), &words) == Some(ErrorKind::UnknownArgument),
+                "{command}"
+            );
+        }
     }
 }

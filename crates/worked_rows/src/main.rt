@@ -10,12 +10,16 @@ mod tests;
 mod trial;
 
 use cases::read_cases;
+use std::alloc::Global;
 use std::fs;
 use std::process::ExitCode;
+use std::rt::Runtime;
+use std::sync::Wait;
+use std::thread::Threads;
 use trial::difference_of;
 
 fn main(rt: HostRuntime) -> ExitCode {
-    match try_all(&rt) {
+    match try_all(&rt, rt.alloc()) {
         Ok(0) => ExitCode::SUCCESS,
         Ok(_) => ExitCode::FAILURE,
         Err(error) => {
@@ -26,12 +30,12 @@ fn main(rt: HostRuntime) -> ExitCode {
 }
 
 // How many cases do not hold.
-fn try_all(rt: &HostRuntime) -> anyhow::Result<usize> {
+fn try_all<R: Runtime + Threads + Wait + Sync>(rt: &R, alloc: Global) -> anyhow::Result<usize> {
     let file = fs::read(rt, "cases.txt")?;
-    let cases = read_cases(rt.alloc(), &file)?;
+    let cases = read_cases(alloc, &file)?;
     let mut failed = 0;
     for case in &cases {
-        if let Some(difference) = difference_of(rt.alloc(), case) {
+        if let Some(difference) = difference_of(rt, alloc, case) {
             println!(rt; "{}: {difference}", case.name)?;
             failed += 1;
         }

@@ -4,6 +4,8 @@ use crate::cases::Case;
 use check_main::{Over, program};
 use std::alloc::Global;
 use std::fmt;
+use std::sync::Wait;
+use std::thread::Threads;
 
 /// What a case does that it must not do.
 #[derive(Drop)]
@@ -30,11 +32,22 @@ impl fmt::Display for Difference {
 }
 
 /// The first thing in which a case does not hold.
-pub fn difference_of(alloc: Global, case: &Case<'_>) -> Option<Difference> {
+pub fn difference_of<R: Threads + Wait + Sync>(
+    rt: &R,
+    alloc: Global,
+    case: &Case<'_>,
+) -> Option<Difference> {
     let mut reader = Over::new(case.input.as_slice());
     let mut writer = Over::new(Vec::new(alloc));
     let mut errors = Over::new(Vec::new(alloc));
-    let got = program(alloc, &case.words, &mut reader, &mut writer, &mut errors);
+    let got = program(
+        rt,
+        alloc,
+        &case.words,
+        &mut reader,
+        &mut writer,
+        &mut errors,
+    );
     if got != case.status {
         return Some(Difference::Status {
             wanted: case.status,
