@@ -43,15 +43,6 @@ fn checks_four_modules(rt: HostRuntime) -> Result<(), Fail> {
 }
 
 #[test]
-fn refuses_a_bundle_that_goes_on(rt: HostRuntime) -> Result<(), Fail> {
-    let text = format!(in rt.alloc(); "{FRONT}{COMES_IN}{BACK}end\n")?;
-    let seen = call_program(&rt, rt.alloc(), &["check"], text.as_bytes(), MUCH_ROOM);
-    assert!(rt; seen.status == 3 && seen.said.is_empty());
-    assert!(rt; seen.written.as_slice() == b"refused 44 12\n".as_slice());
-    Ok(())
-}
-
-#[test]
 fn says_nothing_where_a_read_failed(rt: HostRuntime) -> Result<(), Fail> {
     let text = bundle(rt.alloc(), COMES_IN)?;
     // Pieces of 50 bytes, and the end.

@@ -1,8 +1,9 @@
 -- The command line, as clap's definitions see it.
-use Rattle.std.specs.Prelude.{◌≡◌, ◌⊎◌, List, [], ◌∷◌, Some, true, codes, if◌then◌else◌}
+use Rattle.std.specs.Prelude.{◌≡◌, ◌⊎◌, ℕ, List, [], ◌∷◌, Option, Some, None, true, codes, if◌then◌else◌, option_and_then}
 use Rattle.std.specs.Option.{option_map_or}
 use Rattle.std.specs.Str.{bytes_eq}
-use Rattle.clap.specs.Words.{App, IsAmong, Rule, Text, fault_of, new_app, new_rule, subcommand_of, with_rule, with_subcommand}
+use Rattle.std.specs.Str.Parse.{digits_value, without_leading_plus}
+use Rattle.clap.specs.Words.{App, IsAmong, Row, Rule, Text, fault_of, new_app, new_rule, one_of, subcommand_of, with_rule, with_subcommand}
 use Rattle.clap.specs.Simple.{on_top}
 use Rattle.clap.specs.declared.builder.value_parser.ValueParser.TheVariants as vp
 use Rattle.clap.specs.declared.error.kind.ErrorKind.TheVariants as kind
@@ -35,6 +36,21 @@ request_named name =
 -- the command that the words name
 abbrev pub asked_by : List Text → Request
 asked_by words = option_map_or (λ p. request_named p.0) (subcommand_of bbmcheck words) Run
+
+-- the text that a command reads for `--workers`, which `check` alone has: the one that the words give it, or else the default
+abbrev pub workers_of : Text × List Row → Option Text
+workers_of command = if bytes_eq command.0 (codes "check") then one_of (codes "workers") command.1 else None
+
+abbrev pub workers_text : List Text → Option Text
+workers_text words = option_and_then workers_of (subcommand_of bbmcheck words)
+
+-- the number that decimal digits write, which a plus may lead
+abbrev pub number_in : Text → ℕ
+number_in text = digits_value 10 (without_leading_plus text)
+
+-- the number of workers that the words ask for: the one in that text, and 1 of a command that has none
+abbrev pub workers_asked : List Text → ℕ
+workers_asked words = option_map_or number_in (workers_text words) 1
 
 -- nothing is wrong with the words, and they ask for no help
 abbrev pub IsAccepted : List Text → Type 0

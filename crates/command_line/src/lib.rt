@@ -4,12 +4,10 @@
 ghost use Rattle.std.specs.Prelude.{◌≡◌, ◌≤◌, IfOk, map, false};
 ghost use Rattle.clap.specs.Words.{FailsBy, app_of, fault_of, new_app, rule_of};
 ghost use Rattle.clap.specs.declared.builder.command.Command.TheViews.{out-Command as fields_of};
-ghost use Rattle.command_line.specs.CommandLine.{asked_by, bbmcheck, check_app, top_app, workers_rule};
+ghost use Rattle.command_line.specs.CommandLine.{asked_by, bbmcheck, check_app, top_app, workers_asked, workers_rule};
 
 use clap::{Arg, Command, Error, value_parser};
 use std::alloc::{AllocError, Global};
-
-const MOST_WORKERS: usize = 64;
 
 /// A command.
 #[derive(Clone, Copy, Debug, PartialEq, Eq)]
@@ -37,6 +35,7 @@ pub struct Asked {
 pub fn read_words<'a>(alloc: Global, words: &'a [&'a str]) -> Result<Asked, Error>
     ensures request { IfOk result (λ asked. asked.request ≡ asked_by (map (λ s. s.now) words.entry.now)) }
     ensures workers { IfOk result (λ asked. (1 ≤ asked.workers) × (asked.workers ≤ 64)) }
+    ensures number { IfOk result (λ asked. asked.workers ≡ workers_asked (map (λ s. s.now) words.entry.now)) }
     ensures fails { FailsBy (fault_of bbmcheck (map (λ s. s.now) words.entry.now)) result }
 {
     let matches = command(alloc)?.try_get_matches_from(words)?;
@@ -46,12 +45,11 @@ pub fn read_words<'a>(alloc: Global, words: &'a [&'a str]) -> Result<Asked, Erro
         Some("modules") => Request::Modules,
         _ => Request::Run,
     };
-    let options = matches.subcommand_matches("check");
-    let workers = options.and_then(|found| found.get_one::<usize>("workers"));
-    Ok(Asked {
-        request,
-        workers: workers.unwrap_or(1).clamp(1, MOST_WORKERS),
-    })
+    let workers = match matches.subcommand_matches("check") {
+        Some(options) => options.get_one::<usize>("workers").unwrap_or(1),
+        None => 1,
+    };
+    Ok(Asked { request, workers })
 }
 
 fn command<'a>(alloc: Global) -> Result<Command<'a>, AllocError>
@@ -99,7 +97,7 @@ fn workers<'a>(alloc: Global) -> Arg<'a>
         .long("workers")
         .value_name("N")
         .help("How many workers share the modules, 1 to 64")
-        .value_parser(value_parser!(u64).range(1..=64))
+        .value_parser(value_parser!(usize).range(1..=64))
         .default_value("1")
 }
 
@@ -146,13 +144,28 @@ mod tests {
         assert_eq!(rt; workers_in(alloc, &["check", "--workers", "1"]), Some(1));
         assert_eq!(rt; workers_in(alloc, &["check", "--workers", "7"]), Some(7));
         assert_eq!(rt; workers_in(alloc, &["check", "--workers=64"]), Some(64));
-        for number in ["0", "65", "-1", "1.5", "two", "", "18446744073709551617"] {
+        assert_eq!(rt; workers_in(alloc, &["check", "--workers", "+007"]), Some(7));
+        assert_eq!(rt; workers_in(alloc, &["run"]), Some(1));
+    }
+
+    #[test]
+    fn refuses_other_workers(rt: HostRuntime) {
+        let alloc = rt.alloc();
+        for number in ["0", "65", "1.5", "two", "", "18446744073709551617"] {
             let words = ["check", "--workers", number];
             assert!(rt;
                 kind_of(alloc, &words) == Some(ErrorKind::ValueValidation),
                 "{number}"
             );
         }
+        // After a space a word that begins with a hyphen is no value.
+        let negative = ["check", "--workers=-1"];
+        assert!(rt; kind_of(alloc, &negative) == Some(ErrorKind::ValueValidation));
+        let flag = ["check", "--workers", "-1"];
+        assert!(rt; kind_of(alloc, &flag) == Some(ErrorKind::UnknownArgument));
+        assert!(rt; kind_of(alloc, &["check", "--workers"]) == Some(ErrorKind::InvalidValue));
+        let twice = ["check", "--workers", "2", "--workers", "2"];
+        assert!(rt; kind_of(alloc, &twice) == Some(ErrorKind::ArgumentConflict));
     }
 
     #[test]
