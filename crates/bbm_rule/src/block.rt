@@ -50,7 +50,7 @@ mod tests {
         ];
         for (bits, turned) in becomes {
             assert!(rt; bits < 16);
-            assert_eq!(rt; turn(bits), turned, "at {bits}");
+            assert!(rt; turn(bits) == turned, "at {bits}");
         }
     }
 }

@@ -129,55 +129,48 @@ pub fn turn_lanes(
 #[cfg(test)]
 mod tests {
     use super::*;
+    use std::alloc::{AllocError, Global};
     use std::test::Fail;
 
     #[test]
     fn turns_words(rt: HostRuntime) {
-        assert_eq!(rt;
-            turn_words(0xAAAA, 0xCCCC, 0xF0F0, 0xFF00),
-            (0xA9E8, 0xCE98, 0xF2A4, 0xFC42)
-        );
+        let turned = turn_words(0xAAAA, 0xCCCC, 0xF0F0, 0xFF00);
+        assert!(rt; turned == (0xA9E8, 0xCE98, 0xF2A4, 0xFC42));
     }
 
-    // each length from 0 to 17, beside the words one by one
+    // the word, then the word turned left by one bit, and so on
+    fn lanes(alloc: Global, count: usize, word: u64) -> Result<Vec<u64>, AllocError> {
+        let mut lanes = Vec::new(alloc);
+        let mut lane = word;
+        for _ in 0..count {
+            lanes.push(lane)?;
+            lane = lane.rotate_left(1);
+        }
+        Ok(lanes)
+    }
+
+    fn corners(alloc: Global, count: usize, words: [u64; 4]) -> Result<[Vec<u64>; 4], AllocError> {
+        let [a, b, c, d] = words;
+        Ok([
+            lanes(alloc, count, a)?,
+            lanes(alloc, count, b)?,
+            lanes(alloc, count, c)?,
+            lanes(alloc, count, d)?,
+        ])
+    }
+
+    // as many lanes as fill no vector, and up to four vectors and one more
     #[test]
     fn turns_lanes(rt: HostRuntime) -> Result<(), Fail> {
-        for n in 0..18usize {
-            let mut upper_left = Vec::new(rt.alloc());
-            let mut upper_right = Vec::new(rt.alloc());
-            let mut lower_left = Vec::new(rt.alloc());
-            let mut lower_right = Vec::new(rt.alloc());
-            let mut word = 0x9E37_79B9_7F4A_7C15u64;
-            for _ in 0..n {
-                upper_left.push(word)?;
-                upper_right.push(word.rotate_left(7) ^ 0x1234_5678_9ABC_DEF0)?;
-                lower_left.push(word.rotate_left(19))?;
-                lower_right.push(!word.rotate_left(31))?;
-                word = word.wrapping_mul(0xD134_2543_DE82_EF95).wrapping_add(1);
-            }
-            let a = upper_left.clone()?;
-            let b = upper_right.clone()?;
-            let c = lower_left.clone()?;
-            let d = lower_right.clone()?;
-            assert_eq!(rt; upper_right.len(), upper_left.len());
-            assert_eq!(rt; lower_left.len(), upper_left.len());
-            assert_eq!(rt; lower_right.len(), upper_left.len());
-            assert_eq!(rt; a.len(), upper_left.len());
-            assert_eq!(rt; b.len(), upper_left.len());
-            assert_eq!(rt; c.len(), upper_left.len());
-            assert_eq!(rt; d.len(), upper_left.len());
-            turn_lanes(
-                &mut upper_left,
-                &mut upper_right,
-                &mut lower_left,
-                &mut lower_right,
-            );
-            for k in 0..upper_left.len() {
-                assert_eq!(rt;
-                    (upper_left[k], upper_right[k], lower_left[k], lower_right[k]),
-                    turn_words(a[k], b[k], c[k], d[k])
-                );
-            }
+        for count in 0..18usize {
+            let words = [0xAAAA, 0xCCCC, 0xF0F0, 0xFF00];
+            let [mut a, mut b, mut c, mut d] = corners(rt.alloc(), count, words)?;
+            assert!(rt; b.len() == a.len());
+            assert!(rt; c.len() == a.len());
+            assert!(rt; d.len() == a.len());
+            turn_lanes(&mut a, &mut b, &mut c, &mut d);
+            let words = [0xA9E8, 0xCE98, 0xF2A4, 0xFC42];
+            assert!(rt; [a, b, c, d] == corners(rt.alloc(), count, words)?);
         }
         Ok(())
     }

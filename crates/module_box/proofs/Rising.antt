@@ -1,9 +1,8 @@
 -- What is known of a rising list by comparing its keys with a key
-use Rattle.std.proofs.Common.{◌≡◌, ℕ, zero, suc, ◌+◌, ◌-◌, ◌<◌, ◌≤◌, List, [], ◌∷◌, ◌++◌, length, get_or, true, Option, Some, None, Ordering, Less, Equal, Greater, refl, sym, ap, subst, ◌∙◌, inl, inr, ◌⊎◌, arith, rules, eqb}
+use Rattle.std.proofs.Common.{◌≡◌, ℕ, zero, suc, ◌+◌, ◌-◌, ◌<◌, ◌≤◌, List, [], ◌∷◌, ◌++◌, length, true, Option, Some, None, Ordering, Less, Equal, Greater, refl, sym, ap, subst, ◌∙◌, inl, inr, ◌⊎◌, arith, rules, eqb}
 use Rattle.std.specs.Prelude.{ℤ, ◌≢◌, slice_get, if◌then◌else◌}
 use Rattle.std.specs.Ordering.{nat_cmp, int_cmp, ordering_reverse, int_eq}
 use Rattle.std.specs.Cmp.{IsTotalOrder}
-use Rattle.std.proofs.lemmas.Option.{slice_get-get_or, slice_get_within}
 use Rattle.std.proofs.lemmas.Cmp.{then_total, on_total, nat_cmp_total, int_cmp_total, tied_itself}
 use Rattle.std.proofs.lemmas.Map.Lookups.{CmpEqualImpliesEq, exact_pairs, exact_unsigned, exact_signed}
 use Rattle.std.proofs.lemmas.Bool.{and_parts, cases_Bool, cond-true, cond-false, eqb-true}
@@ -192,35 +191,3 @@ pushed (y ∷ xs) x (suc i) a e = elim (pushed xs x i a e) [
   | inl h ↦ inl h
   | inr h ↦ inr (ap suc h.0, h.1)
 ]
-
-last_or_before : (i n : ℕ) → i < n → (i ≡ n - 1) ⊎ (i < n - 1)
-last_or_before i n h = grind arith
-
-pub rising_none : {A K : Type 0} (cmp : K → K → Ordering) (key : A → K) → IsRising cmp key []
-rising_none cmp key = record { rises = λ i j a b lt e f. cc }
-
--- one more element, whose key comes after that of the last
-pub rising_push : {A K : Type 0} (cmp : K → K → Ordering) (key : A → K) (xs : List A) (x : A) → IsTotalOrder cmp → IsRising cmp key xs →
-    ((a : A) → slice_get xs (length xs - 1) ≡ Some a → cmp (key a) (key x) ≡ Less) → IsRising cmp key (xs ++ x ∷ [])
-rising_push {A = A} cmp key xs x total rising last = record {
-  rises = λ i j a b lt e f. elim (pushed xs x j b f) [
-    | inl g ↦ elim (pushed xs x i a e) [
-      | inl h ↦ rising.rises i j a b lt h g
-      | inr h ↦ absurd (let w = slice_get_within xs j b g in omega (arith, w, h.0))
-    ]
-    | inr g ↦ elim (pushed xs x i a e) [
-      | inl h ↦ ap (λ z. cmp (key a) (key z)) (sym g.1) ∙ before i a h
-      | inr h ↦ absurd (omega (arith, g.0, h.0))
-    ]
-  ];
-}
-  where
-    before : (i : ℕ) (a : A) → slice_get xs i ≡ Some a → cmp (key a) (key x) ≡ Less
-    before i a h = elim (last_or_before i (length xs) (slice_get_within xs i a h)) [
-      | inl e ↦ last a (ap (slice_get xs) (sym e) ∙ h)
-      | inr l ↦
-          let m = length xs - 1 in
-          let z = get_or xs m a in
-          let at : slice_get xs m ≡ Some z = slice_get-get_or xs m a (omega arith) in
-          total.trans (key a) (key z) (key x) (rising.rises i m a z l h at) (last z at)
-    ]

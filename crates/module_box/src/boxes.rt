@@ -83,32 +83,29 @@ fn is_among(from: u32, n: u32, x: i64) -> bool
 mod tests {
     use super::*;
 
-    // whether the picture, of at most 100 rows and columns from the cell (0, 0) on, shows the box: `#` stands for a cell of
-    // its ring, `.` for another cell of it, `o` for a cell of its halo
-    fn shows(area: Box2, picture: &[&[u8]]) -> bool {
-        for row in 0..picture.len() {
-            for column in 0..picture[row].len() {
-                if row > 99 || column > 99 {
-                    return false;
-                }
-                let cell = Cell {
-                    x: column as i32,
-                    y: row as i32,
-                };
-                let sign = picture[row][column];
-                if area.in_ring(cell) != (sign == b'#') {
-                    return false;
-                }
-                if area.in_halo(cell) != (sign == b'o') {
-                    return false;
-                }
-                if area.holds(cell) != (sign == b'#' || sign == b'.') {
-                    return false;
-                }
-            }
+    // `#` for a cell of the ring, `.` for another cell of the box, `o` for a cell of the halo, and a space for any other
+    fn sign(area: Box2, cell: Cell) -> u8 {
+        if area.in_ring(cell) {
+            b'#'
+        } else if area.in_halo(cell) {
+            b'o'
+        } else if area.holds(cell) {
+            b'.'
+        } else {
+            b' '
         }
-        true
     }
+
+    const PICTURE: [&[u8; 8]; 8] = [
+        b"        ",
+        b" oooooo ",
+        b" o####o ",
+        b" o#..#o ",
+        b" o#..#o ",
+        b" o####o ",
+        b" oooooo ",
+        b"        ",
+    ];
 
     #[test]
     fn ring_and_halo_of_a_box(rt: HostRuntime) {
@@ -118,17 +115,15 @@ mod tests {
             w: 4,
             h: 4,
         };
-        let picture: [&[u8]; 8] = [
-            b"        ",
-            b" oooooo ",
-            b" o####o ",
-            b" o#..#o ",
-            b" o#..#o ",
-            b" o####o ",
-            b" oooooo ",
-            b"        ",
-        ];
-        assert!(rt; shows(area, &picture));
+        for y in 0..8usize {
+            for x in 0..8usize {
+                let cell = Cell {
+                    x: x as i32,
+                    y: y as i32,
+                };
+                assert!(rt; sign(area, cell) == PICTURE[y][x], "{x} {y}");
+            }
+        }
     }
 
     // all cells of the least box are in its ring, and its halo goes round the corner of the plane's quarter
@@ -140,12 +135,17 @@ mod tests {
             w: 2,
             h: 2,
         };
-        let picture: [&[u8]; 4] = [b"##o ", b"##o ", b"ooo ", b"    "];
-        assert!(rt; shows(area, &picture));
-        assert!(rt; area.in_halo(Cell { x: -1, y: -1 }));
-        assert!(rt; area.in_halo(Cell { x: 2, y: -1 }));
-        assert!(rt; !area.in_halo(Cell { x: -2, y: 0 }));
-        assert!(rt; !area.in_halo(Cell { x: 3, y: -1 }));
-        assert!(rt; !area.holds(Cell { x: -1, y: 0 }));
+        for (x, y, wanted) in [
+            (0, 0, b'#'),
+            (1, 1, b'#'),
+            (2, 1, b'o'),
+            (-1, -1, b'o'),
+            (2, -1, b'o'),
+            (-2, 0, b' '),
+            (3, -1, b' '),
+            (1, 3, b' '),
+        ] {
+            assert!(rt; sign(area, Cell { x, y }) == wanted, "{x} {y}");
+        }
     }
 }

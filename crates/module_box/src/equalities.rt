@@ -67,47 +67,34 @@ impl Eq for Locals {
 
 #[cfg(test)]
 mod tests {
-    use super::*;
-    use crate::examples::{circuit_of, whole};
-    use crate::schedules::{Event, Held, Moment, Signal};
+    use crate::examples::{module_of, schedule};
     use bbm_rule::Cell;
-    use std::alloc::{AllocError, Global};
+    use std::alloc::Global;
+    use std::process::Abort;
     use std::test::Fail;
+
+    // whether the modules of two texts are equal
+    fn are_equal(rt: &impl Abort, alloc: Global, text: &[u8], other: &[u8]) -> Result<bool, Fail> {
+        let one = module_of(rt, alloc, text)?;
+        let two = module_of(rt, alloc, other)?;
+        Ok(one == two)
+    }
 
     #[test]
     fn modules_with_another_delay(rt: HostRuntime) -> Result<(), Fail> {
         let text = b"circuit\ninput a\ndelay 3 a -> b\noutput b\nend\n";
         let other = b"circuit\ninput a\ndelay 4 a -> b\noutput b\nend\n";
-        let circuit = circuit_of(&rt, rt.alloc(), text)?;
-        let other = circuit_of(&rt, rt.alloc(), other)?;
-        let locals = whole(&rt, rt.alloc(), &circuit)?;
-        assert!(rt; locals == whole(&rt, rt.alloc(), &circuit)?);
-        assert!(rt; locals != whole(&rt, rt.alloc(), &other)?);
+        assert!(rt; are_equal(&rt, rt.alloc(), text, text)?);
+        assert!(rt; !are_equal(&rt, rt.alloc(), text, other)?);
         Ok(())
     }
 
-    // a cell that holds a wire, and an event
-    fn schedule(alloc: Global, wire: u16, time: u32) -> Result<Schedule, AllocError> {
-        let cell = Cell { x: 4, y: 1 };
-        let mut held = Vec::new(alloc);
-        held.push(Held {
-            cell,
-            signal: Signal::Wire(wire),
-        })?;
-        let mut events = Vec::new(alloc);
-        events.push(Event {
-            at: Moment { time, cell },
-            signal: Signal::One,
-        })?;
-        Ok(Schedule::new(held, events))
-    }
-
     #[test]
-    fn schedules_with_another_signal(rt: HostRuntime) -> Result<(), Fail> {
-        let one = schedule(rt.alloc(), 2, 5)?;
-        assert!(rt; one == schedule(rt.alloc(), 2, 5)?);
-        assert!(rt; one != schedule(rt.alloc(), 3, 5)?);
-        assert!(rt; one != schedule(rt.alloc(), 2, 4)?);
+    fn schedules_with_another_event(rt: HostRuntime) -> Result<(), Fail> {
+        let cell = Cell { x: 4, y: 1 };
+        let one = schedule(rt.alloc(), cell, 5, cell)?;
+        assert!(rt; one == schedule(rt.alloc(), cell, 5, cell)?);
+        assert!(rt; one != schedule(rt.alloc(), cell, 4, cell)?);
         Ok(())
     }
 }

@@ -1,6 +1,8 @@
-//! Modules for tests.
+//! Modules and schedules for tests.
 
 use crate::locals::Locals;
+use crate::schedules::{Event, Held, Moment, Schedule, Signal};
+use bbm_rule::Cell;
 use circuit::{Circuit, GateNo, WireNo, read_circuit};
 use section_text::{Feed, ReadFault};
 use std::alloc::{AllocError, Global};
@@ -8,7 +10,7 @@ use std::process::Abort;
 use std::test::Fail;
 
 // The circuit of a text.
-pub(crate) fn circuit_of(rt: &impl Abort, alloc: Global, text: &[u8]) -> Result<Circuit, Fail> {
+fn circuit_of(rt: &impl Abort, alloc: Global, text: &[u8]) -> Result<Circuit, Fail> {
     let mut feed = Feed::new(alloc);
     feed.push(text)?;
     feed.close();
@@ -20,7 +22,7 @@ pub(crate) fn circuit_of(rt: &impl Abort, alloc: Global, text: &[u8]) -> Result<
 }
 
 // The module that cuts all inputs of the circuit and uses all its gates.
-pub(crate) fn whole(rt: &impl Abort, alloc: Global, circuit: &Circuit) -> Result<Locals, Fail> {
+fn whole(rt: &impl Abort, alloc: Global, circuit: &Circuit) -> Result<Locals, Fail> {
     let inputs = circuit.inputs();
     let gate_count = circuit.gates();
     assert!(rt; inputs <= 10);
@@ -35,4 +37,30 @@ pub(crate) fn whole(rt: &impl Abort, alloc: Global, circuit: &Circuit) -> Result
     }
     let locals = Locals::new(alloc, circuit, &cuts, &gates)?;
     Ok(locals)
+}
+
+// The module that cuts all inputs of the circuit of a text and uses all its gates.
+pub(crate) fn module_of(rt: &impl Abort, alloc: Global, text: &[u8]) -> Result<Locals, Fail> {
+    let circuit = circuit_of(rt, alloc, text)?;
+    whole(rt, alloc, &circuit)
+}
+
+// A cell that holds wire 7, and a cell that is live at a time.
+pub(crate) fn schedule(
+    alloc: Global,
+    held: Cell,
+    time: u32,
+    live: Cell,
+) -> Result<Schedule, AllocError> {
+    let mut signals = Vec::new(alloc);
+    signals.push(Held {
+        cell: held,
+        signal: Signal::Wire(7),
+    })?;
+    let mut events = Vec::new(alloc);
+    events.push(Event {
+        at: Moment { time, cell: live },
+        signal: Signal::One,
+    })?;
+    Ok(Schedule::new(signals, events))
 }

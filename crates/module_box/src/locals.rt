@@ -160,86 +160,16 @@ impl Locals {
 #[cfg(test)]
 mod tests {
     use super::*;
-    use circuit::Draft;
-    use section_text::Name;
-    use std::process::Abort;
+    use crate::examples::module_of;
     use std::test::Fail;
-
-    fn name_of(rt: &impl Abort, word: &[u8]) -> Name {
-        Name::of(word).expect(rt, "a name")
-    }
-
-    // inputs p and q are wires 0 and 1, the gates' outputs a to h are wires 2 to 9
-    fn small_circuit(rt: &impl Abort, alloc: Global) -> Result<Circuit, Fail>
-        ensures { IfOk result (λ c. wires (netlist_of c) ≡ 10) }
-    {
-        let [p, q, a, b, c, d, e, f, g, h] = [
-            b"p", b"q", b"a", b"b", b"c", b"d", b"e", b"f", b"g", b"h",
-        ].map(|word| name_of(rt, word));
-        let mut draft = Draft::new(alloc);
-        assert!(rt; draft.takes_inputs());
-        draft.add_input(p)?;
-        assert!(rt; draft.takes_inputs());
-        draft.add_input(q)?;
-        draft.add_gate(GateKind::Interact, &[p, q], &[a, b, c, d])?;
-        draft.add_gate(GateKind::Switch, &[b, c], &[e, f, g])?;
-        draft.add_gate(GateKind::Delay(5), &[f], &[h])?;
-        for wire in [a, d, e, g, h] {
-            draft.add_output(wire)?;
-        }
-        let Ok(circuit) = draft.finish() else {
-            panic!(rt; "an unused wire");
-        };
-        assert!(rt; circuit.wires() == 10);
-        Ok(circuit)
-    }
-
-    // asserts that the gate of this number uses and defines these wires
-    fn expect_gate(
-        rt: &impl Abort,
-        circuit: &Circuit,
-        gate: GateNo,
-        ins: &[WireNo],
-        outs: &[WireNo],
-    )
-        ensures { (g : Gate) × (slice_get (netlist_of circuit.now).gates gate ≡ Some g) × (g.ins ≡ ins.now) × (g.outs ≡ outs.now) }
-    {
-        assert!(rt; (gate.number() as usize) < circuit.gates());
-        let wires = circuit.gate(gate);
-        assert!(rt; wires.ins() == ins);
-        assert!(rt; wires.outs() == outs);
-    }
-
-    // a module that cuts c and b, and uses the switch and the delay
-    fn small_locals(rt: &impl Abort, alloc: Global) -> Result<Locals, Fail> {
-        let circuit = small_circuit(rt, alloc)?;
-        let switch = GateNo::of(1);
-        let delay = GateNo::of(2);
-        let [b, c, e, f] = [WireNo::of(3), WireNo::of(4), WireNo::of(6), WireNo::of(7)];
-        let [g, h] = [WireNo::of(8), WireNo::of(9)];
-        expect_gate(rt, &circuit, switch, &[b, c], &[e, f, g]);
-        expect_gate(rt, &circuit, delay, &[f], &[h]);
-        let locals = Locals::new(alloc, &circuit, &[c, b], &[switch, delay])?;
-        Ok(locals)
-    }
 
     #[test]
     fn cuts_then_outputs(rt: HostRuntime) -> Result<(), Fail> {
-        let locals = small_locals(&rt, rt.alloc())?;
-        assert_eq!(rt; locals.wires(), 6);
-        assert_eq!(rt; locals.wire(2), WireNo::of(6));
-        for (wire, local) in [
-            (4, Some(0)),
-            (3, Some(1)),
-            (6, Some(2)),
-            (7, Some(3)),
-            (8, Some(4)),
-            (9, Some(5)),
-            (0, None),
-            (2, None),
-            (5, None),
-        ] {
-            assert_eq!(rt; locals.local(WireNo::of(wire)), local, "wire {wire}");
+        let text =
+            b"circuit\ninput a\ninput b\nswitch b a -> c d e\noutput c\noutput d\noutput e\nend\n";
+        let locals = module_of(&rt, rt.alloc(), text)?;
+        for (wire, local) in [(0, Some(0)), (4, Some(4)), (5, None)] {
+            assert!(rt; locals.local(WireNo::of(wire)) == local, "wire {wire}");
         }
         Ok(())
     }

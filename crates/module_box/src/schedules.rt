@@ -166,53 +166,32 @@ impl Schedule {
 #[cfg(test)]
 mod tests {
     use super::*;
-    use std::alloc::{AllocError, Global};
+    use crate::examples::schedule;
     use std::test::Fail;
-
-    // (4, 1) and (3, 2) hold a signal, (5, 1) and (2, 2) have events at time 3, (3, 2) and (5, 1) at time 5
-    fn small_schedule(alloc: Global) -> Result<Schedule, AllocError> {
-        let mut held = Vec::new(alloc);
-        held.push(Held {
-            cell: Cell { x: 4, y: 1 },
-            signal: Signal::One,
-        })?;
-        held.push(Held {
-            cell: Cell { x: 3, y: 2 },
-            signal: Signal::Wire(7),
-        })?;
-        let mut events = Vec::new(alloc);
-        events.push(event(3, Cell { x: 5, y: 1 }, Signal::Wire(1)))?;
-        events.push(event(3, Cell { x: 2, y: 2 }, Signal::One))?;
-        events.push(event(5, Cell { x: 3, y: 2 }, Signal::Wire(2)))?;
-        Ok(Schedule::new(held, events))
-    }
-
-    fn event(time: u32, cell: Cell, signal: Signal) -> Event
-        ensures at { result.at ≡ record { time = time; cell = cell } }
-    {
-        let at = Moment { time, cell };
-        Event { at, signal }
-    }
 
     #[test]
     fn held_event_or_zero(rt: HostRuntime) -> Result<(), Fail> {
-        let schedule = small_schedule(rt.alloc())?;
+        let held = Cell { x: 4, y: 1 };
+        let apart = schedule(rt.alloc(), held, 3, Cell { x: 5, y: 1 })?;
         for (t, x, y, signal) in [
-            (3, 4, 1, Signal::One),
-            (0, 4, 1, Signal::One),
-            (3, 3, 2, Signal::Wire(7)),
-            (5, 3, 2, Signal::Wire(7)),
-            (3, 5, 1, Signal::Wire(1)),
-            (5, 5, 1, Signal::Zero),
-            (3, 2, 2, Signal::One),
-            (4, 2, 2, Signal::Zero),
+            (3, 4, 1, Signal::Wire(7)),
+            (0, 4, 1, Signal::Wire(7)),
+            (3, 5, 1, Signal::One),
+            (2, 5, 1, Signal::Zero),
+            (4, 5, 1, Signal::Zero),
             (3, 1, 5, Signal::Zero),
             (3, -4, 1, Signal::Zero),
         ] {
-            assert_eq!(rt; schedule.at(t, Cell { x, y }), signal, "at {t}, {x}, {y}");
+            assert!(rt; apart.at(t, Cell { x, y }) == signal, "at {t}, {x}, {y}");
         }
-        let empty = Schedule::new(Vec::new(rt.alloc()), Vec::new(rt.alloc()));
-        assert_eq!(rt; empty.at(3, Cell { x: 4, y: 1 }), Signal::Zero);
+        Ok(())
+    }
+
+    #[test]
+    fn held_before_event(rt: HostRuntime) -> Result<(), Fail> {
+        let cell = Cell { x: 4, y: 1 };
+        let schedule = schedule(rt.alloc(), cell, 3, cell)?;
+        assert!(rt; schedule.at(3, cell) == Signal::Wire(7));
         Ok(())
     }
 }

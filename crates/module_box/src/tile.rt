@@ -130,6 +130,7 @@ pub fn owner_table(
 #[cfg(test)]
 mod tests {
     use super::*;
+    use std::alloc::Global;
 
     const QUARTERS: [Box2; 4] = [
         Box2 {
@@ -158,25 +159,6 @@ mod tests {
         },
     ];
 
-    // three quarters, and one more box of their size
-    fn with_last(x: u32, y: u32) -> [Box2; 4]
-        requires { (x % 2 ≡ 0) × (y % 2 ≡ 0) }
-        ensures { IsTask 8 8 result }
-    {
-        let mut boxes = QUARTERS;
-        boxes[3] = Box2 { x, y, w: 4, h: 4 };
-        boxes
-    }
-
-    fn fault_of(alloc: Global, boxes: &[Box2]) -> Option<TileFault>
-        requires { IsTask 8 8 boxes.now }
-    {
-        match owner_table(alloc, 8, 8, boxes) {
-            Ok(_) => None,
-            Err(fault) => Some(fault),
-        }
-    }
-
     fn owner_by_quarters(alloc: Global, cell: Cell) -> Option<usize> {
         let whole = Box2 {
             x: 0,
@@ -199,23 +181,27 @@ mod tests {
                     y: y as i32,
                 };
                 let owner = owner_by_quarters(rt.alloc(), cell);
-                assert_eq!(rt; owner, Some(2 * (y / 4) + x / 4));
+                assert!(rt; owner == Some(2 * (y / 4) + x / 4), "{x} {y}");
             }
         }
     }
 
+    // what is wrong with the first three quarters and one more box of their size
+    fn fault_with(alloc: Global, x: u32, y: u32) -> Option<TileFault>
+        requires { (x % 2 ≡ 0) × (y % 2 ≡ 0) }
+    {
+        let mut boxes = QUARTERS;
+        boxes[3] = Box2 { x, y, w: 4, h: 4 };
+        owner_table(alloc, 8, 8, &boxes).err()
+    }
+
     #[test]
     fn first_fault_is_found(rt: HostRuntime) {
-        let alloc = rt.alloc();
-        let gap = fault_of(alloc, &[]);
-        assert_eq!(rt; gap, Some(TileFault::Gap(Cell { x: 0, y: 0 })));
-        let gap = fault_of(alloc, &QUARTERS[..3]);
-        assert_eq!(rt; gap, Some(TileFault::Gap(Cell { x: 4, y: 4 })));
-        let overlap = fault_of(alloc, &with_last(2, 4));
-        assert_eq!(rt; overlap, Some(TileFault::Overlap(Cell { x: 2, y: 4 })));
-        let outside = fault_of(alloc, &with_last(6, 4));
-        assert_eq!(rt; outside, Some(TileFault::Outside(3)));
-        let outside = fault_of(alloc, &with_last(4, 999_999_998));
-        assert_eq!(rt; outside, Some(TileFault::Outside(3)));
+        let gap = owner_table(rt.alloc(), 8, 8, &QUARTERS[..3]).err();
+        assert!(rt; gap == Some(TileFault::Gap(Cell { x: 4, y: 4 })));
+        let overlap = fault_with(rt.alloc(), 2, 4);
+        assert!(rt; overlap == Some(TileFault::Overlap(Cell { x: 2, y: 4 })));
+        let outside = fault_with(rt.alloc(), 6, 4);
+        assert!(rt; outside == Some(TileFault::Outside(3)));
     }
 }

@@ -177,7 +177,7 @@ impl Locals {
 #[cfg(test)]
 mod tests {
     use super::*;
-    use crate::examples::{circuit_of, whole};
+    use crate::examples::module_of;
     use std::test::Fail;
 
     // a gate of each kind, the first four over the inputs
@@ -216,62 +216,84 @@ end
 ";
 
     // bits for the cuts, and the values of the wires a to y: the cuts have the bits, the others follow by the gates' tables
-    const TABLE: [(u32, &[u8]); 8] = [
-        (0, b"0000000000000000000000011"),
-        (329, b"1001001010100100001010011"),
-        (658, b"0100100101001010010000111"),
-        (987, b"1101101111110101100111011"),
-        (36, b"0010010000010001000000011"),
-        (365, b"1011011010101110001010011"),
-        (694, b"0110110101011011010000111"),
-        (1023, b"1111111111111111100111011"),
+    const TABLE: [(u32, &str); 9] = [
+        (0, "0000000000000000000000011"),
+        (329, "1001001010100100001010011"),
+        (658, "0100100101001010010000111"),
+        (987, "1101101111110101100111011"),
+        (36, "0010010000010001000000011"),
+        (365, "1011011010101110001010011"),
+        (694, "0110110101011011010000111"),
+        (1023, "1111111111111111100111011"),
+        // higher bits are of no cut
+        (1023 + 5 * 1024, "1111111111111111100111011"),
     ];
+
+    fn are(values: &[bool], digits: &str) -> bool {
+        for (value, digit) in values.iter().zip(digits.as_bytes()) {
+            if *value != (*digit == b'1') {
+                return false;
+            }
+        }
+        values.len() == digits.len()
+    }
+
+    // whether the wires have these values where the cuts have these bits
+    fn has_values(
+        alloc: Global,
+        locals: &Locals,
+        bits: u32,
+        digits: &str,
+    ) -> Result<bool, AllocError> {
+        let values = locals.local_values(alloc, bits)?;
+        Ok(are(&values, digits))
+    }
 
     #[test]
     fn values_by_the_tables(rt: HostRuntime) -> Result<(), Fail> {
-        let circuit = circuit_of(&rt, rt.alloc(), GATES)?;
-        let locals = whole(&rt, rt.alloc(), &circuit)?;
-        assert_eq!(rt; locals.cuts(), 10);
-        let rows = locals.value_rows(rt.alloc(), 16)?;
-        for (bits, values) in TABLE {
-            let found = locals.local_values(rt.alloc(), bits)?;
-            let higher = locals.local_values(rt.alloc(), bits + 5 * 1024)?;
-            assert_eq!(rt; found.len(), values.len());
-            for (wire, sign) in values.iter().enumerate() {
-                let value = *sign == b'1';
-                assert_eq!(rt;
-                    found.get(wire).copied(),
-                    Some(value),
-                    "wire {wire} at {bits}"
-                );
-                assert_eq!(rt;
-                    higher.get(wire).copied(),
-                    Some(value),
-                    "wire {wire} at {bits}"
-                );
-                let word = rows.get(16 * wire + bits as usize / 64).copied();
-                let bit = word.map(|word| (word >> (bits % 64)) % 2 == 1);
-                assert_eq!(rt; bit, Some(value), "row {wire} at {bits}");
-            }
+        let locals = module_of(&rt, rt.alloc(), GATES)?;
+        for (bits, digits) in TABLE {
+            assert!(rt; has_values(rt.alloc(), &locals, bits, digits)?, "at {bits}");
         }
         Ok(())
     }
 
+    // whether the rows, of 16 words each, have these values under an assignment
+    fn have(rows: &[u64], bits: u32, digits: &str) -> bool {
+        for (row, digit) in rows.chunks(16).zip(digits.as_bytes()) {
+            let word = row.get(bits as usize / 64).copied().unwrap_or(0);
+            if (word >> (bits % 64)) % 2 != u64::from(*digit == b'1') {
+                return false;
+            }
+        }
+        rows.len() / 16 == digits.len()
+    }
+
     #[test]
-    fn no_cuts(rt: HostRuntime) -> Result<(), Fail> {
-        let circuit = circuit_of(
-            &rt,
-            rt.alloc(),
-            b"circuit\nsource 1 -> a\ndelay 3 a -> b\nsource 0 -> c\noutput b\noutput c\nend\n",
-        )?;
-        let locals = whole(&rt, rt.alloc(), &circuit)?;
-        assert_eq!(rt; locals.cuts(), 0);
-        let values = locals.local_values(rt.alloc(), 1)?;
-        assert!(rt; values.as_slice() == [true, true, false].as_slice());
+    fn rows_by_the_tables(rt: HostRuntime) -> Result<(), Fail> {
+        let locals = module_of(&rt, rt.alloc(), GATES)?;
+        let rows = locals.value_rows(rt.alloc(), 16)?;
+        for (bits, digits) in TABLE {
+            assert!(rt; bits > 1023 || have(&rows, bits, digits), "at {bits}");
+        }
+        Ok(())
+    }
+
+    const NO_CUTS: &[u8] =
+        b"circuit\nsource 1 -> a\ndelay 3 a -> b\nsource 0 -> c\noutput b\noutput c\nend\n";
+
+    #[test]
+    fn values_without_cuts(rt: HostRuntime) -> Result<(), Fail> {
+        let locals = module_of(&rt, rt.alloc(), NO_CUTS)?;
+        assert!(rt; has_values(rt.alloc(), &locals, 1, "110")?);
+        Ok(())
+    }
+
+    #[test]
+    fn rows_without_cuts(rt: HostRuntime) -> Result<(), Fail> {
+        let locals = module_of(&rt, rt.alloc(), NO_CUTS)?;
         let rows = locals.value_rows(rt.alloc(), 1)?;
         assert!(rt; rows.as_slice() == [u64::MAX, u64::MAX, 0].as_slice());
-        let rows = locals.value_rows(rt.alloc(), 0)?;
-        assert!(rt; rows.is_empty());
         Ok(())
     }
 }

@@ -32,28 +32,3 @@ pub fn push_rectangle(out: &mut Vec<Cell>, r: Rectangle) -> Result<(), AllocErro
     }
     Ok(())
 }
-
-#[cfg(test)]
-mod tests {
-    use super::*;
-    use std::test::Fail;
-
-    #[test]
-    fn row_by_row(rt: HostRuntime) -> Result<(), Fail> {
-        let mut cells = Vec::new(rt.alloc());
-        push_rectangle(
-            &mut cells,
-            Rectangle {
-                x: 3,
-                y: 510,
-                w: 2,
-                h: 2,
-            },
-        )?;
-        assert_eq!(rt; cells.len(), 4);
-        for (k, x, y) in [(0, 3, 510), (1, 4, 510), (2, 3, 511), (3, 4, 511)] {
-            assert_eq!(rt; cells[k], Cell { x, y });
-        }
-        Ok(())
-    }
-}
