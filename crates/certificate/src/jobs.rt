@@ -5,7 +5,7 @@ ghost use Rattle.circuit.specs.Bridge.{circuit_of};
 ghost use Rattle.certificate.specs.Entries.{modules_of};
 ghost use Rattle.certificate.specs.Grammars.{setting_of};
 ghost use Rattle.certificate.specs.Jobs.{AreJobsOf, IsJobOf};
-ghost use Rattle.certificate.specs.Modules.{HasPorts, IsModule};
+ghost use Rattle.certificate.specs.Modules.{AreModules, HasPorts, IsModule};
 
 use crate::cert::Cert;
 use crate::entry::Entry;
@@ -46,6 +46,21 @@ fn make_job(alloc: Global, plan: &Plan, area: Box2, lines: &[Entry]) -> Result<J
     })
 }
 
+// The jobs of the modules that have these lines.
+fn jobs_of_lines(alloc: Global, plan: &Plan, entries: &[Entry]) -> Result<Vec<Arc<Job>>, AllocError>
+    requires { AreModules (setting_of plan.now.circuit plan.now.layout) (modules_of entries.now) }
+    ensures { IfOk result (λ js. AreJobsOf (circuit_of plan.now.circuit) plan.now.layout (modules_of entries.now) (map arc_value js.items)) }
+{
+    let mut jobs = Vec::new(alloc);
+    'lines: for (place, entry) in entries.iter().enumerate() {
+        if let Entry::Module(area) = entry {
+            let job = make_job(alloc, plan, *area, inner_lines(&entries[place + 1..]))?;
+            jobs.push(Arc::new(alloc, job)?)?;
+        }
+    }
+    Ok(jobs)
+}
+
 impl<'a> Cert<'a> {
     /// The jobs of the modules, in their order: for each module all that its run by itself needs, by its lines and by what the
     /// circuit and the layout say of its cells. `AllocError` is want of memory.
@@ -53,14 +68,6 @@ impl<'a> Cert<'a> {
         ensures { IfOk result (λ js. AreJobsOf (circuit_of self.now.circuit) self.now.layout (modules_of self.now.entries) (map arc_value js.items)) }
     {
         let plan = Plan::new(alloc, self.circuit, self.layout)?;
-        let mut jobs = Vec::new(alloc);
-        let entries = self.entries.as_slice();
-        'lines: for (place, entry) in entries.iter().enumerate() {
-            if let Entry::Module(area) = entry {
-                let job = make_job(alloc, &plan, *area, inner_lines(&entries[place + 1..]))?;
-                jobs.push(Arc::new(alloc, job)?)?;
-            }
-        }
-        Ok(jobs)
+        jobs_of_lines(alloc, &plan, self.entries.as_slice())
     }
 }

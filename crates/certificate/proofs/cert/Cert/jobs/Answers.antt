@@ -1,80 +1,27 @@
-use Rattle.std.proofs.Common.{◌≡◌, [], ◌∷◌, ◌++◌, ◌+◌, map, drop, get_or, sym, ap, subst, ◌∙◌}
+use Rattle.std.proofs.Common.{◌≡◌, map, sym, ap, subst, ◌∙◌}
+use Rattle.std.specs.Prelude.{IfOk}
 use Rattle.std.specs.Arc.{arc_value}
-use Rattle.std.proofs.lemmas.List.{map-append}
 use Rattle.circuit.specs.Bridge.{circuit_of}
 use Rattle.certificate.specs.Entries.{modules_of}
 use Rattle.certificate.specs.Grammars.{CertState, setting_of}
-use Rattle.certificate.specs.Jobs.{AreJobsOf, IsJobOf}
-use Rattle.certificate.specs.ModuleParts.{inner}
-use Rattle.certificate.specs.Modules.{AreModules, HasPorts, IsModule}
+use Rattle.certificate.specs.Jobs.{AreJobsOf}
+use Rattle.certificate.specs.Modules.{AreModules}
 use Rattle.certificate.specs.PlanView.{PlanState}
-use Rattle.certificate.specs.declared.entry.Entry.TheVariants.{Module}
-use Rattle.certificate.proofs.JobLists.{HaveJobs, no_jobs, other_line, next_module, one_job_more, all_jobs, rest_of_lines}
-use Rattle.certificate.proofs.ModuleSplit.{no_module}
-use Rattle.certificate.proofs.cert.Cert.jobs.Goals.{in-Module+in_ok-job+in_ok-new+in_ok-push, in_default}
 use Rattle.certificate.proofs.cert.Cert.jobs.Goals as goal
 
--- src/jobs.rt:63:9
-pub lines-init : goal.lines-init
-lines-init c = subst (λ vs. HaveJobs (circuit_of c.args.self.now.circuit) c.args.self.now.layout c.as_slice-entries.result.now 0 (map arc_value vs)) (sym c.new-jobs.ensures.items) (no_jobs (circuit_of c.args.self.now.circuit) c.args.self.now.layout c.as_slice-entries.result.now)
-
--- src/jobs.rt:65:27
-pub make_job-requires-clause-module : goal.make_job-requires-clause-module
-make_job-requires-clause-module c =
+pub jobs_of_lines-requires : goal.jobs_of_lines-requires
+jobs_of_lines-requires c =
     let s : CertState = c.args.self.now in
-    let es = c.as_slice-entries.result.now in
-    let entries_are : es ≡ s.entries = c.as_slice-entries.ensures.value ∙ ap (λ (t : CertState). t.entries) c.self.view_is in
+    let entries_are : c.as_slice.result.now ≡ s.entries = c.as_slice.ensures.value ∙ ap (λ (t : CertState). t.entries) c.self.view_is in
     let plan_is : c.in_ok-plan.plan ≡ record { circuit = s.circuit; layout = s.layout } = c.in_ok-plan.ensures ∙ ap (λ (t : CertState). record { circuit = t.circuit; layout = t.layout }) c.self.view_is in
-    let good : AreModules (setting_of s.circuit s.layout) (modules_of es) = subst (λ xs. AreModules (setting_of s.circuit s.layout) (modules_of xs)) (sym entries_are) (subst (λ (t : CertState). AreModules (setting_of t.circuit t.layout) (modules_of t.entries)) c.self.view_is c.self.invariant.good) in
-    let line_is : Module c.in-Module.area ≡ get_or es c.lines.place (Module c.in-Module.area) = subst (λ e. e ≡ get_or es c.lines.place e) c.in-Module.is c.index-entries-place.is in
-    let next = next_module (circuit_of s.circuit) s.layout es c.lines.place c.in-Module.area (map arc_value c.lines.jobs.items) c.lines-test.true line_is c.lines.invariant in
-    let inner_is : c.inner_lines.result.now ≡ inner (drop (c.lines.place + 1) es) = c.inner_lines.ensures ∙ ap inner (rest_of_lines es (c.lines.place + 1)) in
-    subst (λ (q : PlanState). IsModule (setting_of q.circuit q.layout) (record { area = c.in-Module.area; lines = c.inner_lines.result.now })) (sym plan_is)
-    (subst (λ ls. IsModule (setting_of s.circuit s.layout) (record { area = c.in-Module.area; lines = ls })) (sym inner_is) (good.each _ _ next.0))
+    subst (λ (q : PlanState). AreModules (setting_of q.circuit q.layout) (modules_of c.as_slice.result.now)) (sym plan_is)
+    (subst (λ xs. AreModules (setting_of s.circuit s.layout) (modules_of xs)) (sym entries_are)
+    (subst (λ (t : CertState). AreModules (setting_of t.circuit t.layout) (modules_of t.entries)) c.self.view_is c.self.invariant.good))
 
--- src/jobs.rt:65:27
-pub make_job-requires-clause-ports : goal.make_job-requires-clause-ports
-make_job-requires-clause-ports c =
-    let s : CertState = c.args.self.now in
-    let es = c.as_slice-entries.result.now in
-    let entries_are : es ≡ s.entries = c.as_slice-entries.ensures.value ∙ ap (λ (t : CertState). t.entries) c.self.view_is in
-    let plan_is : c.in_ok-plan.plan ≡ record { circuit = s.circuit; layout = s.layout } = c.in_ok-plan.ensures ∙ ap (λ (t : CertState). record { circuit = t.circuit; layout = t.layout }) c.self.view_is in
-    let good : AreModules (setting_of s.circuit s.layout) (modules_of es) = subst (λ xs. AreModules (setting_of s.circuit s.layout) (modules_of xs)) (sym entries_are) (subst (λ (t : CertState). AreModules (setting_of t.circuit t.layout) (modules_of t.entries)) c.self.view_is c.self.invariant.good) in
-    let line_is : Module c.in-Module.area ≡ get_or es c.lines.place (Module c.in-Module.area) = subst (λ e. e ≡ get_or es c.lines.place e) c.in-Module.is c.index-entries-place.is in
-    let next = next_module (circuit_of s.circuit) s.layout es c.lines.place c.in-Module.area (map arc_value c.lines.jobs.items) c.lines-test.true line_is c.lines.invariant in
-    let inner_is : c.inner_lines.result.now ≡ inner (drop (c.lines.place + 1) es) = c.inner_lines.ensures ∙ ap inner (rest_of_lines es (c.lines.place + 1)) in
-    subst (λ (q : PlanState). HasPorts (setting_of q.circuit q.layout) (record { area = c.in-Module.area; lines = c.inner_lines.result.now })) (sym plan_is)
-    (subst (λ ls. HasPorts (setting_of s.circuit s.layout) (record { area = c.in-Module.area; lines = ls })) (sym inner_is) (good.ports _ _ next.0))
-
--- src/jobs.rt:63:9
-pub lines-preserved : goal.lines-preserved
-lines-preserved c =
-    let s : CertState = c.args.self.now in
-    let es = c.as_slice-entries.result.now in
-    let b = circuit_of s.circuit in
-    elim c.match-entry.branch [
-      | in-Module+in_ok-job+in_ok-new+in_ok-push w ↦
-          let plan_is : c.in_ok-plan.plan ≡ record { circuit = s.circuit; layout = s.layout } = c.in_ok-plan.ensures ∙ ap (λ (t : CertState). record { circuit = t.circuit; layout = t.layout }) c.self.view_is in
-          let line_is : Module w.in-Module.area ≡ get_or es c.lines.place (Module w.in-Module.area) = subst (λ e. e ≡ get_or es c.lines.place e) w.in-Module.is c.index-entries-place.is in
-          let inner_is : w.inner_lines.result.now ≡ inner (drop (c.lines.place + 1) es) = w.inner_lines.ensures ∙ ap inner (rest_of_lines es (c.lines.place + 1)) in
-          let grown : c.match-entry.jobs.items ≡ c.lines.jobs.items ++ w.in_ok-new.field-0 ∷ [] = ap (λ v. v.items) w.jobs-is ∙ w.in_ok-push.ensures.items in
-          let made : IsJobOf b s.layout (record { area = w.in-Module.area; lines = inner (drop (c.lines.place + 1) es) }) w.in_ok-job.job =
-          subst (λ ls. IsJobOf b s.layout (record { area = w.in-Module.area; lines = ls }) w.in_ok-job.job) inner_is
-          (subst (λ (q : PlanState). IsJobOf (circuit_of q.circuit) q.layout (record { area = w.in-Module.area; lines = w.inner_lines.result.now }) w.in_ok-job.job) plan_is w.in_ok-job.ensures) in
-          let kept : IsJobOf b s.layout (record { area = w.in-Module.area; lines = inner (drop (c.lines.place + 1) es) }) (arc_value w.in_ok-new.field-0) =
-          subst (IsJobOf b s.layout (record { area = w.in-Module.area; lines = inner (drop (c.lines.place + 1) es) })) (sym w.in_ok-new.ensures.ok) made in
-          subst (HaveJobs b s.layout es (c.lines.place + 1)) (sym (ap (map arc_value) grown ∙ map-append arc_value c.lines.jobs.items (w.in_ok-new.field-0 ∷ [])))
-          (one_job_more b s.layout es c.lines.place w.in-Module.area (map arc_value c.lines.jobs.items) (arc_value w.in_ok-new.field-0) c.lines-test.true line_is kept c.lines.invariant)
-      | in_default w ↦
-          subst (λ v. HaveJobs b s.layout es (c.lines.place + 1) (map arc_value v.items)) (sym w.jobs-is)
-          (other_line b s.layout es c.lines.place c.index-entries-place.result (map arc_value c.lines.jobs.items) c.lines-test.true c.index-entries-place.is (no_module c.index-entries-place.result w.in_default.not-Module) c.lines.invariant)
-    ]
-
--- src/jobs.rt:57:5
 pub returns : goal.returns
 returns c =
     let s : CertState = c.args.self.now in
-    let es = c.as_slice-entries.result.now in
-    let entries_are : es ≡ s.entries = c.as_slice-entries.ensures.value ∙ ap (λ (t : CertState). t.entries) c.self.view_is in
-    subst (λ xs. AreJobsOf (circuit_of s.circuit) s.layout (modules_of xs) (map arc_value c.lines.jobs.items)) entries_are
-    (all_jobs (circuit_of s.circuit) s.layout es c.lines.place _ c.lines-test.false c.lines.invariant)
+    let entries_are : c.as_slice.result.now ≡ s.entries = c.as_slice.ensures.value ∙ ap (λ (t : CertState). t.entries) c.self.view_is in
+    let plan_is : c.in_ok-plan.plan ≡ record { circuit = s.circuit; layout = s.layout } = c.in_ok-plan.ensures ∙ ap (λ (t : CertState). record { circuit = t.circuit; layout = t.layout }) c.self.view_is in
+    subst (λ xs. IfOk c.jobs_of_lines.result (λ js. AreJobsOf (circuit_of s.circuit) s.layout (modules_of xs) (map arc_value js.items))) entries_are
+    (subst (λ (q : PlanState). IfOk c.jobs_of_lines.result (λ js. AreJobsOf (circuit_of q.circuit) q.layout (modules_of c.as_slice.result.now) (map arc_value js.items))) plan_is c.jobs_of_lines.ensures)

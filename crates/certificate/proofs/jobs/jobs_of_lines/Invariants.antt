@@ -3,7 +3,7 @@ use Rattle.std.proofs.Common.{map}
 use Rattle.std.specs.Arc.{arc_value}
 use Rattle.circuit.specs.Bridge.{circuit_of}
 use Rattle.certificate.proofs.JobLists.{HaveJobs}
-use Rattle.certificate.proofs.cert.Cert.jobs.Given as goal
+use Rattle.certificate.proofs.jobs.jobs_of_lines.Given as goal
 
 abbrev pub invariant-lines : goal.invariant-lines
-invariant-lines l = HaveJobs (circuit_of l.self.circuit) l.self.layout l.entries l.place (map arc_value l.jobs.items)
+invariant-lines l = HaveJobs (circuit_of l.plan.circuit) l.plan.layout l.entries l.place (map arc_value l.jobs.items)
