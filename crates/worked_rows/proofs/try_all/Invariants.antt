@@ -3,4 +3,4 @@ use Rattle.std.proofs.Common.{◌≤◌}
 use Rattle.worked_rows.proofs.try_all.Given as goal
 
 abbrev pub invariant-loop-case : goal.invariant-loop-case
-invariant-loop-case l = l.failed ≤ l.case-index
+invariant-loop-case g l = l.failed ≤ l.case-index
