@@ -3,9 +3,9 @@
 ghost use Rattle.std.specs.Prelude.{◌≡◌, ◌≤◌, IfOk, OnOk, true};
 
 use super::*;
-use circuit::{Circuit, port_names, read_circuit};
+use circuit::{Circuit, port_names, print_circuit, read_circuit};
 use module_box::Box2;
-use pattern::{Layout, read_layout};
+use pattern::{Layout, print_layout, read_layout};
 use section_text::{Feed, ReadFault, Refusal};
 use std::alloc::{AllocError, Global};
 use std::process::Abort;
@@ -148,6 +148,18 @@ fn prints_what_was_read(rt: HostRuntime) -> Result<(), Fail> {
     let text = format!(in rt.alloc(); "{CIRCUIT}{LAYOUT}{CERTIFICATE}")?;
     let bundle = text.as_bytes();
     assert!(rt; is_read_and_printed(&rt, rt.alloc(), bundle, CERTIFICATE, DIGEST)?);
+    Ok(())
+}
+
+#[test]
+fn prints_the_sections_before(rt: HostRuntime) -> Result<(), Fail> {
+    let text = format!(in rt.alloc(); "{CIRCUIT}{LAYOUT}")?;
+    let mut feed = fed(rt.alloc(), text.as_bytes())?;
+    let (circuit, layout) = before(&rt, rt.alloc(), &mut feed)?;
+    let printed = print_circuit(rt.alloc(), &circuit)?;
+    assert!(rt; printed.as_slice() == CIRCUIT.as_bytes());
+    let printed = print_layout(rt.alloc(), &layout)?;
+    assert!(rt; printed.as_slice() == LAYOUT.as_bytes());
     Ok(())
 }
 

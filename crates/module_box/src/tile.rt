@@ -196,6 +196,12 @@ mod tests {
     }
 
     #[test]
+    fn no_box_leaves_a_gap(rt: HostRuntime) {
+        let gap = owner_table(rt.alloc(), 8, 8, &[]).err();
+        assert!(rt; gap == Some(TileFault::Gap(Cell { x: 0, y: 0 })));
+    }
+
+    #[test]
     fn first_fault_is_found(rt: HostRuntime) {
         let gap = owner_table(rt.alloc(), 8, 8, &QUARTERS[..3]).err();
         assert!(rt; gap == Some(TileFault::Gap(Cell { x: 4, y: 4 })));
