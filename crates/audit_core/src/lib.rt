@@ -14,19 +14,11 @@
 mod book;
 mod claim;
 mod concluding;
-#[cfg(test)]
-mod core_tests;
 mod entry;
-#[cfg(test)]
-mod headline_tests;
 pub mod laws;
 mod machine;
 mod reply;
-#[cfg(test)]
-mod tests;
 mod verdict;
-#[cfg(test)]
-mod verdict_tests;
 
 pub use book::{BookState, NotFiled};
 pub use claim::Claim;

@@ -12,8 +12,6 @@ mod borders;
 mod fault;
 pub mod laws;
 mod matching;
-#[cfg(test)]
-mod tests;
 
 pub use fault::BorderFault;
 pub use matching::match_borders;

@@ -13,8 +13,6 @@ mod entry;
 mod equality;
 mod form;
 mod job;
-#[cfg(test)]
-mod job_tests;
 mod jobs;
 mod known;
 pub mod laws;
@@ -26,8 +24,6 @@ mod reading;
 mod rules;
 mod site;
 mod stars;
-#[cfg(test)]
-mod tests;
 mod tiles;
 mod timetable;
 

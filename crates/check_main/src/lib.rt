@@ -21,14 +21,3 @@ pub use fault::CheckFault;
 pub use front::program;
 pub use outcome::Outcome;
 pub use stream::{check_stream, modules_stream, run_stream, value_stream};
-
-#[cfg(test)]
-mod audit_tests;
-#[cfg(test)]
-mod check_tests;
-#[cfg(test)]
-mod run_tests;
-#[cfg(test)]
-mod tests;
-#[cfg(test)]
-mod value_tests;

@@ -24,6 +24,3 @@ pub use reading::read_circuit;
 /// Why a draft does not take a line: the code, 2 to 5, of the first test that the line fails, or want of memory.
 pub use section_text::LineFault as CircuitFault;
 pub use wiring::GateWires;
-
-#[cfg(test)]
-mod tests;

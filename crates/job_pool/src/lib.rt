@@ -19,8 +19,3 @@ pub use close::{CloseFault, Closed};
 pub use desk::{Desk, DeskSeat};
 pub use gate::{Gate, OpenGate};
 pub use pool::{WorkEnd, work};
-
-#[cfg(test)]
-mod tests;
-#[cfg(test)]
-mod work_tests;

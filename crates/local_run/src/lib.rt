@@ -15,14 +15,10 @@ mod fault;
 mod finding;
 pub mod laws;
 mod places;
-#[cfg(test)]
-mod plain;
 mod planes;
 mod run;
 mod scan;
 mod steps;
-#[cfg(test)]
-mod tests;
 mod values;
 
 pub use fault::{Fault, Kind};

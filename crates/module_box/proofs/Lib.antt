@@ -11,5 +11,4 @@ pub mod CutWords
 pub mod WordRows
 pub mod LocalRows
 pub mod EqualTests
-pub mod WholeModules
 pub mod SeenValues

@@ -26,6 +26,3 @@ pub use locals::Locals;
 pub use owners::Owners;
 pub use schedules::{Event, Held, Moment, Schedule, Signal, compare_cells};
 pub use tile::{TileFault, owner_table};
-
-#[cfg(test)]
-mod examples;

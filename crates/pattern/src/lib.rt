@@ -14,8 +14,6 @@ mod reading;
 mod rectangle;
 mod run;
 mod taken;
-#[cfg(test)]
-mod tests;
 
 pub use assign::read_assign;
 pub use form::read_cell;

@@ -6,7 +6,5 @@
 #![tactic(auto)]
 
 mod printing;
-#[cfg(test)]
-mod tests;
 
 pub use printing::{refusal_text, report_text};

@@ -9,6 +9,5 @@ pub mod Codes
 pub mod Spelling
 pub mod Sections
 pub mod Laws
-pub mod CountedList
 pub mod Ports
 pub mod Listed

@@ -19,6 +19,3 @@ pub use ports::PortNames;
 pub use reader::{Section, read_section};
 pub use section::{Form, LineFault};
 pub use spelling::{print_number, print_word};
-
-#[cfg(test)]
-mod tests;

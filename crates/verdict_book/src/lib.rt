@@ -9,8 +9,6 @@ mod book;
 mod gathering;
 mod kept;
 mod share;
-#[cfg(test)]
-mod tests;
 
 pub use book::Book;
 pub use gathering::{Gathered, NotAll, gather};

@@ -1,0 +1,125 @@
+//! A worked sequence of the core. The answers and the entries were worked out by hand.
+//!
+//! What finds no memory is tried once more: so each growth can be refused in turn (`rt try --test --fail-alloc N`), and the
+//! sequence is still to end as it should.
+
+use crate::books::{Trouble, UPPER_LEFT, Work, finding, work_of_quarters};
+use crate::verdicts::is_missing;
+use audit_core::*;
+use std::alloc::Global;
+use std::process::Abort;
+use std::test::Fail;
+
+/// What the core answers to an event of one of its seats.
+fn happen(rt: &impl Abort, core: &mut Core, event: Event) -> Result<Answer, NotApplied> {
+    match event {
+        Event::Claim(seat) => {
+            assert!(rt; seat < core.seats(), "no such seat");
+            core.apply(Event::Claim(seat))
+        }
+        Event::File(finding) => core.apply(Event::File(finding)),
+        Event::Lose(number) => core.apply(Event::Lose(number)),
+    }
+}
+
+/// What the core answers to an event: at the second time, if no memory was found at the first.
+fn answer(rt: &impl Abort, core: &mut Core, event: Event) -> Answer {
+    let before = (core.next(), core.book().history().len());
+    let event = match happen(rt, core, event) {
+        Ok(answer) => return answer,
+        Err(NotApplied { event }) => event,
+    };
+    assert!(rt;
+        (core.next(), core.book().history().len()) == before,
+        "changed"
+    );
+    match happen(rt, core, event) {
+        Ok(answer) => answer,
+        Err(NotApplied { event: _ }) => panic!(rt; "no memory at the second try"),
+    }
+}
+
+/// What happens to the core.
+#[derive(Clone, Copy)]
+enum Step {
+    Claim(usize),
+    /// The finding of the job of this number is filed.
+    File(usize),
+    Lose(usize),
+}
+
+fn event_of(rt: &impl Abort, alloc: Global, work: &Work, step: Step) -> Result<Event, Trouble> {
+    match step {
+        Step::Claim(seat) => Ok(Event::Claim(seat)),
+        Step::File(number) => {
+            let finding = finding(rt, alloc, work.digest, number, &work.jobs, number)?;
+            Ok(Event::File(finding))
+        }
+        Step::Lose(number) => Ok(Event::Lose(number)),
+    }
+}
+
+/// What happens to a core of two seats for four jobs, with the answers.
+const STEPS: [(Step, Answer); 11] = [
+    (Step::Claim(0), Answer::Number(0)),
+    (Step::Claim(1), Answer::Number(1)),
+    (Step::File(1), Answer::Reply(Reply::Accepted)),
+    (Step::Lose(0), Answer::Lost),
+    (Step::Claim(0), Answer::Number(2)),
+    (Step::Claim(0), Answer::Number(3)),
+    (Step::Claim(0), Answer::Empty),
+    (Step::Claim(0), Answer::Empty),
+    (Step::Claim(1), Answer::Empty),
+    (Step::File(1), Answer::Reply(Reply::Double(1))),
+    (Step::File(0), Answer::Reply(Reply::Accepted)),
+];
+
+/// A core of two seats for this work.
+fn new_core(rt: &impl Abort, alloc: Global, work: Work) -> Result<Core, Trouble> {
+    assert!(rt; work.jobs.len() <= 1024, "too many jobs");
+    Ok(Core::new(alloc, work.digest, work.jobs, 2)?)
+}
+
+/// The core of two seats to which all of this happened.
+fn played(rt: &impl Abort, alloc: Global, work: &Work) -> Result<Core, Trouble> {
+    let own = work_of_quarters(rt, alloc, UPPER_LEFT)?;
+    let mut core = new_core(rt, alloc, own)?;
+    for (number, (step, wanted)) in STEPS.iter().enumerate() {
+        let event = event_of(rt, alloc, work, *step)?;
+        assert!(rt; answer(rt, &mut core, event) == *wanted, "step {number}");
+    }
+    Ok(core)
+}
+
+/// The entry of a filing.
+fn filed(digest: [u8; 32], number: usize, reply: Reply) -> Entry {
+    Entry::Filed(Filing {
+        digest,
+        number,
+        same: true,
+        reply,
+    })
+}
+
+/// Whether the history has the three filings alone.
+fn are_filings(history: &[Entry], digest: [u8; 32]) -> bool {
+    let filings = [
+        filed(digest, 1, Reply::Accepted),
+        filed(digest, 1, Reply::Double(1)),
+        filed(digest, 0, Reply::Accepted),
+    ];
+    history == filings.as_slice()
+}
+
+#[test]
+fn core_of_two_seats(rt: HostRuntime) -> Result<(), Fail> {
+    let work = work_of_quarters(&rt, rt.alloc(), UPPER_LEFT)?;
+    let core = played(&rt, rt.alloc(), &work)?;
+    assert!(rt; core.next() == 6 && core.seats() == 2);
+    assert!(rt; core.draws(0) == [0, 2, 3, 4].as_slice());
+    assert!(rt; core.draws(1) == [1, 5].as_slice());
+    let book = core.book();
+    assert!(rt; are_filings(book.history(), work.digest) && book.accepted() == 2);
+    assert!(rt; is_missing(&rt, rt.alloc(), book, 2)?);
+    Ok(())
+}
