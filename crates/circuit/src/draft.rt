@@ -1,20 +1,23 @@
 //! Circuits, line by line.
-ghost use Rattle.std.specs.Prelude.{◌≡◌, ◌==◌, ◌+◌, ◌-◌, true, [], ◌∷◌, ◌++◌, length, Option, None, Some, OnOk, OnErr, IfOk, IfErr};
+ghost use Rattle.std.specs.Prelude.{◌≡◌, ◌==◌, ◌+◌, ◌-◌, true, [], ◌∷◌, ◌++◌, ◌≤◌, map, length, Option, None, Some, OnOk, OnErr, IfOk, IfErr};
 ghost use Rattle.circuit.specs.Entries.{entry};
 ghost use Rattle.circuit.specs.Gates.{rule_of, uses, defines};
 ghost use Rattle.circuit.specs.declared.entry.Kind.TheVariants.{Input, Gate, Output, Spill};
 ghost use Rattle.circuit.specs.declared.entry.GateKind.TheVariants.{Source};
-ghost use Rattle.circuit.specs.Rules.{add_fault, passes_limit, is_wrong_delay, is_gate, gate_count, defined, consumed, unused};
+ghost use Rattle.circuit.specs.Rules.{add_fault, passes_limit, is_wrong_delay, is_gate, gate_count, defined, consumed, consume, define, unused};
+ghost use Rattle.circuit.specs.Wiring.{gate_of, gate_at};
+ghost use Rattle.section_text.specs.Codes.{or_else};
 ghost use Rattle.section_text.specs.Adding.{FaultIs};
 ghost use Rattle.circuit.specs.Bridge.{FitsKind, InputsFirst};
 
 use crate::entry::{Entry, GateKind, Kind};
 use crate::netlist::Circuit;
+use crate::number::WireNo;
 use crate::sets::{consume_all, define_all};
 use crate::wiring::{GateWires, add_wires, wire_numbers};
 use indexmap::IndexSet;
 use section_text::{LineFault, Name, Names};
-use std::alloc::Global;
+use std::alloc::{AllocError, Global};
 use std::marker::Model;
 
 // The most wires of a circuit.
@@ -83,6 +86,48 @@ fn first_unused(wires: &[Name], consumed: &IndexSet<Name>) -> Option<Name>
     None
 }
 
+// Consumes and defines the names of a line. A fault changes nothing.
+fn take_names(
+    wires: &mut IndexSet<Name>,
+    consumed: &mut IndexSet<Name>,
+    entry: &Entry,
+) -> Result<(), LineFault>
+    ensures ins { OnOk result ((consume wires.old.keys consumed.old.keys entry.now.ins ≡ None) × (consumed.new.keys ≡ consumed.old.keys ++ entry.now.ins)) }
+    ensures outs { OnOk result ((define wires.old.keys entry.now.outs ≡ None) × (wires.new.keys ≡ wires.old.keys ++ entry.now.outs)) }
+    ensures err { OnErr result ((wires.new.keys ≡ wires.old.keys) × (consumed.new.keys ≡ consumed.old.keys)) }
+    ensures fault { IfErr result (λ e. FaultIs e (or_else (consume wires.old.keys consumed.old.keys entry.now.ins) (define wires.old.keys entry.now.outs))) }
+{
+    let before = consumed.len();
+    consume_all(wires, consumed, entry.ins.as_slice())?;
+    if let Err(fault) = define_all(wires, entry.outs.as_slice()) {
+        consumed.truncate(before);
+        return Err(fault);
+    }
+    Ok(())
+}
+
+// Keeps a line and its gate. An error changes nothing.
+fn keep_line(
+    entries: &mut Vec<Entry>,
+    wired: &mut Vec<GateWires>,
+    entry: Entry,
+    ins: [WireNo; 4],
+    first: u16,
+) -> Result<(), AllocError>
+    requires { first ≤ 4096 }
+    ensures line { OnOk result (entries.new.items ≡ entries.old.items ++ entry ∷ []) }
+    ensures gate { OnOk result (map gate_of wired.new.items ≡ map gate_of wired.old.items ++ gate_at entry.kind ins first) }
+    ensures err { OnErr result ((entries.new.items ≡ entries.old.items) × (wired.new.items ≡ wired.old.items)) }
+{
+    let before = wired.len();
+    add_wires(wired, entry.kind, ins, first)?;
+    if entries.push(entry).is_err() {
+        wired.truncate(before);
+        return Err(AllocError);
+    }
+    Ok(())
+}
+
 impl Draft {
     /// No lines.
     pub fn new(alloc: Global) -> Draft
@@ -120,23 +165,12 @@ impl Draft {
         }
         let consumed = self.consumed.len();
         let wires = self.wires.len();
-        let wired = self.wired.len();
         let ins = wire_numbers(&self.wires, entry.ins.as_slice());
-        consume_all(&self.wires, &mut self.consumed, entry.ins.as_slice())?;
-        if let Err(fault) = define_all(&mut self.wires, entry.outs.as_slice()) {
-            self.consumed.truncate(consumed);
-            return Err(fault);
-        }
+        take_names(&mut self.wires, &mut self.consumed, &entry)?;
         let is_gate = is_gate_kind(entry.kind);
-        if add_wires(&mut self.wired, entry.kind, ins, wires as u16).is_err() {
+        if keep_line(&mut self.entries, &mut self.wired, entry, ins, wires as u16).is_err() {
             self.consumed.truncate(consumed);
             self.wires.truncate(wires);
-            return Err(LineFault::Memory);
-        }
-        if self.entries.push(entry).is_err() {
-            self.consumed.truncate(consumed);
-            self.wires.truncate(wires);
-            self.wired.truncate(wired);
             return Err(LineFault::Memory);
         }
         if is_gate {

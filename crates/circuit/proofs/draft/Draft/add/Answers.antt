@@ -8,12 +8,12 @@ use Rattle.circuit.proofs.draft.Draft.add.Goals as goal
 
 pub invariant_of-self-then-is_gate : goal.invariant_of-self-then-is_gate
 invariant_of-self-then-is_gate c =
-    let entries : c.push.new.self.items ≡ c.self.inside.entries.items ++ c.args.entry ∷ [] = search rules in
-    let wires : c.define_all.new.wires.keys ≡ c.self.inside.wires.keys ++ c.args.entry.outs = search rules in
-    let used : c.consume_all.new.consumed.keys ≡ c.self.inside.consumed.keys ++ c.args.entry.ins = search rules in
+    let entries : c.keep_line.new.entries.items ≡ c.self.inside.entries.items ++ c.args.entry ∷ [] = search rules in
+    let wires : c.take_names.new.wires.keys ≡ c.self.inside.wires.keys ++ c.args.entry.outs = search rules in
+    let used : c.take_names.new.consumed.keys ≡ c.self.inside.consumed.keys ++ c.args.entry.ins = search rules in
     let ins_pass : consume c.self.inside.wires.keys c.self.inside.consumed.keys c.args.entry.ins ≡ None = search rules in
     let outs_pass : define c.self.inside.wires.keys c.args.entry.outs ≡ None = search rules in
-    let wired : map gate_of c.add_wires.new.gates.items ≡ map gate_of c.self.inside.wired.items ++ gate_at c.args.entry.kind c.wire_numbers-ins.result (length c.self.inside.wires.keys) = search rules in
+    let wired : map gate_of c.keep_line.new.wired.items ≡ map gate_of c.self.inside.wired.items ++ gate_at c.args.entry.kind c.wire_numbers-ins.result (length c.self.inside.wires.keys) = search rules in
     added c.self.inside _ c.args.entry c.wire_numbers-ins.result c.self.invariant (record {
       entries = entries;
       wires = wires;
@@ -30,12 +30,12 @@ invariant_of-self-then-is_gate c =
 
 pub invariant_of-self-else-is_gate : goal.invariant_of-self-else-is_gate
 invariant_of-self-else-is_gate c =
-    let entries : c.push.new.self.items ≡ c.self.inside.entries.items ++ c.args.entry ∷ [] = search rules in
-    let wires : c.define_all.new.wires.keys ≡ c.self.inside.wires.keys ++ c.args.entry.outs = search rules in
-    let used : c.consume_all.new.consumed.keys ≡ c.self.inside.consumed.keys ++ c.args.entry.ins = search rules in
+    let entries : c.keep_line.new.entries.items ≡ c.self.inside.entries.items ++ c.args.entry ∷ [] = search rules in
+    let wires : c.take_names.new.wires.keys ≡ c.self.inside.wires.keys ++ c.args.entry.outs = search rules in
+    let used : c.take_names.new.consumed.keys ≡ c.self.inside.consumed.keys ++ c.args.entry.ins = search rules in
     let ins_pass : consume c.self.inside.wires.keys c.self.inside.consumed.keys c.args.entry.ins ≡ None = search rules in
     let outs_pass : define c.self.inside.wires.keys c.args.entry.outs ≡ None = search rules in
-    let wired : map gate_of c.add_wires.new.gates.items ≡ map gate_of c.self.inside.wired.items ++ gate_at c.args.entry.kind c.wire_numbers-ins.result (length c.self.inside.wires.keys) = search rules in
+    let wired : map gate_of c.keep_line.new.wired.items ≡ map gate_of c.self.inside.wired.items ++ gate_at c.args.entry.kind c.wire_numbers-ins.result (length c.self.inside.wires.keys) = search rules in
     added c.self.inside _ c.args.entry c.wire_numbers-ins.result c.self.invariant (record {
       entries = entries;
       wires = wires;
