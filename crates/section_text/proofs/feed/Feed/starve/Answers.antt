@@ -1,0 +1,11 @@
+use Rattle.std.proofs.Common.{rules}
+use Rattle.section_text.proofs.feed.Feed.starve.Goals as goal
+
+pub invariant_of-self : goal.invariant_of-self
+invariant_of-self c = search
+
+pub returns-clause-answer : goal.returns-clause-answer
+returns-clause-answer c = search rules
+
+pub returns-clause-stopped : goal.returns-clause-stopped
+returns-clause-stopped c = search rules

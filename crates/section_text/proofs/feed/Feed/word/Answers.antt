@@ -1,0 +1,5 @@
+use Rattle.std.proofs.Common.{rules}
+use Rattle.section_text.proofs.feed.Feed.word.Goals as goal
+
+pub returns : goal.returns
+returns c = search rules

@@ -1,0 +1,8 @@
+use Rattle.std.proofs.Common.{rules}
+use Rattle.section_text.proofs.names.Names.as_slice.Goals as goal
+
+pub returns-clause-names : goal.returns-clause-names
+returns-clause-names c = search
+
+pub returns-clause-few : goal.returns-clause-few
+returns-clause-few c = search rules
