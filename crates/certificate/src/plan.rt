@@ -4,7 +4,7 @@ ghost use Rattle.std.specs.List.{list_any, flat_map};
 ghost use Rattle.bbm_rule.specs.declared.block.Cell.{Cell as SomeCell};
 ghost use Rattle.circuit.specs.Bridge.{circuit_of};
 ghost use Rattle.circuit.specs.Meaning.{wire_of, wires};
-ghost use Rattle.pattern.specs.Layout.{rectangle_cells};
+ghost use Rattle.pattern.specs.Layout.{rectangle_cells, in_cells, in_rectangles};
 ghost use Rattle.module_box.specs.Boxes.{in_box};
 ghost use Rattle.module_box.specs.Locals.{circuit_wire, is_among};
 ghost use Rattle.certificate.specs.Jobs.{end_demand, place_in, start_signal};
@@ -83,6 +83,33 @@ fn cells_of_mirrors(alloc: Global, mirrors: &[Rectangle]) -> Result<Vec<Cell>, A
     Ok(cells)
 }
 
+// The set of the cells of rectangles.
+fn index_mirrors(alloc: Global, mirrors: &[Rectangle]) -> Result<IndexSet<Cell>, AllocError>
+    requires { All (λ r. (r.x + r.w ≤ 512) × (r.y + r.h ≤ 512)) mirrors.now }
+    ensures { IfOk result (λ index. (c : SomeCell) → list_any (same_cell c) index.keys ≡ in_rectangles mirrors.now c.x c.y) }
+{
+    let cells = cells_of_mirrors(alloc, mirrors)?;
+    let index = index_cells(alloc, cells.as_slice())?;
+    Ok(index)
+}
+
+// The sets of the cells of a layout's mirrors, of its balls and of its wastes.
+fn index_lists(
+    alloc: Global,
+    layout: &Layout,
+) -> Result<(IndexSet<Cell>, IndexSet<Cell>, IndexSet<Cell>), AllocError>
+    ensures mirrors { IfOk result (λ sets. (c : SomeCell) → list_any (same_cell c) sets.0.keys ≡ in_rectangles layout.now.mirrors c.x c.y) }
+    ensures balls { IfOk result (λ sets. (c : SomeCell) → list_any (same_cell c) sets.1.keys ≡ in_cells layout.now.balls c.x c.y) }
+    ensures wastes { IfOk result (λ sets. (c : SomeCell) → list_any (same_cell c) sets.2.keys ≡ in_cells layout.now.wastes c.x c.y) }
+{
+    // All that the layout has lies inside its size.
+    let _size = layout.size();
+    let mirrors = index_mirrors(alloc, layout.mirrors())?;
+    let balls = index_cells(alloc, layout.balls())?;
+    let wastes = index_cells(alloc, layout.wastes())?;
+    Ok((mirrors, balls, wastes))
+}
+
 /// The number among a module's wires of a wire of the circuit that the module knows.
 pub(crate) fn local_wire(locals: &Locals, wire: WireNo) -> u16
     requires { IsTrue (is_among locals.now.circuit_wires wire) }
@@ -120,14 +147,9 @@ impl<'a> Plan<'a> {
     ) -> Result<Plan<'a>, AllocError>
         ensures { IfOk result (λ plan. plan ≡ record { circuit = circuit.now; layout = layout.now }) }
     {
-        // All that the layout has lies inside its size.
-        let _size = layout.size();
-        let mirrors = cells_of_mirrors(alloc, layout.mirrors())?;
-        let mirrors = index_cells(alloc, mirrors.as_slice())?;
-        let balls = index_cells(alloc, layout.balls())?;
-        let wastes = index_cells(alloc, layout.wastes())?;
         let ins = index_ports(alloc, layout.ins())?;
         let outs = index_ports(alloc, layout.outs())?;
+        let (mirrors, balls, wastes) = index_lists(alloc, layout)?;
         Ok(Plan {
             circuit,
             layout,
