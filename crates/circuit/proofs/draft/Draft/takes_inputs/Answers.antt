@@ -1,0 +1,5 @@
+use Rattle.std.proofs.Common.{rules}
+use Rattle.circuit.proofs.draft.Draft.takes_inputs.Goals as goal
+
+pub returns : goal.returns
+returns c = search rules
