@@ -46,18 +46,18 @@ no_code : (b : Bool) → code_where (not b) 3 ≡ None → b ≡ true
 no_code true e = refl
 no_code false e = absurd cc
 
-in_known : (ins outs : List (List ℕ)) (q : Port) → name_fault (Some (record { ins = ins; outs = outs })) (In q) ≡ None → has ins q.name ≡ true
+pub in_known : (ins outs : List (List ℕ)) (q : Port) → name_fault (Some (record { ins = ins; outs = outs })) (In q) ≡ None → has ins q.name ≡ true
 unfolding name_fault
 in_known ins outs q e = no_code (has ins q.name) e
 
 -- an input cell among the lines of a layout
-in_stands : (p : Pattern) (i : ℕ) (q : Port) → slice_get p.ins i ≡ Some q → slice_get (parts_of p) (length (map Mirror p.mirrors) + (length (map Ball p.balls) + i)) ≡ Some (In q)
+pub in_stands : (p : Pattern) (i : ℕ) (q : Port) → slice_get p.ins i ≡ Some q → slice_get (parts_of p) (length (map Mirror p.mirrors) + (length (map Ball p.balls) + i)) ≡ Some (In q)
 in_stands p i q e =
     skipped (map Mirror p.mirrors) (map Ball p.balls ++ (map In p.ins ++ (map Out p.outs ++ map Waste p.wastes))) (length (map Mirror p.mirrors)) (length (map Ball p.balls) + i) refl
     ∙ skipped (map Ball p.balls) (map In p.ins ++ (map Out p.outs ++ map Waste p.wastes)) (length (map Ball p.balls)) i refl
     ∙ kept (map In p.ins) (map Out p.outs ++ map Waste p.wastes) i (In q) (slice_get-map In p.ins i ∙ ap (option_map In) e)
 
-at_place : {A : Type 0} (P : A → Type 0) (xs : List A) (k : ℕ) (a : A) → All P xs → slice_get xs k ≡ Some a → P a
+pub at_place : {A : Type 0} (P : A → Type 0) (xs : List A) (k : ℕ) (a : A) → All P xs → slice_get xs k ≡ Some a → P a
 at_place P xs k a all e = subst P (get_or_from_slice_get xs k a a e) (all k a (slice_get_within xs k a e))
 
 pub read_layout-names : ReadLayoutHasInputNames

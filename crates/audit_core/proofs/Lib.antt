@@ -14,5 +14,6 @@ pub mod JobSignals
 pub mod WholeRuns
 pub mod InputRuns
 pub mod Examples
+mod PortNames
 pub mod YesMeansCorrect
 pub mod NamedPorts

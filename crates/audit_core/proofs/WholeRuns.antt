@@ -288,14 +288,15 @@ looks_same p value now then same looks = record {
 }
 
 pub correct : AcceptedIsCorrect
-correct lines p ms jobs named all = record {
+correct lines p ms jobs named ports all = record {
+  named = ports;
   implements = λ inputs.
       let found = has_valuation (netlist_of lines) inputs all.bundle.ordered all.bundle.forward in
       record {
         values = found.0;
         satisfied = found.1;
-        looks = looks_same p (values_by_name (circuit_of lines) found.0) _ _ (λ x y. inputs_decide lines p inputs found.0 p.size.steps x y named found.1)
-            (ends lines p ms jobs inputs found.0 all found.1 (all_times lines p ms jobs inputs found.0 p.size.steps all found.1 (omega arith)));
+        looks = λ v s. looks_same p (values_by_name (circuit_of lines) v) _ _ (λ x y. inputs_decide lines p inputs v p.size.steps x y named s)
+            (ends lines p ms jobs inputs v all s (all_times lines p ms jobs inputs v p.size.steps all s (omega arith)));
       };
   stays = λ inputs t h x y live.
       let found = has_valuation (netlist_of lines) inputs all.bundle.ordered all.bundle.forward in

@@ -1,6 +1,6 @@
 -- From a yes to the whole pattern
 use Rattle.std.proofs.Common.{◌≡◌, [], None, Some, List, subst, take}
-use Rattle.circuit.specs.Bridge.{circuit_of, input_names, netlist_of}
+use Rattle.circuit.specs.Bridge.{input_names, netlist_of}
 use Rattle.circuit.specs.Meaning.{AreForward, AreOrdered}
 use Rattle.circuit.specs.Rules.{defined}
 use Rattle.pattern.specs.Lines.{AreGoodAfter, AreNamed, parts_of, size_fault}
@@ -13,6 +13,7 @@ use Rattle.audit_core.specs.Implements.{IsCorrect}
 use Rattle.audit_core.specs.Verdicts.{IsVerdict}
 use Rattle.audit_core.specs.declared.verdict.Verdict.TheVariants.{Yes}
 use Rattle.audit_core.proofs.InputRuns.{read_layout-names}
+use Rattle.audit_core.proofs.PortNames.{read_layout-is_named}
 use Rattle.audit_core.proofs.WholeRuns.{correct}
 
 -- what a certificate says of its circuit, its layout and its modules
@@ -27,9 +28,9 @@ pub record IsRead (s : CertState) (size : Size) : Type 0 where
   pub named : AreNamed (Some (port_names_of s.circuit)) (parts_of s.layout)
 
 pub yes_means-correct : (s : CertState) (size : Size) (jobs : List JobState) → IsRead s size → AreOwnJobs s jobs → IsVerdict (setting s) (modules s) jobs Yes →
-    IsCorrect (circuit_of s.circuit) s.layout
+    IsCorrect s.circuit s.layout
 unfolding IsVerdict
-yes_means-correct s size jobs is own accepted = correct s.circuit s.layout (modules s) jobs (read_layout-names s.circuit s.layout is.inputs is.named) (record {
+yes_means-correct s size jobs is own accepted = correct s.circuit s.layout (modules s) jobs (read_layout-names s.circuit s.layout is.inputs is.named) (read_layout-is_named s.circuit s.layout is.named) (record {
   bundle = record {
     ordered = is.ordered;
     forward = is.forward;

@@ -15,7 +15,7 @@ use Rattle.certificate.specs.Jobs.{JobState, AreJobsOf}
 use Rattle.certificate.specs.Modules.{AreModules}
 use Rattle.certificate.specs.Rules.{whole}
 use Rattle.local_run.specs.Runs.{local_run}
-use Rattle.audit_core.specs.Implements.{IsCorrect, LooksAsAsked, run_under}
+use Rattle.audit_core.specs.Implements.{IsCorrect, IsNamed, LooksAsAsked, run_under}
 use Rattle.audit_core.specs.Verdicts.{Accepts}
 
 -- What is known of a bundle that was read: the lines of its circuit, its layout, its modules and their jobs. `Circuit::gates`,
@@ -76,17 +76,22 @@ abbrev pub ReadLayoutHasInputNames : Type 0
 ReadLayoutHasInputNames = (lines : List Entry) (p : Pattern) → take (netlist_of lines).given (defined lines) ≡ input_names lines →
     AreNamed (Some (record { ins = input_names lines; outs = output_names lines })) (parts_of p) → HasInputNames lines p
 
--- Then the run depends on the values of the inputs alone: it is that in which just the input cells begin whose input is true.
+-- All its ports are named as the inputs and outputs then.
+abbrev pub ReadLayoutIsNamed : Type 0
+ReadLayoutIsNamed = (lines : List Entry) (p : Pattern) →
+    AreNamed (Some (record { ins = input_names lines; outs = output_names lines })) (parts_of p) → IsNamed lines p
+
+-- Where input cells have the names of inputs, the run depends on the values of the inputs alone: it is that in which just the input cells begin whose input is true.
 abbrev pub InputsDecideTheRun : Type 0
 InputsDecideTheRun = (lines : List Entry) (p : Pattern) (inputs v : Valuation) (t : ℕ) (x y : ℤ) → HasInputNames lines p →
     Satisfies (netlist_of lines) inputs v → run_under (circuit_of lines) p v t x y ≡ run_under (circuit_of lines) p inputs t x y
 
 -- ---- the whole
 
--- so what is accepted is correct, where input cells have the names of inputs
+-- so what is accepted is correct, where the ports have the names of inputs and outputs
 abbrev pub AcceptedIsCorrect : Type 0
 AcceptedIsCorrect = (lines : List Entry) (p : Pattern) (ms : List ModuleLines) (jobs : List JobState) →
-    HasInputNames lines p → IsAcceptedBundle lines p ms jobs → IsCorrect (circuit_of lines) p
+    HasInputNames lines p → IsNamed lines p → IsAcceptedBundle lines p ms jobs → IsCorrect lines p
 
 -- ---- some bundle with an odd time is accepted, so the laws are not about nothing
 

@@ -1,15 +1,30 @@
 -- What a yes promises: the layout computes the circuit.
 --
--- It is said in words that stand in four other files. Read first, in this order: the plane, a step and a run
+-- It is said in words that stand in five other files. Read first, in this order: the plane, a step and a run
 -- (bbm_rule/specs/Plane.antt); what a layout says, and the plane at time 0 and at time t (pattern/specs/Layout.antt); the rows of
--- the gates (circuit/specs/Gates.antt); which valuations satisfy a circuit (circuit/specs/Meaning.antt).
-use Rattle.std.specs.Prelude.{◌≡◌, ℕ, ℤ, ◌≤◌, Bool, List, slice_get, Some, IsTrue, IsFalse}
+-- the gates (circuit/specs/Gates.antt); which valuations satisfy a circuit (circuit/specs/Meaning.antt); the circuit that lines
+-- make, and the names of its inputs and outputs (circuit/specs/Bridge.antt).
+use Rattle.std.specs.Prelude.{◌≡◌, ℕ, ℤ, ◌≤◌, Bool, List, map, slice_get, Some, IsTrue, IsFalse}
 use Rattle.std.specs.List.{list_any}
 use Rattle.bbm_rule.specs.Plane.{State}
+use Rattle.section_text.specs.Words.{has}
+use Rattle.circuit.specs.Bridge.{circuit_of, input_names, output_names}
 use Rattle.circuit.specs.Meaning.{Circuit, Valuation, Satisfies, values_by_name}
+use Rattle.circuit.specs.declared.entry.Entry.{Entry}
 use Rattle.pattern.specs.Layout.{Pattern, is_at, in_cells, in_rectangles, plane_at}
 use Rattle.pattern.specs.Run.{StaysInside}
 use Rattle.pattern.specs.declared.parts.Port.{Port}
+
+-- ---- names
+
+-- each port has one of these names, and each of these names has a port at least
+abbrev pub HaveNames : List Port → List (List ℕ) → Type 0
+HaveNames ports names = (n : List ℕ) → has (map (λ q. q.name) ports) n ≡ has names n
+
+-- the input cells have the names of the inputs, and the output cells those of the outputs
+pub record IsNamed (lines : List Entry) (p : Pattern) : Type 0 where
+  pub ins : HaveNames p.ins (input_names lines)
+  pub outs : HaveNames p.outs (output_names lines)
 
 -- ---- one run
 
@@ -31,18 +46,20 @@ run_under c p v t = plane_at p (values_by_name c v) t
 
 -- ---- all runs
 
--- The inputs have these values. Then the circuit has a valuation, and after the layout's steps the plane that began with the true
--- inputs looks as asked under it.
+-- The inputs have these values. Then some valuation satisfies the circuit, and under each that does, the plane that began with the
+-- true inputs looks as asked after the layout's steps.
 pub record Computes (c : Circuit) (p : Pattern) (inputs : Valuation) : Type 0 where
   pub values : Valuation
   pub satisfied : Satisfies c.netlist inputs values
-  pub looks : LooksAsAsked p (values_by_name c values) (run_under c p inputs p.size.steps)
+  pub looks : (v : Valuation) → Satisfies c.netlist inputs v → LooksAsAsked p (values_by_name c v) (run_under c p inputs p.size.steps)
 
 -- it does so for all values of the inputs
 abbrev pub Implements : Circuit → Pattern → Type 0
 Implements c p = (inputs : Valuation) → Computes c p inputs
 
--- and at no time up to the last step there is a live cell outside the rectangle
-pub record IsCorrect (c : Circuit) (p : Pattern) : Type 0 where
-  pub implements : Implements c p
-  pub stays : (inputs : Valuation) (t : ℕ) → t ≤ p.size.steps → StaysInside p.size (run_under c p inputs t)
+-- The layout computes the circuit of these lines: its ports are named as the inputs and outputs, it computes the circuit for all values
+-- of the inputs, and at no time up to the last step there is a live cell outside the rectangle.
+pub record IsCorrect (lines : List Entry) (p : Pattern) : Type 0 where
+  pub named : IsNamed lines p
+  pub implements : Implements (circuit_of lines) p
+  pub stays : (inputs : Valuation) (t : ℕ) → t ≤ p.size.steps → StaysInside p.size (run_under (circuit_of lines) p inputs t)

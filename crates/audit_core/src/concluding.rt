@@ -2,7 +2,6 @@
 ghost use Rattle.std.specs.Prelude.{◌≡◌, ◌++◌, ℕ, IfOk, OnOk, Ok, Err, Some, length, map};
 ghost use Rattle.std.specs.Arc.{arc_value};
 ghost use Rattle.std.specs.Option.{option_to_list};
-ghost use Rattle.circuit.specs.Bridge.{circuit_of};
 ghost use Rattle.pattern.specs.Lines.{AreNamed, parts_of};
 ghost use Rattle.border_match.specs.BorderFaults.{AreBorderFaultsOf};
 ghost use Rattle.audit_core.specs.Concluding.{AreOwnJobs, modules, port_names_of, setting};
@@ -40,7 +39,7 @@ pub fn conclude(
     ensures verdict { IfOk result (λ v. IsVerdict (setting cert.now) (modules cert.now) (map arc_value jobs.now) v) }
     ensures missing { (number : ℕ) → result ≡ Err (Missing number) → IsFirstMissing book.now (map arc_value jobs.now) number }
     ensures correct { result ≡ Ok Yes → AreNamed (Some (port_names_of cert.now.circuit)) (parts_of cert.now.layout) →
-        IsCorrect (circuit_of cert.now.circuit) cert.now.layout }
+        IsCorrect cert.now.circuit cert.now.layout }
 {
     // What is known of the layout, the circuit and the modules.
     let _size = cert.size();

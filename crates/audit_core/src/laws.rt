@@ -1,5 +1,5 @@
 //! Laws of books, each the contract of a function without a body.
-ghost use Rattle.audit_core.specs.HeadlineLaws.{AcceptedIsCorrect, EndsAsAsked, Example, InputsDecideTheRun, ReadLayoutHasInputNames, StartsAsJobs, StepsAsJobs};
+ghost use Rattle.audit_core.specs.HeadlineLaws.{AcceptedIsCorrect, EndsAsAsked, Example, InputsDecideTheRun, ReadLayoutHasInputNames, ReadLayoutIsNamed, StartsAsJobs, StepsAsJobs};
 ghost use Rattle.audit_core.specs.CoreLaws.{AcceptsOneForEach, DrawsEachOnce, EmptyWhereAllAreDrawn, EventsKeepWhatIsHeld, EventsReplay, HoldsHonestOwn, HoldsWhatWasAccepted, OnlyAcceptedChangesWhatIsHeld, VerdictIsOne};
 ghost use Rattle.audit_core.specs.Laws.{AcceptsItsOwn, BooksAgree, ClosedAnswersClosed, ClosedByItsHistory, DoublesWhatIsHeld, FullBookHoldsAll, HoldsWhatIsAccepted, HoldsNothingElse, KeepsWhatIsHeld, KnowsItsOwn, StaysBook, StaysReplayed};
 
@@ -89,10 +89,11 @@ pub fn accepted_is_correct()
     ensures { AcceptedIsCorrect }
 {}
 
-/// In a layout that was read with the names of the circuit's ports input cells have the names of inputs, and then the run depends
-/// on the values of the inputs alone.
+/// In a layout that was read with the names of the circuit's ports input cells have the names of inputs, and each input and each output
+/// has a cell. Then the run depends on the values of the inputs alone.
 pub fn inputs_decide_the_run()
     ensures named { ReadLayoutHasInputNames }
+    ensures all { ReadLayoutIsNamed }
     ensures decided { InputsDecideTheRun }
 {}
 

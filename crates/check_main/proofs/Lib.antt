@@ -7,3 +7,4 @@ mod Bundles
 mod Runs
 mod OneReport
 pub mod Closings
+pub mod YesIsRight

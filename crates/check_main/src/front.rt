@@ -1,7 +1,8 @@
 //! The whole program, over the words and the streams that it is given.
-ghost use Rattle.std.specs.Prelude.{◌≡◌, ◌≢◌, ◌<◌, ◌≤◌, ◌⊎◌, false, true, IfOk, IfErr, IsErrOf, OnOk, map};
+ghost use Rattle.std.specs.Prelude.{◌≡◌, ◌≢◌, ◌<◌, ◌≤◌, ◌⊎◌, false, true, IfOk, IfErr, IsErrOf, OnOk, Ok, map};
 ghost use Rattle.clap.specs.Words.{kind_of};
 ghost use Rattle.command_line.specs.CommandLine.{IsAccepted, AsksForHelp, asked_by};
+ghost use Rattle.check_main.specs.CheckText.{ReadsRightBundle};
 ghost use Rattle.check_main.specs.Commands.{IsAnswerTo};
 ghost use Rattle.check_main.specs.Status.{status_for, line_for, Says};
 ghost use Rattle.check_main.specs.Stream.{Answers, BreaksOff, GivesTooMuch};
@@ -65,6 +66,9 @@ where
         → Answers (IsAnswerTo (asked_by (map (λ s. s.now) words.entry.now)))
         (R.left reader.old) (R.left reader.new)
         (W.held writer.old) (W.held writer.new) Outcome.Yes }
+
+    ensures correct { IsAccepted (map (λ s. s.now) words.entry.now) → asked_by (map (λ s. s.now) words.entry.now) ≡ Request.Check → result ≡ 0
+        → ReadsRightBundle (R.left reader.old) (R.left reader.new) }
 
     ensures no { result ≡ 1 → Answers (IsAnswerTo (asked_by (map (λ s. s.now) words.entry.now)))
         (R.left reader.old) (R.left reader.new)
@@ -130,6 +134,7 @@ fn serve<T: Threads + Wait + Sync, R: Source, W: Sink>(
         (W.held writer.old) (W.held writer.new) }
     ensures unwritten { IfErr result (λ fault. fault ≢ CheckFault.Write → writer.new ≡ writer.old) }
     ensures missing { IsErrOf result CheckFault.Missing → asked.request ≡ Request.Check }
+    ensures correct { asked.request ≡ Request.Check → result ≡ Ok Outcome.Yes → ReadsRightBundle (R.left reader.old) (R.left reader.new) }
 {
     match asked.request {
         Request::Check => check_stream(rt, alloc, reader, writer, asked.workers, &OpenGate),

@@ -1,0 +1,202 @@
+-- A report with the outcome yes is a report on a right bundle.
+use Rattle.std.proofs.Common.{◌≡◌, ◌≤◌, ◌<◌, ℕ, ◌+◌, Bool, true, false, cond, eqb, List, [], ◌∷◌, ◌++◌, take, Option, Some, None, Result, Ok, Err, refl, sym, ap, subst, ◌∙◌, append_assoc, arith, inl, inr}
+use Rattle.std.specs.Prelude.{nat_lt}
+use Rattle.std.proofs.lemmas.List.{append-nil}
+use Rattle.std.proofs.lemmas.Bool.{ltb-false}
+use Rattle.section_text.specs.Codes.{or_else, code_where}
+use Rattle.section_text.specs.Words.{lines_of, words_of, rest_of}
+use Rattle.section_text.specs.Section.{unless, line_after, header_line, section_of, body_of}
+use Rattle.section_text.specs.Sections.{section_then, go_on, finished}
+use Rattle.section_text.specs.declared.fault.Refusal.{Refusal}
+use Rattle.section_text.specs.declared.section.Form.{Form}
+use Rattle.section_text.specs.declared.section.Form.TheVariants.{Header, Item, End}
+use Rattle.section_text.proofs.Good.{AreFaultless, IsFaultless, read_faultless}
+use Rattle.circuit.specs.Bridge.{AreGoodAfter, AreGood, circuit_of}
+use Rattle.circuit.specs.Entries.{rank_of}
+use Rattle.circuit.specs.Forms.{Line, form_of}
+use Rattle.circuit.specs.Grammars.{circuit_grammar}
+use Rattle.circuit.specs.Rules.{add_fault, gate_count, is_gate, last_rank, order_fault}
+use Rattle.circuit.specs.declared.entry.Entry.{Entry as CircuitLine}
+use Rattle.circuit.proofs.Bridging.{count_append, gates_are_ordered}
+use Rattle.circuit.proofs.Fitting.{entry_fits, no_gate_still, no_gate_yet}
+use Rattle.circuit.proofs.Naming.{inputs_are_first}
+use Rattle.circuit.proofs.Orders.{last_rank_push}
+use Rattle.pattern.specs.Grammars.{layout_grammar, layout_value}
+use Rattle.pattern.specs.Layout.{Pattern}
+use Rattle.pattern.specs.Lines as lines
+use Rattle.pattern.specs.declared.parts.Part.{Part}
+use Rattle.pattern.specs.declared.parts.Size.{Size}
+use Rattle.pattern.proofs.Named.{faultless_named}
+use Rattle.section_text.specs.Ports.{Named}
+use Rattle.certificate.specs.Grammars.{CertState, certificate_grammar, setting_of}
+use Rattle.certificate.specs.Entries.{modules_of}
+use Rattle.certificate.specs.declared.entry.Entry.{Entry}
+use Rattle.audit_core.specs.Concluding.{port_names_of}
+use Rattle.audit_core.specs.Implements.{IsCorrect}
+use Rattle.audit_core.specs.Verdicts.{IsVerdict}
+use Rattle.audit_core.specs.declared.verdict.Verdict.{Verdict}
+use Rattle.audit_core.specs.declared.verdict.Verdict.TheVariants as verdict
+use Rattle.audit_core.proofs.YesMeansCorrect.{IsRead, yes_means-correct}
+use Rattle.check_main.specs.Answers.{Answered}
+use Rattle.check_main.specs.BundleText.{Bundle, bundle_of, setting_by}
+use Rattle.check_main.specs.CheckText.{IsReportOf, IsRightBundle, SaysReport, verdict_outcome}
+use Rattle.check_main.specs.declared.outcome.Outcome.{Outcome}
+use Rattle.check_main.specs.declared.outcome.Outcome.TheVariants.{Yes, No, Refused}
+
+-- ---- the lines of a circuit that is read are good
+
+first_none : (a b : Option ℕ) → or_else a b ≡ None → (a ≡ None) × (b ≡ None)
+first_none None b e = (refl, e)
+first_none (Some code) b e = absurd cc
+
+no_code : (b : Bool) (code : ℕ) → code_where b code ≡ None → b ≡ false
+no_code true code e = absurd cc
+no_code false code e = refl
+
+-- where the last line is an input, there is no gate
+abbrev HasNoGateYet : List CircuitLine → Type 0
+HasNoGateYet before = cond (eqb (last_rank before) 0) (gate_count before) 0 ≡ 0
+
+record MoreGood (before rows : List CircuitLine) : Type 0 where
+  pub more : List CircuitLine
+  pub rows_are : rows ≡ before ++ more
+  pub good : AreGoodAfter before more
+
+still : (before : List CircuitLine) (r : CircuitLine) → last_rank before ≤ rank_of r.kind → HasNoGateYet before → HasNoGateYet (before ++ r ∷ [])
+still before r h e =
+    let plus : ℕ = gate_count before + cond (is_gate r.kind) 1 0 in
+    let more : gate_count (before ++ r ∷ []) ≡ plus = count_append (λ (r : CircuitLine). is_gate r.kind) before (r ∷ []) ∙ omega arith in
+    ap (λ (k : ℕ). cond (eqb k 0) (gate_count (before ++ r ∷ [])) 0) (last_rank_push before r)
+    ∙ ap (λ (n : ℕ). cond (eqb (rank_of r.kind) 0) n 0) more
+    ∙ no_gate_still r.kind (last_rank before) (gate_count before) h e
+
+ok_of : (x y : Unit {0} × List CircuitLine) → ◌≡◌ {A = Result (Unit {0} × List CircuitLine) Refusal} (Ok x) (Ok y) → x ≡ y
+ok_of x y e = cc
+
+unless_ok : (n : ℕ) (o : Option ℕ) (r : Result (Unit {0} × List CircuitLine) Refusal) (y : Unit {0} × List CircuitLine) → unless n o r ≡ Ok y → (o ≡ None) × (r ≡ Ok y)
+unless_ok n None r y e = (refl, e)
+unless_ok n (Some code) r y e = absurd cc
+
+line_good : (words : List (List ℕ)) (ls : List (List ℕ)) (before : List CircuitLine) (n : ℕ) (rows : List CircuitLine) (o : Option Line) → form_of words ≡ o → HasNoGateYet before
+    → line_after circuit_grammar tt before n (λ i. body_of circuit_grammar tt (before ++ i ∷ []) (n + 1) ls) o ≡ Ok (tt, rows)
+    → ((i : CircuitLine) → HasNoGateYet (before ++ i ∷ []) → body_of circuit_grammar tt (before ++ i ∷ []) (n + 1) ls ≡ Ok (tt, rows) → MoreGood (before ++ i ∷ []) rows) → MoreGood before rows
+unfolding AreGoodAfter
+line_good words ls before n rows None f none e rec = absurd cc
+line_good words ls before n rows (Some (Header k)) f none e rec = absurd cc
+line_good words ls before n rows (Some (Item r)) f none e rec =
+    let passed = unless_ok n (or_else (order_fault before r) (add_fault before r)) (body_of circuit_grammar tt (before ++ r ∷ []) (n + 1) ls) (tt, rows) e in
+    let codes = first_none (order_fault before r) (add_fault before r) passed.0 in
+    let h : last_rank before ≤ rank_of r.kind = ltb-false (rank_of r.kind) (last_rank before) (no_code (nat_lt (rank_of r.kind) (last_rank before)) 6 codes.0) in
+    let t = rec r (still before r h none) passed.1 in
+    record {
+      more = r ∷ t.more;
+      rows_are = t.rows_are ∙ append_assoc before (r ∷ []) t.more;
+      good = (record { adds = codes.1; fits = entry_fits words r f; inputs_first = no_gate_yet r.kind (last_rank before) (gate_count before) h none }, t.good);
+    }
+line_good words ls before n rows (Some End) f none e rec =
+    let passed = unless_ok n (circuit_grammar.end_fault tt before) (Ok (tt, before)) (tt, rows) e in
+    record { more = []; rows_are = sym (ap (λ (p : Unit {0} × List CircuitLine). p.1) (ok_of (tt, before) (tt, rows) passed.1)) ∙ sym (append-nil before); good = tt }
+
+body_good : (ls : List (List ℕ)) (before : List CircuitLine) (n : ℕ) (rows : List CircuitLine) → HasNoGateYet before → body_of circuit_grammar tt before n ls ≡ Ok (tt, rows) → MoreGood before rows
+unfolding body_of
+body_good [] before n rows none e = absurd cc
+body_good (l ∷ ls) before n rows none e = line_good (words_of l) ls before n rows (form_of (words_of l)) refl none e (λ i still e. body_good ls (before ++ i ∷ []) (n + 1) rows still e)
+
+header_good : (ls : List (List ℕ)) (n : ℕ) (rows : List CircuitLine) (o : Option Line) → header_line circuit_grammar n (λ k. body_of circuit_grammar k [] (n + 1) ls) o ≡ Ok (tt, rows) → AreGood rows
+header_good ls n rows None e = absurd cc
+header_good ls n rows (Some (Item i)) e = absurd cc
+header_good ls n rows (Some End) e = absurd cc
+header_good ls n rows (Some (Header k)) e =
+    let t = body_good ls [] (n + 1) rows refl (unless_ok n None (body_of circuit_grammar tt [] (n + 1) ls) (tt, rows) e).1 in
+    subst (AreGoodAfter []) (sym t.rows_are) t.good
+
+circuit_good : (n : ℕ) (ls : List (List ℕ)) (h : Unit {0}) (rows : List CircuitLine) → section_of circuit_grammar n ls ≡ Ok (h, rows) → AreGood rows
+unfolding section_of
+circuit_good n [] h rows e = absurd cc
+circuit_good n (l ∷ ls) h rows e = header_good ls n rows (form_of (words_of l)) e
+
+-- ---- and so are those of a layout
+
+laid_out : (ports : Option Named) (s : Size) (before parts : List Part) → AreFaultless (layout_grammar ports) s before parts → lines.AreGoodAfter s before parts
+unfolding lines.part_fault lines.line_fault
+laid_out ports s before [] good = tt
+laid_out ports s before (part ∷ parts) good =
+    let codes = first_none (lines.line_fault ports before part) (lines.cell_fault s before part) good.0 in
+    let rest = first_none (lines.order_fault before part) (or_else (lines.limit_fault part) (lines.name_fault ports part)) codes.0 in
+    ((first_none (lines.limit_fault part) (lines.name_fault ports part) rest.1).0, codes.1, laid_out ports s (before ++ part ∷ []) parts good.1)
+
+-- ---- the sections of a bundle
+
+record IsReadBundle (b : Bundle) : Type 0 where
+  pub circuit : AreGood b.circuit
+  pub layout : IsFaultless (layout_grammar (Some (port_names_of b.circuit))) b.size b.parts
+
+abbrev last : List ℕ → List CircuitLine → Size → List Part → ℕ → List Entry → ℕ → List (List ℕ) → Result Bundle Refusal
+last text circuit size parts version entries k rest = finished k rest (rest_of text) (record { circuit = circuit; size = size; parts = parts; version = version; entries = entries })
+
+-- what goes on with a value that was read, was read
+record WentOn {H I : Type 0} {B : Type 0} (read : Result (H × List I) Refusal) (next : H → List I → Result B Refusal) (b : B) : Type 0 where
+  pub header : H
+  pub items : List I
+  pub was : read ≡ Ok (header, items)
+  pub then : next header items ≡ Ok b
+
+went_on : {H I : Type 0} {B : Type 0} (read : Result (H × List I) Refusal) (next : H → List I → Result B Refusal) (b : B) → go_on read next ≡ Ok b → WentOn read next b
+went_on (Ok read) next b e = record { header = read.0; items = read.1; was = refl; then = e }
+went_on (Err refusal) next b e = absurd cc
+
+is_finished : {B : Type 0} (n : ℕ) (ls : List (List ℕ)) (rest : List ℕ) (value b : B) → finished n ls rest value ≡ Ok b → value ≡ b
+is_finished n [] [] value b e = cc
+is_finished n [] (c ∷ rest) value b e = absurd cc
+is_finished n (l ∷ ls) rest value b e = absurd cc
+
+bundle_good : (text : List ℕ) (b : Bundle) → bundle_of text ≡ Ok b → IsReadBundle b
+unfolding bundle_of
+bundle_good text b e =
+    let c = went_on (section_of circuit_grammar 0 (lines_of text)) _ b e in
+    let l = went_on (section_of (layout_grammar (Some (port_names_of c.items))) _ _) _ b c.then in
+    let k = went_on (section_of (certificate_grammar (setting_by c.items l.header l.items)) _ _) _ b l.then in
+    subst IsReadBundle (is_finished _ _ _ _ b k.then) (record {
+      circuit = circuit_good 0 (lines_of text) c.header c.items c.was;
+      layout = read_faultless (layout_grammar (Some (port_names_of c.items))) _ _ l.header l.items l.was;
+    })
+
+-- ---- a yes
+
+is_yes : (v : Verdict) → Yes ≡ verdict_outcome v → v ≡ verdict.Yes
+is_yes verdict.Yes e = refl
+is_yes (verdict.No lines) e = absurd cc
+
+said_yes : (text : List ℕ) (b : Bundle) (output : List ℕ) → bundle_of text ≡ Ok b → SaysReport b output Yes → IsRightBundle text
+said_yes text b output reads says =
+    let good = bundle_good text b reads in
+    let c : CertState = says.certificate in
+    let same = says.its_own in
+    let circuit : AreGood c.circuit = subst AreGood (sym same.circuit) good.circuit in
+    let whole : IsFaultless (layout_grammar (Some (port_names_of c.circuit))) c.layout.size (lines.parts_of c.layout) =
+        subst (λ (q : Size × List Part). IsFaultless (layout_grammar (Some (port_names_of c.circuit))) q.0 q.1) (sym same.layout)
+        (subst (λ (cs : List CircuitLine). IsFaultless (layout_grammar (Some (port_names_of cs))) b.size b.parts) (sym same.circuit) good.layout) in
+    let gates = gates_are_ordered c.circuit circuit in
+    let v = says.is_verdict in
+    let judged = subst (λ (w : Verdict). IsVerdict (setting_of c.circuit c.layout) (modules_of c.entries) v.jobs w) (is_yes says.verdict says.ends) v.judged in
+    let correct = yes_means-correct c c.layout.size v.jobs (record {
+      ordered = gates.0;
+      forward = gates.1;
+      same = refl;
+      limits = whole.header;
+      laid_out = laid_out (Some (port_names_of c.circuit)) c.layout.size [] (lines.parts_of c.layout) whole.each;
+      are_modules = v.good;
+      inputs = inputs_are_first c.circuit circuit;
+      named = faultless_named (Some (port_names_of c.circuit)) c.layout.size (lines.parts_of c.layout) whole;
+    }) v.are_jobs judged in
+    record { bundle = b; reads = reads; layout = c.layout; lines = same.layout; correct = subst (λ (cs : List CircuitLine). IsCorrect (circuit_of cs) c.layout) same.circuit correct }
+
+by_reading : (text : List ℕ) (output : List ℕ) (read : Result Bundle Refusal) → bundle_of text ≡ read → Answered SaysReport read output Yes → IsRightBundle text
+by_reading text output (Ok b) e says = said_yes text b output e says
+by_reading text output (Err refusal) e told = absurd (not_refused told.1)
+  where
+    not_refused : Yes ≡ Refused → ⊥
+    not_refused e = cc
+
+pub yes_is_right : (text output : List ℕ) → IsReportOf text output Yes → IsRightBundle text
+yes_is_right text output says = by_reading text output (bundle_of text) refl says
