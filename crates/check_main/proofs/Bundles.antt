@@ -30,13 +30,11 @@ use Rattle.check_main.specs.Answers.{Answered}
 use Rattle.check_main.specs.BundleReading.{TellsRefusal, bundle_by}
 use Rattle.audit_core.specs.Concluding.{port_names_of}
 use Rattle.check_main.specs.BundleText.{Bundle, bundle_of, in_port, out_port, setting_by}
-use Rattle.audit_core.specs.Implements.{IsCorrect}
-use Rattle.check_main.specs.CheckText.{IsRightBundle, SaysReport}
+use Rattle.check_main.specs.CheckText.{SaysReport}
 use Rattle.check_main.specs.ModulesText.{SaysModules}
 use Rattle.check_main.specs.declared.fault.CheckFault.{CheckFault}
 use Rattle.check_main.specs.declared.outcome.Answered.{Answered as Answer}
 use Rattle.check_main.specs.declared.outcome.Outcome.{Outcome}
-use Rattle.check_main.specs.declared.outcome.Outcome.TheVariants as outcomes
 
 -- ---- the ports of a layout, by its lines
 
@@ -168,11 +166,3 @@ refusal_answers says read fault output outcome fails told =
 
 pub bundle_answers : (says : Bundle → List ℕ → Outcome → Type 0) (read : Result Bundle Refusal) (cert : CertState) (output : List ℕ) (outcome : Outcome) → read ≡ Ok (bundle_by cert) → says (bundle_by cert) output outcome → Answered says read output outcome
 bundle_answers says read cert output outcome was_read said = subst (λ r. Answered says r output outcome) (sym was_read) said
-
--- ---- what a yes means
-
-pub refused_not_yes : outcomes.Refused ≡ outcomes.Yes → ⊥
-refused_not_yes e = cc
-
-pub right_bundle : (text : List ℕ) (c : CertState) → bundle_of text ≡ Ok (bundle_by c) → IsCorrect (circuit_of c.circuit) c.layout → IsRightBundle text
-right_bundle text c reads correct = record { bundle = bundle_by c; reads = reads; layout = c.layout; lines = refl; correct = correct }

@@ -7,4 +7,6 @@ mod Bundles
 mod Runs
 mod OneReport
 pub mod Closings
+mod Designs
+mod FourthLines
 pub mod YesIsRight

@@ -29,8 +29,3 @@ value_or d (Err e) = d
 pub same_ok : {A E : Type 0} (a b : A) (r : Result A E) → r ≡ Ok a → r ≡ Ok b → a ≡ b
 unfolding value_or
 same_ok a b r e f = sym (ap (value_or a) e) ∙ ap (value_or a) f
-
--- only a yes ends as one
-pub yes_verdict : (v : Verdict) → verdict_outcome v ≡ ended.Yes → v ≡ verdict.Yes
-yes_verdict verdict.Yes e = refl
-yes_verdict (verdict.No lines) e = absurd cc

@@ -1,7 +1,8 @@
--- A report with the outcome yes is a report on a right bundle.
+-- What is reported with a yes is right.
 use Rattle.std.proofs.Common.{◌≡◌, ◌≤◌, ◌<◌, ℕ, ◌+◌, Bool, true, false, cond, eqb, List, [], ◌∷◌, ◌++◌, take, Option, Some, None, Result, Ok, Err, refl, sym, ap, subst, ◌∙◌, append_assoc, arith, inl, inr}
 use Rattle.std.specs.Prelude.{nat_lt}
-use Rattle.std.proofs.lemmas.List.{append-nil}
+use Rattle.std.proofs.lemmas.List.{append-nil, append_cancel_left}
+use Rattle.std.specs.Io.KnownBytes.{Appends, Consumes, IsAtEnd}
 use Rattle.std.proofs.lemmas.Bool.{ltb-false}
 use Rattle.section_text.specs.Codes.{or_else, code_where}
 use Rattle.section_text.specs.Words.{lines_of, words_of, rest_of}
@@ -34,12 +35,19 @@ use Rattle.certificate.specs.declared.entry.Entry.{Entry}
 use Rattle.audit_core.specs.Concluding.{port_names_of}
 use Rattle.audit_core.specs.Implements.{IsCorrect}
 use Rattle.audit_core.specs.Verdicts.{IsVerdict}
+use Rattle.report.specs.ReportText.{report_lines}
 use Rattle.audit_core.specs.declared.verdict.Verdict.{Verdict}
 use Rattle.audit_core.specs.declared.verdict.Verdict.TheVariants as verdict
 use Rattle.audit_core.proofs.YesMeansCorrect.{IsRead, yes_means-correct}
 use Rattle.check_main.specs.Answers.{Answered}
 use Rattle.check_main.specs.BundleText.{Bundle, bundle_of, setting_by}
-use Rattle.check_main.specs.CheckText.{IsReportOf, IsRightBundle, SaysReport, verdict_outcome}
+use Rattle.check_main.specs.CheckText.{IsReportOf, SaysReport, verdict_outcome}
+use Rattle.check_main.specs.Design.{SaysDesign}
+use Rattle.check_main.specs.Headline.{GivesRight, IsRight, SaysYes, YesIsRight}
+use Rattle.check_main.specs.Laws.{FourthLineTells, YesMeansRight}
+use Rattle.check_main.specs.Stream.{ReadsAll, TakesPrefix}
+use Rattle.check_main.proofs.Designs.{design_said}
+use Rattle.check_main.proofs.FourthLines.{refusal_says_none, says_on, says_yes, yes_says}
 use Rattle.check_main.specs.declared.outcome.Outcome.{Outcome}
 use Rattle.check_main.specs.declared.outcome.Outcome.TheVariants.{Yes, No, Refused}
 
@@ -127,12 +135,10 @@ laid_out ports s before (part ∷ parts) good =
 
 -- ---- the sections of a bundle
 
-record IsReadBundle (b : Bundle) : Type 0 where
+record IsReadBundle (text : List ℕ) (b : Bundle) : Type 0 where
   pub circuit : AreGood b.circuit
   pub layout : IsFaultless (layout_grammar (Some (port_names_of b.circuit))) b.size b.parts
-
-abbrev last : List ℕ → List CircuitLine → Size → List Part → ℕ → List Entry → ℕ → List (List ℕ) → Result Bundle Refusal
-last text circuit size parts version entries k rest = finished k rest (rest_of text) (record { circuit = circuit; size = size; parts = parts; version = version; entries = entries })
+  pub says : (p : Pattern) → layout_value p ≡ (b.size, b.parts) → SaysDesign text b.circuit p
 
 -- what goes on with a value that was read, was read
 record WentOn {H I : Type 0} {B : Type 0} (read : Result (H × List I) Refusal) (next : H → List I → Result B Refusal) (b : B) : Type 0 where
@@ -150,15 +156,16 @@ is_finished n [] [] value b e = cc
 is_finished n [] (c ∷ rest) value b e = absurd cc
 is_finished n (l ∷ ls) rest value b e = absurd cc
 
-bundle_good : (text : List ℕ) (b : Bundle) → bundle_of text ≡ Ok b → IsReadBundle b
+bundle_good : (text : List ℕ) (b : Bundle) → bundle_of text ≡ Ok b → IsReadBundle text b
 unfolding bundle_of
 bundle_good text b e =
     let c = went_on (section_of circuit_grammar 0 (lines_of text)) _ b e in
     let l = went_on (section_of (layout_grammar (Some (port_names_of c.items))) _ _) _ b c.then in
     let k = went_on (section_of (certificate_grammar (setting_by c.items l.header l.items)) _ _) _ b l.then in
-    subst IsReadBundle (is_finished _ _ _ _ b k.then) (record {
+    subst (IsReadBundle text) (is_finished _ _ _ _ b k.then) (record {
       circuit = circuit_good 0 (lines_of text) c.header c.items c.was;
       layout = read_faultless (layout_grammar (Some (port_names_of c.items))) _ _ l.header l.items l.was;
+      says = λ p same. design_said text c.items (Some (port_names_of c.items)) _ p c.was (l.was ∙ ap Ok (sym same));
     })
 
 -- ---- a yes
@@ -167,8 +174,9 @@ is_yes : (v : Verdict) → Yes ≡ verdict_outcome v → v ≡ verdict.Yes
 is_yes verdict.Yes e = refl
 is_yes (verdict.No lines) e = absurd cc
 
-said_yes : (text : List ℕ) (b : Bundle) (output : List ℕ) → bundle_of text ≡ Ok b → SaysReport b output Yes → IsRightBundle text
-said_yes text b output reads says =
+-- what was judged so is right
+judged_yes : (text : List ℕ) (b : Bundle) (output : List ℕ) (outcome : Outcome) → bundle_of text ≡ Ok b → (says : SaysReport b output outcome) → says.verdict ≡ verdict.Yes → IsRight text
+judged_yes text b output outcome reads says is =
     let good = bundle_good text b reads in
     let c : CertState = says.certificate in
     let same = says.its_own in
@@ -178,7 +186,7 @@ said_yes text b output reads says =
         (subst (λ (cs : List CircuitLine). IsFaultless (layout_grammar (Some (port_names_of cs))) b.size b.parts) (sym same.circuit) good.layout) in
     let gates = gates_are_ordered c.circuit circuit in
     let v = says.is_verdict in
-    let judged = subst (λ (w : Verdict). IsVerdict (setting_of c.circuit c.layout) (modules_of c.entries) v.jobs w) (is_yes says.verdict says.ends) v.judged in
+    let judged = subst (λ (w : Verdict). IsVerdict (setting_of c.circuit c.layout) (modules_of c.entries) v.jobs w) is v.judged in
     let correct = yes_means-correct c c.layout.size v.jobs (record {
       ordered = gates.0;
       forward = gates.1;
@@ -189,14 +197,76 @@ said_yes text b output reads says =
       inputs = inputs_are_first c.circuit circuit;
       named = faultless_named (Some (port_names_of c.circuit)) c.layout.size (lines.parts_of c.layout) whole;
     }) v.are_jobs judged in
-    record { bundle = b; reads = reads; layout = c.layout; lines = same.layout; correct = subst (λ (cs : List CircuitLine). IsCorrect (circuit_of cs) c.layout) same.circuit correct }
+    record { circuit = b.circuit; layout = c.layout; says = good.says c.layout same.layout; correct = subst (λ (cs : List CircuitLine). IsCorrect cs c.layout) same.circuit correct }
 
-by_reading : (text : List ℕ) (output : List ℕ) (read : Result Bundle Refusal) → bundle_of text ≡ read → Answered SaysReport read output Yes → IsRightBundle text
-by_reading text output (Ok b) e says = said_yes text b output e says
-by_reading text output (Err refusal) e told = absurd (not_refused told.1)
-  where
-    not_refused : Yes ≡ Refused → ⊥
-    not_refused e = cc
+not_refused : Yes ≡ Refused → ⊥
+not_refused e = cc
 
-pub yes_is_right : (text output : List ℕ) → IsReportOf text output Yes → IsRightBundle text
-yes_is_right text output says = by_reading text output (bundle_of text) refl says
+by_outcome : (text : List ℕ) (output : List ℕ) (read : Result Bundle Refusal) → bundle_of text ≡ read → Answered SaysReport read output Yes → IsRight text
+by_outcome text output (Ok b) e says = judged_yes text b output Yes e says (is_yes says.verdict says.ends)
+by_outcome text output (Err refusal) e told = absurd (not_refused told.1)
+
+pub yes_is_right : YesMeansRight
+yes_is_right text output says = by_outcome text output (bundle_of text) refl says
+
+-- ---- the fourth line
+
+line_tells : (output : List ℕ) (outcome : Outcome) (read : Result Bundle Refusal) → Answered SaysReport read output outcome → (SaysYes output → outcome ≡ Yes) × (outcome ≡ Yes → SaysYes output)
+line_tells output outcome (Ok b) says = (
+  λ line. says.ends ∙ ap verdict_outcome (says_yes says.certificate says.verdict (subst SaysYes says.says line)),
+  λ is.
+      let v : says.verdict ≡ verdict.Yes = is_yes says.verdict (sym is ∙ says.ends) in
+      subst SaysYes (sym says.says) (subst (λ (w : Verdict). SaysYes (report_lines says.certificate w)) (sym v) (yes_says says.certificate)),
+)
+line_tells output outcome (Err refusal) told = (
+  λ line. absurd (refusal_says_none refusal (subst SaysYes told.0 line)),
+  λ is. absurd (not_refused (sym is ∙ told.1)),
+)
+
+pub fourth_line-tells : FourthLineTells
+fourth_line-tells text output outcome says = line_tells output outcome (bundle_of text) says
+
+by_line : (text output : List ℕ) (outcome : Outcome) → IsReportOf text output outcome → SaysYes output → IsRight text
+by_line text output outcome says line = yes_is_right text output (subst (λ o. IsReportOf text output o) ((fourth_line-tells text output outcome says).0 line) says)
+
+-- ---- over streams
+
+all_read : (left left' : Option (List ℕ)) (text known : List ℕ) → left ≡ Some known → Consumes left left' text → IsAtEnd left' → text ≡ known
+all_read None left' text known e given ended = absurd cc
+all_read (Some xs) None text known e given ended = absurd given
+all_read (Some xs) (Some ys) text known e given ended =
+    let own : xs ≡ known = cc in
+    sym (append-nil text) ∙ ap (λ t. text ++ t) (sym ended) ∙ sym given ∙ own
+
+pub right_given : (left left' : Option (List ℕ)) (text : List ℕ) → ReadsAll left left' text → IsRight text → GivesRight left
+right_given left left' text read right known e = subst IsRight (all_read left left' text known e read.given read.ended) right
+
+taken_is : (held held' : Option (List ℕ)) (before more taken : List ℕ) → held ≡ Some before → held' ≡ Some (before ++ more) → Appends held held' taken → more ≡ taken
+taken_is None held' before more taken e f appended = absurd cc
+taken_is (Some xs) None before more taken e f appended = absurd appended
+taken_is (Some xs) (Some ys) before more taken e f appended =
+    let own : xs ≡ before = cc in
+    let now : ys ≡ before ++ more = cc in
+    append_cancel_left before more taken (sym now ∙ appended ∙ ap (λ t. t ++ taken) own)
+
+-- the first bytes of a report were written
+pub said_right : (left left' held held' : Option (List ℕ)) (text output : List ℕ) (outcome : Outcome) → ReadsAll left left' text → IsReportOf text output outcome → TakesPrefix held held' output → YesIsRight left held held'
+said_right left left' held held' text output outcome read says taken known before more e f g line =
+    let is = taken_is held held' before more taken.taken f g taken.appended in
+    right_given left left' text read (by_line text output outcome says (subst SaysYes (sym taken.whole) (says_on taken.taken taken.rest (subst SaysYes is line)))) known e
+
+-- all of it was
+pub all_said_right : (left left' held held' : Option (List ℕ)) (text output : List ℕ) (outcome : Outcome) → ReadsAll left left' text → IsReportOf text output outcome → Appends held held' output → YesIsRight left held held'
+all_said_right left left' held held' text output outcome read says appended =
+    said_right left left' held held' text output outcome read says (record { taken = output; rest = []; whole = sym (append-nil output); appended = appended })
+
+nothing_says : SaysYes [] → ⊥
+unfolding lines_of
+nothing_says e = cc
+
+-- nothing was
+pub nothing_said : (left held held' : Option (List ℕ)) → held' ≡ held → YesIsRight left held held'
+nothing_said left held held' same text before more e f g line =
+    let both : ◌≡◌ {A = Option (List ℕ)} (Some (before ++ more)) (Some before) = sym g ∙ same ∙ f in
+    let own : before ++ more ≡ before = cc in
+    absurd (nothing_says (subst SaysYes (append_cancel_left before more [] (own ∙ sym (append-nil before))) line))

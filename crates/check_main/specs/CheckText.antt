@@ -1,13 +1,11 @@
 -- What `check` answers to a text: the report on a bundle's certificate, or the refusal of the text.
-use Rattle.std.specs.Prelude.{◌≡◌, ℕ, List, Ok, Option}
+use Rattle.std.specs.Prelude.{◌≡◌, ℕ, List}
 use Rattle.circuit.specs.Bridge.{circuit_of}
 use Rattle.pattern.specs.Grammars.{layout_value}
-use Rattle.pattern.specs.Layout.{Pattern}
 use Rattle.certificate.specs.Entries.{modules_of}
 use Rattle.certificate.specs.Grammars.{CertState, setting_of}
 use Rattle.certificate.specs.Jobs.{JobState, AreJobsOf}
 use Rattle.certificate.specs.Modules.{AreModules}
-use Rattle.audit_core.specs.Implements.{IsCorrect}
 use Rattle.audit_core.specs.Verdicts.{IsVerdict}
 use Rattle.audit_core.specs.declared.verdict.Verdict.{Verdict}
 use Rattle.audit_core.specs.declared.verdict.Verdict.TheVariants as verdict
@@ -16,7 +14,6 @@ use Rattle.check_main.specs.declared.outcome.Outcome.{Outcome}
 use Rattle.check_main.specs.declared.outcome.Outcome.TheVariants.{Yes, No}
 use Rattle.check_main.specs.Answers.{Answered}
 use Rattle.check_main.specs.BundleText.{Bundle, bundle_of}
-use Rattle.check_main.specs.Stream.{ReadsAll}
 
 -- the certificate has the lines of the bundle, and so have its circuit and its layout
 pub record IsCertificateOf (bundle : Bundle) (c : CertState) : Type 0 where
@@ -48,19 +45,3 @@ pub record SaysReport (bundle : Bundle) (output : List ℕ) (outcome : Outcome) 
 -- what `check` writes for a text, and how it ends
 abbrev pub IsReportOf : List ℕ → List ℕ → Outcome → Type 0
 IsReportOf text output outcome = Answered SaysReport (bundle_of text) output outcome
-
--- ---- what a yes means
-
--- the text is a bundle, and its layout computes its circuit, for all values of the inputs
-pub record IsRightBundle (text : List ℕ) : Type 0 where
-  pub bundle : Bundle
-  pub reads : bundle_of text ≡ Ok bundle
-  pub layout : Pattern
-  pub lines : layout_value layout ≡ (bundle.size, bundle.parts)
-  pub correct : IsCorrect (circuit_of bundle.circuit) layout
-
--- a reader gave such a text, and has no more
-pub record ReadsRightBundle (left left' : Option (List ℕ)) : Type 0 where
-  pub text : List ℕ
-  pub read : ReadsAll left left' text
-  pub right : IsRightBundle text

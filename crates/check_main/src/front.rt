@@ -2,8 +2,8 @@
 ghost use Rattle.std.specs.Prelude.{◌≡◌, ◌≢◌, ◌<◌, ◌≤◌, ◌⊎◌, false, true, IfOk, IfErr, IsErrOf, OnOk, Ok, map};
 ghost use Rattle.clap.specs.Words.{kind_of};
 ghost use Rattle.command_line.specs.CommandLine.{IsAccepted, AsksForHelp, asked_by};
-ghost use Rattle.check_main.specs.CheckText.{ReadsRightBundle};
 ghost use Rattle.check_main.specs.Commands.{IsAnswerTo};
+ghost use Rattle.check_main.specs.Headline.{GivesRight, YesIsRight};
 ghost use Rattle.check_main.specs.Status.{status_for, line_for, Says};
 ghost use Rattle.check_main.specs.Stream.{Answers, BreaksOff, GivesTooMuch};
 
@@ -67,8 +67,11 @@ where
         (R.left reader.old) (R.left reader.new)
         (W.held writer.old) (W.held writer.new) Outcome.Yes }
 
+    // What a yes of `check` means, by the status and by what is written.
     ensures correct { IsAccepted (map (λ s. s.now) words.entry.now) → asked_by (map (λ s. s.now) words.entry.now) ≡ Request.Check → result ≡ 0
-        → ReadsRightBundle (R.left reader.old) (R.left reader.new) }
+        → GivesRight (R.left reader.old) }
+    ensures says_yes { IsAccepted (map (λ s. s.now) words.entry.now) → asked_by (map (λ s. s.now) words.entry.now) ≡ Request.Check
+        → YesIsRight (R.left reader.old) (W.held writer.old) (W.held writer.new) }
 
     ensures no { result ≡ 1 → Answers (IsAnswerTo (asked_by (map (λ s. s.now) words.entry.now)))
         (R.left reader.old) (R.left reader.new)
@@ -134,7 +137,8 @@ fn serve<T: Threads + Wait + Sync, R: Source, W: Sink>(
         (W.held writer.old) (W.held writer.new) }
     ensures unwritten { IfErr result (λ fault. fault ≢ CheckFault.Write → writer.new ≡ writer.old) }
     ensures missing { IsErrOf result CheckFault.Missing → asked.request ≡ Request.Check }
-    ensures correct { asked.request ≡ Request.Check → result ≡ Ok Outcome.Yes → ReadsRightBundle (R.left reader.old) (R.left reader.new) }
+    ensures correct { asked.request ≡ Request.Check → result ≡ Ok Outcome.Yes → GivesRight (R.left reader.old) }
+    ensures says_yes { asked.request ≡ Request.Check → YesIsRight (R.left reader.old) (W.held writer.old) (W.held writer.new) }
 {
     match asked.request {
         Request::Check => check_stream(rt, alloc, reader, writer, asked.workers, &OpenGate),

@@ -1,6 +1,6 @@
 //! Laws of the definitions, each the contract of a function without a body.
 ghost use Rattle.check_main.specs.CheckText.{IsReportOf};
-ghost use Rattle.check_main.specs.Laws.{HasOneAnswer, YesIsRight};
+ghost use Rattle.check_main.specs.Laws.{FourthLineTells, HasOneAnswer, SaysOneDesign, YesMeansRight};
 ghost use Rattle.check_main.specs.ModulesText.{IsModulesOf};
 ghost use Rattle.check_main.specs.RunText.{IsRunOf};
 ghost use Rattle.check_main.specs.ValueText.{IsValueOf};
@@ -25,7 +25,14 @@ pub fn modules_has_one_answer()
     ensures { HasOneAnswer IsModulesOf }
 {}
 
-/// A text for which the report says yes is a bundle whose layout computes its circuit.
-pub fn yes_is_right()
-    ensures { YesIsRight }
+/// A text for which the report says yes begins with a circuit and a layout that computes it. The fourth line of a report is
+/// `verdict yes` just where it says yes.
+pub fn yes_means_right()
+    ensures right { YesMeansRight }
+    ensures told { FourthLineTells }
+{}
+
+/// A text begins with one circuit and one layout at most.
+pub fn says_one_design()
+    ensures { SaysOneDesign }
 {}

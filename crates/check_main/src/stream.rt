@@ -1,7 +1,8 @@
 //! From a reader's bytes to a writer's.
 ghost use Rattle.std.specs.Prelude.{◌≡◌, ◌≢◌, ◌<◌, ◌≤◌, true, false, Ok, IfOk, IfErr, IsErrOf, OnOk};
 ghost use Rattle.std.specs.Io.KnownBytes.{Appends};
-ghost use Rattle.check_main.specs.CheckText.{IsReportOf, ReadsRightBundle};
+ghost use Rattle.check_main.specs.CheckText.{IsReportOf};
+ghost use Rattle.check_main.specs.Headline.{GivesRight, YesIsRight};
 ghost use Rattle.check_main.specs.ModulesText.{IsModulesOf};
 ghost use Rattle.check_main.specs.RunText.{IsRunOf};
 ghost use Rattle.check_main.specs.ValueText.{IsValueOf};
@@ -28,7 +29,8 @@ const MOST_READS: usize = 16_777_217;
 /// report once it is complete. `Yes` and `No` are the verdict. What is written is the same for every number of workers, every gate
 /// and every order in which they end.
 ///
-/// Where it is `Yes`, the text is a bundle, and the whole pattern of its layout computes its circuit: `IsCorrect` of `audit_core`.
+/// Where it is `Yes`, or `verdict yes` is the fourth line of what was written, the text begins with a circuit and a layout, and the
+/// whole pattern of the layout computes the circuit: `specs/Headline.antt` says what that is.
 pub fn check_stream<T, R, W, G>(
     rt: &T,
     alloc: Global,
@@ -47,7 +49,8 @@ where
     requires writer_works { W.has_failed writer.old ≡ false }
     ensures answered { IfOk result (Answers IsReportOf (R.left reader.old) (R.left reader.new)
         (W.held writer.old) (W.held writer.new)) }
-    ensures correct { result ≡ Ok Outcome.Yes → ReadsRightBundle (R.left reader.old) (R.left reader.new) }
+    ensures correct { result ≡ Ok Outcome.Yes → GivesRight (R.left reader.old) }
+    ensures says_yes { YesIsRight (R.left reader.old) (W.held writer.old) (W.held writer.new) }
     ensures works { OnOk result ((R.has_failed reader.new ≡ false) × (W.has_failed writer.new ≡ false)) }
     ensures read { IsErrOf result CheckFault.Read → R.has_failed reader.new ≡ true }
     ensures too_long { IsErrOf result CheckFault.TooLong →

@@ -1,11 +1,9 @@
 -- The circuit, the layout, the certificate, and the end of the text.
-use Rattle.std.proofs.Common.{◌∙◌, sym}
 use Rattle.std.proofs.lemmas.Result.{IfOk-weaker}
 use Rattle.section_text.specs.Ports.{named_ports}
-use Rattle.audit_core.proofs.NamedPorts.{named_by}
 use Rattle.check_main.specs.CheckText.{SaysReport}
 use Rattle.check_main.specs.BundleText.{bundle_of}
-use Rattle.check_main.proofs.Bundles.{bundle_answers, bundle_goes_on, bundle_read, certificate_failed, circuit_failed, going_3, layout_failed, refusal_answers, refused_not_yes, right_bundle}
+use Rattle.check_main.proofs.Bundles.{bundle_answers, bundle_goes_on, bundle_read, certificate_failed, circuit_failed, going_3, layout_failed, refusal_answers}
 use Rattle.check_main.proofs.bundle.report_of_text.Goals as goal
 
 pub returns-in-Err-clause-answered : goal.returns-in-Err-clause-answered
@@ -43,30 +41,3 @@ returns-clause-answered g c =
     c.in-Ok-read_layout.layout c.in-Ok-read_layout.ensures.reads c.read_certificate.new.feed c.in-Ok-read_certificate.cert c.in-Ok-read_certificate.ensures.reads
     c.in-Ok-read_certificate.ensures.circuit c.in-Ok-read_certificate.ensures.layout done.0 done.1 in
     IfOk-weaker c.report_on.result _ _ (λ answered says. bundle_answers SaysReport (bundle_of c.args.feed.now.text) c.in-Ok-read_certificate.cert answered.output.items answered.outcome was_read says) c.report_on.ensures.says
-
-pub returns-in-Err-clause-correct : goal.returns-in-Err-clause-correct
-returns-in-Err-clause-correct g c = IfOk-weaker c.refused.result _ _ (λ answered told yes. absurd (refused_not_yes (sym told.ends ∙ yes))) c.refused.ensures.told
-
-pub returns-in-Err-read_layout-clause-correct : goal.returns-in-Err-read_layout-clause-correct
-returns-in-Err-read_layout-clause-correct g c = IfOk-weaker c.refused-in-Err-read_layout.result _ _ (λ answered told yes. absurd (refused_not_yes (sym told.ends ∙ yes))) c.refused-in-Err-read_layout.ensures.told
-
-pub returns-in-Err-read_certificate-clause-correct : goal.returns-in-Err-read_certificate-clause-correct
-returns-in-Err-read_certificate-clause-correct g c = IfOk-weaker c.refused-in-Err-read_certificate.result _ _ (λ answered told yes. absurd (refused_not_yes (sym told.ends ∙ yes))) c.refused-in-Err-read_certificate.ensures.told
-
-pub returns-in-Err-finish-clause-correct : goal.returns-in-Err-finish-clause-correct
-returns-in-Err-finish-clause-correct g c = IfOk-weaker c.refused-in-Err-finish.result _ _ (λ answered told yes. absurd (refused_not_yes (sym told.ends ∙ yes))) c.refused-in-Err-finish.ensures.told
-
-pub report_on-requires-clause-named : goal.report_on-requires-clause-named
-report_on-requires-clause-named g c κs within =
-    named_by c.in-Ok.circuit c.in-Ok-read_layout.layout (named_ports c.in-Ok-port_names.ports) c.in-Ok-read_certificate.cert c.in-Ok-port_names.ensures.ports
-    c.in-Ok-read_certificate.ensures.circuit c.in-Ok-read_certificate.ensures.layout c.in-Ok-read_layout.ensures.names
-
-pub returns-clause-correct : goal.returns-clause-correct
-returns-clause-correct g c =
-    let going = going_3 c.args.feed.now c.read_circuit.new.feed c.requires.unread c.requires.going c.in-Ok.circuit c.in-Ok.ensures (named_ports c.in-Ok-port_names.ports) c.read_layout.new.feed c.in-Ok-port_names.ensures.ports
-    c.in-Ok-read_layout.layout c.in-Ok-read_layout.ensures.reads c.read_certificate.new.feed c.in-Ok-read_certificate.cert c.in-Ok-read_certificate.ensures.reads in
-    let done = c.in_default.ensures.ok going in
-    let was_read = bundle_read c.args.feed.now c.read_circuit.new.feed c.requires.unread c.requires.going c.in-Ok.circuit c.in-Ok.ensures (named_ports c.in-Ok-port_names.ports) c.read_layout.new.feed c.in-Ok-port_names.ensures.ports
-    c.in-Ok-read_layout.layout c.in-Ok-read_layout.ensures.reads c.read_certificate.new.feed c.in-Ok-read_certificate.cert c.in-Ok-read_certificate.ensures.reads
-    c.in-Ok-read_certificate.ensures.circuit c.in-Ok-read_certificate.ensures.layout done.0 done.1 in
-    IfOk-weaker c.report_on.result _ _ (λ answered correct yes. right_bundle c.args.feed.now.text c.in-Ok-read_certificate.cert was_read (correct yes)) c.report_on.ensures.correct
