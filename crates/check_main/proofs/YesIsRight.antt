@@ -1,6 +1,6 @@
 -- What is reported with a yes is right.
 use Rattle.std.proofs.Common.{◌≡◌, ◌≤◌, ◌<◌, ℕ, ◌+◌, Bool, true, false, cond, eqb, List, [], ◌∷◌, ◌++◌, take, Option, Some, None, Result, Ok, Err, refl, sym, ap, subst, ◌∙◌, append_assoc, arith, inl, inr}
-use Rattle.std.specs.Prelude.{nat_lt}
+use Rattle.std.specs.Prelude.{nat_lt, IfErr, IfOk, OnOk}
 use Rattle.std.proofs.lemmas.List.{append-nil, append_cancel_left}
 use Rattle.std.specs.Io.KnownBytes.{Appends, Consumes, IsAtEnd}
 use Rattle.std.proofs.lemmas.Bool.{ltb-false}
@@ -270,3 +270,17 @@ nothing_said left held held' same text before more e f g line =
     let both : ◌≡◌ {A = Option (List ℕ)} (Some (before ++ more)) (Some before) = sym g ∙ same ∙ f in
     let own : before ++ more ≡ before = cc in
     absurd (nothing_says (subst SaysYes (append_cancel_left before more [] (own ∙ sym (append-nil before))) line))
+
+-- a writer was told the report, or its first bytes
+pub written_right : {E : Type 0} (left left' held held' : Option (List ℕ)) (text output : List ℕ) (outcome : Outcome) → ReadsAll left left' text → IsReportOf text output outcome →
+    (result : Result Outcome E) → OnOk result (Appends held held' output) → IfErr result (λ e. TakesPrefix held held' output) → YesIsRight left held held'
+written_right left left' held held' text output outcome read says (Ok o) all front = all_said_right left left' held held' text output outcome read says all
+written_right left left' held held' text output outcome read says (Err e) all front = said_right left left' held held' text output outcome read says front
+
+-- and it ended as the report does
+pub outcome_right : {E : Type 0} (left left' : Option (List ℕ)) (text output : List ℕ) (outcome : Outcome) → ReadsAll left left' text → IsReportOf text output outcome →
+    (result : Result Outcome E) → result ≡ Ok Yes → IfOk result (λ o. o ≡ outcome) → GivesRight left
+outcome_right left left' text output outcome read says (Ok o) is same =
+    let yes_is : o ≡ Yes = cc in
+    right_given left left' text read (yes_is_right text output (subst (λ o. IsReportOf text output o) (sym same ∙ yes_is) says))
+outcome_right left left' text output outcome read says (Err e) is same = absurd cc
