@@ -1,0 +1,17 @@
+-- Words in which nothing is wrong are not taken only where memory ran out, and then nothing is written.
+use Rattle.std.proofs.Common.{◌≡◌, [], ap, subst, inl, inr}
+use Rattle.clap.specs.Words.{HasKind, IsAmong, Kinds, kind_of}
+use Rattle.clap.specs.declared.error.Error.{Error}
+use Rattle.clap.specs.declared.error.kind.ErrorKind.TheVariants.{OutOfMemory}
+use Rattle.check_main.proofs.YesIsRight.{nothing_said}
+use Rattle.check_main.proofs.front.program.Goals as goal
+
+of_memory : (kinds : Kinds) (error : Error) → kinds ≡ [] → HasKind kinds error → kind_of error ≡ OutOfMemory
+of_memory kinds error none (inl memory) = memory
+of_memory kinds error none (inr among) = absurd (subst (λ (k : Kinds). IsAmong (kind_of error) k) none among)
+
+pub returns-in-Err-clause-says_yes : goal.returns-in-Err-clause-says_yes
+returns-in-Err-clause-says_yes g c accepted check =
+    let memory = of_memory _ c.in-Err.error accepted c.in-Err.ensures.fails in
+    let same = (c.explain.ensures.not_decided (c.explain.ensures.memory memory)).0 in
+    nothing_said (g.R.Source.left c.args.reader.now) (g.W.Sink.held c.args.writer.now) (g.W.Sink.held c.explain.new.writer) (ap g.W.Sink.held same)
