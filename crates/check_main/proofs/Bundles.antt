@@ -1,6 +1,6 @@
 -- What is read of a bundle, and what answers it.
 use Rattle.std.proofs.Common.{◌≡◌, ℕ, ◌+◌, List, [], ◌∷◌, ◌++◌, map, drop, Option, Some, None, Result, Ok, Err, refl, sym, ap, ap₂, subst, ◌∙◌, append-nil}
-use Rattle.std.specs.Prelude.{◌≢◌, IfOk}
+use Rattle.std.specs.Prelude.{◌≢◌}
 use Rattle.std.specs.List.{flat_map}
 use Rattle.std.proofs.lemmas.Grind.{flat_map-append}
 use Rattle.section_text.specs.Words.{lines_of, rest_of}
@@ -30,10 +30,6 @@ use Rattle.check_main.specs.Answers.{Answered}
 use Rattle.check_main.specs.BundleReading.{TellsRefusal, bundle_by}
 use Rattle.audit_core.specs.Concluding.{port_names_of}
 use Rattle.check_main.specs.BundleText.{Bundle, bundle_of, in_port, out_port, setting_by}
-use Rattle.check_main.specs.CheckText.{SaysReport}
-use Rattle.check_main.specs.ModulesText.{SaysModules}
-use Rattle.check_main.specs.declared.fault.CheckFault.{CheckFault}
-use Rattle.check_main.specs.declared.outcome.Answered.{Answered as Answer}
 use Rattle.check_main.specs.declared.outcome.Outcome.{Outcome}
 
 -- ---- the ports of a layout, by its lines

@@ -5,10 +5,6 @@ use Rattle.certificate.specs.Jobs.{JobState}
 use Rattle.local_run.specs.declared.finding.Finding.{Finding}
 use Rattle.audit_core.specs.Book.{BookView, after_filing, new_book}
 use Rattle.audit_core.specs.Concluding.{AreOwnJobs}
-use Rattle.audit_core.specs.declared.verdict.Verdict.{Verdict}
-use Rattle.audit_core.specs.declared.verdict.Verdict.TheVariants as verdict
-use Rattle.check_main.specs.CheckText.{verdict_outcome}
-use Rattle.check_main.specs.declared.outcome.Outcome.TheVariants as ended
 
 pub filing_keeps_jobs : (b : BookView) (f : Finding) → (after_filing b f).jobs ≡ b.jobs
 filing_keeps_jobs b f = refl

@@ -1,18 +1,17 @@
 -- What is reported with a yes is right.
-use Rattle.std.proofs.Common.{◌≡◌, ◌≤◌, ◌<◌, ℕ, ◌+◌, Bool, true, false, cond, eqb, List, [], ◌∷◌, ◌++◌, take, Option, Some, None, Result, Ok, Err, refl, sym, ap, subst, ◌∙◌, append_assoc, arith, inl, inr}
+use Rattle.std.proofs.Common.{◌≡◌, ◌≤◌, ℕ, ◌+◌, Bool, true, false, cond, eqb, List, [], ◌∷◌, ◌++◌, Option, Some, None, Result, Ok, Err, refl, sym, ap, subst, ◌∙◌, append_assoc, arith}
 use Rattle.std.specs.Prelude.{nat_lt, IfErr, IfOk, OnOk}
 use Rattle.std.proofs.lemmas.List.{append-nil, append_cancel_left}
 use Rattle.std.specs.Io.KnownBytes.{Appends, Consumes, IsAtEnd}
 use Rattle.std.proofs.lemmas.Bool.{ltb-false}
 use Rattle.section_text.specs.Codes.{or_else, code_where}
-use Rattle.section_text.specs.Words.{lines_of, words_of, rest_of}
+use Rattle.section_text.specs.Words.{lines_of, words_of}
 use Rattle.section_text.specs.Section.{unless, line_after, header_line, section_of, body_of}
-use Rattle.section_text.specs.Sections.{section_then, go_on, finished}
+use Rattle.section_text.specs.Sections.{go_on, finished}
 use Rattle.section_text.specs.declared.fault.Refusal.{Refusal}
-use Rattle.section_text.specs.declared.section.Form.{Form}
 use Rattle.section_text.specs.declared.section.Form.TheVariants.{Header, Item, End}
 use Rattle.section_text.proofs.Good.{AreFaultless, IsFaultless, read_faultless}
-use Rattle.circuit.specs.Bridge.{AreGoodAfter, AreGood, circuit_of}
+use Rattle.circuit.specs.Bridge.{AreGoodAfter, AreGood}
 use Rattle.circuit.specs.Entries.{rank_of}
 use Rattle.circuit.specs.Forms.{Line, form_of}
 use Rattle.circuit.specs.Grammars.{circuit_grammar}
@@ -31,14 +30,13 @@ use Rattle.pattern.proofs.Named.{faultless_named}
 use Rattle.section_text.specs.Ports.{Named}
 use Rattle.certificate.specs.Grammars.{CertState, certificate_grammar, setting_of}
 use Rattle.certificate.specs.Entries.{modules_of}
-use Rattle.certificate.specs.declared.entry.Entry.{Entry}
 use Rattle.audit_core.specs.Concluding.{port_names_of}
 use Rattle.audit_core.specs.Implements.{IsCorrect}
 use Rattle.audit_core.specs.Verdicts.{IsVerdict}
 use Rattle.report.specs.ReportText.{report_lines}
 use Rattle.audit_core.specs.declared.verdict.Verdict.{Verdict}
 use Rattle.audit_core.specs.declared.verdict.Verdict.TheVariants as verdict
-use Rattle.audit_core.proofs.YesMeansCorrect.{IsRead, yes_means-correct}
+use Rattle.audit_core.proofs.YesMeansCorrect.{yes_means-correct}
 use Rattle.check_main.specs.Answers.{Answered}
 use Rattle.check_main.specs.BundleText.{Bundle, bundle_of, setting_by}
 use Rattle.check_main.specs.CheckText.{IsReportOf, SaysReport, verdict_outcome}
@@ -49,7 +47,7 @@ use Rattle.check_main.specs.Stream.{ReadsAll, TakesPrefix}
 use Rattle.check_main.proofs.Designs.{design_said}
 use Rattle.check_main.proofs.FourthLines.{refusal_says_none, says_on, says_yes, yes_says}
 use Rattle.check_main.specs.declared.outcome.Outcome.{Outcome}
-use Rattle.check_main.specs.declared.outcome.Outcome.TheVariants.{Yes, No, Refused}
+use Rattle.check_main.specs.declared.outcome.Outcome.TheVariants.{Yes, Refused}
 
 -- ---- the lines of a circuit that is read are good
 
