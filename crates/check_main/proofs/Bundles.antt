@@ -55,7 +55,7 @@ out_ports_are p =
     split_five out_port (map Mirror p.mirrors) (map Ball p.balls) (map In p.ins) (map Out p.outs) (map Waste p.wastes)
     ∙ rw (none_of out_port Mirror (λ r. refl) p.mirrors, none_of out_port Ball (λ c. refl) p.balls, none_of out_port In (λ q. refl) p.ins, all_of out_port Out (λ q. refl) p.outs, none_of out_port Waste (λ c. refl) p.wastes) (append-nil p.outs)
 
-same_setting : (circuit : List CircuitLine) (p : Pattern) → setting_by circuit p.size (parts_of p) ≡ setting_of circuit p
+pub same_setting : (circuit : List CircuitLine) (p : Pattern) → setting_by circuit p.size (parts_of p) ≡ setting_of circuit p
 same_setting circuit p =
     let ports = ap₂ (λ a b. a ++ b) (in_ports_are p) (out_ports_are p) in
     let at : List Port → Setting = λ l. record { circuit = circuit_of circuit; size = p.size; ports = l } in

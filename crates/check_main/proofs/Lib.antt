@@ -8,5 +8,7 @@ mod Runs
 mod OneReport
 pub mod Closings
 mod Designs
+mod FourModules
+mod Trials
 mod FourthLines
 pub mod YesIsRight

@@ -44,6 +44,7 @@ use Rattle.check_main.specs.Design.{SaysDesign}
 use Rattle.check_main.specs.Headline.{GivesRight, IsRight, SaysYes, YesIsRight}
 use Rattle.check_main.specs.Laws.{FourthLineTells, YesMeansRight}
 use Rattle.check_main.specs.Stream.{ReadsAll, TakesPrefix}
+use Rattle.check_main.proofs.Bundles.{same_setting}
 use Rattle.check_main.proofs.Designs.{design_said}
 use Rattle.check_main.proofs.FourthLines.{refusal_says_none, says_on, says_yes, yes_says}
 use Rattle.check_main.specs.declared.outcome.Outcome.{Outcome}
@@ -165,6 +166,19 @@ bundle_good text b e =
       layout = read_faultless (layout_grammar (Some (port_names_of c.items))) _ _ l.header l.items l.was;
       says = λ p same. design_said text c.items (Some (port_names_of c.items)) _ p c.was (l.was ∙ ap Ok (sym same));
     })
+
+-- and those of its certificate are good
+pub certificate_faultless : (text : List ℕ) (b : Bundle) (p : Pattern) → bundle_of text ≡ Ok b → layout_value p ≡ (b.size, b.parts) → IsFaultless (certificate_grammar (setting_of b.circuit p)) b.version b.entries
+unfolding bundle_of
+certificate_faultless text b p e same =
+    let c = went_on (section_of circuit_grammar 0 (lines_of text)) _ b e in
+    let l = went_on (section_of (layout_grammar (Some (port_names_of c.items))) _ _) _ b c.then in
+    let k = went_on (section_of (certificate_grammar (setting_by c.items l.header l.items)) _ _) _ b l.then in
+    let whole = is_finished _ _ _ _ b k.then in
+    let P : Bundle → Type 0 = λ b. IsFaultless (certificate_grammar (setting_by b.circuit b.size b.parts)) b.version b.entries in
+    let good : P b = subst P whole (read_faultless (certificate_grammar (setting_by c.items l.header l.items)) _ _ k.header k.items k.was) in
+    let Q : Size × List Part → Type 0 = λ q. IsFaultless (certificate_grammar (setting_by b.circuit q.0 q.1)) b.version b.entries in
+    subst (λ g. IsFaultless (certificate_grammar g) b.version b.entries) (same_setting b.circuit p) (subst Q (sym same) good)
 
 -- ---- a yes
 

@@ -6,6 +6,7 @@ use Rattle.check_main.specs.declared.outcome.Outcome.{Outcome}
 use Rattle.check_main.specs.declared.outcome.Outcome.TheVariants.{Yes}
 use Rattle.check_main.specs.CheckText.{IsReportOf}
 use Rattle.check_main.specs.Design.{SaysDesign}
+use Rattle.check_main.specs.FourModules.{four_modules}
 use Rattle.check_main.specs.Headline.{IsRight, SaysYes}
 
 -- a command has one answer to each text
@@ -24,3 +25,7 @@ FourthLineTells = (text output : List ℕ) (outcome : Outcome) → IsReportOf te
 abbrev pub SaysOneDesign : Type 0
 SaysOneDesign = (text : List ℕ) (circuit circuit' : List Entry) (layout layout' : Pattern) → SaysDesign text circuit layout → SaysDesign text circuit' layout' →
     (circuit ≡ circuit') × (layout ≡ layout')
+
+-- Something is reported with the outcome yes, so the laws are not about nothing: this text.
+abbrev pub FourModulesAreAccepted : Type 0
+FourModulesAreAccepted = (output : List ℕ) × IsReportOf four_modules output Yes

@@ -12,5 +12,6 @@ pub mod BundleReading
 pub mod CheckText
 pub mod Design
 pub mod Headline
+pub mod FourModules
 pub mod ModulesText
 pub mod Audits

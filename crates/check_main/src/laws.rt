@@ -1,6 +1,6 @@
 //! Laws of the definitions, each the contract of a function without a body.
 ghost use Rattle.check_main.specs.CheckText.{IsReportOf};
-ghost use Rattle.check_main.specs.Laws.{FourthLineTells, HasOneAnswer, SaysOneDesign, YesMeansRight};
+ghost use Rattle.check_main.specs.Laws.{FourModulesAreAccepted, FourthLineTells, HasOneAnswer, SaysOneDesign, YesMeansRight};
 ghost use Rattle.check_main.specs.ModulesText.{IsModulesOf};
 ghost use Rattle.check_main.specs.RunText.{IsRunOf};
 ghost use Rattle.check_main.specs.ValueText.{IsValueOf};
@@ -35,4 +35,9 @@ pub fn yes_means_right()
 /// A text begins with one circuit and one layout at most.
 pub fn says_one_design()
     ensures { SaysOneDesign }
+{}
+
+/// Something is reported with a yes: the text of four modules with a gate.
+pub fn something_is_accepted()
+    ensures { FourModulesAreAccepted }
 {}
