@@ -1,6 +1,6 @@
 #!/usr/bin/env python3
 """Prints what has to be read to believe a statement: the files of specs/ that a file brings in, directly or by others, with their lines,
-and how many of these are definitions that the statement reaches.
+and how many of these are definitions that the statement reaches. A file comes after those that it brings in.
 
 usage: tools/reading_list.py [--definitions] [--check README.md] [FILE]
 
@@ -106,20 +106,20 @@ def type_lines(path, name):
 
 class Closure:
     def __init__(self, start):
-        self.files, self.reached, self.imported = {}, {}, []
-        self.start = start
+        self.files, self.reached, self.seen, self.imported = {}, {}, set(), []
         self.bring(start)
         for name in list(self.files[start].blocks):
             self.reach(start, name)
 
     def bring(self, path):
-        if path in self.imported:
+        if path in self.seen:
             return
-        self.imported.append(path)
+        self.seen.add(path)
         if path.endswith(".antt"):
             self.files[path] = File(path)
             for target, _ in self.files[path].uses.values():
                 self.bring(target)
+        self.imported.append(path)  # after those that it brings in
 
     def reach(self, path, name):
         if path.endswith(".rt"):
@@ -153,7 +153,7 @@ def main(words):
     files = [w for w in words if not w.startswith("--") and w != table]
     closure = Closure(files[0] if files else STATEMENT)
     rows = []
-    for path in sorted(closure.imported):
+    for path in closure.imported:
         total = len((CRATES / path).read_text().splitlines())
         reached = closure.reached.get(path, {})
         rows.append((path, total, sum(map(len, reached.values())), list(reached)))

@@ -1,12 +1,19 @@
 -- What is reported with a yes is right.
-use Rattle.std.proofs.Common.{◌≡◌, ◌≤◌, ℕ, ◌+◌, Bool, true, false, cond, eqb, List, [], ◌∷◌, ◌++◌, Option, Some, None, Result, Ok, Err, refl, sym, ap, subst, ◌∙◌, append_assoc, arith}
-use Rattle.std.specs.Prelude.{nat_lt, IfErr, IfOk, OnOk}
+use Rattle.std.proofs.Common.{◌≡◌, ◌≤◌, ℕ, ◌+◌, Bool, true, false, cond, eqb, List, [], ◌∷◌, ◌++◌, length, take, drop, Option, Some, None, Result, Ok, Err, refl, sym, ap, ap₂, subst, ◌∙◌, append_assoc, take-append-drop, arith}
+use Rattle.std.specs.Prelude.{nat_lt, ◌≢◌, IfErr, IfOk, OnOk}
+use Rattle.std.specs.List.{flat_map}
+use Rattle.std.proofs.lemmas.Grind.{flat_map-append}
 use Rattle.std.proofs.lemmas.List.{append-nil, append_cancel_left}
 use Rattle.std.specs.Io.KnownBytes.{Appends, Consumes, IsAtEnd}
 use Rattle.std.proofs.lemmas.Bool.{ltb-false}
 use Rattle.section_text.specs.Codes.{or_else, code_where}
-use Rattle.section_text.specs.Words.{lines_of, words_of}
-use Rattle.section_text.specs.Section.{unless, line_after, header_line, section_of, body_of}
+use Rattle.section_text.specs.Words.{lines_of, rest_of, words_of}
+use Rattle.section_text.specs.Section.{ended_line, unless, line_after, header_line, section_of, body_of}
+use Rattle.section_text.proofs.Lines.{whole_text as no_byte_lost}
+use Rattle.circuit.specs.Text.{circuit_text}
+use Rattle.circuit.proofs.RoundTrip.{prints_what_is_read as circuit_printed}
+use Rattle.pattern.specs.Text.{layout_text}
+use Rattle.pattern.proofs.RoundTrip.{prints_what_is_read as layout_printed}
 use Rattle.section_text.specs.Sections.{go_on, finished}
 use Rattle.section_text.specs.declared.fault.Refusal.{Refusal}
 use Rattle.section_text.specs.declared.section.Form.TheVariants.{Header, Item, End}
@@ -42,10 +49,10 @@ use Rattle.check_main.specs.BundleText.{Bundle, bundle_of, setting_by}
 use Rattle.check_main.specs.CheckText.{IsReportOf, SaysReport, verdict_outcome}
 use Rattle.check_main.specs.Design.{SaysDesign}
 use Rattle.check_main.specs.Headline.{GivesRight, IsRight, SaysYes, YesIsRight}
-use Rattle.check_main.specs.Laws.{FourthLineTells, YesMeansRight}
+use Rattle.check_main.specs.Laws.{FourthLineTells, IsGoodDesign, ReportsOnGoodDesigns, YesMeansRight}
 use Rattle.check_main.specs.Stream.{ReadsAll, TakesPrefix}
 use Rattle.check_main.proofs.Bundles.{same_setting}
-use Rattle.check_main.proofs.Designs.{design_said}
+use Rattle.check_main.proofs.Designs.{design_said, one_design}
 use Rattle.check_main.proofs.FourthLines.{refusal_says_none, says_on, says_yes, yes_says}
 use Rattle.check_main.specs.declared.outcome.Outcome.{Outcome}
 use Rattle.check_main.specs.declared.outcome.Outcome.TheVariants.{Yes, Refused}
@@ -134,10 +141,33 @@ laid_out ports s before (part ∷ parts) good =
 
 -- ---- the sections of a bundle
 
+-- the circuit and the layout in their one spelling, and what follows
+record BeginsWith (text : List ℕ) (circuit : List CircuitLine) (p : Pattern) : Type 0 where
+  pub rest : List ℕ
+  pub begins : text ≡ circuit_text circuit ++ (layout_text p ++ rest)
+
+spelled : (text : List ℕ) (circuit : List CircuitLine) (ports : Option Named) (n : ℕ) (p : Pattern) → section_of circuit_grammar 0 (lines_of text) ≡ Ok (tt, circuit)
+    → section_of (layout_grammar ports) n (drop (length circuit + 2) (lines_of text)) ≡ Ok (layout_value p) → BeginsWith text circuit p
+spelled text circuit ports n p first second =
+    let k = length circuit + 2 in
+    let later = drop k (lines_of text) in
+    let m = length (lines.parts_of p) + 2 in
+    let after : List ℕ = flat_map ended_line (drop m later) in
+    let split : flat_map ended_line (lines_of text) ≡ circuit_text circuit ++ (layout_text p ++ after) =
+    ap (flat_map ended_line) (sym (take-append-drop k (lines_of text))) ∙ flat_map-append ended_line (take k (lines_of text)) later
+    ∙ ap₂ (λ a b. a ++ b) (circuit_printed 0 (lines_of text) circuit first)
+    (ap (flat_map ended_line) (sym (take-append-drop m later)) ∙ flat_map-append ended_line (take m later) (drop m later) ∙ ap (λ a. a ++ after) (layout_printed ports n later p second)) in
+    record {
+      rest = after ++ rest_of text;
+      begins = sym (no_byte_lost text) ∙ ap (λ a. a ++ rest_of text) split
+          ∙ append_assoc (circuit_text circuit) (layout_text p ++ after) (rest_of text) ∙ ap (λ a. circuit_text circuit ++ a) (append_assoc (layout_text p) after (rest_of text));
+    }
+
 record IsReadBundle (text : List ℕ) (b : Bundle) : Type 0 where
   pub circuit : AreGood b.circuit
   pub layout : IsFaultless (layout_grammar (Some (port_names_of b.circuit))) b.size b.parts
   pub says : (p : Pattern) → layout_value p ≡ (b.size, b.parts) → SaysDesign text b.circuit p
+  pub begins : (p : Pattern) → layout_value p ≡ (b.size, b.parts) → BeginsWith text b.circuit p
 
 -- what goes on with a value that was read, was read
 record WentOn {H I : Type 0} {B : Type 0} (read : Result (H × List I) Refusal) (next : H → List I → Result B Refusal) (b : B) : Type 0 where
@@ -165,6 +195,7 @@ bundle_good text b e =
       circuit = circuit_good 0 (lines_of text) c.header c.items c.was;
       layout = read_faultless (layout_grammar (Some (port_names_of c.items))) _ _ l.header l.items l.was;
       says = λ p same. design_said text c.items (Some (port_names_of c.items)) _ p c.was (l.was ∙ ap Ok (sym same));
+      begins = λ p same. spelled text c.items (Some (port_names_of c.items)) _ p c.was (l.was ∙ ap Ok (sym same));
     })
 
 -- and those of its certificate are good
@@ -179,6 +210,36 @@ certificate_faultless text b p e same =
     let good : P b = subst P whole (read_faultless (certificate_grammar (setting_by c.items l.header l.items)) _ _ k.header k.items k.was) in
     let Q : Size × List Part → Type 0 = λ q. IsFaultless (certificate_grammar (setting_by b.circuit q.0 q.1)) b.version b.entries in
     subst (λ g. IsFaultless (certificate_grammar g) b.version b.entries) (same_setting b.circuit p) (subst Q (sym same) good)
+
+-- ---- the design of a text that is not refused
+
+-- the one of a report is the one that the text says
+own_design : (text : List ℕ) (b : Bundle) (output : List ℕ) (outcome : Outcome) (circuit : List CircuitLine) (layout : Pattern) → bundle_of text ≡ Ok b → SaysReport b output outcome →
+    SaysDesign text circuit layout → IsGoodDesign text circuit layout
+own_design text b output outcome circuit layout reads says said =
+    let good = bundle_good text b reads in
+    let c : CertState = says.certificate in
+    let p : Pattern = c.layout in
+    let same = says.its_own in
+    let whole : IsFaultless (layout_grammar (Some (port_names_of b.circuit))) p.size (lines.parts_of p) =
+        subst (λ (q : Size × List Part). IsFaultless (layout_grammar (Some (port_names_of b.circuit))) q.0 q.1) (sym same.layout) good.layout in
+    let begins = good.begins p same.layout in
+    let one = one_design text b.circuit circuit p layout (good.says p same.layout) said in
+    subst (λ (cs : List CircuitLine). IsGoodDesign text cs layout) one.0 (subst (IsGoodDesign text b.circuit) one.1 (record {
+      circuit_lines = good.circuit;
+      size = whole.header;
+      layout_lines = laid_out (Some (port_names_of b.circuit)) p.size [] (lines.parts_of p) whole.each;
+      rest = begins.rest;
+      begins = begins.begins;
+    }))
+
+by_read : (text output : List ℕ) (outcome : Outcome) (circuit : List CircuitLine) (layout : Pattern) (read : Result Bundle Refusal) → bundle_of text ≡ read → Answered SaysReport read output outcome → outcome ≢ Refused →
+    SaysDesign text circuit layout → IsGoodDesign text circuit layout
+by_read text output outcome circuit layout (Ok b) e says some said = own_design text b output outcome circuit layout e says said
+by_read text output outcome circuit layout (Err refusal) e told some said = absurd (some told.1)
+
+pub good_designs : ReportsOnGoodDesigns
+good_designs text output outcome circuit layout says some said = by_read text output outcome circuit layout (bundle_of text) refl says some said
 
 -- ---- a yes
 

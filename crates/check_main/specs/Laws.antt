@@ -1,9 +1,13 @@
 -- Laws of the answers.
-use Rattle.std.specs.Prelude.{◌≡◌, ℕ, List}
+use Rattle.std.specs.Prelude.{◌≡◌, ◌≢◌, ℕ, List, [], ◌++◌, None}
+use Rattle.circuit.specs.Bridge.{AreGood}
+use Rattle.circuit.specs.Text.{circuit_text}
 use Rattle.circuit.specs.declared.entry.Entry.{Entry}
 use Rattle.pattern.specs.Layout.{Pattern}
+use Rattle.pattern.specs.Lines.{AreGoodAfter, parts_of, size_fault}
+use Rattle.pattern.specs.Text.{layout_text}
 use Rattle.check_main.specs.declared.outcome.Outcome.{Outcome}
-use Rattle.check_main.specs.declared.outcome.Outcome.TheVariants.{Yes}
+use Rattle.check_main.specs.declared.outcome.Outcome.TheVariants.{Yes, Refused}
 use Rattle.check_main.specs.CheckText.{IsReportOf}
 use Rattle.check_main.specs.Design.{SaysDesign}
 use Rattle.check_main.specs.FourModules.{four_modules}
@@ -25,6 +29,19 @@ FourthLineTells = (text output : List ℕ) (outcome : Outcome) → IsReportOf te
 abbrev pub SaysOneDesign : Type 0
 SaysOneDesign = (text : List ℕ) (circuit circuit' : List Entry) (layout layout' : Pattern) → SaysDesign text circuit layout → SaysDesign text circuit' layout' →
     (circuit ≡ circuit') × (layout ≡ layout')
+
+-- Where a text is not refused, the design that it says is good: its lines keep the rules of their sections, and the text begins with the
+-- lines of both sections in their one spelling.
+pub record IsGoodDesign (text : List ℕ) (circuit : List Entry) (layout : Pattern) : Type 0 where
+  pub circuit_lines : AreGood circuit
+  pub size : size_fault layout.size ≡ None
+  pub layout_lines : AreGoodAfter layout.size [] (parts_of layout)
+  pub rest : List ℕ
+  pub begins : text ≡ circuit_text circuit ++ (layout_text layout ++ rest)
+
+abbrev pub ReportsOnGoodDesigns : Type 0
+ReportsOnGoodDesigns = (text output : List ℕ) (outcome : Outcome) (circuit : List Entry) (layout : Pattern) → IsReportOf text output outcome → outcome ≢ Refused →
+    SaysDesign text circuit layout → IsGoodDesign text circuit layout
 
 -- Something is reported with the outcome yes, so the laws are not about nothing: this text.
 abbrev pub FourModulesAreAccepted : Type 0

@@ -1,6 +1,6 @@
 //! Laws of the definitions, each the contract of a function without a body.
 ghost use Rattle.check_main.specs.CheckText.{IsReportOf};
-ghost use Rattle.check_main.specs.Laws.{FourModulesAreAccepted, FourthLineTells, HasOneAnswer, SaysOneDesign, YesMeansRight};
+ghost use Rattle.check_main.specs.Laws.{FourModulesAreAccepted, FourthLineTells, HasOneAnswer, ReportsOnGoodDesigns, SaysOneDesign, YesMeansRight};
 ghost use Rattle.check_main.specs.ModulesText.{IsModulesOf};
 ghost use Rattle.check_main.specs.RunText.{IsRunOf};
 ghost use Rattle.check_main.specs.ValueText.{IsValueOf};
@@ -32,9 +32,11 @@ pub fn yes_means_right()
     ensures told { FourthLineTells }
 {}
 
-/// A text begins with one circuit and one layout at most.
+/// A text begins with one circuit and one layout at most. Where it is not refused, these keep the rules of their sections, and each of
+/// their lines is spelled in the one way.
 pub fn says_one_design()
-    ensures { SaysOneDesign }
+    ensures one { SaysOneDesign }
+    ensures good { ReportsOnGoodDesigns }
 {}
 
 /// Something is reported with a yes: the text of four modules with a gate.

@@ -12,4 +12,4 @@ pub mod InsideLemmas
 pub mod StartLemmas
 pub mod RunLemmas
 mod Spelling
-mod RoundTrip
+pub mod RoundTrip
