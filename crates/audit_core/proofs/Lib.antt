@@ -15,5 +15,6 @@ pub mod WholeRuns
 pub mod InputRuns
 pub mod Examples
 mod PortNames
+mod WrongExamples
 pub mod YesMeansCorrect
 pub mod NamedPorts

@@ -102,3 +102,11 @@ pub record Example : Type 0 where
   pub jobs : List JobState
   pub long : 2 ≤ layout.size.steps
   pub accepted : IsAcceptedBundle lines layout modules jobs
+
+-- ---- and some layout is not correct, though its ports are named as the circuit's
+
+pub record WrongExample : Type 0 where
+  pub lines : List Entry
+  pub layout : Pattern
+  pub named : IsNamed lines layout
+  pub wrong : ¬ IsCorrect lines layout

@@ -1,5 +1,5 @@
 //! Laws of books, each the contract of a function without a body.
-ghost use Rattle.audit_core.specs.HeadlineLaws.{AcceptedIsCorrect, EndsAsAsked, Example, InputsDecideTheRun, ReadLayoutHasInputNames, ReadLayoutIsNamed, StartsAsJobs, StepsAsJobs};
+ghost use Rattle.audit_core.specs.HeadlineLaws.{AcceptedIsCorrect, EndsAsAsked, Example, InputsDecideTheRun, ReadLayoutHasInputNames, ReadLayoutIsNamed, StartsAsJobs, StepsAsJobs, WrongExample};
 ghost use Rattle.audit_core.specs.CoreLaws.{AcceptsOneForEach, DrawsEachOnce, EmptyWhereAllAreDrawn, EventsKeepWhatIsHeld, EventsReplay, HoldsHonestOwn, HoldsWhatWasAccepted, OnlyAcceptedChangesWhatIsHeld, VerdictIsOne};
 ghost use Rattle.audit_core.specs.Laws.{AcceptsItsOwn, BooksAgree, ClosedAnswersClosed, ClosedByItsHistory, DoublesWhatIsHeld, FullBookHoldsAll, HoldsWhatIsAccepted, HoldsNothingElse, KeepsWhatIsHeld, KnowsItsOwn, StaysBook, StaysReplayed};
 
@@ -100,4 +100,9 @@ pub fn inputs_decide_the_run()
 /// Some bundle with an odd time is accepted.
 pub fn something_is_accepted()
     ensures { Example }
+{}
+
+/// Some layout whose ports are named as the circuit's does not compute it.
+pub fn something_is_wrong()
+    ensures { WrongExample }
 {}
