@@ -10,5 +10,6 @@ pub mod Closings
 mod Designs
 mod FourModules
 mod Trials
+mod Words
 mod FourthLines
 pub mod YesIsRight

@@ -1,11 +1,13 @@
 -- Laws of the answers.
-use Rattle.std.specs.Prelude.{◌≡◌, ◌≢◌, ℕ, List, [], ◌++◌, None}
+use Rattle.std.specs.Prelude.{◌≡◌, ◌≢◌, ℕ, List, [], ◌∷◌, ◌++◌, None, codes}
 use Rattle.circuit.specs.Bridge.{AreGood}
 use Rattle.circuit.specs.Text.{circuit_text}
 use Rattle.circuit.specs.declared.entry.Entry.{Entry}
 use Rattle.pattern.specs.Layout.{Pattern}
 use Rattle.pattern.specs.Lines.{AreGoodAfter, parts_of, size_fault}
 use Rattle.pattern.specs.Text.{layout_text}
+use Rattle.command_line.specs.CommandLine.{IsAccepted, asked_by}
+use Rattle.command_line.specs.declared.Request.TheVariants.{Check}
 use Rattle.check_main.specs.declared.outcome.Outcome.{Outcome}
 use Rattle.check_main.specs.declared.outcome.Outcome.TheVariants.{Yes, Refused}
 use Rattle.check_main.specs.CheckText.{IsReportOf}
@@ -46,3 +48,8 @@ ReportsOnGoodDesigns = (text output : List ℕ) (outcome : Outcome) (circuit : L
 -- Something is reported with the outcome yes, so the laws are not about nothing: this text.
 abbrev pub FourModulesAreAccepted : Type 0
 FourModulesAreAccepted = (output : List ℕ) × IsReportOf four_modules output Yes
+
+-- the word `check` alone is accepted, and asks for `check`
+pub record OneWordAsks : Type 0 where
+  pub accepted : IsAccepted (codes "check" ∷ [])
+  pub asked : asked_by (codes "check" ∷ []) ≡ Check

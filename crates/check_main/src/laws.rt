@@ -1,6 +1,6 @@
 //! Laws of the definitions, each the contract of a function without a body.
 ghost use Rattle.check_main.specs.CheckText.{IsReportOf};
-ghost use Rattle.check_main.specs.Laws.{FourModulesAreAccepted, FourthLineTells, HasOneAnswer, ReportsOnGoodDesigns, SaysOneDesign, YesMeansRight};
+ghost use Rattle.check_main.specs.Laws.{FourModulesAreAccepted, FourthLineTells, HasOneAnswer, OneWordAsks, ReportsOnGoodDesigns, SaysOneDesign, YesMeansRight};
 ghost use Rattle.check_main.specs.ModulesText.{IsModulesOf};
 ghost use Rattle.check_main.specs.RunText.{IsRunOf};
 ghost use Rattle.check_main.specs.ValueText.{IsValueOf};
@@ -42,4 +42,9 @@ pub fn says_one_design()
 /// Something is reported with a yes: the text of four modules with a gate.
 pub fn something_is_accepted()
     ensures { FourModulesAreAccepted }
+{}
+
+/// The word `check` asks for `check`.
+pub fn one_word_asks()
+    ensures { OneWordAsks }
 {}
