@@ -1,5 +1,5 @@
 -- A bundle is accepted where its cells pass tests, one after the other. A proof by computation can run them.
-use Rattle.std.proofs.Common.{◌≡◌, ℕ, zero, suc, ◌<◌, ◌%◌, eqb, Bool, true, false, not, ◌&&◌, ◌||◌, List, [], ◌∷◌, length, Some, refl, sym, ap, subst, ◌∙◌, inl, inr, arith}
+use Rattle.std.proofs.Common.{◌≡◌, ℕ, zero, suc, ◌<◌, ◌%◌, eqb, Bool, true, false, not, ◌||◌, List, [], ◌∷◌, length, Some, refl, sym, ap, subst, ◌∙◌, inl, inr, arith}
 use Rattle.std.specs.Prelude.{ℤ, slice_get}
 use Rattle.std.specs.List.{list_all}
 use Rattle.std.proofs.lemmas.Bool.{and_parts, eqb-true, false≢true}
@@ -167,7 +167,7 @@ border_test g ms t = list_all (λ (m : ModuleLines). every_cell (whole g.size) (
 pub no_border_fault : (g : Setting) (ms : List ModuleLines) → ((t : ℕ) → t % 2 ≡ 1 → t < g.size.steps → border_test g ms t ≡ true) → (i : ℕ) (f : BorderFault) → ¬ IsBorderFault g ms i f
 no_border_fault g ms passes i f is =
     let own = all_at (λ (m : ModuleLines). every_cell (whole g.size) (λ x y. not (in_halo m.area x y)
-        || list_all (λ (o : ModuleLines). not (in_box o.area x y) || same_signal (halo_signal g.circuit m f.time x y) (edge_signal g.circuit o f.time x y)) ms)) ms i is.lines (passes f.time is.odd is.early) is.numbered in
+    || list_all (λ (o : ModuleLines). not (in_box o.area x y) || same_signal (halo_signal g.circuit m f.time x y) (edge_signal g.circuit o f.time x y)) ms)) ms i is.lines (passes f.time is.odd is.early) is.numbered in
     let here = implied (in_halo is.lines.area f.cell.x f.cell.y) _ (at_every (whole g.size) _ own f.cell.x f.cell.y is.inside) is.halo in
     let there = all_at (λ (o : ModuleLines). not (in_box o.area f.cell.x f.cell.y) || same_signal (halo_signal g.circuit is.lines f.time f.cell.x f.cell.y) (edge_signal g.circuit o f.time f.cell.x f.cell.y)) ms is.owner_number is.owner here is.owner_numbered in
     is.differ (same_signal_is _ _ (implied (in_box is.owner.area f.cell.x f.cell.y) _ there is.owned))

@@ -222,7 +222,7 @@ own_design text b output outcome circuit layout reads says said =
     let p : Pattern = c.layout in
     let same = says.its_own in
     let whole : IsFaultless (layout_grammar (Some (port_names_of b.circuit))) p.size (lines.parts_of p) =
-        subst (λ (q : Size × List Part). IsFaultless (layout_grammar (Some (port_names_of b.circuit))) q.0 q.1) (sym same.layout) good.layout in
+    subst (λ (q : Size × List Part). IsFaultless (layout_grammar (Some (port_names_of b.circuit))) q.0 q.1) (sym same.layout) good.layout in
     let begins = good.begins p same.layout in
     let one = one_design text b.circuit circuit p layout (good.says p same.layout) said in
     subst (λ (cs : List CircuitLine). IsGoodDesign text cs layout) one.0 (subst (IsGoodDesign text b.circuit) one.1 (record {
@@ -255,8 +255,8 @@ judged_yes text b output outcome reads says is =
     let same = says.its_own in
     let circuit : AreGood c.circuit = subst AreGood (sym same.circuit) good.circuit in
     let whole : IsFaultless (layout_grammar (Some (port_names_of c.circuit))) c.layout.size (lines.parts_of c.layout) =
-        subst (λ (q : Size × List Part). IsFaultless (layout_grammar (Some (port_names_of c.circuit))) q.0 q.1) (sym same.layout)
-        (subst (λ (cs : List CircuitLine). IsFaultless (layout_grammar (Some (port_names_of cs))) b.size b.parts) (sym same.circuit) good.layout) in
+    subst (λ (q : Size × List Part). IsFaultless (layout_grammar (Some (port_names_of c.circuit))) q.0 q.1) (sym same.layout)
+    (subst (λ (cs : List CircuitLine). IsFaultless (layout_grammar (Some (port_names_of cs))) b.size b.parts) (sym same.circuit) good.layout) in
     let gates = gates_are_ordered c.circuit circuit in
     let v = says.is_verdict in
     let judged = subst (λ (w : Verdict). IsVerdict (setting_of c.circuit c.layout) (modules_of c.entries) v.jobs w) is v.judged in
