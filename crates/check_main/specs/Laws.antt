@@ -32,8 +32,8 @@ abbrev pub SaysOneDesign : Type 0
 SaysOneDesign = (text : List ℕ) (circuit circuit' : List Entry) (layout layout' : Pattern) → SaysDesign text circuit layout → SaysDesign text circuit' layout' →
     (circuit ≡ circuit') × (layout ≡ layout')
 
--- Where a text is not refused, the design that it says is good: its lines keep the rules of their sections, and the text begins with the
--- lines of both sections in their one spelling.
+-- Where a text is not refused, the design that it says is good: each of its lines is good after those before it, by names, limits and
+-- cells, and the text begins with the lines of both sections in their one spelling.
 pub record IsGoodDesign (text : List ℕ) (circuit : List Entry) (layout : Pattern) : Type 0 where
   pub circuit_lines : AreGood circuit
   pub size : size_fault layout.size ≡ None

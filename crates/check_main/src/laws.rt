@@ -32,8 +32,8 @@ pub fn yes_means_right()
     ensures told { FourthLineTells }
 {}
 
-/// A text begins with one circuit and one layout at most. Where it is not refused, these keep the rules of their sections, and each of
-/// their lines is spelled in the one way.
+/// A text begins with one circuit and one layout at most. Where it is not refused, each of their lines is good after those before it, by
+/// names, limits and cells, and is spelled in the one way.
 pub fn says_one_design()
     ensures one { SaysOneDesign }
     ensures good { ReportsOnGoodDesigns }
