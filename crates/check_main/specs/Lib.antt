@@ -1,17 +1,5 @@
-pub mod Answers
-pub mod Device
-pub mod Over
-pub mod RunText
 pub mod Status
 pub mod Stream
 pub mod Laws
-pub mod ValueText
 pub mod Commands
-pub mod BundleText
-pub mod BundleReading
-pub mod CheckText
-pub mod Design
-pub mod Headline
-pub mod FourModules
-pub mod ModulesText
 pub mod Audits

@@ -1,8 +1,8 @@
 -- The exit status for how a command ended, and the line for a fault.
 use Rattle.std.specs.Prelude.{◌≡◌, ℕ, Bool, true, false, List, Option, Ok, Err, Result, codes}
 use Rattle.std.specs.Io.KnownBytes.{Appends}
-use Rattle.check_main.specs.declared.outcome.Outcome.{Outcome}
-use Rattle.check_main.specs.declared.outcome.Outcome.TheVariants.{Yes, No, Refused}
+use Rattle.answers.specs.declared.outcome.Outcome.{Outcome}
+use Rattle.answers.specs.declared.outcome.Outcome.TheVariants.{Yes, No, Refused}
 use Rattle.check_main.specs.declared.fault.CheckFault.{CheckFault}
 use Rattle.check_main.specs.declared.fault.CheckFault.TheVariants.{Read, Write, TooLong, Memory, Missing}
 use Rattle.audit_core.specs.declared.verdict.Unfinished.{Unfinished}

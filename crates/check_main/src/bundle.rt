@@ -1,19 +1,16 @@
-//! Reads a bundle, and answers with its report or its modules.
+//! Reads a bundle, and answers with its report.
 ghost use Rattle.std.specs.Prelude.{◌≡◌, ◌<◌, ◌≤◌, true, None, IfErr, IfOk};
-ghost use Rattle.check_main.specs.CheckText.{IsReportOf};
-ghost use Rattle.check_main.specs.BundleReading.{TellsRefusal};
-ghost use Rattle.check_main.specs.ModulesText.{IsModulesOf};
+ghost use Rattle.answers.specs.CheckText.{IsReportOf};
+ghost use Rattle.answers.specs.BundleReading.{TellsRefusal};
 ghost use Rattle.check_main.specs.Status.{IsUndecided};
 
 use crate::CheckFault;
 use crate::check::report_on;
-use crate::modules::list_modules;
-use crate::outcome::{Answered, Outcome};
+use answers::Answered;
 use certificate::read_certificate;
 use circuit::{port_names, read_circuit};
 use job_pool::Gate;
 use pattern::read_layout;
-use report::refusal_text;
 use section_text::{Feed, ReadFault};
 use std::alloc::Global;
 use std::sync::Wait;
@@ -56,46 +53,11 @@ pub(crate) fn report_of_text<G: Gate + Sync, R: Threads + Wait + Sync>(
     report_on(rt, alloc, &cert, workers, gate)
 }
 
-/// The modules of a text that is read whole: reads a bundle up to the end of the text, and lists them.
-pub(crate) fn modules_of_text(alloc: Global, text: &mut Feed) -> Result<Answered, CheckFault>
-    requires closed { text.old.closed ≡ true }
-    requires unread { text.old.taken ≡ 0 }
-    requires going { text.old.stop ≡ None }
-    ensures answered { IfOk result (λ answered. IsModulesOf text.old.text answered.output.items answered.outcome) }
-    ensures memory { IfErr result (λ fault. fault ≡ CheckFault.Memory) }
-{
-    let circuit = match read_circuit(alloc, text) {
-        Err(fault) => return refused(alloc, fault),
-        Ok(circuit) => circuit,
-    };
-    let ports = match port_names(alloc, &circuit) {
-        Err(_) => return Err(CheckFault::Memory),
-        Ok(ports) => ports,
-    };
-    let layout = match read_layout(alloc, text, &ports) {
-        Err(fault) => return refused(alloc, fault),
-        Ok(layout) => layout,
-    };
-    let cert = match read_certificate(alloc, text, &circuit, &layout) {
-        Err(fault) => return refused(alloc, fault),
-        Ok(cert) => cert,
-    };
-    if let Err(fault) = text.finish() {
-        return refused(alloc, fault);
-    }
-    list_modules(alloc, &cert)
-}
-
 // The line for a refusal.
 fn refused(alloc: Global, fault: ReadFault) -> Result<Answered, CheckFault>
     ensures told { IfOk result (λ answered. TellsRefusal fault answered.output.items answered.outcome) }
     ensures memory { IfErr result (λ fault. fault ≡ CheckFault.Memory) }
 {
-    match fault {
-        ReadFault::Memory => Err(CheckFault::Memory),
-        ReadFault::Refused(refusal) => Ok(Answered {
-            outcome: Outcome::Refused,
-            output: refusal_text(alloc, refusal)?,
-        }),
-    }
+    let answered = answers::refused(alloc, fault)?;
+    Ok(answered)
 }

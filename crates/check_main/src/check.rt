@@ -1,12 +1,12 @@
 //! Checks a certificate: has its modules run by workers, and reports what was found.
 ghost use Rattle.std.specs.Prelude.{◌≡◌, ◌<◌, ◌≤◌, IfErr, IfOk};
-ghost use Rattle.check_main.specs.BundleReading.{bundle_by};
-ghost use Rattle.check_main.specs.CheckText.{IsVerdictOn, SaysReport, verdict_outcome};
+ghost use Rattle.answers.specs.BundleReading.{bundle_by};
+ghost use Rattle.answers.specs.CheckText.{IsVerdictOn, SaysReport, verdict_outcome};
 ghost use Rattle.check_main.specs.Status.{IsUndecided, fault_after};
 
 use crate::CheckFault;
 use crate::auditing::{Audited, audit};
-use crate::outcome::{Answered, Outcome};
+use answers::{Answered, Outcome};
 use audit_core::{Unfinished, Verdict, conclude};
 use border_match::match_borders;
 use certificate::Cert;

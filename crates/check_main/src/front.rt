@@ -3,15 +3,17 @@ ghost use Rattle.std.specs.Prelude.{◌≡◌, ◌≢◌, ◌<◌, ◌≤◌, �
 ghost use Rattle.clap.specs.Words.{kind_of};
 ghost use Rattle.command_line.specs.CommandLine.{IsAccepted, AsksForHelp, asked_by};
 ghost use Rattle.check_main.specs.Commands.{IsAnswerTo};
-ghost use Rattle.check_main.specs.Headline.{GivesRight, YesIsRight};
+ghost use Rattle.headline.specs.Headline.{GivesRight, YesIsRight};
 ghost use Rattle.check_main.specs.Status.{status_for, line_for, Says};
 ghost use Rattle.check_main.specs.Stream.{Answers, BreaksOff, GivesTooMuch};
 
+use crate::CheckFault;
 use crate::stream::{check_stream, modules_stream, run_stream, value_stream, write_whole};
-use crate::{CheckFault, Outcome, Sink, Source};
+use answers::Outcome;
 use clap::Error;
 use clap::error::ErrorKind;
 use command_line::{Asked, Request, read_words};
+use device::{Sink, Source};
 use job_pool::OpenGate;
 use std::alloc::Global;
 use std::sync::Wait;

@@ -1,18 +1,17 @@
 //! From a reader's bytes to a writer's.
 ghost use Rattle.std.specs.Prelude.{◌≡◌, ◌≢◌, ◌<◌, ◌≤◌, true, false, Ok, IfOk, IfErr, IsErrOf, OnOk};
 ghost use Rattle.std.specs.Io.KnownBytes.{Appends};
-ghost use Rattle.check_main.specs.CheckText.{IsReportOf};
-ghost use Rattle.check_main.specs.Headline.{GivesRight, YesIsRight};
-ghost use Rattle.check_main.specs.ModulesText.{IsModulesOf};
-ghost use Rattle.check_main.specs.RunText.{IsRunOf};
-ghost use Rattle.check_main.specs.ValueText.{IsValueOf};
+ghost use Rattle.answers.specs.CheckText.{IsReportOf};
+ghost use Rattle.headline.specs.Headline.{GivesRight, YesIsRight};
+ghost use Rattle.answers.specs.ModulesText.{IsModulesOf};
+ghost use Rattle.answers.specs.RunText.{IsRunOf};
+ghost use Rattle.answers.specs.ValueText.{IsValueOf};
 ghost use Rattle.check_main.specs.Stream.{Answers, BreaksOff, ReadsAll, GivesTooMuch, TakesPrefix, whole_text};
 
-use crate::bundle::{modules_of_text, report_of_text};
-use crate::outcome::Answered;
-use crate::run::run_text;
-use crate::value::value_text;
-use crate::{CheckFault, Outcome, Sink, Source};
+use crate::CheckFault;
+use crate::bundle::report_of_text;
+use answers::{Answered, Outcome, modules_text, run_text, value_text};
+use device::{Sink, Source};
 use job_pool::Gate;
 use section_text::{Feed, PushFault};
 use std::alloc::Global;
@@ -143,7 +142,7 @@ pub fn modules_stream<R: Source, W: Sink>(
     ensures not_missing { IfErr result (λ fault. fault ≢ CheckFault.Missing) }
 {
     let mut feed = read_text(alloc, reader)?;
-    let answered = modules_of_text(alloc, &mut feed)?;
+    let answered = modules_text(alloc, &mut feed).map_err(|_| CheckFault::Memory)?;
     write_answer(writer, &answered)
 }
 

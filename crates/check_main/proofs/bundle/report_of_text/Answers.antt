@@ -1,9 +1,9 @@
 -- The circuit, the layout, the certificate, and the end of the text.
 use Rattle.std.proofs.lemmas.Result.{IfOk-weaker}
 use Rattle.section_text.specs.Ports.{named_ports}
-use Rattle.check_main.specs.CheckText.{SaysReport}
-use Rattle.check_main.specs.BundleText.{bundle_of}
-use Rattle.check_main.proofs.Bundles.{bundle_answers, bundle_goes_on, bundle_read, certificate_failed, circuit_failed, going_3, layout_failed, refusal_answers}
+use Rattle.answers.specs.CheckText.{SaysReport}
+use Rattle.answers.specs.BundleText.{bundle_of}
+use Rattle.answers.proofs.Bundles.{bundle_answers, bundle_goes_on, bundle_read, certificate_failed, circuit_failed, going_3, layout_failed, refusal_answers}
 use Rattle.check_main.proofs.bundle.report_of_text.Goals as goal
 
 pub returns-in-Err-clause-answered : goal.returns-in-Err-clause-answered

@@ -1,6 +1,6 @@
 -- What was written is the report on what was read, or its first bytes, or nothing.
 use Rattle.std.proofs.Common.{refl}
-use Rattle.check_main.proofs.YesIsRight.{nothing_said, outcome_right, written_right}
+use Rattle.check_main.proofs.RightStreams.{nothing_said, outcome_right, written_right}
 use Rattle.check_main.proofs.stream.check_stream.Goals as goal
 
 pub returns-in_err-feed-clause-says_yes : goal.returns-in_err-feed-clause-says_yes

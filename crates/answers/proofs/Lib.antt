@@ -1,0 +1,4 @@
+mod AskedLemmas
+mod InNames
+pub mod ModuleText
+pub mod Bundles

@@ -1,0 +1,8 @@
+-- The lines of the modules so far.
+use Rattle.std.proofs.Common.{◌≡◌, map, take}
+use Rattle.certificate.specs.Entries.{counts_of, modules_of}
+use Rattle.answers.specs.ModulesText.{module_lines}
+use Rattle.answers.proofs.modules.print_modules.Given as goal
+
+abbrev pub invariant-loop-number : goal.invariant-loop-number
+invariant-loop-number l = l.out.items ≡ module_lines 0 (take l.number (map counts_of (modules_of l.fn.cert.entries)))

@@ -1,0 +1,8 @@
+-- The cells so far are printed.
+use Rattle.std.proofs.Common.{◌≡◌, ◌++◌, take}
+use Rattle.std.specs.List.{flat_map}
+use Rattle.answers.specs.RunText.{cell_line}
+use Rattle.answers.proofs.run.print_cells.Given as goal
+
+abbrev pub invariant-loop-cell : goal.invariant-loop-cell
+invariant-loop-cell l = l.out.items ≡ l.fn.out.items ++ flat_map cell_line (take l.cell-index l.cells)

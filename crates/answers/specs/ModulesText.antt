@@ -1,0 +1,39 @@
+-- What `modules` answers to a text: a line for each module of a bundle's certificate, or the refusal of the text.
+use Rattle.std.specs.Prelude.{◌≡◌, ℕ, ◌+◌, List, [], ◌∷◌, ◌++◌, map, codes}
+use Rattle.std.specs.Fmt.{decimal}
+use Rattle.section_text.specs.Spelling.{line_text}
+use Rattle.certificate.specs.Entries.{counts_of, modules_of}
+use Rattle.module_box.specs.declared.boxes.Box2.{Box2}
+use Rattle.certificate.specs.declared.entry.Counts.{Counts}
+use Rattle.answers.specs.declared.outcome.Outcome.{Outcome}
+use Rattle.answers.specs.declared.outcome.Outcome.TheVariants.{Yes}
+use Rattle.answers.specs.Answers.{Answered}
+use Rattle.answers.specs.BundleText.{Bundle, bundle_of}
+
+-- the corner and the sides of a box
+abbrev pub area_words : Box2 → List (List ℕ)
+area_words b = decimal b.x ∷ decimal b.y ∷ decimal b.w ∷ decimal b.h ∷ []
+
+-- how many lines of each kind there are
+abbrev pub count_words : Counts → List (List ℕ)
+count_words k =
+    codes "cuts" ∷ decimal k.cuts ∷ codes "gates" ∷ decimal k.gates
+    ∷ codes "edges" ∷ decimal k.edges ∷ codes "halos" ∷ decimal k.halos ∷ codes "stops" ∷ decimal k.stops ∷ []
+
+-- the line of the module of this number
+unfoldable pub module_line : ℕ → Counts → List ℕ
+module_line n k = line_text (codes "module") (decimal n ∷ (area_words k.area ++ count_words k))
+
+-- the lines of modules, numbered from n on
+unfoldable pub module_lines : ℕ → List Counts → List ℕ
+module_lines n [] = []
+module_lines n (k ∷ ks) = module_line n k ++ module_lines (n + 1) ks
+
+-- the box of each module and how many lines of each kind it has, in order
+pub record SaysModules (bundle : Bundle) (output : List ℕ) (outcome : Outcome) : Type 0 where
+  pub says : output ≡ module_lines 0 (map counts_of (modules_of bundle.entries))
+  pub ends : outcome ≡ Yes
+
+-- what `modules` writes for a text, and how it ends
+abbrev pub IsModulesOf : List ℕ → List ℕ → Outcome → Type 0
+IsModulesOf text output outcome = Answered SaysModules (bundle_of text) output outcome

@@ -1,0 +1,65 @@
+-- What `run` answers to a text: the whole run of a layout from the names that are on, or the refusal of the text.
+use Rattle.std.specs.Prelude.{◌≡◌, ℕ, List, [], ◌∷◌, ◌++◌, length, None, Result, codes}
+use Rattle.std.specs.List.{flat_map}
+use Rattle.std.specs.Fmt.{decimal, signed_decimal}
+use Rattle.section_text.specs.Words.{lines_of, has}
+use Rattle.section_text.specs.Spelling.{line_text}
+use Rattle.section_text.specs.Sections.{section_then}
+use Rattle.section_text.specs.declared.fault.Refusal.{Refusal}
+use Rattle.bbm_rule.specs.declared.block.Cell.{Cell}
+use Rattle.pattern.specs.declared.parts.Part.{Part}
+use Rattle.pattern.specs.declared.parts.Part.TheVariants.{Mirror, Ball, In, Out, Waste}
+use Rattle.pattern.specs.declared.parts.Size.{Size}
+use Rattle.pattern.specs.declared.run.RunEnd.{RunEnd}
+use Rattle.pattern.specs.declared.run.RunEnd.TheVariants.{Cells, LeftAt}
+use Rattle.pattern.specs.Layout.{Pattern}
+use Rattle.pattern.specs.Grammars.{layout_grammar, layout_value}
+use Rattle.pattern.specs.Run.{IsRunEnd}
+use Rattle.answers.specs.declared.outcome.Outcome.{Outcome}
+use Rattle.answers.specs.declared.outcome.Outcome.TheVariants.{Yes, No}
+use Rattle.answers.specs.Answers.{Answered, names_asked}
+
+-- ---- what is read
+
+-- the name of an input cell
+abbrev pub in_name : Part → List (List ℕ)
+in_name (Mirror r) = []
+in_name (Ball c) = []
+in_name (In p) = p.name ∷ []
+in_name (Out p) = []
+in_name (Waste c) = []
+
+-- the lines of a layout, and the names that are on
+abbrev pub RunAsked : Type 0
+RunAsked = (Size × List Part) × List (List ℕ)
+
+-- a layout section, an assign section in which the names of its input cells may be on, and nothing more
+unfoldable pub run_asked : List ℕ → Result RunAsked Refusal
+run_asked text =
+    section_then (layout_grammar None) 0 (lines_of text) (λ size parts n ahead. names_asked text (size, parts) (flat_map in_name parts) n ahead)
+
+-- ---- what is written
+
+abbrev pub cell_line : Cell → List ℕ
+cell_line c = line_text (signed_decimal c.x) (signed_decimal c.y ∷ [])
+
+abbrev pub end_text : RunEnd → List ℕ
+end_text (Cells cells) = line_text (codes "cells") (decimal (length cells.items) ∷ []) ++ flat_map cell_line cells.items
+end_text (LeftAt k) = line_text (codes "left") (decimal k ∷ [])
+
+abbrev pub end_outcome : RunEnd → Outcome
+end_outcome (Cells cells) = Yes
+end_outcome (LeftAt k) = No
+
+-- the layout of these lines was run with these names on, and this says how it ended
+pub record SaysRunEnd (asked : RunAsked) (output : List ℕ) (outcome : Outcome) : Type 0 where
+  pub layout : Pattern
+  pub end : RunEnd
+  pub lines : layout_value layout ≡ asked.0
+  pub run : IsRunEnd layout (has asked.1) end
+  pub says : output ≡ end_text end
+  pub ends : outcome ≡ end_outcome end
+
+-- what `run` writes for a text, and how it ends
+abbrev pub IsRunOf : List ℕ → List ℕ → Outcome → Type 0
+IsRunOf text output outcome = Answered SaysRunEnd (run_asked text) output outcome

@@ -1,0 +1,28 @@
+//! What the commands over two sections have in common.
+ghost use Rattle.std.specs.Prelude.{◌≡◌, true, None};
+ghost use Rattle.section_text.specs.FeedState.{ahead};
+ghost use Rattle.section_text.specs.Section.{Gives};
+ghost use Rattle.answers.specs.Answers.{names_read};
+
+use pattern::read_assign;
+use section_text::{Feed, Name, ReadFault};
+use std::alloc::Global;
+
+/// Reads which of the names are on, and the end of the text.
+pub(crate) fn read_names(
+    alloc: Global,
+    feed: &mut Feed,
+    names: &[Name],
+) -> Result<Vec<Name>, ReadFault>
+    requires closed { feed.old.closed ≡ true }
+    requires going { feed.old.stop ≡ None }
+    ensures { Gives (λ on. on.items) result (names_read feed.old.text names.now feed.old.taken (ahead feed.old)) }
+{
+    match read_assign(alloc, feed, names) {
+        Err(fault) => Err(fault),
+        Ok(on) => match feed.finish() {
+            Err(fault) => Err(fault),
+            Ok(()) => Ok(on),
+        },
+    }
+}

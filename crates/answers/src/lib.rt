@@ -1,0 +1,16 @@
+//! What each command answers to a text that was read whole.
+#![tactic(auto)]
+
+mod asking;
+mod listing;
+mod modules;
+mod outcome;
+mod refusing;
+mod run;
+mod value;
+
+pub use listing::modules_text;
+pub use outcome::{Answered, Outcome};
+pub use refusing::refused;
+pub use run::run_text;
+pub use value::value_text;

@@ -1,0 +1,21 @@
+//! What is answered to a text that is refused.
+ghost use Rattle.std.specs.Prelude.{IfOk};
+ghost use Rattle.answers.specs.BundleReading.{TellsRefusal};
+
+use crate::outcome::{Answered, Outcome};
+use report::refusal_text;
+use section_text::ReadFault;
+use std::alloc::{AllocError, Global};
+
+/// The line for a refusal, or want of memory.
+pub fn refused(alloc: Global, fault: ReadFault) -> Result<Answered, AllocError>
+    ensures told { IfOk result (λ answered. TellsRefusal fault answered.output.items answered.outcome) }
+{
+    match fault {
+        ReadFault::Memory => Err(AllocError),
+        ReadFault::Refused(refusal) => Ok(Answered {
+            outcome: Outcome::Refused,
+            output: refusal_text(alloc, refusal)?,
+        }),
+    }
+}

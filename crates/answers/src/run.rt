@@ -1,0 +1,127 @@
+//! Runs a layout under an assignment.
+ghost use Rattle.std.specs.Prelude.{◌≡◌, ◌++◌, [], ◌∷◌, true, None, IfOk, OnOk, codes, length, map};
+ghost use Rattle.std.specs.Fmt.{decimal};
+ghost use Rattle.std.specs.List.{flat_map};
+ghost use Rattle.section_text.specs.Section.{Gives};
+ghost use Rattle.section_text.specs.Spelling.{line_text};
+ghost use Rattle.pattern.specs.Grammars.{layout_value};
+ghost use Rattle.answers.specs.RunText.{IsRunOf, SaysRunEnd, cell_line, end_outcome, end_text, run_asked};
+
+use crate::asking::read_names;
+use crate::outcome::{Answered, Outcome};
+use bbm_rule::Cell;
+use pattern::{Layout, RunEnd, read_layout, run_plain};
+use report::refusal_text;
+use section_text::{Feed, Name, PortNames, ReadFault};
+use std::alloc::{AllocError, Global};
+
+// The names of the input cells.
+fn in_names(alloc: Global, layout: &Layout) -> Result<Vec<Name>, AllocError>
+    ensures { IfOk result (λ names. names.items ≡ map (λ p. p.name) layout.now.ins) }
+{
+    layout.ins().iter().map(|port| port.name).collect(alloc)
+}
+
+// Reads a layout, the names that are on, and the end of the text.
+fn read_asked(alloc: Global, feed: &mut Feed) -> Result<(Layout, Vec<Name>), ReadFault>
+    requires closed { feed.old.closed ≡ true }
+    requires unread { feed.old.taken ≡ 0 }
+    requires going { feed.old.stop ≡ None }
+    ensures { Gives (λ asked. (layout_value asked.0, asked.1.items)) result (run_asked feed.old.text) }
+{
+    let layout = match read_layout(alloc, feed, &PortNames::Any) {
+        Err(fault) => return Err(fault),
+        Ok(layout) => layout,
+    };
+    let Ok(ins) = in_names(alloc, &layout) else {
+        return Err(ReadFault::Memory);
+    };
+    match read_names(alloc, feed, &ins) {
+        Err(fault) => Err(fault),
+        Ok(on) => Ok((layout, on)),
+    }
+}
+
+fn print_cell(alloc: Global, out: &mut Vec<u8>, cell: Cell) -> Result<(), AllocError>
+    ensures { OnOk result (out.new.items ≡ out.old.items ++ cell_line cell) }
+{
+    let line = format!(in alloc; "{} {}\n", cell.x, cell.y)?;
+    out.extend_from_slice(line.as_bytes())?;
+    Ok(())
+}
+
+fn print_cells(alloc: Global, out: &mut Vec<u8>, cells: &[Cell]) -> Result<(), AllocError>
+    ensures { OnOk result (out.new.items ≡ out.old.items ++ flat_map cell_line cells.now) }
+{
+    for cell in cells {
+        print_cell(alloc, out, *cell)?;
+    }
+    Ok(())
+}
+
+fn left_text(alloc: Global, step: u32) -> Result<Vec<u8>, AllocError>
+    ensures { IfOk result (λ text. text.items ≡ line_text (codes "left") (decimal step ∷ [])) }
+{
+    let line = format!(in alloc; "left {step}\n")?;
+    Ok(line.into_bytes())
+}
+
+fn count_text(alloc: Global, count: usize) -> Result<Vec<u8>, AllocError>
+    ensures { IfOk result (λ text. text.items ≡ line_text (codes "cells") (decimal count ∷ [])) }
+{
+    let line = format!(in alloc; "cells {count}\n")?;
+    Ok(line.into_bytes())
+}
+
+fn cells_text(alloc: Global, cells: &[Cell]) -> Result<Vec<u8>, AllocError>
+    ensures { IfOk result (λ text. text.items ≡ line_text (codes "cells") (decimal (length cells.now) ∷ []) ++ flat_map cell_line cells.now) }
+{
+    let mut text = count_text(alloc, cells.len())?;
+    print_cells(alloc, &mut text, cells)?;
+    Ok(text)
+}
+
+fn end_of_run(alloc: Global, end: &RunEnd) -> Result<Vec<u8>, AllocError>
+    ensures { IfOk result (λ text. text.items ≡ end_text end.now) }
+{
+    match end {
+        RunEnd::LeftAt(step) => left_text(alloc, *step),
+        RunEnd::Cells(cells) => cells_text(alloc, cells),
+    }
+}
+
+fn outcome_of(end: &RunEnd) -> Outcome
+    ensures { result ≡ end_outcome end.now }
+{
+    match end {
+        RunEnd::Cells(_) => Outcome::Yes,
+        RunEnd::LeftAt(_) => Outcome::No,
+    }
+}
+
+// Runs a layout with these names on.
+fn answer(alloc: Global, layout: &Layout, on: &[Name]) -> Result<Answered, AllocError>
+    ensures { IfOk result (λ answered. SaysRunEnd (layout_value layout.now, on.now) answered.output.items answered.outcome) }
+{
+    let end = run_plain(alloc, layout, on)?;
+    let outcome = outcome_of(&end);
+    let output = end_of_run(alloc, &end)?;
+    Ok(Answered { outcome, output })
+}
+
+/// Answers a text that is read whole.
+pub fn run_text(alloc: Global, feed: &mut Feed) -> Result<Answered, AllocError>
+    requires closed { feed.old.closed ≡ true }
+    requires unread { feed.old.taken ≡ 0 }
+    requires going { feed.old.stop ≡ None }
+    ensures { IfOk result (λ answered. IsRunOf feed.old.text answered.output.items answered.outcome) }
+{
+    match read_asked(alloc, feed) {
+        Err(ReadFault::Memory) => Err(AllocError),
+        Err(ReadFault::Refused(refusal)) => Ok(Answered {
+            outcome: Outcome::Refused,
+            output: refusal_text(alloc, refusal)?,
+        }),
+        Ok((layout, on)) => answer(alloc, &layout, &on),
+    }
+}

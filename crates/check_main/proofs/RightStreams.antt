@@ -1,0 +1,66 @@
+-- What was read and written, and what was right of it.
+use Rattle.std.proofs.Common.{◌≡◌, ℕ, List, [], ◌∷◌, ◌++◌, Option, Some, None, Result, Ok, Err, refl, sym, ap, subst, ◌∙◌, append-nil}
+use Rattle.std.specs.Prelude.{IfErr, IfOk, OnOk}
+use Rattle.std.specs.Io.KnownBytes.{Appends, Consumes, IsAtEnd}
+use Rattle.section_text.specs.Words.{lines_of}
+use Rattle.answers.specs.CheckText.{IsReportOf}
+use Rattle.answers.specs.declared.outcome.Outcome.{Outcome}
+use Rattle.answers.specs.declared.outcome.Outcome.TheVariants.{Yes}
+use Rattle.headline.specs.Headline.{GivesRight, IsRight, SaysYes, YesIsRight}
+use Rattle.headline.proofs.FourthLines.{says_on}
+use Rattle.headline.proofs.YesIsRight.{by_line, yes_is_right}
+use Rattle.check_main.specs.Stream.{ReadsAll, TakesPrefix}
+
+all_read : (left left' : Option (List ℕ)) (text known : List ℕ) → left ≡ Some known → Consumes left left' text → IsAtEnd left' → text ≡ known
+all_read None left' text known e given ended = absurd cc
+all_read (Some xs) None text known e given ended = absurd given
+all_read (Some xs) (Some ys) text known e given ended =
+    let own : xs ≡ known = cc in
+    sym (append-nil text) ∙ ap (λ t. text ++ t) (sym ended) ∙ sym given ∙ own
+
+pub right_given : (left left' : Option (List ℕ)) (text : List ℕ) → ReadsAll left left' text → IsRight text → GivesRight left
+right_given left left' text read right known e = subst IsRight (all_read left left' text known e read.given read.ended) right
+
+taken_is : (held held' : Option (List ℕ)) (before more taken : List ℕ) → held ≡ Some before → held' ≡ Some (before ++ more) → Appends held held' taken → more ≡ taken
+taken_is None held' before more taken e f appended = absurd cc
+taken_is (Some xs) None before more taken e f appended = absurd appended
+taken_is (Some xs) (Some ys) before more taken e f appended =
+    let own : xs ≡ before = cc in
+    let now : ys ≡ before ++ more = cc in
+    append_cancel_left before more taken (sym now ∙ appended ∙ ap (λ t. t ++ taken) own)
+
+-- the first bytes of a report were written
+pub said_right : (left left' held held' : Option (List ℕ)) (text output : List ℕ) (outcome : Outcome) → ReadsAll left left' text → IsReportOf text output outcome → TakesPrefix held held' output → YesIsRight left held held'
+said_right left left' held held' text output outcome read says taken known before more e f g line =
+    let is = taken_is held held' before more taken.taken f g taken.appended in
+    right_given left left' text read (by_line text output outcome says (subst SaysYes (sym taken.whole) (says_on taken.taken taken.rest (subst SaysYes is line)))) known e
+
+-- all of it was
+pub all_said_right : (left left' held held' : Option (List ℕ)) (text output : List ℕ) (outcome : Outcome) → ReadsAll left left' text → IsReportOf text output outcome → Appends held held' output → YesIsRight left held held'
+all_said_right left left' held held' text output outcome read says appended =
+    said_right left left' held held' text output outcome read says (record { taken = output; rest = []; whole = sym (append-nil output); appended = appended })
+
+nothing_says : SaysYes [] → ⊥
+unfolding lines_of
+nothing_says e = cc
+
+-- nothing was
+pub nothing_said : (left held held' : Option (List ℕ)) → held' ≡ held → YesIsRight left held held'
+nothing_said left held held' same text before more e f g line =
+    let both : ◌≡◌ {A = Option (List ℕ)} (Some (before ++ more)) (Some before) = sym g ∙ same ∙ f in
+    let own : before ++ more ≡ before = cc in
+    absurd (nothing_says (subst SaysYes (append_cancel_left before more [] (own ∙ sym (append-nil before))) line))
+
+-- a writer was told the report, or its first bytes
+pub written_right : {E : Type 0} (left left' held held' : Option (List ℕ)) (text output : List ℕ) (outcome : Outcome) → ReadsAll left left' text → IsReportOf text output outcome →
+    (result : Result Outcome E) → OnOk result (Appends held held' output) → IfErr result (λ e. TakesPrefix held held' output) → YesIsRight left held held'
+written_right left left' held held' text output outcome read says (Ok o) all front = all_said_right left left' held held' text output outcome read says all
+written_right left left' held held' text output outcome read says (Err e) all front = said_right left left' held held' text output outcome read says front
+
+-- and it ended as the report does
+pub outcome_right : {E : Type 0} (left left' : Option (List ℕ)) (text output : List ℕ) (outcome : Outcome) → ReadsAll left left' text → IsReportOf text output outcome →
+    (result : Result Outcome E) → result ≡ Ok Yes → IfOk result (λ o. o ≡ outcome) → GivesRight left
+outcome_right left left' text output outcome read says (Ok o) is same =
+    let yes_is : o ≡ Yes = cc in
+    right_given left left' text read (yes_is_right text output (subst (λ o. IsReportOf text output o) (sym same ∙ yes_is) says))
+outcome_right left left' text output outcome read says (Err e) is same = absurd cc

@@ -1,5 +1,0 @@
-use Rattle.check_main.proofs.OneReport.{one_report}
-use Rattle.check_main.proofs.laws.check_has_one_answer.Goals as goal
-
-pub returns : goal.returns
-returns c = one_report

@@ -1,5 +1,0 @@
-use Rattle.check_main.proofs.OneAnswer.{one_answer}
-use Rattle.check_main.proofs.laws.run_has_one_answer.Goals as goal
-
-pub returns : goal.returns
-returns c = one_answer

@@ -1,5 +1,0 @@
-use Rattle.check_main.proofs.OneValue.{one_value}
-use Rattle.check_main.proofs.laws.value_has_one_answer.Goals as goal
-
-pub returns : goal.returns
-returns c = one_value

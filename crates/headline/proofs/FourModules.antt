@@ -1,0 +1,567 @@
+-- The text of four modules around a gate is accepted: it is read, and tried, by computation.
+use Rattle.std.proofs.Common.{◌≡◌, ℕ, zero, suc, ◌<◌, ◌%◌, true, false, List, [], ◌∷◌, ◌++◌, Option, Some, Result, Ok, refl, sym, subst, arith}
+use Rattle.std.specs.Prelude.{pos, codes, slice_get}
+use Rattle.std.proofs.lemmas.List.Elements.{All-from_recursion}
+use Rattle.bbm_rule.specs.Bits.{bit}
+use Rattle.bbm_rule.specs.Plane.{partner, step, turned}
+use Rattle.bbm_rule.specs.declared.block.Cell.{Cell}
+use Rattle.bbm_rule.specs.Spans.{in_span}
+use Rattle.section_text.specs.Words as words
+use Rattle.section_text.specs.Section as section
+use Rattle.circuit.specs.Forms as circuit_forms
+use Rattle.circuit.specs.Rules as circuit_rules
+use Rattle.circuit.specs.Bridge as bridge
+use Rattle.circuit.specs.Meaning as meaning
+use Rattle.circuit.specs.Bridge.{circuit_of, netlist_of, number, read}
+use Rattle.circuit.specs.Gates.{row}
+use Rattle.circuit.specs.Gates.{Interact as Interacts}
+use Rattle.circuit.specs.Meaning.{AreOrdered, Gate as NetGate, HasRow, Valuation, place_of, wires_after}
+use Rattle.circuit.specs.declared.entry.Entry.{Entry as CircuitLine}
+use Rattle.circuit.specs.declared.entry.GateKind.TheVariants.{Interact}
+use Rattle.circuit.specs.declared.entry.Kind.TheVariants.{Input, Gate, Output}
+use Rattle.pattern.specs.Forms as layout_forms
+use Rattle.pattern.specs.Lines as layout_rules
+use Rattle.pattern.specs.Layout as layouts
+use Rattle.pattern.specs.Layout.{Pattern, rectangle_cells}
+use Rattle.pattern.specs.declared.parts.Part.{Part}
+use Rattle.pattern.specs.declared.parts.Part.TheVariants.{In, Out}
+use Rattle.pattern.specs.declared.parts.Port.{Port}
+use Rattle.pattern.specs.declared.parts.Size.{Size}
+use Rattle.module_box.specs.Boxes as boxes
+use Rattle.module_box.specs.Moments.{cell_cmp}
+use Rattle.module_box.specs.Boxes.{in_box, in_halo, in_ring, some_neighbour}
+use Rattle.module_box.specs.LocalValues.{IsLocalValuation}
+use Rattle.module_box.specs.Locals.{AreLocalsOf, LocalNet, circuit_gate, circuit_wire, renumber_gate}
+use Rattle.module_box.specs.Schedules.{event_at, held_at, signal_at}
+use Rattle.module_box.specs.declared.schedules.Event.{Event}
+use Rattle.module_box.specs.declared.schedules.Signal.TheVariants.{Zero, Wire}
+use Rattle.module_box.proofs.BoxCells.{same_some}
+use Rattle.certificate.specs.Entries as entries
+use Rattle.certificate.specs.Entries.{ModuleLines, modules_of}
+use Rattle.certificate.specs.Grammars.{CertState, setting_of}
+use Rattle.certificate.specs.Jobs.{AreJobsOf, IsJob, IsJobOf, JobState, NamesOwnWires, end_demand, job_demand, job_start, port_at, start_signal}
+use Rattle.certificate.specs.Signals.{IsBelow, IsDemandBelow, renumber_demand, renumber_signal}
+use Rattle.certificate.specs.declared.job.Demand.TheVariants as Demanded
+use Rattle.certificate.proofs.Soundness.{faultless_modules}
+use Rattle.local_run.specs.Faults.{IsFault}
+use Rattle.local_run.specs.Runs.{local_run, local_step, with_halo}
+use Rattle.local_run.specs.declared.fault.Fault.{Fault}
+use Rattle.audit_core.specs.Verdicts.{Accepts, IsVerdict}
+use Rattle.audit_core.specs.declared.verdict.Verdict.TheVariants as verdict
+use Rattle.report.specs.ReportText.{report_lines}
+use Rattle.section_text.specs.declared.fault.Refusal.{Refusal}
+use Rattle.certificate.specs.Forms as forms
+use Rattle.certificate.specs.Orders as orders
+use Rattle.certificate.specs.Rules as rules
+use Rattle.certificate.specs.declared.entry.Border.{Border}
+use Rattle.certificate.specs.declared.entry.Entry.{Entry}
+use Rattle.certificate.specs.declared.entry.Entry.TheVariants.{Module, Cut, Use, Edge, Halo}
+use Rattle.answers.specs.BundleText.{Bundle, bundle_of}
+use Rattle.answers.specs.Answers.{Answered}
+use Rattle.answers.specs.CheckText.{IsVerdictOn, SaysReport}
+use Rattle.headline.specs.FourModules.{four_modules}
+use Rattle.headline.specs.Laws.{FourModulesAreAccepted}
+use Rattle.answers.specs.declared.outcome.Outcome.TheVariants.{Yes}
+use Rattle.headline.proofs.Trials.{at_every, border_test, edge_test, end_test, every_cell, faultless, no_border_fault, same_demand, same_demand_is, same_signal, same_signal_is}
+use Rattle.headline.proofs.YesIsRight.{certificate_faultless}
+
+abbrev at : ℕ → ℕ → Cell
+at x y = record { x = pos x; y = pos y }
+
+abbrev border : ℕ → ℕ → ℕ → List ℕ → Border
+border t x y signal = record { time = Some t; cell = at x y; signal = Some signal }
+
+abbrev pub circuit : List CircuitLine
+circuit =
+    record { kind = Input; ins = []; outs = codes "p" ∷ [] }
+    ∷ record { kind = Input; ins = []; outs = codes "q" ∷ [] }
+    ∷ record { kind = Gate Interact; ins = codes "p" ∷ codes "q" ∷ []; outs = codes "a" ∷ codes "b" ∷ codes "c" ∷ codes "d" ∷ [] }
+    ∷ record { kind = Output; ins = codes "a" ∷ []; outs = [] }
+    ∷ record { kind = Output; ins = codes "b" ∷ []; outs = [] }
+    ∷ record { kind = Output; ins = codes "c" ∷ []; outs = [] }
+    ∷ record { kind = Output; ins = codes "d" ∷ []; outs = [] } ∷ []
+
+abbrev pub size : Size
+size = record { w = 8; h = 8; steps = 3 }
+
+abbrev port_p : Port
+port_p = record { name = codes "p"; cell = at 2 2 }
+
+abbrev port_q : Port
+port_q = record { name = codes "q"; cell = at 5 5 }
+
+abbrev port_a : Port
+port_a = record { name = codes "a"; cell = at 5 2 }
+
+abbrev port_b : Port
+port_b = record { name = codes "b"; cell = at 2 2 }
+
+abbrev port_c : Port
+port_c = record { name = codes "c"; cell = at 5 5 }
+
+abbrev port_d : Port
+port_d = record { name = codes "d"; cell = at 2 5 }
+
+abbrev pub parts : List Part
+parts =
+    In port_p
+    ∷ In port_q
+    ∷ Out port_a
+    ∷ Out port_b
+    ∷ Out port_c
+    ∷ Out port_d ∷ []
+
+abbrev pub first : ModuleLines
+first = record {
+  area = record { x = 0; y = 0; w = 4; h = 4 };
+  lines = Cut (codes "p") ∷ Cut (codes "q") ∷ Use 0 ∷ Edge (border 1 3 3 (codes "p")) ∷ Halo (border 1 4 4 (codes "q")) ∷ [];
+}
+
+abbrev pub second : ModuleLines
+second = record {
+  area = record { x = 4; y = 0; w = 4; h = 4 };
+  lines = Cut (codes "p") ∷ Cut (codes "q") ∷ Use 0 ∷ Halo (border 1 3 3 (codes "p")) ∷ Halo (border 1 4 4 (codes "q")) ∷ [];
+}
+
+abbrev pub third : ModuleLines
+third = record {
+  area = record { x = 0; y = 4; w = 4; h = 4 };
+  lines = Cut (codes "p") ∷ Cut (codes "q") ∷ Use 0 ∷ Halo (border 1 3 3 (codes "p")) ∷ Halo (border 1 4 4 (codes "q")) ∷ [];
+}
+
+abbrev pub fourth : ModuleLines
+fourth = record {
+  area = record { x = 4; y = 4; w = 4; h = 4 };
+  lines = Cut (codes "p") ∷ Cut (codes "q") ∷ Use 0 ∷ Edge (border 1 4 4 (codes "q")) ∷ Halo (border 1 3 3 (codes "p")) ∷ [];
+}
+
+abbrev lines_in : ModuleLines → List Entry
+lines_in m = Module m.area ∷ m.lines
+
+abbrev pub bundle : Bundle
+bundle = record { circuit = circuit; size = size; parts = parts; version = 1; entries = lines_in first ++ (lines_in second ++ (lines_in third ++ lines_in fourth)) }
+
+pub reads : bundle_of four_modules ≡ Ok bundle
+unfolding four_modules bundle_of words.lines_of words.rest_of words.number_of words.name_of words.number_at words.name_at words.names_at words.is_at words.lone words.lone_number words.lone_name section.section_of section.body_of circuit_forms.form_of circuit_forms.gate_entry circuit_forms.gate_names circuit_forms.gate_kind circuit_forms.bit_at circuit_rules.add_fault bridge.number meaning.place_of layout_forms.form_of layout_forms.cell_from layout_forms.lone_cell layout_forms.named_cell layout_forms.port_of layout_forms.size_of layout_forms.sides_and_steps layout_rules.size_fault layout_rules.limit_fault layout_rules.rank_of layout_rules.is_late layout_rules.order_fault layout_rules.name_fault layout_rules.cells_of layout_rules.is_inside layout_rules.begins layout_rules.ends layout_rules.begun layout_rules.ended layout_rules.is_taken layout_rules.cell_fault layout_rules.line_fault layout_rules.part_fault layout_rules.missing_fault layouts.rectangle_cells in_span boxes.in_box boxes.some_neighbour boxes.in_ring boxes.in_halo entries.change_last entries.last_of entries.add_line entries.modules_of forms.corner_and_sides forms.area_of forms.time_at forms.signal_at forms.timed_cell forms.border_of forms.form_of orders.rank_of orders.number_of orders.cell_of orders.line_cmp orders.is_cut orders.may_precede orders.may_follow rules.lacks_port rules.box_fault rules.module_fault rules.cut_fault rules.are_new rules.gate_fault rules.use_fault rules.is_time rules.is_edge_place rules.is_halo_place rules.signal_fault rules.border_fault rules.entry_fault rules.end_fault cell_cmp
+reads = refl
+
+-- ---- the jobs
+
+-- a signal at time 1
+abbrev event : ℕ → ℕ → ℕ → Event
+event x y w = record { at = record { time = 1; cell = at x y }; signal = Wire w }
+
+-- each module cuts both inputs and uses the gate
+abbrev gate : NetGate
+gate = record { kind = Interacts; ins = 0 ∷ 1 ∷ []; outs = 2 ∷ 3 ∷ 4 ∷ 5 ∷ [] }
+
+abbrev net : LocalNet
+net = record { netlist = record { given = 2; gates = gate ∷ [] }; circuit_wires = 0 ∷ 1 ∷ 2 ∷ 3 ∷ 4 ∷ 5 ∷ []; circuit_gates = 0 ∷ [] }
+
+-- what a list of starts or demands does not reach is `Zero`, or `Dead`
+abbrev first_job : JobState
+first_job = record {
+  area = first.area;
+  steps = 3;
+  locals = net;
+  starts = Zero ∷ Zero ∷ Zero ∷ Zero ∷ Zero ∷ Zero ∷ Zero ∷ Zero ∷ Zero ∷ Zero ∷ Wire 0 ∷ [];
+  demands = Demanded.Dead ∷ Demanded.Dead ∷ Demanded.Dead ∷ Demanded.Dead ∷ Demanded.Dead ∷ Demanded.Dead ∷ Demanded.Dead ∷ Demanded.Dead ∷ Demanded.Dead ∷ Demanded.Dead ∷ Demanded.Wire 3 ∷ [];
+  edges = record { held = []; events = event 3 3 0 ∷ [] };
+  halos = record { held = []; events = event 4 4 1 ∷ [] };
+  stops = [];
+}
+
+abbrev second_job : JobState
+second_job = record {
+  area = second.area;
+  steps = 3;
+  locals = net;
+  starts = [];
+  demands = Demanded.Dead ∷ Demanded.Dead ∷ Demanded.Dead ∷ Demanded.Dead ∷ Demanded.Dead ∷ Demanded.Dead ∷ Demanded.Dead ∷ Demanded.Dead ∷ Demanded.Dead ∷ Demanded.Wire 2 ∷ [];
+  edges = record { held = []; events = [] };
+  halos = record { held = []; events = event 3 3 0 ∷ event 4 4 1 ∷ [] };
+  stops = [];
+}
+
+abbrev third_job : JobState
+third_job = record {
+  area = third.area;
+  steps = 3;
+  locals = net;
+  starts = [];
+  demands = Demanded.Dead ∷ Demanded.Dead ∷ Demanded.Dead ∷ Demanded.Dead ∷ Demanded.Dead ∷ Demanded.Dead ∷ Demanded.Wire 5 ∷ [];
+  edges = record { held = []; events = [] };
+  halos = record { held = []; events = event 3 3 0 ∷ event 4 4 1 ∷ [] };
+  stops = [];
+}
+
+abbrev fourth_job : JobState
+fourth_job = record {
+  area = fourth.area;
+  steps = 3;
+  locals = net;
+  starts = Zero ∷ Zero ∷ Zero ∷ Zero ∷ Zero ∷ Wire 1 ∷ [];
+  demands = Demanded.Dead ∷ Demanded.Dead ∷ Demanded.Dead ∷ Demanded.Dead ∷ Demanded.Dead ∷ Demanded.Wire 4 ∷ [];
+  edges = record { held = []; events = event 4 4 1 ∷ [] };
+  halos = record { held = []; events = event 3 3 0 ∷ [] };
+  stops = [];
+}
+
+abbrev modules : List ModuleLines
+modules = first ∷ second ∷ third ∷ fourth ∷ []
+
+abbrev jobs : List JobState
+jobs = first_job ∷ second_job ∷ third_job ∷ fourth_job ∷ []
+
+abbrev pub layout : Pattern
+layout = record { size = size; mirrors = []; balls = []; ins = port_p ∷ port_q ∷ []; outs = port_a ∷ port_b ∷ port_c ∷ port_d ∷ []; wastes = [] }
+
+-- ---- the values of the wires
+
+below_four : (P : ℕ → Type 0) → P 0 → P 1 → P 2 → P 3 → (k : ℕ) → k < 4 → P k
+below_four P a b c d zero h = a
+below_four P a b c d (suc zero) h = b
+below_four P a b c d (suc (suc zero)) h = c
+below_four P a b c d (suc (suc (suc zero))) h = d
+below_four P a b c d (suc (suc (suc (suc k)))) h = absurd (omega arith)
+
+below_two : (P : ℕ → Type 0) → P 0 → P 1 → (k : ℕ) → k < 2 → P k
+below_two P a b zero h = a
+below_two P a b (suc zero) h = b
+below_two P a b (suc (suc k)) h = absurd (omega arith)
+
+-- for each assignment of p and q
+values : ℕ → Valuation
+values zero = read (false ∷ false ∷ false ∷ false ∷ false ∷ false ∷ [])
+values (suc zero) = read (true ∷ false ∷ false ∷ false ∷ true ∷ false ∷ [])
+values (suc (suc zero)) = read (false ∷ true ∷ false ∷ true ∷ false ∷ false ∷ [])
+values (suc (suc (suc n))) = read (true ∷ true ∷ true ∷ false ∷ false ∷ true ∷ [])
+
+are_local : (a : ℕ) → a < 4 → IsLocalValuation net a (values a)
+unfolding values bit row
+are_local = below_four (λ a. IsLocalValuation net a (values a))
+    (record { given = below_two (λ i. values 0 i ≡ bit 0 i) refl refl; rows = All-from_recursion (HasRow (values 0)) (gate ∷ []) (refl, tt) })
+    (record { given = below_two (λ i. values 1 i ≡ bit 1 i) refl refl; rows = All-from_recursion (HasRow (values 1)) (gate ∷ []) (refl, tt) })
+    (record { given = below_two (λ i. values 2 i ≡ bit 2 i) refl refl; rows = All-from_recursion (HasRow (values 2)) (gate ∷ []) (refl, tt) })
+    (record { given = below_two (λ i. values 3 i ≡ bit 3 i) refl refl; rows = All-from_recursion (HasRow (values 3)) (gate ∷ []) (refl, tt) })
+
+is_ordered : AreOrdered 2 (gate ∷ [])
+unfolding AreOrdered
+is_ordered = (All-from_recursion (λ w. w < 2) (0 ∷ 1 ∷ []) (omega arith, (omega arith, tt)), refl, refl, tt)
+
+only_gate : (k : ℕ) (g : NetGate) → slice_get (gate ∷ []) k ≡ Some g → slice_get (netlist_of circuit).gates (circuit_gate net k) ≡ Some (renumber_gate (circuit_wire net) g)
+unfolding number
+only_gate zero g e = let own : gate ≡ g = cc in subst (λ (h : NetGate). slice_get (netlist_of circuit).gates 0 ≡ Some (renumber_gate (circuit_wire net) h)) own refl
+only_gate (suc k) g e = absurd (no_gate k g e)
+  where
+    no_gate : (k : ℕ) (g : NetGate) → slice_get [] k ≡ Some g → ⊥
+    no_gate k g e = cc
+
+are_locals : AreLocalsOf (netlist_of circuit) net
+unfolding wires_after
+are_locals = record { used = only_gate; rising = λ k m lt l. absurd (omega (arith, lt, l)); ordered = is_ordered; sized = refl }
+
+only_time : (P : ℕ → Type 0) → P 1 → (t : ℕ) → t % 2 ≡ 1 → t < 3 → P t
+only_time P one t odd early = let is : 1 ≡ t = omega (arith, odd, early) in subst P is one
+
+-- ---- the first job
+
+first_own : NamesOwnWires first_job
+unfolding wires_after
+first_own = record {
+  starts = All-from_recursion (IsBelow 6) first_job.starts (tt, (tt, (tt, (tt, (tt, (tt, (tt, (tt, (tt, (tt, (omega arith, tt)))))))))));
+  demands = All-from_recursion (IsDemandBelow 6) first_job.demands (tt, (tt, (tt, (tt, (tt, (tt, (tt, (tt, (tt, (tt, (omega arith, tt)))))))))));
+  edge_held = λ k d lt. absurd (omega arith);
+  edge_events = All-from_recursion (λ (e : Event). IsBelow 6 e.signal) first_job.edges.events (omega arith, tt);
+  halo_held = λ k d lt. absurd (omega arith);
+  halo_events = All-from_recursion (λ (e : Event). IsBelow 6 e.signal) first_job.halos.events (omega arith, tt);
+  stops = λ k d lt. absurd (omega arith);
+}
+
+first_starts : every_cell first.area (λ x y. same_signal (renumber_signal (circuit_wire net) (job_start first_job x y)) (start_signal (circuit_of circuit) layout x y)) ≡ true
+unfolding rectangle_cells job_start start_signal port_at place_of in_box in_span
+first_starts = refl
+
+first_demands : every_cell first.area (λ x y. same_demand (renumber_demand (circuit_wire net) (job_demand first_job x y)) (end_demand (circuit_of circuit) layout x y)) ≡ true
+unfolding rectangle_cells job_demand end_demand port_at place_of in_box in_span
+first_demands = refl
+
+first_is : IsJobOf (circuit_of circuit) layout first first_job
+unfolding place_of number
+first_is = record {
+  area = refl;
+  steps = refl;
+  locals = are_locals;
+  cut = refl;
+  wires = refl;
+  used = refl;
+  start = λ x y h. same_signal_is _ _ (at_every first.area (λ x y. same_signal (renumber_signal (circuit_wire net) (job_start first_job x y)) (start_signal (circuit_of circuit) layout x y)) first_starts x y h);
+  demand = λ x y h. same_demand_is _ _ (at_every first.area (λ x y. same_demand (renumber_demand (circuit_wire net) (job_demand first_job x y)) (end_demand (circuit_of circuit) layout x y)) first_demands x y h);
+  edges = refl;
+  halos = refl;
+  own = first_own;
+  stops = refl;
+}
+
+first_whole : IsJob first_job
+first_whole = record {
+  even = record { x = refl; y = refl; w = refl; h = refl };
+  width = (omega arith, omega arith, omega arith);
+  height = (omega arith, omega arith, omega arith);
+  steps = omega arith;
+  own = first_own;
+  no_stops = refl;
+}
+
+first_edges : (a : ℕ) → a < 4 → edge_test first_job (values a) 1 ≡ true
+unfolding values rectangle_cells job_start in_ring in_halo some_neighbour in_box in_span local_run local_step with_halo step partner turned signal_at held_at event_at
+first_edges = below_four (λ a. edge_test first_job (values a) 1 ≡ true) refl refl refl refl
+
+first_ends : (a : ℕ) → a < 4 → end_test first_job (values a) ≡ true
+unfolding values rectangle_cells job_start job_demand in_ring in_halo some_neighbour in_box in_span local_run local_step with_halo step partner turned signal_at held_at event_at
+first_ends = below_four (λ a. end_test first_job (values a) ≡ true) refl refl refl refl
+
+first_faultless : (f : Fault) → ¬ IsFault first_job f
+first_faultless = faultless first_job values first_whole is_ordered are_local (λ a h. record { edges = only_time (λ t. edge_test first_job (values a) t ≡ true) (first_edges a h); end = first_ends a h })
+
+-- ---- the second job
+
+second_own : NamesOwnWires second_job
+unfolding wires_after
+second_own = record {
+  starts = All-from_recursion (IsBelow 6) second_job.starts tt;
+  demands = All-from_recursion (IsDemandBelow 6) second_job.demands (tt, (tt, (tt, (tt, (tt, (tt, (tt, (tt, (tt, (omega arith, tt))))))))));
+  edge_held = λ k d lt. absurd (omega arith);
+  edge_events = All-from_recursion (λ (e : Event). IsBelow 6 e.signal) second_job.edges.events tt;
+  halo_held = λ k d lt. absurd (omega arith);
+  halo_events = All-from_recursion (λ (e : Event). IsBelow 6 e.signal) second_job.halos.events (omega arith, (omega arith, tt));
+  stops = λ k d lt. absurd (omega arith);
+}
+
+second_starts : every_cell second.area (λ x y. same_signal (renumber_signal (circuit_wire net) (job_start second_job x y)) (start_signal (circuit_of circuit) layout x y)) ≡ true
+unfolding rectangle_cells job_start start_signal port_at place_of in_box in_span
+second_starts = refl
+
+second_demands : every_cell second.area (λ x y. same_demand (renumber_demand (circuit_wire net) (job_demand second_job x y)) (end_demand (circuit_of circuit) layout x y)) ≡ true
+unfolding rectangle_cells job_demand end_demand port_at place_of in_box in_span
+second_demands = refl
+
+second_is : IsJobOf (circuit_of circuit) layout second second_job
+unfolding place_of number
+second_is = record {
+  area = refl;
+  steps = refl;
+  locals = are_locals;
+  cut = refl;
+  wires = refl;
+  used = refl;
+  start = λ x y h. same_signal_is _ _ (at_every second.area (λ x y. same_signal (renumber_signal (circuit_wire net) (job_start second_job x y)) (start_signal (circuit_of circuit) layout x y)) second_starts x y h);
+  demand = λ x y h. same_demand_is _ _ (at_every second.area (λ x y. same_demand (renumber_demand (circuit_wire net) (job_demand second_job x y)) (end_demand (circuit_of circuit) layout x y)) second_demands x y h);
+  edges = refl;
+  halos = refl;
+  own = second_own;
+  stops = refl;
+}
+
+second_whole : IsJob second_job
+second_whole = record {
+  even = record { x = refl; y = refl; w = refl; h = refl };
+  width = (omega arith, omega arith, omega arith);
+  height = (omega arith, omega arith, omega arith);
+  steps = omega arith;
+  own = second_own;
+  no_stops = refl;
+}
+
+second_edges : (a : ℕ) → a < 4 → edge_test second_job (values a) 1 ≡ true
+unfolding values rectangle_cells job_start in_ring in_halo some_neighbour in_box in_span local_run local_step with_halo step partner turned signal_at held_at event_at
+second_edges = below_four (λ a. edge_test second_job (values a) 1 ≡ true) refl refl refl refl
+
+second_ends : (a : ℕ) → a < 4 → end_test second_job (values a) ≡ true
+unfolding values rectangle_cells job_start job_demand in_ring in_halo some_neighbour in_box in_span local_run local_step with_halo step partner turned signal_at held_at event_at
+second_ends = below_four (λ a. end_test second_job (values a) ≡ true) refl refl refl refl
+
+second_faultless : (f : Fault) → ¬ IsFault second_job f
+second_faultless = faultless second_job values second_whole is_ordered are_local (λ a h. record { edges = only_time (λ t. edge_test second_job (values a) t ≡ true) (second_edges a h); end = second_ends a h })
+
+-- ---- the third job
+
+third_own : NamesOwnWires third_job
+unfolding wires_after
+third_own = record {
+  starts = All-from_recursion (IsBelow 6) third_job.starts tt;
+  demands = All-from_recursion (IsDemandBelow 6) third_job.demands (tt, (tt, (tt, (tt, (tt, (tt, (omega arith, tt)))))));
+  edge_held = λ k d lt. absurd (omega arith);
+  edge_events = All-from_recursion (λ (e : Event). IsBelow 6 e.signal) third_job.edges.events tt;
+  halo_held = λ k d lt. absurd (omega arith);
+  halo_events = All-from_recursion (λ (e : Event). IsBelow 6 e.signal) third_job.halos.events (omega arith, (omega arith, tt));
+  stops = λ k d lt. absurd (omega arith);
+}
+
+third_starts : every_cell third.area (λ x y. same_signal (renumber_signal (circuit_wire net) (job_start third_job x y)) (start_signal (circuit_of circuit) layout x y)) ≡ true
+unfolding rectangle_cells job_start start_signal port_at place_of in_box in_span
+third_starts = refl
+
+third_demands : every_cell third.area (λ x y. same_demand (renumber_demand (circuit_wire net) (job_demand third_job x y)) (end_demand (circuit_of circuit) layout x y)) ≡ true
+unfolding rectangle_cells job_demand end_demand port_at place_of in_box in_span
+third_demands = refl
+
+third_is : IsJobOf (circuit_of circuit) layout third third_job
+unfolding place_of number
+third_is = record {
+  area = refl;
+  steps = refl;
+  locals = are_locals;
+  cut = refl;
+  wires = refl;
+  used = refl;
+  start = λ x y h. same_signal_is _ _ (at_every third.area (λ x y. same_signal (renumber_signal (circuit_wire net) (job_start third_job x y)) (start_signal (circuit_of circuit) layout x y)) third_starts x y h);
+  demand = λ x y h. same_demand_is _ _ (at_every third.area (λ x y. same_demand (renumber_demand (circuit_wire net) (job_demand third_job x y)) (end_demand (circuit_of circuit) layout x y)) third_demands x y h);
+  edges = refl;
+  halos = refl;
+  own = third_own;
+  stops = refl;
+}
+
+third_whole : IsJob third_job
+third_whole = record {
+  even = record { x = refl; y = refl; w = refl; h = refl };
+  width = (omega arith, omega arith, omega arith);
+  height = (omega arith, omega arith, omega arith);
+  steps = omega arith;
+  own = third_own;
+  no_stops = refl;
+}
+
+third_edges : (a : ℕ) → a < 4 → edge_test third_job (values a) 1 ≡ true
+unfolding values rectangle_cells job_start in_ring in_halo some_neighbour in_box in_span local_run local_step with_halo step partner turned signal_at held_at event_at
+third_edges = below_four (λ a. edge_test third_job (values a) 1 ≡ true) refl refl refl refl
+
+third_ends : (a : ℕ) → a < 4 → end_test third_job (values a) ≡ true
+unfolding values rectangle_cells job_start job_demand in_ring in_halo some_neighbour in_box in_span local_run local_step with_halo step partner turned signal_at held_at event_at
+third_ends = below_four (λ a. end_test third_job (values a) ≡ true) refl refl refl refl
+
+third_faultless : (f : Fault) → ¬ IsFault third_job f
+third_faultless = faultless third_job values third_whole is_ordered are_local (λ a h. record { edges = only_time (λ t. edge_test third_job (values a) t ≡ true) (third_edges a h); end = third_ends a h })
+
+-- ---- the fourth job
+
+fourth_own : NamesOwnWires fourth_job
+unfolding wires_after
+fourth_own = record {
+  starts = All-from_recursion (IsBelow 6) fourth_job.starts (tt, (tt, (tt, (tt, (tt, (omega arith, tt))))));
+  demands = All-from_recursion (IsDemandBelow 6) fourth_job.demands (tt, (tt, (tt, (tt, (tt, (omega arith, tt))))));
+  edge_held = λ k d lt. absurd (omega arith);
+  edge_events = All-from_recursion (λ (e : Event). IsBelow 6 e.signal) fourth_job.edges.events (omega arith, tt);
+  halo_held = λ k d lt. absurd (omega arith);
+  halo_events = All-from_recursion (λ (e : Event). IsBelow 6 e.signal) fourth_job.halos.events (omega arith, tt);
+  stops = λ k d lt. absurd (omega arith);
+}
+
+fourth_starts : every_cell fourth.area (λ x y. same_signal (renumber_signal (circuit_wire net) (job_start fourth_job x y)) (start_signal (circuit_of circuit) layout x y)) ≡ true
+unfolding rectangle_cells job_start start_signal port_at place_of in_box in_span
+fourth_starts = refl
+
+fourth_demands : every_cell fourth.area (λ x y. same_demand (renumber_demand (circuit_wire net) (job_demand fourth_job x y)) (end_demand (circuit_of circuit) layout x y)) ≡ true
+unfolding rectangle_cells job_demand end_demand port_at place_of in_box in_span
+fourth_demands = refl
+
+fourth_is : IsJobOf (circuit_of circuit) layout fourth fourth_job
+unfolding place_of number
+fourth_is = record {
+  area = refl;
+  steps = refl;
+  locals = are_locals;
+  cut = refl;
+  wires = refl;
+  used = refl;
+  start = λ x y h. same_signal_is _ _ (at_every fourth.area (λ x y. same_signal (renumber_signal (circuit_wire net) (job_start fourth_job x y)) (start_signal (circuit_of circuit) layout x y)) fourth_starts x y h);
+  demand = λ x y h. same_demand_is _ _ (at_every fourth.area (λ x y. same_demand (renumber_demand (circuit_wire net) (job_demand fourth_job x y)) (end_demand (circuit_of circuit) layout x y)) fourth_demands x y h);
+  edges = refl;
+  halos = refl;
+  own = fourth_own;
+  stops = refl;
+}
+
+fourth_whole : IsJob fourth_job
+fourth_whole = record {
+  even = record { x = refl; y = refl; w = refl; h = refl };
+  width = (omega arith, omega arith, omega arith);
+  height = (omega arith, omega arith, omega arith);
+  steps = omega arith;
+  own = fourth_own;
+  no_stops = refl;
+}
+
+fourth_edges : (a : ℕ) → a < 4 → edge_test fourth_job (values a) 1 ≡ true
+unfolding values rectangle_cells job_start in_ring in_halo some_neighbour in_box in_span local_run local_step with_halo step partner turned signal_at held_at event_at
+fourth_edges = below_four (λ a. edge_test fourth_job (values a) 1 ≡ true) refl refl refl refl
+
+fourth_ends : (a : ℕ) → a < 4 → end_test fourth_job (values a) ≡ true
+unfolding values rectangle_cells job_start job_demand in_ring in_halo some_neighbour in_box in_span local_run local_step with_halo step partner turned signal_at held_at event_at
+fourth_ends = below_four (λ a. end_test fourth_job (values a) ≡ true) refl refl refl refl
+
+fourth_faultless : (f : Fault) → ¬ IsFault fourth_job f
+fourth_faultless = faultless fourth_job values fourth_whole is_ordered are_local (λ a h. record { edges = only_time (λ t. edge_test fourth_job (values a) t ≡ true) (fourth_edges a h); end = fourth_ends a h })
+
+-- ---- all of it
+
+borders : border_test (setting_of circuit layout) modules 1 ≡ true
+unfolding rectangle_cells in_halo some_neighbour in_box in_span signal_at held_at event_at place_of
+borders = refl
+
+no_more : (i : ℕ) (j : JobState) → slice_get [] i ≡ Some j → ⊥
+no_more i j e = cc
+
+own_job : (m : ModuleLines) (j : JobState) (n : ModuleLines) (l : JobState) → ◌≡◌ {A = Option ModuleLines} (Some m) (Some n) → ◌≡◌ {A = Option JobState} (Some j) (Some l) →
+    IsJobOf (circuit_of circuit) layout m j → IsJobOf (circuit_of circuit) layout n l
+own_job m j n l e f is = subst (λ (k : JobState). IsJobOf (circuit_of circuit) layout n k) (same_some (Some j) j l refl f) (subst (λ (k : ModuleLines). IsJobOf (circuit_of circuit) layout k j) (same_some (Some m) m n refl e) is)
+
+each_job : (k : ℕ) (m : ModuleLines) (j : JobState) → slice_get modules k ≡ Some m → slice_get jobs k ≡ Some j → IsJobOf (circuit_of circuit) layout m j
+each_job zero m j e f = own_job first first_job m j e f first_is
+each_job (suc zero) m j e f = own_job second second_job m j e f second_is
+each_job (suc (suc zero)) m j e f = own_job third third_job m j e f third_is
+each_job (suc (suc (suc zero))) m j e f = own_job fourth fourth_job m j e f fourth_is
+each_job (suc (suc (suc (suc k)))) m j e f = absurd (no_more k j f)
+
+each_faultless : (k : ℕ) (j : JobState) (f : Fault) → slice_get jobs k ≡ Some j → ¬ IsFault j f
+each_faultless zero j f e = subst (λ (j : JobState). ¬ IsFault j f) (same_some (Some first_job) first_job j refl e) (first_faultless f)
+each_faultless (suc zero) j f e = subst (λ (j : JobState). ¬ IsFault j f) (same_some (Some second_job) second_job j refl e) (second_faultless f)
+each_faultless (suc (suc zero)) j f e = subst (λ (j : JobState). ¬ IsFault j f) (same_some (Some third_job) third_job j refl e) (third_faultless f)
+each_faultless (suc (suc (suc zero))) j f e = subst (λ (j : JobState). ¬ IsFault j f) (same_some (Some fourth_job) fourth_job j refl e) (fourth_faultless f)
+each_faultless (suc (suc (suc (suc k)))) j f e = absurd (no_more k j e)
+
+accepts : Accepts (setting_of circuit layout) modules jobs
+accepts = record {
+  no_fault = each_faultless;
+  no_border_fault = no_border_fault (setting_of circuit layout) modules (only_time (λ t. border_test (setting_of circuit layout) modules t ≡ true) borders);
+}
+
+modules_are : modules_of bundle.entries ≡ modules
+unfolding entries.modules_of entries.add_line entries.change_last
+modules_are = refl
+
+abbrev certificate : CertState
+certificate = record { circuit = circuit; layout = layout; version = 1; entries = bundle.entries }
+
+is_verdict : IsVerdictOn certificate verdict.Yes
+unfolding IsVerdict
+is_verdict = record {
+  good = faultless_modules (setting_of circuit layout) 1 bundle.entries (certificate_faultless four_modules bundle layout reads refl);
+  jobs = jobs;
+  are_jobs = subst (λ ms. AreJobsOf (circuit_of circuit) layout ms jobs) (sym modules_are) (record { count = refl; each = each_job });
+  judged = subst (λ ms. IsVerdict (setting_of circuit layout) ms jobs verdict.Yes) (sym modules_are) accepts;
+}
+
+answered : (read : Result Bundle Refusal) → Ok bundle ≡ read → Answered SaysReport read (report_lines certificate verdict.Yes) Yes
+answered read e = subst (λ r. Answered SaysReport r (report_lines certificate verdict.Yes) Yes) e (record {
+  certificate = certificate;
+  its_own = record { circuit = refl; layout = refl; version = refl; entries = refl };
+  verdict = verdict.Yes;
+  is_verdict = is_verdict;
+  says = refl;
+  ends = refl;
+})
+
+pub accepted : FourModulesAreAccepted
+accepted = (report_lines certificate verdict.Yes, answered (bundle_of four_modules) (sym reads))

@@ -1,0 +1,183 @@
+-- The fourth line of a report.
+use Rattle.std.proofs.Common.{◌≡◌, ℕ, zero, suc, ◌+◌, ◌/◌, ◌%◌, ◌<◌, Bool, true, false, cond, eqb, not, ◌&&◌, List, [], ◌∷◌, ◌++◌, length, get_or, Option, Some, refl, sym, ap, ap₂, ◌∙◌, append_assoc, append-nil, arith}
+use Rattle.std.specs.Prelude.{slice_get, codes, nat_lt}
+use Rattle.std.specs.Fmt.{decimal, digit_glyph, digits, digits_onto}
+use Rattle.std.specs.List.{flat_map, list_all, slice_split, onto_first}
+use Rattle.std.proofs.lemmas.Bool.{and_parts, ne_eqb}
+use Rattle.std.proofs.lemmas.List.Elements.{All-from_recursion}
+use Rattle.std.proofs.lemmas.List.Folds.{list_all-append}
+use Rattle.std.proofs.lemmas.List.Splits.{slice_split_at}
+use Rattle.hex.specs.Hex.{encode_lower, encode_with, lower_digits}
+use Rattle.sha2.specs.Sha256.{sha256}
+use Rattle.section_text.specs.Spelling.{line_text, spaced}
+use Rattle.section_text.specs.Words.{ended, is_line_feed, lines_of}
+use Rattle.section_text.specs.declared.fault.Refusal.{Refusal}
+use Rattle.section_text.proofs.Again.{IsOneLine}
+use Rattle.section_text.proofs.Lines.{ended-cons, some_part}
+use Rattle.certificate.specs.Entries.{modules_of}
+use Rattle.certificate.specs.Grammars.{CertState}
+use Rattle.certificate.specs.Text.{certificate_text}
+use Rattle.certificate.proofs.Lists.{kept}
+use Rattle.audit_core.specs.declared.verdict.Verdict.{Verdict}
+use Rattle.audit_core.specs.declared.verdict.Verdict.TheVariants as verdict
+use Rattle.report.specs.ReportText.{fault_line, refusal_line, report_lines, verdict_lines}
+use Rattle.headline.specs.Headline.{SaysYes}
+
+-- ---- bytes that are no line feed
+
+abbrev is_clean : List ℕ → Bool
+is_clean l = list_all (λ b. not (is_line_feed b)) l
+
+no_feed : (b : ℕ) → not (is_line_feed b) ≡ true → is_line_feed b ≡ false
+no_feed b e = by_bool (is_line_feed b) e
+  where
+    by_bool : (t : Bool) → not t ≡ true → t ≡ false
+    by_bool true e = absurd cc
+    by_bool false e = refl
+
+one_line : (l : List ℕ) → is_clean l ≡ true → IsOneLine l
+one_line [] e = tt
+one_line (b ∷ l) e = let both = and_parts (not (is_line_feed b)) (is_clean l) e in (no_feed b both.0, one_line l both.1)
+
+clean_index : (l : List ℕ) (k : ℕ) → is_clean l ≡ true → not (is_line_feed (get_or l k 0)) ≡ true
+clean_index [] k e = refl
+clean_index (b ∷ l) zero e = (and_parts (not (is_line_feed b)) (is_clean l) e).0
+clean_index (b ∷ l) (suc k) e = clean_index l k (and_parts (not (is_line_feed b)) (is_clean l) e).1
+
+clean_hex : (bytes : List ℕ) → is_clean (encode_lower bytes) ≡ true
+unfolding encode_with
+clean_hex [] = refl
+clean_hex (b ∷ bytes) =
+    ap₂ (λ p q. p && q) (clean_index lower_digits (b / 16) refl) (ap₂ (λ p q. p && q) (clean_index lower_digits (b % 16) refl) (clean_hex bytes))
+
+clean_glyph : (d : ℕ) → not (is_line_feed (digit_glyph false d)) ≡ true
+clean_glyph d = by_size (nat_lt d 10)
+  where
+    far : (a : ℕ) → 10 < a → not (eqb a 10) ≡ true
+    far a h = ap not (ne_eqb a 10 (λ e. omega (arith, h, e)))
+
+    by_size : (t : Bool) → not (eqb (cond t (48 + d) (87 + d)) 10) ≡ true
+    by_size true = far (48 + d) (omega arith)
+    by_size false = far (87 + d) (omega arith)
+
+clean_choice : (t : Bool) (a b : List ℕ) → is_clean a ≡ true → is_clean b ≡ true → is_clean (cond t a b) ≡ true
+clean_choice true a b e f = e
+clean_choice false a b e f = f
+
+clean_digits : (k n : ℕ) (acc : List ℕ) → is_clean acc ≡ true → is_clean (digits_onto k 10 false n acc) ≡ true
+clean_digits zero n acc e = e
+clean_digits (suc k) n acc e =
+    let more = ap₂ (λ p q. p && q) (clean_glyph (n % 10)) e in
+    clean_choice (eqb (n / 10) 0) (digit_glyph false (n % 10) ∷ acc) (digits_onto k 10 false (n / 10) (digit_glyph false (n % 10) ∷ acc)) more
+    (clean_digits k (n / 10) (digit_glyph false (n % 10) ∷ acc) more)
+
+clean_decimal : (n : ℕ) → is_clean (decimal n) ≡ true
+unfolding digits
+clean_decimal n = clean_digits 64 n [] refl
+
+-- ---- lines
+
+line_ahead : (l c : List ℕ) → is_clean l ≡ true → lines_of (l ++ 10 ∷ c) ≡ l ∷ lines_of c
+unfolding lines_of
+line_ahead l c clean =
+    ap ended (slice_split_at is_line_feed l 10 c (All-from_recursion (λ b. is_line_feed b ≡ false) l (one_line l clean)) refl)
+    ∙ ended-cons l (slice_split is_line_feed c) (some_part c)
+
+-- a line, and what follows it
+text_ahead : (l c : List ℕ) → is_clean l ≡ true → lines_of ((l ++ 10 ∷ []) ++ c) ≡ l ∷ lines_of c
+text_ahead l c clean = ap lines_of (append_assoc l (10 ∷ []) c) ∙ line_ahead l c clean
+
+four_lines : (a b d e rest : List ℕ) → is_clean a ≡ true → is_clean b ≡ true → is_clean d ≡ true → is_clean e ≡ true →
+    lines_of ((((a ++ 10 ∷ []) ++ (b ++ 10 ∷ [])) ++ (d ++ 10 ∷ [])) ++ ((e ++ 10 ∷ []) ++ rest)) ≡ a ∷ b ∷ d ∷ e ∷ lines_of rest
+four_lines a b d e rest p q r s =
+    let last : List ℕ = (e ++ 10 ∷ []) ++ rest in
+    ap lines_of (append_assoc ((a ++ 10 ∷ []) ++ (b ++ 10 ∷ [])) (d ++ 10 ∷ []) last ∙ append_assoc (a ++ 10 ∷ []) (b ++ 10 ∷ []) ((d ++ 10 ∷ []) ++ last))
+    ∙ text_ahead a _ p
+    ∙ ap (λ t. a ∷ t) (text_ahead b _ q ∙ ap (λ t. b ∷ t) (text_ahead d _ r ∙ ap (λ t. d ∷ t) (text_ahead e rest s)))
+
+-- ---- what a report says
+
+abbrev verdict_word : Verdict → List ℕ
+verdict_word verdict.Yes = codes "verdict yes"
+verdict_word (verdict.No lines) = codes "verdict no"
+
+-- the opening lines, for a digest that is spelled so
+abbrev line_opening : List ℕ → ℕ → List ℕ
+line_opening digest count = (line_text (codes "bbmcheck") (codes "1" ∷ []) ++ line_text (codes "certificate") (digest ∷ [])) ++ line_text (codes "modules") (decimal count ∷ [])
+
+fourth_by : (digest : List ℕ) (count : ℕ) (v : Verdict) → is_clean digest ≡ true → slice_get (lines_of (line_opening digest count ++ verdict_lines v)) 3 ≡ Some (verdict_word v)
+fourth_by digest count verdict.Yes clean = ap (λ ls. slice_get ls 3)
+    (ap (λ t. lines_of (line_opening digest count ++ t)) (sym (append-nil (verdict_lines verdict.Yes)))
+    ∙ four_lines (codes "bbmcheck 1") (codes "certificate" ++ flat_map spaced (digest ∷ [])) (codes "modules" ++ flat_map spaced (decimal count ∷ [])) (codes "verdict yes") []
+    refl (ap is_clean (append-nil digest) ∙ clean) (ap is_clean (append-nil (decimal count)) ∙ clean_decimal count) refl)
+fourth_by digest count (verdict.No lines) clean = ap (λ ls. slice_get ls 3)
+    (four_lines (codes "bbmcheck 1") (codes "certificate" ++ flat_map spaced (digest ∷ [])) (codes "modules" ++ flat_map spaced (decimal count ∷ [])) (codes "verdict no") (flat_map fault_line lines.items)
+    refl (ap is_clean (append-nil digest) ∙ clean) (ap is_clean (append-nil (decimal count)) ∙ clean_decimal count) refl)
+
+pub fourth_line : (c : CertState) (v : Verdict) → slice_get (lines_of (report_lines c v)) 3 ≡ Some (verdict_word v)
+unfolding report_lines
+fourth_line c v = fourth_by (encode_lower (sha256 (certificate_text c))) (length (modules_of c.entries)) v (clean_hex (sha256 (certificate_text c)))
+
+yes_is_not_no : ◌≡◌ {A = Option (List ℕ)} (Some (codes "verdict no")) (Some (codes "verdict yes")) → ⊥
+yes_is_not_no e = cc
+
+-- a report that says yes is one of a yes
+pub says_yes : (c : CertState) (v : Verdict) → SaysYes (report_lines c v) → v ≡ verdict.Yes
+says_yes c verdict.Yes e = refl
+says_yes c (verdict.No lines) e = absurd (yes_is_not_no (sym (fourth_line c (verdict.No lines)) ∙ e))
+
+pub yes_says : (c : CertState) → SaysYes (report_lines c verdict.Yes)
+yes_says c = fourth_line c verdict.Yes
+
+-- and the line for a refusal does not say yes
+abbrev refused : Refusal → List ℕ
+refused r = codes "refused" ++ flat_map spaced (decimal r.line ∷ decimal r.code ∷ [])
+
+clean_refused : (r : Refusal) → is_clean (refused r) ≡ true
+clean_refused r =
+    list_all-append (λ b. not (is_line_feed b)) (decimal r.line) (spaced (decimal r.code) ++ [])
+    ∙ ap₂ (λ p q. p && q) (clean_decimal r.line) (ap is_clean (append-nil (decimal r.code)) ∙ clean_decimal r.code)
+
+none_is_no_yes : (l : List ℕ) → slice_get (l ∷ lines_of []) 3 ≡ Some (codes "verdict yes") → ⊥
+unfolding lines_of
+none_is_no_yes l e = cc
+
+pub refusal_says_none : (r : Refusal) → SaysYes (refusal_line r) → ⊥
+refusal_says_none r e = none_is_no_yes (refused r) (sym (ap (λ ls. slice_get ls 3) (line_ahead (refused r) [] (clean_refused r))) ∙ e)
+
+-- ---- the front of a text
+
+record Grown (parts more : List (List ℕ)) : Type 0 where
+  pub others : List (List ℕ)
+  pub are : ended more ≡ ended parts ++ others
+
+grow : (x : ℕ) (parts more : List (List ℕ)) → 0 < length parts → Grown parts more → Grown (onto_first x parts) (onto_first x more)
+grow x [] more h g = absurd (omega (arith, h))
+grow x (p ∷ []) more h g = record { others = ended (onto_first x more); are = refl }
+grow x (p ∷ p' ∷ parts) [] h g = absurd (let e = g.are in cc)
+grow x (p ∷ p' ∷ parts) (q ∷ []) h g = absurd (let e = g.are in cc)
+grow x (p ∷ p' ∷ parts) (q ∷ q' ∷ more) h g =
+    let e = g.are in
+    let heads : q ≡ p = cc in
+    let tails : ended (q' ∷ more) ≡ ended (p' ∷ parts) ++ g.others = cc in
+    record { others = g.others; are = ap₂ (λ a b. (x ∷ a) ∷ b) heads tails }
+
+grown : (front rest : List ℕ) → Grown (slice_split is_line_feed front) (slice_split is_line_feed (front ++ rest))
+grown [] rest = record { others = ended (slice_split is_line_feed rest); are = refl }
+grown (x ∷ front) rest = by_feed (is_line_feed x) (grown front rest)
+  where
+    by_feed : (t : Bool) → Grown (slice_split is_line_feed front) (slice_split is_line_feed (front ++ rest)) →
+        Grown (cond t ([] ∷ slice_split is_line_feed front) (onto_first x (slice_split is_line_feed front))) (cond t ([] ∷ slice_split is_line_feed (front ++ rest)) (onto_first x (slice_split is_line_feed (front ++ rest))))
+    by_feed true g = record {
+      others = g.others;
+      are = ended-cons [] (slice_split is_line_feed (front ++ rest)) (some_part (front ++ rest)) ∙ ap (λ t. [] ∷ t) g.are
+          ∙ sym (ap (λ t. t ++ g.others) (ended-cons [] (slice_split is_line_feed front) (some_part front)));
+    }
+    by_feed false g = grow x (slice_split is_line_feed front) (slice_split is_line_feed (front ++ rest)) (some_part front) g
+
+-- what says yes, says it whatever follows
+pub says_on : (front rest : List ℕ) → SaysYes front → SaysYes (front ++ rest)
+unfolding lines_of
+says_on front rest e =
+    let g = grown front rest in
+    ap (λ ls. slice_get ls 3) g.are ∙ kept (ended (slice_split is_line_feed front)) g.others 3 (codes "verdict yes") e

@@ -1,0 +1,13 @@
+-- A text has one listing of modules.
+use Rattle.std.proofs.Common.{◌≡◌, ℕ, List, sym, ◌∙◌}
+use Rattle.answers.specs.BundleText.{Bundle, bundle_of}
+use Rattle.answers.specs.ModulesText.{IsModulesOf, SaysModules}
+use Rattle.answers.specs.declared.outcome.Outcome.{Outcome}
+use Rattle.headline.specs.Laws.{HasOneAnswer}
+use Rattle.headline.proofs.OneAnswer.{answered_once}
+
+one_listing : (bundle : Bundle) (output output' : List ℕ) (outcome outcome' : Outcome) → SaysModules bundle output outcome → SaysModules bundle output' outcome' → (output ≡ output') × (outcome ≡ outcome')
+one_listing bundle output output' outcome outcome' h h' = (h.says ∙ sym h'.says, h.ends ∙ sym h'.ends)
+
+pub one_list : HasOneAnswer IsModulesOf
+one_list text output output' outcome outcome' h h' = answered_once SaysModules one_listing (bundle_of text) output output' outcome outcome' h h'

@@ -1,0 +1,302 @@
+-- What is reported with a yes is right.
+use Rattle.std.proofs.Common.{◌≡◌, ◌≤◌, ℕ, ◌+◌, Bool, true, false, cond, eqb, List, [], ◌∷◌, ◌++◌, length, take, drop, Option, Some, None, Result, Ok, Err, refl, sym, ap, ap₂, subst, ◌∙◌, append_assoc, take-append-drop, arith}
+use Rattle.std.specs.Prelude.{nat_lt, ◌≢◌, IfErr, IfOk, OnOk}
+use Rattle.std.specs.List.{flat_map}
+use Rattle.std.proofs.lemmas.Grind.{flat_map-append}
+use Rattle.std.proofs.lemmas.List.{append-nil, append_cancel_left}
+use Rattle.std.specs.Io.KnownBytes.{Appends, Consumes, IsAtEnd}
+use Rattle.std.proofs.lemmas.Bool.{ltb-false}
+use Rattle.section_text.specs.Codes.{or_else, code_where}
+use Rattle.section_text.specs.Words.{lines_of, rest_of, words_of}
+use Rattle.section_text.specs.Section.{ended_line, unless, line_after, header_line, section_of, body_of}
+use Rattle.section_text.proofs.Lines.{whole_text as no_byte_lost}
+use Rattle.circuit.specs.Text.{circuit_text}
+use Rattle.circuit.proofs.RoundTrip.{prints_what_is_read as circuit_printed}
+use Rattle.pattern.specs.Text.{layout_text}
+use Rattle.pattern.proofs.RoundTrip.{prints_what_is_read as layout_printed}
+use Rattle.section_text.specs.Sections.{go_on, finished}
+use Rattle.section_text.specs.declared.fault.Refusal.{Refusal}
+use Rattle.section_text.specs.declared.section.Form.TheVariants.{Header, Item, End}
+use Rattle.section_text.proofs.Good.{AreFaultless, IsFaultless, read_faultless}
+use Rattle.circuit.specs.Bridge.{AreGoodAfter, AreGood}
+use Rattle.circuit.specs.Entries.{rank_of}
+use Rattle.circuit.specs.Forms.{Line, form_of}
+use Rattle.circuit.specs.Grammars.{circuit_grammar}
+use Rattle.circuit.specs.Rules.{add_fault, gate_count, is_gate, last_rank, order_fault}
+use Rattle.circuit.specs.declared.entry.Entry.{Entry as CircuitLine}
+use Rattle.circuit.proofs.Bridging.{count_append, gates_are_ordered}
+use Rattle.circuit.proofs.Fitting.{entry_fits, no_gate_still, no_gate_yet}
+use Rattle.circuit.proofs.Naming.{inputs_are_first}
+use Rattle.circuit.proofs.Orders.{last_rank_push}
+use Rattle.pattern.specs.Grammars.{layout_grammar, layout_value}
+use Rattle.pattern.specs.Layout.{Pattern}
+use Rattle.pattern.specs.Lines as lines
+use Rattle.pattern.specs.declared.parts.Part.{Part}
+use Rattle.pattern.specs.declared.parts.Size.{Size}
+use Rattle.pattern.proofs.Named.{faultless_named}
+use Rattle.section_text.specs.Ports.{Named}
+use Rattle.certificate.specs.Grammars.{CertState, certificate_grammar, setting_of}
+use Rattle.certificate.specs.Entries.{modules_of}
+use Rattle.audit_core.specs.Concluding.{port_names_of}
+use Rattle.audit_core.specs.Implements.{IsCorrect}
+use Rattle.audit_core.specs.Verdicts.{IsVerdict}
+use Rattle.report.specs.ReportText.{report_lines}
+use Rattle.audit_core.specs.declared.verdict.Verdict.{Verdict}
+use Rattle.audit_core.specs.declared.verdict.Verdict.TheVariants as verdict
+use Rattle.audit_core.proofs.YesMeansCorrect.{yes_means-correct}
+use Rattle.answers.specs.Answers.{Answered}
+use Rattle.answers.specs.BundleText.{Bundle, bundle_of, setting_by}
+use Rattle.answers.specs.CheckText.{IsReportOf, SaysReport, verdict_outcome}
+use Rattle.headline.specs.Design.{SaysDesign}
+use Rattle.headline.specs.Headline.{GivesRight, IsRight, SaysYes, YesIsRight}
+use Rattle.headline.specs.Laws.{FourthLineTells, IsGoodDesign, ReportsOnGoodDesigns, YesMeansRight}
+use Rattle.answers.proofs.Bundles.{same_setting}
+use Rattle.headline.proofs.Designs.{design_said, one_design}
+use Rattle.headline.proofs.FourthLines.{refusal_says_none, says_on, says_yes, yes_says}
+use Rattle.answers.specs.declared.outcome.Outcome.{Outcome}
+use Rattle.answers.specs.declared.outcome.Outcome.TheVariants.{Yes, Refused}
+
+-- ---- the lines of a circuit that is read are good
+
+first_none : (a b : Option ℕ) → or_else a b ≡ None → (a ≡ None) × (b ≡ None)
+first_none None b e = (refl, e)
+first_none (Some code) b e = absurd cc
+
+no_code : (b : Bool) (code : ℕ) → code_where b code ≡ None → b ≡ false
+no_code true code e = absurd cc
+no_code false code e = refl
+
+-- where the last line is an input, there is no gate
+abbrev HasNoGateYet : List CircuitLine → Type 0
+HasNoGateYet before = cond (eqb (last_rank before) 0) (gate_count before) 0 ≡ 0
+
+record MoreGood (before rows : List CircuitLine) : Type 0 where
+  pub more : List CircuitLine
+  pub rows_are : rows ≡ before ++ more
+  pub good : AreGoodAfter before more
+
+still : (before : List CircuitLine) (r : CircuitLine) → last_rank before ≤ rank_of r.kind → HasNoGateYet before → HasNoGateYet (before ++ r ∷ [])
+still before r h e =
+    let plus : ℕ = gate_count before + cond (is_gate r.kind) 1 0 in
+    let more : gate_count (before ++ r ∷ []) ≡ plus = count_append (λ (r : CircuitLine). is_gate r.kind) before (r ∷ []) ∙ omega arith in
+    ap (λ (k : ℕ). cond (eqb k 0) (gate_count (before ++ r ∷ [])) 0) (last_rank_push before r)
+    ∙ ap (λ (n : ℕ). cond (eqb (rank_of r.kind) 0) n 0) more
+    ∙ no_gate_still r.kind (last_rank before) (gate_count before) h e
+
+ok_of : (x y : Unit {0} × List CircuitLine) → ◌≡◌ {A = Result (Unit {0} × List CircuitLine) Refusal} (Ok x) (Ok y) → x ≡ y
+ok_of x y e = cc
+
+unless_ok : (n : ℕ) (o : Option ℕ) (r : Result (Unit {0} × List CircuitLine) Refusal) (y : Unit {0} × List CircuitLine) → unless n o r ≡ Ok y → (o ≡ None) × (r ≡ Ok y)
+unless_ok n None r y e = (refl, e)
+unless_ok n (Some code) r y e = absurd cc
+
+line_good : (words : List (List ℕ)) (ls : List (List ℕ)) (before : List CircuitLine) (n : ℕ) (rows : List CircuitLine) (o : Option Line) → form_of words ≡ o → HasNoGateYet before
+    → line_after circuit_grammar tt before n (λ i. body_of circuit_grammar tt (before ++ i ∷ []) (n + 1) ls) o ≡ Ok (tt, rows)
+    → ((i : CircuitLine) → HasNoGateYet (before ++ i ∷ []) → body_of circuit_grammar tt (before ++ i ∷ []) (n + 1) ls ≡ Ok (tt, rows) → MoreGood (before ++ i ∷ []) rows) → MoreGood before rows
+unfolding AreGoodAfter
+line_good words ls before n rows None f none e rec = absurd cc
+line_good words ls before n rows (Some (Header k)) f none e rec = absurd cc
+line_good words ls before n rows (Some (Item r)) f none e rec =
+    let passed = unless_ok n (or_else (order_fault before r) (add_fault before r)) (body_of circuit_grammar tt (before ++ r ∷ []) (n + 1) ls) (tt, rows) e in
+    let codes = first_none (order_fault before r) (add_fault before r) passed.0 in
+    let h : last_rank before ≤ rank_of r.kind = ltb-false (rank_of r.kind) (last_rank before) (no_code (nat_lt (rank_of r.kind) (last_rank before)) 6 codes.0) in
+    let t = rec r (still before r h none) passed.1 in
+    record {
+      more = r ∷ t.more;
+      rows_are = t.rows_are ∙ append_assoc before (r ∷ []) t.more;
+      good = (record { adds = codes.1; fits = entry_fits words r f; inputs_first = no_gate_yet r.kind (last_rank before) (gate_count before) h none }, t.good);
+    }
+line_good words ls before n rows (Some End) f none e rec =
+    let passed = unless_ok n (circuit_grammar.end_fault tt before) (Ok (tt, before)) (tt, rows) e in
+    record { more = []; rows_are = sym (ap (λ (p : Unit {0} × List CircuitLine). p.1) (ok_of (tt, before) (tt, rows) passed.1)) ∙ sym (append-nil before); good = tt }
+
+body_good : (ls : List (List ℕ)) (before : List CircuitLine) (n : ℕ) (rows : List CircuitLine) → HasNoGateYet before → body_of circuit_grammar tt before n ls ≡ Ok (tt, rows) → MoreGood before rows
+unfolding body_of
+body_good [] before n rows none e = absurd cc
+body_good (l ∷ ls) before n rows none e = line_good (words_of l) ls before n rows (form_of (words_of l)) refl none e (λ i still e. body_good ls (before ++ i ∷ []) (n + 1) rows still e)
+
+header_good : (ls : List (List ℕ)) (n : ℕ) (rows : List CircuitLine) (o : Option Line) → header_line circuit_grammar n (λ k. body_of circuit_grammar k [] (n + 1) ls) o ≡ Ok (tt, rows) → AreGood rows
+header_good ls n rows None e = absurd cc
+header_good ls n rows (Some (Item i)) e = absurd cc
+header_good ls n rows (Some End) e = absurd cc
+header_good ls n rows (Some (Header k)) e =
+    let t = body_good ls [] (n + 1) rows refl (unless_ok n None (body_of circuit_grammar tt [] (n + 1) ls) (tt, rows) e).1 in
+    subst (AreGoodAfter []) (sym t.rows_are) t.good
+
+circuit_good : (n : ℕ) (ls : List (List ℕ)) (h : Unit {0}) (rows : List CircuitLine) → section_of circuit_grammar n ls ≡ Ok (h, rows) → AreGood rows
+unfolding section_of
+circuit_good n [] h rows e = absurd cc
+circuit_good n (l ∷ ls) h rows e = header_good ls n rows (form_of (words_of l)) e
+
+-- ---- and so are those of a layout
+
+laid_out : (ports : Option Named) (s : Size) (before parts : List Part) → AreFaultless (layout_grammar ports) s before parts → lines.AreGoodAfter s before parts
+unfolding lines.part_fault lines.line_fault
+laid_out ports s before [] good = tt
+laid_out ports s before (part ∷ parts) good =
+    let codes = first_none (lines.line_fault ports before part) (lines.cell_fault s before part) good.0 in
+    let rest = first_none (lines.order_fault before part) (or_else (lines.limit_fault part) (lines.name_fault ports part)) codes.0 in
+    ((first_none (lines.limit_fault part) (lines.name_fault ports part) rest.1).0, codes.1, laid_out ports s (before ++ part ∷ []) parts good.1)
+
+-- ---- the sections of a bundle
+
+-- the circuit and the layout in their one spelling, and what follows
+record BeginsWith (text : List ℕ) (circuit : List CircuitLine) (p : Pattern) : Type 0 where
+  pub rest : List ℕ
+  pub begins : text ≡ circuit_text circuit ++ (layout_text p ++ rest)
+
+spelled : (text : List ℕ) (circuit : List CircuitLine) (ports : Option Named) (n : ℕ) (p : Pattern) → section_of circuit_grammar 0 (lines_of text) ≡ Ok (tt, circuit)
+    → section_of (layout_grammar ports) n (drop (length circuit + 2) (lines_of text)) ≡ Ok (layout_value p) → BeginsWith text circuit p
+spelled text circuit ports n p first second =
+    let k = length circuit + 2 in
+    let later = drop k (lines_of text) in
+    let m = length (lines.parts_of p) + 2 in
+    let after : List ℕ = flat_map ended_line (drop m later) in
+    let split : flat_map ended_line (lines_of text) ≡ circuit_text circuit ++ (layout_text p ++ after) =
+    ap (flat_map ended_line) (sym (take-append-drop k (lines_of text))) ∙ flat_map-append ended_line (take k (lines_of text)) later
+    ∙ ap₂ (λ a b. a ++ b) (circuit_printed 0 (lines_of text) circuit first)
+    (ap (flat_map ended_line) (sym (take-append-drop m later)) ∙ flat_map-append ended_line (take m later) (drop m later) ∙ ap (λ a. a ++ after) (layout_printed ports n later p second)) in
+    record {
+      rest = after ++ rest_of text;
+      begins = sym (no_byte_lost text) ∙ ap (λ a. a ++ rest_of text) split
+          ∙ append_assoc (circuit_text circuit) (layout_text p ++ after) (rest_of text) ∙ ap (λ a. circuit_text circuit ++ a) (append_assoc (layout_text p) after (rest_of text));
+    }
+
+record IsReadBundle (text : List ℕ) (b : Bundle) : Type 0 where
+  pub circuit : AreGood b.circuit
+  pub layout : IsFaultless (layout_grammar (Some (port_names_of b.circuit))) b.size b.parts
+  pub says : (p : Pattern) → layout_value p ≡ (b.size, b.parts) → SaysDesign text b.circuit p
+  pub begins : (p : Pattern) → layout_value p ≡ (b.size, b.parts) → BeginsWith text b.circuit p
+
+-- what goes on with a value that was read, was read
+record WentOn {H I : Type 0} {B : Type 0} (read : Result (H × List I) Refusal) (next : H → List I → Result B Refusal) (b : B) : Type 0 where
+  pub header : H
+  pub items : List I
+  pub was : read ≡ Ok (header, items)
+  pub then : next header items ≡ Ok b
+
+went_on : {H I : Type 0} {B : Type 0} (read : Result (H × List I) Refusal) (next : H → List I → Result B Refusal) (b : B) → go_on read next ≡ Ok b → WentOn read next b
+went_on (Ok read) next b e = record { header = read.0; items = read.1; was = refl; then = e }
+went_on (Err refusal) next b e = absurd cc
+
+is_finished : {B : Type 0} (n : ℕ) (ls : List (List ℕ)) (rest : List ℕ) (value b : B) → finished n ls rest value ≡ Ok b → value ≡ b
+is_finished n [] [] value b e = cc
+is_finished n [] (c ∷ rest) value b e = absurd cc
+is_finished n (l ∷ ls) rest value b e = absurd cc
+
+bundle_good : (text : List ℕ) (b : Bundle) → bundle_of text ≡ Ok b → IsReadBundle text b
+unfolding bundle_of
+bundle_good text b e =
+    let c = went_on (section_of circuit_grammar 0 (lines_of text)) _ b e in
+    let l = went_on (section_of (layout_grammar (Some (port_names_of c.items))) _ _) _ b c.then in
+    let k = went_on (section_of (certificate_grammar (setting_by c.items l.header l.items)) _ _) _ b l.then in
+    subst (IsReadBundle text) (is_finished _ _ _ _ b k.then) (record {
+      circuit = circuit_good 0 (lines_of text) c.header c.items c.was;
+      layout = read_faultless (layout_grammar (Some (port_names_of c.items))) _ _ l.header l.items l.was;
+      says = λ p same. design_said text c.items (Some (port_names_of c.items)) _ p c.was (l.was ∙ ap Ok (sym same));
+      begins = λ p same. spelled text c.items (Some (port_names_of c.items)) _ p c.was (l.was ∙ ap Ok (sym same));
+    })
+
+-- and those of its certificate are good
+pub certificate_faultless : (text : List ℕ) (b : Bundle) (p : Pattern) → bundle_of text ≡ Ok b → layout_value p ≡ (b.size, b.parts) → IsFaultless (certificate_grammar (setting_of b.circuit p)) b.version b.entries
+unfolding bundle_of
+certificate_faultless text b p e same =
+    let c = went_on (section_of circuit_grammar 0 (lines_of text)) _ b e in
+    let l = went_on (section_of (layout_grammar (Some (port_names_of c.items))) _ _) _ b c.then in
+    let k = went_on (section_of (certificate_grammar (setting_by c.items l.header l.items)) _ _) _ b l.then in
+    let whole = is_finished _ _ _ _ b k.then in
+    let P : Bundle → Type 0 = λ b. IsFaultless (certificate_grammar (setting_by b.circuit b.size b.parts)) b.version b.entries in
+    let good : P b = subst P whole (read_faultless (certificate_grammar (setting_by c.items l.header l.items)) _ _ k.header k.items k.was) in
+    let Q : Size × List Part → Type 0 = λ q. IsFaultless (certificate_grammar (setting_by b.circuit q.0 q.1)) b.version b.entries in
+    subst (λ g. IsFaultless (certificate_grammar g) b.version b.entries) (same_setting b.circuit p) (subst Q (sym same) good)
+
+-- ---- the design of a text that is not refused
+
+-- the one of a report is the one that the text says
+own_design : (text : List ℕ) (b : Bundle) (output : List ℕ) (outcome : Outcome) (circuit : List CircuitLine) (layout : Pattern) → bundle_of text ≡ Ok b → SaysReport b output outcome →
+    SaysDesign text circuit layout → IsGoodDesign text circuit layout
+own_design text b output outcome circuit layout reads says said =
+    let good = bundle_good text b reads in
+    let c : CertState = says.certificate in
+    let p : Pattern = c.layout in
+    let same = says.its_own in
+    let whole : IsFaultless (layout_grammar (Some (port_names_of b.circuit))) p.size (lines.parts_of p) =
+    subst (λ (q : Size × List Part). IsFaultless (layout_grammar (Some (port_names_of b.circuit))) q.0 q.1) (sym same.layout) good.layout in
+    let begins = good.begins p same.layout in
+    let one = one_design text b.circuit circuit p layout (good.says p same.layout) said in
+    subst (λ (cs : List CircuitLine). IsGoodDesign text cs layout) one.0 (subst (IsGoodDesign text b.circuit) one.1 (record {
+      circuit_lines = good.circuit;
+      size = whole.header;
+      layout_lines = laid_out (Some (port_names_of b.circuit)) p.size [] (lines.parts_of p) whole.each;
+      rest = begins.rest;
+      begins = begins.begins;
+    }))
+
+by_read : (text output : List ℕ) (outcome : Outcome) (circuit : List CircuitLine) (layout : Pattern) (read : Result Bundle Refusal) → bundle_of text ≡ read → Answered SaysReport read output outcome → outcome ≢ Refused →
+    SaysDesign text circuit layout → IsGoodDesign text circuit layout
+by_read text output outcome circuit layout (Ok b) e says some said = own_design text b output outcome circuit layout e says said
+by_read text output outcome circuit layout (Err refusal) e told some said = absurd (some told.1)
+
+pub good_designs : ReportsOnGoodDesigns
+good_designs text output outcome circuit layout says some said = by_read text output outcome circuit layout (bundle_of text) refl says some said
+
+-- ---- a yes
+
+is_yes : (v : Verdict) → Yes ≡ verdict_outcome v → v ≡ verdict.Yes
+is_yes verdict.Yes e = refl
+is_yes (verdict.No lines) e = absurd cc
+
+-- what was judged so is right
+judged_yes : (text : List ℕ) (b : Bundle) (output : List ℕ) (outcome : Outcome) → bundle_of text ≡ Ok b → (says : SaysReport b output outcome) → says.verdict ≡ verdict.Yes → IsRight text
+judged_yes text b output outcome reads says is =
+    let good = bundle_good text b reads in
+    let c : CertState = says.certificate in
+    let same = says.its_own in
+    let circuit : AreGood c.circuit = subst AreGood (sym same.circuit) good.circuit in
+    let whole : IsFaultless (layout_grammar (Some (port_names_of c.circuit))) c.layout.size (lines.parts_of c.layout) =
+    subst (λ (q : Size × List Part). IsFaultless (layout_grammar (Some (port_names_of c.circuit))) q.0 q.1) (sym same.layout)
+    (subst (λ (cs : List CircuitLine). IsFaultless (layout_grammar (Some (port_names_of cs))) b.size b.parts) (sym same.circuit) good.layout) in
+    let gates = gates_are_ordered c.circuit circuit in
+    let v = says.is_verdict in
+    let judged = subst (λ (w : Verdict). IsVerdict (setting_of c.circuit c.layout) (modules_of c.entries) v.jobs w) is v.judged in
+    let correct = yes_means-correct c c.layout.size v.jobs (record {
+      ordered = gates.0;
+      forward = gates.1;
+      same = refl;
+      limits = whole.header;
+      laid_out = laid_out (Some (port_names_of c.circuit)) c.layout.size [] (lines.parts_of c.layout) whole.each;
+      are_modules = v.good;
+      inputs = inputs_are_first c.circuit circuit;
+      named = faultless_named (Some (port_names_of c.circuit)) c.layout.size (lines.parts_of c.layout) whole;
+    }) v.are_jobs judged in
+    record { circuit = b.circuit; layout = c.layout; says = good.says c.layout same.layout; correct = subst (λ (cs : List CircuitLine). IsCorrect cs c.layout) same.circuit correct }
+
+not_refused : Yes ≡ Refused → ⊥
+not_refused e = cc
+
+by_outcome : (text : List ℕ) (output : List ℕ) (read : Result Bundle Refusal) → bundle_of text ≡ read → Answered SaysReport read output Yes → IsRight text
+by_outcome text output (Ok b) e says = judged_yes text b output Yes e says (is_yes says.verdict says.ends)
+by_outcome text output (Err refusal) e told = absurd (not_refused told.1)
+
+pub yes_is_right : YesMeansRight
+yes_is_right text output says = by_outcome text output (bundle_of text) refl says
+
+-- ---- the fourth line
+
+line_tells : (output : List ℕ) (outcome : Outcome) (read : Result Bundle Refusal) → Answered SaysReport read output outcome → (SaysYes output → outcome ≡ Yes) × (outcome ≡ Yes → SaysYes output)
+line_tells output outcome (Ok b) says = (
+  λ line. says.ends ∙ ap verdict_outcome (says_yes says.certificate says.verdict (subst SaysYes says.says line)),
+  λ is.
+      let v : says.verdict ≡ verdict.Yes = is_yes says.verdict (sym is ∙ says.ends) in
+      subst SaysYes (sym says.says) (subst (λ (w : Verdict). SaysYes (report_lines says.certificate w)) (sym v) (yes_says says.certificate)),
+)
+line_tells output outcome (Err refusal) told = (
+  λ line. absurd (refusal_says_none refusal (subst SaysYes told.0 line)),
+  λ is. absurd (not_refused (sym is ∙ told.1)),
+)
+
+pub fourth_line-tells : FourthLineTells
+fourth_line-tells text output outcome says = line_tells output outcome (bundle_of text) says
+
+pub by_line : (text output : List ℕ) (outcome : Outcome) → IsReportOf text output outcome → SaysYes output → IsRight text
+by_line text output outcome says line = yes_is_right text output (subst (λ o. IsReportOf text output o) ((fourth_line-tells text output outcome says).0 line) says)

@@ -1,0 +1,5 @@
+use Rattle.headline.proofs.OneReport.{one_report}
+use Rattle.headline.proofs.laws.check_has_one_answer.Goals as goal
+
+pub returns : goal.returns
+returns c = one_report

@@ -1,0 +1,5 @@
+use Rattle.headline.proofs.OneAnswer.{one_answer}
+use Rattle.headline.proofs.laws.run_has_one_answer.Goals as goal
+
+pub returns : goal.returns
+returns c = one_answer

@@ -1,0 +1,5 @@
+use Rattle.headline.proofs.FourModules.{accepted}
+use Rattle.headline.proofs.laws.something_is_accepted.Goals as goal
+
+pub returns : goal.returns
+returns c = accepted

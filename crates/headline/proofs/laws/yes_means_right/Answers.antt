@@ -1,0 +1,5 @@
+use Rattle.headline.proofs.YesIsRight.{fourth_line-tells, yes_is_right}
+use Rattle.headline.proofs.laws.yes_means_right.Goals as goal
+
+pub returns : goal.returns
+returns c = record { right = yes_is_right; told = fourth_line-tells }

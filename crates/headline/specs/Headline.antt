@@ -1,0 +1,32 @@
+-- What a yes of `check` means, of texts and bytes alone.
+--
+-- Read before, in this order: bbm_rule/specs/{Spans,Plane}.antt (a step, a run), pattern/specs/Layout.antt (a layout, and its plane),
+-- circuit/specs/{Gates,Meaning,Bridge}.antt (gates, valuations, the circuit of lines), audit_core/specs/Implements.antt (a layout
+-- computes a circuit), section_text/specs/Words.antt (lines and words of bytes), circuit/specs/Forms.antt and pattern/specs/Forms.antt
+-- (what a line says), and Design.antt (what a text says). `tools/reading_list.py` prints which definitions of them are meant.
+use Rattle.std.specs.Prelude.{◌≡◌, ℕ, List, ◌++◌, Option, Some, slice_get, codes}
+use Rattle.section_text.specs.Words.{lines_of}
+use Rattle.circuit.specs.declared.entry.Entry.{Entry}
+use Rattle.pattern.specs.Layout.{Pattern}
+use Rattle.audit_core.specs.Implements.{IsCorrect}
+use Rattle.headline.specs.Design.{SaysDesign}
+
+-- the text says a circuit and then a layout, and the layout computes the circuit
+pub record IsRight (text : List ℕ) : Type 0 where
+  pub circuit : List Entry
+  pub layout : Pattern
+  pub says : SaysDesign text circuit layout
+  pub correct : IsCorrect circuit layout
+
+-- the fourth line of an output
+abbrev pub SaysYes : List ℕ → Type 0
+SaysYes output = slice_get (lines_of output) 3 ≡ Some (codes "verdict yes")
+
+-- The bytes of a reader are known, and so are those of a writer before and after: where what was written says yes, what there was to
+-- read is right.
+abbrev pub YesIsRight : Option (List ℕ) → Option (List ℕ) → Option (List ℕ) → Type 0
+YesIsRight left held held' = (text before output : List ℕ) → left ≡ Some text → held ≡ Some before → held' ≡ Some (before ++ output) → SaysYes output → IsRight text
+
+-- what there is to read is right, where it is known
+abbrev pub GivesRight : Option (List ℕ) → Type 0
+GivesRight left = (text : List ℕ) → left ≡ Some text → IsRight text

@@ -1,0 +1,48 @@
+-- Laws of the answers.
+use Rattle.std.specs.Prelude.{◌≡◌, ◌≢◌, ℕ, List, [], ◌∷◌, ◌++◌, None}
+use Rattle.circuit.specs.Bridge.{AreGood}
+use Rattle.circuit.specs.Text.{circuit_text}
+use Rattle.circuit.specs.declared.entry.Entry.{Entry}
+use Rattle.pattern.specs.Layout.{Pattern}
+use Rattle.pattern.specs.Lines.{AreGoodAfter, parts_of, size_fault}
+use Rattle.pattern.specs.Text.{layout_text}
+use Rattle.answers.specs.declared.outcome.Outcome.{Outcome}
+use Rattle.answers.specs.declared.outcome.Outcome.TheVariants.{Yes, Refused}
+use Rattle.answers.specs.CheckText.{IsReportOf}
+use Rattle.headline.specs.Design.{SaysDesign}
+use Rattle.headline.specs.FourModules.{four_modules}
+use Rattle.headline.specs.Headline.{IsRight, SaysYes}
+
+-- a command has one answer to each text
+abbrev pub HasOneAnswer : (List ℕ → List ℕ → Outcome → Type 0) → Type 0
+HasOneAnswer R = (text output output' : List ℕ) (outcome outcome' : Outcome) → R text output outcome → R text output' outcome' → (output ≡ output') × (outcome ≡ outcome')
+
+-- what is reported with the outcome yes is right
+abbrev pub YesMeansRight : Type 0
+YesMeansRight = (text output : List ℕ) → IsReportOf text output Yes → IsRight text
+
+-- a report says yes in its fourth line just where that is the outcome
+abbrev pub FourthLineTells : Type 0
+FourthLineTells = (text output : List ℕ) (outcome : Outcome) → IsReportOf text output outcome → (SaysYes output → outcome ≡ Yes) × (outcome ≡ Yes → SaysYes output)
+
+-- a text says one circuit and one layout at most
+abbrev pub SaysOneDesign : Type 0
+SaysOneDesign = (text : List ℕ) (circuit circuit' : List Entry) (layout layout' : Pattern) → SaysDesign text circuit layout → SaysDesign text circuit' layout' →
+    (circuit ≡ circuit') × (layout ≡ layout')
+
+-- Where a text is not refused, the design that it says is good: each of its lines is good after those before it, by names, limits and
+-- cells, and the text begins with the lines of both sections in their one spelling.
+pub record IsGoodDesign (text : List ℕ) (circuit : List Entry) (layout : Pattern) : Type 0 where
+  pub circuit_lines : AreGood circuit
+  pub size : size_fault layout.size ≡ None
+  pub layout_lines : AreGoodAfter layout.size [] (parts_of layout)
+  pub rest : List ℕ
+  pub begins : text ≡ circuit_text circuit ++ (layout_text layout ++ rest)
+
+abbrev pub ReportsOnGoodDesigns : Type 0
+ReportsOnGoodDesigns = (text output : List ℕ) (outcome : Outcome) (circuit : List Entry) (layout : Pattern) → IsReportOf text output outcome → outcome ≢ Refused →
+    SaysDesign text circuit layout → IsGoodDesign text circuit layout
+
+-- Something is reported with the outcome yes, so the laws are not about nothing: this text.
+abbrev pub FourModulesAreAccepted : Type 0
+FourModulesAreAccepted = (output : List ℕ) × IsReportOf four_modules output Yes

@@ -1,0 +1,45 @@
+//! Laws of the definitions, each the contract of a function without a body.
+ghost use Rattle.answers.specs.CheckText.{IsReportOf};
+ghost use Rattle.headline.specs.Laws.{FourModulesAreAccepted, FourthLineTells, HasOneAnswer, ReportsOnGoodDesigns, SaysOneDesign, YesMeansRight};
+ghost use Rattle.answers.specs.ModulesText.{IsModulesOf};
+ghost use Rattle.answers.specs.RunText.{IsRunOf};
+ghost use Rattle.answers.specs.ValueText.{IsValueOf};
+
+/// What `check` writes for a text, and how it ends, is a function of the text.
+pub fn check_has_one_answer()
+    ensures { HasOneAnswer IsReportOf }
+{}
+
+/// What `run` writes for a text, and how it ends, is a function of the text.
+pub fn run_has_one_answer()
+    ensures { HasOneAnswer IsRunOf }
+{}
+
+/// What `value` writes for a text, and how it ends, is a function of the text.
+pub fn value_has_one_answer()
+    ensures { HasOneAnswer IsValueOf }
+{}
+
+/// What `modules` writes for a text, and how it ends, is a function of the text.
+pub fn modules_has_one_answer()
+    ensures { HasOneAnswer IsModulesOf }
+{}
+
+/// A text for which the report says yes begins with a circuit and a layout that computes it. The fourth line of a report is
+/// `verdict yes` just where it says yes.
+pub fn yes_means_right()
+    ensures right { YesMeansRight }
+    ensures told { FourthLineTells }
+{}
+
+/// A text begins with one circuit and one layout at most. Where it is not refused, each of their lines is good after those before it, by
+/// names, limits and cells, and is spelled in the one way.
+pub fn says_one_design()
+    ensures one { SaysOneDesign }
+    ensures good { ReportsOnGoodDesigns }
+{}
+
+/// Something is reported with a yes: the text of four modules with a gate.
+pub fn something_is_accepted()
+    ensures { FourModulesAreAccepted }
+{}
