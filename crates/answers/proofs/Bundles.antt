@@ -17,19 +17,19 @@ use Rattle.circuit.specs.Bridge.{circuit_of}
 use Rattle.circuit.specs.Grammars.{circuit_grammar, circuit_value}
 use Rattle.circuit.specs.declared.entry.Entry.{Entry as CircuitLine}
 use Rattle.pattern.specs.Grammars.{layout_grammar, layout_value}
-use Rattle.pattern.specs.Layout.{Pattern}
-use Rattle.pattern.specs.Lines.{parts_of}
+use Rattle.pattern.specs.Layout.{Pattern, parts_of}
 use Rattle.pattern.specs.declared.parts.Part.{Part}
 use Rattle.pattern.specs.declared.parts.Part.TheVariants.{Mirror, Ball, In, Out, Waste}
 use Rattle.pattern.specs.declared.parts.Port.{Port}
-use Rattle.pattern.specs.declared.parts.Size.{Size}
+use Rattle.pattern.specs.declared.parts.Extent.{Extent}
 use Rattle.certificate.specs.Entries.{Setting}
 use Rattle.certificate.specs.Grammars.{CertState, certificate_grammar, certificate_value, setting_of}
 use Rattle.certificate.specs.declared.entry.Entry.{Entry}
 use Rattle.answers.specs.Answers.{Answered}
 use Rattle.answers.specs.BundleReading.{TellsRefusal, bundle_by}
 use Rattle.audit_core.specs.Concluding.{port_names_of}
-use Rattle.answers.specs.BundleText.{Bundle, bundle_of, in_port, out_port, setting_by}
+use Rattle.pattern.specs.FromLines.{in_port, out_port, pattern_of}
+use Rattle.answers.specs.BundleText.{Bundle, bundle_of}
 use Rattle.answers.specs.declared.outcome.Outcome.{Outcome}
 
 -- ---- the ports of a layout, by its lines
@@ -55,7 +55,7 @@ out_ports_are p =
     split_five out_port (map Mirror p.mirrors) (map Ball p.balls) (map In p.ins) (map Out p.outs) (map Waste p.wastes)
     ∙ rw (none_of out_port Mirror (λ r. refl) p.mirrors, none_of out_port Ball (λ c. refl) p.balls, none_of out_port In (λ q. refl) p.ins, all_of out_port Out (λ q. refl) p.outs, none_of out_port Waste (λ c. refl) p.wastes) (append-nil p.outs)
 
-pub same_setting : (circuit : List CircuitLine) (p : Pattern) → setting_by circuit p.size (parts_of p) ≡ setting_of circuit p
+pub same_setting : (circuit : List CircuitLine) (p : Pattern) → setting_of circuit (pattern_of p.size (parts_of p)) ≡ setting_of circuit p
 same_setting circuit p =
     let ports = ap₂ (λ a b. a ++ b) (in_ports_are p) (out_ports_are p) in
     let at : List Port → Setting = λ l. record { circuit = circuit_of circuit; size = p.size; ports = l } in
@@ -64,14 +64,14 @@ same_setting circuit p =
 -- ---- the sections of a bundle, one after the other
 
 module _ (text : List ℕ) where
-  whole : List CircuitLine → Size → List Part → ℕ → List Entry → Bundle
+  whole : List CircuitLine → Extent → List Part → ℕ → List Entry → Bundle
   whole circuit size parts version entries = record { circuit = circuit; size = size; parts = parts; version = version; entries = entries }
 
-  ended : List CircuitLine → Size → List Part → ℕ → List Entry → ℕ → List (List ℕ) → Result Bundle Refusal
+  ended : List CircuitLine → Extent → List Part → ℕ → List Entry → ℕ → List (List ℕ) → Result Bundle Refusal
   ended circuit size parts version entries k last = finished k last (rest_of text) (whole circuit size parts version entries)
 
-  after_layout : List CircuitLine → Size → List Part → ℕ → List (List ℕ) → Result Bundle Refusal
-  after_layout circuit size parts m later = section_then (certificate_grammar (setting_by circuit size parts)) m later (ended circuit size parts)
+  after_layout : List CircuitLine → Extent → List Part → ℕ → List (List ℕ) → Result Bundle Refusal
+  after_layout circuit size parts m later = section_then (certificate_grammar (setting_of circuit (pattern_of size parts))) m later (ended circuit size parts)
 
   after_circuit : Unit {0} → List CircuitLine → ℕ → List (List ℕ) → Result Bundle Refusal
   after_circuit _ circuit n ahead = section_then (layout_grammar (Some (port_names_of circuit))) n ahead (after_layout circuit)
@@ -116,7 +116,7 @@ module _ (f0 f1 : FeedState) (unread : f0.taken ≡ 0) (going : f0.stop ≡ None
         text_2 = same_text (layout_grammar (Some (port_names_of circuit))) layout_value f1 f2 going_1 (after_layout f0.text circuit) layout here ∙ text_1
 
         setting : Setting
-        setting = setting_by circuit layout.size (parts_of layout)
+        setting = setting_of circuit (pattern_of layout.size (parts_of layout))
 
         module _ (f3 : FeedState) where
           pub certificate_failed : (fault : ReadFault) → Reads {A = CertState} (certificate_grammar (setting_of circuit layout)) certificate_value f2 f3 (Err fault) → Fails fault (bundle_of f0.text)

@@ -5,8 +5,7 @@ use Rattle.std.proofs.lemmas.Grind.{flat_map-append}
 use Rattle.pattern.specs.declared.parts.Part.{Part}
 use Rattle.pattern.specs.declared.parts.Part.TheVariants.{Mirror, Ball, In, Out, Waste}
 use Rattle.pattern.specs.declared.parts.Port.{Port}
-use Rattle.pattern.specs.Layout.{Pattern}
-use Rattle.pattern.specs.Lines.{parts_of}
+use Rattle.pattern.specs.Layout.{Pattern, parts_of}
 use Rattle.answers.specs.RunText.{in_name}
 
 none_of : {X : Type 0} (f : X → Part) → ((x : X) → in_name (f x) ≡ []) → (xs : List X) → flat_map in_name (map f xs) ≡ []

@@ -1,9 +1,9 @@
 -- What comes of reading a bundle.
 use Rattle.std.specs.Prelude.{◌≡◌, ℕ, List}
+use Rattle.pattern.specs.Layout.{parts_of}
 use Rattle.section_text.specs.declared.fault.ReadFault.{ReadFault}
 use Rattle.section_text.specs.declared.fault.ReadFault.TheVariants as read
 use Rattle.section_text.specs.declared.fault.Refusal.{Refusal}
-use Rattle.pattern.specs.Lines.{parts_of}
 use Rattle.certificate.specs.Grammars.{CertState}
 use Rattle.report.specs.ReportText.{refusal_line}
 use Rattle.answers.specs.declared.outcome.Outcome.{Outcome}

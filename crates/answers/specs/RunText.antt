@@ -9,7 +9,7 @@ use Rattle.section_text.specs.declared.fault.Refusal.{Refusal}
 use Rattle.bbm_rule.specs.declared.block.Cell.{Cell}
 use Rattle.pattern.specs.declared.parts.Part.{Part}
 use Rattle.pattern.specs.declared.parts.Part.TheVariants.{Mirror, Ball, In, Out, Waste}
-use Rattle.pattern.specs.declared.parts.Size.{Size}
+use Rattle.pattern.specs.declared.parts.Extent.{Extent}
 use Rattle.pattern.specs.declared.run.RunEnd.{RunEnd}
 use Rattle.pattern.specs.declared.run.RunEnd.TheVariants.{Cells, LeftAt}
 use Rattle.pattern.specs.Layout.{Pattern}
@@ -31,7 +31,7 @@ in_name (Waste c) = []
 
 -- the lines of a layout, and the names that are on
 abbrev pub RunAsked : Type 0
-RunAsked = (Size × List Part) × List (List ℕ)
+RunAsked = (Extent × List Part) × List (List ℕ)
 
 -- a layout section, an assign section in which the names of its input cells may be on, and nothing more
 unfoldable pub run_asked : List ℕ → Result RunAsked Refusal

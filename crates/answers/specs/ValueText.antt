@@ -1,11 +1,11 @@
 -- What `value` answers to a text: each wire's value under an assignment of the inputs, or the refusal of the text.
 use Rattle.std.specs.Prelude.{◌≡◌, ℕ, Bool, List, map, Result}
+use Rattle.circuit.specs.Entries.{defined}
 use Rattle.section_text.specs.Words.{lines_of, has}
 use Rattle.section_text.specs.Sections.{section_then}
 use Rattle.section_text.specs.declared.fault.Refusal.{Refusal}
 use Rattle.circuit.specs.declared.entry.Entry.{Entry}
 use Rattle.circuit.specs.Grammars.{circuit_grammar}
-use Rattle.circuit.specs.Rules.{defined}
 use Rattle.circuit.specs.Bridge.{AreValues, input_names, netlist_of, read}
 use Rattle.circuit.specs.Text.{value_lines}
 use Rattle.answers.specs.declared.outcome.Outcome.{Outcome}

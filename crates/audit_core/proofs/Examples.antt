@@ -38,7 +38,7 @@ use Rattle.local_run.specs.declared.fault.Kind.TheVariants.{Edge, Stop, End}
 use Rattle.local_run.proofs.LocalRuns.{even_or_odd, local_even, local_odd}
 use Rattle.border_match.specs.BorderFaults.{IsBorderFault}
 use Rattle.border_match.specs.declared.fault.BorderFault.{BorderFault}
-use Rattle.audit_core.specs.HeadlineLaws.{Example, IsBundle}
+use Rattle.audit_core.specs.HeadlineLaws.{Example, BelongTogether}
 
 abbrev name_p : List ℕ
 name_p = 112 ∷ []
@@ -341,7 +341,7 @@ is_job = record {
   stops = refl;
 }
 
-is_bundle : IsBundle lines layout (one ∷ []) (job ∷ [])
+is_bundle : BelongTogether lines layout (one ∷ []) (job ∷ [])
 unfolding AreOrdered size_fault limit_fault cell_fault is_inside is_taken begins ends cells_of begun ended in_span
 is_bundle = record {
   ordered = tt;

@@ -5,16 +5,16 @@ use Rattle.std.specs.List.{All}
 use Rattle.std.specs.Str.{bytes_eq}
 use Rattle.std.proofs.lemmas.Bool.{cases_Bool, false≢true, cond-true, cond-false}
 use Rattle.std.proofs.lemmas.Option.{slice_get-map, slice_get_within, get_or_from_slice_get}
-use Rattle.bbm_rule.specs.Plane.{run}
+use Rattle.circuit.specs.Entries.{defined}
+use Rattle.bbm_rule.specs.Plane.{run, is_at}
 use Rattle.bbm_rule.proofs.Steps.{step_same}
 use Rattle.section_text.specs.Codes.{code_where}
 use Rattle.section_text.specs.Ports.{Named}
 use Rattle.section_text.specs.Words.{has}
 use Rattle.circuit.specs.Bridge.{circuit_of, input_names, netlist_of, output_names}
-use Rattle.circuit.specs.Meaning.{Valuation, place_of, value_of, wire_of}
-use Rattle.circuit.specs.Rules.{defined}
-use Rattle.pattern.specs.Layout.{Pattern, in_cells, in_ports_on, in_rectangles, is_at, start}
-use Rattle.pattern.specs.Lines.{name_fault, parts_of}
+use Rattle.circuit.specs.Meaning.{Valuation, place_of, wire_value, wire_of}
+use Rattle.pattern.specs.Layout.{Pattern, in_cells, in_ports_on, in_rectangles, start, parts_of}
+use Rattle.pattern.specs.Lines.{name_fault}
 use Rattle.pattern.specs.declared.parts.Part.{Part}
 use Rattle.pattern.specs.declared.parts.Part.TheVariants.{Mirror, Ball, In, Out, Waste}
 use Rattle.pattern.specs.declared.parts.Port.{Port}
@@ -69,8 +69,8 @@ read_layout-names lines p first named i q e =
 
 -- ---- the run by the inputs alone
 
-same_value : (o : Option ℕ) (w : ℕ) (u v : Valuation) → o ≡ Some w → v w ≡ u w → value_of o v ≡ value_of o u
-same_value o w u v e h = ap (λ (o : Option ℕ). value_of o v) e ∙ h ∙ sym (ap (λ (o : Option ℕ). value_of o u) e)
+same_value : (o : Option ℕ) (w : ℕ) (u v : Valuation) → o ≡ Some w → v w ≡ u w → wire_value o v ≡ wire_value o u
+same_value o w u v e h = ap (λ (o : Option ℕ). wire_value o v) e ∙ h ∙ sym (ap (λ (o : Option ℕ). wire_value o u) e)
 
 same_ports : (f g : List ℕ → Bool) (ports : List Port) (x y : ℤ) → ((i : ℕ) (q : Port) → slice_get ports i ≡ Some q → f q.name ≡ g q.name) →
     in_ports_on f ports x y ≡ in_ports_on g ports x y

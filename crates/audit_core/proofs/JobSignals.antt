@@ -5,11 +5,12 @@ use Rattle.std.specs.List.{All, flat_map}
 use Rattle.std.proofs.lemmas.Bool.{cases_Bool, cond-false, true≢false}
 use Rattle.std.proofs.lemmas.List.Elements.{All-head, All-tail}
 use Rattle.std.proofs.lemmas.Option.{slice_get_within}
+use Rattle.bbm_rule.specs.Plane.{is_at}
 use Rattle.bbm_rule.specs.declared.block.Cell.{Cell}
 use Rattle.circuit.specs.Bridge.{circuit_of}
 use Rattle.circuit.specs.Meaning.{Circuit, Valuation}
 use Rattle.circuit.specs.declared.entry.Entry.{Entry}
-use Rattle.pattern.specs.Layout.{Pattern, is_at}
+use Rattle.pattern.specs.Layout.{Pattern}
 use Rattle.module_box.specs.Boxes.{in_box, in_ring, IsEven}
 use Rattle.module_box.specs.Locals.{LocalNet, circuit_wire}
 use Rattle.module_box.specs.LocalValues.{seen_by}
@@ -32,7 +33,7 @@ use Rattle.certificate.proofs.PortLemmas.{cell_same}
 use Rattle.border_match.specs.BorderFaults.{halo_signal, edge_signal}
 use Rattle.border_match.proofs.Bridge.{halo_same, edge_same}
 use Rattle.border_match.proofs.Modules.{there, value_of}
-use Rattle.audit_core.specs.HeadlineLaws.{IsBundle}
+use Rattle.audit_core.specs.HeadlineLaws.{BelongTogether}
 
 -- ---- signals by the wires of the circuit
 
@@ -60,7 +61,7 @@ pub record Known (lines : List Entry) (p : Pattern) (ms : List ModuleLines) (i :
   pub good : IsModule (setting_of lines p) of
 
 pub known_job : (lines : List Entry) (p : Pattern) (ms : List ModuleLines) (jobs : List JobState) (i : ℕ) (j : JobState) →
-    IsBundle lines p ms jobs → slice_get jobs i ≡ Some j → Known lines p ms i j
+    BelongTogether lines p ms jobs → slice_get jobs i ≡ Some j → Known lines p ms i j
 known_job lines p ms jobs i j b e =
     let m = there ms i (let lt = slice_get_within jobs i j e in let n = b.are_jobs.count in omega (arith, lt, n)) in
     record { of = m.0; numbered = m.1; is_job = b.are_jobs.each i m.0 j m.1 e; good = b.are_modules.each i m.0 m.1 }
@@ -76,7 +77,7 @@ pub record Owner (lines : List Entry) (p : Pattern) (ms : List ModuleLines) (job
   pub known : Known lines p ms number job
   pub owned : in_box job.area x y ≡ true
 
-pub owner_of : (lines : List Entry) (p : Pattern) (ms : List ModuleLines) (jobs : List JobState) (x y : ℤ) → IsBundle lines p ms jobs →
+pub owner_of : (lines : List Entry) (p : Pattern) (ms : List ModuleLines) (jobs : List JobState) (x y : ℤ) → BelongTogether lines p ms jobs →
     in_box (whole p.size) x y ≡ true → Owner lines p ms jobs x y
 owner_of lines p ms jobs x y b h =
     let c = b.are_modules.tile.covered x y h in

@@ -3,16 +3,17 @@ use Rattle.std.proofs.Common.{◌≡◌, ℕ, zero, suc, Bool, true, false, not,
 use Rattle.std.specs.Prelude.{ℤ, slice_get, option_map, if◌then◌else◌}
 use Rattle.std.proofs.lemmas.Bool.{false≢true, true≢false, and_parts, and_from}
 use Rattle.std.proofs.lemmas.Option.{same_Some, slice_get-map}
+use Rattle.bbm_rule.specs.Plane.{is_at}
 use Rattle.bbm_rule.specs.declared.block.Cell.{Cell}
 use Rattle.section_text.specs.Codes.{code_where}
-use Rattle.circuit.specs.Meaning.{Circuit, Valuation, wire_of, value_of, values_by_name}
-use Rattle.pattern.specs.Layout.{Pattern, HaveOwnCells, is_at, in_cells, in_layout, in_rectangle, in_rectangles, in_ports_on, start}
-use Rattle.pattern.specs.Lines.{AreGoodAfter, parts_of, begins, cell_fault, cells_of, ended, ends, holds, is_inside, is_taken, size_fault}
+use Rattle.circuit.specs.Meaning.{Circuit, Valuation, wire_of, wire_value, values_by_name}
+use Rattle.pattern.specs.Layout.{Pattern, HaveOwnCells, in_cells, in_layout, in_rectangle, in_rectangles, in_ports_on, start, parts_of}
+use Rattle.pattern.specs.Lines.{AreGoodAfter, begins, cell_fault, cells_of, ended, ends, holds, is_inside, is_taken, size_fault}
 use Rattle.pattern.specs.declared.parts.Part.{Part}
 use Rattle.pattern.specs.declared.parts.Part.TheVariants.{Mirror, Ball, In, Out, Waste}
 use Rattle.pattern.specs.declared.parts.Port.{Port}
 use Rattle.pattern.specs.declared.parts.Rectangle.{Rectangle}
-use Rattle.pattern.specs.declared.parts.Size.{Size}
+use Rattle.pattern.specs.declared.parts.Extent.{Extent}
 use Rattle.pattern.proofs.Added.{ended_push}
 use Rattle.pattern.proofs.InsideLemmas.{begins_inside, start_inside}
 use Rattle.pattern.proofs.OwnCells.{ins_apart, outs_apart}
@@ -81,7 +82,7 @@ no_port ports x y (Some n) none e =
 
 -- ---- the start
 
-live_cases : (v : Valuation) (o : Option ℕ) → is_live v (signal_of o) ≡ value_of o v
+live_cases : (v : Valuation) (o : Option ℕ) → is_live v (signal_of o) ≡ wire_value o v
 live_cases v None = refl
 live_cases v (Some w) = refl
 
@@ -100,11 +101,11 @@ live_start c p v x y good =
     start_cases c v (in_rectangles p.mirrors x y) (in_cells p.balls x y) (port_at p.ins x y)
     ∙ ap (λ b. in_rectangles p.mirrors x y || in_cells p.balls x y || b) (sym (on_by (values_by_name c v) p.ins x y _ (ins_apart p good) refl))
 
-pub whole_inside : (s : Size) (x y : ℤ) → in_box (whole s) x y ≡ in_layout s x y
+pub whole_inside : (s : Extent) (x y : ℤ) → in_box (whole s) x y ≡ in_layout s x y
 unfolding in_box
 whole_inside s x y = refl
 
-pub whole_even : (s : Size) → size_fault s ≡ None → IsEven (whole s)
+pub whole_even : (s : Extent) → size_fault s ≡ None → IsEven (whole s)
 whole_even s limits = let sized = is_sized s limits in record { x = refl; y = refl; w = sized.width.2; h = sized.height.2 }
 
 absent : (a b : Bool) → (a ≡ true → b ≡ true) → b ≡ false → a ≡ false
@@ -125,12 +126,12 @@ mirror_inside p x y good h = whole_inside p.size x y ∙ start_inside p (λ n. f
 
 -- ---- output cells are inside, and no mirror has them
 
-good_behind : (s : Size) (before front back : List Part) → AreGoodAfter s before (front ++ back) → AreGoodAfter s (before ++ front) back
+good_behind : (s : Extent) (before front back : List Part) → AreGoodAfter s before (front ++ back) → AreGoodAfter s (before ++ front) back
 good_behind s before [] back good = subst (λ (l : List Part). AreGoodAfter s l back) (sym (append-nil before)) good
 good_behind s before (part ∷ front) back good =
     subst (λ (l : List Part). AreGoodAfter s l back) (append_assoc before (part ∷ []) front) (good_behind s (before ++ part ∷ []) front back good.2)
 
-record IsFree (s : Size) (before : List Part) (q : Port) : Type 0 where
+record IsFree (s : Extent) (before : List Part) (q : Port) : Type 0 where
   inside : in_layout s q.cell.x q.cell.y ≡ true
   free : ended before q.cell.x q.cell.y ≡ false
 
@@ -139,7 +140,7 @@ two_tests true true e = absurd cc
 two_tests true false e = (refl, refl)
 two_tests false b e = absurd cc
 
-free_here : (s : Size) (before : List Part) (q : Port) → cell_fault s before (Out q) ≡ None → IsFree s before q
+free_here : (s : Extent) (before : List Part) (q : Port) → cell_fault s before (Out q) ≡ None → IsFree s before q
 unfolding cell_fault is_taken cells_of begins is_inside
 free_here s before q e =
     let r = two_tests (in_layout s q.cell.x q.cell.y) (ended before q.cell.x q.cell.y) e in
@@ -149,7 +150,7 @@ or_left : (a b : Bool) → (a || b) ≡ false → a ≡ false
 or_left true b e = e
 or_left false b e = refl
 
-all_free : (s : Size) (before : List Part) (ports : List Port) (rest : List Part) → AreGoodAfter s before (map Out ports ++ rest) →
+all_free : (s : Extent) (before : List Part) (ports : List Port) (rest : List Part) → AreGoodAfter s before (map Out ports ++ rest) →
     (i : ℕ) (q : Port) → slice_get ports i ≡ Some q → IsFree s before q
 all_free s before [] rest good i q e = absurd cc
 all_free s before (p ∷ ports) rest good zero q e = subst (IsFree s before) (same_Some p q e) (free_here s before p good.1)
@@ -205,7 +206,7 @@ met_mirror c p v x y live e h =
     let P : Bool → Type 0 = λ b. Meets v (if b then Demanded.Live else demand_elsewhere c (port_at p.outs x y) (in_cells p.wastes x y)) live in
     subst P e h
 
-by_wire : (v : Valuation) (o : Option ℕ) (live : Bool) → Meets v (demand_of o) live → live ≡ value_of o v
+by_wire : (v : Valuation) (o : Option ℕ) (live : Bool) → Meets v (demand_of o) live → live ≡ wire_value o v
 by_wire v None live h = h
 by_wire v (Some w) live h = h
 

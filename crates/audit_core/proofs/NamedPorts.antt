@@ -2,8 +2,8 @@
 use Rattle.std.proofs.Common.{◌≡◌, List, Option, Some, sym, subst}
 use Rattle.section_text.specs.Ports.{Named}
 use Rattle.circuit.specs.declared.entry.Entry.{Entry}
-use Rattle.pattern.specs.Layout.{Pattern}
-use Rattle.pattern.specs.Lines.{AreNamed, parts_of}
+use Rattle.pattern.specs.Layout.{Pattern, parts_of}
+use Rattle.pattern.specs.Lines.{AreNamed}
 use Rattle.certificate.specs.Grammars.{CertState}
 use Rattle.audit_core.specs.Concluding.{port_names_of}
 

@@ -11,8 +11,8 @@ use Rattle.section_text.specs.Codes.{code_where}
 use Rattle.section_text.specs.Ports.{Named}
 use Rattle.section_text.specs.Words.{has}
 use Rattle.circuit.specs.Bridge.{input_names, output_names}
-use Rattle.pattern.specs.Layout.{Pattern}
-use Rattle.pattern.specs.Lines.{is_in, is_out, missing_fault, name_fault, parts_of}
+use Rattle.pattern.specs.Layout.{Pattern, parts_of}
+use Rattle.pattern.specs.Lines.{is_in, is_out, missing_fault, name_fault}
 use Rattle.pattern.specs.declared.parts.Part.{Part}
 use Rattle.pattern.specs.declared.parts.Part.TheVariants.{Mirror, Ball, In, Out, Waste}
 use Rattle.pattern.specs.declared.parts.Port.{Port}

@@ -32,7 +32,7 @@ use Rattle.local_run.proofs.OwnWires as own
 use Rattle.border_match.proofs.Modules.{area_at}
 use Rattle.border_match.proofs.SameSignals.{same_signals}
 use Rattle.audit_core.specs.Implements.{LooksAsAsked, run_under}
-use Rattle.audit_core.specs.HeadlineLaws.{IsBundle, IsAcceptedBundle, IsRunOfJobs, StartsAsJobs, StepsAsJobs, EndsAsAsked, AcceptedIsCorrect}
+use Rattle.audit_core.specs.HeadlineLaws.{BelongTogether, IsAcceptedBundle, IsRunOfJobs, StartsAsJobs, StepsAsJobs, EndsAsAsked, AcceptedIsCorrect}
 use Rattle.audit_core.proofs.InputRuns.{inputs_decide}
 use Rattle.audit_core.proofs.JobSignals.{Known, Owner, known_job, job_even, owner_of, meets_seen, live_renumbered, rim_edge_dead, outer_halo_dead, edge_by_circuit, halo_by_circuit}
 use Rattle.audit_core.proofs.LayoutCells.{live_start, start_outside, whole_inside, whole_even, mirror_inside, IsOutput, is_output, met_mirror, met_output, met_other}
@@ -140,7 +140,7 @@ even_inside lines p ms jobs inputs v t i j set e now at x y h =
 -- ---- an odd step
 
 -- what is outside the rectangle is outside every box
-outer : (lines : List Entry) (p : Pattern) (ms : List ModuleLines) (jobs : List JobState) (x y : ℤ) (o : Owner lines p ms jobs x y) → IsBundle lines p ms jobs → (x' y' : ℤ) →
+outer : (lines : List Entry) (p : Pattern) (ms : List ModuleLines) (jobs : List JobState) (x y : ℤ) (o : Owner lines p ms jobs x y) → BelongTogether lines p ms jobs → (x' y' : ℤ) →
     not (in_box (whole p.size) x' y') ≡ true → not (in_box o.job.area x' y') ≡ true
 outer lines p ms jobs x y o b x' y' out = elim (cases_Bool (in_box o.job.area x' y')) [
   | inl h ↦ absurd (false≢true (sym (not-true _ out) ∙ b.are_modules.tile.inside x' y' o.number o.known.of.area (area_at ms o.number o.known.of o.known.numbered) (ap (λ a. in_box a x' y') (sym o.known.is_job.area) ∙ h)))
@@ -188,7 +188,7 @@ halo_agrees : (lines : List Entry) (p : Pattern) (ms : List ModuleLines) (jobs :
     Setting lines p ms jobs inputs v → t % 2 ≡ 1 → t < p.size.steps → IsRunOfJobs lines p jobs v t → slice_get jobs i ≡ Some j → in_halo j.area x y ≡ true →
     run_under (circuit_of lines) p v t x y ≡ is_live (seen_by j.locals v) (signal_at j.halos t x y)
 halo_agrees lines p ms jobs inputs v t i j x y set odd early now at halo =
-    let b : IsBundle lines p ms jobs = set.all.bundle in
+    let b : BelongTogether lines p ms jobs = set.all.bundle in
     let k = known_job lines p ms jobs i j b at in
     elim (cases_Bool (in_box (whole p.size) x y)) [
       | inr out ↦ now.outside x y out ∙ sym (outer_halo_dead lines p ms i j v t x y k out)

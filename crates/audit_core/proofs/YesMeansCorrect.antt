@@ -1,10 +1,11 @@
 -- From a yes to the whole pattern
 use Rattle.std.proofs.Common.{◌≡◌, [], None, Some, List, subst, take}
+use Rattle.circuit.specs.Entries.{defined}
+use Rattle.pattern.specs.Layout.{parts_of}
 use Rattle.circuit.specs.Bridge.{input_names, netlist_of}
 use Rattle.circuit.specs.Meaning.{AreForward, AreOrdered}
-use Rattle.circuit.specs.Rules.{defined}
-use Rattle.pattern.specs.Lines.{AreGoodAfter, AreNamed, parts_of, size_fault}
-use Rattle.pattern.specs.declared.parts.Size.{Size}
+use Rattle.pattern.specs.Lines.{AreGoodAfter, AreNamed, size_fault}
+use Rattle.pattern.specs.declared.parts.Extent.{Extent}
 use Rattle.certificate.specs.Grammars.{CertState}
 use Rattle.certificate.specs.Jobs.{JobState}
 use Rattle.certificate.specs.Modules.{AreModules}
@@ -17,7 +18,7 @@ use Rattle.audit_core.proofs.PortNames.{read_layout-is_named}
 use Rattle.audit_core.proofs.WholeRuns.{correct}
 
 -- what a certificate says of its circuit, its layout and its modules
-pub record IsRead (s : CertState) (size : Size) : Type 0 where
+pub record IsRead (s : CertState) (size : Extent) : Type 0 where
   pub ordered : AreOrdered (netlist_of s.circuit).given (netlist_of s.circuit).gates
   pub forward : AreForward (netlist_of s.circuit).gates
   pub same : size ≡ s.layout.size
@@ -27,15 +28,15 @@ pub record IsRead (s : CertState) (size : Size) : Type 0 where
   pub inputs : take (netlist_of s.circuit).given (defined s.circuit) ≡ input_names s.circuit
   pub named : AreNamed (Some (port_names_of s.circuit)) (parts_of s.layout)
 
-pub yes_means-correct : (s : CertState) (size : Size) (jobs : List JobState) → IsRead s size → AreOwnJobs s jobs → IsVerdict (setting s) (modules s) jobs Yes →
+pub yes_means-correct : (s : CertState) (size : Extent) (jobs : List JobState) → IsRead s size → AreOwnJobs s jobs → IsVerdict (setting s) (modules s) jobs Yes →
     IsCorrect s.circuit s.layout
 unfolding IsVerdict
 yes_means-correct s size jobs is own accepted = correct s.circuit s.layout (modules s) jobs (read_layout-names s.circuit s.layout is.inputs is.named) (read_layout-is_named s.circuit s.layout is.named) (record {
   bundle = record {
     ordered = is.ordered;
     forward = is.forward;
-    limits = subst (λ (z : Size). size_fault z ≡ None) is.same is.limits;
-    laid_out = subst (λ (z : Size). AreGoodAfter z [] (parts_of s.layout)) is.same is.laid_out;
+    limits = subst (λ (z : Extent). size_fault z ≡ None) is.same is.limits;
+    laid_out = subst (λ (z : Extent). AreGoodAfter z [] (parts_of s.layout)) is.same is.laid_out;
     are_modules = is.are_modules;
     are_jobs = own;
   };

@@ -1,11 +1,11 @@
 -- Why a yes means the whole pattern, step by step
 use Rattle.std.specs.Prelude.{◌≡◌, ℕ, suc, ℤ, ◌<◌, ◌≤◌, List, None, [], Some, slice_get, take, IsTrue, IsFalse}
+use Rattle.circuit.specs.Entries.{defined}
 use Rattle.circuit.specs.Bridge.{circuit_of, input_names, netlist_of, output_names}
-use Rattle.circuit.specs.Rules.{defined}
 use Rattle.circuit.specs.Meaning.{AreForward, AreOrdered, Satisfies, Valuation, values_by_name, wire_of}
 use Rattle.circuit.specs.declared.entry.Entry.{Entry}
-use Rattle.pattern.specs.Layout.{Pattern}
-use Rattle.pattern.specs.Lines.{AreGoodAfter, AreNamed, parts_of, size_fault}
+use Rattle.pattern.specs.Layout.{Pattern, parts_of}
+use Rattle.pattern.specs.Lines.{AreGoodAfter, AreNamed, size_fault}
 use Rattle.pattern.specs.declared.parts.Port.{Port}
 use Rattle.module_box.specs.Boxes.{in_box}
 use Rattle.module_box.specs.LocalValues.{seen_by}
@@ -20,7 +20,7 @@ use Rattle.audit_core.specs.Verdicts.{Accepts}
 
 -- What is known of a bundle that was read: the lines of its circuit, its layout, its modules and their jobs. `Circuit::gates`,
 -- `Layout::size`, `Cert::modules` and `Cert::jobs` say it.
-pub record IsBundle (lines : List Entry) (p : Pattern) (ms : List ModuleLines) (jobs : List JobState) : Type 0 where
+pub record BelongTogether (lines : List Entry) (p : Pattern) (ms : List ModuleLines) (jobs : List JobState) : Type 0 where
   pub ordered : AreOrdered (netlist_of lines).given (netlist_of lines).gates
   pub forward : AreForward (netlist_of lines).gates
   pub limits : size_fault p.size ≡ None
@@ -30,7 +30,7 @@ pub record IsBundle (lines : List Entry) (p : Pattern) (ms : List ModuleLines) (
 
 -- such a bundle, in which neither a job nor a border has a fault
 pub record IsAcceptedBundle (lines : List Entry) (p : Pattern) (ms : List ModuleLines) (jobs : List JobState) : Type 0 where
-  pub bundle : IsBundle lines p ms jobs
+  pub bundle : BelongTogether lines p ms jobs
   pub accepted : Accepts (setting_of lines p) ms jobs
 
 -- At time t no cell outside the rectangle is live, and in the box of each job the plane is the job's run by itself, where the
@@ -43,7 +43,7 @@ pub record IsRunOfJobs (lines : List Entry) (p : Pattern) (jobs : List JobState)
 -- it is so at the start
 abbrev pub StartsAsJobs : Type 0
 StartsAsJobs = (lines : List Entry) (p : Pattern) (ms : List ModuleLines) (jobs : List JobState) (v : Valuation) →
-    IsBundle lines p ms jobs → IsRunOfJobs lines p jobs v 0
+    BelongTogether lines p ms jobs → IsRunOfJobs lines p jobs v 0
 
 -- where it is so before a step, and neither a job nor a border has a fault, it is so after the step
 abbrev pub StepsAsJobs : Type 0

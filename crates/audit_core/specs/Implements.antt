@@ -6,13 +6,12 @@
 -- make, and the names of its inputs and outputs (circuit/specs/Bridge.antt).
 use Rattle.std.specs.Prelude.{◌≡◌, ℕ, ℤ, ◌≤◌, Bool, List, map, slice_get, Some, IsTrue, IsFalse}
 use Rattle.std.specs.List.{list_any}
-use Rattle.bbm_rule.specs.Plane.{State}
+use Rattle.bbm_rule.specs.Plane.{State, is_at}
 use Rattle.section_text.specs.Words.{has}
 use Rattle.circuit.specs.Bridge.{circuit_of, input_names, output_names}
 use Rattle.circuit.specs.Meaning.{Circuit, Valuation, Satisfies, values_by_name}
 use Rattle.circuit.specs.declared.entry.Entry.{Entry}
-use Rattle.pattern.specs.Layout.{Pattern, is_at, in_cells, in_rectangles, plane_at}
-use Rattle.pattern.specs.Run.{StaysInside}
+use Rattle.pattern.specs.Layout.{Pattern, in_cells, in_rectangles, plane_at, StaysInside}
 use Rattle.pattern.specs.declared.parts.Port.{Port}
 
 -- ---- names

@@ -2,7 +2,8 @@
 ghost use Rattle.std.specs.Prelude.{◌≡◌, ◌++◌, ℕ, IfOk, OnOk, Ok, Err, Some, length, map};
 ghost use Rattle.std.specs.Arc.{arc_value};
 ghost use Rattle.std.specs.Option.{option_to_list};
-ghost use Rattle.pattern.specs.Lines.{AreNamed, parts_of};
+ghost use Rattle.pattern.specs.Layout.{parts_of};
+ghost use Rattle.pattern.specs.Lines.{AreNamed};
 ghost use Rattle.border_match.specs.BorderFaults.{AreBorderFaultsOf};
 ghost use Rattle.audit_core.specs.Concluding.{AreOwnJobs, modules, port_names_of, setting};
 ghost use Rattle.audit_core.specs.Implements.{IsCorrect};

@@ -1,9 +1,15 @@
 -- The billiard ball model on the unbounded plane: its blocks (the Margolus neighbourhood), one step, a run
 use Rattle.std.specs.Prelude.{ℕ, zero, suc, ℤ, pos, negsuc, ◌+ℤ◌, ◌-ℤ◌, ◌+◌, ◌%◌, ◌==◌, ◌&&◌, ◌||◌, Bool, not, if◌then◌else◌}
+use Rattle.std.specs.Ordering.{int_eq}
+use Rattle.bbm_rule.specs.declared.block.Cell.{Cell}
 
 -- a state of the plane: which cells are live
 abbrev pub State : Type 0
 State = ℤ → ℤ → Bool
+
+-- whether the cell is (x, y)
+abbrev pub is_at : Cell → State
+is_at c x y = int_eq c.x x && int_eq c.y y
 
 -- 0 for an even number, 1 for an odd one
 abbrev pub parity : ℤ → ℕ

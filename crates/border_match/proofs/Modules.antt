@@ -12,7 +12,7 @@ use Rattle.module_box.proofs.NoTilings.{no_tiling}
 use Rattle.module_box.proofs.BoxCells.{same_some}
 use Rattle.module_box.proofs.Rising.{pushed}
 use Rattle.pattern.specs.Lines.{size_fault}
-use Rattle.pattern.specs.declared.parts.Size.{Size}
+use Rattle.pattern.specs.declared.parts.Extent.{Extent}
 use Rattle.pattern.proofs.TakenLemmas.{is_sized}
 use Rattle.certificate.specs.Entries.{Setting, ModuleLines, areas, counts_of}
 use Rattle.certificate.specs.Modules.{AreModules}
@@ -66,7 +66,7 @@ areas_more ms k c some more e before now =
     let lt = slice_get_within (areas ms) k c.area got in
     now ∙ ap (λ bs. bs ++ c.area ∷ []) before ∙ ap (λ b. take k (areas ms) ++ b ∷ []) (sym (get_or_from_slice_get (areas ms) k c.area c.area got)) ∙ sym (take_more (areas ms) k c.area lt)
 
-pub is_task : (g : Setting) (ms : List ModuleLines) (s : Size) (boxes : List Box2) → s ≡ g.size → size_fault s ≡ None → AreModules g ms → boxes ≡ areas ms → IsTask s.w s.h boxes
+pub is_task : (g : Setting) (ms : List ModuleLines) (s : Extent) (boxes : List Box2) → s ≡ g.size → size_fault s ≡ None → AreModules g ms → boxes ≡ areas ms → IsTask s.w s.h boxes
 is_task g ms s boxes same limits good are =
     let sized = is_sized s limits in
     subst (λ bs. IsTask s.w s.h bs) (sym are) (record {

@@ -3,8 +3,9 @@ use Rattle.std.proofs.Common.{ℕ, suc, List, [], ◌∷◌, arith, inl, inr}
 use Rattle.std.specs.Prelude.{ℤ, unwrap_or}
 use Rattle.std.specs.List.{All}
 use Rattle.std.proofs.lemmas.Bool.{cases_Bool}
+use Rattle.bbm_rule.specs.Plane.{is_at}
 use Rattle.circuit.specs.Meaning.{wires}
-use Rattle.module_box.specs.Schedules.{Signals, is_at, is_then, held_at, event_at, signal_at}
+use Rattle.module_box.specs.Schedules.{Signals, is_then, held_at, event_at, signal_at}
 use Rattle.module_box.specs.declared.schedules.Event.{Event}
 use Rattle.module_box.specs.declared.schedules.Held.{Held}
 use Rattle.module_box.specs.declared.schedules.Signal.{Signal}

@@ -4,7 +4,8 @@ use Rattle.std.specs.Prelude.{ℤ, unwrap_or, option_map, IfSome}
 use Rattle.std.specs.List.{All, flat_map}
 use Rattle.std.proofs.lemmas.Bool.{cases_Bool, cond-true, cond-false}
 use Rattle.std.proofs.lemmas.Bool.Decides.{nat_tests}
-use Rattle.module_box.specs.Schedules.{Signals, is_at, is_then, held_at, event_at, signal_at}
+use Rattle.bbm_rule.specs.Plane.{is_at}
+use Rattle.module_box.specs.Schedules.{Signals, is_then, held_at, event_at, signal_at}
 use Rattle.module_box.specs.declared.schedules.Event.{Event}
 use Rattle.module_box.specs.declared.schedules.Held.{Held}
 use Rattle.module_box.specs.declared.schedules.Signal.{Signal}

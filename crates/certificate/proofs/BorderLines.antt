@@ -1,13 +1,13 @@
 -- A border line by its words.
 use Rattle.std.proofs.Common.{◌≡◌, ◌==◌, if◌then◌else◌, ℕ, Bool, true, false, List, [], ◌∷◌, length, Some, None, refl, sym, ap, ◌∙◌}
 use Rattle.std.proofs.lemmas.Option.{same_Some}
-use Rattle.section_text.specs.Words.{five, is_at, number_at, name_at}
+use Rattle.section_text.specs.Words.{five, is_word_at, number_at, name_at}
 use Rattle.pattern.specs.Forms.{cell_from}
 use Rattle.certificate.specs.BorderWords.{border_by, cell_by, signal_by, time_by}
 use Rattle.certificate.specs.Forms.{border_of, signal_at, time_at, timed_cell}
 
 by_words : (k t x y s : List ℕ) → border_of (k ∷ t ∷ x ∷ y ∷ s ∷ []) ≡ border_by t x y s
-unfolding border_of timed_cell time_at signal_at cell_from is_at number_at name_at border_by cell_by time_by signal_by
+unfolding border_of timed_cell time_at signal_at cell_from is_word_at number_at name_at border_by cell_by time_by signal_by
 by_words k t x y s = refl
 
 is_five : {A : Type 0} (b : Bool) (x y : A) → (if b then Some x else None) ≡ Some y → x ≡ y

@@ -8,8 +8,9 @@ use Rattle.std.proofs.lemmas.List.{length-map, length-append}
 use Rattle.std.proofs.lemmas.Option.{slice_get-get_or}
 use Rattle.bbm_rule.specs.declared.block.Cell.{Cell}
 use Rattle.circuit.specs.Meaning.{Circuit}
-use Rattle.pattern.specs.Layout.{Pattern, cell, is_at, row_cells, rectangle_cells}
+use Rattle.pattern.specs.Layout.{Pattern, cell, row_cells, rectangle_cells}
 use Rattle.std.proofs.Math.Nat.{mul-le-mul_right}
+use Rattle.bbm_rule.specs.Plane.{is_at}
 use Rattle.module_box.specs.Boxes.{in_box}
 use Rattle.module_box.specs.declared.boxes.Box2.{Box2}
 use Rattle.module_box.proofs.BoxCells.{in_box_nats}

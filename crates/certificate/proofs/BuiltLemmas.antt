@@ -17,7 +17,7 @@ use Rattle.pattern.proofs.InsideLemmas.{size_sides}
 use Rattle.pattern.proofs.TakenLemmas.{cells_on_board}
 use Rattle.bbm_rule.specs.declared.block.Cell.{Cell}
 use Rattle.pattern.specs.Layout.{in_cells}
-use Rattle.pattern.specs.declared.parts.Size.{Size}
+use Rattle.pattern.specs.declared.parts.Extent.{Extent}
 use Rattle.module_box.specs.Boxes.{in_box, IsEven}
 use Rattle.module_box.specs.Tiling.{IsInside}
 use Rattle.module_box.specs.declared.boxes.Box2.{Box2}
@@ -36,7 +36,7 @@ use Rattle.certificate.proofs.PortLemmas.{has_cell, in_box_cells}
 
 -- ---- a box that is good
 
-pub record IsGoodBox (s : Size) (b : Box2) : Type 0 where
+pub record IsGoodBox (s : Extent) (b : Box2) : Type 0 where
   pub even : IsEven b
   pub wide : (2 ≤ b.w) × (b.w ≤ 64)
   pub high : (2 ≤ b.h) × (b.h ≤ 64)
@@ -55,7 +55,7 @@ even_by n e = grind (arith, nat_tests)
 at_most : (a b : ℕ) → nat_lt a b ≡ false → b ≤ a
 at_most a b e = grind (arith, nat_tests)
 
-box_good : (s : Size) (b : Box2) → is_wrong_side b.w ≡ false → is_wrong_side b.h ≡ false → is_misplaced s b ≡ false → IsGoodBox s b
+box_good : (s : Extent) (b : Box2) → is_wrong_side b.w ≡ false → is_wrong_side b.h ≡ false → is_misplaced s b ≡ false → IsGoodBox s b
 box_good s b wide high placed =
     let w = side b.w wide in
     let h = side b.h high in
@@ -108,7 +108,7 @@ inside_both : (a b c d : ℕ) → a ≤ b → c ≤ d → (nat_le a b && nat_le 
 inside_both a b c d h k = grind (arith, nat_tests)
 
 -- where its cells are
-pub record IsNear (s : Size) (b : Box2) : Type 0 where
+pub record IsNear (s : Extent) (b : Box2) : Type 0 where
   pub right : b.x + b.w ≤ 512
   pub bottom : b.y + b.h ≤ 512
 
@@ -136,7 +136,7 @@ all_same : (p q : Cell → Bool) → ((c : Cell) → p c ≡ q c) → (cells : L
 all_same p q same [] = refl
 all_same p q same (c ∷ cells) = ap₂ (λ a b. a && b) (same c) (all_same p q same cells)
 
-pub live_gap : (s : Size) (boxes : List Box2) (covered : Board) → ((x y : ℤ) → live covered x y ≡ in_boxes boxes x y) → not (list_all (λ c. live covered c.x c.y) (box_cells (whole s))) ≡ leaves_gap s boxes
+pub live_gap : (s : Extent) (boxes : List Box2) (covered : Board) → ((x y : ℤ) → live covered x y ≡ in_boxes boxes x y) → not (list_all (λ c. live covered c.x c.y) (box_cells (whole s))) ≡ leaves_gap s boxes
 live_gap s boxes covered same = ap not (all_same _ _ (λ c. same c.x c.y) (box_cells (whole s)))
 
 -- the fault of a `module` line, from that of its box and the overlap
@@ -303,7 +303,7 @@ module _ (g : Setting) (ms : List ModuleLines) where
     counted = now ∙ ap (change_last count) built.counted ∙ sym (map_changed counts_of (with_line i) count counted ms);
   }
 
-pub near_by : (s : Size) (b : Box2) → size_fault s ≡ None → is_misplaced s b ≡ false → IsNear s b
+pub near_by : (s : Extent) (b : Box2) → size_fault s ≡ None → is_misplaced s b ≡ false → IsNear s b
 near_by s b sized placed =
     let sides = size_sides s sized in
     let bottom = or_false _ (nat_lt s.h (b.y + b.h)) placed in

@@ -8,7 +8,7 @@ use Rattle.circuit.specs.Meaning.{Netlist}
 use Rattle.circuit.specs.declared.entry.Entry.{Entry as CircuitLine}
 use Rattle.pattern.specs.Layout.{Pattern}
 use Rattle.pattern.specs.Lines.{size_fault}
-use Rattle.pattern.specs.declared.parts.Size.{Size}
+use Rattle.pattern.specs.declared.parts.Extent.{Extent}
 use Rattle.pattern.proofs.TakenLemmas.{is_sized}
 use Rattle.module_box.specs.Locals.{AreLocalLines, LocalNet, local_wires}
 use Rattle.certificate.specs.Entries.{Setting, ModuleLines, cuts, cut_wires, gates, known, edges, halos}
@@ -25,10 +25,10 @@ small_gates n cw gs h few k d lt =
     omega (arith, within, few)
 
 -- a box inside a layout lies within 512 cells, and a layout has at most 4096 steps
-pub within_512 : (g : Setting) (m : ModuleLines) (s : Size) → s ≡ g.size → size_fault s ≡ None → IsModule g m → (m.area.x + m.area.w ≤ 512) × (m.area.y + m.area.h ≤ 512) × (s.steps ≤ 4096)
+pub within_512 : (g : Setting) (m : ModuleLines) (s : Extent) → s ≡ g.size → size_fault s ≡ None → IsModule g m → (m.area.x + m.area.w ≤ 512) × (m.area.y + m.area.h ≤ 512) × (s.steps ≤ 4096)
 within_512 g m s is limits h =
     let sized = is_sized s limits in
-    let inside = subst (λ (t : Size). (m.area.x + m.area.w ≤ t.w) × (m.area.y + m.area.h ≤ t.h)) (sym is) (h.inside.right, h.inside.bottom) in
+    let inside = subst (λ (t : Extent). (m.area.x + m.area.w ≤ t.w) × (m.area.y + m.area.h ≤ t.h)) (sym is) (h.inside.right, h.inside.bottom) in
     let wide = sized.width.1 in
     let high = sized.height.1 in
     let right = inside.0 in

@@ -4,15 +4,16 @@ use Rattle.std.specs.Prelude.{slice_get, IsTrue, IfSome}
 use Rattle.std.specs.List.{list_any, flat_map}
 use Rattle.std.specs.HashMap.{HashMap, get}
 use Rattle.std.proofs.lemmas.List.Folds.{list_any-append}
+use Rattle.bbm_rule.specs.Plane.{is_at}
 use Rattle.bbm_rule.specs.declared.block.Cell.{Cell}
 use Rattle.circuit.specs.Bridge.{circuit_of}
 use Rattle.circuit.specs.Meaning.{Circuit}
 use Rattle.circuit.specs.declared.entry.Entry.{Entry as CircuitLine}
-use Rattle.pattern.specs.Layout.{Pattern, is_at, in_cells, in_rectangles, rectangle_cells}
+use Rattle.pattern.specs.Layout.{Pattern, in_cells, in_rectangles, rectangle_cells, parts_of}
 use Rattle.pattern.specs.declared.parts.Port.{Port}
 use Rattle.pattern.specs.declared.parts.Rectangle.{Rectangle}
-use Rattle.pattern.specs.declared.parts.Size.{Size}
-use Rattle.pattern.specs.Lines.{AreGoodAfter, parts_of, size_fault}
+use Rattle.pattern.specs.declared.parts.Extent.{Extent}
+use Rattle.pattern.specs.Lines.{AreGoodAfter, size_fault}
 use Rattle.pattern.proofs.InsideLemmas.{size_sides, begins_inside, mirrors_fit}
 use Rattle.pattern.proofs.RectangleLemmas.{in_rectangle_cells}
 use Rattle.module_box.specs.Boxes.{in_box}
@@ -156,16 +157,16 @@ end_port c p x y a mirror h o port = rw (sym mirror, h, sym port) refl
 
 -- ---- the mirrors of a layout
 
-pub fit_in_layout : (p : Pattern) (s : Size) → s ≡ p.size → size_fault s ≡ None → AreGoodAfter s [] (parts_of p)
+pub fit_in_layout : (p : Pattern) (s : Extent) → s ≡ p.size → size_fault s ≡ None → AreGoodAfter s [] (parts_of p)
     → (k : ℕ) (d : Rectangle) → k < length p.mirrors → ((get_or p.mirrors k d).x + (get_or p.mirrors k d).w ≤ 512) × ((get_or p.mirrors k d).y + (get_or p.mirrors k d).h ≤ 512)
 fit_in_layout p s is limits good =
     let sides = size_sides p.size (ap size_fault (sym is) ∙ limits) in
-    let all = begins_inside p (subst (λ (t : Size). AreGoodAfter t [] (parts_of p)) is good) in
+    let all = begins_inside p (subst (λ (t : Extent). AreGoodAfter t [] (parts_of p)) is good) in
     mirrors_fit p.size p.mirrors all.mirrors sides.0.most sides.1.most
 
 -- ---- the box of a module
 
-pub box_fits : (s : Size) (b : Box2) → size_fault s ≡ None → IsInside s.w s.h b → (b.x + b.w ≤ 512) × (b.y + b.h ≤ 512)
+pub box_fits : (s : Extent) (b : Box2) → size_fault s ≡ None → IsInside s.w s.h b → (b.x + b.w ≤ 512) × (b.y + b.h ≤ 512)
 box_fits s b limits inside =
     let sides = size_sides s limits in
     let wide = sides.0.most in let high = sides.1.most in

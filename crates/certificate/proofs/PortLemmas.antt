@@ -10,8 +10,9 @@ use Rattle.std.proofs.lemmas.Bool.{and_parts}
 use Rattle.std.proofs.lemmas.Bool.Decides.{Decides-int_eq}
 use Rattle.std.proofs.lemmas.List.Folds.{list_any-append}
 use Rattle.std.proofs.lemmas.Option.{slice_get-get_or, slice_get_within}
+use Rattle.bbm_rule.specs.Plane.{is_at}
 use Rattle.bbm_rule.specs.declared.block.Cell.{Cell}
-use Rattle.pattern.specs.Layout.{HaveOwnCells, in_cells, is_at}
+use Rattle.pattern.specs.Layout.{HaveOwnCells, in_cells}
 use Rattle.pattern.specs.declared.parts.Port.{Port}
 use Rattle.pattern.proofs.RectangleLemmas.{in_rectangle_cells}
 use Rattle.module_box.proofs.Rising.{pushed}

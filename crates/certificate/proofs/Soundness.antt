@@ -6,10 +6,11 @@ use Rattle.std.proofs.lemmas.Bool.{and_parts, true≢false}
 use Rattle.std.proofs.lemmas.Bool.Decides.{nat_tests}
 use Rattle.bbm_rule.specs.Spans.{in_span}
 use Rattle.std.proofs.lemmas.Option.{slice_get_within}
+use Rattle.bbm_rule.specs.Plane.{is_at}
 use Rattle.bbm_rule.specs.declared.block.Cell.{Cell}
-use Rattle.pattern.specs.Layout.{in_cells, is_at}
+use Rattle.pattern.specs.Layout.{in_cells}
 use Rattle.pattern.specs.declared.parts.Port.{Port}
-use Rattle.pattern.specs.declared.parts.Size.{Size}
+use Rattle.pattern.specs.declared.parts.Extent.{Extent}
 use Rattle.section_text.proofs.Good.{AreFaultless, IsFaultless}
 use Rattle.module_box.specs.Boxes.{in_box, Tile}
 use Rattle.module_box.specs.Tiling.{IsInside}
@@ -84,7 +85,7 @@ unfolding in_span
 span_inside a n m (pos x) fits e = grind (arith, nat_tests)
 span_inside a n m (negsuc x) fits e = cc
 
-box_inside : (s : Size) (b : Box2) (x y : ℤ) → IsInside s.w s.h b → in_box b x y ≡ true → in_box (whole s) x y ≡ true
+box_inside : (s : Extent) (b : Box2) (x y : ℤ) → IsInside s.w s.h b → in_box b x y ≡ true → in_box (whole s) x y ≡ true
 unfolding in_box
 box_inside s b x y fits h =
     let both = and_parts (in_span b.x b.w x) (in_span b.y b.h y) h in

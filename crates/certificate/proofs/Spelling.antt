@@ -4,7 +4,7 @@ use Rattle.std.specs.Prelude.{slice_get, codes}
 use Rattle.std.specs.Fmt.{decimal}
 use Rattle.std.proofs.lemmas.Bool.{eqb-true}
 use Rattle.std.proofs.lemmas.Option.{option_and_then_some, same_Some}
-use Rattle.section_text.specs.Words.{◌>>=◌, words_of, is_at, lone, lone_number, lone_name, name_at, number_at}
+use Rattle.section_text.specs.Words.{◌>>=◌, words_of, is_word_at, lone, lone_number, lone_name, name_at, number_at}
 use Rattle.section_text.specs.Section.{ended_line}
 use Rattle.section_text.specs.declared.section.Form.TheVariants.{Header, Item, End}
 use Rattle.section_text.proofs.Spellings.{chosen, passed, number_at_spelled, one_word, two_words, five_words}
@@ -34,7 +34,7 @@ cell_spelled ws c e =
 time_spelled : (ws : List (List ℕ)) (i : ℕ) (t : Option ℕ) → time_at ws i ≡ Some t → slice_get ws i ≡ Some (time_word t)
 unfolding time_at
 time_spelled ws i t e =
-    elim (chosen (is_at ws i (codes "*")) _ _ (Some t) e) [
+    elim (chosen (is_word_at ws i (codes "*")) _ _ (Some t) e) [
       | inl p ↦ subst (λ (s : Option ℕ). slice_get ws i ≡ Some (time_word s)) (same_Some None t p.1) (is_at_is ws i (codes "*") p.0)
       | inr p ↦
           option_and_then_some (λ n. Some (Some n)) (number_at ws i) t p.1 (λ n found made.
@@ -44,14 +44,14 @@ time_spelled ws i t e =
 signal_spelled : (ws : List (List ℕ)) (i : ℕ) (s : Option (List ℕ)) → signal_at ws i ≡ Some s → slice_get ws i ≡ Some (signal_word s)
 unfolding signal_at
 signal_spelled ws i s e =
-    elim (chosen (is_at ws i (codes "1")) _ _ (Some s) e) [
+    elim (chosen (is_word_at ws i (codes "1")) _ _ (Some s) e) [
       | inl p ↦ subst (λ (r : Option (List ℕ)). slice_get ws i ≡ Some (signal_word r)) (same_Some None s p.1) (is_at_is ws i (codes "1") p.0)
       | inr p ↦
           option_and_then_some (λ n. Some (Some n)) (name_at ws i) s p.1 (λ n found made.
           subst (λ (r : Option (List ℕ)). slice_get ws i ≡ Some (signal_word r)) (same_Some (Some n) s made) (name_at_is ws i n found))
     ]
 
-area_spelled : (ws : List (List ℕ)) (v : List ℕ) (b : Box2) → is_at ws 0 v ≡ true → area_of ws ≡ Some b → ws ≡ v ∷ area_words b
+area_spelled : (ws : List (List ℕ)) (v : List ℕ) (b : Box2) → is_word_at ws 0 v ≡ true → area_of ws ≡ Some b → ws ≡ v ∷ area_words b
 unfolding area_of corner_and_sides
 area_spelled ws v b at e =
     let found = passed (eqb (length ws) 5) (corner_and_sides ws) b e in
@@ -62,7 +62,7 @@ area_spelled ws v b at e =
     subst (λ (q : Box2). ws ≡ v ∷ area_words q) (same_Some (record { x = x; y = y; w = w; h = h }) b made)
     (five_words ws v (decimal x) (decimal y) (decimal w) (decimal h) (eqb-true _ _ found.0) (is_at_is ws 0 v at) (number_at_spelled ws 1 x ex) (number_at_spelled ws 2 y ey) (number_at_spelled ws 3 w ew) (number_at_spelled ws 4 h eh))))))
 
-border_spelled : (ws : List (List ℕ)) (v : List ℕ) (b : Border) → is_at ws 0 v ≡ true → border_of ws ≡ Some b → ws ≡ v ∷ border_words b
+border_spelled : (ws : List (List ℕ)) (v : List ℕ) (b : Border) → is_word_at ws 0 v ≡ true → border_of ws ≡ Some b → ws ≡ v ∷ border_words b
 unfolding border_of timed_cell
 border_spelled ws v b at e =
     let found = passed (eqb (length ws) 5) (timed_cell ws) b e in
@@ -73,13 +73,13 @@ border_spelled ws v b at e =
     subst (λ (q : Border). ws ≡ v ∷ border_words q) (same_Some (record { time = t; cell = c; signal = s }) b made)
     (five_words ws v (time_word t) (decimal (coordinate c.x)) (decimal (coordinate c.y)) (signal_word s) (eqb-true _ _ found.0) (is_at_is ws 0 v at) (time_spelled ws 1 t timed) place.column place.row (signal_spelled ws 4 s signalled)))))
 
-number_spelled : (ws : List (List ℕ)) (v : List ℕ) (n : ℕ) → is_at ws 0 v ≡ true → lone_number ws ≡ Some n → ws ≡ v ∷ decimal n ∷ []
+number_spelled : (ws : List (List ℕ)) (v : List ℕ) (n : ℕ) → is_word_at ws 0 v ≡ true → lone_number ws ≡ Some n → ws ≡ v ∷ decimal n ∷ []
 unfolding lone_number
 number_spelled ws v n at e =
     let found = passed (eqb (length ws) 2) (number_at ws 1) n e in
     two_words ws v (decimal n) (eqb-true _ _ found.0) (is_at_is ws 0 v at) (number_at_spelled ws 1 n found.1)
 
-name_spelled : (ws : List (List ℕ)) (v n : List ℕ) → is_at ws 0 v ≡ true → lone_name ws ≡ Some n → ws ≡ v ∷ n ∷ []
+name_spelled : (ws : List (List ℕ)) (v n : List ℕ) → is_word_at ws 0 v ≡ true → lone_name ws ≡ Some n → ws ≡ v ∷ n ∷ []
 unfolding lone_name
 name_spelled ws v n at e =
     let found = passed (eqb (length ws) 2) (name_at ws 1) n e in
@@ -110,20 +110,20 @@ SpelledAs ws f = ws ≡ first_of f ∷ others_of f
 form_words : (ws : List (List ℕ)) (f : Line) → form_of ws ≡ Some f → SpelledAs ws f
 unfolding form_of lone first_of others_of
 form_words ws f e =
-    elim (chosen (is_at ws 0 (codes "edge")) _ _ (Some f) e) [
+    elim (chosen (is_word_at ws 0 (codes "edge")) _ _ (Some f) e) [
       | inl p ↦ option_and_then_some (λ b. Some (Item (Edge b))) (border_of ws) f p.1 (λ b found made. subst (SpelledAs ws) (same_Some (Item (Edge b)) f made) (border_spelled ws (codes "edge") b p.0 found))
-      | inr p ↦ elim (chosen (is_at ws 0 (codes "halo")) _ _ (Some f) p.1) [
+      | inr p ↦ elim (chosen (is_word_at ws 0 (codes "halo")) _ _ (Some f) p.1) [
         | inl q ↦ option_and_then_some (λ b. Some (Item (Halo b))) (border_of ws) f q.1 (λ b found made. subst (SpelledAs ws) (same_Some (Item (Halo b)) f made) (border_spelled ws (codes "halo") b q.0 found))
-        | inr q ↦ elim (chosen (is_at ws 0 (codes "cut")) _ _ (Some f) q.1) [
+        | inr q ↦ elim (chosen (is_word_at ws 0 (codes "cut")) _ _ (Some f) q.1) [
           | inl r ↦ option_and_then_some (λ n. Some (Item (Cut n))) (lone_name ws) f r.1 (λ n found made. subst (SpelledAs ws) (same_Some (Item (Cut n)) f made) (name_spelled ws (codes "cut") n r.0 found))
-          | inr r ↦ elim (chosen (is_at ws 0 (codes "use")) _ _ (Some f) r.1) [
+          | inr r ↦ elim (chosen (is_word_at ws 0 (codes "use")) _ _ (Some f) r.1) [
             | inl s ↦ option_and_then_some (λ k. Some (Item (Use k))) (lone_number ws) f s.1 (λ k found made. subst (SpelledAs ws) (same_Some (Item (Use k)) f made) (number_spelled ws (codes "use") k s.0 found))
-            | inr s ↦ elim (chosen (is_at ws 0 (codes "module")) _ _ (Some f) s.1) [
+            | inr s ↦ elim (chosen (is_word_at ws 0 (codes "module")) _ _ (Some f) s.1) [
               | inl t ↦ option_and_then_some (λ b. Some (Item (Module b))) (area_of ws) f t.1 (λ b found made. subst (SpelledAs ws) (same_Some (Item (Module b)) f made) (area_spelled ws (codes "module") b t.0 found))
-              | inr t ↦ elim (chosen (is_at ws 0 (codes "certificate")) _ _ (Some f) t.1) [
+              | inr t ↦ elim (chosen (is_word_at ws 0 (codes "certificate")) _ _ (Some f) t.1) [
                 | inl u ↦ option_and_then_some (λ v. Some (Header v)) (lone_number ws) f u.1 (λ v found made. subst (SpelledAs ws) (same_Some (Header v) f made) (number_spelled ws (codes "certificate") v u.0 found))
                 | inr u ↦
-                    let at_end = passed (is_at ws 0 (codes "end")) (lone ws End) f u.1 in
+                    let at_end = passed (is_word_at ws 0 (codes "end")) (lone ws End) f u.1 in
                     let alone = passed (eqb (length ws) 1) (Some End) f at_end.1 in
                     subst (SpelledAs ws) (same_Some End f alone.1) (one_word ws (codes "end") (eqb-true _ _ alone.0) (is_at_is ws 0 (codes "end") at_end.0))
               ]

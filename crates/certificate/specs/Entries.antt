@@ -4,7 +4,7 @@ use Rattle.std.specs.List.{fold, flat_map}
 use Rattle.std.specs.Option.{option_to_list}
 use Rattle.circuit.specs.Meaning.{Circuit, wire_of}
 use Rattle.pattern.specs.declared.parts.Port.{Port}
-use Rattle.pattern.specs.declared.parts.Size.{Size}
+use Rattle.pattern.specs.declared.parts.Extent.{Extent}
 use Rattle.module_box.specs.Locals.{local_wires}
 use Rattle.module_box.specs.declared.boxes.Box2.{Box2}
 use Rattle.certificate.specs.declared.entry.Border.{Border}
@@ -15,7 +15,7 @@ use Rattle.certificate.specs.declared.entry.Entry.TheVariants.{Module, Cut, Use,
 -- what a certificate is for: a circuit, and of a layout its size and its ports
 pub record Setting : Type 0 where
   pub circuit : Circuit
-  pub size : Size
+  pub size : Extent
   pub ports : List Port
 
 -- ---- modules

@@ -1,6 +1,6 @@
 -- The line forms of the certificate section: what the words of a line say
 use Rattle.std.specs.Prelude.{ℕ, List, length, codes, Option, Some, None, ◌==◌, if◌then◌else◌}
-use Rattle.section_text.specs.Words.{number_at, name_at, is_at, lone, lone_number, lone_name, ◌>>=◌}
+use Rattle.section_text.specs.Words.{number_at, name_at, is_word_at, lone, lone_number, lone_name, ◌>>=◌}
 use Rattle.section_text.specs.declared.section.Form.{Form}
 use Rattle.section_text.specs.declared.section.Form.TheVariants.{Header, Item, End}
 use Rattle.pattern.specs.Forms.{cell_from}
@@ -27,11 +27,11 @@ area_of ws = if length ws == 5 then corner_and_sides ws else None
 
 -- `*`, or a time
 unfoldable pub time_at : List (List ℕ) → ℕ → Option (Option ℕ)
-time_at ws i = if is_at ws i (codes "*") then Some None else (number_at ws i >>= λ t. Some (Some t))
+time_at ws i = if is_word_at ws i (codes "*") then Some None else (number_at ws i >>= λ t. Some (Some t))
 
 -- `1`, or a name
 unfoldable pub signal_at : List (List ℕ) → ℕ → Option (Option (List ℕ))
-signal_at ws i = if is_at ws i (codes "1") then Some None else (name_at ws i >>= λ n. Some (Some n))
+signal_at ws i = if is_word_at ws i (codes "1") then Some None else (name_at ws i >>= λ n. Some (Some n))
 
 -- a keyword, a time, a cell and a signal
 unfoldable pub timed_cell : List (List ℕ) → Option Border
@@ -46,11 +46,11 @@ border_of ws = if length ws == 5 then timed_cell ws else None
 
 unfoldable pub form_of : List (List ℕ) → Option Line
 form_of ws =
-    if is_at ws 0 (codes "edge") then (border_of ws >>= λ e. Some (Item (Edge e)))
-    else if is_at ws 0 (codes "halo") then (border_of ws >>= λ e. Some (Item (Halo e)))
-    else if is_at ws 0 (codes "cut") then (lone_name ws >>= λ n. Some (Item (Cut n)))
-    else if is_at ws 0 (codes "use") then (lone_number ws >>= λ k. Some (Item (Use k)))
-    else if is_at ws 0 (codes "module") then (area_of ws >>= λ b. Some (Item (Module b)))
-    else if is_at ws 0 (codes "certificate") then (lone_number ws >>= λ v. Some (Header v))
-    else if is_at ws 0 (codes "end") then lone ws End
+    if is_word_at ws 0 (codes "edge") then (border_of ws >>= λ e. Some (Item (Edge e)))
+    else if is_word_at ws 0 (codes "halo") then (border_of ws >>= λ e. Some (Item (Halo e)))
+    else if is_word_at ws 0 (codes "cut") then (lone_name ws >>= λ n. Some (Item (Cut n)))
+    else if is_word_at ws 0 (codes "use") then (lone_number ws >>= λ k. Some (Item (Use k)))
+    else if is_word_at ws 0 (codes "module") then (area_of ws >>= λ b. Some (Item (Module b)))
+    else if is_word_at ws 0 (codes "certificate") then (lone_number ws >>= λ v. Some (Header v))
+    else if is_word_at ws 0 (codes "end") then lone ws End
     else None

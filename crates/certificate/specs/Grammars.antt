@@ -1,6 +1,6 @@
 -- The certificate section
 use Rattle.std.specs.Prelude.{ℕ, not, ◌==◌, ◌++◌, List}
-use Rattle.section_text.specs.Codes.{code_where}
+use Rattle.section_text.specs.Codes.{code_where, past_limit}
 use Rattle.section_text.specs.Section.{Grammar}
 use Rattle.circuit.specs.Bridge.{circuit_of}
 use Rattle.pattern.specs.Layout.{Pattern}
@@ -14,7 +14,7 @@ use Rattle.circuit.specs.declared.entry.Entry.{Entry as CircuitLine}
 abbrev pub certificate_grammar : Setting → Grammar ℕ Entry
 certificate_grammar g = record {
   form = form_of;
-  header_fault = λ version. code_where (not (version == 1)) 2;
+  header_fault = λ version. code_where (not (version == 1)) past_limit;
   item_fault = λ version before i. entry_fault g before i;
   end_fault = λ version entries. end_fault g entries;
 }

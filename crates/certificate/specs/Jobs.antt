@@ -2,8 +2,9 @@
 use Rattle.std.specs.Prelude.{◌≡◌, ℕ, ℤ, ◌+◌, ◌-◌, ◌*◌, ◌<◌, ◌≤◌, ◌||◌, Bool, true, false, if◌then◌else◌, List, [], ◌∷◌, length, Option, Some, None, unwrap_or, slice_get, IsTrue}
 use Rattle.std.specs.List.{All, flat_map}
 use Rattle.std.specs.Int.RustNames.{unsigned_abs}
+use Rattle.bbm_rule.specs.Plane.{is_at}
 use Rattle.circuit.specs.Meaning.{Circuit, wire_of, wires}
-use Rattle.pattern.specs.Layout.{Pattern, is_at, in_cells, in_rectangles}
+use Rattle.pattern.specs.Layout.{Pattern, in_cells, in_rectangles}
 use Rattle.pattern.specs.declared.parts.Port.{Port}
 use Rattle.module_box.specs.Boxes.{in_box, IsEven}
 use Rattle.module_box.specs.Locals.{LocalNet, AreLocalsOf, circuit_wire}

@@ -4,10 +4,10 @@ use Rattle.std.specs.List.{list_any, list_all}
 use Rattle.std.specs.Ordering.{int_eq}
 use Rattle.bbm_rule.specs.Plane.{State}
 use Rattle.bbm_rule.specs.declared.block.Cell.{Cell}
-use Rattle.section_text.specs.Codes.{or_else, code_where}
+use Rattle.section_text.specs.Codes.{code_where, defined_twice, misplaced_box, no_place, not_local, or_else, out_of_order, past_limit, something_missing, unknown_name}
 use Rattle.circuit.specs.Meaning.{Circuit, Gate, wire_of}
 use Rattle.pattern.specs.Layout.{rectangle_cells}
-use Rattle.pattern.specs.declared.parts.Size.{Size}
+use Rattle.pattern.specs.declared.parts.Extent.{Extent}
 use Rattle.module_box.specs.Boxes.{in_box, in_ring, in_halo}
 use Rattle.module_box.specs.Locals.{is_among, cut_limit, use_limit}
 use Rattle.module_box.specs.Tiling.{rectangle_of}
@@ -19,7 +19,7 @@ use Rattle.certificate.specs.Entries.{Setting, ModuleLines, modules_of, present,
 use Rattle.certificate.specs.Orders.{may_follow}
 
 -- the whole rectangle of the layout
-abbrev pub whole : Size → Box2
+abbrev pub whole : Extent → Box2
 whole s = rectangle_of s.w s.h
 
 -- ---- local wires
@@ -50,7 +50,7 @@ abbrev pub is_wrong_side : ℕ → Bool
 is_wrong_side n = is_odd n || nat_lt n 2 || nat_lt 64 n
 
 -- a corner is even, and the box is inside the rectangle
-abbrev pub is_misplaced : Size → Box2 → Bool
+abbrev pub is_misplaced : Extent → Box2 → Bool
 is_misplaced s b = is_odd b.x || is_odd b.y || nat_lt s.w (b.x + b.w) || nat_lt s.h (b.y + b.h)
 
 -- whether one of the boxes has the cell (x, y)
@@ -68,21 +68,21 @@ overlaps boxes b = list_any (λ c. in_boxes boxes c.x c.y) (box_cells b)
 -- the tests of a box by itself, where so many modules come before it, the last of them `before`
 unfoldable pub box_fault : Setting → ℕ → Option ModuleLines → Box2 → Option ℕ
 box_fault g count before b =
-    or_else (code_where (is_incomplete g before) 11)
-    (or_else (code_where (is_wrong_side b.w || is_wrong_side b.h || nat_le 1024 count) 2)
-    (code_where (is_misplaced g.size b) 8))
+    or_else (code_where (is_incomplete g before) something_missing)
+    (or_else (code_where (is_wrong_side b.w || is_wrong_side b.h || nat_le 1024 count) past_limit)
+    (code_where (is_misplaced g.size b) misplaced_box))
 
 unfoldable pub module_fault : Setting → List ModuleLines → Option ModuleLines → Box2 → Option ℕ
-module_fault g ms before b = or_else (box_fault g (length ms) before b) (code_where (overlaps (areas ms) b) 8)
+module_fault g ms before b = or_else (box_fault g (length ms) before b) (code_where (overlaps (areas ms) b) misplaced_box)
 
 -- ---- a cut, where so many wires are cut and these are local: 2, 3, 4
 
 abbrev pub cut_wire_fault : List ℕ → Option ℕ → Option ℕ
-cut_wire_fault local None = Some 3
-cut_wire_fault local (Some w) = code_where (is_among local w) 4
+cut_wire_fault local None = Some unknown_name
+cut_wire_fault local (Some w) = code_where (is_among local w) defined_twice
 
 unfoldable pub cut_fault : Circuit → ℕ → List ℕ → List ℕ → Option ℕ
-cut_fault c count local name = or_else (code_where (nat_le cut_limit count) 2) (cut_wire_fault local (wire_of c name))
+cut_fault c count local name = or_else (code_where (nat_le cut_limit count) past_limit) (cut_wire_fault local (wire_of c name))
 
 -- ---- a used gate, where so many gates are used and these wires are local: 2, 3, 9, 4
 
@@ -92,12 +92,12 @@ are_new local [] = true
 are_new local (w ∷ ws) = not (is_among local w) && are_new (local ++ w ∷ []) ws
 
 unfoldable pub gate_fault : List ℕ → Option Gate → Option ℕ
-gate_fault local None = Some 3
+gate_fault local None = Some unknown_name
 gate_fault local (Some gate) =
-    or_else (code_where (not (list_all (is_among local) gate.ins)) 9) (code_where (not (are_new local gate.outs)) 4)
+    or_else (code_where (not (list_all (is_among local) gate.ins)) not_local) (code_where (not (are_new local gate.outs)) defined_twice)
 
 unfoldable pub use_fault : Circuit → ℕ → List ℕ → ℕ → Option ℕ
-use_fault c count local k = or_else (code_where (nat_le use_limit count) 2) (gate_fault local (slice_get c.netlist.gates k))
+use_fault c count local k = or_else (code_where (nat_le use_limit count) past_limit) (gate_fault local (slice_get c.netlist.gates k))
 
 -- ---- an edge or halo line: 2, 10, 3, 9
 
@@ -118,17 +118,17 @@ is_time steps starred None = true
 is_time steps starred (Some t) = is_odd t && nat_lt t steps && not starred
 
 -- an edge stands in the box's ring, and not on the rim of the rectangle, which is the rectangle's ring
-unfoldable pub is_edge_place : Size → Box2 → Bool → Border → Bool
+unfoldable pub is_edge_place : Extent → Box2 → Bool → Border → Bool
 is_edge_place s area starred e = in_ring area e.cell.x e.cell.y && not (in_ring (whole s) e.cell.x e.cell.y) && is_time s.steps starred e.time
 
 -- a halo line stands in the box's halo, and inside the rectangle
-unfoldable pub is_halo_place : Size → Box2 → Bool → Border → Bool
+unfoldable pub is_halo_place : Extent → Box2 → Bool → Border → Bool
 is_halo_place s area starred e = in_halo area e.cell.x e.cell.y && in_box (whole s) e.cell.x e.cell.y && is_time s.steps starred e.time
 
 -- a signal is `1`, or a wire of the circuit, 3, that is local, 9
 abbrev pub wire_fault : List ℕ → Option ℕ → Option ℕ
-wire_fault local None = Some 3
-wire_fault local (Some w) = code_where (not (is_among local w)) 9
+wire_fault local None = Some unknown_name
+wire_fault local (Some w) = code_where (not (is_among local w)) not_local
 
 unfoldable pub signal_fault : Circuit → List ℕ → Option (List ℕ) → Option ℕ
 signal_fault c local None = None
@@ -141,7 +141,7 @@ border_limit = 65536
 -- so many edge and halo lines come before it; `placed` says whether it may stand at its cell and time
 unfoldable pub border_fault : Circuit → ℕ → List ℕ → Bool → Option (List ℕ) → Option ℕ
 border_fault c count local placed signal =
-    or_else (code_where (nat_le border_limit count) 2) (or_else (code_where (not placed) 10) (signal_fault c local signal))
+    or_else (code_where (nat_le border_limit count) past_limit) (or_else (code_where (not placed) no_place) (signal_fault c local signal))
 
 -- ---- a line after the lines before it
 
@@ -163,11 +163,11 @@ words_fault g m (Halo e) = halo_fault g m e
 
 -- a line of a module after those before it: its order first, 6
 abbrev pub line_fault : Setting → ModuleLines → Entry → Option ℕ
-line_fault g m i = or_else (code_where (not (may_follow m.lines i)) 6) (words_fault g m i)
+line_fault g m i = or_else (code_where (not (may_follow m.lines i)) out_of_order) (words_fault g m i)
 
 -- a line that is no `module` line belongs to a module
 abbrev pub inner_fault : Setting → Option ModuleLines → Entry → Option ℕ
-inner_fault g None i = Some 6
+inner_fault g None i = Some out_of_order
 inner_fault g (Some m) i = line_fault g m i
 
 -- the code of the first test that a line fails
@@ -181,9 +181,9 @@ entry_fault g before (Halo e) = inner_fault g (present before) (Halo e)
 -- ---- the end
 
 -- some cell of the rectangle lies in no box
-abbrev pub leaves_gap : Size → List Box2 → Bool
+abbrev pub leaves_gap : Extent → List Box2 → Bool
 leaves_gap s boxes = not (list_all (λ c. in_boxes boxes c.x c.y) (box_cells (whole s)))
 
 -- the ports of the last module are local, and the boxes leave no gap
 unfoldable pub end_fault : Setting → List Entry → Option ℕ
-end_fault g entries = code_where (is_incomplete g (present entries) || leaves_gap g.size (areas (modules_of entries))) 11
+end_fault g entries = code_where (is_incomplete g (present entries) || leaves_gap g.size (areas (modules_of entries))) something_missing

@@ -1,16 +1,17 @@
 //! Certificates.
 ghost use Rattle.std.specs.Prelude.{◌≡◌, ◌<◌, ◌≤◌, [], length, map, slice_get, take, Some, None};
+ghost use Rattle.circuit.specs.Entries.{defined};
+ghost use Rattle.pattern.specs.Layout.{parts_of};
 ghost use Rattle.circuit.specs.Bridge.{input_names, netlist_of};
 ghost use Rattle.circuit.specs.Meaning.{AreForward, AreOrdered};
-ghost use Rattle.circuit.specs.Rules.{defined};
-ghost use Rattle.pattern.specs.Lines.{AreGoodAfter, parts_of, size_fault};
+ghost use Rattle.pattern.specs.Lines.{AreGoodAfter, size_fault};
 ghost use Rattle.certificate.specs.Entries.{counts_of, modules_of};
 ghost use Rattle.certificate.specs.Grammars.{setting_of};
 ghost use Rattle.certificate.specs.Modules.{AreModules};
 
 use crate::entry::{Counts, Entry};
 use circuit::Circuit;
-use pattern::{Layout, Size};
+use pattern::{Layout, Extent};
 use std::marker::Model;
 
 /// A certificate, which cuts a layout of a circuit into modules. Contracts see what it is for, its version and its lines, as a
@@ -53,7 +54,7 @@ impl<'a> Cert<'a> {
 
     /// The width, the height and the steps of the layout: even sides of 2 to 512, and at most 4096 steps. All that stands in the
     /// layout is inside, and no cell is taken twice at the start, or twice at the end.
-    pub fn size(&self) -> Size
+    pub fn size(&self) -> Extent
         ensures size { result ≡ self.now.layout.size }
         ensures limits { size_fault result ≡ None }
         ensures good { AreGoodAfter result [] (parts_of self.now.layout) }

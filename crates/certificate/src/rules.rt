@@ -11,7 +11,7 @@ use crate::known::{are_all_new, knows, knows_all};
 use crate::site::Site;
 use indexmap::IndexSet;
 use module_box::Box2;
-use pattern::Size;
+use pattern::Extent;
 use section_text::Name;
 
 // The most cuts of a module, the most gates that it uses, and the most edge and halo lines.
@@ -35,7 +35,7 @@ pub(crate) fn is_bad_side(n: u32) -> bool
 }
 
 /// Whether a box has an odd corner, or a cell outside the rectangle.
-pub(crate) fn is_bad_place(size: Size, area: Box2) -> bool
+pub(crate) fn is_bad_place(size: Extent, area: Box2) -> bool
     ensures { result ≡ is_misplaced size area }
 {
     let right = u64::from(area.x) + u64::from(area.w);
@@ -46,7 +46,7 @@ pub(crate) fn is_bad_place(size: Size, area: Box2) -> bool
         || bottom > u64::from(size.h)
 }
 
-fn whole_of(size: Size) -> Box2
+fn whole_of(size: Extent) -> Box2
     ensures { result ≡ whole size }
 {
     Box2 {
@@ -148,7 +148,7 @@ fn is_good_time(steps: u32, starred: bool, time: Option<u32>) -> bool
 
 /// Whether an edge may stand at its cell and time.
 #[tactic(auto, unfolding(crate::specs::Rules::is_edge_place))]
-pub(crate) fn may_be_edge(size: Size, area: Box2, starred: bool, border: &Border) -> bool
+pub(crate) fn may_be_edge(size: Extent, area: Box2, starred: bool, border: &Border) -> bool
     ensures { result ≡ is_edge_place size area starred border.now }
 {
     let in_ring = area.in_ring(border.cell);
@@ -159,7 +159,7 @@ pub(crate) fn may_be_edge(size: Size, area: Box2, starred: bool, border: &Border
 
 /// Whether a halo line may stand at its cell and time.
 #[tactic(auto, unfolding(crate::specs::Rules::is_halo_place))]
-pub(crate) fn may_be_halo(size: Size, area: Box2, starred: bool, border: &Border) -> bool
+pub(crate) fn may_be_halo(size: Extent, area: Box2, starred: bool, border: &Border) -> bool
     ensures { result ≡ is_halo_place size area starred border.now }
 {
     let in_halo = area.in_halo(border.cell);

@@ -16,7 +16,7 @@ use bbm_rule::Cell;
 use circuit::{Circuit, GateNo, GateWires};
 use indexmap::IndexMap;
 use module_box::Box2;
-use pattern::{Layout, Port, Size};
+use pattern::{Layout, Port, Extent};
 use section_text::Name;
 use std::alloc::{AllocError, Global};
 use std::marker::Model;
@@ -106,7 +106,7 @@ impl<'a> Site<'a> {
     }
 
     /// The width, the height and the steps of the layout.
-    pub(crate) fn size(&self) -> Size
+    pub(crate) fn size(&self) -> Extent
         ensures size { result ≡ self.now.size }
         ensures limits { size_fault result ≡ None }
     {

@@ -5,6 +5,7 @@ use Rattle.std.proofs.lemmas.List.{append-nil, length-map}
 use Rattle.std.proofs.lemmas.Grind.{flat_map-append}
 use Rattle.std.proofs.lemmas.List.Sums.{sum_by-append, sum_by-cons}
 use Rattle.std.proofs.lemmas.Bool.{cases_Bool, true≢false}
+use Rattle.circuit.specs.Entries.{defined}
 use Rattle.circuit.specs.declared.entry.GateKind.{GateKind}
 use Rattle.circuit.specs.declared.entry.GateKind.TheVariants as Kept
 use Rattle.circuit.specs.declared.entry.Kind.{Kind}
@@ -13,11 +14,11 @@ use Rattle.circuit.specs.declared.entry.Kind.TheVariants.{Gate as GateLine}
 use Rattle.circuit.specs.declared.entry.Entry.{Entry}
 use Rattle.circuit.specs.Gates.{rule_of, is_inverse}
 use Rattle.section_text.specs.Words.{has}
-use Rattle.circuit.specs.Rules.{defined, consumed, consume, define, is_gate, gate_count, add_fault, limit_fault, name_fault}
+use Rattle.circuit.specs.Rules.{consumed, consume, define, is_gate, gate_count, add_fault, limit_fault, name_fault}
 use Rattle.section_text.specs.Codes.{or_else}
-use Rattle.circuit.specs.Meaning.{AreOrdered, AreForward, Gate}
+use Rattle.circuit.specs.Meaning.{AreOrdered, AreForward, Gate, number}
 use Rattle.circuit.specs.Wiring.{gate_at}
-use Rattle.circuit.specs.Bridge.{number, is_input, input_count, gate_in, gates_of, IsGoodAfter, AreGoodAfter, AreGood}
+use Rattle.circuit.specs.Bridge.{is_input, input_count, gate_in, gates_of, IsGoodAfter, AreGoodAfter, AreGood}
 use Rattle.circuit.specs.Laws.{GatesAreOrdered}
 use Rattle.circuit.proofs.Places.{all_cons, Have, number_new, numbers_left, numbers_below, consume_have, bytes_same}
 

@@ -4,10 +4,11 @@ use Rattle.std.specs.Prelude.{nat_lt, nat_le}
 use Rattle.std.proofs.lemmas.List.{append-nil}
 use Rattle.std.proofs.lemmas.Grind.{flat_map-append}
 use Rattle.std.proofs.lemmas.Bool.{true≢false, ltb-false, leb-false}
+use Rattle.circuit.specs.Entries.{defined}
 use Rattle.circuit.specs.declared.entry.Entry.{Entry}
-use Rattle.circuit.specs.Rules.{defined, consumed, consume, define, is_gate, gate_count, add_fault, passes_limit, is_wrong_delay}
-use Rattle.circuit.specs.Bridge.{number, gates_of, FitsKind, InputsFirst, IsGoodAfter, AreGood}
-use Rattle.circuit.specs.Meaning.{Gate}
+use Rattle.circuit.specs.Rules.{consumed, consume, define, is_gate, gate_count, add_fault, passes_limit, is_wrong_delay}
+use Rattle.circuit.specs.Bridge.{gates_of, FitsKind, InputsFirst, IsGoodAfter, AreGood}
+use Rattle.circuit.specs.Meaning.{Gate, number}
 use Rattle.circuit.specs.Wiring.{gate_of, gate_at}
 use Rattle.circuit.specs.declared.draft.Draft.TheInside.{Inside}
 use Rattle.circuit.specs.DraftView.{IsDraft}

@@ -2,7 +2,7 @@
 use Rattle.std.proofs.Common.{◌≡◌, ℕ, zero, suc, ◌+◌, ◌≤◌, true, cond, eqb, List, [], ◌∷◌, length, Some, None, refl, sym, ap, subst, ◌∙◌, arith, inl, inr}
 use Rattle.std.specs.Prelude.{codes}
 use Rattle.std.proofs.lemmas.Option.{cond_some, option_and_then_some, same_Some}
-use Rattle.section_text.specs.Words.{◌>>=◌, is_at, name_at, names_at, lone, lone_name}
+use Rattle.section_text.specs.Words.{◌>>=◌, is_word_at, name_at, names_at, lone, lone_name}
 use Rattle.section_text.specs.declared.section.Form.TheVariants.{Header, Item, End}
 use Rattle.circuit.specs.declared.entry.Kind.TheVariants.{Input, Gate, Output, Spill}
 use Rattle.circuit.specs.declared.entry.Entry.{Entry}
@@ -26,9 +26,9 @@ names_length ws i (suc n) ns e =
 gate_fits : (ws : List (List ℕ)) (r : Entry) → gate_entry ws ≡ Some r → FitsKind r
 unfolding gate_entry gate_names
 gate_fits ws r e =
-    option_and_then_some (λ kind. cond (eqb (length ws) (words_before kind + uses (rule_of kind) + 1 + defines (rule_of kind))) (cond (is_at ws (words_before kind + uses (rule_of kind)) (codes "->")) (gate_names ws kind) None) None) (gate_kind ws) r e (λ kind known rest.
-    let count = passed (eqb (length ws) (words_before kind + uses (rule_of kind) + 1 + defines (rule_of kind))) (cond (is_at ws (words_before kind + uses (rule_of kind)) (codes "->")) (gate_names ws kind) None) r rest in
-    let arrow = passed (is_at ws (words_before kind + uses (rule_of kind)) (codes "->")) (gate_names ws kind) r count.1 in
+    option_and_then_some (λ kind. cond (eqb (length ws) (words_before kind + uses (rule_of kind) + 1 + defines (rule_of kind))) (cond (is_word_at ws (words_before kind + uses (rule_of kind)) (codes "->")) (gate_names ws kind) None) None) (gate_kind ws) r e (λ kind known rest.
+    let count = passed (eqb (length ws) (words_before kind + uses (rule_of kind) + 1 + defines (rule_of kind))) (cond (is_word_at ws (words_before kind + uses (rule_of kind)) (codes "->")) (gate_names ws kind) None) r rest in
+    let arrow = passed (is_word_at ws (words_before kind + uses (rule_of kind)) (codes "->")) (gate_names ws kind) r count.1 in
     option_and_then_some (λ ins. names_at ws (words_before kind + uses (rule_of kind) + 1) (defines (rule_of kind)) >>= λ outs. Some (entry (Gate kind) ins outs)) (names_at ws (words_before kind) (uses (rule_of kind))) r arrow.1 (λ ins some_ins rest_ins.
     option_and_then_some (λ outs. Some (entry (Gate kind) ins outs)) (names_at ws (words_before kind + uses (rule_of kind) + 1) (defines (rule_of kind))) r rest_ins (λ outs some_outs made.
     subst FitsKind (same_Some (entry (Gate kind) ins outs) r made) (names_length ws _ _ ins some_ins, names_length ws _ _ outs some_outs))))
@@ -46,15 +46,15 @@ lone_fits ws f g h e = let found = cond_some (eqb (length ws) 1) f g e in subst 
 form_fits : (ws : List (List ℕ)) (f : Line) → form_of ws ≡ Some f → OfForm f
 unfolding form_of OfForm
 form_fits ws f e =
-    elim (chosen (is_at ws 0 (codes "circuit")) _ _ (Some f) e) [
+    elim (chosen (is_word_at ws 0 (codes "circuit")) _ _ (Some f) e) [
       | inl p ↦ lone_fits ws (Header tt) f tt p.1
-      | inr p ↦ elim (chosen (is_at ws 0 (codes "end")) _ _ (Some f) p.1) [
+      | inr p ↦ elim (chosen (is_word_at ws 0 (codes "end")) _ _ (Some f) p.1) [
         | inl q ↦ lone_fits ws End f tt q.1
-        | inr q ↦ elim (chosen (is_at ws 0 (codes "input")) _ _ (Some f) q.1) [
+        | inr q ↦ elim (chosen (is_word_at ws 0 (codes "input")) _ _ (Some f) q.1) [
           | inl r ↦ option_and_then_some (λ n. Some (Item (entry Input [] (n ∷ [])))) (lone_name ws) f r.1 (λ n named made. subst OfForm (same_Some (Item (entry Input [] (n ∷ []))) f made) (refl, refl))
-          | inr r ↦ elim (chosen (is_at ws 0 (codes "output")) _ _ (Some f) r.1) [
+          | inr r ↦ elim (chosen (is_word_at ws 0 (codes "output")) _ _ (Some f) r.1) [
             | inl s ↦ option_and_then_some (λ n. Some (Item (entry Output (n ∷ []) []))) (lone_name ws) f s.1 (λ n named made. subst OfForm (same_Some (Item (entry Output (n ∷ []) [])) f made) (refl, refl))
-            | inr s ↦ elim (chosen (is_at ws 0 (codes "spill")) _ _ (Some f) s.1) [
+            | inr s ↦ elim (chosen (is_word_at ws 0 (codes "spill")) _ _ (Some f) s.1) [
               | inl t ↦ option_and_then_some (λ n. Some (Item (entry Spill (n ∷ []) []))) (lone_name ws) f t.1 (λ n named made. subst OfForm (same_Some (Item (entry Spill (n ∷ []) [])) f made) (refl, refl))
               | inr t ↦ option_and_then_some (λ r. Some (Item r)) (gate_entry ws) f t.1 (λ r known made. subst OfForm (same_Some (Item r) f made) (gate_fits ws r known))
             ]

@@ -1,21 +1,22 @@
 -- The names of wires.
 use Rattle.std.proofs.Common.{◌≡◌, ℕ, zero, suc, ◌+◌, ◌<◌, ◌≤◌, ◌||◌, Bool, true, false, cond, List, [], ◌∷◌, ◌++◌, length, take, Option, Some, None, refl, sym, ap, subst, ◌∙◌, arith, inl, inr, append_assoc, length-append}
-use Rattle.std.specs.Prelude.{option_map, slice_get}
+use Rattle.std.specs.Prelude.{slice_get}
 use Rattle.std.specs.List.{position}
 use Rattle.std.specs.Str.{bytes_eq}
 use Rattle.std.proofs.lemmas.List.{append-nil}
 use Rattle.std.proofs.lemmas.List.Sums.{sum_by-cons}
 use Rattle.std.proofs.lemmas.Bool.{cases_Bool, cases_lt, le-ltb}
 use Rattle.std.proofs.lemmas.List.Folds.{list_any-append}
+use Rattle.circuit.specs.Entries.{defined}
 use Rattle.circuit.specs.declared.entry.Kind.{Kind}
 use Rattle.circuit.specs.declared.entry.Kind.TheVariants.{Input, Output, Spill}
 use Rattle.circuit.specs.declared.entry.Kind.TheVariants.{Gate as GateLine}
 use Rattle.circuit.specs.declared.entry.Entry.{Entry}
 use Rattle.circuit.specs.Gates.{rule_of, defines}
 use Rattle.section_text.specs.Words.{has}
-use Rattle.circuit.specs.Rules.{defined, define, gate_count, is_gate}
-use Rattle.circuit.specs.Meaning.{Gate, place_of, wires_after}
-use Rattle.circuit.specs.Bridge.{number, is_input, input_count, input_names, gate_in, gates_of, FitsKind, AreGoodAfter}
+use Rattle.circuit.specs.Rules.{define, gate_count, is_gate}
+use Rattle.circuit.specs.Meaning.{Gate, place_of, wires_after, number}
+use Rattle.circuit.specs.Bridge.{is_input, input_count, input_names, gate_in, gates_of, FitsKind, AreGoodAfter}
 use Rattle.circuit.specs.Laws.{WiresAreNamed, NamesAreOwn, InputsAreFirst}
 use Rattle.circuit.proofs.Places.{has_front, has_left, number_left, number_new, bytes_same, position_number, look_up}
 use Rattle.circuit.proofs.Bridging.{names_pass, define_first, defined_push, push_cons, input_cons, count_append, no_inputs}
@@ -23,16 +24,8 @@ use Rattle.circuit.proofs.Bridging.{names_pass, define_first, defined_push, push
 -- ---- the place of a name, and its number
 
 place_number : (d : List (List ℕ)) (n : List ℕ) → place_of n d ≡ cond (has d n) (Some (number d n)) None
-unfolding place_of number
-place_number [] n = refl
-place_number (m ∷ ms) n = elim (cases_Bool (bytes_eq n m)) [
-  | inl e ↦ rw e refl
-  | inr e ↦ rw e (ap (option_map (λ i. i + 1)) (place_number ms n) ∙ mapped (has ms n) (number ms n))
-]
-  where
-    mapped : (b : Bool) (k : ℕ) → option_map (λ i. i + 1) (cond b (Some k) None) ≡ cond b (Some (k + 1)) None
-    mapped true k = refl
-    mapped false k = refl
+unfolding place_of
+place_number d n = refl
 
 absent_length : (d : List (List ℕ)) (n : List ℕ) → has d n ≡ false → length d ≤ number d n
 unfolding number

@@ -8,9 +8,9 @@ use Rattle.std.specs.Prelude.{nat_lt}
 use Rattle.std.specs.Bool.{Decides}
 use Rattle.std.proofs.lemmas.Slice.Eq.{bytes_eq-Decides}
 use Rattle.std.proofs.lemmas.List.Folds.{list_any-append}
+use Rattle.circuit.specs.Meaning.{number}
 use Rattle.section_text.specs.Words.{has}
 use Rattle.circuit.specs.Rules.{consume}
-use Rattle.circuit.specs.Bridge.{number}
 
 -- what has says at the front of a list
 pub has_front : (m n : List ℕ) (ms : List (List ℕ)) → bytes_eq n m ≡ false → has (m ∷ ms) n ≡ has ms n

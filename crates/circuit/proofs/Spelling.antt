@@ -4,7 +4,7 @@ use Rattle.std.specs.Prelude.{slice_get, codes}
 use Rattle.std.specs.Fmt.{decimal}
 use Rattle.std.proofs.lemmas.Bool.{eqb-true}
 use Rattle.std.proofs.lemmas.Option.{cond_some, option_and_then_some, same_Some}
-use Rattle.section_text.specs.Words.{◌>>=◌, words_of, is_at, name_at, names_at, number_at, lone, lone_name}
+use Rattle.section_text.specs.Words.{◌>>=◌, words_of, is_word_at, name_at, names_at, number_at, lone, lone_name}
 use Rattle.section_text.specs.Section.{ended_line}
 use Rattle.section_text.specs.declared.section.Form.TheVariants.{Header, Item, End}
 use Rattle.section_text.proofs.WordPlaces.{is_at_is, name_at_is, names_at_are, assembled, line_from_words}
@@ -42,20 +42,20 @@ take_two (a ∷ b ∷ ws) v w e f = cc
 record Spells (ws : List (List ℕ)) (f : Line) : Type 0 where
   words : ws ≡ first_of f ∷ others_of f
 
-lone_spelled : (ws : List (List ℕ)) (w : List ℕ) (f g : Line) → is_at ws 0 w ≡ true → lone ws f ≡ Some g → (ws ≡ w ∷ []) × (f ≡ g)
+lone_spelled : (ws : List (List ℕ)) (w : List ℕ) (f g : Line) → is_word_at ws 0 w ≡ true → lone ws f ≡ Some g → (ws ≡ w ∷ []) × (f ≡ g)
 unfolding lone
 lone_spelled ws w f g at e = let found = cond_some (eqb (length ws) 1) f g e in (one_word ws w (eqb-true _ _ found.0) (is_at_is ws 0 w at), found.1)
 
-named_spelled : (ws : List (List ℕ)) (w n : List ℕ) → is_at ws 0 w ≡ true → lone_name ws ≡ Some n → ws ≡ w ∷ n ∷ []
+named_spelled : (ws : List (List ℕ)) (w n : List ℕ) → is_word_at ws 0 w ≡ true → lone_name ws ≡ Some n → ws ≡ w ∷ n ∷ []
 unfolding lone_name
 named_spelled ws w n at e = let found = passed (eqb (length ws) 2) (name_at ws 1) n e in two_words ws w n (eqb-true _ _ found.0) (is_at_is ws 0 w at) (name_at_is ws 1 n found.1)
 
 bit_spelled : (ws : List (List ℕ)) (i : ℕ) (b : Bool) → bit_at ws i ≡ Some b → slice_get ws i ≡ Some (bit_word b)
 unfolding bit_at
 bit_spelled ws i b e =
-    elim (chosen (is_at ws i (codes "0")) (Some false) (cond (is_at ws i (codes "1")) (Some true) None) (Some b) e) [
+    elim (chosen (is_word_at ws i (codes "0")) (Some false) (cond (is_word_at ws i (codes "1")) (Some true) None) (Some b) e) [
       | inl p ↦ is_at_is ws i (codes "0") p.0 ∙ ap (λ (x : Bool). Some (bit_word x)) (same_Some false b p.1)
-      | inr p ↦ let found = cond_some (is_at ws i (codes "1")) true b p.1 in is_at_is ws i (codes "1") found.0 ∙ ap (λ (x : Bool). Some (bit_word x)) found.1
+      | inr p ↦ let found = cond_some (is_word_at ws i (codes "1")) true b p.1 in is_at_is ws i (codes "1") found.0 ∙ ap (λ (x : Bool). Some (bit_word x)) found.1
     ]
 
 -- the head of a gate line
@@ -68,17 +68,17 @@ plain_head ws x kind e h = subst (HeadIs ws) (same_Some x kind e) h
 head_spelled : (ws : List (List ℕ)) (kind : GateKind) → gate_kind ws ≡ Some kind → HeadIs ws kind
 unfolding gate_kind
 head_spelled ws kind e =
-    elim (chosen (is_at ws 0 (codes "source")) _ _ (Some kind) e) [
+    elim (chosen (is_word_at ws 0 (codes "source")) _ _ (Some kind) e) [
       | inl p ↦ option_and_then_some (λ b. Some (Source b)) (bit_at ws 1) kind p.1 (λ b bit made. plain_head ws (Source b) kind made (take_two ws (codes "source") (bit_word b) (is_at_is ws 0 (codes "source") p.0) (bit_spelled ws 1 b bit)))
-      | inr p ↦ elim (chosen (is_at ws 0 (codes "fredkin")) _ _ (Some kind) p.1) [
+      | inr p ↦ elim (chosen (is_word_at ws 0 (codes "fredkin")) _ _ (Some kind) p.1) [
         | inl q ↦ plain_head ws Fredkin kind q.1 (take_one ws (codes "fredkin") (is_at_is ws 0 (codes "fredkin") q.0))
-        | inr q ↦ elim (chosen (is_at ws 0 (codes "cswap")) _ _ (Some kind) q.1) [
+        | inr q ↦ elim (chosen (is_word_at ws 0 (codes "cswap")) _ _ (Some kind) q.1) [
           | inl r ↦ plain_head ws Cswap kind r.1 (take_one ws (codes "cswap") (is_at_is ws 0 (codes "cswap") r.0))
-          | inr r ↦ elim (chosen (is_at ws 0 (codes "interact")) _ _ (Some kind) r.1) [
+          | inr r ↦ elim (chosen (is_word_at ws 0 (codes "interact")) _ _ (Some kind) r.1) [
             | inl s ↦ plain_head ws Interact kind s.1 (take_one ws (codes "interact") (is_at_is ws 0 (codes "interact") s.0))
-            | inr s ↦ elim (chosen (is_at ws 0 (codes "switch")) _ _ (Some kind) s.1) [
+            | inr s ↦ elim (chosen (is_word_at ws 0 (codes "switch")) _ _ (Some kind) s.1) [
               | inl t ↦ plain_head ws Switch kind t.1 (take_one ws (codes "switch") (is_at_is ws 0 (codes "switch") t.0))
-              | inr t ↦ let found = passed (is_at ws 0 (codes "delay")) (number_at ws 1 >>= λ n. Some (Delay n)) kind t.1 in
+              | inr t ↦ let found = passed (is_word_at ws 0 (codes "delay")) (number_at ws 1 >>= λ n. Some (Delay n)) kind t.1 in
                   option_and_then_some (λ n. Some (Delay n)) (number_at ws 1) kind found.1 (λ n number made. plain_head ws (Delay n) kind made (take_two ws (codes "delay") (decimal n) (is_at_is ws 0 (codes "delay") found.0) (number_at_spelled ws 1 n number)))
             ]
           ]
@@ -90,9 +90,9 @@ head_spelled ws kind e =
 gate_spelled : (ws : List (List ℕ)) (r : Entry) → gate_entry ws ≡ Some r → ws ≡ first_word r.kind ∷ more_words r
 unfolding gate_entry gate_names first_word more_words
 gate_spelled ws r e =
-    option_and_then_some (λ kind. cond (eqb (length ws) (words_before kind + uses (rule_of kind) + 1 + defines (rule_of kind))) (cond (is_at ws (words_before kind + uses (rule_of kind)) (codes "->")) (gate_names ws kind) None) None) (gate_kind ws) r e (λ kind known rest.
-    let count = passed (eqb (length ws) (words_before kind + uses (rule_of kind) + 1 + defines (rule_of kind))) (cond (is_at ws (words_before kind + uses (rule_of kind)) (codes "->")) (gate_names ws kind) None) r rest in
-    let arrow = passed (is_at ws (words_before kind + uses (rule_of kind)) (codes "->")) (gate_names ws kind) r count.1 in
+    option_and_then_some (λ kind. cond (eqb (length ws) (words_before kind + uses (rule_of kind) + 1 + defines (rule_of kind))) (cond (is_word_at ws (words_before kind + uses (rule_of kind)) (codes "->")) (gate_names ws kind) None) None) (gate_kind ws) r e (λ kind known rest.
+    let count = passed (eqb (length ws) (words_before kind + uses (rule_of kind) + 1 + defines (rule_of kind))) (cond (is_word_at ws (words_before kind + uses (rule_of kind)) (codes "->")) (gate_names ws kind) None) r rest in
+    let arrow = passed (is_word_at ws (words_before kind + uses (rule_of kind)) (codes "->")) (gate_names ws kind) r count.1 in
     option_and_then_some (λ ins. names_at ws (words_before kind + uses (rule_of kind) + 1) (defines (rule_of kind)) >>= λ outs. Some (entry (Gate kind) ins outs)) (names_at ws (words_before kind) (uses (rule_of kind))) r arrow.1 (λ ins some_ins rest_ins.
     option_and_then_some (λ outs. Some (entry (Gate kind) ins outs)) (names_at ws (words_before kind + uses (rule_of kind) + 1) (defines (rule_of kind))) r rest_ins (λ outs some_outs made.
     let whole = assembled ws (gate_word kind ∷ gate_number kind) ins outs (codes "->") (words_before kind) (uses (rule_of kind)) (defines (rule_of kind)) (head_spelled ws kind known) (names_at_are ws _ _ ins some_ins) (is_at_is ws _ (codes "->") arrow.0) (names_at_are ws _ _ outs some_outs) (eqb-true _ _ count.0) in
@@ -104,15 +104,15 @@ SpelledAs ws f = ws ≡ first_of f ∷ others_of f
 form_words : (ws : List (List ℕ)) (f : Line) → form_of ws ≡ Some f → SpelledAs ws f
 unfolding form_of first_of others_of first_word more_words
 form_words ws f e =
-    elim (chosen (is_at ws 0 (codes "circuit")) _ _ (Some f) e) [
+    elim (chosen (is_word_at ws 0 (codes "circuit")) _ _ (Some f) e) [
       | inl p ↦ let a = lone_spelled ws (codes "circuit") (Header tt) f p.0 p.1 in subst (SpelledAs ws) a.1 a.0
-      | inr p ↦ elim (chosen (is_at ws 0 (codes "end")) _ _ (Some f) p.1) [
+      | inr p ↦ elim (chosen (is_word_at ws 0 (codes "end")) _ _ (Some f) p.1) [
         | inl q ↦ let a = lone_spelled ws (codes "end") End f q.0 q.1 in subst (SpelledAs ws) a.1 a.0
-        | inr q ↦ elim (chosen (is_at ws 0 (codes "input")) _ _ (Some f) q.1) [
+        | inr q ↦ elim (chosen (is_word_at ws 0 (codes "input")) _ _ (Some f) q.1) [
           | inl r ↦ option_and_then_some (λ n. Some (Item (entry Input [] (n ∷ [])))) (lone_name ws) f r.1 (λ n named made. subst (SpelledAs ws) (same_Some (Item (entry Input [] (n ∷ []))) f made) (named_spelled ws (codes "input") n r.0 named))
-          | inr r ↦ elim (chosen (is_at ws 0 (codes "output")) _ _ (Some f) r.1) [
+          | inr r ↦ elim (chosen (is_word_at ws 0 (codes "output")) _ _ (Some f) r.1) [
             | inl s ↦ option_and_then_some (λ n. Some (Item (entry Output (n ∷ []) []))) (lone_name ws) f s.1 (λ n named made. subst (SpelledAs ws) (same_Some (Item (entry Output (n ∷ []) [])) f made) (named_spelled ws (codes "output") n s.0 named))
-            | inr s ↦ elim (chosen (is_at ws 0 (codes "spill")) _ _ (Some f) s.1) [
+            | inr s ↦ elim (chosen (is_word_at ws 0 (codes "spill")) _ _ (Some f) s.1) [
               | inl t ↦ option_and_then_some (λ n. Some (Item (entry Spill (n ∷ []) []))) (lone_name ws) f t.1 (λ n named made. subst (SpelledAs ws) (same_Some (Item (entry Spill (n ∷ []) [])) f made) (named_spelled ws (codes "spill") n t.0 named))
               | inr t ↦ option_and_then_some (λ r. Some (Item r)) (gate_entry ws) f t.1 (λ r known made. subst (SpelledAs ws) (same_Some (Item r) f made) (gate_spelled ws r known))
             ]

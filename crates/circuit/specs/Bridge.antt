@@ -1,19 +1,14 @@
 -- From the lines of a circuit, by names, to its gates, by the numbers of wires.
-use Rattle.std.specs.Prelude.{◌≡◌, ℕ, ◌+◌, ◌<◌, Bool, true, false, if◌then◌else◌, List, [], ◌∷◌, ◌++◌, map, length, None, ⊤, slice_index_or}
+use Rattle.std.specs.Prelude.{◌≡◌, ℕ, ◌<◌, Bool, true, false, if◌then◌else◌, List, [], ◌∷◌, ◌++◌, map, length, None, ⊤, slice_index_or}
 use Rattle.std.specs.List.{flat_map, count_by}
-use Rattle.std.specs.Str.{bytes_eq}
+use Rattle.circuit.specs.Entries.{defined}
 use Rattle.circuit.specs.declared.entry.Kind.{Kind}
 use Rattle.circuit.specs.declared.entry.Kind.TheVariants.{Input, Output, Spill}
 use Rattle.circuit.specs.declared.entry.Kind.TheVariants.{Gate as GateLine}
 use Rattle.circuit.specs.declared.entry.Entry.{Entry}
 use Rattle.circuit.specs.Gates.{rule_of, uses, defines}
-use Rattle.circuit.specs.Rules.{defined, gate_count, add_fault}
-use Rattle.circuit.specs.Meaning.{Gate, Netlist, Circuit, Valuation, Satisfies, wires}
-
--- the number of a wire: the place of its name in the order of definition
-unfoldable pub number : List (List ℕ) → List ℕ → ℕ
-number [] n = 0
-number (m ∷ ms) n = if bytes_eq n m then 0 else (number ms n + 1)
+use Rattle.circuit.specs.Rules.{gate_count, add_fault}
+use Rattle.circuit.specs.Meaning.{Gate, Netlist, Circuit, Valuation, Satisfies, number, wires}
 
 abbrev pub is_input : Kind → Bool
 is_input Input = true

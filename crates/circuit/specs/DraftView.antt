@@ -1,8 +1,9 @@
 -- The fields of a draft and of a circuit, and what contracts see of them: the lines.
 use Rattle.std.specs.Prelude.{◌≡◌, ◌≤◌, List, length, map}
+use Rattle.circuit.specs.Entries.{defined}
 use Rattle.circuit.specs.declared.entry.Entry.{Entry}
 use Rattle.circuit.specs.declared.draft.Draft.TheInside.{Inside}
-use Rattle.circuit.specs.Rules.{defined, consumed, gate_count}
+use Rattle.circuit.specs.Rules.{consumed, gate_count}
 use Rattle.circuit.specs.Bridge.{AreGood, gates_of}
 use Rattle.circuit.specs.Wiring.{gate_of}
 

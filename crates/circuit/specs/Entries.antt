@@ -1,5 +1,6 @@
 -- The lines of a circuit.
 use Rattle.std.specs.Prelude.{ℕ, List}
+use Rattle.std.specs.List.{flat_map}
 use Rattle.circuit.specs.declared.entry.Kind.{Kind}
 use Rattle.circuit.specs.declared.entry.Kind.TheVariants.{Input, Gate, Output, Spill}
 use Rattle.circuit.specs.declared.entry.Entry.{Entry}
@@ -13,3 +14,7 @@ rank_of Spill = 3
 
 abbrev pub entry : Kind → List (List ℕ) → List (List ℕ) → Entry
 entry kind ins outs = record { kind = kind; ins = ins; outs = outs }
+
+-- the wires that lines define, in order
+abbrev pub defined : List Entry → List (List ℕ)
+defined entries = flat_map (λ r. r.outs) entries

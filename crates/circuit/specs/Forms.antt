@@ -1,6 +1,6 @@
 -- The line forms of the circuit section.
 use Rattle.std.specs.Prelude.{ℕ, ◌+◌, Bool, true, false, List, [], ◌∷◌, length, Option, Some, None, codes, ◌==◌, if◌then◌else◌}
-use Rattle.section_text.specs.Words.{◌>>=◌, is_at, names_at, number_at, lone, lone_name}
+use Rattle.section_text.specs.Words.{◌>>=◌, is_word_at, names_at, number_at, lone, lone_name}
 use Rattle.section_text.specs.declared.section.Form.{Form}
 use Rattle.section_text.specs.declared.section.Form.TheVariants.{Header, Item, End}
 use Rattle.circuit.specs.declared.entry.GateKind.{GateKind}
@@ -12,17 +12,17 @@ use Rattle.circuit.specs.Gates.{rule_of, uses, defines}
 
 -- a word that is a bit
 unfoldable pub bit_at : List (List ℕ) → ℕ → Option Bool
-bit_at ws i = if is_at ws i (codes "0") then Some false else (if is_at ws i (codes "1") then Some true else None)
+bit_at ws i = if is_word_at ws i (codes "0") then Some false else (if is_word_at ws i (codes "1") then Some true else None)
 
 -- the kind that a gate's line begins with
 unfoldable pub gate_kind : List (List ℕ) → Option GateKind
 gate_kind ws =
-    if is_at ws 0 (codes "source") then (bit_at ws 1 >>= λ b. Some (Source b))
-    else if is_at ws 0 (codes "fredkin") then Some Fredkin
-    else if is_at ws 0 (codes "cswap") then Some Cswap
-    else if is_at ws 0 (codes "interact") then Some Interact
-    else if is_at ws 0 (codes "switch") then Some Switch
-    else if is_at ws 0 (codes "delay") then (number_at ws 1 >>= λ n. Some (Delay n))
+    if is_word_at ws 0 (codes "source") then (bit_at ws 1 >>= λ b. Some (Source b))
+    else if is_word_at ws 0 (codes "fredkin") then Some Fredkin
+    else if is_word_at ws 0 (codes "cswap") then Some Cswap
+    else if is_word_at ws 0 (codes "interact") then Some Interact
+    else if is_word_at ws 0 (codes "switch") then Some Switch
+    else if is_word_at ws 0 (codes "delay") then (number_at ws 1 >>= λ n. Some (Delay n))
     else None
 
 -- how many words stand before the names
@@ -44,16 +44,16 @@ gate_names ws kind = do
 unfoldable pub gate_entry : List (List ℕ) → Option Entry
 gate_entry ws = do
   kind ← gate_kind ws
-  if length ws == words_before kind + uses (rule_of kind) + 1 + defines (rule_of kind) then (if is_at ws (words_before kind + uses (rule_of kind)) (codes "->") then gate_names ws kind else None) else None
+  if length ws == words_before kind + uses (rule_of kind) + 1 + defines (rule_of kind) then (if is_word_at ws (words_before kind + uses (rule_of kind)) (codes "->") then gate_names ws kind else None) else None
 
 abbrev pub Line : Type 0
 Line = Form (Unit {0}) Entry
 
 unfoldable pub form_of : List (List ℕ) → Option Line
 form_of ws =
-    if is_at ws 0 (codes "circuit") then lone ws (Header tt)
-    else if is_at ws 0 (codes "end") then lone ws End
-    else if is_at ws 0 (codes "input") then (lone_name ws >>= λ n. Some (Item (entry Input [] (n ∷ []))))
-    else if is_at ws 0 (codes "output") then (lone_name ws >>= λ n. Some (Item (entry Output (n ∷ []) [])))
-    else if is_at ws 0 (codes "spill") then (lone_name ws >>= λ n. Some (Item (entry Spill (n ∷ []) [])))
+    if is_word_at ws 0 (codes "circuit") then lone ws (Header tt)
+    else if is_word_at ws 0 (codes "end") then lone ws End
+    else if is_word_at ws 0 (codes "input") then (lone_name ws >>= λ n. Some (Item (entry Input [] (n ∷ []))))
+    else if is_word_at ws 0 (codes "output") then (lone_name ws >>= λ n. Some (Item (entry Output (n ∷ []) [])))
+    else if is_word_at ws 0 (codes "spill") then (lone_name ws >>= λ n. Some (Item (entry Spill (n ∷ []) [])))
     else (gate_entry ws >>= λ r. Some (Item r))

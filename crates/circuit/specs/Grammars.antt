@@ -1,14 +1,15 @@
 -- The circuit section.
 use Rattle.std.specs.Prelude.{ℕ, List, Option, Some, None}
+use Rattle.circuit.specs.Entries.{defined}
 use Rattle.section_text.specs.Section.{Grammar}
 use Rattle.circuit.specs.declared.entry.Entry.{Entry}
-use Rattle.section_text.specs.Codes.{or_else}
+use Rattle.section_text.specs.Codes.{or_else, something_missing}
 use Rattle.circuit.specs.Forms.{form_of}
-use Rattle.circuit.specs.Rules.{order_fault, add_fault, unused, defined, consumed}
+use Rattle.circuit.specs.Rules.{order_fault, add_fault, unused, consumed}
 
 abbrev pub missing_code : Option (List ℕ) → Option ℕ
 missing_code None = None
-missing_code (Some n) = Some 11
+missing_code (Some n) = Some something_missing
 
 abbrev pub circuit_grammar : Grammar (Unit {0}) Entry
 circuit_grammar = record {

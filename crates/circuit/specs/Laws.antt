@@ -3,11 +3,11 @@ use Rattle.std.specs.Prelude.{◌≡◌, ℕ, ◌+◌, ◌<◌, Bool, List, leng
 use Rattle.section_text.specs.Words.{lines_of}
 use Rattle.circuit.specs.Gates.{Rule, Source, Switch, Unswitch, Interact, Uninteract, row}
 use Rattle.std.specs.List.{count_by, flat_map, range_with_len}
+use Rattle.circuit.specs.Entries.{defined}
 use Rattle.section_text.specs.Section.{section_of, ended_line}
 use Rattle.circuit.specs.declared.entry.Entry.{Entry}
 use Rattle.circuit.specs.Grammars.{circuit_grammar}
 use Rattle.circuit.specs.Text.{circuit_text}
-use Rattle.circuit.specs.Rules.{defined}
 use Rattle.circuit.specs.Meaning.{Netlist, Valuation, Satisfies, AreOrdered, AreForward, wires, wire_of}
 use Rattle.circuit.specs.Bridge.{AreGood, AreValues, input_count, input_names, gates_of, netlist_of, circuit_of}
 

@@ -1,7 +1,8 @@
 -- Circuits of conservative logic (Fredkin and Toffoli 1982) by the numbers of their wires, and what they mean.
-use Rattle.std.specs.Prelude.{◌≡◌, ℕ, ◌+◌, ◌<◌, Bool, false, if◌then◌else◌, List, [], ◌∷◌, map, length, Option, Some, None, ⊤, slice_get, option_map}
+use Rattle.std.specs.Prelude.{◌≡◌, ℕ, ◌+◌, ◌<◌, Bool, false, if◌then◌else◌, List, [], ◌∷◌, map, length, Option, Some, None, ⊤, slice_get}
 use Rattle.std.specs.List.{All, range_with_len}
 use Rattle.std.specs.Str.{bytes_eq}
+use Rattle.section_text.specs.Words.{has}
 use Rattle.circuit.specs.Gates.{Rule, row, uses, defines, is_inverse}
 
 -- a gate, by the numbers of its wires
@@ -20,10 +21,14 @@ pub record Circuit : Type 0 where
   pub netlist : Netlist
   pub names : List (List ℕ)
 
--- the place of a name
+-- how many names stand before a name
+unfoldable pub number : List (List ℕ) → List ℕ → ℕ
+number [] n = 0
+number (m ∷ ms) n = if bytes_eq n m then 0 else (number ms n + 1)
+
+-- the same, where the name is one of them
 unfoldable pub place_of : List ℕ → List (List ℕ) → Option ℕ
-place_of n [] = None
-place_of n (m ∷ ms) = if bytes_eq n m then Some 0 else option_map (λ i. i + 1) (place_of n ms)
+place_of n names = if has names n then Some (number names n) else None
 
 -- the wire of a name
 abbrev pub wire_of : Circuit → List ℕ → Option ℕ
@@ -46,12 +51,12 @@ pub record Satisfies (n : Netlist) (a v : Valuation) : Type 0 where
   pub rows : All (HasRow v) n.gates
 
 -- the value of a wire, by its name
-abbrev pub value_of : Option ℕ → Valuation → Bool
-value_of None v = false
-value_of (Some w) v = v w
+abbrev pub wire_value : Option ℕ → Valuation → Bool
+wire_value None v = false
+wire_value (Some w) v = v w
 
 abbrev pub values_by_name : Circuit → Valuation → List ℕ → Bool
-values_by_name c v n = value_of (wire_of c n) v
+values_by_name c v n = wire_value (wire_of c n) v
 
 -- n wires are defined so far. Each gate uses wires that are defined before it, and defines the next ones
 unfoldable pub AreOrdered : ℕ → List Gate → Type 0

@@ -6,12 +6,8 @@ use Rattle.circuit.specs.declared.entry.Kind.{Kind}
 use Rattle.circuit.specs.declared.entry.Kind.TheVariants.{Input, Gate, Output, Spill}
 use Rattle.circuit.specs.declared.entry.Entry.{Entry}
 use Rattle.section_text.specs.Words.{has}
-use Rattle.section_text.specs.Codes.{or_else, code_where}
-use Rattle.circuit.specs.Entries.{rank_of}
-
--- the wires that lines define, in order
-abbrev pub defined : List Entry → List (List ℕ)
-defined entries = flat_map (λ r. r.outs) entries
+use Rattle.section_text.specs.Codes.{code_where, consumed_twice, defined_twice, or_else, out_of_order, past_limit, unknown_name}
+use Rattle.circuit.specs.Entries.{defined, rank_of}
 
 -- the wires that lines consume, in order
 abbrev pub consumed : List Entry → List (List ℕ)
@@ -31,12 +27,12 @@ gate_count entries = count_by (λ r. is_gate r.kind) entries
 -- the names are consumed one after the other, where d was defined and c was consumed
 abbrev pub consume : List (List ℕ) → List (List ℕ) → List (List ℕ) → Option ℕ
 consume d c [] = None
-consume d c (n ∷ ns) = if has d n then (if has c n then Some 5 else consume d (c ++ n ∷ []) ns) else Some 3
+consume d c (n ∷ ns) = if has d n then (if has c n then Some consumed_twice else consume d (c ++ n ∷ []) ns) else Some unknown_name
 
 -- the names are defined one after the other, where d was defined
 abbrev pub define : List (List ℕ) → List (List ℕ) → Option ℕ
 define d [] = None
-define d (n ∷ ns) = if has d n then Some 4 else define (d ++ n ∷ []) ns
+define d (n ∷ ns) = if has d n then Some defined_twice else define (d ++ n ∷ []) ns
 
 abbrev pub name_fault : List Entry → Entry → Option ℕ
 name_fault entries r = or_else (consume (defined entries) (consumed entries) r.ins) (define (defined entries) r.outs)
@@ -58,7 +54,7 @@ abbrev pub passes_limit : List Entry → Entry → Bool
 passes_limit entries r = is_wrong_delay r.kind || (nat_lt 4096 (length (defined entries) + length r.outs) || (is_gate r.kind && nat_le 1024 (gate_count entries)))
 
 abbrev pub limit_fault : List Entry → Entry → Option ℕ
-limit_fault entries r = code_where (passes_limit entries r) 2
+limit_fault entries r = code_where (passes_limit entries r) past_limit
 
 -- the first of codes 2 to 5
 unfoldable pub add_fault : List Entry → Entry → Option ℕ
@@ -73,7 +69,7 @@ last_rank (r ∷ []) = rank_of r.kind
 last_rank (r ∷ s ∷ entries) = last_rank (s ∷ entries)
 
 abbrev pub order_fault : List Entry → Entry → Option ℕ
-order_fault entries r = code_where (nat_lt (rank_of r.kind) (last_rank entries)) 6
+order_fault entries r = code_where (nat_lt (rank_of r.kind) (last_rank entries)) out_of_order
 
 -- the first wire that nobody consumes
 abbrev pub unused : List (List ℕ) → List (List ℕ) → Option (List ℕ)

@@ -1,10 +1,10 @@
 //! Circuits, line by line.
 ghost use Rattle.std.specs.Prelude.{◌≡◌, ◌==◌, ◌+◌, ◌-◌, true, [], ◌∷◌, ◌++◌, ◌≤◌, map, length, Option, None, Some, OnOk, OnErr, IfOk, IfErr};
-ghost use Rattle.circuit.specs.Entries.{entry};
+ghost use Rattle.circuit.specs.Entries.{entry, defined};
 ghost use Rattle.circuit.specs.Gates.{rule_of, uses, defines};
 ghost use Rattle.circuit.specs.declared.entry.Kind.TheVariants.{Input, Gate, Output, Spill};
 ghost use Rattle.circuit.specs.declared.entry.GateKind.TheVariants.{Source};
-ghost use Rattle.circuit.specs.Rules.{add_fault, passes_limit, is_wrong_delay, is_gate, gate_count, defined, consumed, consume, define, unused};
+ghost use Rattle.circuit.specs.Rules.{add_fault, passes_limit, is_wrong_delay, is_gate, gate_count, consumed, consume, define, unused};
 ghost use Rattle.circuit.specs.Wiring.{gate_of, gate_at};
 ghost use Rattle.section_text.specs.Codes.{or_else};
 ghost use Rattle.section_text.specs.Adding.{FaultIs};

@@ -1,6 +1,6 @@
 //! Circuits: their wires, their gates, and their values.
 ghost use Rattle.std.specs.Prelude.{◌≡◌, ◌<◌, ◌≤◌, Some, length, take, slice_get, IfOk, IfSome};
-ghost use Rattle.circuit.specs.Rules.{defined};
+ghost use Rattle.circuit.specs.Entries.{defined};
 ghost use Rattle.circuit.specs.Bridge.{AreValues, circuit_of, input_count, input_names, is_input, netlist_of, read};
 ghost use Rattle.circuit.specs.Meaning.{AreForward, AreOrdered, wire_of, wires};
 ghost use Rattle.circuit.specs.Wiring.{gate_of};

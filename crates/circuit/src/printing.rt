@@ -1,8 +1,8 @@
 //! The text of a circuit.
 ghost use Rattle.std.specs.Prelude.{◌≡◌, length, ◌++◌, OnOk, IfOk};
 ghost use Rattle.std.specs.List.{flat_map};
+ghost use Rattle.circuit.specs.Entries.{defined};
 ghost use Rattle.section_text.specs.Spelling.{spaced};
-ghost use Rattle.circuit.specs.Rules.{defined};
 ghost use Rattle.circuit.specs.Bridge.{netlist_of};
 ghost use Rattle.circuit.specs.Meaning.{wires};
 ghost use Rattle.circuit.specs.Text.{value_line, value_lines, gate_word, gate_number, first_word, more_words, entry_text, circuit_text};

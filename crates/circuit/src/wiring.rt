@@ -1,8 +1,9 @@
 //! Gates by the numbers of their wires, and the values of wires, gate after gate.
 ghost use Rattle.std.specs.Prelude.{◌≡◌, ◌≤◌, ◌++◌, Bool, List, Some, map, length, take, option_map, OnOk, OnErr, IfOk};
 ghost use Rattle.std.specs.List.{range_with_len};
+ghost use Rattle.circuit.specs.Meaning.{number};
 ghost use Rattle.circuit.specs.Gates.{row, rule_of, uses};
-ghost use Rattle.circuit.specs.Bridge.{read, number};
+ghost use Rattle.circuit.specs.Bridge.{read};
 ghost use Rattle.circuit.specs.Evaluate.{evaluate};
 ghost use Rattle.circuit.specs.Wiring.{gate_of, gate_at};
 

@@ -1,89 +1,18 @@
 -- The design that a text says.
-use Rattle.std.proofs.Common.{◌≡◌, ℕ, suc, ◌+◌, List, [], ◌∷◌, ◌++◌, length, map, take, drop, Option, Some, None, Result, Ok, refl, sym, ap, ap₂, ◌∙◌, append_assoc, take-append-drop, arith}
-use Rattle.std.proofs.lemmas.List.{append-nil, length-map, map-append}
-use Rattle.std.proofs.Math.Seq.{drop-append_seam}
-use Rattle.section_text.specs.Words.{lines_of, words_of}
-use Rattle.section_text.specs.Section.{Grammar, unless, line_after, header_line, section_of, body_of}
+use Rattle.std.proofs.Common.{◌≡◌, ℕ, ◌+◌, List, ◌++◌, length, take, drop, Option, Ok, sym, ap, ap₂, ◌∙◌, take-append-drop}
+use Rattle.section_text.specs.Words.{lines_of}
+use Rattle.section_text.specs.Section.{section_of}
 use Rattle.section_text.specs.Ports.{Named}
-use Rattle.section_text.specs.declared.section.Form.{Form}
-use Rattle.section_text.specs.declared.section.Form.TheVariants.{Header, Item, End}
-use Rattle.section_text.specs.declared.fault.Refusal.{Refusal}
+use Rattle.section_text.proofs.SaidSections.{one_section, section_said}
 use Rattle.circuit.specs.Forms.{form_of as circuit_form}
 use Rattle.circuit.specs.Grammars.{circuit_grammar}
 use Rattle.circuit.specs.declared.entry.Entry.{Entry}
 use Rattle.pattern.specs.Grammars.{layout_grammar, layout_value}
 use Rattle.pattern.specs.Forms.{form_of as layout_form}
-use Rattle.pattern.specs.Layout.{Pattern}
-use Rattle.pattern.specs.Lines.{parts_of}
-use Rattle.headline.specs.Design.{IsSection, SaysDesign}
+use Rattle.pattern.specs.Layout.{Pattern, parts_of}
+use Rattle.headline.specs.Design.{SaysDesign}
 use Rattle.headline.specs.Laws.{SaysOneDesign}
 use Rattle.headline.proofs.OneAnswer.{one_layout}
-
--- ---- what was read is a section
-
-module _ {H I : Type 0} (g : Grammar H I) where
-  -- the items, and the end
-  abbrev items_said : List I → List (Option (Form H I))
-  items_said items = map (λ i. Some (Item i)) items ++ Some End ∷ []
-
-  record BodySaid (before : List I) (ls : List (List ℕ)) (h h' : H) (rows : List I) : Type 0 where
-    pub more : List I
-    pub rows_are : rows ≡ before ++ more
-    pub same : h' ≡ h
-    pub said : map (λ l. g.form (words_of l)) (take (length more + 1) ls) ≡ items_said more
-
-  unless_ok : (n : ℕ) (o : Option ℕ) (r : Result (H × List I) Refusal) (y : H × List I) → unless n o r ≡ Ok y → r ≡ Ok y
-  unless_ok n None r y e = e
-  unless_ok n (Some code) r y e = absurd cc
-
-  ok_is : (x y : H × List I) → ◌≡◌ {A = Result (H × List I) Refusal} (Ok x) (Ok y) → x ≡ y
-  ok_is x y e = cc
-
-  one_more : (l : List ℕ) (ls : List (List ℕ)) (k : ℕ) → map (λ l. g.form (words_of l)) (take (suc k + 1) (l ∷ ls)) ≡ g.form (words_of l) ∷ map (λ l. g.form (words_of l)) (take (k + 1) ls)
-  one_more l ls k = let count : suc k + 1 ≡ suc (k + 1) = omega arith in ap (λ (n : ℕ). map (λ l. g.form (words_of l)) (take n (l ∷ ls))) count
-
-  line_said : (l : List ℕ) (ls : List (List ℕ)) (h : H) (before : List I) (n : ℕ) (h' : H) (rows : List I) (o : Option (Form H I)) → g.form (words_of l) ≡ o
-      → line_after g h before n (λ i. body_of g h (before ++ i ∷ []) (n + 1) ls) o ≡ Ok (h', rows)
-      → ((i : I) → body_of g h (before ++ i ∷ []) (n + 1) ls ≡ Ok (h', rows) → BodySaid (before ++ i ∷ []) ls h h' rows) → BodySaid before (l ∷ ls) h h' rows
-  line_said l ls h before n h' rows None f e rec = absurd cc
-  line_said l ls h before n h' rows (Some (Header k)) f e rec = absurd cc
-  line_said l ls h before n h' rows (Some (Item i)) f e rec =
-      let t = rec i (unless_ok n (g.item_fault h before i) (body_of g h (before ++ i ∷ []) (n + 1) ls) (h', rows) e) in
-      record {
-        more = i ∷ t.more;
-        rows_are = t.rows_are ∙ append_assoc before (i ∷ []) t.more;
-        same = t.same;
-        said = one_more l ls (length t.more) ∙ ap₂ (λ a b. a ∷ b) f t.said;
-      }
-  line_said l ls h before n h' rows (Some End) f e rec =
-      let are = ok_is (h, before) (h', rows) (unless_ok n (g.end_fault h before) (Ok (h, before)) (h', rows) e) in
-      record {
-        more = [];
-        rows_are = sym (ap (λ (p : H × List I). p.1) are) ∙ sym (append-nil before);
-        same = sym (ap (λ (p : H × List I). p.0) are);
-        said = ap (λ a. a ∷ []) f;
-      }
-
-  body_said : (ls : List (List ℕ)) (h : H) (before : List I) (n : ℕ) (h' : H) (rows : List I) → body_of g h before n ls ≡ Ok (h', rows) → BodySaid before ls h h' rows
-  unfolding body_of
-  body_said [] h before n h' rows e = absurd cc
-  body_said (l ∷ ls) h before n h' rows e = line_said l ls h before n h' rows (g.form (words_of l)) refl e (λ i. body_said ls h (before ++ i ∷ []) (n + 1) h' rows)
-
-  header_said : (l : List ℕ) (ls : List (List ℕ)) (n : ℕ) (h : H) (rows : List I) (o : Option (Form H I)) → g.form (words_of l) ≡ o
-      → header_line g n (λ k. body_of g k [] (n + 1) ls) o ≡ Ok (h, rows) → IsSection g.form (take (length rows + 2) (l ∷ ls)) h rows
-  header_said l ls n h rows None f e = absurd cc
-  header_said l ls n h rows (Some (Item i)) f e = absurd cc
-  header_said l ls n h rows (Some End) f e = absurd cc
-  header_said l ls n h rows (Some (Header k)) f e =
-      let t = body_said ls k [] (n + 1) h rows (unless_ok n (g.header_fault k) (body_of g k [] (n + 1) ls) (h, rows) e) in
-      let count : length rows + 2 ≡ suc (length t.more + 1) = omega (arith, ap length t.rows_are) in
-      ap (λ (m : ℕ). map (λ l. g.form (words_of l)) (take m (l ∷ ls))) count
-      ∙ ap₂ (λ a b. a ∷ b) (f ∙ ap (λ j. Some (Header j)) (sym t.same)) (t.said ∙ ap items_said (sym t.rows_are))
-
-  pub section_said : (n : ℕ) (ls : List (List ℕ)) (h : H) (rows : List I) → section_of g n ls ≡ Ok (h, rows) → IsSection g.form (take (length rows + 2) ls) h rows
-  unfolding section_of
-  section_said n [] h rows e = absurd cc
-  section_said n (l ∷ ls) h rows e = header_said l ls n h rows (g.form (words_of l)) refl e
 
 -- ---- the two sections of a design
 
@@ -105,51 +34,6 @@ design_said text circuit named n layout first second =
     }
 
 -- ---- a text says one design
-
-module _ {H I : Type 0} where
-  abbrev said : List I → List (Option (Form H I))
-  said items = map (λ i. Some (Item i)) items ++ Some End ∷ []
-
-  same_items : (xs ys : List I) (more more' : List (Option (Form H I))) → said xs ++ more ≡ said ys ++ more' → xs ≡ ys
-  same_items [] [] more more' e = refl
-  same_items [] (y ∷ ys) more more' e = absurd cc
-  same_items (x ∷ xs) [] more more' e = absurd cc
-  same_items (x ∷ xs) (y ∷ ys) more more' e =
-      let heads : x ≡ y = cc in
-      let tails : said xs ++ more ≡ said ys ++ more' = cc in
-      ap₂ (λ a b. a ∷ b) heads (same_items xs ys more more' tails)
-
-  same_header : (h k : H) (xs ys : List I) (more more' : List (Option (Form H I))) → (Some (Header h) ∷ said xs) ++ more ≡ (Some (Header k) ∷ said ys) ++ more' → (h ≡ k) × (xs ≡ ys)
-  same_header h k xs ys more more' e =
-      let heads : h ≡ k = cc in
-      let tails : said xs ++ more ≡ said ys ++ more' = cc in
-      (heads, same_items xs ys more more' tails)
-
-  module _ (form : List (List ℕ) → Option (Form H I)) where
-    abbrev forms : List (List ℕ) → List (Option (Form H I))
-    forms ls = map (λ l. form (words_of l)) ls
-
-    record OneSection (h k : H) (xs ys : List I) (rest rest' : List (List ℕ)) : Type 0 where
-      pub header : h ≡ k
-      pub items : xs ≡ ys
-      pub others : rest ≡ rest'
-
-    headed : H → List I → List (Option (Form H I))
-    headed j zs = Some (Header j) ∷ said zs
-
-    -- two sections at the head of the same lines
-    one_section : (a b rest rest' : List (List ℕ)) (h k : H) (xs ys : List I) → a ++ rest ≡ b ++ rest' → IsSection form a h xs → IsSection form b k ys → OneSection h k xs ys rest rest'
-    unfolding headed
-    one_section a b rest rest' h k xs ys e is is' =
-        let both = same_header h k xs ys (forms rest) (forms rest')
-        (ap (λ fs. fs ++ forms rest) (sym is) ∙ sym (map-append _ a rest) ∙ ap forms e ∙ map-append _ b rest' ∙ ap (λ fs. fs ++ forms rest') is') in
-        let long : length a ≡ length b =
-        sym (length-map a (λ l. form (words_of l))) ∙ ap length is ∙ ap₂ (λ (j : H) (zs : List I). length (headed j zs)) both.0 both.1 ∙ sym (ap length is') ∙ length-map b (λ l. form (words_of l)) in
-        record {
-          header = both.0;
-          items = both.1;
-          others = sym (drop-append_seam a rest) ∙ ap₂ drop long e ∙ drop-append_seam b rest';
-        }
 
 pub one_design : SaysOneDesign
 one_design text circuit circuit' layout layout' says says' =

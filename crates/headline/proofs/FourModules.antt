@@ -12,10 +12,10 @@ use Rattle.circuit.specs.Forms as circuit_forms
 use Rattle.circuit.specs.Rules as circuit_rules
 use Rattle.circuit.specs.Bridge as bridge
 use Rattle.circuit.specs.Meaning as meaning
-use Rattle.circuit.specs.Bridge.{circuit_of, netlist_of, number, read}
+use Rattle.circuit.specs.Bridge.{circuit_of, netlist_of, read}
 use Rattle.circuit.specs.Gates.{row}
 use Rattle.circuit.specs.Gates.{Interact as Interacts}
-use Rattle.circuit.specs.Meaning.{AreOrdered, Gate as NetGate, HasRow, Valuation, place_of, wires_after}
+use Rattle.circuit.specs.Meaning.{AreOrdered, Gate as NetGate, HasRow, Valuation, place_of, wires_after, number}
 use Rattle.circuit.specs.declared.entry.Entry.{Entry as CircuitLine}
 use Rattle.circuit.specs.declared.entry.GateKind.TheVariants.{Interact}
 use Rattle.circuit.specs.declared.entry.Kind.TheVariants.{Input, Gate, Output}
@@ -26,7 +26,7 @@ use Rattle.pattern.specs.Layout.{Pattern, rectangle_cells}
 use Rattle.pattern.specs.declared.parts.Part.{Part}
 use Rattle.pattern.specs.declared.parts.Part.TheVariants.{In, Out}
 use Rattle.pattern.specs.declared.parts.Port.{Port}
-use Rattle.pattern.specs.declared.parts.Size.{Size}
+use Rattle.pattern.specs.declared.parts.Extent.{Extent}
 use Rattle.module_box.specs.Boxes as boxes
 use Rattle.module_box.specs.Moments.{cell_cmp}
 use Rattle.module_box.specs.Boxes.{in_box, in_halo, in_ring, some_neighbour}
@@ -81,7 +81,7 @@ circuit =
     ∷ record { kind = Output; ins = codes "c" ∷ []; outs = [] }
     ∷ record { kind = Output; ins = codes "d" ∷ []; outs = [] } ∷ []
 
-abbrev pub size : Size
+abbrev pub size : Extent
 size = record { w = 8; h = 8; steps = 3 }
 
 abbrev port_p : Port
@@ -142,7 +142,7 @@ abbrev pub bundle : Bundle
 bundle = record { circuit = circuit; size = size; parts = parts; version = 1; entries = lines_in first ++ (lines_in second ++ (lines_in third ++ lines_in fourth)) }
 
 pub reads : bundle_of four_modules ≡ Ok bundle
-unfolding four_modules bundle_of words.lines_of words.rest_of words.number_of words.name_of words.number_at words.name_at words.names_at words.is_at words.lone words.lone_number words.lone_name section.section_of section.body_of circuit_forms.form_of circuit_forms.gate_entry circuit_forms.gate_names circuit_forms.gate_kind circuit_forms.bit_at circuit_rules.add_fault bridge.number meaning.place_of layout_forms.form_of layout_forms.cell_from layout_forms.lone_cell layout_forms.named_cell layout_forms.port_of layout_forms.size_of layout_forms.sides_and_steps layout_rules.size_fault layout_rules.limit_fault layout_rules.rank_of layout_rules.is_late layout_rules.order_fault layout_rules.name_fault layout_rules.cells_of layout_rules.is_inside layout_rules.begins layout_rules.ends layout_rules.begun layout_rules.ended layout_rules.is_taken layout_rules.cell_fault layout_rules.line_fault layout_rules.part_fault layout_rules.missing_fault layouts.rectangle_cells in_span boxes.in_box boxes.some_neighbour boxes.in_ring boxes.in_halo entries.change_last entries.last_of entries.add_line entries.modules_of forms.corner_and_sides forms.area_of forms.time_at forms.signal_at forms.timed_cell forms.border_of forms.form_of orders.rank_of orders.number_of orders.cell_of orders.line_cmp orders.is_cut orders.may_precede orders.may_follow rules.lacks_port rules.box_fault rules.module_fault rules.cut_fault rules.are_new rules.gate_fault rules.use_fault rules.is_time rules.is_edge_place rules.is_halo_place rules.signal_fault rules.border_fault rules.entry_fault rules.end_fault cell_cmp
+unfolding four_modules bundle_of words.lines_of words.rest_of words.number_of words.name_of words.number_at words.name_at words.names_at words.is_word_at words.lone words.lone_number words.lone_name section.section_of section.body_of circuit_forms.form_of circuit_forms.gate_entry circuit_forms.gate_names circuit_forms.gate_kind circuit_forms.bit_at circuit_rules.add_fault bridge.number meaning.place_of layout_forms.form_of layout_forms.cell_from layout_forms.lone_cell layout_forms.named_cell layout_forms.port_of layout_forms.size_of layout_forms.sides_and_steps layout_rules.size_fault layout_rules.limit_fault layout_rules.rank_of layout_rules.is_late layout_rules.order_fault layout_rules.name_fault layout_rules.cells_of layout_rules.is_inside layout_rules.begins layout_rules.ends layout_rules.begun layout_rules.ended layout_rules.is_taken layout_rules.cell_fault layout_rules.line_fault layout_rules.part_fault layout_rules.missing_fault layouts.rectangle_cells in_span boxes.in_box boxes.some_neighbour boxes.in_ring boxes.in_halo entries.change_last entries.last_of entries.add_line entries.modules_of forms.corner_and_sides forms.area_of forms.time_at forms.signal_at forms.timed_cell forms.border_of forms.form_of orders.rank_of orders.number_of orders.cell_of orders.line_cmp orders.is_cut orders.may_precede orders.may_follow rules.lacks_port rules.box_fault rules.module_fault rules.cut_fault rules.are_new rules.gate_fault rules.use_fault rules.is_time rules.is_edge_place rules.is_halo_place rules.signal_fault rules.border_fault rules.entry_fault rules.end_fault cell_cmp
 reads = refl
 
 -- ---- the jobs

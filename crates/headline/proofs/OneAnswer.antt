@@ -13,14 +13,13 @@ use Rattle.pattern.specs.declared.parts.Rectangle.{Rectangle}
 use Rattle.pattern.specs.declared.parts.Port.{Port}
 use Rattle.pattern.specs.declared.parts.Part.{Part}
 use Rattle.pattern.specs.declared.parts.Part.TheVariants.{Mirror, Ball, In, Out, Waste}
-use Rattle.pattern.specs.declared.parts.Size.{Size}
+use Rattle.pattern.specs.declared.parts.Extent.{Extent}
 use Rattle.pattern.specs.declared.run.RunEnd.{RunEnd}
 use Rattle.pattern.specs.declared.run.RunEnd.TheVariants.{Cells, LeftAt}
-use Rattle.pattern.specs.Layout.{Pattern}
+use Rattle.pattern.specs.Layout.{Pattern, parts_of, StaysInside}
 use Rattle.section_text.specs.Words.{has}
-use Rattle.pattern.specs.Lines.{parts_of}
 use Rattle.pattern.specs.Grammars.{layout_value}
-use Rattle.pattern.specs.Run.{IsRunEnd, StaysInside, GoesOutside}
+use Rattle.pattern.specs.Run.{IsRunEnd, GoesOutside}
 use Rattle.answers.specs.declared.outcome.Outcome.{Outcome}
 use Rattle.answers.specs.RunText.{IsRunOf, RunAsked, SaysRunEnd, cell_line, end_text, end_outcome, run_asked}
 use Rattle.answers.specs.Answers.{Answered}
@@ -108,8 +107,8 @@ module _ (p : Pattern) where
 
 pub one_layout : (p q : Pattern) → layout_value p ≡ layout_value q → p ≡ q
 one_layout p q e =
-    let s = ap (λ (v : Size × List Part). v.0) e in
-    let parts = ap (λ (v : Size × List Part). v.1) e in
+    let s = ap (λ (v : Extent × List Part). v.0) e in
+    let parts = ap (λ (v : Extent × List Part). v.1) e in
     let m = sym (mirrors_are p) ∙ ap (filter_map mirror_of) parts ∙ mirrors_are q in
     let b = sym (balls_are p) ∙ ap (filter_map ball_of) parts ∙ balls_are q in
     let i = sym (ins_are p) ∙ ap (filter_map in_of) parts ∙ ins_are q in
@@ -122,7 +121,7 @@ one_layout p q e =
 abbrev SameEnd : RunEnd → RunEnd → Type 0
 SameEnd e e' = (end_text e ≡ end_text e') × (end_outcome e ≡ end_outcome e')
 
-clash : (s : Size) (state : State) → StaysInside s state → GoesOutside s state → ⊥
+clash : (s : Extent) (state : State) → StaysInside s state → GoesOutside s state → ⊥
 clash s state stays goes = true≢false (sym (stays goes.x goes.y goes.lives) ∙ goes.outside)
 
 one_end : (p : Pattern) (on : List ℕ → Bool) (e e' : RunEnd) → IsRunEnd p on e → IsRunEnd p on e' → SameEnd e e'

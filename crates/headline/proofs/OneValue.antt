@@ -1,9 +1,9 @@
 -- A circuit has one answer.
 use Rattle.std.proofs.Common.{◌≡◌, ℕ, zero, suc, ◌<◌, Bool, false, List, [], ◌∷◌, length, refl, sym, ap, ap₂, ◌∙◌, arith}
 use Rattle.std.specs.List.{slice_index_or}
+use Rattle.circuit.specs.Entries.{defined}
 use Rattle.circuit.specs.Bridge.{AreValues, netlist_of, read}
 use Rattle.circuit.specs.Meaning.{Netlist, Valuation}
-use Rattle.circuit.specs.Rules.{defined}
 use Rattle.circuit.specs.Text.{value_lines}
 use Rattle.answers.specs.declared.outcome.Outcome.{Outcome}
 use Rattle.answers.specs.ValueText.{IsValueOf, ValueAsked, SaysValues, value_asked}

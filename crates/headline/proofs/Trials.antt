@@ -3,9 +3,10 @@ use Rattle.std.proofs.Common.{◌≡◌, ℕ, zero, suc, ◌<◌, ◌%◌, eqb, 
 use Rattle.std.specs.Prelude.{ℤ, slice_get}
 use Rattle.std.specs.List.{list_all}
 use Rattle.std.proofs.lemmas.Bool.{and_parts, eqb-true, false≢true}
+use Rattle.bbm_rule.specs.Plane.{is_at}
 use Rattle.bbm_rule.specs.declared.block.Cell.{Cell}
 use Rattle.circuit.specs.Meaning.{AreOrdered, Valuation}
-use Rattle.pattern.specs.Layout.{in_cells, is_at}
+use Rattle.pattern.specs.Layout.{in_cells}
 use Rattle.module_box.specs.Boxes.{in_box, in_halo, in_ring}
 use Rattle.module_box.specs.LocalValues.{IsLocalValuation}
 use Rattle.module_box.specs.Schedules.{signal_at}

@@ -32,7 +32,7 @@ use Rattle.pattern.specs.Grammars.{layout_grammar, layout_value}
 use Rattle.pattern.specs.Layout.{Pattern}
 use Rattle.pattern.specs.Lines as lines
 use Rattle.pattern.specs.declared.parts.Part.{Part}
-use Rattle.pattern.specs.declared.parts.Size.{Size}
+use Rattle.pattern.specs.declared.parts.Extent.{Extent}
 use Rattle.pattern.proofs.Named.{faultless_named}
 use Rattle.section_text.specs.Ports.{Named}
 use Rattle.certificate.specs.Grammars.{CertState, certificate_grammar, setting_of}
@@ -45,7 +45,8 @@ use Rattle.audit_core.specs.declared.verdict.Verdict.{Verdict}
 use Rattle.audit_core.specs.declared.verdict.Verdict.TheVariants as verdict
 use Rattle.audit_core.proofs.YesMeansCorrect.{yes_means-correct}
 use Rattle.answers.specs.Answers.{Answered}
-use Rattle.answers.specs.BundleText.{Bundle, bundle_of, setting_by}
+use Rattle.pattern.specs.FromLines.{pattern_of}
+use Rattle.answers.specs.BundleText.{Bundle, bundle_of}
 use Rattle.answers.specs.CheckText.{IsReportOf, SaysReport, verdict_outcome}
 use Rattle.headline.specs.Design.{SaysDesign}
 use Rattle.headline.specs.Headline.{GivesRight, IsRight, SaysYes, YesIsRight}
@@ -130,7 +131,7 @@ circuit_good n (l ∷ ls) h rows e = header_good ls n rows (form_of (words_of l)
 
 -- ---- and so are those of a layout
 
-laid_out : (ports : Option Named) (s : Size) (before parts : List Part) → AreFaultless (layout_grammar ports) s before parts → lines.AreGoodAfter s before parts
+laid_out : (ports : Option Named) (s : Extent) (before parts : List Part) → AreFaultless (layout_grammar ports) s before parts → lines.AreGoodAfter s before parts
 unfolding lines.part_fault lines.line_fault
 laid_out ports s before [] good = tt
 laid_out ports s before (part ∷ parts) good =
@@ -189,7 +190,7 @@ unfolding bundle_of
 bundle_good text b e =
     let c = went_on (section_of circuit_grammar 0 (lines_of text)) _ b e in
     let l = went_on (section_of (layout_grammar (Some (port_names_of c.items))) _ _) _ b c.then in
-    let k = went_on (section_of (certificate_grammar (setting_by c.items l.header l.items)) _ _) _ b l.then in
+    let k = went_on (section_of (certificate_grammar (setting_of c.items (pattern_of l.header l.items))) _ _) _ b l.then in
     subst (IsReadBundle text) (is_finished _ _ _ _ b k.then) (record {
       circuit = circuit_good 0 (lines_of text) c.header c.items c.was;
       layout = read_faultless (layout_grammar (Some (port_names_of c.items))) _ _ l.header l.items l.was;
@@ -203,11 +204,11 @@ unfolding bundle_of
 certificate_faultless text b p e same =
     let c = went_on (section_of circuit_grammar 0 (lines_of text)) _ b e in
     let l = went_on (section_of (layout_grammar (Some (port_names_of c.items))) _ _) _ b c.then in
-    let k = went_on (section_of (certificate_grammar (setting_by c.items l.header l.items)) _ _) _ b l.then in
+    let k = went_on (section_of (certificate_grammar (setting_of c.items (pattern_of l.header l.items))) _ _) _ b l.then in
     let whole = is_finished _ _ _ _ b k.then in
-    let P : Bundle → Type 0 = λ b. IsFaultless (certificate_grammar (setting_by b.circuit b.size b.parts)) b.version b.entries in
-    let good : P b = subst P whole (read_faultless (certificate_grammar (setting_by c.items l.header l.items)) _ _ k.header k.items k.was) in
-    let Q : Size × List Part → Type 0 = λ q. IsFaultless (certificate_grammar (setting_by b.circuit q.0 q.1)) b.version b.entries in
+    let P : Bundle → Type 0 = λ b. IsFaultless (certificate_grammar (setting_of b.circuit (pattern_of b.size b.parts))) b.version b.entries in
+    let good : P b = subst P whole (read_faultless (certificate_grammar (setting_of c.items (pattern_of l.header l.items))) _ _ k.header k.items k.was) in
+    let Q : Extent × List Part → Type 0 = λ q. IsFaultless (certificate_grammar (setting_of b.circuit (pattern_of q.0 q.1))) b.version b.entries in
     subst (λ g. IsFaultless (certificate_grammar g) b.version b.entries) (same_setting b.circuit p) (subst Q (sym same) good)
 
 -- ---- the design of a text that is not refused
@@ -221,7 +222,7 @@ own_design text b output outcome circuit layout reads says said =
     let p : Pattern = c.layout in
     let same = says.its_own in
     let whole : IsFaultless (layout_grammar (Some (port_names_of b.circuit))) p.size (lines.parts_of p) =
-    subst (λ (q : Size × List Part). IsFaultless (layout_grammar (Some (port_names_of b.circuit))) q.0 q.1) (sym same.layout) good.layout in
+    subst (λ (q : Extent × List Part). IsFaultless (layout_grammar (Some (port_names_of b.circuit))) q.0 q.1) (sym same.layout) good.layout in
     let begins = good.begins p same.layout in
     let one = one_design text b.circuit circuit p layout (good.says p same.layout) said in
     subst (λ (cs : List CircuitLine). IsGoodDesign text cs layout) one.0 (subst (IsGoodDesign text b.circuit) one.1 (record {
@@ -254,7 +255,7 @@ judged_yes text b output outcome reads says is =
     let same = says.its_own in
     let circuit : AreGood c.circuit = subst AreGood (sym same.circuit) good.circuit in
     let whole : IsFaultless (layout_grammar (Some (port_names_of c.circuit))) c.layout.size (lines.parts_of c.layout) =
-    subst (λ (q : Size × List Part). IsFaultless (layout_grammar (Some (port_names_of c.circuit))) q.0 q.1) (sym same.layout)
+    subst (λ (q : Extent × List Part). IsFaultless (layout_grammar (Some (port_names_of c.circuit))) q.0 q.1) (sym same.layout)
     (subst (λ (cs : List CircuitLine). IsFaultless (layout_grammar (Some (port_names_of cs))) b.size b.parts) (sym same.circuit) good.layout) in
     let gates = gates_are_ordered c.circuit circuit in
     let v = says.is_verdict in

@@ -3,9 +3,10 @@ use Rattle.std.proofs.Common.{◌≡◌, ℕ, zero, suc, Bool, true, false, List
 use Rattle.std.specs.Prelude.{ℤ, slice_get, unwrap_or, if◌then◌else◌}
 use Rattle.std.specs.List.{All}
 use Rattle.std.proofs.lemmas.Bool.{cases_Bool, cond-false}
+use Rattle.bbm_rule.specs.Plane.{is_at}
 use Rattle.circuit.specs.Meaning.{wires}
 use Rattle.module_box.specs.Boxes.{in_box}
-use Rattle.module_box.specs.Schedules.{Signals, is_at, is_then, held_at, event_at, signal_at}
+use Rattle.module_box.specs.Schedules.{Signals, is_then, held_at, event_at, signal_at}
 use Rattle.module_box.specs.declared.schedules.Event.{Event}
 use Rattle.module_box.specs.declared.schedules.Held.{Held}
 use Rattle.module_box.specs.declared.schedules.Signal.{Signal}

@@ -204,7 +204,7 @@ fn many_balls(rt: HostRuntime) -> Result<(), Fail> {
 
 #[test]
 fn cells_of_a_size(rt: HostRuntime) {
-    let size = Size {
+    let size = Extent {
         w: 16,
         h: 10,
         steps: 7,

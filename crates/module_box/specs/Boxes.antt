@@ -1,12 +1,12 @@
 -- Boxes of cells, their rings and halos, and the boxes that tile a rectangle
 use Rattle.std.specs.Prelude.{◌≡◌, ℕ, ℤ, pos, ◌+ℤ◌, ◌-ℤ◌, ◌%◌, ◌&&◌, ◌||◌, not, List, slice_get, Some, IsTrue}
 use Rattle.bbm_rule.specs.Plane.{State}
-use Rattle.bbm_rule.specs.Spans.{in_span}
+use Rattle.bbm_rule.specs.Spans.{in_area}
 use Rattle.module_box.specs.declared.boxes.Box2.{Box2}
 
 -- whether the cell (x, y) is in the box
 unfoldable pub in_box : Box2 → State
-in_box b x y = in_span b.x b.w x && in_span b.y b.h y
+in_box b x y = in_area b.x b.y b.w b.h x y
 
 -- whether one of the eight neighbours of a cell is in a set of cells
 unfoldable pub some_neighbour : State → State

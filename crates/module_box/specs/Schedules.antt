@@ -2,7 +2,7 @@
 use Rattle.std.specs.Prelude.{◌≡◌, ℕ, ℤ, ◌<◌, ◌&&◌, ◌==◌, Bool, if◌then◌else◌, List, [], ◌∷◌, Option, Some, None, unwrap_or, slice_get}
 use Rattle.std.specs.declared.cmp.Ordering.{Ordering}
 use Rattle.std.specs.declared.cmp.Ordering.TheVariants.{Less}
-use Rattle.std.specs.Ordering.{int_eq}
+use Rattle.bbm_rule.specs.Plane.{is_at}
 use Rattle.bbm_rule.specs.declared.block.Cell.{Cell}
 use Rattle.module_box.specs.declared.schedules.Moment.{Moment}
 use Rattle.module_box.specs.declared.schedules.Held.{Held}
@@ -14,10 +14,6 @@ use Rattle.module_box.specs.declared.schedules.Signal.TheVariants.{Zero}
 pub record Signals : Type 0 where
   pub held : List Held
   pub events : List Event
-
--- whether the cell is (x, y)
-abbrev pub is_at : Cell → ℤ → ℤ → Bool
-is_at c x y = int_eq c.x x && int_eq c.y y
 
 -- whether the moment is time t at the cell (x, y)
 abbrev pub is_then : Moment → ℕ → ℤ → ℤ → Bool

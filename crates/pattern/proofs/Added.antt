@@ -8,11 +8,11 @@ use Rattle.bbm_rule.specs.declared.block.Cell.{Cell}
 use Rattle.section_text.specs.Codes.{code_where}
 use Rattle.pattern.specs.declared.parts.Rectangle.{Rectangle}
 use Rattle.pattern.specs.declared.parts.Port.{Port}
-use Rattle.pattern.specs.declared.parts.Size.{Size}
+use Rattle.pattern.specs.declared.parts.Extent.{Extent}
 use Rattle.pattern.specs.declared.parts.Part.{Part}
 use Rattle.pattern.specs.declared.parts.Part.TheVariants.{Mirror, Ball, In, Out, Waste}
-use Rattle.pattern.specs.Layout.{Pattern}
-use Rattle.pattern.specs.Lines.{parts_of, is_late, order_fault, limit_fault, cell_fault, begins, ends, holds, begun, ended, AreGoodAfter}
+use Rattle.pattern.specs.Layout.{Pattern, parts_of}
+use Rattle.pattern.specs.Lines.{is_late, order_fault, limit_fault, cell_fault, begins, ends, holds, begun, ended, AreGoodAfter}
 use Rattle.pattern.proofs.Orders.{some, late_mirror, late_ball, late_in, late_out}
 
 -- no code: the test was not failed
@@ -88,12 +88,12 @@ module _ (p v : Pattern) (same : v ≡ p) (part : Part) (follows : order_fault (
 
 -- ---- one more good line
 
-good_push : (s : Size) (before parts : List Part) (part : Part) → AreGoodAfter s before parts → limit_fault part ≡ None → cell_fault s (before ++ parts) part ≡ None → AreGoodAfter s before (parts ++ part ∷ [])
+good_push : (s : Extent) (before parts : List Part) (part : Part) → AreGoodAfter s before parts → limit_fault part ≡ None → cell_fault s (before ++ parts) part ≡ None → AreGoodAfter s before (parts ++ part ∷ [])
 good_push s before [] part good limit cells = (limit, subst (λ (l : List Part). cell_fault s l part ≡ None) (append-nil before) cells, tt)
 good_push s before (q ∷ parts) part good limit cells =
     (good.0, good.1, good_push s (before ++ q ∷ []) parts part good.2 limit (subst (λ (l : List Part). cell_fault s l part ≡ None) (sym (append_assoc before (q ∷ []) parts)) cells))
 
-pub good_more : (s : Size) (p v : Pattern) (same : v ≡ p) (q : List Part) (part : Part) → AreGoodAfter s [] (parts_of p) → q ≡ parts_of v ++ part ∷ [] → limit_fault part ≡ None → cell_fault s (parts_of v) part ≡ None → AreGoodAfter s [] q
+pub good_more : (s : Extent) (p v : Pattern) (same : v ≡ p) (q : List Part) (part : Part) → AreGoodAfter s [] (parts_of p) → q ≡ parts_of v ++ part ∷ [] → limit_fault part ≡ None → cell_fault s (parts_of v) part ≡ None → AreGoodAfter s [] q
 good_more s p v same q part good more limit cells =
     subst (AreGoodAfter s []) (sym more) (good_push s [] (parts_of v) part (subst (λ (u : Pattern). AreGoodAfter s [] (parts_of u)) (sym same) good) limit cells)
 

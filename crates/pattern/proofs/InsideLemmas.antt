@@ -3,17 +3,18 @@ use Rattle.std.proofs.Common.{◌≡◌, ℕ, zero, suc, ◌+◌, ◌≤◌, ◌
 use Rattle.std.specs.List.{list_any, list_all}
 use Rattle.std.proofs.lemmas.Bool.Decides.{nat_tests, Decides-int_eq}
 use Rattle.std.proofs.lemmas.List.Folds.{list_all-append, list_all-map}
+use Rattle.bbm_rule.specs.Plane.{is_at}
 use Rattle.bbm_rule.specs.Spans.{in_span}
 use Rattle.bbm_rule.specs.declared.block.Cell.{Cell}
 use Rattle.section_text.specs.Codes.{code_where}
 use Rattle.pattern.specs.declared.parts.Rectangle.{Rectangle}
 use Rattle.pattern.specs.declared.parts.Port.{Port}
-use Rattle.pattern.specs.declared.parts.Size.{Size}
+use Rattle.pattern.specs.declared.parts.Extent.{Extent}
 use Rattle.pattern.specs.declared.parts.Part.{Part}
 use Rattle.pattern.specs.declared.parts.Part.TheVariants.{Mirror, Ball, In}
-use Rattle.pattern.specs.Layout.{Pattern, is_at, in_rectangle, in_layout, in_cells, in_rectangles, in_ports_on, start}
+use Rattle.pattern.specs.Layout.{Pattern, in_rectangle, in_layout, in_cells, in_rectangles, in_ports_on, start, parts_of}
 use Rattle.pattern.proofs.TakenLemmas.{mirror_fits}
-use Rattle.pattern.specs.Lines.{parts_of, size_fault, cell_fault, is_inside, is_taken, is_side, AreGoodAfter}
+use Rattle.pattern.specs.Lines.{size_fault, cell_fault, is_inside, is_taken, is_side, AreGoodAfter}
 
 and_left : (a b : Bool) → (a && b) ≡ true → a ≡ true
 and_left true b h = refl
@@ -37,7 +38,7 @@ no_code false n e = cc
 side_length : (n : ℕ) → is_side n ≡ true → IsSideLength n
 side_length n e = record { least = grind (arith, nat_tests); most = grind (arith, nat_tests); even = grind (arith, nat_tests) }
 
-pub size_sides : (s : Size) → size_fault s ≡ None → IsSideLength s.w × IsSideLength s.h
+pub size_sides : (s : Extent) → size_fault s ≡ None → IsSideLength s.w × IsSideLength s.h
 unfolding size_fault
 size_sides s e =
     let good : (is_side s.w && is_side s.h && _) ≡ true = no_code _ 2 e in
@@ -50,11 +51,11 @@ first_holds : (a b : Bool) → code_where (not a || b) 7 ≡ None → a ≡ true
 first_holds true b e = refl
 first_holds false b e = cc
 
-part_inside : (s : Size) (before : List Part) (part : Part) → cell_fault s before part ≡ None → is_inside s part ≡ true
+part_inside : (s : Extent) (before : List Part) (part : Part) → cell_fault s before part ≡ None → is_inside s part ≡ true
 unfolding cell_fault
 part_inside s before part e = first_holds (is_inside s part) (is_taken before part) e
 
-parts_inside : (s : Size) (before parts : List Part) → AreGoodAfter s before parts → list_all (is_inside s) parts ≡ true
+parts_inside : (s : Extent) (before parts : List Part) → AreGoodAfter s before parts → list_all (is_inside s) parts ≡ true
 parts_inside s before [] h = refl
 parts_inside s before (part ∷ parts) h = rw (part_inside s before part h.1, parts_inside s (before ++ part ∷ []) parts h.2) refl
 
@@ -76,7 +77,7 @@ begins_inside p h =
       ins = sym (list_all-map test In p.ins) ∙ and_left _ _ three;
     }
 
-pub mirrors_fit : (s : Size) (rs : List Rectangle) → list_all (λ r. is_inside s (Mirror r)) rs ≡ true → s.w ≤ 512 → s.h ≤ 512 → (k : ℕ) (d : Rectangle) → k < length rs → ((get_or rs k d).x + (get_or rs k d).w ≤ 512) × ((get_or rs k d).y + (get_or rs k d).h ≤ 512)
+pub mirrors_fit : (s : Extent) (rs : List Rectangle) → list_all (λ r. is_inside s (Mirror r)) rs ≡ true → s.w ≤ 512 → s.h ≤ 512 → (k : ℕ) (d : Rectangle) → k < length rs → ((get_or rs k d).x + (get_or rs k d).w ≤ 512) × ((get_or rs k d).y + (get_or rs k d).h ≤ 512)
 mirrors_fit s [] e w h k d lt = absurd (omega arith)
 mirrors_fit s (r ∷ rs) e w h zero d lt = let f = mirror_fits s r (and_left _ _ e) in (omega (arith, f.0), omega (arith, f.1))
 mirrors_fit s (r ∷ rs) e w h (suc k) d lt = mirrors_fit s rs (and_right _ _ e) w h k d (omega arith)
@@ -96,24 +97,24 @@ unfolding in_span
 span_within a n m (pos x) fits e = grind (arith, nat_tests)
 span_within a n m (negsuc x) fits e = cc
 
-rectangle_inside : (s : Size) (r : Rectangle) (x y : ℤ) → is_inside s (Mirror r) ≡ true → in_rectangle r x y ≡ true → in_layout s x y ≡ true
+rectangle_inside : (s : Extent) (r : Rectangle) (x y : ℤ) → is_inside s (Mirror r) ≡ true → in_rectangle r x y ≡ true → in_layout s x y ≡ true
 rectangle_inside s r x y e h =
     let f = mirror_fits s r e in
     let across : in_span 0 s.w x ≡ true = span_within r.x r.w s.w x f.0 (and_left _ _ h) in
     let down : in_span 0 s.h y ≡ true = span_within r.y r.h s.h y f.1 (and_right _ _ h) in
     rw (across, down) refl
 
-at_inside : (s : Size) (c : Cell) (x y : ℤ) → in_layout s c.x c.y ≡ true → is_at c x y ≡ true → in_layout s x y ≡ true
+at_inside : (s : Extent) (c : Cell) (x y : ℤ) → in_layout s c.x c.y ≡ true → is_at c x y ≡ true → in_layout s x y ≡ true
 at_inside s c x y e h =
     let across : c.x ≡ x = (Decides-int_eq c.x x).0 (and_left _ _ h) in
     let down : c.y ≡ y = (Decides-int_eq c.y y).0 (and_right _ _ h) in
     ap (λ (u : ℤ). in_layout s u y) (sym across) ∙ ap (λ (v : ℤ). in_layout s c.x v) (sym down) ∙ e
 
-ball_inside : (s : Size) (c : Cell) (x y : ℤ) → is_inside s (Ball c) ≡ true → is_at c x y ≡ true → in_layout s x y ≡ true
+ball_inside : (s : Extent) (c : Cell) (x y : ℤ) → is_inside s (Ball c) ≡ true → is_at c x y ≡ true → in_layout s x y ≡ true
 unfolding is_inside
 ball_inside s c x y e h = at_inside s c x y e h
 
-port_inside : (s : Size) (b : Bool) (q : Port) (x y : ℤ) → is_inside s (In q) ≡ true → (b && is_at q.cell x y) ≡ true → in_layout s x y ≡ true
+port_inside : (s : Extent) (b : Bool) (q : Port) (x y : ℤ) → is_inside s (In q) ≡ true → (b && is_at q.cell x y) ≡ true → in_layout s x y ≡ true
 unfolding is_inside
 port_inside s b q x y e h = at_inside s q.cell x y e (and_right _ _ h)
 

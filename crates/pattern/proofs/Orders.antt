@@ -8,8 +8,8 @@ use Rattle.pattern.specs.declared.parts.Rectangle.{Rectangle}
 use Rattle.pattern.specs.declared.parts.Port.{Port}
 use Rattle.pattern.specs.declared.parts.Part.{Part}
 use Rattle.pattern.specs.declared.parts.Part.TheVariants.{Mirror, Ball, In, Out, Waste}
-use Rattle.pattern.specs.Layout.{Pattern}
-use Rattle.pattern.specs.Lines.{parts_of, rank_of, is_late}
+use Rattle.pattern.specs.Layout.{Pattern, parts_of}
+use Rattle.pattern.specs.Lines.{rank_of, is_late}
 
 -- whether a list has an element
 abbrev pub some : {X : Type 0} → List X → Bool

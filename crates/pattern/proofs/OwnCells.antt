@@ -4,19 +4,19 @@ use Rattle.std.specs.Prelude.{slice_get}
 use Rattle.std.proofs.lemmas.Bool.{true≢false}
 use Rattle.std.proofs.lemmas.Option.{same_Some}
 use Rattle.std.proofs.lemmas.Bool.Decides.{Decides-int_eq}
-use Rattle.bbm_rule.specs.Plane.{State}
+use Rattle.bbm_rule.specs.Plane.{State, is_at}
 use Rattle.bbm_rule.specs.declared.block.Cell.{Cell}
 use Rattle.section_text.specs.Codes.{code_where}
 use Rattle.pattern.specs.declared.parts.Port.{Port}
-use Rattle.pattern.specs.declared.parts.Size.{Size}
+use Rattle.pattern.specs.declared.parts.Extent.{Extent}
 use Rattle.pattern.specs.declared.parts.Part.{Part}
 use Rattle.pattern.specs.declared.parts.Part.TheVariants.{Mirror, Ball, In, Out, Waste}
-use Rattle.pattern.specs.Layout.{Pattern, HaveOwnCells, is_at}
-use Rattle.pattern.specs.Lines.{parts_of, is_inside, is_taken, cell_fault, begins, ends, cells_of, begun, ended, AreGoodAfter}
+use Rattle.pattern.specs.Layout.{Pattern, HaveOwnCells, parts_of}
+use Rattle.pattern.specs.Lines.{is_inside, is_taken, cell_fault, begins, ends, cells_of, begun, ended, AreGoodAfter}
 use Rattle.pattern.proofs.Added.{no_code, begun_push, ended_push}
 
 -- the lines behind others are good after them
-good_behind : (s : Size) (before front back : List Part) → AreGoodAfter s before (front ++ back) → AreGoodAfter s (before ++ front) back
+good_behind : (s : Extent) (before front back : List Part) → AreGoodAfter s before (front ++ back) → AreGoodAfter s (before ++ front) back
 good_behind s before [] back good = subst (λ (l : List Part). AreGoodAfter s l back) (sym (append-nil before)) good
 good_behind s before (part ∷ front) back good = subst (λ (l : List Part). AreGoodAfter s l back) (append_assoc before (part ∷ []) front) (good_behind s (before ++ part ∷ []) front back good.2)
 
@@ -38,9 +38,9 @@ one_of b e = grind arith
 
 -- ports of one kind, each good after those before it, where `taken` are the cells that lines of their kind may not have
 module _ (make : Port → Part) (taken : List Part → State)
-    (is_free : (s : Size) (before : List Part) (p : Port) → cell_fault s before (make p) ≡ None → taken before p.cell.x p.cell.y ≡ false)
+    (is_free : (s : Extent) (before : List Part) (p : Port) → cell_fault s before (make p) ≡ None → taken before p.cell.x p.cell.y ≡ false)
     (one_more : (before : List Part) (p : Port) (x y : ℤ) → taken (before ++ make p ∷ []) x y ≡ (taken before x y || (is_at p.cell x y || false)))
-    (s : Size) (rest : List Part) where
+    (s : Extent) (rest : List Part) where
   free : (before : List Part) (ports : List Port) → AreGoodAfter s before (map make ports ++ rest) → (i : ℕ) (q : Port) → slice_get ports i ≡ Some q → taken before q.cell.x q.cell.y ≡ false
   free before [] good i q e = absurd cc
   free before (p ∷ ports) good zero q e = let same : p ≡ q = same_Some p q e in subst (λ (r : Port). taken before r.cell.x r.cell.y ≡ false) same (is_free s before p good.1)
@@ -60,11 +60,11 @@ module _ (make : Port → Part) (taken : List Part → State)
   own before (r ∷ ports) good (suc i) zero p q ei ej same = absurd (not_one before r ports good i p ei (ap (λ (k : Port). k.cell) (same_Some r q ej) ∙ sym same))
   own before (r ∷ ports) good (suc i) (suc j) p q ei ej same = ap (λ (n : ℕ). suc n) (own (before ++ make r ∷ []) ports good.2 i j p q ei ej same)
 
-in_free : (s : Size) (before : List Part) (p : Port) → cell_fault s before (In p) ≡ None → begun before p.cell.x p.cell.y ≡ false
+in_free : (s : Extent) (before : List Part) (p : Port) → cell_fault s before (In p) ≡ None → begun before p.cell.x p.cell.y ≡ false
 unfolding cell_fault is_taken cells_of begins
 in_free s before p e = one_of (begun before p.cell.x p.cell.y) (not_taken (is_inside s (In p)) _ e)
 
-out_free : (s : Size) (before : List Part) (p : Port) → cell_fault s before (Out p) ≡ None → ended before p.cell.x p.cell.y ≡ false
+out_free : (s : Extent) (before : List Part) (p : Port) → cell_fault s before (Out p) ≡ None → ended before p.cell.x p.cell.y ≡ false
 unfolding cell_fault is_taken cells_of begins
 out_free s before p e = one_of (ended before p.cell.x p.cell.y) (not_taken (is_inside s (Out p)) _ e)
 

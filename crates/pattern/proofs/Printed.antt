@@ -6,8 +6,7 @@ use Rattle.std.proofs.lemmas.Grind.{flat_map-append}
 use Rattle.std.proofs.lemmas.List.Folds.{flat_map-map}
 use Rattle.section_text.specs.Spelling.{line_text}
 use Rattle.pattern.specs.declared.parts.Part.TheVariants.{Mirror, Ball, In, Out, Waste}
-use Rattle.pattern.specs.Layout.{Pattern}
-use Rattle.pattern.specs.Lines.{parts_of}
+use Rattle.pattern.specs.Layout.{Pattern, parts_of}
 use Rattle.pattern.specs.Text.{cell_words, rectangle_words, port_words, size_words, part_text, layout_text}
 
 module _ (p : Pattern) where

@@ -4,10 +4,11 @@ use Rattle.std.specs.List.{flat_map, range_with_len}
 use Rattle.std.specs.Ordering.{int_eq}
 use Rattle.std.proofs.lemmas.Bool.Decides.{nat_tests}
 use Rattle.std.proofs.lemmas.List.Folds.{list_any-append}
+use Rattle.bbm_rule.specs.Plane.{is_at}
 use Rattle.bbm_rule.specs.Spans.{in_span}
 use Rattle.bbm_rule.specs.declared.block.Cell.{Cell}
 use Rattle.pattern.specs.declared.parts.Rectangle.{Rectangle}
-use Rattle.pattern.specs.Layout.{row_cells, rectangle_cells, in_cells, in_rectangle, is_at}
+use Rattle.pattern.specs.Layout.{row_cells, rectangle_cells, in_cells, in_rectangle}
 
 span_none : (a : ℕ) (x : ℤ) → in_span a 0 x ≡ false
 unfolding in_span

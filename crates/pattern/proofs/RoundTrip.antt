@@ -1,12 +1,12 @@
 -- The layout section has one text.
 use Rattle.std.proofs.Common.{ℕ, ◌+◌, List, length, drop, ◌∙◌, sym, ap, append_assoc}
 use Rattle.std.specs.List.{flat_map}
+use Rattle.pattern.specs.Layout.{parts_of}
 use Rattle.section_text.specs.Words.{lines_of}
 use Rattle.section_text.specs.Section.{section_of}
 use Rattle.section_text.specs.declared.section.Form.TheVariants.{Header, Item, End}
 use Rattle.section_text.proofs.Spelled.{section_text_is}
 use Rattle.section_text.proofs.Again.{section_again, lines_of_lines}
-use Rattle.pattern.specs.Lines.{parts_of}
 use Rattle.pattern.specs.Grammars.{layout_grammar}
 use Rattle.pattern.specs.Text.{layout_text, form_text}
 use Rattle.pattern.specs.Laws.{PrintsWhatIsRead, ReadsWhatIsPrinted}

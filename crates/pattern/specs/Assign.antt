@@ -1,7 +1,7 @@
 -- The assign section: which names are on.
 use Rattle.std.specs.Prelude.{ℕ, not, List, Option, Some, None, codes, if◌then◌else◌}
-use Rattle.section_text.specs.Words.{◌>>=◌, is_at, has, lone, lone_name}
-use Rattle.section_text.specs.Codes.{or_else, code_where}
+use Rattle.section_text.specs.Words.{◌>>=◌, is_word_at, has, lone, lone_name}
+use Rattle.section_text.specs.Codes.{code_where, defined_twice, or_else, unknown_name}
 use Rattle.section_text.specs.Section.{Grammar}
 use Rattle.section_text.specs.declared.section.Form.{Form}
 use Rattle.section_text.specs.declared.section.Form.TheVariants.{Header, Item, End}
@@ -11,14 +11,14 @@ AssignLine = Form (Unit {0}) (List ℕ)
 
 unfoldable pub assign_form : List (List ℕ) → Option AssignLine
 assign_form ws =
-    if is_at ws 0 (codes "assign") then lone ws (Header tt)
-    else if is_at ws 0 (codes "on") then (lone_name ws >>= λ n. Some (Item n))
-    else if is_at ws 0 (codes "end") then lone ws End
+    if is_word_at ws 0 (codes "assign") then lone ws (Header tt)
+    else if is_word_at ws 0 (codes "on") then (lone_name ws >>= λ n. Some (Item n))
+    else if is_word_at ws 0 (codes "end") then lone ws End
     else None
 
 -- a name that may be on, and is not on yet
 unfoldable pub on_fault : List (List ℕ) → List (List ℕ) → List ℕ → Option ℕ
-on_fault ins before n = or_else (code_where (not (has ins n)) 3) (code_where (has before n) 4)
+on_fault ins before n = or_else (code_where (not (has ins n)) unknown_name) (code_where (has before n) defined_twice)
 
 -- the section, where these names may be on
 abbrev pub assign_grammar : List (List ℕ) → Grammar (Unit {0}) (List ℕ)

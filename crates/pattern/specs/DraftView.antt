@@ -2,8 +2,8 @@
 use Rattle.std.specs.Prelude.{◌≡◌, ℤ}
 use Rattle.bbm_rule.specs.Board.{live}
 use Rattle.pattern.specs.declared.draft.Draft.TheInside.{Inside}
-use Rattle.pattern.specs.Layout.{Pattern}
-use Rattle.pattern.specs.Lines.{parts_of, begun, ended}
+use Rattle.pattern.specs.Layout.{Pattern, parts_of}
+use Rattle.pattern.specs.Lines.{begun, ended}
 
 abbrev pub pattern_of : Inside → Pattern
 pattern_of a = a.layout

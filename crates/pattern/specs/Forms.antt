@@ -1,18 +1,18 @@
 -- The line forms of the layout section: what the words of a line say.
 use Rattle.std.specs.Prelude.{ℕ, ◌+◌, List, length, Option, Some, None, codes, ◌==◌, if◌then◌else◌}
-use Rattle.section_text.specs.Words.{◌>>=◌, is_at, name_at, number_at, lone}
+use Rattle.section_text.specs.Words.{◌>>=◌, is_word_at, name_at, number_at, lone}
 use Rattle.section_text.specs.declared.section.Form.{Form}
 use Rattle.section_text.specs.declared.section.Form.TheVariants.{Header, Item, End}
 use Rattle.bbm_rule.specs.declared.block.Cell.{Cell}
 use Rattle.pattern.specs.declared.parts.Rectangle.{Rectangle}
 use Rattle.pattern.specs.declared.parts.Port.{Port}
-use Rattle.pattern.specs.declared.parts.Size.{Size}
+use Rattle.pattern.specs.declared.parts.Extent.{Extent}
 use Rattle.pattern.specs.declared.parts.Part.{Part}
 use Rattle.pattern.specs.declared.parts.Part.TheVariants.{Mirror, Ball, In, Out, Waste}
 use Rattle.pattern.specs.Layout.{cell}
 
 abbrev pub Line : Type 0
-Line = Form Size Part
+Line = Form Extent Part
 
 -- the cell that word i and the next one are
 unfoldable pub cell_from : List (List ℕ) → ℕ → Option Cell
@@ -48,23 +48,23 @@ unfoldable pub rectangle_of : List (List ℕ) → Option Rectangle
 rectangle_of ws = if length ws == 5 then corner_and_sides ws else None
 
 -- a keyword and three numbers
-unfoldable pub sides_and_steps : List (List ℕ) → Option Size
+unfoldable pub sides_and_steps : List (List ℕ) → Option Extent
 sides_and_steps ws = do
   w ← number_at ws 1
   h ← number_at ws 2
   steps ← number_at ws 3
   Some (record { w = w; h = h; steps = steps })
 
-unfoldable pub size_of : List (List ℕ) → Option Size
+unfoldable pub size_of : List (List ℕ) → Option Extent
 size_of ws = if length ws == 4 then sides_and_steps ws else None
 
 unfoldable pub form_of : List (List ℕ) → Option Line
 form_of ws =
-    if is_at ws 0 (codes "layout") then (size_of ws >>= λ s. Some (Header s))
-    else if is_at ws 0 (codes "mirror") then (rectangle_of ws >>= λ r. Some (Item (Mirror r)))
-    else if is_at ws 0 (codes "ball") then (lone_cell ws >>= λ c. Some (Item (Ball c)))
-    else if is_at ws 0 (codes "in") then (port_of ws >>= λ p. Some (Item (In p)))
-    else if is_at ws 0 (codes "out") then (port_of ws >>= λ p. Some (Item (Out p)))
-    else if is_at ws 0 (codes "waste") then (lone_cell ws >>= λ c. Some (Item (Waste c)))
-    else if is_at ws 0 (codes "end") then lone ws End
+    if is_word_at ws 0 (codes "layout") then (size_of ws >>= λ s. Some (Header s))
+    else if is_word_at ws 0 (codes "mirror") then (rectangle_of ws >>= λ r. Some (Item (Mirror r)))
+    else if is_word_at ws 0 (codes "ball") then (lone_cell ws >>= λ c. Some (Item (Ball c)))
+    else if is_word_at ws 0 (codes "in") then (port_of ws >>= λ p. Some (Item (In p)))
+    else if is_word_at ws 0 (codes "out") then (port_of ws >>= λ p. Some (Item (Out p)))
+    else if is_word_at ws 0 (codes "waste") then (lone_cell ws >>= λ c. Some (Item (Waste c)))
+    else if is_word_at ws 0 (codes "end") then lone ws End
     else None

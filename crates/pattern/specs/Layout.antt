@@ -1,33 +1,35 @@
 -- What a layout says: the size of its rectangle, its steps, and what stands where.
-use Rattle.std.specs.Prelude.{◌≡◌, ℕ, pos, ◌&&◌, ◌||◌, Bool, List, map, slice_get, Some}
+use Rattle.std.specs.Prelude.{◌≡◌, ◌++◌, ℕ, ℤ, pos, ◌&&◌, ◌||◌, Bool, true, List, map, slice_get, Some}
 use Rattle.std.specs.List.{list_any, flat_map, range_with_len}
-use Rattle.std.specs.Ordering.{int_eq}
-use Rattle.bbm_rule.specs.Plane.{State, run}
-use Rattle.bbm_rule.specs.Spans.{in_span}
+use Rattle.bbm_rule.specs.Plane.{State, is_at, run}
+use Rattle.bbm_rule.specs.Spans.{in_area}
 use Rattle.bbm_rule.specs.declared.block.Cell.{Cell}
 use Rattle.pattern.specs.declared.parts.Rectangle.{Rectangle}
+use Rattle.pattern.specs.declared.parts.Part.{Part}
+use Rattle.pattern.specs.declared.parts.Part.TheVariants.{Mirror, Ball, In, Out, Waste}
 use Rattle.pattern.specs.declared.parts.Port.{Port}
-use Rattle.pattern.specs.declared.parts.Size.{Size}
+use Rattle.pattern.specs.declared.parts.Extent.{Extent}
 
 pub record Pattern : Type 0 where
-  pub size : Size
+  pub size : Extent
   pub mirrors : List Rectangle
   pub balls : List Cell
   pub ins : List Port
   pub outs : List Port
   pub wastes : List Cell
 
+-- the lines of a layout between its first and its last
+abbrev pub parts_of : Pattern → List Part
+parts_of p = map Mirror p.mirrors ++ (map Ball p.balls ++ (map In p.ins ++ (map Out p.outs ++ map Waste p.wastes)))
+
 -- ---- sets of cells
 
-abbrev pub is_at : Cell → State
-is_at c x y = int_eq c.x x && int_eq c.y y
-
 abbrev pub in_rectangle : Rectangle → State
-in_rectangle r x y = in_span r.x r.w x && in_span r.y r.h y
+in_rectangle r x y = in_area r.x r.y r.w r.h x y
 
 -- the whole rectangle of the layout, whose upper left cell is the origin of the plane
-abbrev pub in_layout : Size → State
-in_layout s x y = in_span 0 s.w x && in_span 0 s.h y
+abbrev pub in_layout : Extent → State
+in_layout s x y = in_area 0 0 s.w s.h x y
 
 abbrev pub in_cells : List Cell → State
 in_cells cells x y = list_any (λ c. is_at c x y) cells
@@ -52,6 +54,10 @@ start p on x y = in_rectangles p.mirrors x y || in_cells p.balls x y || in_ports
 -- the plane at time t
 abbrev pub plane_at : Pattern → (List ℕ → Bool) → ℕ → State
 plane_at p on t = run (start p on) t
+
+-- no live cell lies outside the layout
+abbrev pub StaysInside : Extent → State → Type 0
+StaysInside s state = (x y : ℤ) → state x y ≡ true → in_layout s x y ≡ true
 
 -- ---- lists of cells
 

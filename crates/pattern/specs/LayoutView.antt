@@ -1,8 +1,8 @@
 -- The fields of a layout, and what contracts see of them.
 use Rattle.std.specs.Prelude.{◌≡◌, None, []}
 use Rattle.pattern.specs.declared.layout.Layout.TheInside.{Inside}
-use Rattle.pattern.specs.Layout.{Pattern}
-use Rattle.pattern.specs.Lines.{parts_of, size_fault, AreGoodAfter}
+use Rattle.pattern.specs.Layout.{Pattern, parts_of}
+use Rattle.pattern.specs.Lines.{size_fault, AreGoodAfter}
 
 abbrev pub pattern_of : Inside → Pattern
 pattern_of a = record {

@@ -10,3 +10,4 @@ pub mod ReadingView
 pub mod Text
 pub mod Run
 pub mod Laws
+pub mod FromLines

@@ -1,20 +1,16 @@
 -- The lines of a layout, and which line is good after which lines. What stands where is read from the lines themselves.
-use Rattle.std.specs.Prelude.{◌≡◌, ℕ, ◌+◌, ◌%◌, ◌==◌, ◌&&◌, ◌||◌, Bool, not, true, false, List, [], ◌∷◌, ◌++◌, map, nat_lt, nat_le, Option, Some, None, if◌then◌else◌}
+use Rattle.std.specs.Prelude.{◌≡◌, ℕ, ◌+◌, ◌%◌, ◌==◌, ◌&&◌, ◌||◌, Bool, not, true, false, List, [], ◌∷◌, ◌++◌, nat_lt, nat_le, Option, Some, None, if◌then◌else◌}
 use Rattle.std.specs.List.{All, list_any, list_all}
 use Rattle.std.specs.Str.{bytes_eq}
-use Rattle.bbm_rule.specs.Plane.{State}
+use Rattle.bbm_rule.specs.Plane.{State, is_at}
 use Rattle.bbm_rule.specs.declared.block.Cell.{Cell}
 use Rattle.section_text.specs.Words.{has}
-use Rattle.section_text.specs.Codes.{or_else, code_where}
+use Rattle.section_text.specs.Codes.{code_where, or_else, out_of_order, past_limit, something_missing, taken_cell, unknown_name}
 use Rattle.section_text.specs.Ports.{Named}
-use Rattle.pattern.specs.declared.parts.Size.{Size}
+use Rattle.pattern.specs.declared.parts.Extent.{Extent}
 use Rattle.pattern.specs.declared.parts.Part.{Part}
 use Rattle.pattern.specs.declared.parts.Part.TheVariants.{Mirror, Ball, In, Out, Waste}
-use Rattle.pattern.specs.Layout.{Pattern, is_at, in_layout, rectangle_cells}
-
--- the lines of a layout between its first and its last
-abbrev pub parts_of : Pattern → List Part
-parts_of p = map Mirror p.mirrors ++ (map Ball p.balls ++ (map In p.ins ++ (map Out p.outs ++ map Waste p.wastes)))
+use Rattle.pattern.specs.Layout.{in_layout, rectangle_cells}
 
 -- ---- limits
 
@@ -22,15 +18,15 @@ abbrev pub is_side : ℕ → Bool
 is_side n = nat_le 2 n && nat_le n 512 && (n % 2 == 0)
 
 -- width and height even, 2 to 512; at most 4096 steps
-unfoldable pub size_fault : Size → Option ℕ
-size_fault s = code_where (not (is_side s.w && is_side s.h && nat_le s.steps 4096)) 2
+unfoldable pub size_fault : Extent → Option ℕ
+size_fault s = code_where (not (is_side s.w && is_side s.h && nat_le s.steps 4096)) past_limit
 
 abbrev pub is_mirror_side : ℕ → Bool
 is_mirror_side n = nat_le 1 n && nat_le n 512
 
 -- the sides of a mirror are 1 to 512
 unfoldable pub limit_fault : Part → Option ℕ
-limit_fault (Mirror r) = code_where (not (is_mirror_side r.w && is_mirror_side r.h)) 2
+limit_fault (Mirror r) = code_where (not (is_mirror_side r.w && is_mirror_side r.h)) past_limit
 limit_fault (Ball c) = None
 limit_fault (In p) = None
 limit_fault (Out p) = None
@@ -51,7 +47,7 @@ unfoldable pub is_late : List Part → Part → Bool
 is_late before part = list_any (λ b. nat_lt (rank_of part) (rank_of b)) before
 
 unfoldable pub order_fault : List Part → Part → Option ℕ
-order_fault before part = code_where (is_late before part) 6
+order_fault before part = code_where (is_late before part) out_of_order
 
 -- ---- names; any is good where no names of ports are given
 
@@ -71,8 +67,8 @@ is_out_name (Some names) n = has names.outs n
 unfoldable pub name_fault : Option Named → Part → Option ℕ
 name_fault ports (Mirror r) = None
 name_fault ports (Ball c) = None
-name_fault ports (In p) = code_where (not (is_in_name ports p.name)) 3
-name_fault ports (Out p) = code_where (not (is_out_name ports p.name)) 3
+name_fault ports (In p) = code_where (not (is_in_name ports p.name)) unknown_name
+name_fault ports (Out p) = code_where (not (is_out_name ports p.name)) unknown_name
 name_fault ports (Waste c) = None
 
 -- ---- cells
@@ -85,7 +81,7 @@ cells_of (Out p) = p.cell ∷ []
 cells_of (Waste c) = c ∷ []
 
 -- whether all its cells lie inside the layout
-unfoldable pub is_inside : Size → Part → Bool
+unfoldable pub is_inside : Extent → Part → Bool
 is_inside s (Mirror r) = nat_le (r.x + r.w) s.w && nat_le (r.y + r.h) s.h
 is_inside s (Ball c) = in_layout s c.x c.y
 is_inside s (In p) = in_layout s p.cell.x p.cell.y
@@ -124,8 +120,8 @@ is_taken before part =
     if begins part then list_any (λ c. begun before c.x c.y) (cells_of part)
     else list_any (λ c. ended before c.x c.y) (cells_of part)
 
-unfoldable pub cell_fault : Size → List Part → Part → Option ℕ
-cell_fault s before part = code_where (not (is_inside s part) || is_taken before part) 7
+unfoldable pub cell_fault : Extent → List Part → Part → Option ℕ
+cell_fault s before part = code_where (not (is_inside s part) || is_taken before part) taken_cell
 
 -- ---- a line after the lines before it
 
@@ -133,7 +129,7 @@ cell_fault s before part = code_where (not (is_inside s part) || is_taken before
 unfoldable pub line_fault : Option Named → List Part → Part → Option ℕ
 line_fault ports before part = or_else (order_fault before part) (or_else (limit_fault part) (name_fault ports part))
 
-unfoldable pub part_fault : Option Named → Size → List Part → Part → Option ℕ
+unfoldable pub part_fault : Option Named → Extent → List Part → Part → Option ℕ
 part_fault ports s before part = or_else (line_fault ports before part) (cell_fault s before part)
 
 -- each input and each output has a cell
@@ -154,7 +150,7 @@ is_out n (Waste c) = false
 unfoldable pub missing_fault : Option Named → List Part → Option ℕ
 missing_fault None parts = None
 missing_fault (Some names) parts =
-    code_where (not (list_all (λ n. list_any (is_in n) parts) names.ins && list_all (λ n. list_any (is_out n) parts) names.outs)) 11
+    code_where (not (list_all (λ n. list_any (is_in n) parts) names.ins && list_all (λ n. list_any (is_out n) parts) names.outs)) something_missing
 
 -- the names of the ports are good, and each input and each output that is asked for has a cell
 pub record AreNamed (ports : Option Named) (parts : List Part) : Type 0 where
@@ -162,6 +158,6 @@ pub record AreNamed (ports : Option Named) (parts : List Part) : Type 0 where
   pub whole : missing_fault ports parts ≡ None
 
 -- each line keeps the limits, and its cells are inside and free after the lines before it
-abbrev pub AreGoodAfter : Size → List Part → List Part → Type 0
+abbrev pub AreGoodAfter : Extent → List Part → List Part → Type 0
 AreGoodAfter s before [] = Unit {0}
 AreGoodAfter s before (part ∷ parts) = (limit_fault part ≡ None) × (cell_fault s before part ≡ None) × AreGoodAfter s (before ++ part ∷ []) parts

@@ -1,10 +1,11 @@
 -- The fields of a reader of layouts, and what contracts see of them.
 use Rattle.std.specs.Prelude.{◌≡◌, ◌||◌, ℕ, List}
 use Rattle.std.specs.List.{list_any}
+use Rattle.pattern.specs.Layout.{parts_of}
 use Rattle.section_text.specs.Ports.{named_ports}
 use Rattle.pattern.specs.declared.reading.Reading.TheInside.{Inside}
 use Rattle.section_text.specs.Words.{has}
-use Rattle.pattern.specs.Lines.{is_any, is_in, is_in_name, is_out, is_out_name, parts_of}
+use Rattle.pattern.specs.Lines.{is_any, is_in, is_in_name, is_out, is_out_name}
 use Rattle.pattern.specs.ReadingState.{ReadingState}
 
 abbrev pub reading_state : Inside → ReadingState

@@ -7,11 +7,10 @@ use Rattle.section_text.specs.declared.section.Form.TheVariants.{Header, Item, E
 use Rattle.bbm_rule.specs.declared.block.Cell.{Cell}
 use Rattle.pattern.specs.declared.parts.Rectangle.{Rectangle}
 use Rattle.pattern.specs.declared.parts.Port.{Port}
-use Rattle.pattern.specs.declared.parts.Size.{Size}
+use Rattle.pattern.specs.declared.parts.Extent.{Extent}
 use Rattle.pattern.specs.declared.parts.Part.{Part}
 use Rattle.pattern.specs.declared.parts.Part.TheVariants.{Mirror, Ball, In, Out, Waste}
-use Rattle.pattern.specs.Layout.{Pattern}
-use Rattle.pattern.specs.Lines.{parts_of}
+use Rattle.pattern.specs.Layout.{Pattern, parts_of}
 use Rattle.pattern.specs.Forms.{Line}
 
 -- the coordinate of a cell of a layout, which is not negative
@@ -28,7 +27,7 @@ rectangle_words r = decimal r.x ∷ decimal r.y ∷ decimal r.w ∷ decimal r.h 
 abbrev pub port_words : Port → List (List ℕ)
 port_words p = p.name ∷ cell_words p.cell
 
-abbrev pub size_words : Size → List (List ℕ)
+abbrev pub size_words : Extent → List (List ℕ)
 size_words s = decimal s.w ∷ decimal s.h ∷ decimal s.steps ∷ []
 
 abbrev pub part_text : Part → List ℕ

@@ -2,10 +2,11 @@
 ghost use Rattle.std.specs.Prelude.{◌≡◌, ◌++◌, [], ◌∷◌, None, OnOk, OnErr, IfOk, IfErr, All, true};
 ghost use Rattle.section_text.specs.Adding.{FaultIs};
 ghost use Rattle.bbm_rule.specs.Board.{is_inside as is_on_board};
-ghost use Rattle.pattern.specs.Lines.{cells_of, cell_fault, is_inside, limit_fault, order_fault, parts_of, size_fault};
+ghost use Rattle.pattern.specs.Layout.{parts_of};
+ghost use Rattle.pattern.specs.Lines.{cells_of, cell_fault, is_inside, limit_fault, order_fault, size_fault};
 
 use crate::layout::Layout;
-use crate::parts::{Part, Size};
+use crate::parts::{Part, Extent};
 use crate::rectangle::push_rectangle;
 use crate::taken::{meets_in, take_where};
 use bbm_rule::{Cell, Grid};
@@ -35,7 +36,7 @@ impl Model for Draft {
 
 // The cells of a line that lies inside.
 #[tactic(auto, unfolding(crate::specs::Lines::cells_of, crate::specs::Lines::is_inside))]
-fn cells_in(alloc: Global, part: &Part, size: Size) -> Result<Vec<Cell>, AllocError>
+fn cells_in(alloc: Global, part: &Part, size: Extent) -> Result<Vec<Cell>, AllocError>
     requires inside { is_inside size part.now ≡ true }
     requires good { size_fault size ≡ None }
     ensures { IfOk result (λ cells. cells.items ≡ cells_of part.now) }
@@ -53,7 +54,7 @@ fn cells_in(alloc: Global, part: &Part, size: Size) -> Result<Vec<Cell>, AllocEr
 
 impl Draft {
     /// No lines after the first.
-    pub(crate) fn new(alloc: Global, size: Size) -> Result<Draft, AllocError>
+    pub(crate) fn new(alloc: Global, size: Extent) -> Result<Draft, AllocError>
         requires { size_fault size ≡ None }
         ensures size { IfOk result (λ draft. draft.size ≡ size) }
         ensures parts { IfOk result (λ draft. parts_of draft ≡ []) }

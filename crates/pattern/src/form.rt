@@ -4,7 +4,7 @@ ghost use Rattle.section_text.specs.Words.{words_of};
 ghost use Rattle.section_text.specs.FeedState.{IsLine, line_bytes};
 ghost use Rattle.pattern.specs.Forms.{cell_from, lone_cell, named_cell, port_of, corner_and_sides, rectangle_of, sides_and_steps, size_of, form_of};
 
-use crate::parts::{Part, Port, Rectangle, Size};
+use crate::parts::{Part, Port, Rectangle, Extent};
 use bbm_rule::Cell;
 use section_text::{Feed, Form, Line};
 
@@ -80,18 +80,18 @@ fn rectangle_on(feed: &Feed, line: &Line) -> Option<Rectangle>
 }
 
 #[tactic(auto, unfolding(crate::specs::Forms::sides_and_steps))]
-fn sides_and_steps_on(feed: &Feed, line: &Line) -> Option<Size>
+fn sides_and_steps_on(feed: &Feed, line: &Line) -> Option<Extent>
     requires { IsLine feed.now line.now }
     ensures { result ≡ sides_and_steps (words_of (line_bytes feed.now line.now)) }
 {
     let w = feed.number(line, 1)?;
     let h = feed.number(line, 2)?;
     let steps = feed.number(line, 3)?;
-    Some(Size { w, h, steps })
+    Some(Extent { w, h, steps })
 }
 
 #[tactic(auto, unfolding(crate::specs::Forms::size_of))]
-fn size_on(feed: &Feed, line: &Line) -> Option<Size>
+fn size_on(feed: &Feed, line: &Line) -> Option<Extent>
     requires { IsLine feed.now line.now }
     ensures { result ≡ size_of (words_of (line_bytes feed.now line.now)) }
 {
@@ -103,7 +103,7 @@ fn size_on(feed: &Feed, line: &Line) -> Option<Size>
 
 /// The form of a line, if it has one.
 #[tactic(auto, unfolding(crate::specs::Forms::form_of))]
-pub(crate) fn line_form(feed: &Feed, line: &Line) -> Option<Form<Size, Part>>
+pub(crate) fn line_form(feed: &Feed, line: &Line) -> Option<Form<Extent, Part>>
     requires { IsLine feed.now line.now }
     ensures { result ≡ form_of (words_of (line_bytes feed.now line.now)) }
 {

@@ -1,9 +1,9 @@
 //! Layouts.
 ghost use Rattle.std.specs.Prelude.{◌≡◌, ◌++◌, [], ◌∷◌, None, OnOk, OnErr};
-ghost use Rattle.pattern.specs.Layout.{HaveOwnCells};
-ghost use Rattle.pattern.specs.Lines.{AreGoodAfter, cell_fault, limit_fault, is_late, order_fault, parts_of, size_fault};
+ghost use Rattle.pattern.specs.Layout.{HaveOwnCells, parts_of};
+ghost use Rattle.pattern.specs.Lines.{AreGoodAfter, cell_fault, limit_fault, is_late, order_fault, size_fault};
 
-use crate::parts::{Part, Port, Rectangle, Size};
+use crate::parts::{Part, Port, Rectangle, Extent};
 use bbm_rule::Cell;
 use std::alloc::{AllocError, Global};
 use std::marker::Model;
@@ -14,7 +14,7 @@ use std::marker::Model;
 /// input cells share no cell; mirrors, output cells and waste cells share no cell.
 #[derive(Drop)]
 pub struct Layout {
-    pub(crate) size: Size,
+    pub(crate) size: Extent,
     pub(crate) mirrors: Vec<Rectangle>,
     pub(crate) balls: Vec<Cell>,
     pub(crate) ins: Vec<Port>,
@@ -36,7 +36,7 @@ impl Model for Layout {
 
 impl Layout {
     // A layout in which nothing stands.
-    pub(crate) fn new(alloc: Global, size: Size) -> Layout
+    pub(crate) fn new(alloc: Global, size: Extent) -> Layout
         requires { size_fault size ≡ None }
         ensures size { result.size ≡ size }
         ensures parts { parts_of result ≡ [] }
@@ -97,7 +97,7 @@ impl Layout {
     }
 
     /// The width and the height, in cells, and the steps: even sides of 2 to 512, and at most 4096 steps.
-    pub fn size(&self) -> Size
+    pub fn size(&self) -> Extent
         ensures size { result ≡ self.now.size }
         ensures limits { size_fault result ≡ None }
         ensures good { AreGoodAfter result [] (parts_of self.now) }

@@ -26,7 +26,7 @@ pub struct Port {
 /// The first line of a layout: its width and its height in cells, and how many steps it runs. In a layout the sides are
 /// even, 2 to 512, and the steps are at most 4096.
 #[derive(Clone, Copy, Debug, PartialEq, Eq)]
-pub struct Size {
+pub struct Extent {
     pub w: u32,
     pub h: u32,
     pub steps: u32,
@@ -59,14 +59,14 @@ fn has_mirror_sides(r: Rectangle) -> bool
     1 <= r.w && r.w <= 512 && 1 <= r.h && r.h <= 512
 }
 
-fn fits(r: Rectangle, size: Size) -> bool
+fn fits(r: Rectangle, size: Extent) -> bool
     ensures { result ≡ (nat_le (r.x + r.w) size.w && nat_le (r.y + r.h) size.h) }
 {
     u64::from(r.x) + u64::from(r.w) <= u64::from(size.w)
         && u64::from(r.y) + u64::from(r.h) <= u64::from(size.h)
 }
 
-impl Size {
+impl Extent {
     /// Code 2 where a side or the steps are outside their limits.
     #[tactic(auto, unfolding(crate::specs::Lines::size_fault))]
     pub(crate) fn limit_code(self) -> Option<u8>
@@ -132,7 +132,7 @@ impl Part {
 
     /// Whether all its cells lie inside the layout.
     #[tactic(auto, unfolding(crate::specs::Lines::is_inside))]
-    pub(crate) fn is_inside(&self, size: Size) -> bool
+    pub(crate) fn is_inside(&self, size: Extent) -> bool
         ensures { result ≡ is_inside size self.now }
     {
         match self {

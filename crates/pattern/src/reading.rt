@@ -1,18 +1,19 @@
 //! The reader of the layout section.
 ghost use Rattle.std.specs.Prelude.{◌≡◌, ◌||◌, ◌<◌, ℕ, true, [], List, IfOk};
 ghost use Rattle.std.specs.List.{list_all};
+ghost use Rattle.pattern.specs.Layout.{parts_of};
 ghost use Rattle.indexmap.specs.IndexSet.{spare};
 ghost use Rattle.section_text.specs.Section.{Reads};
 ghost use Rattle.section_text.specs.Ports.{named_ports};
 ghost use Rattle.section_text.specs.Words.{has};
-ghost use Rattle.pattern.specs.Lines.{AreNamed, is_any, is_in, is_out, is_in_name, is_out_name, line_fault, missing_fault, name_fault, parts_of};
+ghost use Rattle.pattern.specs.Lines.{AreNamed, is_any, is_in, is_out, is_in_name, is_out_name, line_fault, missing_fault, name_fault};
 ghost use Rattle.pattern.specs.Grammars.{layout_grammar, layout_value};
 
 use crate::draft::Draft;
 use crate::form::line_form;
 use crate::layout::Layout;
 use crate::names::{index_of, put_name};
-use crate::parts::{Part, Size};
+use crate::parts::{Part, Extent};
 use indexmap::IndexSet;
 use section_text::{
     Feed, Form, Line, LineFault, Name, PortNames, ReadFault, Section, read_section,
@@ -91,7 +92,7 @@ impl<'a> Reading<'a> {
         ensures parts { IfOk result (λ reading. parts_of reading.layout ≡ []) }
     {
         let (known_ins, known_outs) = known_names(alloc, ports)?;
-        let smallest = Size {
+        let smallest = Extent {
             w: 2,
             h: 2,
             steps: 0,
@@ -180,7 +181,7 @@ fn known_names(
 }
 
 impl<'a> Section for Reading<'a> {
-    type Header = Size;
+    type Header = Extent;
 
     type Item = Part;
 
@@ -190,11 +191,11 @@ impl<'a> Section for Reading<'a> {
 
     ghost items = { λ r. parts_of r.layout };
 
-    fn form(&self, feed: &Feed, line: &Line) -> Option<Form<Size, Part>> {
+    fn form(&self, feed: &Feed, line: &Line) -> Option<Form<Extent, Part>> {
         line_form(feed, line)
     }
 
-    fn begin(&mut self, size: Size) -> Result<(), LineFault> {
+    fn begin(&mut self, size: Extent) -> Result<(), LineFault> {
         if let Some(code) = size.limit_code() {
             return Err(LineFault::Code(code));
         }

@@ -12,3 +12,4 @@ pub mod Spellings
 pub mod Joined
 pub mod Good
 pub mod Splitting
+pub mod SaidSections

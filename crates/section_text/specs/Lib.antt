@@ -11,3 +11,4 @@ pub mod Sections
 pub mod Laws
 pub mod Ports
 pub mod Listed
+pub mod SaidSection

@@ -1,5 +1,6 @@
 -- Sections one after the other, up to the end of the text.
 use Rattle.std.specs.Prelude.{ℕ, ◌+◌, List, [], ◌∷◌, length, drop, Result, Ok, Err}
+use Rattle.section_text.specs.Codes.{text_cut}
 use Rattle.section_text.specs.declared.fault.Refusal.{Refusal}
 use Rattle.section_text.specs.Section.{Grammar, section_of, refused_at}
 
@@ -16,5 +17,5 @@ section_then g n ls next = go_on (section_of g n ls) (λ h items. next h items (
 -- the value, where no line and no byte follows the n lines
 abbrev pub finished : {B : Type 0} → ℕ → List (List ℕ) → List ℕ → B → Result B Refusal
 finished n [] [] value = Ok value
-finished n [] (b ∷ rest) value = refused_at n 12
-finished n (l ∷ ls) rest value = refused_at n 12
+finished n [] (b ∷ rest) value = refused_at n text_cut
+finished n (l ∷ ls) rest value = refused_at n text_cut

@@ -2,7 +2,7 @@
 ghost use Rattle.std.specs.Prelude.{drop, ◌≡◌, ℕ, ◌+◌, ◌-◌, ◌^◌, ◌<◌, ◌≤◌, ◌↔◌, true, false, List, [], ◌∷◌, ◌++◌, length, Option, Some, None, Ok, Err, IsTrue, IsOk, IfOk, IfErr, ◌≢◌, OnOk, OnErr, IfSome, MatchOption, unwrap_or, slice_get, slice_range, option_and_then, map};
 ghost use Rattle.std.specs.Option.{option_copied, option_map, ForSome};
 ghost use Rattle.std.specs.List.{position, list_all};
-ghost use Rattle.section_text.specs.Words.{is_digit, is_number, read_on, is_at, is_line_feed, is_space, rest_of, words_of, number_of, number_at, name_at, names_at, lone, lone_number, lone_name, five};
+ghost use Rattle.section_text.specs.Words.{is_digit, is_number, read_on, is_word_at, is_line_feed, is_space, rest_of, words_of, number_of, number_at, name_at, names_at, lone, lone_number, lone_name, five};
 ghost use Rattle.section_text.specs.declared.fault.ReadFault.TheVariants.{Memory};
 ghost use Rattle.section_text.specs.Listed.{listed};
 ghost use Rattle.section_text.specs.Faults.{refusal};
@@ -366,10 +366,10 @@ impl Feed {
     }
 
     /// Whether a word of a line is this one. Past the last word it is false.
-    #[tactic(auto, unfolding(crate::specs::Words::is_at))]
+    #[tactic(auto, unfolding(crate::specs::Words::is_word_at))]
     pub fn is(&self, line: &Line, index: usize, expected: &[u8]) -> bool
         requires { IsLine self.now line.now }
-        ensures { result ≡ is_at (words_of (line_bytes self.now line.now)) index expected.now }
+        ensures { result ≡ is_word_at (words_of (line_bytes self.now line.now)) index expected.now }
     {
         match self.word(line, index) {
             Some(word) => word == expected,

@@ -2,7 +2,7 @@
 use Rattle.std.proofs.Common.{ℕ, List, None, sym, ◌∙◌}
 use Rattle.std.specs.List.{flat_map}
 use Rattle.pattern.specs.declared.parts.Part.{Part}
-use Rattle.pattern.specs.declared.parts.Size.{Size}
+use Rattle.pattern.specs.declared.parts.Extent.{Extent}
 use Rattle.pattern.specs.Layout.{Pattern}
 use Rattle.pattern.specs.Grammars.{layout_grammar, layout_value}
 use Rattle.answers.specs.RunText.{in_name, run_asked}
@@ -10,10 +10,10 @@ use Rattle.answers.proofs.AskedLemmas.{first_failed, then_failed, then_read}
 use Rattle.answers.proofs.InNames.{in_names_are}
 use Rattle.answers.proofs.run.read_asked.Goals as goal
 
-lines : Size → List Part → Size × List Part
+lines : Extent → List Part → Extent × List Part
 lines size parts = (size, parts)
 
-names : Size → List Part → List (List ℕ)
+names : Extent → List Part → List (List ℕ)
 names size parts = flat_map in_name parts
 
 pub returns-in-Err : goal.returns-in-Err

@@ -1,8 +1,8 @@
 -- The inputs have the values that say whether their names are on.
 use Rattle.std.proofs.Common.{ℕ, Bool, List, map, length, refl, ap, ◌∙◌, subst}
 use Rattle.std.proofs.lemmas.List.{length-map}
+use Rattle.circuit.specs.Entries.{defined}
 use Rattle.circuit.specs.Bridge.{AreValues, netlist_of, read}
-use Rattle.circuit.specs.Rules.{defined}
 use Rattle.circuit.specs.Text.{value_lines}
 use Rattle.section_text.specs.Words.{has}
 use Rattle.answers.proofs.value.answer.Goals as goal

@@ -1,7 +1,7 @@
 use Rattle.std.proofs.Common.{◌≡◌, ◌∙◌, sym, ap, subst, map, Some, arith}
 use Rattle.std.specs.Prelude.{slice_get}
 use Rattle.std.specs.Arc.{arc_value}
-use Rattle.pattern.specs.declared.parts.Size.{Size}
+use Rattle.pattern.specs.declared.parts.Extent.{Extent}
 use Rattle.certificate.specs.Entries.{modules_of}
 use Rattle.certificate.specs.Grammars.{setting_of}
 use Rattle.certificate.specs.Rules.{whole}
@@ -20,7 +20,7 @@ least_fault-requires c =
     let o = c.in_ok-owners.owners in
     let good = c.modules-count.ensures.good in
     let got : slice_get js c.jobs.job-index ≡ Some c.deref.result.now = job_at arc_value c.args.jobs.now c.jobs.job-index _ c.deref.result.now c.jobs-test.true (c.deref.ensures ∙ ap arc_value c.job-item.is) in (
-      subst (λ (z : Size). IsBoard (whole z) o js) (sym c.size-size.ensures.size)
+      subst (λ (z : Extent). IsBoard (whole z) o js) (sym c.size-size.ensures.size)
           (board s.circuit s.layout (modules_of s.entries) js o good c.requires c.in_ok-owners.ensures.owners c.in_ok-owners.ensures.width c.in_ok-owners.ensures.height),
       quiet_job s.circuit s.layout (modules_of s.entries) js o good c.requires c.in_ok-owners.ensures.owners c.in_ok-owners.ensures.width c.in_ok-owners.ensures.height c.jobs.job-index c.deref.result.now got,
     )
@@ -33,7 +33,7 @@ jobs-preserved c =
     let good = c.modules-count.ensures.good in
     let got : slice_get js c.jobs.job-index ≡ Some c.deref.result.now = job_at arc_value c.args.jobs.now c.jobs.job-index _ c.deref.result.now c.jobs-test.true (c.deref.ensures ∙ ap arc_value c.job-item.is) in
     let found : IsLeast (IsJobFault (whole s.layout.size) o js c.deref.result.now) c.least_fault.result =
-    subst (λ (z : Size). IsLeast (IsJobFault (whole z) o js c.deref.result.now) c.least_fault.result) c.size-size.ensures.size c.least_fault.ensures in
+    subst (λ (z : Extent). IsLeast (IsJobFault (whole z) o js c.deref.result.now) c.least_fault.result) c.size-size.ensures.size c.least_fault.ensures in
     let least = least_by_lines s.circuit s.layout (modules_of s.entries) js o good c.requires c.in_ok-owners.ensures.owners c.in_ok-owners.ensures.width c.in_ok-owners.ensures.height c.jobs.job-index c.deref.result.now c.least_fault.result got found in (
       omega (arith, c.in_ok-push.ensures.len, c.jobs.invariant.0),
       pushed_more (IsLeastBorderFault (setting_of s.circuit s.layout) (modules_of s.entries)) c.jobs.faults.items _ c.jobs.job-index c.least_fault.result (omega (arith, c.jobs.faults.ok, c.jobs.invariant.0)) c.in_ok-push.ensures.items c.jobs.invariant.1 least,

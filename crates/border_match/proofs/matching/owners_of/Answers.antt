@@ -1,7 +1,7 @@
 use Rattle.std.proofs.Common.{◌≡◌, ◌∙◌, sym, subst}
 use Rattle.std.specs.Prelude.{List}
 use Rattle.std.proofs.lemmas.Bool.{false≢true}
-use Rattle.pattern.specs.declared.parts.Size.{Size}
+use Rattle.pattern.specs.declared.parts.Extent.{Extent}
 use Rattle.module_box.specs.Boxes.{Tile}
 use Rattle.module_box.specs.Tiling.{rectangle_of}
 use Rattle.module_box.specs.declared.boxes.Box2.{Box2}
@@ -26,7 +26,7 @@ prove-unreachable-requires c =
     let boxes_are = c.deref.ensures.value ∙ c.in_ok-areas.ensures in
     let task = is_task (setting_of s.circuit s.layout) (modules_of s.entries) size c.deref.result.now c.size-size.ensures.size c.size-size.ensures.limits good boxes_are in
     let tile : Tile (rectangle_of size.w size.h) c.deref.result.now =
-    subst (λ (z : Size). Tile (whole z) c.deref.result.now) (sym c.size-size.ensures.size) (subst (λ (bs : List Box2). Tile (whole s.layout.size) bs) (sym boxes_are) good.tile) in
+    subst (λ (z : Extent). Tile (whole z) c.deref.result.now) (sym c.size-size.ensures.size) (subst (λ (bs : List Box2). Tile (whole s.layout.size) bs) (sym boxes_are) good.tile) in
     let memory : c.in-Err.fault ≡ Memory = only_memory size.w size.h c.deref.result.now c.in-Err.fault task c.in-Err.ensures tile in
     elim c.match-matches.branch [
       | in-Memory w ↦ false≢true (sym c.if-prove.true ∙ w.matches-is)

@@ -2,8 +2,8 @@
 use Rattle.std.proofs.Common.{Option, subst, sym}
 use Rattle.section_text.specs.Ports.{Named, named_ports}
 use Rattle.section_text.proofs.Good.{reads_faultless}
-use Rattle.pattern.specs.Lines.{AreNamed, parts_of}
-use Rattle.pattern.specs.Layout.{Pattern}
+use Rattle.pattern.specs.Lines.{AreNamed}
+use Rattle.pattern.specs.Layout.{Pattern, parts_of}
 use Rattle.pattern.proofs.Named.{faultless_named}
 use Rattle.pattern.proofs.reading.read_layout.Goals as goal
 

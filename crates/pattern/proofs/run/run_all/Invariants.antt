@@ -1,7 +1,7 @@
 use Rattle.std.proofs.Common.{◌≡◌, ◌≤◌, ℕ, ℤ}
+use Rattle.pattern.specs.Layout.{StaysInside}
 use Rattle.bbm_rule.specs.Board.{live, HasSameSize}
 use Rattle.bbm_rule.specs.Plane.{run}
-use Rattle.pattern.specs.Run.{StaysInside}
 use Rattle.pattern.proofs.run.run_all.Given as goal
 
 abbrev pub invariant-loop-t : goal.invariant-loop-t

@@ -1,7 +1,7 @@
 use Rattle.std.proofs.Common.{◌≡◌, ◌∙◌, ap, subst, sym, take}
+use Rattle.circuit.specs.Entries.{defined}
 use Rattle.circuit.specs.Bridge.{input_names, netlist_of}
 use Rattle.circuit.specs.Meaning.{AreForward}
-use Rattle.circuit.specs.Rules.{defined}
 use Rattle.certificate.specs.Grammars.{CertState}
 use Rattle.certificate.proofs.cert.Cert.modules.Goals as goal
 

@@ -1,7 +1,8 @@
 use Rattle.std.proofs.Common.{◌≡◌, sym, ap, ◌∙◌, List, [], length, arith, map, subst}
+use Rattle.circuit.specs.Entries.{defined}
 use Rattle.circuit.specs.declared.entry.Entry.{Entry}
 use Rattle.circuit.specs.Wiring.{gate_of}
-use Rattle.circuit.specs.Rules.{defined, consumed, gate_count}
+use Rattle.circuit.specs.Rules.{consumed, gate_count}
 use Rattle.circuit.specs.Bridge.{AreGood, AreGoodAfter, gates_of}
 use Rattle.circuit.proofs.draft.Draft.new.Goals as goal
 

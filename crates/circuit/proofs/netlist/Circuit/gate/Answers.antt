@@ -3,8 +3,8 @@ use Rattle.circuit.specs.declared.entry.Entry.{Entry}
 use Rattle.std.specs.Prelude.{option_map}
 use Rattle.std.proofs.lemmas.List.{length-map}
 use Rattle.std.proofs.lemmas.Option.{slice_get-map, slice_get_read}
+use Rattle.circuit.specs.Entries.{defined}
 use Rattle.circuit.specs.declared.wiring.GateWires.{GateWires}
-use Rattle.circuit.specs.Rules.{defined}
 use Rattle.circuit.specs.Bridge.{gates_of}
 use Rattle.circuit.specs.Meaning.{Gate}
 use Rattle.circuit.specs.Wiring.{gate_of}

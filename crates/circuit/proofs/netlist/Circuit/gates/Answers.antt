@@ -1,7 +1,7 @@
 use Rattle.std.proofs.Common.{List, length, subst, ap, arith}
 use Rattle.circuit.specs.declared.entry.Entry.{Entry}
 use Rattle.std.proofs.lemmas.List.{length-map}
-use Rattle.circuit.specs.Rules.{defined}
+use Rattle.circuit.specs.Entries.{defined}
 use Rattle.circuit.specs.Bridge.{gates_of, input_count}
 use Rattle.circuit.specs.Meaning.{AreOrdered, AreForward}
 use Rattle.circuit.specs.Wiring.{gate_of}

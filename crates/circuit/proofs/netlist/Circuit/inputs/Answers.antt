@@ -1,5 +1,5 @@
 use Rattle.std.proofs.Common.{◌∙◌, take, subst, ap, sym}
-use Rattle.circuit.specs.Rules.{defined}
+use Rattle.circuit.specs.Entries.{defined}
 use Rattle.circuit.specs.Bridge.{AreGood, input_count}
 use Rattle.circuit.proofs.Counting.{inputs_counted}
 use Rattle.circuit.proofs.Naming.{inputs_are_first}

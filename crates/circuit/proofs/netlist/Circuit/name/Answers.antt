@@ -1,7 +1,7 @@
 use Rattle.std.proofs.Common.{◌≡◌, ◌∙◌, List, length, get_or, subst, ap, ap₂, refl}
 use Rattle.std.proofs.lemmas.Option.{slice_get_read}
 use Rattle.std.proofs.Common.{ℕ}
-use Rattle.circuit.specs.Rules.{defined}
+use Rattle.circuit.specs.Entries.{defined}
 use Rattle.circuit.specs.Bridge.{AreGood}
 use Rattle.circuit.proofs.Naming.{names_are_own}
 use Rattle.circuit.proofs.netlist.Circuit.name.Goals as goal

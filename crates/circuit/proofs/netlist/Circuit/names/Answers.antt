@@ -1,5 +1,5 @@
 use Rattle.std.proofs.Common.{◌∙◌, length, subst, ap}
-use Rattle.circuit.specs.Rules.{defined}
+use Rattle.circuit.specs.Entries.{defined}
 use Rattle.circuit.specs.Bridge.{AreGood}
 use Rattle.circuit.proofs.Naming.{wires_are_named}
 use Rattle.circuit.proofs.netlist.Circuit.names.Goals as goal

@@ -1,6 +1,6 @@
 use Rattle.std.proofs.Common.{◌≡◌, subst, sym, ap, ◌∙◌, List, length, refl, Some, map}
+use Rattle.circuit.specs.Entries.{defined}
 use Rattle.circuit.specs.declared.entry.Entry.{Entry}
-use Rattle.circuit.specs.Rules.{defined}
 use Rattle.circuit.specs.Bridge.{AreValues, netlist_of, read, input_count, gates_of}
 use Rattle.circuit.specs.Evaluate.{evaluate}
 use Rattle.circuit.specs.Wiring.{gate_of}

@@ -1,5 +1,5 @@
 use Rattle.std.proofs.Common.{◌≡◌, ◌<◌, ◌∙◌, Some, length, subst, sym, ap, arith}
-use Rattle.circuit.specs.Rules.{defined}
+use Rattle.circuit.specs.Entries.{defined}
 use Rattle.circuit.specs.Meaning.{place_of, wires}
 use Rattle.circuit.specs.Bridge.{AreGood, netlist_of}
 use Rattle.circuit.proofs.Naming.{place_position, wires_are_named}

@@ -1,9 +1,9 @@
 -- The grids hold the cells that are taken, those of the line among them.
 use Rattle.std.proofs.Common.{◌≡◌, ◌||◌, ◌&&◌, true, sym, ap, subst, ◌∙◌}
-use Rattle.pattern.specs.declared.parts.Size.{Size}
+use Rattle.pattern.specs.declared.parts.Extent.{Extent}
 use Rattle.bbm_rule.specs.Board.{live}
-use Rattle.pattern.specs.Layout.{Pattern, in_cells}
-use Rattle.pattern.specs.Lines.{parts_of, is_inside}
+use Rattle.pattern.specs.Layout.{Pattern, in_cells, parts_of}
+use Rattle.pattern.specs.Lines.{is_inside}
 use Rattle.pattern.proofs.TakenLemmas.{cells_on_board, begun_more, ended_more}
 use Rattle.pattern.proofs.draft.Draft.add.Goals as goal
 
@@ -19,8 +19,8 @@ take_where-requires-2 c =
 
 pub invariant_of-self-2 : goal.invariant_of-self-2
 invariant_of-self-2 c =
-    let size = ap (λ (s : Size). s.w) (sym c.in-Ok.ensures.size) in
-    let high = ap (λ (s : Size). s.h) (sym c.in-Ok.ensures.size) in
+    let size = ap (λ (s : Extent). s.w) (sym c.in-Ok.ensures.size) in
+    let high = ap (λ (s : Extent). s.h) (sym c.in-Ok.ensures.size) in
     record {
       begun_width = c.take_where.ensures.size.0 ∙ c.self.invariant.begun_width ∙ size;
       begun_height = c.take_where.ensures.size.1 ∙ c.self.invariant.begun_height ∙ high;

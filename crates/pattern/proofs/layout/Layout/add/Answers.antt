@@ -1,8 +1,8 @@
 -- One more line of each kind.
 use Rattle.std.proofs.Common.{◌≡◌, [], ◌∷◌, ◌++◌, None, sym, subst}
-use Rattle.pattern.specs.Layout.{Pattern}
+use Rattle.pattern.specs.Layout.{Pattern, parts_of}
 use Rattle.pattern.specs.LayoutView.{pattern_of}
-use Rattle.pattern.specs.Lines.{parts_of, cell_fault}
+use Rattle.pattern.specs.Lines.{cell_fault}
 use Rattle.pattern.proofs.Added.{with_mirror, with_ball, with_in, with_out, with_waste, good_more}
 use Rattle.pattern.proofs.layout.Layout.add.Goals as goal
 

@@ -1,9 +1,10 @@
 -- Each name that is asked for was seen.
 use Rattle.std.proofs.Common.{◌≡◌, ◌&&◌, true, false, None, Some, List, ℕ, sym, ap, ap₂, subst, ◌∙◌}
 use Rattle.std.specs.List.{list_all}
+use Rattle.pattern.specs.Layout.{parts_of}
 use Rattle.pattern.specs.ReadingState.{ReadingState}
 use Rattle.section_text.specs.Words.{has}
-use Rattle.pattern.specs.Lines.{parts_of, missing_fault}
+use Rattle.pattern.specs.Lines.{missing_fault}
 use Rattle.pattern.proofs.ReadingLemmas.{none_missing, missing_by}
 use Rattle.pattern.proofs.reading.ReadingSection.missing.Goals as goal
 
