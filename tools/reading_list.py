@@ -4,7 +4,7 @@ and how many of these are definitions that the statement reaches. A file comes a
 
 usage: tools/reading_list.py [--definitions] [--check README.md] [FILE]
 
-FILE is check_main/specs/Headline.antt where it is left out. --definitions names the definitions that are reached. --check looks whether the
+FILE is headline/specs/Headline.antt where it is left out. --definitions names the definitions that are reached. --check looks whether the
 table of a text says the same: each of its rows that begins with the path of a file is compared with that file's count.
 """
 import re
@@ -12,7 +12,7 @@ import sys
 from pathlib import Path
 
 CRATES = Path(__file__).resolve().parent.parent / "crates"
-STATEMENT = "check_main/specs/Headline.antt"
+STATEMENT = "headline/specs/Headline.antt"
 HEAD = re.compile(r"^(?:(?:abbrev|unfoldable|pub|infixl|infixr|record|data)\s+)*(\S+)\s*(?:\{[^}]*\}|\([^)]*\)|\s)*:(?:\s|$)")
 WORD = re.compile(r"[^\s(){}\[\],;.λ∀]+")
 

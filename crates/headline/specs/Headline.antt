@@ -1,9 +1,10 @@
 -- What a yes of `check` means, of texts and bytes alone.
 --
 -- Read before, in this order: bbm_rule/specs/{Spans,Plane}.antt (a step, a run), pattern/specs/Layout.antt (a layout, and its plane),
--- circuit/specs/{Gates,Meaning,Bridge}.antt (gates, valuations, the circuit of lines), audit_core/specs/Implements.antt (a layout
--- computes a circuit), section_text/specs/Words.antt (lines and words of bytes), circuit/specs/Forms.antt and pattern/specs/Forms.antt
--- (what a line says), and Design.antt (what a text says). `tools/reading_list.py` prints which definitions of them are meant.
+-- circuit/specs/{Gates,Entries,Meaning,Bridge}.antt (gates, valuations, the circuit of lines), audit_core/specs/Implements.antt (a layout
+-- computes a circuit), section_text/specs/{Words,SaidSection}.antt (lines and words of bytes, a section), circuit/specs/Forms.antt and
+-- pattern/specs/Forms.antt (what a line says), and Design.antt (what a text says). `tools/reading_list.py` prints which definitions of
+-- them are meant.
 use Rattle.std.specs.Prelude.{◌≡◌, ℕ, List, ◌++◌, Option, Some, slice_get, codes}
 use Rattle.section_text.specs.Words.{lines_of}
 use Rattle.circuit.specs.declared.entry.Entry.{Entry}
