@@ -11,7 +11,7 @@ ghost use Rattle.certificate.specs.Modules.{AreModules};
 
 use crate::entry::{Counts, Entry};
 use circuit::Circuit;
-use pattern::{Layout, Extent};
+use pattern::{Extent, Layout};
 use std::marker::Model;
 
 /// A certificate, which cuts a layout of a circuit into modules. Contracts see what it is for, its version and its lines, as a

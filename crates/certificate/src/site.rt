@@ -16,7 +16,7 @@ use bbm_rule::Cell;
 use circuit::{Circuit, GateNo, GateWires};
 use indexmap::IndexMap;
 use module_box::Box2;
-use pattern::{Layout, Port, Extent};
+use pattern::{Extent, Layout, Port};
 use section_text::Name;
 use std::alloc::{AllocError, Global};
 use std::marker::Model;

@@ -6,7 +6,7 @@ ghost use Rattle.pattern.specs.Layout.{parts_of};
 ghost use Rattle.pattern.specs.Lines.{cells_of, cell_fault, is_inside, limit_fault, order_fault, size_fault};
 
 use crate::layout::Layout;
-use crate::parts::{Part, Extent};
+use crate::parts::{Extent, Part};
 use crate::rectangle::push_rectangle;
 use crate::taken::{meets_in, take_where};
 use bbm_rule::{Cell, Grid};

@@ -4,7 +4,7 @@ ghost use Rattle.section_text.specs.Words.{words_of};
 ghost use Rattle.section_text.specs.FeedState.{IsLine, line_bytes};
 ghost use Rattle.pattern.specs.Forms.{cell_from, lone_cell, named_cell, port_of, corner_and_sides, rectangle_of, sides_and_steps, size_of, form_of};
 
-use crate::parts::{Part, Port, Rectangle, Extent};
+use crate::parts::{Extent, Part, Port, Rectangle};
 use bbm_rule::Cell;
 use section_text::{Feed, Form, Line};
 

@@ -3,7 +3,7 @@ ghost use Rattle.std.specs.Prelude.{◌≡◌, ◌++◌, [], ◌∷◌, None, On
 ghost use Rattle.pattern.specs.Layout.{HaveOwnCells, parts_of};
 ghost use Rattle.pattern.specs.Lines.{AreGoodAfter, cell_fault, limit_fault, is_late, order_fault, size_fault};
 
-use crate::parts::{Part, Port, Rectangle, Extent};
+use crate::parts::{Extent, Part, Port, Rectangle};
 use bbm_rule::Cell;
 use std::alloc::{AllocError, Global};
 use std::marker::Model;

@@ -19,7 +19,7 @@ pub use assign::read_assign;
 pub use form::read_cell;
 pub use layout::Layout;
 pub use on::are_on;
-pub use parts::{Part, Port, Rectangle, Extent};
+pub use parts::{Extent, Part, Port, Rectangle};
 pub use printing::{print_cell, print_layout};
 pub use reading::read_layout;
 pub use rectangle::push_rectangle;

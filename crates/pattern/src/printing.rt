@@ -5,7 +5,7 @@ ghost use Rattle.section_text.specs.Spelling.{spaced, line_text};
 ghost use Rattle.pattern.specs.Text.{cell_words, coordinate, layout_text, port_words, rectangle_words, size_words};
 
 use crate::layout::Layout;
-use crate::parts::{Port, Rectangle, Extent};
+use crate::parts::{Extent, Port, Rectangle};
 use bbm_rule::Cell;
 use section_text::{print_number, print_word};
 use std::alloc::{AllocError, Global};

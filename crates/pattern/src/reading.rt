@@ -13,7 +13,7 @@ use crate::draft::Draft;
 use crate::form::line_form;
 use crate::layout::Layout;
 use crate::names::{index_of, put_name};
-use crate::parts::{Part, Extent};
+use crate::parts::{Extent, Part};
 use indexmap::IndexSet;
 use section_text::{
     Feed, Form, Line, LineFault, Name, PortNames, ReadFault, Section, read_section,

@@ -8,7 +8,7 @@ ghost use Rattle.pattern.specs.Run.{IsRunEnd, RunLeaves, RunsInside, live_cells,
 
 use crate::layout::Layout;
 use crate::names::index_of;
-use crate::parts::{Port, Rectangle, Extent};
+use crate::parts::{Extent, Port, Rectangle};
 use crate::rectangle::push_rectangle;
 use crate::taken::make_live;
 use bbm_rule::{Cell, Grid};
