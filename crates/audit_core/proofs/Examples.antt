@@ -8,7 +8,7 @@ use Rattle.bbm_rule.specs.Plane.{State, step, partner, turned}
 use Rattle.bbm_rule.specs.Spans.{in_span}
 use Rattle.bbm_rule.proofs.Steps.{step_same}
 use Rattle.circuit.specs.Bridge.{circuit_of, netlist_of}
-use Rattle.circuit.specs.Meaning.{Gate, Valuation, AreOrdered, place_of, wires_after}
+use Rattle.circuit.specs.Meaning.{Gate, Valuation, AreOrdered, place_of, wires_after, number}
 use Rattle.circuit.specs.declared.entry.Entry.{Entry}
 use Rattle.circuit.specs.declared.entry.Kind.TheVariants.{Input, Output}
 use Rattle.pattern.specs.Layout.{Pattern}
@@ -254,7 +254,7 @@ one_local = record {
 }
 
 one_good : IsModule (setting_of lines layout) one
-unfolding place_of AreInOrder
+unfolding place_of number AreInOrder
 one_good = record {
   even = record { x = refl; y = refl; w = refl; h = refl };
   wide = (omega arith, omega arith);
@@ -277,7 +277,7 @@ one_port (suc (suc i)) q e = absurd (none_some q e)
     none_some q e = cc
 
 one_ports : HasPorts (setting_of lines layout) one
-unfolding place_of
+unfolding place_of number
 one_ports = record { local = λ i q e h. ap (λ n. is_local (circuit_of lines) (known (circuit_of lines) one) n) (one_port i q e) }
 
 one_tile : Tile (whole layout.size) (areas (one ∷ []))
@@ -303,12 +303,12 @@ no_gate_local = record { used = λ k g e. absurd (no_gate k g e); rising = λ k 
     no_gate k g e = cc
 
 job_starts : (x y : ℤ) → in_box area x y ≡ true → renumber_signal (circuit_wire job.locals) (job_start job x y) ≡ start_signal (circuit_of lines) layout x y
-unfolding job_start start_signal port_at place_of in_box in_span
+unfolding job_start start_signal port_at place_of number in_box in_span
 job_starts = cell_by_cell (λ x y. renumber_signal (circuit_wire job.locals) (job_start job x y) ≡ start_signal (circuit_of lines) layout x y)
     refl refl refl refl refl refl refl refl refl refl refl refl refl refl refl refl
 
 job_demands : (x y : ℤ) → in_box area x y ≡ true → renumber_demand (circuit_wire job.locals) (job_demand job x y) ≡ end_demand (circuit_of lines) layout x y
-unfolding job_demand end_demand port_at place_of in_box in_span
+unfolding job_demand end_demand port_at place_of number in_box in_span
 job_demands = cell_by_cell (λ x y. renumber_demand (circuit_wire job.locals) (job_demand job x y) ≡ end_demand (circuit_of lines) layout x y)
     refl refl refl refl refl refl refl refl refl refl refl refl refl refl refl refl
 
@@ -325,7 +325,7 @@ own_wires = record {
 }
 
 is_job : IsJobOf (circuit_of lines) layout one job
-unfolding place_of
+unfolding place_of number
 is_job = record {
   area = refl;
   steps = refl;

@@ -1,9 +1,9 @@
 -- The run by the values of the inputs
-use Rattle.std.proofs.Common.{◌≡◌, ℕ, zero, suc, ◌+◌, ◌<◌, ◌&&◌, ◌||◌, Bool, true, false, not, List, [], ◌∷◌, ◌++◌, map, take, length, Option, Some, None, refl, sym, ap, ap₂, subst, ◌∙◌, arith, inl, inr}
+use Rattle.std.proofs.Common.{◌≡◌, ℕ, zero, suc, ◌+◌, ◌<◌, ◌&&◌, ◌||◌, Bool, true, false, cond, not, List, [], ◌∷◌, ◌++◌, map, take, length, Option, Some, None, refl, sym, ap, ap₂, subst, ◌∙◌, arith, inl, inr}
 use Rattle.std.specs.Prelude.{ℤ, slice_get, option_map}
 use Rattle.std.specs.List.{All}
 use Rattle.std.specs.Str.{bytes_eq}
-use Rattle.std.proofs.lemmas.Bool.{cases_Bool, false≢true, cond-true, cond-false}
+use Rattle.std.proofs.lemmas.Bool.{cases_Bool, false≢true}
 use Rattle.std.proofs.lemmas.Option.{slice_get-map, slice_get_within, get_or_from_slice_get}
 use Rattle.circuit.specs.Entries.{defined}
 use Rattle.bbm_rule.specs.Plane.{run, is_at}
@@ -12,7 +12,7 @@ use Rattle.section_text.specs.Codes.{code_where}
 use Rattle.section_text.specs.Ports.{Named}
 use Rattle.section_text.specs.Words.{has}
 use Rattle.circuit.specs.Bridge.{circuit_of, input_names, netlist_of, output_names}
-use Rattle.circuit.specs.Meaning.{Valuation, place_of, wire_value, wire_of}
+use Rattle.circuit.specs.Meaning.{Valuation, number, place_of, wire_of, wire_value}
 use Rattle.pattern.specs.Layout.{Pattern, in_cells, in_ports_on, in_rectangles, start, parts_of}
 use Rattle.pattern.specs.Lines.{name_fault}
 use Rattle.pattern.specs.declared.parts.Part.{Part}
@@ -30,16 +30,27 @@ record IsPlaced (name : List ℕ) (names : List (List ℕ)) (k : ℕ) : Type 0 w
   is : place_of name names ≡ Some place
   early : place < k
 
+first_place : (name m : List ℕ) (names : List (List ℕ)) → bytes_eq name m ≡ true → place_of name (m ∷ names) ≡ Some 0
+unfolding place_of number
+first_place name m names e = rw e refl
+
+later_place : (b : Bool) (k p : ℕ) → cond b (Some k) None ≡ Some p → cond b (Some (k + 1)) None ≡ Some (p + 1)
+later_place true k p is = ap (option_map (λ i. i + 1)) is
+later_place false k p is = absurd cc
+
+next_place : (name m : List ℕ) (names : List (List ℕ)) (p : ℕ) → bytes_eq name m ≡ false → place_of name names ≡ Some p → place_of name (m ∷ names) ≡ Some (p + 1)
+unfolding place_of number
+next_place name m names p e is = rw e (later_place (has names name) (number names name) p is)
+
 placed : (name : List ℕ) (names : List (List ℕ)) (k : ℕ) → has (take k names) name ≡ true → IsPlaced name names k
-unfolding place_of
 placed name names zero h = absurd (false≢true h)
 placed name [] (suc k) h = absurd (false≢true h)
 placed name (m ∷ names) (suc k) h = elim (cases_Bool (bytes_eq name m)) [
-  | inl e ↦ record { place = 0; is = cond-true _ _ _ e; early = omega arith }
+  | inl e ↦ record { place = 0; is = first_place name m names e; early = omega arith }
   | inr e ↦
       let later : IsPlaced name names k = placed name names k (sym (ap (λ b. b || has (take k names) name) e) ∙ h) in
       let early = later.early in
-      record { place = later.place + 1; is = cond-false _ _ _ e ∙ ap (option_map (λ i. i + 1)) later.is; early = omega (arith, early) }
+      record { place = later.place + 1; is = next_place name m names later.place e later.is; early = omega (arith, early) }
 ]
 
 no_code : (b : Bool) → code_where (not b) 3 ≡ None → b ≡ true

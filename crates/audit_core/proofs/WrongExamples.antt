@@ -4,7 +4,7 @@ use Rattle.std.specs.Prelude.{pos}
 use Rattle.std.proofs.lemmas.Bool.{false≢true}
 use Rattle.bbm_rule.specs.Plane.{run}
 use Rattle.circuit.specs.Bridge.{circuit_of}
-use Rattle.circuit.specs.Meaning.{Valuation, place_of, values_by_name}
+use Rattle.circuit.specs.Meaning.{Valuation, place_of, values_by_name, number}
 use Rattle.circuit.specs.declared.entry.Entry.{Entry}
 use Rattle.circuit.specs.declared.entry.Kind.TheVariants.{Input, Output}
 use Rattle.pattern.specs.Layout.{Pattern, start}
@@ -29,7 +29,7 @@ on w = true
 
 -- the output cell is dead, and its wire is true
 not_correct : IsCorrect lines layout → ⊥
-unfolding run start place_of
+unfolding run start place_of number
 not_correct is =
     let ran = is.implements on in
     let looks = ran.looks ran.values ran.satisfied in

@@ -142,7 +142,7 @@ abbrev pub bundle : Bundle
 bundle = record { circuit = circuit; size = size; parts = parts; version = 1; entries = lines_in first ++ (lines_in second ++ (lines_in third ++ lines_in fourth)) }
 
 pub reads : bundle_of four_modules ≡ Ok bundle
-unfolding four_modules bundle_of words.lines_of words.rest_of words.number_of words.name_of words.number_at words.name_at words.names_at words.is_word_at words.lone words.lone_number words.lone_name section.section_of section.body_of circuit_forms.form_of circuit_forms.gate_entry circuit_forms.gate_names circuit_forms.gate_kind circuit_forms.bit_at circuit_rules.add_fault bridge.number meaning.place_of layout_forms.form_of layout_forms.cell_from layout_forms.lone_cell layout_forms.named_cell layout_forms.port_of layout_forms.size_of layout_forms.sides_and_steps layout_rules.size_fault layout_rules.limit_fault layout_rules.rank_of layout_rules.is_late layout_rules.order_fault layout_rules.name_fault layout_rules.cells_of layout_rules.is_inside layout_rules.begins layout_rules.ends layout_rules.begun layout_rules.ended layout_rules.is_taken layout_rules.cell_fault layout_rules.line_fault layout_rules.part_fault layout_rules.missing_fault layouts.rectangle_cells in_span boxes.in_box boxes.some_neighbour boxes.in_ring boxes.in_halo entries.change_last entries.last_of entries.add_line entries.modules_of forms.corner_and_sides forms.area_of forms.time_at forms.signal_at forms.timed_cell forms.border_of forms.form_of orders.rank_of orders.number_of orders.cell_of orders.line_cmp orders.is_cut orders.may_precede orders.may_follow rules.lacks_port rules.box_fault rules.module_fault rules.cut_fault rules.are_new rules.gate_fault rules.use_fault rules.is_time rules.is_edge_place rules.is_halo_place rules.signal_fault rules.border_fault rules.entry_fault rules.end_fault cell_cmp
+unfolding four_modules bundle_of words.lines_of words.rest_of words.number_of words.name_of words.number_at words.name_at words.names_at words.is_word_at words.lone words.lone_number words.lone_name section.section_of section.body_of circuit_forms.form_of circuit_forms.gate_entry circuit_forms.gate_names circuit_forms.gate_kind circuit_forms.bit_at circuit_rules.add_fault meaning.number meaning.place_of layout_forms.form_of layout_forms.cell_from layout_forms.lone_cell layout_forms.named_cell layout_forms.port_of layout_forms.size_of layout_forms.sides_and_steps layout_rules.size_fault layout_rules.limit_fault layout_rules.rank_of layout_rules.is_late layout_rules.order_fault layout_rules.name_fault layout_rules.cells_of layout_rules.is_inside layout_rules.begins layout_rules.ends layout_rules.begun layout_rules.ended layout_rules.is_taken layout_rules.cell_fault layout_rules.line_fault layout_rules.part_fault layout_rules.missing_fault layouts.rectangle_cells in_span boxes.in_box boxes.some_neighbour boxes.in_ring boxes.in_halo entries.change_last entries.last_of entries.add_line entries.modules_of forms.corner_and_sides forms.area_of forms.time_at forms.signal_at forms.timed_cell forms.border_of forms.form_of orders.rank_of orders.number_of orders.cell_of orders.line_cmp orders.is_cut orders.may_precede orders.may_follow rules.lacks_port rules.box_fault rules.module_fault rules.cut_fault rules.are_new rules.gate_fault rules.use_fault rules.is_time rules.is_edge_place rules.is_halo_place rules.signal_fault rules.border_fault rules.entry_fault rules.end_fault cell_cmp
 reads = refl
 
 -- ---- the jobs
@@ -279,11 +279,11 @@ first_own = record {
 }
 
 first_starts : every_cell first.area (λ x y. same_signal (renumber_signal (circuit_wire net) (job_start first_job x y)) (start_signal (circuit_of circuit) layout x y)) ≡ true
-unfolding rectangle_cells job_start start_signal port_at place_of in_box in_span
+unfolding rectangle_cells job_start start_signal port_at place_of number in_box in_span
 first_starts = refl
 
 first_demands : every_cell first.area (λ x y. same_demand (renumber_demand (circuit_wire net) (job_demand first_job x y)) (end_demand (circuit_of circuit) layout x y)) ≡ true
-unfolding rectangle_cells job_demand end_demand port_at place_of in_box in_span
+unfolding rectangle_cells job_demand end_demand port_at place_of number in_box in_span
 first_demands = refl
 
 first_is : IsJobOf (circuit_of circuit) layout first first_job
@@ -339,11 +339,11 @@ second_own = record {
 }
 
 second_starts : every_cell second.area (λ x y. same_signal (renumber_signal (circuit_wire net) (job_start second_job x y)) (start_signal (circuit_of circuit) layout x y)) ≡ true
-unfolding rectangle_cells job_start start_signal port_at place_of in_box in_span
+unfolding rectangle_cells job_start start_signal port_at place_of number in_box in_span
 second_starts = refl
 
 second_demands : every_cell second.area (λ x y. same_demand (renumber_demand (circuit_wire net) (job_demand second_job x y)) (end_demand (circuit_of circuit) layout x y)) ≡ true
-unfolding rectangle_cells job_demand end_demand port_at place_of in_box in_span
+unfolding rectangle_cells job_demand end_demand port_at place_of number in_box in_span
 second_demands = refl
 
 second_is : IsJobOf (circuit_of circuit) layout second second_job
@@ -399,11 +399,11 @@ third_own = record {
 }
 
 third_starts : every_cell third.area (λ x y. same_signal (renumber_signal (circuit_wire net) (job_start third_job x y)) (start_signal (circuit_of circuit) layout x y)) ≡ true
-unfolding rectangle_cells job_start start_signal port_at place_of in_box in_span
+unfolding rectangle_cells job_start start_signal port_at place_of number in_box in_span
 third_starts = refl
 
 third_demands : every_cell third.area (λ x y. same_demand (renumber_demand (circuit_wire net) (job_demand third_job x y)) (end_demand (circuit_of circuit) layout x y)) ≡ true
-unfolding rectangle_cells job_demand end_demand port_at place_of in_box in_span
+unfolding rectangle_cells job_demand end_demand port_at place_of number in_box in_span
 third_demands = refl
 
 third_is : IsJobOf (circuit_of circuit) layout third third_job
@@ -459,11 +459,11 @@ fourth_own = record {
 }
 
 fourth_starts : every_cell fourth.area (λ x y. same_signal (renumber_signal (circuit_wire net) (job_start fourth_job x y)) (start_signal (circuit_of circuit) layout x y)) ≡ true
-unfolding rectangle_cells job_start start_signal port_at place_of in_box in_span
+unfolding rectangle_cells job_start start_signal port_at place_of number in_box in_span
 fourth_starts = refl
 
 fourth_demands : every_cell fourth.area (λ x y. same_demand (renumber_demand (circuit_wire net) (job_demand fourth_job x y)) (end_demand (circuit_of circuit) layout x y)) ≡ true
-unfolding rectangle_cells job_demand end_demand port_at place_of in_box in_span
+unfolding rectangle_cells job_demand end_demand port_at place_of number in_box in_span
 fourth_demands = refl
 
 fourth_is : IsJobOf (circuit_of circuit) layout fourth fourth_job
@@ -507,7 +507,7 @@ fourth_faultless = faultless fourth_job values fourth_whole is_ordered are_local
 -- ---- all of it
 
 borders : border_test (setting_of circuit layout) modules 1 ≡ true
-unfolding rectangle_cells in_halo some_neighbour in_box in_span signal_at held_at event_at place_of
+unfolding rectangle_cells in_halo some_neighbour in_box in_span signal_at held_at event_at place_of number
 borders = refl
 
 no_more : (i : ℕ) (j : JobState) → slice_get [] i ≡ Some j → ⊥
