@@ -16,7 +16,7 @@ pub fn modules_text(alloc: Global, text: &mut Feed) -> Result<Answered, AllocErr
     requires closed { text.old.closed ≡ true }
     requires unread { text.old.taken ≡ 0 }
     requires going { text.old.stop ≡ None }
-    ensures answered { IfOk result (λ answered. IsModulesOf text.old.text answered.output.items answered.outcome) }
+    ensures { IfOk result (λ answered. IsModulesOf text.old.text answered.output.items answered.outcome) }
 {
     let circuit = match read_circuit(alloc, text) {
         Err(fault) => return refused(alloc, fault),
