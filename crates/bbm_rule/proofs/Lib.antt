@@ -10,3 +10,4 @@ pub mod BoardLemmas
 pub mod Boards
 pub mod CellLemmas
 pub mod GridLemmas
+mod Meetings

@@ -1,14 +1,32 @@
 -- What the laws of this crate say
 use Rattle.std.specs.Ordering.{int_eq}
 use Rattle.std.specs.List.{range_with_len}
-use Rattle.std.specs.Prelude.{pos, ◌&&◌, ◌||◌, if◌then◌else◌, [], ◌∷◌, ◌++◌, ◌≡◌, ℕ, ℤ, List, map}
-use Rattle.bbm_rule.specs.Plane.{State, step, run}
+use Rattle.std.specs.Prelude.{true, false, pos, ◌&&◌, ◌||◌, if◌then◌else◌, [], ◌∷◌, ◌++◌, ◌≡◌, ℕ, ℤ, List, map}
+use Rattle.bbm_rule.specs.Plane.{State, partner, step, run}
 use Rattle.bbm_rule.specs.Words.{turn_of}
 
 -- what the blocks 0 to 15 become
 abbrev pub TurnTable : Type 0
 TurnTable =
     map turn_of (range_with_len 0 16) ≡ 0 ∷ 8 ∷ 4 ∷ 3 ∷ 2 ∷ 5 ∷ 9 ∷ 7 ∷ 1 ∷ 6 ∷ 10 ∷ 11 ∷ 12 ∷ 13 ∷ 14 ∷ 15 ∷ []
+
+-- at time t the block of (x, y) has two balls, in that cell and in the opposite one
+pub record MeetsHeadOn (t : ℕ) (s : State) (x y : ℤ) : Type 0 where
+  pub here : s x y ≡ true
+  pub opposite : s (partner t x) (partner t y) ≡ true
+  pub beside : s (partner t x) y ≡ false
+  pub below : s x (partner t y) ≡ false
+
+-- after the step the other two cells of the block are live
+pub record LeavesAtRightAngles (t : ℕ) (s : State) (x y : ℤ) : Type 0 where
+  pub here : step t s x y ≡ false
+  pub opposite : step t s (partner t x) (partner t y) ≡ false
+  pub beside : step t s (partner t x) y ≡ true
+  pub below : step t s x (partner t y) ≡ true
+
+-- so it is in each block of the plane, at each time
+abbrev pub TwoBallsTurn : Type 0
+TwoBallsTurn = (t : ℕ) (s : State) (x y : ℤ) → MeetsHeadOn t s x y → LeavesAtRightAngles t s x y
 
 -- the live cells are (2, 2) and (5, 5)
 abbrev pub two_balls : State

@@ -1,15 +1,17 @@
 //! Laws on the definitions alone.
 
-ghost use Rattle.bbm_rule.specs.Laws.{TurnTable, TwoBallsCollide, StepUndoesItself};
+ghost use Rattle.bbm_rule.specs.Laws.{TurnTable, TwoBallsCollide, TwoBallsTurn, StepUndoesItself};
 
 /// What each of the sixteen blocks becomes.
 pub fn turn_table()
     ensures { TurnTable }
 {}
 
-/// Two balls that meet in a block leave it on its other diagonal.
+/// Two balls that meet head on in a block leave it on its other diagonal, in each block of the plane and at each time.
+/// `collide`: one such meeting, with the ways to it and from it.
 pub fn two_balls_collide()
-    ensures { TwoBallsCollide }
+    ensures turn { TwoBallsTurn }
+    ensures collide { TwoBallsCollide }
 {}
 
 /// The step at a time is its own inverse: once more by the same partition, and the plane is as it was.

@@ -1,7 +1,11 @@
 use Rattle.std.proofs.Common.{refl}
 use Rattle.bbm_rule.specs.Plane.{partner, turned, step, run}
+use Rattle.bbm_rule.proofs.Meetings.{two_turn}
 use Rattle.bbm_rule.proofs.laws.two_balls_collide.Goals as goal
 
-pub returns : goal.returns
+pub returns-clause-turn : goal.returns-clause-turn
+returns-clause-turn c = two_turn
+
+pub returns-clause-collide : goal.returns-clause-collide
 unfolding partner turned step run
-returns c = refl
+returns-clause-collide c = refl

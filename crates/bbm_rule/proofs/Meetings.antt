@@ -1,0 +1,14 @@
+-- Two balls that meet in a block.
+use Rattle.std.proofs.Common.{refl}
+use Rattle.bbm_rule.specs.Plane.{step, turned}
+use Rattle.bbm_rule.specs.Laws.{TwoBallsTurn}
+use Rattle.bbm_rule.proofs.PlaneLemmas.{partner_twice}
+
+pub two_turn : TwoBallsTurn
+unfolding step turned
+two_turn t s x y meets = record {
+  here = rw (meets.here, meets.opposite, meets.beside, meets.below) refl;
+  opposite = rw (partner_twice t x, partner_twice t y, meets.here, meets.opposite, meets.beside, meets.below) refl;
+  beside = rw (partner_twice t x, meets.here, meets.opposite, meets.beside, meets.below) refl;
+  below = rw (partner_twice t y, meets.here, meets.opposite, meets.beside, meets.below) refl;
+}
