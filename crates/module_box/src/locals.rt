@@ -90,6 +90,31 @@ fn local_gate(known: &IndexSet<u16>, gate: GateWires) -> LocalGate
     }
 }
 
+// The gates, each over the wires that are known before it. Those that it defines become known.
+fn add_gates(
+    alloc: Global,
+    known: &mut IndexSet<u16>,
+    circuit: &Circuit,
+    gates: &[GateNo],
+) -> Result<Vec<LocalGate>, AllocError>
+    requires { AreLocalLines (netlist_of circuit.now) known.old.keys gates.now }
+    ensures locals { IfOk result (λ made. AreLocalsOf (netlist_of circuit.now) (record { netlist = record { given = length known.old.keys; gates = map kept_gate made.items }; circuit_wires = known.new.keys; circuit_gates = gates.now })) }
+    ensures wires { IfOk result (λ made. known.new.keys ≡ local_wires (netlist_of circuit.now) known.old.keys gates.now) }
+    ensures count { IfOk result (λ made. length made.items ≡ length gates.now) }
+    ensures few { IfOk result (λ made. length known.new.keys ≤ 266) }
+{
+    let gate_count = circuit.gates();
+    let mut made = Vec::with_capacity(alloc, gates.len())?;
+    'gates: for used in gates {
+        prove!((used.number() as usize) < gate_count);
+        let gate = circuit.gate(*used);
+        let local = local_gate(known, gate);
+        made.push(local)?;
+        add_wires(known, gate.outs())?;
+    }
+    Ok(made)
+}
+
 impl Locals {
     /// The wires and gates that the lines of a module name: the wires of the circuit that it cuts, at most 10, and the gates
     /// that it uses, at most 64, in the order of the circuit. Each of them uses wires that are cut or that one before it
@@ -106,17 +131,9 @@ impl Locals {
         ensures gates { IfOk result (λ l. l.circuit_gates ≡ gates.now) }
         ensures given { IfOk result (λ l. l.netlist.given ≡ length cuts.now) }
     {
-        let gate_count = circuit.gates();
         let mut known = IndexSet::new(alloc);
-        let mut local_gates = Vec::with_capacity(alloc, gates.len())?;
         add_wires(&mut known, cuts)?;
-        'gates: for used in gates {
-            prove!((used.number() as usize) < gate_count);
-            let gate = circuit.gate(*used);
-            let local = local_gate(&known, gate);
-            local_gates.push(local)?;
-            add_wires(&mut known, gate.outs())?;
-        }
+        let local_gates = add_gates(alloc, &mut known, circuit, gates)?;
         Ok(Locals {
             given: cuts.len(),
             gates: local_gates,
