@@ -1,5 +1,5 @@
 //! The assign section: which names are on.
-ghost use Rattle.std.specs.Prelude.{◌≡◌, ℕ, true, List};
+ghost use Rattle.std.specs.Prelude.{◌≡◌, ℕ, true, [], List};
 ghost use Rattle.section_text.specs.Words.{words_of, has};
 ghost use Rattle.section_text.specs.FeedState.{IsLine, line_bytes};
 ghost use Rattle.section_text.specs.Section.{Reads};
@@ -71,6 +71,23 @@ impl<'a> Section for Assigning<'a> {
     }
 }
 
+// Reads the section, and lists the names that are on.
+fn read_names(
+    alloc: Global,
+    feed: &mut Feed,
+    reading: &mut Assigning,
+) -> Result<Vec<Name>, ReadFault>
+    requires closed { feed.old.closed ≡ true }
+    requires none { reading.old.on.keys ≡ [] }
+    ensures { Reads (assign_grammar reading.old.ins.now) (λ names. assign_value names.items) feed.old feed.new result }
+{
+    read_section(feed, reading)?;
+    match reading.on.as_slice().to_vec(alloc) {
+        Ok(names) => Ok(names),
+        Err(_) => Err(feed.starve()),
+    }
+}
+
 /// Reads an assign section, in which the names of `ins` may be on, each once: the names that are on, in the order of
 /// their lines.
 ///
@@ -96,9 +113,5 @@ pub fn read_assign(alloc: Global, feed: &mut Feed, ins: &[Name]) -> Result<Vec<N
         known,
         on: IndexSet::new(alloc),
     };
-    read_section(feed, &mut reading)?;
-    match reading.on.as_slice().to_vec(alloc) {
-        Ok(names) => Ok(names),
-        Err(_) => Err(feed.starve()),
-    }
+    read_names(alloc, feed, &mut reading)
 }

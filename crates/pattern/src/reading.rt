@@ -254,8 +254,10 @@ pub fn read_layout(alloc: Global, feed: &mut Feed, ports: &PortNames) -> Result<
     let Ok(mut reading) = Reading::new(alloc, ports) else {
         return Err(feed.starve());
     };
-    match read_section(feed, &mut reading) {
-        Ok(()) => Ok(reading.into_layout()),
+    let read = read_section(feed, &mut reading);
+    let layout = reading.into_layout();
+    match read {
+        Ok(()) => Ok(layout),
         Err(fault) => Err(fault),
     }
 }
