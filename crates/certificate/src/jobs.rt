@@ -1,21 +1,73 @@
 //! The jobs of a certificate.
-ghost use Rattle.std.specs.Prelude.{◌≡◌, IfOk, map};
+ghost use Rattle.std.specs.Prelude.{◌≡◌, ◌+◌, ◌≤◌, ℤ, IfOk, IsTrue, map, slice_get, unwrap_or};
 ghost use Rattle.std.specs.Arc.{arc_value};
+ghost use Rattle.std.specs.List.{All, flat_map};
 ghost use Rattle.circuit.specs.Bridge.{circuit_of};
+ghost use Rattle.circuit.specs.Meaning.{wires};
+ghost use Rattle.module_box.specs.Boxes.{in_box};
+ghost use Rattle.module_box.specs.Locals.{circuit_wire};
 ghost use Rattle.certificate.specs.Entries.{modules_of};
 ghost use Rattle.certificate.specs.Grammars.{setting_of};
-ghost use Rattle.certificate.specs.Jobs.{AreJobsOf, IsJobOf};
+ghost use Rattle.certificate.specs.Jobs.{AreJobsOf, IsJobOf, end_demand, line_signals, place_in, start_signal};
 ghost use Rattle.certificate.specs.Modules.{AreModules, HasPorts, IsModule};
+ghost use Rattle.certificate.specs.Orders.{AreInOrder};
+ghost use Rattle.certificate.specs.PlanView.{KnowsPorts};
+ghost use Rattle.certificate.specs.Signals.{IsBelow, IsDemandBelow, renumber_demand, renumber_signal, renumber_signals};
+ghost use Rattle.certificate.specs.Timetables.{IsNamedLocal, borders_in};
 
 use crate::cert::Cert;
 use crate::entry::Entry;
-use crate::job::Job;
+use crate::job::{Demand, Job};
 use crate::lines::{cut_list, inner_lines, used_gates};
 use crate::plan::Plan;
 use crate::timetable::{Side, signals_of};
-use module_box::{Box2, Locals};
+use circuit::Circuit;
+use module_box::{Box2, Locals, Schedule, Signal};
 use std::alloc::{AllocError, Global};
 use std::sync::Arc;
+
+// What the cells of a module's box carry at time 0, and what they are to be at the last time.
+fn cell_lists(
+    alloc: Global,
+    plan: &Plan,
+    area: Box2,
+    locals: &Locals,
+) -> Result<(Vec<Signal>, Vec<Demand>), AllocError>
+    requires columns { area.x + area.w ≤ 512 }
+    requires rows { area.y + area.h ≤ 512 }
+    requires ins { KnowsPorts (circuit_of plan.now.circuit) locals.now.circuit_wires plan.now.layout.ins area }
+    requires outs { KnowsPorts (circuit_of plan.now.circuit) locals.now.circuit_wires plan.now.layout.outs area }
+    ensures starts_own { IfOk result (λ lists. All (IsBelow (wires locals.now.netlist)) lists.0.items) }
+    ensures starts { IfOk result (λ lists. (x y : ℤ) → IsTrue (in_box area x y) → renumber_signal (circuit_wire locals.now) (unwrap_or (slice_get lists.0.items (place_in area x y)) Signal.Zero) ≡ start_signal (circuit_of plan.now.circuit) plan.now.layout x y) }
+    ensures demands_own { IfOk result (λ lists. All (IsDemandBelow (wires locals.now.netlist)) lists.1.items) }
+    ensures demands { IfOk result (λ lists. (x y : ℤ) → IsTrue (in_box area x y) → renumber_demand (circuit_wire locals.now) (unwrap_or (slice_get lists.1.items (place_in area x y)) Demand.Dead) ≡ end_demand (circuit_of plan.now.circuit) plan.now.layout x y) }
+{
+    let starts = plan.starts(alloc, area, locals)?;
+    let demands = plan.demands(alloc, area, locals)?;
+    Ok((starts, demands))
+}
+
+// The signals of a module's lines about cells of its ring, and of those about cells of its halo.
+fn schedules(
+    alloc: Global,
+    circuit: &Circuit,
+    locals: &Locals,
+    lines: &[Entry],
+) -> Result<(Schedule, Schedule), AllocError>
+    requires order { AreInOrder lines.now }
+    requires edges { All (IsNamedLocal (circuit_of circuit.now) locals.now) (flat_map (borders_in Side.Ring) lines.now) }
+    requires halos { All (IsNamedLocal (circuit_of circuit.now) locals.now) (flat_map (borders_in Side.Halo) lines.now) }
+    ensures edges { IfOk result (λ sides. renumber_signals (circuit_wire locals.now) sides.0 ≡ line_signals (circuit_of circuit.now) (flat_map (borders_in Side.Ring) lines.now)) }
+    ensures edges_held { IfOk result (λ sides. All (λ h. IsBelow (wires locals.now.netlist) h.signal) sides.0.held) }
+    ensures edge_events { IfOk result (λ sides. All (λ e. IsBelow (wires locals.now.netlist) e.signal) sides.0.events) }
+    ensures halos { IfOk result (λ sides. renumber_signals (circuit_wire locals.now) sides.1 ≡ line_signals (circuit_of circuit.now) (flat_map (borders_in Side.Halo) lines.now)) }
+    ensures halos_held { IfOk result (λ sides. All (λ h. IsBelow (wires locals.now.netlist) h.signal) sides.1.held) }
+    ensures halo_events { IfOk result (λ sides. All (λ e. IsBelow (wires locals.now.netlist) e.signal) sides.1.events) }
+{
+    let edges = signals_of(alloc, circuit, locals, Side::Ring, lines)?;
+    let halos = signals_of(alloc, circuit, locals, Side::Halo, lines)?;
+    Ok((edges, halos))
+}
 
 // The job of the module that has this box and these lines.
 fn make_job(alloc: Global, plan: &Plan, area: Box2, lines: &[Entry]) -> Result<Job, AllocError>
@@ -30,10 +82,8 @@ fn make_job(alloc: Global, plan: &Plan, area: Box2, lines: &[Entry]) -> Result<J
     let cuts = cut_list(alloc, circuit, lines)?;
     let gates = used_gates(alloc, lines)?;
     let locals = Locals::new(alloc, circuit, cuts.as_slice(), gates.as_slice())?;
-    let starts = plan.starts(alloc, area, &locals)?;
-    let demands = plan.demands(alloc, area, &locals)?;
-    let edges = signals_of(alloc, circuit, &locals, Side::Ring, lines)?;
-    let halos = signals_of(alloc, circuit, &locals, Side::Halo, lines)?;
+    let (starts, demands) = cell_lists(alloc, plan, area, &locals)?;
+    let (edges, halos) = schedules(alloc, circuit, &locals, lines)?;
     Ok(Job {
         area,
         steps: size.steps,

@@ -106,22 +106,21 @@ pub fn read_certificate<'a>(
     let Ok(mut reading) = begin_reading(alloc, circuit, layout) else {
         return Err(feed.starve());
     };
-    match read_section(feed, &mut reading) {
+    let read = read_section(feed, &mut reading);
+    let Reading {
+        alloc: _,
+        version,
+        builder,
+    } = reading;
+    let (entries, modules) = builder.into_parts();
+    match read {
+        Ok(()) => Ok(Cert {
+            circuit,
+            layout,
+            version,
+            entries,
+            modules,
+        }),
         Err(fault) => Err(fault),
-        Ok(()) => {
-            let Reading {
-                alloc: _,
-                version,
-                builder,
-            } = reading;
-            let (entries, modules) = builder.into_parts();
-            Ok(Cert {
-                circuit,
-                layout,
-                version,
-                entries,
-                modules,
-            })
-        }
     }
 }

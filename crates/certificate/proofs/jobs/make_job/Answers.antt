@@ -12,7 +12,6 @@ use Rattle.certificate.proofs.JobLemmas.{small_gates, within_512, edges_named, h
 use Rattle.certificate.proofs.PlanLemmas.{locals_have_ports}
 use Rattle.certificate.proofs.jobs.make_job.Goals as goal
 
--- src/jobs.rt:33:17
 pub used_gates-requires : goal.used_gates-requires
 used_gates-requires c =
     let cs = c.args.plan.now.circuit in
@@ -20,56 +19,38 @@ used_gates-requires c =
     let g = c.gates-gate_count in
     small_gates (netlist_of cs) (cut_wires (circuit_of cs) m) (gates m) c.requires.module.local (few_gates _ cs g.result c.circuit-circuit.ensures g.ensures.count g.ensures.few)
 
--- src/jobs.rt:34:18
 pub new-requires : goal.new-requires
 new-requires c =
     let m : ModuleLines = record { area = c.args.area; lines = c.args.lines.now } in
     lists_local _ c.args.plan.now.circuit c.args.plan.now.layout m c.as_slice.result.now c.as_slice-2.result.now c.circuit-circuit.ensures
     (c.as_slice.ensures.value ∙ c.in_ok-cuts.ensures) (c.as_slice-2.ensures.value ∙ c.in_ok-gates.ensures) c.requires.module
 
--- src/jobs.rt:35:18
-pub starts-requires-clause-columns : goal.starts-requires-clause-columns
-starts-requires-clause-columns c =
+pub cell_lists-requires-clause-columns : goal.cell_lists-requires-clause-columns
+cell_lists-requires-clause-columns c =
     (within_512 (setting_of c.args.plan.now.circuit c.args.plan.now.layout) (record { area = c.args.area; lines = c.args.lines.now }) c.size-size.result
     (c.size-size.ensures.size ∙ ap (λ p. p.size) c.layout.ensures) c.size-size.ensures.limits c.requires.module).0
 
--- src/jobs.rt:35:18
-pub starts-requires-clause-rows : goal.starts-requires-clause-rows
-starts-requires-clause-rows c =
+pub cell_lists-requires-clause-rows : goal.cell_lists-requires-clause-rows
+cell_lists-requires-clause-rows c =
     (within_512 (setting_of c.args.plan.now.circuit c.args.plan.now.layout) (record { area = c.args.area; lines = c.args.lines.now }) c.size-size.result
     (c.size-size.ensures.size ∙ ap (λ p. p.size) c.layout.ensures) c.size-size.ensures.limits c.requires.module).1
 
--- src/jobs.rt:35:18
-pub starts-requires-clause-ports : goal.starts-requires-clause-ports
-starts-requires-clause-ports c =
+pub cell_lists-requires-clause-ins : goal.cell_lists-requires-clause-ins
+cell_lists-requires-clause-ins c =
     let m : ModuleLines = record { area = c.args.area; lines = c.args.lines.now } in
     (locals_have_ports c.args.plan.now.circuit c.args.plan.now.layout m c.requires.ports _
     (wires_known _ c.args.plan.now.circuit m c.as_slice.result.now c.as_slice-2.result.now _ c.circuit-circuit.ensures
     (c.as_slice.ensures.value ∙ c.in_ok-cuts.ensures) (c.as_slice-2.ensures.value ∙ c.in_ok-gates.ensures) c.in_ok-locals.ensures.wires)).0
 
--- src/jobs.rt:36:19
-pub demands-requires-clause-columns : goal.demands-requires-clause-columns
-demands-requires-clause-columns c =
-    (within_512 (setting_of c.args.plan.now.circuit c.args.plan.now.layout) (record { area = c.args.area; lines = c.args.lines.now }) c.size-size.result
-    (c.size-size.ensures.size ∙ ap (λ p. p.size) c.layout.ensures) c.size-size.ensures.limits c.requires.module).0
-
--- src/jobs.rt:36:19
-pub demands-requires-clause-rows : goal.demands-requires-clause-rows
-demands-requires-clause-rows c =
-    (within_512 (setting_of c.args.plan.now.circuit c.args.plan.now.layout) (record { area = c.args.area; lines = c.args.lines.now }) c.size-size.result
-    (c.size-size.ensures.size ∙ ap (λ p. p.size) c.layout.ensures) c.size-size.ensures.limits c.requires.module).1
-
--- src/jobs.rt:36:19
-pub demands-requires-clause-ports : goal.demands-requires-clause-ports
-demands-requires-clause-ports c =
+pub cell_lists-requires-clause-outs : goal.cell_lists-requires-clause-outs
+cell_lists-requires-clause-outs c =
     let m : ModuleLines = record { area = c.args.area; lines = c.args.lines.now } in
     (locals_have_ports c.args.plan.now.circuit c.args.plan.now.layout m c.requires.ports _
     (wires_known _ c.args.plan.now.circuit m c.as_slice.result.now c.as_slice-2.result.now _ c.circuit-circuit.ensures
     (c.as_slice.ensures.value ∙ c.in_ok-cuts.ensures) (c.as_slice-2.ensures.value ∙ c.in_ok-gates.ensures) c.in_ok-locals.ensures.wires)).1
 
--- src/jobs.rt:37:17
-pub signals_of-requires-clause-local : goal.signals_of-requires-clause-local
-signals_of-requires-clause-local c =
+pub schedules-requires-clause-edges : goal.schedules-requires-clause-edges
+schedules-requires-clause-edges c =
     let cs = c.args.plan.now.circuit in
     let m : ModuleLines = record { area = c.args.area; lines = c.args.lines.now } in
     let known_wires = wires_known _ cs m c.as_slice.result.now c.as_slice-2.result.now _ c.circuit-circuit.ensures
@@ -77,9 +58,8 @@ signals_of-requires-clause-local c =
     subst (λ ls. All (IsNamedLocal (circuit_of ls) c.in_ok-locals.locals) (edges m)) (sym c.circuit-circuit.ensures)
     (edges_named (setting_of cs c.args.plan.now.layout) m c.in_ok-locals.locals known_wires c.requires.module)
 
--- src/jobs.rt:38:17
-pub signals_of-requires-2-clause-local : goal.signals_of-requires-2-clause-local
-signals_of-requires-2-clause-local c =
+pub schedules-requires-clause-halos : goal.schedules-requires-clause-halos
+schedules-requires-clause-halos c =
     let cs = c.args.plan.now.circuit in
     let m : ModuleLines = record { area = c.args.area; lines = c.args.lines.now } in
     let known_wires = wires_known _ cs m c.as_slice.result.now c.as_slice-2.result.now _ c.circuit-circuit.ensures
@@ -87,7 +67,6 @@ signals_of-requires-2-clause-local c =
     subst (λ ls. All (IsNamedLocal (circuit_of ls) c.in_ok-locals.locals) (halos m)) (sym c.circuit-circuit.ensures)
     (halos_named (setting_of cs c.args.plan.now.layout) m c.in_ok-locals.locals known_wires c.requires.module)
 
--- src/jobs.rt:39:5
 pub invariant_of-result : goal.invariant_of-result
 invariant_of-result c =
     let m : ModuleLines = record { area = c.args.area; lines = c.args.lines.now } in
@@ -99,18 +78,17 @@ invariant_of-result c =
       height = (c.requires.module.high.0, c.requires.module.high.1, limits.1);
       steps = limits.2;
       own = record {
-        starts = c.in_ok-starts.ensures.own;
-        demands = c.in_ok-demands.ensures.own;
-        edge_held = c.in_ok-edges.ensures.held;
-        edge_events = c.in_ok-edges.ensures.events;
-        halo_held = c.in_ok-halos.ensures.held;
-        halo_events = c.in_ok-halos.ensures.events;
+        starts = c.in_ok-starts.ensures.starts_own;
+        demands = c.in_ok-starts.ensures.demands_own;
+        edge_held = c.in_ok-edges.ensures.edges_held;
+        edge_events = c.in_ok-edges.ensures.edge_events;
+        halo_held = c.in_ok-edges.ensures.halos_held;
+        halo_events = c.in_ok-edges.ensures.halo_events;
         stops = none_own _ c.new-2.result.items c.new-2.ensures.items;
       };
       no_stops = c.new-2.ensures.items;
     }
 
--- src/jobs.rt:21:1
 pub returns : goal.returns
 returns c =
     let cs = c.args.plan.now.circuit in
@@ -125,9 +103,9 @@ returns c =
       steps = c.size-size.result.steps;
       locals = l;
       starts = c.in_ok-starts.starts;
-      demands = c.in_ok-demands.demands;
+      demands = c.in_ok-starts.demands;
       edges = c.in_ok-edges.edges;
-      halos = c.in_ok-halos.halos;
+      halos = c.in_ok-edges.halos;
       stops = c.new-2.result;
     }) in
     record {
@@ -137,17 +115,17 @@ returns c =
       cut = cut_count _ cs p m c.as_slice.result.now _ circuit_is cuts_are c.in_ok-locals.ensures.given c.requires.module;
       wires = wires_known _ cs m c.as_slice.result.now c.as_slice-2.result.now _ circuit_is cuts_are gates_are c.in_ok-locals.ensures.wires;
       used = c.in_ok-locals.ensures.gates ∙ gates_are;
-      start = start_found (circuit_of cs) p c.args.area j refl c.in_ok-starts.ensures.cells;
-      demand = demand_found (circuit_of cs) p c.args.area j refl c.in_ok-demands.ensures.cells;
-      edges = c.in_ok-edges.ensures.same ∙ ap (λ ls. line_signals (circuit_of ls) (edges m)) circuit_is;
-      halos = c.in_ok-halos.ensures.same ∙ ap (λ ls. line_signals (circuit_of ls) (halos m)) circuit_is;
+      start = start_found (circuit_of cs) p c.args.area j refl c.in_ok-starts.ensures.starts;
+      demand = demand_found (circuit_of cs) p c.args.area j refl c.in_ok-starts.ensures.demands;
+      edges = c.in_ok-edges.ensures.edges ∙ ap (λ ls. line_signals (circuit_of ls) (edges m)) circuit_is;
+      halos = c.in_ok-edges.ensures.halos ∙ ap (λ ls. line_signals (circuit_of ls) (halos m)) circuit_is;
       own = record {
-        starts = c.in_ok-starts.ensures.own;
-        demands = c.in_ok-demands.ensures.own;
-        edge_held = c.in_ok-edges.ensures.held;
-        edge_events = c.in_ok-edges.ensures.events;
-        halo_held = c.in_ok-halos.ensures.held;
-        halo_events = c.in_ok-halos.ensures.events;
+        starts = c.in_ok-starts.ensures.starts_own;
+        demands = c.in_ok-starts.ensures.demands_own;
+        edge_held = c.in_ok-edges.ensures.edges_held;
+        edge_events = c.in_ok-edges.ensures.edge_events;
+        halo_held = c.in_ok-edges.ensures.halos_held;
+        halo_events = c.in_ok-edges.ensures.halo_events;
         stops = none_own _ c.new-2.result.items c.new-2.ensures.items;
       };
       stops = c.new-2.ensures.items;
