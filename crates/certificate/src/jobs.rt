@@ -1,12 +1,13 @@
 //! The jobs of a certificate.
-ghost use Rattle.std.specs.Prelude.{◌≡◌, ◌+◌, ◌≤◌, ℤ, IfOk, IsTrue, map, slice_get, unwrap_or};
+ghost use Rattle.std.specs.Prelude.{◌≡◌, ◌+◌, ◌≤◌, ℤ, IfOk, IsTrue, length, map, slice_get, unwrap_or};
 ghost use Rattle.std.specs.Arc.{arc_value};
 ghost use Rattle.std.specs.List.{All, flat_map};
-ghost use Rattle.circuit.specs.Bridge.{circuit_of};
-ghost use Rattle.circuit.specs.Meaning.{wires};
+ghost use Rattle.std.specs.Option.{option_to_list};
+ghost use Rattle.circuit.specs.Bridge.{circuit_of, netlist_of};
+ghost use Rattle.circuit.specs.Meaning.{wire_of, wires};
 ghost use Rattle.module_box.specs.Boxes.{in_box};
-ghost use Rattle.module_box.specs.Locals.{circuit_wire};
-ghost use Rattle.certificate.specs.Entries.{modules_of};
+ghost use Rattle.module_box.specs.Locals.{AreLocalLines, AreLocalsOf, circuit_wire, local_wires};
+ghost use Rattle.certificate.specs.Entries.{cut_in, modules_of, use_in};
 ghost use Rattle.certificate.specs.Grammars.{setting_of};
 ghost use Rattle.certificate.specs.Jobs.{AreJobsOf, IsJobOf, end_demand, line_signals, place_in, start_signal};
 ghost use Rattle.certificate.specs.Modules.{AreModules, HasPorts, IsModule};
@@ -25,6 +26,21 @@ use circuit::Circuit;
 use module_box::{Box2, Locals, Schedule, Signal};
 use std::alloc::{AllocError, Global};
 use std::sync::Arc;
+
+// The wires and gates that a module's lines name.
+fn named_locals(alloc: Global, circuit: &Circuit, lines: &[Entry]) -> Result<Locals, AllocError>
+    requires { AreLocalLines (netlist_of circuit.now) (flat_map (λ n. option_to_list (wire_of (circuit_of circuit.now) n)) (flat_map cut_in lines.now)) (flat_map use_in lines.now) }
+    ensures locals { IfOk result (λ l. AreLocalsOf (netlist_of circuit.now) l) }
+    ensures wires { IfOk result (λ l. l.circuit_wires ≡ local_wires (netlist_of circuit.now) (flat_map (λ n. option_to_list (wire_of (circuit_of circuit.now) n)) (flat_map cut_in lines.now)) (flat_map use_in lines.now)) }
+    ensures gates { IfOk result (λ l. l.circuit_gates ≡ flat_map use_in lines.now) }
+    ensures given { IfOk result (λ l. l.netlist.given ≡ length (flat_map (λ n. option_to_list (wire_of (circuit_of circuit.now) n)) (flat_map cut_in lines.now))) }
+{
+    // A circuit has at most 1024 gates, so their numbers fit.
+    let _gate_count = circuit.gates();
+    let cuts = cut_list(alloc, circuit, lines)?;
+    let gates = used_gates(alloc, lines)?;
+    Locals::new(alloc, circuit, cuts.as_slice(), gates.as_slice())
+}
 
 // What the cells of a module's box carry at time 0, and what they are to be at the last time.
 fn cell_lists(
@@ -77,11 +93,7 @@ fn make_job(alloc: Global, plan: &Plan, area: Box2, lines: &[Entry]) -> Result<J
 {
     let circuit = plan.circuit();
     let size = plan.layout().size();
-    // A circuit has at most 1024 gates, so their numbers fit.
-    let _gate_count = circuit.gates();
-    let cuts = cut_list(alloc, circuit, lines)?;
-    let gates = used_gates(alloc, lines)?;
-    let locals = Locals::new(alloc, circuit, cuts.as_slice(), gates.as_slice())?;
+    let locals = named_locals(alloc, circuit, lines)?;
     let (starts, demands) = cell_lists(alloc, plan, area, &locals)?;
     let (edges, halos) = schedules(alloc, circuit, &locals, lines)?;
     Ok(Job {

@@ -2,28 +2,20 @@ use Rattle.std.proofs.Common.{sym, ap, subst, ◌∙◌, refl}
 use Rattle.std.specs.List.{All}
 use Rattle.circuit.specs.Bridge.{circuit_of, netlist_of}
 use Rattle.module_box.specs.Locals.{AreLocalsOf}
-use Rattle.certificate.specs.Entries.{ModuleLines, cut_wires, gates, edges, halos}
+use Rattle.certificate.specs.Entries.{ModuleLines, edges, halos}
 use Rattle.certificate.specs.Grammars.{setting_of}
 use Rattle.certificate.specs.Jobs.{line_signals}
 use Rattle.certificate.specs.Timetables.{IsNamedLocal}
 use Rattle.certificate.specs.JobFields.{job_state}
 use Rattle.certificate.proofs.BoxPlaces.{start_found, demand_found}
-use Rattle.certificate.proofs.JobLemmas.{small_gates, within_512, edges_named, halos_named, few_gates, lists_local, wires_known, cut_count, none_own}
+use Rattle.certificate.proofs.JobLemmas.{within_512, edges_named, halos_named, lists_local, wires_known, cut_count, none_own}
 use Rattle.certificate.proofs.PlanLemmas.{locals_have_ports}
 use Rattle.certificate.proofs.jobs.make_job.Goals as goal
 
-pub used_gates-requires : goal.used_gates-requires
-used_gates-requires c =
-    let cs = c.args.plan.now.circuit in
+pub named_locals-requires : goal.named_locals-requires
+named_locals-requires c =
     let m : ModuleLines = record { area = c.args.area; lines = c.args.lines.now } in
-    let g = c.gates-gate_count in
-    small_gates (netlist_of cs) (cut_wires (circuit_of cs) m) (gates m) c.requires.module.local (few_gates _ cs g.result c.circuit-circuit.ensures g.ensures.count g.ensures.few)
-
-pub new-requires : goal.new-requires
-new-requires c =
-    let m : ModuleLines = record { area = c.args.area; lines = c.args.lines.now } in
-    lists_local _ c.args.plan.now.circuit c.args.plan.now.layout m c.as_slice.result.now c.as_slice-2.result.now c.circuit-circuit.ensures
-    (c.as_slice.ensures.value ∙ c.in_ok-cuts.ensures) (c.as_slice-2.ensures.value ∙ c.in_ok-gates.ensures) c.requires.module
+    lists_local _ c.args.plan.now.circuit c.args.plan.now.layout m _ _ c.circuit-circuit.ensures refl refl c.requires.module
 
 pub cell_lists-requires-clause-columns : goal.cell_lists-requires-clause-columns
 cell_lists-requires-clause-columns c =
@@ -39,22 +31,19 @@ pub cell_lists-requires-clause-ins : goal.cell_lists-requires-clause-ins
 cell_lists-requires-clause-ins c =
     let m : ModuleLines = record { area = c.args.area; lines = c.args.lines.now } in
     (locals_have_ports c.args.plan.now.circuit c.args.plan.now.layout m c.requires.ports _
-    (wires_known _ c.args.plan.now.circuit m c.as_slice.result.now c.as_slice-2.result.now _ c.circuit-circuit.ensures
-    (c.as_slice.ensures.value ∙ c.in_ok-cuts.ensures) (c.as_slice-2.ensures.value ∙ c.in_ok-gates.ensures) c.in_ok-locals.ensures.wires)).0
+    (wires_known _ c.args.plan.now.circuit m _ _ _ c.circuit-circuit.ensures refl refl c.in_ok-locals.ensures.wires)).0
 
 pub cell_lists-requires-clause-outs : goal.cell_lists-requires-clause-outs
 cell_lists-requires-clause-outs c =
     let m : ModuleLines = record { area = c.args.area; lines = c.args.lines.now } in
     (locals_have_ports c.args.plan.now.circuit c.args.plan.now.layout m c.requires.ports _
-    (wires_known _ c.args.plan.now.circuit m c.as_slice.result.now c.as_slice-2.result.now _ c.circuit-circuit.ensures
-    (c.as_slice.ensures.value ∙ c.in_ok-cuts.ensures) (c.as_slice-2.ensures.value ∙ c.in_ok-gates.ensures) c.in_ok-locals.ensures.wires)).1
+    (wires_known _ c.args.plan.now.circuit m _ _ _ c.circuit-circuit.ensures refl refl c.in_ok-locals.ensures.wires)).1
 
 pub schedules-requires-clause-edges : goal.schedules-requires-clause-edges
 schedules-requires-clause-edges c =
     let cs = c.args.plan.now.circuit in
     let m : ModuleLines = record { area = c.args.area; lines = c.args.lines.now } in
-    let known_wires = wires_known _ cs m c.as_slice.result.now c.as_slice-2.result.now _ c.circuit-circuit.ensures
-    (c.as_slice.ensures.value ∙ c.in_ok-cuts.ensures) (c.as_slice-2.ensures.value ∙ c.in_ok-gates.ensures) c.in_ok-locals.ensures.wires in
+    let known_wires = wires_known _ cs m _ _ _ c.circuit-circuit.ensures refl refl c.in_ok-locals.ensures.wires in
     subst (λ ls. All (IsNamedLocal (circuit_of ls) c.in_ok-locals.locals) (edges m)) (sym c.circuit-circuit.ensures)
     (edges_named (setting_of cs c.args.plan.now.layout) m c.in_ok-locals.locals known_wires c.requires.module)
 
@@ -62,8 +51,7 @@ pub schedules-requires-clause-halos : goal.schedules-requires-clause-halos
 schedules-requires-clause-halos c =
     let cs = c.args.plan.now.circuit in
     let m : ModuleLines = record { area = c.args.area; lines = c.args.lines.now } in
-    let known_wires = wires_known _ cs m c.as_slice.result.now c.as_slice-2.result.now _ c.circuit-circuit.ensures
-    (c.as_slice.ensures.value ∙ c.in_ok-cuts.ensures) (c.as_slice-2.ensures.value ∙ c.in_ok-gates.ensures) c.in_ok-locals.ensures.wires in
+    let known_wires = wires_known _ cs m _ _ _ c.circuit-circuit.ensures refl refl c.in_ok-locals.ensures.wires in
     subst (λ ls. All (IsNamedLocal (circuit_of ls) c.in_ok-locals.locals) (halos m)) (sym c.circuit-circuit.ensures)
     (halos_named (setting_of cs c.args.plan.now.layout) m c.in_ok-locals.locals known_wires c.requires.module)
 
@@ -84,9 +72,9 @@ invariant_of-result c =
         edge_events = c.in_ok-edges.ensures.edge_events;
         halo_held = c.in_ok-edges.ensures.halos_held;
         halo_events = c.in_ok-edges.ensures.halo_events;
-        stops = none_own _ c.new-2.result.items c.new-2.ensures.items;
+        stops = none_own _ c.new.result.items c.new.ensures.items;
       };
-      no_stops = c.new-2.ensures.items;
+      no_stops = c.new.ensures.items;
     }
 
 pub returns : goal.returns
@@ -96,8 +84,6 @@ returns c =
     let m : ModuleLines = record { area = c.args.area; lines = c.args.lines.now } in
     let l = c.in_ok-locals.locals in
     let circuit_is = c.circuit-circuit.ensures in
-    let cuts_are = c.as_slice.ensures.value ∙ c.in_ok-cuts.ensures in
-    let gates_are = c.as_slice-2.ensures.value ∙ c.in_ok-gates.ensures in
     let j = job_state (record {
       area = c.args.area;
       steps = c.size-size.result.steps;
@@ -106,15 +92,15 @@ returns c =
       demands = c.in_ok-starts.demands;
       edges = c.in_ok-edges.edges;
       halos = c.in_ok-edges.halos;
-      stops = c.new-2.result;
+      stops = c.new.result;
     }) in
     record {
       area = refl;
       steps = ap (λ s. s.steps) (c.size-size.ensures.size ∙ ap (λ q. q.size) c.layout.ensures);
       locals = subst (λ ls. AreLocalsOf (netlist_of ls) l) circuit_is c.in_ok-locals.ensures.locals;
-      cut = cut_count _ cs p m c.as_slice.result.now _ circuit_is cuts_are c.in_ok-locals.ensures.given c.requires.module;
-      wires = wires_known _ cs m c.as_slice.result.now c.as_slice-2.result.now _ circuit_is cuts_are gates_are c.in_ok-locals.ensures.wires;
-      used = c.in_ok-locals.ensures.gates ∙ gates_are;
+      cut = cut_count _ cs p m _ _ circuit_is refl c.in_ok-locals.ensures.given c.requires.module;
+      wires = wires_known _ cs m _ _ _ circuit_is refl refl c.in_ok-locals.ensures.wires;
+      used = c.in_ok-locals.ensures.gates;
       start = start_found (circuit_of cs) p c.args.area j refl c.in_ok-starts.ensures.starts;
       demand = demand_found (circuit_of cs) p c.args.area j refl c.in_ok-starts.ensures.demands;
       edges = c.in_ok-edges.ensures.edges ∙ ap (λ ls. line_signals (circuit_of ls) (edges m)) circuit_is;
@@ -126,7 +112,7 @@ returns c =
         edge_events = c.in_ok-edges.ensures.edge_events;
         halo_held = c.in_ok-edges.ensures.halos_held;
         halo_events = c.in_ok-edges.ensures.halo_events;
-        stops = none_own _ c.new-2.result.items c.new-2.ensures.items;
+        stops = none_own _ c.new.result.items c.new.ensures.items;
       };
-      stops = c.new-2.ensures.items;
+      stops = c.new.ensures.items;
     }
