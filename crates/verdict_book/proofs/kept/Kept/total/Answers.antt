@@ -1,4 +1,5 @@
 use Rattle.std.proofs.Common.{◌≡◌, sum_by, [], arith, rules, ap}
+use Rattle.std.proofs.lemmas.List.Sums.{sum_by_push}
 use Rattle.std.specs.Prelude.{vec_len}
 use Rattle.verdict_book.specs.Counts.{Counts}
 use Rattle.verdict_book.proofs.kept.Kept.total.Goals as goal
@@ -34,3 +35,24 @@ returns-clause-all_accepted g c =
     let empty : now.shares.items ≡ [] = search rules in
     let rest : sum_by (λ (s : Counts). s.accepted) now.shares.items ≡ 0 = ap (sum_by (λ (s : Counts). s.accepted)) empty in
     omega (arith, now.invariant.accepted_sum, rest)
+
+pub loop-share-preserved : goal.loop-share-preserved
+loop-share-preserved g c =
+    let i = c.loop-share.invariant in
+    let popped = c.in-Some.ensures in
+    let filed = c.audit.ensures in
+    let accepted = c.audit-in-Some.ensures in
+    let all_filed = ap (sum_by (λ (s : Counts). s.filed)) popped.items in
+    let all_accepted = ap (sum_by (λ (s : Counts). s.accepted)) popped.items in
+    record {
+      parts = search rules;
+      within = search rules;
+      amount = search rules;
+      sum = omega (arith, i.sum, all_filed, sum_by_push, ap (λ (s : Counts). s.filed) c.share.view_is);
+      total = search rules;
+      accepted_parts = search rules;
+      accepted_within = search rules;
+      accepted_amount = search rules;
+      accepted_sum = omega (arith, i.accepted_sum, all_accepted, sum_by_push, ap (λ (s : Counts). s.accepted) c.share.view_is);
+      accepted_total = search rules;
+    }
