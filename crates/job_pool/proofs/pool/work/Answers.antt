@@ -25,3 +25,12 @@ returns-clause-filed g c = λ fed. let desk = c.in-Ok.desk in let before = c.as_
     let start = ap filed_by (ap shares_of c.as_mut_slice.ensures.value ∙ c.hire-workers.ensures.shares) in
     let back = ap filed_by (c.dismiss-seats.ensures.shares ∙ ap shares_of same) in
     omega (arith, back, sum, start, c.in-Ok.ensures.desk.0)
+
+pub dismiss-seats-requires-clause-room : goal.dismiss-seats-requires-clause-room
+dismiss-seats-requires-clause-room g c = ?
+
+pub returns-clause-back : goal.returns-clause-back
+returns-clause-back g c = ?
+
+pub returns-in_default-close-clause-back : goal.returns-in_default-close-clause-back
+returns-in_default-close-clause-back g c = ?
