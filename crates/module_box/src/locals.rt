@@ -1,6 +1,6 @@
 //! The wires that a module knows, and the gates that it uses, numbered anew.
 
-ghost use Rattle.std.specs.Prelude.{◌≡◌, ◌==◌, ◌<◌, ◌≤◌, ◌^◌, ◌++◌, map, length, position, is_some, slice_get, slice_index, IsTrue, Some, OnOk, IfOk, IfSome};
+ghost use Rattle.std.specs.Prelude.{◌≡◌, ◌==◌, ◌<◌, ◌≤◌, ◌^◌, ◌++◌, [], map, length, position, is_some, slice_get, slice_index, IsTrue, Some, OnOk, IfOk, IfSome};
 ghost use Rattle.std.specs.List.{All};
 ghost use Rattle.circuit.specs.Bridge.{netlist_of};
 ghost use Rattle.circuit.specs.Gates.{uses};
@@ -90,20 +90,23 @@ fn local_gate(known: &IndexSet<u16>, gate: GateWires) -> LocalGate
     }
 }
 
-// The gates, each over the wires that are known before it. Those that it defines become known.
-fn add_gates(
+// The gates, each over the wires that are known before it. The cuts become known, and what each gate defines.
+fn add_lines(
     alloc: Global,
     known: &mut IndexSet<u16>,
     circuit: &Circuit,
+    cuts: &[WireNo],
     gates: &[GateNo],
 ) -> Result<Vec<LocalGate>, AllocError>
-    requires { AreLocalLines (netlist_of circuit.now) known.old.keys gates.now }
-    ensures locals { IfOk result (λ made. AreLocalsOf (netlist_of circuit.now) (record { netlist = record { given = length known.old.keys; gates = map kept_gate made.items }; circuit_wires = known.new.keys; circuit_gates = gates.now })) }
-    ensures wires { IfOk result (λ made. known.new.keys ≡ local_wires (netlist_of circuit.now) known.old.keys gates.now) }
+    requires none { known.old.keys ≡ [] }
+    requires lines { AreLocalLines (netlist_of circuit.now) cuts.now gates.now }
+    ensures locals { IfOk result (λ made. AreLocalsOf (netlist_of circuit.now) (record { netlist = record { given = length cuts.now; gates = map kept_gate made.items }; circuit_wires = known.new.keys; circuit_gates = gates.now })) }
+    ensures wires { IfOk result (λ made. known.new.keys ≡ local_wires (netlist_of circuit.now) cuts.now gates.now) }
     ensures count { IfOk result (λ made. length made.items ≡ length gates.now) }
     ensures few { IfOk result (λ made. length known.new.keys ≤ 266) }
 {
     let gate_count = circuit.gates();
+    add_wires(known, cuts)?;
     let mut made = Vec::with_capacity(alloc, gates.len())?;
     'gates: for used in gates {
         prove!((used.number() as usize) < gate_count);
@@ -131,14 +134,14 @@ impl Locals {
         ensures gates { IfOk result (λ l. l.circuit_gates ≡ gates.now) }
         ensures given { IfOk result (λ l. l.netlist.given ≡ length cuts.now) }
     {
-        let mut known = IndexSet::new(alloc);
-        add_wires(&mut known, cuts)?;
-        let local_gates = add_gates(alloc, &mut known, circuit, gates)?;
+        let circuit_gates = gates.to_vec(alloc)?;
+        let mut circuit_wires = IndexSet::new(alloc);
+        let gates = add_lines(alloc, &mut circuit_wires, circuit, cuts, gates)?;
         Ok(Locals {
             given: cuts.len(),
-            gates: local_gates,
-            circuit_wires: known,
-            circuit_gates: gates.to_vec(alloc)?,
+            gates,
+            circuit_wires,
+            circuit_gates,
         })
     }
 

@@ -2,7 +2,7 @@ use Rattle.std.proofs.Common.{map}
 use Rattle.circuit.specs.Bridge.{netlist_of}
 use Rattle.module_box.specs.LocalGates.{kept_gate}
 use Rattle.module_box.proofs.LocalNets.{IsPart}
-use Rattle.module_box.proofs.locals.add_gates.Given as goal
+use Rattle.module_box.proofs.locals.add_lines.Given as goal
 
 abbrev pub invariant-gates : goal.invariant-gates
-invariant-gates l = IsPart (netlist_of l.circuit) l.fn.known.keys l.fn.gates l.used-index l.known.keys (map kept_gate l.made.items)
+invariant-gates l = IsPart (netlist_of l.circuit) l.cuts l.fn.gates l.used-index l.known.keys (map kept_gate l.made.items)
