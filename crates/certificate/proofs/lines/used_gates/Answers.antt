@@ -1,8 +1,12 @@
-use Rattle.std.proofs.Common.{◌<◌, ◌^◌}
+use Rattle.std.proofs.Common.{◌<◌, ◌^◌, ◌++◌, List, ℕ, sym, ap, ◌∙◌}
 use Rattle.certificate.specs.Entries.{use_in}
-use Rattle.certificate.proofs.FlatParts.{flat_at}
+use Rattle.certificate.proofs.FlatParts.{flat_at, flat_more}
 use Rattle.certificate.proofs.lines.used_gates.Goals as goal
 
--- src/lines.rt:85:9
 pub push_use-requires : goal.push_use-requires
 push_use-requires c = flat_at (λ k. k < 2 ^ 16) use_in c.args.lines.now c.requires c.loop-line.line-index c.line-item.result c.loop-line-test.true c.line-item.is
+
+pub loop-line-preserved : goal.loop-line-preserved
+loop-line-preserved c =
+    c.in_ok-push_use.ensures ∙ ap (λ (l : List ℕ). l ++ use_in c.line-item.result) c.loop-line.invariant
+    ∙ sym (flat_more use_in c.args.lines.now c.loop-line.line-index c.line-item.result c.loop-line-test.true c.line-item.is)
