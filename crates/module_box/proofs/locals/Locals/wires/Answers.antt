@@ -1,0 +1,11 @@
+use Rattle.std.proofs.Common.{rules}
+use Rattle.module_box.proofs.locals.Locals.wires.Goals as goal
+
+pub returns-clause-count : goal.returns-clause-count
+returns-clause-count c = search rules
+
+pub returns-clause-sized : goal.returns-clause-sized
+returns-clause-sized c = search rules
+
+pub returns-clause-few : goal.returns-clause-few
+returns-clause-few c = search rules

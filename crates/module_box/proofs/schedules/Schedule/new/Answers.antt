@@ -1,0 +1,10 @@
+use Rattle.module_box.proofs.schedules.Schedule.new.Goals as goal
+
+pub invariant_of-result : goal.invariant_of-result
+invariant_of-result c = search
+
+pub returns-clause-held : goal.returns-clause-held
+returns-clause-held c = search
+
+pub returns-clause-events : goal.returns-clause-events
+returns-clause-events c = search
