@@ -10,7 +10,6 @@ use Rattle.section_text.specs.Words as words
 use Rattle.section_text.specs.Section as section
 use Rattle.circuit.specs.Forms as circuit_forms
 use Rattle.circuit.specs.Rules as circuit_rules
-use Rattle.circuit.specs.Bridge as bridge
 use Rattle.circuit.specs.Meaning as meaning
 use Rattle.circuit.specs.Bridge.{circuit_of, netlist_of, read}
 use Rattle.circuit.specs.Gates.{row}

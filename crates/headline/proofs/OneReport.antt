@@ -1,13 +1,12 @@
 -- A text has one report.
-use Rattle.std.proofs.Common.{◌≡◌, ◌∙◌, ◌<◌, ◌≤◌, ◌++◌, ◌∷◌, ℕ, List, [], length, Option, Some, None, refl, sym, ap, subst, arith}
+use Rattle.std.proofs.Common.{◌≡◌, ◌∙◌, ◌<◌, ◌++◌, ◌∷◌, ℕ, List, [], length, Option, Some, None, refl, sym, ap, subst, arith}
 use Rattle.std.specs.Prelude.{slice_get, codes}
 use Rattle.std.specs.List.{flat_map}
 use Rattle.std.proofs.lemmas.Option.{slice_get_within}
 use Rattle.sha2.specs.Sha256.{sha256}
 use Rattle.section_text.specs.Spelling.{line_text}
 use Rattle.circuit.specs.Bridge.{circuit_of}
-use Rattle.module_box.specs.Locals.{AreDifferent}
-use Rattle.certificate.specs.Entries.{ModuleLines, known, modules_of}
+use Rattle.certificate.specs.Entries.{ModuleLines, modules_of}
 use Rattle.certificate.specs.Grammars.{CertState, setting_of}
 use Rattle.certificate.specs.Jobs.{JobState, AreJobsOf}
 use Rattle.certificate.specs.Modules.{AreModules}

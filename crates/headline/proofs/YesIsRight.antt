@@ -1,10 +1,9 @@
 -- What is reported with a yes is right.
 use Rattle.std.proofs.Common.{◌≡◌, ◌≤◌, ℕ, ◌+◌, Bool, true, false, cond, eqb, List, [], ◌∷◌, ◌++◌, length, take, drop, Option, Some, None, Result, Ok, Err, refl, sym, ap, ap₂, subst, ◌∙◌, append_assoc, take-append-drop, arith}
-use Rattle.std.specs.Prelude.{nat_lt, ◌≢◌, IfErr, IfOk, OnOk}
+use Rattle.std.specs.Prelude.{nat_lt, ◌≢◌}
 use Rattle.std.specs.List.{flat_map}
 use Rattle.std.proofs.lemmas.Grind.{flat_map-append}
-use Rattle.std.proofs.lemmas.List.{append-nil, append_cancel_left}
-use Rattle.std.specs.Io.KnownBytes.{Appends, Consumes, IsAtEnd}
+use Rattle.std.proofs.lemmas.List.{append-nil}
 use Rattle.std.proofs.lemmas.Bool.{ltb-false}
 use Rattle.section_text.specs.Codes.{or_else, code_where}
 use Rattle.section_text.specs.Words.{lines_of, rest_of, words_of}
@@ -29,7 +28,7 @@ use Rattle.circuit.proofs.Fitting.{entry_fits, no_gate_still, no_gate_yet}
 use Rattle.circuit.proofs.Naming.{inputs_are_first}
 use Rattle.circuit.proofs.Orders.{last_rank_push}
 use Rattle.pattern.specs.Grammars.{layout_grammar, layout_value}
-use Rattle.pattern.specs.Layout.{Pattern}
+use Rattle.pattern.specs.Layout.{Pattern, parts_of}
 use Rattle.pattern.specs.Lines as lines
 use Rattle.pattern.specs.declared.parts.Part.{Part}
 use Rattle.pattern.specs.declared.parts.Extent.{Extent}
@@ -49,11 +48,11 @@ use Rattle.pattern.specs.FromLines.{pattern_of}
 use Rattle.answers.specs.BundleText.{Bundle, bundle_of}
 use Rattle.answers.specs.CheckText.{IsReportOf, SaysReport, verdict_outcome}
 use Rattle.headline.specs.Design.{SaysDesign}
-use Rattle.headline.specs.Headline.{GivesRight, IsRight, SaysYes, YesIsRight}
+use Rattle.headline.specs.Headline.{IsRight, SaysYes}
 use Rattle.headline.specs.Laws.{FourthLineTells, IsGoodDesign, ReportsOnGoodDesigns, YesMeansRight}
 use Rattle.answers.proofs.Bundles.{same_setting}
 use Rattle.headline.proofs.Designs.{design_said, one_design}
-use Rattle.headline.proofs.FourthLines.{refusal_says_none, says_on, says_yes, yes_says}
+use Rattle.headline.proofs.FourthLines.{refusal_says_none, says_yes, yes_says}
 use Rattle.answers.specs.declared.outcome.Outcome.{Outcome}
 use Rattle.answers.specs.declared.outcome.Outcome.TheVariants.{Yes, Refused}
 
@@ -151,7 +150,7 @@ spelled : (text : List ℕ) (circuit : List CircuitLine) (ports : Option Named) 
 spelled text circuit ports n p first second =
     let k = length circuit + 2 in
     let later = drop k (lines_of text) in
-    let m = length (lines.parts_of p) + 2 in
+    let m = length (parts_of p) + 2 in
     let after : List ℕ = flat_map ended_line (drop m later) in
     let split : flat_map ended_line (lines_of text) ≡ circuit_text circuit ++ (layout_text p ++ after) =
     ap (flat_map ended_line) (sym (take-append-drop k (lines_of text))) ∙ flat_map-append ended_line (take k (lines_of text)) later
@@ -221,14 +220,14 @@ own_design text b output outcome circuit layout reads says said =
     let c : CertState = says.certificate in
     let p : Pattern = c.layout in
     let same = says.its_own in
-    let whole : IsFaultless (layout_grammar (Some (port_names_of b.circuit))) p.size (lines.parts_of p) =
+    let whole : IsFaultless (layout_grammar (Some (port_names_of b.circuit))) p.size (parts_of p) =
     subst (λ (q : Extent × List Part). IsFaultless (layout_grammar (Some (port_names_of b.circuit))) q.0 q.1) (sym same.layout) good.layout in
     let begins = good.begins p same.layout in
     let one = one_design text b.circuit circuit p layout (good.says p same.layout) said in
     subst (λ (cs : List CircuitLine). IsGoodDesign text cs layout) one.0 (subst (IsGoodDesign text b.circuit) one.1 (record {
       circuit_lines = good.circuit;
       size = whole.header;
-      layout_lines = laid_out (Some (port_names_of b.circuit)) p.size [] (lines.parts_of p) whole.each;
+      layout_lines = laid_out (Some (port_names_of b.circuit)) p.size [] (parts_of p) whole.each;
       rest = begins.rest;
       begins = begins.begins;
     }))
@@ -254,7 +253,7 @@ judged_yes text b output outcome reads says is =
     let c : CertState = says.certificate in
     let same = says.its_own in
     let circuit : AreGood c.circuit = subst AreGood (sym same.circuit) good.circuit in
-    let whole : IsFaultless (layout_grammar (Some (port_names_of c.circuit))) c.layout.size (lines.parts_of c.layout) =
+    let whole : IsFaultless (layout_grammar (Some (port_names_of c.circuit))) c.layout.size (parts_of c.layout) =
     subst (λ (q : Extent × List Part). IsFaultless (layout_grammar (Some (port_names_of c.circuit))) q.0 q.1) (sym same.layout)
     (subst (λ (cs : List CircuitLine). IsFaultless (layout_grammar (Some (port_names_of cs))) b.size b.parts) (sym same.circuit) good.layout) in
     let gates = gates_are_ordered c.circuit circuit in
@@ -265,10 +264,10 @@ judged_yes text b output outcome reads says is =
       forward = gates.1;
       same = refl;
       limits = whole.header;
-      laid_out = laid_out (Some (port_names_of c.circuit)) c.layout.size [] (lines.parts_of c.layout) whole.each;
+      laid_out = laid_out (Some (port_names_of c.circuit)) c.layout.size [] (parts_of c.layout) whole.each;
       are_modules = v.good;
       inputs = inputs_are_first c.circuit circuit;
-      named = faultless_named (Some (port_names_of c.circuit)) c.layout.size (lines.parts_of c.layout) whole;
+      named = faultless_named (Some (port_names_of c.circuit)) c.layout.size (parts_of c.layout) whole;
     }) v.are_jobs judged in
     record { circuit = b.circuit; layout = c.layout; says = good.says c.layout same.layout; correct = subst (λ (cs : List CircuitLine). IsCorrect cs c.layout) same.circuit correct }
 

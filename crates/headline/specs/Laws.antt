@@ -1,5 +1,5 @@
 -- Laws of the answers.
-use Rattle.std.specs.Prelude.{◌≡◌, ◌≢◌, ℕ, List, [], ◌∷◌, ◌++◌, None}
+use Rattle.std.specs.Prelude.{◌≡◌, ◌≢◌, ℕ, List, [], ◌++◌, None}
 use Rattle.circuit.specs.Bridge.{AreGood}
 use Rattle.circuit.specs.Text.{circuit_text}
 use Rattle.circuit.specs.declared.entry.Entry.{Entry}

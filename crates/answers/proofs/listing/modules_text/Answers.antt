@@ -1,5 +1,4 @@
 -- The circuit, the layout, the certificate, and the end of the text.
-use Rattle.std.proofs.Common.{◌∙◌, sym}
 use Rattle.std.proofs.lemmas.Result.{IfOk-weaker}
 use Rattle.section_text.specs.Ports.{named_ports}
 use Rattle.answers.specs.ModulesText.{SaysModules}

@@ -1,5 +1,5 @@
 -- The book is closed behind what the workers filed.
-use Rattle.std.proofs.Common.{◌≡◌, arith, length, map}
+use Rattle.std.proofs.Common.{arith}
 use Rattle.std.proofs.lemmas.List.{length-map}
 use Rattle.std.specs.Arc.{arc_value}
 use Rattle.check_main.proofs.Closings.{closed_once, filings_stay, no_history}
