@@ -19,6 +19,7 @@
 //! standard input, output and error. A bar alone is an empty line. A part without lines is the empty text.
 //! Where `input` is left out it is empty, where `status` is left out it is 0, and where `output` or `errors`
 //! is left out anything may be written there.
+#![tactic(auto)]
 
 use std::alloc::{AllocError, AllocFailed, Global};
 use thiserror::Error;
