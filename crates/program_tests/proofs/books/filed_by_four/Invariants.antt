@@ -1,4 +1,4 @@
-use Rattle.thread_tests.proofs.book_threads.four_threads.Given as goal
+use Rattle.program_tests.proofs.books.filed_by_four.Given as goal
 
 abbrev pub ghosts-filed_by_all-F-Ledger : goal.ghosts-filed_by_all-F-Ledger
 ghosts-filed_by_all-F-Ledger g a = record { name = a.f.name; parts = a.f.parts }

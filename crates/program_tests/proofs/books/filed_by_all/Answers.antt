@@ -1,6 +1,7 @@
+-- A new book has no history.
 use Rattle.std.proofs.Common.{ap}
 use Rattle.audit_core.specs.Book.{BookView, new_book}
-use Rattle.thread_tests.proofs.workers.worked.Goals as goal
+use Rattle.program_tests.proofs.books.filed_by_all.Goals as goal
 
 pub open-requires-clause-fresh : goal.open-requires-clause-fresh
 unfolding new_book

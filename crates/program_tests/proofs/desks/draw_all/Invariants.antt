@@ -1,7 +1,7 @@
 use Rattle.std.proofs.Common.{◌-◌}
 use Rattle.audit_core.specs.Draws.{end_of}
 use Rattle.job_pool.specs.Seats.{IsSeatOf}
-use Rattle.thread_tests.proofs.desks.draw_all.Given as goal
+use Rattle.program_tests.proofs.desks.draw_all.Given as goal
 
 abbrev pub invariant-loop : goal.invariant-loop
 invariant-loop l = IsSeatOf l.desk l.seat

@@ -67,19 +67,6 @@ fn two_seats_draw_three_numbers(rt: HostRuntime) -> Result<(), Fail> {
     Ok(())
 }
 
-#[test]
-fn no_number_is_drawn_where_there_is_none(rt: HostRuntime) -> Result<(), Fail> {
-    let (desk, mut seats) = Desk::open(rt.alloc(), 0, 1)?;
-    assert_eq!(rt; desk.left(&mut seats[0]), 0);
-    assert_eq!(rt; desk.claim(&mut seats[0]), Claim::Empty);
-    assert_eq!(rt; desk.claim(&mut seats[0]), Claim::Empty);
-    let closed = closed(&rt, rt.alloc(), desk, seats);
-    assert_eq!(rt; closed.draws.len(), 1);
-    assert_eq!(rt; closed.draws[0].as_slice(), [0].as_slice());
-    assert_eq!(rt; closed.counter, 1);
-    Ok(())
-}
-
 /// Each of so many seats, in a thread of its own, draws until there is no number left.
 fn draw_every_number<R: Abort + Threads + Sync>(
     rt: &R,
@@ -101,6 +88,11 @@ fn draw_every_number<R: Abort + Threads + Sync>(
     let expected = (0..numbers + threads).collect::<Vec<usize>>(alloc)?;
     assert_eq!(rt; all.as_slice(), expected.as_slice());
     Ok(())
+}
+
+#[test]
+fn no_number_is_drawn_where_there_is_none(rt: HostRuntime) -> Result<(), Fail> {
+    draw_every_number(&rt, rt.alloc(), 0, 1)
 }
 
 #[test]

@@ -2,14 +2,12 @@
 //!
 //! A filing that finds no memory is tried once more, so the growths of `file` can be refused in turn
 //! (`rt try --test --fail-alloc N`).
-ghost use Rattle.std.specs.Prelude.{◌≡◌, ◌<◌, ◌≤◌, true};
+ghost use Rattle.std.specs.Prelude.{◌≡◌, ◌<◌, ◌≤◌};
 
+use crate::bundles::{GOOD, fed, sections};
 use audit_core::{BookState, Entry, NotFiled, Reply};
 use certificate::{Job, read_certificate};
-use circuit::{port_names, read_circuit};
 use local_run::run_job;
-use pattern::read_layout;
-use section_text::Feed;
 use std::alloc::Global;
 use std::marker::Brand;
 use std::process::Abort;
@@ -20,33 +18,10 @@ use std::thread;
 use std::thread::Threads;
 use verdict_book::*;
 
-/// Two balls that meet in the middle of four modules.
-const BUNDLE: &str =
-    "circuit\ninput p\ninput q\ninteract p q -> a b c d\noutput a\noutput b\noutput c\noutput d\nend\n\
-layout 8 8 3\nin p 2 2\nin q 5 5\nout a 5 2\nout b 2 2\nout c 5 5\nout d 2 5\nend\n\
-certificate 1\n\
-module 0 0 4 4\ncut p\ncut q\nuse 0\nedge 1 3 3 p\nhalo 1 4 4 q\n\
-module 4 0 4 4\ncut p\ncut q\nuse 0\nhalo 1 3 3 p\nhalo 1 4 4 q\n\
-module 0 4 4 4\ncut p\ncut q\nuse 0\nhalo 1 3 3 p\nhalo 1 4 4 q\n\
-module 4 4 4 4\ncut p\ncut q\nuse 0\nedge 1 4 4 q\nhalo 1 3 3 p\nend\n";
-
-/// A text that has ended.
-fn fed(rt: &impl Abort, alloc: Global, text: &[u8]) -> Feed
-    ensures { result.closed ≡ true }
-{
-    let mut feed = Feed::new(alloc);
-    assert!(rt; feed.push(text).is_ok(), "no memory");
-    feed.close();
-    feed
-}
-
 /// The jobs of the bundle.
 fn jobs(rt: &impl Abort, alloc: Global) -> Result<Vec<Arc<Job>>, Fail> {
-    let mut feed = fed(rt, alloc, BUNDLE.as_bytes());
-    let circuit = read_circuit(alloc, &mut feed)?;
-    let ports = port_names(alloc, &circuit)?;
-    assert!(rt; feed.closed());
-    let layout = read_layout(alloc, &mut feed, &ports)?;
+    let mut feed = fed(rt, alloc, GOOD);
+    let (circuit, layout) = sections(rt, alloc, &mut feed)?;
     assert!(rt; feed.closed());
     let certificate = read_certificate(alloc, &mut feed, &circuit, &layout)?;
     Ok(certificate.jobs(alloc)?)
@@ -126,45 +101,29 @@ fn is_own(entry: &Entry) -> bool {
     }
 }
 
+/// Four threads each file all findings.
+fn filed_by_four<R: Abort + Threads + Wait + Sync>(
+    rt: &R,
+    alloc: Global,
+    kept_back: bool,
+) -> Result<Option<Gathered>, Fail> {
+    filed_by_all::<Brand, Brand, R>(rt, alloc, Blank::new(4), Blank::new(4), 4, kept_back)
+}
+
 #[test]
 fn four_threads(rt: HostRuntime) -> Result<(), Fail> {
-    let alloc = rt.alloc();
-    let gathered = filed_by_all::<Brand, Brand, HostRuntime>(
-        &rt,
-        alloc,
-        Blank::new(4),
-        Blank::new(4),
-        4,
-        false,
-    )?;
+    assert!(rt; filed_by_four(&rt, rt.alloc(), true)?.is_none());
+    let gathered = filed_by_four(&rt, rt.alloc(), false)?;
     let Gathered {
         state,
         filed,
         accepted,
     } = gathered.ok_or("a share is missing")?;
-    assert_eq!(rt; (filed, accepted), (16, 4));
-    assert_eq!(rt;
-        (state.history().len(), state.accepted(), state.is_closed()),
-        (16, 4, false)
-    );
+    assert!(rt; filed == 16 && accepted == 4);
+    assert!(rt; state.history().len() == 16 && state.accepted() == 4 && !state.is_closed());
     // so twelve of the sixteen were answered `Double`
     for entry in state.history() {
         assert!(rt; is_own(entry), "another entry");
     }
-    Ok(())
-}
-
-#[test]
-fn one_share_kept_back(rt: HostRuntime) -> Result<(), Fail> {
-    let alloc = rt.alloc();
-    let gathered = filed_by_all::<Brand, Brand, HostRuntime>(
-        &rt,
-        alloc,
-        Blank::new(4),
-        Blank::new(4),
-        4,
-        true,
-    )?;
-    assert!(rt; gathered.is_none());
     Ok(())
 }
