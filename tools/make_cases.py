@@ -3,7 +3,7 @@
     [--runs BYTES]]
     > crates/worked_rows/data/cases.txt
 
-Writes case folders as one file of cases, in the form that crates/worked_rows/src/cases.rt tells.
+Writes case folders as one file of cases, in the form that crates/case_text/src/lib.rt tells.
 
 A case folder has args (one line of words), stdin or stdin_repeat (`COUNT UNIT`), stdout (left out: any
 output), status (left out: 0), since and until (left out: 1, and for ever) and stderr (left out: any).

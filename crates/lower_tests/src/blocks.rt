@@ -1,29 +1,50 @@
-//! The rule of a block.
+//! The rule of a block, and many blocks at a time.
 
-use bbm_rule::turn;
+use bbm_rule::{turn, turn_lanes, turn_words};
+
+// what each block becomes, from block 0 on
+const TURNED: [u8; 16] = [0, 8, 4, 3, 2, 5, 9, 7, 1, 6, 10, 11, 12, 13, 14, 15];
+
+// bit k of these words is bit 0, 1, 2 and 3 of block k, and of what block k becomes
+const BLOCKS: [u64; 4] = [0xAAAA, 0xCCCC, 0xF0F0, 0xFF00];
+
+const TURNED_BLOCKS: [u64; 4] = [0xA9E8, 0xCE98, 0xF2A4, 0xFC42];
 
 #[test]
 fn turns_each_block(rt: HostRuntime) {
-    let becomes = [
-        (0, 0),
-        (1, 8),
-        (2, 4),
-        (3, 3),
-        (4, 2),
-        (5, 5),
-        (6, 9),
-        (7, 7),
-        (8, 1),
-        (9, 6),
-        (10, 10),
-        (11, 11),
-        (12, 12),
-        (13, 13),
-        (14, 14),
-        (15, 15),
-    ];
-    for (bits, turned) in becomes {
+    for (bits, turned) in TURNED.iter().enumerate() {
         assert!(rt; bits < 16);
-        assert!(rt; turn(bits) == turned, "at {bits}");
+        assert!(rt; turn(bits as u8) == *turned, "at {bits}");
+    }
+    let [a, b, c, d] = BLOCKS;
+    let (a, b, c, d) = turn_words(a, b, c, d);
+    assert!(rt; [a, b, c, d] == TURNED_BLOCKS);
+}
+
+// the word, then the word turned left by one bit, and so on
+fn lanes(word: u64) -> [u64; 17] {
+    let mut lanes = [0; 17];
+    let mut lane = word;
+    for place in &mut lanes {
+        *place = lane;
+        lane = lane.rotate_left(1);
+    }
+    lanes
+}
+
+// as many lanes as fill no vector, and up to four vectors and one more
+#[test]
+fn turns_lanes(rt: HostRuntime) {
+    for count in 0..18usize {
+        let [mut a, mut b, mut c, mut d] = BLOCKS.map(lanes);
+        turn_lanes(
+            &mut a[..count],
+            &mut b[..count],
+            &mut c[..count],
+            &mut d[..count],
+        );
+        for (turned, word) in [a, b, c, d].iter().zip(TURNED_BLOCKS) {
+            assert!(rt; turned[..count] == lanes(word)[..count], "{count}");
+        }
     }
 }

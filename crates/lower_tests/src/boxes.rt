@@ -16,55 +16,66 @@ fn sign(area: Box2, cell: Cell) -> u8 {
     }
 }
 
-const PICTURE: [&[u8; 8]; 8] = [
-    b"        ",
-    b" oooooo ",
-    b" o####o ",
-    b" o#..#o ",
-    b" o#..#o ",
-    b" o####o ",
-    b" oooooo ",
-    b"        ",
+// A box, and the cells from three before the plane's quarter on. All cells of the least box are in its ring, and its halo goes round
+// the corner of the quarter.
+const PICTURES: [(Box2, [&[u8; 11]; 12]); 2] = [
+    (
+        Box2 {
+            x: 2,
+            y: 4,
+            w: 4,
+            h: 4,
+        },
+        [
+            b"           ",
+            b"           ",
+            b"           ",
+            b"           ",
+            b"           ",
+            b"           ",
+            b"    oooooo ",
+            b"    o####o ",
+            b"    o#..#o ",
+            b"    o#..#o ",
+            b"    o####o ",
+            b"    oooooo ",
+        ],
+    ),
+    (
+        Box2 {
+            x: 0,
+            y: 0,
+            w: 2,
+            h: 2,
+        },
+        [
+            b"           ",
+            b"           ",
+            b"  oooo     ",
+            b"  o##o     ",
+            b"  o##o     ",
+            b"  oooo     ",
+            b"           ",
+            b"           ",
+            b"           ",
+            b"           ",
+            b"           ",
+            b"           ",
+        ],
+    ),
 ];
 
 #[test]
 fn ring_and_halo_of_a_box(rt: HostRuntime) {
-    let area = Box2 {
-        x: 2,
-        y: 2,
-        w: 4,
-        h: 4,
-    };
-    for y in 0..8usize {
-        for x in 0..8usize {
-            let cell = Cell {
-                x: x as i32,
-                y: y as i32,
-            };
-            assert!(rt; sign(area, cell) == PICTURE[y][x], "{x} {y}");
+    for (area, picture) in PICTURES {
+        for y in 0..12usize {
+            for x in 0..11usize {
+                let cell = Cell {
+                    x: x as i32 - 3,
+                    y: y as i32 - 3,
+                };
+                assert!(rt; sign(area, cell) == picture[y][x], "{cell:?}");
+            }
         }
-    }
-}
-
-// all cells of the least box are in its ring, and its halo goes round the corner of the plane's quarter
-#[test]
-fn ring_and_halo_of_the_least_box(rt: HostRuntime) {
-    let area = Box2 {
-        x: 0,
-        y: 0,
-        w: 2,
-        h: 2,
-    };
-    for (x, y, wanted) in [
-        (0, 0, b'#'),
-        (1, 1, b'#'),
-        (2, 1, b'o'),
-        (-1, -1, b'o'),
-        (2, -1, b'o'),
-        (-2, 0, b' '),
-        (3, -1, b' '),
-        (1, 3, b' '),
-    ] {
-        assert!(rt; sign(area, Cell { x, y }) == wanted, "{x} {y}");
     }
 }

@@ -1,6 +1,7 @@
-//! A grid and its step.
+//! A grid that a ball leaves, and the largest grid.
 
 use bbm_rule::{Cell, Grid, Left};
+use pattern::Extent;
 use std::test::Fail;
 
 fn is_live(grid: &Grid, x: i32, y: i32) -> bool {
@@ -17,96 +18,16 @@ fn put(grid: &mut Grid, cells: &[(i32, i32)]) {
     }
 }
 
-// whether these cells are live, and no other with coordinates from -1 to 199
+// whether these cells are live, and no other with coordinates from -1 to 9
 fn shows(grid: &Grid, cells: &[(i32, i32)]) -> bool {
-    for y in -1..200 {
-        for x in -1..200 {
+    for y in -1..10 {
+        for x in -1..10 {
             if is_live(grid, x, y) != cells.contains(&(x, y)) {
                 return false;
             }
         }
     }
     true
-}
-
-// the cells that are live at the times 0 to 3
-const RUNS: [[&[(i32, i32)]; 4]; 4] = [
-    // two balls collide
-    [
-        &[(2, 2), (5, 5)],
-        &[(3, 3), (4, 4)],
-        &[(3, 4), (4, 3)],
-        &[(2, 5), (5, 2)],
-    ],
-    // a mirror stays: each block of either partition has none of its cells, or two side by side
-    [
-        &[
-            (2, 3),
-            (3, 3),
-            (4, 3),
-            (5, 3),
-            (2, 4),
-            (3, 4),
-            (4, 4),
-            (5, 4),
-        ],
-        &[
-            (2, 3),
-            (3, 3),
-            (4, 3),
-            (5, 3),
-            (2, 4),
-            (3, 4),
-            (4, 4),
-            (5, 4),
-        ],
-        &[
-            (2, 3),
-            (3, 3),
-            (4, 3),
-            (5, 3),
-            (2, 4),
-            (3, 4),
-            (4, 4),
-            (5, 4),
-        ],
-        &[
-            (2, 3),
-            (3, 3),
-            (4, 3),
-            (5, 3),
-            (2, 4),
-            (3, 4),
-            (4, 4),
-            (5, 4),
-        ],
-    ],
-    // balls that go down and right, and balls that go up and left, over the ends of words
-    [
-        &[(60, 0), (62, 0), (124, 0), (126, 0)],
-        &[(61, 1), (63, 1), (125, 1), (127, 1)],
-        &[(62, 2), (64, 2), (126, 2), (128, 2)],
-        &[(63, 3), (65, 3), (127, 3), (129, 3)],
-    ],
-    [
-        &[(63, 3), (65, 3), (127, 3), (129, 3)],
-        &[(62, 2), (64, 2), (126, 2), (128, 2)],
-        &[(61, 1), (63, 1), (125, 1), (127, 1)],
-        &[(60, 0), (62, 0), (124, 0), (126, 0)],
-    ],
-];
-
-#[test]
-fn three_steps(rt: HostRuntime) -> Result<(), Fail> {
-    for run in RUNS {
-        let mut grid = Grid::new(rt.alloc(), 130, 8)?;
-        put(&mut grid, run[0]);
-        for t in 0..3u32 {
-            assert!(rt; grid.step(t) == Ok(()));
-            assert!(rt; shows(&grid, run[t as usize + 1]), "{run:?} after {t}");
-        }
-    }
-    Ok(())
 }
 
 // each corner of the grid is alone in its block of an odd step, and no even step moves it out
@@ -127,16 +48,22 @@ fn the_largest_grid_steps(rt: HostRuntime) -> Result<(), Fail> {
     let mut grid = Grid::new(rt.alloc(), 1024, 1024)?;
     put(&mut grid, &[(1023, 1023), (512, 512)]);
     assert!(rt; grid.step(1) == Err(Left));
-    assert!(rt; grid.step(0) == Ok(()));
-    assert!(rt; is_live(&grid, 1022, 1022) && !is_live(&grid, 1023, 1023));
-    assert!(rt; grid.step(1) == Ok(()));
-    assert!(rt; is_live(&grid, 1021, 1021) && !is_live(&grid, 1022, 1022));
+    for (time, corner) in [(0, 1022), (1, 1021)] {
+        assert!(rt; grid.step(time) == Ok(()));
+        assert!(rt; is_live(&grid, corner, corner) && !is_live(&grid, corner + 1, corner + 1));
+    }
     Ok(())
 }
 
+// a grid, and a layout of its size
 #[test]
 fn holds_its_cells_alone(rt: HostRuntime) -> Result<(), Fail> {
     let grid = Grid::new(rt.alloc(), 6, 4)?;
+    let size = Extent {
+        w: 6,
+        h: 4,
+        steps: 7,
+    };
     for (x, y, inside) in [
         (0, 0, true),
         (5, 3, true),
@@ -145,7 +72,11 @@ fn holds_its_cells_alone(rt: HostRuntime) -> Result<(), Fail> {
         (-1, 0, false),
         (0, -1, false),
     ] {
-        assert!(rt; grid.holds(Cell { x, y }) == inside, "{x} {y}");
+        let cell = Cell { x, y };
+        assert!(rt;
+            grid.holds(cell) == inside && size.holds(cell) == inside,
+            "{x} {y}"
+        );
     }
     Ok(())
 }

@@ -1,4 +1,5 @@
-//! The tests of the crates from `bbm_rule` to `module_box`. They stand apart, since a crate with tests is proved twice.
+//! The tests of the crates from `bbm_rule` to `border_match`, of what no command shows. They stand apart, since a crate with tests is
+//! proved twice.
 #![tactic(auto)]
 
 #[cfg(test)]
@@ -6,25 +7,23 @@ mod blocks;
 #[cfg(test)]
 mod boxes;
 #[cfg(test)]
+mod bundles;
+#[cfg(test)]
+mod certificates;
+#[cfg(test)]
 mod circuits;
 #[cfg(test)]
-mod counted_list;
-#[cfg(test)]
-mod equalities;
-#[cfg(test)]
-mod examples;
+mod faults;
 #[cfg(test)]
 mod grids;
 #[cfg(test)]
-mod lanes;
+mod jobs;
 #[cfg(test)]
 mod layouts;
 #[cfg(test)]
-mod local_values;
+mod locals;
 #[cfg(test)]
-mod local_wires;
-#[cfg(test)]
-mod signals;
+mod schedules;
 #[cfg(test)]
 mod texts;
 #[cfg(test)]

@@ -69,13 +69,9 @@ fn fault_with(alloc: Global, x: u32, y: u32) -> Option<TileFault>
 }
 
 #[test]
-fn no_box_leaves_a_gap(rt: HostRuntime) {
+fn first_fault_is_found(rt: HostRuntime) {
     let gap = owner_table(rt.alloc(), 8, 8, &[]).err();
     assert!(rt; gap == Some(TileFault::Gap(Cell { x: 0, y: 0 })));
-}
-
-#[test]
-fn first_fault_is_found(rt: HostRuntime) {
     let gap = owner_table(rt.alloc(), 8, 8, &QUARTERS[..3]).err();
     assert!(rt; gap == Some(TileFault::Gap(Cell { x: 4, y: 4 })));
     let overlap = fault_with(rt.alloc(), 2, 4);

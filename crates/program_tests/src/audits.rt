@@ -1,14 +1,11 @@
 //! Workers that a gate holds back, over the four modules of a worked bundle. What is expected was worked out by hand.
-ghost use Rattle.std.specs.Prelude.{◌≡◌, ◌<◌, ◌≤◌, true};
+ghost use Rattle.std.specs.Prelude.{◌<◌, ◌≤◌};
 
-use crate::checks::{BACK, COMES_IN, FRONT, NO, YES, bundle};
+use crate::bundles::{BAD, GOOD, NO, YES, fed, sections};
 use audit_core::{Entry, Filing, Reply};
 use certificate::read_certificate;
-use check_main::{Audited, Outcome, Over, audit, check_stream};
-use circuit::{port_names, read_circuit};
+use check_main::{Outcome, Over, audit, check_stream};
 use job_pool::{Gate, OpenGate};
-use pattern::read_layout;
-use section_text::Feed;
 use std::alloc::Global;
 use std::process::Abort;
 use std::sync::Wait;
@@ -129,73 +126,74 @@ fn is_checked<G: Gate + Sync, T: Threads + Wait + Sync>(
     text: &str,
     workers: usize,
     gate: &G,
-    outcome: Outcome,
-    written: &str,
 ) -> bool
     requires { (0 < workers) × (workers ≤ 64) }
 {
     let mut reader = Over::new(text.as_bytes());
     let mut writer = Over::new(Vec::new(alloc));
     let result = check_stream(rt, alloc, &mut reader, &mut writer, workers, gate);
+    let (outcome, written) = if text == GOOD {
+        (Outcome::Yes, YES)
+    } else {
+        (Outcome::No, NO)
+    };
     result == Ok(outcome) && writer.get_ref().as_slice() == written.as_bytes()
 }
 
 #[test]
-fn writes_the_same_for_each_number_of_workers(rt: HostRuntime) -> Result<(), Fail> {
-    let good = bundle(rt.alloc(), COMES_IN)?;
-    let bad = bundle(rt.alloc(), "")?;
-    for workers in [1usize, 2, 3, 64] {
-        let gate = &OpenGate;
-        assert!(rt; is_checked(&rt, rt.alloc(), &good, workers, gate, Outcome::Yes, YES));
-        assert!(rt; is_checked(&rt, rt.alloc(), &bad, workers, gate, Outcome::No, NO));
+fn writes_the_same_for_each_number_of_workers(rt: HostRuntime) {
+    for text in [GOOD, BAD] {
+        for workers in [1usize, 2, 3, 64] {
+            assert!(rt;
+                is_checked(&rt, rt.alloc(), text, workers, &OpenGate),
+                "{workers}"
+            );
+        }
     }
-    Ok(())
 }
 
-#[test]
-fn writes_the_same_for_findings_in_reverse(rt: HostRuntime) -> Result<(), Fail> {
-    let good = bundle(rt.alloc(), COMES_IN)?;
-    let gate = Holding::new(Hold::Reverse);
-    assert!(rt; is_checked(&rt, rt.alloc(), &good, 4, &gate, Outcome::Yes, YES));
-    assert!(rt; gate.was_kept());
-    let bad = bundle(rt.alloc(), "")?;
-    let gate = Holding::new(Hold::Reverse);
-    assert!(rt; is_checked(&rt, rt.alloc(), &bad, 4, &gate, Outcome::No, NO));
-    assert!(rt; gate.was_kept());
-    Ok(())
-}
+/// What is held back, from how many workers.
+const HOLDS: [(Hold, usize); 6] = [
+    (Hold::Reverse, 4),
+    (Hold::FirstTwo, 2),
+    (Hold::UntilOthers(0), 2),
+    (Hold::UntilOthers(1), 2),
+    (Hold::UntilOthers(2), 2),
+    (Hold::UntilOthers(3), 2),
+];
 
 #[test]
-fn checks_by_two_workers_at_once(rt: HostRuntime) -> Result<(), Fail> {
-    let good = bundle(rt.alloc(), COMES_IN)?;
-    let gate = Holding::new(Hold::FirstTwo);
-    assert!(rt; is_checked(&rt, rt.alloc(), &good, 2, &gate, Outcome::Yes, YES));
-    assert!(rt; gate.was_kept());
-    Ok(())
-}
-
-#[test]
-fn one_worker_ends_what_another_leaves(rt: HostRuntime) -> Result<(), Fail> {
-    let good = bundle(rt.alloc(), COMES_IN)?;
-    for held in 0..4usize {
-        let gate = Holding::new(Hold::UntilOthers(held));
-        assert!(rt;
-            is_checked(&rt, rt.alloc(), &good, 2, &gate, Outcome::Yes, YES),
-            "{held}"
-        );
-        assert!(rt; gate.was_kept(), "{held}");
+fn writes_the_same_whatever_is_held_back(rt: HostRuntime) {
+    for text in [GOOD, BAD] {
+        for (hold, workers) in HOLDS {
+            assert!(rt; 0 < workers && workers <= 64);
+            let gate = Holding::new(hold);
+            assert!(rt;
+                is_checked(&rt, rt.alloc(), text, workers, &gate),
+                "{workers}"
+            );
+            assert!(rt; gate.was_kept(), "{workers}");
+        }
     }
-    Ok(())
 }
 
-/// A text that has ended.
-fn fed(rt: &impl Abort, alloc: Global, text: &[u8]) -> Feed
-    ensures { result.closed ≡ true }
-{
-    let mut feed = Feed::new(alloc);
-    assert!(rt; feed.push(text).is_ok(), "no memory");
-    feed.close();
-    feed
+/// The numbers of accepted findings, in the order in which they were filed, 4 for a closing entry, and 5 for anything else.
+fn numbers_of(history: &[Entry]) -> [usize; 5] {
+    let mut numbers = [5; 5];
+    for (number, entry) in numbers.iter_mut().zip(history) {
+        *number = match entry {
+            Entry::Filed(
+                Filing {
+                    number,
+                    reply: Reply::Accepted,
+                    ..
+                },
+            ) => *number,
+            Entry::Filed(_) => 5,
+            Entry::Closing => 4,
+        };
+    }
+    numbers
 }
 
 /// What workers file of the accepted bundle.
@@ -204,61 +202,39 @@ fn audited<T: Abort + Threads + Wait + Sync>(
     alloc: Global,
     workers: usize,
     gate: &Holding,
-) -> Result<Audited, Fail>
+) -> Result<[usize; 5], Fail>
     requires { (0 < workers) × (workers ≤ 64) }
 {
-    let text = format!(in alloc; "{FRONT}{COMES_IN}{BACK}")?;
-    let mut feed = fed(rt, alloc, text.as_bytes());
-    let circuit = read_circuit(alloc, &mut feed)?;
-    let ports = port_names(alloc, &circuit)?;
-    assert!(rt; feed.closed());
-    let layout = read_layout(alloc, &mut feed, &ports)?;
+    let mut feed = fed(rt, alloc, GOOD);
+    let (circuit, layout) = sections(rt, alloc, &mut feed)?;
     assert!(rt; feed.closed());
     let certificate = read_certificate(alloc, &mut feed, &circuit, &layout)?;
     let audited = audit(rt, alloc, &certificate, workers, gate)?;
     assert!(rt; !audited.memory && audited.state.is_closed());
-    assert!(rt; audited.state.accepted() == 4);
-    assert!(rt; gate.was_kept());
-    Ok(audited)
+    assert!(rt; audited.state.accepted() == 4 && audited.state.history().len() == 5);
+    Ok(numbers_of(audited.state.history()))
 }
 
-/// The numbers of accepted findings, in the order in which they were filed, and behind them 4 for a closing entry.
-fn accepted_numbers(alloc: Global, audited: &Audited) -> Result<Vec<usize>, Fail> {
-    let mut numbers = Vec::new(alloc);
-    for entry in audited.state.history() {
-        match entry {
-            Entry::Filed(
-                Filing {
-                    number,
-                    reply: Reply::Accepted,
-                    ..
-                },
-            ) => numbers.push(*number)?,
-            Entry::Filed(_) => {}
-            Entry::Closing => numbers.push(4)?,
-        }
+/// How the numbers of the findings end.
+fn end_of(hold: Hold) -> &'static [usize] {
+    match hold {
+        Hold::FirstTwo => &[4],
+        Hold::Reverse => &[3, 2, 1, 0, 4],
+        Hold::UntilOthers(0) => &[0, 4],
+        Hold::UntilOthers(1) => &[1, 4],
+        Hold::UntilOthers(2) => &[2, 4],
+        Hold::UntilOthers(_) => &[3, 4],
     }
-    Ok(numbers)
 }
 
 #[test]
-fn an_audit_in_reverse(rt: HostRuntime) -> Result<(), Fail> {
-    let gate = Holding::new(Hold::Reverse);
-    let audited = audited(&rt, rt.alloc(), 4, &gate)?;
-    let numbers = accepted_numbers(rt.alloc(), &audited)?;
-    assert!(rt; numbers.as_slice() == [3, 2, 1, 0, 4].as_slice());
-    assert!(rt; audited.state.history().len() == 5);
-    Ok(())
-}
-
-#[test]
-fn an_audit_by_two_workers(rt: HostRuntime) -> Result<(), Fail> {
-    for held in 0..4usize {
-        let gate = Holding::new(Hold::UntilOthers(held));
-        let audited = audited(&rt, rt.alloc(), 2, &gate)?;
-        let numbers = accepted_numbers(rt.alloc(), &audited)?;
-        assert!(rt; numbers.len() == 5, "{held}");
-        assert!(rt; (numbers[3], numbers[4]) == (held, 4), "{held}");
+fn an_audit_files_in_the_order_of_the_gate(rt: HostRuntime) -> Result<(), Fail> {
+    for (hold, workers) in HOLDS {
+        assert!(rt; 0 < workers && workers <= 64);
+        let gate = Holding::new(hold);
+        let numbers = audited(&rt, rt.alloc(), workers, &gate)?;
+        assert!(rt; numbers.ends_with(end_of(hold)), "{numbers:?}");
+        assert!(rt; gate.was_kept());
     }
     Ok(())
 }

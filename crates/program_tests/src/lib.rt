@@ -1,15 +1,20 @@
-//! The tests of `command_line` and `check_main`. They stand apart, since a crate with tests is proved twice.
+//! The tests of threads and of the program: of `verdict_book`, `job_pool`, `command_line`, `check_main` and `case_text`. They stand apart,
+//! since a crate with tests is proved twice.
 #![tactic(auto)]
 
 #[cfg(test)]
 mod audits;
 #[cfg(test)]
-mod checks;
+mod books;
+#[cfg(test)]
+mod bundles;
+#[cfg(test)]
+mod cases;
+#[cfg(test)]
+mod desks;
+#[cfg(test)]
+mod devices;
 #[cfg(test)]
 mod programs;
-#[cfg(test)]
-mod runs;
-#[cfg(test)]
-mod valuations;
 #[cfg(test)]
 mod words;

@@ -1,346 +1,200 @@
-//! Readers and writers that fail, and the program's statuses and texts.
-use check_main::{CheckFault, Outcome, Over, program, run_stream};
+//! The program's statuses and texts, over readers and writers of which some fail.
+
+use crate::bundles::{BAD, NO};
+use crate::devices::{Endless, FailingReader, FailingWriter, Seen, call};
+use check_main::{CheckFault, Over, program};
 use std::alloc::Global;
-use std::io;
-use std::io::{ErrorKind, Read, Write};
 use std::sync::Wait;
 use std::test::Fail;
 use std::thread::Threads;
 
 /// A layout in which two balls collide, and both its inputs.
-pub(crate) const TEXT: &str =
+const RUN_TEXT: &str =
     "layout 8 8 3\nin p 2 2\nin q 5 5\nout a 5 2\nout b 2 2\nout c 5 5\nout d 2 5\nend\nassign\non p\non q\nend\n";
 
-/// How its answer begins.
-const BEGINNING: &[u8; 6] = b"cells ";
+const RUN_ANSWER: &str = "cells 2\n5 2\n2 5\n";
 
-/// Gives a text in pieces, and fails at a call.
-#[derive(Drop)]
-pub(crate) struct FailingReader<'a> {
-    pub(crate) text: &'a [u8],
-    pub(crate) piece: usize,
-    pub(crate) calls_left: u32,
+/// A command with its text, its status and its answer.
+struct Command {
+    words: &'static [&'static str],
+    text: &'static str,
+    status: u8,
+    answer: &'static str,
 }
 
-impl Read for FailingReader<'_> {
-    fn read(&mut self, buf: &mut [u8]) -> io::Result<usize> {
-        if self.calls_left == 0 {
-            return Err(io::Error::from(ErrorKind::Other));
+const HELP: &str =
+    "Evaluates a circuit under an assignment\n\nUsage: bbmcheck value\n\nOptions:\n  -h, --help  Print help\n";
+
+// The last one reads nothing.
+const COMMANDS: [Command; 4] = [
+    Command {
+        words: &["run"],
+        text: RUN_TEXT,
+        status: 0,
+        answer: RUN_ANSWER,
+    },
+    // a collision gate with both inputs named, of which one is on
+    Command {
+        words: &["value"],
+        text: "circuit\ninput p\ninput q\ninteract p q -> a b c d\noutput a\noutput b\noutput c\noutput d\nend\nassign\non p\nend\n",
+        status: 0,
+        answer: "p 1\nq 0\na 0\nb 0\nc 1\nd 0\n",
+    },
+    Command {
+        words: &["check", "--workers", "2"],
+        text: BAD,
+        status: 1,
+        answer: NO,
+    },
+    Command {
+        words: &["value", "--help"],
+        text: "",
+        status: 0,
+        answer: HELP,
+    },
+];
+
+// More than any answer here, and more calls than any text here needs.
+const MUCH: usize = 1_000;
+
+/// What a command does where its text comes in pieces of so many bytes, and a read fails after so many.
+fn read_in<T: Threads + Wait + Sync>(
+    rt: &T,
+    alloc: Global,
+    command: &Command,
+    piece: usize,
+    calls_left: u32,
+) -> Seen {
+    let reader = FailingReader {
+        text: command.text.as_bytes(),
+        piece,
+        calls_left,
+    };
+    let writer = FailingWriter::new(alloc, MUCH, true);
+    let errors = FailingWriter::new(alloc, MUCH, true);
+    call(rt, alloc, command.words, reader, writer, errors)
+}
+
+#[test]
+fn answers_however_the_text_is_cut(rt: HostRuntime) {
+    for command in &COMMANDS {
+        for piece in [1, 2, 7, 4096] {
+            let seen = read_in(&rt, rt.alloc(), command, piece, 1_000);
+            let answer = command.answer.as_bytes();
+            assert!(rt; seen.is(command.status, answer, ""), "{piece}");
         }
-        self.calls_left -= 1;
-        let count = self.piece.min(buf.len());
-        let part = &mut buf[..count];
-        self.text.read(part)
     }
-}
-
-/// Takes some bytes, and then fails or takes none.
-#[derive(Drop)]
-pub(crate) struct FailingWriter {
-    pub(crate) taken: Vec<u8>,
-    pub(crate) room: usize,
-    pub(crate) errs: bool,
-}
-
-impl Write for FailingWriter {
-    fn write(&mut self, piece: &[u8]) -> io::Result<usize> {
-        let count = self.room.min(piece.len());
-        if count == 0 && self.errs {
-            return Err(io::Error::from(ErrorKind::Other));
-        }
-        self.taken.extend_from_slice(&piece[..count])?;
-        self.room -= count;
-        Ok(count)
-    }
-
-    fn flush(&mut self) -> io::Result<()> {
-        Ok(())
-    }
-}
-
-/// Gives `a` for ever, as many as asked for or one at a time.
-#[derive(Drop)]
-struct Endless {
-    one_at_a_time: bool,
-}
-
-impl Read for Endless {
-    fn read(&mut self, buf: &mut [u8]) -> io::Result<usize> {
-        let count = if self.one_at_a_time {
-            buf.len().min(1)
-        } else {
-            buf.len()
-        };
-        buf[..count].fill(b'a');
-        Ok(count)
-    }
-}
-
-/// How `run` ends over a reader, and what it writes.
-fn run_over<R: Read + Drop>(alloc: Global, reader: R) -> (Result<Outcome, CheckFault>, Vec<u8>) {
-    let mut source = Over::new(reader);
-    let mut writer = Over::new(Vec::new(alloc));
-    let result = run_stream(alloc, &mut source, &mut writer);
-    (result, writer.into_inner())
 }
 
 #[test]
 fn says_that_a_read_failed(rt: HostRuntime) {
-    // Pieces of eight bytes, and the end.
-    let calls = TEXT.len().div_ceil(8) as u32 + 1;
-    for calls_left in 0..calls {
-        let failing = FailingReader {
-            text: TEXT.as_bytes(),
-            piece: 8,
-            calls_left,
-        };
-        let (result, written) = run_over(rt.alloc(), failing);
-        assert!(rt; result == Err(CheckFault::Read), "at call {calls_left}");
-        assert!(rt; written.is_empty());
+    for command in &COMMANDS[..3] {
+        // Pieces of eight bytes, and the end.
+        let calls = command.text.len().div_ceil(8).min(1_000) as u32 + 1;
+        for calls_left in 0..calls {
+            let seen = read_in(&rt, rt.alloc(), command, 8, calls_left);
+            assert!(rt; seen.is(4, b"", "bbmcheck: read fault\n"), "{calls_left}");
+        }
+        let seen = read_in(&rt, rt.alloc(), command, 8, calls);
+        assert!(rt; seen.is(command.status, command.answer.as_bytes(), ""));
     }
-    let enough = FailingReader {
-        text: TEXT.as_bytes(),
-        piece: 8,
-        calls_left: calls,
-    };
-    let (result, written) = run_over(rt.alloc(), enough);
-    assert!(rt; result == Ok(Outcome::Yes));
-    assert!(rt; written.starts_with(BEGINNING));
 }
 
 #[test]
 fn stops_at_the_limit(rt: HostRuntime) {
     for one_at_a_time in [false, true] {
-        let (result, written) = run_over(rt.alloc(), Endless { one_at_a_time });
-        assert!(rt; result == Err(CheckFault::TooLong));
-        assert!(rt; written.is_empty());
+        let reader = Endless { one_at_a_time };
+        let writer = FailingWriter::new(rt.alloc(), MUCH, true);
+        let errors = FailingWriter::new(rt.alloc(), MUCH, true);
+        let seen = call(&rt, rt.alloc(), &["run"], reader, writer, errors);
+        assert!(rt; seen.is(4, b"", "bbmcheck: text too long\n"));
     }
 }
 
+/// What a command does where so many bytes can be written.
+fn written_in<T: Threads + Wait + Sync>(
+    rt: &T,
+    alloc: Global,
+    command: &Command,
+    room: usize,
+    errs: bool,
+) -> Seen {
+    let reader = command.text.as_bytes();
+    let writer = FailingWriter::new(alloc, room, errs);
+    let errors = FailingWriter::new(alloc, MUCH, true);
+    call(rt, alloc, command.words, reader, writer, errors)
+}
+
 #[test]
-fn says_that_a_write_failed(rt: HostRuntime) {
-    for room in 0..BEGINNING.len() {
-        for errs in [false, true] {
-            let mut reader = Over::new(TEXT.as_bytes());
-            let mut writer = Over::new(FailingWriter {
-                taken: Vec::new(rt.alloc()),
-                room,
-                errs,
-            });
-            let result = run_stream(rt.alloc(), &mut reader, &mut writer);
-            assert!(rt; result == Err(CheckFault::Write));
-            assert!(rt; writer.get_ref().taken.as_slice() == &BEGINNING[..room]);
+fn writes_the_front_before_a_write_fails(rt: HostRuntime) {
+    for command in &COMMANDS {
+        let answer = command.answer.as_bytes();
+        for room in 0..answer.len() {
+            for errs in [false, true] {
+                let seen = written_in(&rt, rt.alloc(), command, room, errs);
+                assert!(rt;
+                    seen.is(4, &answer[..room], "bbmcheck: write fault\n"),
+                    "{room}"
+                );
+            }
         }
     }
 }
 
-/// The status, what was written, and what was said to standard error.
-#[derive(Drop)]
-pub(crate) struct Seen {
-    pub(crate) status: u8,
-    pub(crate) written: Vec<u8>,
-    pub(crate) said: Vec<u8>,
-}
-
-/// What the program does with some words, over a reader and a writer with that much room.
-pub(crate) fn call_program<'a, T: Threads + Wait + Sync, R: Read + Drop>(
-    rt: &T,
-    alloc: Global,
-    words: &'a [&'a str],
-    reader: R,
-    room: usize,
-) -> Seen {
-    let mut source = Over::new(reader);
-    let mut writer = Over::new(FailingWriter {
-        taken: Vec::new(alloc),
-        room,
-        errs: true,
-    });
-    let mut errors = Over::new(Vec::new(alloc));
-    let status = program(rt, alloc, words, &mut source, &mut writer, &mut errors);
-    let FailingWriter {
-        taken,
-        room: _,
-        errs: _,
-    } = writer.into_inner();
-    Seen {
-        status,
-        written: taken,
-        said: errors.into_inner(),
-    }
-}
-
-// More than any answer here.
-pub(crate) const MUCH_ROOM: usize = 1_000;
-
-/// What is said of a command that there is not.
-fn unrecognized(alloc: Global, word: &str) -> Result<String, Fail> {
-    Ok(format!(in alloc;
-        "error: unrecognized subcommand '{word}'\n\nUsage: bbmcheck <COMMAND>\n\nFor more information, try '--help'.\n"
-    )?)
-}
-
-#[test]
-fn refuses_other_commands(rt: HostRuntime) -> Result<(), Fail> {
-    for word in ["migrate", "prove", ""] {
-        let seen = call_program(&rt, rt.alloc(), &[word], TEXT.as_bytes(), MUCH_ROOM);
-        assert!(rt; seen.status == 2 && seen.written.is_empty());
-        let said = unrecognized(rt.alloc(), word)?;
-        assert!(rt; seen.said.as_slice() == said.as_bytes(), "{word}");
-    }
-    Ok(())
-}
-
-#[test]
-fn refuses_words(rt: HostRuntime) {
-    let many: [(&[&str], &str); 9] = [
-        (
-            &[],
-            "error: 'bbmcheck' requires a subcommand but one was not provided\n  [subcommands: check, run, value, modules, help]\n\nUsage: bbmcheck <COMMAND>\n\nFor more information, try '--help'.\n",
-        ),
-        (
-            &["run", "x"],
-            "error: unexpected argument 'x' found\n\nUsage: bbmcheck run\n\nFor more information, try '--help'.\n",
-        ),
-        (
-            &["run", "--workers", "2"],
-            "error: unexpected argument '--workers' found\n\nUsage: bbmcheck run\n\nFor more information, try '--help'.\n",
-        ),
-        (
-            &["--version"],
-            "error: unexpected argument '--version' found\n\nUsage: bbmcheck <COMMAND>\n\nFor more information, try '--help'.\n",
-        ),
-        (
-            &["rum"],
-            "error: unrecognized subcommand 'rum'\n\n  tip: a similar subcommand exists: 'run'\n\nUsage: bbmcheck <COMMAND>\n\nFor more information, try '--help'.\n",
-        ),
-        (
-            &["check", "--workers", "65"],
-            "error: invalid value '65' for '--workers <N>': 65 is not in 1..=64\n\nFor more information, try '--help'.\n",
-        ),
-        (
-            &["check", "--workers", "0"],
-            "error: invalid value '0' for '--workers <N>': 0 is not in 1..=64\n\nFor more information, try '--help'.\n",
-        ),
-        (
-            &["value", "x"],
-            "error: unexpected argument 'x' found\n\nUsage: bbmcheck value\n\nFor more information, try '--help'.\n",
-        ),
-        (
-            &["modules", "x"],
-            "error: unexpected argument 'x' found\n\nUsage: bbmcheck modules\n\nFor more information, try '--help'.\n",
-        ),
-    ];
-    for (words, said) in many {
-        let seen = call_program(&rt, rt.alloc(), words, TEXT.as_bytes(), MUCH_ROOM);
-        assert!(rt; seen.status == 2 && seen.written.is_empty());
-        assert!(rt; seen.said.as_slice() == said.as_bytes());
-    }
-}
-
-const HELP: &str =
-    "Checks billiard ball patterns, over standard input and output\n\nUsage: bbmcheck <COMMAND>\n\nCommands:\n  check    Checks a layout against its circuit by a certificate\n  run      Runs a layout under an assignment\n  value    Evaluates a circuit under an assignment\n  modules  Lists the modules of a certificate\n  help     Print this message or the help of the given subcommand(s)\n\nOptions:\n  -h, --help  Print help\n";
-
-const RUN_HELP: &str =
-    "Runs a layout under an assignment\n\nUsage: bbmcheck run\n\nOptions:\n  -h, --help  Print help\n";
-
-const CHECK_HELP: &str =
-    "Checks a layout against its circuit by a certificate\n\nUsage: bbmcheck check [OPTIONS]\n\nOptions:\n      --workers <N>  How many workers share the modules, 1 to 64 [default: 1]\n  -h, --help         Print help\n";
-
-const MODULES_HELP: &str =
-    "Lists the modules of a certificate\n\nUsage: bbmcheck modules\n\nOptions:\n  -h, --help  Print help\n";
-
-#[test]
-fn prints_help(rt: HostRuntime) {
-    let many: [(&[&str], &str); 7] = [
-        (&["--help"], HELP),
-        (&["-h"], HELP),
-        (&["help"], HELP),
-        (&["run", "--help"], RUN_HELP),
-        (&["help", "run"], RUN_HELP),
-        (&["modules", "--help"], MODULES_HELP),
-        (&["check", "--help"], CHECK_HELP),
-    ];
-    for (words, help) in many {
-        let seen = call_program(&rt, rt.alloc(), words, TEXT.as_bytes(), MUCH_ROOM);
-        assert!(rt; seen.status == 0 && seen.said.is_empty());
-        assert!(rt; seen.written.as_slice() == help.as_bytes());
-    }
-}
+/// Words, the status, and what is said, where nothing can be read.
+const UNREAD: [(&[&str], u8, &str, &str); 3] = [
+    (&["value", "--help"], 0, HELP, ""),
+    (
+        &["prove"],
+        2,
+        "",
+        "error: unrecognized subcommand 'prove'\n\nUsage: bbmcheck <COMMAND>\n\nFor more information, try '--help'.\n",
+    ),
+    (
+        &[""],
+        2,
+        "",
+        "error: unrecognized subcommand ''\n\nUsage: bbmcheck <COMMAND>\n\nFor more information, try '--help'.\n",
+    ),
+];
 
 #[test]
 fn reads_nothing_for_wrong_words(rt: HostRuntime) {
-    let many: [(&[&str], u8); 2] = [(&["--help"], 0), (&["prove"], 2)];
-    for (words, status) in many {
-        let failing = FailingReader {
-            text: &[],
+    for (words, status, written, said) in &UNREAD {
+        let reader = FailingReader {
+            text: b"",
             piece: 1,
             calls_left: 0,
         };
-        assert!(rt; call_program(&rt, rt.alloc(), words, failing, MUCH_ROOM).status == status);
+        let writer = FailingWriter::new(rt.alloc(), MUCH, true);
+        let errors = FailingWriter::new(rt.alloc(), MUCH, true);
+        let seen = call(&rt, rt.alloc(), words, reader, writer, errors);
+        assert!(rt; seen.is(*status, written.as_bytes(), said), "{words:?}");
     }
 }
 
-#[test]
-fn names_a_read_fault(rt: HostRuntime) {
-    let failing = FailingReader {
-        text: TEXT.as_bytes(),
-        piece: 8,
-        calls_left: 1,
-    };
-    let seen = call_program(&rt, rt.alloc(), &["run"], failing, MUCH_ROOM);
-    assert!(rt; seen.status == 4 && seen.written.is_empty());
-    assert!(rt; seen.said.as_slice() == b"bbmcheck: read fault\n".as_slice());
-}
-
-#[test]
-fn names_a_text_that_is_too_long(rt: HostRuntime) {
-    let endless = Endless {
-        one_at_a_time: false,
-    };
-    let seen = call_program(&rt, rt.alloc(), &["run"], endless, MUCH_ROOM);
-    assert!(rt; seen.status == 4 && seen.written.is_empty());
-    assert!(rt; seen.said.as_slice() == b"bbmcheck: text too long\n".as_slice());
-}
-
-#[test]
-fn names_a_write_fault(rt: HostRuntime) {
-    let many: [(&[&str], &[u8]); 2] = [(&["run"], b"cell"), (&["--help"], b"Chec")];
-    for (words, beginning) in many {
-        let seen = call_program(&rt, rt.alloc(), words, TEXT.as_bytes(), 4);
-        assert!(rt; seen.status == 4 && seen.written.as_slice() == beginning);
-        assert!(rt; seen.said.as_slice() == b"bbmcheck: write fault\n".as_slice());
-    }
-}
-
-/// The status where standard error takes so many bytes and then fails.
-fn unheard<'a, T: Threads + Wait + Sync>(
-    rt: &T,
-    alloc: Global,
-    words: &'a [&'a str],
-    calls_left: u32,
-    room: usize,
-) -> u8 {
-    let mut reader = Over::new(FailingReader {
-        text: TEXT.as_bytes(),
-        piece: 8,
-        calls_left,
-    });
-    let mut writer = Over::new(Vec::new(alloc));
-    let mut errors = Over::new(FailingWriter {
-        taken: Vec::new(alloc),
-        room,
-        errs: true,
-    });
-    program(rt, alloc, words, &mut reader, &mut writer, &mut errors)
-}
+/// Words, how many reads go well, and the status, where standard error fails.
+const UNHEARD: [(&[&str], u32, u8, &str, &str); 3] = [
+    (&["prove"], 0, 2, "", "error: unrecognized subcommand"),
+    (&["run"], 3, 4, "", "bbmcheck: read fault\n"),
+    (&["run"], 1_000, 0, RUN_ANSWER, ""),
+];
 
 #[test]
 fn ignores_that_errors_cannot_be_written(rt: HostRuntime) {
-    for room in [0, 1, 10, 12] {
-        assert!(rt; unheard(&rt, rt.alloc(), &["prove"], 0, room) == 2);
-        assert!(rt; unheard(&rt, rt.alloc(), &["run"], 3, room) == 4);
-        assert!(rt; unheard(&rt, rt.alloc(), &["run"], 1_000, room) == 0);
+    for (words, calls_left, status, written, said) in &UNHEARD {
+        for room in [0, 1, 10, 12] {
+            let reader = FailingReader {
+                text: RUN_TEXT.as_bytes(),
+                piece: 8,
+                calls_left: *calls_left,
+            };
+            let writer = FailingWriter::new(rt.alloc(), MUCH, true);
+            let errors = FailingWriter::new(rt.alloc(), room, true);
+            let seen = call(&rt, rt.alloc(), words, reader, writer, errors);
+            let said = said.get(..room).unwrap_or("");
+            assert!(rt; seen.is(*status, written.as_bytes(), said), "{words:?}");
+        }
     }
 }
 
@@ -358,4 +212,32 @@ fn names_each_fault_in_words(rt: HostRuntime) -> Result<(), Fail> {
         assert!(rt; shown.as_str() == text);
     }
     Ok(())
+}
+
+/// Each run ends in the whole answer, or in want of memory with nothing written. It passes too where an allocation is
+/// refused.
+#[test]
+fn survives_want_of_memory(rt: HostRuntime) {
+    for command in &COMMANDS {
+        let (mut room, mut said) = ([0u8; 144], [0u8; 144]);
+        let mut reader = Over::new(command.text.as_bytes());
+        let mut writer = Over::new(room.as_mut_slice());
+        let mut errors = Over::new(said.as_mut_slice());
+        let status = program(
+            &rt,
+            rt.alloc(),
+            command.words,
+            &mut reader,
+            &mut writer,
+            &mut errors,
+        );
+        let left = writer.into_inner().len();
+        if status == 5 {
+            assert!(rt; left == 144);
+        } else {
+            let answer = command.answer.as_bytes();
+            assert!(rt; status == command.status && room.starts_with(answer));
+            assert!(rt; left.checked_add(answer.len()) == Some(144));
+        }
+    }
 }

@@ -3,68 +3,62 @@
 use clap::error::ErrorKind;
 use command_line::{Request, read_words};
 use std::alloc::Global;
-use std::test::Fail;
 
-fn kind_of(alloc: Global, words: &[&str]) -> Option<ErrorKind> {
-    read_words(alloc, words).err().map(|error| error.kind())
-}
+/// The command and the number of workers, or why the words are refused.
+type Read = Result<(Request, usize), ErrorKind>;
 
-#[test]
-fn reads_the_command(rt: HostRuntime) -> Result<(), Fail> {
-    assert!(rt; read_words(rt.alloc(), &["run"])?.request == Request::Run);
-    assert!(rt; kind_of(rt.alloc(), &[]) == Some(ErrorKind::MissingSubcommand));
-    assert!(rt; read_words(rt.alloc(), &["value"])?.request == Request::Value);
-    assert!(rt; read_words(rt.alloc(), &["modules"])?.request == Request::Modules);
-    assert!(rt; read_words(rt.alloc(), &["check"])?.request == Request::Check);
-    assert!(rt; kind_of(rt.alloc(), &["migrate"]) == Some(ErrorKind::InvalidSubcommand));
-    assert!(rt; kind_of(rt.alloc(), &["run", "x"]) == Some(ErrorKind::UnknownArgument));
-    assert!(rt; kind_of(rt.alloc(), &["--help"]) == Some(ErrorKind::DisplayHelp));
-    Ok(())
-}
-
-/// How many workers the words ask for.
-fn workers_in(alloc: Global, words: &[&str]) -> Option<usize> {
-    read_words(alloc, words).ok().map(|asked| asked.workers)
-}
-
-#[test]
-fn reads_the_workers(rt: HostRuntime) {
-    let alloc = rt.alloc();
-    assert_eq!(rt; workers_in(alloc, &["check"]), Some(1));
-    assert_eq!(rt; workers_in(alloc, &["check", "--workers", "1"]), Some(1));
-    assert_eq!(rt; workers_in(alloc, &["check", "--workers", "7"]), Some(7));
-    assert_eq!(rt; workers_in(alloc, &["check", "--workers=64"]), Some(64));
-    assert_eq!(rt; workers_in(alloc, &["check", "--workers", "+007"]), Some(7));
-    assert_eq!(rt; workers_in(alloc, &["run"]), Some(1));
-}
-
-#[test]
-fn refuses_other_workers(rt: HostRuntime) {
-    let alloc = rt.alloc();
-    for number in ["0", "65", "1.5", "two", "", "18446744073709551617"] {
-        let words = ["check", "--workers", number];
-        assert!(rt;
-            kind_of(alloc, &words) == Some(ErrorKind::ValueValidation),
-            "{number}"
-        );
+fn read(alloc: Global, words: &[&str]) -> Read {
+    match read_words(alloc, words) {
+        Ok(asked) => Ok((asked.request, asked.workers)),
+        Err(error) => Err(error.kind()),
     }
-    // After a space a word that begins with a hyphen is no value.
-    let negative = ["check", "--workers=-1"];
-    assert!(rt; kind_of(alloc, &negative) == Some(ErrorKind::ValueValidation));
-    let flag = ["check", "--workers", "-1"];
-    assert!(rt; kind_of(alloc, &flag) == Some(ErrorKind::UnknownArgument));
-    assert!(rt; kind_of(alloc, &["check", "--workers"]) == Some(ErrorKind::InvalidValue));
-    let twice = ["check", "--workers", "2", "--workers", "2"];
-    assert!(rt; kind_of(alloc, &twice) == Some(ErrorKind::ArgumentConflict));
 }
 
+const WORDS: [(&[&str], Read); 24] = [
+    (&["run"], Ok((Request::Run, 1))),
+    (&["value"], Ok((Request::Value, 1))),
+    (&["modules"], Ok((Request::Modules, 1))),
+    (&["check"], Ok((Request::Check, 1))),
+    (&["check", "--workers", "1"], Ok((Request::Check, 1))),
+    (&["check", "--workers", "7"], Ok((Request::Check, 7))),
+    (&["check", "--workers=64"], Ok((Request::Check, 64))),
+    (&["check", "--workers", "+007"], Ok((Request::Check, 7))),
+    (&[], Err(ErrorKind::MissingSubcommand)),
+    (&["migrate"], Err(ErrorKind::InvalidSubcommand)),
+    (&["run", "x"], Err(ErrorKind::UnknownArgument)),
+    (&["--help"], Err(ErrorKind::DisplayHelp)),
+    (&["check", "--workers", "0"], VALUE),
+    (&["check", "--workers", "65"], VALUE),
+    (&["check", "--workers", "1.5"], VALUE),
+    (&["check", "--workers", "two"], VALUE),
+    (&["check", "--workers", ""], VALUE),
+    (&["check", "--workers", "18446744073709551617"], VALUE),
+    // After a space a word that begins with a hyphen is no value.
+    (&["check", "--workers=-1"], VALUE),
+    (
+        &["check", "--workers", "-1"],
+        Err(ErrorKind::UnknownArgument),
+    ),
+    (&["check", "--workers"], Err(ErrorKind::InvalidValue)),
+    (
+        &["check", "--workers", "2", "--workers", "2"],
+        Err(ErrorKind::ArgumentConflict),
+    ),
+    (
+        &["value", "--workers", "2"],
+        Err(ErrorKind::UnknownArgument),
+    ),
+    (
+        &["modules", "--workers", "2"],
+        Err(ErrorKind::UnknownArgument),
+    ),
+];
+
+const VALUE: Read = Err(ErrorKind::ValueValidation);
+
 #[test]
-fn only_check_has_workers(rt: HostRuntime) {
-    for command in ["run", "value", "modules"] {
-        let words = [command, "--workers", "2"];
-        assert!(rt;
-            kind_of(rt.alloc(), &words) == Some(ErrorKind::UnknownArgument),
-            "{command}"
-        );
+fn reads_words(rt: HostRuntime) {
+    for (words, wanted) in &WORDS {
+        assert!(rt; read(rt.alloc(), words) == *wanted, "{words:?}");
     }
 }

@@ -2,47 +2,26 @@
 //!
 //! What finds no memory is tried once more: so each growth can be refused in turn (`rt try --test --fail-alloc N`), and the
 //! sequences are still to end as they should.
-ghost use Rattle.std.specs.Prelude.{◌≡◌, OnOk, true};
+ghost use Rattle.std.specs.Prelude.{◌≡◌, true};
 
 use audit_core::*;
-use certificate::{Cert, Job, read_certificate};
+use certificate::{Job, read_certificate};
 use circuit::{Circuit, port_names, read_circuit};
 use local_run::{Finding, run_job};
 use pattern::{Layout, read_layout};
-use section_text::{Feed, ReadFault, Refusal};
-use std::alloc::{AllocError, AllocFailed, Global};
+use section_text::Feed;
+use std::alloc::Global;
 use std::process::Abort;
 use std::sync::Arc;
-use std::test::Fail;
 
 // ---- two balls that meet in the middle of four modules
 
-pub(crate) const CIRCUIT: &str =
-    "circuit\ninput p\ninput q\ninteract p q -> a b c d\noutput a\noutput b\noutput c\noutput d\nend\n";
+pub(crate) const GOOD: &str =
+    "circuit\ninput p\ninput q\ninteract p q -> a b c d\noutput a\noutput b\noutput c\noutput d\nend\nlayout 8 8 3\nin p 2 2\nin q 5 5\nout a 5 2\nout b 2 2\nout c 5 5\nout d 2 5\nend\ncertificate 1\nmodule 0 0 4 4\ncut p\ncut q\nuse 0\nedge 1 3 3 p\nhalo 1 4 4 q\nmodule 4 0 4 4\ncut p\ncut q\nuse 0\nhalo 1 3 3 p\nhalo 1 4 4 q\nmodule 0 4 4 4\ncut p\ncut q\nuse 0\nhalo 1 3 3 p\nhalo 1 4 4 q\nmodule 4 4 4 4\ncut p\ncut q\nuse 0\nedge 1 4 4 q\nhalo 1 3 3 p\nend\n";
 
-pub(crate) const LAYOUT: &str =
-    "layout 8 8 3\nin p 2 2\nin q 5 5\nout a 5 2\nout b 2 2\nout c 5 5\nout d 2 5\nend\n";
-
-pub(crate) const UPPER_LEFT: &str = "cut p\ncut q\nuse 0\nedge 1 3 3 p\nhalo 1 4 4 q\n";
-
-/// Nothing comes in at (4, 4).
-pub(crate) const UPPER_LEFT_ALONE: &str = "cut p\ncut q\nuse 0\nedge 1 3 3 p\n";
-
-/// The lines of the upper right module and of the lower left one.
-pub(crate) const SIDE: &str = "cut p\ncut q\nuse 0\nhalo 1 3 3 p\nhalo 1 4 4 q\n";
-
-const LOWER_RIGHT: &str = "cut p\ncut q\nuse 0\nedge 1 4 4 q\nhalo 1 3 3 p\n";
-
-/// The bundle of the four modules, the first two with these lines.
-pub(crate) fn quarters(
-    alloc: Global,
-    upper_left: &str,
-    upper_right: &str,
-) -> Result<String, Trouble> {
-    Ok(format!(in alloc;
-        "{CIRCUIT}{LAYOUT}certificate 1\nmodule 0 0 4 4\n{upper_left}module 4 0 4 4\n{upper_right}module 0 4 4 4\n{SIDE}module 4 4 4 4\n{LOWER_RIGHT}end\n"
-    )?)
-}
+/// Nothing comes in at (4, 4) in the first module.
+pub(crate) const ALONE: &str =
+    "circuit\ninput p\ninput q\ninteract p q -> a b c d\noutput a\noutput b\noutput c\noutput d\nend\nlayout 8 8 3\nin p 2 2\nin q 5 5\nout a 5 2\nout b 2 2\nout c 5 5\nout d 2 5\nend\ncertificate 1\nmodule 0 0 4 4\ncut p\ncut q\nuse 0\nedge 1 3 3 p\nmodule 4 0 4 4\ncut p\ncut q\nuse 0\nhalo 1 3 3 p\nhalo 1 4 4 q\nmodule 0 4 4 4\ncut p\ncut q\nuse 0\nhalo 1 3 3 p\nhalo 1 4 4 q\nmodule 4 4 4 4\ncut p\ncut q\nuse 0\nedge 1 4 4 q\nhalo 1 3 3 p\nend\n";
 
 // ---- what is made of a bundle
 
@@ -57,47 +36,19 @@ pub(crate) fn fed(rt: &impl Abort, alloc: Global, text: &str) -> Feed
 }
 
 /// The sections before a certificate.
-pub(crate) fn sections(
-    rt: &impl Abort,
-    alloc: Global,
-    feed: &mut Feed,
-) -> Result<(Circuit, Layout), Trouble>
+pub(crate) fn sections(rt: &impl Abort, alloc: Global, feed: &mut Feed) -> (Circuit, Layout)
     requires { feed.old.closed ≡ true }
-    ensures { OnOk result (feed.new.closed ≡ true) }
 {
-    let circuit = read_circuit(alloc, feed)?;
-    let ports = port_names(alloc, &circuit)?;
+    let Ok(circuit) = read_circuit(alloc, feed) else {
+        panic!(rt; "no memory")
+    };
+    let Ok(ports) = port_names(alloc, &circuit) else {
+        panic!(rt; "no memory")
+    };
     assert!(rt; feed.closed());
-    let layout = read_layout(alloc, feed, &ports)?;
-    assert!(rt; feed.closed());
-    Ok((circuit, layout))
-}
-
-/// What keeps a test from its beginning.
-#[derive(Debug, Drop)]
-pub(crate) enum Trouble {
-    Memory,
-    Refused(Refusal),
-}
-
-impl From<AllocError> for Trouble {
-    fn from(_: AllocError) -> Trouble {
-        Trouble::Memory
-    }
-}
-
-impl<T: Drop> From<AllocFailed<T>> for Trouble {
-    fn from(_: AllocFailed<T>) -> Trouble {
-        Trouble::Memory
-    }
-}
-
-impl From<ReadFault> for Trouble {
-    fn from(fault: ReadFault) -> Trouble {
-        match fault {
-            ReadFault::Memory => Trouble::Memory,
-            ReadFault::Refused(refusal) => Trouble::Refused(refusal),
-        }
+    match read_layout(alloc, feed, &ports) {
+        Ok(layout) => (circuit, layout),
+        Err(_) => panic!(rt; "no memory"),
     }
 }
 
@@ -108,28 +59,18 @@ pub(crate) struct Work {
     pub(crate) jobs: Vec<Arc<Job>>,
 }
 
-fn work_on(alloc: Global, certificate: &Cert<'_>) -> Result<Work, Trouble> {
-    let digest = certificate.digest(alloc)?;
-    let jobs = certificate.jobs(alloc)?;
-    Ok(Work { digest, jobs })
-}
-
 /// What is to be done for a bundle.
-pub(crate) fn work_of(rt: &impl Abort, alloc: Global, text: &str) -> Result<Work, Trouble> {
+pub(crate) fn work_of(rt: &impl Abort, alloc: Global, text: &str) -> Work {
     let mut feed = fed(rt, alloc, text);
-    let (circuit, layout) = sections(rt, alloc, &mut feed)?;
-    let certificate = read_certificate(alloc, &mut feed, &circuit, &layout)?;
-    work_on(alloc, &certificate)
-}
-
-/// What is to be done for the four modules, the first with these lines.
-pub(crate) fn work_of_quarters(
-    rt: &impl Abort,
-    alloc: Global,
-    upper_left: &str,
-) -> Result<Work, Trouble> {
-    let text = quarters(alloc, upper_left, SIDE)?;
-    work_of(rt, alloc, &text)
+    let (circuit, layout) = sections(rt, alloc, &mut feed);
+    assert!(rt; feed.closed());
+    let Ok(certificate) = read_certificate(alloc, &mut feed, &circuit, &layout) else {
+        panic!(rt; "no memory")
+    };
+    match (certificate.digest(alloc), certificate.jobs(alloc)) {
+        (Ok(digest), Ok(jobs)) => Work { digest, jobs },
+        _ => panic!(rt; "no memory"),
+    }
 }
 
 /// The finding of the job at a place of the list, under a digest and a number.
@@ -140,10 +81,15 @@ pub(crate) fn finding(
     number: usize,
     jobs: &[Arc<Job>],
     place: usize,
-) -> Result<Finding, Trouble> {
+) -> Finding {
     assert!(rt; place < jobs.len(), "no such job");
-    let job = jobs[place].clone()?;
-    Ok(run_job(alloc, digest, number, job)?)
+    let Ok(job) = jobs[place].clone() else {
+        panic!(rt; "no memory")
+    };
+    match run_job(alloc, digest, number, job) {
+        Ok(finding) => finding,
+        Err(_) => panic!(rt; "no memory"),
+    }
 }
 
 // ---- a book with its history
@@ -186,10 +132,10 @@ struct Works {
 }
 
 impl Works {
-    fn new(rt: &impl Abort, alloc: Global) -> Result<Works, Trouble> {
-        let own = work_of_quarters(rt, alloc, UPPER_LEFT)?;
-        let other = work_of_quarters(rt, alloc, UPPER_LEFT_ALONE)?;
-        Ok(Works { own, other })
+    fn new(rt: &impl Abort, alloc: Global) -> Works {
+        let own = work_of(rt, alloc, GOOD);
+        let other = work_of(rt, alloc, ALONE);
+        Works { own, other }
     }
 
     fn of(&self, of: Of) -> &Work {
@@ -280,16 +226,10 @@ fn is_told(book: &BookState, told: Reply, entry: Filing, held: usize) -> bool {
 }
 
 /// Files what a turn says, and sees what it says of it.
-fn play(
-    rt: &impl Abort,
-    alloc: Global,
-    works: &Works,
-    book: &mut BookState,
-    turn: &Turn,
-) -> Result<bool, Trouble> {
+fn play(rt: &impl Abort, alloc: Global, works: &Works, book: &mut BookState, turn: &Turn) -> bool {
     let ((under, number), (jobs, place), same, wanted, held) = *turn;
     let digest = works.of(under).digest;
-    let finding = finding(rt, alloc, digest, number, &works.of(jobs).jobs, place)?;
+    let finding = finding(rt, alloc, digest, number, &works.of(jobs).jobs, place);
     let told = reply(rt, book, finding);
     let entry = Filing {
         digest,
@@ -297,18 +237,26 @@ fn play(
         same,
         reply: wanted,
     };
-    Ok(is_told(book, told, entry, held))
+    is_told(book, told, entry, held)
 }
 
-/// A book without jobs.
-fn book_without_jobs(alloc: Global, digest: [u8; 32]) -> Result<BookState, Trouble> {
-    Ok(BookState::new(alloc, digest, Vec::new(alloc))?)
+/// An open book of these jobs, in which nothing is held.
+pub(crate) fn new_book(
+    rt: &impl Abort,
+    alloc: Global,
+    digest: [u8; 32],
+    jobs: Vec<Arc<Job>>,
+) -> BookState {
+    match BookState::new(alloc, digest, jobs) {
+        Ok(book) => book,
+        Err(_) => panic!(rt; "no memory"),
+    }
 }
 
 /// An open book of the four modules, in which nothing is held.
-fn new_book(rt: &impl Abort, alloc: Global) -> Result<BookState, Trouble> {
-    let work = work_of_quarters(rt, alloc, UPPER_LEFT)?;
-    Ok(BookState::new(alloc, work.digest, work.jobs)?)
+fn book_of_four(rt: &impl Abort, alloc: Global) -> BookState {
+    let Work { digest, jobs } = work_of(rt, alloc, GOOD);
+    new_book(rt, alloc, digest, jobs)
 }
 
 /// A book has this many entries, and is closed or not.
@@ -326,26 +274,24 @@ fn close(rt: &impl Abort, book: &mut BookState, entries: usize) {
 }
 
 /// Plays all turns in a new book, and closes it.
-fn played(rt: &impl Abort, alloc: Global, works: &Works) -> Result<BookState, Trouble> {
-    let mut book = new_book(rt, alloc)?;
+fn played(rt: &impl Abort, alloc: Global, works: &Works) -> BookState {
+    let mut book = book_of_four(rt, alloc);
     for (number, turn) in TURNS.iter().enumerate() {
         assert!(rt; is_at(&book, number, false));
-        assert!(rt; play(rt, alloc, works, &mut book, turn)?, "turn {number}");
+        assert!(rt; play(rt, alloc, works, &mut book, turn), "turn {number}");
     }
     close(rt, &mut book, TURNS.len());
-    Ok(book)
+    book
 }
 
 #[test]
-fn book_with_its_history(rt: HostRuntime) -> Result<(), Fail> {
-    let works = Works::new(&rt, rt.alloc())?;
-    let mut book = played(&rt, rt.alloc(), &works)?;
-    assert!(rt; is_at(&book, 16, true));
-    assert!(rt; last_entry(&book) == Some(Entry::Closing));
+fn book_with_its_history(rt: HostRuntime) {
+    let works = Works::new(&rt, rt.alloc());
+    let mut book = played(&rt, rt.alloc(), &works);
+    assert!(rt; is_at(&book, 16, true) && last_entry(&book) == Some(Entry::Closing));
     let late = ((Of::Own, 0), (Of::Own, 0), true, Reply::Closed, 4);
-    assert!(rt; play(&rt, rt.alloc(), &works, &mut book, &late)?);
+    assert!(rt; play(&rt, rt.alloc(), &works, &mut book, &late));
     assert!(rt; is_at(&book, 17, true));
-    Ok(())
 }
 
 /// What a book holds for a number is the finding of that number, which has no fault.
@@ -357,23 +303,17 @@ fn holds(book: &BookState, number: usize) -> bool {
 }
 
 #[test]
-fn what_a_book_holds(rt: HostRuntime) -> Result<(), Fail> {
-    let works = Works::new(&rt, rt.alloc())?;
-    let mut book = new_book(&rt, rt.alloc())?;
+fn what_a_book_holds(rt: HostRuntime) {
+    let works = Works::new(&rt, rt.alloc());
+    let mut book = book_of_four(&rt, rt.alloc());
     assert!(rt; book.digest() == works.own.digest && book.jobs().len() == 4);
     assert!(rt; book.found(2).is_none() && book.found(4).is_none());
-    assert!(rt; play(&rt, rt.alloc(), &works, &mut book, &TURNS[0])?);
+    assert!(rt; play(&rt, rt.alloc(), &works, &mut book, &TURNS[0]));
     assert!(rt; holds(&book, 2) && book.found(1).is_none());
-    Ok(())
-}
-
-#[test]
-fn nothing_is_held_without_jobs(rt: HostRuntime) -> Result<(), Fail> {
-    let works = Works::new(&rt, rt.alloc())?;
-    let mut book = book_without_jobs(rt.alloc(), works.own.digest)?;
+    // nothing is held without jobs
+    let mut book = new_book(&rt, rt.alloc(), works.own.digest, Vec::new(rt.alloc()));
     let wanted = Reply::Stranger(Mismatch::Number);
     let turn = ((Of::Own, 0), (Of::Own, 0), false, wanted, 0);
-    assert!(rt; play(&rt, rt.alloc(), &works, &mut book, &turn)?);
+    assert!(rt; play(&rt, rt.alloc(), &works, &mut book, &turn));
     assert!(rt; book.found(0).is_none());
-    Ok(())
 }

@@ -3,12 +3,11 @@
 //! What finds no memory is tried once more: so each growth can be refused in turn (`rt try --test --fail-alloc N`), and the
 //! sequence is still to end as it should.
 
-use crate::books::{Trouble, UPPER_LEFT, Work, finding, work_of_quarters};
+use crate::books::{GOOD, Work, finding, work_of};
 use crate::verdicts::is_missing;
 use audit_core::*;
 use std::alloc::Global;
 use std::process::Abort;
-use std::test::Fail;
 
 /// What the core answers to an event of one of its seats.
 fn happen(rt: &impl Abort, core: &mut Core, event: Event) -> Result<Answer, NotApplied> {
@@ -48,14 +47,13 @@ enum Step {
     Lose(usize),
 }
 
-fn event_of(rt: &impl Abort, alloc: Global, work: &Work, step: Step) -> Result<Event, Trouble> {
+fn event_of(rt: &impl Abort, alloc: Global, work: &Work, step: Step) -> Event {
     match step {
-        Step::Claim(seat) => Ok(Event::Claim(seat)),
+        Step::Claim(seat) => Event::Claim(seat),
         Step::File(number) => {
-            let finding = finding(rt, alloc, work.digest, number, &work.jobs, number)?;
-            Ok(Event::File(finding))
+            Event::File(finding(rt, alloc, work.digest, number, &work.jobs, number))
         }
-        Step::Lose(number) => Ok(Event::Lose(number)),
+        Step::Lose(number) => Event::Lose(number),
     }
 }
 
@@ -75,20 +73,22 @@ const STEPS: [(Step, Answer); 11] = [
 ];
 
 /// A core of two seats for this work.
-fn new_core(rt: &impl Abort, alloc: Global, work: Work) -> Result<Core, Trouble> {
+fn new_core(rt: &impl Abort, alloc: Global, work: Work) -> Core {
     assert!(rt; work.jobs.len() <= 1024, "too many jobs");
-    Ok(Core::new(alloc, work.digest, work.jobs, 2)?)
+    match Core::new(alloc, work.digest, work.jobs, 2) {
+        Ok(core) => core,
+        Err(_) => panic!(rt; "no memory"),
+    }
 }
 
 /// The core of two seats to which all of this happened.
-fn played(rt: &impl Abort, alloc: Global, work: &Work) -> Result<Core, Trouble> {
-    let own = work_of_quarters(rt, alloc, UPPER_LEFT)?;
-    let mut core = new_core(rt, alloc, own)?;
+fn played(rt: &impl Abort, alloc: Global, work: &Work) -> Core {
+    let mut core = new_core(rt, alloc, work_of(rt, alloc, GOOD));
     for (number, (step, wanted)) in STEPS.iter().enumerate() {
-        let event = event_of(rt, alloc, work, *step)?;
+        let event = event_of(rt, alloc, work, *step);
         assert!(rt; answer(rt, &mut core, event) == *wanted, "step {number}");
     }
-    Ok(core)
+    core
 }
 
 /// The entry of a filing.
@@ -112,14 +112,13 @@ fn are_filings(history: &[Entry], digest: [u8; 32]) -> bool {
 }
 
 #[test]
-fn core_of_two_seats(rt: HostRuntime) -> Result<(), Fail> {
-    let work = work_of_quarters(&rt, rt.alloc(), UPPER_LEFT)?;
-    let core = played(&rt, rt.alloc(), &work)?;
+fn core_of_two_seats(rt: HostRuntime) {
+    let work = work_of(&rt, rt.alloc(), GOOD);
+    let core = played(&rt, rt.alloc(), &work);
     assert!(rt; core.next() == 6 && core.seats() == 2);
     assert!(rt; core.draws(0) == [0, 2, 3, 4].as_slice());
     assert!(rt; core.draws(1) == [1, 5].as_slice());
     let book = core.book();
     assert!(rt; are_filings(book.history(), work.digest) && book.accepted() == 2);
-    assert!(rt; is_missing(&rt, rt.alloc(), book, 2)?);
-    Ok(())
+    assert!(rt; is_missing(&rt, rt.alloc(), book, 2));
 }

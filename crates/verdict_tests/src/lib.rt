@@ -9,5 +9,3 @@ mod cores;
 mod reports;
 #[cfg(test)]
 mod verdicts;
-#[cfg(test)]
-mod whole_runs;

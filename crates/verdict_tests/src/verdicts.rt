@@ -1,8 +1,6 @@
 //! Verdicts on worked bundles. The lines were worked out by hand.
 
-use crate::books::{
-    SIDE, Trouble, UPPER_LEFT, UPPER_LEFT_ALONE, fed, finding, quarters, sections, work_of,
-};
+use crate::books::{ALONE, GOOD, fed, finding, new_book, sections, work_of};
 use audit_core::*;
 use bbm_rule::Cell;
 use border_match::{BorderFault, match_borders};
@@ -10,19 +8,23 @@ use certificate::{Cert, read_certificate};
 use local_run::{Fault, Kind};
 use std::alloc::Global;
 use std::process::Abort;
-use std::test::Fail;
 
 /// The conclusion on a certificate, at the second time if no memory was found at the first.
 fn concluded(
+    rt: &impl Abort,
     alloc: Global,
     certificate: &Cert<'_>,
     book: &BookState,
-) -> Result<Result<Verdict, Unfinished>, Trouble> {
-    let jobs = certificate.jobs(alloc)?;
-    let borders = match_borders(alloc, certificate, &jobs)?;
+) -> Result<Verdict, Unfinished> {
+    let Ok(jobs) = certificate.jobs(alloc) else {
+        panic!(rt; "no memory")
+    };
+    let Ok(borders) = match_borders(alloc, certificate, &jobs) else {
+        panic!(rt; "no memory")
+    };
     match conclude(alloc, certificate, &jobs, &borders, book) {
-        Err(Unfinished::Memory) => Ok(conclude(alloc, certificate, &jobs, &borders, book)),
-        concluded => Ok(concluded),
+        Err(Unfinished::Memory) => conclude(alloc, certificate, &jobs, &borders, book),
+        concluded => concluded,
     }
 }
 
@@ -32,28 +34,26 @@ fn conclusion(
     alloc: Global,
     text: &str,
     book: &BookState,
-) -> Result<Result<Verdict, Unfinished>, Trouble> {
+) -> Result<Verdict, Unfinished> {
     let mut feed = fed(rt, alloc, text);
-    let (circuit, layout) = sections(rt, alloc, &mut feed)?;
-    let certificate = read_certificate(alloc, &mut feed, &circuit, &layout)?;
-    concluded(alloc, &certificate, book)
+    let (circuit, layout) = sections(rt, alloc, &mut feed);
+    assert!(rt; feed.closed());
+    match read_certificate(alloc, &mut feed, &circuit, &layout) {
+        Ok(certificate) => concluded(rt, alloc, &certificate, book),
+        Err(_) => panic!(rt; "no memory"),
+    }
 }
 
 /// A book of a bundle's jobs, in which the findings of these numbers are filed in this order. Its digest is none of a text.
-fn book_of(
-    rt: &impl Abort,
-    alloc: Global,
-    text: &str,
-    numbers: &[usize],
-) -> Result<BookState, Trouble> {
+fn book_of(rt: &impl Abort, alloc: Global, text: &str, numbers: &[usize]) -> BookState {
     let digest = [7; 32];
-    let work = work_of(rt, alloc, text)?;
-    let mut book = BookState::new(alloc, digest, work_of(rt, alloc, text)?.jobs)?;
+    let work = work_of(rt, alloc, text);
+    let mut book = new_book(rt, alloc, digest, work_of(rt, alloc, text).jobs);
     for number in numbers {
-        let finding = finding(rt, alloc, digest, *number, &work.jobs, *number)?;
+        let finding = finding(rt, alloc, digest, *number, &work.jobs, *number);
         assert!(rt; book.file(finding).is_ok(), "no memory");
     }
-    Ok(book)
+    book
 }
 
 /// Whether this is a no with these lines, or a yes where there are none.
@@ -85,8 +85,9 @@ const ALONE_LINES: [ReportLine; 2] = [
     },
 ];
 
-/// Lines of the upper right module by which q comes in at (3, 3).
-const OTHER_BALL: &str = "cut p\ncut q\nuse 0\nhalo 1 3 3 q\nhalo 1 4 4 q\n";
+/// In the second module q comes in at (3, 3).
+const OTHER_BALL: &str =
+    "circuit\ninput p\ninput q\ninteract p q -> a b c d\noutput a\noutput b\noutput c\noutput d\nend\nlayout 8 8 3\nin p 2 2\nin q 5 5\nout a 5 2\nout b 2 2\nout c 5 5\nout d 2 5\nend\ncertificate 1\nmodule 0 0 4 4\ncut p\ncut q\nuse 0\nedge 1 3 3 p\nhalo 1 4 4 q\nmodule 4 0 4 4\ncut p\ncut q\nuse 0\nhalo 1 3 3 q\nhalo 1 4 4 q\nmodule 0 4 4 4\ncut p\ncut q\nuse 0\nhalo 1 3 3 p\nhalo 1 4 4 q\nmodule 4 4 4 4\ncut p\ncut q\nuse 0\nedge 1 4 4 q\nhalo 1 3 3 p\nend\n";
 
 const OTHER_BALL_LINES: [ReportLine; 2] = [
     ReportLine::Local {
@@ -109,76 +110,41 @@ const OTHER_BALL_LINES: [ReportLine; 2] = [
 
 const ORDERS: [[usize; 4]; 3] = [[0, 1, 2, 3], [3, 2, 1, 0], [2, 0, 3, 1]];
 
-/// Lines of the first two modules, and the lines of the report.
-const VERDICTS: [(&str, &str, &[ReportLine]); 3] = [
-    (UPPER_LEFT, SIDE, &[]),
-    (UPPER_LEFT_ALONE, SIDE, &ALONE_LINES),
-    (UPPER_LEFT, OTHER_BALL, &OTHER_BALL_LINES),
+/// Bundles, and the lines of the report.
+const VERDICTS: [(&str, &[ReportLine]); 3] = [
+    (GOOD, &[]),
+    (ALONE, &ALONE_LINES),
+    (OTHER_BALL, &OTHER_BALL_LINES),
 ];
 
-/// Whether this is the verdict where the findings of these modules are filed in this order.
-pub(crate) fn concludes(
-    rt: &impl Abort,
-    alloc: Global,
-    text: &str,
-    numbers: &[usize],
-    lines: &[ReportLine],
-) -> Result<bool, Trouble> {
-    let book = book_of(rt, alloc, text, numbers)?;
-    let found = conclusion(rt, alloc, text, &book)?;
-    Ok(is_verdict(&found, lines))
-}
-
-/// Whether this is the verdict in whatever order the findings of four modules are filed.
-fn concludes_always(
-    rt: &impl Abort,
-    alloc: Global,
-    text: &str,
-    lines: &[ReportLine],
-) -> Result<bool, Trouble> {
-    for numbers in &ORDERS {
-        if !concludes(rt, alloc, text, numbers, lines)? {
-            return Ok(false);
+#[test]
+fn verdicts_in_whatever_order(rt: HostRuntime) {
+    for (text, lines) in &VERDICTS {
+        for numbers in &ORDERS {
+            let book = book_of(&rt, rt.alloc(), text, numbers);
+            let found = conclusion(&rt, rt.alloc(), text, &book);
+            assert!(rt; is_verdict(&found, lines), "{text}");
         }
     }
-    Ok(true)
 }
 
-#[test]
-fn verdicts_in_whatever_order(rt: HostRuntime) -> Result<(), Fail> {
-    for (upper_left, upper_right, lines) in &VERDICTS {
-        let text = quarters(rt.alloc(), upper_left, upper_right)?;
-        assert!(rt; concludes_always(&rt, rt.alloc(), &text, lines)?, "{text}");
-    }
-    Ok(())
-}
-
-/// Lines of the first module of the book's certificate, the numbers that are filed, and the first module without a finding.
+/// The bundle of the book's jobs, the numbers that are filed, and the first module without a finding.
 const MISSING: [(&str, &[usize], usize); 3] = [
-    (UPPER_LEFT, &[], 0),
-    (UPPER_LEFT, &[0, 1, 3], 2),
+    (GOOD, &[], 0),
+    (GOOD, &[0, 1, 3], 2),
     // another job 0 under the same digest
-    (UPPER_LEFT_ALONE, &[0, 1, 2, 3], 0),
+    (ALONE, &[0, 1, 2, 3], 0),
 ];
 
 /// Whether the first module without a finding is this one, in the verdict on the four modules by a book.
-pub(crate) fn is_missing(
-    rt: &impl Abort,
-    alloc: Global,
-    book: &BookState,
-    number: usize,
-) -> Result<bool, Trouble> {
-    let text = quarters(alloc, UPPER_LEFT, SIDE)?;
-    let found = conclusion(rt, alloc, &text, book)?;
-    Ok(found == Err(Unfinished::Missing(number)))
+pub(crate) fn is_missing(rt: &impl Abort, alloc: Global, book: &BookState, number: usize) -> bool {
+    conclusion(rt, alloc, GOOD, book) == Err(Unfinished::Missing(number))
 }
 
 #[test]
-fn missing_findings(rt: HostRuntime) -> Result<(), Fail> {
-    for (upper_left, numbers, missing) in &MISSING {
-        let text = quarters(rt.alloc(), upper_left, SIDE)?;
-        let book = book_of(&rt, rt.alloc(), &text, numbers)?;
-        assert!(rt; is_missing(&rt, rt.alloc(), &book, *missing)?, "{missing}");
+fn missing_findings(rt: HostRuntime) {
+    for (text, numbers, missing) in &MISSING {
+        let book = book_of(&rt, rt.alloc(), text, numbers);
+        assert!(rt; is_missing(&rt, rt.alloc(), &book, *missing), "{missing}");
     }
-    Ok(())
 }

@@ -1,15 +1,12 @@
-//! Puts the command lines of `cases.txt`, in the folder where this runs, through the program over memory.
-//! Prints a line for each case that does not hold, and how many held. The status is 0 where all did.
+//! Puts the command lines of its files of cases, in the folder where this runs, through the program over memory.
+//! Prints a line for each case that does not hold, and how many of each file held. The status is 0 where all did.
 //!
-//! `cases` says what such a file looks like.
+//! `case_text` says what such a file looks like.
 #![tactic(auto)]
 
-mod cases;
-#[cfg(test)]
-mod tests;
 mod trial;
 
-use cases::read_cases;
+use case_text::read_cases;
 use std::alloc::Global;
 use std::fs;
 use std::process::ExitCode;
@@ -18,20 +15,35 @@ use std::sync::Wait;
 use std::thread::Threads;
 use trial::difference_of;
 
+// Worked cases, cases that were written by hand, and random bundles with their reports.
+const FILES: [&str; 3] = ["cases.txt", "by_hand.txt", "reports.txt"];
+
 fn main(rt: HostRuntime) -> ExitCode {
-    match try_all(&rt, rt.alloc()) {
-        Ok(0) => ExitCode::SUCCESS,
-        Ok(_) => ExitCode::FAILURE,
-        Err(error) => {
-            let _ = eprintln!(rt; "cases.txt: {error}");
-            ExitCode::FAILURE
+    let mut all_hold = true;
+    for name in FILES {
+        match try_file(&rt, rt.alloc(), name) {
+            Ok(0) => {}
+            Ok(_) => all_hold = false,
+            Err(error) => {
+                let _ = eprintln!(rt; "{name}: {error}");
+                all_hold = false;
+            }
         }
+    }
+    if all_hold {
+        ExitCode::SUCCESS
+    } else {
+        ExitCode::FAILURE
     }
 }
 
-// How many cases do not hold.
-fn try_all<R: Runtime + Threads + Wait + Sync>(rt: &R, alloc: Global) -> anyhow::Result<usize> {
-    let file = fs::read(rt, "cases.txt")?;
+// How many cases of a file do not hold.
+fn try_file<R: Runtime + Threads + Wait + Sync>(
+    rt: &R,
+    alloc: Global,
+    name: &str,
+) -> anyhow::Result<usize> {
+    let file = fs::read(rt, name)?;
     let cases = read_cases(alloc, &file)?;
     let mut failed = 0;
     for case in &cases {
@@ -40,6 +52,6 @@ fn try_all<R: Runtime + Threads + Wait + Sync>(rt: &R, alloc: Global) -> anyhow:
             failed += 1;
         }
     }
-    println!(rt; "{} passed, {failed} failed", cases.len() - failed)?;
+    println!(rt; "{name}: {} passed, {failed} failed", cases.len() - failed)?;
     Ok(failed)
 }

@@ -1,6 +1,6 @@
 //! Puts a case through the program.
 
-use crate::cases::Case;
+use case_text::Case;
 use check_main::{Over, program};
 use std::alloc::Global;
 use std::fmt;

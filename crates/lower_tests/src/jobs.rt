@@ -1,0 +1,140 @@
+//! Jobs of modules. What is expected was worked out by hand from the lines.
+
+use crate::bundles::jobs_of;
+use bbm_rule::Cell;
+use certificate::*;
+use module_box::{Box2, Schedule, Signal};
+use std::sync::Arc;
+use std::test::Fail;
+
+/// Two balls that meet in the middle of four modules.
+const QUARTERS: &str =
+    "circuit\ninput p\ninput q\ninteract p q -> a b c d\noutput a\noutput b\noutput c\noutput d\nend\nlayout 8 8 3\nin p 2 2\nin q 5 5\nout a 5 2\nout b 2 2\nout c 5 5\nout d 2 5\nend\ncertificate 1\nmodule 0 0 4 4\ncut p\ncut q\nuse 0\nedge 1 3 3 p\nhalo 1 4 4 q\nmodule 4 0 4 4\ncut p\ncut q\nuse 0\nhalo 1 3 3 p\nhalo 1 4 4 q\nmodule 0 4 4 4\ncut p\ncut q\nuse 0\nhalo 1 3 3 p\nhalo 1 4 4 q\nmodule 4 4 4 4\ncut p\ncut q\nuse 0\nedge 1 4 4 q\nhalo 1 3 3 p\nend\n";
+
+/// The corner of a module's box, the cell of its ports, what is there at the start and to be there at the end, and what the cells
+/// (3, 3) and (4, 4) carry at time 1, as edge and as halo.
+type Quarter = (
+    (u32, u32),
+    (i32, i32),
+    Signal,
+    Demand,
+    [Signal; 2],
+    [Signal; 2],
+);
+
+/// Each module knows p, q, a, b, c and d by the numbers 0 to 5. The inputs are at (2, 2) and (5, 5), the outputs a at (5, 2), b at
+/// (2, 2), c at (5, 5) and d at (2, 5). At time 1 the first ball is at (3, 3), and the second at (4, 4).
+const MODULES: [Quarter; 4] = [
+    ((0, 0), (2, 2), P, Demand::Wire(3), [P, ZERO], [ZERO, Q]),
+    ((4, 0), (5, 2), ZERO, Demand::Wire(2), [ZERO, ZERO], [P, Q]),
+    ((0, 4), (2, 5), ZERO, Demand::Wire(5), [ZERO, ZERO], [P, Q]),
+    ((4, 4), (5, 5), Q, Demand::Wire(4), [ZERO, Q], [P, ZERO]),
+];
+
+const ZERO: Signal = Signal::Zero;
+
+const P: Signal = Signal::Wire(0);
+
+const Q: Signal = Signal::Wire(1);
+
+/// Whether a cell starts and ends like this.
+fn is_at(job: &Job, cell: Cell, start: Signal, demand: Demand) -> bool {
+    job.start(cell) == start && job.demand(cell) == demand
+}
+
+/// Whether of 8 by 8 cells one starts and ends like this, and the others are dead.
+fn is_only_port(job: &Job, port: Cell, start: Signal, demand: Demand) -> bool {
+    for y in 0..8 {
+        for x in 0..8 {
+            let cell = Cell { x, y };
+            if cell != port && !is_at(job, cell, ZERO, Demand::Dead) {
+                return false;
+            }
+        }
+    }
+    is_at(job, port, start, demand)
+}
+
+/// Whether the cells (3, 3) and (4, 4) carry this at time 1, and nothing at time 3.
+fn carries(schedule: &Schedule, signals: [Signal; 2]) -> bool {
+    for (place, signal) in [3, 4].iter().zip(signals) {
+        let cell = Cell {
+            x: *place,
+            y: *place,
+        };
+        if schedule.at(1, cell) != signal || schedule.at(3, cell) != ZERO {
+            return false;
+        }
+    }
+    true
+}
+
+/// Whether a job is of three steps in a box of 4 by 4 cells, with six wires of which two are cut, and has the rest.
+fn is_quarter(job: &Job, wanted: &Quarter) -> bool {
+    let ((x, y), (column, row), start, demand, edges, halos) = *wanted;
+    let port = Cell { x: column, y: row };
+    job.area() == Box2 { x, y, w: 4, h: 4 }
+        && job.steps() == 3
+        && job.locals().wires() == 6
+        && job.locals().cuts() == 2
+        && is_only_port(job, port, start, demand)
+        && carries(job.edges(), edges)
+        && carries(job.halos(), halos)
+}
+
+/// Whether jobs at the same place are equal, and no others.
+fn are_compared(jobs: &[Arc<Job>], again: &[Arc<Job>]) -> bool {
+    for (number, job) in jobs.iter().enumerate() {
+        for (other, second) in again.iter().enumerate() {
+            if (**job == **second) != (number == other) {
+                return false;
+            }
+        }
+    }
+    true
+}
+
+#[test]
+fn jobs_of_four_modules(rt: HostRuntime) -> Result<(), Fail> {
+    let jobs = jobs_of(&rt, rt.alloc(), QUARTERS)?;
+    assert!(rt; jobs.len() == 4);
+    for (number, (job, wanted)) in jobs.iter().zip(&MODULES).enumerate() {
+        assert!(rt; is_quarter(job, wanted), "{number}");
+    }
+    let again = jobs_of(&rt, rt.alloc(), QUARTERS)?;
+    assert!(rt; are_compared(&jobs, &again));
+    Ok(())
+}
+
+/// A mirror across the border of two modules, a ball, a waste cell, and a wire that is cut in one of them.
+const MIRROR: &str =
+    "circuit\ninput a\noutput a\nend\nlayout 8 4 2\nmirror 3 1 2 1\nball 1 2\nin a 6 2\nout a 6 2\nwaste 1 2\nend\ncertificate 1\nmodule 0 0 4 4\nedge * 3 1 1\nhalo * 4 1 1\nmodule 4 0 4 4\ncut a\nhalo * 3 1 1\nend\n";
+
+/// The module, a cell, what is there at the start and to be there at the end, and what it carries at time 1 as edge and as halo.
+const MIRROR_CELLS: [(usize, (i32, i32), Signal, Demand, Signal, Signal); 6] = [
+    (0, (3, 1), Signal::One, Demand::Live, Signal::One, ZERO),
+    (0, (1, 2), Signal::One, Demand::Any, ZERO, ZERO),
+    (0, (4, 1), ZERO, Demand::Dead, ZERO, Signal::One),
+    (1, (4, 1), Signal::One, Demand::Live, ZERO, ZERO),
+    (1, (6, 2), P, Demand::Wire(0), ZERO, ZERO),
+    (1, (3, 1), ZERO, Demand::Dead, ZERO, Signal::One),
+];
+
+/// Whether a cell carries this at time 1, as edge and as halo.
+fn has_borders(job: &Job, cell: Cell, edge: Signal, halo: Signal) -> bool {
+    job.edges().at(1, cell) == edge && job.halos().at(1, cell) == halo
+}
+
+#[test]
+fn mirrors_balls_and_wastes(rt: HostRuntime) -> Result<(), Fail> {
+    let jobs = jobs_of(&rt, rt.alloc(), MIRROR)?;
+    assert!(rt; jobs.len() == 2);
+    for (module, (x, y), start, demand, edge, halo) in MIRROR_CELLS {
+        assert!(rt; module < jobs.len());
+        let (job, cell) = (&jobs[module], Cell { x, y });
+        assert!(rt; is_at(job, cell, start, demand), "{cell:?} of {module}");
+        assert!(rt; has_borders(job, cell, edge, halo), "{cell:?} of {module}");
+        assert!(rt; job.locals().cuts() == module);
+    }
+    Ok(())
+}

@@ -1,0 +1,170 @@
+//! The wires of a module and their values. What is expected follows by the gates' tables.
+
+ghost use Rattle.std.specs.Prelude.{◌<◌, ◌≤◌};
+
+use crate::bundles::jobs_of;
+use certificate::Job;
+use circuit::WireNo;
+use module_box::Locals;
+use std::alloc::{AllocError, Global};
+use std::process::Abort;
+use std::sync::Arc;
+use std::test::Fail;
+
+// a gate of each kind, the first four over the inputs
+const GATES: &str = "circuit
+input a
+input b
+input c
+input d
+input e
+input f
+input g
+input h
+input i
+input j
+fredkin a b c -> k l m
+cswap d e f -> n o p
+interact g h -> q r s t
+switch i j -> u v w
+source 1 -> x
+delay 7 x -> y
+output k
+spill l
+spill m
+spill n
+spill o
+spill p
+spill q
+spill r
+spill s
+spill t
+spill u
+spill v
+spill w
+spill y
+end
+layout 64 2 0
+in a 0 0
+in b 1 0
+in c 2 0
+in d 3 0
+in e 4 0
+in f 5 0
+in g 6 0
+in h 7 0
+in i 8 0
+in j 9 0
+out k 0 1
+end
+certificate 1
+module 0 0 64 2
+cut a
+cut b
+cut c
+cut d
+cut e
+cut f
+cut g
+cut h
+cut i
+cut j
+use 0
+use 1
+use 2
+use 3
+use 4
+use 5
+end
+";
+
+// bits for the cuts, and the values of the wires a to y: the cuts have the bits, the others follow
+const TABLE: [(u32, &str); 9] = [
+    (0, "0000000000000000000000011"),
+    (329, "1001001010100100001010011"),
+    (658, "0100100101001010010000111"),
+    (987, "1101101111110101100111011"),
+    (36, "0010010000010001000000011"),
+    (365, "1011011010101110001010011"),
+    (694, "0110110101011011010000111"),
+    (1023, "1111111111111111100111011"),
+    // higher bits are of no cut
+    (1023 + 5 * 1024, "1111111111111111100111011"),
+];
+
+// three gates and no cut
+const NO_CUTS: &str =
+    "circuit\nsource 1 -> a\ndelay 3 a -> b\nsource 0 -> c\noutput b\noutput c\nend\nlayout 2 2 0\nout b 0 0\nout c 1 0\nend\ncertificate 1\nmodule 0 0 2 2\nuse 0\nuse 1\nuse 2\nend\n";
+
+const OTHER_DELAY: &str =
+    "circuit\nsource 1 -> a\ndelay 4 a -> b\nsource 0 -> c\noutput b\noutput c\nend\nlayout 2 2 0\nout b 0 0\nout c 1 0\nend\ncertificate 1\nmodule 0 0 2 2\nuse 0\nuse 1\nuse 2\nend\n";
+
+const NO_CUTS_TABLE: [(u32, &str); 3] = [(0, "110"), (1, "110"), (63, "110")];
+
+fn are(values: &[bool], digits: &str) -> bool {
+    for (value, digit) in values.iter().zip(digits.as_bytes()) {
+        if *value != (*digit == b'1') {
+            return false;
+        }
+    }
+    values.len() == digits.len()
+}
+
+// whether the rows, of so many words each, have these values under an assignment
+fn have(rows: &[u64], words: usize, bits: u32, digits: &str) -> bool
+    requires { 0 < words }
+{
+    for (row, digit) in rows.chunks(words).zip(digits.as_bytes()) {
+        let word = row.get(bits as usize / 64).copied().unwrap_or(0);
+        if (word >> (bits % 64)) % 2 != u64::from(*digit == b'1') {
+            return false;
+        }
+    }
+    rows.len() / words == digits.len()
+}
+
+// whether a module's wires have the values of a table, under one assignment at a time and under many at once
+fn has_values(
+    alloc: Global,
+    locals: &Locals,
+    words: usize,
+    table: &[(u32, &str)],
+) -> Result<bool, AllocError>
+    requires { (0 < words) × (words ≤ 16) }
+{
+    let rows = locals.value_rows(alloc, words)?;
+    for (bits, digits) in table {
+        let values = locals.local_values(alloc, *bits)?;
+        if !are(&values, digits) || !(*bits > 1023 || have(&rows, words, *bits, digits)) {
+            return Ok(false);
+        }
+    }
+    Ok(true)
+}
+
+// the job of a bundle's only module
+fn only_job(rt: &impl Abort, alloc: Global, text: &str) -> Result<Arc<Job>, Fail> {
+    let mut jobs = jobs_of(rt, alloc, text)?;
+    Ok(jobs.pop().ok_or("no job")?)
+}
+
+#[test]
+fn values_by_the_tables(rt: HostRuntime) -> Result<(), Fail> {
+    let job = only_job(&rt, rt.alloc(), GATES)?;
+    assert!(rt; has_values(rt.alloc(), job.locals(), 16, &TABLE)?);
+    for (wire, local) in [(0, Some(0)), (24, Some(24)), (25, None)] {
+        assert!(rt; job.locals().local(WireNo::of(wire)) == local, "{wire}");
+    }
+    Ok(())
+}
+
+#[test]
+fn modules_without_cuts(rt: HostRuntime) -> Result<(), Fail> {
+    let job = only_job(&rt, rt.alloc(), NO_CUTS)?;
+    assert!(rt; has_values(rt.alloc(), job.locals(), 1, &NO_CUTS_TABLE)?);
+    let same = only_job(&rt, rt.alloc(), NO_CUTS)?;
+    assert!(rt; job.locals() == same.locals());
+    let other = only_job(&rt, rt.alloc(), OTHER_DELAY)?;
+    assert!(rt; job.locals() != other.locals());
+    Ok(())
+}

@@ -1,0 +1,45 @@
+//! What a cell carries at a time, and equal schedules.
+
+use bbm_rule::Cell;
+use module_box::{Event, Held, Moment, Schedule, Signal};
+use std::alloc::Global;
+use std::process::Abort;
+
+// a cell that holds wire 7, and a cell that is live at a time
+fn schedule(rt: &impl Abort, alloc: Global, time: u32, live: Cell) -> Schedule {
+    let (mut signals, mut events) = (Vec::new(alloc), Vec::new(alloc));
+    let held = Held {
+        cell: HELD,
+        signal: Signal::Wire(7),
+    };
+    let event = Event {
+        at: Moment { time, cell: live },
+        signal: Signal::One,
+    };
+    assert!(rt; signals.push(held).is_ok() && events.push(event).is_ok());
+    Schedule::new(signals, events)
+}
+
+const HELD: Cell = Cell { x: 4, y: 1 };
+
+const APART: Cell = Cell { x: 5, y: 1 };
+
+#[test]
+fn held_event_or_zero(rt: HostRuntime) {
+    let apart = schedule(&rt, rt.alloc(), 3, APART);
+    for (t, x, y, signal) in [
+        (3, 4, 1, Signal::Wire(7)),
+        (0, 4, 1, Signal::Wire(7)),
+        (3, 5, 1, Signal::One),
+        (2, 5, 1, Signal::Zero),
+        (4, 5, 1, Signal::Zero),
+        (3, 1, 5, Signal::Zero),
+        (3, -4, 1, Signal::Zero),
+    ] {
+        assert!(rt; apart.at(t, Cell { x, y }) == signal, "at {t}, {x}, {y}");
+    }
+    assert!(rt; apart == schedule(&rt, rt.alloc(), 3, APART));
+    assert!(rt; apart != schedule(&rt, rt.alloc(), 4, APART));
+    // what is held comes before an event
+    assert!(rt; schedule(&rt, rt.alloc(), 3, HELD).at(3, HELD) == Signal::Wire(7));
+}

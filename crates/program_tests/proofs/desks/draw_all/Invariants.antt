@@ -1,0 +1,10 @@
+use Rattle.std.proofs.Common.{◌-◌}
+use Rattle.audit_core.specs.Draws.{end_of}
+use Rattle.job_pool.specs.Seats.{IsSeatOf}
+use Rattle.program_tests.proofs.desks.draw_all.Given as goal
+
+abbrev pub invariant-loop : goal.invariant-loop
+invariant-loop l = IsSeatOf l.desk l.seat
+
+abbrev pub decreases-loop : goal.decreases-loop
+decreases-loop l = l.desk.numbers - end_of l.seat.drawn.items

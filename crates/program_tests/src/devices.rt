@@ -1,0 +1,117 @@
+//! Readers and writers that fail, and the program over them.
+use check_main::{Over, program};
+use std::alloc::Global;
+use std::io;
+use std::io::{ErrorKind, Read, Write};
+use std::sync::Wait;
+use std::thread::Threads;
+
+/// Gives a text in pieces, and fails at a call.
+#[derive(Drop)]
+pub(crate) struct FailingReader<'a> {
+    pub(crate) text: &'a [u8],
+    pub(crate) piece: usize,
+    pub(crate) calls_left: u32,
+}
+
+impl Read for FailingReader<'_> {
+    fn read(&mut self, buf: &mut [u8]) -> io::Result<usize> {
+        if self.calls_left == 0 {
+            return Err(io::Error::from(ErrorKind::Other));
+        }
+        self.calls_left -= 1;
+        let count = self.piece.min(buf.len());
+        let part = &mut buf[..count];
+        self.text.read(part)
+    }
+}
+
+/// Takes some bytes, and then fails or takes none.
+#[derive(Drop)]
+pub(crate) struct FailingWriter {
+    pub(crate) taken: Vec<u8>,
+    pub(crate) room: usize,
+    pub(crate) errs: bool,
+}
+
+impl FailingWriter {
+    pub(crate) fn new(alloc: Global, room: usize, errs: bool) -> FailingWriter {
+        FailingWriter {
+            taken: Vec::new(alloc),
+            room,
+            errs,
+        }
+    }
+}
+
+impl Write for FailingWriter {
+    fn write(&mut self, piece: &[u8]) -> io::Result<usize> {
+        let count = self.room.min(piece.len());
+        if count == 0 && self.errs {
+            return Err(io::Error::from(ErrorKind::Other));
+        }
+        self.taken.extend_from_slice(&piece[..count])?;
+        self.room -= count;
+        Ok(count)
+    }
+
+    fn flush(&mut self) -> io::Result<()> {
+        Ok(())
+    }
+}
+
+/// Gives `a` for ever, as many as asked for or one at a time.
+#[derive(Drop)]
+pub(crate) struct Endless {
+    pub(crate) one_at_a_time: bool,
+}
+
+impl Read for Endless {
+    fn read(&mut self, buf: &mut [u8]) -> io::Result<usize> {
+        let count = if self.one_at_a_time {
+            buf.len().min(1)
+        } else {
+            buf.len()
+        };
+        buf[..count].fill(b'a');
+        Ok(count)
+    }
+}
+
+/// The status, what was written, and what was said to standard error.
+#[derive(Drop)]
+pub(crate) struct Seen {
+    status: u8,
+    written: Vec<u8>,
+    said: Vec<u8>,
+}
+
+impl Seen {
+    pub(crate) fn is(&self, status: u8, written: &[u8], said: &str) -> bool {
+        self.status == status
+            && self.written.as_slice() == written
+            && self.said.as_slice() == said.as_bytes()
+    }
+}
+
+/// What the program does over a reader and a writer, where standard error takes so many bytes and then fails.
+pub(crate) fn call<'a, T: Threads + Wait + Sync, R: Read + Drop>(
+    rt: &T,
+    alloc: Global,
+    words: &'a [&'a str],
+    reader: R,
+    writer: FailingWriter,
+    errors: FailingWriter,
+) -> Seen {
+    let mut source = Over::new(reader);
+    let mut writer = Over::new(writer);
+    let mut errors = Over::new(errors);
+    let status = program(rt, alloc, words, &mut source, &mut writer, &mut errors);
+    let FailingWriter { taken: written, .. } = writer.into_inner();
+    let FailingWriter { taken: said, .. } = errors.into_inner();
+    Seen {
+        status,
+        written,
+        said,
+    }
+}

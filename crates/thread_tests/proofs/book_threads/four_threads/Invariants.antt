@@ -1,7 +1,0 @@
-use Rattle.thread_tests.proofs.book_threads.four_threads.Given as goal
-
-abbrev pub ghosts-filed_by_all-F-Ledger : goal.ghosts-filed_by_all-F-Ledger
-ghosts-filed_by_all-F-Ledger g a = record { name = a.f.name; parts = a.f.parts }
-
-abbrev pub ghosts-filed_by_all-A-Ledger : goal.ghosts-filed_by_all-A-Ledger
-ghosts-filed_by_all-A-Ledger g a = record { name = a.a.name; parts = a.a.parts }
