@@ -19,7 +19,7 @@ use std::thread::Threads;
 use verdict_book::*;
 
 /// The jobs of the bundle.
-fn jobs(rt: &impl Abort, alloc: Global) -> Result<Vec<Arc<Job>>, Fail> {
+pub(crate) fn jobs(rt: &impl Abort, alloc: Global) -> Result<Vec<Arc<Job>>, Fail> {
     let mut feed = fed(rt, alloc, GOOD);
     let (circuit, layout) = sections(rt, alloc, &mut feed)?;
     assert!(rt; feed.closed());

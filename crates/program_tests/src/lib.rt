@@ -18,3 +18,5 @@ mod devices;
 mod programs;
 #[cfg(test)]
 mod words;
+#[cfg(test)]
+mod workers;
