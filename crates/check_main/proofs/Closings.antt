@@ -1,13 +1,13 @@
 -- The history of an audit.
-use Rattle.std.proofs.Common.{◌≡◌, ◌∙◌, ◌+◌, ◌*◌, ◌≤◌, ℕ, suc, zero, List, [], ◌∷◌, ◌++◌, length, map, false, refl, sym, ap, arith}
+use Rattle.std.proofs.Common.{◌≡◌, ◌∙◌, ℕ, suc, zero, List, [], ◌∷◌, ◌++◌, length, map, false, refl, sym, ap}
 use Rattle.std.proofs.lemmas.List.{length-map}
-use Rattle.std.specs.Prelude.{replicate, sum_by}
+use Rattle.std.specs.Prelude.{replicate}
 use Rattle.audit_core.specs.Book.{BookView, after_closing, new_book}
 use Rattle.audit_core.specs.Replay.{has_closing}
 use Rattle.audit_core.specs.declared.entry.Entry.{Entry}
 use Rattle.audit_core.specs.declared.entry.Entry.TheVariants.{Filed, Closing}
 use Rattle.certificate.specs.Jobs.{JobState}
-use Rattle.verdict_book.specs.Counts.{Counts, no_counts}
+use Rattle.verdict_book.specs.Counts.{no_counts}
 use Rattle.job_pool.specs.Work.{filed_by}
 use Rattle.check_main.specs.Audits.{IsClosedOnce, filings_in}
 
