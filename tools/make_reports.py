@@ -1,8 +1,8 @@
 #!/usr/bin/env python3
-"""make_reports.py COUNT SEED > crates/worked_rows/data/reports.txt
+"""make_reports.py COUNT DENSE SEED > crates/worked_rows/data/reports.txt
 
-Writes cases of `check`, in the form that crates/case_text/src/lib.rt tells: so many bundles of tools/meant_bundle.py, each with the report of
-tools/reference_reports.py. The repository's file is made with `100 1`.
+Writes cases of `check`, in the form that crates/case_text/src/lib.rt tells: so many bundles of tools/meant_bundle.py, and then so many with
+many balls, each with the report of tools/reference_reports.py. The repository's file is made with `100 25 1`.
 """
 import random
 import sys
@@ -24,11 +24,11 @@ def lines_of(keyword, text):
 
 
 def main():
-    count, seed = map(int, sys.argv[1:])
+    count, dense, seed = map(int, sys.argv[1:])
     rng, reports = random.Random(seed), []
     print(HEAD, end="")
-    for number in range(count):
-        text = meant_bundle(rng)
+    for number in range(count + dense):
+        text = meant_bundle(rng, is_dense=number >= count)
         status, report = answer(text)
         reports.append(report.decode())
         case = [f"case random_{number}", "words check", *lines_of("input", text), *lines_of("output", report), f"status {status}"]

@@ -37,11 +37,12 @@ def mirrors_of(rng, width, height):
     return boxes
 
 
-def start_cells(rng, free, names):
-    """Cells of balls, and one or two of each input, all apart."""
+def start_cells(rng, free, names, is_dense):
+    """Cells of balls, and one or two of each input, all apart. Where it is dense, a third to a sixth of the cells are balls."""
     free = rng.sample(sorted(free), len(free))
     ins = [(name, free.pop()) for name in names]
-    balls = [free.pop() for _ in range(rng.choice([0, 0, 1, 2])) if free]
+    count = len(free) // rng.choice([3, 4, 6]) if is_dense else rng.choice([0, 0, 1, 2])
+    balls = [free.pop() for _ in range(count) if free]
     ins += [(name, free.pop()) for name in names if free and rng.random() < 0.3]
     return balls, ins
 
@@ -145,7 +146,7 @@ def end_cells(rng, tables, owners, solid, free, last):
     return wastes, outs
 
 
-def meant_bundle(rng):
+def meant_bundle(rng, is_dense=False):
     """The bundle's text: sides of modules of 2 to 8, and at most three cuts a module, now and then up to ten."""
     width, height, steps = 2 * rng.randint(2, 6), 2 * rng.randint(2, 6), rng.choice([0, 1, 2, 3, 4, 5, 8, 12])
     many = rng.randint(4, 10) if rng.random() < 0.03 else 0
@@ -154,7 +155,7 @@ def meant_bundle(rng):
     tables, inside = Tables(names, gates), cells_of(0, 0, width, height)
     mirrors = mirrors_of(rng, width, height)
     solid = set().union(*(cells_of(*mirror) for mirror in mirrors))
-    balls, ins = start_cells(rng, inside - solid, names)
+    balls, ins = start_cells(rng, inside - solid, names, is_dense)
     history = history_of(tables, solid | set(balls), ins, steps)
     boxes = tiles(rng, 0, 0, width, height, rng.choice([2, 4, 8, 8]))
     known = [locals_of(rng, names, gates) for _ in boxes]

@@ -28,7 +28,7 @@ use Rattle.certificate.specs.declared.entry.Entry.{Entry}
 use Rattle.answers.specs.Answers.{Answered}
 use Rattle.answers.specs.BundleReading.{TellsRefusal, bundle_by}
 use Rattle.audit_core.specs.Concluding.{port_names_of}
-use Rattle.pattern.specs.FromLines.{in_port, out_port, pattern_of}
+use Rattle.pattern.specs.FromLines.{input_in, output_in, layout_of}
 use Rattle.answers.specs.BundleText.{Bundle, bundle_of}
 use Rattle.answers.specs.declared.outcome.Outcome.{Outcome}
 
@@ -45,17 +45,17 @@ all_of f make same (p ∷ ports) = rw (same p, all_of f make same ports) refl
 split_five : (f : Part → List Port) (a b c d e : List Part) → flat_map f (a ++ (b ++ (c ++ (d ++ e)))) ≡ flat_map f a ++ (flat_map f b ++ (flat_map f c ++ (flat_map f d ++ flat_map f e)))
 split_five f a b c d e = rw (flat_map-append f a (b ++ (c ++ (d ++ e))), flat_map-append f b (c ++ (d ++ e)), flat_map-append f c (d ++ e), flat_map-append f d e) refl
 
-in_ports_are : (p : Pattern) → flat_map in_port (parts_of p) ≡ p.ins
+in_ports_are : (p : Pattern) → flat_map input_in (parts_of p) ≡ p.ins
 in_ports_are p =
-    split_five in_port (map Mirror p.mirrors) (map Ball p.balls) (map In p.ins) (map Out p.outs) (map Waste p.wastes)
-    ∙ rw (none_of in_port Mirror (λ r. refl) p.mirrors, none_of in_port Ball (λ c. refl) p.balls, all_of in_port In (λ q. refl) p.ins, none_of in_port Out (λ q. refl) p.outs, none_of in_port Waste (λ c. refl) p.wastes) (append-nil p.ins)
+    split_five input_in (map Mirror p.mirrors) (map Ball p.balls) (map In p.ins) (map Out p.outs) (map Waste p.wastes)
+    ∙ rw (none_of input_in Mirror (λ r. refl) p.mirrors, none_of input_in Ball (λ c. refl) p.balls, all_of input_in In (λ q. refl) p.ins, none_of input_in Out (λ q. refl) p.outs, none_of input_in Waste (λ c. refl) p.wastes) (append-nil p.ins)
 
-out_ports_are : (p : Pattern) → flat_map out_port (parts_of p) ≡ p.outs
+out_ports_are : (p : Pattern) → flat_map output_in (parts_of p) ≡ p.outs
 out_ports_are p =
-    split_five out_port (map Mirror p.mirrors) (map Ball p.balls) (map In p.ins) (map Out p.outs) (map Waste p.wastes)
-    ∙ rw (none_of out_port Mirror (λ r. refl) p.mirrors, none_of out_port Ball (λ c. refl) p.balls, none_of out_port In (λ q. refl) p.ins, all_of out_port Out (λ q. refl) p.outs, none_of out_port Waste (λ c. refl) p.wastes) (append-nil p.outs)
+    split_five output_in (map Mirror p.mirrors) (map Ball p.balls) (map In p.ins) (map Out p.outs) (map Waste p.wastes)
+    ∙ rw (none_of output_in Mirror (λ r. refl) p.mirrors, none_of output_in Ball (λ c. refl) p.balls, none_of output_in In (λ q. refl) p.ins, all_of output_in Out (λ q. refl) p.outs, none_of output_in Waste (λ c. refl) p.wastes) (append-nil p.outs)
 
-pub same_setting : (circuit : List CircuitLine) (p : Pattern) → setting_of circuit (pattern_of p.size (parts_of p)) ≡ setting_of circuit p
+pub same_setting : (circuit : List CircuitLine) (p : Pattern) → setting_of circuit (layout_of p.size (parts_of p)) ≡ setting_of circuit p
 same_setting circuit p =
     let ports = ap₂ (λ a b. a ++ b) (in_ports_are p) (out_ports_are p) in
     let at : List Port → Setting = λ l. record { circuit = circuit_of circuit; size = p.size; ports = l } in
@@ -71,7 +71,7 @@ module _ (text : List ℕ) where
   ended circuit size parts version entries k last = finished k last (rest_of text) (whole circuit size parts version entries)
 
   after_layout : List CircuitLine → Extent → List Part → ℕ → List (List ℕ) → Result Bundle Refusal
-  after_layout circuit size parts m later = section_then (certificate_grammar (setting_of circuit (pattern_of size parts))) m later (ended circuit size parts)
+  after_layout circuit size parts m later = section_then (certificate_grammar (setting_of circuit (layout_of size parts))) m later (ended circuit size parts)
 
   after_circuit : Unit {0} → List CircuitLine → ℕ → List (List ℕ) → Result Bundle Refusal
   after_circuit _ circuit n ahead = section_then (layout_grammar (Some (port_names_of circuit))) n ahead (after_layout circuit)
@@ -116,7 +116,7 @@ module _ (f0 f1 : FeedState) (unread : f0.taken ≡ 0) (going : f0.stop ≡ None
         text_2 = same_text (layout_grammar (Some (port_names_of circuit))) layout_value f1 f2 going_1 (after_layout f0.text circuit) layout here ∙ text_1
 
         setting : Setting
-        setting = setting_of circuit (pattern_of layout.size (parts_of layout))
+        setting = setting_of circuit (layout_of layout.size (parts_of layout))
 
         module _ (f3 : FeedState) where
           pub certificate_failed : (fault : ReadFault) → Reads {A = CertState} (certificate_grammar (setting_of circuit layout)) certificate_value f2 f3 (Err fault) → Fails fault (bundle_of f0.text)

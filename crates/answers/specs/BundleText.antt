@@ -6,7 +6,7 @@ use Rattle.section_text.specs.declared.fault.Refusal.{Refusal}
 use Rattle.circuit.specs.Grammars.{circuit_grammar}
 use Rattle.circuit.specs.declared.entry.Entry.{Entry as CircuitLine}
 use Rattle.pattern.specs.Grammars.{layout_grammar}
-use Rattle.pattern.specs.FromLines.{pattern_of}
+use Rattle.pattern.specs.FromLines.{layout_of}
 use Rattle.pattern.specs.declared.parts.Part.{Part}
 use Rattle.pattern.specs.declared.parts.Extent.{Extent}
 use Rattle.certificate.specs.Grammars.{certificate_grammar, setting_of}
@@ -27,5 +27,5 @@ unfoldable pub bundle_of : List ℕ → Result Bundle Refusal
 bundle_of text =
     section_then circuit_grammar 0 (lines_of text) (λ _ circuit n ahead.
     section_then (layout_grammar (Some (port_names_of circuit))) n ahead (λ size parts m later.
-    section_then (certificate_grammar (setting_of circuit (pattern_of size parts))) m later (λ version entries k last.
+    section_then (certificate_grammar (setting_of circuit (layout_of size parts))) m later (λ version entries k last.
     finished k last (rest_of text) (record { circuit = circuit; size = size; parts = parts; version = version; entries = entries }))))

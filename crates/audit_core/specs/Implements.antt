@@ -1,9 +1,9 @@
 -- What a yes promises: the layout computes the circuit.
 --
--- It is said in words that stand in five other files. Read first, in this order: the plane, a step and a run
--- (bbm_rule/specs/Plane.antt); what a layout says, and the plane at time 0 and at time t (pattern/specs/Layout.antt); the rows of
--- the gates (circuit/specs/Gates.antt); which valuations satisfy a circuit (circuit/specs/Meaning.antt); the circuit that lines
--- make, and the names of its inputs and outputs (circuit/specs/Bridge.antt).
+-- Read first, in this order: names among names (`has`, section_text/specs/Words.antt); the plane, a step and a run, and cells of a rectangle
+-- (bbm_rule/specs/{Plane,Spans}.antt); what a layout says, and the plane at time 0 and at time t (pattern/specs/Layout.antt); the lines of a
+-- circuit (circuit/specs/Entries.antt) and the rows of its gates (Gates.antt); which valuations satisfy a circuit (Meaning.antt); the circuit
+-- that lines make, and the names of its inputs and outputs (Bridge.antt).
 use Rattle.std.specs.Prelude.{◌≡◌, ℕ, ℤ, ◌≤◌, Bool, List, map, slice_get, Some, IsTrue, IsFalse}
 use Rattle.std.specs.List.{list_any}
 use Rattle.bbm_rule.specs.Plane.{State, is_at}

@@ -29,7 +29,7 @@ const MOST_READS: usize = 16_777_217;
 /// and every order in which they end.
 ///
 /// Where it is `Yes`, or `verdict yes` is the fourth line of what was written, the text begins with a circuit and a layout, and the
-/// whole pattern of the layout computes the circuit: `specs/Headline.antt` says what that is.
+/// whole pattern of the layout computes the circuit: `headline/specs/Headline.antt` says what that is.
 pub fn check_stream<T, R, W, G>(
     rt: &T,
     alloc: Global,

@@ -44,7 +44,7 @@ use Rattle.audit_core.specs.declared.verdict.Verdict.{Verdict}
 use Rattle.audit_core.specs.declared.verdict.Verdict.TheVariants as verdict
 use Rattle.audit_core.proofs.YesMeansCorrect.{yes_means-correct}
 use Rattle.answers.specs.Answers.{Answered}
-use Rattle.pattern.specs.FromLines.{pattern_of}
+use Rattle.pattern.specs.FromLines.{layout_of}
 use Rattle.answers.specs.BundleText.{Bundle, bundle_of}
 use Rattle.answers.specs.CheckText.{IsReportOf, SaysReport, verdict_outcome}
 use Rattle.headline.specs.Design.{SaysDesign}
@@ -189,7 +189,7 @@ unfolding bundle_of
 bundle_good text b e =
     let c = went_on (section_of circuit_grammar 0 (lines_of text)) _ b e in
     let l = went_on (section_of (layout_grammar (Some (port_names_of c.items))) _ _) _ b c.then in
-    let k = went_on (section_of (certificate_grammar (setting_of c.items (pattern_of l.header l.items))) _ _) _ b l.then in
+    let k = went_on (section_of (certificate_grammar (setting_of c.items (layout_of l.header l.items))) _ _) _ b l.then in
     subst (IsReadBundle text) (is_finished _ _ _ _ b k.then) (record {
       circuit = circuit_good 0 (lines_of text) c.header c.items c.was;
       layout = read_faultless (layout_grammar (Some (port_names_of c.items))) _ _ l.header l.items l.was;
@@ -203,11 +203,11 @@ unfolding bundle_of
 certificate_faultless text b p e same =
     let c = went_on (section_of circuit_grammar 0 (lines_of text)) _ b e in
     let l = went_on (section_of (layout_grammar (Some (port_names_of c.items))) _ _) _ b c.then in
-    let k = went_on (section_of (certificate_grammar (setting_of c.items (pattern_of l.header l.items))) _ _) _ b l.then in
+    let k = went_on (section_of (certificate_grammar (setting_of c.items (layout_of l.header l.items))) _ _) _ b l.then in
     let whole = is_finished _ _ _ _ b k.then in
-    let P : Bundle → Type 0 = λ b. IsFaultless (certificate_grammar (setting_of b.circuit (pattern_of b.size b.parts))) b.version b.entries in
-    let good : P b = subst P whole (read_faultless (certificate_grammar (setting_of c.items (pattern_of l.header l.items))) _ _ k.header k.items k.was) in
-    let Q : Extent × List Part → Type 0 = λ q. IsFaultless (certificate_grammar (setting_of b.circuit (pattern_of q.0 q.1))) b.version b.entries in
+    let P : Bundle → Type 0 = λ b. IsFaultless (certificate_grammar (setting_of b.circuit (layout_of b.size b.parts))) b.version b.entries in
+    let good : P b = subst P whole (read_faultless (certificate_grammar (setting_of c.items (layout_of l.header l.items))) _ _ k.header k.items k.was) in
+    let Q : Extent × List Part → Type 0 = λ q. IsFaultless (certificate_grammar (setting_of b.circuit (layout_of q.0 q.1))) b.version b.entries in
     subst (λ g. IsFaultless (certificate_grammar g) b.version b.entries) (same_setting b.circuit p) (subst Q (sym same) good)
 
 -- ---- the design of a text that is not refused

@@ -1,10 +1,11 @@
 -- What a yes of `check` means, of texts and bytes alone.
 --
--- Read before, in this order: bbm_rule/specs/{Spans,Plane}.antt (a step, a run), pattern/specs/Layout.antt (a layout, and its plane),
--- circuit/specs/{Gates,Entries,Meaning,Bridge}.antt (gates, valuations, the circuit of lines), audit_core/specs/Implements.antt (a layout
--- computes a circuit), section_text/specs/{Words,SaidSection}.antt (lines and words of bytes, a section), circuit/specs/Forms.antt and
--- pattern/specs/Forms.antt (what a line says), and Design.antt (what a text says). `tools/reading_list.py` prints which definitions of
--- them are meant.
+-- Read before, in this order: section_text/specs/Words.antt (lines and words of bytes); bbm_rule/specs/{Plane,Spans}.antt (a step, a run, a
+-- rectangle); pattern/specs/Layout.antt (a layout, and its plane); circuit/specs/{Entries,Gates,Meaning,Bridge}.antt (the lines of a circuit, its
+-- gates, valuations); audit_core/specs/Implements.antt (a layout computes a circuit); section_text/specs/SaidSection.antt, circuit/specs/Forms.antt
+-- and pattern/specs/Forms.antt (a section, and what its lines say); Design.antt (what a text says). The types that they name stand in
+-- circuit/src/entry.rt, bbm_rule/src/block.rt, pattern/src/parts.rt and section_text/src/section.rt. `tools/reading_list.py --definitions`
+-- prints which definitions of them are meant.
 use Rattle.std.specs.Prelude.{◌≡◌, ℕ, List, ◌++◌, Option, Some, slice_get, codes}
 use Rattle.section_text.specs.Words.{lines_of}
 use Rattle.circuit.specs.declared.entry.Entry.{Entry}

@@ -1,7 +1,7 @@
-//! Layouts that are printed. What is expected was worked out by hand from the format.
+//! Layouts that are printed, and their cells at the start. What is expected was worked out by hand from the format.
 
 use pattern::*;
-use section_text::{Feed, PortNames};
+use section_text::{Feed, Name, PortNames};
 use std::alloc::{AllocError, Global};
 use std::process::Abort;
 use std::test::Fail;
@@ -41,5 +41,60 @@ fn prints_what_was_read(rt: HostRuntime) -> Result<(), Fail> {
     }
     let text = half_full(rt.alloc())?;
     assert!(rt; is_reprinted(&rt, rt.alloc(), &text)?);
+    Ok(())
+}
+
+/// A layout, the names that are on, whether or not it has them, and its cells at the start: those of mirrors row by row, balls, inputs.
+const STARTS: [(&str, &[&[u8]], &[(i32, i32)]); 4] = [
+    (
+        "layout 8 8 4\nin p 2 2\nin q 5 5\nout a 5 2\nend\n",
+        &[b"q", b"p"],
+        &[(2, 2), (5, 5)],
+    ),
+    (
+        "layout 8 8 4\nmirror 4 3 2 2\nin a 2 2\nout a 1 1\nend\n",
+        &[],
+        &[(4, 3), (5, 3), (4, 4), (5, 4)],
+    ),
+    (
+        "layout 8 8 4\nmirror 0 2 2 2\nball 2 0\nin a 5 3\nend\n",
+        &[b"a", b"a"],
+        &[(0, 2), (1, 2), (0, 3), (1, 3), (2, 0), (5, 3)],
+    ),
+    (
+        "layout 8 8 4\nin a 4 6\nin b 1 1\nin a 6 7\nout b 4 6\nend\n",
+        &[b"c", b"a"],
+        &[(4, 6), (6, 7)],
+    ),
+];
+
+/// Whether a layout starts with these cells, where these names are on.
+fn starts_with(
+    rt: &impl Abort,
+    alloc: Global,
+    text: &str,
+    words: &[&[u8]],
+    wanted: &[(i32, i32)],
+) -> Result<bool, Fail> {
+    let mut feed = Feed::new(alloc);
+    assert!(rt; feed.push(text.as_bytes()).is_ok(), "no memory");
+    feed.close();
+    let layout = read_layout(alloc, &mut feed, &PortNames::Any)?;
+    let mut on = Vec::new(alloc);
+    for word in words {
+        on.push(Name::of(word).ok_or("a name")?)?;
+    }
+    let cells = start_cells(alloc, &layout, &on)?;
+    Ok(cells.iter().map(|c| (c.x, c.y)).eq(wanted.iter().copied()))
+}
+
+#[test]
+fn cells_of_the_start(rt: HostRuntime) -> Result<(), Fail> {
+    for (text, words, wanted) in STARTS {
+        assert!(rt;
+            starts_with(&rt, rt.alloc(), text, words, wanted)?,
+            "{text}"
+        );
+    }
     Ok(())
 }

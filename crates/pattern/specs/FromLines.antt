@@ -23,19 +23,19 @@ ball_in (In p) = []
 ball_in (Out p) = []
 ball_in (Waste c) = []
 
-abbrev pub in_port : Part → List Port
-in_port (Mirror r) = []
-in_port (Ball c) = []
-in_port (In p) = p ∷ []
-in_port (Out p) = []
-in_port (Waste c) = []
+abbrev pub input_in : Part → List Port
+input_in (Mirror r) = []
+input_in (Ball c) = []
+input_in (In p) = p ∷ []
+input_in (Out p) = []
+input_in (Waste c) = []
 
-abbrev pub out_port : Part → List Port
-out_port (Mirror r) = []
-out_port (Ball c) = []
-out_port (In p) = []
-out_port (Out p) = p ∷ []
-out_port (Waste c) = []
+abbrev pub output_in : Part → List Port
+output_in (Mirror r) = []
+output_in (Ball c) = []
+output_in (In p) = []
+output_in (Out p) = p ∷ []
+output_in (Waste c) = []
 
 abbrev pub waste_in : Part → List Cell
 waste_in (Mirror r) = []
@@ -45,12 +45,12 @@ waste_in (Out p) = []
 waste_in (Waste c) = c ∷ []
 
 -- the layout of this extent that these lines make
-abbrev pub pattern_of : Extent → List Part → Pattern
-pattern_of extent parts = record {
+abbrev pub layout_of : Extent → List Part → Pattern
+layout_of extent parts = record {
   size = extent;
   mirrors = flat_map mirror_in parts;
   balls = flat_map ball_in parts;
-  ins = flat_map in_port parts;
-  outs = flat_map out_port parts;
+  ins = flat_map input_in parts;
+  outs = flat_map output_in parts;
   wastes = flat_map waste_in parts;
 }

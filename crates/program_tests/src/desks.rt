@@ -92,7 +92,15 @@ fn draw_every_number<R: Abort + Threads + Sync>(
 
 #[test]
 fn no_number_is_drawn_where_there_is_none(rt: HostRuntime) -> Result<(), Fail> {
-    draw_every_number(&rt, rt.alloc(), 0, 1)
+    let (desk, mut seats) = Desk::open(rt.alloc(), 0, 1)?;
+    assert_eq!(rt; desk.left(&mut seats[0]), 0);
+    assert_eq!(rt; desk.claim(&mut seats[0]), Claim::Empty);
+    assert_eq!(rt; desk.claim(&mut seats[0]), Claim::Empty);
+    let closed = closed(&rt, rt.alloc(), desk, seats);
+    assert_eq!(rt; closed.draws.len(), 1);
+    assert_eq!(rt; closed.draws[0].as_slice(), [0].as_slice());
+    assert_eq!(rt; closed.counter, 1);
+    Ok(())
 }
 
 #[test]

@@ -30,8 +30,15 @@ fn worked<F: Ledger + Send + Sync, A: Ledger + Send + Sync, R: Abort + Threads +
     let run = jobs(rt, alloc)?;
     assert_eq!(rt; run.len(), 4);
     let (book, shares): (Book<F, A>, Vec<Share<F, A>>) = Book::open(alloc, f, a, state, count)?;
-    let WorkEnd { shares, memory } =
-        work(rt, alloc, &OpenGate, digest, run.as_slice(), &book, shares);
+    let WorkEnd { shares, memory } = work(
+        rt,
+        alloc,
+        &OpenGate,
+        digest,
+        run.as_slice(),
+        &book,
+        shares,
+    );
     assert!(rt; !memory);
     match gather(book, shares) {
         Ok(gathered) => Ok(gathered),

@@ -2,6 +2,7 @@
 ghost use Rattle.std.specs.Prelude.{drop, ◌≡◌, ℕ, ◌+◌, ◌-◌, ◌^◌, ◌<◌, ◌≤◌, ◌↔◌, true, false, List, [], ◌∷◌, ◌++◌, length, Option, Some, None, Ok, Err, IsTrue, IsOk, IfOk, IfErr, ◌≢◌, OnOk, OnErr, IfSome, MatchOption, unwrap_or, slice_get, slice_range, option_and_then, map};
 ghost use Rattle.std.specs.Option.{option_copied, option_map, ForSome};
 ghost use Rattle.std.specs.List.{position, list_all};
+ghost use Rattle.section_text.specs.Codes.{text_cut};
 ghost use Rattle.section_text.specs.Words.{is_digit, is_number, read_on, is_word_at, is_line_feed, is_space, rest_of, words_of, number_of, number_at, name_at, names_at, lone, lone_number, lone_name, five};
 ghost use Rattle.section_text.specs.declared.fault.ReadFault.TheVariants.{Memory};
 ghost use Rattle.section_text.specs.Listed.{listed};
@@ -407,7 +408,7 @@ impl Feed {
         ensures stopped { ForSome self.old.stop (λ fault. (result ≡ Err fault) × (self.new ≡ self.old)) }
         ensures ok { self.old.stop ≡ None → OnOk result ((ahead self.old ≡ []) × (rest_of self.old.text ≡ []) × (self.new ≡ self.old)) }
         ensures more { self.old.stop ≡ None → OnErr result (ahead self.old ≡ [] → rest_of self.old.text ≢ []) }
-        ensures fault { self.old.stop ≡ None → IfErr result (λ fault. (fault ≡ refusal (self.old.taken + 1) 12)
+        ensures fault { self.old.stop ≡ None → IfErr result (λ fault. (fault ≡ refusal (self.old.taken + 1) text_cut)
             × (self.new ≡ record self.old { stop = Some fault })) }
     {
         if let Some(first) = self.stop {

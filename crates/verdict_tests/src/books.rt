@@ -9,7 +9,7 @@ use certificate::{Job, read_certificate};
 use circuit::{Circuit, port_names, read_circuit};
 use local_run::{Finding, run_job};
 use pattern::{Layout, read_layout};
-use section_text::Feed;
+use section_text::{Feed, ReadFault};
 use std::alloc::Global;
 use std::process::Abort;
 use std::sync::Arc;
@@ -39,8 +39,10 @@ pub(crate) fn fed(rt: &impl Abort, alloc: Global, text: &str) -> Feed
 pub(crate) fn sections(rt: &impl Abort, alloc: Global, feed: &mut Feed) -> (Circuit, Layout)
     requires { feed.old.closed ≡ true }
 {
-    let Ok(circuit) = read_circuit(alloc, feed) else {
-        panic!(rt; "no memory")
+    let circuit = match read_circuit(alloc, feed) {
+        Ok(circuit) => circuit,
+        Err(ReadFault::Memory) => panic!(rt; "no memory"),
+        Err(ReadFault::Refused(_)) => panic!(rt; "refused"),
     };
     let Ok(ports) = port_names(alloc, &circuit) else {
         panic!(rt; "no memory")
@@ -48,7 +50,8 @@ pub(crate) fn sections(rt: &impl Abort, alloc: Global, feed: &mut Feed) -> (Circ
     assert!(rt; feed.closed());
     match read_layout(alloc, feed, &ports) {
         Ok(layout) => (circuit, layout),
-        Err(_) => panic!(rt; "no memory"),
+        Err(ReadFault::Memory) => panic!(rt; "no memory"),
+        Err(ReadFault::Refused(_)) => panic!(rt; "refused"),
     }
 }
 
@@ -64,8 +67,10 @@ pub(crate) fn work_of(rt: &impl Abort, alloc: Global, text: &str) -> Work {
     let mut feed = fed(rt, alloc, text);
     let (circuit, layout) = sections(rt, alloc, &mut feed);
     assert!(rt; feed.closed());
-    let Ok(certificate) = read_certificate(alloc, &mut feed, &circuit, &layout) else {
-        panic!(rt; "no memory")
+    let certificate = match read_certificate(alloc, &mut feed, &circuit, &layout) {
+        Ok(certificate) => certificate,
+        Err(ReadFault::Memory) => panic!(rt; "no memory"),
+        Err(ReadFault::Refused(_)) => panic!(rt; "refused"),
     };
     match (certificate.digest(alloc), certificate.jobs(alloc)) {
         (Ok(digest), Ok(jobs)) => Work { digest, jobs },

@@ -6,6 +6,7 @@ use bbm_rule::Cell;
 use border_match::{BorderFault, match_borders};
 use certificate::{Cert, read_certificate};
 use local_run::{Fault, Kind};
+use section_text::ReadFault;
 use std::alloc::Global;
 use std::process::Abort;
 
@@ -40,7 +41,8 @@ fn conclusion(
     assert!(rt; feed.closed());
     match read_certificate(alloc, &mut feed, &circuit, &layout) {
         Ok(certificate) => concluded(rt, alloc, &certificate, book),
-        Err(_) => panic!(rt; "no memory"),
+        Err(ReadFault::Memory) => panic!(rt; "no memory"),
+        Err(ReadFault::Refused(_)) => panic!(rt; "refused"),
     }
 }
 
