@@ -11,3 +11,4 @@ pub mod Boards
 pub mod CellLemmas
 pub mod GridLemmas
 mod Meetings
+pub mod Moving

@@ -6,3 +6,4 @@ pub mod Rows
 pub mod Board
 pub mod GridFields
 pub mod Laws
+pub mod Moves

@@ -1,6 +1,7 @@
 //! Laws on the definitions alone.
 
 ghost use Rattle.bbm_rule.specs.Laws.{TurnTable, TwoBallsCollide, TwoBallsTurn, StepUndoesItself};
+ghost use Rattle.bbm_rule.specs.Moves.{StepMovesAlong};
 
 /// What each of the sixteen blocks becomes.
 pub fn turn_table()
@@ -17,4 +18,9 @@ pub fn two_balls_collide()
 /// The step at a time is its own inverse: once more by the same partition, and the plane is as it was.
 pub fn step_undoes_itself()
     ensures { StepUndoesItself }
+{}
+
+/// A state that is moved by an even number of columns and of rows stays so over a step at any time: the step moves along.
+pub fn step_moves_along()
+    ensures { StepMovesAlong }
 {}

@@ -1,0 +1,78 @@
+-- A step commutes with an even move
+use Rattle.std.proofs.Common.{◌≡◌, ℕ, suc, Bool, ◌+◌, ◌-◌, ◌%◌, eqb, refl, sym, ap, ap₂, ◌∙◌, arith, inl, inr}
+use Rattle.std.specs.Prelude.{ℤ, pos, negsuc, ◌+ℤ◌, ◌-ℤ◌}
+use Rattle.std.proofs.lemmas.Bool.{cases_Bool, cases_lt, cond-true, cond-false}
+use Rattle.std.proofs.lemmas.Int.{ints}
+use Rattle.bbm_rule.specs.Plane.{parity, partner, turned, step}
+use Rattle.bbm_rule.specs.Moves.{StepMovesAlong}
+
+-- what is added is at least, or at most, what is there
+sum_up : (a b c : ℕ) → a ≡ suc b + c → pos a +ℤ negsuc b ≡ pos c
+sum_up a b c e = omega (arith, ints)
+
+sum_down : (a b c : ℕ) → b ≡ a + c → pos a +ℤ negsuc b ≡ negsuc c
+sum_down a b c e = omega (arith, ints)
+
+turned_sum : (a b : ℕ) → negsuc a +ℤ pos b ≡ pos b +ℤ negsuc a
+turned_sum a b = omega (arith, ints)
+
+mixed : (a b n : ℕ) → (suc b) % 2 ≡ 0 → n ≡ a % 2 → parity (pos a +ℤ negsuc b) ≡ n
+mixed a b n even is = elim (cases_lt b a) [
+  | inl less ↦
+      let c : ℕ = a - suc b in
+      let e : a ≡ suc b + c = omega arith in
+      ap parity (sum_up a b c e) ∙ omega (arith, even, is, e)
+  | inr large ↦
+      let c : ℕ = b - a in
+      let e : b ≡ a + c = omega arith in
+      ap parity (sum_down a b c e) ∙ omega (arith, even, is, e)
+]
+
+mixed_back : (a b : ℕ) → b % 2 ≡ 0 → parity (pos b +ℤ negsuc a) ≡ (a + 1) % 2
+mixed_back a b even = elim (cases_lt a b) [
+  | inl less ↦
+      let c : ℕ = b - suc a in
+      let e : b ≡ suc a + c = omega arith in
+      ap parity (sum_up b a c e) ∙ omega (arith, even, e)
+  | inr large ↦
+      let c : ℕ = a - b in
+      let e : a ≡ b + c = omega arith in
+      ap parity (sum_down b a c e) ∙ omega (arith, even, e)
+]
+
+-- an even move keeps parities
+pub parity_moved : (x d : ℤ) → parity d ≡ 0 → parity (x +ℤ d) ≡ parity x
+parity_moved (pos a) (pos b) even = omega (arith, even)
+parity_moved (pos a) (negsuc b) even = mixed a b (a % 2) (omega (arith, even)) refl
+parity_moved (negsuc a) (pos b) even = ap parity (turned_sum a b) ∙ mixed_back a b even
+parity_moved (negsuc a) (negsuc b) even = omega (arith, even)
+
+up_moved : (x d : ℤ) → (x +ℤ d) +ℤ pos 1 ≡ (x +ℤ pos 1) +ℤ d
+up_moved x d = omega (arith, ints)
+
+down_moved : (x d : ℤ) → (x +ℤ d) -ℤ pos 1 ≡ (x -ℤ pos 1) +ℤ d
+down_moved x d = omega (arith, ints)
+
+-- and so the other coordinate of a block moves along
+pub partner_moved : (t : ℕ) (x d : ℤ) → parity d ≡ 0 → partner t (x +ℤ d) ≡ partner t x +ℤ d
+unfolding partner
+partner_moved t x d even =
+    let same : eqb (parity (x +ℤ d)) (t % 2) ≡ eqb (parity x) (t % 2) = ap (λ p. eqb p (t % 2)) (parity_moved x d even) in
+    elim (cases_Bool (eqb (parity x) (t % 2))) [
+      | inl up ↦ cond-true _ _ _ (same ∙ up) ∙ up_moved x d ∙ ap (λ z. z +ℤ d) (sym (cond-true _ _ _ up))
+      | inr down ↦ cond-false _ _ _ (same ∙ down) ∙ down_moved x d ∙ ap (λ z. z +ℤ d) (sym (cond-false _ _ _ down))
+    ]
+
+same_turned : (a a' b b' c c' d d' : Bool) → a ≡ a' → b ≡ b' → c ≡ c' → d ≡ d' → turned a b c d ≡ turned a' b' c' d'
+same_turned a a' b b' c c' d d' p q r s = λ i. turned (p i) (q i) (r i) (s i)
+
+pub step_moved : StepMovesAlong
+unfolding step
+step_moved t dx dy s s' even_x even_y moved x y =
+    let px : partner t (x +ℤ dx) ≡ partner t x +ℤ dx = partner_moved t x dx even_x in
+    let py : partner t (y +ℤ dy) ≡ partner t y +ℤ dy = partner_moved t y dy even_y in
+    same_turned _ _ _ _ _ _ _ _
+    (moved x y)
+    (ap₂ s' px py ∙ moved (partner t x) (partner t y))
+    (ap (λ u. s' u (y +ℤ dy)) px ∙ moved (partner t x) y)
+    (ap (λ v. s' (x +ℤ dx) v) py ∙ moved x (partner t y))
