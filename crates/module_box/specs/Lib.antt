@@ -10,3 +10,4 @@ pub mod LocalsFields
 pub mod LocalValues
 pub mod Equality
 pub mod Laws
+pub mod Moves

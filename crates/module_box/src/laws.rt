@@ -1,6 +1,7 @@
 //! Laws on the definitions alone.
 
 ghost use Rattle.module_box.specs.Laws.{ChoicesAreAssignments, EvenStepStaysInBox, FaultMeansNoTiling, StepDependsOnBoxAndHalo, HaloCellIsRingCellOfOwner, LocalsEqualityDecides, LocalValuesAgree, ScheduleEqualityDecides};
+ghost use Rattle.module_box.specs.Moves.{BoxesMoveAlong, SignalsMoveAlong};
 
 /// An even step maps the cells of an even box into the box, and what it makes there depends on the box alone.
 pub fn even_step_stays_in_box()
@@ -34,4 +35,10 @@ pub fn equality_is_of_content()
 pub fn local_values_agree()
     ensures assignment { ChoicesAreAssignments }
     ensures agree { LocalValuesAgree }
+{}
+
+/// The ring and the halo of a box move along with it, and signals with the cells that carry them.
+pub fn boxes_and_signals_move_along()
+    ensures boxes { BoxesMoveAlong }
+    ensures signals { SignalsMoveAlong }
 {}

@@ -1,0 +1,52 @@
+-- Boxes, cells and signals that are moved
+use Rattle.std.specs.Prelude.{◌≡◌, ℕ, ℤ, pos, negsuc, ◌+ℤ◌, ◌-ℤ◌, ◌≤ℤ◌, map}
+use Rattle.bbm_rule.specs.Moves.{IsMoved}
+use Rattle.bbm_rule.specs.declared.block.Cell.{Cell}
+use Rattle.module_box.specs.Boxes.{in_box, in_ring, in_halo}
+use Rattle.module_box.specs.Schedules.{Signals, signal_at}
+use Rattle.module_box.specs.declared.boxes.Box2.{Box2}
+use Rattle.module_box.specs.declared.schedules.Event.{Event}
+use Rattle.module_box.specs.declared.schedules.Held.{Held}
+
+-- by dx columns and dy rows
+abbrev pub moved_cell : ℤ → ℤ → Cell → Cell
+moved_cell dx dy c = record { x = c.x +ℤ dx; y = c.y +ℤ dy }
+
+abbrev pub moved_held : ℤ → ℤ → Held → Held
+moved_held dx dy h = record { cell = moved_cell dx dy h.cell; signal = h.signal }
+
+abbrev pub moved_event : ℤ → ℤ → Event → Event
+moved_event dx dy e = record { at = record { time = e.at.time; cell = moved_cell dx dy e.at.cell }; signal = e.signal }
+
+abbrev pub moved_signals : ℤ → ℤ → Signals → Signals
+moved_signals dx dy s = record { held = map (moved_held dx dy) s.held; events = map (moved_event dx dy) s.events }
+
+-- b' is b moved
+pub record IsMovedBox (dx dy : ℤ) (b b' : Box2) : Type 0 where
+  pub x : pos b'.x ≡ pos b.x +ℤ dx
+  pub y : pos b'.y ≡ pos b.y +ℤ dy
+  pub w : b'.w ≡ b.w
+  pub h : b'.h ≡ b.h
+
+-- A number that is added to another of these without going out of the range of 32 bits
+abbrev pub IsSmall : ℤ → Type 0
+IsSmall z = (negsuc 1023 ≤ℤ z) × (z ≤ℤ pos 1023)
+
+-- a cell near the corner of the plane
+abbrev pub IsNear : Cell → Type 0
+IsNear c = IsSmall c.x × IsSmall c.y
+
+-- ---- laws
+
+-- the cells of a box, its ring and its halo move along with it
+pub record BoxMovesAlong (dx dy : ℤ) (b b' : Box2) : Type 0 where
+  pub box : IsMoved dx dy (in_box b) (in_box b')
+  pub ring : IsMoved dx dy (in_ring b) (in_ring b')
+  pub halo : IsMoved dx dy (in_halo b) (in_halo b')
+
+abbrev pub BoxesMoveAlong : Type 0
+BoxesMoveAlong = (dx dy : ℤ) (b b' : Box2) → IsMovedBox dx dy b b' → BoxMovesAlong dx dy b b'
+
+-- a cell that is moved carries in moved signals what it carried before
+abbrev pub SignalsMoveAlong : Type 0
+SignalsMoveAlong = (dx dy : ℤ) (s : Signals) (t : ℕ) (x y : ℤ) → signal_at (moved_signals dx dy s) t (x +ℤ dx) (y +ℤ dy) ≡ signal_at s t x y
