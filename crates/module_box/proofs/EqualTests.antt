@@ -10,7 +10,7 @@ use Rattle.std.proofs.lemmas.Bool.Decides.{Decides-eqb}
 use Rattle.std.proofs.lemmas.Slice.Eq.{slice_eq-Decides}
 use Rattle.bbm_rule.specs.declared.block.Cell.{Cell}
 use Rattle.circuit.specs.Gates.{Rule, Source, Fredkin, Cswap, Interact, Switch, Delay, Unswitch, Uninteract}
-use Rattle.circuit.specs.Meaning.{Gate}
+use Rattle.circuit.specs.Meaning.{Gate, Netlist}
 use Rattle.module_box.specs.declared.schedules.Held.{Held}
 use Rattle.module_box.specs.declared.schedules.Event.{Event}
 use Rattle.module_box.specs.declared.schedules.Signal.{Signal}
@@ -19,7 +19,7 @@ use Rattle.std.specs.Ordering.{on}
 use Rattle.module_box.specs.declared.locals.LocalGate.{LocalGate}
 use Rattle.module_box.specs.LocalGates.{kept_gate}
 use Rattle.module_box.specs.Laws.{LocalsEqualityDecides, ScheduleEqualityDecides}
-use Rattle.module_box.specs.Equality.{is_one, wire_named, same_signal, same_cell, same_held, same_event, rule_place, source_bit, delay_number, same_rule, same_gate}
+use Rattle.module_box.specs.Equality.{is_one, wire_named, same_signal, same_cell, same_held, same_event, rule_place, source_bit, delay_number, same_rule, same_gate, same_netlist}
 
 -- two tests, of two parts
 pub both : {P Q R : Type 0} (r s : Bool) → Decides r P → Decides s Q → (P → Q → R) → (R → P) → (R → Q) → Decides (r && s) R
@@ -114,6 +114,10 @@ gate_decides g h =
     (λ kind rest i. record { kind = kind i; ins = rest.0 i; outs = rest.1 i }) (λ e. ap (λ g. g.kind) e) (λ e. (ap (λ g. g.ins) e, ap (λ g. g.outs) e))
 
 -- ---- the wires and gates of modules
+pub netlists_decide : (l m : Netlist) → Decides (same_netlist l m) (l ≡ m)
+netlists_decide l m =
+    both _ _ (Decides-eqb l.given m.given) (lists same_gate gate_decides l.gates m.gates) (λ given gates i. record { given = given i; gates = gates i }) (λ e. ap (λ n. n.given) e) (λ e. ap (λ n. n.gates) e)
+
 pub locals_decides : LocalsEqualityDecides
 locals_decides l m =
     both _ _

@@ -12,4 +12,4 @@ pub mod WordRows
 pub mod LocalRows
 pub mod EqualTests
 pub mod SeenValues
-pub mod Moving
+pub mod MovedBoxes

@@ -7,7 +7,7 @@ use Rattle.std.specs.Cmp.Lexicographic.{pointwise, lists_equiv, options_equiv}
 use Rattle.std.specs.Option.{option_eq}
 use Rattle.bbm_rule.specs.declared.block.Cell.{Cell}
 use Rattle.circuit.specs.Gates.{Rule, Source, Fredkin, Cswap, Interact, Switch, Delay, Unswitch, Uninteract}
-use Rattle.circuit.specs.Meaning.{Gate}
+use Rattle.circuit.specs.Meaning.{Gate, Netlist}
 use Rattle.module_box.specs.declared.schedules.Held.{Held}
 use Rattle.module_box.specs.declared.schedules.Event.{Event}
 use Rattle.module_box.specs.declared.schedules.Signal.{Signal}
@@ -94,6 +94,9 @@ same_rule = eq_of_both (on rule_place nat_eq) (eq_of_both (on source_bit (option
 abbrev pub same_gate : Gate → Gate → Bool
 same_gate = eq_of_both (on (λ g. g.kind) same_rule) (eq_of_both (on (λ g. g.ins) (pointwise nat_eq)) (on (λ g. g.outs) (pointwise nat_eq)))
 
+abbrev pub same_netlist : Netlist → Netlist → Bool
+same_netlist = eq_of_both (on (λ n. n.given) nat_eq) (on (λ n. n.gates) (pointwise same_gate))
+
 abbrev pub same_locals : LocalNet → LocalNet → Bool
 same_locals =
     eq_of_both (eq_of_both (eq_of_both (on (λ l. l.netlist.given) nat_eq) (on (λ l. l.netlist.gates) (pointwise same_gate))) (on (λ l. l.circuit_wires) (pointwise nat_eq)))
@@ -105,6 +108,9 @@ rule_equivalence = and_equiv (on_equiv rule_place nat_eq_equiv) (and_equiv (on_e
 
 pub gate_equivalence : IsEquivalence same_gate
 gate_equivalence = and_equiv (on_equiv (λ g. g.kind) rule_equivalence) (and_equiv (on_equiv (λ g. g.ins) (lists_equiv nat_eq_equiv)) (on_equiv (λ g. g.outs) (lists_equiv nat_eq_equiv)))
+
+pub netlist_equivalence : IsEquivalence same_netlist
+netlist_equivalence = and_equiv (on_equiv (λ n. n.given) nat_eq_equiv) (on_equiv (λ n. n.gates) (lists_equiv gate_equivalence))
 
 pub locals_equivalence : IsEquivalence same_locals
 locals_equivalence =

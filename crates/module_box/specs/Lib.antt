@@ -11,3 +11,4 @@ pub mod LocalValues
 pub mod Equality
 pub mod Laws
 pub mod Moves
+pub mod WiringFields

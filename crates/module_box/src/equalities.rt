@@ -3,11 +3,12 @@
 ghost use Rattle.std.specs.Prelude.{◌≡◌};
 ghost use Rattle.std.specs.Cmp.{on_equiv, partial_equiv_from_equiv};
 ghost use Rattle.std.specs.Ordering.{on};
-ghost use Rattle.module_box.specs.Equality.{same_gate, gate_equivalence, same_locals, locals_equivalence, same_signals, signals_equivalence};
+ghost use Rattle.module_box.specs.Equality.{same_gate, gate_equivalence, same_locals, locals_equivalence, same_netlist, netlist_equivalence, same_signals, signals_equivalence};
 ghost use Rattle.module_box.specs.LocalGates.{kept_gate};
 
 use crate::locals::{LocalGate, Locals};
 use crate::schedules::Schedule;
+use crate::wiring::Wiring;
 
 impl PartialEq for Schedule {
     ghost eq = { same_signals };
@@ -44,6 +45,22 @@ impl PartialEq for LocalGate {
         let ins = self.ins() == other.ins();
         kind & ins & (self.first == other.first)
     }
+}
+
+impl PartialEq for Wiring {
+    ghost eq = { same_netlist };
+
+    ghost laws = { partial_equiv_from_equiv netlist_equivalence };
+
+    fn eq(&self, other: &Wiring) -> bool {
+        let given = other.given == self.given;
+        let gates = self.gates == other.gates;
+        given & gates
+    }
+}
+
+impl Eq for Wiring {
+    ghost laws = { netlist_equivalence };
 }
 
 impl PartialEq for Locals {

@@ -16,13 +16,17 @@ mod boxes;
 mod equalities;
 pub mod laws;
 mod locals;
+mod moving;
 mod owners;
 mod schedules;
 mod tile;
 mod values;
+mod wiring;
 
 pub use boxes::Box2;
 pub use locals::Locals;
+pub use moving::{moved_cell, moved_event};
 pub use owners::Owners;
 pub use schedules::{Event, Held, Moment, Schedule, Signal, compare_cells};
 pub use tile::{TileFault, owner_table};
+pub use wiring::Wiring;

@@ -9,6 +9,7 @@ ghost use Rattle.circuit.specs.Wiring.{gate_of};
 ghost use Rattle.module_box.specs.LocalGates.{kept_gate};
 ghost use Rattle.module_box.specs.Locals.{AreDifferent, AreLocalLines, AreLocalsOf, circuit_wire, is_among, local_wires};
 
+use crate::wiring::Wiring;
 use circuit::{Circuit, GateKind, GateNo, GateWires, WireNo};
 use indexmap::IndexSet;
 use std::alloc::{AllocError, Global};
@@ -143,6 +144,23 @@ impl Locals {
             circuit_wires,
             circuit_gates,
         })
+    }
+
+    /// The gates over the module's own wires; which wires of the circuit these are, by their numbers; and which gates of the
+    /// circuit those are.
+    pub fn into_parts(self) -> (Wiring, IndexSet<u16>, Vec<GateNo>)
+        ensures wiring { result.0 ≡ self.netlist }
+        ensures wires { result.1.keys ≡ self.circuit_wires }
+        ensures gates { result.2.items ≡ self.circuit_gates }
+        ensures sized { length self.circuit_wires ≡ wires self.netlist }
+    {
+        let wires = self.wires();
+        let wiring = Wiring {
+            given: self.given,
+            gates: self.gates,
+            wires,
+        };
+        (wiring, self.circuit_wires, self.circuit_gates)
     }
 
     /// How many wires the module knows, at most 266: 10 cuts, and 4 wires of each of 64 gates.

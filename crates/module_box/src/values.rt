@@ -3,11 +3,13 @@
 ghost use Rattle.std.specs.Prelude.{◌≡◌, ◌≢◌, ◌<◌, ◌≤◌, ◌+◌, ◌*◌, ◌++◌, ℕ, [], ◌∷◌, Some, map, length, slice_index, slice_index_or, OnOk, IfOk};
 ghost use Rattle.bbm_rule.specs.Bits.{bit};
 ghost use Rattle.circuit.specs.Evaluate.{evaluate};
-ghost use Rattle.circuit.specs.Meaning.{AreForward, AreOrdered, wires};
+ghost use Rattle.circuit.specs.Bridge.{AreValues};
+ghost use Rattle.circuit.specs.Meaning.{AreForward, AreOrdered, Satisfies, wires};
 ghost use Rattle.module_box.specs.LocalGates.{kept_gate};
-ghost use Rattle.module_box.specs.LocalValues.{AreLocalValues, IsLocalValuation, lane, value_of, wire_word, word_row};
+ghost use Rattle.module_box.specs.LocalValues.{lane, value_of, wire_word, word_row};
 
-use crate::locals::{LocalGate, Locals};
+use crate::locals::LocalGate;
+use crate::wiring::Wiring;
 use circuit::GateKind;
 use std::alloc::{AllocError, Global};
 
@@ -124,23 +126,31 @@ fn put_column(rows: &mut [u64], words: usize, place: usize, column: &[u64])
     }
 }
 
-impl Locals {
-    /// How many wires the module cuts, at most 10. They are its first wires, and each gate that it uses uses wires that are cut
-    /// or that a gate before it defines.
+impl Wiring {
+    /// How many wires are given: those that the module cuts, at most 10. They are its first wires, and each gate uses wires that
+    /// are given or that a gate before it defines.
     pub fn cuts(&self) -> usize
-        ensures count { result ≡ self.now.netlist.given }
+        ensures count { result ≡ self.now.given }
         ensures few { result ≤ 10 }
-        ensures ordered { AreOrdered self.now.netlist.given self.now.netlist.gates }
-        ensures forward { AreForward self.now.netlist.gates }
+        ensures ordered { AreOrdered self.now.given self.now.gates }
+        ensures forward { AreForward self.now.gates }
     {
         self.given
     }
 
+    /// How many wires there are, at most 266: 10 cuts, and 4 wires of each of 64 gates.
+    pub fn wires(&self) -> usize
+        ensures sized { result ≡ wires self.now }
+        ensures few { result ≤ 266 }
+    {
+        self.wires
+    }
+
     // The word of each wire: at bit b its value under assignment 64 * chunk + b.
     fn column(&self, alloc: Global, chunk: u32) -> Result<Vec<u64>, AllocError>
-        ensures ordered { AreOrdered self.now.netlist.given self.now.netlist.gates }
-        ensures count { IfOk result (λ ws. length ws.items ≡ wires self.now.netlist) }
-        ensures values { IfOk result (λ ws. (b : ℕ) → b < 64 → AreLocalValues self.now (64 * chunk + b) (lane b ws.items)) }
+        ensures ordered { AreOrdered self.now.given self.now.gates }
+        ensures count { IfOk result (λ ws. length ws.items ≡ wires self.now) }
+        ensures values { IfOk result (λ ws. (b : ℕ) → b < 64 → AreValues self.now (bit (64 * chunk + b)) (lane b ws.items)) }
     {
         let given = cut_words(alloc, self.given, chunk)?;
         let words = words_of(alloc, given.as_slice(), self.gates.as_slice())?;
@@ -150,7 +160,7 @@ impl Locals {
     /// Each wire's value, by its number here, where bit i of `cut_bits` is the value of cut i. Bits from `cuts()` on are not
     /// looked at. `AllocError` is want of memory.
     pub fn local_values(&self, alloc: Global, cut_bits: u32) -> Result<Vec<bool>, AllocError>
-        ensures { IfOk result (λ vs. AreLocalValues self.now cut_bits vs.items) }
+        ensures { IfOk result (λ vs. AreValues self.now (bit cut_bits) vs.items) }
     {
         let column = self.column(alloc, cut_bits / 64)?;
         let values = bits_of(alloc, column.as_slice(), cut_bits % 64)?;
@@ -162,8 +172,8 @@ impl Locals {
     /// want of memory.
     pub fn value_rows(&self, alloc: Global, words: usize) -> Result<Vec<u64>, AllocError>
         requires { words ≤ 16 }
-        ensures long { IfOk result (λ rows. length rows.items ≡ words * wires self.now.netlist) }
-        ensures local { IfOk result (λ rows. (a : ℕ) → a < 64 * words → IsLocalValuation self.now a (value_of words rows.items a)) }
+        ensures long { IfOk result (λ rows. length rows.items ≡ words * wires self.now) }
+        ensures local { IfOk result (λ rows. (a : ℕ) → a < 64 * words → Satisfies self.now (bit a) (value_of words rows.items a)) }
     {
         let mut rows = vec![in alloc; 0; words * self.wires()]?;
         for chunk in 0..words {

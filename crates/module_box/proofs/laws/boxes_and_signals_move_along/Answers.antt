@@ -1,4 +1,4 @@
-use Rattle.module_box.proofs.Moving.{boxes_moved, signals_moved}
+use Rattle.module_box.proofs.MovedBoxes.{boxes_moved, signals_moved}
 use Rattle.module_box.proofs.laws.boxes_and_signals_move_along.Goals as goal
 
 pub returns-clause-boxes : goal.returns-clause-boxes

@@ -1,16 +1,16 @@
 use Rattle.std.proofs.Common.{◌≡◌, ℕ, ◌+◌, ◌*◌, subst, sym, ap, ap₂, ◌∙◌, List, length, Bool, Some, map, arith}
 use Rattle.std.proofs.lemmas.List.{length-map}
 use Rattle.bbm_rule.specs.Bits.{bit}
-use Rattle.circuit.specs.Meaning.{Gate}
+use Rattle.circuit.specs.Bridge.{AreValues}
+use Rattle.circuit.specs.Meaning.{Gate, Netlist}
 use Rattle.circuit.specs.Evaluate.{evaluate}
 use Rattle.circuit.proofs.Valuations.{evaluated}
 use Rattle.module_box.specs.LocalGates.{kept_gate}
-use Rattle.module_box.specs.Locals.{LocalNet}
-use Rattle.module_box.specs.LocalsFields.{local_net}
-use Rattle.module_box.specs.LocalValues.{AreLocalValues, lane}
+use Rattle.module_box.specs.WiringFields.{wiring_net}
+use Rattle.module_box.specs.LocalValues.{lane}
 use Rattle.module_box.proofs.WordRows.{read_lane}
 use Rattle.module_box.proofs.LocalRows.{kept_forward}
-use Rattle.module_box.proofs.locals.Locals.column.Goals as goal
+use Rattle.module_box.proofs.wiring.Wiring.column.Goals as goal
 
 abbrev values : goal.returns-clause-values
 values c = λ b h.
@@ -20,8 +20,8 @@ values c = λ b h.
     let len : length given ≡ c.self.inside.given = length-map words (λ x. bit x b) ∙ c.in_ok-given.ensures.count in
     let found : evaluate given (map kept_gate c.self.inside.gates.items) ≡ Some out =
     ap₂ (λ (ws : List ℕ) (gs : List Gate). evaluate (lane b ws) gs) (sym c.as_slice.ensures.value) (sym (ap (map kept_gate) c.as_slice-2.ensures.value)) ∙ c.in_ok-words.ensures b h in
-    subst (λ (l : LocalNet). AreLocalValues l (64 * c.args.chunk + b) out) c.self.view_is
-    (evaluated (local_net c.self.inside).netlist (bit (64 * c.args.chunk + b)) given out c.self.invariant.ordered (kept_forward c.self.inside.gates.items) len
+    subst (λ (l : Netlist). AreValues l (bit (64 * c.args.chunk + b)) out) c.self.view_is
+    (evaluated (wiring_net c.self.inside) (bit (64 * c.args.chunk + b)) given out c.self.invariant.ordered (kept_forward c.self.inside.gates.items) len
     (λ i l. read_lane words b i ∙ c.in_ok-given.ensures.bits i l b h) found)
 
 pub returns-clause-values : goal.returns-clause-values

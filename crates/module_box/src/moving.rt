@@ -1,0 +1,91 @@
+//! Cells and signals that are moved.
+
+ghost use Rattle.std.specs.Prelude.{◌≡◌, IfOk, OnOk, map};
+ghost use Rattle.std.specs.List.{All};
+ghost use Rattle.module_box.specs.Moves.{IsNear, IsSmall, moved_cell, moved_event, moved_held, moved_signals};
+
+use crate::schedules::{Event, Held, Moment, Schedule};
+use bbm_rule::Cell;
+use std::alloc::{AllocError, Global};
+
+/// The cell that lies `dx` columns and `dy` rows further, where all these numbers are from -1024 to 1023.
+pub fn moved_cell(cell: Cell, dx: i32, dy: i32) -> Cell
+    requires cell { IsNear cell }
+    requires by { IsSmall dx × IsSmall dy }
+    ensures { result ≡ moved_cell dx dy cell }
+{
+    Cell {
+        x: cell.x + dx,
+        y: cell.y + dy,
+    }
+}
+
+fn moved_held(held: Held, dx: i32, dy: i32) -> Held
+    requires cell { IsNear held.cell }
+    requires by { IsSmall dx × IsSmall dy }
+    ensures { result ≡ moved_held dx dy held }
+{
+    Held {
+        cell: moved_cell(held.cell, dx, dy),
+        signal: held.signal,
+    }
+}
+
+/// The event at the cell that lies `dx` columns and `dy` rows further, where all these numbers are from -1024 to 1023.
+pub fn moved_event(event: Event, dx: i32, dy: i32) -> Event
+    requires cell { IsNear event.at.cell }
+    requires by { IsSmall dx × IsSmall dy }
+    ensures { result ≡ moved_event dx dy event }
+{
+    Event {
+        at: Moment {
+            time: event.at.time,
+            cell: moved_cell(event.at.cell, dx, dy),
+        },
+        signal: event.signal,
+    }
+}
+
+fn moved_helds(alloc: Global, held: &[Held], dx: i32, dy: i32) -> Result<Vec<Held>, AllocError>
+    requires cells { All (λ h. IsNear h.cell) held.now }
+    requires by { IsSmall dx × IsSmall dy }
+    ensures { IfOk result (λ v. v.items ≡ map (moved_held dx dy) held.now) }
+{
+    let mut moved = Vec::with_capacity(alloc, held.len())?;
+    for signal in held {
+        moved.push(moved_held(*signal, dx, dy))?;
+    }
+    Ok(moved)
+}
+
+fn moved_events(
+    alloc: Global,
+    events: &[Event],
+    dx: i32,
+    dy: i32,
+) -> Result<Vec<Event>, AllocError>
+    requires cells { All (λ e. IsNear e.at.cell) events.now }
+    requires by { IsSmall dx × IsSmall dy }
+    ensures { IfOk result (λ v. v.items ≡ map (moved_event dx dy) events.now) }
+{
+    let mut moved = Vec::with_capacity(alloc, events.len())?;
+    for event in events {
+        moved.push(moved_event(*event, dx, dy))?;
+    }
+    Ok(moved)
+}
+
+impl Schedule {
+    /// The same signals at the cells that lie `dx` columns and `dy` rows further, where all these numbers are from -1024 to 1023.
+    /// `AllocError` is want of memory.
+    pub fn moved(&self, alloc: Global, dx: i32, dy: i32) -> Result<Schedule, AllocError>
+        requires held { All (λ h. IsNear h.cell) self.now.held }
+        requires events { All (λ e. IsNear e.at.cell) self.now.events }
+        requires by { IsSmall dx × IsSmall dy }
+        ensures { IfOk result (λ s. s ≡ moved_signals dx dy self.now) }
+    {
+        let held = moved_helds(alloc, self.held(), dx, dy)?;
+        let events = moved_events(alloc, self.events(), dx, dy)?;
+        Ok(Schedule::new(held, events))
+    }
+}
