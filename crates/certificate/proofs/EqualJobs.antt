@@ -1,20 +1,24 @@
 -- The tests of equality answer whether two jobs are equal.
-use Rattle.std.proofs.Common.{◌≡◌, ℕ, zero, suc, nat_eq, List, Option, Some, None, refl, sym, ap, ap₂, ◌∙◌}
+use Rattle.std.proofs.Common.{◌≡◌, ℕ, zero, suc, nat_eq, Bool, true, false, ◌&&◌, List, Option, Some, None, refl, sym, ap, ap₂, ◌∙◌}
 use Rattle.std.specs.Bool.{Decides}
 use Rattle.std.specs.Cmp.Lexicographic.{pointwise}
 use Rattle.std.proofs.lemmas.Bool.Decides.{Decides-eqb}
-use Rattle.module_box.proofs.EqualTests.{both, lists, options, signal_decides, cell_decides, signals_decides, locals_decides}
-use Rattle.module_box.specs.Equality.{same_signal}
+use Rattle.module_box.proofs.EqualTests.{both, lists, options, signal_decides, cell_decides, signals_decides, locals_decides, netlists_decide}
+use Rattle.module_box.specs.Equality.{same_cell, same_signal}
 use Rattle.module_box.specs.declared.boxes.Box2.{Box2}
 use Rattle.module_box.specs.declared.schedules.Signal.{Signal}
 use Rattle.module_box.specs.declared.schedules.Signal.TheVariants.{Zero, One, Wire}
 use Rattle.module_box.specs.contracts.schedules.SignalPartialEq.TheImpl as signals
-use Rattle.certificate.specs.Equality.{same_box, demand_place, wire_asked, same_demand, same_stop}
-use Rattle.certificate.specs.Laws.{JobEqualityDecides}
+use Rattle.certificate.specs.Equality.{same_box, demand_place, wire_asked, same_demand, same_job, same_shape, same_stop}
+use Rattle.certificate.specs.Jobs.{JobState}
+use Rattle.certificate.specs.Laws.{JobEqualityDecides, ShapeEqualityDecides}
+use Rattle.certificate.specs.Shapes.{ShapeState, placed, shape_of}
 use Rattle.certificate.specs.declared.job.Demand.{Demand}
 use Rattle.certificate.specs.declared.job.Demand.TheVariants as Demanded
 use Rattle.certificate.specs.declared.job.Stop.{Stop}
+use Rattle.certificate.proofs.ShapeParts.{shape_placed}
 use Rattle.certificate.specs.contracts.job.DemandPartialEq.TheImpl as demands
+use Rattle.certificate.specs.contracts.job.StopPartialEq.TheImpl as stops
 
 -- the derived tests are these
 signal_test : (a b : Signal) → signals.eq-value.it a b ≡ same_signal a b
@@ -51,6 +55,16 @@ demand_test Demanded.Any Demanded.Any = refl
 
 pub demand_tests : (xs ys : List Demand) → pointwise demands.eq-value.it xs ys ≡ pointwise same_demand xs ys
 demand_tests xs ys i = pointwise (λ a b. demand_test a b i) xs ys
+
+and_apart : (p q r : Bool) → ((p && q) && r) ≡ (p && (q && r))
+and_apart true q r = refl
+and_apart false q r = refl
+
+stop_test : (a b : Stop) → stops.eq-value.it a b ≡ same_stop a b
+stop_test a b = and_apart (nat_eq a.at.time b.at.time) (same_cell a.at.cell b.at.cell) (nat_eq a.wire b.wire)
+
+pub stop_tests : (xs ys : List Stop) → pointwise stops.eq-value.it xs ys ≡ pointwise same_stop xs ys
+stop_tests xs ys i = pointwise (λ a b. stop_test a b i) xs ys
 
 -- ---- and they decide
 
@@ -114,3 +128,65 @@ jobs_decide j k =
     })
     (λ e. ((((ap (λ l. l.area) e, ap (λ l. l.steps) e), ap (λ l. l.locals) e), (ap (λ l. l.starts) e, ap (λ l. l.demands) e)), (ap (λ l. l.edges) e, ap (λ l. l.halos) e)))
     (λ e. ap (λ l. l.stops) e)
+
+pub shapes_decide : ShapeEqualityDecides
+shapes_decide s t =
+    both _ _
+    (both {R = (((((s.width ≡ t.width) × (s.height ≡ t.height)) × (s.steps ≡ t.steps)) × (s.netlist ≡ t.netlist)) × ((s.starts ≡ t.starts) × (s.demands ≡ t.demands))) × ((s.edges ≡ t.edges) × (s.halos ≡ t.halos))} _ _
+    (both {R = ((((s.width ≡ t.width) × (s.height ≡ t.height)) × (s.steps ≡ t.steps)) × (s.netlist ≡ t.netlist)) × ((s.starts ≡ t.starts) × (s.demands ≡ t.demands))} _ _
+    (both {R = (((s.width ≡ t.width) × (s.height ≡ t.height)) × (s.steps ≡ t.steps)) × (s.netlist ≡ t.netlist)} _ _
+    (both {R = ((s.width ≡ t.width) × (s.height ≡ t.height)) × (s.steps ≡ t.steps)} _ _
+    (both {R = (s.width ≡ t.width) × (s.height ≡ t.height)} _ _ (Decides-eqb s.width t.width) (Decides-eqb s.height t.height) (λ p q. (p, q)) (λ p. p.0) (λ p. p.1))
+    (Decides-eqb s.steps t.steps) (λ p q. (p, q)) (λ p. p.0) (λ p. p.1))
+    (netlists_decide s.netlist t.netlist) (λ p q. (p, q)) (λ p. p.0) (λ p. p.1))
+    (both {R = (s.starts ≡ t.starts) × (s.demands ≡ t.demands)} _ _ (lists same_signal signal_decides s.starts t.starts) (lists same_demand demand_decides s.demands t.demands) (λ p q. (p, q)) (λ p. p.0) (λ p. p.1))
+    (λ p q. (p, q)) (λ p. p.0) (λ p. p.1))
+    (both {R = (s.edges ≡ t.edges) × (s.halos ≡ t.halos)} _ _ (signals_decides s.edges t.edges) (signals_decides s.halos t.halos) (λ p q. (p, q)) (λ p. p.0) (λ p. p.1))
+    (λ p q. (p, q)) (λ p. p.0) (λ p. p.1))
+    (lists same_stop stop_decides s.stops t.stops)
+    (λ p stops i. record {
+      width = p.0.0.0.0.0 i;
+      height = p.0.0.0.0.1 i;
+      steps = p.0.0.0.1 i;
+      netlist = p.0.0.1 i;
+      starts = p.0.1.0 i;
+      demands = p.0.1.1 i;
+      edges = p.1.0 i;
+      halos = p.1.1 i;
+      stops = stops i;
+    })
+    (λ e. (((((ap (λ l. l.width) e, ap (λ l. l.height) e), ap (λ l. l.steps) e), ap (λ l. l.netlist) e), (ap (λ l. l.starts) e, ap (λ l. l.demands) e)), (ap (λ l. l.edges) e, ap (λ l. l.halos) e)))
+    (λ e. ap (λ l. l.stops) e)
+
+-- ---- two jobs are the same exactly where corner, wires, gates and shape are
+
+-- two tests of the same fact
+one_fact : {P : Type 0} (a b : Bool) → Decides a P → Decides b P → a ≡ b
+one_fact true true d e = refl
+one_fact false false d e = refl
+one_fact true false d e = absurd (wrong (e.1 (d.0 refl)))
+  where
+    wrong : false ≡ true → ⊥
+    wrong h = cc
+one_fact false true d e = absurd (wrong (d.1 (e.0 refl)))
+  where
+    wrong : false ≡ true → ⊥
+    wrong h = cc
+
+parts_decide : (x y x' y' : ℕ) (ws gs ws' gs' : List ℕ) (s t : ShapeState) →
+    Decides ((((nat_eq x x' && nat_eq y y') && pointwise nat_eq ws ws') && pointwise nat_eq gs gs') && same_shape s t) (placed x y ws gs s ≡ placed x' y' ws' gs' t)
+parts_decide x y x' y' ws gs ws' gs' s t =
+    both _ _
+    (both {R = (((x ≡ x') × (y ≡ y')) × (ws ≡ ws')) × (gs ≡ gs')} _ _
+    (both {R = ((x ≡ x') × (y ≡ y')) × (ws ≡ ws')} _ _
+    (both {R = (x ≡ x') × (y ≡ y')} _ _ (Decides-eqb x x') (Decides-eqb y y') (λ p q. (p, q)) (λ p. p.0) (λ p. p.1))
+    (lists nat_eq Decides-eqb ws ws') (λ p q. (p, q)) (λ p. p.0) (λ p. p.1))
+    (lists nat_eq Decides-eqb gs gs') (λ p q. (p, q)) (λ p. p.0) (λ p. p.1))
+    (shapes_decide s t)
+    (λ p shape i. placed (p.0.0.0 i) (p.0.0.1 i) (p.0.1 i) (p.1 i) (shape i))
+    (λ e. (((ap (λ j. j.area.x) e, ap (λ j. j.area.y) e), ap (λ j. j.locals.circuit_wires) e), ap (λ j. j.locals.circuit_gates) e))
+    (λ e. sym (shape_placed x y ws gs s) ∙ ap shape_of e ∙ shape_placed x' y' ws' gs' t)
+
+pub parts_tell : (x y x' y' : ℕ) (ws gs ws' gs' : List ℕ) (s t : ShapeState) →
+    ((((nat_eq x x' && nat_eq y y') && pointwise nat_eq ws ws') && pointwise nat_eq gs gs') && same_shape s t) ≡ same_job (placed x y ws gs s) (placed x' y' ws' gs' t)
+parts_tell x y x' y' ws gs ws' gs' s t = one_fact _ _ (parts_decide x y x' y' ws gs ws' gs' s t) (jobs_decide (placed x y ws gs s) (placed x' y' ws' gs' t))

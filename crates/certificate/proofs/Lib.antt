@@ -1,3 +1,4 @@
+pub mod ShapeParts
 pub mod EqualJobs
 pub mod JobLemmas
 pub mod PlanLemmas
@@ -26,3 +27,4 @@ pub mod StarLemmas
 pub mod TileLemmas
 mod Spelling
 mod RoundTrip
+pub mod NearLines

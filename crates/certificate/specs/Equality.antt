@@ -4,9 +4,10 @@ use Rattle.std.specs.Ordering.{on, eq_of_both}
 use Rattle.std.specs.Cmp.{IsEquivalence, and_equiv, on_equiv, nat_eq_equiv}
 use Rattle.std.specs.Cmp.Lexicographic.{pointwise, lists_equiv, options_equiv}
 use Rattle.std.specs.Option.{option_eq}
-use Rattle.module_box.specs.Equality.{same_signal, signal_equivalence, same_cell, cell_equivalence, same_signals, signals_equivalence, same_locals, locals_equivalence}
+use Rattle.module_box.specs.Equality.{same_signal, signal_equivalence, same_cell, cell_equivalence, same_signals, signals_equivalence, same_locals, locals_equivalence, same_netlist, netlist_equivalence}
 use Rattle.module_box.specs.declared.boxes.Box2.{Box2}
 use Rattle.certificate.specs.Jobs.{JobState}
+use Rattle.certificate.specs.Shapes.{ShapeState}
 use Rattle.certificate.specs.declared.job.Demand.{Demand}
 use Rattle.certificate.specs.declared.job.Demand.TheVariants.{Dead, Live, Wire, Any}
 use Rattle.certificate.specs.declared.job.Stop.{Stop}
@@ -42,6 +43,16 @@ same_job =
     (eq_of_both (on (λ j. j.edges) same_signals) (on (λ j. j.halos) same_signals)))
     (on (λ j. j.stops) (pointwise same_stop))
 
+-- sides and steps; gates; starts and demands; edges and halos; stops
+abbrev pub same_shape : ShapeState → ShapeState → Bool
+same_shape =
+    eq_of_both (eq_of_both (eq_of_both (eq_of_both
+    (eq_of_both (eq_of_both (on (λ s. s.width) nat_eq) (on (λ s. s.height) nat_eq)) (on (λ s. s.steps) nat_eq))
+    (on (λ s. s.netlist) same_netlist))
+    (eq_of_both (on (λ s. s.starts) (pointwise same_signal)) (on (λ s. s.demands) (pointwise same_demand))))
+    (eq_of_both (on (λ s. s.edges) same_signals) (on (λ s. s.halos) same_signals)))
+    (on (λ s. s.stops) (pointwise same_stop))
+
 -- these tests are equivalences
 box_equivalence : IsEquivalence same_box
 box_equivalence =
@@ -61,3 +72,12 @@ job_equivalence =
     (and_equiv (on_equiv (λ j. j.starts) (lists_equiv signal_equivalence)) (on_equiv (λ j. j.demands) (lists_equiv demand_equivalence))))
     (and_equiv (on_equiv (λ j. j.edges) signals_equivalence) (on_equiv (λ j. j.halos) signals_equivalence)))
     (on_equiv (λ j. j.stops) (lists_equiv stop_equivalence))
+
+pub shape_equivalence : IsEquivalence same_shape
+shape_equivalence =
+    and_equiv (and_equiv (and_equiv (and_equiv
+    (and_equiv (and_equiv (on_equiv (λ s. s.width) nat_eq_equiv) (on_equiv (λ s. s.height) nat_eq_equiv)) (on_equiv (λ s. s.steps) nat_eq_equiv))
+    (on_equiv (λ s. s.netlist) netlist_equivalence))
+    (and_equiv (on_equiv (λ s. s.starts) (lists_equiv signal_equivalence)) (on_equiv (λ s. s.demands) (lists_equiv demand_equivalence))))
+    (and_equiv (on_equiv (λ s. s.edges) signals_equivalence) (on_equiv (λ s. s.halos) signals_equivalence)))
+    (on_equiv (λ s. s.stops) (lists_equiv stop_equivalence))

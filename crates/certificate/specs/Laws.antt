@@ -6,8 +6,9 @@ use Rattle.section_text.specs.Words.{lines_of}
 use Rattle.section_text.specs.Section.{section_of, ended_line}
 use Rattle.certificate.specs.Entries.{Setting}
 use Rattle.certificate.specs.Grammars.{CertState, certificate_grammar, certificate_value}
-use Rattle.certificate.specs.Equality.{same_job}
+use Rattle.certificate.specs.Equality.{same_job, same_shape}
 use Rattle.certificate.specs.Jobs.{JobState}
+use Rattle.certificate.specs.Shapes.{ShapeState, placed, shape_of}
 use Rattle.certificate.specs.Text.{certificate_text}
 
 -- the text of a certificate that is read is the text of the lines that it is read from
@@ -25,3 +26,13 @@ ReadsWhatIsPrinted = (g : Setting) (text : List ℕ) (from n m : ℕ) (c : CertS
 -- two jobs are equal by `==` exactly where they are the same
 abbrev pub JobEqualityDecides : Type 0
 JobEqualityDecides = (j k : JobState) → Decides (same_job j k) (j ≡ k)
+
+-- and so are two shapes
+abbrev pub ShapeEqualityDecides : Type 0
+ShapeEqualityDecides = (s t : ShapeState) → Decides (same_shape s t) (s ≡ t)
+
+-- A job is its shape, placed where its box lies and over its wires and gates of the circuit, and a shape that is placed is the
+-- shape of what it becomes; so two jobs are the same exactly where corner, wires, gates and shape are
+pub record ShapesAreParts : Type 0 where
+  pub whole : (j : JobState) → placed j.area.x j.area.y j.locals.circuit_wires j.locals.circuit_gates (shape_of j) ≡ j
+  pub part : (x y : ℕ) (wires gates : List ℕ) (s : ShapeState) → shape_of (placed x y wires gates s) ≡ s

@@ -17,3 +17,5 @@ pub mod Laws
 pub mod BorderWords
 pub mod PlanView
 pub mod Equality
+pub mod Shapes
+pub mod ShapeFields

@@ -1,6 +1,7 @@
 -- The signals of edge or halo lines over the wires of a module
-use Rattle.std.specs.Prelude.{◌≡◌, List, map, IfSome, IsTrue}
+use Rattle.std.specs.Prelude.{◌≡◌, pos, ◌≤ℤ◌, List, map, IfSome, IsTrue}
 use Rattle.std.specs.List.{All}
+use Rattle.bbm_rule.specs.declared.block.Cell.{Cell}
 use Rattle.circuit.specs.Meaning.{Circuit, wires}
 use Rattle.module_box.specs.Locals.{LocalNet, circuit_wire}
 use Rattle.certificate.specs.Entries.{edge_in, halo_in}
@@ -21,6 +22,11 @@ borders_in Halo i = halo_in i
 -- the wire that the line names, if it names one, is one of the module's
 abbrev pub IsNamedLocal : Circuit → LocalNet → Border → Type 0
 IsNamedLocal c l e = IfSome e.signal (λ name. IsTrue (is_local c l.circuit_wires name))
+
+-- the cell lies within 512 columns and rows
+pub record IsLow (c : Cell) : Type 0 where
+  pub column : (pos 0 ≤ℤ c.x) × (c.x ≤ℤ pos 511)
+  pub row : (pos 0 ≤ℤ c.y) × (c.y ≤ℤ pos 511)
 
 -- what is held and what happens is what the lines say, and each wire is one of the module's
 pub record IsTimetable (c : Circuit) (l : LocalNet) (es : List Border) (t : Timetable) : Type 0 where

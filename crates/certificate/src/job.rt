@@ -1,11 +1,21 @@
 //! The job of a module.
-ghost use Rattle.std.specs.Prelude.{◌≡◌, ◌≤◌, IsTrue};
+ghost use Rattle.std.specs.Prelude.{◌≡◌, ◌<◌, ◌≤◌, pos, length, slice_get, Some, IsTrue};
+ghost use Rattle.std.specs.Arc.{arc_value};
+ghost use Rattle.circuit.specs.Meaning.{wires};
 ghost use Rattle.module_box.specs.Boxes.{in_box};
+ghost use Rattle.module_box.specs.Locals.{circuit_wire};
+ghost use Rattle.module_box.specs.Moves.{IsNear, IsSmall};
+ghost use Rattle.module_box.specs.Schedules.{signal_at};
 ghost use Rattle.certificate.specs.Jobs.{IsJob, job_demand, job_start, place_in};
+ghost use Rattle.certificate.specs.Shapes.{back, shape_of};
 
+use crate::shape::Shape;
 use bbm_rule::Cell;
-use module_box::{Box2, Locals, Moment, Schedule, Signal};
+use circuit::{GateNo, WireNo};
+use indexmap::IndexSet;
+use module_box::{Box2, Event, Moment, Signal, Wiring, moved_cell, moved_event};
 use std::marker::Model;
+use std::sync::Arc;
 
 /// What a cell is to be at the last time. A wire is named by its number among the wires that its module knows.
 #[derive(Clone, Copy, Debug, PartialEq, Eq)]
@@ -30,16 +40,14 @@ pub struct Stop {
 /// All that the run of a module by itself needs: its box, the steps, the wires and gates that it knows, what the cells of the box
 /// carry at time 0 and what they are to be at the last time, and what the cells of ring and halo carry at odd times. Contracts
 /// see it as a `JobState`; each wire that it names is one of its own.
+// It is kept as the corner of its box, the circuit's numbers of its wires and gates, and its shape, in which the corner is (0, 0).
 #[derive(Drop)]
 pub struct Job {
-    pub(crate) area: Box2,
-    pub(crate) steps: u32,
-    pub(crate) locals: Locals,
-    pub(crate) starts: Vec<Signal>,
-    pub(crate) demands: Vec<Demand>,
-    pub(crate) edges: Schedule,
-    pub(crate) halos: Schedule,
-    pub(crate) stops: Vec<Stop>,
+    pub(crate) x: u32,
+    pub(crate) y: u32,
+    pub(crate) wires: IndexSet<u16>,
+    pub(crate) gates: Vec<GateNo>,
+    pub(crate) shape: Arc<Shape>,
 }
 
 impl Model for Job {
@@ -65,27 +73,69 @@ fn place_in(area: Box2, cell: Cell) -> usize
     row * area.w as usize + column
 }
 
+// How far the cells of a box with this corner are moved back, so that its corner comes to (0, 0).
+pub(crate) fn back(corner: u32) -> i32
+    requires { corner ≤ 512 }
+    ensures is { result ≡ back corner }
+    ensures small { IsSmall result }
+{
+    0 - corner as i32
+}
+
+// How far they are moved to come from there to the box.
+fn forth(corner: u32) -> i32
+    requires { corner ≤ 512 }
+    ensures is { result ≡ pos corner }
+    ensures small { IsSmall result }
+{
+    corner as i32
+}
+
 impl Job {
     /// The box of the module: its corner and sides are even, its sides 2 to 64, and it lies in a rectangle of 512 by 512 cells.
     pub fn area(&self) -> Box2
         ensures area { result ≡ self.now.area }
         ensures good { IsJob self.now }
     {
-        self.area
+        Box2 {
+            x: self.x,
+            y: self.y,
+            w: self.shape.width(),
+            h: self.shape.height(),
+        }
     }
 
     /// The steps of the layout, at most 4096.
     pub fn steps(&self) -> u32
         ensures { result ≡ self.now.steps }
     {
-        self.steps
+        self.shape.steps()
     }
 
-    /// The wires and gates that the module knows.
-    pub fn locals(&self) -> &Locals
-        ensures { result.now ≡ self.now.locals }
+    /// All of the job but where its box lies and which wires and gates of the circuit its own are.
+    pub fn shape(&self) -> &Arc<Shape>
+        ensures { arc_value result.now ≡ shape_of self.now }
     {
-        &self.locals
+        &self.shape
+    }
+
+    /// The gates that the module knows, over wires of its own.
+    pub fn wiring(&self) -> &Wiring
+        ensures wiring { result.now ≡ self.now.locals.netlist }
+        ensures sized { length self.now.locals.circuit_wires ≡ wires self.now.locals.netlist }
+    {
+        self.shape.wiring()
+    }
+
+    /// The wire of the circuit that has this number among the module's own, below the count of those.
+    pub fn wire(&self, number: u16) -> WireNo
+        requires { number < wires self.now.locals.netlist }
+        ensures { result ≡ circuit_wire self.now.locals number }
+    {
+        match self.wires.get_index(number as usize) {
+            Some(wire) => WireNo::of(*wire),
+            None => unreachable!(),
+        }
     }
 
     /// What a cell carries at time 0. Outside the box that is `Zero`.
@@ -93,11 +143,11 @@ impl Job {
     pub fn start(&self, cell: Cell) -> Signal
         ensures { result ≡ job_start self.now cell.x cell.y }
     {
-        if !self.area.holds(cell) {
+        let area = self.area();
+        if !area.holds(cell) {
             return Signal::Zero;
         }
-        let place = place_in(self.area, cell);
-        self.starts.get(place).copied().unwrap_or(Signal::Zero)
+        self.shape.start(place_in(area, cell))
     }
 
     /// What a cell of the box is to be at the last time. Outside the box that is `Dead`.
@@ -105,24 +155,60 @@ impl Job {
     pub fn demand(&self, cell: Cell) -> Demand
         ensures { result ≡ job_demand self.now cell.x cell.y }
     {
-        if !self.area.holds(cell) {
+        let area = self.area();
+        if !area.holds(cell) {
             return Demand::Dead;
         }
-        let place = place_in(self.area, cell);
-        self.demands.get(place).copied().unwrap_or(Demand::Dead)
+        self.shape.demand(place_in(area, cell))
     }
 
-    /// What the cells of the ring carry at odd times.
-    pub fn edges(&self) -> &Schedule
-        ensures { result.now ≡ self.now.edges }
+    /// What a cell of the ring carries at an odd time, for cells with coordinates from -1024 to 1023.
+    pub fn edge(&self, time: u32, cell: Cell) -> Signal
+        requires { IsNear cell }
+        ensures { result ≡ signal_at self.now.edges time cell.x cell.y }
     {
-        &self.edges
+        let own = moved_cell(cell, back(self.x), back(self.y));
+        self.shape.edges().at(time, own)
     }
 
-    /// What the cells of the halo carry at odd times.
-    pub fn halos(&self) -> &Schedule
-        ensures { result.now ≡ self.now.halos }
+    /// What a cell of the halo carries at an odd time, for cells with coordinates from -1024 to 1023.
+    pub fn halo(&self, time: u32, cell: Cell) -> Signal
+        requires { IsNear cell }
+        ensures { result ≡ signal_at self.now.halos time cell.x cell.y }
     {
-        &self.halos
+        let own = moved_cell(cell, back(self.x), back(self.y));
+        self.shape.halos().at(time, own)
+    }
+
+    /// How many signals cells of the ring have at single times.
+    pub fn edge_events(&self) -> usize
+        ensures { result ≡ length self.now.edges.events }
+    {
+        self.shape.edges().events().len()
+    }
+
+    /// One of these, in their order.
+    pub fn edge_event(&self, place: usize) -> Event
+        requires { place < length self.now.edges.events }
+        ensures { slice_get self.now.edges.events place ≡ Some result }
+    {
+        let event = self.shape.edges().events()[place];
+        moved_event(event, forth(self.x), forth(self.y))
+    }
+
+    /// How many signals cells of the halo have at single times.
+    pub fn halo_events(&self) -> usize
+        ensures { result ≡ length self.now.halos.events }
+    {
+        self.shape.halos().events().len()
+    }
+
+    /// One of these, in their order.
+    pub fn halo_event(&self, place: usize) -> Event
+        requires { place < length self.now.halos.events }
+        ensures { slice_get self.now.halos.events place ≡ Some result }
+    {
+        let event = self.shape.halos().events()[place];
+        moved_event(event, forth(self.x), forth(self.y))
     }
 }

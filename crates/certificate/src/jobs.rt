@@ -7,20 +7,23 @@ ghost use Rattle.circuit.specs.Bridge.{circuit_of, netlist_of};
 ghost use Rattle.circuit.specs.Meaning.{wire_of, wires};
 ghost use Rattle.module_box.specs.Boxes.{in_box};
 ghost use Rattle.module_box.specs.Locals.{AreLocalLines, AreLocalsOf, circuit_wire, local_wires};
+ghost use Rattle.module_box.specs.Moves.{IsNear};
 ghost use Rattle.certificate.specs.Entries.{cut_in, modules_of, use_in};
 ghost use Rattle.certificate.specs.Grammars.{setting_of};
 ghost use Rattle.certificate.specs.Jobs.{AreJobsOf, IsJobOf, end_demand, line_signals, place_in, start_signal};
 ghost use Rattle.certificate.specs.Modules.{AreModules, HasPorts, IsModule};
 ghost use Rattle.certificate.specs.Orders.{AreInOrder};
 ghost use Rattle.certificate.specs.PlanView.{KnowsPorts};
+ghost use Rattle.certificate.specs.Shapes.{from_corner};
 ghost use Rattle.certificate.specs.Signals.{IsBelow, IsDemandBelow, renumber_demand, renumber_signal, renumber_signals};
-ghost use Rattle.certificate.specs.Timetables.{IsNamedLocal, borders_in};
+ghost use Rattle.certificate.specs.Timetables.{IsLow, IsNamedLocal, borders_in};
 
 use crate::cert::Cert;
 use crate::entry::Entry;
-use crate::job::{Demand, Job};
+use crate::job::{Demand, Job, back};
 use crate::lines::{cut_list, inner_lines, used_gates};
 use crate::plan::Plan;
+use crate::shape::Shape;
 use crate::timetable::{Side, signals_of};
 use circuit::Circuit;
 use module_box::{Box2, Locals, Schedule, Signal};
@@ -63,25 +66,53 @@ fn cell_lists(
     Ok((starts, demands))
 }
 
-// The signals of a module's lines about cells of its ring, and of those about cells of its halo.
+// The signals of a module's lines about cells of its ring or of its halo, where the corner of its box is at (0, 0).
+fn own_signals(
+    alloc: Global,
+    circuit: &Circuit,
+    locals: &Locals,
+    side: Side,
+    area: Box2,
+    lines: &[Entry],
+) -> Result<Schedule, AllocError>
+    requires order { AreInOrder lines.now }
+    requires local { All (IsNamedLocal (circuit_of circuit.now) locals.now) (flat_map (borders_in side) lines.now) }
+    requires low { All (λ e. IsLow e.cell) (flat_map (borders_in side) lines.now) }
+    requires corner { (area.x ≤ 512) × (area.y ≤ 512) }
+    ensures same { IfOk result (λ s. renumber_signals (circuit_wire locals.now) (from_corner area s) ≡ line_signals (circuit_of circuit.now) (flat_map (borders_in side) lines.now)) }
+    ensures held { IfOk result (λ s. All (λ h. IsBelow (wires locals.now.netlist) h.signal) (from_corner area s).held) }
+    ensures events { IfOk result (λ s. All (λ e. IsBelow (wires locals.now.netlist) e.signal) (from_corner area s).events) }
+    ensures near { IfOk result (λ s. All (λ e. IsNear e.at.cell) s.events) }
+{
+    let signals = signals_of(alloc, circuit, locals, side, lines)?;
+    signals.moved(alloc, back(area.x), back(area.y))
+}
+
+// These signals of both sides: of the lines about cells of the ring, and of those about cells of the halo.
 fn schedules(
     alloc: Global,
     circuit: &Circuit,
     locals: &Locals,
+    area: Box2,
     lines: &[Entry],
 ) -> Result<(Schedule, Schedule), AllocError>
     requires order { AreInOrder lines.now }
     requires edges { All (IsNamedLocal (circuit_of circuit.now) locals.now) (flat_map (borders_in Side.Ring) lines.now) }
+    requires low_edges { All (λ e. IsLow e.cell) (flat_map (borders_in Side.Ring) lines.now) }
     requires halos { All (IsNamedLocal (circuit_of circuit.now) locals.now) (flat_map (borders_in Side.Halo) lines.now) }
-    ensures edges { IfOk result (λ sides. renumber_signals (circuit_wire locals.now) sides.0 ≡ line_signals (circuit_of circuit.now) (flat_map (borders_in Side.Ring) lines.now)) }
-    ensures edges_held { IfOk result (λ sides. All (λ h. IsBelow (wires locals.now.netlist) h.signal) sides.0.held) }
-    ensures edge_events { IfOk result (λ sides. All (λ e. IsBelow (wires locals.now.netlist) e.signal) sides.0.events) }
-    ensures halos { IfOk result (λ sides. renumber_signals (circuit_wire locals.now) sides.1 ≡ line_signals (circuit_of circuit.now) (flat_map (borders_in Side.Halo) lines.now)) }
-    ensures halos_held { IfOk result (λ sides. All (λ h. IsBelow (wires locals.now.netlist) h.signal) sides.1.held) }
-    ensures halo_events { IfOk result (λ sides. All (λ e. IsBelow (wires locals.now.netlist) e.signal) sides.1.events) }
+    requires low_halos { All (λ e. IsLow e.cell) (flat_map (borders_in Side.Halo) lines.now) }
+    requires corner { (area.x ≤ 512) × (area.y ≤ 512) }
+    ensures edges { IfOk result (λ sides. renumber_signals (circuit_wire locals.now) (from_corner area sides.0) ≡ line_signals (circuit_of circuit.now) (flat_map (borders_in Side.Ring) lines.now)) }
+    ensures edges_held { IfOk result (λ sides. All (λ h. IsBelow (wires locals.now.netlist) h.signal) (from_corner area sides.0).held) }
+    ensures edge_events { IfOk result (λ sides. All (λ e. IsBelow (wires locals.now.netlist) e.signal) (from_corner area sides.0).events) }
+    ensures near_edges { IfOk result (λ sides. All (λ e. IsNear e.at.cell) sides.0.events) }
+    ensures halos { IfOk result (λ sides. renumber_signals (circuit_wire locals.now) (from_corner area sides.1) ≡ line_signals (circuit_of circuit.now) (flat_map (borders_in Side.Halo) lines.now)) }
+    ensures halos_held { IfOk result (λ sides. All (λ h. IsBelow (wires locals.now.netlist) h.signal) (from_corner area sides.1).held) }
+    ensures halo_events { IfOk result (λ sides. All (λ e. IsBelow (wires locals.now.netlist) e.signal) (from_corner area sides.1).events) }
+    ensures near_halos { IfOk result (λ sides. All (λ e. IsNear e.at.cell) sides.1.events) }
 {
-    let edges = signals_of(alloc, circuit, locals, Side::Ring, lines)?;
-    let halos = signals_of(alloc, circuit, locals, Side::Halo, lines)?;
+    let edges = own_signals(alloc, circuit, locals, Side::Ring, area, lines)?;
+    let halos = own_signals(alloc, circuit, locals, Side::Halo, area, lines)?;
     Ok((edges, halos))
 }
 
@@ -95,16 +126,25 @@ fn make_job(alloc: Global, plan: &Plan, area: Box2, lines: &[Entry]) -> Result<J
     let size = plan.layout().size();
     let locals = named_locals(alloc, circuit, lines)?;
     let (starts, demands) = cell_lists(alloc, plan, area, &locals)?;
-    let (edges, halos) = schedules(alloc, circuit, &locals, lines)?;
-    Ok(Job {
-        area,
+    let (edges, halos) = schedules(alloc, circuit, &locals, area, lines)?;
+    let (wiring, wires, gates) = locals.into_parts();
+    let shape = Shape {
+        width: area.w,
+        height: area.h,
         steps: size.steps,
-        locals,
+        wiring,
         starts,
         demands,
         edges,
         halos,
         stops: Vec::new(alloc),
+    };
+    Ok(Job {
+        x: area.x,
+        y: area.y,
+        wires,
+        gates,
+        shape: Arc::new(alloc, shape)?,
     })
 }
 

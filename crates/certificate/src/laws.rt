@@ -1,5 +1,5 @@
 //! Laws of the definitions, each the contract of a function without a body.
-ghost use Rattle.certificate.specs.Laws.{JobEqualityDecides, PrintsWhatIsRead, ReadsWhatIsPrinted};
+ghost use Rattle.certificate.specs.Laws.{JobEqualityDecides, PrintsWhatIsRead, ReadsWhatIsPrinted, ShapeEqualityDecides, ShapesAreParts};
 
 /// The text of a certificate that is read is the text of the lines that it is read from, and it is read as the same
 /// certificate again.
@@ -8,7 +8,13 @@ pub fn one_text()
     ensures read_again { ReadsWhatIsPrinted }
 {}
 
-/// Two [`Job`](crate::Job)s are equal exactly where contracts see the same of both.
+/// Two [`Job`](crate::Job)s are equal exactly where contracts see the same of both, and so are two [`Shape`](crate::Shape)s.
 pub fn equality_is_of_content()
-    ensures { JobEqualityDecides }
+    ensures jobs { JobEqualityDecides }
+    ensures shapes { ShapeEqualityDecides }
+{}
+
+/// A job is its shape, placed where its box lies and over its wires and gates of the circuit.
+pub fn shapes_are_parts()
+    ensures { ShapesAreParts }
 {}

@@ -5,13 +5,13 @@ use Rattle.std.specs.Ordering.{int_eq, int_cmp, nat_cmp, ordering_then}
 use Rattle.std.proofs.lemmas.Bool.{cases_Bool, and_parts}
 use Rattle.std.proofs.lemmas.Int.{ints}
 use Rattle.bbm_rule.specs.Moves.{IsMoved}
-use Rattle.bbm_rule.specs.Plane.{State}
+use Rattle.bbm_rule.specs.Plane.{State, is_at}
 use Rattle.bbm_rule.specs.Spans.{in_span}
 use Rattle.bbm_rule.specs.declared.block.Cell.{Cell}
 use Rattle.module_box.specs.Boxes.{in_box, in_ring, in_halo, some_neighbour}
 use Rattle.module_box.specs.Moments.{cell_cmp, moment_cmp}
 use Rattle.module_box.specs.Moves.{moved_cell, moved_held, moved_event, moved_signals, IsMovedBox, BoxesMoveAlong, SignalsMoveAlong}
-use Rattle.module_box.specs.Schedules.{IsRising, Signals, cell_of, moment_of, is_at, is_then, held_at, event_at, signal_at}
+use Rattle.module_box.specs.Schedules.{IsRising, Signals, cell_of, moment_of, is_then, held_at, event_at, signal_at}
 use Rattle.module_box.specs.declared.boxes.Box2.{Box2}
 use Rattle.module_box.specs.declared.schedules.Event.{Event}
 use Rattle.module_box.specs.declared.schedules.Held.{Held}

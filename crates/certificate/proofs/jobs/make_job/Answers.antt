@@ -1,14 +1,22 @@
-use Rattle.std.proofs.Common.{sym, ap, subst, ◌∙◌, refl}
+use Rattle.std.proofs.Common.{◌≡◌, ◌≤◌, ℕ, List, [], length, arith, sym, ap, subst, ◌∙◌, refl}
+use Rattle.std.specs.Arc.{arc_value}
 use Rattle.std.specs.List.{All}
 use Rattle.circuit.specs.Bridge.{circuit_of, netlist_of}
+use Rattle.circuit.specs.Meaning.{Netlist, wires}
 use Rattle.module_box.specs.Locals.{AreLocalsOf}
+use Rattle.module_box.specs.Moves.{IsNear}
+use Rattle.module_box.specs.Schedules.{Signals}
+use Rattle.module_box.specs.declared.boxes.Box2.{Box2}
+use Rattle.module_box.specs.declared.schedules.Signal.{Signal}
 use Rattle.certificate.specs.Entries.{ModuleLines, edges, halos}
 use Rattle.certificate.specs.Grammars.{setting_of}
-use Rattle.certificate.specs.Jobs.{line_signals}
+use Rattle.certificate.specs.Jobs.{IsJob, IsJobOf, line_signals}
+use Rattle.certificate.specs.Shapes.{ShapeState, placed}
 use Rattle.certificate.specs.Timetables.{IsNamedLocal}
-use Rattle.certificate.specs.JobFields.{job_state}
+use Rattle.certificate.specs.declared.job.Demand.{Demand}
 use Rattle.certificate.proofs.BoxPlaces.{start_found, demand_found}
 use Rattle.certificate.proofs.JobLemmas.{within_512, edges_named, halos_named, lists_local, wires_known, cut_count, none_own}
+use Rattle.certificate.proofs.NearLines.{low_edges, low_halos}
 use Rattle.certificate.proofs.PlanLemmas.{locals_have_ports}
 use Rattle.certificate.proofs.jobs.make_job.Goals as goal
 
@@ -55,12 +63,49 @@ schedules-requires-clause-halos c =
     subst (λ ls. All (IsNamedLocal (circuit_of ls) c.in_ok-locals.locals) (halos m)) (sym c.circuit-circuit.ensures)
     (halos_named (setting_of cs c.args.plan.now.layout) m c.in_ok-locals.locals known_wires c.requires.module)
 
+pub schedules-requires-clause-low_edges : goal.schedules-requires-clause-low_edges
+schedules-requires-clause-low_edges c =
+    low_edges (setting_of c.args.plan.now.circuit c.args.plan.now.layout) (record { area = c.args.area; lines = c.args.lines.now }) c.size-size.result
+    (c.size-size.ensures.size ∙ ap (λ p. p.size) c.layout.ensures) c.size-size.ensures.limits c.requires.module
+
+pub schedules-requires-clause-low_halos : goal.schedules-requires-clause-low_halos
+schedules-requires-clause-low_halos c =
+    low_halos (setting_of c.args.plan.now.circuit c.args.plan.now.layout) (record { area = c.args.area; lines = c.args.lines.now }) c.size-size.result
+    (c.size-size.ensures.size ∙ ap (λ p. p.size) c.layout.ensures) c.size-size.ensures.limits c.requires.module
+
+pub schedules-requires-clause-corner : goal.schedules-requires-clause-corner
+schedules-requires-clause-corner c =
+    let w = within_512 (setting_of c.args.plan.now.circuit c.args.plan.now.layout) (record { area = c.args.area; lines = c.args.lines.now }) c.size-size.result
+    (c.size-size.ensures.size ∙ ap (λ p. p.size) c.layout.ensures) c.size-size.ensures.limits c.requires.module in
+    let right = w.0 in
+    let bottom = w.1 in
+    (omega (arith, right), omega (arith, bottom))
+
+-- the shape that is made
+abbrev shape_with : Box2 → ℕ → Netlist → List Signal → List Demand → Signals → Signals → ShapeState
+shape_with area steps netlist starts demands edges halos = record {
+  width = area.w;
+  height = area.h;
+  steps = steps;
+  netlist = netlist;
+  starts = starts;
+  demands = demands;
+  edges = edges;
+  halos = halos;
+  stops = [];
+}
+
 pub invariant_of-result : goal.invariant_of-result
 invariant_of-result c =
-    let m : ModuleLines = record { area = c.args.area; lines = c.args.lines.now } in
-    let limits = within_512 (setting_of c.args.plan.now.circuit c.args.plan.now.layout) m c.size-size.result
+    let area : Box2 = c.args.area in
+    let limits = within_512 (setting_of c.args.plan.now.circuit c.args.plan.now.layout) (record { area = area; lines = c.args.lines.now }) c.size-size.result
     (c.size-size.ensures.size ∙ ap (λ p. p.size) c.layout.ensures) c.size-size.ensures.limits c.requires.module in
-    record {
+    let l = c.in_ok-locals.locals in
+    let s = shape_with area c.size-size.result.steps l.netlist c.in_ok-starts.starts.items c.in_ok-starts.demands.items c.in_ok-edges.edges c.in_ok-edges.halos in
+    let shape_is : arc_value c.in_ok-new.field-0 ≡ s = c.in_ok-new.ensures.ok ∙ (λ i. record s { netlist = c.into_parts-wiring.ensures.wiring i; stops = c.new.ensures.items i }) in
+    let wires_are = c.into_parts-wiring.ensures.wires in
+    let gates_are = c.into_parts-wiring.ensures.gates in
+    let job : IsJob (placed area.x area.y l.circuit_wires l.circuit_gates s) = record {
       even = c.requires.module.even;
       width = (c.requires.module.wide.0, c.requires.module.wide.1, limits.0);
       height = (c.requires.module.high.0, c.requires.module.high.1, limits.1);
@@ -72,37 +117,39 @@ invariant_of-result c =
         edge_events = c.in_ok-edges.ensures.edge_events;
         halo_held = c.in_ok-edges.ensures.halos_held;
         halo_events = c.in_ok-edges.ensures.halo_events;
-        stops = none_own _ c.new.result.items c.new.ensures.items;
+        stops = none_own _ [] refl;
       };
-      no_stops = c.new.ensures.items;
+      no_stops = refl;
+    } in
+    record {
+      job = subst IsJob (sym (λ i. placed area.x area.y (wires_are i) (gates_are i) (shape_is i))) job;
+      sized = ap length wires_are ∙ c.into_parts-wiring.ensures.sized ∙ ap (λ (t : ShapeState). wires t.netlist) (sym shape_is);
+      near_edges = subst (λ (t : ShapeState). All (λ e. IsNear e.at.cell) t.edges.events) (sym shape_is) c.in_ok-edges.ensures.near_edges;
+      near_halos = subst (λ (t : ShapeState). All (λ e. IsNear e.at.cell) t.halos.events) (sym shape_is) c.in_ok-edges.ensures.near_halos;
     }
 
 pub returns : goal.returns
 returns c =
     let cs = c.args.plan.now.circuit in
     let p = c.args.plan.now.layout in
-    let m : ModuleLines = record { area = c.args.area; lines = c.args.lines.now } in
+    let area : Box2 = c.args.area in
+    let m : ModuleLines = record { area = area; lines = c.args.lines.now } in
     let l = c.in_ok-locals.locals in
     let circuit_is = c.circuit-circuit.ensures in
-    let j = job_state (record {
-      area = c.args.area;
-      steps = c.size-size.result.steps;
-      locals = l;
-      starts = c.in_ok-starts.starts;
-      demands = c.in_ok-starts.demands;
-      edges = c.in_ok-edges.edges;
-      halos = c.in_ok-edges.halos;
-      stops = c.new.result;
-    }) in
-    record {
+    let s = shape_with area c.size-size.result.steps l.netlist c.in_ok-starts.starts.items c.in_ok-starts.demands.items c.in_ok-edges.edges c.in_ok-edges.halos in
+    let shape_is : arc_value c.in_ok-new.field-0 ≡ s = c.in_ok-new.ensures.ok ∙ (λ i. record s { netlist = c.into_parts-wiring.ensures.wiring i; stops = c.new.ensures.items i }) in
+    let wires_are = c.into_parts-wiring.ensures.wires in
+    let gates_are = c.into_parts-wiring.ensures.gates in
+    let j = placed area.x area.y l.circuit_wires l.circuit_gates s in
+    let is_job : IsJobOf (circuit_of cs) p m j = record {
       area = refl;
       steps = ap (λ s. s.steps) (c.size-size.ensures.size ∙ ap (λ q. q.size) c.layout.ensures);
       locals = subst (λ ls. AreLocalsOf (netlist_of ls) l) circuit_is c.in_ok-locals.ensures.locals;
       cut = cut_count _ cs p m _ _ circuit_is refl c.in_ok-locals.ensures.given c.requires.module;
       wires = wires_known _ cs m _ _ _ circuit_is refl refl c.in_ok-locals.ensures.wires;
       used = c.in_ok-locals.ensures.gates;
-      start = start_found (circuit_of cs) p c.args.area j refl c.in_ok-starts.ensures.starts;
-      demand = demand_found (circuit_of cs) p c.args.area j refl c.in_ok-starts.ensures.demands;
+      start = start_found (circuit_of cs) p area j refl c.in_ok-starts.ensures.starts;
+      demand = demand_found (circuit_of cs) p area j refl c.in_ok-starts.ensures.demands;
       edges = c.in_ok-edges.ensures.edges ∙ ap (λ ls. line_signals (circuit_of ls) (edges m)) circuit_is;
       halos = c.in_ok-edges.ensures.halos ∙ ap (λ ls. line_signals (circuit_of ls) (halos m)) circuit_is;
       own = record {
@@ -112,7 +159,8 @@ returns c =
         edge_events = c.in_ok-edges.ensures.edge_events;
         halo_held = c.in_ok-edges.ensures.halos_held;
         halo_events = c.in_ok-edges.ensures.halo_events;
-        stops = none_own _ c.new.result.items c.new.ensures.items;
+        stops = none_own _ [] refl;
       };
-      stops = c.new.ensures.items;
-    }
+      stops = refl;
+    } in
+    subst (IsJobOf (circuit_of cs) p m) (sym (λ i. placed area.x area.y (wires_are i) (gates_are i) (shape_is i))) is_job

@@ -1,19 +1,17 @@
 use Rattle.std.proofs.Common.{◌≡◌, ◌&&◌, nat_eq, rules, ap₂, ◌∙◌}
+use Rattle.std.specs.Arc.{arc_value}
 use Rattle.std.specs.Cmp.Lexicographic.{pointwise}
-use Rattle.module_box.specs.Equality.{same_locals, same_signal, same_signals}
-use Rattle.certificate.specs.Equality.{same_box, same_demand, same_job, same_stop}
-use Rattle.certificate.proofs.EqualJobs.{demand_tests, signal_tests}
+use Rattle.certificate.specs.Equality.{same_job, same_shape}
+use Rattle.certificate.proofs.EqualJobs.{parts_tell}
 use Rattle.certificate.proofs.equality.JobPartialEq.eq.Goals as goal
 
 pub returns : goal.returns
 returns c =
     let a = c.self.inside in
     let b = c.other.inside in
-    let area : c.eq-area.result ≡ same_box a.area b.area = search rules in
-    let locals : c.eq-locals.result ≡ same_locals a.locals b.locals = search rules in
-    let starts : c.eq-starts.result ≡ pointwise same_signal a.starts.items b.starts.items = c.eq-starts.ensures ∙ signal_tests a.starts.items b.starts.items in
-    let demands : c.eq-demands.result ≡ pointwise same_demand a.demands.items b.demands.items = c.eq-demands.ensures ∙ demand_tests a.demands.items b.demands.items in
-    let edges : c.eq-edges.result ≡ same_signals a.edges b.edges = search rules in
-    let halos : c.eq-halos.result ≡ same_signals a.halos b.halos = search rules in
-    let stops : c.eq-stops.result ≡ pointwise same_stop a.stops.items b.stops.items = search rules in
-    (λ i. ((((area i && nat_eq a.steps b.steps) && locals i) && (starts i && demands i)) && (edges i && halos i)) && stops i) ∙ ap₂ same_job c.self.view_is c.other.view_is
+    let wires : c.eq-wires.result ≡ pointwise nat_eq a.wires.keys b.wires.keys = search rules in
+    let gates : c.eq-gates.result ≡ pointwise nat_eq a.gates.items b.gates.items = search rules in
+    let shape : c.eq-shape.result ≡ same_shape (arc_value a.shape) (arc_value b.shape) = search rules in
+    (λ i. (((nat_eq a.x b.x && nat_eq a.y b.y) && wires i) && gates i) && shape i)
+    ∙ parts_tell a.x a.y b.x b.y a.wires.keys a.gates.items b.wires.keys b.gates.items (arc_value a.shape) (arc_value b.shape)
+    ∙ ap₂ same_job c.self.view_is c.other.view_is

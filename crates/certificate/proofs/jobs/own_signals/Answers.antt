@@ -1,0 +1,74 @@
+use Rattle.std.proofs.Common.{◌≡◌, ◌≤◌, ℕ, ℤ, List, map, arith, to_z, of_z, w32, sym, ap, ap₂, subst, ◌∙◌}
+use Rattle.std.specs.List.{All, flat_map}
+use Rattle.std.proofs.lemmas.Int.{ints}
+use Rattle.std.proofs.lemmas.Result.{IfOk-weaker}
+use Rattle.circuit.specs.Bridge.{circuit_of}
+use Rattle.circuit.specs.Meaning.{wires}
+use Rattle.module_box.specs.Locals.{circuit_wire}
+use Rattle.module_box.specs.Moves.{IsNear, IsSmall, moved_event, moved_signals}
+use Rattle.module_box.specs.Schedules.{Signals}
+use Rattle.module_box.specs.declared.boxes.Box2.{Box2}
+use Rattle.module_box.specs.declared.schedules.Event.{Event}
+use Rattle.certificate.specs.Shapes.{back, from_corner}
+use Rattle.certificate.specs.Signals.{IsBelow, renumber_signals}
+use Rattle.certificate.specs.Timetables.{borders_in}
+use Rattle.certificate.proofs.NearLines.{low_held, low_events, near_held, near_events, near_moved}
+use Rattle.certificate.proofs.ShapeParts.{placed_again}
+use Rattle.certificate.proofs.jobs.own_signals.Goals as goal
+
+-- a small number is passed as it is
+passed : (z r : ℤ) → r ≡ z → IsSmall r → to_z w32 (of_z w32 r) ≡ z
+passed z r e small = omega (arith, ints, e, small)
+
+pub moved-requires-clause-held : goal.moved-requires-clause-held
+moved-requires-clause-held c =
+    near_held c.in_ok-signals.signals.held
+    (low_held (circuit_wire c.args.locals.now) (circuit_of c.args.circuit.now) (flat_map (borders_in c.args.side) c.args.lines.now) c.in_ok-signals.signals c.in_ok-signals.ensures.same c.requires.low)
+
+pub moved-requires-clause-events : goal.moved-requires-clause-events
+moved-requires-clause-events c =
+    near_events c.in_ok-signals.signals.events
+    (low_events (circuit_wire c.args.locals.now) (circuit_of c.args.circuit.now) (flat_map (borders_in c.args.side) c.args.lines.now) c.in_ok-signals.signals c.in_ok-signals.ensures.same c.requires.low)
+
+-- what is moved back by these numbers
+moved_back : (x y : ℕ) (dx dy : ℤ) (s own : Signals) → dx ≡ back x → IsSmall dx → dy ≡ back y → IsSmall dy →
+    own ≡ moved_signals (to_z w32 (of_z w32 dx)) (to_z w32 (of_z w32 dy)) s → own ≡ moved_signals (back x) (back y) s
+moved_back x y dx dy s own e p f q is = is ∙ ap₂ (λ u v. moved_signals u v s) (passed (back x) dx e p) (passed (back y) dy f q)
+
+-- and so is counted from the corner of the box
+there : (b : Box2) (s own : Signals) → own ≡ moved_signals (back b.x) (back b.y) s → from_corner b own ≡ s
+there b s own is = ap (from_corner b) is ∙ placed_again b.x b.y s
+
+pub returns-clause-same : goal.returns-clause-same
+returns-clause-same c =
+    let s = c.in_ok-signals.signals in
+    IfOk-weaker c.moved.result _ _ (λ own is.
+      ap (renumber_signals (circuit_wire c.args.locals.now)) (there c.args.area s own (moved_back c.args.area.x c.args.area.y _ _ s own c.back.ensures.is c.back.ensures.small c.back-2.ensures.is c.back-2.ensures.small is))
+      ∙ c.in_ok-signals.ensures.same) c.moved.ensures
+
+pub returns-clause-held : goal.returns-clause-held
+returns-clause-held c =
+    let s = c.in_ok-signals.signals in
+    IfOk-weaker c.moved.result _ _ (λ own is.
+      subst (λ (t : Signals). All (λ h. IsBelow (wires c.args.locals.now.netlist) h.signal) t.held)
+      (sym (there c.args.area s own (moved_back c.args.area.x c.args.area.y _ _ s own c.back.ensures.is c.back.ensures.small c.back-2.ensures.is c.back-2.ensures.small is)))
+      c.in_ok-signals.ensures.held) c.moved.ensures
+
+pub returns-clause-events : goal.returns-clause-events
+returns-clause-events c =
+    let s = c.in_ok-signals.signals in
+    IfOk-weaker c.moved.result _ _ (λ own is.
+      subst (λ (t : Signals). All (λ e. IsBelow (wires c.args.locals.now.netlist) e.signal) t.events)
+      (sym (there c.args.area s own (moved_back c.args.area.x c.args.area.y _ _ s own c.back.ensures.is c.back.ensures.small c.back-2.ensures.is c.back-2.ensures.small is)))
+      c.in_ok-signals.ensures.events) c.moved.ensures
+
+pub returns-clause-near : goal.returns-clause-near
+returns-clause-near c =
+    let s = c.in_ok-signals.signals in
+    let x = c.args.area.x in
+    let y = c.args.area.y in
+    let low = low_events (circuit_wire c.args.locals.now) (circuit_of c.args.circuit.now) (flat_map (borders_in c.args.side) c.args.lines.now) s c.in_ok-signals.ensures.same c.requires.low in
+    IfOk-weaker c.moved.result _ _ (λ own is.
+      subst (λ (t : Signals). All (λ (e : Event). IsNear e.at.cell) t.events)
+      (sym (moved_back x y _ _ s own c.back.ensures.is c.back.ensures.small c.back-2.ensures.is c.back-2.ensures.small is))
+      (near_moved x y s.events c.requires.corner.0 c.requires.corner.1 low)) c.moved.ensures

@@ -1,0 +1,16 @@
+-- The fields of a shape, and what contracts see of them
+use Rattle.certificate.specs.Shapes.{ShapeState}
+use Rattle.certificate.specs.declared.shape.Shape.TheInside.{Inside}
+
+abbrev pub shape_state : Inside → ShapeState
+shape_state a = record {
+  width = a.width;
+  height = a.height;
+  steps = a.steps;
+  netlist = a.wiring;
+  starts = a.starts.items;
+  demands = a.demands.items;
+  edges = a.edges;
+  halos = a.halos;
+  stops = a.stops.items;
+}

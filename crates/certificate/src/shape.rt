@@ -1,0 +1,89 @@
+//! The shape of a job: all of it but where it lies.
+ghost use Rattle.std.specs.Prelude.{◌≡◌, slice_get, unwrap_or};
+
+use crate::job::{Demand, Stop};
+use module_box::{Schedule, Signal, Wiring};
+use std::marker::Model;
+
+/// All that the run of a module by itself needs, but where its box lies and which wires and gates of the circuit its own are: as if
+/// the box had its corner at (0, 0). Modules that differ in nothing else have equal shapes. Contracts see it as a `ShapeState`.
+#[derive(Drop)]
+pub struct Shape {
+    pub(crate) width: u32,
+    pub(crate) height: u32,
+    pub(crate) steps: u32,
+    pub(crate) wiring: Wiring,
+    pub(crate) starts: Vec<Signal>,
+    pub(crate) demands: Vec<Demand>,
+    pub(crate) edges: Schedule,
+    pub(crate) halos: Schedule,
+    pub(crate) stops: Vec<Stop>,
+}
+
+impl Model for Shape {
+    ghost use Rattle.certificate.specs.Shapes.{ShapeState};
+
+    ghost Value = { ShapeState };
+
+    ghost use Rattle.certificate.specs.ShapeFields.{shape_state};
+
+    ghost view = { shape_state };
+}
+
+impl Shape {
+    /// The width of the box.
+    pub fn width(&self) -> u32
+        ensures { result ≡ self.now.width }
+    {
+        self.width
+    }
+
+    /// The height of the box.
+    pub fn height(&self) -> u32
+        ensures { result ≡ self.now.height }
+    {
+        self.height
+    }
+
+    /// The steps of the layout.
+    pub fn steps(&self) -> u32
+        ensures { result ≡ self.now.steps }
+    {
+        self.steps
+    }
+
+    /// The gates that the module knows, over wires of its own.
+    pub fn wiring(&self) -> &Wiring
+        ensures { result.now ≡ self.now.netlist }
+    {
+        &self.wiring
+    }
+
+    /// What the cell at a place of the box, whose cells are counted row by row, carries at time 0.
+    pub(crate) fn start(&self, place: usize) -> Signal
+        ensures { result ≡ unwrap_or (slice_get self.now.starts place) Signal.Zero }
+    {
+        self.starts.get(place).copied().unwrap_or(Signal::Zero)
+    }
+
+    /// What the cell at a place of the box is to be at the last time.
+    pub(crate) fn demand(&self, place: usize) -> Demand
+        ensures { result ≡ unwrap_or (slice_get self.now.demands place) Demand.Dead }
+    {
+        self.demands.get(place).copied().unwrap_or(Demand::Dead)
+    }
+
+    /// What the cells of the ring carry at odd times.
+    pub fn edges(&self) -> &Schedule
+        ensures { result.now ≡ self.now.edges }
+    {
+        &self.edges
+    }
+
+    /// What the cells of the halo carry at odd times.
+    pub fn halos(&self) -> &Schedule
+        ensures { result.now ≡ self.now.halos }
+    {
+        &self.halos
+    }
+}
