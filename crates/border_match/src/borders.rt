@@ -4,6 +4,7 @@ ghost use Rattle.std.specs.Arc.{arc_value};
 ghost use Rattle.circuit.specs.Meaning.{wires};
 ghost use Rattle.module_box.specs.Boxes.{in_box, in_halo};
 ghost use Rattle.module_box.specs.Locals.{circuit_wire};
+ghost use Rattle.module_box.specs.Moves.{IsNear};
 ghost use Rattle.module_box.specs.Tiling.{owner_of};
 ghost use Rattle.certificate.specs.Signals.{IsBelow, renumber_signal};
 ghost use Rattle.border_match.specs.Boards.{Differ, Faults, IsEdgeNamed, IsEdgeNamedAt, IsHeld, IsHeldAt, IsHeldInRow, IsNamed, IsReady, is_near, job_edge, job_halo, jobs_of};
@@ -31,30 +32,30 @@ fn circuit_signal(job: &Job, signal: Signal) -> Signal
     requires { IsBelow (wires job.now.locals.netlist) signal }
     ensures { result ≡ renumber_signal (circuit_wire job.now.locals) signal }
 {
-    let locals = job.locals();
-    let _count = locals.wires();
     match signal {
         Signal::Zero => Signal::Zero,
         Signal::One => Signal::One,
-        Signal::Wire(wire) => Signal::Wire(locals.wire(wire).number()),
+        Signal::Wire(wire) => Signal::Wire(job.wire(wire).number()),
     }
 }
 
 // What a module says of a cell of its halo at a time.
 fn halo_signal(job: &Job, time: u32, cell: Cell) -> Signal
+    requires { IsNear cell }
     ensures { result ≡ job_halo job.now time cell.x cell.y }
 {
     // A job names no wires but its own, as its box tells with it.
     let _area = job.area();
-    circuit_signal(job, job.halos().at(time, cell))
+    circuit_signal(job, job.halo(time, cell))
 }
 
 // What a module says of a cell of its ring at a time.
 fn edge_signal(job: &Job, time: u32, cell: Cell) -> Signal
+    requires { IsNear cell }
     ensures { result ≡ job_edge job.now time cell.x cell.y }
 {
     let _area = job.area();
-    circuit_signal(job, job.edges().at(time, cell))
+    circuit_signal(job, job.edge(time, cell))
 }
 
 // Whether the halo of the one box may reach the other.
@@ -123,18 +124,38 @@ impl<'a> Borders<'a> {
         best
     }
 
-    // The least of the candidate and the faults that the events name.
-    fn with_events(&self, best: Option<BorderFault>, events: &[Event]) -> Option<BorderFault>
+    // The lesser of the candidate and the fault that an event names.
+    fn with_event(&self, best: Option<BorderFault>, event: Event) -> Option<BorderFault>
         requires { IsReady self.now }
-        ensures { IsBetter (Faults self.now) (IsNamed events.now) best result }
+        ensures { IsBetter (Faults self.now) (λ h. h ≡ record { time = event.at.time; cell = event.at.cell }) best result }
+    {
+        let fault = BorderFault {
+            time: event.at.time,
+            cell: event.at.cell,
+        };
+        self.with_fault(best, fault)
+    }
+
+    // The least of the candidate and the faults that the events of the module's halo name.
+    fn with_halo_events(&self, best: Option<BorderFault>) -> Option<BorderFault>
+        requires { IsReady self.now }
+        ensures { IsBetter (Faults self.now) (IsNamed self.now.job.now.halos.events) best result }
     {
         let mut least = best;
-        'events: for event in events {
-            let fault = BorderFault {
-                time: event.at.time,
-                cell: event.at.cell,
-            };
-            least = self.with_fault(least, fault);
+        'events: for place in 0..self.job.halo_events() {
+            least = self.with_event(least, self.job.halo_event(place));
+        }
+        least
+    }
+
+    // The least of the candidate and the faults that the events of a module's ring name.
+    fn with_edge_events(&self, best: Option<BorderFault>, other: &Job) -> Option<BorderFault>
+        requires { IsReady self.now }
+        ensures { IsBetter (Faults self.now) (IsNamed other.now.edges.events) best result }
+    {
+        let mut least = best;
+        'events: for place in 0..other.edge_events() {
+            least = self.with_event(least, other.edge_event(place));
         }
         least
     }
@@ -149,7 +170,7 @@ impl<'a> Borders<'a> {
         if !are_near(self.job.area(), other.area()) {
             return best;
         }
-        self.with_events(best, other.edges().events())
+        self.with_edge_events(best, other)
     }
 
     // The least of the candidate and the faults that the edges of the modules name.
@@ -230,7 +251,7 @@ impl<'a> Borders<'a> {
         requires { IsReady self.now }
         ensures { IsLeast (Faults self.now) result }
     {
-        let by_halo = self.with_events(None, self.job.halos().events());
+        let by_halo = self.with_halo_events(None);
         let by_edges = self.with_edges(by_halo);
         self.with_halo(by_edges)
     }

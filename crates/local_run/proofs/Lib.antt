@@ -8,3 +8,4 @@ pub mod Firsts
 pub mod Stepping
 pub mod Leasts
 pub mod ModuleJobs
+pub mod MovedJobs

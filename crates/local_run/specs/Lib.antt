@@ -7,3 +7,4 @@ pub mod Across
 pub mod Lanes
 pub mod Places
 pub mod Scans
+pub mod Moves

@@ -1,10 +1,15 @@
 //! What a run found.
-ghost use Rattle.std.specs.Prelude.{◌≡◌};
+ghost use Rattle.std.specs.Prelude.{◌≡◌, ◌≢◌, Some, IfNone, IfSome};
 ghost use Rattle.std.specs.Arc.{arc_value};
-ghost use Rattle.local_run.specs.Faults.{IsLeastFault, IsLeastFault-prop};
+ghost use Rattle.std.specs.Option.{option_map};
+ghost use Rattle.certificate.specs.Jobs.{IsJob};
+ghost use Rattle.certificate.specs.Shapes.{shape_of};
+ghost use Rattle.local_run.specs.Faults.{IsFault, IsLeastFault, IsLeastFault-prop};
+ghost use Rattle.local_run.specs.Moves.{fault_on};
 
 use crate::fault::Fault;
 use certificate::Job;
+use module_box::moved_cell;
 use std::sync::Arc;
 
 /// What the run of a job found, with the digest of the certificate and the number of the module that it was run for.
@@ -17,6 +22,38 @@ pub struct Finding {
     job: Arc<Job>,
     fault: Option<Fault>,
     pub ghost honest: { IsLeastFault (arc_value job) fault } by { IsLeastFault-prop (arc_value job) fault },
+}
+
+// The fault at the place in the box of `to` that the fault has in the box of `from`.
+fn fault_on(from: &Job, to: &Job, fault: Fault) -> Fault
+    requires { IsFault from.now fault }
+    ensures { result ≡ fault_on from.now to.now fault }
+{
+    let here = from.area();
+    let there = to.area();
+    let columns = there.x as i32 - here.x as i32;
+    let rows = there.y as i32 - here.y as i32;
+    Fault {
+        time: fault.time,
+        kind: fault.kind,
+        cell: moved_cell(fault.cell, columns, rows),
+        assignment: fault.assignment,
+    }
+}
+
+// The least fault of a job is that of each job of the same shape, moved.
+fn least_on(from: &Job, to: &Job, fault: Option<Fault>) -> Option<Fault>
+    requires least { IsLeastFault from.now fault }
+    requires same { shape_of from.now ≡ shape_of to.now }
+    ensures moved { result ≡ option_map (fault_on from.now to.now) fault }
+    ensures least { IsLeastFault to.now result }
+{
+    let _from = from.area();
+    let _to = to.area();
+    match fault {
+        Some(fault) => Some(fault_on(from, to, fault)),
+        None => None,
+    }
 }
 
 impl Finding {
@@ -66,5 +103,25 @@ impl Finding {
         ensures honest { IsLeastFault (job_of self.now) result }
     {
         self.fault
+    }
+
+    /// The finding of another job of the same shape, for a module of this number of the certificate with the same digest, without
+    /// another run: its fault is that of this finding, where the job lies. `None` where the job has another shape. It takes no
+    /// memory.
+    pub fn for_job(&self, number: usize, job: Arc<Job>) -> Option<Finding>
+        ensures shapes { IfSome result (λ _. shape_of (job_of self.now) ≡ shape_of (arc_value job)) }
+        ensures none { IfNone result (shape_of (job_of self.now) ≢ shape_of (arc_value job)) }
+        ensures digest { IfSome result (λ f. digest_of f ≡ digest_of self.now) }
+        ensures number { IfSome result (λ f. number_of f ≡ number) }
+        ensures job { IfSome result (λ f. job_of f ≡ arc_value job) }
+        ensures fault { IfSome result (λ f. fault_of f ≡ option_map (fault_on (job_of self.now) (arc_value job)) (fault_of self.now)) }
+    {
+        let own: &Job = &self.job;
+        let same = **own.shape() == **job.shape();
+        if !same {
+            return None;
+        }
+        let fault = least_on(own, &job, self.fault);
+        Some(Finding::new(self.digest, number, job, fault))
     }
 }

@@ -1,5 +1,6 @@
 //! Laws of findings.
 ghost use Rattle.local_run.specs.Laws.{FindingsAgree, NoneMeansNoFault, LeastFaultIsUnique, FaultsAreDecided, JobsOfOneModuleAgree, StaysInBox};
+ghost use Rattle.local_run.specs.Moves.{FaultsMoveAlong, LeastFaultMovesAlong};
 
 /// Two findings of one job have one fault.
 pub fn findings_agree()
@@ -29,4 +30,10 @@ pub fn jobs_of_one_module_agree()
 /// No cell outside the box is ever live.
 pub fn stays_in_box()
     ensures { StaysInBox }
+{}
+
+/// Jobs of the same shape have the same faults but for where they lie, and so the least fault of one is that of the other, moved.
+pub fn faults_move_along()
+    ensures faults { FaultsMoveAlong }
+    ensures least { LeastFaultMovesAlong }
 {}

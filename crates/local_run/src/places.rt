@@ -61,7 +61,7 @@ pub fn edge_at(job: &Job, time: u32, x: usize, y: usize) -> Signal
     ensures is { result ≡ signal_at job.now.edges time (inner job.now.area.x x) (inner job.now.area.y y) }
     ensures below { IsBelow (wires job.now.locals.netlist) result }
 {
-    job.edges().at(time, inner_cell(job.area(), x, y))
+    job.edge(time, inner_cell(job.area(), x, y))
 }
 
 /// What the cell at a column and row, counted from the halo, carries at an odd time, if it is in the halo.
@@ -70,7 +70,7 @@ pub fn halo_at(job: &Job, time: u32, x: usize, y: usize) -> Signal
     ensures is { result ≡ signal_at job.now.halos time (outer job.now.area.x x) (outer job.now.area.y y) }
     ensures below { IsBelow (wires job.now.locals.netlist) result }
 {
-    job.halos().at(time, outer_cell(job.area(), x, y))
+    job.halo(time, outer_cell(job.area(), x, y))
 }
 
 /// Whether the cell at a column and row of the box is in its ring.

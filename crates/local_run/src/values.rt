@@ -27,10 +27,10 @@ impl Values {
         requires { IsJob job.now }
         ensures { IfOk result (λ vs. IsReady job.now vs) }
     {
-        let locals = job.locals();
-        let count = 1usize << locals.cuts();
+        let wiring = job.wiring();
+        let count = 1usize << wiring.cuts();
         let words = count.div_ceil(64);
-        let rows = locals.value_rows(alloc, words)?;
+        let rows = wiring.value_rows(alloc, words)?;
         Ok(Values { words, count, rows })
     }
 

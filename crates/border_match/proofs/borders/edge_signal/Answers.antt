@@ -8,5 +8,4 @@ use Rattle.border_match.proofs.borders.edge_signal.Goals as goal
 pub circuit_signal-requires : goal.circuit_signal-requires
 circuit_signal-requires c =
     let j = c.args.job.now in
-    let said = c.at.ensures ∙ ap (λ (s : Signals). signal_at s c.args.time c.args.cell.x c.args.cell.y) c.edges.ensures in
-    subst (IsBelow (wires j.locals.netlist)) (sym said) (edge_below j c.args.time c.args.cell.x c.args.cell.y c.area-area.ensures.good.own)
+    subst (IsBelow (wires j.locals.netlist)) (sym c.edge.ensures) (edge_below j c.args.time c.args.cell.x c.args.cell.y c.area-area.ensures.good.own)

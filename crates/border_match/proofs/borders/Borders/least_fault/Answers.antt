@@ -10,6 +10,4 @@ use Rattle.border_match.proofs.borders.Borders.least_fault.Goals as goal
 pub returns : goal.returns
 returns c =
     let b = c.args.self.now in
-    let listed = c.events.ensures.same ∙ ap (λ (s : Signals). s.events) c.halos.ensures in
-    let by_halo = better_for _ _ (IsNamed b.job.now.halos.events) _ _ c.with_events-by_halo.ensures (λ h f p. subst (λ (es : List Event). IsNamed es h) (sym listed) p) in
-    least_by_three _ _ _ _ _ _ _ by_halo c.with_edges-by_edges.ensures c.with_halo.ensures (λ h f. fault_covered b h c.requires f)
+    least_by_three _ _ _ _ _ _ _ c.with_halo_events-by_halo.ensures c.with_edges-by_edges.ensures c.with_halo.ensures (λ h f. fault_covered b h c.requires f)

@@ -23,5 +23,4 @@ returns c =
     let b = c.args.self.now in
     let other = c.deref-other.result.now in
     let got : slice_get (jobs_of b) c.args.number ≡ Some other = job_at arc_value b.jobs.now c.args.number _ other c.requires.number c.deref-other.ensures in
-    let listed = c.events.ensures.same ∙ ap (λ (s : Signals). s.events) c.edges.ensures in
-    better_for _ _ _ _ _ c.with_events.ensures (λ h f p. subst (λ (es : List Event). IsNamed es h) (sym listed) (edges_named b c.args.number other h got p))
+    better_for _ _ _ _ _ c.with_edge_events.ensures (λ h f p. edges_named b c.args.number other h got p)

@@ -2,9 +2,9 @@ use Rattle.std.proofs.Common.{ℕ, subst, ap, ◌∙◌, arith, ◌^◌, ◌≡�
 use Rattle.std.proofs.Math.Pow.{pow_mono}
 use Rattle.std.proofs.lemmas.Nat.{pow_pos}
 use Rattle.std.specs.Int.{div_ceil}
-use Rattle.circuit.specs.Meaning.{AreOrdered, wires}
-use Rattle.module_box.specs.Locals.{LocalNet}
-use Rattle.module_box.specs.LocalValues.{IsLocalValuation, value_of}
+use Rattle.bbm_rule.specs.Bits.{bit}
+use Rattle.circuit.specs.Meaning.{AreOrdered, Netlist, Satisfies, wires}
+use Rattle.module_box.specs.LocalValues.{value_of}
 use Rattle.local_run.specs.Faults.{assignments}
 use Rattle.local_run.proofs.values.Values.of.Goals as goal
 
@@ -23,18 +23,18 @@ value_rows-requires c = (enough c.cuts-count.result c.div_ceil-words.result c.cu
 
 pub returns : goal.returns
 returns c =
-    let e = c.locals-locals.ensures in
+    let e = c.wiring-wiring.ensures.wiring in
     let w = enough c.cuts-count.result c.div_ceil-words.result c.cuts-count.ensures.few c.div_ceil-words.ensures in
     let count : 1 * 2 ^ c.cuts-count.result % 18446744073709551616 ≡ assignments c.args.job.now =
-    shifted c.cuts-count.result c.cuts-count.ensures.few ∙ ap (λ n. 2 ^ n) c.cuts-count.ensures.count ∙ ap (λ (l : LocalNet). 2 ^ l.netlist.given) e in
+    shifted c.cuts-count.result c.cuts-count.ensures.few ∙ ap (λ n. 2 ^ n) c.cuts-count.ensures.count ∙ ap (λ (l : Netlist). 2 ^ l.given) e in
     record {
       job = c.requires;
-      ordered = subst (λ (l : LocalNet). AreOrdered l.netlist.given l.netlist.gates) e c.cuts-count.ensures.ordered;
+      ordered = subst (λ (l : Netlist). AreOrdered l.given l.gates) e c.cuts-count.ensures.ordered;
       wide = (w.0, w.1);
       count = count;
       room = w.2;
       long = let h : length c.in_ok-rows.rows.items ≡ c.div_ceil-words.result * wires c.args.job.now.locals.netlist =
-          c.in_ok-rows.ensures.long ∙ ap (λ (l : LocalNet). c.div_ceil-words.result * wires l.netlist) e in omega (arith, h);
-      local = λ a l. subst (λ (m : LocalNet). IsLocalValuation m a (value_of c.div_ceil-words.result c.in_ok-rows.rows.items a)) e
+          c.in_ok-rows.ensures.long ∙ ap (λ (l : Netlist). c.div_ceil-words.result * wires l) e in omega (arith, h);
+      local = λ a l. subst (λ (m : Netlist). Satisfies m (bit a) (value_of c.div_ceil-words.result c.in_ok-rows.rows.items a)) e
           (c.in_ok-rows.ensures.local a (omega (arith, count, l, w.2)));
     }

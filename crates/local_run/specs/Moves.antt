@@ -1,0 +1,26 @@
+-- Jobs of the same shape, and their faults
+use Rattle.std.specs.Prelude.{◌≡◌, ℤ, pos, ◌-ℤ◌, Option}
+use Rattle.std.specs.Option.{option_map}
+use Rattle.module_box.specs.Moves.{moved_cell}
+use Rattle.certificate.specs.Jobs.{JobState, IsJob}
+use Rattle.certificate.specs.Shapes.{shape_of}
+use Rattle.local_run.specs.Faults.{IsFault, IsLeastFault}
+use Rattle.local_run.specs.declared.fault.Fault.{Fault}
+
+-- how many columns the box of k lies to the right of that of j, and how many rows below
+abbrev pub columns_between : JobState → JobState → ℤ
+columns_between j k = pos k.area.x -ℤ pos j.area.x
+
+abbrev pub rows_between : JobState → JobState → ℤ
+rows_between j k = pos k.area.y -ℤ pos j.area.y
+
+-- the fault at the place in the box of k that f has in the box of j
+abbrev pub fault_on : JobState → JobState → Fault → Fault
+fault_on j k f = record { time = f.time; kind = f.kind; cell = moved_cell (columns_between j k) (rows_between j k) f.cell; assignment = f.assignment }
+
+-- ---- laws: jobs of the same shape have the same faults but for where they lie, and the least one moves along
+abbrev pub FaultsMoveAlong : Type 0
+FaultsMoveAlong = (j k : JobState) (f : Fault) → IsJob j → IsJob k → shape_of j ≡ shape_of k → IsFault j f → IsFault k (fault_on j k f)
+
+abbrev pub LeastFaultMovesAlong : Type 0
+LeastFaultMovesAlong = (j k : JobState) (o : Option Fault) → IsJob j → IsJob k → shape_of j ≡ shape_of k → IsLeastFault j o → IsLeastFault k (option_map (fault_on j k) o)
