@@ -93,6 +93,8 @@ impl<'a> Borders<'a> {
         ensures { IsTrue result ↔ Differ self.now time cell.x cell.y }
     {
         let owner = self.owner(cell);
+        // The cell lies in the owner's box, and so not far away.
+        let _area = owner.area();
         halo_signal(self.job, time, cell) != edge_signal(owner, time, cell)
     }
 
