@@ -28,3 +28,4 @@ pub mod TileLemmas
 mod Spelling
 mod RoundTrip
 pub mod NearLines
+pub mod FirstShapes

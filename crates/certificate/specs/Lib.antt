@@ -19,3 +19,4 @@ pub mod PlanView
 pub mod Equality
 pub mod Shapes
 pub mod ShapeFields
+pub mod Groups

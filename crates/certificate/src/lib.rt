@@ -12,6 +12,7 @@ mod digest;
 mod entry;
 mod equality;
 mod form;
+mod groups;
 mod job;
 mod jobs;
 mod known;
@@ -30,6 +31,7 @@ mod timetable;
 
 pub use cert::Cert;
 pub use entry::{Border, Counts, Entry};
+pub use groups::{job_groups, shape_groups};
 pub use job::{Demand, Job, Stop};
 pub use printing::print_certificate;
 pub use reading::read_certificate;
