@@ -13,3 +13,4 @@ pub mod LocalRows
 pub mod EqualTests
 pub mod SeenValues
 pub mod MovedBoxes
+pub mod Telling

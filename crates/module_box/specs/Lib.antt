@@ -12,3 +12,4 @@ pub mod Equality
 pub mod Laws
 pub mod Moves
 pub mod WiringFields
+pub mod Numbers

@@ -27,8 +27,8 @@ impl Eq for Schedule {
 }
 
 impl LocalGate {
-    // The wires that the gate uses.
-    fn ins(&self) -> &[u16]
+    /// The wires that the gate uses.
+    pub(crate) fn ins(&self) -> &[u16]
         ensures { result.now ≡ (kept_gate self.now).ins }
     {
         &self.ins[..self.kind.ins()]
@@ -53,7 +53,7 @@ impl PartialEq for Wiring {
     ghost laws = { partial_equiv_from_equiv netlist_equivalence };
 
     fn eq(&self, other: &Wiring) -> bool {
-        let given = other.given == self.given;
+        let given = self.given == other.given;
         let gates = self.gates == other.gates;
         given & gates
     }

@@ -2,6 +2,7 @@
 
 ghost use Rattle.module_box.specs.Laws.{ChoicesAreAssignments, EvenStepStaysInBox, FaultMeansNoTiling, StepDependsOnBoxAndHalo, HaloCellIsRingCellOfOwner, LocalsEqualityDecides, LocalValuesAgree, ScheduleEqualityDecides};
 ghost use Rattle.module_box.specs.Moves.{BoxesMoveAlong, SignalsMoveAlong};
+ghost use Rattle.module_box.specs.Numbers.{NumbersTellGates};
 
 /// An even step maps the cells of an even box into the box, and what it makes there depends on the box alone.
 pub fn even_step_stays_in_box()
@@ -41,4 +42,9 @@ pub fn local_values_agree()
 pub fn boxes_and_signals_move_along()
     ensures boxes { BoxesMoveAlong }
     ensures signals { SignalsMoveAlong }
+{}
+
+/// Two wirings with the same numbers are the same, also where more numbers follow.
+pub fn numbers_tell_gates()
+    ensures { NumbersTellGates }
 {}

@@ -17,6 +17,7 @@ mod equalities;
 pub mod laws;
 mod locals;
 mod moving;
+mod numbers;
 mod owners;
 mod schedules;
 mod tile;

@@ -1,5 +1,4 @@
-use Rattle.std.proofs.Common.{◌≡◌, ◌&&◌, map, nat_eq, ap₂, ◌∙◌, arith}
-use Rattle.std.proofs.lemmas.Bool.Decides.{nat_tests}
+use Rattle.std.proofs.Common.{◌≡◌, ◌&&◌, map, nat_eq, ap₂, ◌∙◌}
 use Rattle.std.specs.Cmp.Lexicographic.{pointwise}
 use Rattle.module_box.specs.LocalGates.{kept_gate}
 use Rattle.module_box.specs.Equality.{same_gate, same_netlist}
@@ -10,5 +9,4 @@ pub returns : goal.returns
 returns c =
     let gates : c.eq-gates.result ≡ pointwise same_gate (map kept_gate c.self.inside.gates.items) (map kept_gate c.other.inside.gates.items) =
     c.eq-gates.ensures ∙ same_gates c.self.inside.gates.items c.other.inside.gates.items in
-    let given : nat_eq c.other.inside.given c.self.inside.given ≡ nat_eq c.self.inside.given c.other.inside.given = grind (arith, nat_tests) in
-    (λ i. given i && gates i) ∙ ap₂ same_netlist c.self.view_is c.other.view_is
+    (λ i. nat_eq c.self.inside.given c.other.inside.given && gates i) ∙ ap₂ same_netlist c.self.view_is c.other.view_is

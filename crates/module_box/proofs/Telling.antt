@@ -1,0 +1,89 @@
+-- Lists of numbers that tell what they were made of
+use Rattle.std.proofs.Common.{◌≡◌, ℕ, zero, suc, ◌+◌, List, [], ◌∷◌, ◌++◌, Bool, true, false, length, get_or, nat_eq, refl, sym, ap, ap₂, ◌∙◌, arith}
+use Rattle.std.specs.List.{flat_map, range_with_len}
+use Rattle.std.proofs.lemmas.List.{append_assoc}
+use Rattle.circuit.specs.Gates.{Rule, Source, Fredkin, Cswap, Interact, Switch, Delay, Unswitch, Uninteract}
+use Rattle.circuit.specs.Meaning.{Gate, Netlist}
+use Rattle.module_box.specs.Equality.{rule_place}
+use Rattle.module_box.specs.Numbers.{AreTelling, NumbersTellGates, counted, gate_numbers, netlist_numbers, rule_detail}
+
+range_suc : (a n : ℕ) → range_with_len a (suc n) ≡ range_with_len a n ++ (a + n) ∷ []
+range_suc a zero = ap (λ k. k ∷ []) (omega arith)
+range_suc a (suc n) = ap (λ l. a ∷ l) (range_suc (a + 1) n ∙ ap (λ k. range_with_len (a + 1) n ++ k ∷ []) (omega arith))
+
+pub range_more : (a n : ℕ) → range_with_len a (n + 1) ≡ range_with_len a n ++ (a + n) ∷ []
+range_more a n = let one : n + 1 ≡ suc n = omega arith in ap (range_with_len a) one ∙ range_suc a n
+
+-- ---- lists that begin alike
+pub same_head : {A : Type 0} (x y : A) (xs ys : List A) → x ∷ xs ≡ y ∷ ys → x ≡ y
+same_head x y xs ys e = cc
+
+pub same_tail : {A : Type 0} (x y : A) (xs ys : List A) → x ∷ xs ≡ y ∷ ys → xs ≡ ys
+same_tail x y xs ys e = cc
+
+same_length : {A : Type 0} (xs ys r s : List A) → length xs ≡ length ys → xs ++ r ≡ ys ++ s → (xs ≡ ys) × (r ≡ s)
+same_length [] [] r s n e = (refl, e)
+same_length [] (y ∷ ys) r s n e = absurd (omega (arith, n))
+same_length (x ∷ xs) [] r s n e = absurd (omega (arith, n))
+same_length (x ∷ xs) (y ∷ ys) r s n e =
+    let rest = same_length xs ys r s (omega (arith, n)) (same_tail x y (xs ++ r) (ys ++ s) e) in
+    (ap₂ (λ z zs. z ∷ zs) (same_head x y (xs ++ r) (ys ++ s) e) rest.0, rest.1)
+
+-- a list of numbers, after its length
+abbrev pub listed : List ℕ → List ℕ
+listed xs = length xs ∷ xs
+
+pub lists_tell : AreTelling listed
+lists_tell xs ys r s e = same_length xs ys r s (same_head (length xs) (length ys) (xs ++ r) (ys ++ s) e) (same_tail (length xs) (length ys) (xs ++ r) (ys ++ s) e)
+
+all_tell : {A : Type 0} (f : A → List ℕ) → AreTelling f → (xs ys : List A) (r s : List ℕ) → length xs ≡ length ys → flat_map f xs ++ r ≡ flat_map f ys ++ s → (xs ≡ ys) × (r ≡ s)
+all_tell f tell [] [] r s n e = (refl, e)
+all_tell f tell [] (y ∷ ys) r s n e = absurd (omega (arith, n))
+all_tell f tell (x ∷ xs) [] r s n e = absurd (omega (arith, n))
+all_tell f tell (x ∷ xs) (y ∷ ys) r s n e =
+    let first = tell x y (flat_map f xs ++ r) (flat_map f ys ++ s) (sym (append_assoc (f x) (flat_map f xs) r) ∙ e ∙ append_assoc (f y) (flat_map f ys) s) in
+    let rest = all_tell f tell xs ys r s (omega (arith, n)) first.1 in
+    (ap₂ (λ z zs. z ∷ zs) first.0 rest.0, rest.1)
+
+pub counted_tell : {A : Type 0} (f : A → List ℕ) → AreTelling f → AreTelling (counted f)
+counted_tell f tell xs ys r s e =
+    all_tell f tell xs ys r s (same_head (length xs) (length ys) (flat_map f xs ++ r) (flat_map f ys ++ s) e) (same_tail (length xs) (length ys) (flat_map f xs ++ r) (flat_map f ys ++ s) e)
+
+pub number_tells : AreTelling (λ (n : ℕ). n ∷ [])
+number_tells n m r s e = (same_head n m r s e, same_tail n m r s e)
+
+-- ---- gates
+rule_from : ℕ → ℕ → Rule
+rule_from place detail = get_or (Source (nat_eq detail 1) ∷ Fredkin ∷ Cswap ∷ Interact ∷ Switch ∷ Delay detail ∷ Unswitch ∷ []) place Uninteract
+
+rule_back : (r : Rule) → rule_from (rule_place r) (rule_detail r) ≡ r
+unfolding rule_from
+rule_back (Source true) = refl
+rule_back (Source false) = refl
+rule_back Fredkin = refl
+rule_back Cswap = refl
+rule_back Interact = refl
+rule_back Switch = refl
+rule_back (Delay n) = refl
+rule_back Unswitch = refl
+rule_back Uninteract = refl
+
+rules_tell : AreTelling (λ (r : Rule). rule_place r ∷ rule_detail r ∷ [])
+rules_tell a b r s e =
+    let place = same_head (rule_place a) (rule_place b) (rule_detail a ∷ r) (rule_detail b ∷ s) e in
+    let rest = same_tail (rule_place a) (rule_place b) (rule_detail a ∷ r) (rule_detail b ∷ s) e in
+    (sym (rule_back a) ∙ ap₂ rule_from place (same_head (rule_detail a) (rule_detail b) r s rest) ∙ rule_back b, same_tail (rule_detail a) (rule_detail b) r s rest)
+
+gates_tell : AreTelling gate_numbers
+gates_tell g h r s e =
+    let kinds = rules_tell g.kind h.kind ((listed g.ins ++ listed g.outs) ++ r) ((listed h.ins ++ listed h.outs) ++ s) e in
+    let ins = lists_tell g.ins h.ins (listed g.outs ++ r) (listed h.outs ++ s) (sym (append_assoc (listed g.ins) (listed g.outs) r) ∙ kinds.1 ∙ append_assoc (listed h.ins) (listed h.outs) s) in
+    let outs = lists_tell g.outs h.outs r s ins.1 in
+    (λ i. record { kind = kinds.0 i; ins = ins.0 i; outs = outs.0 i }, outs.1)
+
+pub netlists_tell : NumbersTellGates
+unfolding netlist_numbers
+netlists_tell n m r s e =
+    let given = same_head n.given m.given (counted gate_numbers n.gates ++ r) (counted gate_numbers m.gates ++ s) e in
+    let gates = counted_tell gate_numbers gates_tell n.gates m.gates r s (same_tail n.given m.given (counted gate_numbers n.gates ++ r) (counted gate_numbers m.gates ++ s) e) in
+    (λ i. record { given = given i; gates = gates.0 i }, gates.1)

@@ -1,0 +1,5 @@
+use Rattle.module_box.proofs.Telling.{netlists_tell}
+use Rattle.module_box.proofs.laws.numbers_tell_gates.Goals as goal
+
+pub returns : goal.returns
+returns c = netlists_tell

@@ -1,0 +1,37 @@
+-- Numbers that tell gates over wires apart from all others
+use Rattle.std.specs.Prelude.{◌≡◌, ℕ, List, [], ◌∷◌, ◌++◌, length}
+use Rattle.std.specs.List.{flat_map}
+use Rattle.bbm_rule.specs.Plane.{one_if}
+use Rattle.circuit.specs.Gates.{Rule, Source, Fredkin, Cswap, Interact, Switch, Delay, Unswitch, Uninteract}
+use Rattle.circuit.specs.Meaning.{Gate, Netlist}
+use Rattle.module_box.specs.Equality.{rule_place}
+
+-- how many there are, then the numbers of each
+abbrev pub counted : {A : Type 0} → (A → List ℕ) → List A → List ℕ
+counted numbers xs = length xs ∷ flat_map numbers xs
+
+-- the numbers of one thing tell it, whatever stands behind them
+abbrev pub AreTelling : {A : Type 0} → (A → List ℕ) → Type 0
+AreTelling {A} numbers = (a b : A) (r s : List ℕ) → numbers a ++ r ≡ numbers b ++ s → (a ≡ b) × (r ≡ s)
+
+-- the bit of a source, the number of a delay
+abbrev pub rule_detail : Rule → ℕ
+rule_detail (Source b) = one_if b
+rule_detail Fredkin = 0
+rule_detail Cswap = 0
+rule_detail Interact = 0
+rule_detail Switch = 0
+rule_detail (Delay n) = n
+rule_detail Unswitch = 0
+rule_detail Uninteract = 0
+
+-- what the gate does, the wires that it uses, and those that it defines
+abbrev pub gate_numbers : Gate → List ℕ
+gate_numbers g = rule_place g.kind ∷ rule_detail g.kind ∷ (length g.ins ∷ g.ins) ++ (length g.outs ∷ g.outs)
+
+unfoldable pub netlist_numbers : Netlist → List ℕ
+netlist_numbers n = n.given ∷ counted gate_numbers n.gates
+
+-- ---- law
+abbrev pub NumbersTellGates : Type 0
+NumbersTellGates = AreTelling netlist_numbers

@@ -1,0 +1,93 @@
+//! Numbers that tell the gates of a module apart from all others.
+
+ghost use Rattle.std.specs.Prelude.{◌≡◌, ◌≤◌, ◌∷◌, ◌++◌, map, length, IfOk, OnOk};
+ghost use Rattle.std.specs.List.{flat_map, range_with_len};
+ghost use Rattle.circuit.specs.Gates.{rule_of};
+ghost use Rattle.module_box.specs.Equality.{rule_place};
+ghost use Rattle.module_box.specs.LocalGates.{kept_gate};
+ghost use Rattle.module_box.specs.Numbers.{gate_numbers, netlist_numbers, rule_detail};
+
+use crate::locals::LocalGate;
+use crate::wiring::Wiring;
+use circuit::GateKind;
+use std::alloc::{AllocError, Global};
+
+fn place_of(kind: GateKind) -> u32
+    ensures { result ≡ rule_place (rule_of kind) }
+{
+    match kind {
+        GateKind::Source(_) => 0,
+        GateKind::Fredkin => 1,
+        GateKind::Cswap => 2,
+        GateKind::Interact => 3,
+        GateKind::Switch => 4,
+        GateKind::Delay(_) => 5,
+    }
+}
+
+fn detail_of(kind: GateKind) -> u32
+    ensures { result ≡ rule_detail (rule_of kind) }
+{
+    match kind {
+        GateKind::Source(true) => 1,
+        GateKind::Delay(steps) => steps,
+        _ => 0,
+    }
+}
+
+// Adds how many wires these are, and then their numbers.
+fn push_wires(numbers: &mut Vec<u32>, wires: &[u16]) -> Result<(), AllocError>
+    requires { length wires.now ≤ 4 }
+    ensures { OnOk result (numbers.new.items ≡ numbers.old.items ++ length wires.now ∷ wires.now) }
+{
+    numbers.push(wires.len() as u32)?;
+    for wire in wires {
+        numbers.push(*wire as u32)?;
+    }
+    Ok(())
+}
+
+// The same of `count` wires from `first` on.
+fn push_wires_from(numbers: &mut Vec<u32>, first: u16, count: usize) -> Result<(), AllocError>
+    requires { count ≤ 4 }
+    ensures { OnOk result (numbers.new.items ≡ numbers.old.items ++ count ∷ range_with_len first count) }
+{
+    numbers.push(count as u32)?;
+    for place in 0..count {
+        numbers.push(first as u32 + place as u32)?;
+    }
+    Ok(())
+}
+
+fn push_gate(numbers: &mut Vec<u32>, gate: &LocalGate) -> Result<(), AllocError>
+    ensures { OnOk result (numbers.new.items ≡ numbers.old.items ++ gate_numbers (kept_gate gate.now)) }
+{
+    numbers.push(place_of(gate.kind))?;
+    numbers.push(detail_of(gate.kind))?;
+    push_wires(numbers, gate.ins())?;
+    push_wires_from(numbers, gate.first, gate.kind.outs())
+}
+
+fn push_gates(numbers: &mut Vec<u32>, gates: &[LocalGate]) -> Result<(), AllocError>
+    ensures { OnOk result (numbers.new.items ≡ numbers.old.items ++ flat_map gate_numbers (map kept_gate gates.now)) }
+{
+    for gate in gates {
+        push_gate(numbers, gate)?;
+    }
+    Ok(())
+}
+
+impl Wiring {
+    /// Numbers that tell the wiring: how many wires are given, how many gates there are, and for each what it does, the wires that
+    /// it uses and those that it defines. Two that differ have different numbers. `AllocError` is want of memory.
+    #[tactic(auto, unfolding(crate::specs::Numbers::netlist_numbers))]
+    pub fn numbers(&self, alloc: Global) -> Result<Vec<u32>, AllocError>
+        ensures { IfOk result (λ numbers. numbers.items ≡ netlist_numbers self.now) }
+    {
+        let mut numbers = Vec::new(alloc);
+        numbers.push(self.given as u32)?;
+        numbers.push(self.gates.len() as u32)?;
+        push_gates(&mut numbers, &self.gates)?;
+        Ok(numbers)
+    }
+}
