@@ -1,5 +1,6 @@
 //! The locked book.
 ghost use Rattle.std.specs.Prelude.{◌≡◌, ◌≢◌, ◌≤◌, ◌<◌, ℕ, [], replicate, IfErr, IfOk, OnErr};
+ghost use Rattle.local_run.specs.Shown.{digest_of, job_of, number_of};
 ghost use Rattle.audit_core.specs.declared.reply.Reply.TheVariants.{Closed};
 ghost use Rattle.verdict_book.specs.Counts.{counted, no_counts};
 ghost use Rattle.verdict_book.specs.Replies.{IsReplyOf};
@@ -20,6 +21,7 @@ use std::sync::{Mutex, Wait};
 pub struct Book<F: Filings, A: Ledger> {
     pub(crate) kept: Mutex<Kept<F, A>>,
     pub(crate) shares: usize,
+    pub(crate) digest: [u8; 32],
 }
 
 impl<F: Filings, A: Ledger> Model for Book<F, A> {
@@ -27,7 +29,7 @@ impl<F: Filings, A: Ledger> Model for Book<F, A> {
 
     ghost view = { λ b. b.shares };
 
-    ghost invariant = { λ b. (b.shares ≡ F.parts) × (b.shares ≡ A.parts) × (0 < b.shares) };
+    ghost invariant = { λ b. (b.shares ≡ F.parts) × (b.shares ≡ A.parts) × (0 < b.shares) × (b.digest ≡ F.digest) };
 }
 
 impl<F: Filings, A: Ledger> Book<F, A> {
@@ -55,8 +57,21 @@ impl<F: Filings, A: Ledger> Book<F, A> {
             let share = Share::new(all_filings.split_off(1, 0), all_acceptances.split_off(1, 0));
             parts.push(share)?;
         }
+        let digest = state.digest();
         let kept = Mutex::new(Kept::new(state, filings, acceptances));
-        Ok((Book { kept, shares }, parts))
+        let book = Book {
+            kept,
+            shares,
+            digest,
+        };
+        Ok((book, parts))
+    }
+
+    /// The digest that the book is for.
+    pub fn digest(&self) -> [u8; 32]
+        ensures { result ≡ F.digest }
+    {
+        self.digest
     }
 
     /// Files a finding, in one turn under the lock, for which it may wait. The reply is what the finding's digest, number and job
@@ -69,7 +84,7 @@ impl<F: Filings, A: Ledger> Book<F, A> {
         mine: &mut Share<F, A>,
         finding: Finding,
     ) -> Result<Reply, NotFiled>
-        ensures reply { IfOk result (IsReplyOf F.digest F.jobs finding) }
+        ensures reply { IfOk result (IsReplyOf F.digest F.jobs (digest_of finding) (number_of finding) (job_of finding)) }
         ensures not_closed { IfOk result (λ r. r ≢ Closed) }
         ensures counted { IfOk result (λ r. mine.new ≡ counted mine.old r) }
         ensures unchanged { OnErr result (mine.new ≡ mine.old) }

@@ -47,6 +47,6 @@ pub fn gather<F: Filings, A: Ledger>(
     if shares.len() < book.shares {
         return Err(NotAll { book, shares });
     }
-    let Book { kept, shares: _ } = book;
+    let Book { kept, .. } = book;
     Ok(kept.into_inner().total(shares))
 }

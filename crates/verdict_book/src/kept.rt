@@ -2,6 +2,7 @@
 ghost use Rattle.std.specs.Prelude.{◌≡◌, ◌≢◌, ◌<◌, ◌≤◌, false, [], length, sum_by, vec_len, IfErr, IfOk, OnErr, OnOk};
 ghost use Rattle.audit_core.specs.Book.{IsReplayed, accepted_in, after_filing, reply_to};
 ghost use Rattle.audit_core.specs.Replay.{has_closing};
+ghost use Rattle.local_run.specs.Shown.{digest_of, job_of, number_of};
 
 use crate::filings::Filings;
 use crate::gathering::Gathered;
@@ -60,7 +61,7 @@ impl<F: Filings, A: Ledger> Kept<F, A> {
     ) -> Result<Reply, NotFiled>
         ensures reply { IfOk result (λ r. r ≡ reply_to self.old.state finding) }
         ensures after { OnOk result (self.new.state ≡ after_filing self.old.state finding) }
-        ensures of_book { IfOk result (IsReplyOf F.digest F.jobs finding) }
+        ensures of_book { IfOk result (IsReplyOf F.digest F.jobs (digest_of finding) (number_of finding) (job_of finding)) }
         ensures not_closed { IfOk result (λ r. r ≢ Closed) }
         ensures counted { IfOk result (λ r. mine.new ≡ counted mine.old r) }
         ensures unchanged { OnErr result ((self.new.state ≡ self.old.state) × (mine.new ≡ mine.old)) }
