@@ -2,3 +2,4 @@ pub mod Sums
 pub mod Moves
 pub mod Ends
 pub mod Filed
+pub mod Risen

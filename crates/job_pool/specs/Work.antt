@@ -1,5 +1,5 @@
 -- What workers did
-use Rattle.std.specs.Prelude.{◌≡◌, ℕ, ◌+◌, ◌<◌, false, List, map, sum_by}
+use Rattle.std.specs.Prelude.{◌≡◌, ℕ, ◌+◌, ◌<◌, ◌≤◌, false, List, map, slice_index_or, sum_by, length}
 use Rattle.audit_core.specs.Draws.{end_of}
 use Rattle.verdict_book.specs.Counts.{Counts}
 use Rattle.job_pool.specs.Lists.{early}
@@ -12,6 +12,16 @@ use Rattle.job_pool.specs.declared.worker.Worker.{Worker}
 abbrev pub filed_by : List Counts → ℕ
 filed_by shares = sum_by (λ (s : Counts). s.filed) shares
 
+-- a share counted this, and then more
+pub record HasRisen (before after : Counts) : Type 0 where
+  pub filed : before.filed ≤ after.filed
+  pub accepted : before.accepted ≤ after.accepted
+
+-- as many shares, and each has counted more, or nothing more
+pub record HaveRisen (before after : List Counts) : Type 0 where
+  pub count : length after ≡ length before
+  pub each : (i : ℕ) (d : Counts) → i < length before → HasRisen (slice_index_or before i d) (slice_index_or after i d)
+
 module _ {F A : Type 0} where
   -- a worker that may begin
   abbrev pub IsReady : Desk → Worker F A → Type 0
@@ -20,6 +30,7 @@ module _ {F A : Type 0} where
   -- A worker that did not stop for want of memory filed as many findings as it drew numbers of the desk, and drew on to the end
   pub record HasWorked (desk : Desk) (before after : Worker F A) : Type 0 where
     pub seat : IsSeatOf desk after.seat
+    pub risen : HasRisen before.share after.share
     pub filed : after.starved ≡ false → after.share.filed ≡ before.share.filed + early (numbers_of desk) (drawn_by after.seat)
     pub ended : after.starved ≡ false → numbers_of desk < end_of (drawn_by after.seat)
 

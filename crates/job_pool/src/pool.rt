@@ -1,22 +1,22 @@
 //! Workers in threads of their own.
 ghost use Rattle.std.specs.Prelude.{◌≡◌, ℕ, ◌+◌, ◌<◌, ◌≤◌, false, [], length, slice_index_or, vec_len, vec_capacity, All, IfOk};
 ghost use Rattle.job_pool.specs.Seats.{IsNewSeatOf, numbers_of, seats_opened};
-ghost use Rattle.job_pool.specs.Work.{HasWorked, IsReady, filed_by, seats_of, shares_of};
+ghost use Rattle.job_pool.specs.Work.{HasWorked, HaveRisen, IsReady, filed_by, seats_of, shares_of};
 
 use crate::desk::{Desk, DeskSeat};
 use crate::gate::Gate;
-use crate::worker::Worker;
+use crate::worker::{Site, Worker};
 use certificate::Job;
 use std::alloc::{AllocError, Global};
 use std::sync::ledger::Ledger;
 use std::sync::{Arc, Wait};
 use std::thread;
 use std::thread::Threads;
-use verdict_book::{Book, Share};
+use verdict_book::{Book, Filings, Share};
 
 /// What is left where all workers have ended.
 #[derive(Drop)]
-pub struct WorkEnd<F: Ledger, A: Ledger> {
+pub struct WorkEnd<F: Filings, A: Ledger> {
     /// All shares that were handed in, in their order.
     pub shares: Vec<Share<F, A>>,
     /// Whether there was no memory for something. Otherwise the finding of each job was filed.
@@ -25,29 +25,28 @@ pub struct WorkEnd<F: Ledger, A: Ledger> {
 
 // Room for the workers, and later for their seats and shares.
 #[derive(Drop)]
-struct Rooms<F: Ledger, A: Ledger> {
+struct Rooms<F: Filings, A: Ledger> {
     workers: Vec<Worker<F, A>>,
     seats: Vec<DeskSeat>,
     shares: Vec<Share<F, A>>,
 }
 
-/// Runs all jobs and files their findings, by one worker a share. Each worker draws numbers at a desk, runs their jobs and
-/// files the findings, in a thread of its own where one can be made, until no number is left.
+/// Runs all jobs and files their findings under the book's digest, by one worker a share. Each worker draws numbers at a desk, runs
+/// their jobs and files the findings, in a thread of its own where one can be made, until no number is left.
 ///
 /// There are at most 1024 jobs, numbered from 0 in their order, and 1 to 64 shares of the book. All workers have ended when it
-/// returns. A worker that finds no memory stops, and leaves the numbers that are left to the others.
-pub fn work<F: Ledger + Sync, A: Ledger + Sync, G: Gate + Sync, R: Threads + Wait + Sync>(
+/// returns. A worker that finds no memory stops, and leaves the numbers that are left to the others. No share counts less than before.
+pub fn work<F: Filings + Sync, A: Ledger + Sync, G: Gate + Sync, R: Threads + Wait + Sync>(
     rt: &R,
     alloc: Global,
     gate: &G,
-    digest: [u8; 32],
     jobs: &[Arc<Job>],
     book: &Book<F, A>,
     shares: Vec<Share<F, A>>,
 ) -> WorkEnd<F, A>
     requires jobs { length jobs.now ≤ 1024 }
     requires shares { (0 < vec_len shares) × (vec_len shares ≤ 64) }
-    ensures back { vec_len result.shares ≡ vec_len shares }
+    ensures shares { HaveRisen shares.items result.shares.items }
     ensures filed { result.memory ≡ false → filed_by result.shares.items ≡ filed_by shares.items + length jobs.now }
 {
     let Ok((desk, seats, rooms)) = prepare(alloc, jobs.len(), shares.len()) else {
@@ -62,16 +61,13 @@ pub fn work<F: Ledger + Sync, A: Ledger + Sync, G: Gate + Sync, R: Threads + Wai
         shares: returned,
     } = rooms;
     let mut workers = hire(seats, shares, workers, &desk);
-    run_all(
-        rt,
-        alloc,
+    let site = Site {
         gate,
-        digest,
         jobs,
-        &desk,
+        desk: &desk,
         book,
-        workers.as_mut_slice(),
-    );
+    };
+    run_all(rt, alloc, &site, workers.as_mut_slice());
     let (seats, shares, starved) = dismiss(workers, ended, returned);
     let Ok(_closed) = desk.close(alloc, seats) else {
         return WorkEnd {
@@ -86,7 +82,7 @@ pub fn work<F: Ledger + Sync, A: Ledger + Sync, G: Gate + Sync, R: Threads + Wai
 }
 
 // A desk, and room for its workers.
-fn prepare<F: Ledger, A: Ledger>(
+fn prepare<F: Filings, A: Ledger>(
     alloc: Global,
     numbers: usize,
     count: usize,
@@ -110,7 +106,7 @@ fn prepare<F: Ledger, A: Ledger>(
 }
 
 // One worker for each share.
-fn hire<F: Ledger, A: Ledger>(
+fn hire<F: Filings, A: Ledger>(
     mut seats: Vec<DeskSeat>,
     shares: Vec<Share<F, A>>,
     mut workers: Vec<Worker<F, A>>,
@@ -138,32 +134,28 @@ fn hire<F: Ledger, A: Ledger>(
 }
 
 // Each worker runs in a thread of its own.
-fn run_all<F: Ledger + Sync, A: Ledger + Sync, G: Gate + Sync, R: Threads + Wait + Sync>(
+fn run_all<F: Filings + Sync, A: Ledger + Sync, G: Gate + Sync, R: Threads + Wait + Sync>(
     rt: &R,
     alloc: Global,
-    gate: &G,
-    digest: [u8; 32],
-    jobs: &[Arc<Job>],
-    desk: &Desk,
-    book: &Book<F, A>,
+    site: &Site<'_, F, A, G>,
     workers: &mut [Worker<F, A>],
 )
     requires some { 0 < length workers.old }
-    requires ready { All (IsReady desk.now) workers.old }
-    requires all { numbers_of desk.now ≡ length jobs.now }
-    ensures { (i : ℕ) (d : _) → i < length workers.old → HasWorked desk.now (slice_index_or workers.old i d) (slice_index_or workers.new i d) }
+    requires ready { All (IsReady site.now.desk.now) workers.old }
+    requires all { numbers_of site.now.desk.now ≡ length site.now.jobs.now }
+    ensures { (i : ℕ) (d : _) → i < length workers.old → HasWorked site.now.desk.now (slice_index_or workers.old i d) (slice_index_or workers.new i d) }
 {
     let threads = workers.len();
     thread::for_each_mut(
         rt,
         workers,
         threads,
-        &|_, worker| worker.run(rt, alloc, gate, digest, jobs, desk, book),
+        &|_, worker| worker.run(rt, alloc, site),
     );
 }
 
 // The seats and the shares, and whether a worker stopped for want of memory.
-fn dismiss<F: Ledger, A: Ledger>(
+fn dismiss<F: Filings, A: Ledger>(
     workers: Vec<Worker<F, A>>,
     mut seats: Vec<DeskSeat>,
     mut shares: Vec<Share<F, A>>,

@@ -1,8 +1,11 @@
 //! The locked book.
 ghost use Rattle.std.specs.Prelude.{◌≡◌, ◌≢◌, ◌≤◌, ◌<◌, ℕ, [], replicate, IfErr, IfOk, OnErr};
+ghost use Rattle.local_run.specs.Shown.{digest_of, job_of, number_of};
 ghost use Rattle.audit_core.specs.declared.reply.Reply.TheVariants.{Closed};
 ghost use Rattle.verdict_book.specs.Counts.{counted, no_counts};
+ghost use Rattle.verdict_book.specs.Replies.{IsReplyOf};
 
+use crate::filings::Filings;
 use crate::kept::Kept;
 use crate::share::Share;
 use audit_core::{BookState, NotFiled, Reply};
@@ -13,24 +16,25 @@ use std::sync::ledger::{Blank, Ledger};
 use std::sync::{Mutex, Wait};
 
 /// A book that threads share, over a ledger `F` of filings and a ledger `A` of acceptances. Its shares name both, so a share of
-/// another book does not fit. Contracts see it as the number of its shares.
+/// another book does not fit. `F` has the digest and the jobs of the book. Contracts see it as the number of its shares.
 #[derive(Drop)]
-pub struct Book<F: Ledger, A: Ledger> {
+pub struct Book<F: Filings, A: Ledger> {
     pub(crate) kept: Mutex<Kept<F, A>>,
     pub(crate) shares: usize,
+    pub(crate) digest: [u8; 32],
 }
 
-impl<F: Ledger, A: Ledger> Model for Book<F, A> {
+impl<F: Filings, A: Ledger> Model for Book<F, A> {
     ghost Value = { ℕ };
 
     ghost view = { λ b. b.shares };
 
-    ghost invariant = { λ b. (b.shares ≡ F.parts) × (b.shares ≡ A.parts) × (0 < b.shares) };
+    ghost invariant = { λ b. (b.shares ≡ F.parts) × (b.shares ≡ A.parts) × (0 < b.shares) × (b.digest ≡ F.digest) };
 }
 
-impl<F: Ledger, A: Ledger> Book<F, A> {
+impl<F: Filings, A: Ledger> Book<F, A> {
     /// Puts a state without history under a lock, with 1 to 64 shares, of which none has counted anything. Each blank is its
-    /// ledger's, and has as many parts. `AllocError` is want of memory: all that was given is dropped.
+    /// ledger's, and has as many parts; the digest and the jobs are those that `F` names. `AllocError` is want of memory: all that was given is dropped.
     pub fn open(
         alloc: Global,
         f: Blank,
@@ -41,6 +45,7 @@ impl<F: Ledger, A: Ledger> Book<F, A> {
         requires filings { (f.name ≡ F.name) × (f.parts ≡ F.parts) × (f.parts ≡ shares) }
         requires acceptances { (a.name ≡ A.name) × (a.parts ≡ A.parts) × (a.parts ≡ shares) }
         requires count { (0 < shares) × (shares ≤ 64) }
+        requires own { (state.digest ≡ F.digest) × (state.jobs ≡ F.jobs) }
         requires fresh { state.history ≡ [] }
         ensures book { IfOk result (λ r. r.0 ≡ shares) }
         ensures shares { IfOk result (λ r. r.1.items ≡ replicate shares no_counts) }
@@ -52,11 +57,25 @@ impl<F: Ledger, A: Ledger> Book<F, A> {
             let share = Share::new(all_filings.split_off(1, 0), all_acceptances.split_off(1, 0));
             parts.push(share)?;
         }
+        let digest = state.digest();
         let kept = Mutex::new(Kept::new(state, filings, acceptances));
-        Ok((Book { kept, shares }, parts))
+        let book = Book {
+            kept,
+            shares,
+            digest,
+        };
+        Ok((book, parts))
     }
 
-    /// Files a finding, in one turn under the lock, for which it may wait. The reply is not `Closed`. The share counts it.
+    /// The digest that the book is for.
+    pub fn digest(&self) -> [u8; 32]
+        ensures { result ≡ F.digest }
+    {
+        self.digest
+    }
+
+    /// Files a finding, in one turn under the lock, for which it may wait. The reply is what the finding's digest, number and job
+    /// say beside those of the book: where all agree, `Accepted` or `Double` of its number. The share counts it.
     ///
     /// `NotFiled` is want of memory: the finding comes back, and the share is as before.
     pub fn file<R: Wait>(
@@ -65,6 +84,7 @@ impl<F: Ledger, A: Ledger> Book<F, A> {
         mine: &mut Share<F, A>,
         finding: Finding,
     ) -> Result<Reply, NotFiled>
+        ensures reply { IfOk result (IsReplyOf F.digest F.jobs (digest_of finding) (number_of finding) (job_of finding)) }
         ensures not_closed { IfOk result (λ r. r ≢ Closed) }
         ensures counted { IfOk result (λ r. mine.new ≡ counted mine.old r) }
         ensures unchanged { OnErr result (mine.new ≡ mine.old) }

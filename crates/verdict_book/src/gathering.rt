@@ -4,6 +4,7 @@ ghost use Rattle.audit_core.specs.Book.{IsReplayed, accepted_in};
 ghost use Rattle.audit_core.specs.Replay.{has_closing};
 
 use crate::book::Book;
+use crate::filings::Filings;
 use crate::share::Share;
 use audit_core::BookState;
 use std::sync::ledger::Ledger;
@@ -20,7 +21,7 @@ pub struct Gathered {
 
 /// The book and the shares that are there, since one is missing.
 #[derive(Drop)]
-pub struct NotAll<F: Ledger, A: Ledger> {
+pub struct NotAll<F: Filings, A: Ledger> {
     pub book: Book<F, A>,
     pub shares: Vec<Share<F, A>>,
 }
@@ -28,12 +29,13 @@ pub struct NotAll<F: Ledger, A: Ledger> {
 /// Takes a book out of its lock, and adds up what all its shares counted.
 ///
 /// `NotAll` says that a share is missing: it is tested before any is joined, and all that was given comes back. Takes no memory.
-pub fn gather<F: Ledger, A: Ledger>(
+pub fn gather<F: Filings, A: Ledger>(
     book: Book<F, A>,
     shares: Vec<Share<F, A>>,
 ) -> Result<Gathered, NotAll<F, A>>
     ensures missing { IsErr result ↔ (vec_len shares < book) }
     ensures returned { IfErr result (λ e. (e.book ≡ book) × (e.shares ≡ shares)) }
+    ensures own { IfOk result (λ g. (g.state.digest ≡ F.digest) × (g.state.jobs ≡ F.jobs)) }
     ensures replays { IfOk result (λ g. IsReplayed g.state) }
     ensures no_closing { IfOk result (λ g. has_closing g.state.history ≡ false) }
     ensures still_open { IfOk result (λ g. g.state.closed ≡ false) }
@@ -45,6 +47,6 @@ pub fn gather<F: Ledger, A: Ledger>(
     if shares.len() < book.shares {
         return Err(NotAll { book, shares });
     }
-    let Book { kept, shares: _ } = book;
+    let Book { kept, .. } = book;
     Ok(kept.into_inner().total(shares))
 }

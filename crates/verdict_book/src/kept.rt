@@ -2,7 +2,9 @@
 ghost use Rattle.std.specs.Prelude.{◌≡◌, ◌≢◌, ◌<◌, ◌≤◌, false, [], length, sum_by, vec_len, IfErr, IfOk, OnErr, OnOk};
 ghost use Rattle.audit_core.specs.Book.{IsReplayed, accepted_in, after_filing, reply_to};
 ghost use Rattle.audit_core.specs.Replay.{has_closing};
+ghost use Rattle.local_run.specs.Shown.{digest_of, job_of, number_of};
 
+use crate::filings::Filings;
 use crate::gathering::Gathered;
 use crate::share::Share;
 use audit_core::{BookState, NotFiled, Reply};
@@ -15,10 +17,12 @@ use std::sync::ledger::Ledger;
 /// By the type of the book its history replays to it, and each finding that it holds is honest. By this type the history has no
 /// closing entry.
 #[derive(Drop)]
-pub struct Kept<F: Ledger, A: Ledger> {
+pub struct Kept<F: Filings, A: Ledger> {
     pub(crate) state: BookState,
     pub(crate) filings: ledger::Book<F>,
     pub(crate) acceptances: ledger::Book<A>,
+    ghost own_digest: { state.digest ≡ F.digest },
+    ghost own_jobs: { state.jobs ≡ F.jobs },
     ghost open_book: { state.closed ≡ false },
     ghost no_closing: { has_closing state.history ≡ false },
     ghost filed: { length state.history ≡ filings.total },
@@ -26,15 +30,17 @@ pub struct Kept<F: Ledger, A: Ledger> {
     ghost few: { accepted_in state ≤ length state.history },
 }
 
-impl<F: Ledger, A: Ledger> Kept<F, A> {
+impl<F: Filings, A: Ledger> Kept<F, A> {
     ghost use Rattle.audit_core.specs.declared.reply.Reply.TheVariants.{Closed};
     ghost use Rattle.verdict_book.specs.Counts.{counted};
+    ghost use Rattle.verdict_book.specs.Replies.{IsReplyOf};
 
     pub(crate) fn new(
         state: BookState,
         filings: ledger::Book<F>,
         acceptances: ledger::Book<A>,
     ) -> Kept<F, A>
+        requires own { (state.digest ≡ F.digest) × (state.jobs ≡ F.jobs) }
         requires fresh { state.history ≡ [] }
         requires totals { (filings.total ≡ 0) × (acceptances.total ≡ 0) }
     {
@@ -55,6 +61,7 @@ impl<F: Ledger, A: Ledger> Kept<F, A> {
     ) -> Result<Reply, NotFiled>
         ensures reply { IfOk result (λ r. r ≡ reply_to self.old.state finding) }
         ensures after { OnOk result (self.new.state ≡ after_filing self.old.state finding) }
+        ensures of_book { IfOk result (IsReplyOf F.digest F.jobs (digest_of finding) (number_of finding) (job_of finding)) }
         ensures not_closed { IfOk result (λ r. r ≢ Closed) }
         ensures counted { IfOk result (λ r. mine.new ≡ counted mine.old r) }
         ensures unchanged { OnErr result ((self.new.state ≡ self.old.state) × (mine.new ≡ mine.old)) }

@@ -1,20 +1,12 @@
 use Rattle.std.proofs.Common.{◌≡◌, ℕ, ◌<◌, ◌≤◌, ◌++◌, List, length, take, drop, map, All, false, arith, rules, ap, sym, ◌∙◌, subst}
-use Rattle.std.proofs.lemmas.List.{length-map}
 use Rattle.std.proofs.lemmas.List.Elements.{All-same}
-use Rattle.verdict_book.specs.Counts.{Counts}
 use Rattle.job_pool.specs.declared.desk.DeskSeat.{DeskSeat}
 use Rattle.job_pool.specs.declared.worker.Worker.{Worker}
 use Rattle.job_pool.specs.Seats.{IsSeatOf, drawn_by}
 use Rattle.job_pool.specs.Work.{filed_by, seats_of, shares_of}
 use Rattle.job_pool.proofs.Filed.{all_seats, every_number_was_filed, whole}
+use Rattle.job_pool.proofs.Risen.{all_have}
 use Rattle.job_pool.proofs.pool.work.Goals as goal
-
--- as many shares come back as there were workers
-returned : {F A : Type 0} (n : ℕ) (workers before now : List (Worker F A)) (shares : List Counts) → n ≡ length workers → before ≡ workers → length now ≡ length before
-    → shares ≡ shares_of (take n (now ++ drop (length now) workers)) → length shares ≡ n
-returned n workers before now shares sized lent kept back =
-    let len : length now ≡ length workers = kept ∙ ap length lent in
-    ap length (back ∙ ap shares_of (whole n now workers len sized)) ∙ length-map now (λ w. w.share) ∙ len ∙ sym sized
 
 -- room for as many as were asked for
 enough : (n count all room : ℕ) → n ≡ all → count ≡ all → count ≤ room → n ≤ room
@@ -43,14 +35,12 @@ returns-clause-filed g c = λ fed. let desk = c.in-Ok.desk in let before = c.as_
     let back = ap filed_by (c.dismiss-seats.ensures.shares ∙ ap shares_of same) in
     omega (arith, back, sum, start, c.in-Ok.ensures.desk.0)
 
-pub returns-clause-back : goal.returns-clause-back
-returns-clause-back g c = let before = c.as_mut_slice.result.now in let now = c.run_all.new.workers in
+pub returns-clause-shares : goal.returns-clause-shares
+returns-clause-shares g c = let before = c.as_mut_slice.result.now in let now = c.run_all.new.workers in
     let len : length now ≡ length before = search rules in
-    let shares = c.dismiss-seats.result.1 in
-    shares.ok.0 ∙ returned c.hire-workers.result.len c.hire-workers.result.items before now shares.items c.hire-workers.result.ok.0 c.as_mut_slice.ensures.value len c.dismiss-seats.ensures.shares ∙ c.hire-workers.ensures.count
+    all_have c.in-Ok.desk c.hire-workers.result.len c.hire-workers.result.items before now _ _ c.hire-workers.result.ok.0 c.as_mut_slice.ensures.value len c.hire-workers.ensures.shares c.dismiss-seats.ensures.shares c.run_all.ensures
 
-pub returns-in_default-close-clause-back : goal.returns-in_default-close-clause-back
-returns-in_default-close-clause-back g c = let before = c.as_mut_slice.result.now in let now = c.run_all.new.workers in
+pub returns-in_default-close-clause-shares : goal.returns-in_default-close-clause-shares
+returns-in_default-close-clause-shares g c = let before = c.as_mut_slice.result.now in let now = c.run_all.new.workers in
     let len : length now ≡ length before = search rules in
-    let shares = c.dismiss-seats.result.1 in
-    shares.ok.0 ∙ returned c.hire-workers.result.len c.hire-workers.result.items before now shares.items c.hire-workers.result.ok.0 c.as_mut_slice.ensures.value len c.dismiss-seats.ensures.shares ∙ c.hire-workers.ensures.count
+    all_have c.in-Ok.desk c.hire-workers.result.len c.hire-workers.result.items before now _ _ c.hire-workers.result.ok.0 c.as_mut_slice.ensures.value len c.hire-workers.ensures.shares c.dismiss-seats.ensures.shares c.run_all.ensures

@@ -2,15 +2,17 @@ use Rattle.std.proofs.Common.{◌≡◌, ◌+◌, ◌-◌, false}
 use Rattle.audit_core.specs.Draws.{end_of}
 use Rattle.job_pool.specs.Lists.{early}
 use Rattle.job_pool.specs.Seats.{IsSeatOf, drawn_by}
+use Rattle.job_pool.specs.Work.{HasRisen}
 use Rattle.job_pool.proofs.worker.Worker.run.Given as goal
 
 -- so far as many findings were filed as numbers were drawn
 abbrev pub invariant-loop-number : goal.invariant-loop-number
 invariant-loop-number g l = record {
-  seat : IsSeatOf l.desk l.self.seat;
+  seat : IsSeatOf l.site.desk.now l.self.seat;
   starved : l.self.starved ≡ false;
-  filed : l.self.share.filed ≡ l.initial.self.share.filed + early l.desk.numbers (drawn_by l.self.seat);
+  risen : HasRisen l.initial.self.share l.self.share;
+  filed : l.self.share.filed ≡ l.initial.self.share.filed + early l.site.desk.now.numbers (drawn_by l.self.seat);
 }
 
 abbrev pub decreases-loop-number : goal.decreases-loop-number
-decreases-loop-number g l = l.desk.numbers - end_of l.self.seat.drawn.items
+decreases-loop-number g l = l.site.desk.now.numbers - end_of l.self.seat.drawn.items

@@ -6,6 +6,7 @@ use Rattle.audit_core.proofs.BookLaws.{closed-answers-closed}
 use Rattle.audit_core.proofs.Filings.{count_after-other}
 use Rattle.audit_core.proofs.Replays.{has_closing-push}
 use Rattle.verdict_book.specs.Counts.{Counts, counted}
+use Rattle.verdict_book.proofs.Ruled.{ruled_by}
 use Rattle.verdict_book.proofs.kept.Kept.file.Goals as goal
 
 pub invariant_of-self-in-Accepted : goal.invariant_of-self-in-Accepted
@@ -16,6 +17,8 @@ invariant_of-self-in-Accepted g c =
     ap (λ (b : BookView). length b.history) after ∙ length-append old.state.history (Filed (filing_of old.state c.args.finding) ∷ []) in
     let one : accepted_in c.file.new.self ≡ accepted_in old.state + 1 = c.in_ok-reply.ensures.counted ∙ ap (count_after (accepted_in old.state)) c.in-Accepted.is in
     record {
+      own_digest = ap (λ (b : BookView). b.digest) after ∙ old.own_digest;
+      own_jobs = ap (λ (b : BookView). b.jobs) after ∙ old.own_jobs;
       open_book = ap (λ (b : BookView). b.closed) after ∙ old.open_book;
       no_closing = ap (λ (b : BookView). has_closing b.history) after ∙ has_closing-push old.state.history (filing_of old.state c.args.finding) ∙ old.no_closing;
       filed = omega (arith, entries, old.filed, c.add.ensures.total, c.audit.ensures.total);
@@ -36,6 +39,8 @@ invariant_of-self-in_default g c =
     ap (λ (b : BookView). length b.history) after ∙ length-append old.state.history (Filed (filing_of old.state c.args.finding) ∷ []) in
     let same : accepted_in c.file.new.self ≡ accepted_in old.state = c.in_ok-reply.ensures.counted ∙ count_after-other (accepted_in old.state) c.in_ok-reply.reply c.in_default.not-Accepted in
     record {
+      own_digest = ap (λ (b : BookView). b.digest) after ∙ old.own_digest;
+      own_jobs = ap (λ (b : BookView). b.jobs) after ∙ old.own_jobs;
       open_book = ap (λ (b : BookView). b.closed) after ∙ old.open_book;
       no_closing = ap (λ (b : BookView). has_closing b.history) after ∙ has_closing-push old.state.history (filing_of old.state c.args.finding) ∙ old.no_closing;
       filed = omega (arith, entries, old.filed, c.add.ensures.total, c.audit.ensures.total);
@@ -53,3 +58,13 @@ pub returns-clause-counted : goal.returns-clause-counted
 returns-clause-counted g c =
     let mine = c.mine.inside in
     (λ i. record { filed = mine.filed + 1; accepted = sym (count_after-other mine.accepted c.in_ok-reply.reply c.in_default.not-Accepted) i }) ∙ ap (λ (m : Counts). counted m c.in_ok-reply.reply) c.mine.view_is
+
+pub returns-in-Accepted-clause-of_book : goal.returns-in-Accepted-clause-of_book
+returns-in-Accepted-clause-of_book g c =
+    let old = c.args.self.now in
+    ruled_by old.state c.args.finding _ _ _ c.in_ok-reply.ensures.reply old.own_digest old.own_jobs old.open_book
+
+pub returns-clause-of_book : goal.returns-clause-of_book
+returns-clause-of_book g c =
+    let old = c.args.self.now in
+    ruled_by old.state c.args.finding _ _ _ c.in_ok-reply.ensures.reply old.own_digest old.own_jobs old.open_book

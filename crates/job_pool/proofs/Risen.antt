@@ -1,0 +1,52 @@
+-- Shares count more and more.
+use Rattle.std.proofs.Common.{◌≡◌, ℕ, zero, suc, ◌<◌, ◌≤◌, ◌++◌, List, [], ◌∷◌, length, take, drop, get_or, ap, sym, ◌∙◌, subst, arith}
+use Rattle.std.proofs.lemmas.List.{length-map}
+use Rattle.audit_core.specs.Book.{count_after}
+use Rattle.audit_core.specs.declared.reply.Reply.{Reply}
+use Rattle.audit_core.specs.declared.reply.Reply.TheVariants.{Closed, Stranger, Double, Accepted}
+use Rattle.verdict_book.specs.Counts.{Counts, counted}
+use Rattle.job_pool.specs.declared.desk.Desk.{Desk}
+use Rattle.job_pool.specs.declared.worker.Worker.{Worker}
+use Rattle.job_pool.specs.Work.{HasRisen, HasWorked, HaveRisen, shares_of}
+use Rattle.job_pool.proofs.Filed.{whole}
+
+not_lower : (count : ℕ) (r : Reply) → count ≤ count_after count r
+not_lower count Accepted = omega arith
+not_lower count Closed = omega arith
+not_lower count (Stranger mismatch) = omega arith
+not_lower count (Double number) = omega arith
+
+pub at_first : (a : Counts) → HasRisen a a
+at_first a = record { filed = omega arith; accepted = omega arith }
+
+-- a share that has risen is as it was
+pub risen_still : (a b c : Counts) → HasRisen a b → c ≡ b → HasRisen a c
+risen_still a b c before same = subst (HasRisen a) (sym same) before
+
+-- and now it counts one reply more
+pub risen_more : (a b c : Counts) (r : Reply) → HasRisen a b → c ≡ counted b r → HasRisen a c
+risen_more a b c r before more = subst (HasRisen a) (sym more) (record {
+  filed = let f = before.filed in omega arith;
+  accepted = let n = not_lower b.accepted r in let f = before.accepted in omega arith;
+})
+
+module _ {F A : Type 0} (desk : Desk) where
+  each_has : (before after : List (Worker F A)) → length after ≡ length before
+      → ((i : ℕ) (d : Worker F A) → i < length before → HasWorked desk (get_or before i d) (get_or after i d))
+      → (i : ℕ) (d : Counts) → i < length (shares_of before) → HasRisen (get_or (shares_of before) i d) (get_or (shares_of after) i d)
+  each_has [] after len worked i d below = absurd (omega arith)
+  each_has (x ∷ xs) [] len worked i d below = absurd (omega arith)
+  each_has (x ∷ xs) (y ∷ ys) len worked zero d below = (worked 0 x (omega arith)).risen
+  each_has (x ∷ xs) (y ∷ ys) len worked (suc i) d below = each_has xs ys (omega arith) (λ k e under. worked (suc k) e (omega arith)) i d (omega arith)
+
+  -- so have the shares that come back in a `Vec` whose whole slice the workers wrote
+  pub all_have : (n : ℕ) (workers before now : List (Worker F A)) (given back : List Counts) → n ≡ length workers → before ≡ workers → length now ≡ length before
+      → shares_of workers ≡ given → back ≡ shares_of (take n (now ++ drop (length now) workers))
+      → ((i : ℕ) (d : Worker F A) → i < length before → HasWorked desk (get_or before i d) (get_or now i d)) → HaveRisen given back
+  all_have n workers before now given back sized lent kept hired returned worked =
+      let from : given ≡ shares_of before = sym hired ∙ ap shares_of (sym lent) in
+      let to : back ≡ shares_of now = returned ∙ ap shares_of (whole n now workers (kept ∙ ap length lent) sized) in
+      record {
+        count = ap length to ∙ length-map now (λ (w : Worker F A). w.share) ∙ kept ∙ sym (length-map before (λ (w : Worker F A). w.share)) ∙ ap length (sym from);
+        each = λ i d below. subst (λ l. HasRisen (get_or l i d) (get_or back i d)) (sym from) (subst (λ l. HasRisen (get_or (shares_of before) i d) (get_or l i d)) (sym to) (each_has before now kept worked i d (subst (λ l. i < length l) from below)));
+      }

@@ -1,0 +1,17 @@
+-- A reply tells of the book's digest and jobs alone, and of whether a finding is held.
+use Rattle.std.proofs.Common.{◌≡◌, ◌∙◌, ℕ, List, false, length}
+use Rattle.std.specs.Prelude.{is_some}
+use Rattle.certificate.specs.Jobs.{JobState}
+use Rattle.local_run.specs.Shown.{digest_of, number_of, job_of}
+use Rattle.local_run.specs.declared.finding.Finding.{Finding}
+use Rattle.audit_core.specs.Book.{BookView, found_in, is_job_of, reply_to}
+use Rattle.audit_core.specs.Replay.{rule}
+use Rattle.audit_core.specs.declared.reply.Reply.{Reply}
+use Rattle.verdict_book.specs.Replies.{IsReplyOf}
+
+pub ruled_by : (b : BookView) (f : Finding) (r : Reply) (digest : List ℕ) (jobs : List JobState) → r ≡ reply_to b f → b.digest ≡ digest → b.jobs ≡ jobs → b.closed ≡ false → IsReplyOf digest jobs (digest_of f) (number_of f) (job_of f) r
+unfolding reply_to
+ruled_by b f r digest jobs is d j still = record {
+  taken = is_some (found_in b (number_of f));
+  ruled = is ∙ (λ i. rule (d i) (length (j i)) (still i) (is_some (found_in b (number_of f))) (digest_of f) (number_of f) (is_job_of (j i) (number_of f) (job_of f)));
+}
