@@ -10,7 +10,6 @@ use Rattle.module_box.specs.declared.schedules.Signal.{Signal}
 use Rattle.module_box.specs.declared.schedules.Signal.TheVariants.{Zero, One, Wire}
 use Rattle.module_box.specs.contracts.schedules.SignalPartialEq.TheImpl as signals
 use Rattle.certificate.specs.Equality.{same_box, demand_place, wire_asked, same_demand, same_job, same_shape, same_stop}
-use Rattle.certificate.specs.Jobs.{JobState}
 use Rattle.certificate.specs.Laws.{JobEqualityDecides, ShapeEqualityDecides}
 use Rattle.certificate.specs.Shapes.{ShapeState, placed, shape_of}
 use Rattle.certificate.specs.declared.job.Demand.{Demand}

@@ -1,6 +1,6 @@
 -- Shapes at their places in a list of references.
-use Rattle.std.proofs.Common.{◌≡◌, ℕ, ◌+◌, ◌<◌, ◌≤◌, List, [], ◌∷◌, ◌++◌, map, length, take, get_or, Option, Some, None, zero, suc, refl, sym, ap, ap₂, subst, ◌∙◌, arith, inl, inr, ◌⊎◌}
-use Rattle.std.specs.Prelude.{slice_get, slice_index, unwrap_or, ◌≢◌}
+use Rattle.std.proofs.Common.{◌≡◌, ℕ, ◌+◌, ◌<◌, List, [], ◌∷◌, ◌++◌, map, length, take, get_or, Option, Some, zero, suc, refl, sym, ap, ap₂, subst, ◌∙◌, arith, inl, inr}
+use Rattle.std.specs.Prelude.{slice_get, slice_index, unwrap_or}
 use Rattle.std.specs.Option.{option_map}
 use Rattle.std.proofs.lemmas.Bool.{cases_lt}
 use Rattle.std.proofs.lemmas.Grind.{common_steps}
@@ -16,7 +16,7 @@ pub one_value : {A : Type 0} (o p : Option A) (a b : A) → o ≡ Some a → p �
 one_value o p a b e f g = cc
 
 -- one more group
-pub group_more : (shapes : List ShapeState) (groups : List ℕ) (n g : ℕ) → length groups ≡ n → ((k : ℕ) → k < n → IsFirstLike shapes k (slice_index groups k)) → IsFirstLike shapes n g →
+pub group_more : {A : Type 0} (shapes : List A) (groups : List ℕ) (n g : ℕ) → length groups ≡ n → ((k : ℕ) → k < n → IsFirstLike shapes k (slice_index groups k)) → IsFirstLike shapes n g →
     (k : ℕ) → k < n + 1 → IsFirstLike shapes k (slice_index (groups ++ g ∷ []) k)
 group_more shapes groups n g count each here k lt = elim (cases_lt k n) [
   | inl less ↦ subst (IsFirstLike shapes k) (sym (before groups g k (omega (arith, less, count)))) (each k less)
@@ -31,7 +31,7 @@ group_more shapes groups n g count each here k lt = elim (cases_lt k n) [
     last : (xs : List ℕ) (y n : ℕ) → length xs ≡ n → slice_index (xs ++ y ∷ []) n ≡ y
     last xs y n e = grind (arith, common_steps)
 
-pub all_groups : (shapes : List ShapeState) (groups : List ℕ) (n : ℕ) → n ≡ length shapes → length groups ≡ n → ((k : ℕ) → k < n → IsFirstLike shapes k (slice_index groups k)) → AreGroups shapes groups
+pub all_groups : {A : Type 0} (shapes : List A) (groups : List ℕ) (n : ℕ) → n ≡ length shapes → length groups ≡ n → ((k : ℕ) → k < n → IsFirstLike shapes k (slice_index groups k)) → AreGroups shapes groups
 all_groups shapes groups n all count each = record { count = count ∙ all; each = λ k lt. each k (omega (arith, lt, all)) }
 
 -- keys that are made of the shapes

@@ -29,3 +29,5 @@ mod Spelling
 mod RoundTrip
 pub mod NearLines
 pub mod FirstShapes
+pub mod FirstKeys
+pub mod TellingShapes

@@ -20,3 +20,4 @@ pub mod Equality
 pub mod Shapes
 pub mod ShapeFields
 pub mod Groups
+pub mod Keys

@@ -1,4 +1,5 @@
 //! Laws of the definitions, each the contract of a function without a body.
+ghost use Rattle.certificate.specs.Keys.{BytesTellNumbers, NumbersTellShapes};
 ghost use Rattle.certificate.specs.Laws.{JobEqualityDecides, PrintsWhatIsRead, ReadsWhatIsPrinted, ShapeEqualityDecides, ShapesAreParts};
 
 /// The text of a certificate that is read is the text of the lines that it is read from, and it is read as the same
@@ -17,4 +18,11 @@ pub fn equality_is_of_content()
 /// A job is its shape, placed where its box lies and over its wires and gates of the circuit.
 pub fn shapes_are_parts()
     ensures { ShapesAreParts }
+{}
+
+/// Shapes that differ have different numbers, and different numbers different bytes: of two such shapes with one
+/// [`key`](crate::Shape::key), these bytes are a collision of SHA-256.
+pub fn keys_tell_shapes()
+    ensures numbers { NumbersTellShapes }
+    ensures bytes { BytesTellNumbers }
 {}

@@ -21,7 +21,7 @@ same_head x y xs ys e = cc
 pub same_tail : {A : Type 0} (x y : A) (xs ys : List A) → x ∷ xs ≡ y ∷ ys → xs ≡ ys
 same_tail x y xs ys e = cc
 
-same_length : {A : Type 0} (xs ys r s : List A) → length xs ≡ length ys → xs ++ r ≡ ys ++ s → (xs ≡ ys) × (r ≡ s)
+pub same_length : {A : Type 0} (xs ys r s : List A) → length xs ≡ length ys → xs ++ r ≡ ys ++ s → (xs ≡ ys) × (r ≡ s)
 same_length [] [] r s n e = (refl, e)
 same_length [] (y ∷ ys) r s n e = absurd (omega (arith, n))
 same_length (x ∷ xs) [] r s n e = absurd (omega (arith, n))

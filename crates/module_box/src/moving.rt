@@ -58,12 +58,7 @@ fn moved_helds(alloc: Global, held: &[Held], dx: i32, dy: i32) -> Result<Vec<Hel
     Ok(moved)
 }
 
-fn moved_events(
-    alloc: Global,
-    events: &[Event],
-    dx: i32,
-    dy: i32,
-) -> Result<Vec<Event>, AllocError>
+fn moved_events(alloc: Global, events: &[Event], dx: i32, dy: i32) -> Result<Vec<Event>, AllocError>
     requires cells { All (λ e. IsNear e.at.cell) events.now }
     requires by { IsSmall dx × IsSmall dy }
     ensures { IfOk result (λ v. v.items ≡ map (moved_event dx dy) events.now) }

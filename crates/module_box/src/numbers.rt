@@ -12,7 +12,7 @@ use crate::wiring::Wiring;
 use circuit::GateKind;
 use std::alloc::{AllocError, Global};
 
-fn place_of(kind: GateKind) -> u32
+fn place_of(kind: GateKind) -> u64
     ensures { result ≡ rule_place (rule_of kind) }
 {
     match kind {
@@ -25,41 +25,40 @@ fn place_of(kind: GateKind) -> u32
     }
 }
 
-fn detail_of(kind: GateKind) -> u32
+fn detail_of(kind: GateKind) -> u64
     ensures { result ≡ rule_detail (rule_of kind) }
 {
     match kind {
         GateKind::Source(true) => 1,
-        GateKind::Delay(steps) => steps,
+        GateKind::Delay(steps) => steps as u64,
         _ => 0,
     }
 }
 
 // Adds how many wires these are, and then their numbers.
-fn push_wires(numbers: &mut Vec<u32>, wires: &[u16]) -> Result<(), AllocError>
-    requires { length wires.now ≤ 4 }
+fn push_wires(numbers: &mut Vec<u64>, wires: &[u16]) -> Result<(), AllocError>
     ensures { OnOk result (numbers.new.items ≡ numbers.old.items ++ length wires.now ∷ wires.now) }
 {
-    numbers.push(wires.len() as u32)?;
+    numbers.push(wires.len() as u64)?;
     for wire in wires {
-        numbers.push(*wire as u32)?;
+        numbers.push(*wire as u64)?;
     }
     Ok(())
 }
 
 // The same of `count` wires from `first` on.
-fn push_wires_from(numbers: &mut Vec<u32>, first: u16, count: usize) -> Result<(), AllocError>
+fn push_wires_from(numbers: &mut Vec<u64>, first: u16, count: usize) -> Result<(), AllocError>
     requires { count ≤ 4 }
     ensures { OnOk result (numbers.new.items ≡ numbers.old.items ++ count ∷ range_with_len first count) }
 {
-    numbers.push(count as u32)?;
+    numbers.push(count as u64)?;
     for place in 0..count {
-        numbers.push(first as u32 + place as u32)?;
+        numbers.push(first as u64 + place as u64)?;
     }
     Ok(())
 }
 
-fn push_gate(numbers: &mut Vec<u32>, gate: &LocalGate) -> Result<(), AllocError>
+fn push_gate(numbers: &mut Vec<u64>, gate: &LocalGate) -> Result<(), AllocError>
     ensures { OnOk result (numbers.new.items ≡ numbers.old.items ++ gate_numbers (kept_gate gate.now)) }
 {
     numbers.push(place_of(gate.kind))?;
@@ -68,7 +67,7 @@ fn push_gate(numbers: &mut Vec<u32>, gate: &LocalGate) -> Result<(), AllocError>
     push_wires_from(numbers, gate.first, gate.kind.outs())
 }
 
-fn push_gates(numbers: &mut Vec<u32>, gates: &[LocalGate]) -> Result<(), AllocError>
+fn push_gates(numbers: &mut Vec<u64>, gates: &[LocalGate]) -> Result<(), AllocError>
     ensures { OnOk result (numbers.new.items ≡ numbers.old.items ++ flat_map gate_numbers (map kept_gate gates.now)) }
 {
     for gate in gates {
@@ -81,12 +80,12 @@ impl Wiring {
     /// Numbers that tell the wiring: how many wires are given, how many gates there are, and for each what it does, the wires that
     /// it uses and those that it defines. Two that differ have different numbers. `AllocError` is want of memory.
     #[tactic(auto, unfolding(crate::specs::Numbers::netlist_numbers))]
-    pub fn numbers(&self, alloc: Global) -> Result<Vec<u32>, AllocError>
+    pub fn numbers(&self, alloc: Global) -> Result<Vec<u64>, AllocError>
         ensures { IfOk result (λ numbers. numbers.items ≡ netlist_numbers self.now) }
     {
         let mut numbers = Vec::new(alloc);
-        numbers.push(self.given as u32)?;
-        numbers.push(self.gates.len() as u32)?;
+        numbers.push(self.given as u64)?;
+        numbers.push(self.gates.len() as u64)?;
         push_gates(&mut numbers, &self.gates)?;
         Ok(numbers)
     }

@@ -1,10 +1,9 @@
-use Rattle.std.proofs.Common.{◌≡◌, ℕ, List, [], map, Some, nat_eq, get_or, arith, below_more, sym, ap, ◌∙◌}
+use Rattle.std.proofs.Common.{◌≡◌, [], map, Some, nat_eq, get_or, arith, below_more, sym, ap, ◌∙◌}
 use Rattle.std.specs.Prelude.{slice_get}
 use Rattle.std.specs.Arc.{arc_value}
 use Rattle.std.proofs.lemmas.Bool.{false≢true}
 use Rattle.std.proofs.lemmas.Bool.Decides.{Decides-eqb}
 use Rattle.module_box.proofs.EqualTests.{lists}
-use Rattle.certificate.specs.Shapes.{ShapeState}
 use Rattle.certificate.proofs.EqualJobs.{shapes_decide}
 use Rattle.certificate.proofs.FirstShapes.{one_value, same_read, value_at}
 use Rattle.certificate.proofs.groups.first_like.Goals as goal
@@ -35,3 +34,6 @@ earlier-preserved c =
           let same = same_read ks c.earlier.earlier c.args.number [] (c.requires.keys.same c.earlier.earlier c.args.number e) in
           false≢true (sym w.if-eq.false ∙ c.eq.ensures ∙ (lists nat_eq Decides-eqb (get_or ks c.earlier.earlier []) (get_or ks c.args.number [])).1 same))
     ])
+
+pub earlier-init : goal.earlier-init
+earlier-init c = λ i lt e. c.requires.first.first i lt (c.requires.keys.same i c.args.number e)

@@ -1,5 +1,5 @@
 -- No shape before is the same.
-use Rattle.std.proofs.Common.{◌≡◌, ℕ, ◌<◌, map}
+use Rattle.std.proofs.Common.{ℕ, ◌<◌, map}
 use Rattle.std.specs.Prelude.{◌≢◌, slice_get}
 use Rattle.std.specs.Arc.{arc_value}
 use Rattle.certificate.proofs.groups.first_like.Given as goal

@@ -1,7 +1,8 @@
-use Rattle.std.proofs.Common.{◌≡◌, ◌≤◌, List, ℕ, length, map, take, get_or, arith, sym, ap, subst, ◌∙◌}
+use Rattle.std.proofs.Common.{◌≡◌, List, ℕ, map, take, get_or, sym, ap, subst, ◌∙◌}
 use Rattle.std.specs.Arc.{arc_value}
 use Rattle.std.proofs.lemmas.List.{take_all}
-use Rattle.certificate.specs.Groups.{AreGroups, AreKeys, shape_key}
+use Rattle.certificate.specs.Groups.{AreKeys}
+use Rattle.certificate.specs.Keys.{shape_key}
 use Rattle.certificate.specs.Shapes.{ShapeState, shape_of}
 use Rattle.certificate.proofs.FirstShapes.{made_keys, map_twice, pushed_one, pushed_value}
 use Rattle.certificate.proofs.groups.job_groups.Goals as goal
@@ -13,7 +14,7 @@ jobs-preserved c =
     let there : arc_value c.shape-shape.result.now ≡ shape_of (arc_value (get_or jobs c.jobs.job-index d)) =
     c.shape-shape.ensures ∙ ap shape_of c.deref.ensures ∙ ap (λ j. shape_of (arc_value j)) c.job-item.is in
     let copied : arc_value c.in_ok-clone.field-0 ≡ arc_value c.shape-shape.result.now = c.in_ok-clone.ensures.cases in
-    let key : c.in_ok-key.field-0 ≡ shape_key (shape_of (arc_value (get_or jobs c.jobs.job-index d))) = c.in_ok-key.ensures ∙ ap shape_key (c.deref-in-jobs.ensures ∙ there) in
+    let key : c.in_ok-key.field-0 ≡ shape_key (shape_of (arc_value (get_or jobs c.jobs.job-index d))) = c.in_ok-key.ensures.key ∙ ap shape_key (c.deref-in-jobs.ensures ∙ there) in
     record {
       shapes = pushed_value arc_value (λ j. shape_of (arc_value j)) c.push-in-jobs.new.self.items c.jobs.shapes.items c.in_ok-clone.field-0 jobs c.jobs.job-index d c.in_ok-push-2.ensures.items c.jobs-test.true c.jobs.invariant.shapes (copied ∙ there);
       keys = pushed_one (λ j. shape_key (shape_of (arc_value j))) c.push.new.self.items c.jobs.keys.items c.in_ok-key.field-0 jobs c.jobs.job-index d c.in_ok-push.ensures.items c.jobs-test.true c.jobs.invariant.keys key;

@@ -1,7 +1,7 @@
 -- The shapes of those before, and their keys.
 use Rattle.std.proofs.Common.{◌≡◌, map, take}
 use Rattle.std.specs.Arc.{arc_value}
-use Rattle.certificate.specs.Groups.{shape_key}
+use Rattle.certificate.specs.Keys.{shape_key}
 use Rattle.certificate.specs.Shapes.{shape_of}
 use Rattle.certificate.proofs.groups.job_groups.Given as goal
 

@@ -1,11 +1,11 @@
-use Rattle.std.proofs.Common.{◌≡◌, ◌≤◌, ℕ, ℤ, List, map, arith, to_z, of_z, w32, sym, ap, ap₂, subst, ◌∙◌}
+use Rattle.std.proofs.Common.{◌≡◌, ℕ, ℤ, arith, to_z, of_z, w32, sym, ap, ap₂, subst, ◌∙◌}
 use Rattle.std.specs.List.{All, flat_map}
 use Rattle.std.proofs.lemmas.Int.{ints}
 use Rattle.std.proofs.lemmas.Result.{IfOk-weaker}
 use Rattle.circuit.specs.Bridge.{circuit_of}
 use Rattle.circuit.specs.Meaning.{wires}
 use Rattle.module_box.specs.Locals.{circuit_wire}
-use Rattle.module_box.specs.Moves.{IsNear, IsSmall, moved_event, moved_signals}
+use Rattle.module_box.specs.Moves.{IsNear, IsSmall, moved_signals}
 use Rattle.module_box.specs.Schedules.{Signals}
 use Rattle.module_box.specs.declared.boxes.Box2.{Box2}
 use Rattle.module_box.specs.declared.schedules.Event.{Event}
@@ -43,24 +43,24 @@ pub returns-clause-same : goal.returns-clause-same
 returns-clause-same c =
     let s = c.in_ok-signals.signals in
     IfOk-weaker c.moved.result _ _ (λ own is.
-      ap (renumber_signals (circuit_wire c.args.locals.now)) (there c.args.area s own (moved_back c.args.area.x c.args.area.y _ _ s own c.back.ensures.is c.back.ensures.small c.back-2.ensures.is c.back-2.ensures.small is))
-      ∙ c.in_ok-signals.ensures.same) c.moved.ensures
+    ap (renumber_signals (circuit_wire c.args.locals.now)) (there c.args.area s own (moved_back c.args.area.x c.args.area.y _ _ s own c.back.ensures.is c.back.ensures.small c.back-2.ensures.is c.back-2.ensures.small is))
+    ∙ c.in_ok-signals.ensures.same) c.moved.ensures
 
 pub returns-clause-held : goal.returns-clause-held
 returns-clause-held c =
     let s = c.in_ok-signals.signals in
     IfOk-weaker c.moved.result _ _ (λ own is.
-      subst (λ (t : Signals). All (λ h. IsBelow (wires c.args.locals.now.netlist) h.signal) t.held)
-      (sym (there c.args.area s own (moved_back c.args.area.x c.args.area.y _ _ s own c.back.ensures.is c.back.ensures.small c.back-2.ensures.is c.back-2.ensures.small is)))
-      c.in_ok-signals.ensures.held) c.moved.ensures
+    subst (λ (t : Signals). All (λ h. IsBelow (wires c.args.locals.now.netlist) h.signal) t.held)
+    (sym (there c.args.area s own (moved_back c.args.area.x c.args.area.y _ _ s own c.back.ensures.is c.back.ensures.small c.back-2.ensures.is c.back-2.ensures.small is)))
+    c.in_ok-signals.ensures.held) c.moved.ensures
 
 pub returns-clause-events : goal.returns-clause-events
 returns-clause-events c =
     let s = c.in_ok-signals.signals in
     IfOk-weaker c.moved.result _ _ (λ own is.
-      subst (λ (t : Signals). All (λ e. IsBelow (wires c.args.locals.now.netlist) e.signal) t.events)
-      (sym (there c.args.area s own (moved_back c.args.area.x c.args.area.y _ _ s own c.back.ensures.is c.back.ensures.small c.back-2.ensures.is c.back-2.ensures.small is)))
-      c.in_ok-signals.ensures.events) c.moved.ensures
+    subst (λ (t : Signals). All (λ e. IsBelow (wires c.args.locals.now.netlist) e.signal) t.events)
+    (sym (there c.args.area s own (moved_back c.args.area.x c.args.area.y _ _ s own c.back.ensures.is c.back.ensures.small c.back-2.ensures.is c.back-2.ensures.small is)))
+    c.in_ok-signals.ensures.events) c.moved.ensures
 
 pub returns-clause-near : goal.returns-clause-near
 returns-clause-near c =
@@ -69,6 +69,6 @@ returns-clause-near c =
     let y = c.args.area.y in
     let low = low_events (circuit_wire c.args.locals.now) (circuit_of c.args.circuit.now) (flat_map (borders_in c.args.side) c.args.lines.now) s c.in_ok-signals.ensures.same c.requires.low in
     IfOk-weaker c.moved.result _ _ (λ own is.
-      subst (λ (t : Signals). All (λ (e : Event). IsNear e.at.cell) t.events)
-      (sym (moved_back x y _ _ s own c.back.ensures.is c.back.ensures.small c.back-2.ensures.is c.back-2.ensures.small is))
-      (near_moved x y s.events c.requires.corner.0 c.requires.corner.1 low)) c.moved.ensures
+    subst (λ (t : Signals). All (λ (e : Event). IsNear e.at.cell) t.events)
+    (sym (moved_back x y _ _ s own c.back.ensures.is c.back.ensures.small c.back-2.ensures.is c.back-2.ensures.small is))
+    (near_moved x y s.events c.requires.corner.0 c.requires.corner.1 low)) c.moved.ensures

@@ -1,8 +1,8 @@
-use Rattle.std.proofs.Common.{◌≡◌, ◌+ℤ◌, rules, arith, SFits, w32, sym, ap, ap₂, ◌∙◌}
+use Rattle.std.proofs.Common.{◌≡◌, ◌+ℤ◌, rules, arith, SFits, w32, ap, ◌∙◌}
 use Rattle.std.specs.Arc.{arc_value}
 use Rattle.std.proofs.lemmas.Int.{ints}
 use Rattle.bbm_rule.specs.declared.block.Cell.{Cell}
-use Rattle.module_box.specs.Schedules.{Signals, signal_at}
+use Rattle.module_box.specs.Schedules.{signal_at}
 use Rattle.certificate.specs.Jobs.{JobState}
 use Rattle.certificate.specs.Shapes.{ShapeState, back}
 use Rattle.certificate.proofs.ShapeParts.{carried}
