@@ -1,5 +1,6 @@
 pub mod Sums
 pub mod Moves
 pub mod Ends
+pub mod Members
 pub mod Filed
 pub mod Risen

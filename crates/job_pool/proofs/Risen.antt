@@ -30,9 +30,16 @@ risen_more a b c r before more = subst (HasRisen a) (sym more) (record {
   accepted = let n = not_lower b.accepted r in let f = before.accepted in omega arith;
 })
 
-module _ {F A : Type 0} (desk : Desk) where
+-- and then it rises on
+pub risen_on : (a b c : Counts) → HasRisen a b → HasRisen b c → HasRisen a c
+risen_on a b c first then = record {
+  filed = let f = first.filed in let t = then.filed in omega arith;
+  accepted = let f = first.accepted in let t = then.accepted in omega arith;
+}
+
+module _ {F A : Type 0} (desk : Desk) (groups : List ℕ) where
   each_has : (before after : List (Worker F A)) → length after ≡ length before
-      → ((i : ℕ) (d : Worker F A) → i < length before → HasWorked desk (get_or before i d) (get_or after i d))
+      → ((i : ℕ) (d : Worker F A) → i < length before → HasWorked desk groups (get_or before i d) (get_or after i d))
       → (i : ℕ) (d : Counts) → i < length (shares_of before) → HasRisen (get_or (shares_of before) i d) (get_or (shares_of after) i d)
   each_has [] after len worked i d below = absurd (omega arith)
   each_has (x ∷ xs) [] len worked i d below = absurd (omega arith)
@@ -42,7 +49,7 @@ module _ {F A : Type 0} (desk : Desk) where
   -- so have the shares that come back in a `Vec` whose whole slice the workers wrote
   pub all_have : (n : ℕ) (workers before now : List (Worker F A)) (given back : List Counts) → n ≡ length workers → before ≡ workers → length now ≡ length before
       → shares_of workers ≡ given → back ≡ shares_of (take n (now ++ drop (length now) workers))
-      → ((i : ℕ) (d : Worker F A) → i < length before → HasWorked desk (get_or before i d) (get_or now i d)) → HaveRisen given back
+      → ((i : ℕ) (d : Worker F A) → i < length before → HasWorked desk groups (get_or before i d) (get_or now i d)) → HaveRisen given back
   all_have n workers before now given back sized lent kept hired returned worked =
       let from : given ≡ shares_of before = sym hired ∙ ap shares_of (sym lent) in
       let to : back ≡ shares_of now = returned ∙ ap shares_of (whole n now workers (kept ∙ ap length lent) sized) in

@@ -1,16 +1,20 @@
 //! One worker.
-ghost use Rattle.std.specs.Prelude.{◌≡◌, ◌<◌, IfOk, OnErr, length};
+ghost use Rattle.std.specs.Prelude.{◌≡◌, ◌+◌, ◌<◌, IfOk, OnErr, OnOk, Some, length, map, slice_get};
 ghost use Rattle.std.specs.Arc.{arc_value};
+ghost use Rattle.audit_core.specs.Draws.{times};
+ghost use Rattle.certificate.specs.Groups.{AreGroups};
+ghost use Rattle.certificate.specs.Shapes.{shape_of};
+ghost use Rattle.local_run.specs.Shown.{digest_of, job_of};
 ghost use Rattle.verdict_book.specs.Counts.{counted};
 ghost use Rattle.verdict_book.specs.Replies.{IsReplyOf};
 ghost use Rattle.job_pool.specs.Seats.{numbers_of};
-ghost use Rattle.job_pool.specs.Work.{HasWorked, IsReady};
+ghost use Rattle.job_pool.specs.Work.{HasRisen, HasWorked, IsReady, shapes_of};
 
 use crate::desk::{Desk, DeskSeat};
 use crate::gate::Gate;
 use audit_core::{Claim, Reply};
 use certificate::Job;
-use local_run::run_job;
+use local_run::{Finding, run_job};
 use std::alloc::{AllocError, Global};
 use std::sync::ledger::Ledger;
 use std::sync::{Arc, Wait};
@@ -21,30 +25,36 @@ use verdict_book::{Book, Filings, Share};
 pub struct Site<'a, F: Filings, A: Ledger, G> {
     pub(crate) gate: &'a G,
     pub(crate) jobs: &'a [Arc<Job>],
+    /// For each job the number of the first of its shape.
+    pub(crate) groups: &'a [usize],
     pub(crate) desk: &'a Desk,
     pub(crate) book: &'a Book<F, A>,
 }
 
-/// A seat to draw with, a share to file through, and whether the worker stopped for want of memory.
+/// A seat to draw with, a share to file through, whether the worker stopped for want of memory, and how many jobs it ran.
 #[derive(Drop)]
 pub struct Worker<F: Filings, A: Ledger> {
     pub(crate) seat: DeskSeat,
     pub(crate) share: Share<F, A>,
     pub(crate) starved: bool,
+    pub(crate) runs: usize,
 }
 
 impl<F: Filings, A: Ledger> Worker<F, A> {
-    /// Draws numbers, runs their jobs and files the findings, until no number is left or there is no memory.
+    /// Draws numbers, runs the jobs of those that are the first of their groups and files the findings of all members, until no
+    /// number is left or there is no memory.
     pub(crate) fn run<G: Gate, R: Wait>(&mut self, rt: &R, alloc: Global, site: &Site<'_, F, A, G>)
         requires ready { IsReady site.now.desk.now self.old }
         requires all { numbers_of site.now.desk.now ≡ length site.now.jobs.now }
-        ensures { HasWorked site.now.desk.now self.old self.new }
+        requires groups { AreGroups (shapes_of (map arc_value site.now.jobs.now)) site.now.groups.now }
+        ensures { HasWorked site.now.desk.now site.now.groups.now self.old self.new }
     {
         while let Claim::Number(number) = site.desk.claim(&mut self.seat) {
             site.gate.before(number);
             let share = &mut self.share;
-            match run_and_file(rt, alloc, site.book, number, &site.jobs[number], share) {
-                Ok(_reply) => site.gate.after(number),
+            let runs = &mut self.runs;
+            match run_group(rt, alloc, site, number, share, runs) {
+                Ok(()) => site.gate.after(number),
                 Err(_) => {
                     self.starved = true;
                     return;
@@ -54,21 +64,73 @@ impl<F: Filings, A: Ledger> Worker<F, A> {
     }
 }
 
-// Runs the job of a number, and files what it finds under the book's digest.
-fn run_and_file<F: Filings, A: Ledger, R: Wait>(
+// Runs the job of a number that is the first of its group, and files the findings of all members of the group under the book's
+// digest. For another number there is nothing to do.
+fn run_group<F: Filings, A: Ledger, G, R: Wait>(
     rt: &R,
     alloc: Global,
-    book: &Book<F, A>,
+    site: &Site<'_, F, A, G>,
     number: usize,
+    share: &mut Share<F, A>,
+    runs: &mut usize,
+) -> Result<(), AllocError>
+    requires number { number < length site.now.jobs.now }
+    requires groups { AreGroups (shapes_of (map arc_value site.now.jobs.now)) site.now.groups.now }
+    ensures filed { OnOk result (share.new.filed ≡ share.old.filed + times number site.now.groups.now) }
+    ensures risen { HasRisen share.old share.new }
+{
+    let (jobs, groups) = (site.jobs, site.groups);
+    if groups[number] != number {
+        return Ok(());
+    }
+    let digest = site.book.digest();
+    let finding = run_job(alloc, digest, number, jobs[number].clone()?)?;
+    *runs = runs.saturating_add(1);
+    file_members(rt, site, &finding, number, share)
+}
+
+// Files the findings of all members of a group, by that of its first number.
+fn file_members<F: Filings, A: Ledger, G, R: Wait>(
+    rt: &R,
+    site: &Site<'_, F, A, G>,
+    finding: &Finding,
+    number: usize,
+    share: &mut Share<F, A>,
+) -> Result<(), AllocError>
+    requires groups { AreGroups (shapes_of (map arc_value site.now.jobs.now)) site.now.groups.now }
+    requires first { slice_get (map arc_value site.now.jobs.now) number ≡ Some (job_of finding.now) }
+    requires digest { digest_of finding.now ≡ F.digest }
+    ensures filed { OnOk result (share.new.filed ≡ share.old.filed + times number site.now.groups.now) }
+    ensures risen { HasRisen share.old share.new }
+{
+    let (jobs, groups) = (site.jobs, site.groups);
+    'members: for member in 0..jobs.len() {
+        if groups[member] == number {
+            file_member(rt, site.book, finding, member, &jobs[member], share)?;
+        }
+    }
+    Ok(())
+}
+
+// Files the finding of a job of the same shape.
+fn file_member<F: Filings, A: Ledger, R: Wait>(
+    rt: &R,
+    book: &Book<F, A>,
+    finding: &Finding,
+    member: usize,
     job: &Arc<Job>,
     share: &mut Share<F, A>,
 ) -> Result<Reply, AllocError>
-    ensures reply { IfOk result (IsReplyOf F.digest F.jobs F.digest number (arc_value job.now)) }
+    requires shape { shape_of (job_of finding.now) ≡ shape_of (arc_value job.now) }
+    requires digest { digest_of finding.now ≡ F.digest }
+    ensures reply { IfOk result (IsReplyOf F.digest F.jobs F.digest member (arc_value job.now)) }
     ensures counted { IfOk result (λ reply. share.new ≡ counted share.old reply) }
     ensures unchanged { OnErr result (share.new ≡ share.old) }
 {
-    let finding = run_job(alloc, book.digest(), number, job.clone()?)?;
-    match book.file(rt, share, finding) {
+    let Some(own) = finding.for_job(member, job.clone()?) else {
+        unreachable!()
+    };
+    match book.file(rt, share, own) {
         Ok(reply) => Ok(reply),
         Err(_) => Err(AllocError),
     }

@@ -1,10 +1,14 @@
-use Rattle.std.proofs.Common.{arith, ap, sym, ◌∙◌, ◌≡◌}
-use Rattle.audit_core.specs.Draws.{end_of}
+use Rattle.std.proofs.Common.{rules, arith, ap, sym, ◌∙◌, ◌≡◌, ◌+◌, ◌<◌, All, length, map, subst}
+use Rattle.std.specs.Arc.{arc_value}
+use Rattle.std.proofs.lemmas.List.{length-map}
+use Rattle.audit_core.specs.Draws.{end_of, times}
+use Rattle.certificate.specs.Shapes.{shape_of}
 use Rattle.job_pool.specs.Seats.{drawn_by}
-use Rattle.job_pool.proofs.Sums.{end_of-snoc, early_more}
+use Rattle.job_pool.specs.Work.{shapes_of}
+use Rattle.job_pool.proofs.Sums.{end_of-snoc}
+use Rattle.job_pool.proofs.Members.{due_more, groups_below}
 use Rattle.job_pool.proofs.Filed.{empty_adds_none}
-use Rattle.verdict_book.specs.Counts.{Counts, counted}
-use Rattle.job_pool.proofs.Risen.{risen_more, risen_still}
+use Rattle.job_pool.proofs.Risen.{risen_on}
 use Rattle.job_pool.proofs.worker.Worker.run.Goals as goal
 
 pub loop-number-smaller : goal.loop-number-smaller
@@ -15,19 +19,26 @@ loop-number-smaller g c = let before = c.loop-number.self.seat in let after = c.
 
 pub loop-number-preserved : goal.loop-number-preserved
 loop-number-preserved g c = let i = c.loop-number.invariant in let a = c.in-Number.ensures.answer in
-    let drawn = early_more c.args.site.now.desk.now.numbers c.in-Number.number (drawn_by c.loop-number.self.seat) (drawn_by c.claim.new.seat) a.2 a.0 in
-    let more : c.run_and_file.new.share ≡ counted c.loop-number.self.share c.in-Ok._reply = c.in-Ok.ensures.counted in
-    let one = ap (λ (s : Counts). s.filed) more in
+    let groups = c.args.site.now.groups.now in
+    let drawn = due_more groups c.in-Number.number (drawn_by c.loop-number.self.seat) (drawn_by c.claim.new.seat) a.2 in
+    let more : c.run_group.new.share.filed ≡ c.loop-number.self.share.filed + times c.in-Number.number groups = search rules in
     record {
       seat = c.claim.ensures.seat;
       starved = i.starved;
-      risen = risen_more _ _ _ c.in-Ok._reply i.risen more;
+      risen = risen_on _ _ _ i.risen c.run_group.ensures.risen;
       filed = let w = i.filed in omega arith;
     }
 
 pub returns : goal.returns
 returns g c = let i = c.loop-number.invariant in let a = c.in_default.ensures in let t = a.claim in
-    let same = empty_adds_none c.args.site.now.desk.now.numbers t.next (drawn_by c.loop-number.self.seat) (drawn_by c.claim.new.seat) t.answers t.draws in
+    let groups = c.args.site.now.groups.now in
+    let numbers = c.args.site.now.desk.now.numbers in
+    let jobs = map arc_value c.args.site.now.jobs.now in
+    let long = length-map jobs shape_of in
+    let many = length-map c.args.site.now.jobs.now arc_value in
+    let all : length (shapes_of jobs) ≡ numbers = omega (arith, long, many, c.requires.all) in
+    let below : All (λ k. k < numbers) groups = subst (λ n. All (λ k. k < n) groups) all (groups_below (shapes_of jobs) groups c.requires.groups) in
+    let same = empty_adds_none groups numbers t.next (drawn_by c.loop-number.self.seat) (drawn_by c.claim.new.seat) below t.answers t.draws in
     let w = i.filed in
     record {
       seat = a.seat;
@@ -40,7 +51,7 @@ pub returns-in-Err : goal.returns-in-Err
 returns-in-Err g c = let i = c.loop-number.invariant in
     record {
       seat = c.claim.ensures.seat;
-      risen = risen_still _ _ _ i.risen c.in-Err.ensures.unchanged;
+      risen = risen_on _ _ _ i.risen c.run_group.ensures.risen;
       filed = λ fed. absurd cc;
       ended = λ fed. absurd cc;
     }
