@@ -15,6 +15,14 @@ pub no_history : (b : BookView) (digest : List ℕ) (jobs : List JobState) → b
 unfolding new_book
 no_history b digest jobs is = ap (λ (v : BookView). v.history) is
 
+pub own_digest : (b : BookView) (digest : List ℕ) (jobs : List JobState) → b ≡ new_book digest jobs → b.digest ≡ digest
+unfolding new_book
+own_digest b digest jobs is = ap (λ (v : BookView). v.digest) is
+
+pub own_jobs : (b : BookView) (digest : List ℕ) (jobs : List JobState) → b ≡ new_book digest jobs → b.jobs ≡ jobs
+unfolding new_book
+own_jobs b digest jobs is = ap (λ (v : BookView). v.jobs) is
+
 -- without a closing entry there are only filings
 all_filings : (es : List Entry) → has_closing es ≡ false → es ≡ map Filed (filings_in es)
 all_filings [] still = refl

@@ -1,3 +1,4 @@
 pub mod Closings
+mod Faults
 mod RightStreams
 mod Words

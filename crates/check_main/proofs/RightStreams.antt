@@ -30,16 +30,17 @@ taken_is (Some xs) (Some ys) before more taken e f appended =
     let now : ys ≡ before ++ more = cc in
     append_cancel_left before more taken (sym now ∙ appended ∙ ap (λ t. t ++ taken) own)
 
--- the first bytes of a report were written
-pub said_right : (left left' held held' : Option (List ℕ)) (text output : List ℕ) (outcome : Outcome) → ReadsAll left left' text → IsReportOf text output outcome → TakesPrefix held held' output → YesIsRight left held held'
-said_right left left' held held' text output outcome read says taken known before more e f g line =
-    let is = taken_is held held' before more taken.taken f g taken.appended in
-    right_given left left' text read (by_line text output outcome says (subst SaysYes (sym taken.whole) (says_on taken.taken taken.rest (subst SaysYes is line)))) known e
+-- the first bytes of a report were written, or all of them
+pub said_right : (left left' held held' : Option (List ℕ)) (text output taken rest : List ℕ) (outcome : Outcome) → ReadsAll left left' text → IsReportOf text output outcome
+    → output ≡ taken ++ rest → Appends held held' taken → YesIsRight left held held'
+said_right left left' held held' text output taken rest outcome read says whole appended known before more e f g line =
+    let is = taken_is held held' before more taken f g appended in
+    right_given left left' text read (by_line text output outcome says (subst SaysYes (sym whole) (says_on taken rest (subst SaysYes is line)))) known e
 
 -- all of it was
 pub all_said_right : (left left' held held' : Option (List ℕ)) (text output : List ℕ) (outcome : Outcome) → ReadsAll left left' text → IsReportOf text output outcome → Appends held held' output → YesIsRight left held held'
 all_said_right left left' held held' text output outcome read says appended =
-    said_right left left' held held' text output outcome read says (record { taken = output; rest = []; whole = sym (append-nil output); appended = appended })
+    said_right left left' held held' text output output [] outcome read says (sym (append-nil output)) appended
 
 nothing_says : SaysYes [] → ⊥
 unfolding lines_of
@@ -56,7 +57,7 @@ nothing_said left held held' same text before more e f g line =
 pub written_right : {E : Type 0} (left left' held held' : Option (List ℕ)) (text output : List ℕ) (outcome : Outcome) → ReadsAll left left' text → IsReportOf text output outcome →
     (result : Result Outcome E) → OnOk result (Appends held held' output) → IfErr result (λ e. TakesPrefix held held' output) → YesIsRight left held held'
 written_right left left' held held' text output outcome read says (Ok o) all front = all_said_right left left' held held' text output outcome read says all
-written_right left left' held held' text output outcome read says (Err e) all front = said_right left left' held held' text output outcome read says front
+written_right left left' held held' text output outcome read says (Err e) all front = said_right left left' held held' text output front.taken front.rest outcome read says front.whole front.appended
 
 -- and it ended as the report does
 pub outcome_right : {E : Type 0} (left left' : Option (List ℕ)) (text output : List ℕ) (outcome : Outcome) → ReadsAll left left' text → IsReportOf text output outcome →

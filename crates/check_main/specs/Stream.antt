@@ -25,11 +25,12 @@ pub record GivesTooMuch (old new : Option (List ℕ)) : Type 0 where
 abbrev pub whole_text : List ℕ → FeedState
 whole_text text = record { text = text; taken = 0; closed = true; stop = None }
 
--- the writer took the first bytes of the output
+-- the writer took the first bytes of the output, and not all of them
 pub record TakesPrefix (old new : Option (List ℕ)) (output : List ℕ) : Type 0 where
   pub taken : List ℕ
   pub rest : List ℕ
   pub whole : output ≡ taken ++ rest
+  pub cut : 0 < length rest
   pub appended : Appends old new taken
 
 -- A command is a relation: which output, with which outcome, is right for a text.
@@ -42,7 +43,7 @@ pub record Answers (R : List ℕ → List ℕ → Outcome → Type 0) (left left
   pub right : R text output outcome
   pub written : Appends held held' output
 
--- a text was read whole, and the first bytes of an output that is right for it were written
+-- a text was read whole, and the first bytes of an output that is right for it were written, and not all of them
 pub record BreaksOff (R : List ℕ → List ℕ → Outcome → Type 0) (left left' held held' : Option (List ℕ)) : Type 0 where
   pub text : List ℕ
   pub output : List ℕ

@@ -1,7 +1,9 @@
 //! Runs the modules of a certificate by several workers, and keeps what they file.
 ghost use Rattle.std.specs.Prelude.{◌≡◌, ◌<◌, ◌≤◌, false, [], length, IfOk};
 ghost use Rattle.audit_core.specs.Book.{IsReplayed};
-ghost use Rattle.audit_core.specs.Concluding.{modules};
+ghost use Rattle.sha2.specs.Sha256.{sha256};
+ghost use Rattle.certificate.specs.Text.{certificate_text};
+ghost use Rattle.audit_core.specs.Concluding.{AreOwnJobs, modules};
 ghost use Rattle.audit_core.specs.Replay.{has_closing};
 ghost use Rattle.check_main.specs.Audits.{IsClosedOnce, filings_in};
 
@@ -13,7 +15,7 @@ use std::marker::Brand;
 use std::sync::ledger::{Blank, Ledger};
 use std::sync::{Arc, Wait};
 use std::thread::Threads;
-use verdict_book::{Book, Share, gather};
+use verdict_book::{Book, Filings, Share, gather};
 
 /// What the workers filed.
 #[derive(Drop)]
@@ -24,7 +26,8 @@ pub struct Audited {
     pub memory: bool,
 }
 
-/// Runs the modules of a certificate by 1 to 64 workers, which file what they find into one book, and closes the book.
+/// Runs the modules of a certificate by 1 to 64 workers, which file what they find into one book of its jobs, under its digest, and
+/// closes the book.
 ///
 /// A worker draws the number of a module, runs its job and files the finding, in a thread of its own where one can be made, until
 /// no number is left. The gate is told of each number. All workers have ended when it returns. `AllocError` is want of memory
@@ -37,6 +40,8 @@ pub fn audit<G: Gate + Sync, R: Threads + Wait + Sync>(
     gate: &G,
 ) -> Result<Audited, AllocError>
     requires workers { (0 < workers) × (workers ≤ 64) }
+    ensures digest { IfOk result (λ audited. audited.state.digest ≡ sha256 (certificate_text cert.now)) }
+    ensures jobs { IfOk result (λ audited. AreOwnJobs cert.now audited.state.jobs) }
     ensures replays { IfOk result (λ audited. IsReplayed audited.state) }
     ensures closed { IfOk result (λ audited. IsClosedOnce audited.state.history) }
     ensures filed { IfOk result (λ audited. audited.memory ≡ false → length (modules cert.now) ≤ length (filings_in audited.state.history)) }
@@ -45,19 +50,15 @@ pub fn audit<G: Gate + Sync, R: Threads + Wait + Sync>(
     let _count = cert.modules();
     let digest = cert.digest(alloc)?;
     let jobs = cert.jobs(alloc)?;
-    let state = BookState::new(alloc, digest, jobs.clone()?)?;
-    let filings = Blank::new(workers as u64);
-    let acceptances = Blank::new(workers as u64);
-    let mut audited = audited_by::<Brand, Brand, G, R>(
-        rt,
-        alloc,
-        gate,
-        &jobs,
+    let copies = jobs.clone()?;
+    let state = BookState::new(alloc, digest, jobs)?;
+    let beginning = Beginning {
         state,
-        filings,
-        acceptances,
+        filings: Blank::new(workers as u64),
+        acceptances: Blank::new(workers as u64),
         workers,
-    )?;
+    };
+    let mut audited = audited_by::<Brand, Brand, G, R>(rt, alloc, gate, &copies, beginning)?;
     // The history replays to the state.
     let _history = audited.state.history();
     audited.state.close()?;
@@ -65,28 +66,47 @@ pub fn audit<G: Gate + Sync, R: Threads + Wait + Sync>(
     Ok(audited)
 }
 
-// What the workers filed into a new book of these jobs, over two ledgers. It is still open.
-fn audited_by<F: Ledger + Sync, A: Ledger + Sync, G: Gate + Sync, R: Threads + Wait + Sync>(
+// A state without history, and the blanks of two ledgers with a part for each worker.
+#[derive(Drop)]
+struct Beginning {
+    state: BookState,
+    filings: Blank,
+    acceptances: Blank,
+    workers: usize,
+}
+
+// What the workers filed of these jobs into a book, over two ledgers. It is still open.
+fn audited_by<F: Filings + Sync, A: Ledger + Sync, G: Gate + Sync, R: Threads + Wait + Sync>(
     rt: &R,
     alloc: Global,
     gate: &G,
     jobs: &[Arc<Job>],
-    state: BookState,
-    f: Blank,
-    a: Blank,
-    workers: usize,
+    beginning: Beginning,
 ) -> Result<Audited, AllocError>
-    requires filings { (f.name ≡ F.name) × (f.parts ≡ F.parts) × (f.parts ≡ workers) }
-    requires acceptances { (a.name ≡ A.name) × (a.parts ≡ A.parts) × (a.parts ≡ workers) }
-    requires workers { (0 < workers) × (workers ≤ 64) }
+    requires filings { (beginning.filings.name ≡ F.name) × (beginning.filings.parts ≡ F.parts) × (beginning.filings.parts ≡ beginning.workers) }
+    requires acceptances { (beginning.acceptances.name ≡ A.name) × (beginning.acceptances.parts ≡ A.parts) × (beginning.acceptances.parts ≡ beginning.workers) }
+    requires workers { (0 < beginning.workers) × (beginning.workers ≤ 64) }
     requires jobs { length jobs.now ≤ 1024 }
-    requires fresh { state.history ≡ [] }
+    requires own { (beginning.state.digest ≡ F.digest) × (beginning.state.jobs ≡ F.jobs) }
+    requires fresh { beginning.state.history ≡ [] }
+    ensures own { IfOk result (λ audited. (audited.state.digest ≡ F.digest) × (audited.state.jobs ≡ F.jobs)) }
     ensures still_open { IfOk result (λ audited. has_closing audited.state.history ≡ false) }
     ensures filed { IfOk result (λ audited. audited.memory ≡ false → length audited.state.history ≡ length jobs.now) }
 {
-    let digest = state.digest();
-    let (book, shares): (Book<F, A>, Vec<Share<F, A>>) = Book::open(alloc, f, a, state, workers)?;
-    let WorkEnd { shares, memory } = work(rt, alloc, gate, digest, jobs, &book, shares);
+    let Beginning {
+        state,
+        filings,
+        acceptances,
+        workers,
+    } = beginning;
+    let (book, shares): (Book<F, A>, Vec<Share<F, A>>) = Book::open(
+        alloc,
+        filings,
+        acceptances,
+        state,
+        workers,
+    )?;
+    let WorkEnd { shares, memory } = work(rt, alloc, gate, jobs, &book, shares);
     let Ok(gathered) = gather(book, shares) else {
         unreachable!()
     };

@@ -1,5 +1,7 @@
 //! Checks a certificate: has its modules run by workers, and reports what was found.
-ghost use Rattle.std.specs.Prelude.{◌≡◌, ◌<◌, ◌≤◌, IfErr, IfOk};
+ghost use Rattle.std.specs.Prelude.{◌≡◌, ℕ, ◌<◌, ◌≤◌, false, IfErr, IfOk, IsErrOf};
+ghost use Rattle.audit_core.specs.Concluding.{AreOwnJobs};
+ghost use Rattle.audit_core.specs.Verdicts.{IsFirstMissing};
 ghost use Rattle.answers.specs.BundleReading.{bundle_by};
 ghost use Rattle.answers.specs.CheckText.{IsVerdictOn, SaysReport, verdict_outcome};
 ghost use Rattle.check_main.specs.Status.{IsUndecided, fault_after};
@@ -36,7 +38,7 @@ pub(crate) fn report_on<G: Gate + Sync, R: Threads + Wait + Sync>(
     })
 }
 
-// The verdict on a certificate, from what the workers filed.
+// The verdict on a certificate, whose modules so many workers run.
 fn verdict_on<G: Gate + Sync, R: Threads + Wait + Sync>(
     rt: &R,
     alloc: Global,
@@ -48,14 +50,26 @@ fn verdict_on<G: Gate + Sync, R: Threads + Wait + Sync>(
     ensures verdict { IfOk result (IsVerdictOn cert.now) }
     ensures undecided { IfErr result IsUndecided }
 {
+    let audited = audit(rt, alloc, cert, workers, gate)?;
+    verdict_from(alloc, cert, &audited)
+}
+
+// The verdict on a certificate, from what the workers filed. A finding is said to be missing only where it is, and there was memory
+// for all that the workers did.
+fn verdict_from(alloc: Global, cert: &Cert<'_>, audited: &Audited) -> Result<Verdict, CheckFault>
+    requires { AreOwnJobs cert.now audited.now.state.jobs }
+    ensures verdict { IfOk result (IsVerdictOn cert.now) }
+    ensures undecided { IfErr result IsUndecided }
+    ensures missing { IsErrOf result CheckFault.Missing → audited.now.memory ≡ false }
+    ensures lacking { IsErrOf result CheckFault.Missing → (number : ℕ) × IsFirstMissing audited.now.state audited.now.state.jobs number }
+{
     // What is known of the modules.
     let _count = cert.modules();
-    let Audited { state, memory } = audit(rt, alloc, cert, workers, gate)?;
-    let jobs = cert.jobs(alloc)?;
-    let borders = match_borders(alloc, cert, &jobs)?;
-    match conclude(alloc, cert, &jobs, &borders, &state) {
+    let jobs = audited.state.jobs();
+    let borders = match_borders(alloc, cert, jobs)?;
+    match conclude(alloc, cert, jobs, &borders, &audited.state) {
         Ok(verdict) => Ok(verdict),
-        Err(unfinished) => Err(fault_after(unfinished, memory)),
+        Err(unfinished) => Err(fault_after(unfinished, audited.memory)),
     }
 }
 

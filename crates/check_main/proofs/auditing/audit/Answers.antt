@@ -1,8 +1,10 @@
 -- The book is closed behind what the workers filed.
-use Rattle.std.proofs.Common.{arith}
+use Rattle.std.proofs.Common.{◌≡◌, ◌∙◌, ap, arith, length, rules, subst, sym}
 use Rattle.std.proofs.lemmas.List.{length-map}
 use Rattle.std.specs.Arc.{arc_value}
-use Rattle.check_main.proofs.Closings.{closed_once, filings_stay, no_history}
+use Rattle.audit_core.specs.Book.{BookView}
+use Rattle.audit_core.specs.Concluding.{AreOwnJobs}
+use Rattle.check_main.proofs.Closings.{closed_once, filings_stay, no_history, own_digest, own_jobs}
 use Rattle.check_main.proofs.auditing.audit.Goals as goal
 
 pub audited_by-requires-clause-fresh : goal.audited_by-requires-clause-fresh
@@ -17,4 +19,14 @@ returns-clause-filed g c = λ fed.
     let all = c.in_ok-audited.ensures.filed fed in
     let own = c.in_ok-jobs.ensures.count in
     let mapped = length-map c.in_ok-jobs.jobs.items arc_value in
-    omega (arith, same, all, own, mapped)
+    let copied : length c.in_ok-copies.copies.items ≡ length c.in_ok-jobs.jobs.items = search rules in
+    omega (arith, same, all, own, mapped, copied)
+
+pub returns-clause-digest : goal.returns-clause-digest
+returns-clause-digest g c =
+    ap (λ (b : BookView). b.digest) c.in_ok-close.ensures.after ∙ c.in_ok-audited.ensures.own.0 ∙ own_digest c.in_ok-state.state _ _ c.in_ok-state.ensures ∙ c.in_ok-digest.ensures
+
+pub returns-clause-jobs : goal.returns-clause-jobs
+returns-clause-jobs g c =
+    let same = ap (λ (b : BookView). b.jobs) c.in_ok-close.ensures.after ∙ c.in_ok-audited.ensures.own.1 ∙ own_jobs c.in_ok-state.state _ _ c.in_ok-state.ensures in
+    subst (AreOwnJobs c.args.cert.now) (sym same) c.in_ok-jobs.ensures

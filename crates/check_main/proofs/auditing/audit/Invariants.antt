@@ -1,8 +1,11 @@
--- Each ledger is its blank's.
+-- Each ledger is its blank's, and the book is of the state that it begins with.
 use Rattle.check_main.proofs.auditing.audit.Given as goal
 
+abbrev pub ghosts-audited_by-F-Filings : goal.ghosts-audited_by-F-Filings
+ghosts-audited_by-F-Filings g a = record { digest = a.beginning.state.digest; jobs = a.beginning.state.jobs }
+
 abbrev pub ghosts-audited_by-F-Ledger : goal.ghosts-audited_by-F-Ledger
-ghosts-audited_by-F-Ledger g a = record { name = a.f.name; parts = a.f.parts }
+ghosts-audited_by-F-Ledger g a = record { name = a.beginning.filings.name; parts = a.beginning.filings.parts }
 
 abbrev pub ghosts-audited_by-A-Ledger : goal.ghosts-audited_by-A-Ledger
-ghosts-audited_by-A-Ledger g a = record { name = a.a.name; parts = a.a.parts }
+ghosts-audited_by-A-Ledger g a = record { name = a.beginning.acceptances.name; parts = a.beginning.acceptances.parts }
