@@ -54,7 +54,8 @@ fn first_like(shapes: &[Arc<Shape>], keys: &[[u8; 32]], number: usize, first: us
     'earlier: for earlier in first..number {
         if keys[earlier] == keys[number] {
             let other: &Shape = &shapes[earlier];
-            if *other == *own {
+            let same = *other == *own;
+            if same {
                 return earlier;
             }
         }

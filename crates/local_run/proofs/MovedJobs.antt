@@ -1,7 +1,6 @@
 -- Jobs of the same shape have the same faults but for where they lie
-use Rattle.std.proofs.Common.{◌≡◌, ℕ, zero, suc, ◌+◌, ◌-◌, ◌*◌, ◌<◌, ◌≤◌, ◌%◌, ◌^◌, ◌&&◌, ◌||◌, Bool, true, false, List, [], ◌∷◌, map, length, get_or, Option, Some, None, Greater, refl, sym, ap, ap₂, subst, ◌∙◌, arith, inl, inr}
-use Rattle.std.specs.Prelude.{ℤ, pos, ◌+ℤ◌, ◌-ℤ◌, ◌≤ℤ◌, ◌≢◌, Contains, IsTrue, if◌then◌else◌, slice_get, unwrap_or, unsigned_abs}
-use Rattle.std.specs.Option.{option_map}
+use Rattle.std.proofs.Common.{◌≡◌, ℕ, zero, suc, ◌+◌, ◌-◌, ◌*◌, ◌<◌, ◌≤◌, ◌%◌, ◌^◌, ◌&&◌, ◌||◌, Bool, true, false, List, [], ◌∷◌, map, length, get_or, Some, None, refl, sym, ap, ap₂, subst, ◌∙◌, arith, inl, inr}
+use Rattle.std.specs.Prelude.{ℤ, pos, ◌+ℤ◌, ◌-ℤ◌, Contains, if◌then◌else◌, slice_get, unwrap_or, unsigned_abs}
 use Rattle.std.specs.Ordering.{nat_cmp, ordering_then}
 use Rattle.std.proofs.Props.{props}
 use Rattle.std.proofs.Math.Logic.{∥∥₁_map, ∥∥₁_elim}
@@ -16,18 +15,16 @@ use Rattle.module_box.specs.Boxes.{IsEven, in_box, in_ring}
 use Rattle.module_box.specs.Moves.{BoxMovesAlong, IsMovedBox, IsNear, IsSmall, moved_cell, moved_signals}
 use Rattle.module_box.specs.Schedules.{Signals, signal_at}
 use Rattle.module_box.specs.declared.boxes.Box2.{Box2}
-use Rattle.module_box.specs.declared.schedules.Signal.{Signal}
 use Rattle.module_box.specs.declared.schedules.Signal.TheVariants.{Zero}
 use Rattle.module_box.proofs.BoxCells.{in_box_nats}
 use Rattle.module_box.proofs.MovedBoxes.{boxes_moved, cell_back, cell_cmp_moved, signals_moved}
 use Rattle.certificate.specs.Jobs.{JobState, IsJob, job_demand, job_start, place_in}
 use Rattle.certificate.specs.Shapes.{ShapeState, back, moved_stop, shape_of}
 use Rattle.certificate.specs.Signals.{Meets, is_live}
-use Rattle.certificate.specs.declared.job.Demand.{Demand}
 use Rattle.certificate.specs.declared.job.Demand.TheVariants as Demanded
 use Rattle.certificate.specs.declared.job.Stop as listed
 use Rattle.certificate.proofs.ShapeParts.{back_forth, stops_back}
-use Rattle.local_run.specs.Faults.{HasFault, IsFault, IsFaultUnder, IsLeastFault}
+use Rattle.local_run.specs.Faults.{HasFault, IsFault, IsFaultUnder}
 use Rattle.local_run.specs.Moves.{FaultsMoveAlong, LeastFaultMovesAlong, columns_between, fault_on, rows_between}
 use Rattle.local_run.specs.Order.{fault_cmp, kind_number}
 use Rattle.local_run.specs.Runs.{local_run, with_halo}

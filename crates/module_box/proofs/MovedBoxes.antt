@@ -1,8 +1,7 @@
 -- Boxes and signals that are moved
-use Rattle.std.proofs.Common.{◌≡◌, ℕ, zero, suc, ◌+◌, ◌<◌, ◌≤◌, List, [], ◌∷◌, map, Bool, true, false, ◌&&◌, ◌||◌, not, Option, Some, None, Ordering, Less, Equal, Greater, refl, sym, ap, ap₂, ◌∙◌, arith, inl, inr}
+use Rattle.std.proofs.Common.{◌≡◌, ℕ, zero, suc, ◌+◌, List, [], ◌∷◌, map, ◌&&◌, ◌||◌, not, Some, Ordering, Less, Equal, Greater, refl, sym, ap, ap₂, ◌∙◌, arith}
 use Rattle.std.specs.Prelude.{ℤ, pos, ◌+ℤ◌, ◌-ℤ◌, int_le, int_lt, slice_get, unwrap_or, if◌then◌else◌, nat_eq}
 use Rattle.std.specs.Ordering.{int_eq, int_cmp, nat_cmp, ordering_then}
-use Rattle.std.proofs.lemmas.Bool.{cases_Bool, and_parts}
 use Rattle.std.proofs.lemmas.Int.{ints}
 use Rattle.bbm_rule.specs.Moves.{IsMoved}
 use Rattle.bbm_rule.specs.Plane.{State, is_at}
@@ -11,7 +10,7 @@ use Rattle.bbm_rule.specs.declared.block.Cell.{Cell}
 use Rattle.module_box.specs.Boxes.{in_box, in_ring, in_halo, some_neighbour}
 use Rattle.module_box.specs.Moments.{cell_cmp, moment_cmp}
 use Rattle.module_box.specs.Moves.{moved_cell, moved_held, moved_event, moved_signals, IsMovedBox, BoxesMoveAlong, SignalsMoveAlong}
-use Rattle.module_box.specs.Schedules.{IsRising, Signals, cell_of, moment_of, is_then, held_at, event_at, signal_at}
+use Rattle.module_box.specs.Schedules.{IsRising, Signals, cell_of, moment_of, held_at, event_at, signal_at}
 use Rattle.module_box.specs.declared.boxes.Box2.{Box2}
 use Rattle.module_box.specs.declared.schedules.Event.{Event}
 use Rattle.module_box.specs.declared.schedules.Held.{Held}

@@ -1,9 +1,8 @@
 -- Lists of numbers that tell what they were made of
-use Rattle.std.proofs.Common.{◌≡◌, ℕ, zero, suc, ◌+◌, List, [], ◌∷◌, ◌++◌, Bool, true, false, length, get_or, nat_eq, refl, sym, ap, ap₂, ◌∙◌, arith}
+use Rattle.std.proofs.Common.{◌≡◌, ℕ, zero, suc, ◌+◌, List, [], ◌∷◌, ◌++◌, true, false, length, get_or, nat_eq, refl, sym, ap, ap₂, ◌∙◌, arith}
 use Rattle.std.specs.List.{flat_map, range_with_len}
 use Rattle.std.proofs.lemmas.List.{append_assoc}
 use Rattle.circuit.specs.Gates.{Rule, Source, Fredkin, Cswap, Interact, Switch, Delay, Unswitch, Uninteract}
-use Rattle.circuit.specs.Meaning.{Gate, Netlist}
 use Rattle.module_box.specs.Equality.{rule_place}
 use Rattle.module_box.specs.Numbers.{AreTelling, NumbersTellGates, counted, gate_numbers, netlist_numbers, rule_detail}
 

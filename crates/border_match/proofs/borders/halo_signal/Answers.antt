@@ -1,6 +1,5 @@
-use Rattle.std.proofs.Common.{◌∙◌, sym, ap, subst}
+use Rattle.std.proofs.Common.{sym, subst}
 use Rattle.circuit.specs.Meaning.{wires}
-use Rattle.module_box.specs.Schedules.{Signals, signal_at}
 use Rattle.certificate.specs.Signals.{IsBelow}
 use Rattle.border_match.proofs.OwnSignals.{halo_below}
 use Rattle.border_match.proofs.borders.halo_signal.Goals as goal

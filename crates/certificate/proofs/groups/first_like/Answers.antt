@@ -7,16 +7,16 @@ use Rattle.module_box.proofs.EqualTests.{lists}
 use Rattle.certificate.proofs.EqualJobs.{shapes_decide}
 use Rattle.certificate.proofs.FirstShapes.{one_value, same_read, value_at}
 use Rattle.certificate.proofs.groups.first_like.Goals as goal
-use Rattle.certificate.proofs.groups.first_like.Goals.{then-eq+else-eq-2, else-eq}
+use Rattle.certificate.proofs.groups.first_like.Goals.{then-eq+else-same, else-eq}
 
-pub returns-then-eq-2 : goal.returns-then-eq-2
-returns-then-eq-2 c =
+pub returns-then-same : goal.returns-then-same
+returns-then-same c =
     let xs = c.args.shapes.now in
     let s = c.deref-own.result.now in
     let t = c.deref-other.result.now in
     let own : slice_get (map arc_value xs) c.args.number ≡ Some s = value_at arc_value xs c.args.number _ s c.requires.number c.index-shapes-number.is c.deref-own.ensures in
     let other : slice_get (map arc_value xs) c.earlier.earlier ≡ Some t = value_at arc_value xs c.earlier.earlier _ t (omega arith) c.index-shapes-earlier.is c.deref-other.ensures in
-    let same : t ≡ s = (shapes_decide t s).0 (sym c.eq-then-eq.ensures ∙ c.if-eq-2.true) in
+    let same : t ≡ s = (shapes_decide t s).0 (sym c.eq-same.ensures ∙ c.if-same.true) in
     record { same = other ∙ ap Some same ∙ sym own; first = c.earlier.invariant }
 
 pub earlier-preserved : goal.earlier-preserved
@@ -25,10 +25,10 @@ earlier-preserved c =
     let s = c.deref-own.result.now in
     let own : slice_get (map arc_value xs) c.args.number ≡ Some s = value_at arc_value xs c.args.number _ s c.requires.number c.index-shapes-number.is c.deref-own.ensures in
     below_more _ _ c.earlier.invariant (elim c.if-eq.branch [
-      | then-eq+else-eq-2 w ↦ (λ e.
+      | then-eq+else-same w ↦ (λ e.
           let t = w.deref-other.result.now in
           let other : slice_get (map arc_value xs) c.earlier.earlier ≡ Some t = value_at arc_value xs c.earlier.earlier _ t (omega arith) w.index-shapes-earlier.is w.deref-other.ensures in
-          false≢true (sym w.if-eq-2.false ∙ w.eq-then-eq.ensures ∙ (shapes_decide t s).1 (one_value _ _ t s other own e)))
+          false≢true (sym w.if-same.false ∙ w.eq-same.ensures ∙ (shapes_decide t s).1 (one_value _ _ t s other own e)))
       | else-eq w ↦ (λ e.
           let ks = c.args.keys.now in
           let same = same_read ks c.earlier.earlier c.args.number [] (c.requires.keys.same c.earlier.earlier c.args.number e) in

@@ -1,9 +1,4 @@
-use Rattle.std.proofs.Common.{◌∙◌, ap, sym, subst}
-use Rattle.std.specs.Prelude.{List}
-use Rattle.module_box.specs.Schedules.{Signals}
-use Rattle.module_box.specs.declared.schedules.Event.{Event}
-use Rattle.border_match.specs.Boards.{IsNamed}
-use Rattle.border_match.proofs.Least.{better_for, least_by_three}
+use Rattle.border_match.proofs.Least.{least_by_three}
 use Rattle.border_match.proofs.Steps.{fault_covered}
 use Rattle.border_match.proofs.borders.Borders.least_fault.Goals as goal
 

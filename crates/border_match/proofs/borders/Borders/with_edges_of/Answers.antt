@@ -1,10 +1,8 @@
-use Rattle.std.proofs.Common.{◌≡◌, ◌∙◌, sym, ap, ap₂, subst, Some}
-use Rattle.std.specs.Prelude.{List, slice_get}
+use Rattle.std.proofs.Common.{◌≡◌, ◌∙◌, sym, ap₂, Some}
+use Rattle.std.specs.Prelude.{slice_get}
 use Rattle.std.specs.Arc.{arc_value}
 use Rattle.std.proofs.lemmas.Bool.{false≢true}
-use Rattle.module_box.specs.Schedules.{Signals}
-use Rattle.module_box.specs.declared.schedules.Event.{Event}
-use Rattle.border_match.specs.Boards.{IsNamed, is_near, jobs_of}
+use Rattle.border_match.specs.Boards.{is_near, jobs_of}
 use Rattle.border_match.proofs.Cells.{job_at}
 use Rattle.border_match.proofs.Least.{better_same, better_for}
 use Rattle.border_match.proofs.Steps.{near_needed, edges_named}

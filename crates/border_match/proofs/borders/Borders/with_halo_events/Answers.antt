@@ -1,4 +1,4 @@
-use Rattle.std.proofs.Common.{◌∙◌, arith}
+use Rattle.std.proofs.Common.{arith}
 use Rattle.border_match.proofs.Least.{better_then, better_for}
 use Rattle.border_match.proofs.Steps.{named_step, named_all}
 use Rattle.border_match.proofs.borders.Borders.with_halo_events.Goals as goal

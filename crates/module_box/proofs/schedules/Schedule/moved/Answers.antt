@@ -1,6 +1,5 @@
-use Rattle.std.proofs.Common.{List, map, sym, subst, ◌∙◌, ap}
+use Rattle.std.proofs.Common.{List, sym, subst}
 use Rattle.module_box.specs.Moments.{cell_cmp, moment_cmp}
-use Rattle.module_box.specs.Moves.{moved_event, moved_held}
 use Rattle.module_box.specs.Schedules.{IsRising, cell_of, moment_of}
 use Rattle.module_box.specs.declared.schedules.Event.{Event}
 use Rattle.module_box.specs.declared.schedules.Held.{Held}
