@@ -1,14 +1,17 @@
 //! Runs the modules of a certificate by several workers, and keeps what they file.
-ghost use Rattle.std.specs.Prelude.{◌≡◌, ◌<◌, ◌≤◌, false, [], length, IfOk};
+ghost use Rattle.std.specs.Prelude.{◌≡◌, ◌<◌, ◌≤◌, false, [], length, map, IfOk};
+ghost use Rattle.std.specs.Arc.{arc_value};
 ghost use Rattle.audit_core.specs.Book.{IsReplayed};
 ghost use Rattle.sha2.specs.Sha256.{sha256};
+ghost use Rattle.certificate.specs.Groups.{AreGroups};
 ghost use Rattle.certificate.specs.Text.{certificate_text};
 ghost use Rattle.audit_core.specs.Concluding.{AreOwnJobs, modules};
 ghost use Rattle.audit_core.specs.Replay.{has_closing};
+ghost use Rattle.job_pool.specs.Work.{shapes_of};
 ghost use Rattle.check_main.specs.Audits.{IsClosedOnce, filings_in};
 
 use audit_core::BookState;
-use certificate::{Cert, Job};
+use certificate::{Cert, Job, job_groups};
 use job_pool::{Gate, WorkEnd, work};
 use std::alloc::{AllocError, Global};
 use std::marker::Brand;
@@ -29,9 +32,9 @@ pub struct Audited {
 /// Runs the modules of a certificate by 1 to 64 workers, which file what they find into one book of its jobs, under its digest, and
 /// closes the book.
 ///
-/// A worker draws the number of a module, runs its job and files the finding, in a thread of its own where one can be made, until
-/// no number is left. The gate is told of each number. All workers have ended when it returns. `AllocError` is want of memory
-/// before the workers began, or for the closing entry.
+/// A worker draws the number of a module, and where that is the first of its shape, runs its job and files the findings of all modules
+/// of that shape, in a thread of its own where one can be made, until no number is left. The gate is told of each number. All
+/// workers have ended when it returns. `AllocError` is want of memory before the workers began, or for the closing entry.
 pub fn audit<G: Gate + Sync, R: Threads + Wait + Sync>(
     rt: &R,
     alloc: Global,
@@ -51,6 +54,7 @@ pub fn audit<G: Gate + Sync, R: Threads + Wait + Sync>(
     let digest = cert.digest(alloc)?;
     let jobs = cert.jobs(alloc)?;
     let copies = jobs.clone()?;
+    let groups = job_groups(alloc, &copies)?;
     let state = BookState::new(alloc, digest, jobs)?;
     let beginning = Beginning {
         state,
@@ -58,7 +62,9 @@ pub fn audit<G: Gate + Sync, R: Threads + Wait + Sync>(
         acceptances: Blank::new(workers as u64),
         workers,
     };
-    let mut audited = audited_by::<Brand, Brand, G, R>(rt, alloc, gate, &copies, beginning)?;
+    let mut audited = audited_by::<Brand, Brand, G, R>(
+        rt, alloc, gate, &copies, &groups, beginning,
+    )?;
     // The history replays to the state.
     let _history = audited.state.history();
     audited.state.close()?;
@@ -81,12 +87,14 @@ fn audited_by<F: Filings + Sync, A: Ledger + Sync, G: Gate + Sync, R: Threads + 
     alloc: Global,
     gate: &G,
     jobs: &[Arc<Job>],
+    groups: &[usize],
     beginning: Beginning,
 ) -> Result<Audited, AllocError>
     requires filings { (beginning.filings.name ≡ F.name) × (beginning.filings.parts ≡ F.parts) × (beginning.filings.parts ≡ beginning.workers) }
     requires acceptances { (beginning.acceptances.name ≡ A.name) × (beginning.acceptances.parts ≡ A.parts) × (beginning.acceptances.parts ≡ beginning.workers) }
     requires workers { (0 < beginning.workers) × (beginning.workers ≤ 64) }
     requires jobs { length jobs.now ≤ 1024 }
+    requires groups { AreGroups (shapes_of (map arc_value jobs.now)) groups.now }
     requires own { (beginning.state.digest ≡ F.digest) × (beginning.state.jobs ≡ F.jobs) }
     requires fresh { beginning.state.history ≡ [] }
     ensures own { IfOk result (λ audited. (audited.state.digest ≡ F.digest) × (audited.state.jobs ≡ F.jobs)) }
@@ -106,7 +114,11 @@ fn audited_by<F: Filings + Sync, A: Ledger + Sync, G: Gate + Sync, R: Threads + 
         state,
         workers,
     )?;
-    let WorkEnd { shares, memory } = work(rt, alloc, gate, jobs, &book, shares);
+    let WorkEnd {
+        shares,
+        memory,
+        runs: _,
+    } = work(rt, alloc, gate, jobs, groups, &book, shares);
     let Ok(gathered) = gather(book, shares) else {
         unreachable!()
     };
