@@ -1,9 +1,9 @@
 """The least faults of a bundle's modules, in plain Python and straight from the definitions: a module is run by itself under one
 assignment after another, its live cells are a set, and all of its faults are made before the least is taken.
 
-answer(text) gives the exit status of worked_findings and what it writes.
+least_fault(circuit, layout, module) gives the time, the kind's number, y, x and the assignment, or None.
 """
-from reference import PARTS, ROWS, Certificate, Circuit, Layout, Lines, Refused, cells_of, read_section, ring_of, stepped
+from reference import PARTS, ROWS, Layout, cells_of, ring_of, stepped
 
 KINDS = ["edge", "stop", "end"]
 
@@ -67,24 +67,3 @@ def least_fault(circuit, layout, module):
         values = local_values(circuit, module, assignment)
         faults |= {(*fault, assignment) for fault in faults_under(layout, module, values)}
     return min(faults, default=None)
-
-
-def line_of(number, fault):
-    if fault is None:
-        return b"module %d none\n" % number
-    time, kind, y, x, assignment = fault
-    return b"module %d %d %s %d %d %d\n" % (number, time, KINDS[kind].encode(), x, y, assignment)
-
-
-def answer(text):
-    lines = Lines(text)
-    try:
-        circuit = read_section(lines, Circuit())
-        known = {b"in": set(circuit.inputs), b"out": set(circuit.outputs)}
-        layout = read_section(lines, Pattern(known))
-        certificate = read_section(lines, Certificate(circuit, layout))
-        lines.finish()
-    except Refused as refused:
-        return 1, b"refused %d %d\n" % refused.args
-    faults = [least_fault(circuit, layout, module) for module in certificate.modules]
-    return 0, b"".join(line_of(number, fault) for number, fault in enumerate(faults))

@@ -1,27 +1,43 @@
-/* Preloaded into a program: refuses the growth of memory whose number is in REFUSE, counted from 1. At the
-   end, the file named by COUNT, if any, holds how many growths were asked for. */
+/* Preloaded into a program: refuses the growth of memory whose number is in REFUSE, counted from 1. The file named by COUNT, if
+   any, holds at each moment how many growths were asked for, as a long in the machine's form: however the program ends, no code
+   of this library need run then. */
 #define _GNU_SOURCE
 #include <dlfcn.h>
 #include <errno.h>
 #include <fcntl.h>
+#include <stdatomic.h>
 #include <stdlib.h>
 #include <string.h>
+#include <sys/mman.h>
 #include <unistd.h>
 
-static long asked, refused;
+static long refused;
+static _Atomic long unmapped;
+static _Atomic long *asked = &unmapped;
 static void *(*next_malloc)(size_t), *(*next_realloc)(void *, size_t), *(*next_aligned)(size_t, size_t);
 
+static void map_count(const char *name) {
+    int file = open(name, O_RDWR | O_CREAT | O_TRUNC, 0600);
+    if (file < 0 || ftruncate(file, sizeof(long))) _exit(127);
+    void *at = mmap(NULL, sizeof(long), PROT_READ | PROT_WRITE, MAP_SHARED, file, 0);
+    if (at == MAP_FAILED) _exit(127);
+    close(file);
+    asked = at;
+}
+
+/* Growths before this are the loader's own, and not counted. */
 __attribute__((constructor)) static void start(void) {
     next_malloc = dlsym(RTLD_NEXT, "malloc");
     next_realloc = dlsym(RTLD_NEXT, "realloc");
     next_aligned = dlsym(RTLD_NEXT, "aligned_alloc");
-    const char *number = getenv("REFUSE");
+    const char *number = getenv("REFUSE"), *name = getenv("COUNT");
+    if (name) map_count(name);
+    *asked = 0;
     refused = number ? atol(number) : 0;
-    asked = 0;
 }
 
 static int is_refused(void) {
-    if (++asked != refused) return 0;
+    if (atomic_fetch_add(asked, 1) + 1 != refused) return 0;
     errno = ENOMEM;
     return 1;
 }
@@ -57,17 +73,4 @@ int posix_memalign(void **made, size_t alignment, size_t size) {
     if (!room) return ENOMEM;
     *made = room;
     return 0;
-}
-
-__attribute__((destructor)) static void end(void) {
-    const char *name = getenv("COUNT");
-    if (!name) return;
-    char digits[24];
-    char *at = digits + sizeof digits;
-    long rest = asked;
-    do *--at = '0' + rest % 10; while (rest /= 10);
-    int file = open(name, O_WRONLY | O_CREAT | O_TRUNC, 0600);
-    if (file < 0) return;
-    (void)!write(file, at, digits + sizeof digits - at);
-    close(file);
 }

@@ -14,7 +14,7 @@ use clap::Error;
 use clap::error::ErrorKind;
 use command_line::{Asked, Request, read_words};
 use device::{Sink, Source};
-use job_pool::OpenGate;
+use job_pool::{Gate, OpenGate};
 use std::alloc::Global;
 use std::sync::Wait;
 use std::thread::Threads;
@@ -32,6 +32,17 @@ const DEVICE_FAULT: u8 = 4;
 
 const NOT_DECIDED: u8 = 5;
 
+/// What a command reads from and writes to.
+#[derive(Drop)]
+pub struct Streams<R, W, E> {
+    /// Gives the text.
+    pub reader: R,
+    /// Takes the answer.
+    pub writer: W,
+    /// Is told what is wrong with the words, and a line for a status of 4 or 5.
+    pub errors: E,
+}
+
 /// Does what the words ask for and gives the exit status. The words have no program's name.
 ///
 /// - 0: the command is done, or help was asked for and written
@@ -47,82 +58,156 @@ pub fn program<'a, T, R, W, E>(
     rt: &T,
     alloc: Global,
     words: &'a [&'a str],
-    reader: &mut R,
-    writer: &mut W,
-    errors: &mut E,
+    streams: &mut Streams<R, W, E>,
 ) -> u8
 where
     T: Threads + Wait + Sync,
     R: Source,
     W: Sink,
     E: Sink,
-    requires reader_works { R.has_failed reader.old ≡ false }
-    requires writer_works { W.has_failed writer.old ≡ false }
+    requires reader_works { R.has_failed streams.old.reader ≡ false }
+    requires writer_works { W.has_failed streams.old.writer ≡ false }
     ensures range { result ≤ 5 }
     ensures accepted { IsAccepted (map (λ s. s.now) words.entry.now) → result ≢ 2 }
-    ensures unread { ¬ IsAccepted (map (λ s. s.now) words.entry.now) → reader.new ≡ reader.old }
+    ensures unread { ¬ IsAccepted (map (λ s. s.now) words.entry.now) → streams.new.reader ≡ streams.old.reader }
     ensures help { ¬ IsAccepted (map (λ s. s.now) words.entry.now) → result ≢ 2 → result ≢ 5 →
         AsksForHelp (map (λ s. s.now) words.entry.now) }
 
     ensures yes { IsAccepted (map (λ s. s.now) words.entry.now) → result ≡ 0
         → Answers (IsAnswerTo (asked_by (map (λ s. s.now) words.entry.now)))
-        (R.left reader.old) (R.left reader.new)
-        (W.held writer.old) (W.held writer.new) Outcome.Yes }
+        (R.left streams.old.reader) (R.left streams.new.reader)
+        (W.held streams.old.writer) (W.held streams.new.writer) Outcome.Yes }
 
     // What a yes of `check` means, by the status and by what is written.
     ensures correct { IsAccepted (map (λ s. s.now) words.entry.now) → asked_by (map (λ s. s.now) words.entry.now) ≡ Request.Check → result ≡ 0
-        → GivesRight (R.left reader.old) }
+        → GivesRight (R.left streams.old.reader) }
     ensures says_yes { IsAccepted (map (λ s. s.now) words.entry.now) → asked_by (map (λ s. s.now) words.entry.now) ≡ Request.Check
-        → YesIsRight (R.left reader.old) (W.held writer.old) (W.held writer.new) }
+        → YesIsRight (R.left streams.old.reader) (W.held streams.old.writer) (W.held streams.new.writer) }
 
     ensures no { result ≡ 1 → Answers (IsAnswerTo (asked_by (map (λ s. s.now) words.entry.now)))
-        (R.left reader.old) (R.left reader.new)
-        (W.held writer.old) (W.held writer.new) Outcome.No }
-    ensures words { result ≡ 2 → (reader.new ≡ reader.old) × (writer.new ≡ writer.old) }
+        (R.left streams.old.reader) (R.left streams.new.reader)
+        (W.held streams.old.writer) (W.held streams.new.writer) Outcome.No }
+    ensures words { result ≡ 2 → (streams.new.reader ≡ streams.old.reader) × (streams.new.writer ≡ streams.old.writer) }
     ensures refused { result ≡ 3 → Answers (IsAnswerTo (asked_by (map (λ s. s.now) words.entry.now)))
-        (R.left reader.old) (R.left reader.new)
-        (W.held writer.old) (W.held writer.new) Outcome.Refused }
+        (R.left streams.old.reader) (R.left streams.new.reader)
+        (W.held streams.old.writer) (W.held streams.new.writer) Outcome.Refused }
     // Each fault comes only where it is one, and its line is said.
     ensures device { result ≡ 4 →
-        ((R.has_failed reader.new ≡ true)
-        × Says (E.held errors.old) (E.held errors.new) (E.has_failed errors.new) CheckFault.Read)
-        ⊎ ((W.has_failed writer.new ≡ true)
-        × Says (E.held errors.old) (E.held errors.new) (E.has_failed errors.new) CheckFault.Write)
-        ⊎ (GivesTooMuch (R.left reader.old) (R.left reader.new)
-        × Says (E.held errors.old) (E.held errors.new) (E.has_failed errors.new) CheckFault.TooLong) }
-    ensures works { result ≢ 4 → W.has_failed writer.new ≡ false }
-    ensures unwritten { result ≡ 4 → W.has_failed writer.new ≡ false → writer.new ≡ writer.old }
+        ((R.has_failed streams.new.reader ≡ true)
+        × Says (E.held streams.old.errors) (E.held streams.new.errors) (E.has_failed streams.new.errors) CheckFault.Read)
+        ⊎ ((W.has_failed streams.new.writer ≡ true)
+        × Says (E.held streams.old.errors) (E.held streams.new.errors) (E.has_failed streams.new.errors) CheckFault.Write)
+        ⊎ (GivesTooMuch (R.left streams.old.reader) (R.left streams.new.reader)
+        × Says (E.held streams.old.errors) (E.held streams.new.errors) (E.has_failed streams.new.errors) CheckFault.TooLong) }
+    ensures works { result ≢ 4 → W.has_failed streams.new.writer ≡ false }
+    ensures unwritten { result ≡ 4 → W.has_failed streams.new.writer ≡ false → streams.new.writer ≡ streams.old.writer }
 
     ensures prefix { IsAccepted (map (λ s. s.now) words.entry.now)
-        → result ≡ 4 → W.has_failed writer.new ≡ true
+        → result ≡ 4 → W.has_failed streams.new.writer ≡ true
         → BreaksOff (IsAnswerTo (asked_by (map (λ s. s.now) words.entry.now)))
-        (R.left reader.old) (R.left reader.new)
-        (W.held writer.old) (W.held writer.new) }
+        (R.left streams.old.reader) (R.left streams.new.reader)
+        (W.held streams.old.writer) (W.held streams.new.writer) }
 
-    ensures not_decided { result ≡ 5 → (writer.new ≡ writer.old)
-        × (Says (E.held errors.old) (E.held errors.new) (E.has_failed errors.new) CheckFault.Memory
+    ensures not_decided { result ≡ 5 → (streams.new.writer ≡ streams.old.writer)
+        × (Says (E.held streams.old.errors) (E.held streams.new.errors) (E.has_failed streams.new.errors) CheckFault.Memory
         ⊎ ((asked_by (map (λ s. s.now) words.entry.now) ≡ Request.Check)
-        × Says (E.held errors.old) (E.held errors.new) (E.has_failed errors.new) CheckFault.Missing)) }
+        × Says (E.held streams.old.errors) (E.held streams.new.errors) (E.has_failed streams.new.errors) CheckFault.Missing)) }
 
     // Where an answer or help was written, nothing is said.
-    ensures quiet { result ≢ 2 → result ≢ 4 → result ≢ 5 → errors.new ≡ errors.old }
+    ensures quiet { result ≢ 2 → result ≢ 4 → result ≢ 5 → streams.new.errors ≡ streams.old.errors }
+{
+    program_with(rt, alloc, words, streams, &OpenGate)
+}
+
+/// As `program`, where the workers of `check` tell a gate of each module, before and after they run it.
+pub fn program_with<'a, T, R, W, E, G>(
+    rt: &T,
+    alloc: Global,
+    words: &'a [&'a str],
+    streams: &mut Streams<R, W, E>,
+    gate: &G,
+) -> u8
+where
+    T: Threads + Wait + Sync,
+    R: Source,
+    W: Sink,
+    E: Sink,
+    G: Gate + Sync,
+    requires reader_works { R.has_failed streams.old.reader ≡ false }
+    requires writer_works { W.has_failed streams.old.writer ≡ false }
+    ensures range { result ≤ 5 }
+    ensures accepted { IsAccepted (map (λ s. s.now) words.entry.now) → result ≢ 2 }
+    ensures unread { ¬ IsAccepted (map (λ s. s.now) words.entry.now) → streams.new.reader ≡ streams.old.reader }
+    ensures help { ¬ IsAccepted (map (λ s. s.now) words.entry.now) → result ≢ 2 → result ≢ 5 →
+        AsksForHelp (map (λ s. s.now) words.entry.now) }
+
+    ensures yes { IsAccepted (map (λ s. s.now) words.entry.now) → result ≡ 0
+        → Answers (IsAnswerTo (asked_by (map (λ s. s.now) words.entry.now)))
+        (R.left streams.old.reader) (R.left streams.new.reader)
+        (W.held streams.old.writer) (W.held streams.new.writer) Outcome.Yes }
+
+    // What a yes of `check` means, by the status and by what is written.
+    ensures correct { IsAccepted (map (λ s. s.now) words.entry.now) → asked_by (map (λ s. s.now) words.entry.now) ≡ Request.Check → result ≡ 0
+        → GivesRight (R.left streams.old.reader) }
+    ensures says_yes { IsAccepted (map (λ s. s.now) words.entry.now) → asked_by (map (λ s. s.now) words.entry.now) ≡ Request.Check
+        → YesIsRight (R.left streams.old.reader) (W.held streams.old.writer) (W.held streams.new.writer) }
+
+    ensures no { result ≡ 1 → Answers (IsAnswerTo (asked_by (map (λ s. s.now) words.entry.now)))
+        (R.left streams.old.reader) (R.left streams.new.reader)
+        (W.held streams.old.writer) (W.held streams.new.writer) Outcome.No }
+    ensures words { result ≡ 2 → (streams.new.reader ≡ streams.old.reader) × (streams.new.writer ≡ streams.old.writer) }
+    ensures refused { result ≡ 3 → Answers (IsAnswerTo (asked_by (map (λ s. s.now) words.entry.now)))
+        (R.left streams.old.reader) (R.left streams.new.reader)
+        (W.held streams.old.writer) (W.held streams.new.writer) Outcome.Refused }
+    // Each fault comes only where it is one, and its line is said.
+    ensures device { result ≡ 4 →
+        ((R.has_failed streams.new.reader ≡ true)
+        × Says (E.held streams.old.errors) (E.held streams.new.errors) (E.has_failed streams.new.errors) CheckFault.Read)
+        ⊎ ((W.has_failed streams.new.writer ≡ true)
+        × Says (E.held streams.old.errors) (E.held streams.new.errors) (E.has_failed streams.new.errors) CheckFault.Write)
+        ⊎ (GivesTooMuch (R.left streams.old.reader) (R.left streams.new.reader)
+        × Says (E.held streams.old.errors) (E.held streams.new.errors) (E.has_failed streams.new.errors) CheckFault.TooLong) }
+    ensures works { result ≢ 4 → W.has_failed streams.new.writer ≡ false }
+    ensures unwritten { result ≡ 4 → W.has_failed streams.new.writer ≡ false → streams.new.writer ≡ streams.old.writer }
+
+    ensures prefix { IsAccepted (map (λ s. s.now) words.entry.now)
+        → result ≡ 4 → W.has_failed streams.new.writer ≡ true
+        → BreaksOff (IsAnswerTo (asked_by (map (λ s. s.now) words.entry.now)))
+        (R.left streams.old.reader) (R.left streams.new.reader)
+        (W.held streams.old.writer) (W.held streams.new.writer) }
+
+    ensures not_decided { result ≡ 5 → (streams.new.writer ≡ streams.old.writer)
+        × (Says (E.held streams.old.errors) (E.held streams.new.errors) (E.has_failed streams.new.errors) CheckFault.Memory
+        ⊎ ((asked_by (map (λ s. s.now) words.entry.now) ≡ Request.Check)
+        × Says (E.held streams.old.errors) (E.held streams.new.errors) (E.has_failed streams.new.errors) CheckFault.Missing)) }
+
+    // Where an answer or help was written, nothing is said.
+    ensures quiet { result ≢ 2 → result ≢ 4 → result ≢ 5 → streams.new.errors ≡ streams.old.errors }
 {
     match read_words(alloc, words) {
         Ok(asked) => {
-            let ended = serve(rt, alloc, asked, reader, writer);
-            status_of(ended, errors)
+            let ended = serve(
+                rt,
+                alloc,
+                asked,
+                &mut streams.reader,
+                &mut streams.writer,
+                gate,
+            );
+            status_of(ended, &mut streams.errors)
         }
-        Err(error) => explain(alloc, &error, writer, errors),
+        Err(error) => explain(alloc, &error, &mut streams.writer, &mut streams.errors),
     }
 }
 
 // Each command is a call over the two streams.
-fn serve<T: Threads + Wait + Sync, R: Source, W: Sink>(
+fn serve<T: Threads + Wait + Sync, R: Source, W: Sink, G: Gate + Sync>(
     rt: &T,
     alloc: Global,
     asked: Asked,
     reader: &mut R,
     writer: &mut W,
+    gate: &G,
 ) -> Result<Outcome, CheckFault>
     requires workers { (0 < asked.workers) × (asked.workers ≤ 64) }
     requires reader_works { R.has_failed reader.old ≡ false }
@@ -143,7 +228,7 @@ fn serve<T: Threads + Wait + Sync, R: Source, W: Sink>(
     ensures says_yes { asked.request ≡ Request.Check → YesIsRight (R.left reader.old) (W.held writer.old) (W.held writer.new) }
 {
     match asked.request {
-        Request::Check => check_stream(rt, alloc, reader, writer, asked.workers, &OpenGate),
+        Request::Check => check_stream(rt, alloc, reader, writer, asked.workers, gate),
         Request::Run => run_stream(alloc, reader, writer),
         Request::Value => value_stream(alloc, reader, writer),
         Request::Modules => modules_stream(alloc, reader, writer),

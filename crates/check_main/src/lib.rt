@@ -13,5 +13,5 @@ pub use answers::Outcome;
 pub use auditing::{Audited, audit};
 pub use device::{Over, Sink, Source};
 pub use fault::CheckFault;
-pub use front::program;
+pub use front::{Streams, program, program_with};
 pub use stream::{check_stream, modules_stream, run_stream, value_stream};

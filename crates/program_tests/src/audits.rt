@@ -1,123 +1,17 @@
 //! Workers that a gate holds back, over the four modules of a worked bundle. What is expected was worked out by hand.
 ghost use Rattle.std.specs.Prelude.{◌<◌, ◌≤◌};
 
-use crate::bundles::{BAD, GOOD, NO, YES, fed, sections};
+use crate::bundles::{NO, YES};
+use crate::gates::{Hold, Holding};
 use audit_core::{Entry, Filing, Reply};
 use certificate::read_certificate;
-use check_main::{Outcome, Over, audit, check_stream};
+use check_main::{Audited, Outcome, Over, audit, check_stream};
 use job_pool::{Gate, OpenGate};
 use std::alloc::Global;
 use std::process::Abort;
 use std::sync::Wait;
-use std::sync::atomic::{AtomicBool, AtomicU64, Ordering};
-use std::test::Fail;
-use std::thread;
 use std::thread::Threads;
-
-/// A worker that is held back goes on after so many turns, whatever the others do.
-const MOST_TURNS: u32 = 10_000_000;
-
-/// For what a number is held back before its job is run.
-#[derive(Clone, Copy)]
-enum Hold {
-    /// The first two numbers, each until the other has begun.
-    FirstTwo,
-    /// Each number but the last, until the next one has ended.
-    Reverse,
-    /// This number, until the three others have ended.
-    UntilOthers(usize),
-}
-
-/// Counts what it is told of each number, and holds numbers back.
-#[derive(Drop)]
-struct Holding {
-    hold: Hold,
-    begun: [AtomicU64; 4],
-    ended: [AtomicU64; 4],
-    late: AtomicBool,
-}
-
-fn no_counts() -> [AtomicU64; 4] {
-    [
-        AtomicU64::new(0),
-        AtomicU64::new(0),
-        AtomicU64::new(0),
-        AtomicU64::new(0),
-    ]
-}
-
-/// Whether a number is counted at least once.
-fn is_counted(counts: &[AtomicU64; 4], number: usize) -> bool {
-    match counts.get(number) {
-        Some(count) => count.load(Ordering::SeqCst) > 0,
-        None => false,
-    }
-}
-
-fn count_one(counts: &[AtomicU64; 4], number: usize) {
-    if let Some(count) = counts.get(number) {
-        count.fetch_add(1, Ordering::SeqCst);
-    }
-}
-
-/// Whether each number is counted once.
-fn are_ones(counts: &[AtomicU64; 4]) -> bool {
-    counts.iter().all(|count| count.load(Ordering::SeqCst) == 1)
-}
-
-impl Holding {
-    fn new(hold: Hold) -> Holding {
-        Holding {
-            hold,
-            begun: no_counts(),
-            ended: no_counts(),
-            late: AtomicBool::new(false),
-        }
-    }
-
-    /// Whether the number may go on.
-    fn lets(&self, number: usize) -> bool {
-        match self.hold {
-            Hold::FirstTwo => match number {
-                0 => is_counted(&self.begun, 1),
-                1 => is_counted(&self.begun, 0),
-                _ => true,
-            },
-            Hold::Reverse => match number {
-                0 => is_counted(&self.ended, 1),
-                1 => is_counted(&self.ended, 2),
-                2 => is_counted(&self.ended, 3),
-                _ => true,
-            },
-            Hold::UntilOthers(held) => {
-                number != held
-                    || (0..4).all(|other| other == held || is_counted(&self.ended, other))
-            }
-        }
-    }
-
-    /// Whether each number was told of once before and once after, and none was held too long.
-    fn was_kept(&self) -> bool {
-        are_ones(&self.begun) && are_ones(&self.ended) && !self.late.load(Ordering::SeqCst)
-    }
-}
-
-impl Gate for Holding {
-    fn before(&self, number: usize) {
-        count_one(&self.begun, number);
-        for _ in 0..MOST_TURNS {
-            if self.lets(number) {
-                return;
-            }
-            thread::yield_now();
-        }
-        self.late.store(true, Ordering::SeqCst);
-    }
-
-    fn after(&self, number: usize) {
-        count_one(&self.ended, number);
-    }
-}
+use test_support::{ALONE, GOOD, fed, sections};
 
 /// Whether `check` ends so over a text, and writes this.
 fn is_checked<G: Gate + Sync, T: Threads + Wait + Sync>(
@@ -142,7 +36,7 @@ fn is_checked<G: Gate + Sync, T: Threads + Wait + Sync>(
 
 #[test]
 fn writes_the_same_for_each_number_of_workers(rt: HostRuntime) {
-    for text in [GOOD, BAD] {
+    for text in [GOOD, ALONE] {
         for workers in [1usize, 2, 3, 64] {
             assert!(rt;
                 is_checked(&rt, rt.alloc(), text, workers, &OpenGate),
@@ -164,7 +58,7 @@ const HOLDS: [(Hold, usize); 6] = [
 
 #[test]
 fn writes_the_same_whatever_is_held_back(rt: HostRuntime) {
-    for text in [GOOD, BAD] {
+    for text in [GOOD, ALONE] {
         for (hold, workers) in HOLDS {
             assert!(rt; 0 < workers && workers <= 64);
             let gate = Holding::new(hold);
@@ -177,42 +71,46 @@ fn writes_the_same_whatever_is_held_back(rt: HostRuntime) {
     }
 }
 
-/// The numbers of accepted findings, in the order in which they were filed, 4 for a closing entry, and 5 for anything else.
+/// The number of an accepted finding, 4 for a closing entry, and 5 for anything else.
+fn number_of(entry: &Entry) -> usize {
+    match entry {
+        Entry::Closing => 4,
+        Entry::Filed(filing) => accepted(filing),
+    }
+}
+
+fn accepted(filing: &Filing) -> usize {
+    if filing.reply == Reply::Accepted {
+        filing.number
+    } else {
+        5
+    }
+}
+
+/// The numbers of a history of five entries.
 fn numbers_of(history: &[Entry]) -> [usize; 5] {
     let mut numbers = [5; 5];
     for (number, entry) in numbers.iter_mut().zip(history) {
-        *number = match entry {
-            Entry::Filed(
-                Filing {
-                    number,
-                    reply: Reply::Accepted,
-                    ..
-                },
-            ) => *number,
-            Entry::Filed(_) => 5,
-            Entry::Closing => 4,
-        };
+        *number = number_of(entry);
     }
     numbers
 }
 
-/// What workers file of the accepted bundle.
-fn audited<T: Abort + Threads + Wait + Sync>(
+/// What so many workers file of a bundle.
+pub(crate) fn audited<T: Abort + Threads + Wait + Sync, G: Gate + Sync>(
     rt: &T,
     alloc: Global,
+    text: &str,
     workers: usize,
-    gate: &Holding,
-) -> Result<[usize; 5], Fail>
+    gate: &G,
+) -> Audited
     requires { (0 < workers) × (workers ≤ 64) }
 {
-    let mut feed = fed(rt, alloc, GOOD);
-    let (circuit, layout) = sections(rt, alloc, &mut feed)?;
-    assert!(rt; feed.closed());
-    let certificate = read_certificate(alloc, &mut feed, &circuit, &layout)?;
-    let audited = audit(rt, alloc, &certificate, workers, gate)?;
-    assert!(rt; !audited.memory && audited.state.is_closed());
-    assert!(rt; audited.state.accepted() == 4 && audited.state.history().len() == 5);
-    Ok(numbers_of(audited.state.history()))
+    let mut feed = fed(alloc, text.as_bytes()).expect(rt, "a text");
+    let (circuit, layout) = sections(alloc, &mut feed).expect(rt, "two sections");
+    let certificate = read_certificate(alloc, &mut feed, &circuit, &layout);
+    let certificate = certificate.expect(rt, "a certificate");
+    audit(rt, alloc, &certificate, workers, gate).expect(rt, "an audit")
 }
 
 /// How the numbers of the findings end.
@@ -228,13 +126,15 @@ fn end_of(hold: Hold) -> &'static [usize] {
 }
 
 #[test]
-fn an_audit_files_in_the_order_of_the_gate(rt: HostRuntime) -> Result<(), Fail> {
+fn an_audit_files_in_the_order_of_the_gate(rt: HostRuntime) {
     for (hold, workers) in HOLDS {
         assert!(rt; 0 < workers && workers <= 64);
         let gate = Holding::new(hold);
-        let numbers = audited(&rt, rt.alloc(), workers, &gate)?;
+        let Audited { state, memory } = audited(&rt, rt.alloc(), GOOD, workers, &gate);
+        assert!(rt; !memory && state.is_closed());
+        assert!(rt; state.accepted() == 4 && state.history().len() == 5);
+        let numbers = numbers_of(state.history());
         assert!(rt; numbers.ends_with(end_of(hold)), "{numbers:?}");
         assert!(rt; gate.was_kept());
     }
-    Ok(())
 }

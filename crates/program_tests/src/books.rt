@@ -2,51 +2,88 @@
 //!
 //! A filing that finds no memory is tried once more, so the growths of `file` can be refused in turn
 //! (`rt try --test --fail-alloc N`).
-ghost use Rattle.std.specs.Prelude.{◌≡◌, ◌<◌, ◌≤◌};
+ghost use Rattle.std.specs.Prelude.{◌≡◌, []};
 
-use crate::bundles::{GOOD, fed, sections};
+use crate::gates::{Counts, are_all, count_one, no_counts};
 use audit_core::{BookState, Entry, NotFiled, Reply};
-use certificate::{Job, read_certificate};
-use local_run::run_job;
+use local_run::{Finding, run_job};
 use std::alloc::Global;
 use std::marker::Brand;
 use std::process::Abort;
+use std::sync::Wait;
 use std::sync::ledger::{Blank, Ledger};
-use std::sync::{Arc, Wait};
-use std::test::Fail;
 use std::thread;
 use std::thread::Threads;
+use test_support::{GOOD, Work, work_of};
 use verdict_book::*;
 
-/// The jobs of the bundle.
-pub(crate) fn jobs(rt: &impl Abort, alloc: Global) -> Result<Vec<Arc<Job>>, Fail> {
-    let mut feed = fed(rt, alloc, GOOD);
-    let (circuit, layout) = sections(rt, alloc, &mut feed)?;
-    assert!(rt; feed.closed());
-    let certificate = read_certificate(alloc, &mut feed, &circuit, &layout)?;
-    Ok(certificate.jobs(alloc)?)
+/// How often each of the four numbers was accepted, and answered `Double` with itself.
+#[derive(Drop)]
+struct Replies {
+    accepted: Counts,
+    double: Counts,
 }
 
-/// Files a finding of each job, whatever the replies.
+impl Replies {
+    fn new() -> Replies {
+        Replies {
+            accepted: no_counts(),
+            double: no_counts(),
+        }
+    }
+
+    fn count(&self, number: usize, reply: Reply) {
+        if reply == Reply::Accepted {
+            count_one(&self.accepted, number);
+        } else if reply == Reply::Double(number) {
+            count_one(&self.double, number);
+        }
+    }
+}
+
+/// Files a finding of each job, and counts the replies.
 fn file_all<F: Ledger, A: Ledger, R: Wait>(
     rt: &R,
     alloc: Global,
-    digest: [u8; 32],
-    jobs: &[Arc<Job>],
+    work: &Work,
     book: &Book<F, A>,
     share: &mut Share<F, A>,
+    replies: &Replies,
 ) {
-    for (number, job) in jobs.iter().enumerate() {
+    for (number, job) in work.jobs.iter().enumerate() {
         let Ok(job) = job.clone() else {
             return;
         };
-        let Ok(finding) = run_job(alloc, digest, number, job) else {
+        let Ok(finding) = run_job(alloc, work.digest, number, job) else {
             return;
         };
-        if let Err(NotFiled { finding }) = book.file(rt, share, finding) {
-            let _ = book.file(rt, share, finding);
+        if let Some(reply) = filed(rt, book, share, finding) {
+            replies.count(number, reply);
         }
     }
+}
+
+/// The reply to a finding: to the second filing, where there was no memory for the first.
+fn filed<F: Ledger, A: Ledger, R: Wait>(
+    rt: &R,
+    book: &Book<F, A>,
+    share: &mut Share<F, A>,
+    finding: Finding,
+) -> Option<Reply> {
+    match book.file(rt, share, finding) {
+        Ok(reply) => Some(reply),
+        Err(NotFiled { finding }) => book.file(rt, share, finding).ok(),
+    }
+}
+
+/// A book of the four modules, in which nothing is filed.
+pub(crate) fn new_state(rt: &impl Abort, alloc: Global) -> BookState
+    ensures { result.history ≡ [] }
+{
+    let Work { digest, jobs } = work_of(alloc, GOOD).expect(rt, "work");
+    let state = BookState::new(alloc, digest, jobs).expect(rt, "a state");
+    assert!(rt; state.history().is_empty());
+    state
 }
 
 /// As many threads as there are shares each file all findings. `kept_back`: one share is not handed in.
@@ -55,39 +92,30 @@ fn filed_by_all<F: Ledger + Send + Sync, A: Ledger + Send + Sync, R: Abort + Thr
     alloc: Global,
     f: Blank,
     a: Blank,
-    count: usize,
+    replies: &Replies,
     kept_back: bool,
-) -> Result<Option<Gathered>, Fail>
-    requires filings { (f.name ≡ F.name) × (f.parts ≡ F.parts) × (f.parts ≡ count) }
-    requires acceptances { (a.name ≡ A.name) × (a.parts ≡ A.parts) × (a.parts ≡ count) }
-    requires count { (0 < count) × (count ≤ 64) }
+) -> Option<Gathered>
+    requires filings { (f.name ≡ F.name) × (f.parts ≡ F.parts) × (f.parts ≡ 4) }
+    requires acceptances { (a.name ≡ A.name) × (a.parts ≡ A.parts) × (a.parts ≡ 4) }
 {
-    let digest = [7; 32];
-    let state = BookState::new(alloc, digest, jobs(rt, alloc)?)?;
-    let (book, mut shares): (Book<F, A>, Vec<Share<F, A>>) = Book::open(alloc, f, a, state, count)?;
-    let own = jobs(rt, alloc)?;
-    let own = own.as_slice();
-    let shared = &book;
+    let work = work_of(alloc, GOOD).expect(rt, "work");
+    let state = new_state(rt, alloc);
+    let opened: (Book<F, A>, Vec<Share<F, A>>) = Book::open(alloc, f, a, state, 4).expect(
+        rt, "a book",
+    );
+    let (book, mut shares) = opened;
+    let (own, shared) = (&work, &book);
     thread::for_each_mut(
         rt,
         shares.as_mut_slice(),
-        count,
-        &|_, share| file_all(rt, alloc, digest, own, shared, share),
+        4,
+        &|_, share| file_all(rt, alloc, own, shared, share, replies),
     );
-    for share in &shares {
-        assert_eq!(rt; share.filed(), 4);
-    }
+    assert!(rt; shares.iter().all(|share| share.filed() == 4));
     if kept_back {
         shares.pop();
     }
-    let left = shares.len();
-    match gather(book, shares) {
-        Ok(gathered) => Ok(Some(gathered)),
-        Err(NotAll { book: _, shares }) => {
-            assert_eq!(rt; shares.len(), left);
-            Ok(None)
-        }
-    }
+    gather(book, shares).ok()
 }
 
 /// Whether it is the entry of a finding whose job is the book's, and that was accepted, or answered `Double` with its number.
@@ -105,25 +133,26 @@ fn is_own(entry: &Entry) -> bool {
 fn filed_by_four<R: Abort + Threads + Wait + Sync>(
     rt: &R,
     alloc: Global,
+    replies: &Replies,
     kept_back: bool,
-) -> Result<Option<Gathered>, Fail> {
-    filed_by_all::<Brand, Brand, R>(rt, alloc, Blank::new(4), Blank::new(4), 4, kept_back)
+) -> Option<Gathered> {
+    filed_by_all::<Brand, Brand, R>(rt, alloc, Blank::new(4), Blank::new(4), replies, kept_back)
 }
 
 #[test]
-fn four_threads(rt: HostRuntime) -> Result<(), Fail> {
-    assert!(rt; filed_by_four(&rt, rt.alloc(), true)?.is_none());
-    let gathered = filed_by_four(&rt, rt.alloc(), false)?;
+fn four_threads(rt: HostRuntime) {
+    let replies = Replies::new();
+    assert!(rt; filed_by_four(&rt, rt.alloc(), &replies, true).is_none());
+    let replies = Replies::new();
+    let gathered = filed_by_four(&rt, rt.alloc(), &replies, false);
     let Gathered {
         state,
         filed,
         accepted,
-    } = gathered.ok_or("a share is missing")?;
+    } = gathered.expect(&rt, "every share");
     assert!(rt; filed == 16 && accepted == 4);
     assert!(rt; state.history().len() == 16 && state.accepted() == 4 && !state.is_closed());
-    // so twelve of the sixteen were answered `Double`
-    for entry in state.history() {
-        assert!(rt; is_own(entry), "another entry");
-    }
-    Ok(())
+    assert!(rt; state.history().iter().all(is_own), "another entry");
+    // each number once and three times, so 4 and 12 of the sixteen
+    assert!(rt; are_all(&replies.accepted, 1) && are_all(&replies.double, 3));
 }

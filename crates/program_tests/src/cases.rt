@@ -1,12 +1,11 @@
 //! What a file of cases says.
 use case_text::{CaseFault, read_cases};
-use std::test::Fail;
 
 #[test]
-fn reads_each_part(rt: HostRuntime) -> Result<(), Fail> {
+fn reads_each_part(rt: HostRuntime) {
     let file =
         b"# nothing\n\ncase one\nwords check --workers 2\ninput\n| a  b\n|\n2 times | c\n3 times \\ de\noutput\n| yes\nerrors\nstatus 3\ncase two\nwords\n";
-    let cases = read_cases(rt.alloc(), file)?;
+    let cases = read_cases(rt.alloc(), file).expect(&rt, "cases");
     assert!(rt; cases.len() == 2);
     let one = &cases[0];
     assert!(rt; one.name == "one" && one.status == 3);
@@ -17,7 +16,6 @@ fn reads_each_part(rt: HostRuntime) -> Result<(), Fail> {
     let two = &cases[1];
     assert!(rt; two.words.is_empty() && two.input.is_empty() && two.status == 0);
     assert!(rt; two.output.is_none() && two.errors.is_none());
-    Ok(())
 }
 
 #[test]

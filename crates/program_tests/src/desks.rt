@@ -4,9 +4,8 @@ ghost use Rattle.job_pool.specs.Seats.{IsSeatOf};
 
 use audit_core::Claim;
 use job_pool::*;
-use std::alloc::Global;
+use std::alloc::{AllocError, Global};
 use std::process::Abort;
-use std::test::Fail;
 use std::thread;
 use std::thread::Threads;
 
@@ -37,17 +36,37 @@ fn draw_in_threads<R: Threads + Sync>(rt: &R, desk: &Desk, seats: &mut [DeskSeat
     thread::for_each_mut(rt, seats, threads, &|_, seat| draw_all(desk, seat));
 }
 
+/// Whether two new seats draw three numbers and the end in turn.
+fn draw_in_turn(desk: &Desk, first: &mut DeskSeat, second: &mut DeskSeat) -> bool
+    requires { IsSeatOf desk.now first.old × IsSeatOf desk.now second.old }
+    ensures { IsSeatOf desk.now first.new × IsSeatOf desk.now second.new }
+{
+    let zero = desk.claim(first);
+    let left = desk.left(second);
+    let one = desk.claim(second);
+    let two = desk.claim(first);
+    let empty = desk.claim(second);
+    let rest = desk.left(first);
+    let again = desk.claim(second);
+    left == 2
+        && rest == 0
+        && [zero, one, two] == [Claim::Number(0), Claim::Number(1), Claim::Number(2)]
+        && [empty, again] == [Claim::Empty, Claim::Empty]
+}
+
+/// Whether two lists of draws are these.
+fn are_draws(draws: &[Vec<usize>], first: &[usize], second: &[usize]) -> bool {
+    match draws {
+        [one, two] => one.as_slice() == first && two.as_slice() == second,
+        _ => false,
+    }
+}
+
 #[test]
-fn two_seats_draw_three_numbers(rt: HostRuntime) -> Result<(), Fail> {
-    let (desk, mut seats) = Desk::open(rt.alloc(), 3, 2)?;
+fn two_seats_draw_three_numbers(rt: HostRuntime) {
+    let (desk, mut seats) = Desk::open(rt.alloc(), 3, 2).expect(&rt, "a desk");
     let mut second = seats.remove(1);
-    assert_eq!(rt; desk.claim(&mut seats[0]), Claim::Number(0));
-    assert_eq!(rt; desk.left(&mut second), 2);
-    assert_eq!(rt; desk.claim(&mut second), Claim::Number(1));
-    assert_eq!(rt; desk.claim(&mut seats[0]), Claim::Number(2));
-    assert_eq!(rt; desk.claim(&mut second), Claim::Empty);
-    assert_eq!(rt; desk.left(&mut seats[0]), 0);
-    assert_eq!(rt; desk.claim(&mut second), Claim::Empty);
+    assert!(rt; draw_in_turn(&desk, &mut seats[0], &mut second));
     let Err(fault) = desk.close(rt.alloc(), seats) else {
         panic!(rt; "closed without the second seat")
     };
@@ -57,14 +76,9 @@ fn two_seats_draw_three_numbers(rt: HostRuntime) -> Result<(), Fail> {
         mut seats,
         missing: _,
     } = fault;
-    seats.reserve(1)?;
-    seats.push_reserved(second);
-    let closed = closed(&rt, rt.alloc(), desk, seats);
-    assert_eq!(rt; closed.draws.len(), 2);
-    assert_eq!(rt; closed.draws[0].as_slice(), [0, 2].as_slice());
-    assert_eq!(rt; closed.draws[1].as_slice(), [1, 3].as_slice());
-    assert_eq!(rt; closed.counter, 4);
-    Ok(())
+    seats.push(second).expect(&rt, "room");
+    let Closed { draws, counter } = closed(&rt, rt.alloc(), desk, seats);
+    assert!(rt; are_draws(&draws, &[0, 2], &[1, 3]) && counter == 4);
 }
 
 /// Each of so many seats, in a thread of its own, draws until there is no number left.
@@ -73,71 +87,66 @@ fn draw_every_number<R: Abort + Threads + Sync>(
     alloc: Global,
     numbers: usize,
     threads: usize,
-) -> Result<(), Fail>
+)
     requires { (numbers ≤ 1024) × (0 < threads) × (threads ≤ 64) }
 {
-    let (desk, mut seats) = Desk::open(alloc, numbers, threads)?;
+    let (desk, mut seats) = Desk::open(alloc, numbers, threads).expect(rt, "a desk");
     draw_in_threads(rt, &desk, seats.as_mut_slice());
-    let closed = closed(rt, alloc, desk, seats);
-    assert_eq!(rt; closed.counter, numbers + threads);
+    let Closed { draws, counter } = closed(rt, alloc, desk, seats);
+    let all = in_order(alloc, &draws).expect(rt, "memory");
+    assert!(rt; counter == numbers + threads && all.iter().copied().eq(0..counter));
+}
+
+/// All draws, in order.
+fn in_order(alloc: Global, draws: &[Vec<usize>]) -> Result<Vec<usize>, AllocError> {
     let mut all = Vec::new(alloc);
-    for drawn in &closed.draws {
-        all.extend_from_slice(drawn.as_slice())?;
+    for drawn in draws {
+        all.extend_from_slice(drawn)?;
     }
     all.sort()?;
-    let expected = (0..numbers + threads).collect::<Vec<usize>>(alloc)?;
-    assert_eq!(rt; all.as_slice(), expected.as_slice());
-    Ok(())
+    Ok(all)
 }
 
 #[test]
-fn no_number_is_drawn_where_there_is_none(rt: HostRuntime) -> Result<(), Fail> {
-    let (desk, mut seats) = Desk::open(rt.alloc(), 0, 1)?;
-    assert_eq!(rt; desk.left(&mut seats[0]), 0);
-    assert_eq!(rt; desk.claim(&mut seats[0]), Claim::Empty);
-    assert_eq!(rt; desk.claim(&mut seats[0]), Claim::Empty);
-    let closed = closed(&rt, rt.alloc(), desk, seats);
-    assert_eq!(rt; closed.draws.len(), 1);
-    assert_eq!(rt; closed.draws[0].as_slice(), [0].as_slice());
-    assert_eq!(rt; closed.counter, 1);
-    Ok(())
+fn no_number_is_drawn_where_there_is_none(rt: HostRuntime) {
+    let (desk, mut seats) = Desk::open(rt.alloc(), 0, 1).expect(&rt, "a desk");
+    assert!(rt; draws_nothing(&desk, &mut seats[0]));
+    let Closed { draws, counter } = closed(&rt, rt.alloc(), desk, seats);
+    assert!(rt; draws.len() == 1 && draws[0].as_slice() == [0].as_slice() && counter == 1);
+}
+
+fn draws_nothing(desk: &Desk, seat: &mut DeskSeat) -> bool
+    requires { IsSeatOf desk.now seat.old }
+    ensures { IsSeatOf desk.now seat.new }
+{
+    let left = desk.left(seat);
+    left == 0 && [desk.claim(seat), desk.claim(seat)] == [Claim::Empty, Claim::Empty]
 }
 
 #[test]
-fn four_threads_draw_every_number_once(rt: HostRuntime) -> Result<(), Fail> {
-    draw_every_number(&rt, rt.alloc(), 1000, 4)
+fn four_threads_draw_every_number_once(rt: HostRuntime) {
+    draw_every_number(&rt, rt.alloc(), 1000, 4);
 }
 
 #[test]
-fn the_largest_desk_hands_out_every_number_once(rt: HostRuntime) -> Result<(), Fail> {
-    draw_every_number(&rt, rt.alloc(), 1024, 64)
+fn the_largest_desk_hands_out_every_number_once(rt: HostRuntime) {
+    draw_every_number(&rt, rt.alloc(), 1024, 64);
 }
 
 /// Made to be run with each growth of memory refused in turn: a desk opens whole or not at all, and closes later where there
 /// was no memory for it.
 #[test]
-fn a_desk_closes_at_the_second_try(rt: HostRuntime) -> Result<(), Fail> {
+fn a_desk_closes_at_the_second_try(rt: HostRuntime) {
     let Ok((desk, mut seats)) = Desk::open(rt.alloc(), 2, 2) else {
-        return Ok(());
+        return;
     };
-    assert_eq!(rt; seats.len(), 2);
-    assert_eq!(rt; desk.claim(&mut seats[1]), Claim::Number(0));
-    let closed = match desk.close(rt.alloc(), seats) {
+    assert!(rt; desk.claim(&mut seats[1]) == Claim::Number(0));
+    let Closed { draws, counter } = match desk.close(rt.alloc(), seats) {
         Ok(closed) => closed,
-        Err(
-            CloseFault {
-                desk,
-                seats,
-                missing,
-            },
-        ) => {
-            assert!(rt; !missing);
-            closed(&rt, rt.alloc(), desk, seats)
+        Err(fault) => {
+            assert!(rt; !fault.missing);
+            closed(&rt, rt.alloc(), fault.desk, fault.seats)
         }
     };
-    assert_eq!(rt; closed.draws.len(), 2);
-    assert_eq!(rt; closed.draws[0].len(), 0);
-    assert_eq!(rt; closed.draws[1].as_slice(), [0].as_slice());
-    assert_eq!(rt; closed.counter, 1);
-    Ok(())
+    assert!(rt; are_draws(&draws, &[], &[0]) && counter == 1);
 }

@@ -1,5 +1,5 @@
 //! Readers and writers that fail, and the program over them.
-use check_main::{Over, program};
+use check_main::{Over, Streams, program};
 use std::alloc::Global;
 use std::io;
 use std::io::{ErrorKind, Read, Write};
@@ -60,20 +60,18 @@ impl Write for FailingWriter {
     }
 }
 
-/// Gives `a` for ever, as many as asked for or one at a time.
+/// Gives `a` so many times, in pieces.
 #[derive(Drop)]
-pub(crate) struct Endless {
-    pub(crate) one_at_a_time: bool,
+pub(crate) struct Letters {
+    pub(crate) left: usize,
+    pub(crate) piece: usize,
 }
 
-impl Read for Endless {
+impl Read for Letters {
     fn read(&mut self, buf: &mut [u8]) -> io::Result<usize> {
-        let count = if self.one_at_a_time {
-            buf.len().min(1)
-        } else {
-            buf.len()
-        };
+        let count = self.piece.min(buf.len()).min(self.left);
         buf[..count].fill(b'a');
+        self.left -= count;
         Ok(count)
     }
 }
@@ -103,10 +101,13 @@ pub(crate) fn call<'a, T: Threads + Wait + Sync, R: Read + Drop>(
     writer: FailingWriter,
     errors: FailingWriter,
 ) -> Seen {
-    let mut source = Over::new(reader);
-    let mut writer = Over::new(writer);
-    let mut errors = Over::new(errors);
-    let status = program(rt, alloc, words, &mut source, &mut writer, &mut errors);
+    let mut streams = Streams {
+        reader: Over::new(reader),
+        writer: Over::new(writer),
+        errors: Over::new(errors),
+    };
+    let status = program(rt, alloc, words, &mut streams);
+    let Streams { writer, errors, .. } = streams;
     let FailingWriter { taken: written, .. } = writer.into_inner();
     let FailingWriter { taken: said, .. } = errors.into_inner();
     Seen {

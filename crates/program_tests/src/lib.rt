@@ -15,7 +15,13 @@ mod desks;
 #[cfg(test)]
 mod devices;
 #[cfg(test)]
+mod gates;
+#[cfg(test)]
+mod largest;
+#[cfg(test)]
 mod programs;
+#[cfg(test)]
+mod stumbles;
 #[cfg(test)]
 mod words;
 #[cfg(test)]

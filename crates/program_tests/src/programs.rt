@@ -1,12 +1,13 @@
 //! The program's statuses and texts, over readers and writers of which some fail.
 
-use crate::bundles::{BAD, NO};
-use crate::devices::{Endless, FailingReader, FailingWriter, Seen, call};
-use check_main::{CheckFault, Over, program};
+use crate::bundles::{NO, YES};
+use crate::devices::{FailingReader, FailingWriter, Letters, Seen, call};
+use crate::gates::{Hold, Holding};
+use check_main::{CheckFault, Over, Streams, program, program_with};
 use std::alloc::Global;
 use std::sync::Wait;
-use std::test::Fail;
 use std::thread::Threads;
+use test_support::{ALONE, GOOD};
 
 /// A layout in which two balls collide, and both its inputs.
 const RUN_TEXT: &str =
@@ -42,7 +43,7 @@ const COMMANDS: [Command; 4] = [
     },
     Command {
         words: &["check", "--workers", "2"],
-        text: BAD,
+        text: ALONE,
         status: 1,
         answer: NO,
     },
@@ -100,14 +101,22 @@ fn says_that_a_read_failed(rt: HostRuntime) {
     }
 }
 
+/// How many letters a text has, in pieces of how many, the status and what is written and said: for ever, one more than a text may
+/// have and as many as it may, which are one line that is not ended. In 4096 pieces of 4096 bytes there are just as many.
+const LONG_TEXTS: [(usize, usize, u8, &str, &str); 3] = [
+    (usize::MAX, 65_536, 4, "", "bbmcheck: text too long\n"),
+    (16_777_217, 4096, 4, "", "bbmcheck: text too long\n"),
+    (16_777_216, 4096, 3, "refused 1 12\n", ""),
+];
+
 #[test]
 fn stops_at_the_limit(rt: HostRuntime) {
-    for one_at_a_time in [false, true] {
-        let reader = Endless { one_at_a_time };
+    for (left, piece, status, written, said) in LONG_TEXTS {
+        let reader = Letters { left, piece };
         let writer = FailingWriter::new(rt.alloc(), MUCH, true);
         let errors = FailingWriter::new(rt.alloc(), MUCH, true);
         let seen = call(&rt, rt.alloc(), &["run"], reader, writer, errors);
-        assert!(rt; seen.is(4, b"", "bbmcheck: text too long\n"));
+        assert!(rt; seen.is(status, written.as_bytes(), said), "{left}");
     }
 }
 
@@ -199,7 +208,7 @@ fn ignores_that_errors_cannot_be_written(rt: HostRuntime) {
 }
 
 #[test]
-fn names_each_fault_in_words(rt: HostRuntime) -> Result<(), Fail> {
+fn names_each_fault_in_words(rt: HostRuntime) {
     let words = [
         (CheckFault::Read, "read fault"),
         (CheckFault::Write, "write fault"),
@@ -208,10 +217,24 @@ fn names_each_fault_in_words(rt: HostRuntime) -> Result<(), Fail> {
         (CheckFault::Missing, "findings missing"),
     ];
     for (fault, text) in words {
-        let shown = fault.to_string(rt.alloc())?;
+        let shown = fault.to_string(rt.alloc()).expect(&rt, "a text");
         assert!(rt; shown.as_str() == text);
     }
-    Ok(())
+}
+
+/// Each of two workers waits until the other has begun, so one alone would be late.
+#[test]
+fn hands_on_the_number_of_workers(rt: HostRuntime) {
+    let gate = Holding::new(Hold::FirstTwo);
+    let mut streams = Streams {
+        reader: Over::new(GOOD.as_bytes()),
+        writer: Over::new(Vec::new(rt.alloc())),
+        errors: Over::new(Vec::new(rt.alloc())),
+    };
+    let words = ["check", "--workers", "2"];
+    let status = program_with(&rt, rt.alloc(), &words, &mut streams, &gate);
+    assert!(rt; status == 0 && streams.writer.get_ref().as_slice() == YES.as_bytes());
+    assert!(rt; gate.was_kept());
 }
 
 /// Each run ends in the whole answer, or in want of memory with nothing written. It passes too where an allocation is
@@ -220,18 +243,13 @@ fn names_each_fault_in_words(rt: HostRuntime) -> Result<(), Fail> {
 fn survives_want_of_memory(rt: HostRuntime) {
     for command in &COMMANDS {
         let (mut room, mut said) = ([0u8; 144], [0u8; 144]);
-        let mut reader = Over::new(command.text.as_bytes());
-        let mut writer = Over::new(room.as_mut_slice());
-        let mut errors = Over::new(said.as_mut_slice());
-        let status = program(
-            &rt,
-            rt.alloc(),
-            command.words,
-            &mut reader,
-            &mut writer,
-            &mut errors,
-        );
-        let left = writer.into_inner().len();
+        let mut streams = Streams {
+            reader: Over::new(command.text.as_bytes()),
+            writer: Over::new(room.as_mut_slice()),
+            errors: Over::new(said.as_mut_slice()),
+        };
+        let status = program(&rt, rt.alloc(), command.words, &mut streams);
+        let left = streams.writer.into_inner().len();
         if status == 5 {
             assert!(rt; left == 144);
         } else {

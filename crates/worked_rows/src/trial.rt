@@ -1,7 +1,7 @@
 //! Puts a case through the program.
 
 use case_text::Case;
-use check_main::{Over, program};
+use check_main::{Over, Streams, program};
 use std::alloc::Global;
 use std::fmt;
 use std::sync::Wait;
@@ -37,27 +37,22 @@ pub fn difference_of<R: Threads + Wait + Sync>(
     alloc: Global,
     case: &Case<'_>,
 ) -> Option<Difference> {
-    let mut reader = Over::new(case.input.as_slice());
-    let mut writer = Over::new(Vec::new(alloc));
-    let mut errors = Over::new(Vec::new(alloc));
-    let got = program(
-        rt,
-        alloc,
-        &case.words,
-        &mut reader,
-        &mut writer,
-        &mut errors,
-    );
+    let mut streams = Streams {
+        reader: Over::new(case.input.as_slice()),
+        writer: Over::new(Vec::new(alloc)),
+        errors: Over::new(Vec::new(alloc)),
+    };
+    let got = program(rt, alloc, &case.words, &mut streams);
     if got != case.status {
         return Some(Difference::Status {
             wanted: case.status,
             got,
         });
     }
-    if let Some(equal_lines) = first_difference(&case.output, &writer.into_inner()) {
+    if let Some(equal_lines) = first_difference(&case.output, streams.writer.get_ref()) {
         return Some(Difference::Output { equal_lines });
     }
-    let equal_lines = first_difference(&case.errors, &errors.into_inner())?;
+    let equal_lines = first_difference(&case.errors, streams.errors.get_ref())?;
     Some(Difference::Errors { equal_lines })
 }
 

@@ -4,7 +4,7 @@ use Rattle.clap.specs.Words.{HasKind, IsAmong, Kinds, kind_of}
 use Rattle.clap.specs.declared.error.Error.{Error}
 use Rattle.clap.specs.declared.error.kind.ErrorKind.TheVariants.{OutOfMemory}
 use Rattle.check_main.proofs.RightStreams.{nothing_said}
-use Rattle.check_main.proofs.front.program.Goals as goal
+use Rattle.check_main.proofs.front.program_with.Goals as goal
 
 of_memory : (kinds : Kinds) (error : Error) → kinds ≡ [] → HasKind kinds error → kind_of error ≡ OutOfMemory
 of_memory kinds error none (inl memory) = memory
@@ -14,4 +14,4 @@ pub returns-in-Err-clause-says_yes : goal.returns-in-Err-clause-says_yes
 returns-in-Err-clause-says_yes g c accepted check =
     let memory = of_memory _ c.in-Err.error accepted c.in-Err.ensures.fails in
     let same = (c.explain.ensures.not_decided (c.explain.ensures.memory memory)).0 in
-    nothing_said (g.R.Source.left c.args.reader.now) (g.W.Sink.held c.args.writer.now) (g.W.Sink.held c.explain.new.writer) (ap g.W.Sink.held same)
+    nothing_said (g.R.Source.left c.args.streams.now.reader) (g.W.Sink.held c.args.streams.now.writer) (g.W.Sink.held c.explain.new.writer) (ap g.W.Sink.held same)

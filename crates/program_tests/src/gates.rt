@@ -1,0 +1,159 @@
+//! Gates that hold workers back.
+
+use job_pool::Gate;
+use std::sync::atomic::{AtomicBool, AtomicU64, Ordering};
+use std::thread;
+
+/// A worker that is held back goes on after so many turns, whatever the others do.
+const MOST_TURNS: u32 = 10_000_000;
+
+/// A count for each of four numbers.
+pub(crate) type Counts = [AtomicU64; 4];
+
+pub(crate) fn no_counts() -> Counts {
+    [
+        AtomicU64::new(0),
+        AtomicU64::new(0),
+        AtomicU64::new(0),
+        AtomicU64::new(0),
+    ]
+}
+
+pub(crate) fn count_one(counts: &Counts, number: usize) {
+    if let Some(count) = counts.get(number) {
+        count.fetch_add(1, Ordering::SeqCst);
+    }
+}
+
+/// Whether each number is counted so often.
+pub(crate) fn are_all(counts: &Counts, wanted: u64) -> bool {
+    counts
+        .iter()
+        .all(|count| count.load(Ordering::SeqCst) == wanted)
+}
+
+/// Whether a number is counted at least once.
+fn is_counted(counts: &Counts, number: usize) -> bool {
+    match counts.get(number) {
+        Some(count) => count.load(Ordering::SeqCst) > 0,
+        None => false,
+    }
+}
+
+/// For what a number is held back before its job is run.
+#[derive(Clone, Copy)]
+pub(crate) enum Hold {
+    /// The first two numbers, each until the other has begun.
+    FirstTwo,
+    /// Each number but the last, until the next one has ended.
+    Reverse,
+    /// This number, until the three others have ended.
+    UntilOthers(usize),
+}
+
+/// Counts what it is told of each of four numbers, and holds numbers back.
+#[derive(Drop)]
+pub(crate) struct Holding {
+    hold: Hold,
+    begun: Counts,
+    ended: Counts,
+    late: AtomicBool,
+}
+
+impl Holding {
+    pub(crate) fn new(hold: Hold) -> Holding {
+        Holding {
+            hold,
+            begun: no_counts(),
+            ended: no_counts(),
+            late: AtomicBool::new(false),
+        }
+    }
+
+    /// Whether the number may go on.
+    fn lets(&self, number: usize) -> bool {
+        match self.hold {
+            Hold::FirstTwo => match number {
+                0 => is_counted(&self.begun, 1),
+                1 => is_counted(&self.begun, 0),
+                _ => true,
+            },
+            Hold::Reverse => match number {
+                0 => is_counted(&self.ended, 1),
+                1 => is_counted(&self.ended, 2),
+                2 => is_counted(&self.ended, 3),
+                _ => true,
+            },
+            Hold::UntilOthers(held) => {
+                number != held
+                    || (0..4).all(|other| other == held || is_counted(&self.ended, other))
+            }
+        }
+    }
+
+    /// Whether each number was told of once before and once after, and none was held too long.
+    pub(crate) fn was_kept(&self) -> bool {
+        are_all(&self.begun, 1) && are_all(&self.ended, 1) && !self.late.load(Ordering::SeqCst)
+    }
+}
+
+impl Gate for Holding {
+    fn before(&self, number: usize) {
+        count_one(&self.begun, number);
+        for _ in 0..MOST_TURNS {
+            if self.lets(number) {
+                return;
+            }
+            thread::yield_now();
+        }
+        self.late.store(true, Ordering::SeqCst);
+    }
+
+    fn after(&self, number: usize) {
+        count_one(&self.ended, number);
+    }
+}
+
+/// Holds each worker back until so many have begun, and counts how often it is told of a number.
+#[derive(Drop)]
+pub(crate) struct Crowd {
+    workers: u64,
+    begun: AtomicU64,
+    ended: AtomicU64,
+    late: AtomicBool,
+}
+
+impl Crowd {
+    pub(crate) fn new(workers: u64) -> Crowd {
+        Crowd {
+            workers,
+            begun: AtomicU64::new(0),
+            ended: AtomicU64::new(0),
+            late: AtomicBool::new(false),
+        }
+    }
+
+    /// Whether it was told so often before and after, and no worker was held too long.
+    pub(crate) fn was_kept(&self, numbers: u64) -> bool {
+        self.begun.load(Ordering::SeqCst) == numbers
+            && self.ended.load(Ordering::SeqCst) == numbers
+            && !self.late.load(Ordering::SeqCst)
+    }
+}
+
+impl Gate for Crowd {
+    fn before(&self, _number: usize) {
+        self.begun.fetch_add(1, Ordering::SeqCst);
+        for _ in 0..MOST_TURNS {
+            if self.begun.load(Ordering::SeqCst) >= self.workers {
+                return;
+            }
+            thread::yield_now();
+        }
+        self.late.store(true, Ordering::SeqCst);
+    }
+
+    fn after(&self, _number: usize) {
+        self.ended.fetch_add(1, Ordering::SeqCst);
+    }
+}

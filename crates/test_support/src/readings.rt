@@ -1,0 +1,66 @@
+//! What is made of a text. Where a test is to go on only with all of it, it says `expect`.
+ghost use Rattle.std.specs.Prelude.{◌≡◌, true, IfOk};
+
+use certificate::{Job, read_certificate};
+use circuit::{Circuit, port_names, read_circuit};
+use pattern::{Layout, read_layout};
+use section_text::{Feed, PortNames, ReadFault};
+use std::alloc::Global;
+use std::sync::Arc;
+
+/// A text that has ended. No test has one of more than 16 MiB, so that a piece is not taken is want of memory.
+pub fn fed(alloc: Global, text: &[u8]) -> Result<Feed, ReadFault>
+    ensures { IfOk result (λ feed. feed.closed ≡ true) }
+{
+    let mut feed = Feed::new(alloc);
+    match feed.push(text) {
+        Ok(()) => {
+            feed.close();
+            Ok(feed)
+        }
+        Err(_) => Err(ReadFault::Memory),
+    }
+}
+
+/// The circuit with which a text begins.
+pub fn circuit_of(alloc: Global, text: &str) -> Result<Circuit, ReadFault> {
+    let mut feed = fed(alloc, text.as_bytes())?;
+    read_circuit(alloc, &mut feed)
+}
+
+/// The layout with which a text begins, whatever its ports are named.
+pub fn layout_of(alloc: Global, text: &[u8]) -> Result<Layout, ReadFault> {
+    let mut feed = fed(alloc, text)?;
+    read_layout(alloc, &mut feed, &PortNames::Any)
+}
+
+/// The two sections before a certificate.
+pub fn sections(alloc: Global, feed: &mut Feed) -> Result<(Circuit, Layout), ReadFault>
+    requires { feed.old.closed ≡ true }
+    ensures { feed.new.closed ≡ true }
+{
+    let circuit = read_circuit(alloc, feed)?;
+    let Ok(ports) = port_names(alloc, &circuit) else {
+        return Err(ReadFault::Memory);
+    };
+    let layout = read_layout(alloc, feed, &ports)?;
+    Ok((circuit, layout))
+}
+
+/// A certificate's digest and jobs.
+#[derive(Drop)]
+pub struct Work {
+    pub digest: [u8; 32],
+    pub jobs: Vec<Arc<Job>>,
+}
+
+/// What is to be done for a bundle.
+pub fn work_of(alloc: Global, text: &str) -> Result<Work, ReadFault> {
+    let mut feed = fed(alloc, text.as_bytes())?;
+    let (circuit, layout) = sections(alloc, &mut feed)?;
+    let certificate = read_certificate(alloc, &mut feed, &circuit, &layout)?;
+    match (certificate.digest(alloc), certificate.jobs(alloc)) {
+        (Ok(digest), Ok(jobs)) => Ok(Work { digest, jobs }),
+        _ => Err(ReadFault::Memory),
+    }
+}

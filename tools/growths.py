@@ -1,0 +1,24 @@
+"""Runs a program with one of its growths of memory refused, by tools/refuse_growths.c. Needs cc."""
+import os
+import subprocess
+import sys
+from pathlib import Path
+
+# More growths than any run may need.
+MOST_RUNS = 100_000
+
+
+class Refuser:
+    """Keeps its library, and the count of the last run, in a folder."""
+
+    def __init__(self, room):
+        self.library, self.counter = Path(room) / "refuse_growths.so", Path(room) / "count"
+        source = Path(__file__).resolve().with_name("refuse_growths.c")
+        subprocess.run(["cc", "-O1", "-Wall", "-shared", "-fPIC", "-o", self.library, source, "-ldl"], check=True)
+
+    def run(self, command, number, text=b""):
+        """How many growths the command asked for, and how it ended, where growth `number` is refused, counted from 1."""
+        self.counter.unlink(missing_ok=True)
+        variables = {**os.environ, "LD_PRELOAD": str(self.library), "REFUSE": str(number), "COUNT": str(self.counter)}
+        ended = subprocess.run(command, input=text, capture_output=True, env=variables, timeout=120)
+        return int.from_bytes(self.counter.read_bytes(), sys.byteorder), ended
