@@ -14,7 +14,7 @@ use clap::Error;
 use clap::error::ErrorKind;
 use command_line::{Asked, Request, read_words};
 use device::{Sink, Source};
-use job_pool::{Gate, OpenGate};
+use job_pool::Gate;
 use std::alloc::Global;
 use std::sync::Wait;
 use std::thread::Threads;
@@ -53,74 +53,8 @@ pub struct Streams<R, W, E> {
 /// - 5: memory ran out, or the finding of a module is missing
 ///
 /// What is wrong with the words, and a line for a status of 4 or 5, is said to `errors`, and that a write to
-/// it fails changes nothing.
-pub fn program<'a, T, R, W, E>(
-    rt: &T,
-    alloc: Global,
-    words: &'a [&'a str],
-    streams: &mut Streams<R, W, E>,
-) -> u8
-where
-    T: Threads + Wait + Sync,
-    R: Source,
-    W: Sink,
-    E: Sink,
-    requires reader_works { R.has_failed streams.old.reader ≡ false }
-    requires writer_works { W.has_failed streams.old.writer ≡ false }
-    ensures range { result ≤ 5 }
-    ensures accepted { IsAccepted (map (λ s. s.now) words.entry.now) → result ≢ 2 }
-    ensures unread { ¬ IsAccepted (map (λ s. s.now) words.entry.now) → streams.new.reader ≡ streams.old.reader }
-    ensures help { ¬ IsAccepted (map (λ s. s.now) words.entry.now) → result ≢ 2 → result ≢ 5 →
-        AsksForHelp (map (λ s. s.now) words.entry.now) }
-
-    ensures yes { IsAccepted (map (λ s. s.now) words.entry.now) → result ≡ 0
-        → Answers (IsAnswerTo (asked_by (map (λ s. s.now) words.entry.now)))
-        (R.left streams.old.reader) (R.left streams.new.reader)
-        (W.held streams.old.writer) (W.held streams.new.writer) Outcome.Yes }
-
-    // What a yes of `check` means, by the status and by what is written.
-    ensures correct { IsAccepted (map (λ s. s.now) words.entry.now) → asked_by (map (λ s. s.now) words.entry.now) ≡ Request.Check → result ≡ 0
-        → GivesRight (R.left streams.old.reader) }
-    ensures says_yes { IsAccepted (map (λ s. s.now) words.entry.now) → asked_by (map (λ s. s.now) words.entry.now) ≡ Request.Check
-        → YesIsRight (R.left streams.old.reader) (W.held streams.old.writer) (W.held streams.new.writer) }
-
-    ensures no { result ≡ 1 → Answers (IsAnswerTo (asked_by (map (λ s. s.now) words.entry.now)))
-        (R.left streams.old.reader) (R.left streams.new.reader)
-        (W.held streams.old.writer) (W.held streams.new.writer) Outcome.No }
-    ensures words { result ≡ 2 → (streams.new.reader ≡ streams.old.reader) × (streams.new.writer ≡ streams.old.writer) }
-    ensures refused { result ≡ 3 → Answers (IsAnswerTo (asked_by (map (λ s. s.now) words.entry.now)))
-        (R.left streams.old.reader) (R.left streams.new.reader)
-        (W.held streams.old.writer) (W.held streams.new.writer) Outcome.Refused }
-    // Each fault comes only where it is one, and its line is said.
-    ensures device { result ≡ 4 →
-        ((R.has_failed streams.new.reader ≡ true)
-        × Says (E.held streams.old.errors) (E.held streams.new.errors) (E.has_failed streams.new.errors) CheckFault.Read)
-        ⊎ ((W.has_failed streams.new.writer ≡ true)
-        × Says (E.held streams.old.errors) (E.held streams.new.errors) (E.has_failed streams.new.errors) CheckFault.Write)
-        ⊎ (GivesTooMuch (R.left streams.old.reader) (R.left streams.new.reader)
-        × Says (E.held streams.old.errors) (E.held streams.new.errors) (E.has_failed streams.new.errors) CheckFault.TooLong) }
-    ensures works { result ≢ 4 → W.has_failed streams.new.writer ≡ false }
-    ensures unwritten { result ≡ 4 → W.has_failed streams.new.writer ≡ false → streams.new.writer ≡ streams.old.writer }
-
-    ensures prefix { IsAccepted (map (λ s. s.now) words.entry.now)
-        → result ≡ 4 → W.has_failed streams.new.writer ≡ true
-        → BreaksOff (IsAnswerTo (asked_by (map (λ s. s.now) words.entry.now)))
-        (R.left streams.old.reader) (R.left streams.new.reader)
-        (W.held streams.old.writer) (W.held streams.new.writer) }
-
-    ensures not_decided { result ≡ 5 → (streams.new.writer ≡ streams.old.writer)
-        × (Says (E.held streams.old.errors) (E.held streams.new.errors) (E.has_failed streams.new.errors) CheckFault.Memory
-        ⊎ ((asked_by (map (λ s. s.now) words.entry.now) ≡ Request.Check)
-        × Says (E.held streams.old.errors) (E.held streams.new.errors) (E.has_failed streams.new.errors) CheckFault.Missing)) }
-
-    // Where an answer or help was written, nothing is said.
-    ensures quiet { result ≢ 2 → result ≢ 4 → result ≢ 5 → streams.new.errors ≡ streams.old.errors }
-{
-    program_with(rt, alloc, words, streams, &OpenGate)
-}
-
-/// As `program`, where the workers of `check` tell a gate of each module, before and after they run it.
-pub fn program_with<'a, T, R, W, E, G>(
+/// it fails changes nothing. The workers of `check` tell the gate of each module that they draw; the program's is `OpenGate`.
+pub fn program<'a, T, R, W, E, G>(
     rt: &T,
     alloc: Global,
     words: &'a [&'a str],

@@ -106,7 +106,7 @@ pub(crate) fn call<'a, T: Threads + Wait + Sync, R: Read + Drop>(
         writer: Over::new(writer),
         errors: Over::new(errors),
     };
-    let status = program(rt, alloc, words, &mut streams);
+    let status = program(rt, alloc, words, &mut streams, &OpenGate);
     let Streams { writer, errors, .. } = streams;
     let FailingWriter { taken: written, .. } = writer.into_inner();
     let FailingWriter { taken: said, .. } = errors.into_inner();

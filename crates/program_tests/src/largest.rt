@@ -3,7 +3,7 @@
 
 use crate::audits::audited;
 use crate::gates::Crowd;
-use check_main::{Audited, Over, Streams, program_with};
+use check_main::{Audited, Over, Streams, program};
 use job_pool::{Gate, OpenGate};
 use std::alloc::{AllocError, Global};
 use std::sync::Wait;
@@ -50,7 +50,7 @@ fn answer<T: Threads + Wait + Sync, G: Gate + Sync>(
         writer: Over::new(Vec::new(alloc)),
         errors: Over::new(Vec::new(alloc)),
     };
-    let status = program_with(rt, alloc, words, &mut streams, gate);
+    let status = program(rt, alloc, words, &mut streams, gate);
     (status, streams.writer.into_inner())
 }
 

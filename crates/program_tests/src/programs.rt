@@ -3,7 +3,7 @@
 use crate::bundles::{NO, YES};
 use crate::devices::{FailingReader, FailingWriter, Letters, Seen, call};
 use crate::gates::{Hold, Holding};
-use check_main::{CheckFault, Over, Streams, program, program_with};
+use check_main::{CheckFault, OpenGate, Over, Streams, program};
 use std::alloc::Global;
 use std::sync::Wait;
 use std::thread::Threads;
@@ -232,7 +232,7 @@ fn hands_on_the_number_of_workers(rt: HostRuntime) {
         errors: Over::new(Vec::new(rt.alloc())),
     };
     let words = ["check", "--workers", "2"];
-    let status = program_with(&rt, rt.alloc(), &words, &mut streams, &gate);
+    let status = program(&rt, rt.alloc(), &words, &mut streams, &gate);
     assert!(rt; status == 0 && streams.writer.get_ref().as_slice() == YES.as_bytes());
     assert!(rt; gate.was_kept());
 }
@@ -248,7 +248,7 @@ fn survives_want_of_memory(rt: HostRuntime) {
             writer: Over::new(room.as_mut_slice()),
             errors: Over::new(said.as_mut_slice()),
         };
-        let status = program(&rt, rt.alloc(), command.words, &mut streams);
+        let status = program(&rt, rt.alloc(), command.words, &mut streams, &OpenGate);
         let left = streams.writer.into_inner().len();
         if status == 5 {
             assert!(rt; left == 144);

@@ -137,7 +137,7 @@ fn report_by<T: Threads + Wait + Sync>(rt: &T, alloc: Global, text: &str, piece:
         }),
         errors: Over::new(Vec::new(alloc)),
     };
-    program(rt, alloc, &["check"], &mut streams);
+    program(rt, alloc, &["check"], &mut streams, &OpenGate);
     let StumblingWriter { taken, .. } = streams.writer.into_inner();
     taken
 }

@@ -1,7 +1,7 @@
 //! Puts a case through the program.
 
 use case_text::Case;
-use check_main::{Over, Streams, program};
+use check_main::{OpenGate, Over, Streams, program};
 use std::alloc::Global;
 use std::fmt;
 use std::sync::Wait;
@@ -42,7 +42,7 @@ pub fn difference_of<R: Threads + Wait + Sync>(
         writer: Over::new(Vec::new(alloc)),
         errors: Over::new(Vec::new(alloc)),
     };
-    let got = program(rt, alloc, &case.words, &mut streams);
+    let got = program(rt, alloc, &case.words, &mut streams, &OpenGate);
     if got != case.status {
         return Some(Difference::Status {
             wanted: case.status,

@@ -4,7 +4,7 @@ use Rattle.clap.specs.Words.{HasKind, IsAmong, Kinds, kind_of}
 use Rattle.clap.specs.declared.error.Error.{Error}
 use Rattle.clap.specs.declared.error.kind.ErrorKind.TheVariants.{OutOfMemory}
 use Rattle.check_main.proofs.RightStreams.{nothing_said}
-use Rattle.check_main.proofs.front.program_with.Goals as goal
+use Rattle.check_main.proofs.front.program.Goals as goal
 
 of_memory : (kinds : Kinds) (error : Error) → kinds ≡ [] → HasKind kinds error → kind_of error ≡ OutOfMemory
 of_memory kinds error none (inl memory) = memory
