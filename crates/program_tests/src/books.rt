@@ -42,7 +42,7 @@ impl Replies {
 }
 
 /// Files a finding of each job, and counts the replies.
-fn file_all<F: Ledger, A: Ledger, R: Wait>(
+fn file_all<F: Filings, A: Ledger, R: Wait>(
     rt: &R,
     alloc: Global,
     work: &Work,
@@ -64,7 +64,7 @@ fn file_all<F: Ledger, A: Ledger, R: Wait>(
 }
 
 /// The reply to a finding: to the second filing, where there was no memory for the first.
-fn filed<F: Ledger, A: Ledger, R: Wait>(
+fn filed<F: Filings, A: Ledger, R: Wait>(
     rt: &R,
     book: &Book<F, A>,
     share: &mut Share<F, A>,
@@ -87,19 +87,25 @@ pub(crate) fn new_state(rt: &impl Abort, alloc: Global) -> BookState
 }
 
 /// As many threads as there are shares each file all findings. `kept_back`: one share is not handed in.
-fn filed_by_all<F: Ledger + Send + Sync, A: Ledger + Send + Sync, R: Abort + Threads + Wait + Sync>(
+fn filed_by_all<
+    F: Filings + Send + Sync,
+    A: Ledger + Send + Sync,
+    R: Abort + Threads + Wait + Sync,
+>(
     rt: &R,
     alloc: Global,
     f: Blank,
     a: Blank,
+    state: BookState,
     replies: &Replies,
     kept_back: bool,
 ) -> Option<Gathered>
     requires filings { (f.name ≡ F.name) × (f.parts ≡ F.parts) × (f.parts ≡ 4) }
     requires acceptances { (a.name ≡ A.name) × (a.parts ≡ A.parts) × (a.parts ≡ 4) }
+    requires own { (state.digest ≡ F.digest) × (state.jobs ≡ F.jobs) }
+    requires fresh { state.history ≡ [] }
 {
     let work = work_of(alloc, GOOD).expect(rt, "work");
-    let state = new_state(rt, alloc);
     let opened: (Book<F, A>, Vec<Share<F, A>>) = Book::open(alloc, f, a, state, 4).expect(
         rt, "a book",
     );
@@ -136,7 +142,9 @@ fn filed_by_four<R: Abort + Threads + Wait + Sync>(
     replies: &Replies,
     kept_back: bool,
 ) -> Option<Gathered> {
-    filed_by_all::<Brand, Brand, R>(rt, alloc, Blank::new(4), Blank::new(4), replies, kept_back)
+    let state = new_state(rt, alloc);
+    let (f, a) = (Blank::new(4), Blank::new(4));
+    filed_by_all::<Brand, Brand, R>(rt, alloc, f, a, state, replies, kept_back)
 }
 
 #[test]

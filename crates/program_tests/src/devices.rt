@@ -1,5 +1,5 @@
 //! Readers and writers that fail, and the program over them.
-use check_main::{Over, Streams, program};
+use check_main::{OpenGate, Over, Streams, program};
 use std::alloc::Global;
 use std::io;
 use std::io::{ErrorKind, Read, Write};
