@@ -21,4 +21,6 @@ class Refuser:
         self.counter.unlink(missing_ok=True)
         variables = {**os.environ, "LD_PRELOAD": str(self.library), "REFUSE": str(number), "COUNT": str(self.counter)}
         ended = subprocess.run(command, input=text, capture_output=True, env=variables, timeout=120)
-        return int.from_bytes(self.counter.read_bytes(), sys.byteorder), ended
+        # A program that takes no library has no count.
+        count = self.counter.read_bytes() if self.counter.exists() else b""
+        return int.from_bytes(count, sys.byteorder), ended

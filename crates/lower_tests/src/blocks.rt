@@ -1,4 +1,5 @@
 //! The rule of a block, and many blocks at a time.
+ghost use Rattle.std.specs.Prelude.{◌≤◌};
 
 use bbm_rule::{turn, turn_lanes, turn_words};
 
@@ -32,19 +33,33 @@ fn lanes(word: u64) -> [u64; 17] {
     lanes
 }
 
+// whether the first of these are the word's lanes, so many of them
+fn are_lanes(found: &[u64; 17], word: u64, count: usize) -> bool {
+    lanes(word).iter().take(count).eq(found.iter().take(count))
+}
+
+// whether so many lanes of each bit are turned
+fn are_turned(count: usize) -> bool
+    requires { count ≤ 17 }
+{
+    let [mut a, mut b, mut c, mut d] = BLOCKS.map(lanes);
+    turn_lanes(
+        &mut a[..count],
+        &mut b[..count],
+        &mut c[..count],
+        &mut d[..count],
+    );
+    let [one, two, three, four] = TURNED_BLOCKS;
+    are_lanes(&a, one, count)
+        & are_lanes(&b, two, count)
+        & are_lanes(&c, three, count)
+        & are_lanes(&d, four, count)
+}
+
 // as many lanes as fill no vector, and up to four vectors and one more
 #[test]
 fn turns_lanes(rt: HostRuntime) {
     for count in 0..18usize {
-        let [mut a, mut b, mut c, mut d] = BLOCKS.map(lanes);
-        turn_lanes(
-            &mut a[..count],
-            &mut b[..count],
-            &mut c[..count],
-            &mut d[..count],
-        );
-        for (turned, word) in [a, b, c, d].iter().zip(TURNED_BLOCKS) {
-            assert!(rt; turned[..count] == lanes(word)[..count], "{count}");
-        }
+        assert!(rt; are_turned(count), "{count}");
     }
 }

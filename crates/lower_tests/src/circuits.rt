@@ -2,10 +2,10 @@
 //! by hand from the format.
 
 use circuit::*;
-use section_text::{Feed, Name, PortNames};
+use section_text::{Name, PortNames};
 use std::alloc::Global;
 use std::process::Abort;
-use std::test::Fail;
+use test_support::circuit_of;
 
 /// A line of each kind.
 const KINDS: &str = "circuit
@@ -57,15 +57,11 @@ fn are_ports(ports: &PortNames) -> bool {
 }
 
 #[test]
-fn circuit_of_all_kinds(rt: HostRuntime) -> Result<(), Fail> {
-    let mut feed = Feed::new(rt.alloc());
-    assert!(rt; feed.push(KINDS.as_bytes()).is_ok(), "no memory");
-    feed.close();
-    let circuit = read_circuit(rt.alloc(), &mut feed)?;
-    assert!(rt; print_circuit(rt.alloc(), &circuit)?.as_slice() == KINDS.as_bytes());
-    assert!(rt; is_the_switch(&circuit));
-    assert!(rt; are_ports(&port_names(rt.alloc(), &circuit)?));
-    Ok(())
+fn circuit_of_all_kinds(rt: HostRuntime) {
+    let circuit = circuit_of(rt.alloc(), KINDS).expect(&rt, "a circuit");
+    let printed = print_circuit(rt.alloc(), &circuit).expect(&rt, "a text");
+    assert!(rt; printed.as_slice() == KINDS.as_bytes() && is_the_switch(&circuit));
+    assert!(rt; are_ports(&port_names(rt.alloc(), &circuit).expect(&rt, "names")));
 }
 
 fn name(rt: &impl Abort, word: &[u8]) -> Name {
@@ -82,12 +78,14 @@ fn lines(rt: &impl Abort, alloc: Global) -> Draft {
     draft
 }
 
+/// Whether a draft is finished with a wire that is spilled.
+fn is_finished_by_spilling(mut draft: Draft, wire: Name) -> bool {
+    draft.add_spill(wire).is_ok() && draft.finish().is_ok()
+}
+
 #[test]
 fn first_unused_wire(rt: HostRuntime) {
-    let Err(Unused { mut draft, wire }) = lines(&rt, rt.alloc()).finish() else {
-        panic!(rt; "finished")
-    };
-    assert!(rt; wire.bytes() == b"q".as_slice());
-    assert!(rt; draft.add_spill(wire).is_ok());
-    assert!(rt; draft.finish().is_ok());
+    let unused = lines(&rt, rt.alloc()).finish().err();
+    let Unused { draft, wire } = unused.expect(&rt, "an unused wire");
+    assert!(rt; wire.bytes() == b"q".as_slice() && is_finished_by_spilling(draft, wire));
 }

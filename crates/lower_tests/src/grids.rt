@@ -2,7 +2,6 @@
 
 use bbm_rule::{Cell, Grid, Left};
 use pattern::Extent;
-use std::test::Fail;
 
 fn is_live(grid: &Grid, x: i32, y: i32) -> bool {
     let cell = Cell { x, y };
@@ -32,33 +31,31 @@ fn shows(grid: &Grid, cells: &[(i32, i32)]) -> bool {
 
 // each corner of the grid is alone in its block of an odd step, and no even step moves it out
 #[test]
-fn a_lone_ball_leaves(rt: HostRuntime) -> Result<(), Fail> {
+fn a_lone_ball_leaves(rt: HostRuntime) {
     for (x, y) in [(0, 0), (5, 0), (0, 3), (5, 3)] {
-        let mut grid = Grid::new(rt.alloc(), 6, 4)?;
+        let mut grid = Grid::new(rt.alloc(), 6, 4).expect(&rt, "a grid");
         put(&mut grid, &[(x, y), (3, 1), (3, 2)]);
         assert!(rt; grid.step(1) == Err(Left), "{x} {y}");
         assert!(rt; shows(&grid, &[(x, y), (3, 1), (3, 2)]), "{x} {y}");
         assert!(rt; grid.step(2) == Ok(()), "{x} {y}");
     }
-    Ok(())
 }
 
 #[test]
-fn the_largest_grid_steps(rt: HostRuntime) -> Result<(), Fail> {
-    let mut grid = Grid::new(rt.alloc(), 1024, 1024)?;
+fn the_largest_grid_steps(rt: HostRuntime) {
+    let mut grid = Grid::new(rt.alloc(), 1024, 1024).expect(&rt, "a grid");
     put(&mut grid, &[(1023, 1023), (512, 512)]);
     assert!(rt; grid.step(1) == Err(Left));
     for (time, corner) in [(0, 1022), (1, 1021)] {
         assert!(rt; grid.step(time) == Ok(()));
         assert!(rt; is_live(&grid, corner, corner) && !is_live(&grid, corner + 1, corner + 1));
     }
-    Ok(())
 }
 
 // a grid, and a layout of its size
 #[test]
-fn holds_its_cells_alone(rt: HostRuntime) -> Result<(), Fail> {
-    let grid = Grid::new(rt.alloc(), 6, 4)?;
+fn holds_its_cells_alone(rt: HostRuntime) {
+    let grid = Grid::new(rt.alloc(), 6, 4).expect(&rt, "a grid");
     let size = Extent {
         w: 6,
         h: 4,
@@ -78,5 +75,4 @@ fn holds_its_cells_alone(rt: HostRuntime) -> Result<(), Fail> {
             "{x} {y}"
         );
     }
-    Ok(())
 }

@@ -1,15 +1,10 @@
 //! Jobs of modules. What is expected was worked out by hand from the lines.
 
-use crate::bundles::jobs_of;
 use bbm_rule::Cell;
 use certificate::*;
 use module_box::{Box2, Schedule, Signal};
 use std::sync::Arc;
-use std::test::Fail;
-
-/// Two balls that meet in the middle of four modules.
-const QUARTERS: &str =
-    "circuit\ninput p\ninput q\ninteract p q -> a b c d\noutput a\noutput b\noutput c\noutput d\nend\nlayout 8 8 3\nin p 2 2\nin q 5 5\nout a 5 2\nout b 2 2\nout c 5 5\nout d 2 5\nend\ncertificate 1\nmodule 0 0 4 4\ncut p\ncut q\nuse 0\nedge 1 3 3 p\nhalo 1 4 4 q\nmodule 4 0 4 4\ncut p\ncut q\nuse 0\nhalo 1 3 3 p\nhalo 1 4 4 q\nmodule 0 4 4 4\ncut p\ncut q\nuse 0\nhalo 1 3 3 p\nhalo 1 4 4 q\nmodule 4 4 4 4\ncut p\ncut q\nuse 0\nedge 1 4 4 q\nhalo 1 3 3 p\nend\n";
+use test_support::{GOOD, work_of};
 
 /// The corner of a module's box, the cell of its ports, what is there at the start and to be there at the end, and what the cells
 /// (3, 3) and (4, 4) carry at time 1, as edge and as halo.
@@ -95,15 +90,14 @@ fn are_compared(jobs: &[Arc<Job>], again: &[Arc<Job>]) -> bool {
 }
 
 #[test]
-fn jobs_of_four_modules(rt: HostRuntime) -> Result<(), Fail> {
-    let jobs = jobs_of(&rt, rt.alloc(), QUARTERS)?;
+fn jobs_of_four_modules(rt: HostRuntime) {
+    let jobs = work_of(rt.alloc(), GOOD).expect(&rt, "work").jobs;
     assert!(rt; jobs.len() == 4);
     for (number, (job, wanted)) in jobs.iter().zip(&MODULES).enumerate() {
         assert!(rt; is_quarter(job, wanted), "{number}");
     }
-    let again = jobs_of(&rt, rt.alloc(), QUARTERS)?;
+    let again = work_of(rt.alloc(), GOOD).expect(&rt, "work").jobs;
     assert!(rt; are_compared(&jobs, &again));
-    Ok(())
 }
 
 /// A mirror across the border of two modules, a ball, a waste cell, and a wire that is cut in one of them.
@@ -126,15 +120,16 @@ fn has_borders(job: &Job, cell: Cell, edge: Signal, halo: Signal) -> bool {
 }
 
 #[test]
-fn mirrors_balls_and_wastes(rt: HostRuntime) -> Result<(), Fail> {
-    let jobs = jobs_of(&rt, rt.alloc(), MIRROR)?;
+fn mirrors_balls_and_wastes(rt: HostRuntime) {
+    let jobs = work_of(rt.alloc(), MIRROR).expect(&rt, "work").jobs;
     assert!(rt; jobs.len() == 2);
     for (module, (x, y), start, demand, edge, halo) in MIRROR_CELLS {
-        assert!(rt; module < jobs.len());
-        let (job, cell) = (&jobs[module], Cell { x, y });
-        assert!(rt; is_at(job, cell, start, demand), "{cell:?} of {module}");
-        assert!(rt; has_borders(job, cell, edge, halo), "{cell:?} of {module}");
-        assert!(rt; job.locals().cuts() == module);
+        let job = jobs.get(module).expect(&rt, "a job");
+        let cell = Cell { x, y };
+        let is_as_told = is_at(job, cell, start, demand) && has_borders(job, cell, edge, halo);
+        assert!(rt;
+            is_as_told && job.locals().cuts() == module,
+            "{cell:?} of {module}"
+        );
     }
-    Ok(())
 }

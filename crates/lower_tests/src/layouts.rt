@@ -1,10 +1,11 @@
 //! Layouts that are printed, and their cells at the start. What is expected was worked out by hand from the format.
 
+use bbm_rule::Cell;
 use pattern::*;
-use section_text::{Feed, Name, PortNames};
+use section_text::Name;
 use std::alloc::{AllocError, Global};
 use std::process::Abort;
-use std::test::Fail;
+use test_support::layout_of;
 
 /// Texts of layouts.
 const TEXTS: [&str; 5] = [
@@ -16,12 +17,10 @@ const TEXTS: [&str; 5] = [
 ];
 
 /// Whether a text is printed as it was read.
-fn is_reprinted(rt: &impl Abort, alloc: Global, text: &[u8]) -> Result<bool, Fail> {
-    let mut feed = Feed::new(alloc);
-    assert!(rt; feed.push(text).is_ok(), "no memory");
-    feed.close();
-    let layout = read_layout(alloc, &mut feed, &PortNames::Any)?;
-    Ok(print_layout(alloc, &layout)?.as_slice() == text)
+fn is_reprinted(rt: &impl Abort, alloc: Global, text: &[u8]) -> bool {
+    let layout = layout_of(alloc, text).expect(rt, "a layout");
+    let printed = print_layout(alloc, &layout).expect(rt, "a text");
+    printed.as_slice() == text
 }
 
 /// A text whose balls fill the upper half of a layout.
@@ -35,13 +34,12 @@ fn half_full(alloc: Global) -> Result<Vec<u8>, AllocError> {
 }
 
 #[test]
-fn prints_what_was_read(rt: HostRuntime) -> Result<(), Fail> {
+fn prints_what_was_read(rt: HostRuntime) {
     for text in TEXTS {
-        assert!(rt; is_reprinted(&rt, rt.alloc(), text.as_bytes())?, "{text}");
+        assert!(rt; is_reprinted(&rt, rt.alloc(), text.as_bytes()), "{text}");
     }
-    let text = half_full(rt.alloc())?;
-    assert!(rt; is_reprinted(&rt, rt.alloc(), &text)?);
-    Ok(())
+    let text = half_full(rt.alloc()).expect(&rt, "a text");
+    assert!(rt; is_reprinted(&rt, rt.alloc(), &text));
 }
 
 /// A layout, the names that are on, whether or not it has them, and its cells at the start: those of mirrors row by row, balls, inputs.
@@ -68,33 +66,29 @@ const STARTS: [(&str, &[&[u8]], &[(i32, i32)]); 4] = [
     ),
 ];
 
-/// Whether a layout starts with these cells, where these names are on.
-fn starts_with(
-    rt: &impl Abort,
-    alloc: Global,
-    text: &str,
-    words: &[&[u8]],
-    wanted: &[(i32, i32)],
-) -> Result<bool, Fail> {
-    let mut feed = Feed::new(alloc);
-    assert!(rt; feed.push(text.as_bytes()).is_ok(), "no memory");
-    feed.close();
-    let layout = read_layout(alloc, &mut feed, &PortNames::Any)?;
-    let mut on = Vec::new(alloc);
+fn names(rt: &impl Abort, alloc: Global, words: &[&[u8]]) -> Vec<Name> {
+    let mut names = Vec::new(alloc);
     for word in words {
-        on.push(Name::of(word).ok_or("a name")?)?;
+        let name = Name::of(word).expect(rt, "a name");
+        names.push(name).expect(rt, "room");
     }
-    let cells = start_cells(alloc, &layout, &on)?;
-    Ok(cells.iter().map(|c| (c.x, c.y)).eq(wanted.iter().copied()))
+    names
+}
+
+/// Whether these are the cells.
+fn are_cells(cells: &[Cell], wanted: &[(i32, i32)]) -> bool {
+    cells
+        .iter()
+        .map(|cell| (cell.x, cell.y))
+        .eq(wanted.iter().copied())
 }
 
 #[test]
-fn cells_of_the_start(rt: HostRuntime) -> Result<(), Fail> {
+fn cells_of_the_start(rt: HostRuntime) {
     for (text, words, wanted) in STARTS {
-        assert!(rt;
-            starts_with(&rt, rt.alloc(), text, words, wanted)?,
-            "{text}"
-        );
+        let layout = layout_of(rt.alloc(), text.as_bytes()).expect(&rt, "a layout");
+        let on = names(&rt, rt.alloc(), words);
+        let cells = start_cells(rt.alloc(), &layout, &on).expect(&rt, "cells");
+        assert!(rt; are_cells(&cells, wanted), "{text}");
     }
-    Ok(())
 }

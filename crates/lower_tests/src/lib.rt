@@ -7,10 +7,6 @@ mod blocks;
 #[cfg(test)]
 mod boxes;
 #[cfg(test)]
-mod bundles;
-#[cfg(test)]
-mod certificates;
-#[cfg(test)]
 mod circuits;
 #[cfg(test)]
 mod faults;

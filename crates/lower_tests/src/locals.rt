@@ -2,14 +2,13 @@
 
 ghost use Rattle.std.specs.Prelude.{◌<◌, ◌≤◌};
 
-use crate::bundles::jobs_of;
 use certificate::Job;
 use circuit::WireNo;
 use module_box::Locals;
 use std::alloc::{AllocError, Global};
 use std::process::Abort;
 use std::sync::Arc;
-use std::test::Fail;
+use test_support::work_of;
 
 // a gate of each kind, the first four over the inputs
 const GATES: &str = "circuit
@@ -143,28 +142,25 @@ fn has_values(
 }
 
 // the job of a bundle's only module
-fn only_job(rt: &impl Abort, alloc: Global, text: &str) -> Result<Arc<Job>, Fail> {
-    let mut jobs = jobs_of(rt, alloc, text)?;
-    Ok(jobs.pop().ok_or("no job")?)
+fn only_job(rt: &impl Abort, alloc: Global, text: &str) -> Arc<Job> {
+    let mut jobs = work_of(alloc, text).expect(rt, "work").jobs;
+    jobs.pop().expect(rt, "a job")
 }
 
 #[test]
-fn values_by_the_tables(rt: HostRuntime) -> Result<(), Fail> {
-    let job = only_job(&rt, rt.alloc(), GATES)?;
-    assert!(rt; has_values(rt.alloc(), job.locals(), 16, &TABLE)?);
+fn values_by_the_tables(rt: HostRuntime) {
+    let job = only_job(&rt, rt.alloc(), GATES);
+    assert!(rt; has_values(rt.alloc(), job.locals(), 16, &TABLE) == Ok(true));
     for (wire, local) in [(0, Some(0)), (24, Some(24)), (25, None)] {
         assert!(rt; job.locals().local(WireNo::of(wire)) == local, "{wire}");
     }
-    Ok(())
 }
 
 #[test]
-fn modules_without_cuts(rt: HostRuntime) -> Result<(), Fail> {
-    let job = only_job(&rt, rt.alloc(), NO_CUTS)?;
-    assert!(rt; has_values(rt.alloc(), job.locals(), 1, &NO_CUTS_TABLE)?);
-    let same = only_job(&rt, rt.alloc(), NO_CUTS)?;
-    assert!(rt; job.locals() == same.locals());
-    let other = only_job(&rt, rt.alloc(), OTHER_DELAY)?;
-    assert!(rt; job.locals() != other.locals());
-    Ok(())
+fn modules_without_cuts(rt: HostRuntime) {
+    let job = only_job(&rt, rt.alloc(), NO_CUTS);
+    assert!(rt; has_values(rt.alloc(), job.locals(), 1, &NO_CUTS_TABLE) == Ok(true));
+    let same = only_job(&rt, rt.alloc(), NO_CUTS);
+    let other = only_job(&rt, rt.alloc(), OTHER_DELAY);
+    assert!(rt; job.locals() == same.locals() && job.locals() != other.locals());
 }

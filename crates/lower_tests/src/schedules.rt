@@ -24,22 +24,30 @@ const HELD: Cell = Cell { x: 4, y: 1 };
 
 const APART: Cell = Cell { x: 5, y: 1 };
 
+/// What the cells of a schedule with an event at (5, 1) and time 3 carry.
+const CARRIED: [(u32, i32, i32, Signal); 7] = [
+    (3, 4, 1, Signal::Wire(7)),
+    (0, 4, 1, Signal::Wire(7)),
+    (3, 5, 1, Signal::One),
+    (2, 5, 1, Signal::Zero),
+    (4, 5, 1, Signal::Zero),
+    (3, 1, 5, Signal::Zero),
+    (3, -4, 1, Signal::Zero),
+];
+
 #[test]
 fn held_event_or_zero(rt: HostRuntime) {
     let apart = schedule(&rt, rt.alloc(), 3, APART);
-    for (t, x, y, signal) in [
-        (3, 4, 1, Signal::Wire(7)),
-        (0, 4, 1, Signal::Wire(7)),
-        (3, 5, 1, Signal::One),
-        (2, 5, 1, Signal::Zero),
-        (4, 5, 1, Signal::Zero),
-        (3, 1, 5, Signal::Zero),
-        (3, -4, 1, Signal::Zero),
-    ] {
+    for (t, x, y, signal) in CARRIED {
         assert!(rt; apart.at(t, Cell { x, y }) == signal, "at {t}, {x}, {y}");
     }
-    assert!(rt; apart == schedule(&rt, rt.alloc(), 3, APART));
-    assert!(rt; apart != schedule(&rt, rt.alloc(), 4, APART));
     // what is held comes before an event
     assert!(rt; schedule(&rt, rt.alloc(), 3, HELD).at(3, HELD) == Signal::Wire(7));
+}
+
+#[test]
+fn equal_schedules(rt: HostRuntime) {
+    let apart = schedule(&rt, rt.alloc(), 3, APART);
+    assert!(rt; apart == schedule(&rt, rt.alloc(), 3, APART));
+    assert!(rt; apart != schedule(&rt, rt.alloc(), 4, APART));
 }

@@ -67,6 +67,10 @@ fn is_name(word: &[u8]) -> bool {
     }
 }
 
+fn is_read_as(word: &[u8], number: Option<u32>, named: bool) -> bool {
+    read_number(word) == number && is_name(word) == named
+}
+
 /// Words, the numbers that they are, and whether they are names.
 const WORDS: [(&str, Option<u32>, bool); 23] = [
     ("0", Some(0), false),
@@ -97,8 +101,7 @@ const WORDS: [(&str, Option<u32>, bool); 23] = [
 #[test]
 fn numbers_and_names(rt: HostRuntime) {
     for (word, number, named) in WORDS {
-        assert!(rt; read_number(word.as_bytes()) == number, "{word}");
-        assert!(rt; is_name(word.as_bytes()) == named, "{word}");
+        assert!(rt; is_read_as(word.as_bytes(), number, named), "{word}");
     }
 }
 

@@ -2,81 +2,14 @@
 //!
 //! What finds no memory is tried once more: so each growth can be refused in turn (`rt try --test --fail-alloc N`), and the
 //! sequences are still to end as they should.
-ghost use Rattle.std.specs.Prelude.{◌≡◌, true};
 
 use audit_core::*;
-use certificate::{Job, read_certificate};
-use circuit::{Circuit, port_names, read_circuit};
+use certificate::Job;
 use local_run::{Finding, run_job};
-use pattern::{Layout, read_layout};
-use section_text::{Feed, ReadFault};
 use std::alloc::Global;
 use std::process::Abort;
 use std::sync::Arc;
-
-// ---- two balls that meet in the middle of four modules
-
-pub(crate) const GOOD: &str =
-    "circuit\ninput p\ninput q\ninteract p q -> a b c d\noutput a\noutput b\noutput c\noutput d\nend\nlayout 8 8 3\nin p 2 2\nin q 5 5\nout a 5 2\nout b 2 2\nout c 5 5\nout d 2 5\nend\ncertificate 1\nmodule 0 0 4 4\ncut p\ncut q\nuse 0\nedge 1 3 3 p\nhalo 1 4 4 q\nmodule 4 0 4 4\ncut p\ncut q\nuse 0\nhalo 1 3 3 p\nhalo 1 4 4 q\nmodule 0 4 4 4\ncut p\ncut q\nuse 0\nhalo 1 3 3 p\nhalo 1 4 4 q\nmodule 4 4 4 4\ncut p\ncut q\nuse 0\nedge 1 4 4 q\nhalo 1 3 3 p\nend\n";
-
-/// Nothing comes in at (4, 4) in the first module.
-pub(crate) const ALONE: &str =
-    "circuit\ninput p\ninput q\ninteract p q -> a b c d\noutput a\noutput b\noutput c\noutput d\nend\nlayout 8 8 3\nin p 2 2\nin q 5 5\nout a 5 2\nout b 2 2\nout c 5 5\nout d 2 5\nend\ncertificate 1\nmodule 0 0 4 4\ncut p\ncut q\nuse 0\nedge 1 3 3 p\nmodule 4 0 4 4\ncut p\ncut q\nuse 0\nhalo 1 3 3 p\nhalo 1 4 4 q\nmodule 0 4 4 4\ncut p\ncut q\nuse 0\nhalo 1 3 3 p\nhalo 1 4 4 q\nmodule 4 4 4 4\ncut p\ncut q\nuse 0\nedge 1 4 4 q\nhalo 1 3 3 p\nend\n";
-
-// ---- what is made of a bundle
-
-/// A text that has ended.
-pub(crate) fn fed(rt: &impl Abort, alloc: Global, text: &str) -> Feed
-    ensures { result.closed ≡ true }
-{
-    let mut feed = Feed::new(alloc);
-    assert!(rt; feed.push(text.as_bytes()).is_ok(), "no memory");
-    feed.close();
-    feed
-}
-
-/// The sections before a certificate.
-pub(crate) fn sections(rt: &impl Abort, alloc: Global, feed: &mut Feed) -> (Circuit, Layout)
-    requires { feed.old.closed ≡ true }
-{
-    let circuit = match read_circuit(alloc, feed) {
-        Ok(circuit) => circuit,
-        Err(ReadFault::Memory) => panic!(rt; "no memory"),
-        Err(ReadFault::Refused(_)) => panic!(rt; "refused"),
-    };
-    let Ok(ports) = port_names(alloc, &circuit) else {
-        panic!(rt; "no memory")
-    };
-    assert!(rt; feed.closed());
-    match read_layout(alloc, feed, &ports) {
-        Ok(layout) => (circuit, layout),
-        Err(ReadFault::Memory) => panic!(rt; "no memory"),
-        Err(ReadFault::Refused(_)) => panic!(rt; "refused"),
-    }
-}
-
-/// A certificate's digest and jobs.
-#[derive(Drop)]
-pub(crate) struct Work {
-    pub(crate) digest: [u8; 32],
-    pub(crate) jobs: Vec<Arc<Job>>,
-}
-
-/// What is to be done for a bundle.
-pub(crate) fn work_of(rt: &impl Abort, alloc: Global, text: &str) -> Work {
-    let mut feed = fed(rt, alloc, text);
-    let (circuit, layout) = sections(rt, alloc, &mut feed);
-    assert!(rt; feed.closed());
-    let certificate = match read_certificate(alloc, &mut feed, &circuit, &layout) {
-        Ok(certificate) => certificate,
-        Err(ReadFault::Memory) => panic!(rt; "no memory"),
-        Err(ReadFault::Refused(_)) => panic!(rt; "refused"),
-    };
-    match (certificate.digest(alloc), certificate.jobs(alloc)) {
-        (Ok(digest), Ok(jobs)) => Work { digest, jobs },
-        _ => panic!(rt; "no memory"),
-    }
-}
+use test_support::{ALONE, GOOD, Work, work_of};
 
 /// The finding of the job at a place of the list, under a digest and a number.
 pub(crate) fn finding(
@@ -88,16 +21,9 @@ pub(crate) fn finding(
     place: usize,
 ) -> Finding {
     assert!(rt; place < jobs.len(), "no such job");
-    let Ok(job) = jobs[place].clone() else {
-        panic!(rt; "no memory")
-    };
-    match run_job(alloc, digest, number, job) {
-        Ok(finding) => finding,
-        Err(_) => panic!(rt; "no memory"),
-    }
+    let job = jobs[place].clone().expect(rt, "a job");
+    run_job(alloc, digest, number, job).expect(rt, "a finding")
 }
-
-// ---- a book with its history
 
 /// The reply to a finding, which is filed: a second time, if no memory was found for the first.
 fn reply(rt: &impl Abort, book: &mut BookState, finding: Finding) -> Reply {
@@ -138,9 +64,10 @@ struct Works {
 
 impl Works {
     fn new(rt: &impl Abort, alloc: Global) -> Works {
-        let own = work_of(rt, alloc, GOOD);
-        let other = work_of(rt, alloc, ALONE);
-        Works { own, other }
+        Works {
+            own: work_of(alloc, GOOD).expect(rt, "work"),
+            other: work_of(alloc, ALONE).expect(rt, "work"),
+        }
     }
 
     fn of(&self, of: Of) -> &Work {
@@ -245,23 +172,10 @@ fn play(rt: &impl Abort, alloc: Global, works: &Works, book: &mut BookState, tur
     is_told(book, told, entry, held)
 }
 
-/// An open book of these jobs, in which nothing is held.
-pub(crate) fn new_book(
-    rt: &impl Abort,
-    alloc: Global,
-    digest: [u8; 32],
-    jobs: Vec<Arc<Job>>,
-) -> BookState {
-    match BookState::new(alloc, digest, jobs) {
-        Ok(book) => book,
-        Err(_) => panic!(rt; "no memory"),
-    }
-}
-
 /// An open book of the four modules, in which nothing is held.
 fn book_of_four(rt: &impl Abort, alloc: Global) -> BookState {
-    let Work { digest, jobs } = work_of(rt, alloc, GOOD);
-    new_book(rt, alloc, digest, jobs)
+    let Work { digest, jobs } = work_of(alloc, GOOD).expect(rt, "work");
+    BookState::new(alloc, digest, jobs).expect(rt, "a book")
 }
 
 /// A book has this many entries, and is closed or not.
@@ -315,8 +229,13 @@ fn what_a_book_holds(rt: HostRuntime) {
     assert!(rt; book.found(2).is_none() && book.found(4).is_none());
     assert!(rt; play(&rt, rt.alloc(), &works, &mut book, &TURNS[0]));
     assert!(rt; holds(&book, 2) && book.found(1).is_none());
-    // nothing is held without jobs
-    let mut book = new_book(&rt, rt.alloc(), works.own.digest, Vec::new(rt.alloc()));
+}
+
+#[test]
+fn a_book_without_jobs_holds_nothing(rt: HostRuntime) {
+    let works = Works::new(&rt, rt.alloc());
+    let none = Vec::new(rt.alloc());
+    let mut book = BookState::new(rt.alloc(), works.own.digest, none).expect(&rt, "a book");
     let wanted = Reply::Stranger(Mismatch::Number);
     let turn = ((Of::Own, 0), (Of::Own, 0), false, wanted, 0);
     assert!(rt; play(&rt, rt.alloc(), &works, &mut book, &turn));

@@ -3,11 +3,12 @@
 //! What finds no memory is tried once more: so each growth can be refused in turn (`rt try --test --fail-alloc N`), and the
 //! sequence is still to end as it should.
 
-use crate::books::{GOOD, Work, finding, work_of};
+use crate::books::finding;
 use crate::verdicts::is_missing;
 use audit_core::*;
 use std::alloc::Global;
 use std::process::Abort;
+use test_support::{GOOD, Work, work_of};
 
 /// What the core answers to an event of one of its seats.
 fn happen(rt: &impl Abort, core: &mut Core, event: Event) -> Result<Answer, NotApplied> {
@@ -75,15 +76,12 @@ const STEPS: [(Step, Answer); 11] = [
 /// A core of two seats for this work.
 fn new_core(rt: &impl Abort, alloc: Global, work: Work) -> Core {
     assert!(rt; work.jobs.len() <= 1024, "too many jobs");
-    match Core::new(alloc, work.digest, work.jobs, 2) {
-        Ok(core) => core,
-        Err(_) => panic!(rt; "no memory"),
-    }
+    Core::new(alloc, work.digest, work.jobs, 2).expect(rt, "a core")
 }
 
 /// The core of two seats to which all of this happened.
 fn played(rt: &impl Abort, alloc: Global, work: &Work) -> Core {
-    let mut core = new_core(rt, alloc, work_of(rt, alloc, GOOD));
+    let mut core = new_core(rt, alloc, work_of(alloc, GOOD).expect(rt, "work"));
     for (number, (step, wanted)) in STEPS.iter().enumerate() {
         let event = event_of(rt, alloc, work, *step);
         assert!(rt; answer(rt, &mut core, event) == *wanted, "step {number}");
@@ -113,7 +111,7 @@ fn are_filings(history: &[Entry], digest: [u8; 32]) -> bool {
 
 #[test]
 fn core_of_two_seats(rt: HostRuntime) {
-    let work = work_of(&rt, rt.alloc(), GOOD);
+    let work = work_of(rt.alloc(), GOOD).expect(&rt, "work");
     let core = played(&rt, rt.alloc(), &work);
     assert!(rt; core.next() == 6 && core.seats() == 2);
     assert!(rt; core.draws(0) == [0, 2, 3, 4].as_slice());

@@ -1,6 +1,5 @@
 //! A report with a line of each kind, on a certificate whose digest was made with `sha256sum`.
 
-use crate::books::{fed, sections};
 use audit_core::{ReportLine, Verdict};
 use bbm_rule::Cell;
 use border_match::BorderFault;
@@ -8,7 +7,7 @@ use certificate::read_certificate;
 use local_run::{Fault, Kind};
 use report::report_text;
 use std::alloc::{AllocError, Global};
-use std::test::Fail;
+use test_support::{fed, sections};
 
 /// A ball that is to stay where it is, in no time.
 const BUNDLE: &str =
@@ -48,13 +47,12 @@ fn verdict(alloc: Global) -> Result<Verdict, AllocError> {
 }
 
 #[test]
-fn report_of_a_no(rt: HostRuntime) -> Result<(), Fail> {
-    let verdict = verdict(rt.alloc())?;
-    let mut feed = fed(&rt, rt.alloc(), BUNDLE);
-    let (circuit, layout) = sections(&rt, rt.alloc(), &mut feed);
-    assert!(rt; feed.closed());
-    let certificate = read_certificate(rt.alloc(), &mut feed, &circuit, &layout)?;
-    let text = report_text(rt.alloc(), &certificate, &verdict)?;
+fn report_of_a_no(rt: HostRuntime) {
+    let mut feed = fed(rt.alloc(), BUNDLE.as_bytes()).expect(&rt, "a text");
+    let (circuit, layout) = sections(rt.alloc(), &mut feed).expect(&rt, "two sections");
+    let certificate = read_certificate(rt.alloc(), &mut feed, &circuit, &layout);
+    let certificate = certificate.expect(&rt, "a certificate");
+    let verdict = verdict(rt.alloc()).expect(&rt, "a verdict");
+    let text = report_text(rt.alloc(), &certificate, &verdict).expect(&rt, "a report");
     assert!(rt; text.as_slice() == REPORT.as_bytes());
-    Ok(())
 }

@@ -1,14 +1,14 @@
 //! Verdicts on worked bundles. The lines were worked out by hand.
 
-use crate::books::{ALONE, GOOD, fed, finding, new_book, sections, work_of};
+use crate::books::finding;
 use audit_core::*;
 use bbm_rule::Cell;
 use border_match::{BorderFault, match_borders};
 use certificate::{Cert, read_certificate};
 use local_run::{Fault, Kind};
-use section_text::ReadFault;
 use std::alloc::Global;
 use std::process::Abort;
+use test_support::{ALONE, GOOD, fed, sections, work_of};
 
 /// The conclusion on a certificate, at the second time if no memory was found at the first.
 fn concluded(
@@ -17,12 +17,8 @@ fn concluded(
     certificate: &Cert<'_>,
     book: &BookState,
 ) -> Result<Verdict, Unfinished> {
-    let Ok(jobs) = certificate.jobs(alloc) else {
-        panic!(rt; "no memory")
-    };
-    let Ok(borders) = match_borders(alloc, certificate, &jobs) else {
-        panic!(rt; "no memory")
-    };
+    let jobs = certificate.jobs(alloc).expect(rt, "jobs");
+    let borders = match_borders(alloc, certificate, &jobs).expect(rt, "borders");
     match conclude(alloc, certificate, &jobs, &borders, book) {
         Err(Unfinished::Memory) => conclude(alloc, certificate, &jobs, &borders, book),
         concluded => concluded,
@@ -36,23 +32,21 @@ fn conclusion(
     text: &str,
     book: &BookState,
 ) -> Result<Verdict, Unfinished> {
-    let mut feed = fed(rt, alloc, text);
-    let (circuit, layout) = sections(rt, alloc, &mut feed);
-    assert!(rt; feed.closed());
-    match read_certificate(alloc, &mut feed, &circuit, &layout) {
-        Ok(certificate) => concluded(rt, alloc, &certificate, book),
-        Err(ReadFault::Memory) => panic!(rt; "no memory"),
-        Err(ReadFault::Refused(_)) => panic!(rt; "refused"),
-    }
+    let mut feed = fed(alloc, text.as_bytes()).expect(rt, "a text");
+    let (circuit, layout) = sections(alloc, &mut feed).expect(rt, "two sections");
+    let certificate = read_certificate(alloc, &mut feed, &circuit, &layout);
+    let certificate = certificate.expect(rt, "a certificate");
+    concluded(rt, alloc, &certificate, book)
 }
 
 /// A book of a bundle's jobs, in which the findings of these numbers are filed in this order. Its digest is none of a text.
 fn book_of(rt: &impl Abort, alloc: Global, text: &str, numbers: &[usize]) -> BookState {
     let digest = [7; 32];
-    let work = work_of(rt, alloc, text);
-    let mut book = new_book(rt, alloc, digest, work_of(rt, alloc, text).jobs);
+    let jobs = work_of(alloc, text).expect(rt, "work").jobs;
+    let own = work_of(alloc, text).expect(rt, "work").jobs;
+    let mut book = BookState::new(alloc, digest, own).expect(rt, "a book");
     for number in numbers {
-        let finding = finding(rt, alloc, digest, *number, &work.jobs, *number);
+        let finding = finding(rt, alloc, digest, *number, &jobs, *number);
         assert!(rt; book.file(finding).is_ok(), "no memory");
     }
     book
