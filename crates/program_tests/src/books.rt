@@ -2,7 +2,7 @@
 //!
 //! A filing that finds no memory is tried once more, so the growths of `file` can be refused in turn
 //! (`rt try --test --fail-alloc N`).
-ghost use Rattle.std.specs.Prelude.{◌≡◌, ◌<◌, ◌≤◌};
+ghost use Rattle.std.specs.Prelude.{◌≡◌, ◌<◌, ◌≤◌, []};
 
 use crate::bundles::{GOOD, fed, sections};
 use audit_core::{BookState, Entry, NotFiled, Reply};
@@ -28,10 +28,9 @@ pub(crate) fn jobs(rt: &impl Abort, alloc: Global) -> Result<Vec<Arc<Job>>, Fail
 }
 
 /// Files a finding of each job, whatever the replies.
-fn file_all<F: Ledger, A: Ledger, R: Wait>(
+fn file_all<F: Filings, A: Ledger, R: Wait>(
     rt: &R,
     alloc: Global,
-    digest: [u8; 32],
     jobs: &[Arc<Job>],
     book: &Book<F, A>,
     share: &mut Share<F, A>,
@@ -40,7 +39,7 @@ fn file_all<F: Ledger, A: Ledger, R: Wait>(
         let Ok(job) = job.clone() else {
             return;
         };
-        let Ok(finding) = run_job(alloc, digest, number, job) else {
+        let Ok(finding) = run_job(alloc, book.digest(), number, job) else {
             return;
         };
         if let Err(NotFiled { finding }) = book.file(rt, share, finding) {
@@ -50,20 +49,25 @@ fn file_all<F: Ledger, A: Ledger, R: Wait>(
 }
 
 /// As many threads as there are shares each file all findings. `kept_back`: one share is not handed in.
-fn filed_by_all<F: Ledger + Send + Sync, A: Ledger + Send + Sync, R: Abort + Threads + Wait + Sync>(
+fn filed_by_all<
+    F: Filings + Send + Sync,
+    A: Ledger + Send + Sync,
+    R: Abort + Threads + Wait + Sync,
+>(
     rt: &R,
     alloc: Global,
     f: Blank,
     a: Blank,
+    state: BookState,
     count: usize,
     kept_back: bool,
 ) -> Result<Option<Gathered>, Fail>
     requires filings { (f.name ≡ F.name) × (f.parts ≡ F.parts) × (f.parts ≡ count) }
     requires acceptances { (a.name ≡ A.name) × (a.parts ≡ A.parts) × (a.parts ≡ count) }
     requires count { (0 < count) × (count ≤ 64) }
+    requires own { (state.digest ≡ F.digest) × (state.jobs ≡ F.jobs) }
+    requires fresh { state.history ≡ [] }
 {
-    let digest = [7; 32];
-    let state = BookState::new(alloc, digest, jobs(rt, alloc)?)?;
     let (book, mut shares): (Book<F, A>, Vec<Share<F, A>>) = Book::open(alloc, f, a, state, count)?;
     let own = jobs(rt, alloc)?;
     let own = own.as_slice();
@@ -72,7 +76,7 @@ fn filed_by_all<F: Ledger + Send + Sync, A: Ledger + Send + Sync, R: Abort + Thr
         rt,
         shares.as_mut_slice(),
         count,
-        &|_, share| file_all(rt, alloc, digest, own, shared, share),
+        &|_, share| file_all(rt, alloc, own, shared, share),
     );
     for share in &shares {
         assert_eq!(rt; share.filed(), 4);
@@ -107,7 +111,9 @@ fn filed_by_four<R: Abort + Threads + Wait + Sync>(
     alloc: Global,
     kept_back: bool,
 ) -> Result<Option<Gathered>, Fail> {
-    filed_by_all::<Brand, Brand, R>(rt, alloc, Blank::new(4), Blank::new(4), 4, kept_back)
+    let state = BookState::new(alloc, [7; 32], jobs(rt, alloc)?)?;
+    let blank = Blank::new(4);
+    filed_by_all::<Brand, Brand, R>(rt, alloc, blank, Blank::new(4), state, 4, kept_back)
 }
 
 #[test]

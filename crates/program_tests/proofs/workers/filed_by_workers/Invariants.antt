@@ -1,5 +1,8 @@
 use Rattle.program_tests.proofs.workers.filed_by_workers.Given as goal
 
+abbrev pub ghosts-worked-F-Filings : goal.ghosts-worked-F-Filings
+ghosts-worked-F-Filings g a = record { digest = a.state.digest; jobs = a.state.jobs }
+
 abbrev pub ghosts-worked-F-Ledger : goal.ghosts-worked-F-Ledger
 ghosts-worked-F-Ledger g a = record { name = a.f.name; parts = a.f.parts }
 
