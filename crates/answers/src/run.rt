@@ -9,9 +9,9 @@ ghost use Rattle.answers.specs.RunText.{IsRunOf, SaysRunEnd, cell_line, end_outc
 
 use crate::asking::read_names;
 use crate::outcome::{Answered, Outcome};
+use crate::refusing::refused;
 use bbm_rule::Cell;
 use pattern::{Layout, RunEnd, read_layout, run_plain};
-use report::refusal_text;
 use section_text::{Feed, Name, PortNames, ReadFault};
 use std::alloc::{AllocError, Global};
 
@@ -117,11 +117,7 @@ pub fn run_text(alloc: Global, feed: &mut Feed) -> Result<Answered, AllocError>
     ensures { IfOk result (λ answered. IsRunOf feed.old.text answered.output.items answered.outcome) }
 {
     match read_asked(alloc, feed) {
-        Err(ReadFault::Memory) => Err(AllocError),
-        Err(ReadFault::Refused(refusal)) => Ok(Answered {
-            outcome: Outcome::Refused,
-            output: refusal_text(alloc, refusal)?,
-        }),
+        Err(fault) => refused(alloc, fault),
         Ok((layout, on)) => answer(alloc, &layout, &on),
     }
 }

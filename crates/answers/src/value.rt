@@ -6,9 +6,9 @@ ghost use Rattle.answers.specs.ValueText.{IsValueOf, SaysValues, value_asked};
 
 use crate::asking::read_names;
 use crate::outcome::{Answered, Outcome};
+use crate::refusing::refused;
 use circuit::{Circuit, port_names, print_values, read_circuit};
 use pattern::are_on;
-use report::refusal_text;
 use section_text::{Feed, Name, PortNames, ReadFault};
 use std::alloc::{AllocError, Global};
 
@@ -65,11 +65,7 @@ pub fn value_text(alloc: Global, feed: &mut Feed) -> Result<Answered, AllocError
     ensures { IfOk result (λ answered. IsValueOf feed.old.text answered.output.items answered.outcome) }
 {
     match read_asked(alloc, feed) {
-        Err(ReadFault::Memory) => Err(AllocError),
-        Err(ReadFault::Refused(refusal)) => Ok(Answered {
-            outcome: Outcome::Refused,
-            output: refusal_text(alloc, refusal)?,
-        }),
+        Err(fault) => refused(alloc, fault),
         Ok((circuit, on)) => answer(alloc, &circuit, &on),
     }
 }

@@ -1,0 +1,9 @@
+-- The line of a refusal is the answer to what fails so.
+use Rattle.std.proofs.lemmas.Result.{IfOk-weaker}
+use Rattle.answers.specs.RunText.{SaysRunEnd, run_asked}
+use Rattle.answers.proofs.Bundles.{refusal_answers}
+use Rattle.answers.proofs.run.run_text.Goals as goal
+
+pub returns-in-Err : goal.returns-in-Err
+returns-in-Err c =
+    IfOk-weaker c.refused.result _ _ (λ answered told. refusal_answers SaysRunEnd (run_asked c.args.feed.now.text) c.in-Err.fault answered.output.items answered.outcome c.in-Err.ensures told) c.refused.ensures.told
