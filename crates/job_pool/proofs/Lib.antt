@@ -1,4 +1,5 @@
 pub mod Sums
 pub mod Moves
 pub mod Ends
+pub mod Members
 pub mod Filed

@@ -1,8 +1,9 @@
 -- What workers did
-use Rattle.std.specs.Prelude.{◌≡◌, ℕ, ◌+◌, ◌<◌, false, List, map, sum_by}
-use Rattle.audit_core.specs.Draws.{end_of}
+use Rattle.std.specs.Prelude.{◌≡◌, ℕ, ◌+◌, ◌<◌, false, List, [], ◌∷◌, map, sum_by}
+use Rattle.audit_core.specs.Draws.{end_of, times}
+use Rattle.certificate.specs.Jobs.{JobState}
+use Rattle.certificate.specs.Shapes.{ShapeState, shape_of}
 use Rattle.verdict_book.specs.Counts.{Counts}
-use Rattle.job_pool.specs.Lists.{early}
 use Rattle.job_pool.specs.Seats.{IsSeatOf, IsNewSeatOf, drawn_by, numbers_of}
 use Rattle.job_pool.specs.declared.desk.Desk.{Desk}
 use Rattle.job_pool.specs.declared.desk.DeskSeat.{DeskSeat}
@@ -12,15 +13,25 @@ use Rattle.job_pool.specs.declared.worker.Worker.{Worker}
 abbrev pub filed_by : List Counts → ℕ
 filed_by shares = sum_by (λ (s : Counts). s.filed) shares
 
+-- the shapes of jobs
+abbrev pub shapes_of : List JobState → List ShapeState
+shapes_of jobs = map shape_of jobs
+
+-- For each job `groups` has the number of the first of its group. So many findings are due from who drew these numbers: those of all
+-- members of the groups whose first numbers they are
+abbrev pub due : List ℕ → List ℕ → ℕ
+due groups [] = 0
+due groups (y ∷ ys) = times y groups + due groups ys
+
 module _ {F A : Type 0} where
   -- a worker that may begin
   abbrev pub IsReady : Desk → Worker F A → Type 0
   IsReady desk w = IsNewSeatOf desk w.seat × (w.starved ≡ false)
 
-  -- A worker that did not stop for want of memory filed as many findings as it drew numbers of the desk, and drew on to the end
-  pub record HasWorked (desk : Desk) (before after : Worker F A) : Type 0 where
+  -- A worker that did not stop for want of memory filed as many findings as were due from it, and drew on to the end
+  pub record HasWorked (desk : Desk) (groups : List ℕ) (before after : Worker F A) : Type 0 where
     pub seat : IsSeatOf desk after.seat
-    pub filed : after.starved ≡ false → after.share.filed ≡ before.share.filed + early (numbers_of desk) (drawn_by after.seat)
+    pub filed : after.starved ≡ false → after.share.filed ≡ before.share.filed + due groups (drawn_by after.seat)
     pub ended : after.starved ≡ false → numbers_of desk < end_of (drawn_by after.seat)
 
   abbrev pub shares_of : List (Worker F A) → List Counts

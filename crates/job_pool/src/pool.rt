@@ -1,7 +1,9 @@
 //! Workers in threads of their own.
-ghost use Rattle.std.specs.Prelude.{◌≡◌, ℕ, ◌+◌, ◌<◌, ◌≤◌, false, [], length, slice_index_or, vec_len, vec_capacity, All, IfOk};
+ghost use Rattle.std.specs.Prelude.{◌≡◌, ℕ, ◌+◌, ◌<◌, ◌≤◌, false, [], length, map, slice_index_or, vec_len, vec_capacity, All, IfOk};
+ghost use Rattle.std.specs.Arc.{arc_value};
+ghost use Rattle.certificate.specs.Groups.{AreGroups};
 ghost use Rattle.job_pool.specs.Seats.{IsNewSeatOf, numbers_of, seats_opened};
-ghost use Rattle.job_pool.specs.Work.{HasWorked, IsReady, filed_by, seats_of, shares_of};
+ghost use Rattle.job_pool.specs.Work.{HasWorked, IsReady, filed_by, seats_of, shapes_of, shares_of};
 
 use crate::desk::{Desk, DeskSeat};
 use crate::gate::Gate;
@@ -21,6 +23,8 @@ pub struct WorkEnd<F: Ledger, A: Ledger> {
     pub shares: Vec<Share<F, A>>,
     /// Whether there was no memory for something. Otherwise the finding of each job was filed.
     pub memory: bool,
+    /// How many jobs were run. No clause says it: one of each group, where there was memory.
+    pub runs: usize,
 }
 
 // Room for the workers, and later for their seats and shares.
@@ -31,21 +35,25 @@ struct Rooms<F: Ledger, A: Ledger> {
     shares: Vec<Share<F, A>>,
 }
 
-/// Runs all jobs and files their findings, by one worker a share. Each worker draws numbers at a desk, runs their jobs and
-/// files the findings, in a thread of its own where one can be made, until no number is left.
+/// Files the findings of all jobs, by one worker a share. Each worker draws numbers at a desk, in a thread of its own where one
+/// can be made, until no number is left. Who draws the first number of a group of jobs of the same shape runs its job and files the
+/// findings of all members; who draws another number files nothing for it.
 ///
-/// There are at most 1024 jobs, numbered from 0 in their order, and 1 to 64 shares of the book. All workers have ended when it
-/// returns. A worker that finds no memory stops, and leaves the numbers that are left to the others.
+/// There are at most 1024 jobs, numbered from 0 in their order, for each of them the number of the first of its shape in `groups`,
+/// and 1 to 64 shares of the book. All workers have ended when it returns. A worker that finds no memory stops, and leaves the
+/// numbers that are left to the others.
 pub fn work<F: Ledger + Sync, A: Ledger + Sync, G: Gate + Sync, R: Threads + Wait + Sync>(
     rt: &R,
     alloc: Global,
     gate: &G,
     digest: [u8; 32],
     jobs: &[Arc<Job>],
+    groups: &[usize],
     book: &Book<F, A>,
     shares: Vec<Share<F, A>>,
 ) -> WorkEnd<F, A>
     requires jobs { length jobs.now ≤ 1024 }
+    requires groups { AreGroups (shapes_of (map arc_value jobs.now)) groups.now }
     requires shares { (0 < vec_len shares) × (vec_len shares ≤ 64) }
     ensures back { vec_len result.shares ≡ vec_len shares }
     ensures filed { result.memory ≡ false → filed_by result.shares.items ≡ filed_by shares.items + length jobs.now }
@@ -54,6 +62,7 @@ pub fn work<F: Ledger + Sync, A: Ledger + Sync, G: Gate + Sync, R: Threads + Wai
         return WorkEnd {
             shares,
             memory: true,
+            runs: 0,
         };
     };
     let Rooms {
@@ -68,20 +77,23 @@ pub fn work<F: Ledger + Sync, A: Ledger + Sync, G: Gate + Sync, R: Threads + Wai
         gate,
         digest,
         jobs,
+        groups,
         &desk,
         book,
         workers.as_mut_slice(),
     );
-    let (seats, shares, starved) = dismiss(workers, ended, returned);
+    let (seats, shares, starved, runs) = dismiss(workers, ended, returned);
     let Ok(_closed) = desk.close(alloc, seats) else {
         return WorkEnd {
             shares,
             memory: true,
+            runs,
         };
     };
     WorkEnd {
         shares,
         memory: starved,
+        runs,
     }
 }
 
@@ -132,6 +144,7 @@ fn hire<F: Ledger, A: Ledger>(
             seat,
             share,
             starved: false,
+            runs: 0,
         });
     }
     workers
@@ -144,6 +157,7 @@ fn run_all<F: Ledger + Sync, A: Ledger + Sync, G: Gate + Sync, R: Threads + Wait
     gate: &G,
     digest: [u8; 32],
     jobs: &[Arc<Job>],
+    groups: &[usize],
     desk: &Desk,
     book: &Book<F, A>,
     workers: &mut [Worker<F, A>],
@@ -151,23 +165,24 @@ fn run_all<F: Ledger + Sync, A: Ledger + Sync, G: Gate + Sync, R: Threads + Wait
     requires some { 0 < length workers.old }
     requires ready { All (IsReady desk.now) workers.old }
     requires all { numbers_of desk.now ≡ length jobs.now }
-    ensures { (i : ℕ) (d : _) → i < length workers.old → HasWorked desk.now (slice_index_or workers.old i d) (slice_index_or workers.new i d) }
+    requires groups { AreGroups (shapes_of (map arc_value jobs.now)) groups.now }
+    ensures { (i : ℕ) (d : _) → i < length workers.old → HasWorked desk.now groups.now (slice_index_or workers.old i d) (slice_index_or workers.new i d) }
 {
     let threads = workers.len();
     thread::for_each_mut(
         rt,
         workers,
         threads,
-        &|_, worker| worker.run(rt, alloc, gate, digest, jobs, desk, book),
+        &|_, worker| worker.run(rt, alloc, gate, digest, jobs, groups, desk, book),
     );
 }
 
-// The seats and the shares, and whether a worker stopped for want of memory.
+// The seats and the shares, whether a worker stopped for want of memory, and how many jobs were run.
 fn dismiss<F: Ledger, A: Ledger>(
     workers: Vec<Worker<F, A>>,
     mut seats: Vec<DeskSeat>,
     mut shares: Vec<Share<F, A>>,
-) -> (Vec<DeskSeat>, Vec<Share<F, A>>, bool)
+) -> (Vec<DeskSeat>, Vec<Share<F, A>>, bool, usize)
     requires empty { (seats.items ≡ []) × (shares.items ≡ []) }
     requires room { (vec_len workers ≤ vec_capacity seats) × (vec_len workers ≤ vec_capacity shares) }
     ensures seats { result.0.items ≡ seats_of workers.items }
@@ -175,14 +190,17 @@ fn dismiss<F: Ledger, A: Ledger>(
     ensures starved { result.2 ≡ false → All (λ w. w.starved ≡ false) workers.items }
 {
     let starved = workers.iter().any(|w| w.starved);
+    let mut all_runs: usize = 0;
     for worker in workers {
         let Worker {
             seat,
             share,
             starved: _,
+            runs,
         } = worker;
         seats.push_reserved(seat);
         shares.push_reserved(share);
+        all_runs = all_runs.saturating_add(runs);
     }
-    (seats, shares, starved)
+    (seats, shares, starved, all_runs)
 }

@@ -1,11 +1,14 @@
 use Rattle.std.proofs.Common.{◌≡◌, ℕ, ◌<◌, ◌≤◌, ◌++◌, List, length, take, drop, map, All, false, arith, rules, ap, sym, ◌∙◌, subst}
+use Rattle.std.specs.Arc.{arc_value}
 use Rattle.std.proofs.lemmas.List.{length-map}
 use Rattle.std.proofs.lemmas.List.Elements.{All-same}
+use Rattle.certificate.specs.Shapes.{shape_of}
 use Rattle.verdict_book.specs.Counts.{Counts}
 use Rattle.job_pool.specs.declared.desk.DeskSeat.{DeskSeat}
 use Rattle.job_pool.specs.declared.worker.Worker.{Worker}
 use Rattle.job_pool.specs.Seats.{IsSeatOf, drawn_by}
-use Rattle.job_pool.specs.Work.{filed_by, seats_of, shares_of}
+use Rattle.job_pool.specs.Work.{filed_by, seats_of, shapes_of, shares_of}
+use Rattle.job_pool.proofs.Members.{groups_below}
 use Rattle.job_pool.proofs.Filed.{all_seats, every_number_was_filed, whole}
 use Rattle.job_pool.proofs.pool.work.Goals as goal
 
@@ -28,7 +31,7 @@ pub close-requires : goal.close-requires
 close-requires g c = let desk = c.in-Ok.desk in let before = c.as_mut_slice.result.now in let now = c.run_all.new.workers in
     let len : length now ≡ length before = search rules in
     let same : take c.hire-workers.result.len (now ++ drop (length now) c.hire-workers.result.items) ≡ now = whole _ now c.hire-workers.result.items (len ∙ ap length c.as_mut_slice.ensures.value) (search rules) in
-    subst {A = List DeskSeat} (All (IsSeatOf desk)) (sym (c.dismiss-seats.ensures.seats ∙ ap seats_of same)) (all_seats desk before now len c.run_all.ensures)
+    subst {A = List DeskSeat} (All (IsSeatOf desk)) (sym (c.dismiss-seats.ensures.seats ∙ ap seats_of same)) (all_seats desk c.args.groups.now before now len c.run_all.ensures)
 
 pub returns-clause-filed : goal.returns-clause-filed
 returns-clause-filed g c = λ fed. let desk = c.in-Ok.desk in let before = c.as_mut_slice.result.now in let now = c.run_all.new.workers in
@@ -37,11 +40,16 @@ returns-clause-filed g c = λ fed. let desk = c.in-Ok.desk in let before = c.as_
     let P : Worker g.row.F.Denot g.row.A.Denot → Type 0 = λ w. w.starved ≡ false in
     let quiet : All P now = All-same P _ _ (sym same) (c.dismiss-seats.ensures.starved fed) in
     let some_worker : 0 < length before = search rules in
+    let jobs = map arc_value c.args.jobs.now in
+    let long = length-map jobs shape_of in
+    let many = length-map c.args.jobs.now arc_value in
+    let all : length (shapes_of jobs) ≡ desk.numbers = omega (arith, long, many, c.in-Ok.ensures.desk.0) in
+    let below : All (λ k. k < desk.numbers) c.args.groups.now = subst (λ n. All (λ k. k < n) c.args.groups.now) all (groups_below (shapes_of jobs) c.args.groups.now c.requires.groups) in
     let closed = c.in-Ok-close.ensures in
-    let sum = every_number_was_filed desk before now len c.run_all.ensures _ _ some_worker quiet (closed.draws ∙ ap (map drawn_by) (c.dismiss-seats.ensures.seats ∙ ap seats_of same)) closed.all.drawn in
+    let sum = every_number_was_filed desk c.args.groups.now before now len c.run_all.ensures _ _ some_worker quiet (closed.draws ∙ ap (map drawn_by) (c.dismiss-seats.ensures.seats ∙ ap seats_of same)) closed.all.drawn below in
     let start = ap filed_by (ap shares_of c.as_mut_slice.ensures.value ∙ c.hire-workers.ensures.shares) in
     let back = ap filed_by (c.dismiss-seats.ensures.shares ∙ ap shares_of same) in
-    omega (arith, back, sum, start, c.in-Ok.ensures.desk.0)
+    omega (arith, back, sum, start, long, many, c.requires.groups.count)
 
 pub returns-clause-back : goal.returns-clause-back
 returns-clause-back g c = let before = c.as_mut_slice.result.now in let now = c.run_all.new.workers in

@@ -1,15 +1,15 @@
 use Rattle.std.proofs.Common.{◌≡◌, ◌+◌, ◌-◌, false}
 use Rattle.audit_core.specs.Draws.{end_of}
-use Rattle.job_pool.specs.Lists.{early}
 use Rattle.job_pool.specs.Seats.{IsSeatOf, drawn_by}
+use Rattle.job_pool.specs.Work.{due}
 use Rattle.job_pool.proofs.worker.Worker.run.Given as goal
 
--- so far as many findings were filed as numbers were drawn
+-- so far as many findings were filed as were due
 abbrev pub invariant-loop-number : goal.invariant-loop-number
 invariant-loop-number g l = record {
   seat : IsSeatOf l.desk l.self.seat;
   starved : l.self.starved ≡ false;
-  filed : l.self.share.filed ≡ l.initial.self.share.filed + early l.desk.numbers (drawn_by l.self.seat);
+  filed : l.self.share.filed ≡ l.initial.self.share.filed + due l.groups (drawn_by l.self.seat);
 }
 
 abbrev pub decreases-loop-number : goal.decreases-loop-number

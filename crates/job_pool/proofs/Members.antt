@@ -1,0 +1,115 @@
+-- Groups of jobs, and the findings that are due for draws.
+use Rattle.std.proofs.Common.{◌≡◌, ℕ, zero, suc, ◌+◌, ◌<◌, ◌≤◌, List, [], ◌∷◌, ◌++◌, All, map, take, length, get_or, Some, refl, sym, ap, ◌∙◌, subst, arith, inl, inr}
+use Rattle.std.specs.Prelude.{◌≢◌, ◌==◌, if◌then◌else◌, slice_get, slice_index}
+use Rattle.std.specs.Option.{option_map}
+use Rattle.std.proofs.lemmas.Bool.{cases_lt}
+use Rattle.std.proofs.lemmas.Bool.Decides.{nat_tests}
+use Rattle.std.proofs.lemmas.List.{take_more}
+use Rattle.std.proofs.lemmas.List.Elements.{All-head, All-tail}
+use Rattle.std.proofs.lemmas.Option.{slice_get-get_or, slice_get-map, slice_get_within}
+use Rattle.audit_core.specs.Claims.{claim_answer, claim_draws, has_ended}
+use Rattle.audit_core.specs.Draws.{total, times, IsDrawn}
+use Rattle.certificate.specs.Groups.{AreGroups, IsFirstLike}
+use Rattle.certificate.specs.Jobs.{JobState}
+use Rattle.certificate.specs.Shapes.{ShapeState, shape_of}
+use Rattle.job_pool.specs.Work.{due, shapes_of}
+use Rattle.job_pool.proofs.Sums.{times-append, total-add, total_same}
+
+-- ---- groups
+some_at : {X : Type 0} (xs : List X) (k : ℕ) → k < length xs → (x : X) × (slice_get xs k ≡ Some x)
+some_at [] k lt = absurd (omega (arith, lt))
+some_at (x ∷ xs) zero lt = (x, refl)
+some_at (x ∷ xs) (suc k) lt = some_at xs k (omega (arith, lt))
+
+read_any : (xs : List ℕ) (k d : ℕ) → k < length xs → get_or xs k d ≡ slice_index xs k
+read_any [] k d lt = absurd (omega (arith, lt))
+read_any (x ∷ xs) zero d lt = refl
+read_any (x ∷ xs) (suc k) d lt = read_any xs k d (omega (arith, lt))
+
+first_below : (shapes : List ShapeState) (groups : List ℕ) → AreGroups shapes groups → (k : ℕ) → k < length shapes → slice_index groups k < length shapes
+first_below shapes groups h k lt =
+    let x = some_at shapes k lt in
+    slice_get_within shapes (slice_index groups k) x.0 ((h.each k lt).same ∙ x.1)
+
+pub groups_below : (shapes : List ShapeState) (groups : List ℕ) → AreGroups shapes groups → All (λ g. g < length shapes) groups
+groups_below shapes groups h k d lt =
+    let count = h.count in
+    subst (λ g. g < length shapes) (sym (read_any groups k d lt)) (first_below shapes groups h k (omega (arith, lt, count)))
+
+-- the first of a group is in its own group
+own_first : (shapes : List ShapeState) (groups : List ℕ) → AreGroups shapes groups → (k g : ℕ) → k < length shapes → slice_index groups k ≡ g → slice_index groups g ≡ g
+own_first shapes groups h k g lt is =
+    let hk : IsFirstLike shapes k g = subst (IsFirstLike shapes k) is (h.each k lt) in
+    let below : g < length shapes = subst (λ n. n < length shapes) is (first_below shapes groups h k lt) in
+    let hg = h.each g below in
+    elim (cases_lt (slice_index groups g) g) [
+      | inl less ↦ absurd (hk.first (slice_index groups g) less (hg.same ∙ hk.same))
+      | inr large ↦ elim (cases_lt g (slice_index groups g)) [
+        | inl more ↦ absurd (hg.first g more refl)
+        | inr small ↦ omega (arith, large, small)
+      ]
+    ]
+
+times_absent : (x : ℕ) (gs : List ℕ) → All (λ g. g ≢ x) gs → times x gs ≡ 0
+times_absent x [] all = refl
+times_absent x (g ∷ gs) all = let h = times_absent x gs (All-tail (λ g. g ≢ x) g gs all) in let ne = All-head (λ g. g ≢ x) g gs all in grind (arith, nat_tests)
+
+-- who is not the first of a group has no members
+pub not_first : (shapes : List ShapeState) (groups : List ℕ) (number : ℕ) → AreGroups shapes groups → slice_index groups number ≢ number → times number groups ≡ 0
+not_first shapes groups number h other = times_absent number groups (λ k d lt is.
+    let count = h.count in
+    other (own_first shapes groups h k number (omega (arith, lt, count)) (sym (read_any groups k d lt) ∙ is)))
+
+-- a member has the shape of the first
+pub member_shape : (jobs : List JobState) (groups : List ℕ) (number member : ℕ) (j k : JobState) → AreGroups (shapes_of jobs) groups → member < length (shapes_of jobs) → slice_get jobs number ≡ Some j → slice_get jobs member ≡ Some k →
+    slice_index groups member ≡ number → shape_of j ≡ shape_of k
+member_shape jobs groups number member j k h lt first own is =
+    let same : slice_get (map shape_of jobs) number ≡ slice_get (map shape_of jobs) member = ap (slice_get (map shape_of jobs)) (sym is) ∙ (h.each member lt).same in
+    one _ _ _ _ (slice_get-map shape_of jobs number ∙ ap (option_map shape_of) first) (slice_get-map shape_of jobs member ∙ ap (option_map shape_of) own) same
+  where
+    one : {A : Type 0} (o p : _) (a b : A) → o ≡ Some a → p ≡ Some b → o ≡ p → a ≡ b
+    one o p a b e f g = cc
+
+pub times_step : (x : ℕ) (gs : List ℕ) (i d : ℕ) → i < length gs → times x (take (i + 1) gs) ≡ times x (take i gs) + (if get_or gs i d == x then 1 else 0)
+times_step x gs i d lt =
+    let more = ap (times x) (take_more gs i d lt) in
+    let sum = times-append x (take i gs) (get_or gs i d ∷ []) in
+    omega (arith, more, sum)
+
+-- ---- what is due
+due_append : (gs xs ys : List ℕ) → due gs (xs ++ ys) ≡ due gs xs + due gs ys
+due_append gs [] ys = omega arith
+due_append gs (x ∷ xs) ys = let h = due_append gs xs ys in omega arith
+
+pub due_more : (gs : List ℕ) (i : ℕ) (xs ys : List ℕ) → ys ≡ xs ++ i ∷ [] → due gs ys ≡ due gs xs + times i gs
+due_more gs i xs ys is = let e = ap (due gs) is in let a = due_append gs xs (i ∷ []) in omega (arith, e, a)
+
+due_none : (ys : List ℕ) → due [] ys ≡ 0
+due_none [] = refl
+due_none (y ∷ ys) = let h = due_none ys in omega (arith, h)
+
+one_test : (g y : ℕ) → ◌≡◌ {A = ℕ} (if g == y then 1 else 0) (if y == g then 1 else 0)
+one_test g y = grind (arith, nat_tests)
+
+due_cons : (g : ℕ) (gs ys : List ℕ) → due (g ∷ gs) ys ≡ times g ys + due gs ys
+due_cons g gs [] = refl
+due_cons g gs (y ∷ ys) = let h = due_cons g gs ys in let t = one_test g y in omega (arith, h, t)
+
+nothing : {X : Type 0} (xs : List X) → total (λ v. 0) xs ≡ 0
+nothing [] = refl
+nothing (y ∷ ys) = let h = nothing ys in omega (arith, h)
+
+-- where all numbers of groups were drawn, each member's finding was due once
+pub due_in_all : (counter n : ℕ) (lists : List (List ℕ)) → IsDrawn counter lists → n ≤ counter → (gs : List ℕ) → All (λ g. g < n) gs → total (due gs) lists ≡ length gs
+due_in_all counter n lists r le [] all = total_same (due []) (λ _. 0) lists due_none ∙ nothing lists
+due_in_all counter n lists r le (g ∷ gs) all =
+    let h = due_in_all counter n lists r le gs (All-tail (λ g. g < n) g gs all) in
+    let below = All-head (λ g. g < n) g gs all in
+    let s = total_same (due (g ∷ gs)) (λ ys. times g ys + due gs ys) lists (due_cons g gs) in
+    let a = total-add (times g) (due gs) lists in
+    let o = r.once g in
+    grind (arith, nat_tests)
+
+-- no member's group has a number that is too large
+pub none_beyond : (n x : ℕ) (gs : List ℕ) → All (λ g. g < n) gs → n ≤ x → times x gs ≡ 0
+none_beyond n x gs all le = times_absent x gs (λ k d lt is. let below = all k d lt in absurd (omega (arith, below, is, le)))

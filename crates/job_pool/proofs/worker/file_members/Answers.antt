@@ -1,0 +1,52 @@
+use Rattle.std.proofs.Common.{◌≡◌, ◌+◌, ◌<◌, ◌==◌, ℕ, true, false, length, map, get_or, refl, ap, ◌∙◌, arith}
+use Rattle.std.specs.Prelude.{if◌then◌else◌, slice_get}
+use Rattle.std.specs.Arc.{arc_value}
+use Rattle.std.proofs.lemmas.Bool.Decides.{nat_tests}
+use Rattle.std.proofs.lemmas.List.{length-map}
+use Rattle.certificate.specs.Shapes.{shape_of}
+use Rattle.certificate.proofs.FirstShapes.{value_at}
+use Rattle.local_run.specs.Shown.{job_of}
+use Rattle.verdict_book.specs.Counts.{Counts}
+use Rattle.job_pool.specs.Work.{shapes_of}
+use Rattle.job_pool.proofs.Members.{member_shape, times_step}
+use Rattle.job_pool.proofs.worker.file_members.Goals as goal
+use Rattle.job_pool.proofs.worker.file_members.Goals.{then-groups-member+in_ok-file_member, else-groups-member}
+
+pub file_member-requires : goal.file_member-requires
+file_member-requires g c =
+    let xs = c.args.jobs.now in
+    let jobs = map arc_value xs in
+    let k = arc_value c.index-jobs-member.result in
+    let long = length-map jobs shape_of in
+    let many = length-map xs arc_value in
+    let lt : c.members.member < length (shapes_of jobs) = omega (arith, long, many, c.members-test.true) in
+    member_shape jobs c.args.groups.now c.args.number c.members.member (job_of c.args.finding.now) k c.requires.groups lt c.requires.first
+    (value_at arc_value xs c.members.member _ k c.members-test.true c.index-jobs-member.is refl) c.if-groups-member.true
+
+one_if : (a x : ℕ) → a ≡ x → ◌≡◌ {A = ℕ} (if a == x then 1 else 0) 1
+one_if a x e = grind (arith, nat_tests)
+
+none_if : (a x : ℕ) → (a ≡ x → ⊥) → ◌≡◌ {A = ℕ} (if a == x then 1 else 0) 0
+none_if a x e = grind (arith, nat_tests)
+
+pub members-preserved : goal.members-preserved
+members-preserved g c =
+    let xs = c.args.jobs.now in
+    let jobs = map arc_value xs in
+    let long = length-map jobs shape_of in
+    let many = length-map xs arc_value in
+    let count = c.requires.groups.count in
+    let lt : c.members.member < length c.args.groups.now = omega (arith, long, many, count, c.members-test.true) in
+    let step = times_step c.args.number c.args.groups.now c.members.member 0 lt in
+    let before = c.members.invariant in
+    elim c.if-groups-member.branch [
+      | then-groups-member+in_ok-file_member w ↦
+          let s = ap (λ (z : Counts). z.filed) w.share-is in
+          let f = w.in_ok-file_member.ensures in
+          let t = one_if (get_or c.args.groups.now c.members.member 0) c.args.number w.if-groups-member.true in
+          omega (arith, s, f, t, step, before)
+      | else-groups-member w ↦
+          let s = ap (λ (z : Counts). z.filed) w.share-is in
+          let t = none_if (get_or c.args.groups.now c.members.member 0) c.args.number w.if-groups-member.false in
+          omega (arith, s, t, step, before)
+    ]

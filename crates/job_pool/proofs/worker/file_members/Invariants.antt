@@ -1,0 +1,7 @@
+-- the findings of the members so far were filed
+use Rattle.std.proofs.Common.{◌≡◌, ◌+◌, take}
+use Rattle.audit_core.specs.Draws.{times}
+use Rattle.job_pool.proofs.worker.file_members.Given as goal
+
+abbrev pub invariant-members : goal.invariant-members
+invariant-members g l = l.share.filed ≡ l.initial.share.filed + times l.number (take l.member l.groups)
