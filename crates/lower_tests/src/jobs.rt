@@ -1,9 +1,12 @@
 //! Jobs of modules. What is expected was worked out by hand from the lines.
 
+ghost use Rattle.module_box.specs.Moves.{IsNear};
+
 use crate::bundles::jobs_of;
 use bbm_rule::Cell;
 use certificate::*;
-use module_box::{Box2, Schedule, Signal};
+use module_box::{Box2, Signal};
+use std::alloc::{AllocError, Global};
 use std::sync::Arc;
 use std::test::Fail;
 
@@ -55,18 +58,21 @@ fn is_only_port(job: &Job, port: Cell, start: Signal, demand: Demand) -> bool {
     is_at(job, port, start, demand)
 }
 
+/// Whether a cell carries this at a time, as edge and as halo.
+fn has_borders(job: &Job, time: u32, cell: Cell, edge: Signal, halo: Signal) -> bool
+    requires { IsNear cell }
+{
+    job.edge(time, cell) == edge && job.halo(time, cell) == halo
+}
+
 /// Whether the cells (3, 3) and (4, 4) carry this at time 1, and nothing at time 3.
-fn carries(schedule: &Schedule, signals: [Signal; 2]) -> bool {
-    for (place, signal) in [3, 4].iter().zip(signals) {
-        let cell = Cell {
-            x: *place,
-            y: *place,
-        };
-        if schedule.at(1, cell) != signal || schedule.at(3, cell) != ZERO {
-            return false;
-        }
-    }
-    true
+fn carries(job: &Job, edges: [Signal; 2], halos: [Signal; 2]) -> bool {
+    let first = Cell { x: 3, y: 3 };
+    let second = Cell { x: 4, y: 4 };
+    has_borders(job, 1, first, edges[0], halos[0])
+        && has_borders(job, 1, second, edges[1], halos[1])
+        && has_borders(job, 3, first, ZERO, ZERO)
+        && has_borders(job, 3, second, ZERO, ZERO)
 }
 
 /// Whether a job is of three steps in a box of 4 by 4 cells, with six wires of which two are cut, and has the rest.
@@ -75,11 +81,10 @@ fn is_quarter(job: &Job, wanted: &Quarter) -> bool {
     let port = Cell { x: column, y: row };
     job.area() == Box2 { x, y, w: 4, h: 4 }
         && job.steps() == 3
-        && job.locals().wires() == 6
-        && job.locals().cuts() == 2
+        && job.wiring().wires() == 6
+        && job.wiring().cuts() == 2
         && is_only_port(job, port, start, demand)
-        && carries(job.edges(), edges)
-        && carries(job.halos(), halos)
+        && carries(job, edges, halos)
 }
 
 /// Whether jobs at the same place are equal, and no others.
@@ -120,11 +125,6 @@ const MIRROR_CELLS: [(usize, (i32, i32), Signal, Demand, Signal, Signal); 6] = [
     (1, (3, 1), ZERO, Demand::Dead, ZERO, Signal::One),
 ];
 
-/// Whether a cell carries this at time 1, as edge and as halo.
-fn has_borders(job: &Job, cell: Cell, edge: Signal, halo: Signal) -> bool {
-    job.edges().at(1, cell) == edge && job.halos().at(1, cell) == halo
-}
-
 #[test]
 fn mirrors_balls_and_wastes(rt: HostRuntime) -> Result<(), Fail> {
     let jobs = jobs_of(&rt, rt.alloc(), MIRROR)?;
@@ -133,8 +133,43 @@ fn mirrors_balls_and_wastes(rt: HostRuntime) -> Result<(), Fail> {
         assert!(rt; module < jobs.len());
         let (job, cell) = (&jobs[module], Cell { x, y });
         assert!(rt; is_at(job, cell, start, demand), "{cell:?} of {module}");
-        assert!(rt; has_borders(job, cell, edge, halo), "{cell:?} of {module}");
-        assert!(rt; job.locals().cuts() == module);
+        assert!(rt; 0 <= x && x < 8 && 0 <= y && y < 8);
+        assert!(rt; has_borders(job, 1, cell, edge, halo), "{cell:?} of {module}");
+        assert!(rt; job.wiring().cuts() == module);
     }
+    Ok(())
+}
+
+/// Two modules of one shape, at the left and at the right.
+const EQUAL: &str =
+    "circuit\ninput a\ninput b\noutput a\noutput b\nend\nlayout 8 4 2\nin a 0 0\nin b 4 0\nout a 2 2\nout b 6 2\nend\ncertificate 1\nmodule 0 0 4 4\ncut a\nmodule 4 0 4 4\ncut b\nend\n";
+
+#[test]
+fn jobs_of_one_shape(rt: HostRuntime) -> Result<(), Fail> {
+    let jobs = jobs_of(&rt, rt.alloc(), EQUAL)?;
+    let groups = job_groups(rt.alloc(), &jobs)?;
+    assert!(rt; groups.as_slice() == [0, 0].as_slice());
+    let quarters = jobs_of(&rt, rt.alloc(), QUARTERS)?;
+    let groups = job_groups(rt.alloc(), &quarters)?;
+    assert!(rt; groups.as_slice() == [0, 1, 2, 3].as_slice());
+    Ok(())
+}
+
+/// The shapes of jobs.
+fn shapes(alloc: Global, jobs: &[Arc<Job>]) -> Result<Vec<Arc<Shape>>, AllocError> {
+    let mut shapes = Vec::with_capacity(alloc, jobs.len())?;
+    for job in jobs {
+        shapes.push(job.shape().clone()?)?;
+    }
+    Ok(shapes)
+}
+
+#[test]
+fn one_key_for_all(rt: HostRuntime) -> Result<(), Fail> {
+    let jobs = jobs_of(&rt, rt.alloc(), QUARTERS)?;
+    let shapes = shapes(rt.alloc(), &jobs)?;
+    let keys = vec![in rt.alloc(); [0; 32]; shapes.len()]?;
+    let groups = shape_groups(rt.alloc(), &shapes, &keys)?;
+    assert!(rt; groups.as_slice() == [0, 1, 2, 3].as_slice());
     Ok(())
 }

@@ -4,8 +4,7 @@ ghost use Rattle.std.specs.Prelude.{◌<◌, ◌≤◌};
 
 use crate::bundles::jobs_of;
 use certificate::Job;
-use circuit::WireNo;
-use module_box::Locals;
+use module_box::Wiring;
 use std::alloc::{AllocError, Global};
 use std::process::Abort;
 use std::sync::Arc;
@@ -126,15 +125,15 @@ fn have(rows: &[u64], words: usize, bits: u32, digits: &str) -> bool
 // whether a module's wires have the values of a table, under one assignment at a time and under many at once
 fn has_values(
     alloc: Global,
-    locals: &Locals,
+    wiring: &Wiring,
     words: usize,
     table: &[(u32, &str)],
 ) -> Result<bool, AllocError>
     requires { (0 < words) × (words ≤ 16) }
 {
-    let rows = locals.value_rows(alloc, words)?;
+    let rows = wiring.value_rows(alloc, words)?;
     for (bits, digits) in table {
-        let values = locals.local_values(alloc, *bits)?;
+        let values = wiring.local_values(alloc, *bits)?;
         if !are(&values, digits) || !(*bits > 1023 || have(&rows, words, *bits, digits)) {
             return Ok(false);
         }
@@ -151,9 +150,11 @@ fn only_job(rt: &impl Abort, alloc: Global, text: &str) -> Result<Arc<Job>, Fail
 #[test]
 fn values_by_the_tables(rt: HostRuntime) -> Result<(), Fail> {
     let job = only_job(&rt, rt.alloc(), GATES)?;
-    assert!(rt; has_values(rt.alloc(), job.locals(), 16, &TABLE)?);
-    for (wire, local) in [(0, Some(0)), (24, Some(24)), (25, None)] {
-        assert!(rt; job.locals().local(WireNo::of(wire)) == local, "{wire}");
+    let wiring = job.wiring();
+    assert!(rt; has_values(rt.alloc(), wiring, 16, &TABLE)?);
+    assert!(rt; wiring.wires() == 25);
+    for wire in 0..25 {
+        assert!(rt; job.wire(wire).number() == wire, "{wire}");
     }
     Ok(())
 }
@@ -161,10 +162,20 @@ fn values_by_the_tables(rt: HostRuntime) -> Result<(), Fail> {
 #[test]
 fn modules_without_cuts(rt: HostRuntime) -> Result<(), Fail> {
     let job = only_job(&rt, rt.alloc(), NO_CUTS)?;
-    assert!(rt; has_values(rt.alloc(), job.locals(), 1, &NO_CUTS_TABLE)?);
+    assert!(rt; has_values(rt.alloc(), job.wiring(), 1, &NO_CUTS_TABLE)?);
     let same = only_job(&rt, rt.alloc(), NO_CUTS)?;
-    assert!(rt; job.locals() == same.locals());
+    assert!(rt; job.wiring() == same.wiring());
     let other = only_job(&rt, rt.alloc(), OTHER_DELAY)?;
-    assert!(rt; job.locals() != other.locals());
+    assert!(rt; job.wiring() != other.wiring());
+    Ok(())
+}
+
+#[test]
+fn numbers_of_gates(rt: HostRuntime) -> Result<(), Fail> {
+    let job = only_job(&rt, rt.alloc(), NO_CUTS)?;
+    let numbers = job.wiring().numbers(rt.alloc())?;
+    // no cut and three gates: a source of 1 that defines wire 0, a delay of 3 from there to wire 1, a source of 0 that defines wire 2
+    let wanted = [0, 3, 0, 1, 0, 1, 0, 5, 3, 1, 0, 1, 1, 0, 0, 0, 1, 2];
+    assert!(rt; numbers.as_slice() == wanted.as_slice());
     Ok(())
 }

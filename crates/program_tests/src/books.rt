@@ -18,9 +18,9 @@ use std::thread;
 use std::thread::Threads;
 use verdict_book::*;
 
-/// The jobs of the bundle.
-pub(crate) fn jobs(rt: &impl Abort, alloc: Global) -> Result<Vec<Arc<Job>>, Fail> {
-    let mut feed = fed(rt, alloc, GOOD);
+/// The jobs of a bundle.
+pub(crate) fn jobs_of(rt: &impl Abort, alloc: Global, text: &str) -> Result<Vec<Arc<Job>>, Fail> {
+    let mut feed = fed(rt, alloc, text);
     let (circuit, layout) = sections(rt, alloc, &mut feed)?;
     assert!(rt; feed.closed());
     let certificate = read_certificate(alloc, &mut feed, &circuit, &layout)?;
@@ -63,9 +63,9 @@ fn filed_by_all<F: Ledger + Send + Sync, A: Ledger + Send + Sync, R: Abort + Thr
     requires count { (0 < count) × (count ≤ 64) }
 {
     let digest = [7; 32];
-    let state = BookState::new(alloc, digest, jobs(rt, alloc)?)?;
+    let state = BookState::new(alloc, digest, jobs_of(rt, alloc, GOOD)?)?;
     let (book, mut shares): (Book<F, A>, Vec<Share<F, A>>) = Book::open(alloc, f, a, state, count)?;
-    let own = jobs(rt, alloc)?;
+    let own = jobs_of(rt, alloc, GOOD)?;
     let own = own.as_slice();
     let shared = &book;
     thread::for_each_mut(
