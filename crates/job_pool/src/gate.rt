@@ -1,14 +1,16 @@
-//! What is told of each job.
+//! What is told of each number.
 
-/// Is told of each number that a worker draws: before its job is run, and after its finding was filed. Nothing is told after a
-/// job for which there was no memory.
+/// Is told of each number that a worker draws, before and after what it does for it. Where the number is the first of a group of
+/// jobs of the same shape, that is to run its job and file the findings of all members of the group; for another number there is
+/// nothing to do, and its finding may be filed by another worker, before or later. Nothing is told after a number for which there
+/// was no memory.
 ///
 /// All workers share it, and each tells it of its own numbers.
 pub trait Gate {
-    /// The job of this number is about to be run.
+    /// This number was drawn, and nothing was done for it yet.
     fn before(&self, number: usize);
 
-    /// The finding of this number was filed.
+    /// All was done for this number: where it is the first of its group, the findings of all members were filed.
     fn after(&self, number: usize);
 }
 

@@ -1,8 +1,11 @@
 //! Jobs of modules. What is expected was worked out by hand from the lines.
 
+ghost use Rattle.module_box.specs.Moves.{IsNear};
+
 use bbm_rule::Cell;
 use certificate::*;
-use module_box::{Box2, Schedule, Signal};
+use module_box::{Box2, Signal};
+use std::alloc::{AllocError, Global};
 use std::sync::Arc;
 use test_support::{GOOD, work_of};
 
@@ -50,18 +53,21 @@ fn is_only_port(job: &Job, port: Cell, start: Signal, demand: Demand) -> bool {
     is_at(job, port, start, demand)
 }
 
+/// Whether a cell carries this at a time, as edge and as halo.
+fn has_borders(job: &Job, time: u32, cell: Cell, edge: Signal, halo: Signal) -> bool
+    requires { IsNear cell }
+{
+    job.edge(time, cell) == edge && job.halo(time, cell) == halo
+}
+
 /// Whether the cells (3, 3) and (4, 4) carry this at time 1, and nothing at time 3.
-fn carries(schedule: &Schedule, signals: [Signal; 2]) -> bool {
-    for (place, signal) in [3, 4].iter().zip(signals) {
-        let cell = Cell {
-            x: *place,
-            y: *place,
-        };
-        if schedule.at(1, cell) != signal || schedule.at(3, cell) != ZERO {
-            return false;
-        }
-    }
-    true
+fn carries(job: &Job, edges: [Signal; 2], halos: [Signal; 2]) -> bool {
+    let first = Cell { x: 3, y: 3 };
+    let second = Cell { x: 4, y: 4 };
+    has_borders(job, 1, first, edges[0], halos[0])
+        && has_borders(job, 1, second, edges[1], halos[1])
+        && has_borders(job, 3, first, ZERO, ZERO)
+        && has_borders(job, 3, second, ZERO, ZERO)
 }
 
 /// Whether a job is of three steps in a box of 4 by 4 cells, with six wires of which two are cut, and has the rest.
@@ -70,11 +76,10 @@ fn is_quarter(job: &Job, wanted: &Quarter) -> bool {
     let port = Cell { x: column, y: row };
     job.area() == Box2 { x, y, w: 4, h: 4 }
         && job.steps() == 3
-        && job.locals().wires() == 6
-        && job.locals().cuts() == 2
+        && job.wiring().wires() == 6
+        && job.wiring().cuts() == 2
         && is_only_port(job, port, start, demand)
-        && carries(job.edges(), edges)
-        && carries(job.halos(), halos)
+        && carries(job, edges, halos)
 }
 
 /// Whether jobs at the same place are equal, and no others.
@@ -114,11 +119,6 @@ const MIRROR_CELLS: [(usize, (i32, i32), Signal, Demand, Signal, Signal); 6] = [
     (1, (3, 1), ZERO, Demand::Dead, ZERO, Signal::One),
 ];
 
-/// Whether a cell carries this at time 1, as edge and as halo.
-fn has_borders(job: &Job, cell: Cell, edge: Signal, halo: Signal) -> bool {
-    job.edges().at(1, cell) == edge && job.halos().at(1, cell) == halo
-}
-
 #[test]
 fn mirrors_balls_and_wastes(rt: HostRuntime) {
     let jobs = work_of(rt.alloc(), MIRROR).expect(&rt, "work").jobs;
@@ -126,10 +126,41 @@ fn mirrors_balls_and_wastes(rt: HostRuntime) {
     for (module, (x, y), start, demand, edge, halo) in MIRROR_CELLS {
         let job = jobs.get(module).expect(&rt, "a job");
         let cell = Cell { x, y };
-        let is_as_told = is_at(job, cell, start, demand) && has_borders(job, cell, edge, halo);
-        assert!(rt;
-            is_as_told && job.locals().cuts() == module,
-            "{cell:?} of {module}"
-        );
+        assert!(rt; 0 <= x && x < 8 && 0 <= y && y < 8);
+        let is_as_told = is_at(job, cell, start, demand)
+            && has_borders(job, 1, cell, edge, halo)
+            && job.wiring().cuts() == module;
+        assert!(rt; is_as_told, "{cell:?} of {module}");
     }
+}
+
+/// Two modules of one shape, at the left and at the right.
+const EQUAL: &str =
+    "circuit\ninput a\ninput b\noutput a\noutput b\nend\nlayout 8 4 2\nin a 0 0\nin b 4 0\nout a 2 2\nout b 6 2\nend\ncertificate 1\nmodule 0 0 4 4\ncut a\nmodule 4 0 4 4\ncut b\nend\n";
+
+#[test]
+fn jobs_of_one_shape(rt: HostRuntime) {
+    for (text, wanted) in [(EQUAL, [0, 0].as_slice()), (GOOD, [0, 1, 2, 3].as_slice())] {
+        let jobs = work_of(rt.alloc(), text).expect(&rt, "work").jobs;
+        let groups = job_groups(rt.alloc(), &jobs).expect(&rt, "groups");
+        assert!(rt; groups.as_slice() == wanted);
+    }
+}
+
+/// The shapes of jobs.
+fn shapes(alloc: Global, jobs: &[Arc<Job>]) -> Result<Vec<Arc<Shape>>, AllocError> {
+    let mut shapes = Vec::with_capacity(alloc, jobs.len())?;
+    for job in jobs {
+        shapes.push(job.shape().clone()?)?;
+    }
+    Ok(shapes)
+}
+
+#[test]
+fn one_key_for_all(rt: HostRuntime) {
+    let jobs = work_of(rt.alloc(), GOOD).expect(&rt, "work").jobs;
+    let shapes = shapes(rt.alloc(), &jobs).expect(&rt, "shapes");
+    let keys = vec![in rt.alloc(); [0; 32]; shapes.len()].expect(&rt, "keys");
+    let groups = shape_groups(rt.alloc(), &shapes, &keys).expect(&rt, "groups");
+    assert!(rt; groups.as_slice() == [0, 1, 2, 3].as_slice());
 }

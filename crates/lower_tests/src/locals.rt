@@ -3,8 +3,7 @@
 ghost use Rattle.std.specs.Prelude.{◌<◌, ◌≤◌};
 
 use certificate::Job;
-use circuit::WireNo;
-use module_box::Locals;
+use module_box::Wiring;
 use std::alloc::{AllocError, Global};
 use std::process::Abort;
 use std::sync::Arc;
@@ -125,15 +124,15 @@ fn have(rows: &[u64], words: usize, bits: u32, digits: &str) -> bool
 // whether a module's wires have the values of a table, under one assignment at a time and under many at once
 fn has_values(
     alloc: Global,
-    locals: &Locals,
+    wiring: &Wiring,
     words: usize,
     table: &[(u32, &str)],
 ) -> Result<bool, AllocError>
     requires { (0 < words) × (words ≤ 16) }
 {
-    let rows = locals.value_rows(alloc, words)?;
+    let rows = wiring.value_rows(alloc, words)?;
     for (bits, digits) in table {
-        let values = locals.local_values(alloc, *bits)?;
+        let values = wiring.local_values(alloc, *bits)?;
         if !are(&values, digits) || !(*bits > 1023 || have(&rows, words, *bits, digits)) {
             return Ok(false);
         }
@@ -150,17 +149,27 @@ fn only_job(rt: &impl Abort, alloc: Global, text: &str) -> Arc<Job> {
 #[test]
 fn values_by_the_tables(rt: HostRuntime) {
     let job = only_job(&rt, rt.alloc(), GATES);
-    assert!(rt; has_values(rt.alloc(), job.locals(), 16, &TABLE) == Ok(true));
-    for (wire, local) in [(0, Some(0)), (24, Some(24)), (25, None)] {
-        assert!(rt; job.locals().local(WireNo::of(wire)) == local, "{wire}");
+    let wiring = job.wiring();
+    assert!(rt; has_values(rt.alloc(), wiring, 16, &TABLE) == Ok(true) && wiring.wires() == 25);
+    for wire in 0..25 {
+        assert!(rt; job.wire(wire).number() == wire, "{wire}");
     }
 }
 
 #[test]
 fn modules_without_cuts(rt: HostRuntime) {
     let job = only_job(&rt, rt.alloc(), NO_CUTS);
-    assert!(rt; has_values(rt.alloc(), job.locals(), 1, &NO_CUTS_TABLE) == Ok(true));
+    assert!(rt; has_values(rt.alloc(), job.wiring(), 1, &NO_CUTS_TABLE) == Ok(true));
     let same = only_job(&rt, rt.alloc(), NO_CUTS);
     let other = only_job(&rt, rt.alloc(), OTHER_DELAY);
-    assert!(rt; job.locals() == same.locals() && job.locals() != other.locals());
+    assert!(rt; job.wiring() == same.wiring() && job.wiring() != other.wiring());
+}
+
+#[test]
+fn numbers_of_gates(rt: HostRuntime) {
+    let job = only_job(&rt, rt.alloc(), NO_CUTS);
+    let numbers = job.wiring().numbers(rt.alloc()).expect(&rt, "numbers");
+    // no cut and three gates: a source of 1 that defines wire 0, a delay of 3 from there to wire 1, a source of 0 that defines wire 2
+    let wanted = [0, 3, 0, 1, 0, 1, 0, 5, 3, 1, 0, 1, 1, 0, 0, 0, 1, 2];
+    assert!(rt; numbers.as_slice() == wanted.as_slice());
 }

@@ -76,11 +76,11 @@ fn filed<F: Filings, A: Ledger, R: Wait>(
     }
 }
 
-/// A book of the four modules, in which nothing is filed.
-pub(crate) fn new_state(rt: &impl Abort, alloc: Global) -> BookState
+/// A book of a bundle's modules, in which nothing is filed.
+pub(crate) fn new_state(rt: &impl Abort, alloc: Global, text: &str) -> BookState
     ensures { result.history ≡ [] }
 {
-    let Work { digest, jobs } = work_of(alloc, GOOD).expect(rt, "work");
+    let Work { digest, jobs } = work_of(alloc, text).expect(rt, "work");
     let state = BookState::new(alloc, digest, jobs).expect(rt, "a state");
     assert!(rt; state.history().is_empty());
     state
@@ -142,7 +142,7 @@ fn filed_by_four<R: Abort + Threads + Wait + Sync>(
     replies: &Replies,
     kept_back: bool,
 ) -> Option<Gathered> {
-    let state = new_state(rt, alloc);
+    let state = new_state(rt, alloc, GOOD);
     let (f, a) = (Blank::new(4), Blank::new(4));
     filed_by_all::<Brand, Brand, R>(rt, alloc, f, a, state, replies, kept_back)
 }

@@ -1,40 +1,37 @@
-//! Work over the four modules of a worked bundle, without a gate and without an audit. The counts were worked out by hand.
-ghost use Rattle.std.specs.Prelude.{◌≡◌, ◌<◌, ◌≤◌, []};
+//! Work without a gate and without an audit. The counts were worked out by hand.
+ghost use Rattle.std.specs.Prelude.{◌≡◌, ◌<◌, ◌≤◌, [], length};
 
 use crate::books::new_state;
 use audit_core::BookState;
-use certificate::job_groups;
+use certificate::{Job, job_groups};
 use job_pool::{OpenGate, WorkEnd, work};
-use std::alloc::Global;
+use std::alloc::{AllocError, Global};
 use std::marker::Brand;
 use std::process::Abort;
-use std::sync::Wait;
 use std::sync::ledger::{Blank, Ledger};
+use std::sync::{Arc, Wait};
 use std::thread::Threads;
 use test_support::{GOOD, Work, work_of};
 use verdict_book::{Book, Filings, Gathered, Share, gather};
 
-/// What the shares counted of the four jobs, by one worker a share.
+/// What the shares counted of the jobs, by one worker a share, and how many jobs were run.
 fn worked<F: Filings + Send + Sync, A: Ledger + Send + Sync, R: Abort + Threads + Wait + Sync>(
     rt: &R,
     alloc: Global,
+    jobs: &[Arc<Job>],
     f: Blank,
     a: Blank,
     state: BookState,
     count: usize,
-) -> Gathered
+) -> (Gathered, usize)
     requires filings { (f.name ≡ F.name) × (f.parts ≡ F.parts) × (f.parts ≡ count) }
     requires acceptances { (a.name ≡ A.name) × (a.parts ≡ A.parts) × (a.parts ≡ count) }
     requires count { (0 < count) × (count ≤ 64) }
+    requires jobs { length jobs.now ≤ 1024 }
     requires own { (state.digest ≡ F.digest) × (state.jobs ≡ F.jobs) }
     requires fresh { state.history ≡ [] }
 {
-    let Work {
-        digest: _,
-        jobs: run,
-    } = work_of(alloc, GOOD).expect(rt, "work");
-    assert!(rt; run.len() == 4);
-    let groups = job_groups(alloc, &run).expect(rt, "groups");
+    let groups = job_groups(alloc, jobs).expect(rt, "groups");
     let opened: (Book<F, A>, Vec<Share<F, A>>) = Book::open(alloc, f, a, state, count).expect(
         rt, "a book",
     );
@@ -43,26 +40,38 @@ fn worked<F: Filings + Send + Sync, A: Ledger + Send + Sync, R: Abort + Threads 
         shares,
         memory,
         runs,
-    } = work(rt, alloc, &OpenGate, &run, &groups, &book, shares);
-    assert!(rt; !memory && runs == 4);
+    } = work(rt, alloc, &OpenGate, jobs, &groups, &book, shares);
+    assert!(rt; !memory);
     match gather(book, shares) {
-        Ok(gathered) => gathered,
+        Ok(gathered) => (gathered, runs),
         Err(_) => panic!(rt; "a share is missing"),
     }
 }
 
-/// So many workers file each finding once.
-fn filed_by_workers<R: Abort + Threads + Wait + Sync>(rt: &R, alloc: Global, count: usize)
+/// So many workers file the finding of each job of a bundle once, and run so many jobs.
+fn filed_by_workers<R: Abort + Threads + Wait + Sync>(
+    rt: &R,
+    alloc: Global,
+    text: &str,
+    wanted: usize,
+    count: usize,
+)
     requires { (0 < count) × (count ≤ 64) }
 {
-    let blank = Blank::new(count as u64);
-    let other = Blank::new(count as u64);
-    let state = new_state(rt, alloc);
-    let gathered = worked::<Brand, Brand, R>(rt, alloc, blank, other, state, count);
-    assert!(rt; gathered.filed == 4 && gathered.accepted == 4, "{count}");
+    let (f, a) = (Blank::new(count as u64), Blank::new(count as u64));
+    let state = new_state(rt, alloc, text);
+    let jobs = work_of(alloc, text).expect(rt, "work").jobs;
+    assert!(rt; jobs.len() <= 1024);
+    let (gathered, runs) = worked::<Brand, Brand, R>(rt, alloc, &jobs, f, a, state, count);
+    assert!(rt; runs == wanted, "{count}");
+    let all = jobs.len();
+    assert!(rt;
+        gathered.filed == all as u64 && gathered.accepted == all as u64,
+        "{count}"
+    );
     let state = &gathered.state;
     assert!(rt;
-        state.accepted() == 4 && state.history().len() == 4,
+        state.accepted() == all && state.history().len() == all,
         "{count}"
     );
 }
@@ -70,6 +79,59 @@ fn filed_by_workers<R: Abort + Threads + Wait + Sync>(rt: &R, alloc: Global, cou
 #[test]
 fn workers_file_each_finding_once(rt: HostRuntime) {
     for count in [1usize, 2, 4, 64] {
-        filed_by_workers(&rt, rt.alloc(), count);
+        filed_by_workers(&rt, rt.alloc(), GOOD, 4, count);
     }
+}
+
+/// Two modules of one shape, accepted with two steps and not with four.
+const EQUAL: [&str; 2] = [
+    "circuit\ninput a\ninput b\noutput a\noutput b\nend\nlayout 8 4 2\nin a 0 0\nin b 4 0\nout a 2 2\nout b 6 2\nend\ncertificate 1\nmodule 0 0 4 4\ncut a\nmodule 4 0 4 4\ncut b\nend\n",
+    "circuit\ninput a\ninput b\noutput a\noutput b\nend\nlayout 8 4 4\nin a 0 0\nin b 4 0\nout a 2 2\nout b 6 2\nend\ncertificate 1\nmodule 0 0 4 4\ncut a\nmodule 4 0 4 4\ncut b\nend\n",
+];
+
+#[test]
+fn a_group_is_run_once(rt: HostRuntime) {
+    for text in EQUAL {
+        filed_by_workers(&rt, rt.alloc(), text, 1, 2);
+    }
+}
+
+/// The lines of 1024 modules of two by two cells, in rows of 32.
+fn push_modules(text: &mut String) -> Result<(), AllocError> {
+    for row in 0..32_u32 {
+        for column in 0..32_u32 {
+            write!(text, "module {} {} 2 2\n", 2 * column, 2 * row)?;
+        }
+    }
+    Ok(())
+}
+
+/// Modules whose first sixteen have mirrors on each choice of their four cells, and whose next one has a waste cell.
+fn seventeen_shapes(alloc: Global) -> Result<String, AllocError> {
+    let mut text = String::from(
+        alloc,
+        "circuit\nsource 1 -> a\noutput a\nend\nlayout 64 64 0\n",
+    )?;
+    for module in 0..16_u32 {
+        for place in 0..4_u32 {
+            if module >> place & 1 == 1 {
+                write!(
+                    text,
+                    "mirror {} {} 1 1\n",
+                    2 * module + place % 2,
+                    place / 2
+                )?;
+            }
+        }
+    }
+    text.push_str("waste 32 0\nend\ncertificate 1\n")?;
+    push_modules(&mut text)?;
+    text.push_str("end\n")?;
+    Ok(text)
+}
+
+#[test]
+fn many_modules_of_few_shapes(rt: HostRuntime) {
+    let text = seventeen_shapes(rt.alloc()).expect(&rt, "a text");
+    filed_by_workers(&rt, rt.alloc(), &text, 17, 2);
 }
