@@ -5,7 +5,6 @@ ghost use Rattle.module_box.specs.Moves.{IsNear};
 use bbm_rule::Cell;
 use certificate::*;
 use module_box::{Box2, Signal};
-use std::alloc::{AllocError, Global};
 use std::sync::Arc;
 use test_support::{GOOD, work_of};
 
@@ -145,22 +144,4 @@ fn jobs_of_one_shape(rt: HostRuntime) {
         let groups = job_groups(rt.alloc(), &jobs).expect(&rt, "groups");
         assert!(rt; groups.as_slice() == wanted);
     }
-}
-
-/// The shapes of jobs.
-fn shapes(alloc: Global, jobs: &[Arc<Job>]) -> Result<Vec<Arc<Shape>>, AllocError> {
-    let mut shapes = Vec::with_capacity(alloc, jobs.len())?;
-    for job in jobs {
-        shapes.push(job.shape().clone()?)?;
-    }
-    Ok(shapes)
-}
-
-#[test]
-fn one_key_for_all(rt: HostRuntime) {
-    let jobs = work_of(rt.alloc(), GOOD).expect(&rt, "work").jobs;
-    let shapes = shapes(rt.alloc(), &jobs).expect(&rt, "shapes");
-    let keys = vec![in rt.alloc(); [0; 32]; shapes.len()].expect(&rt, "keys");
-    let groups = shape_groups(rt.alloc(), &shapes, &keys).expect(&rt, "groups");
-    assert!(rt; groups.as_slice() == [0, 1, 2, 3].as_slice());
 }
