@@ -97,36 +97,28 @@ fn a_group_is_run_once(rt: HostRuntime) {
 }
 
 /// The lines of 1024 modules of two by two cells, in rows of 32.
-fn push_modules(text: &mut String) -> Result<(), AllocError> {
-    for row in 0..32_u32 {
-        for column in 0..32_u32 {
-            write!(text, "module {} {} 2 2\n", 2 * column, 2 * row)?;
-        }
+fn push_modules(alloc: Global, text: &mut String) -> Result<(), AllocError> {
+    for place in 0..1024_u32 {
+        let (x, y) = (place % 32 * 2, place / 32 * 2);
+        text.push_str(&format!(in alloc; "module {x} {y} 2 2\n")?)?;
     }
     Ok(())
 }
 
-/// Modules whose first sixteen have mirrors on each choice of their four cells, and whose next one has a waste cell.
+/// Modules whose first sixteen have mirrors on each choice of their four cells, and whose last one has an output cell.
 fn seventeen_shapes(alloc: Global) -> Result<String, AllocError> {
-    let mut text = String::from(
-        alloc,
-        "circuit\nsource 1 -> a\noutput a\nend\nlayout 64 64 0\n",
-    )?;
+    let mut text = format!(in alloc; "circuit\nsource 1 -> a\noutput a\nend\nlayout 64 64 0\n")?;
     for module in 0..16_u32 {
         for place in 0..4_u32 {
             if module >> place & 1 == 1 {
-                write!(
-                    text,
-                    "mirror {} {} 1 1\n",
-                    2 * module + place % 2,
-                    place / 2
-                )?;
+                let (x, y) = (2 * module + place % 2, place / 2);
+                text.push_str(&format!(in alloc; "mirror {x} {y} 1 1\n")?)?;
             }
         }
     }
-    text.push_str("waste 32 0\nend\ncertificate 1\n")?;
-    push_modules(&mut text)?;
-    text.push_str("end\n")?;
+    text.push_str("out a 62 62\nend\ncertificate 1\n")?;
+    push_modules(alloc, &mut text)?;
+    text.push_str("use 0\nend\n")?;
     Ok(text)
 }
 
