@@ -82,7 +82,7 @@ fn read_with<T: Threads + Wait + Sync>(
 fn a_read_that_fails_once_ends_it(rt: HostRuntime) {
     for text in [GOOD, ALONE] {
         // pieces of eight bytes, and the end
-        for before in 0..text.len() / 8 + 2 {
+        for before in 0..text.len().div_ceil(8) + 1 {
             let seen = read_with(&rt, rt.alloc(), text, before);
             assert!(rt; seen == (Err(CheckFault::Read), 0, true), "{before}");
         }
@@ -107,10 +107,11 @@ fn written_with<T: Threads + Wait + Sync>(
     let ended = check_stream(rt, alloc, &mut reader, &mut writer, 2, &OpenGate);
     let was_told = writer.failed();
     // the next write goes well
-    let goes_on = writer.write(b"").is_ok();
+    let goes_on = matches!(writer.write(b"!"), Ok(1));
     let stays = was_told && goes_on && writer.failed();
-    let StumblingWriter { taken, .. } = writer.into_inner();
-    (ended, taken, stays)
+    let StumblingWriter { mut taken, .. } = writer.into_inner();
+    let is_last = taken.pop() == Some(b'!');
+    (ended, taken, stays && is_last)
 }
 
 #[test]
