@@ -6,8 +6,7 @@ use Rattle.std.proofs.lemmas.Bool.{cases_lt}
 use Rattle.std.proofs.lemmas.Bool.Decides.{nat_tests}
 use Rattle.std.proofs.lemmas.List.{take_more}
 use Rattle.std.proofs.lemmas.List.Elements.{All-head, All-tail}
-use Rattle.std.proofs.lemmas.Option.{slice_get-get_or, slice_get-map, slice_get_within}
-use Rattle.audit_core.specs.Claims.{claim_answer, claim_draws, has_ended}
+use Rattle.std.proofs.lemmas.Option.{slice_get-map, slice_get_within}
 use Rattle.audit_core.specs.Draws.{total, times, IsDrawn}
 use Rattle.certificate.specs.Groups.{AreGroups, IsFirstLike}
 use Rattle.certificate.specs.Jobs.{JobState}
