@@ -1,6 +1,6 @@
 #!/usr/bin/env python3
-"""make_module.py SIDE CUTS STEPS [ACROSS]: writes a bundle of ACROSS by ACROSS modules (one by default) of SIDE by SIDE cells,
-which have no fault. It is the same bundle each time.
+"""make_module.py SIDE CUTS STEPS [ACROSS [equal]]: writes a bundle of ACROSS by ACROSS modules (one by default) of SIDE by SIDE
+cells, which have no fault: each another one, or all of one shape. It is the same bundle each time.
 
 Mirrors wall each module off. Inside the walls there are some more mirrors and an input cell for each cut, whose balls run for all
 steps. Every cell inside that is no mirror is waste, so whatever is live there at the end is no fault.
@@ -37,12 +37,13 @@ def module(rng, side, cuts):
     return mirrors, rng.sample(free, cuts), free
 
 
-def bundle(rng, side, cuts, steps, across=1):
+def bundle(rng, side, cuts, steps, across=1, are_equal=False):
     names = [f"i{k}" for k in range(cuts)]
     mirrors, ins, wastes, modules = [], [], [], []
+    first = module(rng, side, cuts)
     for top in range(0, side * across, side):
         for left in range(0, side * across, side):
-            own, starts, free = module(rng, side, cuts)
+            own, starts, free = first if are_equal or not modules else module(rng, side, cuts)
             mirrors += [f"mirror {left + x} {top + y} {w} {h}" for x, y, w, h in own]
             ins += [f"in {name} {left + x} {top + y}" for name, (x, y) in zip(names, starts)]
             wastes += [f"waste {left + x} {top + y}" for x, y in free]
@@ -53,4 +54,4 @@ def bundle(rng, side, cuts, steps, across=1):
     return "".join(line + "\n" for line in lines)
 
 
-sys.stdout.write(bundle(random.Random(1982), *map(int, sys.argv[1:])))
+sys.stdout.write(bundle(random.Random(1982), *map(int, sys.argv[1:5]), are_equal=sys.argv[5:] == ["equal"]))
