@@ -31,7 +31,7 @@ fault_after (unfinished.Missing number) true = Memory
 fault_after (unfinished.Missing number) false = Missing
 fault_after unfinished.Memory memory = Memory
 
--- want of memory, or a module that was not run
+-- want of memory, or a module whose finding lacks
 abbrev pub IsUndecided : CheckFault → Type 0
 IsUndecided fault = status_for (Err fault) ≡ 5
 

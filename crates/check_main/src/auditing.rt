@@ -25,7 +25,7 @@ use verdict_book::{Book, Filings, Share, gather};
 pub struct Audited {
     /// The book, which is closed.
     pub state: BookState,
-    /// Whether there was no memory for something. Otherwise each module was run, and what was found was filed.
+    /// Whether there was no memory for something. Otherwise as many findings were filed as there are modules.
     pub memory: bool,
 }
 

@@ -4,8 +4,9 @@
 //! knows of the word is in its view. `specs/Rule.antt` has the desk rule, which holds of the word and all views at each moment,
 //! and `specs/Seats.antt` says what a claim tells its seat, by the core's own definition of a claim.
 //!
-//! `work` gives each share of a book to a worker with a seat of its own. It files one finding for each draw below the number of
-//! jobs, and by the desk rule each number is drawn once: so where there was memory, each job's finding was filed.
+//! `work` gives each share of a book to a worker with a seat of its own. A worker files the findings of all members of each group whose
+//! first number it drew, and by the desk rule each number is drawn once: so where there was memory, as many were filed as there
+//! are jobs.
 #![tactic(auto)]
 
 mod close;

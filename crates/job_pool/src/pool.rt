@@ -21,7 +21,7 @@ use verdict_book::{Book, Filings, Share};
 pub struct WorkEnd<F: Filings, A: Ledger> {
     /// All shares that were handed in, in their order.
     pub shares: Vec<Share<F, A>>,
-    /// Whether there was no memory for something. Otherwise the finding of each job was filed.
+    /// Whether there was no memory for something. Otherwise as many findings were filed as there are jobs.
     pub memory: bool,
     /// How many jobs were run: one of each shape, where there was memory.
     pub runs: usize,

@@ -1,4 +1,4 @@
-//! What a run found.
+//! What was found of a job.
 ghost use Rattle.std.specs.Prelude.{◌≡◌, ◌≢◌, Some, IfNone, IfSome};
 ghost use Rattle.std.specs.Arc.{arc_value};
 ghost use Rattle.std.specs.Option.{option_map};
@@ -12,7 +12,7 @@ use certificate::Job;
 use module_box::moved_cell;
 use std::sync::Arc;
 
-/// What the run of a job found, with the digest of the certificate and the number of the module that it was run for.
+/// What was found of a job, with the digest of the certificate and the number of the module that it was made for.
 ///
 /// Each finding is honest, by its type: its fault is the least fault of its own job, or `None` where that job has no fault.
 #[derive(Drop)]
@@ -76,21 +76,21 @@ impl Finding {
         }
     }
 
-    /// The digest that it was run for.
+    /// The digest that it was made for.
     pub fn digest(&self) -> [u8; 32]
         ensures { result ≡ digest_of self.now }
     {
         self.digest
     }
 
-    /// The number of the module that it was run for.
+    /// The number of the module that it was made for.
     pub fn number(&self) -> usize
         ensures { result ≡ number_of self.now }
     {
         self.number
     }
 
-    /// The job that was run.
+    /// The job.
     pub fn job(&self) -> &Arc<Job>
         ensures { arc_value result.now ≡ job_of self.now }
     {

@@ -9,13 +9,61 @@ use std::alloc::{AllocError, Global};
 use std::sync::Wait;
 use std::thread::Threads;
 
-/// 64 modules of 2 by 2 cells, in each of which a ball is to be at the corner in the end; none comes.
-fn many_modules(alloc: Global) -> Result<String, AllocError> {
-    let mut text = format!(in alloc; "circuit\nsource 1 -> a\noutput a\nend\nlayout 16 16 1\n")?;
-    for place in 0..64_u32 {
-        let (x, y) = (place % 8 * 2, place / 8 * 2);
-        text.push_str(&format!(in alloc; "out a {x} {y}\n")?)?;
+/// What the layout has on a cell of a module.
+#[derive(Clone, Copy, PartialEq, Eq)]
+enum Mark {
+    Nothing,
+    Mirror,
+    Output,
+    Waste,
+}
+
+/// What a module of this number has on one of its four cells: its output on one, and on the others a choice that no other has.
+fn mark(module: u32, cell: u32) -> Mark {
+    let (output, choice) = (module / 27, module % 27);
+    let others = if cell < output {
+        cell
+    } else {
+        cell.saturating_sub(1)
+    };
+    let digit = match others {
+        0 => choice % 3,
+        1 => choice / 3 % 3,
+        _ => choice / 9,
+    };
+    match digit {
+        _ if cell == output => Mark::Output,
+        0 => Mark::Nothing,
+        1 => Mark::Mirror,
+        _ => Mark::Waste,
     }
+}
+
+/// The places of the cells of 64 modules that have a mark, a line each, between these words.
+fn push_marked(
+    alloc: Global,
+    text: &mut String,
+    wanted: Mark,
+    before: &str,
+    after: &str,
+) -> Result<(), AllocError> {
+    for module in 0..64_u32 {
+        for cell in 0..4_u32 {
+            if mark(module, cell) == wanted {
+                let (x, y) = (module % 8 * 2 + cell % 2, module / 8 * 2 + cell / 2);
+                text.push_str(&format!(in alloc; "{before} {x} {y}{after}\n")?)?;
+            }
+        }
+    }
+    Ok(())
+}
+
+/// 64 modules of 2 by 2 cells, each of another shape, in each of which a ball is to be at one cell; none comes.
+fn many_modules(alloc: Global) -> Result<String, AllocError> {
+    let mut text = format!(in alloc; "circuit\nsource 1 -> a\noutput a\nend\nlayout 16 16 0\n")?;
+    push_marked(alloc, &mut text, Mark::Mirror, "mirror", " 1 1")?;
+    push_marked(alloc, &mut text, Mark::Output, "out a", "")?;
+    push_marked(alloc, &mut text, Mark::Waste, "waste", "")?;
     text.push_str("end\ncertificate 1\n")?;
     for place in 0..64_u32 {
         let (x, y) = (place % 8 * 2, place / 8 * 2);
@@ -25,14 +73,19 @@ fn many_modules(alloc: Global) -> Result<String, AllocError> {
     Ok(text)
 }
 
-/// Each module's fault is at its corner.
+/// Each module's fault is at its output cell: the first of its cells, from module 27 on the second, from module 54 on the third.
 fn many_faults(alloc: Global) -> Result<String, AllocError> {
     let mut report = format!(in alloc;
         "bbmcheck 1\ncertificate d703d23eb6b93c49bd0027729197bf8cc495c873ff97d62e612cde71b6dfc028\nmodules 64\nverdict no\n"
     )?;
     for place in 0..64_u32 {
-        let (x, y) = (place % 8 * 2, place / 8 * 2);
-        report.push_str(&format!(in alloc; "local {place} end 1 {x} {y} 0\n")?)?;
+        let (column, row) = match place {
+            0..=26 => (0, 0),
+            27..=53 => (1, 0),
+            _ => (0, 1),
+        };
+        let (x, y) = (place % 8 * 2 + column, place / 8 * 2 + row);
+        report.push_str(&format!(in alloc; "local {place} end 0 {x} {y} 0\n")?)?;
     }
     Ok(report)
 }
@@ -54,16 +107,22 @@ fn answer<T: Threads + Wait + Sync, G: Gate + Sync>(
     (status, streams.writer.into_inner())
 }
 
-/// Each of the eight workers begins before the first goes on.
+/// How many workers, each of whom begins before the first goes on.
+const WORKERS: [(&str, u64); 2] = [("8", 8), ("64", 64)];
+
 #[test]
-fn eight_workers_for_64_modules(rt: HostRuntime) {
+fn many_workers_for_64_modules(rt: HostRuntime) {
     let text = many_modules(rt.alloc()).expect(&rt, "a text");
     let report = many_faults(rt.alloc()).expect(&rt, "a report");
-    let gate = Crowd::new(8);
-    let words = ["check", "--workers", "8"];
-    let (status, written) = answer(&rt, rt.alloc(), &words, &text, &gate);
-    assert!(rt; status == 1 && written.as_slice() == report.as_bytes());
-    assert!(rt; gate.was_kept(64));
+    for (count, workers) in WORKERS {
+        let gate = Crowd::new(workers);
+        let words = ["check", "--workers", count];
+        let (status, written) = answer(&rt, rt.alloc(), &words, &text, &gate);
+        assert!(rt;
+            status == 1 && written.as_slice() == report.as_bytes() && gate.was_kept(64),
+            "{count}"
+        );
+    }
 }
 
 #[test]
