@@ -1,4 +1,4 @@
-use Rattle.std.proofs.Common.{map, ◌∙◌, arith}
+use Rattle.std.proofs.Common.{map, ◌∙◌, arith, rules}
 use Rattle.std.specs.Arc.{arc_value}
 use Rattle.local_run.specs.Shown.{job_of}
 use Rattle.certificate.proofs.FirstShapes.{value_at}
@@ -14,3 +14,6 @@ returns-then-groups-number g c =
 pub file_members-requires-clause-first : goal.file_members-requires-clause-first
 file_members-requires-clause-first g c =
     value_at arc_value c.args.site.now.jobs.now c.args.number _ (job_of c.in_ok-finding.finding) c.requires.number c.index-jobs-number.is (c.in_ok-finding.ensures.job ∙ c.in_ok-clone.ensures.cases)
+
+pub file_members-requires-clause-digest : goal.file_members-requires-clause-digest
+file_members-requires-clause-digest g c = search rules

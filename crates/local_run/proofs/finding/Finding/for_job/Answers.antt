@@ -1,4 +1,4 @@
-use Rattle.std.proofs.Common.{◌≡◌, sym, ap, ap₂, ◌∙◌}
+use Rattle.std.proofs.Common.{◌≡◌, sym, ap, ap₂, ◌∙◌, rules}
 use Rattle.std.specs.Arc.{arc_value}
 use Rattle.std.proofs.lemmas.Bool.{false≢true}
 use Rattle.certificate.specs.Equality.{same_shape}
@@ -31,3 +31,6 @@ returns-clause-shapes c =
     let own : c.deref.result.now ≡ s = c.deref.ensures ∙ c.shape.ensures ∙ ap shape_of c.deref-own.ensures in
     let other : c.deref-3.result.now ≡ t = c.deref-3.ensures ∙ c.shape-2.ensures ∙ ap shape_of c.deref-2.ensures in
     (shapes_decide s t).0 (sym (ap₂ same_shape own other) ∙ sym c.eq-same.ensures ∙ c.if-not-same.false)
+
+pub returns-clause-digest : goal.returns-clause-digest
+returns-clause-digest c = search rules
