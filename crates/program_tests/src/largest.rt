@@ -19,7 +19,7 @@ enum Mark {
 }
 
 /// What a module of this number has on one of its four cells: its output on one, and on the others a choice that no other has.
-fn mark(module: u32, cell: u32) -> Mark {
+fn mark_of(module: u32, cell: u32) -> Mark {
     let (output, choice) = (module / 27, module % 27);
     let others = if cell < output {
         cell
@@ -49,7 +49,7 @@ fn push_marked(
 ) -> Result<(), AllocError> {
     for module in 0..64_u32 {
         for cell in 0..4_u32 {
-            if mark(module, cell) == wanted {
+            if mark_of(module, cell) == wanted {
                 let (x, y) = (module % 8 * 2 + cell % 2, module / 8 * 2 + cell / 2);
                 text.push_str(&format!(in alloc; "{before} {x} {y}{after}\n")?)?;
             }

@@ -1,4 +1,4 @@
-use Rattle.std.proofs.Common.{arith, rules}
+use Rattle.std.proofs.Common.{arith}
 use Rattle.std.specs.Vec.Iter.{into_iter_items}
 use Rattle.job_pool.specs.declared.worker.Worker.{Worker}
 use Rattle.job_pool.proofs.Ends.{taken}
@@ -16,6 +16,3 @@ loop-worker-preserved g c = let i = c.loop-worker.invariant in let t = c.in-Some
       seat_room = omega arith;
       share_room = omega arith;
     }
-
-pub returns-clause-shares : goal.returns-clause-shares
-returns-clause-shares g c = search rules
