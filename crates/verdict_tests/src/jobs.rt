@@ -5,6 +5,7 @@ ghost use Rattle.module_box.specs.Moves.{IsNear};
 use bbm_rule::Cell;
 use certificate::*;
 use module_box::{Box2, Signal};
+use std::alloc::{AllocError, Global};
 use std::sync::Arc;
 use test_support::{GOOD, work_of};
 
@@ -144,4 +145,34 @@ fn jobs_of_one_shape(rt: HostRuntime) {
         let groups = job_groups(rt.alloc(), &jobs).expect(&rt, "groups");
         assert!(rt; groups.as_slice() == wanted);
     }
+}
+
+/// The shapes of jobs.
+fn shapes(alloc: Global, jobs: &[Arc<Job>]) -> Result<Vec<Arc<Shape>>, AllocError> {
+    let mut shapes = Vec::with_capacity(alloc, jobs.len())?;
+    for job in jobs {
+        shapes.push(job.shape().clone()?)?;
+    }
+    Ok(shapes)
+}
+
+/// The groups of shapes where each is given this key.
+fn groups_of_one_key(
+    alloc: Global,
+    shapes: &[Arc<Shape>],
+    key: [u8; 32],
+) -> Result<Vec<usize>, AllocError> {
+    let mut keys = Vec::with_capacity(alloc, shapes.len())?;
+    'shapes: for _ in shapes {
+        keys.push(key)?;
+    }
+    shape_groups(alloc, shapes, keys.as_slice())
+}
+
+#[test]
+fn one_key_for_all(rt: HostRuntime) {
+    let jobs = work_of(rt.alloc(), GOOD).expect(&rt, "work").jobs;
+    let shapes = shapes(rt.alloc(), &jobs).expect(&rt, "shapes");
+    let groups = groups_of_one_key(rt.alloc(), &shapes, [0; 32]).expect(&rt, "groups");
+    assert!(rt; groups.as_slice() == [0, 1, 2, 3].as_slice());
 }

@@ -1,0 +1,6 @@
+-- The key stands in the list once for each shape so far.
+use Rattle.std.proofs.Common.{◌≡◌, map, take}
+use Rattle.verdict_tests.proofs.jobs.groups_of_one_key.Given as goal
+
+abbrev pub invariant-shapes : goal.invariant-shapes
+invariant-shapes l = l.keys.items ≡ map (λ _. l.key) (take l.index l.shapes)
