@@ -14,7 +14,7 @@ use Rattle.certificate.specs.Orders.{AreInOrder, rank_of, number_of, cell_of, li
 use Rattle.certificate.specs.Signals.{renumber_held, renumber_event}
 use Rattle.certificate.specs.declared.entry.Border.{Border}
 use Rattle.certificate.specs.declared.entry.Entry.{Entry}
-use Rattle.certificate.specs.declared.entry.Entry.TheVariants.{Module, Cut, Use, Edge, Halo}
+use Rattle.certificate.specs.declared.entry.Entry.TheVariants.{Module, Cut, Use, Edge, Halo, Stop}
 use Rattle.certificate.proofs.Lists.{some_is}
 use Rattle.certificate.proofs.Pairs.{Each, Pairs, pairs_flat, rising_of}
 
@@ -34,7 +34,7 @@ unfolding AreInOrder Pairs
 pairs_of_order [] h = tt
 pairs_of_order (i ∷ lines) h = (each_of_test (may_precede i) lines h.0, pairs_of_order lines h.1)
 
-is_less : (o : Ordering) (b : Bool) → b ≡ false → (is_lt o || b) ≡ true → o ≡ Less
+pub is_less : (o : Ordering) (b : Bool) → b ≡ false → (is_lt o || b) ≡ true → o ≡ Less
 is_less Less b e h = refl
 is_less Equal b e h = absurd cc
 is_less Greater b e h = absurd cc
@@ -54,6 +54,7 @@ edge_first d (Cut n) h = tt
 edge_first d (Use k) h = tt
 edge_first d (Edge e) h = (edge_before d e h, tt)
 edge_first d (Halo e) h = tt
+edge_first d (Stop s) h = tt
 
 halo_first : (d : Border) (j : Entry) → may_precede (Halo d) j ≡ true → Each (Before d) (halo_in j)
 unfolding Each
@@ -62,6 +63,7 @@ halo_first d (Cut n) h = tt
 halo_first d (Use k) h = tt
 halo_first d (Edge e) h = tt
 halo_first d (Halo e) h = (halo_before d e h, tt)
+halo_first d (Stop s) h = tt
 
 edges_between : (i : Entry) → Each (λ d. (j : Entry) → may_precede i j ≡ true → Each (Before d) (edge_in j)) (edge_in i)
 unfolding Each
@@ -70,6 +72,7 @@ edges_between (Cut n) = tt
 edges_between (Use k) = tt
 edges_between (Edge d) = (edge_first d, tt)
 edges_between (Halo e) = tt
+edges_between (Stop s) = tt
 
 halos_between : (i : Entry) → Each (λ d. (j : Entry) → may_precede i j ≡ true → Each (Before d) (halo_in j)) (halo_in i)
 unfolding Each
@@ -78,6 +81,7 @@ halos_between (Cut n) = tt
 halos_between (Use k) = tt
 halos_between (Edge e) = tt
 halos_between (Halo d) = (halo_first d, tt)
+halos_between (Stop s) = tt
 
 edge_alone : (i : Entry) → Pairs Before (edge_in i)
 unfolding Each Pairs
@@ -86,6 +90,7 @@ edge_alone (Cut n) = tt
 edge_alone (Use k) = tt
 edge_alone (Edge e) = (tt, tt)
 edge_alone (Halo e) = tt
+edge_alone (Stop s) = tt
 
 halo_alone : (i : Entry) → Pairs Before (halo_in i)
 unfolding Each Pairs
@@ -94,6 +99,7 @@ halo_alone (Cut n) = tt
 halo_alone (Use k) = tt
 halo_alone (Edge e) = tt
 halo_alone (Halo e) = (tt, tt)
+halo_alone (Stop s) = tt
 
 pub edges_rise : (lines : List Entry) → AreInOrder lines → Pairs Before (flat_map edge_in lines)
 edges_rise lines o = pairs_flat (λ i j. may_precede i j ≡ true) Before edge_in edges_between edge_alone lines (pairs_of_order lines o)

@@ -183,6 +183,7 @@ begun g b good = record {
   few_borders = omega arith;
   edge_lines = All-nil _;
   halo_lines = All-nil _;
+  stop_lines = All-nil _;
 }
 
 -- ---- one more box

@@ -61,6 +61,3 @@ wires_known ls cs m cw gs ws e ce ge we =
 pub cut_count : (ls cs : List CircuitLine) (p : Pattern) (m : ModuleLines) (cw : List ℕ) (n : ℕ) → ls ≡ cs → cw ≡ cut_wires (circuit_of ls) m → n ≡ length cw →
     IsModule (setting_of cs p) m → n ≡ length (cuts m)
 cut_count ls cs p m cw n e ce ne h = ne ∙ ap length ce ∙ ap (λ l. length (cut_wires (circuit_of l) m)) e ∙ h.named
-
-pub none_own : (n : ℕ) (stops : List Stop) → stops ≡ [] → All (λ s. s.wire < n) stops
-none_own n stops e = subst (All (λ s. s.wire < n)) (sym e) (All-nil (λ s. s.wire < n))

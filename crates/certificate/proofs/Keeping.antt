@@ -12,7 +12,7 @@ use Rattle.module_box.specs.Boxes.{in_box}
 use Rattle.module_box.specs.Locals.{is_among}
 use Rattle.module_box.specs.declared.boxes.Box2.{Box2}
 use Rattle.pattern.specs.Layout.{in_cells}
-use Rattle.certificate.specs.Entries.{Setting, ModuleLines, with_line, change_last, last_of, add_line, modules_of, present, counts_of, cut_in, use_in, edge_in, halo_in, cuts, gates, edges, halos, known}
+use Rattle.certificate.specs.Entries.{Setting, ModuleLines, with_line, change_last, last_of, add_line, modules_of, present, counts_of, cut_in, use_in, edge_in, halo_in, stop_in, cuts, gates, edges, halos, stops, known}
 use Rattle.certificate.specs.Orders.{AreInOrder, may_follow}
 use Rattle.certificate.specs.Rules.{same_cell, is_starred, are_new, box_cells, is_incomplete, is_local, lacks_port, words_fault, line_fault, inner_fault, module_fault}
 use Rattle.certificate.specs.Modules.{IsModule}
@@ -20,12 +20,13 @@ use Rattle.certificate.specs.BuilderView.{AreBuilt, IsPresent, IsKept, counted, 
 use Rattle.certificate.specs.declared.entry.Border.{Border}
 use Rattle.certificate.specs.declared.entry.Counts.{Counts}
 use Rattle.certificate.specs.declared.entry.Entry.{Entry}
-use Rattle.certificate.specs.declared.entry.Entry.TheVariants.{Module, Cut, Use, Edge, Halo}
+use Rattle.certificate.specs.declared.entry.StopLine.{StopLine}
+use Rattle.certificate.specs.declared.entry.Entry.TheVariants.{Module, Cut, Use, Edge, Halo, Stop}
 use Rattle.certificate.proofs.BuiltLemmas.{built_none, module_built, line_built, good_module}
 use Rattle.certificate.proofs.Growing.{modules_push, flat_same, last_at, last_pushed, last_changed, last_mapped}
 use Rattle.certificate.proofs.Lists.{some_is}
 use Rattle.certificate.proofs.StarLemmas.{or_none}
-use Rattle.certificate.proofs.ModulePushes.{no_code, both_none, not_false, IsNewWire, new_wire, IsGoodUse, good_use, cuts_cut, gates_use, edges_edge, halos_halo, known_cut, known_use, known_same, cut_pushed, use_pushed, edge_pushed, halo_pushed}
+use Rattle.certificate.proofs.ModulePushes.{no_code, both_none, not_false, IsNewWire, new_wire, IsGoodUse, good_use, cuts_cut, gates_use, edges_edge, halos_halo, stops_stop, known_cut, known_use, known_same, cut_pushed, use_pushed, edge_pushed, halo_pushed, stop_pushed}
 
 no_last : {X : Type 0} (x : X) → None ≡ Some x → ⊥
 no_last x e = cc
@@ -137,28 +138,32 @@ good_by g es i (Some m) is e =
 pub good_line : (g : Setting) (es : List Entry) (i : Entry) → inner_fault g (present es) i ≡ None → IsGoodLine g es i
 good_line g es i e = good_by g es i (present es) refl e
 
-same_counts : (area : Box2) (c c' u u' e e' h h' : ℕ) → c ≡ c' → u ≡ u' → e ≡ e' → h ≡ h'
-    → ◌≡◌ {A = Counts} (record { area = area; cuts = c; gates = u; edges = e; halos = h; stops = 0 }) (record { area = area; cuts = c'; gates = u'; edges = e'; halos = h'; stops = 0 })
-same_counts area c c' u u' e e' h h' p q r s = λ j. record { area = area; cuts = p j; gates = q j; edges = r j; halos = s j; stops = 0 }
+same_counts : (area : Box2) (c c' u u' e e' h h' s s' : ℕ) → c ≡ c' → u ≡ u' → e ≡ e' → h ≡ h' → s ≡ s'
+    → ◌≡◌ {A = Counts} (record { area = area; cuts = c; gates = u; edges = e; halos = h; stops = s }) (record { area = area; cuts = c'; gates = u'; edges = e'; halos = h'; stops = s' })
+same_counts area c c' u u' e e' h h' s s' p q r t v = λ j. record { area = area; cuts = p j; gates = q j; edges = r j; halos = t j; stops = v j }
 
 one_longer : {X : Type 0} (xs ys : List X) (x : X) → ys ≡ xs ++ x ∷ [] → length ys ≡ length xs + 1
 one_longer xs ys x e = ap length e ∙ length_push xs x
 
 pub counted_cut : (n : List ℕ) (m : ModuleLines) → counts_of (with_line (Cut n) m) ≡ counted (Cut n) (counts_of m)
 unfolding counted
-counted_cut n m = same_counts m.area _ _ _ _ _ _ _ _ (one_longer (cuts m) _ n (cuts_cut m n)) (ap length (flat_same use_in m.lines (Cut n) refl)) (ap length (flat_same edge_in m.lines (Cut n) refl)) (ap length (flat_same halo_in m.lines (Cut n) refl))
+counted_cut n m = same_counts m.area _ _ _ _ _ _ _ _ _ _ (one_longer (cuts m) _ n (cuts_cut m n)) (ap length (flat_same use_in m.lines (Cut n) refl)) (ap length (flat_same edge_in m.lines (Cut n) refl)) (ap length (flat_same halo_in m.lines (Cut n) refl)) (ap length (flat_same stop_in m.lines (Cut n) refl))
 
 pub counted_use : (k : ℕ) (m : ModuleLines) → counts_of (with_line (Use k) m) ≡ counted (Use k) (counts_of m)
 unfolding counted
-counted_use k m = same_counts m.area _ _ _ _ _ _ _ _ (ap length (flat_same cut_in m.lines (Use k) refl)) (one_longer (gates m) _ k (gates_use m k)) (ap length (flat_same edge_in m.lines (Use k) refl)) (ap length (flat_same halo_in m.lines (Use k) refl))
+counted_use k m = same_counts m.area _ _ _ _ _ _ _ _ _ _ (ap length (flat_same cut_in m.lines (Use k) refl)) (one_longer (gates m) _ k (gates_use m k)) (ap length (flat_same edge_in m.lines (Use k) refl)) (ap length (flat_same halo_in m.lines (Use k) refl)) (ap length (flat_same stop_in m.lines (Use k) refl))
 
 pub counted_edge : (d : Border) (m : ModuleLines) → counts_of (with_line (Edge d) m) ≡ counted (Edge d) (counts_of m)
 unfolding counted
-counted_edge d m = same_counts m.area _ _ _ _ _ _ _ _ (ap length (flat_same cut_in m.lines (Edge d) refl)) (ap length (flat_same use_in m.lines (Edge d) refl)) (one_longer (edges m) _ d (edges_edge m d)) (ap length (flat_same halo_in m.lines (Edge d) refl))
+counted_edge d m = same_counts m.area _ _ _ _ _ _ _ _ _ _ (ap length (flat_same cut_in m.lines (Edge d) refl)) (ap length (flat_same use_in m.lines (Edge d) refl)) (one_longer (edges m) _ d (edges_edge m d)) (ap length (flat_same halo_in m.lines (Edge d) refl)) (ap length (flat_same stop_in m.lines (Edge d) refl))
 
 pub counted_halo : (d : Border) (m : ModuleLines) → counts_of (with_line (Halo d) m) ≡ counted (Halo d) (counts_of m)
 unfolding counted
-counted_halo d m = same_counts m.area _ _ _ _ _ _ _ _ (ap length (flat_same cut_in m.lines (Halo d) refl)) (ap length (flat_same use_in m.lines (Halo d) refl)) (ap length (flat_same edge_in m.lines (Halo d) refl)) (one_longer (halos m) _ d (halos_halo m d))
+counted_halo d m = same_counts m.area _ _ _ _ _ _ _ _ _ _ (ap length (flat_same cut_in m.lines (Halo d) refl)) (ap length (flat_same use_in m.lines (Halo d) refl)) (ap length (flat_same edge_in m.lines (Halo d) refl)) (one_longer (halos m) _ d (halos_halo m d)) (ap length (flat_same stop_in m.lines (Halo d) refl))
+
+pub counted_stop : (s : StopLine) (m : ModuleLines) → counts_of (with_line (Stop s) m) ≡ counted (Stop s) (counts_of m)
+unfolding counted
+counted_stop s m = same_counts m.area _ _ _ _ _ _ _ _ _ _ (ap length (flat_same cut_in m.lines (Stop s) refl)) (ap length (flat_same use_in m.lines (Stop s) refl)) (ap length (flat_same edge_in m.lines (Stop s) refl)) (ap length (flat_same halo_in m.lines (Stop s) refl)) (one_longer (stops m) _ s (stops_stop m s))
 
 some_gone : {X : Type 0} (f : X → X) (xs : List X) → change_last f xs ≡ [] → xs ≡ []
 unfolding change_last
@@ -236,6 +241,15 @@ module _ (g : Setting) (m : ModuleLines) (last : Option Entry) (names : List (Li
     halo_stars = λ c. one_star c h h' (halos m) _ d (p.halo_stars c) (after c) (halos_halo m d);
   }
 
+  pub present_stop : (s : StopLine) → IsPresent g (with_line (Stop s) m) (Some (Stop s)) names local e h
+  present_stop s = record {
+    final = last_pushed m.lines (Stop s);
+    ports = p.ports;
+    wires = p.wires ∙ sym (known_same g m (Stop s) refl refl);
+    stars = λ c. p.stars c ∙ ap (list_any (is_starred c)) (sym (flat_same edge_in m.lines (Stop s) refl));
+    halo_stars = λ c. p.halo_stars c ∙ ap (list_any (is_starred c)) (sym (flat_same halo_in m.lines (Stop s) refl));
+  }
+
 -- ---- each kind of line
 
 module _ (g : Setting) (es : List Entry) (covered : Board) (counts : List Counts) (last : Option Entry) (names : List (List ℕ)) (local : List ℕ) (e h : List Cell) (kept : IsKept g es covered counts last names local e h) (after : List Counts) where
@@ -306,6 +320,15 @@ module _ (g : Setting) (es : List Entry) (covered : Board) (counts : List Counts
         (λ is. halo_pushed g good.module_lines is d good.follows good.words)
         local e cells
         (λ p. present_halo g good.module_lines last names local e h p d cells stars)
+
+  module _ (s : StopLine) where
+    pub kept_stop : IsGoodLine g es (Stop s) → after ≡ change_last (counted (Stop s)) counts → IsKept g (es ++ Stop s ∷ []) covered after (Some (Stop s)) names local e h
+    unfolding add_line
+    kept_stop good now =
+        kept_line g es covered counts last names local e h kept (Stop s) good refl (counted_stop s) after now
+        (λ is. stop_pushed g good.module_lines is s good.follows good.words)
+        local e h
+        (λ p. present_stop g good.module_lines last names local e h p s)
 
 -- ---- one more module
 

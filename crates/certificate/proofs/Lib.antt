@@ -5,6 +5,9 @@ pub mod PlanLemmas
 pub mod JobLists
 pub mod ModuleSplit
 pub mod TimetableLemmas
+pub mod StopLemmas
+pub mod TimeLemmas
+pub mod SeenLaws
 pub mod FlatParts
 pub mod InnerLines
 pub mod BorderOrder

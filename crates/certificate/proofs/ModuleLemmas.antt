@@ -6,11 +6,12 @@ use Rattle.std.proofs.lemmas.Bool.{and_parts}
 use Rattle.std.proofs.lemmas.List.Elements.{All-nil, All-push, All-append}
 use Rattle.std.proofs.lemmas.List.Folds.{list_all-append}
 use Rattle.module_box.specs.Moments.{cell_cmp}
-use Rattle.certificate.specs.Entries.{use_in, edge_in, halo_in}
+use Rattle.certificate.specs.Entries.{use_in, edge_in, halo_in, stop_in}
 use Rattle.certificate.specs.Orders.{AreInOrder, rank_of, number_of, cell_of, line_cmp, is_cut, may_precede, may_follow}
 use Rattle.certificate.specs.declared.entry.Border.{Border}
 use Rattle.certificate.specs.declared.entry.Entry.{Entry}
-use Rattle.certificate.specs.declared.entry.Entry.TheVariants.{Module, Cut, Use, Edge, Halo}
+use Rattle.certificate.specs.declared.entry.StopLine.{StopLine}
+use Rattle.certificate.specs.declared.entry.Entry.TheVariants.{Module, Cut, Use, Edge, Halo, Stop}
 
 -- ---- what comes before a line
 
@@ -64,6 +65,14 @@ halo_then_edge : (d e : Border) → may_precede (Halo d) (Edge e) ≡ true → �
 unfolding line_cmp rank_of is_cut
 halo_then_edge d e h = later_kind (Halo d) (Edge e) refl refl h
 
+stop_then_cut : (s : StopLine) (n : List ℕ) → may_precede (Stop s) (Cut n) ≡ true → ⊥
+unfolding line_cmp rank_of is_cut
+stop_then_cut s n e = later_kind (Stop s) (Cut n) refl refl e
+
+stop_then_use : (s : StopLine) (g : ℕ) → may_precede (Stop s) (Use g) ≡ true → ⊥
+unfolding line_cmp rank_of is_cut
+stop_then_use s g e = later_kind (Stop s) (Use g) refl refl e
+
 -- ---- no line of a kind stands before a line of an earlier kind
 
 pub no_use_before_cut : (n : List ℕ) (j : Entry) → may_precede j (Cut n) ≡ true → use_in j ≡ []
@@ -72,6 +81,7 @@ no_use_before_cut n (Cut m) h = refl
 no_use_before_cut n (Use g) h = absurd (use_then_cut g n h)
 no_use_before_cut n (Edge d) h = refl
 no_use_before_cut n (Halo d) h = refl
+no_use_before_cut n (Stop s) h = refl
 
 pub no_edge_before_cut : (n : List ℕ) (j : Entry) → may_precede j (Cut n) ≡ true → edge_in j ≡ []
 no_edge_before_cut n (Module b) h = refl
@@ -79,6 +89,7 @@ no_edge_before_cut n (Cut m) h = refl
 no_edge_before_cut n (Use g) h = refl
 no_edge_before_cut n (Edge d) h = absurd (edge_then_cut d n h)
 no_edge_before_cut n (Halo d) h = refl
+no_edge_before_cut n (Stop s) h = refl
 
 pub no_halo_before_cut : (n : List ℕ) (j : Entry) → may_precede j (Cut n) ≡ true → halo_in j ≡ []
 no_halo_before_cut n (Module b) h = refl
@@ -86,6 +97,7 @@ no_halo_before_cut n (Cut m) h = refl
 no_halo_before_cut n (Use g) h = refl
 no_halo_before_cut n (Edge d) h = refl
 no_halo_before_cut n (Halo d) h = absurd (halo_then_cut d n h)
+no_halo_before_cut n (Stop s) h = refl
 
 pub no_edge_before_use : (g : ℕ) (j : Entry) → may_precede j (Use g) ≡ true → edge_in j ≡ []
 no_edge_before_use g (Module b) h = refl
@@ -93,6 +105,7 @@ no_edge_before_use g (Cut m) h = refl
 no_edge_before_use g (Use k) h = refl
 no_edge_before_use g (Edge d) h = absurd (edge_then_use d g h)
 no_edge_before_use g (Halo d) h = refl
+no_edge_before_use g (Stop s) h = refl
 
 pub no_halo_before_use : (g : ℕ) (j : Entry) → may_precede j (Use g) ≡ true → halo_in j ≡ []
 no_halo_before_use g (Module b) h = refl
@@ -100,6 +113,7 @@ no_halo_before_use g (Cut m) h = refl
 no_halo_before_use g (Use k) h = refl
 no_halo_before_use g (Edge d) h = refl
 no_halo_before_use g (Halo d) h = absurd (halo_then_use d g h)
+no_halo_before_use g (Stop s) h = refl
 
 pub no_halo_before_edge : (e : Border) (j : Entry) → may_precede j (Edge e) ≡ true → halo_in j ≡ []
 no_halo_before_edge e (Module b) h = refl
@@ -107,6 +121,23 @@ no_halo_before_edge e (Cut m) h = refl
 no_halo_before_edge e (Use k) h = refl
 no_halo_before_edge e (Edge d) h = refl
 no_halo_before_edge e (Halo d) h = absurd (halo_then_edge d e h)
+no_halo_before_edge e (Stop s) h = refl
+
+pub no_stop_before_cut : (n : List ℕ) (j : Entry) → may_precede j (Cut n) ≡ true → stop_in j ≡ []
+no_stop_before_cut n (Module b) h = refl
+no_stop_before_cut n (Cut m) h = refl
+no_stop_before_cut n (Use k) h = refl
+no_stop_before_cut n (Edge d) h = refl
+no_stop_before_cut n (Halo d) h = refl
+no_stop_before_cut n (Stop s) h = absurd (stop_then_cut s n h)
+
+pub no_stop_before_use : (g : ℕ) (j : Entry) → may_precede j (Use g) ≡ true → stop_in j ≡ []
+no_stop_before_use g (Module b) h = refl
+no_stop_before_use g (Cut m) h = refl
+no_stop_before_use g (Use k) h = refl
+no_stop_before_use g (Edge d) h = refl
+no_stop_before_use g (Halo d) h = refl
+no_stop_before_use g (Stop s) h = absurd (stop_then_use s g h)
 
 -- ---- used gates rise
 
@@ -132,6 +163,7 @@ lower_uses k (Cut m) h = All-nil (λ (g : ℕ). g < k)
 lower_uses k (Use g) h = All-push (λ (x : ℕ). x < k) [] g (All-nil (λ (x : ℕ). x < k)) (use_then_use g k h)
 lower_uses k (Edge d) h = All-nil (λ (g : ℕ). g < k)
 lower_uses k (Halo d) h = All-nil (λ (g : ℕ). g < k)
+lower_uses k (Stop s) h = All-nil (λ (g : ℕ). g < k)
 
 -- ---- order
 

@@ -1,5 +1,5 @@
 -- A module that is good stays so after one more line that is good.
-use Rattle.std.proofs.Common.{◌≡◌, ℕ, ◌+◌, ◌%◌, ◌<◌, Bool, true, false, not, ◌&&◌, List, [], ◌∷◌, ◌++◌, length, Option, Some, None, refl, sym, ap, ap₂, subst, ◌∙◌, arith, append-nil}
+use Rattle.std.proofs.Common.{◌≡◌, ℕ, ◌+◌, ◌%◌, ◌<◌, ◌≤◌, Bool, true, false, not, ◌&&◌, List, [], ◌∷◌, ◌++◌, length, Option, Some, None, refl, sym, ap, ap₂, subst, ◌∙◌, arith, append-nil}
 use Rattle.std.specs.Prelude.{slice_get, nat_le, nat_lt, IfSome, IsTrue}
 use Rattle.std.specs.List.{All, flat_map, list_any, list_all}
 use Rattle.std.specs.Option.{option_to_list}
@@ -9,18 +9,19 @@ use Rattle.std.proofs.lemmas.List.{length_push}
 use Rattle.std.proofs.lemmas.List.Elements.{All-nil, All-push}
 use Rattle.section_text.specs.Codes.{code_where, or_else}
 use Rattle.circuit.specs.Meaning.{Circuit, Gate, wire_of}
-use Rattle.module_box.specs.Boxes.{in_ring, in_halo}
+use Rattle.module_box.specs.Boxes.{in_box, in_ring, in_halo}
 use Rattle.module_box.specs.Locals.{AreLocalLines, is_among, local_wires}
 use Rattle.module_box.specs.declared.boxes.Box2.{Box2}
-use Rattle.certificate.specs.Entries.{Setting, ModuleLines, with_line, cut_in, use_in, edge_in, halo_in, cuts, gates, edges, halos, cut_wires, known}
+use Rattle.certificate.specs.Entries.{Setting, ModuleLines, with_line, cut_in, use_in, edge_in, halo_in, stop_in, cuts, gates, edges, halos, stops, cut_wires, known}
 use Rattle.certificate.specs.Orders.{may_follow}
-use Rattle.certificate.specs.Rules.{is_odd, is_local, are_new, cut_fault, cut_wire_fault, gate_fault, use_fault, is_starred, is_time, is_edge_place, is_halo_place, signal_fault, wire_fault, border_fault, border_count, border_limit, edge_fault, halo_fault}
-use Rattle.certificate.specs.Modules.{IsEdge, IsHalo, IsModule}
+use Rattle.certificate.specs.Rules.{is_odd, is_local, are_new, cut_fault, cut_wire_fault, gate_fault, use_fault, is_starred, is_time, is_edge_place, is_halo_place, is_stop_place, signal_fault, wire_fault, border_fault, border_count, border_limit, edge_fault, halo_fault, stop_fault}
+use Rattle.certificate.specs.Modules.{IsEdge, IsHalo, IsModule, IsStop}
 use Rattle.certificate.specs.declared.entry.Border.{Border}
 use Rattle.certificate.specs.declared.entry.Entry.{Entry}
-use Rattle.certificate.specs.declared.entry.Entry.TheVariants.{Cut, Use, Edge, Halo}
+use Rattle.certificate.specs.declared.entry.StopLine.{StopLine}
+use Rattle.certificate.specs.declared.entry.Entry.TheVariants.{Cut, Use, Edge, Halo, Stop}
 use Rattle.certificate.proofs.Growing.{flat_push, flat_same}
-use Rattle.certificate.proofs.ModuleLemmas.{none_before, all_before, no_use_before_cut, no_edge_before_cut, no_halo_before_cut, no_edge_before_use, no_halo_before_use, no_halo_before_edge, lower_uses, order_push}
+use Rattle.certificate.proofs.ModuleLemmas.{none_before, all_before, no_use_before_cut, no_edge_before_cut, no_halo_before_cut, no_stop_before_cut, no_edge_before_use, no_halo_before_use, no_stop_before_use, no_halo_before_edge, lower_uses, order_push}
 use Rattle.certificate.proofs.LocalLemmas.{local_cut, local_use, local_more}
 
 -- ---- tests that a line passed
@@ -84,6 +85,9 @@ module _ (g : Setting) (m : ModuleLines) (is : IsModule g m) (n : List ℕ) (fol
   no_halos : halos m ≡ []
   no_halos = none_before halo_in (Cut n) (no_halo_before_cut n) m.lines follows
 
+  no_stops : stops m ≡ []
+  no_stops = none_before stop_in (Cut n) (no_stop_before_cut n) m.lines follows
+
   abbrev more : ModuleLines
   more = with_line (Cut n) m
 
@@ -95,6 +99,9 @@ module _ (g : Setting) (m : ModuleLines) (is : IsModule g m) (n : List ℕ) (fol
 
   halos_are : halos more ≡ []
   halos_are = flat_same halo_in m.lines (Cut n) refl ∙ no_halos
+
+  stops_are : stops more ≡ []
+  stops_are = flat_same stop_in m.lines (Cut n) refl ∙ no_stops
 
   module _ (w : ℕ) (named : wire_of g.circuit n ≡ Some w) where
     -- the local wires of a module that has no used gate
@@ -121,9 +128,10 @@ module _ (g : Setting) (m : ModuleLines) (is : IsModule g m) (n : List ℕ) (fol
           named = ap length (cut_wires_cut g.circuit m n w named) ∙ length_push (cut_wires g.circuit m) w ∙ ap (λ k. k + 1) is.named ∙ sym (ap length (cuts_cut m n) ∙ length_push (cuts m) n);
           local = subst (λ gs. AreLocalLines g.circuit.netlist (cut_wires g.circuit more) gs) (sym gates_are) (subst (λ cs. AreLocalLines g.circuit.netlist cs []) (sym (cut_wires_cut g.circuit m n w named)) after);
           order = order_push m.lines (Cut n) is.order follows;
-          few_borders = let e = ap₂ (λ a b. length a + length b) edges_are halos_are in omega (arith, e);
+          few_borders = let e = ap length edges_are in let h = ap length halos_are in let s = ap length stops_are in omega (arith, e, h, s);
           edge_lines = at_nil (IsEdge g m.area (known g.circuit more)) (edges more) edges_are;
           halo_lines = at_nil (IsHalo g m.area (known g.circuit more)) (halos more) halos_are;
+          stop_lines = at_nil (IsStop g m.area (known g.circuit more)) (stops more) stops_are;
         }
 
 -- ---- a used gate
@@ -168,6 +176,7 @@ module _ (g : Setting) (m : ModuleLines) (k : ℕ) where
   use_pushed is follows few good =
       let edges_are : edges used ≡ [] = flat_same edge_in m.lines (Use k) refl ∙ none_before edge_in (Use k) (no_edge_before_use k) m.lines follows in
       let halos_are : halos used ≡ [] = flat_same halo_in m.lines (Use k) refl ∙ none_before halo_in (Use k) (no_halo_before_use k) m.lines follows in
+      let stops_are : stops used ≡ [] = flat_same stop_in m.lines (Use k) refl ∙ none_before stop_in (Use k) (no_stop_before_use k) m.lines follows in
       let lower = all_before use_in (Use k) (λ j. j < k) (lower_uses k) m.lines follows in
       let after = local_use g.circuit.netlist (cut_wires g.circuit m) (gates m) k good.gate is.local good.numbered lower good.ins good.outs few in
       record {
@@ -178,9 +187,10 @@ module _ (g : Setting) (m : ModuleLines) (k : ℕ) where
         named = ap length cut_wires_use ∙ is.named ∙ sym (ap length (flat_same cut_in m.lines (Use k) refl));
         local = subst (λ cs. AreLocalLines g.circuit.netlist cs (gates used)) (sym cut_wires_use) (subst (λ gs. AreLocalLines g.circuit.netlist (cut_wires g.circuit m) gs) (sym (gates_use m k)) after);
         order = order_push m.lines (Use k) is.order follows;
-        few_borders = let e = ap₂ (λ a b. length a + length b) edges_are halos_are in omega (arith, e);
+        few_borders = let e = ap length edges_are in let h = ap length halos_are in let s = ap length stops_are in omega (arith, e, h, s);
         edge_lines = at_nil (IsEdge g m.area (known g.circuit used)) (edges used) edges_are;
         halo_lines = at_nil (IsHalo g m.area (known g.circuit used)) (halos used) halos_are;
+        stop_lines = at_nil (IsStop g m.area (known g.circuit used)) (stops used) stops_are;
       }
 
 -- ---- edge and halo lines
@@ -243,13 +253,25 @@ halo_good g area local count starred e good =
       border = record { time = time_good g.size.steps starred e.time parts.1; signal = signal_good g.circuit local e.signal good.names };
     }
 
+at_most : (t n : ℕ) → nat_le t n ≡ true → t ≤ n
+at_most t n e = grind (arith, nat_tests)
+
+stop_good : (g : Setting) (area : Box2) (local : List ℕ) (count : ℕ) (s : StopLine) → IsGoodBorder g.circuit count local (is_stop_place g.size area s) (Some s.wire) → IsStop g area local s
+unfolding is_stop_place
+stop_good g area local count s good =
+    let parts = and_parts (in_box area s.cell.x s.cell.y) (nat_le s.time g.size.steps) good.place in
+    record { time = at_most s.time g.size.steps parts.1; inside = parts.0; wire = signal_good g.circuit local (Some s.wire) good.names }
+
 pub edges_edge : (m : ModuleLines) (e : Border) → edges (with_line (Edge e) m) ≡ edges m ++ e ∷ []
 edges_edge m e = flat_push edge_in m.lines (Edge e)
 
 pub halos_halo : (m : ModuleLines) (e : Border) → halos (with_line (Halo e) m) ≡ halos m ++ e ∷ []
 halos_halo m e = flat_push halo_in m.lines (Halo e)
 
--- an edge or halo line leaves the local wires
+pub stops_stop : (m : ModuleLines) (s : StopLine) → stops (with_line (Stop s) m) ≡ stops m ++ s ∷ []
+stops_stop m s = flat_push stop_in m.lines (Stop s)
+
+-- an edge, halo or stop line leaves the local wires
 module _ (g : Setting) (m : ModuleLines) (i : Entry) (no_cut : cut_in i ≡ []) (no_use : use_in i ≡ []) where
   cuts_same : cuts (with_line i m) ≡ cuts m
   cuts_same = flat_same cut_in m.lines i no_cut
@@ -276,6 +298,8 @@ module _ (g : Setting) (m : ModuleLines) (is : IsModule g m) (e : Border) where
       let same = known_same g m (Edge e) refl refl in
       let n = ap length (edges_edge m e) ∙ length_push (edges m) e in
       let k = ap length halos_are in
+      let stops_are : stops more ≡ stops m = flat_same stop_in m.lines (Edge e) refl in
+      let q = ap length stops_are in
       record {
         even = is.even;
         wide = is.wide;
@@ -284,9 +308,10 @@ module _ (g : Setting) (m : ModuleLines) (is : IsModule g m) (e : Border) where
         named = ap length (cut_wires_same g m (Edge e) refl refl) ∙ is.named ∙ sym (ap length (cuts_same g m (Edge e) refl refl));
         local = local_same g m (Edge e) refl refl is.local;
         order = order_push m.lines (Edge e) is.order follows;
-        few_borders = let f = b.few in omega (arith, n, k, f);
+        few_borders = let f = b.few in omega (arith, n, k, q, f);
         edge_lines = subst (λ l. All (IsEdge g m.area (known g.circuit more)) l) (sym (edges_edge m e)) (subst (λ l. All (IsEdge g m.area l) (edges m ++ e ∷ [])) (sym same) (All-push (IsEdge g m.area (known g.circuit m)) (edges m) e is.edge_lines here));
         halo_lines = at_nil (IsHalo g m.area (known g.circuit more)) (halos more) halos_are;
+        stop_lines = subst (λ l. All (IsStop g m.area (known g.circuit more)) l) (sym stops_are) (subst (λ l. All (IsStop g m.area l) (stops m)) (sym same) is.stop_lines);
       }
 
   pub halo_pushed : may_follow m.lines (Halo e) ≡ true → halo_fault g m e ≡ None → IsModule g (with_line (Halo e) m)
@@ -298,6 +323,8 @@ module _ (g : Setting) (m : ModuleLines) (is : IsModule g m) (e : Border) where
       let same = known_same g m (Halo e) refl refl in
       let n = ap length (halos_halo m e) ∙ length_push (halos m) e in
       let k = ap length edges_are in
+      let stops_are : stops more ≡ stops m = flat_same stop_in m.lines (Halo e) refl in
+      let q = ap length stops_are in
       record {
         even = is.even;
         wide = is.wide;
@@ -306,7 +333,34 @@ module _ (g : Setting) (m : ModuleLines) (is : IsModule g m) (e : Border) where
         named = ap length (cut_wires_same g m (Halo e) refl refl) ∙ is.named ∙ sym (ap length (cuts_same g m (Halo e) refl refl));
         local = local_same g m (Halo e) refl refl is.local;
         order = order_push m.lines (Halo e) is.order follows;
-        few_borders = let f = b.few in omega (arith, n, k, f);
+        few_borders = let f = b.few in omega (arith, n, k, q, f);
         edge_lines = subst (λ l. All (IsEdge g m.area (known g.circuit more)) l) (sym edges_are) (subst (λ l. All (IsEdge g m.area l) (edges m)) (sym same) is.edge_lines);
         halo_lines = subst (λ l. All (IsHalo g m.area (known g.circuit more)) l) (sym (halos_halo m e)) (subst (λ l. All (IsHalo g m.area l) (halos m ++ e ∷ [])) (sym same) (All-push (IsHalo g m.area (known g.circuit m)) (halos m) e is.halo_lines here));
+        stop_lines = subst (λ l. All (IsStop g m.area (known g.circuit more)) l) (sym stops_are) (subst (λ l. All (IsStop g m.area l) (stops m)) (sym same) is.stop_lines);
+      }
+
+module _ (g : Setting) (m : ModuleLines) (is : IsModule g m) (s : StopLine) where
+  pub stop_pushed : may_follow m.lines (Stop s) ≡ true → stop_fault g m s ≡ None → IsModule g (with_line (Stop s) m)
+  stop_pushed follows good =
+      let more = with_line (Stop s) m in
+      let b = good_border g.circuit (border_count m) (known g.circuit m) (is_stop_place g.size m.area s) (Some s.wire) good in
+      let here : IsStop g m.area (known g.circuit m) s = stop_good g m.area (known g.circuit m) (border_count m) s b in
+      let edges_are : edges more ≡ edges m = flat_same edge_in m.lines (Stop s) refl in
+      let halos_are : halos more ≡ halos m = flat_same halo_in m.lines (Stop s) refl in
+      let same = known_same g m (Stop s) refl refl in
+      let n = ap length (stops_stop m s) ∙ length_push (stops m) s in
+      let k = ap length edges_are in
+      let q = ap length halos_are in
+      record {
+        even = is.even;
+        wide = is.wide;
+        high = is.high;
+        inside = is.inside;
+        named = ap length (cut_wires_same g m (Stop s) refl refl) ∙ is.named ∙ sym (ap length (cuts_same g m (Stop s) refl refl));
+        local = local_same g m (Stop s) refl refl is.local;
+        order = order_push m.lines (Stop s) is.order follows;
+        few_borders = let f = b.few in omega (arith, n, k, q, f);
+        edge_lines = subst (λ l. All (IsEdge g m.area (known g.circuit more)) l) (sym edges_are) (subst (λ l. All (IsEdge g m.area l) (edges m)) (sym same) is.edge_lines);
+        halo_lines = subst (λ l. All (IsHalo g m.area (known g.circuit more)) l) (sym halos_are) (subst (λ l. All (IsHalo g m.area l) (halos m)) (sym same) is.halo_lines);
+        stop_lines = subst (λ l. All (IsStop g m.area (known g.circuit more)) l) (sym (stops_stop m s)) (subst (λ l. All (IsStop g m.area l) (stops m ++ s ∷ [])) (sym same) (All-push (IsStop g m.area (known g.circuit m)) (stops m) s is.stop_lines here));
       }

@@ -6,7 +6,7 @@ use Rattle.module_box.specs.declared.boxes.Box2.{Box2}
 use Rattle.certificate.specs.Entries.{ModuleLines, add_line, change_last, with_line, modules_of}
 use Rattle.certificate.specs.ModuleParts.{inner, is_module}
 use Rattle.certificate.specs.declared.entry.Entry.{Entry}
-use Rattle.certificate.specs.declared.entry.Entry.TheVariants.{Module, Cut, Use, Edge, Halo}
+use Rattle.certificate.specs.declared.entry.Entry.TheVariants.{Module, Cut, Use, Edge, Halo, Stop}
 use Rattle.certificate.proofs.InnerLines.{inner_module, inner_other}
 
 -- the modules of further lines after some
@@ -27,6 +27,7 @@ before_last ms m (Cut n) = last_changed (with_line (Cut n)) ms m
 before_last ms m (Use k) = last_changed (with_line (Use k)) ms m
 before_last ms m (Edge b) = last_changed (with_line (Edge b)) ms m
 before_last ms m (Halo b) = last_changed (with_line (Halo b)) ms m
+before_last ms m (Stop s) = last_changed (with_line (Stop s)) ms m
 
 -- further lines leave them too
 abbrev Apart : List Entry → Type 0
@@ -43,6 +44,7 @@ apart_after (Cut n) es h ms m = h ms (with_line (Cut n) m)
 apart_after (Use k) es h ms m = h ms (with_line (Use k) m)
 apart_after (Edge b) es h ms m = h ms (with_line (Edge b) m)
 apart_after (Halo b) es h ms m = h ms (with_line (Halo b) m)
+apart_after (Stop s) es h ms m = h ms (with_line (Stop s) m)
 
 pub apart : (es : List Entry) (ms : List ModuleLines) (m : ModuleLines) → onward (ms ++ m ∷ []) es ≡ ms ++ onward (m ∷ []) es
 apart [] ms m = refl
@@ -60,6 +62,7 @@ other_first (Cut n) es h = refl
 other_first (Use k) es h = refl
 other_first (Edge b) es h = refl
 other_first (Halo b) es h = refl
+other_first (Stop s) es h = refl
 
 module_first : (b : Box2) (es : List Entry) → modules_of (Module b ∷ es) ≡ onward (record { area = b; lines = [] } ∷ []) es
 unfolding modules_of add_line
@@ -89,6 +92,7 @@ extends_step (Cut n) es h m = extends_more m (Cut n) es refl h
 extends_step (Use k) es h m = extends_more m (Use k) es refl h
 extends_step (Edge b) es h m = extends_more m (Edge b) es refl h
 extends_step (Halo b) es h m = extends_more m (Halo b) es refl h
+extends_step (Stop s) es h m = extends_more m (Stop s) es refl h
 
 -- the lines before the next module line are of the last module
 extends : (es : List Entry) → Extends es
@@ -108,3 +112,4 @@ no_module (Cut n) h = refl
 no_module (Use k) h = refl
 no_module (Edge b) h = refl
 no_module (Halo b) h = refl
+no_module (Stop s) h = refl

@@ -18,14 +18,15 @@ use Rattle.module_box.specs.declared.schedules.Event.{Event}
 use Rattle.module_box.specs.declared.schedules.Held.{Held}
 use Rattle.module_box.specs.declared.schedules.Signal.{Signal}
 use Rattle.module_box.proofs.BoxCells.{in_box_nats}
-use Rattle.certificate.specs.Entries.{Setting, ModuleLines, edges, halos}
+use Rattle.certificate.specs.Entries.{Setting, ModuleLines, edges, halos, stops}
 use Rattle.certificate.specs.Jobs.{held_by, event_by, line_signal, line_signals}
 use Rattle.certificate.specs.Modules.{IsModule}
 use Rattle.certificate.specs.Rules.{whole}
-use Rattle.certificate.specs.Shapes.{back}
+use Rattle.certificate.specs.Shapes.{back, moved_stop}
 use Rattle.certificate.specs.Signals.{renumber_held, renumber_event, renumber_signals}
 use Rattle.certificate.specs.Timetables.{IsLow}
 use Rattle.certificate.specs.declared.entry.Border.{Border}
+use Rattle.certificate.specs.declared.job.Stop.{Stop}
 use Rattle.certificate.proofs.JobLemmas.{within_512}
 
 low_number : (z : ℤ) (k : ℕ) → z ≡ pos k → k < 512 → (pos 0 ≤ℤ z) × (z ≤ℤ pos 511)
@@ -59,6 +60,12 @@ low_halos g m s is limits h k d lt =
     let high = sized.height.1 in
     let e = get_or (halos m) k d in
     low_in_box (whole s) e.cell (omega (arith, wide)) (omega (arith, high)) (ap (λ (t : Extent). in_box (whole t) e.cell.x e.cell.y) is ∙ (h.halo_lines k d lt).inside)
+
+pub low_stops : (g : Setting) (m : ModuleLines) (s : Size) → s ≡ g.size → size_fault s ≡ None → IsModule g m → All (λ e. IsLow e.cell) (stops m)
+low_stops g m s is limits h k d lt =
+    let w = within_512 g m s is limits h in
+    let e = get_or (stops m) k d in
+    low_in_box m.area e.cell w.0 w.1 (h.stop_lines k d lt).inside
 
 -- ---- what holds of the cells of lines holds of those of their signals
 flat_all : {X A : Type 0} (P : A → Type 0) (f : X → List A) (Q : X → Type 0) → ((x : X) → Q x → All P (f x)) → (xs : List X) → All Q xs → All P (flat_map f xs)
@@ -109,3 +116,11 @@ pub near_moved : (x y : ℕ) (es : List Event) → x ≤ 512 → y ≤ 512 → A
 near_moved x y es few low all =
     All-map (λ (e : Event). IsNear e.at.cell) (moved_event (back x) (back y)) es
     (All-weaker (λ (e : Event). IsLow e.at.cell) (λ (e : Event). IsNear (moved_event (back x) (back y) e).at.cell) (λ (e : Event) l. (small_back e.at.cell.x x few l.column.0 l.column.1, small_back e.at.cell.y y low l.row.0 l.row.1)) es all)
+
+pub near_stops : (ss : List Stop) → All (λ (s : Stop). IsLow s.at.cell) ss → All (λ (s : Stop). IsNear s.at.cell) ss
+near_stops ss all = All-weaker _ _ (λ (s : Stop) l. near_low s.at.cell l) ss all
+
+pub near_moved_stops : (x y : ℕ) (ss : List Stop) → x ≤ 512 → y ≤ 512 → All (λ (s : Stop). IsLow s.at.cell) ss → All (λ (s : Stop). IsNear s.at.cell) (map (moved_stop (back x) (back y)) ss)
+near_moved_stops x y ss few low all =
+    All-map (λ (s : Stop). IsNear s.at.cell) (moved_stop (back x) (back y)) ss
+    (All-weaker (λ (s : Stop). IsLow s.at.cell) (λ (s : Stop). IsNear (moved_stop (back x) (back y) s).at.cell) (λ (s : Stop) l. (small_back s.at.cell.x x few l.column.0 l.column.1, small_back s.at.cell.y y low l.row.0 l.row.1)) ss all)

@@ -7,7 +7,7 @@ use Rattle.std.proofs.lemmas.Bool.{and_parts}
 use Rattle.std.proofs.lemmas.Cmp.{then_total, on_total, nat_cmp_total}
 use Rattle.module_box.proofs.Rising.{cell_total}
 use Rattle.certificate.specs.declared.entry.Entry.{Entry}
-use Rattle.certificate.specs.declared.entry.Entry.TheVariants.{Module, Cut, Use, Edge, Halo}
+use Rattle.certificate.specs.declared.entry.Entry.TheVariants.{Module, Cut, Use, Edge, Halo, Stop}
 use Rattle.certificate.specs.Entries.{last_of}
 use Rattle.certificate.specs.Orders.{AreInOrder, rank_of, number_of, cell_of, line_cmp, is_cut, may_precede, may_follow}
 use Rattle.certificate.proofs.Lists.{or_parts, or_right}
@@ -33,6 +33,7 @@ cut_is (Cut n) h = record { name = n; same = refl }
 cut_is (Use k) h = absurd cc
 cut_is (Edge e) h = absurd cc
 cut_is (Halo e) h = absurd cc
+cut_is (Stop s) h = absurd cc
 
 -- a cut stands where any other stands
 after_cut : (m n : List ℕ) (i : Entry) → line_cmp (Cut m) i ≡ line_cmp (Cut n) i

@@ -21,12 +21,12 @@ use Rattle.certificate.specs.Grammars.{certificate_grammar}
 use Rattle.certificate.specs.Modules.{IsModule, HasPorts, AreModules}
 use Rattle.certificate.specs.BuilderView.{AreSound}
 use Rattle.certificate.specs.declared.entry.Entry.{Entry}
-use Rattle.certificate.specs.declared.entry.Entry.TheVariants.{Module, Cut, Use, Edge, Halo}
+use Rattle.certificate.specs.declared.entry.Entry.TheVariants.{Module, Cut, Use, Edge, Halo, Stop}
 use Rattle.certificate.proofs.BuiltLemmas.{good_module, line_sound, module_sound, sound_none, or_false, last_is}
 use Rattle.certificate.proofs.Growing.{modules_push}
 use Rattle.certificate.proofs.Keeping.{good_line, IsGoodLine}
 use Rattle.certificate.proofs.Lists.{any_at, or_parts, passed, some_is}
-use Rattle.certificate.proofs.ModulePushes.{no_code, new_wire, good_use, cut_pushed, use_pushed, edge_pushed, halo_pushed}
+use Rattle.certificate.proofs.ModulePushes.{no_code, new_wire, good_use, cut_pushed, use_pushed, edge_pushed, halo_pushed, stop_pushed}
 use Rattle.certificate.proofs.PortLemmas.{cell_same, in_box_cells}
 
 module _ (g : Setting) (es : List Entry) (sound : AreSound g (modules_of es)) where
@@ -54,6 +54,9 @@ module _ (g : Setting) (es : List Entry) (sound : AreSound g (modules_of es)) wh
   sound_push (Halo d) e =
       let good = good_line g es (Halo d) e in
       inner_sound (Halo d) refl good (λ is. halo_pushed g good.module_lines is d good.follows good.words)
+  sound_push (Stop s) e =
+      let good = good_line g es (Stop s) e in
+      inner_sound (Stop s) refl good (λ is. stop_pushed g good.module_lines is s good.follows good.words)
 
 sound_all : (g : Setting) (v : ℕ) (more before : List Entry) → AreSound g (modules_of before) → AreFaultless (certificate_grammar g) v before more → AreSound g (modules_of (before ++ more))
 sound_all g v [] before sound good = subst (λ l. AreSound g (modules_of l)) (sym (append-nil before)) sound

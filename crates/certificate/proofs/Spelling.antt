@@ -1,5 +1,5 @@
 -- Each line of the certificate section is the spelling of its form.
-use Rattle.std.proofs.Common.{◌≡◌, ℕ, true, eqb, List, [], ◌∷◌, length, Option, Some, None, ap, subst, inl, inr}
+use Rattle.std.proofs.Common.{◌≡◌, ℕ, ◌+◌, true, eqb, List, [], ◌∷◌, length, Option, Some, None, ap, subst, inl, inr}
 use Rattle.std.specs.Prelude.{slice_get, codes}
 use Rattle.std.specs.Fmt.{decimal}
 use Rattle.std.proofs.lemmas.Bool.{eqb-true}
@@ -15,21 +15,22 @@ use Rattle.pattern.specs.Layout.{cell}
 use Rattle.pattern.specs.Forms.{cell_from}
 use Rattle.pattern.specs.Text.{coordinate}
 use Rattle.certificate.specs.declared.entry.Border.{Border}
-use Rattle.certificate.specs.declared.entry.Entry.TheVariants.{Module, Cut, Use, Edge, Halo}
-use Rattle.certificate.specs.Forms.{Line, corner_and_sides, area_of, time_at, signal_at, timed_cell, border_of, form_of}
-use Rattle.certificate.specs.Text.{area_words, time_word, signal_word, border_words, form_text}
+use Rattle.certificate.specs.declared.entry.StopLine.{StopLine}
+use Rattle.certificate.specs.declared.entry.Entry.TheVariants.{Module, Cut, Use, Edge, Halo, Stop}
+use Rattle.certificate.specs.Forms.{Line, corner_and_sides, area_of, time_at, signal_at, timed_cell, border_of, timed_wire, stop_of, form_of}
+use Rattle.certificate.specs.Text.{area_words, time_word, signal_word, border_words, stop_words, form_text}
 
 -- two words are a cell
 record CellAt (ws : List (List ℕ)) (i j : ℕ) (c : Cell) : Type 0 where
   column : slice_get ws i ≡ Some (decimal (coordinate c.x))
   row : slice_get ws j ≡ Some (decimal (coordinate c.y))
 
-cell_spelled : (ws : List (List ℕ)) (c : Cell) → cell_from ws 2 ≡ Some c → CellAt ws 2 3 c
+cell_spelled : (ws : List (List ℕ)) (i : ℕ) (c : Cell) → cell_from ws i ≡ Some c → CellAt ws i (i + 1) c
 unfolding cell_from
-cell_spelled ws c e =
-    option_and_then_some (λ x. number_at ws 3 >>= λ y. Some (cell x y)) (number_at ws 2) c e (λ x first rest.
-    option_and_then_some (λ y. Some (cell x y)) (number_at ws 3) c rest (λ y second made.
-    subst (CellAt ws 2 3) (same_Some (cell x y) c made) (record { column = number_at_spelled ws 2 x first; row = number_at_spelled ws 3 y second })))
+cell_spelled ws i c e =
+    option_and_then_some (λ x. number_at ws (i + 1) >>= λ y. Some (cell x y)) (number_at ws i) c e (λ x first rest.
+    option_and_then_some (λ y. Some (cell x y)) (number_at ws (i + 1)) c rest (λ y second made.
+    subst (CellAt ws i (i + 1)) (same_Some (cell x y) c made) (record { column = number_at_spelled ws i x first; row = number_at_spelled ws (i + 1) y second })))
 
 time_spelled : (ws : List (List ℕ)) (i : ℕ) (t : Option ℕ) → time_at ws i ≡ Some t → slice_get ws i ≡ Some (time_word t)
 unfolding time_at
@@ -69,9 +70,20 @@ border_spelled ws v b at e =
     option_and_then_some (λ t. cell_from ws 2 >>= λ c. signal_at ws 4 >>= λ s. Some (record { time = t; cell = c; signal = s })) (time_at ws 1) b found.1 (λ t timed rest.
     option_and_then_some (λ c. signal_at ws 4 >>= λ s. Some (record { time = t; cell = c; signal = s })) (cell_from ws 2) b rest (λ c at_cell last.
     option_and_then_some (λ s. Some (record { time = t; cell = c; signal = s })) (signal_at ws 4) b last (λ s signalled made.
-    let place = cell_spelled ws c at_cell in
+    let place = cell_spelled ws 2 c at_cell in
     subst (λ (q : Border). ws ≡ v ∷ border_words q) (same_Some (record { time = t; cell = c; signal = s }) b made)
     (five_words ws v (time_word t) (decimal (coordinate c.x)) (decimal (coordinate c.y)) (signal_word s) (eqb-true _ _ found.0) (is_at_is ws 0 v at) (time_spelled ws 1 t timed) place.column place.row (signal_spelled ws 4 s signalled)))))
+
+stop_spelled : (ws : List (List ℕ)) (v : List ℕ) (s : StopLine) → is_word_at ws 0 v ≡ true → stop_of ws ≡ Some s → ws ≡ v ∷ stop_words s
+unfolding stop_of timed_wire
+stop_spelled ws v s at e =
+    let found = passed (eqb (length ws) 5) (timed_wire ws) s e in
+    option_and_then_some (λ t. name_at ws 2 >>= λ n. cell_from ws 3 >>= λ c. Some (record { time = t; wire = n; cell = c })) (number_at ws 1) s found.1 (λ t timed rest.
+    option_and_then_some (λ n. cell_from ws 3 >>= λ c. Some (record { time = t; wire = n; cell = c })) (name_at ws 2) s rest (λ n named last.
+    option_and_then_some (λ c. Some (record { time = t; wire = n; cell = c })) (cell_from ws 3) s last (λ c at_cell made.
+    let place = cell_spelled ws 3 c at_cell in
+    subst (λ (q : StopLine). ws ≡ v ∷ stop_words q) (same_Some (record { time = t; wire = n; cell = c }) s made)
+    (five_words ws v (decimal t) n (decimal (coordinate c.x)) (decimal (coordinate c.y)) (eqb-true _ _ found.0) (is_at_is ws 0 v at) (number_at_spelled ws 1 t timed) (name_at_is ws 2 n named) place.column place.row))))
 
 number_spelled : (ws : List (List ℕ)) (v : List ℕ) (n : ℕ) → is_word_at ws 0 v ≡ true → lone_number ws ≡ Some n → ws ≡ v ∷ decimal n ∷ []
 unfolding lone_number
@@ -93,6 +105,7 @@ first_of (Item (Cut n)) = codes "cut"
 first_of (Item (Use k)) = codes "use"
 first_of (Item (Edge b)) = codes "edge"
 first_of (Item (Halo b)) = codes "halo"
+first_of (Item (Stop s)) = codes "stop"
 first_of End = codes "end"
 
 others_of : Line → List (List ℕ)
@@ -102,6 +115,7 @@ others_of (Item (Cut n)) = n ∷ []
 others_of (Item (Use k)) = decimal k ∷ []
 others_of (Item (Edge b)) = border_words b
 others_of (Item (Halo b)) = border_words b
+others_of (Item (Stop s)) = stop_words s
 others_of End = []
 
 abbrev SpelledAs : List (List ℕ) → Line → Type 0
@@ -114,18 +128,21 @@ form_words ws f e =
       | inl p ↦ option_and_then_some (λ b. Some (Item (Edge b))) (border_of ws) f p.1 (λ b found made. subst (SpelledAs ws) (same_Some (Item (Edge b)) f made) (border_spelled ws (codes "edge") b p.0 found))
       | inr p ↦ elim (chosen (is_word_at ws 0 (codes "halo")) _ _ (Some f) p.1) [
         | inl q ↦ option_and_then_some (λ b. Some (Item (Halo b))) (border_of ws) f q.1 (λ b found made. subst (SpelledAs ws) (same_Some (Item (Halo b)) f made) (border_spelled ws (codes "halo") b q.0 found))
-        | inr q ↦ elim (chosen (is_word_at ws 0 (codes "cut")) _ _ (Some f) q.1) [
-          | inl r ↦ option_and_then_some (λ n. Some (Item (Cut n))) (lone_name ws) f r.1 (λ n found made. subst (SpelledAs ws) (same_Some (Item (Cut n)) f made) (name_spelled ws (codes "cut") n r.0 found))
-          | inr r ↦ elim (chosen (is_word_at ws 0 (codes "use")) _ _ (Some f) r.1) [
-            | inl s ↦ option_and_then_some (λ k. Some (Item (Use k))) (lone_number ws) f s.1 (λ k found made. subst (SpelledAs ws) (same_Some (Item (Use k)) f made) (number_spelled ws (codes "use") k s.0 found))
-            | inr s ↦ elim (chosen (is_word_at ws 0 (codes "module")) _ _ (Some f) s.1) [
-              | inl t ↦ option_and_then_some (λ b. Some (Item (Module b))) (area_of ws) f t.1 (λ b found made. subst (SpelledAs ws) (same_Some (Item (Module b)) f made) (area_spelled ws (codes "module") b t.0 found))
-              | inr t ↦ elim (chosen (is_word_at ws 0 (codes "certificate")) _ _ (Some f) t.1) [
-                | inl u ↦ option_and_then_some (λ v. Some (Header v)) (lone_number ws) f u.1 (λ v found made. subst (SpelledAs ws) (same_Some (Header v) f made) (number_spelled ws (codes "certificate") v u.0 found))
-                | inr u ↦
-                    let at_end = passed (is_word_at ws 0 (codes "end")) (lone ws End) f u.1 in
-                    let alone = passed (eqb (length ws) 1) (Some End) f at_end.1 in
-                    subst (SpelledAs ws) (same_Some End f alone.1) (one_word ws (codes "end") (eqb-true _ _ alone.0) (is_at_is ws 0 (codes "end") at_end.0))
+        | inr q ↦ elim (chosen (is_word_at ws 0 (codes "stop")) _ _ (Some f) q.1) [
+          | inl z ↦ option_and_then_some (λ b. Some (Item (Stop b))) (stop_of ws) f z.1 (λ b found made. subst (SpelledAs ws) (same_Some (Item (Stop b)) f made) (stop_spelled ws (codes "stop") b z.0 found))
+          | inr z ↦ elim (chosen (is_word_at ws 0 (codes "cut")) _ _ (Some f) z.1) [
+            | inl r ↦ option_and_then_some (λ n. Some (Item (Cut n))) (lone_name ws) f r.1 (λ n found made. subst (SpelledAs ws) (same_Some (Item (Cut n)) f made) (name_spelled ws (codes "cut") n r.0 found))
+            | inr r ↦ elim (chosen (is_word_at ws 0 (codes "use")) _ _ (Some f) r.1) [
+              | inl s ↦ option_and_then_some (λ k. Some (Item (Use k))) (lone_number ws) f s.1 (λ k found made. subst (SpelledAs ws) (same_Some (Item (Use k)) f made) (number_spelled ws (codes "use") k s.0 found))
+              | inr s ↦ elim (chosen (is_word_at ws 0 (codes "module")) _ _ (Some f) s.1) [
+                | inl t ↦ option_and_then_some (λ b. Some (Item (Module b))) (area_of ws) f t.1 (λ b found made. subst (SpelledAs ws) (same_Some (Item (Module b)) f made) (area_spelled ws (codes "module") b t.0 found))
+                | inr t ↦ elim (chosen (is_word_at ws 0 (codes "certificate")) _ _ (Some f) t.1) [
+                  | inl u ↦ option_and_then_some (λ v. Some (Header v)) (lone_number ws) f u.1 (λ v found made. subst (SpelledAs ws) (same_Some (Header v) f made) (number_spelled ws (codes "certificate") v u.0 found))
+                  | inr u ↦
+                      let at_end = passed (is_word_at ws 0 (codes "end")) (lone ws End) f u.1 in
+                      let alone = passed (eqb (length ws) 1) (Some End) f at_end.1 in
+                      subst (SpelledAs ws) (same_Some End f alone.1) (one_word ws (codes "end") (eqb-true _ _ alone.0) (is_at_is ws 0 (codes "end") at_end.0))
+                ]
               ]
             ]
           ]
@@ -141,4 +158,5 @@ form_line l (Item (Cut n)) e = ap ended_line (line_from_words l (codes "cut") (n
 form_line l (Item (Use k)) e = ap ended_line (line_from_words l (codes "use") (decimal k ∷ []) (form_words (words_of l) (Item (Use k)) e))
 form_line l (Item (Edge b)) e = ap ended_line (line_from_words l (codes "edge") (border_words b) (form_words (words_of l) (Item (Edge b)) e))
 form_line l (Item (Halo b)) e = ap ended_line (line_from_words l (codes "halo") (border_words b) (form_words (words_of l) (Item (Halo b)) e))
+form_line l (Item (Stop s)) e = ap ended_line (line_from_words l (codes "stop") (stop_words s) (form_words (words_of l) (Item (Stop s)) e))
 form_line l End e = ap ended_line (line_from_words l (codes "end") [] (form_words (words_of l) End e))

@@ -1,10 +1,11 @@
--- What the words behind the keyword of an edge or halo line say
+-- What the words behind the keyword of an edge, halo or stop line say
 use Rattle.std.specs.Prelude.{ℕ, List, codes, Option, Some, None, if◌then◌else◌}
 use Rattle.std.specs.Str.{bytes_eq}
 use Rattle.section_text.specs.Words.{number_of, name_of, ◌>>=◌}
 use Rattle.bbm_rule.specs.declared.block.Cell.{Cell}
 use Rattle.pattern.specs.Layout.{cell}
 use Rattle.certificate.specs.declared.entry.Border.{Border}
+use Rattle.certificate.specs.declared.entry.StopLine.{StopLine}
 
 unfoldable pub time_by : List ℕ → Option (Option ℕ)
 time_by w = if bytes_eq w (codes "*") then Some None else (number_of w >>= λ t. Some (Some t))
@@ -24,3 +25,10 @@ border_by time column row signal = do
   c ← cell_by column row
   s ← signal_by signal
   Some (record { time = t; cell = c; signal = s })
+
+unfoldable pub stop_by : List ℕ → List ℕ → List ℕ → List ℕ → Option StopLine
+stop_by time wire column row = do
+  t ← number_of time
+  n ← name_of wire
+  c ← cell_by column row
+  Some (record { time = t; wire = n; cell = c })

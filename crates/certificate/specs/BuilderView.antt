@@ -10,7 +10,7 @@ use Rattle.certificate.specs.Rules.{in_boxes, is_starred, same_cell, lacks_port}
 use Rattle.certificate.specs.Modules.{IsModule}
 use Rattle.certificate.specs.declared.entry.Counts.{Counts}
 use Rattle.certificate.specs.declared.entry.Entry.{Entry}
-use Rattle.certificate.specs.declared.entry.Entry.TheVariants.{Module, Cut, Use, Edge, Halo}
+use Rattle.certificate.specs.declared.entry.Entry.TheVariants.{Module, Cut, Use, Edge, Halo, Stop}
 use Rattle.certificate.specs.declared.builder.Builder.TheInside.{Inside}
 
 -- what the certificate is for, and the lines so far
@@ -68,12 +68,13 @@ counted (Cut n) k = record k { cuts = k.cuts + 1 }
 counted (Use g) k = record k { gates = k.gates + 1 }
 counted (Edge e) k = record k { edges = k.edges + 1 }
 counted (Halo e) k = record k { halos = k.halos + 1 }
+counted (Stop s) k = record k { stops = k.stops + 1 }
 
 -- no count is near its greatest value
 pub record IsSmall (k : Counts) : Type 0 where
   pub few_cuts : k.cuts ≤ 10
   pub few_gates : k.gates ≤ 64
-  pub few_borders : k.edges + k.halos ≤ 65536
+  pub few_borders : k.edges + k.halos + k.stops ≤ 65536
 
 -- the line is no `module` line
 abbrev pub IsInner : Entry → Type 0
@@ -82,3 +83,4 @@ IsInner (Cut n) = Unit {0}
 IsInner (Use k) = Unit {0}
 IsInner (Edge e) = Unit {0}
 IsInner (Halo e) = Unit {0}
+IsInner (Stop s) = Unit {0}

@@ -10,7 +10,8 @@ use Rattle.module_box.specs.declared.boxes.Box2.{Box2}
 use Rattle.certificate.specs.declared.entry.Border.{Border}
 use Rattle.certificate.specs.declared.entry.Counts.{Counts}
 use Rattle.certificate.specs.declared.entry.Entry.{Entry}
-use Rattle.certificate.specs.declared.entry.Entry.TheVariants.{Module, Cut, Use, Edge, Halo}
+use Rattle.certificate.specs.declared.entry.StopLine.{StopLine}
+use Rattle.certificate.specs.declared.entry.Entry.TheVariants.{Module, Cut, Use, Edge, Halo, Stop}
 
 -- what a certificate is for: a circuit, and of a layout its size and its ports
 pub record Setting : Type 0 where
@@ -45,6 +46,7 @@ add_line ms (Cut n) = change_last (with_line (Cut n)) ms
 add_line ms (Use k) = change_last (with_line (Use k)) ms
 add_line ms (Edge e) = change_last (with_line (Edge e)) ms
 add_line ms (Halo e) = change_last (with_line (Halo e)) ms
+add_line ms (Stop s) = change_last (with_line (Stop s)) ms
 
 -- the modules of lines
 unfoldable pub modules_of : List Entry → List ModuleLines
@@ -65,6 +67,7 @@ cut_in (Cut n) = n ∷ []
 cut_in (Use k) = []
 cut_in (Edge e) = []
 cut_in (Halo e) = []
+cut_in (Stop s) = []
 
 abbrev pub use_in : Entry → List ℕ
 use_in (Module b) = []
@@ -72,6 +75,7 @@ use_in (Cut n) = []
 use_in (Use k) = k ∷ []
 use_in (Edge e) = []
 use_in (Halo e) = []
+use_in (Stop s) = []
 
 abbrev pub edge_in : Entry → List Border
 edge_in (Module b) = []
@@ -79,6 +83,7 @@ edge_in (Cut n) = []
 edge_in (Use k) = []
 edge_in (Edge e) = e ∷ []
 edge_in (Halo e) = []
+edge_in (Stop s) = []
 
 abbrev pub halo_in : Entry → List Border
 halo_in (Module b) = []
@@ -86,6 +91,15 @@ halo_in (Cut n) = []
 halo_in (Use k) = []
 halo_in (Edge e) = []
 halo_in (Halo e) = e ∷ []
+halo_in (Stop s) = []
+
+abbrev pub stop_in : Entry → List StopLine
+stop_in (Module b) = []
+stop_in (Cut n) = []
+stop_in (Use k) = []
+stop_in (Edge e) = []
+stop_in (Halo e) = []
+stop_in (Stop s) = s ∷ []
 
 -- the names of the wires that are cut
 abbrev pub cuts : ModuleLines → List (List ℕ)
@@ -101,6 +115,9 @@ edges m = flat_map edge_in m.lines
 abbrev pub halos : ModuleLines → List Border
 halos m = flat_map halo_in m.lines
 
+abbrev pub stops : ModuleLines → List StopLine
+stops m = flat_map stop_in m.lines
+
 -- how many lines of each kind a module has, and its box
 abbrev pub counts_of : ModuleLines → Counts
 counts_of m = record {
@@ -109,7 +126,7 @@ counts_of m = record {
   gates = length (gates m);
   edges = length (edges m);
   halos = length (halos m);
-  stops = 0;
+  stops = length (stops m);
 }
 
 -- ---- local wires

@@ -6,8 +6,9 @@ use Rattle.section_text.specs.declared.section.Form.TheVariants.{Header, Item, E
 use Rattle.pattern.specs.Forms.{cell_from}
 use Rattle.module_box.specs.declared.boxes.Box2.{Box2}
 use Rattle.certificate.specs.declared.entry.Entry.{Entry}
-use Rattle.certificate.specs.declared.entry.Entry.TheVariants.{Module, Cut, Use, Edge, Halo}
+use Rattle.certificate.specs.declared.entry.Entry.TheVariants.{Module, Cut, Use, Edge, Halo, Stop}
 use Rattle.certificate.specs.declared.entry.Border.{Border}
+use Rattle.certificate.specs.declared.entry.StopLine.{StopLine}
 
 -- the header is its version
 abbrev pub Line : Type 0
@@ -44,10 +45,22 @@ timed_cell ws = do
 unfoldable pub border_of : List (List ℕ) → Option Border
 border_of ws = if length ws == 5 then timed_cell ws else None
 
+-- a keyword, a number, a name and a cell
+unfoldable pub timed_wire : List (List ℕ) → Option StopLine
+timed_wire ws = do
+  t ← number_at ws 1
+  n ← name_at ws 2
+  c ← cell_from ws 3
+  Some (record { time = t; wire = n; cell = c })
+
+unfoldable pub stop_of : List (List ℕ) → Option StopLine
+stop_of ws = if length ws == 5 then timed_wire ws else None
+
 unfoldable pub form_of : List (List ℕ) → Option Line
 form_of ws =
     if is_word_at ws 0 (codes "edge") then (border_of ws >>= λ e. Some (Item (Edge e)))
     else if is_word_at ws 0 (codes "halo") then (border_of ws >>= λ e. Some (Item (Halo e)))
+    else if is_word_at ws 0 (codes "stop") then (stop_of ws >>= λ s. Some (Item (Stop s)))
     else if is_word_at ws 0 (codes "cut") then (lone_name ws >>= λ n. Some (Item (Cut n)))
     else if is_word_at ws 0 (codes "use") then (lone_number ws >>= λ k. Some (Item (Use k)))
     else if is_word_at ws 0 (codes "module") then (area_of ws >>= λ b. Some (Item (Module b)))

@@ -20,3 +20,4 @@ pub record IsKeptJob (a : Inside) : Type 0 where
   pub sized : length a.wires.keys ≡ wires (own_shape a).netlist
   pub near_edges : All (λ e. IsNear e.at.cell) (own_shape a).edges.events
   pub near_halos : All (λ e. IsNear e.at.cell) (own_shape a).halos.events
+  pub near_stops : All (λ s. IsNear s.at.cell) (own_shape a).stops

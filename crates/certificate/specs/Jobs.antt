@@ -1,5 +1,5 @@
 -- The job of a module: all that its run by itself needs
-use Rattle.std.specs.Prelude.{◌≡◌, ℕ, ℤ, ◌+◌, ◌-◌, ◌*◌, ◌<◌, ◌≤◌, ◌||◌, Bool, true, false, if◌then◌else◌, List, [], ◌∷◌, length, Option, Some, None, unwrap_or, slice_get, IsTrue}
+use Rattle.std.specs.Prelude.{◌≡◌, ℕ, ℤ, ◌+◌, ◌-◌, ◌*◌, ◌<◌, ◌≤◌, ◌||◌, Bool, true, false, if◌then◌else◌, List, [], ◌∷◌, length, map, Option, Some, None, unwrap_or, slice_get, IsTrue}
 use Rattle.std.specs.List.{All, flat_map}
 use Rattle.std.specs.Int.RustNames.{unsigned_abs}
 use Rattle.bbm_rule.specs.Plane.{is_at}
@@ -8,15 +8,18 @@ use Rattle.pattern.specs.Layout.{Pattern, in_cells, in_rectangles}
 use Rattle.pattern.specs.declared.parts.Port.{Port}
 use Rattle.module_box.specs.Boxes.{in_box, IsEven}
 use Rattle.module_box.specs.Locals.{LocalNet, AreLocalsOf, circuit_wire}
-use Rattle.module_box.specs.Schedules.{Signals}
+use Rattle.module_box.specs.Moments.{moment_cmp}
+use Rattle.module_box.specs.Schedules.{Signals, IsRising}
 use Rattle.module_box.specs.declared.boxes.Box2.{Box2}
 use Rattle.module_box.specs.declared.schedules.Event.{Event}
 use Rattle.module_box.specs.declared.schedules.Held.{Held}
+use Rattle.module_box.specs.declared.schedules.Moment.{Moment}
 use Rattle.module_box.specs.declared.schedules.Signal.{Signal}
 use Rattle.module_box.specs.declared.schedules.Signal.TheVariants.{Zero, One, Wire}
-use Rattle.certificate.specs.Entries.{ModuleLines, cuts, gates, edges, halos, known}
-use Rattle.certificate.specs.Signals.{IsBelow, IsDemandBelow, renumber_signal, renumber_demand, renumber_signals}
+use Rattle.certificate.specs.Entries.{ModuleLines, cuts, gates, edges, halos, stops, known}
+use Rattle.certificate.specs.Signals.{IsBelow, IsDemandBelow, renumber_signal, renumber_demand, renumber_signals, renumber_stop}
 use Rattle.certificate.specs.declared.entry.Border.{Border}
+use Rattle.certificate.specs.declared.entry.StopLine.{StopLine}
 use Rattle.certificate.specs.declared.job.Demand.{Demand}
 use Rattle.certificate.specs.declared.job.Demand.TheVariants as Demanded
 use Rattle.certificate.specs.declared.job.Stop.{Stop}
@@ -55,15 +58,24 @@ pub record NamesOwnWires (j : JobState) : Type 0 where
   pub halo_events : All (λ e. IsBelow (wires j.locals.netlist) e.signal) j.halos.events
   pub stops : All (λ s. s.wire < wires j.locals.netlist) j.stops
 
+-- a stop is at a time up to the last one, and at a cell of the box
+pub record IsStopOf (j : JobState) (s : Stop) : Type 0 where
+  pub time : s.at.time ≤ j.steps
+  pub inside : IsTrue (in_box j.area s.at.cell.x s.at.cell.y)
+
+abbrev pub stop_moment : Stop → Moment
+stop_moment s = s.at
+
 -- A job within the limits of a certificate: its box is even, has sides of 2 to 64 and lies in a rectangle of 512 by 512 cells.
--- It has at most 4096 steps, it names its own wires, and it has no stops so far.
+-- It has at most 4096 steps, it names its own wires, and its stops rise by time, y and x.
 pub record IsJob (j : JobState) : Type 0 where
   pub even : IsEven j.area
   pub width : (2 ≤ j.area.w) × (j.area.w ≤ 64) × (j.area.x + j.area.w ≤ 512)
   pub height : (2 ≤ j.area.h) × (j.area.h ≤ 64) × (j.area.y + j.area.h ≤ 512)
   pub steps : j.steps ≤ 4096
   pub own : NamesOwnWires j
-  pub no_stops : j.stops ≡ []
+  pub stops : All (IsStopOf j) j.stops
+  pub stops_rise : IsRising moment_cmp stop_moment j.stops
 
 -- ---- what a layout and the lines of a module ask for, by the wires of the circuit
 
@@ -121,6 +133,15 @@ line_signals c es = record {
   events = flat_map (λ e. event_by e e.time (line_signal c e.signal)) es;
 }
 
+-- a stop line, where its wire has this number
+abbrev pub numbered_stop : StopLine → Option ℕ → List Stop
+numbered_stop s None = []
+numbered_stop s (Some w) = record { at = record { time = s.time; cell = s.cell }; wire = w } ∷ []
+
+-- what stop lines say, one after the other
+abbrev pub line_stops : Circuit → List StopLine → List Stop
+line_stops c ss = flat_map (λ s. numbered_stop s (wire_of c s.wire)) ss
+
 -- ---- the job of a module of a circuit and a layout, by the lines of the module
 pub record IsJobOf (c : Circuit) (p : Pattern) (m : ModuleLines) (j : JobState) : Type 0 where
   pub area : j.area ≡ m.area
@@ -133,9 +154,9 @@ pub record IsJobOf (c : Circuit) (p : Pattern) (m : ModuleLines) (j : JobState) 
   pub demand : (x y : ℤ) → IsTrue (in_box m.area x y) → renumber_demand (circuit_wire j.locals) (job_demand j x y) ≡ end_demand c p x y
   pub edges : renumber_signals (circuit_wire j.locals) j.edges ≡ line_signals c (edges m)
   pub halos : renumber_signals (circuit_wire j.locals) j.halos ≡ line_signals c (halos m)
+  pub stops : map (renumber_stop (circuit_wire j.locals)) j.stops ≡ line_stops c (stops m)
   -- it names no wires but its own
   pub own : NamesOwnWires j
-  pub stops : j.stops ≡ []
 
 -- the jobs of modules, one for each
 pub record AreJobsOf (c : Circuit) (p : Pattern) (ms : List ModuleLines) (js : List JobState) : Type 0 where

@@ -1,6 +1,6 @@
 -- Laws of the certificate section, and of jobs
-use Rattle.std.specs.Prelude.{◌≡◌, ℕ, ◌+◌, List, length, take, drop, Ok}
-use Rattle.std.specs.List.{flat_map}
+use Rattle.std.specs.Prelude.{◌≡◌, ℕ, ◌+◌, ◌≤◌, Contains, List, Some, length, take, drop, Ok}
+use Rattle.std.specs.List.{All, flat_map}
 use Rattle.std.specs.Bool.{Decides}
 use Rattle.section_text.specs.Words.{lines_of}
 use Rattle.section_text.specs.Section.{section_of, ended_line}
@@ -10,6 +10,9 @@ use Rattle.certificate.specs.Equality.{same_job, same_shape}
 use Rattle.certificate.specs.Jobs.{JobState}
 use Rattle.certificate.specs.Shapes.{ShapeState, placed, shape_of}
 use Rattle.certificate.specs.Text.{certificate_text}
+use Rattle.certificate.specs.Times.{first_seen, last_seen, times_of}
+use Rattle.certificate.specs.declared.entry.StopLine.{StopLine}
+use Rattle.circuit.specs.Meaning.{Circuit}
 
 -- the text of a certificate that is read is the text of the lines that it is read from
 abbrev pub PrintsWhatIsRead : Type 0
@@ -36,3 +39,11 @@ ShapeEqualityDecides = (s t : ShapeState) → Decides (same_shape s t) (s ≡ t)
 pub record ShapesAreParts : Type 0 where
   pub whole : (j : JobState) → placed j.area.x j.area.y j.locals.circuit_wires j.locals.circuit_gates (shape_of j) ≡ j
   pub part : (x y : ℕ) (wires gates : List ℕ) (s : ShapeState) → shape_of (placed x y wires gates s) ≡ s
+
+-- the first time of a wire is the least of the times of its stops
+abbrev pub FirstIsLeast : Type 0
+FirstIsLeast = (c : Circuit) (ss : List StopLine) (w t : ℕ) → first_seen c ss w ≡ Some t → Contains (times_of c ss w) t × All (λ u. t ≤ u) (times_of c ss w)
+
+-- the last one is the greatest
+abbrev pub LastIsGreatest : Type 0
+LastIsGreatest = (c : Circuit) (ss : List StopLine) (w t : ℕ) → last_seen c ss w ≡ Some t → Contains (times_of c ss w) t × All (λ u. u ≤ t) (times_of c ss w)

@@ -12,6 +12,9 @@ pub mod Signals
 pub mod Jobs
 pub mod ModuleParts
 pub mod Timetables
+pub mod StopLists
+pub mod Times
+pub mod SeenTimes
 pub mod JobFields
 pub mod Laws
 pub mod BorderWords

@@ -1,7 +1,7 @@
 -- The lines of one module
 use Rattle.std.specs.Prelude.{Bool, true, false, if◌then◌else◌, List, [], ◌∷◌}
 use Rattle.certificate.specs.declared.entry.Entry.{Entry}
-use Rattle.certificate.specs.declared.entry.Entry.TheVariants.{Module, Cut, Use, Edge, Halo}
+use Rattle.certificate.specs.declared.entry.Entry.TheVariants.{Module, Cut, Use, Edge, Halo, Stop}
 
 abbrev pub is_module : Entry → Bool
 is_module (Module b) = true
@@ -9,6 +9,7 @@ is_module (Cut n) = false
 is_module (Use k) = false
 is_module (Edge e) = false
 is_module (Halo e) = false
+is_module (Stop s) = false
 
 -- the lines before the next `module` line
 unfoldable pub inner : List Entry → List Entry

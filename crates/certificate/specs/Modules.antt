@@ -6,10 +6,11 @@ use Rattle.module_box.specs.Locals.{AreLocalLines}
 use Rattle.module_box.specs.Tiling.{IsInside}
 use Rattle.module_box.specs.declared.boxes.Box2.{Box2}
 use Rattle.pattern.specs.declared.parts.Port.{Port}
-use Rattle.certificate.specs.Entries.{Setting, ModuleLines, areas, cuts, gates, edges, halos, cut_wires, known}
+use Rattle.certificate.specs.Entries.{Setting, ModuleLines, areas, cuts, gates, edges, halos, stops, cut_wires, known}
 use Rattle.certificate.specs.Orders.{AreInOrder}
 use Rattle.certificate.specs.Rules.{whole, is_local, border_count, border_limit}
 use Rattle.certificate.specs.declared.entry.Border.{Border}
+use Rattle.certificate.specs.declared.entry.StopLine.{StopLine}
 
 -- the time of an edge or halo line is odd and below the steps, and its signal is `1` or a local wire
 pub record IsBorder (g : Setting) (local : List ℕ) (e : Border) : Type 0 where
@@ -28,8 +29,14 @@ pub record IsHalo (g : Setting) (area : Box2) (local : List ℕ) (e : Border) : 
   pub inside : IsTrue (in_box (whole g.size) e.cell.x e.cell.y)
   pub border : IsBorder g local e
 
+-- a stop is at a time up to the last one and at a cell of the box, and its wire is local
+pub record IsStop (g : Setting) (area : Box2) (local : List ℕ) (s : StopLine) : Type 0 where
+  pub time : s.time ≤ g.size.steps
+  pub inside : IsTrue (in_box area s.cell.x s.cell.y)
+  pub wire : IsTrue (is_local g.circuit local s.wire)
+
 -- A module: its box is even, has sides of 2 to 64 and lies inside the rectangle. Its cuts and used gates make wires local one
--- after the other. Its lines are in order, and its edge and halo lines stand where they may and name local wires.
+-- after the other. Its lines are in order, and its edge, halo and stop lines stand where they may and name local wires.
 pub record IsModule (g : Setting) (m : ModuleLines) : Type 0 where
   pub even : IsEven m.area
   pub wide : (2 ≤ m.area.w) × (m.area.w ≤ 64)
@@ -42,6 +49,7 @@ pub record IsModule (g : Setting) (m : ModuleLines) : Type 0 where
   pub few_borders : border_count m ≤ border_limit
   pub edge_lines : All (IsEdge g m.area (known g.circuit m)) (edges m)
   pub halo_lines : All (IsHalo g m.area (known g.circuit m)) (halos m)
+  pub stop_lines : All (IsStop g m.area (known g.circuit m)) (stops m)
 
 -- the wires of the ports in the module's box are local
 pub record HasPorts (g : Setting) (m : ModuleLines) : Type 0 where

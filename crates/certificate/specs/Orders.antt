@@ -6,7 +6,7 @@ use Rattle.std.specs.Ordering.{nat_cmp, ordering_then, is_lt}
 use Rattle.bbm_rule.specs.declared.block.Cell.{Cell}
 use Rattle.module_box.specs.Moments.{cell_cmp}
 use Rattle.certificate.specs.declared.entry.Entry.{Entry}
-use Rattle.certificate.specs.declared.entry.Entry.TheVariants.{Module, Cut, Use, Edge, Halo}
+use Rattle.certificate.specs.declared.entry.Entry.TheVariants.{Module, Cut, Use, Edge, Halo, Stop}
 
 -- the order of the kinds of line
 unfoldable pub rank_of : Entry → ℕ
@@ -15,30 +15,33 @@ rank_of (Cut n) = 1
 rank_of (Use k) = 2
 rank_of (Edge e) = 3
 rank_of (Halo e) = 4
+rank_of (Stop s) = 5
 
 -- a `*` comes before all times
 abbrev pub time_rank : Option ℕ → ℕ
 time_rank None = 0
 time_rank (Some t) = t + 1
 
--- within a kind the number of the gate, or the time of the border line, comes first
+-- within a kind the number of the gate, or the time of the line, comes first
 unfoldable pub number_of : Entry → ℕ
 number_of (Module b) = 0
 number_of (Cut n) = 0
 number_of (Use k) = k
 number_of (Edge e) = time_rank e.time
 number_of (Halo e) = time_rank e.time
+number_of (Stop s) = s.time
 
 abbrev pub origin : Cell
 origin = record { x = pos 0; y = pos 0 }
 
--- then the cell of the border line
+-- then the cell of the line
 unfoldable pub cell_of : Entry → Cell
 cell_of (Module b) = origin
 cell_of (Cut n) = origin
 cell_of (Use k) = origin
 cell_of (Edge e) = e.cell
 cell_of (Halo e) = e.cell
+cell_of (Stop s) = s.cell
 
 -- by kind, then by number or time, then by y and x
 unfoldable pub line_cmp : Entry → Entry → Ordering
@@ -52,6 +55,7 @@ is_cut (Cut n) = true
 is_cut (Use k) = false
 is_cut (Edge e) = false
 is_cut (Halo e) = false
+is_cut (Stop s) = false
 
 -- whether the first line may stand before the second in a module: the cuts come in any order
 unfoldable pub may_precede : Entry → Entry → Bool

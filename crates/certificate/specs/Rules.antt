@@ -14,8 +14,9 @@ use Rattle.module_box.specs.Tiling.{rectangle_of}
 use Rattle.module_box.specs.declared.boxes.Box2.{Box2}
 use Rattle.certificate.specs.declared.entry.Border.{Border}
 use Rattle.certificate.specs.declared.entry.Entry.{Entry}
-use Rattle.certificate.specs.declared.entry.Entry.TheVariants.{Module, Cut, Use, Edge, Halo}
-use Rattle.certificate.specs.Entries.{Setting, ModuleLines, modules_of, present, areas, cuts, gates, edges, halos, known}
+use Rattle.certificate.specs.declared.entry.StopLine.{StopLine}
+use Rattle.certificate.specs.declared.entry.Entry.TheVariants.{Module, Cut, Use, Edge, Halo, Stop}
+use Rattle.certificate.specs.Entries.{Setting, ModuleLines, modules_of, present, areas, cuts, gates, edges, halos, stops, known}
 use Rattle.certificate.specs.Orders.{may_follow}
 
 -- the whole rectangle of the layout
@@ -99,7 +100,7 @@ gate_fault local (Some gate) =
 unfoldable pub use_fault : Circuit → ℕ → List ℕ → ℕ → Option ℕ
 use_fault c count local k = or_else (code_where (nat_le use_limit count) past_limit) (gate_fault local (slice_get c.netlist.gates k))
 
--- ---- an edge or halo line: 2, 10, 3, 9
+-- ---- an edge, halo or stop line: 2, 10, 3, 9
 
 abbrev pub is_star : Option ℕ → Bool
 is_star None = true
@@ -125,6 +126,10 @@ is_edge_place s area starred e = in_ring area e.cell.x e.cell.y && not (in_ring 
 unfoldable pub is_halo_place : Extent → Box2 → Bool → Border → Bool
 is_halo_place s area starred e = in_halo area e.cell.x e.cell.y && in_box (whole s) e.cell.x e.cell.y && is_time s.steps starred e.time
 
+-- a stop stands in the box, at a time up to the last one
+unfoldable pub is_stop_place : Size → Box2 → StopLine → Bool
+is_stop_place size area s = in_box area s.cell.x s.cell.y && nat_le s.time size.steps
+
 -- a signal is `1`, or a wire of the circuit, 3, that is local, 9
 abbrev pub wire_fault : List ℕ → Option ℕ → Option ℕ
 wire_fault local None = Some unknown_name
@@ -134,11 +139,11 @@ unfoldable pub signal_fault : Circuit → List ℕ → Option (List ℕ) → Opt
 signal_fault c local None = None
 signal_fault c local (Some name) = wire_fault local (wire_of c name)
 
--- the most edge and halo lines of a module
+-- the most edge, halo and stop lines of a module
 abbrev pub border_limit : ℕ
 border_limit = 65536
 
--- so many edge and halo lines come before it; `placed` says whether it may stand at its cell and time
+-- so many of these lines come before it; `placed` says whether it may stand at its cell and time
 unfoldable pub border_fault : Circuit → ℕ → List ℕ → Bool → Option (List ℕ) → Option ℕ
 border_fault c count local placed signal =
     or_else (code_where (nat_le border_limit count) past_limit) (or_else (code_where (not placed) no_place) (signal_fault c local signal))
@@ -146,7 +151,7 @@ border_fault c count local placed signal =
 -- ---- a line after the lines before it
 
 abbrev pub border_count : ModuleLines → ℕ
-border_count m = length (edges m) + length (halos m)
+border_count m = length (edges m) + length (halos m) + length (stops m)
 
 abbrev pub edge_fault : Setting → ModuleLines → Border → Option ℕ
 edge_fault g m e = border_fault g.circuit (border_count m) (known g.circuit m) (is_edge_place g.size m.area (list_any (is_starred e.cell) (edges m)) e) e.signal
@@ -154,12 +159,16 @@ edge_fault g m e = border_fault g.circuit (border_count m) (known g.circuit m) (
 abbrev pub halo_fault : Setting → ModuleLines → Border → Option ℕ
 halo_fault g m e = border_fault g.circuit (border_count m) (known g.circuit m) (is_halo_place g.size m.area (list_any (is_starred e.cell) (halos m)) e) e.signal
 
+abbrev pub stop_fault : Setting → ModuleLines → StopLine → Option ℕ
+stop_fault g m s = border_fault g.circuit (border_count m) (known g.circuit m) (is_stop_place g.size m.area s) (Some s.wire)
+
 abbrev pub words_fault : Setting → ModuleLines → Entry → Option ℕ
 words_fault g m (Module b) = None
 words_fault g m (Cut n) = cut_fault g.circuit (length (cuts m)) (known g.circuit m) n
 words_fault g m (Use k) = use_fault g.circuit (length (gates m)) (known g.circuit m) k
 words_fault g m (Edge e) = edge_fault g m e
 words_fault g m (Halo e) = halo_fault g m e
+words_fault g m (Stop s) = stop_fault g m s
 
 -- a line of a module after those before it: its order first, 6
 abbrev pub line_fault : Setting → ModuleLines → Entry → Option ℕ
@@ -177,6 +186,7 @@ entry_fault g before (Cut n) = inner_fault g (present before) (Cut n)
 entry_fault g before (Use k) = inner_fault g (present before) (Use k)
 entry_fault g before (Edge e) = inner_fault g (present before) (Edge e)
 entry_fault g before (Halo e) = inner_fault g (present before) (Halo e)
+entry_fault g before (Stop s) = inner_fault g (present before) (Stop s)
 
 -- ---- the end
 

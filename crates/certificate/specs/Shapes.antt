@@ -30,6 +30,10 @@ moved_stop dx dy s = record { at = record { time = s.at.time; cell = moved_cell 
 abbrev pub from_corner : Box2 → Signals → Signals
 from_corner b s = moved_signals (pos b.x) (pos b.y) s
 
+-- and stops likewise
+abbrev pub stops_from_corner : Box2 → List Stop → List Stop
+stops_from_corner b ss = map (moved_stop (pos b.x) (pos b.y)) ss
+
 -- as far as n, but the other way
 abbrev pub back : ℕ → ℤ
 back n = pos 0 -ℤ pos n

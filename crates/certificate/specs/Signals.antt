@@ -8,6 +8,7 @@ use Rattle.module_box.specs.declared.schedules.Signal.{Signal}
 use Rattle.module_box.specs.declared.schedules.Signal.TheVariants.{Zero, One, Wire}
 use Rattle.certificate.specs.declared.job.Demand.{Demand}
 use Rattle.certificate.specs.declared.job.Demand.TheVariants as Demanded
+use Rattle.certificate.specs.declared.job.Stop.{Stop}
 
 -- whether a cell that carries the signal is live, where the wires have these values
 abbrev pub is_live : Valuation → Signal → Bool
@@ -53,6 +54,9 @@ renumber_held f h = record h { signal = renumber_signal f h.signal }
 
 abbrev pub renumber_event : (ℕ → ℕ) → Event → Event
 renumber_event f e = record e { signal = renumber_signal f e.signal }
+
+abbrev pub renumber_stop : (ℕ → ℕ) → Stop → Stop
+renumber_stop f s = record s { wire = f s.wire }
 
 abbrev pub renumber_signals : (ℕ → ℕ) → Signals → Signals
 renumber_signals f s = record { held = map (renumber_held f) s.held; events = map (renumber_event f) s.events }

@@ -8,7 +8,8 @@ use Rattle.pattern.specs.Text.{cell_words}
 use Rattle.module_box.specs.declared.boxes.Box2.{Box2}
 use Rattle.certificate.specs.declared.entry.Border.{Border}
 use Rattle.certificate.specs.declared.entry.Entry.{Entry}
-use Rattle.certificate.specs.declared.entry.Entry.TheVariants.{Module, Cut, Use, Edge, Halo}
+use Rattle.certificate.specs.declared.entry.StopLine.{StopLine}
+use Rattle.certificate.specs.declared.entry.Entry.TheVariants.{Module, Cut, Use, Edge, Halo, Stop}
 use Rattle.certificate.specs.Forms.{Line}
 use Rattle.certificate.specs.Grammars.{CertState}
 
@@ -28,12 +29,16 @@ signal_word (Some name) = name
 abbrev pub border_words : Border → List (List ℕ)
 border_words e = time_word e.time ∷ (cell_words e.cell ++ signal_word e.signal ∷ [])
 
+abbrev pub stop_words : StopLine → List (List ℕ)
+stop_words s = decimal s.time ∷ s.wire ∷ cell_words s.cell
+
 abbrev pub entry_text : Entry → List ℕ
 entry_text (Module b) = line_text (codes "module") (area_words b)
 entry_text (Cut name) = line_text (codes "cut") (name ∷ [])
 entry_text (Use number) = line_text (codes "use") (decimal number ∷ [])
 entry_text (Edge e) = line_text (codes "edge") (border_words e)
 entry_text (Halo e) = line_text (codes "halo") (border_words e)
+entry_text (Stop s) = line_text (codes "stop") (stop_words s)
 
 -- the text of a line, by its form
 abbrev pub form_text : Line → List ℕ

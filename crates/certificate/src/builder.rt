@@ -7,15 +7,15 @@ ghost use Rattle.certificate.specs.Entries.{ModuleLines, counts_of, modules_of, 
 ghost use Rattle.certificate.specs.Rules.{entry_fault, end_fault, box_fault, module_fault, inner_fault, words_fault, is_incomplete, is_local, leaves_gap, box_cells};
 ghost use Rattle.module_box.specs.Boxes.{in_box};
 ghost use Rattle.certificate.specs.BuilderView.{BuilderState, IsSmall};
-ghost use Rattle.certificate.specs.declared.entry.Entry.TheVariants.{Module, Cut, Use, Edge, Halo};
+ghost use Rattle.certificate.specs.declared.entry.Entry.TheVariants.{Module, Cut, Use, Edge, Halo, Stop};
 
 use crate::counts::{count_in_last, last_counts, push_entry};
-use crate::entry::{Border, Counts, Entry};
+use crate::entry::{Border, Counts, Entry, StopLine};
 use crate::known::{learn, learn_all};
 use crate::order::does_follow;
 use crate::rules::{
     border_code, cut_code, is_bad_place, is_bad_side, is_local_name, may_be_edge, may_be_halo,
-    use_code,
+    may_be_stop, use_code,
 };
 use crate::site::Site;
 use crate::stars::{has_star, note_star};
@@ -99,7 +99,7 @@ impl<'a> Builder<'a> {
         ensures { (m : ModuleLines) → present self.now.entries ≡ Some m → counts ≡ counts_of m → result ≡ words_fault self.now.setting m entry.now }
     {
         let size = self.site.size();
-        let borders = counts.edges + counts.halos;
+        let borders = counts.edges + counts.halos + counts.stops;
         match entry {
             Entry::Module(_) => None,
             Entry::Cut(name) => cut_code(&self.site, counts.cuts, &self.known, name),
@@ -113,6 +113,10 @@ impl<'a> Builder<'a> {
                 let starred = has_star(&self.halos, border.cell);
                 let placed = may_be_halo(size, counts.area, starred, border);
                 border_code(&self.site, borders, &self.known, placed, border.signal)
+            }
+            Entry::Stop(stop) => {
+                let placed = may_be_stop(size, counts.area, stop);
+                border_code(&self.site, borders, &self.known, placed, Some(stop.wire))
             }
         }
     }
@@ -205,6 +209,20 @@ impl<'a> Builder<'a> {
         }
         push_entry(&mut self.entries, entry)?;
         note_star(&mut self.halos, &border);
+        count_in_last(&mut self.modules, &entry);
+        self.last = Some(entry);
+        Ok(())
+    }
+
+    fn add_stop(&mut self, stop: StopLine) -> Result<(), LineFault>
+        ensures ok { OnOk result ((inner_fault self.old.setting (present self.old.entries) (Stop stop) ≡ None) × (self.new ≡ record self.old { entries = self.old.entries ++ Stop stop ∷ [] })) }
+        ensures fault { IfErr result (λ e. FaultIs e (inner_fault self.old.setting (present self.old.entries) (Stop stop))) }
+    {
+        let entry = Entry::Stop(stop);
+        if let Some(code) = self.inner_code(&entry) {
+            return Err(LineFault::Code(code));
+        }
+        push_entry(&mut self.entries, entry)?;
         count_in_last(&mut self.modules, &entry);
         self.last = Some(entry);
         Ok(())
@@ -307,6 +325,7 @@ impl<'a> Builder<'a> {
             Entry::Use(number) => self.add_use(number),
             Entry::Edge(border) => self.add_edge(border),
             Entry::Halo(border) => self.add_halo(border),
+            Entry::Stop(stop) => self.add_stop(stop),
         }
     }
 

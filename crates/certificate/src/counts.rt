@@ -5,7 +5,7 @@ ghost use Rattle.certificate.specs.Entries.{change_last, last_of};
 ghost use Rattle.certificate.specs.BuilderView.{counted, IsSmall};
 ghost use Rattle.certificate.specs.declared.entry.Counts.{Counts};
 
-use crate::entry::{Border, Counts, Entry};
+use crate::entry::{Border, Counts, Entry, StopLine};
 use section_text::{LineFault, Name};
 
 // One more line of a module.
@@ -21,6 +21,7 @@ fn count_line(counts: Counts, entry: &Entry) -> Counts
         Entry::Use(_) => counts.gates += 1,
         Entry::Edge(_) => counts.edges += 1,
         Entry::Halo(_) => counts.halos += 1,
+        Entry::Stop(_) => counts.stops += 1,
     }
     counts
 }
@@ -44,11 +45,18 @@ pub(crate) fn count_in_last(modules: &mut Vec<Counts>, entry: &Entry)
     modules[at] = count_line(modules[at], entry);
 }
 
-// These two name the types inside an entry, which the borrow checker wants to see where an entry is moved.
+// These three name the types inside an entry, which the borrow checker wants to see where an entry is moved.
 fn border_of(entry: &Entry) -> Option<Border> {
     match entry {
         Entry::Edge(border) => Some(*border),
         Entry::Halo(border) => Some(*border),
+        _ => None,
+    }
+}
+
+fn stop_of(entry: &Entry) -> Option<StopLine> {
+    match entry {
+        Entry::Stop(stop) => Some(*stop),
         _ => None,
     }
 }
@@ -65,6 +73,7 @@ pub(crate) fn push_entry(entries: &mut Vec<Entry>, entry: Entry) -> Result<(), L
 {
     let border = border_of(&entry);
     let _signal = signal_of(border);
+    let _stop = stop_of(&entry);
     match entries.push(entry) {
         Ok(()) => Ok(()),
         Err(_) => Err(LineFault::Memory),

@@ -14,6 +14,14 @@ pub struct Border {
     pub signal: Option<Name>,
 }
 
+/// A stop: a time, and a cell that is live then exactly where the wire of this name is true.
+#[derive(Clone, Copy)]
+pub struct StopLine {
+    pub time: u32,
+    pub wire: Name,
+    pub cell: Cell,
+}
+
 /// A line between the header and the end.
 #[derive(Clone, Copy)]
 pub enum Entry {
@@ -27,6 +35,8 @@ pub enum Entry {
     Edge(Border),
     /// What a cell of the box's halo carries.
     Halo(Border),
+    /// When a cell of the box is as a wire.
+    Stop(StopLine),
 }
 
 /// A module's box, and how many lines of each kind the module has.
@@ -37,7 +47,6 @@ pub struct Counts {
     pub gates: usize,
     pub edges: usize,
     pub halos: usize,
-    /// Lines of this kind are not read yet.
     pub stops: usize,
 }
 

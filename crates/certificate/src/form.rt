@@ -2,10 +2,10 @@
 ghost use Rattle.std.specs.Prelude.{◌≡◌, ◌+◌, ◌≤◌};
 ghost use Rattle.section_text.specs.Words.{words_of, lone};
 ghost use Rattle.section_text.specs.FeedState.{IsLine, line_bytes};
-ghost use Rattle.certificate.specs.Forms.{Line as FormLine, corner_and_sides, area_of, border_of, form_of};
-ghost use Rattle.certificate.specs.BorderWords.{border_by, cell_by, signal_by, time_by};
+ghost use Rattle.certificate.specs.Forms.{Line as FormLine, corner_and_sides, area_of, border_of, form_of, stop_of};
+ghost use Rattle.certificate.specs.BorderWords.{border_by, cell_by, signal_by, stop_by, time_by};
 
-use crate::entry::{Border, Entry};
+use crate::entry::{Border, Entry, StopLine};
 use bbm_rule::Cell;
 use module_box::Box2;
 use section_text::{Feed, FiveWords, Form, Line, Name, read_number};
@@ -85,6 +85,26 @@ fn border_in(feed: &Feed, line: &Line) -> Option<Border>
     border_of_words(&words)
 }
 
+#[tactic(auto, unfolding(crate::specs::BorderWords::stop_by))]
+fn stop_of_words(words: &FiveWords) -> Option<StopLine>
+    ensures { result ≡ stop_by words.now.second.now words.now.third.now words.now.fourth.now words.now.fifth.now }
+{
+    let time = read_number(words.second)?;
+    let wire = Name::of(words.third)?;
+    let cell = cell_of(words.fourth, words.fifth)?;
+    Some(StopLine { time, wire, cell })
+}
+
+fn stop_in(feed: &Feed, line: &Line) -> Option<StopLine>
+    requires { IsLine feed.now line.now }
+    ensures { result ≡ stop_of (words_of (line_bytes feed.now line.now)) }
+{
+    let Some(words) = feed.five_words(line) else {
+        return None;
+    };
+    stop_of_words(&words)
+}
+
 #[tactic(auto, unfolding(section_text::specs::Words::lone))]
 fn end_in(feed: &Feed, line: &Line) -> Option<Form<u32, Entry>>
     requires { IsLine feed.now line.now }
@@ -107,6 +127,8 @@ pub(crate) fn line_form(feed: &Feed, line: &Line) -> Option<Form<u32, Entry>>
         Some(Form::Item(Entry::Edge(border_in(feed, line)?)))
     } else if feed.is(line, 0, b"halo") {
         Some(Form::Item(Entry::Halo(border_in(feed, line)?)))
+    } else if feed.is(line, 0, b"stop") {
+        Some(Form::Item(Entry::Stop(stop_in(feed, line)?)))
     } else if feed.is(line, 0, b"cut") {
         Some(Form::Item(Entry::Cut(feed.lone_name(line)?)))
     } else if feed.is(line, 0, b"use") {

@@ -10,6 +10,7 @@ ghost use Rattle.certificate.specs.Jobs.{IsJob, job_demand, job_start, place_in}
 ghost use Rattle.certificate.specs.Shapes.{back, shape_of};
 
 use crate::shape::Shape;
+use crate::stops::moved_stop;
 use bbm_rule::Cell;
 use circuit::{GateNo, WireNo};
 use indexmap::IndexSet;
@@ -30,7 +31,7 @@ pub enum Demand {
     Any,
 }
 
-/// A cell and a time at which it is to be live exactly where a wire is true. Lines of this kind are not read yet.
+/// A cell and a time at which it is to be live exactly where a wire is true.
 #[derive(Clone, Copy, Debug, PartialEq, Eq)]
 pub struct Stop {
     pub at: Moment,
@@ -38,7 +39,7 @@ pub struct Stop {
 }
 
 /// All that the run of a module by itself needs: its box, the steps, the wires and gates that it knows, what the cells of the box
-/// carry at time 0 and what they are to be at the last time, and what the cells of ring and halo carry at odd times. Contracts
+/// carry at time 0 and what they are to be at the last time, what the cells of ring and halo carry at odd times, and its stops. Contracts
 /// see it as a `JobState`; each wire that it names is one of its own.
 // It is kept as the corner of its box, the circuit's numbers of its wires and gates, and its shape, in which the corner is (0, 0).
 #[derive(Drop)]
@@ -210,5 +211,21 @@ impl Job {
     {
         let event = self.shape.halos().events()[place];
         moved_event(event, forth(self.x), forth(self.y))
+    }
+
+    /// How many stops there are.
+    pub fn stops(&self) -> usize
+        ensures { result ≡ length self.now.stops }
+    {
+        self.shape.stops().len()
+    }
+
+    /// One of the stops, in the order of time, y and x: each is at a time up to the last one, at a cell of the box.
+    pub fn stop(&self, place: usize) -> Stop
+        requires { place < length self.now.stops }
+        ensures { slice_get self.now.stops place ≡ Some result }
+    {
+        let stop = self.shape.stops()[place];
+        moved_stop(stop, forth(self.x), forth(self.y))
     }
 }

@@ -8,22 +8,25 @@ ghost use Rattle.circuit.specs.Meaning.{wire_of, wires};
 ghost use Rattle.module_box.specs.Boxes.{in_box};
 ghost use Rattle.module_box.specs.Locals.{AreLocalLines, AreLocalsOf, circuit_wire, local_wires};
 ghost use Rattle.module_box.specs.Moves.{IsNear};
-ghost use Rattle.certificate.specs.Entries.{cut_in, modules_of, use_in};
+ghost use Rattle.certificate.specs.Entries.{cut_in, modules_of, stop_in, use_in};
 ghost use Rattle.certificate.specs.Grammars.{setting_of};
 ghost use Rattle.certificate.specs.Jobs.{AreJobsOf, IsJobOf, end_demand, line_signals, place_in, start_signal};
 ghost use Rattle.certificate.specs.Modules.{AreModules, HasPorts, IsModule};
 ghost use Rattle.certificate.specs.Orders.{AreInOrder};
 ghost use Rattle.certificate.specs.PlanView.{KnowsPorts};
-ghost use Rattle.certificate.specs.Shapes.{from_corner};
+ghost use Rattle.certificate.specs.Rules.{is_local};
+ghost use Rattle.certificate.specs.Shapes.{from_corner, stops_from_corner};
 ghost use Rattle.certificate.specs.Signals.{IsBelow, IsDemandBelow, renumber_demand, renumber_signal, renumber_signals};
+ghost use Rattle.certificate.specs.StopLists.{AreStops};
 ghost use Rattle.certificate.specs.Timetables.{IsLow, IsNamedLocal, borders_in};
 
 use crate::cert::Cert;
 use crate::entry::Entry;
-use crate::job::{Demand, Job, back};
+use crate::job::{Demand, Job, Stop, back};
 use crate::lines::{cut_list, inner_lines, used_gates};
 use crate::plan::Plan;
 use crate::shape::Shape;
+use crate::stops::{moved_stops, stops_of};
 use crate::timetable::{Side, signals_of};
 use circuit::Circuit;
 use module_box::{Box2, Locals, Schedule, Signal};
@@ -116,6 +119,24 @@ fn schedules(
     Ok((edges, halos))
 }
 
+// The stops of a module's lines, where the corner of its box is at (0, 0).
+fn own_stops(
+    alloc: Global,
+    circuit: &Circuit,
+    locals: &Locals,
+    area: Box2,
+    lines: &[Entry],
+) -> Result<Vec<Stop>, AllocError>
+    requires local { All (λ s. IsTrue (is_local (circuit_of circuit.now) locals.now.circuit_wires s.wire)) (flat_map stop_in lines.now) }
+    requires low { All (λ s. IsLow s.cell) (flat_map stop_in lines.now) }
+    requires corner { (area.x ≤ 512) × (area.y ≤ 512) }
+    ensures said { IfOk result (λ stops. AreStops (circuit_of circuit.now) locals.now (flat_map stop_in lines.now) (stops_from_corner area stops.items)) }
+    ensures near { IfOk result (λ stops. All (λ s. IsNear s.at.cell) stops.items) }
+{
+    let stops = stops_of(alloc, circuit, locals, lines)?;
+    moved_stops(alloc, stops.as_slice(), back(area.x), back(area.y))
+}
+
 // The job of the module that has this box and these lines.
 fn make_job(alloc: Global, plan: &Plan, area: Box2, lines: &[Entry]) -> Result<Job, AllocError>
     requires module { IsModule (setting_of plan.now.circuit plan.now.layout) (record { area = area; lines = lines.now }) }
@@ -127,6 +148,7 @@ fn make_job(alloc: Global, plan: &Plan, area: Box2, lines: &[Entry]) -> Result<J
     let locals = named_locals(alloc, circuit, lines)?;
     let (starts, demands) = cell_lists(alloc, plan, area, &locals)?;
     let (edges, halos) = schedules(alloc, circuit, &locals, area, lines)?;
+    let stops = own_stops(alloc, circuit, &locals, area, lines)?;
     let (wiring, wires, gates) = locals.into_parts();
     let shape = Shape {
         width: area.w,
@@ -137,7 +159,7 @@ fn make_job(alloc: Global, plan: &Plan, area: Box2, lines: &[Entry]) -> Result<J
         demands,
         edges,
         halos,
-        stops: Vec::new(alloc),
+        stops,
     };
     Ok(Job {
         x: area.x,

@@ -1,6 +1,6 @@
 //! Laws of the definitions, each the contract of a function without a body.
 ghost use Rattle.certificate.specs.Keys.{BytesTellNumbers, NumbersTellShapes};
-ghost use Rattle.certificate.specs.Laws.{JobEqualityDecides, PrintsWhatIsRead, ReadsWhatIsPrinted, ShapeEqualityDecides, ShapesAreParts};
+ghost use Rattle.certificate.specs.Laws.{FirstIsLeast, JobEqualityDecides, LastIsGreatest, PrintsWhatIsRead, ReadsWhatIsPrinted, ShapeEqualityDecides, ShapesAreParts};
 
 /// The text of a certificate that is read is the text of the lines that it is read from, and it is read as the same
 /// certificate again.
@@ -25,4 +25,10 @@ pub fn shapes_are_parts()
 pub fn keys_tell_shapes()
     ensures numbers { NumbersTellShapes }
     ensures bytes { BytesTellNumbers }
+{}
+
+/// The first time at which stops see a wire is the least of their times, and the last one the greatest.
+pub fn seen_first_and_last()
+    ensures first { FirstIsLeast }
+    ensures last { LastIsGreatest }
 {}

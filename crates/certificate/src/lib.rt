@@ -27,13 +27,16 @@ mod rules;
 mod shape;
 mod site;
 mod stars;
+mod stops;
 mod tiles;
+mod times;
 mod timetable;
 
 pub use cert::Cert;
-pub use entry::{Border, Counts, Entry};
+pub use entry::{Border, Counts, Entry, StopLine};
 pub use groups::{job_groups, shape_groups};
 pub use job::{Demand, Job, Stop};
 pub use printing::print_certificate;
 pub use reading::read_certificate;
 pub use shape::Shape;
+pub use times::{Gap, TimeLine};

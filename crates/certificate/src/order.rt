@@ -19,6 +19,7 @@ fn rank(entry: &Entry) -> u8
         Entry::Use(_) => 2,
         Entry::Edge(_) => 3,
         Entry::Halo(_) => 4,
+        Entry::Stop(_) => 5,
     }
 }
 
@@ -32,7 +33,7 @@ fn rank_of_time(time: Option<u32>) -> u64
     }
 }
 
-// The number of a gate, or the place of a border line's time.
+// The number of a gate, the place of a border line's time, or the time of a stop.
 #[tactic(auto, unfolding(crate::specs::Orders::number_of))]
 fn number(entry: &Entry) -> u64
     ensures { result ≡ number_of entry.now }
@@ -43,10 +44,11 @@ fn number(entry: &Entry) -> u64
         Entry::Use(gate) => u64::from(*gate),
         Entry::Edge(border) => rank_of_time(border.time),
         Entry::Halo(border) => rank_of_time(border.time),
+        Entry::Stop(stop) => u64::from(stop.time),
     }
 }
 
-// The cell of a border line.
+// The cell of a border line or of a stop.
 #[tactic(auto, unfolding(crate::specs::Orders::cell_of))]
 fn cell(entry: &Entry) -> Cell
     ensures { result ≡ cell_of entry.now }
@@ -54,6 +56,7 @@ fn cell(entry: &Entry) -> Cell
     match entry {
         Entry::Edge(border) => border.cell,
         Entry::Halo(border) => border.cell,
+        Entry::Stop(stop) => stop.cell,
         Entry::Module(_) => Cell { x: 0, y: 0 },
         Entry::Cut(_) => Cell { x: 0, y: 0 },
         Entry::Use(_) => Cell { x: 0, y: 0 },

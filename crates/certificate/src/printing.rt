@@ -3,10 +3,10 @@ ghost use Rattle.std.specs.Prelude.{◌≡◌, ◌++◌, [], ◌∷◌, OnOk, If
 ghost use Rattle.std.specs.List.{flat_map};
 ghost use Rattle.std.specs.Fmt.{decimal};
 ghost use Rattle.section_text.specs.Spelling.{spaced, line_text};
-ghost use Rattle.certificate.specs.Text.{area_words, time_word, signal_word, border_words, entry_text, certificate_text};
+ghost use Rattle.certificate.specs.Text.{area_words, time_word, signal_word, border_words, entry_text, stop_words, certificate_text};
 
 use crate::cert::Cert;
-use crate::entry::{Border, Entry};
+use crate::entry::{Border, Entry, StopLine};
 use module_box::Box2;
 use pattern::print_cell;
 use section_text::{Name, print_number, print_word};
@@ -87,6 +87,17 @@ fn print_border(
     Ok(())
 }
 
+fn print_stop(alloc: Global, out: &mut Vec<u8>, stop: &StopLine) -> Result<(), AllocError>
+    ensures { OnOk result (out.new.items ≡ out.old.items ++ line_text (codes "stop") (stop_words stop.now)) }
+{
+    out.extend_from_slice(b"stop")?;
+    print_number(alloc, out, stop.time)?;
+    print_word(out, stop.wire.bytes())?;
+    print_cell(alloc, out, stop.cell)?;
+    out.push(b'\n')?;
+    Ok(())
+}
+
 fn print_entry(alloc: Global, out: &mut Vec<u8>, entry: &Entry) -> Result<(), AllocError>
     ensures { OnOk result (out.new.items ≡ out.old.items ++ entry_text entry.now) }
 {
@@ -96,6 +107,7 @@ fn print_entry(alloc: Global, out: &mut Vec<u8>, entry: &Entry) -> Result<(), Al
         Entry::Use(number) => print_use(alloc, out, *number),
         Entry::Edge(border) => print_border(alloc, out, b"edge", border),
         Entry::Halo(border) => print_border(alloc, out, b"halo", border),
+        Entry::Stop(stop) => print_stop(alloc, out, stop),
     }
 }
 

@@ -84,12 +84,12 @@ fn begin_reading<'a>(
 /// - 11: it is `module` or `end`, and a port in the box of the module before it has a wire that is not local there; or it is
 ///   `end`, and some cell of the rectangle lies in no box;
 /// - 2: the version is not 1, a side of a box is odd or not 2 to 64, or there are more than 1024 modules, ten cuts, 64 used
-///   gates, or 65,536 edge and halo lines of a module;
+///   gates, or 65,536 edge, halo and stop lines of a module;
 /// - 8: a box has an odd corner, or a cell outside the rectangle or in an earlier box;
-/// - 10: an edge or halo line may not stand at its cell or time;
+/// - 10: an edge, halo or stop line may not stand at its cell or time;
 /// - 3: there is no wire of this name, or no gate of this number;
 /// - 4: a wire that is cut, or an output of a gate that is used, is local already;
-/// - 9: the wire of a signal, or an input of a gate that is used, is not local.
+/// - 9: the wire of a signal or a stop, or an input of a gate that is used, is not local.
 ///
 /// After an error the feed answers it for good.
 pub fn read_certificate<'a>(

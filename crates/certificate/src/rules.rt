@@ -4,9 +4,9 @@ ghost use Rattle.std.specs.List.{list_all};
 ghost use Rattle.circuit.specs.Meaning.{wire_of};
 ghost use Rattle.circuit.specs.Wiring.{gate_of};
 ghost use Rattle.module_box.specs.Locals.{is_among};
-ghost use Rattle.certificate.specs.Rules.{is_wrong_side, is_misplaced, is_odd, whole, is_local, is_local_wire, are_new, cut_fault, cut_wire_fault, gate_fault, use_fault, is_time, is_edge_place, is_halo_place, signal_fault, wire_fault, border_fault};
+ghost use Rattle.certificate.specs.Rules.{is_wrong_side, is_misplaced, is_odd, whole, is_local, is_local_wire, are_new, cut_fault, cut_wire_fault, gate_fault, use_fault, is_time, is_edge_place, is_halo_place, is_stop_place, signal_fault, wire_fault, border_fault};
 
-use crate::entry::Border;
+use crate::entry::{Border, StopLine};
 use crate::known::{are_all_new, knows, knows_all};
 use crate::site::Site;
 use indexmap::IndexSet;
@@ -14,7 +14,7 @@ use module_box::Box2;
 use pattern::Extent;
 use section_text::Name;
 
-// The most cuts of a module, the most gates that it uses, and the most edge and halo lines.
+// The most cuts of a module, the most gates that it uses, and the most edge, halo and stop lines.
 const CUTS: usize = 10;
 
 const GATES: usize = 64;
@@ -114,7 +114,7 @@ fn signal_code(site: &Site, known: &IndexSet<u16>, signal: Option<Name>) -> Opti
     }
 }
 
-/// The code of an edge or halo line, where so many stand before it, and `placed` says whether it may stand at its cell and
+/// The code of an edge, halo or stop line, where so many stand before it, and `placed` says whether it may stand at its cell and
 /// time.
 #[tactic(auto, unfolding(crate::specs::Rules::border_fault))]
 pub(crate) fn border_code(
@@ -166,4 +166,13 @@ pub(crate) fn may_be_halo(size: Extent, area: Box2, starred: bool, border: &Bord
     let inside = whole_of(size).holds(border.cell);
     let timed = is_good_time(size.steps, starred, border.time);
     in_halo & inside & timed
+}
+
+/// Whether a stop may stand at its cell and time.
+#[tactic(auto, unfolding(crate::specs::Rules::is_stop_place))]
+pub(crate) fn may_be_stop(size: Size, area: Box2, stop: &StopLine) -> bool
+    ensures { result ≡ is_stop_place size area stop.now }
+{
+    let inside = area.holds(stop.cell);
+    inside & (stop.time <= size.steps)
 }

@@ -86,4 +86,11 @@ impl Shape {
     {
         &self.halos
     }
+
+    /// The stops, in the order of time, y and x.
+    pub fn stops(&self) -> &[Stop]
+        ensures { result.now ≡ self.now.stops }
+    {
+        self.stops.as_slice()
+    }
 }

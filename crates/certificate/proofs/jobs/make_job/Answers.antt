@@ -1,23 +1,27 @@
-use Rattle.std.proofs.Common.{◌≡◌, ℕ, List, [], length, arith, sym, ap, subst, ◌∙◌, refl}
+use Rattle.std.proofs.Common.{◌≡◌, ◌≤◌, ℕ, List, length, true, get_or, arith, sym, ap, subst, ◌∙◌, refl}
 use Rattle.std.specs.Arc.{arc_value}
 use Rattle.std.specs.List.{All}
 use Rattle.circuit.specs.Bridge.{circuit_of, netlist_of}
 use Rattle.circuit.specs.Meaning.{Netlist, wires}
+use Rattle.module_box.specs.Boxes.{in_box}
 use Rattle.module_box.specs.Locals.{AreLocalsOf}
 use Rattle.module_box.specs.Moves.{IsNear}
 use Rattle.module_box.specs.Schedules.{Signals}
 use Rattle.module_box.specs.declared.boxes.Box2.{Box2}
 use Rattle.module_box.specs.declared.schedules.Signal.{Signal}
-use Rattle.certificate.specs.Entries.{ModuleLines, edges, halos}
+use Rattle.certificate.specs.Entries.{ModuleLines, edges, halos, stops}
 use Rattle.certificate.specs.Grammars.{setting_of}
-use Rattle.certificate.specs.Jobs.{IsJob, IsJobOf, line_signals}
-use Rattle.certificate.specs.Shapes.{ShapeState, placed}
+use Rattle.certificate.specs.Jobs.{IsJob, IsJobOf, line_signals, line_stops}
+use Rattle.certificate.specs.Rules.{is_local}
+use Rattle.certificate.specs.Shapes.{ShapeState, placed, stops_from_corner}
 use Rattle.certificate.specs.Timetables.{IsNamedLocal}
 use Rattle.certificate.specs.declared.job.Demand.{Demand}
+use Rattle.certificate.specs.declared.job.Stop.{Stop}
 use Rattle.certificate.proofs.BoxPlaces.{start_found, demand_found}
-use Rattle.certificate.proofs.JobLemmas.{within_512, edges_named, halos_named, lists_local, wires_known, cut_count, none_own}
-use Rattle.certificate.proofs.NearLines.{low_edges, low_halos}
+use Rattle.certificate.proofs.JobLemmas.{within_512, edges_named, halos_named, lists_local, wires_known, cut_count}
+use Rattle.certificate.proofs.NearLines.{low_edges, low_halos, low_stops}
 use Rattle.certificate.proofs.PlanLemmas.{locals_have_ports}
+use Rattle.certificate.proofs.StopLemmas.{stops_named, stops_rise, stops_stand}
 use Rattle.certificate.proofs.jobs.make_job.Goals as goal
 
 pub named_locals-requires : goal.named_locals-requires
@@ -81,9 +85,30 @@ schedules-requires-clause-corner c =
     let bottom = w.1 in
     (omega (arith, right), omega (arith, bottom))
 
+pub own_stops-requires-clause-local : goal.own_stops-requires-clause-local
+own_stops-requires-clause-local c =
+    let cs = c.args.plan.now.circuit in
+    let m : ModuleLines = record { area = c.args.area; lines = c.args.lines.now } in
+    let known_wires = wires_known _ cs m _ _ _ c.circuit-circuit.ensures refl refl c.in_ok-locals.ensures.wires in
+    subst (λ ls. All (λ s. is_local (circuit_of ls) c.in_ok-locals.locals.circuit_wires s.wire ≡ true) (stops m)) (sym c.circuit-circuit.ensures)
+    (stops_named (setting_of cs c.args.plan.now.layout) m c.in_ok-locals.locals known_wires c.requires.module)
+
+pub own_stops-requires-clause-low : goal.own_stops-requires-clause-low
+own_stops-requires-clause-low c =
+    low_stops (setting_of c.args.plan.now.circuit c.args.plan.now.layout) (record { area = c.args.area; lines = c.args.lines.now }) c.size-size.result
+    (c.size-size.ensures.size ∙ ap (λ p. p.size) c.layout.ensures) c.size-size.ensures.limits c.requires.module
+
+pub own_stops-requires-clause-corner : goal.own_stops-requires-clause-corner
+own_stops-requires-clause-corner c =
+    let w = within_512 (setting_of c.args.plan.now.circuit c.args.plan.now.layout) (record { area = c.args.area; lines = c.args.lines.now }) c.size-size.result
+    (c.size-size.ensures.size ∙ ap (λ p. p.size) c.layout.ensures) c.size-size.ensures.limits c.requires.module in
+    let right = w.0 in
+    let bottom = w.1 in
+    (omega (arith, right), omega (arith, bottom))
+
 -- the shape that is made
-abbrev shape_with : Box2 → ℕ → Netlist → List Signal → List Demand → Signals → Signals → ShapeState
-shape_with area steps netlist starts demands edges halos = record {
+abbrev shape_with : Box2 → ℕ → Netlist → List Signal → List Demand → Signals → Signals → List Stop → ShapeState
+shape_with area steps netlist starts demands edges halos stops = record {
   width = area.w;
   height = area.h;
   steps = steps;
@@ -92,7 +117,7 @@ shape_with area steps netlist starts demands edges halos = record {
   demands = demands;
   edges = edges;
   halos = halos;
-  stops = [];
+  stops = stops;
 }
 
 pub invariant_of-result : goal.invariant_of-result
@@ -101,10 +126,12 @@ invariant_of-result c =
     let limits = within_512 (setting_of c.args.plan.now.circuit c.args.plan.now.layout) (record { area = area; lines = c.args.lines.now }) c.size-size.result
     (c.size-size.ensures.size ∙ ap (λ p. p.size) c.layout.ensures) c.size-size.ensures.limits c.requires.module in
     let l = c.in_ok-locals.locals in
-    let s = shape_with area c.size-size.result.steps l.netlist c.in_ok-starts.starts.items c.in_ok-starts.demands.items c.in_ok-edges.edges c.in_ok-edges.halos in
-    let shape_is : arc_value c.in_ok-new.field-0 ≡ s = c.in_ok-new.ensures.ok ∙ (λ i. record s { netlist = c.into_parts-wiring.ensures.wiring i; stops = c.new.ensures.items i }) in
+    let s = shape_with area c.size-size.result.steps l.netlist c.in_ok-starts.starts.items c.in_ok-starts.demands.items c.in_ok-edges.edges c.in_ok-edges.halos c.in_ok-stops.stops.items in
+    let shape_is : arc_value c.in_ok-new.field-0 ≡ s = c.in_ok-new.ensures.ok ∙ (λ i. record s { netlist = c.into_parts-wiring.ensures.wiring i }) in
     let wires_are = c.into_parts-wiring.ensures.wires in
     let gates_are = c.into_parts-wiring.ensures.gates in
+    let m : ModuleLines = record { area = area; lines = c.args.lines.now } in
+    let placed_stops = stops_from_corner area c.in_ok-stops.stops.items in
     let job : IsJob (placed area.x area.y l.circuit_wires l.circuit_gates s) = record {
       even = c.requires.module.even;
       width = (c.requires.module.wide.0, c.requires.module.wide.1, limits.0);
@@ -117,15 +144,22 @@ invariant_of-result c =
         edge_events = c.in_ok-edges.ensures.edge_events;
         halo_held = c.in_ok-edges.ensures.halos_held;
         halo_events = c.in_ok-edges.ensures.halo_events;
-        stops = none_own _ [] refl;
+        stops = c.in_ok-stops.ensures.said.own;
       };
-      no_stops = refl;
+      stops = λ k d lt. record {
+        time = (stops_stand (λ q. q.time ≤ c.size-size.result.steps) _ l (stops m) placed_stops c.in_ok-stops.ensures.said
+            (λ i r below. subst (λ (n : ℕ). (get_or (stops m) i r).time ≤ n) (sym (ap (λ z. z.steps) (c.size-size.ensures.size ∙ ap (λ p. p.size) c.layout.ensures))) (c.requires.module.stop_lines i r below).time)) k d lt;
+        inside = (stops_stand (λ q. in_box area q.cell.x q.cell.y ≡ true) _ l (stops m) placed_stops c.in_ok-stops.ensures.said
+            (λ i r below. (c.requires.module.stop_lines i r below).inside)) k d lt;
+      };
+      stops_rise = stops_rise _ l c.args.lines.now placed_stops c.requires.module.order c.in_ok-stops.ensures.said;
     } in
     record {
       job = subst IsJob (sym (λ i. placed area.x area.y (wires_are i) (gates_are i) (shape_is i))) job;
       sized = ap length wires_are ∙ c.into_parts-wiring.ensures.sized ∙ ap (λ (t : ShapeState). wires t.netlist) (sym shape_is);
       near_edges = subst (λ (t : ShapeState). All (λ e. IsNear e.at.cell) t.edges.events) (sym shape_is) c.in_ok-edges.ensures.near_edges;
       near_halos = subst (λ (t : ShapeState). All (λ e. IsNear e.at.cell) t.halos.events) (sym shape_is) c.in_ok-edges.ensures.near_halos;
+      near_stops = subst (λ (t : ShapeState). All (λ e. IsNear e.at.cell) t.stops) (sym shape_is) c.in_ok-stops.ensures.near;
     }
 
 pub returns : goal.returns
@@ -136,8 +170,8 @@ returns c =
     let m : ModuleLines = record { area = area; lines = c.args.lines.now } in
     let l = c.in_ok-locals.locals in
     let circuit_is = c.circuit-circuit.ensures in
-    let s = shape_with area c.size-size.result.steps l.netlist c.in_ok-starts.starts.items c.in_ok-starts.demands.items c.in_ok-edges.edges c.in_ok-edges.halos in
-    let shape_is : arc_value c.in_ok-new.field-0 ≡ s = c.in_ok-new.ensures.ok ∙ (λ i. record s { netlist = c.into_parts-wiring.ensures.wiring i; stops = c.new.ensures.items i }) in
+    let s = shape_with area c.size-size.result.steps l.netlist c.in_ok-starts.starts.items c.in_ok-starts.demands.items c.in_ok-edges.edges c.in_ok-edges.halos c.in_ok-stops.stops.items in
+    let shape_is : arc_value c.in_ok-new.field-0 ≡ s = c.in_ok-new.ensures.ok ∙ (λ i. record s { netlist = c.into_parts-wiring.ensures.wiring i }) in
     let wires_are = c.into_parts-wiring.ensures.wires in
     let gates_are = c.into_parts-wiring.ensures.gates in
     let j = placed area.x area.y l.circuit_wires l.circuit_gates s in
@@ -159,8 +193,8 @@ returns c =
         edge_events = c.in_ok-edges.ensures.edge_events;
         halo_held = c.in_ok-edges.ensures.halos_held;
         halo_events = c.in_ok-edges.ensures.halo_events;
-        stops = none_own _ [] refl;
+        stops = c.in_ok-stops.ensures.said.own;
       };
-      stops = refl;
+      stops = c.in_ok-stops.ensures.said.same ∙ ap (λ ls. line_stops (circuit_of ls) (stops m)) circuit_is;
     } in
     subst (IsJobOf (circuit_of cs) p m) (sym (λ i. placed area.x area.y (wires_are i) (gates_are i) (shape_is i))) is_job

@@ -1,0 +1,76 @@
+-- The first time is the least, and the last one the greatest.
+use Rattle.std.proofs.Common.{◌≡◌, ◌⊎◌, ℕ, zero, suc, ◌+◌, ◌<◌, ◌≤◌, List, [], ◌∷◌, length, Option, Some, None, refl, sym, ◌∙◌, inl, inr, arith}
+use Rattle.std.specs.Prelude.{Contains, min, max}
+use Rattle.std.specs.List.{All, fold}
+use Rattle.std.proofs.lemmas.List.Elements.{All-nil, All-cons}
+use Rattle.std.proofs.lemmas.Option.{same_Some}
+use Rattle.certificate.specs.Laws.{FirstIsLeast, LastIsGreatest}
+use Rattle.certificate.specs.Times.{earlier, later, times_of}
+
+there : (u : ℕ) (us : List ℕ) (t : ℕ) → Contains us t → Contains (u ∷ us) t
+there u us t h = (suc h.0, (let lt = h.1 in omega (arith, lt)), h.2)
+
+here : (u : ℕ) (us : List ℕ) (t : ℕ) → u ≡ t → Contains (u ∷ us) t
+here u us t e = (zero, omega arith, e)
+
+record IsLeastWith (a : ℕ) (ts : List ℕ) (t : ℕ) : Type 0 where
+  among : (t ≡ a) ⊎ Contains ts t
+  first : t ≤ a
+  rest : All (λ u. t ≤ u) ts
+
+min_cases : (a u : ℕ) → (min a u ≡ a) ⊎ (min a u ≡ u)
+min_cases a u = grind arith
+
+least_with : (a : ℕ) (ts : List ℕ) (t : ℕ) → fold earlier (Some a) ts ≡ Some t → IsLeastWith a ts t
+least_with a [] t e = (let same = same_Some a t e in record { among = inl (sym same); first = omega (arith, same); rest = All-nil (λ u. t ≤ u) })
+least_with a (u ∷ us) t e =
+    let h = least_with (min a u) us t e in
+    let below = h.first in
+    record {
+      among = elim h.among [
+        | inl is ↦ elim (min_cases a u) [ inl left ↦ inl (is ∙ left) | inr right ↦ inr (here u us t (sym (is ∙ right))) ]
+        | inr found ↦ inr (there u us t found)
+      ];
+      first = omega (arith, below);
+      rest = All-cons (λ v. t ≤ v) u us (omega (arith, below)) h.rest;
+    }
+
+least_of : (ts : List ℕ) (t : ℕ) → fold earlier None ts ≡ Some t → Contains ts t × All (λ u. t ≤ u) ts
+least_of [] t e = absurd cc
+least_of (a ∷ ts) t e =
+    let h = least_with a ts t e in
+    (elim h.among [ inl is ↦ here a ts t (sym is) | inr found ↦ there a ts t found ], All-cons (λ u. t ≤ u) a ts h.first h.rest)
+
+pub first_is_least : FirstIsLeast
+first_is_least c ss w t e = least_of (times_of c ss w) t e
+
+record IsGreatestWith (a : ℕ) (ts : List ℕ) (t : ℕ) : Type 0 where
+  among : (t ≡ a) ⊎ Contains ts t
+  first : a ≤ t
+  rest : All (λ u. u ≤ t) ts
+
+max_cases : (a u : ℕ) → (max a u ≡ a) ⊎ (max a u ≡ u)
+max_cases a u = grind arith
+
+greatest_with : (a : ℕ) (ts : List ℕ) (t : ℕ) → fold later (Some a) ts ≡ Some t → IsGreatestWith a ts t
+greatest_with a [] t e = (let same = same_Some a t e in record { among = inl (sym same); first = omega (arith, same); rest = All-nil (λ u. u ≤ t) })
+greatest_with a (u ∷ us) t e =
+    let h = greatest_with (max a u) us t e in
+    let above = h.first in
+    record {
+      among = elim h.among [
+        | inl is ↦ elim (max_cases a u) [ inl left ↦ inl (is ∙ left) | inr right ↦ inr (here u us t (sym (is ∙ right))) ]
+        | inr found ↦ inr (there u us t found)
+      ];
+      first = omega (arith, above);
+      rest = All-cons (λ v. v ≤ t) u us (omega (arith, above)) h.rest;
+    }
+
+greatest_of : (ts : List ℕ) (t : ℕ) → fold later None ts ≡ Some t → Contains ts t × All (λ u. u ≤ t) ts
+greatest_of [] t e = absurd cc
+greatest_of (a ∷ ts) t e =
+    let h = greatest_with a ts t e in
+    (elim h.among [ inl is ↦ here a ts t (sym is) | inr found ↦ there a ts t found ], All-cons (λ u. u ≤ t) a ts h.first h.rest)
+
+pub last_is_greatest : LastIsGreatest
+last_is_greatest c ss w t e = greatest_of (times_of c ss w) t e

@@ -1,0 +1,129 @@
+-- Tables of times, line by line, and the lines of gates one after the other.
+use Rattle.std.proofs.Common.{◌≡◌, ◌≢◌, ℕ, zero, suc, ◌+◌, ◌<◌, ◌≤◌, Bool, true, false, List, [], ◌∷◌, ◌++◌, length, drop, get_or, Option, Some, None, refl, sym, ap, ap₂, ◌∙◌, arith, inl, inr, drop-cons, add-one, append_assoc, append-nil, length-drop, take, ◌-◌}
+use Rattle.std.specs.Prelude.{slice_get}
+use Rattle.std.specs.List.{flat_map}
+use Rattle.std.proofs.lemmas.Bool.{cases_Bool}
+use Rattle.std.proofs.lemmas.Grind.{flat_map-append}
+use Rattle.std.proofs.lemmas.List.{drop_all, take_all}
+use Rattle.std.proofs.lemmas.Option.{same_Some, slice_get-get_or, slice_get_within}
+use Rattle.circuit.specs.Meaning.{Circuit, Gate}
+use Rattle.certificate.specs.Entries.{ModuleLines, modules_of, stop_in, stops}
+use Rattle.certificate.specs.ModuleParts.{inner, is_module}
+use Rattle.certificate.specs.Times.{all_stops, lines_by, numbered, time_lines}
+use Rattle.certificate.specs.SeenTimes.{IsTable, seen, told_by}
+use Rattle.certificate.specs.declared.times.Choice.{Choice}
+use Rattle.certificate.specs.declared.times.Choice.TheVariants.{First, Last}
+use Rattle.certificate.specs.declared.entry.StopLine.{StopLine}
+use Rattle.certificate.specs.declared.entry.Entry.{Entry}
+use Rattle.certificate.specs.declared.entry.Entry.TheVariants.{Module, Cut, Use, Edge, Halo, Stop}
+use Rattle.certificate.specs.declared.times.TimeLine.{TimeLine}
+use Rattle.certificate.proofs.InnerLines.{inner_module, inner_other}
+use Rattle.certificate.proofs.ModuleSplit.{split_module, split_other}
+
+-- ---- the stops of all lines from the first module line on are those of all modules
+
+abbrev Splits : List Entry → Type 0
+Splits es = flat_map stop_in es ≡ flat_map stop_in (inner es) ++ all_stops (modules_of es)
+
+splits_other : (e : Entry) (es : List Entry) → is_module e ≡ false → Splits es → Splits (e ∷ es)
+splits_other e es o h =
+    ap (λ xs. stop_in e ++ xs) h ∙ sym (append_assoc (stop_in e) (flat_map stop_in (inner es)) (all_stops (modules_of es)))
+    ∙ ap₂ (λ xs ms. flat_map stop_in xs ++ all_stops ms) (sym (inner_other e es o)) (sym (split_other e es o))
+
+splits_step : (e : Entry) (es : List Entry) → Splits es → Splits (e ∷ es)
+splits_step (Module b) es h =
+    h ∙ ap all_stops (sym (split_module b es)) ∙ ap (λ xs. flat_map stop_in xs ++ all_stops (modules_of (Module b ∷ es))) (sym (inner_module (Module b) es refl))
+splits_step (Cut n) es h = splits_other (Cut n) es refl h
+splits_step (Use k) es h = splits_other (Use k) es refl h
+splits_step (Edge e) es h = splits_other (Edge e) es refl h
+splits_step (Halo e) es h = splits_other (Halo e) es refl h
+splits_step (Stop s) es h = splits_other (Stop s) es refl h
+
+splits_none : Splits []
+unfolding inner modules_of
+splits_none = refl
+
+splits : (es : List Entry) → Splits es
+splits [] = splits_none
+splits (e ∷ es) = splits_step e es (splits es)
+
+abbrev Begins : List Entry → Type 0
+Begins es = flat_map stop_in (drop (length (inner es)) es) ≡ all_stops (modules_of es)
+
+begins_other : (e : Entry) (es : List Entry) → is_module e ≡ false → Begins es → Begins (e ∷ es)
+begins_other e es o h = ap (λ xs. flat_map stop_in (drop (length xs) (e ∷ es))) (inner_other e es o) ∙ h ∙ ap all_stops (sym (split_other e es o))
+
+begins_step : (e : Entry) (es : List Entry) → Begins es → Begins (e ∷ es)
+begins_step (Module b) es h =
+    ap (λ xs. flat_map stop_in (drop (length xs) (Module b ∷ es))) (inner_module (Module b) es refl) ∙ splits (Module b ∷ es)
+    ∙ ap (λ xs. flat_map stop_in xs ++ all_stops (modules_of (Module b ∷ es))) (inner_module (Module b) es refl)
+begins_step (Cut n) es h = begins_other (Cut n) es refl h
+begins_step (Use k) es h = begins_other (Use k) es refl h
+begins_step (Edge e) es h = begins_other (Edge e) es refl h
+begins_step (Halo e) es h = begins_other (Halo e) es refl h
+begins_step (Stop s) es h = begins_other (Stop s) es refl h
+
+begins_none : Begins []
+unfolding inner modules_of
+begins_none = refl
+
+pub from_module : (es : List Entry) → Begins es
+from_module [] = begins_none
+from_module (e ∷ es) = begins_step e es (from_module es)
+
+-- ---- the lines of gates, one after the other
+
+numbered_step : (f : ℕ → Gate → List TimeLine) (n : ℕ) (gates : List Gate) (g : Gate) → slice_get gates n ≡ Some g → numbered f n (drop n gates) ≡ f n g ++ numbered f (n + 1) (drop (n + 1) gates)
+unfolding numbered
+numbered_step f n gates g at =
+    let inside : n < length gates = slice_get_within gates n g at in
+    let here : get_or gates n g ≡ g = same_Some _ _ (sym (slice_get-get_or gates n g inside) ∙ at) in
+    ap (numbered f n) (drop-cons gates n g inside ∙ ap (λ x. x ∷ drop (suc n) gates) here ∙ ap (λ k. g ∷ drop k gates) (sym (add-one n)))
+
+pub one_gate_more : (f : ℕ → Gate → List TimeLine) (all lines more : List TimeLine) (n : ℕ) (gates : List Gate) (g : Gate) → slice_get gates n ≡ Some g → more ≡ lines ++ f n g →
+    lines ++ numbered f n (drop n gates) ≡ all → more ++ numbered f (n + 1) (drop (n + 1) gates) ≡ all
+one_gate_more f all lines more n gates g at grown so_far =
+    ap (λ xs. xs ++ numbered f (n + 1) (drop (n + 1) gates)) grown ∙ append_assoc lines (f n g) (numbered f (n + 1) (drop (n + 1) gates)) ∙ ap (λ xs. lines ++ xs) (sym (numbered_step f n gates g at)) ∙ so_far
+
+numbered_none : (f : ℕ → Gate → List TimeLine) (n : ℕ) → numbered f n [] ≡ []
+unfolding numbered
+numbered_none f n = refl
+
+pub all_gates : (f : ℕ → Gate → List TimeLine) (all lines : List TimeLine) (n : ℕ) (gates : List Gate) → length gates ≤ n → lines ++ numbered f n (drop n gates) ≡ all → lines ≡ all
+all_gates f all lines n gates past so_far = sym (append-nil lines) ∙ ap (λ xs. lines ++ xs) (sym (ap (numbered f n) (drop_all n gates past) ∙ numbered_none f n)) ∙ so_far
+
+-- ---- the first lines are not too many
+
+length_other : (e : Entry) (es : List Entry) → is_module e ≡ false → length (inner es) ≤ length es → length (inner (e ∷ es)) ≤ length (e ∷ es)
+length_other e es o h = let n = ap length (inner_other e es o) in omega (arith, n, h)
+
+length_step : (e : Entry) (es : List Entry) → length (inner es) ≤ length es → length (inner (e ∷ es)) ≤ length (e ∷ es)
+length_step (Module b) es h = let n = ap length (inner_module (Module b) es refl) in omega (arith, n)
+length_step (Cut n) es h = length_other (Cut n) es refl h
+length_step (Use k) es h = length_other (Use k) es refl h
+length_step (Edge e) es h = length_other (Edge e) es refl h
+length_step (Halo e) es h = length_other (Halo e) es refl h
+length_step (Stop s) es h = length_other (Stop s) es refl h
+
+within_none : length (inner []) ≤ length {A = Entry} []
+unfolding inner
+within_none = omega arith
+
+pub inner_within : (es : List Entry) → length (inner es) ≤ length es
+inner_within [] = within_none
+inner_within (e ∷ es) = length_step e es (inner_within es)
+
+pub stops_from : (es before : List Entry) → before ≡ inner es → flat_map stop_in (take (length es - length before) (drop (length before) es)) ≡ all_stops (modules_of es)
+stops_from es before e =
+    ap (flat_map stop_in) (take_all (length es - length before) (drop (length before) es) (let n = length-drop (length before) es in omega (arith, n)))
+    ∙ ap (λ xs. flat_map stop_in (drop (length xs) es)) e ∙ from_module es
+
+-- ---- tables
+
+told : (choice : Choice) (c : Circuit) (ss all : List StopLine) (table items : List (Option ℕ)) → table ≡ items → ss ≡ all → IsTable choice c ss items → told_by table ≡ seen choice c all
+told choice c ss all table items e s h i = λ w. (ap (λ t. told_by t w) e ∙ h w ∙ ap (λ r. seen choice c r w) s) i
+
+pub lines_told : (c : Circuit) (ms : List ModuleLines) (ss : List StopLine) (firsts lasts f l : List (Option ℕ)) → f ≡ firsts → l ≡ lasts → ss ≡ all_stops ms → IsTable First c ss firsts → IsTable Last c ss lasts →
+    lines_by (told_by f) (told_by l) c.netlist.gates ≡ time_lines c ms
+lines_told c ms ss firsts lasts f l ef el es hf hl i =
+    lines_by (told First c ss (all_stops ms) f firsts ef es hf i) (told Last c ss (all_stops ms) l lasts el es hl i) c.netlist.gates

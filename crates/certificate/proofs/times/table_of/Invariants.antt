@@ -1,0 +1,13 @@
+use Rattle.std.proofs.Common.{◌≡◌, length, take}
+use Rattle.std.specs.List.{flat_map}
+use Rattle.circuit.specs.Bridge.{circuit_of, netlist_of}
+use Rattle.circuit.specs.Meaning.{wires}
+use Rattle.certificate.specs.Entries.{stop_in}
+use Rattle.certificate.specs.SeenTimes.{IsTable}
+use Rattle.certificate.proofs.times.table_of.Given as goal
+
+abbrev pub invariant-lines : goal.invariant-lines
+invariant-lines l = record {
+  table : IsTable l.choice (circuit_of l.circuit) (flat_map stop_in (take l.line-index l.lines)) l.table.items;
+  long : length l.table.items ≡ wires (netlist_of l.circuit);
+}

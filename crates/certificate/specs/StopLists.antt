@@ -1,0 +1,14 @@
+-- The stops of lines over the wires of a module
+use Rattle.std.specs.Prelude.{◌≡◌, ◌<◌, List, map}
+use Rattle.std.specs.List.{All}
+use Rattle.circuit.specs.Meaning.{Circuit, wires}
+use Rattle.module_box.specs.Locals.{LocalNet, circuit_wire}
+use Rattle.certificate.specs.Jobs.{line_stops}
+use Rattle.certificate.specs.Signals.{renumber_stop}
+use Rattle.certificate.specs.declared.entry.StopLine.{StopLine}
+use Rattle.certificate.specs.declared.job.Stop.{Stop}
+
+-- the stops are what the lines say, and each wire is one of the module's
+pub record AreStops (c : Circuit) (l : LocalNet) (ss : List StopLine) (stops : List Stop) : Type 0 where
+  pub same : map (renumber_stop (circuit_wire l)) stops ≡ line_stops c ss
+  pub own : All (λ s. s.wire < wires l.netlist) stops

@@ -1,0 +1,116 @@
+-- When wires are seen by stops, and what that says of delays and of gates whose inputs are to meet
+use Rattle.std.specs.Prelude.{ℕ, ◌+◌, ◌-◌, ◌==◌, Bool, true, false, if◌then◌else◌, List, [], ◌∷◌, ◌++◌, length, Option, Some, None, nat_lt, nat_le, min, max, nat_eq}
+use Rattle.std.specs.List.{fold, flat_map, list_all}
+use Rattle.std.specs.Option.{option_to_list, option_eq}
+use Rattle.circuit.specs.Gates.{Rule, Source, Fredkin, Cswap, Interact, Switch, Delay, Unswitch, Uninteract}
+use Rattle.circuit.specs.Meaning.{Circuit, Gate, wire_of}
+use Rattle.certificate.specs.Entries.{ModuleLines, stops}
+use Rattle.certificate.specs.declared.entry.StopLine.{StopLine}
+use Rattle.certificate.specs.declared.times.Gap.{Gap}
+use Rattle.certificate.specs.declared.times.Gap.TheVariants.{Steps, Missing, Before}
+use Rattle.certificate.specs.declared.times.TimeLine.{TimeLine}
+use Rattle.certificate.specs.declared.times.TimeLine.TheVariants as line
+
+-- the stops of all modules
+abbrev pub all_stops : List ModuleLines → List StopLine
+all_stops ms = flat_map stops ms
+
+-- ---- when a wire is seen
+
+-- whether a stop is one of wire w
+abbrev pub is_of : Circuit → ℕ → StopLine → Bool
+is_of c w s = option_eq nat_eq (wire_of c s.wire) (Some w)
+
+-- the times of the stops of wire w
+abbrev pub times_of : Circuit → List StopLine → ℕ → List ℕ
+times_of c ss w = flat_map (λ s. if is_of c w s then s.time ∷ [] else []) ss
+
+-- the lesser of a time and the least before it, and the greater
+abbrev pub earlier : Option ℕ → ℕ → Option ℕ
+earlier None t = Some t
+earlier (Some s) t = Some (min s t)
+
+abbrev pub later : Option ℕ → ℕ → Option ℕ
+later None t = Some t
+later (Some s) t = Some (max s t)
+
+-- the least and the greatest time among the stops of a wire, if it has any
+abbrev pub first_seen : Circuit → List StopLine → ℕ → Option ℕ
+first_seen c ss w = fold earlier None (times_of c ss w)
+
+abbrev pub last_seen : Circuit → List StopLine → ℕ → Option ℕ
+last_seen c ss w = fold later None (times_of c ss w)
+
+-- ---- delays
+
+-- from the last time of one wire to the first time of another
+abbrev pub gap_between : Option ℕ → Option ℕ → Gap
+gap_between None first = Missing
+gap_between (Some last) None = Missing
+gap_between (Some last) (Some first) = if nat_lt first last then Before else Steps (first - last)
+
+-- the time of the first of these wires
+abbrev pub of_wire : (ℕ → Option ℕ) → List ℕ → Option ℕ
+of_wire seen [] = None
+of_wire seen (w ∷ ws) = seen w
+
+abbrev pub delay_by : ℕ → Rule → Gap → List TimeLine
+delay_by k (Source b) gap = []
+delay_by k Fredkin gap = []
+delay_by k Cswap gap = []
+delay_by k Interact gap = []
+delay_by k Switch gap = []
+delay_by k (Delay n) gap = line.Delay k n gap ∷ []
+delay_by k Unswitch gap = []
+delay_by k Uninteract gap = []
+
+-- of gate k, if it is a delay: from the last time of the wire that it uses to the first time of the one that it defines
+abbrev pub delay_line : (first last : ℕ → Option ℕ) → ℕ → Gate → List TimeLine
+delay_line first last k g = delay_by k g.kind (gap_between (of_wire last g.ins) (of_wire first g.outs))
+
+-- ---- meetings
+
+-- the last times of those wires that have one
+abbrev pub last_times : (ℕ → Option ℕ) → List ℕ → List ℕ
+last_times last ws = flat_map (λ w. option_to_list (last w)) ws
+
+-- the time that all of them are
+abbrev pub agreed : List ℕ → Option ℕ
+agreed [] = None
+agreed (t ∷ ts) = if list_all (λ u. u == t) ts then Some t else None
+
+abbrev pub meet_by : ℕ → List ℕ → List TimeLine
+meet_by k ts = if nat_le 2 (length ts) then line.Meet k (agreed ts) ∷ [] else []
+
+-- of gate k, if two of the wires that it uses have a last time, or more: the one time at which all of these are seen last
+abbrev pub meet_line : (ℕ → Option ℕ) → ℕ → Gate → List TimeLine
+meet_line last k g = meet_by k (last_times last g.ins)
+
+-- ---- all lines
+
+-- the lines of gates, which are numbered from k on
+unfoldable pub numbered : (ℕ → Gate → List TimeLine) → ℕ → List Gate → List TimeLine
+numbered f k [] = []
+numbered f k (g ∷ gs) = f k g ++ numbered f (k + 1) gs
+
+-- those of all delays, and then those of all meetings
+abbrev pub lines_by : (first last : ℕ → Option ℕ) → List Gate → List TimeLine
+lines_by first last gates = numbered (delay_line first last) 0 gates ++ numbered (meet_line last) 0 gates
+
+-- by the stops of all modules
+abbrev pub time_lines : Circuit → List ModuleLines → List TimeLine
+time_lines c ms = lines_by (first_seen c (all_stops ms)) (last_seen c (all_stops ms)) c.netlist.gates
+
+-- ---- the rules
+
+-- a delay takes as many steps as it says, and inputs meet at one time
+abbrev pub is_kept : TimeLine → Bool
+is_kept (line.Delay k n (Steps m)) = m == n
+is_kept (line.Delay k n Missing) = false
+is_kept (line.Delay k n Before) = false
+is_kept (line.Meet k (Some t)) = true
+is_kept (line.Meet k None) = false
+
+-- each line of a certificate says so
+abbrev pub are_all_kept : List TimeLine → Bool
+are_all_kept lines = list_all is_kept lines

@@ -1,0 +1,101 @@
+//! The stops of a module, over the wires that the module knows.
+ghost use Rattle.std.specs.Prelude.{◌≡◌, ◌<◌, ◌++◌, [], ◌∷◌, List, IfOk, IsTrue, OnOk, map};
+ghost use Rattle.std.specs.List.{All, flat_map};
+ghost use Rattle.circuit.specs.Bridge.{circuit_of};
+ghost use Rattle.circuit.specs.Meaning.{wires};
+ghost use Rattle.module_box.specs.Locals.{circuit_wire};
+ghost use Rattle.module_box.specs.Moves.{IsNear, IsSmall};
+ghost use Rattle.certificate.specs.Entries.{stop_in};
+ghost use Rattle.certificate.specs.Jobs.{line_stops};
+ghost use Rattle.certificate.specs.Rules.{is_local};
+ghost use Rattle.certificate.specs.Shapes.{moved_stop};
+ghost use Rattle.certificate.specs.Signals.{renumber_stop};
+ghost use Rattle.certificate.specs.StopLists.{AreStops};
+ghost use Rattle.certificate.specs.declared.entry.StopLine.{StopLine as Line};
+
+use crate::entry::{Entry, StopLine};
+use crate::job::Stop;
+use crate::plan::local_name;
+use circuit::Circuit;
+use module_box::{Locals, Moment, moved_cell};
+use std::alloc::{AllocError, Global};
+
+// A stop line over the wires that the module knows.
+fn local_stop(circuit: &Circuit, locals: &Locals, line: &StopLine) -> Stop
+    requires { IsTrue (is_local (circuit_of circuit.now) locals.now.circuit_wires line.now.wire) }
+    ensures same { renumber_stop (circuit_wire locals.now) result ∷ [] ≡ line_stops (circuit_of circuit.now) (line.now ∷ []) }
+    ensures own { result.wire < wires locals.now.netlist }
+{
+    let at = Moment {
+        time: line.time,
+        cell: line.cell,
+    };
+    let wire = local_name(circuit, locals, &line.wire);
+    Stop { at, wire }
+}
+
+// Adds a line, if it is a stop.
+fn push_stop(
+    stops: &mut Vec<Stop>,
+    circuit: &Circuit,
+    locals: &Locals,
+    line: &Entry,
+) -> Result<(), AllocError>
+    requires { All (λ s. IsTrue (is_local (circuit_of circuit.now) locals.now.circuit_wires s.wire)) (stop_in line.now) }
+    ensures { OnOk result ((ss : List Line) → AreStops (circuit_of circuit.now) locals.now ss stops.old.items → AreStops (circuit_of circuit.now) locals.now (ss ++ stop_in line.now) stops.new.items) }
+{
+    if let Entry::Stop(stop) = line {
+        stops.push(local_stop(circuit, locals, stop))?;
+    }
+    Ok(())
+}
+
+/// The stops of a module's lines.
+pub(crate) fn stops_of(
+    alloc: Global,
+    circuit: &Circuit,
+    locals: &Locals,
+    lines: &[Entry],
+) -> Result<Vec<Stop>, AllocError>
+    requires { All (λ s. IsTrue (is_local (circuit_of circuit.now) locals.now.circuit_wires s.wire)) (flat_map stop_in lines.now) }
+    ensures { IfOk result (λ stops. AreStops (circuit_of circuit.now) locals.now (flat_map stop_in lines.now) stops.items) }
+{
+    let mut stops = Vec::new(alloc);
+    'lines: for line in lines {
+        push_stop(&mut stops, circuit, locals, line)?;
+    }
+    Ok(stops)
+}
+
+/// The stop at the cell that lies `dx` columns and `dy` rows further, where all these numbers are from -1024 to 1023.
+pub(crate) fn moved_stop(stop: Stop, dx: i32, dy: i32) -> Stop
+    requires cell { IsNear stop.at.cell }
+    requires by { IsSmall dx × IsSmall dy }
+    ensures { result ≡ moved_stop dx dy stop }
+{
+    Stop {
+        at: Moment {
+            time: stop.at.time,
+            cell: moved_cell(stop.at.cell, dx, dy),
+        },
+        wire: stop.wire,
+    }
+}
+
+/// The same stops at the cells that lie so much further.
+pub(crate) fn moved_stops(
+    alloc: Global,
+    stops: &[Stop],
+    dx: i32,
+    dy: i32,
+) -> Result<Vec<Stop>, AllocError>
+    requires cells { All (λ s. IsNear s.at.cell) stops.now }
+    requires by { IsSmall dx × IsSmall dy }
+    ensures { IfOk result (λ v. v.items ≡ map (moved_stop dx dy) stops.now) }
+{
+    let mut moved = Vec::with_capacity(alloc, stops.len())?;
+    for stop in stops {
+        moved.push(moved_stop(*stop, dx, dy))?;
+    }
+    Ok(moved)
+}

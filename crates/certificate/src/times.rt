@@ -1,0 +1,266 @@
+//! When wires are seen by stops, and what that says of delays and of gates whose inputs are to meet.
+ghost use Rattle.std.specs.Prelude.{◌≡◌, ◌==◌, ◌++◌, ◌∷◌, [], ℕ, List, None, IfOk, OnOk, length};
+ghost use Rattle.std.specs.List.{flat_map, list_all};
+ghost use Rattle.circuit.specs.Bridge.{circuit_of, netlist_of};
+ghost use Rattle.circuit.specs.Meaning.{wires};
+ghost use Rattle.circuit.specs.Wiring.{gate_of};
+ghost use Rattle.certificate.specs.Entries.{modules_of, stop_in};
+ghost use Rattle.certificate.specs.Times.{agreed, all_stops, delay_line, gap_between, is_kept, last_times, lines_by, meet_by, meet_line, of_wire, time_lines};
+ghost use Rattle.certificate.specs.SeenTimes.{IsTable, chosen, told_by};
+ghost use Rattle.certificate.specs.declared.entry.StopLine.{StopLine as Line};
+
+use crate::cert::Cert;
+use crate::entry::{Entry, StopLine};
+use crate::lines::inner_lines;
+use circuit::{Circuit, GateKind, GateNo, GateWires, WireNo};
+use std::alloc::{AllocError, Global};
+
+/// From the last stop of the wire that a delay uses to the first stop of the one that it defines.
+#[derive(Clone, Copy, Debug, PartialEq, Eq)]
+pub enum Gap {
+    /// So many steps.
+    Steps(u32),
+    /// One of the two wires has no stop.
+    Missing,
+    /// The first stop comes before the last one.
+    Before,
+}
+
+/// What stops say of a gate.
+#[derive(Clone, Copy, Debug, PartialEq, Eq)]
+pub enum TimeLine {
+    /// Of a delay of so many steps.
+    Delay { gate: usize, wanted: u32, gap: Gap },
+    /// Of a gate of which two inputs or more have stops: the time at which all of these are seen last, or None where they differ.
+    Meet { gate: usize, at: Option<u32> },
+}
+
+impl TimeLine {
+    /// Whether the delay takes as many steps as it says, or the inputs meet.
+    pub fn is_kept(&self) -> bool
+        ensures { result ≡ is_kept self.now }
+    {
+        match self {
+            TimeLine::Delay {
+                gate: _,
+                wanted,
+                gap: Gap::Steps(steps),
+            } => steps == wanted,
+            TimeLine::Delay { .. } => false,
+            TimeLine::Meet { gate: _, at } => at.is_some(),
+        }
+    }
+}
+
+// Which time of a wire is kept.
+#[derive(Clone, Copy)]
+pub(crate) enum Choice {
+    First,
+    Last,
+}
+
+fn chosen(choice: Choice, before: Option<u32>, time: u32) -> Option<u32>
+    ensures { result ≡ chosen choice before time }
+{
+    match (choice, before) {
+        (_, None) => Some(time),
+        (Choice::First, Some(least)) => Some(least.min(time)),
+        (Choice::Last, Some(greatest)) => Some(greatest.max(time)),
+    }
+}
+
+// Takes a stop into a table of the wires.
+fn note_stop(table: &mut [Option<u32>], circuit: &Circuit, choice: Choice, stop: &StopLine)
+    requires { length table.old ≡ wires (netlist_of circuit.now) }
+    ensures table { (ss : List Line) → IsTable choice (circuit_of circuit.now) ss table.old → IsTable choice (circuit_of circuit.now) (ss ++ stop.now ∷ []) table.new }
+    ensures long { length table.new ≡ length table.old }
+{
+    if let Some(wire) = circuit.wire(&stop.wire) {
+        let at = wire.number() as usize;
+        table[at] = chosen(choice, table[at], stop.time);
+    }
+}
+
+// Takes a line into it, if it is a stop.
+fn note_line(table: &mut [Option<u32>], circuit: &Circuit, choice: Choice, line: &Entry)
+    requires { length table.old ≡ wires (netlist_of circuit.now) }
+    ensures table { (ss : List Line) → IsTable choice (circuit_of circuit.now) ss table.old → IsTable choice (circuit_of circuit.now) (ss ++ stop_in line.now) table.new }
+    ensures long { length table.new ≡ length table.old }
+{
+    if let Entry::Stop(stop) = line {
+        note_stop(table, circuit, choice, stop);
+    }
+}
+
+// The first or the last time of each wire, by the stops of the lines.
+fn table_of(
+    alloc: Global,
+    circuit: &Circuit,
+    choice: Choice,
+    lines: &[Entry],
+) -> Result<Vec<Option<u32>>, AllocError>
+    ensures { IfOk result (λ table. IsTable choice (circuit_of circuit.now) (flat_map stop_in lines.now) table.items) }
+{
+    let mut table = vec![in alloc; None; circuit.wires()]?;
+    'lines: for line in lines {
+        note_line(&mut table, circuit, choice, line);
+    }
+    Ok(table)
+}
+
+// The time of a wire, if it has one.
+fn time_of(table: &[Option<u32>], wire: WireNo) -> Option<u32>
+    ensures { result ≡ told_by table.now wire }
+{
+    table.get(wire.number() as usize).copied().flatten()
+}
+
+// The time of the first of some wires.
+fn time_of_first(table: &[Option<u32>], wires: &[WireNo]) -> Option<u32>
+    ensures { result ≡ of_wire (told_by table.now) wires.now }
+{
+    match wires.first() {
+        Some(wire) => time_of(table, *wire),
+        None => None,
+    }
+}
+
+fn gap_between(last: Option<u32>, first: Option<u32>) -> Gap
+    ensures { result ≡ gap_between last first }
+{
+    match (last, first) {
+        (Some(last), Some(first)) if first < last => Gap::Before,
+        (Some(last), Some(first)) => Gap::Steps(first - last),
+        _ => Gap::Missing,
+    }
+}
+
+// Adds the line of a gate, if it is a delay.
+fn push_delay(
+    lines: &mut Vec<TimeLine>,
+    number: usize,
+    gate: &GateWires,
+    firsts: &[Option<u32>],
+    lasts: &[Option<u32>],
+) -> Result<(), AllocError>
+    ensures { OnOk result (lines.new.items ≡ lines.old.items ++ delay_line (told_by firsts.now) (told_by lasts.now) number (gate_of gate.now)) }
+{
+    let last = time_of_first(lasts, gate.ins());
+    let first = time_of_first(firsts, gate.outs());
+    if let GateKind::Delay(wanted) = gate.kind() {
+        lines.push(TimeLine::Delay {
+            gate: number,
+            wanted,
+            gap: gap_between(last, first),
+        })?;
+    }
+    Ok(())
+}
+
+// The last times of those wires that have one.
+fn last_times(
+    alloc: Global,
+    lasts: &[Option<u32>],
+    wires: &[WireNo],
+) -> Result<Vec<u32>, AllocError>
+    ensures { IfOk result (λ times. times.items ≡ last_times (told_by lasts.now) wires.now) }
+{
+    let mut times = Vec::new(alloc);
+    'wires: for wire in wires {
+        if let Some(time) = time_of(lasts, *wire) {
+            times.push(time)?;
+        }
+    }
+    Ok(times)
+}
+
+fn are_all(times: &[u32], time: u32) -> bool
+    ensures { result ≡ list_all (λ u. u == time) times.now }
+{
+    times.iter().all(|other| *other == time)
+}
+
+// The time that all of them are.
+fn agreed(times: &[u32]) -> Option<u32>
+    ensures { result ≡ agreed times.now }
+{
+    let (first, others) = times.split_first()?;
+    if are_all(others, *first) {
+        Some(*first)
+    } else {
+        None
+    }
+}
+
+// Adds the line of a gate whose inputs are to meet, if it is one.
+fn push_meet(
+    alloc: Global,
+    lines: &mut Vec<TimeLine>,
+    number: usize,
+    gate: &GateWires,
+    lasts: &[Option<u32>],
+) -> Result<(), AllocError>
+    ensures { OnOk result (lines.new.items ≡ lines.old.items ++ meet_line (told_by lasts.now) number (gate_of gate.now)) }
+{
+    let times = last_times(alloc, lasts, gate.ins())?;
+    if times.len() >= 2 {
+        let at = agreed(&times);
+        lines.push(TimeLine::Meet { gate: number, at })?;
+    }
+    Ok(())
+}
+
+// The lines by tables of the first and the last times.
+fn lines_by(
+    alloc: Global,
+    circuit: &Circuit,
+    firsts: &[Option<u32>],
+    lasts: &[Option<u32>],
+) -> Result<Vec<TimeLine>, AllocError>
+    ensures { IfOk result (λ lines. lines.items ≡ lines_by (told_by firsts.now) (told_by lasts.now) (netlist_of circuit.now).gates) }
+{
+    let mut lines = Vec::new(alloc);
+    let count = circuit.gates();
+    'delays: for number in 0..count {
+        let gate = circuit.gate(GateNo::of(number as u16));
+        push_delay(&mut lines, number, &gate, firsts, lasts)?;
+    }
+    'meetings: for number in 0..count {
+        let gate = circuit.gate(GateNo::of(number as u16));
+        push_meet(alloc, &mut lines, number, &gate, lasts)?;
+    }
+    Ok(lines)
+}
+
+// The lines from the first `module` line on.
+#[tactic(auto, using(crate::proofs::TimeLemmas::inner_within))]
+fn module_lines(entries: &[Entry]) -> &[Entry]
+    ensures { flat_map stop_in result.now ≡ all_stops (modules_of entries.now) }
+{
+    let before = inner_lines(entries).len();
+    &entries[before..]
+}
+
+// The lines by the stops of all modules of these lines.
+fn lines_of(
+    alloc: Global,
+    circuit: &Circuit,
+    entries: &[Entry],
+) -> Result<Vec<TimeLine>, AllocError>
+    ensures { IfOk result (λ lines. lines.items ≡ time_lines (circuit_of circuit.now) (modules_of entries.now)) }
+{
+    let lines = module_lines(entries);
+    let firsts = table_of(alloc, circuit, Choice::First, lines)?;
+    let lasts = table_of(alloc, circuit, Choice::Last, lines)?;
+    lines_by(alloc, circuit, &firsts, &lasts)
+}
+
+impl<'a> Cert<'a> {
+    /// What the stops of all modules say of the circuit's gates: a line for each delay, in order of gates, and then a line for each
+    /// gate of which two inputs or more have stops. `AllocError` is want of memory.
+    pub fn times(&self, alloc: Global) -> Result<Vec<TimeLine>, AllocError>
+        ensures { IfOk result (λ lines. lines.items ≡ time_lines (circuit_of self.now.circuit) (modules_of self.now.entries)) }
+    {
+        lines_of(alloc, self.circuit, self.entries.as_slice())
+    }
+}
