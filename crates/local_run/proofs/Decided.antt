@@ -1,36 +1,32 @@
 -- Whether a job has a fault does not depend on the local valuation that is taken
-use Rattle.std.proofs.Common.{◌≡◌, ℕ, ◌<◌, Bool, List, [], ◌∷◌, sym, subst, ◌∙◌, arith}
-use Rattle.std.specs.Prelude.{ℤ, Contains}
+use Rattle.std.proofs.Common.{◌≡◌, ◌≢◌, ℕ, zero, suc, ◌<◌, Bool, true, false, List, [], ◌∷◌, Some, refl, sym, ap, subst, ◌∙◌, arith, eqb, eq-eqb, ◌⊎◌, inl, inr}
+use Rattle.std.specs.Prelude.{ℤ, Contains, slice_get}
 use Rattle.std.proofs.Props.{props}
-use Rattle.std.proofs.Math.Logic.{∥∥₁_elim}
+use Rattle.std.proofs.lemmas.Bool.{and_from, and_parts, cases_Bool, eqb-true, true≢false}
+use Rattle.std.proofs.lemmas.Option.{same_Some, slice_get-get_or}
+use Rattle.std.proofs.Math.Logic.{∥∥₁_elim, ∥∥₁_map}
 use Rattle.circuit.specs.Meaning.{Valuation, AreOrdered, wires}
 use Rattle.circuit.proofs.Valuations.{at_most_one}
 use Rattle.module_box.specs.LocalValues.{IsLocalValuation}
-use Rattle.certificate.specs.Jobs.{JobState, IsJob, job_demand}
+use Rattle.module_box.specs.Moments.{moment_cmp}
+use Rattle.module_box.specs.Schedules.{is_at, is_then}
+use Rattle.module_box.specs.declared.schedules.Moment.{Moment}
+use Rattle.module_box.proofs.Rising.{is_first, moment_total}
+use Rattle.certificate.proofs.PortLemmas.{cell_same, cell_itself}
+use Rattle.certificate.specs.Jobs.{JobState, IsJob, job_demand, stop_moment}
 use Rattle.certificate.specs.Signals.{Meets, IsDemandBelow}
 use Rattle.certificate.specs.declared.job.Demand.{Demand}
 use Rattle.certificate.specs.declared.job.Demand.TheVariants as Demanded
-use Rattle.local_run.specs.Faults.{IsFaultUnder, HasFault}
+use Rattle.certificate.specs.declared.job.Stop as listed
+use Rattle.local_run.specs.Faults.{IsFaultUnder, IsStopFault, HasFault}
+use Rattle.local_run.specs.Runs.{local_run}
 use Rattle.local_run.specs.Laws.{FaultsAreDecided}
 use Rattle.local_run.specs.declared.fault.Fault.{Fault}
 use Rattle.local_run.specs.declared.fault.Kind.{Kind}
 use Rattle.local_run.specs.declared.fault.Kind.TheVariants.{Edge, Stop, End}
 use Rattle.local_run.proofs.LocalRuns.{AgreeBelow, live_same, run_same}
 use Rattle.local_run.proofs.OwnWires.{edge_below, demand_below}
-
--- ---- no stops, so no fault of a stop
-none_in : {X : Type 0} (xs : List X) (x : X) → xs ≡ [] → ¬ Contains xs x
-none_in [] x e h = nothing h.0 h.1
-  where
-    nothing : (k : ℕ) → k < 0 → ⊥
-    nothing k l = omega arith
-none_in (y ∷ xs) x e h = absurd (differ e)
-  where
-    differ : {Y : Type 0} {z : Y} {zs : List Y} → (z ∷ zs) ≡ [] → ⊥
-    differ e = cc
-
-pub no_stop : (j : JobState) (u : Valuation) (t : ℕ) (x y : ℤ) → IsJob j → ¬ IsFaultUnder j u t Stop x y
-no_stop j u t x y is f = none_in j.stops f.stop is.no_stops f.is_listed
+use Rattle.local_run.proofs.Numbers.{three_ways}
 
 -- ---- the same fault under valuations that agree
 meets_same : (n : ℕ) (u u' : Valuation) (d : Demand) (b : Bool) → AgreeBelow n u u' → IsDemandBelow n d → Meets u d b → Meets u' d b
@@ -38,6 +34,9 @@ meets_same n u u' Demanded.Dead b same below h = h
 meets_same n u u' Demanded.Live b same below h = h
 meets_same n u u' (Demanded.Wire w) b same below h = h ∙ same w below
 meets_same n u u' Demanded.Any b same below h = tt
+
+own_stop : (j : JobState) (s : listed.Stop) → IsJob j → Contains j.stops s → s.wire < wires j.locals.netlist
+own_stop j s is h = subst (λ (r : listed.Stop). r.wire < wires j.locals.netlist) h.2 (is.own.stops h.0 s h.1)
 
 fault_same : (j : JobState) (u u' : Valuation) (t : ℕ) (kind : Kind) (x y : ℤ) → IsJob j → AgreeBelow (wires j.locals.netlist) u u' →
     IsFaultUnder j u t kind x y → IsFaultUnder j u' t kind x y
@@ -47,7 +46,14 @@ fault_same j u u' t Edge x y is same f = record {
   ring = f.ring;
   differs = λ e. f.differs (run_same j u u' t is.own same x y ∙ e ∙ sym (live_same (wires j.locals.netlist) u u' _ same (edge_below j t x y is.own)));
 }
-fault_same j u u' t Stop x y is same f = absurd (no_stop j u t x y is f)
+fault_same j u u' t Stop x y is same f = record {
+  stop = f.stop;
+  is_listed = f.is_listed;
+  time = f.time;
+  column = f.column;
+  row = f.row;
+  differs = λ e. f.differs (run_same j u u' t is.own same x y ∙ e ∙ sym (same f.stop.wire (own_stop j f.stop is f.is_listed)));
+}
 fault_same j u u' t End x y is same f = record {
   last = f.last;
   inside = f.inside;
@@ -56,10 +62,72 @@ fault_same j u u' t End x y is same f = record {
 }
 
 -- ---- so any local valuation tells
-under_prop : (j : JobState) (u : Valuation) (t : ℕ) (kind : Kind) (x y : ℤ) → IsJob j → IsProp (IsFaultUnder j u t kind x y)
-under_prop j u t Edge x y is = Prim.hlevel props
-under_prop j u t Stop x y is = λ f g. absurd (no_stop j u t x y is f)
-under_prop j u t End x y is = Prim.hlevel props
+not_prop : (j : JobState) (u : Valuation) (t w : ℕ) (x y : ℤ) → IsProp (local_run j u t x y ≢ u w)
+not_prop j u t w x y = Prim.hlevel props
+
+nothing_prop : IsProp ⊥
+nothing_prop = Prim.hlevel props
+
+-- a stop at the moment, or none
+found_stop : (stops : List listed.Stop) (t : ℕ) (x y : ℤ) → ((s : listed.Stop) × Contains stops s × (is_then s.at t x y ≡ true)) ⊎ ((s : listed.Stop) → Contains stops s → ¬ (is_then s.at t x y ≡ true))
+found_stop [] t x y = inr (λ s h e. let lt = h.1 in absurd (omega (arith, lt)))
+found_stop (r ∷ stops) t x y = elim (cases_Bool (is_then r.at t x y)) [
+  | inl e ↦ inl (r, (zero, omega arith, refl), e)
+  | inr n ↦ elim (found_stop stops t x y) [
+    | inl f ↦ inl (f.0, (suc f.1.0, (let lt = f.1.1 in omega (arith, lt)), f.1.2), f.2)
+    | inr none ↦ inr (λ s h e. later s h e n none)
+  ]
+]
+  where
+    later : (s : listed.Stop) → Contains (r ∷ stops) s → is_then s.at t x y ≡ true → is_then r.at t x y ≡ false → ((q : listed.Stop) → Contains stops q → ¬ (is_then q.at t x y ≡ true)) → ⊥
+    later s (zero, lt, is) e n none = true≢false (sym e ∙ ap (λ (q : listed.Stop). is_then q.at t x y) (sym is) ∙ n)
+    later s (suc k, lt, is) e n none = none s (k, omega (arith, lt), is) e
+
+-- stops at one moment are one stop
+one_stop : (j : JobState) (r s : listed.Stop) → IsJob j → Contains j.stops r → Contains j.stops s → r.at ≡ s.at → r ≡ s
+one_stop j r s is hr hs same =
+    let er : slice_get j.stops hr.0 ≡ Some r = slice_get-get_or j.stops hr.0 r hr.1 ∙ ap Some hr.2 in
+    let es : slice_get j.stops hs.0 ≡ Some s = slice_get-get_or j.stops hs.0 s hs.1 ∙ ap Some hs.2 in
+    elim (three_ways hr.0 hs.0) [
+      | inl lt ↦ absurd (is_first moment_cmp stop_moment j.stops hs.0 s moment_total is.stops_rise es hr.0 r lt er same)
+      | inr (inl e) ↦ same_Some _ _ (sym er ∙ ap (slice_get j.stops) e ∙ es)
+      | inr (inr gt) ↦ absurd (is_first moment_cmp stop_moment j.stops hr.0 r moment_total is.stops_rise er hs.0 s gt es (sym same))
+    ]
+
+is_moment : (m : Moment) (t : ℕ) (x y : ℤ) → is_then m t x y ≡ true → m ≡ record { time = t; cell = record { x = x; y = y } }
+is_moment m t x y h =
+    let p = and_parts (eqb m.time t) (is_at m.cell x y) h in
+    let time : m.time ≡ t = eqb-true m.time t p.0 in
+    let cell = cell_same m.cell (record { x = x; y = y }) p.1 in
+    λ i. record { time = time i; cell = cell i }
+
+then_moment : (j : JobState) (u : Valuation) (t : ℕ) (x y : ℤ) (f : IsStopFault j u t x y) → f.stop.at ≡ record { time = t; cell = record { x = x; y = y } }
+then_moment j u t x y f i = record { time = f.time i; cell = record { x = f.column i; y = f.row i } }
+
+its_then : (j : JobState) (u : Valuation) (t : ℕ) (x y : ℤ) (f : IsStopFault j u t x y) → is_then f.stop.at t x y ≡ true
+its_then j u t x y f = ap (λ m. is_then m t x y) (then_moment j u t x y f) ∙ and_from _ _ (eq-eqb t t refl) (cell_itself (record { x = x; y = y }))
+
+-- so a fault of a stop that there is can be found
+stop_told : (j : JobState) (u : Valuation) (t : ℕ) (x y : ℤ) → IsJob j → ∥ IsStopFault j u t x y ∥₁ → IsStopFault j u t x y
+stop_told j u t x y is some = elim (found_stop j.stops t x y) [
+  | inl f ↦
+      let m = is_moment f.0.at t x y f.2 in
+      record {
+        stop = f.0;
+        is_listed = f.1;
+        time = ap (λ (n : Moment). n.time) m;
+        column = ap (λ (n : Moment). n.cell.x) m;
+        row = ap (λ (n : Moment). n.cell.y) m;
+        differs = ∥∥₁_elim some (not_prop j u t f.0.wire x y) (λ g.
+            subst (λ (s : listed.Stop). local_run j u t x y ≢ u s.wire) (one_stop j g.stop f.0 is g.is_listed f.1 (then_moment j u t x y g ∙ sym m)) g.differs);
+      }
+  | inr none ↦ absurd (∥∥₁_elim some nothing_prop (λ g. none g.stop g.is_listed (its_then j u t x y g)))
+]
+
+told : (j : JobState) (u : Valuation) (t : ℕ) (kind : Kind) (x y : ℤ) → IsJob j → ∥ IsFaultUnder j u t kind x y ∥₁ → IsFaultUnder j u t kind x y
+told j u t Edge x y is some = ∥∥₁_elim some (Prim.hlevel props) (λ f. f)
+told j u t Stop x y is some = stop_told j u t x y is some
+told j u t End x y is some = ∥∥₁_elim some (Prim.hlevel props) (λ f. f)
 
 moved : (j : JobState) (f : Fault) (u : Valuation) → IsJob j → AreOrdered j.locals.netlist.given j.locals.netlist.gates → IsLocalValuation j.locals f.assignment u →
     HasFault j f → IsFaultUnder j u f.time f.kind f.cell.x f.cell.y
@@ -68,6 +136,6 @@ moved j f u is ordered local h =
 
 pub decided : FaultsAreDecided
 decided j f u is ordered small local = (
-  (λ h. ∥∥₁_elim h.shown (under_prop j u f.time f.kind f.cell.x f.cell.y is) (moved j f u is ordered local)),
+  (λ h. told j u f.time f.kind f.cell.x f.cell.y is (∥∥₁_map h.shown (moved j f u is ordered local))),
   (λ h. record { in_range = small; shown = ∣ record { values = u; local = local; differs = h } ∣₁ }),
 )

@@ -1,17 +1,20 @@
 -- From the first fault of a time and a kind to the least fault of the job
-use Rattle.std.proofs.Common.{◌≡◌, ◌≢◌, ℕ, ◌<◌, ◌≤◌, ◌%◌, refl, arith, sym, ◌∙◌, subst, Option, Some, None, Ordering, Less, Equal, Greater, ◌⊎◌, inl, inr}
+use Rattle.std.proofs.Common.{◌≡◌, ◌≢◌, ℕ, ◌<◌, ◌≤◌, ◌%◌, ◌+◌, refl, arith, sym, ◌∙◌, subst, Option, Some, None, Ordering, Less, Equal, Greater, ◌⊎◌, inl, inr}
 use Rattle.std.specs.Prelude.{ℤ, ◌<ℤ◌, MatchOption}
+use Rattle.std.specs.List.{All}
+use Rattle.bbm_rule.proofs.BitLemmas.{by_lt_or_le}
 use Rattle.std.specs.Ordering.{nat_cmp, int_cmp, ordering_then}
 use Rattle.module_box.specs.Moments.{cell_cmp}
 use Rattle.circuit.specs.Meaning.{Valuation}
-use Rattle.certificate.specs.Jobs.{JobState, IsJob}
+use Rattle.certificate.specs.Jobs.{JobState}
+use Rattle.certificate.specs.declared.job.Stop as listed
 use Rattle.local_run.specs.Order.{kind_number, fault_cmp}
 use Rattle.local_run.specs.Faults.{IsFaultUnder, IsFault, IsLeastFault, assignments}
 use Rattle.local_run.specs.declared.fault.Fault.{Fault}
 use Rattle.local_run.specs.declared.fault.Kind.{Kind}
 use Rattle.local_run.specs.declared.fault.Kind.TheVariants.{Edge, Stop, End}
-use Rattle.local_run.proofs.Decided.{decided, no_stop}
-use Rattle.local_run.specs.Scans.{IsReady, IsFirst, IsFree, valuation}
+use Rattle.local_run.proofs.Decided.{decided}
+use Rattle.local_run.specs.Scans.{HasNoEdgeFault, IsReady, IsFirst, IsFirstAt, IsFree, valuation}
 use Rattle.local_run.specs.declared.values.Values.{Values}
 
 nat_greater : (a b : ℕ) → nat_cmp a b ≡ Greater → b < a
@@ -95,50 +98,83 @@ first_least j vs f ready first earlier lower = (
         (subst (λ (k : Kind). IsFaultUnder j (valuation vs g.assignment) g.time k g.cell.x g.cell.y) (sym (kind_same _ _ ek))
         (under j vs g ready h))
 
--- no fault before a time, where no odd time before has one, and the last time is not before
-before_free : (j : JobState) (vs : Values) (t : ℕ) → IsReady j vs → t ≤ j.steps → ((s : ℕ) → s < t → s % 2 ≡ 1 → IsFree j vs s Edge) →
+-- no time before t has a fault of an edge or of a stop
+pub record AreFreeBefore (j : JobState) (vs : Values) (t : ℕ) : Type 0 where
+  pub edges : (s : ℕ) → s < t → s % 2 ≡ 1 → IsFree j vs s Edge
+  pub stops : (s : ℕ) → s < t → IsFree j vs s Stop
+
+pub free_more : (j : JobState) (vs : Values) (t : ℕ) → AreFreeBefore j vs t → HasNoEdgeFault j vs t → IsFree j vs t Stop → AreFreeBefore j vs (t + 1)
+free_more j vs t free edges stops = record {
+  edges = λ s l odd. by_lt_or_le s t (λ h. free.edges s h odd)
+      (λ h. let e : t ≡ s = omega (arith, l, h) in subst (λ (n : ℕ). IsFree j vs n Edge) e (edges (subst (λ (n : ℕ). n % 2 ≡ 1) (sym e) odd)));
+  stops = λ s l. by_lt_or_le s t (λ h. free.stops s h) (λ h. let e : t ≡ s = omega (arith, l, h) in subst (λ (n : ℕ). IsFree j vs n Stop) e stops);
+}
+
+-- then there is no fault before t, where the last time is not before
+before_free : (j : JobState) (vs : Values) (t : ℕ) → t ≤ j.steps → AreFreeBefore j vs t →
     (s : ℕ) (k : Kind) (x y : ℤ) (a : ℕ) → a < assignments j → IsFaultUnder j (valuation vs a) s k x y → ¬ (s < t)
-before_free j vs t ready early free s Edge x y a small d l = free s l d.odd x y a small d
-before_free j vs t ready early free s Stop x y a small d l = no_stop j (valuation vs a) s x y ready.job d
-before_free j vs t ready early free s End x y a small d l = let e = d.last in omega arith
+before_free j vs t early free s Edge x y a small d l = free.edges s l d.odd x y a small d
+before_free j vs t early free s Stop x y a small d l = free.stops s l x y a small d
+before_free j vs t early free s End x y a small d l = let e = d.last in omega arith
 
-none_before : (j : JobState) (vs : Values) (t : ℕ) → IsReady j vs → t ≤ j.steps → ((s : ℕ) → s < t → s % 2 ≡ 1 → IsFree j vs s Edge) →
-    (f : Fault) → IsFault j f → ¬ (f.time < t)
-none_before j vs t ready early free f h l = before_free j vs t ready early free f.time f.kind f.cell.x f.cell.y f.assignment h.in_range (under j vs f ready h) l
-
--- at the last time there is no fault of a lower kind
-lower_free : (j : JobState) (u : Valuation) (t : ℕ) (k : Kind) (x y : ℤ) → IsJob j → t ≡ j.steps → IsFaultUnder j u t k x y → ¬ (kind_number k < 2)
-lower_free j u t Edge x y is last d l = let e = d.early in omega arith
-lower_free j u t Stop x y is last d l = no_stop j u t x y is d
-lower_free j u t End x y is last d l = omega arith
-
-none_lower : (j : JobState) (vs : Values) (f : Fault) → IsReady j vs → f.time ≡ j.steps → IsFault j f → ¬ (kind_number f.kind < 2)
-none_lower j vs f ready last h l = lower_free j (valuation vs f.assignment) f.time f.kind f.cell.x f.cell.y ready.job last (under j vs f ready h) l
+none_before : (j : JobState) (vs : Values) (t : ℕ) → IsReady j vs → t ≤ j.steps → AreFreeBefore j vs t → (f : Fault) → IsFault j f → ¬ (f.time < t)
+none_before j vs t ready early free f h l = before_free j vs t early free f.time f.kind f.cell.x f.cell.y f.assignment h.in_range (under j vs f ready h) l
 
 is_first : (j : JobState) (vs : Values) (t : ℕ) (k : Kind) (f : Fault) → IsFirst j vs t k f → IsFirst j vs f.time f.kind f
 is_first j vs t k f first =
     subst (λ (t' : ℕ). IsFirst j vs t' f.kind f) (sym first.at_time) (subst (λ (k' : Kind). IsFirst j vs t k' f) (sym first.same_kind) first)
 
-pub edge_least : (j : JobState) (vs : Values) (t : ℕ) (f : Fault) → IsReady j vs → t < j.steps → ((s : ℕ) → s < t → s % 2 ≡ 1 → IsFree j vs s Edge) →
-    IsFirst j vs t Edge f → IsLeastFault j (Some f)
-edge_least j vs t f ready early free first = first_least j vs f ready (is_first j vs t Edge f first)
-    (λ g h l. none_before j vs t ready (omega arith) free g h (subst (λ (n : ℕ). g.time < n) first.at_time l))
-    (λ g h e l. not_below (kind_number g.kind) (subst (λ (k : Kind). kind_number g.kind < kind_number k) first.same_kind l))
-  where
-    not_below : (n : ℕ) → n < 0 → ⊥
-    not_below n l = omega arith
+-- from the first fault of a kind at a time, where the kinds before it have no fault at the time
+least_at : (j : JobState) (vs : Values) (t : ℕ) (k : Kind) (f : Fault) → IsReady j vs → t ≤ j.steps → AreFreeBefore j vs t → IsFirst j vs t k f →
+    ((l : Kind) (x y : ℤ) (a : ℕ) → a < assignments j → IsFaultUnder j (valuation vs a) t l x y → ¬ (kind_number l < kind_number k)) → IsLeastFault j (Some f)
+least_at j vs t k f ready early free first lower = first_least j vs f ready (is_first j vs t k f first)
+    (λ g h l. none_before j vs t ready early free g h (subst (λ (n : ℕ). g.time < n) first.at_time l))
+    (λ g h e l. lower g.kind g.cell.x g.cell.y g.assignment h.in_range
+    (subst (λ (n : ℕ). IsFaultUnder j (valuation vs g.assignment) n g.kind g.cell.x g.cell.y) (sym e ∙ first.at_time) (under j vs g ready h))
+    (subst (λ (q : Kind). kind_number g.kind < kind_number q) first.same_kind l))
+
+none_below_edge : (j : JobState) (vs : Values) (t : ℕ) (l : Kind) (x y : ℤ) (a : ℕ) → a < assignments j → IsFaultUnder j (valuation vs a) t l x y → ¬ (kind_number l < 0)
+none_below_edge j vs t l x y a small d h = omega (arith, h)
+
+none_below_stop : (j : JobState) (vs : Values) (t : ℕ) → HasNoEdgeFault j vs t → (l : Kind) (x y : ℤ) (a : ℕ) → a < assignments j → IsFaultUnder j (valuation vs a) t l x y → ¬ (kind_number l < 1)
+none_below_stop j vs t edges Edge x y a small d h = edges d.odd x y a small d
+none_below_stop j vs t edges Stop x y a small d h = omega (arith, h)
+none_below_stop j vs t edges End x y a small d h = omega (arith, h)
+
+-- at the last time no edge is looked at
+no_last_edge : (j : JobState) (vs : Values) → HasNoEdgeFault j vs j.steps
+no_last_edge j vs odd x y a small d = let e = d.early in omega (arith, e)
+
+none_below_end : (j : JobState) (vs : Values) → IsFree j vs j.steps Stop → (l : Kind) (x y : ℤ) (a : ℕ) → a < assignments j → IsFaultUnder j (valuation vs a) j.steps l x y → ¬ (kind_number l < 2)
+none_below_end j vs stops Edge x y a small d h = no_last_edge j vs d.odd x y a small d
+none_below_end j vs stops Stop x y a small d h = stops x y a small d
+none_below_end j vs stops End x y a small d h = omega (arith, h)
+
+-- the first fault at a time before the last
+pub early_least : (j : JobState) (vs : Values) (t : ℕ) (f : Fault) → IsReady j vs → t < j.steps → AreFreeBefore j vs t → IsFirstAt j vs t f → IsLeastFault j (Some f)
+early_least j vs t f ready early free (inl edge) = least_at j vs t Edge f ready (omega (arith, early)) free edge.1 (none_below_edge j vs t)
+early_least j vs t f ready early free (inr stop) = least_at j vs t Stop f ready (omega (arith, early)) free stop.1 (none_below_stop j vs t stop.0)
+
+-- the first fault of a stop at the last time
+pub last_stop_least : (j : JobState) (vs : Values) (f : Fault) → IsReady j vs → AreFreeBefore j vs j.steps → IsFirst j vs j.steps Stop f → IsLeastFault j (Some f)
+last_stop_least j vs f ready free first = least_at j vs j.steps Stop f ready (omega arith) free first (none_below_stop j vs j.steps (no_last_edge j vs))
 
 -- no fault at all
-none_left : (j : JobState) (vs : Values) → IsReady j vs → ((s : ℕ) → s < j.steps → s % 2 ≡ 1 → IsFree j vs s Edge) → IsFree j vs j.steps End →
+none_left : (j : JobState) (vs : Values) → AreFreeBefore j vs j.steps → IsFree j vs j.steps Stop → IsFree j vs j.steps End → All (λ s. s.at.time ≤ j.steps) j.stops →
     (t : ℕ) (k : Kind) (x y : ℤ) (a : ℕ) → a < assignments j → ¬ IsFaultUnder j (valuation vs a) t k x y
-none_left j vs ready free ends t Edge x y a small d = free t d.early d.odd x y a small d
-none_left j vs ready free ends t Stop x y a small d = no_stop j (valuation vs a) t x y ready.job d
-none_left j vs ready free ends t End x y a small d = ends x y a small (subst (λ (n : ℕ). IsFaultUnder j (valuation vs a) n End x y) d.last d)
+none_left j vs free stops ends timed t Edge x y a small d = free.edges t d.early d.odd x y a small d
+none_left j vs free stops ends timed t Stop x y a small d =
+    by_lt_or_le t j.steps (λ h. free.stops t h x y a small d)
+    (λ h.
+    let here : d.stop.at.time ≤ j.steps = subst (λ (s : listed.Stop). s.at.time ≤ j.steps) d.is_listed.2 (timed d.is_listed.0 d.stop d.is_listed.1) in
+    let time = d.time in
+    let e : t ≡ j.steps = omega (arith, here, time, h) in
+    stops x y a small (subst (λ (n : ℕ). IsFaultUnder j (valuation vs a) n Stop x y) e d))
+none_left j vs free stops ends timed t End x y a small d = ends x y a small (subst (λ (n : ℕ). IsFaultUnder j (valuation vs a) n End x y) d.last d)
 
-pub end_least_fault : (j : JobState) (vs : Values) (o : Option Fault) → IsReady j vs → ((s : ℕ) → s < j.steps → s % 2 ≡ 1 → IsFree j vs s Edge) →
+-- the first fault of a demand, or none
+pub end_least_fault : (j : JobState) (vs : Values) (o : Option Fault) → IsReady j vs → AreFreeBefore j vs j.steps → IsFree j vs j.steps Stop →
     MatchOption o (IsFree j vs j.steps End) (λ f. IsFirst j vs j.steps End f) → IsLeastFault j o
-end_least_fault j vs (Some f) ready free first = first_least j vs f ready (is_first j vs j.steps End f first)
-    (λ g h l. none_before j vs j.steps ready (omega arith) free g h (subst (λ (n : ℕ). g.time < n) first.at_time l))
-    (λ g h e l. none_lower j vs g ready (sym e ∙ first.at_time) h (subst (λ (k : Kind). kind_number g.kind < kind_number k) first.same_kind l))
-end_least_fault j vs None ready free ends = λ g h.
-    none_left j vs ready free ends g.time g.kind g.cell.x g.cell.y g.assignment h.in_range (under j vs g ready h)
+end_least_fault j vs (Some f) ready free stops first = least_at j vs j.steps End f ready (omega arith) free first (none_below_end j vs stops)
+end_least_fault j vs None ready free stops ends = λ g h.
+    none_left j vs free stops ends (λ k s l. (ready.job.stops k s l).time) g.time g.kind g.cell.x g.cell.y g.assignment h.in_range (under j vs g ready h)

@@ -1,3 +1,4 @@
+pub mod Numbers
 pub mod OwnWires
 pub mod LocalRuns
 pub mod Decided
@@ -6,6 +7,7 @@ pub mod LaneLemmas
 pub mod Scans
 pub mod Firsts
 pub mod Stepping
+pub mod StopScans
 pub mod Leasts
 pub mod ModuleJobs
 pub mod MovedJobs

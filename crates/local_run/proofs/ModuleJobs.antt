@@ -20,7 +20,7 @@ use Rattle.module_box.specs.declared.schedules.Signal.{Signal}
 use Rattle.module_box.specs.declared.schedules.Signal.TheVariants.{Zero, One, Wire}
 use Rattle.certificate.specs.Entries.{ModuleLines, known}
 use Rattle.certificate.specs.Jobs.{JobState, IsJobOf, job_demand, job_start}
-use Rattle.certificate.specs.Signals.{IsBelow, IsDemandBelow, Meets, is_live, renumber_demand, renumber_event, renumber_held, renumber_signal, renumber_signals}
+use Rattle.certificate.specs.Signals.{IsBelow, IsDemandBelow, Meets, is_live, renumber_demand, renumber_event, renumber_held, renumber_signal, renumber_signals, renumber_stop}
 use Rattle.certificate.specs.declared.job.Demand.{Demand}
 use Rattle.certificate.specs.declared.job.Demand.TheVariants as Demanded
 use Rattle.certificate.specs.declared.job.Stop as listed
@@ -175,6 +175,11 @@ module _ (ws : List ℕ) (different : AreDifferent ws) where
       let events = map_back (renumber_event f) (λ (h : Event). IsBelow (length ws) h.signal) event_back s.events t.events se te (ap (λ (r : Signals). r.events) e) in
       λ i. record { held = held i; events = events i }
 
+  stop_back : (s t : listed.Stop) → s.wire < length ws → t.wire < length ws → renumber_stop f s ≡ renumber_stop f t → s ≡ t
+  stop_back s t a b e =
+      let wire = number_back s.wire t.wire a b (ap (λ (r : listed.Stop). r.wire) e) in
+      λ i. record { at = ap (λ (r : listed.Stop). r.at) e i; wire = wire i }
+
   -- ---- gates
 
   defines_some : (k : Rule) → 1 ≤ defines k
@@ -296,6 +301,16 @@ module _ (c : Circuit) (p : Pattern) (m : ModuleLines) (j k : JobState) (differe
       (all_k (λ (h : Held). h.signal) k.halos.held of_k.own.halo_held) (all_k (λ (h : Event). h.signal) k.halos.events of_k.own.halo_events)
       (of_j.halos ∙ sym of_k.halos ∙ ap (λ g. renumber_signals g k.halos) wire_k)
 
+  below_j : All (λ s. s.wire < length ws) j.stops
+  below_j = subst (λ n. All (λ s. s.wire < n) j.stops) many_j of_j.own.stops
+
+  below_k : All (λ s. s.wire < length ws) k.stops
+  below_k = subst (λ n. All (λ s. s.wire < n) k.stops) many_k of_k.own.stops
+
+  same_stops : j.stops ≡ k.stops
+  same_stops = map_back (renumber_stop (slice_index ws)) (λ (s : listed.Stop). s.wire < length ws) (stop_back ws apart) j.stops k.stops below_j below_k
+      (of_j.stops ∙ sym of_k.stops ∙ ap (λ g. map (renumber_stop g) k.stops) wire_k)
+
   alike : AreAlike j k
   alike = record {
     area = same_area;
@@ -305,7 +320,7 @@ module _ (c : Circuit) (p : Pattern) (m : ModuleLines) (j k : JobState) (differe
     demand = same_demand;
     edges = same_edges;
     halos = same_halos;
-    stops = of_j.stops ∙ sym of_k.stops;
+    stops = same_stops;
   }
 
 pub jobs_agree : JobsOfOneModuleAgree

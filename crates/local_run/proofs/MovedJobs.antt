@@ -31,7 +31,6 @@ use Rattle.local_run.specs.Runs.{local_run, with_halo}
 use Rattle.local_run.specs.declared.fault.Fault.{Fault}
 use Rattle.local_run.specs.declared.fault.Kind.{Kind}
 use Rattle.local_run.specs.declared.fault.Kind.TheVariants.{Edge, Stop, End}
-use Rattle.local_run.proofs.Decided.{no_stop}
 use Rattle.local_run.proofs.LocalRuns.{even_or_odd, local_even, local_odd}
 
 -- ---- what is alike in two jobs where the faults of one are those of the other, moved
@@ -241,7 +240,9 @@ least_moved j k (Some f) is_j is_k same least = (
 under_inside : (j : JobState) (u : Valuation) (t : ℕ) (kind : Kind) (x y : ℤ) → IsJob j → IsFaultUnder j u t kind x y → in_box j.area x y ≡ true
 unfolding in_ring
 under_inside j u t Edge x y is f = (and_parts _ _ f.ring).0
-under_inside j u t Stop x y is f = absurd (no_stop j u t x y is f)
+under_inside j u t Stop x y is f =
+    let here : in_box j.area f.stop.at.cell.x f.stop.at.cell.y ≡ true = subst (λ (s : listed.Stop). in_box j.area s.at.cell.x s.at.cell.y ≡ true) f.is_listed.2 (is.stops f.is_listed.0 f.stop f.is_listed.1).inside in
+    ap₂ (in_box j.area) (sym f.column) (sym f.row) ∙ here
 under_inside j u t End x y is f = f.inside
 
 fault_inside : (j : JobState) (f : Fault) → IsJob j → IsFault j f → in_box j.area f.cell.x f.cell.y ≡ true

@@ -1,5 +1,5 @@
 -- The run of a job under all assignments, and the first of its faults
-use Rattle.std.specs.Prelude.{◌≡◌, ℕ, ℤ, ◌+◌, ◌*◌, ◌/◌, ◌%◌, ◌<◌, ◌≤◌, ◌<ℤ◌, length, Option, Some, None, ◌⊎◌}
+use Rattle.std.specs.Prelude.{◌≡◌, ℕ, ℤ, ◌+◌, ◌*◌, ◌/◌, ◌%◌, ◌<◌, ◌≤◌, ◌<ℤ◌, length, slice_get, Option, Some, None, ◌⊎◌}
 use Rattle.circuit.specs.Meaning.{Valuation, AreOrdered, wires}
 use Rattle.module_box.specs.LocalValues.{IsLocalValuation, value_of}
 use Rattle.module_box.specs.Schedules.{signal_at}
@@ -8,6 +8,7 @@ use Rattle.module_box.specs.declared.schedules.Signal.{Signal}
 use Rattle.module_box.specs.declared.schedules.Signal.TheVariants.{Zero, One, Wire}
 use Rattle.certificate.specs.Jobs.{JobState, IsJob}
 use Rattle.certificate.specs.Signals.{is_live}
+use Rattle.certificate.specs.declared.job.Stop as listed
 use Rattle.local_run.specs.Faults.{IsFaultUnder, assignments}
 use Rattle.local_run.specs.Lanes.{HasSize, lane}
 use Rattle.local_run.specs.Places.{inner, outer}
@@ -49,7 +50,7 @@ pub record Shows (j : JobState) (vs : Values) (t : ℕ) (p : Planes) : Type 0 wh
   pub cells : (a x y : ℕ) → a < assignments j → x < j.area.w → y < j.area.h →
       lane p a (1 + x) (1 + y) ≡ local_run j (valuation vs a) t (inner j.area.x x) (inner j.area.y y)
 
--- whether faults of the kind are sought at the time
+-- whether faults of the kind are sought at the time, cell by cell
 abbrev pub IsSought : JobState → ℕ → Kind → Type 0
 IsSought j t Edge = (t % 2 ≡ 1) × (t < j.steps)
 IsSought j t Stop = ⊥
@@ -101,7 +102,23 @@ HasHalo j vs t p = (x y : ℕ) → x < j.area.w + 2 → y < j.area.h + 2 → Has
 abbrev pub SameElsewhere : JobState → Planes → Planes → ℕ → ℕ → Type 0
 SameElsewhere j p q x y = (a x' y' : ℕ) → a < assignments j → x' < j.area.w + 2 → ((x' ≡ x) × (y' ≡ y) → ⊥) → lane q a x' y' ≡ lane p a x' y'
 
--- after a time: its first fault, or the cells of the next time, where it has none
-abbrev pub IsAfter : JobState → Values → ℕ → Planes → Option Fault → Type 0
-IsAfter j vs t p None = Shows j vs (t + 1) p × (t % 2 ≡ 1 → IsFree j vs t Edge)
-IsAfter j vs t p (Some f) = (t % 2 ≡ 1) × IsFirst j vs t Edge f
+-- the stops before this place are at earlier times than t, and all others are not
+pub record IsNextStop (j : JobState) (t place : ℕ) : Type 0 where
+  pub within : place ≤ length j.stops
+  pub before : (k : ℕ) (s : listed.Stop) → k < place → slice_get j.stops k ≡ Some s → s.at.time < t
+  pub from : (k : ℕ) (s : listed.Stop) → place ≤ k → slice_get j.stops k ≡ Some s → t ≤ s.at.time
+
+-- a cell has a fault of its edge at the time if that is odd; so it has none if the time is even
+abbrev pub HasNoEdgeFault : JobState → Values → ℕ → Type 0
+HasNoEdgeFault j vs t = t % 2 ≡ 1 → IsFree j vs t Edge
+
+-- f comes first among all faults at a time before the last
+abbrev pub IsFirstAt : JobState → Values → ℕ → Fault → Type 0
+IsFirstAt j vs t f = ((t % 2 ≡ 1) × IsFirst j vs t Edge f) ⊎ (HasNoEdgeFault j vs t × IsFirst j vs t Stop f)
+
+-- a time before the last without a fault: the cells are those of the next time, and so is the place of the next stop
+pub record IsPassed (j : JobState) (vs : Values) (t : ℕ) (p : Planes) (place : ℕ) : Type 0 where
+  pub shows : Shows j vs (t + 1) p
+  pub next : IsNextStop j (t + 1) place
+  pub edges : HasNoEdgeFault j vs t
+  pub stops : IsFree j vs t Stop

@@ -1,7 +1,7 @@
 //! Cells of a job by their places in its box, and in the box together with its halo.
-ghost use Rattle.std.specs.Prelude.{◌≡◌, ◌+◌, ◌<◌, ◌≤◌};
+ghost use Rattle.std.specs.Prelude.{◌≡◌, ◌+◌, ◌<◌, ◌≤◌, IsTrue};
 ghost use Rattle.circuit.specs.Meaning.{wires};
-ghost use Rattle.module_box.specs.Boxes.{in_ring};
+ghost use Rattle.module_box.specs.Boxes.{in_box, in_ring};
 ghost use Rattle.module_box.specs.Schedules.{signal_at};
 ghost use Rattle.certificate.specs.Jobs.{job_demand, job_start};
 ghost use Rattle.certificate.specs.Signals.{IsBelow, IsDemandBelow};
@@ -80,4 +80,16 @@ pub fn is_ring(job: &Job, x: usize, y: usize) -> bool
 {
     let area = job.area();
     area.in_ring(inner_cell(area, x, y))
+}
+
+/// The column and row of a cell of the box.
+pub fn place_of(job: &Job, cell: Cell) -> (usize, usize)
+    requires { IsTrue (in_box job.now.area cell.x cell.y) }
+    ensures column { (result.0 < job.now.area.w) × (cell.x ≡ inner job.now.area.x result.0) }
+    ensures row { (result.1 < job.now.area.h) × (cell.y ≡ inner job.now.area.y result.1) }
+{
+    let area = job.area();
+    let x = cell.x.unsigned_abs() - area.x;
+    let y = cell.y.unsigned_abs() - area.y;
+    (x as usize, y as usize)
 }

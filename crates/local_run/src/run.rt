@@ -1,32 +1,45 @@
 //! The run of a job, and its finding.
-ghost use Rattle.std.specs.Prelude.{◌≡◌, ◌<◌, IfOk};
+ghost use Rattle.std.specs.Prelude.{◌≡◌, ◌<◌, IfOk, MatchOption};
 ghost use Rattle.std.specs.Arc.{arc_value};
 ghost use Rattle.local_run.specs.Faults.{IsLeastFault};
-ghost use Rattle.local_run.specs.Scans.{IsAfter, IsReady, Shows};
+ghost use Rattle.local_run.specs.Scans.{IsFirstAt, IsNextStop, IsPassed, IsReady, Shows};
 ghost use Rattle.local_run.specs.Shown.{digest_of, number_of, job_of};
 
 use crate::fault::{Fault, Kind};
 use crate::finding::Finding;
 use crate::planes::Planes;
-use crate::scan::first_fault;
+use crate::scan::{first_fault, first_stop_fault};
 use crate::steps::{even_time, odd_time, put_start};
 use crate::values::Values;
 use certificate::Job;
 use std::alloc::{AllocError, Global};
 use std::sync::Arc;
 
-// One time of the run, or its first fault.
-fn one_time(planes: &mut Planes, values: &Values, job: &Job, time: u32) -> Option<Fault>
+// One time of the run before the last, or its first fault. `next` is the place of the first stop that is not earlier.
+fn one_time(
+    planes: &mut Planes,
+    values: &Values,
+    job: &Job,
+    time: u32,
+    next: &mut usize,
+) -> Option<Fault>
     requires ready { IsReady job.now values.now }
     requires early { time < job.now.steps }
     requires shows { Shows job.now values.now time planes.old }
-    ensures { IsAfter job.now values.now time planes.new result }
+    requires next { IsNextStop job.now time next.old }
+    ensures { MatchOption result (IsPassed job.now values.now time planes.new next.new) (λ f. IsFirstAt job.now values.now time f) }
 {
     if time % 2 == 0 {
+        if let Some(fault) = first_stop_fault(planes, values, job, time, next) {
+            return Some(fault);
+        }
         even_time(planes, values, job, time);
         return None;
     }
     if let Some(fault) = first_fault(planes, values, job, time, Kind::Edge) {
+        return Some(fault);
+    }
+    if let Some(fault) = first_stop_fault(planes, values, job, time, next) {
         return Some(fault);
     }
     odd_time(planes, values, job, time);
@@ -41,12 +54,17 @@ fn least_fault(alloc: Global, job: &Job) -> Result<Option<Fault>, AllocError>
     let values = Values::of(alloc, job)?;
     let mut planes = Planes::new(alloc, area.w as usize, area.h as usize, values.words())?;
     put_start(&mut planes, &values, job);
+    let mut next = 0;
     for time in 0..job.steps() {
-        if let Some(fault) = one_time(&mut planes, &values, job, time) {
+        if let Some(fault) = one_time(&mut planes, &values, job, time, &mut next) {
             return Ok(Some(fault));
         }
     }
-    Ok(first_fault(&planes, &values, job, job.steps(), Kind::End))
+    let last = job.steps();
+    if let Some(fault) = first_stop_fault(&planes, &values, job, last, &mut next) {
+        return Ok(Some(fault));
+    }
+    Ok(first_fault(&planes, &values, job, last, Kind::End))
 }
 
 /// Runs a job under all assignments of its cuts, for a module of this number of the certificate with this digest. This is the

@@ -1,14 +1,17 @@
 //! The first fault of a kind at a time.
-ghost use Rattle.std.specs.Prelude.{◌≡◌, ◌+◌, ◌<◌, ◌≤◌, MatchOption};
+ghost use Rattle.std.specs.Prelude.{◌≡◌, ◌≢◌, ◌+◌, ◌<◌, ◌≤◌, IsTrue, MatchOption};
+ghost use Rattle.circuit.specs.Meaning.{wires};
+ghost use Rattle.module_box.specs.Boxes.{in_box};
+ghost use Rattle.local_run.specs.Runs.{local_run};
 ghost use Rattle.local_run.specs.Faults.{IsFaultUnder, assignments};
 ghost use Rattle.local_run.specs.Places.{inner};
-ghost use Rattle.local_run.specs.Scans.{IsFirst, IsFree, IsLeastBelow, IsReady, IsSought, IsStride, Shows, valuation};
+ghost use Rattle.local_run.specs.Scans.{IsFirst, IsFree, IsLeastBelow, IsNextStop, IsReady, IsSought, IsStride, Shows, valuation};
 
 use crate::fault::{Fault, Kind};
-use crate::places::{demand_at, edge_at, inner_cell, is_ring};
+use crate::places::{demand_at, edge_at, inner_cell, is_ring, place_of};
 use crate::planes::Planes;
 use crate::values::Values;
-use certificate::{Demand, Job};
+use certificate::{Demand, Job, Stop};
 use module_box::Signal;
 
 // The least assignment under which the cell at a column and row of the box has a fault of the kind.
@@ -90,5 +93,51 @@ pub fn first_fault(
             x += stride;
         }
     }
+    None
+}
+
+// The least assignment under which the cell of a stop is not as its wire, at the stop's time.
+fn stop_fault(planes: &Planes, values: &Values, job: &Job, stop: Stop) -> Option<u32>
+    requires ready { IsReady job.now values.now }
+    requires shows { Shows job.now values.now stop.at.time planes.now }
+    requires inside { IsTrue (in_box job.now.area stop.at.cell.x stop.at.cell.y) }
+    requires own { stop.wire < wires job.now.locals.netlist }
+    ensures { IsLeastBelow (assignments job.now) (λ a. local_run job.now (valuation values.now a) stop.at.time stop.at.cell.x stop.at.cell.y ≢ valuation values.now a stop.wire) result }
+{
+    let (x, y) = place_of(job, stop.at.cell);
+    values.first_difference(planes, 1 + x, 1 + y, Signal::Wire(stop.wire))
+}
+
+/// The first fault of a stop at the time, where `next` is the place of the first stop that is not earlier. Where there is none,
+/// `next` is then the place of the first later stop.
+pub fn first_stop_fault(
+    planes: &Planes,
+    values: &Values,
+    job: &Job,
+    time: u32,
+    next: &mut usize,
+) -> Option<Fault>
+    requires ready { IsReady job.now values.now }
+    requires shows { Shows job.now values.now time planes.now }
+    requires next { IsNextStop job.now time next.old }
+    ensures { MatchOption result (IsFree job.now values.now time Kind.Stop × IsNextStop job.now (time + 1) next.new) (λ f. IsFirst job.now values.now time Kind.Stop f) }
+{
+    let mut place = *next;
+    'stops: while place < job.stops() {
+        let stop = job.stop(place);
+        if stop.at.time != time {
+            break;
+        }
+        if let Some(assignment) = stop_fault(planes, values, job, stop) {
+            return Some(Fault {
+                time,
+                kind: Kind::Stop,
+                cell: stop.at.cell,
+                assignment,
+            });
+        }
+        place += 1;
+    }
+    *next = place;
     None
 }

@@ -1,20 +1,35 @@
-use Rattle.std.proofs.Common.{arith, ◌≡◌, ℕ, subst}
-use Rattle.bbm_rule.proofs.BitLemmas.{by_lt_or_le}
-use Rattle.local_run.specs.declared.fault.Kind.TheVariants.{Edge}
-use Rattle.local_run.specs.Scans.{IsFree}
-use Rattle.local_run.proofs.Leasts.{edge_least, end_least_fault}
+use Rattle.std.proofs.Common.{◌≡◌, arith, subst, ℕ}
+use Rattle.local_run.specs.Scans.{IsFirst, IsFree}
+use Rattle.local_run.specs.declared.fault.Kind.TheVariants.{Stop}
+use Rattle.local_run.proofs.Leasts.{AreFreeBefore, early_least, end_least_fault, free_more, last_stop_least}
 use Rattle.local_run.proofs.run.least_fault.Goals as goal
 
-pub returns : goal.returns
-returns c = end_least_fault c.args.job.now c.in_ok-values.values _ c.in_ok-values.ensures (λ s l odd. c.loop-time.invariant.free s (omega arith) odd) (rw c.steps.ensures at c.first_fault.ensures)
+pub loop-time-preserved : goal.loop-time-preserved
+loop-time-preserved c =
+    let passed = c.in_default.ensures in
+    record { shows = passed.shows; next = passed.next; free = free_more _ _ _ c.loop-time.invariant.free passed.edges passed.stops }
 
 pub returns-in-Some : goal.returns-in-Some
-returns-in-Some c = edge_least c.args.job.now c.in_ok-values.values c.loop-time.time c.in-Some.fault c.in_ok-values.ensures (omega arith) c.loop-time.invariant.free c.in-Some.ensures.1
+returns-in-Some c = early_least c.args.job.now c.in_ok-values.values c.loop-time.time c.in-Some.fault c.in_ok-values.ensures (omega arith) c.loop-time.invariant.free c.in-Some.ensures
 
-pub loop-time-preserved : goal.loop-time-preserved
-loop-time-preserved c = record {
-  shows = c.in_default.ensures.0;
-  free = λ t l odd. by_lt_or_le t c.loop-time.time (λ h. c.loop-time.invariant.free t h odd)
-      (λ h. let e : c.loop-time.time ≡ t = omega arith in
-      subst (λ (n : ℕ). IsFree c.args.job.now c.in_ok-values.values n Edge) e (c.in_default.ensures.1 (omega arith)));
-}
+pub returns-in-Some-first_stop_fault : goal.returns-in-Some-first_stop_fault
+returns-in-Some-first_stop_fault c =
+    let j = c.args.job.now in
+    let vs = c.in_ok-values.values in
+    let end = c.steps-time-end.ensures in
+    let within = c.loop-time.auto.time-end in
+    let past = c.loop-time-test.false in
+    let time : c.loop-time.time ≡ j.steps = omega (arith, end, within, past) in
+    last_stop_least j vs c.in-Some-first_stop_fault.fault c.in_ok-values.ensures (subst (AreFreeBefore j vs) time c.loop-time.invariant.free)
+    (subst (λ (n : ℕ). IsFirst j vs n Stop c.in-Some-first_stop_fault.fault) c.steps-last.ensures c.in-Some-first_stop_fault.ensures)
+
+pub returns : goal.returns
+returns c =
+    let j = c.args.job.now in
+    let vs = c.in_ok-values.values in
+    let end = c.steps-time-end.ensures in
+    let within = c.loop-time.auto.time-end in
+    let past = c.loop-time-test.false in
+    let time : c.loop-time.time ≡ j.steps = omega (arith, end, within, past) in
+    end_least_fault j vs c.first_fault.result c.in_ok-values.ensures (subst (AreFreeBefore j vs) time c.loop-time.invariant.free)
+    (subst (λ (n : ℕ). IsFree j vs n Stop) c.steps-last.ensures c.in_default-first_stop_fault.ensures.0) (rw c.steps-last.ensures at c.first_fault.ensures)

@@ -1,0 +1,219 @@
+-- Stops in their order, and the first of them that has a fault
+use Rattle.std.proofs.Common.{◌≡◌, ◌≢◌, ℕ, zero, suc, ◌<◌, ◌≤◌, ◌+◌, List, [], ◌∷◌, length, get_or, Option, Some, None, Ordering, Less, Equal, Greater, ◌⊎◌, inl, inr, refl, arith, sym, ◌∙◌, ap, subst}
+use Rattle.std.specs.Prelude.{ℤ, ◌<ℤ◌, Contains, slice_get}
+use Rattle.std.specs.Ordering.{nat_cmp, int_cmp, ordering_then}
+use Rattle.std.proofs.lemmas.Int.{ints}
+use Rattle.std.proofs.lemmas.Option.{same_Some, slice_get_within, slice_get-get_or}
+use Rattle.circuit.specs.Meaning.{Valuation}
+use Rattle.module_box.specs.Moments.{cell_cmp, moment_cmp}
+use Rattle.module_box.specs.Schedules.{IsRising}
+use Rattle.module_box.specs.declared.schedules.Moment.{Moment}
+use Rattle.certificate.specs.Jobs.{JobState, stop_moment}
+use Rattle.certificate.specs.declared.job.Stop as listed
+use Rattle.local_run.specs.Faults.{IsStopFault, IsFaultUnder, assignments}
+use Rattle.local_run.specs.Runs.{local_run}
+use Rattle.local_run.specs.Scans.{IsFirst, IsFree, IsLeastBelow, IsNextStop, valuation}
+use Rattle.local_run.specs.declared.fault.Kind.TheVariants.{Stop}
+use Rattle.local_run.specs.declared.values.Values.{Values}
+use Rattle.local_run.proofs.Numbers.{three_ways}
+
+-- ---- the order of moments
+nat_less : (a b : ℕ) → nat_cmp a b ≡ Less → a < b
+nat_less a b h = grind arith
+
+nat_equal : (a b : ℕ) → nat_cmp a b ≡ Equal → a ≡ b
+nat_equal a b h = grind arith
+
+int_less : (a b : ℤ) → int_cmp a b ≡ Less → a <ℤ b
+int_less a b h = grind arith
+
+int_equal : (a b : ℤ) → int_cmp a b ≡ Equal → a ≡ b
+int_equal a b h = grind arith
+
+then_less : (o p : Ordering) → ordering_then o p ≡ Less → (o ≡ Less) ⊎ ((o ≡ Equal) × (p ≡ Less))
+then_less Less p h = inl refl
+then_less Equal p h = inr (refl, h)
+then_less Greater p h = absurd cc
+
+-- a cell comes after another, by y and x
+abbrev pub IsLater : ℤ → ℤ → ℤ → ℤ → Type 0
+IsLater x y x' y' = (y <ℤ y') ⊎ ((y ≡ y') × (x <ℤ x'))
+
+later_moment : (m n : Moment) → moment_cmp m n ≡ Less → (m.time < n.time) ⊎ ((m.time ≡ n.time) × IsLater m.cell.x m.cell.y n.cell.x n.cell.y)
+unfolding moment_cmp cell_cmp
+later_moment m n h = elim (then_less _ _ h) [
+  | inl e ↦ inl (nat_less m.time n.time e)
+  | inr p ↦ inr (
+    nat_equal m.time n.time p.0,
+    elim (then_less (int_cmp m.cell.y n.cell.y) (int_cmp m.cell.x n.cell.x) p.1) [
+      | inl e ↦ inl (int_less _ _ e)
+      | inr q ↦ inr (int_equal _ _ q.0, int_less _ _ q.1)
+    ],
+  )
+]
+
+-- ---- the stops that were looked at
+
+-- No stop at time t before this place has a fault, and those from it on are not earlier.
+pub record AreTried (j : JobState) (vs : Values) (t place : ℕ) : Type 0 where
+  pub within : place ≤ length j.stops
+  pub before : (k : ℕ) (s : listed.Stop) → k < place → slice_get j.stops k ≡ Some s → s.at.time ≤ t
+  pub from : (k : ℕ) (s : listed.Stop) → place ≤ k → slice_get j.stops k ≡ Some s → t ≤ s.at.time
+  pub free : (k : ℕ) (s : listed.Stop) (a : ℕ) → k < place → slice_get j.stops k ≡ Some s → s.at.time ≡ t → a < assignments j →
+      ¬ (local_run j (valuation vs a) s.at.time s.at.cell.x s.at.cell.y ≢ valuation vs a s.wire)
+
+pub none_tried : (j : JobState) (vs : Values) (t place : ℕ) → IsNextStop j t place → AreTried j vs t place
+none_tried j vs t place next = record {
+  within = next.within;
+  before = λ k s l e. (let lt = next.before k s l e in omega (arith, lt));
+  from = next.from;
+  free = λ k s a l e at la. absurd (let lt = next.before k s l e in omega (arith, lt, at));
+}
+
+below_or_there : (k n : ℕ) → k < n + 1 → (k < n) ⊎ (k ≡ n)
+below_or_there k n l = grind arith
+
+-- a stop more
+pub one_more : (j : JobState) (vs : Values) (t place : ℕ) (s : listed.Stop) → AreTried j vs t place → slice_get j.stops place ≡ Some s → s.at.time ≡ t →
+    IsLeastBelow (assignments j) (λ a. local_run j (valuation vs a) s.at.time s.at.cell.x s.at.cell.y ≢ valuation vs a s.wire) None → AreTried j vs t (place + 1)
+one_more j vs t place s tried e at none = record {
+  within = (let lt = slice_get_within j.stops place s e in omega (arith, lt));
+  before = λ k r l h. elim (below_or_there k place l) [
+    | inl lt ↦ tried.before k r lt h
+    | inr same ↦ (let is : r ≡ s = same_Some _ _ (sym h ∙ ap (slice_get j.stops) same ∙ e) in let time = ap (λ (x : listed.Stop). x.at.time) is in omega (arith, time, at))
+  ];
+  from = λ k r l h. tried.from k r (omega (arith, l)) h;
+  free = λ k r a l h time la. elim (below_or_there k place l) [
+    | inl lt ↦ tried.free k r a lt h time la
+    | inr same ↦
+        let is : s ≡ r = same_Some _ _ (sym e ∙ ap (slice_get j.stops) (sym same) ∙ h) in
+        subst (λ (x : listed.Stop). ¬ (local_run j (valuation vs a) x.at.time x.at.cell.x x.at.cell.y ≢ valuation vs a x.wire)) is (none a la)
+  ];
+}
+
+-- the stop of a fault stands in the list
+stop_at : (j : JobState) (u : Valuation) (t : ℕ) (x y : ℤ) (f : IsStopFault j u t x y) → slice_get j.stops f.is_listed.0 ≡ Some f.stop
+stop_at j u t x y f = slice_get-get_or j.stops f.is_listed.0 f.stop f.is_listed.1 ∙ ap Some f.is_listed.2
+
+-- where no stop before this place has a fault, one that has stands at it or later, and then so does its cell
+where_it_is : (j : JobState) (vs : Values) (t place a : ℕ) (s : listed.Stop) (x y : ℤ) → IsRising moment_cmp stop_moment j.stops → AreTried j vs t place → slice_get j.stops place ≡ Some s →
+    s.at.time ≡ t → a < assignments j → (f : IsStopFault j (valuation vs a) t x y) → (f.stop ≡ s) ⊎ IsLater s.at.cell.x s.at.cell.y x y
+where_it_is j vs t place a s x y rising tried e at la f =
+    let h : slice_get j.stops f.is_listed.0 ≡ Some f.stop = stop_at j (valuation vs a) t x y f in
+    elim (three_ways f.is_listed.0 place) [
+      | inl lt ↦ absurd (tried.free f.is_listed.0 f.stop a lt h f.time la (λ is. f.differs (sym place_is ∙ is)))
+      | inr (inl same) ↦ inl (same_Some _ _ (sym h ∙ ap (slice_get j.stops) same ∙ e))
+      | inr (inr gt) ↦ elim (later_moment s.at f.stop.at (rising.rises place f.is_listed.0 s f.stop gt e h)) [
+        | inl early ↦ absurd (let time = f.time in omega (arith, early, time, at))
+        | inr p ↦ inr (subst (λ (z : ℤ). IsLater s.at.cell.x s.at.cell.y z y) f.column (subst (λ (z : ℤ). IsLater s.at.cell.x s.at.cell.y f.stop.at.cell.x z) f.row p.1))
+      ]
+    ]
+  where
+    place_is : local_run j (valuation vs a) f.stop.at.time f.stop.at.cell.x f.stop.at.cell.y ≡ local_run j (valuation vs a) t x y
+    place_is = λ i. local_run j (valuation vs a) (f.time i) (f.column i) (f.row i)
+
+less_itself : (z : ℤ) → ¬ (z <ℤ z)
+less_itself z l = omega (arith, ints, l)
+
+less_both : (y z : ℤ) → y <ℤ z → ¬ (z <ℤ y)
+less_both y z l m = omega (arith, ints, l, m)
+
+not_before : (x y x' y' : ℤ) → IsLater x y x' y' → ¬ (y' <ℤ y)
+not_before x y x' y' (inl l) m = less_both y y' l m
+not_before x y x' y' (inr p) m = less_itself y' (subst (λ (z : ℤ). y' <ℤ z) p.0 m)
+
+not_left : (x y x' : ℤ) → IsLater x y x' y → ¬ (x' <ℤ x)
+not_left x y x' (inl l) m = less_itself y l
+not_left x y x' (inr p) m = less_both x x' p.1 m
+
+not_itself : (x y : ℤ) → ¬ IsLater x y x y
+not_itself x y (inl l) = less_itself y l
+not_itself x y (inr p) = less_itself x p.1
+
+pub stop_first : (j : JobState) (vs : Values) (t place a : ℕ) (s : listed.Stop) → IsRising moment_cmp stop_moment j.stops → AreTried j vs t place → slice_get j.stops place ≡ Some s →
+    s.at.time ≡ t → IsLeastBelow (assignments j) (λ b. local_run j (valuation vs b) s.at.time s.at.cell.x s.at.cell.y ≢ valuation vs b s.wire) (Some a) →
+    IsFirst j vs t Stop (record { time = t; kind = Stop; cell = s.at.cell; assignment = a })
+stop_first j vs t place a s rising tried e at least = record {
+  at_time = refl;
+  same_kind = refl;
+  small = least.0;
+  fault = record {
+    stop = s;
+    is_listed = (place, slice_get_within j.stops place s e, there);
+    time = at;
+    column = refl;
+    row = refl;
+    differs = subst (λ (n : ℕ). local_run j (valuation vs a) n s.at.cell.x s.at.cell.y ≢ valuation vs a s.wire) at least.1;
+  };
+  row = λ x y b lb less f. elim (where_it_is j vs t place b s x y rising tried e at lb f) [
+    | inl same ↦ less_itself s.at.cell.y (subst (λ (z : ℤ). z <ℤ s.at.cell.y) (sym f.row ∙ ap (λ (r : listed.Stop). r.at.cell.y) same) less)
+    | inr later ↦ not_before s.at.cell.x s.at.cell.y x y later less
+  ];
+  column = λ x b lb less f. elim (where_it_is j vs t place b s x s.at.cell.y rising tried e at lb f) [
+    | inl same ↦ less_itself s.at.cell.x (subst (λ (z : ℤ). z <ℤ s.at.cell.x) (sym f.column ∙ ap (λ (r : listed.Stop). r.at.cell.x) same) less)
+    | inr later ↦ not_left s.at.cell.x s.at.cell.y x later less
+  ];
+  assignment = λ b less f. (let lb : b < assignments j = (let la = least.0 in omega (arith, la, less)) in
+      elim (where_it_is j vs t place b s s.at.cell.x s.at.cell.y rising tried e at lb f) [
+        | inl same ↦ least.2 b less (λ is. f.differs (ap (λ (n : ℕ). local_run j (valuation vs b) n s.at.cell.x s.at.cell.y) (sym at) ∙ is ∙ ap (λ (r : listed.Stop). valuation vs b r.wire) (sym same)))
+        | inr later ↦ not_itself s.at.cell.x s.at.cell.y later
+      ]);
+}
+  where
+    there : get_or j.stops place s ≡ s
+    there = same_Some _ _ (sym (slice_get-get_or j.stops place s (slice_get_within j.stops place s e)) ∙ e)
+
+-- ---- no stop at the time is left
+
+abbrev NoneLeft : JobState → ℕ → ℕ → Type 0
+NoneLeft j t place = (k : ℕ) (s : listed.Stop) → place ≤ k → slice_get j.stops k ≡ Some s → t < s.at.time
+
+at_end : (j : JobState) (t place : ℕ) → length j.stops ≤ place → NoneLeft j t place
+at_end j t place past k s l e = absurd (let lt = slice_get_within j.stops k s e in omega (arith, lt, past, l))
+
+before_later : (j : JobState) (vs : Values) (t place : ℕ) (s : listed.Stop) → IsRising moment_cmp stop_moment j.stops → AreTried j vs t place → slice_get j.stops place ≡ Some s → s.at.time ≢ t → NoneLeft j t place
+before_later j vs t place s rising tried e other k r l h = elim (three_ways k place) [
+  | inl lt ↦ absurd (omega (arith, lt, l))
+  | inr (inl same) ↦
+      let is : r ≡ s = same_Some _ _ (sym h ∙ ap (slice_get j.stops) same ∙ e) in
+      let time : r.at.time ≡ s.at.time = ap (λ (x : listed.Stop). x.at.time) is in
+      let ge = tried.from place s (omega arith) e in
+      omega (arith, time, ge, other)
+  | inr (inr gt) ↦
+      let ge = tried.from place s (omega arith) e in
+      elim (later_moment s.at r.at (rising.rises place k s r gt e h)) [
+        | inl early ↦ omega (arith, early, ge)
+        | inr p ↦ (let same = p.0 in omega (arith, same, ge, other))
+      ]
+]
+
+pub record AreAllTried (j : JobState) (vs : Values) (t place : ℕ) : Type 0 where
+  pub free : IsFree j vs t Stop
+  pub next : IsNextStop j (t + 1) place
+
+all_tried : (j : JobState) (vs : Values) (t place : ℕ) → AreTried j vs t place → NoneLeft j t place → AreAllTried j vs t place
+all_tried j vs t place tried left = record {
+  free = λ x y a la f. tried.free f.is_listed.0 f.stop a (soon x y a f) (stop_at j (valuation vs a) t x y f) f.time la
+      (λ is. f.differs (sym (λ i. local_run j (valuation vs a) (f.time i) (f.column i) (f.row i)) ∙ is));
+  next = record {
+    within = tried.within;
+    before = λ k s l e. (let le = tried.before k s l e in omega (arith, le));
+    from = λ k s l e. (let lt = left k s l e in omega (arith, lt));
+  };
+}
+  where
+    soon : (x y : ℤ) (a : ℕ) (f : IsStopFault j (valuation vs a) t x y) → f.is_listed.0 < place
+    soon x y a f = elim (three_ways f.is_listed.0 place) [
+      | inl lt ↦ lt
+      | inr (inl same) ↦ absurd (late x y a f (omega (arith, same)))
+      | inr (inr gt) ↦ absurd (late x y a f (omega (arith, gt)))
+    ]
+      where
+        late : (x y : ℤ) (a : ℕ) (f : IsStopFault j (valuation vs a) t x y) → ¬ (place ≤ f.is_listed.0)
+        late x y a f ge = (let lt = left f.is_listed.0 f.stop ge (stop_at j (valuation vs a) t x y f) in let time = f.time in omega (arith, lt, time))
+
+pub past_all : (j : JobState) (vs : Values) (t place : ℕ) → AreTried j vs t place → length j.stops ≤ place → AreAllTried j vs t place
+past_all j vs t place tried past = all_tried j vs t place tried (at_end j t place past)
+
+pub past_these : (j : JobState) (vs : Values) (t place : ℕ) (s : listed.Stop) → IsRising moment_cmp stop_moment j.stops → AreTried j vs t place → slice_get j.stops place ≡ Some s → s.at.time ≢ t → AreAllTried j vs t place
+past_these j vs t place s rising tried e other = all_tried j vs t place tried (before_later j vs t place s rising tried e other)

@@ -1,0 +1,28 @@
+use Rattle.std.proofs.Common.{◌≡◌, length, get_or, Option, Some, None, List, sym, ap, subst, ◌∙◌, arith, ◌<◌, ℕ}
+use Rattle.std.specs.Prelude.{slice_get}
+use Rattle.std.proofs.lemmas.Option.{slice_get-get_or}
+use Rattle.certificate.specs.declared.job.Stop as listed
+use Rattle.local_run.proofs.StopScans.{one_more, past_all, past_these, stop_first}
+use Rattle.local_run.proofs.scan.first_stop_fault.Goals as goal
+
+pub returns-in-Some : goal.returns-in-Some
+returns-in-Some c =
+    stop_first c.args.job.now c.args.values.now c.args.time c.stops.place c.in-Some.assignment _ c.requires.ready.job.stops_rise c.stops.invariant
+    c.stop-stop.ensures c.if-stop-time.false c.in-Some.ensures
+
+pub stops-preserved : goal.stops-preserved
+stops-preserved c =
+    one_more c.args.job.now c.args.values.now c.args.time c.stops.place _ c.stops.invariant
+    c.stop-stop.ensures c.if-stop-time.false c.in_default.ensures
+
+pub returns-after-stops : goal.returns-after-stops
+returns-after-stops c =
+    let past = past_all c.args.job.now c.args.values.now c.args.time c.stops.place c.stops.invariant
+    (let many = c.stops-in-stops.ensures in let all = c.stops-test.false in omega (arith, many, all)) in
+    (past.free, past.next)
+
+pub returns-then-stop-time : goal.returns-then-stop-time
+returns-then-stop-time c =
+    let past = past_these c.args.job.now c.args.values.now c.args.time c.stops.place _ c.requires.ready.job.stops_rise c.stops.invariant
+    c.stop-stop.ensures c.if-stop-time.true in
+    (past.free, past.next)
