@@ -1,12 +1,13 @@
 -- Conclusions from the faults of all jobs
-use Rattle.std.proofs.Common.{◌≡◌, ◌∙◌, List, [], ◌∷◌, length, Option, sym, arith, refl, Vec, Global}
+use Rattle.std.proofs.Common.{◌≡◌, ◌∙◌, true, List, [], ◌∷◌, ◌++◌, length, map, Option, sym, arith, refl, Vec, Global}
 use Rattle.local_run.specs.declared.fault.Fault.{Fault}
 use Rattle.border_match.specs.BorderFaults.{AreBorderFaultsOf}
 use Rattle.border_match.specs.declared.fault.BorderFault.{BorderFault}
 use Rattle.certificate.specs.Grammars.{CertState}
 use Rattle.certificate.specs.Jobs.{JobState}
+use Rattle.certificate.specs.Times.{are_all_kept, time_lines}
 use Rattle.audit_core.specs.Concluding.{AreOwnJobs, modules, setting}
-use Rattle.audit_core.specs.Verdicts.{AreLeastFaults, IsVerdict, lines_from}
+use Rattle.audit_core.specs.Verdicts.{AreLeastFaults, IsVerdict, lines_from, timing}
 use Rattle.audit_core.specs.declared.verdict.ReportLine.{ReportLine}
 use Rattle.audit_core.specs.declared.verdict.Verdict.TheVariants.{Yes, No}
 use Rattle.audit_core.proofs.ReportLines.{accepted, accepted-no_lines}
@@ -24,13 +25,16 @@ pub record AreAllFaults (s : CertState) (jobs : List JobState) (fs : List (Optio
 pub same-count : (s : CertState) (jobs : List JobState) (fs : List (Option Fault)) (bs : List (Option BorderFault)) → AreAllFaults s jobs fs bs → length fs ≡ length bs
 same-count s jobs fs bs all = all.least.count ∙ all.own.count ∙ sym all.borders.count
 
-pub verdict-yes : (s : CertState) (jobs : List JobState) (fs : List (Option Fault)) (bs : List (Option BorderFault)) → AreAllFaults s jobs fs bs → lines_from 0 fs bs ≡ [] → IsVerdict (setting s) (modules s) jobs Yes
+pub verdict-yes : (s : CertState) (jobs : List JobState) (fs : List (Option Fault)) (bs : List (Option BorderFault)) → AreAllFaults s jobs fs bs → lines_from 0 fs bs ≡ [] → are_all_kept (time_lines (setting s).circuit (modules s)) ≡ true →
+    IsVerdict (setting s) (modules s) jobs Yes
 unfolding IsVerdict
-verdict-yes s jobs fs bs all none = accepted (setting s) (modules s) jobs fs bs all.least all.borders (same-count s jobs fs bs all) none
+verdict-yes s jobs fs bs all none kept = accepted (setting s) (modules s) jobs fs bs all.least all.borders (same-count s jobs fs bs all) none kept
 
-pub verdict-no : (s : CertState) (jobs : List JobState) (fs : List (Option Fault)) (bs : List (Option BorderFault)) (lines : Vec ReportLine Global) → AreAllFaults s jobs fs bs → lines.items ≡ lines_from 0 fs bs → ¬ (lines.items ≡ []) → IsVerdict (setting s) (modules s) jobs (No lines)
+-- some line on a module, or a rule that is broken
+pub verdict-no : (s : CertState) (jobs : List JobState) (fs : List (Option Fault)) (bs : List (Option BorderFault)) (lines : Vec ReportLine Global) → AreAllFaults s jobs fs bs →
+    lines.items ≡ lines_from 0 fs bs ++ map timing (time_lines (setting s).circuit (modules s)) → ¬ ((lines_from 0 fs bs ≡ []) × (are_all_kept (time_lines (setting s).circuit (modules s)) ≡ true)) → IsVerdict (setting s) (modules s) jobs (No lines)
 unfolding IsVerdict
 verdict-no s jobs fs bs lines all lines_are some = (
-  (λ is. some (lines_are ∙ accepted-no_lines (setting s) (modules s) jobs fs bs all.least all.borders is)),
+  (λ is. some (accepted-no_lines (setting s) (modules s) jobs fs bs all.least all.borders is, is.on_time)),
   record { faults = fs; are_least = all.least; borders = bs; are_border_faults = all.borders; lines_are = lines_are },
 )

@@ -24,6 +24,7 @@ use Rattle.module_box.proofs.Neighbours.{halo_parts}
 use Rattle.certificate.specs.Entries.{ModuleLines, areas, known}
 use Rattle.certificate.specs.Grammars.{setting_of}
 use Rattle.certificate.specs.Jobs.{JobState, IsJobOf, NamesOwnWires, job_start, job_demand, place_in, port_at, start_signal, end_demand}
+use Rattle.certificate.specs.Times.{are_all_kept, numbered, time_lines}
 use Rattle.certificate.specs.Modules.{AreModules, HasPorts, IsModule}
 use Rattle.certificate.specs.Orders.{AreInOrder}
 use Rattle.certificate.specs.Rules.{whole, is_local}
@@ -266,6 +267,7 @@ one_good = record {
   few_borders = omega arith;
   edge_lines = λ k d lt. absurd (omega arith);
   halo_lines = λ k d lt. absurd (omega arith);
+  stop_lines = λ k d lt. absurd (omega arith);
 }
 
 one_port : (i : ℕ) (q : Port) → slice_get (port 0 0 ∷ port 2 2 ∷ []) i ≡ Some q → q.name ≡ name_p
@@ -361,6 +363,10 @@ no_border i f is =
     let same : one ≡ is.lines = only_module i is.lines is.numbered in
     true≢false (sym is.inside ∙ ap (λ (m : ModuleLines). in_box m.area f.cell.x f.cell.y) same ∙ out)
 
+times_kept : are_all_kept (time_lines (circuit_of lines) (one ∷ [])) ≡ true
+unfolding numbered
+times_kept = refl
+
 pub example : Example
 example = record {
   lines = lines;
@@ -373,6 +379,7 @@ example = record {
     accepted = record {
       no_fault = λ number j f e. subst (λ j. ¬ IsFault j f) (only_job number j e) (no_fault f);
       no_border_fault = no_border;
+      on_time = times_kept;
     };
   };
 }

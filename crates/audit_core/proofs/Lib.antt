@@ -11,6 +11,7 @@ pub mod Conclusions
 pub mod FullBooks
 pub mod LayoutCells
 pub mod JobSignals
+pub mod StopParts
 pub mod WholeRuns
 pub mod InputRuns
 pub mod Examples

@@ -1,16 +1,17 @@
 -- The modules of a certificate have one verdict
-use Rattle.std.proofs.Common.{◌≡◌, ◌∙◌, ◌<◌, ◌≤◌, ◌∷◌, ℕ, suc, zero, List, [], length, Option, None, Some, refl, sym, ap₂, arith}
+use Rattle.std.proofs.Common.{◌≡◌, ◌∙◌, ◌<◌, ◌≤◌, ◌∷◌, ◌++◌, ℕ, suc, zero, List, [], length, map, Option, None, Some, refl, sym, ap₂, arith}
 use Rattle.std.specs.Prelude.{slice_get}
 use Rattle.std.proofs.lemmas.Option.{slice_get_within}
 use Rattle.certificate.specs.Entries.{Setting, ModuleLines}
 use Rattle.certificate.specs.Jobs.{JobState}
+use Rattle.certificate.specs.Times.{time_lines}
 use Rattle.local_run.specs.declared.fault.Fault.{Fault}
 use Rattle.local_run.proofs.Least.{least_unique}
 use Rattle.border_match.specs.BorderFaults.{AreBorderFaultsOf}
 use Rattle.border_match.specs.declared.fault.BorderFault.{BorderFault}
 use Rattle.border_match.proofs.Unique.{least_unique as least_border_unique}
 use Rattle.audit_core.specs.CoreLaws.{VerdictIsOne}
-use Rattle.audit_core.specs.Verdicts.{AreLeastFaults, AreReportLines, IsVerdict, lines_from}
+use Rattle.audit_core.specs.Verdicts.{AreLeastFaults, AreReportLines, IsVerdict, lines_from, timing}
 use Rattle.audit_core.specs.declared.verdict.ReportLine.{ReportLine}
 use Rattle.audit_core.specs.declared.verdict.Verdict.TheVariants.{Yes, No}
 
@@ -40,7 +41,7 @@ borders-same g ms fs gs a b = same-lists fs gs (a.count ∙ sym b.count) (λ k x
 
 lines-same : (g : Setting) (ms : List ModuleLines) (jobs : List JobState) (xs ys : List ReportLine) → AreReportLines g ms jobs xs → AreReportLines g ms jobs ys → xs ≡ ys
 lines-same g ms jobs xs ys a b =
-    a.lines_are ∙ (λ i. lines_from 0 (faults-same jobs a.faults b.faults a.are_least b.are_least i) (borders-same g ms a.borders b.borders a.are_border_faults b.are_border_faults i)) ∙ sym b.lines_are
+    a.lines_are ∙ (λ i. lines_from 0 (faults-same jobs a.faults b.faults a.are_least b.are_least i) (borders-same g ms a.borders b.borders a.are_border_faults b.are_border_faults i) ++ map timing (time_lines g.circuit ms)) ∙ sym b.lines_are
 
 pub verdict-is-one : VerdictIsOne
 unfolding IsVerdict

@@ -1,11 +1,12 @@
 -- The lines of a report
-use Rattle.std.proofs.Common.{◌≡◌, ◌∙◌, ◌+◌, ◌<◌, ◌≤◌, ℕ, suc, zero, inl, inr, List, [], ◌∷◌, ◌++◌, length, drop, get_or, Option, None, Some, refl, sym, ap, ap₂, subst, arith, append_assoc, append-nil, add-one, drop-cons}
+use Rattle.std.proofs.Common.{◌≡◌, true, ◌∙◌, ◌+◌, ◌<◌, ◌≤◌, ℕ, suc, zero, inl, inr, List, [], ◌∷◌, ◌++◌, length, drop, get_or, Option, None, Some, refl, sym, ap, ap₂, subst, arith, append_assoc, append-nil, add-one, drop-cons}
 use Rattle.std.specs.Prelude.{slice_get}
 use Rattle.std.specs.Option.{option_to_list}
 use Rattle.std.proofs.lemmas.List.{drop_all}
 use Rattle.std.proofs.lemmas.Option.{same_Some, slice_get_cases, slice_get_within, slice_get-get_or}
 use Rattle.certificate.specs.Entries.{Setting, ModuleLines}
 use Rattle.certificate.specs.Jobs.{JobState}
+use Rattle.certificate.specs.Times.{are_all_kept, time_lines}
 use Rattle.local_run.specs.Faults.{IsFault, IsLeastFault}
 use Rattle.local_run.specs.declared.fault.Fault.{Fault}
 use Rattle.border_match.specs.BorderFaults.{AreBorderFaultsOf, IsBorderFault, IsLeastBorderFault}
@@ -43,8 +44,8 @@ no_lines n (None ∷ fs) (None ∷ bs) no_fs no_bs = no_lines (n + 1) fs bs (λ 
 
 -- ---- what is accepted has no lines, and only that
 
-pub accepted : (g : Setting) (ms : List ModuleLines) (jobs : List JobState) (fs : List (Option Fault)) (bs : List (Option BorderFault)) → AreLeastFaults jobs fs → AreBorderFaultsOf g ms bs → length fs ≡ length bs → lines_from 0 fs bs ≡ [] → Accepts g ms jobs
-accepted g ms jobs fs bs least borders len e = record {
+pub accepted : (g : Setting) (ms : List ModuleLines) (jobs : List JobState) (fs : List (Option Fault)) (bs : List (Option BorderFault)) → AreLeastFaults jobs fs → AreBorderFaultsOf g ms bs → length fs ≡ length bs → lines_from 0 fs bs ≡ [] → are_all_kept (time_lines g.circuit ms) ≡ true → Accepts g ms jobs
+accepted g ms jobs fs bs least borders len e kept = record {
   no_fault = λ k j f at.
       let below : k < length jobs = slice_get_within jobs k j at in
       let got : slice_get fs k ≡ Some (get_or fs k None) = slice_get-get_or fs k None (omega (arith, least.count)) in
@@ -55,6 +56,7 @@ accepted g ms jobs fs bs least borders len e = record {
       let got : slice_get bs k ≡ Some (get_or bs k None) = slice_get-get_or bs k None (omega (arith, borders.count)) in
       let none : get_or bs k None ≡ None = no_border_faults 0 fs bs len e k (get_or bs k None) got in
       subst (IsLeastBorderFault g ms k) none (borders.each k (get_or bs k None) got) f is;
+  on_time = kept;
 }
 
 -- a job with a least fault has a fault

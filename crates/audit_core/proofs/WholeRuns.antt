@@ -1,11 +1,14 @@
 -- The run of the whole plane is that of the jobs
 use Rattle.std.proofs.Common.{◌≡◌, ℕ, zero, suc, ◌<◌, ◌≤◌, ◌%◌, Bool, true, false, not, ◌&&◌, ◌||◌, List, Some, refl, sym, ap, ap₂, subst, ◌∙◌, inl, inr, arith}
-use Rattle.std.specs.Prelude.{ℤ, ◌≢◌, slice_get}
+use Rattle.std.specs.Prelude.{ℤ, ◌≢◌, Contains, slice_get}
+use Rattle.std.specs.List.{All}
+use Rattle.std.proofs.lemmas.List.Elements.{All-contains_itself}
+use Rattle.std.proofs.lemmas.Option.{slice_get-get_or, slice_get_within}
 use Rattle.std.proofs.lemmas.Bool.{cases_Bool, false≢true, true≢false, not_from_false, not-true}
 use Rattle.bbm_rule.specs.Plane.{State, step, run}
 use Rattle.bbm_rule.proofs.Steps.{step_dead}
 use Rattle.circuit.specs.Bridge.{circuit_of, netlist_of}
-use Rattle.circuit.specs.Meaning.{Satisfies, Valuation, values_by_name}
+use Rattle.circuit.specs.Meaning.{Satisfies, Valuation, value_of, values_by_name, wire_of}
 use Rattle.circuit.specs.declared.entry.Entry.{Entry}
 use Rattle.circuit.proofs.Valuations.{has_valuation}
 use Rattle.pattern.specs.Layout.{Pattern}
@@ -16,10 +19,16 @@ use Rattle.module_box.specs.Schedules.{signal_at}
 use Rattle.module_box.proofs.BoxSteps.{even_stays, even_local}
 use Rattle.module_box.proofs.Neighbours.{some_neighbour_more, block_x, block_y, block_both, halo_parts, ring_from, near_step, halo_in_ring}
 use Rattle.module_box.proofs.SeenValues.{choices_are_assignments, local_values_agree}
-use Rattle.certificate.specs.Entries.{ModuleLines, areas}
-use Rattle.certificate.specs.Jobs.{JobState, job_start, job_demand, end_demand}
+use Rattle.certificate.specs.Entries.{ModuleLines, areas, known, stops}
+use Rattle.certificate.specs.Grammars.{setting_of}
+use Rattle.certificate.specs.Modules.{IsStop}
+use Rattle.certificate.specs.declared.entry.StopLine.{StopLine}
+use Rattle.certificate.specs.declared.job.Stop as listed
+use Rattle.certificate.proofs.FlatParts.{flat_part}
+use Rattle.module_box.specs.Locals.{circuit_wire}
+use Rattle.certificate.specs.Jobs.{JobState, IsJobOf, job_start, job_demand, end_demand, numbered_stop}
 use Rattle.certificate.specs.Rules.{whole}
-use Rattle.certificate.specs.Signals.{is_live, Meets}
+use Rattle.certificate.specs.Signals.{is_live, Meets, renumber_stop}
 use Rattle.certificate.specs.declared.job.Demand.{Demand}
 use Rattle.certificate.specs.declared.job.Demand.TheVariants as Demanded
 use Rattle.local_run.specs.Runs.{with_halo, local_run}
@@ -27,13 +36,16 @@ use Rattle.local_run.specs.Faults.{IsFaultUnder}
 use Rattle.local_run.specs.declared.fault.Fault.{Fault}
 use Rattle.local_run.specs.declared.fault.Kind.{Kind}
 use Rattle.local_run.specs.declared.fault.Kind.TheVariants.{Edge, End}
+use Rattle.local_run.specs.declared.fault.Kind.TheVariants.{Stop as AtStop}
 use Rattle.local_run.proofs.LocalRuns.{even_or_odd, local_even, local_odd}
 use Rattle.local_run.proofs.OwnWires as own
-use Rattle.border_match.proofs.Modules.{area_at}
+use Rattle.border_match.proofs.Modules.{area_at, there}
 use Rattle.border_match.proofs.SameSignals.{same_signals}
 use Rattle.audit_core.specs.Implements.{LooksAsAsked, run_under}
-use Rattle.audit_core.specs.HeadlineLaws.{BelongTogether, IsAcceptedBundle, IsRunOfJobs, StartsAsJobs, StepsAsJobs, EndsAsAsked, AcceptedIsCorrect}
+use Rattle.audit_core.specs.OnTime.{StopHolds}
+use Rattle.audit_core.specs.HeadlineLaws.{BelongTogether, IsAcceptedBundle, IsRunOfJobs, StartsAsJobs, StepsAsJobs, EndsAsAsked, AcceptedIsCorrect, AcceptedIsOnTime}
 use Rattle.audit_core.proofs.InputRuns.{inputs_decide}
+use Rattle.audit_core.proofs.StopParts.{all_flat, all_map, local_wire_is, one_said}
 use Rattle.audit_core.proofs.JobSignals.{Known, Owner, known_job, job_even, owner_of, meets_seen, live_renumbered, rim_edge_dead, outer_halo_dead, edge_by_circuit, halo_by_circuit}
 use Rattle.audit_core.proofs.LayoutCells.{live_start, start_outside, whole_inside, whole_even, mirror_inside, IsOutput, is_output, met_mirror, met_output, met_other}
 
@@ -304,4 +316,50 @@ correct lines p ms jobs named ports all = record {
         | inl inside ↦ sym (whole_inside p.size x y) ∙ inside
         | inr out ↦ absurd (true≢false (sym live ∙ sym (inputs_decide lines p inputs found.0 t x y named found.1) ∙ (all_times lines p ms jobs inputs found.0 t all found.1 h).outside x y out))
       ];
+}
+
+-- ---- stops
+
+no_stop_fault : (lines : List Entry) (p : Pattern) (ms : List ModuleLines) (jobs : List JobState) (inputs v : Valuation) (i : ℕ) (j : JobState) (s : listed.Stop) → Setting lines p ms jobs inputs v →
+    slice_get jobs i ≡ Some j → Contains j.stops s → local_run j (seen_by j.locals v) s.at.time s.at.cell.x s.at.cell.y ≡ seen_by j.locals v s.wire
+no_stop_fault lines p ms jobs inputs v i j s set e has =
+    stable _ _ (λ differ. no_fault lines p ms jobs inputs v i s.at.time j AtStop s.at.cell.x s.at.cell.y set e (record {
+      stop = s;
+      is_listed = has;
+      time = refl;
+      column = refl;
+      row = refl;
+      differs = differ;
+    }))
+
+-- the same by the wires of the circuit
+abbrev IsAsWire : JobState → Valuation → listed.Stop → Type 0
+IsAsWire j v r = local_run j (seen_by j.locals v) r.at.time r.at.cell.x r.at.cell.y ≡ v r.wire
+
+no_line_fault : (lines : List Entry) (p : Pattern) (ms : List ModuleLines) (jobs : List JobState) (inputs v : Valuation) (i : ℕ) (m : ModuleLines) (j : JobState) (k w : ℕ) (s : StopLine) → Setting lines p ms jobs inputs v →
+    slice_get jobs i ≡ Some j → IsJobOf (circuit_of lines) p m j → slice_get (stops m) k ≡ Some s → wire_of (circuit_of lines) s.wire ≡ Some w → local_run j (seen_by j.locals v) s.time s.cell.x s.cell.y ≡ v w
+no_line_fault lines p ms jobs inputs v i m j k w s set e is at named =
+    let own = all_map (IsAsWire j v) (renumber_stop (circuit_wire j.locals)) j.stops (λ n d lt. no_stop_fault lines p ms jobs inputs v i j _ set e (All-contains_itself j.stops n d lt)) in
+    one_said (IsAsWire j v) s w (wire_of (circuit_of lines) s.wire) named
+    (flat_part (IsAsWire j v) (λ r. numbered_stop r (wire_of (circuit_of lines) r.wire)) (stops m) (subst (All (IsAsWire j v)) is.stops own) k s at)
+
+stop_holds : (lines : List Entry) (p : Pattern) (ms : List ModuleLines) (jobs : List JobState) → HasInputNames lines p → IsAcceptedBundle lines p ms jobs →
+    (i k : ℕ) (m : ModuleLines) (s : StopLine) → slice_get ms i ≡ Some m → slice_get (stops m) k ≡ Some s → IsStop (setting_of lines p) m.area (known (circuit_of lines) m) s → StopHolds (circuit_of lines) p s
+stop_holds lines p ms jobs named all i k m s at has line inputs v satisfied =
+    let set : Setting lines p ms jobs inputs v = record { all = all; satisfied = satisfied } in
+    let b : IsBundle lines p ms jobs = all.bundle in
+    let j = there jobs i (let lt = slice_get_within ms i m at in let n = b.are_jobs.count in omega (arith, lt, n)) in
+    let is : IsJobOf (circuit_of lines) p m j.0 = b.are_jobs.each i m j.0 at j.1 in
+    let inside : in_box j.0.area s.cell.x s.cell.y ≡ true = ap (λ a. in_box a s.cell.x s.cell.y) is.area ∙ line.inside in
+    let w = local_wire_is (known (circuit_of lines) m) (wire_of (circuit_of lines) s.wire) line.wire in
+    sym (inputs_decide lines p inputs v s.time s.cell.x s.cell.y named satisfied)
+    ∙ (all_times lines p ms jobs inputs v s.time all satisfied line.time).inside i j.0 j.1 s.cell.x s.cell.y inside
+    ∙ no_line_fault lines p ms jobs inputs v i m j.0 k w.0 s set j.1 is has w.1
+    ∙ sym (ap (λ o. value_of o v) w.1)
+
+pub on_time : AcceptedIsOnTime
+on_time lines p ms jobs named all = record {
+  stops = all_flat (StopHolds (circuit_of lines) p) stops ms (λ i m at k d lt.
+      stop_holds lines p ms jobs named all i k m _ at (slice_get-get_or (stops m) k d lt) ((all.bundle.are_modules.each i m at).stop_lines k d lt));
+  times = all.accepted.on_time;
 }

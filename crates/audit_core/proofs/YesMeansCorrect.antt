@@ -10,12 +10,14 @@ use Rattle.certificate.specs.Grammars.{CertState}
 use Rattle.certificate.specs.Jobs.{JobState}
 use Rattle.certificate.specs.Modules.{AreModules}
 use Rattle.audit_core.specs.Concluding.{AreOwnJobs, modules, port_names_of, setting}
+use Rattle.audit_core.specs.HeadlineLaws.{IsAcceptedBundle}
 use Rattle.audit_core.specs.Implements.{IsCorrect}
+use Rattle.audit_core.specs.OnTime.{IsOnTime}
 use Rattle.audit_core.specs.Verdicts.{IsVerdict}
 use Rattle.audit_core.specs.declared.verdict.Verdict.TheVariants.{Yes}
 use Rattle.audit_core.proofs.InputRuns.{read_layout-names}
 use Rattle.audit_core.proofs.PortNames.{read_layout-is_named}
-use Rattle.audit_core.proofs.WholeRuns.{correct}
+use Rattle.audit_core.proofs.WholeRuns.{correct, on_time}
 
 -- what a certificate says of its circuit, its layout and its modules
 pub record IsRead (s : CertState) (size : Extent) : Type 0 where
@@ -28,10 +30,10 @@ pub record IsRead (s : CertState) (size : Extent) : Type 0 where
   pub inputs : take (netlist_of s.circuit).given (defined s.circuit) ≡ input_names s.circuit
   pub named : AreNamed (Some (port_names_of s.circuit)) (parts_of s.layout)
 
-pub yes_means-correct : (s : CertState) (size : Extent) (jobs : List JobState) → IsRead s size → AreOwnJobs s jobs → IsVerdict (setting s) (modules s) jobs Yes →
-    IsCorrect s.circuit s.layout
+accepted_bundle : (s : CertState) (size : Extent) (jobs : List JobState) → IsRead s size → AreOwnJobs s jobs → IsVerdict (setting s) (modules s) jobs Yes →
+    IsAcceptedBundle s.circuit s.layout (modules s) jobs
 unfolding IsVerdict
-yes_means-correct s size jobs is own accepted = correct s.circuit s.layout (modules s) jobs (read_layout-names s.circuit s.layout is.inputs is.named) (read_layout-is_named s.circuit s.layout is.named) (record {
+accepted_bundle s size jobs is own accepted = record {
   bundle = record {
     ordered = is.ordered;
     forward = is.forward;
@@ -41,4 +43,12 @@ yes_means-correct s size jobs is own accepted = correct s.circuit s.layout (modu
     are_jobs = own;
   };
   accepted = accepted;
-})
+}
+
+pub yes_means-correct : (s : CertState) (size : Size) (jobs : List JobState) → IsRead s size → AreOwnJobs s jobs → IsVerdict (setting s) (modules s) jobs Yes →
+    IsCorrect (circuit_of s.circuit) s.layout
+yes_means-correct s size jobs is own judged = correct s.circuit s.layout (modules s) jobs (read_layout-names s.circuit s.layout is.inputs is.named) (accepted_bundle s size jobs is own judged)
+
+pub yes_means-on_time : (s : CertState) (size : Size) (jobs : List JobState) → IsRead s size → AreOwnJobs s jobs → IsVerdict (setting s) (modules s) jobs Yes →
+    IsOnTime (circuit_of s.circuit) s.layout (modules s)
+yes_means-on_time s size jobs is own judged = on_time s.circuit s.layout (modules s) jobs (read_layout-names s.circuit s.layout is.inputs is.named) (accepted_bundle s size jobs is own judged)

@@ -16,6 +16,7 @@ use Rattle.certificate.specs.Modules.{AreModules}
 use Rattle.certificate.specs.Rules.{whole}
 use Rattle.local_run.specs.Runs.{local_run}
 use Rattle.audit_core.specs.Implements.{IsCorrect, IsNamed, LooksAsAsked, run_under}
+use Rattle.audit_core.specs.OnTime.{IsOnTime}
 use Rattle.audit_core.specs.Verdicts.{Accepts}
 
 -- What is known of a bundle that was read: the lines of its circuit, its layout, its modules and their jobs. `Circuit::gates`,
@@ -92,6 +93,11 @@ InputsDecideTheRun = (lines : List Entry) (p : Pattern) (inputs v : Valuation) (
 abbrev pub AcceptedIsCorrect : Type 0
 AcceptedIsCorrect = (lines : List Entry) (p : Pattern) (ms : List ModuleLines) (jobs : List JobState) →
     HasInputNames lines p → IsNamed lines p → IsAcceptedBundle lines p ms jobs → IsCorrect lines p
+
+-- and its stops hold on the whole plane
+abbrev pub AcceptedIsOnTime : Type 0
+AcceptedIsOnTime = (lines : List Entry) (p : Pattern) (ms : List ModuleLines) (jobs : List JobState) →
+    HasInputNames lines p → IsAcceptedBundle lines p ms jobs → IsOnTime (circuit_of lines) p ms
 
 -- ---- some bundle with an odd time is accepted, so the laws are not about nothing
 

@@ -10,4 +10,5 @@ pub mod Verdicts
 pub mod Concluding
 pub mod CoreLaws
 pub mod Implements
+pub mod OnTime
 pub mod HeadlineLaws

@@ -1,8 +1,11 @@
 -- The verdict on the modules of a certificate
-use Rattle.std.specs.Prelude.{◌≡◌, ℕ, ◌+◌, ◌<◌, ◌++◌, List, [], ◌∷◌, length, Option, Some, slice_get}
+use Rattle.std.specs.Prelude.{◌≡◌, ℕ, ◌+◌, ◌<◌, ◌++◌, List, [], ◌∷◌, length, map, Option, Some, slice_get, IsTrue}
 use Rattle.std.specs.Option.{option_map, option_to_list}
 use Rattle.certificate.specs.Entries.{Setting, ModuleLines}
 use Rattle.certificate.specs.Jobs.{JobState}
+use Rattle.certificate.specs.Times.{are_all_kept, time_lines}
+use Rattle.certificate.specs.declared.times.TimeLine.{TimeLine}
+use Rattle.certificate.specs.declared.times.TimeLine.TheVariants as times
 use Rattle.local_run.specs.Faults.{IsFault, IsLeastFault}
 use Rattle.local_run.specs.Shown.{job_of}
 use Rattle.local_run.specs.declared.fault.Fault.{Fault}
@@ -11,16 +14,17 @@ use Rattle.border_match.specs.BorderFaults.{IsBorderFault, AreBorderFaultsOf}
 use Rattle.border_match.specs.declared.fault.BorderFault.{BorderFault}
 use Rattle.audit_core.specs.Book.{BookView, found_in}
 use Rattle.audit_core.specs.declared.verdict.ReportLine.{ReportLine}
-use Rattle.audit_core.specs.declared.verdict.ReportLine.TheVariants.{Local, Border}
+use Rattle.audit_core.specs.declared.verdict.ReportLine.TheVariants.{Local, Border, Delay, Meet}
 use Rattle.audit_core.specs.declared.verdict.Verdict.{Verdict}
 use Rattle.audit_core.specs.declared.verdict.Verdict.TheVariants.{Yes, No}
 
 -- ---- what is accepted
 
--- no job has a fault, and no module has a border fault
+-- no job has a fault, no module has a border fault, and the rules on delays and meetings are kept
 pub record Accepts (g : Setting) (ms : List ModuleLines) (jobs : List JobState) : Type 0 where
   pub no_fault : (number : ℕ) (j : JobState) (f : Fault) → slice_get jobs number ≡ Some j → ¬ IsFault j f
   pub no_border_fault : (number : ℕ) (f : BorderFault) → ¬ IsBorderFault g ms number f
+  pub on_time : IsTrue (are_all_kept (time_lines g.circuit ms))
 
 -- ---- the lines of a report
 
@@ -42,13 +46,19 @@ lines_from number (f ∷ faults) [] = []
 lines_from number (f ∷ faults) (b ∷ borders) =
     option_to_list (local_line number f) ++ option_to_list (border_line number b) ++ lines_from (number + 1) faults borders
 
+-- what stops say of a gate, as a line
+abbrev pub timing : TimeLine → ReportLine
+timing (times.Delay gate wanted gap) = Delay gate wanted gap
+timing (times.Meet gate at) = Meet gate at
+
 -- all lines on modules of these jobs
 pub record AreReportLines (g : Setting) (ms : List ModuleLines) (jobs : List JobState) (lines : List ReportLine) : Type 0 where
   pub faults : List (Option Fault)
   pub are_least : AreLeastFaults jobs faults
   pub borders : List (Option BorderFault)
   pub are_border_faults : AreBorderFaultsOf g ms borders
-  pub lines_are : lines ≡ lines_from 0 faults borders
+  -- and then a line for each delay and each meeting
+  pub lines_are : lines ≡ lines_from 0 faults borders ++ map timing (time_lines g.circuit ms)
 
 -- `Yes` where the modules are accepted, and else `No` with all lines
 unfoldable pub IsVerdict : Setting → List ModuleLines → List JobState → Verdict → Type 0

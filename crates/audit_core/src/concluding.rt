@@ -2,19 +2,22 @@
 ghost use Rattle.std.specs.Prelude.{◌≡◌, ◌++◌, ℕ, IfOk, OnOk, Ok, Err, Some, length, map};
 ghost use Rattle.std.specs.Arc.{arc_value};
 ghost use Rattle.std.specs.Option.{option_to_list};
+ghost use Rattle.circuit.specs.Bridge.{circuit_of};
 ghost use Rattle.pattern.specs.Layout.{parts_of};
 ghost use Rattle.pattern.specs.Lines.{AreNamed};
 ghost use Rattle.border_match.specs.BorderFaults.{AreBorderFaultsOf};
+ghost use Rattle.certificate.specs.Times.{are_all_kept};
 ghost use Rattle.audit_core.specs.Concluding.{AreOwnJobs, modules, port_names_of, setting};
 ghost use Rattle.audit_core.specs.Implements.{IsCorrect};
-ghost use Rattle.audit_core.specs.Verdicts.{AreHeldBelow, AreLeastFaults, IsFirstMissing, IsVerdict, border_line, lines_from, local_line};
+ghost use Rattle.audit_core.specs.OnTime.{IsOnTime};
+ghost use Rattle.audit_core.specs.Verdicts.{AreHeldBelow, AreLeastFaults, IsFirstMissing, IsVerdict, border_line, lines_from, local_line, timing};
 ghost use Rattle.audit_core.specs.declared.verdict.Unfinished.TheVariants.{Missing};
 ghost use Rattle.audit_core.specs.declared.verdict.Verdict.TheVariants.{Yes};
 
 use crate::book::BookState;
 use crate::verdict::{ReportLine, Unfinished, Verdict};
 use border_match::BorderFault;
-use certificate::{Cert, Job};
+use certificate::{Cert, Job, TimeLine};
 use local_run::Fault;
 use std::alloc::{AllocError, Global};
 use std::sync::Arc;
@@ -23,7 +26,8 @@ use std::sync::Arc;
 /// what a book holds.
 ///
 /// Where it is `Yes`, and the layout was read with the names of the circuit's ports, the whole pattern computes the circuit, for all
-/// values of the inputs, and nothing leaves its rectangle: `specs/Implements.antt` says what that is.
+/// values of the inputs, and nothing leaves its rectangle; and each stop holds on the whole pattern, and the rules on delays and
+/// meetings are kept: `specs/Implements.antt` and `specs/OnTime.antt` say what that is.
 ///
 /// `Missing` names the first module for whose whole job the book holds no finding, whatever the book's own digest and jobs are.
 /// `Memory` is want of memory.
@@ -41,16 +45,48 @@ pub fn conclude(
     ensures missing { (number : ℕ) → result ≡ Err (Missing number) → IsFirstMissing book.now (map arc_value jobs.now) number }
     ensures correct { result ≡ Ok Yes → AreNamed (Some (port_names_of cert.now.circuit)) (parts_of cert.now.layout) →
         IsCorrect cert.now.circuit cert.now.layout }
+    ensures on_time { result ≡ Ok Yes → AreNamed (Some (port_names_of cert.now.circuit)) (parts_of cert.now.layout) →
+        IsOnTime (circuit_of cert.now.circuit) cert.now.layout (modules cert.now) }
 {
     // What is known of the layout, the circuit and the modules.
     let _size = cert.size();
     let _count = cert.modules();
     let faults = held_faults(alloc, jobs, book)?;
-    let lines = report_lines(alloc, &faults, borders)?;
-    if lines.is_empty() {
+    let times = cert.times(alloc)?;
+    let mut lines = report_lines(alloc, &faults, borders)?;
+    let kept = are_all_kept(&times);
+    if kept & lines.is_empty() {
         return Ok(Verdict::Yes);
     }
+    push_times(&mut lines, &times)?;
     Ok(Verdict::No(lines))
+}
+
+// Whether all delays take as many steps as they say, and all inputs meet.
+fn are_all_kept(times: &[TimeLine]) -> bool
+    ensures { result ≡ are_all_kept times.now }
+{
+    times.iter().all(|line| line.is_kept())
+}
+
+// What stops say of a gate, as a line of the report.
+fn timing(line: &TimeLine) -> ReportLine
+    ensures { result ≡ timing line.now }
+{
+    match *line {
+        TimeLine::Delay { gate, wanted, gap } => ReportLine::Delay { gate, wanted, gap },
+        TimeLine::Meet { gate, at } => ReportLine::Meet { gate, at },
+    }
+}
+
+// Adds what stops say of all gates.
+fn push_times(lines: &mut Vec<ReportLine>, times: &[TimeLine]) -> Result<(), AllocError>
+    ensures { OnOk result (lines.new.items ≡ lines.old.items ++ map timing times.now) }
+{
+    'times: for line in times {
+        lines.push(timing(line))?;
+    }
+    Ok(())
 }
 
 // The least faults of the jobs, by the findings that the book holds for them.

@@ -1,5 +1,5 @@
 //! Laws of books, each the contract of a function without a body.
-ghost use Rattle.audit_core.specs.HeadlineLaws.{AcceptedIsCorrect, EndsAsAsked, Example, InputsDecideTheRun, ReadLayoutHasInputNames, ReadLayoutIsNamed, StartsAsJobs, StepsAsJobs, WrongExample};
+ghost use Rattle.audit_core.specs.HeadlineLaws.{AcceptedIsCorrect, AcceptedIsOnTime, EndsAsAsked, Example, InputsDecideTheRun, ReadLayoutHasInputNames, ReadLayoutIsNamed, StartsAsJobs, StepsAsJobs, WrongExample};
 ghost use Rattle.audit_core.specs.CoreLaws.{AcceptsOneForEach, DrawsEachOnce, EmptyWhereAllAreDrawn, EventsKeepWhatIsHeld, EventsReplay, HoldsHonestOwn, HoldsWhatWasAccepted, OnlyAcceptedChangesWhatIsHeld, VerdictIsOne};
 ghost use Rattle.audit_core.specs.Laws.{AcceptsItsOwn, BooksAgree, ClosedAnswersClosed, ClosedByItsHistory, DoublesWhatIsHeld, FullBookHoldsAll, HoldsWhatIsAccepted, HoldsNothingElse, KeepsWhatIsHeld, KnowsItsOwn, StaysBook, StaysReplayed};
 
@@ -87,6 +87,12 @@ pub fn ends_as_asked()
 /// A layout that is accepted computes its circuit, and nothing ever leaves its rectangle.
 pub fn accepted_is_correct()
     ensures { AcceptedIsCorrect }
+{}
+
+/// Where a layout is accepted, each stop holds on the whole plane: for all values of the inputs its cell is live at its time exactly
+/// where its wire is true. The rules on delays and meetings are kept.
+pub fn accepted_is_on_time()
+    ensures { AcceptedIsOnTime }
 {}
 
 /// In a layout that was read with the names of the circuit's ports input cells have the names of inputs, and each input and each output

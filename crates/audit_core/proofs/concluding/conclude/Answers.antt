@@ -1,10 +1,13 @@
-use Rattle.std.proofs.Common.{◌≡◌, ◌∙◌, ◌==◌, true, List, ap, sym, subst, length, map, rules}
+use Rattle.std.proofs.Common.{◌≡◌, ◌∙◌, ◌==◌, ◌++◌, true, [], List, ap, sym, subst, length, map, rules}
 use Rattle.std.specs.Vec.{vec_len}
 use Rattle.std.specs.Arc.{arc_value}
+use Rattle.std.proofs.lemmas.Bool.{and_from, and_parts}
 use Rattle.certificate.specs.Jobs.{JobState}
-use Rattle.audit_core.specs.Verdicts.{AreLeastFaults}
+use Rattle.certificate.specs.Times.{are_all_kept, time_lines}
+use Rattle.audit_core.specs.Concluding.{modules, setting}
+use Rattle.audit_core.specs.Verdicts.{AreLeastFaults, lines_from, timing}
 use Rattle.audit_core.proofs.Conclusions.{AreAllFaults, verdict-yes, verdict-no, is_empty_list}
-use Rattle.audit_core.proofs.YesMeansCorrect.{IsRead, yes_means-correct}
+use Rattle.audit_core.proofs.YesMeansCorrect.{IsRead, yes_means-correct, yes_means-on_time}
 use Rattle.audit_core.proofs.concluding.conclude.Goals as goal
 use Rattle.audit_core.proofs.concluding.conclude.Goals.{After-is_empty}
 
@@ -17,14 +20,20 @@ all c =
       borders = c.requires.borders;
     }
 
-pub returns-then-is_empty-clause-verdict : goal.returns-then-is_empty-clause-verdict
-returns-then-is_empty-clause-verdict c =
-    let d = (goal.at.returns-then-is_empty-clause-verdict c).After-is_empty in
-    let none : length c.in_ok-lines.lines.items ≡ 0 = search rules in
-    verdict-yes c.args.cert.now (map arc_value c.args.jobs.now) c.deref.result.now c.args.borders.now (all d) (sym c.in_ok-lines.ensures ∙ is_empty_list c.in_ok-lines.lines.items none)
+-- the test of the lines of delays and meetings
+kept_is : (c : After-is_empty) → c.are_all_kept-kept.result ≡ are_all_kept (time_lines (setting c.args.cert.now).circuit (modules c.args.cert.now))
+kept_is c = c.are_all_kept-kept.ensures ∙ ap are_all_kept (c.deref-2.ensures.value ∙ c.in_ok-times.ensures)
 
-pub returns-then-is_empty-clause-correct : goal.returns-then-is_empty-clause-correct
-returns-then-is_empty-clause-correct c is named =
+pub returns-then-kept-is_empty-clause-verdict : goal.returns-then-kept-is_empty-clause-verdict
+returns-then-kept-is_empty-clause-verdict c =
+    let d = (goal.at.returns-then-kept-is_empty-clause-verdict c).After-is_empty in
+    let parts = and_parts c.are_all_kept-kept.result c.is_empty.result c.if-kept-is_empty.true in
+    let empty : c.is_empty.result ≡ true = parts.1 in
+    let none : length c.in_ok-lines.lines.items ≡ 0 = search rules in
+    verdict-yes c.args.cert.now (map arc_value c.args.jobs.now) c.deref.result.now c.args.borders.now (all d) (sym c.in_ok-lines.ensures ∙ is_empty_list c.in_ok-lines.lines.items none) (sym (kept_is d) ∙ parts.0)
+
+pub returns-then-kept-is_empty-clause-correct : goal.returns-then-kept-is_empty-clause-correct
+returns-then-kept-is_empty-clause-correct c is named =
     let read : IsRead c.args.cert.now c.size-size.result = record {
       ordered = c.modules-count.ensures.ordered;
       forward = c.modules-count.ensures.forward;
@@ -35,14 +44,31 @@ returns-then-is_empty-clause-correct c is named =
       inputs = c.modules-count.ensures.inputs;
       named = named;
     } in
-    yes_means-correct c.args.cert.now c.size-size.result (map arc_value c.args.jobs.now) read c.requires.own (returns-then-is_empty-clause-verdict c)
+    yes_means-correct c.args.cert.now c.size-size.result (map arc_value c.args.jobs.now) read c.requires.own (returns-then-kept-is_empty-clause-verdict c)
+
+pub returns-then-kept-is_empty-clause-on_time : goal.returns-then-kept-is_empty-clause-on_time
+returns-then-kept-is_empty-clause-on_time c is named =
+    let read : IsRead c.args.cert.now c.size-size.result = record {
+      ordered = c.modules-count.ensures.ordered;
+      forward = c.modules-count.ensures.forward;
+      same = c.size-size.ensures.size;
+      limits = c.size-size.ensures.limits;
+      laid_out = c.size-size.ensures.good;
+      are_modules = c.modules-count.ensures.good;
+      inputs = c.modules-count.ensures.inputs;
+      named = named;
+    } in
+    yes_means-on_time c.args.cert.now c.size-size.result (map arc_value c.args.jobs.now) read c.requires.own (returns-then-kept-is_empty-clause-verdict c)
 
 pub returns-clause-verdict : goal.returns-clause-verdict
 returns-clause-verdict c =
     let d = (goal.at.returns-clause-verdict c).After-is_empty in
-    verdict-no c.args.cert.now (map arc_value c.args.jobs.now) c.deref.result.now c.args.borders.now c.in_ok-lines.lines (all d) c.in_ok-lines.ensures
+    verdict-no c.args.cert.now (map arc_value c.args.jobs.now) c.deref.result.now c.args.borders.now c.push_times.new.lines (all d)
+    (c.in_ok-push_times.ensures ∙ ap (λ xs. xs ++ map timing c.deref-3.result.now) c.in_ok-lines.ensures ∙ ap (λ ts. lines_from 0 c.deref.result.now c.args.borders.now ++ map timing ts) (c.deref-3.ensures.value ∙ c.in_ok-times.ensures))
     (λ e.
-    let none : length c.in_ok-lines.lines.items ≡ 0 = ap length e in
+    let none : length c.in_ok-lines.lines.items ≡ 0 = ap length (c.in_ok-lines.ensures ∙ e.0) in
     let len : vec_len c.in_ok-lines.lines ≡ 0 = search rules in
     let empty : c.is_empty.result ≡ true = c.is_empty.ensures ∙ ap (λ n. n == 0) len in
+    let kept : c.are_all_kept-kept.result ≡ true = kept_is d ∙ e.1 in
+    let both = and_from c.are_all_kept-kept.result c.is_empty.result kept empty in
     cc)

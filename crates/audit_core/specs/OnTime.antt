@@ -1,0 +1,18 @@
+-- What a yes promises of stops, delays and meetings.
+use Rattle.std.specs.Prelude.{◌≡◌, List, IsTrue}
+use Rattle.std.specs.List.{All}
+use Rattle.circuit.specs.Meaning.{Circuit, Valuation, Satisfies, values_by_name}
+use Rattle.pattern.specs.Layout.{Pattern}
+use Rattle.certificate.specs.Entries.{ModuleLines}
+use Rattle.certificate.specs.Times.{all_stops, are_all_kept, time_lines}
+use Rattle.certificate.specs.declared.entry.StopLine.{StopLine}
+use Rattle.audit_core.specs.Implements.{run_under}
+
+-- for all values of the inputs, the cell of the stop is live at its time exactly where its wire is true
+abbrev pub StopHolds : Circuit → Pattern → StopLine → Type 0
+StopHolds c p s = (inputs v : Valuation) → Satisfies c.netlist inputs v → run_under c p inputs s.time s.cell.x s.cell.y ≡ values_by_name c v s.wire
+
+-- all stops of modules do, and by them each delay takes as many steps as it says, and inputs of a gate meet
+pub record IsOnTime (c : Circuit) (p : Pattern) (ms : List ModuleLines) : Type 0 where
+  pub stops : All (StopHolds c p) (all_stops ms)
+  pub times : IsTrue (are_all_kept (time_lines c ms))
