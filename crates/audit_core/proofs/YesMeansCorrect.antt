@@ -2,7 +2,7 @@
 use Rattle.std.proofs.Common.{◌≡◌, [], None, Some, List, subst, take}
 use Rattle.circuit.specs.Entries.{defined}
 use Rattle.pattern.specs.Layout.{parts_of}
-use Rattle.circuit.specs.Bridge.{input_names, netlist_of}
+use Rattle.circuit.specs.Bridge.{circuit_of, input_names, netlist_of}
 use Rattle.circuit.specs.Meaning.{AreForward, AreOrdered}
 use Rattle.pattern.specs.Lines.{AreGoodAfter, AreNamed, size_fault}
 use Rattle.pattern.specs.declared.parts.Extent.{Extent}
@@ -45,10 +45,11 @@ accepted_bundle s size jobs is own accepted = record {
   accepted = accepted;
 }
 
-pub yes_means-correct : (s : CertState) (size : Size) (jobs : List JobState) → IsRead s size → AreOwnJobs s jobs → IsVerdict (setting s) (modules s) jobs Yes →
-    IsCorrect (circuit_of s.circuit) s.layout
-yes_means-correct s size jobs is own judged = correct s.circuit s.layout (modules s) jobs (read_layout-names s.circuit s.layout is.inputs is.named) (accepted_bundle s size jobs is own judged)
+pub yes_means-correct : (s : CertState) (size : Extent) (jobs : List JobState) → IsRead s size → AreOwnJobs s jobs → IsVerdict (setting s) (modules s) jobs Yes →
+    IsCorrect s.circuit s.layout
+yes_means-correct s size jobs is own judged =
+    correct s.circuit s.layout (modules s) jobs (read_layout-names s.circuit s.layout is.inputs is.named) (read_layout-is_named s.circuit s.layout is.named) (accepted_bundle s size jobs is own judged)
 
-pub yes_means-on_time : (s : CertState) (size : Size) (jobs : List JobState) → IsRead s size → AreOwnJobs s jobs → IsVerdict (setting s) (modules s) jobs Yes →
+pub yes_means-on_time : (s : CertState) (size : Extent) (jobs : List JobState) → IsRead s size → AreOwnJobs s jobs → IsVerdict (setting s) (modules s) jobs Yes →
     IsOnTime (circuit_of s.circuit) s.layout (modules s)
 yes_means-on_time s size jobs is own judged = on_time s.circuit s.layout (modules s) jobs (read_layout-names s.circuit s.layout is.inputs is.named) (accepted_bundle s size jobs is own judged)

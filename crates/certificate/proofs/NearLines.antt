@@ -61,7 +61,7 @@ low_halos g m s is limits h k d lt =
     let e = get_or (halos m) k d in
     low_in_box (whole s) e.cell (omega (arith, wide)) (omega (arith, high)) (ap (λ (t : Extent). in_box (whole t) e.cell.x e.cell.y) is ∙ (h.halo_lines k d lt).inside)
 
-pub low_stops : (g : Setting) (m : ModuleLines) (s : Size) → s ≡ g.size → size_fault s ≡ None → IsModule g m → All (λ e. IsLow e.cell) (stops m)
+pub low_stops : (g : Setting) (m : ModuleLines) (s : Extent) → s ≡ g.size → size_fault s ≡ None → IsModule g m → All (λ e. IsLow e.cell) (stops m)
 low_stops g m s is limits h k d lt =
     let w = within_512 g m s is limits h in
     let e = get_or (stops m) k d in

@@ -127,7 +127,7 @@ unfoldable pub is_halo_place : Extent → Box2 → Bool → Border → Bool
 is_halo_place s area starred e = in_halo area e.cell.x e.cell.y && in_box (whole s) e.cell.x e.cell.y && is_time s.steps starred e.time
 
 -- a stop stands in the box, at a time up to the last one
-unfoldable pub is_stop_place : Size → Box2 → StopLine → Bool
+unfoldable pub is_stop_place : Extent → Box2 → StopLine → Bool
 is_stop_place size area s = in_box area s.cell.x s.cell.y && nat_le s.time size.steps
 
 -- a signal is `1`, or a wire of the circuit, 3, that is local, 9

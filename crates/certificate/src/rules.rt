@@ -170,7 +170,7 @@ pub(crate) fn may_be_halo(size: Extent, area: Box2, starred: bool, border: &Bord
 
 /// Whether a stop may stand at its cell and time.
 #[tactic(auto, unfolding(crate::specs::Rules::is_stop_place))]
-pub(crate) fn may_be_stop(size: Size, area: Box2, stop: &StopLine) -> bool
+pub(crate) fn may_be_stop(size: Extent, area: Box2, stop: &StopLine) -> bool
     ensures { result ≡ is_stop_place size area stop.now }
 {
     let inside = area.holds(stop.cell);

@@ -60,6 +60,7 @@ module _ (c : CertState) (good : AreModules (setting_of c.circuit c.layout) (mod
         let beside = job_beside js ks number k own_j own_k at in
         a.no_fault number beside.0 f beside.1 (fault_over ks js number k beside.0 f own_k own_j at beside.1 is);
     no_border_fault = a.no_border_fault;
+    on_time = a.on_time;
   }
 
   least_over : (j k : JobState) → ((f : Fault) → IsFault j f → IsFault k f) → ((f : Fault) → IsFault k f → IsFault j f) → (o : Option Fault) → IsLeastFault j o → IsLeastFault k o

@@ -1,20 +1,26 @@
 -- What is written of a bundle: the line for its refusal, or the report on its certificate
-use Rattle.std.specs.Prelude.{ℕ, List, [], ◌∷◌, ◌++◌, length, codes}
+use Rattle.std.specs.Prelude.{ℕ, List, [], ◌∷◌, ◌++◌, length, codes, Option, Some, None}
 use Rattle.std.specs.Fmt.{decimal, signed_decimal}
 use Rattle.std.specs.List.{flat_map}
 use Rattle.hex.specs.Hex.{encode_lower}
 use Rattle.sha2.specs.Sha256.{sha256}
 use Rattle.section_text.specs.Spelling.{line_text}
 use Rattle.section_text.specs.declared.fault.Refusal.{Refusal}
+use Rattle.circuit.specs.Bridge.{circuit_of}
 use Rattle.certificate.specs.Entries.{modules_of}
 use Rattle.certificate.specs.Grammars.{CertState}
 use Rattle.certificate.specs.Text.{certificate_text}
+use Rattle.certificate.specs.Times.{time_lines}
+use Rattle.certificate.specs.declared.times.Gap.{Gap}
+use Rattle.certificate.specs.declared.times.Gap.TheVariants.{Steps, Missing, Before}
+use Rattle.certificate.specs.declared.times.TimeLine.{TimeLine}
 use Rattle.local_run.specs.declared.fault.Fault.{Fault}
 use Rattle.local_run.specs.declared.fault.Kind.{Kind}
 use Rattle.local_run.specs.declared.fault.Kind.TheVariants.{Edge, Stop, End}
 use Rattle.border_match.specs.declared.fault.BorderFault.{BorderFault}
+use Rattle.audit_core.specs.Verdicts.{timing}
 use Rattle.audit_core.specs.declared.verdict.ReportLine.{ReportLine}
-use Rattle.audit_core.specs.declared.verdict.ReportLine.TheVariants.{Local, Border}
+use Rattle.audit_core.specs.declared.verdict.ReportLine.TheVariants.{Local, Border, Delay, Meet}
 use Rattle.audit_core.specs.declared.verdict.Verdict.{Verdict}
 use Rattle.audit_core.specs.declared.verdict.Verdict.TheVariants.{Yes, No}
 
@@ -36,15 +42,28 @@ fault_words f = kind_word f.kind ∷ decimal f.time ∷ signed_decimal f.cell.x 
 abbrev pub border_words : BorderFault → List (List ℕ)
 border_words f = decimal f.time ∷ signed_decimal f.cell.x ∷ signed_decimal f.cell.y ∷ []
 
--- the line for a fault of a module
+-- how many steps a delay takes, if that can be said
+abbrev pub gap_word : Gap → List ℕ
+gap_word (Steps m) = decimal m
+gap_word Missing = codes "missing"
+gap_word Before = codes "before"
+
+-- when inputs meet, if they do
+abbrev pub meet_word : Option ℕ → List ℕ
+meet_word (Some t) = decimal t
+meet_word None = codes "differ"
+
+-- the line for a fault of a module, or for what stops say of a gate
 abbrev pub fault_line : ReportLine → List ℕ
 fault_line (Local m f) = line_text (codes "local") (decimal m ∷ fault_words f)
 fault_line (Border m f) = line_text (codes "border") (decimal m ∷ border_words f)
+fault_line (Delay k n gap) = line_text (codes "delay") (decimal k ∷ decimal n ∷ gap_word gap ∷ [])
+fault_line (Meet k at) = line_text (codes "meet") (decimal k ∷ meet_word at ∷ [])
 
--- `yes`, or `no` and then the lines for the faults
-abbrev pub verdict_lines : Verdict → List ℕ
-verdict_lines Yes = line_text (codes "verdict") (codes "yes" ∷ [])
-verdict_lines (No lines) = line_text (codes "verdict") (codes "no" ∷ []) ++ flat_map fault_line lines.items
+-- `yes` and then these lines of delays and meetings, or `no` and then the lines of the verdict
+abbrev pub verdict_lines : List TimeLine → Verdict → List ℕ
+verdict_lines times Yes = line_text (codes "verdict") (codes "yes" ∷ []) ++ flat_map (λ t. fault_line (timing t)) times
+verdict_lines times (No lines) = line_text (codes "verdict") (codes "no" ∷ []) ++ flat_map fault_line lines.items
 
 -- before the verdict: the version of reports, the certificate's digest in lower case, and how many modules it has
 abbrev pub opening_lines : List ℕ → ℕ → List ℕ
@@ -54,4 +73,4 @@ opening_lines digest modules =
 
 -- the report on a certificate
 unfoldable pub report_lines : CertState → Verdict → List ℕ
-report_lines c v = opening_lines (sha256 (certificate_text c)) (length (modules_of c.entries)) ++ verdict_lines v
+report_lines c v = opening_lines (sha256 (certificate_text c)) (length (modules_of c.entries)) ++ verdict_lines (time_lines (circuit_of c.circuit) (modules_of c.entries)) v

@@ -2,12 +2,16 @@
 ghost use Rattle.std.specs.Prelude.{◌≡◌, ◌++◌, IfOk, OnOk};
 ghost use Rattle.std.specs.List.{flat_map};
 ghost use Rattle.std.specs.String.{string_bytes};
-ghost use Rattle.audit_core.specs.declared.verdict.ReportLine.TheVariants.{Border, Local};
+ghost use Rattle.audit_core.specs.declared.verdict.ReportLine.TheVariants.{Border, Delay, Local, Meet};
+ghost use Rattle.audit_core.specs.Verdicts.{timing};
+ghost use Rattle.certificate.specs.Times.{time_lines};
+ghost use Rattle.certificate.specs.Entries.{modules_of};
+ghost use Rattle.circuit.specs.Bridge.{circuit_of};
 ghost use Rattle.report.specs.ReportText.{fault_line, kind_word, opening_lines, refusal_line, report_lines, verdict_lines};
 
 use audit_core::{ReportLine, Verdict};
 use border_match::BorderFault;
-use certificate::Cert;
+use certificate::{Cert, Gap, TimeLine};
 use local_run::{Fault, Kind};
 use section_text::Refusal;
 use std::alloc::{AllocError, Global};
@@ -22,15 +26,15 @@ pub fn refusal_text(alloc: Global, refusal: Refusal) -> Result<Vec<u8>, AllocErr
 }
 
 /// The report on a certificate with this verdict: the version of reports, the certificate's SHA-256 as 64 digits in lower case,
-/// how many modules it has, the verdict, and after a no a line for each fault in the verdict's order. `AllocError` is want of
-/// memory.
+/// how many modules it has, the verdict, after a no a line for each fault in the verdict's order, and then in any case what stops
+/// say of delays and meetings. `AllocError` is want of memory.
 #[tactic(auto, unfolding(crate::specs::ReportText::report_lines))]
 pub fn report_text(alloc: Global, cert: &Cert<'_>, verdict: &Verdict) -> Result<Vec<u8>, AllocError>
     ensures { IfOk result (λ text. text.items ≡ report_lines cert.now verdict.now) }
 {
     let digest = cert.digest(alloc)?;
     let mut text = opening_text(alloc, digest, cert.modules())?;
-    print_verdict(alloc, &mut text, verdict)?;
+    print_verdict(alloc, &mut text, cert, verdict)?;
     Ok(text)
 }
 
@@ -43,13 +47,19 @@ fn opening_text(alloc: Global, digest: [u8; 32], modules: usize) -> Result<Vec<u
     Ok(lines.into_bytes())
 }
 
-fn print_verdict(alloc: Global, text: &mut Vec<u8>, verdict: &Verdict) -> Result<(), AllocError>
-    ensures { OnOk result (text.new.items ≡ text.old.items ++ verdict_lines verdict.now) }
+fn print_verdict(
+    alloc: Global,
+    text: &mut Vec<u8>,
+    cert: &Cert<'_>,
+    verdict: &Verdict,
+) -> Result<(), AllocError>
+    ensures { OnOk result (text.new.items ≡ text.old.items ++ verdict_lines (time_lines (circuit_of cert.now.circuit) (modules_of cert.now.entries)) verdict.now) }
 {
     match verdict {
         Verdict::Yes => {
             text.extend_from_slice(b"verdict yes\n")?;
-            Ok(())
+            let times = cert.times(alloc)?;
+            print_times(alloc, text, &times)
         }
         Verdict::No(lines) => {
             text.extend_from_slice(b"verdict no\n")?;
@@ -67,12 +77,34 @@ fn print_lines(alloc: Global, text: &mut Vec<u8>, lines: &[ReportLine]) -> Resul
     Ok(())
 }
 
+fn print_times(alloc: Global, text: &mut Vec<u8>, times: &[TimeLine]) -> Result<(), AllocError>
+    ensures { OnOk result (text.new.items ≡ text.old.items ++ flat_map (λ t. fault_line (timing t)) times.now) }
+{
+    for line in times {
+        print_time(alloc, text, *line)?;
+    }
+    Ok(())
+}
+
+fn print_time(alloc: Global, text: &mut Vec<u8>, line: TimeLine) -> Result<(), AllocError>
+    ensures { OnOk result (text.new.items ≡ text.old.items ++ fault_line (timing line)) }
+{
+    match line {
+        TimeLine::Delay { gate, wanted, gap } => {
+            print_line(alloc, text, ReportLine::Delay { gate, wanted, gap })
+        }
+        TimeLine::Meet { gate, at } => print_line(alloc, text, ReportLine::Meet { gate, at }),
+    }
+}
+
 fn print_line(alloc: Global, text: &mut Vec<u8>, line: ReportLine) -> Result<(), AllocError>
     ensures { OnOk result (text.new.items ≡ text.old.items ++ fault_line line) }
 {
     let printed = match line {
         ReportLine::Local { module, fault } => local_line(alloc, module, fault)?,
         ReportLine::Border { module, fault } => border_line(alloc, module, fault)?,
+        ReportLine::Delay { gate, wanted, gap } => delay_line(alloc, gate, wanted, gap)?,
+        ReportLine::Meet { gate, at } => meet_line(alloc, gate, at)?,
     };
     text.extend_from_slice(printed.as_bytes())?;
     Ok(())
@@ -96,6 +128,27 @@ fn border_line(alloc: Global, number: usize, fault: BorderFault) -> Result<Strin
         "border {number} {} {} {}\n",
         fault.time, fault.cell.x, fault.cell.y
     )?;
+    Ok(line)
+}
+
+fn delay_line(alloc: Global, number: usize, wanted: u32, gap: Gap) -> Result<String, AllocError>
+    ensures { IfOk result (λ line. string_bytes line ≡ fault_line (Delay number wanted gap)) }
+{
+    let line = match gap {
+        Gap::Steps(steps) => format!(in alloc; "delay {number} {wanted} {steps}\n")?,
+        Gap::Missing => format!(in alloc; "delay {number} {wanted} missing\n")?,
+        Gap::Before => format!(in alloc; "delay {number} {wanted} before\n")?,
+    };
+    Ok(line)
+}
+
+fn meet_line(alloc: Global, number: usize, at: Option<u32>) -> Result<String, AllocError>
+    ensures { IfOk result (λ line. string_bytes line ≡ fault_line (Meet number at)) }
+{
+    let line = match at {
+        Some(time) => format!(in alloc; "meet {number} {time}\n")?,
+        None => format!(in alloc; "meet {number} differ\n")?,
+    };
     Ok(line)
 }
 
