@@ -68,6 +68,14 @@ def border_lines(rng, kind, cells, local, steps, count):
         yield f"{kind} {'*' if time < 0 else time} {x} {y} {signal}"
 
 
+def stop_lines(rng, box, local, steps, count):
+    """At most count stops of local wires, at any times and cells of the box."""
+    x, y, w, h = box
+    places = {(rng.randrange(steps + 1), y + rng.randrange(h), x + rng.randrange(w)) for _ in range(count)} if local else set()
+    for time, v, u in sorted(places):
+        yield f"stop {time} {rng.choice(local)} {u} {v}"
+
+
 def layout_lines(rng, width, height, steps, mirrors, ins, outs):
     """ins and outs: pairs of a wire and the cells from which its own is taken."""
     begun, ended, lines = set(), set(), [f"layout {width} {height} {steps}"]
@@ -116,6 +124,7 @@ def bundle(rng, width, height, boxes, steps, inputs, gates, mirrors, cuts, lines
         halo = {(u, v) for u, v in ring(x - 1, y - 1, w + 2, h + 2) if 0 <= u < width and 0 <= v < height}
         for kind, cells in (("edge", edge), ("halo", halo)):
             certificate += border_lines(rng, kind, cells, local, steps, lines)
+        certificate += stop_lines(rng, box, local, steps, rng.randint(0, lines))
 
     def home(wire):
         x, y, w, h = rng.choice(places[wire])

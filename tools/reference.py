@@ -250,7 +250,7 @@ class Assign:
 
 # ---- certificates
 
-KINDS = [b"cut", b"use", b"edge", b"halo"]
+KINDS = [b"cut", b"use", b"edge", b"halo", b"stop"]
 
 
 def cells_of(x, y, w, h):
@@ -272,6 +272,9 @@ class Module:
         # the cells that * lines name
         self.held = {b"edge": set(), b"halo": set()}
         self.rank, self.local = 0, set()
+
+    def border_count(self):
+        return sum(len(self.lines[kind]) for kind in (b"edge", b"halo", b"stop"))
 
 
 class Certificate:
@@ -298,6 +301,10 @@ class Certificate:
             time, *at, signal = rest
             if (time == b"*" or numbers([time])) and numbers(at) and (signal == b"1" or NAME.match(signal)):
                 return (ITEM, self.border, word, None if time == b"*" else int(time), *numbers(at), signal)
+        if word == b"stop" and len(rest) == 4:
+            time, name, *at = rest
+            if numbers([time]) and NAME.match(name) and numbers(at):
+                return (ITEM, self.stop, int(time), name, *numbers(at))
         return None
 
     def header(self, version):
@@ -361,7 +368,7 @@ class Certificate:
         module = self.modules[-1]
         if module.lines[kind] and place <= module.lines[kind][-1][0]:
             return 6
-        if len(module.lines[b"edge"]) + len(module.lines[b"halo"]) == 65536:
+        if module.border_count() == 65536:
             return 2
         if (x, y) not in module.places[kind]:
             return 10
@@ -376,6 +383,23 @@ class Certificate:
         if time is None:
             module.held[kind].add(place)
         return self.take(kind, (place, signal))
+
+    def stop(self, time, name, x, y):
+        place = (time, y, x)
+        if self.is_out_of_place(b"stop"):
+            return 6
+        module = self.modules[-1]
+        if module.lines[b"stop"] and place <= module.lines[b"stop"][-1][0]:
+            return 6
+        if module.border_count() == 65536:
+            return 2
+        if time > self.layout.steps or (x, y) not in module.cells:
+            return 10
+        if name not in self.wires:
+            return 3
+        if name not in module.local:
+            return 9
+        return self.take(b"stop", (place, name))
 
     def take(self, kind, what):
         module = self.modules[-1]
@@ -400,7 +424,7 @@ def modules(text):
     lines.finish()
     rows = [(number, *module.box, *(len(module.lines[kind]) for kind in KINDS))
             for number, module in enumerate(certificate.modules)]
-    return 0, b"".join(b"module %d %d %d %d %d cuts %d gates %d edges %d halos %d stops 0\n" % row for row in rows)
+    return 0, b"".join(b"module %d %d %d %d %d cuts %d gates %d edges %d halos %d stops %d\n" % row for row in rows)
 
 
 def answer(command, text):

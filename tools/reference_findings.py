@@ -47,16 +47,25 @@ def wanted_at_end(layout, module, values):
     return layout.cells[b"mirror"] & module.cells | outs
 
 
+def stop_faults(module, values, time, live):
+    """The stops of this time whose cell is not live exactly where the wire is true."""
+    for (when, y, x), name in module.lines[b"stop"]:
+        if when == time and ((x, y) in live) != values[name]:
+            yield time, 1, y, x
+
+
 def faults_under(layout, module, values):
     """All faults under one assignment: the time, the kind's number, y and x."""
     live, ring = start_of(layout, module, values), ring_of(*module.box)
     for time in range(layout.steps):
+        yield from stop_faults(module, values, time, live)
         if time % 2 == 0:
             live = stepped(live, time)
             continue
         differ = live & ring ^ true_cells(module, b"edge", time, values)
         yield from ((time, 0, y, x) for x, y in differ)
         live = stepped(live | true_cells(module, b"halo", time, values), time) & module.cells
+    yield from stop_faults(module, values, layout.steps, live)
     differ = (live ^ wanted_at_end(layout, module, values)) - layout.cells[b"waste"]
     yield from ((layout.steps, 2, y, x) for x, y in differ)
 

@@ -38,6 +38,30 @@ def report(circuit, layout, modules):
             yield b"border %d %d %d %d\n" % (number, time, x, y)
 
 
+def seen_times(modules):
+    """For each wire that has stops their times."""
+    times = {}
+    for module in modules:
+        for (time, _, _), name in module.lines[b"stop"]:
+            times.setdefault(name, []).append(time)
+    return times
+
+
+def time_lines(circuit, modules):
+    """The lines of delays and then those of meetings, and of each whether its rule is kept."""
+    times = seen_times(modules)
+    for number, (word, wanted, ins, outs) in enumerate(circuit.gates):
+        if word == b"delay":
+            used, made = times.get(ins[0]), times.get(outs[0])
+            gap = b"missing" if not (used and made) else b"before" if min(made) < max(used) else b"%d" % (min(made) - max(used))
+            yield b"delay %d %d %s\n" % (number, wanted, gap), gap == b"%d" % wanted
+    for number, (_, _, ins, _) in enumerate(circuit.gates):
+        lasts = [max(times[name]) for name in ins if name in times]
+        if len(lasts) >= 2:
+            met = len(set(lasts)) == 1
+            yield b"meet %d %s\n" % (number, b"%d" % lasts[0] if met else b"differ"), met
+
+
 def answer(text):
     lines = Lines(text)
     try:
@@ -51,6 +75,9 @@ def answer(text):
         return 3, b"refused %d %d\n" % refused.args
     section = b"\n".join(lines.parts[first:last]) + b"\n"
     faults = list(report(circuit, layout, certificate.modules))
+    timing = list(time_lines(circuit, certificate.modules))
     digest = hashlib.sha256(section).hexdigest().encode()
     head = b"bbmcheck 1\ncertificate %s\nmodules %d\n" % (digest, len(certificate.modules))
-    return (1, head + b"verdict no\n" + b"".join(faults)) if faults else (0, head + b"verdict yes\n")
+    is_yes = not faults and all(kept for _, kept in timing)
+    lines = b"".join([*faults, *(line for line, _ in timing)])
+    return (0, head + b"verdict yes\n" + lines) if is_yes else (1, head + b"verdict no\n" + lines)

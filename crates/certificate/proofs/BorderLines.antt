@@ -27,7 +27,7 @@ unfolding five border_of
 border_missed ws e = rw (no_five (length ws == 5) ws (sym e)) refl
 
 stop_by_words : (k t n x y : List ℕ) → stop_of (k ∷ t ∷ n ∷ x ∷ y ∷ []) ≡ stop_by t n x y
-unfolding stop_of timed_wire cell_from is_at number_at name_at stop_by cell_by
+unfolding stop_of timed_wire cell_from is_word_at number_at name_at stop_by cell_by
 stop_by_words k t n x y = refl
 
 pub stop_found : (ws : List (List ℕ)) (k t n x y : List ℕ) → Some (k ∷ t ∷ n ∷ x ∷ y ∷ []) ≡ five ws → stop_by t n x y ≡ stop_of ws

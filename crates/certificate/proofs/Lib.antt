@@ -8,6 +8,7 @@ pub mod TimetableLemmas
 pub mod StopLemmas
 pub mod TimeLemmas
 pub mod SeenLaws
+pub mod ArrivalLemmas
 pub mod FlatParts
 pub mod InnerLines
 pub mod BorderOrder

@@ -7,7 +7,10 @@ use Rattle.std.proofs.lemmas.Grind.{flat_map-append}
 use Rattle.std.proofs.lemmas.List.{drop_all, take_all}
 use Rattle.std.proofs.lemmas.Option.{same_Some, slice_get-get_or, slice_get_within}
 use Rattle.circuit.specs.Meaning.{Circuit, Gate}
-use Rattle.certificate.specs.Entries.{ModuleLines, modules_of, stop_in, stops}
+use Rattle.section_text.proofs.Good.{AreFaultless, IsFaultless}
+use Rattle.certificate.specs.Entries.{ModuleLines, Setting, last_of, modules_of, stop_in, stops}
+use Rattle.certificate.specs.Grammars.{certificate_grammar}
+use Rattle.certificate.specs.Rules.{entry_fault}
 use Rattle.certificate.specs.ModuleParts.{inner, is_module}
 use Rattle.certificate.specs.Times.{all_stops, lines_by, numbered, time_lines}
 use Rattle.certificate.specs.SeenTimes.{IsTable, seen, told_by}
@@ -46,6 +49,20 @@ splits_none = refl
 splits : (es : List Entry) → Splits es
 splits [] = splits_none
 splits (e ∷ es) = splits_step e es (splits es)
+
+-- and where the lines were read, they are those of all lines: the first is a module line
+starts_with_module : (g : Setting) (v : ℕ) (es : List Entry) → AreFaultless (certificate_grammar g) v [] es → inner es ≡ []
+unfolding inner entry_fault modules_of last_of
+starts_with_module g v [] good = refl
+starts_with_module g v (Module b ∷ es) good = refl
+starts_with_module g v (Cut n ∷ es) good = absurd (let first = good.0 in cc)
+starts_with_module g v (Use k ∷ es) good = absurd (let first = good.0 in cc)
+starts_with_module g v (Edge e ∷ es) good = absurd (let first = good.0 in cc)
+starts_with_module g v (Halo e ∷ es) good = absurd (let first = good.0 in cc)
+starts_with_module g v (Stop s ∷ es) good = absurd (let first = good.0 in cc)
+
+pub all_in_modules : (g : Setting) (v : ℕ) (es : List Entry) → IsFaultless (certificate_grammar g) v es → all_stops (modules_of es) ≡ flat_map stop_in es
+all_in_modules g v es good = sym (splits es ∙ ap (λ xs. flat_map stop_in xs ++ all_stops (modules_of es)) (starts_with_module g v es good.each))
 
 abbrev Begins : List Entry → Type 0
 Begins es = flat_map stop_in (drop (length (inner es)) es) ≡ all_stops (modules_of es)

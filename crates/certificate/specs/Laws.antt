@@ -1,16 +1,17 @@
 -- Laws of the certificate section, and of jobs
-use Rattle.std.specs.Prelude.{◌≡◌, ℕ, ◌+◌, ◌≤◌, Contains, List, Some, length, take, drop, Ok}
+use Rattle.std.specs.Prelude.{◌≡◌, ℕ, ◌+◌, ◌≤◌, Contains, IsTrue, List, Some, length, take, drop, Ok}
 use Rattle.std.specs.List.{All, flat_map}
 use Rattle.std.specs.Bool.{Decides}
 use Rattle.section_text.specs.Words.{lines_of}
 use Rattle.section_text.specs.Section.{section_of, ended_line}
-use Rattle.certificate.specs.Entries.{Setting}
+use Rattle.certificate.specs.Entries.{ModuleLines, Setting}
 use Rattle.certificate.specs.Grammars.{CertState, certificate_grammar, certificate_value}
 use Rattle.certificate.specs.Equality.{same_job, same_shape}
 use Rattle.certificate.specs.Jobs.{JobState}
 use Rattle.certificate.specs.Shapes.{ShapeState, placed, shape_of}
 use Rattle.certificate.specs.Text.{certificate_text}
-use Rattle.certificate.specs.Times.{first_seen, last_seen, times_of}
+use Rattle.certificate.specs.Arrivals.{AreOnTime, Tells}
+use Rattle.certificate.specs.Times.{all_stops, are_all_kept, first_seen, last_seen, time_lines, times_of}
 use Rattle.certificate.specs.declared.entry.StopLine.{StopLine}
 use Rattle.circuit.specs.Meaning.{Circuit}
 
@@ -47,3 +48,11 @@ FirstIsLeast = (c : Circuit) (ss : List StopLine) (w t : ℕ) → first_seen c s
 -- the last one is the greatest
 abbrev pub LastIsGreatest : Type 0
 LastIsGreatest = (c : Circuit) (ss : List StopLine) (w t : ℕ) → last_seen c ss w ≡ Some t → Contains (times_of c ss w) t × All (λ u. u ≤ t) (times_of c ss w)
+
+-- what each line tells of its gate
+abbrev pub LinesTell : Type 0
+LinesTell = (c : Circuit) (ms : List ModuleLines) → All (Tells c (all_stops ms)) (time_lines c ms)
+
+-- where all rules are kept, each delay takes as many steps as it says, and for each gate there is a time at which its inputs meet
+abbrev pub KeptIsOnTime : Type 0
+KeptIsOnTime = (c : Circuit) (ms : List ModuleLines) → IsTrue (are_all_kept (time_lines c ms)) → AreOnTime c (all_stops ms)

@@ -14,6 +14,7 @@ pub mod ModuleParts
 pub mod Timetables
 pub mod StopLists
 pub mod Times
+pub mod Arrivals
 pub mod SeenTimes
 pub mod JobFields
 pub mod Laws

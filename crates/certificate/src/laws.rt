@@ -1,6 +1,6 @@
 //! Laws of the definitions, each the contract of a function without a body.
 ghost use Rattle.certificate.specs.Keys.{BytesTellNumbers, NumbersTellShapes};
-ghost use Rattle.certificate.specs.Laws.{FirstIsLeast, JobEqualityDecides, LastIsGreatest, PrintsWhatIsRead, ReadsWhatIsPrinted, ShapeEqualityDecides, ShapesAreParts};
+ghost use Rattle.certificate.specs.Laws.{FirstIsLeast, JobEqualityDecides, KeptIsOnTime, LastIsGreatest, LinesTell, PrintsWhatIsRead, ReadsWhatIsPrinted, ShapeEqualityDecides, ShapesAreParts};
 
 /// The text of a certificate that is read is the text of the lines that it is read from, and it is read as the same
 /// certificate again.
@@ -31,4 +31,13 @@ pub fn keys_tell_shapes()
 pub fn seen_first_and_last()
     ensures first { FirstIsLeast }
     ensures last { LastIsGreatest }
+{}
+
+/// What stops tell of gates. Each line of [`Cert::times`](crate::Cert::times) tells of its gate what `specs/Arrivals.antt` says: a delay line
+/// of N steps, that the first stop of the wire that the delay defines comes N steps after the last one of the wire that it uses; a meeting at
+/// T, that the last stops of those inputs that have any are at T. So where all rules are kept, each delay takes as many steps as it
+/// says, and inputs meet.
+pub fn lines_tell_of_gates()
+    ensures each { LinesTell }
+    ensures kept { KeptIsOnTime }
 {}

@@ -1,0 +1,282 @@
+-- What the lines on delays and meetings tell of their gates.
+use Rattle.std.proofs.Common.{◌≡◌, ◌≢◌, ◌⊎◌, ℕ, zero, suc, ◌+◌, ◌-◌, ◌<◌, ◌≤◌, Bool, true, false, if◌then◌else◌, List, [], ◌∷◌, ◌++◌, length, Option, Some, None, refl, sym, ap, subst, ◌∙◌, inl, inr, arith}
+use Rattle.std.specs.Prelude.{slice_get, Contains, IsTrue, nat_lt, nat_le, ◌==◌, min, max}
+use Rattle.std.specs.List.{All, fold, flat_map, list_all}
+use Rattle.std.specs.Option.{option_to_list}
+use Rattle.std.proofs.lemmas.Bool.{and_parts, eqb-true}
+use Rattle.std.proofs.lemmas.Bool.Decides.{nat_tests}
+use Rattle.std.proofs.lemmas.List.Elements.{All-nil, All-cons, All-head, All-tail, All-append, All-contains, Contains-append_left, Contains-append_right}
+use Rattle.std.proofs.lemmas.List.Folds.{list_all-append}
+use Rattle.std.proofs.lemmas.Option.{same_Some}
+use Rattle.circuit.specs.Gates.{Rule, Source, Fredkin, Cswap, Interact, Switch, Delay, Unswitch, Uninteract}
+use Rattle.circuit.specs.Meaning.{Circuit, Gate}
+use Rattle.certificate.specs.Arrivals.{AreOnTime, IsDelay, IsFirstTime, IsLastTime, MeetAt, TakesSteps, Tells}
+use Rattle.certificate.specs.Entries.{ModuleLines}
+use Rattle.certificate.specs.Laws.{KeptIsOnTime, LinesTell}
+use Rattle.certificate.specs.Times.{agreed, all_stops, are_all_kept, delay_by, delay_line, earlier, first_seen, gap_between, is_kept, last_seen, last_times, later, meet_by, meet_line, numbered, of_wire, time_lines, times_of}
+use Rattle.certificate.specs.declared.entry.StopLine.{StopLine}
+use Rattle.certificate.specs.declared.times.Gap.{Gap}
+use Rattle.certificate.specs.declared.times.Gap.TheVariants.{Steps, Missing, Before}
+use Rattle.certificate.specs.declared.times.TimeLine.{TimeLine}
+use Rattle.certificate.specs.declared.times.TimeLine.TheVariants as line
+use Rattle.certificate.proofs.SeenLaws.{first_is_least, last_is_greatest}
+
+-- ---- the first and the last time of a wire
+
+is_first : (c : Circuit) (ss : List StopLine) (w t : ℕ) → first_seen c ss w ≡ Some t → IsFirstTime c ss w t
+is_first c ss w t e = let h = first_is_least c ss w t e in record { seen = h.0; least = h.1 }
+
+is_last : (c : Circuit) (ss : List StopLine) (w t : ℕ) → last_seen c ss w ≡ Some t → IsLastTime c ss w t
+is_last c ss w t e = let h = last_is_greatest c ss w t e in record { seen = h.0; greatest = h.1 }
+
+nothing_there : (t : ℕ) → Contains [] t → ⊥
+nothing_there t h = let lt = h.1 in omega (arith, lt)
+
+some_earlier : (a : ℕ) (ts : List ℕ) → (t : ℕ) × (fold earlier (Some a) ts ≡ Some t)
+some_earlier a [] = (a, refl)
+some_earlier a (u ∷ us) = some_earlier (min a u) us
+
+some_later : (a : ℕ) (ts : List ℕ) → (t : ℕ) × (fold later (Some a) ts ≡ Some t)
+some_later a [] = (a, refl)
+some_later a (u ∷ us) = some_later (max a u) us
+
+-- what has a stop has a first one and a last one
+has_first : (ts : List ℕ) (t : ℕ) → Contains ts t → (u : ℕ) × (fold earlier None ts ≡ Some u)
+has_first [] t h = absurd (nothing_there t h)
+has_first (a ∷ ts) t h = some_earlier a ts
+
+has_last : (ts : List ℕ) (t : ℕ) → Contains ts t → (u : ℕ) × (fold later None ts ≡ Some u)
+has_last [] t h = absurd (nothing_there t h)
+has_last (a ∷ ts) t h = some_later a ts
+
+first_is : (c : Circuit) (ss : List StopLine) (w t : ℕ) → IsFirstTime c ss w t → first_seen c ss w ≡ Some t
+first_is c ss w t h =
+    let f = has_first (times_of c ss w) t h.seen in
+    let g = is_first c ss w f.0 f.1 in
+    let up = All-contains (λ u. t ≤ u) (times_of c ss w) f.0 h.least g.seen in
+    let down = All-contains (λ u. f.0 ≤ u) (times_of c ss w) t g.least h.seen in
+    f.1 ∙ ap Some (omega (arith, up, down))
+
+last_is : (c : Circuit) (ss : List StopLine) (w t : ℕ) → IsLastTime c ss w t → last_seen c ss w ≡ Some t
+last_is c ss w t h =
+    let f = has_last (times_of c ss w) t h.seen in
+    let g = is_last c ss w f.0 f.1 in
+    let up = All-contains (λ u. u ≤ t) (times_of c ss w) f.0 h.greatest g.seen in
+    let down = All-contains (λ u. u ≤ f.0) (times_of c ss w) t g.greatest h.seen in
+    f.1 ∙ ap Some (omega (arith, up, down))
+
+-- ---- delays
+
+if_before : (b : Bool) (d m : ℕ) → (if b then Before else Steps d) ≡ Steps m → (b ≡ false) × (d ≡ m)
+if_before true d m e = absurd cc
+if_before false d m e = (refl, cc)
+
+later_by : (l f m : ℕ) → nat_lt f l ≡ false → f - l ≡ m → f ≡ l + m
+later_by l f m no_less e = grind (arith, nat_tests)
+
+-- from the last time of one wire to the first time of another
+gap_steps : (last first : Option ℕ) (m : ℕ) → gap_between last first ≡ Steps m → (l : ℕ) × (last ≡ Some l) × (first ≡ Some (l + m))
+gap_steps None first m e = absurd cc
+gap_steps (Some l) None m e = absurd cc
+gap_steps (Some l) (Some f) m e = let parts = if_before (nat_lt f l) (f - l) m e in (l, refl, ap Some (later_by l f m parts.0 parts.1))
+
+gap_missing : (last first : Option ℕ) (l f : ℕ) → gap_between last first ≡ Missing → last ≡ Some l → first ≡ Some f → ⊥
+gap_missing None first l f e p q = absurd cc
+gap_missing (Some k) None l f e p q = absurd cc
+gap_missing (Some k) (Some g) l f e p q = by_case (nat_lt g k) e
+  where
+    by_case : (b : Bool) → (if b then Before else Steps (g - k)) ≡ Missing → ⊥
+    by_case true e = cc
+    by_case false e = cc
+
+gap_before : (last first : Option ℕ) (l f : ℕ) → gap_between last first ≡ Before → last ≡ Some l → first ≡ Some f → f < l
+gap_before None first l f e p q = absurd cc
+gap_before (Some k) None l f e p q = absurd cc
+gap_before (Some k) (Some g) l f e p q =
+    let same_last = same_Some k l p in
+    let same_first = same_Some g f q in
+    by_case (nat_lt g k) refl e same_last same_first
+  where
+    by_case : (b : Bool) → nat_lt g k ≡ b → (if b then Before else Steps (g - k)) ≡ Before → k ≡ l → g ≡ f → f < l
+    by_case true less e same_last same_first = grind (arith, nat_tests)
+    by_case false less e same_last same_first = absurd cc
+
+-- the gate of a delay, by the wires that it uses and defines
+ins_are : (c : Circuit) (k n a b : ℕ) (g : Gate) → slice_get c.netlist.gates k ≡ Some g → IsDelay c k n a b → g ≡ record { kind = Delay n; ins = a ∷ []; outs = b ∷ [] }
+ins_are c k n a b g at is = same_Some _ _ (sym at ∙ is)
+
+own_gap : (c : Circuit) (ss : List StopLine) (k n a b : ℕ) (g : Gate) (gap : Gap) → slice_get c.netlist.gates k ≡ Some g → IsDelay c k n a b →
+    gap_between (of_wire (last_seen c ss) g.ins) (of_wire (first_seen c ss) g.outs) ≡ gap → gap_between (last_seen c ss a) (first_seen c ss b) ≡ gap
+own_gap c ss k n a b g gap at is e = subst (λ (h : Gate). gap_between (of_wire (last_seen c ss) h.ins) (of_wire (first_seen c ss) h.outs) ≡ gap) (ins_are c k n a b g at is) e
+
+takes : (c : Circuit) (ss : List StopLine) (m a b : ℕ) → gap_between (last_seen c ss a) (first_seen c ss b) ≡ Steps m → TakesSteps c ss m a b
+takes c ss m a b e =
+    let h = gap_steps (last_seen c ss a) (first_seen c ss b) m e in
+    record { leaves = h.0; last = is_last c ss a h.0 h.1; first = is_first c ss b (h.0 + m) h.2 }
+
+delay_tells : (c : Circuit) (ss : List StopLine) (k n : ℕ) (g : Gate) (gap : Gap) → slice_get c.netlist.gates k ≡ Some g →
+    gap_between (of_wire (last_seen c ss) g.ins) (of_wire (first_seen c ss) g.outs) ≡ gap → Tells c ss (line.Delay k n gap)
+delay_tells c ss k n g (Steps m) at e = λ a b is. takes c ss m a b (own_gap c ss k n a b g (Steps m) at is e)
+delay_tells c ss k n g Missing at e = λ a b s t is last first.
+    gap_missing _ _ s t (own_gap c ss k n a b g Missing at is e) (last_is c ss a s last) (first_is c ss b t first)
+delay_tells c ss k n g Before at e = λ a b s t is last first.
+    gap_before _ _ s t (own_gap c ss k n a b g Before at is e) (last_is c ss a s last) (first_is c ss b t first)
+
+-- ---- meetings
+
+time_there : (o : Option ℕ) (s : ℕ) → o ≡ Some s → Contains (option_to_list o) s
+time_there None s e = absurd cc
+time_there (Some t) s e = (zero, omega arith, same_Some t s e)
+
+-- the last time of a wire is among the last times
+listed : (last : ℕ → Option ℕ) (ws : List ℕ) (w s : ℕ) → Contains ws w → last w ≡ Some s → Contains (last_times last ws) s
+listed last [] w s h e = absurd (nothing_there w h)
+listed last (v ∷ ws) w s (zero, lt, is) e = Contains-append_left (option_to_list (last v)) (last_times last ws) s (time_there (last v) s (ap last is ∙ e))
+listed last (v ∷ ws) w s (suc k, lt, is) e = Contains-append_right (option_to_list (last v)) (last_times last ws) s (listed last ws w s (k, (omega (arith, lt)), is) e)
+
+all_equal : (t : ℕ) (ts : List ℕ) → list_all (λ u. u == t) ts ≡ true → All (λ u. u ≡ t) ts
+all_equal t [] e = All-nil (λ u. u ≡ t)
+all_equal t (u ∷ ts) e = let p = and_parts (u == t) (list_all (λ v. v == t) ts) e in All-cons (λ v. v ≡ t) u ts (eqb-true u t p.0) (all_equal t ts p.1)
+
+is_equal : (u t : ℕ) → u ≡ t → (u == t) ≡ true
+is_equal u t e = grind (arith, nat_tests)
+
+equal_all : (t : ℕ) (ts : List ℕ) → All (λ u. u ≡ t) ts → list_all (λ u. u == t) ts ≡ true
+equal_all t [] h = refl
+equal_all t (u ∷ ts) h =
+    let here : (u == t) ≡ true = is_equal u t (All-head (λ v. v ≡ t) u ts h) in
+    rw (here, equal_all t ts (All-tail (λ v. v ≡ t) u ts h)) refl
+
+agreed_all : (ts : List ℕ) (t : ℕ) → agreed ts ≡ Some t → All (λ u. u ≡ t) ts
+agreed_all [] t e = absurd cc
+agreed_all (a ∷ ts) t e = by_case (list_all (λ u. u == a) ts) refl e
+  where
+    by_case : (b : Bool) → list_all (λ u. u == a) ts ≡ b → (if b then Some a else None) ≡ Some t → All (λ u. u ≡ t) (a ∷ ts)
+    by_case true all e = let same = same_Some a t e in All-cons (λ u. u ≡ t) a ts same (subst (λ (r : ℕ). All (λ u. u ≡ r) ts) same (all_equal a ts all))
+    by_case false all e = absurd cc
+
+none_agreed : (ts : List ℕ) (t : ℕ) → 0 < length ts → agreed ts ≡ None → All (λ u. u ≡ t) ts → ⊥
+none_agreed [] t lt e h = omega (arith, lt)
+none_agreed (a ∷ ts) t lt e h =
+    let here : a ≡ t = All-head (λ u. u ≡ t) a ts h in
+    let all = equal_all a ts (subst (λ (r : ℕ). All (λ u. u ≡ r) ts) (sym here) (All-tail (λ u. u ≡ t) a ts h)) in
+    some_none a (sym (ap (λ b. if b then Some a else None) all) ∙ e)
+  where
+    some_none : (a : ℕ) → Some a ≡ None → ⊥
+    some_none a e = cc
+
+-- what holds of the last times of all wires that have one
+each_time : (P : ℕ → Type 0) (o : Option ℕ) → ((s : ℕ) → o ≡ Some s → P s) → All P (option_to_list o)
+each_time P None h = All-nil P
+each_time P (Some s) h = All-cons P s [] (h s refl) (All-nil P)
+
+all_times : (P : ℕ → Type 0) (last : ℕ → Option ℕ) (ws : List ℕ) → ((w s : ℕ) → Contains ws w → last w ≡ Some s → P s) → All P (last_times last ws)
+all_times P last [] h = All-nil P
+all_times P last (v ∷ ws) h =
+    All-append P (option_to_list (last v)) (last_times last ws) (each_time P (last v) (λ s e. h v s zero_there e)) (all_times P last ws (λ w s there e. h w s (later_there w there) e))
+  where
+    zero_there : Contains (v ∷ ws) v
+    zero_there = (zero, omega arith, refl)
+
+    later_there : (w : ℕ) → Contains ws w → Contains (v ∷ ws) w
+    later_there w there = (suc there.0, (let lt = there.1 in omega (arith, lt)), there.2)
+
+meet_at : (c : Circuit) (ss : List StopLine) (ws : List ℕ) (t : ℕ) → All (λ u. u ≡ t) (last_times (last_seen c ss) ws) → MeetAt c ss ws t
+meet_at c ss ws t h w s there last = All-contains (λ u. u ≡ t) (last_times (last_seen c ss) ws) s h (listed (last_seen c ss) ws w s there (last_is c ss w s last))
+
+all_meet : (c : Circuit) (ss : List StopLine) (ws : List ℕ) (t : ℕ) → MeetAt c ss ws t → All (λ u. u ≡ t) (last_times (last_seen c ss) ws)
+all_meet c ss ws t h = all_times (λ u. u ≡ t) (last_seen c ss) ws (λ w s there e. h w s there (is_last c ss w s e))
+
+meet_tells : (c : Circuit) (ss : List StopLine) (k : ℕ) (g : Gate) (o : Option ℕ) → slice_get c.netlist.gates k ≡ Some g →
+    0 < length (last_times (last_seen c ss) g.ins) → agreed (last_times (last_seen c ss) g.ins) ≡ o → Tells c ss (line.Meet k o)
+meet_tells c ss k g (Some t) at some e = λ h is. subst (λ (r : Gate). MeetAt c ss r.ins t) (same_Some g h (sym at ∙ is)) (meet_at c ss g.ins t (agreed_all _ t e))
+meet_tells c ss k g None at some e = λ h t is meet.
+    none_agreed _ t some e (all_meet c ss g.ins t (subst (λ (r : Gate). MeetAt c ss r.ins t) (sym (same_Some g h (sym at ∙ is))) meet))
+
+-- ---- the lines of all gates
+
+delay_lines_tell : (c : Circuit) (ss : List StopLine) (k : ℕ) (r : Rule) (g : Gate) → slice_get c.netlist.gates k ≡ Some g →
+    All (Tells c ss) (delay_by k r (gap_between (of_wire (last_seen c ss) g.ins) (of_wire (first_seen c ss) g.outs)))
+delay_lines_tell c ss k (Source b) g at = All-nil (Tells c ss)
+delay_lines_tell c ss k Fredkin g at = All-nil (Tells c ss)
+delay_lines_tell c ss k Cswap g at = All-nil (Tells c ss)
+delay_lines_tell c ss k Interact g at = All-nil (Tells c ss)
+delay_lines_tell c ss k Switch g at = All-nil (Tells c ss)
+delay_lines_tell c ss k (Delay n) g at = All-cons (Tells c ss) _ [] (delay_tells c ss k n g _ at refl) (All-nil (Tells c ss))
+delay_lines_tell c ss k Unswitch g at = All-nil (Tells c ss)
+delay_lines_tell c ss k Uninteract g at = All-nil (Tells c ss)
+
+meet_lines_tell : (c : Circuit) (ss : List StopLine) (k : ℕ) (g : Gate) → slice_get c.netlist.gates k ≡ Some g → All (Tells c ss) (meet_line (last_seen c ss) k g)
+meet_lines_tell c ss k g at = by_case (nat_le 2 (length ts)) refl
+  where
+    ts : List ℕ
+    ts = last_times (last_seen c ss) g.ins
+
+    two : nat_le 2 (length ts) ≡ true → 0 < length ts
+    two e = grind (arith, nat_tests)
+
+    by_case : (b : Bool) → nat_le 2 (length ts) ≡ b → All (Tells c ss) (if b then line.Meet k (agreed ts) ∷ [] else [])
+    by_case true e = All-cons (Tells c ss) _ [] (meet_tells c ss k g _ at (two e) refl) (All-nil (Tells c ss))
+    by_case false e = All-nil (Tells c ss)
+
+all_numbered : (P : TimeLine → Type 0) (f : ℕ → Gate → List TimeLine) (all : List Gate) → ((k : ℕ) (g : Gate) → slice_get all k ≡ Some g → All P (f k g)) →
+    (j : ℕ) (gates : List Gate) → ((i : ℕ) → slice_get gates i ≡ slice_get all (j + i)) → All P (numbered f j gates)
+unfolding numbered
+all_numbered P f all each j [] at = All-nil P
+all_numbered P f all each j (g ∷ gates) at =
+    All-append P (f j g) (numbered f (j + 1) gates)
+    (each j g (ap (slice_get all) (omega arith) ∙ sym (at 0)))
+    (all_numbered P f all each (j + 1) gates (λ i. at (suc i) ∙ ap (slice_get all) (omega arith)))
+
+from_none : (gates : List Gate) (i : ℕ) → slice_get gates i ≡ slice_get gates (0 + i)
+from_none gates i = ap (slice_get gates) (omega arith)
+
+pub lines_tell : LinesTell
+lines_tell c ms =
+    let ss = all_stops ms in
+    All-append (Tells c ss) _ _
+    (all_numbered (Tells c ss) (delay_line (first_seen c ss) (last_seen c ss)) c.netlist.gates (λ k g at. delay_lines_tell c ss k g.kind g at) 0 c.netlist.gates (from_none c.netlist.gates))
+    (all_numbered (Tells c ss) (meet_line (last_seen c ss)) c.netlist.gates (meet_lines_tell c ss) 0 c.netlist.gates (from_none c.netlist.gates))
+
+-- ---- where all are kept
+
+kept_at : (f : ℕ → Gate → List TimeLine) (j : ℕ) (gates : List Gate) (i : ℕ) (g : Gate) → list_all is_kept (numbered f j gates) ≡ true → slice_get gates i ≡ Some g → list_all is_kept (f (j + i) g) ≡ true
+unfolding numbered
+kept_at f j [] i g e at = absurd cc
+kept_at f j (h ∷ gates) zero g e at =
+    let p = and_parts (list_all is_kept (f j h)) (list_all is_kept (numbered f (j + 1) gates)) (sym (list_all-append is_kept (f j h) (numbered f (j + 1) gates)) ∙ e) in
+    let same : h ≡ g = same_Some h g at in
+    subst (λ (r : Gate). list_all is_kept (f (j + 0) r) ≡ true) same (subst (λ n. list_all is_kept (f n h) ≡ true) (omega arith) p.0)
+kept_at f j (h ∷ gates) (suc i) g e at =
+    let p = and_parts (list_all is_kept (f j h)) (list_all is_kept (numbered f (j + 1) gates)) (sym (list_all-append is_kept (f j h) (numbered f (j + 1) gates)) ∙ e) in
+    subst (λ n. list_all is_kept (f n g) ≡ true) (omega arith) (kept_at f (j + 1) gates i g p.1 at)
+
+kept_gap : (k n : ℕ) (gap : Gap) → list_all is_kept (line.Delay k n gap ∷ []) ≡ true → gap ≡ Steps n
+kept_gap k n (Steps m) e = ap Steps (eqb-true m n (and_parts (m == n) true e).0)
+kept_gap k n Missing e = absurd cc
+kept_gap k n Before e = absurd cc
+
+meeting_of : (k : ℕ) (ts : List ℕ) → list_all is_kept (meet_by k ts) ≡ true → (t : ℕ) × All (λ u. u ≡ t) ts
+meeting_of k [] e = (0, All-nil (λ u. u ≡ 0))
+meeting_of k (a ∷ []) e = (a, All-cons (λ u. u ≡ a) a [] refl (All-nil (λ u. u ≡ a)))
+meeting_of k (a ∷ b ∷ ts) e = by_case (agreed (a ∷ b ∷ ts)) refl (sym (ap (λ (two : Bool). list_all is_kept (if two then line.Meet k (agreed (a ∷ b ∷ ts)) ∷ [] else [])) two) ∙ e)
+  where
+    two : nat_le 2 (length (a ∷ b ∷ ts)) ≡ true
+    two = grind (arith, nat_tests)
+
+    by_case : (o : Option ℕ) → agreed (a ∷ b ∷ ts) ≡ o → list_all is_kept (line.Meet k o ∷ []) ≡ true → (t : ℕ) × All (λ u. u ≡ t) (a ∷ b ∷ ts)
+    by_case (Some t) is kept = (t, agreed_all (a ∷ b ∷ ts) t is)
+    by_case None is kept = absurd cc
+
+pub kept_is_on_time : KeptIsOnTime
+kept_is_on_time c ms kept =
+    let ss = all_stops ms in
+    let delays = numbered (delay_line (first_seen c ss) (last_seen c ss)) 0 c.netlist.gates in
+    let meetings = numbered (meet_line (last_seen c ss)) 0 c.netlist.gates in
+    let p = and_parts (list_all is_kept delays) (list_all is_kept meetings) (sym (list_all-append is_kept delays meetings) ∙ kept) in
+    record {
+      delays = λ k n a b is. takes c ss n a b (kept_gap (0 + k) n _ (kept_at (delay_line (first_seen c ss) (last_seen c ss)) 0 c.netlist.gates k _ p.0 is));
+      meetings = λ k g at.
+          let m = meeting_of (0 + k) (last_times (last_seen c ss) g.ins) (kept_at (meet_line (last_seen c ss)) 0 c.netlist.gates k g p.1 at) in
+          (m.0, meet_at c ss g.ins m.0 m.1);
+    }

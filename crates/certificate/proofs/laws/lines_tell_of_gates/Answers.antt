@@ -1,0 +1,5 @@
+use Rattle.certificate.proofs.ArrivalLemmas.{kept_is_on_time, lines_tell}
+use Rattle.certificate.proofs.laws.lines_tell_of_gates.Goals as goal
+
+pub returns : goal.returns
+returns c = record { each = lines_tell; kept = kept_is_on_time }
