@@ -8,7 +8,7 @@ use Rattle.std.proofs.lemmas.Bool.{cases_Bool, false≢true, true≢false, not_f
 use Rattle.bbm_rule.specs.Plane.{State, step, run}
 use Rattle.bbm_rule.proofs.Steps.{step_dead}
 use Rattle.circuit.specs.Bridge.{circuit_of, netlist_of}
-use Rattle.circuit.specs.Meaning.{Satisfies, Valuation, value_of, values_by_name, wire_of}
+use Rattle.circuit.specs.Meaning.{Satisfies, Valuation, wire_value, values_by_name, wire_of}
 use Rattle.circuit.specs.declared.entry.Entry.{Entry}
 use Rattle.circuit.proofs.Valuations.{has_valuation}
 use Rattle.pattern.specs.Layout.{Pattern}
@@ -43,7 +43,7 @@ use Rattle.border_match.proofs.Modules.{area_at, there}
 use Rattle.border_match.proofs.SameSignals.{same_signals}
 use Rattle.audit_core.specs.Implements.{LooksAsAsked, run_under}
 use Rattle.audit_core.specs.OnTime.{StopHolds}
-use Rattle.audit_core.specs.HeadlineLaws.{BelongTogether, IsAcceptedBundle, IsRunOfJobs, StartsAsJobs, StepsAsJobs, EndsAsAsked, AcceptedIsCorrect, AcceptedIsOnTime}
+use Rattle.audit_core.specs.HeadlineLaws.{BelongTogether, HasInputNames, IsAcceptedBundle, IsRunOfJobs, StartsAsJobs, StepsAsJobs, EndsAsAsked, AcceptedIsCorrect, AcceptedIsOnTime}
 use Rattle.audit_core.proofs.InputRuns.{inputs_decide}
 use Rattle.audit_core.proofs.StopParts.{all_flat, all_map, local_wire_is, one_said}
 use Rattle.audit_core.proofs.JobSignals.{Known, Owner, known_job, job_even, owner_of, meets_seen, live_renumbered, rim_edge_dead, outer_halo_dead, edge_by_circuit, halo_by_circuit}
@@ -347,7 +347,7 @@ stop_holds : (lines : List Entry) (p : Pattern) (ms : List ModuleLines) (jobs : 
     (i k : ℕ) (m : ModuleLines) (s : StopLine) → slice_get ms i ≡ Some m → slice_get (stops m) k ≡ Some s → IsStop (setting_of lines p) m.area (known (circuit_of lines) m) s → StopHolds (circuit_of lines) p s
 stop_holds lines p ms jobs named all i k m s at has line inputs v satisfied =
     let set : Setting lines p ms jobs inputs v = record { all = all; satisfied = satisfied } in
-    let b : IsBundle lines p ms jobs = all.bundle in
+    let b : BelongTogether lines p ms jobs = all.bundle in
     let j = there jobs i (let lt = slice_get_within ms i m at in let n = b.are_jobs.count in omega (arith, lt, n)) in
     let is : IsJobOf (circuit_of lines) p m j.0 = b.are_jobs.each i m j.0 at j.1 in
     let inside : in_box j.0.area s.cell.x s.cell.y ≡ true = ap (λ a. in_box a s.cell.x s.cell.y) is.area ∙ line.inside in
@@ -355,7 +355,7 @@ stop_holds lines p ms jobs named all i k m s at has line inputs v satisfied =
     sym (inputs_decide lines p inputs v s.time s.cell.x s.cell.y named satisfied)
     ∙ (all_times lines p ms jobs inputs v s.time all satisfied line.time).inside i j.0 j.1 s.cell.x s.cell.y inside
     ∙ no_line_fault lines p ms jobs inputs v i m j.0 k w.0 s set j.1 is has w.1
-    ∙ sym (ap (λ o. value_of o v) w.1)
+    ∙ sym (ap (λ o. wire_value o v) w.1)
 
 pub on_time : AcceptedIsOnTime
 on_time lines p ms jobs named all = record {

@@ -9,7 +9,8 @@ use Rattle.circuit.specs.Meaning.{Valuation, AreOrdered, wires}
 use Rattle.circuit.proofs.Valuations.{at_most_one}
 use Rattle.module_box.specs.LocalValues.{IsLocalValuation}
 use Rattle.module_box.specs.Moments.{moment_cmp}
-use Rattle.module_box.specs.Schedules.{is_at, is_then}
+use Rattle.bbm_rule.specs.Plane.{is_at}
+use Rattle.module_box.specs.Schedules.{is_then}
 use Rattle.module_box.specs.declared.schedules.Moment.{Moment}
 use Rattle.module_box.proofs.Rising.{is_first, moment_total}
 use Rattle.certificate.proofs.PortLemmas.{cell_same, cell_itself}
