@@ -14,6 +14,8 @@ use Rattle.section_text.specs.Words.{ended, is_line_feed, lines_of}
 use Rattle.section_text.specs.declared.fault.Refusal.{Refusal}
 use Rattle.section_text.proofs.Again.{IsOneLine}
 use Rattle.section_text.proofs.Lines.{ended-cons, some_part}
+use Rattle.certificate.specs.declared.times.TimeLine.{TimeLine}
+use Rattle.audit_core.specs.Verdicts.{timing}
 use Rattle.certificate.specs.Entries.{modules_of}
 use Rattle.certificate.specs.Grammars.{CertState}
 use Rattle.certificate.specs.Text.{certificate_text}
@@ -105,18 +107,17 @@ verdict_word (verdict.No lines) = codes "verdict no"
 abbrev line_opening : List ℕ → ℕ → List ℕ
 line_opening digest count = (line_text (codes "bbmcheck") (codes "1" ∷ []) ++ line_text (codes "certificate") (digest ∷ [])) ++ line_text (codes "modules") (decimal count ∷ [])
 
-fourth_by : (digest : List ℕ) (count : ℕ) (v : Verdict) → is_clean digest ≡ true → slice_get (lines_of (line_opening digest count ++ verdict_lines v)) 3 ≡ Some (verdict_word v)
-fourth_by digest count verdict.Yes clean = ap (λ ls. slice_get ls 3)
-    (ap (λ t. lines_of (line_opening digest count ++ t)) (sym (append-nil (verdict_lines verdict.Yes)))
-    ∙ four_lines (codes "bbmcheck 1") (codes "certificate" ++ flat_map spaced (digest ∷ [])) (codes "modules" ++ flat_map spaced (decimal count ∷ [])) (codes "verdict yes") []
+fourth_by : (digest : List ℕ) (count : ℕ) (times : List TimeLine) (v : Verdict) → is_clean digest ≡ true → slice_get (lines_of (line_opening digest count ++ verdict_lines times v)) 3 ≡ Some (verdict_word v)
+fourth_by digest count times verdict.Yes clean = ap (λ ls. slice_get ls 3)
+    (four_lines (codes "bbmcheck 1") (codes "certificate" ++ flat_map spaced (digest ∷ [])) (codes "modules" ++ flat_map spaced (decimal count ∷ [])) (codes "verdict yes") (flat_map (λ t. fault_line (timing t)) times)
     refl (ap is_clean (append-nil digest) ∙ clean) (ap is_clean (append-nil (decimal count)) ∙ clean_decimal count) refl)
-fourth_by digest count (verdict.No lines) clean = ap (λ ls. slice_get ls 3)
+fourth_by digest count times (verdict.No lines) clean = ap (λ ls. slice_get ls 3)
     (four_lines (codes "bbmcheck 1") (codes "certificate" ++ flat_map spaced (digest ∷ [])) (codes "modules" ++ flat_map spaced (decimal count ∷ [])) (codes "verdict no") (flat_map fault_line lines.items)
     refl (ap is_clean (append-nil digest) ∙ clean) (ap is_clean (append-nil (decimal count)) ∙ clean_decimal count) refl)
 
 pub fourth_line : (c : CertState) (v : Verdict) → slice_get (lines_of (report_lines c v)) 3 ≡ Some (verdict_word v)
 unfolding report_lines
-fourth_line c v = fourth_by (encode_lower (sha256 (certificate_text c))) (length (modules_of c.entries)) v (clean_hex (sha256 (certificate_text c)))
+fourth_line c v = fourth_by (encode_lower (sha256 (certificate_text c))) (length (modules_of c.entries)) _ v (clean_hex (sha256 (certificate_text c)))
 
 yes_is_not_no : ◌≡◌ {A = Option (List ℕ)} (Some (codes "verdict no")) (Some (codes "verdict yes")) → ⊥
 yes_is_not_no e = cc

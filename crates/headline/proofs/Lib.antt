@@ -3,7 +3,7 @@ mod OneValue
 mod OneListing
 mod OneReport
 mod Designs
-mod FourModules
+mod TimedModules
 mod Trials
 pub mod FourthLines
 pub mod YesIsRight

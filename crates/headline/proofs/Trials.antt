@@ -3,6 +3,7 @@ use Rattle.std.proofs.Common.{◌≡◌, ℕ, zero, suc, ◌<◌, ◌%◌, eqb, 
 use Rattle.std.specs.Prelude.{ℤ, slice_get}
 use Rattle.std.specs.List.{list_all}
 use Rattle.std.proofs.lemmas.Bool.{and_parts, eqb-true, false≢true}
+use Rattle.std.proofs.lemmas.Option.{slice_get-get_or}
 use Rattle.bbm_rule.specs.Plane.{is_at}
 use Rattle.bbm_rule.specs.declared.block.Cell.{Cell}
 use Rattle.circuit.specs.Meaning.{AreOrdered, Valuation}
@@ -137,19 +138,26 @@ edge_test j u t = every_cell j.area (λ x y. not (in_ring j.area x y) || agree (
 abbrev pub end_test : JobState → Valuation → Bool
 end_test j u = every_cell j.area (λ x y. meets u (job_demand j x y) (local_run j u j.steps x y))
 
+abbrev pub stop_test : JobState → Valuation → Bool
+stop_test j u = list_all (λ s. agree (local_run j u s.at.time s.at.cell.x s.at.cell.y) (u s.wire)) j.stops
+
 ring_inside : (b : Box2) (x y : ℤ) → in_ring b x y ≡ true → in_box b x y ≡ true
 unfolding in_ring
 ring_inside b x y h = (and_parts (in_box b x y) _ h).0
 
--- it passes the tests at all odd times, and at the last
+-- it passes the tests at all odd times, at its stops, and at the last time
 pub record Passes (j : JobState) (u : Valuation) : Type 0 where
   pub edges : (t : ℕ) → t % 2 ≡ 1 → t < j.steps → edge_test j u t ≡ true
+  pub stops : stop_test j u ≡ true
   pub end : end_test j u ≡ true
 
 no_fault_under : (j : JobState) (u : Valuation) (t : ℕ) (kind : Kind) (x y : ℤ) → IsJob j → Passes j u → IsFaultUnder j u t kind x y → ⊥
 no_fault_under j u t Edge x y is p f =
     f.differs (agree_is _ _ (implied (in_ring j.area x y) _ (at_every j.area _ (p.edges t f.odd f.early) x y (ring_inside j.area x y f.ring)) f.ring))
-no_fault_under j u t Stop x y is p f = absurd (omega (arith, f.is_listed.1, ap length is.no_stops))
+no_fault_under j u t Stop x y is p f =
+    let listed = slice_get-get_or j.stops f.is_listed.0 f.stop f.is_listed.1 ∙ ap Some f.is_listed.2 in
+    let own = agree_is _ _ (all_at (λ s. agree (local_run j u s.at.time s.at.cell.x s.at.cell.y) (u s.wire)) j.stops f.is_listed.0 f.stop p.stops listed) in
+    f.differs (sym (λ i. local_run j u (f.time i) (f.column i) (f.row i)) ∙ own)
 no_fault_under j u t End x y is p f =
     f.differs (subst (λ n. Meets u (job_demand j x y) (local_run j u n x y)) (sym f.last) (meets_is u _ _ (at_every j.area _ p.end x y f.inside)))
 

@@ -10,7 +10,7 @@ use Rattle.answers.specs.declared.outcome.Outcome.{Outcome}
 use Rattle.answers.specs.declared.outcome.Outcome.TheVariants.{Yes, Refused}
 use Rattle.answers.specs.CheckText.{IsReportOf}
 use Rattle.headline.specs.Design.{SaysDesign}
-use Rattle.headline.specs.FourModules.{four_modules}
+use Rattle.headline.specs.TimedModules.{timed_modules}
 use Rattle.headline.specs.Headline.{IsRight, SaysYes}
 
 -- a command has one answer to each text
@@ -44,5 +44,5 @@ ReportsOnGoodDesigns = (text output : List ℕ) (outcome : Outcome) (circuit : L
     SaysDesign text circuit layout → IsGoodDesign text circuit layout
 
 -- Something is reported with the outcome yes, so the laws are not about nothing: this text.
-abbrev pub FourModulesAreAccepted : Type 0
-FourModulesAreAccepted = (output : List ℕ) × IsReportOf four_modules output Yes
+abbrev pub TimedModulesAreAccepted : Type 0
+TimedModulesAreAccepted = (output : List ℕ) × IsReportOf timed_modules output Yes

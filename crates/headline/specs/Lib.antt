@@ -1,4 +1,4 @@
 pub mod Design
 pub mod Headline
-pub mod FourModules
+pub mod TimedModules
 pub mod Laws

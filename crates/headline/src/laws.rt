@@ -1,6 +1,6 @@
 //! Laws of the definitions, each the contract of a function without a body.
 ghost use Rattle.answers.specs.CheckText.{IsReportOf};
-ghost use Rattle.headline.specs.Laws.{FourModulesAreAccepted, FourthLineTells, HasOneAnswer, ReportsOnGoodDesigns, SaysOneDesign, YesMeansRight};
+ghost use Rattle.headline.specs.Laws.{TimedModulesAreAccepted, FourthLineTells, HasOneAnswer, ReportsOnGoodDesigns, SaysOneDesign, YesMeansRight};
 ghost use Rattle.answers.specs.ModulesText.{IsModulesOf};
 ghost use Rattle.answers.specs.RunText.{IsRunOf};
 ghost use Rattle.answers.specs.ValueText.{IsValueOf};
@@ -41,5 +41,5 @@ pub fn says_one_design()
 
 /// Something is reported with a yes: the text of four modules with a gate.
 pub fn something_is_accepted()
-    ensures { FourModulesAreAccepted }
+    ensures { TimedModulesAreAccepted }
 {}
