@@ -11,7 +11,12 @@ use Rattle.pattern.specs.Grammars.{layout_grammar, layout_value}
 use Rattle.pattern.specs.Forms.{form_of as layout_form}
 use Rattle.pattern.specs.Layout.{Pattern, parts_of}
 use Rattle.headline.specs.Design.{SaysDesign}
-use Rattle.headline.specs.Laws.{SaysOneDesign}
+use Rattle.certificate.specs.Entries.{Setting}
+use Rattle.certificate.specs.Forms.{form_of as certificate_form}
+use Rattle.certificate.specs.Grammars.{certificate_grammar}
+use Rattle.certificate.specs.declared.entry.Entry.{Entry as CertificateLine}
+use Rattle.headline.specs.Stops.{SaysBundle}
+use Rattle.headline.specs.Laws.{SaysOneCertificate, SaysOneDesign}
 use Rattle.headline.proofs.OneAnswer.{one_layout}
 
 -- ---- the two sections of a design
@@ -33,6 +38,25 @@ design_said text circuit named n layout first second =
       layout_is = section_said (layout_grammar named) n later layout.size (layout_value layout).1 second;
     }
 
+-- and the section after them
+pub bundle_said : (text : List ℕ) (circuit : List Entry) (named : Option Named) (n : ℕ) (layout : Pattern) (g : Setting) (m version : ℕ) (lines : List CertificateLine)
+    → section_of circuit_grammar 0 (lines_of text) ≡ Ok (tt, circuit)
+    → section_of (layout_grammar named) n (drop (length circuit + 2) (lines_of text)) ≡ Ok (layout_value layout)
+    → section_of (certificate_grammar g) m (drop (length (layout_value layout).1 + 2) (drop (length circuit + 2) (lines_of text))) ≡ Ok (version, lines)
+    → SaysBundle text circuit layout lines
+unfolding design_said
+bundle_said text circuit named n layout g m version lines first second third =
+    let d = design_said text circuit named n layout first second in
+    let k = length lines + 2 in
+    record {
+      design = d;
+      version = version;
+      third = take k d.others;
+      rest = drop k d.others;
+      lines = sym (take-append-drop k d.others);
+      certificate_is = section_said (certificate_grammar g) m d.others version lines third;
+    }
+
 -- ---- a text says one design
 
 pub one_design : SaysOneDesign
@@ -40,3 +64,11 @@ one_design text circuit circuit' layout layout' says says' =
     let first = one_section circuit_form says.first says'.first (says.second ++ says.others) (says'.second ++ says'.others) tt tt circuit circuit' (sym says.lines ∙ says'.lines) says.circuit_is says'.circuit_is in
     let second = one_section layout_form says.second says'.second says.others says'.others layout.size layout'.size (parts_of layout) (parts_of layout') first.others says.layout_is says'.layout_is in
     (first.items, one_layout layout layout' (ap₂ (λ s ps. (s, ps)) second.header second.items))
+
+pub one_certificate : SaysOneCertificate
+one_certificate text circuit circuit' layout layout' lines lines' says says' =
+    let d = says.design in
+    let d' = says'.design in
+    let first = one_section circuit_form d.first d'.first (d.second ++ d.others) (d'.second ++ d'.others) tt tt circuit circuit' (sym d.lines ∙ d'.lines) d.circuit_is d'.circuit_is in
+    let second = one_section layout_form d.second d'.second d.others d'.others layout.size layout'.size (parts_of layout) (parts_of layout') first.others d.layout_is d'.layout_is in
+    (one_section certificate_form says.third says'.third says.rest says'.rest says.version says'.version lines lines' (sym says.lines ∙ second.others ∙ says'.lines) says.certificate_is says'.certificate_is).items

@@ -1,7 +1,7 @@
 -- What is reported with a yes is right.
 use Rattle.std.proofs.Common.{◌≡◌, ◌≤◌, ℕ, ◌+◌, Bool, true, false, cond, eqb, List, [], ◌∷◌, ◌++◌, length, take, drop, Option, Some, None, Result, Ok, Err, refl, sym, ap, ap₂, subst, ◌∙◌, append_assoc, take-append-drop, arith}
 use Rattle.std.specs.Prelude.{nat_lt, ◌≢◌}
-use Rattle.std.specs.List.{flat_map}
+use Rattle.std.specs.List.{All, flat_map}
 use Rattle.std.proofs.lemmas.Grind.{flat_map-append}
 use Rattle.std.proofs.lemmas.List.{append-nil}
 use Rattle.std.proofs.lemmas.Bool.{ltb-false}
@@ -35,23 +35,32 @@ use Rattle.pattern.specs.declared.parts.Extent.{Extent}
 use Rattle.pattern.proofs.Named.{faultless_named}
 use Rattle.section_text.specs.Ports.{Named}
 use Rattle.certificate.specs.Grammars.{CertState, certificate_grammar, setting_of}
-use Rattle.certificate.specs.Entries.{modules_of}
+use Rattle.certificate.specs.Arrivals.{AreOnTime}
+use Rattle.certificate.specs.Entries.{modules_of, stop_in}
+use Rattle.certificate.specs.Times.{all_stops}
+use Rattle.certificate.specs.declared.entry.Entry.{Entry}
+use Rattle.certificate.specs.declared.entry.StopLine.{StopLine}
+use Rattle.certificate.proofs.ArrivalLemmas.{kept_is_on_time}
+use Rattle.certificate.proofs.TimeLemmas.{all_in_modules}
+use Rattle.circuit.specs.Bridge.{circuit_of}
+use Rattle.audit_core.specs.OnTime.{StopHolds}
 use Rattle.audit_core.specs.Concluding.{port_names_of}
 use Rattle.audit_core.specs.Implements.{IsCorrect}
 use Rattle.audit_core.specs.Verdicts.{IsVerdict}
 use Rattle.report.specs.ReportText.{report_lines}
 use Rattle.audit_core.specs.declared.verdict.Verdict.{Verdict}
 use Rattle.audit_core.specs.declared.verdict.Verdict.TheVariants as verdict
-use Rattle.audit_core.proofs.YesMeansCorrect.{yes_means-correct}
+use Rattle.audit_core.proofs.YesMeansCorrect.{IsRead, yes_means-correct, yes_means-on_time}
 use Rattle.answers.specs.Answers.{Answered}
 use Rattle.pattern.specs.FromLines.{layout_of}
 use Rattle.answers.specs.BundleText.{Bundle, bundle_of}
 use Rattle.answers.specs.CheckText.{IsReportOf, SaysReport, verdict_outcome}
 use Rattle.headline.specs.Design.{SaysDesign}
 use Rattle.headline.specs.Headline.{IsRight, SaysYes}
-use Rattle.headline.specs.Laws.{FourthLineTells, IsGoodDesign, ReportsOnGoodDesigns, YesMeansRight}
+use Rattle.headline.specs.Laws.{FourthLineTells, IsGoodDesign, ReportsOnGoodDesigns, YesMeansRight, YesMeansRightStops}
 use Rattle.answers.proofs.Bundles.{same_setting}
-use Rattle.headline.proofs.Designs.{design_said, one_design}
+use Rattle.headline.proofs.Designs.{bundle_said, design_said, one_design}
+use Rattle.headline.specs.Stops.{HasRightStops, SaysBundle}
 use Rattle.headline.proofs.FourthLines.{refusal_says_none, says_yes, yes_says}
 use Rattle.answers.specs.declared.outcome.Outcome.{Outcome}
 use Rattle.answers.specs.declared.outcome.Outcome.TheVariants.{Yes, Refused}
@@ -167,6 +176,7 @@ record IsReadBundle (text : List ℕ) (b : Bundle) : Type 0 where
   pub layout : IsFaultless (layout_grammar (Some (port_names_of b.circuit))) b.size b.parts
   pub says : (p : Pattern) → layout_value p ≡ (b.size, b.parts) → SaysDesign text b.circuit p
   pub begins : (p : Pattern) → layout_value p ≡ (b.size, b.parts) → BeginsWith text b.circuit p
+  pub says_all : (p : Pattern) → layout_value p ≡ (b.size, b.parts) → SaysBundle text b.circuit p b.entries
 
 -- what goes on with a value that was read, was read
 record WentOn {H I : Type 0} {B : Type 0} (read : Result (H × List I) Refusal) (next : H → List I → Result B Refusal) (b : B) : Type 0 where
@@ -190,11 +200,14 @@ bundle_good text b e =
     let c = went_on (section_of circuit_grammar 0 (lines_of text)) _ b e in
     let l = went_on (section_of (layout_grammar (Some (port_names_of c.items))) _ _) _ b c.then in
     let k = went_on (section_of (certificate_grammar (setting_of c.items (layout_of l.header l.items))) _ _) _ b l.then in
+    let m : ℕ = 0 + (length c.items + 2) + (length l.items + 2) in
     subst (IsReadBundle text) (is_finished _ _ _ _ b k.then) (record {
       circuit = circuit_good 0 (lines_of text) c.header c.items c.was;
       layout = read_faultless (layout_grammar (Some (port_names_of c.items))) _ _ l.header l.items l.was;
       says = λ p same. design_said text c.items (Some (port_names_of c.items)) _ p c.was (l.was ∙ ap Ok (sym same));
       begins = λ p same. spelled text c.items (Some (port_names_of c.items)) _ p c.was (l.was ∙ ap Ok (sym same));
+      says_all = λ p same. bundle_said text c.items (Some (port_names_of c.items)) _ p (setting_of c.items (layout_of l.header l.items)) m k.header k.items c.was (l.was ∙ ap Ok (sym same))
+          (subst (λ (q : Extent × List Part). section_of (certificate_grammar (setting_of c.items (layout_of l.header l.items))) m (drop (length q.1 + 2) (drop (length c.items + 2) (lines_of text))) ≡ Ok (k.header, k.items)) (sym same) k.was);
     })
 
 -- and those of its certificate are good
@@ -246,9 +259,9 @@ is_yes : (v : Verdict) → Yes ≡ verdict_outcome v → v ≡ verdict.Yes
 is_yes verdict.Yes e = refl
 is_yes (verdict.No lines) e = absurd cc
 
--- what was judged so is right
-judged_yes : (text : List ℕ) (b : Bundle) (output : List ℕ) (outcome : Outcome) → bundle_of text ≡ Ok b → (says : SaysReport b output outcome) → says.verdict ≡ verdict.Yes → IsRight text
-judged_yes text b output outcome reads says is =
+-- what is known of the certificate of a report
+known : (text : List ℕ) (b : Bundle) (output : List ℕ) (outcome : Outcome) → bundle_of text ≡ Ok b → (says : SaysReport b output outcome) → IsRead says.certificate says.certificate.layout.size
+known text b output outcome reads says =
     let good = bundle_good text b reads in
     let c : CertState = says.certificate in
     let same = says.its_own in
@@ -257,29 +270,60 @@ judged_yes text b output outcome reads says is =
     subst (λ (q : Extent × List Part). IsFaultless (layout_grammar (Some (port_names_of c.circuit))) q.0 q.1) (sym same.layout)
     (subst (λ (cs : List CircuitLine). IsFaultless (layout_grammar (Some (port_names_of cs))) b.size b.parts) (sym same.circuit) good.layout) in
     let gates = gates_are_ordered c.circuit circuit in
-    let v = says.is_verdict in
-    let judged = subst (λ (w : Verdict). IsVerdict (setting_of c.circuit c.layout) (modules_of c.entries) v.jobs w) is v.judged in
-    let correct = yes_means-correct c c.layout.size v.jobs (record {
+    record {
       ordered = gates.0;
       forward = gates.1;
       same = refl;
       limits = whole.header;
       laid_out = laid_out (Some (port_names_of c.circuit)) c.layout.size [] (parts_of c.layout) whole.each;
-      are_modules = v.good;
+      are_modules = says.is_verdict.good;
       inputs = inputs_are_first c.circuit circuit;
       named = faultless_named (Some (port_names_of c.circuit)) c.layout.size (parts_of c.layout) whole;
-    }) v.are_jobs judged in
-    record { circuit = b.circuit; layout = c.layout; says = good.says c.layout same.layout; correct = subst (λ (cs : List CircuitLine). IsCorrect cs c.layout) same.circuit correct }
+    }
+
+-- what was judged so is right
+judged_yes : (text : List ℕ) (b : Bundle) (output : List ℕ) (outcome : Outcome) → bundle_of text ≡ Ok b → (says : SaysReport b output outcome) → says.verdict ≡ verdict.Yes → IsRight text
+judged_yes text b output outcome reads says is =
+    let c : CertState = says.certificate in
+    let same = says.its_own in
+    let v = says.is_verdict in
+    let judged = subst (λ (w : Verdict). IsVerdict (setting_of c.circuit c.layout) (modules_of c.entries) v.jobs w) is v.judged in
+    let correct = yes_means-correct c c.layout.size v.jobs (known text b output outcome reads says) v.are_jobs judged in
+    record { circuit = b.circuit; layout = c.layout; says = (bundle_good text b reads).says c.layout same.layout; correct = subst (λ (cs : List CircuitLine). IsCorrect cs c.layout) same.circuit correct }
+
+-- and so are its stops
+judged_stops : (text : List ℕ) (b : Bundle) (output : List ℕ) (outcome : Outcome) → bundle_of text ≡ Ok b → (says : SaysReport b output outcome) → says.verdict ≡ verdict.Yes → HasRightStops text
+judged_stops text b output outcome reads says is =
+    let c : CertState = says.certificate in
+    let same = says.its_own in
+    let v = says.is_verdict in
+    let judged = subst (λ (w : Verdict). IsVerdict (setting_of c.circuit c.layout) (modules_of c.entries) v.jobs w) is v.judged in
+    let right = yes_means-on_time c c.layout.size v.jobs (known text b output outcome reads says) v.are_jobs judged in
+    let own : all_stops (modules_of c.entries) ≡ flat_map stop_in b.entries =
+    ap (λ (es : List Entry). all_stops (modules_of es)) same.entries ∙ all_in_modules (setting_of b.circuit c.layout) b.version b.entries (certificate_faultless text b c.layout reads same.layout) in
+    record {
+      circuit = b.circuit;
+      layout = c.layout;
+      certificate = b.entries;
+      says = (bundle_good text b reads).says_all c.layout same.layout;
+      stops = subst (λ (cs : List CircuitLine). All (StopHolds (circuit_of cs) c.layout) (flat_map stop_in b.entries)) same.circuit (subst (All (StopHolds (circuit_of c.circuit) c.layout)) own right.stops);
+      on_time = subst (λ (cs : List CircuitLine). AreOnTime (circuit_of cs) (flat_map stop_in b.entries)) same.circuit
+          (subst (λ (ss : List StopLine). AreOnTime (circuit_of c.circuit) ss) own (kept_is_on_time (circuit_of c.circuit) (modules_of c.entries) right.times));
+    }
 
 not_refused : Yes ≡ Refused → ⊥
 not_refused e = cc
 
-by_outcome : (text : List ℕ) (output : List ℕ) (read : Result Bundle Refusal) → bundle_of text ≡ read → Answered SaysReport read output Yes → IsRight text
-by_outcome text output (Ok b) e says = judged_yes text b output Yes e says (is_yes says.verdict says.ends)
-by_outcome text output (Err refusal) e told = absurd (not_refused told.1)
+by_outcome : (P : Type 0) (text output : List ℕ) → ((b : Bundle) → bundle_of text ≡ Ok b → (says : SaysReport b output Yes) → says.verdict ≡ verdict.Yes → P) →
+    (read : Result Bundle Refusal) → bundle_of text ≡ read → Answered SaysReport read output Yes → P
+by_outcome P text output judged (Ok b) e says = judged b e says (is_yes says.verdict says.ends)
+by_outcome P text output judged (Err refusal) e told = absurd (not_refused told.1)
 
 pub yes_is_right : YesMeansRight
-yes_is_right text output says = by_outcome text output (bundle_of text) refl says
+yes_is_right text output says = by_outcome (IsRight text) text output (λ b e says is. judged_yes text b output Yes e says is) (bundle_of text) refl says
+
+pub yes_has_right_stops : YesMeansRightStops
+yes_has_right_stops text output says = by_outcome (HasRightStops text) text output (λ b e says is. judged_stops text b output Yes e says is) (bundle_of text) refl says
 
 -- ---- the fourth line
 
@@ -298,5 +342,5 @@ line_tells output outcome (Err refusal) told = (
 pub fourth_line-tells : FourthLineTells
 fourth_line-tells text output outcome says = line_tells output outcome (bundle_of text) says
 
-pub by_line : (text output : List ℕ) (outcome : Outcome) → IsReportOf text output outcome → SaysYes output → IsRight text
-by_line text output outcome says line = yes_is_right text output (subst (λ o. IsReportOf text output o) ((fourth_line-tells text output outcome says).0 line) says)
+pub by_line : (text output : List ℕ) (outcome : Outcome) → IsReportOf text output outcome → SaysYes output → IsReportOf text output Yes
+by_line text output outcome says line = subst (λ o. IsReportOf text output o) ((fourth_line-tells text output outcome says).0 line) says

@@ -24,11 +24,11 @@ pub record IsRight (text : List ℕ) : Type 0 where
 abbrev pub SaysYes : List ℕ → Type 0
 SaysYes output = slice_get (lines_of output) 3 ≡ Some (codes "verdict yes")
 
--- The bytes of a reader are known, and so are those of a writer before and after: where what was written says yes, what there was to
--- read is right.
-abbrev pub YesIsRight : Option (List ℕ) → Option (List ℕ) → Option (List ℕ) → Type 0
-YesIsRight left held held' = (text before output : List ℕ) → left ≡ Some text → held ≡ Some before → held' ≡ Some (before ++ output) → SaysYes output → IsRight text
+-- The bytes of a reader are known, and so are those of a writer before and after: where what was written says yes, P holds of what there
+-- was to read.
+abbrev pub YesMeans : (List ℕ → Type 0) → Option (List ℕ) → Option (List ℕ) → Option (List ℕ) → Type 0
+YesMeans P left held held' = (text before output : List ℕ) → left ≡ Some text → held ≡ Some before → held' ≡ Some (before ++ output) → SaysYes output → P text
 
--- what there is to read is right, where it is known
-abbrev pub GivesRight : Option (List ℕ) → Type 0
-GivesRight left = (text : List ℕ) → left ≡ Some text → IsRight text
+-- P holds of what there is to read, where that is known
+abbrev pub Gives : (List ℕ → Type 0) → Option (List ℕ) → Type 0
+Gives P left = (text : List ℕ) → left ≡ Some text → P text

@@ -3,6 +3,7 @@ use Rattle.std.specs.Prelude.{◌≡◌, ◌≢◌, ℕ, List, [], ◌++◌, Non
 use Rattle.circuit.specs.Bridge.{AreGood}
 use Rattle.circuit.specs.Text.{circuit_text}
 use Rattle.circuit.specs.declared.entry.Entry.{Entry}
+use Rattle.certificate.specs.declared.entry.Entry.{Entry as CertificateLine}
 use Rattle.pattern.specs.Layout.{Pattern, parts_of}
 use Rattle.pattern.specs.Lines.{AreGoodAfter, size_fault}
 use Rattle.pattern.specs.Text.{layout_text}
@@ -12,6 +13,7 @@ use Rattle.answers.specs.CheckText.{IsReportOf}
 use Rattle.headline.specs.Design.{SaysDesign}
 use Rattle.headline.specs.TimedModules.{timed_modules}
 use Rattle.headline.specs.Headline.{IsRight, SaysYes}
+use Rattle.headline.specs.Stops.{HasRightStops, SaysBundle}
 
 -- a command has one answer to each text
 abbrev pub HasOneAnswer : (List ℕ → List ℕ → Outcome → Type 0) → Type 0
@@ -21,6 +23,10 @@ HasOneAnswer R = (text output output' : List ℕ) (outcome outcome' : Outcome) �
 abbrev pub YesMeansRight : Type 0
 YesMeansRight = (text output : List ℕ) → IsReportOf text output Yes → IsRight text
 
+-- and its stops are right
+abbrev pub YesMeansRightStops : Type 0
+YesMeansRightStops = (text output : List ℕ) → IsReportOf text output Yes → HasRightStops text
+
 -- a report says yes in its fourth line just where that is the outcome
 abbrev pub FourthLineTells : Type 0
 FourthLineTells = (text output : List ℕ) (outcome : Outcome) → IsReportOf text output outcome → (SaysYes output → outcome ≡ Yes) × (outcome ≡ Yes → SaysYes output)
@@ -29,6 +35,11 @@ FourthLineTells = (text output : List ℕ) (outcome : Outcome) → IsReportOf te
 abbrev pub SaysOneDesign : Type 0
 SaysOneDesign = (text : List ℕ) (circuit circuit' : List Entry) (layout layout' : Pattern) → SaysDesign text circuit layout → SaysDesign text circuit' layout' →
     (circuit ≡ circuit') × (layout ≡ layout')
+
+-- and the lines of one certificate
+abbrev pub SaysOneCertificate : Type 0
+SaysOneCertificate = (text : List ℕ) (circuit circuit' : List Entry) (layout layout' : Pattern) (certificate certificate' : List CertificateLine) →
+    SaysBundle text circuit layout certificate → SaysBundle text circuit' layout' certificate' → certificate ≡ certificate'
 
 -- Where a text is not refused, the design that it says is good: each of its lines is good after those before it, by names, limits and
 -- cells, and the text begins with the lines of both sections in their one spelling.

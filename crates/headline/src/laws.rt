@@ -1,6 +1,6 @@
 //! Laws of the definitions, each the contract of a function without a body.
 ghost use Rattle.answers.specs.CheckText.{IsReportOf};
-ghost use Rattle.headline.specs.Laws.{TimedModulesAreAccepted, FourthLineTells, HasOneAnswer, ReportsOnGoodDesigns, SaysOneDesign, YesMeansRight};
+ghost use Rattle.headline.specs.Laws.{FourthLineTells, HasOneAnswer, ReportsOnGoodDesigns, SaysOneCertificate, SaysOneDesign, TimedModulesAreAccepted, YesMeansRight, YesMeansRightStops};
 ghost use Rattle.answers.specs.ModulesText.{IsModulesOf};
 ghost use Rattle.answers.specs.RunText.{IsRunOf};
 ghost use Rattle.answers.specs.ValueText.{IsValueOf};
@@ -25,17 +25,19 @@ pub fn modules_has_one_answer()
     ensures { HasOneAnswer IsModulesOf }
 {}
 
-/// A text for which the report says yes begins with a circuit and a layout that computes it. The fourth line of a report is
-/// `verdict yes` just where it says yes.
+/// A text for which the report says yes begins with a circuit and a layout that computes it, and goes on with a certificate whose stops hold.
+/// The fourth line of a report is `verdict yes` just where it says yes.
 pub fn yes_means_right()
     ensures right { YesMeansRight }
+    ensures stops { YesMeansRightStops }
     ensures told { FourthLineTells }
 {}
 
-/// A text begins with one circuit and one layout at most. Where it is not refused, each of their lines is good after those before it, by
+/// A text begins with one circuit, one layout and one certificate at most. Where it is not refused, each of their lines is good after those before it, by
 /// names, limits and cells, and is spelled in the one way.
 pub fn says_one_design()
     ensures one { SaysOneDesign }
+    ensures certificate { SaysOneCertificate }
     ensures good { ReportsOnGoodDesigns }
 {}
 

@@ -1,6 +1,6 @@
-use Rattle.headline.proofs.Designs.{one_design}
+use Rattle.headline.proofs.Designs.{one_certificate, one_design}
 use Rattle.headline.proofs.YesIsRight.{good_designs}
 use Rattle.headline.proofs.laws.says_one_design.Goals as goal
 
 pub returns : goal.returns
-returns c = record { one = one_design; good = good_designs }
+returns c = record { one = one_design; certificate = one_certificate; good = good_designs }

@@ -1,0 +1,35 @@
+-- What a yes of `check` means of stops, delays and meetings, of texts and bytes alone. Who writes no `stop` lines need not read this.
+--
+-- Read before: all that Headline.antt names; certificate/specs/Entries.antt up to `stop_in` and Forms.antt (what a line of a certificate says);
+-- Times.antt up to `times_of` and Arrivals.antt up to `AreOnTime` (delays and meetings); audit_core/specs/OnTime.antt (`StopHolds`).
+use Rattle.std.specs.Prelude.{◌≡◌, ℕ, List, ◌++◌}
+use Rattle.std.specs.List.{All, flat_map}
+use Rattle.section_text.specs.SaidSection.{IsSection}
+use Rattle.circuit.specs.Bridge.{circuit_of}
+use Rattle.circuit.specs.declared.entry.Entry.{Entry as CircuitLine}
+use Rattle.pattern.specs.Layout.{Pattern}
+use Rattle.certificate.specs.Arrivals.{AreOnTime}
+use Rattle.certificate.specs.Entries.{stop_in}
+use Rattle.certificate.specs.Forms.{form_of as certificate_form}
+use Rattle.certificate.specs.declared.entry.Entry.{Entry}
+use Rattle.audit_core.specs.OnTime.{StopHolds}
+use Rattle.headline.specs.Design.{SaysDesign}
+
+-- The text says this circuit and this layout, and goes on with the lines of this certificate.
+pub record SaysBundle (text : List ℕ) (circuit : List CircuitLine) (layout : Pattern) (certificate : List Entry) : Type 0 where
+  pub design : SaysDesign text circuit layout
+  pub version : ℕ
+  pub third : List (List ℕ)
+  pub rest : List (List ℕ)
+  pub lines : design.others ≡ third ++ rest
+  pub certificate_is : IsSection certificate_form third version certificate
+
+-- Each stop of the text's certificate holds on the whole plane, for all values of the inputs; and by its stops each delay takes as many steps as
+-- it says, and the inputs of each gate meet.
+pub record HasRightStops (text : List ℕ) : Type 0 where
+  pub circuit : List CircuitLine
+  pub layout : Pattern
+  pub certificate : List Entry
+  pub says : SaysBundle text circuit layout certificate
+  pub stops : All (StopHolds (circuit_of circuit) layout) (flat_map stop_in certificate)
+  pub on_time : AreOnTime (circuit_of circuit) (flat_map stop_in certificate)
