@@ -7,9 +7,9 @@ use Rattle.section_text.specs.Words.{lines_of}
 use Rattle.answers.specs.CheckText.{IsReportOf}
 use Rattle.answers.specs.declared.outcome.Outcome.{Outcome}
 use Rattle.answers.specs.declared.outcome.Outcome.TheVariants.{Yes}
-use Rattle.headline.specs.Headline.{GivesRight, IsRight, SaysYes, YesIsRight}
+use Rattle.headline.specs.Headline.{Gives, SaysYes, YesMeans}
 use Rattle.headline.proofs.FourthLines.{says_on}
-use Rattle.headline.proofs.YesIsRight.{by_line, yes_is_right}
+use Rattle.headline.proofs.YesIsRight.{by_line}
 use Rattle.check_main.specs.Stream.{ReadsAll, TakesPrefix}
 
 all_read : (left left' : Option (List ℕ)) (text known : List ℕ) → left ≡ Some known → Consumes left left' text → IsAtEnd left' → text ≡ known
@@ -19,8 +19,12 @@ all_read (Some xs) (Some ys) text known e given ended =
     let own : xs ≡ known = cc in
     sym (append-nil text) ∙ ap (λ t. text ++ t) (sym ended) ∙ sym given ∙ own
 
-pub right_given : (left left' : Option (List ℕ)) (text : List ℕ) → ReadsAll left left' text → IsRight text → GivesRight left
-right_given left left' text read right known e = subst IsRight (all_read left left' text known e read.given read.ended) right
+-- what is reported with a yes has the property P
+abbrev Holds : (List ℕ → Type 0) → Type 0
+Holds P = (text output : List ℕ) → IsReportOf text output Yes → P text
+
+given : (P : List ℕ → Type 0) (left left' : Option (List ℕ)) (text : List ℕ) → ReadsAll left left' text → P text → Gives P left
+given P left left' text read right known e = subst P (all_read left left' text known e read.given read.ended) right
 
 taken_is : (held held' : Option (List ℕ)) (before more taken : List ℕ) → held ≡ Some before → held' ≡ Some (before ++ more) → Appends held held' taken → more ≡ taken
 taken_is None held' before more taken e f appended = absurd cc
@@ -31,38 +35,38 @@ taken_is (Some xs) (Some ys) before more taken e f appended =
     append_cancel_left before more taken (sym now ∙ appended ∙ ap (λ t. t ++ taken) own)
 
 -- the first bytes of a report were written, or all of them
-pub said_right : (left left' held held' : Option (List ℕ)) (text output taken rest : List ℕ) (outcome : Outcome) → ReadsAll left left' text → IsReportOf text output outcome
-    → output ≡ taken ++ rest → Appends held held' taken → YesIsRight left held held'
-said_right left left' held held' text output taken rest outcome read says whole appended known before more e f g line =
+said_right : (P : List ℕ → Type 0) → Holds P → (left left' held held' : Option (List ℕ)) (text output taken rest : List ℕ) (outcome : Outcome) → ReadsAll left left' text → IsReportOf text output outcome
+    → output ≡ taken ++ rest → Appends held held' taken → YesMeans P left held held'
+said_right P holds left left' held held' text output taken rest outcome read says whole appended known before more e f g line =
     let is = taken_is held held' before more taken f g appended in
-    right_given left left' text read (by_line text output outcome says (subst SaysYes (sym whole) (says_on taken rest (subst SaysYes is line)))) known e
+    given P left left' text read (holds text output (by_line text output outcome says (subst SaysYes (sym whole) (says_on taken rest (subst SaysYes is line))))) known e
 
 -- all of it was
-pub all_said_right : (left left' held held' : Option (List ℕ)) (text output : List ℕ) (outcome : Outcome) → ReadsAll left left' text → IsReportOf text output outcome → Appends held held' output → YesIsRight left held held'
-all_said_right left left' held held' text output outcome read says appended =
-    said_right left left' held held' text output output [] outcome read says (sym (append-nil output)) appended
+all_said_right : (P : List ℕ → Type 0) → Holds P → (left left' held held' : Option (List ℕ)) (text output : List ℕ) (outcome : Outcome) → ReadsAll left left' text → IsReportOf text output outcome → Appends held held' output → YesMeans P left held held'
+all_said_right P holds left left' held held' text output outcome read says appended =
+    said_right P holds left left' held held' text output output [] outcome read says (sym (append-nil output)) appended
 
 nothing_says : SaysYes [] → ⊥
 unfolding lines_of
 nothing_says e = cc
 
 -- nothing was
-pub nothing_said : (left held held' : Option (List ℕ)) → held' ≡ held → YesIsRight left held held'
-nothing_said left held held' same text before more e f g line =
+pub nothing_said : (P : List ℕ → Type 0) (left held held' : Option (List ℕ)) → held' ≡ held → YesMeans P left held held'
+nothing_said P left held held' same text before more e f g line =
     let both : ◌≡◌ {A = Option (List ℕ)} (Some (before ++ more)) (Some before) = sym g ∙ same ∙ f in
     let own : before ++ more ≡ before = cc in
     absurd (nothing_says (subst SaysYes (append_cancel_left before more [] (own ∙ sym (append-nil before))) line))
 
 -- a writer was told the report, or its first bytes
-pub written_right : {E : Type 0} (left left' held held' : Option (List ℕ)) (text output : List ℕ) (outcome : Outcome) → ReadsAll left left' text → IsReportOf text output outcome →
-    (result : Result Outcome E) → OnOk result (Appends held held' output) → IfErr result (λ e. TakesPrefix held held' output) → YesIsRight left held held'
-written_right left left' held held' text output outcome read says (Ok o) all front = all_said_right left left' held held' text output outcome read says all
-written_right left left' held held' text output outcome read says (Err e) all front = said_right left left' held held' text output front.taken front.rest outcome read says front.whole front.appended
+pub written_right : {E : Type 0} (P : List ℕ → Type 0) → Holds P → (left left' held held' : Option (List ℕ)) (text output : List ℕ) (outcome : Outcome) → ReadsAll left left' text → IsReportOf text output outcome →
+    (result : Result Outcome E) → OnOk result (Appends held held' output) → IfErr result (λ e. TakesPrefix held held' output) → YesMeans P left held held'
+written_right P holds left left' held held' text output outcome read says (Ok o) all front = all_said_right P holds left left' held held' text output outcome read says all
+written_right P holds left left' held held' text output outcome read says (Err e) all front = said_right P holds left left' held held' text output front.taken front.rest outcome read says front.whole front.appended
 
 -- and it ended as the report does
-pub outcome_right : {E : Type 0} (left left' : Option (List ℕ)) (text output : List ℕ) (outcome : Outcome) → ReadsAll left left' text → IsReportOf text output outcome →
-    (result : Result Outcome E) → result ≡ Ok Yes → IfOk result (λ o. o ≡ outcome) → GivesRight left
-outcome_right left left' text output outcome read says (Ok o) is same =
+pub outcome_right : {E : Type 0} (P : List ℕ → Type 0) → Holds P → (left left' : Option (List ℕ)) (text output : List ℕ) (outcome : Outcome) → ReadsAll left left' text → IsReportOf text output outcome →
+    (result : Result Outcome E) → result ≡ Ok Yes → IfOk result (λ o. o ≡ outcome) → Gives P left
+outcome_right P holds left left' text output outcome read says (Ok o) is same =
     let yes_is : o ≡ Yes = cc in
-    right_given left left' text read (yes_is_right text output (subst (λ o. IsReportOf text output o) (sym same ∙ yes_is) says))
-outcome_right left left' text output outcome read says (Err e) is same = absurd cc
+    given P left left' text read (holds text output (subst (λ o. IsReportOf text output o) (sym same ∙ yes_is) says))
+outcome_right P holds left left' text output outcome read says (Err e) is same = absurd cc

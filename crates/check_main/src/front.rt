@@ -3,7 +3,8 @@ ghost use Rattle.std.specs.Prelude.{◌≡◌, ◌≢◌, ◌<◌, ◌≤◌, �
 ghost use Rattle.clap.specs.Words.{kind_of};
 ghost use Rattle.command_line.specs.CommandLine.{IsAccepted, AsksForHelp, asked_by};
 ghost use Rattle.check_main.specs.Commands.{IsAnswerTo};
-ghost use Rattle.headline.specs.Headline.{GivesRight, YesIsRight};
+ghost use Rattle.headline.specs.Headline.{Gives, IsRight, YesMeans};
+ghost use Rattle.headline.specs.Stops.{HasRightStops};
 ghost use Rattle.check_main.specs.Status.{status_for, line_for, Says};
 ghost use Rattle.check_main.specs.Stream.{Answers, BreaksOff, GivesTooMuch, Serves};
 
@@ -82,9 +83,14 @@ where
 
     // What a yes of `check` means, by the status and by what is written.
     ensures correct { IsAccepted (map (λ s. s.now) words.entry.now) → asked_by (map (λ s. s.now) words.entry.now) ≡ Request.Check → result ≡ 0
-        → GivesRight (R.left streams.old.reader) }
+        → Gives IsRight (R.left streams.old.reader) }
     ensures says_yes { IsAccepted (map (λ s. s.now) words.entry.now) → asked_by (map (λ s. s.now) words.entry.now) ≡ Request.Check
-        → YesIsRight (R.left streams.old.reader) (W.held streams.old.writer) (W.held streams.new.writer) }
+        → YesMeans IsRight (R.left streams.old.reader) (W.held streams.old.writer) (W.held streams.new.writer) }
+    // And of its stops.
+    ensures stops { IsAccepted (map (λ s. s.now) words.entry.now) → asked_by (map (λ s. s.now) words.entry.now) ≡ Request.Check → result ≡ 0
+        → Gives HasRightStops (R.left streams.old.reader) }
+    ensures says_yes_of_stops { IsAccepted (map (λ s. s.now) words.entry.now) → asked_by (map (λ s. s.now) words.entry.now) ≡ Request.Check
+        → YesMeans HasRightStops (R.left streams.old.reader) (W.held streams.old.writer) (W.held streams.new.writer) }
 
     ensures no { result ≡ 1 → Answers (IsAnswerTo (asked_by (map (λ s. s.now) words.entry.now)))
         (R.left streams.old.reader) (R.left streams.new.reader)
@@ -148,8 +154,10 @@ fn serve<T: Threads + Wait + Sync, R: Source, W: Sink, G: Gate + Sync>(
     requires writer_works { W.has_failed writer.old ≡ false }
     ensures serves { Serves (IsAnswerTo asked.request) R.left R.has_failed reader.old reader.new W.held W.has_failed writer.old writer.new result }
     ensures missing { IsErrOf result CheckFault.Missing → asked.request ≡ Request.Check }
-    ensures correct { asked.request ≡ Request.Check → result ≡ Ok Outcome.Yes → GivesRight (R.left reader.old) }
-    ensures says_yes { asked.request ≡ Request.Check → YesIsRight (R.left reader.old) (W.held writer.old) (W.held writer.new) }
+    ensures correct { asked.request ≡ Request.Check → result ≡ Ok Outcome.Yes → Gives IsRight (R.left reader.old) }
+    ensures says_yes { asked.request ≡ Request.Check → YesMeans IsRight (R.left reader.old) (W.held writer.old) (W.held writer.new) }
+    ensures stops { asked.request ≡ Request.Check → result ≡ Ok Outcome.Yes → Gives HasRightStops (R.left reader.old) }
+    ensures says_yes_of_stops { asked.request ≡ Request.Check → YesMeans HasRightStops (R.left reader.old) (W.held writer.old) (W.held writer.new) }
 {
     match asked.request {
         Request::Check => check_stream(rt, alloc, reader, writer, asked.workers, gate),

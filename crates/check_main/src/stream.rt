@@ -2,7 +2,8 @@
 ghost use Rattle.std.specs.Prelude.{◌≡◌, ◌≢◌, ◌<◌, ◌≤◌, true, false, Ok, IfOk, IfErr, IsErrOf, OnOk};
 ghost use Rattle.std.specs.Io.KnownBytes.{Appends};
 ghost use Rattle.answers.specs.CheckText.{IsReportOf};
-ghost use Rattle.headline.specs.Headline.{GivesRight, YesIsRight};
+ghost use Rattle.headline.specs.Headline.{Gives, IsRight, YesMeans};
+ghost use Rattle.headline.specs.Stops.{HasRightStops};
 ghost use Rattle.answers.specs.ModulesText.{IsModulesOf};
 ghost use Rattle.answers.specs.RunText.{IsRunOf};
 ghost use Rattle.answers.specs.ValueText.{IsValueOf};
@@ -29,7 +30,8 @@ const MOST_READS: usize = 16_777_217;
 /// and every order in which they end.
 ///
 /// Where it is `Yes`, or `verdict yes` is the fourth line of what was written, the text begins with a circuit and a layout, and the
-/// whole pattern of the layout computes the circuit: `headline/specs/Headline.antt` says what that is.
+/// whole pattern of the layout computes the circuit: `headline/specs/Headline.antt` says what that is. Then it goes on with a certificate
+/// whose stops hold on the whole pattern: `headline/specs/Stops.antt`.
 pub fn check_stream<T, R, W, G>(
     rt: &T,
     alloc: Global,
@@ -47,8 +49,10 @@ where
     requires reader_works { R.has_failed reader.old ≡ false }
     requires writer_works { W.has_failed writer.old ≡ false }
     ensures serves { Serves IsReportOf R.left R.has_failed reader.old reader.new W.held W.has_failed writer.old writer.new result }
-    ensures correct { result ≡ Ok Outcome.Yes → GivesRight (R.left reader.old) }
-    ensures says_yes { YesIsRight (R.left reader.old) (W.held writer.old) (W.held writer.new) }
+    ensures correct { result ≡ Ok Outcome.Yes → Gives IsRight (R.left reader.old) }
+    ensures says_yes { YesMeans IsRight (R.left reader.old) (W.held writer.old) (W.held writer.new) }
+    ensures stops { result ≡ Ok Outcome.Yes → Gives HasRightStops (R.left reader.old) }
+    ensures says_yes_of_stops { YesMeans HasRightStops (R.left reader.old) (W.held writer.old) (W.held writer.new) }
 {
     let mut feed = read_text(alloc, reader)?;
     let answered = report_of_text(rt, alloc, &mut feed, workers, gate)?;

@@ -3,6 +3,8 @@ use Rattle.std.proofs.Common.{◌≡◌, [], ap, subst, inl, inr}
 use Rattle.clap.specs.Words.{HasKind, IsAmong, Kinds, kind_of}
 use Rattle.clap.specs.declared.error.Error.{Error}
 use Rattle.clap.specs.declared.error.kind.ErrorKind.TheVariants.{OutOfMemory}
+use Rattle.headline.specs.Headline.{IsRight}
+use Rattle.headline.specs.Stops.{HasRightStops}
 use Rattle.check_main.proofs.RightStreams.{nothing_said}
 use Rattle.check_main.proofs.front.program.Goals as goal
 
@@ -14,4 +16,10 @@ pub returns-in-Err-clause-says_yes : goal.returns-in-Err-clause-says_yes
 returns-in-Err-clause-says_yes g c accepted check =
     let memory = of_memory _ c.in-Err.error accepted c.in-Err.ensures.fails in
     let same = (c.explain.ensures.not_decided (c.explain.ensures.memory memory)).0 in
-    nothing_said (g.R.Source.left c.args.streams.now.reader) (g.W.Sink.held c.args.streams.now.writer) (g.W.Sink.held c.explain.new.writer) (ap g.W.Sink.held same)
+    nothing_said IsRight (g.R.Source.left c.args.streams.now.reader) (g.W.Sink.held c.args.streams.now.writer) (g.W.Sink.held c.explain.new.writer) (ap g.W.Sink.held same)
+
+pub returns-in-Err-clause-says_yes_of_stops : goal.returns-in-Err-clause-says_yes_of_stops
+returns-in-Err-clause-says_yes_of_stops g c accepted check =
+    let memory = of_memory _ c.in-Err.error accepted c.in-Err.ensures.fails in
+    let same = (c.explain.ensures.not_decided (c.explain.ensures.memory memory)).0 in
+    nothing_said HasRightStops (g.R.Source.left c.args.streams.now.reader) (g.W.Sink.held c.args.streams.now.writer) (g.W.Sink.held c.explain.new.writer) (ap g.W.Sink.held same)
