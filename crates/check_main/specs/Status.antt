@@ -1,5 +1,5 @@
 -- The exit status for how a command ended, and the line for a fault.
-use Rattle.std.specs.Prelude.{◌≡◌, ℕ, Bool, true, false, List, Option, Ok, Err, Result, codes}
+use Rattle.std.specs.Prelude.{◌≡◌, ◌++◌, ℕ, Bool, true, false, List, Option, Ok, Err, Result, codes}
 use Rattle.std.specs.Io.KnownBytes.{Appends}
 use Rattle.answers.specs.declared.outcome.Outcome.{Outcome}
 use Rattle.answers.specs.declared.outcome.Outcome.TheVariants.{Yes, No, Refused}
@@ -18,12 +18,15 @@ status_for (Err TooLong) = 4
 status_for (Err Memory) = 5
 status_for (Err Missing) = 5
 
-abbrev pub line_for : CheckFault → List ℕ
-line_for Read = codes "bbmcheck: read fault\n"
-line_for Write = codes "bbmcheck: write fault\n"
-line_for TooLong = codes "bbmcheck: text too long\n"
-line_for Memory = codes "bbmcheck: out of memory\n"
-line_for Missing = codes "bbmcheck: findings missing\n"
+abbrev pub text_of : CheckFault → List ℕ
+text_of Read = codes "read fault"
+text_of Write = codes "write fault"
+text_of TooLong = codes "text too long"
+text_of Memory = codes "out of memory"
+text_of Missing = codes "findings missing"
+
+unfoldable pub line_for : CheckFault → List ℕ
+line_for fault = codes "bbmcheck: " ++ text_of fault ++ codes "\n"
 
 -- why there is no outcome where there is no verdict, and there was no memory for something that the workers did, or there was
 abbrev pub fault_after : Unfinished → Bool → CheckFault

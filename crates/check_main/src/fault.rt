@@ -3,23 +3,38 @@
 use std::alloc::AllocError;
 use thiserror::Error;
 
-/// The text of each is what the program says of it.
+/// It is shown as what the program says of it.
 #[derive(Clone, Copy, Debug, PartialEq, Eq, Drop, Error)]
+#[error("{}", self.text())]
 pub enum CheckFault {
     /// The reader failed.
-    #[error("read fault")]
     Read,
     /// The writer failed, or took no byte.
-    #[error("write fault")]
     Write,
     /// The reader gave more than 16 MiB.
-    #[error("text too long")]
     TooLong,
-    #[error("out of memory")]
+    /// There was no memory.
     Memory,
     /// Some module was not run.
-    #[error("findings missing")]
     Missing,
+}
+
+impl CheckFault {
+    ghost use Rattle.std.specs.Prelude.{◌≡◌};
+    ghost use Rattle.check_main.specs.Status.{text_of};
+
+    // What the program says of it.
+    pub(crate) fn text(self) -> &'static str
+        ensures { result.now ≡ text_of self }
+    {
+        match self {
+            CheckFault::Read => "read fault",
+            CheckFault::Write => "write fault",
+            CheckFault::TooLong => "text too long",
+            CheckFault::Memory => "out of memory",
+            CheckFault::Missing => "findings missing",
+        }
+    }
 }
 
 impl From<AllocError> for CheckFault {

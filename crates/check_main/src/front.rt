@@ -5,7 +5,7 @@ ghost use Rattle.command_line.specs.CommandLine.{IsAccepted, AsksForHelp, asked_
 ghost use Rattle.check_main.specs.Commands.{IsAnswerTo};
 ghost use Rattle.headline.specs.Headline.{Gives, IsRight, YesMeans};
 ghost use Rattle.headline.specs.Stops.{HasRightStops};
-ghost use Rattle.check_main.specs.Status.{status_for, line_for, Says};
+ghost use Rattle.check_main.specs.Status.{status_for, Says};
 ghost use Rattle.check_main.specs.Stream.{Answers, BreaksOff, GivesTooMuch, Serves};
 
 use crate::CheckFault;
@@ -25,7 +25,8 @@ const DONE: u8 = 0;
 
 const NO: u8 = 1;
 
-const WORDS_REFUSED: u8 = 2;
+/// The words were refused.
+pub const WORDS_REFUSED: u8 = 2;
 
 const TEXT_REFUSED: u8 = 3;
 
@@ -167,8 +168,8 @@ fn serve<T: Threads + Wait + Sync, R: Source, W: Sink, G: Gate + Sync>(
     }
 }
 
-// The status for how a command ended, whose fault is said to `errors`.
-fn status_of<E: Sink>(ended: Result<Outcome, CheckFault>, errors: &mut E) -> u8
+/// The status for how a command ended, whose fault is said to `errors`.
+pub fn status_of<E: Sink>(ended: Result<Outcome, CheckFault>, errors: &mut E) -> u8
     ensures status { result ≡ status_for ended }
     ensures quiet { OnOk ended (errors.new ≡ errors.old) }
     ensures said { IfErr ended (Says (E.held errors.old) (E.held errors.new) (E.has_failed errors.new)) }
@@ -236,20 +237,11 @@ fn show<W: Sink, E: Sink>(text: &str, writer: &mut W, errors: &mut E) -> u8
 }
 
 // Says the one line for a fault, without memory.
+#[tactic(auto, unfolding(crate::specs::Status::line_for))]
 fn say<E: Sink>(errors: &mut E, fault: CheckFault)
     ensures { Says (E.held errors.old) (E.held errors.new) (E.has_failed errors.new) fault }
 {
-    let _ = write_whole(errors, line_for(fault).as_bytes());
-}
-
-fn line_for(fault: CheckFault) -> &'static str
-    ensures { result.now ≡ line_for fault }
-{
-    match fault {
-        CheckFault::Read => "bbmcheck: read fault\n",
-        CheckFault::Write => "bbmcheck: write fault\n",
-        CheckFault::TooLong => "bbmcheck: text too long\n",
-        CheckFault::Memory => "bbmcheck: out of memory\n",
-        CheckFault::Missing => "bbmcheck: findings missing\n",
-    }
+    let _ = write_whole(errors, b"bbmcheck: ")
+        && write_whole(errors, fault.text().as_bytes())
+        && write_whole(errors, b"\n");
 }

@@ -13,6 +13,6 @@ pub use answers::Outcome;
 pub use auditing::{Audited, audit};
 pub use device::{Over, Sink, Source};
 pub use fault::CheckFault;
-pub use front::{Streams, program};
+pub use front::{Streams, WORDS_REFUSED, program, status_of};
 pub use job_pool::{Gate, OpenGate};
 pub use stream::{check_stream, modules_stream, run_stream, value_stream};

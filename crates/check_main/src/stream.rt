@@ -22,9 +22,6 @@ use std::thread::Threads;
 // What one read asks for, in bytes.
 const BLOCK: usize = 65_536;
 
-// Each read but the last gives a byte, and a text has at most 16 MiB.
-const MOST_READS: usize = 16_777_217;
-
 /// Checks a bundle: reads the whole text, at most 16 MiB, has the modules of its certificate run by 1 to 64 workers, and writes the
 /// report once it is complete. `Yes` and `No` are the verdict. What is written is the same for every number of workers, every gate
 /// and every order in which they end.
@@ -124,7 +121,8 @@ fn read_text<R: Source>(alloc: Global, reader: &mut R) -> Result<Feed, CheckFaul
 {
     let mut feed = Feed::new(alloc);
     let mut block = [0u8; BLOCK];
-    for _ in 0..MOST_READS {
+    // Each read but the last gives a byte, and no text has so many.
+    for _ in 0..usize::MAX {
         let Ok(count) = reader.read(&mut block) else {
             return Err(CheckFault::Read);
         };
