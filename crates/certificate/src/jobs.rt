@@ -1,35 +1,33 @@
 //! The jobs of a certificate.
-ghost use Rattle.std.specs.Prelude.{◌≡◌, ◌+◌, ◌≤◌, ℤ, IfOk, IsTrue, length, map, slice_get, unwrap_or};
+ghost use Rattle.std.specs.Prelude.{◌≡◌, ◌+◌, ◌≤◌, IfOk, length, map};
 ghost use Rattle.std.specs.Arc.{arc_value};
 ghost use Rattle.std.specs.List.{All, flat_map};
 ghost use Rattle.std.specs.Option.{option_to_list};
 ghost use Rattle.circuit.specs.Bridge.{circuit_of, netlist_of};
 ghost use Rattle.circuit.specs.Meaning.{wire_of, wires};
-ghost use Rattle.module_box.specs.Boxes.{in_box};
 ghost use Rattle.module_box.specs.Locals.{AreLocalLines, AreLocalsOf, circuit_wire, local_wires};
 ghost use Rattle.module_box.specs.Moves.{IsNear};
 ghost use Rattle.certificate.specs.Entries.{cut_in, modules_of, stop_in, use_in};
 ghost use Rattle.certificate.specs.Grammars.{setting_of};
-ghost use Rattle.certificate.specs.Jobs.{AreJobsOf, IsJobOf, end_demand, line_signals, place_in, start_signal};
+ghost use Rattle.certificate.specs.Jobs.{AreJobsOf, IsJobOf, line_signals};
 ghost use Rattle.certificate.specs.Modules.{AreModules, HasPorts, IsModule};
 ghost use Rattle.certificate.specs.Orders.{AreInOrder};
-ghost use Rattle.certificate.specs.PlanView.{KnowsPorts};
 ghost use Rattle.certificate.specs.Rules.{is_local};
 ghost use Rattle.certificate.specs.Shapes.{from_corner, stops_from_corner};
-ghost use Rattle.certificate.specs.Signals.{IsBelow, IsDemandBelow, renumber_demand, renumber_signal, renumber_signals};
+ghost use Rattle.certificate.specs.Signals.{IsBelow, renumber_signals};
 ghost use Rattle.certificate.specs.StopLists.{AreStops};
 ghost use Rattle.certificate.specs.Timetables.{IsLow, IsNamedLocal, borders_in};
 
 use crate::cert::Cert;
 use crate::entry::Entry;
-use crate::job::{Demand, Job, Stop, back};
+use crate::job::{Job, Stop, back};
 use crate::lines::{cut_list, inner_lines, used_gates};
 use crate::plan::Plan;
 use crate::shape::Shape;
 use crate::stops::{moved_stops, stops_of};
 use crate::timetable::{Side, signals_of};
 use circuit::Circuit;
-use module_box::{Box2, Locals, Schedule, Signal};
+use module_box::{Box2, Locals, Schedule};
 use std::alloc::{AllocError, Global};
 use std::sync::Arc;
 
@@ -46,27 +44,6 @@ fn named_locals(alloc: Global, circuit: &Circuit, lines: &[Entry]) -> Result<Loc
     let cuts = cut_list(alloc, circuit, lines)?;
     let gates = used_gates(alloc, lines)?;
     Locals::new(alloc, circuit, cuts.as_slice(), gates.as_slice())
-}
-
-// What the cells of a module's box carry at time 0, and what they are to be at the last time.
-fn cell_lists(
-    alloc: Global,
-    plan: &Plan,
-    area: Box2,
-    locals: &Locals,
-) -> Result<(Vec<Signal>, Vec<Demand>), AllocError>
-    requires columns { area.x + area.w ≤ 512 }
-    requires rows { area.y + area.h ≤ 512 }
-    requires ins { KnowsPorts (circuit_of plan.now.circuit) locals.now.circuit_wires plan.now.layout.ins area }
-    requires outs { KnowsPorts (circuit_of plan.now.circuit) locals.now.circuit_wires plan.now.layout.outs area }
-    ensures starts_own { IfOk result (λ lists. All (IsBelow (wires locals.now.netlist)) lists.0.items) }
-    ensures starts { IfOk result (λ lists. (x y : ℤ) → IsTrue (in_box area x y) → renumber_signal (circuit_wire locals.now) (unwrap_or (slice_get lists.0.items (place_in area x y)) Signal.Zero) ≡ start_signal (circuit_of plan.now.circuit) plan.now.layout x y) }
-    ensures demands_own { IfOk result (λ lists. All (IsDemandBelow (wires locals.now.netlist)) lists.1.items) }
-    ensures demands { IfOk result (λ lists. (x y : ℤ) → IsTrue (in_box area x y) → renumber_demand (circuit_wire locals.now) (unwrap_or (slice_get lists.1.items (place_in area x y)) Demand.Dead) ≡ end_demand (circuit_of plan.now.circuit) plan.now.layout x y) }
-{
-    let starts = plan.starts(alloc, area, locals)?;
-    let demands = plan.demands(alloc, area, locals)?;
-    Ok((starts, demands))
 }
 
 // The signals of a module's lines about cells of its ring or of its halo, where the corner of its box is at (0, 0).
@@ -146,7 +123,7 @@ fn make_job(alloc: Global, plan: &Plan, area: Box2, lines: &[Entry]) -> Result<J
     let circuit = plan.circuit();
     let size = plan.layout().size();
     let locals = named_locals(alloc, circuit, lines)?;
-    let (starts, demands) = cell_lists(alloc, plan, area, &locals)?;
+    let (starts, demands) = plan.cell_lists(alloc, area, &locals)?;
     let (edges, halos) = schedules(alloc, circuit, &locals, area, lines)?;
     let stops = own_stops(alloc, circuit, &locals, area, lines)?;
     let (wiring, wires, gates) = locals.into_parts();

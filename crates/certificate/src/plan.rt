@@ -213,47 +213,32 @@ impl<'a> Plan<'a> {
         }
     }
 
-    /// What the cells of a box carry at time 0, row by row, where the module knows the wires of the inputs there.
-    pub(crate) fn starts(
+    /// What the cells of a box carry at time 0, and what they are to be at the last time, row by row, where the module knows the
+    /// wires of the ports there.
+    pub(crate) fn cell_lists(
         &self,
         alloc: Global,
         area: Box2,
         locals: &Locals,
-    ) -> Result<Vec<Signal>, AllocError>
+    ) -> Result<(Vec<Signal>, Vec<Demand>), AllocError>
         requires columns { area.x + area.w ≤ 512 }
         requires rows { area.y + area.h ≤ 512 }
-        requires ports { KnowsPorts (circuit_of self.now.circuit) locals.now.circuit_wires self.now.layout.ins area }
-        ensures count { IfOk result (λ starts. length starts.items ≡ area.w * area.h) }
-        ensures own { IfOk result (λ starts. All (IsBelow (wires locals.now.netlist)) starts.items) }
-        ensures cells { IfOk result (λ starts. (x y : ℤ) → IsTrue (in_box area x y) → renumber_signal (circuit_wire locals.now) (unwrap_or (slice_get starts.items (place_in area x y)) Signal.Zero) ≡ start_signal (circuit_of self.now.circuit) self.now.layout x y) }
+        requires ins { KnowsPorts (circuit_of self.now.circuit) locals.now.circuit_wires self.now.layout.ins area }
+        requires outs { KnowsPorts (circuit_of self.now.circuit) locals.now.circuit_wires self.now.layout.outs area }
+        ensures starts_count { IfOk result (λ lists. length lists.0.items ≡ area.w * area.h) }
+        ensures starts_own { IfOk result (λ lists. All (IsBelow (wires locals.now.netlist)) lists.0.items) }
+        ensures starts { IfOk result (λ lists. (x y : ℤ) → IsTrue (in_box area x y) → renumber_signal (circuit_wire locals.now) (unwrap_or (slice_get lists.0.items (place_in area x y)) Signal.Zero) ≡ start_signal (circuit_of self.now.circuit) self.now.layout x y) }
+        ensures demands_count { IfOk result (λ lists. length lists.1.items ≡ area.w * area.h) }
+        ensures demands_own { IfOk result (λ lists. All (IsDemandBelow (wires locals.now.netlist)) lists.1.items) }
+        ensures demands { IfOk result (λ lists. (x y : ℤ) → IsTrue (in_box area x y) → renumber_demand (circuit_wire locals.now) (unwrap_or (slice_get lists.1.items (place_in area x y)) Demand.Dead) ≡ end_demand (circuit_of self.now.circuit) self.now.layout x y) }
     {
         let cells = cells_of_box(alloc, area)?;
         let mut starts = Vec::new(alloc);
-        for cell in cells.as_slice() {
-            starts.push(self.start_at(locals, *cell))?;
-        }
-        Ok(starts)
-    }
-
-    /// What the cells of a box are to be at the last time, row by row, where the module knows the wires of the outputs there.
-    pub(crate) fn demands(
-        &self,
-        alloc: Global,
-        area: Box2,
-        locals: &Locals,
-    ) -> Result<Vec<Demand>, AllocError>
-        requires columns { area.x + area.w ≤ 512 }
-        requires rows { area.y + area.h ≤ 512 }
-        requires ports { KnowsPorts (circuit_of self.now.circuit) locals.now.circuit_wires self.now.layout.outs area }
-        ensures count { IfOk result (λ demands. length demands.items ≡ area.w * area.h) }
-        ensures own { IfOk result (λ demands. All (IsDemandBelow (wires locals.now.netlist)) demands.items) }
-        ensures cells { IfOk result (λ demands. (x y : ℤ) → IsTrue (in_box area x y) → renumber_demand (circuit_wire locals.now) (unwrap_or (slice_get demands.items (place_in area x y)) Demand.Dead) ≡ end_demand (circuit_of self.now.circuit) self.now.layout x y) }
-    {
-        let cells = cells_of_box(alloc, area)?;
         let mut demands = Vec::new(alloc);
         for cell in cells.as_slice() {
+            starts.push(self.start_at(locals, *cell))?;
             demands.push(self.demand_at(locals, *cell))?;
         }
-        Ok(demands)
+        Ok((starts, demands))
     }
 }
