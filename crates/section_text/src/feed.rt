@@ -7,7 +7,7 @@ ghost use Rattle.section_text.specs.Words.{is_digit, is_number, read_on, is_word
 ghost use Rattle.section_text.specs.declared.fault.ReadFault.TheVariants.{Memory};
 ghost use Rattle.section_text.specs.Listed.{listed};
 ghost use Rattle.section_text.specs.Faults.{refusal};
-ghost use Rattle.section_text.specs.FeedState.{FeedState, ahead, after_lines, IsLine, line_bytes, TakesLine, RunsOut};
+ghost use Rattle.section_text.specs.FeedState.{FeedState, ahead, after_lines, IsLine, line_bytes, text_limit, TakesLine, RunsOut};
 
 use crate::fault::{PushFault, ReadFault, Refusal};
 use crate::name::Name;
@@ -196,8 +196,8 @@ impl Feed {
         requires { self.old.closed ≡ false }
         ensures ok { OnOk result (self.new ≡ record self.old { text = self.old.text ++ piece.now }) }
         ensures err { OnErr result (self.new ≡ self.old) }
-        ensures too_long { (result ≡ Err PushFault.TooLong) ↔ (16777216 < length self.old.text + length piece.now) }
-        ensures within { length self.new.text ≤ 16777216 }
+        ensures too_long { (result ≡ Err PushFault.TooLong) ↔ (text_limit < length self.old.text + length piece.now) }
+        ensures within { length self.new.text ≤ text_limit }
     {
         if piece.len() > LONGEST - self.bytes.len() {
             return Err(PushFault::TooLong);
