@@ -2,14 +2,10 @@
 use Rattle.std.specs.Prelude.{◌≡◌, ◌≢◌, ◌<◌, ◌≤◌, ◌++◌, ℕ, Bool, true, false, List, None, Result, IfErr, IfOk, IsErrOf, OnOk, length}
 use Rattle.std.specs.declared.option.Option.{Option}
 use Rattle.std.specs.Io.KnownBytes.{Consumes, IsAtEnd, Appends}
-use Rattle.section_text.specs.FeedState.{FeedState}
+use Rattle.section_text.specs.FeedState.{FeedState, text_limit}
 use Rattle.answers.specs.declared.outcome.Outcome.{Outcome}
 use Rattle.check_main.specs.declared.fault.CheckFault.{CheckFault}
 use Rattle.check_main.specs.declared.fault.CheckFault.TheVariants.{Read, Write, TooLong}
-
--- the most bytes of a text, 16 MiB
-abbrev pub text_limit : ℕ
-text_limit = 16777216
 
 -- the reader gave the text, and has no more
 pub record ReadsAll (old new : Option (List ℕ)) (text : List ℕ) : Type 0 where
