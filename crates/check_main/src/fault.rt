@@ -17,9 +17,6 @@ pub enum CheckFault {
     TooLong,
     #[error("out of memory")]
     Memory,
-    /// Some module was not run.
-    #[error("findings missing")]
-    Missing,
 }
 
 impl From<AllocError> for CheckFault {

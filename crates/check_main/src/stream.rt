@@ -85,7 +85,6 @@ pub fn run_stream<R: Source, W: Sink>(
         BreaksOff IsRunOf (R.left reader.old) (R.left reader.new)
         (W.held writer.old) (W.held writer.new) }
     ensures unwritten { IfErr result (λ fault. fault ≢ CheckFault.Write → writer.new ≡ writer.old) }
-    ensures not_missing { IfErr result (λ fault. fault ≢ CheckFault.Missing) }
 {
     let mut feed = read_text(alloc, reader)?;
     let answered = run_text(alloc, &mut feed).map_err(|_| CheckFault::Memory)?;
@@ -112,7 +111,6 @@ pub fn value_stream<R: Source, W: Sink>(
         BreaksOff IsValueOf (R.left reader.old) (R.left reader.new)
         (W.held writer.old) (W.held writer.new) }
     ensures unwritten { IfErr result (λ fault. fault ≢ CheckFault.Write → writer.new ≡ writer.old) }
-    ensures not_missing { IfErr result (λ fault. fault ≢ CheckFault.Missing) }
 {
     let mut feed = read_text(alloc, reader)?;
     let answered = value_text(alloc, &mut feed).map_err(|_| CheckFault::Memory)?;
@@ -139,7 +137,6 @@ pub fn modules_stream<R: Source, W: Sink>(
         BreaksOff IsModulesOf (R.left reader.old) (R.left reader.new)
         (W.held writer.old) (W.held writer.new) }
     ensures unwritten { IfErr result (λ fault. fault ≢ CheckFault.Write → writer.new ≡ writer.old) }
-    ensures not_missing { IfErr result (λ fault. fault ≢ CheckFault.Missing) }
 {
     let mut feed = read_text(alloc, reader)?;
     let answered = modules_text(alloc, &mut feed).map_err(|_| CheckFault::Memory)?;
@@ -156,7 +153,6 @@ fn read_text<R: Source>(alloc: Global, reader: &mut R) -> Result<Feed, CheckFaul
     ensures too_long { IsErrOf result CheckFault.TooLong →
         GivesTooMuch (R.left reader.old) (R.left reader.new) }
     ensures no_write { IfErr result (λ fault. fault ≢ CheckFault.Write) }
-    ensures not_missing { IfErr result (λ fault. fault ≢ CheckFault.Missing) }
 {
     let mut feed = Feed::new(alloc);
     let mut block = [0u8; BLOCK];
