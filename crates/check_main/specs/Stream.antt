@@ -1,9 +1,11 @@
 -- Reading a text to its end, and writing what is answered.
-use Rattle.std.specs.Prelude.{◌≡◌, ◌<◌, ◌≤◌, ◌++◌, ℕ, true, List, None, length}
+use Rattle.std.specs.Prelude.{◌≡◌, ◌≢◌, ◌<◌, ◌≤◌, ◌++◌, ℕ, Bool, true, false, List, None, Result, IfErr, IfOk, IsErrOf, OnOk, length}
 use Rattle.std.specs.declared.option.Option.{Option}
 use Rattle.std.specs.Io.KnownBytes.{Consumes, IsAtEnd, Appends}
 use Rattle.section_text.specs.FeedState.{FeedState}
 use Rattle.answers.specs.declared.outcome.Outcome.{Outcome}
+use Rattle.check_main.specs.declared.fault.CheckFault.{CheckFault}
+use Rattle.check_main.specs.declared.fault.CheckFault.TheVariants.{Read, Write, TooLong}
 
 -- the most bytes of a text, 16 MiB
 abbrev pub text_limit : ℕ
@@ -51,3 +53,15 @@ pub record BreaksOff (R : List ℕ → List ℕ → Outcome → Type 0) (left le
   pub read : ReadsAll left left' text
   pub right : R text output outcome
   pub written : TakesPrefix held held' output
+
+-- What a call of the command `R` did with a reader and a writer that had not failed, and how it ended. `left` is what a reader has
+-- still to give and `held` what a writer took, where it is known.
+pub record Serves {X Y : Type 0} (R : List ℕ → List ℕ → Outcome → Type 0) (left : X → Option (List ℕ)) (reader_failed : X → Bool) (reader reader' : X)
+    (held : Y → Option (List ℕ)) (writer_failed : Y → Bool) (writer writer' : Y) (result : Result Outcome CheckFault) : Type 0 where
+  pub answered : IfOk result (Answers R (left reader) (left reader') (held writer) (held writer'))
+  pub works : OnOk result ((reader_failed reader' ≡ false) × (writer_failed writer' ≡ false))
+  pub read : IsErrOf result Read → reader_failed reader' ≡ true
+  pub too_long : IsErrOf result TooLong → GivesTooMuch (left reader) (left reader')
+  pub write : IsErrOf result Write → writer_failed writer' ≡ true
+  pub prefix : IsErrOf result Write → BreaksOff R (left reader) (left reader') (held writer) (held writer')
+  pub unwritten : IfErr result (λ fault. fault ≢ Write → writer' ≡ writer)

@@ -1,11 +1,11 @@
 //! The whole program, over the words and the streams that it is given.
-ghost use Rattle.std.specs.Prelude.{◌≡◌, ◌≢◌, ◌<◌, ◌≤◌, ◌⊎◌, false, true, IfOk, IfErr, IsErrOf, OnOk, Ok, map};
+ghost use Rattle.std.specs.Prelude.{◌≡◌, ◌≢◌, ◌<◌, ◌≤◌, ◌⊎◌, false, true, IfErr, IsErrOf, OnOk, Ok, map};
 ghost use Rattle.clap.specs.Words.{kind_of};
 ghost use Rattle.command_line.specs.CommandLine.{IsAccepted, AsksForHelp, asked_by};
 ghost use Rattle.check_main.specs.Commands.{IsAnswerTo};
 ghost use Rattle.headline.specs.Headline.{GivesRight, YesIsRight};
 ghost use Rattle.check_main.specs.Status.{status_for, line_for, Says};
-ghost use Rattle.check_main.specs.Stream.{Answers, BreaksOff, GivesTooMuch};
+ghost use Rattle.check_main.specs.Stream.{Answers, BreaksOff, GivesTooMuch, Serves};
 
 use crate::CheckFault;
 use crate::stream::{check_stream, modules_stream, run_stream, value_stream, write_whole};
@@ -144,17 +144,7 @@ fn serve<T: Threads + Wait + Sync, R: Source, W: Sink, G: Gate + Sync>(
     requires workers { (0 < asked.workers) × (asked.workers ≤ 64) }
     requires reader_works { R.has_failed reader.old ≡ false }
     requires writer_works { W.has_failed writer.old ≡ false }
-    ensures answered { IfOk result (Answers (IsAnswerTo asked.request) (R.left reader.old) (R.left reader.new)
-        (W.held writer.old) (W.held writer.new)) }
-    ensures works { OnOk result (W.has_failed writer.new ≡ false) }
-    ensures read { IsErrOf result CheckFault.Read → R.has_failed reader.new ≡ true }
-    ensures too_long { IsErrOf result CheckFault.TooLong →
-        GivesTooMuch (R.left reader.old) (R.left reader.new) }
-    ensures write { IsErrOf result CheckFault.Write → W.has_failed writer.new ≡ true }
-    ensures prefix { IsErrOf result CheckFault.Write →
-        BreaksOff (IsAnswerTo asked.request) (R.left reader.old) (R.left reader.new)
-        (W.held writer.old) (W.held writer.new) }
-    ensures unwritten { IfErr result (λ fault. fault ≢ CheckFault.Write → writer.new ≡ writer.old) }
+    ensures serves { Serves (IsAnswerTo asked.request) R.left R.has_failed reader.old reader.new W.held W.has_failed writer.old writer.new result }
     ensures correct { asked.request ≡ Request.Check → result ≡ Ok Outcome.Yes → GivesRight (R.left reader.old) }
     ensures says_yes { asked.request ≡ Request.Check → YesIsRight (R.left reader.old) (W.held writer.old) (W.held writer.new) }
 {

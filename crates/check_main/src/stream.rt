@@ -6,7 +6,7 @@ ghost use Rattle.headline.specs.Headline.{GivesRight, YesIsRight};
 ghost use Rattle.answers.specs.ModulesText.{IsModulesOf};
 ghost use Rattle.answers.specs.RunText.{IsRunOf};
 ghost use Rattle.answers.specs.ValueText.{IsValueOf};
-ghost use Rattle.check_main.specs.Stream.{Answers, BreaksOff, ReadsAll, GivesTooMuch, TakesPrefix, whole_text};
+ghost use Rattle.check_main.specs.Stream.{ReadsAll, Serves, GivesTooMuch, TakesPrefix, whole_text};
 
 use crate::CheckFault;
 use crate::bundle::report_of_text;
@@ -46,19 +46,9 @@ where
     requires workers { (0 < workers) × (workers ≤ 64) }
     requires reader_works { R.has_failed reader.old ≡ false }
     requires writer_works { W.has_failed writer.old ≡ false }
-    ensures answered { IfOk result (Answers IsReportOf (R.left reader.old) (R.left reader.new)
-        (W.held writer.old) (W.held writer.new)) }
+    ensures serves { Serves IsReportOf R.left R.has_failed reader.old reader.new W.held W.has_failed writer.old writer.new result }
     ensures correct { result ≡ Ok Outcome.Yes → GivesRight (R.left reader.old) }
     ensures says_yes { YesIsRight (R.left reader.old) (W.held writer.old) (W.held writer.new) }
-    ensures works { OnOk result ((R.has_failed reader.new ≡ false) × (W.has_failed writer.new ≡ false)) }
-    ensures read { IsErrOf result CheckFault.Read → R.has_failed reader.new ≡ true }
-    ensures too_long { IsErrOf result CheckFault.TooLong →
-        GivesTooMuch (R.left reader.old) (R.left reader.new) }
-    ensures write { IsErrOf result CheckFault.Write → W.has_failed writer.new ≡ true }
-    ensures prefix { IsErrOf result CheckFault.Write →
-        BreaksOff IsReportOf (R.left reader.old) (R.left reader.new)
-        (W.held writer.old) (W.held writer.new) }
-    ensures unwritten { IfErr result (λ fault. fault ≢ CheckFault.Write → writer.new ≡ writer.old) }
 {
     let mut feed = read_text(alloc, reader)?;
     let answered = report_of_text(rt, alloc, &mut feed, workers, gate)?;
@@ -74,17 +64,7 @@ pub fn run_stream<R: Source, W: Sink>(
 ) -> Result<Outcome, CheckFault>
     requires reader_works { R.has_failed reader.old ≡ false }
     requires writer_works { W.has_failed writer.old ≡ false }
-    ensures answered { IfOk result (Answers IsRunOf (R.left reader.old) (R.left reader.new)
-        (W.held writer.old) (W.held writer.new)) }
-    ensures works { OnOk result ((R.has_failed reader.new ≡ false) × (W.has_failed writer.new ≡ false)) }
-    ensures read { IsErrOf result CheckFault.Read → R.has_failed reader.new ≡ true }
-    ensures too_long { IsErrOf result CheckFault.TooLong →
-        GivesTooMuch (R.left reader.old) (R.left reader.new) }
-    ensures write { IsErrOf result CheckFault.Write → W.has_failed writer.new ≡ true }
-    ensures prefix { IsErrOf result CheckFault.Write →
-        BreaksOff IsRunOf (R.left reader.old) (R.left reader.new)
-        (W.held writer.old) (W.held writer.new) }
-    ensures unwritten { IfErr result (λ fault. fault ≢ CheckFault.Write → writer.new ≡ writer.old) }
+    ensures serves { Serves IsRunOf R.left R.has_failed reader.old reader.new W.held W.has_failed writer.old writer.new result }
 {
     let mut feed = read_text(alloc, reader)?;
     let answered = run_text(alloc, &mut feed).map_err(|_| CheckFault::Memory)?;
@@ -100,17 +80,7 @@ pub fn value_stream<R: Source, W: Sink>(
 ) -> Result<Outcome, CheckFault>
     requires reader_works { R.has_failed reader.old ≡ false }
     requires writer_works { W.has_failed writer.old ≡ false }
-    ensures answered { IfOk result (Answers IsValueOf (R.left reader.old) (R.left reader.new)
-        (W.held writer.old) (W.held writer.new)) }
-    ensures works { OnOk result ((R.has_failed reader.new ≡ false) × (W.has_failed writer.new ≡ false)) }
-    ensures read { IsErrOf result CheckFault.Read → R.has_failed reader.new ≡ true }
-    ensures too_long { IsErrOf result CheckFault.TooLong →
-        GivesTooMuch (R.left reader.old) (R.left reader.new) }
-    ensures write { IsErrOf result CheckFault.Write → W.has_failed writer.new ≡ true }
-    ensures prefix { IsErrOf result CheckFault.Write →
-        BreaksOff IsValueOf (R.left reader.old) (R.left reader.new)
-        (W.held writer.old) (W.held writer.new) }
-    ensures unwritten { IfErr result (λ fault. fault ≢ CheckFault.Write → writer.new ≡ writer.old) }
+    ensures serves { Serves IsValueOf R.left R.has_failed reader.old reader.new W.held W.has_failed writer.old writer.new result }
 {
     let mut feed = read_text(alloc, reader)?;
     let answered = value_text(alloc, &mut feed).map_err(|_| CheckFault::Memory)?;
@@ -126,17 +96,7 @@ pub fn modules_stream<R: Source, W: Sink>(
 ) -> Result<Outcome, CheckFault>
     requires reader_works { R.has_failed reader.old ≡ false }
     requires writer_works { W.has_failed writer.old ≡ false }
-    ensures answered { IfOk result (Answers IsModulesOf (R.left reader.old) (R.left reader.new)
-        (W.held writer.old) (W.held writer.new)) }
-    ensures works { OnOk result ((R.has_failed reader.new ≡ false) × (W.has_failed writer.new ≡ false)) }
-    ensures read { IsErrOf result CheckFault.Read → R.has_failed reader.new ≡ true }
-    ensures too_long { IsErrOf result CheckFault.TooLong →
-        GivesTooMuch (R.left reader.old) (R.left reader.new) }
-    ensures write { IsErrOf result CheckFault.Write → W.has_failed writer.new ≡ true }
-    ensures prefix { IsErrOf result CheckFault.Write →
-        BreaksOff IsModulesOf (R.left reader.old) (R.left reader.new)
-        (W.held writer.old) (W.held writer.new) }
-    ensures unwritten { IfErr result (λ fault. fault ≢ CheckFault.Write → writer.new ≡ writer.old) }
+    ensures serves { Serves IsModulesOf R.left R.has_failed reader.old reader.new W.held W.has_failed writer.old writer.new result }
 {
     let mut feed = read_text(alloc, reader)?;
     let answered = modules_text(alloc, &mut feed).map_err(|_| CheckFault::Memory)?;
