@@ -1,6 +1,5 @@
 -- The book of an audit.
-use Rattle.std.proofs.Common.{◌≡◌, ◌∙◌, ◌+◌, ◌≤◌, ◌<◌, ℕ, suc, zero, List, [], ◌∷◌, ◌++◌, length, map, false, refl, sym, ap, arith, subst, length-append}
-use Rattle.std.proofs.lemmas.List.{length-map}
+use Rattle.std.proofs.Common.{◌≡◌, ◌∙◌, ◌+◌, ◌≤◌, ℕ, suc, zero, List, [], ◌∷◌, ◌++◌, length, map, false, refl, sym, ap, arith, subst, length-append}
 use Rattle.std.proofs.lemmas.Option.{slice_get_within}
 use Rattle.std.specs.Prelude.{replicate}
 use Rattle.sha2.specs.Sha256.{sha256}
@@ -8,7 +7,6 @@ use Rattle.certificate.specs.Grammars.{CertState}
 use Rattle.certificate.specs.Text.{certificate_text}
 use Rattle.audit_core.specs.Book.{BookView, IsReplayed, accepted_in, after_closing, new_book}
 use Rattle.audit_core.specs.Concluding.{AreOwnJobs}
-use Rattle.audit_core.specs.Filling.{IsFull, IsOpenFor}
 use Rattle.audit_core.specs.Replay.{Replayed, accepted_after, after_entry, beginning, has_closing, replay, replay_from}
 use Rattle.audit_core.specs.Verdicts.{AreHeldBelow, IsFirstMissing}
 use Rattle.audit_core.specs.declared.reply.Reply.{Reply}

@@ -1,5 +1,5 @@
 -- The book is filled up behind what the workers filed, and closed.
-use Rattle.std.proofs.Common.{◌≡◌, ◌∙◌, ap, arith, length, map, subst, sym}
+use Rattle.std.proofs.Common.{◌∙◌, ap, arith, map, subst, sym}
 use Rattle.std.specs.Arc.{arc_value}
 use Rattle.audit_core.specs.Concluding.{AreOwnJobs}
 use Rattle.audit_core.proofs.Fillings.{clones-same}
@@ -13,11 +13,13 @@ pub complete-requires : goal.complete-requires
 complete-requires g c =
     let still = c.in_ok-audited.ensures.own in
     let copied = clones-same arc_value c.in_ok-jobs.jobs.items c.in_ok-copies.copies.items c.in_ok-copies.ensures.cases.0 in
-    record { own = record {
-      still_open = still.still_open;
-      digest_is = still.digest_is ∙ own_digest c.in_ok-state.state _ _ c.in_ok-state.ensures;
-      jobs_are = still.jobs_are ∙ own_jobs c.in_ok-state.state _ _ c.in_ok-state.ensures ∙ sym (ap (map arc_value) c.deref-4.ensures.value ∙ copied);
-    } }
+    record {
+      own = record {
+        still_open = still.still_open;
+        digest_is = still.digest_is ∙ own_digest c.in_ok-state.state _ _ c.in_ok-state.ensures;
+        jobs_are = still.jobs_are ∙ own_jobs c.in_ok-state.state _ _ c.in_ok-state.ensures ∙ sym (ap (map arc_value) c.deref-4.ensures.value ∙ copied);
+      };
+    }
 
 pub returns-clause-full : goal.returns-clause-full
 returns-clause-full g c =
