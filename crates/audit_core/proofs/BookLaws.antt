@@ -22,21 +22,21 @@ use Rattle.audit_core.specs.declared.reply.Reply.TheVariants.{Closed, Stranger, 
 use Rattle.audit_core.proofs.Filings.{IsBook-filed, accepted-inside, accepted-new, accepted-own, held_after-accepted, held_after-other, is_job_of-true, reply_to-closed, reply_to-held, reply_to-new}
 use Rattle.audit_core.proofs.Replays.{IsReplayed-closed, IsReplayed-filed}
 
-none_held : (o : Option Finding) → is_some o ≡ false → o ≡ None
+pub none_held : (o : Option Finding) → is_some o ≡ false → o ≡ None
 none_held None e = refl
 none_held (Some f) e = cc
 
 -- ---- a finding of the book's own passes the tests
 
-own-digest : (b : BookView) (n : ℕ) (f : Finding) → IsOwn b n f → pointwise nat_eq (digest_of f) b.digest ≡ true
+pub own-digest : (b : BookView) (n : ℕ) (f : Finding) → IsOwn b n f → pointwise nat_eq (digest_of f) b.digest ≡ true
 own-digest b n f own = (bytes_decides (digest_of f) b.digest).1 own.digest
 
-own-number : (b : BookView) (f : Finding) → IsOwn b (number_of f) f → nat_lt (number_of f) (length b.jobs) ≡ true
+pub own-number : (b : BookView) (f : Finding) → IsOwn b (number_of f) f → nat_lt (number_of f) (length b.jobs) ≡ true
 own-number b f own =
     let below : number_of f < length b.jobs = slice_get_within b.jobs (number_of f) (job_of f) own.job in
     grind (arith, nat_tests)
 
-own-job : (b : BookView) (n : ℕ) (f : Finding) → IsOwn b n f → is_job_of b.jobs n (job_of f) ≡ true
+pub own-job : (b : BookView) (n : ℕ) (f : Finding) → IsOwn b n f → is_job_of b.jobs n (job_of f) ≡ true
 unfolding is_job_of
 own-job b n f own = ap (λ (o : Option JobState). option_eq same_job o (Some (job_of f))) own.job ∙ (jobs_decide (job_of f) (job_of f)).1 refl
 

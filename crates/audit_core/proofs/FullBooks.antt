@@ -10,7 +10,7 @@ use Rattle.audit_core.specs.Book.{BookView, IsBook, found_in}
 use Rattle.audit_core.specs.Laws.{FullBookHoldsAll}
 use Rattle.audit_core.specs.Verdicts.{IsHeld}
 
-count : (o : Option Finding) (os : List (Option Finding)) → count_by is_some (o ∷ os) ≡ cond (is_some o) 1 0 + count_by is_some os
+pub count : (o : Option Finding) (os : List (Option Finding)) → count_by is_some (o ∷ os) ≡ cond (is_some o) 1 0 + count_by is_some os
 count o os = sum_by-cons (λ (x : Option Finding). cond (is_some x) 1 0) o os
 
 -- where all are counted, each is there

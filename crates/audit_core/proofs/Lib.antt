@@ -9,6 +9,7 @@ pub mod HeldJobs
 pub mod ReportLines
 pub mod Conclusions
 pub mod FullBooks
+pub mod Fillings
 pub mod LayoutCells
 pub mod JobSignals
 pub mod StopParts

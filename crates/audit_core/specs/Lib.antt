@@ -7,6 +7,7 @@ pub mod Core
 pub mod CoreFields
 pub mod Laws
 pub mod Verdicts
+pub mod Filling
 pub mod Concluding
 pub mod CoreLaws
 pub mod Implements

@@ -1,5 +1,5 @@
 //! The state of a book.
-ghost use Rattle.std.specs.Prelude.{◌≡◌, ◌<◌, ◌≤◌, ◌^◌, length, map, IfOk, IfErr, IfNone, IfSome, OnErr, OnOk, replicate, None, Some, option_copied};
+ghost use Rattle.std.specs.Prelude.{◌≡◌, ◌<◌, ◌≤◌, ◌^◌, true, length, map, IfOk, IfErr, IfNone, IfSome, OnErr, OnOk, replicate, None, Some, option_copied};
 ghost use Rattle.std.specs.Arc.{arc_value};
 
 use crate::entry::{Entry, Filing};
@@ -51,7 +51,7 @@ pub struct NotFiled {
 impl BookState {
     ghost use Rattle.local_run.specs.Shown.{job_of, number_of};
     ghost use Rattle.audit_core.specs.Verdicts.{IsHeld};
-    ghost use Rattle.audit_core.specs.Book.{IsOwn, IsReplayed, accepted_in, after_closing, after_filing, count_after, filing_of, found_in, is_job_of, new_book, reply_to};
+    ghost use Rattle.audit_core.specs.Book.{IsBook, IsOwn, IsReplayed, accepted_in, after_closing, after_filing, count_after, filing_of, found_in, is_job_of, new_book, reply_to};
 
     /// An open book of these jobs, numbered from 0 in their order, in which nothing is held, without history. `AllocError` is want
     /// of memory.
@@ -207,6 +207,14 @@ impl BookState {
         ensures at_most { result ≤ length self.now.jobs }
     {
         self.accepted
+    }
+
+    // Whether a finding is held for each number.
+    pub(crate) fn is_full(&self) -> bool
+        ensures book { IsBook self.now }
+        ensures full { result ≡ true → accepted_in self.now ≡ length self.now.jobs }
+    {
+        self.accepted == self.jobs.len()
     }
 
     /// The digest of the certificate that the book is for.

@@ -1,15 +1,23 @@
--- The history of an audit.
-use Rattle.std.proofs.Common.{◌≡◌, ◌∙◌, ℕ, suc, zero, List, [], ◌∷◌, ◌++◌, length, map, false, refl, sym, ap}
-use Rattle.std.proofs.lemmas.List.{length-map}
+-- The book of an audit.
+use Rattle.std.proofs.Common.{◌≡◌, ◌∙◌, ◌+◌, ◌≤◌, ℕ, suc, zero, List, [], ◌∷◌, ◌++◌, length, map, false, refl, sym, ap, arith, subst, length-append}
+use Rattle.std.proofs.lemmas.Option.{slice_get_within}
 use Rattle.std.specs.Prelude.{replicate}
-use Rattle.audit_core.specs.Book.{BookView, after_closing, new_book}
-use Rattle.audit_core.specs.Replay.{has_closing}
+use Rattle.sha2.specs.Sha256.{sha256}
+use Rattle.certificate.specs.Grammars.{CertState}
+use Rattle.certificate.specs.Text.{certificate_text}
+use Rattle.audit_core.specs.Book.{BookView, IsReplayed, accepted_in, after_closing, new_book}
+use Rattle.audit_core.specs.Concluding.{AreOwnJobs}
+use Rattle.audit_core.specs.Replay.{Replayed, accepted_after, after_entry, beginning, has_closing, replay, replay_from}
+use Rattle.audit_core.specs.Verdicts.{AreHeldBelow, IsFirstMissing}
+use Rattle.audit_core.specs.declared.reply.Reply.{Reply}
+use Rattle.audit_core.specs.declared.reply.Reply.TheVariants as reply
+use Rattle.audit_core.proofs.Replays.{closed-by_its_history}
 use Rattle.audit_core.specs.declared.entry.Entry.{Entry}
 use Rattle.audit_core.specs.declared.entry.Entry.TheVariants.{Filed, Closing}
 use Rattle.certificate.specs.Jobs.{JobState}
 use Rattle.verdict_book.specs.Counts.{no_counts}
 use Rattle.job_pool.specs.Work.{filed_by}
-use Rattle.check_main.specs.Audits.{IsClosedOnce, filings_in}
+use Rattle.check_main.specs.Audits.{IsAuditOf, IsClosedOnce, IsCompleted, filings_in}
 
 pub no_history : (b : BookView) (digest : List ℕ) (jobs : List JobState) → b ≡ new_book digest jobs → b.history ≡ []
 unfolding new_book
@@ -34,19 +42,59 @@ filings_closed [] = refl
 filings_closed (Filed f ∷ es) = ap (λ l. f ∷ l) (filings_closed es)
 filings_closed (Closing ∷ es) = filings_closed es
 
-as_many : (es : List Entry) → has_closing es ≡ false → length (filings_in es) ≡ length es
-as_many es still = sym (length-map (filings_in es) Filed) ∙ ap length (sym (all_filings es still))
-
 -- a book that is closed after filings alone
-pub closed_once : (old new : BookView) → has_closing old.history ≡ false → new ≡ after_closing old → IsClosedOnce new.history
+closed_once : (old new : BookView) → has_closing old.history ≡ false → new ≡ after_closing old → IsClosedOnce new.history
 closed_once old new still is =
     let same : new.history ≡ old.history ++ Closing ∷ [] = ap (λ (v : BookView). v.history) is in
     same ∙ ap (λ l. l ++ Closing ∷ []) (all_filings old.history still ∙ ap (map Filed) (sym (filings_closed old.history) ∙ ap filings_in (sym same)))
 
-pub filings_stay : (old new : BookView) → has_closing old.history ≡ false → new ≡ after_closing old → length (filings_in new.history) ≡ length old.history
-filings_stay old new still is =
-    let same : new.history ≡ old.history ++ Closing ∷ [] = ap (λ (v : BookView). v.history) is in
-    ap (λ l. length (filings_in l)) same ∙ ap length (filings_closed old.history) ∙ as_many old.history still
+pub completed_closed : (digest : List ℕ) (jobs : List JobState) (b c : BookView) → IsCompleted digest jobs b c → IsClosedOnce c.history
+completed_closed digest jobs b c is =
+    let still : has_closing is.full.history ≡ false = sym (closed-by_its_history is.full is.is_full.replays) ∙ is.is_full.is_open.still_open in
+    closed_once is.full c still is.closed
+
+-- ---- a full book that is closed
+
+-- at least as many filings as numbers that were accepted
+accepted_filed : (p : Replayed) (es : List Entry) → length (replay_from p es).accepted ≤ length p.accepted + length (filings_in es)
+accepted_filed p [] = omega arith
+accepted_filed p (Closing ∷ es) = accepted_filed (after_entry p Closing) es
+accepted_filed p (Filed f ∷ es) =
+    let rest = accepted_filed (after_entry p (Filed f)) es in
+    let more = one_more p.accepted f.number f.reply in
+    omega (arith, rest, more)
+  where
+    one_more : (ks : List ℕ) (k : ℕ) (r : Reply) → length (accepted_after ks k r) ≤ length ks + 1
+    one_more ks k reply.Accepted = omega (arith, length-append ks (k ∷ []))
+    one_more ks k reply.Closed = omega arith
+    one_more ks k (reply.Stranger mismatch) = omega arith
+    one_more ks k (reply.Double number) = omega arith
+
+pub many_filings : (b : BookView) → IsReplayed b → accepted_in b ≤ length (filings_in b.history)
+many_filings b is =
+    let count : length (replay b.history).accepted ≡ accepted_in b = is.count in
+    let most = accepted_filed beginning b.history in
+    omega (arith, count, most)
+
+held_closed : (b : BookView) (jobs : List JobState) (n : ℕ) → AreHeldBelow b jobs n → AreHeldBelow (after_closing b) jobs n
+held_closed b jobs n held k j below at =
+    let h = held k j below at in
+    record { finding = h.finding; held = h.held; whole = h.whole }
+
+pub audit_of : (s : CertState) (digest : List ℕ) (jobs : List JobState) (b c : BookView) → digest ≡ sha256 (certificate_text s) → AreOwnJobs s jobs → IsCompleted digest jobs b c → IsAuditOf s c
+audit_of s digest jobs b c of_text own is =
+    let full = is.is_full in
+    let same : jobs ≡ is.full.jobs = sym full.is_open.jobs_are in
+    subst (IsAuditOf s) (sym is.closed) (record {
+      digest_is = full.is_open.digest_is ∙ of_text;
+      jobs_are = subst (AreOwnJobs s) same own;
+      all_held = held_closed is.full is.full.jobs (length is.full.jobs) (subst (λ (js : List JobState). AreHeldBelow is.full js (length js)) same full.all_held);
+      all_accepted = full.all_accepted ∙ ap length same;
+    })
+
+-- no number is missing
+pub none_missing : (b : BookView) (jobs : List JobState) (n : ℕ) → AreHeldBelow b jobs (length jobs) → IsFirstMissing b jobs n → ⊥
+none_missing b jobs n held first = first.missing (held n first.job (slice_get_within jobs n first.job first.numbered) first.numbered)
 
 -- new shares have filed nothing
 pub none_filed : (n : ℕ) → filed_by (replicate n no_counts) ≡ 0

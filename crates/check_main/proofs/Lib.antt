@@ -1,4 +1,3 @@
 pub mod Closings
-mod Faults
 mod RightStreams
 mod Words

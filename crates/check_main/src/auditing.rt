@@ -1,16 +1,15 @@
 //! Runs the modules of a certificate by several workers, and keeps what they file.
-ghost use Rattle.std.specs.Prelude.{◌≡◌, ◌<◌, ◌≤◌, false, [], length, map, IfOk};
+ghost use Rattle.std.specs.Prelude.{◌≡◌, ◌<◌, ◌≤◌, false, [], length, map, IfOk, OnOk};
 ghost use Rattle.std.specs.Arc.{arc_value};
 ghost use Rattle.audit_core.specs.Book.{IsReplayed};
-ghost use Rattle.sha2.specs.Sha256.{sha256};
+ghost use Rattle.audit_core.specs.Filling.{IsOpenFor};
 ghost use Rattle.certificate.specs.Groups.{AreGroups};
-ghost use Rattle.certificate.specs.Text.{certificate_text};
-ghost use Rattle.audit_core.specs.Concluding.{AreOwnJobs, modules};
+ghost use Rattle.audit_core.specs.Concluding.{modules};
 ghost use Rattle.audit_core.specs.Replay.{has_closing};
 ghost use Rattle.job_pool.specs.Work.{shapes_of};
-ghost use Rattle.check_main.specs.Audits.{IsClosedOnce, filings_in};
+ghost use Rattle.check_main.specs.Audits.{IsAuditOf, IsClosedOnce, IsCompleted, filings_in};
 
-use audit_core::BookState;
+use audit_core::{BookState, fill};
 use certificate::{Cert, Job, job_groups};
 use job_pool::{Gate, WorkEnd, work};
 use std::alloc::{AllocError, Global};
@@ -20,21 +19,22 @@ use std::sync::{Arc, Wait};
 use std::thread::Threads;
 use verdict_book::{Book, Filings, Share, gather};
 
-/// What the workers filed.
+/// What was found of all modules.
 #[derive(Drop)]
 pub struct Audited {
-    /// The book, which is closed.
+    /// The book, which is closed, and holds a finding of each module's job.
     pub state: BookState,
-    /// Whether there was no memory for something. Otherwise as many findings were filed as there are modules.
+    /// Whether the workers lacked memory for something. Otherwise they filed as many findings as there are modules.
     pub memory: bool,
 }
 
-/// Runs the modules of a certificate by 1 to 64 workers, which file what they find into one book of its jobs, under its digest, and
-/// closes the book.
+/// Runs the modules of a certificate by 1 to 64 workers, which file what they find into one book of its jobs, under its digest, files
+/// what they left, and closes the book.
 ///
 /// A worker draws the number of a module, and where that is the first of its shape, runs its job and files the findings of all modules
-/// of that shape, in a thread of its own where one can be made, until no number is left. The gate is told of each number. All
-/// workers have ended when it returns. `AllocError` is want of memory before the workers began, or for the closing entry.
+/// of that shape, in a thread of its own where one can be made, until no number is left. The gate is told of each number that a worker
+/// draws. All workers have ended when it returns. `AllocError` is want of memory before the workers began, for what they left, or for
+/// the closing entry: that a worker lacked memory is no fault.
 pub fn audit<G: Gate + Sync, R: Threads + Wait + Sync>(
     rt: &R,
     alloc: Global,
@@ -43,11 +43,10 @@ pub fn audit<G: Gate + Sync, R: Threads + Wait + Sync>(
     gate: &G,
 ) -> Result<Audited, AllocError>
     requires workers { (0 < workers) × (workers ≤ 64) }
-    ensures digest { IfOk result (λ audited. audited.state.digest ≡ sha256 (certificate_text cert.now)) }
-    ensures jobs { IfOk result (λ audited. AreOwnJobs cert.now audited.state.jobs) }
+    ensures full { IfOk result (λ audited. IsAuditOf cert.now audited.state) }
     ensures replays { IfOk result (λ audited. IsReplayed audited.state) }
     ensures closed { IfOk result (λ audited. IsClosedOnce audited.state.history) }
-    ensures filed { IfOk result (λ audited. audited.memory ≡ false → length (modules cert.now) ≤ length (filings_in audited.state.history)) }
+    ensures filed { IfOk result (λ audited. length (modules cert.now) ≤ length (filings_in audited.state.history)) }
 {
     // There are at most 1024 modules.
     let _count = cert.modules();
@@ -65,11 +64,26 @@ pub fn audit<G: Gate + Sync, R: Threads + Wait + Sync>(
     let mut audited = audited_by::<Brand, Brand, G, R>(
         rt, alloc, gate, &copies, &groups, beginning,
     )?;
-    // The history replays to the state.
-    let _history = audited.state.history();
-    audited.state.close()?;
-    let _closed = audited.state.history();
+    complete(alloc, &mut audited.state, digest, &copies)?;
     Ok(audited)
+}
+
+// Files what the workers left, and closes the book. Nothing that they filed is lost.
+fn complete(
+    alloc: Global,
+    state: &mut BookState,
+    digest: [u8; 32],
+    jobs: &[Arc<Job>],
+) -> Result<(), AllocError>
+    requires own { IsOpenFor digest (map arc_value jobs.now) state.old }
+    ensures completed { OnOk result (IsCompleted digest (map arc_value jobs.now) state.old state.new) }
+    ensures replays { OnOk result (IsReplayed state.new) }
+{
+    fill(alloc, state, digest, jobs)?;
+    state.close()?;
+    // The history replays to the state.
+    let _history = state.history();
+    Ok(())
 }
 
 // A state without history, and the blanks of two ledgers with a part for each worker.
@@ -97,8 +111,8 @@ fn audited_by<F: Filings + Sync, A: Ledger + Sync, G: Gate + Sync, R: Threads + 
     requires groups { AreGroups (shapes_of (map arc_value jobs.now)) groups.now }
     requires own { (beginning.state.digest ≡ F.digest) × (beginning.state.jobs ≡ F.jobs) }
     requires fresh { beginning.state.history ≡ [] }
-    ensures own { IfOk result (λ audited. (audited.state.digest ≡ F.digest) × (audited.state.jobs ≡ F.jobs)) }
-    ensures still_open { IfOk result (λ audited. has_closing audited.state.history ≡ false) }
+    ensures own { IfOk result (λ audited. IsOpenFor F.digest F.jobs audited.state) }
+    ensures no_closing { IfOk result (λ audited. has_closing audited.state.history ≡ false) }
     ensures filed { IfOk result (λ audited. audited.memory ≡ false → length audited.state.history ≡ length jobs.now) }
 {
     let Beginning {

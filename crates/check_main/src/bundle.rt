@@ -1,18 +1,15 @@
 //! Reads a bundle, and answers with its report.
-ghost use Rattle.std.specs.Prelude.{◌≡◌, ◌<◌, ◌≤◌, true, None, IfErr, IfOk};
+ghost use Rattle.std.specs.Prelude.{◌≡◌, ◌<◌, ◌≤◌, true, None, IfOk};
 ghost use Rattle.answers.specs.CheckText.{IsReportOf};
-ghost use Rattle.answers.specs.BundleReading.{TellsRefusal};
-ghost use Rattle.check_main.specs.Status.{IsUndecided};
 
-use crate::CheckFault;
 use crate::check::report_on;
-use answers::Answered;
+use answers::{Answered, refused};
 use certificate::read_certificate;
 use circuit::{port_names, read_circuit};
 use job_pool::Gate;
 use pattern::read_layout;
-use section_text::{Feed, ReadFault};
-use std::alloc::Global;
+use section_text::Feed;
+use std::alloc::{AllocError, Global};
 use std::sync::Wait;
 use std::thread::Threads;
 
@@ -23,22 +20,18 @@ pub(crate) fn report_of_text<G: Gate + Sync, R: Threads + Wait + Sync>(
     feed: &mut Feed,
     workers: usize,
     gate: &G,
-) -> Result<Answered, CheckFault>
+) -> Result<Answered, AllocError>
     requires workers { (0 < workers) × (workers ≤ 64) }
     requires closed { feed.old.closed ≡ true }
     requires unread { feed.old.taken ≡ 0 }
     requires going { feed.old.stop ≡ None }
     ensures answered { IfOk result (λ answered. IsReportOf feed.old.text answered.output.items answered.outcome) }
-    ensures undecided { IfErr result IsUndecided }
 {
     let circuit = match read_circuit(alloc, feed) {
         Err(fault) => return refused(alloc, fault),
         Ok(circuit) => circuit,
     };
-    let ports = match port_names(alloc, &circuit) {
-        Err(_) => return Err(CheckFault::Memory),
-        Ok(ports) => ports,
-    };
+    let ports = port_names(alloc, &circuit)?;
     let layout = match read_layout(alloc, feed, &ports) {
         Err(fault) => return refused(alloc, fault),
         Ok(layout) => layout,
@@ -51,13 +44,4 @@ pub(crate) fn report_of_text<G: Gate + Sync, R: Threads + Wait + Sync>(
         return refused(alloc, fault);
     }
     report_on(rt, alloc, &cert, workers, gate)
-}
-
-// The line for a refusal.
-fn refused(alloc: Global, fault: ReadFault) -> Result<Answered, CheckFault>
-    ensures told { IfOk result (λ answered. TellsRefusal fault answered.output.items answered.outcome) }
-    ensures memory { IfErr result (λ fault. fault ≡ CheckFault.Memory) }
-{
-    let answered = answers::refused(alloc, fault)?;
-    Ok(answered)
 }

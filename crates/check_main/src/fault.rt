@@ -15,8 +15,6 @@ pub enum CheckFault {
     TooLong,
     /// There was no memory.
     Memory,
-    /// Some module was not run.
-    Missing,
 }
 
 impl CheckFault {
@@ -32,7 +30,6 @@ impl CheckFault {
             CheckFault::Write => "write fault",
             CheckFault::TooLong => "text too long",
             CheckFault::Memory => "out of memory",
-            CheckFault::Missing => "findings missing",
         }
     }
 }

@@ -52,7 +52,7 @@ pub struct Streams<R, W, E> {
 /// - 2: the words were refused
 /// - 3: the text was refused, and `writer` was told the line and why
 /// - 4: `reader` or `writer` failed, or the text is longer than 16 MiB
-/// - 5: memory ran out, or the finding of a module is missing
+/// - 5: memory ran out
 ///
 /// What is wrong with the words, and a line for a status of 4 or 5, is said to `errors`, and that a write to
 /// it fails changes nothing. The workers of `check` tell the gate of each module that they draw; the program's is `OpenGate`.
@@ -118,9 +118,7 @@ where
         (W.held streams.old.writer) (W.held streams.new.writer) }
 
     ensures not_decided { result ≡ 5 → (streams.new.writer ≡ streams.old.writer)
-        × (Says (E.held streams.old.errors) (E.held streams.new.errors) (E.has_failed streams.new.errors) CheckFault.Memory
-        ⊎ ((asked_by (map (λ s. s.now) words.entry.now) ≡ Request.Check)
-        × Says (E.held streams.old.errors) (E.held streams.new.errors) (E.has_failed streams.new.errors) CheckFault.Missing)) }
+        × Says (E.held streams.old.errors) (E.held streams.new.errors) (E.has_failed streams.new.errors) CheckFault.Memory }
 
     // Where an answer or help was written, nothing is said.
     ensures quiet { result ≢ 2 → result ≢ 4 → result ≢ 5 → streams.new.errors ≡ streams.old.errors }
@@ -154,7 +152,6 @@ fn serve<T: Threads + Wait + Sync, R: Source, W: Sink, G: Gate + Sync>(
     requires reader_works { R.has_failed reader.old ≡ false }
     requires writer_works { W.has_failed writer.old ≡ false }
     ensures serves { Serves (IsAnswerTo asked.request) R.left R.has_failed reader.old reader.new W.held W.has_failed writer.old writer.new result }
-    ensures missing { IsErrOf result CheckFault.Missing → asked.request ≡ Request.Check }
     ensures correct { asked.request ≡ Request.Check → result ≡ Ok Outcome.Yes → Gives IsRight (R.left reader.old) }
     ensures says_yes { asked.request ≡ Request.Check → YesMeans IsRight (R.left reader.old) (W.held writer.old) (W.held writer.new) }
     ensures stops { asked.request ≡ Request.Check → result ≡ Ok Outcome.Yes → Gives HasRightStops (R.left reader.old) }
@@ -182,7 +179,7 @@ pub fn status_of<E: Sink>(ended: Result<Outcome, CheckFault>, errors: &mut E) ->
             say(errors, fault);
             match fault {
                 CheckFault::Read | CheckFault::Write | CheckFault::TooLong => DEVICE_FAULT,
-                CheckFault::Memory | CheckFault::Missing => NOT_DECIDED,
+                CheckFault::Memory => NOT_DECIDED,
             }
         }
     }

@@ -66,7 +66,6 @@ pub fn run_stream<R: Source, W: Sink>(
     requires reader_works { R.has_failed reader.old ≡ false }
     requires writer_works { W.has_failed writer.old ≡ false }
     ensures serves { Serves IsRunOf R.left R.has_failed reader.old reader.new W.held W.has_failed writer.old writer.new result }
-    ensures not_missing { IfErr result (λ fault. fault ≢ CheckFault.Missing) }
 {
     let mut feed = read_text(alloc, reader)?;
     let answered = run_text(alloc, &mut feed).map_err(|_| CheckFault::Memory)?;
@@ -83,7 +82,6 @@ pub fn value_stream<R: Source, W: Sink>(
     requires reader_works { R.has_failed reader.old ≡ false }
     requires writer_works { W.has_failed writer.old ≡ false }
     ensures serves { Serves IsValueOf R.left R.has_failed reader.old reader.new W.held W.has_failed writer.old writer.new result }
-    ensures not_missing { IfErr result (λ fault. fault ≢ CheckFault.Missing) }
 {
     let mut feed = read_text(alloc, reader)?;
     let answered = value_text(alloc, &mut feed).map_err(|_| CheckFault::Memory)?;
@@ -100,7 +98,6 @@ pub fn modules_stream<R: Source, W: Sink>(
     requires reader_works { R.has_failed reader.old ≡ false }
     requires writer_works { W.has_failed writer.old ≡ false }
     ensures serves { Serves IsModulesOf R.left R.has_failed reader.old reader.new W.held W.has_failed writer.old writer.new result }
-    ensures not_missing { IfErr result (λ fault. fault ≢ CheckFault.Missing) }
 {
     let mut feed = read_text(alloc, reader)?;
     let answered = modules_text(alloc, &mut feed).map_err(|_| CheckFault::Memory)?;
@@ -117,7 +114,6 @@ fn read_text<R: Source>(alloc: Global, reader: &mut R) -> Result<Feed, CheckFaul
     ensures too_long { IsErrOf result CheckFault.TooLong →
         GivesTooMuch (R.left reader.old) (R.left reader.new) }
     ensures no_write { IfErr result (λ fault. fault ≢ CheckFault.Write) }
-    ensures not_missing { IfErr result (λ fault. fault ≢ CheckFault.Missing) }
 {
     let mut feed = Feed::new(alloc);
     let mut block = [0u8; BLOCK];

@@ -214,7 +214,6 @@ fn names_each_fault_in_words(rt: HostRuntime) {
         (CheckFault::Write, "write fault"),
         (CheckFault::TooLong, "text too long"),
         (CheckFault::Memory, "out of memory"),
-        (CheckFault::Missing, "findings missing"),
     ];
     for (fault, text) in words {
         let shown = fault.to_string(rt.alloc()).expect(&rt, "a text");

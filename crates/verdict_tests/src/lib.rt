@@ -15,6 +15,8 @@ mod cores;
 #[cfg(test)]
 mod faults;
 #[cfg(test)]
+mod fillings;
+#[cfg(test)]
 mod grids;
 #[cfg(test)]
 mod jobs;

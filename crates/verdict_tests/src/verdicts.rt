@@ -39,9 +39,17 @@ fn conclusion(
     concluded(rt, alloc, &certificate, book)
 }
 
-/// A book of a bundle's jobs, in which the findings of these numbers are filed in this order. Its digest is none of a text.
-fn book_of(rt: &impl Abort, alloc: Global, text: &str, numbers: &[usize]) -> BookState {
-    let digest = [7; 32];
+/// A digest that is none of a text.
+const DIGEST: [u8; 32] = [7; 32];
+
+/// A book of a bundle's jobs under a digest, in which the findings of these numbers are filed in this order.
+pub(crate) fn book_of(
+    rt: &impl Abort,
+    alloc: Global,
+    digest: [u8; 32],
+    text: &str,
+    numbers: &[usize],
+) -> BookState {
     let jobs = work_of(alloc, text).expect(rt, "work").jobs;
     let own = work_of(alloc, text).expect(rt, "work").jobs;
     let mut book = BookState::new(alloc, digest, own).expect(rt, "a book");
@@ -59,6 +67,11 @@ fn is_verdict(found: &Result<Verdict, Unfinished>, lines: &[ReportLine]) -> bool
         Ok(Verdict::No(said)) => !lines.is_empty() && said.as_slice() == lines,
         Err(_) => false,
     }
+}
+
+/// Whether a book concludes with a yes on a bundle's certificate.
+pub(crate) fn is_yes(rt: &impl Abort, alloc: Global, text: &str, book: &BookState) -> bool {
+    is_verdict(&conclusion(rt, alloc, text, book), &[])
 }
 
 /// Under q alone nothing comes back to (2, 2), and module 3 says that q is at (4, 4).
@@ -117,7 +130,7 @@ const VERDICTS: [(&str, &[ReportLine]); 3] = [
 fn verdicts_in_whatever_order(rt: HostRuntime) {
     for (text, lines) in &VERDICTS {
         for numbers in &ORDERS {
-            let book = book_of(&rt, rt.alloc(), text, numbers);
+            let book = book_of(&rt, rt.alloc(), DIGEST, text, numbers);
             let found = conclusion(&rt, rt.alloc(), text, &book);
             assert!(rt; is_verdict(&found, lines), "{text}");
         }
@@ -140,7 +153,7 @@ pub(crate) fn is_missing(rt: &impl Abort, alloc: Global, book: &BookState, numbe
 #[test]
 fn missing_findings(rt: HostRuntime) {
     for (text, numbers, missing) in &MISSING {
-        let book = book_of(&rt, rt.alloc(), text, numbers);
+        let book = book_of(&rt, rt.alloc(), DIGEST, text, numbers);
         assert!(rt; is_missing(&rt, rt.alloc(), &book, *missing), "{missing}");
     }
 }

@@ -1,32 +1,38 @@
--- The book is closed behind what the workers filed.
-use Rattle.std.proofs.Common.{◌≡◌, ◌∙◌, ap, arith, length, rules, subst, sym}
-use Rattle.std.proofs.lemmas.List.{length-map}
+-- The book is filled up behind what the workers filed, and closed.
+use Rattle.std.proofs.Common.{◌∙◌, ap, arith, map, subst, sym}
 use Rattle.std.specs.Arc.{arc_value}
-use Rattle.audit_core.specs.Book.{BookView}
 use Rattle.audit_core.specs.Concluding.{AreOwnJobs}
-use Rattle.check_main.proofs.Closings.{closed_once, filings_stay, no_history, own_digest, own_jobs}
+use Rattle.audit_core.proofs.Fillings.{clones-same}
+use Rattle.check_main.proofs.Closings.{audit_of, completed_closed, many_filings, no_history, own_digest, own_jobs}
 use Rattle.check_main.proofs.auditing.audit.Goals as goal
 
 pub audited_by-requires-clause-fresh : goal.audited_by-requires-clause-fresh
 audited_by-requires-clause-fresh g c κs within = no_history c.in_ok-state.state _ _ c.in_ok-state.ensures
 
+pub complete-requires : goal.complete-requires
+complete-requires g c =
+    let still = c.in_ok-audited.ensures.own in
+    let copied = clones-same arc_value c.in_ok-jobs.jobs.items c.in_ok-copies.copies.items c.in_ok-copies.ensures.cases.0 in
+    record {
+      own = record {
+        still_open = still.still_open;
+        digest_is = still.digest_is ∙ own_digest c.in_ok-state.state _ _ c.in_ok-state.ensures;
+        jobs_are = still.jobs_are ∙ own_jobs c.in_ok-state.state _ _ c.in_ok-state.ensures ∙ sym (ap (map arc_value) c.deref-4.ensures.value ∙ copied);
+      };
+    }
+
+pub returns-clause-full : goal.returns-clause-full
+returns-clause-full g c =
+    let copied = clones-same arc_value c.in_ok-jobs.jobs.items c.in_ok-copies.copies.items c.in_ok-copies.ensures.cases.0 in
+    let own = subst (AreOwnJobs c.args.cert.now) (sym (ap (map arc_value) c.deref-4.ensures.value ∙ copied)) c.in_ok-jobs.ensures in
+    audit_of c.args.cert.now c.in_ok-digest.digest (map arc_value c.deref-4.result.now) c.in_ok-audited.audited.state c.complete.new.state c.in_ok-digest.ensures own c.in_ok-complete.ensures.completed
+
 pub returns-clause-closed : goal.returns-clause-closed
-returns-clause-closed g c = closed_once c.in_ok-audited.audited.state c.close.new.self c.in_ok-audited.ensures.still_open c.in_ok-close.ensures.after
+returns-clause-closed g c =
+    completed_closed c.in_ok-digest.digest (map arc_value c.deref-4.result.now) c.in_ok-audited.audited.state c.complete.new.state c.in_ok-complete.ensures.completed
 
 pub returns-clause-filed : goal.returns-clause-filed
-returns-clause-filed g c = λ fed.
-    let same = filings_stay c.in_ok-audited.audited.state c.close.new.self c.in_ok-audited.ensures.still_open c.in_ok-close.ensures.after in
-    let all = c.in_ok-audited.ensures.filed fed in
-    let own = c.in_ok-jobs.ensures.count in
-    let mapped = length-map c.in_ok-jobs.jobs.items arc_value in
-    let copied : length c.in_ok-copies.copies.items ≡ length c.in_ok-jobs.jobs.items = search rules in
-    omega (arith, same, all, own, mapped, copied)
-
-pub returns-clause-digest : goal.returns-clause-digest
-returns-clause-digest g c =
-    ap (λ (b : BookView). b.digest) c.in_ok-close.ensures.after ∙ c.in_ok-audited.ensures.own.0 ∙ own_digest c.in_ok-state.state _ _ c.in_ok-state.ensures ∙ c.in_ok-digest.ensures
-
-pub returns-clause-jobs : goal.returns-clause-jobs
-returns-clause-jobs g c =
-    let same = ap (λ (b : BookView). b.jobs) c.in_ok-close.ensures.after ∙ c.in_ok-audited.ensures.own.1 ∙ own_jobs c.in_ok-state.state _ _ c.in_ok-state.ensures in
-    subst (AreOwnJobs c.args.cert.now) (sym same) c.in_ok-jobs.ensures
+returns-clause-filed g c =
+    let full = returns-clause-full g c in
+    let many = many_filings c.complete.new.state c.in_ok-complete.ensures.replays in
+    omega (arith, many, full.all_accepted, full.jobs_are.count)

@@ -1,12 +1,14 @@
--- Where a finding is said to be missing, the first that is missing was named.
-use Rattle.std.proofs.Common.{◌≡◌, ◌∙◌, Err, ap, subst, sym}
-use Rattle.audit_core.specs.Verdicts.{IsFirstMissing}
-use Rattle.check_main.specs.declared.fault.CheckFault.TheVariants.{Missing}
-use Rattle.check_main.proofs.Faults.{missing_number}
+-- The book of an audit lacks no finding.
+use Rattle.std.proofs.Common.{◌∙◌, Err, List, ap, length, map, subst, sym}
+use Rattle.std.specs.Arc.{arc_value}
+use Rattle.audit_core.specs.Verdicts.{AreHeldBelow}
+use Rattle.certificate.specs.Jobs.{JobState}
+use Rattle.check_main.proofs.Closings.{none_missing}
 use Rattle.check_main.proofs.check.verdict_from.Goals as goal
 
-pub returns-clause-lacking : goal.returns-clause-lacking
-returns-clause-lacking c is =
-    let said : c.fault_after.result ≡ Missing = cc in
-    let (number, named) = missing_number c.in-Err.unfinished c.args.audited.now.memory (sym c.fault_after.ensures ∙ said) in
-    (number, subst (λ jobs. IsFirstMissing c.args.audited.now.state jobs number) c.jobs-jobs.ensures (c.in-Err.ensures.missing number (ap (λ u. Err u) named)))
+pub unreachable-requires : goal.unreachable-requires
+unreachable-requires c =
+    let b = c.args.state.now in
+    let held = subst (λ (js : List JobState). AreHeldBelow b js (length js)) (sym c.jobs-jobs.ensures) c.requires.all_held in
+    let first = c.conclude.ensures.missing c.in-Err-Missing.field-0-0 (c.in-Err-Missing.is ∙ ap Err c.in-Err-Missing.field-0-is) in
+    none_missing b (map arc_value c.jobs-jobs.result.now) c.in-Err-Missing.field-0-0 held first

@@ -1,0 +1,98 @@
+//! Books that are filled up. The entries were worked out by hand.
+//!
+//! What finds no memory is tried once more: so each growth can be refused in turn (`rt try --test --fail-alloc N`), and the books
+//! are still to be full in the end.
+
+use crate::verdicts::{book_of, is_yes};
+use audit_core::*;
+use std::alloc::Global;
+use std::process::Abort;
+use test_support::{ALONE, GOOD, Work, work_of};
+
+/// Fills a book up: at the second time, if no memory was found at the first. Then no entry is lost of a book that is not replaced,
+/// which has so many.
+fn fill_up(rt: &impl Abort, alloc: Global, book: &mut BookState, work: &Work, entries: usize) {
+    if fill(alloc, book, work.digest, &work.jobs).is_ok() {
+        return;
+    }
+    assert!(rt; book.history().len() >= entries, "lost");
+    assert!(rt;
+        fill(alloc, book, work.digest, &work.jobs).is_ok(),
+        "no memory at the second try"
+    );
+}
+
+/// The entry of a finding that was accepted.
+fn accepted(digest: [u8; 32], number: usize) -> Entry {
+    Entry::Filed(Filing {
+        digest,
+        number,
+        same: true,
+        reply: Reply::Accepted,
+    })
+}
+
+/// Whether findings of these numbers were accepted in this order, and nothing else was filed, in a book that is open.
+fn was_filled(book: &BookState, digest: [u8; 32], numbers: &[usize]) -> bool {
+    if book.is_closed()
+        || book.accepted() != numbers.len()
+        || book.history().len() != numbers.len()
+    {
+        return false;
+    }
+    for (entry, number) in book.history().iter().zip(numbers) {
+        if *entry != accepted(digest, *number) {
+            return false;
+        }
+    }
+    true
+}
+
+/// The work on the four modules.
+fn work_of_four(rt: &impl Abort, alloc: Global) -> Work {
+    work_of(alloc, GOOD).expect(rt, "work")
+}
+
+#[test]
+fn fills_up_what_is_left(rt: HostRuntime) {
+    let work = work_of_four(&rt, rt.alloc());
+    let mut book = book_of(&rt, rt.alloc(), work.digest, GOOD, &[1, 3]);
+    fill_up(&rt, rt.alloc(), &mut book, &work, 2);
+    assert!(rt; was_filled(&book, work.digest, &[1, 3, 0, 2]));
+    assert!(rt; is_yes(&rt, rt.alloc(), GOOD, &book));
+    fill_up(&rt, rt.alloc(), &mut book, &work, 4);
+    assert!(rt; was_filled(&book, work.digest, &[1, 3, 0, 2]));
+}
+
+#[test]
+fn fills_up_in_place_of_a_closed_book(rt: HostRuntime) {
+    let work = work_of_four(&rt, rt.alloc());
+    let mut book = book_of(&rt, rt.alloc(), work.digest, GOOD, &[1, 3]);
+    assert!(rt; book.close().is_ok(), "no memory");
+    fill_up(&rt, rt.alloc(), &mut book, &work, 0);
+    assert!(rt; was_filled(&book, work.digest, &[0, 1, 2, 3]));
+}
+
+/// The other book has another digest, or another job 0 under the same digest.
+#[test]
+fn fills_up_in_place_of_another_book(rt: HostRuntime) {
+    let work = work_of_four(&rt, rt.alloc());
+    for (digest, text) in [([7; 32], GOOD), (work.digest, ALONE)] {
+        let mut book = book_of(&rt, rt.alloc(), digest, text, &[1, 3]);
+        fill_up(&rt, rt.alloc(), &mut book, &work, 0);
+        assert!(rt; was_filled(&book, work.digest, &[0, 1, 2, 3]), "{text}");
+    }
+}
+
+/// Two modules that differ in nothing but their places and their wires' names.
+const TWINS: &str =
+    "circuit\ninput a\ninput b\noutput a\noutput b\nend\nlayout 8 4 2\nin a 0 0\nin b 4 0\nout a 2 2\nout b 6 2\nend\ncertificate 1\nmodule 0 0 4 4\ncut a\nmodule 4 0 4 4\ncut b\nend\n";
+
+#[test]
+fn fills_up_modules_of_one_shape(rt: HostRuntime) {
+    let work = work_of(rt.alloc(), TWINS).expect(&rt, "work");
+    let mut book = book_of(&rt, rt.alloc(), work.digest, TWINS, &[]);
+    fill_up(&rt, rt.alloc(), &mut book, &work, 0);
+    assert!(rt; was_filled(&book, work.digest, &[0, 1]));
+    assert!(rt; is_yes(&rt, rt.alloc(), TWINS, &book));
+}
