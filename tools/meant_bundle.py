@@ -1,9 +1,14 @@
 """Random small bundles whose border lines and ports are mostly right: the whole pattern is run first, under each assignment of the
 inputs, and what a cell then carries is looked for among the wires of its module. Some lines are made wrong afterwards."""
+import collections
+
 from random_bundle import gates_of, ring, tiles
 from reference import ROWS, stepped
 
-SHARE_WRONG = 0.3
+# The most inputs; how often a module's lines of a kind are made wrong; how often a cell that is live at the end is left out; and
+# whether neighbours name a wire alike where several have one value.
+Mood = collections.namedtuple("Mood", "inputs wrong forgotten steady")
+WILD, CALM, RENAMED = Mood(10, 0.3, 0.15, False), Mood(1, 0, 0, True), Mood(1, 0, 0, False)
 
 
 def cells_of(x, y, w, h):
@@ -35,6 +40,12 @@ def mirrors_of(rng, width, height):
             boxes.append(box)
             taken |= cells_of(*box)
     return boxes
+
+
+def still_mirrors(rng, width, height):
+    """Some boxes of two by two that stay as they are, and lie in two modules where the rows between them part modules."""
+    places = [(x, y, 2, 2) for y in range(1, height - 2, 2) for x in range(0, width, 2)]
+    return rng.sample(places, min(len(places), rng.randint(1, 3)))
 
 
 def start_cells(rng, free, names, is_dense):
@@ -73,22 +84,24 @@ def locals_of(rng, names, gates):
     return cuts, used, sorted(local)
 
 
-def signal_for(rng, tables, local, table):
+def signal_for(rng, tables, local, table, steady):
     """A local signal with this table, or any where there is none."""
     same = [wire for wire in local if tables.of[wire] == table] + ["1"] * (table == tables.full)
+    if steady and same:
+        return same[-1] if same[-1] == "1" else same[0]
     return rng.choice(same or [*local, "1"])
 
 
-def right_lines(rng, tables, local, cells, history):
+def right_lines(rng, tables, local, cells, history, steady):
     """By place the signals of these cells. A place has time -1 where it is every odd time."""
     odd = range(1, len(history) - 1, 2)
     lines = {}
     for x, y in sorted(cells):
         carried = [history[time].get((x, y), 0) for time in odd]
         if carried and carried[0] and len(set(carried)) == 1 and rng.random() < 0.7:
-            lines[-1, y, x] = signal_for(rng, tables, local, carried[0])
+            lines[-1, y, x] = signal_for(rng, tables, local, carried[0], steady)
             continue
-        lines |= {(time, y, x): signal_for(rng, tables, local, table) for time, table in zip(odd, carried) if table}
+        lines |= {(time, y, x): signal_for(rng, tables, local, table, steady) for time, table in zip(odd, carried) if table}
     return lines
 
 
@@ -112,20 +125,21 @@ def border_texts(kind, lines):
         yield f"{kind} {'*' if time < 0 else time} {x} {y} {signal}"
 
 
-def module_lines(rng, tables, box, rim, inside, known, history):
+def module_lines(rng, tables, box, places, known, history, mood):
     x, y, w, h = box
     cuts, used, local = known
+    rim, inside = places
     texts = ["module %d %d %d %d" % box, *(f"cut {wire}" for wire in cuts), *(f"use {number}" for number in used)]
     halo = ring(x - 1, y - 1, w + 2, h + 2) & inside
     for kind, cells in (("edge", ring(*box) - rim), ("halo", halo)):
-        lines = right_lines(rng, tables, local, cells, history)
-        if rng.random() < SHARE_WRONG:
+        lines = right_lines(rng, tables, local, cells, history, mood.steady)
+        if rng.random() < mood.wrong:
             make_wrong(rng, lines, local, cells, len(history) - 1)
         texts += border_texts(kind, lines)
     return texts
 
 
-def end_cells(rng, tables, owners, solid, free, last):
+def end_cells(rng, tables, owners, solid, free, last, mood):
     """Waste cells, and wires at cells where they are carried at the last time; now and then at a cell where they are not."""
     wastes, outs = [], []
     for cell, table in sorted(last.items()):
@@ -133,10 +147,10 @@ def end_cells(rng, tables, owners, solid, free, last):
             same = [wire for wire in free if wire in owners[cell] and tables.of[wire] == table]
             if same and rng.random() < 0.7:
                 outs.append((rng.choice(same), cell))
-            elif rng.random() < 0.85:
+            elif rng.random() < 1 - mood.forgotten:
                 wastes.append(cell)
     others = sorted(set(owners) - solid - set(last))
-    if others and rng.random() < SHARE_WRONG:
+    if others and rng.random() < mood.wrong:
         cell = rng.choice(others)
         local = [wire for wire in free if wire in owners[cell]]
         if local and rng.random() < 0.7:
@@ -146,21 +160,32 @@ def end_cells(rng, tables, owners, solid, free, last):
     return wastes, outs
 
 
-def meant_bundle(rng, is_dense=False):
-    """The bundle's text: sides of modules of 2 to 8, and at most three cuts a module, now and then up to ten."""
+def reaches(history, rim):
+    """Whether a cell of the rim is live at an odd time, where no line may say so."""
+    return any(rim & set(seen) for seen in history[1:-1:2])
+
+
+def meant_bundle(rng, is_dense=False, mood=WILD):
+    """The bundle's text: sides of modules of 2 to 8, and at most three cuts a module, now and then up to ten. Calm bundles mostly get a
+    yes, and of renamed ones many a no by a border alone."""
     width, height, steps = 2 * rng.randint(2, 6), 2 * rng.randint(2, 6), rng.choice([0, 1, 2, 3, 4, 5, 8, 12])
+    steps = max(steps, 3) if mood is RENAMED else steps
     many = rng.randint(4, 10) if rng.random() < 0.03 else 0
-    names = [f"i{k}" for k in range(many or rng.choice([0, 1, 2, 2, 3]))]
+    names = [f"i{k}" for k in range(min(many or rng.choice([0, 1, 2, 2, 3]), mood.inputs))]
     _, free, gates = gates_of(rng, names, rng.choice([0, 1, 2, 3]))
+    if mood is RENAMED:
+        gates, free = gates + [("source 1 -> again", [], ["again"])], [*free, "again"]
     tables, inside = Tables(names, gates), cells_of(0, 0, width, height)
-    mirrors = mirrors_of(rng, width, height)
+    mirrors = mirrors_of(rng, width, height) if mood is not RENAMED else still_mirrors(rng, width, height)
     solid = set().union(*(cells_of(*mirror) for mirror in mirrors))
     balls, ins = start_cells(rng, inside - solid, names, is_dense)
     history = history_of(tables, solid | set(balls), ins, steps)
-    boxes = tiles(rng, 0, 0, width, height, rng.choice([2, 4, 8, 8]))
+    if mood is not WILD and reaches(history, ring(0, 0, width, height)):
+        return meant_bundle(rng, is_dense, mood)
+    boxes = tiles(rng, 0, 0, width, height, 2 if mood is RENAMED else rng.choice([2, 4, 8, 8]))
     known = [locals_of(rng, names, gates) for _ in boxes]
     owners = {cell: local for box, (_, _, local) in zip(boxes, known) for cell in cells_of(*box)}
-    wastes, outs = end_cells(rng, tables, owners, solid, free, history[-1])
+    wastes, outs = end_cells(rng, tables, owners, solid, free, history[-1], mood)
     outputs = sorted({wire for wire, _ in outs})
     texts = ["circuit", *(f"input {name}" for name in names), *(line for line, _, _ in gates)]
     texts += [f"output {wire}" for wire in outputs] + [f"spill {wire}" for wire in free if wire not in outputs] + ["end"]
@@ -169,5 +194,5 @@ def meant_bundle(rng, is_dense=False):
     texts += ["out %s %d %d" % (wire, *cell) for wire, cell in outs] + ["waste %d %d" % cell for cell in wastes] + ["end"]
     texts.append("certificate 1")
     for box, what in zip(boxes, known):
-        texts += module_lines(rng, tables, box, ring(0, 0, width, height), inside, what, history)
+        texts += module_lines(rng, tables, box, (ring(0, 0, width, height), inside), what, history, mood)
     return "".join(text + "\n" for text in texts + ["end"]).encode()

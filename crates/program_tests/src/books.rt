@@ -64,7 +64,7 @@ fn file_all<F: Filings, A: Ledger, R: Wait>(
 }
 
 /// The reply to a finding: to the second filing, where there was no memory for the first.
-fn filed<F: Filings, A: Ledger, R: Wait>(
+pub(crate) fn filed<F: Filings, A: Ledger, R: Wait>(
     rt: &R,
     book: &Book<F, A>,
     share: &mut Share<F, A>,

@@ -15,9 +15,13 @@ mod desks;
 #[cfg(test)]
 mod devices;
 #[cfg(test)]
+mod floods;
+#[cfg(test)]
 mod gates;
 #[cfg(test)]
 mod largest;
+#[cfg(test)]
+mod prefixes;
 #[cfg(test)]
 mod programs;
 #[cfg(test)]

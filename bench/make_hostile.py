@@ -1,0 +1,351 @@
+#!/usr/bin/env python3
+"""make_hostile.py KIND [half|full] > text, or make_hostile.py --list
+
+Writes a text that costs as much as it can for its size, at half its size or (left out) at its full one. It is the same text each
+time. Nothing here depends on what the program writes; `docs/LIMITS.md` tells what each text costs. Each kind is one function below,
+with the commands that read its text.
+"""
+import random
+import sys
+
+LONGEST = 16 << 20
+SIDE = 512
+MASK = (1 << 64) - 1
+LETTERS = b"abcdefghijklmnopqrstuvwxyz0123456789_"
+
+
+def joined(*parts):
+    return "".join(line + "\n" for part in parts for line in part)
+
+
+def cells(w, h):
+    return [(x, y) for y in range(h) for x in range(w)]
+
+
+def boxes(w, h, a, b):
+    return [(x, y, a, b) for y in range(0, h, b) for x in range(0, w, a)]
+
+
+def bundle(layout, parts, modules, circuit=()):
+    return joined(["circuit"], circuit, ["end", "layout %d %d %d" % layout], parts, ["end", "certificate 1"], modules, ["end"])
+
+
+def ring(x, y, w, h):
+    return [(u, v) for v in range(y, y + h) for u in range(x, x + w) if u in (x, x + w - 1) or v in (y, y + h - 1)]
+
+
+def edge_cells(w, h, box):
+    return [(u, v) for u, v in ring(*box) if 0 < u < w - 1 and 0 < v < h - 1]
+
+
+def halo_cells(w, h, box):
+    x, y, a, b = box
+    return [(u, v) for u, v in ring(x - 1, y - 1, a + 2, b + 2) if 0 <= u < w and 0 <= v < h]
+
+
+def timed(kind, places, steps, most, signal):
+    """The first lines of one kind for these cells, by time: at most so many."""
+    most = min(most, len(places) * (steps // 2))
+    return [f"{kind} {2 * (k // len(places)) + 1} {u} {v} {signal}" for k in range(most) for u, v in [places[k % len(places)]]]
+
+
+# ---- names and cells whose hashes fall together
+
+def fold(a, b):
+    product = a * b
+    return (product & MASK) ^ (product >> 64)
+
+
+START, FACTOR = 0x243F6A8885A308D3, 0x9E3779B97F4A7C15
+
+
+def table_hash(state):
+    return (state ^ state >> 32) & 0xFFFFFFFF
+
+
+def alike_names(count, is_alike, length=8):
+    """Names that a table with the kit's fixed hash would keep in few places: they differ in their last letters, and their hash, which
+    takes a name byte by byte, is tested."""
+    found, by = [], FACTOR ^ 2
+    begun = fold(START ^ length, FACTOR ^ 16)
+    last = [(letter, letter * 0x10101) for letter in LETTERS]
+    number = 0
+    while len(found) < count:
+        head, rest = bytearray(b"a"), number
+        for _ in range(length - 2):
+            head.append(LETTERS[rest % 37])
+            rest //= 37
+        number += 1
+        state = begun
+        for letter in head:
+            state = fold(state ^ letter * 0x10101, by)
+        for letter, spread in last:
+            product = (state ^ spread) * by
+            if is_alike(table_hash((product & MASK) ^ (product >> 64))):
+                found.append((head + bytes([letter])).decode())
+    return found[:count]
+
+
+def alike_cells(w, h, count):
+    """Cells that a table with the kit's fixed hash would keep in few places: those with the least hashes by the table's own size."""
+    groups = 1
+    while 9 * groups < count:
+        groups *= 2
+
+    def place(cell):
+        state = START
+        for number in cell:
+            state = fold(state ^ (number | number << 32), FACTOR ^ 8)
+        return table_hash(state) & groups - 1
+
+    return sorted(sorted(cells(w, h), key=place)[:count], key=lambda cell: cell[::-1])
+
+
+# ---- run
+
+def run_names(full):
+    """run: as many input cells as there are cells, each with a name of its own, all on."""
+    places = cells(SIDE, SIDE if full else SIDE // 2)
+    names = [f"name_of_an_input_x_{k:06d}"[:24] for k in range(len(places))]
+    return named_inputs(places, names, full)
+
+
+def run_alike_names(full):
+    """run: the same with names whose hashes would fall together without a seed."""
+    places = cells(SIDE, SIDE if full else SIDE // 2)
+    return named_inputs(places, alike_names(len(places), lambda hashed: hashed & 0x7FFF < 512), full)
+
+
+def named_inputs(places, names, full):
+    head = "layout %d %d 0" % (SIDE, SIDE if full else SIDE // 2)
+    ins = (f"in {name} {x} {y}" for name, (x, y) in zip(names, places))
+    return joined([head], ins, ["end", "assign"], (f"on {name}" for name in names), ["end"])
+
+
+def run_ports(full):
+    """run: each cell an input and an output, with long names, and none on."""
+    height = SIDE if full else SIDE // 2
+    ins = (f"in i{k:07d} {x} {y}" for k, (x, y) in enumerate(cells(SIDE, height)))
+    outs = (f"out name_of_an_output_{k:06d} {x} {y}" for k, (x, y) in enumerate(cells(SIDE, height)))
+    return joined([f"layout {SIDE} {height} 4096"], ins, outs, ["end", "assign", "end"])
+
+
+def run_mirrors(full):
+    """run: each cell a mirror of its own, and all steps."""
+    height = SIDE if full else SIDE // 2
+    lines = (f"mirror {x} {y} 1 1" for x, y in cells(SIDE, height))
+    return joined([f"layout {SIDE} {height} 4096"], lines, ["end", "assign", "end"])
+
+
+def run_balls(full):
+    """run: balls in every other cell at random inside a wall, all steps."""
+    height, rng = SIDE if full else SIDE // 2, random.Random(1984)
+    walls = [(2, 1, SIDE - 4, 2), (2, height - 3, SIDE - 4, 2), (2, 3, 2, height - 6), (SIDE - 4, 3, 2, height - 6)]
+    balls = (f"ball {x} {y}" for y in range(3, height - 3) for x in range(4, SIDE - 4) if rng.random() < 0.5)
+    return joined([f"layout {SIDE} {height} 4096"], ("mirror %d %d %d %d" % wall for wall in walls), balls, ["end", "assign", "end"])
+
+
+# ---- any command
+
+def one_line(full):
+    """any: one line of the longest text."""
+    return "a" * ((LONGEST if full else LONGEST // 2) - 1) + "\n"
+
+
+def spaces(full):
+    """any: the same of spaces, each of which ends a word."""
+    return "input" + " " * ((LONGEST if full else LONGEST // 2) - 6) + "\n"
+
+
+# ---- value
+
+def value_wide(full):
+    """value: as many inputs as there may be wires, with the longest names, all outputs and all on."""
+    names = [f"a_name_of_thirty_two_bytes__{k:04d}" for k in range(4096 if full else 2048)]
+    return joined(["circuit"], *([f"{word} {name}" for name in names] for word in ("input", "output")), ["end", "assign"],
+                  [f"on {name}" for name in names], ["end"])
+
+
+def value_alike(full):
+    """value: the same with names whose hashes would fall together without a seed, tags included."""
+    names = alike_wires(4096 if full else 2048)
+    return joined(["circuit"], *([f"{word} {name}" for name in names] for word in ("input", "output")), ["end", "assign"],
+                  [f"on {name}" for name in names], ["end"])
+
+
+def alike_wires(count):
+    return alike_names(count, lambda hashed: hashed & 0x1FF < 8 and hashed >> 24 == 0x55)
+
+
+# ---- check and modules: reading, borders
+
+def borders(full):
+    """check, modules: 15 MiB of lines at single times, for 64 modules of 64 by 64. A mirror lies over each border of two modules in a
+    row, and is named at every odd time, so the verdict is yes."""
+    steps, height, side = 3800, SIDE if full else SIDE // 2, 64
+    mirrors = [(x - 2, y + 21, 4, 2) for y in range(0, height, side) for x in range(side, SIDE, side)]
+    modules = []
+    for x, y, w, h in boxes(SIDE, height, side, side):
+        modules.append(f"module {x} {y} {w} {h}")
+        sides = [(x, x - 1)] * (x > 0) + [(x + w - 1, x + w)] * (x + w < SIDE)
+        for kind, which in (("edge", 0), ("halo", 1)):
+            places = [(pair[which], row) for row in (y + 21, y + 22) for pair in sides]
+            modules += timed(kind, places, steps, 65536, "1")
+    return bundle((SIDE, height, steps), ["mirror %d %d %d %d" % mirror for mirror in mirrors], modules)
+
+
+def most_lines(full):
+    """check, modules: as many lines as 16 MiB have: short ones, for 1008 modules of 4 by 2."""
+    w, h, steps = 96, 84 if full else 42, 92
+    modules = []
+    for box in boxes(w, h, 4, 2):
+        modules.append("module %d %d %d %d" % box)
+        for kind, places in (("edge", edge_cells(w, h, box)), ("halo", halo_cells(w, h, box))):
+            modules += timed(kind, places, steps, 65536, "1")
+    return bundle((w, h, steps), [], modules)
+
+
+def neighbours(full):
+    """check: 12 modules of 64 by 64 with the most edge lines, each among 132 modules of 2 by 2, which all look at its lines."""
+    across, down = 4, 3
+    w, h, steps = 66 * across + 2, 66 * down + 2, 4096
+    large = [(66 * i + 2, 66 * j + 2, 64, 64) for j in range(down) for i in range(across)]
+    taken = {(x, y) for a, b, _, _ in large for y in range(b, b + 64, 2) for x in range(a, a + 64, 2)}
+    small = [box for box in boxes(w, h, 2, 2) if box[:2] not in taken]
+    modules = []
+    for box in large + small:
+        modules.append("module %d %d %d %d" % box)
+        if box[2] == 64:
+            modules += timed("edge", edge_cells(w, h, box), steps, 65536 if full else 32768, "1")
+    return bundle((w, h, steps), [], modules)
+
+
+def stars(full):
+    """check: halo lines with a `*`, and edge lines that say the same at all odd times but the last."""
+    steps, height, side, each = 4096, SIDE if full else SIDE // 2, 64, 6
+    modules = []
+    for x, y, w, h in boxes(SIDE, height, side, side):
+        modules.append(f"module {x} {y} {w} {h}")
+        rows = range(y + 10, y + 10 + each)
+        if 0 < x + w < SIDE:
+            modules += [f"edge {t} {x + w - 1} {row} 1" for t in range(1, steps - 2, 2) for row in rows]
+        if x > 0:
+            modules += [f"halo * {x - 1} {row} 1" for row in rows]
+    return bundle((SIDE, height, steps), [], modules)
+
+
+def cuts_and_uses(full):
+    """check, modules: 1024 modules with the most cuts and used gates, with long names."""
+    names = [f"a_name_of_thirty_two_bytes__{k:04d}" for k in range(4096)]
+    circuit = [f"source 1 -> {name}" for name in names[:84]]
+    free, next_one = names[:84], 84
+    while len(circuit) < 1023 and next_one + 4 <= 4096:
+        circuit.append("interact %s %s -> %s %s %s %s" % (free.pop(), free.pop(), *names[next_one:next_one + 4]))
+        free += names[next_one:next_one + 4]
+        next_one += 4
+    circuit += [f"spill {name}" for name in free]
+    area = boxes(SIDE, SIDE if full else SIDE // 2, 16, 16)
+    cuts, uses = [f"cut {name}" for name in names[4000:4010]], [f"use {number}" for number in range(64)]
+    modules = (line for box in area for line in ["module %d %d %d %d" % box, *cuts, *uses])
+    return bundle((SIDE, SIDE if full else SIDE // 2, 1), [], modules, circuit)
+
+
+def alike_lines(full):
+    """check, modules: 14 MiB of lines that name the last of 4086 wires, whose hashes would fall together without a seed."""
+    names, height = alike_wires(4086), SIDE if full else SIDE // 2
+    circuit, free = [f"source 0 -> {name}" for name in names[:2]], names[:2]
+    for k in range(2, len(names), 4):
+        circuit.append("interact %s %s -> %s %s %s %s" % (*free[:2], *names[k:k + 4]))
+        free = free[2:] + names[k:k + 4]
+    circuit += [f"spill {name}" for name in free]
+    modules = []
+    for box in boxes(SIDE, height, 64, 64):
+        modules += ["module %d %d %d %d" % box, f"cut {names[-1]}"]
+        modules += timed("edge", edge_cells(SIDE, height, box), 4096, 9500, names[-1])
+    return bundle((SIDE, height, 4096), [], modules, circuit)
+
+
+def same_port(full):
+    """check, modules: each cell an input and an output of the same name."""
+    height = SIDE if full else SIDE // 2
+    ports = [f"{word} a {x} {y}" for word in ("in", "out") for x, y in cells(SIDE, height)]
+    modules = (line for box in boxes(SIDE, height, 16, 16) for line in ["module %d %d %d %d" % box, "cut a"])
+    return bundle((SIDE, height, 0), ports, modules, ["input a", "output a"])
+
+
+def alike_places(full):
+    """check, modules: balls and waste cells whose hashes fall together."""
+    height = SIDE if full else SIDE // 2
+    chosen = alike_cells(SIDE, height, SIDE * height // 4)
+    u, v = min(set(cells(SIDE, height)) - set(chosen))
+    parts = [f"ball {x} {y}" for x, y in chosen] + [f"in a {u} {v}", f"out a {u} {v}"] + [f"waste {x} {y}" for x, y in chosen]
+    modules = (line for box in boxes(SIDE, height, 16, 16) for line in ["module %d %d %d %d" % box, "cut a"])
+    return bundle((SIDE, height, 0), parts, modules, ["input a", "output a"])
+
+
+def many_modules(full):
+    """check, modules: 1024 modules without lines on the largest layout."""
+    height = SIDE if full else SIDE // 2
+    return bundle((SIDE, height, 0), [], ("module %d %d %d %d" % box for box in boxes(SIDE, height, 16, 16)))
+
+
+# ---- check: runs of modules
+
+def unlike(w, h, box):
+    """Two waste cells, which no other box of this size has, so that no two modules have one shape."""
+    x, y, a, b = box
+    number = (y // b) * (w // a) + x // a
+    one, other = number % (a * b), (a * b - 1 - number // (a * b))
+    return sorted({(x + one % a, y + one // a), (x + other % a, y + other // a)})
+
+
+def runs_of(w, h, a, b, steps, lines=0):
+    """Modules of a by b that run to the end without a fault, with ten cuts, each of another shape; with so many lines each."""
+    circuit = [*(f"source {k % 2} -> w{k}" for k in range(10)), "source 0 -> z", *(f"spill w{k}" for k in range(10)), "spill z"]
+    wastes, modules = set(), []
+    for box in boxes(w, h, a, b):
+        wastes.update(unlike(w, h, box))
+        modules += ["module %d %d %d %d" % box, *(f"cut w{k}" for k in range(10)), "use 10"]
+        for kind, places in (("edge", edge_cells(w, h, box)), ("halo", halo_cells(w, h, box))):
+            modules += timed(kind, places, steps, lines // 2, "z")
+    return bundle((w, h, steps), [f"waste {x} {y}" for x, y in sorted(wastes)], modules, circuit)
+
+
+def long_runs(full):
+    """check: 1024 modules of 64 by 4 cells, each of another shape, with ten cuts, that run for 4096 steps."""
+    return runs_of(SIDE, SIDE if full else SIDE // 2, 64, 4, 4096)
+
+
+def square_runs(full):
+    """check: the same of 64 modules of 64 by 64."""
+    return runs_of(SIDE, SIDE if full else SIDE // 2, 64, 64, 4096)
+
+
+def flat_runs(full):
+    """check: the same of 1024 modules of 64 by 2, on half the layout."""
+    return runs_of(SIDE, SIDE // 2 if full else SIDE // 4, 64, 2, 4096)
+
+
+def long_runs_with_lines(full):
+    """check: 1024 modules of 64 by 4, with ten cuts and 4096 steps, and 15 MiB of lines that are all dead."""
+    return runs_of(SIDE, SIDE if full else SIDE // 2, 64, 4, 4096, 830)
+
+
+KINDS = [run_names, run_alike_names, run_ports, run_mirrors, run_balls, one_line, spaces, value_wide, value_alike, borders, most_lines,
+         neighbours, stars, cuts_and_uses, alike_lines, same_port, alike_places, many_modules, long_runs, square_runs, flat_runs,
+         long_runs_with_lines]
+
+
+def main():
+    by_name = {kind.__name__: kind for kind in KINDS}
+    if sys.argv[1:] == ["--list"]:
+        print("".join(f"{name}: {kind.__doc__}\n" for name, kind in by_name.items()), end="")
+        return
+    if not sys.argv[1:] or sys.argv[1] not in by_name or sys.argv[2:] not in ([], ["half"], ["full"]):
+        sys.exit(__doc__)
+    text = by_name[sys.argv[1]](sys.argv[2:] != ["half"])
+    assert len(text) <= LONGEST, len(text)
+    sys.stdout.write(text)
+
+
+main()

@@ -1,0 +1,41 @@
+//! Every front of a bundle, in pieces of several lengths. What is expected follows from the format: the line behind the whole ones is not
+//! ended.
+
+use crate::devices::{FailingReader, FailingWriter, Seen, call};
+use std::alloc::Global;
+use std::sync::Wait;
+use std::thread::Threads;
+use test_support::GOOD;
+
+/// What `check` does over so many bytes of the bundle, in pieces of so many.
+fn checked_front<T: Threads + Wait + Sync>(
+    rt: &T,
+    alloc: Global,
+    length: usize,
+    piece: usize,
+) -> Seen {
+    let reader = FailingReader {
+        text: GOOD.as_bytes().get(..length).unwrap_or(b""),
+        piece,
+        calls_left: 10_000,
+    };
+    let writer = FailingWriter::new(alloc, 100, true);
+    let errors = FailingWriter::new(alloc, 100, true);
+    call(rt, alloc, &["check"], reader, writer, errors)
+}
+
+#[test]
+fn every_front_is_refused_at_its_end(rt: HostRuntime) {
+    let mut line = 1_u32;
+    for (length, byte) in GOOD.bytes().enumerate() {
+        let wanted = format!(in rt.alloc(); "refused {line} 12\n").expect(&rt, "a line");
+        for piece in [1, 2, 7, 4096] {
+            let seen = checked_front(&rt, rt.alloc(), length, piece);
+            assert!(rt; seen.is(3, wanted.as_bytes(), ""), "{length} {piece}");
+        }
+        if byte == b'\n' {
+            line = line.saturating_add(1);
+        }
+    }
+    assert!(rt; line == 44);
+}
