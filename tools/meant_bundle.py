@@ -125,7 +125,47 @@ def border_texts(kind, lines):
         yield f"{kind} {'*' if time < 0 else time} {x} {y} {signal}"
 
 
+def right_stops(rng, tables, local, box, history, steady):
+    """By place the wires that some cells of the box carry at some times. Where it is steady, wires of one value follow each other in time."""
+    stops, steps, inside = {}, len(history) - 1, cells_of(*box)
+    seen = [(time, y, x) for time in range(steps + 1) for x, y in sorted(inside & set(history[time]))]
+    for time, y, x in sorted(rng.sample(seen, min(len(seen), rng.choice([0, 1, 2, 4])))):
+        same = [wire for wire in local if tables.of[wire] == history[time][x, y]]
+        if same:
+            stops[time, y, x] = same[time * len(same) // (steps + 1)] if steady else rng.choice(same)
+    return stops
+
+
+def make_stop_wrong(rng, stops, local, box, steps):
+    x, y, w, h = box
+    if local:
+        stops[rng.randint(0, steps), rng.randrange(y, y + h), rng.randrange(x, x + w)] = rng.choice(local)
+
+
+def stop_texts(stops):
+    for (time, y, x), wire in sorted(stops.items()):
+        yield f"stop {time} {wire} {x} {y}"
+
+
+def timed(rng, gates, stops, mood):
+    """The lines of the gates, with numbers that the stops show to be right for most delays, and whether they do for all."""
+    times, lines, all_right = {}, [], True
+    for (time, _, _), wire in stops:
+        times.setdefault(wire, []).append(time)
+    for line, ins, outs in gates:
+        kind, _, *rest = line.split(" ")
+        if kind == "delay":
+            gap = min(times[outs[0]]) - max(times[ins[0]]) if ins[0] in times and outs[0] in times else 0
+            is_right = gap > 0 and rng.random() > mood.wrong
+            line, all_right = " ".join([kind, str(gap), *rest]) if is_right else line, all_right and is_right
+        lasts = {max(times[wire]) for wire in ins if wire in times}
+        lines.append(line)
+        all_right = all_right and len(lasts) < 2
+    return lines, all_right
+
+
 def module_lines(rng, tables, box, places, known, history, mood):
+    """The lines, and of the stops their places and wires."""
     x, y, w, h = box
     cuts, used, local = known
     rim, inside = places
@@ -136,7 +176,10 @@ def module_lines(rng, tables, box, places, known, history, mood):
         if rng.random() < mood.wrong:
             make_wrong(rng, lines, local, cells, len(history) - 1)
         texts += border_texts(kind, lines)
-    return texts
+    stops = right_stops(rng, tables, local, box, history, mood.steady)
+    if rng.random() < mood.wrong / 2:
+        make_stop_wrong(rng, stops, local, box, len(history) - 1)
+    return [*texts, *stop_texts(stops)], [*stops.items()]
 
 
 def end_cells(rng, tables, owners, solid, free, last, mood):
@@ -186,13 +229,15 @@ def meant_bundle(rng, is_dense=False, mood=WILD):
     known = [locals_of(rng, names, gates) for _ in boxes]
     owners = {cell: local for box, (_, _, local) in zip(boxes, known) for cell in cells_of(*box)}
     wastes, outs = end_cells(rng, tables, owners, solid, free, history[-1], mood)
+    modules = [module_lines(rng, tables, box, (ring(0, 0, width, height), inside), what, history, mood) for box, what in zip(boxes, known)]
+    gate_lines, are_right = timed(rng, gates, [stop for _, stops in modules for stop in stops], mood)
+    if mood is not WILD and not are_right:
+        return meant_bundle(rng, is_dense, mood)
     outputs = sorted({wire for wire, _ in outs})
-    texts = ["circuit", *(f"input {name}" for name in names), *(line for line, _, _ in gates)]
+    texts = ["circuit", *(f"input {name}" for name in names), *gate_lines]
     texts += [f"output {wire}" for wire in outputs] + [f"spill {wire}" for wire in free if wire not in outputs] + ["end"]
     texts += [f"layout {width} {height} {steps}", *("mirror %d %d %d %d" % box for box in mirrors)]
     texts += ["ball %d %d" % cell for cell in balls] + ["in %s %d %d" % (name, *cell) for name, cell in ins]
     texts += ["out %s %d %d" % (wire, *cell) for wire, cell in outs] + ["waste %d %d" % cell for cell in wastes] + ["end"]
-    texts.append("certificate 1")
-    for box, what in zip(boxes, known):
-        texts += module_lines(rng, tables, box, (ring(0, 0, width, height), inside), what, history, mood)
+    texts += ["certificate 1", *(line for lines, _ in modules for line in lines)]
     return "".join(text + "\n" for text in texts + ["end"]).encode()
