@@ -106,12 +106,12 @@ def alike_cells(w, h, count):
 def run_names(full):
     """run: as many input cells as there are cells, each with a name of its own, all on."""
     places = cells(SIDE, SIDE if full else SIDE // 2)
-    names = [f"name_of_an_input_x_{k:06d}"[:24] for k in range(len(places))]
+    names = [f"name_of_an_input__{k:06d}" for k in range(len(places))]
     return named_inputs(places, names, full)
 
 
 def run_alike_names(full):
-    """run: the same with names whose hashes would fall together without a seed."""
+    """run: the same with names whose hashes fall together."""
     places = cells(SIDE, SIDE if full else SIDE // 2)
     return named_inputs(places, alike_names(len(places), lambda hashed: hashed & 0x7FFF < 512), full)
 
@@ -131,9 +131,9 @@ def run_ports(full):
 
 
 def run_mirrors(full):
-    """run: each cell a mirror of its own, and all steps."""
+    """run: each cell but the corners a mirror of its own, and all steps."""
     height = SIDE if full else SIDE // 2
-    lines = (f"mirror {x} {y} 1 1" for x, y in cells(SIDE, height))
+    lines = (f"mirror {x} {y} 1 1" for x, y in cells(SIDE, height) if x not in (0, SIDE - 1) or y not in (0, height - 1))
     return joined([f"layout {SIDE} {height} 4096"], lines, ["end", "assign", "end"])
 
 
@@ -167,7 +167,7 @@ def value_wide(full):
 
 
 def value_alike(full):
-    """value: the same with names whose hashes would fall together without a seed, tags included."""
+    """value: the same with names whose hashes fall together, tags included."""
     names = alike_wires(4096 if full else 2048)
     return joined(["circuit"], *([f"{word} {name}" for name in names] for word in ("input", "output")), ["end", "assign"],
                   [f"on {name}" for name in names], ["end"])
@@ -234,35 +234,31 @@ def stars(full):
     return bundle((SIDE, height, steps), [], modules)
 
 
+def forked(names, sources):
+    """A circuit with these wires: so many sources, and gates that make four wires of two."""
+    circuit, free = [f"source 0 -> {name}" for name in names[:sources]], names[:sources]
+    for k in range(sources, len(names), 4):
+        circuit.append("interact %s %s -> %s %s %s %s" % (*free[:2], *names[k:k + 4]))
+        free = free[2:] + names[k:k + 4]
+    return circuit + [f"spill {name}" for name in free]
+
+
 def cuts_and_uses(full):
     """check, modules: 1024 modules with the most cuts and used gates, with long names."""
-    names = [f"a_name_of_thirty_two_bytes__{k:04d}" for k in range(4096)]
-    circuit = [f"source 1 -> {name}" for name in names[:84]]
-    free, next_one = names[:84], 84
-    while len(circuit) < 1023 and next_one + 4 <= 4096:
-        circuit.append("interact %s %s -> %s %s %s %s" % (free.pop(), free.pop(), *names[next_one:next_one + 4]))
-        free += names[next_one:next_one + 4]
-        next_one += 4
-    circuit += [f"spill {name}" for name in free]
-    area = boxes(SIDE, SIDE if full else SIDE // 2, 16, 16)
+    names = [f"a_name_of_thirty_two_bytes__{k:04d}" for k in range(22 + 4 * 1001)]
     cuts, uses = [f"cut {name}" for name in names[4000:4010]], [f"use {number}" for number in range(64)]
+    area = boxes(SIDE, SIDE if full else SIDE // 2, 16, 16)
     modules = (line for box in area for line in ["module %d %d %d %d" % box, *cuts, *uses])
-    return bundle((SIDE, SIDE if full else SIDE // 2, 1), [], modules, circuit)
+    return bundle((SIDE, SIDE if full else SIDE // 2, 1), [], modules, forked(names, 22))
 
 
 def alike_lines(full):
-    """check, modules: 14 MiB of lines that name the last of 4086 wires, whose hashes would fall together without a seed."""
-    names, height = alike_wires(4086), SIDE if full else SIDE // 2
-    circuit, free = [f"source 0 -> {name}" for name in names[:2]], names[:2]
-    for k in range(2, len(names), 4):
-        circuit.append("interact %s %s -> %s %s %s %s" % (*free[:2], *names[k:k + 4]))
-        free = free[2:] + names[k:k + 4]
-    circuit += [f"spill {name}" for name in free]
-    modules = []
+    """check, modules: 14 MiB of lines that name the last of 4086 wires, whose hashes fall together."""
+    names, height, modules = alike_wires(4086), SIDE if full else SIDE // 2, []
     for box in boxes(SIDE, height, 64, 64):
         modules += ["module %d %d %d %d" % box, f"cut {names[-1]}"]
         modules += timed("edge", edge_cells(SIDE, height, box), 4096, 9500, names[-1])
-    return bundle((SIDE, height, 4096), [], modules, circuit)
+    return bundle((SIDE, height, 4096), [], modules, forked(names, 2))
 
 
 def same_port(full):
@@ -271,6 +267,18 @@ def same_port(full):
     ports = [f"{word} a {x} {y}" for word in ("in", "out") for x, y in cells(SIDE, height)]
     modules = (line for box in boxes(SIDE, height, 16, 16) for line in ["module %d %d %d %d" % box, "cut a"])
     return bundle((SIDE, height, 0), ports, modules, ["input a", "output a"])
+
+
+def most_memory(full):
+    """check, modules: the same, and border lines up to 16 MiB."""
+    height = SIDE if full else SIDE // 2
+    ports = [f"{word} a {x} {y}" for word in ("in", "out") for x, y in cells(SIDE, height)]
+    modules = []
+    for box in boxes(SIDE, height, 16, 16):
+        modules += ["module %d %d %d %d" % box, "cut a"]
+        modules += timed("edge", edge_cells(SIDE, height, box), 4096, 270, "1")
+        modules += timed("halo", halo_cells(SIDE, height, box), 4096, 270, "1")
+    return bundle((SIDE, height, 4096), ports, modules, ["input a", "output a"])
 
 
 def alike_places(full):
@@ -332,14 +340,14 @@ def long_runs_with_lines(full):
 
 
 KINDS = [run_names, run_alike_names, run_ports, run_mirrors, run_balls, one_line, spaces, value_wide, value_alike, borders, most_lines,
-         neighbours, stars, cuts_and_uses, alike_lines, same_port, alike_places, many_modules, long_runs, square_runs, flat_runs,
+         neighbours, stars, cuts_and_uses, alike_lines, same_port, most_memory, alike_places, many_modules, long_runs, square_runs, flat_runs,
          long_runs_with_lines]
 
 
 def main():
     by_name = {kind.__name__: kind for kind in KINDS}
     if sys.argv[1:] == ["--list"]:
-        print("".join(f"{name}: {kind.__doc__}\n" for name, kind in by_name.items()), end="")
+        print("".join(f"{name}: {' '.join(kind.__doc__.split())}\n" for name, kind in by_name.items()), end="")
         return
     if not sys.argv[1:] or sys.argv[1] not in by_name or sys.argv[2:] not in ([], ["half"], ["full"]):
         sys.exit(__doc__)
