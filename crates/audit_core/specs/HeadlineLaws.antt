@@ -29,7 +29,7 @@ pub record BelongTogether (lines : List Entry) (p : Pattern) (ms : List ModuleLi
   pub are_modules : AreModules (setting_of lines p) ms
   pub are_jobs : AreJobsOf (circuit_of lines) p ms jobs
 
--- such a bundle, in which neither a job nor a border has a fault
+-- such a bundle, in which neither a job nor a border has a fault, and the rules on delays and meetings are kept
 pub record IsAcceptedBundle (lines : List Entry) (p : Pattern) (ms : List ModuleLines) (jobs : List JobState) : Type 0 where
   pub bundle : BelongTogether lines p ms jobs
   pub accepted : Accepts (setting_of lines p) ms jobs

@@ -12,7 +12,8 @@ use Rattle.audit_core.specs.Implements.{run_under}
 abbrev pub StopHolds : Circuit → Pattern → StopLine → Type 0
 StopHolds c p s = (inputs v : Valuation) → Satisfies c.netlist inputs v → run_under c p inputs s.time s.cell.x s.cell.y ≡ values_by_name c v s.wire
 
--- all stops of modules do, and by them each delay takes as many steps as it says, and inputs of a gate meet
+-- All stops of modules do, and the rules on delays and meetings are kept by them. What that means, gate by gate, is `AreOnTime` of
+-- certificate/specs/Arrivals.antt, by the law `lines_tell_of_gates`.
 pub record IsOnTime (c : Circuit) (p : Pattern) (ms : List ModuleLines) : Type 0 where
   pub stops : All (StopHolds c p) (all_stops ms)
   pub times : IsTrue (are_all_kept (time_lines c ms))

@@ -25,7 +25,7 @@ pub record SaysBundle (text : List ℕ) (circuit : List CircuitLine) (layout : P
   pub certificate_is : IsSection certificate_form third version certificate
 
 -- Each stop of the text's certificate holds on the whole plane, for all values of the inputs; and by its stops each delay takes as many steps as
--- it says, and the inputs of each gate meet.
+-- it says, and the inputs of each gate meet. The circuit and the layout are those of `IsRight`, since a text says one of each (`SaysOneDesign`).
 pub record HasRightStops (text : List ℕ) : Type 0 where
   pub circuit : List CircuitLine
   pub layout : Pattern

@@ -33,15 +33,15 @@ pub fn yes_means_right()
     ensures told { FourthLineTells }
 {}
 
-/// A text begins with one circuit, one layout and one certificate at most. Where it is not refused, each of their lines is good after those before it, by
-/// names, limits and cells, and is spelled in the one way.
+/// A text begins with one circuit, one layout and one certificate at most. Where it is not refused, each line of the circuit and of
+/// the layout is good after those before it, by names, limits and cells, and is spelled in the one way.
 pub fn says_one_design()
     ensures one { SaysOneDesign }
     ensures certificate { SaysOneCertificate }
     ensures good { ReportsOnGoodDesigns }
 {}
 
-/// Something is reported with a yes: the text of four modules with a gate.
+/// Something is reported with a yes: the text of four modules with a gate, a delay and stops.
 pub fn something_is_accepted()
     ensures { TimedModulesAreAccepted }
 {}

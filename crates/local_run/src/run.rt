@@ -67,8 +67,8 @@ fn least_fault(alloc: Global, job: &Job) -> Result<Option<Fault>, AllocError>
     Ok(first_fault(&planes, &values, job, last, Kind::End))
 }
 
-/// Runs a job under all assignments of its cuts, for a module of this number of the certificate with this digest. This is the
-/// only maker of findings. `AllocError` is want of memory, and nothing else keeps it from a finding.
+/// Runs a job under all assignments of its cuts, for a module of this number of the certificate with this digest. This and
+/// [`Finding::for_job`] are the only makers of findings. `AllocError` is want of memory, and nothing else keeps it from a finding.
 pub fn run_job(
     alloc: Global,
     digest: [u8; 32],

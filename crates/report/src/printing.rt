@@ -26,8 +26,8 @@ pub fn refusal_text(alloc: Global, refusal: Refusal) -> Result<Vec<u8>, AllocErr
 }
 
 /// The report on a certificate with this verdict: the version of reports, the certificate's SHA-256 as 64 digits in lower case,
-/// how many modules it has, the verdict, after a no a line for each fault in the verdict's order, and then in any case what stops
-/// say of delays and meetings. `AllocError` is want of memory.
+/// how many modules it has, the verdict, and then after a no the verdict's lines in their order, after a yes what the certificate's
+/// stops say of delays and meetings. `AllocError` is want of memory.
 #[tactic(auto, unfolding(crate::specs::ReportText::report_lines))]
 pub fn report_text(alloc: Global, cert: &Cert<'_>, verdict: &Verdict) -> Result<Vec<u8>, AllocError>
     ensures { IfOk result (λ text. text.items ≡ report_lines cert.now verdict.now) }
