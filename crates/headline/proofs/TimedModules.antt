@@ -323,7 +323,9 @@ is_ordered = (All-from_recursion (λ w. w < 2) (0 ∷ 1 ∷ []) (omega arith, (o
 third_is_ordered : AreOrdered 3 (third_gate ∷ delay ∷ [])
 unfolding AreOrdered
 third_is_ordered = (
-  All-from_recursion (λ w. w < 3) (0 ∷ 1 ∷ []) (omega arith, (omega arith, tt)), refl, refl,
+  All-from_recursion (λ w. w < 3) (0 ∷ 1 ∷ []) (omega arith, (omega arith, tt)),
+  refl,
+  refl,
   (All-from_recursion (λ w. w < 7) (2 ∷ []) (omega arith, tt), refl, refl, tt),
 )
 
