@@ -16,7 +16,7 @@ use crate::number::WireNo;
 use crate::sets::{consume_all, define_all};
 use crate::wiring::{GateWires, add_wires, wire_numbers};
 use indexmap::IndexSet;
-use section_text::{LineFault, Name, Names};
+use section_text::{LineFault, Name, Names, Seed};
 use std::alloc::{AllocError, Global};
 use std::marker::Model;
 
@@ -29,8 +29,8 @@ const GATES: usize = 1024;
 /// A circuit to which lines are added: inputs, then gates, outputs and spills. Contracts see the lines so far.
 #[derive(Drop)]
 pub struct Draft {
-    wires: IndexSet<Name>,
-    consumed: IndexSet<Name>,
+    wires: IndexSet<Name, Seed>,
+    consumed: IndexSet<Name, Seed>,
     entries: Vec<Entry>,
     wired: Vec<GateWires>,
     gates: usize,
@@ -75,7 +75,7 @@ fn is_gate_kind(kind: Kind) -> bool
 }
 
 // The first name that is not among the consumed ones.
-fn first_unused(wires: &[Name], consumed: &IndexSet<Name>) -> Option<Name>
+fn first_unused(wires: &[Name], consumed: &IndexSet<Name, Seed>) -> Option<Name>
     ensures { result ≡ unused consumed.now.keys wires.now }
 {
     for name in wires {
@@ -88,8 +88,8 @@ fn first_unused(wires: &[Name], consumed: &IndexSet<Name>) -> Option<Name>
 
 // Consumes and defines the names of a line. A fault changes nothing.
 fn take_names(
-    wires: &mut IndexSet<Name>,
-    consumed: &mut IndexSet<Name>,
+    wires: &mut IndexSet<Name, Seed>,
+    consumed: &mut IndexSet<Name, Seed>,
     entry: &Entry,
 ) -> Result<(), LineFault>
     ensures ins { OnOk result ((consume wires.old.keys consumed.old.keys entry.now.ins ≡ None) × (consumed.new.keys ≡ consumed.old.keys ++ entry.now.ins)) }
@@ -129,13 +129,20 @@ fn keep_line(
 }
 
 impl Draft {
-    /// No lines.
+    /// No lines. Who takes names that another chose, makes it by `seeded`.
     pub fn new(alloc: Global) -> Draft
         ensures { result ≡ [] }
     {
+        Draft::seeded(alloc, Seed::of(&[]))
+    }
+
+    /// No lines. The names are looked up in tables that hash by the seed, which changes no result.
+    pub fn seeded(alloc: Global, seed: Seed) -> Draft
+        ensures { result ≡ [] }
+    {
         Draft {
-            wires: IndexSet::new(alloc),
-            consumed: IndexSet::new(alloc),
+            wires: IndexSet::with_hasher(alloc, seed),
+            consumed: IndexSet::with_hasher(alloc, seed),
             entries: Vec::new(alloc),
             wired: Vec::new(alloc),
             gates: 0,

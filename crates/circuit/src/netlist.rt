@@ -9,7 +9,7 @@ use crate::entry::{Entry, Kind};
 use crate::number::{GateNo, WireNo};
 use crate::wiring::{GateWires, values_of};
 use indexmap::IndexSet;
-use section_text::Name;
+use section_text::{Name, Seed};
 use std::alloc::{AllocError, Global};
 use std::marker::Model;
 
@@ -17,7 +17,7 @@ use std::marker::Model;
 /// uses wires that were defined before it. It has at most 4096 wires and 1024 gates. Contracts see its lines.
 #[derive(Drop)]
 pub struct Circuit {
-    pub(crate) wires: IndexSet<Name>,
+    pub(crate) wires: IndexSet<Name, Seed>,
     pub(crate) entries: Vec<Entry>,
     pub(crate) wired: Vec<GateWires>,
 }

@@ -67,7 +67,7 @@ pub fn read_circuit(alloc: Global, feed: &mut Feed) -> Result<Circuit, ReadFault
     ensures { Reads circuit_grammar circuit_value feed.old feed.new result }
 {
     let mut reading = Reading {
-        draft: Draft::new(alloc),
+        draft: Draft::seeded(alloc, feed.seed()),
         rank: 0,
     };
     match read_section(feed, &mut reading) {

@@ -5,11 +5,11 @@ ghost use Rattle.circuit.specs.Rules.{consume, define};
 ghost use Rattle.section_text.specs.Adding.{FaultIs};
 
 use indexmap::IndexSet;
-use section_text::{LineFault, Name};
+use section_text::{LineFault, Name, Seed};
 
 fn consume_one(
-    wires: &IndexSet<Name>,
-    consumed: &mut IndexSet<Name>,
+    wires: &IndexSet<Name, Seed>,
+    consumed: &mut IndexSet<Name, Seed>,
     name: Name,
 ) -> Result<(), LineFault>
     ensures ok { OnOk result ((has wires.now.keys name ≡ true) × (has consumed.old.keys name ≡ false) × (consumed.new.keys ≡ consumed.old.keys ++ name ∷ [])) }
@@ -26,7 +26,7 @@ fn consume_one(
     }
 }
 
-fn define_one(wires: &mut IndexSet<Name>, name: Name) -> Result<(), LineFault>
+fn define_one(wires: &mut IndexSet<Name, Seed>, name: Name) -> Result<(), LineFault>
     ensures ok { OnOk result ((has wires.old.keys name ≡ false) × (wires.new.keys ≡ wires.old.keys ++ name ∷ [])) }
     ensures err { OnErr result (wires.new.keys ≡ wires.old.keys) }
     ensures fault { IfErr result (λ e. FaultIs e (define wires.old.keys (name ∷ []))) }
@@ -40,8 +40,8 @@ fn define_one(wires: &mut IndexSet<Name>, name: Name) -> Result<(), LineFault>
 
 /// Consumes names from left to right. A fault changes nothing.
 pub fn consume_all(
-    wires: &IndexSet<Name>,
-    consumed: &mut IndexSet<Name>,
+    wires: &IndexSet<Name, Seed>,
+    consumed: &mut IndexSet<Name, Seed>,
     names: &[Name],
 ) -> Result<(), LineFault>
     ensures ok { OnOk result ((consume wires.now.keys consumed.old.keys names.now ≡ None) × (consumed.new.keys ≡ consumed.old.keys ++ names.now)) }
@@ -59,7 +59,7 @@ pub fn consume_all(
 }
 
 /// Defines names from left to right. A fault changes nothing.
-pub fn define_all(wires: &mut IndexSet<Name>, names: &[Name]) -> Result<(), LineFault>
+pub fn define_all(wires: &mut IndexSet<Name, Seed>, names: &[Name]) -> Result<(), LineFault>
     ensures ok { OnOk result ((define wires.old.keys names.now ≡ None) × (wires.new.keys ≡ wires.old.keys ++ names.now)) }
     ensures err { OnErr result (wires.new.keys ≡ wires.old.keys) }
     ensures fault { IfErr result (λ e. FaultIs e (define wires.old.keys names.now)) }

@@ -10,7 +10,7 @@ ghost use Rattle.circuit.specs.Wiring.{gate_of, gate_at};
 use crate::entry::{GateKind, Kind};
 use crate::number::WireNo;
 use indexmap::IndexSet;
-use section_text::Name;
+use section_text::{Name, Seed};
 use std::alloc::{AllocError, Global};
 
 /// A gate of a circuit: its kind, and the numbers of its wires. Contracts see it by `gate_of`.
@@ -45,7 +45,7 @@ impl GateWires {
     }
 }
 
-fn wire_number(wires: &IndexSet<Name>, name: Name) -> WireNo
+fn wire_number(wires: &IndexSet<Name, Seed>, name: Name) -> WireNo
     requires { length wires.now.keys ≤ 4096 }
     ensures { result ≡ number wires.now.keys name }
 {
@@ -56,7 +56,7 @@ fn wire_number(wires: &IndexSet<Name>, name: Name) -> WireNo
 }
 
 /// The numbers of wires that are named.
-pub(crate) fn wire_numbers(wires: &IndexSet<Name>, names: &[Name]) -> [WireNo; 4]
+pub(crate) fn wire_numbers(wires: &IndexSet<Name, Seed>, names: &[Name]) -> [WireNo; 4]
     requires few { length names.now ≤ 4 }
     requires fits { length wires.now.keys ≤ 4096 }
     ensures { take (length names.now) result ≡ map (number wires.now.keys) names.now }

@@ -1,5 +1,5 @@
 -- The fields of a reader of layouts, and what contracts see of them.
-use Rattle.std.specs.Prelude.{◌≡◌, ◌||◌, ℕ, List}
+use Rattle.std.specs.Prelude.{◌≡◌, ◌||◌, ℕ, List, false}
 use Rattle.std.specs.List.{list_any}
 use Rattle.pattern.specs.Layout.{parts_of}
 use Rattle.section_text.specs.Ports.{named_ports}
@@ -14,5 +14,5 @@ reading_state a = record { ports = named_ports a.ports.now; layout = a.draft }
 pub record IsReading (a : Inside) : Type 0 where
   pub known_ins : (n : List ℕ) → is_in_name (named_ports a.ports.now) n ≡ (is_any (named_ports a.ports.now) || has a.known_ins.keys n)
   pub known_outs : (n : List ℕ) → is_out_name (named_ports a.ports.now) n ≡ (is_any (named_ports a.ports.now) || has a.known_outs.keys n)
-  pub seen_ins : (n : List ℕ) → has a.seen_ins.keys n ≡ list_any (is_in n) (parts_of a.draft)
-  pub seen_outs : (n : List ℕ) → has a.seen_outs.keys n ≡ list_any (is_out n) (parts_of a.draft)
+  pub seen_ins : is_any (named_ports a.ports.now) ≡ false → (n : List ℕ) → has a.seen_ins.keys n ≡ list_any (is_in n) (parts_of a.draft)
+  pub seen_outs : is_any (named_ports a.ports.now) ≡ false → (n : List ℕ) → has a.seen_outs.keys n ≡ list_any (is_out n) (parts_of a.draft)

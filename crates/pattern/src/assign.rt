@@ -7,7 +7,7 @@ ghost use Rattle.pattern.specs.Assign.{assign_form, assign_grammar, assign_value
 
 use crate::names::index_of;
 use indexmap::IndexSet;
-use section_text::{Feed, Form, Line, LineFault, Name, ReadFault, Section, read_section};
+use section_text::{Feed, Form, Line, LineFault, Name, ReadFault, Section, Seed, read_section};
 use std::alloc::Global;
 
 #[tactic(auto, unfolding(crate::specs::Assign::assign_form))]
@@ -30,8 +30,8 @@ fn line_form(feed: &Feed, line: &Line) -> Option<Form<(), Name>>
 #[derive(Drop)]
 struct Assigning<'a> {
     ins: &'a [Name],
-    known: IndexSet<Name>,
-    on: IndexSet<Name>,
+    known: IndexSet<Name, Seed>,
+    on: IndexSet<Name, Seed>,
     ghost indexed: { (n : List ℕ) → has known.keys n ≡ has ins.now n },
 }
 
@@ -108,10 +108,11 @@ pub fn read_assign(alloc: Global, feed: &mut Feed, ins: &[Name]) -> Result<Vec<N
     let Ok(known) = index_of(alloc, ins) else {
         return Err(feed.starve());
     };
+    let on = IndexSet::with_hasher(alloc, *known.hasher());
     let mut reading = Assigning {
         ins,
         known,
-        on: IndexSet::new(alloc),
+        on,
     };
     read_names(alloc, feed, &mut reading)
 }

@@ -5,12 +5,12 @@ ghost use Rattle.indexmap.specs.IndexSet.{spare};
 ghost use Rattle.section_text.specs.Words.{has};
 
 use indexmap::IndexSet;
-use section_text::Name;
+use section_text::{Name, Seed};
 use std::alloc::{AllocError, Global};
 
 /// Adds a name, if it is not there.
 #[tactic(auto, using(crate::proofs::NameSets::has_push, crate::proofs::NameSets::has_again))]
-pub(crate) fn add_name(index: &mut IndexSet<Name>, name: Name) -> Result<(), AllocError>
+pub(crate) fn add_name(index: &mut IndexSet<Name, Seed>, name: Name) -> Result<(), AllocError>
     ensures ok { OnOk result ((n : List ℕ) → has index.new.keys n ≡ (has index.old.keys n || bytes_eq n name)) }
     ensures err { OnErr result (index.new.keys ≡ index.old.keys) }
 {
@@ -23,7 +23,7 @@ pub(crate) fn add_name(index: &mut IndexSet<Name>, name: Name) -> Result<(), All
 
 /// Adds a name, if it is not there, where there is room.
 #[tactic(auto, using(crate::proofs::NameSets::has_push, crate::proofs::NameSets::has_again))]
-pub(crate) fn put_name(index: &mut IndexSet<Name>, name: Name)
+pub(crate) fn put_name(index: &mut IndexSet<Name, Seed>, name: Name)
     requires { 0 < spare index.old }
     ensures { (n : List ℕ) → has index.new.keys n ≡ (has index.old.keys n || bytes_eq n name) }
 {
@@ -34,11 +34,11 @@ pub(crate) fn put_name(index: &mut IndexSet<Name>, name: Name)
     }
 }
 
-/// The set of the names of a list.
-pub(crate) fn index_of(alloc: Global, names: &[Name]) -> Result<IndexSet<Name>, AllocError>
+/// The set of the names of a list. It hashes by the seed of these names.
+pub(crate) fn index_of(alloc: Global, names: &[Name]) -> Result<IndexSet<Name, Seed>, AllocError>
     ensures { IfOk result (λ index. (n : List ℕ) → has index.keys n ≡ has names.now n) }
 {
-    let mut index = IndexSet::new(alloc);
+    let mut index = IndexSet::with_hasher(alloc, Seed::of_names(names));
     for name in names {
         add_name(&mut index, *name)?;
     }

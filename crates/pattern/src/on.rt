@@ -4,10 +4,14 @@ ghost use Rattle.section_text.specs.Words.{has};
 
 use crate::names::index_of;
 use indexmap::IndexSet;
-use section_text::Name;
+use section_text::{Name, Seed};
 use std::alloc::{AllocError, Global};
 
-fn push_bits(bits: &mut Vec<bool>, names: &[Name], on: &IndexSet<Name>) -> Result<(), AllocError>
+fn push_bits(
+    bits: &mut Vec<bool>,
+    names: &[Name],
+    on: &IndexSet<Name, Seed>,
+) -> Result<(), AllocError>
     ensures { OnOk result (bits.new.items ≡ bits.old.items ++ map (λ n. has on.now.keys n) names.now) }
 {
     for name in names {

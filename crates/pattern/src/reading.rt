@@ -16,7 +16,7 @@ use crate::names::{index_of, put_name};
 use crate::parts::{Extent, Part};
 use indexmap::IndexSet;
 use section_text::{
-    Feed, Form, Line, LineFault, Name, PortNames, ReadFault, Section, read_section,
+    Feed, Form, Line, LineFault, Name, PortNames, ReadFault, Section, Seed, read_section,
 };
 use std::alloc::{AllocError, Global};
 use std::marker::Model;
@@ -27,11 +27,11 @@ struct Reading<'a> {
     alloc: Global,
     ports: &'a PortNames,
     // the names that ports may have, where not all are good
-    known_ins: IndexSet<Name>,
-    known_outs: IndexSet<Name>,
-    // the names that have a port
-    seen_ins: IndexSet<Name>,
-    seen_outs: IndexSet<Name>,
+    known_ins: IndexSet<Name, Seed>,
+    known_outs: IndexSet<Name, Seed>,
+    // those that have a port, where not all are good
+    seen_ins: IndexSet<Name, Seed>,
+    seen_outs: IndexSet<Name, Seed>,
     draft: Draft,
 }
 
@@ -57,7 +57,7 @@ fn are_any(ports: &PortNames) -> bool
 }
 
 // Whether the set has all these names.
-fn has_all(set: &IndexSet<Name>, names: &[Name]) -> bool
+fn has_all(set: &IndexSet<Name, Seed>, names: &[Name]) -> bool
     ensures { result ≡ list_all (λ n. has set.now.keys n) names.now }
 {
     for name in names {
@@ -69,7 +69,7 @@ fn has_all(set: &IndexSet<Name>, names: &[Name]) -> bool
 }
 
 // Notes that the name of a port has one.
-fn note_port(ins: &mut IndexSet<Name>, outs: &mut IndexSet<Name>, part: &Part)
+fn note_port(ins: &mut IndexSet<Name, Seed>, outs: &mut IndexSet<Name, Seed>, part: &Part)
     requires room_in { 0 < spare ins.old }
     requires room_out { 0 < spare outs.old }
     ensures ins { (n : List ℕ) → has ins.new.keys n ≡ (has ins.old.keys n || is_in n part.now) }
@@ -92,6 +92,8 @@ impl<'a> Reading<'a> {
         ensures parts { IfOk result (λ reading. parts_of reading.layout ≡ []) }
     {
         let (known_ins, known_outs) = known_names(alloc, ports)?;
+        let seen_ins = IndexSet::with_hasher(alloc, *known_ins.hasher());
+        let seen_outs = IndexSet::with_hasher(alloc, *known_outs.hasher());
         let smallest = Extent {
             w: 2,
             h: 2,
@@ -103,8 +105,8 @@ impl<'a> Reading<'a> {
             ports,
             known_ins,
             known_outs,
-            seen_ins: IndexSet::new(alloc),
-            seen_outs: IndexSet::new(alloc),
+            seen_ins,
+            seen_outs,
             draft,
         })
     }
@@ -166,12 +168,12 @@ impl<'a> Reading<'a> {
 fn known_names(
     alloc: Global,
     ports: &PortNames,
-) -> Result<(IndexSet<Name>, IndexSet<Name>), AllocError>
+) -> Result<(IndexSet<Name, Seed>, IndexSet<Name, Seed>), AllocError>
     ensures ins { IfOk result (λ known. (n : List ℕ) → is_in_name (named_ports ports.now) n ≡ (is_any (named_ports ports.now) || has known.0.keys n)) }
     ensures outs { IfOk result (λ known. (n : List ℕ) → is_out_name (named_ports ports.now) n ≡ (is_any (named_ports ports.now) || has known.1.keys n)) }
 {
     match ports {
-        PortNames::Any => Ok((IndexSet::new(alloc), IndexSet::new(alloc))),
+        PortNames::Any => Ok((index_of(alloc, &[])?, index_of(alloc, &[])?)),
         PortNames::Only { ins, outs } => {
             let ins = index_of(alloc, ins)?;
             let outs = index_of(alloc, outs)?;
@@ -210,6 +212,9 @@ impl<'a> Section for Reading<'a> {
     fn add(&mut self, part: Part) -> Result<(), LineFault> {
         if let Some(code) = self.line_code(&part) {
             return Err(LineFault::Code(code));
+        }
+        if are_any(self.ports) {
+            return self.draft.add(self.alloc, part);
         }
         if self.seen_ins.reserve(1).is_err() || self.seen_outs.reserve(1).is_err() {
             return Err(LineFault::Memory);

@@ -13,7 +13,7 @@ use crate::rectangle::push_rectangle;
 use crate::taken::make_live;
 use bbm_rule::{Cell, Grid};
 use indexmap::IndexSet;
-use section_text::Name;
+use section_text::{Name, Seed};
 use std::alloc::{AllocError, Global};
 
 /// How the whole run of a layout ends.
@@ -35,7 +35,11 @@ fn push_mirrors(out: &mut Vec<Cell>, mirrors: &[Rectangle]) -> Result<(), AllocE
     Ok(())
 }
 
-fn push_ports_in(out: &mut Vec<Cell>, ports: &[Port], on: &IndexSet<Name>) -> Result<(), AllocError>
+fn push_ports_in(
+    out: &mut Vec<Cell>,
+    ports: &[Port],
+    on: &IndexSet<Name, Seed>,
+) -> Result<(), AllocError>
     ensures { OnOk result (out.new.items ≡ out.old.items ++ map (λ q. q.cell) (filter (λ q. has on.now.keys q.name) ports.now)) }
 {
     for port in ports {

@@ -12,3 +12,4 @@ pub mod Laws
 pub mod Ports
 pub mod Listed
 pub mod SaidSection
+pub mod Seeding

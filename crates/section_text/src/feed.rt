@@ -1,5 +1,5 @@
 //! A text in pieces, taken line by line.
-ghost use Rattle.std.specs.Prelude.{drop, ◌≡◌, ℕ, ◌+◌, ◌-◌, ◌^◌, ◌<◌, ◌≤◌, ◌↔◌, true, false, List, [], ◌∷◌, ◌++◌, length, Option, Some, None, Ok, Err, IsTrue, IsOk, IfOk, IfErr, ◌≢◌, OnOk, OnErr, IfSome, MatchOption, unwrap_or, slice_get, slice_range, option_and_then, map};
+ghost use Rattle.std.specs.Prelude.{drop, take, ◌≡◌, ℕ, ◌+◌, ◌-◌, ◌^◌, ◌<◌, ◌≤◌, ◌↔◌, true, false, List, [], ◌∷◌, ◌++◌, length, Option, Some, None, Ok, Err, IsTrue, IsOk, IfOk, IfErr, ◌≢◌, OnOk, OnErr, IfSome, MatchOption, unwrap_or, slice_get, slice_range, option_and_then, map};
 ghost use Rattle.std.specs.Option.{option_copied, option_map, ForSome};
 ghost use Rattle.std.specs.List.{position, list_all};
 ghost use Rattle.section_text.specs.Codes.{text_cut};
@@ -7,16 +7,21 @@ ghost use Rattle.section_text.specs.Words.{is_digit, is_number, read_on, is_word
 ghost use Rattle.section_text.specs.declared.fault.ReadFault.TheVariants.{Memory};
 ghost use Rattle.section_text.specs.Listed.{listed};
 ghost use Rattle.section_text.specs.Faults.{refusal};
+ghost use Rattle.section_text.specs.Seeding.{seed_of};
 ghost use Rattle.section_text.specs.FeedState.{FeedState, ahead, after_lines, IsLine, line_bytes, text_limit, TakesLine, RunsOut};
 
 use crate::fault::{PushFault, ReadFault, Refusal};
 use crate::name::Name;
 use crate::names::Names;
+use crate::seed::Seed;
 use std::alloc::Global;
 use std::marker::Model;
 
 /// The longest text, in bytes: 16 MiB.
 pub const LONGEST: usize = 16_777_216;
+
+// How much of a text a seed is of, in bytes: 1 MiB, which is more than the longest circuit section has.
+const SEEDED: usize = 1_048_576;
 
 /// A text that comes in pieces and is then taken line by line.
 ///
@@ -104,6 +109,17 @@ fn five_in(line: &[u8]) -> Option<FiveWords<'_>>
             fourth,
             fifth,
         }),
+    }
+}
+
+// The bytes, or the first of them where there are more than so many.
+fn first_bytes(bytes: &[u8], most: usize) -> &[u8]
+    ensures { result.now ≡ take most bytes.now }
+{
+    if bytes.len() <= most {
+        bytes
+    } else {
+        &bytes[..most]
     }
 }
 
@@ -227,6 +243,14 @@ impl Feed {
         ensures { result ≡ self.now.stop }
     {
         self.stop
+    }
+
+    /// The seed for tables of a circuit's names, where the text begins with the circuit: that of its first 1,048,576 bytes. A circuit
+    /// section of more has a line that is refused, by the limits on wires and gates.
+    pub fn seed(&self) -> Seed
+        ensures { result ≡ seed_of (take 1048576 self.now.text) }
+    {
+        Seed::of(first_bytes(&self.bytes, SEEDED))
     }
 
     /// The next line that a line feed ends. Where there is none, code 12 at the line after those taken, for good. A

@@ -9,6 +9,7 @@ mod names;
 mod ports;
 mod reader;
 mod section;
+mod seed;
 mod spelling;
 
 pub use fault::{PushFault, ReadFault, Refusal};
@@ -17,5 +18,6 @@ pub use name::Name;
 pub use names::Names;
 pub use ports::PortNames;
 pub use reader::{Section, read_section};
+pub use seed::Seed;
 pub use section::{Form, LineFault};
 pub use spelling::{print_number, print_word};

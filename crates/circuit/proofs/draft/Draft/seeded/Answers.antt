@@ -4,16 +4,16 @@ use Rattle.circuit.specs.declared.entry.Entry.{Entry}
 use Rattle.circuit.specs.Wiring.{gate_of}
 use Rattle.circuit.specs.Rules.{consumed, gate_count}
 use Rattle.circuit.specs.Bridge.{AreGood, AreGoodAfter, gates_of}
-use Rattle.circuit.proofs.draft.Draft.new.Goals as goal
+use Rattle.circuit.proofs.draft.Draft.seeded.Goals as goal
 
 pub invariant_of-result : goal.invariant_of-result
 unfolding AreGoodAfter
 invariant_of-result c =
-    let entries : [] ≡ c.new-3.result.items = sym c.new-3.ensures.items in
-    let wired : c.new-4.result.items ≡ [] = c.new-4.ensures.items in
+    let entries : [] ≡ c.new.result.items = sym c.new.ensures.items in
+    let wired : c.new-2.result.items ≡ [] = c.new-2.ensures.items in
     record {
-      wires = c.new.ensures.empty ∙ ap defined entries;
-      consumed = c.new-2.ensures.empty ∙ ap consumed entries;
+      wires = c.with_hasher.ensures.empty ∙ ap defined entries;
+      consumed = c.with_hasher-2.ensures.empty ∙ ap consumed entries;
       gates = ap gate_count entries;
       few_gates = omega arith;
       few_wires = omega (arith, ap (λ (l : List Entry). length (defined l)) entries);
