@@ -14,7 +14,7 @@ use crate::bundle::report_of_text;
 use answers::{Answered, Outcome, modules_text, run_text, value_text};
 use device::{Sink, Source};
 use job_pool::Gate;
-use section_text::{Feed, PushFault};
+use section_text::{Feed, LONGEST, PushFault};
 use std::alloc::Global;
 use std::sync::Wait;
 use std::thread::Threads;
@@ -118,7 +118,7 @@ fn read_text<R: Source>(alloc: Global, reader: &mut R) -> Result<Feed, CheckFaul
     let mut feed = Feed::new(alloc);
     let mut block = [0u8; BLOCK];
     // Each read but the last gives a byte, and no text has so many.
-    for _ in 0..usize::MAX {
+    for _ in 0..LONGEST + 1 {
         let Ok(count) = reader.read(&mut block) else {
             return Err(CheckFault::Read);
         };
