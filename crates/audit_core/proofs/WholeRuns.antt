@@ -19,6 +19,7 @@ use Rattle.module_box.specs.Schedules.{signal_at}
 use Rattle.module_box.proofs.BoxSteps.{even_stays, even_local}
 use Rattle.module_box.proofs.Neighbours.{some_neighbour_more, block_x, block_y, block_both, halo_parts, ring_from, near_step, halo_in_ring}
 use Rattle.module_box.proofs.SeenValues.{choices_are_assignments, local_values_agree}
+use Rattle.certificate.proofs.ArrivalLemmas.{kept_is_on_time}
 use Rattle.certificate.specs.Entries.{ModuleLines, areas, known, stops}
 use Rattle.certificate.specs.Grammars.{setting_of}
 use Rattle.certificate.specs.Modules.{IsStop}
@@ -361,5 +362,5 @@ pub on_time : AcceptedIsOnTime
 on_time lines p ms jobs named all = record {
   stops = all_flat (StopHolds (circuit_of lines) p) stops ms (λ i m at k d lt.
       stop_holds lines p ms jobs named all i k m _ at (slice_get-get_or (stops m) k d lt) ((all.bundle.are_modules.each i m at).stop_lines k d lt));
-  times = all.accepted.on_time;
+  times = kept_is_on_time (circuit_of lines) ms all.accepted.on_time;
 }

@@ -1,10 +1,11 @@
 -- What a yes promises of stops, delays and meetings.
-use Rattle.std.specs.Prelude.{◌≡◌, List, IsTrue}
+use Rattle.std.specs.Prelude.{◌≡◌, List}
 use Rattle.std.specs.List.{All}
 use Rattle.circuit.specs.Meaning.{Circuit, Valuation, Satisfies, values_by_name}
 use Rattle.pattern.specs.Layout.{Pattern}
 use Rattle.certificate.specs.Entries.{ModuleLines}
-use Rattle.certificate.specs.Times.{all_stops, are_all_kept, time_lines}
+use Rattle.certificate.specs.Arrivals.{AreOnTime}
+use Rattle.certificate.specs.Times.{all_stops}
 use Rattle.certificate.specs.declared.entry.StopLine.{StopLine}
 use Rattle.audit_core.specs.Implements.{run_under}
 
@@ -12,8 +13,7 @@ use Rattle.audit_core.specs.Implements.{run_under}
 abbrev pub StopHolds : Circuit → Pattern → StopLine → Type 0
 StopHolds c p s = (inputs v : Valuation) → Satisfies c.netlist inputs v → run_under c p inputs s.time s.cell.x s.cell.y ≡ values_by_name c v s.wire
 
--- All stops of modules do, and the rules on delays and meetings are kept by them. What that means, gate by gate, is `AreOnTime` of
--- certificate/specs/Arrivals.antt, by the law `lines_tell_of_gates`.
+-- all stops of modules do, each delay takes as many steps as it says, and the inputs of each gate meet
 pub record IsOnTime (c : Circuit) (p : Pattern) (ms : List ModuleLines) : Type 0 where
   pub stops : All (StopHolds c p) (all_stops ms)
-  pub times : IsTrue (are_all_kept (time_lines c ms))
+  pub times : AreOnTime c (all_stops ms)

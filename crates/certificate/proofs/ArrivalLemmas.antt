@@ -10,7 +10,7 @@ use Rattle.std.proofs.lemmas.List.Folds.{list_all-append}
 use Rattle.std.proofs.lemmas.Option.{same_Some}
 use Rattle.circuit.specs.Gates.{Rule, Source, Fredkin, Cswap, Interact, Switch, Delay, Unswitch, Uninteract}
 use Rattle.circuit.specs.Meaning.{Circuit, Gate}
-use Rattle.certificate.specs.Arrivals.{AreOnTime, IsDelay, IsFirstTime, IsLastTime, MeetAt, TakesSteps, Tells}
+use Rattle.certificate.specs.Arrivals.{AreOnTime, IsFirstTime, IsLastTime, MeetAt, TakesSteps, Tells, TellsOfDelay, TellsOfMeeting}
 use Rattle.certificate.specs.Entries.{ModuleLines}
 use Rattle.certificate.specs.Laws.{KeptIsOnTime, LinesTell}
 use Rattle.certificate.specs.Times.{agreed, all_stops, are_all_kept, delay_by, delay_line, earlier, first_seen, gap_between, is_kept, last_seen, last_times, later, meet_by, meet_line, numbered, of_wire, time_lines, times_of}
@@ -89,38 +89,35 @@ gap_missing (Some k) (Some g) l f e p q = by_case (nat_lt g k) e
     by_case true e = cc
     by_case false e = cc
 
-gap_before : (last first : Option ℕ) (l f : ℕ) → gap_between last first ≡ Before → last ≡ Some l → first ≡ Some f → f < l
-gap_before None first l f e p q = absurd cc
-gap_before (Some k) None l f e p q = absurd cc
-gap_before (Some k) (Some g) l f e p q =
-    let same_last = same_Some k l p in
-    let same_first = same_Some g f q in
-    by_case (nat_lt g k) refl e same_last same_first
+gap_before : (last first : Option ℕ) → gap_between last first ≡ Before → (l : ℕ) × (f : ℕ) × (last ≡ Some l) × (first ≡ Some f) × (f < l)
+gap_before None first e = absurd cc
+gap_before (Some k) None e = absurd cc
+gap_before (Some k) (Some g) e = by_case (nat_lt g k) refl e
   where
-    by_case : (b : Bool) → nat_lt g k ≡ b → (if b then Before else Steps (g - k)) ≡ Before → k ≡ l → g ≡ f → f < l
-    by_case true less e same_last same_first = grind (arith, nat_tests)
-    by_case false less e same_last same_first = absurd cc
+    less_than : (g k : ℕ) → nat_lt g k ≡ true → g < k
+    less_than g k less = grind (arith, nat_tests)
 
--- the gate of a delay, by the wires that it uses and defines
-ins_are : (c : Circuit) (k n a b : ℕ) (g : Gate) → slice_get c.netlist.gates k ≡ Some g → IsDelay c k n a b → g ≡ record { kind = Delay n; ins = a ∷ []; outs = b ∷ [] }
-ins_are c k n a b g at is = same_Some _ _ (sym at ∙ is)
+    by_case : (b : Bool) → nat_lt g k ≡ b → (if b then Before else Steps (g - k)) ≡ Before → (l : ℕ) × (f : ℕ) × (Some k ≡ Some l) × (Some g ≡ Some f) × (f < l)
+    by_case true less e = (k, g, refl, refl, less_than g k less)
+    by_case false less e = absurd cc
 
-own_gap : (c : Circuit) (ss : List StopLine) (k n a b : ℕ) (g : Gate) (gap : Gap) → slice_get c.netlist.gates k ≡ Some g → IsDelay c k n a b →
-    gap_between (of_wire (last_seen c ss) g.ins) (of_wire (first_seen c ss) g.outs) ≡ gap → gap_between (last_seen c ss a) (first_seen c ss b) ≡ gap
-own_gap c ss k n a b g gap at is e = subst (λ (h : Gate). gap_between (of_wire (last_seen c ss) h.ins) (of_wire (first_seen c ss) h.outs) ≡ gap) (ins_are c k n a b g at is) e
+-- the gap of a gate with one wire on each side
+own_gap : (c : Circuit) (ss : List StopLine) (ins outs : List ℕ) (a b : ℕ) (gap : Gap) → gap_between (of_wire (last_seen c ss) ins) (of_wire (first_seen c ss) outs) ≡ gap →
+    ins ≡ a ∷ [] → outs ≡ b ∷ [] → gap_between (last_seen c ss a) (first_seen c ss b) ≡ gap
+own_gap c ss ins outs a b gap e one_in one_out =
+    sym (ap (λ (ws : List ℕ). gap_between (of_wire (last_seen c ss) ws) (of_wire (first_seen c ss) outs)) one_in ∙ ap (λ (ws : List ℕ). gap_between (last_seen c ss a) (of_wire (first_seen c ss) ws)) one_out) ∙ e
 
 takes : (c : Circuit) (ss : List StopLine) (m a b : ℕ) → gap_between (last_seen c ss a) (first_seen c ss b) ≡ Steps m → TakesSteps c ss m a b
 takes c ss m a b e =
     let h = gap_steps (last_seen c ss a) (first_seen c ss b) m e in
     record { leaves = h.0; last = is_last c ss a h.0 h.1; first = is_first c ss b (h.0 + m) h.2 }
 
-delay_tells : (c : Circuit) (ss : List StopLine) (k n : ℕ) (g : Gate) (gap : Gap) → slice_get c.netlist.gates k ≡ Some g →
-    gap_between (of_wire (last_seen c ss) g.ins) (of_wire (first_seen c ss) g.outs) ≡ gap → Tells c ss (line.Delay k n gap)
-delay_tells c ss k n g (Steps m) at e = λ a b is. takes c ss m a b (own_gap c ss k n a b g (Steps m) at is e)
-delay_tells c ss k n g Missing at e = λ a b s t is last first.
-    gap_missing _ _ s t (own_gap c ss k n a b g Missing at is e) (last_is c ss a s last) (first_is c ss b t first)
-delay_tells c ss k n g Before at e = λ a b s t is last first.
-    gap_before _ _ s t (own_gap c ss k n a b g Before at is e) (last_is c ss a s last) (first_is c ss b t first)
+gap_tells : (c : Circuit) (ss : List StopLine) (a b : ℕ) (gap : Gap) → gap_between (last_seen c ss a) (first_seen c ss b) ≡ gap → TellsOfDelay c ss gap a b
+gap_tells c ss a b (Steps m) e = takes c ss m a b e
+gap_tells c ss a b Missing e = λ s t last first. gap_missing _ _ s t e (last_is c ss a s last) (first_is c ss b t first)
+gap_tells c ss a b Before e =
+    let h = gap_before (last_seen c ss a) (first_seen c ss b) e in
+    (h.0, h.1, is_last c ss a h.0 h.2, is_first c ss b h.1 h.3, h.4)
 
 -- ---- meetings
 
@@ -187,24 +184,23 @@ meet_at c ss ws t h w s there last = All-contains (λ u. u ≡ t) (last_times (l
 all_meet : (c : Circuit) (ss : List StopLine) (ws : List ℕ) (t : ℕ) → MeetAt c ss ws t → All (λ u. u ≡ t) (last_times (last_seen c ss) ws)
 all_meet c ss ws t h = all_times (λ u. u ≡ t) (last_seen c ss) ws (λ w s there e. h w s there (is_last c ss w s e))
 
-meet_tells : (c : Circuit) (ss : List StopLine) (k : ℕ) (g : Gate) (o : Option ℕ) → slice_get c.netlist.gates k ≡ Some g →
-    0 < length (last_times (last_seen c ss) g.ins) → agreed (last_times (last_seen c ss) g.ins) ≡ o → Tells c ss (line.Meet k o)
-meet_tells c ss k g (Some t) at some e = λ h is. subst (λ (r : Gate). MeetAt c ss r.ins t) (same_Some g h (sym at ∙ is)) (meet_at c ss g.ins t (agreed_all _ t e))
-meet_tells c ss k g None at some e = λ h t is meet.
-    none_agreed _ t some e (all_meet c ss g.ins t (subst (λ (r : Gate). MeetAt c ss r.ins t) (sym (same_Some g h (sym at ∙ is))) meet))
+meet_tells : (c : Circuit) (ss : List StopLine) (ws : List ℕ) (o : Option ℕ) → 0 < length (last_times (last_seen c ss) ws) → agreed (last_times (last_seen c ss) ws) ≡ o → TellsOfMeeting c ss o ws
+meet_tells c ss ws (Some t) some e = meet_at c ss ws t (agreed_all _ t e)
+meet_tells c ss ws None some e = λ t meet. none_agreed _ t some e (all_meet c ss ws t meet)
 
 -- ---- the lines of all gates
 
-delay_lines_tell : (c : Circuit) (ss : List StopLine) (k : ℕ) (r : Rule) (g : Gate) → slice_get c.netlist.gates k ≡ Some g →
+delay_lines_tell : (c : Circuit) (ss : List StopLine) (k : ℕ) (r : Rule) (g : Gate) → slice_get c.netlist.gates k ≡ Some g → g.kind ≡ r →
     All (Tells c ss) (delay_by k r (gap_between (of_wire (last_seen c ss) g.ins) (of_wire (first_seen c ss) g.outs)))
-delay_lines_tell c ss k (Source b) g at = All-nil (Tells c ss)
-delay_lines_tell c ss k Fredkin g at = All-nil (Tells c ss)
-delay_lines_tell c ss k Cswap g at = All-nil (Tells c ss)
-delay_lines_tell c ss k Interact g at = All-nil (Tells c ss)
-delay_lines_tell c ss k Switch g at = All-nil (Tells c ss)
-delay_lines_tell c ss k (Delay n) g at = All-cons (Tells c ss) _ [] (delay_tells c ss k n g _ at refl) (All-nil (Tells c ss))
-delay_lines_tell c ss k Unswitch g at = All-nil (Tells c ss)
-delay_lines_tell c ss k Uninteract g at = All-nil (Tells c ss)
+delay_lines_tell c ss k (Source b) g at is = All-nil (Tells c ss)
+delay_lines_tell c ss k Fredkin g at is = All-nil (Tells c ss)
+delay_lines_tell c ss k Cswap g at is = All-nil (Tells c ss)
+delay_lines_tell c ss k Interact g at is = All-nil (Tells c ss)
+delay_lines_tell c ss k Switch g at is = All-nil (Tells c ss)
+delay_lines_tell c ss k (Delay n) g at is =
+    All-cons (Tells c ss) _ [] (g, at, is, λ a b one_in one_out. gap_tells c ss a b _ (own_gap c ss g.ins g.outs a b _ refl one_in one_out)) (All-nil (Tells c ss))
+delay_lines_tell c ss k Unswitch g at is = All-nil (Tells c ss)
+delay_lines_tell c ss k Uninteract g at is = All-nil (Tells c ss)
 
 meet_lines_tell : (c : Circuit) (ss : List StopLine) (k : ℕ) (g : Gate) → slice_get c.netlist.gates k ≡ Some g → All (Tells c ss) (meet_line (last_seen c ss) k g)
 meet_lines_tell c ss k g at = by_case (nat_le 2 (length ts)) refl
@@ -216,7 +212,7 @@ meet_lines_tell c ss k g at = by_case (nat_le 2 (length ts)) refl
     two e = grind (arith, nat_tests)
 
     by_case : (b : Bool) → nat_le 2 (length ts) ≡ b → All (Tells c ss) (if b then line.Meet k (agreed ts) ∷ [] else [])
-    by_case true e = All-cons (Tells c ss) _ [] (meet_tells c ss k g _ at (two e) refl) (All-nil (Tells c ss))
+    by_case true e = All-cons (Tells c ss) _ [] (g, at, meet_tells c ss g.ins _ (two e) refl) (All-nil (Tells c ss))
     by_case false e = All-nil (Tells c ss)
 
 all_numbered : (P : TimeLine → Type 0) (f : ℕ → Gate → List TimeLine) (all : List Gate) → ((k : ℕ) (g : Gate) → slice_get all k ≡ Some g → All P (f k g)) →
@@ -235,7 +231,7 @@ pub lines_tell : LinesTell
 lines_tell c ms =
     let ss = all_stops ms in
     All-append (Tells c ss) _ _
-    (all_numbered (Tells c ss) (delay_line (first_seen c ss) (last_seen c ss)) c.netlist.gates (λ k g at. delay_lines_tell c ss k g.kind g at) 0 c.netlist.gates (from_none c.netlist.gates))
+    (all_numbered (Tells c ss) (delay_line (first_seen c ss) (last_seen c ss)) c.netlist.gates (λ k g at. delay_lines_tell c ss k g.kind g at refl) 0 c.netlist.gates (from_none c.netlist.gates))
     (all_numbered (Tells c ss) (meet_line (last_seen c ss)) c.netlist.gates (meet_lines_tell c ss) 0 c.netlist.gates (from_none c.netlist.gates))
 
 -- ---- where all are kept

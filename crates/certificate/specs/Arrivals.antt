@@ -1,10 +1,11 @@
 -- What delays and meetings mean, gate by gate
-use Rattle.std.specs.Prelude.{◌≡◌, ℕ, ◌+◌, ◌<◌, ◌≤◌, Bool, List, [], ◌∷◌, Some, None, slice_get, Contains, IsTrue}
+use Rattle.std.specs.Prelude.{◌≡◌, ℕ, ◌+◌, ◌<◌, ◌≤◌, Bool, List, [], ◌∷◌, Option, Some, None, slice_get, Contains, IsTrue}
 use Rattle.std.specs.List.{All}
 use Rattle.circuit.specs.Gates.{Delay}
 use Rattle.circuit.specs.Meaning.{Circuit, Gate}
 use Rattle.certificate.specs.Times.{times_of}
 use Rattle.certificate.specs.declared.entry.StopLine.{StopLine}
+use Rattle.certificate.specs.declared.times.Gap.{Gap}
 use Rattle.certificate.specs.declared.times.Gap.TheVariants.{Steps, Missing, Before}
 use Rattle.certificate.specs.declared.times.TimeLine.{TimeLine}
 use Rattle.certificate.specs.declared.times.TimeLine.TheVariants as line
@@ -38,11 +39,19 @@ pub record AreOnTime (c : Circuit) (ss : List StopLine) : Type 0 where
   pub delays : (k n a b : ℕ) → IsDelay c k n a b → TakesSteps c ss n a b
   pub meetings : (k : ℕ) (g : Gate) → slice_get c.netlist.gates k ≡ Some g → (t : ℕ) × MeetAt c ss g.ins t
 
--- What a line tells of its gate: how many steps the delay takes, that one of its two wires has no stop, or that some stop of the one that
--- it defines comes before one of the other; the time at which inputs meet, or that there is none.
+-- what is told of a delay by its two wires, the one that it uses and the one that it defines: how many steps it takes, that one of them has no
+-- stop, or that the first time of the second comes before the last of the first
+abbrev pub TellsOfDelay : Circuit → List StopLine → Gap → (a b : ℕ) → Type 0
+TellsOfDelay c ss (Steps m) a b = TakesSteps c ss m a b
+TellsOfDelay c ss Missing a b = (s t : ℕ) → IsLastTime c ss a s → ¬ IsFirstTime c ss b t
+TellsOfDelay c ss Before a b = (s : ℕ) × (t : ℕ) × IsLastTime c ss a s × IsFirstTime c ss b t × (t < s)
+
+-- what is told of a gate's inputs: the time at which they meet, or that there is none
+abbrev pub TellsOfMeeting : Circuit → List StopLine → Option ℕ → List ℕ → Type 0
+TellsOfMeeting c ss (Some t) ws = MeetAt c ss ws t
+TellsOfMeeting c ss None ws = (t : ℕ) → ¬ MeetAt c ss ws t
+
+-- a line names a gate of the circuit, and tells of it
 abbrev pub Tells : Circuit → List StopLine → TimeLine → Type 0
-Tells c ss (line.Delay k n (Steps m)) = (a b : ℕ) → IsDelay c k n a b → TakesSteps c ss m a b
-Tells c ss (line.Delay k n Missing) = (a b s t : ℕ) → IsDelay c k n a b → IsLastTime c ss a s → ¬ IsFirstTime c ss b t
-Tells c ss (line.Delay k n Before) = (a b s t : ℕ) → IsDelay c k n a b → IsLastTime c ss a s → IsFirstTime c ss b t → t < s
-Tells c ss (line.Meet k (Some t)) = (g : Gate) → slice_get c.netlist.gates k ≡ Some g → MeetAt c ss g.ins t
-Tells c ss (line.Meet k None) = (g : Gate) (t : ℕ) → slice_get c.netlist.gates k ≡ Some g → ¬ MeetAt c ss g.ins t
+Tells c ss (line.Delay k n gap) = (g : Gate) × (slice_get c.netlist.gates k ≡ Some g) × (g.kind ≡ Delay n) × ((a b : ℕ) → g.ins ≡ a ∷ [] → g.outs ≡ b ∷ [] → TellsOfDelay c ss gap a b)
+Tells c ss (line.Meet k at) = (g : Gate) × (slice_get c.netlist.gates k ≡ Some g) × TellsOfMeeting c ss at g.ins

@@ -40,7 +40,6 @@ use Rattle.certificate.specs.Entries.{modules_of, stop_in}
 use Rattle.certificate.specs.Times.{all_stops}
 use Rattle.certificate.specs.declared.entry.Entry.{Entry}
 use Rattle.certificate.specs.declared.entry.StopLine.{StopLine}
-use Rattle.certificate.proofs.ArrivalLemmas.{kept_is_on_time}
 use Rattle.certificate.proofs.TimeLemmas.{all_in_modules}
 use Rattle.circuit.specs.Bridge.{circuit_of}
 use Rattle.audit_core.specs.OnTime.{StopHolds}
@@ -308,7 +307,7 @@ judged_stops text b output outcome reads says is =
       says = (bundle_good text b reads).says_all c.layout same.layout;
       stops = subst (λ (cs : List CircuitLine). All (StopHolds (circuit_of cs) c.layout) (flat_map stop_in b.entries)) same.circuit (subst (All (StopHolds (circuit_of c.circuit) c.layout)) own right.stops);
       on_time = subst (λ (cs : List CircuitLine). AreOnTime (circuit_of cs) (flat_map stop_in b.entries)) same.circuit
-          (subst (λ (ss : List StopLine). AreOnTime (circuit_of c.circuit) ss) own (kept_is_on_time (circuit_of c.circuit) (modules_of c.entries) right.times));
+          (subst (λ (ss : List StopLine). AreOnTime (circuit_of c.circuit) ss) own right.times);
     }
 
 not_refused : Yes ≡ Refused → ⊥
