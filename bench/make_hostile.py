@@ -49,6 +49,11 @@ def timed(kind, places, steps, most, signal):
     return [f"{kind} {2 * (k // len(places)) + 1} {u} {v} {signal}" for k in range(most) for u, v in [places[k % len(places)]]]
 
 
+def stops(places, most, name):
+    """The first stop lines of a wire for these cells, by time from 0 on: at most so many."""
+    return [f"stop {k // len(places)} {name} {u} {v}" for k in range(most) for u, v in [places[k % len(places)]]]
+
+
 # ---- names and cells whose hashes fall together
 
 def fold(a, b):
@@ -261,6 +266,25 @@ def alike_lines(full):
     return bundle((SIDE, height, 4096), [], modules, forked(names, 2))
 
 
+def most_stops(full):
+    """check, modules: 16 MiB of short stop lines, for 16 modules of 4 by 4, of a wire that is false at cells that are dead: a yes."""
+    w, h, modules = 16, 16 if full else 8, []
+    for box in boxes(w, h, 4, 4):
+        x, y, a, b = box
+        modules += ["module %d %d %d %d" % box, "use 0"]
+        modules += stops([(x + u, y + v) for u, v in cells(a, b)], 63400, "z")
+    return bundle((w, h, 4096), [], modules, ["source 0 -> z", "spill z"])
+
+
+def alike_stops(full):
+    """check, modules: the same as alike_lines with stop lines in place of edge lines."""
+    names, height, modules = alike_wires(4086), SIDE if full else SIDE // 2, []
+    for box in boxes(SIDE, height, 64, 64):
+        modules += ["module %d %d %d %d" % box, f"cut {names[-1]}"]
+        modules += stops(edge_cells(SIDE, height, box), 9500, names[-1])
+    return bundle((SIDE, height, 4096), [], modules, forked(names, 2))
+
+
 def same_port(full):
     """check, modules: each cell an input and an output of the same name."""
     height = SIDE if full else SIDE // 2
@@ -340,7 +364,7 @@ def long_runs_with_lines(full):
 
 
 KINDS = [run_names, run_alike_names, run_ports, run_mirrors, run_balls, one_line, spaces, value_wide, value_alike, borders, most_lines,
-         neighbours, stars, cuts_and_uses, alike_lines, same_port, most_memory, alike_places, many_modules, long_runs, square_runs, flat_runs,
+         neighbours, stars, cuts_and_uses, alike_lines, most_stops, alike_stops, same_port, most_memory, alike_places, many_modules, long_runs, square_runs, flat_runs,
          long_runs_with_lines]
 
 

@@ -3,6 +3,7 @@ pub mod Neighbours
 pub mod RingTests
 pub mod BoxCells
 pub mod Tilings
+pub mod Takings
 pub mod NoTilings
 pub mod Rising
 pub mod WireLists

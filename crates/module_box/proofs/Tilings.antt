@@ -1,16 +1,18 @@
 -- From the blocks of a rectangle to its cells
-use Rattle.std.proofs.Common.{◌≡◌, ℕ, zero, suc, ◌+◌, ◌*◌, ◌/◌, ◌%◌, ◌^◌, ◌<◌, ◌≤◌, to_z, w32, List, [], ◌∷◌, ◌++◌, length, length-append, true, false, Some, refl, sym, ap, ap₂, subst, ◌∙◌, inl, inr, ◌⊎◌, arith, get_or}
-use Rattle.std.specs.Prelude.{ℤ, pos, slice_get}
-use Rattle.std.proofs.lemmas.Option.{slice_get-get_or, slice_get_within}
-use Rattle.std.proofs.lemmas.Int.{to_z_pos}
+use Rattle.std.proofs.Common.{◌≡◌, ℕ, ◌+◌, ◌*◌, ◌/◌, ◌%◌, ◌<◌, ◌≤◌, List, length, take, replicate, true, Some, sym, ap, ap₂, subst, ◌∙◌, inl, inr, ◌⊎◌, arith, get_or}
+use Rattle.std.specs.Prelude.{ℤ, pos, slice_get, slice_index, IsTrue}
+use Rattle.std.proofs.lemmas.Option.{slice_get-get_or, slice_get_within, get_or_from_slice_get}
+use Rattle.std.proofs.lemmas.List.{get_or-take, get_or-replicate, length-replicate, length-take-le}
 use Rattle.std.proofs.Math.Nat.{div-add-mod, mul-le-mul_left}
 use Rattle.std.proofs.lemmas.Nat.{mod-mul-add, div-mul-add}
-use Rattle.std.proofs.lemmas.Bool.{and_from, and_parts, false≢true}
+use Rattle.std.proofs.lemmas.Bool.{and_from, and_parts, cases_Bool, false≢true}
 use Rattle.module_box.specs.Boxes.{in_box, IsEven}
 use Rattle.bbm_rule.specs.Spans.{in_span}
+use Rattle.bbm_rule.specs.declared.block.Cell.{Cell}
 use Rattle.module_box.specs.declared.boxes.Box2.{Box2}
 use Rattle.bbm_rule.proofs.Spans.{span_from, span_parts}
-use Rattle.module_box.specs.Tiling.{Owning, rectangle, owner_of, IsTable, AreOwners, corner_x, corner_y, IsInside, AllInside, Holds, IsHolder, AllHeld, IsNextHolder, HeldTwice, IsBadBlock}
+use Rattle.module_box.specs.Tiling.{Owning, rectangle, owner_of, IsTable, AreOwners, corner_x, corner_y, IsInside, AllInside, Holds, IsHolder, AllHeld, HeldTwice, IsBadBlock}
+use Rattle.module_box.specs.Taking.{TakesBox, HasBlock}
 use Rattle.module_box.proofs.BoxCells.{in_box_nats, same_some, owner_in_table, abs_within}
 
 span_down : (f n k : ℕ) → f % 2 ≡ 0 → n % 2 ≡ 0 → in_span f n (pos k) ≡ true → in_span f n (pos (2 * (k / 2))) ≡ true
@@ -32,28 +34,156 @@ pub record IsFilled (columns : ℕ) (boxes : List Box2) (place : ℕ) (table : L
   pub sized : length table ≡ place
   pub holders : (k i : ℕ) → slice_get table k ≡ Some i → IsHolder boxes (corner_x columns k) (corner_y columns k) i
 
-pub filled_held : (columns : ℕ) (boxes : List Box2) (place : ℕ) (table : List ℕ) → IsFilled columns boxes place table → AllHeld columns place boxes
-filled_held columns boxes place table f k h =
-    (get_or table k 0, f.holders k (get_or table k 0) (slice_get-get_or table k 0 (omega (arith, f.sized))))
+-- the table after the first n boxes: each place has the number of the one box that has its block, or the number of boxes where none has;
+-- where it ends before the last block, there is one that lies in two boxes
+pub record IsTakenBy (columns blocks n : ℕ) (boxes : List Box2) (table : List ℕ) : Type 0 where
+  pub bound : length table ≤ blocks
+  pub below : (k : ℕ) → k < length table → ¬ (slice_index table k ≡ length boxes) → slice_index table k < n
+  pub holds : (k : ℕ) → k < length table → ¬ (slice_index table k ≡ length boxes) → Holds boxes (corner_x columns k) (corner_y columns k) (slice_index table k)
+  pub only : (k j : ℕ) → k < length table → ¬ (slice_index table k ≡ length boxes) → j < n → Holds boxes (corner_x columns k) (corner_y columns k) j → j ≡ slice_index table k
+  pub none : (k j : ℕ) → k < length table → slice_index table k ≡ length boxes → j < n → ¬ Holds boxes (corner_x columns k) (corner_y columns k) j
+  pub twice : length table < blocks → HeldTwice boxes (corner_x columns (length table)) (corner_y columns (length table))
 
-pub filled_step : (columns : ℕ) (boxes : List Box2) (place : ℕ) (table table' : List ℕ) (i : ℕ) → IsFilled columns boxes place table → table' ≡ table ++ i ∷ [] →
-    IsHolder boxes (corner_x columns place) (corner_y columns place) i → IsFilled columns boxes (place + 1) table'
-filled_step columns boxes place table table' i f e h = record {
-  sized = ap length e ∙ length-append table (i ∷ []) ∙ ap (λ z. z + 1) f.sized;
-  holders = λ k j g. elim (pushed table i k j (ap (λ z. slice_get z k) (sym e) ∙ g)) [
-    | inl old ↦ f.holders k j old
-    | inr new ↦ subst (λ z. IsHolder boxes (corner_x columns z) (corner_y columns z) j) (sym (new.0 ∙ f.sized)) (subst (λ z. IsHolder boxes (corner_x columns place) (corner_y columns place) z) new.1 h)
-  ];
-}
+pub taken_by_none : (columns blocks : ℕ) (boxes : List Box2) (table : List ℕ) → table ≡ replicate blocks (length boxes) → IsTakenBy columns blocks 0 boxes table
+taken_by_none columns blocks boxes table e =
+    let long : length table ≡ blocks = ap length e ∙ length-replicate blocks (length boxes) in
+    record {
+      bound = omega (arith, long);
+      below = λ k lt f. absurd (f (free k (omega (arith, long, lt))));
+      holds = λ k lt f. absurd (f (free k (omega (arith, long, lt))));
+      only = λ k j lt f p h. absurd (f (free k (omega (arith, long, lt))));
+      none = λ k j lt e p h. absurd (omega (arith, p));
+      twice = λ lt. absurd (omega (arith, long, lt));
+    }
   where
-    pushed : (xs : List ℕ) (x i f : ℕ) → slice_get (xs ++ x ∷ []) i ≡ Some f → (slice_get xs i ≡ Some f) ⊎ ((i ≡ length xs) × (x ≡ f))
-    pushed [] x zero f e = inr (refl, cc)
-    pushed [] x (suc i) f e = inl e
-    pushed (y ∷ xs) x zero f e = inl e
-    pushed (y ∷ xs) x (suc i) f e = elim (pushed xs x i f e) [
-      | inl h ↦ inl h
-      | inr h ↦ inr (ap suc h.0, h.1)
-    ]
+    free : (k : ℕ) → k < blocks → slice_index table k ≡ length boxes
+    free k lt = ap (λ z. slice_index z k) e ∙ get_or-replicate blocks k (length boxes) 0 lt
+
+same_box : (boxes : List Box2) (x y : ℤ) (n : ℕ) (b : Box2) → slice_get boxes n ≡ Some b → Holds boxes x y n → IsTrue (in_box b x y)
+same_box boxes x y n b e h = subst (λ z. IsTrue (in_box z x y)) (same_some (slice_get boxes n) h.area b h.numbered e) h.has
+
+last_or_before : (j n : ℕ) → j < n + 1 → (j < n) ⊎ (j ≡ n)
+last_or_before j n h = grind arith
+
+pub decide_block : (columns : ℕ) (b : Box2) (k : ℕ) → HasBlock b columns k ⊎ ¬ HasBlock b columns k
+decide_block columns b k = elim (cases_Bool (in_box b (corner_x columns k) (corner_y columns k))) [
+  | inl e ↦ inl e
+  | inr e ↦ inr (λ h. false≢true (sym e ∙ h))
+]
+
+-- what the next box makes of a place
+record IsNextPlace (columns n k : ℕ) (boxes : List Box2) (number : ℕ) : Type 0 where
+  pub below : ¬ (number ≡ length boxes) → number < n + 1
+  pub holds : ¬ (number ≡ length boxes) → Holds boxes (corner_x columns k) (corner_y columns k) number
+  pub only : (j : ℕ) → ¬ (number ≡ length boxes) → j < n + 1 → Holds boxes (corner_x columns k) (corner_y columns k) j → j ≡ number
+  pub none : (j : ℕ) → number ≡ length boxes → j < n + 1 → ¬ Holds boxes (corner_x columns k) (corner_y columns k) j
+
+next_place : (columns blocks n k stop : ℕ) (boxes : List Box2) (b : Box2) (table table' : List ℕ) → IsTakenBy columns blocks n boxes table → n < length boxes → slice_get boxes n ≡ Some b →
+    TakesBox columns b (length boxes) n stop table table' → k < stop → IsNextPlace columns n k boxes (slice_index table' k)
+next_place columns blocks n k stop boxes b table table' t lt got takes ks = elim (decide_block columns b k) [
+  | inl h ↦ (
+      let g = takes.taken k ks h in
+      let own : slice_index table' k ≡ n = g.1 in
+      record {
+        below = λ f. omega (arith, own);
+        holds = λ f. subst (λ z. Holds boxes (corner_x columns k) (corner_y columns k) z) (sym own) (record { area = b; numbered = got; has = h });
+        only = λ j f p hold. elim (last_or_before j n p) [
+          | inl l ↦ absurd (t.none k j within g.0 l hold)
+          | inr e ↦ e ∙ sym own
+        ];
+        none = λ j e p hold. absurd (omega (arith, own, e, lt));
+      })
+  | inr h ↦ (
+      let same = takes.others k ks h in
+      let old : ¬ (slice_index table' k ≡ length boxes) → ¬ (slice_index table k ≡ length boxes) = λ f e. f (same ∙ e) in
+      record {
+        below = λ f. (let p = t.below k within (old f) in omega (arith, p, same));
+        holds = λ f. subst (λ z. Holds boxes (corner_x columns k) (corner_y columns k) z) (sym same) (t.holds k within (old f));
+        only = λ j f p hold. elim (last_or_before j n p) [
+          | inl l ↦ t.only k j within (old f) l hold ∙ sym same
+          | inr e ↦ absurd (h (same_box boxes (corner_x columns k) (corner_y columns k) n b got (subst (λ z. Holds boxes (corner_x columns k) (corner_y columns k) z) e hold)))
+        ];
+        none = λ j e p hold. elim (last_or_before j n p) [
+          | inl l ↦ t.none k j within (sym same ∙ e) l hold
+          | inr i ↦ h (same_box boxes (corner_x columns k) (corner_y columns k) n b got (subst (λ z. Holds boxes (corner_x columns k) (corner_y columns k) z) i hold))
+        ];
+      })
+]
+  where
+    within : k < length table
+    within = let w = takes.within in omega (arith, w, ks)
+
+twice_at : (columns blocks n stop : ℕ) (boxes : List Box2) (b : Box2) (table table' : List ℕ) → IsTakenBy columns blocks n boxes table → slice_get boxes n ≡ Some b →
+    TakesBox columns b (length boxes) n stop table table' → stop < blocks → HeldTwice boxes (corner_x columns stop) (corner_y columns stop)
+twice_at columns blocks n stop boxes b table table' t got takes lt = elim (last_or_before stop (length table) (let w = takes.within in omega (arith, w))) [
+  | inl l ↦ (
+      let e = takes.ends l in
+      record {
+        one = slice_index table stop;
+        other = n;
+        apart = t.below stop l e.1;
+        first = t.holds stop l e.1;
+        second = record { area = b; numbered = got; has = e.0 };
+      })
+  | inr e ↦ subst (λ z. HeldTwice boxes (corner_x columns z) (corner_y columns z)) (sym e) (t.twice (omega (arith, e, lt)))
+]
+
+pub taken_by_next : (columns blocks n stop : ℕ) (boxes : List Box2) (b : Box2) (table table' table'' : List ℕ) → IsTakenBy columns blocks n boxes table → n < length boxes →
+    slice_get boxes n ≡ Some b → TakesBox columns b (length boxes) n stop table table' → table'' ≡ take stop table' → IsTakenBy columns blocks (n + 1) boxes table''
+taken_by_next columns blocks n stop boxes b table table' table'' t lt got takes e =
+    let w = takes.within in
+    let s = takes.sized in
+    let long : length table'' ≡ stop = ap length e ∙ length-take-le stop table' (omega (arith, w, s)) in
+    let at : (k : ℕ) → k < length table'' → IsNextPlace columns n k boxes (slice_index table'' k) = λ k p.
+    let q : k < stop = omega (arith, p, long) in
+    subst (λ z. IsNextPlace columns n k boxes z) (sym (ap (λ z. slice_index z k) e ∙ get_or-take stop table' k 0 q)) (next_place columns blocks n k stop boxes b table table' t lt got takes q) in
+    record {
+      bound = (let p = t.bound in omega (arith, p, w, long));
+      below = λ k p f. (at k p).below f;
+      holds = λ k p f. (at k p).holds f;
+      only = λ k j p f q h. (at k p).only j f q h;
+      none = λ k j p i q h. (at k p).none j i q h;
+      twice = λ p. subst (λ z. HeldTwice boxes (corner_x columns z) (corner_y columns z)) (sym long) (twice_at columns blocks n stop boxes b table table' t got takes (omega (arith, p, long)));
+    }
+
+-- a place with a number, after all boxes
+holder_at : (columns blocks k : ℕ) (boxes : List Box2) (table : List ℕ) → IsTakenBy columns blocks (length boxes) boxes table → k < length table → ¬ (slice_index table k ≡ length boxes) →
+    IsHolder boxes (corner_x columns k) (corner_y columns k) (slice_index table k)
+holder_at columns blocks k boxes table t lt f = record {
+  holds = t.holds k lt f;
+  only = λ j h. t.only k j lt f (slice_get_within boxes j h.area h.numbered) h;
+}
+
+pub taken_held : (columns blocks place : ℕ) (boxes : List Box2) (table : List ℕ) → IsTakenBy columns blocks (length boxes) boxes table → place ≤ length table →
+    ((k : ℕ) → k < place → ¬ (slice_index table k ≡ length boxes)) → AllHeld columns place boxes
+taken_held columns blocks place boxes table t le full k lt =
+    (slice_index table k, holder_at columns blocks k boxes table t (omega arith) (full k lt))
+
+pub taken_gap : (columns blocks place : ℕ) (boxes : List Box2) (table : List ℕ) (c : Cell) → IsTakenBy columns blocks (length boxes) boxes table → place < length table →
+    slice_index table place ≡ length boxes → (c.x ≡ corner_x columns place) × (c.y ≡ corner_y columns place) → (i : ℕ) → ¬ Holds boxes c.x c.y i
+taken_gap columns blocks place boxes table c t lt e is i h =
+    let at : Holds boxes (corner_x columns place) (corner_y columns place) i = subst (λ z. Holds boxes z (corner_y columns place) i) is.0 (subst (λ z. Holds boxes c.x z i) is.1 h) in
+    t.none place i lt e (slice_get_within boxes i at.area at.numbered) at
+
+pub taken_twice : (columns blocks place : ℕ) (boxes : List Box2) (table : List ℕ) (c : Cell) → IsTakenBy columns blocks (length boxes) boxes table → place ≡ length table → place < blocks →
+    (c.x ≡ corner_x columns place) × (c.y ≡ corner_y columns place) → HeldTwice boxes c.x c.y
+taken_twice columns blocks place boxes table c t e lt is =
+    let at : HeldTwice boxes (corner_x columns place) (corner_y columns place) = subst (λ z. HeldTwice boxes (corner_x columns z) (corner_y columns z)) (sym e) (t.twice (omega (arith, e, lt))) in
+    subst (λ z. HeldTwice boxes z c.y) (sym is.0) (subst (λ z. HeldTwice boxes (corner_x columns place) z) (sym is.1) at)
+
+pub taken_by_all : (columns blocks n : ℕ) (boxes : List Box2) (table : List ℕ) → IsTakenBy columns blocks n boxes table → n ≡ length boxes → IsTakenBy columns blocks (length boxes) boxes table
+taken_by_all columns blocks n boxes table t e = subst (λ z. IsTakenBy columns blocks z boxes table) e t
+
+pub filled_from : (columns blocks n gap : ℕ) (boxes : List Box2) (table : List ℕ) → IsTakenBy columns blocks n boxes table → n ≡ length boxes → blocks ≤ length table → length table ≤ gap →
+    ((k : ℕ) → k < gap → ¬ (slice_index table k ≡ length boxes)) → IsFilled columns boxes blocks table
+filled_from columns blocks n gap boxes table by e le past full =
+    let t = taken_by_all columns blocks n boxes table by e in
+    record {
+      sized = (let b = t.bound in omega (arith, b, le));
+      holders = λ k i e.
+          let lt = slice_get_within table k i e in
+          subst (λ z. IsHolder boxes (corner_x columns k) (corner_y columns k) z) (get_or_from_slice_get table k i 0 e) (holder_at columns blocks k boxes table t lt (full k (omega (arith, lt, past))));
+    }
 
 -- the box that has the block of a cell, and no other, has the cell
 cell_holder : (boxes : List Box2) (x y n : ℕ) → ((k : ℕ) (b : Box2) → slice_get boxes k ≡ Some b → IsEven b) → IsHolder boxes (pos (2 * (x / 2))) (pos (2 * (y / 2))) n → IsHolder boxes (pos x) (pos y) n
@@ -113,38 +243,6 @@ owners_from o boxes t even f inside =
       named = λ x y h. let g = at x y h in (g.holds.area, g.holds.numbered, g.holds.has);
     }
 
-pub no_holder_step : (boxes : List Box2) (x y : ℤ) (from m : ℕ) (b : Box2) → slice_get boxes m ≡ Some b → in_box b x y ≡ false → ((k : ℕ) → from ≤ k → k < m → Holds boxes x y k → ⊥) →
-    (k : ℕ) → from ≤ k → k < m + 1 → Holds boxes x y k → ⊥
-no_holder_step boxes x y from m b got out before k ge lt h = elim (lower_or_same k m lt) [
-  | inl l ↦ before k ge l h
-  | inr e ↦ false≢true (sym out ∙ ap (λ z. in_box z x y) (same_some (slice_get boxes m) b h.area got (ap (slice_get boxes) (sym e) ∙ h.numbered)) ∙ h.has)
-]
-  where
-    lower_or_same : (i m : ℕ) → i < m + 1 → (i < m) ⊎ (i ≡ m)
-    lower_or_same i m h = grind arith
-
--- the first box with a cell, where there is none after it
-pub only_holder : (boxes : List Box2) (x y : ℤ) (i j : ℕ) → IsNextHolder boxes x y 0 i → i < length boxes → IsNextHolder boxes x y (i + 1) j → length boxes ≤ j → IsHolder boxes x y i
-only_holder boxes x y i j p lt q end = record {
-  holds = p.found lt;
-  only = λ k h. elim (three k i) [
-    | inl l ↦ absurd (p.none k (omega arith) l h)
-    | inr r ↦ elim r [
-      | inl e ↦ e
-      | inr g ↦ absurd (let w = slice_get_within boxes k h.area h.numbered in q.none k (omega arith) (omega (arith, w)) h)
-    ]
-  ];
-}
-  where
-    three : (k i : ℕ) → (k < i) ⊎ ((k ≡ i) ⊎ (i < k))
-    three k i = grind arith
-
-pub held_twice : (boxes : List Box2) (x y : ℤ) (i j : ℕ) → IsNextHolder boxes x y 0 i → i < length boxes → IsNextHolder boxes x y (i + 1) j → j < length boxes → HeldTwice boxes x y
-held_twice boxes x y i j p lt q lt' = record { one = i; other = j; apart = (let h = q.not_before (omega arith) in omega (arith, h)); first = p.found lt; second = q.found lt' }
-
-pub held_by_none : (boxes : List Box2) (x y : ℤ) (i : ℕ) → IsNextHolder boxes x y 0 i → i ≡ length boxes → (k : ℕ) → Holds boxes x y k → ⊥
-held_by_none boxes x y i p e k h = let w = slice_get_within boxes k h.area h.numbered in p.none k (omega arith) (omega (arith, w)) h
-
 below_or_from : (i m : ℕ) → (i < m) ⊎ (m ≤ i)
 below_or_from i m = grind arith
 
@@ -154,39 +252,16 @@ div_small a c n h = elim (below_or_from (n / c) a) [
   | inr g ↦ absurd (let e = div-add-mod n c in let m : c * a ≤ c * (n / c) = mul-le-mul_left c g in omega (arith, e, m))
 ]
 
-column_fits : (w n : ℕ) → w ≤ 512 → 0 < w → w % 2 ≡ 0 → 2 * (n % (w / 2)) < 2 ^ 31
-column_fits w n a b e =
-    let p : 0 < w / 2 = omega arith in
-    let q : n % (w / 2) < w / 2 = omega arith in
-    omega arith
-
-row_fits : (w h n : ℕ) → h ≤ 512 → n < (h / 2) * (w / 2) → 2 * (n / (w / 2)) < 2 ^ 31
-row_fits w h n a b = let d = div_small (h / 2) (w / 2) n b in omega (arith, d)
-
-pub corner_x_is : (w n : ℕ) → w ≤ 512 → 0 < w → w % 2 ≡ 0 → to_z w32 (2 * (n % (w / 2))) ≡ corner_x (w / 2) n
-corner_x_is w n a b e = to_z_pos w32 (2 * (n % (w / 2))) (column_fits w n a b e)
-
-pub corner_y_is : (w h n : ℕ) → h ≤ 512 → n < (h / 2) * (w / 2) → to_z w32 (2 * (n / (w / 2))) ≡ corner_y (w / 2) n
-corner_y_is w h n a b = to_z_pos w32 (2 * (n / (w / 2))) (row_fits w h n a b)
-
 pub all_inside : (w h n : ℕ) (boxes : List Box2) → AllInside w h n boxes → length boxes ≤ n → AllInside w h (length boxes) boxes
 all_inside w h n boxes a le k b lt e = a k b (omega arith) e
 
-pub bad_block : (w h outside place : ℕ) (boxes : List Box2) (table : List ℕ) (x y : ℤ) → AllInside w h outside boxes → length boxes ≤ outside → place < (h / 2) * (w / 2) →
-    IsFilled (w / 2) boxes place table → x ≡ corner_x (w / 2) place → y ≡ corner_y (w / 2) place → IsBadBlock w h boxes (record { x = x; y = y })
-bad_block w h outside place boxes table x y a le lt f ex ey = record {
+pub bad_block : (w h outside place : ℕ) (boxes : List Box2) (c : Cell) → AllInside w h outside boxes → length boxes ≤ outside → place < (h / 2) * (w / 2) →
+    AllHeld (w / 2) place boxes → (c.x ≡ corner_x (w / 2) place) × (c.y ≡ corner_y (w / 2) place) → IsBadBlock w h boxes c
+bad_block w h outside place boxes c a le lt before is = record {
   inside = all_inside w h outside boxes a le;
   place = place;
   within = lt;
-  x = ex;
-  y = ey;
-  before = filled_held (w / 2) boxes place table f;
+  x = is.0;
+  y = is.1;
+  before = before;
 }
-
-pub step_at : (columns place i : ℕ) (boxes : List Box2) (table table' : List ℕ) (x y : ℤ) → IsFilled columns boxes place table → table' ≡ table ++ i ∷ [] →
-    x ≡ corner_x columns place → y ≡ corner_y columns place → IsHolder boxes x y i → IsFilled columns boxes (place + 1) table'
-step_at columns place i boxes table table' x y f e ex ey h =
-    filled_step columns boxes place table table' i f e (subst (λ z. IsHolder boxes z (corner_y columns place) i) ex (subst (λ z. IsHolder boxes x z i) ey h))
-
-pub filled_at : (columns : ℕ) (boxes : List Box2) (place n : ℕ) (table : List ℕ) → place ≡ n → IsFilled columns boxes place table → IsFilled columns boxes n table
-filled_at columns boxes place n table e f = subst (λ z. IsFilled columns boxes z table) e f

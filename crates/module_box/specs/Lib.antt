@@ -1,5 +1,6 @@
 pub mod Boxes
 pub mod Tiling
+pub mod Taking
 pub mod OwnersFields
 pub mod Moments
 pub mod Schedules

@@ -66,13 +66,6 @@ IsTileFault w h boxes (Overlap c) = IsBadBlock w h boxes c × HeldTwice boxes c.
 IsTileFault w h boxes (Gap c) = IsBadBlock w h boxes c × ((i : ℕ) → ¬ Holds boxes c.x c.y i)
 IsTileFault w h boxes Memory = Unit {0}
 
--- the first box from `from` on that has the cell, or their number
-pub record IsNextHolder (boxes : List Box2) (x y : ℤ) (from i : ℕ) : Type 0 where
-  pub bound : i ≤ length boxes
-  pub not_before : from ≤ length boxes → from ≤ i
-  pub none : (k : ℕ) → from ≤ k → k < i → ¬ Holds boxes x y k
-  pub found : i < length boxes → Holds boxes x y i
-
 -- what `owner_table` asks of its caller
 pub record IsTask (w h : ℕ) (boxes : List Box2) : Type 0 where
   pub width : (2 ≤ w) × (w ≤ 512) × (w % 2 ≡ 0)

@@ -20,6 +20,7 @@ mod moving;
 mod numbers;
 mod owners;
 mod schedules;
+mod taking;
 mod tile;
 mod values;
 mod wiring;

@@ -1,12 +1,13 @@
 //! The table of which box has each block of a rectangle.
 
-ghost use Rattle.std.specs.Prelude.{◌≡◌, ◌<◌, ◌≤◌, ◌+◌, ◌↔◌, ◌%◌, IsTrue, MatchResult, IfOk, ◌++◌, ◌∷◌, [], vec_len, Some, slice_get, length};
+ghost use Rattle.std.specs.Prelude.{◌≡◌, ◌<◌, ◌≤◌, ◌+◌, ◌↔◌, ◌*◌, ℕ, IsTrue, MatchResult, Some, slice_get, slice_index, length};
 ghost use Rattle.module_box.specs.declared.boxes.Box2.{Box2};
 ghost use Rattle.module_box.specs.declared.tile.TileFault.TheVariants.{Memory};
-ghost use Rattle.module_box.specs.Tiling.{AreOwners, AllInside, IsTask, IsTileFault, IsInside, IsNextHolder};
+ghost use Rattle.module_box.specs.Tiling.{AreOwners, AllInside, IsTask, IsTileFault, IsInside, corner_x, corner_y};
 
 use crate::boxes::Box2;
 use crate::owners::Owners;
+use crate::taking::take_box;
 use bbm_rule::Cell;
 use std::alloc::{AllocError, Global};
 
@@ -57,26 +58,30 @@ fn first_outside(width: u32, height: u32, boxes: &[Box2]) -> usize
     boxes.len()
 }
 
-// the number of the first box from `from` on that has the cell, or how many there are.
-fn next_holder(boxes: &[Box2], cell: Cell, from: usize) -> usize
-    requires { from ≤ length boxes.now }
-    ensures { IsNextHolder boxes.now cell.x cell.y from result }
+// the first place of the table that is free, or its length.
+fn first_free(table: &[usize], free: usize) -> usize
+    ensures bound { result ≤ length table.now }
+    ensures before { (k : ℕ) → k < result → ¬ (slice_index table.now k ≡ free) }
+    ensures found { result < length table.now → slice_index table.now result ≡ free }
 {
-    'boxes: for number in from..boxes.len() {
-        let area = boxes[number];
-        if area.holds(cell) {
-            return number;
+    'places: for place in 0..table.len() {
+        if table[place] == free {
+            return place;
         }
     }
-    boxes.len()
+    table.len()
 }
 
-// one more number at the end
-fn store(table: &mut Vec<usize>, number: usize) -> Result<(), AllocError>
-    ensures { IfOk result (λ _. (table.new.items ≡ table.old.items ++ number ∷ []) × (vec_len table.new ≡ vec_len table.old + 1)) }
+// the upper left cell of the block at a place.
+fn corner(columns: usize, place: usize) -> Cell
+    requires columns { (0 < columns) × (columns ≤ 256) }
+    requires place { place < 256 * columns }
+    ensures { (result.x ≡ corner_x columns place) × (result.y ≡ corner_y columns place) }
 {
-    table.push(number)?;
-    Ok(())
+    Cell {
+        x: (2 * (place % columns)) as i32,
+        y: (2 * (place / columns)) as i32,
+    }
 }
 
 /// Which box has each cell of the rectangle of `width` by `height` cells whose upper left corner is the cell (0, 0), or why
@@ -86,9 +91,11 @@ fn store(table: &mut Vec<usize>, number: usize) -> Result<(), AllocError>
 /// numbered from 0 in the order given.
 ///
 /// The error is the first fault: a box that is not inside, by number; else a block of two by two cells that lies in two boxes
-/// or in none, by y, then x; else want of memory, which may also come before a later block's fault is seen. By the law
+/// or in none, by y, then x; else want of memory, which may also come before a block's fault is seen. By the law
 /// [`fault_means_no_tiling`](crate::laws::fault_means_no_tiling) every fault but want of memory means that the boxes do not
 /// tile.
+///
+/// It takes some steps for each block and for each box, whether there is a fault or not.
 pub fn owner_table(
     alloc: Global,
     width: u32,
@@ -102,23 +109,22 @@ pub fn owner_table(
     if outside < boxes.len() {
         return Err(TileFault::Outside(outside));
     }
-    let columns = width / 2;
-    let blocks = height / 2 * columns;
-    let mut numbers = Vec::new(alloc);
-    'places: for place in 0..blocks {
-        let corner = Cell {
-            x: (2 * (place % columns)) as i32,
-            y: (2 * (place / columns)) as i32,
-        };
-        let first = next_holder(boxes, corner, 0);
-        if first == boxes.len() {
-            return Err(TileFault::Gap(corner));
-        }
-        let second = next_holder(boxes, corner, first + 1);
-        if second < boxes.len() {
-            return Err(TileFault::Overlap(corner));
-        }
-        store(&mut numbers, first)?;
+    let columns = width as usize / 2;
+    let blocks = height as usize / 2 * columns;
+    // No box has this number.
+    let free = boxes.len();
+    let mut numbers = vec![in alloc; free; blocks]?;
+    'boxes: for number in 0..boxes.len() {
+        // Where a block lies in two boxes, no later one can be the first fault.
+        let kept = take_box(&mut numbers, columns, boxes[number], free, number);
+        numbers.truncate(kept);
+    }
+    let gap = first_free(&numbers, free);
+    if gap < numbers.len() {
+        return Err(TileFault::Gap(corner(columns, gap)));
+    }
+    if numbers.len() < blocks {
+        return Err(TileFault::Overlap(corner(columns, numbers.len())));
     }
     Ok(Owners {
         width,

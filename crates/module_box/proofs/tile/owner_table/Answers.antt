@@ -1,44 +1,77 @@
-use Rattle.std.proofs.Common.{◌≡◌, ◌*◌, ◌/◌, ◌<◌, length, arith, refl}
+use Rattle.std.proofs.Common.{◌≡◌, ℕ, ◌*◌, ◌/◌, ◌<◌, length, get_or, take, arith, refl, ap, ◌∙◌}
+use Rattle.std.specs.Prelude.{slice_index}
+use Rattle.std.proofs.lemmas.List.{with_items_is}
+use Rattle.std.proofs.lemmas.Option.{slice_get-get_or}
 use Rattle.module_box.specs.Tiling.{Owning, IsTable}
-use Rattle.module_box.proofs.Tilings.{corner_x_is, corner_y_is, bad_block, held_by_none, held_twice, only_holder, step_at, filled_at, owners_from, all_inside, IsFilled}
+use Rattle.module_box.proofs.Tilings.{all_inside, bad_block, filled_from, owners_from, taken_by_all, taken_by_next, taken_gap, taken_held, taken_twice}
 use Rattle.module_box.proofs.tile.owner_table.Goals as goal
 
-pub returns-then-first-boxes : goal.returns-then-first-boxes
-returns-then-first-boxes c = (
-  bad_block c.args.width c.args.height _ c.places.place c.args.boxes.now c.places.numbers.items _ _ c.first_outside-outside.ensures.before c.if-outside-boxes.false c.places-test.true c.places.invariant.1
-      (corner_x_is c.args.width c.places.place c.requires.width.1 (let p = c.requires.width.0 in omega (arith, p)) c.requires.width.2)
-      (corner_y_is c.args.width c.args.height c.places.place c.requires.height.1 c.places-test.true),
-  held_by_none c.args.boxes.now _ _ _ c.next_holder-first.ensures (let b = c.next_holder-first.ensures.bound in omega (arith, b)),
-)
+pub take_box-kept-requires-clause-even : goal.take_box-kept-requires-clause-even
+take_box-kept-requires-clause-even c = c.requires.even c.boxes.number _ (slice_get-get_or c.args.boxes.now c.boxes.number _ c.boxes-test.true)
 
-pub returns-then-second-boxes : goal.returns-then-second-boxes
-returns-then-second-boxes c = (
-  bad_block c.args.width c.args.height _ c.places.place c.args.boxes.now c.places.numbers.items _ _ c.first_outside-outside.ensures.before c.if-outside-boxes.false c.places-test.true c.places.invariant.1
-      (corner_x_is c.args.width c.places.place c.requires.width.1 (let p = c.requires.width.0 in omega (arith, p)) c.requires.width.2)
-      (corner_y_is c.args.width c.args.height c.places.place c.requires.height.1 c.places-test.true),
-  held_twice c.args.boxes.now _ _ _ _ c.next_holder-first.ensures (let b = c.next_holder-first.ensures.bound in omega (arith, b)) c.next_holder-second.ensures (let b = c.next_holder-second.ensures.bound in omega (arith, b)),
-)
+pub take_box-kept-requires-clause-fits : goal.take_box-kept-requires-clause-fits
+take_box-kept-requires-clause-fits c =
+    let inside = c.first_outside-outside.ensures.before c.boxes.number (get_or c.args.boxes.now c.boxes.number (record { x = 0; y = 0; w = 0; h = 0 })) (omega arith) (slice_get-get_or c.args.boxes.now c.boxes.number _ c.boxes-test.true) in
+    let right = inside.right in
+    let bottom = inside.bottom in
+    record {
+      some = omega (arith, c.requires.width);
+      most = omega (arith, c.requires.width);
+      right = omega (arith, c.requires.width, right);
+      bottom = omega (arith, c.requires.height, bottom);
+    }
 
-pub places-preserved : goal.places-preserved
-places-preserved c =
-    let lt : c.next_holder-first.result < length c.args.boxes.now = let b = c.next_holder-first.ensures.bound in omega (arith, b) in (
-      omega (arith, c.in_ok-store.ensures.1, c.places.invariant.0),
-      step_at (c.args.width / 2) c.places.place _ c.args.boxes.now c.places.numbers.items _ _ _ c.places.invariant.1 c.in_ok-store.ensures.0
-          (corner_x_is c.args.width c.places.place c.requires.width.1 (let p = c.requires.width.0 in omega (arith, p)) c.requires.width.2)
-          (corner_y_is c.args.width c.args.height c.places.place c.requires.height.1 c.places-test.true)
-          (only_holder c.args.boxes.now _ _ _ _ c.next_holder-first.ensures lt c.next_holder-second.ensures c.if-second-boxes.false),
+pub boxes-preserved : goal.boxes-preserved
+boxes-preserved c =
+    let takes = rw c.deref_mut.ensures.value at c.take_box-kept.ensures in
+    let long : length c.take_box-kept.new.table ≡ length c.boxes.numbers.items = omega (arith, ap length c.deref_mut.ensures.value) in
+    let items = with_items_is c.boxes.numbers c.take_box-kept.new.table (omega (arith, c.boxes.numbers.ok.0)) in
+    taken_by_next (c.args.width / 2) (c.args.height / 2 * (c.args.width / 2)) c.boxes.number c.take_box-kept.result c.args.boxes.now _ c.boxes.numbers.items c.take_box-kept.new.table c.truncate.new.self.items
+    c.boxes.invariant c.boxes-test.true (slice_get-get_or c.args.boxes.now c.boxes.number _ c.boxes-test.true) takes (c.truncate.ensures.items ∙ ap (take c.take_box-kept.result) items)
+
+pub returns-then-gap-len : goal.returns-then-gap-len
+returns-then-gap-len c =
+    let columns = c.args.width / 2 in
+    let blocks = c.args.height / 2 * (c.args.width / 2) in
+    let place = c.first_free-gap.result in
+    let table = c.boxes.numbers.items in
+    let free = rw c.deref.ensures.value at c.first_free-gap.ensures in
+    let t = taken_by_all columns blocks c.boxes.number c.args.boxes.now table c.boxes.invariant (omega arith) in
+    let lt : place < length table = omega (arith, c.boxes.numbers.ok.0) in
+    let within : place < blocks = (let b = t.bound in omega (arith, b, lt)) in (
+      bad_block c.args.width c.args.height _ place c.args.boxes.now c.corner.result c.first_outside-outside.ensures.before c.if-outside-boxes.false within
+          (taken_held columns blocks place c.args.boxes.now table t (omega (arith, lt)) free.before) c.corner.ensures,
+      taken_gap columns blocks place c.args.boxes.now table c.corner.result t lt (free.found lt) c.corner.ensures,
+    )
+
+pub returns-then-len-blocks : goal.returns-then-len-blocks
+returns-then-len-blocks c =
+    let columns = c.args.width / 2 in
+    let blocks = c.args.height / 2 * (c.args.width / 2) in
+    let place = c.len-then-len-blocks.result in
+    let table = c.boxes.numbers.items in
+    let free = rw c.deref.ensures.value at c.first_free-gap.ensures in
+    let t = taken_by_all columns blocks c.boxes.number c.args.boxes.now table c.boxes.invariant (omega arith) in
+    let long : place ≡ length table = omega (arith, c.boxes.numbers.ok.0) in
+    let within : place < blocks = omega arith in
+    let full : (k : ℕ) → k < place → ¬ (slice_index table k ≡ length c.args.boxes.now) = λ k p. free.before k (omega arith) in (
+      bad_block c.args.width c.args.height _ place c.args.boxes.now c.corner-then-len-blocks.result c.first_outside-outside.ensures.before c.if-outside-boxes.false within
+          (taken_held columns blocks place c.args.boxes.now table t (omega (arith, long)) full) c.corner-then-len-blocks.ensures,
+      taken_twice columns blocks place c.args.boxes.now table c.corner-then-len-blocks.result t long within c.corner-then-len-blocks.ensures,
     )
 
 pub invariant_of-result : goal.invariant_of-result
 invariant_of-result c =
-    let full : c.places.place ≡ c.args.height / 2 * (c.args.width / 2) = omega arith in
-    let filled : IsFilled (c.args.width / 2) c.args.boxes.now (c.args.height / 2 * (c.args.width / 2)) c.places.numbers.items = filled_at _ _ _ _ _ full c.places.invariant.1 in
+    let free = rw c.deref.ensures.value at c.first_free-gap.ensures in
+    let filled = filled_from (c.args.width / 2) (c.args.height / 2 * (c.args.width / 2)) c.boxes.number c.first_free-gap.result c.args.boxes.now c.boxes.numbers.items c.boxes.invariant (omega arith)
+    (omega (arith, c.boxes.numbers.ok.0)) (omega (arith, c.boxes.numbers.ok.0)) free.before in
     record { width = c.requires.width; height = c.requires.height; sized = filled.sized }
 
 pub returns : goal.returns
 returns c =
-    let owning : Owning = record { width = c.args.width; height = c.args.height; numbers = c.places.numbers.items } in
-    let full : c.places.place ≡ c.args.height / 2 * (c.args.width / 2) = omega arith in
-    let filled : IsFilled (c.args.width / 2) c.args.boxes.now (c.args.height / 2 * (c.args.width / 2)) c.places.numbers.items = filled_at _ _ _ _ _ full c.places.invariant.1 in
+    let owning : Owning = record { width = c.args.width; height = c.args.height; numbers = c.boxes.numbers.items } in
+    let free = rw c.deref.ensures.value at c.first_free-gap.ensures in
+    let filled = filled_from (c.args.width / 2) (c.args.height / 2 * (c.args.width / 2)) c.boxes.number c.first_free-gap.result c.args.boxes.now c.boxes.numbers.items c.boxes.invariant (omega arith)
+    (omega (arith, c.boxes.numbers.ok.0)) (omega (arith, c.boxes.numbers.ok.0)) free.before in
     let table : IsTable owning = record { width = c.requires.width; height = c.requires.height; sized = filled.sized } in
     (refl, refl, owners_from owning c.args.boxes.now table c.requires.even filled (all_inside _ _ _ _ c.first_outside-outside.ensures.before c.if-outside-boxes.false))
