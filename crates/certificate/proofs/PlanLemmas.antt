@@ -1,7 +1,7 @@
 -- The indexes of a layout's cells, and the ports in a module's box.
-use Rattle.std.proofs.Common.{◌≡◌, ℕ, zero, suc, ◌+◌, ℤ, Bool, true, false, not, ◌&&◌, ◌||◌, if◌then◌else◌, List, [], ◌∷◌, ◌++◌, map, ◌<◌, ◌≤◌, get_or, length, Option, Some, None, refl, sym, ap, ap₂, subst, ◌∙◌, arith}
+use Rattle.std.proofs.Common.{◌≡◌, ℕ, zero, suc, ◌+◌, ℤ, Bool, true, false, not, ◌||◌, if◌then◌else◌, List, [], ◌∷◌, ◌++◌, map, ◌<◌, ◌≤◌, get_or, length, Option, Some, None, refl, sym, ap, subst, ◌∙◌, arith}
 use Rattle.std.specs.Prelude.{slice_get, IsTrue, IfSome}
-use Rattle.std.specs.List.{list_any, list_all, flat_map}
+use Rattle.std.specs.List.{list_all, flat_map}
 use Rattle.std.proofs.lemmas.List.Folds.{list_any-append, list_all-append, list_all-map}
 use Rattle.std.proofs.lemmas.Bool.{and_parts}
 use Rattle.bbm_rule.specs.Plane.{is_at}
@@ -34,7 +34,7 @@ use Rattle.certificate.specs.PortTables.{AreOnBoard}
 use Rattle.certificate.specs.Rules.{is_local}
 use Rattle.certificate.proofs.BoxPlaces.{skipped}
 use Rattle.certificate.proofs.Lists.{kept, some_is}
-use Rattle.certificate.proofs.PortLemmas.{cell_same, cell_itself}
+use Rattle.certificate.proofs.PortLemmas.{cell_same}
 
 -- ---- the cells of mirrors
 

@@ -1,20 +1,13 @@
 -- Equal cells, and the cells of a box.
-use Rattle.std.proofs.Common.{◌≡◌, ◌⊎◌, ℕ, zero, suc, ◌+◌, ◌<◌, ℤ, Bool, true, false, ◌&&◌, ◌||◌, if◌then◌else◌, List, [], ◌∷◌, ◌++◌, take, length, get_or, Option, Some, None, refl, sym, ap, ap₂, subst, ◌∙◌, inl, inr, arith}
-use Rattle.std.specs.Prelude.{slice_get}
+use Rattle.std.proofs.Common.{◌≡◌, ℤ, Bool, true, List, [], ◌∷◌, refl, ap, ◌∙◌, inl, inr}
 use Rattle.std.specs.List.{list_any}
-use Rattle.std.specs.Option.{option_map_or}
 use Rattle.std.specs.Ordering.{int_eq}
-use Rattle.std.proofs.Math.Seq.{take-suc}
 use Rattle.std.proofs.lemmas.Bool.{and_parts}
 use Rattle.std.proofs.lemmas.Bool.Decides.{Decides-int_eq}
-use Rattle.std.proofs.lemmas.List.Folds.{list_any-append}
-use Rattle.std.proofs.lemmas.Option.{slice_get-get_or, slice_get_within}
 use Rattle.bbm_rule.specs.Plane.{is_at}
 use Rattle.bbm_rule.specs.declared.block.Cell.{Cell}
-use Rattle.pattern.specs.Layout.{HaveOwnCells, in_cells}
-use Rattle.pattern.specs.declared.parts.Port.{Port}
+use Rattle.pattern.specs.Layout.{in_cells}
 use Rattle.pattern.proofs.RectangleLemmas.{in_rectangle_cells}
-use Rattle.module_box.proofs.Rising.{pushed}
 use Rattle.module_box.specs.Boxes.{in_box}
 use Rattle.module_box.specs.declared.boxes.Box2.{Box2}
 use Rattle.certificate.specs.Rules.{box_cells, same_cell}

@@ -1,5 +1,5 @@
 -- The tables of ports, and the ports in a box.
-use Rattle.std.proofs.Common.{◌≡◌, ◌⊎◌, ℕ, zero, suc, ◌+◌, ◌*◌, ◌<◌, ◌≤◌, ℤ, Bool, true, false, ◌&&◌, ◌||◌, if◌then◌else◌, List, [], ◌∷◌, ◌++◌, ◌-◌, set, take, length, length-take-le, get_or, replicate, Option, Some, None, refl, sym, ap, ap₂, subst, ◌∙◌, inl, inr, arith}
+use Rattle.std.proofs.Common.{◌≡◌, ℕ, zero, suc, ◌+◌, ◌*◌, ◌<◌, ◌≤◌, ℤ, Bool, true, false, ◌&&◌, ◌||◌, if◌then◌else◌, List, [], ◌∷◌, ◌++◌, ◌-◌, set, take, length, length-take-le, get_or, replicate, Option, Some, None, refl, sym, ap, ap₂, subst, ◌∙◌, arith}
 use Rattle.std.specs.Prelude.{slice_get}
 use Rattle.std.specs.List.{list_any}
 use Rattle.std.specs.Option.{option_map_or}
@@ -11,7 +11,7 @@ use Rattle.std.proofs.lemmas.List.Folds.{list_any-append}
 use Rattle.std.proofs.lemmas.Option.{slice_get-get_or, slice_get_within}
 use Rattle.bbm_rule.specs.Plane.{is_at}
 use Rattle.bbm_rule.specs.declared.block.Cell.{Cell}
-use Rattle.pattern.specs.Layout.{HaveOwnCells, in_cells}
+use Rattle.pattern.specs.Layout.{HaveOwnCells}
 use Rattle.pattern.specs.declared.parts.Extent.{Extent}
 use Rattle.pattern.specs.declared.parts.Port.{Port}
 use Rattle.module_box.specs.Boxes.{in_box}
