@@ -1,7 +1,6 @@
 -- What a module's lines give to its job.
-use Rattle.std.proofs.Common.{◌≡◌, ℕ, ◌+◌, ◌<◌, ◌≤◌, ◌^◌, length, List, [], None, sym, ap, subst, ◌∙◌, arith, get_or}
+use Rattle.std.proofs.Common.{◌≡◌, ℕ, ◌+◌, ◌<◌, ◌≤◌, ◌^◌, length, List, None, sym, ap, subst, ◌∙◌, arith, get_or}
 use Rattle.std.specs.List.{All}
-use Rattle.std.proofs.lemmas.List.Elements.{All-nil}
 use Rattle.std.proofs.lemmas.Option.{slice_get-get_or, slice_get_within}
 use Rattle.circuit.specs.Bridge.{circuit_of, netlist_of}
 use Rattle.circuit.specs.Meaning.{Netlist}
@@ -15,7 +14,6 @@ use Rattle.certificate.specs.Entries.{Setting, ModuleLines, cuts, cut_wires, gat
 use Rattle.certificate.specs.Grammars.{setting_of}
 use Rattle.certificate.specs.Modules.{IsModule}
 use Rattle.certificate.specs.Timetables.{IsNamedLocal}
-use Rattle.certificate.specs.declared.job.Stop.{Stop}
 
 -- the numbers of gates are small
 pub small_gates : (n : Netlist) (cw gs : List ℕ) → AreLocalLines n cw gs → length n.gates ≤ 1024 → All (λ k. k < 2 ^ 16) gs

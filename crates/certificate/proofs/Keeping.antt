@@ -1,7 +1,8 @@
 -- What is kept of the lines, after one more line.
-use Rattle.std.proofs.Common.{◌≡◌, ℕ, ◌+◌, ◌<◌, ◌≤◌, ℤ, Bool, true, false, not, ◌&&◌, ◌||◌, List, [], ◌∷◌, ◌++◌, length, Option, Some, None, option_map, refl, sym, ap, subst, ◌∙◌, arith}
+use Rattle.std.proofs.Common.{◌≡◌, ℕ, ◌+◌, ◌<◌, ◌≤◌, ℤ, Bool, true, false, not, ◌&&◌, ◌||◌, List, [], ◌∷◌, ◌++◌, length, Option, Some, None, option_map, refl, sym, ap, subst, ◌∙◌, arith, append-nil}
 use Rattle.std.specs.Prelude.{slice_get}
-use Rattle.std.specs.List.{list_any}
+use Rattle.std.specs.List.{list_any, flat_map}
+use Rattle.std.specs.Option.{option_to_list}
 use Rattle.std.proofs.lemmas.List.Folds.{list_any-append}
 use Rattle.std.proofs.lemmas.List.{length_push}
 use Rattle.bbm_rule.specs.Board.{Board, live, HasSameSize}
@@ -16,16 +17,16 @@ use Rattle.certificate.specs.Entries.{Setting, ModuleLines, with_line, change_la
 use Rattle.certificate.specs.Orders.{AreInOrder, may_follow}
 use Rattle.certificate.specs.Rules.{same_cell, is_starred, are_new, box_cells, is_incomplete, is_local, lacks_port, words_fault, line_fault, inner_fault, module_fault}
 use Rattle.certificate.specs.Modules.{IsModule}
-use Rattle.certificate.specs.BuilderView.{AreBuilt, IsPresent, IsKept, counted, IsSmall}
+use Rattle.certificate.specs.BuilderView.{AreBuilt, IsInner, IsPresent, IsKept, counted, IsSmall, outs_at, wires_in}
 use Rattle.certificate.specs.declared.entry.Border.{Border}
 use Rattle.certificate.specs.declared.entry.Counts.{Counts}
 use Rattle.certificate.specs.declared.entry.Entry.{Entry}
 use Rattle.certificate.specs.declared.entry.StopLine.{StopLine}
 use Rattle.certificate.specs.declared.entry.Entry.TheVariants.{Module, Cut, Use, Edge, Halo, Stop}
 use Rattle.certificate.proofs.BuiltLemmas.{built_none, module_built, line_built, good_module}
-use Rattle.certificate.proofs.Growing.{modules_push, flat_same, last_at, last_pushed, last_changed, last_mapped}
+use Rattle.certificate.proofs.Growing.{modules_push, flat_push, flat_same, last_at, last_pushed, last_changed, last_mapped}
 use Rattle.certificate.proofs.Lists.{some_is}
-use Rattle.certificate.proofs.StarLemmas.{or_none}
+use Rattle.certificate.proofs.KnownLemmas.{none_new}
 use Rattle.certificate.proofs.ModulePushes.{no_code, both_none, not_false, IsNewWire, new_wire, IsGoodUse, good_use, cuts_cut, gates_use, edges_edge, halos_halo, stops_stop, known_cut, known_use, known_same, cut_pushed, use_pushed, edge_pushed, halo_pushed, stop_pushed}
 
 no_last : {X : Type 0} (x : X) → None ≡ Some x → ⊥
@@ -201,134 +202,102 @@ module _ (g : Setting) (es : List Entry) (covered : Board) (counts : List Counts
 -- ---- what is kept of the last module after one more line
 
 module _ (g : Setting) (m : ModuleLines) (last : Option Entry) (names : List (List ℕ)) (local : List ℕ) (e h : List Cell) (p : IsPresent g m last names local e h) where
-  pub present_cut : (n : List ℕ) → IsModule g m → may_follow m.lines (Cut n) ≡ true → (w : ℕ) → wire_of g.circuit n ≡ Some w → IsPresent g (with_line (Cut n) m) (Some (Cut n)) names (local ++ w ∷ []) e h
-  present_cut n is follows w named = record {
-    final = last_pushed m.lines (Cut n);
-    ports = p.ports;
-    wires = ap (λ l. l ++ w ∷ []) p.wires ∙ sym (known_cut g m is n follows w named);
-    stars = λ c. p.stars c ∙ ap (list_any (is_starred c)) (sym (flat_same edge_in m.lines (Cut n) refl));
-    halo_stars = λ c. p.halo_stars c ∙ ap (list_any (is_starred c)) (sym (flat_same halo_in m.lines (Cut n) refl));
-  }
+  more_stars : (c : Cell) (f : Entry → List Border) (i : Entry) (old new : List Cell) → list_any (same_cell c) old ≡ list_any (is_starred c) (flat_map f m.lines)
+      → list_any (same_cell c) new ≡ (list_any (same_cell c) old || list_any (is_starred c) (f i)) → list_any (same_cell c) new ≡ list_any (is_starred c) (flat_map f (m.lines ++ i ∷ []))
+  more_stars c f i old new before after =
+      after ∙ ap (λ b. b || list_any (is_starred c) (f i)) before ∙ sym (list_any-append (is_starred c) (flat_map f m.lines) (f i)) ∙ ap (list_any (is_starred c)) (sym (flat_push f m.lines i))
 
-  pub present_use : (k : ℕ) (gate : Gate) → slice_get g.circuit.netlist.gates k ≡ Some gate → IsPresent g (with_line (Use k) m) (Some (Use k)) names (local ++ gate.outs) e h
-  present_use k gate at = record {
-    final = last_pushed m.lines (Use k);
+  pub present_line : (i : Entry) → known g.circuit (with_line i m) ≡ known g.circuit m ++ wires_in g.circuit i → (e' h' : List Cell)
+      → ((c : Cell) → list_any (same_cell c) e' ≡ (list_any (same_cell c) e || list_any (is_starred c) (edge_in i)))
+      → ((c : Cell) → list_any (same_cell c) h' ≡ (list_any (same_cell c) h || list_any (is_starred c) (halo_in i)))
+      → IsPresent g (with_line i m) (Some i) names (local ++ wires_in g.circuit i) e' h'
+  present_line i wires e' h' stars halo_stars = record {
+    final = last_pushed m.lines i;
     ports = p.ports;
-    wires = ap (λ l. l ++ gate.outs) p.wires ∙ sym (known_use g m k gate at);
-    stars = λ c. p.stars c ∙ ap (list_any (is_starred c)) (sym (flat_same edge_in m.lines (Use k) refl));
-    halo_stars = λ c. p.halo_stars c ∙ ap (list_any (is_starred c)) (sym (flat_same halo_in m.lines (Use k) refl));
-  }
-
-  one_star : (c : Cell) (old new : List Cell) (ds more : List Border) (d : Border) → list_any (same_cell c) old ≡ list_any (is_starred c) ds → list_any (same_cell c) new ≡ (list_any (same_cell c) old || is_starred c d) → more ≡ ds ++ d ∷ [] → list_any (same_cell c) new ≡ list_any (is_starred c) more
-  one_star c old new ds more d before after is =
-      after ∙ ap (λ b. b || is_starred c d) before ∙ ap (λ b. list_any (is_starred c) ds || b) (sym (or_none (is_starred c d))) ∙ sym (list_any-append (is_starred c) ds (d ∷ [])) ∙ ap (list_any (is_starred c)) (sym is)
-
-  pub present_edge : (d : Border) (e' : List Cell) → ((c : Cell) → list_any (same_cell c) e' ≡ (list_any (same_cell c) e || is_starred c d)) → IsPresent g (with_line (Edge d) m) (Some (Edge d)) names local e' h
-  present_edge d e' after = record {
-    final = last_pushed m.lines (Edge d);
-    ports = p.ports;
-    wires = p.wires ∙ sym (known_same g m (Edge d) refl refl);
-    stars = λ c. one_star c e e' (edges m) _ d (p.stars c) (after c) (edges_edge m d);
-    halo_stars = λ c. p.halo_stars c ∙ ap (list_any (is_starred c)) (sym (flat_same halo_in m.lines (Edge d) refl));
-  }
-
-  pub present_halo : (d : Border) (h' : List Cell) → ((c : Cell) → list_any (same_cell c) h' ≡ (list_any (same_cell c) h || is_starred c d)) → IsPresent g (with_line (Halo d) m) (Some (Halo d)) names local e h'
-  present_halo d h' after = record {
-    final = last_pushed m.lines (Halo d);
-    ports = p.ports;
-    wires = p.wires ∙ sym (known_same g m (Halo d) refl refl);
-    stars = λ c. p.stars c ∙ ap (list_any (is_starred c)) (sym (flat_same edge_in m.lines (Halo d) refl));
-    halo_stars = λ c. one_star c h h' (halos m) _ d (p.halo_stars c) (after c) (halos_halo m d);
-  }
-
-  pub present_stop : (s : StopLine) → IsPresent g (with_line (Stop s) m) (Some (Stop s)) names local e h
-  present_stop s = record {
-    final = last_pushed m.lines (Stop s);
-    ports = p.ports;
-    wires = p.wires ∙ sym (known_same g m (Stop s) refl refl);
-    stars = λ c. p.stars c ∙ ap (list_any (is_starred c)) (sym (flat_same edge_in m.lines (Stop s) refl));
-    halo_stars = λ c. p.halo_stars c ∙ ap (list_any (is_starred c)) (sym (flat_same halo_in m.lines (Stop s) refl));
+    wires = ap (λ l. l ++ wires_in g.circuit i) p.wires ∙ sym wires;
+    stars = λ c. more_stars c edge_in i e e' (p.stars c) (stars c);
+    halo_stars = λ c. more_stars c halo_in i h h' (p.halo_stars c) (halo_stars c);
   }
 
 -- ---- each kind of line
 
-module _ (g : Setting) (es : List Entry) (covered : Board) (counts : List Counts) (last : Option Entry) (names : List (List ℕ)) (local : List ℕ) (e h : List Cell) (kept : IsKept g es covered counts last names local e h) (after : List Counts) where
-  the_wires : (i : Entry) (good : IsGoodLine g es i) → local ≡ known g.circuit good.module_lines
-  the_wires i good = (kept.present good.module_lines good.last).wires
+-- what a line does to the last module
+pub record DoesLine (g : Setting) (es : List Entry) (i : Entry) (m : ModuleLines) : Type 0 where
+  pub line : add_line (modules_of es) i ≡ change_last (with_line i) (modules_of es)
+  pub counts : (n : ModuleLines) → counts_of (with_line i n) ≡ counted i (counts_of n)
+  pub grows : IsModule g m → IsModule g (with_line i m)
+  pub wires : known g.circuit (with_line i m) ≡ known g.circuit m ++ wires_in g.circuit i
+  pub new : are_new (known g.circuit m) (wires_in g.circuit i) ≡ true
 
-  module _ (n : List ℕ) (good : IsGoodLine g es (Cut n)) where
-    cut_words : (length (cuts good.module_lines) < 10) × IsNewWire g.circuit (known g.circuit good.module_lines) n
-    cut_words = new_wire g.circuit (length (cuts good.module_lines)) (known g.circuit good.module_lines) n good.words
+no_wires : (g : Setting) (m : ModuleLines) (i : Entry) → cut_in i ≡ [] → use_in i ≡ [] → known g.circuit (with_line i m) ≡ known g.circuit m ++ []
+no_wires g m i no_cut no_use = known_same g m i no_cut no_use ∙ sym (append-nil (known g.circuit m))
 
-    pub cut_named : wire_of g.circuit n ≡ None → ⊥
-    cut_named none = absurd (no_last cut_words.1.wire (sym none ∙ cut_words.1.named))
+cut_is_new : (local : List ℕ) (w : ℕ) → is_among local w ≡ false → are_new local (w ∷ []) ≡ true
+unfolding are_new
+cut_is_new local w new = rw new refl
 
-    module _ (w : ℕ) (named : wire_of g.circuit n ≡ Some w) where
-      the_wire : cut_words.1.wire ≡ w
-      unfolding cut_words
-      the_wire = some_is cut_words.1.wire w (sym cut_words.1.named ∙ named)
+pub does_line : (g : Setting) (es : List Entry) (i : Entry) → IsInner i → (good : IsGoodLine g es i) → IsModule g good.module_lines → DoesLine g es i good.module_lines
+unfolding add_line
+does_line g es (Module b) inner good is = absurd inner
+does_line g es (Cut n) inner good is =
+    let m = good.module_lines in
+    let words = new_wire g.circuit (length (cuts m)) (known g.circuit m) n good.words in
+    let one : wires_in g.circuit (Cut n) ≡ words.1.wire ∷ [] = ap option_to_list words.1.named in
+    record {
+      line = refl;
+      counts = counted_cut n;
+      grows = λ _. cut_pushed g m is n good.follows words.1.wire words.1.named words.0 words.1.new;
+      wires = known_cut g m is n good.follows words.1.wire words.1.named ∙ ap (λ l. known g.circuit m ++ l) (sym one);
+      new = ap (are_new (known g.circuit m)) one ∙ cut_is_new (known g.circuit m) words.1.wire words.1.new;
+    }
+does_line g es (Use k) inner good is =
+    let m = good.module_lines in
+    let words = good_use g.circuit (length (gates m)) (known g.circuit m) k good.words in
+    let outs : wires_in g.circuit (Use k) ≡ words.1.gate.outs = ap outs_at words.1.numbered in
+    record {
+      line = refl;
+      counts = counted_use k;
+      grows = λ _. use_pushed g m k is good.follows words.0 words.1;
+      wires = known_use g m k words.1.gate words.1.numbered ∙ ap (λ l. known g.circuit m ++ l) (sym outs);
+      new = ap (are_new (known g.circuit m)) outs ∙ words.1.outs;
+    }
+does_line g es (Edge d) inner good is = record {
+  line = refl;
+  counts = counted_edge d;
+  grows = λ _. edge_pushed g good.module_lines is d good.follows good.words;
+  wires = no_wires g good.module_lines (Edge d) refl refl;
+  new = none_new (known g.circuit good.module_lines);
+}
+does_line g es (Halo d) inner good is = record {
+  line = refl;
+  counts = counted_halo d;
+  grows = λ _. halo_pushed g good.module_lines is d good.follows good.words;
+  wires = no_wires g good.module_lines (Halo d) refl refl;
+  new = none_new (known g.circuit good.module_lines);
+}
+does_line g es (Stop s) inner good is = record {
+  line = refl;
+  counts = counted_stop s;
+  grows = λ _. stop_pushed g good.module_lines is s good.follows good.words;
+  wires = no_wires g good.module_lines (Stop s) refl refl;
+  new = none_new (known g.circuit good.module_lines);
+}
 
-      cut_new : is_among (known g.circuit good.module_lines) w ≡ false
-      cut_new = ap (is_among (known g.circuit good.module_lines)) (sym the_wire) ∙ cut_words.1.new
+module _ (g : Setting) (es : List Entry) (covered : Board) (counts : List Counts) (last : Option Entry) (names : List (List ℕ)) (local : List ℕ) (e h : List Cell) (kept : IsKept g es covered counts last names local e h) (i : Entry) (inner : IsInner i) (good : IsGoodLine g es i) where
+  the_line : DoesLine g es i good.module_lines
+  the_line = does_line g es i inner good (last_good g es covered counts last names local e h kept good.module_lines good.last)
 
-      pub cut_fresh : is_among local w ≡ false
-      cut_fresh = ap (λ l. is_among l w) (the_wires (Cut n) good) ∙ cut_new
+  -- the wires that the line makes local are not local before it
+  pub inner_new : are_new local (wires_in g.circuit i) ≡ true
+  inner_new = ap (λ l. are_new l (wires_in g.circuit i)) ((kept.present good.module_lines good.last).wires) ∙ the_line.new
 
-      pub kept_cut : after ≡ change_last (counted (Cut n)) counts → IsKept g (es ++ Cut n ∷ []) covered after (Some (Cut n)) names (local ++ w ∷ []) e h
-      unfolding add_line
-      kept_cut now =
-          kept_line g es covered counts last names local e h kept (Cut n) good refl (counted_cut n) after now
-          (λ is. cut_pushed g good.module_lines is n good.follows w named cut_words.0 cut_new)
-          (local ++ w ∷ []) e h
-          (λ p. present_cut g good.module_lines last names local e h p n (last_good g es covered counts last names local e h kept good.module_lines good.last) good.follows w named)
-
-  module _ (k : ℕ) (good : IsGoodLine g es (Use k)) where
-    use_words : (length (gates good.module_lines) < 64) × IsGoodUse g.circuit (known g.circuit good.module_lines) k
-    use_words = good_use g.circuit (length (gates good.module_lines)) (known g.circuit good.module_lines) k good.words
-
-    pub use_named : slice_get g.circuit.netlist.gates k ≡ None → ⊥
-    use_named none = absurd (no_last use_words.1.gate (sym none ∙ use_words.1.numbered))
-
-    module _ (gate : Gate) (at : slice_get g.circuit.netlist.gates k ≡ Some gate) where
-      pub use_fresh : are_new local gate.outs ≡ true
-      use_fresh =
-          ap (λ l. are_new l gate.outs) (the_wires (Use k) good)
-          ∙ ap (λ (x : Gate). are_new (known g.circuit good.module_lines) x.outs) (some_is gate use_words.1.gate (sym at ∙ use_words.1.numbered))
-          ∙ use_words.1.outs
-
-      pub kept_use : after ≡ change_last (counted (Use k)) counts → IsKept g (es ++ Use k ∷ []) covered after (Some (Use k)) names (local ++ gate.outs) e h
-      unfolding add_line
-      kept_use now =
-          kept_line g es covered counts last names local e h kept (Use k) good refl (counted_use k) after now
-          (λ is. use_pushed g good.module_lines k is good.follows use_words.0 use_words.1)
-          (local ++ gate.outs) e h
-          (λ p. present_use g good.module_lines last names local e h p k gate at)
-
-  module _ (d : Border) (cells : List Cell) where
-    pub kept_edge : IsGoodLine g es (Edge d) → after ≡ change_last (counted (Edge d)) counts → ((c : Cell) → list_any (same_cell c) cells ≡ (list_any (same_cell c) e || is_starred c d)) → IsKept g (es ++ Edge d ∷ []) covered after (Some (Edge d)) names local cells h
-    unfolding add_line
-    kept_edge good now stars =
-        kept_line g es covered counts last names local e h kept (Edge d) good refl (counted_edge d) after now
-        (λ is. edge_pushed g good.module_lines is d good.follows good.words)
-        local cells h
-        (λ p. present_edge g good.module_lines last names local e h p d cells stars)
-
-    pub kept_halo : IsGoodLine g es (Halo d) → after ≡ change_last (counted (Halo d)) counts → ((c : Cell) → list_any (same_cell c) cells ≡ (list_any (same_cell c) h || is_starred c d)) → IsKept g (es ++ Halo d ∷ []) covered after (Some (Halo d)) names local e cells
-    unfolding add_line
-    kept_halo good now stars =
-        kept_line g es covered counts last names local e h kept (Halo d) good refl (counted_halo d) after now
-        (λ is. halo_pushed g good.module_lines is d good.follows good.words)
-        local e cells
-        (λ p. present_halo g good.module_lines last names local e h p d cells stars)
-
-  module _ (s : StopLine) where
-    pub kept_stop : IsGoodLine g es (Stop s) → after ≡ change_last (counted (Stop s)) counts → IsKept g (es ++ Stop s ∷ []) covered after (Some (Stop s)) names local e h
-    unfolding add_line
-    kept_stop good now =
-        kept_line g es covered counts last names local e h kept (Stop s) good refl (counted_stop s) after now
-        (λ is. stop_pushed g good.module_lines is s good.follows good.words)
-        local e h
-        (λ p. present_stop g good.module_lines last names local e h p s)
+  pub kept_inner : (after : List Counts) → after ≡ change_last (counted i) counts → (e' h' : List Cell)
+      → ((c : Cell) → list_any (same_cell c) e' ≡ (list_any (same_cell c) e || list_any (is_starred c) (edge_in i)))
+      → ((c : Cell) → list_any (same_cell c) h' ≡ (list_any (same_cell c) h || list_any (is_starred c) (halo_in i)))
+      → IsKept g (es ++ i ∷ []) covered after (Some i) names (local ++ wires_in g.circuit i) e' h'
+  kept_inner after now e' h' stars halo_stars =
+      kept_line g es covered counts last names local e h kept i good the_line.line the_line.counts after now the_line.grows (local ++ wires_in g.circuit i) e' h'
+      (λ p. present_line g good.module_lines last names local e h p i the_line.wires e' h' stars halo_stars)
 
 -- ---- one more module
 

@@ -1,11 +1,13 @@
 -- Wires that are local, and wires that become local.
-use Rattle.std.proofs.Common.{◌≡◌, ℕ, zero, suc, ◌+◌, ◌<◌, ◌==◌, if◌then◌else◌, Bool, true, false, not, ◌&&◌, ◌||◌, List, [], ◌∷◌, ◌++◌, take, drop, get_or, length, nat_eq, append-nil, append_assoc, take-append-drop, refl, sym, ap, ap₂, ◌∙◌, arith}
+use Rattle.std.proofs.Common.{◌≡◌, ℕ, zero, suc, ◌+◌, ◌<◌, ◌==◌, if◌then◌else◌, Bool, true, false, not, ◌&&◌, ◌||◌, List, [], ◌∷◌, ◌++◌, take, drop, get_or, length, Option, Some, None, nat_eq, append-nil, append_assoc, take-append-drop, refl, sym, ap, ap₂, ◌∙◌, arith}
 use Rattle.std.specs.List.{list_any}
 use Rattle.std.proofs.Math.Seq.{take-suc}
 use Rattle.std.proofs.lemmas.Bool.{and_parts}
 use Rattle.std.proofs.lemmas.List.Folds.{list_any-append}
 use Rattle.module_box.specs.Locals.{is_among}
+use Rattle.std.specs.Option.{option_to_list}
 use Rattle.certificate.specs.Rules.{are_new}
+use Rattle.certificate.proofs.Lists.{some_is}
 
 eq_sym : (v w : ℕ) → (w == v) ≡ (v == w)
 eq_sym v w = grind arith
@@ -79,3 +81,9 @@ none_new local = refl
 
 pub learnt : (keys new : List ℕ) (w : ℕ) → is_among keys w ≡ false → new ≡ (if list_any (nat_eq w) keys then keys else keys ++ w ∷ []) → new ≡ keys ++ w ∷ []
 learnt keys new w fresh is = is ∙ rw (among keys w, fresh) refl
+
+-- the wire that is cut is new
+pub cut_new : (local : List ℕ) (o : Option ℕ) (w : ℕ) → o ≡ Some w → are_new local (option_to_list o) ≡ true → is_among local w ≡ false
+unfolding are_new
+cut_new local None w is h = absurd cc
+cut_new local (Some v) w is h = ap (is_among local) (sym (some_is v w is)) ∙ not_true (is_among local v) true h

@@ -26,6 +26,7 @@ pub mod ModuleLemmas
 pub mod ModulePushes
 pub mod OrderLemmas
 pub mod PortLemmas
+pub mod TableLemmas
 pub mod Soundness
 pub mod StarLemmas
 pub mod TileLemmas

@@ -1,20 +1,24 @@
 -- The indexes of a layout's cells, and the ports in a module's box.
-use Rattle.std.proofs.Common.{◌≡◌, ℕ, zero, suc, ◌+◌, ℤ, Bool, true, false, ◌||◌, if◌then◌else◌, List, [], ◌∷◌, ◌<◌, ◌≤◌, get_or, length, Option, Some, None, refl, sym, ap, ap₂, subst, ◌∙◌, arith}
+use Rattle.std.proofs.Common.{◌≡◌, ℕ, zero, suc, ◌+◌, ℤ, Bool, true, false, not, ◌||◌, if◌then◌else◌, List, [], ◌∷◌, ◌++◌, map, ◌<◌, ◌≤◌, get_or, length, Option, Some, None, refl, sym, ap, subst, ◌∙◌, arith}
 use Rattle.std.specs.Prelude.{slice_get, IsTrue, IfSome}
-use Rattle.std.specs.List.{list_any, flat_map}
-use Rattle.std.specs.HashMap.{HashMap, get}
-use Rattle.std.proofs.lemmas.List.Folds.{list_any-append}
+use Rattle.std.specs.List.{list_all, flat_map}
+use Rattle.std.proofs.lemmas.List.Folds.{list_any-append, list_all-append, list_all-map}
+use Rattle.std.proofs.lemmas.Bool.{and_parts}
 use Rattle.bbm_rule.specs.Plane.{is_at}
 use Rattle.bbm_rule.specs.declared.block.Cell.{Cell}
 use Rattle.circuit.specs.Bridge.{circuit_of}
 use Rattle.circuit.specs.Meaning.{Circuit}
 use Rattle.circuit.specs.declared.entry.Entry.{Entry as CircuitLine}
-use Rattle.pattern.specs.Layout.{Pattern, in_cells, in_rectangles, rectangle_cells, parts_of}
+use Rattle.pattern.specs.Layout.{Pattern, in_cells, in_layout, in_rectangles, rectangle_cells, parts_of, start}
 use Rattle.pattern.specs.declared.parts.Port.{Port}
 use Rattle.pattern.specs.declared.parts.Rectangle.{Rectangle}
 use Rattle.pattern.specs.declared.parts.Extent.{Extent}
-use Rattle.pattern.specs.Lines.{AreGoodAfter, size_fault}
-use Rattle.pattern.proofs.InsideLemmas.{size_sides, begins_inside, mirrors_fit}
+use Rattle.pattern.specs.Lines.{AreGoodAfter, cell_fault, is_inside, is_taken, size_fault}
+use Rattle.pattern.specs.declared.parts.Part.{Part}
+use Rattle.pattern.specs.declared.parts.Part.TheVariants.{Mirror, Ball, In, Out, Waste}
+use Rattle.section_text.specs.Codes.{code_where}
+use Rattle.pattern.proofs.InsideLemmas.{BeginsInside, size_sides, begins_inside, mirrors_fit, start_inside}
+use Rattle.pattern.proofs.RunLemmas.{among}
 use Rattle.pattern.proofs.RectangleLemmas.{in_rectangle_cells}
 use Rattle.module_box.specs.Boxes.{in_box}
 use Rattle.module_box.specs.Tiling.{IsInside}
@@ -26,31 +30,17 @@ use Rattle.certificate.specs.Jobs.{port_at, named_wire, signal_of, start_signal,
 use Rattle.certificate.specs.declared.job.Demand.TheVariants as Demanded
 use Rattle.certificate.specs.Modules.{HasPorts}
 use Rattle.certificate.specs.PlanView.{KnowsPorts}
-use Rattle.certificate.specs.Rules.{is_local, same_cell}
-use Rattle.certificate.specs.SiteView.{IsIndexOf}
+use Rattle.certificate.specs.PortTables.{AreOnBoard}
+use Rattle.certificate.specs.Rules.{is_local}
 use Rattle.certificate.proofs.BoxPlaces.{skipped}
-use Rattle.certificate.proofs.Lists.{kept, same_truth}
-use Rattle.certificate.proofs.PortLemmas.{cell_same, cell_itself}
+use Rattle.certificate.proofs.Lists.{kept, some_is}
+use Rattle.certificate.proofs.PortLemmas.{cell_same}
 
--- ---- sets of cells
+-- ---- the cells of mirrors
 
-cell_turned : (c d : Cell) → same_cell c d ≡ true → same_cell d c ≡ true
-cell_turned c d h = ap (λ (e : Cell). same_cell e c) (sym (cell_same c d h)) ∙ cell_itself c
-
-same_turned : (c d : Cell) → same_cell c d ≡ same_cell d c
-same_turned c d = same_truth _ _ (cell_turned c d) (cell_turned d c)
-
--- the cells of a list that are this one
-pub cells_turned : (cells : List Cell) (c : Cell) → list_any (same_cell c) cells ≡ in_cells cells c.x c.y
-cells_turned [] c = refl
-cells_turned (d ∷ cells) c = ap₂ (λ a b. a || b) (same_turned c d) (cells_turned cells c)
-
-in_mirrors : (rs : List Rectangle) (x y : ℤ) → in_cells (flat_map rectangle_cells rs) x y ≡ in_rectangles rs x y
+pub in_mirrors : (rs : List Rectangle) (x y : ℤ) → in_cells (flat_map rectangle_cells rs) x y ≡ in_rectangles rs x y
 in_mirrors [] x y = refl
 in_mirrors (r ∷ rs) x y = list_any-append (λ (c : Cell). is_at c x y) (rectangle_cells r) (flat_map rectangle_cells rs) ∙ rw (in_rectangle_cells r x y, in_mirrors rs x y) refl
-
-pub mirrors_turned : (rs : List Rectangle) (c : Cell) → list_any (same_cell c) (flat_map rectangle_cells rs) ≡ in_rectangles rs c.x c.y
-mirrors_turned rs c = cells_turned (flat_map rectangle_cells rs) c ∙ in_mirrors rs c.x c.y
 
 -- ---- ports by their cells
 
@@ -93,25 +83,6 @@ none_stands (q ∷ ports) x y e zero p at h =
     let not_there : is_at q.cell x y ≡ false = r.0 in
     cc (there, not_there)
 none_stands (q ∷ ports) x y e (suc i) p at h = none_stands ports x y (absent_here (is_at q.cell x y) q.name (port_at ports x y) e).1 i p at h
-
-module _ {S : Type 0} (index : HashMap Cell (List ℕ) S) (ports : List Port) (is : IsIndexOf index ports) (c : Cell) where
-  found_some : (name : List ℕ) → port_at ports c.x c.y ≡ Some name → get same_cell index c ≡ Some name
-  found_some name e =
-      let s = port_stands ports c.x c.y name e in
-      ap (λ (d : Cell). get same_cell index d) (sym (cell_same s.port.cell c s.stands)) ∙ is.there s.number s.port s.numbered ∙ ap (λ (n : List ℕ). Some n) s.named
-
-  found_none : (o : Option (List ℕ)) → get same_cell index c ≡ o → port_at ports c.x c.y ≡ None → o ≡ None
-  found_none None at e = refl
-  found_none (Some name) at e =
-      let p = is.only c name at in
-      absurd (none_stands ports c.x c.y e p.number p.port p.numbered (ap (λ (d : Cell). is_at d c.x c.y) p.stands ∙ cell_itself c))
-
-  found : (o : Option (List ℕ)) → port_at ports c.x c.y ≡ o → get same_cell index c ≡ o
-  found None e = found_none _ refl e
-  found (Some name) e = found_some name e
-
-  pub port_found : get same_cell index c ≡ port_at ports c.x c.y
-  port_found = found _ refl
 
 -- ---- the ports in the box of a module
 
@@ -163,6 +134,79 @@ fit_in_layout p s is limits good =
     let sides = size_sides p.size (ap size_fault (sym is) ∙ limits) in
     let all = begins_inside p (subst (λ (t : Extent). AreGoodAfter t [] (parts_of p)) is good) in
     mirrors_fit p.size p.mirrors all.mirrors sides.0.most sides.1.most
+
+-- ---- the parts of a layout lie inside it
+
+no_code : (a b : Bool) → code_where (not a || b) 7 ≡ None → a ≡ true
+no_code true b e = refl
+no_code false b e = cc
+
+part_inside : (s : Extent) (before : List Part) (part : Part) → cell_fault s before part ≡ None → is_inside s part ≡ true
+unfolding cell_fault
+part_inside s before part e = no_code (is_inside s part) (is_taken before part) e
+
+parts_inside : (s : Extent) (before parts : List Part) → AreGoodAfter s before parts → list_all (is_inside s) parts ≡ true
+parts_inside s before [] h = refl
+parts_inside s before (part ∷ parts) h = rw (part_inside s before part h.1, parts_inside s (before ++ part ∷ []) parts h.2) refl
+
+-- those that are not rectangles
+pub record LieInside (p : Pattern) : Type 0 where
+  pub balls : list_all (λ c. in_layout p.size c.x c.y) p.balls ≡ true
+  pub ins : list_all (λ q. in_layout p.size q.cell.x q.cell.y) p.ins ≡ true
+  pub outs : list_all (λ q. in_layout p.size q.cell.x q.cell.y) p.outs ≡ true
+  pub wastes : list_all (λ c. in_layout p.size c.x c.y) p.wastes ≡ true
+
+pub lie_inside : (p : Pattern) → AreGoodAfter p.size [] (parts_of p) → LieInside p
+unfolding is_inside
+lie_inside p h =
+    let test : Part → Bool = is_inside p.size in
+    let one = and_parts _ _ (sym (list_all-append test (map Mirror p.mirrors) _) ∙ parts_inside p.size [] (parts_of p) h) in
+    let two = and_parts _ _ (sym (list_all-append test (map Ball p.balls) _) ∙ one.1) in
+    let three = and_parts _ _ (sym (list_all-append test (map In p.ins) _) ∙ two.1) in
+    let four = and_parts _ _ (sym (list_all-append test (map Out p.outs) _) ∙ three.1) in
+    record {
+      balls = sym (list_all-map test Ball p.balls) ∙ two.0;
+      ins = sym (list_all-map test In p.ins) ∙ three.0;
+      outs = sym (list_all-map test Out p.outs) ∙ four.0;
+      wastes = sym (list_all-map test Waste p.wastes) ∙ four.1;
+    }
+
+ports_on_board : (s : Extent) (ports : List Port) → list_all (λ q. in_layout s q.cell.x q.cell.y) ports ≡ true → AreOnBoard s ports
+ports_on_board s [] h i p e = absurd cc
+ports_on_board s (q ∷ ports) h zero p e = ap (λ (r : Port). in_layout s r.cell.x r.cell.y) (sym (some_is q p e)) ∙ (and_parts _ _ h).0
+ports_on_board s (q ∷ ports) h (suc i) p e = ports_on_board s ports (and_parts _ _ h).1 i p e
+
+abbrev pub AllInLayout : Extent → List Cell → Type 0
+AllInLayout s cells = (k : ℕ) (d : Cell) → k < length cells → in_layout s (get_or cells k d).x (get_or cells k d).y ≡ true
+
+cells_on_board : (s : Extent) (cells : List Cell) → list_all (λ c. in_layout s c.x c.y) cells ≡ true → AllInLayout s cells
+cells_on_board s [] h k d lt = absurd (omega arith)
+cells_on_board s (c ∷ cells) h zero d lt = (and_parts _ _ h).0
+cells_on_board s (c ∷ cells) h (suc k) d lt = cells_on_board s cells (and_parts _ _ h).1 k d (omega arith)
+
+in_mirrors_inside : (p : Pattern) → BeginsInside p → (x y : ℤ) → in_rectangles p.mirrors x y ≡ true → in_layout p.size x y ≡ true
+unfolding start
+in_mirrors_inside p all x y h = start_inside p (λ name. true) all x y (rw h refl)
+
+pub mirrors_on_board : (p : Pattern) (s : Extent) → s ≡ p.size → AreGoodAfter s [] (parts_of p) → (cells : List Cell) → cells ≡ flat_map rectangle_cells p.mirrors → AllInLayout s cells
+mirrors_on_board p s is good cells are k d lt =
+    let all = begins_inside p (subst (λ (t : Extent). AreGoodAfter t [] (parts_of p)) is good) in
+    let c = get_or cells k d in
+    let among_them : in_rectangles p.mirrors c.x c.y ≡ true = sym (in_mirrors p.mirrors c.x c.y) ∙ ap (λ (l : List Cell). in_cells l c.x c.y) (sym are) ∙ among cells k d lt in
+    ap (λ (t : Extent). in_layout t c.x c.y) is ∙ in_mirrors_inside p all c.x c.y among_them
+
+module _ (p : Pattern) (s : Extent) (is : s ≡ p.size) (good : AreGoodAfter s [] (parts_of p)) where
+  all_inside : LieInside p
+  all_inside = lie_inside p (subst (λ (t : Extent). AreGoodAfter t [] (parts_of p)) is good)
+
+  pub ports_on_layout : AreOnBoard s p.ins × AreOnBoard s p.outs
+  ports_on_layout = subst (λ (t : Extent). AreOnBoard t p.ins × AreOnBoard t p.outs) (sym is) (ports_on_board p.size p.ins all_inside.ins, ports_on_board p.size p.outs all_inside.outs)
+
+  pub balls_on_layout : AllInLayout s p.balls
+  balls_on_layout = subst (λ (t : Extent). AllInLayout t p.balls) (sym is) (cells_on_board p.size p.balls all_inside.balls)
+
+  pub wastes_on_layout : AllInLayout s p.wastes
+  wastes_on_layout = subst (λ (t : Extent). AllInLayout t p.wastes) (sym is) (cells_on_board p.size p.wastes all_inside.wastes)
 
 -- ---- the box of a module
 

@@ -1,5 +1,7 @@
 -- The fields of a certificate that is being read, and what contracts see of them
-use Rattle.std.specs.Prelude.{◌≡◌, ℕ, ◌+◌, ◌<◌, ◌≤◌, ℤ, ◌&&◌, Bool, false, List, [], map, length, Option, Some, slice_get, IsTrue}
+use Rattle.std.specs.Prelude.{◌≡◌, ℕ, ◌+◌, ◌<◌, ◌≤◌, ℤ, ◌&&◌, Bool, false, List, [], map, length, Option, Some, None, slice_get, IsTrue}
+use Rattle.std.specs.Option.{option_to_list}
+use Rattle.circuit.specs.Meaning.{Circuit, Gate, wire_of}
 use Rattle.std.specs.List.{list_any}
 use Rattle.bbm_rule.specs.Board.{Board, live}
 use Rattle.bbm_rule.specs.declared.block.Cell.{Cell}
@@ -84,3 +86,18 @@ IsInner (Use k) = Unit {0}
 IsInner (Edge e) = Unit {0}
 IsInner (Halo e) = Unit {0}
 IsInner (Stop s) = Unit {0}
+
+-- ---- what a line of a module makes local
+
+abbrev pub outs_at : Option Gate → List ℕ
+outs_at None = []
+outs_at (Some gate) = gate.outs
+
+-- the wire that is cut, or what the gate that is used defines
+abbrev pub wires_in : Circuit → Entry → List ℕ
+wires_in c (Module b) = []
+wires_in c (Cut n) = option_to_list (wire_of c n)
+wires_in c (Use k) = outs_at (slice_get c.netlist.gates k)
+wires_in c (Edge e) = []
+wires_in c (Halo e) = []
+wires_in c (Stop s) = []

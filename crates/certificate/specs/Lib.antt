@@ -4,6 +4,7 @@ pub mod Rules
 pub mod Forms
 pub mod Grammars
 pub mod SiteView
+pub mod PortTables
 pub mod Modules
 pub mod BuilderView
 pub mod CertView

@@ -6,19 +6,19 @@ ghost use Rattle.std.specs.List.{list_any};
 ghost use Rattle.certificate.specs.Entries.{ModuleLines, counts_of, modules_of, present};
 ghost use Rattle.certificate.specs.Rules.{entry_fault, end_fault, box_fault, module_fault, inner_fault, words_fault, is_incomplete, is_local, leaves_gap, box_cells};
 ghost use Rattle.module_box.specs.Boxes.{in_box};
-ghost use Rattle.certificate.specs.BuilderView.{BuilderState, IsSmall};
-ghost use Rattle.certificate.specs.declared.entry.Entry.TheVariants.{Module, Cut, Use, Edge, Halo, Stop};
+ghost use Rattle.certificate.specs.BuilderView.{BuilderState, IsInner, IsSmall};
+ghost use Rattle.certificate.specs.declared.entry.Entry.TheVariants.{Module};
 
 use crate::counts::{count_in_last, last_counts, push_entry};
-use crate::entry::{Border, Counts, Entry, StopLine};
-use crate::known::{learn, learn_all};
+use crate::entry::{Counts, Entry};
+use crate::known::{learn_line, make_room_for_wires};
 use crate::order::does_follow;
 use crate::rules::{
     border_code, cut_code, is_bad_place, is_bad_side, is_local_name, may_be_edge, may_be_halo,
     may_be_stop, use_code,
 };
 use crate::site::Site;
-use crate::stars::{has_star, note_star};
+use crate::stars::{has_star, make_room_for_stars, note_stars};
 use crate::tiles::{cells_of_box, is_full};
 use bbm_rule::{Cell, Grid};
 use indexmap::IndexSet;
@@ -136,93 +136,24 @@ impl<'a> Builder<'a> {
 }
 
 impl<'a> Builder<'a> {
-    fn add_cut(&mut self, name: Name) -> Result<(), LineFault>
-        ensures ok { OnOk result ((inner_fault self.old.setting (present self.old.entries) (Cut name) ≡ None) × (self.new ≡ record self.old { entries = self.old.entries ++ Cut name ∷ [] })) }
-        ensures fault { IfErr result (λ e. FaultIs e (inner_fault self.old.setting (present self.old.entries) (Cut name))) }
+    // Adds a line of a module, or answers the code of the first test that it fails.
+    fn add_inner(&mut self, entry: Entry) -> Result<(), LineFault>
+        requires { IsInner entry }
+        ensures ok { OnOk result ((inner_fault self.old.setting (present self.old.entries) entry ≡ None) × (self.new ≡ record self.old { entries = self.old.entries ++ entry ∷ [] })) }
+        ensures fault { IfErr result (λ e. FaultIs e (inner_fault self.old.setting (present self.old.entries) entry)) }
     {
-        let entry = Entry::Cut(name);
         if let Some(code) = self.inner_code(&entry) {
             return Err(LineFault::Code(code));
         }
-        let Some(wire) = self.site.wire(&name) else {
-            unreachable!();
-        };
-        if self.known.reserve(1).is_err() {
+        if make_room_for_wires(&mut self.known, &self.site, &entry).is_err() {
+            return Err(LineFault::Memory);
+        }
+        if make_room_for_stars(&mut self.edges, &mut self.halos, &entry).is_err() {
             return Err(LineFault::Memory);
         }
         push_entry(&mut self.entries, entry)?;
-        learn(&mut self.known, wire);
-        count_in_last(&mut self.modules, &entry);
-        self.last = Some(entry);
-        Ok(())
-    }
-
-    fn add_use(&mut self, number: u32) -> Result<(), LineFault>
-        ensures ok { OnOk result ((inner_fault self.old.setting (present self.old.entries) (Use number) ≡ None) × (self.new ≡ record self.old { entries = self.old.entries ++ Use number ∷ [] })) }
-        ensures fault { IfErr result (λ e. FaultIs e (inner_fault self.old.setting (present self.old.entries) (Use number))) }
-    {
-        let entry = Entry::Use(number);
-        if let Some(code) = self.inner_code(&entry) {
-            return Err(LineFault::Code(code));
-        }
-        let Some(gate) = self.site.gate(number) else {
-            unreachable!();
-        };
-        if self.known.reserve(gate.outs().len()).is_err() {
-            return Err(LineFault::Memory);
-        }
-        push_entry(&mut self.entries, entry)?;
-        learn_all(&mut self.known, gate.outs());
-        count_in_last(&mut self.modules, &entry);
-        self.last = Some(entry);
-        Ok(())
-    }
-
-    fn add_edge(&mut self, border: Border) -> Result<(), LineFault>
-        ensures ok { OnOk result ((inner_fault self.old.setting (present self.old.entries) (Edge border) ≡ None) × (self.new ≡ record self.old { entries = self.old.entries ++ Edge border ∷ [] })) }
-        ensures fault { IfErr result (λ e. FaultIs e (inner_fault self.old.setting (present self.old.entries) (Edge border))) }
-    {
-        let entry = Entry::Edge(border);
-        if let Some(code) = self.inner_code(&entry) {
-            return Err(LineFault::Code(code));
-        }
-        if self.edges.reserve(1).is_err() {
-            return Err(LineFault::Memory);
-        }
-        push_entry(&mut self.entries, entry)?;
-        note_star(&mut self.edges, &border);
-        count_in_last(&mut self.modules, &entry);
-        self.last = Some(entry);
-        Ok(())
-    }
-
-    fn add_halo(&mut self, border: Border) -> Result<(), LineFault>
-        ensures ok { OnOk result ((inner_fault self.old.setting (present self.old.entries) (Halo border) ≡ None) × (self.new ≡ record self.old { entries = self.old.entries ++ Halo border ∷ [] })) }
-        ensures fault { IfErr result (λ e. FaultIs e (inner_fault self.old.setting (present self.old.entries) (Halo border))) }
-    {
-        let entry = Entry::Halo(border);
-        if let Some(code) = self.inner_code(&entry) {
-            return Err(LineFault::Code(code));
-        }
-        if self.halos.reserve(1).is_err() {
-            return Err(LineFault::Memory);
-        }
-        push_entry(&mut self.entries, entry)?;
-        note_star(&mut self.halos, &border);
-        count_in_last(&mut self.modules, &entry);
-        self.last = Some(entry);
-        Ok(())
-    }
-
-    fn add_stop(&mut self, stop: StopLine) -> Result<(), LineFault>
-        ensures ok { OnOk result ((inner_fault self.old.setting (present self.old.entries) (Stop stop) ≡ None) × (self.new ≡ record self.old { entries = self.old.entries ++ Stop stop ∷ [] })) }
-        ensures fault { IfErr result (λ e. FaultIs e (inner_fault self.old.setting (present self.old.entries) (Stop stop))) }
-    {
-        let entry = Entry::Stop(stop);
-        if let Some(code) = self.inner_code(&entry) {
-            return Err(LineFault::Code(code));
-        }
-        push_entry(&mut self.entries, entry)?;
+        learn_line(&mut self.known, &self.site, &entry);
+        note_stars(&mut self.edges, &mut self.halos, &entry);
         count_in_last(&mut self.modules, &entry);
         self.last = Some(entry);
         Ok(())
@@ -321,11 +252,7 @@ impl<'a> Builder<'a> {
     {
         match entry {
             Entry::Module(area) => self.add_module(alloc, area),
-            Entry::Cut(name) => self.add_cut(name),
-            Entry::Use(number) => self.add_use(number),
-            Entry::Edge(border) => self.add_edge(border),
-            Entry::Halo(border) => self.add_halo(border),
-            Entry::Stop(stop) => self.add_stop(stop),
+            _ => self.add_inner(entry),
         }
     }
 

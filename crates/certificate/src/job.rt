@@ -1,16 +1,16 @@
 //! The job of a module.
-ghost use Rattle.std.specs.Prelude.{◌≡◌, ◌<◌, ◌≤◌, pos, length, slice_get, Some, IsTrue};
+ghost use Rattle.std.specs.Prelude.{◌≡◌, ◌<◌, ◌≤◌, pos, length, slice_get, Some};
 ghost use Rattle.std.specs.Arc.{arc_value};
 ghost use Rattle.circuit.specs.Meaning.{wires};
-ghost use Rattle.module_box.specs.Boxes.{in_box};
 ghost use Rattle.module_box.specs.Locals.{circuit_wire};
 ghost use Rattle.module_box.specs.Moves.{IsNear, IsSmall};
 ghost use Rattle.module_box.specs.Schedules.{signal_at};
-ghost use Rattle.certificate.specs.Jobs.{IsJob, job_demand, job_start, place_in};
+ghost use Rattle.certificate.specs.Jobs.{IsJob, job_demand, job_start};
 ghost use Rattle.certificate.specs.Shapes.{back, shape_of};
 
 use crate::shape::Shape;
 use crate::stops::moved_stop;
+use crate::tiles::place_in;
 use bbm_rule::Cell;
 use circuit::{GateNo, WireNo};
 use indexmap::IndexSet;
@@ -61,17 +61,6 @@ impl Model for Job {
     ghost view = { job_state };
 
     ghost invariant = { IsKeptJob };
-}
-
-// The place of a cell of a box, whose cells are counted row by row.
-fn place_in(area: Box2, cell: Cell) -> usize
-    requires inside { IsTrue (in_box area cell.x cell.y) }
-    requires small { (area.w ≤ 64) × (area.h ≤ 64) }
-    ensures { result ≡ place_in area cell.x cell.y }
-{
-    let row = (cell.y.unsigned_abs() - area.y) as usize;
-    let column = (cell.x.unsigned_abs() - area.x) as usize;
-    row * area.w as usize + column
 }
 
 // How far the cells of a box with this corner are moved back, so that its corner comes to (0, 0).

@@ -1,12 +1,16 @@
 //! The wires that are local in a module, by their numbers in the circuit.
-ghost use Rattle.std.specs.Prelude.{◌≡◌, ◌≤◌, ◌<◌, ◌+◌, ◌++◌, ◌∷◌, [], length, true, false};
+ghost use Rattle.std.specs.Prelude.{◌≡◌, ◌≤◌, ◌<◌, ◌+◌, ◌++◌, ◌∷◌, [], length, true, false, OnOk};
 ghost use Rattle.std.specs.List.{list_all};
 ghost use Rattle.indexmap.specs.IndexSet.{spare};
 ghost use Rattle.module_box.specs.Locals.{is_among};
+ghost use Rattle.certificate.specs.BuilderView.{wires_in};
 ghost use Rattle.certificate.specs.Rules.{are_new};
 
+use crate::entry::Entry;
+use crate::site::Site;
 use circuit::WireNo;
 use indexmap::IndexSet;
+use std::alloc::AllocError;
 
 /// Whether the wire is local.
 #[tactic(auto, using(crate::proofs::KnownLemmas::among))]
@@ -70,5 +74,45 @@ pub(crate) fn learn_all(known: &mut IndexSet<u16>, wires: &[WireNo])
 {
     for wire in wires {
         learn(known, wire.number());
+    }
+}
+
+/// Makes room for the wires that a line of a module makes local.
+pub(crate) fn make_room_for_wires(
+    known: &mut IndexSet<u16>,
+    site: &Site,
+    entry: &Entry,
+) -> Result<(), AllocError>
+    ensures keys { known.new.keys ≡ known.old.keys }
+    ensures room { OnOk result (length (wires_in site.now.circuit entry.now) ≤ spare known.new) }
+{
+    match entry {
+        Entry::Cut(_) => known.reserve(1),
+        Entry::Use(number) => match site.gate(*number) {
+            Some(gate) => known.reserve(gate.outs().len()),
+            None => Ok(()),
+        },
+        _ => Ok(()),
+    }
+}
+
+/// Makes these wires local, where there is room for them.
+pub(crate) fn learn_line(known: &mut IndexSet<u16>, site: &Site, entry: &Entry)
+    requires room { length (wires_in site.now.circuit entry.now) ≤ spare known.old }
+    requires new { are_new known.old.keys (wires_in site.now.circuit entry.now) ≡ true }
+    ensures { known.new.keys ≡ known.old.keys ++ wires_in site.now.circuit entry.now }
+{
+    match entry {
+        Entry::Cut(name) => {
+            if let Some(wire) = site.wire(name) {
+                learn(known, wire);
+            }
+        }
+        Entry::Use(number) => {
+            if let Some(gate) = site.gate(*number) {
+                learn_all(known, gate.outs());
+            }
+        }
+        _ => {}
     }
 }

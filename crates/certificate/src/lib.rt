@@ -21,6 +21,7 @@ pub mod laws;
 mod lines;
 mod order;
 mod plan;
+mod ports;
 mod printing;
 mod reading;
 mod rules;

@@ -1,41 +1,41 @@
 //! What the cells of a module carry at time 0, and what they are to be at the last time.
-ghost use Rattle.std.specs.Prelude.{◌≡◌, ◌||◌, ◌+◌, ◌*◌, ◌<◌, ◌≤◌, ◌++◌, ℤ, Some, All, length, unwrap_or, slice_get, IsTrue, OnOk, IfOk};
-ghost use Rattle.std.specs.List.{list_any, flat_map};
-ghost use Rattle.bbm_rule.specs.declared.block.Cell.{Cell as SomeCell};
+ghost use Rattle.std.specs.Prelude.{◌≡◌, ◌+◌, ◌*◌, ◌<◌, ◌≤◌, ℤ, true, None, Some, All, length, unwrap_or, slice_get, IsTrue, IfOk};
+ghost use Rattle.std.specs.List.{flat_map};
+ghost use Rattle.bbm_rule.specs.Board.{live};
 ghost use Rattle.circuit.specs.Bridge.{circuit_of};
 ghost use Rattle.circuit.specs.Meaning.{wire_of, wires};
-ghost use Rattle.pattern.specs.Layout.{rectangle_cells, in_cells, in_rectangles};
+ghost use Rattle.pattern.specs.Layout.{rectangle_cells, in_cells, in_layout, in_rectangles};
+ghost use Rattle.pattern.specs.Lines.{size_fault};
 ghost use Rattle.module_box.specs.Boxes.{in_box};
 ghost use Rattle.module_box.specs.Locals.{circuit_wire, is_among};
 ghost use Rattle.certificate.specs.Jobs.{end_demand, place_in, start_signal};
 ghost use Rattle.certificate.specs.PlanView.{KnowsPort, KnowsPorts};
-ghost use Rattle.certificate.specs.Rules.{is_local, same_cell};
+ghost use Rattle.certificate.specs.Rules.{is_local};
 ghost use Rattle.certificate.specs.Signals.{IsBelow, IsDemandBelow, renumber_demand, renumber_signal};
 
 use crate::job::Demand;
-use crate::site::index_ports;
-use crate::tiles::cells_of_box;
-use bbm_rule::Cell;
+use crate::ports::{PortTable, port_tables};
+use crate::tiles::{cells_of_box, is_live};
+use bbm_rule::{Cell, Grid};
 use circuit::{Circuit, WireNo};
-use indexmap::{IndexMap, IndexSet};
 use module_box::{Box2, Locals, Signal};
-use pattern::{Layout, Rectangle, push_rectangle};
+use pattern::{Extent, Layout, Rectangle, make_live, push_rectangle};
 use section_text::Name;
 use std::alloc::{AllocError, Global};
 use std::marker::Model;
 
-/// A circuit and a layout, with indexes by which each cell of the layout is looked up in constant time. Contracts see the
+/// A circuit and a layout, with tables by which each cell of the layout is looked up in constant time. Contracts see the
 /// circuit and the layout, as a `PlanState`.
-// The mirrors' cells, the balls and the wastes are sets; the ports are indexed by their cells, with the names of their wires.
+// The mirrors' cells, the balls and the wastes are the live cells of grids.
 #[derive(Drop)]
 pub(crate) struct Plan<'a> {
     circuit: &'a Circuit,
     layout: &'a Layout,
-    mirrors: IndexSet<Cell>,
-    balls: IndexSet<Cell>,
-    wastes: IndexSet<Cell>,
-    ins: IndexMap<Cell, Name>,
-    outs: IndexMap<Cell, Name>,
+    mirrors: Grid,
+    balls: Grid,
+    wastes: Grid,
+    ins: PortTable<'a>,
+    outs: PortTable<'a>,
 }
 
 impl<'a> Model for Plan<'a> {
@@ -50,25 +50,15 @@ impl<'a> Model for Plan<'a> {
     ghost invariant = { IsPlan };
 }
 
-// Adds a cell, if it is not there.
-fn add_cell(index: &mut IndexSet<Cell>, cell: Cell) -> Result<(), AllocError>
-    ensures { OnOk result ((c : SomeCell) → list_any (same_cell c) index.new.keys ≡ (list_any (same_cell c) index.old.keys || same_cell c cell)) }
+// A grid of the layout's size on which these cells are live.
+fn grid_of(alloc: Global, size: Extent, cells: &[Cell]) -> Result<Grid, AllocError>
+    requires limits { size_fault size ≡ None }
+    requires inside { All (λ c. in_layout size c.x c.y ≡ true) cells.now }
+    ensures { IfOk result (λ grid. (x y : ℤ) → live grid x y ≡ in_cells cells.now x y) }
 {
-    match index.insert(cell) {
-        Ok(_) => Ok(()),
-        Err(_) => Err(AllocError),
-    }
-}
-
-// The set of the cells of a list.
-fn index_cells(alloc: Global, cells: &[Cell]) -> Result<IndexSet<Cell>, AllocError>
-    ensures { IfOk result (λ index. (c : SomeCell) → list_any (same_cell c) index.keys ≡ list_any (same_cell c) cells.now) }
-{
-    let mut index = IndexSet::new(alloc);
-    for cell in cells {
-        add_cell(&mut index, *cell)?;
-    }
-    Ok(index)
+    let mut grid = Grid::new(alloc, size.w, size.h)?;
+    make_live(&mut grid, cells);
+    Ok(grid)
 }
 
 // The cells of rectangles, one after the other.
@@ -83,30 +73,17 @@ fn cells_of_mirrors(alloc: Global, mirrors: &[Rectangle]) -> Result<Vec<Cell>, A
     Ok(cells)
 }
 
-// The set of the cells of rectangles.
-fn index_mirrors(alloc: Global, mirrors: &[Rectangle]) -> Result<IndexSet<Cell>, AllocError>
-    requires { All (λ r. (r.x + r.w ≤ 512) × (r.y + r.h ≤ 512)) mirrors.now }
-    ensures { IfOk result (λ index. (c : SomeCell) → list_any (same_cell c) index.keys ≡ in_rectangles mirrors.now c.x c.y) }
+// The grids of a layout's mirrors, of its balls and of its wastes.
+fn grids_of(alloc: Global, layout: &Layout) -> Result<(Grid, Grid, Grid), AllocError>
+    ensures mirrors { IfOk result (λ grids. (x y : ℤ) → live grids.0 x y ≡ in_rectangles layout.now.mirrors x y) }
+    ensures balls { IfOk result (λ grids. (x y : ℤ) → live grids.1 x y ≡ in_cells layout.now.balls x y) }
+    ensures wastes { IfOk result (λ grids. (x y : ℤ) → live grids.2 x y ≡ in_cells layout.now.wastes x y) }
 {
-    let cells = cells_of_mirrors(alloc, mirrors)?;
-    let index = index_cells(alloc, cells.as_slice())?;
-    Ok(index)
-}
-
-// The sets of the cells of a layout's mirrors, of its balls and of its wastes.
-fn index_lists(
-    alloc: Global,
-    layout: &Layout,
-) -> Result<(IndexSet<Cell>, IndexSet<Cell>, IndexSet<Cell>), AllocError>
-    ensures mirrors { IfOk result (λ sets. (c : SomeCell) → list_any (same_cell c) sets.0.keys ≡ in_rectangles layout.now.mirrors c.x c.y) }
-    ensures balls { IfOk result (λ sets. (c : SomeCell) → list_any (same_cell c) sets.1.keys ≡ in_cells layout.now.balls c.x c.y) }
-    ensures wastes { IfOk result (λ sets. (c : SomeCell) → list_any (same_cell c) sets.2.keys ≡ in_cells layout.now.wastes c.x c.y) }
-{
-    // All that the layout has lies inside its size.
-    let _size = layout.size();
-    let mirrors = index_mirrors(alloc, layout.mirrors())?;
-    let balls = index_cells(alloc, layout.balls())?;
-    let wastes = index_cells(alloc, layout.wastes())?;
+    let size = layout.size();
+    let cells = cells_of_mirrors(alloc, layout.mirrors())?;
+    let mirrors = grid_of(alloc, size, &cells)?;
+    let balls = grid_of(alloc, size, layout.balls())?;
+    let wastes = grid_of(alloc, size, layout.wastes())?;
     Ok((mirrors, balls, wastes))
 }
 
@@ -139,7 +116,7 @@ pub(crate) fn local_name(circuit: &Circuit, locals: &Locals, name: &Name) -> u16
 }
 
 impl<'a> Plan<'a> {
-    /// The indexes are made once for a circuit and a layout. `AllocError` is want of memory.
+    /// The tables are made once for a circuit and a layout. `AllocError` is want of memory.
     pub(crate) fn new(
         alloc: Global,
         circuit: &'a Circuit,
@@ -147,9 +124,8 @@ impl<'a> Plan<'a> {
     ) -> Result<Plan<'a>, AllocError>
         ensures { IfOk result (λ plan. plan ≡ record { circuit = circuit.now; layout = layout.now }) }
     {
-        let ins = index_ports(alloc, layout.ins())?;
-        let outs = index_ports(alloc, layout.outs())?;
-        let (mirrors, balls, wastes) = index_lists(alloc, layout)?;
+        let (ins, outs) = port_tables(alloc, layout)?;
+        let (mirrors, balls, wastes) = grids_of(alloc, layout)?;
         Ok(Plan {
             circuit,
             layout,
@@ -181,13 +157,13 @@ impl<'a> Plan<'a> {
         ensures same { renumber_signal (circuit_wire locals.now) result ≡ start_signal (circuit_of self.now.circuit) self.now.layout cell.x cell.y }
         ensures below { IsBelow (wires locals.now.netlist) result }
     {
-        let mirror = self.mirrors.contains(&cell);
-        let ball = self.balls.contains(&cell);
+        let mirror = is_live(&self.mirrors, cell);
+        let ball = is_live(&self.balls, cell);
         if mirror | ball {
             return Signal::One;
         }
-        match self.ins.get(&cell) {
-            Some(name) => Signal::Wire(local_name(self.circuit, locals, name)),
+        match self.ins.get(cell) {
+            Some(name) => Signal::Wire(local_name(self.circuit, locals, &name)),
             None => Signal::Zero,
         }
     }
@@ -198,13 +174,13 @@ impl<'a> Plan<'a> {
         ensures same { renumber_demand (circuit_wire locals.now) result ≡ end_demand (circuit_of self.now.circuit) self.now.layout cell.x cell.y }
         ensures below { IsDemandBelow (wires locals.now.netlist) result }
     {
-        if self.mirrors.contains(&cell) {
+        if is_live(&self.mirrors, cell) {
             return Demand::Live;
         }
-        match self.outs.get(&cell) {
-            Some(name) => Demand::Wire(local_name(self.circuit, locals, name)),
+        match self.outs.get(cell) {
+            Some(name) => Demand::Wire(local_name(self.circuit, locals, &name)),
             None => {
-                if self.wastes.contains(&cell) {
+                if is_live(&self.wastes, cell) {
                     Demand::Any
                 } else {
                     Demand::Dead

@@ -9,6 +9,7 @@ ghost use Rattle.certificate.specs.Rules.{is_wrong_side, is_misplaced, is_odd, w
 use crate::entry::{Border, StopLine};
 use crate::known::{are_all_new, knows, knows_all};
 use crate::site::Site;
+use crate::tiles::whole_of;
 use indexmap::IndexSet;
 use module_box::Box2;
 use pattern::Extent;
@@ -44,17 +45,6 @@ pub(crate) fn is_bad_place(size: Extent, area: Box2) -> bool
         || is_odd_number(area.y)
         || right > u64::from(size.w)
         || bottom > u64::from(size.h)
-}
-
-fn whole_of(size: Extent) -> Box2
-    ensures { result ≡ whole size }
-{
-    Box2 {
-        x: 0,
-        y: 0,
-        w: size.w,
-        h: size.h,
-    }
 }
 
 /// Whether the name is that of a wire that is local.

@@ -1,22 +1,20 @@
-//! What a certificate is for: a circuit and a layout, with an index of the layout's ports by their cells.
-ghost use Rattle.std.specs.Prelude.{◌≡◌, ◌||◌, ◌&&◌, Bool, ℕ, List, false, None, Some, if◌then◌else◌, slice_get, OnOk, IfOk};
+//! What a certificate is for: a circuit and a layout, with tables of the layout's ports by their cells.
+ghost use Rattle.std.specs.Prelude.{◌≡◌, ◌||◌, ◌&&◌, Bool, ℕ, List, false, None, slice_get, OnOk, IfOk};
 ghost use Rattle.std.specs.List.{list_any};
-ghost use Rattle.std.specs.HashMap.{get};
-ghost use Rattle.std.specs.Option.{option_map, option_map_or, option_copied};
+ghost use Rattle.std.specs.Option.{option_map, option_map_or};
 ghost use Rattle.circuit.specs.Meaning.{wire_of};
 ghost use Rattle.circuit.specs.Wiring.{gate_of};
-ghost use Rattle.pattern.specs.Layout.{HaveOwnCells};
 ghost use Rattle.pattern.specs.Lines.{size_fault};
 ghost use Rattle.module_box.specs.Boxes.{in_box};
-ghost use Rattle.certificate.specs.Rules.{box_cells, same_cell};
-ghost use Rattle.certificate.specs.SiteView.{IsIndexOf};
+ghost use Rattle.certificate.specs.Rules.{box_cells};
+ghost use Rattle.certificate.specs.Jobs.{port_at};
 ghost use Rattle.certificate.specs.Grammars.{setting_of};
 
+use crate::ports::{PortTable, port_tables};
 use bbm_rule::Cell;
 use circuit::{Circuit, GateNo, GateWires};
-use indexmap::IndexMap;
 use module_box::Box2;
-use pattern::{Extent, Layout, Port};
+use pattern::{Extent, Layout};
 use section_text::Name;
 use std::alloc::{AllocError, Global};
 use std::marker::Model;
@@ -25,8 +23,8 @@ use std::marker::Model;
 pub(crate) struct Site<'a> {
     circuit: &'a Circuit,
     layout: &'a Layout,
-    ins: IndexMap<Cell, Name>,
-    outs: IndexMap<Cell, Name>,
+    ins: PortTable<'a>,
+    outs: PortTable<'a>,
 }
 
 impl<'a> Model for Site<'a> {
@@ -41,48 +39,22 @@ impl<'a> Model for Site<'a> {
     ghost invariant = { IsSite };
 }
 
-// One more port of a layout.
-fn add_port(index: &mut IndexMap<Cell, Name>, port: &Port) -> Result<(), AllocError>
-    ensures { OnOk result ((c : Cell) → get same_cell index.new c ≡ (if same_cell port.now.cell c then Some port.now.name else get same_cell index.old c)) }
-{
-    match index.insert(port.cell, port.name) {
-        Ok(_) => Ok(()),
-        Err(_) => Err(AllocError),
-    }
-}
-
-/// The name of the port at each cell that has one.
-pub(crate) fn index_ports(alloc: Global, ports: &[Port]) -> Result<IndexMap<Cell, Name>, AllocError>
-    requires { HaveOwnCells ports.now }
-    ensures { IfOk result (λ index. IsIndexOf index ports.now) }
-{
-    let mut index = IndexMap::new(alloc);
-    for port in ports {
-        add_port(&mut index, port)?;
-    }
-    Ok(index)
-}
-
-fn push_named(names: &mut Vec<Name>, name: Option<&Name>) -> Result<(), AllocError>
-    ensures { OnOk result ((f : List ℕ → Bool) → list_any f names.new.items ≡ (list_any f names.old.items || option_map_or f (option_copied name.entry) false)) }
+fn push_named(names: &mut Vec<Name>, name: Option<Name>) -> Result<(), AllocError>
+    ensures { OnOk result ((f : List ℕ → Bool) → list_any f names.new.items ≡ (list_any f names.old.items || option_map_or f name false)) }
 {
     match name {
-        Some(name) => names.push(*name)?,
+        Some(name) => names.push(name)?,
         None => {}
     }
     Ok(())
 }
 
 // The names of the ports at the cells.
-fn push_names(
-    names: &mut Vec<Name>,
-    index: &IndexMap<Cell, Name>,
-    cells: &[Cell],
-) -> Result<(), AllocError>
-    ensures { OnOk result ((f : List ℕ → Bool) → list_any f names.new.items ≡ (list_any f names.old.items || list_any (λ c. option_map_or f (get same_cell index.now c) false) cells.now)) }
+fn push_names(names: &mut Vec<Name>, ports: &PortTable, cells: &[Cell]) -> Result<(), AllocError>
+    ensures { OnOk result ((f : List ℕ → Bool) → list_any f names.new.items ≡ (list_any f names.old.items || list_any (λ c. option_map_or f (port_at ports.now c.x c.y) false) cells.now)) }
 {
     for cell in cells {
-        push_named(names, index.get(cell))?;
+        push_named(names, ports.get(*cell))?;
     }
     Ok(())
 }
@@ -95,8 +67,7 @@ impl<'a> Site<'a> {
     ) -> Result<Site<'a>, AllocError>
         ensures { IfOk result (λ site. site ≡ setting_of circuit.now layout.now) }
     {
-        let ins = index_ports(alloc, layout.ins())?;
-        let outs = index_ports(alloc, layout.outs())?;
+        let (ins, outs) = port_tables(alloc, layout)?;
         Ok(Site {
             circuit,
             layout,

@@ -1,15 +1,40 @@
-//! Cells that boxes have, as the live cells of a grid.
-ghost use Rattle.std.specs.Prelude.{◌≡◌, ◌+◌, ◌≤◌, ◌<◌, IfOk};
+//! The cells of boxes: their list, their places, and those that are live on a grid.
+ghost use Rattle.std.specs.Prelude.{◌≡◌, ◌+◌, ◌≤◌, ◌<◌, IfOk, IsTrue};
 ghost use Rattle.std.specs.List.{list_all};
 ghost use Rattle.bbm_rule.specs.Board.{live};
 ghost use Rattle.pattern.specs.Layout.{row_cells};
-ghost use Rattle.certificate.specs.Rules.{box_cells};
+ghost use Rattle.certificate.specs.Jobs.{place_in};
+ghost use Rattle.certificate.specs.Rules.{box_cells, whole};
+ghost use Rattle.module_box.specs.Boxes.{in_box};
 ghost use Rattle.module_box.specs.Tiling.{rectangle_of};
 
 use bbm_rule::{Cell, Grid};
 use module_box::Box2;
-use pattern::{Rectangle, push_rectangle};
+use pattern::{Extent, Rectangle, push_rectangle};
 use std::alloc::{AllocError, Global};
+
+/// The whole rectangle of a layout.
+pub(crate) fn whole_of(size: Extent) -> Box2
+    ensures { result ≡ whole size }
+{
+    Box2 {
+        x: 0,
+        y: 0,
+        w: size.w,
+        h: size.h,
+    }
+}
+
+/// The place of a cell of a box, whose cells are counted row by row.
+pub(crate) fn place_in(area: Box2, cell: Cell) -> usize
+    requires inside { IsTrue (in_box area cell.x cell.y) }
+    requires small { (area.w ≤ 512) × (area.h ≤ 512) }
+    ensures { result ≡ place_in area cell.x cell.y }
+{
+    let row = (cell.y.unsigned_abs() - area.y) as usize;
+    let column = (cell.x.unsigned_abs() - area.x) as usize;
+    row * area.w as usize + column
+}
 
 /// The cells of a box, whose columns and rows are below 512.
 pub(crate) fn cells_of_box(alloc: Global, area: Box2) -> Result<Vec<Cell>, AllocError>
@@ -21,6 +46,13 @@ pub(crate) fn cells_of_box(alloc: Global, area: Box2) -> Result<Vec<Cell>, Alloc
     let Box2 { x, y, w, h } = area;
     push_rectangle(&mut cells, Rectangle { x, y, w, h })?;
     Ok(cells)
+}
+
+/// Whether a cell is on the grid and live.
+pub(crate) fn is_live(grid: &Grid, cell: Cell) -> bool
+    ensures { result ≡ live grid.now cell.x cell.y }
+{
+    grid.holds(cell) && grid.get(cell)
 }
 
 // Whether the first w cells of row y are live.

@@ -1,16 +1,14 @@
 use Rattle.std.proofs.Common.{◌≡◌, rules, SFits, w32, to_z-of_z}
 use Rattle.std.specs.Int.RustNames.{unsigned_abs}
 use Rattle.certificate.proofs.BoxPlaces.{abs_from}
-use Rattle.certificate.proofs.job.place_in.Goals as goal
+use Rattle.certificate.proofs.tiles.place_in.Goals as goal
 
--- src/job.rt:66:5
 pub overflow_sub-row : goal.overflow_sub-row
 overflow_sub-row c =
     let fy : SFits w32 c.args.cell.y = search rules in
     let ey : c.unsigned_abs.result ≡ unsigned_abs c.args.cell.y = simp to_z-of_z at c.unsigned_abs.ensures.value in
     rw ey ((abs_from c.args.area c.args.cell.x c.args.cell.y c.requires.inside).1)
 
--- src/job.rt:67:5
 pub overflow_sub-column : goal.overflow_sub-column
 overflow_sub-column c =
     let fx : SFits w32 c.args.cell.x = search rules in

@@ -1,0 +1,10 @@
+use Rattle.std.proofs.Common.{◌≡◌, ◌∙◌, true, ap, sym}
+use Rattle.certificate.specs.BuilderView.{wires_in}
+use Rattle.certificate.specs.Rules.{are_new}
+use Rattle.certificate.proofs.KnownLemmas.{cut_new}
+use Rattle.certificate.proofs.known.learn_line.Goals as goal
+
+pub learn-requires-clause-new : goal.learn-requires-clause-new
+learn-requires-clause-new c =
+    cut_new c.args.known.now.keys _ c.in-Some.wire (sym c.wire.ensures ∙ c.in-Some.is)
+    (ap (λ i. are_new c.args.known.now.keys (wires_in c.args.site.now.circuit i)) (sym c.in-Cut.is) ∙ c.requires.new)
