@@ -101,6 +101,15 @@ stop_in (Edge e) = []
 stop_in (Halo e) = []
 stop_in (Stop s) = s ∷ []
 
+-- no line of this kind is read yet
+abbrev pub keep_in : Entry → List ℕ
+keep_in (Module b) = []
+keep_in (Cut n) = []
+keep_in (Use k) = []
+keep_in (Edge e) = []
+keep_in (Halo e) = []
+keep_in (Stop s) = []
+
 -- the names of the wires that are cut
 abbrev pub cuts : ModuleLines → List (List ℕ)
 cuts m = flat_map cut_in m.lines
@@ -108,6 +117,10 @@ cuts m = flat_map cut_in m.lines
 -- the numbers of the gates that are used
 abbrev pub gates : ModuleLines → List ℕ
 gates m = flat_map use_in m.lines
+
+-- the numbers of the gates that are kept
+abbrev pub keeps : ModuleLines → List ℕ
+keeps m = flat_map keep_in m.lines
 
 abbrev pub edges : ModuleLines → List Border
 edges m = flat_map edge_in m.lines

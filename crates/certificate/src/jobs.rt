@@ -137,6 +137,7 @@ fn make_job(alloc: Global, plan: &Plan, area: Box2, lines: &[Entry]) -> Result<J
         edges,
         halos,
         stops,
+        kept: Vec::new(alloc),
     };
     Ok(Job {
         x: area.x,

@@ -1,0 +1,27 @@
+-- The inverse gates that no module keeps
+use Rattle.std.proofs.Common.{◌≡◌, ℕ, ◌+◌, ◌<◌, ◌≤◌, ◌&&◌, Bool, false, not, cond, List, [], ◌∷◌, ◌++◌, drop, get_or, length, slice_get, Some, refl, sym, ap, ap₂, ◌∙◌, append_assoc, add-one, drop-cons, drop_of_length-le}
+use Rattle.std.proofs.lemmas.List.{append-nil}
+use Rattle.std.proofs.lemmas.Option.{get_or_from_slice_get}
+use Rattle.circuit.specs.Gates.{is_inverse}
+use Rattle.circuit.specs.Meaning.{Gate}
+use Rattle.certificate.specs.Entries.{ModuleLines}
+use Rattle.certificate.specs.Keeps.{is_kept, unkept_from}
+use Rattle.certificate.proofs.JobLemmas.{no_keeps}
+
+pub none_is_kept : (ms : List ModuleLines) (n : ℕ) → is_kept ms n ≡ false
+none_is_kept [] n = refl
+none_is_kept (m ∷ ms) n = rw (no_keeps m.lines) (none_is_kept ms n)
+
+-- those among the first gates are found
+pub unkept_more : (all out new : List ℕ) (ms : List ModuleLines) (gs : List Gate) (n : ℕ) (g : Gate) (inverse kept : Bool) → n < length gs → slice_get gs n ≡ Some g → inverse ≡ is_inverse g.kind → kept ≡ is_kept ms n →
+    new ≡ out ++ cond (inverse && not kept) (n ∷ []) [] → out ++ unkept_from ms n (drop n gs) ≡ all → new ++ unkept_from ms (n + 1) (drop (n + 1) gs) ≡ all
+unfolding unkept_from
+unkept_more all out new ms gs n g inverse kept within at is_inv is_kept more so_far =
+    let here : get_or gs n g ≡ g = get_or_from_slice_get gs n g g at in
+    let front : drop n gs ≡ g ∷ drop (n + 1) gs = drop-cons gs n g within ∙ ap₂ (λ (x : Gate) m. x ∷ drop m gs) here (sym (add-one n)) in
+    ap (λ (l : List ℕ). l ++ unkept_from ms (n + 1) (drop (n + 1) gs)) (more ∙ ap₂ (λ (i k : Bool). out ++ cond (i && not k) (n ∷ []) []) is_inv is_kept)
+    ∙ append_assoc out _ (unkept_from ms (n + 1) (drop (n + 1) gs)) ∙ sym (ap (λ (l : List Gate). out ++ unkept_from ms n l) front) ∙ so_far
+
+pub unkept_all : (all out : List ℕ) (ms : List ModuleLines) (gs : List Gate) (n : ℕ) → length gs ≤ n → out ++ unkept_from ms n (drop n gs) ≡ all → out ≡ all
+unfolding unkept_from
+unkept_all all out ms gs n past so_far = sym (append-nil out) ∙ sym (ap (λ (l : List Gate). out ++ unkept_from ms n l) (drop_of_length-le gs past)) ∙ so_far
