@@ -148,8 +148,7 @@ pub books-agree : BooksAgree
 books-agree b c k f g is other jobs held there =
     let mine = (is.own k f held).job in
     let theirs = (other.own k g there).job in
-    let same : job_of f ≡ job_of g = same_Some _ _ (sym mine ∙ ap (λ js. slice_get js k) jobs ∙ theirs) in
-    (
+    let same : job_of f ≡ job_of g = same_Some _ _ (sym mine ∙ ap (λ js. slice_get js k) jobs ∙ theirs) in (
       least_unique (job_of f) (fault_of f) (fault_of g) f.honest (subst (λ (j : JobState). IsLeastFault j (fault_of g)) (sym same) g.honest),
       least_keep_unique (job_of f) (keep_of f) (keep_of g) f.keeps (subst (λ (j : JobState). IsLeastKeepFault j (keep_of g)) (sym same) g.keeps),
     )

@@ -265,6 +265,7 @@ one_good = record {
   named = refl;
   local = one_local;
   order = (refl, tt);
+  keep_lines = λ k d lt. absurd (omega arith);
   few_borders = omega arith;
   edge_lines = λ k d lt. absurd (omega arith);
   halo_lines = λ k d lt. absurd (omega arith);

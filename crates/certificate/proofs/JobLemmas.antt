@@ -1,6 +1,7 @@
 -- What a module's lines give to its job.
-use Rattle.std.proofs.Common.{◌≡◌, ℕ, ◌+◌, ◌<◌, ◌≤◌, ◌^◌, length, List, [], ◌∷◌, ◌++◌, None, refl, sym, ap, ap₂, subst, ◌∙◌, arith, get_or}
-use Rattle.std.specs.List.{All, flat_map}
+use Rattle.std.proofs.Common.{◌≡◌, ℕ, ◌+◌, ◌<◌, ◌≤◌, ◌^◌, length, List, [], None, sym, ap, subst, ◌∙◌, arith, get_or}
+use Rattle.std.specs.Prelude.{IsTrue}
+use Rattle.std.specs.List.{All}
 use Rattle.std.proofs.lemmas.List.Elements.{All-nil}
 use Rattle.std.proofs.lemmas.Option.{slice_get-get_or, slice_get_within}
 use Rattle.circuit.specs.Bridge.{circuit_of, netlist_of}
@@ -10,10 +11,8 @@ use Rattle.pattern.specs.Layout.{Pattern}
 use Rattle.pattern.specs.Lines.{size_fault}
 use Rattle.pattern.specs.declared.parts.Extent.{Extent}
 use Rattle.pattern.proofs.TakenLemmas.{is_sized}
-use Rattle.module_box.specs.Locals.{AreLocalLines, LocalNet, local_wires}
-use Rattle.certificate.specs.Entries.{Setting, ModuleLines, cuts, cut_wires, gates, known, edges, halos, keep_in}
-use Rattle.certificate.specs.declared.entry.Entry.{Entry}
-use Rattle.certificate.specs.declared.entry.Entry.TheVariants.{Module, Cut, Use, Edge, Halo, Stop}
+use Rattle.module_box.specs.Locals.{AreLocalLines, LocalNet, is_among, local_wires}
+use Rattle.certificate.specs.Entries.{Setting, ModuleLines, cuts, cut_wires, gates, keeps, known, edges, halos}
 use Rattle.certificate.specs.Grammars.{setting_of}
 use Rattle.certificate.specs.Modules.{IsModule}
 use Rattle.certificate.specs.Timetables.{IsNamedLocal}
@@ -63,18 +62,9 @@ pub cut_count : (ls cs : List CircuitLine) (p : Pattern) (m : ModuleLines) (cw :
     IsModule (setting_of cs p) m → n ≡ length (cuts m)
 cut_count ls cs p m cw n e ce ne h = ne ∙ ap length ce ∙ ap (λ l. length (cut_wires (circuit_of l) m)) e ∙ h.named
 
--- no gate is kept
-no_keep : (e : Entry) → keep_in e ≡ []
-no_keep (Module b) = refl
-no_keep (Cut n) = refl
-no_keep (Use k) = refl
-no_keep (Edge e) = refl
-no_keep (Halo e) = refl
-no_keep (Stop s) = refl
+-- the gates that a module keeps are used
+pub keeps_used : (g : Setting) (m : ModuleLines) (gs : List ℕ) → gs ≡ gates m → IsModule g m → All (λ k. IsTrue (is_among gs k)) (keeps m)
+keeps_used g m gs is h k d lt = subst (λ us. IsTrue (is_among us (get_or (keeps m) k d))) (sym is) (h.keep_lines k d lt).among
 
-pub no_keeps : (lines : List Entry) → flat_map keep_in lines ≡ []
-no_keeps [] = refl
-no_keeps (e ∷ lines) = ap₂ (λ (a b : List ℕ). a ++ b) (no_keep e) (no_keeps lines)
-
-pub none_kept : (n : ℕ) (kept : List ℕ) → kept ≡ [] → All (λ k. k < n) kept
-none_kept n kept e = subst (All (λ k. k < n)) (sym e) (All-nil (λ k. k < n))
+pub few_used : (g : Setting) (m : ModuleLines) (gs : List ℕ) → gs ≡ gates m → IsModule g m → length gs ≤ 64
+few_used g m gs is h = subst (λ us. length us ≤ 64) (sym is) h.local.few_gates

@@ -21,12 +21,12 @@ use Rattle.certificate.specs.declared.entry.Border.{Border}
 use Rattle.certificate.specs.declared.entry.Counts.{Counts}
 use Rattle.certificate.specs.declared.entry.Entry.{Entry}
 use Rattle.certificate.specs.declared.entry.StopLine.{StopLine}
-use Rattle.certificate.specs.declared.entry.Entry.TheVariants.{Module, Cut, Use, Edge, Halo, Stop}
+use Rattle.certificate.specs.declared.entry.Entry.TheVariants.{Module, Cut, Use, Keep, Edge, Halo, Stop}
 use Rattle.certificate.proofs.BuiltLemmas.{built_none, module_built, line_built, good_module}
 use Rattle.certificate.proofs.Growing.{modules_push, flat_same, last_at, last_pushed, last_changed, last_mapped}
 use Rattle.certificate.proofs.Lists.{some_is}
 use Rattle.certificate.proofs.StarLemmas.{or_none}
-use Rattle.certificate.proofs.ModulePushes.{no_code, both_none, not_false, IsNewWire, new_wire, IsGoodUse, good_use, cuts_cut, gates_use, edges_edge, halos_halo, stops_stop, known_cut, known_use, known_same, cut_pushed, use_pushed, edge_pushed, halo_pushed, stop_pushed}
+use Rattle.certificate.proofs.ModulePushes.{no_code, both_none, not_false, IsNewWire, new_wire, IsGoodUse, good_use, cuts_cut, gates_use, edges_edge, halos_halo, stops_stop, known_cut, known_use, known_same, cut_pushed, use_pushed, keep_pushed, edge_pushed, halo_pushed, stop_pushed}
 
 no_last : {X : Type 0} (x : X) → None ≡ Some x → ⊥
 no_last x e = cc
@@ -54,7 +54,7 @@ mapped_none : {X Y : Type 0} (f : X → Y) (o : Option X) → option_map f o ≡
 mapped_none f None e = refl
 mapped_none f (Some x) e = absurd cc
 
-mapped_some : {X Y : Type 0} (f : X → Y) (o : Option X) (y : Y) → option_map f o ≡ Some y → (x : X) × (o ≡ Some x) × (y ≡ f x)
+pub mapped_some : {X Y : Type 0} (f : X → Y) (o : Option X) (y : Y) → option_map f o ≡ Some y → (x : X) × (o ≡ Some x) × (y ≡ f x)
 mapped_some f None y e = absurd cc
 mapped_some f (Some x) y e = (x, refl, sym (some_is (f x) y e))
 
@@ -153,6 +153,10 @@ pub counted_use : (k : ℕ) (m : ModuleLines) → counts_of (with_line (Use k) m
 unfolding counted
 counted_use k m = same_counts m.area _ _ _ _ _ _ _ _ _ _ (ap length (flat_same cut_in m.lines (Use k) refl)) (one_longer (gates m) _ k (gates_use m k)) (ap length (flat_same edge_in m.lines (Use k) refl)) (ap length (flat_same halo_in m.lines (Use k) refl)) (ap length (flat_same stop_in m.lines (Use k) refl))
 
+pub counted_keep : (k : ℕ) (m : ModuleLines) → counts_of (with_line (Keep k) m) ≡ counted (Keep k) (counts_of m)
+unfolding counted
+counted_keep k m = same_counts m.area _ _ _ _ _ _ _ _ _ _ (ap length (flat_same cut_in m.lines (Keep k) refl)) (ap length (flat_same use_in m.lines (Keep k) refl)) (ap length (flat_same edge_in m.lines (Keep k) refl)) (ap length (flat_same halo_in m.lines (Keep k) refl)) (ap length (flat_same stop_in m.lines (Keep k) refl))
+
 pub counted_edge : (d : Border) (m : ModuleLines) → counts_of (with_line (Edge d) m) ≡ counted (Edge d) (counts_of m)
 unfolding counted
 counted_edge d m = same_counts m.area _ _ _ _ _ _ _ _ _ _ (ap length (flat_same cut_in m.lines (Edge d) refl)) (ap length (flat_same use_in m.lines (Edge d) refl)) (one_longer (edges m) _ d (edges_edge m d)) (ap length (flat_same halo_in m.lines (Edge d) refl)) (ap length (flat_same stop_in m.lines (Edge d) refl))
@@ -217,6 +221,15 @@ module _ (g : Setting) (m : ModuleLines) (last : Option Entry) (names : List (Li
     wires = ap (λ l. l ++ gate.outs) p.wires ∙ sym (known_use g m k gate at);
     stars = λ c. p.stars c ∙ ap (list_any (is_starred c)) (sym (flat_same edge_in m.lines (Use k) refl));
     halo_stars = λ c. p.halo_stars c ∙ ap (list_any (is_starred c)) (sym (flat_same halo_in m.lines (Use k) refl));
+  }
+
+  pub present_keep : (k : ℕ) → IsPresent g (with_line (Keep k) m) (Some (Keep k)) names local e h
+  present_keep k = record {
+    final = last_pushed m.lines (Keep k);
+    ports = p.ports;
+    wires = p.wires ∙ sym (known_same g m (Keep k) refl refl);
+    stars = λ c. p.stars c ∙ ap (list_any (is_starred c)) (sym (flat_same edge_in m.lines (Keep k) refl));
+    halo_stars = λ c. p.halo_stars c ∙ ap (list_any (is_starred c)) (sym (flat_same halo_in m.lines (Keep k) refl));
   }
 
   one_star : (c : Cell) (old new : List Cell) (ds more : List Border) (d : Border) → list_any (same_cell c) old ≡ list_any (is_starred c) ds → list_any (same_cell c) new ≡ (list_any (same_cell c) old || is_starred c d) → more ≡ ds ++ d ∷ [] → list_any (same_cell c) new ≡ list_any (is_starred c) more
@@ -303,6 +316,14 @@ module _ (g : Setting) (es : List Entry) (covered : Board) (counts : List Counts
           (λ is. use_pushed g good.module_lines k is good.follows use_words.0 use_words.1)
           (local ++ gate.outs) e h
           (λ p. present_use g good.module_lines last names local e h p k gate at)
+
+  pub kept_keep : (k : ℕ) → IsGoodLine g es (Keep k) → after ≡ change_last (counted (Keep k)) counts → IsKept g (es ++ Keep k ∷ []) covered after (Some (Keep k)) names local e h
+  unfolding add_line
+  kept_keep k good now =
+      kept_line g es covered counts last names local e h kept (Keep k) good refl (counted_keep k) after now
+      (λ is. keep_pushed g good.module_lines is k good.follows good.words)
+      local e h
+      (λ p. present_keep g good.module_lines last names local e h p k)
 
   module _ (d : Border) (cells : List Cell) where
     pub kept_edge : IsGoodLine g es (Edge d) → after ≡ change_last (counted (Edge d)) counts → ((c : Cell) → list_any (same_cell c) cells ≡ (list_any (same_cell c) e || is_starred c d)) → IsKept g (es ++ Edge d ∷ []) covered after (Some (Edge d)) names local cells h

@@ -7,15 +7,15 @@ ghost use Rattle.certificate.specs.Entries.{ModuleLines, counts_of, modules_of, 
 ghost use Rattle.certificate.specs.Rules.{entry_fault, end_fault, box_fault, module_fault, inner_fault, words_fault, is_incomplete, is_local, leaves_gap, box_cells};
 ghost use Rattle.module_box.specs.Boxes.{in_box};
 ghost use Rattle.certificate.specs.BuilderView.{BuilderState, IsSmall};
-ghost use Rattle.certificate.specs.declared.entry.Entry.TheVariants.{Module, Cut, Use, Edge, Halo, Stop};
+ghost use Rattle.certificate.specs.declared.entry.Entry.TheVariants.{Module, Cut, Use, Keep, Edge, Halo, Stop};
 
 use crate::counts::{count_in_last, last_counts, push_entry};
 use crate::entry::{Border, Counts, Entry, StopLine};
 use crate::known::{learn, learn_all};
 use crate::order::does_follow;
 use crate::rules::{
-    border_code, cut_code, is_bad_place, is_bad_side, is_local_name, may_be_edge, may_be_halo,
-    may_be_stop, use_code,
+    border_code, cut_code, is_bad_place, is_bad_side, is_local_name, keep_code, may_be_edge,
+    may_be_halo, may_be_stop, use_code,
 };
 use crate::site::Site;
 use crate::stars::{has_star, note_star};
@@ -104,6 +104,7 @@ impl<'a> Builder<'a> {
             Entry::Module(_) => None,
             Entry::Cut(name) => cut_code(&self.site, counts.cuts, &self.known, name),
             Entry::Use(number) => use_code(&self.site, counts.gates, &self.known, *number),
+            Entry::Keep(number) => keep_code(&self.site, self.entries.as_slice(), *number),
             Entry::Edge(border) => {
                 let starred = has_star(&self.edges, border.cell);
                 let placed = may_be_edge(size, counts.area, starred, border);
@@ -173,6 +174,20 @@ impl<'a> Builder<'a> {
         }
         push_entry(&mut self.entries, entry)?;
         learn_all(&mut self.known, gate.outs());
+        count_in_last(&mut self.modules, &entry);
+        self.last = Some(entry);
+        Ok(())
+    }
+
+    fn add_keep(&mut self, number: u32) -> Result<(), LineFault>
+        ensures ok { OnOk result ((inner_fault self.old.setting (present self.old.entries) (Keep number) ≡ None) × (self.new ≡ record self.old { entries = self.old.entries ++ Keep number ∷ [] })) }
+        ensures fault { IfErr result (λ e. FaultIs e (inner_fault self.old.setting (present self.old.entries) (Keep number))) }
+    {
+        let entry = Entry::Keep(number);
+        if let Some(code) = self.inner_code(&entry) {
+            return Err(LineFault::Code(code));
+        }
+        push_entry(&mut self.entries, entry)?;
         count_in_last(&mut self.modules, &entry);
         self.last = Some(entry);
         Ok(())
@@ -323,6 +338,7 @@ impl<'a> Builder<'a> {
             Entry::Module(area) => self.add_module(alloc, area),
             Entry::Cut(name) => self.add_cut(name),
             Entry::Use(number) => self.add_use(number),
+            Entry::Keep(number) => self.add_keep(number),
             Entry::Edge(border) => self.add_edge(border),
             Entry::Halo(border) => self.add_halo(border),
             Entry::Stop(stop) => self.add_stop(stop),

@@ -21,7 +21,7 @@ ghost use Rattle.certificate.specs.Timetables.{IsLow, IsNamedLocal, borders_in};
 use crate::cert::Cert;
 use crate::entry::Entry;
 use crate::job::{Job, Stop, back};
-use crate::lines::{cut_list, inner_lines, used_gates};
+use crate::lines::{cut_list, inner_lines, kept_places, used_gates};
 use crate::plan::Plan;
 use crate::shape::Shape;
 use crate::stops::{moved_stops, stops_of};
@@ -37,6 +37,7 @@ fn named_locals(alloc: Global, circuit: &Circuit, lines: &[Entry]) -> Result<Loc
     ensures locals { IfOk result (λ l. AreLocalsOf (netlist_of circuit.now) l) }
     ensures wires { IfOk result (λ l. l.circuit_wires ≡ local_wires (netlist_of circuit.now) (flat_map (λ n. option_to_list (wire_of (circuit_of circuit.now) n)) (flat_map cut_in lines.now)) (flat_map use_in lines.now)) }
     ensures gates { IfOk result (λ l. l.circuit_gates ≡ flat_map use_in lines.now) }
+    ensures count { IfOk result (λ l. length l.netlist.gates ≡ length (flat_map use_in lines.now)) }
     ensures given { IfOk result (λ l. l.netlist.given ≡ length (flat_map (λ n. option_to_list (wire_of (circuit_of circuit.now) n)) (flat_map cut_in lines.now))) }
 {
     // A circuit has at most 1024 gates, so their numbers fit.
@@ -127,6 +128,7 @@ fn make_job(alloc: Global, plan: &Plan, area: Box2, lines: &[Entry]) -> Result<J
     let (edges, halos) = schedules(alloc, circuit, &locals, area, lines)?;
     let stops = own_stops(alloc, circuit, &locals, area, lines)?;
     let (wiring, wires, gates) = locals.into_parts();
+    let kept = kept_places(alloc, gates.as_slice(), lines)?;
     let shape = Shape {
         width: area.w,
         height: area.h,
@@ -137,7 +139,7 @@ fn make_job(alloc: Global, plan: &Plan, area: Box2, lines: &[Entry]) -> Result<J
         edges,
         halos,
         stops,
-        kept: Vec::new(alloc),
+        kept,
     };
     Ok(Job {
         x: area.x,

@@ -54,9 +54,11 @@ up_to vs (g ∷ gs) k ordered e = elim (row_cases g.kind (map (read vs) g.ins) (
       let later = undefined_or-cases _ k (sym (ap (undefined_or (λ r. first_undefined (vs ++ r) gs)) s.1) ∙ e) in
       let m : ℕ = later.0 in
       let rest = up_to (vs ++ s.0) gs m (subst (λ n. AreOrdered n gs) (total vs s.0 _ s.2) ordered.3) later.1 in
-      let is : EvaluatesUpTo (vs ++ s.0) gs m rest.0 = rest.1 in
-      (rest.0, subst (λ k. EvaluatesUpTo vs (g ∷ gs) k rest.0) (sym later.2)
-      (record { gate = is.gate; numbered = is.numbered; before = ap (option_and_then (λ r. evaluate (vs ++ r) (take m gs))) s.1 ∙ is.before; none = is.none }))
+      let is : EvaluatesUpTo (vs ++ s.0) gs m rest.0 = rest.1 in (
+        rest.0,
+        subst (λ k. EvaluatesUpTo vs (g ∷ gs) k rest.0) (sym later.2)
+            (record { gate = is.gate; numbered = is.numbered; before = ap (option_and_then (λ r. evaluate (vs ++ r) (take m gs))) s.1 ∙ is.before; none = is.none }),
+      )
 ]
 
 -- ---- gates that have their rows under some values

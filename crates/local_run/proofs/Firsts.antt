@@ -65,11 +65,14 @@ pub end_least : (j : JobState) (vs : Values) (n : ℕ) (f : ℕ → Bool) (s : S
 end_least j vs n f s d t k x y r e sought inside ed to from same h =
     subst (λ (k' : Kind). IsLeastBelow n (λ a. IsFound j vs a t k' x y) r) e
     (least_map n (λ a. (is_defined vs a ≡ true) × (f a ≢ is_live (valuation vs a) s)) (λ a. IsFound j vs a t End x y)
-    (λ a l ne. (ne.0, record {
-      last = at_end;
-      inside = inside;
-      differs = λ meets. ne.1 (same a l ∙ to (valuation vs a) _ (subst (λ (d' : Demand). Meets (valuation vs a) d' (local_run j (valuation vs a) t x y)) ed meets));
-    }))
+    (λ a l ne. (
+      ne.0,
+      record {
+        last = at_end;
+        inside = inside;
+        differs = λ meets. ne.1 (same a l ∙ to (valuation vs a) _ (subst (λ (d' : Demand). Meets (valuation vs a) d' (local_run j (valuation vs a) t x y)) ed meets));
+      },
+    ))
     (λ a l fault. (fault.0, (λ is. fault.1.differs (subst (λ (d' : Demand). Meets (valuation vs a) d' (local_run j (valuation vs a) t x y)) (sym ed) (from (valuation vs a) _ (sym (same a l) ∙ is))))))
     r h)
   where
@@ -82,12 +85,15 @@ pub edge_least : (j : JobState) (vs : Values) (n : ℕ) (f : ℕ → Bool) (s : 
 edge_least j vs n f s t k x y r e sought ring es same h =
     subst (λ (k' : Kind). IsLeastBelow n (λ a. IsFound j vs a t k' x y) r) e
     (least_map n (λ a. (is_defined vs a ≡ true) × (f a ≢ is_live (valuation vs a) s)) (λ a. IsFound j vs a t Edge x y)
-    (λ a l ne. (ne.0, record {
-      odd = at.0;
-      early = at.1;
-      ring = ring;
-      differs = λ is. ne.1 (same a l ∙ is ∙ ap (is_live (valuation vs a)) (sym es));
-    }))
+    (λ a l ne. (
+      ne.0,
+      record {
+        odd = at.0;
+        early = at.1;
+        ring = ring;
+        differs = λ is. ne.1 (same a l ∙ is ∙ ap (is_live (valuation vs a)) (sym es));
+      },
+    ))
     (λ a l fault. (fault.0, (λ is. fault.1.differs (sym (same a l) ∙ is ∙ ap (is_live (valuation vs a)) es))))
     r h)
   where

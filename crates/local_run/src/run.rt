@@ -69,10 +69,7 @@ fn least_fault(alloc: Global, values: &Values, job: &Job) -> Result<Option<Fault
 }
 
 // The least fault of the job, and its least keep fault.
-fn least_faults(
-    alloc: Global,
-    job: &Job,
-) -> Result<(Option<Fault>, Option<KeepFault>), AllocError>
+fn least_faults(alloc: Global, job: &Job) -> Result<(Option<Fault>, Option<KeepFault>), AllocError>
     ensures fault { IfOk result (λ o. IsLeastFault job.now o.0) }
     ensures keep { IfOk result (λ o. IsLeastKeepFault job.now o.1) }
 {

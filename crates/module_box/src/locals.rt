@@ -133,6 +133,7 @@ impl Locals {
         ensures locals { IfOk result (λ l. AreLocalsOf (netlist_of circuit.now) l) }
         ensures wires { IfOk result (λ l. l.circuit_wires ≡ local_wires (netlist_of circuit.now) cuts.now gates.now) }
         ensures gates { IfOk result (λ l. l.circuit_gates ≡ gates.now) }
+        ensures count { IfOk result (λ l. length l.netlist.gates ≡ length gates.now) }
         ensures given { IfOk result (λ l. l.netlist.given ≡ length cuts.now) }
     {
         let circuit_gates = gates.to_vec(alloc)?;
