@@ -10,7 +10,7 @@ use Rattle.certificate.specs.Entries.{ModuleLines, keep_in, modules_of}
 use Rattle.certificate.specs.Keeps.{is_kept, unkept_from}
 use Rattle.certificate.specs.ModuleParts.{inner, is_module}
 use Rattle.certificate.specs.declared.entry.Entry.{Entry}
-use Rattle.certificate.specs.declared.entry.Entry.TheVariants.{Module, Cut, Use, Keep, Edge, Halo}
+use Rattle.certificate.specs.declared.entry.Entry.TheVariants.{Module, Cut, Use, Keep, Edge, Halo, Stop}
 use Rattle.certificate.proofs.ModuleSplit.{split_module, split_other}
 use Rattle.certificate.proofs.StarLemmas.{or_none}
 
@@ -39,6 +39,7 @@ kept_first (Use k) es n is = absurd cc
 kept_first (Keep k) es n is = absurd cc
 kept_first (Edge e) es n is = absurd cc
 kept_first (Halo e) es n is = absurd cc
+kept_first (Stop s) es n is = absurd cc
 
 pub module_noted : (es : List Entry) (place : ℕ) (e : Entry) (lines : List Entry) (keys new : List ℕ) → place < length es → e ≡ get_or es place e → is_module e ≡ true → lines ≡ inner (drop (place + 1) es)
     → ((n : ℕ) → is_among new n ≡ (is_among keys n || is_among (flat_map keep_in lines) n)) → AreNoted es place keys → AreNoted es (place + 1) new

@@ -6,7 +6,7 @@ use Rattle.module_box.specs.Locals.{is_among}
 use Rattle.certificate.specs.Entries.{ModuleLines, with_line, add_line, last_of, modules_of, present, gates, use_in}
 use Rattle.certificate.specs.ModuleParts.{is_module}
 use Rattle.certificate.specs.declared.entry.Entry.{Entry}
-use Rattle.certificate.specs.declared.entry.Entry.TheVariants.{Module, Cut, Use, Keep, Edge, Halo}
+use Rattle.certificate.specs.declared.entry.Entry.TheVariants.{Module, Cut, Use, Keep, Edge, Halo, Stop}
 use Rattle.certificate.proofs.Growing.{modules_push, flat_push, last_pushed, last_changed}
 use Rattle.certificate.proofs.Keeping.{mapped_some}
 use Rattle.certificate.proofs.Lists.{some_is}
@@ -28,6 +28,7 @@ other_line es (Use n) other m e = mapped_some (with_line (Use n)) (present es) m
 other_line es (Keep n) other m e = mapped_some (with_line (Keep n)) (present es) m (sym (ap last_of (modules_push es (Keep n)) ∙ last_changed (with_line (Keep n)) (modules_of es)) ∙ e)
 other_line es (Edge n) other m e = mapped_some (with_line (Edge n)) (present es) m (sym (ap last_of (modules_push es (Edge n)) ∙ last_changed (with_line (Edge n)) (modules_of es)) ∙ e)
 other_line es (Halo n) other m e = mapped_some (with_line (Halo n)) (present es) m (sym (ap last_of (modules_push es (Halo n)) ∙ last_changed (with_line (Halo n)) (modules_of es)) ∙ e)
+other_line es (Stop n) other m e = mapped_some (with_line (Stop n)) (present es) m (sym (ap last_of (modules_push es (Stop n)) ∙ last_changed (with_line (Stop n)) (modules_of es)) ∙ e)
 
 or_true : (a : Bool) → true ≡ (a || true)
 or_true true = refl
@@ -61,6 +62,7 @@ told_module es (Use n) k is m e = absurd cc
 told_module es (Keep n) k is m e = absurd cc
 told_module es (Edge n) k is m e = absurd cc
 told_module es (Halo n) k is m e = absurd cc
+told_module es (Stop n) k is m e = absurd cc
 
 -- ---- the lines from the last one on
 
