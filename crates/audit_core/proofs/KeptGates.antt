@@ -18,7 +18,7 @@ use Rattle.certificate.specs.Jobs.{JobState, IsJobOf}
 use Rattle.certificate.specs.Keeps.{is_kept}
 use Rattle.local_run.specs.declared.fault.KeepFault.{KeepFault}
 use Rattle.border_match.proofs.Modules.{there}
-use Rattle.audit_core.specs.HeadlineLaws.{IsBundle, IsAcceptedBundle, NoneIsUndefined, AcceptedHasValuation}
+use Rattle.audit_core.specs.HeadlineLaws.{BelongTogether, IsAcceptedBundle, NoneIsUndefined, AcceptedHasValuation}
 
 -- a module that keeps the gate
 record Keeper (ms : List ModuleLines) (n : ℕ) : Type 0 where
@@ -63,7 +63,7 @@ place_of f (p ∷ places) count n all e = elim (cases_Bool (eqb (f p) n)) [
 
 pub none_is_undefined : NoneIsUndefined
 none_is_undefined lines p ms jobs inputs k all u =
-    let b : IsBundle lines p ms jobs = all.bundle in
+    let b : BelongTogether lines p ms jobs = all.bundle in
     let kept : is_kept ms k ≡ true = all.accepted.kept k u.gate u.numbered (only_inverse (netlist_of lines) inputs k b.ordered u) in
     let by : Keeper ms k = keeper ms k kept in
     let j = there jobs by.number (let lt = slice_get_within ms by.number by.lines by.numbered in let n = b.are_jobs.count in omega (arith, lt, n)) in
