@@ -58,6 +58,7 @@ starts_with_module g v [] good = refl
 starts_with_module g v (Module b ∷ es) good = refl
 starts_with_module g v (Cut n ∷ es) good = absurd (let first = good.0 in cc)
 starts_with_module g v (Use k ∷ es) good = absurd (let first = good.0 in cc)
+starts_with_module g v (Keep k ∷ es) good = absurd (let first = good.0 in cc)
 starts_with_module g v (Edge e ∷ es) good = absurd (let first = good.0 in cc)
 starts_with_module g v (Halo e ∷ es) good = absurd (let first = good.0 in cc)
 starts_with_module g v (Stop s ∷ es) good = absurd (let first = good.0 in cc)

@@ -1,5 +1,5 @@
 use Rattle.std.specs.Prelude.{pos}
-use Rattle.std.proofs.Common.{◌≡◌, ℕ, ℤ, List, map, arith, to_z, of_z, w32, sym, ap, ap₂, subst, ◌∙◌}
+use Rattle.std.proofs.Common.{◌≡◌, ℕ, ℤ, List, map, arith, to_z, of_z, w32, sym, ap, subst, ◌∙◌}
 use Rattle.std.specs.List.{All, flat_map}
 use Rattle.std.proofs.lemmas.Int.{ints}
 use Rattle.std.proofs.lemmas.Result.{IfOk-weaker}

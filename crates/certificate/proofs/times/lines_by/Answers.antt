@@ -1,8 +1,8 @@
-use Rattle.std.proofs.Common.{◌≡◌, ◌++◌, ◌≤◌, ap, sym, ◌∙◌, subst, length, Some, arith}
+use Rattle.std.proofs.Common.{◌≡◌, ◌++◌, ◌≤◌, ap, sym, ◌∙◌, length, Some, arith}
 use Rattle.std.specs.Prelude.{slice_get}
 use Rattle.circuit.specs.Bridge.{netlist_of}
 use Rattle.circuit.specs.Wiring.{gate_of}
-use Rattle.certificate.specs.Times.{delay_line, lines_by, meet_line, numbered}
+use Rattle.certificate.specs.Times.{delay_line, meet_line, numbered}
 use Rattle.certificate.specs.SeenTimes.{told_by}
 use Rattle.certificate.proofs.TimeLemmas.{all_gates, one_gate_more}
 use Rattle.certificate.proofs.times.lines_by.Goals as goal

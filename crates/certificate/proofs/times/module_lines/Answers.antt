@@ -1,4 +1,4 @@
-use Rattle.std.proofs.Common.{◌≡◌, ◌≤◌, length, ap, arith}
+use Rattle.std.proofs.Common.{length, ap, arith}
 use Rattle.certificate.proofs.TimeLemmas.{inner_within, stops_from}
 use Rattle.certificate.proofs.times.module_lines.Goals as goal
 
