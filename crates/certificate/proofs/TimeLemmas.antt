@@ -1,14 +1,12 @@
 -- Tables of times, line by line, and the lines of gates one after the other.
-use Rattle.std.proofs.Common.{◌≡◌, ◌≢◌, ℕ, zero, suc, ◌+◌, ◌<◌, ◌≤◌, Bool, true, false, List, [], ◌∷◌, ◌++◌, length, drop, get_or, Option, Some, None, refl, sym, ap, ap₂, ◌∙◌, arith, inl, inr, drop-cons, add-one, append_assoc, append-nil, length-drop, take, ◌-◌}
+use Rattle.std.proofs.Common.{◌≡◌, ℕ, suc, ◌+◌, ◌<◌, ◌≤◌, false, List, [], ◌∷◌, ◌++◌, length, drop, get_or, Option, Some, refl, sym, ap, ap₂, ◌∙◌, arith, drop-cons, add-one, append_assoc, append-nil, length-drop, take, ◌-◌}
 use Rattle.std.specs.Prelude.{slice_get}
 use Rattle.std.specs.List.{flat_map}
-use Rattle.std.proofs.lemmas.Bool.{cases_Bool}
-use Rattle.std.proofs.lemmas.Grind.{flat_map-append}
 use Rattle.std.proofs.lemmas.List.{drop_all, take_all}
 use Rattle.std.proofs.lemmas.Option.{same_Some, slice_get-get_or, slice_get_within}
 use Rattle.circuit.specs.Meaning.{Circuit, Gate}
 use Rattle.section_text.proofs.Good.{AreFaultless, IsFaultless}
-use Rattle.certificate.specs.Entries.{ModuleLines, Setting, last_of, modules_of, stop_in, stops}
+use Rattle.certificate.specs.Entries.{ModuleLines, Setting, last_of, modules_of, stop_in}
 use Rattle.certificate.specs.Grammars.{certificate_grammar}
 use Rattle.certificate.specs.Rules.{entry_fault}
 use Rattle.certificate.specs.ModuleParts.{inner, is_module}

@@ -1,5 +1,5 @@
 -- What delays and meetings mean, gate by gate
-use Rattle.std.specs.Prelude.{◌≡◌, ℕ, ◌+◌, ◌<◌, ◌≤◌, Bool, List, [], ◌∷◌, Some, None, slice_get, Contains, IsTrue}
+use Rattle.std.specs.Prelude.{◌≡◌, ℕ, ◌+◌, ◌<◌, ◌≤◌, List, [], ◌∷◌, Some, None, slice_get, Contains}
 use Rattle.std.specs.List.{All}
 use Rattle.circuit.specs.Gates.{Delay}
 use Rattle.circuit.specs.Meaning.{Circuit, Gate}
