@@ -25,7 +25,7 @@ use Rattle.certificate.specs.Signals.{Meets, is_live}
 use Rattle.certificate.specs.declared.job.Demand.TheVariants as Demanded
 use Rattle.certificate.specs.declared.job.Stop as listed
 use Rattle.certificate.proofs.ShapeParts.{back_forth, stops_back}
-use Rattle.local_run.specs.Faults.{HasFault, IsFault, IsFaultUnder, IsKeepFault, IsLeastKeepFault}
+use Rattle.local_run.specs.Faults.{HasFault, IsFault, IsFaultUnder, IsKeepFault}
 use Rattle.local_run.specs.Moves.{FaultsMoveAlong, LeastFaultMovesAlong, LeastKeepFaultStays, columns_between, fault_on, rows_between}
 use Rattle.local_run.specs.Order.{fault_cmp, kind_number}
 use Rattle.local_run.specs.Runs.{local_run, with_halo}

@@ -1,6 +1,6 @@
 -- Stops in their order, and the first of them that has a fault
-use Rattle.std.proofs.Common.{◌≡◌, ◌≢◌, ℕ, zero, suc, ◌<◌, ◌≤◌, ◌+◌, List, [], ◌∷◌, length, get_or, Option, Some, None, true, Ordering, Less, Equal, Greater, ◌⊎◌, inl, inr, refl, arith, sym, ◌∙◌, ap, subst}
-use Rattle.std.specs.Prelude.{ℤ, ◌<ℤ◌, Contains, slice_get}
+use Rattle.std.proofs.Common.{◌≡◌, ◌≢◌, ℕ, ◌<◌, ◌≤◌, ◌+◌, length, get_or, Some, None, true, Ordering, Less, Equal, Greater, ◌⊎◌, inl, inr, refl, arith, sym, ◌∙◌, ap, subst}
+use Rattle.std.specs.Prelude.{ℤ, ◌<ℤ◌, slice_get}
 use Rattle.std.specs.Ordering.{nat_cmp, int_cmp, ordering_then}
 use Rattle.std.proofs.lemmas.Int.{ints}
 use Rattle.std.proofs.lemmas.Option.{same_Some, slice_get_within, slice_get-get_or}
@@ -10,7 +10,7 @@ use Rattle.module_box.specs.Schedules.{IsRising}
 use Rattle.module_box.specs.declared.schedules.Moment.{Moment}
 use Rattle.certificate.specs.Jobs.{JobState, stop_moment}
 use Rattle.certificate.specs.declared.job.Stop as listed
-use Rattle.local_run.specs.Faults.{IsStopFault, IsFaultUnder, assignments}
+use Rattle.local_run.specs.Faults.{IsStopFault, assignments}
 use Rattle.local_run.specs.Runs.{local_run}
 use Rattle.local_run.specs.Scans.{IsFirst, IsFree, IsLeastBelow, IsMissed, IsNextStop, is_defined, valuation}
 use Rattle.local_run.specs.declared.fault.Kind.TheVariants.{Stop}

@@ -1,4 +1,4 @@
-use Rattle.std.proofs.Common.{◌≡◌, ◌<◌, ◌≤◌, Bool, true, false, rules, arith, ap, ◌∙◌, length}
+use Rattle.std.proofs.Common.{◌≡◌, Bool, true, false, rules, arith, ap, ◌∙◌, length}
 use Rattle.std.specs.Prelude.{IsTrue}
 use Rattle.circuit.specs.Meaning.{Netlist}
 use Rattle.module_box.specs.Locals.{is_among}

@@ -3,7 +3,7 @@ use Rattle.module_box.specs.declared.schedules.Signal.TheVariants.{Zero, One, Wi
 use Rattle.certificate.specs.declared.job.Demand.TheVariants as Demanded
 use Rattle.local_run.specs.Lanes.{lane}
 use Rattle.local_run.specs.Faults.{assignments}
-use Rattle.local_run.proofs.Firsts.{edge_least, edge_not_found, end_least, inner_in_box}
+use Rattle.local_run.proofs.Firsts.{edge_not_found, end_least, inner_in_box}
 use Rattle.local_run.proofs.scan.cell_fault.Goals as goal
 
 pub returns-in-Dead : goal.returns-in-Dead

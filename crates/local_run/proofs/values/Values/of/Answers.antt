@@ -1,4 +1,4 @@
-use Rattle.std.proofs.Common.{ℕ, subst, ap, ◌∙◌, arith, ◌^◌, ◌≡◌, ◌≤◌, ◌<◌, ◌*◌, ◌%◌, length}
+use Rattle.std.proofs.Common.{ℕ, subst, ap, ◌∙◌, arith, ◌^◌, ◌≡◌, ◌≤◌, ◌<◌, ◌*◌, ◌%◌}
 use Rattle.std.proofs.Math.Pow.{pow_mono}
 use Rattle.std.proofs.lemmas.Nat.{pow_pos}
 use Rattle.std.specs.Int.{div_ceil}
