@@ -1,24 +1,20 @@
 -- No gate of what is accepted is undefined
-use Rattle.std.proofs.Common.{◌≡◌, ℕ, zero, suc, ◌<◌, eqb, Bool, true, false, List, [], ◌∷◌, map, length, Some, refl, sym, ap, subst, ◌∙◌, arith, inl, inr}
+use Rattle.std.proofs.Common.{◌≡◌, ℕ, suc, ◌<◌, eqb, true, List, [], ◌∷◌, map, length, Some, refl, sym, ap, ◌∙◌, arith, inl, inr}
 use Rattle.std.specs.Prelude.{slice_get}
-use Rattle.std.specs.List.{All, list_any}
+use Rattle.std.specs.List.{All}
 use Rattle.std.proofs.lemmas.Bool.{cases_Bool, eq-eqb, eqb-true, true≢false}
 use Rattle.std.proofs.lemmas.List.Elements.{All-head, All-tail}
 use Rattle.std.proofs.lemmas.Option.{slice_get_within}
 use Rattle.circuit.specs.Bridge.{circuit_of, netlist_of}
-use Rattle.circuit.specs.Meaning.{Valuation, IsUndefined}
-use Rattle.circuit.specs.declared.entry.Entry.{Entry}
 use Rattle.circuit.proofs.Undefined.{has_valuation, only_inverse}
-use Rattle.pattern.specs.Layout.{Pattern}
 use Rattle.module_box.specs.Locals.{circuit_gate, is_among}
 use Rattle.module_box.specs.LocalValues.{seen_by}
 use Rattle.module_box.proofs.SeenValues.{choices_are_assignments, undefined_is_seen}
 use Rattle.certificate.specs.Entries.{ModuleLines, keeps}
 use Rattle.certificate.specs.Jobs.{JobState, IsJobOf}
 use Rattle.certificate.specs.Keeps.{is_kept}
-use Rattle.local_run.specs.declared.fault.KeepFault.{KeepFault}
 use Rattle.border_match.proofs.Modules.{there}
-use Rattle.audit_core.specs.HeadlineLaws.{BelongTogether, IsAcceptedBundle, NoneIsUndefined, AcceptedHasValuation}
+use Rattle.audit_core.specs.HeadlineLaws.{BelongTogether, NoneIsUndefined, AcceptedHasValuation}
 
 -- a module that keeps the gate
 record Keeper (ms : List ModuleLines) (n : ℕ) : Type 0 where
