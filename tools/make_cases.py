@@ -15,8 +15,8 @@ line which begins with one of the words of --without.
 --runs adds for each of them that has at most so many bytes, at most four inputs and no waste cell, a case of `run` for each
 assignment of its inputs; what is to be listed is made from the circuit alone (tools/meaning.py).
 
-The repository's file is made with `--stage 13 --commands run,value,modules,check --largest 200000`, and with the bundles without
-`keep,unswitch,uninteract` and `--runs 3000`. That leaves out the cases with as many edge and halo lines as a module may have, or one
+The repository's file is made with `--stage 14 --commands run,value,modules,check --largest 200000`, and with all bundles and
+`--runs 3000`. That leaves out the cases with as many edge and halo lines as a module may have, or one
 more: each is over a megabyte. tools/compare makes such bundles itself.
 """
 import argparse

@@ -142,13 +142,19 @@ def run(text):
 # ---- circuits
 
 LONE = {b"input": 0, b"output": 2, b"spill": 3}
-GATES = {b"source": (0, 1), b"fredkin": (3, 3), b"cswap": (3, 3), b"interact": (2, 4), b"switch": (2, 3), b"delay": (1, 1)}
+GATES = {b"source": (0, 1), b"fredkin": (3, 3), b"cswap": (3, 3), b"interact": (2, 4), b"switch": (2, 3), b"delay": (1, 1),
+         b"unswitch": (3, 2), b"uninteract": (4, 2)}
+INVERSE = (b"unswitch", b"uninteract")
+# the outputs of a gate at its inputs; an inverse gate has the rows of the other one, read backwards, and else None
 ROWS = {
     b"fredkin": lambda c, x, y: [c, x, y] if c else [c, y, x],
     b"cswap": lambda c, x, y: [c, y, x] if c else [c, x, y],
     b"interact": lambda p, q: [p and q, q and not p, p and not q, p and q],
     b"switch": lambda c, x: [c, c and x, x and not c],
     b"delay": lambda a: [a],
+    b"unswitch": lambda c, y, z: [c, y or z] if not (z if c else y) else None,
+    b"uninteract": lambda *ins: {(0, 0, 0, 0): [False, False], (0, 1, 0, 0): [False, True], (0, 0, 1, 0): [True, False],
+                                 (1, 0, 0, 1): [True, True]}.get(ins),
 }
 
 
@@ -214,10 +220,15 @@ def value(text):
     on = read_section(lines, Assign(set(circuit.inputs))).on
     lines.finish()
     values = {name: name in on for name in circuit.inputs}
-    for word, number, ins, outs in circuit.gates:
+    undefined = None
+    for gate, (word, number, ins, outs) in enumerate(circuit.gates):
         row = [number == 1] if word == b"source" else ROWS[word](*(values[name] for name in ins))
+        if row is None:
+            undefined = gate
+            break
         values.update(zip(outs, row))
-    return 0, b"".join(b"%s %d\n" % (name, values[name]) for name in circuit.wires)
+    told = b"".join(b"%s %d\n" % (name, values[name]) for name in circuit.wires if name in values)
+    return (0, told) if undefined is None else (1, told + b"undefined %d\n" % undefined)
 
 
 # ---- assign sections
@@ -250,7 +261,7 @@ class Assign:
 
 # ---- certificates
 
-KINDS = [b"cut", b"use", b"edge", b"halo", b"stop"]
+KINDS = [b"cut", b"use", b"keep", b"edge", b"halo", b"stop"]
 
 
 def cells_of(x, y, w, h):
@@ -281,6 +292,7 @@ class Certificate:
     def __init__(self, circuit, layout):
         self.layout, self.wires = layout, set(circuit.wires)
         self.gates = [(ins, outs) for _, _, ins, outs in circuit.gates]
+        self.inverse = {number for number, (word, *_) in enumerate(circuit.gates) if word in INVERSE}
         w, h = layout.w, layout.h
         self.inside, self.rim = cells_of(0, 0, w, h), ring_of(0, 0, w, h)
         self.modules, self.covered = [], set()
@@ -297,6 +309,8 @@ class Certificate:
             return (ITEM, self.cut, rest[0])
         if word == b"use" and len(rest) == 1 and numbers(rest):
             return (ITEM, self.use, *numbers(rest))
+        if word == b"keep" and len(rest) == 1 and numbers(rest):
+            return (ITEM, self.keep, *numbers(rest))
         if word in (b"edge", b"halo") and len(rest) == 4:
             time, *at, signal = rest
             if (time == b"*" or numbers([time])) and numbers(at) and (signal == b"1" or NAME.match(signal)):
@@ -360,6 +374,15 @@ class Certificate:
         module.local |= set(outs)
         return self.take(b"use", gate)
 
+    def keep(self, gate):
+        if self.is_out_of_place(b"keep") or gate <= max(self.modules[-1].lines[b"keep"], default=-1):
+            return 6
+        if gate not in self.inverse:
+            return 3
+        if gate not in self.modules[-1].lines[b"use"]:
+            return 9
+        return self.take(b"keep", gate)
+
     def border(self, kind, time, x, y, signal):
         # a * line comes before every line with a time
         place = (-1 if time is None else time, y, x)
@@ -422,7 +445,7 @@ def modules(text):
     known = {b"in": set(circuit.inputs), b"out": set(circuit.outputs)}
     certificate = read_section(lines, Certificate(circuit, read_section(lines, Layout(known))))
     lines.finish()
-    rows = [(number, *module.box, *(len(module.lines[kind]) for kind in KINDS))
+    rows = [(number, *module.box, *(len(module.lines[kind]) for kind in KINDS if kind != b"keep"))
             for number, module in enumerate(certificate.modules)]
     return 0, b"".join(b"module %d %d %d %d %d cuts %d gates %d edges %d halos %d stops %d\n" % row for row in rows)
 

@@ -1,7 +1,8 @@
 """The least faults of a bundle's modules, in plain Python and straight from the definitions: a module is run by itself under one
 assignment after another, its live cells are a set, and all of its faults are made before the least is taken.
 
-least_fault(circuit, layout, module) gives the time, the kind's number, y, x and the assignment, or None.
+least_fault(circuit, layout, module) gives the time, the kind's number, y, x and the assignment, or None; least_keep(circuit, module)
+the number of a gate and the assignment, or None.
 """
 from reference import PARTS, ROWS, Layout, cells_of, ring_of, stepped
 
@@ -23,13 +24,16 @@ class Pattern(Layout):
 
 
 def local_values(circuit, module, assignment):
-    """Cut i has the value of bit i; the outputs of the used gates follow by their rows. The signal `1` is always true."""
+    """Cut i has the value of bit i; the outputs of the used gates follow by their rows. The signal `1` is always true. Beside the values
+    stands the first gate that has no row, behind which there are none, or None."""
     values = {name: bool(assignment >> i & 1) for i, name in enumerate(module.lines[b"cut"])}
     for number in module.lines[b"use"]:
         word, bit, ins, outs = circuit.gates[number]
         row = [bit == 1] if word == b"source" else ROWS[word](*(values[name] for name in ins))
+        if row is None:
+            return values, number
         values.update(zip(outs, row))
-    return values | {b"1": True}
+    return values | {b"1": True}, None
 
 
 def true_cells(module, kind, time, values):
@@ -73,6 +77,13 @@ def faults_under(layout, module, values):
 def least_fault(circuit, layout, module):
     faults = set()
     for assignment in range(1 << len(module.lines[b"cut"])):
-        values = local_values(circuit, module, assignment)
-        faults |= {(*fault, assignment) for fault in faults_under(layout, module, values)}
+        values, undefined = local_values(circuit, module, assignment)
+        if undefined is None:
+            faults |= {(*fault, assignment) for fault in faults_under(layout, module, values)}
     return min(faults, default=None)
+
+
+def least_keep(circuit, module):
+    """Of the gates that the module keeps, each that is the first without a row under some assignment."""
+    firsts = ((local_values(circuit, module, assignment)[1], assignment) for assignment in range(1 << len(module.lines[b"cut"])))
+    return min(((gate, assignment) for gate, assignment in firsts if gate in module.lines[b"keep"]), default=None)

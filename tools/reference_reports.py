@@ -5,8 +5,8 @@ answer(text) gives the exit status and what is written for a text of bytes.
 """
 import hashlib
 
-from reference import Certificate, Circuit, Lines, Refused, read_section, ring_of
-from reference_findings import KINDS, Pattern, least_fault
+from reference import INVERSE, Certificate, Circuit, Lines, Refused, read_section, ring_of
+from reference_findings import KINDS, Pattern, least_fault, least_keep
 
 
 def signal_at(module, kind, time, cell):
@@ -32,10 +32,16 @@ def report(circuit, layout, modules):
         if fault:
             time, kind, y, x, assignment = fault
             yield b"local %d %s %d %d %d %d\n" % (number, KINDS[kind].encode(), time, x, y, assignment)
+        fault = least_keep(circuit, module)
+        if fault:
+            yield b"keep %d %d %d\n" % (number, *fault)
         fault = border_fault(layout, modules, module)
         if fault:
             time, y, x = fault
             yield b"border %d %d %d %d\n" % (number, time, x, y)
+    for number, (word, *_) in enumerate(circuit.gates):
+        if word in INVERSE and not any(number in module.lines[b"keep"] for module in modules):
+            yield b"unkept %d\n" % number
 
 
 def seen_times(modules):

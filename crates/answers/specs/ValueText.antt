@@ -1,13 +1,17 @@
 -- What `value` answers to a text: each wire's value under an assignment of the inputs, or the refusal of the text.
-use Rattle.std.specs.Prelude.{◌≡◌, ℕ, Bool, List, map, Result}
+use Rattle.std.specs.Prelude.{◌≡◌, ◌⊎◌, ℕ, ◌++◌, ◌∷◌, [], Bool, List, codes, map, Result}
+use Rattle.std.specs.Fmt.{decimal}
+use Rattle.section_text.specs.Spelling.{line_text}
 use Rattle.circuit.specs.Entries.{defined}
 use Rattle.section_text.specs.Words.{lines_of, has}
 use Rattle.section_text.specs.Sections.{section_then}
 use Rattle.section_text.specs.declared.fault.Refusal.{Refusal}
 use Rattle.circuit.specs.declared.entry.Entry.{Entry}
 use Rattle.circuit.specs.Grammars.{circuit_grammar}
-use Rattle.circuit.specs.Bridge.{AreValues, input_names, netlist_of, read}
+use Rattle.circuit.specs.Bridge.{AreValues, StopsAt, input_names, netlist_of, read}
+use Rattle.circuit.specs.Meaning.{AreOrdered, Valuation}
 use Rattle.circuit.specs.Text.{value_lines}
+use Rattle.answers.specs.declared.outcome.Outcome.TheVariants.{No}
 use Rattle.answers.specs.declared.outcome.Outcome.{Outcome}
 use Rattle.answers.specs.declared.outcome.Outcome.TheVariants.{Yes}
 use Rattle.answers.specs.Answers.{Answered, names_asked}
@@ -21,12 +25,29 @@ unfoldable pub value_asked : List ℕ → Result ValueAsked Refusal
 value_asked text =
     section_then circuit_grammar 0 (lines_of text) (λ _ entries n ahead. names_asked text entries (input_names entries) n ahead)
 
--- Of the one valuation in which an input is true exactly where its name is on: a line for each wire, in order of definition.
-pub record SaysValues (asked : ValueAsked) (output : List ℕ) (outcome : Outcome) : Type 0 where
+-- an input is true exactly where its name is on
+abbrev pub inputs_asked : ValueAsked → Valuation
+inputs_asked asked = read (map (λ n. has asked.1 n) (input_names asked.0))
+
+-- where the circuit has a valuation: a line for each wire, in order of definition
+pub record SaysAll (asked : ValueAsked) (output : List ℕ) (outcome : Outcome) : Type 0 where
   pub values : List Bool
-  pub are : AreValues (netlist_of asked.0) (read (map (λ n. has asked.1 n) (input_names asked.0))) values
+  pub are : AreValues (netlist_of asked.0) (inputs_asked asked) values
   pub says : output ≡ value_lines (defined asked.0) values
   pub ends : outcome ≡ Yes
+
+-- where a gate has no row: a line for each wire that is defined before the first such gate, and then the gate's number
+pub record SaysSome (asked : ValueAsked) (output : List ℕ) (outcome : Outcome) : Type 0 where
+  pub gate : ℕ
+  pub values : List Bool
+  pub stops : StopsAt (netlist_of asked.0) (inputs_asked asked) gate values
+  pub says : output ≡ value_lines (defined asked.0) values ++ line_text (codes "undefined") (decimal gate ∷ [])
+  pub ends : outcome ≡ No
+
+-- each gate uses wires that are defined before it, so no more than one of these two can be said
+pub record SaysValues (asked : ValueAsked) (output : List ℕ) (outcome : Outcome) : Type 0 where
+  pub ordered : AreOrdered (netlist_of asked.0).given (netlist_of asked.0).gates
+  pub says : SaysAll asked output outcome ⊎ SaysSome asked output outcome
 
 -- what `value` writes for a text, and how it ends
 abbrev pub IsValueOf : List ℕ → List ℕ → Outcome → Type 0

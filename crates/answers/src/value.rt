@@ -1,5 +1,10 @@
 //! Evaluates a circuit under an assignment.
-ghost use Rattle.std.specs.Prelude.{◌≡◌, true, None, length, IfOk};
+ghost use Rattle.std.specs.Prelude.{◌≡◌, ◌≤◌, ◌++◌, ◌∷◌, [], true, None, codes, length, IfOk};
+ghost use Rattle.std.specs.Fmt.{decimal};
+ghost use Rattle.section_text.specs.Spelling.{line_text};
+ghost use Rattle.circuit.specs.Meaning.{wires};
+ghost use Rattle.circuit.specs.Entries.{defined};
+ghost use Rattle.circuit.specs.Text.{value_lines};
 ghost use Rattle.section_text.specs.Section.{Gives};
 ghost use Rattle.circuit.specs.Bridge.{input_names, netlist_of};
 ghost use Rattle.answers.specs.ValueText.{IsValueOf, SaysValues, value_asked};
@@ -7,7 +12,7 @@ ghost use Rattle.answers.specs.ValueText.{IsValueOf, SaysValues, value_asked};
 use crate::asking::read_names;
 use crate::outcome::{Answered, Outcome};
 use crate::refusing::refused;
-use circuit::{Circuit, port_names, print_values, read_circuit};
+use circuit::{Circuit, ValuesFault, port_names, print_values, read_circuit};
 use pattern::are_on;
 use section_text::{Feed, Name, PortNames, ReadFault};
 use std::alloc::{AllocError, Global};
@@ -43,18 +48,47 @@ fn read_asked(alloc: Global, feed: &mut Feed) -> Result<(Circuit, Vec<Name>), Re
     }
 }
 
+// The values of the wires before a gate that has no row, and the gate.
+fn undefined_text(
+    alloc: Global,
+    circuit: &Circuit,
+    gate: usize,
+    before: &[bool],
+) -> Result<Vec<u8>, AllocError>
+    requires { length before.now ≤ wires (netlist_of circuit.now) }
+    ensures { IfOk result (λ text. text.items ≡ value_lines (defined circuit.now) before.now ++ line_text (codes "undefined") (decimal gate ∷ [])) }
+{
+    let mut output = print_values(alloc, circuit, before)?;
+    let line = format!(in alloc; "undefined {gate}\n")?;
+    output.extend_from_slice(line.as_bytes())?;
+    Ok(output)
+}
+
 // Evaluates a circuit with these names on.
 fn answer(alloc: Global, circuit: &Circuit, on: &[Name]) -> Result<Answered, AllocError>
     ensures { IfOk result (λ answered. SaysValues (circuit.now, on.now) answered.output.items answered.outcome) }
 {
     let ins = input_list(alloc, circuit)?;
     let bits = are_on(alloc, &ins, on)?;
-    let values = circuit.values(alloc, &bits)?;
-    let output = print_values(alloc, circuit, &values)?;
-    Ok(Answered {
-        outcome: Outcome::Yes,
-        output,
-    })
+    // each gate uses wires that are defined before it
+    let _gates = circuit.gates();
+    match circuit.values(alloc, &bits) {
+        Ok(values) => {
+            let output = print_values(alloc, circuit, &values)?;
+            Ok(Answered {
+                outcome: Outcome::Yes,
+                output,
+            })
+        }
+        Err(ValuesFault::OutOfDomain { gate, before }) => {
+            let output = undefined_text(alloc, circuit, gate, &before)?;
+            Ok(Answered {
+                outcome: Outcome::No,
+                output,
+            })
+        }
+        Err(ValuesFault::Memory) => Err(AllocError),
+    }
 }
 
 /// Answers a text that is read whole.

@@ -9,10 +9,10 @@ use Rattle.std.proofs.lemmas.Option.{slice_get_within, same_Some}
 use Rattle.certificate.specs.Equality.{same_job}
 use Rattle.certificate.specs.Jobs.{JobState}
 use Rattle.certificate.proofs.EqualJobs.{jobs_decide}
-use Rattle.local_run.specs.Faults.{IsLeastFault}
-use Rattle.local_run.specs.Shown.{digest_of, number_of, job_of, fault_of}
+use Rattle.local_run.specs.Faults.{IsLeastFault, IsLeastKeepFault}
+use Rattle.local_run.specs.Shown.{digest_of, number_of, job_of, fault_of, keep_of}
 use Rattle.local_run.specs.declared.finding.Finding.{Finding}
-use Rattle.local_run.proofs.Least.{least_unique}
+use Rattle.local_run.proofs.Least.{least_unique, least_keep_unique}
 use Rattle.audit_core.specs.Book.{BookView, IsOwn, after_filing, found_in, is_job_of, reply_to}
 use Rattle.audit_core.specs.Laws.{AcceptsItsOwn, BooksAgree, ClosedAnswersClosed, DoublesWhatIsHeld, HoldsWhatIsAccepted, HoldsNothingElse, KeepsWhatIsHeld, KnowsItsOwn, StaysBook, StaysReplayed}
 use Rattle.audit_core.specs.declared.reply.Mismatch.{Mismatch}
@@ -148,5 +148,7 @@ pub books-agree : BooksAgree
 books-agree b c k f g is other jobs held there =
     let mine = (is.own k f held).job in
     let theirs = (other.own k g there).job in
-    let same : job_of f ≡ job_of g = same_Some _ _ (sym mine ∙ ap (λ js. slice_get js k) jobs ∙ theirs) in
-    least_unique (job_of f) (fault_of f) (fault_of g) f.honest (subst (λ (j : JobState). IsLeastFault j (fault_of g)) (sym same) g.honest)
+    let same : job_of f ≡ job_of g = same_Some _ _ (sym mine ∙ ap (λ js. slice_get js k) jobs ∙ theirs) in (
+      least_unique (job_of f) (fault_of f) (fault_of g) f.honest (subst (λ (j : JobState). IsLeastFault j (fault_of g)) (sym same) g.honest),
+      least_keep_unique (job_of f) (keep_of f) (keep_of g) f.keeps (subst (λ (j : JobState). IsLeastKeepFault j (keep_of g)) (sym same) g.keeps),
+    )

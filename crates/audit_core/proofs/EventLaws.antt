@@ -105,7 +105,7 @@ pub events-replay : EventsReplay
 events-replay digest jobs seats es = events-replayed es (new_core digest jobs seats) (new-book digest jobs seats) (new-replayed digest jobs seats)
 
 pub holds-honest_own : HoldsHonestOwn
-holds-honest_own digest jobs seats es k f h = ((events-book es (new_core digest jobs seats) (new-book digest jobs seats)).own k f h, f.honest)
+holds-honest_own digest jobs seats es k f h = ((events-book es (new_core digest jobs seats) (new-book digest jobs seats)).own k f h, f.honest, f.keeps)
 
 -- ---- what was accepted
 

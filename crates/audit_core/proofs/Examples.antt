@@ -15,7 +15,7 @@ use Rattle.pattern.specs.Layout.{Pattern}
 use Rattle.pattern.specs.Lines.{size_fault, limit_fault, cell_fault, is_inside, is_taken, begins, ends, cells_of, begun, ended}
 use Rattle.pattern.specs.declared.parts.Port.{Port}
 use Rattle.module_box.specs.Boxes.{in_box, some_neighbour, in_ring, in_halo, Tile}
-use Rattle.module_box.specs.Locals.{AreLocalLines, AreLocalsOf, circuit_wire}
+use Rattle.module_box.specs.Locals.{AreLocalLines, AreLocalsOf, circuit_wire, is_among}
 use Rattle.module_box.specs.Schedules.{held_at, event_at, signal_at}
 use Rattle.module_box.specs.declared.boxes.Box2.{Box2}
 use Rattle.module_box.specs.declared.schedules.Signal.TheVariants.{Zero, Wire}
@@ -72,6 +72,7 @@ job = record {
   edges = record { held = []; events = [] };
   halos = record { held = []; events = [] };
   stops = [];
+  kept = [];
 }
 
 -- ---- cell by cell
@@ -264,6 +265,7 @@ one_good = record {
   named = refl;
   local = one_local;
   order = (refl, tt);
+  keep_lines = λ k d lt. absurd (omega arith);
   few_borders = omega arith;
   edge_lines = λ k d lt. absurd (omega arith);
   halo_lines = λ k d lt. absurd (omega arith);
@@ -341,13 +343,14 @@ is_job = record {
   halos = refl;
   own = own_wires;
   stops = refl;
+  kept = refl;
+  kept_are_used = λ k d lt. absurd (omega arith);
 }
 
 is_bundle : BelongTogether lines layout (one ∷ []) (job ∷ [])
 unfolding AreOrdered size_fault limit_fault cell_fault is_inside is_taken begins ends cells_of begun ended in_span
 is_bundle = record {
   ordered = tt;
-  forward = λ k d lt. absurd (omega arith);
   limits = refl;
   laid_out = (refl, refl, (refl, refl, tt));
   are_modules = are_modules;
@@ -367,6 +370,9 @@ times_kept : are_all_kept (time_lines (circuit_of lines) (one ∷ [])) ≡ true
 unfolding numbered
 times_kept = refl
 
+no_gate_at : (number : ℕ) (gate : Gate) → slice_get (netlist_of lines).gates number ≡ Some gate → ⊥
+no_gate_at number gate e = cc
+
 pub example : Example
 example = record {
   lines = lines;
@@ -380,6 +386,8 @@ example = record {
       no_fault = λ number j f e. subst (λ j. ¬ IsFault j f) (only_job number j e) (no_fault f);
       no_border_fault = no_border;
       on_time = times_kept;
+      no_keep_fault = λ number j f e is. absurd (true≢false (sym (subst (λ (j : JobState). is_among j.kept f.gate ≡ true) (sym (only_job number j e)) is.is_kept)));
+      kept = λ number gate e inverse. absurd (no_gate_at number gate e);
     };
   };
 }

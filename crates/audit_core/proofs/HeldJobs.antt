@@ -1,5 +1,5 @@
 -- Jobs for which a finding is held, and their least faults
-use Rattle.std.proofs.Common.{◌≡◌, ◌≢◌, ◌∙◌, ◌+◌, ◌<◌, ℕ, Bool, true, false, inl, inr, List, [], ◌∷◌, ◌++◌, length, Option, Some, refl, sym, ap, subst, arith, length-append, get_or, map}
+use Rattle.std.proofs.Common.{◌≡◌, ◌≢◌, ◌∙◌, ◌+◌, ◌<◌, ℕ, Bool, true, false, inl, inr, List, [], ◌∷◌, ◌++◌, length, Some, refl, sym, ap, subst, arith, length-append, get_or, map}
 use Rattle.std.specs.Prelude.{slice_get}
 use Rattle.std.specs.Option.{option_map}
 use Rattle.std.proofs.lemmas.Bool.Decides.{eqb_tells}
@@ -8,12 +8,11 @@ use Rattle.module_box.proofs.Rising.{pushed}
 use Rattle.certificate.specs.Equality.{same_job}
 use Rattle.certificate.specs.Jobs.{JobState}
 use Rattle.certificate.proofs.EqualJobs.{jobs_decide}
-use Rattle.local_run.specs.Faults.{IsLeastFault}
-use Rattle.local_run.specs.Shown.{job_of, fault_of}
-use Rattle.local_run.specs.declared.fault.Fault.{Fault}
+use Rattle.local_run.specs.Shown.{job_of}
 use Rattle.local_run.specs.declared.finding.Finding.{Finding}
 use Rattle.audit_core.specs.Book.{BookView, found_in}
-use Rattle.audit_core.specs.Verdicts.{AreHeldBelow, AreLeastFaults, IsFirstMissing, IsHeld}
+use Rattle.audit_core.specs.Verdicts.{AreHeldBelow, AreLeastFaults, IsFirstMissing, IsHeld, IsToldOf}
+use Rattle.audit_core.specs.declared.verdict.Reasons.{Reasons}
 
 -- ---- the finding of a number, beside a job
 
@@ -34,10 +33,10 @@ job-at view ys n y below at = slice_get-map view ys n ∙ ap (option_map view) (
 -- ---- the jobs below a number
 
 -- a finding is held for each of the jobs below the number, and these are their least faults
-pub record AreFaultsBelow (b : BookView) (jobs : List JobState) (count : ℕ) (fs : List (Option Fault)) : Type 0 where
+pub record AreFaultsBelow (b : BookView) (jobs : List JobState) (count : ℕ) (fs : List Reasons) : Type 0 where
   pub held : AreHeldBelow b jobs count
   pub count_is : length fs ≡ count
-  pub each : (n : ℕ) (j : JobState) (f : Option Fault) → slice_get jobs n ≡ Some j → slice_get fs n ≡ Some f → IsLeastFault j f
+  pub each : (n : ℕ) (j : JobState) (f : Reasons) → slice_get jobs n ≡ Some j → slice_get fs n ≡ Some f → IsToldOf j f
 
 pub none-below : (b : BookView) (jobs : List JobState) → AreFaultsBelow b jobs 0 []
 none-below b jobs = record { held = λ n j below at. absurd (omega arith); count_is = refl; each = λ n j f at none. absurd cc }
@@ -52,26 +51,26 @@ held_more b jobs n j at below now k i less there =
       | inr q ↦ below k i (let other : k ≢ n = q.1 in omega arith) there
     ]
 
-each_more : (jobs : List JobState) (fs : List (Option Fault)) (n : ℕ) (j : JobState) (g : Option Fault) → length fs ≡ n → slice_get jobs n ≡ Some j → IsLeastFault j g
-    → ((k : ℕ) (i : JobState) (f : Option Fault) → slice_get jobs k ≡ Some i → slice_get fs k ≡ Some f → IsLeastFault i f)
-    → (k : ℕ) (i : JobState) (f : Option Fault) → slice_get jobs k ≡ Some i → slice_get (fs ++ g ∷ []) k ≡ Some f → IsLeastFault i f
+each_more : (jobs : List JobState) (fs : List Reasons) (n : ℕ) (j : JobState) (g : Reasons) → length fs ≡ n → slice_get jobs n ≡ Some j → IsToldOf j g
+    → ((k : ℕ) (i : JobState) (f : Reasons) → slice_get jobs k ≡ Some i → slice_get fs k ≡ Some f → IsToldOf i f)
+    → (k : ℕ) (i : JobState) (f : Reasons) → slice_get jobs k ≡ Some i → slice_get (fs ++ g ∷ []) k ≡ Some f → IsToldOf i f
 each_more jobs fs n j g count at least each k i f there got =
     elim (pushed fs g k f got) [
       | inl old ↦ each k i f there old
       | inr new ↦
           let same : j ≡ i = same_Some _ _ (sym at ∙ ap (slice_get jobs) (sym (new.0 ∙ count)) ∙ there) in
-          subst (IsLeastFault i) new.1 (subst (λ (x : JobState). IsLeastFault x g) same least)
+          subst (IsToldOf i) new.1 (subst (λ (x : JobState). IsToldOf x g) same least)
     ]
 
-pub one-more : (b : BookView) (jobs : List JobState) (n : ℕ) (fs : List (Option Fault)) (j : JobState) (f : Finding) → AreFaultsBelow b jobs n fs → slice_get jobs n ≡ Some j → found_in b n ≡ Some f → job_of f ≡ j → AreFaultsBelow b jobs (n + 1) (fs ++ fault_of f ∷ [])
-one-more b jobs n fs j f below at held whole = record {
+pub one-more : (b : BookView) (jobs : List JobState) (n : ℕ) (fs : List Reasons) (j : JobState) (f : Finding) (r : Reasons) → AreFaultsBelow b jobs n fs → slice_get jobs n ≡ Some j → found_in b n ≡ Some f → job_of f ≡ j → IsToldOf (job_of f) r → AreFaultsBelow b jobs (n + 1) (fs ++ r ∷ [])
+one-more b jobs n fs j f r below at held whole told = record {
   held = held_more b jobs n j at below.held (record { finding = f; held = held; whole = whole });
-  count_is = length-append fs (fault_of f ∷ []) ∙ ap (λ (m : ℕ). m + 1) below.count_is;
-  each = each_more jobs fs n j (fault_of f) below.count_is at (subst (λ (x : JobState). IsLeastFault x (fault_of f)) whole f.honest) below.each;
+  count_is = length-append fs (r ∷ []) ∙ ap (λ (m : ℕ). m + 1) below.count_is;
+  each = each_more jobs fs n j r below.count_is at (subst (λ (x : JobState). IsToldOf x r) whole told) below.each;
 }
 
-pub first-missing : (b : BookView) (jobs : List JobState) (n : ℕ) (fs : List (Option Fault)) (j : JobState) → AreFaultsBelow b jobs n fs → slice_get jobs n ≡ Some j → ¬ IsHeld b n j → IsFirstMissing b jobs n
+pub first-missing : (b : BookView) (jobs : List JobState) (n : ℕ) (fs : List Reasons) (j : JobState) → AreFaultsBelow b jobs n fs → slice_get jobs n ≡ Some j → ¬ IsHeld b n j → IsFirstMissing b jobs n
 first-missing b jobs n fs j below at missing = record { job = j; numbered = at; missing = missing; before = below.held }
 
-pub all-least : (b : BookView) (jobs : List JobState) (n : ℕ) (fs : List (Option Fault)) → n ≡ length jobs → AreFaultsBelow b jobs n fs → AreLeastFaults jobs fs
+pub all-least : (b : BookView) (jobs : List JobState) (n : ℕ) (fs : List Reasons) → n ≡ length jobs → AreFaultsBelow b jobs n fs → AreLeastFaults jobs fs
 all-least b jobs n fs all below = record { count = below.count_is ∙ all; each = below.each }

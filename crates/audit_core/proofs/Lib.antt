@@ -13,6 +13,7 @@ pub mod Fillings
 pub mod LayoutCells
 pub mod JobSignals
 pub mod StopParts
+pub mod KeptGates
 pub mod WholeRuns
 pub mod InputRuns
 pub mod Examples

@@ -1,17 +1,18 @@
 -- The modules of a certificate have one verdict
-use Rattle.std.proofs.Common.{◌≡◌, ◌∙◌, ◌<◌, ◌≤◌, ◌∷◌, ◌++◌, ℕ, suc, zero, List, [], length, map, Option, None, Some, refl, sym, ap₂, arith}
+use Rattle.std.proofs.Common.{◌≡◌, ◌∙◌, ◌<◌, ◌≤◌, ◌∷◌, ℕ, suc, zero, List, [], length, map, Option, None, Some, refl, sym, ap, ap₂, arith, ◌++◌}
 use Rattle.std.specs.Prelude.{slice_get}
+use Rattle.std.specs.Option.{option_map}
 use Rattle.std.proofs.lemmas.Option.{slice_get_within}
 use Rattle.certificate.specs.Entries.{Setting, ModuleLines}
 use Rattle.certificate.specs.Jobs.{JobState}
 use Rattle.certificate.specs.Times.{time_lines}
-use Rattle.local_run.specs.declared.fault.Fault.{Fault}
-use Rattle.local_run.proofs.Least.{least_unique}
+use Rattle.local_run.proofs.Least.{least_unique, least_keep_unique}
 use Rattle.border_match.specs.BorderFaults.{AreBorderFaultsOf}
 use Rattle.border_match.specs.declared.fault.BorderFault.{BorderFault}
 use Rattle.border_match.proofs.Unique.{least_unique as least_border_unique}
 use Rattle.audit_core.specs.CoreLaws.{VerdictIsOne}
-use Rattle.audit_core.specs.Verdicts.{AreLeastFaults, AreReportLines, IsVerdict, lines_from, timing}
+use Rattle.audit_core.specs.Verdicts.{AreLeastFaults, AreReportLines, IsToldOf, IsVerdict, lines_from, renumber_keep, timing, unkept_lines}
+use Rattle.audit_core.specs.declared.verdict.Reasons.{Reasons}
 use Rattle.audit_core.specs.declared.verdict.ReportLine.{ReportLine}
 use Rattle.audit_core.specs.declared.verdict.Verdict.TheVariants.{Yes, No}
 
@@ -26,22 +27,28 @@ none-past [] k e = omega arith
 none-past (x ∷ xs) zero e = absurd cc
 none-past (x ∷ xs) (suc k) e = let rest = none-past xs k e in omega (arith, rest)
 
-faults-same : (jobs : List JobState) (fs gs : List (Option Fault)) → AreLeastFaults jobs fs → AreLeastFaults jobs gs → fs ≡ gs
+told_unique : (j : JobState) (x y : Reasons) → IsToldOf j x → IsToldOf j y → x ≡ y
+told_unique j x y a b =
+    let fault : x.fault ≡ y.fault = least_unique j x.fault y.fault a.fault b.fault in
+    let keep : x.keep ≡ y.keep = a.same ∙ ap (λ o. option_map (renumber_keep j) o) (least_keep_unique j a.keep b.keep a.least_keep b.least_keep) ∙ sym b.same in
+    λ i. record { fault = fault i; keep = keep i }
+
+faults-same : (jobs : List JobState) (fs gs : List Reasons) → AreLeastFaults jobs fs → AreLeastFaults jobs gs → fs ≡ gs
 faults-same jobs fs gs a b = same-lists fs gs (a.count ∙ sym b.count) each
   where
-    each : (k : ℕ) (x y : Option Fault) → slice_get fs k ≡ Some x → slice_get gs k ≡ Some y → x ≡ y
+    each : (k : ℕ) (x y : Reasons) → slice_get fs k ≡ Some x → slice_get gs k ≡ Some y → x ≡ y
     each k x y hx hy = by_job (slice_get jobs k) refl
       where
         by_job : (o : Option JobState) → slice_get jobs k ≡ o → x ≡ y
         by_job None e = let past = none-past jobs k e in let below : k < length fs = slice_get_within fs k x hx in absurd (omega (arith, past, below, a.count))
-        by_job (Some j) e = least_unique j x y (a.each k j x e hx) (b.each k j y e hy)
+        by_job (Some j) e = told_unique j x y (a.each k j x e hx) (b.each k j y e hy)
 
 borders-same : (g : Setting) (ms : List ModuleLines) (fs gs : List (Option BorderFault)) → AreBorderFaultsOf g ms fs → AreBorderFaultsOf g ms gs → fs ≡ gs
 borders-same g ms fs gs a b = same-lists fs gs (a.count ∙ sym b.count) (λ k x y hx hy. least_border_unique g ms k x y (a.each k x hx) (b.each k y hy))
 
 lines-same : (g : Setting) (ms : List ModuleLines) (jobs : List JobState) (xs ys : List ReportLine) → AreReportLines g ms jobs xs → AreReportLines g ms jobs ys → xs ≡ ys
 lines-same g ms jobs xs ys a b =
-    a.lines_are ∙ (λ i. lines_from 0 (faults-same jobs a.faults b.faults a.are_least b.are_least i) (borders-same g ms a.borders b.borders a.are_border_faults b.are_border_faults i) ++ map timing (time_lines g.circuit ms)) ∙ sym b.lines_are
+    a.lines_are ∙ (λ i. lines_from 0 (faults-same jobs a.faults b.faults a.are_least b.are_least i) (borders-same g ms a.borders b.borders a.are_border_faults b.are_border_faults i) ++ unkept_lines g ms ++ map timing (time_lines g.circuit ms)) ∙ sym b.lines_are
 
 pub verdict-is-one : VerdictIsOne
 unfolding IsVerdict

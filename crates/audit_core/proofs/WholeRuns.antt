@@ -10,7 +10,6 @@ use Rattle.bbm_rule.proofs.Steps.{step_dead}
 use Rattle.circuit.specs.Bridge.{circuit_of, netlist_of}
 use Rattle.circuit.specs.Meaning.{Satisfies, Valuation, wire_value, values_by_name, wire_of}
 use Rattle.circuit.specs.declared.entry.Entry.{Entry}
-use Rattle.circuit.proofs.Valuations.{has_valuation}
 use Rattle.pattern.specs.Layout.{Pattern}
 use Rattle.module_box.specs.Boxes.{in_box, some_neighbour, in_ring, in_halo}
 use Rattle.module_box.specs.Laws.{LiesInBox, SameInBox}
@@ -47,6 +46,7 @@ use Rattle.audit_core.specs.OnTime.{StopHolds}
 use Rattle.audit_core.specs.HeadlineLaws.{BelongTogether, HasInputNames, IsAcceptedBundle, IsRunOfJobs, StartsAsJobs, StepsAsJobs, EndsAsAsked, AcceptedIsCorrect, AcceptedIsOnTime}
 use Rattle.audit_core.proofs.InputRuns.{inputs_decide}
 use Rattle.audit_core.proofs.StopParts.{all_flat, all_map, local_wire_is, one_said}
+use Rattle.audit_core.proofs.KeptGates.{accepted_has_valuation}
 use Rattle.audit_core.proofs.JobSignals.{Known, Owner, known_job, job_even, owner_of, meets_seen, live_renumbered, rim_edge_dead, outer_halo_dead, edge_by_circuit, halo_by_circuit}
 use Rattle.audit_core.proofs.LayoutCells.{live_start, start_outside, whole_inside, whole_even, mirror_inside, IsOutput, is_output, met_mirror, met_output, met_other}
 
@@ -304,7 +304,7 @@ pub correct : AcceptedIsCorrect
 correct lines p ms jobs named ports all = record {
   named = ports;
   implements = λ inputs.
-      let found = has_valuation (netlist_of lines) inputs all.bundle.ordered all.bundle.forward in
+      let found = accepted_has_valuation lines p ms jobs inputs all in
       record {
         values = found.0;
         satisfied = found.1;
@@ -312,7 +312,7 @@ correct lines p ms jobs named ports all = record {
             (ends lines p ms jobs inputs v all s (all_times lines p ms jobs inputs v p.size.steps all s (omega arith)));
       };
   stays = λ inputs t h x y live.
-      let found = has_valuation (netlist_of lines) inputs all.bundle.ordered all.bundle.forward in
+      let found = accepted_has_valuation lines p ms jobs inputs all in
       elim (cases_Bool (in_box (whole p.size) x y)) [
         | inl inside ↦ sym (whole_inside p.size x y) ∙ inside
         | inr out ↦ absurd (true≢false (sym live ∙ sym (inputs_decide lines p inputs found.0 t x y named found.1) ∙ (all_times lines p ms jobs inputs found.0 t all found.1 h).outside x y out))

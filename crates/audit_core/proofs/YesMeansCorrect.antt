@@ -3,7 +3,7 @@ use Rattle.std.proofs.Common.{◌≡◌, [], None, Some, List, subst, take}
 use Rattle.circuit.specs.Entries.{defined}
 use Rattle.pattern.specs.Layout.{parts_of}
 use Rattle.circuit.specs.Bridge.{circuit_of, input_names, netlist_of}
-use Rattle.circuit.specs.Meaning.{AreForward, AreOrdered}
+use Rattle.circuit.specs.Meaning.{AreOrdered}
 use Rattle.pattern.specs.Lines.{AreGoodAfter, AreNamed, size_fault}
 use Rattle.pattern.specs.declared.parts.Extent.{Extent}
 use Rattle.certificate.specs.Grammars.{CertState}
@@ -22,7 +22,6 @@ use Rattle.audit_core.proofs.WholeRuns.{correct, on_time}
 -- what a certificate says of its circuit, its layout and its modules
 pub record IsRead (s : CertState) (size : Extent) : Type 0 where
   pub ordered : AreOrdered (netlist_of s.circuit).given (netlist_of s.circuit).gates
-  pub forward : AreForward (netlist_of s.circuit).gates
   pub same : size ≡ s.layout.size
   pub limits : size_fault size ≡ None
   pub laid_out : AreGoodAfter size [] (parts_of s.layout)
@@ -36,7 +35,6 @@ unfolding IsVerdict
 accepted_bundle s size jobs is own accepted = record {
   bundle = record {
     ordered = is.ordered;
-    forward = is.forward;
     limits = subst (λ (z : Extent). size_fault z ≡ None) is.same is.limits;
     laid_out = subst (λ (z : Extent). AreGoodAfter z [] (parts_of s.layout)) is.same is.laid_out;
     are_modules = is.are_modules;

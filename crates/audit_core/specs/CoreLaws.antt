@@ -3,8 +3,8 @@ use Rattle.std.specs.Prelude.{◌≡◌, ◌≢◌, ◌↔◌, ℕ, ◌<◌, ◌
 use Rattle.std.specs.List.{count_by}
 use Rattle.certificate.specs.Entries.{Setting, ModuleLines}
 use Rattle.certificate.specs.Jobs.{JobState}
-use Rattle.local_run.specs.Faults.{IsLeastFault}
-use Rattle.local_run.specs.Shown.{number_of, job_of, fault_of}
+use Rattle.local_run.specs.Faults.{IsLeastFault, IsLeastKeepFault}
+use Rattle.local_run.specs.Shown.{number_of, job_of, fault_of, keep_of}
 use Rattle.local_run.specs.declared.finding.Finding.{Finding}
 use Rattle.audit_core.specs.Draws.{IsDrawn, times, total}
 use Rattle.audit_core.specs.Book.{IsOwn, IsReplayed, found_in, reply_to}
@@ -71,7 +71,7 @@ AcceptsOneForEach = (digest : List ℕ) (jobs : List JobState) (seats : ℕ) (ev
 -- each is of the book's whole job of its number, and has the least fault of that job
 abbrev pub HoldsHonestOwn : Type 0
 HoldsHonestOwn = (digest : List ℕ) (jobs : List JobState) (seats : ℕ) (events : List Event) (number : ℕ) (f : Finding) →
-    found_in (core_after digest jobs seats events).book number ≡ Some f → IsOwn (core_after digest jobs seats events).book number f × IsLeastFault (job_of f) (fault_of f)
+    found_in (core_after digest jobs seats events).book number ≡ Some f → IsOwn (core_after digest jobs seats events).book number f × IsLeastFault (job_of f) (fault_of f) × IsLeastKeepFault (job_of f) (keep_of f)
 
 -- no event changes a finding that is held
 abbrev pub EventsKeepWhatIsHeld : Type 0

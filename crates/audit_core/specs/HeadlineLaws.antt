@@ -2,7 +2,7 @@
 use Rattle.std.specs.Prelude.{◌≡◌, ℕ, suc, ℤ, ◌<◌, ◌≤◌, List, None, [], Some, slice_get, take, IsTrue, IsFalse}
 use Rattle.circuit.specs.Entries.{defined}
 use Rattle.circuit.specs.Bridge.{circuit_of, input_names, netlist_of, output_names}
-use Rattle.circuit.specs.Meaning.{AreForward, AreOrdered, Satisfies, Valuation, values_by_name, wire_of}
+use Rattle.circuit.specs.Meaning.{AreOrdered, IsUndefined, Satisfies, Valuation, values_by_name, wire_of}
 use Rattle.circuit.specs.declared.entry.Entry.{Entry}
 use Rattle.pattern.specs.Layout.{Pattern, parts_of}
 use Rattle.pattern.specs.Lines.{AreGoodAfter, AreNamed, size_fault}
@@ -23,7 +23,6 @@ use Rattle.audit_core.specs.Verdicts.{Accepts}
 -- `Layout::size`, `Cert::modules` and `Cert::jobs` say it.
 pub record BelongTogether (lines : List Entry) (p : Pattern) (ms : List ModuleLines) (jobs : List JobState) : Type 0 where
   pub ordered : AreOrdered (netlist_of lines).given (netlist_of lines).gates
-  pub forward : AreForward (netlist_of lines).gates
   pub limits : size_fault p.size ≡ None
   pub laid_out : AreGoodAfter p.size [] (parts_of p)
   pub are_modules : AreModules (setting_of lines p) ms
@@ -58,6 +57,18 @@ EndsAsAsked = (lines : List Entry) (p : Pattern) (ms : List ModuleLines) (jobs :
     IsAcceptedBundle lines p ms jobs → Satisfies (netlist_of lines) inputs v →
     IsRunOfJobs lines p jobs v p.size.steps →
     LooksAsAsked p (values_by_name (circuit_of lines) v) (run_under (circuit_of lines) p v p.size.steps)
+
+-- ---- gates that have no row
+
+-- no gate of what is accepted is the first that has no row: some module keeps it, and would have a keep fault
+abbrev pub NoneIsUndefined : Type 0
+NoneIsUndefined = (lines : List Entry) (p : Pattern) (ms : List ModuleLines) (jobs : List JobState) (inputs : Valuation) (k : ℕ) →
+    IsAcceptedBundle lines p ms jobs → ¬ IsUndefined (netlist_of lines) inputs k
+
+-- so the circuit has a valuation, whatever its inputs are
+abbrev pub AcceptedHasValuation : Type 0
+AcceptedHasValuation = (lines : List Entry) (p : Pattern) (ms : List ModuleLines) (jobs : List JobState) (inputs : Valuation) →
+    IsAcceptedBundle lines p ms jobs → (v : Valuation) × Satisfies (netlist_of lines) inputs v
 
 -- ---- the run by the inputs alone
 

@@ -1,6 +1,6 @@
 -- Laws of books
 use Rattle.std.specs.Prelude.{◌≡◌, ◌≢◌, ◌↔◌, ℕ, length, None, Some, IsSome, true}
-use Rattle.local_run.specs.Shown.{number_of, fault_of}
+use Rattle.local_run.specs.Shown.{number_of, fault_of, keep_of}
 use Rattle.local_run.specs.declared.finding.Finding.{Finding}
 use Rattle.audit_core.specs.Book.{BookView, IsBook, IsOwn, IsReplayed, accepted_in, after_closing, after_filing, found_in, reply_to}
 use Rattle.audit_core.specs.Verdicts.{AreHeldBelow}
@@ -52,7 +52,7 @@ ClosedByItsHistory = (b : BookView) → IsReplayed b → b.closed ≡ has_closin
 -- what two books of the same jobs hold for one number has the same fault
 abbrev pub BooksAgree : Type 0
 BooksAgree = (b c : BookView) (number : ℕ) (f g : Finding) → IsBook b → IsBook c → b.jobs ≡ c.jobs →
-    found_in b number ≡ Some f → found_in c number ≡ Some g → fault_of f ≡ fault_of g
+    found_in b number ≡ Some f → found_in c number ≡ Some g → (fault_of f ≡ fault_of g) × (keep_of f ≡ keep_of g)
 
 -- a book with a finding for each of its jobs holds one for each whole job
 abbrev pub FullBookHoldsAll : Type 0

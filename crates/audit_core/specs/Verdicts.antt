@@ -1,50 +1,77 @@
 -- The verdict on the modules of a certificate
 use Rattle.std.specs.Prelude.{◌≡◌, ℕ, ◌+◌, ◌<◌, ◌++◌, List, [], ◌∷◌, length, map, Option, Some, slice_get, IsTrue}
 use Rattle.std.specs.Option.{option_map, option_to_list}
+use Rattle.circuit.specs.Gates.{is_inverse}
+use Rattle.circuit.specs.Meaning.{Gate}
+use Rattle.module_box.specs.Locals.{circuit_gate}
 use Rattle.certificate.specs.Entries.{Setting, ModuleLines}
 use Rattle.certificate.specs.Jobs.{JobState}
+use Rattle.certificate.specs.Keeps.{is_kept, unkept}
 use Rattle.certificate.specs.Times.{are_all_kept, time_lines}
 use Rattle.certificate.specs.declared.times.TimeLine.{TimeLine}
 use Rattle.certificate.specs.declared.times.TimeLine.TheVariants as times
-use Rattle.local_run.specs.Faults.{IsFault, IsLeastFault}
+use Rattle.local_run.specs.Faults.{IsFault, IsKeepFault, IsLeastFault, IsLeastKeepFault}
 use Rattle.local_run.specs.Shown.{job_of}
 use Rattle.local_run.specs.declared.fault.Fault.{Fault}
+use Rattle.local_run.specs.declared.fault.KeepFault.{KeepFault}
 use Rattle.local_run.specs.declared.finding.Finding.{Finding}
 use Rattle.border_match.specs.BorderFaults.{IsBorderFault, AreBorderFaultsOf}
 use Rattle.border_match.specs.declared.fault.BorderFault.{BorderFault}
 use Rattle.audit_core.specs.Book.{BookView, found_in}
+use Rattle.audit_core.specs.declared.verdict.Reasons.{Reasons}
 use Rattle.audit_core.specs.declared.verdict.ReportLine.{ReportLine}
-use Rattle.audit_core.specs.declared.verdict.ReportLine.TheVariants.{Local, Border, Delay, Meet}
+use Rattle.audit_core.specs.declared.verdict.ReportLine.TheVariants.{Local, Keep, Border, Unkept, Delay, Meet}
 use Rattle.audit_core.specs.declared.verdict.Verdict.{Verdict}
 use Rattle.audit_core.specs.declared.verdict.Verdict.TheVariants.{Yes, No}
 
 -- ---- what is accepted
 
--- no job has a fault, no module has a border fault, and the rules on delays and meetings are kept
+-- no job has a fault, no module has a border fault, no job has a keep fault, each inverse gate is kept by some module, and the rules on
+-- delays and meetings are kept
 pub record Accepts (g : Setting) (ms : List ModuleLines) (jobs : List JobState) : Type 0 where
   pub no_fault : (number : ℕ) (j : JobState) (f : Fault) → slice_get jobs number ≡ Some j → ¬ IsFault j f
   pub no_border_fault : (number : ℕ) (f : BorderFault) → ¬ IsBorderFault g ms number f
+  pub no_keep_fault : (number : ℕ) (j : JobState) (f : KeepFault) → slice_get jobs number ≡ Some j → ¬ IsKeepFault j f
+  pub kept : (number : ℕ) (gate : Gate) → slice_get g.circuit.netlist.gates number ≡ Some gate → IsTrue (is_inverse gate.kind) → IsTrue (is_kept ms number)
   pub on_time : IsTrue (are_all_kept (time_lines g.circuit ms))
 
 -- ---- the lines of a report
 
--- the least fault of each of the jobs, or `None`
-pub record AreLeastFaults (jobs : List JobState) (fs : List (Option Fault)) : Type 0 where
+-- a keep fault by the number that its gate has in the circuit
+abbrev pub renumber_keep : JobState → KeepFault → KeepFault
+renumber_keep j f = record f { gate = circuit_gate j.locals f.gate }
+
+-- what is told of a job: its least fault, if there is one, and its least keep fault, by the number of the gate in the circuit
+pub record IsToldOf (j : JobState) (r : Reasons) : Type 0 where
+  pub fault : IsLeastFault j r.fault
+  pub keep : Option KeepFault
+  pub least_keep : IsLeastKeepFault j keep
+  pub same : r.keep ≡ option_map (renumber_keep j) keep
+
+-- it is told of each of the jobs
+pub record AreLeastFaults (jobs : List JobState) (fs : List Reasons) : Type 0 where
   pub count : length fs ≡ length jobs
-  pub each : (number : ℕ) (j : JobState) (f : Option Fault) → slice_get jobs number ≡ Some j → slice_get fs number ≡ Some f → IsLeastFault j f
+  pub each : (number : ℕ) (j : JobState) (f : Reasons) → slice_get jobs number ≡ Some j → slice_get fs number ≡ Some f → IsToldOf j f
 
 abbrev pub local_line : ℕ → Option Fault → Option ReportLine
 local_line number f = option_map (λ f. Local number f) f
 
+abbrev pub keep_line : ℕ → Option KeepFault → Option ReportLine
+keep_line number f = option_map (λ f. Keep number f) f
+
 abbrev pub border_line : ℕ → Option BorderFault → Option ReportLine
 border_line number f = option_map (λ f. Border number f) f
 
--- of each module, from this number on: its least fault, and then its least border fault
-unfoldable pub lines_from : ℕ → List (Option Fault) → List (Option BorderFault) → List ReportLine
+-- of each module, from this number on: its least fault, its least keep fault, and then its least border fault
+unfoldable pub lines_from : ℕ → List Reasons → List (Option BorderFault) → List ReportLine
 lines_from number [] borders = []
 lines_from number (f ∷ faults) [] = []
 lines_from number (f ∷ faults) (b ∷ borders) =
-    option_to_list (local_line number f) ++ option_to_list (border_line number b) ++ lines_from (number + 1) faults borders
+    option_to_list (local_line number f.fault) ++ option_to_list (keep_line number f.keep) ++ option_to_list (border_line number b) ++ lines_from (number + 1) faults borders
+
+-- then the inverse gates that no module keeps
+abbrev pub unkept_lines : Setting → List ModuleLines → List ReportLine
+unkept_lines g ms = map (λ n. Unkept n) (unkept g ms)
 
 -- what stops say of a gate, as a line
 abbrev pub timing : TimeLine → ReportLine
@@ -53,12 +80,12 @@ timing (times.Meet gate at) = Meet gate at
 
 -- all lines on modules of these jobs
 pub record AreReportLines (g : Setting) (ms : List ModuleLines) (jobs : List JobState) (lines : List ReportLine) : Type 0 where
-  pub faults : List (Option Fault)
+  pub faults : List Reasons
   pub are_least : AreLeastFaults jobs faults
   pub borders : List (Option BorderFault)
   pub are_border_faults : AreBorderFaultsOf g ms borders
-  -- and then a line for each delay and each meeting
-  pub lines_are : lines ≡ lines_from 0 faults borders ++ map timing (time_lines g.circuit ms)
+  -- then the inverse gates that no module keeps, and then a line for each delay and each meeting
+  pub lines_are : lines ≡ lines_from 0 faults borders ++ unkept_lines g ms ++ map timing (time_lines g.circuit ms)
 
 -- `Yes` where the modules are accepted, and else `No` with all lines
 unfoldable pub IsVerdict : Setting → List ModuleLines → List JobState → Verdict → Type 0

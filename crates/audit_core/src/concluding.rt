@@ -10,15 +10,17 @@ ghost use Rattle.certificate.specs.Times.{are_all_kept};
 ghost use Rattle.audit_core.specs.Concluding.{AreOwnJobs, modules, port_names_of, setting};
 ghost use Rattle.audit_core.specs.Implements.{IsCorrect};
 ghost use Rattle.audit_core.specs.OnTime.{IsOnTime};
-ghost use Rattle.audit_core.specs.Verdicts.{AreHeldBelow, AreLeastFaults, IsFirstMissing, IsVerdict, border_line, lines_from, local_line, timing};
+ghost use Rattle.audit_core.specs.Verdicts.{AreHeldBelow, AreLeastFaults, IsFirstMissing, IsToldOf, IsVerdict, border_line, keep_line, lines_from, local_line, timing};
+ghost use Rattle.local_run.specs.Shown.{job_of};
+ghost use Rattle.audit_core.specs.declared.verdict.ReportLine.TheVariants.{Unkept};
 ghost use Rattle.audit_core.specs.declared.verdict.Unfinished.TheVariants.{Missing};
 ghost use Rattle.audit_core.specs.declared.verdict.Verdict.TheVariants.{Yes};
 
 use crate::book::BookState;
-use crate::verdict::{ReportLine, Unfinished, Verdict};
+use crate::verdict::{Reasons, ReportLine, Unfinished, Verdict};
 use border_match::BorderFault;
 use certificate::{Cert, Job, TimeLine};
-use local_run::Fault;
+use local_run::{Fault, Finding, KeepFault};
 use std::alloc::{AllocError, Global};
 use std::sync::Arc;
 
@@ -52,8 +54,9 @@ pub fn conclude(
     let _size = cert.size();
     let _count = cert.modules();
     let faults = held_faults(alloc, jobs, book)?;
+    let unkept = cert.unkept(alloc)?;
     let times = cert.times(alloc)?;
-    let mut lines = report_lines(alloc, &faults, borders)?;
+    let mut lines = report_lines(alloc, &faults, borders, &unkept)?;
     let kept = are_all_kept(&times);
     if kept & lines.is_empty() {
         return Ok(Verdict::Yes);
@@ -94,7 +97,7 @@ fn held_faults(
     alloc: Global,
     jobs: &[Arc<Job>],
     book: &BookState,
-) -> Result<Vec<Option<Fault>>, Unfinished>
+) -> Result<Vec<Reasons>, Unfinished>
     ensures held { OnOk result (AreHeldBelow book.now (map arc_value jobs.now) (length jobs.now)) }
     ensures least { IfOk result (λ fs. AreLeastFaults (map arc_value jobs.now) fs.items) }
     ensures missing { (number : ℕ) → result ≡ Err (Missing number) → IsFirstMissing book.now (map arc_value jobs.now) number }
@@ -104,24 +107,59 @@ fn held_faults(
         let Some(finding) = book.found_for(number, job) else {
             return Err(Unfinished::Missing(number));
         };
-        faults.push(finding.fault())?;
+        faults.push(told_of(finding))?;
     }
     Ok(faults)
 }
 
-// The lines of the report, module by module.
-fn report_lines(
+// What a finding tells of its job.
+fn told_of(finding: &Finding) -> Reasons
+    ensures { IsToldOf (job_of finding.now) result }
+{
+    let keep = match finding.keep() {
+        Some(keep) => Some(KeepFault {
+            gate: finding.job().gate_number(keep.gate) as usize,
+            assignment: keep.assignment,
+        }),
+        None => None,
+    };
+    Reasons {
+        fault: finding.fault(),
+        keep,
+    }
+}
+
+// The lines on the modules, one after the other.
+fn module_lines(
     alloc: Global,
-    faults: &[Option<Fault>],
+    faults: &[Reasons],
     borders: &[Option<BorderFault>],
 ) -> Result<Vec<ReportLine>, AllocError>
     requires { length faults.now ≡ length borders.now }
     ensures { IfOk result (λ lines. lines.items ≡ lines_from 0 faults.now borders.now) }
 {
     let mut lines = Vec::new(alloc);
-    'modules: for (number, fault) in faults.iter().enumerate() {
-        push_line(&mut lines, local_line(number, *fault))?;
+    'modules: for (number, reasons) in faults.iter().enumerate() {
+        push_line(&mut lines, local_line(number, reasons.fault))?;
+        push_line(&mut lines, keep_line(number, reasons.keep))?;
         push_line(&mut lines, border_line(number, borders[number]))?;
+    }
+    Ok(lines)
+}
+
+// The lines of the report: those on the modules, and then the gates that are not kept.
+fn report_lines(
+    alloc: Global,
+    faults: &[Reasons],
+    borders: &[Option<BorderFault>],
+    unkept: &[usize],
+) -> Result<Vec<ReportLine>, AllocError>
+    requires { length faults.now ≡ length borders.now }
+    ensures { IfOk result (λ lines. lines.items ≡ lines_from 0 faults.now borders.now ++ map (λ n. Unkept n) unkept.now) }
+{
+    let mut lines = module_lines(alloc, faults, borders)?;
+    'gates: for gate in unkept {
+        lines.push(ReportLine::Unkept { gate: *gate })?;
     }
     Ok(lines)
 }
@@ -131,6 +169,18 @@ fn local_line(number: usize, fault: Option<Fault>) -> Option<ReportLine>
 {
     match fault {
         Some(fault) => Some(ReportLine::Local {
+            module: number,
+            fault,
+        }),
+        None => None,
+    }
+}
+
+fn keep_line(number: usize, fault: Option<KeepFault>) -> Option<ReportLine>
+    ensures { result ≡ keep_line number fault }
+{
+    match fault {
+        Some(fault) => Some(ReportLine::Keep {
             module: number,
             fault,
         }),

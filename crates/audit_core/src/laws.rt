@@ -1,5 +1,5 @@
 //! Laws of books, each the contract of a function without a body.
-ghost use Rattle.audit_core.specs.HeadlineLaws.{AcceptedIsCorrect, AcceptedIsOnTime, EndsAsAsked, Example, InputsDecideTheRun, ReadLayoutHasInputNames, ReadLayoutIsNamed, StartsAsJobs, StepsAsJobs, WrongExample};
+ghost use Rattle.audit_core.specs.HeadlineLaws.{AcceptedHasValuation, AcceptedIsCorrect, AcceptedIsOnTime, EndsAsAsked, Example, InputsDecideTheRun, NoneIsUndefined, ReadLayoutHasInputNames, ReadLayoutIsNamed, StartsAsJobs, StepsAsJobs, WrongExample};
 ghost use Rattle.audit_core.specs.CoreLaws.{AcceptsOneForEach, DrawsEachOnce, EmptyWhereAllAreDrawn, EventsKeepWhatIsHeld, EventsReplay, HoldsHonestOwn, HoldsWhatWasAccepted, OnlyAcceptedChangesWhatIsHeld, VerdictIsOne};
 ghost use Rattle.audit_core.specs.Laws.{AcceptsItsOwn, BooksAgree, ClosedAnswersClosed, ClosedByItsHistory, DoublesWhatIsHeld, FullBookHoldsAll, HoldsWhatIsAccepted, HoldsNothingElse, KeepsWhatIsHeld, KnowsItsOwn, StaysBook, StaysReplayed};
 
@@ -82,6 +82,12 @@ pub fn steps_as_jobs()
 /// Where that is so after the last step, and no job has a fault, the plane looks as the layout asks.
 pub fn ends_as_asked()
     ensures { EndsAsAsked }
+{}
+
+/// No gate of what is accepted is the first that has no row, so the circuit has a valuation whatever its inputs are.
+pub fn no_gate_is_undefined()
+    ensures none { NoneIsUndefined }
+    ensures valuation { AcceptedHasValuation }
 {}
 
 /// A layout that is accepted computes its circuit, and nothing ever leaves its rectangle.

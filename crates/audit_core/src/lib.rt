@@ -28,4 +28,4 @@ pub use entry::{Entry, Filing};
 pub use filling::fill;
 pub use machine::{Answer, Core, Event, NotApplied};
 pub use reply::{Mismatch, Reply};
-pub use verdict::{ReportLine, Unfinished, Verdict};
+pub use verdict::{Reasons, ReportLine, Unfinished, Verdict};

@@ -2,29 +2,42 @@
 
 use border_match::BorderFault;
 use certificate::Gap;
-use local_run::Fault;
+use local_run::{Fault, KeepFault};
 use std::alloc::{AllocError, AllocFailed};
 
-/// A line of a report: a fault of a module, or what stops say of a gate. Modules and gates are numbered from 0.
+/// A line of a report: a fault of a module, a gate that no module keeps, or what stops say of a gate. Modules and gates are numbered
+/// from 0.
 #[derive(Clone, Copy, Debug, PartialEq, Eq)]
 pub enum ReportLine {
     /// The least fault of the module's job.
     Local { module: usize, fault: Fault },
+    /// Its least keep fault, by the number of the gate in the circuit.
+    Keep { module: usize, fault: KeepFault },
     /// The module's least border fault.
     Border { module: usize, fault: BorderFault },
+    /// An inverse gate of the circuit that no module keeps, by its number.
+    Unkept { gate: usize },
     /// How many steps a delay takes, which is to be so many.
     Delay { gate: usize, wanted: u32, gap: Gap },
     /// The time at which inputs of a gate meet, or None where they do not.
     Meet { gate: usize, at: Option<u32> },
 }
 
-/// Whether the modules of a certificate have no fault, and its stops keep the rules on delays and meetings.
+/// What a finding tells of a job: its least fault, and its least keep fault by the number of the gate in the circuit.
+#[derive(Clone, Copy, Debug, PartialEq, Eq)]
+pub struct Reasons {
+    pub fault: Option<Fault>,
+    pub keep: Option<KeepFault>,
+}
+
+/// Whether the modules of a certificate have no fault and keep all inverse gates, and its stops keep the rules on delays and meetings.
 #[derive(Debug, Drop, PartialEq, Eq)]
 pub enum Verdict {
-    /// No module has a fault, and the rules are kept.
+    /// No module has a fault, each inverse gate is kept, and the rules are kept.
     Yes,
-    /// Some module has one, or a rule is broken. For each module in order the lines have its least fault, if there is one, and then
-    /// its least border fault, if there is one; and then come the lines of all delays and meetings, of those too that keep the rules.
+    /// Some module has one, an inverse gate is kept by none, or a rule is broken. For each module in order the lines have its least
+    /// fault, its least keep fault and its least border fault, each if there is one; then come the inverse gates that are not kept, in
+    /// order; and then the lines of all delays and meetings, of those too that keep the rules.
     No(Vec<ReportLine>),
 }
 

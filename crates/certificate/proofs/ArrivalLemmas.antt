@@ -1,7 +1,7 @@
 -- What the lines on delays and meetings tell of their gates.
-use Rattle.std.proofs.Common.{◌≡◌, ◌≢◌, ◌⊎◌, ℕ, zero, suc, ◌+◌, ◌-◌, ◌<◌, ◌≤◌, Bool, true, false, if◌then◌else◌, List, [], ◌∷◌, ◌++◌, length, Option, Some, None, refl, sym, ap, subst, ◌∙◌, inl, inr, arith}
-use Rattle.std.specs.Prelude.{slice_get, Contains, IsTrue, nat_lt, nat_le, ◌==◌, min, max}
-use Rattle.std.specs.List.{All, fold, flat_map, list_all}
+use Rattle.std.proofs.Common.{◌≡◌, ℕ, zero, suc, ◌+◌, ◌-◌, ◌<◌, ◌≤◌, Bool, true, false, if◌then◌else◌, List, [], ◌∷◌, length, Option, Some, None, refl, sym, ap, subst, ◌∙◌, arith}
+use Rattle.std.specs.Prelude.{slice_get, Contains, nat_lt, nat_le, ◌==◌, min, max}
+use Rattle.std.specs.List.{All, fold, list_all}
 use Rattle.std.specs.Option.{option_to_list}
 use Rattle.std.proofs.lemmas.Bool.{and_parts, eqb-true}
 use Rattle.std.proofs.lemmas.Bool.Decides.{nat_tests}
@@ -11,9 +11,8 @@ use Rattle.std.proofs.lemmas.Option.{same_Some}
 use Rattle.circuit.specs.Gates.{Rule, Source, Fredkin, Cswap, Interact, Switch, Delay, Unswitch, Uninteract}
 use Rattle.circuit.specs.Meaning.{Circuit, Gate}
 use Rattle.certificate.specs.Arrivals.{AreOnTime, IsFirstTime, IsLastTime, MeetAt, TakesSteps, Tells, TellsOfDelay, TellsOfMeeting}
-use Rattle.certificate.specs.Entries.{ModuleLines}
 use Rattle.certificate.specs.Laws.{KeptIsOnTime, LinesTell}
-use Rattle.certificate.specs.Times.{agreed, all_stops, are_all_kept, delay_by, delay_line, earlier, first_seen, gap_between, is_kept, last_seen, last_times, later, meet_by, meet_line, numbered, of_wire, time_lines, times_of}
+use Rattle.certificate.specs.Times.{agreed, all_stops, delay_by, delay_line, earlier, first_seen, gap_between, is_kept, last_seen, last_times, later, meet_by, meet_line, numbered, of_wire, times_of}
 use Rattle.certificate.specs.declared.entry.StopLine.{StopLine}
 use Rattle.certificate.specs.declared.times.Gap.{Gap}
 use Rattle.certificate.specs.declared.times.Gap.TheVariants.{Steps, Missing, Before}

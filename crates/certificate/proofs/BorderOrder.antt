@@ -14,7 +14,7 @@ use Rattle.certificate.specs.Orders.{AreInOrder, rank_of, number_of, cell_of, li
 use Rattle.certificate.specs.Signals.{renumber_held, renumber_event}
 use Rattle.certificate.specs.declared.entry.Border.{Border}
 use Rattle.certificate.specs.declared.entry.Entry.{Entry}
-use Rattle.certificate.specs.declared.entry.Entry.TheVariants.{Module, Cut, Use, Edge, Halo, Stop}
+use Rattle.certificate.specs.declared.entry.Entry.TheVariants.{Module, Cut, Use, Keep, Edge, Halo, Stop}
 use Rattle.certificate.proofs.Lists.{some_is}
 use Rattle.certificate.proofs.Pairs.{Each, Pairs, pairs_flat, rising_of}
 
@@ -52,6 +52,7 @@ unfolding Each
 edge_first d (Module b) h = tt
 edge_first d (Cut n) h = tt
 edge_first d (Use k) h = tt
+edge_first d (Keep k) h = tt
 edge_first d (Edge e) h = (edge_before d e h, tt)
 edge_first d (Halo e) h = tt
 edge_first d (Stop s) h = tt
@@ -61,6 +62,7 @@ unfolding Each
 halo_first d (Module b) h = tt
 halo_first d (Cut n) h = tt
 halo_first d (Use k) h = tt
+halo_first d (Keep k) h = tt
 halo_first d (Edge e) h = tt
 halo_first d (Halo e) h = (halo_before d e h, tt)
 halo_first d (Stop s) h = tt
@@ -70,6 +72,7 @@ unfolding Each
 edges_between (Module b) = tt
 edges_between (Cut n) = tt
 edges_between (Use k) = tt
+edges_between (Keep k) = tt
 edges_between (Edge d) = (edge_first d, tt)
 edges_between (Halo e) = tt
 edges_between (Stop s) = tt
@@ -79,6 +82,7 @@ unfolding Each
 halos_between (Module b) = tt
 halos_between (Cut n) = tt
 halos_between (Use k) = tt
+halos_between (Keep k) = tt
 halos_between (Edge e) = tt
 halos_between (Halo d) = (halo_first d, tt)
 halos_between (Stop s) = tt
@@ -88,6 +92,7 @@ unfolding Each Pairs
 edge_alone (Module b) = tt
 edge_alone (Cut n) = tt
 edge_alone (Use k) = tt
+edge_alone (Keep k) = tt
 edge_alone (Edge e) = (tt, tt)
 edge_alone (Halo e) = tt
 edge_alone (Stop s) = tt
@@ -97,6 +102,7 @@ unfolding Each Pairs
 halo_alone (Module b) = tt
 halo_alone (Cut n) = tt
 halo_alone (Use k) = tt
+halo_alone (Keep k) = tt
 halo_alone (Edge e) = tt
 halo_alone (Halo e) = (tt, tt)
 halo_alone (Stop s) = tt

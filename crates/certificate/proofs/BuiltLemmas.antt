@@ -180,6 +180,7 @@ begun g b good = record {
     different = λ i j w e f. absurd (none_at i w e);
   };
   order = tt;
+  keep_lines = All-nil _;
   few_borders = omega arith;
   edge_lines = All-nil _;
   halo_lines = All-nil _;

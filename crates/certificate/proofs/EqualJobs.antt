@@ -114,8 +114,8 @@ jobs_decide j k =
     (λ p q. (p, q)) (λ p. p.0) (λ p. p.1))
     (both {R = (j.edges ≡ k.edges) × (j.halos ≡ k.halos)} _ _ (signals_decides j.edges k.edges) (signals_decides j.halos k.halos) (λ p q. (p, q)) (λ p. p.0) (λ p. p.1))
     (λ p q. (p, q)) (λ p. p.0) (λ p. p.1))
-    (lists same_stop stop_decides j.stops k.stops)
-    (λ p stops i. record {
+    (both {R = (j.stops ≡ k.stops) × (j.kept ≡ k.kept)} _ _ (lists same_stop stop_decides j.stops k.stops) (lists nat_eq Decides-eqb j.kept k.kept) (λ p q. (p, q)) (λ p. p.0) (λ p. p.1))
+    (λ p rest i. record {
       area = p.0.0.0.0 i;
       steps = p.0.0.0.1 i;
       locals = p.0.0.1 i;
@@ -123,10 +123,11 @@ jobs_decide j k =
       demands = p.0.1.1 i;
       edges = p.1.0 i;
       halos = p.1.1 i;
-      stops = stops i;
+      stops = rest.0 i;
+      kept = rest.1 i;
     })
     (λ e. ((((ap (λ l. l.area) e, ap (λ l. l.steps) e), ap (λ l. l.locals) e), (ap (λ l. l.starts) e, ap (λ l. l.demands) e)), (ap (λ l. l.edges) e, ap (λ l. l.halos) e)))
-    (λ e. ap (λ l. l.stops) e)
+    (λ e. (ap (λ l. l.stops) e, ap (λ l. l.kept) e))
 
 pub shapes_decide : ShapeEqualityDecides
 shapes_decide s t =
@@ -142,8 +143,8 @@ shapes_decide s t =
     (λ p q. (p, q)) (λ p. p.0) (λ p. p.1))
     (both {R = (s.edges ≡ t.edges) × (s.halos ≡ t.halos)} _ _ (signals_decides s.edges t.edges) (signals_decides s.halos t.halos) (λ p q. (p, q)) (λ p. p.0) (λ p. p.1))
     (λ p q. (p, q)) (λ p. p.0) (λ p. p.1))
-    (lists same_stop stop_decides s.stops t.stops)
-    (λ p stops i. record {
+    (both {R = (s.stops ≡ t.stops) × (s.kept ≡ t.kept)} _ _ (lists same_stop stop_decides s.stops t.stops) (lists nat_eq Decides-eqb s.kept t.kept) (λ p q. (p, q)) (λ p. p.0) (λ p. p.1))
+    (λ p rest i. record {
       width = p.0.0.0.0.0 i;
       height = p.0.0.0.0.1 i;
       steps = p.0.0.0.1 i;
@@ -152,10 +153,11 @@ shapes_decide s t =
       demands = p.0.1.1 i;
       edges = p.1.0 i;
       halos = p.1.1 i;
-      stops = stops i;
+      stops = rest.0 i;
+      kept = rest.1 i;
     })
     (λ e. (((((ap (λ l. l.width) e, ap (λ l. l.height) e), ap (λ l. l.steps) e), ap (λ l. l.netlist) e), (ap (λ l. l.starts) e, ap (λ l. l.demands) e)), (ap (λ l. l.edges) e, ap (λ l. l.halos) e)))
-    (λ e. ap (λ l. l.stops) e)
+    (λ e. (ap (λ l. l.stops) e, ap (λ l. l.kept) e))
 
 -- ---- two jobs are the same exactly where corner, wires, gates and shape are
 

@@ -1,5 +1,6 @@
 -- What a module's lines give to its job.
 use Rattle.std.proofs.Common.{◌≡◌, ℕ, ◌+◌, ◌<◌, ◌≤◌, ◌^◌, length, List, None, sym, ap, subst, ◌∙◌, arith, get_or}
+use Rattle.std.specs.Prelude.{IsTrue}
 use Rattle.std.specs.List.{All}
 use Rattle.std.proofs.lemmas.Option.{slice_get-get_or, slice_get_within}
 use Rattle.circuit.specs.Bridge.{circuit_of, netlist_of}
@@ -9,8 +10,8 @@ use Rattle.pattern.specs.Layout.{Pattern}
 use Rattle.pattern.specs.Lines.{size_fault}
 use Rattle.pattern.specs.declared.parts.Extent.{Extent}
 use Rattle.pattern.proofs.TakenLemmas.{is_sized}
-use Rattle.module_box.specs.Locals.{AreLocalLines, LocalNet, local_wires}
-use Rattle.certificate.specs.Entries.{Setting, ModuleLines, cuts, cut_wires, gates, known, edges, halos}
+use Rattle.module_box.specs.Locals.{AreLocalLines, LocalNet, is_among, local_wires}
+use Rattle.certificate.specs.Entries.{Setting, ModuleLines, cuts, cut_wires, gates, keeps, known, edges, halos}
 use Rattle.certificate.specs.Grammars.{setting_of}
 use Rattle.certificate.specs.Modules.{IsModule}
 use Rattle.certificate.specs.Timetables.{IsNamedLocal}
@@ -59,3 +60,10 @@ wires_known ls cs m cw gs ws e ce ge we =
 pub cut_count : (ls cs : List CircuitLine) (p : Pattern) (m : ModuleLines) (cw : List ℕ) (n : ℕ) → ls ≡ cs → cw ≡ cut_wires (circuit_of ls) m → n ≡ length cw →
     IsModule (setting_of cs p) m → n ≡ length (cuts m)
 cut_count ls cs p m cw n e ce ne h = ne ∙ ap length ce ∙ ap (λ l. length (cut_wires (circuit_of l) m)) e ∙ h.named
+
+-- the gates that a module keeps are used
+pub keeps_used : (g : Setting) (m : ModuleLines) (gs : List ℕ) → gs ≡ gates m → IsModule g m → All (λ k. IsTrue (is_among gs k)) (keeps m)
+keeps_used g m gs is h k d lt = subst (λ us. IsTrue (is_among us (get_or (keeps m) k d))) (sym is) (h.keep_lines k d lt).among
+
+pub few_used : (g : Setting) (m : ModuleLines) (gs : List ℕ) → gs ≡ gates m → IsModule g m → length gs ≤ 64
+few_used g m gs is h = subst (λ us. length us ≤ 64) (sym is) h.local.few_gates

@@ -22,12 +22,12 @@ use Rattle.certificate.specs.declared.entry.Border.{Border}
 use Rattle.certificate.specs.declared.entry.Counts.{Counts}
 use Rattle.certificate.specs.declared.entry.Entry.{Entry}
 use Rattle.certificate.specs.declared.entry.StopLine.{StopLine}
-use Rattle.certificate.specs.declared.entry.Entry.TheVariants.{Module, Cut, Use, Edge, Halo, Stop}
+use Rattle.certificate.specs.declared.entry.Entry.TheVariants.{Module, Cut, Use, Keep, Edge, Halo, Stop}
 use Rattle.certificate.proofs.BuiltLemmas.{built_none, module_built, line_built, good_module}
 use Rattle.certificate.proofs.Growing.{modules_push, flat_push, flat_same, last_at, last_pushed, last_changed, last_mapped}
 use Rattle.certificate.proofs.Lists.{some_is}
 use Rattle.certificate.proofs.KnownLemmas.{none_new}
-use Rattle.certificate.proofs.ModulePushes.{no_code, both_none, not_false, IsNewWire, new_wire, IsGoodUse, good_use, cuts_cut, gates_use, edges_edge, halos_halo, stops_stop, known_cut, known_use, known_same, cut_pushed, use_pushed, edge_pushed, halo_pushed, stop_pushed}
+use Rattle.certificate.proofs.ModulePushes.{no_code, both_none, not_false, IsNewWire, new_wire, IsGoodUse, good_use, cuts_cut, gates_use, edges_edge, halos_halo, stops_stop, known_cut, known_use, known_same, cut_pushed, use_pushed, keep_pushed, edge_pushed, halo_pushed, stop_pushed}
 
 no_last : {X : Type 0} (x : X) → None ≡ Some x → ⊥
 no_last x e = cc
@@ -55,7 +55,7 @@ mapped_none : {X Y : Type 0} (f : X → Y) (o : Option X) → option_map f o ≡
 mapped_none f None e = refl
 mapped_none f (Some x) e = absurd cc
 
-mapped_some : {X Y : Type 0} (f : X → Y) (o : Option X) (y : Y) → option_map f o ≡ Some y → (x : X) × (o ≡ Some x) × (y ≡ f x)
+pub mapped_some : {X Y : Type 0} (f : X → Y) (o : Option X) (y : Y) → option_map f o ≡ Some y → (x : X) × (o ≡ Some x) × (y ≡ f x)
 mapped_some f None y e = absurd cc
 mapped_some f (Some x) y e = (x, refl, sym (some_is (f x) y e))
 
@@ -153,6 +153,10 @@ counted_cut n m = same_counts m.area _ _ _ _ _ _ _ _ _ _ (one_longer (cuts m) _ 
 pub counted_use : (k : ℕ) (m : ModuleLines) → counts_of (with_line (Use k) m) ≡ counted (Use k) (counts_of m)
 unfolding counted
 counted_use k m = same_counts m.area _ _ _ _ _ _ _ _ _ _ (ap length (flat_same cut_in m.lines (Use k) refl)) (one_longer (gates m) _ k (gates_use m k)) (ap length (flat_same edge_in m.lines (Use k) refl)) (ap length (flat_same halo_in m.lines (Use k) refl)) (ap length (flat_same stop_in m.lines (Use k) refl))
+
+pub counted_keep : (k : ℕ) (m : ModuleLines) → counts_of (with_line (Keep k) m) ≡ counted (Keep k) (counts_of m)
+unfolding counted
+counted_keep k m = same_counts m.area _ _ _ _ _ _ _ _ _ _ (ap length (flat_same cut_in m.lines (Keep k) refl)) (ap length (flat_same use_in m.lines (Keep k) refl)) (ap length (flat_same edge_in m.lines (Keep k) refl)) (ap length (flat_same halo_in m.lines (Keep k) refl)) (ap length (flat_same stop_in m.lines (Keep k) refl))
 
 pub counted_edge : (d : Border) (m : ModuleLines) → counts_of (with_line (Edge d) m) ≡ counted (Edge d) (counts_of m)
 unfolding counted
@@ -261,6 +265,13 @@ does_line g es (Use k) inner good is =
       wires = known_use g m k words.1.gate words.1.numbered ∙ ap (λ l. known g.circuit m ++ l) (sym outs);
       new = ap (are_new (known g.circuit m)) outs ∙ words.1.outs;
     }
+does_line g es (Keep k) inner good is = record {
+  line = refl;
+  counts = counted_keep k;
+  grows = λ _. keep_pushed g good.module_lines is k good.follows good.words;
+  wires = no_wires g good.module_lines (Keep k) refl refl;
+  new = none_new (known g.circuit good.module_lines);
+}
 does_line g es (Edge d) inner good is = record {
   line = refl;
   counts = counted_edge d;

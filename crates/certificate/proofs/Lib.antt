@@ -1,6 +1,8 @@
 pub mod ShapeParts
 pub mod EqualJobs
 pub mod JobLemmas
+pub mod KeepLemmas
+pub mod UsedLemmas
 pub mod PlanLemmas
 pub mod JobLists
 pub mod ModuleSplit

@@ -6,12 +6,12 @@ use Rattle.std.proofs.lemmas.Bool.{and_parts}
 use Rattle.std.proofs.lemmas.List.Elements.{All-nil, All-push, All-append}
 use Rattle.std.proofs.lemmas.List.Folds.{list_all-append}
 use Rattle.module_box.specs.Moments.{cell_cmp}
-use Rattle.certificate.specs.Entries.{use_in, edge_in, halo_in, stop_in}
+use Rattle.certificate.specs.Entries.{use_in, keep_in, edge_in, halo_in, stop_in}
 use Rattle.certificate.specs.Orders.{AreInOrder, rank_of, number_of, cell_of, line_cmp, is_cut, may_precede, may_follow}
 use Rattle.certificate.specs.declared.entry.Border.{Border}
 use Rattle.certificate.specs.declared.entry.Entry.{Entry}
 use Rattle.certificate.specs.declared.entry.StopLine.{StopLine}
-use Rattle.certificate.specs.declared.entry.Entry.TheVariants.{Module, Cut, Use, Edge, Halo, Stop}
+use Rattle.certificate.specs.declared.entry.Entry.TheVariants.{Module, Cut, Use, Keep, Edge, Halo, Stop}
 
 -- ---- what comes before a line
 
@@ -44,6 +44,14 @@ later_kind i j h k e = false_or (is_lt (line_cmp i j)) (is_cut i && is_cut j) h 
 use_then_cut : (g : ℕ) (n : List ℕ) → may_precede (Use g) (Cut n) ≡ true → ⊥
 unfolding line_cmp rank_of is_cut
 use_then_cut g n e = later_kind (Use g) (Cut n) refl refl e
+
+keep_then_cut : (k : ℕ) (n : List ℕ) → may_precede (Keep k) (Cut n) ≡ true → ⊥
+unfolding line_cmp rank_of is_cut
+keep_then_cut k n e = later_kind (Keep k) (Cut n) refl refl e
+
+keep_then_use : (k g : ℕ) → may_precede (Keep k) (Use g) ≡ true → ⊥
+unfolding line_cmp rank_of is_cut
+keep_then_use k g e = later_kind (Keep k) (Use g) refl refl e
 
 edge_then_cut : (d : Border) (n : List ℕ) → may_precede (Edge d) (Cut n) ≡ true → ⊥
 unfolding line_cmp rank_of is_cut
@@ -79,14 +87,34 @@ pub no_use_before_cut : (n : List ℕ) (j : Entry) → may_precede j (Cut n) ≡
 no_use_before_cut n (Module b) h = refl
 no_use_before_cut n (Cut m) h = refl
 no_use_before_cut n (Use g) h = absurd (use_then_cut g n h)
+no_use_before_cut n (Keep k) h = refl
 no_use_before_cut n (Edge d) h = refl
 no_use_before_cut n (Halo d) h = refl
 no_use_before_cut n (Stop s) h = refl
+
+pub no_keep_before_cut : (n : List ℕ) (j : Entry) → may_precede j (Cut n) ≡ true → keep_in j ≡ []
+no_keep_before_cut n (Module b) h = refl
+no_keep_before_cut n (Cut m) h = refl
+no_keep_before_cut n (Use g) h = refl
+no_keep_before_cut n (Keep k) h = absurd (keep_then_cut k n h)
+no_keep_before_cut n (Edge d) h = refl
+no_keep_before_cut n (Halo d) h = refl
+no_keep_before_cut n (Stop s) h = refl
+
+pub no_keep_before_use : (g : ℕ) (j : Entry) → may_precede j (Use g) ≡ true → keep_in j ≡ []
+no_keep_before_use g (Module b) h = refl
+no_keep_before_use g (Cut m) h = refl
+no_keep_before_use g (Use k) h = refl
+no_keep_before_use g (Keep k) h = absurd (keep_then_use k g h)
+no_keep_before_use g (Edge d) h = refl
+no_keep_before_use g (Halo d) h = refl
+no_keep_before_use g (Stop s) h = refl
 
 pub no_edge_before_cut : (n : List ℕ) (j : Entry) → may_precede j (Cut n) ≡ true → edge_in j ≡ []
 no_edge_before_cut n (Module b) h = refl
 no_edge_before_cut n (Cut m) h = refl
 no_edge_before_cut n (Use g) h = refl
+no_edge_before_cut n (Keep k) h = refl
 no_edge_before_cut n (Edge d) h = absurd (edge_then_cut d n h)
 no_edge_before_cut n (Halo d) h = refl
 no_edge_before_cut n (Stop s) h = refl
@@ -95,6 +123,7 @@ pub no_halo_before_cut : (n : List ℕ) (j : Entry) → may_precede j (Cut n) �
 no_halo_before_cut n (Module b) h = refl
 no_halo_before_cut n (Cut m) h = refl
 no_halo_before_cut n (Use g) h = refl
+no_halo_before_cut n (Keep k) h = refl
 no_halo_before_cut n (Edge d) h = refl
 no_halo_before_cut n (Halo d) h = absurd (halo_then_cut d n h)
 no_halo_before_cut n (Stop s) h = refl
@@ -103,6 +132,7 @@ pub no_edge_before_use : (g : ℕ) (j : Entry) → may_precede j (Use g) ≡ tru
 no_edge_before_use g (Module b) h = refl
 no_edge_before_use g (Cut m) h = refl
 no_edge_before_use g (Use k) h = refl
+no_edge_before_use g (Keep k) h = refl
 no_edge_before_use g (Edge d) h = absurd (edge_then_use d g h)
 no_edge_before_use g (Halo d) h = refl
 no_edge_before_use g (Stop s) h = refl
@@ -111,6 +141,7 @@ pub no_halo_before_use : (g : ℕ) (j : Entry) → may_precede j (Use g) ≡ tru
 no_halo_before_use g (Module b) h = refl
 no_halo_before_use g (Cut m) h = refl
 no_halo_before_use g (Use k) h = refl
+no_halo_before_use g (Keep k) h = refl
 no_halo_before_use g (Edge d) h = refl
 no_halo_before_use g (Halo d) h = absurd (halo_then_use d g h)
 no_halo_before_use g (Stop s) h = refl
@@ -119,6 +150,7 @@ pub no_halo_before_edge : (e : Border) (j : Entry) → may_precede j (Edge e) �
 no_halo_before_edge e (Module b) h = refl
 no_halo_before_edge e (Cut m) h = refl
 no_halo_before_edge e (Use k) h = refl
+no_halo_before_edge e (Keep k) h = refl
 no_halo_before_edge e (Edge d) h = refl
 no_halo_before_edge e (Halo d) h = absurd (halo_then_edge d e h)
 no_halo_before_edge e (Stop s) h = refl
@@ -127,6 +159,7 @@ pub no_stop_before_cut : (n : List ℕ) (j : Entry) → may_precede j (Cut n) �
 no_stop_before_cut n (Module b) h = refl
 no_stop_before_cut n (Cut m) h = refl
 no_stop_before_cut n (Use k) h = refl
+no_stop_before_cut n (Keep k) h = refl
 no_stop_before_cut n (Edge d) h = refl
 no_stop_before_cut n (Halo d) h = refl
 no_stop_before_cut n (Stop s) h = absurd (stop_then_cut s n h)
@@ -135,6 +168,7 @@ pub no_stop_before_use : (g : ℕ) (j : Entry) → may_precede j (Use g) ≡ tru
 no_stop_before_use g (Module b) h = refl
 no_stop_before_use g (Cut m) h = refl
 no_stop_before_use g (Use k) h = refl
+no_stop_before_use g (Keep k) h = refl
 no_stop_before_use g (Edge d) h = refl
 no_stop_before_use g (Halo d) h = refl
 no_stop_before_use g (Stop s) h = absurd (stop_then_use s g h)
@@ -161,6 +195,7 @@ pub lower_uses : (k : ℕ) (j : Entry) → may_precede j (Use k) ≡ true → Al
 lower_uses k (Module b) h = All-nil (λ (g : ℕ). g < k)
 lower_uses k (Cut m) h = All-nil (λ (g : ℕ). g < k)
 lower_uses k (Use g) h = All-push (λ (x : ℕ). x < k) [] g (All-nil (λ (x : ℕ). x < k)) (use_then_use g k h)
+lower_uses k (Keep j) h = All-nil (λ (g : ℕ). g < k)
 lower_uses k (Edge d) h = All-nil (λ (g : ℕ). g < k)
 lower_uses k (Halo d) h = All-nil (λ (g : ℕ). g < k)
 lower_uses k (Stop s) h = All-nil (λ (g : ℕ). g < k)

@@ -12,16 +12,16 @@ use Rattle.circuit.specs.Meaning.{Circuit, Gate, wire_of}
 use Rattle.module_box.specs.Boxes.{in_box, in_ring, in_halo}
 use Rattle.module_box.specs.Locals.{AreLocalLines, is_among, local_wires}
 use Rattle.module_box.specs.declared.boxes.Box2.{Box2}
-use Rattle.certificate.specs.Entries.{Setting, ModuleLines, with_line, cut_in, use_in, edge_in, halo_in, stop_in, cuts, gates, edges, halos, stops, cut_wires, known}
+use Rattle.certificate.specs.Entries.{Setting, ModuleLines, with_line, cut_in, use_in, keep_in, edge_in, halo_in, stop_in, cuts, gates, keeps, edges, halos, stops, cut_wires, known}
 use Rattle.certificate.specs.Orders.{may_follow}
-use Rattle.certificate.specs.Rules.{is_odd, is_local, are_new, cut_fault, cut_wire_fault, gate_fault, use_fault, is_starred, is_time, is_edge_place, is_halo_place, is_stop_place, signal_fault, wire_fault, border_fault, border_count, border_limit, edge_fault, halo_fault, stop_fault}
-use Rattle.certificate.specs.Modules.{IsEdge, IsHalo, IsModule, IsStop}
+use Rattle.certificate.specs.Rules.{is_odd, is_local, are_new, cut_fault, cut_wire_fault, gate_fault, use_fault, keep_fault, is_starred, is_time, is_edge_place, is_halo_place, is_stop_place, signal_fault, wire_fault, border_fault, border_count, border_limit, edge_fault, halo_fault, stop_fault}
+use Rattle.certificate.specs.Modules.{IsEdge, IsHalo, IsKeep, IsModule, IsStop}
 use Rattle.certificate.specs.declared.entry.Border.{Border}
 use Rattle.certificate.specs.declared.entry.Entry.{Entry}
 use Rattle.certificate.specs.declared.entry.StopLine.{StopLine}
-use Rattle.certificate.specs.declared.entry.Entry.TheVariants.{Cut, Use, Edge, Halo, Stop}
+use Rattle.certificate.specs.declared.entry.Entry.TheVariants.{Cut, Use, Keep, Edge, Halo, Stop}
 use Rattle.certificate.proofs.Growing.{flat_push, flat_same}
-use Rattle.certificate.proofs.ModuleLemmas.{none_before, all_before, no_use_before_cut, no_edge_before_cut, no_halo_before_cut, no_stop_before_cut, no_edge_before_use, no_halo_before_use, no_stop_before_use, no_halo_before_edge, lower_uses, order_push}
+use Rattle.certificate.proofs.ModuleLemmas.{none_before, all_before, no_use_before_cut, no_keep_before_cut, no_keep_before_use, no_edge_before_cut, no_halo_before_cut, no_stop_before_cut, no_edge_before_use, no_halo_before_use, no_stop_before_use, no_halo_before_edge, lower_uses, order_push}
 use Rattle.certificate.proofs.LocalLemmas.{local_cut, local_use, local_more}
 
 -- ---- tests that a line passed
@@ -88,11 +88,17 @@ module _ (g : Setting) (m : ModuleLines) (is : IsModule g m) (n : List ℕ) (fol
   no_stops : stops m ≡ []
   no_stops = none_before stop_in (Cut n) (no_stop_before_cut n) m.lines follows
 
+  no_keeps : keeps m ≡ []
+  no_keeps = none_before keep_in (Cut n) (no_keep_before_cut n) m.lines follows
+
   abbrev more : ModuleLines
   more = with_line (Cut n) m
 
   gates_are : gates more ≡ []
   gates_are = flat_same use_in m.lines (Cut n) refl ∙ no_gates
+
+  keeps_are : keeps more ≡ []
+  keeps_are = flat_same keep_in m.lines (Cut n) refl ∙ no_keeps
 
   edges_are : edges more ≡ []
   edges_are = flat_same edge_in m.lines (Cut n) refl ∙ no_edges
@@ -128,6 +134,7 @@ module _ (g : Setting) (m : ModuleLines) (is : IsModule g m) (n : List ℕ) (fol
           named = ap length (cut_wires_cut g.circuit m n w named) ∙ length_push (cut_wires g.circuit m) w ∙ ap (λ k. k + 1) is.named ∙ sym (ap length (cuts_cut m n) ∙ length_push (cuts m) n);
           local = subst (λ gs. AreLocalLines g.circuit.netlist (cut_wires g.circuit more) gs) (sym gates_are) (subst (λ cs. AreLocalLines g.circuit.netlist cs []) (sym (cut_wires_cut g.circuit m n w named)) after);
           order = order_push m.lines (Cut n) is.order follows;
+          keep_lines = at_nil (IsKeep g (gates more)) (keeps more) keeps_are;
           few_borders = let e = ap length edges_are in let h = ap length halos_are in let s = ap length stops_are in omega (arith, e, h, s);
           edge_lines = at_nil (IsEdge g m.area (known g.circuit more)) (edges more) edges_are;
           halo_lines = at_nil (IsHalo g m.area (known g.circuit more)) (halos more) halos_are;
@@ -177,6 +184,7 @@ module _ (g : Setting) (m : ModuleLines) (k : ℕ) where
       let edges_are : edges used ≡ [] = flat_same edge_in m.lines (Use k) refl ∙ none_before edge_in (Use k) (no_edge_before_use k) m.lines follows in
       let halos_are : halos used ≡ [] = flat_same halo_in m.lines (Use k) refl ∙ none_before halo_in (Use k) (no_halo_before_use k) m.lines follows in
       let stops_are : stops used ≡ [] = flat_same stop_in m.lines (Use k) refl ∙ none_before stop_in (Use k) (no_stop_before_use k) m.lines follows in
+      let keeps_are : keeps used ≡ [] = flat_same keep_in m.lines (Use k) refl ∙ none_before keep_in (Use k) (no_keep_before_use k) m.lines follows in
       let lower = all_before use_in (Use k) (λ j. j < k) (lower_uses k) m.lines follows in
       let after = local_use g.circuit.netlist (cut_wires g.circuit m) (gates m) k good.gate is.local good.numbered lower good.ins good.outs few in
       record {
@@ -187,6 +195,7 @@ module _ (g : Setting) (m : ModuleLines) (k : ℕ) where
         named = ap length cut_wires_use ∙ is.named ∙ sym (ap length (flat_same cut_in m.lines (Use k) refl));
         local = subst (λ cs. AreLocalLines g.circuit.netlist cs (gates used)) (sym cut_wires_use) (subst (λ gs. AreLocalLines g.circuit.netlist (cut_wires g.circuit m) gs) (sym (gates_use m k)) after);
         order = order_push m.lines (Use k) is.order follows;
+        keep_lines = at_nil (IsKeep g (gates used)) (keeps used) keeps_are;
         few_borders = let e = ap length edges_are in let h = ap length halos_are in let s = ap length stops_are in omega (arith, e, h, s);
         edge_lines = at_nil (IsEdge g m.area (known g.circuit used)) (edges used) edges_are;
         halo_lines = at_nil (IsHalo g m.area (known g.circuit used)) (halos used) halos_are;
@@ -271,7 +280,7 @@ halos_halo m e = flat_push halo_in m.lines (Halo e)
 pub stops_stop : (m : ModuleLines) (s : StopLine) → stops (with_line (Stop s) m) ≡ stops m ++ s ∷ []
 stops_stop m s = flat_push stop_in m.lines (Stop s)
 
--- an edge, halo or stop line leaves the local wires
+-- a line that cuts and uses nothing leaves the local wires
 module _ (g : Setting) (m : ModuleLines) (i : Entry) (no_cut : cut_in i ≡ []) (no_use : use_in i ≡ []) where
   cuts_same : cuts (with_line i m) ≡ cuts m
   cuts_same = flat_same cut_in m.lines i no_cut
@@ -287,6 +296,44 @@ module _ (g : Setting) (m : ModuleLines) (i : Entry) (no_cut : cut_in i ≡ []) 
 
   local_same : AreLocalLines g.circuit.netlist (cut_wires g.circuit m) (gates m) → AreLocalLines g.circuit.netlist (cut_wires g.circuit (with_line i m)) (gates (with_line i m))
   local_same l = subst (λ cs. AreLocalLines g.circuit.netlist cs (gates (with_line i m))) (sym cut_wires_same) (subst (λ gs. AreLocalLines g.circuit.netlist (cut_wires g.circuit m) gs) (sym gates_same) l)
+
+  -- and the kept gates, where it keeps nothing
+  keeps_same : keep_in i ≡ [] → All (IsKeep g (gates m)) (keeps m) → All (IsKeep g (gates (with_line i m))) (keeps (with_line i m))
+  keeps_same no_keep all = subst (All (IsKeep g (gates (with_line i m)))) (sym (flat_same keep_in m.lines i no_keep)) (subst (λ gs. All (IsKeep g gs) (keeps m)) (sym gates_same) all)
+
+-- ---- a kept gate
+
+keep_good : (g : Setting) (used : List ℕ) (k : ℕ) → keep_fault g.circuit used k ≡ None → IsKeep g used k
+unfolding keep_fault
+keep_good g mine k e =
+    let parts = both_none _ _ e in
+    record { inverse = not_false _ (no_code _ 3 parts.0); among = not_false _ (no_code _ 9 parts.1) }
+
+keeps_keep : (m : ModuleLines) (k : ℕ) → keeps (with_line (Keep k) m) ≡ keeps m ++ k ∷ []
+keeps_keep m k = flat_push keep_in m.lines (Keep k)
+
+pub keep_pushed : (g : Setting) (m : ModuleLines) → IsModule g m → (k : ℕ) → may_follow m.lines (Keep k) ≡ true → keep_fault g.circuit (gates m) k ≡ None → IsModule g (with_line (Keep k) m)
+keep_pushed g m is k follows good =
+    let more = with_line (Keep k) m in
+    let here : IsKeep g (gates m) k = keep_good g (gates m) k good in
+    let edges_are : edges more ≡ edges m = flat_same edge_in m.lines (Keep k) refl in
+    let halos_are : halos more ≡ halos m = flat_same halo_in m.lines (Keep k) refl in
+    let stops_are : stops more ≡ stops m = flat_same stop_in m.lines (Keep k) refl in
+    let same = known_same g m (Keep k) refl refl in
+    record {
+      even = is.even;
+      wide = is.wide;
+      high = is.high;
+      inside = is.inside;
+      named = ap length (cut_wires_same g m (Keep k) refl refl) ∙ is.named ∙ sym (ap length (cuts_same g m (Keep k) refl refl));
+      local = local_same g m (Keep k) refl refl is.local;
+      order = order_push m.lines (Keep k) is.order follows;
+      keep_lines = subst (λ gs. All (IsKeep g gs) (keeps more)) (sym (gates_same g m (Keep k) refl refl)) (subst (All (IsKeep g (gates m))) (sym (keeps_keep m k)) (All-push (IsKeep g (gates m)) (keeps m) k is.keep_lines here));
+      few_borders = let n = ap length edges_are in let l = ap length halos_are in let s = ap length stops_are in let f = is.few_borders in omega (arith, n, l, s, f);
+      edge_lines = subst (λ l. All (IsEdge g m.area (known g.circuit more)) l) (sym edges_are) (subst (λ l. All (IsEdge g m.area l) (edges m)) (sym same) is.edge_lines);
+      halo_lines = subst (λ l. All (IsHalo g m.area (known g.circuit more)) l) (sym halos_are) (subst (λ l. All (IsHalo g m.area l) (halos m)) (sym same) is.halo_lines);
+      stop_lines = subst (λ l. All (IsStop g m.area (known g.circuit more)) l) (sym stops_are) (subst (λ l. All (IsStop g m.area l) (stops m)) (sym same) is.stop_lines);
+    }
 
 module _ (g : Setting) (m : ModuleLines) (is : IsModule g m) (e : Border) where
   pub edge_pushed : may_follow m.lines (Edge e) ≡ true → edge_fault g m e ≡ None → IsModule g (with_line (Edge e) m)
@@ -308,6 +355,7 @@ module _ (g : Setting) (m : ModuleLines) (is : IsModule g m) (e : Border) where
         named = ap length (cut_wires_same g m (Edge e) refl refl) ∙ is.named ∙ sym (ap length (cuts_same g m (Edge e) refl refl));
         local = local_same g m (Edge e) refl refl is.local;
         order = order_push m.lines (Edge e) is.order follows;
+        keep_lines = keeps_same g m (Edge e) refl refl refl is.keep_lines;
         few_borders = let f = b.few in omega (arith, n, k, q, f);
         edge_lines = subst (λ l. All (IsEdge g m.area (known g.circuit more)) l) (sym (edges_edge m e)) (subst (λ l. All (IsEdge g m.area l) (edges m ++ e ∷ [])) (sym same) (All-push (IsEdge g m.area (known g.circuit m)) (edges m) e is.edge_lines here));
         halo_lines = at_nil (IsHalo g m.area (known g.circuit more)) (halos more) halos_are;
@@ -333,6 +381,7 @@ module _ (g : Setting) (m : ModuleLines) (is : IsModule g m) (e : Border) where
         named = ap length (cut_wires_same g m (Halo e) refl refl) ∙ is.named ∙ sym (ap length (cuts_same g m (Halo e) refl refl));
         local = local_same g m (Halo e) refl refl is.local;
         order = order_push m.lines (Halo e) is.order follows;
+        keep_lines = keeps_same g m (Halo e) refl refl refl is.keep_lines;
         few_borders = let f = b.few in omega (arith, n, k, q, f);
         edge_lines = subst (λ l. All (IsEdge g m.area (known g.circuit more)) l) (sym edges_are) (subst (λ l. All (IsEdge g m.area l) (edges m)) (sym same) is.edge_lines);
         halo_lines = subst (λ l. All (IsHalo g m.area (known g.circuit more)) l) (sym (halos_halo m e)) (subst (λ l. All (IsHalo g m.area l) (halos m ++ e ∷ [])) (sym same) (All-push (IsHalo g m.area (known g.circuit m)) (halos m) e is.halo_lines here));
@@ -359,6 +408,7 @@ module _ (g : Setting) (m : ModuleLines) (is : IsModule g m) (s : StopLine) wher
         named = ap length (cut_wires_same g m (Stop s) refl refl) ∙ is.named ∙ sym (ap length (cuts_same g m (Stop s) refl refl));
         local = local_same g m (Stop s) refl refl is.local;
         order = order_push m.lines (Stop s) is.order follows;
+        keep_lines = keeps_same g m (Stop s) refl refl refl is.keep_lines;
         few_borders = let f = b.few in omega (arith, n, k, q, f);
         edge_lines = subst (λ l. All (IsEdge g m.area (known g.circuit more)) l) (sym edges_are) (subst (λ l. All (IsEdge g m.area l) (edges m)) (sym same) is.edge_lines);
         halo_lines = subst (λ l. All (IsHalo g m.area (known g.circuit more)) l) (sym halos_are) (subst (λ l. All (IsHalo g m.area l) (halos m)) (sym same) is.halo_lines);

@@ -6,7 +6,7 @@ use Rattle.module_box.specs.declared.boxes.Box2.{Box2}
 use Rattle.certificate.specs.Entries.{ModuleLines, add_line, change_last, with_line, modules_of}
 use Rattle.certificate.specs.ModuleParts.{inner, is_module}
 use Rattle.certificate.specs.declared.entry.Entry.{Entry}
-use Rattle.certificate.specs.declared.entry.Entry.TheVariants.{Module, Cut, Use, Edge, Halo, Stop}
+use Rattle.certificate.specs.declared.entry.Entry.TheVariants.{Module, Cut, Use, Keep, Edge, Halo, Stop}
 use Rattle.certificate.proofs.InnerLines.{inner_module, inner_other}
 
 -- the modules of further lines after some
@@ -25,6 +25,7 @@ unfolding add_line change_last
 before_last ms m (Module b) = append_assoc ms (m ∷ []) (record { area = b; lines = [] } ∷ [])
 before_last ms m (Cut n) = last_changed (with_line (Cut n)) ms m
 before_last ms m (Use k) = last_changed (with_line (Use k)) ms m
+before_last ms m (Keep k) = last_changed (with_line (Keep k)) ms m
 before_last ms m (Edge b) = last_changed (with_line (Edge b)) ms m
 before_last ms m (Halo b) = last_changed (with_line (Halo b)) ms m
 before_last ms m (Stop s) = last_changed (with_line (Stop s)) ms m
@@ -42,6 +43,7 @@ apart_after (Module b) es h ms m =
     ap (λ ns. ms ++ ns) (sym (h (m ∷ []) (record { area = b; lines = [] })))
 apart_after (Cut n) es h ms m = h ms (with_line (Cut n) m)
 apart_after (Use k) es h ms m = h ms (with_line (Use k) m)
+apart_after (Keep k) es h ms m = h ms (with_line (Keep k) m)
 apart_after (Edge b) es h ms m = h ms (with_line (Edge b) m)
 apart_after (Halo b) es h ms m = h ms (with_line (Halo b) m)
 apart_after (Stop s) es h ms m = h ms (with_line (Stop s) m)
@@ -60,6 +62,7 @@ unfolding modules_of add_line change_last
 other_first (Module b) es h = absurd cc
 other_first (Cut n) es h = refl
 other_first (Use k) es h = refl
+other_first (Keep k) es h = refl
 other_first (Edge b) es h = refl
 other_first (Halo b) es h = refl
 other_first (Stop s) es h = refl
@@ -90,6 +93,7 @@ extends_step (Module b) es h m =
     ap (λ xs. record m { lines = xs } ∷ modules_of (Module b ∷ es)) (sym (ap (λ xs. m.lines ++ xs) (inner_module (Module b) es refl) ∙ append-nil m.lines))
 extends_step (Cut n) es h m = extends_more m (Cut n) es refl h
 extends_step (Use k) es h m = extends_more m (Use k) es refl h
+extends_step (Keep k) es h m = extends_more m (Keep k) es refl h
 extends_step (Edge b) es h m = extends_more m (Edge b) es refl h
 extends_step (Halo b) es h m = extends_more m (Halo b) es refl h
 extends_step (Stop s) es h m = extends_more m (Stop s) es refl h
@@ -110,6 +114,7 @@ pub no_module : (e : Entry) → ((b : Box2) → e ≡ Module b → ⊥) → is_m
 no_module (Module b) h = absurd (h b refl)
 no_module (Cut n) h = refl
 no_module (Use k) h = refl
+no_module (Keep k) h = refl
 no_module (Edge b) h = refl
 no_module (Halo b) h = refl
 no_module (Stop s) h = refl

@@ -7,7 +7,7 @@ use Rattle.std.proofs.lemmas.Bool.{and_parts}
 use Rattle.std.proofs.lemmas.Cmp.{then_total, on_total, nat_cmp_total}
 use Rattle.module_box.proofs.Rising.{cell_total}
 use Rattle.certificate.specs.declared.entry.Entry.{Entry}
-use Rattle.certificate.specs.declared.entry.Entry.TheVariants.{Module, Cut, Use, Edge, Halo, Stop}
+use Rattle.certificate.specs.declared.entry.Entry.TheVariants.{Module, Cut, Use, Keep, Edge, Halo, Stop}
 use Rattle.certificate.specs.Entries.{last_of}
 use Rattle.certificate.specs.Orders.{AreInOrder, rank_of, number_of, cell_of, line_cmp, is_cut, may_precede, may_follow}
 use Rattle.certificate.proofs.Lists.{or_parts, or_right}
@@ -31,6 +31,7 @@ unfolding is_cut
 cut_is (Module b) h = absurd cc
 cut_is (Cut n) h = record { name = n; same = refl }
 cut_is (Use k) h = absurd cc
+cut_is (Keep k) h = absurd cc
 cut_is (Edge e) h = absurd cc
 cut_is (Halo e) h = absurd cc
 cut_is (Stop s) h = absurd cc

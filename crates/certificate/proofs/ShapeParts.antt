@@ -40,6 +40,7 @@ shape_placed x y wires gates s =
       edges = edges i;
       halos = halos i;
       stops = stops i;
+      kept = s.kept;
     }
 
 pub placed_shape : (j : JobState) → placed j.area.x j.area.y j.locals.circuit_wires j.locals.circuit_gates (shape_of j) ≡ j
@@ -58,6 +59,7 @@ placed_shape j =
       edges = edges i;
       halos = halos i;
       stops = stops i;
+      kept = j.kept;
     }
 
 pub shapes_are_parts : ShapesAreParts

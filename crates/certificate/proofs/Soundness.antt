@@ -21,12 +21,12 @@ use Rattle.certificate.specs.Grammars.{certificate_grammar}
 use Rattle.certificate.specs.Modules.{IsModule, HasPorts, AreModules}
 use Rattle.certificate.specs.BuilderView.{AreSound}
 use Rattle.certificate.specs.declared.entry.Entry.{Entry}
-use Rattle.certificate.specs.declared.entry.Entry.TheVariants.{Module, Cut, Use, Edge, Halo, Stop}
+use Rattle.certificate.specs.declared.entry.Entry.TheVariants.{Module, Cut, Use, Keep, Edge, Halo, Stop}
 use Rattle.certificate.proofs.BuiltLemmas.{good_module, line_sound, module_sound, sound_none, or_false, last_is}
 use Rattle.certificate.proofs.Growing.{modules_push}
 use Rattle.certificate.proofs.Keeping.{good_line, IsGoodLine}
 use Rattle.certificate.proofs.Lists.{any_at, or_parts, passed, some_is}
-use Rattle.certificate.proofs.ModulePushes.{no_code, new_wire, good_use, cut_pushed, use_pushed, edge_pushed, halo_pushed, stop_pushed}
+use Rattle.certificate.proofs.ModulePushes.{no_code, new_wire, good_use, cut_pushed, use_pushed, keep_pushed, edge_pushed, halo_pushed, stop_pushed}
 use Rattle.certificate.proofs.PortLemmas.{cell_same, in_box_cells}
 
 module _ (g : Setting) (es : List Entry) (sound : AreSound g (modules_of es)) where
@@ -48,6 +48,9 @@ module _ (g : Setting) (es : List Entry) (sound : AreSound g (modules_of es)) wh
       let good = good_line g es (Use k) e in
       let words = good_use g.circuit _ _ k good.words in
       inner_sound (Use k) refl good (λ is. use_pushed g good.module_lines k is good.follows words.0 words.1)
+  sound_push (Keep k) e =
+      let good = good_line g es (Keep k) e in
+      inner_sound (Keep k) refl good (λ is. keep_pushed g good.module_lines is k good.follows good.words)
   sound_push (Edge d) e =
       let good = good_line g es (Edge d) e in
       inner_sound (Edge d) refl good (λ is. edge_pushed g good.module_lines is d good.follows good.words)

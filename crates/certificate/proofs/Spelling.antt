@@ -16,7 +16,7 @@ use Rattle.pattern.specs.Forms.{cell_from}
 use Rattle.pattern.specs.Text.{coordinate}
 use Rattle.certificate.specs.declared.entry.Border.{Border}
 use Rattle.certificate.specs.declared.entry.StopLine.{StopLine}
-use Rattle.certificate.specs.declared.entry.Entry.TheVariants.{Module, Cut, Use, Edge, Halo, Stop}
+use Rattle.certificate.specs.declared.entry.Entry.TheVariants.{Module, Cut, Use, Keep, Edge, Halo, Stop}
 use Rattle.certificate.specs.Forms.{Line, corner_and_sides, area_of, time_at, signal_at, timed_cell, border_of, timed_wire, stop_of, form_of}
 use Rattle.certificate.specs.Text.{area_words, time_word, signal_word, border_words, stop_words, form_text}
 
@@ -103,6 +103,7 @@ first_of (Header version) = codes "certificate"
 first_of (Item (Module b)) = codes "module"
 first_of (Item (Cut n)) = codes "cut"
 first_of (Item (Use k)) = codes "use"
+first_of (Item (Keep k)) = codes "keep"
 first_of (Item (Edge b)) = codes "edge"
 first_of (Item (Halo b)) = codes "halo"
 first_of (Item (Stop s)) = codes "stop"
@@ -113,6 +114,7 @@ others_of (Header version) = decimal version ∷ []
 others_of (Item (Module b)) = area_words b
 others_of (Item (Cut n)) = n ∷ []
 others_of (Item (Use k)) = decimal k ∷ []
+others_of (Item (Keep k)) = decimal k ∷ []
 others_of (Item (Edge b)) = border_words b
 others_of (Item (Halo b)) = border_words b
 others_of (Item (Stop s)) = stop_words s
@@ -134,14 +136,17 @@ form_words ws f e =
             | inl r ↦ option_and_then_some (λ n. Some (Item (Cut n))) (lone_name ws) f r.1 (λ n found made. subst (SpelledAs ws) (same_Some (Item (Cut n)) f made) (name_spelled ws (codes "cut") n r.0 found))
             | inr r ↦ elim (chosen (is_word_at ws 0 (codes "use")) _ _ (Some f) r.1) [
               | inl s ↦ option_and_then_some (λ k. Some (Item (Use k))) (lone_number ws) f s.1 (λ k found made. subst (SpelledAs ws) (same_Some (Item (Use k)) f made) (number_spelled ws (codes "use") k s.0 found))
-              | inr s ↦ elim (chosen (is_word_at ws 0 (codes "module")) _ _ (Some f) s.1) [
-                | inl t ↦ option_and_then_some (λ b. Some (Item (Module b))) (area_of ws) f t.1 (λ b found made. subst (SpelledAs ws) (same_Some (Item (Module b)) f made) (area_spelled ws (codes "module") b t.0 found))
-                | inr t ↦ elim (chosen (is_word_at ws 0 (codes "certificate")) _ _ (Some f) t.1) [
-                  | inl u ↦ option_and_then_some (λ v. Some (Header v)) (lone_number ws) f u.1 (λ v found made. subst (SpelledAs ws) (same_Some (Header v) f made) (number_spelled ws (codes "certificate") v u.0 found))
-                  | inr u ↦
-                      let at_end = passed (is_word_at ws 0 (codes "end")) (lone ws End) f u.1 in
-                      let alone = passed (eqb (length ws) 1) (Some End) f at_end.1 in
-                      subst (SpelledAs ws) (same_Some End f alone.1) (one_word ws (codes "end") (eqb-true _ _ alone.0) (is_at_is ws 0 (codes "end") at_end.0))
+              | inr s ↦ elim (chosen (is_word_at ws 0 (codes "keep")) _ _ (Some f) s.1) [
+                | inl k ↦ option_and_then_some (λ n. Some (Item (Keep n))) (lone_number ws) f k.1 (λ n found made. subst (SpelledAs ws) (same_Some (Item (Keep n)) f made) (number_spelled ws (codes "keep") n k.0 found))
+                | inr k ↦ elim (chosen (is_word_at ws 0 (codes "module")) _ _ (Some f) k.1) [
+                  | inl t ↦ option_and_then_some (λ b. Some (Item (Module b))) (area_of ws) f t.1 (λ b found made. subst (SpelledAs ws) (same_Some (Item (Module b)) f made) (area_spelled ws (codes "module") b t.0 found))
+                  | inr t ↦ elim (chosen (is_word_at ws 0 (codes "certificate")) _ _ (Some f) t.1) [
+                    | inl u ↦ option_and_then_some (λ v. Some (Header v)) (lone_number ws) f u.1 (λ v found made. subst (SpelledAs ws) (same_Some (Header v) f made) (number_spelled ws (codes "certificate") v u.0 found))
+                    | inr u ↦
+                        let at_end = passed (is_word_at ws 0 (codes "end")) (lone ws End) f u.1 in
+                        let alone = passed (eqb (length ws) 1) (Some End) f at_end.1 in
+                        subst (SpelledAs ws) (same_Some End f alone.1) (one_word ws (codes "end") (eqb-true _ _ alone.0) (is_at_is ws 0 (codes "end") at_end.0))
+                  ]
                 ]
               ]
             ]
@@ -156,6 +161,7 @@ form_line l (Header v) e = ap ended_line (line_from_words l (codes "certificate"
 form_line l (Item (Module b)) e = ap ended_line (line_from_words l (codes "module") (area_words b) (form_words (words_of l) (Item (Module b)) e))
 form_line l (Item (Cut n)) e = ap ended_line (line_from_words l (codes "cut") (n ∷ []) (form_words (words_of l) (Item (Cut n)) e))
 form_line l (Item (Use k)) e = ap ended_line (line_from_words l (codes "use") (decimal k ∷ []) (form_words (words_of l) (Item (Use k)) e))
+form_line l (Item (Keep k)) e = ap ended_line (line_from_words l (codes "keep") (decimal k ∷ []) (form_words (words_of l) (Item (Keep k)) e))
 form_line l (Item (Edge b)) e = ap ended_line (line_from_words l (codes "edge") (border_words b) (form_words (words_of l) (Item (Edge b)) e))
 form_line l (Item (Halo b)) e = ap ended_line (line_from_words l (codes "halo") (border_words b) (form_words (words_of l) (Item (Halo b)) e))
 form_line l (Item (Stop s)) e = ap ended_line (line_from_words l (codes "stop") (stop_words s) (form_words (words_of l) (Item (Stop s)) e))

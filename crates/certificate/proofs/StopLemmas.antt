@@ -18,7 +18,7 @@ use Rattle.certificate.specs.Rules.{is_local}
 use Rattle.certificate.specs.Signals.{renumber_stop}
 use Rattle.certificate.specs.StopLists.{AreStops}
 use Rattle.certificate.specs.declared.entry.Entry.{Entry}
-use Rattle.certificate.specs.declared.entry.Entry.TheVariants.{Module, Cut, Use, Edge, Halo, Stop}
+use Rattle.certificate.specs.declared.entry.Entry.TheVariants.{Module, Cut, Use, Keep, Edge, Halo, Stop}
 use Rattle.certificate.specs.declared.entry.StopLine.{StopLine}
 use Rattle.certificate.specs.declared.job.Stop as listed
 use Rattle.certificate.proofs.BorderOrder.{is_less, pairs_of_order}
@@ -67,6 +67,7 @@ unfolding Each
 stop_first s (Module b) h = tt
 stop_first s (Cut n) h = tt
 stop_first s (Use k) h = tt
+stop_first s (Keep k) h = tt
 stop_first s (Edge e) h = tt
 stop_first s (Halo e) h = tt
 stop_first s (Stop t) h = (stop_before s t h, tt)
@@ -76,6 +77,7 @@ unfolding Each
 stops_between (Module b) = tt
 stops_between (Cut n) = tt
 stops_between (Use k) = tt
+stops_between (Keep k) = tt
 stops_between (Edge e) = tt
 stops_between (Halo e) = tt
 stops_between (Stop s) = (stop_first s, tt)
@@ -85,6 +87,7 @@ unfolding Each Pairs
 stop_alone (Module b) = tt
 stop_alone (Cut n) = tt
 stop_alone (Use k) = tt
+stop_alone (Keep k) = tt
 stop_alone (Edge e) = tt
 stop_alone (Halo e) = tt
 stop_alone (Stop s) = (tt, tt)

@@ -11,7 +11,7 @@ use Rattle.std.proofs.lemmas.Nat.{from_le_bytes-to_le_bytes_2, from_le_bytes-to_
 use Rattle.module_box.specs.Numbers.{AreTelling, counted, netlist_numbers}
 use Rattle.module_box.specs.declared.schedules.Signal.{Signal}
 use Rattle.module_box.specs.declared.schedules.Signal.TheVariants.{Zero, One, Wire}
-use Rattle.module_box.proofs.Telling.{counted_tell, netlists_tell, same_head, same_length, same_tail}
+use Rattle.module_box.proofs.Telling.{counted_tell, listed, lists_tell, netlists_tell, same_head, same_length, same_tail}
 use Rattle.certificate.specs.Keys.{BytesTellNumbers, NumbersTellShapes, cell_numbers, demand_number, demand_numbers, event_numbers, held_numbers, integer_number, number_bytes, shape_numbers, signal_number, signal_numbers, signals_numbers, stop_numbers}
 use Rattle.certificate.specs.Shapes.{ShapeState}
 use Rattle.certificate.specs.declared.job.Demand.{Demand}
@@ -92,10 +92,11 @@ signals_tell a b r s e =
     (λ i. record { held = held.0 i; events = events.0 i }, events.1)
 
 -- ---- shapes
-in_turn : (a b c d e f g r : List ℕ) → a ++ b ++ c ++ d ++ e ++ f ++ g ++ r ≡ a ++ (b ++ (c ++ (d ++ (e ++ (f ++ (g ++ r))))))
-in_turn a b c d e f g r =
-    append_assoc (a ++ b ++ c ++ d ++ e ++ f) g r ∙ append_assoc (a ++ b ++ c ++ d ++ e) f (g ++ r) ∙ append_assoc (a ++ b ++ c ++ d) e (f ++ (g ++ r))
-    ∙ append_assoc (a ++ b ++ c) d (e ++ (f ++ (g ++ r))) ∙ append_assoc (a ++ b) c (d ++ (e ++ (f ++ (g ++ r)))) ∙ append_assoc a b (c ++ (d ++ (e ++ (f ++ (g ++ r)))))
+in_turn : (a b c d e f g h r : List ℕ) → a ++ b ++ c ++ d ++ e ++ f ++ g ++ h ++ r ≡ a ++ (b ++ (c ++ (d ++ (e ++ (f ++ (g ++ (h ++ r)))))))
+in_turn a b c d e f g h r =
+    append_assoc (a ++ b ++ c ++ d ++ e ++ f ++ g) h r ∙ append_assoc (a ++ b ++ c ++ d ++ e ++ f) g (h ++ r) ∙ append_assoc (a ++ b ++ c ++ d ++ e) f (g ++ (h ++ r))
+    ∙ append_assoc (a ++ b ++ c ++ d) e (f ++ (g ++ (h ++ r))) ∙ append_assoc (a ++ b ++ c) d (e ++ (f ++ (g ++ (h ++ r)))) ∙ append_assoc (a ++ b) c (d ++ (e ++ (f ++ (g ++ (h ++ r)))))
+    ∙ append_assoc a b (c ++ (d ++ (e ++ (f ++ (g ++ (h ++ r))))))
 
 abbrev sides : ShapeState → List ℕ
 sides s = s.width ∷ s.height ∷ s.steps ∷ []
@@ -112,15 +113,16 @@ stops s = counted stop_numbers s.stops
 pub shapes_tell : NumbersTellShapes
 unfolding shape_numbers
 shapes_tell a b r s e =
-    let apart = in_turn (netlist_numbers a.netlist) (sides a) (starts a) (demands a) (signals_numbers a.edges) (signals_numbers a.halos) (stops a) r in
-    let apart' = in_turn (netlist_numbers b.netlist) (sides b) (starts b) (demands b) (signals_numbers b.edges) (signals_numbers b.halos) (stops b) s in
+    let apart = in_turn (netlist_numbers a.netlist) (sides a) (starts a) (demands a) (signals_numbers a.edges) (signals_numbers a.halos) (stops a) (listed a.kept) r in
+    let apart' = in_turn (netlist_numbers b.netlist) (sides b) (starts b) (demands b) (signals_numbers b.edges) (signals_numbers b.halos) (stops b) (listed b.kept) s in
     let net = netlists_tell a.netlist b.netlist _ _ (sym apart ∙ e ∙ apart') in
     let three = same_length (sides a) (sides b) _ _ refl net.1 in
     let start = counted_tell signal_numbers (one_tells signal_number signal_told) a.starts b.starts _ _ three.1 in
     let demand = counted_tell demand_numbers (one_tells demand_number demand_told) a.demands b.demands _ _ start.1 in
     let edges = signals_tell a.edges b.edges _ _ demand.1 in
     let halos = signals_tell a.halos b.halos _ _ edges.1 in
-    let stop = counted_tell stop_numbers stops_tell a.stops b.stops r s halos.1 in
+    let stop = counted_tell stop_numbers stops_tell a.stops b.stops _ _ halos.1 in
+    let kept = lists_tell a.kept b.kept r s stop.1 in
     let height = same_tail a.width b.width _ _ three.0 in
     let steps = same_tail a.height b.height _ _ height in (
       λ i. record {
@@ -133,8 +135,9 @@ shapes_tell a b r s e =
         edges = edges.0 i;
         halos = halos.0 i;
         stops = stop.0 i;
+        kept = kept.0 i;
       },
-      stop.1,
+      kept.1,
     )
 
 -- ---- bytes

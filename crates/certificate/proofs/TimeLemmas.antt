@@ -16,7 +16,7 @@ use Rattle.certificate.specs.declared.times.Choice.{Choice}
 use Rattle.certificate.specs.declared.times.Choice.TheVariants.{First, Last}
 use Rattle.certificate.specs.declared.entry.StopLine.{StopLine}
 use Rattle.certificate.specs.declared.entry.Entry.{Entry}
-use Rattle.certificate.specs.declared.entry.Entry.TheVariants.{Module, Cut, Use, Edge, Halo, Stop}
+use Rattle.certificate.specs.declared.entry.Entry.TheVariants.{Module, Cut, Use, Keep, Edge, Halo, Stop}
 use Rattle.certificate.specs.declared.times.TimeLine.{TimeLine}
 use Rattle.certificate.proofs.InnerLines.{inner_module, inner_other}
 use Rattle.certificate.proofs.ModuleSplit.{split_module, split_other}
@@ -36,6 +36,7 @@ splits_step (Module b) es h =
     h ∙ ap all_stops (sym (split_module b es)) ∙ ap (λ xs. flat_map stop_in xs ++ all_stops (modules_of (Module b ∷ es))) (sym (inner_module (Module b) es refl))
 splits_step (Cut n) es h = splits_other (Cut n) es refl h
 splits_step (Use k) es h = splits_other (Use k) es refl h
+splits_step (Keep k) es h = splits_other (Keep k) es refl h
 splits_step (Edge e) es h = splits_other (Edge e) es refl h
 splits_step (Halo e) es h = splits_other (Halo e) es refl h
 splits_step (Stop s) es h = splits_other (Stop s) es refl h
@@ -55,6 +56,7 @@ starts_with_module g v [] good = refl
 starts_with_module g v (Module b ∷ es) good = refl
 starts_with_module g v (Cut n ∷ es) good = absurd (let first = good.0 in cc)
 starts_with_module g v (Use k ∷ es) good = absurd (let first = good.0 in cc)
+starts_with_module g v (Keep k ∷ es) good = absurd (let first = good.0 in cc)
 starts_with_module g v (Edge e ∷ es) good = absurd (let first = good.0 in cc)
 starts_with_module g v (Halo e ∷ es) good = absurd (let first = good.0 in cc)
 starts_with_module g v (Stop s ∷ es) good = absurd (let first = good.0 in cc)
@@ -74,6 +76,7 @@ begins_step (Module b) es h =
     ∙ ap (λ xs. flat_map stop_in xs ++ all_stops (modules_of (Module b ∷ es))) (inner_module (Module b) es refl)
 begins_step (Cut n) es h = begins_other (Cut n) es refl h
 begins_step (Use k) es h = begins_other (Use k) es refl h
+begins_step (Keep k) es h = begins_other (Keep k) es refl h
 begins_step (Edge e) es h = begins_other (Edge e) es refl h
 begins_step (Halo e) es h = begins_other (Halo e) es refl h
 begins_step (Stop s) es h = begins_other (Stop s) es refl h
@@ -116,6 +119,7 @@ length_step : (e : Entry) (es : List Entry) → length (inner es) ≤ length es 
 length_step (Module b) es h = let n = ap length (inner_module (Module b) es refl) in omega (arith, n)
 length_step (Cut n) es h = length_other (Cut n) es refl h
 length_step (Use k) es h = length_other (Use k) es refl h
+length_step (Keep k) es h = length_other (Keep k) es refl h
 length_step (Edge e) es h = length_other (Edge e) es refl h
 length_step (Halo e) es h = length_other (Halo e) es refl h
 length_step (Stop s) es h = length_other (Stop s) es refl h

@@ -12,7 +12,7 @@ use Rattle.certificate.specs.Rules.{in_boxes, is_starred, same_cell, lacks_port}
 use Rattle.certificate.specs.Modules.{IsModule}
 use Rattle.certificate.specs.declared.entry.Counts.{Counts}
 use Rattle.certificate.specs.declared.entry.Entry.{Entry}
-use Rattle.certificate.specs.declared.entry.Entry.TheVariants.{Module, Cut, Use, Edge, Halo, Stop}
+use Rattle.certificate.specs.declared.entry.Entry.TheVariants.{Module, Cut, Use, Keep, Edge, Halo, Stop}
 use Rattle.certificate.specs.declared.builder.Builder.TheInside.{Inside}
 
 -- what the certificate is for, and the lines so far
@@ -68,6 +68,7 @@ unfoldable pub counted : Entry → Counts → Counts
 counted (Module b) k = k
 counted (Cut n) k = record k { cuts = k.cuts + 1 }
 counted (Use g) k = record k { gates = k.gates + 1 }
+counted (Keep g) k = k
 counted (Edge e) k = record k { edges = k.edges + 1 }
 counted (Halo e) k = record k { halos = k.halos + 1 }
 counted (Stop s) k = record k { stops = k.stops + 1 }
@@ -83,6 +84,7 @@ abbrev pub IsInner : Entry → Type 0
 IsInner (Module b) = ⊥
 IsInner (Cut n) = Unit {0}
 IsInner (Use k) = Unit {0}
+IsInner (Keep k) = Unit {0}
 IsInner (Edge e) = Unit {0}
 IsInner (Halo e) = Unit {0}
 IsInner (Stop s) = Unit {0}

@@ -11,7 +11,7 @@ use Rattle.certificate.specs.declared.entry.Border.{Border}
 use Rattle.certificate.specs.declared.entry.Counts.{Counts}
 use Rattle.certificate.specs.declared.entry.Entry.{Entry}
 use Rattle.certificate.specs.declared.entry.StopLine.{StopLine}
-use Rattle.certificate.specs.declared.entry.Entry.TheVariants.{Module, Cut, Use, Edge, Halo, Stop}
+use Rattle.certificate.specs.declared.entry.Entry.TheVariants.{Module, Cut, Use, Keep, Edge, Halo, Stop}
 
 -- what a certificate is for: a circuit, and of a layout its size and its ports
 pub record Setting : Type 0 where
@@ -44,6 +44,7 @@ unfoldable pub add_line : List ModuleLines → Entry → List ModuleLines
 add_line ms (Module b) = ms ++ record { area = b; lines = [] } ∷ []
 add_line ms (Cut n) = change_last (with_line (Cut n)) ms
 add_line ms (Use k) = change_last (with_line (Use k)) ms
+add_line ms (Keep k) = change_last (with_line (Keep k)) ms
 add_line ms (Edge e) = change_last (with_line (Edge e)) ms
 add_line ms (Halo e) = change_last (with_line (Halo e)) ms
 add_line ms (Stop s) = change_last (with_line (Stop s)) ms
@@ -65,6 +66,7 @@ abbrev pub cut_in : Entry → List (List ℕ)
 cut_in (Module b) = []
 cut_in (Cut n) = n ∷ []
 cut_in (Use k) = []
+cut_in (Keep k) = []
 cut_in (Edge e) = []
 cut_in (Halo e) = []
 cut_in (Stop s) = []
@@ -73,6 +75,7 @@ abbrev pub use_in : Entry → List ℕ
 use_in (Module b) = []
 use_in (Cut n) = []
 use_in (Use k) = k ∷ []
+use_in (Keep k) = []
 use_in (Edge e) = []
 use_in (Halo e) = []
 use_in (Stop s) = []
@@ -81,6 +84,7 @@ abbrev pub edge_in : Entry → List Border
 edge_in (Module b) = []
 edge_in (Cut n) = []
 edge_in (Use k) = []
+edge_in (Keep k) = []
 edge_in (Edge e) = e ∷ []
 edge_in (Halo e) = []
 edge_in (Stop s) = []
@@ -89,6 +93,7 @@ abbrev pub halo_in : Entry → List Border
 halo_in (Module b) = []
 halo_in (Cut n) = []
 halo_in (Use k) = []
+halo_in (Keep k) = []
 halo_in (Edge e) = []
 halo_in (Halo e) = e ∷ []
 halo_in (Stop s) = []
@@ -97,9 +102,19 @@ abbrev pub stop_in : Entry → List StopLine
 stop_in (Module b) = []
 stop_in (Cut n) = []
 stop_in (Use k) = []
+stop_in (Keep k) = []
 stop_in (Edge e) = []
 stop_in (Halo e) = []
 stop_in (Stop s) = s ∷ []
+
+abbrev pub keep_in : Entry → List ℕ
+keep_in (Module b) = []
+keep_in (Cut n) = []
+keep_in (Use k) = []
+keep_in (Keep k) = k ∷ []
+keep_in (Edge e) = []
+keep_in (Halo e) = []
+keep_in (Stop s) = []
 
 -- the names of the wires that are cut
 abbrev pub cuts : ModuleLines → List (List ℕ)
@@ -108,6 +123,10 @@ cuts m = flat_map cut_in m.lines
 -- the numbers of the gates that are used
 abbrev pub gates : ModuleLines → List ℕ
 gates m = flat_map use_in m.lines
+
+-- the numbers of the gates that are kept
+abbrev pub keeps : ModuleLines → List ℕ
+keeps m = flat_map keep_in m.lines
 
 abbrev pub edges : ModuleLines → List Border
 edges m = flat_map edge_in m.lines
@@ -118,7 +137,7 @@ halos m = flat_map halo_in m.lines
 abbrev pub stops : ModuleLines → List StopLine
 stops m = flat_map stop_in m.lines
 
--- how many lines of each kind a module has, and its box
+-- how many lines of each kind a module has, and its box; the lines that keep gates are not counted
 abbrev pub counts_of : ModuleLines → Counts
 counts_of m = record {
   area = m.area;

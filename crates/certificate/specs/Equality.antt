@@ -33,7 +33,7 @@ same_demand = eq_of_both (on demand_place nat_eq) (on wire_asked (option_eq nat_
 abbrev pub same_stop : Stop → Stop → Bool
 same_stop = eq_of_both (on (λ s. s.at.time) nat_eq) (eq_of_both (on (λ s. s.at.cell) same_cell) (on (λ s. s.wire) nat_eq))
 
--- box and steps; wires and gates; starts and demands; edges and halos; stops
+-- box and steps; wires and gates; starts and demands; edges and halos; stops and kept gates
 abbrev pub same_job : JobState → JobState → Bool
 same_job =
     eq_of_both (eq_of_both (eq_of_both (eq_of_both
@@ -41,9 +41,9 @@ same_job =
     (on (λ j. j.locals) same_locals))
     (eq_of_both (on (λ j. j.starts) (pointwise same_signal)) (on (λ j. j.demands) (pointwise same_demand))))
     (eq_of_both (on (λ j. j.edges) same_signals) (on (λ j. j.halos) same_signals)))
-    (on (λ j. j.stops) (pointwise same_stop))
+    (eq_of_both (on (λ j. j.stops) (pointwise same_stop)) (on (λ j. j.kept) (pointwise nat_eq)))
 
--- sides and steps; gates; starts and demands; edges and halos; stops
+-- sides and steps; gates; starts and demands; edges and halos; stops and kept gates
 abbrev pub same_shape : ShapeState → ShapeState → Bool
 same_shape =
     eq_of_both (eq_of_both (eq_of_both (eq_of_both
@@ -51,7 +51,7 @@ same_shape =
     (on (λ s. s.netlist) same_netlist))
     (eq_of_both (on (λ s. s.starts) (pointwise same_signal)) (on (λ s. s.demands) (pointwise same_demand))))
     (eq_of_both (on (λ s. s.edges) same_signals) (on (λ s. s.halos) same_signals)))
-    (on (λ s. s.stops) (pointwise same_stop))
+    (eq_of_both (on (λ s. s.stops) (pointwise same_stop)) (on (λ s. s.kept) (pointwise nat_eq)))
 
 -- these tests are equivalences
 box_equivalence : IsEquivalence same_box
@@ -71,7 +71,7 @@ job_equivalence =
     (on_equiv (λ j. j.locals) locals_equivalence))
     (and_equiv (on_equiv (λ j. j.starts) (lists_equiv signal_equivalence)) (on_equiv (λ j. j.demands) (lists_equiv demand_equivalence))))
     (and_equiv (on_equiv (λ j. j.edges) signals_equivalence) (on_equiv (λ j. j.halos) signals_equivalence)))
-    (on_equiv (λ j. j.stops) (lists_equiv stop_equivalence))
+    (and_equiv (on_equiv (λ j. j.stops) (lists_equiv stop_equivalence)) (on_equiv (λ j. j.kept) (lists_equiv nat_eq_equiv)))
 
 pub shape_equivalence : IsEquivalence same_shape
 shape_equivalence =
@@ -80,4 +80,4 @@ shape_equivalence =
     (on_equiv (λ s. s.netlist) netlist_equivalence))
     (and_equiv (on_equiv (λ s. s.starts) (lists_equiv signal_equivalence)) (on_equiv (λ s. s.demands) (lists_equiv demand_equivalence))))
     (and_equiv (on_equiv (λ s. s.edges) signals_equivalence) (on_equiv (λ s. s.halos) signals_equivalence)))
-    (on_equiv (λ s. s.stops) (lists_equiv stop_equivalence))
+    (and_equiv (on_equiv (λ s. s.stops) (lists_equiv stop_equivalence)) (on_equiv (λ s. s.kept) (lists_equiv nat_eq_equiv)))

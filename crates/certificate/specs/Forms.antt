@@ -6,7 +6,7 @@ use Rattle.section_text.specs.declared.section.Form.TheVariants.{Header, Item, E
 use Rattle.pattern.specs.Forms.{cell_from}
 use Rattle.module_box.specs.declared.boxes.Box2.{Box2}
 use Rattle.certificate.specs.declared.entry.Entry.{Entry}
-use Rattle.certificate.specs.declared.entry.Entry.TheVariants.{Module, Cut, Use, Edge, Halo, Stop}
+use Rattle.certificate.specs.declared.entry.Entry.TheVariants.{Module, Cut, Use, Keep, Edge, Halo, Stop}
 use Rattle.certificate.specs.declared.entry.Border.{Border}
 use Rattle.certificate.specs.declared.entry.StopLine.{StopLine}
 
@@ -63,6 +63,7 @@ form_of ws =
     else if is_word_at ws 0 (codes "stop") then (stop_of ws >>= λ s. Some (Item (Stop s)))
     else if is_word_at ws 0 (codes "cut") then (lone_name ws >>= λ n. Some (Item (Cut n)))
     else if is_word_at ws 0 (codes "use") then (lone_number ws >>= λ k. Some (Item (Use k)))
+    else if is_word_at ws 0 (codes "keep") then (lone_number ws >>= λ k. Some (Item (Keep k)))
     else if is_word_at ws 0 (codes "module") then (area_of ws >>= λ b. Some (Item (Module b)))
     else if is_word_at ws 0 (codes "certificate") then (lone_number ws >>= λ v. Some (Header v))
     else if is_word_at ws 0 (codes "end") then lone ws End

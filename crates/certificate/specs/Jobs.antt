@@ -7,7 +7,7 @@ use Rattle.circuit.specs.Meaning.{Circuit, wire_of, wires}
 use Rattle.pattern.specs.Layout.{Pattern, in_cells, in_rectangles}
 use Rattle.pattern.specs.declared.parts.Port.{Port}
 use Rattle.module_box.specs.Boxes.{in_box, IsEven}
-use Rattle.module_box.specs.Locals.{LocalNet, AreLocalsOf, circuit_wire}
+use Rattle.module_box.specs.Locals.{LocalNet, AreLocalsOf, circuit_gate, circuit_wire}
 use Rattle.module_box.specs.Moments.{moment_cmp}
 use Rattle.module_box.specs.Schedules.{Signals, IsRising}
 use Rattle.module_box.specs.declared.boxes.Box2.{Box2}
@@ -16,7 +16,7 @@ use Rattle.module_box.specs.declared.schedules.Held.{Held}
 use Rattle.module_box.specs.declared.schedules.Moment.{Moment}
 use Rattle.module_box.specs.declared.schedules.Signal.{Signal}
 use Rattle.module_box.specs.declared.schedules.Signal.TheVariants.{Zero, One, Wire}
-use Rattle.certificate.specs.Entries.{ModuleLines, cuts, gates, edges, halos, stops, known}
+use Rattle.certificate.specs.Entries.{ModuleLines, cuts, gates, keeps, edges, halos, stops, known}
 use Rattle.certificate.specs.Signals.{IsBelow, IsDemandBelow, renumber_signal, renumber_demand, renumber_signals, renumber_stop}
 use Rattle.certificate.specs.declared.entry.Border.{Border}
 use Rattle.certificate.specs.declared.entry.StopLine.{StopLine}
@@ -25,7 +25,8 @@ use Rattle.certificate.specs.declared.job.Demand.TheVariants as Demanded
 use Rattle.certificate.specs.declared.job.Stop.{Stop}
 
 -- Box and steps; the module's wires and gates by numbers of its own; what each cell of the box carries at time 0, and what it
--- is to be at the last time, row by row; what the cells of ring and halo carry at odd times; and its stops.
+-- is to be at the last time, row by row; what the cells of ring and halo carry at odd times; its stops; and the gates that it keeps,
+-- by their places among those that it uses.
 pub record JobState : Type 0 where
   pub area : Box2
   pub steps : ℕ
@@ -35,6 +36,7 @@ pub record JobState : Type 0 where
   pub edges : Signals
   pub halos : Signals
   pub stops : List Stop
+  pub kept : List ℕ
 
 -- the place of the cell (x, y) of a box, whose cells are counted row by row
 abbrev pub place_in : Box2 → ℤ → ℤ → ℕ
@@ -157,6 +159,8 @@ pub record IsJobOf (c : Circuit) (p : Pattern) (m : ModuleLines) (j : JobState) 
   pub stops : map (renumber_stop (circuit_wire j.locals)) j.stops ≡ line_stops c (stops m)
   -- it names no wires but its own
   pub own : NamesOwnWires j
+  pub kept : map (circuit_gate j.locals) j.kept ≡ keeps m
+  pub kept_are_used : All (λ k. k < length j.locals.netlist.gates) j.kept
 
 -- the jobs of modules, one for each
 pub record AreJobsOf (c : Circuit) (p : Pattern) (ms : List ModuleLines) (js : List JobState) : Type 0 where

@@ -1,5 +1,5 @@
 -- The numbers of a shape, which tell it, and its key
-use Rattle.std.specs.Prelude.{◌≡◌, ℕ, ℤ, pos, negsuc, ◌+◌, ◌*◌, ◌^◌, ◌<◌, nat_lt, if◌then◌else◌, List, [], ◌∷◌, ◌++◌}
+use Rattle.std.specs.Prelude.{◌≡◌, ℕ, ℤ, pos, negsuc, ◌+◌, ◌*◌, ◌^◌, ◌<◌, nat_lt, if◌then◌else◌, List, [], ◌∷◌, ◌++◌, length}
 use Rattle.std.specs.List.{All, flat_map}
 use Rattle.std.specs.Int.{to_le_bytes, w16, w64}
 use Rattle.sha2.specs.Sha256.{sha256}
@@ -52,12 +52,12 @@ stop_numbers s = (s.at.time ∷ cell_numbers s.at.cell) ++ s.wire ∷ []
 abbrev pub signals_numbers : Signals → List ℕ
 signals_numbers s = counted held_numbers s.held ++ counted event_numbers s.events
 
--- gates, sides and steps, starts, demands, edges, halos and stops: all of the shape
+-- gates, sides and steps, starts, demands, edges, halos, stops and kept gates: all of the shape
 unfoldable pub shape_numbers : ShapeState → List ℕ
 shape_numbers s =
     netlist_numbers s.netlist ++ (s.width ∷ s.height ∷ s.steps ∷ [])
     ++ counted signal_numbers s.starts ++ counted demand_numbers s.demands
-    ++ signals_numbers s.edges ++ signals_numbers s.halos ++ counted stop_numbers s.stops
+    ++ signals_numbers s.edges ++ signals_numbers s.halos ++ counted stop_numbers s.stops ++ (length s.kept ∷ s.kept)
 
 -- A number below 2 ^ 64: one byte, or two or eight behind a byte that says so
 abbrev pub number_bytes : ℕ → List ℕ

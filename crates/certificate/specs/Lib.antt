@@ -1,4 +1,5 @@
 pub mod Entries
+pub mod Keeps
 pub mod Orders
 pub mod Rules
 pub mod Forms

@@ -1,12 +1,13 @@
 -- The lines of one module
 use Rattle.std.specs.Prelude.{Bool, true, false, if◌then◌else◌, List, [], ◌∷◌}
 use Rattle.certificate.specs.declared.entry.Entry.{Entry}
-use Rattle.certificate.specs.declared.entry.Entry.TheVariants.{Module, Cut, Use, Edge, Halo, Stop}
+use Rattle.certificate.specs.declared.entry.Entry.TheVariants.{Module, Cut, Use, Keep, Edge, Halo, Stop}
 
 abbrev pub is_module : Entry → Bool
 is_module (Module b) = true
 is_module (Cut n) = false
 is_module (Use k) = false
+is_module (Keep k) = false
 is_module (Edge e) = false
 is_module (Halo e) = false
 is_module (Stop s) = false

@@ -2,13 +2,13 @@
 use Rattle.std.specs.Prelude.{◌≡◌, ℕ, ◌<◌, ◌≤◌, ◌%◌, List, length, Some, slice_get, IsTrue, IsFalse, IfSome}
 use Rattle.std.specs.List.{All}
 use Rattle.module_box.specs.Boxes.{in_box, in_ring, in_halo, IsEven, Tile}
-use Rattle.module_box.specs.Locals.{AreLocalLines}
+use Rattle.module_box.specs.Locals.{AreLocalLines, is_among}
 use Rattle.module_box.specs.Tiling.{IsInside}
 use Rattle.module_box.specs.declared.boxes.Box2.{Box2}
 use Rattle.pattern.specs.declared.parts.Port.{Port}
-use Rattle.certificate.specs.Entries.{Setting, ModuleLines, areas, cuts, gates, edges, halos, stops, cut_wires, known}
+use Rattle.certificate.specs.Entries.{Setting, ModuleLines, areas, cuts, gates, keeps, edges, halos, stops, cut_wires, known}
 use Rattle.certificate.specs.Orders.{AreInOrder}
-use Rattle.certificate.specs.Rules.{whole, is_local, border_count, border_limit}
+use Rattle.certificate.specs.Rules.{whole, is_local, is_inverse_gate, border_count, border_limit}
 use Rattle.certificate.specs.declared.entry.Border.{Border}
 use Rattle.certificate.specs.declared.entry.StopLine.{StopLine}
 
@@ -35,8 +35,14 @@ pub record IsStop (g : Setting) (area : Box2) (local : List ℕ) (s : StopLine) 
   pub inside : IsTrue (in_box area s.cell.x s.cell.y)
   pub wire : IsTrue (is_local g.circuit local s.wire)
 
+-- a kept gate is an inverse gate, and it is one of those that are used
+pub record IsKeep (g : Setting) (used : List ℕ) (k : ℕ) : Type 0 where
+  pub inverse : IsTrue (is_inverse_gate (slice_get g.circuit.netlist.gates k))
+  pub among : IsTrue (is_among used k)
+
 -- A module: its box is even, has sides of 2 to 64 and lies inside the rectangle. Its cuts and used gates make wires local one
--- after the other. Its lines are in order, and its edge, halo and stop lines stand where they may and name local wires.
+-- after the other. Its lines are in order, it keeps inverse gates that it uses, and its edge, halo and stop lines stand where they may and
+-- name local wires.
 pub record IsModule (g : Setting) (m : ModuleLines) : Type 0 where
   pub even : IsEven m.area
   pub wide : (2 ≤ m.area.w) × (m.area.w ≤ 64)
@@ -46,6 +52,7 @@ pub record IsModule (g : Setting) (m : ModuleLines) : Type 0 where
   pub named : length (cut_wires g.circuit m) ≡ length (cuts m)
   pub local : AreLocalLines g.circuit.netlist (cut_wires g.circuit m) (gates m)
   pub order : AreInOrder m.lines
+  pub keep_lines : All (IsKeep g (gates m)) (keeps m)
   pub few_borders : border_count m ≤ border_limit
   pub edge_lines : All (IsEdge g m.area (known g.circuit m)) (edges m)
   pub halo_lines : All (IsHalo g m.area (known g.circuit m)) (halos m)

@@ -6,16 +6,17 @@ use Rattle.std.specs.Ordering.{nat_cmp, ordering_then, is_lt}
 use Rattle.bbm_rule.specs.declared.block.Cell.{Cell}
 use Rattle.module_box.specs.Moments.{cell_cmp}
 use Rattle.certificate.specs.declared.entry.Entry.{Entry}
-use Rattle.certificate.specs.declared.entry.Entry.TheVariants.{Module, Cut, Use, Edge, Halo, Stop}
+use Rattle.certificate.specs.declared.entry.Entry.TheVariants.{Module, Cut, Use, Keep, Edge, Halo, Stop}
 
 -- the order of the kinds of line
 unfoldable pub rank_of : Entry → ℕ
 rank_of (Module b) = 0
 rank_of (Cut n) = 1
 rank_of (Use k) = 2
-rank_of (Edge e) = 3
-rank_of (Halo e) = 4
-rank_of (Stop s) = 5
+rank_of (Keep k) = 3
+rank_of (Edge e) = 4
+rank_of (Halo e) = 5
+rank_of (Stop s) = 6
 
 -- a `*` comes before all times
 abbrev pub time_rank : Option ℕ → ℕ
@@ -27,6 +28,7 @@ unfoldable pub number_of : Entry → ℕ
 number_of (Module b) = 0
 number_of (Cut n) = 0
 number_of (Use k) = k
+number_of (Keep k) = k
 number_of (Edge e) = time_rank e.time
 number_of (Halo e) = time_rank e.time
 number_of (Stop s) = s.time
@@ -39,6 +41,7 @@ unfoldable pub cell_of : Entry → Cell
 cell_of (Module b) = origin
 cell_of (Cut n) = origin
 cell_of (Use k) = origin
+cell_of (Keep k) = origin
 cell_of (Edge e) = e.cell
 cell_of (Halo e) = e.cell
 cell_of (Stop s) = s.cell
@@ -53,6 +56,7 @@ unfoldable pub is_cut : Entry → Bool
 is_cut (Module b) = false
 is_cut (Cut n) = true
 is_cut (Use k) = false
+is_cut (Keep k) = false
 is_cut (Edge e) = false
 is_cut (Halo e) = false
 is_cut (Stop s) = false

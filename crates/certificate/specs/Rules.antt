@@ -5,6 +5,7 @@ use Rattle.std.specs.Ordering.{int_eq}
 use Rattle.bbm_rule.specs.Plane.{State}
 use Rattle.bbm_rule.specs.declared.block.Cell.{Cell}
 use Rattle.section_text.specs.Codes.{code_where, defined_twice, misplaced_box, no_place, not_local, or_else, out_of_order, past_limit, something_missing, unknown_name}
+use Rattle.circuit.specs.Gates.{is_inverse}
 use Rattle.circuit.specs.Meaning.{Circuit, Gate, wire_of}
 use Rattle.pattern.specs.Layout.{rectangle_cells}
 use Rattle.pattern.specs.declared.parts.Extent.{Extent}
@@ -15,7 +16,7 @@ use Rattle.module_box.specs.declared.boxes.Box2.{Box2}
 use Rattle.certificate.specs.declared.entry.Border.{Border}
 use Rattle.certificate.specs.declared.entry.Entry.{Entry}
 use Rattle.certificate.specs.declared.entry.StopLine.{StopLine}
-use Rattle.certificate.specs.declared.entry.Entry.TheVariants.{Module, Cut, Use, Edge, Halo, Stop}
+use Rattle.certificate.specs.declared.entry.Entry.TheVariants.{Module, Cut, Use, Keep, Edge, Halo, Stop}
 use Rattle.certificate.specs.Entries.{Setting, ModuleLines, modules_of, present, areas, cuts, gates, edges, halos, stops, known}
 use Rattle.certificate.specs.Orders.{may_follow}
 
@@ -100,6 +101,17 @@ gate_fault local (Some gate) =
 unfoldable pub use_fault : Circuit → ℕ → List ℕ → ℕ → Option ℕ
 use_fault c count local k = or_else (code_where (nat_le use_limit count) past_limit) (gate_fault local (slice_get c.netlist.gates k))
 
+-- ---- a kept gate, where these gates are used: 3, 9
+
+abbrev pub is_inverse_gate : Option Gate → Bool
+is_inverse_gate None = false
+is_inverse_gate (Some gate) = is_inverse gate.kind
+
+-- it is the number of an inverse gate, and the module uses that gate
+unfoldable pub keep_fault : Circuit → List ℕ → ℕ → Option ℕ
+keep_fault c used k =
+    or_else (code_where (not (is_inverse_gate (slice_get c.netlist.gates k))) unknown_name) (code_where (not (is_among used k)) not_local)
+
 -- ---- an edge, halo or stop line: 2, 10, 3, 9
 
 abbrev pub is_star : Option ℕ → Bool
@@ -166,6 +178,7 @@ abbrev pub words_fault : Setting → ModuleLines → Entry → Option ℕ
 words_fault g m (Module b) = None
 words_fault g m (Cut n) = cut_fault g.circuit (length (cuts m)) (known g.circuit m) n
 words_fault g m (Use k) = use_fault g.circuit (length (gates m)) (known g.circuit m) k
+words_fault g m (Keep k) = keep_fault g.circuit (gates m) k
 words_fault g m (Edge e) = edge_fault g m e
 words_fault g m (Halo e) = halo_fault g m e
 words_fault g m (Stop s) = stop_fault g m s
@@ -184,6 +197,7 @@ unfoldable pub entry_fault : Setting → List Entry → Entry → Option ℕ
 entry_fault g before (Module b) = module_fault g (modules_of before) (present before) b
 entry_fault g before (Cut n) = inner_fault g (present before) (Cut n)
 entry_fault g before (Use k) = inner_fault g (present before) (Use k)
+entry_fault g before (Keep k) = inner_fault g (present before) (Keep k)
 entry_fault g before (Edge e) = inner_fault g (present before) (Edge e)
 entry_fault g before (Halo e) = inner_fault g (present before) (Halo e)
 entry_fault g before (Stop s) = inner_fault g (present before) (Stop s)

@@ -13,4 +13,5 @@ shape_state a = record {
   edges = a.edges;
   halos = a.halos;
   stops = a.stops.items;
+  kept = a.kept.items;
 }

@@ -11,7 +11,7 @@ use Rattle.certificate.specs.declared.job.Stop.{Stop}
 
 -- All of a job but where its box lies and which wires and gates of the circuit its own are: the box's sides, the steps, the gates
 -- over wires of its own, what its cells carry at time 0 and are to be at the last time, row by row, and what the cells of ring and
--- halo carry, and its stops, where the box's corner is at (0, 0)
+-- halo carry, its stops, and the gates that it keeps by their places, where the box's corner is at (0, 0)
 pub record ShapeState : Type 0 where
   pub width : ℕ
   pub height : ℕ
@@ -22,6 +22,7 @@ pub record ShapeState : Type 0 where
   pub edges : Signals
   pub halos : Signals
   pub stops : List Stop
+  pub kept : List ℕ
 
 abbrev pub moved_stop : ℤ → ℤ → Stop → Stop
 moved_stop dx dy s = record { at = record { time = s.at.time; cell = moved_cell dx dy s.at.cell }; wire = s.wire }
@@ -49,6 +50,7 @@ placed x y wires gates s = record {
   edges = moved_signals (pos x) (pos y) s.edges;
   halos = moved_signals (pos x) (pos y) s.halos;
   stops = map (moved_stop (pos x) (pos y)) s.stops;
+  kept = s.kept;
 }
 
 -- the shape of a job
@@ -63,4 +65,5 @@ shape_of j = record {
   edges = moved_signals (back j.area.x) (back j.area.y) j.edges;
   halos = moved_signals (back j.area.x) (back j.area.y) j.halos;
   stops = map (moved_stop (back j.area.x) (back j.area.y)) j.stops;
+  kept = j.kept;
 }

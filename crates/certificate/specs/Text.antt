@@ -9,7 +9,7 @@ use Rattle.module_box.specs.declared.boxes.Box2.{Box2}
 use Rattle.certificate.specs.declared.entry.Border.{Border}
 use Rattle.certificate.specs.declared.entry.Entry.{Entry}
 use Rattle.certificate.specs.declared.entry.StopLine.{StopLine}
-use Rattle.certificate.specs.declared.entry.Entry.TheVariants.{Module, Cut, Use, Edge, Halo, Stop}
+use Rattle.certificate.specs.declared.entry.Entry.TheVariants.{Module, Cut, Use, Keep, Edge, Halo, Stop}
 use Rattle.certificate.specs.Forms.{Line}
 use Rattle.certificate.specs.Grammars.{CertState}
 
@@ -36,6 +36,7 @@ abbrev pub entry_text : Entry → List ℕ
 entry_text (Module b) = line_text (codes "module") (area_words b)
 entry_text (Cut name) = line_text (codes "cut") (name ∷ [])
 entry_text (Use number) = line_text (codes "use") (decimal number ∷ [])
+entry_text (Keep number) = line_text (codes "keep") (decimal number ∷ [])
 entry_text (Edge e) = line_text (codes "edge") (border_words e)
 entry_text (Halo e) = line_text (codes "halo") (border_words e)
 entry_text (Stop s) = line_text (codes "stop") (stop_words s)

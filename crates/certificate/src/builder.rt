@@ -14,8 +14,8 @@ use crate::entry::{Counts, Entry};
 use crate::known::{learn_line, make_room_for_wires};
 use crate::order::does_follow;
 use crate::rules::{
-    border_code, cut_code, is_bad_place, is_bad_side, is_local_name, may_be_edge, may_be_halo,
-    may_be_stop, use_code,
+    border_code, cut_code, is_bad_place, is_bad_side, is_local_name, keep_code, may_be_edge,
+    may_be_halo, may_be_stop, use_code,
 };
 use crate::site::Site;
 use crate::stars::{has_star, make_room_for_stars, note_stars};
@@ -104,6 +104,7 @@ impl<'a> Builder<'a> {
             Entry::Module(_) => None,
             Entry::Cut(name) => cut_code(&self.site, counts.cuts, &self.known, name),
             Entry::Use(number) => use_code(&self.site, counts.gates, &self.known, *number),
+            Entry::Keep(number) => keep_code(&self.site, self.entries.as_slice(), *number),
             Entry::Edge(border) => {
                 let starred = has_star(&self.edges, border.cell);
                 let placed = may_be_edge(size, counts.area, starred, border);

@@ -3,7 +3,7 @@ ghost use Rattle.std.specs.Prelude.{◌≡◌, ◌<◌, ◌≤◌, [], length, m
 ghost use Rattle.circuit.specs.Entries.{defined};
 ghost use Rattle.pattern.specs.Layout.{parts_of};
 ghost use Rattle.circuit.specs.Bridge.{input_names, netlist_of};
-ghost use Rattle.circuit.specs.Meaning.{AreForward, AreOrdered};
+ghost use Rattle.circuit.specs.Meaning.{AreOrdered};
 ghost use Rattle.pattern.specs.Lines.{AreGoodAfter, size_fault};
 ghost use Rattle.certificate.specs.Entries.{counts_of, modules_of};
 ghost use Rattle.certificate.specs.Grammars.{setting_of};
@@ -68,12 +68,11 @@ impl<'a> Cert<'a> {
     /// module rise, and what they use is local before them. Its edge lines are in its ring and not on the rectangle's rim, its
     /// halo lines in its halo and inside the rectangle; their times are odd and below the steps, their wires are local, and
     /// they are in order. So are the wires of the ports in its box. Each gate of the circuit uses wires that are defined before
-    /// it, and has its row at every input; the inputs are the circuit's first wires.
+    /// it; the inputs are the circuit's first wires.
     pub fn modules(&self) -> usize
         ensures count { result ≡ length (modules_of self.now.entries) }
         ensures good { AreModules (setting_of self.now.circuit self.now.layout) (modules_of self.now.entries) }
         ensures ordered { AreOrdered (netlist_of self.now.circuit).given (netlist_of self.now.circuit).gates }
-        ensures forward { AreForward (netlist_of self.now.circuit).gates }
         ensures inputs { take (netlist_of self.now.circuit).given (defined self.now.circuit) ≡ input_names self.now.circuit }
     {
         let _gates = self.circuit.gates();

@@ -19,6 +19,7 @@ fn count_line(counts: Counts, entry: &Entry) -> Counts
         Entry::Module(_) => {}
         Entry::Cut(_) => counts.cuts += 1,
         Entry::Use(_) => counts.gates += 1,
+        Entry::Keep(_) => {}
         Entry::Edge(_) => counts.edges += 1,
         Entry::Halo(_) => counts.halos += 1,
         Entry::Stop(_) => counts.stops += 1,

@@ -31,6 +31,8 @@ pub enum Entry {
     Cut(Name),
     /// The number of a gate whose outputs the module works out.
     Use(u32),
+    /// The number of an inverse gate whose domain the module answers for.
+    Keep(u32),
     /// What a cell of the box's ring carries.
     Edge(Border),
     /// What a cell of the box's halo carries.
@@ -39,7 +41,7 @@ pub enum Entry {
     Stop(StopLine),
 }
 
-/// A module's box, and how many lines of each kind the module has.
+/// A module's box, and how many lines of each kind the module has. Those that keep gates are not counted.
 #[derive(Clone, Copy, Debug, PartialEq, Eq)]
 pub struct Counts {
     pub area: Box2,

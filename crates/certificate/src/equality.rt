@@ -21,7 +21,8 @@ impl PartialEq for Shape {
         let edges = self.edges == other.edges;
         let halos = self.halos == other.halos;
         let stops = self.stops == other.stops;
-        width & height & steps & wiring & (starts & demands) & (edges & halos) & stops
+        let kept = self.kept == other.kept;
+        width & height & steps & wiring & (starts & demands) & (edges & halos) & (stops & kept)
     }
 }
 

@@ -133,6 +133,8 @@ pub(crate) fn line_form(feed: &Feed, line: &Line) -> Option<Form<u32, Entry>>
         Some(Form::Item(Entry::Cut(feed.lone_name(line)?)))
     } else if feed.is(line, 0, b"use") {
         Some(Form::Item(Entry::Use(feed.lone_number(line)?)))
+    } else if feed.is(line, 0, b"keep") {
+        Some(Form::Item(Entry::Keep(feed.lone_number(line)?)))
     } else if feed.is(line, 0, b"module") {
         Some(Form::Item(Entry::Module(area_in(feed, line)?)))
     } else if feed.is(line, 0, b"certificate") {

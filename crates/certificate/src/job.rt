@@ -2,7 +2,7 @@
 ghost use Rattle.std.specs.Prelude.{◌≡◌, ◌<◌, ◌≤◌, pos, length, slice_get, Some};
 ghost use Rattle.std.specs.Arc.{arc_value};
 ghost use Rattle.circuit.specs.Meaning.{wires};
-ghost use Rattle.module_box.specs.Locals.{circuit_wire};
+ghost use Rattle.module_box.specs.Locals.{circuit_gate, circuit_wire, is_among};
 ghost use Rattle.module_box.specs.Moves.{IsNear, IsSmall};
 ghost use Rattle.module_box.specs.Schedules.{signal_at};
 ghost use Rattle.certificate.specs.Jobs.{IsJob, job_demand, job_start};
@@ -39,8 +39,8 @@ pub struct Stop {
 }
 
 /// All that the run of a module by itself needs: its box, the steps, the wires and gates that it knows, what the cells of the box
-/// carry at time 0 and what they are to be at the last time, what the cells of ring and halo carry at odd times, and its stops. Contracts
-/// see it as a `JobState`; each wire that it names is one of its own.
+/// carry at time 0 and what they are to be at the last time, what the cells of ring and halo carry at odd times, its stops, and the
+/// gates that it keeps. Contracts see it as a `JobState`; each wire that it names is one of its own.
 // It is kept as the corner of its box, the circuit's numbers of its wires and gates, and its shape, in which the corner is (0, 0).
 #[derive(Drop)]
 pub struct Job {
@@ -125,6 +125,16 @@ impl Job {
         match self.wires.get_index(number as usize) {
             Some(wire) => WireNo::of(*wire),
             None => unreachable!(),
+        }
+    }
+
+    /// The number in the circuit of the used gate at this place, for a place below the count of those, and else 0.
+    pub fn gate_number(&self, place: usize) -> u16
+        ensures { result ≡ circuit_gate self.now.locals place }
+    {
+        match self.gates.get(place) {
+            Some(gate) => gate.number(),
+            None => 0,
         }
     }
 
@@ -216,5 +226,12 @@ impl Job {
     {
         let stop = self.shape.stops()[place];
         moved_stop(stop, forth(self.x), forth(self.y))
+    }
+
+    /// Whether the module keeps the gate at this place among those that it uses.
+    pub fn keeps(&self, place: u16) -> bool
+        ensures { result ≡ is_among self.now.kept place }
+    {
+        self.shape.keeps(place)
     }
 }

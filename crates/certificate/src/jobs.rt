@@ -1,13 +1,13 @@
 //! The jobs of a certificate.
-ghost use Rattle.std.specs.Prelude.{◌≡◌, ◌+◌, ◌≤◌, IfOk, IsTrue, length, map};
+ghost use Rattle.std.specs.Prelude.{◌≡◌, ◌+◌, ◌<◌, ◌≤◌, IfOk, IsTrue, length, map, slice_index};
 ghost use Rattle.std.specs.Arc.{arc_value};
 ghost use Rattle.std.specs.List.{All, flat_map};
 ghost use Rattle.std.specs.Option.{option_to_list};
 ghost use Rattle.circuit.specs.Bridge.{circuit_of, netlist_of};
 ghost use Rattle.circuit.specs.Meaning.{wire_of, wires};
-ghost use Rattle.module_box.specs.Locals.{AreLocalLines, AreLocalsOf, circuit_wire, local_wires};
+ghost use Rattle.module_box.specs.Locals.{AreLocalLines, AreLocalsOf, circuit_wire, is_among, local_wires};
 ghost use Rattle.module_box.specs.Moves.{IsNear};
-ghost use Rattle.certificate.specs.Entries.{cut_in, modules_of, stop_in, use_in};
+ghost use Rattle.certificate.specs.Entries.{cut_in, keep_in, modules_of, stop_in, use_in};
 ghost use Rattle.certificate.specs.Grammars.{setting_of};
 ghost use Rattle.certificate.specs.Jobs.{AreJobsOf, IsJobOf, line_signals};
 ghost use Rattle.certificate.specs.Modules.{AreModules, HasPorts, IsModule};
@@ -21,7 +21,7 @@ ghost use Rattle.certificate.specs.Timetables.{IsLow, IsNamedLocal, borders_in};
 use crate::cert::Cert;
 use crate::entry::Entry;
 use crate::job::{Job, Stop, back};
-use crate::lines::{cut_list, inner_lines, used_gates};
+use crate::lines::{cut_list, inner_lines, kept_places, used_gates};
 use crate::plan::Plan;
 use crate::shape::Shape;
 use crate::stops::{moved_stops, stops_of};
@@ -31,19 +31,29 @@ use module_box::{Box2, Locals, Schedule};
 use std::alloc::{AllocError, Global};
 use std::sync::Arc;
 
-// The wires and gates that a module's lines name.
-fn named_locals(alloc: Global, circuit: &Circuit, lines: &[Entry]) -> Result<Locals, AllocError>
-    requires { AreLocalLines (netlist_of circuit.now) (flat_map (λ n. option_to_list (wire_of (circuit_of circuit.now) n)) (flat_map cut_in lines.now)) (flat_map use_in lines.now) }
-    ensures locals { IfOk result (λ l. AreLocalsOf (netlist_of circuit.now) l) }
-    ensures wires { IfOk result (λ l. l.circuit_wires ≡ local_wires (netlist_of circuit.now) (flat_map (λ n. option_to_list (wire_of (circuit_of circuit.now) n)) (flat_map cut_in lines.now)) (flat_map use_in lines.now)) }
-    ensures gates { IfOk result (λ l. l.circuit_gates ≡ flat_map use_in lines.now) }
-    ensures given { IfOk result (λ l. l.netlist.given ≡ length (flat_map (λ n. option_to_list (wire_of (circuit_of circuit.now) n)) (flat_map cut_in lines.now))) }
+// The wires and gates that a module's lines name, and the gates that they keep, by their places among the used ones.
+fn named_locals(
+    alloc: Global,
+    circuit: &Circuit,
+    lines: &[Entry],
+) -> Result<(Locals, Vec<u16>), AllocError>
+    requires lines { AreLocalLines (netlist_of circuit.now) (flat_map (λ n. option_to_list (wire_of (circuit_of circuit.now) n)) (flat_map cut_in lines.now)) (flat_map use_in lines.now) }
+    requires kept { All (λ k. IsTrue (is_among (flat_map use_in lines.now) k)) (flat_map keep_in lines.now) }
+    ensures locals { IfOk result (λ l. AreLocalsOf (netlist_of circuit.now) l.0) }
+    ensures wires { IfOk result (λ l. l.0.circuit_wires ≡ local_wires (netlist_of circuit.now) (flat_map (λ n. option_to_list (wire_of (circuit_of circuit.now) n)) (flat_map cut_in lines.now)) (flat_map use_in lines.now)) }
+    ensures gates { IfOk result (λ l. l.0.circuit_gates ≡ flat_map use_in lines.now) }
+    ensures count { IfOk result (λ l. length l.0.netlist.gates ≡ length (flat_map use_in lines.now)) }
+    ensures given { IfOk result (λ l. l.0.netlist.given ≡ length (flat_map (λ n. option_to_list (wire_of (circuit_of circuit.now) n)) (flat_map cut_in lines.now))) }
+    ensures kept { IfOk result (λ l. map (slice_index (flat_map use_in lines.now)) l.1.items ≡ flat_map keep_in lines.now) }
+    ensures within { IfOk result (λ l. All (λ k. k < length (flat_map use_in lines.now)) l.1.items) }
 {
     // A circuit has at most 1024 gates, so their numbers fit.
     let _gate_count = circuit.gates();
     let cuts = cut_list(alloc, circuit, lines)?;
     let gates = used_gates(alloc, lines)?;
-    Locals::new(alloc, circuit, cuts.as_slice(), gates.as_slice())
+    let kept = kept_places(alloc, gates.as_slice(), lines)?;
+    let locals = Locals::new(alloc, circuit, cuts.as_slice(), gates.as_slice())?;
+    Ok((locals, kept))
 }
 
 // The signals of a module's lines about cells of its ring or of its halo, where the corner of its box is at (0, 0).
@@ -122,7 +132,7 @@ fn make_job(alloc: Global, plan: &Plan, area: Box2, lines: &[Entry]) -> Result<J
 {
     let circuit = plan.circuit();
     let size = plan.layout().size();
-    let locals = named_locals(alloc, circuit, lines)?;
+    let (locals, kept) = named_locals(alloc, circuit, lines)?;
     let (starts, demands) = plan.cell_lists(alloc, area, &locals)?;
     let (edges, halos) = schedules(alloc, circuit, &locals, area, lines)?;
     let stops = own_stops(alloc, circuit, &locals, area, lines)?;
@@ -137,6 +147,7 @@ fn make_job(alloc: Global, plan: &Plan, area: Box2, lines: &[Entry]) -> Result<J
         edges,
         halos,
         stops,
+        kept,
     };
     Ok(Job {
         x: area.x,

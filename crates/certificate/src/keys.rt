@@ -1,5 +1,5 @@
 //! The numbers of shapes, which tell them, and their keys.
-ghost use Rattle.std.specs.Prelude.{◌≡◌, ◌^◌, ◌<◌, ◌++◌, [], ◌∷◌, IfOk, OnOk};
+ghost use Rattle.std.specs.Prelude.{◌≡◌, ◌^◌, ◌<◌, ◌++◌, [], ◌∷◌, length, IfOk, OnOk};
 ghost use Rattle.std.specs.List.{All, flat_map};
 ghost use Rattle.module_box.specs.Numbers.{counted};
 ghost use Rattle.certificate.specs.Keys.{cell_numbers, demand_number, demand_numbers, event_numbers, held_numbers, integer_number, number_bytes, shape_key, shape_numbers, signal_number, signal_numbers, signals_numbers, stop_numbers};
@@ -121,6 +121,17 @@ fn push_stops(numbers: &mut Vec<u64>, stops: &[Stop]) -> Result<(), AllocError>
     Ok(())
 }
 
+// Adds how many gates are kept, and then their places.
+fn push_kept(numbers: &mut Vec<u64>, kept: &[u16]) -> Result<(), AllocError>
+    ensures { OnOk result (numbers.new.items ≡ numbers.old.items ++ length kept.now ∷ kept.now) }
+{
+    numbers.push(kept.len() as u64)?;
+    for place in kept {
+        numbers.push(*place as u64)?;
+    }
+    Ok(())
+}
+
 fn push_schedule(numbers: &mut Vec<u64>, schedule: &Schedule) -> Result<(), AllocError>
     ensures { OnOk result (numbers.new.items ≡ numbers.old.items ++ signals_numbers schedule.now) }
 {
@@ -184,6 +195,7 @@ impl Shape {
         push_schedule(&mut numbers, &self.halos)?;
         numbers.push(self.stops.len() as u64)?;
         push_stops(&mut numbers, &self.stops)?;
+        push_kept(&mut numbers, &self.kept)?;
         Ok(numbers)
     }
 

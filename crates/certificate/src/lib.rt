@@ -15,6 +15,7 @@ mod form;
 mod groups;
 mod job;
 mod jobs;
+mod kept;
 mod keys;
 mod known;
 pub mod laws;

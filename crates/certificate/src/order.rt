@@ -17,9 +17,10 @@ fn rank(entry: &Entry) -> u8
         Entry::Module(_) => 0,
         Entry::Cut(_) => 1,
         Entry::Use(_) => 2,
-        Entry::Edge(_) => 3,
-        Entry::Halo(_) => 4,
-        Entry::Stop(_) => 5,
+        Entry::Keep(_) => 3,
+        Entry::Edge(_) => 4,
+        Entry::Halo(_) => 5,
+        Entry::Stop(_) => 6,
     }
 }
 
@@ -42,6 +43,7 @@ fn number(entry: &Entry) -> u64
         Entry::Module(_) => 0,
         Entry::Cut(_) => 0,
         Entry::Use(gate) => u64::from(*gate),
+        Entry::Keep(gate) => u64::from(*gate),
         Entry::Edge(border) => rank_of_time(border.time),
         Entry::Halo(border) => rank_of_time(border.time),
         Entry::Stop(stop) => u64::from(stop.time),
@@ -60,6 +62,7 @@ fn cell(entry: &Entry) -> Cell
         Entry::Module(_) => Cell { x: 0, y: 0 },
         Entry::Cut(_) => Cell { x: 0, y: 0 },
         Entry::Use(_) => Cell { x: 0, y: 0 },
+        Entry::Keep(_) => Cell { x: 0, y: 0 },
     }
 }
 

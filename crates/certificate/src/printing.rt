@@ -51,6 +51,15 @@ fn print_use(alloc: Global, out: &mut Vec<u8>, number: u32) -> Result<(), AllocE
     Ok(())
 }
 
+fn print_keep(alloc: Global, out: &mut Vec<u8>, number: u32) -> Result<(), AllocError>
+    ensures { OnOk result (out.new.items ≡ out.old.items ++ line_text (codes "keep") (decimal number ∷ [])) }
+{
+    out.extend_from_slice(b"keep")?;
+    print_number(alloc, out, number)?;
+    out.push(b'\n')?;
+    Ok(())
+}
+
 // A time, or `*` for every odd time.
 fn print_time(alloc: Global, out: &mut Vec<u8>, time: Option<u32>) -> Result<(), AllocError>
     ensures { OnOk result (out.new.items ≡ out.old.items ++ spaced (time_word time)) }
@@ -105,6 +114,7 @@ fn print_entry(alloc: Global, out: &mut Vec<u8>, entry: &Entry) -> Result<(), Al
         Entry::Module(area) => print_module(alloc, out, *area),
         Entry::Cut(name) => print_cut(out, *name),
         Entry::Use(number) => print_use(alloc, out, *number),
+        Entry::Keep(number) => print_keep(alloc, out, *number),
         Entry::Edge(border) => print_border(alloc, out, b"edge", border),
         Entry::Halo(border) => print_border(alloc, out, b"halo", border),
         Entry::Stop(stop) => print_stop(alloc, out, stop),

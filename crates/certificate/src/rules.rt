@@ -1,13 +1,15 @@
 //! The tests of a line of a module, after its order.
-ghost use Rattle.std.specs.Prelude.{◌≡◌, ◌+◌, ◌≤◌};
+ghost use Rattle.std.specs.Prelude.{◌≡◌, ◌+◌, ◌≤◌, Some};
 ghost use Rattle.std.specs.List.{list_all};
 ghost use Rattle.circuit.specs.Meaning.{wire_of};
 ghost use Rattle.circuit.specs.Wiring.{gate_of};
 ghost use Rattle.module_box.specs.Locals.{is_among};
-ghost use Rattle.certificate.specs.Rules.{is_wrong_side, is_misplaced, is_odd, whole, is_local, is_local_wire, are_new, cut_fault, cut_wire_fault, gate_fault, use_fault, is_time, is_edge_place, is_halo_place, is_stop_place, signal_fault, wire_fault, border_fault};
+ghost use Rattle.certificate.specs.Entries.{ModuleLines, gates, present};
+ghost use Rattle.certificate.specs.Rules.{is_wrong_side, is_misplaced, is_odd, whole, is_local, is_local_wire, are_new, cut_fault, cut_wire_fault, gate_fault, use_fault, keep_fault, is_time, is_edge_place, is_halo_place, is_stop_place, signal_fault, wire_fault, border_fault};
 
-use crate::entry::{Border, StopLine};
+use crate::entry::{Border, Entry, StopLine};
 use crate::known::{are_all_new, knows, knows_all};
+use crate::lines::is_used;
 use crate::site::Site;
 use crate::tiles::whole_of;
 use indexmap::IndexSet;
@@ -88,6 +90,20 @@ pub(crate) fn use_code(site: &Site, count: usize, known: &IndexSet<u16>, number:
     }
     if !are_all_new(known, gate.outs()) {
         return Some(4);
+    }
+    None
+}
+
+/// The code of a kept gate, where these are the lines before it.
+#[tactic(auto, unfolding(crate::specs::Rules::keep_fault))]
+pub(crate) fn keep_code(site: &Site, entries: &[Entry], number: u32) -> Option<u8>
+    ensures { (m : ModuleLines) → present entries.now ≡ Some m → result ≡ keep_fault site.now.circuit (gates m) number }
+{
+    if !site.is_inverse(number) {
+        return Some(3);
+    }
+    if !is_used(entries, number) {
+        return Some(9);
     }
     None
 }

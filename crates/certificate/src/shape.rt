@@ -1,5 +1,6 @@
 //! The shape of a job: all of it but where it lies.
 ghost use Rattle.std.specs.Prelude.{◌≡◌, slice_get, unwrap_or};
+ghost use Rattle.module_box.specs.Locals.{is_among};
 
 use crate::job::{Demand, Stop};
 use module_box::{Schedule, Signal, Wiring};
@@ -18,6 +19,8 @@ pub struct Shape {
     pub(crate) edges: Schedule,
     pub(crate) halos: Schedule,
     pub(crate) stops: Vec<Stop>,
+    // the gates that are kept, by their places among the used ones
+    pub(crate) kept: Vec<u16>,
 }
 
 impl Model for Shape {
@@ -92,5 +95,12 @@ impl Shape {
         ensures { result.now ≡ self.now.stops }
     {
         self.stops.as_slice()
+    }
+
+    /// Whether the gate at this place is kept.
+    pub fn keeps(&self, place: u16) -> bool
+        ensures { result ≡ is_among self.now.kept place }
+    {
+        self.kept.iter().any(|kept| *kept == place)
     }
 }

@@ -6,7 +6,7 @@ ghost use Rattle.circuit.specs.Meaning.{wire_of};
 ghost use Rattle.circuit.specs.Wiring.{gate_of};
 ghost use Rattle.pattern.specs.Lines.{size_fault};
 ghost use Rattle.module_box.specs.Boxes.{in_box};
-ghost use Rattle.certificate.specs.Rules.{box_cells};
+ghost use Rattle.certificate.specs.Rules.{box_cells, is_inverse_gate};
 ghost use Rattle.certificate.specs.Jobs.{port_at};
 ghost use Rattle.certificate.specs.Grammars.{setting_of};
 
@@ -100,6 +100,16 @@ impl<'a> Site<'a> {
             return None;
         }
         Some(self.circuit.gate(GateNo::of(number as u16)))
+    }
+
+    /// Whether the number is that of an inverse gate of the circuit.
+    pub(crate) fn is_inverse(&self, number: u32) -> bool
+        ensures { result ≡ is_inverse_gate (slice_get self.now.circuit.netlist.gates number) }
+    {
+        match self.gate(number) {
+            None => false,
+            Some(gate) => gate.kind().is_inverse(),
+        }
     }
 
     /// Puts the names of the ports in a box behind the others, where these are the cells of the box.

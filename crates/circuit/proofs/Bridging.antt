@@ -7,20 +7,19 @@ use Rattle.std.proofs.lemmas.List.Sums.{sum_by-append, sum_by-cons}
 use Rattle.std.proofs.lemmas.Bool.{cases_Bool, true≢false}
 use Rattle.circuit.specs.Entries.{defined}
 use Rattle.circuit.specs.declared.entry.GateKind.{GateKind}
-use Rattle.circuit.specs.declared.entry.GateKind.TheVariants as Kept
 use Rattle.circuit.specs.declared.entry.Kind.{Kind}
 use Rattle.circuit.specs.declared.entry.Kind.TheVariants.{Input, Output, Spill}
 use Rattle.circuit.specs.declared.entry.Kind.TheVariants.{Gate as GateLine}
 use Rattle.circuit.specs.declared.entry.Entry.{Entry}
-use Rattle.circuit.specs.Gates.{rule_of, is_inverse}
 use Rattle.section_text.specs.Words.{has}
 use Rattle.circuit.specs.Rules.{consumed, consume, define, is_gate, gate_count, add_fault, limit_fault, name_fault}
 use Rattle.section_text.specs.Codes.{or_else}
-use Rattle.circuit.specs.Meaning.{AreOrdered, AreForward, Gate, number}
+use Rattle.circuit.specs.Gates.{rule_of}
+use Rattle.circuit.specs.Meaning.{AreOrdered, Gate, number}
 use Rattle.circuit.specs.Wiring.{gate_at}
 use Rattle.circuit.specs.Bridge.{is_input, input_count, gate_in, gates_of, IsGoodAfter, AreGoodAfter, AreGood}
 use Rattle.circuit.specs.Laws.{GatesAreOrdered}
-use Rattle.circuit.proofs.Places.{all_cons, Have, number_new, numbers_left, numbers_below, consume_have, bytes_same}
+use Rattle.circuit.proofs.Places.{Have, number_new, numbers_left, numbers_below, consume_have, bytes_same}
 
 -- ---- what the tests of a line say
 or_else_none : (a b : Option ℕ) → or_else a b ≡ None → (a ≡ None) × (b ≡ None)
@@ -173,27 +172,8 @@ ordered_lines names before [] good far = tt
 ordered_lines names before (r ∷ rest) good far =
     ordered_rest names before rest r.kind r.ins r.outs good far (ordered_lines names (before ++ r ∷ []) rest)
 
--- ---- none is an inverse gate
-forward_line : (names : List (List ℕ)) (kind : Kind) (ins outs : List (List ℕ)) (gates : List Gate) → AreForward gates → AreForward (gate_in names ins outs kind ++ gates)
-forward_line names Input ins outs gates later = later
-forward_line names (GateLine k) ins outs gates later = all_cons (λ g. is_inverse g.kind ≡ false) _ gates (is_forward k) later
-  where
-    is_forward : (k : GateKind) → is_inverse (rule_of k) ≡ false
-    is_forward (Kept.Source b) = refl
-    is_forward Kept.Fredkin = refl
-    is_forward Kept.Cswap = refl
-    is_forward Kept.Interact = refl
-    is_forward Kept.Switch = refl
-    is_forward (Kept.Delay n) = refl
-forward_line names Output ins outs gates later = later
-forward_line names Spill ins outs gates later = later
-
-forward_gates : (names : List (List ℕ)) (entries : List Entry) → AreForward (gates_of names entries)
-forward_gates names [] = λ k d h. absurd (omega arith)
-forward_gates names (r ∷ entries) = forward_line names r.kind r.ins r.outs (gates_of names entries) (forward_gates names entries)
-
 pub gates_are_ordered : GatesAreOrdered
-gates_are_ordered entries good = (ordered_lines (defined entries) [] entries good (record { all = refl; no_gate = refl; only_inputs = refl }), forward_gates (defined entries) entries)
+gates_are_ordered entries good = ordered_lines (defined entries) [] entries good (record { all = refl; no_gate = refl; only_inputs = refl })
 
 -- ---- one more line
 pub good_push : (before rest : List Entry) (r : Entry) → AreGoodAfter before rest → IsGoodAfter (before ++ rest) r → AreGoodAfter before (rest ++ r ∷ [])

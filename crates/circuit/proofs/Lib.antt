@@ -5,6 +5,7 @@ pub mod Places
 pub mod Bridging
 pub mod Naming
 pub mod Valuations
+pub mod Undefined
 pub mod Loops
 pub mod Drafts
 pub mod Fitting

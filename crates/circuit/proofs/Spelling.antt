@@ -9,7 +9,7 @@ use Rattle.section_text.specs.Section.{ended_line}
 use Rattle.section_text.specs.declared.section.Form.TheVariants.{Header, Item, End}
 use Rattle.section_text.proofs.WordPlaces.{is_at_is, name_at_is, names_at_are, assembled, line_from_words}
 use Rattle.circuit.specs.declared.entry.GateKind.{GateKind}
-use Rattle.circuit.specs.declared.entry.GateKind.TheVariants.{Source, Fredkin, Cswap, Interact, Switch, Delay}
+use Rattle.circuit.specs.declared.entry.GateKind.TheVariants.{Source, Fredkin, Cswap, Interact, Switch, Delay, Unswitch, Uninteract}
 use Rattle.circuit.specs.declared.entry.Kind.TheVariants.{Input, Gate, Output, Spill}
 use Rattle.circuit.specs.declared.entry.Entry.{Entry}
 use Rattle.circuit.specs.Entries.{entry}
@@ -78,8 +78,15 @@ head_spelled ws kind e =
             | inl s ↦ plain_head ws Interact kind s.1 (take_one ws (codes "interact") (is_at_is ws 0 (codes "interact") s.0))
             | inr s ↦ elim (chosen (is_word_at ws 0 (codes "switch")) _ _ (Some kind) s.1) [
               | inl t ↦ plain_head ws Switch kind t.1 (take_one ws (codes "switch") (is_at_is ws 0 (codes "switch") t.0))
-              | inr t ↦ let found = passed (is_word_at ws 0 (codes "delay")) (number_at ws 1 >>= λ n. Some (Delay n)) kind t.1 in
-                  option_and_then_some (λ n. Some (Delay n)) (number_at ws 1) kind found.1 (λ n number made. plain_head ws (Delay n) kind made (take_two ws (codes "delay") (decimal n) (is_at_is ws 0 (codes "delay") found.0) (number_at_spelled ws 1 n number)))
+              | inr t ↦ elim (chosen (is_word_at ws 0 (codes "delay")) _ _ (Some kind) t.1) [
+                | inl u ↦ option_and_then_some (λ n. Some (Delay n)) (number_at ws 1) kind u.1 (λ n number made. plain_head ws (Delay n) kind made (take_two ws (codes "delay") (decimal n) (is_at_is ws 0 (codes "delay") u.0) (number_at_spelled ws 1 n number)))
+                | inr u ↦ elim (chosen (is_word_at ws 0 (codes "unswitch")) _ _ (Some kind) u.1) [
+                  | inl v ↦ plain_head ws Unswitch kind v.1 (take_one ws (codes "unswitch") (is_at_is ws 0 (codes "unswitch") v.0))
+                  | inr v ↦
+                      let found = passed (is_word_at ws 0 (codes "uninteract")) (Some Uninteract) kind v.1 in
+                      plain_head ws Uninteract kind found.1 (take_one ws (codes "uninteract") (is_at_is ws 0 (codes "uninteract") found.0))
+                ]
+              ]
             ]
           ]
         ]

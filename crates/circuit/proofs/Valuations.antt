@@ -1,15 +1,15 @@
--- Gates that are ordered have at most one valuation. Where none is an inverse gate there is one, and `evaluate` finds it.
-use Rattle.std.proofs.Common.{◌≡◌, ℕ, zero, suc, ◌+◌, ◌-◌, ◌<◌, ◌≤◌, Bool, false, List, [], ◌∷◌, ◌++◌, map, get_or, length, Option, Some, refl, sym, ap, ap₂, subst, ◌∙◌, arith, inl, inr, length-append, get_or-append-add}
+-- Gates that are ordered have at most one valuation, and what `evaluate` finds is one.
+use Rattle.std.proofs.Common.{◌≡◌, ℕ, zero, suc, ◌+◌, ◌-◌, ◌<◌, ◌≤◌, Bool, true, false, List, [], ◌∷◌, ◌++◌, map, get_or, length, Option, Some, None, refl, sym, ap, ap₂, subst, ◌∙◌, arith, inl, inr, ◌⊎◌, length-append, get_or-append-add}
 use Rattle.std.specs.Prelude.{option_and_then}
 use Rattle.std.specs.List.{All, range_with_len}
 use Rattle.std.proofs.lemmas.List.{length-map, get_or_append_left}
 use Rattle.std.proofs.lemmas.List.FromFn.{get_or-map-range_with_len}
 use Rattle.std.proofs.lemmas.Bool.{cases_lt, true≢false}
 use Rattle.circuit.specs.Gates.{Rule, Source, Fredkin, Cswap, Interact, Switch, Delay, Unswitch, Uninteract, row, uses, defines, is_inverse}
-use Rattle.circuit.specs.Meaning.{Gate, Netlist, Valuation, HasRow, Satisfies, AreOrdered, wires_after, wires, AreForward}
+use Rattle.circuit.specs.Meaning.{Gate, Netlist, Valuation, HasRow, Satisfies, AreOrdered, wires_after, wires}
 use Rattle.circuit.specs.Bridge.{read, AreValues}
 use Rattle.circuit.specs.Evaluate.{evaluate}
-use Rattle.circuit.specs.Laws.{HasValuation, HasAtMostOneValuation}
+use Rattle.circuit.specs.Laws.{HasAtMostOneValuation}
 use Rattle.circuit.proofs.Places.{all_cons}
 
 -- ---- each gate has a row
@@ -29,6 +29,10 @@ len_3 : (xs : List Bool) → length xs ≡ 3 → (a b c : Bool) × (xs ≡ a ∷
 len_3 [] h = absurd (omega arith)
 len_3 (a ∷ xs) h = let r = len_2 xs (omega arith) in (a, r.0, r.1, ap (λ l. a ∷ l) r.2)
 
+len_4 : (xs : List Bool) → length xs ≡ 4 → (a b c d : Bool) × (xs ≡ a ∷ b ∷ c ∷ d ∷ [])
+len_4 [] h = absurd (omega arith)
+len_4 (a ∷ xs) h = let r = len_3 xs (omega arith) in (a, r.0, r.1, r.2, ap (λ l. a ∷ l) r.3)
+
 abbrev pub RowOf : Rule → List Bool → Type 0
 RowOf kind xs = (r : List Bool) × (row kind xs ≡ Some r) × (length r ≡ defines kind)
 
@@ -43,14 +47,50 @@ row_of (Delay n) xs f h = let r = len_1 xs h in (_, ap (row (Delay n)) r.1, refl
 row_of Unswitch xs f h = absurd (true≢false f)
 row_of Uninteract xs f h = absurd (true≢false f)
 
+unswitch_cases : (c y z : Bool) → (row Unswitch (c ∷ y ∷ z ∷ []) ≡ None) ⊎ RowOf Unswitch (c ∷ y ∷ z ∷ [])
+unfolding row
+unswitch_cases true true true = inl refl
+unswitch_cases true true false = inr (_, refl, refl)
+unswitch_cases true false true = inl refl
+unswitch_cases true false false = inr (_, refl, refl)
+unswitch_cases false true true = inl refl
+unswitch_cases false true false = inl refl
+unswitch_cases false false true = inr (_, refl, refl)
+unswitch_cases false false false = inr (_, refl, refl)
+
+uninteract_cases : (a b c d : Bool) → (row Uninteract (a ∷ b ∷ c ∷ d ∷ []) ≡ None) ⊎ RowOf Uninteract (a ∷ b ∷ c ∷ d ∷ [])
+unfolding row
+uninteract_cases false false false false = inr (_, refl, refl)
+uninteract_cases false true false false = inr (_, refl, refl)
+uninteract_cases false false true false = inr (_, refl, refl)
+uninteract_cases true false false true = inr (_, refl, refl)
+uninteract_cases _ _ _ _ = inl refl
+
+-- a gate has a row, or none
+pub row_cases : (kind : Rule) (xs : List Bool) → length xs ≡ uses kind → (row kind xs ≡ None) ⊎ RowOf kind xs
+row_cases Unswitch xs h =
+    let r = len_3 xs h in
+    let P : List Bool → Type 0 = λ l. (row Unswitch l ≡ None) ⊎ RowOf Unswitch l in
+    subst P (sym r.3) (unswitch_cases r.0 r.1 r.2)
+row_cases Uninteract xs h =
+    let r = len_4 xs h in
+    let P : List Bool → Type 0 = λ l. (row Uninteract l ≡ None) ⊎ RowOf Uninteract l in
+    subst P (sym r.4) (uninteract_cases r.0 r.1 r.2 r.3)
+row_cases (Source b) xs h = inr (row_of (Source b) xs refl h)
+row_cases Fredkin xs h = inr (row_of Fredkin xs refl h)
+row_cases Cswap xs h = inr (row_of Cswap xs refl h)
+row_cases Interact xs h = inr (row_of Interact xs refl h)
+row_cases Switch xs h = inr (row_of Switch xs refl h)
+row_cases (Delay n) xs h = inr (row_of (Delay n) xs refl h)
+
 some_same : (x y : List Bool) (o : Option (List Bool)) → o ≡ Some x → o ≡ Some y → x ≡ y
 some_same x y o e f = cc
 
 -- ---- lists
-all_tail : {A : Type 0} (P : A → Type 0) (x : A) (xs : List A) → All P (x ∷ xs) → All P xs
+pub all_tail : {A : Type 0} (P : A → Type 0) (x : A) (xs : List A) → All P (x ∷ xs) → All P xs
 all_tail P x xs all = λ k d h. all (suc k) d (omega arith)
 
-all_head : {A : Type 0} (P : A → Type 0) (x : A) (xs : List A) → All P (x ∷ xs) → P x
+pub all_head : {A : Type 0} (P : A → Type 0) (x : A) (xs : List A) → All P (x ∷ xs) → P x
 all_head P x xs all = all 0 x (omega arith)
 
 pub map_below : (n : ℕ) (f g : Valuation) (ws : List ℕ) → All (λ w. w < n) ws → ((w : ℕ) → w < n → f w ≡ g w) → map f ws ≡ map g ws
@@ -80,29 +120,41 @@ record Found (vs : List Bool) (gs : List Gate) (out : List Bool) : Type 0 where
   same : (w : ℕ) → w < length vs → read out w ≡ read vs w
   rows : All (HasRow (read out)) gs
 
-found_all : (vs : List Bool) (gs : List Gate) → AreOrdered (length vs) gs → AreForward gs → (out : List Bool) × (evaluate vs gs ≡ Some out) × Found vs gs out
-unfolding evaluate AreOrdered wires_after
-found_all vs [] ordered forward = (vs, refl, record { all = refl; longer = omega arith; same = λ w h. refl; rows = λ k d h. absurd (omega arith) })
-found_all vs (g ∷ gs) ordered forward =
-    let s = row_of g.kind (map (read vs) g.ins) (all_head (λ g. is_inverse g.kind ≡ false) g gs forward) (length-map g.ins (read vs) ∙ ordered.1) in
-    let total : length (vs ++ s.0) ≡ length vs + defines g.kind = length-append vs s.0 ∙ ap (λ n. length vs + n) s.2 in
-    let more = found_all (vs ++ s.0) gs (subst (λ n. AreOrdered n gs) (sym total) ordered.3) (all_tail (λ g. is_inverse g.kind ≡ false) g gs forward) in
-    let out : List Bool = more.0 in
-    let rest : Found (vs ++ s.0) gs out = more.2 in
+-- one gate more in front
+found_more : (vs out r : List Bool) (g : Gate) (gs : List Gate) → AreOrdered (length vs) (g ∷ gs) → row g.kind (map (read vs) g.ins) ≡ Some r → length r ≡ defines g.kind → Found (vs ++ r) gs out → Found vs (g ∷ gs) out
+unfolding AreOrdered wires_after
+found_more vs out r g gs ordered is many rest =
+    let total : length (vs ++ r) ≡ length vs + defines g.kind = length-append vs r ∙ ap (λ n. length vs + n) many in
     let below : (w : ℕ) → w < length vs → read out w ≡ read vs w =
-    λ w h. rest.same w (omega (arith, total)) ∙ get_or_append_left vs s.0 false w h in
-    let here : HasRow (read out) g = ap (row g.kind) (map_below (length vs) (read out) (read vs) g.ins ordered.0 below) ∙ s.1
-    ∙ ap Some (sym (ap (map (read out)) ordered.2 ∙ map_range s.0 (length vs) (defines g.kind) (read out) s.2
-    (λ i h. rest.same (length vs + i) (omega (arith, total)) ∙ get_or-append-add vs s.0 i false))) in (
-      out,
-      ap (option_and_then (λ r. evaluate (vs ++ r) gs)) s.1 ∙ more.1,
-      record {
-        all = rest.all ∙ ap (λ n. wires_after n gs) total;
-        longer = omega (arith, total, rest.longer);
-        same = below;
-        rows = all_cons (HasRow (read out)) g gs here rest.rows;
-      },
-    )
+    λ w h. rest.same w (omega (arith, total)) ∙ get_or_append_left vs r false w h in
+    let here : HasRow (read out) g = ap (row g.kind) (map_below (length vs) (read out) (read vs) g.ins ordered.0 below) ∙ is
+    ∙ ap Some (sym (ap (map (read out)) ordered.2 ∙ map_range r (length vs) (defines g.kind) (read out) many
+    (λ i h. rest.same (length vs + i) (omega (arith, total)) ∙ get_or-append-add vs r i false))) in
+    record {
+      all = rest.all ∙ ap (λ n. wires_after n gs) total;
+      longer = omega (arith, total, rest.longer);
+      same = below;
+      rows = all_cons (HasRow (read out)) g gs here rest.rows;
+    }
+
+some_is : (x y : List Bool) → Some x ≡ Some y → x ≡ y
+some_is x y e = cc
+
+none_some : (x : List Bool) (o : Option (List Bool)) → o ≡ None → o ≡ Some x → ⊥
+none_some x o e f = cc
+
+-- what is evaluated was found gate after gate
+found_from : (vs : List Bool) (gs : List Gate) (out : List Bool) → AreOrdered (length vs) gs → evaluate vs gs ≡ Some out → Found vs gs out
+unfolding evaluate AreOrdered wires_after
+found_from vs [] out ordered e =
+    subst (λ (o : List Bool). Found vs [] o) (some_is vs out e) (record { all = refl; longer = omega arith; same = λ w h. refl; rows = λ k d h. absurd (omega arith) })
+found_from vs (g ∷ gs) out ordered e = elim (row_cases g.kind (map (read vs) g.ins) (length-map g.ins (read vs) ∙ ordered.1)) [
+  | inl none ↦ absurd (none_some out _ (ap (option_and_then (λ r. evaluate (vs ++ r) gs)) none) e)
+  | inr s ↦
+      let total : length (vs ++ s.0) ≡ length vs + defines g.kind = length-append vs s.0 ∙ ap (λ n. length vs + n) s.2 in
+      found_more vs out s.0 g gs ordered s.1 s.2
+      (found_from (vs ++ s.0) gs out (subst (λ n. AreOrdered n gs) (sym total) ordered.3) (sym (ap (option_and_then (λ r. evaluate (vs ++ r) gs)) s.1) ∙ e))
+]
 
 -- ---- only one
 unique_after : (n : ℕ) (gs : List Gate) (v v' : Valuation) → AreOrdered n gs → All (HasRow v) gs → All (HasRow v') gs →
@@ -129,28 +181,11 @@ pub at_most_one : HasAtMostOneValuation
 at_most_one n a v v' ordered s s' w h =
     unique_after n.given n.gates v v' ordered s.rows s'.rows (λ i l. s.given i l ∙ sym (s'.given i l)) w h
 
-some_is : (x y : List Bool) → Some x ≡ Some y → x ≡ y
-some_is x y e = cc
-
 -- what is evaluated are the values
-pub evaluated : (n : Netlist) (a : Valuation) (given vs : List Bool) → AreOrdered n.given n.gates → AreForward n.gates → length given ≡ n.given → ((i : ℕ) → i < n.given → read given i ≡ a i) →
+pub evaluated : (n : Netlist) (a : Valuation) (given vs : List Bool) → AreOrdered n.given n.gates → length given ≡ n.given → ((i : ℕ) → i < n.given → read given i ≡ a i) →
     evaluate given n.gates ≡ Some vs → AreValues n a vs
-evaluated n a given vs ordered forward len same e =
-    let found = found_all given n.gates (subst (λ m. AreOrdered m n.gates) (sym len) ordered) forward in
-    let is : found.0 ≡ vs = some_is _ _ (sym found.1 ∙ e) in
-    let f : Found given n.gates vs = subst (λ (out : List Bool). Found given n.gates out) is found.2 in
+evaluated n a given vs ordered len same e =
+    let f : Found given n.gates vs = found_from given n.gates vs (subst (λ m. AreOrdered m n.gates) (sym len) ordered) e in
     let all : length vs ≡ wires n = f.all ∙ ap (λ m. wires_after m n.gates) len in
     let s : Satisfies n a (read vs) = record { given = λ i h. f.same i (omega (arith, len)) ∙ same i h; rows = f.rows } in
     record { all = all; satisfies = s; only = λ v t w h. at_most_one n a v (read vs) ordered t s w (omega (arith, all)) }
-
-pub has_valuation : HasValuation
-has_valuation n a ordered forward =
-    let given : List Bool = map a (range_with_len 0 n.given) in
-    let len : length given ≡ n.given = length-map (range_with_len 0 n.given) a ∙ length-range 0 n.given in
-    let found = found_all given n.gates (subst (λ m. AreOrdered m n.gates) (sym len) ordered) forward in
-    let values : AreValues n a found.0 = evaluated n a given found.0 ordered forward len (λ i h. get_or-map-range_with_len a 0 n.given i i false h (omega arith)) found.1 in
-    (read found.0, values.satisfies)
-  where
-    length-range : (m n : ℕ) → length (range_with_len m n) ≡ n
-    length-range m zero = refl
-    length-range m (suc n) = omega (arith, length-range (m + 1) n)

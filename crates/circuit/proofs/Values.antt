@@ -1,11 +1,12 @@
 -- The values of wires: their one valuation, their list, and their text.
-use Rattle.std.proofs.Common.{◌≡◌, ℕ, zero, suc, ◌+◌, ◌<◌, Bool, List, [], ◌∷◌, ◌++◌, length, take, get_or, sym, ap, ◌∙◌, arith, append_assoc}
+use Rattle.std.proofs.Common.{◌≡◌, ℕ, zero, suc, ◌+◌, ◌<◌, ◌≤◌, Bool, List, [], ◌∷◌, ◌++◌, length, take, get_or, refl, sym, ap, ◌∙◌, arith, append_assoc}
 use Rattle.std.proofs.lemmas.List.{append-nil}
 use Rattle.circuit.specs.Meaning.{wires}
 use Rattle.circuit.specs.Bridge.{netlist_of}
 use Rattle.circuit.specs.Laws.{HasOneValuation, ListsValues}
 use Rattle.circuit.proofs.Bridging.{gates_are_ordered}
-use Rattle.circuit.proofs.Valuations.{has_valuation, at_most_one, map_range}
+use Rattle.circuit.proofs.Undefined.{forward_valuation}
+use Rattle.circuit.proofs.Valuations.{at_most_one, map_range}
 use Rattle.circuit.specs.Text.{value_line, value_lines}
 
 value_lines_more : (ns : List (List ℕ)) (vs : List Bool) (k : ℕ) (n : List ℕ) (d : Bool) → k < length ns → k < length vs → n ≡ get_or ns k n →
@@ -28,10 +29,10 @@ printed_more out before new ns vs k n d h l is so_far here =
     ∙ ap (λ (t : List ℕ). out ++ t) (sym (value_lines_more ns vs k n d h l is))
 
 pub has_one_valuation : HasOneValuation
-has_one_valuation entries a good =
-    let gates = gates_are_ordered entries good in
-    let found = has_valuation (netlist_of entries) a gates.0 gates.1 in
-    (found.0, found.1, λ u s w h. at_most_one (netlist_of entries) a u found.0 gates.0 s found.1 w h)
+has_one_valuation entries a good forward =
+    let ordered = gates_are_ordered entries good in
+    let found = forward_valuation (netlist_of entries) a ordered forward in
+    (found.0, found.1, λ u s w h. at_most_one (netlist_of entries) a u found.0 ordered s found.1 w h)
 
 pub lists_values : ListsValues
 lists_values n a v vs values s =
@@ -39,3 +40,16 @@ lists_values n a v vs values s =
   where
     plus_zero : (i : ℕ) → 0 + i ≡ i
     plus_zero i = omega arith
+
+-- the lines stop where the values do
+lines_all : (ns : List (List ℕ)) (vs : List Bool) (k : ℕ) → length vs ≤ k → value_lines (take k ns) (take k vs) ≡ value_lines ns vs
+unfolding value_lines
+lines_all [] vs zero h = refl
+lines_all [] vs (suc k) h = refl
+lines_all (n ∷ ns) [] zero h = refl
+lines_all (n ∷ ns) [] (suc k) h = refl
+lines_all (n ∷ ns) (b ∷ vs) zero h = absurd (omega arith)
+lines_all (n ∷ ns) (b ∷ vs) (suc k) h = ap (λ (t : List ℕ). value_line n b ++ t) (lines_all ns vs k (omega arith))
+
+pub printed_all : (out new : List ℕ) (ns : List (List ℕ)) (vs : List Bool) (k : ℕ) → length vs ≤ k → new ≡ out ++ value_lines (take k ns) (take k vs) → new ≡ out ++ value_lines ns vs
+printed_all out new ns vs k h e = e ∙ ap (λ (t : List ℕ). out ++ t) (lines_all ns vs k h)

@@ -1,14 +1,16 @@
 -- From the lines of a circuit, by names, to its gates, by the numbers of wires.
-use Rattle.std.specs.Prelude.{◌≡◌, ℕ, ◌<◌, Bool, true, false, if◌then◌else◌, List, [], ◌∷◌, ◌++◌, map, length, None, ⊤, slice_index_or}
+use Rattle.std.specs.Prelude.{◌≡◌, ℕ, ◌<◌, Bool, true, false, if◌then◌else◌, List, [], ◌∷◌, ◌++◌, map, length, None, Some, ⊤, slice_get, slice_index_or}
 use Rattle.std.specs.List.{flat_map, count_by}
 use Rattle.circuit.specs.Entries.{defined}
 use Rattle.circuit.specs.declared.entry.Kind.{Kind}
 use Rattle.circuit.specs.declared.entry.Kind.TheVariants.{Input, Output, Spill}
 use Rattle.circuit.specs.declared.entry.Kind.TheVariants.{Gate as GateLine}
 use Rattle.circuit.specs.declared.entry.Entry.{Entry}
-use Rattle.circuit.specs.Gates.{rule_of, uses, defines}
+use Rattle.circuit.specs.declared.netlist.ValuesFault.{ValuesFault}
+use Rattle.circuit.specs.declared.netlist.ValuesFault.TheVariants.{OutOfDomain, Memory}
+use Rattle.circuit.specs.Gates.{row, rule_of, uses, defines}
 use Rattle.circuit.specs.Rules.{gate_count, add_fault}
-use Rattle.circuit.specs.Meaning.{Gate, Netlist, Circuit, Valuation, Satisfies, number, wires}
+use Rattle.circuit.specs.Meaning.{Gate, Netlist, Circuit, Valuation, Satisfies, first_gates, number, wires}
 
 abbrev pub is_input : Kind → Bool
 is_input Input = true
@@ -95,3 +97,15 @@ pub record AreValues (n : Netlist) (a : Valuation) (vs : List Bool) : Type 0 whe
   pub all : length vs ≡ wires n
   pub satisfies : Satisfies n a (read vs)
   pub only : (v : Valuation) → Satisfies n a v → (w : ℕ) → w < length vs → v w ≡ read vs w
+
+-- Where the given wires have the values a, gate k has no row. vs lists the values of the wires that are defined before it.
+pub record StopsAt (n : Netlist) (a : Valuation) (k : ℕ) (vs : List Bool) : Type 0 where
+  pub gate : Gate
+  pub numbered : slice_get n.gates k ≡ Some gate
+  pub before : AreValues (first_gates k n) a vs
+  pub none : row gate.kind (map (read vs) gate.ins) ≡ None
+
+-- why there are no values: a gate without a row, or want of memory, of which nothing is said
+abbrev pub IsValuesFault : Netlist → Valuation → ValuesFault → Type 0
+IsValuesFault n a (OutOfDomain k vs) = StopsAt n a k vs.items
+IsValuesFault n a Memory = Unit {0}

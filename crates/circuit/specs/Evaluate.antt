@@ -1,5 +1,7 @@
 -- The values of wires, gate after gate
-use Rattle.std.specs.Prelude.{Bool, List, [], ◌∷◌, ◌++◌, map, Option, Some, option_and_then}
+use Rattle.std.specs.Prelude.{◌≡◌, ℕ, ◌+◌, Bool, List, [], ◌∷◌, ◌++◌, map, take, Option, Some, None, option_and_then, option_map, slice_get}
+use Rattle.circuit.specs.declared.netlist.ValuesFault.{ValuesFault}
+use Rattle.circuit.specs.declared.netlist.ValuesFault.TheVariants.{OutOfDomain, Memory}
 use Rattle.circuit.specs.Gates.{row}
 use Rattle.circuit.specs.Meaning.{Gate}
 use Rattle.circuit.specs.Bridge.{read}
@@ -7,3 +9,24 @@ use Rattle.circuit.specs.Bridge.{read}
 unfoldable pub evaluate : List Bool → List Gate → Option (List Bool)
 evaluate vs [] = Some vs
 evaluate vs (g ∷ gs) = option_and_then (λ r. evaluate (vs ++ r) gs) (row g.kind (map (read vs) g.ins))
+
+-- the number of a gate, where this one has these outputs or no row
+abbrev pub undefined_or : (List Bool → Option ℕ) → Option (List Bool) → Option ℕ
+undefined_or later None = Some 0
+undefined_or later (Some r) = option_map (λ k. k + 1) (later r)
+
+-- the first gate that has no row
+unfoldable pub first_undefined : List Bool → List Gate → Option ℕ
+first_undefined vs [] = None
+first_undefined vs (g ∷ gs) = undefined_or (λ r. first_undefined (vs ++ r) gs) (row g.kind (map (read vs) g.ins))
+
+-- gate k has no row, and vs are the values after the gates before it
+pub record EvaluatesUpTo (given : List Bool) (gs : List Gate) (k : ℕ) (vs : List Bool) : Type 0 where
+  pub gate : Gate
+  pub numbered : slice_get gs k ≡ Some gate
+  pub before : evaluate given (take k gs) ≡ Some vs
+  pub none : row gate.kind (map (read vs) gate.ins) ≡ None
+
+abbrev pub IsEvaluateFault : List Bool → List Gate → ValuesFault → Type 0
+IsEvaluateFault given gs (OutOfDomain k vs) = EvaluatesUpTo given gs k vs.items
+IsEvaluateFault given gs Memory = Unit {0}

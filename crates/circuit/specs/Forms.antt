@@ -4,7 +4,7 @@ use Rattle.section_text.specs.Words.{◌>>=◌, is_word_at, names_at, number_at,
 use Rattle.section_text.specs.declared.section.Form.{Form}
 use Rattle.section_text.specs.declared.section.Form.TheVariants.{Header, Item, End}
 use Rattle.circuit.specs.declared.entry.GateKind.{GateKind}
-use Rattle.circuit.specs.declared.entry.GateKind.TheVariants.{Source, Fredkin, Cswap, Interact, Switch, Delay}
+use Rattle.circuit.specs.declared.entry.GateKind.TheVariants.{Source, Fredkin, Cswap, Interact, Switch, Delay, Unswitch, Uninteract}
 use Rattle.circuit.specs.declared.entry.Kind.TheVariants.{Input, Gate, Output, Spill}
 use Rattle.circuit.specs.declared.entry.Entry.{Entry}
 use Rattle.circuit.specs.Entries.{entry}
@@ -23,6 +23,8 @@ gate_kind ws =
     else if is_word_at ws 0 (codes "interact") then Some Interact
     else if is_word_at ws 0 (codes "switch") then Some Switch
     else if is_word_at ws 0 (codes "delay") then (number_at ws 1 >>= λ n. Some (Delay n))
+    else if is_word_at ws 0 (codes "unswitch") then Some Unswitch
+    else if is_word_at ws 0 (codes "uninteract") then Some Uninteract
     else None
 
 -- how many words stand before the names
@@ -33,6 +35,8 @@ words_before Cswap = 1
 words_before Interact = 1
 words_before Switch = 1
 words_before (Delay n) = 2
+words_before Unswitch = 1
+words_before Uninteract = 1
 
 unfoldable pub gate_names : List (List ℕ) → GateKind → Option Entry
 gate_names ws kind = do

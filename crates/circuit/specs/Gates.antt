@@ -70,3 +70,5 @@ rule_of Kept.Cswap = Cswap
 rule_of Kept.Interact = Interact
 rule_of Kept.Switch = Switch
 rule_of (Kept.Delay n) = Delay n
+rule_of Kept.Unswitch = Unswitch
+rule_of Kept.Uninteract = Uninteract

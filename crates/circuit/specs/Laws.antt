@@ -1,15 +1,15 @@
 -- Laws of the circuit section.
-use Rattle.std.specs.Prelude.{◌≡◌, ℕ, ◌+◌, ◌<◌, Bool, List, length, map, take, drop, Some, Ok, slice_get}
+use Rattle.std.specs.Prelude.{◌≡◌, ℕ, ◌+◌, ◌<◌, Bool, List, length, map, take, drop, Some, Ok, slice_get, IsTrue}
 use Rattle.section_text.specs.Words.{lines_of}
-use Rattle.circuit.specs.Gates.{Rule, Source, Switch, Unswitch, Interact, Uninteract, row}
+use Rattle.circuit.specs.Gates.{Rule, Source, Switch, Unswitch, Interact, Uninteract, is_inverse, row}
 use Rattle.std.specs.List.{count_by, flat_map, range_with_len}
 use Rattle.circuit.specs.Entries.{defined}
 use Rattle.section_text.specs.Section.{section_of, ended_line}
 use Rattle.circuit.specs.declared.entry.Entry.{Entry}
 use Rattle.circuit.specs.Grammars.{circuit_grammar}
 use Rattle.circuit.specs.Text.{circuit_text}
-use Rattle.circuit.specs.Meaning.{Netlist, Valuation, Satisfies, AreOrdered, AreForward, wires, wire_of}
-use Rattle.circuit.specs.Bridge.{AreGood, AreValues, input_count, input_names, gates_of, netlist_of, circuit_of}
+use Rattle.circuit.specs.Meaning.{Netlist, Valuation, Satisfies, AreOrdered, AreForward, IsUndefined, wires, wire_of}
+use Rattle.circuit.specs.Bridge.{AreGood, AreValues, StopsAt, input_count, input_names, gates_of, netlist_of, circuit_of}
 
 -- the text of a circuit that is read is the text of the lines that it is read from
 abbrev pub PrintsWhatIsRead : Type 0
@@ -19,21 +19,37 @@ PrintsWhatIsRead = (n : ℕ) (ls : List (List ℕ)) (entries : List Entry) → s
 abbrev pub ReadsWhatIsPrinted : Type 0
 ReadsWhatIsPrinted = (text : List ℕ) (from n m : ℕ) (entries : List Entry) → section_of circuit_grammar n (drop from (lines_of text)) ≡ Ok (tt, entries) → section_of circuit_grammar m (lines_of (circuit_text entries)) ≡ Ok (tt, entries)
 
--- The gates of a good list of lines are ordered, and none is an inverse gate
+-- the gates of a good list of lines are ordered
 abbrev pub GatesAreOrdered : Type 0
-GatesAreOrdered = (entries : List Entry) → AreGood entries → AreOrdered (input_count entries) (gates_of (defined entries) entries) × AreForward (gates_of (defined entries) entries)
+GatesAreOrdered = (entries : List Entry) → AreGood entries → AreOrdered (input_count entries) (gates_of (defined entries) entries)
 
--- ordered gates without inverse gates have a valuation, whatever the given wires are
+-- ordered gates have a valuation where none of them is undefined
 abbrev pub HasValuation : Type 0
-HasValuation = (n : Netlist) (a : Valuation) → AreOrdered n.given n.gates → AreForward n.gates → (v : Valuation) × Satisfies n a v
+HasValuation = (n : Netlist) (a : Valuation) → AreOrdered n.given n.gates → ((k : ℕ) → ¬ IsUndefined n a k) → (v : Valuation) × Satisfies n a v
+
+-- and only there
+abbrev pub UndefinedHasNoValuation : Type 0
+UndefinedHasNoValuation = (n : Netlist) (a v : Valuation) (k : ℕ) → AreOrdered n.given n.gates → IsUndefined n a k → ¬ Satisfies n a v
+
+-- only an inverse gate is undefined
+abbrev pub OnlyInverseGatesAreUndefined : Type 0
+OnlyInverseGatesAreUndefined = (n : Netlist) (a : Valuation) (k : ℕ) → AreOrdered n.given n.gates → (u : IsUndefined n a k) → IsTrue (is_inverse u.gate.kind)
+
+-- at most one gate is
+abbrev pub UndefinedIsOne : Type 0
+UndefinedIsOne = (n : Netlist) (a : Valuation) (k m : ℕ) → AreOrdered n.given n.gates → IsUndefined n a k → IsUndefined n a m → k ≡ m
+
+-- a gate at which the values stop is undefined
+abbrev pub StoppedIsUndefined : Type 0
+StoppedIsUndefined = (n : Netlist) (a : Valuation) (k : ℕ) (vs : List Bool) → StopsAt n a k vs → IsUndefined n a k
 
 -- ordered gates have at most one, with inverse gates too
 abbrev pub HasAtMostOneValuation : Type 0
 HasAtMostOneValuation = (n : Netlist) (a u v : Valuation) → AreOrdered n.given n.gates → Satisfies n a u → Satisfies n a v → (w : ℕ) → w < wires n → u w ≡ v w
 
--- a circuit of good lines has one valuation, whatever its inputs are
+-- a circuit of good lines without inverse gates has one valuation, whatever its inputs are
 abbrev pub HasOneValuation : Type 0
-HasOneValuation = (entries : List Entry) (a : Valuation) → AreGood entries →
+HasOneValuation = (entries : List Entry) (a : Valuation) → AreGood entries → AreForward (netlist_of entries).gates →
     (v : Valuation) × Satisfies (netlist_of entries) a v × ((u : Valuation) → Satisfies (netlist_of entries) a u → (w : ℕ) → w < wires (netlist_of entries) → u w ≡ v w)
 
 -- what lists the values lists them of every valuation that satisfies the netlist

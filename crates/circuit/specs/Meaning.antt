@@ -1,5 +1,5 @@
 -- Circuits of conservative logic (Fredkin and Toffoli 1982) by the numbers of their wires, and what they mean.
-use Rattle.std.specs.Prelude.{◌≡◌, ℕ, ◌+◌, ◌<◌, Bool, false, if◌then◌else◌, List, [], ◌∷◌, map, length, Option, Some, None, ⊤, slice_get}
+use Rattle.std.specs.Prelude.{◌≡◌, ℕ, ◌+◌, ◌<◌, Bool, false, if◌then◌else◌, List, [], ◌∷◌, map, take, length, Option, Some, None, ⊤, slice_get}
 use Rattle.std.specs.List.{All, range_with_len}
 use Rattle.std.specs.Str.{bytes_eq}
 use Rattle.section_text.specs.Words.{has}
@@ -67,6 +67,20 @@ AreOrdered n (g ∷ gs) =
 -- none of the gates is an inverse gate
 abbrev pub AreForward : List Gate → Type 0
 AreForward gates = All (λ g. is_inverse g.kind ≡ false) gates
+
+-- Where the given wires have the values a, gate k has no row, and it is the first: the gates before it have theirs under some
+-- values of the wires, and it has none there.
+pub record IsUndefined (n : Netlist) (a : Valuation) (k : ℕ) : Type 0 where
+  pub gate : Gate
+  pub numbered : slice_get n.gates k ≡ Some gate
+  pub values : Valuation
+  pub given : (i : ℕ) → i < n.given → values i ≡ a i
+  pub before : RowsBelow k n.gates values
+  pub none : row gate.kind (map values gate.ins) ≡ None
+
+-- the first k gates alone
+abbrev pub first_gates : ℕ → Netlist → Netlist
+first_gates k n = record n { gates = take k n.gates }
 
 -- how many wires there are after the gates
 unfoldable pub wires_after : ℕ → List Gate → ℕ

@@ -1,7 +1,7 @@
 -- Which line is good after which lines. What was defined and consumed is read from the lines themselves.
 use Rattle.std.specs.Prelude.{ℕ, ◌+◌, Bool, true, false, ◌&&◌, ◌||◌, List, [], ◌∷◌, ◌++◌, length, Option, Some, None, nat_lt, nat_le, ◌==◌, if◌then◌else◌}
 use Rattle.std.specs.List.{flat_map, count_by}
-use Rattle.circuit.specs.declared.entry.GateKind.TheVariants.{Source, Fredkin, Cswap, Interact, Switch, Delay}
+use Rattle.circuit.specs.declared.entry.GateKind.TheVariants.{Source, Fredkin, Cswap, Interact, Switch, Delay, Unswitch, Uninteract}
 use Rattle.circuit.specs.declared.entry.Kind.{Kind}
 use Rattle.circuit.specs.declared.entry.Kind.TheVariants.{Input, Gate, Output, Spill}
 use Rattle.circuit.specs.declared.entry.Entry.{Entry}
@@ -47,6 +47,8 @@ is_wrong_delay (Gate Cswap) = false
 is_wrong_delay (Gate Interact) = false
 is_wrong_delay (Gate Switch) = false
 is_wrong_delay (Gate (Delay n)) = n == 0 || nat_lt 4096 n
+is_wrong_delay (Gate Unswitch) = false
+is_wrong_delay (Gate Uninteract) = false
 is_wrong_delay Output = false
 is_wrong_delay Spill = false
 

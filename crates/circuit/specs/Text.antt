@@ -3,7 +3,7 @@ use Rattle.std.specs.Prelude.{ℕ, Bool, true, false, List, [], ◌∷◌, ◌++
 use Rattle.std.specs.List.{flat_map}
 use Rattle.std.specs.Fmt.{decimal}
 use Rattle.circuit.specs.declared.entry.GateKind.{GateKind}
-use Rattle.circuit.specs.declared.entry.GateKind.TheVariants.{Source, Fredkin, Cswap, Interact, Switch, Delay}
+use Rattle.circuit.specs.declared.entry.GateKind.TheVariants.{Source, Fredkin, Cswap, Interact, Switch, Delay, Unswitch, Uninteract}
 use Rattle.circuit.specs.declared.entry.Kind.{Kind}
 use Rattle.circuit.specs.declared.entry.Kind.TheVariants.{Input, Gate, Output, Spill}
 use Rattle.circuit.specs.declared.entry.Entry.{Entry}
@@ -23,6 +23,8 @@ gate_word Cswap = codes "cswap"
 gate_word Interact = codes "interact"
 gate_word Switch = codes "switch"
 gate_word (Delay n) = codes "delay"
+gate_word Unswitch = codes "unswitch"
+gate_word Uninteract = codes "uninteract"
 
 -- what stands between the keyword of a gate and its names
 abbrev pub gate_number : GateKind → List (List ℕ)
@@ -32,6 +34,8 @@ gate_number Cswap = []
 gate_number Interact = []
 gate_number Switch = []
 gate_number (Delay n) = decimal n ∷ []
+gate_number Unswitch = []
+gate_number Uninteract = []
 
 -- the first word of a entry, and the others
 unfoldable pub first_word : Kind → List ℕ

@@ -227,7 +227,7 @@ impl Draft {
     {
         let few_ins = kind.ins();
         let few_outs = kind.outs();
-        prove!(few_ins <= 3 && few_outs <= 4);
+        prove!(few_ins <= 4 && few_outs <= 4);
         self.add(Entry {
             kind: Kind::Gate(kind),
             ins: Names::of(ins),

@@ -1,14 +1,14 @@
 //! The lines of a circuit.
 ghost use Rattle.std.specs.Prelude.{◌≡◌, ◌≤◌, [], ◌∷◌};
 ghost use Rattle.circuit.specs.Entries.{rank_of, entry};
-ghost use Rattle.circuit.specs.Gates.{rule_of, uses, defines};
+ghost use Rattle.circuit.specs.Gates.{is_inverse, rule_of, uses, defines};
 ghost use Rattle.circuit.specs.declared.entry.Kind.TheVariants.{Input, Gate, Output, Spill};
 ghost use Rattle.circuit.specs.declared.entry.GateKind.TheVariants.{Source};
 
 use section_text::{Name, Names};
 
 /// The kinds of gate (Fredkin and Toffoli 1982), with the order of their wires. A source has no input, and all others
-/// keep the number of ones.
+/// keep the number of ones. The last two are inverse gates: they have no row at some inputs.
 #[derive(Clone, Copy, Debug, PartialEq, Eq)]
 pub enum GateKind {
     /// One wire, which has this value.
@@ -23,6 +23,11 @@ pub enum GateKind {
     Switch,
     /// `a -> b`: b is a. The number, 1..4096, is the delay in steps.
     Delay(u32),
+    /// `c y z -> d x`: turns back `switch`. d is c, and x is y where c is true, z where it is false. There is no row where the other
+    /// one of y and z is true.
+    Unswitch,
+    /// `a b c d -> p q`: turns back `interact`. There is no row at inputs that `interact` never gives.
+    Uninteract,
 }
 
 /// The kinds of line.
@@ -46,7 +51,7 @@ impl GateKind {
     /// How many wires a gate of this kind consumes.
     pub fn ins(self) -> usize
         ensures count { result ≡ uses (rule_of self) }
-        ensures few { result ≤ 3 }
+        ensures few { result ≤ 4 }
     {
         match self {
             GateKind::Source(_) => 0,
@@ -55,6 +60,19 @@ impl GateKind {
             GateKind::Interact => 2,
             GateKind::Switch => 2,
             GateKind::Delay(_) => 1,
+            GateKind::Unswitch => 3,
+            GateKind::Uninteract => 4,
+        }
+    }
+
+    /// Whether a gate of this kind has no row at some inputs.
+    pub fn is_inverse(self) -> bool
+        ensures { result ≡ is_inverse (rule_of self) }
+    {
+        match self {
+            GateKind::Unswitch => true,
+            GateKind::Uninteract => true,
+            _ => false,
         }
     }
 
@@ -70,6 +88,8 @@ impl GateKind {
             GateKind::Interact => 4,
             GateKind::Switch => 3,
             GateKind::Delay(_) => 1,
+            GateKind::Unswitch => 2,
+            GateKind::Uninteract => 2,
         }
     }
 }

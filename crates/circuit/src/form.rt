@@ -38,6 +38,10 @@ fn gate_kind_of(feed: &Feed, line: &Line) -> Option<GateKind>
         Some(GateKind::Switch)
     } else if feed.is(line, 0, b"delay") {
         Some(GateKind::Delay(feed.number(line, 1)?))
+    } else if feed.is(line, 0, b"unswitch") {
+        Some(GateKind::Unswitch)
+    } else if feed.is(line, 0, b"uninteract") {
+        Some(GateKind::Uninteract)
     } else {
         None
     }
@@ -54,6 +58,8 @@ fn words_before_names(kind: GateKind) -> usize
         GateKind::Interact => 1,
         GateKind::Switch => 1,
         GateKind::Delay(_) => 2,
+        GateKind::Unswitch => 1,
+        GateKind::Uninteract => 1,
     }
 }
 

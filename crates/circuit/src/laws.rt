@@ -1,5 +1,5 @@
 //! Laws of the definitions.
-ghost use Rattle.circuit.specs.Laws.{PrintsWhatIsRead, ReadsWhatIsPrinted, GatesAreOrdered, HasValuation, HasAtMostOneValuation, HasOneValuation, ListsValues, WiresAreNamed, NamesAreOwn, InputsAreFirst, GatesKeepOnes, InverseGatesUndo};
+ghost use Rattle.circuit.specs.Laws.{PrintsWhatIsRead, ReadsWhatIsPrinted, GatesAreOrdered, HasValuation, UndefinedHasNoValuation, OnlyInverseGatesAreUndefined, UndefinedIsOne, StoppedIsUndefined, HasAtMostOneValuation, HasOneValuation, ListsValues, WiresAreNamed, NamesAreOwn, InputsAreFirst, GatesKeepOnes, InverseGatesUndo};
 
 /// The text of a circuit that is read is the text of the lines that it is read from, and it is read as the same circuit again.
 pub fn one_text()
@@ -7,14 +7,22 @@ pub fn one_text()
     ensures read_again { ReadsWhatIsPrinted }
 {}
 
-/// The gates of good lines are ordered: each uses wires that inputs and earlier gates define. None is an inverse gate.
+/// The gates of good lines are ordered: each uses wires that inputs and earlier gates define.
 pub fn gates_are_ordered()
     ensures { GatesAreOrdered }
 {}
 
-/// Ordered gates without inverse gates have a valuation, whatever the given wires are.
+/// Ordered gates have a valuation exactly where none of them is the first that has no row.
 pub fn has_valuation()
-    ensures { HasValuation }
+    ensures found { HasValuation }
+    ensures only { UndefinedHasNoValuation }
+{}
+
+/// Only an inverse gate is the first that has no row, and there is at most one such gate. `Circuit::values` stops at it.
+pub fn one_gate_is_undefined()
+    ensures inverse { OnlyInverseGatesAreUndefined }
+    ensures one { UndefinedIsOne }
+    ensures stopped { StoppedIsUndefined }
 {}
 
 /// Ordered gates, inverse gates among them, have at most one valuation for their given wires.
@@ -22,7 +30,7 @@ pub fn has_at_most_one_valuation()
     ensures { HasAtMostOneValuation }
 {}
 
-/// A circuit has exactly one valuation, whatever its inputs are.
+/// A circuit without inverse gates has exactly one valuation, whatever its inputs are.
 pub fn has_one_valuation()
     ensures { HasOneValuation }
 {}

@@ -16,7 +16,7 @@ mod wiring;
 
 pub use draft::{Draft, Unused};
 pub use entry::GateKind;
-pub use netlist::Circuit;
+pub use netlist::{Circuit, ValuesFault};
 pub use number::{GateNo, WireNo};
 pub use ports::port_names;
 pub use printing::{print_circuit, print_values};

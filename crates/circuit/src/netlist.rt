@@ -1,8 +1,8 @@
 //! Circuits: their wires, their gates, and their values.
-ghost use Rattle.std.specs.Prelude.{◌≡◌, ◌<◌, ◌≤◌, Some, length, take, slice_get, IfOk, IfSome};
+ghost use Rattle.std.specs.Prelude.{◌≡◌, ◌<◌, ◌≤◌, Some, length, take, slice_get, IfErr, IfOk, IfSome};
 ghost use Rattle.circuit.specs.Entries.{defined};
-ghost use Rattle.circuit.specs.Bridge.{AreValues, circuit_of, input_count, input_names, is_input, netlist_of, read};
-ghost use Rattle.circuit.specs.Meaning.{AreForward, AreOrdered, wire_of, wires};
+ghost use Rattle.circuit.specs.Bridge.{AreValues, IsValuesFault, circuit_of, input_count, input_names, is_input, netlist_of, read};
+ghost use Rattle.circuit.specs.Meaning.{AreOrdered, wire_of, wires};
 ghost use Rattle.circuit.specs.Wiring.{gate_of};
 
 use crate::entry::{Entry, Kind};
@@ -33,6 +33,26 @@ impl Model for Circuit {
     ghost view = { circuit_entries };
 
     ghost invariant = { IsCircuit };
+}
+
+/// Why a circuit has no values.
+#[derive(Debug, Drop, PartialEq, Eq)]
+pub enum ValuesFault {
+    /// The gate of this number is the first that has no row. The values are those of the wires defined before it.
+    OutOfDomain { gate: usize, before: Vec<bool> },
+    /// Want of memory.
+    Memory,
+}
+
+impl From<AllocError> for ValuesFault {
+    ghost use Rattle.std.specs.Prelude.{◌≡◌};
+    ghost use Rattle.circuit.specs.declared.netlist.ValuesFault.TheVariants.{Memory};
+
+    ghost from_gives = { λ _ e. e ≡ Memory };
+
+    fn from(_: AllocError) -> ValuesFault {
+        ValuesFault::Memory
+    }
 }
 
 fn is_input_kind(kind: Kind) -> bool
@@ -106,12 +126,11 @@ impl Circuit {
     }
 
     /// How many gates the circuit has, at most 1024, sources among them. They are numbered from 0 in the order of
-    /// their lines. Each of them uses wires that inputs and earlier gates define, and has its row at every input.
+    /// their lines. Each of them uses wires that inputs and earlier gates define.
     pub fn gates(&self) -> usize
         ensures count { result ≡ length (netlist_of self.now).gates }
         ensures few { result ≤ 1024 }
         ensures ordered { AreOrdered (netlist_of self.now).given (netlist_of self.now).gates }
-        ensures forward { AreForward (netlist_of self.now).gates }
     {
         self.wired.len()
     }
@@ -125,12 +144,15 @@ impl Circuit {
     }
 
     /// Each wire's value, by its number, in the one valuation in which the inputs have these values, one for each
-    /// input. `AllocError` is want of memory.
-    pub fn values(&self, alloc: Global, inputs: &[bool]) -> Result<Vec<bool>, AllocError>
+    /// input. Where there is none, the first gate that has no row, and the values of the wires that are defined before it.
+    pub fn values(&self, alloc: Global, inputs: &[bool]) -> Result<Vec<bool>, ValuesFault>
         requires { length inputs.now ≡ (netlist_of self.now).given }
-        ensures { IfOk result (λ vs. AreValues (netlist_of self.now) (read inputs.now) vs.items) }
+        ensures values { IfOk result (λ vs. AreValues (netlist_of self.now) (read inputs.now) vs.items) }
+        ensures fault { IfErr result (λ e. IsValuesFault (netlist_of self.now) (read inputs.now) e) }
     {
-        let values = values_of(alloc, inputs, self.wired.as_slice())?;
-        Ok(values)
+        match values_of(alloc, inputs, self.wired.as_slice()) {
+            Ok(values) => Ok(values),
+            Err(fault) => Err(fault),
+        }
     }
 }

@@ -1,5 +1,5 @@
 //! The text of a circuit.
-ghost use Rattle.std.specs.Prelude.{◌≡◌, length, ◌++◌, OnOk, IfOk};
+ghost use Rattle.std.specs.Prelude.{◌≡◌, ◌≤◌, length, ◌++◌, OnOk, IfOk};
 ghost use Rattle.std.specs.List.{flat_map};
 ghost use Rattle.circuit.specs.Entries.{defined};
 ghost use Rattle.section_text.specs.Spelling.{spaced};
@@ -36,6 +36,8 @@ fn print_gate(alloc: Global, out: &mut Vec<u8>, kind: GateKind) -> Result<(), Al
             out.extend_from_slice(b"delay")?;
             print_number(alloc, out, n)
         }
+        GateKind::Unswitch => out.extend_from_slice(b"unswitch"),
+        GateKind::Uninteract => out.extend_from_slice(b"uninteract"),
     }
 }
 
@@ -101,22 +103,22 @@ fn print_value(out: &mut Vec<u8>, name: &Name, value: bool) -> Result<(), AllocE
 }
 
 fn print_each(out: &mut Vec<u8>, names: &[Name], values: &[bool]) -> Result<(), AllocError>
-    requires { length values.now ≡ length names.now }
+    requires { length values.now ≤ length names.now }
     ensures { OnOk result (out.new.items ≡ out.old.items ++ value_lines names.now values.now) }
 {
-    for i in 0..names.len() {
+    for i in 0..values.len() {
         print_value(out, &names[i], values[i])?;
     }
     Ok(())
 }
 
-/// A line `NAME 0` or `NAME 1` for each wire, in order of definition, for a value of each wire.
+/// A line `NAME 0` or `NAME 1` for each wire, in order of definition, as far as there are values.
 pub fn print_values(
     alloc: Global,
     circuit: &Circuit,
     values: &[bool],
 ) -> Result<Vec<u8>, AllocError>
-    requires { length values.now ≡ wires (netlist_of circuit.now) }
+    requires { length values.now ≤ wires (netlist_of circuit.now) }
     ensures { IfOk result (λ text. text.items ≡ value_lines (defined circuit.now) values.now) }
 {
     let mut out = Vec::new(alloc);

@@ -1,13 +1,14 @@
 //! Gates by the numbers of their wires, and the values of wires, gate after gate.
-ghost use Rattle.std.specs.Prelude.{◌≡◌, ◌≤◌, ◌++◌, Bool, List, Some, map, length, take, option_map, OnOk, OnErr, IfOk};
+ghost use Rattle.std.specs.Prelude.{◌≡◌, ◌≤◌, ◌++◌, Bool, List, Some, None, Ok, true, false, map, length, take, option_map, OnOk, OnErr, IfErr, IfOk};
 ghost use Rattle.std.specs.List.{range_with_len};
 ghost use Rattle.circuit.specs.Meaning.{number};
 ghost use Rattle.circuit.specs.Gates.{row, rule_of, uses};
 ghost use Rattle.circuit.specs.Bridge.{read};
-ghost use Rattle.circuit.specs.Evaluate.{evaluate};
+ghost use Rattle.circuit.specs.Evaluate.{evaluate, IsEvaluateFault};
 ghost use Rattle.circuit.specs.Wiring.{gate_of, gate_at};
 
 use crate::entry::{GateKind, Kind};
+use crate::netlist::ValuesFault;
 use crate::number::WireNo;
 use indexmap::IndexSet;
 use section_text::{Name, Seed};
@@ -124,15 +125,18 @@ fn value_at(values: &[bool], wire: WireNo) -> bool
     values.get(wire.number() as usize).copied().unwrap_or(false)
 }
 
-/// Adds the values of the wires that the gate defines.
+/// Adds the values of the wires that the gate defines. `false`: it has no row.
 #[tactic(auto, unfolding(crate::specs::Gates::row))]
-fn push_outs(values: &mut Vec<bool>, gate: GateWires) -> Result<(), AllocError>
-    ensures { OnOk result (option_map (λ (r : List Bool). values.old.items ++ r) (row (rule_of gate.kind) (map (read values.old.items) (take (uses (rule_of gate.kind)) gate.ins))) ≡ Some values.new.items) }
+fn push_outs(values: &mut Vec<bool>, gate: GateWires) -> Result<bool, AllocError>
+    ensures found { result ≡ Ok true → option_map (λ (r : List Bool). values.old.items ++ r) (row (rule_of gate.kind) (map (read values.old.items) (take (uses (rule_of gate.kind)) gate.ins))) ≡ Some values.new.items }
+    ensures none { result ≡ Ok false → row (rule_of gate.kind) (map (read values.old.items) (take (uses (rule_of gate.kind)) gate.ins)) ≡ None }
+    ensures kept { result ≡ Ok false → values.new.items ≡ values.old.items }
 {
-    let [x, y, z, _] = gate.ins;
+    let [x, y, z, w] = gate.ins;
     let a = value_at(values.as_slice(), x);
     let b = value_at(values.as_slice(), y);
     let c = value_at(values.as_slice(), z);
+    let d = value_at(values.as_slice(), w);
     match gate.kind {
         GateKind::Source(bit) => values.extend_from_slice(&[bit])?,
         GateKind::Fredkin => {
@@ -146,21 +150,40 @@ fn push_outs(values: &mut Vec<bool>, gate: GateWires) -> Result<(), AllocError>
         GateKind::Interact => values.extend_from_slice(&[a & b, !a & b, a & !b, a & b])?,
         GateKind::Switch => values.extend_from_slice(&[a, a & b, !a & b])?,
         GateKind::Delay(_) => values.extend_from_slice(&[a])?,
+        GateKind::Unswitch => {
+            if (a & c) | (!a & b) {
+                return Ok(false);
+            }
+            values.extend_from_slice(&[a, b | c])?
+        }
+        GateKind::Uninteract => match (a, b, c, d) {
+            (false, false, false, false) => values.extend_from_slice(&[false, false])?,
+            (false, true, false, false) => values.extend_from_slice(&[false, true])?,
+            (false, false, true, false) => values.extend_from_slice(&[true, false])?,
+            (true, false, false, true) => values.extend_from_slice(&[true, true])?,
+            _ => return Ok(false),
+        },
     }
-    Ok(())
+    Ok(true)
 }
 
-/// The values of all wires, those that are given first.
+/// The values of all wires, those that are given first. Where a gate has no row, those of the wires that are defined before it.
 pub(crate) fn values_of(
     alloc: Global,
     given: &[bool],
     gates: &[GateWires],
-) -> Result<Vec<bool>, AllocError>
-    ensures { IfOk result (λ vs. evaluate given.now (map gate_of gates.now) ≡ Some vs.items) }
+) -> Result<Vec<bool>, ValuesFault>
+    ensures values { IfOk result (λ vs. evaluate given.now (map gate_of gates.now) ≡ Some vs.items) }
+    ensures fault { IfErr result (λ e. IsEvaluateFault given.now (map gate_of gates.now) e) }
 {
     let mut values = given.to_vec(alloc)?;
-    for gate in gates {
-        push_outs(&mut values, *gate)?;
+    for (number, gate) in gates.iter().enumerate() {
+        if !push_outs(&mut values, *gate)? {
+            return Err(ValuesFault::OutOfDomain {
+                gate: number,
+                before: values,
+            });
+        }
     }
     Ok(values)
 }

@@ -2,20 +2,25 @@
 use Rattle.std.proofs.Common.{◌≡◌, ◌∙◌, ◌<◌, ◌++◌, ◌∷◌, ℕ, List, [], length, Option, Some, None, refl, sym, ap, subst, arith}
 use Rattle.std.specs.Prelude.{slice_get, codes}
 use Rattle.std.specs.List.{flat_map}
+use Rattle.std.specs.Option.{option_map}
 use Rattle.std.proofs.lemmas.Option.{slice_get_within}
 use Rattle.sha2.specs.Sha256.{sha256}
 use Rattle.section_text.specs.Spelling.{line_text}
 use Rattle.circuit.specs.Bridge.{circuit_of}
+use Rattle.module_box.specs.Locals.{LocalNet, circuit_gate}
 use Rattle.certificate.specs.Entries.{ModuleLines, modules_of}
 use Rattle.certificate.specs.Grammars.{CertState, setting_of}
 use Rattle.certificate.specs.Jobs.{JobState, AreJobsOf}
 use Rattle.certificate.specs.Modules.{AreModules}
 use Rattle.certificate.specs.Text.{certificate_text}
-use Rattle.local_run.specs.Faults.{IsFault, IsLeastFault}
+use Rattle.local_run.specs.Faults.{IsFault, IsLeastFault, IsLeastKeepFault}
+use Rattle.local_run.specs.Laws.{SameKeeps}
 use Rattle.local_run.specs.declared.fault.Fault.{Fault}
-use Rattle.local_run.proofs.ModuleJobs.{jobs_agree}
+use Rattle.local_run.specs.declared.fault.KeepFault.{KeepFault}
+use Rattle.local_run.proofs.ModuleJobs.{jobs_agree, keeps_agree}
 use Rattle.audit_core.specs.CoreLaws.{SaysTheSame}
-use Rattle.audit_core.specs.Verdicts.{Accepts, AreLeastFaults, AreReportLines, IsVerdict}
+use Rattle.audit_core.specs.Verdicts.{Accepts, AreLeastFaults, AreReportLines, IsToldOf, IsVerdict}
+use Rattle.audit_core.specs.declared.verdict.Reasons.{Reasons}
 use Rattle.audit_core.specs.declared.verdict.ReportLine.{ReportLine}
 use Rattle.audit_core.specs.declared.verdict.Verdict.{Verdict}
 use Rattle.audit_core.specs.declared.verdict.Verdict.TheVariants as verdict
@@ -54,12 +59,27 @@ module _ (c : CertState) (good : AreModules (setting_of c.circuit c.layout) (mod
           absurd (omega (arith, past, below, own_k.count))
       by_module (Some m) e = jobs_agree (circuit_of c.circuit) c.layout m j k f (good.each number m e).local.different (own_j.each number m j e at_j) (own_k.each number m k e at_k) is
 
+  -- the jobs of both lists have the same wires and gates, and the same keep faults
+  keeps_over : (js ks : List JobState) (number : ℕ) (j k : JobState) → AreOwn js → AreOwn ks → slice_get js number ≡ Some j → slice_get ks number ≡ Some k → SameKeeps j k
+  keeps_over js ks number j k own_j own_k at_j at_k = by_module (slice_get (modules_of c.entries) number) refl
+    where
+      by_module : (o : Option ModuleLines) → slice_get (modules_of c.entries) number ≡ o → SameKeeps j k
+      by_module None e =
+          let past = none-past (modules_of c.entries) number e in
+          let below : number < length ks = slice_get_within ks number k at_k in
+          absurd (omega (arith, past, below, own_k.count))
+      by_module (Some m) e = keeps_agree (circuit_of c.circuit) c.layout m j k (good.each number m e).local.different (own_j.each number m j e at_j) (own_k.each number m k e at_k)
+
   accepts_over : (js ks : List JobState) → AreOwn js → AreOwn ks → Accepts (setting_of c.circuit c.layout) (modules_of c.entries) js → Accepts (setting_of c.circuit c.layout) (modules_of c.entries) ks
   accepts_over js ks own_j own_k a = record {
     no_fault = λ number k f at is.
         let beside = job_beside js ks number k own_j own_k at in
         a.no_fault number beside.0 f beside.1 (fault_over ks js number k beside.0 f own_k own_j at beside.1 is);
     no_border_fault = a.no_border_fault;
+    no_keep_fault = λ number k f at is.
+        let beside = job_beside js ks number k own_j own_k at in
+        a.no_keep_fault number beside.0 f beside.1 ((keeps_over ks js number k beside.0 own_k own_j at beside.1).keeps f is);
+    kept = a.kept;
     on_time = a.on_time;
   }
 
@@ -67,13 +87,23 @@ module _ (c : CertState) (good : AreModules (setting_of c.circuit c.layout) (mod
   least_over j k there back None least = λ f is. least f (back f is)
   least_over j k there back (Some f) least = (there f least.0, λ g is. least.1 g (back g is))
 
-  leasts_over : (js ks : List JobState) (fs : List (Option Fault)) → AreOwn js → AreOwn ks → AreLeastFaults js fs → AreLeastFaults ks fs
+  least_keep_over : (j k : JobState) → SameKeeps j k → SameKeeps k j → (o : Option KeepFault) → IsLeastKeepFault j o → IsLeastKeepFault k o
+  least_keep_over j k there back None least = λ f is. least f (back.keeps f is)
+  least_keep_over j k there back (Some f) least = (there.keeps f least.0, λ g is. least.1 g (back.keeps g is))
+
+  leasts_over : (js ks : List JobState) (fs : List Reasons) → AreOwn js → AreOwn ks → AreLeastFaults js fs → AreLeastFaults ks fs
   leasts_over js ks fs own_j own_k a = record {
     count = a.count ∙ own_j.count ∙ sym own_k.count;
     each = λ number k f at there.
         let beside = job_beside js ks number k own_j own_k at in
-        least_over beside.0 k (λ g is. fault_over js ks number beside.0 k g own_j own_k beside.1 at is) (λ g is. fault_over ks js number k beside.0 g own_k own_j at beside.1 is) f
-        (a.each number beside.0 f beside.1 there);
+        let told : IsToldOf beside.0 f = a.each number beside.0 f beside.1 there in
+        let mine : SameKeeps beside.0 k = keeps_over js ks number beside.0 k own_j own_k beside.1 at in
+        record {
+          fault = least_over beside.0 k (λ g is. fault_over js ks number beside.0 k g own_j own_k beside.1 at is) (λ g is. fault_over ks js number k beside.0 g own_k own_j at beside.1 is) f.fault told.fault;
+          keep = told.keep;
+          least_keep = least_keep_over beside.0 k mine (keeps_over ks js number k beside.0 own_k own_j at beside.1) told.keep told.least_keep;
+          same = told.same ∙ ap (λ (l : LocalNet). option_map {T = KeepFault} (λ x. record x { gate = circuit_gate l x.gate }) told.keep) mine.locals;
+        };
   }
 
   lines_over : (js ks : List JobState) (lines : List ReportLine) → AreOwn js → AreOwn ks → AreReportLines (setting_of c.circuit c.layout) (modules_of c.entries) js lines → AreReportLines (setting_of c.circuit c.layout) (modules_of c.entries) ks lines

@@ -2,6 +2,7 @@
 use Rattle.std.proofs.Common.{◌≡◌, ℕ, zero, suc, ◌<◌, ◌%◌, true, false, List, [], ◌∷◌, ◌++◌, Option, Some, Result, Ok, refl, sym, subst, arith}
 use Rattle.std.specs.Prelude.{pos, codes, slice_get}
 use Rattle.std.proofs.Common.{Less, ◌∙◌}
+use Rattle.std.proofs.lemmas.Bool.{true≢false}
 use Rattle.std.proofs.lemmas.List.Elements.{All-from_recursion}
 use Rattle.std.proofs.lemmas.Option.{slice_get_within}
 use Rattle.bbm_rule.specs.Bits.{bit}
@@ -14,7 +15,7 @@ use Rattle.circuit.specs.Forms as circuit_forms
 use Rattle.circuit.specs.Rules as circuit_rules
 use Rattle.circuit.specs.Meaning as meaning
 use Rattle.circuit.specs.Bridge.{circuit_of, netlist_of, read}
-use Rattle.circuit.specs.Gates.{row}
+use Rattle.circuit.specs.Gates.{is_inverse, row}
 use Rattle.circuit.specs.Gates.{Interact as Interacts, Delay as Delays}
 use Rattle.circuit.specs.Meaning.{AreOrdered, Gate as NetGate, HasRow, Valuation, place_of, wires_after, number}
 use Rattle.circuit.specs.declared.entry.Entry.{Entry as CircuitLine}
@@ -32,7 +33,7 @@ use Rattle.module_box.specs.Boxes as boxes
 use Rattle.module_box.specs.Moments.{cell_cmp, moment_cmp}
 use Rattle.module_box.specs.Boxes.{in_box, in_halo, in_ring, some_neighbour}
 use Rattle.module_box.specs.LocalValues.{IsLocalValuation}
-use Rattle.module_box.specs.Locals.{AreLocalsOf, LocalNet, circuit_gate, circuit_wire, renumber_gate}
+use Rattle.module_box.specs.Locals.{AreLocalsOf, LocalNet, circuit_gate, circuit_wire, is_among, renumber_gate}
 use Rattle.module_box.specs.Schedules.{IsRising, event_at, held_at, signal_at}
 use Rattle.module_box.specs.declared.schedules.Event.{Event}
 use Rattle.module_box.specs.declared.schedules.Signal.TheVariants.{Zero, Wire}
@@ -200,6 +201,7 @@ first_job = record {
   edges = record { held = []; events = event 3 3 0 ∷ [] };
   halos = record { held = []; events = event 4 4 1 ∷ [] };
   stops = stands 0 2 2 0 ∷ [];
+  kept = [];
 }
 
 abbrev second_job : JobState
@@ -212,6 +214,7 @@ second_job = record {
   edges = record { held = []; events = [] };
   halos = record { held = []; events = event 3 3 0 ∷ event 4 4 1 ∷ [] };
   stops = [];
+  kept = [];
 }
 
 abbrev third_job : JobState
@@ -224,6 +227,7 @@ third_job = record {
   edges = record { held = []; events = [] };
   halos = record { held = []; events = event 3 3 0 ∷ event 4 4 1 ∷ [] };
   stops = stands 0 0 4 2 ∷ stands 3 3 7 7 ∷ [];
+  kept = [];
 }
 
 abbrev fourth_job : JobState
@@ -236,6 +240,7 @@ fourth_job = record {
   edges = record { held = []; events = event 4 4 1 ∷ [] };
   halos = record { held = []; events = event 3 3 0 ∷ [] };
   stops = stands 0 5 5 1 ∷ [];
+  kept = [];
 }
 
 abbrev modules : List ModuleLines
@@ -413,6 +418,8 @@ first_is = record {
   halos = refl;
   own = first_own;
   stops = refl;
+  kept = refl;
+  kept_are_used = λ k d lt. absurd (omega arith);
 }
 
 first_whole : IsJob first_job
@@ -482,6 +489,8 @@ second_is = record {
   halos = refl;
   own = second_own;
   stops = refl;
+  kept = refl;
+  kept_are_used = λ k d lt. absurd (omega arith);
 }
 
 second_whole : IsJob second_job
@@ -547,6 +556,8 @@ third_is = record {
   halos = refl;
   own = third_own;
   stops = refl;
+  kept = refl;
+  kept_are_used = λ k d lt. absurd (omega arith);
 }
 
 third_whole : IsJob third_job
@@ -613,6 +624,8 @@ fourth_is = record {
   halos = refl;
   own = fourth_own;
   stops = refl;
+  kept = refl;
+  kept_are_used = λ k d lt. absurd (omega arith);
 }
 
 fourth_whole : IsJob fourth_job
@@ -673,9 +686,25 @@ each_faultless (suc (suc zero)) j f e = subst (λ (j : JobState). ¬ IsFault j f
 each_faultless (suc (suc (suc zero))) j f e = subst (λ (j : JobState). ¬ IsFault j f) (same_some (Some fourth_job) fourth_job j refl e) (fourth_faultless f)
 each_faultless (suc (suc (suc (suc k)))) j f e = absurd (no_more k j e)
 
+keeps_none : (k g : ℕ) (j : JobState) → slice_get jobs k ≡ Some j → is_among j.kept g ≡ false
+keeps_none zero g j e = subst (λ (j : JobState). is_among j.kept g ≡ false) (same_some (Some first_job) first_job j refl e) refl
+keeps_none (suc zero) g j e = subst (λ (j : JobState). is_among j.kept g ≡ false) (same_some (Some second_job) second_job j refl e) refl
+keeps_none (suc (suc zero)) g j e = subst (λ (j : JobState). is_among j.kept g ≡ false) (same_some (Some third_job) third_job j refl e) refl
+keeps_none (suc (suc (suc zero))) g j e = subst (λ (j : JobState). is_among j.kept g ≡ false) (same_some (Some fourth_job) fourth_job j refl e) refl
+keeps_none (suc (suc (suc (suc k)))) g j e = absurd (no_more k j e)
+
+-- neither gate is an inverse one
+is_forward : (k : ℕ) (g : NetGate) → slice_get (netlist_of circuit).gates k ≡ Some g → is_inverse g.kind ≡ false
+unfolding number
+is_forward zero g e = subst (λ (g : NetGate). is_inverse g.kind ≡ false) (same_some (slice_get (netlist_of circuit).gates 0) _ g refl e) refl
+is_forward (suc zero) g e = subst (λ (g : NetGate). is_inverse g.kind ≡ false) (same_some (slice_get (netlist_of circuit).gates 1) _ g refl e) refl
+is_forward (suc (suc k)) g e = absurd (let none : ◌≡◌ {A = Option NetGate} (slice_get [] k) (Some g) = e in cc)
+
 accepts : Accepts (setting_of circuit layout) modules jobs
 accepts = record {
   no_fault = each_faultless;
+  no_keep_fault = λ k j f e is. absurd (true≢false (sym is.is_kept ∙ keeps_none k f.gate j e));
+  kept = λ k g e inverse. absurd (true≢false (sym inverse ∙ is_forward k g e));
   no_border_fault = no_border_fault (setting_of circuit layout) modules (only_time (λ t. border_test (setting_of circuit layout) modules t ≡ true) borders);
   on_time = times_kept;
 }

@@ -268,10 +268,8 @@ known text b output outcome reads says =
     let whole : IsFaultless (layout_grammar (Some (port_names_of c.circuit))) c.layout.size (parts_of c.layout) =
     subst (λ (q : Extent × List Part). IsFaultless (layout_grammar (Some (port_names_of c.circuit))) q.0 q.1) (sym same.layout)
     (subst (λ (cs : List CircuitLine). IsFaultless (layout_grammar (Some (port_names_of cs))) b.size b.parts) (sym same.circuit) good.layout) in
-    let gates = gates_are_ordered c.circuit circuit in
     record {
-      ordered = gates.0;
-      forward = gates.1;
+      ordered = gates_are_ordered c.circuit circuit;
       same = refl;
       limits = whole.header;
       laid_out = laid_out (Some (port_names_of c.circuit)) c.layout.size [] (parts_of c.layout) whole.each;

@@ -5,6 +5,7 @@ use Rattle.std.proofs.lemmas.Bool.{and_parts, and_from, false≢true}
 use Rattle.std.proofs.lemmas.Int.{ints}
 use Rattle.bbm_rule.specs.Spans.{in_span}
 use Rattle.module_box.specs.Boxes.{in_box, in_ring}
+use Rattle.module_box.specs.Schedules.{signal_at}
 use Rattle.module_box.specs.declared.boxes.Box2.{Box2}
 use Rattle.bbm_rule.proofs.Spans.{span_parts, span_from, in_span-negsuc}
 use Rattle.circuit.specs.Meaning.{Valuation}
@@ -18,7 +19,7 @@ use Rattle.local_run.specs.declared.fault.Kind.{Kind}
 use Rattle.local_run.specs.declared.fault.Kind.TheVariants.{Edge, Stop, End}
 use Rattle.local_run.specs.Places.{inner}
 use Rattle.module_box.proofs.RingTests.{ring_read}
-use Rattle.local_run.specs.Scans.{IsLeastBelow, IsStride, IsSought, IsFirst, IsFree, valuation}
+use Rattle.local_run.specs.Scans.{IsLeastBelow, IsStride, IsSought, IsFirst, IsFound, IsFree, is_defined, valuation}
 use Rattle.local_run.specs.declared.values.Values.{Values}
 
 -- ---- numbers of columns and rows
@@ -58,22 +59,50 @@ edge_none j n u t k x y e out a l f =
     let g : IsEdgeFault j (u a) t x y = subst (λ (k' : Kind). IsFaultUnder j (u a) t k' x y) (sym e) f in
     false≢true (sym out ∙ g.ring)
 
-pub end_least : (j : JobState) (n : ℕ) (u : ℕ → Valuation) (f : ℕ → Bool) (s : Signal) (d : Demand) (t : ℕ) (k : Kind) (x y : ℤ) (r : Option ℕ) → End ≡ k → IsSought j t k →
+pub end_least : (j : JobState) (vs : Values) (n : ℕ) (f : ℕ → Bool) (s : Signal) (d : Demand) (t : ℕ) (k : Kind) (x y : ℤ) (r : Option ℕ) → End ≡ k → IsSought j t k →
     in_box j.area x y ≡ true → job_demand j x y ≡ d → ((v : Valuation) (b : Bool) → Meets v d b → b ≡ is_live v s) → ((v : Valuation) (b : Bool) → b ≡ is_live v s → Meets v d b) →
-    ((a : ℕ) → a < n → f a ≡ local_run j (u a) t x y) → IsLeastBelow n (λ a. f a ≢ is_live (u a) s) r → IsLeastBelow n (λ a. IsFaultUnder j (u a) t k x y) r
-end_least j n u f s d t k x y r e sought inside ed to from same h =
-    subst (λ (k' : Kind). IsLeastBelow n (λ a. IsFaultUnder j (u a) t k' x y) r) e
-    (least_map n (λ a. f a ≢ is_live (u a) s) (λ a. IsFaultUnder j (u a) t End x y)
-    (λ a l ne. record {
-      last = at_end;
-      inside = inside;
-      differs = λ meets. ne (same a l ∙ to (u a) _ (subst (λ (d' : Demand). Meets (u a) d' (local_run j (u a) t x y)) ed meets));
-    })
-    (λ a l fault is. fault.differs (subst (λ (d' : Demand). Meets (u a) d' (local_run j (u a) t x y)) (sym ed) (from (u a) _ (sym (same a l) ∙ is))))
+    ((a : ℕ) → a < n → f a ≡ local_run j (valuation vs a) t x y) → IsLeastBelow n (λ a. (is_defined vs a ≡ true) × (f a ≢ is_live (valuation vs a) s)) r → IsLeastBelow n (λ a. IsFound j vs a t k x y) r
+end_least j vs n f s d t k x y r e sought inside ed to from same h =
+    subst (λ (k' : Kind). IsLeastBelow n (λ a. IsFound j vs a t k' x y) r) e
+    (least_map n (λ a. (is_defined vs a ≡ true) × (f a ≢ is_live (valuation vs a) s)) (λ a. IsFound j vs a t End x y)
+    (λ a l ne. (
+      ne.0,
+      record {
+        last = at_end;
+        inside = inside;
+        differs = λ meets. ne.1 (same a l ∙ to (valuation vs a) _ (subst (λ (d' : Demand). Meets (valuation vs a) d' (local_run j (valuation vs a) t x y)) ed meets));
+      },
+    ))
+    (λ a l fault. (fault.0, (λ is. fault.1.differs (subst (λ (d' : Demand). Meets (valuation vs a) d' (local_run j (valuation vs a) t x y)) (sym ed) (from (valuation vs a) _ (sym (same a l) ∙ is))))))
     r h)
   where
     at_end : t ≡ j.steps
     at_end = subst (λ (k' : Kind). IsSought j t k') (sym e) sought
+
+pub edge_least : (j : JobState) (vs : Values) (n : ℕ) (f : ℕ → Bool) (s : Signal) (t : ℕ) (k : Kind) (x y : ℤ) (r : Option ℕ) → Edge ≡ k → IsSought j t k → in_ring j.area x y ≡ true →
+    s ≡ signal_at j.edges t x y → ((a : ℕ) → a < n → f a ≡ local_run j (valuation vs a) t x y) → IsLeastBelow n (λ a. (is_defined vs a ≡ true) × (f a ≢ is_live (valuation vs a) s)) r →
+    IsLeastBelow n (λ a. IsFound j vs a t k x y) r
+edge_least j vs n f s t k x y r e sought ring es same h =
+    subst (λ (k' : Kind). IsLeastBelow n (λ a. IsFound j vs a t k' x y) r) e
+    (least_map n (λ a. (is_defined vs a ≡ true) × (f a ≢ is_live (valuation vs a) s)) (λ a. IsFound j vs a t Edge x y)
+    (λ a l ne. (
+      ne.0,
+      record {
+        odd = at.0;
+        early = at.1;
+        ring = ring;
+        differs = λ is. ne.1 (same a l ∙ is ∙ ap (is_live (valuation vs a)) (sym es));
+      },
+    ))
+    (λ a l fault. (fault.0, (λ is. fault.1.differs (sym (same a l) ∙ is ∙ ap (is_live (valuation vs a)) es))))
+    r h)
+  where
+    at : IsSought j t Edge
+    at = subst (λ (k' : Kind). IsSought j t k') (sym e) sought
+
+-- no cell but those of the ring is found
+pub edge_not_found : (j : JobState) (vs : Values) (n t : ℕ) (k : Kind) (x y : ℤ) → Edge ≡ k → in_ring j.area x y ≡ false → IsLeastBelow n (λ a. IsFound j vs a t k x y) None
+edge_not_found j vs n t k x y e out a l f = edge_none j n (λ a. valuation vs a) t k x y e out a l f.1
 
 -- ---- cells in order
 fault_in_box : (j : JobState) (v : Valuation) (t : ℕ) (kind : Kind) (x y : ℤ) → IsSought j t kind → IsFaultUnder j v t kind x y → in_box j.area x y ≡ true
@@ -83,24 +112,24 @@ fault_in_box j v t Stop x y s f = absurd s
 fault_in_box j v t End x y s f = f.inside
 
 abbrev pub FreeAt : JobState → Values → ℕ → Kind → ℕ → ℕ → ℕ → Type 0
-FreeAt j vs t kind x y a = ¬ IsFaultUnder j (valuation vs a) t kind (inner j.area.x x) (inner j.area.y y)
+FreeAt j vs t kind x y a = ¬ IsFound j vs a t kind (inner j.area.x x) (inner j.area.y y)
 
 pub free_from : (j : JobState) (vs : Values) (t : ℕ) (kind : Kind) → IsSought j t kind →
     ((x y a : ℕ) → x < j.area.w → y < j.area.h → a < assignments j → FreeAt j vs t kind x y a) → IsFree j vs t kind
 unfolding in_box
 free_from j vs t kind s free x y a l f =
-    let h = and_parts _ _ (fault_in_box j _ t kind x y s f) in
+    let h = and_parts _ _ (fault_in_box j _ t kind x y s f.1) in
     let px = span_at j.area.x j.area.w x h.0 in
     let py = span_at j.area.y j.area.h y h.1 in
     free px.number py.number a px.below py.below l
-    (subst (λ (z : ℤ). IsFaultUnder j (valuation vs a) t kind z (inner j.area.y py.number)) px.is
-    (subst (λ (z : ℤ). IsFaultUnder j (valuation vs a) t kind x z) py.is f))
+    (subst (λ (z : ℤ). IsFound j vs a t kind z (inner j.area.y py.number)) px.is
+    (subst (λ (z : ℤ). IsFound j vs a t kind x z) py.is f))
 
 pub first_from : (j : JobState) (vs : Values) (t : ℕ) (kind : Kind) (x y a : ℕ) (cx cy : ℤ) → IsSought j t kind → cx ≡ inner j.area.x x → cy ≡ inner j.area.y y →
     x < j.area.w → y < j.area.h →
     ((x' y' a' : ℕ) → x' < j.area.w → y' < y → a' < assignments j → FreeAt j vs t kind x' y' a') →
     ((x' a' : ℕ) → x' < x → a' < assignments j → FreeAt j vs t kind x' y a') →
-    IsLeastBelow (assignments j) (λ a'. IsFaultUnder j (valuation vs a') t kind (inner j.area.x x) (inner j.area.y y)) (Some a) →
+    IsLeastBelow (assignments j) (λ a'. IsFound j vs a' t kind (inner j.area.x x) (inner j.area.y y)) (Some a) →
     IsFirst j vs t kind (record { time = t; kind = kind; cell = record { x = cx; y = cy }; assignment = a })
 unfolding in_box
 first_from j vs t kind x y a cx cy s ex ey lx ly rows cells least = rw (ex, ey) (record {
@@ -109,17 +138,17 @@ first_from j vs t kind x y a cx cy s ex ey lx ly rows cells least = rw (ex, ey) 
   small = least.0;
   fault = least.1;
   row = λ x' y' a' l less f.
-      let h = and_parts _ _ (fault_in_box j _ t kind x' y' s f) in
+      let h = and_parts _ _ (fault_in_box j _ t kind x' y' s f.1) in
       let px = span_at j.area.x j.area.w x' h.0 in
       let py = span_at j.area.y j.area.h y' h.1 in
       rows px.number py.number a' px.below (inner_less j.area.y py.number y (subst (λ (z : ℤ). z <ℤ inner j.area.y y) py.is less)) l
-      (subst (λ (z : ℤ). IsFaultUnder j (valuation vs a') t kind z (inner j.area.y py.number)) px.is
-      (subst (λ (z : ℤ). IsFaultUnder j (valuation vs a') t kind x' z) py.is f));
+      (subst (λ (z : ℤ). IsFound j vs a' t kind z (inner j.area.y py.number)) px.is
+      (subst (λ (z : ℤ). IsFound j vs a' t kind x' z) py.is f));
   column = λ x' a' l less f.
-      let h = and_parts _ _ (fault_in_box j _ t kind x' (inner j.area.y y) s f) in
+      let h = and_parts _ _ (fault_in_box j _ t kind x' (inner j.area.y y) s f.1) in
       let px = span_at j.area.x j.area.w x' h.0 in
       cells px.number a' (inner_less j.area.x px.number x (subst (λ (z : ℤ). z <ℤ inner j.area.x x) px.is less)) l
-      (subst (λ (z : ℤ). IsFaultUnder j (valuation vs a') t kind z (inner j.area.y y)) px.is f);
+      (subst (λ (z : ℤ). IsFound j vs a' t kind z (inner j.area.y y)) px.is f);
   assignment = least.2;
 })
 

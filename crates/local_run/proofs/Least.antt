@@ -5,11 +5,12 @@ use Rattle.std.specs.Ordering.{nat_cmp, int_cmp, ordering_reverse}
 use Rattle.std.specs.Cmp.{IsTotalOrder}
 use Rattle.std.proofs.lemmas.Cmp.{then_total, on_total, nat_cmp_total, int_cmp_total}
 use Rattle.std.proofs.lemmas.Map.Lookups.{CmpEqualImpliesEq, exact_pairs, exact_unsigned, exact_signed}
-use Rattle.local_run.specs.Order.{kind_number, fault_cmp}
+use Rattle.local_run.specs.Order.{kind_number, fault_cmp, keep_cmp}
 use Rattle.module_box.specs.Moments.{cell_cmp}
 use Rattle.bbm_rule.specs.declared.block.Cell.{Cell}
-use Rattle.local_run.specs.Laws.{LeastFaultIsUnique}
+use Rattle.local_run.specs.Laws.{LeastFaultIsUnique, LeastKeepFaultIsUnique}
 use Rattle.local_run.specs.declared.fault.Fault.{Fault}
+use Rattle.local_run.specs.declared.fault.KeepFault.{KeepFault}
 use Rattle.local_run.specs.declared.fault.Kind.{Kind}
 use Rattle.local_run.specs.declared.fault.Kind.TheVariants.{Edge, Stop, End}
 
@@ -66,3 +67,18 @@ least_unique j None (Some b) f g = absurd (f b g.0)
 least_unique j (Some a) None f g = absurd (g a f.0)
 least_unique j (Some a) (Some b) f g =
     ap Some (fault_exact a b (both_ways (fault_cmp a b) (fault_cmp b a) (fault_total.antisymm a b) (f.1 b g.0) (g.1 a f.0)))
+
+keep_total : IsTotalOrder keep_cmp
+unfolding keep_cmp
+keep_total = then_total (on_total (λ (f : KeepFault). f.gate) nat_cmp_total) (on_total (λ (f : KeepFault). f.assignment) nat_cmp_total)
+
+keep_exact : CmpEqualImpliesEq keep_cmp
+unfolding keep_cmp
+keep_exact a b e = ap (λ (k : ℕ × ℕ). record { gate = k.0; assignment = k.1 }) (exact_pairs nat_cmp nat_cmp exact_unsigned exact_unsigned (a.gate, a.assignment) (b.gate, b.assignment) e)
+
+pub least_keep_unique : LeastKeepFaultIsUnique
+least_keep_unique j None None f g = refl
+least_keep_unique j None (Some b) f g = absurd (f b g.0)
+least_keep_unique j (Some a) None f g = absurd (g a f.0)
+least_keep_unique j (Some a) (Some b) f g =
+    ap Some (keep_exact a b (both_ways (keep_cmp a b) (keep_cmp b a) (keep_total.antisymm a b) (f.1 b g.0) (g.1 a f.0)))

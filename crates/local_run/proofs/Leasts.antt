@@ -1,20 +1,30 @@
 -- From the first fault of a time and a kind to the least fault of the job
-use Rattle.std.proofs.Common.{◌≡◌, ◌≢◌, ℕ, ◌<◌, ◌≤◌, ◌%◌, ◌+◌, refl, arith, sym, ◌∙◌, subst, Option, Some, None, Ordering, Less, Equal, Greater, ◌⊎◌, inl, inr}
-use Rattle.std.specs.Prelude.{ℤ, ◌<ℤ◌, MatchOption}
+use Rattle.std.proofs.Common.{◌≡◌, ◌≢◌, ℕ, ◌+◌, true, length, ◌<◌, ◌≤◌, ◌%◌, refl, arith, sym, ◌∙◌, subst, Option, Some, None, Ordering, Less, Equal, Greater, ◌⊎◌, inl, inr}
+use Rattle.std.specs.Prelude.{ℤ, ◌<ℤ◌, ◌↔◌, MatchOption, IsTrue}
+use Rattle.std.proofs.Props.{props}
+use Rattle.std.proofs.lemmas.Option.{slice_get_within}
+use Rattle.module_box.specs.Locals.{is_among}
+use Rattle.std.proofs.lemmas.Bool.{cases_Bool, cases_lt}
+use Rattle.std.proofs.Math.Logic.{∥∥₁_elim}
+use Rattle.bbm_rule.specs.Bits.{bit}
+use Rattle.circuit.proofs.Undefined.{undefined_has_none}
+use Rattle.module_box.specs.LocalValues.{AreRowsAt, value_of}
 use Rattle.std.specs.List.{All}
 use Rattle.bbm_rule.proofs.BitLemmas.{by_lt_or_le}
 use Rattle.std.specs.Ordering.{nat_cmp, int_cmp, ordering_then}
 use Rattle.module_box.specs.Moments.{cell_cmp}
-use Rattle.circuit.specs.Meaning.{Valuation}
+use Rattle.circuit.specs.Meaning.{IsUndefined}
 use Rattle.certificate.specs.Jobs.{JobState}
 use Rattle.certificate.specs.declared.job.Stop as listed
-use Rattle.local_run.specs.Order.{kind_number, fault_cmp}
-use Rattle.local_run.specs.Faults.{IsFaultUnder, IsFault, IsLeastFault, assignments}
+use Rattle.local_run.specs.Order.{kind_number, fault_cmp, keep_cmp}
+use Rattle.local_run.specs.Faults.{IsFault, IsKeepFault, IsLeastFault, IsLeastKeepFault, assignments}
 use Rattle.local_run.specs.declared.fault.Fault.{Fault}
+use Rattle.local_run.specs.declared.fault.KeepFault.{KeepFault}
 use Rattle.local_run.specs.declared.fault.Kind.{Kind}
 use Rattle.local_run.specs.declared.fault.Kind.TheVariants.{Edge, Stop, End}
 use Rattle.local_run.proofs.Decided.{decided}
-use Rattle.local_run.specs.Scans.{HasNoEdgeFault, IsReady, IsFirst, IsFirstAt, IsFree, valuation}
+use Rattle.local_run.specs.Laws.{UndefinedHasNoFault}
+use Rattle.local_run.specs.Scans.{HasNoEdgeFault, IsReady, IsFirst, IsFirstAt, IsFound, IsFree, IsLeastBelow, is_defined, valuation}
 use Rattle.local_run.specs.declared.values.Values.{Values}
 
 nat_greater : (a b : ℕ) → nat_cmp a b ≡ Greater → b < a
@@ -72,13 +82,25 @@ kind_same End Edge e = absurd (omega arith)
 kind_same End Stop e = absurd (omega arith)
 kind_same End End e = refl
 
+-- where a used gate has no row there is no fault
+pub undefined_no_fault : UndefinedHasNoFault
+undefined_no_fault j f k ordered u h = ∥∥₁_elim h.shown (λ x y. absurd x) (λ s. undefined_has_none j.locals.netlist (bit f.assignment) s.values k ordered u s.local)
+
+rows_at : (j : JobState) (vs : Values) (a : ℕ) → IsReady j vs → a < assignments j → AreRowsAt j.locals.netlist vs.words a vs.rows.values.items vs.rows.undefined.items vs.rows.defined.items
+rows_at j vs a ready small = ready.rows.each a (let count = ready.count in let room = ready.room in omega (arith, small, count, room))
+
 -- what a fault is under the values that are given
-pub under : (j : JobState) (vs : Values) (f : Fault) → IsReady j vs → IsFault j f → IsFaultUnder j (valuation vs f.assignment) f.time f.kind f.cell.x f.cell.y
-under j vs f ready h = (decided j f (valuation vs f.assignment) ready.job ready.ordered h.in_range (ready.local f.assignment h.in_range)).0 h
+pub under : (j : JobState) (vs : Values) (f : Fault) → IsReady j vs → IsFault j f → IsFound j vs f.assignment f.time f.kind f.cell.x f.cell.y
+under j vs f ready h =
+    let rows = rows_at j vs f.assignment ready h.in_range in
+    elim (cases_Bool (is_defined vs f.assignment)) [
+      | inl e ↦ (e, (decided j f (valuation vs f.assignment) ready.job ready.ordered h.in_range (rows.local e)).0 h)
+      | inr e ↦ let gap = rows.none e in absurd (undefined_no_fault j f gap.0 ready.ordered gap.1 h)
+    ]
 
 -- and from them
-shown : (j : JobState) (vs : Values) (f : Fault) → IsReady j vs → f.assignment < assignments j → IsFaultUnder j (valuation vs f.assignment) f.time f.kind f.cell.x f.cell.y → IsFault j f
-shown j vs f ready small h = (decided j f (valuation vs f.assignment) ready.job ready.ordered small (ready.local f.assignment small)).1 h
+shown : (j : JobState) (vs : Values) (f : Fault) → IsReady j vs → f.assignment < assignments j → IsFound j vs f.assignment f.time f.kind f.cell.x f.cell.y → IsFault j f
+shown j vs f ready small h = (decided j f (valuation vs f.assignment) ready.job ready.ordered small ((rows_at j vs f.assignment ready small).local h.0)).1 h.1
 
 first_least : (j : JobState) (vs : Values) (f : Fault) → IsReady j vs → IsFirst j vs f.time f.kind f →
     ((g : Fault) → IsFault j g → ¬ (g.time < f.time)) → ((g : Fault) → IsFault j g → f.time ≡ g.time → ¬ (kind_number g.kind < kind_number f.kind)) → IsLeastFault j (Some f)
@@ -86,16 +108,16 @@ first_least j vs f ready first earlier lower = (
   shown j vs f ready first.small first.fault,
   (λ g h. not_greater f g (earlier g h) (lower g h)
       (λ et ek l. first.row g.cell.x g.cell.y g.assignment h.in_range l (moved g h et ek))
-      (λ et ek ey l. first.column g.cell.x g.assignment h.in_range l (subst (λ (z : ℤ). IsFaultUnder j (valuation vs g.assignment) f.time f.kind g.cell.x z) (sym ey) (moved g h et ek)))
+      (λ et ek ey l. first.column g.cell.x g.assignment h.in_range l (subst (λ (z : ℤ). IsFound j vs g.assignment f.time f.kind g.cell.x z) (sym ey) (moved g h et ek)))
       (λ et ek ey ex l. first.assignment g.assignment l
-      (subst (λ (z : ℤ). IsFaultUnder j (valuation vs g.assignment) f.time f.kind z f.cell.y) (sym ex)
-      (subst (λ (z : ℤ). IsFaultUnder j (valuation vs g.assignment) f.time f.kind g.cell.x z) (sym ey) (moved g h et ek))))),
+      (subst (λ (z : ℤ). IsFound j vs g.assignment f.time f.kind z f.cell.y) (sym ex)
+      (subst (λ (z : ℤ). IsFound j vs g.assignment f.time f.kind g.cell.x z) (sym ey) (moved g h et ek))))),
 )
   where
-    moved : (g : Fault) → IsFault j g → f.time ≡ g.time → kind_number f.kind ≡ kind_number g.kind → IsFaultUnder j (valuation vs g.assignment) f.time f.kind g.cell.x g.cell.y
+    moved : (g : Fault) → IsFault j g → f.time ≡ g.time → kind_number f.kind ≡ kind_number g.kind → IsFound j vs g.assignment f.time f.kind g.cell.x g.cell.y
     moved g h et ek =
-        subst (λ (t : ℕ). IsFaultUnder j (valuation vs g.assignment) t f.kind g.cell.x g.cell.y) (sym et)
-        (subst (λ (k : Kind). IsFaultUnder j (valuation vs g.assignment) g.time k g.cell.x g.cell.y) (sym (kind_same _ _ ek))
+        subst (λ (t : ℕ). IsFound j vs g.assignment t f.kind g.cell.x g.cell.y) (sym et)
+        (subst (λ (k : Kind). IsFound j vs g.assignment g.time k g.cell.x g.cell.y) (sym (kind_same _ _ ek))
         (under j vs g ready h))
 
 -- no time before t has a fault of an edge or of a stop
@@ -112,10 +134,10 @@ free_more j vs t free edges stops = record {
 
 -- then there is no fault before t, where the last time is not before
 before_free : (j : JobState) (vs : Values) (t : ℕ) → t ≤ j.steps → AreFreeBefore j vs t →
-    (s : ℕ) (k : Kind) (x y : ℤ) (a : ℕ) → a < assignments j → IsFaultUnder j (valuation vs a) s k x y → ¬ (s < t)
-before_free j vs t early free s Edge x y a small d l = free.edges s l d.odd x y a small d
+    (s : ℕ) (k : Kind) (x y : ℤ) (a : ℕ) → a < assignments j → IsFound j vs a s k x y → ¬ (s < t)
+before_free j vs t early free s Edge x y a small d l = free.edges s l d.1.odd x y a small d
 before_free j vs t early free s Stop x y a small d l = free.stops s l x y a small d
-before_free j vs t early free s End x y a small d l = let e = d.last in omega arith
+before_free j vs t early free s End x y a small d l = let e = d.1.last in omega arith
 
 none_before : (j : JobState) (vs : Values) (t : ℕ) → IsReady j vs → t ≤ j.steps → AreFreeBefore j vs t → (f : Fault) → IsFault j f → ¬ (f.time < t)
 none_before j vs t ready early free f h l = before_free j vs t early free f.time f.kind f.cell.x f.cell.y f.assignment h.in_range (under j vs f ready h) l
@@ -126,27 +148,27 @@ is_first j vs t k f first =
 
 -- from the first fault of a kind at a time, where the kinds before it have no fault at the time
 least_at : (j : JobState) (vs : Values) (t : ℕ) (k : Kind) (f : Fault) → IsReady j vs → t ≤ j.steps → AreFreeBefore j vs t → IsFirst j vs t k f →
-    ((l : Kind) (x y : ℤ) (a : ℕ) → a < assignments j → IsFaultUnder j (valuation vs a) t l x y → ¬ (kind_number l < kind_number k)) → IsLeastFault j (Some f)
+    ((l : Kind) (x y : ℤ) (a : ℕ) → a < assignments j → IsFound j vs a t l x y → ¬ (kind_number l < kind_number k)) → IsLeastFault j (Some f)
 least_at j vs t k f ready early free first lower = first_least j vs f ready (is_first j vs t k f first)
     (λ g h l. none_before j vs t ready early free g h (subst (λ (n : ℕ). g.time < n) first.at_time l))
     (λ g h e l. lower g.kind g.cell.x g.cell.y g.assignment h.in_range
-    (subst (λ (n : ℕ). IsFaultUnder j (valuation vs g.assignment) n g.kind g.cell.x g.cell.y) (sym e ∙ first.at_time) (under j vs g ready h))
+    (subst (λ (n : ℕ). IsFound j vs g.assignment n g.kind g.cell.x g.cell.y) (sym e ∙ first.at_time) (under j vs g ready h))
     (subst (λ (q : Kind). kind_number g.kind < kind_number q) first.same_kind l))
 
-none_below_edge : (j : JobState) (vs : Values) (t : ℕ) (l : Kind) (x y : ℤ) (a : ℕ) → a < assignments j → IsFaultUnder j (valuation vs a) t l x y → ¬ (kind_number l < 0)
+none_below_edge : (j : JobState) (vs : Values) (t : ℕ) (l : Kind) (x y : ℤ) (a : ℕ) → a < assignments j → IsFound j vs a t l x y → ¬ (kind_number l < 0)
 none_below_edge j vs t l x y a small d h = omega (arith, h)
 
-none_below_stop : (j : JobState) (vs : Values) (t : ℕ) → HasNoEdgeFault j vs t → (l : Kind) (x y : ℤ) (a : ℕ) → a < assignments j → IsFaultUnder j (valuation vs a) t l x y → ¬ (kind_number l < 1)
-none_below_stop j vs t edges Edge x y a small d h = edges d.odd x y a small d
+none_below_stop : (j : JobState) (vs : Values) (t : ℕ) → HasNoEdgeFault j vs t → (l : Kind) (x y : ℤ) (a : ℕ) → a < assignments j → IsFound j vs a t l x y → ¬ (kind_number l < 1)
+none_below_stop j vs t edges Edge x y a small d h = edges d.1.odd x y a small d
 none_below_stop j vs t edges Stop x y a small d h = omega (arith, h)
 none_below_stop j vs t edges End x y a small d h = omega (arith, h)
 
 -- at the last time no edge is looked at
 no_last_edge : (j : JobState) (vs : Values) → HasNoEdgeFault j vs j.steps
-no_last_edge j vs odd x y a small d = let e = d.early in omega (arith, e)
+no_last_edge j vs odd x y a small d = let e = d.1.early in omega (arith, e)
 
-none_below_end : (j : JobState) (vs : Values) → IsFree j vs j.steps Stop → (l : Kind) (x y : ℤ) (a : ℕ) → a < assignments j → IsFaultUnder j (valuation vs a) j.steps l x y → ¬ (kind_number l < 2)
-none_below_end j vs stops Edge x y a small d h = no_last_edge j vs d.odd x y a small d
+none_below_end : (j : JobState) (vs : Values) → IsFree j vs j.steps Stop → (l : Kind) (x y : ℤ) (a : ℕ) → a < assignments j → IsFound j vs a j.steps l x y → ¬ (kind_number l < 2)
+none_below_end j vs stops Edge x y a small d h = no_last_edge j vs d.1.odd x y a small d
 none_below_end j vs stops Stop x y a small d h = stops x y a small d
 none_below_end j vs stops End x y a small d h = omega (arith, h)
 
@@ -161,16 +183,16 @@ last_stop_least j vs f ready free first = least_at j vs j.steps Stop f ready (om
 
 -- no fault at all
 none_left : (j : JobState) (vs : Values) → AreFreeBefore j vs j.steps → IsFree j vs j.steps Stop → IsFree j vs j.steps End → All (λ s. s.at.time ≤ j.steps) j.stops →
-    (t : ℕ) (k : Kind) (x y : ℤ) (a : ℕ) → a < assignments j → ¬ IsFaultUnder j (valuation vs a) t k x y
-none_left j vs free stops ends timed t Edge x y a small d = free.edges t d.early d.odd x y a small d
+    (t : ℕ) (k : Kind) (x y : ℤ) (a : ℕ) → a < assignments j → ¬ IsFound j vs a t k x y
+none_left j vs free stops ends timed t Edge x y a small d = free.edges t d.1.early d.1.odd x y a small d
 none_left j vs free stops ends timed t Stop x y a small d =
     by_lt_or_le t j.steps (λ h. free.stops t h x y a small d)
     (λ h.
-    let here : d.stop.at.time ≤ j.steps = subst (λ (s : listed.Stop). s.at.time ≤ j.steps) d.is_listed.2 (timed d.is_listed.0 d.stop d.is_listed.1) in
-    let time = d.time in
+    let here : d.1.stop.at.time ≤ j.steps = subst (λ (s : listed.Stop). s.at.time ≤ j.steps) d.1.is_listed.2 (timed d.1.is_listed.0 d.1.stop d.1.is_listed.1) in
+    let time = d.1.time in
     let e : t ≡ j.steps = omega (arith, here, time, h) in
-    stops x y a small (subst (λ (n : ℕ). IsFaultUnder j (valuation vs a) n Stop x y) e d))
-none_left j vs free stops ends timed t End x y a small d = ends x y a small (subst (λ (n : ℕ). IsFaultUnder j (valuation vs a) n End x y) d.last d)
+    stops x y a small (subst (λ (n : ℕ). IsFound j vs a n Stop x y) e d))
+none_left j vs free stops ends timed t End x y a small d = ends x y a small (subst (λ (n : ℕ). IsFound j vs a n End x y) d.1.last d)
 
 -- the first fault of a demand, or none
 pub end_least_fault : (j : JobState) (vs : Values) (o : Option Fault) → IsReady j vs → AreFreeBefore j vs j.steps → IsFree j vs j.steps Stop →
@@ -178,3 +200,51 @@ pub end_least_fault : (j : JobState) (vs : Values) (o : Option Fault) → IsRead
 end_least_fault j vs (Some f) ready free stops first = least_at j vs j.steps End f ready (omega arith) free first (none_below_end j vs stops)
 end_least_fault j vs None ready free stops ends = λ g h.
     none_left j vs free stops ends (λ k s l. (ready.job.stops k s l).time) g.time g.kind g.cell.x g.cell.y g.assignment h.in_range (under j vs g ready h)
+
+-- ---- keep faults
+-- a gate's row tells its keep faults
+keep_tells : (j : JobState) (vs : Values) (a gate : ℕ) → IsReady j vs → a < assignments j → gate < length j.locals.netlist.gates → IsTrue (is_among j.kept gate) →
+    value_of vs.words vs.rows.undefined.items a gate ≡ true ↔ IsKeepFault j (record { gate = gate; assignment = a })
+keep_tells j vs a gate ready small below kept = (
+  (λ e. record { in_range = small; is_kept = kept; shown = ∣ ((rows_at j vs a ready small).undefined gate below).0 e ∣₁ }),
+  (λ h. ∥∥₁_elim h.shown (Prim.hlevel props) (λ u. ((rows_at j vs a ready small).undefined gate below).1 u)),
+)
+
+keep_below : (j : JobState) (f : KeepFault) → IsKeepFault j f → f.gate < length j.locals.netlist.gates
+keep_below j f h = ∥∥₁_elim h.shown (Prim.hlevel props) (λ (u : IsUndefined j.locals.netlist (bit f.assignment) f.gate). slice_get_within j.locals.netlist.gates f.gate u.gate u.numbered)
+
+-- no gate before this one has a keep fault
+abbrev pub IsKeepFree : JobState → ℕ → Type 0
+IsKeepFree j gates = (f : KeepFault) → f.gate < gates → ¬ IsKeepFault j f
+
+abbrev pub IsLeastRow : JobState → Values → ℕ → Option ℕ → Type 0
+IsLeastRow j vs gate r = IsLeastBelow vs.count (λ a. value_of vs.words vs.rows.undefined.items a gate ≡ true) r
+
+pub keep_found : (j : JobState) (vs : Values) (gate a : ℕ) → IsReady j vs → gate < length j.locals.netlist.gates → IsTrue (is_among j.kept gate) → IsKeepFree j gate → IsLeastRow j vs gate (Some a) →
+    IsLeastKeepFault j (Some (record { gate = gate; assignment = a }))
+unfolding keep_cmp
+keep_found j vs gate a ready below kept free least =
+    let small : a < assignments j = (let count = ready.count in let l = least.0 in omega (arith, count, l)) in (
+      (keep_tells j vs a gate ready small below kept).0 least.1,
+      (λ g h greater. elim (then_greater (nat_cmp gate g.gate) (nat_cmp a g.assignment) greater) [
+        | inl e ↦ free g (nat_greater gate g.gate e) h
+        | inr p ↦
+            let same : gate ≡ g.gate = nat_equal gate g.gate p.0 in
+            let moved : IsKeepFault j (record { gate = gate; assignment = g.assignment }) = subst (λ n. IsKeepFault j (record { gate = n; assignment = g.assignment })) (sym same) h in
+            least.2 g.assignment (nat_greater a g.assignment p.1) ((keep_tells j vs g.assignment gate ready h.in_range below kept).1 moved)
+      ]),
+    )
+
+pub keep_free_more : (j : JobState) (vs : Values) (gate : ℕ) → IsReady j vs → gate < length j.locals.netlist.gates → IsKeepFree j gate → (IsTrue (is_among j.kept gate) → IsLeastRow j vs gate None) →
+    IsKeepFree j (gate + 1)
+keep_free_more j vs gate ready below free none f h is = elim (cases_lt f.gate gate) [
+  | inl less ↦ free f less is
+  | inr large ↦
+      let same : f.gate ≡ gate = omega arith in
+      let moved : IsKeepFault j (record { gate = gate; assignment = f.assignment }) = subst (λ n. IsKeepFault j (record { gate = n; assignment = f.assignment })) same is in
+      let kept : IsTrue (is_among j.kept gate) = moved.is_kept in
+      none kept f.assignment (let count = ready.count in let small = is.in_range in omega (arith, count, small)) ((keep_tells j vs f.assignment gate ready is.in_range below kept).1 moved)
+]
+
+pub keep_none : (j : JobState) (gates : ℕ) → length j.locals.netlist.gates ≤ gates → IsKeepFree j gates → IsLeastKeepFault j None
+keep_none j gates all free f h = free f (let below = keep_below j f h in omega (arith, below, all)) h

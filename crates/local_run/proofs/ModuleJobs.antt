@@ -2,7 +2,7 @@
 use Rattle.std.proofs.Common.{◌≡◌, ℕ, zero, suc, ◌+◌, ◌<◌, ◌≤◌, ◌^◌, ◌&&◌, ◌||◌, List, [], ◌∷◌, map, length, drop, Some, refl, sym, ap, ap₂, subst, ◌∙◌, arith, inl, inr}
 use Rattle.std.specs.Prelude.{ℤ, IsTrue, Contains, slice_get, slice_index, slice_index_or}
 use Rattle.std.specs.List.{All, range_with_len}
-use Rattle.std.proofs.lemmas.Bool.{cases_Bool}
+use Rattle.std.proofs.lemmas.Bool.{cases_Bool, cases_lt}
 use Rattle.std.proofs.lemmas.List.Elements.{All-head, All-tail}
 use Rattle.std.proofs.lemmas.Option.{same_Some, slice_get-get_or}
 use Rattle.std.proofs.Math.Logic.{∥∥₁_map}
@@ -11,8 +11,8 @@ use Rattle.circuit.specs.Gates.{Rule, Source, Fredkin, Cswap, Interact, Switch, 
 use Rattle.circuit.specs.Meaning.{Circuit, Gate, Netlist, Valuation, AreOrdered, wires, wires_after}
 use Rattle.pattern.specs.Layout.{Pattern}
 use Rattle.module_box.specs.Boxes.{in_box, in_ring, in_halo}
-use Rattle.module_box.specs.LocalValues.{IsLocalValuation}
-use Rattle.module_box.specs.Locals.{LocalNet, AreDifferent, AreLocalsOf, circuit_wire, renumber_gate}
+use Rattle.module_box.specs.LocalValues.{IsLocalValuation, IsLocallyUndefined}
+use Rattle.module_box.specs.Locals.{LocalNet, AreDifferent, AreLocalsOf, circuit_gate, circuit_wire, is_among, renumber_gate}
 use Rattle.module_box.specs.Schedules.{Signals, signal_at}
 use Rattle.module_box.specs.declared.schedules.Event.{Event}
 use Rattle.module_box.specs.declared.schedules.Held.{Held}
@@ -24,10 +24,11 @@ use Rattle.certificate.specs.Signals.{IsBelow, IsDemandBelow, Meets, is_live, re
 use Rattle.certificate.specs.declared.job.Demand.{Demand}
 use Rattle.certificate.specs.declared.job.Demand.TheVariants as Demanded
 use Rattle.certificate.specs.declared.job.Stop as listed
-use Rattle.local_run.specs.Faults.{HasFault, IsFault, IsFaultUnder}
-use Rattle.local_run.specs.Laws.{JobsOfOneModuleAgree}
+use Rattle.local_run.specs.Faults.{HasFault, IsFault, IsFaultUnder, IsKeepFault}
+use Rattle.local_run.specs.Laws.{JobsOfOneModuleAgree, JobsOfOneModuleAgreeOnKeeps}
 use Rattle.local_run.specs.Runs.{local_run, with_halo}
 use Rattle.local_run.specs.declared.fault.Fault.{Fault}
+use Rattle.local_run.specs.declared.fault.KeepFault.{KeepFault}
 use Rattle.local_run.specs.declared.fault.Kind.{Kind}
 use Rattle.local_run.specs.declared.fault.Kind.TheVariants.{Edge, Stop, End}
 use Rattle.local_run.proofs.LocalRuns.{even_or_odd, local_even, local_odd, step_all_same}
@@ -44,6 +45,7 @@ record AreAlike (j k : JobState) : Type 0 where
   edges : j.edges ≡ k.edges
   halos : j.halos ≡ k.halos
   stops : j.stops ≡ k.stops
+  kept : j.kept ≡ k.kept
 
 halo_alike : (j k : JobState) → AreAlike j k → (u : Valuation) (t : ℕ) (s s' : State) (x y : ℤ) → s x y ≡ s' x y → with_halo j u t s x y ≡ with_halo k u t s' x y
 unfolding with_halo
@@ -311,6 +313,20 @@ module _ (c : Circuit) (p : Pattern) (m : ModuleLines) (j k : JobState) (differe
   same_stops = map_back (renumber_stop (slice_index ws)) (λ (s : listed.Stop). s.wire < length ws) (stop_back ws apart) j.stops k.stops below_j below_k
       (of_j.stops ∙ sym of_k.stops ∙ ap (λ g. map (renumber_stop g) k.stops) wire_k)
 
+  one_gate : (x y : ℕ) → x < length j.locals.netlist.gates → y < length j.locals.netlist.gates → circuit_gate j.locals x ≡ circuit_gate j.locals y → x ≡ y
+  one_gate x y lx ly e = elim (cases_lt x y) [
+    | inl less ↦ (let rises = of_j.locals.rising x y less ly in absurd (omega (arith, rises, e)))
+    | inr large ↦ elim (cases_lt y x) [
+      | inl less ↦ (let rises = of_j.locals.rising y x less lx in absurd (omega (arith, rises, e)))
+      | inr same ↦ omega arith
+    ]
+  ]
+
+  same_kept : j.kept ≡ k.kept
+  same_kept = map_back (circuit_gate j.locals) (λ g. g < length j.locals.netlist.gates) one_gate j.kept k.kept of_j.kept_are_used
+      (subst (λ (l : LocalNet). All (λ g. g < length l.netlist.gates) k.kept) (sym same_locals) of_k.kept_are_used)
+      (of_j.kept ∙ sym of_k.kept ∙ ap (λ (l : LocalNet). map (circuit_gate l) k.kept) (sym same_locals))
+
   alike : AreAlike j k
   alike = record {
     area = same_area;
@@ -321,7 +337,21 @@ module _ (c : Circuit) (p : Pattern) (m : ModuleLines) (j k : JobState) (differe
     edges = same_edges;
     halos = same_halos;
     stops = same_stops;
+    kept = same_kept;
   }
+
+keep_alike : (j k : JobState) → AreAlike j k → (f : KeepFault) → IsKeepFault j f → IsKeepFault k f
+keep_alike j k a f is = record {
+  in_range = subst (λ (l : LocalNet). f.assignment < 2 ^ l.netlist.given) a.locals is.in_range;
+  is_kept = subst (λ (ks : List ℕ). IsTrue (is_among ks f.gate)) a.kept is.is_kept;
+  shown = subst (λ (l : LocalNet). ∥ IsLocallyUndefined l f.assignment f.gate ∥₁) a.locals is.shown;
+}
+
+pub keeps_agree : JobsOfOneModuleAgreeOnKeeps
+keeps_agree c p m j k different of_j of_k = record {
+  locals = same_locals c p m j k different of_j of_k;
+  keeps = λ f is. keep_alike j k (alike c p m j k different of_j of_k) f is;
+}
 
 pub jobs_agree : JobsOfOneModuleAgree
 jobs_agree c p m j k f different of_j of_k is = fault_alike j k (alike c p m j k different of_j of_k) f is

@@ -10,8 +10,9 @@ use Rattle.bbm_rule.specs.Bits.{bit}
 use Rattle.bbm_rule.specs.Moves.{IsMoved}
 use Rattle.bbm_rule.specs.Plane.{State, parity}
 use Rattle.bbm_rule.proofs.Moving.{parity_moved, step_moved}
-use Rattle.circuit.specs.Meaning.{Netlist, Satisfies, Valuation}
+use Rattle.circuit.specs.Meaning.{IsUndefined, Netlist, Satisfies, Valuation}
 use Rattle.module_box.specs.Boxes.{IsEven, in_box, in_ring}
+use Rattle.module_box.specs.Locals.{is_among}
 use Rattle.module_box.specs.Moves.{BoxMovesAlong, IsMovedBox, IsNear, IsSmall, moved_cell, moved_signals}
 use Rattle.module_box.specs.Schedules.{Signals, signal_at}
 use Rattle.module_box.specs.declared.boxes.Box2.{Box2}
@@ -24,11 +25,12 @@ use Rattle.certificate.specs.Signals.{Meets, is_live}
 use Rattle.certificate.specs.declared.job.Demand.TheVariants as Demanded
 use Rattle.certificate.specs.declared.job.Stop as listed
 use Rattle.certificate.proofs.ShapeParts.{back_forth, stops_back}
-use Rattle.local_run.specs.Faults.{HasFault, IsFault, IsFaultUnder}
-use Rattle.local_run.specs.Moves.{FaultsMoveAlong, LeastFaultMovesAlong, columns_between, fault_on, rows_between}
+use Rattle.local_run.specs.Faults.{HasFault, IsFault, IsFaultUnder, IsKeepFault}
+use Rattle.local_run.specs.Moves.{FaultsMoveAlong, LeastFaultMovesAlong, LeastKeepFaultStays, columns_between, fault_on, rows_between}
 use Rattle.local_run.specs.Order.{fault_cmp, kind_number}
 use Rattle.local_run.specs.Runs.{local_run, with_halo}
 use Rattle.local_run.specs.declared.fault.Fault.{Fault}
+use Rattle.local_run.specs.declared.fault.KeepFault.{KeepFault}
 use Rattle.local_run.specs.declared.fault.Kind.{Kind}
 use Rattle.local_run.specs.declared.fault.Kind.TheVariants.{Edge, Stop, End}
 use Rattle.local_run.proofs.LocalRuns.{even_or_odd, local_even, local_odd}
@@ -235,6 +237,21 @@ least_moved j k (Some f) is_j is_k same least = (
   λ g is greater. least.1 (fault_on k j g) (faults_moved k j g is_k is_j (sym same) is)
       (sym (cmp_on j k f (fault_on k j g)) ∙ ap (fault_cmp (fault_on j k f)) (fault_back j k g) ∙ greater),
 )
+
+-- ---- keep faults say nothing of places
+keep_stays : (j k : JobState) (f : KeepFault) → shape_of j ≡ shape_of k → IsKeepFault j f → IsKeepFault k f
+keep_stays j k f same is =
+    let netlist : j.locals.netlist ≡ k.locals.netlist = ap (λ (s : ShapeState). s.netlist) same in
+    let kept : j.kept ≡ k.kept = ap (λ (s : ShapeState). s.kept) same in
+    record {
+      in_range = subst (λ (n : Netlist). f.assignment < 2 ^ n.given) netlist is.in_range;
+      is_kept = subst (λ (l : List ℕ). is_among l f.gate ≡ true) kept is.is_kept;
+      shown = subst (λ (n : Netlist). ∥ IsUndefined n (bit f.assignment) f.gate ∥₁) netlist is.shown;
+    }
+
+pub least_keep_stays : LeastKeepFaultStays
+least_keep_stays j k None same least = λ f is. least f (keep_stays k j f (sym same) is)
+least_keep_stays j k (Some f) same least = (keep_stays j k f same least.0, λ g is. least.1 g (keep_stays k j g (sym same) is))
 
 -- ---- the cell of a fault is in the box, and so near
 under_inside : (j : JobState) (u : Valuation) (t : ℕ) (kind : Kind) (x y : ℤ) → IsJob j → IsFaultUnder j u t kind x y → in_box j.area x y ≡ true

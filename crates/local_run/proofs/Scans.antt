@@ -1,17 +1,19 @@
 -- Words of assignments, and the first that differs
-use Rattle.std.proofs.Common.{◌≡◌, ◌≢◌, ℕ, Bool, true, false, ◌<◌, ◌≤◌, ◌+◌, ◌*◌, ◌/◌, ◌%◌, ◌^◌, refl, arith, sym, ◌∙◌, ap, ap₂, subst, List, [], ◌∷◌, zero, suc, length, get_or, set, get_or-set_same, get_or-set_other, w64}
+use Rattle.std.proofs.Common.{◌≡◌, ◌≢◌, ℕ, Bool, true, false, ◌<◌, ◌≤◌, ◌+◌, ◌*◌, ◌/◌, ◌%◌, ◌^◌, refl, arith, sym, ◌∙◌, ap, ap₂, subst, List, [], ◌∷◌, ◌&&◌, zero, suc, length, get_or, set, get_or-set_same, get_or-set_other, w64, bit_and}
 use Rattle.std.specs.Prelude.{bit_xor}
 use Rattle.std.specs.Int.{bit_at, trailing_zeros}
 use Rattle.std.proofs.lemmas.Nat.Bits.{bit_at-trailing_zeros, bit_at_ones}
+use Rattle.std.proofs.lemmas.Bool.{and_parts}
 use Rattle.std.proofs.lemmas.Nat.{xor_lt}
+use Rattle.std.specs.Int.Bits.{and_lt}
 use Rattle.bbm_rule.specs.Bits.{bit}
-use Rattle.bbm_rule.proofs.BitLemmas.{by_lt_or_le, by_eq_or_not, xor, bit-xor, bit-zero}
-use Rattle.certificate.specs.Signals.{IsBelow}
+use Rattle.bbm_rule.proofs.BitLemmas.{by_lt_or_le, by_eq_or_not, xor, bit-and, bit-xor, bit-zero}
+use Rattle.certificate.specs.Signals.{IsBelow, is_live}
 use Rattle.module_box.specs.declared.schedules.Signal.{Signal}
 use Rattle.module_box.specs.declared.schedules.Signal.TheVariants.{Zero, One, Wire}
 use Rattle.std.proofs.Math.Nat.{mul-le-mul_left}
-use Rattle.module_box.specs.LocalValues.{value_of}
-use Rattle.local_run.specs.Scans.{HasRow}
+use Rattle.module_box.specs.LocalValues.{bit_of_row, value_of}
+use Rattle.local_run.specs.Scans.{HasRow, is_defined, valuation}
 use Rattle.local_run.specs.Lanes.{lane, plane_of, SetsWord}
 use Rattle.local_run.specs.declared.planes.Planes.{Planes}
 use Rattle.local_run.specs.declared.values.Values.{Values}
@@ -80,37 +82,58 @@ plane_even p x y ex ey = rw (ex, ey) refl
 split_place : (a k : ℕ) → 64 * k ≤ a → a < 64 * (k + 1) → a ≡ 64 * k + (a % 64)
 split_place a k l h = omega arith
 
-pub block_same : (f g : ℕ → Bool) (k v w : ℕ) → ((b : ℕ) → b < 64 → bit v b ≡ f (64 * k + b)) → ((b : ℕ) → b < 64 → bit w b ≡ g (64 * k + b)) →
-    ((a : ℕ) → a < 64 * k → f a ≡ g a) → bit_xor v w ≡ 0 → (a : ℕ) → a < 64 * (k + 1) → f a ≡ g a
-block_same f g k v w fv gw before e a l = by_lt_or_le a (64 * k) (before a) (λ h.
+-- a word without bits: none of 64 more assignments
+pub block_clear : (f : ℕ → Bool) (k w : ℕ) → ((b : ℕ) → b < 64 → bit w b ≡ f (64 * k + b)) → ((a : ℕ) → a < 64 * k → f a ≡ false) → w ≡ 0 → (a : ℕ) → a < 64 * (k + 1) → f a ≡ false
+block_clear f k w fw before e a l = by_lt_or_le a (64 * k) (before a) (λ h.
     let at : a ≡ 64 * k + (a % 64) = split_place a k h l in
     let small : a % 64 < 64 = omega arith in
-    let same : bit v (a % 64) ≡ bit w (a % 64) = xor_same _ _ (sym (bit-xor v w (a % 64)) ∙ ap (λ n. bit n (a % 64)) e ∙ bit-zero (a % 64)) in
-    ap f at ∙ sym (fv (a % 64) small) ∙ same ∙ gw (a % 64) small ∙ ap g (sym at))
+    ap f at ∙ sym (fw (a % 64) small) ∙ ap (λ n. bit n (a % 64)) e ∙ bit-zero (a % 64))
 
-pub block_differs : (f g : ℕ → Bool) (k v w : ℕ) → v < 2 ^ 64 → w < 2 ^ 64 → ((b : ℕ) → b < 64 → bit v b ≡ f (64 * k + b)) → ((b : ℕ) → b < 64 → bit w b ≡ g (64 * k + b)) →
-    ((a : ℕ) → a < 64 * k → f a ≡ g a) → bit_xor v w ≢ 0 →
-    let z = 64 * k + trailing_zeros w64 (bit_xor v w) in (f z ≢ g z) × ((a : ℕ) → a < z → f a ≡ g a)
-block_differs f g k v w sv sw fv gw before e =
-    let n : ℕ = bit_xor v w in
-    let small : n < 2 ^ 64 = xor_lt 64 v w sv sw in
-    let found = bit_at-trailing_zeros w64 n (omega arith) small in
-    let z : ℕ = trailing_zeros w64 n in
+-- else the lowest bit is the first
+pub block_first : (f : ℕ → Bool) (k w : ℕ) → w < 2 ^ 64 → ((b : ℕ) → b < 64 → bit w b ≡ f (64 * k + b)) → ((a : ℕ) → a < 64 * k → f a ≡ false) → w ≢ 0 →
+    let z = 64 * k + trailing_zeros w64 w in (f z ≡ true) × ((a : ℕ) → a < z → f a ≡ false)
+block_first f k w small fw before e =
+    let found = bit_at-trailing_zeros w64 w (omega arith) small in
+    let z : ℕ = trailing_zeros w64 w in
     let lz : z < 64 = found.0 in (
-      (λ same. xor_differ _ _ (sym (bit-xor v w z) ∙ bit-one n z found.1) (fv z lz ∙ same ∙ sym (gw z lz))),
+      sym (fw z lz) ∙ bit-one w z found.1,
       (λ a l. by_lt_or_le a (64 * k) (before a) (λ h.
           let at : a ≡ 64 * k + (a % 64) = split_place a k h (omega arith) in
           let under : a % 64 < z = omega arith in
           let in_word : a % 64 < 64 = omega arith in
-          let same : bit v (a % 64) ≡ bit w (a % 64) = xor_same _ _ (sym (bit-xor v w (a % 64)) ∙ bit-none n (a % 64) (found.2 (a % 64) under)) in
-          ap f at ∙ sym (fv (a % 64) in_word) ∙ same ∙ gw (a % 64) in_word ∙ ap g (sym at))),
+          ap f at ∙ sym (fw (a % 64) in_word) ∙ bit-none w (a % 64) (found.2 (a % 64) under))),
     )
+
+-- a cell is not as its signal says, where each used gate has a row
+abbrev pub differs : Values → Planes → ℕ → ℕ → Signal → ℕ → Bool
+differs vs p x y s a = xor (lane p a x y) (is_live (valuation vs a) s) && is_defined vs a
+
+pub differs_bits : (vs : Values) (p : Planes) (x y k : ℕ) (s : Signal) (cells wanted defined d : ℕ) → ((b : ℕ) → b < 64 → bit cells b ≡ lane p (64 * k + b) x y) → ((b : ℕ) → b < 64 → bit wanted b ≡ is_live (valuation vs (64 * k + b)) s) →
+    k < length vs.rows.defined.items → defined ≡ get_or vs.rows.defined.items k d → (b : ℕ) → b < 64 → bit (bit_and (bit_xor cells wanted) defined) b ≡ differs vs p x y s (64 * k + b)
+unfolding bit_of_row
+differs_bits vs p x y k s cells wanted defined d are should room is b l =
+    let whole : bit defined b ≡ is_defined vs (64 * k + b) =
+    ap (λ n. bit n b) (is ∙ get_or_any vs.rows.defined.items k d 0 room) ∙ ap₂ (λ i j. bit (get_or vs.rows.defined.items i 0) j) (sym (quotient k b l)) (sym (remainder k b l)) in
+    bit-and (bit_xor cells wanted) defined b ∙ ap₂ (λ (u v : Bool). u && v) (bit-xor cells wanted b ∙ ap₂ xor (are b l) (should b l)) whole
+
+pub difference_small : (v w d : ℕ) → v < 2 ^ 64 → w < 2 ^ 64 → d < 2 ^ 64 → bit_and (bit_xor v w) d < 2 ^ 64
+difference_small v w d sv sw sd = and_lt 64 (bit_xor v w) d (xor_lt 64 v w sv sw) sd
+
+pub differs_is : (vs : Values) (p : Planes) (x y : ℕ) (s : Signal) (a : ℕ) → differs vs p x y s a ≡ true → (is_defined vs a ≡ true) × (lane p a x y ≢ is_live (valuation vs a) s)
+differs_is vs p x y s a e = let parts = and_parts _ _ e in (parts.1, xor_differ _ _ parts.0)
+
+pub differs_not : (vs : Values) (p : Planes) (x y : ℕ) (s : Signal) (a : ℕ) → differs vs p x y s a ≡ false → ¬ ((is_defined vs a ≡ true) × (lane p a x y ≢ is_live (valuation vs a) s))
+differs_not vs p x y s a e h = h.1 (xor_same _ _ (sym (and_true _) ∙ ap (λ (v : Bool). xor (lane p a x y) (is_live (valuation vs a) s) && v) (sym h.0) ∙ e))
+  where
+    and_true : (b : Bool) → (b && true) ≡ b
+    and_true true = refl
+    and_true false = refl
 
 pub bit_ones : (b : ℕ) → b < 64 → bit 18446744073709551615 b ≡ true
 bit_ones b l = bit-one 18446744073709551615 b (bit_at_ones 64 b l)
 
 -- ---- the row of a signal
-pub row_from : (vs : Values) (n : ℕ) (s : Signal) → IsBelow n s → vs.words * n ≤ length vs.rows.items → HasRow vs s
+pub row_from : (vs : Values) (n : ℕ) (s : Signal) → IsBelow n s → vs.words * n ≤ length vs.rows.values.items → HasRow vs s
 row_from vs n Zero b l = tt
 row_from vs n One b l = tt
 row_from vs n (Wire w) b l = let m : vs.words * (w + 1) ≤ vs.words * n = mul-le-mul_left vs.words (omega arith) in omega arith

@@ -1,6 +1,6 @@
 -- Stops in their order, and the first of them that has a fault
-use Rattle.std.proofs.Common.{◌≡◌, ◌≢◌, ℕ, zero, suc, ◌<◌, ◌≤◌, ◌+◌, List, [], ◌∷◌, length, get_or, Option, Some, None, Ordering, Less, Equal, Greater, ◌⊎◌, inl, inr, refl, arith, sym, ◌∙◌, ap, subst}
-use Rattle.std.specs.Prelude.{ℤ, ◌<ℤ◌, Contains, slice_get}
+use Rattle.std.proofs.Common.{◌≡◌, ◌≢◌, ℕ, ◌<◌, ◌≤◌, ◌+◌, length, get_or, Some, None, true, Ordering, Less, Equal, Greater, ◌⊎◌, inl, inr, refl, arith, sym, ◌∙◌, ap, subst}
+use Rattle.std.specs.Prelude.{ℤ, ◌<ℤ◌, slice_get}
 use Rattle.std.specs.Ordering.{nat_cmp, int_cmp, ordering_then}
 use Rattle.std.proofs.lemmas.Int.{ints}
 use Rattle.std.proofs.lemmas.Option.{same_Some, slice_get_within, slice_get-get_or}
@@ -10,9 +10,9 @@ use Rattle.module_box.specs.Schedules.{IsRising}
 use Rattle.module_box.specs.declared.schedules.Moment.{Moment}
 use Rattle.certificate.specs.Jobs.{JobState, stop_moment}
 use Rattle.certificate.specs.declared.job.Stop as listed
-use Rattle.local_run.specs.Faults.{IsStopFault, IsFaultUnder, assignments}
+use Rattle.local_run.specs.Faults.{IsStopFault, assignments}
 use Rattle.local_run.specs.Runs.{local_run}
-use Rattle.local_run.specs.Scans.{IsFirst, IsFree, IsLeastBelow, IsNextStop, valuation}
+use Rattle.local_run.specs.Scans.{IsFirst, IsFree, IsLeastBelow, IsMissed, IsNextStop, is_defined, valuation}
 use Rattle.local_run.specs.declared.fault.Kind.TheVariants.{Stop}
 use Rattle.local_run.specs.declared.values.Values.{Values}
 use Rattle.local_run.proofs.Numbers.{three_ways}
@@ -60,7 +60,7 @@ pub record AreTried (j : JobState) (vs : Values) (t place : ℕ) : Type 0 where
   pub before : (k : ℕ) (s : listed.Stop) → k < place → slice_get j.stops k ≡ Some s → s.at.time ≤ t
   pub from : (k : ℕ) (s : listed.Stop) → place ≤ k → slice_get j.stops k ≡ Some s → t ≤ s.at.time
   pub free : (k : ℕ) (s : listed.Stop) (a : ℕ) → k < place → slice_get j.stops k ≡ Some s → s.at.time ≡ t → a < assignments j →
-      ¬ (local_run j (valuation vs a) s.at.time s.at.cell.x s.at.cell.y ≢ valuation vs a s.wire)
+      ¬ IsMissed j vs a s
 
 pub none_tried : (j : JobState) (vs : Values) (t place : ℕ) → IsNextStop j t place → AreTried j vs t place
 none_tried j vs t place next = record {
@@ -75,7 +75,7 @@ below_or_there k n l = grind arith
 
 -- a stop more
 pub one_more : (j : JobState) (vs : Values) (t place : ℕ) (s : listed.Stop) → AreTried j vs t place → slice_get j.stops place ≡ Some s → s.at.time ≡ t →
-    IsLeastBelow (assignments j) (λ a. local_run j (valuation vs a) s.at.time s.at.cell.x s.at.cell.y ≢ valuation vs a s.wire) None → AreTried j vs t (place + 1)
+    IsLeastBelow (assignments j) (λ b. IsMissed j vs b s) None → AreTried j vs t (place + 1)
 one_more j vs t place s tried e at none = record {
   within = (let lt = slice_get_within j.stops place s e in omega (arith, lt));
   before = λ k r l h. elim (below_or_there k place l) [
@@ -87,7 +87,7 @@ one_more j vs t place s tried e at none = record {
     | inl lt ↦ tried.free k r a lt h time la
     | inr same ↦
         let is : s ≡ r = same_Some _ _ (sym e ∙ ap (slice_get j.stops) (sym same) ∙ h) in
-        subst (λ (x : listed.Stop). ¬ (local_run j (valuation vs a) x.at.time x.at.cell.x x.at.cell.y ≢ valuation vs a x.wire)) is (none a la)
+        subst (λ (x : listed.Stop). ¬ IsMissed j vs a x) is (none a la)
   ];
 }
 
@@ -97,11 +97,11 @@ stop_at j u t x y f = slice_get-get_or j.stops f.is_listed.0 f.stop f.is_listed.
 
 -- where no stop before this place has a fault, one that has stands at it or later, and then so does its cell
 where_it_is : (j : JobState) (vs : Values) (t place a : ℕ) (s : listed.Stop) (x y : ℤ) → IsRising moment_cmp stop_moment j.stops → AreTried j vs t place → slice_get j.stops place ≡ Some s →
-    s.at.time ≡ t → a < assignments j → (f : IsStopFault j (valuation vs a) t x y) → (f.stop ≡ s) ⊎ IsLater s.at.cell.x s.at.cell.y x y
-where_it_is j vs t place a s x y rising tried e at la f =
+    s.at.time ≡ t → a < assignments j → is_defined vs a ≡ true → (f : IsStopFault j (valuation vs a) t x y) → (f.stop ≡ s) ⊎ IsLater s.at.cell.x s.at.cell.y x y
+where_it_is j vs t place a s x y rising tried e at la whole f =
     let h : slice_get j.stops f.is_listed.0 ≡ Some f.stop = stop_at j (valuation vs a) t x y f in
     elim (three_ways f.is_listed.0 place) [
-      | inl lt ↦ absurd (tried.free f.is_listed.0 f.stop a lt h f.time la (λ is. f.differs (sym place_is ∙ is)))
+      | inl lt ↦ absurd (tried.free f.is_listed.0 f.stop a lt h f.time la (whole, (λ is. f.differs (sym place_is ∙ is))))
       | inr (inl same) ↦ inl (same_Some _ _ (sym h ∙ ap (slice_get j.stops) same ∙ e))
       | inr (inr gt) ↦ elim (later_moment s.at f.stop.at (rising.rises place f.is_listed.0 s f.stop gt e h)) [
         | inl early ↦ absurd (let time = f.time in omega (arith, early, time, at))
@@ -131,31 +131,31 @@ not_itself x y (inl l) = less_itself y l
 not_itself x y (inr p) = less_itself x p.1
 
 pub stop_first : (j : JobState) (vs : Values) (t place a : ℕ) (s : listed.Stop) → IsRising moment_cmp stop_moment j.stops → AreTried j vs t place → slice_get j.stops place ≡ Some s →
-    s.at.time ≡ t → IsLeastBelow (assignments j) (λ b. local_run j (valuation vs b) s.at.time s.at.cell.x s.at.cell.y ≢ valuation vs b s.wire) (Some a) →
+    s.at.time ≡ t → IsLeastBelow (assignments j) (λ b. IsMissed j vs b s) (Some a) →
     IsFirst j vs t Stop (record { time = t; kind = Stop; cell = s.at.cell; assignment = a })
 stop_first j vs t place a s rising tried e at least = record {
   at_time = refl;
   same_kind = refl;
   small = least.0;
-  fault = record {
+  fault = (least.1.0, record {
     stop = s;
     is_listed = (place, slice_get_within j.stops place s e, there);
     time = at;
     column = refl;
     row = refl;
-    differs = subst (λ (n : ℕ). local_run j (valuation vs a) n s.at.cell.x s.at.cell.y ≢ valuation vs a s.wire) at least.1;
-  };
-  row = λ x y b lb less f. elim (where_it_is j vs t place b s x y rising tried e at lb f) [
-    | inl same ↦ less_itself s.at.cell.y (subst (λ (z : ℤ). z <ℤ s.at.cell.y) (sym f.row ∙ ap (λ (r : listed.Stop). r.at.cell.y) same) less)
+    differs = subst (λ (n : ℕ). local_run j (valuation vs a) n s.at.cell.x s.at.cell.y ≢ valuation vs a s.wire) at least.1.1;
+  });
+  row = λ x y b lb less f. elim (where_it_is j vs t place b s x y rising tried e at lb f.0 f.1) [
+    | inl same ↦ less_itself s.at.cell.y (subst (λ (z : ℤ). z <ℤ s.at.cell.y) (sym f.1.row ∙ ap (λ (r : listed.Stop). r.at.cell.y) same) less)
     | inr later ↦ not_before s.at.cell.x s.at.cell.y x y later less
   ];
-  column = λ x b lb less f. elim (where_it_is j vs t place b s x s.at.cell.y rising tried e at lb f) [
-    | inl same ↦ less_itself s.at.cell.x (subst (λ (z : ℤ). z <ℤ s.at.cell.x) (sym f.column ∙ ap (λ (r : listed.Stop). r.at.cell.x) same) less)
+  column = λ x b lb less f. elim (where_it_is j vs t place b s x s.at.cell.y rising tried e at lb f.0 f.1) [
+    | inl same ↦ less_itself s.at.cell.x (subst (λ (z : ℤ). z <ℤ s.at.cell.x) (sym f.1.column ∙ ap (λ (r : listed.Stop). r.at.cell.x) same) less)
     | inr later ↦ not_left s.at.cell.x s.at.cell.y x later less
   ];
   assignment = λ b less f. (let lb : b < assignments j = (let la = least.0 in omega (arith, la, less)) in
-      elim (where_it_is j vs t place b s s.at.cell.x s.at.cell.y rising tried e at lb f) [
-        | inl same ↦ least.2 b less (λ is. f.differs (ap (λ (n : ℕ). local_run j (valuation vs b) n s.at.cell.x s.at.cell.y) (sym at) ∙ is ∙ ap (λ (r : listed.Stop). valuation vs b r.wire) (sym same)))
+      elim (where_it_is j vs t place b s s.at.cell.x s.at.cell.y rising tried e at lb f.0 f.1) [
+        | inl same ↦ least.2 b less (f.0, λ is. f.1.differs (ap (λ (n : ℕ). local_run j (valuation vs b) n s.at.cell.x s.at.cell.y) (sym at) ∙ is ∙ ap (λ (r : listed.Stop). valuation vs b r.wire) (sym same)))
         | inr later ↦ not_itself s.at.cell.x s.at.cell.y later
       ]);
 }
@@ -193,8 +193,9 @@ pub record AreAllTried (j : JobState) (vs : Values) (t place : ℕ) : Type 0 whe
 
 all_tried : (j : JobState) (vs : Values) (t place : ℕ) → AreTried j vs t place → NoneLeft j t place → AreAllTried j vs t place
 all_tried j vs t place tried left = record {
-  free = λ x y a la f. tried.free f.is_listed.0 f.stop a (soon x y a f) (stop_at j (valuation vs a) t x y f) f.time la
-      (λ is. f.differs (sym (λ i. local_run j (valuation vs a) (f.time i) (f.column i) (f.row i)) ∙ is));
+  free = λ x y a la found. let f : IsStopFault j (valuation vs a) t x y = found.1 in
+      tried.free f.is_listed.0 f.stop a (soon x y a f) (stop_at j (valuation vs a) t x y f) f.time la
+      (found.0, λ is. f.differs (sym (λ i. local_run j (valuation vs a) (f.time i) (f.column i) (f.row i)) ∙ is));
   next = record {
     within = tried.within;
     before = λ k s l e. (let le = tried.before k s l e in omega (arith, le));

@@ -4,14 +4,16 @@ use Rattle.std.specs.declared.cmp.Ordering.TheVariants.{Greater}
 use Rattle.std.proofs.Props.{props}
 use Rattle.circuit.specs.Meaning.{Valuation}
 use Rattle.module_box.specs.Boxes.{in_box, in_ring}
-use Rattle.module_box.specs.LocalValues.{IsLocalValuation}
+use Rattle.module_box.specs.Locals.{is_among}
+use Rattle.module_box.specs.LocalValues.{IsLocalValuation, IsLocallyUndefined}
 use Rattle.module_box.specs.Schedules.{signal_at}
 use Rattle.certificate.specs.Jobs.{JobState, job_demand}
 use Rattle.certificate.specs.Signals.{is_live, Meets}
 use Rattle.certificate.specs.declared.job.Stop as listed
-use Rattle.local_run.specs.Order.{fault_cmp}
+use Rattle.local_run.specs.Order.{fault_cmp, keep_cmp}
 use Rattle.local_run.specs.Runs.{local_run}
 use Rattle.local_run.specs.declared.fault.Fault.{Fault}
+use Rattle.local_run.specs.declared.fault.KeepFault.{KeepFault}
 use Rattle.local_run.specs.declared.fault.Kind.{Kind}
 use Rattle.local_run.specs.declared.fault.Kind.TheVariants.{Edge, Stop, End}
 
@@ -67,3 +69,22 @@ IsLeastFault j (Some f) = IsFault j f × ((g : Fault) → IsFault j g → fault_
 pub IsLeastFault-prop : (j : JobState) (o : Option Fault) → IsProp (IsLeastFault j o)
 IsLeastFault-prop j None = Prim.hlevel props
 IsLeastFault-prop j (Some f) = Prim.hlevel props
+
+-- ---- gates that have no row
+
+-- Under the assignment the gate at this place among the used ones is the first that has no row, and the module keeps it. The assignment
+-- is any at all: also one under which the run looks for no faults.
+pub record IsKeepFault (j : JobState) (f : KeepFault) : Type 0 where
+  pub in_range : f.assignment < assignments j
+  pub is_kept : IsTrue (is_among j.kept f.gate)
+  pub shown : ∥ IsLocallyUndefined j.locals f.assignment f.gate ∥₁
+
+-- the job's least keep fault, or `None` where it has none
+abbrev pub IsLeastKeepFault : JobState → Option KeepFault → Type 0
+IsLeastKeepFault j None = (f : KeepFault) → ¬ IsKeepFault j f
+IsLeastKeepFault j (Some f) = IsKeepFault j f × ((g : KeepFault) → IsKeepFault j g → keep_cmp f g ≢ Greater)
+
+-- any two proofs of it are equal
+pub IsLeastKeepFault-prop : (j : JobState) (o : Option KeepFault) → IsProp (IsLeastKeepFault j o)
+IsLeastKeepFault-prop j None = Prim.hlevel props
+IsLeastKeepFault-prop j (Some f) = Prim.hlevel props

@@ -2,15 +2,16 @@
 use Rattle.std.specs.Prelude.{◌≡◌, ℕ, ◌<◌, ◌↔◌, Option, None}
 use Rattle.circuit.specs.Meaning.{Circuit, Valuation, AreOrdered}
 use Rattle.pattern.specs.Layout.{Pattern}
-use Rattle.module_box.specs.LocalValues.{IsLocalValuation}
+use Rattle.module_box.specs.LocalValues.{IsLocalValuation, IsLocallyUndefined}
 use Rattle.module_box.specs.Laws.{LiesInBox}
 use Rattle.module_box.specs.Locals.{AreDifferent}
 use Rattle.certificate.specs.Entries.{ModuleLines, known}
 use Rattle.certificate.specs.Jobs.{JobState, IsJob, IsJobOf}
-use Rattle.local_run.specs.Faults.{IsFault, IsFaultUnder, IsLeastFault, assignments}
+use Rattle.local_run.specs.Faults.{IsFault, IsFaultUnder, IsKeepFault, IsLeastFault, IsLeastKeepFault, assignments}
 use Rattle.local_run.specs.Runs.{local_run}
-use Rattle.local_run.specs.Shown.{job_of, fault_of}
+use Rattle.local_run.specs.Shown.{job_of, fault_of, keep_of}
 use Rattle.local_run.specs.declared.fault.Fault.{Fault}
+use Rattle.local_run.specs.declared.fault.KeepFault.{KeepFault}
 use Rattle.local_run.specs.declared.finding.Finding.{Finding}
 
 -- two findings of one job have one fault
@@ -20,6 +21,22 @@ FindingsAgree = (f g : Finding) → job_of f ≡ job_of g → fault_of f ≡ fau
 -- a finding without a fault says that its job has none
 abbrev pub NoneMeansNoFault : Type 0
 NoneMeansNoFault = (f : Finding) (x : Fault) → fault_of f ≡ None → ¬ IsFault (job_of f) x
+
+-- and one keep fault
+abbrev pub FindingsAgreeOnKeeps : Type 0
+FindingsAgreeOnKeeps = (f g : Finding) → job_of f ≡ job_of g → keep_of f ≡ keep_of g
+
+-- a finding without a keep fault says that its job has none
+abbrev pub NoneMeansNoKeepFault : Type 0
+NoneMeansNoKeepFault = (f : Finding) (x : KeepFault) → keep_of f ≡ None → ¬ IsKeepFault (job_of f) x
+
+-- a job has one least keep fault, or none
+abbrev pub LeastKeepFaultIsUnique : Type 0
+LeastKeepFaultIsUnique = (j : JobState) (f g : Option KeepFault) → IsLeastKeepFault j f → IsLeastKeepFault j g → f ≡ g
+
+-- where some used gate has no row under an assignment, the job has no fault under it
+abbrev pub UndefinedHasNoFault : Type 0
+UndefinedHasNoFault = (j : JobState) (f : Fault) (k : ℕ) → AreOrdered j.locals.netlist.given j.locals.netlist.gates → IsLocallyUndefined j.locals f.assignment k → ¬ IsFault j f
 
 -- a job has one least fault, or none
 abbrev pub LeastFaultIsUnique : Type 0
@@ -36,6 +53,14 @@ FaultsAreDecided = (j : JobState) (f : Fault) (u : Valuation) → IsJob j → Ar
 abbrev pub JobsOfOneModuleAgree : Type 0
 JobsOfOneModuleAgree = (c : Circuit) (p : Pattern) (m : ModuleLines) (j k : JobState) (f : Fault) → AreDifferent (known c m) → IsJobOf c p m j → IsJobOf c p m k →
     IsFault j f → IsFault k f
+
+-- and the same wires, gates and keep faults
+pub record SameKeeps (j k : JobState) : Type 0 where
+  pub locals : j.locals ≡ k.locals
+  pub keeps : (f : KeepFault) → IsKeepFault j f → IsKeepFault k f
+
+abbrev pub JobsOfOneModuleAgreeOnKeeps : Type 0
+JobsOfOneModuleAgreeOnKeeps = (c : Circuit) (p : Pattern) (m : ModuleLines) (j k : JobState) → AreDifferent (known c m) → IsJobOf c p m j → IsJobOf c p m k → SameKeeps j k
 
 -- no cell outside the box is ever live
 abbrev pub StaysInBox : Type 0

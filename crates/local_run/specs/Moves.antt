@@ -4,8 +4,9 @@ use Rattle.std.specs.Option.{option_map}
 use Rattle.module_box.specs.Moves.{moved_cell}
 use Rattle.certificate.specs.Jobs.{JobState, IsJob}
 use Rattle.certificate.specs.Shapes.{shape_of}
-use Rattle.local_run.specs.Faults.{IsFault, IsLeastFault}
+use Rattle.local_run.specs.Faults.{IsFault, IsLeastFault, IsLeastKeepFault}
 use Rattle.local_run.specs.declared.fault.Fault.{Fault}
+use Rattle.local_run.specs.declared.fault.KeepFault.{KeepFault}
 
 -- how many columns the box of k lies to the right of that of j, and how many rows below
 abbrev pub columns_between : JobState → JobState → ℤ
@@ -24,3 +25,7 @@ FaultsMoveAlong = (j k : JobState) (f : Fault) → IsJob j → IsJob k → shape
 
 abbrev pub LeastFaultMovesAlong : Type 0
 LeastFaultMovesAlong = (j k : JobState) (o : Option Fault) → IsJob j → IsJob k → shape_of j ≡ shape_of k → IsLeastFault j o → IsLeastFault k (option_map (fault_on j k) o)
+
+-- and they have the same least keep fault
+abbrev pub LeastKeepFaultStays : Type 0
+LeastKeepFaultStays = (j k : JobState) (o : Option KeepFault) → shape_of j ≡ shape_of k → IsLeastKeepFault j o → IsLeastKeepFault k o

@@ -4,6 +4,7 @@ use Rattle.std.specs.declared.cmp.Ordering.{Ordering}
 use Rattle.std.specs.Ordering.{nat_cmp, ordering_then}
 use Rattle.module_box.specs.Moments.{cell_cmp}
 use Rattle.local_run.specs.declared.fault.Fault.{Fault}
+use Rattle.local_run.specs.declared.fault.KeepFault.{KeepFault}
 use Rattle.local_run.specs.declared.fault.Kind.{Kind}
 use Rattle.local_run.specs.declared.fault.Kind.TheVariants.{Edge, Stop, End}
 
@@ -17,3 +18,7 @@ unfoldable pub fault_cmp : Fault → Fault → Ordering
 fault_cmp a b =
     ordering_then (nat_cmp a.time b.time) (ordering_then (nat_cmp (kind_number a.kind) (kind_number b.kind))
     (ordering_then (cell_cmp a.cell b.cell) (nat_cmp a.assignment b.assignment)))
+
+-- of keep faults: by gate and assignment
+unfoldable pub keep_cmp : KeepFault → KeepFault → Ordering
+keep_cmp a b = ordering_then (nat_cmp a.gate b.gate) (nat_cmp a.assignment b.assignment)

@@ -1,7 +1,7 @@
 -- The run of a job under all assignments, and the first of its faults
-use Rattle.std.specs.Prelude.{◌≡◌, ℕ, ℤ, ◌+◌, ◌*◌, ◌/◌, ◌%◌, ◌<◌, ◌≤◌, ◌<ℤ◌, length, slice_get, Option, Some, None, ◌⊎◌}
+use Rattle.std.specs.Prelude.{◌≡◌, ◌≢◌, Bool, true, ℕ, ℤ, ◌+◌, ◌*◌, ◌/◌, ◌%◌, ◌<◌, ◌≤◌, ◌<ℤ◌, length, slice_get, Option, Some, None, ◌⊎◌}
 use Rattle.circuit.specs.Meaning.{Valuation, AreOrdered, wires}
-use Rattle.module_box.specs.LocalValues.{IsLocalValuation, value_of}
+use Rattle.module_box.specs.LocalValues.{AreValueRows, bit_of_row, value_of}
 use Rattle.module_box.specs.Schedules.{signal_at}
 use Rattle.module_box.specs.declared.boxes.Box2.{Box2}
 use Rattle.module_box.specs.declared.schedules.Signal.{Signal}
@@ -26,13 +26,25 @@ IsLeastBelow n P (Some a) = (a < n) × P a × ((b : ℕ) → b < a → ¬ P b)
 
 -- the values of the wires under assignment a
 abbrev pub valuation : Values → ℕ → Valuation
-valuation vs a = value_of vs.words vs.rows.items a
+valuation vs a = value_of vs.words vs.rows.values.items a
+
+-- whether each used gate has a row under assignment a
+abbrev pub is_defined : Values → ℕ → Bool
+is_defined vs a = bit_of_row vs.rows.defined.items a
+
+-- each used gate has a row under assignment a, and the job has the fault
+abbrev pub IsFound : JobState → Values → ℕ → ℕ → Kind → ℤ → ℤ → Type 0
+IsFound j vs a t kind x y = (is_defined vs a ≡ true) × IsFaultUnder j (valuation vs a) t kind x y
+
+-- each used gate has a row under assignment a, and at the stop's time its cell is not as its wire
+abbrev pub IsMissed : JobState → Values → ℕ → listed.Stop → Type 0
+IsMissed j vs a s = (is_defined vs a ≡ true) × (local_run j (valuation vs a) s.at.time s.at.cell.x s.at.cell.y ≢ valuation vs a s.wire)
 
 -- there is a row for the wire that it names
 abbrev pub HasRow : Values → Signal → Type 0
 HasRow vs Zero = Unit {0}
 HasRow vs One = Unit {0}
-HasRow vs (Wire w) = vs.words * w + vs.words ≤ length vs.rows.items
+HasRow vs (Wire w) = vs.words * w + vs.words ≤ length vs.rows.values.items
 
 -- what a run needs of a job and of the values of its wires
 pub record IsReady (j : JobState) (vs : Values) : Type 0 where
@@ -41,8 +53,8 @@ pub record IsReady (j : JobState) (vs : Values) : Type 0 where
   pub wide : (0 < vs.words) × (vs.words ≤ 16)
   pub count : vs.count ≡ assignments j
   pub room : vs.count ≤ 64 * vs.words
-  pub long : vs.words * wires j.locals.netlist ≤ length vs.rows.items
-  pub local : (a : ℕ) → a < assignments j → IsLocalValuation j.locals a (valuation vs a)
+  pub long : vs.words * wires j.locals.netlist ≤ length vs.rows.values.items
+  pub rows : AreValueRows j.locals.netlist vs.words vs.rows
 
 -- the cells of the box are those of the run at time t, under each assignment
 pub record Shows (j : JobState) (vs : Values) (t : ℕ) (p : Planes) : Type 0 where
@@ -70,14 +82,14 @@ pub record IsFirst (j : JobState) (vs : Values) (t : ℕ) (kind : Kind) (f : Fau
   pub at_time : f.time ≡ t
   pub same_kind : f.kind ≡ kind
   pub small : f.assignment < assignments j
-  pub fault : IsFaultUnder j (valuation vs f.assignment) t kind f.cell.x f.cell.y
-  pub row : (x y : ℤ) (a : ℕ) → a < assignments j → y <ℤ f.cell.y → ¬ IsFaultUnder j (valuation vs a) t kind x y
-  pub column : (x : ℤ) (a : ℕ) → a < assignments j → x <ℤ f.cell.x → ¬ IsFaultUnder j (valuation vs a) t kind x f.cell.y
-  pub assignment : (a : ℕ) → a < f.assignment → ¬ IsFaultUnder j (valuation vs a) t kind f.cell.x f.cell.y
+  pub fault : IsFound j vs f.assignment t kind f.cell.x f.cell.y
+  pub row : (x y : ℤ) (a : ℕ) → a < assignments j → y <ℤ f.cell.y → ¬ IsFound j vs a t kind x y
+  pub column : (x : ℤ) (a : ℕ) → a < assignments j → x <ℤ f.cell.x → ¬ IsFound j vs a t kind x f.cell.y
+  pub assignment : (a : ℕ) → a < f.assignment → ¬ IsFound j vs a t kind f.cell.x f.cell.y
 
 -- there is no fault of the kind at the time
 abbrev pub IsFree : JobState → Values → ℕ → Kind → Type 0
-IsFree j vs t kind = (x y : ℤ) (a : ℕ) → a < assignments j → ¬ IsFaultUnder j (valuation vs a) t kind x y
+IsFree j vs t kind = (x y : ℤ) (a : ℕ) → a < assignments j → ¬ IsFound j vs a t kind x y
 
 -- a cell, counted from the halo, becomes what the signal says, and no other changes
 pub record PutsCell (vs : Values) (x y : ℕ) (signal : Signal) (p q : Planes) : Type 0 where

@@ -27,6 +27,14 @@ pub struct Fault {
     pub assignment: u32,
 }
 
+/// A gate that a module keeps, by its place among those that it uses, and an assignment under which it is the first of them that has
+/// no row. Keep faults are ordered by gate and assignment.
+#[derive(Clone, Copy, Debug, PartialEq, Eq)]
+pub struct KeepFault {
+    pub gate: usize,
+    pub assignment: u32,
+}
+
 // The place of the kind in the order of kinds.
 fn number_of(kind: Kind) -> u8
     ensures { result ≡ kind_number kind }

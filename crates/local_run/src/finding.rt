@@ -4,24 +4,27 @@ ghost use Rattle.std.specs.Arc.{arc_value};
 ghost use Rattle.std.specs.Option.{option_map};
 ghost use Rattle.certificate.specs.Jobs.{IsJob};
 ghost use Rattle.certificate.specs.Shapes.{shape_of};
-ghost use Rattle.local_run.specs.Faults.{IsFault, IsLeastFault, IsLeastFault-prop};
+ghost use Rattle.local_run.specs.Faults.{IsFault, IsLeastFault, IsLeastFault-prop, IsLeastKeepFault, IsLeastKeepFault-prop};
 ghost use Rattle.local_run.specs.Moves.{fault_on};
 
-use crate::fault::Fault;
+use crate::fault::{Fault, KeepFault};
 use certificate::Job;
 use module_box::moved_cell;
 use std::sync::Arc;
 
 /// What was found of a job, with the digest of the certificate and the number of the module that it was made for.
 ///
-/// Each finding is honest, by its type: its fault is the least fault of its own job, or `None` where that job has no fault.
+/// Each finding is honest, by its type: its fault is the least fault of its own job, or `None` where that job has no fault, and so
+/// is its keep fault.
 #[derive(Drop)]
 pub struct Finding {
     digest: [u8; 32],
     number: usize,
     job: Arc<Job>,
     fault: Option<Fault>,
+    keep: Option<KeepFault>,
     pub ghost honest: { IsLeastFault (arc_value job) fault } by { IsLeastFault-prop (arc_value job) fault },
+    pub ghost keeps: { IsLeastKeepFault (arc_value job) keep } by { IsLeastKeepFault-prop (arc_value job) keep },
 }
 
 // The fault at the place in the box of `to` that the fault has in the box of `from`.
@@ -57,22 +60,25 @@ fn least_on(from: &Job, to: &Job, fault: Option<Fault>) -> Option<Fault>
 }
 
 impl Finding {
-    ghost use Rattle.local_run.specs.Shown.{digest_of, number_of, job_of, fault_of};
+    ghost use Rattle.local_run.specs.Shown.{digest_of, number_of, job_of, fault_of, keep_of};
 
     pub(crate) fn new(
         digest: [u8; 32],
         number: usize,
         job: Arc<Job>,
         fault: Option<Fault>,
+        keep: Option<KeepFault>,
     ) -> Finding
-        requires { IsLeastFault (arc_value job) fault }
-        ensures { (digest_of result ≡ digest) × (number_of result ≡ number) × (job_of result ≡ arc_value job) × (fault_of result ≡ fault) }
+        requires fault { IsLeastFault (arc_value job) fault }
+        requires keep { IsLeastKeepFault (arc_value job) keep }
+        ensures { (digest_of result ≡ digest) × (number_of result ≡ number) × (job_of result ≡ arc_value job) × (fault_of result ≡ fault) × (keep_of result ≡ keep) }
     {
         Finding {
             digest,
             number,
             job,
             fault,
+            keep,
         }
     }
 
@@ -105,15 +111,24 @@ impl Finding {
         self.fault
     }
 
+    /// The least keep fault of the job, or `None` where it has none.
+    pub fn keep(&self) -> Option<KeepFault>
+        ensures value { result ≡ keep_of self.now }
+        ensures honest { IsLeastKeepFault (job_of self.now) result }
+    {
+        self.keep
+    }
+
     /// The finding of another job of the same shape, for a module of this number of the certificate with the same digest, without
-    /// another run: its fault is that of this finding, where the job lies. `None` where the job has another shape. It takes no
-    /// memory.
+    /// another run: its fault is that of this finding, where the job lies, and its keep fault is the same. `None` where the job has
+    /// another shape. It takes no memory.
     pub fn for_job(&self, number: usize, job: Arc<Job>) -> Option<Finding>
         ensures shapes { IfSome result (λ _. shape_of (job_of self.now) ≡ shape_of (arc_value job)) }
         ensures none { IfNone result (shape_of (job_of self.now) ≢ shape_of (arc_value job)) }
         ensures digest { IfSome result (λ f. digest_of f ≡ digest_of self.now) }
         ensures number { IfSome result (λ f. number_of f ≡ number) }
         ensures job { IfSome result (λ f. job_of f ≡ arc_value job) }
+        ensures keep { IfSome result (λ f. keep_of f ≡ keep_of self.now) }
         ensures fault { IfSome result (λ f. fault_of f ≡ option_map (fault_on (job_of self.now) (arc_value job)) (fault_of self.now)) }
     {
         let own: &Job = &self.job;
@@ -122,6 +137,6 @@ impl Finding {
             return None;
         }
         let fault = least_on(own, &job, self.fault);
-        Some(Finding::new(self.digest, number, job, fault))
+        Some(Finding::new(self.digest, number, job, fault, self.keep))
     }
 }

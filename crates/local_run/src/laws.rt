@@ -1,20 +1,28 @@
 //! Laws of findings.
-ghost use Rattle.local_run.specs.Laws.{FindingsAgree, NoneMeansNoFault, LeastFaultIsUnique, FaultsAreDecided, JobsOfOneModuleAgree, StaysInBox};
-ghost use Rattle.local_run.specs.Moves.{FaultsMoveAlong, LeastFaultMovesAlong};
+ghost use Rattle.local_run.specs.Laws.{FindingsAgree, FindingsAgreeOnKeeps, NoneMeansNoFault, NoneMeansNoKeepFault, LeastFaultIsUnique, LeastKeepFaultIsUnique, UndefinedHasNoFault, FaultsAreDecided, JobsOfOneModuleAgree, JobsOfOneModuleAgreeOnKeeps, StaysInBox};
+ghost use Rattle.local_run.specs.Moves.{FaultsMoveAlong, LeastFaultMovesAlong, LeastKeepFaultStays};
 
-/// Two findings of one job have one fault.
+/// Two findings of one job have one fault, and one keep fault.
 pub fn findings_agree()
-    ensures { FindingsAgree }
+    ensures faults { FindingsAgree }
+    ensures keeps { FindingsAgreeOnKeeps }
 {}
 
-/// A finding without a fault says that its job has none.
+/// A finding without a fault says that its job has none, and so for keep faults.
 pub fn none_means_no_fault()
-    ensures { NoneMeansNoFault }
+    ensures faults { NoneMeansNoFault }
+    ensures keeps { NoneMeansNoKeepFault }
 {}
 
-/// A job has one least fault, or none.
+/// A job has one least fault, or none, and one least keep fault, or none.
 pub fn least_fault_is_unique()
-    ensures { LeastFaultIsUnique }
+    ensures faults { LeastFaultIsUnique }
+    ensures keeps { LeastKeepFaultIsUnique }
+{}
+
+/// A job has no fault under an assignment at which some used gate has no row.
+pub fn undefined_has_no_fault()
+    ensures { UndefinedHasNoFault }
 {}
 
 /// Any one local valuation under an assignment tells whether the job has a fault under it.
@@ -24,7 +32,8 @@ pub fn faults_are_decided()
 
 /// Jobs of one module have the same faults: what is not pinned in a job makes no difference.
 pub fn jobs_of_one_module_agree()
-    ensures { JobsOfOneModuleAgree }
+    ensures faults { JobsOfOneModuleAgree }
+    ensures keeps { JobsOfOneModuleAgreeOnKeeps }
 {}
 
 /// No cell outside the box is ever live.
@@ -32,8 +41,10 @@ pub fn stays_in_box()
     ensures { StaysInBox }
 {}
 
-/// Jobs of the same shape have the same faults but for where they lie, and so the least fault of one is that of the other, moved.
+/// Jobs of the same shape have the same faults but for where they lie, and so the least fault of one is that of the other, moved;
+/// their least keep fault is the same.
 pub fn faults_move_along()
     ensures faults { FaultsMoveAlong }
     ensures least { LeastFaultMovesAlong }
+    ensures keep { LeastKeepFaultStays }
 {}

@@ -13,6 +13,7 @@
 
 mod fault;
 mod finding;
+mod keep;
 pub mod laws;
 mod places;
 mod planes;
@@ -21,6 +22,6 @@ mod scan;
 mod steps;
 mod values;
 
-pub use fault::{Fault, Kind};
+pub use fault::{Fault, KeepFault, Kind};
 pub use finding::Finding;
 pub use run::run_job;

@@ -1,12 +1,13 @@
 //! The run of a job, and its finding.
 ghost use Rattle.std.specs.Prelude.{◌≡◌, ◌<◌, IfOk, MatchOption};
 ghost use Rattle.std.specs.Arc.{arc_value};
-ghost use Rattle.local_run.specs.Faults.{IsLeastFault};
+ghost use Rattle.local_run.specs.Faults.{IsLeastFault, IsLeastKeepFault};
 ghost use Rattle.local_run.specs.Scans.{IsFirstAt, IsNextStop, IsPassed, IsReady, Shows};
 ghost use Rattle.local_run.specs.Shown.{digest_of, number_of, job_of};
 
-use crate::fault::{Fault, Kind};
+use crate::fault::{Fault, KeepFault, Kind};
 use crate::finding::Finding;
+use crate::keep::least_keep;
 use crate::planes::Planes;
 use crate::scan::{first_fault, first_stop_fault};
 use crate::steps::{even_time, odd_time, put_start};
@@ -47,24 +48,36 @@ fn one_time(
 }
 
 // The least fault of the job, by a run under all assignments at once.
-fn least_fault(alloc: Global, job: &Job) -> Result<Option<Fault>, AllocError>
+fn least_fault(alloc: Global, values: &Values, job: &Job) -> Result<Option<Fault>, AllocError>
+    requires { IsReady job.now values.now }
     ensures { IfOk result (λ o. IsLeastFault job.now o) }
 {
     let area = job.area();
-    let values = Values::of(alloc, job)?;
     let mut planes = Planes::new(alloc, area.w as usize, area.h as usize, values.words())?;
-    put_start(&mut planes, &values, job);
+    put_start(&mut planes, values, job);
     let mut next = 0;
     for time in 0..job.steps() {
-        if let Some(fault) = one_time(&mut planes, &values, job, time, &mut next) {
+        if let Some(fault) = one_time(&mut planes, values, job, time, &mut next) {
             return Ok(Some(fault));
         }
     }
     let last = job.steps();
-    if let Some(fault) = first_stop_fault(&planes, &values, job, last, &mut next) {
+    if let Some(fault) = first_stop_fault(&planes, values, job, last, &mut next) {
         return Ok(Some(fault));
     }
-    Ok(first_fault(&planes, &values, job, last, Kind::End))
+    Ok(first_fault(&planes, values, job, last, Kind::End))
+}
+
+// The least fault of the job, and its least keep fault.
+fn least_faults(alloc: Global, job: &Job) -> Result<(Option<Fault>, Option<KeepFault>), AllocError>
+    ensures fault { IfOk result (λ o. IsLeastFault job.now o.0) }
+    ensures keep { IfOk result (λ o. IsLeastKeepFault job.now o.1) }
+{
+    let _area = job.area();
+    let values = Values::of(alloc, job)?;
+    let fault = least_fault(alloc, &values, job)?;
+    let keep = least_keep(&values, job);
+    Ok((fault, keep))
 }
 
 /// Runs a job under all assignments of its cuts, for a module of this number of the certificate with this digest. This and
@@ -79,6 +92,6 @@ pub fn run_job(
     ensures number { IfOk result (λ f. number_of f ≡ number) }
     ensures job { IfOk result (λ f. job_of f ≡ arc_value job) }
 {
-    let fault = least_fault(alloc, &job)?;
-    Ok(Finding::new(digest, number, job, fault))
+    let (fault, keep) = least_faults(alloc, &job)?;
+    Ok(Finding::new(digest, number, job, fault, keep))
 }

@@ -1,11 +1,10 @@
 //! The first fault of a kind at a time.
-ghost use Rattle.std.specs.Prelude.{◌≡◌, ◌≢◌, ◌+◌, ◌<◌, ◌≤◌, IsTrue, MatchOption};
+ghost use Rattle.std.specs.Prelude.{◌≡◌, ◌+◌, ◌<◌, ◌≤◌, IsTrue, MatchOption};
 ghost use Rattle.circuit.specs.Meaning.{wires};
 ghost use Rattle.module_box.specs.Boxes.{in_box};
-ghost use Rattle.local_run.specs.Runs.{local_run};
-ghost use Rattle.local_run.specs.Faults.{IsFaultUnder, assignments};
+ghost use Rattle.local_run.specs.Faults.{assignments};
 ghost use Rattle.local_run.specs.Places.{inner};
-ghost use Rattle.local_run.specs.Scans.{IsFirst, IsFree, IsLeastBelow, IsNextStop, IsReady, IsSought, IsStride, Shows, valuation};
+ghost use Rattle.local_run.specs.Scans.{IsFirst, IsFound, IsFree, IsLeastBelow, IsMissed, IsNextStop, IsReady, IsSought, IsStride, Shows};
 
 use crate::fault::{Fault, Kind};
 use crate::places::{demand_at, edge_at, inner_cell, is_ring, place_of};
@@ -28,7 +27,7 @@ fn cell_fault(
     requires shows { Shows job.now values.now time planes.now }
     requires sought { IsSought job.now time kind }
     requires place { (x < job.now.area.w) × (y < job.now.area.h) }
-    ensures { IsLeastBelow (assignments job.now) (λ a. IsFaultUnder job.now (valuation values.now a) time kind (inner job.now.area.x x) (inner job.now.area.y y)) result }
+    ensures { IsLeastBelow (assignments job.now) (λ a. IsFound job.now values.now a time kind (inner job.now.area.x x) (inner job.now.area.y y)) result }
 {
     match kind {
         Kind::Edge => {
@@ -102,7 +101,7 @@ fn stop_fault(planes: &Planes, values: &Values, job: &Job, stop: Stop) -> Option
     requires shows { Shows job.now values.now stop.at.time planes.now }
     requires inside { IsTrue (in_box job.now.area stop.at.cell.x stop.at.cell.y) }
     requires own { stop.wire < wires job.now.locals.netlist }
-    ensures { IsLeastBelow (assignments job.now) (λ a. local_run job.now (valuation values.now a) stop.at.time stop.at.cell.x stop.at.cell.y ≢ valuation values.now a stop.wire) result }
+    ensures { IsLeastBelow (assignments job.now) (λ a. IsMissed job.now values.now a stop) result }
 {
     let (x, y) = place_of(job, stop.at.cell);
     values.first_difference(planes, 1 + x, 1 + y, Signal::Wire(stop.wire))

@@ -1,24 +1,26 @@
 //! The values of the wires of a job under all assignments of its cuts.
-ghost use Rattle.std.specs.Prelude.{ℕ, ◌≡◌, ◌≢◌, ◌+◌, ◌*◌, ◌/◌, ◌^◌, ◌<◌, ◌≤◌, IfOk};
+ghost use Rattle.std.specs.Prelude.{ℕ, ◌≡◌, ◌≢◌, ◌+◌, ◌*◌, ◌/◌, ◌^◌, ◌<◌, ◌≤◌, true, length, IfOk};
 ghost use Rattle.bbm_rule.specs.Bits.{bit};
 ghost use Rattle.certificate.specs.Jobs.{IsJob};
 ghost use Rattle.certificate.specs.Signals.{is_live};
 ghost use Rattle.local_run.specs.Lanes.{lane};
-ghost use Rattle.local_run.specs.Scans.{HasRow, IsLeastBelow, IsReady, PutsCell, valuation};
+ghost use Rattle.local_run.specs.Scans.{HasRow, IsLeastBelow, IsReady, PutsCell, is_defined, valuation};
+ghost use Rattle.module_box.specs.LocalValues.{value_of};
 
 use crate::planes::Planes;
 use certificate::Job;
-use module_box::Signal;
+use module_box::{Signal, ValueRows};
 use std::alloc::{AllocError, Global};
 
-/// For each wire of a job a row of words: bit b of word k is its value under assignment 64 k + b.
+/// For each wire of a job a row of words: bit b of word k is its value under assignment 64 k + b. With them the assignments under which
+/// each used gate has a row, and for each gate those under which it is the first that has none.
 #[derive(Drop)]
 pub struct Values {
     // the words of a wire
     words: usize,
     // how many assignments there are
     count: usize,
-    rows: Vec<u64>,
+    rows: ValueRows,
 }
 
 impl Values {
@@ -49,11 +51,11 @@ impl Values {
         match signal {
             Signal::Zero => 0,
             Signal::One => 0xFFFF_FFFF_FFFF_FFFF,
-            Signal::Wire(wire) => self.rows[self.words * wire as usize + k],
+            Signal::Wire(wire) => self.rows.values[self.words * wire as usize + k],
         }
     }
 
-    /// The least assignment under which a cell, counted from the halo, is not as the signal says.
+    /// The least assignment at which each used gate has a row and a cell, counted from the halo, is not as the signal says.
     pub fn first_difference(
         &self,
         planes: &Planes,
@@ -65,14 +67,36 @@ impl Values {
         requires words { (self.now.words ≡ planes.now.words) × (self.now.words ≤ 16) }
         requires room { self.now.count ≤ 64 * self.now.words }
         requires row { HasRow self.now signal }
-        ensures { IsLeastBelow self.now.count (λ a. lane planes.now a x y ≢ is_live (valuation self.now a) signal) result }
+        requires defined { self.now.words ≤ length self.now.rows.defined.items }
+        ensures { IsLeastBelow self.now.count (λ a. (is_defined self.now a ≡ true) × (lane planes.now a x y ≢ is_live (valuation self.now a) signal)) result }
     {
         for k in 0..self.words {
             let cells = planes.word(x, y, k);
             let wanted = self.word(signal, k);
-            let difference = cells ^ wanted;
+            let difference = (cells ^ wanted) & self.rows.defined[k];
             if difference != 0 {
                 let a = 64 * k as u32 + difference.trailing_zeros();
+                if (a as usize) < self.count {
+                    return Some(a);
+                }
+                return None;
+            }
+        }
+        None
+    }
+
+    /// The least assignment under which a used gate is the first that has no row.
+    pub fn first_undefined(&self, gate: usize) -> Option<u32>
+        requires words { self.now.words ≤ 16 }
+        requires few { gate < 64 }
+        requires room { self.now.count ≤ 64 * self.now.words }
+        requires row { self.now.words * gate + self.now.words ≤ length self.now.rows.undefined.items }
+        ensures { IsLeastBelow self.now.count (λ a. value_of self.now.words self.now.rows.undefined.items a gate ≡ true) result }
+    {
+        for k in 0..self.words {
+            let word = self.rows.undefined[self.words * gate + k];
+            if word != 0 {
+                let a = 64 * k as u32 + word.trailing_zeros();
                 if (a as usize) < self.count {
                     return Some(a);
                 }

@@ -1,37 +1,21 @@
--- The values of all wires of a module: one assignment, and rows of assignments
-use Rattle.std.proofs.Common.{◌≡◌, ◌≢◌, ℕ, ◌+◌, ◌*◌, ◌/◌, ◌%◌, ◌<◌, ◌≤◌, false, List, [], ◌∷◌, map, set, length, get_or, Some, refl, sym, ap, subst, ◌∙◌, arith, inl, inr}
-use Rattle.std.specs.Prelude.{slice_index}
+-- The values of all wires of a module, and its gates without a row: one assignment, and rows of assignments
+use Rattle.std.proofs.Common.{◌≡◌, ◌≢◌, ℕ, ◌+◌, ◌*◌, ◌/◌, ◌%◌, ◌<◌, ◌≤◌, Bool, true, false, List, [], ◌∷◌, ◌++◌, map, set, length, get_or, Option, Some, None, refl, sym, ap, subst, ◌∙◌, arith, inl, inr, get_or-append-add}
+use Rattle.std.specs.Prelude.{slice_index, slice_index_or}
 use Rattle.std.specs.List.{All, range_with_len}
 use Rattle.std.proofs.Math.Nat.{mul-le-mul_left}
-use Rattle.std.proofs.lemmas.Bool.{cases_lt}
-use Rattle.std.proofs.lemmas.List.{length-set, get_or-set_same, get_or-set_other}
+use Rattle.std.proofs.lemmas.Bool.{cases_lt, cases_Bool, true≢false, eqb-true, eq-eqb}
+use Rattle.std.proofs.lemmas.List.{length-set, length-map, length_push, get_or-set_same, get_or-set_other, get_or_append_left, get_or_default}
 use Rattle.std.proofs.lemmas.List.Elements.{All-nil, All-cons, All-head, All-tail}
 use Rattle.std.proofs.lemmas.List.FromFn.{get_or-range_with_len, length-range_with_len}
+use Rattle.std.proofs.lemmas.Option.{slice_get_within}
 use Rattle.bbm_rule.specs.Bits.{bit}
-use Rattle.circuit.specs.declared.entry.GateKind.{GateKind}
-use Rattle.circuit.specs.declared.entry.GateKind.TheVariants.{Source, Fredkin, Cswap, Interact, Switch, Delay}
-use Rattle.circuit.specs.Gates.{row, rule_of, is_inverse, defines}
-use Rattle.circuit.specs.Meaning.{Gate, Netlist, Valuation, HasRow, Satisfies, AreOrdered, AreForward, wires, wires_after}
+use Rattle.circuit.specs.Gates.{row, defines}
+use Rattle.circuit.specs.Meaning.{Gate, Netlist, Valuation, HasRow, Satisfies, AreOrdered, IsUndefined, wires, wires_after}
 use Rattle.circuit.specs.Bridge.{read}
-use Rattle.circuit.proofs.Valuations.{map_below}
-use Rattle.module_box.specs.declared.locals.LocalGate.{LocalGate}
-use Rattle.module_box.specs.LocalGates.{kept_gate}
-use Rattle.module_box.specs.Locals.{LocalNet}
-use Rattle.module_box.specs.LocalValues.{IsLocalValuation, AreLocalValues, value_of, lane}
+use Rattle.circuit.proofs.Undefined.{undefined_at, undefined_is}
+use Rattle.circuit.proofs.Valuations.{evaluated, map_below}
+use Rattle.module_box.specs.LocalValues.{AreRowsAt, IsColumnAt, SaysColumn, bit_of_row, is_gate, is_none, value_of, lane}
 use Rattle.module_box.proofs.WordRows.{read_lane}
-
--- ---- no gate that is kept is an inverse gate
-rule_forward : (k : GateKind) → is_inverse (rule_of k) ≡ false
-rule_forward (Source b) = refl
-rule_forward Fredkin = refl
-rule_forward Cswap = refl
-rule_forward Interact = refl
-rule_forward Switch = refl
-rule_forward (Delay n) = refl
-
-pub kept_forward : (gs : List LocalGate) → AreForward (map kept_gate gs)
-kept_forward [] = All-nil (λ g. is_inverse g.kind ≡ false)
-kept_forward (g ∷ gs) = All-cons (λ g. is_inverse g.kind ≡ false) (kept_gate g) (map kept_gate gs) (rule_forward g.kind) (kept_forward gs)
 
 -- ---- what satisfies a netlist does so by its values of the netlist's wires
 wires_grow : (n : ℕ) (gs : List Gate) → n ≤ wires_after n gs
@@ -115,26 +99,136 @@ put_more words place n column old new is within below long =
       kept = λ w k l other. get_or-set_other new here (words * w + k) word 0 (columns_apart words w n k place l within other) ∙ is.kept w k l other;
     }
 
--- ---- a column more: the values under 64 assignments more
-pub rows_more : (l : LocalNet) (words chunk : ℕ) (column old new : List ℕ) → AreOrdered l.netlist.given l.netlist.gates → chunk < words → length column ≡ wires l.netlist →
-    ((w : ℕ) → w < length column → slice_index new (words * w + chunk) ≡ slice_index column w) →
-    ((w k : ℕ) → w < length column → k < words → k ≢ chunk → slice_index new (words * w + k) ≡ slice_index old (words * w + k)) →
-    ((b : ℕ) → b < 64 → AreLocalValues l (64 * chunk + b) (lane b column)) →
-    ((a : ℕ) → a < 64 * chunk → IsLocalValuation l a (value_of words old a)) →
-    (a : ℕ) → a < 64 * (chunk + 1) → IsLocalValuation l a (value_of words new a)
+-- ---- a column more: 64 assignments more
+-- a column is written into rows, and nothing else is changed
+pub record IsWritten (words place n : ℕ) (column old new : List ℕ) : Type 0 where
+  pub put : (w : ℕ) → w < n → slice_index new (words * w + place) ≡ slice_index column w
+  pub kept : (w k : ℕ) → w < n → k < words → k ≢ place → slice_index new (words * w + k) ≡ slice_index old (words * w + k)
+
+value_kept : (words place n : ℕ) (column old new : List ℕ) (a w : ℕ) → IsWritten words place n column old new → a < 64 * place → place < words → w < n → value_of words new a w ≡ value_of words old a w
 unfolding value_of
-rows_more l words chunk column old new ordered within count put kept values before a h = elim (cases_lt a (64 * chunk)) [
-  | inl less ↦
-      let earlier : a / 64 < chunk = omega arith in
-      satisfies_same l.netlist (bit a) (value_of words old a) (value_of words new a) ordered
-      (λ w below. ap (λ k. bit k (a % 64)) (sym (kept w (a / 64) (omega (arith, count)) (omega (arith, earlier)) (λ e. absurd (omega (arith, earlier, e))))))
-      (before a less)
-  | inr large ↦
-      let is : a / 64 ≡ chunk = omega arith in
-      let b : ℕ = a % 64 in
-      let small : b < 64 = omega arith in
-      let sum : 64 * chunk + b ≡ a = omega arith in
-      satisfies_same l.netlist (bit a) (read (lane b column)) (value_of words new a) ordered
-      (λ w below. read_lane column b w ∙ ap (λ k. bit k b) (sym (ap (λ k. slice_index new (words * w + k)) is ∙ put w (omega (arith, count)))))
-      (subst (λ x. Satisfies l.netlist (bit x) (read (lane b column))) sum (values b small).satisfies)
+value_kept words place n column old new a w is less within below =
+    let earlier : a / 64 < place = omega arith in
+    ap (λ k. bit k (a % 64)) (is.kept w (a / 64) below (omega (arith, earlier)) (λ e. absurd (omega (arith, earlier, e))))
+
+value_put : (words place n : ℕ) (column old new : List ℕ) (a w : ℕ) → IsWritten words place n column old new → a / 64 ≡ place → w < n → value_of words new a w ≡ bit (slice_index column w) (a % 64)
+unfolding value_of
+value_put words place n column old new a w is at below =
+    ap (λ k. bit k (a % 64)) (ap (λ k. slice_index new (words * w + k)) at ∙ is.put w below)
+
+-- the columns of so many chunks are written
+pub record AreRowsBelow (l : Netlist) (words chunk : ℕ) (values undefined defined : List ℕ) : Type 0 where
+  pub long : length values ≡ words * wires l
+  pub tall : length undefined ≡ words * length l.gates
+  pub count : length defined ≡ chunk
+  pub each : (a : ℕ) → a < 64 * chunk → AreRowsAt l words a values undefined defined
+
+pub rows_none : (l : Netlist) (words : ℕ) (values undefined defined : List ℕ) → length values ≡ words * wires l → length undefined ≡ words * length l.gates → defined ≡ [] → AreRowsBelow l words 0 values undefined defined
+rows_none l words values undefined defined long tall none = record { long = long; tall = tall; count = ap length none; each = λ a h. absurd (omega arith) }
+
+true_from : (x y : Bool) → x ≡ y → x ≡ true → y ≡ true
+true_from x y e h = sym e ∙ h
+
+pub rows_more : (l : Netlist) (words chunk word : ℕ) (column gaps values values' undefined undefined' defined defined' : List ℕ) → AreOrdered l.given l.gates → chunk < words →
+    IsWritten words chunk (wires l) column values values' → IsWritten words chunk (length l.gates) gaps undefined undefined' → length values' ≡ length values → length undefined' ≡ length undefined →
+    defined' ≡ defined ++ word ∷ [] → ((b : ℕ) → b < 64 → IsColumnAt l (64 * chunk + b) column gaps word b) → AreRowsBelow l words chunk values undefined defined →
+    AreRowsBelow l words (chunk + 1) values' undefined' defined'
+unfolding bit_of_row
+rows_more l words chunk word column gaps values values' undefined undefined' defined defined' ordered within written gaps_written long tall pushed columns before = record {
+  long = long ∙ before.long;
+  tall = tall ∙ before.tall;
+  count = ap length pushed ∙ length_push defined word ∙ ap (λ n. n + 1) before.count;
+  each = λ a h. elim (cases_lt a (64 * chunk)) [
+    | inl less ↦
+        let was : AreRowsAt l words a values undefined defined = before.each a less in
+        let place : a / 64 < length defined = (let count = before.count in omega (arith, count)) in
+        let same : bit_of_row defined' a ≡ bit_of_row defined a =
+        ap (λ k. bit k (a % 64)) (ap (λ (ws : List ℕ). slice_index ws (a / 64)) pushed ∙ get_or_append_left defined (word ∷ []) 0 (a / 64) place) in
+        record {
+          local = λ e. satisfies_same l (bit a) (value_of words values a) (value_of words values' a) ordered
+              (λ w below. sym (value_kept words chunk (wires l) column values values' a w written less within below)) (was.local (sym same ∙ e));
+          undefined = λ k below.
+              let kept = value_kept words chunk (length l.gates) gaps undefined undefined' a k gaps_written less within below in
+              ((λ e. (was.undefined k below).0 (sym kept ∙ e)), (λ u. kept ∙ (was.undefined k below).1 u));
+          none = λ e. was.none (sym same ∙ e);
+        }
+    | inr large ↦
+        let at : a / 64 ≡ chunk = omega arith in
+        let b : ℕ = a % 64 in
+        let sum : 64 * chunk + b ≡ a = omega arith in
+        let is : IsColumnAt l a column gaps word b = subst (λ x. IsColumnAt l x column gaps word b) sum (columns b (omega arith)) in
+        let place : length defined + 0 ≡ a / 64 = (let count = before.count in omega (arith, count, at)) in
+        let same : bit_of_row defined' a ≡ bit word b =
+        ap (λ k. bit k b) (ap (λ (ws : List ℕ). slice_index ws (a / 64)) pushed ∙ ap (λ n. slice_index (defined ++ word ∷ []) n) (sym place) ∙ get_or-append-add defined (word ∷ []) 0 0) in
+        record {
+          local = λ e. satisfies_same l (bit a) (read (lane b column)) (value_of words values' a) ordered
+              (λ w below. read_lane column b w ∙ sym (value_put words chunk (wires l) column values values' a w written at below))
+              (is.values (sym same ∙ e)).satisfies;
+          undefined = λ k below.
+              let put = value_put words chunk (length l.gates) gaps undefined undefined' a k gaps_written at below in
+              ((λ e. (is.undefined k below).0 (sym put ∙ e)), (λ u. put ∙ (is.undefined k below).1 u));
+          none = λ e. is.none (sym same ∙ e);
+        }
+  ];
+}
+
+pub written : (words place n : ℕ) (column old new column' old' : List ℕ) → column' ≡ column → old' ≡ old → length column ≡ n →
+    ((w : ℕ) → w < length column' → slice_index new (words * w + place) ≡ slice_index column' w) →
+    ((w k : ℕ) → w < length column' → k < words → k ≢ place → slice_index new (words * w + k) ≡ slice_index old' (words * w + k)) → IsWritten words place n column old new
+written words place n column old new column' old' same_column same_old long put kept = record {
+  put = λ w h. put w (omega (arith, h, long, ap length same_column)) ∙ ap (λ (l : List ℕ). slice_index l w) same_column;
+  kept = λ w k h below other. kept w k (omega (arith, h, long, ap length same_column)) below other ∙ ap (λ (l : List ℕ). slice_index l (words * w + k)) same_old;
+}
+
+-- ---- a column of a module
+none_is : (b : Bool) (o : Option ℕ) → b ≡ is_none o → b ≡ true → o ≡ None
+none_is b None e h = refl
+none_is b (Some m) e h = absurd (true≢false (sym h ∙ e))
+
+some_is : (b : Bool) (o : Option ℕ) → b ≡ is_none o → b ≡ false → (m : ℕ) × (o ≡ Some m)
+some_is b None e h = absurd (true≢false (sym e ∙ h))
+some_is b (Some m) e h = (m, refl)
+
+gate_is : (o : Option ℕ) (k : ℕ) → is_gate o k ≡ true → o ≡ Some k
+gate_is None k e = absurd (true≢false (sym e))
+gate_is (Some m) k e = ap Some (eqb-true m k e)
+
+is_gate_at : (o : Option ℕ) (k : ℕ) → o ≡ Some k → is_gate o k ≡ true
+is_gate_at o k e = ap (λ (o : Option ℕ). is_gate o k) e ∙ eq-eqb k k refl
+
+pub column_at : (l : Netlist) (given words undefined : List ℕ) (defined a b : ℕ) → AreOrdered l.given l.gates → length given ≡ l.given →
+    ((i : ℕ) → i < l.given → bit (slice_index_or given i 0) b ≡ bit a i) → SaysColumn given l.gates words undefined defined b → IsColumnAt l a words undefined defined b
+column_at l given words undefined defined a b ordered long bits says =
+    let vs : List Bool = lane b given in
+    let len : length vs ≡ l.given = length-map given (λ x. bit x b) ∙ long in
+    let same : (i : ℕ) → i < l.given → read vs i ≡ bit a i = λ i h. read_lane given b i ∙ bits i h in
+    record {
+      values = λ e. evaluated l (bit a) vs (lane b words) ordered len same (says.values e);
+      undefined = λ k below. (
+        (λ e. undefined_is l (bit a) vs k ordered len same (gate_is _ k (sym (says.undefined k below) ∙ e))),
+        (λ u. says.undefined k below ∙ is_gate_at _ k (undefined_at l (bit a) vs k ordered len same u)),
+      );
+      none = λ e. let found = some_is _ _ says.defined e in (found.0, undefined_is l (bit a) vs found.0 ordered len same found.1);
+    }
+
+-- where no gate of a column is undefined, the values are there
+pub column_defined : (l : Netlist) (a b defined : ℕ) (words undefined : List ℕ) → IsColumnAt l a words undefined defined b → ((k : ℕ) → k < length l.gates → bit (slice_index undefined k) b ≡ false) →
+    bit defined b ≡ true
+column_defined l a b defined words undefined is clear = elim (cases_Bool (bit defined b)) [
+  | inl h ↦ h
+  | inr h ↦
+      let found = is.none h in
+      let u : IsUndefined l (bit a) found.0 = found.1 in
+      let below : found.0 < length l.gates = slice_get_within l.gates found.0 u.gate u.numbered in
+      absurd (true≢false (sym ((is.undefined found.0 below).1 u) ∙ clear found.0 below))
+]
+
+-- the word that is read at an index
+pub word_is : (words : List ℕ) (k word b : ℕ) (v : Bool) → k < length words → word ≡ get_or words k word → bit word b ≡ v → bit (slice_index words k) b ≡ v
+word_is words k word b v within is here = ap (λ n. bit n b) (get_or_default words k 0 word within ∙ sym is) ∙ here
+
+pub clear_more : (words : List ℕ) (k b : ℕ) → ((j : ℕ) → j < k → bit (slice_index words j) b ≡ false) → bit (slice_index words k) b ≡ false → (j : ℕ) → j < k + 1 → bit (slice_index words j) b ≡ false
+clear_more words k b before here j h = elim (cases_lt j k) [
+  | inl less ↦ before j less
+  | inr large ↦ let same : k ≡ j = omega arith in subst (λ j. bit (slice_index words j) b ≡ false) same here
 ]

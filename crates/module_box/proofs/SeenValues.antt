@@ -1,18 +1,18 @@
 -- The values of a circuit's wires, as a module sees them
-use Rattle.std.proofs.Common.{◌≡◌, ℕ, zero, suc, ◌+◌, ◌*◌, ◌/◌, ◌%◌, ◌<◌, ◌^◌, Bool, true, false, eqb, get_or, List, Some, refl, sym, ap, subst, ◌∙◌, arith}
+use Rattle.std.proofs.Common.{◌≡◌, ℕ, zero, suc, ◌+◌, ◌*◌, ◌/◌, ◌%◌, ◌<◌, ◌^◌, Bool, true, false, eqb, get_or, List, Option, Some, map, refl, sym, ap, subst, ◌∙◌, arith}
 use Rattle.std.specs.Prelude.{slice_get}
 use Rattle.std.specs.List.{All}
 use Rattle.std.proofs.lemmas.Simd.{map-map}
 use Rattle.std.proofs.lemmas.Nat.Bits.{bit_at_lowest, bit_at-suc}
-use Rattle.std.proofs.lemmas.Option.{slice_get-get_or, slice_get_within, get_or_from_slice_get}
+use Rattle.std.proofs.lemmas.Option.{slice_get-get_or, slice_get_within, get_or_from_slice_get, same_Some}
 use Rattle.bbm_rule.specs.Bits.{bit}
 use Rattle.bbm_rule.specs.Plane.{one_if}
 use Rattle.circuit.specs.Gates.{row}
 use Rattle.circuit.specs.Meaning.{Gate, Netlist, Valuation, HasRow, Satisfies}
 use Rattle.circuit.proofs.Valuations.{at_most_one}
-use Rattle.module_box.specs.Locals.{LocalNet, AreLocalsOf, circuit_wire, renumber_gate}
+use Rattle.module_box.specs.Locals.{LocalNet, AreLocalsOf, circuit_gate, circuit_wire, renumber_gate}
 use Rattle.module_box.specs.LocalValues.{IsLocalValuation, seen_by}
-use Rattle.module_box.specs.Laws.{ChoicesAreAssignments, LocalValuesAgree}
+use Rattle.module_box.specs.Laws.{ChoicesAreAssignments, LocalValuesAgree, UndefinedIsSeen}
 
 -- ---- the number whose first n bits are these
 
@@ -79,3 +79,22 @@ pub local_values_agree : LocalValuesAgree
 local_values_agree n l inputs v a are s bits =
     let seen = seen_valuation n l inputs v a are s bits in
     record { is_local = seen; only = λ u local i h. at_most_one l.netlist (bit a) u (seen_by l v) are.ordered local seen i h }
+
+-- ---- a gate that has no row
+same_gate : (o : Option Gate) (g h : Gate) → o ≡ Some g → o ≡ Some h → g ≡ h
+same_gate o g h e f = same_Some g h (sym e ∙ f)
+
+pub undefined_is_seen : UndefinedIsSeen
+undefined_is_seen n l inputs k place a are u below same bits =
+    let h : Gate = get_or l.netlist.gates place u.gate in
+    let at : slice_get l.netlist.gates place ≡ Some h = slice_get-get_or l.netlist.gates place u.gate below in
+    let is : renumber_gate (circuit_wire l) h ≡ u.gate = same_gate (slice_get n.gates k) _ u.gate (ap (slice_get n.gates) (sym same) ∙ are.used place h at) u.numbered in
+    record {
+      gate = h;
+      numbered = at;
+      values = seen_by l u.values;
+      given = λ i lt. sym (bits i lt);
+      before = λ m f lt there. row_seen (circuit_wire l) u.values f
+          (u.before (circuit_gate l m) _ (subst (λ b. circuit_gate l m < b) same (are.rising m place lt below)) (are.used m f there));
+      none = ap (row h.kind) (sym (map-map u.values (circuit_wire l) h.ins)) ∙ ap (λ (g : Gate). row g.kind (map u.values g.ins)) is ∙ u.none;
+    }

@@ -1,14 +1,14 @@
 -- What the laws of this crate say
-use Rattle.std.specs.Prelude.{◌≡◌, ◌≢◌, ℕ, ℤ, ◌<◌, ◌%◌, ◌^◌, List, slice_get, Some, IsTrue, IsFalse}
+use Rattle.std.specs.Prelude.{◌≡◌, ◌≢◌, ℕ, ℤ, ◌<◌, ◌%◌, ◌^◌, List, length, slice_get, Some, IsTrue, IsFalse}
 use Rattle.std.specs.Bool.{Decides}
 use Rattle.bbm_rule.specs.Plane.{State, step}
 use Rattle.bbm_rule.specs.Bits.{bit}
-use Rattle.circuit.specs.Meaning.{Netlist, Satisfies, Valuation, wires}
+use Rattle.circuit.specs.Meaning.{IsUndefined, Netlist, Satisfies, Valuation, wires}
 use Rattle.module_box.specs.Boxes.{in_box, in_ring, in_halo, IsEven, Tile}
 use Rattle.module_box.specs.Tiling.{rectangle_of, IsTask, IsTileFault}
 use Rattle.module_box.specs.Schedules.{Signals}
-use Rattle.module_box.specs.Locals.{LocalNet, AreLocalsOf}
-use Rattle.module_box.specs.LocalValues.{IsLocalValuation, seen_by}
+use Rattle.module_box.specs.Locals.{LocalNet, AreLocalsOf, circuit_gate}
+use Rattle.module_box.specs.LocalValues.{IsLocalValuation, IsLocallyUndefined, seen_by}
 use Rattle.module_box.specs.Equality.{same_locals, same_signals}
 use Rattle.module_box.specs.declared.boxes.Box2.{Box2}
 use Rattle.module_box.specs.declared.tile.TileFault.{TileFault}
@@ -71,3 +71,9 @@ pub record SeesCircuit (l : LocalNet) (v : Valuation) (a : ℕ) : Type 0 where
 abbrev pub LocalValuesAgree : Type 0
 LocalValuesAgree = (n : Netlist) (l : LocalNet) (inputs v : Valuation) (a : ℕ) → AreLocalsOf n l → Satisfies n inputs v →
     ((i : ℕ) → i < l.netlist.given → bit a i ≡ seen_by l v i) → SeesCircuit l v a
+
+-- Where a gate of the circuit is the first that has no row, so it is in a module that uses it, under the assignment that gives each cut
+-- the value that it has up to there
+abbrev pub UndefinedIsSeen : Type 0
+UndefinedIsSeen = (n : Netlist) (l : LocalNet) (inputs : Valuation) (k place a : ℕ) → AreLocalsOf n l → (u : IsUndefined n inputs k) →
+    place < length l.netlist.gates → circuit_gate l place ≡ k → ((i : ℕ) → i < l.netlist.given → bit a i ≡ seen_by l u.values i) → IsLocallyUndefined l a place

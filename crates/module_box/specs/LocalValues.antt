@@ -1,15 +1,24 @@
 -- The values of the wires that a module knows
-use Rattle.std.specs.Prelude.{ℕ, ◌+◌, ◌*◌, ◌/◌, ◌%◌, Bool, true, false, List, [], ◌∷◌, map, slice_index, slice_index_or, bit_and, bit_xor}
+use Rattle.std.specs.Prelude.{◌≡◌, ◌==◌, ◌<◌, ◌↔◌, ℕ, ◌+◌, ◌*◌, ◌/◌, ◌%◌, Bool, true, false, List, [], ◌∷◌, map, length, Option, Some, None, slice_index, slice_index_or, bit_and, bit_or, bit_xor}
 use Rattle.bbm_rule.specs.Bits.{bit}
 use Rattle.circuit.specs.declared.entry.GateKind.{GateKind}
-use Rattle.circuit.specs.declared.entry.GateKind.TheVariants.{Source, Fredkin, Cswap, Interact, Switch, Delay}
-use Rattle.circuit.specs.Meaning.{Valuation, Satisfies}
-use Rattle.circuit.specs.Bridge.{AreValues}
+use Rattle.circuit.specs.declared.entry.GateKind.TheVariants.{Source, Fredkin, Cswap, Interact, Switch, Delay, Unswitch, Uninteract}
+use Rattle.circuit.specs.Gates.{row, defines}
+use Rattle.circuit.specs.Meaning.{Gate, Netlist, Valuation, Satisfies, IsUndefined, wires}
+use Rattle.circuit.specs.Bridge.{AreValues, read}
+use Rattle.circuit.specs.Evaluate.{evaluate, first_undefined}
+use Rattle.module_box.specs.declared.values.LocalFault.{LocalFault}
+use Rattle.module_box.specs.declared.values.LocalFault.TheVariants.{NoRow, Memory}
+use Rattle.module_box.specs.declared.values.ValueRows.{ValueRows}
 use Rattle.module_box.specs.Locals.{LocalNet, circuit_wire}
 
 -- the local valuations of a module under an assignment: cut i has the value of bit i, and the outputs of the gates follow by their rows
 abbrev pub IsLocalValuation : LocalNet → ℕ → Valuation → Type 0
 IsLocalValuation l cut_bits v = Satisfies l.netlist (bit cut_bits) v
+
+-- under an assignment the gate at place k among those that the module uses is the first that has no row
+abbrev pub IsLocallyUndefined : LocalNet → ℕ → ℕ → Type 0
+IsLocallyUndefined l cut_bits k = IsUndefined l.netlist (bit cut_bits) k
 
 -- the values of the circuit's wires, by the numbers that they have in the module
 abbrev pub seen_by : LocalNet → Valuation → Valuation
@@ -19,9 +28,31 @@ seen_by l v i = v (circuit_wire l i)
 abbrev pub AreLocalValues : LocalNet → ℕ → List Bool → Type 0
 AreLocalValues l cut_bits vs = AreValues l.netlist (bit cut_bits) vs
 
+-- why there are no local values: a gate without a row, or want of memory, of which nothing is said
+abbrev pub IsLocalFault : Netlist → ℕ → LocalFault → Type 0
+IsLocalFault n cut_bits (NoRow k) = IsUndefined n (bit cut_bits) k
+IsLocalFault n cut_bits Memory = Unit {0}
+
 -- the value of wire w under assignment a, in rows of words: a row for each wire, a word for 64 assignments
 unfoldable pub value_of : ℕ → List ℕ → ℕ → Valuation
 value_of words rows a w = bit (slice_index rows (words * w + a / 64)) (a % 64)
+
+-- the bit of assignment a in a row of words
+unfoldable pub bit_of_row : List ℕ → ℕ → Bool
+bit_of_row row a = bit (slice_index row (a / 64)) (a % 64)
+
+-- Where the bit of an assignment is set, the values are a local valuation. Else some gate is the first that has no row, and its row
+-- of words tells it.
+pub record AreRowsAt (n : Netlist) (words a : ℕ) (values lacking whole : List ℕ) : Type 0 where
+  pub local : bit_of_row whole a ≡ true → Satisfies n (bit a) (value_of words values a)
+  pub undefined : (k : ℕ) → k < length n.gates → (value_of words lacking a k ≡ true) ↔ IsUndefined n (bit a) k
+  pub none : bit_of_row whole a ≡ false → (k : ℕ) × IsUndefined n (bit a) k
+
+pub record AreValueRows (n : Netlist) (words : ℕ) (rows : ValueRows) : Type 0 where
+  pub long : length rows.values.items ≡ words * wires n
+  pub tall : length rows.undefined.items ≡ words * length n.gates
+  pub wide : length rows.defined.items ≡ words
+  pub each : (a : ℕ) → a < 64 * words → AreRowsAt n words a rows.values.items rows.undefined.items rows.defined.items
 
 -- ---- words that have a bit for each of 64 assignments
 
@@ -29,16 +60,64 @@ value_of words rows a w = bit (slice_index rows (words * w + a / 64)) (a % 64)
 abbrev pub lane : ℕ → List ℕ → List Bool
 lane b ws = map (λ word. bit word b) ws
 
--- the words of the wires that a gate defines, from the words of those that it uses
-abbrev pub word_row : GateKind → ℕ → ℕ → ℕ → List ℕ
-word_row (Source true) a b c = 18446744073709551615 ∷ []
-word_row (Source false) a b c = 0 ∷ []
-word_row Fredkin a b c = a ∷ bit_xor c (bit_and a (bit_xor b c)) ∷ bit_xor b (bit_and a (bit_xor b c)) ∷ []
-word_row Cswap a b c = a ∷ bit_xor b (bit_and a (bit_xor b c)) ∷ bit_xor c (bit_and a (bit_xor b c)) ∷ []
-word_row Interact a b c = bit_and a b ∷ bit_xor b (bit_and a b) ∷ bit_xor a (bit_and a b) ∷ bit_and a b ∷ []
-word_row Switch a b c = a ∷ bit_and a b ∷ bit_xor b (bit_and a b) ∷ []
-word_row (Delay n) a b c = a ∷ []
+-- The words of the wires that a gate defines, from the words of those that it uses. At bits where it has no row they say nothing.
+abbrev pub word_row : GateKind → ℕ → ℕ → ℕ → ℕ → List ℕ
+word_row (Source true) a b c d = 18446744073709551615 ∷ []
+word_row (Source false) a b c d = 0 ∷ []
+word_row Fredkin a b c d = a ∷ bit_xor c (bit_and a (bit_xor b c)) ∷ bit_xor b (bit_and a (bit_xor b c)) ∷ []
+word_row Cswap a b c d = a ∷ bit_xor b (bit_and a (bit_xor b c)) ∷ bit_xor c (bit_and a (bit_xor b c)) ∷ []
+word_row Interact a b c d = bit_and a b ∷ bit_xor b (bit_and a b) ∷ bit_xor a (bit_and a b) ∷ bit_and a b ∷ []
+word_row Switch a b c d = a ∷ bit_and a b ∷ bit_xor b (bit_and a b) ∷ []
+word_row (Delay n) a b c d = a ∷ []
+word_row Unswitch a b c d = a ∷ bit_or b c ∷ []
+word_row Uninteract a b c d = bit_or a c ∷ bit_or a b ∷ []
+
+-- the bits at which a gate has no row
+abbrev pub no_row : GateKind → ℕ → ℕ → ℕ → ℕ → ℕ
+no_row (Source v) a b c d = 0
+no_row Fredkin a b c d = 0
+no_row Cswap a b c d = 0
+no_row Interact a b c d = 0
+no_row Switch a b c d = 0
+no_row (Delay n) a b c d = 0
+no_row Unswitch a b c d = bit_xor b (bit_and a (bit_xor b c))
+no_row Uninteract a b c d = bit_or (bit_xor a d) (bit_or (bit_and a (bit_or b c)) (bit_and b c))
+
+-- a row where the bit is false
+abbrev pub row_unless : Bool → List Bool → Option (List Bool)
+row_unless true r = None
+row_unless false r = Some r
 
 -- the word of the wire that stands at a place of ins
 abbrev pub wire_word : List ℕ → List ℕ → ℕ → ℕ
 wire_word words ins place = slice_index_or words (slice_index_or ins place 0) 0
+
+-- a gate is done: the words of its outputs are added, but at the bits of `none`, where it has no row
+pub record AddsRow (g : Gate) (old new : List ℕ) (none : ℕ) : Type 0 where
+  pub long : length new ≡ length old + defines g.kind
+  pub has : (b : ℕ) → b < 64 → bit none b ≡ false → evaluate (lane b old) (g ∷ []) ≡ Some (lane b new)
+  pub lacks : (b : ℕ) → b < 64 → bit none b ≡ true → row g.kind (map (read (lane b old)) g.ins) ≡ None
+
+-- ---- gate after gate, at one bit
+
+abbrev pub is_none : Option ℕ → Bool
+is_none None = true
+is_none (Some m) = false
+
+-- whether the gate is this one
+abbrev pub is_gate : Option ℕ → ℕ → Bool
+is_gate None k = false
+is_gate (Some m) k = m == k
+
+-- What words say of the gates at bit b, where the given wires have the words `given`: the values, where all gates have a row; whether
+-- they do; and for each gate whether it is the first that has none.
+pub record SaysColumn (given : List ℕ) (gs : List Gate) (words lacking : List ℕ) (whole b : ℕ) : Type 0 where
+  pub values : bit whole b ≡ true → evaluate (lane b given) gs ≡ Some (lane b words)
+  pub defined : bit whole b ≡ is_none (first_undefined (lane b given) gs)
+  pub undefined : (k : ℕ) → k < length gs → bit (slice_index lacking k) b ≡ is_gate (first_undefined (lane b given) gs) k
+
+-- the same of a module under an assignment
+pub record IsColumnAt (n : Netlist) (a : ℕ) (words lacking : List ℕ) (whole b : ℕ) : Type 0 where
+  pub values : bit whole b ≡ true → AreValues n (bit a) (lane b words)
+  pub undefined : (k : ℕ) → k < length n.gates → (bit (slice_index lacking k) b ≡ true) ↔ IsUndefined n (bit a) k
+  pub none : bit whole b ≡ false → (k : ℕ) × IsUndefined n (bit a) k

@@ -1,6 +1,6 @@
 //! Laws on the definitions alone.
 
-ghost use Rattle.module_box.specs.Laws.{ChoicesAreAssignments, EvenStepStaysInBox, FaultMeansNoTiling, StepDependsOnBoxAndHalo, HaloCellIsRingCellOfOwner, LocalsEqualityDecides, LocalValuesAgree, ScheduleEqualityDecides};
+ghost use Rattle.module_box.specs.Laws.{ChoicesAreAssignments, EvenStepStaysInBox, FaultMeansNoTiling, StepDependsOnBoxAndHalo, HaloCellIsRingCellOfOwner, LocalsEqualityDecides, LocalValuesAgree, ScheduleEqualityDecides, UndefinedIsSeen};
 ghost use Rattle.module_box.specs.Moves.{BoxesMoveAlong, SignalsMoveAlong};
 ghost use Rattle.module_box.specs.Numbers.{NumbersTellGates};
 
@@ -32,10 +32,11 @@ pub fn equality_is_of_content()
 {}
 
 /// Some assignment gives each cut the value that its wire has in the circuit; and under such an assignment each wire of the module
-/// has its value in the circuit.
+/// has its value in the circuit. A gate of the circuit that has no row has none in a module that uses it.
 pub fn local_values_agree()
     ensures assignment { ChoicesAreAssignments }
     ensures agree { LocalValuesAgree }
+    ensures undefined { UndefinedIsSeen }
 {}
 
 /// The ring and the halo of a box move along with it, and signals with the cells that carry them.

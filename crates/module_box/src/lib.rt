@@ -31,4 +31,5 @@ pub use moving::{moved_cell, moved_event};
 pub use owners::Owners;
 pub use schedules::{Event, Held, Moment, Schedule, Signal, compare_cells};
 pub use tile::{TileFault, owner_table};
+pub use values::{LocalFault, ValueRows};
 pub use wiring::Wiring;

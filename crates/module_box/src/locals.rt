@@ -7,7 +7,7 @@ ghost use Rattle.circuit.specs.Gates.{uses};
 ghost use Rattle.circuit.specs.Meaning.{Gate, wires};
 ghost use Rattle.circuit.specs.Wiring.{gate_of};
 ghost use Rattle.module_box.specs.LocalGates.{kept_gate};
-ghost use Rattle.module_box.specs.Locals.{AreDifferent, AreLocalLines, AreLocalsOf, circuit_wire, is_among, local_wires};
+ghost use Rattle.module_box.specs.Locals.{AreDifferent, AreLocalLines, AreLocalsOf, circuit_gate, circuit_wire, is_among, local_wires};
 
 use crate::wiring::Wiring;
 use circuit::{Circuit, GateKind, GateNo, GateWires, WireNo};
@@ -133,6 +133,7 @@ impl Locals {
         ensures locals { IfOk result (λ l. AreLocalsOf (netlist_of circuit.now) l) }
         ensures wires { IfOk result (λ l. l.circuit_wires ≡ local_wires (netlist_of circuit.now) cuts.now gates.now) }
         ensures gates { IfOk result (λ l. l.circuit_gates ≡ gates.now) }
+        ensures count { IfOk result (λ l. length l.netlist.gates ≡ length gates.now) }
         ensures given { IfOk result (λ l. l.netlist.given ≡ length cuts.now) }
     {
         let circuit_gates = gates.to_vec(alloc)?;
@@ -181,6 +182,16 @@ impl Locals {
     {
         let index = self.circuit_wires.get_index_of(&wire.number())?;
         Some(index as u16)
+    }
+
+    /// The number in the circuit of the used gate at this place, for a place below `gates()`, and else 0.
+    pub fn gate_number(&self, place: usize) -> u16
+        ensures { result ≡ circuit_gate self.now place }
+    {
+        match self.circuit_gates.get(place) {
+            Some(gate) => gate.number(),
+            None => 0,
+        }
     }
 
     /// The wire of the circuit that has this number here, for a number below `wires()`.

@@ -22,6 +22,8 @@ fn place_of(kind: GateKind) -> u64
         GateKind::Interact => 3,
         GateKind::Switch => 4,
         GateKind::Delay(_) => 5,
+        GateKind::Unswitch => 6,
+        GateKind::Uninteract => 7,
     }
 }
 

@@ -1,12 +1,11 @@
 //! The values of the wires that a module knows, under one assignment of values to its cuts and under all of them.
 
-ghost use Rattle.std.specs.Prelude.{◌≡◌, ◌≢◌, ◌<◌, ◌≤◌, ◌+◌, ◌*◌, ◌++◌, ℕ, [], ◌∷◌, Some, map, length, slice_index, slice_index_or, OnOk, IfOk};
+ghost use Rattle.std.specs.Prelude.{◌≡◌, ◌≢◌, ◌<◌, ◌≤◌, ◌+◌, ◌*◌, ◌++◌, ℕ, [], ◌∷◌, Some, None, true, false, map, length, slice_index, slice_index_or, OnOk, IfErr, IfOk, IfSome};
 ghost use Rattle.bbm_rule.specs.Bits.{bit};
-ghost use Rattle.circuit.specs.Evaluate.{evaluate};
 ghost use Rattle.circuit.specs.Bridge.{AreValues};
-ghost use Rattle.circuit.specs.Meaning.{AreForward, AreOrdered, Satisfies, wires};
+ghost use Rattle.circuit.specs.Meaning.{AreOrdered, wires, wires_after};
 ghost use Rattle.module_box.specs.LocalGates.{kept_gate};
-ghost use Rattle.module_box.specs.LocalValues.{lane, value_of, wire_word, word_row};
+ghost use Rattle.module_box.specs.LocalValues.{AddsRow, AreValueRows, IsColumnAt, IsLocalFault, SaysColumn, lane, no_row, word_row};
 
 use crate::locals::LocalGate;
 use crate::wiring::Wiring;
@@ -55,8 +54,15 @@ fn word_at(words: &[u64], wire: u16) -> u64
 }
 
 // Adds the words of the wires that a gate defines, from those of the wires that it uses.
-fn push_row(words: &mut Vec<u64>, kind: GateKind, a: u64, b: u64, c: u64) -> Result<(), AllocError>
-    ensures { OnOk result (words.new.items ≡ words.old.items ++ word_row kind a b c) }
+fn push_row(
+    words: &mut Vec<u64>,
+    kind: GateKind,
+    a: u64,
+    b: u64,
+    c: u64,
+    d: u64,
+) -> Result<(), AllocError>
+    ensures { OnOk result (words.new.items ≡ words.old.items ++ word_row kind a b c d) }
 {
     match kind {
         GateKind::Source(true) => words.extend_from_slice(&[u64::MAX])?,
@@ -72,31 +78,65 @@ fn push_row(words: &mut Vec<u64>, kind: GateKind, a: u64, b: u64, c: u64) -> Res
         GateKind::Interact => words.extend_from_slice(&[a & b, b ^ (a & b), a ^ (a & b), a & b])?,
         GateKind::Switch => words.extend_from_slice(&[a, a & b, b ^ (a & b)])?,
         GateKind::Delay(_) => words.extend_from_slice(&[a])?,
+        GateKind::Unswitch => words.extend_from_slice(&[a, b | c])?,
+        GateKind::Uninteract => words.extend_from_slice(&[a | c, a | b])?,
     }
     Ok(())
 }
 
-// Adds the words of the wires that the gate defines.
-fn push_outs(words: &mut Vec<u64>, gate: LocalGate) -> Result<(), AllocError>
-    ensures { OnOk result ((b : ℕ) → b < 64 → evaluate (lane b words.old.items) (kept_gate gate ∷ []) ≡ Some (lane b words.new.items)) }
+// The bits at which a gate has no row.
+fn no_row(kind: GateKind, a: u64, b: u64, c: u64, d: u64) -> u64
+    ensures { result ≡ no_row kind a b c d }
 {
-    let [x, y, z, _] = gate.ins;
+    match kind {
+        GateKind::Unswitch => b ^ (a & (b ^ c)),
+        GateKind::Uninteract => (a ^ d) | ((a & (b | c)) | (b & c)),
+        _ => 0,
+    }
+}
+
+// Adds the words of the wires that the gate defines, and tells the bits at which it has no row.
+fn push_outs(words: &mut Vec<u64>, gate: LocalGate) -> Result<u64, AllocError>
+    ensures { IfOk result (λ none. AddsRow (kept_gate gate) words.old.items words.new.items none) }
+{
+    let [x, y, z, w] = gate.ins;
     let a = word_at(words.as_slice(), x);
     let b = word_at(words.as_slice(), y);
     let c = word_at(words.as_slice(), z);
-    push_row(words, gate.kind, a, b, c)?;
-    Ok(())
+    let d = word_at(words.as_slice(), w);
+    push_row(words, gate.kind, a, b, c, d)?;
+    Ok(no_row(gate.kind, a, b, c, d))
+}
+
+// The words of all wires. A bit of `defined` is set where all gates have a row there. For each gate there is a word, whose bits
+// are set where it is the first that has none.
+#[derive(Drop)]
+struct Column {
+    words: Vec<u64>,
+    undefined: Vec<u64>,
+    defined: u64,
 }
 
 // The words of all wires, those that are given first.
-fn words_of(alloc: Global, given: &[u64], gates: &[LocalGate]) -> Result<Vec<u64>, AllocError>
-    ensures { IfOk result (λ ws. (b : ℕ) → b < 64 → evaluate (lane b given.now) (map kept_gate gates.now) ≡ Some (lane b ws.items)) }
+fn words_of(alloc: Global, given: &[u64], gates: &[LocalGate]) -> Result<Column, AllocError>
+    ensures long { IfOk result (λ c. length c.words.items ≡ wires_after (length given.now) (map kept_gate gates.now)) }
+    ensures count { IfOk result (λ c. length c.undefined.items ≡ length gates.now) }
+    ensures says { IfOk result (λ c. (b : ℕ) → b < 64 → SaysColumn given.now (map kept_gate gates.now) c.words.items c.undefined.items c.defined b) }
 {
     let mut words = given.to_vec(alloc)?;
-    for gate in gates {
-        push_outs(&mut words, *gate)?;
+    let mut undefined = Vec::with_capacity(alloc, gates.len())?;
+    let mut defined = u64::MAX;
+    'gates: for gate in gates {
+        let none = push_outs(&mut words, *gate)?;
+        let first = defined & none;
+        undefined.push(first)?;
+        defined ^= first;
     }
-    Ok(words)
+    Ok(Column {
+        words,
+        undefined,
+        defined,
+    })
 }
 
 // The values at bit `place` of the words.
@@ -109,6 +149,20 @@ fn bits_of(alloc: Global, words: &[u64], place: u32) -> Result<Vec<bool>, AllocE
         bits.push((*word >> place) % 2 == 1)?;
     }
     Ok(bits)
+}
+
+// The first word that has bit `place`.
+fn first_with(words: &[u64], place: u32) -> Option<usize>
+    requires { place < 64 }
+    ensures some { IfSome result (λ k. (k < length words.now) × (bit (slice_index words.now k) place ≡ true)) }
+    ensures none { result ≡ None → (k : ℕ) → k < length words.now → bit (slice_index words.now k) place ≡ false }
+{
+    for (number, word) in words.iter().enumerate() {
+        if (*word >> place) % 2 == 1 {
+            return Some(number);
+        }
+    }
+    None
 }
 
 // Writes the words into rows of `words` words each, one into each row.
@@ -126,6 +180,38 @@ fn put_column(rows: &mut [u64], words: usize, place: usize, column: &[u64])
     }
 }
 
+/// Why the wires of a module have no values under an assignment.
+#[derive(Clone, Copy, Debug, PartialEq, Eq)]
+pub enum LocalFault {
+    /// The gate at this place among those that the module uses is the first that has no row.
+    NoRow(usize),
+    /// Want of memory.
+    Memory,
+}
+
+impl From<AllocError> for LocalFault {
+    ghost use Rattle.std.specs.Prelude.{◌≡◌};
+    ghost use Rattle.module_box.specs.declared.values.LocalFault.TheVariants.{Memory};
+
+    ghost from_gives = { λ _ e. e ≡ Memory };
+
+    fn from(_: AllocError) -> LocalFault {
+        LocalFault::Memory
+    }
+}
+
+/// What a module's wires and gates have under many assignments, in rows of words: assignment a stands at bit `a % 64` of the row's
+/// word `a / 64`.
+#[derive(Drop)]
+pub struct ValueRows {
+    /// For each wire, by its number in the module, a row with its values.
+    pub values: Vec<u64>,
+    /// For each used gate, by its place, a row that tells where it is the first that has no row.
+    pub undefined: Vec<u64>,
+    /// One row, which tells where all used gates have a row. Elsewhere the values say nothing.
+    pub defined: Vec<u64>,
+}
+
 impl Wiring {
     /// How many wires are given: those that the module cuts, at most 10. They are its first wires, and each gate uses wires that
     /// are given or that a gate before it defines.
@@ -133,7 +219,6 @@ impl Wiring {
         ensures count { result ≡ self.now.given }
         ensures few { result ≤ 10 }
         ensures ordered { AreOrdered self.now.given self.now.gates }
-        ensures forward { AreForward self.now.gates }
     {
         self.given
     }
@@ -146,40 +231,61 @@ impl Wiring {
         self.wires
     }
 
+    /// How many gates the module uses, at most 64.
+    pub fn gates(&self) -> usize
+        ensures count { result ≡ length self.now.gates }
+        ensures few { result ≤ 64 }
+    {
+        self.gates.len()
+    }
+
     // The word of each wire: at bit b its value under assignment 64 * chunk + b.
-    fn column(&self, alloc: Global, chunk: u32) -> Result<Vec<u64>, AllocError>
+    fn column(&self, alloc: Global, chunk: u32) -> Result<Column, AllocError>
         ensures ordered { AreOrdered self.now.given self.now.gates }
-        ensures count { IfOk result (λ ws. length ws.items ≡ wires self.now) }
-        ensures values { IfOk result (λ ws. (b : ℕ) → b < 64 → AreValues self.now (bit (64 * chunk + b)) (lane b ws.items)) }
+        ensures count { IfOk result (λ c. length c.words.items ≡ wires self.now) }
+        ensures gates { IfOk result (λ c. length c.undefined.items ≡ length self.now.gates) }
+        ensures values { IfOk result (λ c. (b : ℕ) → b < 64 → IsColumnAt self.now (64 * chunk + b) c.words.items c.undefined.items c.defined b) }
     {
         let given = cut_words(alloc, self.given, chunk)?;
-        let words = words_of(alloc, given.as_slice(), self.gates.as_slice())?;
-        Ok(words)
+        let column = words_of(alloc, given.as_slice(), self.gates.as_slice())?;
+        Ok(column)
     }
 
     /// Each wire's value, by its number here, where bit i of `cut_bits` is the value of cut i. Bits from `cuts()` on are not
-    /// looked at. `AllocError` is want of memory.
-    pub fn local_values(&self, alloc: Global, cut_bits: u32) -> Result<Vec<bool>, AllocError>
-        ensures { IfOk result (λ vs. AreValues self.now (bit cut_bits) vs.items) }
+    /// looked at. Where a used gate has no row there are none.
+    pub fn local_values(&self, alloc: Global, cut_bits: u32) -> Result<Vec<bool>, LocalFault>
+        ensures values { IfOk result (λ vs. AreValues self.now (bit cut_bits) vs.items) }
+        ensures fault { IfErr result (λ e. IsLocalFault self.now cut_bits e) }
     {
         let column = self.column(alloc, cut_bits / 64)?;
-        let values = bits_of(alloc, column.as_slice(), cut_bits % 64)?;
-        Ok(values)
+        match first_with(column.undefined.as_slice(), cut_bits % 64) {
+            Some(gate) => Err(LocalFault::NoRow(gate)),
+            None => {
+                let values = bits_of(alloc, column.words.as_slice(), cut_bits % 64)?;
+                Ok(values)
+            }
+        }
     }
 
-    /// Each wire's values under the assignments below `64 * words`, where `words` is at most 16: a row of `words` words for each
-    /// wire, by its number here, with the value under assignment a at bit `a % 64` of the row's word `a / 64`. `AllocError` is
-    /// want of memory.
-    pub fn value_rows(&self, alloc: Global, words: usize) -> Result<Vec<u64>, AllocError>
+    /// The values of all wires under the assignments below `64 * words`, where `words` is at most 16, and the gates that have no
+    /// row: rows of `words` words. `AllocError` is want of memory.
+    pub fn value_rows(&self, alloc: Global, words: usize) -> Result<ValueRows, AllocError>
         requires { words ≤ 16 }
-        ensures long { IfOk result (λ rows. length rows.items ≡ words * wires self.now) }
-        ensures local { IfOk result (λ rows. (a : ℕ) → a < 64 * words → Satisfies self.now (bit a) (value_of words rows.items a)) }
+        ensures { IfOk result (λ rows. AreValueRows self.now words rows) }
     {
-        let mut rows = vec![in alloc; 0; words * self.wires()]?;
-        for chunk in 0..words {
+        let mut values = vec![in alloc; 0; words * self.wires()]?;
+        let mut undefined = vec![in alloc; 0; words * self.gates()]?;
+        let mut defined = Vec::with_capacity(alloc, words)?;
+        'chunks: for chunk in 0..words {
             let column = self.column(alloc, chunk as u32)?;
-            put_column(&mut rows, words, chunk, &column);
+            put_column(&mut values, words, chunk, &column.words);
+            put_column(&mut undefined, words, chunk, &column.undefined);
+            defined.push(column.defined)?;
         }
-        Ok(rows)
+        Ok(ValueRows {
+            values,
+            undefined,
+            defined,
+        })
     }
 }

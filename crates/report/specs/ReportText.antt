@@ -15,12 +15,13 @@ use Rattle.certificate.specs.declared.times.Gap.{Gap}
 use Rattle.certificate.specs.declared.times.Gap.TheVariants.{Steps, Missing, Before}
 use Rattle.certificate.specs.declared.times.TimeLine.{TimeLine}
 use Rattle.local_run.specs.declared.fault.Fault.{Fault}
+use Rattle.local_run.specs.declared.fault.KeepFault.{KeepFault}
 use Rattle.local_run.specs.declared.fault.Kind.{Kind}
 use Rattle.local_run.specs.declared.fault.Kind.TheVariants.{Edge, Stop, End}
 use Rattle.border_match.specs.declared.fault.BorderFault.{BorderFault}
 use Rattle.audit_core.specs.Verdicts.{timing}
 use Rattle.audit_core.specs.declared.verdict.ReportLine.{ReportLine}
-use Rattle.audit_core.specs.declared.verdict.ReportLine.TheVariants.{Local, Border, Delay, Meet}
+use Rattle.audit_core.specs.declared.verdict.ReportLine.TheVariants.{Local, Keep, Border, Unkept, Delay, Meet}
 use Rattle.audit_core.specs.declared.verdict.Verdict.{Verdict}
 use Rattle.audit_core.specs.declared.verdict.Verdict.TheVariants.{Yes, No}
 
@@ -53,10 +54,16 @@ abbrev pub meet_word : Option ℕ → List ℕ
 meet_word (Some t) = decimal t
 meet_word None = codes "differ"
 
--- the line for a fault of a module, or for what stops say of a gate
+-- a keep fault: its gate and its assignment
+abbrev pub keep_words : KeepFault → List (List ℕ)
+keep_words f = decimal f.gate ∷ decimal f.assignment ∷ []
+
+-- the line for a fault of a module, for a gate that no module keeps, or for what stops say of a gate
 abbrev pub fault_line : ReportLine → List ℕ
 fault_line (Local m f) = line_text (codes "local") (decimal m ∷ fault_words f)
+fault_line (Keep m f) = line_text (codes "keep") (decimal m ∷ keep_words f)
 fault_line (Border m f) = line_text (codes "border") (decimal m ∷ border_words f)
+fault_line (Unkept gate) = line_text (codes "unkept") (decimal gate ∷ [])
 fault_line (Delay k n gap) = line_text (codes "delay") (decimal k ∷ decimal n ∷ gap_word gap ∷ [])
 fault_line (Meet k at) = line_text (codes "meet") (decimal k ∷ meet_word at ∷ [])
 

@@ -2,7 +2,7 @@
 ghost use Rattle.std.specs.Prelude.{◌≡◌, ◌++◌, IfOk, OnOk};
 ghost use Rattle.std.specs.List.{flat_map};
 ghost use Rattle.std.specs.String.{string_bytes};
-ghost use Rattle.audit_core.specs.declared.verdict.ReportLine.TheVariants.{Border, Delay, Local, Meet};
+ghost use Rattle.audit_core.specs.declared.verdict.ReportLine.TheVariants.{Border, Delay, Keep, Local, Meet, Unkept};
 ghost use Rattle.audit_core.specs.Verdicts.{timing};
 ghost use Rattle.certificate.specs.Times.{time_lines};
 ghost use Rattle.certificate.specs.Entries.{modules_of};
@@ -12,7 +12,7 @@ ghost use Rattle.report.specs.ReportText.{fault_line, kind_word, opening_lines, 
 use audit_core::{ReportLine, Verdict};
 use border_match::BorderFault;
 use certificate::{Cert, Gap, TimeLine};
-use local_run::{Fault, Kind};
+use local_run::{Fault, KeepFault, Kind};
 use section_text::Refusal;
 use std::alloc::{AllocError, Global};
 
@@ -102,7 +102,9 @@ fn print_line(alloc: Global, text: &mut Vec<u8>, line: ReportLine) -> Result<(),
 {
     let printed = match line {
         ReportLine::Local { module, fault } => local_line(alloc, module, fault)?,
+        ReportLine::Keep { module, fault } => keep_line(alloc, module, fault)?,
         ReportLine::Border { module, fault } => border_line(alloc, module, fault)?,
+        ReportLine::Unkept { gate } => unkept_line(alloc, gate)?,
         ReportLine::Delay { gate, wanted, gap } => delay_line(alloc, gate, wanted, gap)?,
         ReportLine::Meet { gate, at } => meet_line(alloc, gate, at)?,
     };
@@ -118,6 +120,20 @@ fn local_line(alloc: Global, number: usize, fault: Fault) -> Result<String, Allo
         "local {number} {kind} {} {} {} {}\n",
         fault.time, fault.cell.x, fault.cell.y, fault.assignment
     )?;
+    Ok(line)
+}
+
+fn keep_line(alloc: Global, number: usize, fault: KeepFault) -> Result<String, AllocError>
+    ensures { IfOk result (λ line. string_bytes line ≡ fault_line (Keep number fault)) }
+{
+    let line = format!(in alloc; "keep {number} {} {}\n", fault.gate, fault.assignment)?;
+    Ok(line)
+}
+
+fn unkept_line(alloc: Global, gate: usize) -> Result<String, AllocError>
+    ensures { IfOk result (λ line. string_bytes line ≡ fault_line (Unkept gate)) }
+{
+    let line = format!(in alloc; "unkept {gate}\n")?;
     Ok(line)
 }
 

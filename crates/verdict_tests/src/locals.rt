@@ -3,7 +3,7 @@
 ghost use Rattle.std.specs.Prelude.{◌<◌, ◌≤◌};
 
 use certificate::Job;
-use module_box::Wiring;
+use module_box::{LocalFault, Wiring};
 use std::alloc::{AllocError, Global};
 use std::process::Abort;
 use std::sync::Arc;
@@ -132,8 +132,12 @@ fn has_values(
 {
     let rows = wiring.value_rows(alloc, words)?;
     for (bits, digits) in table {
-        let values = wiring.local_values(alloc, *bits)?;
-        if !are(&values, digits) || !(*bits > 1023 || have(&rows, words, *bits, digits)) {
+        let alone = match wiring.local_values(alloc, *bits) {
+            Ok(values) => are(&values, digits),
+            Err(LocalFault::NoRow(_)) => false,
+            Err(LocalFault::Memory) => return Err(AllocError),
+        };
+        if !alone || !(*bits > 1023 || have(&rows.values, words, *bits, digits)) {
             return Ok(false);
         }
     }
@@ -163,6 +167,34 @@ fn modules_without_cuts(rt: HostRuntime) {
     let same = only_job(&rt, rt.alloc(), NO_CUTS);
     let other = only_job(&rt, rt.alloc(), OTHER_DELAY);
     assert!(rt; job.wiring() == same.wiring() && job.wiring() != other.wiring());
+}
+
+// a gate that turns a switch back and is fed from elsewhere, and behind it one that turns an interaction back
+const BACK: &str =
+    "circuit\ninput c\ninput y\ninput z\ninput e\nunswitch c y z -> d x\nsource 0 -> s\nuninteract d x e s -> p q\noutput p\noutput q\nend\nlayout 2 2 0\nin c 0 0\nin y 1 0\nin z 0 1\nin e 1 1\nout p 0 0\nout q 1 0\nend\ncertificate 1\nmodule 0 0 2 2\ncut c\ncut y\ncut z\ncut e\nuse 0\nuse 1\nuse 2\nkeep 2\nend\n";
+
+// The wires are c, y, z, e, d, x, s, p and q. The first gate has no row where c and z, or y without c; the other where d, and
+// where x and e.
+const BACK_TABLE: [(u32, &str); 4] = [
+    (0, "000000000"),
+    (4, "001001001"),
+    (8, "000100010"),
+    (8 + 16, "000100010"),
+];
+
+#[test]
+fn where_a_gate_has_no_row(rt: HostRuntime) {
+    let job = only_job(&rt, rt.alloc(), BACK);
+    let wiring = job.wiring();
+    assert!(rt; has_values(rt.alloc(), wiring, 1, &BACK_TABLE) == Ok(true) && wiring.gates() == 3);
+    for (bits, place) in [(2, 0), (5, 0), (6, 0), (7, 0), (10, 0), (1, 2), (3, 2), (9, 2), (11, 2), (12, 2)] {
+        let fault = wiring.local_values(rt.alloc(), bits).err();
+        assert!(rt; fault == Some(LocalFault::NoRow(place)), "{bits}");
+    }
+    let rows = wiring.value_rows(rt.alloc(), 1).expect(&rt, "rows");
+    assert!(rt; rows.undefined.as_slice() == [0xE4E4_E4E4_E4E4_E4E4, 0, 0x1A0A_1A0A_1A0A_1A0A].as_slice());
+    assert!(rt; rows.defined.as_slice() == [0x0111_0111_0111_0111].as_slice());
+    assert!(rt; !job.keeps(0) && !job.keeps(1) && job.keeps(2) && job.gate_number(2) == 2);
 }
 
 #[test]

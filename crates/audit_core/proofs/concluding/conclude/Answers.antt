@@ -1,11 +1,12 @@
-use Rattle.std.proofs.Common.{◌≡◌, ◌∙◌, ◌==◌, ◌++◌, true, [], List, ap, sym, subst, length, map, rules}
+use Rattle.std.proofs.Common.{◌≡◌, ◌∙◌, ◌==◌, ◌++◌, true, List, ap, sym, subst, length, map, rules}
 use Rattle.std.specs.Vec.{vec_len}
 use Rattle.std.specs.Arc.{arc_value}
 use Rattle.std.proofs.lemmas.Bool.{and_from, and_parts}
 use Rattle.certificate.specs.Jobs.{JobState}
 use Rattle.certificate.specs.Times.{are_all_kept, time_lines}
 use Rattle.audit_core.specs.Concluding.{modules, setting}
-use Rattle.audit_core.specs.Verdicts.{AreLeastFaults, lines_from, timing}
+use Rattle.audit_core.specs.Verdicts.{AreLeastFaults, lines_from, timing, unkept_lines}
+use Rattle.audit_core.specs.declared.verdict.ReportLine.TheVariants.{Unkept}
 use Rattle.audit_core.proofs.Conclusions.{AreAllFaults, verdict-yes, verdict-no, is_empty_list}
 use Rattle.audit_core.proofs.YesMeansCorrect.{IsRead, yes_means-correct, yes_means-on_time}
 use Rattle.audit_core.proofs.concluding.conclude.Goals as goal
@@ -22,7 +23,11 @@ all c =
 
 -- the test of the lines of delays and meetings
 kept_is : (c : After-is_empty) → c.are_all_kept-kept.result ≡ are_all_kept (time_lines (setting c.args.cert.now).circuit (modules c.args.cert.now))
-kept_is c = c.are_all_kept-kept.ensures ∙ ap are_all_kept (c.deref-2.ensures.value ∙ c.in_ok-times.ensures)
+kept_is c = c.are_all_kept-kept.ensures ∙ ap are_all_kept (c.deref-3.ensures.value ∙ c.in_ok-times.ensures)
+
+-- the lines on the modules, and on gates that are not kept
+lines_are : (c : After-is_empty) → c.in_ok-lines.lines.items ≡ lines_from 0 c.deref.result.now c.args.borders.now ++ unkept_lines (setting c.args.cert.now) (modules c.args.cert.now)
+lines_are c = c.in_ok-lines.ensures ∙ ap (λ ns. lines_from 0 c.deref.result.now c.args.borders.now ++ map (λ n. Unkept n) ns) (c.deref-2.ensures.value ∙ c.in_ok-unkept.ensures)
 
 pub returns-then-kept-is_empty-clause-verdict : goal.returns-then-kept-is_empty-clause-verdict
 returns-then-kept-is_empty-clause-verdict c =
@@ -30,13 +35,12 @@ returns-then-kept-is_empty-clause-verdict c =
     let parts = and_parts c.are_all_kept-kept.result c.is_empty.result c.if-kept-is_empty.true in
     let empty : c.is_empty.result ≡ true = parts.1 in
     let none : length c.in_ok-lines.lines.items ≡ 0 = search rules in
-    verdict-yes c.args.cert.now (map arc_value c.args.jobs.now) c.deref.result.now c.args.borders.now (all d) (sym c.in_ok-lines.ensures ∙ is_empty_list c.in_ok-lines.lines.items none) (sym (kept_is d) ∙ parts.0)
+    verdict-yes c.args.cert.now (map arc_value c.args.jobs.now) c.deref.result.now c.args.borders.now (all d) (sym (lines_are d) ∙ is_empty_list c.in_ok-lines.lines.items none) (sym (kept_is d) ∙ parts.0)
 
 pub returns-then-kept-is_empty-clause-correct : goal.returns-then-kept-is_empty-clause-correct
 returns-then-kept-is_empty-clause-correct c is named =
     let read : IsRead c.args.cert.now c.size-size.result = record {
       ordered = c.modules-count.ensures.ordered;
-      forward = c.modules-count.ensures.forward;
       same = c.size-size.ensures.size;
       limits = c.size-size.ensures.limits;
       laid_out = c.size-size.ensures.good;
@@ -50,7 +54,6 @@ pub returns-then-kept-is_empty-clause-on_time : goal.returns-then-kept-is_empty-
 returns-then-kept-is_empty-clause-on_time c is named =
     let read : IsRead c.args.cert.now c.size-size.result = record {
       ordered = c.modules-count.ensures.ordered;
-      forward = c.modules-count.ensures.forward;
       same = c.size-size.ensures.size;
       limits = c.size-size.ensures.limits;
       laid_out = c.size-size.ensures.good;
@@ -63,10 +66,11 @@ returns-then-kept-is_empty-clause-on_time c is named =
 pub returns-clause-verdict : goal.returns-clause-verdict
 returns-clause-verdict c =
     let d = (goal.at.returns-clause-verdict c).After-is_empty in
+    let m = map timing (time_lines (setting c.args.cert.now).circuit (modules c.args.cert.now)) in
     verdict-no c.args.cert.now (map arc_value c.args.jobs.now) c.deref.result.now c.args.borders.now c.push_times.new.lines (all d)
-    (c.in_ok-push_times.ensures ∙ ap (λ xs. xs ++ map timing c.deref-3.result.now) c.in_ok-lines.ensures ∙ ap (λ ts. lines_from 0 c.deref.result.now c.args.borders.now ++ map timing ts) (c.deref-3.ensures.value ∙ c.in_ok-times.ensures))
+    (c.in_ok-push_times.ensures ∙ ap (λ ts. c.in_ok-lines.lines.items ++ map timing ts) (c.deref-4.ensures.value ∙ c.in_ok-times.ensures) ∙ ap (λ xs. xs ++ m) (lines_are d))
     (λ e.
-    let none : length c.in_ok-lines.lines.items ≡ 0 = ap length (c.in_ok-lines.ensures ∙ e.0) in
+    let none : length c.in_ok-lines.lines.items ≡ 0 = ap length (lines_are d ∙ e.0) in
     let len : vec_len c.in_ok-lines.lines ≡ 0 = search rules in
     let empty : c.is_empty.result ≡ true = c.is_empty.ensures ∙ ap (λ n. n == 0) len in
     let kept : c.are_all_kept-kept.result ≡ true = kept_is d ∙ e.1 in

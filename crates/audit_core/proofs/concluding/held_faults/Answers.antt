@@ -1,4 +1,4 @@
-use Rattle.std.proofs.Common.{◌≡◌, ◌∙◌, ◌+◌, ℕ, [], ◌∷◌, ◌++◌, ap, sym, subst, map}
+use Rattle.std.proofs.Common.{◌≡◌, ◌∙◌, ◌+◌, ℕ, sym, subst, map}
 use Rattle.std.specs.Arc.{arc_value}
 use Rattle.certificate.specs.Jobs.{JobState}
 use Rattle.audit_core.specs.Verdicts.{IsFirstMissing, IsHeld}
@@ -22,5 +22,5 @@ modules-preserved c =
     let n = c.modules.number in
     let fs = c.modules.faults.items in
     let at = job-at arc_value c.args.jobs.now n c.index-jobs-number.result c.modules-test.true c.index-jobs-number.is in
-    let more = one-more b jobs n fs _ c.in-Some.finding.now c.modules.invariant at c.in-Some.ensures.held.0 (c.in-Some.ensures.held.1 ∙ c.deref.ensures) in
-    subst (AreFaultsBelow b jobs (n + 1)) (sym (c.in_ok-push.ensures.items ∙ ap (λ f. fs ++ f ∷ []) c.fault.ensures.value)) more
+    let more = one-more b jobs n fs _ c.in-Some.finding.now c.told_of.result c.modules.invariant at c.in-Some.ensures.held.0 (c.in-Some.ensures.held.1 ∙ c.deref.ensures) c.told_of.ensures in
+    subst (AreFaultsBelow b jobs (n + 1)) (sym c.in_ok-push.ensures.items) more

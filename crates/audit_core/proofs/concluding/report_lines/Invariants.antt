@@ -1,7 +1,8 @@
-use Rattle.std.proofs.Common.{◌≡◌, ◌++◌, drop}
+use Rattle.std.proofs.Common.{◌≡◌, ◌++◌, map, take}
 use Rattle.audit_core.specs.Verdicts.{lines_from}
+use Rattle.audit_core.specs.declared.verdict.ReportLine.TheVariants.{Unkept}
 use Rattle.audit_core.proofs.concluding.report_lines.Given as goal
 
--- the lines so far and those on the other modules are all lines
-abbrev pub invariant-modules : goal.invariant-modules
-invariant-modules l = l.lines.items ++ lines_from l.number (drop l.number l.faults) (drop l.number l.borders) ≡ lines_from 0 l.faults l.borders
+-- the lines on the modules, and those on the gates so far
+abbrev pub invariant-gates : goal.invariant-gates
+invariant-gates l = l.lines.items ≡ lines_from 0 l.faults l.borders ++ map (λ n. Unkept n) (take l.gate-index l.unkept)

@@ -1,8 +1,11 @@
-use Rattle.std.proofs.Common.{◌≡◌, ◌≤◌, ℕ, List, length, true, get_or, arith, sym, ap, subst, ◌∙◌, refl}
+use Rattle.std.proofs.Common.{◌≡◌, ◌<◌, ◌≤◌, ℕ, List, length, map, true, get_or, arith, sym, ap, subst, ◌∙◌, refl}
+use Rattle.std.specs.Prelude.{slice_index}
 use Rattle.std.specs.Arc.{arc_value}
 use Rattle.std.specs.List.{All}
 use Rattle.circuit.specs.Bridge.{circuit_of, netlist_of}
 use Rattle.circuit.specs.Meaning.{Netlist, wires}
+use Rattle.certificate.specs.Entries.{gates, keeps}
+use Rattle.certificate.proofs.JobLemmas.{keeps_used}
 use Rattle.module_box.specs.Boxes.{in_box}
 use Rattle.module_box.specs.Locals.{AreLocalsOf}
 use Rattle.module_box.specs.Moves.{IsNear}
@@ -24,10 +27,15 @@ use Rattle.certificate.proofs.PlanLemmas.{locals_have_ports}
 use Rattle.certificate.proofs.StopLemmas.{stops_named, stops_rise, stops_stand}
 use Rattle.certificate.proofs.jobs.make_job.Goals as goal
 
-pub named_locals-requires : goal.named_locals-requires
-named_locals-requires c =
+pub named_locals-requires-clause-lines : goal.named_locals-requires-clause-lines
+named_locals-requires-clause-lines c =
     let m : ModuleLines = record { area = c.args.area; lines = c.args.lines.now } in
     lists_local _ c.args.plan.now.circuit c.args.plan.now.layout m _ _ c.circuit-circuit.ensures refl refl c.requires.module
+
+pub named_locals-requires-clause-kept : goal.named_locals-requires-clause-kept
+named_locals-requires-clause-kept c =
+    let m : ModuleLines = record { area = c.args.area; lines = c.args.lines.now } in
+    keeps_used (setting_of c.args.plan.now.circuit c.args.plan.now.layout) m (gates m) refl c.requires.module
 
 pub cell_lists-requires-clause-columns : goal.cell_lists-requires-clause-columns
 cell_lists-requires-clause-columns c =
@@ -107,8 +115,8 @@ own_stops-requires-clause-corner c =
     (omega (arith, right), omega (arith, bottom))
 
 -- the shape that is made
-abbrev shape_with : Box2 → ℕ → Netlist → List Signal → List Demand → Signals → Signals → List Stop → ShapeState
-shape_with area steps netlist starts demands edges halos stops = record {
+abbrev shape_with : Box2 → ℕ → Netlist → List Signal → List Demand → Signals → Signals → List Stop → List ℕ → ShapeState
+shape_with area steps netlist starts demands edges halos stops kept = record {
   width = area.w;
   height = area.h;
   steps = steps;
@@ -118,6 +126,7 @@ shape_with area steps netlist starts demands edges halos stops = record {
   edges = edges;
   halos = halos;
   stops = stops;
+  kept = kept;
 }
 
 pub invariant_of-result : goal.invariant_of-result
@@ -126,7 +135,7 @@ invariant_of-result c =
     let limits = within_512 (setting_of c.args.plan.now.circuit c.args.plan.now.layout) (record { area = area; lines = c.args.lines.now }) c.size-size.result
     (c.size-size.ensures.size ∙ ap (λ p. p.size) c.layout.ensures) c.size-size.ensures.limits c.requires.module in
     let l = c.in_ok-locals.locals in
-    let s = shape_with area c.size-size.result.steps l.netlist c.in_ok-starts.starts.items c.in_ok-starts.demands.items c.in_ok-edges.edges c.in_ok-edges.halos c.in_ok-stops.stops.items in
+    let s = shape_with area c.size-size.result.steps l.netlist c.in_ok-starts.starts.items c.in_ok-starts.demands.items c.in_ok-edges.edges c.in_ok-edges.halos c.in_ok-stops.stops.items c.in_ok-locals.kept.items in
     let shape_is : arc_value c.in_ok-new.field-0 ≡ s = c.in_ok-new.ensures.ok ∙ (λ i. record s { netlist = c.into_parts-wiring.ensures.wiring i }) in
     let wires_are = c.into_parts-wiring.ensures.wires in
     let gates_are = c.into_parts-wiring.ensures.gates in
@@ -170,7 +179,7 @@ returns c =
     let m : ModuleLines = record { area = area; lines = c.args.lines.now } in
     let l = c.in_ok-locals.locals in
     let circuit_is = c.circuit-circuit.ensures in
-    let s = shape_with area c.size-size.result.steps l.netlist c.in_ok-starts.starts.items c.in_ok-starts.demands.items c.in_ok-edges.edges c.in_ok-edges.halos c.in_ok-stops.stops.items in
+    let s = shape_with area c.size-size.result.steps l.netlist c.in_ok-starts.starts.items c.in_ok-starts.demands.items c.in_ok-edges.edges c.in_ok-edges.halos c.in_ok-stops.stops.items c.in_ok-locals.kept.items in
     let shape_is : arc_value c.in_ok-new.field-0 ≡ s = c.in_ok-new.ensures.ok ∙ (λ i. record s { netlist = c.into_parts-wiring.ensures.wiring i }) in
     let wires_are = c.into_parts-wiring.ensures.wires in
     let gates_are = c.into_parts-wiring.ensures.gates in
@@ -196,5 +205,7 @@ returns c =
         stops = c.in_ok-stops.ensures.said.own;
       };
       stops = c.in_ok-stops.ensures.said.same ∙ ap (λ ls. line_stops (circuit_of ls) (stops m)) circuit_is;
+      kept = subst (λ (us : List ℕ). map (slice_index us) c.in_ok-locals.kept.items ≡ keeps m) (sym c.in_ok-locals.ensures.gates) c.in_ok-locals.ensures.kept;
+      kept_are_used = subst (λ (u : ℕ). All (λ k. k < u) c.in_ok-locals.kept.items) (sym c.in_ok-locals.ensures.count) c.in_ok-locals.ensures.within;
     } in
     subst (IsJobOf (circuit_of cs) p m) (sym (λ i. placed area.x area.y (wires_are i) (gates_are i) (shape_is i))) is_job

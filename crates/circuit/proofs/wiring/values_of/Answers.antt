@@ -1,9 +1,21 @@
-use Rattle.std.proofs.Common.{arith}
+use Rattle.std.proofs.Common.{rules, ◌≡◌, Ok, true, false, ap, arith}
 use Rattle.circuit.proofs.wiring.values_of.Goals as goal
-use Rattle.circuit.proofs.Loops.{values_end, values_step}
+use Rattle.circuit.proofs.Loops.{none_done, values_more, values_all, values_stop}
 
-pub loop-gate-preserved : goal.loop-gate-preserved
-loop-gate-preserved c = values_step c.loop-gate.values.items _ c.args.gates.now c.loop-gate.gate-index c.gate-item.result _ (omega arith) c.gate-item.is c.in_ok-push_outs.ensures c.loop-gate.invariant
+pub loop-number-init : goal.loop-number-init
+loop-number-init c = none_done c.in_ok-values.values.items c.args.given.now (search rules)
 
-pub returns : goal.returns
-returns c = values_end c.loop-gate.values.items c.args.gates.now c.loop-gate.gate-index _ (omega arith) c.loop-gate.invariant
+pub loop-number-preserved : goal.loop-number-preserved
+loop-number-preserved c =
+    let pushed : c.in_ok-push_outs.field-0 ≡ true = search rules in
+    values_more c.args.given.now c.loop-number.values.items c.push_outs.new.values.items c.args.gates.now c.loop-number.number c.index-gates-number.result (omega arith) c.index-gates-number.is
+    (c.in_ok-push_outs.ensures.found (ap Ok pushed)) c.loop-number.invariant
+
+pub returns-then-not-branch-clause-fault : goal.returns-then-not-branch-clause-fault
+returns-then-not-branch-clause-fault c =
+    let none : c.in_ok-push_outs.field-0 ≡ false = search rules in
+    values_stop c.args.given.now c.loop-number.values.items c.push_outs.new.values.items c.args.gates.now c.loop-number.number c.index-gates-number.result (omega arith) c.index-gates-number.is
+    (c.in_ok-push_outs.ensures.kept (ap Ok none)) (c.in_ok-push_outs.ensures.none (ap Ok none)) c.loop-number.invariant
+
+pub returns-clause-values : goal.returns-clause-values
+returns-clause-values c = values_all c.args.given.now c.loop-number.values.items c.args.gates.now c.loop-number.number (omega arith) c.loop-number.invariant

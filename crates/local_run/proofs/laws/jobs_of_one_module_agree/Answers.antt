@@ -1,5 +1,8 @@
-use Rattle.local_run.proofs.ModuleJobs.{jobs_agree}
+use Rattle.local_run.proofs.ModuleJobs.{jobs_agree, keeps_agree}
 use Rattle.local_run.proofs.laws.jobs_of_one_module_agree.Goals as goal
 
-pub returns : goal.returns
-returns c = jobs_agree
+pub returns-clause-faults : goal.returns-clause-faults
+returns-clause-faults c = jobs_agree
+
+pub returns-clause-keeps : goal.returns-clause-keeps
+returns-clause-keeps c = keeps_agree

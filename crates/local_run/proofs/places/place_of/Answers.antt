@@ -1,4 +1,4 @@
-use Rattle.std.proofs.Common.{◌≡◌, true, ◌+◌, ◌-◌, ◌<◌, ◌≤◌, ℕ, rules, sym, ap, subst, ◌∙◌, arith, SFits, w32, to_z-of_z}
+use Rattle.std.proofs.Common.{◌≡◌, true, ◌+◌, ◌-◌, ◌<◌, ◌≤◌, ℕ, rules, ap, ◌∙◌, arith, SFits, w32, to_z-of_z}
 use Rattle.std.specs.Prelude.{ℤ, pos}
 use Rattle.std.specs.Int.RustNames.{unsigned_abs}
 use Rattle.std.proofs.lemmas.Bool.{and_parts}

@@ -1,9 +1,8 @@
 use Rattle.std.proofs.Common.{arith, ◌≡◌, sym, ap, ◌∙◌, ℕ, subst}
 use Rattle.bbm_rule.proofs.BitLemmas.{by_lt_or_le, by_eq_or_not}
 use Rattle.module_box.specs.declared.boxes.Box2.{Box2}
-use Rattle.local_run.specs.Faults.{IsFaultUnder}
 use Rattle.local_run.specs.Places.{inner}
-use Rattle.local_run.specs.Scans.{IsStride, valuation}
+use Rattle.local_run.specs.Scans.{IsFound, IsStride, valuation}
 use Rattle.local_run.proofs.Firsts.{first_from, free_from, still_at_end, passed_over}
 use Rattle.local_run.proofs.scan.first_fault.Goals as goal
 
@@ -28,8 +27,8 @@ cells-preserved c =
     record {
       rows = c.cells.invariant.rows;
       cells = λ x a lx lw la. by_lt_or_le x c.cells.x (λ l. c.cells.invariant.cells x a l lw la) (λ g. by_eq_or_not x c.cells.x
-          (λ same. subst (λ (n : ℕ). IsFaultUnder j (valuation c.args.values.now a) c.args.time c.args.kind (inner j.area.x n) (inner j.area.y c.rows.y) → ⊥) (sym same) (c.in_default.ensures a la))
-          (λ ne. passed_over j (valuation c.args.values.now a) c.args.time c.args.kind c.cells.x x c.rows.y c.stride_of-stride.result stride at (omega arith) lx lw));
+          (λ same. subst (λ (n : ℕ). IsFound j c.args.values.now a c.args.time c.args.kind (inner j.area.x n) (inner j.area.y c.rows.y) → ⊥) (sym same) (c.in_default.ensures a la))
+          (λ ne f. passed_over j (valuation c.args.values.now a) c.args.time c.args.kind c.cells.x x c.rows.y c.stride_of-stride.result stride at (omega arith) lx lw f.1));
       at = still_at_end c.args.kind _ _ c.rows.y c.cells.x c.stride_of-stride.result c.stride_of-stride.ensures c.cells.invariant.at;
     }
 

@@ -1,7 +1,4 @@
-use Rattle.std.proofs.Common.{◌≡◌, length, get_or, Option, Some, None, List, sym, ap, subst, ◌∙◌, arith, ◌<◌, ℕ}
-use Rattle.std.specs.Prelude.{slice_get}
-use Rattle.std.proofs.lemmas.Option.{slice_get-get_or}
-use Rattle.certificate.specs.declared.job.Stop as listed
+use Rattle.std.proofs.Common.{arith}
 use Rattle.local_run.proofs.StopScans.{one_more, past_all, past_these, stop_first}
 use Rattle.local_run.proofs.scan.first_stop_fault.Goals as goal
 

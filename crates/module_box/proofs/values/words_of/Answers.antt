@@ -1,10 +1,18 @@
-use Rattle.std.proofs.Common.{arith}
-use Rattle.module_box.specs.LocalValues.{lane}
-use Rattle.module_box.proofs.WordRows.{gates_step, gates_end}
+use Rattle.std.proofs.Common.{arith, rules}
+use Rattle.module_box.proofs.WordRows.{column_none, column_more, column_says, column_long}
 use Rattle.module_box.proofs.values.words_of.Goals as goal
 
-pub loop-gate-preserved : goal.loop-gate-preserved
-loop-gate-preserved c = λ b h. gates_step (lane b c.loop-gate.words.items) _ c.args.gates.now c.loop-gate.gate-index _ _ (omega arith) (c.in_ok-push_outs.ensures b h) (c.loop-gate.invariant b h)
+pub gates-preserved : goal.gates-preserved
+gates-preserved c =
+    column_more c.args.given.now c.args.gates.now c.gates.gate-index _ c.gates.words.items c.push_outs.new.words.items c.gates.undefined.items c.push.new.self.items c.gates.defined _ _ _ (omega arith)
+    c.in_ok-none.ensures (search rules) c.in_ok-push.ensures.items (search rules) c.gates.invariant
 
-pub returns : goal.returns
-returns c = λ b h. gates_end (lane b c.loop-gate.words.items) c.args.gates.now c.loop-gate.gate-index _ (omega arith) (c.loop-gate.invariant b h)
+pub gates-init : goal.gates-init
+gates-init c = column_none c.args.given.now c.args.gates.now c.in_ok-words.words.items c.in_ok-undefined.undefined.items (search rules) c.in_ok-undefined.ensures.items
+
+pub returns-clause-long : goal.returns-clause-long
+returns-clause-long c = column_long c.args.given.now c.args.gates.now c.gates.gate-index c.gates.words.items c.gates.undefined.items c.gates.defined (omega arith) c.gates.invariant
+
+pub returns-clause-says : goal.returns-clause-says
+returns-clause-says c = λ b h.
+    column_says c.args.given.now c.args.gates.now c.gates.gate-index c.gates.words.items c.gates.undefined.items c.gates.defined b h (omega arith) (omega (arith, c.gates.auto.gate-index-end)) c.gates.invariant

@@ -1,12 +1,8 @@
 use Rattle.std.proofs.Common.{◌≡◌, ◌∙◌, ap, subst, sym, take}
 use Rattle.circuit.specs.Entries.{defined}
 use Rattle.circuit.specs.Bridge.{input_names, netlist_of}
-use Rattle.circuit.specs.Meaning.{AreForward}
 use Rattle.certificate.specs.Grammars.{CertState}
 use Rattle.certificate.proofs.cert.Cert.modules.Goals as goal
-
-pub returns-clause-forward : goal.returns-clause-forward
-returns-clause-forward c = subst (λ (s : CertState). AreForward (netlist_of s.circuit).gates) c.self.view_is c.gates-gates.ensures.forward
 
 pub returns-clause-inputs : goal.returns-clause-inputs
 returns-clause-inputs c =

@@ -15,4 +15,5 @@ returns c =
     let edges : c.eq-edges.result ≡ same_signals a.edges b.edges = search rules in
     let halos : c.eq-halos.result ≡ same_signals a.halos b.halos = search rules in
     let stops : c.eq-stops.result ≡ pointwise same_stop a.stops.items b.stops.items = c.eq-stops.ensures ∙ stop_tests a.stops.items b.stops.items in
-    (λ i. (((((nat_eq a.width b.width && nat_eq a.height b.height) && nat_eq a.steps b.steps) && wiring i) && (starts i && demands i)) && (edges i && halos i)) && stops i) ∙ ap₂ same_shape c.self.view_is c.other.view_is
+    let kept : c.eq-kept.result ≡ pointwise nat_eq a.kept.items b.kept.items = search rules in
+    (λ i. (((((nat_eq a.width b.width && nat_eq a.height b.height) && nat_eq a.steps b.steps) && wiring i) && (starts i && demands i)) && (edges i && halos i)) && (stops i && kept i)) ∙ ap₂ same_shape c.self.view_is c.other.view_is

@@ -3,7 +3,7 @@ use Rattle.circuit.specs.declared.entry.Entry.{Entry}
 use Rattle.std.proofs.lemmas.List.{length-map}
 use Rattle.circuit.specs.Entries.{defined}
 use Rattle.circuit.specs.Bridge.{gates_of, input_count}
-use Rattle.circuit.specs.Meaning.{AreOrdered, AreForward}
+use Rattle.circuit.specs.Meaning.{AreOrdered}
 use Rattle.circuit.specs.Wiring.{gate_of}
 use Rattle.circuit.proofs.Bridging.{gates_are_ordered}
 use Rattle.circuit.proofs.Naming.{gates_counted}
@@ -16,8 +16,4 @@ returns-clause-few c =
 
 pub returns-clause-ordered : goal.returns-clause-ordered
 returns-clause-ordered c =
-    subst (λ (l : List Entry). AreOrdered (input_count l) (gates_of (defined l) l)) c.self.view_is (gates_are_ordered c.self.inside.entries.items c.self.invariant.good).0
-
-pub returns-clause-forward : goal.returns-clause-forward
-returns-clause-forward c =
-    subst (λ (l : List Entry). AreForward (gates_of (defined l) l)) c.self.view_is (gates_are_ordered c.self.inside.entries.items c.self.invariant.good).1
+    subst (λ (l : List Entry). AreOrdered (input_count l) (gates_of (defined l) l)) c.self.view_is (gates_are_ordered c.self.inside.entries.items c.self.invariant.good)

@@ -4,7 +4,8 @@ use Rattle.std.proofs.lemmas.Bool.{false≢true}
 use Rattle.certificate.specs.Equality.{same_shape}
 use Rattle.certificate.specs.Shapes.{shape_of}
 use Rattle.certificate.proofs.EqualJobs.{shapes_decide}
-use Rattle.local_run.specs.Shown.{job_of}
+use Rattle.local_run.specs.Shown.{job_of, keep_of}
+use Rattle.local_run.proofs.MovedJobs.{least_keep_stays}
 use Rattle.local_run.proofs.finding.Finding.for_job.Goals as goal
 
 pub returns-then-not-same-clause-none : goal.returns-then-not-same-clause-none
@@ -34,3 +35,11 @@ returns-clause-shapes c =
 
 pub returns-clause-digest : goal.returns-clause-digest
 returns-clause-digest c = search rules
+
+pub new-requires-clause-keep : goal.new-requires-clause-keep
+new-requires-clause-keep c =
+    let s = shape_of (job_of c.args.self.now) in
+    let t = shape_of (arc_value c.args.job) in
+    let own : c.deref.result.now ≡ s = c.deref.ensures ∙ c.shape.ensures ∙ ap shape_of c.deref-own.ensures in
+    let other : c.deref-3.result.now ≡ t = c.deref-3.ensures ∙ c.shape-2.ensures ∙ ap shape_of c.deref-2.ensures in
+    least_keep_stays (job_of c.args.self.now) (arc_value c.args.job) (keep_of c.args.self.now) ((shapes_decide s t).0 (sym (ap₂ same_shape own other) ∙ sym c.eq-same.ensures ∙ c.if-not-same.false)) c.args.self.now.keeps

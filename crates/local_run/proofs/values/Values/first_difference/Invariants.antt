@@ -1,9 +1,7 @@
-use Rattle.std.proofs.Common.{◌≡◌, ℕ, ◌<◌, ◌*◌}
-use Rattle.certificate.specs.Signals.{is_live}
-use Rattle.local_run.specs.Lanes.{lane}
-use Rattle.local_run.specs.Scans.{valuation}
+use Rattle.std.proofs.Common.{◌≡◌, ℕ, ◌<◌, ◌*◌, false}
+use Rattle.local_run.proofs.Scans.{differs}
 use Rattle.local_run.proofs.values.Values.first_difference.Given as goal
 
--- as the signal says under the assignments so far
+-- as the signal says under the assignments so far, where each used gate has a row
 abbrev pub invariant-loop-k : goal.invariant-loop-k
-invariant-loop-k l = (a : ℕ) → a < 64 * l.k → lane l.planes a l.x l.y ≡ is_live (valuation l.self a) l.signal
+invariant-loop-k l = (a : ℕ) → a < 64 * l.k → differs l.self l.planes l.x l.y l.signal a ≡ false

@@ -1,10 +1,9 @@
-use Rattle.std.proofs.Common.{ℕ, subst, ap, ◌∙◌, arith, ◌^◌, ◌≡◌, ◌≤◌, ◌<◌, ◌*◌, ◌%◌, length}
+use Rattle.std.proofs.Common.{ℕ, subst, ap, ◌∙◌, arith, ◌^◌, ◌≡◌, ◌≤◌, ◌<◌, ◌*◌, ◌%◌}
 use Rattle.std.proofs.Math.Pow.{pow_mono}
 use Rattle.std.proofs.lemmas.Nat.{pow_pos}
 use Rattle.std.specs.Int.{div_ceil}
-use Rattle.bbm_rule.specs.Bits.{bit}
-use Rattle.circuit.specs.Meaning.{AreOrdered, Netlist, Satisfies, wires}
-use Rattle.module_box.specs.LocalValues.{value_of}
+use Rattle.circuit.specs.Meaning.{AreOrdered, Netlist}
+use Rattle.module_box.specs.LocalValues.{AreValueRows}
 use Rattle.local_run.specs.Faults.{assignments}
 use Rattle.local_run.proofs.values.Values.of.Goals as goal
 
@@ -27,14 +26,13 @@ returns c =
     let w = enough c.cuts-count.result c.div_ceil-words.result c.cuts-count.ensures.few c.div_ceil-words.ensures in
     let count : 1 * 2 ^ c.cuts-count.result % 18446744073709551616 ≡ assignments c.args.job.now =
     shifted c.cuts-count.result c.cuts-count.ensures.few ∙ ap (λ n. 2 ^ n) c.cuts-count.ensures.count ∙ ap (λ (l : Netlist). 2 ^ l.given) e in
+    let rows : AreValueRows c.args.job.now.locals.netlist c.div_ceil-words.result c.in_ok-rows.rows = subst (λ (m : Netlist). AreValueRows m c.div_ceil-words.result c.in_ok-rows.rows) e c.in_ok-rows.ensures in
     record {
       job = c.requires;
       ordered = subst (λ (l : Netlist). AreOrdered l.given l.gates) e c.cuts-count.ensures.ordered;
       wide = (w.0, w.1);
       count = count;
       room = w.2;
-      long = let h : length c.in_ok-rows.rows.items ≡ c.div_ceil-words.result * wires c.args.job.now.locals.netlist =
-          c.in_ok-rows.ensures.long ∙ ap (λ (l : Netlist). c.div_ceil-words.result * wires l) e in omega (arith, h);
-      local = λ a l. subst (λ (m : Netlist). Satisfies m (bit a) (value_of c.div_ceil-words.result c.in_ok-rows.rows.items a)) e
-          (c.in_ok-rows.ensures.local a (omega (arith, count, l, w.2)));
+      long = (let h = rows.long in omega (arith, h));
+      rows = rows;
     }

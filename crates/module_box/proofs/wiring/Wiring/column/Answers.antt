@@ -1,31 +1,28 @@
-use Rattle.std.proofs.Common.{◌≡◌, ℕ, ◌+◌, ◌*◌, subst, sym, ap, ap₂, ◌∙◌, List, length, Bool, Some, map, arith}
+use Rattle.std.proofs.Common.{◌≡◌, ℕ, ◌+◌, ◌*◌, subst, sym, ap, ◌∙◌, List, length, map}
 use Rattle.std.proofs.lemmas.List.{length-map}
-use Rattle.bbm_rule.specs.Bits.{bit}
-use Rattle.circuit.specs.Bridge.{AreValues}
-use Rattle.circuit.specs.Meaning.{Gate, Netlist}
-use Rattle.circuit.specs.Evaluate.{evaluate}
-use Rattle.circuit.proofs.Valuations.{evaluated}
+use Rattle.circuit.specs.Meaning.{Gate, Netlist, wires, wires_after}
 use Rattle.module_box.specs.LocalGates.{kept_gate}
 use Rattle.module_box.specs.WiringFields.{wiring_net}
-use Rattle.module_box.specs.LocalValues.{lane}
-use Rattle.module_box.proofs.WordRows.{read_lane}
-use Rattle.module_box.proofs.LocalRows.{kept_forward}
+use Rattle.module_box.specs.LocalValues.{IsColumnAt, SaysColumn}
+use Rattle.module_box.proofs.LocalRows.{column_at}
 use Rattle.module_box.proofs.wiring.Wiring.column.Goals as goal
 
-abbrev values : goal.returns-clause-values
-values c = λ b h.
-    let words : List ℕ = c.in_ok-given.given.items in
-    let given : List Bool = lane b words in
-    let out : List Bool = lane b c.in_ok-words.words.items in
-    let len : length given ≡ c.self.inside.given = length-map words (λ x. bit x b) ∙ c.in_ok-given.ensures.count in
-    let found : evaluate given (map kept_gate c.self.inside.gates.items) ≡ Some out =
-    ap₂ (λ (ws : List ℕ) (gs : List Gate). evaluate (lane b ws) gs) (sym c.as_slice.ensures.value) (sym (ap (map kept_gate) c.as_slice-2.ensures.value)) ∙ c.in_ok-words.ensures b h in
-    subst (λ (l : Netlist). AreValues l (bit (64 * c.args.chunk + b)) out) c.self.view_is
-    (evaluated (wiring_net c.self.inside) (bit (64 * c.args.chunk + b)) given out c.self.invariant.ordered (kept_forward c.self.inside.gates.items) len
-    (λ i l. read_lane words b i ∙ c.in_ok-given.ensures.bits i l b h) found)
-
 pub returns-clause-values : goal.returns-clause-values
-returns-clause-values = values
+returns-clause-values c = λ b h.
+    let words : List ℕ = c.in_ok-given.given.items in
+    let says : SaysColumn words (map kept_gate c.self.inside.gates.items) c.in_ok-column.column.words.items c.in_ok-column.column.undefined.items c.in_ok-column.column.defined b =
+    subst (λ (ws : List ℕ). SaysColumn ws (map kept_gate c.self.inside.gates.items) c.in_ok-column.column.words.items c.in_ok-column.column.undefined.items c.in_ok-column.column.defined b) c.as_slice.ensures.value
+    (subst (λ (gs : List Gate). SaysColumn c.as_slice.result.now gs c.in_ok-column.column.words.items c.in_ok-column.column.undefined.items c.in_ok-column.column.defined b) (ap (map kept_gate) c.as_slice-2.ensures.value) (c.in_ok-column.ensures.says b h)) in
+    subst (λ (l : Netlist). IsColumnAt l (64 * c.args.chunk + b) c.in_ok-column.column.words.items c.in_ok-column.column.undefined.items c.in_ok-column.column.defined b) c.self.view_is
+    (column_at (wiring_net c.self.inside) words c.in_ok-column.column.words.items c.in_ok-column.column.undefined.items c.in_ok-column.column.defined (64 * c.args.chunk + b) b c.self.invariant.ordered c.in_ok-given.ensures.count
+    (λ i l. c.in_ok-given.ensures.bits i l b h) says)
 
 pub returns-clause-count : goal.returns-clause-count
-returns-clause-count c = sym (length-map c.in_ok-words.words.items (λ x. bit x 0)) ∙ (values c 0 (omega arith)).all
+returns-clause-count c =
+    let given : length c.as_slice.result.now ≡ c.self.inside.given = ap length c.as_slice.ensures.value ∙ c.in_ok-given.ensures.count in
+    c.in_ok-column.ensures.long ∙ ap (λ n. wires_after n (map kept_gate c.as_slice-2.result.now)) given ∙ ap (λ gs. wires_after c.self.inside.given (map kept_gate gs)) c.as_slice-2.ensures.value
+    ∙ ap (λ (l : Netlist). wires l) c.self.view_is
+
+pub returns-clause-gates : goal.returns-clause-gates
+returns-clause-gates c =
+    c.in_ok-column.ensures.count ∙ ap length c.as_slice-2.ensures.value ∙ sym (length-map c.self.inside.gates.items kept_gate) ∙ ap (λ (l : Netlist). length l.gates) c.self.view_is

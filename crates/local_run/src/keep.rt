@@ -1,0 +1,24 @@
+//! The gates that a module keeps, and the assignments under which they have no row.
+ghost use Rattle.local_run.specs.Faults.{IsLeastKeepFault};
+ghost use Rattle.local_run.specs.Scans.{IsReady};
+
+use crate::fault::KeepFault;
+use crate::values::Values;
+use certificate::Job;
+
+/// The least keep fault of a job, by gate and assignment. Each assignment counts, also one under which an earlier run looks for no
+/// faults.
+pub fn least_keep(values: &Values, job: &Job) -> Option<KeepFault>
+    requires { IsReady job.now values.now }
+    ensures { IsLeastKeepFault job.now result }
+{
+    let gates = job.wiring().gates();
+    'gates: for gate in 0..gates {
+        if job.keeps(gate as u16) {
+            if let Some(assignment) = values.first_undefined(gate) {
+                return Some(KeepFault { gate, assignment });
+            }
+        }
+    }
+    None
+}
