@@ -100,6 +100,7 @@ abbrev pub wires_in : Circuit → Entry → List ℕ
 wires_in c (Module b) = []
 wires_in c (Cut n) = option_to_list (wire_of c n)
 wires_in c (Use k) = outs_at (slice_get c.netlist.gates k)
+wires_in c (Keep k) = []
 wires_in c (Edge e) = []
 wires_in c (Halo e) = []
 wires_in c (Stop s) = []
