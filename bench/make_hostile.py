@@ -267,13 +267,14 @@ def alike_lines(full):
 
 
 def most_stops(full):
-    """check, modules: 16 MiB of short stop lines, for 16 modules of 4 by 4, of a wire that is false at cells that are dead: a yes."""
-    w, h, modules = 16, 16 if full else 8, []
-    for box in boxes(w, h, 4, 4):
-        x, y, a, b = box
-        modules += ["module %d %d %d %d" % box, "use 0"]
-        modules += stops([(x + u, y + v) for u, v in cells(a, b)], 63400, "z")
-    return bundle((w, h, 4096), [], modules, ["source 0 -> z", "spill z"])
+    """check, modules: the most stop lines of 16 modules, of a wire that is false at cells that are dead: a yes. The modules have 24 or 26
+    columns and rows, so that the lines are short."""
+    sides, modules = [(0, 24), (24, 26), (50, 24), (74, 26)], []
+    for y, b in sides if full else sides[:2]:
+        for x, a in sides:
+            modules += [f"module {x} {y} {a} {b}", "use 0"]
+            modules += stops([(x + u, y + v) for u, v in cells(a, b)], 65536, "z")
+    return bundle((100, 100 if full else 50, 128), [], modules, ["source 0 -> z", "spill z"])
 
 
 def alike_stops(full):

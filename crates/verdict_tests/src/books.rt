@@ -11,7 +11,8 @@ use std::process::Abort;
 use std::sync::Arc;
 use test_support::{ALONE, GOOD, Work, work_of};
 
-/// The finding of the job at a place of the list, under a digest and a number.
+/// The finding of the job at a place of the list, under a digest and a number: that of the second run, if no memory was found for
+/// the first.
 pub(crate) fn finding(
     rt: &impl Abort,
     alloc: Global,
@@ -22,7 +23,14 @@ pub(crate) fn finding(
 ) -> Finding {
     assert!(rt; place < jobs.len(), "no such job");
     let job = jobs[place].clone().expect(rt, "a job");
-    run_job(alloc, digest, number, job).expect(rt, "a finding")
+    if let Ok(finding) = run_job(alloc, digest, number, job) {
+        return finding;
+    }
+    let again = jobs[place].clone().expect(rt, "a job");
+    match run_job(alloc, digest, number, again) {
+        Ok(finding) => finding,
+        Err(_) => panic!(rt; "no memory at the second try"),
+    }
 }
 
 /// The reply to a finding, which is filed: a second time, if no memory was found for the first.

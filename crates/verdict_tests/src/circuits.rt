@@ -2,7 +2,7 @@
 //! by hand from the format.
 
 use circuit::*;
-use section_text::{Name, PortNames};
+use section_text::{LineFault, Name, PortNames};
 use std::alloc::Global;
 use std::process::Abort;
 use test_support::circuit_of;
@@ -88,4 +88,87 @@ fn first_unused_wire(rt: HostRuntime) {
     let unused = lines(&rt, rt.alloc()).finish().err();
     let Unused { draft, wire } = unused.expect(&rt, "an unused wire");
     assert!(rt; wire.bytes() == b"q".as_slice() && is_finished_by_spilling(draft, wire));
+}
+
+/// A line that is added to a draft, with its names: those that it consumes, and those that it defines.
+#[derive(Clone, Copy)]
+enum Added {
+    Input(&'static str),
+    Source(&'static str),
+    Interact(
+        (&'static str, &'static str),
+        (&'static str, &'static str, &'static str, &'static str),
+    ),
+    Output(&'static str),
+    Spill(&'static str),
+}
+
+/// The lines of `ADDED`, as a text.
+const ADDED_TEXT: &str =
+    "circuit\ninput p\ninput q\nsource 1 -> s\ninteract p q -> a b c d\ninteract a s -> e f g h\noutput b\noutput c\noutput d\noutput e\nspill f\nspill g\nspill h\nend\n";
+
+const ADDED: [Added; 12] = [
+    Added::Input("p"),
+    Added::Input("q"),
+    Added::Source("s"),
+    Added::Interact(("p", "q"), ("a", "b", "c", "d")),
+    Added::Interact(("a", "s"), ("e", "f", "g", "h")),
+    Added::Output("b"),
+    Added::Output("c"),
+    Added::Output("d"),
+    Added::Output("e"),
+    Added::Spill("f"),
+    Added::Spill("g"),
+    Added::Spill("h"),
+];
+
+/// Adds a line once.
+fn add_once(rt: &impl Abort, draft: &mut Draft, line: Added) -> Result<(), LineFault> {
+    match line {
+        Added::Input(word) => {
+            assert!(rt; draft.takes_inputs());
+            draft.add_input(name(rt, word.as_bytes()))
+        }
+        Added::Source(word) => draft.add_source(true, name(rt, word.as_bytes())),
+        Added::Interact((p, q), (a, b, c, d)) => {
+            let ins = [p, q].map(|word| name(rt, word.as_bytes()));
+            let outs = [a, b, c, d].map(|word| name(rt, word.as_bytes()));
+            draft.add_gate(GateKind::Interact, &ins, &outs)
+        }
+        Added::Output(word) => draft.add_output(name(rt, word.as_bytes())),
+        Added::Spill(word) => draft.add_spill(name(rt, word.as_bytes())),
+    }
+}
+
+/// Adds a line: at the second time, if no memory was found at the first.
+fn add(rt: &impl Abort, draft: &mut Draft, line: Added) {
+    if let Err(fault) = add_once(rt, draft, line) {
+        assert!(rt; fault == LineFault::Memory, "refused");
+        assert!(rt;
+            add_once(rt, draft, line).is_ok(),
+            "not added at the second try"
+        );
+    }
+}
+
+/// Whether the draft is the circuit of `ADDED_TEXT`. It is printed a second time, if no memory was found for the first.
+fn is_what_was_added(rt: &impl Abort, alloc: Global, draft: Draft) -> bool {
+    let Ok(circuit) = draft.finish() else {
+        return false;
+    };
+    let printed = match print_circuit(alloc, &circuit) {
+        Ok(printed) => Ok(printed),
+        Err(_) => print_circuit(alloc, &circuit),
+    };
+    printed.expect(rt, "a text").as_slice() == ADDED_TEXT.as_bytes()
+}
+
+/// Made to be run with each growth of memory refused in turn.
+#[test]
+fn lines_added_at_the_second_try(rt: HostRuntime) {
+    let mut draft = Draft::new(rt.alloc());
+    for line in ADDED {
+        add(&rt, &mut draft, line);
+    }
+    assert!(rt; is_what_was_added(&rt, rt.alloc(), draft));
 }

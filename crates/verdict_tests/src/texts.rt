@@ -1,10 +1,25 @@
 //! Lines, words, numbers and names. What is expected was worked out by hand from the format.
-ghost use Rattle.std.specs.Prelude.{◌≡◌, true};
+ghost use Rattle.std.specs.Prelude.{◌≡◌, true, false};
 ghost use Rattle.section_text.specs.FeedState.{IsLine};
 
-use section_text::{Feed, Line, Name, ReadFault, Refusal, print_number, print_word, read_number};
+use section_text::{
+    Feed, Line, Name, PushFault, ReadFault, Refusal, print_number, print_word, read_number,
+};
 use std::alloc::Global;
 use std::process::Abort;
+
+/// Adds a piece: at the second time, if no memory was found at the first.
+fn add(rt: &impl Abort, feed: &mut Feed, piece: &[u8])
+    requires { feed.old.closed ≡ false }
+    ensures { feed.new.closed ≡ false }
+{
+    let pushed = feed.push(piece);
+    if pushed.is_ok() {
+        return;
+    }
+    assert!(rt; pushed == Err(PushFault::Memory), "refused");
+    assert!(rt; feed.push(piece).is_ok(), "no memory at the second try");
+}
 
 /// A text that has ended, in pieces of three bytes.
 fn fed(rt: &impl Abort, alloc: Global, text: &[u8]) -> Feed
@@ -13,7 +28,7 @@ fn fed(rt: &impl Abort, alloc: Global, text: &[u8]) -> Feed
     let mut feed = Feed::new(alloc);
     for piece in text.chunks(3) {
         assert!(rt; !feed.closed());
-        assert!(rt; feed.push(piece).is_ok(), "no memory");
+        add(rt, &mut feed, piece);
     }
     feed.close();
     feed
