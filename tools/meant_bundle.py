@@ -73,8 +73,8 @@ def history_of(tables, fixed, ins, steps):
 
 
 def locals_of(rng, names, gates, kept):
-    """All inputs are cut, or the outputs of some gates in place of them and of what made them. Of the inverse gates that are used so many are
-    kept."""
+    """All inputs are cut, or the outputs of some gates in place of them and of what made them. So many of the inverse gates that are
+    used are kept."""
     cuts, used, local = list(names), [], set(names)
     rng.shuffle(cuts)
     for number, (_, ins, outs) in enumerate(gates):
