@@ -16,7 +16,7 @@ from reference_reports import answer  # noqa: E402
 HEAD = """\
 # Random bundles, in the form of cases.txt, and their reports by a slow program. tools/make_reports.py writes this file.
 """
-SORTS = ["verdict yes", " edge ", " end ", "border "]
+SORTS = ["verdict yes", " edge ", " end ", "border ", "\nkeep ", "\nunkept "]
 
 
 def lines_of(keyword, text):

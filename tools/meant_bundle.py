@@ -2,7 +2,7 @@
 inputs, and what a cell then carries is looked for among the wires of its module. Some lines are made wrong afterwards."""
 import collections
 
-from random_bundle import gates_of, ring, tiles
+from random_bundle import INVERSE, gates_of, kept_of, ring, tiles
 from reference import ROWS, stepped
 
 # The most inputs; how often a module's lines of a kind are made wrong; how often a cell that is live at the end is left out; and
@@ -16,10 +16,11 @@ def cells_of(x, y, w, h):
 
 
 class Tables:
-    """For each wire its table: bit a is its value under assignment a of the inputs."""
+    """For each wire its table: bit a is its value under assignment a of the inputs. Where a gate has no row its wires are false, and
+    some gate is undefined."""
 
     def __init__(self, inputs, gates):
-        self.full = (1 << (1 << len(inputs))) - 1
+        self.full, self.is_defined = (1 << (1 << len(inputs))) - 1, True
         self.of = {name: sum(1 << a for a in range(1 << len(inputs)) if a >> k & 1) for k, name in enumerate(inputs)}
         for line, ins, outs in gates:
             kind, number = line.split(" ")[:2]
@@ -27,7 +28,8 @@ class Tables:
                 self.of[outs[0]] = self.full * int(number)
                 continue
             rows = [ROWS[kind.encode()](*(self.of[wire] >> a & 1 == 1 for wire in ins)) for a in range(self.full.bit_length())]
-            self.of.update((wire, sum(row[k] << a for a, row in enumerate(rows))) for k, wire in enumerate(outs))
+            self.is_defined = self.is_defined and None not in rows
+            self.of.update((wire, sum(row[k] << a for a, row in enumerate(rows) if row)) for k, wire in enumerate(outs))
 
 
 def mirrors_of(rng, width, height):
@@ -70,8 +72,9 @@ def history_of(tables, fixed, ins, steps):
     return history
 
 
-def locals_of(rng, names, gates):
-    """All inputs are cut, or the outputs of some gates in place of them and of what made them."""
+def locals_of(rng, names, gates, kept):
+    """All inputs are cut, or the outputs of some gates in place of them and of what made them. So many of the inverse gates that are
+    used are kept."""
     cuts, used, local = list(names), [], set(names)
     rng.shuffle(cuts)
     for number, (_, ins, outs) in enumerate(gates):
@@ -81,7 +84,13 @@ def locals_of(rng, names, gates):
         elif len(cuts) < 3 and not local.intersection(outs):
             cuts.append(outs[0])
             local.add(outs[0])
-    return cuts, used, sorted(local)
+    return cuts, used, sorted(local), kept_of(rng, gates, used, kept)
+
+
+def are_kept(gates, known):
+    """Whether each inverse gate is kept by some module."""
+    kept = {number for *_, numbers in known for number in numbers}
+    return all(number in kept for number, (line, _, _) in enumerate(gates) if line.split(" ")[0] in INVERSE)
 
 
 def signal_for(rng, tables, local, table, steady):
@@ -167,9 +176,10 @@ def timed(rng, gates, stops, mood):
 def module_lines(rng, tables, box, places, known, history, mood):
     """The lines, and of the stops their places and wires."""
     x, y, w, h = box
-    cuts, used, local = known
+    cuts, used, local, kept = known
     rim, inside = places
     texts = ["module %d %d %d %d" % box, *(f"cut {wire}" for wire in cuts), *(f"use {number}" for number in used)]
+    texts += [f"keep {number}" for number in kept]
     halo = ring(x - 1, y - 1, w + 2, h + 2) & inside
     for kind, cells in (("edge", ring(*box) - rim), ("halo", halo)):
         lines = right_lines(rng, tables, local, cells, history, mood.steady)
@@ -215,7 +225,7 @@ def meant_bundle(rng, is_dense=False, mood=WILD):
     steps = max(steps, 3) if mood is RENAMED else steps
     many = rng.randint(4, 10) if rng.random() < 0.03 else 0
     names = [f"i{k}" for k in range(min(many or rng.choice([0, 1, 2, 2, 3]), mood.inputs))]
-    _, free, gates = gates_of(rng, names, rng.choice([0, 1, 2, 3]))
+    _, free, gates = gates_of(rng, names, rng.choice([0, 1, 2, 3, 4]))
     if mood is RENAMED:
         gates, free = gates + [("source 1 -> again", [], ["again"])], [*free, "again"]
     tables, inside = Tables(names, gates), cells_of(0, 0, width, height)
@@ -226,8 +236,11 @@ def meant_bundle(rng, is_dense=False, mood=WILD):
     if mood is not WILD and reaches(history, ring(0, 0, width, height)):
         return meant_bundle(rng, is_dense, mood)
     boxes = tiles(rng, 0, 0, width, height, 2 if mood is RENAMED else rng.choice([2, 4, 8, 8]))
-    known = [locals_of(rng, names, gates) for _ in boxes]
-    owners = {cell: local for box, (_, _, local) in zip(boxes, known) for cell in cells_of(*box)}
+    kept = rng.choice([1, 1, 0.8, 0]) if mood is WILD else 1
+    known = [locals_of(rng, names, gates, kept) for _ in boxes]
+    if mood is not WILD and not (tables.is_defined and are_kept(gates, known)):
+        return meant_bundle(rng, is_dense, mood)
+    owners = {cell: local for box, (_, _, local, _) in zip(boxes, known) for cell in cells_of(*box)}
     wastes, outs = end_cells(rng, tables, owners, solid, free, history[-1], mood)
     modules = [module_lines(rng, tables, box, (ring(0, 0, width, height), inside), what, history, mood) for box, what in zip(boxes, known)]
     gate_lines, are_right = timed(rng, gates, [stop for _, stops in modules for stop in stops], mood)

@@ -2,6 +2,9 @@
 
 # how many wires a gate uses and makes
 GATES = {"source": (0, 1), "fredkin": (3, 3), "cswap": (3, 3), "interact": (2, 4), "switch": (2, 3), "delay": (1, 1)}
+# those that have no row at some inputs, and what each turns back
+INVERSE = {"unswitch": (3, 2), "uninteract": (4, 2)}
+BACK = {"switch": "unswitch", "interact": "uninteract"}
 
 
 def tiles(rng, x, y, w, h, most):
@@ -17,15 +20,18 @@ def tiles(rng, x, y, w, h, most):
 
 
 def gates_of(rng, inputs, count):
-    """The wires, those that no gate uses, and the gates: their lines, the wires that they use and those that they make."""
-    wires, free, gates = list(inputs), list(inputs), []
+    """The wires, those that no gate uses, and the gates: their lines, the wires that they use and those that they make. Now and then a
+    gate is turned back by the next one."""
+    kinds = GATES | INVERSE
+    wires, free, gates, kind = list(inputs), list(inputs), [], None
     while len(gates) < count:
-        kind = rng.choice([kind for kind, (uses, _) in GATES.items() if uses <= len(free)])
-        uses, makes = GATES[kind]
+        is_turned = kind in BACK and rng.random() < 0.5
+        kind = BACK[kind] if is_turned else rng.choice([kind for kind, (uses, _) in kinds.items() if uses <= len(free)])
+        uses, makes = kinds[kind]
         if len(wires) + makes > 4096:
             break
         # wires made lately, so that gates hang together
-        ins = [free.pop(rng.randrange(max(0, len(free) - 8), len(free))) for _ in range(uses)]
+        ins = [free.pop(k - uses if is_turned else rng.randrange(max(0, len(free) - 8), len(free))) for k in range(uses)]
         outs = [f"w{len(wires) + k}" for k in range(makes)]
         wires += outs
         free += outs
@@ -49,6 +55,11 @@ def locals_of(rng, asked, wires, gates, least):
             local.update(need + outs)
     others = [wire for wire in rng.sample(wires, min(len(wires), 10)) if wire not in local]
     return cuts + others[:rng.randint(max(0, least - len(cuts)), most_cuts - len(cuts))], used
+
+
+def kept_of(rng, gates, used, chance):
+    """Of the inverse gates that are used each by this chance."""
+    return [number for number in used if gates[number][0].split(" ")[0] in INVERSE and rng.random() < chance]
 
 
 def ring(x, y, w, h):
@@ -120,6 +131,7 @@ def bundle(rng, width, height, boxes, steps, inputs, gates, mirrors, cuts, lines
         for wire in local:
             places.setdefault(wire, []).append(box)
         certificate += [f"module {x} {y} {w} {h}", *(f"cut {wire}" for wire in cut), *(f"use {number}" for number in used)]
+        certificate += [f"keep {number}" for number in kept_of(rng, gates, used, 0.5)]
         edge = ring(*box) - rim
         halo = {(u, v) for u, v in ring(x - 1, y - 1, w + 2, h + 2) if 0 <= u < width and 0 <= v < height}
         for kind, cells in (("edge", edge), ("halo", halo)):
