@@ -3,6 +3,7 @@ mod OneValue
 mod OneListing
 mod OneReport
 mod Designs
+mod ThereAndBack
 mod TimedModules
 mod Trials
 pub mod FourthLines

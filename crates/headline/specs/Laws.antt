@@ -11,6 +11,7 @@ use Rattle.answers.specs.declared.outcome.Outcome.{Outcome}
 use Rattle.answers.specs.declared.outcome.Outcome.TheVariants.{Yes, Refused}
 use Rattle.answers.specs.CheckText.{IsReportOf}
 use Rattle.headline.specs.Design.{SaysDesign}
+use Rattle.headline.specs.ThereAndBack.{there_and_back}
 use Rattle.headline.specs.TimedModules.{timed_modules}
 use Rattle.headline.specs.Headline.{IsRight, SaysYes}
 use Rattle.headline.specs.Stops.{HasRightStops, SaysBundle}
@@ -57,3 +58,7 @@ ReportsOnGoodDesigns = (text output : List ℕ) (outcome : Outcome) (circuit : L
 -- Something is reported with the outcome yes, so the laws are not about nothing: this text.
 abbrev pub TimedModulesAreAccepted : Type 0
 TimedModulesAreAccepted = (output : List ℕ) × IsReportOf timed_modules output Yes
+
+-- and this one, with an inverse gate
+abbrev pub ThereAndBackIsAccepted : Type 0
+ThereAndBackIsAccepted = (output : List ℕ) × IsReportOf there_and_back output Yes

@@ -1,5 +1,6 @@
 pub mod Design
 pub mod Headline
 pub mod Stops
+pub mod ThereAndBack
 pub mod TimedModules
 pub mod Laws

@@ -1,6 +1,6 @@
 //! Laws of the definitions, each the contract of a function without a body.
 ghost use Rattle.answers.specs.CheckText.{IsReportOf};
-ghost use Rattle.headline.specs.Laws.{FourthLineTells, HasOneAnswer, ReportsOnGoodDesigns, SaysOneCertificate, SaysOneDesign, TimedModulesAreAccepted, YesMeansRight, YesMeansRightStops};
+ghost use Rattle.headline.specs.Laws.{FourthLineTells, HasOneAnswer, ReportsOnGoodDesigns, SaysOneCertificate, SaysOneDesign, ThereAndBackIsAccepted, TimedModulesAreAccepted, YesMeansRight, YesMeansRightStops};
 ghost use Rattle.answers.specs.ModulesText.{IsModulesOf};
 ghost use Rattle.answers.specs.RunText.{IsRunOf};
 ghost use Rattle.answers.specs.ValueText.{IsValueOf};
@@ -41,7 +41,8 @@ pub fn says_one_design()
     ensures good { ReportsOnGoodDesigns }
 {}
 
-/// Something is reported with a yes: the text of four modules with a gate, a delay and stops.
+/// Something is reported with a yes: the text of four modules with a gate, a delay and stops, and that of a switch and its inverse gate.
 pub fn something_is_accepted()
-    ensures { TimedModulesAreAccepted }
+    ensures timed { TimedModulesAreAccepted }
+    ensures inverse { ThereAndBackIsAccepted }
 {}

@@ -1,5 +1,9 @@
-use Rattle.headline.proofs.TimedModules.{accepted}
+use Rattle.headline.proofs.TimedModules as timed
+use Rattle.headline.proofs.ThereAndBack as inverse
 use Rattle.headline.proofs.laws.something_is_accepted.Goals as goal
 
-pub returns : goal.returns
-returns c = accepted
+pub returns-clause-timed : goal.returns-clause-timed
+returns-clause-timed c = timed.accepted
+
+pub returns-clause-inverse : goal.returns-clause-inverse
+returns-clause-inverse c = inverse.accepted
