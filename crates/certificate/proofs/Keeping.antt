@@ -1,6 +1,5 @@
 -- What is kept of the lines, after one more line.
-use Rattle.std.proofs.Common.{◌≡◌, ℕ, ◌+◌, ◌<◌, ◌≤◌, ℤ, Bool, true, false, not, ◌&&◌, ◌||◌, List, [], ◌∷◌, ◌++◌, length, Option, Some, None, option_map, refl, sym, ap, subst, ◌∙◌, arith, append-nil}
-use Rattle.std.specs.Prelude.{slice_get}
+use Rattle.std.proofs.Common.{◌≡◌, ℕ, ◌+◌, ◌≤◌, ℤ, Bool, true, false, not, ◌&&◌, ◌||◌, List, [], ◌∷◌, ◌++◌, length, Option, Some, None, option_map, refl, sym, ap, subst, ◌∙◌, arith, append-nil}
 use Rattle.std.specs.List.{list_any, flat_map}
 use Rattle.std.specs.Option.{option_to_list}
 use Rattle.std.proofs.lemmas.List.Folds.{list_any-append}
@@ -8,7 +7,6 @@ use Rattle.std.proofs.lemmas.List.{length_push}
 use Rattle.bbm_rule.specs.Board.{Board, live, HasSameSize}
 use Rattle.bbm_rule.specs.declared.block.Cell.{Cell}
 use Rattle.section_text.specs.Codes.{code_where, or_else}
-use Rattle.circuit.specs.Meaning.{Gate, wire_of}
 use Rattle.module_box.specs.Boxes.{in_box}
 use Rattle.module_box.specs.Locals.{is_among}
 use Rattle.module_box.specs.declared.boxes.Box2.{Box2}
@@ -27,7 +25,7 @@ use Rattle.certificate.proofs.BuiltLemmas.{built_none, module_built, line_built,
 use Rattle.certificate.proofs.Growing.{modules_push, flat_push, flat_same, last_at, last_pushed, last_changed, last_mapped}
 use Rattle.certificate.proofs.Lists.{some_is}
 use Rattle.certificate.proofs.KnownLemmas.{none_new}
-use Rattle.certificate.proofs.ModulePushes.{no_code, both_none, not_false, IsNewWire, new_wire, IsGoodUse, good_use, cuts_cut, gates_use, edges_edge, halos_halo, stops_stop, known_cut, known_use, known_same, cut_pushed, use_pushed, keep_pushed, edge_pushed, halo_pushed, stop_pushed}
+use Rattle.certificate.proofs.ModulePushes.{no_code, both_none, not_false, new_wire, good_use, cuts_cut, gates_use, edges_edge, halos_halo, stops_stop, known_cut, known_use, known_same, cut_pushed, use_pushed, keep_pushed, edge_pushed, halo_pushed, stop_pushed}
 
 no_last : {X : Type 0} (x : X) → None ≡ Some x → ⊥
 no_last x e = cc

@@ -53,8 +53,8 @@ pub(crate) fn are_all_new(known: &IndexSet<u16>, wires: &[WireNo]) -> bool
     true
 }
 
-/// Makes a wire local that is not, where there is room.
-pub(crate) fn learn(known: &mut IndexSet<u16>, wire: u16)
+// Makes a wire local that is not, where there is room.
+fn learn(known: &mut IndexSet<u16>, wire: u16)
     requires room { 0 < spare known.old }
     requires new { is_among known.old.keys wire ≡ false }
     ensures keys { known.new.keys ≡ known.old.keys ++ wire ∷ [] }
@@ -66,8 +66,8 @@ pub(crate) fn learn(known: &mut IndexSet<u16>, wire: u16)
     }
 }
 
-/// Makes wires local that are not, where there is room for them.
-pub(crate) fn learn_all(known: &mut IndexSet<u16>, wires: &[WireNo])
+// Makes wires local that are not, where there is room for them.
+fn learn_all(known: &mut IndexSet<u16>, wires: &[WireNo])
     requires room { length wires.now ≤ spare known.old }
     requires new { are_new known.old.keys wires.now ≡ true }
     ensures { known.new.keys ≡ known.old.keys ++ wires.now }
@@ -96,7 +96,7 @@ pub(crate) fn make_room_for_wires(
     }
 }
 
-/// Makes these wires local, where there is room for them.
+/// Makes these wires local, which are not, where there is room for them.
 pub(crate) fn learn_line(known: &mut IndexSet<u16>, site: &Site, entry: &Entry)
     requires room { length (wires_in site.now.circuit entry.now) ≤ spare known.old }
     requires new { are_new known.old.keys (wires_in site.now.circuit entry.now) ≡ true }

@@ -1,4 +1,4 @@
-use Rattle.std.proofs.Common.{◌≡◌, ◌∙◌, true, ap, sym}
+use Rattle.std.proofs.Common.{◌∙◌, ap, sym}
 use Rattle.certificate.specs.BuilderView.{wires_in}
 use Rattle.certificate.specs.Rules.{are_new}
 use Rattle.certificate.proofs.KnownLemmas.{cut_new}

@@ -1,4 +1,4 @@
-use Rattle.std.proofs.Common.{◌≡◌, ◌∙◌, None, ℕ, List, Bool, true, false, ◌||◌, subst, sym, ap}
+use Rattle.std.proofs.Common.{◌≡◌, ◌∙◌, None, ℕ, List, ◌||◌, subst, sym, ap}
 use Rattle.std.specs.List.{list_any}
 use Rattle.bbm_rule.specs.declared.block.Cell.{Cell}
 use Rattle.certificate.specs.Entries.{edge_in, halo_in, present}
