@@ -137,14 +137,17 @@ stop_first j vs t place a s rising tried e at least = record {
   at_time = refl;
   same_kind = refl;
   small = least.0;
-  fault = (least.1.0, record {
-    stop = s;
-    is_listed = (place, slice_get_within j.stops place s e, there);
-    time = at;
-    column = refl;
-    row = refl;
-    differs = subst (λ (n : ℕ). local_run j (valuation vs a) n s.at.cell.x s.at.cell.y ≢ valuation vs a s.wire) at least.1.1;
-  });
+  fault = (
+    least.1.0,
+    record {
+      stop = s;
+      is_listed = (place, slice_get_within j.stops place s e, there);
+      time = at;
+      column = refl;
+      row = refl;
+      differs = subst (λ (n : ℕ). local_run j (valuation vs a) n s.at.cell.x s.at.cell.y ≢ valuation vs a s.wire) at least.1.1;
+    },
+  );
   row = λ x y b lb less f. elim (where_it_is j vs t place b s x y rising tried e at lb f.0 f.1) [
     | inl same ↦ less_itself s.at.cell.y (subst (λ (z : ℤ). z <ℤ s.at.cell.y) (sym f.1.row ∙ ap (λ (r : listed.Stop). r.at.cell.y) same) less)
     | inr later ↦ not_before s.at.cell.x s.at.cell.y x y later less

@@ -109,10 +109,6 @@ pub fn read_assign(alloc: Global, feed: &mut Feed, ins: &[Name]) -> Result<Vec<N
         return Err(feed.starve());
     };
     let on = IndexSet::with_hasher(alloc, *known.hasher());
-    let mut reading = Assigning {
-        ins,
-        known,
-        on,
-    };
+    let mut reading = Assigning { ins, known, on };
     read_names(alloc, feed, &mut reading)
 }

@@ -18,6 +18,6 @@ pub use name::Name;
 pub use names::Names;
 pub use ports::PortNames;
 pub use reader::{Section, read_section};
-pub use seed::Seed;
 pub use section::{Form, LineFault};
+pub use seed::Seed;
 pub use spelling::{print_number, print_word};

@@ -187,12 +187,25 @@ fn where_a_gate_has_no_row(rt: HostRuntime) {
     let job = only_job(&rt, rt.alloc(), BACK);
     let wiring = job.wiring();
     assert!(rt; has_values(rt.alloc(), wiring, 1, &BACK_TABLE) == Ok(true) && wiring.gates() == 3);
-    for (bits, place) in [(2, 0), (5, 0), (6, 0), (7, 0), (10, 0), (1, 2), (3, 2), (9, 2), (11, 2), (12, 2)] {
+    for (bits, place) in [
+        (2, 0),
+        (5, 0),
+        (6, 0),
+        (7, 0),
+        (10, 0),
+        (1, 2),
+        (3, 2),
+        (9, 2),
+        (11, 2),
+        (12, 2),
+    ] {
         let fault = wiring.local_values(rt.alloc(), bits).err();
         assert!(rt; fault == Some(LocalFault::NoRow(place)), "{bits}");
     }
     let rows = wiring.value_rows(rt.alloc(), 1).expect(&rt, "rows");
-    assert!(rt; rows.undefined.as_slice() == [0xE4E4_E4E4_E4E4_E4E4, 0, 0x1A0A_1A0A_1A0A_1A0A].as_slice());
+    assert!(rt;
+        rows.undefined.as_slice() == [0xE4E4_E4E4_E4E4_E4E4, 0, 0x1A0A_1A0A_1A0A_1A0A].as_slice()
+    );
     assert!(rt; rows.defined.as_slice() == [0x0111_0111_0111_0111].as_slice());
     assert!(rt; !job.keeps(0) && !job.keeps(1) && job.keeps(2) && job.gate_number(2) == 2);
 }
