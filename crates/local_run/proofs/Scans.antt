@@ -5,7 +5,7 @@ use Rattle.std.specs.Int.{bit_at, trailing_zeros}
 use Rattle.std.proofs.lemmas.Nat.Bits.{bit_at-trailing_zeros, bit_at_ones}
 use Rattle.std.proofs.lemmas.Bool.{and_parts}
 use Rattle.std.proofs.lemmas.Nat.{xor_lt}
-use Rattle.std.specs.Int.Bits.{and_lt}
+use Rattle.std.specs.Int.Bits.{and_lt, and_zero_l, xor_self}
 use Rattle.bbm_rule.specs.Bits.{bit}
 use Rattle.bbm_rule.proofs.BitLemmas.{by_lt_or_le, by_eq_or_not, xor, bit-and, bit-xor, bit-zero}
 use Rattle.certificate.specs.Signals.{IsBelow, is_live}
@@ -115,6 +115,14 @@ differs_bits vs p x y k s cells wanted defined d are should room is b l =
     let whole : bit defined b ≡ is_defined vs (64 * k + b) =
     ap (λ n. bit n b) (is ∙ get_or_any vs.rows.defined.items k d 0 room) ∙ ap₂ (λ i j. bit (get_or vs.rows.defined.items i 0) j) (sym (quotient k b l)) (sym (remainder k b l)) in
     bit-and (bit_xor cells wanted) defined b ∙ ap₂ (λ (u v : Bool). u && v) (bit-xor cells wanted b ∙ ap₂ xor (are b l) (should b l)) whole
+
+-- where all cells are as they should be, none differs
+pub same_clear : (vs : Values) (p : Planes) (x y k : ℕ) (s : Signal) (cells wanted : ℕ) → ((b : ℕ) → b < 64 → bit cells b ≡ lane p (64 * k + b) x y) → ((b : ℕ) → b < 64 → bit wanted b ≡ is_live (valuation vs (64 * k + b)) s) →
+    k < length vs.rows.defined.items → cells ≡ wanted → ((a : ℕ) → a < 64 * k → differs vs p x y s a ≡ false) → (a : ℕ) → a < 64 * (k + 1) → differs vs p x y s a ≡ false
+same_clear vs p x y k s cells wanted are should room same before =
+    let defined = get_or vs.rows.defined.items k 0 in
+    block_clear (differs vs p x y s) k (bit_and (bit_xor cells wanted) defined) (differs_bits vs p x y k s cells wanted defined 0 are should room refl) before
+    (ap (λ (n : ℕ). bit_and n defined) (ap (λ (n : ℕ). bit_xor n wanted) same ∙ xor_self wanted) ∙ and_zero_l defined)
 
 pub difference_small : (v w d : ℕ) → v < 2 ^ 64 → w < 2 ^ 64 → d < 2 ^ 64 → bit_and (bit_xor v w) d < 2 ^ 64
 difference_small v w d sv sw sd = and_lt 64 (bit_xor v w) d (xor_lt 64 v w sv sw) sd

@@ -73,6 +73,10 @@ impl Values {
         for k in 0..self.words {
             let cells = planes.word(x, y, k);
             let wanted = self.word(signal, k);
+            // Most words are as they should be.
+            if cells == wanted {
+                continue;
+            }
             let difference = (cells ^ wanted) & self.rows.defined[k];
             if difference != 0 {
                 let a = 64 * k as u32 + difference.trailing_zeros();

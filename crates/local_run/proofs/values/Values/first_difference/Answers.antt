@@ -1,7 +1,7 @@
 use Rattle.std.proofs.Common.{◌≡◌, ◌<◌, ◌+◌, ◌*◌, arith, ℕ, Bool, bit_and}
 use Rattle.std.specs.Prelude.{bit_xor}
 use Rattle.bbm_rule.specs.Bits.{bit}
-use Rattle.local_run.proofs.Scans.{block_clear, block_first, difference_small, differs, differs_bits, differs_is, differs_not}
+use Rattle.local_run.proofs.Scans.{block_clear, block_first, difference_small, differs, differs_bits, differs_is, differs_not, same_clear}
 use Rattle.local_run.proofs.values.Values.first_difference.Goals as goal
 
 pub returns-then-difference-ne0 : goal.returns-then-difference-ne0
@@ -10,6 +10,10 @@ returns-then-difference-ne0 c = λ a l.
     let bits : (b : ℕ) → b < 64 → bit (bit_and (bit_xor c.word-cells.result c.word-wanted.result) c.index.result.now) b ≡ f (64 * c.loop-k.k + b) = differs_bits c.args.self.now c.args.planes.now c.args.x c.args.y c.loop-k.k c.args.signal c.word-cells.result c.word-wanted.result c.index.result.now _ c.word-cells.ensures c.word-wanted.ensures (omega arith) c.index.ensures in
     let d = block_first f c.loop-k.k _ (difference_small c.word-cells.result c.word-wanted.result c.index.result.now (omega arith) (omega arith) (omega arith)) bits c.loop-k.invariant c.if-difference-ne0.true in
     differs_not c.args.self.now c.args.planes.now c.args.x c.args.y c.args.signal a (d.1 a (omega arith))
+
+pub loop-k-preserved-then-cells-wanted : goal.loop-k-preserved-then-cells-wanted
+loop-k-preserved-then-cells-wanted c =
+    same_clear c.args.self.now c.args.planes.now c.args.x c.args.y c.loop-k.k c.args.signal c.word-cells.result c.word-wanted.result c.word-cells.ensures c.word-wanted.ensures (omega arith) c.if-cells-wanted.true c.loop-k.invariant
 
 pub loop-k-preserved : goal.loop-k-preserved
 loop-k-preserved c =
