@@ -6,12 +6,13 @@ ghost use Rattle.std.specs.Prelude.{◌≡◌, []};
 
 use crate::gates::{Counts, are_all, count_one, no_counts};
 use audit_core::{BookState, Entry, NotFiled, Reply};
+use certificate::Job;
 use local_run::{Finding, run_job};
-use std::alloc::Global;
+use std::alloc::{AllocError, Global};
 use std::marker::Brand;
 use std::process::Abort;
-use std::sync::Wait;
 use std::sync::ledger::{Blank, Ledger};
+use std::sync::{Arc, Wait};
 use std::thread;
 use std::thread::Threads;
 use test_support::{GOOD, Work, work_of};
@@ -41,6 +42,15 @@ impl Replies {
     }
 }
 
+/// The finding of a job: that of the second run, if no memory was found for the first.
+fn found(alloc: Global, digest: [u8; 32], number: usize, job: &Arc<Job>) -> Option<Finding> {
+    let (once, again) = (job.clone().ok()?, job.clone().ok()?);
+    match run_job(alloc, digest, number, once) {
+        Ok(finding) => Some(finding),
+        Err(_) => run_job(alloc, digest, number, again).ok(),
+    }
+}
+
 /// Files a finding of each job, and counts the replies.
 fn file_all<F: Filings, A: Ledger, R: Wait>(
     rt: &R,
@@ -51,10 +61,7 @@ fn file_all<F: Filings, A: Ledger, R: Wait>(
     replies: &Replies,
 ) {
     for (number, job) in work.jobs.iter().enumerate() {
-        let Ok(job) = job.clone() else {
-            return;
-        };
-        let Ok(finding) = run_job(alloc, work.digest, number, job) else {
+        let Some(finding) = found(alloc, work.digest, number, job) else {
             return;
         };
         if let Some(reply) = filed(rt, book, share, finding) {
@@ -163,4 +170,59 @@ fn four_threads(rt: HostRuntime) {
     assert!(rt; state.history().iter().all(is_own), "another entry");
     // each number once and three times, so 4 and 12 of the sixteen
     assert!(rt; are_all(&replies.accepted, 1) && are_all(&replies.double, 3));
+}
+
+/// A book with two shares, into one of which all findings are filed. `None`: there was no memory to open it.
+fn filed_by_one<F: Filings, A: Ledger, R: Abort + Wait>(
+    rt: &R,
+    alloc: Global,
+    f: Blank,
+    a: Blank,
+    state: BookState,
+    work: &Work,
+) -> Option<Gathered>
+    requires filings { (f.name ≡ F.name) × (f.parts ≡ F.parts) × (f.parts ≡ 2) }
+    requires acceptances { (a.name ≡ A.name) × (a.parts ≡ A.parts) × (a.parts ≡ 2) }
+    requires own { (state.digest ≡ F.digest) × (state.jobs ≡ F.jobs) }
+    requires fresh { state.history ≡ [] }
+{
+    let opened: Result<(Book<F, A>, Vec<Share<F, A>>), AllocError> = Book::open(
+        alloc, f, a, state, 2,
+    );
+    let (book, mut shares) = opened.ok()?;
+    file_all(rt, alloc, work, &book, &mut shares[1], &Replies::new());
+    match gather(book, shares) {
+        Ok(gathered) => Some(gathered),
+        Err(_) => panic!(rt; "a share is missing"),
+    }
+}
+
+/// The same with a state and shares of its own.
+fn filed_in_new<R: Abort + Wait>(rt: &R, alloc: Global, work: &Work) -> Option<Gathered> {
+    let state = new_state(rt, alloc, GOOD);
+    let (f, a) = (Blank::new(2), Blank::new(2));
+    filed_by_one::<Brand, Brand, R>(rt, alloc, f, a, state, work)
+}
+
+/// Made to be run with each growth of memory refused in turn.
+#[test]
+fn a_book_opens_at_the_second_try(rt: HostRuntime) {
+    let work = work_of(rt.alloc(), GOOD).expect(&rt, "work");
+    let first = filed_in_new(&rt, rt.alloc(), &work);
+    let gathered = match first {
+        Some(gathered) => Some(gathered),
+        None => filed_in_new(&rt, rt.alloc(), &work),
+    };
+    let Some(
+        Gathered {
+            state,
+            filed,
+            accepted,
+        },
+    ) = gathered
+    else {
+        panic!(rt; "not opened at the second try")
+    };
+    assert!(rt; filed == 4 && accepted == 4);
+    assert!(rt; state.history().len() == 4 && state.history().iter().all(is_own));
 }

@@ -1,5 +1,5 @@
 //! Desks in one thread and in many. What is expected was worked out by hand.
-ghost use Rattle.std.specs.Prelude.{◌<◌, ◌≤◌, All};
+ghost use Rattle.std.specs.Prelude.{◌≡◌, ◌<◌, ◌≤◌, All, vec_len};
 ghost use Rattle.job_pool.specs.Seats.{IsSeatOf};
 
 use audit_core::Claim;
@@ -133,13 +133,24 @@ fn the_largest_desk_hands_out_every_number_once(rt: HostRuntime) {
     draw_every_number(&rt, rt.alloc(), 1024, 64);
 }
 
+/// A desk of two numbers with two seats: that of the second opening, if no memory was found for the first.
+fn desk_of_two(rt: &impl Abort, alloc: Global) -> (Desk, Vec<DeskSeat>)
+    ensures { All (IsSeatOf result.0) result.1.items × (vec_len result.1 ≡ 2) }
+{
+    if let Ok(opened) = Desk::open(alloc, 2, 2) {
+        return opened;
+    }
+    match Desk::open(alloc, 2, 2) {
+        Ok(opened) => opened,
+        Err(_) => panic!(rt; "no memory at the second try"),
+    }
+}
+
 /// Made to be run with each growth of memory refused in turn: a desk opens whole or not at all, and closes later where there
 /// was no memory for it.
 #[test]
-fn a_desk_closes_at_the_second_try(rt: HostRuntime) {
-    let Ok((desk, mut seats)) = Desk::open(rt.alloc(), 2, 2) else {
-        return;
-    };
+fn a_desk_opens_and_closes_at_the_second_try(rt: HostRuntime) {
+    let (desk, mut seats) = desk_of_two(&rt, rt.alloc());
     assert!(rt; desk.claim(&mut seats[1]) == Claim::Number(0));
     let Closed { draws, counter } = match desk.close(rt.alloc(), seats) {
         Ok(closed) => closed,
