@@ -2,8 +2,7 @@
 use Rattle.std.specs.Prelude.{◌≡◌, ℕ, List}
 use Rattle.circuit.specs.Bridge.{circuit_of}
 use Rattle.pattern.specs.Grammars.{layout_value}
-use Rattle.certificate.specs.Entries.{modules_of}
-use Rattle.certificate.specs.Grammars.{CertState, setting_of}
+use Rattle.certificate.specs.Grammars.{CertState, modules_in, setting_of}
 use Rattle.certificate.specs.Jobs.{JobState, AreJobsOf}
 use Rattle.certificate.specs.Modules.{AreModules}
 use Rattle.audit_core.specs.Verdicts.{IsVerdict}
@@ -24,10 +23,10 @@ pub record IsCertificateOf (bundle : Bundle) (c : CertState) : Type 0 where
 
 -- the verdict on a certificate whose modules are as the grammar asks: on their jobs and on their borders
 pub record IsVerdictOn (c : CertState) (v : Verdict) : Type 0 where
-  pub good : AreModules (setting_of c.circuit c.layout) (modules_of c.entries)
+  pub good : AreModules (setting_of c.circuit c.layout) (modules_in c)
   pub jobs : List JobState
-  pub are_jobs : AreJobsOf (circuit_of c.circuit) c.layout (modules_of c.entries) jobs
-  pub judged : IsVerdict (setting_of c.circuit c.layout) (modules_of c.entries) jobs v
+  pub are_jobs : AreJobsOf (circuit_of c.circuit) c.layout (modules_in c) jobs
+  pub judged : IsVerdict (setting_of c.circuit c.layout) (modules_in c) jobs v
 
 abbrev pub verdict_outcome : Verdict → Outcome
 verdict_outcome verdict.Yes = Yes

@@ -25,7 +25,7 @@ use Rattle.certificate.specs.Entries.{ModuleLines, areas, known}
 use Rattle.certificate.specs.Grammars.{setting_of}
 use Rattle.certificate.specs.Jobs.{JobState, IsJobOf, NamesOwnWires, job_start, job_demand, place_in, port_at, start_signal, end_demand}
 use Rattle.certificate.specs.Times.{are_all_kept, numbered, time_lines}
-use Rattle.certificate.specs.Modules.{AreModules, HasPorts, IsModule}
+use Rattle.certificate.specs.Modules.{AreModules, AreUnstarred, HasPorts, IsModule}
 use Rattle.certificate.specs.Orders.{AreInOrder}
 use Rattle.certificate.specs.Rules.{whole, is_local}
 use Rattle.certificate.specs.Signals.{is_live, IsBelow, IsDemandBelow, Meets, renumber_signal, renumber_demand}
@@ -256,7 +256,7 @@ one_local = record {
 }
 
 one_good : IsModule (setting_of lines layout) one
-unfolding place_of number AreInOrder
+unfolding place_of number AreInOrder AreUnstarred
 one_good = record {
   even = record { x = refl; y = refl; w = refl; h = refl };
   wide = (omega arith, omega arith);
@@ -266,7 +266,7 @@ one_good = record {
   local = one_local;
   order = (refl, tt);
   keep_lines = λ k d lt. absurd (omega arith);
-  few_borders = omega arith;
+  unstarred = tt;
   edge_lines = λ k d lt. absurd (omega arith);
   halo_lines = λ k d lt. absurd (omega arith);
   stop_lines = λ k d lt. absurd (omega arith);

@@ -125,13 +125,13 @@ no_event c [] t x y all = refl
 no_event c (e ∷ es) t x y all =
     one_event e e.time (line_signal c e.signal) _ t x y (All-head (NamesNot x y) e es all) (no_event c es t x y (All-tail (NamesNot x y) e es all))
 
-no_signal : (c : Circuit) (es : List Border) (t : ℕ) (x y : ℤ) → All (NamesNot x y) es → signal_at (line_signals c es) t x y ≡ Zero
+pub no_signal : (c : Circuit) (es : List Border) (t : ℕ) (x y : ℤ) → All (NamesNot x y) es → signal_at (line_signals c es) t x y ≡ Zero
 unfolding signal_at
 no_signal c es t x y all =
     ap (λ (o : Option Signal). unwrap_or o (unwrap_or (event_at (line_signals c es).events t x y) Zero)) (no_held c es x y all)
     ∙ ap (λ (o : Option Signal). unwrap_or o Zero) (no_event c es t x y all)
 
-other_cell : (c : Cell) (x y : ℤ) → (c ≡ record { x = x; y = y } → ⊥) → is_at c x y ≡ false
+pub other_cell : (c : Cell) (x y : ℤ) → (c ≡ record { x = x; y = y } → ⊥) → is_at c x y ≡ false
 other_cell c x y f = elim (cases_Bool (is_at c x y)) [
   | inl h ↦ absurd (f (cell_same c (record { x = x; y = y }) h))
   | inr h ↦ h

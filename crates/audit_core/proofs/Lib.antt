@@ -21,3 +21,4 @@ mod PortNames
 mod WrongExamples
 pub mod YesMeansCorrect
 pub mod NamedPorts
+pub mod Migrated

@@ -3,15 +3,16 @@ use Rattle.std.specs.Prelude.{List}
 use Rattle.section_text.specs.Ports.{Named}
 use Rattle.circuit.specs.Bridge.{circuit_of, input_names, output_names}
 use Rattle.circuit.specs.declared.entry.Entry.{Entry}
-use Rattle.certificate.specs.Entries.{Setting, ModuleLines, modules_of}
-use Rattle.certificate.specs.Grammars.{CertState, setting_of}
+use Rattle.certificate.specs.Entries.{Setting, ModuleLines}
+use Rattle.certificate.specs.Grammars.{CertState, modules_in, setting_of}
 use Rattle.certificate.specs.Jobs.{JobState, AreJobsOf}
 
 abbrev pub setting : CertState → Setting
 setting s = setting_of s.circuit s.layout
 
+-- with the halo lines that they have, or that the edge lines stand for
 abbrev pub modules : CertState → List ModuleLines
-modules s = modules_of s.entries
+modules s = modules_in s
 
 -- these are the jobs of the certificate's modules
 abbrev pub AreOwnJobs : CertState → List JobState → Type 0

@@ -13,3 +13,4 @@ pub mod CoreLaws
 pub mod Implements
 pub mod OnTime
 pub mod HeadlineLaws
+pub mod MigrationLaws

@@ -1,5 +1,6 @@
 //! Laws of books, each the contract of a function without a body.
 ghost use Rattle.audit_core.specs.HeadlineLaws.{AcceptedHasValuation, AcceptedIsCorrect, AcceptedIsOnTime, EndsAsAsked, Example, InputsDecideTheRun, NoneIsUndefined, ReadLayoutHasInputNames, ReadLayoutIsNamed, StartsAsJobs, StepsAsJobs, WrongExample};
+ghost use Rattle.audit_core.specs.MigrationLaws.{AcceptedWithoutHalos, MigrationIsAccepted};
 ghost use Rattle.audit_core.specs.CoreLaws.{AcceptsOneForEach, DrawsEachOnce, EmptyWhereAllAreDrawn, EventsKeepWhatIsHeld, EventsReplay, HoldsHonestOwn, HoldsWhatWasAccepted, OnlyAcceptedChangesWhatIsHeld, VerdictIsOne};
 ghost use Rattle.audit_core.specs.Laws.{AcceptsItsOwn, BooksAgree, ClosedAnswersClosed, ClosedByItsHistory, DoublesWhatIsHeld, FullBookHoldsAll, HoldsWhatIsAccepted, HoldsNothingElse, KeepsWhatIsHeld, KnowsItsOwn, StaysBook, StaysReplayed};
 
@@ -117,4 +118,12 @@ pub fn something_is_accepted()
 /// Some layout whose ports are named as the circuit's does not compute it.
 pub fn something_is_wrong()
     ensures { WrongExample }
+{}
+
+/// Modules that are accepted with their halo lines are accepted with the edge lines beside them in the place of these.
+///
+/// So what version 1 accepts, its migration to version 2 accepts.
+pub fn accepted_without_halos()
+    ensures modules { AcceptedWithoutHalos }
+    ensures migration { MigrationIsAccepted }
 {}

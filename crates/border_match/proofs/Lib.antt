@@ -8,3 +8,4 @@ pub mod Modules
 pub mod Bridge
 pub mod Unique
 pub mod SameSignals
+pub mod Haloless

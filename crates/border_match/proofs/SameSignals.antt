@@ -11,7 +11,7 @@ use Rattle.border_match.specs.Laws.{NoFaultMeansSameSignals}
 use Rattle.border_match.proofs.Modules.{area_at}
 
 -- signals that do not differ are the same
-not_different : (a b : Signal) → (a ≢ b → ⊥) → a ≡ b
+pub not_different : (a b : Signal) → (a ≢ b → ⊥) → a ≡ b
 not_different a b h = elim (cases_Bool (same_signal a b)) [
   | inl same ↦ (signal_decides a b).0 same
   | inr other ↦ absurd (h (λ same. false≢true (sym other ∙ (signal_decides a b).1 same)))

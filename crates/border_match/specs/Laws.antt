@@ -1,11 +1,13 @@
 -- What the laws of this crate say
-use Rattle.std.specs.Prelude.{◌≡◌, ℕ, ℤ, ◌<◌, ◌%◌, List, Option, Some, None, slice_get, IsTrue}
+use Rattle.std.specs.Prelude.{◌≡◌, ℕ, ℤ, ◌<◌, ◌%◌, List, map, Option, Some, None, slice_get, IsTrue}
 use Rattle.circuit.specs.Meaning.{Valuation}
 use Rattle.module_box.specs.Boxes.{in_box, in_halo, Tile}
 use Rattle.certificate.specs.Entries.{Setting, ModuleLines, areas}
+use Rattle.certificate.specs.Modules.{AreModules}
 use Rattle.certificate.specs.Rules.{whole}
 use Rattle.certificate.specs.Signals.{is_live}
-use Rattle.border_match.specs.BorderFaults.{halo_signal, edge_signal, IsLeastBorderFault}
+use Rattle.certificate.specs.Versions.{with_halos}
+use Rattle.border_match.specs.BorderFaults.{halo_signal, edge_signal, IsBorderFault, IsLeastBorderFault}
 use Rattle.border_match.specs.declared.fault.BorderFault.{BorderFault}
 
 -- a module has one least border fault, or none
@@ -28,3 +30,7 @@ abbrev pub NoFaultMeansSameSignals : Type 0
 NoFaultMeansSameSignals = (g : Setting) (ms : List ModuleLines) (i k : ℕ) (m owner : ModuleLines) (t : ℕ) (x y : ℤ) (v : Valuation) →
     IsLeastBorderFault g ms i None → AreBeside g ms i k m owner t x y →
     is_live v (halo_signal g.circuit m t x y) ≡ is_live v (edge_signal g.circuit owner t x y)
+
+-- a module of version 2 has no border fault
+abbrev pub HalolessBordersMatch : Type 0
+HalolessBordersMatch = (g : Setting) (ms : List ModuleLines) → AreModules g ms → (i : ℕ) (f : BorderFault) → ¬ IsBorderFault g (map (with_halos g ms) ms) i f

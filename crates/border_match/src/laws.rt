@@ -1,5 +1,5 @@
 //! Laws of border faults, each the contract of a function without a body.
-ghost use Rattle.border_match.specs.Laws.{LeastBorderFaultIsUnique, NoFaultMeansSameSignals};
+ghost use Rattle.border_match.specs.Laws.{HalolessBordersMatch, LeastBorderFaultIsUnique, NoFaultMeansSameSignals};
 
 /// A module has one least border fault, or none.
 pub fn least_border_fault_is_unique()
@@ -10,4 +10,9 @@ pub fn least_border_fault_is_unique()
 /// same valuations, at each odd time below the steps.
 pub fn no_fault_means_same_signals()
     ensures { NoFaultMeansSameSignals }
+{}
+
+/// In version 2 no module has a border fault.
+pub fn haloless_borders_match()
+    ensures { HalolessBordersMatch }
 {}

@@ -1,9 +1,9 @@
 //! The border faults of the modules of a certificate.
-ghost use Rattle.std.specs.Prelude.{◌≡◌, IfOk, map};
+ghost use Rattle.std.specs.Prelude.{◌≡◌, IfOk, None, map, replicate};
 ghost use Rattle.std.specs.Arc.{arc_value};
 ghost use Rattle.circuit.specs.Bridge.{circuit_of};
 ghost use Rattle.certificate.specs.Entries.{areas, modules_of};
-ghost use Rattle.certificate.specs.Grammars.{setting_of};
+ghost use Rattle.certificate.specs.Grammars.{modules_in, setting_of};
 ghost use Rattle.certificate.specs.Jobs.{AreJobsOf};
 ghost use Rattle.module_box.specs.Tiling.{AreOwners};
 ghost use Rattle.border_match.specs.BorderFaults.{AreBorderFaultsOf};
@@ -30,7 +30,7 @@ fn areas_of(alloc: Global, cert: &Cert) -> Result<Vec<Box2>, AllocError>
 fn owners_of(alloc: Global, cert: &Cert) -> Result<Owners, AllocError>
     ensures width { IfOk result (λ o. o.width ≡ cert.now.layout.size.w) }
     ensures height { IfOk result (λ o. o.height ≡ cert.now.layout.size.h) }
-    ensures owners { IfOk result (λ o. AreOwners o (areas (modules_of cert.now.entries))) }
+    ensures owners { IfOk result (λ o. AreOwners o (areas (modules_in cert.now))) }
 {
     let _count = cert.modules();
     let size = cert.size();
@@ -45,8 +45,15 @@ fn owners_of(alloc: Global, cert: &Cert) -> Result<Owners, AllocError>
     }
 }
 
+// For each of so many modules that it has none.
+fn no_faults(alloc: Global, count: usize) -> Result<Vec<Option<BorderFault>>, AllocError>
+    ensures { IfOk result (λ faults. faults.items ≡ replicate count None) }
+{
+    vec![in alloc; None; count]
+}
+
 /// The least border fault of each module of the certificate, by time, then y, then x, or `None` where the module has none; one
-/// for each module, in their order. `specs/BorderFaults.antt` says what a border fault is.
+/// for each module, in their order. `specs/BorderFaults.antt` says what a border fault is. In version 2 no module has one.
 ///
 /// The jobs are the certificate's, as [`Cert::jobs`](certificate::Cert::jobs) makes them.
 ///
@@ -57,10 +64,13 @@ pub fn match_borders(
     cert: &Cert,
     jobs: &[Arc<Job>],
 ) -> Result<Vec<Option<BorderFault>>, AllocError>
-    requires { AreJobsOf (circuit_of cert.now.circuit) cert.now.layout (modules_of cert.now.entries) (map arc_value jobs.now) }
-    ensures { IfOk result (λ faults. AreBorderFaultsOf (setting_of cert.now.circuit cert.now.layout) (modules_of cert.now.entries) faults.items) }
+    requires { AreJobsOf (circuit_of cert.now.circuit) cert.now.layout (modules_in cert.now) (map arc_value jobs.now) }
+    ensures { IfOk result (λ faults. AreBorderFaultsOf (setting_of cert.now.circuit cert.now.layout) (modules_in cert.now) faults.items) }
 {
-    let _count = cert.modules();
+    let count = cert.modules();
+    if cert.version() == 2 {
+        return no_faults(alloc, count);
+    }
     let size = cert.size();
     let whole = Box2 {
         x: 0,

@@ -25,8 +25,8 @@ use Rattle.module_box.proofs.Rising.{pushed}
 use Rattle.certificate.specs.Entries.{Setting, ModuleLines, with_line, change_last, last_of, modules_of, areas, counts_of}
 use Rattle.certificate.specs.Orders.{AreInOrder}
 use Rattle.certificate.specs.Rules.{is_odd, is_wrong_side, is_misplaced, is_incomplete, lacks_port, box_fault, module_fault, end_fault, leaves_gap, overlaps, in_boxes, box_cells, whole}
-use Rattle.certificate.specs.Modules.{IsModule}
-use Rattle.certificate.specs.BuilderView.{AreApart, AreBuilt, AreSound}
+use Rattle.certificate.specs.Modules.{AreUnstarred, IsModule}
+use Rattle.certificate.specs.BuilderView.{AreApart, AreBuilt, AreSound, IsWritten}
 use Rattle.certificate.specs.declared.entry.Counts.{Counts}
 use Rattle.certificate.specs.declared.entry.Entry.{Entry}
 use Rattle.certificate.proofs.Growing.{areas_changed, length_changed, changed_at, last_at, last_by_place, map_changed}
@@ -164,9 +164,9 @@ none_at : {A : Type 0} (i : ℕ) (a : A) → slice_get [] i ≡ Some a → ⊥
 none_at i a e = cc
 
 -- a module without lines
-begun : (g : Setting) (b : Box2) → IsGoodBox g.size b → IsModule g (record { area = b; lines = [] })
-unfolding AreInOrder
-begun g b good = record {
+begun_module : (g : Setting) (b : Box2) → IsGoodBox g.size b → IsModule g (record { area = b; lines = [] })
+unfolding AreInOrder AreUnstarred
+begun_module g b good = record {
   even = good.even;
   wide = good.wide;
   high = good.high;
@@ -181,11 +181,14 @@ begun g b good = record {
   };
   order = tt;
   keep_lines = All-nil _;
-  few_borders = omega arith;
+  unstarred = tt;
   edge_lines = All-nil _;
   halo_lines = All-nil _;
   stop_lines = All-nil _;
 }
+
+begun : (g : Setting) (b : Box2) → IsGoodBox g.size b → IsWritten g (record { area = b; lines = [] })
+begun g b good = record { good = begun_module g b good; few_borders = omega arith }
 
 -- ---- one more box
 
@@ -262,7 +265,7 @@ module _ (g : Setting) (ms : List ModuleLines) where
     few = let n = length_push ms (new_module b) in let f = good.few in omega (arith, n, f);
     each = λ k m e. elim (pushed ms (new_module b) k m e) [
       | inl old ↦ sound.each k m old
-      | inr new ↦ subst (IsModule g) new.1 (begun g b good.box)
+      | inr new ↦ subst (IsWritten g) new.1 (begun g b good.box)
     ];
     apart = subst AreApart (sym (areas_push ms (new_module b))) (apart_push (areas ms) b sound.apart good.free);
     ported = ported_push b sound.ported good.complete;
@@ -281,12 +284,12 @@ module _ (g : Setting) (ms : List ModuleLines) where
   }
 
   -- one more line of the last module
-  pub line_sound : (i : Entry) → AreSound g ms → ((m : ModuleLines) → last_of ms ≡ Some m → IsModule g m → IsModule g (with_line i m)) → AreSound g (change_last (with_line i) ms)
+  pub line_sound : (i : Entry) → AreSound g ms → ((m : ModuleLines) → last_of ms ≡ Some m → IsWritten g m → IsWritten g (with_line i m)) → AreSound g (change_last (with_line i) ms)
   line_sound i sound grows = record {
     few = let n = length_changed (with_line i) ms in let f = sound.few in omega (arith, n, f);
     each = λ k m e. elim (changed_at (with_line i) ms k m e) [
       | inl old ↦ sound.each k m old.1
-      | inr new ↦ subst (IsModule g) (sym new.3) (grows new.0 new.2 (let at = last_at ms new.0 new.2 in sound.each at.0 new.0 at.2))
+      | inr new ↦ subst (IsWritten g) (sym new.3) (grows new.0 new.2 (let at = last_at ms new.0 new.2 in sound.each at.0 new.0 at.2))
     ];
     apart = subst AreApart (sym (areas_changed i ms)) sound.apart;
     ported = λ k m lt e. elim (changed_at (with_line i) ms k m e) [
@@ -295,7 +298,7 @@ module _ (g : Setting) (ms : List ModuleLines) where
     ];
   }
 
-  pub line_built : (i : Entry) (covered : Board) (counts more : List Counts) (count : Counts → Counts) → AreBuilt g ms covered counts → ((m : ModuleLines) → last_of ms ≡ Some m → IsModule g m → IsModule g (with_line i m))
+  pub line_built : (i : Entry) (covered : Board) (counts more : List Counts) (count : Counts → Counts) → AreBuilt g ms covered counts → ((m : ModuleLines) → last_of ms ≡ Some m → IsWritten g m → IsWritten g (with_line i m))
       → ((m : ModuleLines) → counts_of (with_line i m) ≡ count (counts_of m)) → more ≡ change_last count counts → AreBuilt g (change_last (with_line i) ms) covered more
   line_built i covered counts more count built grows counted now = record {
     sound = line_sound i built.sound grows;

@@ -37,7 +37,7 @@ map_changed h f g same [] = refl
 map_changed h f g same (x ∷ []) = ap (λ y. y ∷ []) (same x)
 map_changed h f g same (x ∷ y ∷ xs) = ap (λ l. h x ∷ l) (map_changed h f g same (y ∷ xs))
 
-unchanged : {X : Type 0} (xs : List X) → change_last (λ x. x) xs ≡ xs
+pub unchanged : {X : Type 0} (xs : List X) → change_last (λ x. x) xs ≡ xs
 unfolding change_last
 unchanged [] = refl
 unchanged (x ∷ []) = refl

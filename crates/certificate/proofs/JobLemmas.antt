@@ -23,8 +23,8 @@ small_gates n cw gs h few k d lt =
     let within = slice_get_within n.gates (get_or gs k d) is.gate is.numbered in
     omega (arith, within, few)
 
--- a box inside a layout lies within 512 cells, and a layout has at most 4096 steps
-pub within_512 : (g : Setting) (m : ModuleLines) (s : Extent) → s ≡ g.size → size_fault s ≡ None → IsModule g m → (m.area.x + m.area.w ≤ 512) × (m.area.y + m.area.h ≤ 512) × (s.steps ≤ 4096)
+-- a box inside a layout lies within 512 cells, and a layout has at most 65,536 steps
+pub within_512 : (g : Setting) (m : ModuleLines) (s : Extent) → s ≡ g.size → size_fault s ≡ None → IsModule g m → (m.area.x + m.area.w ≤ 512) × (m.area.y + m.area.h ≤ 512) × (s.steps ≤ 65536)
 within_512 g m s is limits h =
     let sized = is_sized s limits in
     let inside = subst (λ (t : Extent). (m.area.x + m.area.w ≤ t.w) × (m.area.y + m.area.h ≤ t.h)) (sym is) (h.inside.right, h.inside.bottom) in

@@ -63,7 +63,7 @@ module _ (c : Circuit) (p : Pattern) (es : List Entry) where
   pub no_jobs : HaveJobs c p es 0 []
   no_jobs = record { rest = refl; few = omega arith; each = λ k m j a b. absurd cc }
 
-  here : (place : ℕ) (e : Entry) → place < length es → e ≡ get_or es place e → drop place es ≡ e ∷ drop (place + 1) es
+  pub here : (place : ℕ) (e : Entry) → place < length es → e ≡ get_or es place e → drop place es ≡ e ∷ drop (place + 1) es
   here place e lt g =
       let n : place + 1 ≡ suc place = omega arith in
       drop-cons es place e lt ∙ ap (λ x. x ∷ drop (suc place) es) (sym g) ∙ ap (λ k. e ∷ drop k es) (sym n)

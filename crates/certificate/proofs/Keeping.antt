@@ -15,7 +15,7 @@ use Rattle.certificate.specs.Entries.{Setting, ModuleLines, with_line, change_la
 use Rattle.certificate.specs.Orders.{AreInOrder, may_follow}
 use Rattle.certificate.specs.Rules.{same_cell, is_starred, are_new, box_cells, is_incomplete, is_local, lacks_port, words_fault, line_fault, inner_fault, module_fault}
 use Rattle.certificate.specs.Modules.{IsModule}
-use Rattle.certificate.specs.BuilderView.{AreBuilt, IsInner, IsPresent, IsKept, counted, IsSmall, outs_at, wires_in}
+use Rattle.certificate.specs.BuilderView.{AreBuilt, IsInner, IsPresent, IsKept, IsWritten, counted, IsSmall, outs_at, wires_in}
 use Rattle.certificate.specs.declared.entry.Border.{Border}
 use Rattle.certificate.specs.declared.entry.Counts.{Counts}
 use Rattle.certificate.specs.declared.entry.Entry.{Entry}
@@ -75,17 +75,21 @@ module _ (g : Setting) (es : List Entry) (covered : Board) (counts : List Counts
       let r = mapped_some counts_of (present es) k (sym counts_last ∙ some) in
       record { module_lines = r.0; last = r.1; counted = r.2 }
 
-  pub last_good : (m : ModuleLines) → present es ≡ Some m → IsModule g m
-  last_good m some = let at = last_at (modules_of es) m some in kept.built.sound.each at.0 m at.2
+  pub last_written : (m : ModuleLines) → present es ≡ Some m → IsWritten g m
+  last_written m some = let at = last_at (modules_of es) m some in kept.built.sound.each at.0 m at.2
 
-  few_lines : (m : ModuleLines) → IsModule g m → length (cuts m) ≤ 10
+  pub last_good : (m : ModuleLines) → present es ≡ Some m → IsModule g m
+  last_good m some = (last_written m some).good
+
+  few_lines : (m : ModuleLines) → IsModule g m → length (cuts m) ≤ 12
   few_lines m is = let n = is.named in let f = is.local.few_cuts in omega (arith, n, f)
 
   pub small : (k : Counts) → last_of counts ≡ Some k → IsSmall k
   small k some =
       let l = the_last k some in
-      let is = last_good l.module_lines l.last in
-      subst IsSmall (sym l.counted) (record { few_cuts = few_lines l.module_lines is; few_gates = is.local.few_gates; few_borders = is.few_borders })
+      let written = last_written l.module_lines l.last in
+      let is = written.good in
+      subst IsSmall (sym l.counted) (record { few_cuts = few_lines l.module_lines is; few_gates = is.local.few_gates; few_borders = written.few_borders })
 
   lacks_by : (o : Option ModuleLines) → present es ≡ o → list_any (λ n. not (is_local g.circuit local n)) names ≡ is_incomplete g o
   unfolding lacks_port
@@ -188,12 +192,12 @@ module _ (g : Setting) (es : List Entry) (covered : Board) (counts : List Counts
   the_same : (m : ModuleLines) → present es ≡ Some m → good.module_lines ≡ m
   the_same m some = some_is good.module_lines m (sym good.last ∙ some)
 
-  pub kept_line : (IsModule g good.module_lines → IsModule g (with_line i good.module_lines)) → (local' : List ℕ) (e' h' : List Cell)
+  pub kept_line : (IsWritten g good.module_lines → IsWritten g (with_line i good.module_lines)) → (local' : List ℕ) (e' h' : List Cell)
       → (IsPresent g good.module_lines last names local e h → IsPresent g (with_line i good.module_lines) (Some i) names local' e' h') → IsKept g (es ++ i ∷ []) covered after (Some i) names local' e' h'
   kept_line grows local' e' h' shows = record {
     built = subst (λ ms. AreBuilt g ms covered after) (sym after_line)
         (line_built g (modules_of es) i covered counts after (counted i) kept.built
-        (λ m some. subst (λ k. IsModule g k → IsModule g (with_line i k)) (the_same m some) grows) are now);
+        (λ m some. subst (λ k. IsWritten g k → IsWritten g (with_line i k)) (the_same m some) grows) are now);
     none = λ gone. kept.none (some_gone (with_line i) (modules_of es) (sym after_line ∙ gone));
     present = λ m' some.
         let r = mapped_some (with_line i) (present es) m' (sym (ap last_of after_line ∙ last_changed (with_line i) (modules_of es)) ∙ some) in
@@ -227,7 +231,7 @@ module _ (g : Setting) (m : ModuleLines) (last : Option Entry) (names : List (Li
 pub record DoesLine (g : Setting) (es : List Entry) (i : Entry) (m : ModuleLines) : Type 0 where
   pub line : add_line (modules_of es) i ≡ change_last (with_line i) (modules_of es)
   pub counts : (n : ModuleLines) → counts_of (with_line i n) ≡ counted i (counts_of n)
-  pub grows : IsModule g m → IsModule g (with_line i m)
+  pub grows : IsWritten g m → IsWritten g (with_line i m)
   pub wires : known g.circuit (with_line i m) ≡ known g.circuit m ++ wires_in g.circuit i
   pub new : are_new (known g.circuit m) (wires_in g.circuit i) ≡ true
 
@@ -266,7 +270,7 @@ does_line g es (Use k) inner good is =
 does_line g es (Keep k) inner good is = record {
   line = refl;
   counts = counted_keep k;
-  grows = λ _. keep_pushed g good.module_lines is k good.follows good.words;
+  grows = λ written. keep_pushed g good.module_lines written k good.follows good.words;
   wires = no_wires g good.module_lines (Keep k) refl refl;
   new = none_new (known g.circuit good.module_lines);
 }

@@ -21,6 +21,15 @@ pub mod BorderLines
 pub mod BuiltLemmas
 pub mod CountLemmas
 pub mod Growing
+pub mod LineOrder
+pub mod FullModules
+pub mod HaloSignals
+pub mod LineSignals
+pub mod SortedLines
+pub mod BesideLines
+pub mod Migrated
+pub mod MeantLines
+pub mod AnyLines
 pub mod Keeping
 pub mod Lists
 pub mod LocalLemmas

@@ -55,7 +55,7 @@ different_append (y ∷ ys) xs different new =
 none_at : {A : Type 0} (i : ℕ) (a : A) → slice_get [] i ≡ Some a → ⊥
 none_at i a e = cc
 
-pub local_cut : (n : Netlist) (cw : List ℕ) (w : ℕ) → AreLocalLines n cw [] → length cw < 10 → is_among (local_wires n cw []) w ≡ false → AreLocalLines n (cw ++ w ∷ []) []
+pub local_cut : (n : Netlist) (cw : List ℕ) (w : ℕ) → AreLocalLines n cw [] → length cw < 12 → is_among (local_wires n cw []) w ≡ false → AreLocalLines n (cw ++ w ∷ []) []
 local_cut n cw w l few fresh = record {
   few_cuts = let e = length_push cw w in omega (arith, e);
   few_gates = l.few_gates;

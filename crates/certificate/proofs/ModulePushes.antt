@@ -1,5 +1,5 @@
 -- A module that is good stays so after one more line that is good.
-use Rattle.std.proofs.Common.{◌≡◌, ℕ, ◌+◌, ◌%◌, ◌<◌, ◌≤◌, Bool, true, false, not, ◌&&◌, List, [], ◌∷◌, ◌++◌, length, Option, Some, None, refl, sym, ap, ap₂, subst, ◌∙◌, arith, append-nil}
+use Rattle.std.proofs.Common.{◌≡◌, ℕ, ◌+◌, ◌%◌, ◌<◌, ◌≤◌, Bool, true, false, not, ◌&&◌, ◌||◌, List, [], ◌∷◌, ◌++◌, length, Option, Some, None, refl, sym, ap, ap₂, subst, ◌∙◌, arith, append-nil}
 use Rattle.std.specs.Prelude.{slice_get, nat_le, nat_lt, IfSome, IsTrue}
 use Rattle.std.specs.List.{All, flat_map, list_any, list_all}
 use Rattle.std.specs.Option.{option_to_list}
@@ -14,8 +14,9 @@ use Rattle.module_box.specs.Locals.{AreLocalLines, is_among, local_wires}
 use Rattle.module_box.specs.declared.boxes.Box2.{Box2}
 use Rattle.certificate.specs.Entries.{Setting, ModuleLines, with_line, cut_in, use_in, keep_in, edge_in, halo_in, stop_in, cuts, gates, keeps, edges, halos, stops, cut_wires, known}
 use Rattle.certificate.specs.Orders.{may_follow}
-use Rattle.certificate.specs.Rules.{is_odd, is_local, are_new, cut_fault, cut_wire_fault, gate_fault, use_fault, keep_fault, is_starred, is_time, is_edge_place, is_halo_place, is_stop_place, signal_fault, wire_fault, border_fault, border_count, border_limit, edge_fault, halo_fault, stop_fault}
-use Rattle.certificate.specs.Modules.{IsEdge, IsHalo, IsKeep, IsModule, IsStop}
+use Rattle.certificate.specs.Rules.{is_odd, is_local, is_star, are_new, cut_fault, cut_wire_fault, gate_fault, use_fault, keep_fault, is_starred, is_time, is_edge_place, is_halo_place, is_stop_place, signal_fault, wire_fault, border_fault, border_count, border_limit, edge_fault, halo_fault, stop_fault}
+use Rattle.certificate.specs.Modules.{AreUnstarred, IsEdge, IsHalo, IsKeep, IsModule, IsStop}
+use Rattle.certificate.specs.BuilderView.{IsWritten}
 use Rattle.certificate.specs.declared.entry.Border.{Border}
 use Rattle.certificate.specs.declared.entry.Entry.{Entry}
 use Rattle.certificate.specs.declared.entry.StopLine.{StopLine}
@@ -60,12 +61,12 @@ new_by : (local : List ℕ) (o : Option ℕ) → cut_wire_fault local o ≡ None
 new_by local None e = absurd cc
 new_by local (Some w) e = (w, refl, no_code (is_among local w) 4 e)
 
-pub new_wire : (c : Circuit) (count : ℕ) (local : List ℕ) (name : List ℕ) → cut_fault c count local name ≡ None → (count < 10) × IsNewWire c local name
+pub new_wire : (c : Circuit) (count : ℕ) (local : List ℕ) (name : List ℕ) → cut_fault c count local name ≡ None → (count < 12) × IsNewWire c local name
 unfolding cut_fault
 new_wire c count local name e =
     let parts = both_none _ _ e in
     let w = new_by local (wire_of c name) parts.1 in
-    (less 10 count (no_code _ 2 parts.0), record { wire = w.0; named = w.1; new = w.2 })
+    (less 12 count (no_code _ 2 parts.0), record { wire = w.0; named = w.1; new = w.2 })
 
 pub cuts_cut : (m : ModuleLines) (n : List ℕ) → cuts (with_line (Cut n) m) ≡ cuts m ++ n ∷ []
 cuts_cut m n = flat_push cut_in m.lines (Cut n)
@@ -74,6 +75,46 @@ pub cut_wires_cut : (c : Circuit) (m : ModuleLines) (n : List ℕ) (w : ℕ) →
 cut_wires_cut c m n w e =
     let f : List ℕ → List ℕ = λ x. option_to_list (wire_of c x) in
     ap (flat_map f) (cuts_cut m n) ∙ flat_push f (cuts m) n ∙ ap (λ o. cut_wires c m ++ option_to_list o) e
+
+-- ---- lines with a time beside those with a `*`
+
+unstarred_nil : (es : List Border) → es ≡ [] → AreUnstarred es
+unfolding AreUnstarred
+unstarred_nil [] e = tt
+unstarred_nil (d ∷ es) e = absurd cc
+
+kept_free : (star here more : Bool) → (star || not (here || more)) ≡ true → (star || not more) ≡ true
+kept_free true here more h = refl
+kept_free false true more h = absurd cc
+kept_free false false more h = h
+
+first_free : (star here more : Bool) → (star || not (here || more)) ≡ true → (star || not here) ≡ true
+first_free true here more h = refl
+first_free false true more h = absurd cc
+first_free false false more h = refl
+
+all_pushed : (test : Border → Bool) (es : List Border) (e : Border) → list_all test es ≡ true → test e ≡ true → list_all test (es ++ e ∷ []) ≡ true
+all_pushed test [] e h k = rw k refl
+all_pushed test (d ∷ es) e h k =
+    let both = and_parts (test d) (list_all test es) h in
+    rw (both.0, all_pushed test es e both.1 k) refl
+
+unstarred_push : (es : List Border) (e : Border) → AreUnstarred es → (is_star e.time || not (list_any (is_starred e.cell) es)) ≡ true → AreUnstarred (es ++ e ∷ [])
+unfolding AreUnstarred
+unstarred_push [] e u h = (refl, tt)
+unstarred_push (d ∷ es) e u h = (
+  all_pushed (λ e. is_star e.time || not (is_starred e.cell d)) es e u.0 (first_free (is_star e.time) (is_starred e.cell d) (list_any (is_starred e.cell) es) h),
+  unstarred_push es e u.1 (kept_free (is_star e.time) (is_starred e.cell d) (list_any (is_starred e.cell) es) h),
+)
+
+free_time : (steps : ℕ) (starred : Bool) (t : Option ℕ) → is_time steps starred t ≡ true → (is_star t || not starred) ≡ true
+unfolding is_time
+free_time steps starred None e = refl
+free_time steps starred (Some t) e = (and_parts (is_odd t && nat_lt t steps) (not starred) e).1
+
+free_of_star : (g : Setting) (area : Box2) (starred : Bool) (e : Border) → is_edge_place g.size area starred e ≡ true → (is_star e.time || not starred) ≡ true
+unfolding is_edge_place
+free_of_star g area starred e place = free_time g.size.steps starred e.time (and_parts _ (is_time g.size.steps starred e.time) place).1
 
 module _ (g : Setting) (m : ModuleLines) (is : IsModule g m) (n : List ℕ) (follows : may_follow m.lines (Cut n) ≡ true) where
   no_gates : gates m ≡ []
@@ -120,25 +161,28 @@ module _ (g : Setting) (m : ModuleLines) (is : IsModule g m) (n : List ℕ) (fol
         ∙ append-nil (cut_wires g.circuit m ++ w ∷ [])
         ∙ ap (λ l. l ++ w ∷ []) (sym (known_none ∙ append-nil (cut_wires g.circuit m)))
 
-    pub cut_pushed : length (cuts m) < 10 → is_among (known g.circuit m) w ≡ false → IsModule g more
+    pub cut_pushed : length (cuts m) < 12 → is_among (known g.circuit m) w ≡ false → IsWritten g more
     cut_pushed few new =
         let before : AreLocalLines g.circuit.netlist (cut_wires g.circuit m) [] = subst (AreLocalLines g.circuit.netlist (cut_wires g.circuit m)) no_gates is.local in
-        let room : length (cut_wires g.circuit m) < 10 = let e = is.named in omega (arith, e) in
+        let room : length (cut_wires g.circuit m) < 12 = let e = is.named in omega (arith, e) in
         let fresh : is_among (local_wires g.circuit.netlist (cut_wires g.circuit m) []) w ≡ false = ap (λ l. is_among l w) (sym known_none) ∙ new in
         let after = local_cut g.circuit.netlist (cut_wires g.circuit m) w before room fresh in
         record {
-          even = is.even;
-          wide = is.wide;
-          high = is.high;
-          inside = is.inside;
-          named = ap length (cut_wires_cut g.circuit m n w named) ∙ length_push (cut_wires g.circuit m) w ∙ ap (λ k. k + 1) is.named ∙ sym (ap length (cuts_cut m n) ∙ length_push (cuts m) n);
-          local = subst (λ gs. AreLocalLines g.circuit.netlist (cut_wires g.circuit more) gs) (sym gates_are) (subst (λ cs. AreLocalLines g.circuit.netlist cs []) (sym (cut_wires_cut g.circuit m n w named)) after);
-          order = order_push m.lines (Cut n) is.order follows;
-          keep_lines = at_nil (IsKeep g (gates more)) (keeps more) keeps_are;
+          good = record {
+            even = is.even;
+            wide = is.wide;
+            high = is.high;
+            inside = is.inside;
+            named = ap length (cut_wires_cut g.circuit m n w named) ∙ length_push (cut_wires g.circuit m) w ∙ ap (λ k. k + 1) is.named ∙ sym (ap length (cuts_cut m n) ∙ length_push (cuts m) n);
+            local = subst (λ gs. AreLocalLines g.circuit.netlist (cut_wires g.circuit more) gs) (sym gates_are) (subst (λ cs. AreLocalLines g.circuit.netlist cs []) (sym (cut_wires_cut g.circuit m n w named)) after);
+            order = order_push m.lines (Cut n) is.order follows;
+            keep_lines = at_nil (IsKeep g (gates more)) (keeps more) keeps_are;
+            unstarred = unstarred_nil (edges more) edges_are;
+            edge_lines = at_nil (IsEdge g m.area (known g.circuit more)) (edges more) edges_are;
+            halo_lines = at_nil (IsHalo g m.area (known g.circuit more)) (halos more) halos_are;
+            stop_lines = at_nil (IsStop g m.area (known g.circuit more)) (stops more) stops_are;
+          };
           few_borders = let e = ap length edges_are in let h = ap length halos_are in let s = ap length stops_are in omega (arith, e, h, s);
-          edge_lines = at_nil (IsEdge g m.area (known g.circuit more)) (edges more) edges_are;
-          halo_lines = at_nil (IsHalo g m.area (known g.circuit more)) (halos more) halos_are;
-          stop_lines = at_nil (IsStop g m.area (known g.circuit more)) (stops more) stops_are;
         }
 
 -- ---- a used gate
@@ -179,7 +223,7 @@ module _ (g : Setting) (m : ModuleLines) (k : ℕ) where
       ap₂ (λ cs gs. local_wires g.circuit.netlist cs gs) cut_wires_use (gates_use m k)
       ∙ local_more g.circuit.netlist (cut_wires g.circuit m) (gates m) k gate at
 
-  pub use_pushed : IsModule g m → may_follow m.lines (Use k) ≡ true → length (gates m) < 64 → IsGoodUse g.circuit (known g.circuit m) k → IsModule g used
+  pub use_pushed : IsModule g m → may_follow m.lines (Use k) ≡ true → length (gates m) < 64 → IsGoodUse g.circuit (known g.circuit m) k → IsWritten g used
   use_pushed is follows few good =
       let edges_are : edges used ≡ [] = flat_same edge_in m.lines (Use k) refl ∙ none_before edge_in (Use k) (no_edge_before_use k) m.lines follows in
       let halos_are : halos used ≡ [] = flat_same halo_in m.lines (Use k) refl ∙ none_before halo_in (Use k) (no_halo_before_use k) m.lines follows in
@@ -188,18 +232,21 @@ module _ (g : Setting) (m : ModuleLines) (k : ℕ) where
       let lower = all_before use_in (Use k) (λ j. j < k) (lower_uses k) m.lines follows in
       let after = local_use g.circuit.netlist (cut_wires g.circuit m) (gates m) k good.gate is.local good.numbered lower good.ins good.outs few in
       record {
-        even = is.even;
-        wide = is.wide;
-        high = is.high;
-        inside = is.inside;
-        named = ap length cut_wires_use ∙ is.named ∙ sym (ap length (flat_same cut_in m.lines (Use k) refl));
-        local = subst (λ cs. AreLocalLines g.circuit.netlist cs (gates used)) (sym cut_wires_use) (subst (λ gs. AreLocalLines g.circuit.netlist (cut_wires g.circuit m) gs) (sym (gates_use m k)) after);
-        order = order_push m.lines (Use k) is.order follows;
-        keep_lines = at_nil (IsKeep g (gates used)) (keeps used) keeps_are;
+        good = record {
+          even = is.even;
+          wide = is.wide;
+          high = is.high;
+          inside = is.inside;
+          named = ap length cut_wires_use ∙ is.named ∙ sym (ap length (flat_same cut_in m.lines (Use k) refl));
+          local = subst (λ cs. AreLocalLines g.circuit.netlist cs (gates used)) (sym cut_wires_use) (subst (λ gs. AreLocalLines g.circuit.netlist (cut_wires g.circuit m) gs) (sym (gates_use m k)) after);
+          order = order_push m.lines (Use k) is.order follows;
+          keep_lines = at_nil (IsKeep g (gates used)) (keeps used) keeps_are;
+          unstarred = unstarred_nil (edges used) edges_are;
+          edge_lines = at_nil (IsEdge g m.area (known g.circuit used)) (edges used) edges_are;
+          halo_lines = at_nil (IsHalo g m.area (known g.circuit used)) (halos used) halos_are;
+          stop_lines = at_nil (IsStop g m.area (known g.circuit used)) (stops used) stops_are;
+        };
         few_borders = let e = ap length edges_are in let h = ap length halos_are in let s = ap length stops_are in omega (arith, e, h, s);
-        edge_lines = at_nil (IsEdge g m.area (known g.circuit used)) (edges used) edges_are;
-        halo_lines = at_nil (IsHalo g m.area (known g.circuit used)) (halos used) halos_are;
-        stop_lines = at_nil (IsStop g m.area (known g.circuit used)) (stops used) stops_are;
       }
 
 -- ---- edge and halo lines
@@ -312,8 +359,9 @@ keep_good g mine k e =
 keeps_keep : (m : ModuleLines) (k : ℕ) → keeps (with_line (Keep k) m) ≡ keeps m ++ k ∷ []
 keeps_keep m k = flat_push keep_in m.lines (Keep k)
 
-pub keep_pushed : (g : Setting) (m : ModuleLines) → IsModule g m → (k : ℕ) → may_follow m.lines (Keep k) ≡ true → keep_fault g.circuit (gates m) k ≡ None → IsModule g (with_line (Keep k) m)
-keep_pushed g m is k follows good =
+pub keep_pushed : (g : Setting) (m : ModuleLines) → IsWritten g m → (k : ℕ) → may_follow m.lines (Keep k) ≡ true → keep_fault g.circuit (gates m) k ≡ None → IsWritten g (with_line (Keep k) m)
+keep_pushed g m written k follows good =
+    let is = written.good in
     let more = with_line (Keep k) m in
     let here : IsKeep g (gates m) k = keep_good g (gates m) k good in
     let edges_are : edges more ≡ edges m = flat_same edge_in m.lines (Keep k) refl in
@@ -321,22 +369,25 @@ keep_pushed g m is k follows good =
     let stops_are : stops more ≡ stops m = flat_same stop_in m.lines (Keep k) refl in
     let same = known_same g m (Keep k) refl refl in
     record {
-      even = is.even;
-      wide = is.wide;
-      high = is.high;
-      inside = is.inside;
-      named = ap length (cut_wires_same g m (Keep k) refl refl) ∙ is.named ∙ sym (ap length (cuts_same g m (Keep k) refl refl));
-      local = local_same g m (Keep k) refl refl is.local;
-      order = order_push m.lines (Keep k) is.order follows;
-      keep_lines = subst (λ gs. All (IsKeep g gs) (keeps more)) (sym (gates_same g m (Keep k) refl refl)) (subst (All (IsKeep g (gates m))) (sym (keeps_keep m k)) (All-push (IsKeep g (gates m)) (keeps m) k is.keep_lines here));
-      few_borders = let n = ap length edges_are in let l = ap length halos_are in let s = ap length stops_are in let f = is.few_borders in omega (arith, n, l, s, f);
-      edge_lines = subst (λ l. All (IsEdge g m.area (known g.circuit more)) l) (sym edges_are) (subst (λ l. All (IsEdge g m.area l) (edges m)) (sym same) is.edge_lines);
-      halo_lines = subst (λ l. All (IsHalo g m.area (known g.circuit more)) l) (sym halos_are) (subst (λ l. All (IsHalo g m.area l) (halos m)) (sym same) is.halo_lines);
-      stop_lines = subst (λ l. All (IsStop g m.area (known g.circuit more)) l) (sym stops_are) (subst (λ l. All (IsStop g m.area l) (stops m)) (sym same) is.stop_lines);
+      good = record {
+        even = is.even;
+        wide = is.wide;
+        high = is.high;
+        inside = is.inside;
+        named = ap length (cut_wires_same g m (Keep k) refl refl) ∙ is.named ∙ sym (ap length (cuts_same g m (Keep k) refl refl));
+        local = local_same g m (Keep k) refl refl is.local;
+        order = order_push m.lines (Keep k) is.order follows;
+        keep_lines = subst (λ gs. All (IsKeep g gs) (keeps more)) (sym (gates_same g m (Keep k) refl refl)) (subst (All (IsKeep g (gates m))) (sym (keeps_keep m k)) (All-push (IsKeep g (gates m)) (keeps m) k is.keep_lines here));
+        unstarred = subst AreUnstarred (sym edges_are) is.unstarred;
+        edge_lines = subst (λ l. All (IsEdge g m.area (known g.circuit more)) l) (sym edges_are) (subst (λ l. All (IsEdge g m.area l) (edges m)) (sym same) is.edge_lines);
+        halo_lines = subst (λ l. All (IsHalo g m.area (known g.circuit more)) l) (sym halos_are) (subst (λ l. All (IsHalo g m.area l) (halos m)) (sym same) is.halo_lines);
+        stop_lines = subst (λ l. All (IsStop g m.area (known g.circuit more)) l) (sym stops_are) (subst (λ l. All (IsStop g m.area l) (stops m)) (sym same) is.stop_lines);
+      };
+      few_borders = let n = ap length edges_are in let l = ap length halos_are in let s = ap length stops_are in let f = written.few_borders in omega (arith, n, l, s, f);
     }
 
 module _ (g : Setting) (m : ModuleLines) (is : IsModule g m) (e : Border) where
-  pub edge_pushed : may_follow m.lines (Edge e) ≡ true → edge_fault g m e ≡ None → IsModule g (with_line (Edge e) m)
+  pub edge_pushed : may_follow m.lines (Edge e) ≡ true → edge_fault g m e ≡ None → IsWritten g (with_line (Edge e) m)
   edge_pushed follows good =
       let more = with_line (Edge e) m in
       let b = good_border g.circuit (border_count m) (known g.circuit m) (is_edge_place g.size m.area (list_any (is_starred e.cell) (edges m)) e) e.signal good in
@@ -348,21 +399,24 @@ module _ (g : Setting) (m : ModuleLines) (is : IsModule g m) (e : Border) where
       let stops_are : stops more ≡ stops m = flat_same stop_in m.lines (Edge e) refl in
       let q = ap length stops_are in
       record {
-        even = is.even;
-        wide = is.wide;
-        high = is.high;
-        inside = is.inside;
-        named = ap length (cut_wires_same g m (Edge e) refl refl) ∙ is.named ∙ sym (ap length (cuts_same g m (Edge e) refl refl));
-        local = local_same g m (Edge e) refl refl is.local;
-        order = order_push m.lines (Edge e) is.order follows;
-        keep_lines = keeps_same g m (Edge e) refl refl refl is.keep_lines;
+        good = record {
+          even = is.even;
+          wide = is.wide;
+          high = is.high;
+          inside = is.inside;
+          named = ap length (cut_wires_same g m (Edge e) refl refl) ∙ is.named ∙ sym (ap length (cuts_same g m (Edge e) refl refl));
+          local = local_same g m (Edge e) refl refl is.local;
+          order = order_push m.lines (Edge e) is.order follows;
+          keep_lines = keeps_same g m (Edge e) refl refl refl is.keep_lines;
+          unstarred = subst AreUnstarred (sym (edges_edge m e)) (unstarred_push (edges m) e is.unstarred (free_of_star g m.area (list_any (is_starred e.cell) (edges m)) e b.place));
+          edge_lines = subst (λ l. All (IsEdge g m.area (known g.circuit more)) l) (sym (edges_edge m e)) (subst (λ l. All (IsEdge g m.area l) (edges m ++ e ∷ [])) (sym same) (All-push (IsEdge g m.area (known g.circuit m)) (edges m) e is.edge_lines here));
+          halo_lines = at_nil (IsHalo g m.area (known g.circuit more)) (halos more) halos_are;
+          stop_lines = subst (λ l. All (IsStop g m.area (known g.circuit more)) l) (sym stops_are) (subst (λ l. All (IsStop g m.area l) (stops m)) (sym same) is.stop_lines);
+        };
         few_borders = let f = b.few in omega (arith, n, k, q, f);
-        edge_lines = subst (λ l. All (IsEdge g m.area (known g.circuit more)) l) (sym (edges_edge m e)) (subst (λ l. All (IsEdge g m.area l) (edges m ++ e ∷ [])) (sym same) (All-push (IsEdge g m.area (known g.circuit m)) (edges m) e is.edge_lines here));
-        halo_lines = at_nil (IsHalo g m.area (known g.circuit more)) (halos more) halos_are;
-        stop_lines = subst (λ l. All (IsStop g m.area (known g.circuit more)) l) (sym stops_are) (subst (λ l. All (IsStop g m.area l) (stops m)) (sym same) is.stop_lines);
       }
 
-  pub halo_pushed : may_follow m.lines (Halo e) ≡ true → halo_fault g m e ≡ None → IsModule g (with_line (Halo e) m)
+  pub halo_pushed : may_follow m.lines (Halo e) ≡ true → halo_fault g m e ≡ None → IsWritten g (with_line (Halo e) m)
   halo_pushed follows good =
       let more = with_line (Halo e) m in
       let b = good_border g.circuit (border_count m) (known g.circuit m) (is_halo_place g.size m.area (list_any (is_starred e.cell) (halos m)) e) e.signal good in
@@ -374,22 +428,25 @@ module _ (g : Setting) (m : ModuleLines) (is : IsModule g m) (e : Border) where
       let stops_are : stops more ≡ stops m = flat_same stop_in m.lines (Halo e) refl in
       let q = ap length stops_are in
       record {
-        even = is.even;
-        wide = is.wide;
-        high = is.high;
-        inside = is.inside;
-        named = ap length (cut_wires_same g m (Halo e) refl refl) ∙ is.named ∙ sym (ap length (cuts_same g m (Halo e) refl refl));
-        local = local_same g m (Halo e) refl refl is.local;
-        order = order_push m.lines (Halo e) is.order follows;
-        keep_lines = keeps_same g m (Halo e) refl refl refl is.keep_lines;
+        good = record {
+          even = is.even;
+          wide = is.wide;
+          high = is.high;
+          inside = is.inside;
+          named = ap length (cut_wires_same g m (Halo e) refl refl) ∙ is.named ∙ sym (ap length (cuts_same g m (Halo e) refl refl));
+          local = local_same g m (Halo e) refl refl is.local;
+          order = order_push m.lines (Halo e) is.order follows;
+          keep_lines = keeps_same g m (Halo e) refl refl refl is.keep_lines;
+          unstarred = subst AreUnstarred (sym edges_are) is.unstarred;
+          edge_lines = subst (λ l. All (IsEdge g m.area (known g.circuit more)) l) (sym edges_are) (subst (λ l. All (IsEdge g m.area l) (edges m)) (sym same) is.edge_lines);
+          halo_lines = subst (λ l. All (IsHalo g m.area (known g.circuit more)) l) (sym (halos_halo m e)) (subst (λ l. All (IsHalo g m.area l) (halos m ++ e ∷ [])) (sym same) (All-push (IsHalo g m.area (known g.circuit m)) (halos m) e is.halo_lines here));
+          stop_lines = subst (λ l. All (IsStop g m.area (known g.circuit more)) l) (sym stops_are) (subst (λ l. All (IsStop g m.area l) (stops m)) (sym same) is.stop_lines);
+        };
         few_borders = let f = b.few in omega (arith, n, k, q, f);
-        edge_lines = subst (λ l. All (IsEdge g m.area (known g.circuit more)) l) (sym edges_are) (subst (λ l. All (IsEdge g m.area l) (edges m)) (sym same) is.edge_lines);
-        halo_lines = subst (λ l. All (IsHalo g m.area (known g.circuit more)) l) (sym (halos_halo m e)) (subst (λ l. All (IsHalo g m.area l) (halos m ++ e ∷ [])) (sym same) (All-push (IsHalo g m.area (known g.circuit m)) (halos m) e is.halo_lines here));
-        stop_lines = subst (λ l. All (IsStop g m.area (known g.circuit more)) l) (sym stops_are) (subst (λ l. All (IsStop g m.area l) (stops m)) (sym same) is.stop_lines);
       }
 
 module _ (g : Setting) (m : ModuleLines) (is : IsModule g m) (s : StopLine) where
-  pub stop_pushed : may_follow m.lines (Stop s) ≡ true → stop_fault g m s ≡ None → IsModule g (with_line (Stop s) m)
+  pub stop_pushed : may_follow m.lines (Stop s) ≡ true → stop_fault g m s ≡ None → IsWritten g (with_line (Stop s) m)
   stop_pushed follows good =
       let more = with_line (Stop s) m in
       let b = good_border g.circuit (border_count m) (known g.circuit m) (is_stop_place g.size m.area s) (Some s.wire) good in
@@ -401,16 +458,19 @@ module _ (g : Setting) (m : ModuleLines) (is : IsModule g m) (s : StopLine) wher
       let k = ap length edges_are in
       let q = ap length halos_are in
       record {
-        even = is.even;
-        wide = is.wide;
-        high = is.high;
-        inside = is.inside;
-        named = ap length (cut_wires_same g m (Stop s) refl refl) ∙ is.named ∙ sym (ap length (cuts_same g m (Stop s) refl refl));
-        local = local_same g m (Stop s) refl refl is.local;
-        order = order_push m.lines (Stop s) is.order follows;
-        keep_lines = keeps_same g m (Stop s) refl refl refl is.keep_lines;
+        good = record {
+          even = is.even;
+          wide = is.wide;
+          high = is.high;
+          inside = is.inside;
+          named = ap length (cut_wires_same g m (Stop s) refl refl) ∙ is.named ∙ sym (ap length (cuts_same g m (Stop s) refl refl));
+          local = local_same g m (Stop s) refl refl is.local;
+          order = order_push m.lines (Stop s) is.order follows;
+          keep_lines = keeps_same g m (Stop s) refl refl refl is.keep_lines;
+          unstarred = subst AreUnstarred (sym edges_are) is.unstarred;
+          edge_lines = subst (λ l. All (IsEdge g m.area (known g.circuit more)) l) (sym edges_are) (subst (λ l. All (IsEdge g m.area l) (edges m)) (sym same) is.edge_lines);
+          halo_lines = subst (λ l. All (IsHalo g m.area (known g.circuit more)) l) (sym halos_are) (subst (λ l. All (IsHalo g m.area l) (halos m)) (sym same) is.halo_lines);
+          stop_lines = subst (λ l. All (IsStop g m.area (known g.circuit more)) l) (sym (stops_stop m s)) (subst (λ l. All (IsStop g m.area l) (stops m ++ s ∷ [])) (sym same) (All-push (IsStop g m.area (known g.circuit m)) (stops m) s is.stop_lines here));
+        };
         few_borders = let f = b.few in omega (arith, n, k, q, f);
-        edge_lines = subst (λ l. All (IsEdge g m.area (known g.circuit more)) l) (sym edges_are) (subst (λ l. All (IsEdge g m.area l) (edges m)) (sym same) is.edge_lines);
-        halo_lines = subst (λ l. All (IsHalo g m.area (known g.circuit more)) l) (sym halos_are) (subst (λ l. All (IsHalo g m.area l) (halos m)) (sym same) is.halo_lines);
-        stop_lines = subst (λ l. All (IsStop g m.area (known g.circuit more)) l) (sym (stops_stop m s)) (subst (λ l. All (IsStop g m.area l) (stops m ++ s ∷ [])) (sym same) (All-push (IsStop g m.area (known g.circuit m)) (stops m) s is.stop_lines here));
       }

@@ -1,11 +1,11 @@
 -- Lines that are good one after the other make good modules.
-use Rattle.std.proofs.Common.{◌≡◌, ◌⊎◌, ℕ, zero, suc, ◌+◌, ◌<◌, ◌≤◌, ℤ, Bool, true, false, not, ◌&&◌, List, [], ◌∷◌, ◌++◌, length, Some, None, refl, sym, ap, subst, ◌∙◌, inl, inr, arith, pos, negsuc, append-nil, append_assoc}
+use Rattle.std.proofs.Common.{◌≡◌, ◌⊎◌, ℕ, zero, suc, ◌+◌, ◌<◌, ◌≤◌, ℤ, Bool, true, false, not, ◌&&◌, ◌||◌, ◌==◌, List, [], ◌∷◌, ◌++◌, length, Some, None, refl, sym, ap, subst, ◌∙◌, inl, inr, arith, pos, negsuc, append-nil, append_assoc}
 use Rattle.std.specs.Prelude.{slice_get}
-use Rattle.std.specs.List.{list_all}
-use Rattle.std.proofs.lemmas.Bool.{and_parts, true≢false}
+use Rattle.std.specs.List.{All, list_all}
+use Rattle.std.proofs.lemmas.Bool.{and_parts, eqb-true, true≢false}
 use Rattle.std.proofs.lemmas.Bool.Decides.{nat_tests}
 use Rattle.bbm_rule.specs.Spans.{in_span}
-use Rattle.std.proofs.lemmas.Option.{slice_get_within}
+use Rattle.std.proofs.lemmas.Option.{slice_get-get_or, slice_get_within}
 use Rattle.bbm_rule.specs.Plane.{is_at}
 use Rattle.bbm_rule.specs.declared.block.Cell.{Cell}
 use Rattle.pattern.specs.Layout.{in_cells}
@@ -18,23 +18,24 @@ use Rattle.module_box.specs.declared.boxes.Box2.{Box2}
 use Rattle.certificate.specs.Entries.{Setting, ModuleLines, with_line, change_last, last_of, add_line, modules_of, present, areas, known}
 use Rattle.certificate.specs.Rules.{whole, box_cells, in_boxes, is_local, is_incomplete, lacks_port, leaves_gap, entry_fault, end_fault}
 use Rattle.certificate.specs.Grammars.{certificate_grammar}
-use Rattle.certificate.specs.Modules.{IsModule, HasPorts, AreModules}
-use Rattle.certificate.specs.BuilderView.{AreSound}
+use Rattle.certificate.specs.Versions.{is_haloless, lacks_wire}
+use Rattle.certificate.specs.Modules.{HasFewLines, HasPorts, AreModules}
+use Rattle.certificate.specs.BuilderView.{AreSound, IsWritten}
 use Rattle.certificate.specs.declared.entry.Entry.{Entry}
 use Rattle.certificate.specs.declared.entry.Entry.TheVariants.{Module, Cut, Use, Keep, Edge, Halo, Stop}
 use Rattle.certificate.proofs.BuiltLemmas.{good_module, line_sound, module_sound, sound_none, or_false, last_is}
 use Rattle.certificate.proofs.Growing.{modules_push}
 use Rattle.certificate.proofs.Keeping.{good_line, IsGoodLine}
 use Rattle.certificate.proofs.Lists.{any_at, or_parts, passed, some_is}
-use Rattle.certificate.proofs.ModulePushes.{no_code, new_wire, good_use, cut_pushed, use_pushed, keep_pushed, edge_pushed, halo_pushed, stop_pushed}
+use Rattle.certificate.proofs.ModulePushes.{both_none, no_code, new_wire, good_use, cut_pushed, use_pushed, keep_pushed, edge_pushed, halo_pushed, stop_pushed}
 use Rattle.certificate.proofs.PortLemmas.{cell_same, in_box_cells}
 
 module _ (g : Setting) (es : List Entry) (sound : AreSound g (modules_of es)) where
   -- one more line of the last module
-  inner_sound : (i : Entry) → add_line (modules_of es) i ≡ change_last (with_line i) (modules_of es) → (good : IsGoodLine g es i) → (IsModule g good.module_lines → IsModule g (with_line i good.module_lines)) → AreSound g (modules_of (es ++ i ∷ []))
+  inner_sound : (i : Entry) → add_line (modules_of es) i ≡ change_last (with_line i) (modules_of es) → (good : IsGoodLine g es i) → (IsWritten g good.module_lines → IsWritten g (with_line i good.module_lines)) → AreSound g (modules_of (es ++ i ∷ []))
   inner_sound i step good grows =
       subst (AreSound g) (sym (modules_push es i ∙ step))
-      (line_sound g (modules_of es) i sound (λ m some. subst (λ k. IsModule g k → IsModule g (with_line i k)) (some_is good.module_lines m (sym good.last ∙ some)) grows))
+      (line_sound g (modules_of es) i sound (λ m some. subst (λ k. IsWritten g k → IsWritten g (with_line i k)) (some_is good.module_lines m (sym good.last ∙ some)) grows))
 
   sound_push : (i : Entry) → entry_fault g es i ≡ None → AreSound g (modules_of (es ++ i ∷ []))
   unfolding entry_fault add_line
@@ -43,28 +44,28 @@ module _ (g : Setting) (es : List Entry) (sound : AreSound g (modules_of es)) wh
   sound_push (Cut n) e =
       let good = good_line g es (Cut n) e in
       let words = new_wire g.circuit _ _ n good.words in
-      inner_sound (Cut n) refl good (λ is. cut_pushed g good.module_lines is n good.follows words.1.wire words.1.named words.0 words.1.new)
+      inner_sound (Cut n) refl good (λ is. cut_pushed g good.module_lines is.good n good.follows words.1.wire words.1.named words.0 words.1.new)
   sound_push (Use k) e =
       let good = good_line g es (Use k) e in
       let words = good_use g.circuit _ _ k good.words in
-      inner_sound (Use k) refl good (λ is. use_pushed g good.module_lines k is good.follows words.0 words.1)
+      inner_sound (Use k) refl good (λ is. use_pushed g good.module_lines k is.good good.follows words.0 words.1)
   sound_push (Keep k) e =
       let good = good_line g es (Keep k) e in
       inner_sound (Keep k) refl good (λ is. keep_pushed g good.module_lines is k good.follows good.words)
   sound_push (Edge d) e =
       let good = good_line g es (Edge d) e in
-      inner_sound (Edge d) refl good (λ is. edge_pushed g good.module_lines is d good.follows good.words)
+      inner_sound (Edge d) refl good (λ is. edge_pushed g good.module_lines is.good d good.follows good.words)
   sound_push (Halo d) e =
       let good = good_line g es (Halo d) e in
-      inner_sound (Halo d) refl good (λ is. halo_pushed g good.module_lines is d good.follows good.words)
+      inner_sound (Halo d) refl good (λ is. halo_pushed g good.module_lines is.good d good.follows good.words)
   sound_push (Stop s) e =
       let good = good_line g es (Stop s) e in
-      inner_sound (Stop s) refl good (λ is. stop_pushed g good.module_lines is s good.follows good.words)
+      inner_sound (Stop s) refl good (λ is. stop_pushed g good.module_lines is.good s good.follows good.words)
 
 sound_all : (g : Setting) (v : ℕ) (more before : List Entry) → AreSound g (modules_of before) → AreFaultless (certificate_grammar g) v before more → AreSound g (modules_of (before ++ more))
 sound_all g v [] before sound good = subst (λ l. AreSound g (modules_of l)) (sym (append-nil before)) sound
 sound_all g v (i ∷ more) before sound good =
-    subst (λ l. AreSound g (modules_of l)) (append_assoc before (i ∷ []) more) (sound_all g v more (before ++ i ∷ []) (sound_push g before sound i good.0) good.1)
+    subst (λ l. AreSound g (modules_of l)) (append_assoc before (i ∷ []) more) (sound_all g v more (before ++ i ∷ []) (sound_push g before sound i (both_none _ (entry_fault g before i) good.0).1) good.1)
 
 none_sound : (g : Setting) → AreSound g (modules_of [])
 unfolding modules_of
@@ -116,7 +117,7 @@ module _ (g : Setting) (ms : List ModuleLines) (sound : AreSound g ms) where
     once = sound.apart.once;
     inside = λ x y i b e h.
         let m = area_at ms i b e in
-        box_inside g.size b x y (subst (IsInside g.size.w g.size.h) m.2 (sound.each i m.0 m.1).inside) h;
+        box_inside g.size b x y (subst (IsInside g.size.w g.size.h) m.2 (sound.each i m.0 m.1).good.inside) h;
   }
 
   has_ports : (m : ModuleLines) → lacks_port g m ≡ false → HasPorts g m
@@ -142,14 +143,34 @@ module _ (g : Setting) (ms : List ModuleLines) (sound : AreSound g ms) where
   pub good_modules : is_incomplete g (last_of ms) ≡ false → leaves_gap g.size (areas ms) ≡ false → AreModules g ms
   good_modules complete full = record {
     few = sound.few;
-    each = sound.each;
+    each = λ k m e. (sound.each k m e).good;
     ports = λ k m e. has_ports m (all_ported complete k m e);
     tile = tiles full;
   }
+
+one_or_two : (v : ℕ) → (v == 1 || v == 2) ≡ true → (1 ≤ v) × (v ≤ 2)
+one_or_two v e = elim (or_parts (v == 1) (v == 2) e) [
+  | inl one ↦ let n = eqb-true v 1 one in (omega (arith, n), omega (arith, n))
+  | inr two ↦ let n = eqb-true v 2 two in (omega (arith, n), omega (arith, n))
+]
+
+-- the version of what was read
+pub read_version : (g : Setting) (v : ℕ) (es : List Entry) → IsFaultless (certificate_grammar g) v es → (1 ≤ v) × (v ≤ 2)
+read_version g v es good = one_or_two v (not_false _ (no_code _ 2 good.header))
+
+-- and in version 2 each module knows the wires of the edge lines beside it
+pub read_complete : (g : Setting) (v : ℕ) (es : List Entry) → IsFaultless (certificate_grammar g) v es → (is_haloless v && lacks_wire g (modules_of es)) ≡ false
+read_complete g v es good = no_code _ 11 (both_none (end_fault g es) _ good.end).1
 
 pub faultless_modules : (g : Setting) (v : ℕ) (es : List Entry) → IsFaultless (certificate_grammar g) v es → AreModules g (modules_of es)
 unfolding end_fault
 faultless_modules g v es good =
     let sound = sound_all g v es [] (none_sound g) good.each in
-    let parts = or_false (is_incomplete g (present es)) (leaves_gap g.size (areas (modules_of es))) (no_code _ 11 good.end) in
+    let parts = or_false (is_incomplete g (present es)) (leaves_gap g.size (areas (modules_of es))) (no_code _ 11 (both_none (end_fault g es) _ good.end).0) in
     good_modules g (modules_of es) sound parts.0 parts.1
+
+-- and each has few lines
+pub faultless_lines : (g : Setting) (v : ℕ) (es : List Entry) → IsFaultless (certificate_grammar g) v es → All HasFewLines (modules_of es)
+faultless_lines g v es good =
+    let sound = sound_all g v es [] (none_sound g) good.each in
+    λ k d lt. (sound.each k _ (slice_get-get_or (modules_of es) k d lt)).few_borders

@@ -19,6 +19,7 @@ use Rattle.certificate.specs.declared.entry.Entry.{Entry}
 use Rattle.certificate.specs.declared.entry.Entry.TheVariants.{Module, Cut, Use, Keep, Edge, Halo, Stop}
 use Rattle.certificate.specs.declared.times.TimeLine.{TimeLine}
 use Rattle.certificate.proofs.InnerLines.{inner_module, inner_other}
+use Rattle.certificate.proofs.ModulePushes.{both_none}
 use Rattle.certificate.proofs.ModuleSplit.{split_module, split_other}
 
 -- ---- the stops of all lines from the first module line on are those of all modules
@@ -54,12 +55,12 @@ starts_with_module : (g : Setting) (v : ℕ) (es : List Entry) → AreFaultless 
 unfolding inner entry_fault modules_of last_of
 starts_with_module g v [] good = refl
 starts_with_module g v (Module b ∷ es) good = refl
-starts_with_module g v (Cut n ∷ es) good = absurd (let first = good.0 in cc)
-starts_with_module g v (Use k ∷ es) good = absurd (let first = good.0 in cc)
-starts_with_module g v (Keep k ∷ es) good = absurd (let first = good.0 in cc)
-starts_with_module g v (Edge e ∷ es) good = absurd (let first = good.0 in cc)
-starts_with_module g v (Halo e ∷ es) good = absurd (let first = good.0 in cc)
-starts_with_module g v (Stop s ∷ es) good = absurd (let first = good.0 in cc)
+starts_with_module g v (Cut n ∷ es) good = absurd (let first = (both_none _ (entry_fault g [] (Cut n)) good.0).1 in cc)
+starts_with_module g v (Use k ∷ es) good = absurd (let first = (both_none _ (entry_fault g [] (Use k)) good.0).1 in cc)
+starts_with_module g v (Keep k ∷ es) good = absurd (let first = (both_none _ (entry_fault g [] (Keep k)) good.0).1 in cc)
+starts_with_module g v (Edge e ∷ es) good = absurd (let first = (both_none _ (entry_fault g [] (Edge e)) good.0).1 in cc)
+starts_with_module g v (Halo e ∷ es) good = absurd (let first = (both_none _ (entry_fault g [] (Halo e)) good.0).1 in cc)
+starts_with_module g v (Stop s ∷ es) good = absurd (let first = (both_none _ (entry_fault g [] (Stop s)) good.0).1 in cc)
 
 pub all_in_modules : (g : Setting) (v : ℕ) (es : List Entry) → IsFaultless (certificate_grammar g) v es → all_stops (modules_of es) ≡ flat_map stop_in es
 all_in_modules g v es good = sym (splits es ∙ ap (λ xs. flat_map stop_in xs ++ all_stops (modules_of es)) (starts_with_module g v es good.each))

@@ -9,7 +9,7 @@ use Rattle.module_box.specs.Boxes.{in_box}
 use Rattle.module_box.specs.declared.boxes.Box2.{Box2}
 use Rattle.certificate.specs.Entries.{Setting, ModuleLines, modules_of, last_of, areas, counts_of, known, edges, halos}
 use Rattle.certificate.specs.Rules.{in_boxes, is_starred, same_cell, lacks_port}
-use Rattle.certificate.specs.Modules.{IsModule}
+use Rattle.certificate.specs.Modules.{HasFewLines, IsModule}
 use Rattle.certificate.specs.declared.entry.Counts.{Counts}
 use Rattle.certificate.specs.declared.entry.Entry.{Entry}
 use Rattle.certificate.specs.declared.entry.Entry.TheVariants.{Module, Cut, Use, Keep, Edge, Halo, Stop}
@@ -37,10 +37,15 @@ pub record AreApart (boxes : List Box2) : Type 0 where
   pub once : (x y : ℤ) (i j : ℕ) (b b' : Box2) → slice_get boxes i ≡ Some b → slice_get boxes j ≡ Some b' →
       IsTrue (in_box b x y) → IsTrue (in_box b' x y) → i ≡ j
 
+-- a good module, with at most so many edge and halo lines of its own
+pub record IsWritten (g : Setting) (m : ModuleLines) : Type 0 where
+  pub good : IsModule g m
+  pub few_borders : HasFewLines m
+
 -- the modules so far are good
 pub record AreSound (g : Setting) (ms : List ModuleLines) : Type 0 where
   pub few : length ms ≤ 1024
-  pub each : (k : ℕ) (m : ModuleLines) → slice_get ms k ≡ Some m → IsModule g m
+  pub each : (k : ℕ) (m : ModuleLines) → slice_get ms k ≡ Some m → IsWritten g m
   pub apart : AreApart (areas ms)
   -- of all but the last, the ports' wires are local
   pub ported : (i : ℕ) (m : ModuleLines) → i + 1 < length ms → slice_get ms i ≡ Some m → lacks_port g m ≡ false
@@ -75,7 +80,7 @@ counted (Stop s) k = record k { stops = k.stops + 1 }
 
 -- no count is near its greatest value
 pub record IsSmall (k : Counts) : Type 0 where
-  pub few_cuts : k.cuts ≤ 10
+  pub few_cuts : k.cuts ≤ 12
   pub few_gates : k.gates ≤ 64
   pub few_borders : k.edges + k.halos + k.stops ≤ 65536
 

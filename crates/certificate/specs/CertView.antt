@@ -1,8 +1,10 @@
 -- The fields of a certificate, and what contracts see of them
-use Rattle.std.specs.Prelude.{◌≡◌, map}
+use Rattle.std.specs.Prelude.{◌≡◌, ◌≤◌, ◌&&◌, false, map}
+use Rattle.std.specs.List.{All}
 use Rattle.certificate.specs.Entries.{modules_of, counts_of}
 use Rattle.certificate.specs.Grammars.{CertState, setting_of}
-use Rattle.certificate.specs.Modules.{AreModules}
+use Rattle.certificate.specs.Modules.{AreModules, HasFewLines}
+use Rattle.certificate.specs.Versions.{is_haloless, lacks_wire}
 use Rattle.certificate.specs.declared.cert.Cert.TheInside.{Inside}
 
 abbrev pub cert_state : Inside → CertState
@@ -11,3 +13,6 @@ cert_state a = record { circuit = a.circuit.now; layout = a.layout.now; version 
 pub record IsCert (a : Inside) : Type 0 where
   pub counted : a.modules.items ≡ map counts_of (modules_of a.entries.items)
   pub good : AreModules (setting_of a.circuit.now a.layout.now) (modules_of a.entries.items)
+  pub few_lines : All HasFewLines (modules_of a.entries.items)
+  pub known : (1 ≤ a.version) × (a.version ≤ 2)
+  pub complete : (is_haloless a.version && lacks_wire (setting_of a.circuit.now a.layout.now) (modules_of a.entries.items)) ≡ false

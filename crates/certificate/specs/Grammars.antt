@@ -1,22 +1,24 @@
 -- The certificate section
-use Rattle.std.specs.Prelude.{ℕ, not, ◌==◌, ◌++◌, List}
-use Rattle.section_text.specs.Codes.{code_where, past_limit}
+use Rattle.std.specs.Prelude.{ℕ, not, ◌==◌, ◌&&◌, ◌||◌, ◌++◌, List}
+use Rattle.section_text.specs.Codes.{code_where, no_form, or_else, past_limit, something_missing}
 use Rattle.section_text.specs.Section.{Grammar}
 use Rattle.circuit.specs.Bridge.{circuit_of}
 use Rattle.pattern.specs.Layout.{Pattern}
-use Rattle.certificate.specs.Entries.{Setting}
+use Rattle.certificate.specs.Entries.{Setting, ModuleLines, modules_of}
 use Rattle.certificate.specs.Forms.{form_of}
 use Rattle.certificate.specs.Rules.{entry_fault, end_fault}
+use Rattle.certificate.specs.Versions.{is_halo, is_haloless, lacks_wire, meant, without_halos}
 use Rattle.certificate.specs.declared.entry.Entry.{Entry}
 use Rattle.circuit.specs.declared.entry.Entry.{Entry as CircuitLine}
 
--- the section, for a circuit and a layout; the version is 1
+-- The section, for a circuit and a layout. The version is 1 or 2. In version 2 a halo line has no form of the section, and at the
+-- end each module knows the wires of the edge lines beside it.
 abbrev pub certificate_grammar : Setting → Grammar ℕ Entry
 certificate_grammar g = record {
   form = form_of;
-  header_fault = λ version. code_where (not (version == 1)) past_limit;
-  item_fault = λ version before i. entry_fault g before i;
-  end_fault = λ version entries. end_fault g entries;
+  header_fault = λ version. code_where (not (version == 1 || version == 2)) past_limit;
+  item_fault = λ version before i. or_else (code_where (is_haloless version && is_halo i) no_form) (entry_fault g before i);
+  end_fault = λ version entries. or_else (end_fault g entries) (code_where (is_haloless version && lacks_wire g (modules_of entries)) something_missing);
 }
 
 -- a certificate as contracts see it: the lines of its circuit, its layout, its version, and its lines between the header and
@@ -34,3 +36,11 @@ certificate_value c = (c.version, c.entries)
 -- a circuit of these lines, and a layout
 abbrev pub setting_of : List CircuitLine → Pattern → Setting
 setting_of lines p = record { circuit = circuit_of lines; size = p.size; ports = p.ins ++ p.outs }
+
+-- the modules of a certificate, with the halo lines that it has or that its edge lines stand for
+abbrev pub modules_in : CertState → List ModuleLines
+modules_in c = meant c.version (setting_of c.circuit c.layout) (modules_of c.entries)
+
+-- a certificate written in version 2: without its halo lines
+abbrev pub migrated : CertState → CertState
+migrated c = record c { version = 2; entries = without_halos c.entries }

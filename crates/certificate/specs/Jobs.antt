@@ -69,12 +69,12 @@ abbrev pub stop_moment : Stop → Moment
 stop_moment s = s.at
 
 -- A job within the limits of a certificate: its box is even, has sides of 2 to 64 and lies in a rectangle of 512 by 512 cells.
--- It has at most 4096 steps, it names its own wires, and its stops rise by time, y and x.
+-- It has at most 65,536 steps, it names its own wires, and its stops rise by time, y and x.
 pub record IsJob (j : JobState) : Type 0 where
   pub even : IsEven j.area
   pub width : (2 ≤ j.area.w) × (j.area.w ≤ 64) × (j.area.x + j.area.w ≤ 512)
   pub height : (2 ≤ j.area.h) × (j.area.h ≤ 64) × (j.area.y + j.area.h ≤ 512)
-  pub steps : j.steps ≤ 4096
+  pub steps : j.steps ≤ 65536
   pub own : NamesOwnWires j
   pub stops : All (IsStopOf j) j.stops
   pub stops_rise : IsRising moment_cmp stop_moment j.stops

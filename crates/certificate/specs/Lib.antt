@@ -2,6 +2,7 @@ pub mod Entries
 pub mod Keeps
 pub mod Orders
 pub mod Rules
+pub mod Versions
 pub mod Forms
 pub mod Grammars
 pub mod SiteView

@@ -1,5 +1,7 @@
 -- The lines of one module
 use Rattle.std.specs.Prelude.{Bool, true, false, if◌then◌else◌, List, [], ◌∷◌}
+use Rattle.certificate.specs.Entries.{ModuleLines}
+use Rattle.certificate.specs.declared.beside.Part.{Part}
 use Rattle.certificate.specs.declared.entry.Entry.{Entry}
 use Rattle.certificate.specs.declared.entry.Entry.TheVariants.{Module, Cut, Use, Keep, Edge, Halo, Stop}
 
@@ -16,3 +18,7 @@ is_module (Stop s) = false
 unfoldable pub inner : List Entry → List Entry
 inner [] = []
 inner (i ∷ entries) = if is_module i then [] else i ∷ inner entries
+
+-- a module as it is kept
+abbrev pub part_lines : Part → ModuleLines
+part_lines p = record { area = p.area; lines = p.lines.now }

@@ -1,6 +1,6 @@
 -- What the modules of a certificate are that was read
-use Rattle.std.specs.Prelude.{◌≡◌, ℕ, ◌<◌, ◌≤◌, ◌%◌, List, length, Some, slice_get, IsTrue, IsFalse, IfSome}
-use Rattle.std.specs.List.{All}
+use Rattle.std.specs.Prelude.{◌≡◌, ℕ, ◌<◌, ◌≤◌, ◌%◌, ◌||◌, not, true, List, [], ◌∷◌, length, Some, slice_get, IsTrue, IsFalse, IfSome}
+use Rattle.std.specs.List.{All, list_all}
 use Rattle.module_box.specs.Boxes.{in_box, in_ring, in_halo, IsEven, Tile}
 use Rattle.module_box.specs.Locals.{AreLocalLines, is_among}
 use Rattle.module_box.specs.Tiling.{IsInside}
@@ -8,7 +8,7 @@ use Rattle.module_box.specs.declared.boxes.Box2.{Box2}
 use Rattle.pattern.specs.declared.parts.Port.{Port}
 use Rattle.certificate.specs.Entries.{Setting, ModuleLines, areas, cuts, gates, keeps, edges, halos, stops, cut_wires, known}
 use Rattle.certificate.specs.Orders.{AreInOrder}
-use Rattle.certificate.specs.Rules.{whole, is_local, is_inverse_gate, border_count, border_limit}
+use Rattle.certificate.specs.Rules.{whole, is_local, is_inverse_gate, is_star, is_starred, border_count, border_limit}
 use Rattle.certificate.specs.declared.entry.Border.{Border}
 use Rattle.certificate.specs.declared.entry.StopLine.{StopLine}
 
@@ -40,9 +40,14 @@ pub record IsKeep (g : Setting) (used : List ℕ) (k : ℕ) : Type 0 where
   pub inverse : IsTrue (is_inverse_gate (slice_get g.circuit.netlist.gates k))
   pub among : IsTrue (is_among used k)
 
+-- where a line with a `*` stands before one with a time, they are for different cells
+unfoldable pub AreUnstarred : List Border → Type 0
+AreUnstarred [] = Unit {0}
+AreUnstarred (d ∷ es) = (list_all (λ e. is_star e.time || not (is_starred e.cell d)) es ≡ true) × AreUnstarred es
+
 -- A module: its box is even, has sides of 2 to 64 and lies inside the rectangle. Its cuts and used gates make wires local one
 -- after the other. Its lines are in order, it keeps inverse gates that it uses, and its edge, halo and stop lines stand where they may and
--- name local wires.
+-- name local wires. No edge line has a time for a cell that one has a `*` for.
 pub record IsModule (g : Setting) (m : ModuleLines) : Type 0 where
   pub even : IsEven m.area
   pub wide : (2 ≤ m.area.w) × (m.area.w ≤ 64)
@@ -53,7 +58,7 @@ pub record IsModule (g : Setting) (m : ModuleLines) : Type 0 where
   pub local : AreLocalLines g.circuit.netlist (cut_wires g.circuit m) (gates m)
   pub order : AreInOrder m.lines
   pub keep_lines : All (IsKeep g (gates m)) (keeps m)
-  pub few_borders : border_count m ≤ border_limit
+  pub unstarred : AreUnstarred (edges m)
   pub edge_lines : All (IsEdge g m.area (known g.circuit m)) (edges m)
   pub halo_lines : All (IsHalo g m.area (known g.circuit m)) (halos m)
   pub stop_lines : All (IsStop g m.area (known g.circuit m)) (stops m)
@@ -68,3 +73,7 @@ pub record AreModules (g : Setting) (ms : List ModuleLines) : Type 0 where
   pub each : (k : ℕ) (m : ModuleLines) → slice_get ms k ≡ Some m → IsModule g m
   pub ports : (k : ℕ) (m : ModuleLines) → slice_get ms k ≡ Some m → HasPorts g m
   pub tile : Tile (whole g.size) (areas ms)
+
+-- a module has at most 65,536 edge, halo and stop lines of its own
+abbrev pub HasFewLines : ModuleLines → Type 0
+HasFewLines m = border_count m ≤ border_limit

@@ -7,11 +7,13 @@ ghost use Rattle.certificate.specs.Entries.{ModuleLines, counts_of, modules_of, 
 ghost use Rattle.certificate.specs.Rules.{entry_fault, end_fault, box_fault, module_fault, inner_fault, words_fault, is_incomplete, is_local, leaves_gap, box_cells};
 ghost use Rattle.module_box.specs.Boxes.{in_box};
 ghost use Rattle.certificate.specs.BuilderView.{BuilderState, IsInner, IsSmall};
+ghost use Rattle.certificate.specs.Versions.{lacks_wire};
 ghost use Rattle.certificate.specs.declared.entry.Entry.TheVariants.{Module};
 
 use crate::counts::{count_in_last, last_counts, push_entry};
 use crate::entry::{Counts, Entry};
 use crate::known::{learn_line, make_room_for_wires};
+use crate::lacks::lacks_any;
 use crate::order::does_follow;
 use crate::rules::{
     border_code, cut_code, is_bad_place, is_bad_side, is_local_name, keep_code, may_be_edge,
@@ -265,6 +267,13 @@ impl<'a> Builder<'a> {
         let lacks = self.lacks_port();
         let full = is_full(&self.covered, size.w, size.h);
         if lacks | !full { Some(11) } else { None }
+    }
+
+    /// Whether some module lacks the wire of an edge line beside it.
+    pub(crate) fn lacks_wire(&self) -> bool
+        ensures { result ≡ lacks_wire self.now.setting (modules_of self.now.entries) }
+    {
+        lacks_any(&self.site, self.entries.as_slice())
     }
 
     /// The lines, and the counts of the modules.

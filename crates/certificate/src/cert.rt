@@ -1,13 +1,14 @@
 //! Certificates.
 ghost use Rattle.std.specs.Prelude.{◌≡◌, ◌<◌, ◌≤◌, [], length, map, slice_get, take, Some, None};
+ghost use Rattle.std.specs.List.{All};
 ghost use Rattle.circuit.specs.Entries.{defined};
 ghost use Rattle.pattern.specs.Layout.{parts_of};
 ghost use Rattle.circuit.specs.Bridge.{input_names, netlist_of};
 ghost use Rattle.circuit.specs.Meaning.{AreOrdered};
 ghost use Rattle.pattern.specs.Lines.{AreGoodAfter, size_fault};
 ghost use Rattle.certificate.specs.Entries.{counts_of, modules_of};
-ghost use Rattle.certificate.specs.Grammars.{setting_of};
-ghost use Rattle.certificate.specs.Modules.{AreModules};
+ghost use Rattle.certificate.specs.Grammars.{modules_in, setting_of};
+ghost use Rattle.certificate.specs.Modules.{AreModules, HasFewLines};
 
 use crate::entry::{Counts, Entry};
 use circuit::Circuit;
@@ -38,11 +39,12 @@ impl<'a> Model for Cert<'a> {
 }
 
 impl<'a> Cert<'a> {
-    // The version that the header names.
-    pub(crate) fn version(&self) -> u32
-        ensures { result ≡ self.now.version }
+    /// The version that the header names, 1 or 2. In version 2 no module has halo lines of its own.
+    pub fn version(&self) -> u8
+        ensures version { result ≡ self.now.version }
+        ensures known { (1 ≤ result) × (result ≤ 2) }
     {
-        self.version
+        self.version as u8
     }
 
     // The lines between the header and the end.
@@ -52,7 +54,7 @@ impl<'a> Cert<'a> {
         self.entries.as_slice()
     }
 
-    /// The width, the height and the steps of the layout: even sides of 2 to 512, and at most 4096 steps. All that stands in the
+    /// The width, the height and the steps of the layout: even sides of 2 to 512, and at most 65,536 steps. All that stands in the
     /// layout is inside, and no cell is taken twice at the start, or twice at the end.
     pub fn size(&self) -> Extent
         ensures size { result ≡ self.now.layout.size }
@@ -64,14 +66,17 @@ impl<'a> Cert<'a> {
 
     /// How many modules the certificate has, at most 1024. They are numbered from 0 in the order of their lines.
     ///
-    /// Their boxes tile the layout's rectangle. Each box has an even corner and even sides of 2 to 64. The used gates of a
+    /// So they are as they were written, and in version 2 also with the halo lines that the edge lines beside them stand for. Of its own
+    /// lines of edges, halos and stops each has at most 65,536. Their boxes tile the layout's rectangle. Each box has an even corner and even sides of 2 to 64. The used gates of a
     /// module rise, and what they use is local before them. Its edge lines are in its ring and not on the rectangle's rim, its
     /// halo lines in its halo and inside the rectangle; their times are odd and below the steps, their wires are local, and
     /// they are in order. So are the wires of the ports in its box. Each gate of the circuit uses wires that are defined before
     /// it; the inputs are the circuit's first wires.
     pub fn modules(&self) -> usize
         ensures count { result ≡ length (modules_of self.now.entries) }
-        ensures good { AreModules (setting_of self.now.circuit self.now.layout) (modules_of self.now.entries) }
+        ensures good { AreModules (setting_of self.now.circuit self.now.layout) (modules_in self.now) }
+        ensures written { AreModules (setting_of self.now.circuit self.now.layout) (modules_of self.now.entries) }
+        ensures lines { All HasFewLines (modules_of self.now.entries) }
         ensures ordered { AreOrdered (netlist_of self.now.circuit).given (netlist_of self.now.circuit).gates }
         ensures inputs { take (netlist_of self.now.circuit).given (defined self.now.circuit) ≡ input_names self.now.circuit }
     {

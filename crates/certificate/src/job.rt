@@ -95,7 +95,7 @@ impl Job {
         }
     }
 
-    /// The steps of the layout, at most 4096.
+    /// The steps of the layout, at most 65,536.
     pub fn steps(&self) -> u32
         ensures { result ≡ self.now.steps }
     {

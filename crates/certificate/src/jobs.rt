@@ -1,5 +1,5 @@
 //! The jobs of a certificate.
-ghost use Rattle.std.specs.Prelude.{◌≡◌, ◌+◌, ◌<◌, ◌≤◌, IfOk, IsTrue, length, map, slice_index};
+ghost use Rattle.std.specs.Prelude.{◌≡◌, ◌+◌, ◌<◌, ◌≤◌, ◌&&◌, false, IfOk, IsTrue, length, map, slice_index};
 ghost use Rattle.std.specs.Arc.{arc_value};
 ghost use Rattle.std.specs.List.{All, flat_map};
 ghost use Rattle.std.specs.Option.{option_to_list};
@@ -8,8 +8,9 @@ ghost use Rattle.circuit.specs.Meaning.{wire_of, wires};
 ghost use Rattle.module_box.specs.Locals.{AreLocalLines, AreLocalsOf, circuit_wire, is_among, local_wires};
 ghost use Rattle.module_box.specs.Moves.{IsNear};
 ghost use Rattle.certificate.specs.Entries.{cut_in, keep_in, modules_of, stop_in, use_in};
-ghost use Rattle.certificate.specs.Grammars.{setting_of};
+ghost use Rattle.certificate.specs.Grammars.{modules_in, setting_of};
 ghost use Rattle.certificate.specs.Jobs.{AreJobsOf, IsJobOf, line_signals};
+ghost use Rattle.certificate.specs.ModuleParts.{part_lines};
 ghost use Rattle.certificate.specs.Modules.{AreModules, HasPorts, IsModule};
 ghost use Rattle.certificate.specs.Orders.{AreInOrder};
 ghost use Rattle.certificate.specs.Rules.{is_local};
@@ -17,7 +18,9 @@ ghost use Rattle.certificate.specs.Shapes.{from_corner, stops_from_corner};
 ghost use Rattle.certificate.specs.Signals.{IsBelow, renumber_signals};
 ghost use Rattle.certificate.specs.StopLists.{AreStops};
 ghost use Rattle.certificate.specs.Timetables.{IsLow, IsNamedLocal, borders_in};
+ghost use Rattle.certificate.specs.Versions.{is_haloless, lacks_wire, meant, with_halos};
 
+use crate::beside::{Part, full_lines, parts_of};
 use crate::cert::Cert;
 use crate::entry::Entry;
 use crate::job::{Job, Stop, back};
@@ -173,13 +176,47 @@ fn jobs_of_lines(alloc: Global, plan: &Plan, entries: &[Entry]) -> Result<Vec<Ar
     Ok(jobs)
 }
 
+// The jobs of modules without halo lines, by the edge lines beside them.
+fn jobs_of_parts(alloc: Global, plan: &Plan, parts: &[Part]) -> Result<Vec<Arc<Job>>, AllocError>
+    requires modules { AreModules (setting_of plan.now.circuit plan.now.layout) (map part_lines parts.now) }
+    requires complete { lacks_wire (setting_of plan.now.circuit plan.now.layout) (map part_lines parts.now) ≡ false }
+    ensures { IfOk result (λ js. AreJobsOf (circuit_of plan.now.circuit) plan.now.layout (map (with_halos (setting_of plan.now.circuit plan.now.layout) (map part_lines parts.now)) (map part_lines parts.now)) (map arc_value js.items)) }
+{
+    let mut jobs = Vec::new(alloc);
+    'parts: for part in parts {
+        let lines = full_lines(alloc, plan, parts, part)?;
+        let made = make_job(alloc, plan, part.area, lines.as_slice())?;
+        let job = Arc::new(alloc, made)?;
+        jobs.push(job)?;
+    }
+    Ok(jobs)
+}
+
+// The jobs of a certificate of this version that has these lines.
+fn jobs_of_version(
+    alloc: Global,
+    plan: &Plan,
+    version: u32,
+    entries: &[Entry],
+) -> Result<Vec<Arc<Job>>, AllocError>
+    requires modules { AreModules (setting_of plan.now.circuit plan.now.layout) (modules_of entries.now) }
+    requires complete { (is_haloless version && lacks_wire (setting_of plan.now.circuit plan.now.layout) (modules_of entries.now)) ≡ false }
+    ensures { IfOk result (λ js. AreJobsOf (circuit_of plan.now.circuit) plan.now.layout (meant version (setting_of plan.now.circuit plan.now.layout) (modules_of entries.now)) (map arc_value js.items)) }
+{
+    if version == 2 {
+        let parts = parts_of(alloc, entries)?;
+        return jobs_of_parts(alloc, plan, parts.as_slice());
+    }
+    jobs_of_lines(alloc, plan, entries)
+}
+
 impl<'a> Cert<'a> {
     /// The jobs of the modules, in their order: for each module all that its run by itself needs, by its lines and by what the
     /// circuit and the layout say of its cells. `AllocError` is want of memory.
     pub fn jobs(&self, alloc: Global) -> Result<Vec<Arc<Job>>, AllocError>
-        ensures { IfOk result (λ js. AreJobsOf (circuit_of self.now.circuit) self.now.layout (modules_of self.now.entries) (map arc_value js.items)) }
+        ensures { IfOk result (λ js. AreJobsOf (circuit_of self.now.circuit) self.now.layout (modules_in self.now) (map arc_value js.items)) }
     {
         let plan = Plan::new(alloc, self.circuit, self.layout)?;
-        jobs_of_lines(alloc, &plan, self.entries.as_slice())
+        jobs_of_version(alloc, &plan, self.version, self.entries.as_slice())
     }
 }

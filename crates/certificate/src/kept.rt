@@ -3,7 +3,7 @@ ghost use Rattle.std.specs.Prelude.{◌≡◌, ◌<◌, ◌^◌, ◌&&◌, ◌||
 ghost use Rattle.std.specs.List.{flat_map};
 ghost use Rattle.module_box.specs.Locals.{is_among};
 ghost use Rattle.certificate.specs.Entries.{keep_in, modules_of};
-ghost use Rattle.certificate.specs.Grammars.{setting_of};
+ghost use Rattle.certificate.specs.Grammars.{modules_in, setting_of};
 ghost use Rattle.certificate.specs.Keeps.{is_kept, unkept};
 
 use crate::cert::Cert;
@@ -73,7 +73,7 @@ fn push_unkept(
 impl<'a> Cert<'a> {
     /// The numbers of the inverse gates that no module keeps, in order. `AllocError` is want of memory.
     pub fn unkept(&self, alloc: Global) -> Result<Vec<usize>, AllocError>
-        ensures { IfOk result (λ gates. gates.items ≡ unkept (setting_of self.now.circuit self.now.layout) (modules_of self.now.entries)) }
+        ensures { IfOk result (λ gates. gates.items ≡ unkept (setting_of self.now.circuit self.now.layout) (modules_in self.now)) }
     {
         let kept = kept_gates(alloc, self.entries.as_slice())?;
         let mut gates = Vec::new(alloc);

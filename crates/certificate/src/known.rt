@@ -38,6 +38,13 @@ fn stands_before(wires: &[WireNo], wire: WireNo) -> bool
     wires.iter().any(|w| w.number() == wire.number())
 }
 
+/// Whether the wire of this number is one of these.
+pub(crate) fn stands_among(wires: &[WireNo], wire: u16) -> bool
+    ensures { result ≡ is_among wires.now wire }
+{
+    wires.iter().any(|w| w.number() == wire)
+}
+
 /// Whether none of these wires is local, and none stands twice.
 pub(crate) fn are_all_new(known: &IndexSet<u16>, wires: &[WireNo]) -> bool
     ensures { result ≡ are_new known.now.keys wires.now }

@@ -1,6 +1,6 @@
 //! Laws of the definitions, each the contract of a function without a body.
 ghost use Rattle.certificate.specs.Keys.{BytesTellNumbers, NumbersTellShapes};
-ghost use Rattle.certificate.specs.Laws.{FirstIsLeast, JobEqualityDecides, KeptIsOnTime, LastIsGreatest, LinesTell, PrintsWhatIsRead, ReadsWhatIsPrinted, ShapeEqualityDecides, ShapesAreParts};
+ghost use Rattle.certificate.specs.Laws.{FirstIsLeast, GoodWithoutHalos, HaloIsEdgeBeside, JobEqualityDecides, KeptIsOnTime, LastIsGreatest, LinesTell, MeantAreModules, PrintsWhatIsRead, ReadsWhatIsPrinted, SectionWithoutHalos, ShapeEqualityDecides, ShapesAreParts};
 
 /// The text of a certificate that is read is the text of the lines that it is read from, and it is read as the same
 /// certificate again.
@@ -40,4 +40,12 @@ pub fn seen_first_and_last()
 pub fn lines_tell_of_gates()
     ensures each { LinesTell }
     ensures kept { KeptIsOnTime }
+{}
+
+/// The modules of a certificate of version 2 are modules of version 1, whose halo lines are the edge lines beside them.
+pub fn versions_have_modules()
+    ensures modules { MeantAreModules }
+    ensures halos { HaloIsEdgeBeside }
+    ensures good { GoodWithoutHalos }
+    ensures section { SectionWithoutHalos }
 {}

@@ -5,6 +5,7 @@
 //! `specs/Modules.antt` what is known of the modules of a certificate that was read.
 #![tactic(auto)]
 
+mod beside;
 mod builder;
 mod cert;
 mod counts;
@@ -18,6 +19,7 @@ mod jobs;
 mod kept;
 mod keys;
 mod known;
+mod lacks;
 pub mod laws;
 mod lines;
 mod order;

@@ -2,9 +2,10 @@
 ghost use Rattle.std.specs.Prelude.{◌≡◌, List};
 ghost use Rattle.certificate.specs.Entries.{last_of};
 ghost use Rattle.certificate.specs.Orders.{AreInOrder, rank_of, time_rank, number_of, cell_of, line_cmp, is_cut, may_precede, may_follow};
+ghost use Rattle.certificate.specs.Versions.{line_order};
 ghost use Rattle.certificate.specs.declared.entry.Entry.{Entry};
 
-use crate::entry::Entry;
+use crate::entry::{Border, Entry};
 use bbm_rule::Cell;
 use module_box::compare_cells;
 use std::cmp::Ordering;
@@ -102,4 +103,14 @@ pub(crate) fn does_follow(last: Option<Entry>, entry: &Entry) -> bool
         None => true,
         Some(last) => does_precede(&last, entry),
     }
+}
+
+/// The order of two edge lines, or of two halo lines.
+#[tactic(auto, unfolding(crate::specs::Versions::line_order))]
+pub(crate) fn compare_borders(first: &Border, second: &Border) -> Ordering
+    ensures { result ≡ line_order first.now second.now }
+{
+    rank_of_time(first.time)
+        .cmp(&rank_of_time(second.time))
+        .then(compare_cells(first.cell, second.cell))
 }

@@ -138,7 +138,7 @@ pub fn print_certificate(alloc: Global, cert: &Cert) -> Result<Vec<u8>, AllocErr
     ensures { IfOk result (λ text. text.items ≡ certificate_text cert.now) }
 {
     let mut out = Vec::new(alloc);
-    print_header(alloc, &mut out, cert.version())?;
+    print_header(alloc, &mut out, cert.version() as u32)?;
     print_entries(alloc, &mut out, cert.entries())?;
     out.extend_from_slice(b"end\n")?;
     Ok(out)

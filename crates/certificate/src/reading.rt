@@ -3,6 +3,7 @@ ghost use Rattle.std.specs.Prelude.{◌≡◌, [], true, IfOk};
 ghost use Rattle.section_text.specs.Section.{Reads};
 ghost use Rattle.certificate.specs.Grammars.{certificate_grammar, certificate_value, setting_of};
 
+use crate::beside::is_halo;
 use crate::builder::Builder;
 use crate::cert::Cert;
 use crate::entry::Entry;
@@ -13,8 +14,10 @@ use pattern::Layout;
 use section_text::{Feed, Form, Line, LineFault, ReadFault, Section, read_section};
 use std::alloc::{AllocError, Global};
 
-// The only version so far.
-const VERSION: u32 = 1;
+// The version with halo lines, and the one without.
+const FIRST: u32 = 1;
+
+const SECOND: u32 = 2;
 
 // A certificate that is read: its version, and its lines so far.
 #[derive(Drop)]
@@ -40,7 +43,7 @@ impl<'a> Section for Reading<'a> {
     }
 
     fn begin(&mut self, version: u32) -> Result<(), LineFault> {
-        if version != VERSION {
+        if (version != FIRST) & (version != SECOND) {
             return Err(LineFault::Code(2));
         }
         self.version = version;
@@ -48,11 +51,20 @@ impl<'a> Section for Reading<'a> {
     }
 
     fn add(&mut self, entry: Entry) -> Result<(), LineFault> {
+        if (self.version == SECOND) & is_halo(&entry) {
+            return Err(LineFault::Code(1));
+        }
         self.builder.add(self.alloc, entry)
     }
 
     fn missing(&self) -> Option<u8> {
-        self.builder.missing()
+        if let Some(code) = self.builder.missing() {
+            return Some(code);
+        }
+        if self.version == SECOND && self.builder.lacks_wire() {
+            return Some(11);
+        }
+        None
     }
 }
 
@@ -68,7 +80,7 @@ fn begin_reading<'a>(
     let builder = Builder::new(alloc, site)?;
     Ok(Reading {
         alloc,
-        version: VERSION,
+        version: FIRST,
         builder,
     })
 }
@@ -79,11 +91,12 @@ fn begin_reading<'a>(
 /// first test that it fails:
 ///
 /// - 12: it is not there or not ended;
-/// - 1: it has none of the forms of this section;
+/// - 1: it has none of the forms of this section, or it is a halo line in version 2;
 /// - 6: it is out of its place, or its list does not rise;
 /// - 11: it is `module` or `end`, and a port in the box of the module before it has a wire that is not local there; or it is
-///   `end`, and some cell of the rectangle lies in no box;
-/// - 2: the version is not 1, a side of a box is odd or not 2 to 64, or there are more than 1024 modules, ten cuts, 64 used
+///   `end`, and some cell of the rectangle lies in no box, or, in version 2, a module does not know the wire of an edge line for a
+///   cell of its halo;
+/// - 2: the version is not 1 or 2, a side of a box is odd or not 2 to 64, or there are more than 1024 modules, twelve cuts, 64 used
 ///   gates, or 65,536 edge, halo and stop lines of a module;
 /// - 8: a box has an odd corner, or a cell outside the rectangle or in an earlier box;
 /// - 10: an edge, halo or stop line may not stand at its cell or time;

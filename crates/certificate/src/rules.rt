@@ -18,7 +18,7 @@ use pattern::Extent;
 use section_text::Name;
 
 // The most cuts of a module, the most gates that it uses, and the most edge, halo and stop lines.
-const CUTS: usize = 10;
+const CUTS: usize = 12;
 
 const GATES: usize = 64;
 

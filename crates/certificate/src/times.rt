@@ -5,6 +5,7 @@ ghost use Rattle.circuit.specs.Bridge.{circuit_of, netlist_of};
 ghost use Rattle.circuit.specs.Meaning.{wires};
 ghost use Rattle.circuit.specs.Wiring.{gate_of};
 ghost use Rattle.certificate.specs.Entries.{modules_of, stop_in};
+ghost use Rattle.certificate.specs.Grammars.{modules_in};
 ghost use Rattle.certificate.specs.Times.{agreed, all_stops, delay_line, gap_between, is_kept, last_times, lines_by, meet_by, meet_line, of_wire, time_lines};
 ghost use Rattle.certificate.specs.SeenTimes.{IsTable, chosen, told_by};
 ghost use Rattle.certificate.specs.declared.entry.StopLine.{StopLine as Line};
@@ -259,7 +260,7 @@ impl<'a> Cert<'a> {
     /// What the stops of all modules say of the circuit's gates: a line for each delay, in order of gates, and then a line for each
     /// gate of which two inputs or more have stops. `AllocError` is want of memory.
     pub fn times(&self, alloc: Global) -> Result<Vec<TimeLine>, AllocError>
-        ensures { IfOk result (λ lines. lines.items ≡ time_lines (circuit_of self.now.circuit) (modules_of self.now.entries)) }
+        ensures { IfOk result (λ lines. lines.items ≡ time_lines (circuit_of self.now.circuit) (modules_in self.now)) }
     {
         lines_of(alloc, self.circuit, self.entries.as_slice())
     }

@@ -9,7 +9,7 @@ use Rattle.section_text.specs.Spelling.{line_text}
 use Rattle.circuit.specs.Bridge.{circuit_of}
 use Rattle.module_box.specs.Locals.{LocalNet, circuit_gate}
 use Rattle.certificate.specs.Entries.{ModuleLines, modules_of}
-use Rattle.certificate.specs.Grammars.{CertState, setting_of}
+use Rattle.certificate.specs.Grammars.{CertState, modules_in, setting_of}
 use Rattle.certificate.specs.Jobs.{JobState, AreJobsOf}
 use Rattle.certificate.specs.Modules.{AreModules}
 use Rattle.certificate.specs.Text.{certificate_text}
@@ -34,9 +34,9 @@ use Rattle.headline.proofs.OneAnswer.{answered_once, one_layout}
 
 -- ---- what two lists of jobs of the same modules say
 
-module _ (c : CertState) (good : AreModules (setting_of c.circuit c.layout) (modules_of c.entries)) where
+module _ (c : CertState) (good : AreModules (setting_of c.circuit c.layout) (modules_in c)) where
   abbrev AreOwn : List JobState → Type 0
-  AreOwn js = AreJobsOf (circuit_of c.circuit) c.layout (modules_of c.entries) js
+  AreOwn js = AreJobsOf (circuit_of c.circuit) c.layout (modules_in c) js
 
   -- the job of one list for a number that the other has
   job_beside : (js ks : List JobState) (number : ℕ) (k : JobState) → AreOwn js → AreOwn ks → slice_get ks number ≡ Some k → (j : JobState) × (slice_get js number ≡ Some j)
@@ -50,27 +50,27 @@ module _ (c : CertState) (good : AreModules (setting_of c.circuit c.layout) (mod
       by_job (Some j) e = (j, e)
 
   fault_over : (js ks : List JobState) (number : ℕ) (j k : JobState) (f : Fault) → AreOwn js → AreOwn ks → slice_get js number ≡ Some j → slice_get ks number ≡ Some k → IsFault j f → IsFault k f
-  fault_over js ks number j k f own_j own_k at_j at_k is = by_module (slice_get (modules_of c.entries) number) refl
+  fault_over js ks number j k f own_j own_k at_j at_k is = by_module (slice_get (modules_in c) number) refl
     where
-      by_module : (o : Option ModuleLines) → slice_get (modules_of c.entries) number ≡ o → IsFault k f
+      by_module : (o : Option ModuleLines) → slice_get (modules_in c) number ≡ o → IsFault k f
       by_module None e =
-          let past = none-past (modules_of c.entries) number e in
+          let past = none-past (modules_in c) number e in
           let below : number < length ks = slice_get_within ks number k at_k in
           absurd (omega (arith, past, below, own_k.count))
       by_module (Some m) e = jobs_agree (circuit_of c.circuit) c.layout m j k f (good.each number m e).local.different (own_j.each number m j e at_j) (own_k.each number m k e at_k) is
 
   -- the jobs of both lists have the same wires and gates, and the same keep faults
   keeps_over : (js ks : List JobState) (number : ℕ) (j k : JobState) → AreOwn js → AreOwn ks → slice_get js number ≡ Some j → slice_get ks number ≡ Some k → SameKeeps j k
-  keeps_over js ks number j k own_j own_k at_j at_k = by_module (slice_get (modules_of c.entries) number) refl
+  keeps_over js ks number j k own_j own_k at_j at_k = by_module (slice_get (modules_in c) number) refl
     where
-      by_module : (o : Option ModuleLines) → slice_get (modules_of c.entries) number ≡ o → SameKeeps j k
+      by_module : (o : Option ModuleLines) → slice_get (modules_in c) number ≡ o → SameKeeps j k
       by_module None e =
-          let past = none-past (modules_of c.entries) number e in
+          let past = none-past (modules_in c) number e in
           let below : number < length ks = slice_get_within ks number k at_k in
           absurd (omega (arith, past, below, own_k.count))
       by_module (Some m) e = keeps_agree (circuit_of c.circuit) c.layout m j k (good.each number m e).local.different (own_j.each number m j e at_j) (own_k.each number m k e at_k)
 
-  accepts_over : (js ks : List JobState) → AreOwn js → AreOwn ks → Accepts (setting_of c.circuit c.layout) (modules_of c.entries) js → Accepts (setting_of c.circuit c.layout) (modules_of c.entries) ks
+  accepts_over : (js ks : List JobState) → AreOwn js → AreOwn ks → Accepts (setting_of c.circuit c.layout) (modules_in c) js → Accepts (setting_of c.circuit c.layout) (modules_in c) ks
   accepts_over js ks own_j own_k a = record {
     no_fault = λ number k f at is.
         let beside = job_beside js ks number k own_j own_k at in
@@ -106,7 +106,7 @@ module _ (c : CertState) (good : AreModules (setting_of c.circuit c.layout) (mod
         };
   }
 
-  lines_over : (js ks : List JobState) (lines : List ReportLine) → AreOwn js → AreOwn ks → AreReportLines (setting_of c.circuit c.layout) (modules_of c.entries) js lines → AreReportLines (setting_of c.circuit c.layout) (modules_of c.entries) ks lines
+  lines_over : (js ks : List JobState) (lines : List ReportLine) → AreOwn js → AreOwn ks → AreReportLines (setting_of c.circuit c.layout) (modules_in c) js lines → AreReportLines (setting_of c.circuit c.layout) (modules_in c) ks lines
   lines_over js ks lines own_j own_k a = record {
     faults = a.faults;
     are_least = leasts_over js ks a.faults own_j own_k a.are_least;
@@ -115,14 +115,14 @@ module _ (c : CertState) (good : AreModules (setting_of c.circuit c.layout) (mod
     lines_are = a.lines_are;
   }
 
-  verdict_over : (js ks : List JobState) (v : Verdict) → AreOwn js → AreOwn ks → IsVerdict (setting_of c.circuit c.layout) (modules_of c.entries) js v → IsVerdict (setting_of c.circuit c.layout) (modules_of c.entries) ks v
+  verdict_over : (js ks : List JobState) (v : Verdict) → AreOwn js → AreOwn ks → IsVerdict (setting_of c.circuit c.layout) (modules_in c) js v → IsVerdict (setting_of c.circuit c.layout) (modules_in c) ks v
   unfolding IsVerdict
   verdict_over js ks verdict.Yes own_j own_k a = accepts_over js ks own_j own_k a
   verdict_over js ks (verdict.No lines) own_j own_k v = (λ a. v.0 (accepts_over ks js own_k own_j a), lines_over js ks lines.items own_j own_k v.1)
 
 pub one_verdict : (c : CertState) (v w : Verdict) → IsVerdictOn c v → IsVerdictOn c w → SaysTheSame v w
 one_verdict c v w a b =
-    verdict-is-one (setting_of c.circuit c.layout) (modules_of c.entries) a.jobs v w a.judged (verdict_over c a.good b.jobs a.jobs w b.are_jobs a.are_jobs b.judged)
+    verdict-is-one (setting_of c.circuit c.layout) (modules_in c) a.jobs v w a.judged (verdict_over c a.good b.jobs a.jobs w b.are_jobs a.are_jobs b.judged)
 
 -- ---- what is written of it
 

@@ -43,7 +43,8 @@ use Rattle.module_box.specs.declared.schedules.Signal.TheVariants.{Zero, Wire}
 use Rattle.module_box.proofs.BoxCells.{same_some}
 use Rattle.certificate.specs.Entries as entries
 use Rattle.certificate.specs.Entries.{ModuleLines, modules_of}
-use Rattle.certificate.specs.Grammars.{CertState, setting_of}
+use Rattle.certificate.specs.Grammars.{CertState, modules_in, setting_of}
+use Rattle.certificate.specs.Modules.{AreModules}
 use Rattle.certificate.specs.Jobs.{AreJobsOf, IsJob, IsJobOf, JobState, NamesOwnWires, IsStopOf, end_demand, job_demand, job_start, port_at, start_signal, stop_moment}
 use Rattle.certificate.specs.Keeps.{is_kept}
 use Rattle.certificate.specs.Times.{are_all_kept, numbered, time_lines}
@@ -52,6 +53,7 @@ use Rattle.certificate.specs.declared.job.Demand.TheVariants as Demanded
 use Rattle.certificate.specs.declared.job.Stop.{Stop}
 use Rattle.certificate.specs.declared.entry.Entry.{Entry}
 use Rattle.certificate.specs.declared.entry.Entry.TheVariants.{Module, Cut, Use, Keep}
+use Rattle.certificate.proofs.FullModules.{meant_old}
 use Rattle.certificate.proofs.Soundness.{faultless_modules}
 use Rattle.local_run.specs.Faults.{IsFault, IsKeepFault}
 use Rattle.local_run.specs.Runs.{local_run}
@@ -318,13 +320,17 @@ modules_are = refl
 abbrev certificate : CertState
 certificate = record { circuit = circuit; layout = layout; version = 1; entries = bundle.entries }
 
+-- version 1 has the modules that its lines make
+meant_are : modules_in certificate ≡ modules_of bundle.entries
+meant_are = meant_old 1 (setting_of circuit layout) (modules_of bundle.entries) refl
+
 is_verdict : IsVerdictOn certificate verdict.Yes
 unfolding IsVerdict
 is_verdict = record {
-  good = faultless_modules (setting_of circuit layout) 1 bundle.entries (certificate_faultless there_and_back bundle layout reads refl);
+  good = subst (AreModules (setting_of circuit layout)) (sym meant_are) (faultless_modules (setting_of circuit layout) 1 bundle.entries (certificate_faultless there_and_back bundle layout reads refl));
   jobs = jobs;
-  are_jobs = subst (λ ms. AreJobsOf (circuit_of circuit) layout ms jobs) (sym modules_are) (record { count = refl; each = each_job });
-  judged = subst (λ ms. IsVerdict (setting_of circuit layout) ms jobs verdict.Yes) (sym modules_are) accepts;
+  are_jobs = subst (λ ms. AreJobsOf (circuit_of circuit) layout ms jobs) (sym (meant_are ∙ modules_are)) (record { count = refl; each = each_job });
+  judged = subst (λ ms. IsVerdict (setting_of circuit layout) ms jobs verdict.Yes) (sym (meant_are ∙ modules_are)) accepts;
 }
 
 answered : (read : Result Bundle Refusal) → Ok bundle ≡ read → Answered SaysReport read (report_lines certificate verdict.Yes) Yes

@@ -34,12 +34,13 @@ use Rattle.pattern.specs.declared.parts.Part.{Part}
 use Rattle.pattern.specs.declared.parts.Extent.{Extent}
 use Rattle.pattern.proofs.Named.{faultless_named}
 use Rattle.section_text.specs.Ports.{Named}
-use Rattle.certificate.specs.Grammars.{CertState, certificate_grammar, setting_of}
+use Rattle.certificate.specs.Grammars.{CertState, certificate_grammar, modules_in, setting_of}
 use Rattle.certificate.specs.Arrivals.{AreOnTime}
 use Rattle.certificate.specs.Entries.{modules_of, stop_in}
 use Rattle.certificate.specs.Times.{all_stops}
 use Rattle.certificate.specs.declared.entry.Entry.{Entry}
 use Rattle.certificate.specs.declared.entry.StopLine.{StopLine}
+use Rattle.certificate.proofs.MeantLines.{stops_meant}
 use Rattle.certificate.proofs.TimeLemmas.{all_in_modules}
 use Rattle.circuit.specs.Bridge.{circuit_of}
 use Rattle.audit_core.specs.OnTime.{StopHolds}
@@ -284,7 +285,7 @@ judged_yes text b output outcome reads says is =
     let c : CertState = says.certificate in
     let same = says.its_own in
     let v = says.is_verdict in
-    let judged = subst (λ (w : Verdict). IsVerdict (setting_of c.circuit c.layout) (modules_of c.entries) v.jobs w) is v.judged in
+    let judged = subst (λ (w : Verdict). IsVerdict (setting_of c.circuit c.layout) (modules_in c) v.jobs w) is v.judged in
     let correct = yes_means-correct c c.layout.size v.jobs (known text b output outcome reads says) v.are_jobs judged in
     record { circuit = b.circuit; layout = c.layout; says = (bundle_good text b reads).says c.layout same.layout; correct = subst (λ (cs : List CircuitLine). IsCorrect cs c.layout) same.circuit correct }
 
@@ -294,10 +295,10 @@ judged_stops text b output outcome reads says is =
     let c : CertState = says.certificate in
     let same = says.its_own in
     let v = says.is_verdict in
-    let judged = subst (λ (w : Verdict). IsVerdict (setting_of c.circuit c.layout) (modules_of c.entries) v.jobs w) is v.judged in
+    let judged = subst (λ (w : Verdict). IsVerdict (setting_of c.circuit c.layout) (modules_in c) v.jobs w) is v.judged in
     let right = yes_means-on_time c c.layout.size v.jobs (known text b output outcome reads says) v.are_jobs judged in
-    let own : all_stops (modules_of c.entries) ≡ flat_map stop_in b.entries =
-    ap (λ (es : List Entry). all_stops (modules_of es)) same.entries ∙ all_in_modules (setting_of b.circuit c.layout) b.version b.entries (certificate_faultless text b c.layout reads same.layout) in
+    let own : all_stops (modules_in c) ≡ flat_map stop_in b.entries =
+    stops_meant c.version (setting_of c.circuit c.layout) (modules_of c.entries) ∙ ap (λ (es : List Entry). all_stops (modules_of es)) same.entries ∙ all_in_modules (setting_of b.circuit c.layout) b.version b.entries (certificate_faultless text b c.layout reads same.layout) in
     record {
       circuit = b.circuit;
       layout = c.layout;

@@ -11,3 +11,4 @@ pub mod StopScans
 pub mod Leasts
 pub mod ModuleJobs
 pub mod MovedJobs
+pub mod SameHalos

@@ -131,7 +131,7 @@ module _ (ws : List ℕ) (different : AreDifferent ws) where
   number_back : (a b : ℕ) → a < length ws → b < length ws → f a ≡ f b → a ≡ b
   number_back a b la lb e = different a b (slice_index ws a) (slice_get-get_or ws a 0 la) (slice_get-get_or ws b 0 lb ∙ ap Some (sym e))
 
-  signal_back : (s t : Signal) → IsBelow (length ws) s → IsBelow (length ws) t → renumber_signal f s ≡ renumber_signal f t → s ≡ t
+  pub signal_back : (s t : Signal) → IsBelow (length ws) s → IsBelow (length ws) t → renumber_signal f s ≡ renumber_signal f t → s ≡ t
   signal_back Zero Zero a b e = refl
   signal_back Zero One a b e = e
   signal_back Zero (Wire w) a b e = absurd cc

@@ -1,10 +1,13 @@
 -- What the laws of this crate say
-use Rattle.std.specs.Prelude.{◌≡◌, ℕ, ◌<◌, ◌↔◌, Option, None}
+use Rattle.std.specs.Prelude.{◌≡◌, ℕ, ℤ, ◌<◌, ◌≤◌, ◌%◌, ◌↔◌, Option, None, IsTrue}
+use Rattle.std.specs.List.{All}
 use Rattle.circuit.specs.Meaning.{Circuit, Valuation, AreOrdered}
 use Rattle.pattern.specs.Layout.{Pattern}
 use Rattle.module_box.specs.LocalValues.{IsLocalValuation, IsLocallyUndefined}
 use Rattle.module_box.specs.Laws.{LiesInBox}
+use Rattle.module_box.specs.Boxes.{in_halo}
 use Rattle.module_box.specs.Locals.{AreDifferent}
+use Rattle.module_box.specs.Schedules.{Signals, signal_at}
 use Rattle.certificate.specs.Entries.{ModuleLines, known}
 use Rattle.certificate.specs.Jobs.{JobState, IsJob, IsJobOf}
 use Rattle.local_run.specs.Faults.{IsFault, IsFaultUnder, IsKeepFault, IsLeastFault, IsLeastKeepFault, assignments}
@@ -61,6 +64,14 @@ pub record SameKeeps (j k : JobState) : Type 0 where
 
 abbrev pub JobsOfOneModuleAgreeOnKeeps : Type 0
 JobsOfOneModuleAgreeOnKeeps = (c : Circuit) (p : Pattern) (m : ModuleLines) (j k : JobState) → AreDifferent (known c m) → IsJobOf c p m j → IsJobOf c p m k → SameKeeps j k
+
+-- at each odd time below the steps these say the same of each cell of the halo as the job
+abbrev pub SayTheSame : JobState → Signals → Type 0
+SayTheSame j halos = (t : ℕ) (x y : ℤ) → t % 2 ≡ 1 → t < j.steps → IsTrue (in_halo j.area x y) → signal_at j.halos t x y ≡ signal_at halos t x y
+
+-- so the job has the same faults where they are its halos, if its stops are at times up to the last one
+abbrev pub JobsWithSameHalosAgree : Type 0
+JobsWithSameHalosAgree = (j : JobState) (halos : Signals) (f : Fault) → All (λ s. s.at.time ≤ j.steps) j.stops → SayTheSame j halos → IsFault j f → IsFault (record j { halos = halos }) f
 
 -- no cell outside the box is ever live
 abbrev pub StaysInBox : Type 0

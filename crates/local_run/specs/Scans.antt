@@ -50,7 +50,7 @@ HasRow vs (Wire w) = vs.words * w + vs.words ≤ length vs.rows.values.items
 pub record IsReady (j : JobState) (vs : Values) : Type 0 where
   pub job : IsJob j
   pub ordered : AreOrdered j.locals.netlist.given j.locals.netlist.gates
-  pub wide : (0 < vs.words) × (vs.words ≤ 16)
+  pub wide : (0 < vs.words) × (vs.words ≤ 64)
   pub count : vs.count ≡ assignments j
   pub room : vs.count ≤ 64 * vs.words
   pub long : vs.words * wires j.locals.netlist ≤ length vs.rows.values.items

@@ -1,5 +1,5 @@
 //! Laws of findings.
-ghost use Rattle.local_run.specs.Laws.{FindingsAgree, FindingsAgreeOnKeeps, NoneMeansNoFault, NoneMeansNoKeepFault, LeastFaultIsUnique, LeastKeepFaultIsUnique, UndefinedHasNoFault, FaultsAreDecided, JobsOfOneModuleAgree, JobsOfOneModuleAgreeOnKeeps, StaysInBox};
+ghost use Rattle.local_run.specs.Laws.{FindingsAgree, FindingsAgreeOnKeeps, NoneMeansNoFault, NoneMeansNoKeepFault, LeastFaultIsUnique, LeastKeepFaultIsUnique, UndefinedHasNoFault, FaultsAreDecided, JobsOfOneModuleAgree, JobsOfOneModuleAgreeOnKeeps, JobsWithSameHalosAgree, StaysInBox};
 ghost use Rattle.local_run.specs.Moves.{FaultsMoveAlong, LeastFaultMovesAlong, LeastKeepFaultStays};
 
 /// Two findings of one job have one fault, and one keep fault.
@@ -34,6 +34,11 @@ pub fn faults_are_decided()
 pub fn jobs_of_one_module_agree()
     ensures faults { JobsOfOneModuleAgree }
     ensures keeps { JobsOfOneModuleAgreeOnKeeps }
+{}
+
+/// Jobs have the same faults where they differ in their halos alone, and these say the same at each odd time below the steps.
+pub fn jobs_with_same_halos_agree()
+    ensures { JobsWithSameHalosAgree }
 {}
 
 /// No cell outside the box is ever live.

@@ -31,7 +31,7 @@ pub struct Planes {
     ghost right_long: { vec_len right ≡ words * (stride * rows) },
     ghost down_long: { vec_len down ≡ words * (stride * rows) },
     ghost even_long: { vec_len even ≡ words * (stride * rows) },
-    ghost some: { (0 < words) × (words ≤ 16) × (2 ≤ stride) × (stride ≤ 64) × (2 ≤ rows) × (rows ≤ 64) },
+    ghost some: { (0 < words) × (words ≤ 64) × (2 ≤ stride) × (stride ≤ 64) × (2 ≤ rows) × (rows ≤ 64) },
 }
 
 impl Planes {
@@ -46,7 +46,7 @@ impl Planes {
     ) -> Result<Planes, AllocError>
         requires width { (2 ≤ width) × (width ≤ 64) }
         requires height { (2 ≤ height) × (height ≤ 64) }
-        requires words { (0 < words) × (words ≤ 16) }
+        requires words { (0 < words) × (words ≤ 64) }
         ensures size { IfOk result (λ p. HasSize words (width / 2 + 1) (height / 2 + 1) p) }
     {
         let stride = width / 2 + 1;

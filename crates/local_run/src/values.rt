@@ -64,7 +64,7 @@ impl Values {
         signal: Signal,
     ) -> Option<u32>
         requires place { (x / 2 < planes.now.stride) × (y / 2 < planes.now.rows) }
-        requires words { (self.now.words ≡ planes.now.words) × (self.now.words ≤ 16) }
+        requires words { (self.now.words ≡ planes.now.words) × (self.now.words ≤ 64) }
         requires room { self.now.count ≤ 64 * self.now.words }
         requires row { HasRow self.now signal }
         requires defined { self.now.words ≤ length self.now.rows.defined.items }
@@ -91,7 +91,7 @@ impl Values {
 
     /// The least assignment under which a used gate is the first that has no row.
     pub fn first_undefined(&self, gate: usize) -> Option<u32>
-        requires words { self.now.words ≤ 16 }
+        requires words { self.now.words ≤ 64 }
         requires few { gate < 64 }
         requires room { self.now.count ≤ 64 * self.now.words }
         requires row { self.now.words * gate + self.now.words ≤ length self.now.rows.undefined.items }
@@ -113,7 +113,7 @@ impl Values {
     /// A cell, counted from the halo, becomes what the signal says.
     pub fn put(&self, planes: &mut Planes, x: usize, y: usize, signal: Signal)
         requires place { (x / 2 < planes.old.stride) × (y / 2 < planes.old.rows) }
-        requires words { (self.now.words ≡ planes.old.words) × (self.now.words ≤ 16) }
+        requires words { (self.now.words ≡ planes.old.words) × (self.now.words ≤ 64) }
         requires row { HasRow self.now signal }
         ensures { PutsCell self.now x y signal planes.old planes.new }
     {

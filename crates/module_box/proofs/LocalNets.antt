@@ -115,7 +115,7 @@ pub record IsPart (n : Netlist) (cuts gates : List ℕ) (i : ℕ) (keys : List �
   pub used : (k : ℕ) (g : Gate) → slice_get done k ≡ Some g → slice_get n.gates (slice_index gates k) ≡ Some (renumber_gate (slice_index (local_wires n cuts gates)) g)
   pub ordered : AreOrdered (length cuts) done
   pub sized : wires_after (length cuts) done ≡ length keys
-  pub few : length keys ≤ 10 + 4 * i
+  pub few : length keys ≤ 12 + 4 * i
 
 -- no gate is done: only the cuts are known
 pub part_none : (n : Netlist) (cuts gates keys : List ℕ) → AreLocalLines n cuts gates → keys ≡ cuts → IsPart n cuts gates 0 keys []

@@ -30,7 +30,7 @@ pub record IsKnown (n : Netlist) (known : List ℕ) (k : ℕ) : Type 0 where
 
 -- the most cuts of a module, and the most gates that it uses
 abbrev pub cut_limit : ℕ
-cut_limit = 10
+cut_limit = 12
 
 abbrev pub use_limit : ℕ
 use_limit = 64

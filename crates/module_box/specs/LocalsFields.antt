@@ -18,4 +18,4 @@ pub record IsLocalNet (l : Inside) : Type 0 where
   pub sized : length l.circuit_wires.keys ≡ wires (local_net l).netlist
   pub few_cuts : l.given ≤ cut_limit
   pub few_gates : length l.gates.items ≤ use_limit
-  pub few_wires : length l.circuit_wires.keys ≤ 266
+  pub few_wires : length l.circuit_wires.keys ≤ 268

@@ -14,4 +14,4 @@ pub record IsWiring (l : Inside) : Type 0 where
   pub sized : l.wires ≡ wires (wiring_net l)
   pub few_cuts : l.given ≤ cut_limit
   pub few_gates : length l.gates.items ≤ use_limit
-  pub few_wires : l.wires ≤ 266
+  pub few_wires : l.wires ≤ 268

@@ -104,7 +104,7 @@ fn add_lines(
     ensures locals { IfOk result (λ made. AreLocalsOf (netlist_of circuit.now) (record { netlist = record { given = length cuts.now; gates = map kept_gate made.items }; circuit_wires = known.new.keys; circuit_gates = gates.now })) }
     ensures wires { IfOk result (λ made. known.new.keys ≡ local_wires (netlist_of circuit.now) cuts.now gates.now) }
     ensures count { IfOk result (λ made. length made.items ≡ length gates.now) }
-    ensures few { IfOk result (λ made. length known.new.keys ≤ 266) }
+    ensures few { IfOk result (λ made. length known.new.keys ≤ 268) }
 {
     let gate_count = circuit.gates();
     add_wires(known, cuts)?;
@@ -120,7 +120,7 @@ fn add_lines(
 }
 
 impl Locals {
-    /// The wires and gates that the lines of a module name: the wires of the circuit that it cuts, at most 10, and the gates
+    /// The wires and gates that the lines of a module name: the wires of the circuit that it cuts, at most 12, and the gates
     /// that it uses, at most 64, in the order of the circuit. Each of them uses wires that are cut or that one before it
     /// defines, and no wire is cut twice, or cut and defined. `AllocError` is want of memory.
     pub fn new(
@@ -164,11 +164,11 @@ impl Locals {
         (wiring, self.circuit_wires, self.circuit_gates)
     }
 
-    /// How many wires the module knows, at most 266: 10 cuts, and 4 wires of each of 64 gates.
+    /// How many wires the module knows, at most 268: 12 cuts, and 4 wires of each of 64 gates.
     pub fn wires(&self) -> usize
         ensures count { result ≡ length self.now.circuit_wires }
         ensures sized { result ≡ wires self.now.netlist }
-        ensures few { result ≤ 266 }
+        ensures few { result ≤ 268 }
     {
         self.circuit_wires.len()
     }

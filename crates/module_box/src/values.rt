@@ -167,8 +167,8 @@ fn first_with(words: &[u64], place: u32) -> Option<usize>
 
 // Writes the words into rows of `words` words each, one into each row.
 fn put_column(rows: &mut [u64], words: usize, place: usize, column: &[u64])
-    requires few { words ≤ 16 }
-    requires short { length column.now ≤ 266 }
+    requires few { words ≤ 64 }
+    requires short { length column.now ≤ 268 }
     requires place { place < words }
     requires long { length rows.old ≡ words * length column.now }
     ensures long { length rows.new ≡ length rows.old }
@@ -213,20 +213,20 @@ pub struct ValueRows {
 }
 
 impl Wiring {
-    /// How many wires are given: those that the module cuts, at most 10. They are its first wires, and each gate uses wires that
+    /// How many wires are given: those that the module cuts, at most 12. They are its first wires, and each gate uses wires that
     /// are given or that a gate before it defines.
     pub fn cuts(&self) -> usize
         ensures count { result ≡ self.now.given }
-        ensures few { result ≤ 10 }
+        ensures few { result ≤ 12 }
         ensures ordered { AreOrdered self.now.given self.now.gates }
     {
         self.given
     }
 
-    /// How many wires there are, at most 266: 10 cuts, and 4 wires of each of 64 gates.
+    /// How many wires there are, at most 268: 12 cuts, and 4 wires of each of 64 gates.
     pub fn wires(&self) -> usize
         ensures sized { result ≡ wires self.now }
-        ensures few { result ≤ 266 }
+        ensures few { result ≤ 268 }
     {
         self.wires
     }
@@ -270,7 +270,7 @@ impl Wiring {
     /// The values of all wires under the assignments below `64 * words`, where `words` is at most 16, and the gates that have no
     /// row: rows of `words` words. `AllocError` is want of memory.
     pub fn value_rows(&self, alloc: Global, words: usize) -> Result<ValueRows, AllocError>
-        requires { words ≤ 16 }
+        requires { words ≤ 64 }
         ensures { IfOk result (λ rows. AreValueRows self.now words rows) }
     {
         let mut values = vec![in alloc; 0; words * self.wires()]?;

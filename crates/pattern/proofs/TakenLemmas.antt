@@ -21,7 +21,7 @@ use Rattle.pattern.proofs.Added.{no_code, begun_push, ended_push}
 pub record IsSized (s : Extent) : Type 0 where
   pub width : (2 ≤ s.w) × (s.w ≤ 512) × (s.w % 2 ≡ 0)
   pub height : (2 ≤ s.h) × (s.h ≤ 512) × (s.h % 2 ≡ 0)
-  pub steps : s.steps ≤ 4096
+  pub steps : s.steps ≤ 65536
 
 all_three : (a b c : Bool) → not (a && b && c) ≡ false → (a ≡ true) × (b ≡ true) × (c ≡ true)
 all_three true true true e = (refl, refl, refl)
@@ -35,7 +35,7 @@ side n e = grind (arith, nat_tests)
 pub is_sized : (s : Extent) → size_fault s ≡ None → IsSized s
 unfolding size_fault
 is_sized s e =
-    let good = all_three (is_side s.w) (is_side s.h) (nat_le s.steps 4096) (no_code _ 2 e) in
+    let good = all_three (is_side s.w) (is_side s.h) (nat_le s.steps 65536) (no_code _ 2 e) in
     record { width = side s.w good.0; height = side s.h good.1; steps = grind (arith, nat_tests, good.2) }
 
 -- ---- cells that lie inside

@@ -17,9 +17,9 @@ use Rattle.pattern.specs.Layout.{in_layout, rectangle_cells}
 abbrev pub is_side : ℕ → Bool
 is_side n = nat_le 2 n && nat_le n 512 && (n % 2 == 0)
 
--- width and height even, 2 to 512; at most 4096 steps
+-- width and height even, 2 to 512; at most 65,536 steps
 unfoldable pub size_fault : Extent → Option ℕ
-size_fault s = code_where (not (is_side s.w && is_side s.h && nat_le s.steps 4096)) past_limit
+size_fault s = code_where (not (is_side s.w && is_side s.h && nat_le s.steps 65536)) past_limit
 
 abbrev pub is_mirror_side : ℕ → Bool
 is_mirror_side n = nat_le 1 n && nat_le n 512

@@ -10,7 +10,7 @@ use std::marker::Model;
 
 /// A layout: a rectangle of cells, and what stands in it. Contracts see its size and its lists, as a `Pattern`.
 ///
-/// Width and height are even, 2 to 512; the steps are at most 4096. All cells lie inside. Mirrors, balls and
+/// Width and height are even, 2 to 512; the steps are at most 65,536. All cells lie inside. Mirrors, balls and
 /// input cells share no cell; mirrors, output cells and waste cells share no cell.
 #[derive(Drop)]
 pub struct Layout {
@@ -96,7 +96,7 @@ impl Layout {
         Ok(())
     }
 
-    /// The width and the height, in cells, and the steps: even sides of 2 to 512, and at most 4096 steps.
+    /// The width and the height, in cells, and the steps: even sides of 2 to 512, and at most 65,536 steps.
     pub fn size(&self) -> Extent
         ensures size { result ≡ self.now.size }
         ensures limits { size_fault result ≡ None }

@@ -24,7 +24,7 @@ pub struct Port {
 }
 
 /// The first line of a layout: its width and its height in cells, and how many steps it runs. In a layout the sides are
-/// even, 2 to 512, and the steps are at most 4096.
+/// even, 2 to 512, and the steps are at most 65,536.
 #[derive(Clone, Copy, Debug, PartialEq, Eq)]
 pub struct Extent {
     pub w: u32,
@@ -72,7 +72,7 @@ impl Extent {
     pub(crate) fn limit_code(self) -> Option<u8>
         ensures { result ≡ size_fault self }
     {
-        if is_even_side(self.w) && is_even_side(self.h) && self.steps <= 4096 {
+        if is_even_side(self.w) && is_even_side(self.h) && self.steps <= 65_536 {
             None
         } else {
             Some(2)

@@ -8,7 +8,7 @@ use Rattle.section_text.specs.Spelling.{line_text}
 use Rattle.section_text.specs.declared.fault.Refusal.{Refusal}
 use Rattle.circuit.specs.Bridge.{circuit_of}
 use Rattle.certificate.specs.Entries.{modules_of}
-use Rattle.certificate.specs.Grammars.{CertState}
+use Rattle.certificate.specs.Grammars.{CertState, modules_in}
 use Rattle.certificate.specs.Text.{certificate_text}
 use Rattle.certificate.specs.Times.{time_lines}
 use Rattle.certificate.specs.declared.times.Gap.{Gap}
@@ -80,4 +80,4 @@ opening_lines digest modules =
 
 -- the report on a certificate
 unfoldable pub report_lines : CertState → Verdict → List ℕ
-report_lines c v = opening_lines (sha256 (certificate_text c)) (length (modules_of c.entries)) ++ verdict_lines (time_lines (circuit_of c.circuit) (modules_of c.entries)) v
+report_lines c v = opening_lines (sha256 (certificate_text c)) (length (modules_of c.entries)) ++ verdict_lines (time_lines (circuit_of c.circuit) (modules_in c)) v

@@ -5,7 +5,7 @@ ghost use Rattle.std.specs.String.{string_bytes};
 ghost use Rattle.audit_core.specs.declared.verdict.ReportLine.TheVariants.{Border, Delay, Keep, Local, Meet, Unkept};
 ghost use Rattle.audit_core.specs.Verdicts.{timing};
 ghost use Rattle.certificate.specs.Times.{time_lines};
-ghost use Rattle.certificate.specs.Entries.{modules_of};
+ghost use Rattle.certificate.specs.Grammars.{modules_in};
 ghost use Rattle.circuit.specs.Bridge.{circuit_of};
 ghost use Rattle.report.specs.ReportText.{fault_line, kind_word, opening_lines, refusal_line, report_lines, verdict_lines};
 
@@ -53,7 +53,7 @@ fn print_verdict(
     cert: &Cert<'_>,
     verdict: &Verdict,
 ) -> Result<(), AllocError>
-    ensures { OnOk result (text.new.items ≡ text.old.items ++ verdict_lines (time_lines (circuit_of cert.now.circuit) (modules_of cert.now.entries)) verdict.now) }
+    ensures { OnOk result (text.new.items ≡ text.old.items ++ verdict_lines (time_lines (circuit_of cert.now.circuit) (modules_in cert.now)) verdict.now) }
 {
     match verdict {
         Verdict::Yes => {

@@ -1,17 +1,34 @@
-use Rattle.std.proofs.Common.{◌≡◌, ◌∙◌, sym, ap, subst, map, Some, arith}
-use Rattle.std.specs.Prelude.{slice_get}
+use Rattle.std.proofs.Common.{◌≡◌, ◌∙◌, ℕ, List, sym, ap, subst, map, replicate, None, Some, arith}
+use Rattle.std.specs.Prelude.{slice_get, IfOk, Result, Ok, Err}
 use Rattle.std.specs.Arc.{arc_value}
 use Rattle.pattern.specs.declared.parts.Extent.{Extent}
-use Rattle.certificate.specs.Entries.{modules_of}
-use Rattle.certificate.specs.Grammars.{setting_of}
+use Rattle.certificate.specs.Entries.{ModuleLines, modules_of}
+use Rattle.certificate.specs.Grammars.{modules_in, setting_of}
 use Rattle.certificate.specs.Rules.{whole}
-use Rattle.border_match.specs.BorderFaults.{IsLeastBorderFault}
+use Rattle.certificate.specs.Versions.{meant, with_halos}
+use Rattle.border_match.specs.BorderFaults.{AreBorderFaultsOf, IsLeastBorderFault}
 use Rattle.border_match.specs.Boards.{IsBoard, IsJobFault}
 use Rattle.border_match.specs.Candidates.{IsLeast}
 use Rattle.border_match.proofs.Bridge.{board, quiet_job, least_by_lines}
 use Rattle.border_match.proofs.Cells.{job_at}
 use Rattle.border_match.proofs.Modules.{pushed_more}
+use Rattle.border_match.proofs.Haloless.{none_for_each}
 use Rattle.border_match.proofs.matching.match_borders.Goals as goal
+
+told : {X E : Type 0} {P Q : X → Type 0} (r : Result X E) → ((x : X) → P x → Q x) → IfOk r P → IfOk r Q
+told (Ok x) f p = f x p
+told (Err e) f p = p
+
+pub returns-then-version-eq2 : goal.returns-then-version-eq2
+unfolding meant
+returns-then-version-eq2 c =
+    let s = c.args.cert.now in
+    let g = setting_of s.circuit s.layout in
+    let own = modules_of s.entries in
+    let second : s.version ≡ 2 = sym c.version.ensures.version ∙ c.if-version-eq2.true in
+    let meant_so : modules_in s ≡ map (with_halos g own) own = ap (λ (v : ℕ). meant v g own) second in
+    told c.no_faults.result (λ faults e. subst (λ (ms : List ModuleLines). AreBorderFaultsOf g ms faults.items) (sym meant_so)
+        (subst (AreBorderFaultsOf g (map (with_halos g own) own)) (sym (e ∙ ap (λ n. replicate n None) c.modules-count.ensures.count)) (none_for_each g own c.modules-count.ensures.written))) c.no_faults.ensures
 
 pub least_fault-requires : goal.least_fault-requires
 least_fault-requires c =
@@ -21,8 +38,8 @@ least_fault-requires c =
     let good = c.modules-count.ensures.good in
     let got : slice_get js c.jobs.job-index ≡ Some c.deref.result.now = job_at arc_value c.args.jobs.now c.jobs.job-index _ c.deref.result.now c.jobs-test.true (c.deref.ensures ∙ ap arc_value c.job-item.is) in (
       subst (λ (z : Extent). IsBoard (whole z) o js) (sym c.size-size.ensures.size)
-          (board s.circuit s.layout (modules_of s.entries) js o good c.requires c.in_ok-owners.ensures.owners c.in_ok-owners.ensures.width c.in_ok-owners.ensures.height),
-      quiet_job s.circuit s.layout (modules_of s.entries) js o good c.requires c.in_ok-owners.ensures.owners c.in_ok-owners.ensures.width c.in_ok-owners.ensures.height c.jobs.job-index c.deref.result.now got,
+          (board s.circuit s.layout (modules_in s) js o good c.requires c.in_ok-owners.ensures.owners c.in_ok-owners.ensures.width c.in_ok-owners.ensures.height),
+      quiet_job s.circuit s.layout (modules_in s) js o good c.requires c.in_ok-owners.ensures.owners c.in_ok-owners.ensures.width c.in_ok-owners.ensures.height c.jobs.job-index c.deref.result.now got,
     )
 
 pub jobs-preserved : goal.jobs-preserved
@@ -34,7 +51,7 @@ jobs-preserved c =
     let got : slice_get js c.jobs.job-index ≡ Some c.deref.result.now = job_at arc_value c.args.jobs.now c.jobs.job-index _ c.deref.result.now c.jobs-test.true (c.deref.ensures ∙ ap arc_value c.job-item.is) in
     let found : IsLeast (IsJobFault (whole s.layout.size) o js c.deref.result.now) c.least_fault.result =
     subst (λ (z : Extent). IsLeast (IsJobFault (whole z) o js c.deref.result.now) c.least_fault.result) c.size-size.ensures.size c.least_fault.ensures in
-    let least = least_by_lines s.circuit s.layout (modules_of s.entries) js o good c.requires c.in_ok-owners.ensures.owners c.in_ok-owners.ensures.width c.in_ok-owners.ensures.height c.jobs.job-index c.deref.result.now c.least_fault.result got found in (
+    let least = least_by_lines s.circuit s.layout (modules_in s) js o good c.requires c.in_ok-owners.ensures.owners c.in_ok-owners.ensures.width c.in_ok-owners.ensures.height c.jobs.job-index c.deref.result.now c.least_fault.result got found in (
       omega (arith, c.in_ok-push.ensures.len, c.jobs.invariant.0),
-      pushed_more (IsLeastBorderFault (setting_of s.circuit s.layout) (modules_of s.entries)) c.jobs.faults.items _ c.jobs.job-index c.least_fault.result (omega (arith, c.jobs.faults.ok, c.jobs.invariant.0)) c.in_ok-push.ensures.items c.jobs.invariant.1 least,
+      pushed_more (IsLeastBorderFault (setting_of s.circuit s.layout) (modules_in s)) c.jobs.faults.items _ c.jobs.job-index c.least_fault.result (omega (arith, c.jobs.faults.ok, c.jobs.invariant.0)) c.in_ok-push.ensures.items c.jobs.invariant.1 least,
     )

@@ -1,7 +1,6 @@
 use Rattle.std.proofs.Common.{◌≡◌, ℕ, vec_len}
 use Rattle.std.specs.Prelude.{slice_get, Option, Some}
-use Rattle.certificate.specs.Entries.{modules_of}
-use Rattle.certificate.specs.Grammars.{setting_of}
+use Rattle.certificate.specs.Grammars.{modules_in, setting_of}
 use Rattle.border_match.specs.BorderFaults.{IsLeastBorderFault}
 use Rattle.border_match.specs.declared.fault.BorderFault.{BorderFault}
 use Rattle.border_match.proofs.matching.match_borders.Given as goal
@@ -9,4 +8,4 @@ use Rattle.border_match.proofs.matching.match_borders.Given as goal
 -- The modules before have their faults.
 abbrev pub invariant-jobs : goal.invariant-jobs
 invariant-jobs l = (vec_len l.faults ≡ l.job-index)
-    × ((i : ℕ) (f : Option BorderFault) → slice_get l.faults.items i ≡ Some f → IsLeastBorderFault (setting_of l.cert.circuit l.cert.layout) (modules_of l.cert.entries) i f)
+    × ((i : ℕ) (f : Option BorderFault) → slice_get l.faults.items i ≡ Some f → IsLeastBorderFault (setting_of l.cert.circuit l.cert.layout) (modules_in l.cert) i f)

@@ -3,12 +3,13 @@ use Rattle.std.specs.Prelude.{List}
 use Rattle.std.proofs.lemmas.Bool.{false≢true}
 use Rattle.pattern.specs.declared.parts.Extent.{Extent}
 use Rattle.module_box.specs.Boxes.{Tile}
-use Rattle.module_box.specs.Tiling.{rectangle_of}
+use Rattle.module_box.specs.Tiling.{AreOwners, rectangle_of}
 use Rattle.module_box.specs.declared.boxes.Box2.{Box2}
 use Rattle.module_box.specs.declared.tile.TileFault.TheVariants.{Memory}
 use Rattle.certificate.specs.Entries.{modules_of}
-use Rattle.certificate.specs.Grammars.{setting_of}
+use Rattle.certificate.specs.Grammars.{modules_in, setting_of}
 use Rattle.certificate.specs.Rules.{whole}
+use Rattle.certificate.proofs.FullModules.{meant_areas}
 use Rattle.border_match.proofs.Modules.{is_task, only_memory}
 use Rattle.border_match.proofs.matching.owners_of.Goals.{in-Memory, in_default}
 use Rattle.border_match.proofs.matching.owners_of.Goals as goal
@@ -16,15 +17,15 @@ use Rattle.border_match.proofs.matching.owners_of.Goals as goal
 pub owner_table-requires : goal.owner_table-requires
 owner_table-requires c =
     let s = c.args.cert.now in
-    is_task (setting_of s.circuit s.layout) (modules_of s.entries) c.size-size.result c.deref.result.now c.size-size.ensures.size c.size-size.ensures.limits c.modules-count.ensures.good (c.deref.ensures.value ∙ c.in_ok-areas.ensures)
+    is_task (setting_of s.circuit s.layout) (modules_in s) c.size-size.result c.deref.result.now c.size-size.ensures.size c.size-size.ensures.limits c.modules-count.ensures.good (c.deref.ensures.value ∙ c.in_ok-areas.ensures ∙ sym (meant_areas s.version (setting_of s.circuit s.layout) (modules_of s.entries)))
 
 pub prove-unreachable-requires : goal.prove-unreachable-requires
 prove-unreachable-requires c =
     let s = c.args.cert.now in
     let size = c.size-size.result in
     let good = c.modules-count.ensures.good in
-    let boxes_are = c.deref.ensures.value ∙ c.in_ok-areas.ensures in
-    let task = is_task (setting_of s.circuit s.layout) (modules_of s.entries) size c.deref.result.now c.size-size.ensures.size c.size-size.ensures.limits good boxes_are in
+    let boxes_are = c.deref.ensures.value ∙ c.in_ok-areas.ensures ∙ sym (meant_areas s.version (setting_of s.circuit s.layout) (modules_of s.entries)) in
+    let task = is_task (setting_of s.circuit s.layout) (modules_in s) size c.deref.result.now c.size-size.ensures.size c.size-size.ensures.limits good boxes_are in
     let tile : Tile (rectangle_of size.w size.h) c.deref.result.now =
     subst (λ (z : Extent). Tile (whole z) c.deref.result.now) (sym c.size-size.ensures.size) (subst (λ (bs : List Box2). Tile (whole s.layout.size) bs) (sym boxes_are) good.tile) in
     let memory : c.in-Err.fault ≡ Memory = only_memory size.w size.h c.deref.result.now c.in-Err.fault task c.in-Err.ensures tile in
@@ -32,3 +33,8 @@ prove-unreachable-requires c =
       | in-Memory w ↦ false≢true (sym c.if-prove.true ∙ w.matches-is)
       | in_default w ↦ w.in_default.not-Memory memory
     ]
+
+pub returns-in-Ok-clause-owners : goal.returns-in-Ok-clause-owners
+returns-in-Ok-clause-owners c =
+    let s = c.args.cert.now in
+    subst (AreOwners c.in-Ok.owners) (c.deref.ensures.value ∙ c.in_ok-areas.ensures ∙ sym (meant_areas s.version (setting_of s.circuit s.layout) (modules_of s.entries))) c.in-Ok.ensures.2

@@ -3,7 +3,7 @@ use Rattle.std.specs.List.{flat_map}
 use Rattle.std.specs.Result.{OnOk}
 use Rattle.section_text.specs.Spelling.{line_text}
 use Rattle.circuit.specs.Bridge.{circuit_of}
-use Rattle.certificate.specs.Entries.{modules_of}
+use Rattle.certificate.specs.Grammars.{modules_in}
 use Rattle.certificate.specs.Times.{time_lines}
 use Rattle.certificate.specs.declared.times.TimeLine.{TimeLine}
 use Rattle.audit_core.specs.Verdicts.{timing}
@@ -16,7 +16,7 @@ returns-in_ok-times-in-Yes c =
     let old = c.args.text.now.items in
     let yes : List ℕ = line_text (codes "verdict") (codes "yes" ∷ []) in
     let lines : List TimeLine → List ℕ = λ ts. flat_map (λ t. fault_line (timing t)) ts in
-    let times = time_lines (circuit_of c.args.cert.now.circuit) (modules_of c.args.cert.now.entries) in
+    let times = time_lines (circuit_of c.args.cert.now.circuit) (modules_in c.args.cert.now) in
     subst (λ xs. OnOk c.print_times.result (c.print_times.new.text.items ≡ xs))
     (ap₂ (λ xs ts. xs ++ lines ts) c.in_ok-extend_from_slice-in-Yes.ensures.items (c.deref.ensures.value ∙ c.in_ok-times-in-Yes.ensures)
     ∙ append_assoc old yes (lines times) ∙ ap (λ (v : Verdict). old ++ verdict_lines times v) (sym c.in-Yes.is)) c.print_times.ensures

@@ -9,6 +9,7 @@ use Rattle.certificate.specs.Grammars.{setting_of}
 use Rattle.certificate.specs.Keeps.{is_kept, unkept}
 use Rattle.certificate.specs.declared.entry.Entry.{Entry}
 use Rattle.certificate.proofs.KeepLemmas.{unkept_more, unkept_all}
+use Rattle.certificate.proofs.MeantLines.{unkept_meant}
 use Rattle.certificate.proofs.cert.Cert.unkept.Goals as goal
 
 pub gates-preserved : goal.gates-preserved
@@ -30,3 +31,4 @@ returns c =
     let same = ap (λ s. s.circuit) c.self.view_is in
     let count : c.gates-count.result ≡ length (netlist_of s.circuit).gates = c.gates-count.ensures.count ∙ ap (λ (l : List CircuitLine). length (netlist_of l).gates) same in
     unkept_all (unkept (setting_of s.circuit s.layout) (modules_of s.entries)) c.gates.gates.items (modules_of s.entries) (netlist_of s.circuit).gates c.gates.number (let test = c.gates-test.false in omega (arith, test, count)) c.gates.invariant
+    ∙ sym (unkept_meant s.version (setting_of s.circuit s.layout) (modules_of s.entries))

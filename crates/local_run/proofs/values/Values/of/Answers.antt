@@ -8,13 +8,13 @@ use Rattle.local_run.specs.Faults.{assignments}
 use Rattle.local_run.proofs.values.Values.of.Goals as goal
 
 -- so many cuts have so many assignments, and these so many words
-shifted : (n : ℕ) → n ≤ 10 → 1 * 2 ^ n % 18446744073709551616 ≡ 2 ^ n
+shifted : (n : ℕ) → n ≤ 12 → 1 * 2 ^ n % 18446744073709551616 ≡ 2 ^ n
 shifted n few = omega (arith, pow_mono few)
 
-enough : (n w : ℕ) → n ≤ 10 → w ≡ div_ceil (1 * 2 ^ n % 18446744073709551616) 64 → (0 < w) × (w ≤ 16) × (1 * 2 ^ n % 18446744073709551616 ≤ 64 * w)
+enough : (n w : ℕ) → n ≤ 12 → w ≡ div_ceil (1 * 2 ^ n % 18446744073709551616) 64 → (0 < w) × (w ≤ 64) × (1 * 2 ^ n % 18446744073709551616 ≤ 64 * w)
 enough n w few e = by_size (1 * 2 ^ n % 18446744073709551616) (omega (arith, shifted n few, pow_pos n)) (omega (arith, shifted n few, pow_mono few)) e
   where
-    by_size : (m : ℕ) → 0 < m → m ≤ 1024 → w ≡ div_ceil m 64 → (0 < w) × (w ≤ 16) × (m ≤ 64 * w)
+    by_size : (m : ℕ) → 0 < m → m ≤ 4096 → w ≡ div_ceil m 64 → (0 < w) × (w ≤ 64) × (m ≤ 64 * w)
     by_size m some small h = (omega (arith, h), omega (arith, h), omega (arith, h))
 
 pub value_rows-requires : goal.value_rows-requires

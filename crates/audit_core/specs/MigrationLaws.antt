@@ -1,0 +1,35 @@
+-- What is accepted with its halo lines is accepted without them
+use Rattle.std.specs.Prelude.{◌≡◌, false, List, map}
+use Rattle.circuit.specs.Bridge.{circuit_of}
+use Rattle.circuit.specs.declared.entry.Entry.{Entry}
+use Rattle.pattern.specs.Layout.{Pattern}
+use Rattle.certificate.specs.Entries.{ModuleLines}
+use Rattle.certificate.specs.Grammars.{CertState, migrated, setting_of}
+use Rattle.certificate.specs.Jobs.{JobState, AreJobsOf}
+use Rattle.certificate.specs.Laws.{IsSectionOf}
+use Rattle.certificate.specs.Modules.{AreModules}
+use Rattle.certificate.specs.Versions.{lacks_wire, with_halos}
+use Rattle.audit_core.specs.Concluding.{AreOwnJobs, modules, setting}
+use Rattle.audit_core.specs.Verdicts.{Accepts}
+
+-- The modules and their jobs are accepted. Then no edge line names a wire that a module beside it lacks, and with the edge lines beside
+-- them in the place of their own halo lines the modules are accepted too.
+pub record IsAcceptedWithout (lines : List Entry) (p : Pattern) (ms : List ModuleLines) : Type 0 where
+  pub complete : lacks_wire (setting_of lines p) ms ≡ false
+  pub accepted : (jobs : List JobState) → AreJobsOf (circuit_of lines) p (map (with_halos (setting_of lines p) ms) ms) jobs →
+      Accepts (setting_of lines p) (map (with_halos (setting_of lines p) ms) ms) jobs
+
+abbrev pub AcceptedWithoutHalos : Type 0
+AcceptedWithoutHalos = (lines : List Entry) (p : Pattern) (ms : List ModuleLines) (jobs : List JobState) → AreModules (setting_of lines p) ms →
+    AreJobsOf (circuit_of lines) p ms jobs → Accepts (setting_of lines p) ms jobs → IsAcceptedWithout lines p ms
+
+-- ---- certificates
+
+-- A certificate without its halo lines is one of version 2, and its modules are accepted.
+pub record IsAcceptedMigration (c : CertState) : Type 0 where
+  pub section : IsSectionOf (setting c) 2 (migrated c).entries
+  pub accepted : (jobs : List JobState) → AreOwnJobs (migrated c) jobs → Accepts (setting c) (modules (migrated c)) jobs
+
+-- what version 1 accepts, its migration accepts
+abbrev pub MigrationIsAccepted : Type 0
+MigrationIsAccepted = (c : CertState) (jobs : List JobState) → c.version ≡ 1 → IsSectionOf (setting c) 1 c.entries → AreOwnJobs c jobs → Accepts (setting c) (modules c) jobs → IsAcceptedMigration c

@@ -1,0 +1,519 @@
+-- The modules of version 2 as modules of version 1
+use Rattle.std.proofs.Common.{◌≡◌, ◌⊎◌, ℕ, zero, suc, ◌+◌, ◌<◌, ◌≤◌, ℤ, Bool, true, false, not, ◌&&◌, ◌||◌, if◌then◌else◌, List, [], ◌∷◌, ◌++◌, map, length, Option, Some, None, Ordering, Less, Equal, Greater, option_map, refl, sym, ap, ap₂, subst, ◌∙◌, inl, inr, arith}
+use Rattle.std.specs.Prelude.{◌≢◌, slice_get, nat_lt, IfSome, IsTrue}
+use Rattle.std.specs.List.{All, filter, flat_map, list_all, list_any}
+use Rattle.std.specs.Option.{option_to_list}
+use Rattle.std.specs.Ordering.{is_lt, ordering_then, nat_cmp}
+use Rattle.std.proofs.lemmas.Bool.{and_parts, cases_Bool, cond-true, cond-false, true≢false}
+use Rattle.std.proofs.lemmas.Bool.Decides.{nat_tests}
+use Rattle.std.proofs.lemmas.Grind.{flat_map-append}
+use Rattle.std.proofs.lemmas.List.{length-map}
+use Rattle.std.proofs.lemmas.List.Elements.{All-nil, All-cons}
+use Rattle.std.proofs.lemmas.Option.{slice_get-map, slice_get_within}
+use Rattle.bbm_rule.specs.declared.block.Cell.{Cell}
+use Rattle.circuit.specs.Meaning.{Circuit, wire_of}
+use Rattle.pattern.specs.declared.parts.Port.{Port}
+use Rattle.module_box.specs.Boxes.{in_box, in_halo, in_ring, some_neighbour, Tile}
+use Rattle.module_box.specs.Locals.{AreLocalLines, local_wires}
+use Rattle.module_box.specs.Moments.{cell_cmp}
+use Rattle.module_box.specs.declared.boxes.Box2.{Box2}
+use Rattle.module_box.proofs.Rising.{cell_exact}
+use Rattle.certificate.specs.Entries.{Setting, ModuleLines, areas, cut_in, use_in, keep_in, edge_in, halo_in, stop_in, cuts, gates, keeps, edges, halos, stops, known, cut_wires}
+use Rattle.certificate.specs.Modules.{AreModules, AreUnstarred, HasPorts, IsBorder, IsEdge, IsHalo, IsKeep, IsModule, IsStop}
+use Rattle.certificate.specs.Orders.{AreInOrder, cell_of, is_cut, line_cmp, may_precede, number_of, rank_of, time_rank}
+use Rattle.certificate.specs.Rules.{is_local, whole}
+use Rattle.certificate.specs.Versions.{beside, in_order, is_early, is_halo, is_haloless, is_strange, lacks_wire, line_order, meant, with_halos, without_halos}
+use Rattle.certificate.specs.declared.entry.Border.{Border}
+use Rattle.certificate.specs.declared.entry.Entry.{Entry}
+use Rattle.certificate.specs.declared.entry.StopLine.{StopLine}
+use Rattle.certificate.specs.declared.entry.Entry.TheVariants.{Module, Cut, Use, Keep, Edge, Halo, Stop}
+use Rattle.certificate.proofs.BorderOrder.{Before, edges_rise, pairs_of_order}
+use Rattle.certificate.proofs.LineOrder.{AreDistinct, In, Rises, each_in, filter_in, flat_in, in_each, in_filter, in_flat, in_ordered, line_total, ordered_in, ordered_rises, pairs_filter, pairs_each, rising_distinct, rising_same}
+use Rattle.certificate.proofs.Lists.{any_at, or_parts, passed, some_is}
+use Rattle.certificate.proofs.Pairs.{Each, Pairs, each_append, each_map, each_of_all, pairs_append}
+
+-- ---- lists
+
+pub all_of_each : {A : Type 0} (P : A → Type 0) (xs : List A) → Each P xs → All P xs
+unfolding Each
+all_of_each P [] e = All-nil P
+all_of_each P (x ∷ xs) e = All-cons P x xs e.0 (all_of_each P xs e.1)
+
+pub all_in : {A : Type 0} (P : A → Type 0) (xs : List A) → All P xs → (x : A) → In x xs → P x
+all_in P xs all x i = each_in P xs (each_of_all P xs all) x i
+
+pub in_all : {A : Type 0} (P : A → Type 0) (xs : List A) → ((x : A) → In x xs → P x) → All P xs
+in_all P xs h = all_of_each P xs (in_each P xs h)
+
+-- where an element of a list stands
+pub placed : {A : Type 0} (x : A) (xs : List A) → In x xs → (k : ℕ) × (slice_get xs k ≡ Some x)
+unfolding In
+placed x [] i = absurd i
+placed x (y ∷ ys) (inl same) = (0, ap Some same)
+placed x (y ∷ ys) (inr later) = let r = placed x ys later in (suc r.0, r.1)
+
+pub stands : {A : Type 0} (xs : List A) (k : ℕ) (x : A) → slice_get xs k ≡ Some x → In x xs
+unfolding In
+stands [] k x e = absurd cc
+stands (y ∷ ys) zero x e = inl (some_is y x e)
+stands (y ∷ ys) (suc k) x e = inr (stands ys k x e)
+
+-- what holds of each two elements by their places
+pub pairs_by_place : {A : Type 0} (R : A → A → Type 0) (xs : List A) →
+    ((i j : ℕ) (a b : A) → i < j → slice_get xs i ≡ Some a → slice_get xs j ≡ Some b → R a b) → Pairs R xs
+unfolding Pairs
+pairs_by_place R [] h = tt
+pairs_by_place R (x ∷ xs) h = (
+  in_each (R x) xs (λ y i. let p = placed y xs i in h 0 (suc p.0) x y (omega arith) refl p.1),
+  pairs_by_place R xs (λ i j a b lt e f. h (suc i) (suc j) a b (omega (arith, lt)) e f),
+)
+
+from_some : {X Y : Type 0} (f : X → Y) (o : Option X) (y : Y) → option_map f o ≡ Some y → (x : X) × (o ≡ Some x) × (f x ≡ y)
+from_some f None y e = absurd cc
+from_some f (Some x) y e = (x, refl, some_is (f x) y e)
+
+-- what an element of a mapped list was
+pub mapped_from : {X Y : Type 0} (f : X → Y) (xs : List X) (k : ℕ) (y : Y) → slice_get (map f xs) k ≡ Some y → (x : X) × (slice_get xs k ≡ Some x) × (f x ≡ y)
+mapped_from f xs k y e = from_some f (slice_get xs k) y (sym (slice_get-map f xs k) ∙ e)
+
+pub mapped_at : {X Y : Type 0} (f : X → Y) (xs : List X) (k : ℕ) (x : X) → slice_get xs k ≡ Some x → slice_get (map f xs) k ≡ Some (f x)
+mapped_at f xs k x e = slice_get-map f xs k ∙ ap (option_map f) e
+
+-- ---- the lines of a module with other halo lines
+
+-- what lines other than halo lines say is said without these
+pub without_same : {X : Type 0} (f : Entry → List X) → ((e : Border) → f (Halo e) ≡ []) → (lines : List Entry) → flat_map f (without_halos lines) ≡ flat_map f lines
+unfolding without_halos is_halo
+without_same f none [] = refl
+without_same f none (Module b ∷ lines) = ap (λ xs. f (Module b) ++ xs) (without_same f none lines)
+without_same f none (Cut n ∷ lines) = ap (λ xs. f (Cut n) ++ xs) (without_same f none lines)
+without_same f none (Use k ∷ lines) = ap (λ xs. f (Use k) ++ xs) (without_same f none lines)
+without_same f none (Keep k ∷ lines) = ap (λ xs. f (Keep k) ++ xs) (without_same f none lines)
+without_same f none (Edge e ∷ lines) = ap (λ xs. f (Edge e) ++ xs) (without_same f none lines)
+without_same f none (Halo e ∷ lines) = without_same f none lines ∙ ap (λ xs. xs ++ flat_map f lines) (sym (none e))
+without_same f none (Stop s ∷ lines) = ap (λ xs. f (Stop s) ++ xs) (without_same f none lines)
+
+pub no_halo_left : (lines : List Entry) → flat_map halo_in (without_halos lines) ≡ []
+unfolding without_halos is_halo
+no_halo_left [] = refl
+no_halo_left (Module b ∷ lines) = no_halo_left lines
+no_halo_left (Cut n ∷ lines) = no_halo_left lines
+no_halo_left (Use k ∷ lines) = no_halo_left lines
+no_halo_left (Keep k ∷ lines) = no_halo_left lines
+no_halo_left (Edge e ∷ lines) = no_halo_left lines
+no_halo_left (Halo e ∷ lines) = no_halo_left lines
+no_halo_left (Stop s ∷ lines) = no_halo_left lines
+
+-- a function of lines that finds nothing in halo lines and stops
+pub record IsOfEarly {X : Type 0} (f : Entry → List X) : Type 0 where
+  pub halo : (e : Border) → f (Halo e) ≡ []
+  pub stop : (s : StopLine) → f (Stop s) ≡ []
+
+-- finds all that it finds in the early lines
+early_same : {X : Type 0} (f : Entry → List X) → IsOfEarly f → (lines : List Entry) → flat_map f (filter is_early lines) ≡ flat_map f lines
+unfolding is_early
+early_same f none [] = refl
+early_same f none (Module b ∷ lines) = ap (λ xs. f (Module b) ++ xs) (early_same f none lines)
+early_same f none (Cut n ∷ lines) = ap (λ xs. f (Cut n) ++ xs) (early_same f none lines)
+early_same f none (Use k ∷ lines) = ap (λ xs. f (Use k) ++ xs) (early_same f none lines)
+early_same f none (Keep k ∷ lines) = ap (λ xs. f (Keep k) ++ xs) (early_same f none lines)
+early_same f none (Edge e ∷ lines) = ap (λ xs. f (Edge e) ++ xs) (early_same f none lines)
+early_same f none (Halo e ∷ lines) = early_same f none lines ∙ ap (λ xs. xs ++ flat_map f lines) (sym (none.halo e))
+early_same f none (Stop s ∷ lines) = early_same f none lines ∙ ap (λ xs. xs ++ flat_map f lines) (sym (none.stop s))
+
+-- the early lines have neither halo lines nor stops
+early_halos : (lines : List Entry) → flat_map halo_in (filter is_early lines) ≡ []
+unfolding is_early
+early_halos [] = refl
+early_halos (Module b ∷ lines) = early_halos lines
+early_halos (Cut n ∷ lines) = early_halos lines
+early_halos (Use k ∷ lines) = early_halos lines
+early_halos (Keep k ∷ lines) = early_halos lines
+early_halos (Edge e ∷ lines) = early_halos lines
+early_halos (Halo e ∷ lines) = early_halos lines
+early_halos (Stop s ∷ lines) = early_halos lines
+
+early_stops : (lines : List Entry) → flat_map stop_in (filter is_early lines) ≡ []
+unfolding is_early
+early_stops [] = refl
+early_stops (Module b ∷ lines) = early_stops lines
+early_stops (Cut n ∷ lines) = early_stops lines
+early_stops (Use k ∷ lines) = early_stops lines
+early_stops (Keep k ∷ lines) = early_stops lines
+early_stops (Edge e ∷ lines) = early_stops lines
+early_stops (Halo e ∷ lines) = early_stops lines
+early_stops (Stop s ∷ lines) = early_stops lines
+
+nothing_in : {X Z Y : Type 0} (f : Y → List Z) (to : X → Y) → ((x : X) → f (to x) ≡ []) → (xs : List X) → flat_map f (map to xs) ≡ []
+nothing_in f to none [] = refl
+nothing_in f to none (x ∷ xs) = ap (λ l. l ++ flat_map f (map to xs)) (none x) ∙ nothing_in f to none xs
+
+one_each : {X Y : Type 0} (f : Y → List X) (to : X → Y) → ((x : X) → f (to x) ≡ x ∷ []) → (xs : List X) → flat_map f (map to xs) ≡ xs
+one_each f to one [] = refl
+one_each f to one (x ∷ xs) = ap (λ l. l ++ flat_map f (map to xs)) (one x) ∙ ap (λ l. x ∷ l) (one_each f to one xs)
+
+append_none : {X : Type 0} (xs : List X) → xs ++ [] ≡ xs
+append_none [] = refl
+append_none (x ∷ xs) = ap (λ l. x ∷ l) (append_none xs)
+
+-- the lines of a module with these halo lines
+abbrev pub full_lines : List Entry → List Border → List Entry
+full_lines lines hs = filter is_early lines ++ map Halo hs ++ map Stop (flat_map stop_in lines)
+
+full_parts : {X : Type 0} (f : Entry → List X) (lines : List Entry) (hs : List Border) →
+    flat_map f (full_lines lines hs) ≡ flat_map f (filter is_early lines) ++ flat_map f (map Halo hs) ++ flat_map f (map Stop (flat_map stop_in lines))
+full_parts f lines hs =
+    flat_map-append f (filter is_early lines ++ map Halo hs) (map Stop (flat_map stop_in lines))
+    ∙ ap (λ l. l ++ flat_map f (map Stop (flat_map stop_in lines))) (flat_map-append f (filter is_early lines) (map Halo hs))
+
+pub other_lines : {X : Type 0} (f : Entry → List X) → IsOfEarly f → (lines : List Entry) (hs : List Border) → flat_map f (full_lines lines hs) ≡ flat_map f lines
+other_lines f none lines hs =
+    full_parts f lines hs
+    ∙ ap₂ (λ xs ys. flat_map f (filter is_early lines) ++ xs ++ ys) (nothing_in f Halo none.halo hs) (nothing_in f Stop none.stop (flat_map stop_in lines))
+    ∙ append_none (flat_map f (filter is_early lines) ++ []) ∙ append_none (flat_map f (filter is_early lines)) ∙ early_same f none lines
+
+pub halo_lines : (lines : List Entry) (hs : List Border) → flat_map halo_in (full_lines lines hs) ≡ hs
+halo_lines lines hs =
+    full_parts halo_in lines hs
+    ∙ ap₂ (λ xs ys. xs ++ flat_map halo_in (map Halo hs) ++ ys) (early_halos lines) (nothing_in halo_in Stop (λ s. refl) (flat_map stop_in lines))
+    ∙ append_none (flat_map halo_in (map Halo hs)) ∙ one_each halo_in Halo (λ e. refl) hs
+
+pub stop_lines : (lines : List Entry) (hs : List Border) → flat_map stop_in (full_lines lines hs) ≡ flat_map stop_in lines
+stop_lines lines hs =
+    full_parts stop_in lines hs
+    ∙ ap₂ (λ xs ys. xs ++ ys ++ flat_map stop_in (map Stop (flat_map stop_in lines))) (early_stops lines) (nothing_in stop_in Halo (λ e. refl) hs)
+    ∙ one_each stop_in Stop (λ s. refl) (flat_map stop_in lines)
+
+-- ---- their order
+
+all_of_tests : (test : Entry → Bool) (lines : List Entry) → Each (λ j. test j ≡ true) lines → list_all test lines ≡ true
+unfolding Each
+all_of_tests test [] e = refl
+all_of_tests test (j ∷ lines) e = rw (e.0, all_of_tests test lines e.1) refl
+
+order_of_pairs : (lines : List Entry) → Pairs (λ i j. may_precede i j ≡ true) lines → AreInOrder lines
+unfolding AreInOrder Pairs
+order_of_pairs [] p = tt
+order_of_pairs (i ∷ lines) p = (all_of_tests (may_precede i) lines p.0, order_of_pairs lines p.1)
+
+less_is : (o : Ordering) (b : Bool) → o ≡ Less → (is_lt o || b) ≡ true
+less_is Less b h = refl
+less_is Equal b h = absurd cc
+less_is Greater b h = absurd cc
+
+halos_follow : (d e : Border) → line_order d e ≡ Less → may_precede (Halo d) (Halo e) ≡ true
+unfolding may_precede line_cmp rank_of number_of cell_of line_order
+halos_follow d e h = less_is _ _ h
+
+before_halo : (i : Entry) (e : Border) → is_early i ≡ true → may_precede i (Halo e) ≡ true
+unfolding may_precede line_cmp rank_of is_early
+before_halo (Module b) e h = refl
+before_halo (Cut n) e h = refl
+before_halo (Use k) e h = refl
+before_halo (Keep k) e h = refl
+before_halo (Edge d) e h = refl
+before_halo (Halo d) e h = absurd cc
+before_halo (Stop s) e h = absurd cc
+
+before_stop : (i : Entry) (s : StopLine) → is_early i ≡ true → may_precede i (Stop s) ≡ true
+unfolding may_precede line_cmp rank_of is_early
+before_stop (Module b) s h = refl
+before_stop (Cut n) s h = refl
+before_stop (Use k) s h = refl
+before_stop (Keep k) s h = refl
+before_stop (Edge d) s h = refl
+before_stop (Halo d) s h = absurd cc
+before_stop (Stop t) s h = absurd cc
+
+halo_before_stop : (e : Border) (s : StopLine) → may_precede (Halo e) (Stop s) ≡ true
+unfolding may_precede line_cmp rank_of
+halo_before_stop e s = refl
+
+each_mapped : {X : Type 0} (P : Entry → Type 0) (to : X → Entry) (xs : List X) → ((x : X) → In x xs → P (to x)) → Each P (map to xs)
+unfolding Each In
+each_mapped P to [] h = tt
+each_mapped P to (x ∷ xs) h = (h x (inl refl), each_mapped P to xs (λ y i. h y (inr i)))
+
+halo_pairs : (hs : List Border) → Rises hs → Pairs (λ i j. may_precede i j ≡ true) (map Halo hs)
+unfolding Pairs
+halo_pairs [] p = tt
+halo_pairs (d ∷ hs) p = (
+  each_mapped (λ j. may_precede (Halo d) j ≡ true) Halo hs (λ e i. halos_follow d e (each_in (λ x. line_order d x ≡ Less) hs p.0 e i)),
+  halo_pairs hs p.1,
+)
+
+-- the stops among lines
+unfoldable is_stop : Entry → Bool
+is_stop (Module b) = false
+is_stop (Cut n) = false
+is_stop (Use k) = false
+is_stop (Keep k) = false
+is_stop (Edge e) = false
+is_stop (Halo e) = false
+is_stop (Stop s) = true
+
+stops_among : (lines : List Entry) → filter is_stop lines ≡ map Stop (flat_map stop_in lines)
+unfolding is_stop
+stops_among [] = refl
+stops_among (Module b ∷ lines) = stops_among lines
+stops_among (Cut n ∷ lines) = stops_among lines
+stops_among (Use k ∷ lines) = stops_among lines
+stops_among (Keep k ∷ lines) = stops_among lines
+stops_among (Edge e ∷ lines) = stops_among lines
+stops_among (Halo e ∷ lines) = stops_among lines
+stops_among (Stop s ∷ lines) = ap (λ l. Stop s ∷ l) (stops_among lines)
+
+pub full_order : (lines : List Entry) (hs : List Border) → AreInOrder lines → Rises hs → AreInOrder (full_lines lines hs)
+full_order lines hs o p =
+    let may = λ (i j : Entry). may_precede i j ≡ true in
+    let early = filter is_early lines in
+    let ss = flat_map stop_in lines in
+    let pairs = pairs_of_order lines o in
+    let is_early_one = λ (i : Entry) (at : In i early). (in_filter is_early i lines at).1 in
+    order_of_pairs (full_lines lines hs)
+    (pairs_append may (early ++ map Halo hs) (map Stop ss)
+    (pairs_append may early (map Halo hs)
+    (pairs_filter may is_early lines pairs)
+    (halo_pairs hs p)
+    (in_each (λ i. Each (may i) (map Halo hs)) early (λ i at. each_mapped (may i) Halo hs (λ e k. before_halo i e (is_early_one i at)))))
+    (subst (Pairs may) (stops_among lines) (pairs_filter may is_stop lines pairs))
+    (each_append (λ i. Each (may i) (map Stop ss)) early (map Halo hs)
+    (in_each (λ i. Each (may i) (map Stop ss)) early (λ i at. each_mapped (may i) Stop ss (λ s k. before_stop i s (is_early_one i at))))
+    (each_mapped (λ i. Each (may i) (map Stop ss)) Halo hs (λ e at. each_mapped (may (Halo e)) Stop ss (λ s k. halo_before_stop e s)))))
+
+-- ---- edge lines of several modules
+
+-- no cell is in both
+abbrev Apart : ModuleLines → ModuleLines → Type 0
+Apart m n = (x y : ℤ) → in_box m.area x y ≡ true → in_box n.area x y ≡ true → ⊥
+
+lower_not : (i j : ℕ) → i < j → i ≡ j → ⊥
+lower_not i j lt e = absurd (omega (arith, lt, e))
+
+equal_parts : (a b : Ordering) → ordering_then a b ≡ Equal → b ≡ Equal
+equal_parts Less b h = absurd cc
+equal_parts Equal b h = h
+equal_parts Greater b h = absurd cc
+
+same_place : (d e : Border) → line_order d e ≡ Equal → d.cell ≡ e.cell
+unfolding line_order
+same_place d e h = cell_exact d.cell e.cell (equal_parts (nat_cmp (time_rank d.time) (time_rank e.time)) (cell_cmp d.cell e.cell) h)
+
+-- the edge lines of a module, as its lines are in order
+pub edges_rising : (lines : List Entry) → AreInOrder lines → Rises (flat_map edge_in lines)
+unfolding line_order
+edges_rising lines o = pairs_each Before (λ d e. line_order d e ≡ Less) (λ d e h. h) (flat_map edge_in lines) (edges_rise lines o)
+
+ring_inside : (b : Box2) (x y : ℤ) → in_ring b x y ≡ true → in_box b x y ≡ true
+unfolding in_ring
+ring_inside b x y h = (and_parts (in_box b x y) _ h).0
+
+module _ (g : Setting) (ms : List ModuleLines) (good : AreModules g ms) where
+  module_of : (m : ModuleLines) → In m ms → IsModule g m
+  module_of m i = let p = placed m ms i in good.each p.0 m p.1
+
+  pub edge_of : (m : ModuleLines) (e : Border) → In m ms → In e (edges m) → IsEdge g m.area (known g.circuit m) e
+  edge_of m e i j = all_in (IsEdge g m.area (known g.circuit m)) (edges m) (module_of m i).edge_lines e j
+
+  pub edge_cell : (m : ModuleLines) (e : Border) → In m ms → In e (edges m) → in_box m.area e.cell.x e.cell.y ≡ true
+  edge_cell m e i j = ring_inside m.area e.cell.x e.cell.y (edge_of m e i j).ring
+
+  all_apart : Pairs Apart ms
+  all_apart = pairs_by_place Apart ms (λ i j m n lt e f x y h k.
+      lower_not i j lt (good.tile.once x y i j m.area n.area (mapped_at (λ (m : ModuleLines). m.area) ms i m e) (mapped_at (λ (m : ModuleLines). m.area) ms j n f) h k))
+
+  distinct_over : (ns : List ModuleLines) → Pairs Apart ns → ((n : ModuleLines) → In n ns → In n ms) → AreDistinct (flat_map edges ns)
+  unfolding Pairs In
+  distinct_over [] p some = tt
+  distinct_over (m ∷ ns) p some =
+      let here = some m (inl refl) in
+      pairs_append (λ d e. line_order d e ≢ Equal) (edges m) (flat_map edges ns)
+      (rising_distinct (edges m) (edges_rising m.lines (module_of m here).order))
+      (distinct_over ns p.1 (λ n i. some n (inr i)))
+      (in_each (λ d. Each (λ e. line_order d e ≢ Equal) (flat_map edges ns)) (edges m) (λ d at.
+      in_each (λ e. line_order d e ≢ Equal) (flat_map edges ns) (λ e i same.
+      let n = in_flat edges e ns i in
+      let c : d.cell ≡ e.cell = same_place d e same in
+      each_in (Apart m) ns p.0 n.0 n.1 e.cell.x e.cell.y
+      (subst (λ (c : Cell). in_box m.area c.x c.y ≡ true) c (edge_cell m d here at))
+      (edge_cell n.0 e (some n.0 (inr n.1)) n.2))))
+
+  all_distinct : AreDistinct (flat_map edges ms)
+  all_distinct = distinct_over ms all_apart (λ n i. i)
+
+  pub in_beside : (area : Box2) (e : Border) → In e (beside g ms area) → (nat_lt 1 g.size.steps ≡ true) × (in_halo area e.cell.x e.cell.y ≡ true) × In e (flat_map edges ms)
+  unfolding beside In
+  in_beside area e i = elim (cases_Bool (nat_lt 1 g.size.steps)) [
+    | inl long ↦ let r = in_filter (λ (e : Border). in_halo area e.cell.x e.cell.y) e (flat_map edges ms) (subst (In e) (cond-true _ _ _ long) i) in (long, r.1, r.0)
+    | inr short ↦ absurd (subst (In e) (cond-false _ _ _ short) i)
+  ]
+
+  pub beside_in : (area : Box2) (e : Border) → nat_lt 1 g.size.steps ≡ true → in_halo area e.cell.x e.cell.y ≡ true → In e (flat_map edges ms) → In e (beside g ms area)
+  unfolding beside
+  beside_in area e long h i = subst (In e) (sym (cond-true _ _ _ long)) (filter_in (λ (e : Border). in_halo area e.cell.x e.cell.y) e (flat_map edges ms) i h)
+
+  pub distinct_beside : (area : Box2) → AreDistinct (beside g ms area)
+  unfolding beside Pairs
+  distinct_beside area = elim (cases_Bool (nat_lt 1 g.size.steps)) [
+    | inl long ↦ subst AreDistinct (sym (cond-true _ _ _ long)) (pairs_filter (λ d e. line_order d e ≢ Equal) (λ (e : Border). in_halo area e.cell.x e.cell.y) (flat_map edges ms) all_distinct)
+    | inr short ↦ subst AreDistinct (sym (cond-false _ _ _ short)) tt
+  ]
+
+  pub full_rises : (area : Box2) → Rises (in_order (beside g ms area))
+  full_rises area = ordered_rises (beside g ms area) (distinct_beside area)
+
+  -- ---- a module with the edge lines beside it
+
+  module _ (m : ModuleLines) where
+    abbrev full : ModuleLines
+    full = with_halos g ms m
+
+    pub full_area : full.area ≡ m.area
+    unfolding with_halos
+    full_area = refl
+
+    pub full_cuts : cuts full ≡ cuts m
+    unfolding with_halos
+    full_cuts = other_lines cut_in (record { halo = λ e. refl; stop = λ s. refl }) m.lines (in_order (beside g ms m.area))
+
+    pub full_gates : gates full ≡ gates m
+    unfolding with_halos
+    full_gates = other_lines use_in (record { halo = λ e. refl; stop = λ s. refl }) m.lines (in_order (beside g ms m.area))
+
+    pub full_edges : edges full ≡ edges m
+    unfolding with_halos
+    full_edges = other_lines edge_in (record { halo = λ e. refl; stop = λ s. refl }) m.lines (in_order (beside g ms m.area))
+
+    pub full_halos : halos full ≡ in_order (beside g ms m.area)
+    unfolding with_halos
+    full_halos = halo_lines m.lines (in_order (beside g ms m.area))
+
+    pub full_keeps : keeps full ≡ keeps m
+    unfolding with_halos
+    full_keeps = other_lines keep_in (record { halo = λ e. refl; stop = λ s. refl }) m.lines (in_order (beside g ms m.area))
+
+    pub full_stops : stops full ≡ stops m
+    unfolding with_halos
+    full_stops = stop_lines m.lines (in_order (beside g ms m.area))
+
+    pub full_wires : cut_wires g.circuit full ≡ cut_wires g.circuit m
+    full_wires = ap (flat_map (λ n. option_to_list (wire_of g.circuit n))) full_cuts
+
+    pub full_known : known g.circuit full ≡ known g.circuit m
+    full_known = ap₂ (λ cs gs. local_wires g.circuit.netlist cs gs) full_wires full_gates
+
+    local_signal : (s : Option (List ℕ)) → is_strange g.circuit (known g.circuit m) s ≡ false → IfSome s (λ name. IsTrue (is_local g.circuit (known g.circuit m) name))
+    local_signal None h = tt
+    local_signal (Some name) h = not_not (is_local g.circuit (known g.circuit m) name) h
+      where
+        not_not : (b : Bool) → not b ≡ false → b ≡ true
+        not_not true h = refl
+        not_not false h = sym h
+
+    -- the edge lines beside it may be its halo lines
+    halo_here : (e : Border) → In e (beside g ms m.area) → is_strange g.circuit (known g.circuit m) e.signal ≡ false → IsHalo g m.area (known g.circuit m) e
+    halo_here e i known_there =
+        let b = in_beside m.area e i in
+        let n = in_flat edges e ms b.2 in
+        let is = edge_of n.0 e n.1 n.2 in
+        let p = placed n.0 ms n.1 in
+        record {
+          halo = b.1;
+          inside = good.tile.inside e.cell.x e.cell.y p.0 n.0.area (mapped_at (λ (m : ModuleLines). m.area) ms p.0 n.0 p.1) (edge_cell n.0 e n.1 n.2);
+          border = record { time = is.border.time; signal = local_signal e.signal known_there };
+        }
+
+    pub full_good : In m ms → ((e : Border) → In e (beside g ms m.area) → is_strange g.circuit (known g.circuit m) e.signal ≡ false) → IsModule g full
+    unfolding with_halos
+    full_good at known_there =
+        let is = module_of m at in
+        record {
+          even = is.even;
+          wide = is.wide;
+          high = is.high;
+          inside = is.inside;
+          named = ap length full_wires ∙ is.named ∙ ap length (sym full_cuts);
+          local = subst (λ cs. AreLocalLines g.circuit.netlist cs (gates full)) (sym full_wires) (subst (AreLocalLines g.circuit.netlist (cut_wires g.circuit m)) (sym full_gates) is.local);
+          order = full_order m.lines (in_order (beside g ms m.area)) is.order (full_rises m.area);
+          keep_lines = subst (λ gs. All (IsKeep g gs) (keeps full)) (sym full_gates) (subst (All (IsKeep g (gates m))) (sym full_keeps) is.keep_lines);
+          unstarred = subst AreUnstarred (sym full_edges) is.unstarred;
+          edge_lines = subst (λ ws. All (IsEdge g m.area ws) (edges full)) (sym full_known) (subst (All (IsEdge g m.area (known g.circuit m))) (sym full_edges) is.edge_lines);
+          halo_lines = subst (λ ws. All (IsHalo g m.area ws) (halos full)) (sym full_known) (subst (All (IsHalo g m.area (known g.circuit m))) (sym full_halos)
+              (in_all (IsHalo g m.area (known g.circuit m)) (in_order (beside g ms m.area)) (λ e i. let j = in_ordered e (beside g ms m.area) i in halo_here e j (known_there e j))));
+          stop_lines = subst (λ ws. All (IsStop g m.area ws) (stops full)) (sym full_known) (subst (All (IsStop g m.area (known g.circuit m))) (sym full_stops) is.stop_lines);
+        }
+
+    pub full_ports : HasPorts g m → HasPorts g full
+    unfolding with_halos
+    full_ports h = record { local = λ i p at inside. subst (λ ws. IsTrue (is_local g.circuit ws p.name)) (sym full_known) (h.local i p at inside) }
+
+  -- ---- all modules
+
+  full_areas_of : (ns : List ModuleLines) → areas (map (with_halos g ms) ns) ≡ areas ns
+  unfolding with_halos
+  full_areas_of [] = refl
+  full_areas_of (n ∷ ns) = ap (λ bs. n.area ∷ bs) (full_areas_of ns)
+
+  pub full_areas : areas (map (with_halos g ms) ms) ≡ areas ms
+  full_areas = full_areas_of ms
+
+  none_passes : {A : Type 0} (test : A → Bool) (xs : List A) → list_any test xs ≡ false → (x : A) → In x xs → test x ≡ false
+  none_passes test xs none x i = elim (cases_Bool (test x)) [
+    | inl holds ↦ absurd (let p = placed x xs i in true≢false (sym (any_at test xs p.0 x p.1 holds) ∙ none))
+    | inr fails ↦ fails
+  ]
+
+  none_strange : lacks_wire g ms ≡ false → (m : ModuleLines) → In m ms → (e : Border) → In e (beside g ms m.area) → is_strange g.circuit (known g.circuit m) e.signal ≡ false
+  unfolding lacks_wire
+  none_strange none m at e i =
+      none_passes (λ (e : Border). is_strange g.circuit (known g.circuit m) e.signal) (beside g ms m.area)
+      (none_passes (λ (m : ModuleLines). list_any (λ e. is_strange g.circuit (known g.circuit m) e.signal) (beside g ms m.area)) ms none m at) e i
+
+  pub full_modules : lacks_wire g ms ≡ false → AreModules g (map (with_halos g ms) ms)
+  full_modules none = record {
+    few = subst (λ n. n ≤ 1024) (sym (length-map ms (with_halos g ms))) good.few;
+    each = λ k m e.
+        let n = mapped_from (with_halos g ms) ms k m e in
+        let at = stands ms k n.0 n.1 in
+        subst (IsModule g) n.2 (full_good n.0 at (none_strange none n.0 at));
+    ports = λ k m e.
+        let n = mapped_from (with_halos g ms) ms k m e in
+        subst (HasPorts g) n.2 (full_ports n.0 (good.ports k n.0 n.1));
+    tile = subst (Tile (whole g.size)) (sym full_areas) good.tile;
+  }
+
+full_areas_of_all : (g : Setting) (ms ns : List ModuleLines) → areas (map (with_halos g ms) ns) ≡ areas ns
+unfolding with_halos
+full_areas_of_all g ms [] = refl
+full_areas_of_all g ms (n ∷ ns) = ap (λ bs. n.area ∷ bs) (full_areas_of_all g ms ns)
+
+-- the modules of either version have the boxes that the lines say
+pub meant_areas : (version : ℕ) (g : Setting) (ms : List ModuleLines) → areas (meant version g ms) ≡ areas ms
+unfolding meant
+meant_areas version g ms = elim (cases_Bool (is_haloless version)) [
+  | inl new ↦ ap areas (cond-true _ _ _ new) ∙ full_areas_of_all g ms ms
+  | inr old ↦ ap areas (cond-false _ _ _ old)
+]
+
+-- and there are as many
+pub meant_count : (version : ℕ) (g : Setting) (ms : List ModuleLines) → length (meant version g ms) ≡ length ms
+unfolding meant
+meant_count version g ms = elim (cases_Bool (is_haloless version)) [
+  | inl new ↦ ap length (cond-true _ _ _ new) ∙ length-map ms (with_halos g ms)
+  | inr old ↦ ap length (cond-false _ _ _ old)
+]
+
+pub meant_old : (version : ℕ) (g : Setting) (ms : List ModuleLines) → is_haloless version ≡ false → meant version g ms ≡ ms
+unfolding meant
+meant_old version g ms e = cond-false _ _ _ e
+
+pub meant_new : (version : ℕ) (g : Setting) (ms : List ModuleLines) → is_haloless version ≡ true → meant version g ms ≡ map (with_halos g ms) ms
+unfolding meant
+meant_new version g ms e = cond-true _ _ _ e
+
+pub meant_modules : (version : ℕ) (g : Setting) (ms : List ModuleLines) → AreModules g ms → (is_haloless version && lacks_wire g ms) ≡ false → AreModules g (meant version g ms)
+unfolding meant
+meant_modules version g ms good none = elim (cases_Bool (is_haloless version)) [
+  | inl new ↦ subst (AreModules g) (sym (cond-true _ _ _ new)) (full_modules g ms good (ap (λ b. b && lacks_wire g ms) (sym new) ∙ none))
+  | inr old ↦ subst (AreModules g) (sym (cond-false _ _ _ old)) good
+]

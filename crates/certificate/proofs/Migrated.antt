@@ -1,0 +1,343 @@
+-- Lines that are good are good without the halo lines
+use Rattle.std.proofs.Common.{◌≡◌, ℕ, ◌+◌, ◌<◌, ◌≤◌, Bool, true, false, not, ◌&&◌, ◌||◌, if◌then◌else◌, List, [], ◌∷◌, ◌++◌, map, length, Option, Some, None, option_map, refl, sym, ap, ap₂, subst, ◌∙◌, arith, append_assoc}
+use Rattle.std.specs.Prelude.{nat_le, nat_lt}
+use Rattle.std.specs.List.{filter, flat_map, fold, list_all, list_any}
+use Rattle.std.specs.Option.{option_to_list}
+use Rattle.std.proofs.lemmas.Bool.{and_parts}
+use Rattle.std.proofs.lemmas.Bool.Decides.{nat_tests}
+use Rattle.std.proofs.lemmas.List.{append-nil, length-map, map-append}
+use Rattle.section_text.specs.Codes.{or_else, code_where}
+use Rattle.circuit.specs.Meaning.{Circuit, wire_of}
+use Rattle.module_box.specs.Boxes.{in_box, in_halo}
+use Rattle.module_box.specs.Locals.{local_wires}
+use Rattle.module_box.specs.declared.boxes.Box2.{Box2}
+use Rattle.certificate.specs.Entries.{Setting, ModuleLines, add_line, areas, change_last, cut_in, cut_wires, cuts, edge_in, edges, gates, halo_in, halos, known, last_of, modules_of, present, stop_in, stops, use_in, with_line}
+use Rattle.certificate.specs.Laws.{AreFaultlessLines, GoodWithoutHalos, IsSectionOf, SectionWithoutHalos}
+use Rattle.certificate.specs.Grammars.{certificate_grammar}
+use Rattle.certificate.specs.Modules.{AreModules}
+use Rattle.certificate.specs.Orders.{may_follow, may_precede}
+use Rattle.certificate.specs.Rules.{cut_fault, is_edge_place, is_starred, use_fault, keep_fault, is_stop_place, border_count, border_fault, border_limit, end_fault, entry_fault, inner_fault, is_incomplete, is_local, lacks_port, leaves_gap, line_fault, module_fault, box_fault, is_misplaced, is_wrong_side, overlaps, words_fault}
+use Rattle.certificate.specs.Versions.{AreGoodLines, beside, in_order, is_early, is_halo, is_haloless, is_strange, lacks_wire, meant, stripped, with_halos, without_halos}
+use Rattle.certificate.specs.declared.entry.Border.{Border}
+use Rattle.certificate.specs.declared.entry.Entry.{Entry}
+use Rattle.certificate.specs.declared.entry.Entry.TheVariants.{Module, Cut, Use, Keep, Edge, Halo, Stop}
+use Rattle.certificate.proofs.FullModules.{meant_new, no_halo_left, without_same}
+use Rattle.certificate.proofs.Growing.{map_changed, unchanged}
+use Rattle.certificate.proofs.ModulePushes.{both_none, no_code}
+use Rattle.certificate.proofs.Soundness.{faultless_modules}
+use Rattle.section_text.proofs.Good.{AreFaultless}
+
+without_append : (xs ys : List Entry) → without_halos (xs ++ ys) ≡ without_halos xs ++ without_halos ys
+unfolding without_halos is_halo
+without_append [] ys = refl
+without_append (Module b ∷ xs) ys = ap (λ l. Module b ∷ l) (without_append xs ys)
+without_append (Cut n ∷ xs) ys = ap (λ l. Cut n ∷ l) (without_append xs ys)
+without_append (Use k ∷ xs) ys = ap (λ l. Use k ∷ l) (without_append xs ys)
+without_append (Keep k ∷ xs) ys = ap (λ l. Keep k ∷ l) (without_append xs ys)
+without_append (Edge e ∷ xs) ys = ap (λ l. Edge e ∷ l) (without_append xs ys)
+without_append (Halo e ∷ xs) ys = without_append xs ys
+without_append (Stop s ∷ xs) ys = ap (λ l. Stop s ∷ l) (without_append xs ys)
+
+-- ---- the modules of lines without halo lines
+
+alone : (i : Entry) → is_halo i ≡ false → without_halos (i ∷ []) ≡ i ∷ []
+unfolding without_halos is_halo
+alone (Module b) o = refl
+alone (Cut n) o = refl
+alone (Use k) o = refl
+alone (Keep k) o = refl
+alone (Edge e) o = refl
+alone (Halo e) o = absurd cc
+alone (Stop s) o = refl
+
+kept_line : (i : Entry) → is_halo i ≡ false → (m : ModuleLines) → stripped (with_line i m) ≡ with_line i (stripped m)
+unfolding stripped without_halos is_halo
+kept_line i other m = ap (λ l. record m { lines = l }) (without_append m.lines (i ∷ []) ∙ ap (λ l. without_halos m.lines ++ l) (alone i other))
+
+dropped_line : (e : Border) (m : ModuleLines) → stripped (with_line (Halo e) m) ≡ stripped m
+unfolding stripped without_halos is_halo
+dropped_line e m = ap (λ l. record m { lines = l }) (without_append m.lines (Halo e ∷ []) ∙ append-nil (without_halos m.lines))
+
+inner_step : (i : Entry) → is_halo i ≡ false → (ms : List ModuleLines) → map stripped (change_last (with_line i) ms) ≡ change_last (with_line i) (map stripped ms)
+inner_step i other ms = map_changed stripped (with_line i) (with_line i) (kept_line i other) ms
+
+halo_step : (e : Border) (ms : List ModuleLines) → map stripped (change_last (with_line (Halo e)) ms) ≡ map stripped ms
+halo_step e ms = map_changed stripped (with_line (Halo e)) (λ m. m) (dropped_line e) ms ∙ unchanged (map stripped ms)
+
+module_step : (b : Box2) (ms : List ModuleLines) → map stripped (ms ++ record { area = b; lines = [] } ∷ []) ≡ map stripped ms ++ record { area = b; lines = [] } ∷ []
+unfolding stripped without_halos
+module_step b ms = map-append stripped ms (record { area = b; lines = [] } ∷ [])
+
+modules_on : (es : List Entry) (ms : List ModuleLines) → fold add_line (map stripped ms) (without_halos es) ≡ map stripped (fold add_line ms es)
+unfolding without_halos is_halo add_line
+modules_on [] ms = refl
+modules_on (Module b ∷ es) ms = ap (λ l. fold add_line l (without_halos es)) (sym (module_step b ms)) ∙ modules_on es (ms ++ record { area = b; lines = [] } ∷ [])
+modules_on (Cut n ∷ es) ms = ap (λ l. fold add_line l (without_halos es)) (sym (inner_step (Cut n) refl ms)) ∙ modules_on es (change_last (with_line (Cut n)) ms)
+modules_on (Use k ∷ es) ms = ap (λ l. fold add_line l (without_halos es)) (sym (inner_step (Use k) refl ms)) ∙ modules_on es (change_last (with_line (Use k)) ms)
+modules_on (Keep k ∷ es) ms = ap (λ l. fold add_line l (without_halos es)) (sym (inner_step (Keep k) refl ms)) ∙ modules_on es (change_last (with_line (Keep k)) ms)
+modules_on (Edge e ∷ es) ms = ap (λ l. fold add_line l (without_halos es)) (sym (inner_step (Edge e) refl ms)) ∙ modules_on es (change_last (with_line (Edge e)) ms)
+modules_on (Halo e ∷ es) ms = ap (λ l. fold add_line l (without_halos es)) (sym (halo_step e ms)) ∙ modules_on es (change_last (with_line (Halo e)) ms)
+modules_on (Stop s ∷ es) ms = ap (λ l. fold add_line l (without_halos es)) (sym (inner_step (Stop s) refl ms)) ∙ modules_on es (change_last (with_line (Stop s)) ms)
+
+pub modules_without : (es : List Entry) → modules_of (without_halos es) ≡ map stripped (modules_of es)
+unfolding modules_of
+modules_without es = modules_on es []
+
+last_stripped : (ms : List ModuleLines) → last_of (map stripped ms) ≡ option_map stripped (last_of ms)
+unfolding last_of
+last_stripped [] = refl
+last_stripped (m ∷ []) = refl
+last_stripped (m ∷ n ∷ ms) = last_stripped (n ∷ ms)
+
+areas_stripped : (ms : List ModuleLines) → areas (map stripped ms) ≡ areas ms
+unfolding stripped
+areas_stripped [] = refl
+areas_stripped (m ∷ ms) = ap (λ l. m.area ∷ l) (areas_stripped ms)
+
+-- ---- what is said of a module is said of it without halo lines
+
+module _ (g : Setting) (m : ModuleLines) where
+  cuts_kept : cuts (stripped m) ≡ cuts m
+  unfolding stripped
+  cuts_kept = without_same cut_in (λ e. refl) m.lines
+
+  gates_kept : gates (stripped m) ≡ gates m
+  unfolding stripped
+  gates_kept = without_same use_in (λ e. refl) m.lines
+
+  pub edges_kept : edges (stripped m) ≡ edges m
+  unfolding stripped
+  edges_kept = without_same edge_in (λ e. refl) m.lines
+
+  stops_kept : stops (stripped m) ≡ stops m
+  unfolding stripped
+  stops_kept = without_same stop_in (λ e. refl) m.lines
+
+  pub known_kept : known g.circuit (stripped m) ≡ known g.circuit m
+  known_kept = ap₂ (λ cs gs. local_wires g.circuit.netlist (flat_map (λ n. option_to_list (wire_of g.circuit n)) cs) gs) cuts_kept gates_kept
+
+  lacks_kept : lacks_port g (stripped m) ≡ lacks_port g m
+  unfolding lacks_port stripped
+  lacks_kept = ap (λ ws. list_any (λ p. in_box m.area p.cell.x p.cell.y && not (is_local g.circuit ws p.name)) g.ports) known_kept
+
+  fewer_halos : length (halos (stripped m)) ≡ 0
+  unfolding stripped
+  fewer_halos = ap length (no_halo_left m.lines)
+
+  fewer : border_count (stripped m) ≤ border_count m
+  fewer = let e = ap length edges_kept in let h = fewer_halos in let s = ap length stops_kept in omega (arith, e, h, s)
+
+  area_kept : (stripped m).area ≡ m.area
+  unfolding stripped
+  area_kept = refl
+
+incomplete_kept : (g : Setting) (o : Option ModuleLines) → is_incomplete g (option_map stripped o) ≡ is_incomplete g o
+incomplete_kept g None = refl
+incomplete_kept g (Some m) = lacks_kept g m
+
+-- ---- lines that may follow more may follow less
+
+follow_less : (lines : List Entry) (i : Entry) → may_follow lines i ≡ true → may_follow (without_halos lines) i ≡ true
+unfolding may_follow without_halos is_halo
+follow_less [] i h = refl
+follow_less (Module b ∷ lines) i h = let both = and_parts (may_precede (Module b) i) (list_all (λ j. may_precede j i) lines) h in rw (both.0, follow_less lines i both.1) refl
+follow_less (Cut n ∷ lines) i h = let both = and_parts (may_precede (Cut n) i) (list_all (λ j. may_precede j i) lines) h in rw (both.0, follow_less lines i both.1) refl
+follow_less (Use k ∷ lines) i h = let both = and_parts (may_precede (Use k) i) (list_all (λ j. may_precede j i) lines) h in rw (both.0, follow_less lines i both.1) refl
+follow_less (Keep k ∷ lines) i h = let both = and_parts (may_precede (Keep k) i) (list_all (λ j. may_precede j i) lines) h in rw (both.0, follow_less lines i both.1) refl
+follow_less (Edge e ∷ lines) i h = let both = and_parts (may_precede (Edge e) i) (list_all (λ j. may_precede j i) lines) h in rw (both.0, follow_less lines i both.1) refl
+follow_less (Halo e ∷ lines) i h = follow_less lines i (and_parts (may_precede (Halo e) i) (list_all (λ j. may_precede j i) lines) h).1
+follow_less (Stop s ∷ lines) i h = let both = and_parts (may_precede (Stop s) i) (list_all (λ j. may_precede j i) lines) h in rw (both.0, follow_less lines i both.1) refl
+
+true_of : (b : Bool) → not b ≡ false → b ≡ true
+true_of true h = refl
+true_of false h = sym h
+
+none_both : (a b : Option ℕ) → a ≡ None → b ≡ None → or_else a b ≡ None
+none_both None b h k = k
+none_both (Some x) b h k = absurd cc
+
+coded : (b : Bool) (code : ℕ) → b ≡ false → code_where b code ≡ None
+coded true code h = absurd cc
+coded false code h = refl
+
+smaller : (limit n k : ℕ) → n ≤ k → nat_le limit k ≡ false → nat_le limit n ≡ false
+smaller limit n k le h = grind (arith, nat_tests)
+
+border_less : (c : Circuit) (n k : ℕ) (local : List ℕ) (placed : Bool) (s : Option (List ℕ)) → n ≤ k → border_fault c k local placed s ≡ None → border_fault c n local placed s ≡ None
+unfolding border_fault
+border_less c n k local placed s le h =
+    let parts = both_none _ _ h in
+    none_both _ _ (coded _ 2 (smaller border_limit n k le (no_code _ 2 parts.0))) parts.1
+
+words_kept : (g : Setting) (m : ModuleLines) (i : Entry) → is_halo i ≡ false → words_fault g m i ≡ None → words_fault g (stripped m) i ≡ None
+unfolding is_halo stripped
+words_kept g m (Module b) o h = refl
+words_kept g m (Cut n) o h = ap₂ (λ cs ws. cut_fault g.circuit (length cs) ws n) (cuts_kept g m) (known_kept g m) ∙ h
+words_kept g m (Use k) o h = ap₂ (λ gs ws. use_fault g.circuit (length gs) ws k) (gates_kept g m) (known_kept g m) ∙ h
+words_kept g m (Keep k) o h = ap (λ gs. keep_fault g.circuit gs k) (gates_kept g m) ∙ h
+words_kept g m (Edge e) o h =
+    border_less g.circuit (border_count (stripped m)) (border_count m) (known g.circuit (stripped m)) _ e.signal (fewer g m)
+    (ap₂ (λ es ws. border_fault g.circuit (border_count m) ws (is_edge_place g.size m.area (list_any (is_starred e.cell) es) e) e.signal) (edges_kept g m) (known_kept g m) ∙ h)
+words_kept g m (Halo e) o h = absurd cc
+words_kept g m (Stop s) o h =
+    border_less g.circuit (border_count (stripped m)) (border_count m) (known g.circuit (stripped m)) _ (Some s.wire) (fewer g m)
+    (ap (λ ws. border_fault g.circuit (border_count m) ws (is_stop_place g.size m.area s) (Some s.wire)) (known_kept g m) ∙ h)
+
+line_kept : (g : Setting) (m : ModuleLines) (i : Entry) → is_halo i ≡ false → line_fault g m i ≡ None → line_fault g (stripped m) i ≡ None
+unfolding stripped
+line_kept g m i o h =
+    let parts = both_none _ (words_fault g m i) h in
+    none_both _ (words_fault g (stripped m) i) (ap (λ b. code_where (not b) 6) (follow_less m.lines i (true_of _ (no_code _ 6 parts.0)))) (words_kept g m i o parts.1)
+
+inner_kept : (g : Setting) (p : Option ModuleLines) (i : Entry) → is_halo i ≡ false → inner_fault g p i ≡ None → inner_fault g (option_map stripped p) i ≡ None
+inner_kept g None i o h = absurd cc
+inner_kept g (Some m) i o h = line_kept g m i o h
+
+module _ (g : Setting) (before : List Entry) where
+  present_without : present (without_halos before) ≡ option_map stripped (present before)
+  present_without = ap last_of (modules_without before) ∙ last_stripped (modules_of before)
+
+  module_kept : (b : Box2) → module_fault g (modules_of before) (present before) b ≡ None → module_fault g (modules_of (without_halos before)) (present (without_halos before)) b ≡ None
+  unfolding module_fault box_fault
+  module_kept b h =
+      ap (λ a. or_else (or_else (code_where a 11) (or_else (code_where (is_wrong_side b.w || is_wrong_side b.h || nat_le 1024 (length (modules_of (without_halos before)))) 2) (code_where (is_misplaced g.size b) 8))) (code_where (overlaps (areas (modules_of (without_halos before))) b) 8))
+      (ap (is_incomplete g) present_without ∙ incomplete_kept g (present before))
+      ∙ ap₂ (λ n bs. or_else (or_else (code_where (is_incomplete g (present before)) 11) (or_else (code_where (is_wrong_side b.w || is_wrong_side b.h || nat_le 1024 n) 2) (code_where (is_misplaced g.size b) 8))) (code_where (overlaps bs b) 8))
+      (ap length (modules_without before) ∙ length-map (modules_of before) stripped) (ap areas (modules_without before) ∙ areas_stripped (modules_of before))
+      ∙ h
+
+  inner_line : (i : Entry) → is_halo i ≡ false → inner_fault g (present before) i ≡ None → inner_fault g (present (without_halos before)) i ≡ None
+  inner_line i o h = ap (λ p. inner_fault g p i) present_without ∙ inner_kept g (present before) i o h
+
+  entry_kept : (i : Entry) → is_halo i ≡ false → entry_fault g before i ≡ None → entry_fault g (without_halos before) i ≡ None
+  unfolding entry_fault is_halo
+  entry_kept (Module b) o h = module_kept b h
+  entry_kept (Cut n) o h = inner_line (Cut n) refl h
+  entry_kept (Use k) o h = inner_line (Use k) refl h
+  entry_kept (Keep k) o h = inner_line (Keep k) refl h
+  entry_kept (Edge e) o h = inner_line (Edge e) refl h
+  entry_kept (Halo e) o h = absurd cc
+  entry_kept (Stop s) o h = inner_line (Stop s) refl h
+
+  pub end_kept : end_fault g before ≡ None → end_fault g (without_halos before) ≡ None
+  unfolding end_fault
+  end_kept h =
+      ap₂ (λ a bs. code_where (a || leaves_gap g.size bs) 11) (ap (is_incomplete g) present_without ∙ incomplete_kept g (present before)) (ap areas (modules_without before) ∙ areas_stripped (modules_of before)) ∙ h
+
+-- ---- all lines
+
+without_one : (before : List Entry) (i : Entry) → is_halo i ≡ false → without_halos (before ++ i ∷ []) ≡ without_halos before ++ i ∷ []
+unfolding is_halo without_halos
+without_one before (Module b) o = without_append before (Module b ∷ [])
+without_one before (Cut n) o = without_append before (Cut n ∷ [])
+without_one before (Use k) o = without_append before (Use k ∷ [])
+without_one before (Keep k) o = without_append before (Keep k ∷ [])
+without_one before (Edge e) o = without_append before (Edge e ∷ [])
+without_one before (Halo e) o = absurd cc
+without_one before (Stop s) o = without_append before (Stop s ∷ [])
+
+without_last : (before : List Entry) (e : Border) → without_halos (before ++ Halo e ∷ []) ≡ without_halos before
+unfolding is_halo without_halos
+without_last before e = without_append before (Halo e ∷ []) ∙ append-nil (without_halos before)
+
+good_more : (g : Setting) (i : Entry) (es before : List Entry) → is_halo i ≡ false → entry_fault g before i ≡ None → AreGoodLines g (without_halos (before ++ i ∷ [])) (without_halos es) →
+    AreGoodLines g (without_halos before) (i ∷ without_halos es)
+good_more g i es before o good later = (entry_kept g before i o good, subst (λ bs. AreGoodLines g bs (without_halos es)) (without_one before i o) later)
+
+pub good_on : (g : Setting) (es before : List Entry) → AreGoodLines g before es → AreGoodLines g (without_halos before) (without_halos es)
+unfolding without_halos is_halo
+good_on g [] before good = tt
+good_on g (Module b ∷ es) before good = good_more g (Module b) es before refl good.0 (good_on g es (before ++ Module b ∷ []) good.1)
+good_on g (Cut n ∷ es) before good = good_more g (Cut n) es before refl good.0 (good_on g es (before ++ Cut n ∷ []) good.1)
+good_on g (Use k ∷ es) before good = good_more g (Use k) es before refl good.0 (good_on g es (before ++ Use k ∷ []) good.1)
+good_on g (Keep k ∷ es) before good = good_more g (Keep k) es before refl good.0 (good_on g es (before ++ Keep k ∷ []) good.1)
+good_on g (Edge e ∷ es) before good = good_more g (Edge e) es before refl good.0 (good_on g es (before ++ Edge e ∷ []) good.1)
+good_on g (Halo e ∷ es) before good = subst (λ bs. AreGoodLines g bs (without_halos es)) (without_last before e) (good_on g es (before ++ Halo e ∷ []) good.1)
+good_on g (Stop s ∷ es) before good = good_more g (Stop s) es before refl good.0 (good_on g es (before ++ Stop s ∷ []) good.1)
+
+pub good_without_halos : GoodWithoutHalos
+unfolding without_halos
+good_without_halos g es good = record {
+  lines = good_on g es [] good.lines;
+  end = end_kept g es good.end;
+}
+
+-- ---- the modules of version 2 that the lines without halo lines make
+
+edges_stripped : (g : Setting) (ms : List ModuleLines) → flat_map edges (map stripped ms) ≡ flat_map edges ms
+edges_stripped g [] = refl
+edges_stripped g (m ∷ ms) = ap₂ (λ xs ys. xs ++ ys) (edges_kept g m) (edges_stripped g ms)
+
+beside_stripped : (g : Setting) (ms : List ModuleLines) (area : Box2) → beside g (map stripped ms) area ≡ beside g ms area
+unfolding beside
+beside_stripped g ms area = ap (λ es. if nat_lt 1 g.size.steps then filter (λ (e : Border). in_halo area e.cell.x e.cell.y) es else []) (edges_stripped g ms)
+
+early_without : (lines : List Entry) → filter is_early (without_halos lines) ≡ filter is_early lines
+unfolding without_halos is_halo is_early
+early_without [] = refl
+early_without (Module b ∷ lines) = ap (λ l. Module b ∷ l) (early_without lines)
+early_without (Cut n ∷ lines) = ap (λ l. Cut n ∷ l) (early_without lines)
+early_without (Use k ∷ lines) = ap (λ l. Use k ∷ l) (early_without lines)
+early_without (Keep k ∷ lines) = ap (λ l. Keep k ∷ l) (early_without lines)
+early_without (Edge e ∷ lines) = ap (λ l. Edge e ∷ l) (early_without lines)
+early_without (Halo e ∷ lines) = early_without lines
+early_without (Stop s ∷ lines) = early_without lines
+
+full_same : (g : Setting) (ms : List ModuleLines) (m : ModuleLines) → with_halos g (map stripped ms) (stripped m) ≡ with_halos g ms m
+unfolding with_halos stripped
+full_same g ms m =
+    ap₂ (λ (lines : List Entry) (hs : List Border). record m { lines = lines ++ map Halo (in_order hs) ++ map Stop (stops (stripped m)) }) (early_without m.lines) (beside_stripped g ms m.area)
+    ∙ ap (λ ss. record m { lines = filter is_early m.lines ++ map Halo (in_order (beside g ms m.area)) ++ map Stop ss }) (stops_kept g m)
+
+fulls_same : (g : Setting) (ms ns : List ModuleLines) → map (with_halos g (map stripped ms)) (map stripped ns) ≡ map (with_halos g ms) ns
+fulls_same g ms [] = refl
+fulls_same g ms (n ∷ ns) = ap₂ (λ x xs. x ∷ xs) (full_same g ms n) (fulls_same g ms ns)
+
+pub migrated_modules : (g : Setting) (es : List Entry) → meant 2 g (modules_of (without_halos es)) ≡ map (with_halos g (modules_of es)) (modules_of es)
+migrated_modules g es = meant_new 2 g (modules_of (without_halos es)) refl ∙ ap (λ ms. map (with_halos g ms) ms) (modules_without es) ∙ fulls_same g (modules_of es) (modules_of es)
+
+lacks_one : (g : Setting) (ms : List ModuleLines) (m : ModuleLines) → list_any (λ e. is_strange g.circuit (known g.circuit (stripped m)) e.signal) (beside g (map stripped ms) (stripped m).area) ≡ list_any (λ e. is_strange g.circuit (known g.circuit m) e.signal) (beside g ms m.area)
+lacks_one g ms m =
+    ap₂ (λ ws es. list_any (λ (e : Border). is_strange g.circuit ws e.signal) es) (known_kept g m) (ap (beside g (map stripped ms)) (area_kept g m) ∙ beside_stripped g ms m.area)
+
+lacks_all : (g : Setting) (ms ns : List ModuleLines) → list_any (λ m. list_any (λ e. is_strange g.circuit (known g.circuit m) e.signal) (beside g (map stripped ms) m.area)) (map stripped ns)
+    ≡ list_any (λ m. list_any (λ e. is_strange g.circuit (known g.circuit m) e.signal) (beside g ms m.area)) ns
+lacks_all g ms [] = refl
+lacks_all g ms (n ∷ ns) = ap₂ (λ a b. a || b) (lacks_one g ms n) (lacks_all g ms ns)
+
+pub migrated_lacks : (g : Setting) (es : List Entry) → lacks_wire g (modules_of (without_halos es)) ≡ lacks_wire g (modules_of es)
+unfolding lacks_wire
+migrated_lacks g es = ap (lacks_wire g) (modules_without es) ∙ lacks_all g (modules_of es) (modules_of es)
+
+-- ---- sections of either version
+
+good_of : (g : Setting) (es before : List Entry) → AreFaultlessLines g 1 before es → AreGoodLines g before es
+good_of g [] before h = tt
+good_of g (i ∷ es) before h = ((both_none (code_where (is_haloless 1 && is_halo i) 1) (entry_fault g before i) h.0).1, good_of g es (before ++ i ∷ []) h.1)
+
+faultless_two : (g : Setting) (es before : List Entry) → AreGoodLines g before (without_halos es) → AreFaultlessLines g 2 before (without_halos es)
+unfolding without_halos is_halo
+faultless_two g [] before h = tt
+faultless_two g (Module b ∷ es) before h = (h.0, faultless_two g es (before ++ Module b ∷ []) h.1)
+faultless_two g (Cut n ∷ es) before h = (h.0, faultless_two g es (before ++ Cut n ∷ []) h.1)
+faultless_two g (Use k ∷ es) before h = (h.0, faultless_two g es (before ++ Use k ∷ []) h.1)
+faultless_two g (Keep k ∷ es) before h = (h.0, faultless_two g es (before ++ Keep k ∷ []) h.1)
+faultless_two g (Edge e ∷ es) before h = (h.0, faultless_two g es (before ++ Edge e ∷ []) h.1)
+faultless_two g (Halo e ∷ es) before h = faultless_two g es before h
+faultless_two g (Stop s ∷ es) before h = (h.0, faultless_two g es (before ++ Stop s ∷ []) h.1)
+
+pub section_without_halos : SectionWithoutHalos
+section_without_halos g es is knows =
+    let good = good_without_halos g es (record { lines = good_of g es [] is.lines; end = (both_none (end_fault g es) (code_where (is_haloless 1 && lacks_wire g (modules_of es)) 11) is.end).0 }) in
+    record {
+      header = refl;
+      lines = faultless_two g es [] good.lines;
+      end = none_both (end_fault g (without_halos es)) (code_where (is_haloless 2 && lacks_wire g (modules_of (without_halos es))) 11) good.end (coded _ 11 (migrated_lacks g es ∙ knows));
+    }
+
+faultless_lines : (g : Setting) (v : ℕ) (es before : List Entry) → AreFaultlessLines g v before es → AreFaultless (certificate_grammar g) v before es
+faultless_lines g v [] before h = tt
+faultless_lines g v (i ∷ es) before h = (h.0, faultless_lines g v es (before ++ i ∷ []) h.1)
+
+pub section_modules : (g : Setting) (v : ℕ) (es : List Entry) → IsSectionOf g v es → AreModules g (modules_of es)
+section_modules g v es is = faultless_modules g v es (record { header = is.header; each = faultless_lines g v es [] is.lines; end = is.end })

@@ -1,0 +1,20 @@
+use Rattle.std.proofs.Common.{List, ap, subst, map, rules}
+use Rattle.std.specs.List.Sorted.{IsPermutation}
+use Rattle.std.specs.Ordering.{is_lt}
+use Rattle.std.proofs.lemmas.List.Sorted.{answers_always, ranks_by}
+use Rattle.certificate.specs.Grammars.{setting_of}
+use Rattle.certificate.specs.ModuleParts.{part_lines}
+use Rattle.certificate.specs.Versions.{beside, line_order}
+use Rattle.certificate.specs.declared.entry.Border.{Border}
+use Rattle.certificate.proofs.FullModules.{distinct_beside}
+use Rattle.certificate.proofs.LineOrder.{line_total}
+use Rattle.certificate.proofs.SortedLines.{sorted_lines}
+use Rattle.certificate.proofs.beside.halos_beside.Goals as goal
+
+pub returns : goal.returns
+returns c =
+    let g = setting_of c.args.plan.now.circuit c.args.plan.now.layout in
+    let ms = map part_lines c.args.parts.now in
+    let same : IsPermutation (beside g ms c.args.area) c.sort_by.new.self.items = subst (λ (l : List Border). IsPermutation l c.sort_by.new.self.items) c.in_ok-halos.ensures c.sort_by.ensures.permutation in
+    sorted_lines (beside g ms c.args.area) c.sort_by.new.self.items (distinct_beside g ms c.requires c.args.area) same
+    (c.in_ok-sort_by.ensures.sorted (λ a b. is_lt (line_order a b)) (ranks_by line_total (λ e. e)) (answers_always _ _ _ (λ f a r g k. search rules)))

@@ -1,0 +1,8 @@
+use Rattle.std.proofs.Common.{◌≡◌, ◌++◌, drop, map}
+use Rattle.certificate.specs.Entries.{modules_of}
+use Rattle.certificate.specs.ModuleParts.{part_lines}
+use Rattle.certificate.proofs.beside.parts_of.Given as goal
+
+-- The modules before the line.
+abbrev pub invariant-lines : goal.invariant-lines
+invariant-lines l = map part_lines l.parts.items ++ modules_of (drop l.place l.entries) ≡ modules_of l.entries

@@ -1,0 +1,7 @@
+use Rattle.std.proofs.Common.{◌≡◌, ◌++◌, map, take}
+use Rattle.certificate.specs.declared.entry.Entry.TheVariants.{Halo}
+use Rattle.certificate.proofs.beside.push_halos.Given as goal
+
+-- The halo lines so far.
+abbrev pub invariant-halos : goal.invariant-halos
+invariant-halos l = l.full.items ≡ l.fn.full.items ++ map Halo (take l.halo-index l.halos)

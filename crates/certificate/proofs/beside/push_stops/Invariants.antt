@@ -1,0 +1,9 @@
+use Rattle.std.proofs.Common.{◌≡◌, ◌++◌, map, take}
+use Rattle.std.specs.List.{flat_map}
+use Rattle.certificate.specs.Entries.{stop_in}
+use Rattle.certificate.specs.declared.entry.Entry.TheVariants.{Stop}
+use Rattle.certificate.proofs.beside.push_stops.Given as goal
+
+-- The stops so far.
+abbrev pub invariant-lines : goal.invariant-lines
+invariant-lines l = l.full.items ≡ l.fn.full.items ++ map Stop (flat_map stop_in (take l.line-index l.lines))

@@ -1,0 +1,203 @@
+//! The halo lines that the edge lines of version 2 stand for.
+ghost use Rattle.std.specs.Prelude.{◌≡◌, ◌++◌, ◌∷◌, [], map, if◌then◌else◌, nat_lt, IfOk, OnOk};
+ghost use Rattle.std.specs.List.{filter, flat_map};
+ghost use Rattle.module_box.specs.Boxes.{in_halo};
+ghost use Rattle.certificate.specs.Entries.{ModuleLines, edge_in, edges, modules_of, stop_in};
+ghost use Rattle.certificate.specs.Grammars.{setting_of};
+ghost use Rattle.certificate.specs.Modules.{AreModules};
+ghost use Rattle.certificate.specs.ModuleParts.{part_lines};
+ghost use Rattle.certificate.specs.Versions.{beside, in_order, is_early, is_halo, with_halos};
+ghost use Rattle.certificate.specs.declared.entry.Entry.TheVariants.{Halo, Stop};
+
+use crate::counts::push_entry;
+use crate::entry::{Border, Entry};
+use crate::lines::inner_lines;
+use crate::order::compare_borders;
+use crate::plan::Plan;
+use module_box::Box2;
+use std::alloc::{AllocError, Global};
+
+/// A module: its box, and its lines after the `module` line.
+#[derive(Clone, Copy)]
+pub(crate) struct Part<'a> {
+    pub(crate) area: Box2,
+    pub(crate) lines: &'a [Entry],
+}
+
+/// The modules of lines.
+pub(crate) fn parts_of(alloc: Global, entries: &[Entry]) -> Result<Vec<Part>, AllocError>
+    ensures { IfOk result (λ parts. map part_lines parts.items ≡ modules_of entries.now) }
+{
+    let mut parts = Vec::new(alloc);
+    'lines: for (place, entry) in entries.iter().enumerate() {
+        if let Entry::Module(area) = entry {
+            parts.push(Part {
+                area: *area,
+                lines: inner_lines(&entries[place + 1..]),
+            })?;
+        }
+    }
+    Ok(parts)
+}
+
+fn push_border(halos: &mut Vec<Border>, border: Border) -> Result<(), AllocError>
+    ensures { OnOk result (halos.new.items ≡ halos.old.items ++ border ∷ []) }
+{
+    let _signal = border.signal;
+    halos.push(border)?;
+    Ok(())
+}
+
+// Adds an edge line for a cell in the halo of the box.
+fn push_line(halos: &mut Vec<Border>, area: Box2, line: &Entry) -> Result<(), AllocError>
+    ensures { OnOk result (halos.new.items ≡ halos.old.items ++ filter (λ e. in_halo area e.cell.x e.cell.y) (edge_in line.now)) }
+{
+    match line {
+        Entry::Edge(border) if area.in_halo(border.cell) => push_border(halos, *border),
+        _ => Ok(()),
+    }
+}
+
+fn push_lines(halos: &mut Vec<Border>, area: Box2, lines: &[Entry]) -> Result<(), AllocError>
+    ensures { OnOk result (halos.new.items ≡ halos.old.items ++ filter (λ e. in_halo area e.cell.x e.cell.y) (flat_map edge_in lines.now)) }
+{
+    'lines: for line in lines {
+        push_line(halos, area, line)?;
+    }
+    Ok(())
+}
+
+fn push_parts(halos: &mut Vec<Border>, area: Box2, parts: &[Part]) -> Result<(), AllocError>
+    ensures { OnOk result (halos.new.items ≡ halos.old.items ++ filter (λ e. in_halo area e.cell.x e.cell.y) (flat_map edges (map part_lines parts.now))) }
+{
+    'parts: for part in parts {
+        push_lines(halos, area, part.lines)?;
+    }
+    Ok(())
+}
+
+// The edge lines of the modules for the cells in the halo of a box.
+#[tactic(auto, unfolding(crate::specs::Versions::beside))]
+fn lines_beside(
+    alloc: Global,
+    plan: &Plan,
+    parts: &[Part],
+    area: Box2,
+) -> Result<Vec<Border>, AllocError>
+    ensures { IfOk result (λ halos. halos.items ≡ beside (setting_of plan.now.circuit plan.now.layout) (map part_lines parts.now) area) }
+{
+    let mut halos = Vec::new(alloc);
+    let size = plan.layout().size();
+    if size.steps <= 1 {
+        return Ok(halos);
+    }
+    push_parts(&mut halos, area, parts)?;
+    Ok(halos)
+}
+
+// The same in order.
+fn halos_beside(
+    alloc: Global,
+    plan: &Plan,
+    parts: &[Part],
+    area: Box2,
+) -> Result<Vec<Border>, AllocError>
+    requires { AreModules (setting_of plan.now.circuit plan.now.layout) (map part_lines parts.now) }
+    ensures { IfOk result (λ halos. halos.items ≡ in_order (beside (setting_of plan.now.circuit plan.now.layout) (map part_lines parts.now) area)) }
+{
+    let mut halos = lines_beside(alloc, plan, parts, area)?;
+    halos.sort_by(|a, b| compare_borders(a, b))?;
+    Ok(halos)
+}
+
+/// Whether a line is a halo line.
+#[tactic(auto, unfolding(crate::specs::Versions::is_halo))]
+pub(crate) fn is_halo(line: &Entry) -> bool
+    ensures { result ≡ is_halo line.now }
+{
+    match line {
+        Entry::Halo(_) => true,
+        _ => false,
+    }
+}
+
+// Whether a line stands before the halo lines of its module.
+#[tactic(auto, unfolding(crate::specs::Versions::is_early))]
+fn is_early(line: &Entry) -> bool
+    ensures { result ≡ is_early line.now }
+{
+    match line {
+        Entry::Halo(_) => false,
+        Entry::Stop(_) => false,
+        _ => true,
+    }
+}
+
+fn push_line_of(full: &mut Vec<Entry>, line: Entry) -> Result<(), AllocError>
+    ensures { OnOk result (full.new.items ≡ full.old.items ++ line ∷ []) }
+{
+    match push_entry(full, line) {
+        Ok(()) => Ok(()),
+        Err(_) => Err(AllocError),
+    }
+}
+
+// Adds the lines that stand before the halo lines.
+fn push_early(full: &mut Vec<Entry>, lines: &[Entry]) -> Result<(), AllocError>
+    ensures { OnOk result (full.new.items ≡ full.old.items ++ filter is_early lines.now) }
+{
+    'lines: for line in lines {
+        if is_early(line) {
+            push_line_of(full, *line)?;
+        }
+    }
+    Ok(())
+}
+
+fn push_halos(full: &mut Vec<Entry>, halos: &[Border]) -> Result<(), AllocError>
+    ensures { OnOk result (full.new.items ≡ full.old.items ++ map Halo halos.now) }
+{
+    'halos: for halo in halos {
+        push_line_of(full, Entry::Halo(*halo))?;
+    }
+    Ok(())
+}
+
+// Adds a line that is a stop.
+fn push_stop(full: &mut Vec<Entry>, line: &Entry) -> Result<(), AllocError>
+    ensures { OnOk result (full.new.items ≡ full.old.items ++ map Stop (stop_in line.now)) }
+{
+    match line {
+        Entry::Stop(_) => push_line_of(full, *line),
+        _ => Ok(()),
+    }
+}
+
+// Adds the stops.
+fn push_stops(full: &mut Vec<Entry>, lines: &[Entry]) -> Result<(), AllocError>
+    ensures { OnOk result (full.new.items ≡ full.old.items ++ map Stop (flat_map stop_in lines.now)) }
+{
+    'lines: for line in lines {
+        push_stop(full, line)?;
+    }
+    Ok(())
+}
+
+/// The lines of a module with the halo lines that the edge lines beside it stand for.
+#[tactic(auto, unfolding(crate::specs::Versions::with_halos))]
+pub(crate) fn full_lines(
+    alloc: Global,
+    plan: &Plan,
+    parts: &[Part],
+    part: &Part,
+) -> Result<Vec<Entry>, AllocError>
+    requires { AreModules (setting_of plan.now.circuit plan.now.layout) (map part_lines parts.now) }
+    ensures { IfOk result (λ lines. record { area = part.now.area; lines = lines.items } ≡ with_halos (setting_of plan.now.circuit plan.now.layout) (map part_lines parts.now) (part_lines part.now)) }
+{
+    let halos = halos_beside(alloc, plan, parts, part.area)?;
+    let mut full = Vec::new(alloc);
+    push_early(&mut full, part.lines)?;
+    push_halos(&mut full, halos.as_slice())?;
+    push_stops(&mut full, part.lines)?;
+    Ok(full)
+}

@@ -1,0 +1,88 @@
+-- Jobs whose halos say the same at each odd time have the same faults
+use Rattle.std.proofs.Common.{◌≡◌, ℕ, zero, suc, ◌<◌, ◌≤◌, ◌%◌, ◌&&◌, ◌||◌, List, [], refl, sym, ap, ap₂, subst, ◌∙◌, arith, inl, inr}
+use Rattle.std.specs.Prelude.{ℤ, IsTrue, Contains}
+use Rattle.std.specs.List.{All}
+use Rattle.std.proofs.lemmas.Bool.{cases_Bool}
+use Rattle.std.proofs.Math.Logic.{∥∥₁_map}
+use Rattle.bbm_rule.specs.Plane.{State}
+use Rattle.circuit.specs.Meaning.{Valuation}
+use Rattle.module_box.specs.Boxes.{in_box, in_halo}
+use Rattle.module_box.specs.Schedules.{Signals, signal_at}
+use Rattle.module_box.specs.declared.schedules.Signal.{Signal}
+use Rattle.certificate.specs.Jobs.{JobState, job_demand, job_start}
+use Rattle.certificate.specs.Signals.{Meets, is_live}
+use Rattle.certificate.specs.declared.job.Stop as listed
+use Rattle.local_run.specs.Faults.{HasFault, IsFault, IsFaultUnder}
+use Rattle.local_run.specs.Laws.{JobsWithSameHalosAgree, SayTheSame}
+use Rattle.local_run.specs.Runs.{local_run, with_halo}
+use Rattle.local_run.specs.declared.fault.Fault.{Fault}
+use Rattle.local_run.specs.declared.fault.Kind.{Kind}
+use Rattle.local_run.specs.declared.fault.Kind.TheVariants.{Edge, Stop, End}
+use Rattle.local_run.proofs.LocalRuns.{even_or_odd, local_even, local_odd, step_all_same}
+
+-- a stop that is listed is at a time up to the last one
+stop_time : (j : JobState) (ss : List listed.Stop) (s : listed.Stop) → All (λ s. s.at.time ≤ j.steps) ss → Contains ss s → s.at.time ≤ j.steps
+stop_time j ss s all (k, lt, is) = subst (λ (x : listed.Stop). x.at.time ≤ j.steps) is (all k s lt)
+
+module _ (j : JobState) (halos : Signals) (same : SayTheSame j halos) where
+  abbrev k : JobState
+  k = record j { halos = halos }
+
+  halo_same : (u : Valuation) (t : ℕ) (s s' : State) (x y : ℤ) → t % 2 ≡ 1 → t < j.steps → s x y ≡ s' x y → with_halo j u t s x y ≡ with_halo k u t s' x y
+  unfolding with_halo
+  halo_same u t s s' x y odd early e = elim (cases_Bool (in_halo j.area x y)) [
+    | inl here ↦ λ i. e i || (in_halo j.area x y && is_live u (same t x y odd early here i))
+    | inr other ↦
+        ap₂ (λ a b. a || (b && is_live u (signal_at j.halos t x y))) e other
+        ∙ ap (λ b. s' x y || (b && is_live u (signal_at halos t x y))) (sym other)
+  ]
+
+  run_same : (u : Valuation) (t : ℕ) → t ≤ j.steps → (x y : ℤ) → local_run j u t x y ≡ local_run k u t x y
+  unfolding local_run job_start
+  run_same u zero le x y = refl
+  run_same u (suc t) le x y =
+      let before : (x' y' : ℤ) → local_run j u t x' y' ≡ local_run k u t x' y' = run_same u t (omega (arith, le)) in
+      elim (even_or_odd t) [
+        | inl e ↦ local_even j u t _ x y e ∙ step_all_same t _ _ x y before ∙ sym (local_even k u t _ x y e)
+        | inr o ↦ local_odd j u t _ x y o
+            ∙ ap (λ p. in_box j.area x y && p) (step_all_same t _ _ x y (λ x' y'. halo_same u t _ _ x' y' o (omega (arith, le)) (before x' y')))
+            ∙ sym (local_odd k u t _ x y o)
+      ]
+
+  early_is : (t n : ℕ) → t < n → t ≤ n
+  early_is t n lt = omega (arith, lt)
+
+  last_is : (t n : ℕ) → t ≡ n → t ≤ n
+  last_is t n e = omega (arith, e)
+
+  under_same : (u : Valuation) (t : ℕ) (kind : Kind) (x y : ℤ) → All (λ s. s.at.time ≤ j.steps) j.stops → IsFaultUnder j u t kind x y → IsFaultUnder k u t kind x y
+  unfolding job_demand
+  under_same u t Edge x y early f = record {
+    odd = f.odd;
+    early = f.early;
+    ring = f.ring;
+    differs = λ e. f.differs (run_same u t (early_is t j.steps f.early) x y ∙ e);
+  }
+  under_same u t Stop x y early f = record {
+    stop = f.stop;
+    is_listed = f.is_listed;
+    time = f.time;
+    column = f.column;
+    row = f.row;
+    differs = λ e. f.differs (run_same u t (subst (λ n. n ≤ j.steps) f.time (stop_time j j.stops f.stop early f.is_listed)) x y ∙ e);
+  }
+  under_same u t End x y early f = record {
+    last = f.last;
+    inside = f.inside;
+    differs = λ m. f.differs (subst (Meets u (job_demand j x y)) (sym (run_same u t (last_is t j.steps f.last) x y)) m);
+  }
+
+pub same_halos_agree : JobsWithSameHalosAgree
+same_halos_agree j halos f early same is = record { in_range = is.in_range; shown = ∥∥₁_map is.shown moved }
+  where
+    moved : HasFault j f → HasFault (record j { halos = halos }) f
+    moved h = record {
+      values = h.values;
+      local = h.local;
+      differs = under_same j halos same h.values f.time f.kind f.cell.x f.cell.y early h.differs;
+    }
