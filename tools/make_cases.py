@@ -10,12 +10,13 @@ output), status (left out: 0), since and until (left out: 1, and for ever) and s
 A case is taken where K lies between its since and its until, and the first of its words is one of the
 commands or it is about words alone: status 2, or help. --also takes a case of that name in any case.
 --largest leaves out cases whose stdin has more bytes; a stdin_repeat is short however much it stands for.
---bundles adds a case of `check` for each NAME_v1.txt of a folder, whose report is NAME_v1.report, but for the bundles that have a
-line which begins with one of the words of --without.
---runs adds for each of them that has at most so many bytes, at most four inputs and no waste cell, a case of `run` for each
+--bundles adds a case of `check` for each NAME_v1.txt and NAME_v2.txt of a folder, whose report is NAME_v1.report or NAME_v2.report, but for the
+bundles that have a line which begins with one of the words of --without; and where there are both, of at most --largest bytes, a case
+of `migrate` from the first to the second.
+--runs adds for each NAME_v1.txt that has at most so many bytes, at most four inputs and no waste cell, a case of `run` for each
 assignment of its inputs; what is to be listed is made from the circuit alone (tools/meaning.py).
 
-The repository's file is made with `--stage 14 --commands run,value,modules,check --largest 200000`, and with all bundles and
+The repository's file is made with `--stage 15 --commands run,value,modules,check,migrate --largest 200000`, and with all bundles and
 `--runs 3000`. That leaves out the cases with as many edge and halo lines as a module may have, or one
 more: each is over a megabyte. tools/compare makes such bundles itself.
 """
@@ -96,6 +97,21 @@ def bundle_lines(text):
     yield b"status %d" % (1 if b"\nverdict no\n" in report else 0)
 
 
+def migrate_lines(text, most):
+    """A case of `migrate` from a bundle to the one of version 2 beside it."""
+    after = text.with_name(text.name.replace("_v1", "_v2"))
+    if after == text or not after.exists() or most is not None and text.stat().st_size > most:
+        return
+    yield b""
+    yield b"case migrate_" + text.stem.encode()
+    yield b"words migrate"
+    yield b"input"
+    yield from text_lines(text.read_bytes())
+    yield b"output"
+    yield from text_lines(after.read_bytes())
+    yield b"status 0"
+
+
 def run_lines(text, most):
     """The cases of `run` for the bundle's layout."""
     bundle = text.read_bytes()
@@ -153,10 +169,12 @@ def main():
         if is_taken(folder, options):
             out.write(b"\n" + b"\n".join(case_lines(folder)) + b"\n")
     if options.bundles:
-        for text in sorted(options.bundles.glob("*_v1.txt")):
+        for text in sorted(options.bundles.glob("*_v[12].txt")):
             if not has_word(text, options.without):
                 out.write(b"\n" + b"\n".join(bundle_lines(text)) + b"\n")
-                out.write(b"".join(line + b"\n" for line in run_lines(text, options.runs)))
+                out.write(b"".join(line + b"\n" for line in migrate_lines(text, options.largest)))
+                if text.stem.endswith("_v1"):
+                    out.write(b"".join(line + b"\n" for line in run_lines(text, options.runs)))
 
 
 main()

@@ -1,8 +1,8 @@
 #!/usr/bin/env python3
-"""make_reports.py COUNT DENSE SEED > crates/worked_rows/data/reports.txt
+"""make_reports.py COUNT DENSE SECOND SEED > crates/worked_rows/data/reports.txt
 
 Writes cases of `check`, in the form that crates/case_text/src/lib.rt tells: so many bundles of tools/meant_bundle.py, and then so many with
-many balls, each with the report of tools/reference_reports.py. The repository's file is made with `100 25 1`.
+many balls and so many in version 2, each with the report of tools/reference_reports.py. The repository's file is made with `100 25 25 1`.
 """
 import random
 import sys
@@ -11,6 +11,7 @@ from pathlib import Path
 sys.dont_write_bytecode = True
 sys.path.insert(0, str(Path(__file__).resolve().parent))
 from meant_bundle import meant_bundle  # noqa: E402
+from random_bundle import second_version  # noqa: E402
 from reference_reports import answer  # noqa: E402
 
 HEAD = """\
@@ -24,11 +25,13 @@ def lines_of(keyword, text):
 
 
 def main():
-    count, dense, seed = map(int, sys.argv[1:])
+    count, dense, second, seed = map(int, sys.argv[1:])
     rng, reports = random.Random(seed), []
     print(HEAD, end="")
-    for number in range(count + dense):
-        text = meant_bundle(rng, is_dense=number >= count)
+    for number in range(count + dense + second):
+        text = meant_bundle(rng, is_dense=count <= number < count + dense)
+        if number >= count + dense:
+            text = second_version(text)
         status, report = answer(text)
         reports.append(report.decode())
         case = [f"case random_{number}", "words check", *lines_of("input", text), *lines_of("output", report), f"status {status}"]

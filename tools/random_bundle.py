@@ -113,6 +113,12 @@ def layout_lines(rng, width, height, steps, mirrors, ins, outs):
     return lines + ["end"]
 
 
+def second_version(text):
+    """The text in version 2, without halo lines."""
+    lines = text.replace(b"\ncertificate 1\n", b"\ncertificate 2\n").split(b"\n")
+    return b"\n".join(line for line in lines if not line.startswith(b"halo "))
+
+
 def bundle(rng, width, height, boxes, steps, inputs, gates, mirrors, cuts, lines):
     """The bundle's text, or None where a port found no cell. cuts is the least that a module has; gates, mirrors and lines are
     the most that there are, lines of the edge lines of a module and of its halo lines."""

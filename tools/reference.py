@@ -1,4 +1,4 @@
-"""`run`, `value` and `modules` once more, in plain Python and straight from docs/FORMATS.md: no code is shared with the
+"""`run`, `value`, `modules` and `migrate` once more, in plain Python and straight from docs/FORMATS.md: no code is shared with the
 program.
 
 answer(command, text) gives the exit status and what is written for a text of bytes.
@@ -79,7 +79,7 @@ class Layout:
 
     def header(self, w, h, steps):
         self.w, self.h, self.steps = w, h, steps
-        good = all(2 <= side <= 512 and side % 2 == 0 for side in (w, h)) and steps <= 4096
+        good = all(2 <= side <= 512 and side % 2 == 0 for side in (w, h)) and steps <= 65536
         return None if good else 2
 
     def item(self, rank, name, at):
@@ -295,7 +295,7 @@ class Certificate:
         self.inverse = {number for number, (word, *_) in enumerate(circuit.gates) if word in INVERSE}
         w, h = layout.w, layout.h
         self.inside, self.rim = cells_of(0, 0, w, h), ring_of(0, 0, w, h)
-        self.modules, self.covered = [], set()
+        self.version, self.modules, self.covered = None, [], set()
 
     def form(self, words):
         word, rest = words[0], words[1:]
@@ -322,7 +322,8 @@ class Certificate:
         return None
 
     def header(self, version):
-        return None if version == 1 else 2
+        self.version = version
+        return None if version in (1, 2) else 2
 
     def item(self, line, *words):
         return line(*words)
@@ -349,7 +350,7 @@ class Certificate:
         if self.is_out_of_place(b"cut"):
             return 6
         module = self.modules[-1]
-        if len(module.lines[b"cut"]) == 10:
+        if len(module.lines[b"cut"]) == 12:
             return 2
         if name not in self.wires:
             return 3
@@ -386,6 +387,8 @@ class Certificate:
     def border(self, kind, time, x, y, signal):
         # a * line comes before every line with a time
         place = (-1 if time is None else time, y, x)
+        if kind == b"halo" and self.version == 2:
+            return 1
         if self.is_out_of_place(kind):
             return 6
         module = self.modules[-1]
@@ -435,16 +438,41 @@ class Certificate:
         last = self.modules[-1:]
         return any(cell in module.cells and name not in module.local for module in last for name, cell in ports)
 
+    def beside(self, module):
+        """The edge lines of all modules for the cells of this one's halo, in order. Without an odd time there are none."""
+        if self.layout.steps < 2:
+            return []
+        return sorted(line for other in self.modules for line in other.lines[b"edge"] if line[0][:0:-1] in module.places[b"halo"])
+
+    def lacks_a_wire(self):
+        """Whether in version 2 a module doesn't know the wire of an edge line beside it."""
+        return self.version == 2 and any(
+            signal != b"1" and signal not in module.local for module in self.modules for _, signal in self.beside(module))
+
     def end(self):
-        return 11 if self.lacks_a_port() or self.covered != self.inside else None
+        return 11 if self.lacks_a_port() or self.covered != self.inside or self.lacks_a_wire() else None
 
 
-def modules(text):
+def read_bundle(text):
+    """The certificate, and the lines of its section."""
     lines = Lines(text)
     circuit = read_section(lines, Circuit())
     known = {b"in": set(circuit.inputs), b"out": set(circuit.outputs)}
-    certificate = read_section(lines, Certificate(circuit, read_section(lines, Layout(known))))
+    layout = read_section(lines, Layout(known))
+    first = lines.taken
+    certificate = read_section(lines, Certificate(circuit, layout))
     lines.finish()
+    return certificate, lines.parts[:first], lines.parts[first:lines.taken]
+
+
+def migrate(text):
+    _, before, section = read_bundle(text)
+    kept = [line for line in section[1:] if not line.startswith(b"halo ")]
+    return 0, b"".join(line + b"\n" for line in [*before, b"certificate 2", *kept])
+
+
+def modules(text):
+    certificate, _, _ = read_bundle(text)
     rows = [(number, *module.box, *(len(module.lines[kind]) for kind in KINDS if kind != b"keep"))
             for number, module in enumerate(certificate.modules)]
     return 0, b"".join(b"module %d %d %d %d %d cuts %d gates %d edges %d halos %d stops %d\n" % row for row in rows)
@@ -452,6 +480,6 @@ def modules(text):
 
 def answer(command, text):
     try:
-        return {"run": run, "value": value, "modules": modules}[command](text)
+        return {"run": run, "value": value, "modules": modules, "migrate": migrate}[command](text)
     except Refused as refused:
         return 3, b"refused %d %d\n" % refused.args

@@ -14,6 +14,13 @@ def signal_at(module, kind, time, cell):
     return next((signal for (when, y, x), signal in module.lines[kind] if (x, y) == cell and when in (-1, time)), None)
 
 
+def add_halos(certificate):
+    """In version 2 the edge lines beside a module are its halo lines."""
+    if certificate.version == 2:
+        for module in certificate.modules:
+            module.lines[b"halo"] = certificate.beside(module)
+
+
 def border_fault(layout, modules, module):
     """The time, y and x of the least one, or None."""
     x, y, w, h = module.box
@@ -75,6 +82,7 @@ def answer(text):
         layout = read_section(lines, Pattern({b"in": set(circuit.inputs), b"out": set(circuit.outputs)}))
         first = lines.taken
         certificate = read_section(lines, Certificate(circuit, layout))
+        add_halos(certificate)
         last = lines.taken
         lines.finish()
     except Refused as refused:
