@@ -62,6 +62,7 @@ LinesTell = (c : Circuit) (ms : List ModuleLines) → All (Tells c (all_stops ms
 -- where all rules are kept, each delay takes as many steps as it says, and for each gate there is a time at which its inputs meet
 abbrev pub KeptIsOnTime : Type 0
 KeptIsOnTime = (c : Circuit) (ms : List ModuleLines) → IsTrue (are_all_kept (time_lines c ms)) → AreOnTime c (all_stops ms)
+
 -- where no edge line names a wire that a module beside it lacks, the modules of either version are modules of version 1
 abbrev pub MeantAreModules : Type 0
 MeantAreModules = (version : ℕ) (g : Setting) (ms : List ModuleLines) → AreModules g ms → (is_haloless version && lacks_wire g ms) ≡ false → AreModules g (meant version g ms)
