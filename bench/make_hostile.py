@@ -26,8 +26,8 @@ def boxes(w, h, a, b):
     return [(x, y, a, b) for y in range(0, h, b) for x in range(0, w, a)]
 
 
-def bundle(layout, parts, modules, circuit=()):
-    return joined(["circuit"], circuit, ["end", "layout %d %d %d" % layout], parts, ["end", "certificate 1"], modules, ["end"])
+def bundle(layout, parts, modules, circuit=(), version=1):
+    return joined(["circuit"], circuit, ["end", "layout %d %d %d" % layout], parts, ["end", f"certificate {version}"], modules, ["end"])
 
 
 def ring(x, y, w, h):
@@ -212,6 +212,16 @@ def most_lines(full):
 
 def neighbours(full):
     """check: 12 modules of 64 by 64 with the most edge lines, each among 132 modules of 2 by 2, which all look at its lines."""
+    return among_small(["module %d %d %d %d"], "1", 65536 if full else 32768)
+
+
+def near_edges(full):
+    """check, modules: the same in version 2, with a wire that each module cuts."""
+    return among_small(["module %d %d %d %d", "cut z"], "z", 65536 if full else 32768, ["source 0 -> z", "spill z"], 2)
+
+
+def among_small(begin, signal, most, circuit=(), version=1):
+    """Twelve modules of 64 by 64 among ones of 2 by 2, each with these lines at its begin, and so many edge lines of each large one."""
     across, down = 4, 3
     w, h, steps = 66 * across + 2, 66 * down + 2, 4096
     large = [(66 * i + 2, 66 * j + 2, 64, 64) for j in range(down) for i in range(across)]
@@ -219,10 +229,20 @@ def neighbours(full):
     small = [box for box in boxes(w, h, 2, 2) if box[:2] not in taken]
     modules = []
     for box in large + small:
-        modules.append("module %d %d %d %d" % box)
+        modules += ["\n".join(begin) % box]
         if box[2] == 64:
-            modules += timed("edge", edge_cells(w, h, box), steps, 65536 if full else 32768, "1")
-    return bundle((w, h, steps), [], modules)
+            modules += timed("edge", edge_cells(w, h, box), steps, most, signal)
+    return bundle((w, h, steps), [], modules, circuit, version)
+
+
+def most_edges(full):
+    """check, modules: as many edge lines of version 2 as 16 MiB have, of 1008 modules of 4 by 2 that all cut their wire."""
+    w, h, steps = 96, 84 if full else 42, 264
+    modules = []
+    for box in boxes(w, h, 4, 2):
+        modules += ["module %d %d %d %d" % box, "cut z"]
+        modules += timed("edge", edge_cells(w, h, box), steps, 65536, "z")
+    return bundle((w, h, steps), [], modules, ["source 0 -> z", "spill z"], 2)
 
 
 def stars(full):
@@ -251,7 +271,7 @@ def forked(names, sources):
 def cuts_and_uses(full):
     """check, modules: 1024 modules with the most cuts and used gates, with long names."""
     names = [f"a_name_of_thirty_two_bytes__{k:04d}" for k in range(22 + 4 * 1001)]
-    cuts, uses = [f"cut {name}" for name in names[4000:4010]], [f"use {number}" for number in range(64)]
+    cuts, uses = [f"cut {name}" for name in names[4000:4012]], [f"use {number}" for number in range(64)]
     area = boxes(SIDE, SIDE if full else SIDE // 2, 16, 16)
     modules = (line for box in area for line in ["module %d %d %d %d" % box, *cuts, *uses])
     return bundle((SIDE, SIDE if full else SIDE // 2, 1), [], modules, forked(names, 22))
@@ -332,13 +352,14 @@ def unlike(w, h, box):
     return sorted({(x + one % a, y + one // a), (x + other % a, y + other // a)})
 
 
-def runs_of(w, h, a, b, steps, lines=0):
-    """Modules of a by b that run to the end without a fault, with ten cuts, each of another shape; with so many lines each."""
-    circuit = [*(f"source {k % 2} -> w{k}" for k in range(10)), "source 0 -> z", *(f"spill w{k}" for k in range(10)), "spill z"]
+def runs_of(w, h, side, steps, lines=0, cuts=10):
+    """Modules of these sides that run to the end without a fault, with so many cuts, each of another shape; with so many lines each."""
+    wires = range(cuts)
+    circuit = [*(f"source {k % 2} -> w{k}" for k in wires), "source 0 -> z", *(f"spill w{k}" for k in wires), "spill z"]
     wastes, modules = set(), []
-    for box in boxes(w, h, a, b):
+    for box in boxes(w, h, *side):
         wastes.update(unlike(w, h, box))
-        modules += ["module %d %d %d %d" % box, *(f"cut w{k}" for k in range(10)), "use 10"]
+        modules += ["module %d %d %d %d" % box, *(f"cut w{k}" for k in wires), f"use {cuts}"]
         for kind, places in (("edge", edge_cells(w, h, box)), ("halo", halo_cells(w, h, box))):
             modules += timed(kind, places, steps, lines // 2, "z")
     return bundle((w, h, steps), [f"waste {x} {y}" for x, y in sorted(wastes)], modules, circuit)
@@ -346,27 +367,32 @@ def runs_of(w, h, a, b, steps, lines=0):
 
 def long_runs(full):
     """check: 1024 modules of 64 by 4 cells, each of another shape, with ten cuts, that run for 4096 steps."""
-    return runs_of(SIDE, SIDE if full else SIDE // 2, 64, 4, 4096)
+    return runs_of(SIDE, SIDE if full else SIDE // 2, (64, 4), 4096)
 
 
 def square_runs(full):
     """check: the same of 64 modules of 64 by 64."""
-    return runs_of(SIDE, SIDE if full else SIDE // 2, 64, 64, 4096)
+    return runs_of(SIDE, SIDE if full else SIDE // 2, (64, 64), 4096)
 
 
 def flat_runs(full):
     """check: the same of 1024 modules of 64 by 2, on half the layout."""
-    return runs_of(SIDE, SIDE // 2 if full else SIDE // 4, 64, 2, 4096)
+    return runs_of(SIDE, SIDE // 2 if full else SIDE // 4, (64, 2), 4096)
 
 
 def long_runs_with_lines(full):
     """check: 1024 modules of 64 by 4, with ten cuts and 4096 steps, and 15 MiB of lines that are all dead."""
-    return runs_of(SIDE, SIDE if full else SIDE // 2, 64, 4, 4096, 830)
+    return runs_of(SIDE, SIDE if full else SIDE // 2, (64, 4), 4096, 830)
+
+
+def longest_runs(full):
+    """check: 16 modules of 64 by 4 with twelve cuts and 65,536 steps, so each takes 64 times what one of long_runs does."""
+    return runs_of(64, 64 if full else 32, (64, 4), 65536, 0, 12)
 
 
 KINDS = [run_names, run_alike_names, run_ports, run_mirrors, run_balls, one_line, spaces, value_wide, value_alike, borders, most_lines,
-         neighbours, stars, cuts_and_uses, alike_lines, most_stops, alike_stops, same_port, most_memory, alike_places, many_modules, long_runs, square_runs, flat_runs,
-         long_runs_with_lines]
+         neighbours, near_edges, most_edges, stars, cuts_and_uses, alike_lines, most_stops, alike_stops, same_port, most_memory, alike_places, many_modules, long_runs, square_runs, flat_runs,
+         long_runs_with_lines, longest_runs]
 
 
 def main():
