@@ -9,7 +9,7 @@ use Rattle.std.proofs.lemmas.Bool.{cond-false, false≢true, cases_Bool}
 use Rattle.std.proofs.lemmas.Bool.Decides.{nat_tests}
 use Rattle.std.proofs.lemmas.Cmp.{tied_itself}
 use Rattle.bbm_rule.specs.declared.block.Cell.{Cell}
-use Rattle.module_box.specs.Boxes.{in_box}
+use Rattle.module_box.specs.Boxes.{in_box, is_near}
 use Rattle.module_box.specs.Locals.{circuit_wire}
 use Rattle.module_box.specs.Schedules.{Signals, held_at, event_at, signal_at, is_then}
 use Rattle.module_box.specs.Tiling.{owner_of}
@@ -17,15 +17,16 @@ use Rattle.module_box.specs.declared.schedules.Event.{Event}
 use Rattle.module_box.specs.declared.schedules.Moment.{Moment}
 use Rattle.module_box.specs.declared.schedules.Signal.TheVariants.{Zero}
 use Rattle.module_box.proofs.BoxCells.{same_some}
+use Rattle.module_box.proofs.NearBoxes.{near_boxes}
 use Rattle.module_box.proofs.Rising.{then_moment}
 use Rattle.certificate.specs.Jobs.{JobState}
 use Rattle.certificate.specs.Signals.{renumber_signal}
 use Rattle.border_match.specs.BorderFaults.{border_cmp}
-use Rattle.border_match.specs.Boards.{jobs_of, IsReady, Faults, IsNamed, IsNamedBelow, IsEdgeNamed, IsEdgeNamedBelow, IsEdgeNamedAt, IsHeld, IsHeldAt, IsHeldInRow, IsHeldBefore, IsHeldAbove, is_near}
+use Rattle.border_match.specs.Boards.{jobs_of, IsReady, Faults, IsNamed, IsNamedBelow, IsEdgeNamed, IsEdgeNamedBelow, IsEdgeNamedAt, IsHeld, IsHeldAt, IsHeldInRow, IsHeldBefore, IsHeldAbove}
 use Rattle.border_match.specs.declared.borders.Borders.{Borders}
 use Rattle.border_match.specs.declared.fault.BorderFault.{BorderFault}
 use Rattle.border_match.proofs.FaultOrder.{border_total}
-use Rattle.border_match.proofs.Cells.{near_boxes, placed}
+use Rattle.border_match.proofs.Cells.{placed}
 
 lower_or_same : (i m : ℕ) → i < m + 1 → (i < m) ⊎ (i ≡ m)
 lower_or_same i m h = grind arith

@@ -1,5 +1,5 @@
 -- Border faults by the jobs of the modules, and the parts of a search for them
-use Rattle.std.specs.Prelude.{◌≡◌, ◌≢◌, ℕ, ℤ, pos, ◌+◌, ◌<◌, ◌%◌, ◌&&◌, Bool, List, map, Some, None, slice_get, nat_lt, IsTrue}
+use Rattle.std.specs.Prelude.{◌≡◌, ◌≢◌, ℕ, ℤ, pos, ◌+◌, ◌<◌, ◌%◌, List, map, Some, None, slice_get, IsTrue}
 use Rattle.std.specs.Arc.{arc_value}
 use Rattle.bbm_rule.specs.declared.block.Cell.{Cell}
 use Rattle.module_box.specs.Boxes.{in_box, in_halo}
@@ -117,7 +117,3 @@ pub record IsHeldAbove (b : Borders) (y : ℕ) (f : BorderFault) : Type 0 where
   pub at : ℕ
   pub row : f.cell.y ≡ pos at
   pub above : at < y
-
--- a box and the halo of another may have cells in common, as far as their corners and sides tell
-abbrev pub is_near : Box2 → Box2 → Bool
-is_near a b = nat_lt b.x (a.x + a.w + 1) && nat_lt a.x (b.x + b.w + 1) && nat_lt b.y (a.y + a.h + 1) && nat_lt a.y (b.y + b.h + 1)

@@ -7,7 +7,7 @@ ghost use Rattle.module_box.specs.Locals.{circuit_wire};
 ghost use Rattle.module_box.specs.Moves.{IsNear};
 ghost use Rattle.module_box.specs.Tiling.{owner_of};
 ghost use Rattle.certificate.specs.Signals.{IsBelow, renumber_signal};
-ghost use Rattle.border_match.specs.Boards.{Differ, Faults, IsEdgeNamed, IsEdgeNamedAt, IsHeld, IsHeldAt, IsHeldInRow, IsNamed, IsReady, is_near, job_edge, job_halo, jobs_of};
+ghost use Rattle.border_match.specs.Boards.{Differ, Faults, IsEdgeNamed, IsEdgeNamedAt, IsHeld, IsHeldAt, IsHeldInRow, IsNamed, IsReady, job_edge, job_halo, jobs_of};
 ghost use Rattle.border_match.specs.Candidates.{IsBetter, IsLeast};
 ghost use Rattle.border_match.specs.declared.fault.BorderFault.{BorderFault};
 
@@ -56,17 +56,6 @@ fn edge_signal(job: &Job, time: u32, cell: Cell) -> Signal
 {
     let _area = job.area();
     circuit_signal(job, job.edge(time, cell))
-}
-
-// Whether the halo of the one box may reach the other.
-fn are_near(a: Box2, b: Box2) -> bool
-    ensures { result ≡ is_near a b }
-{
-    let left = (b.x as u64) < a.x as u64 + a.w as u64 + 1;
-    let right = (a.x as u64) < b.x as u64 + b.w as u64 + 1;
-    let top = (b.y as u64) < a.y as u64 + a.h as u64 + 1;
-    let bottom = (a.y as u64) < b.y as u64 + b.h as u64 + 1;
-    left & right & top & bottom
 }
 
 impl<'a> Borders<'a> {
@@ -169,7 +158,7 @@ impl<'a> Borders<'a> {
         ensures { IsBetter (Faults self.now) (IsEdgeNamedAt number self.now) best result }
     {
         let other: &Job = &self.jobs[number];
-        if !are_near(self.job.area(), other.area()) {
+        if !self.job.area().is_near(other.area()) {
             return best;
         }
         self.with_edge_events(best, other)

@@ -15,7 +15,7 @@ use Rattle.certificate.specs.Entries.{Setting, ModuleLines, with_line, change_la
 use Rattle.certificate.specs.Orders.{AreInOrder, may_follow}
 use Rattle.certificate.specs.Rules.{same_cell, is_starred, are_new, box_cells, is_incomplete, is_local, lacks_port, words_fault, line_fault, inner_fault, module_fault}
 use Rattle.certificate.specs.Modules.{IsModule}
-use Rattle.certificate.specs.BuilderView.{AreBuilt, IsInner, IsPresent, IsKept, IsWritten, counted, IsSmall, outs_at, wires_in}
+use Rattle.certificate.specs.BuilderView.{AreBuilt, AreWires, IsInner, IsPresent, IsKept, IsKeptWith, IsWritten, counted, IsSmall, outs_at, wires_in}
 use Rattle.certificate.specs.declared.entry.Border.{Border}
 use Rattle.certificate.specs.declared.entry.Counts.{Counts}
 use Rattle.certificate.specs.declared.entry.Entry.{Entry}
@@ -25,6 +25,7 @@ use Rattle.certificate.proofs.BuiltLemmas.{built_none, module_built, line_built,
 use Rattle.certificate.proofs.Growing.{modules_push, flat_push, flat_same, last_at, last_pushed, last_changed, last_mapped}
 use Rattle.certificate.proofs.Lists.{some_is}
 use Rattle.certificate.proofs.KnownLemmas.{none_new}
+use Rattle.certificate.proofs.LackedWires.{wires_begun, wires_more}
 use Rattle.certificate.proofs.ModulePushes.{no_code, both_none, not_false, new_wire, good_use, cuts_cut, gates_use, edges_edge, halos_halo, stops_stop, known_cut, known_use, known_same, cut_pushed, use_pushed, keep_pushed, edge_pushed, halo_pushed, stop_pushed}
 
 no_last : {X : Type 0} (x : X) → None ≡ Some x → ⊥
@@ -345,3 +346,33 @@ module _ (g : Setting) (es : List Entry) (covered new_covered : Board) (counts :
         none = λ gone. absurd (pushed_some (modules_of es) begun_lines (sym more ∙ gone));
         present = λ m some. subst (λ k. IsPresent g k None new_names [] [] []) (some_is begun_lines m (sym (ap last_of more ∙ last_pushed (modules_of es) begun_lines) ∙ some)) (begun_present ports);
       }
+
+-- ---- with the wires of all modules
+
+pub with_none : (g : Setting) (covered : Board) → covered.width ≡ g.size.w → covered.height ≡ g.size.h → ((x y : ℤ) → live covered x y ≡ false) → (e h : List Cell) → IsKeptWith g [] covered [] None [] [] [] e h
+unfolding modules_of
+with_none g covered w high dead e h = record { kept = kept_none g covered w high dead [] e h; wires = refl }
+
+module _ (g : Setting) (es : List Entry) (covered : Board) (counts : List Counts) (last : Option Entry) (names : List (List ℕ)) (earlier : List (List ℕ)) (local : List ℕ) (e h : List Cell) (was : IsKeptWith g es covered counts last names earlier local e h) where
+  pub with_inner : (i : Entry) → IsInner i → (good : IsGoodLine g es i) → (after : List Counts) → after ≡ change_last (counted i) counts → (e' h' : List Cell)
+      → ((c : Cell) → list_any (same_cell c) e' ≡ (list_any (same_cell c) e || list_any (is_starred c) (edge_in i)))
+      → ((c : Cell) → list_any (same_cell c) h' ≡ (list_any (same_cell c) h || list_any (is_starred c) (halo_in i)))
+      → IsKeptWith g (es ++ i ∷ []) covered after (Some i) names earlier (local ++ wires_in g.circuit i) e' h'
+  with_inner i inner good after now e' h' stars halo_stars =
+      let line = does_line g es i inner good (last_good g es covered counts last names local e h was.kept good.module_lines good.last) in
+      record {
+        kept = kept_inner g es covered counts last names local e h was.kept i inner good after now e' h' stars halo_stars;
+        wires = subst (λ ms. AreWires g.circuit ms earlier (local ++ wires_in g.circuit i)) (sym (modules_push es i ∙ line.line))
+            (wires_more g.circuit (with_line i) (modules_of es) good.module_lines earlier local (wires_in g.circuit i) good.last line.wires was.wires);
+      }
+
+  pub with_module : (new_covered : Board) (new_names : List (List ℕ)) (b : Box2) (cells : List Cell) → cells ≡ box_cells b → module_fault g (modules_of es) (present es) b ≡ None →
+      ((x y : ℤ) → live new_covered x y ≡ (live covered x y || in_cells cells x y)) → HasSameSize covered new_covered
+      → ((f : List ℕ → Bool) → list_any f new_names ≡ list_any (λ p. in_box b p.cell.x p.cell.y && f p.name) g.ports)
+      → IsKeptWith g (es ++ Module b ∷ []) new_covered (counts ++ record { area = b; cuts = 0; gates = 0; edges = 0; halos = 0; stops = 0 } ∷ []) None new_names (earlier ++ local ∷ []) [] [] []
+  unfolding add_line
+  with_module new_covered new_names b cells are good after size ports = record {
+    kept = kept_module g es covered new_covered counts last names new_names local e h was.kept b cells are good after size ports;
+    wires = subst (λ ms. AreWires g.circuit ms (earlier ++ local ∷ []) []) (sym (modules_push es (Module b)))
+        (wires_begun g.circuit (modules_of es) (record { area = b; lines = [] }) earlier local refl was.wires);
+  }

@@ -23,6 +23,8 @@ pub mod CountLemmas
 pub mod Growing
 pub mod LineOrder
 pub mod FullModules
+pub mod FarLines
+pub mod LackedWires
 pub mod HaloSignals
 pub mod LineSignals
 pub mod SortedLines
@@ -41,9 +43,10 @@ pub mod TableLemmas
 pub mod Soundness
 pub mod StarLemmas
 pub mod TileLemmas
-mod Spelling
+pub mod Spelling
 mod RoundTrip
 pub mod NearLines
 pub mod FirstShapes
 pub mod FirstKeys
 pub mod TellingShapes
+mod PrintedLines

@@ -27,7 +27,7 @@ use Rattle.certificate.proofs.ModulePushes.{both_none, no_code}
 use Rattle.certificate.proofs.Soundness.{faultless_modules}
 use Rattle.section_text.proofs.Good.{AreFaultless}
 
-without_append : (xs ys : List Entry) → without_halos (xs ++ ys) ≡ without_halos xs ++ without_halos ys
+pub without_append : (xs ys : List Entry) → without_halos (xs ++ ys) ≡ without_halos xs ++ without_halos ys
 unfolding without_halos is_halo
 without_append [] ys = refl
 without_append (Module b ∷ xs) ys = ap (λ l. Module b ∷ l) (without_append xs ys)

@@ -1,15 +1,17 @@
 -- The fields of a certificate that is being read, and what contracts see of them
-use Rattle.std.specs.Prelude.{◌≡◌, ℕ, ◌+◌, ◌<◌, ◌≤◌, ℤ, ◌&&◌, Bool, false, List, [], map, length, Option, Some, None, slice_get, IsTrue}
+use Rattle.std.specs.Prelude.{◌≡◌, ℕ, ◌+◌, ◌<◌, ◌≤◌, ℤ, ◌&&◌, Bool, false, List, [], ◌∷◌, ◌++◌, map, length, Option, Some, None, slice_get, IsTrue}
 use Rattle.std.specs.Option.{option_to_list}
 use Rattle.circuit.specs.Meaning.{Circuit, Gate, wire_of}
-use Rattle.std.specs.List.{list_any}
+use Rattle.std.specs.List.{filter, list_any}
 use Rattle.bbm_rule.specs.Board.{Board, live}
 use Rattle.bbm_rule.specs.declared.block.Cell.{Cell}
-use Rattle.module_box.specs.Boxes.{in_box}
+use Rattle.module_box.specs.Boxes.{in_box, in_halo}
 use Rattle.module_box.specs.declared.boxes.Box2.{Box2}
 use Rattle.certificate.specs.Entries.{Setting, ModuleLines, modules_of, last_of, areas, counts_of, known, edges, halos}
 use Rattle.certificate.specs.Rules.{in_boxes, is_starred, same_cell, lacks_port}
 use Rattle.certificate.specs.Modules.{HasFewLines, IsModule}
+use Rattle.certificate.specs.Versions.{is_strange}
+use Rattle.certificate.specs.declared.entry.Border.{Border}
 use Rattle.certificate.specs.declared.entry.Counts.{Counts}
 use Rattle.certificate.specs.declared.entry.Entry.{Entry}
 use Rattle.certificate.specs.declared.entry.Entry.TheVariants.{Module, Cut, Use, Keep, Edge, Halo, Stop}
@@ -64,8 +66,21 @@ pub record IsKept (g : Setting) (es : List Entry) (covered : Board) (counts : Li
   pub none : modules_of es ≡ [] → names ≡ []
   pub present : (m : ModuleLines) → last_of (modules_of es) ≡ Some m → IsPresent g m last names local e h
 
+-- one of these edge lines is for a cell in the halo of the module, and names a wire that is not local there
+abbrev pub lacks_edge : Circuit → List Border → ModuleLines → Bool
+lacks_edge c es m = list_any (λ e. is_strange c (known c m) e.signal) (filter (λ e. in_halo m.area e.cell.x e.cell.y) es)
+
+-- The local wires of each module, behind none: `earlier` has those of all modules but the last, and `local` has its.
+abbrev pub AreWires : Circuit → List ModuleLines → List (List ℕ) → List ℕ → Type 0
+AreWires c ms earlier local = earlier ++ local ∷ [] ≡ [] ∷ map (known c) ms
+
+-- what is kept of the lines, and of the wires of all modules
+pub record IsKeptWith (g : Setting) (es : List Entry) (covered : Board) (counts : List Counts) (last : Option Entry) (names : List (List ℕ)) (earlier : List (List ℕ)) (local : List ℕ) (e h : List Cell) : Type 0 where
+  pub kept : IsKept g es covered counts last names local e h
+  pub wires : AreWires g.circuit (modules_of es) earlier local
+
 abbrev pub IsBuilder : Inside → Type 0
-IsBuilder a = IsKept a.site a.entries.items a.covered a.modules.items a.last a.names.items a.known.keys a.edges.keys a.halos.keys
+IsBuilder a = IsKeptWith a.site a.entries.items a.covered a.modules.items a.last a.names.items (map (λ s. s.keys) a.earlier.items) a.known.keys a.edges.keys a.halos.keys
 
 -- ---- the counts of a module with one more line
 

@@ -1,6 +1,10 @@
 -- The lines of one module
-use Rattle.std.specs.Prelude.{Bool, true, false, if◌then◌else◌, List, [], ◌∷◌}
+use Rattle.std.specs.Prelude.{Bool, true, false, if◌then◌else◌, IsTrue, List, [], ◌∷◌}
+use Rattle.std.specs.List.{All}
+use Rattle.module_box.specs.Boxes.{in_box}
+use Rattle.module_box.specs.declared.boxes.Box2.{Box2}
 use Rattle.certificate.specs.Entries.{ModuleLines}
+use Rattle.certificate.specs.declared.entry.Border.{Border}
 use Rattle.certificate.specs.declared.beside.Part.{Part}
 use Rattle.certificate.specs.declared.entry.Entry.{Entry}
 use Rattle.certificate.specs.declared.entry.Entry.TheVariants.{Module, Cut, Use, Keep, Edge, Halo, Stop}
@@ -22,3 +26,7 @@ inner (i ∷ entries) = if is_module i then [] else i ∷ inner entries
 -- a module as it is kept
 abbrev pub part_lines : Part → ModuleLines
 part_lines p = record { area = p.area; lines = p.lines.now }
+
+-- each of these lines is for a cell of the box
+abbrev pub AreInBox : Box2 → List Border → Type 0
+AreInBox area es = All (λ e. IsTrue (in_box area e.cell.x e.cell.y)) es

@@ -1,11 +1,11 @@
 //! The halo lines that the edge lines of version 2 stand for.
 ghost use Rattle.std.specs.Prelude.{◌≡◌, ◌++◌, ◌∷◌, [], map, if◌then◌else◌, nat_lt, IfOk, OnOk};
-ghost use Rattle.std.specs.List.{filter, flat_map};
+ghost use Rattle.std.specs.List.{All, filter, flat_map};
 ghost use Rattle.module_box.specs.Boxes.{in_halo};
 ghost use Rattle.certificate.specs.Entries.{ModuleLines, edge_in, edges, modules_of, stop_in};
 ghost use Rattle.certificate.specs.Grammars.{setting_of};
 ghost use Rattle.certificate.specs.Modules.{AreModules};
-ghost use Rattle.certificate.specs.ModuleParts.{part_lines};
+ghost use Rattle.certificate.specs.ModuleParts.{AreInBox, part_lines};
 ghost use Rattle.certificate.specs.Versions.{beside, in_order, is_early, is_halo, with_halos};
 ghost use Rattle.certificate.specs.declared.entry.Entry.TheVariants.{Halo, Stop};
 
@@ -67,11 +67,23 @@ fn push_lines(halos: &mut Vec<Border>, area: Box2, lines: &[Entry]) -> Result<()
     Ok(())
 }
 
+// Adds the edge lines of a module, which are for cells of its box.
+fn push_part(halos: &mut Vec<Border>, area: Box2, part: &Part) -> Result<(), AllocError>
+    requires { AreInBox part.now.area (edges (part_lines part.now)) }
+    ensures { OnOk result (halos.new.items ≡ halos.old.items ++ filter (λ e. in_halo area e.cell.x e.cell.y) (edges (part_lines part.now))) }
+{
+    if !area.is_near(part.area) {
+        return Ok(());
+    }
+    push_lines(halos, area, part.lines)
+}
+
 fn push_parts(halos: &mut Vec<Border>, area: Box2, parts: &[Part]) -> Result<(), AllocError>
+    requires { All (λ p. AreInBox p.area (edges (part_lines p))) parts.now }
     ensures { OnOk result (halos.new.items ≡ halos.old.items ++ filter (λ e. in_halo area e.cell.x e.cell.y) (flat_map edges (map part_lines parts.now))) }
 {
     'parts: for part in parts {
-        push_lines(halos, area, part.lines)?;
+        push_part(halos, area, part)?;
     }
     Ok(())
 }
@@ -84,6 +96,7 @@ fn lines_beside(
     parts: &[Part],
     area: Box2,
 ) -> Result<Vec<Border>, AllocError>
+    requires { AreModules (setting_of plan.now.circuit plan.now.layout) (map part_lines parts.now) }
     ensures { IfOk result (λ halos. halos.items ≡ beside (setting_of plan.now.circuit plan.now.layout) (map part_lines parts.now) area) }
 {
     let mut halos = Vec::new(alloc);

@@ -1,19 +1,21 @@
 //! A certificate that is read, line by line.
-ghost use Rattle.std.specs.Prelude.{◌≡◌, ◌+◌, ◌≤◌, ◌<◌, ◌++◌, ◌∷◌, [], not, map, ◌&&◌, Bool, None, Some, List, ℕ, length, OnOk, OnErr, IfOk, IfErr};
+ghost use Rattle.std.specs.Prelude.{◌≡◌, ◌+◌, ◌≤◌, ◌<◌, ◌++◌, ◌∷◌, [], not, map, ◌&&◌, Bool, None, Some, List, ℕ, length, slice_get, OnOk, OnErr, IfOk, IfErr};
 ghost use Rattle.section_text.specs.Adding.{FaultIs};
 ghost use Rattle.pattern.specs.Lines.{size_fault};
-ghost use Rattle.std.specs.List.{list_any};
-ghost use Rattle.certificate.specs.Entries.{ModuleLines, counts_of, modules_of, present};
+ghost use Rattle.std.specs.List.{flat_map, list_any};
+ghost use Rattle.certificate.specs.Entries.{ModuleLines, counts_of, edge_in, known, modules_of, present};
+ghost use Rattle.certificate.specs.ModuleParts.{AreInBox};
 ghost use Rattle.certificate.specs.Rules.{entry_fault, end_fault, box_fault, module_fault, inner_fault, words_fault, is_incomplete, is_local, leaves_gap, box_cells};
 ghost use Rattle.module_box.specs.Boxes.{in_box};
-ghost use Rattle.certificate.specs.BuilderView.{BuilderState, IsInner, IsSmall};
+ghost use Rattle.certificate.specs.BuilderView.{BuilderState, IsInner, IsSmall, lacks_edge};
 ghost use Rattle.certificate.specs.Versions.{lacks_wire};
 ghost use Rattle.certificate.specs.declared.entry.Entry.TheVariants.{Module};
 
-use crate::counts::{count_in_last, last_counts, push_entry};
+use crate::counts::{count_in_last, last_counts, pop_module, push_entry, push_module};
 use crate::entry::{Counts, Entry};
-use crate::known::{learn_line, make_room_for_wires};
-use crate::lacks::lacks_any;
+use crate::known::{learn_line, make_room_for_wires, put_away};
+use crate::lacks::has_unknown;
+use crate::lines::inner_lines;
 use crate::order::does_follow;
 use crate::rules::{
     border_code, cut_code, is_bad_place, is_bad_side, is_local_name, keep_code, may_be_edge,
@@ -41,6 +43,8 @@ pub(crate) struct Builder<'a> {
     modules: Vec<Counts>,
     // the cells of all boxes
     covered: Grid,
+    // the wires that are local in each module before the last, behind none
+    earlier: Vec<IndexSet<u16>>,
     // of the last module: its last line, the names of its ports, its local wires, and its cells with a `*`
     last: Option<Entry>,
     names: Vec<Name>,
@@ -80,6 +84,7 @@ impl<'a> Builder<'a> {
             entries: Vec::new(alloc),
             modules: Vec::new(alloc),
             covered,
+            earlier: Vec::new(alloc),
             last: None,
             names: Vec::new(alloc),
             known: IndexSet::new(alloc),
@@ -230,18 +235,14 @@ impl<'a> Builder<'a> {
         let Ok(names) = self.names_in(alloc, area, &cells) else {
             return Err(LineFault::Memory);
         };
-        let before = self.modules.len();
-        let Ok(()) = self.modules.push(Counts::new(area)) else {
+        push_module(&mut self.entries, &mut self.modules, area)?;
+        let Ok(()) = put_away(alloc, &mut self.earlier, &mut self.known) else {
+            pop_module(&mut self.entries, &mut self.modules);
             return Err(LineFault::Memory);
         };
-        if let Err(fault) = push_entry(&mut self.entries, Entry::Module(area)) {
-            self.modules.truncate(before);
-            return Err(fault);
-        }
         make_live(&mut self.covered, &cells);
         self.last = None;
         self.names = names;
-        self.known.truncate(0);
         self.edges.truncate(0);
         self.halos.truncate(0);
         Ok(())
@@ -269,13 +270,6 @@ impl<'a> Builder<'a> {
         if lacks | !full { Some(11) } else { None }
     }
 
-    /// Whether some module lacks the wire of an edge line beside it.
-    pub(crate) fn lacks_wire(&self) -> bool
-        ensures { result ≡ lacks_wire self.now.setting (modules_of self.now.entries) }
-    {
-        lacks_any(&self.site, self.entries.as_slice())
-    }
-
     /// The lines, and the counts of the modules.
     pub(crate) fn into_parts(self) -> (Vec<Entry>, Vec<Counts>)
         ensures entries { result.0.items ≡ self.entry.entries }
@@ -286,6 +280,7 @@ impl<'a> Builder<'a> {
             entries,
             modules,
             covered: _,
+            earlier: _,
             last: _,
             names: _,
             known: _,
@@ -293,5 +288,64 @@ impl<'a> Builder<'a> {
             halos: _,
         } = self;
         (entries, modules)
+    }
+}
+
+impl<'a> Builder<'a> {
+    // The wires that are local in the module of this number.
+    fn wires_of(&self, number: usize) -> &IndexSet<u16>
+        requires { number < length (modules_of self.now.entries) }
+        ensures { slice_get (map (known self.now.setting.circuit) (modules_of self.now.entries)) number ≡ Some result.now.keys }
+    {
+        let last = self.earlier.len();
+        if number + 1 < last {
+            &self.earlier[number + 1]
+        } else {
+            &self.known
+        }
+    }
+
+    // Whether one of the edge lines of a module names a wire that is not local in the module of this number, which is beside it.
+    fn lacks_wire_in(&self, number: usize, area: Box2, lines: &[Entry]) -> bool
+        requires number { number < length (modules_of self.now.entries) }
+        requires inside { AreInBox area (flat_map edge_in lines.now) }
+        ensures { (m : ModuleLines) → slice_get (modules_of self.now.entries) number ≡ Some m → result ≡ lacks_edge self.now.setting.circuit (flat_map edge_in lines.now) m }
+    {
+        let own = self.modules[number].area;
+        if !own.is_near(area) {
+            return false;
+        }
+        has_unknown(&self.site, self.wires_of(number), own, lines)
+    }
+
+    // The same of some module.
+    fn lacks_some_in(&self, area: Box2, lines: &[Entry]) -> bool
+        requires inside { AreInBox area (flat_map edge_in lines.now) }
+        ensures { result ≡ list_any (lacks_edge self.now.setting.circuit (flat_map edge_in lines.now)) (modules_of self.now.entries) }
+    {
+        'modules: for number in 0..self.modules.len() {
+            if self.lacks_wire_in(number, area, lines) {
+                return true;
+            }
+        }
+        false
+    }
+
+    /// Whether some module lacks the wire of an edge line beside it. It takes no memory.
+    pub(crate) fn lacks_wire(&self) -> bool
+        ensures { result ≡ lacks_wire self.now.setting (modules_of self.now.entries) }
+    {
+        let size = self.site.size();
+        if size.steps <= 1 {
+            return false;
+        }
+        'lines: for (place, entry) in self.entries.iter().enumerate() {
+            if let Entry::Module(area) = entry {
+                if self.lacks_some_in(*area, inner_lines(&self.entries[place + 1..])) {
+                    return true;
+                }
+            }
+        }
+        false
     }
 }

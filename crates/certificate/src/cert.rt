@@ -47,6 +47,20 @@ impl<'a> Cert<'a> {
         self.version as u8
     }
 
+    /// The circuit that it is for.
+    pub fn circuit(&self) -> &Circuit
+        ensures { result.now ≡ self.now.circuit }
+    {
+        self.circuit
+    }
+
+    /// The layout that it cuts.
+    pub fn layout(&self) -> &Layout
+        ensures { result.now ≡ self.now.layout }
+    {
+        self.layout
+    }
+
     // The lines between the header and the end.
     pub(crate) fn entries(&self) -> &[Entry]
         ensures { result.now ≡ self.now.entries }

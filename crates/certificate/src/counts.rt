@@ -1,11 +1,13 @@
 //! How many lines of each kind a module has, line by line.
-ghost use Rattle.std.specs.Prelude.{◌≡◌, ◌+◌, ◌≤◌, ◌++◌, ◌∷◌, [], Some, OnOk, OnErr, IfErr};
+ghost use Rattle.std.specs.Prelude.{◌≡◌, ◌+◌, ◌-◌, ◌<◌, ◌≤◌, ◌++◌, ◌∷◌, [], length, take, Some, OnOk, OnErr, IfErr};
 ghost use Rattle.section_text.specs.declared.section.LineFault.TheVariants.{Memory};
 ghost use Rattle.certificate.specs.Entries.{change_last, last_of};
 ghost use Rattle.certificate.specs.BuilderView.{counted, IsSmall};
 ghost use Rattle.certificate.specs.declared.entry.Counts.{Counts};
+ghost use Rattle.certificate.specs.declared.entry.Entry.TheVariants.{Module};
 
 use crate::entry::{Border, Counts, Entry, StopLine};
+use module_box::Box2;
 use section_text::{LineFault, Name};
 
 // One more line of a module.
@@ -79,4 +81,37 @@ pub(crate) fn push_entry(entries: &mut Vec<Entry>, entry: Entry) -> Result<(), L
         Ok(()) => Ok(()),
         Err(_) => Err(LineFault::Memory),
     }
+}
+
+/// Adds a `module` line, and its counts, or leaves both as they are.
+pub(crate) fn push_module(
+    entries: &mut Vec<Entry>,
+    modules: &mut Vec<Counts>,
+    area: Box2,
+) -> Result<(), LineFault>
+    ensures entries { OnOk result (entries.new.items ≡ entries.old.items ++ Module area ∷ []) }
+    ensures modules { OnOk result (modules.new.items ≡ modules.old.items ++ (record { area = area; cuts = 0; gates = 0; edges = 0; halos = 0; stops = 0 }) ∷ []) }
+    ensures same { OnErr result ((entries.new.items ≡ entries.old.items) × (modules.new.items ≡ modules.old.items)) }
+    ensures memory { IfErr result (λ e. e ≡ Memory) }
+{
+    let before = modules.len();
+    let Ok(()) = modules.push(Counts::new(area)) else {
+        return Err(LineFault::Memory);
+    };
+    if let Err(fault) = push_entry(entries, Entry::Module(area)) {
+        modules.truncate(before);
+        return Err(fault);
+    }
+    Ok(())
+}
+
+/// Takes the last line, and the last counts, away.
+pub(crate) fn pop_module(entries: &mut Vec<Entry>, modules: &mut Vec<Counts>)
+    requires lines { 0 < length entries.old.items }
+    requires modules { 0 < length modules.old.items }
+    ensures entries { entries.new.items ≡ take (length entries.old.items - 1) entries.old.items }
+    ensures modules { modules.new.items ≡ take (length modules.old.items - 1) modules.old.items }
+{
+    entries.truncate(entries.len() - 1);
+    modules.truncate(modules.len() - 1);
 }

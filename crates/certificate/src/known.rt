@@ -1,5 +1,5 @@
 //! The wires that are local in a module, by their numbers in the circuit.
-ghost use Rattle.std.specs.Prelude.{◌≡◌, ◌≤◌, ◌<◌, ◌+◌, ◌++◌, ◌∷◌, [], length, true, false, OnOk};
+ghost use Rattle.std.specs.Prelude.{◌≡◌, ◌≤◌, ◌<◌, ◌+◌, ◌++◌, ◌∷◌, [], length, map, true, false, OnErr, OnOk};
 ghost use Rattle.std.specs.List.{list_all};
 ghost use Rattle.indexmap.specs.IndexSet.{spare};
 ghost use Rattle.module_box.specs.Locals.{is_among};
@@ -10,7 +10,8 @@ use crate::entry::Entry;
 use crate::site::Site;
 use circuit::WireNo;
 use indexmap::IndexSet;
-use std::alloc::AllocError;
+use std::alloc::{AllocError, Global};
+use std::mem::swap;
 
 /// Whether the wire is local.
 #[tactic(auto, using(crate::proofs::KnownLemmas::among))]
@@ -36,13 +37,6 @@ fn stands_before(wires: &[WireNo], wire: WireNo) -> bool
     ensures { result ≡ is_among wires.now wire }
 {
     wires.iter().any(|w| w.number() == wire.number())
-}
-
-/// Whether the wire of this number is one of these.
-pub(crate) fn stands_among(wires: &[WireNo], wire: u16) -> bool
-    ensures { result ≡ is_among wires.now wire }
-{
-    wires.iter().any(|w| w.number() == wire)
 }
 
 /// Whether none of these wires is local, and none stands twice.
@@ -122,4 +116,20 @@ pub(crate) fn learn_line(known: &mut IndexSet<u16>, site: &Site, entry: &Entry)
         }
         _ => {}
     }
+}
+
+/// Puts the local wires of a module that has ended behind those of the earlier ones. The next module has none.
+pub(crate) fn put_away(
+    alloc: Global,
+    earlier: &mut Vec<IndexSet<u16>>,
+    known: &mut IndexSet<u16>,
+) -> Result<(), AllocError>
+    ensures earlier { OnOk result (map (λ s. s.keys) earlier.new.items ≡ map (λ s. s.keys) earlier.old.items ++ known.old.keys ∷ []) }
+    ensures known { OnOk result (known.new.keys ≡ []) }
+    ensures same { OnErr result ((earlier.new.items ≡ earlier.old.items) × (known.new ≡ known.old)) }
+{
+    earlier.push(IndexSet::new(alloc))?;
+    let last = earlier.len() - 1;
+    swap(known, &mut earlier[last]);
+    Ok(())
 }

@@ -40,7 +40,7 @@ pub use cert::Cert;
 pub use entry::{Border, Counts, Entry, StopLine};
 pub use groups::{job_groups, shape_groups};
 pub use job::{Demand, Job, Stop};
-pub use printing::print_certificate;
+pub use printing::{print_certificate, print_migrated};
 pub use reading::read_certificate;
 pub use shape::Shape;
 pub use times::{Gap, TimeLine};

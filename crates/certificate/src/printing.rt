@@ -3,8 +3,11 @@ ghost use Rattle.std.specs.Prelude.{◌≡◌, ◌++◌, [], ◌∷◌, OnOk, If
 ghost use Rattle.std.specs.List.{flat_map};
 ghost use Rattle.std.specs.Fmt.{decimal};
 ghost use Rattle.section_text.specs.Spelling.{spaced, line_text};
+ghost use Rattle.certificate.specs.Grammars.{migrated};
 ghost use Rattle.certificate.specs.Text.{area_words, time_word, signal_word, border_words, entry_text, stop_words, certificate_text};
+ghost use Rattle.certificate.specs.Versions.{without_halos};
 
+use crate::beside::is_halo;
 use crate::cert::Cert;
 use crate::entry::{Border, Entry, StopLine};
 use module_box::Box2;
@@ -130,6 +133,31 @@ fn print_entries(alloc: Global, out: &mut Vec<u8>, entries: &[Entry]) -> Result<
     Ok(())
 }
 
+// A line, unless it is a halo line.
+#[tactic(auto, unfolding(crate::specs::Versions::without_halos))]
+fn print_unless_halo(alloc: Global, out: &mut Vec<u8>, entry: &Entry) -> Result<(), AllocError>
+    ensures { OnOk result (out.new.items ≡ out.old.items ++ flat_map entry_text (without_halos (entry.now ∷ []))) }
+{
+    if is_halo(entry) {
+        return Ok(());
+    }
+    print_entry(alloc, out, entry)
+}
+
+// The lines other than halo lines.
+fn print_without_halos(
+    alloc: Global,
+    out: &mut Vec<u8>,
+    entries: &[Entry],
+) -> Result<(), AllocError>
+    ensures { OnOk result (out.new.items ≡ out.old.items ++ flat_map entry_text (without_halos entries.now)) }
+{
+    for entry in entries {
+        print_unless_halo(alloc, out, entry)?;
+    }
+    Ok(())
+}
+
 /// The text of a certificate: the bytes of its section, from its header line to its `end` line with the line feed. It is the
 /// text that the certificate was read from, and is read as the same certificate (see the laws of this crate). The error is
 /// want of memory.
@@ -140,6 +168,19 @@ pub fn print_certificate(alloc: Global, cert: &Cert) -> Result<Vec<u8>, AllocErr
     let mut out = Vec::new(alloc);
     print_header(alloc, &mut out, cert.version() as u32)?;
     print_entries(alloc, &mut out, cert.entries())?;
+    out.extend_from_slice(b"end\n")?;
+    Ok(out)
+}
+
+/// The text of a certificate as one of version 2: with that version in its header line, and without its halo lines. It is the text of
+/// the certificate itself where that is of version 2. The error is want of memory.
+#[tactic(auto, unfolding(crate::specs::Text::certificate_text))]
+pub fn print_migrated(alloc: Global, cert: &Cert) -> Result<Vec<u8>, AllocError>
+    ensures { IfOk result (λ text. text.items ≡ certificate_text (migrated cert.now)) }
+{
+    let mut out = Vec::new(alloc);
+    print_header(alloc, &mut out, 2)?;
+    print_without_halos(alloc, &mut out, cert.entries())?;
     out.extend_from_slice(b"end\n")?;
     Ok(out)
 }

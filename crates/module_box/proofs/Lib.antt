@@ -14,4 +14,5 @@ pub mod LocalRows
 pub mod EqualTests
 pub mod SeenValues
 pub mod MovedBoxes
+pub mod NearBoxes
 pub mod Telling

@@ -2,7 +2,7 @@
 
 ghost use Rattle.std.specs.Prelude.{◌≡◌, pos, ◌+ℤ◌, ◌-ℤ◌, ◌&&◌, ◌||◌};
 ghost use Rattle.bbm_rule.specs.Spans.{in_span};
-ghost use Rattle.module_box.specs.Boxes.{in_box, in_ring, in_halo};
+ghost use Rattle.module_box.specs.Boxes.{in_box, in_ring, in_halo, is_near};
 
 use bbm_rule::Cell;
 
@@ -45,9 +45,20 @@ impl Box2 {
         ensures { result ≡ in_halo self cell.x cell.y }
     {
         let inside = self.holds(cell);
-        let near_x = is_near(self.x, self.w, cell.x);
-        let near_y = is_near(self.y, self.h, cell.y);
+        let near_x = is_beside(self.x, self.w, cell.x);
+        let near_y = is_beside(self.y, self.h, cell.y);
         !inside & (near_x & near_y)
+    }
+
+    /// Whether the halo of the box may have a cell in the other box, as far as their corners and sides tell.
+    pub fn is_near(self, other: Box2) -> bool
+        ensures { result ≡ is_near self other }
+    {
+        let left = (other.x as u64) < self.x as u64 + self.w as u64 + 1;
+        let right = (self.x as u64) < other.x as u64 + other.w as u64 + 1;
+        let top = (other.y as u64) < self.y as u64 + self.h as u64 + 1;
+        let bottom = (self.y as u64) < other.y as u64 + other.h as u64 + 1;
+        left & right & top & bottom
     }
 }
 
@@ -61,7 +72,7 @@ fn is_inner(from: u32, n: u32, x: i32) -> bool
 }
 
 // whether x, the number before it or the one after it is among the n from `from` on.
-fn is_near(from: u32, n: u32, x: i32) -> bool
+fn is_beside(from: u32, n: u32, x: i32) -> bool
     ensures { result ≡ (in_span from n (x -ℤ pos 1) || in_span from n x || in_span from n (x +ℤ pos 1)) }
 {
     let x = x as i64;

@@ -11,5 +11,5 @@ pub mod Printed
 pub mod InsideLemmas
 pub mod StartLemmas
 pub mod RunLemmas
-mod Spelling
+pub mod Spelling
 pub mod RoundTrip

@@ -1,6 +1,6 @@
 use Rattle.std.proofs.Common.{◌≡◌, ◌∙◌, sym}
 use Rattle.module_box.specs.Boxes.{in_halo}
-use Rattle.certificate.specs.Entries.{edge_in, known}
+use Rattle.certificate.specs.Entries.{edge_in}
 use Rattle.certificate.specs.Versions.{is_strange}
 use Rattle.certificate.specs.declared.entry.Border.{Border}
 use Rattle.certificate.proofs.AnyLines.{any_kept}
@@ -8,5 +8,5 @@ use Rattle.certificate.proofs.lacks.has_unknown.Goals as goal
 
 pub returns-then-is_unknown_line : goal.returns-then-is_unknown_line
 returns-then-is_unknown_line c =
-    sym (any_kept (λ (e : Border). in_halo c.args.area e.cell.x e.cell.y) (λ (e : Border). is_strange c.args.site.now.circuit (known c.args.site.now.circuit (record { area = c.args.area; lines = c.args.lines.now })) e.signal)
-    edge_in c.args.theirs.now c.lines.line-index c.line-item.result c.lines-test.true c.line-item.is (sym c.is_unknown_line.ensures ∙ c.if-is_unknown_line.true))
+    sym (any_kept (λ (e : Border). in_halo c.args.area e.cell.x e.cell.y) (λ (e : Border). is_strange c.args.site.now.circuit c.args.known.now.keys e.signal)
+    edge_in c.args.lines.now c.lines.line-index c.line-item.result c.lines-test.true c.line-item.is (sym c.is_unknown_line.ensures ∙ c.if-is_unknown_line.true))

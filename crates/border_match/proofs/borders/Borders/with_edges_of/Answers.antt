@@ -2,19 +2,20 @@ use Rattle.std.proofs.Common.{◌≡◌, ◌∙◌, sym, ap₂, Some}
 use Rattle.std.specs.Prelude.{slice_get}
 use Rattle.std.specs.Arc.{arc_value}
 use Rattle.std.proofs.lemmas.Bool.{false≢true}
-use Rattle.border_match.specs.Boards.{is_near, jobs_of}
+use Rattle.module_box.specs.Boxes.{is_near}
+use Rattle.border_match.specs.Boards.{jobs_of}
 use Rattle.border_match.proofs.Cells.{job_at}
 use Rattle.border_match.proofs.Least.{better_same, better_for}
 use Rattle.border_match.proofs.Steps.{near_needed, edges_named}
 use Rattle.border_match.proofs.borders.Borders.with_edges_of.Goals as goal
 
-pub returns-then-not-are_near : goal.returns-then-not-are_near
-returns-then-not-are_near c =
+pub returns-then-not-is_near : goal.returns-then-not-is_near
+returns-then-not-is_near c =
     let b = c.args.self.now in
     let other = c.deref-other.result.now in
     let got : slice_get (jobs_of b) c.args.number ≡ Some other = job_at arc_value b.jobs.now c.args.number _ other c.requires.number c.deref-other.ensures in
     better_same _ _ _ (λ h f p.
-    false≢true (sym c.if-not-are_near.true ∙ c.are_near.ensures ∙ ap₂ is_near c.area.ensures.area c.area-2.ensures.area ∙ near_needed b c.args.number other h c.requires.ready got f p))
+    false≢true (sym c.if-not-is_near.true ∙ c.is_near.ensures ∙ ap₂ is_near c.area.ensures.area c.area-2.ensures.area ∙ near_needed b c.args.number other h c.requires.ready got f p))
 
 pub returns : goal.returns
 returns c =

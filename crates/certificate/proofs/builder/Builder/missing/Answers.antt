@@ -19,7 +19,7 @@ returns-then-lacks-full c =
     let full = ap not (c.is_full-full.ensures ∙ ap (λ (s : Extent). list_all (λ d. live c.self.inside.covered d.x d.y) (box_cells (rectangle_of s.w s.h))) c.size-size.ensures.size) in
     let lacks = subst (λ (s : BuilderState). c.lacks_port-lacks.result ≡ is_incomplete s.setting (present s.entries)) (sym c.self.view_is) c.lacks_port-lacks.ensures in
     subst (λ (s : BuilderState). Some 11 ≡ end_fault s.setting s.entries) c.self.view_is
-    (missing_some c.self.inside.site es c.lacks_port-lacks.result c.is_full-full.result lacks (full ∙ live_gap c.self.inside.site.size (areas (modules_of es)) c.self.inside.covered c.self.invariant.built.cells) c.if-lacks-full.true)
+    (missing_some c.self.inside.site es c.lacks_port-lacks.result c.is_full-full.result lacks (full ∙ live_gap c.self.inside.site.size (areas (modules_of es)) c.self.inside.covered c.self.invariant.kept.built.cells) c.if-lacks-full.true)
 
 pub returns-else-lacks-full : goal.returns-else-lacks-full
 returns-else-lacks-full c =
@@ -27,4 +27,4 @@ returns-else-lacks-full c =
     let full = ap not (c.is_full-full.ensures ∙ ap (λ (s : Extent). list_all (λ d. live c.self.inside.covered d.x d.y) (box_cells (rectangle_of s.w s.h))) c.size-size.ensures.size) in
     let lacks = subst (λ (s : BuilderState). c.lacks_port-lacks.result ≡ is_incomplete s.setting (present s.entries)) (sym c.self.view_is) c.lacks_port-lacks.ensures in
     subst (λ (s : BuilderState). None ≡ end_fault s.setting s.entries) c.self.view_is
-    (missing_none c.self.inside.site es c.lacks_port-lacks.result c.is_full-full.result lacks (full ∙ live_gap c.self.inside.site.size (areas (modules_of es)) c.self.inside.covered c.self.invariant.built.cells) c.if-lacks-full.false)
+    (missing_none c.self.inside.site es c.lacks_port-lacks.result c.is_full-full.result lacks (full ∙ live_gap c.self.inside.site.size (areas (modules_of es)) c.self.inside.covered c.self.invariant.kept.built.cells) c.if-lacks-full.false)

@@ -1,0 +1,27 @@
+-- Lines that are printed without halo lines
+use Rattle.std.proofs.Common.{◌≡◌, ℕ, ◌+◌, ◌<◌, ◌≤◌, List, [], ◌∷◌, ◌++◌, length, take, get_or, sym, ap, ◌∙◌, append_assoc, append-nil}
+use Rattle.std.specs.List.{flat_map}
+use Rattle.std.proofs.lemmas.Grind.{flat_map-append}
+use Rattle.std.proofs.lemmas.List.{take_all, take_more}
+use Rattle.certificate.specs.Text.{entry_text}
+use Rattle.certificate.specs.Versions.{without_halos}
+use Rattle.certificate.specs.declared.entry.Entry.{Entry}
+use Rattle.certificate.proofs.Migrated.{without_append}
+
+pub none_printed : (old : List ℕ) → old ≡ old ++ flat_map entry_text (without_halos [])
+unfolding without_halos
+none_printed old = sym (append-nil old)
+
+pub one_more_printed : (es : List Entry) (i : ℕ) (e : Entry) (old now next : List ℕ) → i < length es → e ≡ get_or es i e →
+    now ≡ old ++ flat_map entry_text (without_halos (take i es)) → next ≡ now ++ flat_map entry_text (without_halos (e ∷ [])) →
+    next ≡ old ++ flat_map entry_text (without_halos (take (i + 1) es))
+one_more_printed es i e old now next lt is before after =
+    let grown : take (i + 1) es ≡ take i es ++ e ∷ [] = take_more es i e lt ∙ ap (λ x. take i es ++ x ∷ []) (sym is) in
+    after ∙ ap (λ l. l ++ flat_map entry_text (without_halos (e ∷ []))) before
+    ∙ append_assoc old (flat_map entry_text (without_halos (take i es))) (flat_map entry_text (without_halos (e ∷ [])))
+    ∙ ap (λ l. old ++ l) (sym (flat_map-append entry_text (without_halos (take i es)) (without_halos (e ∷ []))))
+    ∙ ap (λ l. old ++ flat_map entry_text l) (sym (without_append (take i es) (e ∷ [])))
+    ∙ ap (λ l. old ++ flat_map entry_text (without_halos l)) (sym grown)
+
+pub all_printed : (es : List Entry) (i : ℕ) (old now : List ℕ) → length es ≤ i → now ≡ old ++ flat_map entry_text (without_halos (take i es)) → now ≡ old ++ flat_map entry_text (without_halos es)
+all_printed es i old now le h = h ∙ ap (λ l. old ++ flat_map entry_text (without_halos l)) (take_all i es le)
