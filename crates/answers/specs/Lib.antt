@@ -5,3 +5,5 @@ pub mod BundleText
 pub mod BundleReading
 pub mod CheckText
 pub mod ModulesText
+pub mod MigrateText
+pub mod Questions

@@ -2,14 +2,15 @@
 #![tactic(auto)]
 
 mod asking;
-mod listing;
+mod bundle;
+mod migration;
 mod modules;
 mod outcome;
 mod refusing;
 mod run;
 mod value;
 
-pub use listing::modules_text;
+pub use bundle::{migrate_text, modules_text};
 pub use outcome::{Answered, Outcome};
 pub use refusing::refused;
 pub use run::run_text;

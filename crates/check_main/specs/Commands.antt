@@ -1,9 +1,10 @@
 -- What each command answers.
 use Rattle.std.specs.Prelude.{ℕ, List}
 use Rattle.command_line.specs.declared.Request.{Request}
-use Rattle.command_line.specs.declared.Request.TheVariants.{Check, Run, Value, Modules}
+use Rattle.command_line.specs.declared.Request.TheVariants.{Check, Run, Value, Modules, Migrate}
 use Rattle.answers.specs.declared.outcome.Outcome.{Outcome}
 use Rattle.answers.specs.CheckText.{IsReportOf}
+use Rattle.answers.specs.MigrateText.{IsMigrationOf}
 use Rattle.answers.specs.ModulesText.{IsModulesOf}
 use Rattle.answers.specs.RunText.{IsRunOf}
 use Rattle.answers.specs.ValueText.{IsValueOf}
@@ -14,3 +15,4 @@ IsAnswerTo Check = IsReportOf
 IsAnswerTo Run = IsRunOf
 IsAnswerTo Value = IsValueOf
 IsAnswerTo Modules = IsModulesOf
+IsAnswerTo Migrate = IsMigrationOf

@@ -9,7 +9,9 @@ ghost use Rattle.check_main.specs.Status.{status_for, Says};
 ghost use Rattle.check_main.specs.Stream.{Answers, BreaksOff, GivesTooMuch, Serves};
 
 use crate::CheckFault;
-use crate::stream::{check_stream, modules_stream, run_stream, value_stream, write_whole};
+use crate::stream::{
+    check_stream, migrate_stream, modules_stream, run_stream, value_stream, write_whole,
+};
 use answers::Outcome;
 use clap::Error;
 use clap::error::ErrorKind;
@@ -162,6 +164,7 @@ fn serve<T: Threads + Wait + Sync, R: Source, W: Sink, G: Gate + Sync>(
         Request::Run => run_stream(alloc, reader, writer),
         Request::Value => value_stream(alloc, reader, writer),
         Request::Modules => modules_stream(alloc, reader, writer),
+        Request::Migrate => migrate_stream(alloc, reader, writer),
     }
 }
 

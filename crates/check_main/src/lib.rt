@@ -15,4 +15,4 @@ pub use device::{Over, Sink, Source};
 pub use fault::CheckFault;
 pub use front::{Streams, WORDS_REFUSED, program, status_of};
 pub use job_pool::{Gate, OpenGate};
-pub use stream::{check_stream, modules_stream, run_stream, value_stream};
+pub use stream::{check_stream, migrate_stream, modules_stream, run_stream, value_stream};

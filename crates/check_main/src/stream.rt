@@ -4,6 +4,7 @@ ghost use Rattle.std.specs.Io.KnownBytes.{Appends};
 ghost use Rattle.answers.specs.CheckText.{IsReportOf};
 ghost use Rattle.headline.specs.Headline.{Gives, IsRight, YesMeans};
 ghost use Rattle.headline.specs.Stops.{HasRightStops};
+ghost use Rattle.answers.specs.MigrateText.{IsMigrationOf};
 ghost use Rattle.answers.specs.ModulesText.{IsModulesOf};
 ghost use Rattle.answers.specs.RunText.{IsRunOf};
 ghost use Rattle.answers.specs.ValueText.{IsValueOf};
@@ -11,7 +12,7 @@ ghost use Rattle.check_main.specs.Stream.{ReadsAll, Serves, GivesTooMuch, TakesP
 
 use crate::CheckFault;
 use crate::bundle::report_of_text;
-use answers::{Answered, Outcome, modules_text, run_text, value_text};
+use answers::{Answered, Outcome, migrate_text, modules_text, run_text, value_text};
 use device::{Sink, Source};
 use job_pool::Gate;
 use section_text::{Feed, LONGEST, PushFault};
@@ -101,6 +102,23 @@ pub fn modules_stream<R: Source, W: Sink>(
 {
     let mut feed = read_text(alloc, reader)?;
     let answered = modules_text(alloc, &mut feed).map_err(|_| CheckFault::Memory)?;
+    write_answer(writer, &answered)
+}
+
+/// Writes a bundle in certificate version 2, without halo lines: reads the whole text, at most 16 MiB, and writes the answer once it is
+/// complete. The outcome is `Yes` or `Refused`. A bundle of version 2 is written as it is, and what `check` accepts it accepts
+/// afterwards: `headline/specs/Migration.antt`.
+pub fn migrate_stream<R: Source, W: Sink>(
+    alloc: Global,
+    reader: &mut R,
+    writer: &mut W,
+) -> Result<Outcome, CheckFault>
+    requires reader_works { R.has_failed reader.old ≡ false }
+    requires writer_works { W.has_failed writer.old ≡ false }
+    ensures serves { Serves IsMigrationOf R.left R.has_failed reader.old reader.new W.held W.has_failed writer.old writer.new result }
+{
+    let mut feed = read_text(alloc, reader)?;
+    let answered = migrate_text(alloc, &mut feed).map_err(|_| CheckFault::Memory)?;
     write_answer(writer, &answered)
 }
 

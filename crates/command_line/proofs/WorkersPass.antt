@@ -143,7 +143,7 @@ differ : (name other : Text) → bytes_eq name other ≡ false → name ≡ othe
 differ name other fails same = true≢false (sym ((bytes_eq-Decides name other).1 same) ∙ fails)
 
 commands_pass : Each PassesIfCheck (built bbmcheck).subs
-commands_pass = (λ same. rows_pass, (λ same. absurd (differ _ _ refl same), (λ same. absurd (differ _ _ refl same), (λ same. absurd (differ _ _ refl same), (λ same. absurd (differ _ _ refl same), tt)))))
+commands_pass = (λ same. rows_pass, (λ same. absurd (differ _ _ refl same), (λ same. absurd (differ _ _ refl same), (λ same. absurd (differ _ _ refl same), (λ same. absurd (differ _ _ refl same), (λ same. absurd (differ _ _ refl same), tt))))))
 
 entered_passes : (stop : Option (Text × List Text)) (r : Text × List Row) → entered (built bbmcheck) stop ≡ Some r → entered_fault (built bbmcheck) stop ≡ []
     → r.0 ≡ codes "check" → Each Passes r.1

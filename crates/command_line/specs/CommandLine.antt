@@ -8,7 +8,7 @@ use Rattle.clap.specs.Simple.{on_top}
 use Rattle.clap.specs.declared.builder.value_parser.ValueParser.TheVariants as vp
 use Rattle.clap.specs.declared.error.kind.ErrorKind.TheVariants as kind
 use Rattle.command_line.specs.declared.Request.{Request}
-use Rattle.command_line.specs.declared.Request.TheVariants.{Check, Run, Value, Modules}
+use Rattle.command_line.specs.declared.Request.TheVariants.{Check, Run, Value, Modules, Migrate}
 
 -- `--workers N`, a whole number of 1 to 64, and 1 where it is left out
 abbrev pub workers_rule : Rule
@@ -27,11 +27,14 @@ top_app = on_top (λ s. record s { no_binary_name = true; subcommand_required = 
 
 -- the commands, of which `check` has an option
 abbrev pub bbmcheck : App
-bbmcheck = with_subcommand (with_subcommand (with_subcommand (with_subcommand top_app check_app.top) (new_app (codes "run")).top) (new_app (codes "value")).top) (new_app (codes "modules")).top
+bbmcheck =
+    with_subcommand (with_subcommand (with_subcommand (with_subcommand (with_subcommand top_app
+    check_app.top) (new_app (codes "run")).top) (new_app (codes "value")).top) (new_app (codes "modules")).top) (new_app (codes "migrate")).top
 
 abbrev pub request_named : Text → Request
 request_named name =
-    if bytes_eq name (codes "check") then Check else if bytes_eq name (codes "value") then Value else if bytes_eq name (codes "modules") then Modules else Run
+    if bytes_eq name (codes "check") then Check else if bytes_eq name (codes "value") then Value else if bytes_eq name (codes "modules") then Modules
+    else if bytes_eq name (codes "migrate") then Migrate else Run
 
 -- the command that the words name
 abbrev pub asked_by : List Text → Request

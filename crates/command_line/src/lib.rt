@@ -20,6 +20,8 @@ pub enum Request {
     Value,
     /// Lists the modules of a certificate.
     Modules,
+    /// Writes a bundle in certificate version 2.
+    Migrate,
 }
 
 /// A command, and how many workers share the modules of a certificate, 1 to 64.
@@ -43,6 +45,7 @@ pub fn read_words<'a>(alloc: Global, words: &'a [&'a str]) -> Result<Asked, Erro
         Some("check") => Request::Check,
         Some("value") => Request::Value,
         Some("modules") => Request::Modules,
+        Some("migrate") => Request::Migrate,
         _ => Request::Run,
     };
     let workers = match matches.subcommand_matches("check") {
@@ -59,7 +62,8 @@ fn command<'a>(alloc: Global) -> Result<Command<'a>, AllocError>
         .subcommand(check(alloc)?)?
         .subcommand(plain(alloc, "run", "Runs a layout under an assignment"))?
         .subcommand(plain(alloc, "value", "Evaluates a circuit under an assignment"))?
-        .subcommand(plain(alloc, "modules", "Lists the modules of a certificate"))
+        .subcommand(plain(alloc, "modules", "Lists the modules of a certificate"))?
+        .subcommand(plain(alloc, "migrate", "Writes a bundle in certificate version 2"))
 }
 
 // The command line without its commands.

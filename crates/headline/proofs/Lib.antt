@@ -8,3 +8,6 @@ mod TimedModules
 mod Trials
 pub mod FourthLines
 pub mod YesIsRight
+pub mod Migrations
+mod FullJobs
+mod AcceptedMigrations

@@ -1,6 +1,7 @@
--- A text has one listing of modules.
+-- A text has one listing of modules, and one migration.
 use Rattle.std.proofs.Common.{◌≡◌, ℕ, List, sym, ◌∙◌}
 use Rattle.answers.specs.BundleText.{Bundle, bundle_of}
+use Rattle.answers.specs.MigrateText.{IsMigrationOf, SaysMigration}
 use Rattle.answers.specs.ModulesText.{IsModulesOf, SaysModules}
 use Rattle.answers.specs.declared.outcome.Outcome.{Outcome}
 use Rattle.headline.specs.Laws.{HasOneAnswer}
@@ -11,3 +12,9 @@ one_listing bundle output output' outcome outcome' h h' = (h.says ∙ sym h'.say
 
 pub one_list : HasOneAnswer IsModulesOf
 one_list text output output' outcome outcome' h h' = answered_once SaysModules one_listing (bundle_of text) output output' outcome outcome' h h'
+
+migrated_once : (bundle : Bundle) (output output' : List ℕ) (outcome outcome' : Outcome) → SaysMigration bundle output outcome → SaysMigration bundle output' outcome' → (output ≡ output') × (outcome ≡ outcome')
+migrated_once bundle output output' outcome outcome' h h' = (h.says ∙ sym h'.says, h.ends ∙ sym h'.ends)
+
+pub one_migration : HasOneAnswer IsMigrationOf
+one_migration text output output' outcome outcome' h h' = answered_once SaysMigration migrated_once (bundle_of text) output output' outcome outcome' h h'

@@ -1,5 +1,5 @@
 -- The text of a switch and its inverse gate is accepted: it is read, and tried, by computation.
-use Rattle.std.proofs.Common.{◌≡◌, ℕ, zero, suc, ◌<◌, ◌%◌, true, false, List, [], ◌∷◌, ◌++◌, Option, Some, Result, Ok, refl, sym, ap, subst, arith}
+use Rattle.std.proofs.Common.{◌≡◌, ℕ, zero, suc, ◌<◌, true, false, List, [], ◌∷◌, Option, Some, Result, Ok, refl, sym, subst, arith}
 use Rattle.std.specs.Prelude.{pos, codes, slice_get, IsTrue}
 use Rattle.std.proofs.Common.{◌∙◌}
 use Rattle.std.proofs.Math.Logic.{∥∥₁_elim}
@@ -35,23 +35,21 @@ use Rattle.pattern.specs.declared.parts.Port.{Port}
 use Rattle.pattern.specs.declared.parts.Extent.{Extent}
 use Rattle.module_box.specs.Boxes.{in_box, in_halo, in_ring, some_neighbour}
 use Rattle.module_box.specs.LocalValues.{IsLocalValuation}
-use Rattle.module_box.specs.Locals.{AreLocalsOf, LocalNet, circuit_gate, circuit_wire, is_among, renumber_gate}
+use Rattle.module_box.specs.Locals.{AreLocalsOf, LocalNet, circuit_gate, circuit_wire, renumber_gate}
 use Rattle.module_box.specs.Moments.{cell_cmp, moment_cmp}
-use Rattle.module_box.specs.Schedules.{IsRising, held_at, event_at, signal_at}
-use Rattle.module_box.specs.declared.schedules.Event.{Event}
-use Rattle.module_box.specs.declared.schedules.Signal.TheVariants.{Zero, Wire}
+use Rattle.module_box.specs.Schedules.{IsRising}
+use Rattle.module_box.specs.declared.schedules.Signal.TheVariants.{Wire}
 use Rattle.module_box.proofs.BoxCells.{same_some}
 use Rattle.certificate.specs.Entries as entries
 use Rattle.certificate.specs.Entries.{ModuleLines, modules_of}
 use Rattle.certificate.specs.Grammars.{CertState, modules_in, setting_of}
 use Rattle.certificate.specs.Modules.{AreModules}
-use Rattle.certificate.specs.Jobs.{AreJobsOf, IsJob, IsJobOf, JobState, NamesOwnWires, IsStopOf, end_demand, job_demand, job_start, port_at, start_signal, stop_moment}
+use Rattle.certificate.specs.Jobs.{AreJobsOf, IsJob, IsJobOf, JobState, NamesOwnWires, end_demand, job_demand, job_start, port_at, start_signal, stop_moment}
 use Rattle.certificate.specs.Keeps.{is_kept}
 use Rattle.certificate.specs.Times.{are_all_kept, numbered, time_lines}
 use Rattle.certificate.specs.Signals.{IsBelow, IsDemandBelow, renumber_demand, renumber_signal}
 use Rattle.certificate.specs.declared.job.Demand.TheVariants as Demanded
 use Rattle.certificate.specs.declared.job.Stop.{Stop}
-use Rattle.certificate.specs.declared.entry.Entry.{Entry}
 use Rattle.certificate.specs.declared.entry.Entry.TheVariants.{Module, Cut, Use, Keep}
 use Rattle.certificate.proofs.FullModules.{meant_old}
 use Rattle.certificate.proofs.Soundness.{faultless_modules}

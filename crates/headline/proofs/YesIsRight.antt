@@ -179,13 +179,13 @@ record IsReadBundle (text : List ℕ) (b : Bundle) : Type 0 where
   pub says_all : (p : Pattern) → layout_value p ≡ (b.size, b.parts) → SaysBundle text b.circuit p b.entries
 
 -- what goes on with a value that was read, was read
-record WentOn {H I : Type 0} {B : Type 0} (read : Result (H × List I) Refusal) (next : H → List I → Result B Refusal) (b : B) : Type 0 where
+pub record WentOn {H I : Type 0} {B : Type 0} (read : Result (H × List I) Refusal) (next : H → List I → Result B Refusal) (b : B) : Type 0 where
   pub header : H
   pub items : List I
   pub was : read ≡ Ok (header, items)
   pub then : next header items ≡ Ok b
 
-went_on : {H I : Type 0} {B : Type 0} (read : Result (H × List I) Refusal) (next : H → List I → Result B Refusal) (b : B) → go_on read next ≡ Ok b → WentOn read next b
+pub went_on : {H I : Type 0} {B : Type 0} (read : Result (H × List I) Refusal) (next : H → List I → Result B Refusal) (b : B) → go_on read next ≡ Ok b → WentOn read next b
 went_on (Ok read) next b e = record { header = read.0; items = read.1; was = refl; then = e }
 went_on (Err refusal) next b e = absurd cc
 
@@ -312,7 +312,7 @@ judged_stops text b output outcome reads says is =
 not_refused : Yes ≡ Refused → ⊥
 not_refused e = cc
 
-by_outcome : (P : Type 0) (text output : List ℕ) → ((b : Bundle) → bundle_of text ≡ Ok b → (says : SaysReport b output Yes) → says.verdict ≡ verdict.Yes → P) →
+pub by_outcome : (P : Type 0) (text output : List ℕ) → ((b : Bundle) → bundle_of text ≡ Ok b → (says : SaysReport b output Yes) → says.verdict ≡ verdict.Yes → P) →
     (read : Result Bundle Refusal) → bundle_of text ≡ read → Answered SaysReport read output Yes → P
 by_outcome P text output judged (Ok b) e says = judged b e says (is_yes says.verdict says.ends)
 by_outcome P text output judged (Err refusal) e told = absurd (not_refused told.1)

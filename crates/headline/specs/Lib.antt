@@ -4,3 +4,4 @@ pub mod Stops
 pub mod ThereAndBack
 pub mod TimedModules
 pub mod Laws
+pub mod Migration

@@ -1,6 +1,8 @@
 //! Laws of the definitions, each the contract of a function without a body.
 ghost use Rattle.answers.specs.CheckText.{IsReportOf};
 ghost use Rattle.headline.specs.Laws.{FourthLineTells, HasOneAnswer, ReportsOnGoodDesigns, SaysOneCertificate, SaysOneDesign, ThereAndBackIsAccepted, TimedModulesAreAccepted, YesMeansRight, YesMeansRightStops};
+ghost use Rattle.headline.specs.Migration.{KeepsVersionTwo, MigratesOnce, MigrationIsAccepted, MigrationSaysTheSame};
+ghost use Rattle.answers.specs.MigrateText.{IsMigrationOf};
 ghost use Rattle.answers.specs.ModulesText.{IsModulesOf};
 ghost use Rattle.answers.specs.RunText.{IsRunOf};
 ghost use Rattle.answers.specs.ValueText.{IsValueOf};
@@ -23,6 +25,21 @@ pub fn value_has_one_answer()
 /// What `modules` writes for a text, and how it ends, is a function of the text.
 pub fn modules_has_one_answer()
     ensures { HasOneAnswer IsModulesOf }
+{}
+
+/// What `migrate` writes for a text, and how it ends, is a function of the text.
+pub fn migrate_has_one_answer()
+    ensures { HasOneAnswer IsMigrationOf }
+{}
+
+/// What `migrate` writes for a text says the same circuit and layout, and in version 2 the same lines of the certificate other than its
+/// halo lines. A text of version 2 is written as it is, byte for byte, so what is written and not refused is migrated to itself. What is
+/// reported with a yes is reported so too after it is migrated.
+pub fn migration_keeps_what_is_accepted()
+    ensures unchanged { KeepsVersionTwo }
+    ensures same { MigrationSaysTheSame }
+    ensures once { MigratesOnce }
+    ensures accepted { MigrationIsAccepted }
 {}
 
 /// A text for which the report says yes begins with a circuit and a layout that computes it, and goes on with a certificate whose stops hold.

@@ -14,17 +14,18 @@ fn read(alloc: Global, words: &[&str]) -> Read {
     }
 }
 
-const WORDS: [(&[&str], Read); 24] = [
+const WORDS: [(&[&str], Read); 25] = [
     (&["run"], Ok((Request::Run, 1))),
     (&["value"], Ok((Request::Value, 1))),
     (&["modules"], Ok((Request::Modules, 1))),
+    (&["migrate"], Ok((Request::Migrate, 1))),
     (&["check"], Ok((Request::Check, 1))),
     (&["check", "--workers", "1"], Ok((Request::Check, 1))),
     (&["check", "--workers", "7"], Ok((Request::Check, 7))),
     (&["check", "--workers=64"], Ok((Request::Check, 64))),
     (&["check", "--workers", "+007"], Ok((Request::Check, 7))),
     (&[], Err(ErrorKind::MissingSubcommand)),
-    (&["migrate"], Err(ErrorKind::InvalidSubcommand)),
+    (&["prove"], Err(ErrorKind::InvalidSubcommand)),
     (&["run", "x"], Err(ErrorKind::UnknownArgument)),
     (&["--help"], Err(ErrorKind::DisplayHelp)),
     (&["check", "--workers", "0"], VALUE),

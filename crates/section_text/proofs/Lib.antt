@@ -13,3 +13,4 @@ pub mod Joined
 pub mod Good
 pub mod Splitting
 pub mod SaidSections
+pub mod MadeSections

@@ -1,0 +1,20 @@
+-- The three sections one after the other.
+use Rattle.std.proofs.Common.{◌≡◌, ◌++◌, refl, ap, ap₂, ◌∙◌}
+use Rattle.circuit.specs.Text.{circuit_text}
+use Rattle.pattern.specs.Text.{layout_text}
+use Rattle.certificate.specs.Grammars.{CertState, migrated}
+use Rattle.certificate.specs.Text.{certificate_text}
+use Rattle.answers.specs.BundleReading.{bundle_by}
+use Rattle.answers.specs.MigrateText.{bundle_text, certificate_lines, layout_lines, migrate_of}
+use Rattle.answers.proofs.migration.print_migration.Goals as goal
+
+joined : (c : CertState) → (circuit_text c.circuit ++ layout_text c.layout) ++ certificate_text (migrated c) ≡ migrate_of (bundle_by c)
+unfolding bundle_text layout_lines certificate_lines layout_text certificate_text
+joined c = refl
+
+pub returns : goal.returns
+returns c =
+    let circuit = c.in_ok-text.ensures ∙ ap circuit_text c.circuit.ensures in
+    let layout = c.deref.ensures.value ∙ c.in_ok-layout.ensures ∙ ap layout_text c.layout.ensures in
+    c.in_ok-extend_from_slice-2.ensures.items ∙ ap₂ (λ a b. a ++ b) (c.in_ok-extend_from_slice.ensures.items ∙ ap₂ (λ a b. a ++ b) circuit layout) (c.deref-2.ensures.value ∙ c.in_ok-lines.ensures)
+    ∙ joined c.args.cert.now

@@ -1,0 +1,45 @@
+-- What `migrate` answers to a text: its bundle with a certificate of version 2, or the refusal of the text.
+use Rattle.std.specs.Prelude.{◌≡◌, ℕ, List, [], ◌∷◌, ◌++◌, codes}
+use Rattle.std.specs.List.{flat_map}
+use Rattle.std.specs.Fmt.{decimal}
+use Rattle.section_text.specs.Spelling.{line_text}
+use Rattle.circuit.specs.Text.{circuit_text}
+use Rattle.pattern.specs.Text.{part_text, size_words}
+use Rattle.pattern.specs.declared.parts.Extent.{Extent}
+use Rattle.pattern.specs.declared.parts.Part.{Part}
+use Rattle.certificate.specs.Text.{entry_text}
+use Rattle.certificate.specs.Versions.{without_halos}
+use Rattle.certificate.specs.declared.entry.Entry.{Entry}
+use Rattle.answers.specs.declared.outcome.Outcome.{Outcome}
+use Rattle.answers.specs.declared.outcome.Outcome.TheVariants.{Yes}
+use Rattle.answers.specs.Answers.{Answered}
+use Rattle.answers.specs.BundleText.{Bundle, bundle_of}
+
+-- a layout section of this size and these parts
+unfoldable pub layout_lines : Extent → List Part → List ℕ
+layout_lines size parts = line_text (codes "layout") (size_words size) ++ flat_map part_text parts ++ line_text (codes "end") []
+
+-- a certificate section of this version and these lines
+unfoldable pub certificate_lines : ℕ → List Entry → List ℕ
+certificate_lines version entries = line_text (codes "certificate") (decimal version ∷ []) ++ flat_map entry_text entries ++ line_text (codes "end") []
+
+-- the text of a bundle: its three sections, with each line spelled in the one way
+unfoldable pub bundle_text : Bundle → List ℕ
+bundle_text bundle = circuit_text bundle.circuit ++ layout_lines bundle.size bundle.parts ++ certificate_lines bundle.version bundle.entries
+
+-- a bundle with a certificate of version 2, which has no halo lines
+abbrev pub in_version_two : Bundle → Bundle
+in_version_two bundle = record bundle { version = 2; entries = without_halos bundle.entries }
+
+-- the text of the bundle in version 2
+abbrev pub migrate_of : Bundle → List ℕ
+migrate_of bundle = bundle_text (in_version_two bundle)
+
+-- the bundle is written in version 2
+pub record SaysMigration (bundle : Bundle) (output : List ℕ) (outcome : Outcome) : Type 0 where
+  pub says : output ≡ migrate_of bundle
+  pub ends : outcome ≡ Yes
+
+-- what `migrate` writes for a text, and how it ends
+abbrev pub IsMigrationOf : List ℕ → List ℕ → Outcome → Type 0
+IsMigrationOf text output outcome = Answered SaysMigration (bundle_of text) output outcome

@@ -1,0 +1,12 @@
+-- What answers a question about a bundle.
+use Rattle.std.specs.Prelude.{ℕ, List}
+use Rattle.answers.specs.declared.bundle.Question.{Question}
+use Rattle.answers.specs.declared.bundle.Question.TheVariants.{Modules, Migration}
+use Rattle.answers.specs.declared.outcome.Outcome.{Outcome}
+use Rattle.answers.specs.BundleText.{Bundle}
+use Rattle.answers.specs.MigrateText.{SaysMigration}
+use Rattle.answers.specs.ModulesText.{SaysModules}
+
+abbrev pub says_of : Question → Bundle → List ℕ → Outcome → Type 0
+says_of Modules bundle output outcome = SaysModules bundle output outcome
+says_of Migration bundle output outcome = SaysMigration bundle output outcome

@@ -1,0 +1,91 @@
+//! Reads a bundle, and answers what is asked of it.
+ghost use Rattle.std.specs.Prelude.{◌≡◌, true, None, IfOk};
+ghost use Rattle.answers.specs.Answers.{Answered as AnsweredAs};
+ghost use Rattle.answers.specs.BundleReading.{bundle_by};
+ghost use Rattle.answers.specs.BundleText.{bundle_of};
+ghost use Rattle.answers.specs.MigrateText.{IsMigrationOf};
+ghost use Rattle.answers.specs.ModulesText.{IsModulesOf};
+ghost use Rattle.answers.specs.Questions.{says_of};
+
+use crate::migration::migrate;
+use crate::modules::list_modules;
+use crate::outcome::Answered;
+use crate::refusing::refused;
+use certificate::{Cert, read_certificate};
+use circuit::{port_names, read_circuit};
+use pattern::read_layout;
+use section_text::Feed;
+use std::alloc::{AllocError, Global};
+
+/// What is asked of a bundle.
+#[derive(Clone, Copy)]
+pub(crate) enum Question {
+    /// Which modules its certificate has.
+    Modules,
+    /// The bundle in certificate version 2.
+    Migration,
+}
+
+/// The modules of a text that is read whole: reads a bundle up to the end of the text, and lists them.
+pub fn modules_text(alloc: Global, text: &mut Feed) -> Result<Answered, AllocError>
+    requires closed { text.old.closed ≡ true }
+    requires unread { text.old.taken ≡ 0 }
+    requires going { text.old.stop ≡ None }
+    ensures { IfOk result (λ answered. IsModulesOf text.old.text answered.output.items answered.outcome) }
+{
+    answer_of_text(alloc, text, Question::Modules)
+}
+
+/// A text that is read whole, in certificate version 2: reads a bundle up to the end of the text, and writes it with that version and
+/// without halo lines.
+pub fn migrate_text(alloc: Global, text: &mut Feed) -> Result<Answered, AllocError>
+    requires closed { text.old.closed ≡ true }
+    requires unread { text.old.taken ≡ 0 }
+    requires going { text.old.stop ≡ None }
+    ensures { IfOk result (λ answered. IsMigrationOf text.old.text answered.output.items answered.outcome) }
+{
+    answer_of_text(alloc, text, Question::Migration)
+}
+
+// Reads a bundle up to the end of the text, and answers the question.
+fn answer_of_text(
+    alloc: Global,
+    text: &mut Feed,
+    question: Question,
+) -> Result<Answered, AllocError>
+    requires closed { text.old.closed ≡ true }
+    requires unread { text.old.taken ≡ 0 }
+    requires going { text.old.stop ≡ None }
+    ensures { IfOk result (λ answered. AnsweredAs (says_of question) (bundle_of text.old.text) answered.output.items answered.outcome) }
+{
+    let circuit = match read_circuit(alloc, text) {
+        Err(fault) => return refused(alloc, fault),
+        Ok(circuit) => circuit,
+    };
+    let ports = match port_names(alloc, &circuit) {
+        Err(error) => return Err(error),
+        Ok(ports) => ports,
+    };
+    let layout = match read_layout(alloc, text, &ports) {
+        Err(fault) => return refused(alloc, fault),
+        Ok(layout) => layout,
+    };
+    let cert = match read_certificate(alloc, text, &circuit, &layout) {
+        Err(fault) => return refused(alloc, fault),
+        Ok(cert) => cert,
+    };
+    if let Err(fault) = text.finish() {
+        return refused(alloc, fault);
+    }
+    answer(alloc, &cert, question)
+}
+
+// Answers the question for the bundle of a certificate.
+fn answer(alloc: Global, cert: &Cert<'_>, question: Question) -> Result<Answered, AllocError>
+    ensures says { IfOk result (λ answered. says_of question (bundle_by cert.now) answered.output.items answered.outcome) }
+{
+    match question {
+        Question::Modules => list_modules(alloc, cert),
+        Question::Migration => migrate(alloc, cert),
+    }
+}

@@ -1,0 +1,201 @@
+-- The modules without halo lines have jobs: those of the modules with them, with the halos that the edge lines beside them stand for.
+use Rattle.std.proofs.Common.{◌≡◌, ℕ, zero, suc, ◌<◌, ◌==◌, Bool, true, false, if◌then◌else◌, List, [], ◌∷◌, ◌++◌, map, length, Option, Some, None, refl, sym, ap, ap₂, subst, ◌∙◌, arith}
+use Rattle.std.specs.Prelude.{◌||◌, slice_get, slice_index, IsTrue, IfSome}
+use Rattle.std.proofs.lemmas.Bool.{false≢true}
+use Rattle.std.proofs.lemmas.Bool.Decides.{nat_tests}
+use Rattle.std.proofs.lemmas.List.{length-map}
+use Rattle.circuit.specs.Bridge.{circuit_of}
+use Rattle.circuit.specs.Meaning.{Circuit, wire_of}
+use Rattle.circuit.specs.declared.entry.Entry.{Entry}
+use Rattle.pattern.specs.Layout.{Pattern}
+use Rattle.module_box.specs.Locals.{is_among}
+use Rattle.module_box.specs.Schedules.{Signals}
+use Rattle.module_box.specs.declared.schedules.Event.{Event}
+use Rattle.module_box.specs.declared.schedules.Held.{Held}
+use Rattle.module_box.specs.declared.schedules.Signal.{Signal}
+use Rattle.module_box.specs.declared.schedules.Signal.TheVariants.{Zero, One, Wire}
+use Rattle.certificate.specs.Entries.{Setting, ModuleLines, halos, known}
+use Rattle.certificate.specs.Grammars.{setting_of}
+use Rattle.certificate.specs.Jobs.{JobState, IsJobOf, AreJobsOf, event_by, held_by, job_demand, job_start, line_signal, line_signals, line_stops, signal_of}
+use Rattle.certificate.specs.Modules.{AreModules, IsHalo}
+use Rattle.certificate.specs.Rules.{is_local, is_local_wire}
+use Rattle.certificate.specs.Signals.{IsBelow, renumber_event, renumber_held, renumber_signal}
+use Rattle.certificate.specs.Versions.{lacks_wire, with_halos}
+use Rattle.certificate.specs.declared.entry.Border.{Border}
+use Rattle.certificate.proofs.FullModules.{all_in, all_of_each, full_cuts, full_edges, full_gates, full_keeps, full_known, full_modules, full_stops, mapped_at, mapped_from}
+use Rattle.certificate.proofs.LineOrder.{in_each}
+use Rattle.certificate.proofs.Pairs.{Each}
+
+-- ---- the number of a wire in a list of wires
+
+place_among : List ℕ → ℕ → ℕ
+place_among [] w = 0
+place_among (v ∷ ws) w = if v == w then 0 else suc (place_among ws w)
+
+record IsPlace (ws : List ℕ) (w i : ℕ) : Type 0 where
+  pub below : i < length ws
+  pub there : slice_index ws i ≡ w
+
+same_number : (v w : ℕ) → (v == w) ≡ true → v ≡ w
+same_number v w e = grind (arith, nat_tests)
+
+place_step : (v w : ℕ) (ws : List ℕ) (b : Bool) → (v == w) ≡ b → (b || is_among ws w) ≡ true → (is_among ws w ≡ true → IsPlace ws w (place_among ws w))
+    → IsPlace (v ∷ ws) w (if b then 0 else suc (place_among ws w))
+place_step v w ws true same e more = record { below = omega arith; there = same_number v w same }
+place_step v w ws false other e more = let p = more e in record { below = let b = p.below in omega (arith, b); there = p.there }
+
+is_place : (ws : List ℕ) (w : ℕ) → is_among ws w ≡ true → IsPlace ws w (place_among ws w)
+unfolding place_among
+is_place [] w e = absurd (false≢true e)
+is_place (v ∷ ws) w e = place_step v w ws (v == w) refl e (is_place ws w)
+
+-- a signal over those wires
+numbered : List ℕ → Signal → Signal
+numbered ws Zero = Zero
+numbered ws One = One
+numbered ws (Wire w) = Wire (place_among ws w)
+
+record IsNumbered (ws : List ℕ) (s : Signal) : Type 0 where
+  pub back : renumber_signal (slice_index ws) (numbered ws s) ≡ s
+  pub below : IsBelow (length ws) (numbered ws s)
+
+-- ---- the signals of lines that name local wires
+
+module _ (c : Circuit) (ws : List ℕ) where
+  abbrev IsNamed : Border → Type 0
+  IsNamed e = IfSome e.signal (λ name. IsTrue (is_local c ws name))
+
+  signal_numbered : (s : Option (List ℕ)) → IfSome s (λ name. IsTrue (is_local c ws name)) → IsNumbered ws (line_signal c s)
+  unfolding numbered
+  signal_numbered None h = record { back = refl; below = tt }
+  signal_numbered (Some name) h = by (wire_of c name) h
+    where
+      by : (o : Option ℕ) → is_local_wire ws o ≡ true → IsNumbered ws (signal_of o)
+      by None h = absurd (false≢true h)
+      by (Some w) h = let p = is_place ws w h in record { back = ap (λ v. Wire v) p.there; below = p.below }
+
+  numbered_held : Held → Held
+  numbered_held h = record h { signal = numbered ws h.signal }
+
+  numbered_event : Event → Event
+  numbered_event e = record e { signal = numbered ws e.signal }
+
+  -- what lines say, over those wires
+  numbered_signals : Signals → Signals
+  numbered_signals s = record { held = map numbered_held s.held; events = map numbered_event s.events }
+
+  -- what one line says comes back, and names no other wires
+  record IsBack (hs : List Held) (es : List Event) : Type 0 where
+    pub held : map (renumber_held (slice_index ws)) (map numbered_held hs) ≡ hs
+    pub events : map (renumber_event (slice_index ws)) (map numbered_event es) ≡ es
+    pub held_below : Each (λ h. IsBelow (length ws) h.signal) (map numbered_held hs)
+    pub events_below : Each (λ e. IsBelow (length ws) e.signal) (map numbered_event es)
+
+  back_from : (e : Border) (time : Option ℕ) (s : Signal) (hs : List Held) (es : List Event) → IsNumbered ws s → IsBack hs es → IsBack (held_by e time s ++ hs) (event_by e time s ++ es)
+  unfolding numbered_held numbered_event Each
+  back_from e None s hs es is more = record {
+    held = ap₂ (λ a l. record { cell = e.cell; signal = a } ∷ l) is.back more.held;
+    events = more.events;
+    held_below = (is.below, more.held_below);
+    events_below = more.events_below;
+  }
+  back_from e (Some t) s hs es is more = record {
+    held = more.held;
+    events = ap₂ (λ a l. record { at = record { time = t; cell = e.cell }; signal = a } ∷ l) is.back more.events;
+    held_below = more.held_below;
+    events_below = (is.below, more.events_below);
+  }
+
+  lines_back : (es : List Border) → Each IsNamed es → IsBack (line_signals c es).held (line_signals c es).events
+  unfolding Each
+  lines_back [] h = record { held = refl; events = refl; held_below = tt; events_below = tt }
+  lines_back (e ∷ es) h = back_from e e.time (line_signal c e.signal) _ _ (signal_numbered e.signal h.0) (lines_back es h.1)
+
+-- ---- the job of a module with the edge lines beside it
+
+new_job : Circuit → Setting → List ModuleLines → ModuleLines → JobState → JobState
+new_job c g ms m j = record j { halos = numbered_signals c j.locals.circuit_wires (line_signals c (halos (with_halos g ms m))) }
+
+module _ (lines : List Entry) (p : Pattern) (ms : List ModuleLines) (good : AreModules (setting_of lines p) ms) (complete : lacks_wire (setting_of lines p) ms ≡ false) where
+  abbrev g : Setting
+  g = setting_of lines p
+
+  abbrev c : Circuit
+  c = circuit_of lines
+
+  new_is : (k : ℕ) (m : ModuleLines) (j : JobState) → slice_get ms k ≡ Some m → IsJobOf c p m j → IsJobOf c p (with_halos g ms m) (new_job c g ms m j)
+  unfolding with_halos job_start job_demand new_job numbered_signals
+  new_is k m j at is =
+      let full = with_halos g ms m in
+      let module_is = (full_modules g ms good complete).each k full (mapped_at (with_halos g ms) ms k m at) in
+      let ws = j.locals.circuit_wires in
+      let same : known c full ≡ ws = full_known g ms good m ∙ sym is.wires in
+      let named : Each (IsNamed c ws) (halos full) =
+      in_each (IsNamed c ws) (halos full) (λ e i. subst (λ vs. IsNamed c vs e) same (all_in (IsHalo g full.area (known c full)) (halos full) module_is.halo_lines e i).border.signal) in
+      let back = lines_back c ws (halos full) named in
+      record {
+        area = is.area;
+        steps = is.steps;
+        locals = is.locals;
+        cut = is.cut ∙ ap length (sym (full_cuts g ms good m));
+        wires = is.wires ∙ sym (full_known g ms good m);
+        used = is.used ∙ sym (full_gates g ms good m);
+        start = is.start;
+        demand = is.demand;
+        edges = is.edges ∙ ap (line_signals c) (sym (full_edges g ms good m));
+        halos = ap₂ (λ a b. record { held = a; events = b }) back.held back.events;
+        own = record {
+          starts = is.own.starts;
+          demands = is.own.demands;
+          edge_held = is.own.edge_held;
+          edge_events = is.own.edge_events;
+          halo_held = all_of_each _ _ (subst (λ n. Each (λ h. IsBelow n h.signal) (map (numbered_held c ws) (line_signals c (halos full)).held)) is.locals.sized back.held_below);
+          halo_events = all_of_each _ _ (subst (λ n. Each (λ e. IsBelow n e.signal) (map (numbered_event c ws) (line_signals c (halos full)).events)) is.locals.sized back.events_below);
+          stops = is.own.stops;
+        };
+        stops = is.stops ∙ ap (line_stops c) (sym (full_stops g ms good m));
+        kept = is.kept ∙ sym (full_keeps g ms good m);
+        kept_are_used = is.kept_are_used;
+      }
+
+  -- ---- and the jobs of all
+
+  new_jobs : List ModuleLines → List JobState → List JobState
+  new_jobs [] js = []
+  new_jobs (m ∷ ns) [] = []
+  new_jobs (m ∷ ns) (j ∷ js) = new_job c g ms m j ∷ new_jobs ns js
+
+  new_count : (ns : List ModuleLines) (js : List JobState) → length js ≡ length ns → length (new_jobs ns js) ≡ length ns
+  unfolding new_jobs
+  new_count [] js e = refl
+  new_count (m ∷ ns) [] e = absurd (omega (arith, e))
+  new_count (m ∷ ns) (j ∷ js) e = let less : length js ≡ length ns = omega (arith, e) in ap suc (new_count ns js less)
+
+  record IsNew (ns : List ModuleLines) (js : List JobState) (k : ℕ) (m : ModuleLines) (new : JobState) : Type 0 where
+    pub job : JobState
+    pub at : slice_get js k ≡ Some job
+    pub is : new_job c g ms m job ≡ new
+
+  new_at : (ns : List ModuleLines) (js : List JobState) (k : ℕ) (m : ModuleLines) (new : JobState) → slice_get ns k ≡ Some m → slice_get (new_jobs ns js) k ≡ Some new → IsNew ns js k m new
+  unfolding new_jobs
+  new_at [] js k m new at e = absurd cc
+  new_at (n ∷ ns) [] k m new at e = absurd cc
+  new_at (n ∷ ns) (j ∷ js) zero m new at e =
+      let same : n ≡ m = cc in
+      let made : new_job c g ms n j ≡ new = cc in
+      record { job = j; at = refl; is = ap (λ m. new_job c g ms m j) (sym same) ∙ made }
+  new_at (n ∷ ns) (j ∷ js) (suc k) m new at e =
+      let t = new_at ns js k m new at e in
+      record { job = t.job; at = t.at; is = t.is }
+
+  pub full_jobs : (js : List JobState) → AreJobsOf c p ms js → (others : List JobState) × AreJobsOf c p (map (with_halos g ms) ms) others
+  full_jobs js own = (
+    new_jobs ms js,
+    record {
+      count = new_count ms js own.count ∙ sym (length-map ms (with_halos g ms));
+      each = λ k n new at e.
+          let m = mapped_from (with_halos g ms) ms k n at in
+          let t = new_at ms js k m.0 new m.1 e in
+          subst (λ o. IsJobOf c p o new) m.2 (subst (λ j. IsJobOf c p (with_halos g ms m.0) j) t.is (new_is k m.0 t.job m.1 (own.each k m.0 t.job m.1 t.at)));
+    },
+  )

@@ -1,0 +1,5 @@
+use Rattle.headline.proofs.OneListing.{one_migration}
+use Rattle.headline.proofs.laws.migrate_has_one_answer.Goals as goal
+
+pub returns : goal.returns
+returns c = one_migration
