@@ -90,10 +90,10 @@ odd_lane p q size turns a x y la lx ly =
     at_dr i j ex ey li lj = rw (ex, ey, mate_odd (2 * i) (omega arith), mate_odd (2 * j) (omega arith), lane_dr q a i j, same_place i j (a / 64), lane_ul p a i j, lane_ur p a i j, lane_dl p a i j, lane_dr p a i j) ((turned_at i j li lj).lower_right (a % 64))
 
 -- ---- parts of slices
-part_read : (a k i : ℕ) (xs : List ℕ) → i < k → get_or (mid_of a k xs) i 0 ≡ get_or xs (a + i) 0
+pub part_read : (a k i : ℕ) (xs : List ℕ) → i < k → get_or (mid_of a k xs) i 0 ≡ get_or xs (a + i) 0
 part_read a k i xs l = get_or-take k (drop a xs) i 0 l ∙ get_or-drop a xs i 0
 
-part_written : (a k i : ℕ) (xs ys : List ℕ) → a ≤ length xs → i < length ys → get_or (put_mid a k xs ys) (a + i) 0 ≡ get_or ys i 0
+pub part_written : (a k i : ℕ) (xs ys : List ℕ) → a ≤ length xs → i < length ys → get_or (put_mid a k xs ys) (a + i) 0 ≡ get_or ys i 0
 part_written a k i xs ys within l =
     let front : length (take a xs) ≡ a = length-take-le a xs within in
     let after : a + i - a ≡ i = omega arith in

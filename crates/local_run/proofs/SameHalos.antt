@@ -1,6 +1,6 @@
 -- Jobs whose halos say the same at each odd time have the same faults
-use Rattle.std.proofs.Common.{◌≡◌, ℕ, zero, suc, ◌<◌, ◌≤◌, ◌%◌, ◌&&◌, ◌||◌, List, [], refl, sym, ap, ap₂, subst, ◌∙◌, arith, inl, inr}
-use Rattle.std.specs.Prelude.{ℤ, IsTrue, Contains}
+use Rattle.std.proofs.Common.{◌≡◌, ℕ, zero, suc, ◌<◌, ◌≤◌, ◌%◌, ◌&&◌, ◌||◌, List, refl, sym, ap, ap₂, subst, ◌∙◌, arith, inl, inr}
+use Rattle.std.specs.Prelude.{ℤ, Contains}
 use Rattle.std.specs.List.{All}
 use Rattle.std.proofs.lemmas.Bool.{cases_Bool}
 use Rattle.std.proofs.Math.Logic.{∥∥₁_map}
@@ -8,14 +8,12 @@ use Rattle.bbm_rule.specs.Plane.{State}
 use Rattle.circuit.specs.Meaning.{Valuation}
 use Rattle.module_box.specs.Boxes.{in_box, in_halo}
 use Rattle.module_box.specs.Schedules.{Signals, signal_at}
-use Rattle.module_box.specs.declared.schedules.Signal.{Signal}
 use Rattle.certificate.specs.Jobs.{JobState, job_demand, job_start}
 use Rattle.certificate.specs.Signals.{Meets, is_live}
 use Rattle.certificate.specs.declared.job.Stop as listed
-use Rattle.local_run.specs.Faults.{HasFault, IsFault, IsFaultUnder}
+use Rattle.local_run.specs.Faults.{HasFault, IsFaultUnder}
 use Rattle.local_run.specs.Laws.{JobsWithSameHalosAgree, SayTheSame}
 use Rattle.local_run.specs.Runs.{local_run, with_halo}
-use Rattle.local_run.specs.declared.fault.Fault.{Fault}
 use Rattle.local_run.specs.declared.fault.Kind.{Kind}
 use Rattle.local_run.specs.declared.fault.Kind.TheVariants.{Edge, Stop, End}
 use Rattle.local_run.proofs.LocalRuns.{even_or_odd, local_even, local_odd, step_all_same}

@@ -1,5 +1,5 @@
 -- Words of assignments, and the first that differs
-use Rattle.std.proofs.Common.{◌≡◌, ◌≢◌, ℕ, Bool, true, false, ◌<◌, ◌≤◌, ◌+◌, ◌*◌, ◌/◌, ◌%◌, ◌^◌, refl, arith, sym, ◌∙◌, ap, ap₂, subst, List, [], ◌∷◌, ◌&&◌, zero, suc, length, get_or, set, get_or-set_same, get_or-set_other, w64, bit_and}
+use Rattle.std.proofs.Common.{◌≡◌, ◌≢◌, ℕ, Bool, true, false, ◌<◌, ◌≤◌, ◌+◌, ◌-◌, ◌*◌, ◌/◌, ◌%◌, ◌^◌, refl, arith, sym, ◌∙◌, ap, ap₂, subst, List, [], ◌∷◌, ◌&&◌, zero, suc, length, get_or, set, get_or-set_same, get_or-set_other, w64, bit_and}
 use Rattle.std.specs.Prelude.{bit_xor}
 use Rattle.std.specs.Int.{bit_at, trailing_zeros}
 use Rattle.std.proofs.lemmas.Nat.Bits.{bit_at-trailing_zeros, bit_at_ones}
@@ -13,7 +13,7 @@ use Rattle.module_box.specs.declared.schedules.Signal.{Signal}
 use Rattle.module_box.specs.declared.schedules.Signal.TheVariants.{Zero, One, Wire}
 use Rattle.std.proofs.Math.Nat.{mul-le-mul_left}
 use Rattle.module_box.specs.LocalValues.{bit_of_row, value_of}
-use Rattle.local_run.specs.Scans.{HasRow, is_defined, valuation}
+use Rattle.local_run.specs.Scans.{HasRow, IsShown, is_defined, valuation}
 use Rattle.local_run.specs.Lanes.{lane, plane_of, SetsWord}
 use Rattle.local_run.specs.declared.planes.Planes.{Planes}
 use Rattle.local_run.specs.declared.values.Values.{Values}
@@ -124,6 +124,14 @@ same_clear vs p x y k s cells wanted are should room same before =
     block_clear (differs vs p x y s) k (bit_and (bit_xor cells wanted) defined) (differs_bits vs p x y k s cells wanted defined 0 are should room refl) before
     (ap (λ (n : ℕ). bit_and n defined) (ap (λ (n : ℕ). bit_xor n wanted) same ∙ xor_self wanted) ∙ and_zero_l defined)
 
+-- one more word is as the signal says
+pub shown_more : (vs : Values) (p : Planes) (x y k : ℕ) (s : Signal) (cells wanted : ℕ) → ((b : ℕ) → b < 64 → bit cells b ≡ lane p (64 * k + b) x y) → ((b : ℕ) → b < 64 → bit wanted b ≡ is_live (valuation vs (64 * k + b)) s) →
+    cells ≡ wanted → IsShown vs p x y s k → IsShown vs p x y s (k + 1)
+shown_more vs p x y k s cells wanted are should same before a l = by_lt_or_le a (64 * k)
+    (λ h. before a h)
+    (λ g. let e : 64 * k + (a - 64 * k) ≡ a = omega arith in
+    subst (λ (n : ℕ). lane p n x y ≡ is_live (valuation vs n) s) e (sym (are (a - 64 * k) (omega arith)) ∙ ap (λ (n : ℕ). bit n (a - 64 * k)) same ∙ should (a - 64 * k) (omega arith)))
+
 pub difference_small : (v w d : ℕ) → v < 2 ^ 64 → w < 2 ^ 64 → d < 2 ^ 64 → bit_and (bit_xor v w) d < 2 ^ 64
 difference_small v w d sv sw sd = and_lt 64 (bit_xor v w) d (xor_lt 64 v w sv sw) sd
 
@@ -156,6 +164,10 @@ unique_place w c c' r r' l l' e = by_lt_or_le c c'
   where
     by_sum : c ≡ c' → r ≡ r'
     by_sum q = let m : w * c ≡ w * c' = ap (λ n. w * n) q in omega arith
+
+-- the words of another cell are as before
+pub other_word : (w u k v l word : ℕ) (xs : List ℕ) → k < w → l < w → v ≢ u → get_or (set xs (w * u + k) word) (w * v + l) 0 ≡ get_or xs (w * v + l) 0
+other_word w u k v l word xs lk ll ne = get_or-set_other xs (w * u + k) (w * v + l) word 0 (λ e. ne (unique_place w v u l k ll lk e).0)
 
 lane_at : (q : Planes) (a x y w st : ℕ) (s : List ℕ) → q.words ≡ w → q.stride ≡ st → plane_of q x y ≡ s → lane q a x y ≡ bit (get_or s (w * (st * (y / 2) + x / 2) + a / 64) 0) (a % 64)
 unfolding lane

@@ -18,7 +18,7 @@ use Rattle.module_box.specs.Schedules.{signal_at}
 use Rattle.certificate.specs.Jobs.{JobState, job_start}
 use Rattle.local_run.specs.Runs.{with_halo, local_run}
 use Rattle.local_run.specs.Places.{inner, outer}
-use Rattle.local_run.specs.Lanes.{lane, HasSize}
+use Rattle.local_run.specs.Lanes.{lane, HasSize, SameInside}
 use Rattle.local_run.specs.Faults.{assignments}
 use Rattle.local_run.specs.Scans.{IsReady, Shows, HasHalo, IsOuter, valuation}
 use Rattle.local_run.specs.declared.values.Values.{Values}
@@ -116,6 +116,21 @@ even_shows j vs t p q ready even shows size turns = record {
       (partner_inner j.area.x t x ready.job.even.x even) (partner_inner j.area.y t y ready.job.even.y even)
       (shows.cells a x y la lx ly) (shows.cells a (mate x) (mate y) la mx my) (shows.cells a (mate x) y la mx ly) (shows.cells a x (mate y) la lx my)
       ∙ sym (run_even j u t _ _ even);
+}
+
+-- the cells of the box stayed
+pub inside_shows : (j : JobState) (vs : Values) (t : ℕ) (p q : Planes) → IsReady j vs → Shows j vs t p → HasSize p.words p.stride p.rows q → SameInside p q → Shows j vs t q
+inside_shows j vs t p q ready shows size same = record {
+  size = (size.0 ∙ shows.size.0, size.1 ∙ shows.size.1, size.2 ∙ shows.size.2);
+  cells = λ a x y la lx ly.
+      let room = ready.room in
+      let count = ready.count in
+      let ew = ready.job.even.w in
+      let eh = ready.job.even.h in
+      let s0 = shows.size.0 in
+      let s1 = shows.size.1 in
+      let s2 = shows.size.2 in
+      same a x y (omega arith) (omega arith) (omega arith) ∙ shows.cells a x y la lx ly;
 }
 
 -- ---- an odd step

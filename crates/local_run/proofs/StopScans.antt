@@ -2,6 +2,7 @@
 use Rattle.std.proofs.Common.{◌≡◌, ◌≢◌, ℕ, ◌<◌, ◌≤◌, ◌+◌, length, get_or, Some, None, true, Ordering, Less, Equal, Greater, ◌⊎◌, inl, inr, refl, arith, sym, ◌∙◌, ap, subst}
 use Rattle.std.specs.Prelude.{ℤ, ◌<ℤ◌, slice_get}
 use Rattle.std.specs.Ordering.{nat_cmp, int_cmp, ordering_then}
+use Rattle.std.proofs.lemmas.Bool.{cases_lt}
 use Rattle.std.proofs.lemmas.Int.{ints}
 use Rattle.std.proofs.lemmas.Option.{same_Some, slice_get_within, slice_get-get_or}
 use Rattle.circuit.specs.Meaning.{Valuation}
@@ -221,3 +222,43 @@ past_all j vs t place tried past = all_tried j vs t place tried (at_end j t plac
 
 pub past_these : (j : JobState) (vs : Values) (t place : ℕ) (s : listed.Stop) → IsRising moment_cmp stop_moment j.stops → AreTried j vs t place → slice_get j.stops place ≡ Some s → s.at.time ≢ t → AreAllTried j vs t place
 past_these j vs t place s rising tried e other = all_tried j vs t place tried (before_later j vs t place s rising tried e other)
+
+-- ---- times without stops
+-- where a place is that of the next stop at two times there is none between them
+pub none_between : (j : JobState) (vs : Values) (t n place k : ℕ) → IsNextStop j t place → IsNextStop j n place → t ≤ k → k < n → IsFree j vs k Stop
+none_between j vs t n place k low high from to x y a la found =
+    let f : IsStopFault j (valuation vs a) k x y = found.1 in
+    let at : slice_get j.stops f.is_listed.0 ≡ Some f.stop = stop_at j (valuation vs a) k x y f in
+    let time : f.stop.at.time ≡ k = f.time in
+    elim (cases_lt f.is_listed.0 place) [
+      | inl l ↦ let h = low.before f.is_listed.0 f.stop l at in omega (arith, h, time, from)
+      | inr g ↦ let h = high.from f.is_listed.0 f.stop g at in omega (arith, h, time, to)
+    ]
+
+later_stop : (j : JobState) (i k : ℕ) (s r : listed.Stop) → IsRising moment_cmp stop_moment j.stops → i ≤ k → slice_get j.stops i ≡ Some s → slice_get j.stops k ≡ Some r → s.at.time ≤ r.at.time
+later_stop j i k s r rising le e h = elim (three_ways k i) [
+  | inl lt ↦ absurd (omega (arith, lt, le))
+  | inr (inl same) ↦
+      let is : r ≡ s = same_Some _ _ (sym h ∙ ap (slice_get j.stops) same ∙ e) in
+      let time : r.at.time ≡ s.at.time = ap (λ (x : listed.Stop). x.at.time) is in
+      omega (arith, time)
+  | inr (inr gt) ↦ elim (later_moment s.at r.at (rising.rises i k s r gt e h)) [
+    | inl early ↦ omega (arith, early)
+    | inr p ↦ (let same = p.0 in omega (arith, same))
+  ]
+]
+
+-- a place is that of the next stop also at later times, up to that of the stop
+pub next_later : (j : JobState) (t n place : ℕ) (s : listed.Stop) → IsRising moment_cmp stop_moment j.stops → IsNextStop j t place → slice_get j.stops place ≡ Some s → t ≤ n → n ≤ s.at.time → IsNextStop j n place
+next_later j t n place s rising next e from to = record {
+  within = next.within;
+  before = λ k r l h. (let lt = next.before k r l h in omega (arith, lt, from));
+  from = λ k r ge h. (let le = later_stop j place k s r rising ge e h in omega (arith, le, to));
+}
+
+pub next_at_end : (j : JobState) (t n place : ℕ) → IsNextStop j t place → length j.stops ≤ place → t ≤ n → IsNextStop j n place
+next_at_end j t n place next past from = record {
+  within = next.within;
+  before = λ k r l h. (let lt = next.before k r l h in omega (arith, lt, from));
+  from = λ k r ge h. absurd (let lt = slice_get_within j.stops k r h in omega (arith, lt, past, ge));
+}

@@ -1,5 +1,5 @@
 -- What the laws of this crate say
-use Rattle.std.specs.Prelude.{◌≡◌, ℕ, ℤ, ◌<◌, ◌≤◌, ◌%◌, ◌↔◌, Option, None, IsTrue}
+use Rattle.std.specs.Prelude.{◌≡◌, ℕ, ℤ, ◌+◌, ◌<◌, ◌≤◌, ◌%◌, ◌↔◌, Option, None, IsTrue}
 use Rattle.std.specs.List.{All}
 use Rattle.circuit.specs.Meaning.{Circuit, Valuation, AreOrdered}
 use Rattle.pattern.specs.Layout.{Pattern}
@@ -10,7 +10,8 @@ use Rattle.module_box.specs.Locals.{AreDifferent}
 use Rattle.module_box.specs.Schedules.{Signals, signal_at}
 use Rattle.certificate.specs.Entries.{ModuleLines, known}
 use Rattle.certificate.specs.Jobs.{JobState, IsJob, IsJobOf}
-use Rattle.local_run.specs.Faults.{IsFault, IsFaultUnder, IsKeepFault, IsLeastFault, IsLeastKeepFault, assignments}
+use Rattle.local_run.specs.Faults.{IsEdgeFault, IsFault, IsFaultUnder, IsKeepFault, IsLeastFault, IsLeastKeepFault, assignments}
+use Rattle.local_run.specs.Leaps.{IsOddOf, IsSteady, StaysUpTo}
 use Rattle.local_run.specs.Runs.{local_run}
 use Rattle.local_run.specs.Shown.{job_of, fault_of, keep_of}
 use Rattle.local_run.specs.declared.fault.Fault.{Fault}
@@ -76,3 +77,12 @@ JobsWithSameHalosAgree = (j : JobState) (halos : Signals) (f : Fault) → All (�
 -- no cell outside the box is ever live
 abbrev pub StaysInBox : Type 0
 StaysInBox = (j : JobState) (u : Valuation) (t : ℕ) → IsJob j → LiesInBox j.area (local_run j u t)
+
+-- A run that does not change in two steps does not change until time n, where the signals of the halo do not either
+abbrev pub QuietRunsStay : Type 0
+QuietRunsStay = (j : JobState) (u : Valuation) (t o n : ℕ) → IsOddOf t o → StaysUpTo j u t (t + 2) → IsSteady j.halos o n → StaysUpTo j u t n
+
+-- Where the signals of the ring do not change either, an edge fault before time n was there at the odd one of the two times
+abbrev pub NoNewEdgeFaults : Type 0
+NoNewEdgeFaults = (j : JobState) (u : Valuation) (t o n k : ℕ) (x y : ℤ) → IsOddOf t o → StaysUpTo j u t (t + 2) → IsSteady j.halos o n → IsSteady j.edges o n →
+    t ≤ k → k < n → IsEdgeFault j u k x y → IsEdgeFault j u o x y

@@ -4,7 +4,11 @@ pub mod Faults
 pub mod Shown
 pub mod Laws
 pub mod Across
+pub mod Turns
+pub mod Calm
 pub mod Lanes
 pub mod Places
 pub mod Scans
 pub mod Moves
+pub mod Quiet
+pub mod Leaps

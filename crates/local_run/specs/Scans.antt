@@ -1,5 +1,5 @@
 -- The run of a job under all assignments, and the first of its faults
-use Rattle.std.specs.Prelude.{◌≡◌, ◌≢◌, Bool, true, ℕ, ℤ, ◌+◌, ◌*◌, ◌/◌, ◌%◌, ◌<◌, ◌≤◌, ◌<ℤ◌, length, slice_get, Option, Some, None, ◌⊎◌}
+use Rattle.std.specs.Prelude.{◌≡◌, ◌≢◌, Bool, true, false, ℕ, ℤ, ◌+◌, ◌*◌, ◌/◌, ◌%◌, ◌<◌, ◌≤◌, ◌<ℤ◌, length, slice_get, Option, Some, None, ◌⊎◌}
 use Rattle.circuit.specs.Meaning.{Valuation, AreOrdered, wires}
 use Rattle.module_box.specs.LocalValues.{AreValueRows, bit_of_row, value_of}
 use Rattle.module_box.specs.Schedules.{signal_at}
@@ -12,6 +12,7 @@ use Rattle.certificate.specs.declared.job.Stop as listed
 use Rattle.local_run.specs.Faults.{IsFaultUnder, assignments}
 use Rattle.local_run.specs.Lanes.{HasSize, lane}
 use Rattle.local_run.specs.Places.{inner, outer}
+use Rattle.local_run.specs.Quiet.{AreLines}
 use Rattle.local_run.specs.Runs.{local_run}
 use Rattle.local_run.specs.declared.fault.Fault.{Fault}
 use Rattle.local_run.specs.declared.fault.Kind.{Kind}
@@ -55,6 +56,7 @@ pub record IsReady (j : JobState) (vs : Values) : Type 0 where
   pub room : vs.count ≤ 64 * vs.words
   pub long : vs.words * wires j.locals.netlist ≤ length vs.rows.values.items
   pub rows : AreValueRows j.locals.netlist vs.words vs.rows
+  pub lines : AreLines j vs.lined.items
 
 -- the cells of the box are those of the run at time t, under each assignment
 pub record Shows (j : JobState) (vs : Values) (t : ℕ) (p : Planes) : Type 0 where
@@ -90,6 +92,10 @@ pub record IsFirst (j : JobState) (vs : Values) (t : ℕ) (kind : Kind) (f : Fau
 -- there is no fault of the kind at the time
 abbrev pub IsFree : JobState → Values → ℕ → Kind → Type 0
 IsFree j vs t kind = (x y : ℤ) (a : ℕ) → a < assignments j → ¬ IsFound j vs a t kind x y
+
+-- a cell, counted from the halo, is what the signal says under the assignments of so many words
+abbrev pub IsShown : Values → Planes → ℕ → ℕ → Signal → ℕ → Type 0
+IsShown vs p x y signal words = (a : ℕ) → a < 64 * words → lane p a x y ≡ is_live (valuation vs a) signal
 
 -- a cell, counted from the halo, becomes what the signal says, and no other changes
 pub record PutsCell (vs : Values) (x y : ℕ) (signal : Signal) (p q : Planes) : Type 0 where
@@ -128,9 +134,14 @@ HasNoEdgeFault j vs t = t % 2 ≡ 1 → IsFree j vs t Edge
 abbrev pub IsFirstAt : JobState → Values → ℕ → Fault → Type 0
 IsFirstAt j vs t f = ((t % 2 ≡ 1) × IsFirst j vs t Edge f) ⊎ (HasNoEdgeFault j vs t × IsFirst j vs t Stop f)
 
--- a time before the last without a fault: the cells are those of the next time, and so is the place of the next stop
-pub record IsPassed (j : JobState) (vs : Values) (t : ℕ) (p : Planes) (place : ℕ) : Type 0 where
-  pub shows : Shows j vs (t + 1) p
+-- a time before the last without a fault: the place is that of the next stop after it
+pub record IsPassed (j : JobState) (vs : Values) (t place : ℕ) : Type 0 where
   pub next : IsNextStop j (t + 1) place
   pub edges : HasNoEdgeFault j vs t
   pub stops : IsFree j vs t Stop
+
+-- the cell, counted from the halo, is dead under each assignment, and its signals are `Zero` at all times
+pub record IsSilent (j : JobState) (p : Planes) (x y : ℕ) : Type 0 where
+  pub dead : (a : ℕ) → a < 64 * p.words → lane p a x y ≡ false
+  pub edge : (t : ℕ) → signal_at j.edges t (outer j.area.x x) (outer j.area.y y) ≡ Zero
+  pub halo : (t : ℕ) → signal_at j.halos t (outer j.area.x x) (outer j.area.y y) ≡ Zero

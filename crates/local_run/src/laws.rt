@@ -1,5 +1,5 @@
 //! Laws of findings.
-ghost use Rattle.local_run.specs.Laws.{FindingsAgree, FindingsAgreeOnKeeps, NoneMeansNoFault, NoneMeansNoKeepFault, LeastFaultIsUnique, LeastKeepFaultIsUnique, UndefinedHasNoFault, FaultsAreDecided, JobsOfOneModuleAgree, JobsOfOneModuleAgreeOnKeeps, JobsWithSameHalosAgree, StaysInBox};
+ghost use Rattle.local_run.specs.Laws.{FindingsAgree, FindingsAgreeOnKeeps, NoneMeansNoFault, NoneMeansNoKeepFault, LeastFaultIsUnique, LeastKeepFaultIsUnique, UndefinedHasNoFault, FaultsAreDecided, JobsOfOneModuleAgree, JobsOfOneModuleAgreeOnKeeps, JobsWithSameHalosAgree, StaysInBox, QuietRunsStay, NoNewEdgeFaults};
 ghost use Rattle.local_run.specs.Moves.{FaultsMoveAlong, LeastFaultMovesAlong, LeastKeepFaultStays};
 
 /// Two findings of one job have one fault, and one keep fault.
@@ -52,4 +52,14 @@ pub fn faults_move_along()
     ensures faults { FaultsMoveAlong }
     ensures least { LeastFaultMovesAlong }
     ensures keep { LeastKeepFaultStays }
+{}
+
+/// A run that does not change in two steps does not change until a signal of its halo does.
+pub fn quiet_runs_stay()
+    ensures { QuietRunsStay }
+{}
+
+/// No edge fault comes up while the run, the signals of its halo and those of its ring stay as they are.
+pub fn no_new_edge_faults()
+    ensures { NoNewEdgeFaults }
 {}

@@ -8,13 +8,20 @@
 //! All assignments are run at once: each cell has a bit for each of them, and the cells lie in planes whose words are turned
 //! together. Faults are looked for in their order, so the first one that is found is the least.
 //!
+//! What stays is passed over: a block until one of its cells changes, a cell of ring and halo that is dead and has no line, and
+//! the times up to the next line or stop where two steps changed nothing. Where many blocks change, whole planes are turned.
+//!
 //! The step is that of Norman Margolus's billiard ball model (Physics-like Models of Computation, 1984).
 #![tactic(auto)]
 
 mod fault;
+mod field;
 mod finding;
 mod keep;
 pub mod laws;
+mod leaps;
+mod lines;
+mod marks;
 mod places;
 mod planes;
 mod run;

@@ -6,7 +6,8 @@
 ghost use Rattle.bbm_rule.specs.Plane.{turned};
 ghost use Rattle.bbm_rule.specs.Rows.{mate};
 ghost use Rattle.local_run.specs.Across.{TurnsAcross};
-ghost use Rattle.std.specs.Prelude.{ℕ, ◌≡◌, ◌+◌, ◌-◌, ◌*◌, ◌/◌, ◌%◌, ◌<◌, ◌≤◌, length, vec_len, IfOk, false};
+ghost use Rattle.local_run.specs.Turns.{IsCalm, IsCalmBlock, TurnsPart};
+ghost use Rattle.std.specs.Prelude.{ℕ, ◌≡◌, ◌+◌, ◌-◌, ◌*◌, ◌/◌, ◌%◌, ◌<◌, ◌≤◌, length, slice_index, vec_len, IfOk, false, true};
 
 use bbm_rule::turn_lanes;
 use std::alloc::{AllocError, Global};
@@ -116,8 +117,188 @@ fn turn_across(
     );
 }
 
+// Turns blocks whose corners begin at a place of their own in each slice.
+#[inline(always)]
+fn turn_part(
+    upper_left: &mut [u64],
+    upper_right: &mut [u64],
+    lower_left: &mut [u64],
+    lower_right: &mut [u64],
+    a: usize,
+    b: usize,
+    c: usize,
+    d: usize,
+    long: usize,
+)
+    requires upper { (a + long ≤ length upper_left.old) × (b + long ≤ length upper_right.old) }
+    requires lower { (c + long ≤ length lower_left.old) × (d + long ≤ length lower_right.old) }
+    ensures { TurnsPart a b c d long upper_left.old upper_right.old lower_left.old lower_right.old upper_left.new upper_right.new lower_left.new lower_right.new }
+{
+    turn_lanes(
+        &mut upper_left[a..a + long],
+        &mut upper_right[b..b + long],
+        &mut lower_left[c..c + long],
+        &mut lower_right[d..d + long],
+    );
+}
+
+// Whether a turn leaves them as they are.
+#[inline(always)]
+fn is_calm_part(
+    upper_left: &[u64],
+    upper_right: &[u64],
+    lower_left: &[u64],
+    lower_right: &[u64],
+    a: usize,
+    b: usize,
+    c: usize,
+    d: usize,
+    long: usize,
+) -> bool
+    requires upper { (a + long ≤ length upper_left.now) × (b + long ≤ length upper_right.now) }
+    requires lower { (c + long ≤ length lower_left.now) × (d + long ≤ length lower_right.now) }
+    ensures { result ≡ true → (k : ℕ) → k < long → IsCalm (slice_index upper_left.now (a + k)) (slice_index upper_right.now (b + k)) (slice_index lower_left.now (c + k)) (slice_index lower_right.now (d + k)) }
+{
+    let mut changes = 0;
+    // Over all words, so that some are taken at once.
+    for k in 0..long {
+        let main = upper_left[a + k] | lower_right[d + k];
+        let anti = upper_right[b + k] | lower_left[c + k];
+        changes |= main ^ anti;
+    }
+    changes == 0
+}
+
+impl Planes {
+    ghost use Rattle.local_run.specs.Calm.{IsDeadAt};
+    ghost use Rattle.local_run.specs.Lanes.{HasSize};
+
+    /// How many cells a plane has. A block of the odd partition has the number of its cells, counted row by row.
+    pub fn cells(&self) -> usize
+        ensures is { result ≡ self.now.stride * self.now.rows }
+        ensures few { (4 ≤ result) × (result ≤ 4096) × (self.now.stride + self.now.stride ≤ result) }
+    {
+        self.stride * self.rows
+    }
+
+    /// How many words a cell has.
+    pub fn words(&self) -> usize
+        ensures is { result ≡ self.now.words }
+        ensures few { (0 < result) × (result ≤ 64) }
+    {
+        self.words
+    }
+
+    /// How many cells a row of a plane has.
+    pub fn stride(&self) -> usize
+        ensures is { result ≡ self.now.stride }
+        ensures few { (2 ≤ result) × (result ≤ 64) }
+    {
+        self.stride
+    }
+
+    /// Whether block u of the odd partition stays as it is under each assignment.
+    pub fn is_calm_odd(&self, u: usize) -> bool
+        requires { u < self.now.stride * self.now.rows }
+        ensures { result ≡ true → IsCalmBlock self.now.words u u u u self.now.odd.items self.now.right.items self.now.down.items self.now.even.items }
+    {
+        let at = self.words * u;
+        is_calm_part(
+            &self.odd,
+            &self.right,
+            &self.down,
+            &self.even,
+            at,
+            at,
+            at,
+            at,
+            self.words,
+        )
+    }
+
+    /// Whether the cells with number u are dead under each assignment.
+    pub fn is_dead(&self, u: usize) -> bool
+        requires { u < self.now.stride * self.now.rows }
+        ensures { result ≡ true → IsDeadAt u self.now }
+    {
+        let at = self.words * u;
+        for k in 0..self.words {
+            if self.odd[at + k] != 0
+                || self.right[at + k] != 0
+                || self.down[at + k] != 0
+                || self.even[at + k] != 0
+            {
+                return false;
+            }
+        }
+        true
+    }
+
+    /// Turns block u of the odd partition.
+    pub fn turn_odd(&mut self, u: usize)
+        requires { u < self.old.stride * self.old.rows }
+        ensures part { let at = self.old.words * u in TurnsPart at at at at self.old.words self.old.odd.items self.old.right.items self.old.down.items self.old.even.items self.new.odd.items self.new.right.items self.new.down.items self.new.even.items }
+        ensures size { HasSize self.old.words self.old.stride self.old.rows self.new }
+    {
+        let at = self.words * u;
+        turn_part(
+            &mut self.odd,
+            &mut self.right,
+            &mut self.down,
+            &mut self.even,
+            at,
+            at,
+            at,
+            at,
+            self.words,
+        );
+    }
+
+    /// Whether block u of the even partition stays as it is under each assignment: it has the number of its upper left cell.
+    pub fn is_calm_even(&self, u: usize) -> bool
+        requires { u + self.now.stride + 1 < self.now.stride * self.now.rows }
+        ensures { result ≡ true → IsCalmBlock self.now.words u (u + 1) (u + self.now.stride) (u + self.now.stride + 1) self.now.even.items self.now.down.items self.now.right.items self.now.odd.items }
+    {
+        let words = self.words;
+        let stride = self.stride;
+        is_calm_part(
+            &self.even,
+            &self.down,
+            &self.right,
+            &self.odd,
+            words * u,
+            words * (u + 1),
+            words * (u + stride),
+            words * (u + stride + 1),
+            words,
+        )
+    }
+
+    /// Turns block u of the even partition.
+    pub fn turn_even(&mut self, u: usize)
+        requires { u + self.old.stride + 1 < self.old.stride * self.old.rows }
+        ensures part { let w = self.old.words in TurnsPart (w * u) (w * (u + 1)) (w * (u + self.old.stride)) (w * (u + self.old.stride + 1)) w self.old.even.items self.old.down.items self.old.right.items self.old.odd.items self.new.even.items self.new.down.items self.new.right.items self.new.odd.items }
+        ensures size { HasSize self.old.words self.old.stride self.old.rows self.new }
+    {
+        let words = self.words;
+        let stride = self.stride;
+        turn_part(
+            &mut self.even,
+            &mut self.down,
+            &mut self.right,
+            &mut self.odd,
+            words * u,
+            words * (u + 1),
+            words * (u + stride),
+            words * (u + stride + 1),
+            words,
+        );
+    }
+}
+
 impl Planes {
     ghost use Rattle.bbm_rule.specs.Bits.{bit};
+    ghost use Rattle.local_run.specs.Calm.{ChangesCells};
     ghost use Rattle.local_run.specs.Lanes.{HasSize, lane, SetsWord};
 
     /// Word k of a cell, counted from the halo.
@@ -143,6 +324,7 @@ impl Planes {
     pub fn set_word(&mut self, x: usize, y: usize, k: usize, word: u64)
         requires { (x / 2 < self.old.stride) × (y / 2 < self.old.rows) × (k < self.old.words) }
         ensures set { SetsWord x y k word self.old self.new }
+        ensures cells { let u = self.old.stride * (y / 2) + x / 2 in ChangesCells u u u u self.old self.new }
         ensures size { HasSize self.old.words self.old.stride self.old.rows self.new }
     {
         let at = self.words * (self.stride * (y / 2) + x / 2) + k;

@@ -1,13 +1,15 @@
 //! The run of a job, and its finding.
-ghost use Rattle.std.specs.Prelude.{◌≡◌, ◌<◌, IfOk, MatchOption};
+ghost use Rattle.std.specs.Prelude.{◌≡◌, ◌+◌, ◌<◌, IfOk, MatchOption, false};
 ghost use Rattle.std.specs.Arc.{arc_value};
 ghost use Rattle.local_run.specs.Faults.{IsLeastFault, IsLeastKeepFault};
 ghost use Rattle.local_run.specs.Scans.{IsFirstAt, IsNextStop, IsPassed, IsReady, Shows};
 ghost use Rattle.local_run.specs.Shown.{digest_of, number_of, job_of};
 
 use crate::fault::{Fault, KeepFault, Kind};
+use crate::field::Field;
 use crate::finding::Finding;
 use crate::keep::least_keep;
+use crate::leaps::next_time;
 use crate::planes::Planes;
 use crate::scan::{first_fault, first_stop_fault};
 use crate::steps::{even_time, odd_time, put_start};
@@ -16,9 +18,10 @@ use certificate::Job;
 use std::alloc::{AllocError, Global};
 use std::sync::Arc;
 
-// One time of the run before the last, or its first fault. `next` is the place of the first stop that is not earlier.
-fn one_time(
-    planes: &mut Planes,
+// The first fault of a time before the last, where `next` is the place of the first stop that is not earlier. Where there is none,
+// `next` is then the place of the first later stop.
+fn time_fault(
+    field: &Field,
     values: &Values,
     job: &Job,
     time: u32,
@@ -26,28 +29,35 @@ fn one_time(
 ) -> Option<Fault>
     requires ready { IsReady job.now values.now }
     requires early { time < job.now.steps }
-    requires shows { Shows job.now values.now time planes.old }
+    requires shows { Shows job.now values.now time field.now.planes }
     requires next { IsNextStop job.now time next.old }
-    ensures { MatchOption result (IsPassed job.now values.now time planes.new next.new) (λ f. IsFirstAt job.now values.now time f) }
+    ensures { MatchOption result (IsPassed job.now values.now time next.new) (λ f. IsFirstAt job.now values.now time f) }
 {
-    if time % 2 == 0 {
-        if let Some(fault) = first_stop_fault(planes, values, job, time, next) {
+    if time % 2 == 1 {
+        if let Some(fault) = first_fault(field, values, job, time, Kind::Edge) {
             return Some(fault);
         }
-        even_time(planes, values, job, time);
-        return None;
     }
-    if let Some(fault) = first_fault(planes, values, job, time, Kind::Edge) {
-        return Some(fault);
-    }
-    if let Some(fault) = first_stop_fault(planes, values, job, time, next) {
-        return Some(fault);
-    }
-    odd_time(planes, values, job, time);
-    None
+    first_stop_fault(field, values, job, time, next)
 }
 
-// The least fault of the job, by a run under all assignments at once.
+// One step. Tells whether a cell of the box may have changed.
+fn one_step(field: &mut Field, values: &Values, job: &Job, time: u32) -> bool
+    requires ready { IsReady job.now values.now }
+    requires shows { Shows job.now values.now time field.old.planes }
+    ensures next { Shows job.now values.now (time + 1) field.new.planes }
+    ensures stays { result ≡ false → Shows job.now values.now time field.new.planes }
+{
+    if time % 2 == 0 {
+        even_time(field, values, job, time)
+    } else {
+        odd_time(field, values, job, time)
+    }
+}
+
+// The least fault of the job, by a run under all assignments at once. Where an odd step and the even one after it change nothing,
+// nothing changes before the next time at which a line of ring or halo begins or ends, and the times up to it or to the next stop
+// are leapt over.
 fn least_fault(alloc: Global, values: &Values, job: &Job) -> Result<Option<Fault>, AllocError>
     requires { IsReady job.now values.now }
     ensures { IfOk result (λ o. IsLeastFault job.now o) }
@@ -55,17 +65,23 @@ fn least_fault(alloc: Global, values: &Values, job: &Job) -> Result<Option<Fault
     let area = job.area();
     let mut planes = Planes::new(alloc, area.w as usize, area.h as usize, values.words())?;
     put_start(&mut planes, values, job);
+    let mut field = Field::new(alloc, planes)?;
+    let steps = job.steps();
     let mut next = 0;
-    for time in 0..job.steps() {
-        if let Some(fault) = one_time(&mut planes, values, job, time, &mut next) {
+    let mut time = 0;
+    let mut changed = true;
+    'times: while time < steps {
+        if let Some(fault) = time_fault(&field, values, job, time, &mut next) {
             return Ok(Some(fault));
         }
+        let before = changed;
+        changed = one_step(&mut field, values, job, time);
+        time = next_time(job, time, steps, before | changed, next);
     }
-    let last = job.steps();
-    if let Some(fault) = first_stop_fault(&planes, values, job, last, &mut next) {
+    if let Some(fault) = first_stop_fault(&field, values, job, steps, &mut next) {
         return Ok(Some(fault));
     }
-    Ok(first_fault(&planes, values, job, last, Kind::End))
+    Ok(first_fault(&field, values, job, steps, Kind::End))
 }
 
 // The least fault of the job, and its least keep fault.

@@ -7,15 +7,16 @@ ghost use Rattle.local_run.specs.Places.{inner};
 ghost use Rattle.local_run.specs.Scans.{IsFirst, IsFound, IsFree, IsLeastBelow, IsMissed, IsNextStop, IsReady, IsSought, IsStride, Shows};
 
 use crate::fault::{Fault, Kind};
+use crate::field::Field;
 use crate::places::{demand_at, edge_at, inner_cell, is_ring, place_of};
-use crate::planes::Planes;
+use crate::steps::is_silent;
 use crate::values::Values;
 use certificate::{Demand, Job, Stop};
 use module_box::Signal;
 
 // The least assignment under which the cell at a column and row of the box has a fault of the kind.
 fn cell_fault(
-    planes: &Planes,
+    field: &Field,
     values: &Values,
     job: &Job,
     time: u32,
@@ -24,14 +25,18 @@ fn cell_fault(
     y: usize,
 ) -> Option<u32>
     requires ready { IsReady job.now values.now }
-    requires shows { Shows job.now values.now time planes.now }
+    requires shows { Shows job.now values.now time field.now.planes }
     requires sought { IsSought job.now time kind }
     requires place { (x < job.now.area.w) × (y < job.now.area.h) }
     ensures { IsLeastBelow (assignments job.now) (λ a. IsFound job.now values.now a time kind (inner job.now.area.x x) (inner job.now.area.y y)) result }
 {
+    let planes = field.planes();
     match kind {
         Kind::Edge => {
             if !is_ring(job, x, y) {
+                return None;
+            }
+            if is_silent(field, values, job, 1 + x, 1 + y) {
                 return None;
             }
             values.first_difference(planes, 1 + x, 1 + y, edge_at(job, time, x, y))
@@ -62,14 +67,14 @@ fn stride_of(kind: Kind, width: usize, height: usize, y: usize) -> usize
 
 /// The first fault of the kind at the time, by row, column and assignment.
 pub fn first_fault(
-    planes: &Planes,
+    field: &Field,
     values: &Values,
     job: &Job,
     time: u32,
     kind: Kind,
 ) -> Option<Fault>
     requires ready { IsReady job.now values.now }
-    requires shows { Shows job.now values.now time planes.now }
+    requires shows { Shows job.now values.now time field.now.planes }
     requires sought { IsSought job.now time kind }
     ensures { MatchOption result (IsFree job.now values.now time kind) (λ f. IsFirst job.now values.now time kind f) }
 {
@@ -80,7 +85,7 @@ pub fn first_fault(
         let stride = stride_of(kind, width, height, y);
         let mut x = 0;
         'cells: while x < width {
-            if let Some(assignment) = cell_fault(planes, values, job, time, kind, x, y) {
+            if let Some(assignment) = cell_fault(field, values, job, time, kind, x, y) {
                 let cell = inner_cell(area, x, y);
                 return Some(Fault {
                     time,
@@ -96,28 +101,28 @@ pub fn first_fault(
 }
 
 // The least assignment under which the cell of a stop is not as its wire, at the stop's time.
-fn stop_fault(planes: &Planes, values: &Values, job: &Job, stop: Stop) -> Option<u32>
+fn stop_fault(field: &Field, values: &Values, job: &Job, stop: Stop) -> Option<u32>
     requires ready { IsReady job.now values.now }
-    requires shows { Shows job.now values.now stop.at.time planes.now }
+    requires shows { Shows job.now values.now stop.at.time field.now.planes }
     requires inside { IsTrue (in_box job.now.area stop.at.cell.x stop.at.cell.y) }
     requires own { stop.wire < wires job.now.locals.netlist }
     ensures { IsLeastBelow (assignments job.now) (λ a. IsMissed job.now values.now a stop) result }
 {
     let (x, y) = place_of(job, stop.at.cell);
-    values.first_difference(planes, 1 + x, 1 + y, Signal::Wire(stop.wire))
+    values.first_difference(field.planes(), 1 + x, 1 + y, Signal::Wire(stop.wire))
 }
 
 /// The first fault of a stop at the time, where `next` is the place of the first stop that is not earlier. Where there is none,
 /// `next` is then the place of the first later stop.
 pub fn first_stop_fault(
-    planes: &Planes,
+    field: &Field,
     values: &Values,
     job: &Job,
     time: u32,
     next: &mut usize,
 ) -> Option<Fault>
     requires ready { IsReady job.now values.now }
-    requires shows { Shows job.now values.now time planes.now }
+    requires shows { Shows job.now values.now time field.now.planes }
     requires next { IsNextStop job.now time next.old }
     ensures { MatchOption result (IsFree job.now values.now time Kind.Stop × IsNextStop job.now (time + 1) next.new) (λ f. IsFirst job.now values.now time Kind.Stop f) }
 {
@@ -127,7 +132,7 @@ pub fn first_stop_fault(
         if stop.at.time != time {
             break;
         }
-        if let Some(assignment) = stop_fault(planes, values, job, stop) {
+        if let Some(assignment) = stop_fault(field, values, job, stop) {
             return Some(Fault {
                 time,
                 kind: Kind::Stop,

@@ -1,8 +1,9 @@
 //! The start of a run over planes, and its steps.
-ghost use Rattle.std.specs.Prelude.{◌≡◌, ◌+◌, ◌/◌, ◌%◌, ◌<◌, ◌≤◌};
+ghost use Rattle.std.specs.Prelude.{◌≡◌, ◌+◌, ◌/◌, ◌%◌, ◌<◌, ◌≤◌, true, false};
 ghost use Rattle.local_run.specs.Lanes.{HasSize};
-ghost use Rattle.local_run.specs.Scans.{HasHalo, HasHaloAt, IsReady, SameElsewhere, Shows};
+ghost use Rattle.local_run.specs.Scans.{HasHalo, HasHaloAt, IsReady, IsSilent, SameElsewhere, Shows};
 
+use crate::field::Field;
 use crate::places::{halo_at, start_at};
 use crate::planes::Planes;
 use crate::values::Values;
@@ -23,29 +24,46 @@ pub fn put_start(planes: &mut Planes, values: &Values, job: &Job)
     }
 }
 
+/// Whether a cell, counted from the halo, is known to be dead under each assignment and to have no line.
+pub fn is_silent(field: &Field, values: &Values, job: &Job, x: usize, y: usize) -> bool
+    requires ready { IsReady job.now values.now }
+    requires size { HasSize values.now.words (job.now.area.w / 2 + 1) (job.now.area.h / 2 + 1) field.now.planes }
+    requires place { (x < job.now.area.w + 2) × (y < job.now.area.h + 2) }
+    ensures { result ≡ true → IsSilent job.now field.now.planes x y }
+{
+    let u = field.planes().stride() * (y / 2) + x / 2;
+    field.is_dead(u) && !values.is_lined(u)
+}
+
 // A cell of the halo becomes what its signal says, where it is one.
 #[tactic(auto, using(crate::proofs::Scans::row_from))]
-fn put_halo_cell(planes: &mut Planes, values: &Values, job: &Job, time: u32, x: usize, y: usize)
+fn put_halo_cell(field: &mut Field, values: &Values, job: &Job, time: u32, x: usize, y: usize)
     requires ready { IsReady job.now values.now }
-    requires shows { Shows job.now values.now time planes.old }
+    requires shows { Shows job.now values.now time field.old.planes }
     requires place { (x < job.now.area.w + 2) × (y < job.now.area.h + 2) }
-    ensures shows { Shows job.now values.now time planes.new }
-    ensures here { HasHaloAt job.now values.now time planes.new x y }
-    ensures rest { SameElsewhere job.now planes.old planes.new x y }
+    ensures shows { Shows job.now values.now time field.new.planes }
+    ensures here { HasHaloAt job.now values.now time field.new.planes x y }
+    ensures rest { SameElsewhere job.now field.old.planes field.new.planes x y }
 {
     let area = job.area();
     if 1 <= x && x <= area.w as usize && 1 <= y && y <= area.h as usize {
         return;
     }
-    values.put(planes, x, y, halo_at(job, time, x, y));
+    if is_silent(field, values, job, x, y) {
+        return;
+    }
+    let signal = halo_at(job, time, x, y);
+    if values.is_different(field.planes(), x, y, signal) {
+        field.put(values, x, y, signal);
+    }
 }
 
 // The cells of the halo become what their signals say.
-fn put_halo(planes: &mut Planes, values: &Values, job: &Job, time: u32)
+fn put_halo(field: &mut Field, values: &Values, job: &Job, time: u32)
     requires ready { IsReady job.now values.now }
-    requires shows { Shows job.now values.now time planes.old }
-    ensures shows { Shows job.now values.now time planes.new }
-    ensures halo { HasHalo job.now values.now time planes.new }
+    requires shows { Shows job.now values.now time field.old.planes }
+    ensures shows { Shows job.now values.now time field.new.planes }
+    ensures halo { HasHalo job.now values.now time field.new.planes }
 {
     let area = job.area();
     let right = area.w as usize + 1;
@@ -54,29 +72,31 @@ fn put_halo(planes: &mut Planes, values: &Values, job: &Job, time: u32)
         let stride = if 0 < y && y < bottom { right } else { 1 };
         let mut x = 0;
         'cells: while x <= right {
-            put_halo_cell(planes, values, job, time, x, y);
+            put_halo_cell(field, values, job, time, x, y);
             x += stride;
         }
     }
 }
 
-/// An odd step: on the box together with the live cells of its halo.
-pub fn odd_time(planes: &mut Planes, values: &Values, job: &Job, time: u32)
+/// An odd step: on the box together with the live cells of its halo. Tells whether a cell of the box may have changed.
+pub fn odd_time(field: &mut Field, values: &Values, job: &Job, time: u32) -> bool
     requires ready { IsReady job.now values.now }
     requires odd { time % 2 ≡ 1 }
-    requires shows { Shows job.now values.now time planes.old }
-    ensures { Shows job.now values.now (time + 1) planes.new }
+    requires shows { Shows job.now values.now time field.old.planes }
+    ensures next { Shows job.now values.now (time + 1) field.new.planes }
+    ensures stays { result ≡ false → Shows job.now values.now time field.new.planes }
 {
-    put_halo(planes, values, job, time);
-    planes.odd_step();
+    put_halo(field, values, job, time);
+    field.odd_step()
 }
 
-/// An even step: inside the box.
-pub fn even_time(planes: &mut Planes, values: &Values, job: &Job, time: u32)
+/// An even step: inside the box. Tells whether a cell of the box may have changed.
+pub fn even_time(field: &mut Field, values: &Values, job: &Job, time: u32) -> bool
     requires ready { IsReady job.now values.now }
     requires even { time % 2 ≡ 0 }
-    requires shows { Shows job.now values.now time planes.old }
-    ensures { Shows job.now values.now (time + 1) planes.new }
+    requires shows { Shows job.now values.now time field.old.planes }
+    ensures next { Shows job.now values.now (time + 1) field.new.planes }
+    ensures stays { result ≡ false → Shows job.now values.now time field.new.planes }
 {
-    planes.even_step();
+    field.even_step()
 }

@@ -1,12 +1,16 @@
 //! The values of the wires of a job under all assignments of its cuts.
-ghost use Rattle.std.specs.Prelude.{ℕ, ◌≡◌, ◌≢◌, ◌+◌, ◌*◌, ◌/◌, ◌^◌, ◌<◌, ◌≤◌, true, length, IfOk};
+ghost use Rattle.std.specs.Prelude.{ℕ, ◌≡◌, ◌≢◌, ◌+◌, ◌*◌, ◌/◌, ◌^◌, ◌<◌, ◌≤◌, false, true, length, IfOk};
 ghost use Rattle.bbm_rule.specs.Bits.{bit};
+ghost use Rattle.bbm_rule.specs.Rows.{cell_at};
 ghost use Rattle.certificate.specs.Jobs.{IsJob};
 ghost use Rattle.certificate.specs.Signals.{is_live};
+ghost use Rattle.local_run.specs.Calm.{ChangesCells};
 ghost use Rattle.local_run.specs.Lanes.{lane};
-ghost use Rattle.local_run.specs.Scans.{HasRow, IsLeastBelow, IsReady, PutsCell, is_defined, valuation};
+ghost use Rattle.local_run.specs.Scans.{HasRow, IsLeastBelow, IsReady, IsShown, PutsCell, is_defined, valuation};
 ghost use Rattle.module_box.specs.LocalValues.{value_of};
 
+use crate::lines::lined_cells;
+use crate::marks::is_marked;
 use crate::planes::Planes;
 use certificate::Job;
 use module_box::{Signal, ValueRows};
@@ -21,6 +25,8 @@ pub struct Values {
     // how many assignments there are
     count: usize,
     rows: ValueRows,
+    // marks on the numbers of cells of which an edge or halo line says something
+    lined: Vec<u64>,
 }
 
 impl Values {
@@ -33,7 +39,21 @@ impl Values {
         let count = 1usize << wiring.cuts();
         let words = count.div_ceil(64);
         let rows = wiring.value_rows(alloc, words)?;
-        Ok(Values { words, count, rows })
+        let lined = lined_cells(alloc, job)?;
+        Ok(Values {
+            words,
+            count,
+            rows,
+            lined,
+        })
+    }
+
+    /// Whether an edge or halo line may say something of the cells with number u.
+    pub fn is_lined(&self, u: usize) -> bool
+        requires { u / 64 < length self.now.lined.items }
+        ensures { result ≡ cell_at self.now.lined.items u }
+    {
+        is_marked(&self.lined, u)
     }
 
     /// How many words a wire has.
@@ -89,6 +109,21 @@ impl Values {
         None
     }
 
+    /// Whether a cell, counted from the halo, is not as the signal says under some assignment, whatever rows the gates have.
+    pub fn is_different(&self, planes: &Planes, x: usize, y: usize, signal: Signal) -> bool
+        requires place { (x / 2 < planes.now.stride) × (y / 2 < planes.now.rows) }
+        requires words { (self.now.words ≡ planes.now.words) × (self.now.words ≤ 64) }
+        requires row { HasRow self.now signal }
+        ensures { result ≡ false → IsShown self.now planes.now x y signal self.now.words }
+    {
+        for k in 0..self.words {
+            if planes.word(x, y, k) != self.word(signal, k) {
+                return true;
+            }
+        }
+        false
+    }
+
     /// The least assignment under which a used gate is the first that has no row.
     pub fn first_undefined(&self, gate: usize) -> Option<u32>
         requires words { self.now.words ≤ 64 }
@@ -115,7 +150,8 @@ impl Values {
         requires place { (x / 2 < planes.old.stride) × (y / 2 < planes.old.rows) }
         requires words { (self.now.words ≡ planes.old.words) × (self.now.words ≤ 64) }
         requires row { HasRow self.now signal }
-        ensures { PutsCell self.now x y signal planes.old planes.new }
+        ensures put { PutsCell self.now x y signal planes.old planes.new }
+        ensures cells { let u = planes.old.stride * (y / 2) + x / 2 in ChangesCells u u u u planes.old planes.new }
     {
         for k in 0..self.words {
             planes.set_word(x, y, k, self.word(signal, k));

@@ -1,10 +1,9 @@
-use Rattle.local_run.proofs.Leasts.{AreFreeBefore}
-use Rattle.local_run.specs.Scans.{IsNextStop, Shows}
+use Rattle.std.proofs.Common.{◌-◌}
+use Rattle.local_run.proofs.LeapRuns.{InRun}
 use Rattle.local_run.proofs.run.least_fault.Given as goal
 
-abbrev pub invariant-loop-time : goal.invariant-loop-time
-invariant-loop-time l = record {
-  shows : Shows l.job l.values l.time l.planes;
-  next : IsNextStop l.job l.time l.next;
-  free : AreFreeBefore l.job l.values l.time;
-}
+abbrev pub invariant-times : goal.invariant-times
+invariant-times l = InRun l.job l.values l.time l.next l.field.planes l.changed
+
+abbrev pub decreases-times : goal.decreases-times
+decreases-times l = l.steps - l.time

@@ -12,7 +12,7 @@ use Rattle.local_run.proofs.steps.put_start.Goals as goal
 pub cells-preserved : goal.cells-preserved
 cells-preserved c =
     let j = c.args.job.now in
-    let h = c.put.ensures in
+    let h = c.put.ensures.put in
     let m = c.cells.invariant in
     let room = c.requires.ready.room in
     let count = c.requires.ready.count in

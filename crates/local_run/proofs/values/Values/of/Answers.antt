@@ -35,4 +35,5 @@ returns c =
       room = w.2;
       long = (let h = rows.long in omega (arith, h));
       rows = rows;
+      lines = record { room = c.in_ok-lined.ensures.room; quiet = c.in_ok-lined.ensures.quiet };
     }

@@ -1,0 +1,133 @@
+-- Parts of lists whose blocks are turned, and blocks that stay
+use Rattle.std.proofs.Common.{◌≡◌, ℕ, Bool, true, false, ◌&&◌, ◌<◌, ◌≤◌, ◌+◌, ◌-◌, ◌*◌, ◌/◌, ◌%◌, refl, arith, sym, ◌∙◌, ap, List, length, get_or, bit_and}
+use Rattle.std.specs.Prelude.{bit_xor}
+use Rattle.std.proofs.lemmas.List.{get_or-take, get_or-drop}
+use Rattle.std.proofs.lemmas.Slice.{take-put_mid_below, drop-put_mid}
+use Rattle.std.proofs.Math.Nat.{mul-le-mul_left, div-add-mod, mod-lt}
+use borrow.Rule.Slice.PartMut.{mid_of, put_mid}
+use Rattle.bbm_rule.specs.Bits.{bit}
+use Rattle.bbm_rule.specs.Words.{AreTurned, AreTurnedAt}
+use Rattle.bbm_rule.proofs.BitLemmas.{by_lt_or_le, xor, bit-and, bit-xor, bit-zero}
+use Rattle.bbm_rule.proofs.Turning.{words_turned, changed_of}
+use Rattle.local_run.specs.Turns.{IsCalm, IsCalmBlock, SameBeside, TurnsPart}
+use Rattle.local_run.proofs.LaneLemmas.{part_read, part_written}
+
+-- ---- what is turned in parts of slices
+beside : (a k long : ℕ) (xs ys : List ℕ) → k ≡ long → a + long ≤ length xs → length ys ≡ long → SameBeside a long xs (put_mid a k xs ys)
+beside a k long xs ys e room l = record {
+  below = λ n h. sym (get_or-take a (put_mid a k xs ys) n 0 h) ∙ ap (λ zs. get_or zs n 0) (take-put_mid_below a k xs ys a (omega arith) (omega arith)) ∙ get_or-take a xs n 0 h;
+  above = λ n h. let z : n + 0 ≡ n = omega arith in
+      ap (λ m. get_or (put_mid a k xs ys) m 0) (sym z) ∙ sym (get_or-drop n (put_mid a k xs ys) 0 0)
+      ∙ ap (λ zs. get_or zs 0 0) (drop-put_mid a k xs ys n (omega arith) (omega arith) (omega arith))
+      ∙ get_or-drop n xs 0 0 ∙ ap (λ m. get_or xs m 0) z;
+}
+
+pub part_turned : (a b c d ka kb kc kd long : ℕ) (ul ur ll lr p q r s : List ℕ) → ka ≡ long → kb ≡ long → kc ≡ long → kd ≡ long →
+    a + long ≤ length ul → b + long ≤ length ur → c + long ≤ length ll → d + long ≤ length lr → length p ≡ long → length q ≡ long → length r ≡ long → length s ≡ long →
+    ((k : ℕ) → k < long → AreTurnedAt k (mid_of a ka ul) (mid_of b kb ur) (mid_of c kc ll) (mid_of d kd lr) p q r s) →
+    TurnsPart a b c d long ul ur ll lr (put_mid a ka ul p) (put_mid b kb ur q) (put_mid c kc ll r) (put_mid d kd lr s)
+part_turned a b c d ka kb kc kd long ul ur ll lr p q r s ea eb ec ed ra rb rc rd lp lq lr' ls turns = record {
+  turned = λ k l.
+      let h = turns k l in
+      let h = rw (part_read a ka k ul (omega arith), part_read b kb k ur (omega arith), part_read c kc k ll (omega arith), part_read d kd k lr (omega arith)) at h in
+      rw (part_written a ka k ul p (omega arith) (omega arith), part_written b kb k ur q (omega arith) (omega arith), part_written c kc k ll r (omega arith) (omega arith), part_written d kd k lr s (omega arith) (omega arith)) h;
+  upper_left = beside a ka long ul p ea ra lp;
+  upper_right = beside b kb long ur q eb rb lq;
+  lower_left = beside c kc long ll r ec rc lr';
+  lower_right = beside d kd long lr s ed rd ls;
+}
+
+-- one part after another
+join_beside : (a n m : ℕ) (xs ys zs : List ℕ) → SameBeside a n xs ys → SameBeside (a + n) m ys zs → SameBeside a (n + m) xs zs
+join_beside a n m xs ys zs f g = record {
+  below = λ k l. g.below k (omega arith) ∙ f.below k l;
+  above = λ k l. g.above k (omega arith) ∙ f.above k (omega arith);
+}
+
+parts_join : (a b c d n m : ℕ) (ul ur ll lr ul' ur' ll' lr' ul'' ur'' ll'' lr'' : List ℕ) → TurnsPart a b c d n ul ur ll lr ul' ur' ll' lr' →
+    TurnsPart (a + n) (b + n) (c + n) (d + n) m ul' ur' ll' lr' ul'' ur'' ll'' lr'' → TurnsPart a b c d (n + m) ul ur ll lr ul'' ur'' ll'' lr''
+parts_join a b c d n m ul ur ll lr ul' ur' ll' lr' ul'' ur'' ll'' lr'' f g = record {
+  turned = λ k l. by_lt_or_le k n
+      (λ h. rw (g.upper_left.below (a + k) (omega arith), g.upper_right.below (b + k) (omega arith), g.lower_left.below (c + k) (omega arith), g.lower_right.below (d + k) (omega arith)) (f.turned k h))
+      (λ h.
+      let ea : a + n + (k - n) ≡ a + k = omega arith in
+      let eb : b + n + (k - n) ≡ b + k = omega arith in
+      let ec : c + n + (k - n) ≡ c + k = omega arith in
+      let ed : d + n + (k - n) ≡ d + k = omega arith in
+      let t = g.turned (k - n) (omega arith) in
+      let t = rw (ea, eb, ec, ed) at t in
+      rw (f.upper_left.above (a + k) (omega arith), f.upper_right.above (b + k) (omega arith), f.lower_left.above (c + k) (omega arith), f.lower_right.above (d + k) (omega arith)) at t);
+  upper_left = join_beside a n m ul ul' ul'' f.upper_left g.upper_left;
+  upper_right = join_beside b n m ur ur' ur'' f.upper_right g.upper_right;
+  lower_left = join_beside c n m ll ll' ll'' f.lower_left g.lower_left;
+  lower_right = join_beside d n m lr lr' lr'' f.lower_right g.lower_right;
+}
+
+pub part_after : (a b c d n m t a' b' c' d' : ℕ) (ul ur ll lr ul' ur' ll' lr' ul'' ur'' ll'' lr'' : List ℕ) → a' ≡ a + n → b' ≡ b + n → c' ≡ c + n → d' ≡ d + n → t ≡ n + m →
+    TurnsPart a b c d n ul ur ll lr ul' ur' ll' lr' → TurnsPart a' b' c' d' m ul' ur' ll' lr' ul'' ur'' ll'' lr'' → TurnsPart a b c d t ul ur ll lr ul'' ur'' ll'' lr''
+part_after a b c d n m t a' b' c' d' ul ur ll lr ul' ur' ll' lr' ul'' ur'' ll'' lr'' ea eb ec ed et f g =
+    rw et (parts_join a b c d n m ul ur ll lr ul' ur' ll' lr' ul'' ur'' ll'' lr'' f (rw (ea, eb, ec, ed) at g))
+
+same_beside : (a n : ℕ) (xs : List ℕ) → SameBeside a n xs xs
+same_beside a n xs = record { below = λ k l. refl; above = λ k l. refl }
+
+pub no_part : (a b c d n : ℕ) (ul ur ll lr : List ℕ) → n ≡ 0 → TurnsPart a b c d n ul ur ll lr ul ur ll lr
+no_part a b c d n ul ur ll lr e = record {
+  turned = λ k l. absurd (omega arith);
+  upper_left = same_beside a n ul;
+  upper_right = same_beside b n ur;
+  lower_left = same_beside c n ll;
+  lower_right = same_beside d n lr;
+}
+
+-- ---- blocks that stay
+no_flip : (a x : Bool) → xor a (xor false (false && x)) ≡ a
+no_flip true x = refl
+no_flip false x = refl
+
+flips_none : (a c x j : ℕ) → c ≡ 0 → bit (bit_xor a (bit_xor c (bit_and c x))) j ≡ bit a j
+flips_none a c x j e = rw (e, bit-xor a (bit_xor 0 (bit_and 0 x)) j, bit-xor 0 (bit_and 0 x) j, bit-and 0 x j, bit-zero j) (no_flip (bit a j) (bit x j))
+
+pub calm_turned : (ul ur ll lr : ℕ) → IsCalm ul ur ll lr → AreTurned ul ur ll lr ul ur ll lr
+calm_turned ul ur ll lr e =
+    let t = words_turned ul ur ll lr in record {
+      upper_left = λ j. sym (flips_none ul (changed_of ul ur ll lr) (bit_xor ur ll) j e) ∙ t.upper_left j;
+      upper_right = λ j. sym (flips_none ur (changed_of ul ur ll lr) (bit_xor ul lr) j e) ∙ t.upper_right j;
+      lower_left = λ j. sym (flips_none ll (changed_of ul ur ll lr) (bit_xor ul lr) j e) ∙ t.lower_left j;
+      lower_right = λ j. sym (flips_none lr (changed_of ul ur ll lr) (bit_xor ur ll) j e) ∙ t.lower_right j;
+    }
+
+-- the blocks from number u to below v stay
+pub calm_part : (w a b c d u v long : ℕ) (ul ur ll lr : List ℕ) → 0 < w → long ≡ w * (v - u) → u ≤ v →
+    ((n : ℕ) → u ≤ n → n < v → IsCalmBlock w (n + a) (n + b) (n + c) (n + d) ul ur ll lr) →
+    TurnsPart (w * (u + a)) (w * (u + b)) (w * (u + c)) (w * (u + d)) long ul ur ll lr ul ur ll lr
+calm_part w a b c d u v long ul ur ll lr some e le calm = record {
+  turned = λ k l. at_place k (k / w) (k % w) (sym (div-add-mod k w)) (few k l) (mod-lt k some);
+  upper_left = same_beside _ long ul;
+  upper_right = same_beside _ long ur;
+  lower_left = same_beside _ long ll;
+  lower_right = same_beside _ long lr;
+}
+  where
+    few : (k : ℕ) → k < long → k / w < v - u
+    few k l = by_lt_or_le (k / w) (v - u) (λ h. h) (λ h.
+        let m : w * (v - u) ≤ w * (k / w) = mul-le-mul_left w h in
+        let whole : w * (k / w) + k % w ≡ k = div-add-mod k w in absurd (omega arith))
+
+    at_place : (k q r : ℕ) → k ≡ w * q + r → q < v - u → r < w → AreTurned (get_or ul (w * (u + a) + k) 0) (get_or ur (w * (u + b) + k) 0) (get_or ll (w * (u + c) + k) 0) (get_or lr (w * (u + d) + k) 0) (get_or ul (w * (u + a) + k) 0) (get_or ur (w * (u + b) + k) 0) (get_or ll (w * (u + c) + k) 0) (get_or lr (w * (u + d) + k) 0)
+    at_place k q r whole lq lr' =
+        let ea : w * (u + a) + k ≡ w * (u + q + a) + r = omega arith in
+        let eb : w * (u + b) + k ≡ w * (u + q + b) + r = omega arith in
+        let ec : w * (u + c) + k ≡ w * (u + q + c) + r = omega arith in
+        let ed : w * (u + d) + k ≡ w * (u + q + d) + r = omega arith in
+        rw (ea, eb, ec, ed) (calm_turned _ _ _ _ (calm (u + q) (omega arith) (omega arith) r lr'))
+
+-- one block that stays
+pub calm_block : (w a b c d : ℕ) (ul ur ll lr : List ℕ) → IsCalmBlock w a b c d ul ur ll lr → TurnsPart (w * a) (w * b) (w * c) (w * d) w ul ur ll lr ul ur ll lr
+calm_block w a b c d ul ur ll lr calm = record {
+  turned = λ k l. calm_turned _ _ _ _ (calm k l);
+  upper_left = same_beside _ w ul;
+  upper_right = same_beside _ w ur;
+  lower_left = same_beside _ w ll;
+  lower_right = same_beside _ w lr;
+}

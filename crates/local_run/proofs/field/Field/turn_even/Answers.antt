@@ -1,0 +1,62 @@
+use Rattle.std.proofs.Common.{List, ℕ, ◌+◌, length, ap, arith, refl, sym, subst}
+use Rattle.std.proofs.lemmas.List.{with_items_is}
+use Rattle.local_run.specs.Calm.{OddCalm, EvenCalm, AllDead}
+use Rattle.local_run.proofs.TurnLemmas.{calm_block}
+use Rattle.local_run.proofs.CalmLemmas.{even_cells, even_unmarked, odd_kept_by_even, even_kept_by_even, dead_kept_by_even}
+use Rattle.local_run.proofs.InsideLemmas.{last_keeps, zero_from}
+use Rattle.local_run.proofs.field.Field.turn_even.Goals as goal
+
+pub invariant_of-self-clause-even_calm : goal.invariant_of-self-clause-even_calm
+invariant_of-self-clause-even_calm c =
+    let f = c.args.self.now in
+    let v = c.deref_mut.ensures.value in
+    let items = with_items_is f.even_marks c.unmark.new.marks (omega (arith, ap length v, f.even_marks.ok.0)) in
+    let sets = rw v at c.unmark.ensures in
+    subst (λ (m : List ℕ). EvenCalm m f.planes) (sym items)
+    (even_unmarked c.args.u f.even_marks.items c.unmark.new.marks f.planes sets (c.is_calm_even.ensures c.if-is_calm_even.true) f.even_calm)
+
+pub returns-then-is_calm_even-clause-part : goal.returns-then-is_calm_even-clause-part
+returns-then-is_calm_even-clause-part c =
+    let p = c.args.self.now.planes in
+    calm_block p.words c.args.u (c.args.u + 1) (c.args.u + p.stride) (c.args.u + p.stride + 1) p.even.items p.down.items p.right.items p.odd.items (c.is_calm_even.ensures c.if-is_calm_even.true)
+
+pub invariant_of-self-2-clause-even_calm : goal.invariant_of-self-2-clause-even_calm
+invariant_of-self-2-clause-even_calm c =
+    let f = c.args.self.now in
+    let v = c.deref_mut-2.ensures.value in
+    let items = with_items_is f.even_marks c.mark.new.marks (omega (arith, ap length v, f.even_marks.ok.0)) in
+    let marks = rw v at c.mark.ensures in
+    let e = c.turn_even.ensures in
+    subst (λ (m : List ℕ). EvenCalm m c.turn_even.new.self) (sym items)
+    (even_kept_by_even c.args.u f.even_marks.items c.mark.new.marks f.planes c.turn_even.new.self e.size (even_cells c.args.u f.planes c.turn_even.new.self e.part) marks f.even_calm)
+
+pub invariant_of-self-2-clause-odd_calm : goal.invariant_of-self-2-clause-odd_calm
+invariant_of-self-2-clause-odd_calm c =
+    let f = c.args.self.now in
+    let v = c.deref_mut-3.ensures.value in
+    let items = with_items_is f.odd_marks c.mark_corners.new.marks (omega (arith, ap length v, f.odd_marks.ok.0)) in
+    let marks = rw (v, c.stride-stride.ensures.is) at c.mark_corners.ensures in
+    let e = c.turn_even.ensures in
+    subst (λ (m : List ℕ). OddCalm m c.turn_even.new.self) (sym items)
+    (odd_kept_by_even c.args.u f.odd_marks.items c.mark_corners.new.marks f.planes c.turn_even.new.self e.size (even_cells c.args.u f.planes c.turn_even.new.self e.part) marks f.odd_calm)
+
+pub invariant_of-self-2-clause-all_dead : goal.invariant_of-self-2-clause-all_dead
+invariant_of-self-2-clause-all_dead c =
+    let f = c.args.self.now in
+    let v = c.deref_mut-4.ensures.value in
+    let items = with_items_is f.live_marks c.mark_corners-2.new.marks (omega (arith, ap length v, f.live_marks.ok.0)) in
+    let marks = rw (v, c.stride-stride.ensures.is) at c.mark_corners-2.ensures in
+    let e = c.turn_even.ensures in
+    subst (λ (m : List ℕ). AllDead m c.turn_even.new.self) (sym items)
+    (dead_kept_by_even c.args.u f.live_marks.items c.mark_corners-2.new.marks f.planes c.turn_even.new.self e.size (even_cells c.args.u f.planes c.turn_even.new.self e.part) marks f.all_dead)
+
+pub returns-then-is_calm_even-clause-stays : goal.returns-then-is_calm_even-clause-stays
+returns-then-is_calm_even-clause-stays c e a x y la lx ly = refl
+
+pub returns-clause-stays : goal.returns-clause-stays
+returns-clause-stays c e =
+    let p = c.args.self.now.planes in
+    let h = c.turn_even.ensures in
+    let last = zero_from _ e in
+    let last = rw c.stride-stride.ensures.is at last in
+    last_keeps c.args.u p c.turn_even.new.self h.size (even_cells c.args.u p c.turn_even.new.self h.part) last

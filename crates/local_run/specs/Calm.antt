@@ -1,0 +1,40 @@
+-- What is known of the blocks of four planes that have no mark
+use Rattle.std.specs.Prelude.{◌≡◌, ◌≢◌, ℕ, ◌+◌, ◌*◌, ◌<◌, List, slice_index}
+use Rattle.std.proofs.Props.{props}
+use Rattle.local_run.specs.Turns.{IsCalmBlock, IsUnmarked}
+use Rattle.local_run.specs.declared.planes.Planes.{Planes}
+
+-- the blocks of the odd partition stay, but for those with a mark
+abbrev pub OddCalm : List ℕ → Planes → Type 0
+OddCalm marks p = (u : ℕ) → u < p.stride * p.rows → IsUnmarked marks u →
+    IsCalmBlock p.words u u u u p.odd.items p.right.items p.down.items p.even.items
+
+-- so do those of the even partition inside the box
+abbrev pub EvenCalm : List ℕ → Planes → Type 0
+EvenCalm marks p = (u : ℕ) → u + p.stride + 1 < p.stride * p.rows → IsUnmarked marks u →
+    IsCalmBlock p.words u (u + 1) (u + p.stride) (u + p.stride + 1) p.even.items p.down.items p.right.items p.odd.items
+
+-- the cells with a number are dead under each assignment, one in each plane
+abbrev pub IsDeadAt : ℕ → Planes → Type 0
+IsDeadAt u p = (k : ℕ) → k < p.words → (slice_index p.odd.items (p.words * u + k) ≡ 0) × (slice_index p.right.items (p.words * u + k) ≡ 0) × (slice_index p.down.items (p.words * u + k) ≡ 0) × (slice_index p.even.items (p.words * u + k) ≡ 0)
+
+-- so are those of all numbers, but for those with a mark
+abbrev pub AllDead : List ℕ → Planes → Type 0
+AllDead marks p = (u : ℕ) → u < p.stride * p.rows → IsUnmarked marks u → IsDeadAt u p
+
+-- any two proofs of these are equal
+pub OddCalm-prop : (marks : List ℕ) (p : Planes) → IsProp (OddCalm marks p)
+OddCalm-prop marks p = Prim.hlevel props
+
+pub EvenCalm-prop : (marks : List ℕ) (p : Planes) → IsProp (EvenCalm marks p)
+EvenCalm-prop marks p = Prim.hlevel props
+
+pub AllDead-prop : (marks : List ℕ) (p : Planes) → IsProp (AllDead marks p)
+AllDead-prop marks p = Prim.hlevel props
+
+-- of each plane the words of one cell may change, and no others: cells are numbered row by row
+pub record ChangesCells (odd right down even : ℕ) (p q : Planes) : Type 0 where
+  pub odd_same : (u k : ℕ) → k < p.words → u ≢ odd → slice_index q.odd.items (p.words * u + k) ≡ slice_index p.odd.items (p.words * u + k)
+  pub right_same : (u k : ℕ) → k < p.words → u ≢ right → slice_index q.right.items (p.words * u + k) ≡ slice_index p.right.items (p.words * u + k)
+  pub down_same : (u k : ℕ) → k < p.words → u ≢ down → slice_index q.down.items (p.words * u + k) ≡ slice_index p.down.items (p.words * u + k)
+  pub even_same : (u k : ℕ) → k < p.words → u ≢ even → slice_index q.even.items (p.words * u + k) ≡ slice_index p.even.items (p.words * u + k)

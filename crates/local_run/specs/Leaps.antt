@@ -1,0 +1,34 @@
+-- Times in which nothing changes
+use Rattle.std.specs.Prelude.{◌≡◌, ℕ, ℤ, ◌+◌, ◌-◌, ◌%◌, Bool, false, ◌<◌, ◌≤◌, List, slice_get, Some}
+use Rattle.circuit.specs.Meaning.{Valuation}
+use Rattle.module_box.specs.Schedules.{Signals, signal_at}
+use Rattle.module_box.specs.declared.schedules.Event.{Event}
+use Rattle.certificate.specs.Jobs.{JobState}
+use Rattle.local_run.specs.Runs.{local_run}
+
+-- the run at each time from t up to n is that at time t
+abbrev pub StaysUpTo : JobState → Valuation → ℕ → ℕ → Type 0
+StaysUpTo j u t n = (k : ℕ) (x y : ℤ) → t ≤ k → k ≤ n → local_run j u k x y ≡ local_run j u t x y
+
+-- the signals of a schedule at each odd time from t on, before n, are those at time t
+abbrev pub IsSteady : Signals → ℕ → ℕ → Type 0
+IsSteady s t n = (k : ℕ) (x y : ℤ) → t ≤ k → k < n → k % 2 ≡ 1 → signal_at s k x y ≡ signal_at s t x y
+
+-- o is the odd one of two times that follow one another, of which t is the first
+pub record IsOddOf (t o : ℕ) : Type 0 where
+  pub odd : o % 2 ≡ 1
+  pub from : t ≤ o
+  pub next : o ≤ t + 1
+
+-- none of the events stands at a time from t on, before n
+abbrev pub HasNoEvents : List Event → ℕ → ℕ → Type 0
+HasNoEvents events t n = (i : ℕ) (e : Event) → slice_get events i ≡ Some e → t ≤ e.at.time → e.at.time < n → ⊥
+
+-- Nothing changed at the even time t and at the odd one before, and the signals of ring and halo stay as they were at the odd one
+-- until time n
+pub record IsLeap (j : JobState) (t : ℕ) (changed : Bool) (n : ℕ) : Type 0 where
+  pub unchanged : changed ≡ false
+  pub even : t % 2 ≡ 0
+  pub later : 1 ≤ t
+  pub edges : IsSteady j.edges (t - 1) n
+  pub halos : IsSteady j.halos (t - 1) n

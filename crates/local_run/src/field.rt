@@ -1,0 +1,219 @@
+//! Planes whose steps pass over the blocks that are known to stay.
+//!
+//! A block stays where under no assignment exactly one of its diagonals has a live cell: an empty one, one in a mirror, one with
+//! two balls side by side. Once it was seen to stay it does so until one of its cells changes, so only the blocks near cells that
+//! changed are looked at. A step in which many blocks change is followed by some that turn whole planes.
+
+ghost use Rattle.bbm_rule.specs.Plane.{turned};
+ghost use Rattle.bbm_rule.specs.Rows.{mate};
+ghost use Rattle.local_run.specs.Calm.{OddCalm, OddCalm-prop, EvenCalm, EvenCalm-prop, AllDead, AllDead-prop, IsDeadAt};
+ghost use Rattle.std.specs.Prelude.{ℕ, ◌≡◌, ◌+◌, ◌*◌, ◌/◌, ◌<◌, ◌≤◌, vec_len, IfOk, true, false};
+
+use crate::marks::{is_marked, mark, mark_all, mark_around, mark_corners, next_marked, unmark};
+use crate::planes::Planes;
+use crate::values::Values;
+use module_box::Signal;
+use std::alloc::{AllocError, Global};
+
+/// Planes with marks on the blocks that a turn may change.
+#[derive(Drop)]
+pub struct Field {
+    planes: Planes,
+    // a bit for each block of the odd partition, and for each block of the even partition
+    odd_marks: Vec<u64>,
+    even_marks: Vec<u64>,
+    // and for each number of cells: those without a mark are dead
+    live_marks: Vec<u64>,
+    // how many of the next steps turn whole planes
+    rush: u32,
+    ghost odd_room: { planes.stride * planes.rows ≤ 64 * vec_len odd_marks },
+    ghost even_room: { planes.stride * planes.rows ≤ 64 * vec_len even_marks },
+    ghost live_room: { planes.stride * planes.rows ≤ 64 * vec_len live_marks },
+    ghost odd_calm: { OddCalm odd_marks.items planes } by { OddCalm-prop odd_marks.items planes },
+    ghost even_calm: { EvenCalm even_marks.items planes } by { EvenCalm-prop even_marks.items planes },
+    ghost all_dead: { AllDead live_marks.items planes } by { AllDead-prop live_marks.items planes },
+}
+
+// How many steps turn whole planes after one in which many blocks changed.
+const RUSH: u32 = 62;
+
+// Whether it costs less to turn all blocks, with that many words a cell and cells a row, than to go by marks where so many change.
+// A block that changes has four others looked at. Where all are turned no cell of ring and halo is known to be dead, and at odd
+// times each is looked up.
+fn are_many(changed: usize, cells: usize, words: usize, stride: usize) -> bool
+    requires { (changed ≤ 4096) × (cells ≤ 4096) × (words ≤ 64) × (0 < stride) × (stride ≤ 4096) }
+{
+    let around = stride + cells / stride;
+    changed * (40 + 5 * words) > cells * words + 48 * around
+}
+
+impl Field {
+    ghost use Rattle.local_run.specs.Turns.{IsCalmBlock, TurnsPart};
+    ghost use Rattle.local_run.specs.Lanes.{HasSize, SameInside, lane};
+
+    /// Planes of whose blocks nothing is known.
+    pub fn new(alloc: Global, planes: Planes) -> Result<Field, AllocError>
+        ensures { IfOk result (λ f. f.planes ≡ planes) }
+    {
+        let long = planes.cells().div_ceil(64);
+        let mut odd_marks = vec![in alloc; 0u64; long]?;
+        let mut even_marks = vec![in alloc; 0u64; long]?;
+        let mut live_marks = vec![in alloc; 0u64; long]?;
+        mark_all(&mut odd_marks);
+        mark_all(&mut even_marks);
+        mark_all(&mut live_marks);
+        Ok(Field {
+            planes,
+            odd_marks,
+            even_marks,
+            live_marks,
+            rush: 0,
+        })
+    }
+
+    /// The planes.
+    pub fn planes(&self) -> &Planes
+        ensures { result.now ≡ self.now.planes }
+    {
+        &self.planes
+    }
+
+    /// Whether the cells with number u are known to be dead under each assignment.
+    pub fn is_dead(&self, u: usize) -> bool
+        requires { u < self.now.planes.stride * self.now.planes.rows }
+        ensures { result ≡ true → IsDeadAt u self.now.planes }
+    {
+        !is_marked(&self.live_marks, u)
+    }
+
+    // Takes the mark off block u of the odd partition, which stays, and off its cells where they are dead.
+    fn settle(&mut self, u: usize)
+        requires place { u < self.old.planes.stride * self.old.planes.rows }
+        requires calm { IsCalmBlock self.old.planes.words u u u u self.old.planes.odd.items self.old.planes.right.items self.old.planes.down.items self.old.planes.even.items }
+        ensures { self.new.planes ≡ self.old.planes }
+    {
+        unmark(&mut self.odd_marks, u);
+        if self.planes.is_dead(u) {
+            unmark(&mut self.live_marks, u);
+        }
+    }
+
+    // Turns block u of the odd partition, unless it stays, and tells whether it turned it.
+    fn turn_odd(&mut self, u: usize) -> bool
+        requires { u < self.old.planes.stride * self.old.planes.rows }
+        ensures part { let at = self.old.planes.words * u in TurnsPart at at at at self.old.planes.words self.old.planes.odd.items self.old.planes.right.items self.old.planes.down.items self.old.planes.even.items self.new.planes.odd.items self.new.planes.right.items self.new.planes.down.items self.new.planes.even.items }
+        ensures size { HasSize self.old.planes.words self.old.planes.stride self.old.planes.rows self.new.planes }
+        ensures stays { result ≡ false → self.new.planes ≡ self.old.planes }
+    {
+        if self.planes.is_calm_odd(u) {
+            self.settle(u);
+            return false;
+        }
+        let stride = self.planes.stride();
+        mark(&mut self.odd_marks, u);
+        mark(&mut self.live_marks, u);
+        mark_around(&mut self.even_marks, u, stride);
+        self.planes.turn_odd(u);
+        true
+    }
+
+    // Turns block u of the even partition, unless it stays, and tells whether it turned it and it is in the box. The last block of
+    // a row is not: its cells stand in the halo at the right end of two rows and at the left end of the next two.
+    fn turn_even(&mut self, u: usize) -> bool
+        requires { u + self.old.planes.stride + 1 < self.old.planes.stride * self.old.planes.rows }
+        ensures part { let w = self.old.planes.words in TurnsPart (w * u) (w * (u + 1)) (w * (u + self.old.planes.stride)) (w * (u + self.old.planes.stride + 1)) w self.old.planes.even.items self.old.planes.down.items self.old.planes.right.items self.old.planes.odd.items self.new.planes.even.items self.new.planes.down.items self.new.planes.right.items self.new.planes.odd.items }
+        ensures size { HasSize self.old.planes.words self.old.planes.stride self.old.planes.rows self.new.planes }
+        ensures stays { result ≡ false → SameInside self.old.planes self.new.planes }
+    {
+        if self.planes.is_calm_even(u) {
+            unmark(&mut self.even_marks, u);
+            return false;
+        }
+        let stride = self.planes.stride();
+        mark(&mut self.even_marks, u);
+        mark_corners(&mut self.odd_marks, u, stride);
+        mark_corners(&mut self.live_marks, u, stride);
+        self.planes.turn_even(u);
+        (u + 1) % stride != 0
+    }
+
+    /// Turns the blocks whose upper left corner is odd: they fill box and halo. Tells whether a block may have changed.
+    pub fn odd_step(&mut self) -> bool
+        ensures turned { (a x y : ℕ) → a < 64 * self.old.planes.words → x < 2 * self.old.planes.stride → y < 2 * self.old.planes.rows → lane self.new.planes a x y ≡ turned (lane self.old.planes a x y) (lane self.old.planes a (mate x) (mate y)) (lane self.old.planes a (mate x) y) (lane self.old.planes a x (mate y)) }
+        ensures size { HasSize self.old.planes.words self.old.planes.stride self.old.planes.rows self.new.planes }
+        ensures stays { result ≡ false → self.new.planes ≡ self.old.planes }
+    {
+        if self.rush > 0 {
+            self.rush -= 1;
+            mark_all(&mut self.odd_marks);
+            mark_all(&mut self.even_marks);
+            mark_all(&mut self.live_marks);
+            self.planes.odd_step();
+            return true;
+        }
+        let cells = self.planes.cells();
+        let mut changed = 0;
+        let mut u = next_marked(&self.odd_marks, 0, cells);
+        'marked: while u < cells {
+            if self.turn_odd(u) {
+                changed += 1;
+            }
+            u = next_marked(&self.odd_marks, u + 1, cells);
+        }
+        if are_many(changed, cells, self.planes.words(), self.planes.stride()) {
+            self.rush = RUSH;
+            return true;
+        }
+        changed > 0
+    }
+
+    /// Turns the blocks of the box whose upper left corner is even. The cells of the halo are not read. Tells whether a
+    /// cell of the box may have changed.
+    pub fn even_step(&mut self) -> bool
+        ensures turned { (a x y : ℕ) → a < 64 * self.old.planes.words → x + 2 < 2 * self.old.planes.stride → y + 2 < 2 * self.old.planes.rows → lane self.new.planes a (1 + x) (1 + y) ≡ turned (lane self.old.planes a (1 + x) (1 + y)) (lane self.old.planes a (1 + mate x) (1 + mate y)) (lane self.old.planes a (1 + mate x) (1 + y)) (lane self.old.planes a (1 + x) (1 + mate y)) }
+        ensures size { HasSize self.old.planes.words self.old.planes.stride self.old.planes.rows self.new.planes }
+        ensures stays { result ≡ false → SameInside self.old.planes self.new.planes }
+    {
+        if self.rush > 0 {
+            self.rush -= 1;
+            mark_all(&mut self.odd_marks);
+            mark_all(&mut self.even_marks);
+            mark_all(&mut self.live_marks);
+            self.planes.even_step();
+            return true;
+        }
+        let cells = self.planes.cells() - self.planes.stride() - 1;
+        let mut changed = 0;
+        let mut u = next_marked(&self.even_marks, 0, cells);
+        'marked: while u < cells {
+            if self.turn_even(u) {
+                changed += 1;
+            }
+            u = next_marked(&self.even_marks, u + 1, cells);
+        }
+        if are_many(changed, cells, self.planes.words(), self.planes.stride()) {
+            self.rush = RUSH;
+            return true;
+        }
+        changed > 0
+    }
+}
+
+impl Field {
+    ghost use Rattle.local_run.specs.Scans.{HasRow, PutsCell};
+
+    /// A cell, counted from the halo, becomes what the signal says.
+    pub fn put(&mut self, values: &Values, x: usize, y: usize, signal: Signal)
+        requires place { (x / 2 < self.old.planes.stride) × (y / 2 < self.old.planes.rows) }
+        requires words { (values.now.words ≡ self.old.planes.words) × (values.now.words ≤ 64) }
+        requires row { HasRow values.now signal }
+        ensures { PutsCell values.now x y signal self.old.planes self.new.planes }
+    {
+        let stride = self.planes.stride();
+        let u = stride * (y / 2) + x / 2;
+        mark(&mut self.odd_marks, u);
+        mark(&mut self.live_marks, u);
+        mark_around(&mut self.even_marks, u, stride);
+        values.put(&mut self.planes, x, y, signal);
+    }
+}

@@ -1,0 +1,95 @@
+//! Times in which no edge or halo line of a job begins.
+
+ghost use Rattle.std.specs.Prelude.{◌≡◌, ◌+◌, ◌<◌, ◌≤◌, ◌⊎◌};
+ghost use Rattle.module_box.specs.Moments.{moment_cmp};
+ghost use Rattle.module_box.specs.Schedules.{IsRising, moment_of};
+ghost use Rattle.local_run.specs.Leaps.{HasNoEvents, IsLeap, IsSteady};
+ghost use Rattle.local_run.specs.Scans.{IsNextStop};
+
+use certificate::{Job, Shape};
+use module_box::{Event, Schedule};
+
+// The first time from `time` on at which there is an event, or `end`, whichever comes first.
+fn next_event(events: &[Event], time: u32, end: u32) -> u32
+    requires rising { IsRising moment_cmp moment_of events.now }
+    requires range { time ≤ end }
+    ensures range { (time ≤ result) × (result ≤ end) }
+    ensures none { HasNoEvents events.now time result }
+{
+    let mut low = 0;
+    let mut high = events.len();
+    'search: while low < high {
+        let middle = low + (high - low) / 2;
+        if events[middle].at.time < time {
+            low = middle + 1;
+        } else {
+            high = middle;
+        }
+    }
+    if low < events.len() {
+        let next = events[low].at.time;
+        if next < end {
+            return next;
+        }
+    }
+    end
+}
+
+// A time, `end` at most, before which no event of the schedule stands from `time` on.
+fn steady_until(schedule: &Schedule, time: u32, end: u32) -> u32
+    requires { time ≤ end }
+    ensures range { (time ≤ result) × (result ≤ end) }
+    ensures steady { IsSteady schedule.now time result }
+{
+    next_event(schedule.events(), time, end)
+}
+
+// A time, `end` at most, before which the signals of ring and halo at odd times from `time` on are those at `time`.
+fn quiet_until(job: &Job, time: u32, end: u32) -> u32
+    requires { time ≤ end }
+    ensures range { (time ≤ result) × (result ≤ end) }
+    ensures edges { IsSteady job.now.edges time result }
+    ensures halos { IsSteady job.now.halos time result }
+{
+    let _area = job.area();
+    let shape: &Shape = job.shape();
+    let edges = steady_until(shape.edges(), time, end);
+    steady_until(shape.halos(), time, edges)
+}
+
+// A time, `end` at most, before which there is no stop from `time` on, where `next` is the place of the first one.
+fn stop_until(job: &Job, next: usize, time: u32, end: u32) -> u32
+    requires next { IsNextStop job.now time next }
+    requires range { time ≤ end }
+    ensures range { (time ≤ result) × (result ≤ end) }
+    ensures next { IsNextStop job.now result next }
+{
+    let _area = job.area();
+    if next < job.stops() {
+        let first = job.stop(next).at.time;
+        if first < end {
+            return first;
+        }
+    }
+    end
+}
+
+/// The time that comes next in a run, where `next` is the place of the first stop after `time`. It is the one after `time`, but where
+/// an odd step and the even one at `time` changed nothing it is a time, `steps` at most and no later than that stop, before which the
+/// signals of ring and halo at odd times stay as they were at the odd one.
+pub fn next_time(job: &Job, time: u32, steps: u32, changed: bool, next: usize) -> u32
+    requires range { (time < steps) × (steps ≤ 65536) }
+    requires next { IsNextStop job.now (time + 1) next }
+    ensures range { (time < result) × (result ≤ steps) }
+    ensures leap { (result ≡ time + 1) ⊎ IsLeap job.now time changed result }
+    ensures next { IsNextStop job.now result next }
+{
+    if changed || time % 2 == 1 || time == 0 {
+        return time + 1;
+    }
+    let quiet = quiet_until(job, time - 1, steps);
+    if quiet <= time {
+        return time + 1;
+    }
+    stop_until(job, next, time + 1, quiet)
+}
