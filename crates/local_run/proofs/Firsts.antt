@@ -174,7 +174,7 @@ both_beside c n k l h = and_from _ _
     (ap (in_span c n) (one_more c k) ∙ span_from c n (c + (k + 1)) (omega arith) (omega arith))
 
 -- a cell between the first and the last one of a row between the first and the last one is not in the ring
-not_in_ring : (b : Box2) (x y : ℕ) → 1 ≤ x → x + 1 < b.w → 1 ≤ y → y + 1 < b.h → in_ring b (inner b.x x) (inner b.y y) ≡ false
+pub not_in_ring : (b : Box2) (x y : ℕ) → 1 ≤ x → x + 1 < b.w → 1 ≤ y → y + 1 < b.h → in_ring b (inner b.x x) (inner b.y y) ≡ false
 not_in_ring b x y lx hx ly hy =
     sym (ring_read b (inner b.x x) (inner b.y y) _ true true refl (sym (both_beside b.x b.w x lx hx)) (sym (both_beside b.y b.h y ly hy))) ∙ none_of _
 

@@ -18,7 +18,7 @@ use Rattle.module_box.proofs.Rising.{event_none}
 use Rattle.certificate.specs.Jobs.{JobState}
 use Rattle.certificate.specs.Signals.{is_live}
 use Rattle.local_run.specs.Laws.{QuietRunsStay, NoNewEdgeFaults}
-use Rattle.local_run.specs.Leaps.{HasNoEvents, IsOddOf, IsSteady, StaysUpTo}
+use Rattle.local_run.specs.Leaps.{HasNoEvents, IsOddOf, IsSteady, IsTimeBetween, StaysUpTo}
 use Rattle.local_run.specs.Runs.{with_halo, local_run}
 use Rattle.local_run.proofs.LocalRuns.{even_or_odd, local_even, local_odd, step_all_same}
 
@@ -101,10 +101,11 @@ no_new_faults j u t o n k x y of stays halos edges from l f =
     }
 
 -- ---- events by their times
--- the times of the events before `low` are less than t, and those from `high` on are not
-pub record IsTimeBetween (es : List Event) (t low high : ℕ) : Type 0 where
-  pub below : (i : ℕ) (e : Event) → i < low → slice_get es i ≡ Some e → e.at.time < t
-  pub above : (i : ℕ) (e : Event) → high ≤ i → slice_get es i ≡ Some e → t ≤ e.at.time
+pub met : (es : List Event) (t low high : ℕ) → high ≤ low → IsTimeBetween es t low high → IsTimeBetween es t low low
+met es t low high l b = record {
+  below = b.below;
+  above = λ i e from ei. b.above i e (omega arith) ei;
+}
 
 nat_less : (a b : ℕ) → nat_cmp a b ≢ Greater → a ≤ b
 nat_less a b h = grind arith

@@ -1,22 +1,28 @@
 -- Cells that are known to be dead and have no line
-use Rattle.std.proofs.Common.{◌≡◌, ℕ, false, ◌<◌, ◌+◌, ◌*◌, ◌/◌, ◌%◌, arith, sym, ◌∙◌, ap, ap₂, subst, None}
+use Rattle.std.proofs.Common.{◌≡◌, ℕ, true, false, ◌<◌, ◌≤◌, ◌+◌, ◌-◌, ◌*◌, ◌/◌, ◌%◌, arith, sym, ◌∙◌, ap, ap₂, subst, List, None}
+use Rattle.std.specs.Prelude.{ℤ}
+use Rattle.std.proofs.lemmas.Bool.{and_parts, false≢true}
+use Rattle.bbm_rule.specs.Spans.{in_span}
+use Rattle.module_box.specs.Boxes.{in_box, in_ring}
+use Rattle.module_box.specs.declared.boxes.Box2.{Box2}
 use Rattle.bbm_rule.proofs.BitLemmas.{by_eq_or_not, bit-zero}
 use Rattle.certificate.specs.Jobs.{JobState}
 use Rattle.certificate.specs.Signals.{is_live}
-use Rattle.module_box.specs.Schedules.{signal_at}
 use Rattle.local_run.specs.Calm.{IsDeadAt}
-use Rattle.local_run.specs.Faults.{IsEdgeFault, IsFaultUnder, assignments}
+use Rattle.local_run.specs.Faults.{assignments}
+use Rattle.local_run.specs.Runs.{local_run}
 use Rattle.local_run.specs.Lanes.{lane}
-use Rattle.local_run.specs.Places.{inner}
+use Rattle.local_run.specs.Places.{inner, outer}
 use Rattle.local_run.specs.Turns.{IsUnmarked}
-use Rattle.local_run.specs.Quiet.{number_at}
-use Rattle.local_run.specs.Scans.{IsFound, IsReady, IsSilent, IsLeastBelow, Shows, HasHaloAt, valuation}
-use Rattle.local_run.specs.declared.fault.Kind.{Kind}
+use Rattle.local_run.specs.Quiet.{AreLines, number_at}
+use Rattle.local_run.specs.Scans.{HasEdgeAt, HasEdgesIn, HasHaloIn, IsFound, IsLeastBelow, IsOuter, IsReady, IsSilent, Shows, valuation}
 use Rattle.local_run.specs.declared.fault.Kind.TheVariants.{Edge}
 use Rattle.local_run.specs.declared.planes.Planes.{Planes}
 use Rattle.local_run.specs.declared.values.Values.{Values}
 use Rattle.local_run.proofs.Scans.{plane_odd, plane_down, plane_right, plane_even}
-use Rattle.local_run.proofs.Stepping.{outer_inner}
+use Rattle.local_run.proofs.Firsts.{not_in_ring, span_at}
+use Rattle.local_run.proofs.QuietLemmas.{outer_same}
+use Rattle.local_run.proofs.Stepping.{box_out, outer_inner}
 
 pub dead_lane : (p : Planes) (x y a : ℕ) → IsDeadAt (p.stride * (y / 2) + x / 2) p → a < 64 * p.words → lane p a x y ≡ false
 unfolding lane
@@ -30,30 +36,79 @@ dead_lane p x y a dead l =
     (λ ey. rw (plane_right p x y (omega arith) ey, d.1) (bit-zero (a % 64)))
     (λ oy. rw (plane_even p x y (omega arith) (omega arith), d.3) (bit-zero (a % 64))))
 
-pub no_edge_fault : (j : JobState) (vs : Values) (p : Planes) (t : ℕ) (kind : Kind) (x y : ℕ) → Edge ≡ kind → IsReady j vs → Shows j vs t p → x < j.area.w → y < j.area.h → IsSilent j p (1 + x) (1 + y) →
-    IsLeastBelow (assignments j) (λ a. IsFound j vs a t kind (inner j.area.x x) (inner j.area.y y)) None
-no_edge_fault j vs p t kind x y e ready shows lx ly silent a l f =
-    let g : IsEdgeFault j (valuation vs a) t (inner j.area.x x) (inner j.area.y y) = subst (λ (k : Kind). IsFaultUnder j (valuation vs a) t k (inner j.area.x x) (inner j.area.y y)) (sym e) f.1 in
+-- a cell of the box is in the planes as in the run
+shown_at : (j : JobState) (vs : Values) (p : Planes) (t x y a : ℕ) → Shows j vs t p → a < assignments j → in_box j.area (outer j.area.x x) (outer j.area.y y) ≡ true →
+    lane p a x y ≡ local_run j (valuation vs a) t (outer j.area.x x) (outer j.area.y y)
+unfolding in_box
+shown_at j vs p t x y a shows la inside =
+    let h = and_parts (in_span j.area.x j.area.w (outer j.area.x x)) (in_span j.area.y j.area.h (outer j.area.y y)) inside in
+    let px = span_at j.area.x j.area.w (outer j.area.x x) h.0 in
+    let py = span_at j.area.y j.area.h (outer j.area.y y) h.1 in
+    let ex : x ≡ 1 + px.number = outer_same j.area.x x (1 + px.number) (px.is ∙ sym (outer_inner j.area.x px.number)) in
+    let ey : y ≡ 1 + py.number = outer_same j.area.y y (1 + py.number) (py.is ∙ sym (outer_inner j.area.y py.number)) in
+    subst (λ (m : ℕ). lane p a m y ≡ local_run j (valuation vs a) t (outer j.area.x m) (outer j.area.y y)) (sym ex)
+    (subst (λ (m : ℕ). lane p a (1 + px.number) m ≡ local_run j (valuation vs a) t (outer j.area.x (1 + px.number)) (outer j.area.y m)) (sym ey)
+    (shows.cells a px.number py.number la px.below py.below ∙ ap₂ (local_run j (valuation vs a) t) (sym (outer_inner j.area.x px.number)) (sym (outer_inner j.area.y py.number))))
+
+ring_in_box : (b : Box2) (x y : ℤ) → in_ring b x y ≡ true → in_box b x y ≡ true
+unfolding in_ring
+ring_in_box b x y h = (and_parts _ _ h).0
+
+-- silent cells have no edge fault
+pub silent_edges : (j : JobState) (vs : Values) (p : Planes) (t column row : ℕ) → IsReady j vs → Shows j vs t p → column < p.stride → IsSilent j t p (p.stride * row + column) → HasEdgesIn j vs t column row
+silent_edges j vs p t column row ready shows lc silent x y lx ly ex ey a l f =
     let room = ready.room in
     let count = ready.count in
     let s0 = shows.size.0 in
-    let zero = ap₂ (signal_at j.edges t) (sym (outer_inner j.area.x x)) (sym (outer_inner j.area.y y)) ∙ silent.edge t in
-    g.differs (sym (shows.cells a x y l lx ly) ∙ silent.dead a (omega arith) ∙ sym (ap (is_live (valuation vs a)) zero))
+    let number : number_at j.area x y ≡ p.stride * row + column = ap₂ (λ r c. (j.area.w / 2 + 1) * r + c) ey ex ∙ ap (λ s. s * row + column) (sym shows.size.1) in
+    let inside = ring_in_box j.area _ _ f.1.ring in
+    f.1.differs (sym (shown_at j vs p t x y a shows l inside) ∙ silent.dead a x y (omega arith) lx ly number ∙ sym (ap (is_live (valuation vs a)) (silent.edge x y lx ly number)))
 
-pub silent_halo : (j : JobState) (vs : Values) (p : Planes) (t x y : ℕ) → IsReady j vs → Shows j vs t p → IsSilent j p x y → HasHaloAt j vs t p x y
-silent_halo j vs p t x y ready shows silent a l outside =
+-- and what their signals say comes to those of them in the halo
+pub silent_halo : (j : JobState) (vs : Values) (p : Planes) (t column row : ℕ) → IsReady j vs → Shows j vs t p → IsSilent j t p (p.stride * row + column) → HasHaloIn j vs t p column row
+silent_halo j vs p t column row ready shows silent x y lx ly ex ey a l outside =
     let room = ready.room in
     let count = ready.count in
     let s0 = shows.size.0 in
-    silent.dead a (omega arith) ∙ sym (ap (is_live (valuation vs a)) (silent.halo t))
+    let number : number_at j.area x y ≡ p.stride * row + column = ap₂ (λ r c. (j.area.w / 2 + 1) * r + c) ey ex ∙ ap (λ s. s * row + column) (sym shows.size.1) in
+    silent.dead a x y (omega arith) lx ly number ∙ sym (ap (is_live (valuation vs a)) (silent.halo x y lx ly number))
 
-pub silent_from : (j : JobState) (vs : Values) (p : Planes) (u x y : ℕ) → u ≡ p.stride * (y / 2) + x / 2 → p.stride ≡ j.area.w / 2 + 1 → IsReady j vs → IsDeadAt u p →
-    IsUnmarked vs.lined.items u → x < j.area.w + 2 → y < j.area.h + 2 → IsSilent j p x y
-silent_from j vs p u x y e es ready dead free lx ly =
-    let number : u ≡ number_at j.area x y = e ∙ ap (λ s. s * (y / 2) + x / 2) es in
-    let free' : IsUnmarked vs.lined.items (number_at j.area x y) = subst (IsUnmarked vs.lined.items) number free in
-    record {
-      dead = λ a l. dead_lane p x y a (subst (λ n. IsDeadAt n p) e dead) l;
-      edge = λ t. ready.lines.quiet.0 t x y lx ly free';
-      halo = λ t. ready.lines.quiet.1 t x y lx ly free';
-    }
+pub silent_from : (j : JobState) (p : Planes) (t u : ℕ) (marks : List ℕ) → p.stride ≡ j.area.w / 2 + 1 → IsDeadAt u p → AreLines j t marks → IsUnmarked marks u → IsSilent j t p u
+silent_from j p t u marks es dead lines free = record {
+  dead = λ a x y l lx ly e. dead_lane p x y a (subst (λ n. IsDeadAt n p) (sym e ∙ ap (λ s. s * (y / 2) + x / 2) (sym es)) dead) l;
+  edge = λ x y lx ly e. lines.edges x y lx ly (subst (IsUnmarked marks) (sym e) free);
+  halo = λ x y lx ly e. lines.halos x y lx ly (subst (IsUnmarked marks) (sym e) free);
+}
+
+-- cells outside the box have none
+pub outer_edge : (j : JobState) (vs : Values) (t x y : ℕ) → IsOuter j.area x y → HasEdgeAt j vs t x y
+outer_edge j vs t x y out a l f = false≢true (sym (box_out j.area x y out) ∙ ring_in_box j.area _ _ f.1.ring)
+
+pub inner_edge : (j : JobState) (vs : Values) (t x y : ℕ) → 1 ≤ x → 1 ≤ y → IsLeastBelow (assignments j) (λ a. IsFound j vs a t Edge (inner j.area.x (x - 1)) (inner j.area.y (y - 1))) None → HasEdgeAt j vs t x y
+inner_edge j vs t x y lx ly none a l f =
+    let ex : outer j.area.x x ≡ inner j.area.x (x - 1) = ap (outer j.area.x) (next x lx) ∙ outer_inner j.area.x (x - 1) in
+    let ey : outer j.area.y y ≡ inner j.area.y (y - 1) = ap (outer j.area.y) (next y ly) ∙ outer_inner j.area.y (y - 1) in
+    none a l (subst (λ (z : ℤ). IsFound j vs a t Edge z (inner j.area.y (y - 1))) ex (subst (λ (z : ℤ). IsFound j vs a t Edge (outer j.area.x x) z) ey f))
+  where
+    next : (k : ℕ) → 1 ≤ k → k ≡ 1 + (k - 1)
+    next k l = omega arith
+
+-- the four cells in a column and row of the planes
+pub four_cells : (c r : ℕ) (P : ℕ → ℕ → Type 0) → P (2 * c) (2 * r) → P (2 * c + 1) (2 * r) → P (2 * c) (2 * r + 1) → P (2 * c + 1) (2 * r + 1) → (x y : ℕ) → x / 2 ≡ c → y / 2 ≡ r → P x y
+four_cells c r P first second third fourth x y ex ey = by_eq_or_not x (2 * c)
+    (λ e. by_eq_or_not y (2 * r)
+    (λ f. subst (λ m. P m y) (sym e) (subst (P (2 * c)) (sym f) first))
+    (λ n. let f : y ≡ 2 * r + 1 = omega arith in subst (λ m. P m y) (sym e) (subst (P (2 * c)) (sym f) third)))
+    (λ n. let e : x ≡ 2 * c + 1 = omega arith in by_eq_or_not y (2 * r)
+    (λ f. subst (λ m. P m y) (sym e) (subst (P (2 * c + 1)) (sym f) second))
+    (λ m. let f : y ≡ 2 * r + 1 = omega arith in subst (λ m. P m y) (sym e) (subst (P (2 * c + 1)) (sym f) fourth)))
+
+-- nor have cells between the ring's columns and rows
+pub between_edges : (j : JobState) (vs : Values) (t x y : ℕ) → 2 ≤ x → x < j.area.w → 2 ≤ y → y < j.area.h → HasEdgeAt j vs t x y
+between_edges j vs t x y lx hx ly hy a l f =
+    let ex : outer j.area.x x ≡ inner j.area.x (x - 1) = ap (outer j.area.x) (next x (omega arith)) ∙ outer_inner j.area.x (x - 1) in
+    let ey : outer j.area.y y ≡ inner j.area.y (y - 1) = ap (outer j.area.y) (next y (omega arith)) ∙ outer_inner j.area.y (y - 1) in
+    false≢true (sym (not_in_ring j.area (x - 1) (y - 1) (omega arith) (omega arith) (omega arith) (omega arith)) ∙ sym (ap₂ (in_ring j.area) ex ey) ∙ f.1.ring)
+  where
+    next : (k : ℕ) → 1 ≤ k → k ≡ 1 + (k - 1)
+    next k l = omega arith

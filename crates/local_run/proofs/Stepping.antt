@@ -174,7 +174,7 @@ span_outer_parts c n x h = outer_case (c + x) refl h
     outer_case zero e k = absurd (false≢true (sym (ap (in_span c n) less_none ∙ in_span-negsuc c n 0) ∙ k))
     outer_case (suc m) e k = let p = span_parts c n m (sym (ap (in_span c n) (less_one m)) ∙ k) in (omega arith, omega arith)
 
-box_out : (b : Box2) (x y : ℕ) → IsOuter b x y → in_box b (outer b.x x) (outer b.y y) ≡ false
+pub box_out : (b : Box2) (x y : ℕ) → IsOuter b x y → in_box b (outer b.x x) (outer b.y y) ≡ false
 unfolding in_box
 box_out b x y m = elim (cases_Bool (in_span b.x b.w (outer b.x x) && in_span b.y b.h (outer b.y y))) [
   | inr h ↦ h

@@ -20,6 +20,11 @@ pub record IsOddOf (t o : ℕ) : Type 0 where
   pub from : t ≤ o
   pub next : o ≤ t + 1
 
+-- the times of the events before place `low` are less than t, and those from place `high` on are not
+pub record IsTimeBetween (es : List Event) (t low high : ℕ) : Type 0 where
+  pub below : (i : ℕ) (e : Event) → i < low → slice_get es i ≡ Some e → e.at.time < t
+  pub above : (i : ℕ) (e : Event) → high ≤ i → slice_get es i ≡ Some e → t ≤ e.at.time
+
 -- none of the events stands at a time from t on, before n
 abbrev pub HasNoEvents : List Event → ℕ → ℕ → Type 0
 HasNoEvents events t n = (i : ℕ) (e : Event) → slice_get events i ≡ Some e → t ≤ e.at.time → e.at.time < n → ⊥

@@ -1,10 +1,13 @@
 -- Cells of which no line of a module says anything
-use Rattle.std.specs.Prelude.{◌≡◌, ℕ, ◌+◌, ◌*◌, ◌/◌, ◌%◌, ◌<◌, ◌≤◌, List, length}
+use Rattle.std.specs.Prelude.{◌≡◌, ℕ, ◌+◌, ◌*◌, ◌/◌, ◌%◌, ◌<◌, ◌≤◌, List, length, slice_get, Some}
+use Rattle.std.specs.Int.{div_ceil}
 use Rattle.bbm_rule.specs.declared.block.Cell.{Cell}
 use Rattle.module_box.specs.Schedules.{Signals, signal_at}
 use Rattle.module_box.specs.declared.boxes.Box2.{Box2}
+use Rattle.module_box.specs.declared.schedules.Held.{Held}
 use Rattle.module_box.specs.declared.schedules.Signal.TheVariants.{Zero}
 use Rattle.certificate.specs.Jobs.{JobState}
+use Rattle.certificate.specs.Shapes.{ShapeState}
 use Rattle.local_run.specs.Places.{outer}
 use Rattle.local_run.specs.Turns.{IsUnmarked}
 
@@ -24,15 +27,26 @@ IsCellMarked b c marks = (x y : ℕ) → x < b.w + 2 → y < b.h + 2 → c.x ≡
 abbrev pub KeepsMarks : List ℕ → List ℕ → Type 0
 KeepsMarks old new = (u : ℕ) → IsUnmarked new u → IsUnmarked old u
 
--- at cells without a mark the signals of a schedule are `Zero` at all times
-abbrev pub IsQuietIn : Signals → Box2 → List ℕ → Type 0
-IsQuietIn s b marks = (t x y : ℕ) → x < b.w + 2 → y < b.h + 2 → IsUnmarked marks (number_at b x y) → signal_at s t (outer b.x x) (outer b.y y) ≡ Zero
+-- the cells of held signals have marks
+abbrev pub AreHeldMarked : Signals → Box2 → List ℕ → Type 0
+AreHeldMarked s b marks = (i : ℕ) (h : Held) → slice_get s.held i ≡ Some h → IsCellMarked b h.cell marks
 
--- so are those of both schedules of a job
-abbrev pub IsQuiet : JobState → List ℕ → Type 0
-IsQuiet j marks = IsQuietIn j.edges j.area marks × IsQuietIn j.halos j.area marks
+-- the box of a shape, with its corner at (0, 0)
+abbrev pub at_corner : ShapeState → Box2
+at_corner s = record { x = 0; y = 0; w = s.width; h = s.height }
 
--- marks that leave no cell out of which a line says something
-pub record AreLines (j : JobState) (marks : List ℕ) : Type 0 where
-  pub room : HasRoom j.area marks
-  pub quiet : IsQuiet j marks
+-- marks, a word for 64 numbers, that leave no cell out of which a line of a shape says something at all times
+pub record AreHeld (s : ShapeState) (marks : List ℕ) : Type 0 where
+  pub long : length marks ≡ div_ceil ((s.width / 2 + 1) * (s.height / 2 + 1)) 64
+  pub room : HasRoom (at_corner s) marks
+  pub edges : AreHeldMarked s.edges (at_corner s) marks
+  pub halos : AreHeldMarked s.halos (at_corner s) marks
+
+-- at cells without a mark the signal of a schedule at time t is `Zero`
+abbrev pub IsQuietIn : Signals → Box2 → ℕ → List ℕ → Type 0
+IsQuietIn s b t marks = (x y : ℕ) → x < b.w + 2 → y < b.h + 2 → IsUnmarked marks (number_at b x y) → signal_at s t (outer b.x x) (outer b.y y) ≡ Zero
+
+-- marks that leave no cell out of which an edge or halo line of a job says something at time t
+pub record AreLines (j : JobState) (t : ℕ) (marks : List ℕ) : Type 0 where
+  pub edges : IsQuietIn j.edges j.area t marks
+  pub halos : IsQuietIn j.halos j.area t marks

@@ -7,12 +7,13 @@ use Rattle.module_box.specs.declared.boxes.Box2.{Box2}
 use Rattle.module_box.specs.declared.schedules.Signal.{Signal}
 use Rattle.module_box.specs.declared.schedules.Signal.TheVariants.{Zero, One, Wire}
 use Rattle.certificate.specs.Jobs.{JobState, IsJob}
+use Rattle.certificate.specs.Shapes.{shape_of}
 use Rattle.certificate.specs.Signals.{is_live}
 use Rattle.certificate.specs.declared.job.Stop as listed
 use Rattle.local_run.specs.Faults.{IsFaultUnder, assignments}
 use Rattle.local_run.specs.Lanes.{HasSize, lane}
 use Rattle.local_run.specs.Places.{inner, outer}
-use Rattle.local_run.specs.Quiet.{AreLines}
+use Rattle.local_run.specs.Quiet.{AreHeld, number_at}
 use Rattle.local_run.specs.Runs.{local_run}
 use Rattle.local_run.specs.declared.fault.Fault.{Fault}
 use Rattle.local_run.specs.declared.fault.Kind.{Kind}
@@ -56,7 +57,7 @@ pub record IsReady (j : JobState) (vs : Values) : Type 0 where
   pub room : vs.count ≤ 64 * vs.words
   pub long : vs.words * wires j.locals.netlist ≤ length vs.rows.values.items
   pub rows : AreValueRows j.locals.netlist vs.words vs.rows
-  pub lines : AreLines j vs.lined.items
+  pub held : AreHeld (shape_of j) vs.held.items
 
 -- the cells of the box are those of the run at time t, under each assignment
 pub record Shows (j : JobState) (vs : Values) (t : ℕ) (p : Planes) : Type 0 where
@@ -140,8 +141,25 @@ pub record IsPassed (j : JobState) (vs : Values) (t place : ℕ) : Type 0 where
   pub edges : HasNoEdgeFault j vs t
   pub stops : IsFree j vs t Stop
 
--- the cell, counted from the halo, is dead under each assignment, and its signals are `Zero` at all times
-pub record IsSilent (j : JobState) (p : Planes) (x y : ℕ) : Type 0 where
-  pub dead : (a : ℕ) → a < 64 * p.words → lane p a x y ≡ false
-  pub edge : (t : ℕ) → signal_at j.edges t (outer j.area.x x) (outer j.area.y y) ≡ Zero
-  pub halo : (t : ℕ) → signal_at j.halos t (outer j.area.x x) (outer j.area.y y) ≡ Zero
+-- The cells of box and halo with this number, one in each plane, are dead under each assignment, and their signals at time t are
+-- `Zero`
+pub record IsSilent (j : JobState) (t : ℕ) (p : Planes) (u : ℕ) : Type 0 where
+  pub dead : (a x y : ℕ) → a < 64 * p.words → x < j.area.w + 2 → y < j.area.h + 2 → number_at j.area x y ≡ u → lane p a x y ≡ false
+  pub edge : (x y : ℕ) → x < j.area.w + 2 → y < j.area.h + 2 → number_at j.area x y ≡ u → signal_at j.edges t (outer j.area.x x) (outer j.area.y y) ≡ Zero
+  pub halo : (x y : ℕ) → x < j.area.w + 2 → y < j.area.h + 2 → number_at j.area x y ≡ u → signal_at j.halos t (outer j.area.x x) (outer j.area.y y) ≡ Zero
+
+-- the cells of the halo in this column and row of the planes are what their signals say
+abbrev pub HasHaloIn : JobState → Values → ℕ → Planes → ℕ → ℕ → Type 0
+HasHaloIn j vs t p column row = (x y : ℕ) → x < j.area.w + 2 → y < j.area.h + 2 → x / 2 ≡ column → y / 2 ≡ row → HasHaloAt j vs t p x y
+
+-- no cell changes but those in this column and row of the planes
+abbrev pub SameButIn : JobState → Planes → Planes → ℕ → ℕ → Type 0
+SameButIn j p q column row = (a x y : ℕ) → a < assignments j → x < j.area.w + 2 → ((x / 2 ≡ column) × (y / 2 ≡ row) → ⊥) → lane q a x y ≡ lane p a x y
+
+-- a cell, counted from the halo, is outside the ring or carries what its signal says, wherever each used gate has a row
+abbrev pub HasEdgeAt : JobState → Values → ℕ → ℕ → ℕ → Type 0
+HasEdgeAt j vs t x y = (a : ℕ) → a < assignments j → ¬ IsFound j vs a t Edge (outer j.area.x x) (outer j.area.y y)
+
+-- so do the cells in this column and row of the planes
+abbrev pub HasEdgesIn : JobState → Values → ℕ → ℕ → ℕ → Type 0
+HasEdgesIn j vs t column row = (x y : ℕ) → x < j.area.w + 2 → y < j.area.h + 2 → x / 2 ≡ column → y / 2 ≡ row → HasEdgeAt j vs t x y

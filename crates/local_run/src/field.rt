@@ -7,11 +7,14 @@
 ghost use Rattle.bbm_rule.specs.Plane.{turned};
 ghost use Rattle.bbm_rule.specs.Rows.{mate};
 ghost use Rattle.local_run.specs.Calm.{OddCalm, OddCalm-prop, EvenCalm, EvenCalm-prop, AllDead, AllDead-prop, IsDeadAt};
+ghost use Rattle.std.specs.Int.{div_ceil};
 ghost use Rattle.std.specs.Prelude.{ℕ, ◌≡◌, ◌+◌, ◌*◌, ◌/◌, ◌<◌, ◌≤◌, vec_len, IfOk, true, false};
 
+use crate::lines::mark_lines;
 use crate::marks::{is_marked, mark, mark_all, mark_around, mark_corners, next_marked, unmark};
 use crate::planes::Planes;
 use crate::values::Values;
+use certificate::Job;
 use module_box::Signal;
 use std::alloc::{AllocError, Global};
 
@@ -24,11 +27,14 @@ pub struct Field {
     even_marks: Vec<u64>,
     // and for each number of cells: those without a mark are dead
     live_marks: Vec<u64>,
+    // and those of which an edge or halo line says something at the time that is looked at
+    line_marks: Vec<u64>,
     // how many of the next steps turn whole planes
     rush: u32,
     ghost odd_room: { planes.stride * planes.rows ≤ 64 * vec_len odd_marks },
     ghost even_room: { planes.stride * planes.rows ≤ 64 * vec_len even_marks },
     ghost live_room: { planes.stride * planes.rows ≤ 64 * vec_len live_marks },
+    ghost line_long: { vec_len line_marks ≡ div_ceil (planes.stride * planes.rows) 64 },
     ghost odd_calm: { OddCalm odd_marks.items planes } by { OddCalm-prop odd_marks.items planes },
     ghost even_calm: { EvenCalm even_marks.items planes } by { EvenCalm-prop even_marks.items planes },
     ghost all_dead: { AllDead live_marks.items planes } by { AllDead-prop live_marks.items planes },
@@ -48,7 +54,9 @@ fn are_many(changed: usize, cells: usize, words: usize, stride: usize) -> bool
 }
 
 impl Field {
-    ghost use Rattle.local_run.specs.Turns.{IsCalmBlock, TurnsPart};
+    ghost use Rattle.local_run.specs.Turns.{IsCalmBlock, IsUnmarked, TurnsPart};
+    ghost use Rattle.local_run.specs.Quiet.{AreLines};
+    ghost use Rattle.local_run.specs.Scans.{IsReady};
     ghost use Rattle.local_run.specs.Lanes.{HasSize, SameInside, lane};
 
     /// Planes of whose blocks nothing is known.
@@ -59,6 +67,7 @@ impl Field {
         let mut odd_marks = vec![in alloc; 0u64; long]?;
         let mut even_marks = vec![in alloc; 0u64; long]?;
         let mut live_marks = vec![in alloc; 0u64; long]?;
+        let line_marks = vec![in alloc; 0u64; long]?;
         mark_all(&mut odd_marks);
         mark_all(&mut even_marks);
         mark_all(&mut live_marks);
@@ -67,6 +76,7 @@ impl Field {
             odd_marks,
             even_marks,
             live_marks,
+            line_marks,
             rush: 0,
         })
     }
@@ -78,12 +88,26 @@ impl Field {
         &self.planes
     }
 
-    /// Whether the cells with number u are known to be dead under each assignment.
-    pub fn is_dead(&self, u: usize) -> bool
-        requires { u < self.now.planes.stride * self.now.planes.rows }
-        ensures { result ≡ true → IsDeadAt u self.now.planes }
+    /// Looks at the edge and halo lines of a job at a time: the cells of which one says something get a mark.
+    pub fn look_at(&mut self, values: &Values, job: &Job, time: u32)
+        requires ready { IsReady job.now values.now }
+        requires size { HasSize values.now.words (job.now.area.w / 2 + 1) (job.now.area.h / 2 + 1) self.old.planes }
+        requires range { time < 65536 }
+        ensures planes { self.new.planes ≡ self.old.planes }
+        ensures lines { AreLines job.now time self.new.line_marks.items }
     {
-        !is_marked(&self.live_marks, u)
+        self.line_marks.copy_from_slice(values.held());
+        mark_lines(&mut self.line_marks, job, time);
+    }
+
+    /// Whether the cells with a number are known to be dead under each assignment, and no line says something of them at the time
+    /// that was looked at.
+    pub fn is_silent(&self, u: usize) -> bool
+        requires { u < self.now.planes.stride * self.now.planes.rows }
+        ensures dead { result ≡ true → IsDeadAt u self.now.planes }
+        ensures unmarked { result ≡ true → IsUnmarked self.now.line_marks.items u }
+    {
+        !is_marked(&self.live_marks, u) && !is_marked(&self.line_marks, u)
     }
 
     // Takes the mark off block u of the odd partition, which stays, and off its cells where they are dead.
@@ -207,7 +231,8 @@ impl Field {
         requires place { (x / 2 < self.old.planes.stride) × (y / 2 < self.old.planes.rows) }
         requires words { (values.now.words ≡ self.old.planes.words) × (values.now.words ≤ 64) }
         requires row { HasRow values.now signal }
-        ensures { PutsCell values.now x y signal self.old.planes self.new.planes }
+        ensures put { PutsCell values.now x y signal self.old.planes self.new.planes }
+        ensures lines { self.new.line_marks ≡ self.old.line_marks }
     {
         let stride = self.planes.stride();
         let u = stride * (y / 2) + x / 2;

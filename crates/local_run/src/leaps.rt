@@ -1,20 +1,19 @@
 //! Times in which no edge or halo line of a job begins.
 
-ghost use Rattle.std.specs.Prelude.{◌≡◌, ◌+◌, ◌<◌, ◌≤◌, ◌⊎◌};
+ghost use Rattle.std.specs.Prelude.{◌≡◌, ◌+◌, ◌<◌, ◌≤◌, ◌⊎◌, length};
 ghost use Rattle.module_box.specs.Moments.{moment_cmp};
 ghost use Rattle.module_box.specs.Schedules.{IsRising, moment_of};
-ghost use Rattle.local_run.specs.Leaps.{HasNoEvents, IsLeap, IsSteady};
+ghost use Rattle.local_run.specs.Leaps.{HasNoEvents, IsLeap, IsSteady, IsTimeBetween};
 ghost use Rattle.local_run.specs.Scans.{IsNextStop};
 
 use certificate::{Job, Shape};
 use module_box::{Event, Schedule};
 
-// The first time from `time` on at which there is an event, or `end`, whichever comes first.
-fn next_event(events: &[Event], time: u32, end: u32) -> u32
+/// The place of the first event at the time or after it, or how many there are.
+pub fn first_event(events: &[Event], time: u32) -> usize
     requires rising { IsRising moment_cmp moment_of events.now }
-    requires range { time ≤ end }
-    ensures range { (time ≤ result) × (result ≤ end) }
-    ensures none { HasNoEvents events.now time result }
+    ensures range { result ≤ length events.now }
+    ensures first { IsTimeBetween events.now time result result }
 {
     let mut low = 0;
     let mut high = events.len();
@@ -26,8 +25,19 @@ fn next_event(events: &[Event], time: u32, end: u32) -> u32
             high = middle;
         }
     }
-    if low < events.len() {
-        let next = events[low].at.time;
+    low
+}
+
+// The first time from `time` on at which there is an event, or `end`, whichever comes first.
+fn next_event(events: &[Event], time: u32, end: u32) -> u32
+    requires rising { IsRising moment_cmp moment_of events.now }
+    requires range { time ≤ end }
+    ensures range { (time ≤ result) × (result ≤ end) }
+    ensures none { HasNoEvents events.now time result }
+{
+    let first = first_event(events, time);
+    if first < events.len() {
+        let next = events[first].at.time;
         if next < end {
             return next;
         }

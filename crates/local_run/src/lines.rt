@@ -1,10 +1,14 @@
-//! The cells of ring and halo of which a module's lines say something.
+//! The cells of ring and halo of which a module's lines say something at a time.
 
 ghost use Rattle.certificate.specs.Jobs.{IsJob};
-ghost use Rattle.local_run.specs.Quiet.{HasRoom, IsCellMarked, IsQuiet, IsQuietIn, KeepsMarks};
+ghost use Rattle.certificate.specs.Shapes.{shape_of};
+ghost use Rattle.module_box.specs.Moments.{moment_cmp};
+ghost use Rattle.module_box.specs.Schedules.{IsRising, moment_of};
+ghost use Rattle.local_run.specs.Quiet.{AreHeld, AreHeldMarked, AreLines, at_corner, HasRoom, IsCellMarked, IsQuietIn, KeepsMarks};
 ghost use Rattle.local_run.specs.Places.{outer};
 ghost use Rattle.std.specs.Prelude.{ℕ, ◌≢◌, MatchOption, ◌≡◌, ◌<◌, ◌+◌, ◌*◌, ◌/◌, ◌≤◌, length, slice_index, slice_get, Some, IfOk};
 
+use crate::leaps::first_event;
 use crate::marks::mark;
 use bbm_rule::Cell;
 use certificate::{Job, Shape};
@@ -51,53 +55,86 @@ fn mark_held(marks: &mut [u64], area: Box2, list: &[Held])
     }
 }
 
-// Marks the cells of events.
-fn mark_events(marks: &mut [u64], area: Box2, list: &[Event])
-    requires { HasRoom area marks.old }
+// Marks the cells of the events from place `first` up to place `end`.
+fn mark_events(marks: &mut [u64], area: Box2, list: &[Event], first: usize, end: usize)
+    requires room { HasRoom area marks.old }
+    requires range { end ≤ length list.now }
     ensures keeps { KeepsMarks marks.old marks.new }
-    ensures marked { (i : ℕ) (e : Event) → slice_get list.now i ≡ Some e → IsCellMarked area e.at.cell marks.new }
+    ensures marked { (i : ℕ) (e : Event) → first ≤ i → i < end → slice_get list.now i ≡ Some e → IsCellMarked area e.at.cell marks.new }
 {
-    for event in list {
-        mark_cell(marks, area, event.at.cell);
+    for k in first..end {
+        mark_cell(marks, area, list[k].at.cell);
     }
 }
 
-// Marks the cells of which a schedule says something.
-fn mark_schedule(marks: &mut [u64], area: Box2, schedule: &Schedule)
-    requires { HasRoom area marks.old }
+// Marks the cells of the events of a time.
+fn mark_events_at(marks: &mut [u64], area: Box2, list: &[Event], time: u32)
+    requires room { HasRoom area marks.old }
+    requires rising { IsRising moment_cmp moment_of list.now }
+    requires range { time < 65536 }
     ensures keeps { KeepsMarks marks.old marks.new }
-    ensures quiet { IsQuietIn schedule.now area marks.new }
+    ensures marked { (i : ℕ) (e : Event) → slice_get list.now i ≡ Some e → e.at.time ≡ time → IsCellMarked area e.at.cell marks.new }
 {
-    mark_held(marks, area, schedule.held());
-    mark_events(marks, area, schedule.events());
+    let first = first_event(list, time);
+    let end = first_event(list, time + 1);
+    mark_events(marks, area, list, first, end);
 }
 
-// Marks the cells of which an edge or halo line says something.
-fn mark_lines(marks: &mut [u64], job: &Job)
-    requires { HasRoom job.now.area marks.old }
-    ensures { IsQuiet job.now marks.new }
+// Marks the cells of which a schedule says something at the time, where those of its held signals have marks.
+fn mark_schedule(marks: &mut [u64], area: Box2, schedule: &Schedule, time: u32)
+    requires room { HasRoom area marks.old }
+    requires range { time < 65536 }
+    requires held { AreHeldMarked schedule.now area marks.old }
+    ensures keeps { KeepsMarks marks.old marks.new }
+    ensures quiet { IsQuietIn schedule.now area time marks.new }
 {
-    let _area = job.area();
-    let shape: &Shape = job.shape();
-    let area = Box2 {
+    mark_events_at(marks, area, schedule.events(), time);
+}
+
+// The box of a shape, with its corner at (0, 0).
+fn box_of(shape: &Shape) -> Box2
+    ensures { result ≡ at_corner shape.now }
+{
+    Box2 {
         x: 0,
         y: 0,
         w: shape.width(),
         h: shape.height(),
-    };
-    mark_schedule(marks, area, shape.edges());
-    mark_schedule(marks, area, shape.halos());
+    }
 }
 
-/// Marks on the numbers of cells, one in each plane, of which an edge or halo line says something.
-pub fn lined_cells(alloc: Global, job: &Job) -> Result<Vec<u64>, AllocError>
+/// Marks the cells of which an edge or halo line says something at the time, where those of which one does at all times have marks.
+pub fn mark_lines(marks: &mut [u64], job: &Job, time: u32)
+    requires held { AreHeld (shape_of job.now) marks.old }
+    requires range { time < 65536 }
+    ensures { AreLines job.now time marks.new }
+{
+    let shape: &Shape = job.shape();
+    let area = box_of(shape);
+    mark_schedule(marks, area, shape.edges(), time);
+    mark_schedule(marks, area, shape.halos(), time);
+}
+
+// Marks the cells of which an edge or halo line says something at all times.
+fn mark_all_held(marks: &mut [u64], shape: &Shape)
+    requires { HasRoom (at_corner shape.now) marks.old }
+    ensures keeps { KeepsMarks marks.old marks.new }
+    ensures edges { AreHeldMarked shape.now.edges (at_corner shape.now) marks.new }
+    ensures halos { AreHeldMarked shape.now.halos (at_corner shape.now) marks.new }
+{
+    let area = box_of(shape);
+    mark_held(marks, area, shape.edges().held());
+    mark_held(marks, area, shape.halos().held());
+}
+
+/// Marks on the numbers of cells, one in each plane, of which an edge or halo line says something at all times.
+pub fn held_cells(alloc: Global, job: &Job) -> Result<Vec<u64>, AllocError>
     requires { IsJob job.now }
-    ensures room { IfOk result (λ m. HasRoom job.now.area m.items) }
-    ensures quiet { IfOk result (λ m. IsQuiet job.now m.items) }
+    ensures { IfOk result (λ m. AreHeld (shape_of job.now) m.items) }
 {
     let area = job.area();
     let cells = (area.w as usize / 2 + 1) * (area.h as usize / 2 + 1);
     let mut marks = vec![in alloc; 0u64; cells.div_ceil(64)]?;
-    mark_lines(&mut marks, job);
+    mark_all_held(&mut marks, job.shape());
     Ok(marks)
 }

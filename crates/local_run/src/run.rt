@@ -1,7 +1,8 @@
 //! The run of a job, and its finding.
-ghost use Rattle.std.specs.Prelude.{◌≡◌, ◌+◌, ◌<◌, IfOk, MatchOption, false};
+ghost use Rattle.std.specs.Prelude.{◌≡◌, ◌+◌, ◌%◌, ◌<◌, IfOk, MatchOption, false};
 ghost use Rattle.std.specs.Arc.{arc_value};
 ghost use Rattle.local_run.specs.Faults.{IsLeastFault, IsLeastKeepFault};
+ghost use Rattle.local_run.specs.Quiet.{AreLines};
 ghost use Rattle.local_run.specs.Scans.{IsFirstAt, IsNextStop, IsPassed, IsReady, Shows};
 ghost use Rattle.local_run.specs.Shown.{digest_of, number_of, job_of};
 
@@ -11,7 +12,7 @@ use crate::finding::Finding;
 use crate::keep::least_keep;
 use crate::leaps::next_time;
 use crate::planes::Planes;
-use crate::scan::{first_fault, first_stop_fault};
+use crate::scan::{are_edges_right, first_fault, first_stop_fault};
 use crate::steps::{even_time, odd_time, put_start};
 use crate::values::Values;
 use certificate::Job;
@@ -30,10 +31,11 @@ fn time_fault(
     requires ready { IsReady job.now values.now }
     requires early { time < job.now.steps }
     requires shows { Shows job.now values.now time field.now.planes }
+    requires lines { time % 2 ≡ 1 → AreLines job.now time field.now.line_marks.items }
     requires next { IsNextStop job.now time next.old }
     ensures { MatchOption result (IsPassed job.now values.now time next.new) (λ f. IsFirstAt job.now values.now time f) }
 {
-    if time % 2 == 1 {
+    if time % 2 == 1 && !are_edges_right(field, values, job, time) {
         if let Some(fault) = first_fault(field, values, job, time, Kind::Edge) {
             return Some(fault);
         }
@@ -45,6 +47,7 @@ fn time_fault(
 fn one_step(field: &mut Field, values: &Values, job: &Job, time: u32) -> bool
     requires ready { IsReady job.now values.now }
     requires shows { Shows job.now values.now time field.old.planes }
+    requires lines { time % 2 ≡ 1 → AreLines job.now time field.old.line_marks.items }
     ensures next { Shows job.now values.now (time + 1) field.new.planes }
     ensures stays { result ≡ false → Shows job.now values.now time field.new.planes }
 {
@@ -71,6 +74,9 @@ fn least_fault(alloc: Global, values: &Values, job: &Job) -> Result<Option<Fault
     let mut time = 0;
     let mut changed = true;
     'times: while time < steps {
+        if time % 2 == 1 {
+            field.look_at(values, job, time);
+        }
         if let Some(fault) = time_fault(&field, values, job, time, &mut next) {
             return Ok(Some(fault));
         }

@@ -1,10 +1,11 @@
 //! The first fault of a kind at a time.
-ghost use Rattle.std.specs.Prelude.{◌≡◌, ◌+◌, ◌<◌, ◌≤◌, IsTrue, MatchOption};
+ghost use Rattle.std.specs.Prelude.{◌≡◌, ◌+◌, ◌*◌, ◌/◌, ◌<◌, ◌≤◌, true, IsTrue, MatchOption};
 ghost use Rattle.circuit.specs.Meaning.{wires};
 ghost use Rattle.module_box.specs.Boxes.{in_box};
 ghost use Rattle.local_run.specs.Faults.{assignments};
 ghost use Rattle.local_run.specs.Places.{inner};
-ghost use Rattle.local_run.specs.Scans.{IsFirst, IsFound, IsFree, IsLeastBelow, IsMissed, IsNextStop, IsReady, IsSought, IsStride, Shows};
+ghost use Rattle.local_run.specs.Quiet.{AreLines};
+ghost use Rattle.local_run.specs.Scans.{HasEdgeAt, HasEdgesIn, IsFirst, IsFound, IsFree, IsLeastBelow, IsMissed, IsNextStop, IsReady, IsSought, IsStride, Shows};
 
 use crate::fault::{Fault, Kind};
 use crate::field::Field;
@@ -34,9 +35,6 @@ fn cell_fault(
     match kind {
         Kind::Edge => {
             if !is_ring(job, x, y) {
-                return None;
-            }
-            if is_silent(field, values, job, 1 + x, 1 + y) {
                 return None;
             }
             values.first_difference(planes, 1 + x, 1 + y, edge_at(job, time, x, y))
@@ -98,6 +96,92 @@ pub fn first_fault(
         }
     }
     None
+}
+
+// Whether a cell, counted from the halo, carries what its edge signal says, where it is in the ring.
+fn is_edge_right(field: &Field, values: &Values, job: &Job, time: u32, x: usize, y: usize) -> bool
+    requires ready { IsReady job.now values.now }
+    requires shows { Shows job.now values.now time field.now.planes }
+    requires sought { IsSought job.now time Kind.Edge }
+    requires place { (x < job.now.area.w + 2) × (y < job.now.area.h + 2) }
+    ensures { result ≡ true → HasEdgeAt job.now values.now time x y }
+{
+    let area = job.area();
+    if x == 0 || y == 0 {
+        return true;
+    }
+    if area.w as usize <= x - 1 || area.h as usize <= y - 1 {
+        return true;
+    }
+    cell_fault(field, values, job, time, Kind::Edge, x - 1, y - 1).is_none()
+}
+
+// Whether the two cells of a row, counted from the halo, that stand in a column of the planes carry what their edge signals say, where
+// they are in the ring.
+fn are_both_right(
+    field: &Field,
+    values: &Values,
+    job: &Job,
+    time: u32,
+    column: usize,
+    y: usize,
+) -> bool
+    requires ready { IsReady job.now values.now }
+    requires shows { Shows job.now values.now time field.now.planes }
+    requires sought { IsSought job.now time Kind.Edge }
+    requires place { (column < job.now.area.w / 2 + 1) × (y < job.now.area.h + 2) }
+    ensures left { result ≡ true → HasEdgeAt job.now values.now time (2 * column) y }
+    ensures right { result ≡ true → HasEdgeAt job.now values.now time (2 * column + 1) y }
+{
+    is_edge_right(field, values, job, time, 2 * column, y)
+        && is_edge_right(field, values, job, time, 2 * column + 1, y)
+}
+
+// Whether the cells of the ring in a column and row of the planes carry what their edge signals say.
+fn are_edges_right_in(
+    field: &Field,
+    values: &Values,
+    job: &Job,
+    time: u32,
+    column: usize,
+    row: usize,
+) -> bool
+    requires ready { IsReady job.now values.now }
+    requires shows { Shows job.now values.now time field.now.planes }
+    requires lines { AreLines job.now time field.now.line_marks.items }
+    requires sought { IsSought job.now time Kind.Edge }
+    requires place { (column < job.now.area.w / 2 + 1) × (row < job.now.area.h / 2 + 1) }
+    ensures { result ≡ true → HasEdgesIn job.now values.now time column row }
+{
+    if is_silent(field, values, job, time, column, row) {
+        return true;
+    }
+    are_both_right(field, values, job, time, column, 2 * row)
+        && are_both_right(field, values, job, time, column, 2 * row + 1)
+}
+
+/// Whether the cells of the ring carry what their edge signals say.
+pub fn are_edges_right(field: &Field, values: &Values, job: &Job, time: u32) -> bool
+    requires ready { IsReady job.now values.now }
+    requires shows { Shows job.now values.now time field.now.planes }
+    requires lines { AreLines job.now time field.now.line_marks.items }
+    requires sought { IsSought job.now time Kind.Edge }
+    ensures { result ≡ true → IsFree job.now values.now time Kind.Edge }
+{
+    let area = job.area();
+    let right = area.w as usize / 2;
+    let bottom = area.h as usize / 2;
+    'rows: for row in 0..bottom + 1 {
+        let stride = if 0 < row && row < bottom { right } else { 1 };
+        let mut column = 0;
+        'columns: while column <= right {
+            if !are_edges_right_in(field, values, job, time, column, row) {
+                return false;
+            }
+            column += stride;
+        }
+    }
+    true
 }
 
 // The least assignment under which the cell of a stop is not as its wire, at the stop's time.

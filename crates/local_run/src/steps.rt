@@ -1,7 +1,8 @@
 //! The start of a run over planes, and its steps.
-ghost use Rattle.std.specs.Prelude.{◌≡◌, ◌+◌, ◌/◌, ◌%◌, ◌<◌, ◌≤◌, true, false};
+ghost use Rattle.std.specs.Prelude.{◌≡◌, ◌+◌, ◌*◌, ◌/◌, ◌%◌, ◌<◌, ◌≤◌, true, false};
 ghost use Rattle.local_run.specs.Lanes.{HasSize};
-ghost use Rattle.local_run.specs.Scans.{HasHalo, HasHaloAt, IsReady, IsSilent, SameElsewhere, Shows};
+ghost use Rattle.local_run.specs.Quiet.{AreLines};
+ghost use Rattle.local_run.specs.Scans.{HasHalo, HasHaloAt, HasHaloIn, IsReady, IsSilent, SameButIn, SameElsewhere, Shows};
 
 use crate::field::Field;
 use crate::places::{halo_at, start_at};
@@ -24,15 +25,22 @@ pub fn put_start(planes: &mut Planes, values: &Values, job: &Job)
     }
 }
 
-/// Whether a cell, counted from the halo, is known to be dead under each assignment and to have no line.
-pub fn is_silent(field: &Field, values: &Values, job: &Job, x: usize, y: usize) -> bool
+/// Whether the cells in a column and row of the planes are known to be dead under each assignment, and to have no line at the time.
+pub fn is_silent(
+    field: &Field,
+    values: &Values,
+    job: &Job,
+    time: u32,
+    column: usize,
+    row: usize,
+) -> bool
     requires ready { IsReady job.now values.now }
     requires size { HasSize values.now.words (job.now.area.w / 2 + 1) (job.now.area.h / 2 + 1) field.now.planes }
-    requires place { (x < job.now.area.w + 2) × (y < job.now.area.h + 2) }
-    ensures { result ≡ true → IsSilent job.now field.now.planes x y }
+    requires lines { AreLines job.now time field.now.line_marks.items }
+    requires place { (column < job.now.area.w / 2 + 1) × (row < job.now.area.h / 2 + 1) }
+    ensures { result ≡ true → IsSilent job.now time field.now.planes (field.now.planes.stride * row + column) }
 {
-    let u = field.planes().stride() * (y / 2) + x / 2;
-    field.is_dead(u) && !values.is_lined(u)
+    field.is_silent(field.planes().stride() * row + column)
 }
 
 // A cell of the halo becomes what its signal says, where it is one.
@@ -42,14 +50,12 @@ fn put_halo_cell(field: &mut Field, values: &Values, job: &Job, time: u32, x: us
     requires shows { Shows job.now values.now time field.old.planes }
     requires place { (x < job.now.area.w + 2) × (y < job.now.area.h + 2) }
     ensures shows { Shows job.now values.now time field.new.planes }
+    ensures lines { field.new.line_marks ≡ field.old.line_marks }
     ensures here { HasHaloAt job.now values.now time field.new.planes x y }
     ensures rest { SameElsewhere job.now field.old.planes field.new.planes x y }
 {
     let area = job.area();
     if 1 <= x && x <= area.w as usize && 1 <= y && y <= area.h as usize {
-        return;
-    }
-    if is_silent(field, values, job, x, y) {
         return;
     }
     let signal = halo_at(job, time, x, y);
@@ -58,22 +64,45 @@ fn put_halo_cell(field: &mut Field, values: &Values, job: &Job, time: u32, x: us
     }
 }
 
+// The cells of the halo in a column and row of the planes become what their signals say.
+fn put_halo_in(field: &mut Field, values: &Values, job: &Job, time: u32, column: usize, row: usize)
+    requires ready { IsReady job.now values.now }
+    requires shows { Shows job.now values.now time field.old.planes }
+    requires lines { AreLines job.now time field.old.line_marks.items }
+    requires place { (column < job.now.area.w / 2 + 1) × (row < job.now.area.h / 2 + 1) }
+    ensures shows { Shows job.now values.now time field.new.planes }
+    ensures lines { field.new.line_marks ≡ field.old.line_marks }
+    ensures here { HasHaloIn job.now values.now time field.new.planes column row }
+    ensures rest { SameButIn job.now field.old.planes field.new.planes column row }
+{
+    if is_silent(field, values, job, time, column, row) {
+        return;
+    }
+    let x = 2 * column;
+    let y = 2 * row;
+    put_halo_cell(field, values, job, time, x, y);
+    put_halo_cell(field, values, job, time, x + 1, y);
+    put_halo_cell(field, values, job, time, x, y + 1);
+    put_halo_cell(field, values, job, time, x + 1, y + 1);
+}
+
 // The cells of the halo become what their signals say.
 fn put_halo(field: &mut Field, values: &Values, job: &Job, time: u32)
     requires ready { IsReady job.now values.now }
     requires shows { Shows job.now values.now time field.old.planes }
+    requires lines { AreLines job.now time field.old.line_marks.items }
     ensures shows { Shows job.now values.now time field.new.planes }
     ensures halo { HasHalo job.now values.now time field.new.planes }
 {
     let area = job.area();
-    let right = area.w as usize + 1;
-    let bottom = area.h as usize + 1;
-    'rows: for y in 0..bottom + 1 {
-        let stride = if 0 < y && y < bottom { right } else { 1 };
-        let mut x = 0;
-        'cells: while x <= right {
-            put_halo_cell(field, values, job, time, x, y);
-            x += stride;
+    let right = area.w as usize / 2;
+    let bottom = area.h as usize / 2;
+    'rows: for row in 0..bottom + 1 {
+        let stride = if 0 < row && row < bottom { right } else { 1 };
+        let mut column = 0;
+        'columns: while column <= right {
+            put_halo_in(field, values, job, time, column, row);
+            column += stride;
         }
     }
 }
@@ -83,6 +112,7 @@ pub fn odd_time(field: &mut Field, values: &Values, job: &Job, time: u32) -> boo
     requires ready { IsReady job.now values.now }
     requires odd { time % 2 ≡ 1 }
     requires shows { Shows job.now values.now time field.old.planes }
+    requires lines { AreLines job.now time field.old.line_marks.items }
     ensures next { Shows job.now values.now (time + 1) field.new.planes }
     ensures stays { result ≡ false → Shows job.now values.now time field.new.planes }
 {

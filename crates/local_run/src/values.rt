@@ -1,7 +1,6 @@
 //! The values of the wires of a job under all assignments of its cuts.
 ghost use Rattle.std.specs.Prelude.{ℕ, ◌≡◌, ◌≢◌, ◌+◌, ◌*◌, ◌/◌, ◌^◌, ◌<◌, ◌≤◌, false, true, length, IfOk};
 ghost use Rattle.bbm_rule.specs.Bits.{bit};
-ghost use Rattle.bbm_rule.specs.Rows.{cell_at};
 ghost use Rattle.certificate.specs.Jobs.{IsJob};
 ghost use Rattle.certificate.specs.Signals.{is_live};
 ghost use Rattle.local_run.specs.Calm.{ChangesCells};
@@ -9,8 +8,7 @@ ghost use Rattle.local_run.specs.Lanes.{lane};
 ghost use Rattle.local_run.specs.Scans.{HasRow, IsLeastBelow, IsReady, IsShown, PutsCell, is_defined, valuation};
 ghost use Rattle.module_box.specs.LocalValues.{value_of};
 
-use crate::lines::lined_cells;
-use crate::marks::is_marked;
+use crate::lines::held_cells;
 use crate::planes::Planes;
 use certificate::Job;
 use module_box::{Signal, ValueRows};
@@ -25,8 +23,8 @@ pub struct Values {
     // how many assignments there are
     count: usize,
     rows: ValueRows,
-    // marks on the numbers of cells of which an edge or halo line says something
-    lined: Vec<u64>,
+    // marks on the numbers of cells of which an edge or halo line says something at all times
+    held: Vec<u64>,
 }
 
 impl Values {
@@ -39,21 +37,20 @@ impl Values {
         let count = 1usize << wiring.cuts();
         let words = count.div_ceil(64);
         let rows = wiring.value_rows(alloc, words)?;
-        let lined = lined_cells(alloc, job)?;
+        let held = held_cells(alloc, job)?;
         Ok(Values {
             words,
             count,
             rows,
-            lined,
+            held,
         })
     }
 
-    /// Whether an edge or halo line may say something of the cells with number u.
-    pub fn is_lined(&self, u: usize) -> bool
-        requires { u / 64 < length self.now.lined.items }
-        ensures { result ≡ cell_at self.now.lined.items u }
+    /// Marks on the numbers of cells of which an edge or halo line says something at all times.
+    pub fn held(&self) -> &[u64]
+        ensures { result.now ≡ self.now.held.items }
     {
-        is_marked(&self.lined, u)
+        &self.held
     }
 
     /// How many words a wire has.

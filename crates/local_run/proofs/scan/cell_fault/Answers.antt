@@ -6,7 +6,6 @@ use Rattle.local_run.specs.Lanes.{lane}
 use Rattle.local_run.specs.Faults.{assignments}
 use Rattle.local_run.proofs.Firsts.{edge_not_found, end_least, inner_in_box}
 use Rattle.local_run.proofs.Scans.{row_from}
-use Rattle.local_run.proofs.Silence.{no_edge_fault}
 use Rattle.local_run.proofs.scan.cell_fault.Goals as goal
 
 pub returns-in-Dead : goal.returns-in-Dead
@@ -32,10 +31,6 @@ returns-in-Wire c =
 
 pub returns-then-not-is_ring : goal.returns-then-not-is_ring
 returns-then-not-is_ring c = edge_not_found c.args.job.now c.args.values.now _ c.args.time c.args.kind _ _ (sym c.in-Edge.is) (search rules)
-
-pub returns-then-is_silent : goal.returns-then-is_silent
-returns-then-is_silent c =
-    no_edge_fault c.args.job.now c.args.values.now c.args.field.now.planes c.args.time c.args.kind c.args.x c.args.y (sym c.in-Edge.is) c.requires.ready c.requires.shows c.requires.place.0 c.requires.place.1 (c.is_silent.ensures c.if-is_silent.true)
 
 pub first_difference-requires-clause-row : goal.first_difference-requires-clause-row
 first_difference-requires-clause-row c = row_from c.args.values.now (wires c.args.job.now.locals.netlist) c.edge_at.result c.edge_at.ensures.below c.requires.ready.long

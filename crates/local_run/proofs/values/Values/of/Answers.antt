@@ -35,5 +35,5 @@ returns c =
       room = w.2;
       long = (let h = rows.long in omega (arith, h));
       rows = rows;
-      lines = record { room = c.in_ok-lined.ensures.room; quiet = c.in_ok-lined.ensures.quiet };
+      held = c.in_ok-held.ensures;
     }
