@@ -22,8 +22,9 @@ workers_rule = record (new_rule (codes "workers")) {
 abbrev pub check_app : App
 check_app = with_rule (new_app (codes "check")) workers_rule
 
+-- it has `--version`; the commands have no such flag
 abbrev pub top_app : App
-top_app = on_top (λ s. record s { no_binary_name = true; subcommand_required = true }) (new_app (codes "bbmcheck"))
+top_app = on_top (λ s. record s { no_binary_name = true; subcommand_required = true; has_version = true }) (new_app (codes "bbmcheck"))
 
 -- the commands, of which `check` has an option
 abbrev pub bbmcheck : App

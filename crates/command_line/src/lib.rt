@@ -1,6 +1,8 @@
 //! What the words of a command line ask for.
 #![tactic(auto)]
 
+mod texts;
+
 ghost use Rattle.std.specs.Prelude.{◌≡◌, ◌≤◌, IfOk, map, false};
 ghost use Rattle.clap.specs.Words.{FailsBy, app_of, fault_of, new_app, rule_of};
 ghost use Rattle.clap.specs.declared.builder.command.Command.TheViews.{out-Command as fields_of};
@@ -60,10 +62,30 @@ fn command<'a>(alloc: Global) -> Result<Command<'a>, AllocError>
 {
     top(alloc)?
         .subcommand(check(alloc)?)?
-        .subcommand(plain(alloc, "run", "Runs a layout under an assignment"))?
-        .subcommand(plain(alloc, "value", "Evaluates a circuit under an assignment"))?
-        .subcommand(plain(alloc, "modules", "Lists the modules of a certificate"))?
-        .subcommand(plain(alloc, "migrate", "Writes a bundle in certificate version 2"))
+        .subcommand(plain(
+            alloc,
+            "run",
+            "Runs a layout under an assignment",
+            texts::RUN,
+        ))?
+        .subcommand(plain(
+            alloc,
+            "value",
+            "Evaluates a circuit under an assignment",
+            texts::VALUE,
+        ))?
+        .subcommand(plain(
+            alloc,
+            "modules",
+            "Lists the modules of a certificate",
+            texts::MODULES,
+        ))?
+        .subcommand(plain(
+            alloc,
+            "migrate",
+            "Writes a bundle in certificate version 2",
+            texts::MIGRATE,
+        ))
 }
 
 // The command line without its commands.
@@ -74,6 +96,8 @@ fn top<'a>(alloc: Global) -> Result<Command<'a>, AllocError>
     Ok(
         named
             .about("Checks billiard ball patterns, over standard input and output")
+            .after_help(texts::ALL)
+            .version(texts::VERSION)
             .no_binary_name(true)
             .subcommand_required(true),
     )
@@ -88,6 +112,7 @@ fn check<'a>(alloc: Global) -> Result<Command<'a>, AllocError>
         alloc,
         "check",
         "Checks a layout against its circuit by a certificate",
+        texts::CHECK,
     )
     .arg(workers(alloc))
 }
@@ -106,9 +131,9 @@ fn workers<'a>(alloc: Global) -> Arg<'a>
 }
 
 // A command without options.
-fn plain<'a>(alloc: Global, name: &'a str, about: &'a str) -> Command<'a>
+fn plain<'a>(alloc: Global, name: &'a str, about: &'a str, more: &'a str) -> Command<'a>
     ensures app { app_of result ≡ new_app name.entry.now }
     ensures local { (fields_of result).has_globals ≡ false }
 {
-    Command::new(alloc, name).about(about)
+    Command::new(alloc, name).about(about).after_help(more)
 }

@@ -1,10 +1,12 @@
 -- clap's parse succeeds only where nothing is wrong with the words, and then the text of `--workers` is a number that its parser lets
 -- through.
-use Rattle.std.proofs.Common.{◌≡◌, ◌∙◌, refl, sym, ap, ap₂, codes, map, true, true≢false, []}
+use Rattle.std.proofs.Common.{◌≡◌, ◌∙◌, rules, List, Option, Some, None, refl, sym, ap, ap₂, codes, map, true, true≢false, []}
+use Rattle.std.specs.Prelude.{option_map}
 use Rattle.std.specs.Option.{option_map_or}
 use Rattle.std.specs.Str.Parse.{ExplainsUnsignedError, HasUnsignedDigitsIfOk, ParsesUnsigned}
-use Rattle.clap.specs.Words.{fault_of, found_of, is_simple, is_simple_and_free, one_text, subcommand_of, subcommand_rows_of}
-use Rattle.command_line.specs.CommandLine.{bbmcheck, number_in}
+use Rattle.clap.specs.Words.{Row, Text, fault_of, found_of, is_simple, is_simple_and_free, one_text, subcommand_of, subcommand_rows_of}
+use Rattle.command_line.specs.CommandLine.{bbmcheck, number_in, request_named}
+use Rattle.command_line.specs.declared.Request.TheVariants.{Run}
 use Rattle.clap.proofs.OnLiterals.{clap_on_literals}
 use Rattle.clap.proofs.WalkLemmas.{one_text-rows}
 use Rattle.command_line.proofs.WorkersRead.{asked_in_range, name_by_rows, no_text, number_read, text_of_check}
@@ -22,6 +24,20 @@ simple = refl
 pub returns-clause-fails : goal.returns-clause-fails
 returns-clause-fails c =
     sym (ap₂ fault_of c.in_ok-command.ensures refl) ∙ c.in_ok-matches.ensures.kinds (ap is_simple_and_free c.in_ok-command.ensures ∙ is_free)
+
+-- the request by the name that was met
+by_name : (met : Option (Text × List Row)) (name : Option Text) → name ≡ option_map (λ p. p.0) met
+    → option_map_or request_named name Run ≡ option_map_or (λ p. request_named p.0) met Run
+by_name None name same = rw same refl
+by_name (Some p) name same = rw same refl
+
+pub returns-clause-request : goal.returns-clause-request
+returns-clause-request c =
+    let words = map (λ s. s.now) c.args.words.now in
+    let met : subcommand_rows_of c.in_ok-matches.matches ≡ subcommand_of bbmcheck words =
+    (c.in_ok-matches.ensures.matches (ap is_simple c.in_ok-command.ensures ∙ simple)).1 ∙ ap₂ subcommand_of c.in_ok-command.ensures refl in
+    let name = c.subcommand_name.ensures ∙ name_by_rows c.in_ok-matches.matches ∙ ap (option_map (λ p. p.0)) met in
+    rw (← by_name (subcommand_of bbmcheck words) _ name) (search rules)
 
 pub returns-clause-number : goal.returns-clause-number
 returns-clause-number c =
