@@ -23,8 +23,28 @@ struct Command {
     answer: &'static str,
 }
 
-const HELP: &str =
-    "Evaluates a circuit under an assignment\n\nUsage: bbmcheck value\n\nOptions:\n  -h, --help  Print help\n";
+const HELP: &str = concat!(
+    "Evaluates a circuit under an assignment\n",
+    "\n",
+    "Usage: bbmcheck value\n",
+    "\n",
+    "Options:\n",
+    "  -h, --help  Print help\n",
+    "\n",
+    "Reads: a circuit and an assign section, which names the inputs that are on\n",
+    "Writes: the value of each wire, up to a gate that has no row for what it is fed\n",
+    "\n",
+    "Exit statuses:\n",
+    "  0  each wire has its value\n",
+    "  1  a gate has no row for what it is fed\n",
+    "  2  the words of the command were refused\n",
+    "  3  the text was refused, with the line `refused LINE CODE`\n",
+    "  4  a read or a write failed, or the text is longer than 16 MiB\n",
+    "  5  memory ran out\n",
+    "\n",
+    "Example:\n",
+    "  bbmcheck value < circuit_and_assign.txt\n",
+);
 
 // The last one reads nothing.
 const COMMANDS: [Command; 4] = [

@@ -14,7 +14,7 @@ fn read(alloc: Global, words: &[&str]) -> Read {
     }
 }
 
-const WORDS: [(&[&str], Read); 25] = [
+const WORDS: [(&[&str], Read); 29] = [
     (&["run"], Ok((Request::Run, 1))),
     (&["value"], Ok((Request::Value, 1))),
     (&["modules"], Ok((Request::Modules, 1))),
@@ -28,6 +28,10 @@ const WORDS: [(&[&str], Read); 25] = [
     (&["prove"], Err(ErrorKind::InvalidSubcommand)),
     (&["run", "x"], Err(ErrorKind::UnknownArgument)),
     (&["--help"], Err(ErrorKind::DisplayHelp)),
+    (&["check", "-h"], Err(ErrorKind::DisplayHelp)),
+    (&["--version"], Err(ErrorKind::DisplayVersion)),
+    (&["-V"], Err(ErrorKind::DisplayVersion)),
+    (&["check", "--version"], Err(ErrorKind::UnknownArgument)),
     (&["check", "--workers", "0"], VALUE),
     (&["check", "--workers", "65"], VALUE),
     (&["check", "--workers", "1.5"], VALUE),
