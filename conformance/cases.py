@@ -1,0 +1,72 @@
+"""Worked cases: reads them from the repository's files and from case folders.
+
+A Case has a name, the words of a command, what it is given on standard input, and what it must do: the exit status, and the bytes of
+standard output and of standard error. Where one of these two is None, anything may be written there.
+"""
+import collections
+import re
+from pathlib import Path
+
+DATA = Path(__file__).resolve().parent.parent / "crates" / "worked_rows" / "data"
+# In this order: those of the specification, those that were written by hand, random bundles.
+FILES = [DATA / name for name in ("cases.txt", "by_hand.txt", "reports.txt")]
+COMMANDS = ("run", "value", "check", "modules", "migrate")
+TEXT = re.compile(rb"(?:([0-9]+) times )?(?:\| ?(?P<line>.*)|\\ (?P<piece>.*))\Z", re.DOTALL)
+PARTS = {b"input": "input", b"output": "output", b"errors": "errors"}
+
+Case = collections.namedtuple("Case", "name words input status output errors")
+
+
+def is_about_texts(case):
+    """Whether it is about a text, and not about the words of a command alone."""
+    return bool(case.words) and case.words[0] in COMMANDS and case.status != 2 and "--help" not in case.words
+
+
+def cases_of_file(path):
+    """The cases of a file in the form that crates/case_text/src/lib.rt tells."""
+    found, part = [], None
+    for line in path.read_bytes().split(b"\n"):
+        word, _, rest = line.partition(b" ")
+        text = TEXT.match(line)
+        if not line or line.startswith(b"#"):
+            continue
+        if text:
+            piece = text["piece"] if text["line"] is None else text["line"] + b"\n"
+            found[-1][part] += piece * int(text[1] or 1)
+        elif line in PARTS:
+            part = PARTS[line]
+            found[-1][part] = b""
+        elif word == b"case":
+            found.append({"name": rest.decode(), "words": [], "input": b"", "status": 0, "output": None, "errors": None})
+        elif word == b"words":
+            found[-1]["words"] = rest.decode().split()
+        elif word == b"status":
+            found[-1]["status"] = int(rest)
+        else:
+            raise ValueError(f"{path.name}: no such line: {line!r}")
+    return [Case(**case) for case in found]
+
+
+def all_cases():
+    return [case for path in FILES for case in cases_of_file(path)]
+
+
+def bytes_or_none(path):
+    return path.read_bytes() if path.exists() else None
+
+
+def case_of_folder(folder):
+    """The case of a folder with args, stdin, status, and maybe stdout and stderr."""
+    return Case(folder.name, (folder / "args").read_text().split(), (folder / "stdin").read_bytes(), int((folder / "status").read_text()),
+                bytes_or_none(folder / "stdout"), bytes_or_none(folder / "stderr"))
+
+
+def write_folder(case, folder):
+    """The case as a folder."""
+    folder.mkdir(parents=True)
+    (folder / "args").write_text(" ".join(case.words) + "\n")
+    (folder / "stdin").write_bytes(case.input)
+    (folder / "status").write_text(f"{case.status}\n")
+    for name, wanted in (("stdout", case.output), ("stderr", case.errors)):
+        if wanted is not None:
+            (folder / name).write_bytes(wanted)

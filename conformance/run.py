@@ -1,0 +1,78 @@
+#!/usr/bin/env python3
+"""conformance/run.py PROGRAM [FOLDER..] [--commands A,B] [--all] [--seconds N] [--jobs N]
+
+Runs PROGRAM on each worked case and compares the exit status and standard output. Prints a line for each case that does not hold, and last
+how many held. The status is 0 where all did.
+
+Without FOLDER the cases are those of the repository. With it they are the case folders at or below each FOLDER, such as conformance/unpack.py
+writes. --commands takes the cases of these commands alone. --all also takes the cases that are about the words of a command and no text,
+and compares standard error where a case says what it is: both are this project's own. A case has 120 seconds, or N. Two run at a time, or N.
+"""
+import argparse
+import subprocess
+import sys
+from concurrent.futures import ThreadPoolExecutor
+from pathlib import Path
+
+sys.dont_write_bytecode = True
+sys.path.insert(0, str(Path(__file__).resolve().parent))
+from cases import COMMANDS, all_cases, case_of_folder, is_about_texts  # noqa: E402
+
+
+def short(line):
+    text = "nothing" if line is None else repr(line)[1:]
+    return text if len(text) <= 70 else text[:67] + "..."
+
+
+def difference(what, wanted, got):
+    """The first line in which two texts differ."""
+    wanted, got = wanted.splitlines(keepends=True), got.splitlines(keepends=True)
+    same = next((at for at, pair in enumerate(zip(wanted, got)) if pair[0] != pair[1]), min(len(wanted), len(got)))
+    first = [lines[same] if same < len(lines) else None for lines in (wanted, got)]
+    return f"line {same + 1} of {what}: wanted {short(first[0])}, got {short(first[1])}"
+
+
+def fault_of(program, case, errors, seconds):
+    """What the program does on a case that it must not do, or None."""
+    try:
+        ended = subprocess.run([program, *case.words], input=case.input, capture_output=True, timeout=seconds, check=False)
+    except subprocess.TimeoutExpired:
+        return f"it had not ended after {seconds} seconds"
+    except BrokenPipeError:
+        return "it ended before it had read its text"
+    if ended.returncode != case.status:
+        return f"the status is {ended.returncode} and not {case.status}"
+    if case.output is not None and case.output != ended.stdout:
+        return difference("standard output", case.output, ended.stdout)
+    if errors and case.errors is not None and case.errors != ended.stderr:
+        return difference("standard error", case.errors, ended.stderr)
+    return None
+
+
+def chosen(options):
+    folders = sorted({path.parent for folder in options.folders for path in folder.glob("**/args")})
+    cases = [case_of_folder(folder) for folder in folders] if options.folders else all_cases()
+    return [case for case in cases if options.all or is_about_texts(case) and case.words[0] in options.commands]
+
+
+def main():
+    parser = argparse.ArgumentParser(usage=__doc__)
+    parser.add_argument("program", type=Path)
+    parser.add_argument("folders", nargs="*", type=Path)
+    parser.add_argument("--commands", type=lambda names: names.split(","), default=COMMANDS)
+    parser.add_argument("--all", action="store_true")
+    parser.add_argument("--seconds", type=int, default=120)
+    parser.add_argument("--jobs", type=int, default=2)
+    options = parser.parse_args()
+    program, cases, failed = options.program.resolve(), chosen(options), 0
+    with ThreadPoolExecutor(max_workers=options.jobs) as pool:
+        faults = pool.map(lambda case: fault_of(program, case, options.all, options.seconds), cases)
+        for case, fault in zip(cases, faults):
+            if fault:
+                failed += 1
+                print(f"{case.name}: {fault}")
+    print(f"{len(cases) - failed} held, {failed} failed")
+    return 1 if failed or not cases else 0
+
+
+sys.exit(main())
