@@ -9,8 +9,8 @@ rectangle into boxes of W by H cells, even numbers from 2 to 64, and smaller one
 `run`; left out: ./bbmcheck beside this folder) run the whole pattern under each assignment of the inputs, of which there may be ten, up
 to each odd time. So it learns under which assignments each cell is live, and looks for a wire that is true under just these. Then
 
-- a cell of a ring that is live at an odd time gets an `edge` line: with `1` where it is always live, with `*` for its time where it
-  is so at each odd time, and else with its wire;
+- a cell of a ring that is live at an odd time gets an `edge` line: with `1` where it is always live, for all times in one (`*`)
+  where it is so at each of several odd times, and else with its wire;
 - a module knows the wires of its ports, of its edge lines, and of the edge lines beside it: it uses the gates that make them, the
   gates that make what these use, and so on, and cuts the inputs at which that ends. So it tries no assignment that the circuit
   never has;
@@ -174,7 +174,7 @@ def find_edges(modules, layout, tables):
         for time in times:
             for cell in sorted(module.ring & tables.cells(time).keys(), key=by_row):
                 module.edges[time, cell] = tables.signal(time, cell)
-        module.held = {cell for cell in module.ring if times and all(module.edges.get((time, cell)) == "1" for time in times)}
+        module.held = {cell for cell in module.ring if len(times) > 1 and all(module.edges.get((time, cell)) == "1" for time in times)}
         module.edges = {(time, cell): signal for (time, cell), signal in module.edges.items() if cell not in module.held}
 
 
