@@ -2,21 +2,22 @@
 """tools/documented_commands.py [PROGRAM] [--list]
 
 Runs the commands that README.md and the pages of docs/, examples/ and conformance/ show, in a folder of its own where ./bbmcheck is PROGRAM
-(left out: the proved program), and compares what they write with what the page shows. Prints each that differs, and last how many there were.
+(left out: the proved program), and compares what they write with what the page shows. Prints each that differs, and last how many there
+were.
 
-A command is a line of a fenced block, or a piece of code in a sentence, that begins with ./bbmcheck or with a script of examples/ or conformance/
-and has words behind it. What a page shows of its output is
+A command is a line of a fenced block, or a piece of code in a sentence, that begins with ./bbmcheck or with a script of examples/,
+conformance/ or tools/ and has words behind it. What a page shows of its output is
 
 - in a block, what stands below a line that begins with `$ `;
 - for a paragraph with a command that ends in a colon, the block below it;
 - for a paragraph with one command, pieces of code right behind the word "prints": they are lines of the output;
-- for a row of a table whose first piece of code is a text, the pieces of code in its last column: they are lines of what the command that the page
-  named last writes of that text. Of `check` they are all lines after the third.
+- for a row of a table whose first piece of code is a text, the pieces of code in its last column: they are lines of what the command
+  that the page named last writes of that text. Of `check` they are all lines after the third.
 
-What ./bbmcheck writes of a text is compared with the plain programs of tools/ as well, whatever the page shows, and its exit status too. Other
-commands are to end with status 0, but where the page says another one beside them. A block that begins with a section's header stands in a
-text of examples/. Words in capitals stand for others: such a command is a form, and not run. What is listed in ELSEWHERE is run by another
-part of the gate. --list prints the commands and runs none.
+What ./bbmcheck writes of a text is compared with the plain programs of tools/ as well, whatever the page shows, and its exit status too.
+Other commands are to end with status 0, but where the page says another one beside them. A block that begins with a section's header
+stands in a text of examples/. Words in capitals stand for others: such a command is a form, and not run. What ELSEWHERE fits is run by
+another part of the gate; so are commands of the kit (`rt`) and .ci/run, which comes here. --list prints the commands and runs none.
 """
 import argparse
 import re
@@ -36,14 +37,14 @@ import reference_reports  # noqa: E402
 
 PAGES = ["README.md", "examples/README.md", "docs/*.md", "conformance/README.md", "CHANGELOG.md", "CONTRIBUTING.md"]
 WORDS = "check|run|value|modules|migrate"
-SCRIPT = r"(?:examples|conformance)/\w+\.py"
+SCRIPT = r"(?:examples|conformance|tools)/\w+(?:\.py)?"
 COMMAND = re.compile(rf"(?:\./bbmcheck|{SCRIPT}|sed|cp) .*\S")
 BARE, CAPITALS = re.compile(rf"\./bbmcheck (?:{WORDS})"), re.compile(r"\b[A-Z]+\b")
 LISTED = re.compile(r"prints ((?:`[^`]+`(?:, | and )?)+)")
 OVER_A_TEXT = re.compile(rf"\./bbmcheck ({WORDS})(?: --workers \d+)? < (\S+)")
 SECTION = re.compile(r"circuit|layout \d+ \d+ \d+|assign|certificate \d|module( \d+){4}")
-# tools/gate_extras runs it with --all.
-ELSEWHERE = {"conformance/run.py ./bbmcheck"}
+# tools/gate_extras runs these, the first with --all.
+ELSEWHERE = re.compile(r"conformance/run\.py \./bbmcheck|tools/refuse_growths_in_tests .*")
 SECONDS = 120
 
 # where it stands; what is run; the output that is shown, a text, or a list of its lines, or None; and the status that is told, or None
@@ -191,7 +192,7 @@ def main():
     for path in sorted(path for page in PAGES for path in TOP.glob(page)):
         for found, all_found in zip(of_page(path.relative_to(TOP), path.read_text()), (shown, sections)):
             all_found += found
-    shown = [one for one in shown if not is_form(one.command) and one.command not in ELSEWHERE]
+    shown = [one for one in shown if not is_form(one.command) and not ELSEWHERE.fullmatch(one.command)]
     if options.list:
         print("".join(f"{one.place}: {one.command}{'' if one.output is None else '    # with its output'}\n" for one in shown), end="")
         return 0
