@@ -1,9 +1,9 @@
 #!/usr/bin/env python3
-"""make_module.py SIDE CUTS STEPS [ACROSS [equal]]: writes a bundle of ACROSS by ACROSS modules (one by default) of SIDE by SIDE
+"""make_module.py SIDE CUTS STEPS [ACROSS [BALLS]] [equal]: writes a bundle of ACROSS by ACROSS modules (one by default) of SIDE by SIDE
 cells, which have no fault: each another one, or all of one shape. It is the same bundle each time.
 
-Mirrors wall each module off. Inside the walls there are some more mirrors and an input cell for each cut, whose balls run for all
-steps. Every cell inside that is no mirror is waste, so whatever is live there at the end is no fault.
+Mirrors wall each module off. Inside the walls there are some more mirrors, an input cell for each cut and BALLS constant balls (none by
+default), which run for all steps. Every cell inside that is no mirror is waste, so whatever is live there at the end is no fault.
 """
 import random
 import sys
@@ -23,8 +23,8 @@ def walls(side):
     ]
 
 
-def module(rng, side, cuts):
-    """The mirrors, the input cells and the waste cells of one module."""
+def module(rng, side, cuts, balls):
+    """The mirrors, the input cells, the balls and the waste cells of one module."""
     mirrors = walls(side)
     lit = set().union(*(cells_of(*mirror) for mirror in mirrors))
     inside = cells_of(4, 3, side - 8, side - 6)
@@ -34,24 +34,27 @@ def module(rng, side, cuts):
             mirrors.append(mirror)
             lit |= cells_of(*mirror)
     free = sorted(inside - lit)
-    return mirrors, rng.sample(free, cuts), free
+    starts = rng.sample(free, cuts + balls)
+    return mirrors, starts[:cuts], starts[cuts:], free
 
 
-def bundle(rng, side, cuts, steps, across=1, are_equal=False):
+def bundle(rng, side, cuts, steps, across=1, balls=0, are_equal=False):
     names = [f"i{k}" for k in range(cuts)]
-    mirrors, ins, wastes, modules = [], [], [], []
-    first = module(rng, side, cuts)
+    mirrors, ins, constants, wastes, modules = [], [], [], [], []
+    first = module(rng, side, cuts, balls)
     for top in range(0, side * across, side):
         for left in range(0, side * across, side):
-            own, starts, free = first if are_equal or not modules else module(rng, side, cuts)
+            own, starts, fixed, free = first if are_equal or not modules else module(rng, side, cuts, balls)
             mirrors += [f"mirror {left + x} {top + y} {w} {h}" for x, y, w, h in own]
             ins += [f"in {name} {left + x} {top + y}" for name, (x, y) in zip(names, starts)]
+            constants += [f"ball {left + x} {top + y}" for x, y in fixed]
             wastes += [f"waste {left + x} {top + y}" for x, y in free]
             modules += [f"module {left} {top} {side} {side}", *(f"cut {name}" for name in names)]
     lines = ["circuit", *(f"input {name}" for name in names), *(f"spill {name}" for name in names), "end"]
-    lines += [f"layout {side * across} {side * across} {steps}", *mirrors, *ins, *wastes, "end"]
+    lines += [f"layout {side * across} {side * across} {steps}", *mirrors, *constants, *ins, *wastes, "end"]
     lines += ["certificate 1", *modules, "end"]
     return "".join(line + "\n" for line in lines)
 
 
-sys.stdout.write(bundle(random.Random(1982), *map(int, sys.argv[1:5]), are_equal=sys.argv[5:] == ["equal"]))
+numbers = [int(word) for word in sys.argv[1:] if word != "equal"]
+sys.stdout.write(bundle(random.Random(1982), *numbers, are_equal="equal" in sys.argv))

@@ -1,5 +1,8 @@
-//! The findings of a bundle's modules in plain Rust, by the same dense algorithm as the proved program and without proofs, to
-//! measure it against. The bundle must be good: its lines are not tested.
+//! The findings of a bundle's modules in plain Rust, by the same algorithm as the proved program and without proofs, to measure it
+//! against. The bundle must be good: its lines are not tested.
+//!
+//! Blocks that stay, silent cells of ring and halo, and quiet times are passed over; where many blocks change, whole planes are turned.
+//! Modules of one shape are run each.
 
 mod plain_rule;
 
@@ -206,6 +209,26 @@ impl Schedule {
         let found = self.events.binary_search_by_key(&(time, (y, x)), |event| event.0);
         found.map_or(ZERO, |k| self.events[k].1)
     }
+
+    /// The events from this time on.
+    fn from(&self, time: usize) -> &[((usize, Place), Row)] {
+        &self.events[self.events.partition_point(|event| event.0.0 < time)..]
+    }
+
+    /// The cells of which something is said at all times.
+    fn held_cells(&self) -> impl Iterator<Item = Place> + '_ {
+        self.held.iter().map(|held| (held.0.1, held.0.0))
+    }
+
+    /// The cells of which something is said at this time alone.
+    fn cells_at(&self, time: usize) -> impl Iterator<Item = Place> + '_ {
+        self.from(time).iter().take_while(move |event| event.0.0 == time).map(|event| (event.0.1.1, event.0.1.0))
+    }
+
+    /// The next time from this one on of which something is said, or the end.
+    fn next_time(&self, time: usize, end: usize) -> usize {
+        self.from(time).first().map_or(end, |event| event.0.0.min(end))
+    }
 }
 
 // ---- planes
@@ -255,6 +278,26 @@ impl Planes {
         plane[at..at + self.words].copy_from_slice(row);
     }
 
+    fn cells(&self) -> usize {
+        self.odd.len() / self.words
+    }
+
+    /// The words of the corners of block u of the odd partition, or of the even one.
+    fn block(&mut self, u: usize, is_odd: bool) -> [&mut [u64]; 4] {
+        let (w, s) = (self.words, self.stride);
+        let [a, b, c, d] = if is_odd { [u; 4] } else { [u, u + 1, u + s, u + s + 1] }.map(|v| v * w..v * w + w);
+        if is_odd {
+            [&mut self.odd[a], &mut self.right[b], &mut self.down[c], &mut self.even[d]]
+        } else {
+            [&mut self.even[a], &mut self.down[b], &mut self.right[c], &mut self.odd[d]]
+        }
+    }
+
+    fn is_dead(&self, u: usize) -> bool {
+        let at = u * self.words..(u + 1) * self.words;
+        [&self.odd, &self.right, &self.down, &self.even].iter().all(|plane| plane[at.clone()].iter().all(|word| *word == 0))
+    }
+
     /// Turns the blocks of box and halo.
     fn odd_step(&mut self) {
         turn_lanes(&mut self.odd, &mut self.right, &mut self.down, &mut self.even);
@@ -273,6 +316,121 @@ impl Planes {
     }
 }
 
+// ---- marks
+
+/// A bit for each of some numbers.
+struct Marks(Vec<u64>);
+
+impl Marks {
+    fn all(count: usize) -> Marks {
+        Marks(vec![!0; count.div_ceil(64)])
+    }
+
+    fn set(&mut self, at: usize) {
+        self.0[at / 64] |= 1 << (at % 64);
+    }
+
+    fn clear(&mut self, at: usize) {
+        self.0[at / 64] &= !(1 << (at % 64));
+    }
+
+    fn has(&self, at: usize) -> bool {
+        self.0[at / 64] >> (at % 64) & 1 == 1
+    }
+
+    /// The first number from `from` on that has a mark.
+    fn next(&self, from: usize) -> Option<usize> {
+        let mut rest = *self.0.get(from / 64)? & (!0 << (from % 64));
+        let mut word = from / 64;
+        while rest == 0 {
+            word += 1;
+            rest = *self.0.get(word)?;
+        }
+        Some(64 * word + rest.trailing_zeros() as usize)
+    }
+}
+
+/// Planes with marks on the blocks that a turn may change, on the numbers of cells that may be live, and on those that have lines.
+struct Field {
+    planes: Planes,
+    odd: Marks,
+    even: Marks,
+    live: Marks,
+    lined: Marks,
+    /// How many of the next steps turn whole planes.
+    rush: usize,
+}
+
+impl Field {
+    fn new(planes: Planes) -> Field {
+        let all = || Marks::all(planes.cells());
+        let (odd, even, live, lined) = (all(), all(), all(), all());
+        Field { planes, odd, even, live, lined, rush: 0 }
+    }
+
+    fn is_silent(&self, u: usize) -> bool {
+        !self.live.has(u) && !self.lined.has(u)
+    }
+
+    fn put(&mut self, x: usize, y: usize, row: &[u64]) {
+        let s = self.planes.stride;
+        let u = s * (y / 2) + x / 2;
+        self.odd.set(u);
+        self.live.set(u);
+        [0, 1, s, s + 1].iter().filter_map(|d| u.checked_sub(*d)).for_each(|v| self.even.set(v));
+        self.planes.put(x, y, row);
+    }
+
+    /// Turns a block, unless it stays, and tells whether it turned it.
+    fn turn(&mut self, u: usize, is_odd: bool) -> bool {
+        let s = self.planes.stride;
+        let [a, b, c, d] = self.planes.block(u, is_odd);
+        if (0..a.len()).all(|k| a[k] | d[k] == b[k] | c[k]) {
+            if !is_odd {
+                self.even.clear(u);
+                return false;
+            }
+            self.odd.clear(u);
+            if self.planes.is_dead(u) {
+                self.live.clear(u);
+            }
+            return false;
+        }
+        turn_lanes(a, b, c, d);
+        for v in [0, 1, s, s + 1] {
+            if is_odd {
+                u.checked_sub(v).into_iter().for_each(|v| self.even.set(v));
+            } else {
+                self.odd.set(u + v);
+                self.live.set(u + v);
+            }
+        }
+        true
+    }
+
+    /// A step. Tells whether a cell of the box may have changed.
+    fn step(&mut self, is_odd: bool) -> bool {
+        let (words, stride, cells) = (self.planes.words, self.planes.stride, self.planes.cells());
+        if self.rush > 0 {
+            self.rush -= 1;
+            let marks = [&mut self.odd, &mut self.even, &mut self.live];
+            marks.into_iter().for_each(|marks| marks.0.fill(!0));
+            if is_odd { self.planes.odd_step() } else { self.planes.even_step() }
+            return true;
+        }
+        let end = if is_odd { cells } else { cells - stride - 1 };
+        let (mut changed, mut from) = (0, 0);
+        while let Some(u) = if is_odd { self.odd.next(from) } else { self.even.next(from) }.filter(|u| *u < end) {
+            changed += usize::from(self.turn(u, is_odd) && (is_odd || (u + 1) % stride != 0));
+            from = u + 1;
+        }
+        if changed * (40 + 5 * words) > cells * words + 48 * (stride + cells / stride) {
+            self.rush = 62;
+        }
+        changed > 0
+    }
+}
+
 // ---- the run of a module
 
 struct Run<'a> {
@@ -281,7 +439,11 @@ struct Run<'a> {
     values: Values<'a>,
     edges: Schedule,
     halos: Schedule,
-    planes: Planes,
+    field: Field,
+    /// The numbers of cells that have a cell of ring or halo.
+    border: Vec<usize>,
+    /// Marks on the cells of which a line says something at all times.
+    held: Vec<u64>,
 }
 
 /// The cells of the outermost columns and rows, by row.
@@ -295,8 +457,29 @@ impl<'a> Run<'a> {
         let values = Values::of(bundle, module);
         let edges = Schedule::of(&module.edges, &values);
         let halos = Schedule::of(&module.halos, &values);
-        let planes = Planes::new(module.area[2], module.area[3], values.words);
-        Run { bundle, area: module.area, values, edges, halos, planes }
+        let field = Field::new(Planes::new(module.area[2], module.area[3], values.words));
+        let border = ring(module.area[2] / 2 + 1, module.area[3] / 2 + 1).map(|(x, y)| field.planes.stride * y + x).collect();
+        let mut run = Run { bundle, area: module.area, values, edges, halos, field, border, held: vec![] };
+        run.field.lined.0.fill(0);
+        for cell in run.edges.held_cells().chain(run.halos.held_cells()).collect::<Vec<_>>() {
+            run.mark_line(cell);
+        }
+        run.held = run.field.lined.0.clone();
+        run
+    }
+
+    /// Marks a cell of ring or halo that has a line.
+    fn mark_line(&mut self, (x, y): Place) {
+        let [left, top, ..] = self.area;
+        self.field.lined.set(self.field.planes.stride * ((y + 1 - top) / 2) + (x + 1 - left) / 2);
+    }
+
+    /// Marks the cells that have a line at the time.
+    fn look_at(&mut self, time: usize) {
+        self.field.lined.0.copy_from_slice(&self.held);
+        for cell in self.edges.cells_at(time).chain(self.halos.cells_at(time)).collect::<Vec<_>>() {
+            self.mark_line(cell);
+        }
     }
 
     fn cells(&self) -> impl Iterator<Item = Place> + use<> {
@@ -308,30 +491,60 @@ impl<'a> Run<'a> {
         let [left, top, ..] = self.area;
         for (x, y) in self.cells() {
             if let Some(signal) = self.bundle.start.get(&(left + x, top + y)) {
-                self.planes.put(x + 1, y + 1, self.values.row(self.values.names[signal]));
+                self.field.put(x + 1, y + 1, self.values.row(self.values.names[signal]));
             }
         }
     }
 
+    /// The four cells with a number, counted from the halo.
+    fn four(&self, u: usize) -> [Place; 4] {
+        let (x, y) = (2 * (u % self.field.planes.stride), 2 * (u / self.field.planes.stride));
+        [(x, y), (x + 1, y), (x, y + 1), (x + 1, y + 1)]
+    }
+
     fn put_halo(&mut self, time: usize) {
         let [left, top, w, h] = self.area;
-        for (x, y) in ring(w + 2, h + 2) {
-            // what would be left of the rectangle, or above it, has no signal
-            let row = if left + x == 0 || top + y == 0 { ZERO } else { self.halos.at(time, left + x - 1, top + y - 1) };
-            self.planes.put(x, y, self.values.row(row));
+        for k in 0..self.border.len() {
+            let u = self.border[k];
+            if self.field.is_silent(u) {
+                continue;
+            }
+            for (x, y) in self.four(u) {
+                if (1..=w).contains(&x) && (1..=h).contains(&y) {
+                    continue;
+                }
+                // what would be left of the rectangle, or above it, has no signal
+                let row = if left + x == 0 || top + y == 0 { ZERO } else { self.halos.at(time, left + x - 1, top + y - 1) };
+                let row = self.values.row(row);
+                if self.field.planes.cell(x, y) != row {
+                    self.field.put(x, y, row);
+                }
+            }
         }
     }
 
     /// The least assignment under which a cell of the box is not as the row says.
     fn difference(&self, x: usize, y: usize, wanted: Row) -> Option<usize> {
-        let cells = self.planes.cell(x + 1, y + 1);
+        let cells = self.field.planes.cell(x + 1, y + 1);
         let words = cells.iter().zip(self.values.row(wanted)).map(|(a, b)| a ^ b);
         let (k, word) = words.enumerate().find(|(_, word)| *word != 0)?;
         let assignment = 64 * k + word.trailing_zeros() as usize;
         (assignment < self.values.count).then_some(assignment)
     }
 
+    /// Whether the cells of the ring with a number are as their lines say.
+    fn is_edge_right(&self, time: usize, u: usize) -> bool {
+        let [left, top, w, h] = self.area;
+        let in_box = |&(x, y): &Place| (1..=w).contains(&x) && (1..=h).contains(&y);
+        let in_ring = |&(x, y): &Place| x == 1 || x == w || y == 1 || y == h;
+        let as_said = |(x, y): Place| self.difference(x - 1, y - 1, self.edges.at(time, left + x - 1, top + y - 1)).is_none();
+        self.field.is_silent(u) || self.four(u).into_iter().filter(in_box).filter(in_ring).all(as_said)
+    }
+
     fn edge_fault(&self, time: usize) -> Option<(Place, usize)> {
+        if self.border.iter().all(|u| self.is_edge_right(time, *u)) {
+            return None;
+        }
         let [left, top, w, h] = self.area;
         ring(w, h).find_map(|(x, y)| {
             let assignment = self.difference(x, y, self.edges.at(time, left + x, top + y))?;
@@ -353,18 +566,30 @@ impl<'a> Run<'a> {
         })
     }
 
+    /// The next time: the one after this, or, where an odd step and the even one after it changed nothing, that of the next line.
+    fn next_time(&self, time: usize, changed: bool) -> usize {
+        if changed || time % 2 == 1 || time == 0 {
+            return time + 1;
+        }
+        let next = |schedule: &Schedule| schedule.next_time(time - 1, self.bundle.steps);
+        next(&self.edges).min(next(&self.halos)).max(time + 1)
+    }
+
     fn finding(&mut self) -> String {
         self.put_start();
-        for time in 0..self.bundle.steps {
-            if time % 2 == 0 {
-                self.planes.even_step();
-                continue;
+        let (mut time, mut changed) = (0, true);
+        while time < self.bundle.steps {
+            let is_odd = time % 2 == 1;
+            if is_odd {
+                self.look_at(time);
+                if let Some(((x, y), assignment)) = self.edge_fault(time) {
+                    return format!("{time} edge {x} {y} {assignment}");
+                }
+                self.put_halo(time);
             }
-            if let Some(((x, y), assignment)) = self.edge_fault(time) {
-                return format!("{time} edge {x} {y} {assignment}");
-            }
-            self.put_halo(time);
-            self.planes.odd_step();
+            let before = changed;
+            changed = self.field.step(is_odd);
+            time = self.next_time(time, before || changed);
         }
         match self.end_fault() {
             Some(((x, y), assignment)) => format!("{} end {x} {y} {assignment}", self.bundle.steps),
