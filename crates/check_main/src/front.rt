@@ -49,7 +49,7 @@ pub struct Streams<R, W, E> {
 
 /// Does what the words ask for and gives the exit status. The words have no program's name.
 ///
-/// - 0: the command is done, or help was asked for and written
+/// - 0: the command is done, or help or the version was asked for and written
 /// - 1: the verdict is no, or a ball left the rectangle
 /// - 2: the words were refused
 /// - 3: the text was refused, and `writer` was told the line and why
