@@ -261,7 +261,7 @@ fn hands_on_the_number_of_workers(rt: HostRuntime) {
 #[test]
 fn survives_want_of_memory(rt: HostRuntime) {
     for command in &COMMANDS {
-        let (mut room, mut said) = ([0u8; 144], [0u8; 144]);
+        let (mut room, mut said) = ([0u8; 640], [0u8; 144]);
         let mut streams = Streams {
             reader: Over::new(command.text.as_bytes()),
             writer: Over::new(room.as_mut_slice()),
@@ -270,11 +270,11 @@ fn survives_want_of_memory(rt: HostRuntime) {
         let status = program(&rt, rt.alloc(), command.words, &mut streams, &OpenGate);
         let left = streams.writer.into_inner().len();
         if status == 5 {
-            assert!(rt; left == 144);
+            assert!(rt; left == 640);
         } else {
             let answer = command.answer.as_bytes();
             assert!(rt; status == command.status && room.starts_with(answer));
-            assert!(rt; left.checked_add(answer.len()) == Some(144));
+            assert!(rt; left.checked_add(answer.len()) == Some(640));
         }
     }
 }
