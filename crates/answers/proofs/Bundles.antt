@@ -22,9 +22,10 @@ use Rattle.pattern.specs.declared.parts.Part.{Part}
 use Rattle.pattern.specs.declared.parts.Part.TheVariants.{Mirror, Ball, In, Out, Waste}
 use Rattle.pattern.specs.declared.parts.Port.{Port}
 use Rattle.pattern.specs.declared.parts.Extent.{Extent}
-use Rattle.certificate.specs.Entries.{Setting}
-use Rattle.certificate.specs.Grammars.{CertState, certificate_grammar, certificate_value, setting_of}
-use Rattle.certificate.specs.declared.entry.Entry.{Entry}
+use Rattle.certificate_lines.specs.Entries.{Setting}
+use Rattle.certificate.specs.Grammars.{CertState, certificate_grammar, certificate_value}
+use Rattle.certificate_lines.specs.Settings.{setting_of}
+use Rattle.certificate_lines.specs.declared.entry.Entry.{Entry}
 use Rattle.answers.specs.Answers.{Answered}
 use Rattle.answers.specs.BundleReading.{TellsRefusal, bundle_by}
 use Rattle.audit_core.specs.Concluding.{port_names_of}

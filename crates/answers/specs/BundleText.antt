@@ -9,9 +9,10 @@ use Rattle.pattern.specs.Grammars.{layout_grammar}
 use Rattle.pattern.specs.FromLines.{layout_of}
 use Rattle.pattern.specs.declared.parts.Part.{Part}
 use Rattle.pattern.specs.declared.parts.Extent.{Extent}
-use Rattle.certificate.specs.Grammars.{certificate_grammar, setting_of}
+use Rattle.certificate.specs.Grammars.{certificate_grammar}
+use Rattle.certificate_lines.specs.Settings.{setting_of}
 use Rattle.audit_core.specs.Concluding.{port_names_of}
-use Rattle.certificate.specs.declared.entry.Entry.{Entry}
+use Rattle.certificate_lines.specs.declared.entry.Entry.{Entry}
 
 -- what was read of a bundle: the lines of each section
 pub record Bundle : Type 0 where

@@ -2,9 +2,11 @@
 use Rattle.std.specs.Prelude.{◌≡◌, ℕ, List}
 use Rattle.circuit.specs.Bridge.{circuit_of}
 use Rattle.pattern.specs.Grammars.{layout_value}
-use Rattle.certificate.specs.Grammars.{CertState, modules_in, setting_of}
-use Rattle.certificate.specs.Jobs.{JobState, AreJobsOf}
-use Rattle.certificate.specs.Modules.{AreModules}
+use Rattle.certificate.specs.Grammars.{CertState, modules_in}
+use Rattle.certificate_lines.specs.Settings.{setting_of}
+use Rattle.module_job.specs.Jobs.{JobState}
+use Rattle.certificate.specs.Jobs.{AreJobsOf}
+use Rattle.certificate_lines.specs.Modules.{AreModules}
 use Rattle.audit_core.specs.Verdicts.{IsVerdict}
 use Rattle.audit_core.specs.declared.verdict.Verdict.{Verdict}
 use Rattle.audit_core.specs.declared.verdict.Verdict.TheVariants as verdict

@@ -8,8 +8,8 @@ use Rattle.pattern.specs.Text.{part_text, size_words}
 use Rattle.pattern.specs.declared.parts.Extent.{Extent}
 use Rattle.pattern.specs.declared.parts.Part.{Part}
 use Rattle.certificate.specs.Text.{entry_text}
-use Rattle.certificate.specs.Versions.{without_halos}
-use Rattle.certificate.specs.declared.entry.Entry.{Entry}
+use Rattle.certificate_lines.specs.Versions.{without_halos}
+use Rattle.certificate_lines.specs.declared.entry.Entry.{Entry}
 use Rattle.answers.specs.declared.outcome.Outcome.{Outcome}
 use Rattle.answers.specs.declared.outcome.Outcome.TheVariants.{Yes}
 use Rattle.answers.specs.Answers.{Answered}

@@ -3,7 +3,7 @@ ghost use Rattle.std.specs.Prelude.{◌≡◌, ◌++◌, [], ◌∷◌, map, OnO
 ghost use Rattle.section_text.specs.Spelling.{spaced};
 ghost use Rattle.std.specs.Fmt.{decimal};
 ghost use Rattle.std.specs.List.{flat_map};
-ghost use Rattle.certificate.specs.Entries.{counts_of, modules_of};
+ghost use Rattle.certificate_lines.specs.Entries.{counts_of, modules_of};
 ghost use Rattle.answers.specs.BundleReading.{bundle_by};
 ghost use Rattle.answers.specs.ModulesText.{SaysModules, area_words, count_words, module_line, module_lines};
 

@@ -6,9 +6,9 @@ use Rattle.std.specs.Cmp.Lexicographic.{pointwise, bytes_decides}
 use Rattle.std.proofs.lemmas.Bool.Decides.{nat_tests}
 use Rattle.std.proofs.lemmas.List.{get_or-set_same, get_or-set_other}
 use Rattle.std.proofs.lemmas.Option.{slice_get_within, same_Some}
-use Rattle.certificate.specs.Equality.{same_job}
-use Rattle.certificate.specs.Jobs.{JobState}
-use Rattle.certificate.proofs.EqualJobs.{jobs_decide}
+use Rattle.module_job.specs.Equality.{same_job}
+use Rattle.module_job.specs.Jobs.{JobState}
+use Rattle.module_job.proofs.EqualJobs.{jobs_decide}
 use Rattle.local_run.specs.Faults.{IsLeastFault, IsLeastKeepFault}
 use Rattle.local_run.specs.Shown.{digest_of, number_of, job_of, fault_of, keep_of}
 use Rattle.local_run.specs.declared.finding.Finding.{Finding}

@@ -3,7 +3,7 @@ use Rattle.std.proofs.Common.{◌≡◌, ◌∙◌, true, List, [], ◌∷◌, �
 use Rattle.border_match.specs.BorderFaults.{AreBorderFaultsOf}
 use Rattle.border_match.specs.declared.fault.BorderFault.{BorderFault}
 use Rattle.certificate.specs.Grammars.{CertState}
-use Rattle.certificate.specs.Jobs.{JobState}
+use Rattle.module_job.specs.Jobs.{JobState}
 use Rattle.certificate.specs.Times.{are_all_kept, time_lines}
 use Rattle.audit_core.specs.Concluding.{AreOwnJobs, modules, setting}
 use Rattle.audit_core.specs.Verdicts.{AreLeastFaults, IsVerdict, lines_from, timing, unkept_lines}

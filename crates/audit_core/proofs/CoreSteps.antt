@@ -4,7 +4,7 @@ use Rattle.std.specs.Prelude.{if◌then◌else◌, nat_lt}
 use Rattle.std.proofs.lemmas.Bool.Decides.{nat_tests}
 use Rattle.std.proofs.lemmas.List.{length-set, length-replicate}
 use Rattle.std.proofs.lemmas.List.Elements.{All-head, All-tail}
-use Rattle.certificate.specs.Jobs.{JobState}
+use Rattle.module_job.specs.Jobs.{JobState}
 use Rattle.audit_core.specs.Draws.{IsDrawn, total}
 use Rattle.audit_core.specs.Claims.{claim_draws, claim_next, has_ended}
 use Rattle.audit_core.specs.Core.{CoreView, IsCore, IsSeated, after_claim, after_event, after_events, draws_of, ended, new_core, numbers_in}

@@ -21,16 +21,19 @@ use Rattle.module_box.specs.declared.boxes.Box2.{Box2}
 use Rattle.module_box.specs.declared.schedules.Signal.TheVariants.{Zero, Wire}
 use Rattle.module_box.proofs.BoxCells.{in_span_nat, same_some}
 use Rattle.module_box.proofs.Neighbours.{halo_parts}
-use Rattle.certificate.specs.Entries.{ModuleLines, areas, known}
-use Rattle.certificate.specs.Grammars.{setting_of}
-use Rattle.certificate.specs.Jobs.{JobState, IsJobOf, NamesOwnWires, job_start, job_demand, place_in, port_at, start_signal, end_demand}
+use Rattle.certificate_lines.specs.Entries.{ModuleLines, areas, known}
+use Rattle.certificate_lines.specs.Settings.{setting_of}
+use Rattle.module_job.specs.Jobs.{JobState, NamesOwnWires, job_start, job_demand}
+use Rattle.certificate.specs.Jobs.{IsJobOf, start_signal, end_demand}
+use Rattle.module_box.specs.Places.{place_in}
+use Rattle.certificate_lines.specs.PortTables.{port_at}
 use Rattle.certificate.specs.Times.{are_all_kept, numbered, time_lines}
-use Rattle.certificate.specs.Modules.{AreModules, AreUnstarred, HasPorts, IsModule}
-use Rattle.certificate.specs.Orders.{AreInOrder}
-use Rattle.certificate.specs.Rules.{whole, is_local}
-use Rattle.certificate.specs.Signals.{is_live, IsBelow, IsDemandBelow, Meets, renumber_signal, renumber_demand}
-use Rattle.certificate.specs.declared.entry.Entry.TheVariants.{Cut}
-use Rattle.certificate.specs.declared.job.Demand.TheVariants as Demanded
+use Rattle.certificate_lines.specs.Modules.{AreModules, AreUnstarred, HasPorts, IsModule}
+use Rattle.certificate_lines.specs.Orders.{AreInOrder}
+use Rattle.certificate_lines.specs.Rules.{whole, is_local}
+use Rattle.module_job.specs.Signals.{is_live, IsBelow, IsDemandBelow, Meets, renumber_signal, renumber_demand}
+use Rattle.certificate_lines.specs.declared.entry.Entry.TheVariants.{Cut}
+use Rattle.module_job.specs.declared.job.Demand.TheVariants as Demanded
 use Rattle.local_run.specs.Faults.{IsFault, IsFaultUnder}
 use Rattle.local_run.specs.Runs.{with_halo, local_step, local_run}
 use Rattle.local_run.specs.declared.fault.Fault.{Fault}

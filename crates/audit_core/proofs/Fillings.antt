@@ -8,9 +8,9 @@ use Rattle.std.specs.Cmp.Derive.Mapped.{pointwise-map}
 use Rattle.std.proofs.lemmas.Bool.Decides.{eqb_tells}
 use Rattle.std.proofs.lemmas.List.{append-nil, append_assoc, map-append}
 use Rattle.std.proofs.lemmas.Slice.Eq.{slice_eq-Decides}
-use Rattle.certificate.specs.Equality.{same_job}
-use Rattle.certificate.specs.Jobs.{JobState}
-use Rattle.certificate.proofs.EqualJobs.{jobs_decide}
+use Rattle.module_job.specs.Equality.{same_job}
+use Rattle.module_job.specs.Jobs.{JobState}
+use Rattle.module_job.proofs.EqualJobs.{jobs_decide}
 use Rattle.local_run.specs.Shown.{digest_of, number_of, job_of}
 use Rattle.local_run.specs.declared.finding.Finding.{Finding}
 use Rattle.audit_core.specs.Book.{BookView, IsBook, IsOwn, IsReplayed, accepted_in, after_filing, filing_of, found_in, is_job_of, new_book, reply_to}

@@ -4,7 +4,7 @@ use Rattle.std.specs.Prelude.{is_some, slice_get}
 use Rattle.std.specs.List.{count_by}
 use Rattle.std.proofs.lemmas.List.Sums.{count_by-le-length, sum_by-cons}
 use Rattle.std.proofs.lemmas.Option.{same_Some}
-use Rattle.certificate.specs.Jobs.{JobState}
+use Rattle.module_job.specs.Jobs.{JobState}
 use Rattle.local_run.specs.declared.finding.Finding.{Finding}
 use Rattle.audit_core.specs.Book.{BookView, IsBook, found_in}
 use Rattle.audit_core.specs.Laws.{FullBookHoldsAll}

@@ -5,9 +5,9 @@ use Rattle.std.specs.Option.{option_map}
 use Rattle.std.proofs.lemmas.Bool.Decides.{eqb_tells}
 use Rattle.std.proofs.lemmas.Option.{same_Some, slice_get-map, slice_get_read}
 use Rattle.module_box.proofs.Rising.{pushed}
-use Rattle.certificate.specs.Equality.{same_job}
-use Rattle.certificate.specs.Jobs.{JobState}
-use Rattle.certificate.proofs.EqualJobs.{jobs_decide}
+use Rattle.module_job.specs.Equality.{same_job}
+use Rattle.module_job.specs.Jobs.{JobState}
+use Rattle.module_job.proofs.EqualJobs.{jobs_decide}
 use Rattle.local_run.specs.Shown.{job_of}
 use Rattle.local_run.specs.declared.finding.Finding.{Finding}
 use Rattle.audit_core.specs.Book.{BookView, found_in}

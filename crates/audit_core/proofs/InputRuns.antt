@@ -18,8 +18,8 @@ use Rattle.pattern.specs.Lines.{name_fault}
 use Rattle.pattern.specs.declared.parts.Part.{Part}
 use Rattle.pattern.specs.declared.parts.Part.TheVariants.{Mirror, Ball, In, Out, Waste}
 use Rattle.pattern.specs.declared.parts.Port.{Port}
-use Rattle.certificate.proofs.BoxPlaces.{skipped}
-use Rattle.certificate.proofs.Lists.{kept}
+use Rattle.certificate_lines.proofs.BoxPlaces.{skipped}
+use Rattle.certificate_lines.proofs.Lists.{kept}
 use Rattle.audit_core.specs.HeadlineLaws.{InputsDecideTheRun, IsInputName, ReadLayoutHasInputNames}
 
 -- ---- input cells have the names of inputs

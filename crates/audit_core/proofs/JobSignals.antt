@@ -20,16 +20,17 @@ use Rattle.module_box.specs.declared.schedules.Event.{Event}
 use Rattle.module_box.specs.declared.schedules.Held.{Held}
 use Rattle.module_box.specs.declared.schedules.Signal.{Signal}
 use Rattle.module_box.specs.declared.schedules.Signal.TheVariants.{Zero, One, Wire}
-use Rattle.certificate.specs.Entries.{ModuleLines, edges, halos}
-use Rattle.certificate.specs.Grammars.{setting_of}
-use Rattle.certificate.specs.Jobs.{JobState, IsJobOf, event_by, held_by, line_signal, line_signals}
-use Rattle.certificate.specs.Modules.{IsModule}
-use Rattle.certificate.specs.Rules.{whole}
-use Rattle.certificate.specs.Signals.{is_live, Meets, renumber_signal, renumber_demand}
-use Rattle.certificate.specs.declared.entry.Border.{Border}
-use Rattle.certificate.specs.declared.job.Demand.{Demand}
-use Rattle.certificate.specs.declared.job.Demand.TheVariants as Demanded
-use Rattle.certificate.proofs.PortLemmas.{cell_same}
+use Rattle.certificate_lines.specs.Entries.{ModuleLines, edges, halos}
+use Rattle.certificate_lines.specs.Settings.{setting_of}
+use Rattle.module_job.specs.Jobs.{JobState}
+use Rattle.certificate.specs.Jobs.{IsJobOf, event_by, held_by, line_signal, line_signals}
+use Rattle.certificate_lines.specs.Modules.{IsModule}
+use Rattle.certificate_lines.specs.Rules.{whole}
+use Rattle.module_job.specs.Signals.{is_live, Meets, renumber_signal, renumber_demand}
+use Rattle.certificate_lines.specs.declared.entry.Border.{Border}
+use Rattle.module_job.specs.declared.job.Demand.{Demand}
+use Rattle.module_job.specs.declared.job.Demand.TheVariants as Demanded
+use Rattle.certificate_lines.proofs.PortLemmas.{cell_same}
 use Rattle.border_match.specs.BorderFaults.{halo_signal, edge_signal}
 use Rattle.border_match.proofs.Bridge.{halo_same, edge_same}
 use Rattle.border_match.proofs.Modules.{there, value_of}

@@ -10,8 +10,9 @@ use Rattle.circuit.proofs.Undefined.{has_valuation, only_inverse}
 use Rattle.module_box.specs.Locals.{circuit_gate, is_among}
 use Rattle.module_box.specs.LocalValues.{seen_by}
 use Rattle.module_box.proofs.SeenValues.{choices_are_assignments, undefined_is_seen}
-use Rattle.certificate.specs.Entries.{ModuleLines, keeps}
-use Rattle.certificate.specs.Jobs.{JobState, IsJobOf}
+use Rattle.certificate_lines.specs.Entries.{ModuleLines, keeps}
+use Rattle.module_job.specs.Jobs.{JobState}
+use Rattle.certificate.specs.Jobs.{IsJobOf}
 use Rattle.certificate.specs.Keeps.{is_kept}
 use Rattle.border_match.proofs.Modules.{there}
 use Rattle.audit_core.specs.HeadlineLaws.{BelongTogether, NoneIsUndefined, AcceptedHasValuation}

@@ -21,14 +21,15 @@ use Rattle.pattern.proofs.RectangleLemmas.{in_rectangle_cells}
 use Rattle.pattern.proofs.TakenLemmas.{is_sized}
 use Rattle.module_box.specs.Boxes.{in_box, IsEven}
 use Rattle.module_box.proofs.BoxCells.{same_some}
-use Rattle.certificate.specs.Jobs.{port_at, named_wire, signal_of, start_signal, demand_of, demand_elsewhere, end_demand}
-use Rattle.certificate.specs.Rules.{whole}
-use Rattle.certificate.specs.Signals.{is_live, Meets}
-use Rattle.certificate.specs.declared.job.Demand.TheVariants as Demanded
+use Rattle.certificate_lines.specs.PortTables.{port_at}
+use Rattle.certificate.specs.Jobs.{named_wire, signal_of, start_signal, demand_of, demand_elsewhere, end_demand}
+use Rattle.certificate_lines.specs.Rules.{whole}
+use Rattle.module_job.specs.Signals.{is_live, Meets}
+use Rattle.module_job.specs.declared.job.Demand.TheVariants as Demanded
 use Rattle.module_box.specs.declared.schedules.Signal.TheVariants.{One}
-use Rattle.certificate.proofs.Lists.{any_at, kept, passed, same_truth}
-use Rattle.certificate.proofs.PlanLemmas.{port_stands, none_stands}
-use Rattle.certificate.proofs.PortLemmas.{cell_same, cell_itself}
+use Rattle.certificate_lines.proofs.Lists.{any_at, kept, passed, same_truth}
+use Rattle.certificate_lines.proofs.LayoutPorts.{port_stands, none_stands}
+use Rattle.certificate_lines.proofs.PortLemmas.{cell_same, cell_itself}
 use Rattle.audit_core.specs.Implements.{in_ports}
 
 -- ---- the ports at a cell

@@ -17,22 +17,24 @@ use Rattle.module_box.specs.Schedules.{signal_at}
 use Rattle.module_box.specs.declared.boxes.Box2.{Box2}
 use Rattle.module_box.specs.declared.schedules.Signal.{Signal}
 use Rattle.module_box.specs.declared.schedules.Signal.TheVariants.{Zero, One, Wire}
-use Rattle.certificate.specs.Entries.{Setting, ModuleLines, edges, halos, stops, known, modules_of}
-use Rattle.certificate.specs.Grammars.{setting_of}
-use Rattle.certificate.specs.Jobs.{JobState, IsJobOf, AreJobsOf, job_demand, job_start, line_signal, line_signals, line_stops, signal_of}
-use Rattle.certificate.specs.Modules.{AreModules, IsModule}
-use Rattle.certificate.specs.Rules.{is_local, is_local_wire, whole}
-use Rattle.certificate.specs.Signals.{IsBelow, renumber_signal, renumber_signals}
+use Rattle.certificate_lines.specs.Entries.{Setting, ModuleLines, edges, halos, stops, known, modules_of}
+use Rattle.certificate_lines.specs.Settings.{setting_of}
+use Rattle.module_job.specs.Jobs.{JobState, job_demand, job_start}
+use Rattle.certificate.specs.Jobs.{IsJobOf, AreJobsOf, line_signal, line_signals, line_stops, signal_of}
+use Rattle.certificate_lines.specs.Modules.{AreModules, IsModule}
+use Rattle.certificate_lines.specs.Rules.{is_local, is_local_wire, whole}
+use Rattle.module_job.specs.Signals.{IsBelow, renumber_signal, renumber_signals}
 use Rattle.certificate.specs.Times.{are_all_kept, first_seen, last_seen, lines_by}
-use Rattle.certificate.specs.Versions.{beside, is_haloless, is_strange, lacks_wire, with_halos}
-use Rattle.certificate.specs.declared.entry.Border.{Border}
-use Rattle.certificate.proofs.FullModules.{edge_cell, edge_of, edges_rising, full_cuts, full_gates, full_keeps, full_edges, full_stops, full_known, full_modules, in_beside, mapped_at, mapped_from, meant_old, placed}
+use Rattle.certificate_lines.specs.Versions.{beside, is_haloless, is_strange, lacks_wire, with_halos}
+use Rattle.certificate_lines.specs.declared.entry.Border.{Border}
+use Rattle.certificate.proofs.FullModules.{edge_cell, edge_of, edges_rising, full_cuts, full_gates, full_keeps, full_edges, full_stops, full_known, full_modules, in_beside, mapped_at, mapped_from, meant_old}
+use Rattle.certificate_lines.proofs.InList.{placed}
 use Rattle.certificate.proofs.HaloSignals.{halo_is_edge_beside}
-use Rattle.certificate.proofs.LineOrder.{In, in_flat}
+use Rattle.certificate_lines.proofs.LineOrder.{In, in_flat}
 use Rattle.certificate.proofs.LineSignals.{SaysAt, line_said}
 use Rattle.certificate.proofs.MeantLines.{kept_of_all, stops_of_all}
 use Rattle.certificate.proofs.StopLemmas.{stops_stand}
-use Rattle.certificate.proofs.Lists.{any_at}
+use Rattle.certificate_lines.proofs.Lists.{any_at}
 use Rattle.certificate.proofs.Migrated.{migrated_modules, section_modules, section_without_halos}
 use Rattle.local_run.specs.Faults.{IsFault, IsKeepFault}
 use Rattle.local_run.specs.Laws.{SayTheSame}

@@ -3,8 +3,8 @@ use Rattle.std.proofs.Common.{◌≡◌, ◌∙◌, ◌<◌, ◌≤◌, ◌∷�
 use Rattle.std.specs.Prelude.{slice_get}
 use Rattle.std.specs.Option.{option_map}
 use Rattle.std.proofs.lemmas.Option.{slice_get_within}
-use Rattle.certificate.specs.Entries.{Setting, ModuleLines}
-use Rattle.certificate.specs.Jobs.{JobState}
+use Rattle.certificate_lines.specs.Entries.{Setting, ModuleLines}
+use Rattle.module_job.specs.Jobs.{JobState}
 use Rattle.certificate.specs.Times.{time_lines}
 use Rattle.local_run.proofs.Least.{least_unique, least_keep_unique}
 use Rattle.border_match.specs.BorderFaults.{AreBorderFaultsOf}

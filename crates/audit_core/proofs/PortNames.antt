@@ -16,8 +16,8 @@ use Rattle.pattern.specs.Lines.{is_in, is_out, missing_fault, name_fault}
 use Rattle.pattern.specs.declared.parts.Part.{Part}
 use Rattle.pattern.specs.declared.parts.Part.TheVariants.{Mirror, Ball, In, Out, Waste}
 use Rattle.pattern.specs.declared.parts.Port.{Port}
-use Rattle.certificate.proofs.BoxPlaces.{skipped}
-use Rattle.certificate.proofs.Lists.{kept}
+use Rattle.certificate_lines.proofs.BoxPlaces.{skipped}
+use Rattle.certificate_lines.proofs.Lists.{kept}
 use Rattle.audit_core.specs.HeadlineLaws.{ReadLayoutIsNamed}
 use Rattle.audit_core.proofs.InputRuns.{at_place, in_known, in_stands}
 

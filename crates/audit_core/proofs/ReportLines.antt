@@ -7,8 +7,8 @@ use Rattle.std.proofs.lemmas.List.{drop_all}
 use Rattle.std.proofs.lemmas.Option.{same_Some, slice_get_cases, slice_get_within, slice_get-get_or}
 use Rattle.circuit.specs.Gates.{is_inverse}
 use Rattle.circuit.specs.Meaning.{Gate}
-use Rattle.certificate.specs.Entries.{Setting, ModuleLines}
-use Rattle.certificate.specs.Jobs.{JobState}
+use Rattle.certificate_lines.specs.Entries.{Setting, ModuleLines}
+use Rattle.module_job.specs.Jobs.{JobState}
 use Rattle.certificate.specs.Keeps.{is_kept, unkept_from}
 use Rattle.certificate.specs.Times.{are_all_kept, time_lines}
 use Rattle.local_run.specs.Faults.{IsFault, IsKeepFault, IsLeastFault, IsLeastKeepFault}

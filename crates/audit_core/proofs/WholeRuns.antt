@@ -19,24 +19,24 @@ use Rattle.module_box.proofs.BoxSteps.{even_stays, even_local}
 use Rattle.module_box.proofs.Neighbours.{some_neighbour_more, block_x, block_y, block_both, halo_parts, ring_from, near_step, halo_in_ring}
 use Rattle.module_box.proofs.SeenValues.{choices_are_assignments, local_values_agree}
 use Rattle.certificate.proofs.ArrivalLemmas.{kept_is_on_time}
-use Rattle.certificate.specs.Entries.{ModuleLines, areas, known, stops}
-use Rattle.certificate.specs.Grammars.{setting_of}
-use Rattle.certificate.specs.Modules.{IsStop}
-use Rattle.certificate.specs.declared.entry.StopLine.{StopLine}
-use Rattle.certificate.specs.declared.job.Stop as listed
-use Rattle.certificate.proofs.FlatParts.{flat_part}
+use Rattle.certificate_lines.specs.Entries.{ModuleLines, areas, known, stops}
+use Rattle.certificate_lines.specs.Settings.{setting_of}
+use Rattle.certificate_lines.specs.Modules.{IsStop}
+use Rattle.certificate_lines.specs.declared.entry.StopLine.{StopLine}
+use Rattle.module_job.specs.declared.job.Stop as listed
+use Rattle.certificate_lines.proofs.FlatParts.{flat_part}
 use Rattle.module_box.specs.Locals.{circuit_wire}
-use Rattle.certificate.specs.Jobs.{JobState, IsJobOf, job_start, job_demand, end_demand, numbered_stop}
-use Rattle.certificate.specs.Rules.{whole}
-use Rattle.certificate.specs.Signals.{is_live, Meets, renumber_stop}
-use Rattle.certificate.specs.declared.job.Demand.{Demand}
-use Rattle.certificate.specs.declared.job.Demand.TheVariants as Demanded
+use Rattle.module_job.specs.Jobs.{JobState, job_start, job_demand}
+use Rattle.certificate.specs.Jobs.{IsJobOf, end_demand, numbered_stop}
+use Rattle.certificate_lines.specs.Rules.{whole}
+use Rattle.module_job.specs.Signals.{is_live, Meets, renumber_stop}
+use Rattle.module_job.specs.declared.job.Demand.{Demand}
+use Rattle.module_job.specs.declared.job.Demand.TheVariants as Demanded
 use Rattle.local_run.specs.Runs.{with_halo, local_run}
 use Rattle.local_run.specs.Faults.{IsFaultUnder}
 use Rattle.local_run.specs.declared.fault.Fault.{Fault}
 use Rattle.local_run.specs.declared.fault.Kind.{Kind}
-use Rattle.local_run.specs.declared.fault.Kind.TheVariants.{Edge, End}
-use Rattle.local_run.specs.declared.fault.Kind.TheVariants.{Stop as AtStop}
+use Rattle.local_run.specs.declared.fault.Kind.TheVariants.{Edge, End, Stop as AtStop}
 use Rattle.local_run.proofs.LocalRuns.{even_or_odd, local_even, local_odd}
 use Rattle.local_run.proofs.OwnWires as own
 use Rattle.border_match.proofs.Modules.{area_at, there}

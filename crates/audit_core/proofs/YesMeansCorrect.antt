@@ -7,8 +7,8 @@ use Rattle.circuit.specs.Meaning.{AreOrdered}
 use Rattle.pattern.specs.Lines.{AreGoodAfter, AreNamed, size_fault}
 use Rattle.pattern.specs.declared.parts.Extent.{Extent}
 use Rattle.certificate.specs.Grammars.{CertState}
-use Rattle.certificate.specs.Jobs.{JobState}
-use Rattle.certificate.specs.Modules.{AreModules}
+use Rattle.module_job.specs.Jobs.{JobState}
+use Rattle.certificate_lines.specs.Modules.{AreModules}
 use Rattle.audit_core.specs.Concluding.{AreOwnJobs, modules, port_names_of, setting}
 use Rattle.audit_core.specs.HeadlineLaws.{IsAcceptedBundle}
 use Rattle.audit_core.specs.Implements.{IsCorrect}

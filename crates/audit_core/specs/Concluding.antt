@@ -3,9 +3,11 @@ use Rattle.std.specs.Prelude.{List}
 use Rattle.section_text.specs.Ports.{Named}
 use Rattle.circuit.specs.Bridge.{circuit_of, input_names, output_names}
 use Rattle.circuit.specs.declared.entry.Entry.{Entry}
-use Rattle.certificate.specs.Entries.{Setting, ModuleLines}
-use Rattle.certificate.specs.Grammars.{CertState, modules_in, setting_of}
-use Rattle.certificate.specs.Jobs.{JobState, AreJobsOf}
+use Rattle.certificate_lines.specs.Entries.{Setting, ModuleLines}
+use Rattle.certificate.specs.Grammars.{CertState, modules_in}
+use Rattle.certificate_lines.specs.Settings.{setting_of}
+use Rattle.module_job.specs.Jobs.{JobState}
+use Rattle.certificate.specs.Jobs.{AreJobsOf}
 
 abbrev pub setting : CertState → Setting
 setting s = setting_of s.circuit s.layout

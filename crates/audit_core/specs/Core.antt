@@ -1,6 +1,6 @@
 -- The core: the numbers that seats drew, and a book. What each event makes of it, and the answer to it
 use Rattle.std.specs.Prelude.{ℕ, ◌+◌, ◌<◌, ◌≤◌, List, [], ◌∷◌, length, replicate, slice_index_or, slice_set, if◌then◌else◌, ⊤}
-use Rattle.certificate.specs.Jobs.{JobState}
+use Rattle.module_job.specs.Jobs.{JobState}
 use Rattle.audit_core.specs.Draws.{IsDrawn, total}
 use Rattle.audit_core.specs.Claims.{claim_answer, claim_draws, claim_next, has_ended}
 use Rattle.audit_core.specs.Book.{BookView, IsBook, IsReplayed, after_filing, new_book, reply_to}

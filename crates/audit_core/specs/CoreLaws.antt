@@ -1,8 +1,8 @@
 -- Laws of the core, over every list of events from a new one
 use Rattle.std.specs.Prelude.{◌≡◌, ◌≢◌, ◌↔◌, ℕ, ◌<◌, ◌≤◌, ◌==◌, ⊤, List, [], ◌∷◌, ◌++◌, Some, All, Contains}
 use Rattle.std.specs.List.{count_by}
-use Rattle.certificate.specs.Entries.{Setting, ModuleLines}
-use Rattle.certificate.specs.Jobs.{JobState}
+use Rattle.certificate_lines.specs.Entries.{Setting, ModuleLines}
+use Rattle.module_job.specs.Jobs.{JobState}
 use Rattle.local_run.specs.Faults.{IsLeastFault, IsLeastKeepFault}
 use Rattle.local_run.specs.Shown.{number_of, job_of, fault_of, keep_of}
 use Rattle.local_run.specs.declared.finding.Finding.{Finding}

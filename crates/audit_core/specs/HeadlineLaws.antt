@@ -9,11 +9,12 @@ use Rattle.pattern.specs.Lines.{AreGoodAfter, AreNamed, size_fault}
 use Rattle.pattern.specs.declared.parts.Port.{Port}
 use Rattle.module_box.specs.Boxes.{in_box}
 use Rattle.module_box.specs.LocalValues.{seen_by}
-use Rattle.certificate.specs.Entries.{ModuleLines}
-use Rattle.certificate.specs.Grammars.{setting_of}
-use Rattle.certificate.specs.Jobs.{JobState, AreJobsOf}
-use Rattle.certificate.specs.Modules.{AreModules}
-use Rattle.certificate.specs.Rules.{whole}
+use Rattle.certificate_lines.specs.Entries.{ModuleLines}
+use Rattle.certificate_lines.specs.Settings.{setting_of}
+use Rattle.module_job.specs.Jobs.{JobState}
+use Rattle.certificate.specs.Jobs.{AreJobsOf}
+use Rattle.certificate_lines.specs.Modules.{AreModules}
+use Rattle.certificate_lines.specs.Rules.{whole}
 use Rattle.local_run.specs.Runs.{local_run}
 use Rattle.audit_core.specs.Implements.{IsCorrect, IsNamed, LooksAsAsked, run_under}
 use Rattle.audit_core.specs.OnTime.{IsOnTime}

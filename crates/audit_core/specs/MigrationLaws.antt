@@ -3,12 +3,14 @@ use Rattle.std.specs.Prelude.{◌≡◌, false, List, map}
 use Rattle.circuit.specs.Bridge.{circuit_of}
 use Rattle.circuit.specs.declared.entry.Entry.{Entry}
 use Rattle.pattern.specs.Layout.{Pattern}
-use Rattle.certificate.specs.Entries.{ModuleLines}
-use Rattle.certificate.specs.Grammars.{CertState, migrated, setting_of}
-use Rattle.certificate.specs.Jobs.{JobState, AreJobsOf}
+use Rattle.certificate_lines.specs.Entries.{ModuleLines}
+use Rattle.certificate.specs.Grammars.{CertState, migrated}
+use Rattle.certificate_lines.specs.Settings.{setting_of}
+use Rattle.module_job.specs.Jobs.{JobState}
+use Rattle.certificate.specs.Jobs.{AreJobsOf}
 use Rattle.certificate.specs.Laws.{IsSectionOf}
-use Rattle.certificate.specs.Modules.{AreModules}
-use Rattle.certificate.specs.Versions.{lacks_wire, with_halos}
+use Rattle.certificate_lines.specs.Modules.{AreModules}
+use Rattle.certificate_lines.specs.Versions.{lacks_wire, with_halos}
 use Rattle.audit_core.specs.Concluding.{AreOwnJobs, modules, setting}
 use Rattle.audit_core.specs.Verdicts.{Accepts}
 

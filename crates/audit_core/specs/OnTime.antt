@@ -3,10 +3,10 @@ use Rattle.std.specs.Prelude.{◌≡◌, List}
 use Rattle.std.specs.List.{All}
 use Rattle.circuit.specs.Meaning.{Circuit, Valuation, Satisfies, values_by_name}
 use Rattle.pattern.specs.Layout.{Pattern}
-use Rattle.certificate.specs.Entries.{ModuleLines}
+use Rattle.certificate_lines.specs.Entries.{ModuleLines}
 use Rattle.certificate.specs.Arrivals.{AreOnTime}
 use Rattle.certificate.specs.Times.{all_stops}
-use Rattle.certificate.specs.declared.entry.StopLine.{StopLine}
+use Rattle.certificate_lines.specs.declared.entry.StopLine.{StopLine}
 use Rattle.audit_core.specs.Implements.{run_under}
 
 -- for all values of the inputs, the cell of the stop is live at its time exactly where its wire is true

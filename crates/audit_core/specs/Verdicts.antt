@@ -4,8 +4,8 @@ use Rattle.std.specs.Option.{option_map, option_to_list}
 use Rattle.circuit.specs.Gates.{is_inverse}
 use Rattle.circuit.specs.Meaning.{Gate}
 use Rattle.module_box.specs.Locals.{circuit_gate}
-use Rattle.certificate.specs.Entries.{Setting, ModuleLines}
-use Rattle.certificate.specs.Jobs.{JobState}
+use Rattle.certificate_lines.specs.Entries.{Setting, ModuleLines}
+use Rattle.module_job.specs.Jobs.{JobState}
 use Rattle.certificate.specs.Keeps.{is_kept, unkept}
 use Rattle.certificate.specs.Times.{are_all_kept, time_lines}
 use Rattle.certificate.specs.declared.times.TimeLine.{TimeLine}

@@ -12,13 +12,14 @@ use Rattle.module_box.specs.Schedules.{Signals, event_at, signal_at}
 use Rattle.module_box.specs.Tiling.{Owning, AreOwners, rectangle, rectangle_of, owner_of}
 use Rattle.module_box.specs.declared.boxes.Box2.{Box2}
 use Rattle.module_box.proofs.BoxCells.{same_some}
-use Rattle.certificate.specs.Entries.{ModuleLines, areas, edges, halos}
-use Rattle.certificate.specs.Grammars.{setting_of}
-use Rattle.certificate.specs.Jobs.{JobState, AreJobsOf, IsJobOf, line_signal, line_signals}
-use Rattle.certificate.specs.Modules.{AreModules, IsModule}
-use Rattle.certificate.specs.Rules.{whole}
-use Rattle.certificate.specs.Signals.{renumber_signals}
-use Rattle.certificate.specs.declared.entry.Border.{Border}
+use Rattle.certificate_lines.specs.Entries.{ModuleLines, areas, edges, halos}
+use Rattle.certificate_lines.specs.Settings.{setting_of}
+use Rattle.module_job.specs.Jobs.{JobState}
+use Rattle.certificate.specs.Jobs.{AreJobsOf, IsJobOf, line_signal, line_signals}
+use Rattle.certificate_lines.specs.Modules.{AreModules, IsModule}
+use Rattle.certificate_lines.specs.Rules.{whole}
+use Rattle.module_job.specs.Signals.{renumber_signals}
+use Rattle.certificate_lines.specs.declared.entry.Border.{Border}
 use Rattle.border_match.specs.BorderFaults.{halo_signal, edge_signal, IsBorderFault, IsLeastBorderFault}
 use Rattle.border_match.specs.Boards.{job_halo, job_edge, IsJobFault, IsQuiet, IsBoard}
 use Rattle.border_match.specs.Candidates.{IsLeast}

@@ -13,7 +13,7 @@ use Rattle.module_box.specs.declared.boxes.Box2.{Box2}
 use Rattle.module_box.specs.declared.schedules.Signal.{Signal}
 use Rattle.module_box.proofs.BoxCells.{in_span_nat, in_box_nats, same_some}
 use Rattle.module_box.proofs.NearBoxes.{near_one, near_parts}
-use Rattle.certificate.specs.Jobs.{JobState}
+use Rattle.module_job.specs.Jobs.{JobState}
 use Rattle.border_match.specs.Boards.{job_halo, job_edge, jobs_of, IsReady, Faults, Differ}
 use Rattle.border_match.specs.declared.borders.Borders.{Borders}
 use Rattle.border_match.specs.declared.fault.BorderFault.{BorderFault}

@@ -5,10 +5,10 @@ use Rattle.std.proofs.lemmas.List.{length-map, length-replicate}
 use Rattle.module_box.specs.Boxes.{in_box, in_halo}
 use Rattle.module_box.specs.Schedules.{signal_at}
 use Rattle.module_box.specs.declared.boxes.Box2.{Box2}
-use Rattle.certificate.specs.Entries.{ModuleLines, Setting}
+use Rattle.certificate_lines.specs.Entries.{ModuleLines, Setting}
 use Rattle.certificate.specs.Jobs.{line_signals}
-use Rattle.certificate.specs.Modules.{AreModules}
-use Rattle.certificate.specs.Versions.{with_halos}
+use Rattle.certificate_lines.specs.Modules.{AreModules}
+use Rattle.certificate_lines.specs.Versions.{with_halos}
 use Rattle.certificate.proofs.FullModules.{full_area, full_edges, mapped_from}
 use Rattle.certificate.proofs.HaloSignals.{halo_is_edge_beside}
 use Rattle.border_match.specs.BorderFaults.{halo_signal, edge_signal, AreBorderFaultsOf, IsLeastBorderFault}

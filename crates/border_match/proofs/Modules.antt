@@ -14,9 +14,9 @@ use Rattle.module_box.proofs.Rising.{pushed}
 use Rattle.pattern.specs.Lines.{size_fault}
 use Rattle.pattern.specs.declared.parts.Extent.{Extent}
 use Rattle.pattern.proofs.TakenLemmas.{is_sized}
-use Rattle.certificate.specs.Entries.{Setting, ModuleLines, areas, counts_of}
-use Rattle.certificate.specs.Modules.{AreModules}
-use Rattle.certificate.specs.declared.entry.Counts.{Counts}
+use Rattle.certificate_lines.specs.Entries.{Setting, ModuleLines, areas, counts_of}
+use Rattle.certificate_lines.specs.Modules.{AreModules}
+use Rattle.certificate_lines.specs.declared.entry.Counts.{Counts}
 
 -- an element that there is
 pub there : {A : Type 0} (xs : List A) (k : ℕ) → k < length xs → (a : A) × (slice_get xs k ≡ Some a)

@@ -11,8 +11,8 @@ use Rattle.module_box.specs.declared.schedules.Held.{Held}
 use Rattle.module_box.specs.declared.schedules.Signal.{Signal}
 use Rattle.module_box.specs.declared.schedules.Signal.TheVariants.{Zero}
 use Rattle.certificate.specs.Jobs.{event_by}
-use Rattle.certificate.specs.Signals.{renumber_signal, renumber_held, renumber_event, renumber_signals}
-use Rattle.certificate.specs.declared.entry.Border.{Border}
+use Rattle.module_job.specs.Signals.{renumber_signal, renumber_held, renumber_event, renumber_signals}
+use Rattle.certificate_lines.specs.declared.entry.Border.{Border}
 
 module _ (f : ℕ → ℕ) where
   held_renumbered : (hs : List Held) (x y : ℤ) → held_at (map (renumber_held f) hs) x y ≡ option_map (renumber_signal f) (held_at hs x y)

@@ -5,7 +5,7 @@ use Rattle.std.proofs.lemmas.Bool.{cases_Bool, false≢true}
 use Rattle.module_box.specs.Equality.{same_signal}
 use Rattle.module_box.specs.declared.schedules.Signal.{Signal}
 use Rattle.module_box.proofs.EqualTests.{signal_decides}
-use Rattle.certificate.specs.Signals.{is_live}
+use Rattle.module_job.specs.Signals.{is_live}
 use Rattle.border_match.specs.BorderFaults.{halo_signal, edge_signal}
 use Rattle.border_match.specs.Laws.{NoFaultMeansSameSignals}
 use Rattle.border_match.proofs.Modules.{area_at}

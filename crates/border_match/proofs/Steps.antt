@@ -19,8 +19,8 @@ use Rattle.module_box.specs.declared.schedules.Signal.TheVariants.{Zero}
 use Rattle.module_box.proofs.BoxCells.{same_some}
 use Rattle.module_box.proofs.NearBoxes.{near_boxes}
 use Rattle.module_box.proofs.Rising.{then_moment}
-use Rattle.certificate.specs.Jobs.{JobState}
-use Rattle.certificate.specs.Signals.{renumber_signal}
+use Rattle.module_job.specs.Jobs.{JobState}
+use Rattle.module_job.specs.Signals.{renumber_signal}
 use Rattle.border_match.specs.BorderFaults.{border_cmp}
 use Rattle.border_match.specs.Boards.{jobs_of, IsReady, Faults, IsNamed, IsNamedBelow, IsEdgeNamed, IsEdgeNamedBelow, IsEdgeNamedAt, IsHeld, IsHeldAt, IsHeldInRow, IsHeldBefore, IsHeldAbove}
 use Rattle.border_match.specs.declared.borders.Borders.{Borders}

@@ -9,8 +9,8 @@ use Rattle.module_box.specs.Tiling.{Owning, rectangle, owner_of}
 use Rattle.module_box.specs.declared.boxes.Box2.{Box2}
 use Rattle.module_box.specs.declared.schedules.Event.{Event}
 use Rattle.module_box.specs.declared.schedules.Signal.{Signal}
-use Rattle.certificate.specs.Jobs.{JobState}
-use Rattle.certificate.specs.Signals.{renumber_signal}
+use Rattle.module_job.specs.Jobs.{JobState}
+use Rattle.module_job.specs.Signals.{renumber_signal}
 use Rattle.border_match.specs.declared.borders.Borders.{Borders}
 use Rattle.border_match.specs.declared.fault.BorderFault.{BorderFault}
 

@@ -8,9 +8,9 @@ use Rattle.module_box.specs.Boxes.{in_box, in_halo}
 use Rattle.module_box.specs.Moments.{cell_cmp}
 use Rattle.module_box.specs.Schedules.{signal_at}
 use Rattle.module_box.specs.declared.schedules.Signal.{Signal}
-use Rattle.certificate.specs.Entries.{Setting, ModuleLines, edges, halos}
+use Rattle.certificate_lines.specs.Entries.{Setting, ModuleLines, edges, halos}
 use Rattle.certificate.specs.Jobs.{line_signals}
-use Rattle.certificate.specs.Rules.{whole}
+use Rattle.certificate_lines.specs.Rules.{whole}
 use Rattle.border_match.specs.declared.fault.BorderFault.{BorderFault}
 
 -- what the halo lines of a module say of the cell (x, y) at time t, by the wires of the circuit

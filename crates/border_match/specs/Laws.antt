@@ -2,11 +2,11 @@
 use Rattle.std.specs.Prelude.{◌≡◌, ℕ, ℤ, ◌<◌, ◌%◌, List, map, Option, Some, None, slice_get, IsTrue}
 use Rattle.circuit.specs.Meaning.{Valuation}
 use Rattle.module_box.specs.Boxes.{in_box, in_halo, Tile}
-use Rattle.certificate.specs.Entries.{Setting, ModuleLines, areas}
-use Rattle.certificate.specs.Modules.{AreModules}
-use Rattle.certificate.specs.Rules.{whole}
-use Rattle.certificate.specs.Signals.{is_live}
-use Rattle.certificate.specs.Versions.{with_halos}
+use Rattle.certificate_lines.specs.Entries.{Setting, ModuleLines, areas}
+use Rattle.certificate_lines.specs.Modules.{AreModules}
+use Rattle.certificate_lines.specs.Rules.{whole}
+use Rattle.module_job.specs.Signals.{is_live}
+use Rattle.certificate_lines.specs.Versions.{with_halos}
 use Rattle.border_match.specs.BorderFaults.{halo_signal, edge_signal, IsBorderFault, IsLeastBorderFault}
 use Rattle.border_match.specs.declared.fault.BorderFault.{BorderFault}
 

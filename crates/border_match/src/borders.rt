@@ -6,7 +6,7 @@ ghost use Rattle.module_box.specs.Boxes.{in_box, in_halo};
 ghost use Rattle.module_box.specs.Locals.{circuit_wire};
 ghost use Rattle.module_box.specs.Moves.{IsNear};
 ghost use Rattle.module_box.specs.Tiling.{owner_of};
-ghost use Rattle.certificate.specs.Signals.{IsBelow, renumber_signal};
+ghost use Rattle.module_job.specs.Signals.{IsBelow, renumber_signal};
 ghost use Rattle.border_match.specs.Boards.{Differ, Faults, IsEdgeNamed, IsEdgeNamedAt, IsHeld, IsHeldAt, IsHeldInRow, IsNamed, IsReady, job_edge, job_halo, jobs_of};
 ghost use Rattle.border_match.specs.Candidates.{IsBetter, IsLeast};
 ghost use Rattle.border_match.specs.declared.fault.BorderFault.{BorderFault};

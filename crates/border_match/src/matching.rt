@@ -2,8 +2,9 @@
 ghost use Rattle.std.specs.Prelude.{◌≡◌, IfOk, None, map, replicate};
 ghost use Rattle.std.specs.Arc.{arc_value};
 ghost use Rattle.circuit.specs.Bridge.{circuit_of};
-ghost use Rattle.certificate.specs.Entries.{areas, modules_of};
-ghost use Rattle.certificate.specs.Grammars.{modules_in, setting_of};
+ghost use Rattle.certificate_lines.specs.Entries.{areas, modules_of};
+ghost use Rattle.certificate.specs.Grammars.{modules_in};
+ghost use Rattle.certificate_lines.specs.Settings.{setting_of};
 ghost use Rattle.certificate.specs.Jobs.{AreJobsOf};
 ghost use Rattle.module_box.specs.Tiling.{AreOwners};
 ghost use Rattle.border_match.specs.BorderFaults.{AreBorderFaultsOf};

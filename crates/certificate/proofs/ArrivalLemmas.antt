@@ -13,7 +13,7 @@ use Rattle.circuit.specs.Meaning.{Circuit, Gate}
 use Rattle.certificate.specs.Arrivals.{AreOnTime, IsFirstTime, IsLastTime, MeetAt, TakesSteps, Tells, TellsOfDelay, TellsOfMeeting}
 use Rattle.certificate.specs.Laws.{KeptIsOnTime, LinesTell}
 use Rattle.certificate.specs.Times.{agreed, all_stops, delay_by, delay_line, earlier, first_seen, gap_between, is_kept, last_seen, last_times, later, meet_by, meet_line, numbered, of_wire, times_of}
-use Rattle.certificate.specs.declared.entry.StopLine.{StopLine}
+use Rattle.certificate_lines.specs.declared.entry.StopLine.{StopLine}
 use Rattle.certificate.specs.declared.times.Gap.{Gap}
 use Rattle.certificate.specs.declared.times.Gap.TheVariants.{Steps, Missing, Before}
 use Rattle.certificate.specs.declared.times.TimeLine.{TimeLine}

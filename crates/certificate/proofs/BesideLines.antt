@@ -1,30 +1,27 @@
 -- The lines beside a module, one after the other
-use Rattle.std.proofs.Common.{◌≡◌, ℕ, suc, ◌+◌, ◌<◌, ◌≤◌, Bool, true, false, if◌then◌else◌, List, [], ◌∷◌, ◌++◌, drop, length, map, take, get_or, Some, inl, inr, refl, sym, ap, subst, ◌∙◌, arith, append_assoc}
+use Rattle.std.proofs.Common.{◌≡◌, ℕ, ◌+◌, ◌<◌, ◌≤◌, Bool, true, false, if◌then◌else◌, List, [], ◌∷◌, ◌++◌, drop, length, map, take, get_or, Some, inl, inr, refl, sym, ap, subst, ◌∙◌, arith, append_assoc}
 use Rattle.std.specs.Prelude.{slice_get}
 use Rattle.std.specs.List.{filter, flat_map}
-use Rattle.std.proofs.Math.Seq.{drop-cons}
 use Rattle.std.proofs.lemmas.List.{append-nil, drop_all, length-map, length_push, map-append, take_all}
 use Rattle.std.proofs.lemmas.Option.{slice_get_read, slice_get_within}
 use Rattle.circuit.specs.Meaning.{Circuit}
 use Rattle.pattern.specs.Layout.{Pattern}
 use Rattle.module_box.proofs.Rising.{pushed}
 use Rattle.module_box.specs.declared.boxes.Box2.{Box2}
-use Rattle.certificate.specs.Entries.{ModuleLines, Setting, modules_of}
-use Rattle.certificate.specs.Jobs.{AreJobsOf, IsJobOf, JobState}
-use Rattle.certificate.specs.ModuleParts.{inner, is_module, part_lines}
-use Rattle.certificate.specs.Versions.{with_halos}
+use Rattle.certificate_lines.specs.Entries.{ModuleLines, Setting, modules_of}
+use Rattle.certificate.specs.Jobs.{AreJobsOf, IsJobOf}
+use Rattle.module_job.specs.Jobs.{JobState}
+use Rattle.certificate_lines.specs.ModuleParts.{inner, is_module}
+use Rattle.certificate.specs.PartLines.{part_lines}
+use Rattle.certificate_lines.specs.Versions.{with_halos}
 use Rattle.certificate.specs.declared.beside.Part.{Part}
-use Rattle.certificate.specs.declared.entry.Entry.{Entry}
-use Rattle.certificate.specs.declared.entry.Entry.TheVariants.{Module}
+use Rattle.certificate_lines.specs.declared.entry.Entry.{Entry}
+use Rattle.certificate_lines.specs.declared.entry.Entry.TheVariants.{Module}
 use Rattle.certificate.proofs.FullModules.{mapped_at, mapped_from}
-use Rattle.certificate.proofs.Lists.{some_is}
-use Rattle.certificate.proofs.ModuleSplit.{split_module, split_other}
+use Rattle.certificate_lines.proofs.Lists.{some_is}
+use Rattle.certificate_lines.proofs.ModuleSplit.{split_module, split_other}
 use Rattle.certificate.proofs.TimetableLemmas.{next_line}
-
-pub line_here : (es : List Entry) (place : ℕ) (e : Entry) → place < length es → e ≡ get_or es place e → drop place es ≡ e ∷ drop (place + 1) es
-line_here es place e lt g =
-    let n : place + 1 ≡ suc place = omega arith in
-    drop-cons es place e lt ∙ ap (λ x. x ∷ drop (suc place) es) (sym g) ∙ ap (λ k. e ∷ drop k es) (sym n)
+use Rattle.certificate_lines.proofs.LinesLeft.{line_here, nothing_left}
 
 cond_append : {A : Type 0} (b : Bool) (x : A) (xs ys : List A) → (if b then x ∷ (xs ++ ys) else xs ++ ys) ≡ (if b then x ∷ xs else xs) ++ ys
 cond_append true x xs ys = refl
@@ -46,10 +43,6 @@ pub all_passed : {A X : Type 0} (test : A → Bool) (f : X → List A) (xs : Lis
 all_passed test f xs i old now le h = h ∙ ap (λ l. old ++ filter test (flat_map f l)) (take_all i xs le)
 
 -- ---- the modules of lines
-
-pub nothing_left : modules_of [] ≡ []
-unfolding modules_of
-nothing_left = refl
 
 pub no_parts : (es : List Entry) → map part_lines [] ++ modules_of (drop 0 es) ≡ modules_of es
 no_parts es = refl

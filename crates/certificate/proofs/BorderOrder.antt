@@ -8,15 +8,15 @@ use Rattle.module_box.specs.Schedules.{IsRising, moment_of, cell_of as held_cell
 use Rattle.module_box.specs.declared.schedules.Event.{Event}
 use Rattle.module_box.specs.declared.schedules.Held.{Held}
 use Rattle.module_box.specs.declared.schedules.Signal.{Signal}
-use Rattle.certificate.specs.Entries.{edge_in, halo_in}
+use Rattle.certificate_lines.specs.Entries.{edge_in, halo_in}
 use Rattle.certificate.specs.Jobs.{held_by, event_by}
-use Rattle.certificate.specs.Orders.{AreInOrder, rank_of, number_of, cell_of, line_cmp, is_cut, may_precede, time_rank}
-use Rattle.certificate.specs.Signals.{renumber_held, renumber_event}
-use Rattle.certificate.specs.declared.entry.Border.{Border}
-use Rattle.certificate.specs.declared.entry.Entry.{Entry}
-use Rattle.certificate.specs.declared.entry.Entry.TheVariants.{Module, Cut, Use, Keep, Edge, Halo, Stop}
-use Rattle.certificate.proofs.Lists.{some_is}
-use Rattle.certificate.proofs.Pairs.{Each, Pairs, pairs_flat, rising_of}
+use Rattle.certificate_lines.specs.Orders.{AreInOrder, rank_of, number_of, cell_of, line_cmp, is_cut, may_precede, time_rank}
+use Rattle.module_job.specs.Signals.{renumber_held, renumber_event}
+use Rattle.certificate_lines.specs.declared.entry.Border.{Border}
+use Rattle.certificate_lines.specs.declared.entry.Entry.{Entry}
+use Rattle.certificate_lines.specs.declared.entry.Entry.TheVariants.{Module, Cut, Use, Keep, Edge, Halo, Stop}
+use Rattle.certificate_lines.proofs.Lists.{some_is}
+use Rattle.certificate_lines.proofs.Pairs.{Each, Pairs, pairs_flat, rising_of}
 
 -- one line comes before another
 abbrev pub Before : Border → Border → Type 0

@@ -1,36 +1,35 @@
 -- The modules of version 2 as modules of version 1
-use Rattle.std.proofs.Common.{◌≡◌, ◌⊎◌, ℕ, zero, suc, ◌+◌, ◌<◌, ◌≤◌, ℤ, Bool, true, false, not, ◌&&◌, ◌||◌, if◌then◌else◌, List, [], ◌∷◌, ◌++◌, map, length, Option, Some, None, Ordering, Less, Equal, Greater, option_map, refl, sym, ap, ap₂, subst, ◌∙◌, inl, inr, arith}
+use Rattle.std.proofs.Common.{◌≡◌, ℕ, zero, suc, ◌<◌, ◌≤◌, ℤ, Bool, true, false, not, ◌&&◌, ◌||◌, List, [], ◌∷◌, ◌++◌, map, length, Option, Some, None, Ordering, Less, Equal, Greater, option_map, refl, sym, ap, ap₂, subst, ◌∙◌, inl, inr, arith}
 use Rattle.std.specs.Prelude.{◌≢◌, slice_get, nat_lt, IfSome, IsTrue}
 use Rattle.std.specs.List.{All, filter, flat_map, list_all, list_any}
 use Rattle.std.specs.Option.{option_to_list}
 use Rattle.std.specs.Ordering.{is_lt, ordering_then, nat_cmp}
 use Rattle.std.proofs.lemmas.Bool.{and_parts, cases_Bool, cond-true, cond-false, true≢false}
-use Rattle.std.proofs.lemmas.Bool.Decides.{nat_tests}
 use Rattle.std.proofs.lemmas.Grind.{flat_map-append}
 use Rattle.std.proofs.lemmas.List.{length-map}
 use Rattle.std.proofs.lemmas.List.Elements.{All-nil, All-cons}
-use Rattle.std.proofs.lemmas.Option.{slice_get-map, slice_get_within}
+use Rattle.std.proofs.lemmas.Option.{slice_get-map}
 use Rattle.bbm_rule.specs.declared.block.Cell.{Cell}
-use Rattle.circuit.specs.Meaning.{Circuit, wire_of}
-use Rattle.pattern.specs.declared.parts.Port.{Port}
-use Rattle.module_box.specs.Boxes.{in_box, in_halo, in_ring, some_neighbour, Tile}
+use Rattle.circuit.specs.Meaning.{wire_of}
+use Rattle.module_box.specs.Boxes.{in_box, in_halo, in_ring, Tile}
 use Rattle.module_box.specs.Locals.{AreLocalLines, local_wires}
 use Rattle.module_box.specs.Moments.{cell_cmp}
 use Rattle.module_box.specs.declared.boxes.Box2.{Box2}
 use Rattle.module_box.proofs.Rising.{cell_exact}
-use Rattle.certificate.specs.Entries.{Setting, ModuleLines, areas, cut_in, use_in, keep_in, edge_in, halo_in, stop_in, cuts, gates, keeps, edges, halos, stops, known, cut_wires}
-use Rattle.certificate.specs.Modules.{AreModules, AreUnstarred, HasPorts, IsBorder, IsEdge, IsHalo, IsKeep, IsModule, IsStop}
-use Rattle.certificate.specs.Orders.{AreInOrder, cell_of, is_cut, line_cmp, may_precede, number_of, rank_of, time_rank}
-use Rattle.certificate.specs.Rules.{is_local, whole}
-use Rattle.certificate.specs.Versions.{beside, in_order, is_early, is_halo, is_haloless, is_strange, lacks_wire, line_order, meant, with_halos, without_halos}
-use Rattle.certificate.specs.declared.entry.Border.{Border}
-use Rattle.certificate.specs.declared.entry.Entry.{Entry}
-use Rattle.certificate.specs.declared.entry.StopLine.{StopLine}
-use Rattle.certificate.specs.declared.entry.Entry.TheVariants.{Module, Cut, Use, Keep, Edge, Halo, Stop}
+use Rattle.certificate_lines.specs.Entries.{Setting, ModuleLines, areas, cut_in, use_in, keep_in, edge_in, halo_in, stop_in, cuts, gates, keeps, edges, halos, stops, known, cut_wires}
+use Rattle.certificate_lines.specs.Modules.{AreModules, AreUnstarred, HasPorts, IsEdge, IsHalo, IsKeep, IsModule, IsStop}
+use Rattle.certificate_lines.specs.Orders.{AreInOrder, cell_of, line_cmp, may_precede, number_of, rank_of, time_rank}
+use Rattle.certificate_lines.specs.Rules.{is_local, whole}
+use Rattle.certificate_lines.specs.Versions.{beside, in_order, is_early, is_halo, is_haloless, is_strange, lacks_wire, line_order, meant, with_halos, without_halos}
+use Rattle.certificate_lines.specs.declared.entry.Border.{Border}
+use Rattle.certificate_lines.specs.declared.entry.Entry.{Entry}
+use Rattle.certificate_lines.specs.declared.entry.StopLine.{StopLine}
+use Rattle.certificate_lines.specs.declared.entry.Entry.TheVariants.{Module, Cut, Use, Keep, Edge, Halo, Stop}
 use Rattle.certificate.proofs.BorderOrder.{Before, edges_rise, pairs_of_order}
-use Rattle.certificate.proofs.LineOrder.{AreDistinct, In, Rises, each_in, filter_in, flat_in, in_each, in_filter, in_flat, in_ordered, line_total, ordered_in, ordered_rises, pairs_filter, pairs_each, rising_distinct, rising_same}
-use Rattle.certificate.proofs.Lists.{any_at, or_parts, passed, some_is}
-use Rattle.certificate.proofs.Pairs.{Each, Pairs, each_append, each_map, each_of_all, pairs_append}
+use Rattle.certificate_lines.proofs.LineOrder.{AreDistinct, In, Rises, each_in, filter_in, in_each, in_filter, in_flat, in_ordered, ordered_rises, pairs_filter, pairs_each, rising_distinct}
+use Rattle.certificate_lines.proofs.Lists.{any_at, some_is}
+use Rattle.certificate_lines.proofs.Pairs.{Each, Pairs, each_append, pairs_append}
+use Rattle.certificate_lines.proofs.InList.{all_in, placed}
 
 -- ---- lists
 
@@ -39,18 +38,8 @@ unfolding Each
 all_of_each P [] e = All-nil P
 all_of_each P (x ∷ xs) e = All-cons P x xs e.0 (all_of_each P xs e.1)
 
-pub all_in : {A : Type 0} (P : A → Type 0) (xs : List A) → All P xs → (x : A) → In x xs → P x
-all_in P xs all x i = each_in P xs (each_of_all P xs all) x i
-
 pub in_all : {A : Type 0} (P : A → Type 0) (xs : List A) → ((x : A) → In x xs → P x) → All P xs
 in_all P xs h = all_of_each P xs (in_each P xs h)
-
--- where an element of a list stands
-pub placed : {A : Type 0} (x : A) (xs : List A) → In x xs → (k : ℕ) × (slice_get xs k ≡ Some x)
-unfolding In
-placed x [] i = absurd i
-placed x (y ∷ ys) (inl same) = (0, ap Some same)
-placed x (y ∷ ys) (inr later) = let r = placed x ys later in (suc r.0, r.1)
 
 pub stands : {A : Type 0} (xs : List A) (k : ℕ) (x : A) → slice_get xs k ≡ Some x → In x xs
 unfolding In

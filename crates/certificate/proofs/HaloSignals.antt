@@ -14,16 +14,17 @@ use Rattle.module_box.specs.declared.schedules.Event.{Event}
 use Rattle.module_box.specs.declared.schedules.Held.{Held}
 use Rattle.module_box.specs.declared.schedules.Signal.{Signal}
 use Rattle.module_box.specs.declared.schedules.Signal.TheVariants.{Zero}
-use Rattle.certificate.specs.Entries.{Setting, ModuleLines, edges, halos}
+use Rattle.certificate_lines.specs.Entries.{Setting, ModuleLines, edges, halos}
 use Rattle.certificate.specs.Jobs.{event_by, held_by, line_signal, line_signals}
 use Rattle.certificate.specs.Laws.{HaloIsEdgeBeside}
-use Rattle.certificate.specs.Modules.{AreModules}
-use Rattle.certificate.specs.Versions.{beside, in_order, line_order, with_halos}
-use Rattle.certificate.specs.declared.entry.Border.{Border}
-use Rattle.certificate.proofs.FullModules.{beside_in, edge_cell, edges_rising, full_halos, full_rises, in_beside, mapped_at, placed, stands}
-use Rattle.certificate.proofs.LineOrder.{In, Rises, filter_in, flat_in, in_filter, in_flat, in_ordered, ordered_in, pairs_filter, rising_same}
-use Rattle.certificate.proofs.Lists.{some_is}
-use Rattle.certificate.proofs.PortLemmas.{cell_same}
+use Rattle.certificate_lines.specs.Modules.{AreModules}
+use Rattle.certificate_lines.specs.Versions.{beside, in_order, line_order, with_halos}
+use Rattle.certificate_lines.specs.declared.entry.Border.{Border}
+use Rattle.certificate.proofs.FullModules.{beside_in, edge_cell, edges_rising, full_halos, full_rises, in_beside, mapped_at, stands}
+use Rattle.certificate_lines.proofs.InList.{placed}
+use Rattle.certificate_lines.proofs.LineOrder.{In, Rises, filter_in, flat_in, in_filter, in_flat, in_ordered, ordered_in, pairs_filter, rising_same}
+use Rattle.certificate_lines.proofs.Lists.{some_is}
+use Rattle.certificate_lines.proofs.PortLemmas.{cell_same}
 
 -- ---- what lines say of a cell is what those for the cell say
 

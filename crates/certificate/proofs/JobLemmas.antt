@@ -11,9 +11,9 @@ use Rattle.pattern.specs.Lines.{size_fault}
 use Rattle.pattern.specs.declared.parts.Extent.{Extent}
 use Rattle.pattern.proofs.TakenLemmas.{is_sized}
 use Rattle.module_box.specs.Locals.{AreLocalLines, LocalNet, is_among, local_wires}
-use Rattle.certificate.specs.Entries.{Setting, ModuleLines, cuts, cut_wires, gates, keeps, known, edges, halos}
-use Rattle.certificate.specs.Grammars.{setting_of}
-use Rattle.certificate.specs.Modules.{IsModule}
+use Rattle.certificate_lines.specs.Entries.{Setting, ModuleLines, cuts, cut_wires, gates, keeps, known, edges, halos}
+use Rattle.certificate_lines.specs.Settings.{setting_of}
+use Rattle.certificate_lines.specs.Modules.{IsModule}
 use Rattle.certificate.specs.Timetables.{IsNamedLocal}
 
 -- the numbers of gates are small

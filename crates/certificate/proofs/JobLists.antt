@@ -1,19 +1,20 @@
 -- The jobs of the modules so far.
-use Rattle.std.proofs.Common.{◌≡◌, ◌⊎◌, ℕ, zero, suc, ◌+◌, ◌-◌, ◌<◌, ◌≤◌, false, List, [], ◌∷◌, ◌++◌, length, take, drop, Some, refl, sym, ap, subst, ◌∙◌, arith, inl, inr, get_or}
+use Rattle.std.proofs.Common.{◌≡◌, ◌⊎◌, ℕ, zero, suc, ◌+◌, ◌-◌, ◌<◌, ◌≤◌, false, List, [], ◌∷◌, ◌++◌, length, drop, Some, refl, sym, ap, subst, ◌∙◌, arith, inl, inr, get_or}
 use Rattle.std.specs.Prelude.{slice_get}
 use Rattle.std.proofs.Math.Seq.{drop-cons}
-use Rattle.std.proofs.lemmas.List.{drop_all, length-drop, take_all}
+use Rattle.std.proofs.lemmas.List.{drop_all, length-drop}
 use Rattle.std.proofs.lemmas.Option.{slice_get_within}
 use Rattle.circuit.specs.Meaning.{Circuit}
 use Rattle.pattern.specs.Layout.{Pattern}
 use Rattle.module_box.specs.declared.boxes.Box2.{Box2}
-use Rattle.certificate.specs.Entries.{ModuleLines, modules_of}
-use Rattle.certificate.specs.Jobs.{JobState, IsJobOf, AreJobsOf}
-use Rattle.certificate.specs.ModuleParts.{inner, is_module}
-use Rattle.certificate.specs.declared.entry.Entry.{Entry}
-use Rattle.certificate.specs.declared.entry.Entry.TheVariants.{Module}
-use Rattle.certificate.proofs.Lists.{some_is}
-use Rattle.certificate.proofs.ModuleSplit.{split_module, split_other}
+use Rattle.certificate_lines.specs.Entries.{ModuleLines, modules_of}
+use Rattle.module_job.specs.Jobs.{JobState}
+use Rattle.certificate.specs.Jobs.{IsJobOf, AreJobsOf}
+use Rattle.certificate_lines.specs.ModuleParts.{inner, is_module}
+use Rattle.certificate_lines.specs.declared.entry.Entry.{Entry}
+use Rattle.certificate_lines.specs.declared.entry.Entry.TheVariants.{Module}
+use Rattle.certificate_lines.proofs.Lists.{some_is}
+use Rattle.certificate_lines.proofs.ModuleSplit.{split_module, split_other}
 
 -- ---- lists
 
@@ -41,12 +42,6 @@ none_left : {X : Type 0} (n : ℕ) (xs : List X) → drop n xs ≡ [] → length
 none_left n xs e =
     let h : length xs - n ≡ 0 = sym (length-drop n xs) ∙ ap length e in
     omega (arith, h)
-
--- the part of a list from a place on
-pub rest_of_lines : {X : Type 0} (xs : List X) (n : ℕ) → take (length xs - n) (drop n xs) ≡ drop n xs
-rest_of_lines xs n =
-    let h = length-drop n xs in
-    take_all (length xs - n) (drop n xs) (omega (arith, h))
 
 -- ---- the modules before a line have their jobs
 

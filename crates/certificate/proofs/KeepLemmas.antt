@@ -6,13 +6,13 @@ use Rattle.std.proofs.lemmas.Option.{get_or_from_slice_get}
 use Rattle.circuit.specs.Gates.{is_inverse}
 use Rattle.circuit.specs.Meaning.{Gate}
 use Rattle.module_box.specs.Locals.{is_among}
-use Rattle.certificate.specs.Entries.{ModuleLines, keep_in, modules_of}
+use Rattle.certificate_lines.specs.Entries.{ModuleLines, keep_in, modules_of}
 use Rattle.certificate.specs.Keeps.{is_kept, unkept_from}
-use Rattle.certificate.specs.ModuleParts.{inner, is_module}
-use Rattle.certificate.specs.declared.entry.Entry.{Entry}
-use Rattle.certificate.specs.declared.entry.Entry.TheVariants.{Module, Cut, Use, Keep, Edge, Halo, Stop}
-use Rattle.certificate.proofs.ModuleSplit.{split_module, split_other}
-use Rattle.certificate.proofs.StarLemmas.{or_none}
+use Rattle.certificate_lines.specs.ModuleParts.{inner, is_module}
+use Rattle.certificate_lines.specs.declared.entry.Entry.{Entry}
+use Rattle.certificate_lines.specs.declared.entry.Entry.TheVariants.{Module, Cut, Use, Keep, Edge, Halo, Stop}
+use Rattle.certificate_lines.proofs.ModuleSplit.{split_module, split_other}
+use Rattle.certificate_lines.proofs.StarLemmas.{or_none}
 
 or_again : (a b c : Bool) → ((a || b) || c) ≡ (a || (b || c))
 or_again true b c = refl

@@ -16,15 +16,15 @@ use Rattle.module_box.specs.declared.schedules.Signal.TheVariants.{Zero}
 use Rattle.module_box.proofs.Rising.{cell_total}
 use Rattle.std.proofs.lemmas.Cmp.{tied_itself, nat_cmp_total}
 use Rattle.certificate.specs.Jobs.{event_by, held_by, line_signal, line_signals}
-use Rattle.certificate.specs.Modules.{AreUnstarred}
-use Rattle.certificate.specs.Orders.{time_rank}
-use Rattle.certificate.specs.Rules.{is_star, is_starred, same_cell}
-use Rattle.certificate.specs.Versions.{line_order}
-use Rattle.certificate.specs.declared.entry.Border.{Border}
+use Rattle.certificate_lines.specs.Modules.{AreUnstarred}
+use Rattle.certificate_lines.specs.Orders.{time_rank}
+use Rattle.certificate_lines.specs.Rules.{is_star, is_starred, same_cell}
+use Rattle.certificate_lines.specs.Versions.{line_order}
+use Rattle.certificate_lines.specs.declared.entry.Border.{Border}
 use Rattle.certificate.proofs.HaloSignals.{event_past, held_past}
-use Rattle.certificate.proofs.LineOrder.{In, Rises, each_in, line_total, not_itself}
-use Rattle.certificate.proofs.Pairs.{Each, Pairs}
-use Rattle.certificate.proofs.PortLemmas.{cell_itself, cell_same}
+use Rattle.certificate_lines.proofs.LineOrder.{In, Rises, each_in, line_total, not_itself}
+use Rattle.certificate_lines.proofs.Pairs.{Each, Pairs}
+use Rattle.certificate_lines.proofs.PortLemmas.{cell_itself, cell_same}
 
 -- the line says something at the time
 abbrev pub SaysAt : ℕ → Option ℕ → Type 0

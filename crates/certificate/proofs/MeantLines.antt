@@ -5,10 +5,10 @@ use Rattle.std.proofs.lemmas.Bool.{cases_Bool}
 use Rattle.circuit.specs.Gates.{is_inverse}
 use Rattle.circuit.specs.Meaning.{Circuit, Gate}
 use Rattle.module_box.specs.Locals.{is_among}
-use Rattle.certificate.specs.Entries.{Setting, ModuleLines, keep_in, keeps, stops}
+use Rattle.certificate_lines.specs.Entries.{Setting, ModuleLines, keep_in, keeps, stops}
 use Rattle.certificate.specs.Keeps.{is_kept, unkept, unkept_from}
 use Rattle.certificate.specs.Times.{all_stops, first_seen, last_seen, lines_by, time_lines}
-use Rattle.certificate.specs.Versions.{beside, in_order, is_haloless, meant, with_halos}
+use Rattle.certificate_lines.specs.Versions.{beside, in_order, is_haloless, meant, with_halos}
 use Rattle.certificate.proofs.FullModules.{meant_new, meant_old, other_lines, stop_lines}
 
 module _ (g : Setting) (ms : List ModuleLines) where

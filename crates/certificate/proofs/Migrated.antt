@@ -11,19 +11,19 @@ use Rattle.circuit.specs.Meaning.{Circuit, wire_of}
 use Rattle.module_box.specs.Boxes.{in_box, in_halo}
 use Rattle.module_box.specs.Locals.{local_wires}
 use Rattle.module_box.specs.declared.boxes.Box2.{Box2}
-use Rattle.certificate.specs.Entries.{Setting, ModuleLines, add_line, areas, change_last, cut_in, cut_wires, cuts, edge_in, edges, gates, halo_in, halos, known, last_of, modules_of, present, stop_in, stops, use_in, with_line}
+use Rattle.certificate_lines.specs.Entries.{Setting, ModuleLines, add_line, areas, change_last, cut_in, cut_wires, cuts, edge_in, edges, gates, halo_in, halos, known, last_of, modules_of, present, stop_in, stops, use_in, with_line}
 use Rattle.certificate.specs.Laws.{AreFaultlessLines, GoodWithoutHalos, IsSectionOf, SectionWithoutHalos}
 use Rattle.certificate.specs.Grammars.{certificate_grammar}
-use Rattle.certificate.specs.Modules.{AreModules}
-use Rattle.certificate.specs.Orders.{may_follow, may_precede}
-use Rattle.certificate.specs.Rules.{cut_fault, is_edge_place, is_starred, use_fault, keep_fault, is_stop_place, border_count, border_fault, border_limit, end_fault, entry_fault, inner_fault, is_incomplete, is_local, lacks_port, leaves_gap, line_fault, module_fault, box_fault, is_misplaced, is_wrong_side, overlaps, words_fault}
-use Rattle.certificate.specs.Versions.{AreGoodLines, beside, in_order, is_early, is_halo, is_haloless, is_strange, lacks_wire, meant, stripped, with_halos, without_halos}
-use Rattle.certificate.specs.declared.entry.Border.{Border}
-use Rattle.certificate.specs.declared.entry.Entry.{Entry}
-use Rattle.certificate.specs.declared.entry.Entry.TheVariants.{Module, Cut, Use, Keep, Edge, Halo, Stop}
+use Rattle.certificate_lines.specs.Modules.{AreModules}
+use Rattle.certificate_lines.specs.Orders.{may_follow, may_precede}
+use Rattle.certificate_lines.specs.Rules.{cut_fault, is_edge_place, is_starred, use_fault, keep_fault, is_stop_place, border_count, border_fault, border_limit, end_fault, entry_fault, inner_fault, is_incomplete, is_local, lacks_port, leaves_gap, line_fault, module_fault, box_fault, is_misplaced, is_wrong_side, overlaps, words_fault}
+use Rattle.certificate_lines.specs.Versions.{AreGoodLines, beside, in_order, is_early, is_halo, is_haloless, is_strange, lacks_wire, meant, stripped, with_halos, without_halos}
+use Rattle.certificate_lines.specs.declared.entry.Border.{Border}
+use Rattle.certificate_lines.specs.declared.entry.Entry.{Entry}
+use Rattle.certificate_lines.specs.declared.entry.Entry.TheVariants.{Module, Cut, Use, Keep, Edge, Halo, Stop}
 use Rattle.certificate.proofs.FullModules.{meant_new, no_halo_left, without_same}
-use Rattle.certificate.proofs.Growing.{map_changed, unchanged}
-use Rattle.certificate.proofs.ModulePushes.{both_none, no_code}
+use Rattle.certificate_lines.proofs.Growing.{map_changed, unchanged}
+use Rattle.certificate_lines.proofs.ModulePushes.{both_none, no_code}
 use Rattle.certificate.proofs.Soundness.{faultless_modules}
 use Rattle.section_text.proofs.Good.{AreFaultless}
 

@@ -18,15 +18,15 @@ use Rattle.module_box.specs.declared.schedules.Event.{Event}
 use Rattle.module_box.specs.declared.schedules.Held.{Held}
 use Rattle.module_box.specs.declared.schedules.Signal.{Signal}
 use Rattle.module_box.proofs.BoxCells.{in_box_nats}
-use Rattle.certificate.specs.Entries.{Setting, ModuleLines, edges, halos, stops}
+use Rattle.certificate_lines.specs.Entries.{Setting, ModuleLines, edges, halos, stops}
 use Rattle.certificate.specs.Jobs.{held_by, event_by, line_signal, line_signals}
-use Rattle.certificate.specs.Modules.{IsModule}
-use Rattle.certificate.specs.Rules.{whole}
-use Rattle.certificate.specs.Shapes.{back, moved_stop}
-use Rattle.certificate.specs.Signals.{renumber_held, renumber_event, renumber_signals}
+use Rattle.certificate_lines.specs.Modules.{IsModule}
+use Rattle.certificate_lines.specs.Rules.{whole}
+use Rattle.module_job.specs.Shapes.{back, moved_stop}
+use Rattle.module_job.specs.Signals.{renumber_held, renumber_event, renumber_signals}
 use Rattle.certificate.specs.Timetables.{IsLow}
-use Rattle.certificate.specs.declared.entry.Border.{Border}
-use Rattle.certificate.specs.declared.job.Stop.{Stop}
+use Rattle.certificate_lines.specs.declared.entry.Border.{Border}
+use Rattle.module_job.specs.declared.job.Stop.{Stop}
 use Rattle.certificate.proofs.JobLemmas.{within_512}
 
 low_number : (z : ℤ) (k : ℕ) → z ≡ pos k → k < 512 → (pos 0 ≤ℤ z) × (z ≤ℤ pos 511)

@@ -4,8 +4,8 @@ use Rattle.std.specs.List.{flat_map}
 use Rattle.std.proofs.lemmas.Grind.{flat_map-append}
 use Rattle.std.proofs.lemmas.List.{take_all, take_more}
 use Rattle.certificate.specs.Text.{entry_text}
-use Rattle.certificate.specs.Versions.{without_halos}
-use Rattle.certificate.specs.declared.entry.Entry.{Entry}
+use Rattle.certificate_lines.specs.Versions.{without_halos}
+use Rattle.certificate_lines.specs.declared.entry.Entry.{Entry}
 use Rattle.certificate.proofs.Migrated.{without_append}
 
 pub none_printed : (old : List ℕ) → old ≡ old ++ flat_map entry_text (without_halos [])

@@ -8,11 +8,12 @@ use Rattle.std.specs.Ordering.{is_eq, is_lt, ordering_reverse}
 use Rattle.std.proofs.lemmas.List.Sorted.{IsPermutation-sym, All-permutation, ranks_by, sorted_far, sum_by-IsPermutation}
 use Rattle.std.proofs.lemmas.List.Sums.{sum_by-cons}
 use Rattle.std.proofs.lemmas.Option.{get_or_from_slice_get, slice_get_within}
-use Rattle.certificate.specs.Versions.{in_order, line_order}
-use Rattle.certificate.specs.declared.entry.Border.{Border}
-use Rattle.certificate.proofs.FullModules.{all_in, in_all, pairs_by_place}
-use Rattle.certificate.proofs.LineOrder.{AreDistinct, In, Rises, in_each, each_in, in_ordered, line_total, ordered_in, ordered_rises, rising_same}
-use Rattle.certificate.proofs.Pairs.{Each, Pairs, pairs_at}
+use Rattle.certificate_lines.specs.Versions.{in_order, line_order}
+use Rattle.certificate_lines.specs.declared.entry.Border.{Border}
+use Rattle.certificate_lines.proofs.InList.{all_in}
+use Rattle.certificate.proofs.FullModules.{in_all, pairs_by_place}
+use Rattle.certificate_lines.proofs.LineOrder.{AreDistinct, In, Rises, in_each, each_in, in_ordered, line_total, ordered_in, ordered_rises, rising_same}
+use Rattle.certificate_lines.proofs.Pairs.{Each, Pairs, pairs_at}
 
 -- how many lines stand nowhere apart from the line
 beat : Border → Border → ℕ

@@ -15,20 +15,20 @@ use Rattle.section_text.proofs.Good.{AreFaultless, IsFaultless}
 use Rattle.module_box.specs.Boxes.{in_box, Tile}
 use Rattle.module_box.specs.Tiling.{IsInside}
 use Rattle.module_box.specs.declared.boxes.Box2.{Box2}
-use Rattle.certificate.specs.Entries.{Setting, ModuleLines, with_line, change_last, last_of, add_line, modules_of, present, areas, known}
-use Rattle.certificate.specs.Rules.{whole, box_cells, in_boxes, is_local, is_incomplete, lacks_port, leaves_gap, entry_fault, end_fault}
+use Rattle.certificate_lines.specs.Entries.{Setting, ModuleLines, with_line, change_last, last_of, add_line, modules_of, present, areas, known}
+use Rattle.certificate_lines.specs.Rules.{whole, box_cells, in_boxes, is_local, is_incomplete, lacks_port, leaves_gap, entry_fault, end_fault}
 use Rattle.certificate.specs.Grammars.{certificate_grammar}
-use Rattle.certificate.specs.Versions.{is_haloless, lacks_wire}
-use Rattle.certificate.specs.Modules.{HasFewLines, HasPorts, AreModules}
-use Rattle.certificate.specs.BuilderView.{AreSound, IsWritten}
-use Rattle.certificate.specs.declared.entry.Entry.{Entry}
-use Rattle.certificate.specs.declared.entry.Entry.TheVariants.{Module, Cut, Use, Keep, Edge, Halo, Stop}
-use Rattle.certificate.proofs.BuiltLemmas.{good_module, line_sound, module_sound, sound_none, or_false, last_is}
-use Rattle.certificate.proofs.Growing.{modules_push}
-use Rattle.certificate.proofs.Keeping.{good_line, IsGoodLine}
-use Rattle.certificate.proofs.Lists.{any_at, or_parts, passed, some_is}
-use Rattle.certificate.proofs.ModulePushes.{both_none, no_code, new_wire, good_use, cut_pushed, use_pushed, keep_pushed, edge_pushed, halo_pushed, stop_pushed}
-use Rattle.certificate.proofs.PortLemmas.{cell_same, in_box_cells}
+use Rattle.certificate_lines.specs.Versions.{is_haloless, lacks_wire}
+use Rattle.certificate_lines.specs.Modules.{HasFewLines, HasPorts, AreModules}
+use Rattle.certificate_lines.specs.BuilderView.{AreSound, IsWritten}
+use Rattle.certificate_lines.specs.declared.entry.Entry.{Entry}
+use Rattle.certificate_lines.specs.declared.entry.Entry.TheVariants.{Module, Cut, Use, Keep, Edge, Halo, Stop}
+use Rattle.certificate_lines.proofs.BuiltLemmas.{good_module, line_sound, module_sound, sound_none, or_false, last_is}
+use Rattle.certificate_lines.proofs.Growing.{modules_push}
+use Rattle.certificate_lines.proofs.Keeping.{good_line, IsGoodLine}
+use Rattle.certificate_lines.proofs.Lists.{any_at, or_parts, passed, some_is}
+use Rattle.certificate_lines.proofs.ModulePushes.{both_none, no_code, new_wire, good_use, cut_pushed, use_pushed, keep_pushed, edge_pushed, halo_pushed, stop_pushed}
+use Rattle.certificate_lines.proofs.PortLemmas.{cell_same, in_box_cells}
 
 module _ (g : Setting) (es : List Entry) (sound : AreSound g (modules_of es)) where
   -- one more line of the last module

@@ -10,19 +10,20 @@ use Rattle.module_box.specs.Locals.{LocalNet, circuit_wire}
 use Rattle.module_box.specs.Moments.{cell_cmp, moment_cmp}
 use Rattle.module_box.specs.Schedules.{IsRising}
 use Rattle.module_box.specs.declared.schedules.Moment.{Moment}
-use Rattle.certificate.specs.Entries.{Setting, ModuleLines, stop_in, stops, known}
-use Rattle.certificate.specs.Jobs.{line_stops, numbered_stop, stop_moment}
-use Rattle.certificate.specs.Modules.{IsModule}
-use Rattle.certificate.specs.Orders.{AreInOrder, rank_of, number_of, cell_of, line_cmp, is_cut, may_precede}
-use Rattle.certificate.specs.Rules.{is_local}
-use Rattle.certificate.specs.Signals.{renumber_stop}
+use Rattle.certificate_lines.specs.Entries.{Setting, ModuleLines, stop_in, stops, known}
+use Rattle.certificate.specs.Jobs.{line_stops, numbered_stop}
+use Rattle.module_job.specs.Jobs.{stop_moment}
+use Rattle.certificate_lines.specs.Modules.{IsModule}
+use Rattle.certificate_lines.specs.Orders.{AreInOrder, rank_of, number_of, cell_of, line_cmp, is_cut, may_precede}
+use Rattle.certificate_lines.specs.Rules.{is_local}
+use Rattle.module_job.specs.Signals.{renumber_stop}
 use Rattle.certificate.specs.StopLists.{AreStops}
-use Rattle.certificate.specs.declared.entry.Entry.{Entry}
-use Rattle.certificate.specs.declared.entry.Entry.TheVariants.{Module, Cut, Use, Keep, Edge, Halo, Stop}
-use Rattle.certificate.specs.declared.entry.StopLine.{StopLine}
-use Rattle.certificate.specs.declared.job.Stop as listed
+use Rattle.certificate_lines.specs.declared.entry.Entry.{Entry}
+use Rattle.certificate_lines.specs.declared.entry.Entry.TheVariants.{Module, Cut, Use, Keep, Edge, Halo, Stop}
+use Rattle.certificate_lines.specs.declared.entry.StopLine.{StopLine}
+use Rattle.module_job.specs.declared.job.Stop as listed
 use Rattle.certificate.proofs.BorderOrder.{is_less, pairs_of_order}
-use Rattle.certificate.proofs.Pairs.{Each, Pairs, pairs_flat, rising_of}
+use Rattle.certificate_lines.proofs.Pairs.{Each, Pairs, pairs_flat, rising_of}
 use Rattle.certificate.proofs.TimetableLemmas.{next_line}
 
 -- ---- one line more

@@ -6,21 +6,21 @@ use Rattle.std.proofs.lemmas.List.{drop_all, take_all}
 use Rattle.std.proofs.lemmas.Option.{same_Some, slice_get-get_or, slice_get_within}
 use Rattle.circuit.specs.Meaning.{Circuit, Gate}
 use Rattle.section_text.proofs.Good.{AreFaultless, IsFaultless}
-use Rattle.certificate.specs.Entries.{ModuleLines, Setting, last_of, modules_of, stop_in}
+use Rattle.certificate_lines.specs.Entries.{ModuleLines, Setting, last_of, modules_of, stop_in}
 use Rattle.certificate.specs.Grammars.{certificate_grammar}
-use Rattle.certificate.specs.Rules.{entry_fault}
-use Rattle.certificate.specs.ModuleParts.{inner, is_module}
+use Rattle.certificate_lines.specs.Rules.{entry_fault}
+use Rattle.certificate_lines.specs.ModuleParts.{inner, is_module}
 use Rattle.certificate.specs.Times.{all_stops, lines_by, numbered, time_lines}
 use Rattle.certificate.specs.SeenTimes.{IsTable, seen, told_by}
 use Rattle.certificate.specs.declared.times.Choice.{Choice}
 use Rattle.certificate.specs.declared.times.Choice.TheVariants.{First, Last}
-use Rattle.certificate.specs.declared.entry.StopLine.{StopLine}
-use Rattle.certificate.specs.declared.entry.Entry.{Entry}
-use Rattle.certificate.specs.declared.entry.Entry.TheVariants.{Module, Cut, Use, Keep, Edge, Halo, Stop}
+use Rattle.certificate_lines.specs.declared.entry.StopLine.{StopLine}
+use Rattle.certificate_lines.specs.declared.entry.Entry.{Entry}
+use Rattle.certificate_lines.specs.declared.entry.Entry.TheVariants.{Module, Cut, Use, Keep, Edge, Halo, Stop}
 use Rattle.certificate.specs.declared.times.TimeLine.{TimeLine}
-use Rattle.certificate.proofs.InnerLines.{inner_module, inner_other}
-use Rattle.certificate.proofs.ModulePushes.{both_none}
-use Rattle.certificate.proofs.ModuleSplit.{split_module, split_other}
+use Rattle.certificate_lines.proofs.InnerLines.{inner_module, inner_other}
+use Rattle.certificate_lines.proofs.ModulePushes.{both_none}
+use Rattle.certificate_lines.proofs.ModuleSplit.{split_module, split_other}
 
 -- ---- the stops of all lines from the first module line on are those of all modules
 

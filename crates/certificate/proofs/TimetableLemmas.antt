@@ -15,16 +15,16 @@ use Rattle.module_box.specs.declared.schedules.Event.{Event}
 use Rattle.module_box.specs.declared.schedules.Held.{Held}
 use Rattle.module_box.specs.declared.schedules.Signal.{Signal}
 use Rattle.certificate.specs.Jobs.{held_by, event_by, line_signal}
-use Rattle.certificate.specs.Orders.{AreInOrder}
-use Rattle.certificate.specs.Signals.{IsBelow, renumber_signal, renumber_held, renumber_event}
+use Rattle.certificate_lines.specs.Orders.{AreInOrder}
+use Rattle.module_job.specs.Signals.{IsBelow, renumber_signal, renumber_held, renumber_event}
 use Rattle.certificate.specs.Timetables.{IsTimetable, borders_in}
-use Rattle.certificate.specs.declared.entry.Border.{Border}
-use Rattle.certificate.specs.declared.entry.Entry.{Entry}
+use Rattle.certificate_lines.specs.declared.entry.Border.{Border}
+use Rattle.certificate_lines.specs.declared.entry.Entry.{Entry}
 use Rattle.certificate.specs.declared.timetable.Side.{Side}
 use Rattle.certificate.specs.declared.timetable.Side.TheVariants.{Ring, Halo}
 use Rattle.certificate.specs.declared.timetable.Timetable.{Timetable}
 use Rattle.certificate.proofs.BorderOrder.{Before, edges_rise, halos_rise, held_rises, events_rise}
-use Rattle.certificate.proofs.Pairs.{Pairs}
+use Rattle.certificate_lines.proofs.Pairs.{Pairs}
 
 pub both_ok : {T E : Type 0} (r : Result T E) (P Q R : Type 0) → (P → Q → R) → OnOk r P → OnOk r Q → OnOk r R
 both_ok (Ok x) P Q R h p q = h p q

@@ -4,7 +4,7 @@ use Rattle.std.specs.List.{All}
 use Rattle.circuit.specs.Gates.{Delay}
 use Rattle.circuit.specs.Meaning.{Circuit, Gate}
 use Rattle.certificate.specs.Times.{times_of}
-use Rattle.certificate.specs.declared.entry.StopLine.{StopLine}
+use Rattle.certificate_lines.specs.declared.entry.StopLine.{StopLine}
 use Rattle.certificate.specs.declared.times.Gap.{Gap}
 use Rattle.certificate.specs.declared.times.Gap.TheVariants.{Steps, Missing, Before}
 use Rattle.certificate.specs.declared.times.TimeLine.{TimeLine}

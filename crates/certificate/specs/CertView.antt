@@ -1,10 +1,11 @@
 -- The fields of a certificate, and what contracts see of them
 use Rattle.std.specs.Prelude.{◌≡◌, ◌≤◌, ◌&&◌, false, map}
 use Rattle.std.specs.List.{All}
-use Rattle.certificate.specs.Entries.{modules_of, counts_of}
-use Rattle.certificate.specs.Grammars.{CertState, setting_of}
-use Rattle.certificate.specs.Modules.{AreModules, HasFewLines}
-use Rattle.certificate.specs.Versions.{is_haloless, lacks_wire}
+use Rattle.certificate_lines.specs.Entries.{modules_of, counts_of}
+use Rattle.certificate.specs.Grammars.{CertState}
+use Rattle.certificate_lines.specs.Settings.{setting_of}
+use Rattle.certificate_lines.specs.Modules.{AreModules, HasFewLines}
+use Rattle.certificate_lines.specs.Versions.{is_haloless, lacks_wire}
 use Rattle.certificate.specs.declared.cert.Cert.TheInside.{Inside}
 
 abbrev pub cert_state : Inside → CertState

@@ -1,15 +1,15 @@
 -- The certificate section
-use Rattle.std.specs.Prelude.{ℕ, not, ◌==◌, ◌&&◌, ◌||◌, ◌++◌, List}
+use Rattle.std.specs.Prelude.{ℕ, not, ◌==◌, ◌&&◌, ◌||◌, List}
 use Rattle.section_text.specs.Codes.{code_where, no_form, or_else, past_limit, something_missing}
 use Rattle.section_text.specs.Section.{Grammar}
-use Rattle.circuit.specs.Bridge.{circuit_of}
 use Rattle.pattern.specs.Layout.{Pattern}
-use Rattle.certificate.specs.Entries.{Setting, ModuleLines, modules_of}
-use Rattle.certificate.specs.Forms.{form_of}
-use Rattle.certificate.specs.Rules.{entry_fault, end_fault}
-use Rattle.certificate.specs.Versions.{is_halo, is_haloless, lacks_wire, meant, without_halos}
-use Rattle.certificate.specs.declared.entry.Entry.{Entry}
+use Rattle.certificate_lines.specs.Entries.{Setting, ModuleLines, modules_of}
+use Rattle.certificate_lines.specs.Forms.{form_of}
+use Rattle.certificate_lines.specs.Rules.{entry_fault, end_fault}
+use Rattle.certificate_lines.specs.Versions.{is_halo, is_haloless, lacks_wire, meant, without_halos}
+use Rattle.certificate_lines.specs.declared.entry.Entry.{Entry}
 use Rattle.circuit.specs.declared.entry.Entry.{Entry as CircuitLine}
+use Rattle.certificate_lines.specs.Settings.{setting_of}
 
 -- The section, for a circuit and a layout. The version is 1 or 2. In version 2 a halo line has no form of the section, and at the
 -- end each module knows the wires of the edge lines beside it.
@@ -32,10 +32,6 @@ pub record CertState : Type 0 where
 -- what the section gives
 abbrev pub certificate_value : CertState → ℕ × List Entry
 certificate_value c = (c.version, c.entries)
-
--- a circuit of these lines, and a layout
-abbrev pub setting_of : List CircuitLine → Pattern → Setting
-setting_of lines p = record { circuit = circuit_of lines; size = p.size; ports = p.ins ++ p.outs }
 
 -- the modules of a certificate, with the halo lines that it has or that its edge lines stand for
 abbrev pub modules_in : CertState → List ModuleLines

@@ -1,90 +1,26 @@
 -- The job of a module: all that its run by itself needs
-use Rattle.std.specs.Prelude.{◌≡◌, ℕ, ℤ, ◌+◌, ◌-◌, ◌*◌, ◌<◌, ◌≤◌, ◌||◌, Bool, true, false, if◌then◌else◌, List, [], ◌∷◌, length, map, Option, Some, None, unwrap_or, slice_get, IsTrue}
+use Rattle.std.specs.Prelude.{◌≡◌, ℕ, ℤ, ◌<◌, ◌||◌, Bool, true, false, if◌then◌else◌, List, [], ◌∷◌, length, map, Option, Some, None, slice_get, IsTrue}
 use Rattle.std.specs.List.{All, flat_map}
-use Rattle.std.specs.Int.RustNames.{unsigned_abs}
-use Rattle.bbm_rule.specs.Plane.{is_at}
-use Rattle.circuit.specs.Meaning.{Circuit, wire_of, wires}
+use Rattle.circuit.specs.Meaning.{Circuit, wire_of}
 use Rattle.pattern.specs.Layout.{Pattern, in_cells, in_rectangles}
-use Rattle.pattern.specs.declared.parts.Port.{Port}
-use Rattle.module_box.specs.Boxes.{in_box, IsEven}
-use Rattle.module_box.specs.Locals.{LocalNet, AreLocalsOf, circuit_gate, circuit_wire}
-use Rattle.module_box.specs.Moments.{moment_cmp}
-use Rattle.module_box.specs.Schedules.{Signals, IsRising}
-use Rattle.module_box.specs.declared.boxes.Box2.{Box2}
+use Rattle.module_box.specs.Boxes.{in_box}
+use Rattle.module_box.specs.Locals.{AreLocalsOf, circuit_gate, circuit_wire}
+use Rattle.module_box.specs.Schedules.{Signals}
 use Rattle.module_box.specs.declared.schedules.Event.{Event}
 use Rattle.module_box.specs.declared.schedules.Held.{Held}
-use Rattle.module_box.specs.declared.schedules.Moment.{Moment}
 use Rattle.module_box.specs.declared.schedules.Signal.{Signal}
 use Rattle.module_box.specs.declared.schedules.Signal.TheVariants.{Zero, One, Wire}
-use Rattle.certificate.specs.Entries.{ModuleLines, cuts, gates, keeps, edges, halos, stops, known}
-use Rattle.certificate.specs.Signals.{IsBelow, IsDemandBelow, renumber_signal, renumber_demand, renumber_signals, renumber_stop}
-use Rattle.certificate.specs.declared.entry.Border.{Border}
-use Rattle.certificate.specs.declared.entry.StopLine.{StopLine}
-use Rattle.certificate.specs.declared.job.Demand.{Demand}
-use Rattle.certificate.specs.declared.job.Demand.TheVariants as Demanded
-use Rattle.certificate.specs.declared.job.Stop.{Stop}
-
--- Box and steps; the module's wires and gates by numbers of its own; what each cell of the box carries at time 0, and what it
--- is to be at the last time, row by row; what the cells of ring and halo carry at odd times; its stops; and the gates that it keeps,
--- by their places among those that it uses.
-pub record JobState : Type 0 where
-  pub area : Box2
-  pub steps : ℕ
-  pub locals : LocalNet
-  pub starts : List Signal
-  pub demands : List Demand
-  pub edges : Signals
-  pub halos : Signals
-  pub stops : List Stop
-  pub kept : List ℕ
-
--- the place of the cell (x, y) of a box, whose cells are counted row by row
-abbrev pub place_in : Box2 → ℤ → ℤ → ℕ
-place_in b x y = (unsigned_abs y - b.y) * b.w + (unsigned_abs x - b.x)
-
--- what the cell (x, y) carries at time 0, where a cell outside the box is dead
-unfoldable pub job_start : JobState → ℤ → ℤ → Signal
-job_start j x y = if in_box j.area x y then unwrap_or (slice_get j.starts (place_in j.area x y)) Zero else Zero
-
--- what the cell (x, y) is to be at the last time
-unfoldable pub job_demand : JobState → ℤ → ℤ → Demand
-job_demand j x y = if in_box j.area x y then unwrap_or (slice_get j.demands (place_in j.area x y)) Demanded.Dead else Demanded.Dead
-
--- each wire that the job names is one of its own
-pub record NamesOwnWires (j : JobState) : Type 0 where
-  pub starts : All (IsBelow (wires j.locals.netlist)) j.starts
-  pub demands : All (IsDemandBelow (wires j.locals.netlist)) j.demands
-  pub edge_held : All (λ h. IsBelow (wires j.locals.netlist) h.signal) j.edges.held
-  pub edge_events : All (λ e. IsBelow (wires j.locals.netlist) e.signal) j.edges.events
-  pub halo_held : All (λ h. IsBelow (wires j.locals.netlist) h.signal) j.halos.held
-  pub halo_events : All (λ e. IsBelow (wires j.locals.netlist) e.signal) j.halos.events
-  pub stops : All (λ s. s.wire < wires j.locals.netlist) j.stops
-
--- a stop is at a time up to the last one, and at a cell of the box
-pub record IsStopOf (j : JobState) (s : Stop) : Type 0 where
-  pub time : s.at.time ≤ j.steps
-  pub inside : IsTrue (in_box j.area s.at.cell.x s.at.cell.y)
-
-abbrev pub stop_moment : Stop → Moment
-stop_moment s = s.at
-
--- A job within the limits of a certificate: its box is even, has sides of 2 to 64 and lies in a rectangle of 512 by 512 cells.
--- It has at most 65,536 steps, it names its own wires, and its stops rise by time, y and x.
-pub record IsJob (j : JobState) : Type 0 where
-  pub even : IsEven j.area
-  pub width : (2 ≤ j.area.w) × (j.area.w ≤ 64) × (j.area.x + j.area.w ≤ 512)
-  pub height : (2 ≤ j.area.h) × (j.area.h ≤ 64) × (j.area.y + j.area.h ≤ 512)
-  pub steps : j.steps ≤ 65536
-  pub own : NamesOwnWires j
-  pub stops : All (IsStopOf j) j.stops
-  pub stops_rise : IsRising moment_cmp stop_moment j.stops
+use Rattle.certificate_lines.specs.Entries.{ModuleLines, cuts, gates, keeps, edges, halos, stops, known}
+use Rattle.module_job.specs.Signals.{renumber_signal, renumber_demand, renumber_signals, renumber_stop}
+use Rattle.certificate_lines.specs.declared.entry.Border.{Border}
+use Rattle.certificate_lines.specs.declared.entry.StopLine.{StopLine}
+use Rattle.module_job.specs.declared.job.Demand.{Demand}
+use Rattle.module_job.specs.declared.job.Demand.TheVariants as Demanded
+use Rattle.module_job.specs.declared.job.Stop.{Stop}
+use Rattle.module_job.specs.Jobs.{JobState, job_start, job_demand, NamesOwnWires}
+use Rattle.certificate_lines.specs.PortTables.{port_at}
 
 -- ---- what a layout and the lines of a module ask for, by the wires of the circuit
-
--- the name of the port at the cell (x, y)
-unfoldable pub port_at : List Port → ℤ → ℤ → Option (List ℕ)
-port_at [] x y = None
-port_at (p ∷ ps) x y = if is_at p.cell x y then Some p.name else port_at ps x y
 
 abbrev pub named_wire : Circuit → Option (List ℕ) → Option ℕ
 named_wire c None = None

@@ -4,7 +4,7 @@ use Rattle.std.specs.List.{list_any}
 use Rattle.circuit.specs.Gates.{is_inverse}
 use Rattle.circuit.specs.Meaning.{Gate}
 use Rattle.module_box.specs.Locals.{is_among}
-use Rattle.certificate.specs.Entries.{Setting, ModuleLines, keeps}
+use Rattle.certificate_lines.specs.Entries.{Setting, ModuleLines, keeps}
 
 -- whether some module keeps the gate of this number
 abbrev pub is_kept : List ModuleLines → ℕ → Bool

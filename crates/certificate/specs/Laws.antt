@@ -1,24 +1,21 @@
 -- Laws of the certificate section, and of jobs
 use Rattle.std.specs.Prelude.{◌≡◌, ℕ, ℤ, ◌+◌, ◌<◌, ◌≤◌, ◌%◌, ◌&&◌, false, Contains, IsTrue, List, [], ◌∷◌, ◌++◌, None, Some, length, slice_get, take, drop, Ok}
 use Rattle.std.specs.List.{All, flat_map}
-use Rattle.std.specs.Bool.{Decides}
 use Rattle.section_text.specs.Words.{lines_of}
 use Rattle.section_text.specs.Section.{section_of, ended_line}
 use Rattle.module_box.specs.Boxes.{in_box, in_halo}
 use Rattle.module_box.specs.Schedules.{signal_at}
-use Rattle.certificate.specs.Entries.{ModuleLines, Setting, edges, halos, modules_of}
+use Rattle.certificate_lines.specs.Entries.{ModuleLines, Setting, edges, halos, modules_of}
 use Rattle.certificate.specs.Grammars.{CertState, certificate_grammar, certificate_value}
-use Rattle.certificate.specs.Equality.{same_job, same_shape}
-use Rattle.certificate.specs.Jobs.{JobState, line_signals}
-use Rattle.certificate.specs.Modules.{AreModules}
-use Rattle.certificate.specs.Rules.{end_fault}
-use Rattle.certificate.specs.Shapes.{ShapeState, placed, shape_of}
-use Rattle.certificate.specs.Versions.{AreGoodLines, is_haloless, lacks_wire, meant, with_halos, without_halos}
-use Rattle.certificate.specs.declared.entry.Entry.{Entry}
+use Rattle.certificate.specs.Jobs.{line_signals}
+use Rattle.certificate_lines.specs.Modules.{AreModules}
+use Rattle.certificate_lines.specs.Rules.{end_fault}
+use Rattle.certificate_lines.specs.Versions.{AreGoodLines, is_haloless, lacks_wire, meant, with_halos, without_halos}
+use Rattle.certificate_lines.specs.declared.entry.Entry.{Entry}
 use Rattle.certificate.specs.Text.{certificate_text}
 use Rattle.certificate.specs.Arrivals.{AreOnTime, Tells}
 use Rattle.certificate.specs.Times.{all_stops, are_all_kept, first_seen, last_seen, time_lines, times_of}
-use Rattle.certificate.specs.declared.entry.StopLine.{StopLine}
+use Rattle.certificate_lines.specs.declared.entry.StopLine.{StopLine}
 use Rattle.circuit.specs.Meaning.{Circuit}
 
 -- the text of a certificate that is read is the text of the lines that it is read from
@@ -32,20 +29,6 @@ abbrev pub ReadsWhatIsPrinted : Type 0
 ReadsWhatIsPrinted = (g : Setting) (text : List ℕ) (from n m : ℕ) (c : CertState) →
     section_of (certificate_grammar g) n (drop from (lines_of text)) ≡ Ok (certificate_value c) →
     section_of (certificate_grammar g) m (lines_of (certificate_text c)) ≡ Ok (certificate_value c)
-
--- two jobs are equal by `==` exactly where they are the same
-abbrev pub JobEqualityDecides : Type 0
-JobEqualityDecides = (j k : JobState) → Decides (same_job j k) (j ≡ k)
-
--- and so are two shapes
-abbrev pub ShapeEqualityDecides : Type 0
-ShapeEqualityDecides = (s t : ShapeState) → Decides (same_shape s t) (s ≡ t)
-
--- A job is its shape, placed where its box lies and over its wires and gates of the circuit, and a shape that is placed is the
--- shape of what it becomes; so two jobs are the same exactly where corner, wires, gates and shape are
-pub record ShapesAreParts : Type 0 where
-  pub whole : (j : JobState) → placed j.area.x j.area.y j.locals.circuit_wires j.locals.circuit_gates (shape_of j) ≡ j
-  pub part : (x y : ℕ) (wires gates : List ℕ) (s : ShapeState) → shape_of (placed x y wires gates s) ≡ s
 
 -- the first time of a wire is the least of the times of its stops
 abbrev pub FirstIsLeast : Type 0

@@ -7,8 +7,8 @@ use Rattle.pattern.specs.Layout.{Pattern, in_cells, in_rectangles}
 use Rattle.pattern.specs.declared.parts.Port.{Port}
 use Rattle.module_box.specs.Boxes.{in_box}
 use Rattle.module_box.specs.declared.boxes.Box2.{Box2}
-use Rattle.certificate.specs.Jobs.{port_at}
-use Rattle.certificate.specs.Rules.{is_local}
+use Rattle.certificate_lines.specs.PortTables.{port_at}
+use Rattle.certificate_lines.specs.Rules.{is_local}
 use Rattle.certificate.specs.declared.plan.Plan.TheInside.{Inside}
 
 -- the lines of the circuit, and the layout

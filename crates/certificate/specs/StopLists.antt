@@ -4,9 +4,9 @@ use Rattle.std.specs.List.{All}
 use Rattle.circuit.specs.Meaning.{Circuit, wires}
 use Rattle.module_box.specs.Locals.{LocalNet, circuit_wire}
 use Rattle.certificate.specs.Jobs.{line_stops}
-use Rattle.certificate.specs.Signals.{renumber_stop}
-use Rattle.certificate.specs.declared.entry.StopLine.{StopLine}
-use Rattle.certificate.specs.declared.job.Stop.{Stop}
+use Rattle.module_job.specs.Signals.{renumber_stop}
+use Rattle.certificate_lines.specs.declared.entry.StopLine.{StopLine}
+use Rattle.module_job.specs.declared.job.Stop.{Stop}
 
 -- the stops are what the lines say, and each wire is one of the module's
 pub record AreStops (c : Circuit) (l : LocalNet) (ss : List StopLine) (stops : List Stop) : Type 0 where

@@ -4,8 +4,8 @@ use Rattle.std.specs.List.{fold, flat_map, list_all}
 use Rattle.std.specs.Option.{option_to_list, option_eq}
 use Rattle.circuit.specs.Gates.{Rule, Source, Fredkin, Cswap, Interact, Switch, Delay, Unswitch, Uninteract}
 use Rattle.circuit.specs.Meaning.{Circuit, Gate, wire_of}
-use Rattle.certificate.specs.Entries.{ModuleLines, stops}
-use Rattle.certificate.specs.declared.entry.StopLine.{StopLine}
+use Rattle.certificate_lines.specs.Entries.{ModuleLines, stops}
+use Rattle.certificate_lines.specs.declared.entry.StopLine.{StopLine}
 use Rattle.certificate.specs.declared.times.Gap.{Gap}
 use Rattle.certificate.specs.declared.times.Gap.TheVariants.{Steps, Missing, Before}
 use Rattle.certificate.specs.declared.times.TimeLine.{TimeLine}

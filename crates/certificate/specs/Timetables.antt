@@ -4,12 +4,12 @@ use Rattle.std.specs.List.{All}
 use Rattle.bbm_rule.specs.declared.block.Cell.{Cell}
 use Rattle.circuit.specs.Meaning.{Circuit, wires}
 use Rattle.module_box.specs.Locals.{LocalNet, circuit_wire}
-use Rattle.certificate.specs.Entries.{edge_in, halo_in}
+use Rattle.certificate_lines.specs.Entries.{edge_in, halo_in}
 use Rattle.certificate.specs.Jobs.{line_signals}
-use Rattle.certificate.specs.Rules.{is_local}
-use Rattle.certificate.specs.Signals.{IsBelow, renumber_held, renumber_event}
-use Rattle.certificate.specs.declared.entry.Border.{Border}
-use Rattle.certificate.specs.declared.entry.Entry.{Entry}
+use Rattle.certificate_lines.specs.Rules.{is_local}
+use Rattle.module_job.specs.Signals.{IsBelow, renumber_held, renumber_event}
+use Rattle.certificate_lines.specs.declared.entry.Border.{Border}
+use Rattle.certificate_lines.specs.declared.entry.Entry.{Entry}
 use Rattle.certificate.specs.declared.timetable.Side.{Side}
 use Rattle.certificate.specs.declared.timetable.Side.TheVariants.{Ring, Halo}
 use Rattle.certificate.specs.declared.timetable.Timetable.{Timetable}

@@ -2,18 +2,16 @@
 ghost use Rattle.std.specs.Prelude.{◌≡◌, ◌++◌, ◌∷◌, [], map, if◌then◌else◌, nat_lt, IfOk, OnOk};
 ghost use Rattle.std.specs.List.{All, filter, flat_map};
 ghost use Rattle.module_box.specs.Boxes.{in_halo};
-ghost use Rattle.certificate.specs.Entries.{ModuleLines, edge_in, edges, modules_of, stop_in};
-ghost use Rattle.certificate.specs.Grammars.{setting_of};
-ghost use Rattle.certificate.specs.Modules.{AreModules};
-ghost use Rattle.certificate.specs.ModuleParts.{AreInBox, part_lines};
-ghost use Rattle.certificate.specs.Versions.{beside, in_order, is_early, is_halo, with_halos};
-ghost use Rattle.certificate.specs.declared.entry.Entry.TheVariants.{Halo, Stop};
+ghost use Rattle.certificate_lines.specs.Entries.{ModuleLines, edge_in, edges, modules_of, stop_in};
+ghost use Rattle.certificate_lines.specs.Settings.{setting_of};
+ghost use Rattle.certificate_lines.specs.Modules.{AreModules};
+ghost use Rattle.certificate_lines.specs.ModuleParts.{AreInBox};
+ghost use Rattle.certificate.specs.PartLines.{part_lines};
+ghost use Rattle.certificate_lines.specs.Versions.{beside, in_order, is_early, is_halo, with_halos};
+ghost use Rattle.certificate_lines.specs.declared.entry.Entry.TheVariants.{Halo, Stop};
 
-use crate::counts::push_entry;
-use crate::entry::{Border, Entry};
-use crate::lines::inner_lines;
-use crate::order::compare_borders;
 use crate::plan::Plan;
+use certificate_lines::{Border, Entry, compare_borders, inner_lines, push_entry};
 use module_box::Box2;
 use std::alloc::{AllocError, Global};
 
@@ -89,7 +87,7 @@ fn push_parts(halos: &mut Vec<Border>, area: Box2, parts: &[Part]) -> Result<(),
 }
 
 // The edge lines of the modules for the cells in the halo of a box.
-#[tactic(auto, unfolding(crate::specs::Versions::beside))]
+#[tactic(auto, unfolding(certificate_lines::specs::Versions::beside))]
 fn lines_beside(
     alloc: Global,
     plan: &Plan,
@@ -124,7 +122,7 @@ fn halos_beside(
 }
 
 /// Whether a line is a halo line.
-#[tactic(auto, unfolding(crate::specs::Versions::is_halo))]
+#[tactic(auto, unfolding(certificate_lines::specs::Versions::is_halo))]
 pub(crate) fn is_halo(line: &Entry) -> bool
     ensures { result ≡ is_halo line.now }
 {
@@ -135,7 +133,7 @@ pub(crate) fn is_halo(line: &Entry) -> bool
 }
 
 // Whether a line stands before the halo lines of its module.
-#[tactic(auto, unfolding(crate::specs::Versions::is_early))]
+#[tactic(auto, unfolding(certificate_lines::specs::Versions::is_early))]
 fn is_early(line: &Entry) -> bool
     ensures { result ≡ is_early line.now }
 {
@@ -197,7 +195,7 @@ fn push_stops(full: &mut Vec<Entry>, lines: &[Entry]) -> Result<(), AllocError>
 }
 
 /// The lines of a module with the halo lines that the edge lines beside it stand for.
-#[tactic(auto, unfolding(crate::specs::Versions::with_halos))]
+#[tactic(auto, unfolding(certificate_lines::specs::Versions::with_halos))]
 pub(crate) fn full_lines(
     alloc: Global,
     plan: &Plan,

@@ -6,11 +6,12 @@ ghost use Rattle.pattern.specs.Layout.{parts_of};
 ghost use Rattle.circuit.specs.Bridge.{input_names, netlist_of};
 ghost use Rattle.circuit.specs.Meaning.{AreOrdered};
 ghost use Rattle.pattern.specs.Lines.{AreGoodAfter, size_fault};
-ghost use Rattle.certificate.specs.Entries.{counts_of, modules_of};
-ghost use Rattle.certificate.specs.Grammars.{modules_in, setting_of};
-ghost use Rattle.certificate.specs.Modules.{AreModules, HasFewLines};
+ghost use Rattle.certificate_lines.specs.Entries.{counts_of, modules_of};
+ghost use Rattle.certificate.specs.Grammars.{modules_in};
+ghost use Rattle.certificate_lines.specs.Settings.{setting_of};
+ghost use Rattle.certificate_lines.specs.Modules.{AreModules, HasFewLines};
 
-use crate::entry::{Counts, Entry};
+use certificate_lines::{Counts, Entry};
 use circuit::Circuit;
 use pattern::{Extent, Layout};
 use std::marker::Model;

@@ -2,13 +2,13 @@
 ghost use Rattle.std.specs.Prelude.{◌≡◌, ◌<◌, ◌^◌, ◌&&◌, ◌||◌, ◌++◌, ◌∷◌, [], ℕ, not, if◌then◌else◌, IfOk, OnOk};
 ghost use Rattle.std.specs.List.{flat_map};
 ghost use Rattle.module_box.specs.Locals.{is_among};
-ghost use Rattle.certificate.specs.Entries.{keep_in, modules_of};
-ghost use Rattle.certificate.specs.Grammars.{modules_in, setting_of};
+ghost use Rattle.certificate_lines.specs.Entries.{keep_in, modules_of};
+ghost use Rattle.certificate.specs.Grammars.{modules_in};
+ghost use Rattle.certificate_lines.specs.Settings.{setting_of};
 ghost use Rattle.certificate.specs.Keeps.{is_kept, unkept};
 
 use crate::cert::Cert;
-use crate::entry::Entry;
-use crate::lines::{inner_lines, is_module};
+use certificate_lines::{Entry, inner_lines, is_module};
 use circuit::GateNo;
 use indexmap::IndexSet;
 use std::alloc::{AllocError, Global};
@@ -47,7 +47,7 @@ fn kept_gates(alloc: Global, entries: &[Entry]) -> Result<IndexSet<u32>, AllocEr
 }
 
 // Whether the gate is among those that are kept.
-#[tactic(auto, using(crate::proofs::KnownLemmas::among))]
+#[tactic(auto, using(certificate_lines::proofs::KnownLemmas::among))]
 fn is_kept(kept: &IndexSet<u32>, gate: usize) -> bool
     requires { gate < 2 ^ 32 }
     ensures { result ≡ is_among kept.now.keys gate }

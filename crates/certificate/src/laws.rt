@@ -1,30 +1,13 @@
 //! Laws of the definitions, each the contract of a function without a body.
-ghost use Rattle.certificate.specs.Keys.{BytesTellNumbers, NumbersTellShapes};
-ghost use Rattle.certificate.specs.Laws.{FirstIsLeast, GoodWithoutHalos, HaloIsEdgeBeside, JobEqualityDecides, KeptIsOnTime, LastIsGreatest, LinesTell, MeantAreModules, PrintsWhatIsRead, ReadsWhatIsPrinted, SectionWithoutHalos, ShapeEqualityDecides, ShapesAreParts};
+ghost use Rattle.certificate.specs.Laws.{FirstIsLeast, GoodWithoutHalos, HaloIsEdgeBeside, KeptIsOnTime, LastIsGreatest, LinesTell, MeantAreModules, PrintsWhatIsRead, ReadsWhatIsPrinted, SectionWithoutHalos};
+
+pub use module_job::laws::{equality_is_of_content, keys_tell_shapes, shapes_are_parts};
 
 /// The text of a certificate that is read is the text of the lines that it is read from, and it is read as the same
 /// certificate again.
 pub fn one_text()
     ensures printed { PrintsWhatIsRead }
     ensures read_again { ReadsWhatIsPrinted }
-{}
-
-/// Two [`Job`](crate::Job)s are equal exactly where contracts see the same of both, and so are two [`Shape`](crate::Shape)s.
-pub fn equality_is_of_content()
-    ensures jobs { JobEqualityDecides }
-    ensures shapes { ShapeEqualityDecides }
-{}
-
-/// A job is its shape, placed where its box lies and over its wires and gates of the circuit.
-pub fn shapes_are_parts()
-    ensures { ShapesAreParts }
-{}
-
-/// Shapes that differ have different numbers, and different numbers different bytes: of two such shapes with one
-/// [`key`](crate::Shape::key), these bytes are a collision of SHA-256.
-pub fn keys_tell_shapes()
-    ensures numbers { NumbersTellShapes }
-    ensures bytes { BytesTellNumbers }
 {}
 
 /// The first time at which stops see a wire is the least of their times, and the last one the greatest.

@@ -8,17 +8,17 @@ ghost use Rattle.pattern.specs.Layout.{rectangle_cells, in_cells, in_layout, in_
 ghost use Rattle.pattern.specs.Lines.{size_fault};
 ghost use Rattle.module_box.specs.Boxes.{in_box};
 ghost use Rattle.module_box.specs.Locals.{circuit_wire, is_among};
-ghost use Rattle.certificate.specs.Jobs.{end_demand, place_in, start_signal};
+ghost use Rattle.certificate.specs.Jobs.{end_demand, start_signal};
+ghost use Rattle.module_box.specs.Places.{place_in};
 ghost use Rattle.certificate.specs.PlanView.{KnowsPort, KnowsPorts};
-ghost use Rattle.certificate.specs.Rules.{is_local};
-ghost use Rattle.certificate.specs.Signals.{IsBelow, IsDemandBelow, renumber_demand, renumber_signal};
+ghost use Rattle.certificate_lines.specs.Rules.{is_local};
+ghost use Rattle.module_job.specs.Signals.{IsBelow, IsDemandBelow, renumber_demand, renumber_signal};
 
-use crate::job::Demand;
-use crate::ports::{PortTable, port_tables};
-use crate::tiles::{cells_of_box, is_live};
 use bbm_rule::{Cell, Grid};
+use certificate_lines::{PortTable, cells_of_box, is_live, port_tables};
 use circuit::{Circuit, WireNo};
 use module_box::{Box2, Locals, Signal};
+use module_job::Demand;
 use pattern::{Extent, Layout, Rectangle, make_live, push_rectangle};
 use section_text::Name;
 use std::alloc::{AllocError, Global};

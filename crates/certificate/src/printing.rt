@@ -5,11 +5,11 @@ ghost use Rattle.std.specs.Fmt.{decimal};
 ghost use Rattle.section_text.specs.Spelling.{spaced, line_text};
 ghost use Rattle.certificate.specs.Grammars.{migrated};
 ghost use Rattle.certificate.specs.Text.{area_words, time_word, signal_word, border_words, entry_text, stop_words, certificate_text};
-ghost use Rattle.certificate.specs.Versions.{without_halos};
+ghost use Rattle.certificate_lines.specs.Versions.{without_halos};
 
 use crate::beside::is_halo;
 use crate::cert::Cert;
-use crate::entry::{Border, Entry, StopLine};
+use certificate_lines::{Border, Entry, StopLine};
 use module_box::Box2;
 use pattern::print_cell;
 use section_text::{Name, print_number, print_word};
@@ -134,7 +134,7 @@ fn print_entries(alloc: Global, out: &mut Vec<u8>, entries: &[Entry]) -> Result<
 }
 
 // A line, unless it is a halo line.
-#[tactic(auto, unfolding(crate::specs::Versions::without_halos))]
+#[tactic(auto, unfolding(certificate_lines::specs::Versions::without_halos))]
 fn print_unless_halo(alloc: Global, out: &mut Vec<u8>, entry: &Entry) -> Result<(), AllocError>
     ensures { OnOk result (out.new.items ≡ out.old.items ++ flat_map entry_text (without_halos (entry.now ∷ []))) }
 {

@@ -1,14 +1,12 @@
 //! The reader of the certificate section.
 ghost use Rattle.std.specs.Prelude.{◌≡◌, [], true, IfOk};
 ghost use Rattle.section_text.specs.Section.{Reads};
-ghost use Rattle.certificate.specs.Grammars.{certificate_grammar, certificate_value, setting_of};
+ghost use Rattle.certificate.specs.Grammars.{certificate_grammar, certificate_value};
+ghost use Rattle.certificate_lines.specs.Settings.{setting_of};
 
 use crate::beside::is_halo;
-use crate::builder::Builder;
 use crate::cert::Cert;
-use crate::entry::Entry;
-use crate::form::line_form;
-use crate::site::Site;
+use certificate_lines::{Builder, Entry, Site, line_form};
 use circuit::Circuit;
 use pattern::Layout;
 use section_text::{Feed, Form, Line, LineFault, ReadFault, Section, read_section};

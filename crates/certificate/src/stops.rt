@@ -1,23 +1,21 @@
 //! The stops of a module, over the wires that the module knows.
-ghost use Rattle.std.specs.Prelude.{◌≡◌, ◌<◌, ◌++◌, [], ◌∷◌, List, IfOk, IsTrue, OnOk, map};
+ghost use Rattle.std.specs.Prelude.{◌≡◌, ◌<◌, ◌++◌, [], ◌∷◌, List, IfOk, IsTrue, OnOk};
 ghost use Rattle.std.specs.List.{All, flat_map};
 ghost use Rattle.circuit.specs.Bridge.{circuit_of};
 ghost use Rattle.circuit.specs.Meaning.{wires};
 ghost use Rattle.module_box.specs.Locals.{circuit_wire};
-ghost use Rattle.module_box.specs.Moves.{IsNear, IsSmall};
-ghost use Rattle.certificate.specs.Entries.{stop_in};
+ghost use Rattle.certificate_lines.specs.Entries.{stop_in};
 ghost use Rattle.certificate.specs.Jobs.{line_stops};
-ghost use Rattle.certificate.specs.Rules.{is_local};
-ghost use Rattle.certificate.specs.Shapes.{moved_stop};
-ghost use Rattle.certificate.specs.Signals.{renumber_stop};
+ghost use Rattle.certificate_lines.specs.Rules.{is_local};
+ghost use Rattle.module_job.specs.Signals.{renumber_stop};
 ghost use Rattle.certificate.specs.StopLists.{AreStops};
-ghost use Rattle.certificate.specs.declared.entry.StopLine.{StopLine as Line};
+ghost use Rattle.certificate_lines.specs.declared.entry.StopLine.{StopLine as Line};
 
-use crate::entry::{Entry, StopLine};
-use crate::job::Stop;
 use crate::plan::local_name;
+use certificate_lines::{Entry, StopLine};
 use circuit::Circuit;
-use module_box::{Locals, Moment, moved_cell};
+use module_box::{Locals, Moment};
+use module_job::Stop;
 use std::alloc::{AllocError, Global};
 
 // A stop line over the wires that the module knows.
@@ -65,37 +63,4 @@ pub(crate) fn stops_of(
         push_stop(&mut stops, circuit, locals, line)?;
     }
     Ok(stops)
-}
-
-/// The stop at the cell that lies `dx` columns and `dy` rows further, where all these numbers are from -1024 to 1023.
-pub(crate) fn moved_stop(stop: Stop, dx: i32, dy: i32) -> Stop
-    requires cell { IsNear stop.at.cell }
-    requires by { IsSmall dx × IsSmall dy }
-    ensures { result ≡ moved_stop dx dy stop }
-{
-    Stop {
-        at: Moment {
-            time: stop.at.time,
-            cell: moved_cell(stop.at.cell, dx, dy),
-        },
-        wire: stop.wire,
-    }
-}
-
-/// The same stops at the cells that lie so much further.
-pub(crate) fn moved_stops(
-    alloc: Global,
-    stops: &[Stop],
-    dx: i32,
-    dy: i32,
-) -> Result<Vec<Stop>, AllocError>
-    requires cells { All (λ s. IsNear s.at.cell) stops.now }
-    requires by { IsSmall dx × IsSmall dy }
-    ensures { IfOk result (λ v. v.items ≡ map (moved_stop dx dy) stops.now) }
-{
-    let mut moved = Vec::with_capacity(alloc, stops.len())?;
-    for stop in stops {
-        moved.push(moved_stop(*stop, dx, dy))?;
-    }
-    Ok(moved)
 }

@@ -4,15 +4,14 @@ ghost use Rattle.std.specs.List.{flat_map, list_all};
 ghost use Rattle.circuit.specs.Bridge.{circuit_of, netlist_of};
 ghost use Rattle.circuit.specs.Meaning.{wires};
 ghost use Rattle.circuit.specs.Wiring.{gate_of};
-ghost use Rattle.certificate.specs.Entries.{modules_of, stop_in};
+ghost use Rattle.certificate_lines.specs.Entries.{modules_of, stop_in};
 ghost use Rattle.certificate.specs.Grammars.{modules_in};
 ghost use Rattle.certificate.specs.Times.{agreed, all_stops, delay_line, gap_between, is_kept, last_times, lines_by, meet_by, meet_line, of_wire, time_lines};
 ghost use Rattle.certificate.specs.SeenTimes.{IsTable, chosen, told_by};
-ghost use Rattle.certificate.specs.declared.entry.StopLine.{StopLine as Line};
+ghost use Rattle.certificate_lines.specs.declared.entry.StopLine.{StopLine as Line};
 
 use crate::cert::Cert;
-use crate::entry::{Entry, StopLine};
-use crate::lines::inner_lines;
+use certificate_lines::{Entry, StopLine, inner_lines};
 use circuit::{Circuit, GateKind, GateNo, GateWires, WireNo};
 use std::alloc::{AllocError, Global};
 

@@ -14,7 +14,7 @@ use Rattle.audit_core.specs.declared.reply.Reply.TheVariants as reply
 use Rattle.audit_core.proofs.Replays.{closed-by_its_history}
 use Rattle.audit_core.specs.declared.entry.Entry.{Entry}
 use Rattle.audit_core.specs.declared.entry.Entry.TheVariants.{Filed, Closing}
-use Rattle.certificate.specs.Jobs.{JobState}
+use Rattle.module_job.specs.Jobs.{JobState}
 use Rattle.verdict_book.specs.Counts.{no_counts}
 use Rattle.job_pool.specs.Work.{filed_by}
 use Rattle.check_main.specs.Audits.{IsAuditOf, IsClosedOnce, IsCompleted, filings_in}

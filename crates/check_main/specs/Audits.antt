@@ -2,7 +2,7 @@
 use Rattle.std.specs.Prelude.{◌≡◌, ℕ, List, [], ◌∷◌, ◌++◌, length, map}
 use Rattle.sha2.specs.Sha256.{sha256}
 use Rattle.certificate.specs.Grammars.{CertState}
-use Rattle.certificate.specs.Jobs.{JobState}
+use Rattle.module_job.specs.Jobs.{JobState}
 use Rattle.certificate.specs.Text.{certificate_text}
 use Rattle.audit_core.specs.Book.{BookView, accepted_in, after_closing}
 use Rattle.audit_core.specs.Concluding.{AreOwnJobs}

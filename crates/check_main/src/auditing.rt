@@ -3,7 +3,7 @@ ghost use Rattle.std.specs.Prelude.{◌≡◌, ◌<◌, ◌≤◌, false, [], le
 ghost use Rattle.std.specs.Arc.{arc_value};
 ghost use Rattle.audit_core.specs.Book.{IsReplayed};
 ghost use Rattle.audit_core.specs.Filling.{IsOpenFor};
-ghost use Rattle.certificate.specs.Groups.{AreGroups};
+ghost use Rattle.module_job.specs.Groups.{AreGroups};
 ghost use Rattle.audit_core.specs.Concluding.{modules};
 ghost use Rattle.audit_core.specs.Replay.{has_closing};
 ghost use Rattle.job_pool.specs.Work.{shapes_of};

@@ -10,12 +10,13 @@ use Rattle.pattern.specs.Grammars.{layout_value}
 use Rattle.pattern.specs.Layout.{Pattern}
 use Rattle.pattern.specs.declared.parts.Extent.{Extent}
 use Rattle.pattern.specs.declared.parts.Part.{Part}
-use Rattle.certificate.specs.Entries.{ModuleLines, Setting, modules_of}
-use Rattle.certificate.specs.Grammars.{CertState, certificate_grammar, migrated, modules_in, setting_of}
+use Rattle.certificate_lines.specs.Entries.{ModuleLines, Setting, modules_of}
+use Rattle.certificate.specs.Grammars.{CertState, certificate_grammar, migrated, modules_in}
+use Rattle.certificate_lines.specs.Settings.{setting_of}
 use Rattle.certificate.specs.Jobs.{AreJobsOf}
 use Rattle.certificate.specs.Laws.{AreFaultlessLines, IsSectionOf}
-use Rattle.certificate.specs.Versions.{is_haloless, lacks_wire, without_halos}
-use Rattle.certificate.specs.declared.entry.Entry.{Entry}
+use Rattle.certificate_lines.specs.Versions.{is_haloless, lacks_wire, without_halos}
+use Rattle.certificate_lines.specs.declared.entry.Entry.{Entry}
 use Rattle.certificate.proofs.FullModules.{meant_modules, meant_old}
 use Rattle.certificate.proofs.Migrated.{migrated_lacks, migrated_modules}
 use Rattle.certificate.proofs.Soundness.{faultless_modules, read_complete, read_version}

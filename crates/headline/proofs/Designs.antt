@@ -11,10 +11,10 @@ use Rattle.pattern.specs.Grammars.{layout_grammar, layout_value}
 use Rattle.pattern.specs.Forms.{form_of as layout_form}
 use Rattle.pattern.specs.Layout.{Pattern, parts_of}
 use Rattle.headline.specs.Design.{SaysDesign}
-use Rattle.certificate.specs.Entries.{Setting}
-use Rattle.certificate.specs.Forms.{form_of as certificate_form}
+use Rattle.certificate_lines.specs.Entries.{Setting}
+use Rattle.certificate_lines.specs.Forms.{form_of as certificate_form}
 use Rattle.certificate.specs.Grammars.{certificate_grammar}
-use Rattle.certificate.specs.declared.entry.Entry.{Entry as CertificateLine}
+use Rattle.certificate_lines.specs.declared.entry.Entry.{Entry as CertificateLine}
 use Rattle.headline.specs.Stops.{SaysBundle}
 use Rattle.headline.specs.Laws.{SaysOneCertificate, SaysOneDesign}
 use Rattle.headline.proofs.OneAnswer.{one_layout}

@@ -16,10 +16,10 @@ use Rattle.section_text.proofs.Again.{IsOneLine}
 use Rattle.section_text.proofs.Lines.{ended-cons, some_part}
 use Rattle.certificate.specs.declared.times.TimeLine.{TimeLine}
 use Rattle.audit_core.specs.Verdicts.{timing}
-use Rattle.certificate.specs.Entries.{modules_of}
+use Rattle.certificate_lines.specs.Entries.{modules_of}
 use Rattle.certificate.specs.Grammars.{CertState}
 use Rattle.certificate.specs.Text.{certificate_text}
-use Rattle.certificate.proofs.Lists.{kept}
+use Rattle.certificate_lines.proofs.Lists.{kept}
 use Rattle.audit_core.specs.declared.verdict.Verdict.{Verdict}
 use Rattle.audit_core.specs.declared.verdict.Verdict.TheVariants as verdict
 use Rattle.report.specs.ReportText.{fault_line, refusal_line, report_lines, verdict_lines}

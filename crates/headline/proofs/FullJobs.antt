@@ -14,17 +14,19 @@ use Rattle.module_box.specs.declared.schedules.Event.{Event}
 use Rattle.module_box.specs.declared.schedules.Held.{Held}
 use Rattle.module_box.specs.declared.schedules.Signal.{Signal}
 use Rattle.module_box.specs.declared.schedules.Signal.TheVariants.{Zero, One, Wire}
-use Rattle.certificate.specs.Entries.{Setting, ModuleLines, halos, known}
-use Rattle.certificate.specs.Grammars.{setting_of}
-use Rattle.certificate.specs.Jobs.{JobState, IsJobOf, AreJobsOf, event_by, held_by, job_demand, job_start, line_signal, line_signals, line_stops, signal_of}
-use Rattle.certificate.specs.Modules.{AreModules, IsHalo}
-use Rattle.certificate.specs.Rules.{is_local, is_local_wire}
-use Rattle.certificate.specs.Signals.{IsBelow, renumber_event, renumber_held, renumber_signal}
-use Rattle.certificate.specs.Versions.{lacks_wire, with_halos}
-use Rattle.certificate.specs.declared.entry.Border.{Border}
-use Rattle.certificate.proofs.FullModules.{all_in, all_of_each, full_cuts, full_edges, full_gates, full_keeps, full_known, full_modules, full_stops, mapped_at, mapped_from}
-use Rattle.certificate.proofs.LineOrder.{in_each}
-use Rattle.certificate.proofs.Pairs.{Each}
+use Rattle.certificate_lines.specs.Entries.{Setting, ModuleLines, halos, known}
+use Rattle.certificate_lines.specs.Settings.{setting_of}
+use Rattle.module_job.specs.Jobs.{JobState, job_demand, job_start}
+use Rattle.certificate.specs.Jobs.{IsJobOf, AreJobsOf, event_by, held_by, line_signal, line_signals, line_stops, signal_of}
+use Rattle.certificate_lines.specs.Modules.{AreModules, IsHalo}
+use Rattle.certificate_lines.specs.Rules.{is_local, is_local_wire}
+use Rattle.module_job.specs.Signals.{IsBelow, renumber_event, renumber_held, renumber_signal}
+use Rattle.certificate_lines.specs.Versions.{lacks_wire, with_halos}
+use Rattle.certificate_lines.specs.declared.entry.Border.{Border}
+use Rattle.certificate_lines.proofs.InList.{all_in}
+use Rattle.certificate.proofs.FullModules.{all_of_each, full_cuts, full_edges, full_gates, full_keeps, full_known, full_modules, full_stops, mapped_at, mapped_from}
+use Rattle.certificate_lines.proofs.LineOrder.{in_each}
+use Rattle.certificate_lines.proofs.Pairs.{Each}
 
 -- ---- the number of a wire in a list of wires
 

@@ -32,12 +32,13 @@ use Rattle.pattern.specs.Text.{form_text as layout_line}
 use Rattle.pattern.specs.declared.parts.Extent.{Extent}
 use Rattle.pattern.specs.declared.parts.Part.{Part}
 use Rattle.pattern.proofs.Spelling.{form_line as layout_spelled}
-use Rattle.certificate.specs.Entries.{Setting}
-use Rattle.certificate.specs.Forms.{form_of as certificate_form}
-use Rattle.certificate.specs.Grammars.{certificate_grammar, setting_of}
+use Rattle.certificate_lines.specs.Entries.{Setting}
+use Rattle.certificate_lines.specs.Forms.{form_of as certificate_form}
+use Rattle.certificate.specs.Grammars.{certificate_grammar}
+use Rattle.certificate_lines.specs.Settings.{setting_of}
 use Rattle.certificate.specs.Text.{form_text as certificate_line}
-use Rattle.certificate.specs.Versions.{is_halo, is_haloless, without_halos}
-use Rattle.certificate.specs.declared.entry.Entry.{Entry}
+use Rattle.certificate_lines.specs.Versions.{is_halo, is_haloless, without_halos}
+use Rattle.certificate_lines.specs.declared.entry.Entry.{Entry}
 use Rattle.certificate.proofs.Spelling.{form_line as certificate_spelled}
 use Rattle.audit_core.specs.Concluding.{port_names_of}
 use Rattle.answers.specs.Answers.{Answered}

@@ -8,10 +8,12 @@ use Rattle.sha2.specs.Sha256.{sha256}
 use Rattle.section_text.specs.Spelling.{line_text}
 use Rattle.circuit.specs.Bridge.{circuit_of}
 use Rattle.module_box.specs.Locals.{LocalNet, circuit_gate}
-use Rattle.certificate.specs.Entries.{ModuleLines, modules_of}
-use Rattle.certificate.specs.Grammars.{CertState, modules_in, setting_of}
-use Rattle.certificate.specs.Jobs.{JobState, AreJobsOf}
-use Rattle.certificate.specs.Modules.{AreModules}
+use Rattle.certificate_lines.specs.Entries.{ModuleLines, modules_of}
+use Rattle.certificate.specs.Grammars.{CertState, modules_in}
+use Rattle.certificate_lines.specs.Settings.{setting_of}
+use Rattle.module_job.specs.Jobs.{JobState}
+use Rattle.certificate.specs.Jobs.{AreJobsOf}
+use Rattle.certificate_lines.specs.Modules.{AreModules}
 use Rattle.certificate.specs.Text.{certificate_text}
 use Rattle.local_run.specs.Faults.{IsFault, IsLeastFault, IsLeastKeepFault}
 use Rattle.local_run.specs.Laws.{SameKeeps}

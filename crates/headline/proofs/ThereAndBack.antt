@@ -1,7 +1,6 @@
 -- The text of a switch and its inverse gate is accepted: it is read, and tried, by computation.
-use Rattle.std.proofs.Common.{◌≡◌, ℕ, zero, suc, ◌<◌, true, false, List, [], ◌∷◌, Option, Some, Result, Ok, refl, sym, subst, arith}
+use Rattle.std.proofs.Common.{◌≡◌, ℕ, zero, suc, ◌<◌, true, false, List, [], ◌∷◌, Option, Some, Result, Ok, refl, sym, subst, arith, ◌∙◌}
 use Rattle.std.specs.Prelude.{pos, codes, slice_get, IsTrue}
-use Rattle.std.proofs.Common.{◌∙◌}
 use Rattle.std.proofs.Math.Logic.{∥∥₁_elim}
 use Rattle.std.proofs.lemmas.Bool.{true≢false}
 use Rattle.std.proofs.lemmas.List.Elements.{All-from_recursion}
@@ -13,16 +12,15 @@ use Rattle.section_text.specs.Section as section
 use Rattle.circuit.specs.Forms as circuit_forms
 use Rattle.module_box.specs.Boxes as boxes
 use Rattle.circuit.specs.Rules as circuit_rules
-use Rattle.certificate.specs.Forms as forms
+use Rattle.certificate_lines.specs.Forms as forms
 use Rattle.pattern.specs.Forms as layout_forms
 use Rattle.pattern.specs.Lines as layout_rules
 use Rattle.pattern.specs.Layout as layouts
 use Rattle.circuit.specs.Meaning as meaning
-use Rattle.certificate.specs.Orders as orders
-use Rattle.certificate.specs.Rules as rules
+use Rattle.certificate_lines.specs.Orders as orders
+use Rattle.certificate_lines.specs.Rules as rules
 use Rattle.circuit.specs.Bridge.{circuit_of, netlist_of, read}
-use Rattle.circuit.specs.Gates.{is_inverse, row}
-use Rattle.circuit.specs.Gates.{Switch as Switches, Unswitch as Unswitches}
+use Rattle.circuit.specs.Gates.{is_inverse, row, Switch as Switches, Unswitch as Unswitches}
 use Rattle.circuit.specs.Meaning.{AreOrdered, Gate as NetGate, HasRow, Valuation, place_of, wires_after, number}
 use Rattle.circuit.specs.declared.entry.Entry.{Entry as CircuitLine}
 use Rattle.circuit.specs.declared.entry.GateKind.TheVariants.{Switch, Unswitch}
@@ -40,17 +38,20 @@ use Rattle.module_box.specs.Moments.{cell_cmp, moment_cmp}
 use Rattle.module_box.specs.Schedules.{IsRising}
 use Rattle.module_box.specs.declared.schedules.Signal.TheVariants.{Wire}
 use Rattle.module_box.proofs.BoxCells.{same_some}
-use Rattle.certificate.specs.Entries as entries
-use Rattle.certificate.specs.Entries.{ModuleLines, modules_of}
-use Rattle.certificate.specs.Grammars.{CertState, modules_in, setting_of}
-use Rattle.certificate.specs.Modules.{AreModules}
-use Rattle.certificate.specs.Jobs.{AreJobsOf, IsJob, IsJobOf, JobState, NamesOwnWires, end_demand, job_demand, job_start, port_at, start_signal, stop_moment}
+use Rattle.certificate_lines.specs.Entries as entries
+use Rattle.certificate_lines.specs.Entries.{ModuleLines, modules_of}
+use Rattle.certificate.specs.Grammars.{CertState, modules_in}
+use Rattle.certificate_lines.specs.Settings.{setting_of}
+use Rattle.certificate_lines.specs.Modules.{AreModules}
+use Rattle.certificate.specs.Jobs.{AreJobsOf, IsJobOf, end_demand, start_signal}
+use Rattle.module_job.specs.Jobs.{IsJob, JobState, NamesOwnWires, job_demand, job_start, stop_moment}
+use Rattle.certificate_lines.specs.PortTables.{port_at}
 use Rattle.certificate.specs.Keeps.{is_kept}
 use Rattle.certificate.specs.Times.{are_all_kept, numbered, time_lines}
-use Rattle.certificate.specs.Signals.{IsBelow, IsDemandBelow, renumber_demand, renumber_signal}
-use Rattle.certificate.specs.declared.job.Demand.TheVariants as Demanded
-use Rattle.certificate.specs.declared.job.Stop.{Stop}
-use Rattle.certificate.specs.declared.entry.Entry.TheVariants.{Module, Cut, Use, Keep}
+use Rattle.module_job.specs.Signals.{IsBelow, IsDemandBelow, renumber_demand, renumber_signal}
+use Rattle.module_job.specs.declared.job.Demand.TheVariants as Demanded
+use Rattle.module_job.specs.declared.job.Stop.{Stop}
+use Rattle.certificate_lines.specs.declared.entry.Entry.TheVariants.{Module, Cut, Use, Keep}
 use Rattle.certificate.proofs.FullModules.{meant_old}
 use Rattle.certificate.proofs.Soundness.{faultless_modules}
 use Rattle.local_run.specs.Faults.{IsFault, IsKeepFault}

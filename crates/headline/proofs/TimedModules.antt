@@ -1,7 +1,6 @@
 -- The text of four modules around a gate, with stops and a delay, is accepted: it is read, and tried, by computation.
-use Rattle.std.proofs.Common.{◌≡◌, ℕ, zero, suc, ◌<◌, ◌%◌, true, false, List, [], ◌∷◌, ◌++◌, Option, Some, Result, Ok, refl, sym, subst, arith}
+use Rattle.std.proofs.Common.{◌≡◌, ℕ, zero, suc, ◌<◌, ◌%◌, true, false, List, [], ◌∷◌, ◌++◌, Option, Some, Result, Ok, refl, sym, subst, arith, Less, ◌∙◌}
 use Rattle.std.specs.Prelude.{pos, codes, slice_get}
-use Rattle.std.proofs.Common.{Less, ◌∙◌}
 use Rattle.std.proofs.lemmas.Bool.{true≢false}
 use Rattle.std.proofs.lemmas.List.Elements.{All-from_recursion}
 use Rattle.std.proofs.lemmas.Option.{slice_get_within}
@@ -15,8 +14,7 @@ use Rattle.circuit.specs.Forms as circuit_forms
 use Rattle.circuit.specs.Rules as circuit_rules
 use Rattle.circuit.specs.Meaning as meaning
 use Rattle.circuit.specs.Bridge.{circuit_of, netlist_of, read}
-use Rattle.circuit.specs.Gates.{is_inverse, row}
-use Rattle.circuit.specs.Gates.{Interact as Interacts, Delay as Delays}
+use Rattle.circuit.specs.Gates.{is_inverse, row, Interact as Interacts, Delay as Delays}
 use Rattle.circuit.specs.Meaning.{AreOrdered, Gate as NetGate, HasRow, Valuation, place_of, wires_after, number}
 use Rattle.circuit.specs.declared.entry.Entry.{Entry as CircuitLine}
 use Rattle.circuit.specs.declared.entry.GateKind.TheVariants.{Delay, Interact}
@@ -38,14 +36,17 @@ use Rattle.module_box.specs.Schedules.{IsRising, event_at, held_at, signal_at}
 use Rattle.module_box.specs.declared.schedules.Event.{Event}
 use Rattle.module_box.specs.declared.schedules.Signal.TheVariants.{Zero, Wire}
 use Rattle.module_box.proofs.BoxCells.{same_some}
-use Rattle.certificate.specs.Entries as entries
-use Rattle.certificate.specs.Entries.{ModuleLines, modules_of}
-use Rattle.certificate.specs.Grammars.{CertState, modules_in, setting_of}
-use Rattle.certificate.specs.Modules.{AreModules}
-use Rattle.certificate.specs.Jobs.{AreJobsOf, IsJob, IsJobOf, JobState, NamesOwnWires, IsStopOf, end_demand, job_demand, job_start, port_at, start_signal, stop_moment}
+use Rattle.certificate_lines.specs.Entries as entries
+use Rattle.certificate_lines.specs.Entries.{ModuleLines, modules_of}
+use Rattle.certificate.specs.Grammars.{CertState, modules_in}
+use Rattle.certificate_lines.specs.Settings.{setting_of}
+use Rattle.certificate_lines.specs.Modules.{AreModules}
+use Rattle.certificate.specs.Jobs.{AreJobsOf, IsJobOf, end_demand, start_signal}
+use Rattle.module_job.specs.Jobs.{IsJob, JobState, NamesOwnWires, IsStopOf, job_demand, job_start, stop_moment}
+use Rattle.certificate_lines.specs.PortTables.{port_at}
 use Rattle.certificate.specs.Times.{are_all_kept, numbered, time_lines}
-use Rattle.certificate.specs.Signals.{IsBelow, IsDemandBelow, renumber_demand, renumber_signal}
-use Rattle.certificate.specs.declared.job.Demand.TheVariants as Demanded
+use Rattle.module_job.specs.Signals.{IsBelow, IsDemandBelow, renumber_demand, renumber_signal}
+use Rattle.module_job.specs.declared.job.Demand.TheVariants as Demanded
 use Rattle.certificate.proofs.FullModules.{meant_old}
 use Rattle.certificate.proofs.Soundness.{faultless_modules}
 use Rattle.local_run.specs.Faults.{IsFault}
@@ -55,14 +56,14 @@ use Rattle.audit_core.specs.Verdicts.{Accepts, IsVerdict}
 use Rattle.audit_core.specs.declared.verdict.Verdict.TheVariants as verdict
 use Rattle.report.specs.ReportText.{report_lines}
 use Rattle.section_text.specs.declared.fault.Refusal.{Refusal}
-use Rattle.certificate.specs.Forms as forms
-use Rattle.certificate.specs.Orders as orders
-use Rattle.certificate.specs.Rules as rules
-use Rattle.certificate.specs.declared.entry.Border.{Border}
-use Rattle.certificate.specs.declared.entry.StopLine.{StopLine}
-use Rattle.certificate.specs.declared.job.Stop.{Stop}
-use Rattle.certificate.specs.declared.entry.Entry.{Entry}
-use Rattle.certificate.specs.declared.entry.Entry.TheVariants.{Module, Cut, Use, Edge, Halo, Stop as AtStop}
+use Rattle.certificate_lines.specs.Forms as forms
+use Rattle.certificate_lines.specs.Orders as orders
+use Rattle.certificate_lines.specs.Rules as rules
+use Rattle.certificate_lines.specs.declared.entry.Border.{Border}
+use Rattle.certificate_lines.specs.declared.entry.StopLine.{StopLine}
+use Rattle.module_job.specs.declared.job.Stop.{Stop}
+use Rattle.certificate_lines.specs.declared.entry.Entry.{Entry}
+use Rattle.certificate_lines.specs.declared.entry.Entry.TheVariants.{Module, Cut, Use, Edge, Halo, Stop as AtStop}
 use Rattle.answers.specs.BundleText.{Bundle, bundle_of}
 use Rattle.answers.specs.Answers.{Answered}
 use Rattle.answers.specs.CheckText.{IsVerdictOn, SaysReport}

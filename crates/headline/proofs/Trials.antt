@@ -14,14 +14,14 @@ use Rattle.module_box.specs.Schedules.{signal_at}
 use Rattle.module_box.specs.declared.boxes.Box2.{Box2}
 use Rattle.module_box.specs.declared.schedules.Signal.{Signal}
 use Rattle.module_box.specs.declared.schedules.Signal.TheVariants.{Zero, One, Wire}
-use Rattle.certificate.specs.Entries.{ModuleLines, Setting}
-use Rattle.certificate.specs.Jobs.{IsJob, JobState, job_demand}
-use Rattle.certificate.specs.Rules.{box_cells, whole}
-use Rattle.certificate.specs.Signals.{is_live, Meets}
-use Rattle.certificate.specs.declared.job.Demand.{Demand}
-use Rattle.certificate.specs.declared.job.Demand.TheVariants as Demanded
-use Rattle.certificate.proofs.Lists.{or_parts}
-use Rattle.certificate.proofs.PortLemmas.{cell_same, in_box_cells}
+use Rattle.certificate_lines.specs.Entries.{ModuleLines, Setting}
+use Rattle.module_job.specs.Jobs.{IsJob, JobState, job_demand}
+use Rattle.certificate_lines.specs.Rules.{box_cells, whole}
+use Rattle.module_job.specs.Signals.{is_live, Meets}
+use Rattle.module_job.specs.declared.job.Demand.{Demand}
+use Rattle.module_job.specs.declared.job.Demand.TheVariants as Demanded
+use Rattle.certificate_lines.proofs.Lists.{or_parts}
+use Rattle.certificate_lines.proofs.PortLemmas.{cell_same, in_box_cells}
 use Rattle.local_run.specs.Faults.{IsFault, IsFaultUnder, assignments}
 use Rattle.local_run.specs.Runs.{local_run}
 use Rattle.local_run.specs.declared.fault.Fault.{Fault}

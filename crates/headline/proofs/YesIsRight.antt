@@ -17,7 +17,7 @@ use Rattle.section_text.specs.Sections.{go_on, finished}
 use Rattle.section_text.specs.declared.fault.Refusal.{Refusal}
 use Rattle.section_text.specs.declared.section.Form.TheVariants.{Header, Item, End}
 use Rattle.section_text.proofs.Good.{AreFaultless, IsFaultless, read_faultless}
-use Rattle.circuit.specs.Bridge.{AreGoodAfter, AreGood}
+use Rattle.circuit.specs.Bridge.{AreGoodAfter, AreGood, circuit_of}
 use Rattle.circuit.specs.Entries.{rank_of}
 use Rattle.circuit.specs.Forms.{Line, form_of}
 use Rattle.circuit.specs.Grammars.{circuit_grammar}
@@ -34,15 +34,15 @@ use Rattle.pattern.specs.declared.parts.Part.{Part}
 use Rattle.pattern.specs.declared.parts.Extent.{Extent}
 use Rattle.pattern.proofs.Named.{faultless_named}
 use Rattle.section_text.specs.Ports.{Named}
-use Rattle.certificate.specs.Grammars.{CertState, certificate_grammar, modules_in, setting_of}
+use Rattle.certificate.specs.Grammars.{CertState, certificate_grammar, modules_in}
+use Rattle.certificate_lines.specs.Settings.{setting_of}
 use Rattle.certificate.specs.Arrivals.{AreOnTime}
-use Rattle.certificate.specs.Entries.{modules_of, stop_in}
+use Rattle.certificate_lines.specs.Entries.{modules_of, stop_in}
 use Rattle.certificate.specs.Times.{all_stops}
-use Rattle.certificate.specs.declared.entry.Entry.{Entry}
-use Rattle.certificate.specs.declared.entry.StopLine.{StopLine}
+use Rattle.certificate_lines.specs.declared.entry.Entry.{Entry}
+use Rattle.certificate_lines.specs.declared.entry.StopLine.{StopLine}
 use Rattle.certificate.proofs.MeantLines.{stops_meant}
 use Rattle.certificate.proofs.TimeLemmas.{all_in_modules}
-use Rattle.circuit.specs.Bridge.{circuit_of}
 use Rattle.audit_core.specs.OnTime.{StopHolds}
 use Rattle.audit_core.specs.Concluding.{port_names_of}
 use Rattle.audit_core.specs.Implements.{IsCorrect}

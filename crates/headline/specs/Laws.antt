@@ -3,7 +3,7 @@ use Rattle.std.specs.Prelude.{◌≡◌, ◌≢◌, ℕ, List, [], ◌++◌, Non
 use Rattle.circuit.specs.Bridge.{AreGood}
 use Rattle.circuit.specs.Text.{circuit_text}
 use Rattle.circuit.specs.declared.entry.Entry.{Entry}
-use Rattle.certificate.specs.declared.entry.Entry.{Entry as CertificateLine}
+use Rattle.certificate_lines.specs.declared.entry.Entry.{Entry as CertificateLine}
 use Rattle.pattern.specs.Layout.{Pattern, parts_of}
 use Rattle.pattern.specs.Lines.{AreGoodAfter, size_fault}
 use Rattle.pattern.specs.Text.{layout_text}

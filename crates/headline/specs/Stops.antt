@@ -9,9 +9,9 @@ use Rattle.circuit.specs.Bridge.{circuit_of}
 use Rattle.circuit.specs.declared.entry.Entry.{Entry as CircuitLine}
 use Rattle.pattern.specs.Layout.{Pattern}
 use Rattle.certificate.specs.Arrivals.{AreOnTime}
-use Rattle.certificate.specs.Entries.{stop_in}
-use Rattle.certificate.specs.Forms.{form_of as certificate_form}
-use Rattle.certificate.specs.declared.entry.Entry.{Entry}
+use Rattle.certificate_lines.specs.Entries.{stop_in}
+use Rattle.certificate_lines.specs.Forms.{form_of as certificate_form}
+use Rattle.certificate_lines.specs.declared.entry.Entry.{Entry}
 use Rattle.audit_core.specs.OnTime.{StopHolds}
 use Rattle.headline.specs.Design.{SaysDesign}
 

@@ -8,9 +8,9 @@ use Rattle.std.proofs.lemmas.List.{take_more}
 use Rattle.std.proofs.lemmas.List.Elements.{All-head, All-tail}
 use Rattle.std.proofs.lemmas.Option.{slice_get-map, slice_get_within}
 use Rattle.audit_core.specs.Draws.{total, times, IsDrawn}
-use Rattle.certificate.specs.Groups.{AreGroups, IsFirstLike}
-use Rattle.certificate.specs.Jobs.{JobState}
-use Rattle.certificate.specs.Shapes.{ShapeState, shape_of}
+use Rattle.module_job.specs.Groups.{AreGroups, IsFirstLike}
+use Rattle.module_job.specs.Jobs.{JobState}
+use Rattle.module_job.specs.Shapes.{ShapeState, shape_of}
 use Rattle.job_pool.specs.Work.{due, shapes_of}
 use Rattle.job_pool.proofs.Sums.{times-append, total-add, total_same}
 

@@ -1,8 +1,8 @@
 -- What workers did
 use Rattle.std.specs.Prelude.{◌≡◌, ℕ, ◌+◌, ◌<◌, ◌≤◌, false, List, [], ◌∷◌, map, slice_index_or, sum_by, length}
 use Rattle.audit_core.specs.Draws.{end_of, times}
-use Rattle.certificate.specs.Jobs.{JobState}
-use Rattle.certificate.specs.Shapes.{ShapeState, shape_of}
+use Rattle.module_job.specs.Jobs.{JobState}
+use Rattle.module_job.specs.Shapes.{ShapeState, shape_of}
 use Rattle.verdict_book.specs.Counts.{Counts}
 use Rattle.job_pool.specs.Seats.{IsSeatOf, IsNewSeatOf, drawn_by, numbers_of}
 use Rattle.job_pool.specs.declared.desk.Desk.{Desk}

@@ -1,7 +1,7 @@
 //! Workers in threads of their own.
 ghost use Rattle.std.specs.Prelude.{◌≡◌, ℕ, ◌+◌, ◌<◌, ◌≤◌, false, [], length, map, slice_index_or, vec_len, vec_capacity, All, IfOk};
 ghost use Rattle.std.specs.Arc.{arc_value};
-ghost use Rattle.certificate.specs.Groups.{AreGroups};
+ghost use Rattle.module_job.specs.Groups.{AreGroups};
 ghost use Rattle.job_pool.specs.Seats.{IsNewSeatOf, numbers_of, seats_opened};
 ghost use Rattle.job_pool.specs.Work.{HasWorked, HaveRisen, IsReady, filed_by, seats_of, shapes_of, shares_of};
 

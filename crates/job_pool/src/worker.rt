@@ -2,8 +2,8 @@
 ghost use Rattle.std.specs.Prelude.{◌≡◌, ◌+◌, ◌<◌, IfOk, OnErr, OnOk, Some, length, map, slice_get};
 ghost use Rattle.std.specs.Arc.{arc_value};
 ghost use Rattle.audit_core.specs.Draws.{times};
-ghost use Rattle.certificate.specs.Groups.{AreGroups};
-ghost use Rattle.certificate.specs.Shapes.{shape_of};
+ghost use Rattle.module_job.specs.Groups.{AreGroups};
+ghost use Rattle.module_job.specs.Shapes.{shape_of};
 ghost use Rattle.local_run.specs.Shown.{digest_of, job_of};
 ghost use Rattle.verdict_book.specs.Counts.{counted};
 ghost use Rattle.verdict_book.specs.Replies.{IsReplyOf};

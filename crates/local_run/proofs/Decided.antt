@@ -13,12 +13,12 @@ use Rattle.bbm_rule.specs.Plane.{is_at}
 use Rattle.module_box.specs.Schedules.{is_then}
 use Rattle.module_box.specs.declared.schedules.Moment.{Moment}
 use Rattle.module_box.proofs.Rising.{is_first, moment_total}
-use Rattle.certificate.proofs.PortLemmas.{cell_same, cell_itself}
-use Rattle.certificate.specs.Jobs.{JobState, IsJob, job_demand, stop_moment}
-use Rattle.certificate.specs.Signals.{Meets, IsDemandBelow}
-use Rattle.certificate.specs.declared.job.Demand.{Demand}
-use Rattle.certificate.specs.declared.job.Demand.TheVariants as Demanded
-use Rattle.certificate.specs.declared.job.Stop as listed
+use Rattle.certificate_lines.proofs.PortLemmas.{cell_same, cell_itself}
+use Rattle.module_job.specs.Jobs.{JobState, IsJob, job_demand, stop_moment}
+use Rattle.module_job.specs.Signals.{Meets, IsDemandBelow}
+use Rattle.module_job.specs.declared.job.Demand.{Demand}
+use Rattle.module_job.specs.declared.job.Demand.TheVariants as Demanded
+use Rattle.module_job.specs.declared.job.Stop as listed
 use Rattle.local_run.specs.Faults.{IsFaultUnder, IsStopFault, HasFault}
 use Rattle.local_run.specs.Runs.{local_run}
 use Rattle.local_run.specs.Laws.{FaultsAreDecided}

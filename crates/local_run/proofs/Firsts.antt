@@ -9,12 +9,12 @@ use Rattle.module_box.specs.Schedules.{signal_at}
 use Rattle.module_box.specs.declared.boxes.Box2.{Box2}
 use Rattle.bbm_rule.proofs.Spans.{span_parts, span_from, in_span-negsuc}
 use Rattle.circuit.specs.Meaning.{Valuation}
-use Rattle.certificate.specs.Signals.{is_live, Meets}
-use Rattle.certificate.specs.Jobs.{JobState, job_demand}
+use Rattle.module_job.specs.Signals.{is_live, Meets}
+use Rattle.module_job.specs.Jobs.{JobState, job_demand}
 use Rattle.local_run.specs.Runs.{local_run}
 use Rattle.local_run.specs.Faults.{IsEdgeFault, IsFaultUnder, assignments}
 use Rattle.module_box.specs.declared.schedules.Signal.{Signal}
-use Rattle.certificate.specs.declared.job.Demand.{Demand}
+use Rattle.module_job.specs.declared.job.Demand.{Demand}
 use Rattle.local_run.specs.declared.fault.Kind.{Kind}
 use Rattle.local_run.specs.declared.fault.Kind.TheVariants.{Edge, Stop, End}
 use Rattle.local_run.specs.Places.{inner}

@@ -15,8 +15,8 @@ use Rattle.module_box.specs.declared.schedules.Signal.TheVariants.{Zero}
 use Rattle.module_box.specs.Moves.{moved_signals}
 use Rattle.module_box.proofs.MovedBoxes.{signals_moved}
 use Rattle.module_box.proofs.Rising.{event_none}
-use Rattle.certificate.specs.Jobs.{JobState}
-use Rattle.certificate.specs.Signals.{is_live}
+use Rattle.module_job.specs.Jobs.{JobState}
+use Rattle.module_job.specs.Signals.{is_live}
 use Rattle.local_run.specs.Laws.{QuietRunsStay, NoNewEdgeFaults}
 use Rattle.local_run.specs.Leaps.{HasNoEvents, IsOddOf, IsSteady, IsTimeBetween, StaysUpTo}
 use Rattle.local_run.specs.Runs.{with_halo, local_run}

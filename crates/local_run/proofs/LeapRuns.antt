@@ -5,7 +5,7 @@ use Rattle.std.proofs.lemmas.Bool.{and_parts, cases_Bool, false≢true}
 use Rattle.bbm_rule.specs.Spans.{in_span}
 use Rattle.bbm_rule.proofs.BitLemmas.{by_lt_or_le, by_eq_or_not}
 use Rattle.module_box.specs.Boxes.{in_box}
-use Rattle.certificate.specs.Jobs.{JobState, IsJob}
+use Rattle.module_job.specs.Jobs.{JobState, IsJob}
 use Rattle.local_run.specs.Faults.{assignments}
 use Rattle.local_run.specs.Leaps.{IsLeap, IsOddOf, IsSteady, StaysUpTo}
 use Rattle.local_run.specs.Runs.{local_run}

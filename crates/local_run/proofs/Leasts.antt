@@ -14,8 +14,8 @@ use Rattle.bbm_rule.proofs.BitLemmas.{by_lt_or_le}
 use Rattle.std.specs.Ordering.{nat_cmp, int_cmp, ordering_then}
 use Rattle.module_box.specs.Moments.{cell_cmp}
 use Rattle.circuit.specs.Meaning.{IsUndefined}
-use Rattle.certificate.specs.Jobs.{JobState}
-use Rattle.certificate.specs.declared.job.Stop as listed
+use Rattle.module_job.specs.Jobs.{JobState}
+use Rattle.module_job.specs.declared.job.Stop as listed
 use Rattle.local_run.specs.Order.{kind_number, fault_cmp, keep_cmp}
 use Rattle.local_run.specs.Faults.{IsFault, IsKeepFault, IsLeastFault, IsLeastKeepFault, assignments}
 use Rattle.local_run.specs.declared.fault.Fault.{Fault}

@@ -10,8 +10,8 @@ use Rattle.module_box.specs.Schedules.{signal_at}
 use Rattle.module_box.specs.declared.schedules.Signal.{Signal}
 use Rattle.module_box.specs.declared.schedules.Signal.TheVariants.{Zero, One, Wire}
 use Rattle.module_box.proofs.BoxSteps.{even_stays}
-use Rattle.certificate.specs.Jobs.{JobState, NamesOwnWires}
-use Rattle.certificate.specs.Signals.{is_live, IsBelow}
+use Rattle.module_job.specs.Jobs.{JobState, NamesOwnWires}
+use Rattle.module_job.specs.Signals.{is_live, IsBelow}
 use Rattle.local_run.specs.Runs.{with_halo, local_step, local_run}
 use Rattle.local_run.specs.Laws.{StaysInBox}
 use Rattle.local_run.proofs.OwnWires.{start_below, halo_below, start_outside}

@@ -18,12 +18,13 @@ use Rattle.module_box.specs.declared.schedules.Event.{Event}
 use Rattle.module_box.specs.declared.schedules.Held.{Held}
 use Rattle.module_box.specs.declared.schedules.Signal.{Signal}
 use Rattle.module_box.specs.declared.schedules.Signal.TheVariants.{Zero, One, Wire}
-use Rattle.certificate.specs.Entries.{ModuleLines, known}
-use Rattle.certificate.specs.Jobs.{JobState, IsJobOf, job_demand, job_start}
-use Rattle.certificate.specs.Signals.{IsBelow, IsDemandBelow, Meets, is_live, renumber_demand, renumber_event, renumber_held, renumber_signal, renumber_signals, renumber_stop}
-use Rattle.certificate.specs.declared.job.Demand.{Demand}
-use Rattle.certificate.specs.declared.job.Demand.TheVariants as Demanded
-use Rattle.certificate.specs.declared.job.Stop as listed
+use Rattle.certificate_lines.specs.Entries.{ModuleLines, known}
+use Rattle.module_job.specs.Jobs.{JobState, job_demand, job_start}
+use Rattle.certificate.specs.Jobs.{IsJobOf}
+use Rattle.module_job.specs.Signals.{IsBelow, IsDemandBelow, Meets, is_live, renumber_demand, renumber_event, renumber_held, renumber_signal, renumber_signals, renumber_stop}
+use Rattle.module_job.specs.declared.job.Demand.{Demand}
+use Rattle.module_job.specs.declared.job.Demand.TheVariants as Demanded
+use Rattle.module_job.specs.declared.job.Stop as listed
 use Rattle.local_run.specs.Faults.{HasFault, IsFault, IsFaultUnder, IsKeepFault}
 use Rattle.local_run.specs.Laws.{JobsOfOneModuleAgree, JobsOfOneModuleAgreeOnKeeps}
 use Rattle.local_run.specs.Runs.{local_run, with_halo}

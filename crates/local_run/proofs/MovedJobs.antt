@@ -19,12 +19,13 @@ use Rattle.module_box.specs.declared.boxes.Box2.{Box2}
 use Rattle.module_box.specs.declared.schedules.Signal.TheVariants.{Zero}
 use Rattle.module_box.proofs.BoxCells.{in_box_nats}
 use Rattle.module_box.proofs.MovedBoxes.{boxes_moved, cell_back, cell_cmp_moved, signals_moved}
-use Rattle.certificate.specs.Jobs.{JobState, IsJob, job_demand, job_start, place_in}
-use Rattle.certificate.specs.Shapes.{ShapeState, back, moved_stop, shape_of}
-use Rattle.certificate.specs.Signals.{Meets, is_live}
-use Rattle.certificate.specs.declared.job.Demand.TheVariants as Demanded
-use Rattle.certificate.specs.declared.job.Stop as listed
-use Rattle.certificate.proofs.ShapeParts.{back_forth, stops_back}
+use Rattle.module_job.specs.Jobs.{JobState, IsJob, job_demand, job_start}
+use Rattle.module_box.specs.Places.{place_in}
+use Rattle.module_job.specs.Shapes.{ShapeState, back, moved_stop, shape_of}
+use Rattle.module_job.specs.Signals.{Meets, is_live}
+use Rattle.module_job.specs.declared.job.Demand.TheVariants as Demanded
+use Rattle.module_job.specs.declared.job.Stop as listed
+use Rattle.module_job.proofs.ShapeParts.{back_forth, stops_back}
 use Rattle.local_run.specs.Faults.{HasFault, IsFault, IsFaultUnder, IsKeepFault}
 use Rattle.local_run.specs.Moves.{FaultsMoveAlong, LeastFaultMovesAlong, LeastKeepFaultStays, columns_between, fault_on, rows_between}
 use Rattle.local_run.specs.Order.{fault_cmp, kind_number}

@@ -11,9 +11,10 @@ use Rattle.module_box.specs.declared.schedules.Event.{Event}
 use Rattle.module_box.specs.declared.schedules.Held.{Held}
 use Rattle.module_box.specs.declared.schedules.Signal.{Signal}
 use Rattle.module_box.specs.declared.schedules.Signal.TheVariants.{Zero}
-use Rattle.certificate.specs.Jobs.{JobState, NamesOwnWires, job_start, job_demand, place_in}
-use Rattle.certificate.specs.Signals.{IsBelow, IsDemandBelow}
-use Rattle.certificate.specs.declared.job.Demand.TheVariants as Demanded
+use Rattle.module_job.specs.Jobs.{JobState, NamesOwnWires, job_start, job_demand}
+use Rattle.module_box.specs.Places.{place_in}
+use Rattle.module_job.specs.Signals.{IsBelow, IsDemandBelow}
+use Rattle.module_job.specs.declared.job.Demand.TheVariants as Demanded
 
 all_tail : {A : Type 0} (P : A → Type 0) (x : A) (xs : List A) → All P (x ∷ xs) → All P xs
 all_tail P x xs all = λ k d h. all (suc k) d (omega arith)

@@ -11,7 +11,7 @@ use Rattle.module_box.specs.declared.schedules.Signal.TheVariants.{Zero}
 use Rattle.module_box.specs.Moves.{moved_signals}
 use Rattle.module_box.proofs.MovedBoxes.{signals_moved}
 use Rattle.module_box.proofs.Rising.{held_none, event_none}
-use Rattle.certificate.specs.Shapes.{back}
+use Rattle.module_job.specs.Shapes.{back}
 use Rattle.local_run.specs.Places.{outer}
 use Rattle.local_run.specs.Turns.{MarksOne}
 use Rattle.local_run.specs.Leaps.{IsTimeBetween}

@@ -8,9 +8,9 @@ use Rattle.bbm_rule.specs.Plane.{State}
 use Rattle.circuit.specs.Meaning.{Valuation}
 use Rattle.module_box.specs.Boxes.{in_box, in_halo}
 use Rattle.module_box.specs.Schedules.{Signals, signal_at}
-use Rattle.certificate.specs.Jobs.{JobState, job_demand, job_start}
-use Rattle.certificate.specs.Signals.{Meets, is_live}
-use Rattle.certificate.specs.declared.job.Stop as listed
+use Rattle.module_job.specs.Jobs.{JobState, job_demand, job_start}
+use Rattle.module_job.specs.Signals.{Meets, is_live}
+use Rattle.module_job.specs.declared.job.Stop as listed
 use Rattle.local_run.specs.Faults.{HasFault, IsFaultUnder}
 use Rattle.local_run.specs.Laws.{JobsWithSameHalosAgree, SayTheSame}
 use Rattle.local_run.specs.Runs.{local_run, with_halo}

@@ -8,7 +8,7 @@ use Rattle.std.proofs.lemmas.Nat.{xor_lt}
 use Rattle.std.specs.Int.Bits.{and_lt, and_zero_l, xor_self}
 use Rattle.bbm_rule.specs.Bits.{bit}
 use Rattle.bbm_rule.proofs.BitLemmas.{by_lt_or_le, by_eq_or_not, xor, bit-and, bit-xor, bit-zero}
-use Rattle.certificate.specs.Signals.{IsBelow, is_live}
+use Rattle.module_job.specs.Signals.{IsBelow, is_live}
 use Rattle.module_box.specs.declared.schedules.Signal.{Signal}
 use Rattle.module_box.specs.declared.schedules.Signal.TheVariants.{Zero, One, Wire}
 use Rattle.std.proofs.Math.Nat.{mul-le-mul_left}

@@ -6,8 +6,8 @@ use Rattle.bbm_rule.specs.Spans.{in_span}
 use Rattle.module_box.specs.Boxes.{in_box, in_ring}
 use Rattle.module_box.specs.declared.boxes.Box2.{Box2}
 use Rattle.bbm_rule.proofs.BitLemmas.{by_eq_or_not, bit-zero}
-use Rattle.certificate.specs.Jobs.{JobState}
-use Rattle.certificate.specs.Signals.{is_live}
+use Rattle.module_job.specs.Jobs.{JobState}
+use Rattle.module_job.specs.Signals.{is_live}
 use Rattle.local_run.specs.Calm.{IsDeadAt}
 use Rattle.local_run.specs.Faults.{assignments}
 use Rattle.local_run.specs.Runs.{local_run}

@@ -13,9 +13,9 @@ use Rattle.module_box.specs.declared.boxes.Box2.{Box2}
 use Rattle.bbm_rule.proofs.Spans.{span_parts, span_from, in_span-negsuc, less_one}
 use Rattle.module_box.proofs.RingTests.{halo_read}
 use Rattle.circuit.specs.Meaning.{Valuation}
-use Rattle.certificate.specs.Signals.{is_live}
+use Rattle.module_job.specs.Signals.{is_live}
 use Rattle.module_box.specs.Schedules.{signal_at}
-use Rattle.certificate.specs.Jobs.{JobState, job_start}
+use Rattle.module_job.specs.Jobs.{JobState, job_start}
 use Rattle.local_run.specs.Runs.{with_halo, local_run}
 use Rattle.local_run.specs.Places.{inner, outer}
 use Rattle.local_run.specs.Lanes.{lane, HasSize, SameInside}

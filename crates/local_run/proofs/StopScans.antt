@@ -9,8 +9,8 @@ use Rattle.circuit.specs.Meaning.{Valuation}
 use Rattle.module_box.specs.Moments.{cell_cmp, moment_cmp}
 use Rattle.module_box.specs.Schedules.{IsRising}
 use Rattle.module_box.specs.declared.schedules.Moment.{Moment}
-use Rattle.certificate.specs.Jobs.{JobState, stop_moment}
-use Rattle.certificate.specs.declared.job.Stop as listed
+use Rattle.module_job.specs.Jobs.{JobState, stop_moment}
+use Rattle.module_job.specs.declared.job.Stop as listed
 use Rattle.local_run.specs.Faults.{IsStopFault, assignments}
 use Rattle.local_run.specs.Runs.{local_run}
 use Rattle.local_run.specs.Scans.{IsFirst, IsFree, IsLeastBelow, IsMissed, IsNextStop, is_defined, valuation}

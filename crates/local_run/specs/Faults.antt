@@ -7,9 +7,9 @@ use Rattle.module_box.specs.Boxes.{in_box, in_ring}
 use Rattle.module_box.specs.Locals.{is_among}
 use Rattle.module_box.specs.LocalValues.{IsLocalValuation, IsLocallyUndefined}
 use Rattle.module_box.specs.Schedules.{signal_at}
-use Rattle.certificate.specs.Jobs.{JobState, job_demand}
-use Rattle.certificate.specs.Signals.{is_live, Meets}
-use Rattle.certificate.specs.declared.job.Stop as listed
+use Rattle.module_job.specs.Jobs.{JobState, job_demand}
+use Rattle.module_job.specs.Signals.{is_live, Meets}
+use Rattle.module_job.specs.declared.job.Stop as listed
 use Rattle.local_run.specs.Order.{fault_cmp, keep_cmp}
 use Rattle.local_run.specs.Runs.{local_run}
 use Rattle.local_run.specs.declared.fault.Fault.{Fault}

@@ -8,8 +8,9 @@ use Rattle.module_box.specs.Laws.{LiesInBox}
 use Rattle.module_box.specs.Boxes.{in_halo}
 use Rattle.module_box.specs.Locals.{AreDifferent}
 use Rattle.module_box.specs.Schedules.{Signals, signal_at}
-use Rattle.certificate.specs.Entries.{ModuleLines, known}
-use Rattle.certificate.specs.Jobs.{JobState, IsJob, IsJobOf}
+use Rattle.certificate_lines.specs.Entries.{ModuleLines, known}
+use Rattle.module_job.specs.Jobs.{JobState, IsJob}
+use Rattle.certificate.specs.Jobs.{IsJobOf}
 use Rattle.local_run.specs.Faults.{IsEdgeFault, IsFault, IsFaultUnder, IsKeepFault, IsLeastFault, IsLeastKeepFault, assignments}
 use Rattle.local_run.specs.Leaps.{IsOddOf, IsSteady, StaysUpTo}
 use Rattle.local_run.specs.Runs.{local_run}

@@ -2,8 +2,8 @@
 use Rattle.std.specs.Prelude.{◌≡◌, ℤ, pos, ◌-ℤ◌, Option}
 use Rattle.std.specs.Option.{option_map}
 use Rattle.module_box.specs.Moves.{moved_cell}
-use Rattle.certificate.specs.Jobs.{JobState, IsJob}
-use Rattle.certificate.specs.Shapes.{shape_of}
+use Rattle.module_job.specs.Jobs.{JobState, IsJob}
+use Rattle.module_job.specs.Shapes.{shape_of}
 use Rattle.local_run.specs.Faults.{IsFault, IsLeastFault, IsLeastKeepFault}
 use Rattle.local_run.specs.declared.fault.Fault.{Fault}
 use Rattle.local_run.specs.declared.fault.KeepFault.{KeepFault}

@@ -6,8 +6,8 @@ use Rattle.module_box.specs.Schedules.{Signals, signal_at}
 use Rattle.module_box.specs.declared.boxes.Box2.{Box2}
 use Rattle.module_box.specs.declared.schedules.Held.{Held}
 use Rattle.module_box.specs.declared.schedules.Signal.TheVariants.{Zero}
-use Rattle.certificate.specs.Jobs.{JobState}
-use Rattle.certificate.specs.Shapes.{ShapeState}
+use Rattle.module_job.specs.Jobs.{JobState}
+use Rattle.module_job.specs.Shapes.{ShapeState}
 use Rattle.local_run.specs.Places.{outer}
 use Rattle.local_run.specs.Turns.{IsUnmarked}
 

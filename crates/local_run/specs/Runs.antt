@@ -4,8 +4,8 @@ use Rattle.bbm_rule.specs.Plane.{State, step}
 use Rattle.circuit.specs.Meaning.{Valuation}
 use Rattle.module_box.specs.Boxes.{in_box, in_halo}
 use Rattle.module_box.specs.Schedules.{signal_at}
-use Rattle.certificate.specs.Jobs.{JobState, job_start}
-use Rattle.certificate.specs.Signals.{is_live}
+use Rattle.module_job.specs.Jobs.{JobState, job_start}
+use Rattle.module_job.specs.Signals.{is_live}
 
 -- a state of the box together with the halo cells whose signal at time t is true
 unfoldable pub with_halo : JobState → Valuation → ℕ → State → State

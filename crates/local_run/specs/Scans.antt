@@ -6,10 +6,10 @@ use Rattle.module_box.specs.Schedules.{signal_at}
 use Rattle.module_box.specs.declared.boxes.Box2.{Box2}
 use Rattle.module_box.specs.declared.schedules.Signal.{Signal}
 use Rattle.module_box.specs.declared.schedules.Signal.TheVariants.{Zero, One, Wire}
-use Rattle.certificate.specs.Jobs.{JobState, IsJob}
-use Rattle.certificate.specs.Shapes.{shape_of}
-use Rattle.certificate.specs.Signals.{is_live}
-use Rattle.certificate.specs.declared.job.Stop as listed
+use Rattle.module_job.specs.Jobs.{JobState, IsJob}
+use Rattle.module_job.specs.Shapes.{shape_of}
+use Rattle.module_job.specs.Signals.{is_live}
+use Rattle.module_job.specs.declared.job.Stop as listed
 use Rattle.local_run.specs.Faults.{IsFaultUnder, assignments}
 use Rattle.local_run.specs.Lanes.{HasSize, lane}
 use Rattle.local_run.specs.Places.{inner, outer}

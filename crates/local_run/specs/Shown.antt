@@ -1,7 +1,7 @@
 -- What a finding shows
 use Rattle.std.specs.Prelude.{ℕ, List, Option}
 use Rattle.std.specs.Arc.{arc_value}
-use Rattle.certificate.specs.Jobs.{JobState}
+use Rattle.module_job.specs.Jobs.{JobState}
 use Rattle.local_run.specs.declared.fault.Fault.{Fault}
 use Rattle.local_run.specs.declared.fault.KeepFault.{KeepFault}
 use Rattle.local_run.specs.declared.finding.Finding.{Finding}

@@ -1,7 +1,7 @@
 //! The cells of ring and halo of which a module's lines say something at a time.
 
-ghost use Rattle.certificate.specs.Jobs.{IsJob};
-ghost use Rattle.certificate.specs.Shapes.{shape_of};
+ghost use Rattle.module_job.specs.Jobs.{IsJob};
+ghost use Rattle.module_job.specs.Shapes.{shape_of};
 ghost use Rattle.module_box.specs.Moments.{moment_cmp};
 ghost use Rattle.module_box.specs.Schedules.{IsRising, moment_of};
 ghost use Rattle.local_run.specs.Quiet.{AreHeld, AreHeldMarked, AreLines, at_corner, HasRoom, IsCellMarked, IsQuietIn, KeepsMarks};

@@ -3,8 +3,8 @@ ghost use Rattle.std.specs.Prelude.{◌≡◌, ◌+◌, ◌<◌, ◌≤◌, IsTr
 ghost use Rattle.circuit.specs.Meaning.{wires};
 ghost use Rattle.module_box.specs.Boxes.{in_box, in_ring};
 ghost use Rattle.module_box.specs.Schedules.{signal_at};
-ghost use Rattle.certificate.specs.Jobs.{job_demand, job_start};
-ghost use Rattle.certificate.specs.Signals.{IsBelow, IsDemandBelow};
+ghost use Rattle.module_job.specs.Jobs.{job_demand, job_start};
+ghost use Rattle.module_job.specs.Signals.{IsBelow, IsDemandBelow};
 ghost use Rattle.local_run.specs.Places.{inner, outer, IsSmall};
 
 use bbm_rule::Cell;

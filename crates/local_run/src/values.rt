@@ -1,8 +1,8 @@
 //! The values of the wires of a job under all assignments of its cuts.
 ghost use Rattle.std.specs.Prelude.{ℕ, ◌≡◌, ◌≢◌, ◌+◌, ◌*◌, ◌/◌, ◌^◌, ◌<◌, ◌≤◌, false, true, length, IfOk};
 ghost use Rattle.bbm_rule.specs.Bits.{bit};
-ghost use Rattle.certificate.specs.Jobs.{IsJob};
-ghost use Rattle.certificate.specs.Signals.{is_live};
+ghost use Rattle.module_job.specs.Jobs.{IsJob};
+ghost use Rattle.module_job.specs.Signals.{is_live};
 ghost use Rattle.local_run.specs.Calm.{ChangesCells};
 ghost use Rattle.local_run.specs.Lanes.{lane};
 ghost use Rattle.local_run.specs.Scans.{HasRow, IsLeastBelow, IsReady, IsShown, PutsCell, is_defined, valuation};

@@ -16,3 +16,4 @@ pub mod SeenValues
 pub mod MovedBoxes
 pub mod NearBoxes
 pub mod Telling
+pub mod FromCorner

@@ -14,3 +14,4 @@ pub mod Laws
 pub mod Moves
 pub mod WiringFields
 pub mod Numbers
+pub mod Places

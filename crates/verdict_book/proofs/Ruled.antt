@@ -1,7 +1,7 @@
 -- A reply tells of the book's digest and jobs alone, and of whether a finding is held.
 use Rattle.std.proofs.Common.{◌≡◌, ◌∙◌, ℕ, List, false, length}
 use Rattle.std.specs.Prelude.{is_some}
-use Rattle.certificate.specs.Jobs.{JobState}
+use Rattle.module_job.specs.Jobs.{JobState}
 use Rattle.local_run.specs.Shown.{digest_of, number_of, job_of}
 use Rattle.local_run.specs.declared.finding.Finding.{Finding}
 use Rattle.audit_core.specs.Book.{BookView, found_in, is_job_of, reply_to}

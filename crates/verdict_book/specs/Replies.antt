@@ -1,6 +1,6 @@
 -- Which replies a finding may get
 use Rattle.std.specs.Prelude.{◌≡◌, ℕ, Bool, false, List, length}
-use Rattle.certificate.specs.Jobs.{JobState}
+use Rattle.module_job.specs.Jobs.{JobState}
 use Rattle.audit_core.specs.Book.{is_job_of}
 use Rattle.audit_core.specs.Replay.{rule}
 use Rattle.audit_core.specs.declared.reply.Reply.{Reply}

@@ -1,5 +1,5 @@
 use Rattle.std.proofs.Common.{map, ◌∙◌, sym}
-use Rattle.certificate.specs.Entries.{counts_of, modules_of}
+use Rattle.certificate_lines.specs.Entries.{counts_of, modules_of}
 use Rattle.answers.proofs.ModuleText.{no_lines, one_more_line}
 use Rattle.answers.proofs.modules.print_modules.Goals as goal
 

@@ -1,6 +1,6 @@
 -- The lines of the modules so far.
 use Rattle.std.proofs.Common.{◌≡◌, map, take}
-use Rattle.certificate.specs.Entries.{counts_of, modules_of}
+use Rattle.certificate_lines.specs.Entries.{counts_of, modules_of}
 use Rattle.answers.specs.ModulesText.{module_lines}
 use Rattle.answers.proofs.modules.print_modules.Given as goal
 

@@ -2,7 +2,7 @@ use Rattle.std.proofs.Common.{◌≡◌, ◌∙◌, ◌==◌, ◌++◌, true, Li
 use Rattle.std.specs.Vec.{vec_len}
 use Rattle.std.specs.Arc.{arc_value}
 use Rattle.std.proofs.lemmas.Bool.{and_from, and_parts}
-use Rattle.certificate.specs.Jobs.{JobState}
+use Rattle.module_job.specs.Jobs.{JobState}
 use Rattle.certificate.specs.Times.{are_all_kept, time_lines}
 use Rattle.audit_core.specs.Concluding.{modules, setting}
 use Rattle.audit_core.specs.Verdicts.{AreLeastFaults, lines_from, timing, unkept_lines}

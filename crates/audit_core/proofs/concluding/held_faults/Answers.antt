@@ -1,6 +1,6 @@
 use Rattle.std.proofs.Common.{◌≡◌, ◌∙◌, ◌+◌, ℕ, sym, subst, map}
 use Rattle.std.specs.Arc.{arc_value}
-use Rattle.certificate.specs.Jobs.{JobState}
+use Rattle.module_job.specs.Jobs.{JobState}
 use Rattle.audit_core.specs.Verdicts.{IsFirstMissing, IsHeld}
 use Rattle.audit_core.proofs.HeldJobs.{AreFaultsBelow, first-missing, job-at, one-more}
 use Rattle.audit_core.proofs.concluding.held_faults.Goals as goal

@@ -1,6 +1,6 @@
 use Rattle.std.proofs.Common.{sym, subst}
 use Rattle.circuit.specs.Meaning.{wires}
-use Rattle.certificate.specs.Signals.{IsBelow}
+use Rattle.module_job.specs.Signals.{IsBelow}
 use Rattle.border_match.proofs.OwnSignals.{edge_below}
 use Rattle.border_match.proofs.borders.edge_signal.Goals as goal
 

@@ -1,4 +1,4 @@
-use Rattle.certificate.specs.Entries.{modules_of}
+use Rattle.certificate_lines.specs.Entries.{modules_of}
 use Rattle.border_match.proofs.Modules.{areas_more}
 use Rattle.border_match.proofs.matching.areas_of.Goals as goal
 

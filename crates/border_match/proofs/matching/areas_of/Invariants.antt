@@ -1,5 +1,5 @@
 use Rattle.std.proofs.Common.{◌≡◌, take}
-use Rattle.certificate.specs.Entries.{areas, modules_of}
+use Rattle.certificate_lines.specs.Entries.{areas, modules_of}
 use Rattle.border_match.proofs.matching.areas_of.Given as goal
 
 abbrev pub invariant-modules : goal.invariant-modules

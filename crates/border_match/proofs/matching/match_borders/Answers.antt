@@ -2,10 +2,11 @@ use Rattle.std.proofs.Common.{◌≡◌, ◌∙◌, ℕ, List, sym, ap, subst, m
 use Rattle.std.specs.Prelude.{slice_get, IfOk, Result, Ok, Err}
 use Rattle.std.specs.Arc.{arc_value}
 use Rattle.pattern.specs.declared.parts.Extent.{Extent}
-use Rattle.certificate.specs.Entries.{ModuleLines, modules_of}
-use Rattle.certificate.specs.Grammars.{modules_in, setting_of}
-use Rattle.certificate.specs.Rules.{whole}
-use Rattle.certificate.specs.Versions.{meant, with_halos}
+use Rattle.certificate_lines.specs.Entries.{ModuleLines, modules_of}
+use Rattle.certificate.specs.Grammars.{modules_in}
+use Rattle.certificate_lines.specs.Settings.{setting_of}
+use Rattle.certificate_lines.specs.Rules.{whole}
+use Rattle.certificate_lines.specs.Versions.{meant, with_halos}
 use Rattle.border_match.specs.BorderFaults.{AreBorderFaultsOf, IsLeastBorderFault}
 use Rattle.border_match.specs.Boards.{IsBoard, IsJobFault}
 use Rattle.border_match.specs.Candidates.{IsLeast}

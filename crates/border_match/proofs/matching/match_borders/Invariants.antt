@@ -1,6 +1,7 @@
 use Rattle.std.proofs.Common.{◌≡◌, ℕ, vec_len}
 use Rattle.std.specs.Prelude.{slice_get, Option, Some}
-use Rattle.certificate.specs.Grammars.{modules_in, setting_of}
+use Rattle.certificate.specs.Grammars.{modules_in}
+use Rattle.certificate_lines.specs.Settings.{setting_of}
 use Rattle.border_match.specs.BorderFaults.{IsLeastBorderFault}
 use Rattle.border_match.specs.declared.fault.BorderFault.{BorderFault}
 use Rattle.border_match.proofs.matching.match_borders.Given as goal

@@ -6,9 +6,10 @@ use Rattle.module_box.specs.Boxes.{Tile}
 use Rattle.module_box.specs.Tiling.{AreOwners, rectangle_of}
 use Rattle.module_box.specs.declared.boxes.Box2.{Box2}
 use Rattle.module_box.specs.declared.tile.TileFault.TheVariants.{Memory}
-use Rattle.certificate.specs.Entries.{modules_of}
-use Rattle.certificate.specs.Grammars.{modules_in, setting_of}
-use Rattle.certificate.specs.Rules.{whole}
+use Rattle.certificate_lines.specs.Entries.{modules_of}
+use Rattle.certificate.specs.Grammars.{modules_in}
+use Rattle.certificate_lines.specs.Settings.{setting_of}
+use Rattle.certificate_lines.specs.Rules.{whole}
 use Rattle.certificate.proofs.FullModules.{meant_areas}
 use Rattle.border_match.proofs.Modules.{is_task, only_memory}
 use Rattle.border_match.proofs.matching.owners_of.Goals.{in-Memory, in_default}

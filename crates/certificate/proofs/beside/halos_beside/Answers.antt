@@ -2,12 +2,12 @@ use Rattle.std.proofs.Common.{List, ap, subst, map, rules}
 use Rattle.std.specs.List.Sorted.{IsPermutation}
 use Rattle.std.specs.Ordering.{is_lt}
 use Rattle.std.proofs.lemmas.List.Sorted.{answers_always, ranks_by}
-use Rattle.certificate.specs.Grammars.{setting_of}
-use Rattle.certificate.specs.ModuleParts.{part_lines}
-use Rattle.certificate.specs.Versions.{beside, line_order}
-use Rattle.certificate.specs.declared.entry.Border.{Border}
+use Rattle.certificate_lines.specs.Settings.{setting_of}
+use Rattle.certificate.specs.PartLines.{part_lines}
+use Rattle.certificate_lines.specs.Versions.{beside, line_order}
+use Rattle.certificate_lines.specs.declared.entry.Border.{Border}
 use Rattle.certificate.proofs.FullModules.{distinct_beside}
-use Rattle.certificate.proofs.LineOrder.{line_total}
+use Rattle.certificate_lines.proofs.LineOrder.{line_total}
 use Rattle.certificate.proofs.SortedLines.{sorted_lines}
 use Rattle.certificate.proofs.beside.halos_beside.Goals as goal
 

@@ -1,8 +1,8 @@
 use Rattle.std.proofs.Common.{◌∙◌, ap, option_map}
 use Rattle.std.proofs.lemmas.Option.{slice_get-get_or, slice_get-map}
-use Rattle.certificate.specs.Grammars.{setting_of}
-use Rattle.certificate.specs.ModuleParts.{part_lines}
-use Rattle.certificate.proofs.FarLines.{own_lines}
+use Rattle.certificate_lines.specs.Settings.{setting_of}
+use Rattle.certificate.specs.PartLines.{part_lines}
+use Rattle.certificate_lines.proofs.FarLines.{own_lines}
 use Rattle.certificate.proofs.beside.lines_beside.Goals as goal
 
 pub push_parts-requires : goal.push_parts-requires

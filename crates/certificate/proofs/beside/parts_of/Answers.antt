@@ -1,11 +1,12 @@
 use Rattle.std.proofs.Common.{◌≡◌, ◌∙◌, ◌+◌, ◌++◌, ◌∷◌, [], get_or, sym, ap, subst, drop, map}
-use Rattle.certificate.specs.Entries.{ModuleLines, modules_of}
-use Rattle.certificate.specs.ModuleParts.{inner, part_lines}
+use Rattle.certificate_lines.specs.Entries.{ModuleLines, modules_of}
+use Rattle.certificate_lines.specs.ModuleParts.{inner}
+use Rattle.certificate.specs.PartLines.{part_lines}
 use Rattle.certificate.specs.declared.beside.Part.{Part}
-use Rattle.certificate.specs.declared.entry.Entry.TheVariants.{Module}
+use Rattle.certificate_lines.specs.declared.entry.Entry.TheVariants.{Module}
 use Rattle.certificate.proofs.BesideLines.{all_parts, one_part, other_line_on}
-use Rattle.certificate.proofs.JobLists.{rest_of_lines}
-use Rattle.certificate.proofs.ModuleSplit.{no_module}
+use Rattle.certificate_lines.proofs.LinesLeft.{rest_of_lines}
+use Rattle.certificate_lines.proofs.ModuleSplit.{no_module}
 use Rattle.certificate.proofs.beside.parts_of.Goals.{in-Module+in_ok-push, in_default}
 use Rattle.certificate.proofs.beside.parts_of.Goals as goal
 

@@ -1,6 +1,6 @@
 use Rattle.std.proofs.Common.{◌≡◌, ◌++◌, drop, map}
-use Rattle.certificate.specs.Entries.{modules_of}
-use Rattle.certificate.specs.ModuleParts.{part_lines}
+use Rattle.certificate_lines.specs.Entries.{modules_of}
+use Rattle.certificate.specs.PartLines.{part_lines}
 use Rattle.certificate.proofs.beside.parts_of.Given as goal
 
 -- The modules before the line.

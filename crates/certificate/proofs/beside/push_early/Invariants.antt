@@ -1,6 +1,6 @@
 use Rattle.std.proofs.Common.{◌≡◌, ◌++◌, take}
 use Rattle.std.specs.List.{filter}
-use Rattle.certificate.specs.Versions.{is_early}
+use Rattle.certificate_lines.specs.Versions.{is_early}
 use Rattle.certificate.proofs.beside.push_early.Given as goal
 
 -- The lines so far.

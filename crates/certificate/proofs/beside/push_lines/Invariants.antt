@@ -1,7 +1,7 @@
 use Rattle.std.proofs.Common.{◌≡◌, ◌++◌, take}
 use Rattle.std.specs.List.{filter, flat_map}
 use Rattle.module_box.specs.Boxes.{in_halo}
-use Rattle.certificate.specs.Entries.{edge_in}
+use Rattle.certificate_lines.specs.Entries.{edge_in}
 use Rattle.certificate.proofs.beside.push_lines.Given as goal
 
 -- The edge lines so far.

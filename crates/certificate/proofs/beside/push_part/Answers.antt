@@ -1,7 +1,7 @@
 use Rattle.std.proofs.Common.{◌≡◌, ◌++◌, ◌∙◌, append-nil, sym, ap}
-use Rattle.certificate.specs.Entries.{edges}
-use Rattle.certificate.specs.ModuleParts.{part_lines}
-use Rattle.certificate.proofs.FarLines.{far_lines}
+use Rattle.certificate_lines.specs.Entries.{edges}
+use Rattle.certificate.specs.PartLines.{part_lines}
+use Rattle.certificate_lines.proofs.FarLines.{far_lines}
 use Rattle.certificate.proofs.beside.push_part.Goals as goal
 
 pub returns-then-not-is_near : goal.returns-then-not-is_near

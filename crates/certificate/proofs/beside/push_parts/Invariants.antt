@@ -1,8 +1,8 @@
 use Rattle.std.proofs.Common.{◌≡◌, ◌++◌, map, take}
 use Rattle.std.specs.List.{filter, flat_map}
 use Rattle.module_box.specs.Boxes.{in_halo}
-use Rattle.certificate.specs.Entries.{edges}
-use Rattle.certificate.specs.ModuleParts.{part_lines}
+use Rattle.certificate_lines.specs.Entries.{edges}
+use Rattle.certificate.specs.PartLines.{part_lines}
 use Rattle.certificate.proofs.beside.push_parts.Given as goal
 
 -- The edge lines of the modules so far.

@@ -2,14 +2,15 @@ use Rattle.std.proofs.Common.{◌≡◌, [], ◌∷◌, ◌++◌, ◌+◌, map, 
 use Rattle.std.specs.Arc.{arc_value}
 use Rattle.std.proofs.lemmas.List.{map-append}
 use Rattle.circuit.specs.Bridge.{circuit_of}
-use Rattle.certificate.specs.Grammars.{setting_of}
+use Rattle.certificate_lines.specs.Settings.{setting_of}
 use Rattle.certificate.specs.Jobs.{IsJobOf}
-use Rattle.certificate.specs.ModuleParts.{inner}
-use Rattle.certificate.specs.Modules.{HasPorts, IsModule}
+use Rattle.certificate_lines.specs.ModuleParts.{inner}
+use Rattle.certificate_lines.specs.Modules.{HasPorts, IsModule}
 use Rattle.certificate.specs.PlanView.{PlanState}
-use Rattle.certificate.specs.declared.entry.Entry.TheVariants.{Module}
-use Rattle.certificate.proofs.JobLists.{HaveJobs, no_jobs, other_line, next_module, one_job_more, all_jobs, rest_of_lines}
-use Rattle.certificate.proofs.ModuleSplit.{no_module}
+use Rattle.certificate_lines.specs.declared.entry.Entry.TheVariants.{Module}
+use Rattle.certificate.proofs.JobLists.{HaveJobs, no_jobs, other_line, next_module, one_job_more, all_jobs}
+use Rattle.certificate_lines.proofs.LinesLeft.{rest_of_lines}
+use Rattle.certificate_lines.proofs.ModuleSplit.{no_module}
 use Rattle.certificate.proofs.jobs.jobs_of_lines.Goals.{in-Module+in_ok-job+in_ok-new+in_ok-push, in_default}
 use Rattle.certificate.proofs.jobs.jobs_of_lines.Goals as goal
 

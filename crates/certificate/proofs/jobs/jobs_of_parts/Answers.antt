@@ -3,12 +3,13 @@ use Rattle.std.specs.Prelude.{slice_get}
 use Rattle.std.specs.Arc.{arc_value}
 use Rattle.std.proofs.lemmas.List.{length-map, map-append}
 use Rattle.circuit.specs.Bridge.{circuit_of}
-use Rattle.certificate.specs.Entries.{ModuleLines}
-use Rattle.certificate.specs.Grammars.{setting_of}
-use Rattle.certificate.specs.Jobs.{IsJobOf, JobState}
-use Rattle.certificate.specs.ModuleParts.{part_lines}
-use Rattle.certificate.specs.Modules.{HasPorts, IsModule}
-use Rattle.certificate.specs.Versions.{with_halos}
+use Rattle.certificate_lines.specs.Entries.{ModuleLines}
+use Rattle.certificate_lines.specs.Settings.{setting_of}
+use Rattle.certificate.specs.Jobs.{IsJobOf}
+use Rattle.module_job.specs.Jobs.{JobState}
+use Rattle.certificate.specs.PartLines.{part_lines}
+use Rattle.certificate_lines.specs.Modules.{HasPorts, IsModule}
+use Rattle.certificate_lines.specs.Versions.{with_halos}
 use Rattle.certificate.proofs.BesideLines.{PartJobs, no_part_jobs, part_at, parts_done, one_part_more}
 use Rattle.certificate.proofs.FullModules.{full_modules, mapped_at}
 use Rattle.certificate.proofs.jobs.jobs_of_parts.Goals as goal

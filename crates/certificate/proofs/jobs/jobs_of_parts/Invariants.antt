@@ -2,8 +2,8 @@
 use Rattle.std.proofs.Common.{map}
 use Rattle.std.specs.Arc.{arc_value}
 use Rattle.circuit.specs.Bridge.{circuit_of}
-use Rattle.certificate.specs.Grammars.{setting_of}
-use Rattle.certificate.specs.ModuleParts.{part_lines}
+use Rattle.certificate_lines.specs.Settings.{setting_of}
+use Rattle.certificate.specs.PartLines.{part_lines}
 use Rattle.certificate.proofs.BesideLines.{PartJobs}
 use Rattle.certificate.proofs.jobs.jobs_of_parts.Given as goal
 

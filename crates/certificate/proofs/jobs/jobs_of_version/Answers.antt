@@ -2,12 +2,12 @@ use Rattle.std.proofs.Common.{◌≡◌, ◌==◌, ◌&&◌, ◌∙◌, List, tr
 use Rattle.std.specs.Prelude.{IfOk}
 use Rattle.std.specs.Arc.{arc_value}
 use Rattle.circuit.specs.Bridge.{circuit_of}
-use Rattle.certificate.specs.Entries.{ModuleLines, modules_of}
-use Rattle.certificate.specs.Grammars.{setting_of}
+use Rattle.certificate_lines.specs.Entries.{ModuleLines, modules_of}
+use Rattle.certificate_lines.specs.Settings.{setting_of}
 use Rattle.certificate.specs.Jobs.{AreJobsOf}
-use Rattle.certificate.specs.ModuleParts.{part_lines}
-use Rattle.certificate.specs.Modules.{AreModules}
-use Rattle.certificate.specs.Versions.{is_haloless, lacks_wire, with_halos}
+use Rattle.certificate.specs.PartLines.{part_lines}
+use Rattle.certificate_lines.specs.Modules.{AreModules}
+use Rattle.certificate_lines.specs.Versions.{is_haloless, lacks_wire, with_halos}
 use Rattle.certificate.specs.declared.beside.Part.{Part}
 use Rattle.certificate.proofs.FullModules.{meant_new, meant_old}
 use Rattle.certificate.proofs.jobs.jobs_of_version.Goals as goal

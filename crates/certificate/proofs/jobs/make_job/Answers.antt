@@ -4,24 +4,23 @@ use Rattle.std.specs.Arc.{arc_value}
 use Rattle.std.specs.List.{All}
 use Rattle.circuit.specs.Bridge.{circuit_of, netlist_of}
 use Rattle.circuit.specs.Meaning.{Netlist, wires}
-use Rattle.certificate.specs.Entries.{gates, keeps}
-use Rattle.certificate.proofs.JobLemmas.{keeps_used}
+use Rattle.certificate_lines.specs.Entries.{gates, keeps, ModuleLines, edges, halos, stops}
+use Rattle.certificate.proofs.JobLemmas.{keeps_used, within_512, edges_named, halos_named, lists_local, wires_known, cut_count}
 use Rattle.module_box.specs.Boxes.{in_box}
 use Rattle.module_box.specs.Locals.{AreLocalsOf}
 use Rattle.module_box.specs.Moves.{IsNear}
 use Rattle.module_box.specs.Schedules.{Signals}
 use Rattle.module_box.specs.declared.boxes.Box2.{Box2}
 use Rattle.module_box.specs.declared.schedules.Signal.{Signal}
-use Rattle.certificate.specs.Entries.{ModuleLines, edges, halos, stops}
-use Rattle.certificate.specs.Grammars.{setting_of}
-use Rattle.certificate.specs.Jobs.{IsJob, IsJobOf, line_signals, line_stops}
-use Rattle.certificate.specs.Rules.{is_local}
-use Rattle.certificate.specs.Shapes.{ShapeState, placed, stops_from_corner}
+use Rattle.certificate_lines.specs.Settings.{setting_of}
+use Rattle.module_job.specs.Jobs.{IsJob}
+use Rattle.certificate.specs.Jobs.{IsJobOf, line_signals, line_stops}
+use Rattle.certificate_lines.specs.Rules.{is_local}
+use Rattle.module_job.specs.Shapes.{ShapeState, placed, stops_from_corner}
 use Rattle.certificate.specs.Timetables.{IsNamedLocal}
-use Rattle.certificate.specs.declared.job.Demand.{Demand}
-use Rattle.certificate.specs.declared.job.Stop.{Stop}
-use Rattle.certificate.proofs.BoxPlaces.{start_found, demand_found}
-use Rattle.certificate.proofs.JobLemmas.{within_512, edges_named, halos_named, lists_local, wires_known, cut_count}
+use Rattle.module_job.specs.declared.job.Demand.{Demand}
+use Rattle.module_job.specs.declared.job.Stop.{Stop}
+use Rattle.certificate.proofs.JobPlaces.{start_found, demand_found}
 use Rattle.certificate.proofs.NearLines.{low_edges, low_halos, low_stops}
 use Rattle.certificate.proofs.PlanLemmas.{locals_have_ports}
 use Rattle.certificate.proofs.StopLemmas.{stops_named, stops_rise, stops_stand}

@@ -3,7 +3,7 @@ use Rattle.std.specs.Prelude.{IsTrue, slice_index}
 use Rattle.std.specs.List.{All, flat_map}
 use Rattle.circuit.specs.Bridge.{netlist_of}
 use Rattle.module_box.specs.Locals.{AreLocalLines, is_among}
-use Rattle.certificate.specs.Entries.{keep_in}
+use Rattle.certificate_lines.specs.Entries.{keep_in}
 use Rattle.certificate.proofs.JobLemmas.{small_gates, few_gates}
 use Rattle.certificate.proofs.jobs.named_locals.Goals as goal
 

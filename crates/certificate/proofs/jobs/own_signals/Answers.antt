@@ -9,11 +9,11 @@ use Rattle.module_box.specs.Moves.{IsNear, IsSmall, moved_signals}
 use Rattle.module_box.specs.Schedules.{Signals}
 use Rattle.module_box.specs.declared.boxes.Box2.{Box2}
 use Rattle.module_box.specs.declared.schedules.Event.{Event}
-use Rattle.certificate.specs.Shapes.{back, from_corner}
-use Rattle.certificate.specs.Signals.{IsBelow, renumber_signals}
+use Rattle.module_job.specs.Shapes.{back, from_corner}
+use Rattle.module_job.specs.Signals.{IsBelow, renumber_signals}
 use Rattle.certificate.specs.Timetables.{borders_in}
 use Rattle.certificate.proofs.NearLines.{low_held, low_events, near_held, near_events, near_moved}
-use Rattle.certificate.proofs.ShapeParts.{placed_again}
+use Rattle.module_job.proofs.ShapeParts.{placed_again}
 use Rattle.certificate.proofs.jobs.own_signals.Goals as goal
 
 -- a small number is passed as it is

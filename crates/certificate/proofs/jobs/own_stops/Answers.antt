@@ -6,13 +6,13 @@ use Rattle.std.proofs.lemmas.Result.{IfOk-weaker}
 use Rattle.circuit.specs.Bridge.{circuit_of}
 use Rattle.module_box.specs.Moves.{IsNear, IsSmall}
 use Rattle.module_box.specs.declared.boxes.Box2.{Box2}
-use Rattle.certificate.specs.Entries.{stop_in}
-use Rattle.certificate.specs.Shapes.{back, moved_stop, stops_from_corner}
+use Rattle.certificate_lines.specs.Entries.{stop_in}
+use Rattle.module_job.specs.Shapes.{back, moved_stop, stops_from_corner}
 use Rattle.certificate.specs.StopLists.{AreStops}
 use Rattle.certificate.specs.Timetables.{IsLow}
-use Rattle.certificate.specs.declared.job.Stop.{Stop}
+use Rattle.module_job.specs.declared.job.Stop.{Stop}
 use Rattle.certificate.proofs.NearLines.{near_stops, near_moved_stops}
-use Rattle.certificate.proofs.ShapeParts.{back_forth, stops_back}
+use Rattle.module_job.proofs.ShapeParts.{back_forth, stops_back}
 use Rattle.certificate.proofs.StopLemmas.{stops_stand}
 use Rattle.certificate.proofs.jobs.own_stops.Goals as goal
 

@@ -1,6 +1,6 @@
 use Rattle.std.proofs.Common.{◌≡◌, ◌∙◌, ◌+◌, drop, sym, ap, subst}
-use Rattle.certificate.specs.ModuleParts.{inner}
-use Rattle.certificate.proofs.JobLists.{rest_of_lines}
+use Rattle.certificate_lines.specs.ModuleParts.{inner}
+use Rattle.certificate_lines.proofs.LinesLeft.{rest_of_lines}
 use Rattle.certificate.proofs.KeepLemmas.{AreNoted, none_noted, other_noted, module_noted, all_noted}
 use Rattle.certificate.proofs.kept.kept_gates.Goals.{then-is_module+in_ok-note_keeps, else-is_module}
 use Rattle.certificate.proofs.kept.kept_gates.Goals as goal

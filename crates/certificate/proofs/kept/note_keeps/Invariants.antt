@@ -2,7 +2,7 @@
 use Rattle.std.proofs.Common.{◌≡◌, ◌||◌, ℕ, take}
 use Rattle.std.specs.List.{flat_map}
 use Rattle.module_box.specs.Locals.{is_among}
-use Rattle.certificate.specs.Entries.{keep_in}
+use Rattle.certificate_lines.specs.Entries.{keep_in}
 use Rattle.certificate.proofs.kept.note_keeps.Given as goal
 
 abbrev pub invariant-loop-line : goal.invariant-loop-line

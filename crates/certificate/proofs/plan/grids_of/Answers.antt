@@ -3,7 +3,8 @@ use Rattle.std.specs.List.{flat_map}
 use Rattle.bbm_rule.specs.declared.block.Cell.{Cell}
 use Rattle.pattern.specs.Layout.{in_cells, rectangle_cells}
 use Rattle.pattern.specs.declared.parts.Rectangle.{Rectangle}
-use Rattle.certificate.proofs.PlanLemmas.{AllInLayout, fit_in_layout, balls_on_layout, in_mirrors, mirrors_on_board, wastes_on_layout}
+use Rattle.certificate_lines.proofs.LayoutPorts.{AllInLayout, balls_on_layout, wastes_on_layout}
+use Rattle.certificate.proofs.PlanLemmas.{fit_in_layout, in_mirrors, mirrors_on_board}
 use Rattle.certificate.proofs.plan.grids_of.Goals as goal
 
 pub cells_of_mirrors-requires : goal.cells_of_mirrors-requires

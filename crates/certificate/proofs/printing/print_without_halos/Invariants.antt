@@ -2,7 +2,7 @@
 use Rattle.std.proofs.Common.{◌≡◌, ◌++◌, take}
 use Rattle.std.specs.List.{flat_map}
 use Rattle.certificate.specs.Text.{entry_text}
-use Rattle.certificate.specs.Versions.{without_halos}
+use Rattle.certificate_lines.specs.Versions.{without_halos}
 use Rattle.certificate.proofs.printing.print_without_halos.Given as goal
 
 abbrev pub invariant-loop-entry : goal.invariant-loop-entry

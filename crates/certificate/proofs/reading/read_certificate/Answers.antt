@@ -2,11 +2,11 @@
 use Rattle.std.proofs.Common.{◌≡◌, ◌∙◌, ◌&&◌, false, List, map, subst, sym, ap}
 use Rattle.std.specs.List.{All}
 use Rattle.section_text.proofs.Good.{reads_faultless}
-use Rattle.certificate.specs.Entries.{Setting, counts_of, modules_of}
-use Rattle.certificate.specs.Grammars.{setting_of}
-use Rattle.certificate.specs.Modules.{AreModules, HasFewLines}
-use Rattle.certificate.specs.Versions.{is_haloless, lacks_wire}
-use Rattle.certificate.specs.declared.entry.Entry.{Entry}
+use Rattle.certificate_lines.specs.Entries.{Setting, counts_of, modules_of}
+use Rattle.certificate_lines.specs.Settings.{setting_of}
+use Rattle.certificate_lines.specs.Modules.{AreModules, HasFewLines}
+use Rattle.certificate_lines.specs.Versions.{is_haloless, lacks_wire}
+use Rattle.certificate_lines.specs.declared.entry.Entry.{Entry}
 use Rattle.certificate.proofs.Soundness.{faultless_lines, faultless_modules, read_complete, read_version}
 use Rattle.certificate.proofs.reading.read_certificate.Goals as goal
 

@@ -1,8 +1,8 @@
 use Rattle.std.proofs.Common.{◌≡◌, true}
 use Rattle.circuit.specs.Bridge.{circuit_of}
-use Rattle.certificate.specs.Entries.{stop_in}
-use Rattle.certificate.specs.Rules.{is_local}
-use Rattle.certificate.proofs.FlatParts.{flat_at}
+use Rattle.certificate_lines.specs.Entries.{stop_in}
+use Rattle.certificate_lines.specs.Rules.{is_local}
+use Rattle.certificate_lines.proofs.FlatParts.{flat_at}
 use Rattle.certificate.proofs.stops.stops_of.Goals as goal
 
 pub push_stop-requires : goal.push_stop-requires

@@ -1,7 +1,7 @@
 use Rattle.std.proofs.Common.{take}
 use Rattle.std.specs.List.{flat_map}
 use Rattle.circuit.specs.Bridge.{circuit_of}
-use Rattle.certificate.specs.Entries.{stop_in}
+use Rattle.certificate_lines.specs.Entries.{stop_in}
 use Rattle.certificate.specs.StopLists.{AreStops}
 use Rattle.certificate.proofs.stops.stops_of.Given as goal
 

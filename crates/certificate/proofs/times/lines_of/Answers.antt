@@ -1,7 +1,7 @@
 use Rattle.std.proofs.Common.{◌≡◌, subst}
 use Rattle.std.specs.Result.{IfOk}
 use Rattle.circuit.specs.Bridge.{circuit_of}
-use Rattle.certificate.specs.Entries.{modules_of}
+use Rattle.certificate_lines.specs.Entries.{modules_of}
 use Rattle.certificate.proofs.TimeLemmas.{lines_told}
 use Rattle.certificate.proofs.times.lines_of.Goals as goal
 

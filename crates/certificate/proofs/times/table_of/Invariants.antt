@@ -2,7 +2,7 @@ use Rattle.std.proofs.Common.{◌≡◌, length, take}
 use Rattle.std.specs.List.{flat_map}
 use Rattle.circuit.specs.Bridge.{circuit_of, netlist_of}
 use Rattle.circuit.specs.Meaning.{wires}
-use Rattle.certificate.specs.Entries.{stop_in}
+use Rattle.certificate_lines.specs.Entries.{stop_in}
 use Rattle.certificate.specs.SeenTimes.{IsTable}
 use Rattle.certificate.proofs.times.table_of.Given as goal
 

@@ -4,9 +4,9 @@ use Rattle.circuit.specs.Bridge.{circuit_of}
 use Rattle.circuit.specs.Meaning.{wires}
 use Rattle.module_box.specs.Locals.{circuit_wire}
 use Rattle.certificate.specs.Jobs.{line_signals}
-use Rattle.certificate.specs.Signals.{IsBelow, renumber_held, renumber_event}
+use Rattle.module_job.specs.Signals.{IsBelow, renumber_held, renumber_event}
 use Rattle.certificate.specs.Timetables.{IsNamedLocal, borders_in}
-use Rattle.certificate.proofs.FlatParts.{flat_at}
+use Rattle.certificate_lines.proofs.FlatParts.{flat_at}
 use Rattle.certificate.proofs.TimetableLemmas.{no_lines, next_table, all_lines, table_held_rises, table_events_rise}
 use Rattle.certificate.proofs.timetable.signals_of.Goals as goal
 

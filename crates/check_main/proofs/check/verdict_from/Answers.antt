@@ -2,7 +2,7 @@
 use Rattle.std.proofs.Common.{◌∙◌, Err, List, ap, length, map, subst, sym}
 use Rattle.std.specs.Arc.{arc_value}
 use Rattle.audit_core.specs.Verdicts.{AreHeldBelow}
-use Rattle.certificate.specs.Jobs.{JobState}
+use Rattle.module_job.specs.Jobs.{JobState}
 use Rattle.check_main.proofs.Closings.{none_missing}
 use Rattle.check_main.proofs.check.verdict_from.Goals as goal
 

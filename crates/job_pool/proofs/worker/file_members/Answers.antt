@@ -3,8 +3,8 @@ use Rattle.std.specs.Prelude.{if◌then◌else◌}
 use Rattle.std.specs.Arc.{arc_value}
 use Rattle.std.proofs.lemmas.Bool.Decides.{nat_tests}
 use Rattle.std.proofs.lemmas.List.{length-map}
-use Rattle.certificate.specs.Shapes.{shape_of}
-use Rattle.certificate.proofs.FirstShapes.{value_at}
+use Rattle.module_job.specs.Shapes.{shape_of}
+use Rattle.module_job.proofs.FirstShapes.{value_at}
 use Rattle.local_run.specs.Shown.{job_of}
 use Rattle.verdict_book.specs.Counts.{Counts}
 use Rattle.job_pool.specs.Work.{shapes_of}

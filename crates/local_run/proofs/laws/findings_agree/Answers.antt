@@ -1,5 +1,5 @@
 use Rattle.std.proofs.Common.{subst, sym}
-use Rattle.certificate.specs.Jobs.{JobState}
+use Rattle.module_job.specs.Jobs.{JobState}
 use Rattle.local_run.specs.Faults.{IsLeastFault, IsLeastKeepFault}
 use Rattle.local_run.specs.Shown.{job_of, fault_of, keep_of}
 use Rattle.local_run.proofs.Least.{least_unique, least_keep_unique}

@@ -1,6 +1,6 @@
 use Rattle.std.proofs.Common.{◌≡◌, ◌∙◌, ap, subst}
 use Rattle.module_box.specs.Schedules.{Signals}
-use Rattle.certificate.specs.Shapes.{ShapeState, back, shape_of}
+use Rattle.module_job.specs.Shapes.{ShapeState, back, shape_of}
 use Rattle.local_run.specs.Leaps.{IsSteady}
 use Rattle.local_run.proofs.LeapLemmas.{less_steady, steady_moved}
 use Rattle.local_run.proofs.leaps.quiet_until.Goals as goal

@@ -2,7 +2,7 @@ use Rattle.std.proofs.Common.{◌≡◌, ◌∙◌, ◌+◌, ◌*◌, ◌/◌, �
 use Rattle.std.specs.Int.{div_ceil}
 use Rattle.std.proofs.lemmas.List.{with_items_is}
 use Rattle.module_box.specs.declared.boxes.Box2.{Box2}
-use Rattle.certificate.specs.Shapes.{shape_of}
+use Rattle.module_job.specs.Shapes.{shape_of}
 use Rattle.local_run.specs.Quiet.{AreHeld}
 use Rattle.local_run.proofs.lines.held_cells.Goals as goal
 

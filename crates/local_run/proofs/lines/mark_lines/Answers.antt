@@ -1,5 +1,5 @@
 use Rattle.std.proofs.Common.{◌≡◌, ◌∙◌}
-use Rattle.certificate.specs.Shapes.{shape_of}
+use Rattle.module_job.specs.Shapes.{shape_of}
 use Rattle.local_run.proofs.QuietLemmas.{quiet_moved, still_quiet}
 use Rattle.local_run.proofs.lines.mark_lines.Goals as goal
 

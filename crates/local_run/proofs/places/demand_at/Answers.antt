@@ -1,6 +1,6 @@
 use Rattle.std.proofs.Common.{subst, sym}
 use Rattle.circuit.specs.Meaning.{wires}
-use Rattle.certificate.specs.Signals.{IsDemandBelow}
+use Rattle.module_job.specs.Signals.{IsDemandBelow}
 use Rattle.local_run.proofs.OwnWires.{demand_below}
 use Rattle.local_run.proofs.places.demand_at.Goals as goal
 

@@ -3,7 +3,7 @@ use Rattle.std.proofs.lemmas.Int.{ints}
 use Rattle.circuit.specs.Meaning.{wires}
 use Rattle.module_box.specs.Moves.{IsSmall}
 use Rattle.module_box.specs.declared.boxes.Box2.{Box2}
-use Rattle.certificate.specs.Signals.{IsBelow}
+use Rattle.module_job.specs.Signals.{IsBelow}
 use Rattle.local_run.specs.Places.{outer}
 use Rattle.local_run.proofs.OwnWires.{halo_below}
 use Rattle.local_run.proofs.places.halo_at.Goals as goal

@@ -1,6 +1,6 @@
 use Rattle.std.proofs.Common.{subst, sym}
 use Rattle.circuit.specs.Meaning.{wires}
-use Rattle.certificate.specs.Signals.{IsBelow}
+use Rattle.module_job.specs.Signals.{IsBelow}
 use Rattle.local_run.proofs.OwnWires.{start_below}
 use Rattle.local_run.proofs.places.start_at.Goals as goal
 

@@ -1,7 +1,7 @@
 use Rattle.circuit.specs.Meaning.{wires}
 use Rattle.std.proofs.Common.{rules, sym, ◌∙◌, ◌+◌}
 use Rattle.module_box.specs.declared.schedules.Signal.TheVariants.{Zero, One, Wire}
-use Rattle.certificate.specs.declared.job.Demand.TheVariants as Demanded
+use Rattle.module_job.specs.declared.job.Demand.TheVariants as Demanded
 use Rattle.local_run.specs.Lanes.{lane}
 use Rattle.local_run.specs.Faults.{assignments}
 use Rattle.local_run.proofs.Firsts.{edge_not_found, end_least, inner_in_box}

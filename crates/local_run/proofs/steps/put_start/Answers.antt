@@ -1,7 +1,7 @@
 use Rattle.std.proofs.Common.{arith, ◌≡◌, ◌+◌, ℕ, ap, ◌∙◌, subst}
 use Rattle.bbm_rule.proofs.BitLemmas.{by_lt_or_le}
 use Rattle.module_box.specs.declared.boxes.Box2.{Box2}
-use Rattle.certificate.specs.Signals.{is_live}
+use Rattle.module_job.specs.Signals.{is_live}
 use Rattle.local_run.specs.Runs.{local_run}
 use Rattle.local_run.specs.Places.{inner}
 use Rattle.local_run.specs.Lanes.{lane}

@@ -1,8 +1,8 @@
 use Rattle.std.proofs.Common.{◌≡◌, ℕ, List, map, sym, ap, subst, ◌∙◌}
 use Rattle.std.specs.Arc.{arc_value}
 use Rattle.std.proofs.lemmas.List.{take_all}
-use Rattle.certificate.specs.Groups.{AreKeys}
-use Rattle.certificate.proofs.FirstShapes.{made_keys, map_twice}
+use Rattle.module_job.specs.Groups.{AreKeys}
+use Rattle.module_job.proofs.FirstShapes.{made_keys, map_twice}
 use Rattle.verdict_tests.proofs.jobs.groups_of_one_key.Goals as goal
 
 pub shape_groups-requires : goal.shape_groups-requires

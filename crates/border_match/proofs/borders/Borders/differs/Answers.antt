@@ -6,7 +6,7 @@ use Rattle.module_box.specs.Boxes.{in_box}
 use Rattle.module_box.specs.Moves.{IsNear, IsSmall}
 use Rattle.module_box.specs.Tiling.{owner_of}
 use Rattle.module_box.proofs.BoxCells.{in_box_nats, same_some}
-use Rattle.certificate.specs.Jobs.{JobState, IsJob}
+use Rattle.module_job.specs.Jobs.{JobState, IsJob}
 use Rattle.border_match.specs.Boards.{IsReady, jobs_of}
 use Rattle.border_match.specs.declared.borders.Borders.{Borders}
 use Rattle.border_match.proofs.borders.Borders.differs.Goals as goal

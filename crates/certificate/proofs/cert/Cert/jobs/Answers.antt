@@ -2,12 +2,13 @@ use Rattle.std.proofs.Common.{◌≡◌, ◌&&◌, false, map, sym, ap, subst, �
 use Rattle.std.specs.Prelude.{IfOk}
 use Rattle.std.specs.Arc.{arc_value}
 use Rattle.circuit.specs.Bridge.{circuit_of}
-use Rattle.certificate.specs.Entries.{modules_of}
-use Rattle.certificate.specs.Grammars.{CertState, setting_of}
+use Rattle.certificate_lines.specs.Entries.{modules_of}
+use Rattle.certificate.specs.Grammars.{CertState}
+use Rattle.certificate_lines.specs.Settings.{setting_of}
 use Rattle.certificate.specs.Jobs.{AreJobsOf}
-use Rattle.certificate.specs.Modules.{AreModules}
+use Rattle.certificate_lines.specs.Modules.{AreModules}
 use Rattle.certificate.specs.PlanView.{PlanState}
-use Rattle.certificate.specs.Versions.{is_haloless, lacks_wire, meant}
+use Rattle.certificate_lines.specs.Versions.{is_haloless, lacks_wire, meant}
 use Rattle.certificate.proofs.cert.Cert.jobs.Goals as goal
 
 pub jobs_of_version-requires-clause-modules : goal.jobs_of_version-requires-clause-modules

@@ -2,9 +2,10 @@ use Rattle.std.proofs.Common.{◌≡◌, ◌∙◌, ap, subst, sym, take}
 use Rattle.std.specs.List.{All}
 use Rattle.circuit.specs.Entries.{defined}
 use Rattle.circuit.specs.Bridge.{input_names, netlist_of}
-use Rattle.certificate.specs.Entries.{modules_of}
-use Rattle.certificate.specs.Grammars.{CertState, modules_in, setting_of}
-use Rattle.certificate.specs.Modules.{AreModules, HasFewLines}
+use Rattle.certificate_lines.specs.Entries.{modules_of}
+use Rattle.certificate.specs.Grammars.{CertState, modules_in}
+use Rattle.certificate_lines.specs.Settings.{setting_of}
+use Rattle.certificate_lines.specs.Modules.{AreModules, HasFewLines}
 use Rattle.certificate.proofs.FullModules.{meant_modules}
 use Rattle.certificate.proofs.cert.Cert.modules.Goals as goal
 

@@ -1,8 +1,9 @@
 use Rattle.std.proofs.Common.{◌≡◌, ◌∙◌, sym, ap, ap₂, subst}
 use Rattle.std.specs.Prelude.{IfOk}
 use Rattle.circuit.specs.Bridge.{circuit_of}
-use Rattle.certificate.specs.Entries.{modules_of}
-use Rattle.certificate.specs.Grammars.{CertState, modules_in, setting_of}
+use Rattle.certificate_lines.specs.Entries.{modules_of}
+use Rattle.certificate.specs.Grammars.{CertState, modules_in}
+use Rattle.certificate_lines.specs.Settings.{setting_of}
 use Rattle.certificate.specs.Times.{time_lines}
 use Rattle.certificate.proofs.MeantLines.{times_meant}
 use Rattle.certificate.proofs.cert.Cert.times.Goals as goal

@@ -4,10 +4,10 @@ use Rattle.circuit.specs.Gates.{is_inverse}
 use Rattle.circuit.specs.Meaning.{Gate}
 use Rattle.circuit.specs.Wiring.{gate_of}
 use Rattle.circuit.specs.declared.entry.Entry.{Entry as CircuitLine}
-use Rattle.certificate.specs.Entries.{modules_of}
-use Rattle.certificate.specs.Grammars.{setting_of}
+use Rattle.certificate_lines.specs.Entries.{modules_of}
+use Rattle.certificate_lines.specs.Settings.{setting_of}
 use Rattle.certificate.specs.Keeps.{is_kept, unkept}
-use Rattle.certificate.specs.declared.entry.Entry.{Entry}
+use Rattle.certificate_lines.specs.declared.entry.Entry.{Entry}
 use Rattle.certificate.proofs.KeepLemmas.{unkept_more, unkept_all}
 use Rattle.certificate.proofs.MeantLines.{unkept_meant}
 use Rattle.certificate.proofs.cert.Cert.unkept.Goals as goal

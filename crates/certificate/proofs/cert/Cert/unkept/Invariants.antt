@@ -1,6 +1,6 @@
 use Rattle.std.proofs.Common.{◌≡◌, ◌++◌, drop}
-use Rattle.certificate.specs.Entries.{modules_of}
-use Rattle.certificate.specs.Grammars.{setting_of}
+use Rattle.certificate_lines.specs.Entries.{modules_of}
+use Rattle.certificate_lines.specs.Settings.{setting_of}
 use Rattle.certificate.specs.Keeps.{unkept, unkept_from}
 use Rattle.certificate.proofs.cert.Cert.unkept.Given as goal
 

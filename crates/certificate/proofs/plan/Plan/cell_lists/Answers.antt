@@ -4,9 +4,9 @@ use Rattle.circuit.specs.Bridge.{circuit_of}
 use Rattle.module_box.specs.Locals.{circuit_wire}
 use Rattle.module_box.specs.declared.schedules.Signal.TheVariants.{Zero}
 use Rattle.certificate.specs.Jobs.{end_demand, start_signal}
-use Rattle.certificate.specs.Signals.{renumber_demand, renumber_signal}
-use Rattle.certificate.specs.declared.job.Demand.TheVariants.{Dead}
-use Rattle.certificate.proofs.BoxPlaces.{all_cells, found_at, item_inside, same_count}
+use Rattle.module_job.specs.Signals.{renumber_demand, renumber_signal}
+use Rattle.module_job.specs.declared.job.Demand.TheVariants.{Dead}
+use Rattle.certificate_lines.proofs.BoxPlaces.{all_cells, found_at, item_inside, same_count}
 use Rattle.certificate.proofs.plan.Plan.cell_lists.Goals as goal
 
 pub start_at-requires : goal.start_at-requires

@@ -5,7 +5,7 @@ use Rattle.circuit.specs.Bridge.{circuit_of}
 use Rattle.circuit.specs.Meaning.{wires}
 use Rattle.module_box.specs.Locals.{circuit_wire}
 use Rattle.certificate.specs.Jobs.{end_demand, start_signal}
-use Rattle.certificate.specs.Signals.{IsBelow, IsDemandBelow, renumber_demand, renumber_signal}
+use Rattle.module_job.specs.Signals.{IsBelow, IsDemandBelow, renumber_demand, renumber_signal}
 use Rattle.certificate.proofs.plan.Plan.cell_lists.Given as goal
 
 abbrev pub invariant-loop-cell : goal.invariant-loop-cell

@@ -3,10 +3,11 @@ use Rattle.std.specs.Prelude.{IsTrue, IfSome}
 use Rattle.circuit.specs.Bridge.{circuit_of}
 use Rattle.pattern.specs.declared.parts.Port.{Port}
 use Rattle.module_box.specs.Locals.{circuit_wire}
-use Rattle.certificate.specs.Jobs.{port_at, demand_of, demand_elsewhere, end_demand}
+use Rattle.certificate_lines.specs.PortTables.{port_at}
+use Rattle.certificate.specs.Jobs.{demand_of, demand_elsewhere, end_demand}
 use Rattle.certificate.specs.PlanView.{PlanState, KnowsPort}
-use Rattle.certificate.specs.Rules.{is_local}
-use Rattle.certificate.specs.declared.job.Demand.TheVariants.{Live, Wire, Any, Dead}
+use Rattle.certificate_lines.specs.Rules.{is_local}
+use Rattle.module_job.specs.declared.job.Demand.TheVariants.{Live, Wire, Any, Dead}
 use Rattle.certificate.proofs.PlanLemmas.{end_live, end_port}
 use Rattle.certificate.proofs.plan.Plan.demand_at.Goals as goal
 

@@ -4,9 +4,10 @@ use Rattle.circuit.specs.Bridge.{circuit_of}
 use Rattle.pattern.specs.declared.parts.Port.{Port}
 use Rattle.module_box.specs.Locals.{circuit_wire}
 use Rattle.module_box.specs.declared.schedules.Signal.TheVariants.{Zero, One, Wire}
-use Rattle.certificate.specs.Jobs.{port_at, signal_of, start_signal}
+use Rattle.certificate_lines.specs.PortTables.{port_at}
+use Rattle.certificate.specs.Jobs.{signal_of, start_signal}
 use Rattle.certificate.specs.PlanView.{PlanState, KnowsPort}
-use Rattle.certificate.specs.Rules.{is_local}
+use Rattle.certificate_lines.specs.Rules.{is_local}
 use Rattle.certificate.proofs.PlanLemmas.{start_one, start_port}
 use Rattle.certificate.proofs.plan.Plan.start_at.Goals as goal
 

@@ -2,7 +2,7 @@ use Rattle.std.proofs.Common.{rules, arith, ap, sym, ◌∙◌, ◌≡◌, ◌+�
 use Rattle.std.specs.Arc.{arc_value}
 use Rattle.std.proofs.lemmas.List.{length-map}
 use Rattle.audit_core.specs.Draws.{end_of, times}
-use Rattle.certificate.specs.Shapes.{shape_of}
+use Rattle.module_job.specs.Shapes.{shape_of}
 use Rattle.job_pool.specs.Seats.{drawn_by}
 use Rattle.job_pool.specs.Work.{shapes_of}
 use Rattle.job_pool.proofs.Sums.{end_of-snoc}

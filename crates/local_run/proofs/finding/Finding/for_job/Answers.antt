@@ -1,9 +1,9 @@
 use Rattle.std.proofs.Common.{◌≡◌, sym, ap, ap₂, ◌∙◌, rules}
 use Rattle.std.specs.Arc.{arc_value}
 use Rattle.std.proofs.lemmas.Bool.{false≢true}
-use Rattle.certificate.specs.Equality.{same_shape}
-use Rattle.certificate.specs.Shapes.{shape_of}
-use Rattle.certificate.proofs.EqualJobs.{shapes_decide}
+use Rattle.module_job.specs.Equality.{same_shape}
+use Rattle.module_job.specs.Shapes.{shape_of}
+use Rattle.module_job.proofs.EqualJobs.{shapes_decide}
 use Rattle.local_run.specs.Shown.{job_of, keep_of}
 use Rattle.local_run.proofs.MovedJobs.{least_keep_stays}
 use Rattle.local_run.proofs.finding.Finding.for_job.Goals as goal

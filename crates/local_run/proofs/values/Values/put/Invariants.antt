@@ -1,5 +1,5 @@
 use Rattle.std.proofs.Common.{◌≡◌, ℕ, ◌<◌, ◌+◌, ◌*◌, ◌/◌}
-use Rattle.certificate.specs.Signals.{is_live}
+use Rattle.module_job.specs.Signals.{is_live}
 use Rattle.local_run.specs.Calm.{ChangesCells}
 use Rattle.local_run.specs.Lanes.{lane, HasSize}
 use Rattle.local_run.specs.Scans.{valuation}

@@ -1,6 +1,6 @@
 use Rattle.std.proofs.Common.{ap, subst, arith, sym, ◌∙◌, ◌+◌, ◌*◌}
 use Rattle.bbm_rule.proofs.BitLemmas.{bit-zero}
-use Rattle.certificate.specs.Signals.{is_live}
+use Rattle.module_job.specs.Signals.{is_live}
 use Rattle.module_box.specs.declared.schedules.Signal.TheVariants.{Wire}
 use Rattle.local_run.specs.Scans.{HasRow, valuation}
 use Rattle.local_run.proofs.Scans.{row_in_word, bit_ones}

@@ -1,9 +1,0 @@
--- None of the modules so far.
-use Rattle.std.proofs.Common.{◌≡◌, false, take}
-use Rattle.std.specs.List.{flat_map, list_any}
-use Rattle.certificate.specs.BuilderView.{lacks_edge}
-use Rattle.certificate.specs.Entries.{edge_in, modules_of}
-use Rattle.certificate.proofs.builder.Builder.lacks_some_in.Given as goal
-
-abbrev pub invariant-modules : goal.invariant-modules
-invariant-modules l = list_any (lacks_edge l.self.setting.circuit (flat_map edge_in l.lines)) (take l.number (modules_of l.self.entries)) ≡ false

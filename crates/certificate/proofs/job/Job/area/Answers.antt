@@ -1,8 +1,0 @@
-use Rattle.std.proofs.Common.{rules}
-use Rattle.certificate.proofs.job.Job.area.Goals as goal
-
-pub returns-clause-area : goal.returns-clause-area
-returns-clause-area c = search rules
-
-pub returns-clause-good : goal.returns-clause-good
-returns-clause-good c = search rules

@@ -1,7 +1,0 @@
-use Rattle.std.proofs.Common.{◌≡◌, take}
-use Rattle.std.specs.List.{flat_map}
-use Rattle.certificate.specs.Keys.{number_bytes}
-use Rattle.certificate.proofs.keys.bytes_of.Given as goal
-
-abbrev pub invariant-loop-number : goal.invariant-loop-number
-invariant-loop-number l = l.bytes.items ≡ flat_map number_bytes (take l.number-index l.numbers)

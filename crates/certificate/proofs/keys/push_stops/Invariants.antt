@@ -1,7 +1,0 @@
-use Rattle.std.proofs.Common.{◌≡◌, ◌++◌, take}
-use Rattle.std.specs.List.{flat_map}
-use Rattle.certificate.specs.Keys.{stop_numbers}
-use Rattle.certificate.proofs.keys.push_stops.Given as goal
-
-abbrev pub invariant-loop-stop : goal.invariant-loop-stop
-invariant-loop-stop l = l.numbers.items ≡ l.initial.numbers.items ++ flat_map stop_numbers (take l.stop-index l.stops)

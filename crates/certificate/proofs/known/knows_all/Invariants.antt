@@ -1,8 +1,0 @@
--- The wires so far are local.
-use Rattle.std.proofs.Common.{◌≡◌, true, take}
-use Rattle.std.specs.List.{list_all}
-use Rattle.module_box.specs.Locals.{is_among}
-use Rattle.certificate.proofs.known.knows_all.Given as goal
-
-abbrev pub invariant-loop-wire : goal.invariant-loop-wire
-invariant-loop-wire l = list_all (is_among l.known.keys) (take l.wire-index l.wires) ≡ true

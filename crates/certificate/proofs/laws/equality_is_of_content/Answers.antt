@@ -1,8 +1,0 @@
-use Rattle.certificate.proofs.EqualJobs.{jobs_decide, shapes_decide}
-use Rattle.certificate.proofs.laws.equality_is_of_content.Goals as goal
-
-pub returns-clause-jobs : goal.returns-clause-jobs
-returns-clause-jobs c = jobs_decide
-
-pub returns-clause-shapes : goal.returns-clause-shapes
-returns-clause-shapes c = shapes_decide

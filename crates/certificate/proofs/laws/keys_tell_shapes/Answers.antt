@@ -1,8 +1,0 @@
-use Rattle.certificate.proofs.TellingShapes.{numbers_told, shapes_tell}
-use Rattle.certificate.proofs.laws.keys_tell_shapes.Goals as goal
-
-pub returns-clause-numbers : goal.returns-clause-numbers
-returns-clause-numbers c = shapes_tell
-
-pub returns-clause-bytes : goal.returns-clause-bytes
-returns-clause-bytes c = numbers_told

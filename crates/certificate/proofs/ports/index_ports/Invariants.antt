@@ -1,6 +1,0 @@
--- The table has the ports so far.
-use Rattle.certificate.proofs.TableLemmas.{IsFilling}
-use Rattle.certificate.proofs.ports.index_ports.Given as goal
-
-abbrev pub invariant-ports : goal.invariant-ports
-invariant-ports l = IsFilling l.area l.ports l.number l.numbers.items

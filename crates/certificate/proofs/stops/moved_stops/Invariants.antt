@@ -1,6 +1,0 @@
-use Rattle.std.proofs.Common.{◌≡◌, map, take}
-use Rattle.certificate.specs.Shapes.{moved_stop}
-use Rattle.certificate.proofs.stops.moved_stops.Given as goal
-
-abbrev pub invariant-loop-stop : goal.invariant-loop-stop
-invariant-loop-stop l = l.moved.items ≡ map (moved_stop l.dx l.dy) (take l.stop-index l.stops)

@@ -1,0 +1,163 @@
+-- The wires that modules lack of the edge lines beside them, and the local wires of each module
+use Rattle.std.proofs.Common.{◌≡◌, ℕ, zero, suc, ◌+◌, ◌<◌, ◌≤◌, Bool, true, false, ◌&&◌, ◌||◌, List, [], ◌∷◌, ◌++◌, length, map, drop, inl, inr, Some, get_or, option_map, refl, sym, ap, ap₂, subst, ◌∙◌, arith}
+use Rattle.std.specs.Prelude.{nat_lt, slice_get}
+use Rattle.std.specs.List.{filter, flat_map, list_any}
+use Rattle.std.proofs.lemmas.Bool.{cond-true, cond-false}
+use Rattle.std.proofs.lemmas.Bool.Decides.{nat_tests}
+use Rattle.std.proofs.lemmas.Option.{get_or_from_slice_get, slice_get-map}
+use Rattle.std.proofs.lemmas.List.{length-map, length_push, map-append, same_from_push}
+use Rattle.circuit.specs.Meaning.{Circuit}
+use Rattle.module_box.specs.Boxes.{in_halo}
+use Rattle.module_box.specs.declared.boxes.Box2.{Box2}
+use Rattle.certificate_lines.specs.BuilderView.{AreSound, AreWires, lacks_edge}
+use Rattle.certificate_lines.specs.Entries.{ModuleLines, Setting, change_last, counts_of, edge_in, edges, known, last_of, modules_of}
+use Rattle.certificate_lines.specs.ModuleParts.{AreInBox, inner}
+use Rattle.certificate_lines.specs.Versions.{beside, is_strange, lacks_wire}
+use Rattle.certificate_lines.specs.declared.entry.Border.{Border}
+use Rattle.certificate_lines.specs.declared.entry.Counts.{Counts}
+use Rattle.certificate_lines.specs.declared.entry.Entry.{Entry}
+use Rattle.certificate_lines.specs.declared.entry.Entry.TheVariants.{Module, Cut, Use, Keep, Edge, Halo, Stop}
+use Rattle.certificate_lines.proofs.AnyLines.{any_filter, any_flat}
+use Rattle.certificate_lines.proofs.LinesLeft.{line_here}
+use Rattle.certificate_lines.proofs.FarLines.{own_lines}
+use Rattle.certificate_lines.proofs.InList.{placed}
+use Rattle.certificate_lines.proofs.LineOrder.{In}
+use Rattle.certificate_lines.proofs.Lists.{some_is}
+use Rattle.certificate_lines.proofs.ModuleSplit.{split_module, split_other}
+
+-- ---- tests of two lists
+
+or_exchange : (a b c d : Bool) → ((a || b) || (c || d)) ≡ ((a || c) || (b || d))
+or_exchange true b c d = refl
+or_exchange false true true d = refl
+or_exchange false true false d = refl
+or_exchange false false true d = refl
+or_exchange false false false d = refl
+
+module _ {X : Type 0} where
+  any_either : (f g : X → Bool) (xs : List X) → list_any (λ x. f x || g x) xs ≡ (list_any f xs || list_any g xs)
+  any_either f g [] = refl
+  any_either f g (x ∷ xs) = ap (λ b. (f x || g x) || b) (any_either f g xs) ∙ or_exchange (f x) (g x) (list_any f xs) (list_any g xs)
+
+  none_any : (xs : List X) → list_any (λ x. false) xs ≡ false
+  none_any [] = refl
+  none_any (x ∷ xs) = none_any xs
+
+  any_same : (f g : X → Bool) (xs : List X) → ((x : X) → f x ≡ g x) → list_any f xs ≡ list_any g xs
+  any_same f g [] h = refl
+  any_same f g (x ∷ xs) h = ap₂ (λ a b. a || b) (h x) (any_same f g xs h)
+
+any_swap : {X Y : Type 0} (f : X → Y → Bool) (xs : List X) (ys : List Y) → list_any (λ x. list_any (λ y. f x y) ys) xs ≡ list_any (λ y. list_any (λ x. f x y) xs) ys
+any_swap f [] ys = sym (none_any ys)
+any_swap f (x ∷ xs) ys = ap (λ b. list_any (λ y. f x y) ys || b) (any_swap f xs ys) ∙ sym (any_either (λ y. f x y) (λ y. list_any (λ z. f z y) xs) ys)
+
+any_of_flat : {A X : Type 0} (keep test : A → Bool) (f : X → List A) (xs : List X) → list_any (λ x. list_any test (filter keep (f x))) xs ≡ list_any test (filter keep (flat_map f xs))
+any_of_flat keep test f xs =
+    any_same (λ x. list_any test (filter keep (f x))) (λ x. list_any (λ a. keep a && test a) (f x)) xs (λ x. any_filter keep test (f x))
+    ∙ sym (any_filter keep test (flat_map f xs) ∙ any_flat (λ a. keep a && test a) f xs)
+
+-- ---- some module lacks a wire
+
+module _ (g : Setting) (ms : List ModuleLines) where
+  long_beside : (area : Box2) → nat_lt 1 g.size.steps ≡ true → filter (λ (e : Border). in_halo area e.cell.x e.cell.y) (flat_map edges ms) ≡ beside g ms area
+  unfolding beside
+  long_beside area long = sym (cond-true _ _ _ long)
+
+  short_beside : (area : Box2) → nat_lt 1 g.size.steps ≡ false → beside g ms area ≡ []
+  unfolding beside
+  short_beside area short = cond-false _ _ _ short
+
+  pub lacked : nat_lt 1 g.size.steps ≡ true → list_any (λ n. list_any (lacks_edge g.circuit (edges n)) ms) ms ≡ lacks_wire g ms
+  unfolding lacks_wire
+  lacked long =
+      any_swap (λ n m. lacks_edge g.circuit (edges n) m) ms ms
+      ∙ any_same (λ m. list_any (λ n. lacks_edge g.circuit (edges n) m) ms) (λ m. list_any (λ e. is_strange g.circuit (known g.circuit m) e.signal) (beside g ms m.area)) ms (λ m.
+      any_of_flat (λ e. in_halo m.area e.cell.x e.cell.y) (λ e. is_strange g.circuit (known g.circuit m) e.signal) edges ms
+      ∙ ap (list_any (λ e. is_strange g.circuit (known g.circuit m) e.signal)) (long_beside m.area long))
+
+  pub none_lacked : nat_lt 1 g.size.steps ≡ false → false ≡ lacks_wire g ms
+  unfolding lacks_wire
+  none_lacked short =
+      sym (any_same (λ m. list_any (λ e. is_strange g.circuit (known g.circuit m) e.signal) (beside g ms m.area)) (λ m. false) ms (λ m.
+      ap (list_any (λ e. is_strange g.circuit (known g.circuit m) e.signal)) (short_beside m.area short)) ∙ none_any ms)
+
+-- ---- the local wires of each module
+
+-- a list whose last element changes
+record Split {X : Type 0} (f : X → X) (xs : List X) (x : X) : Type 0 where
+  start : List X
+  was : xs ≡ start ++ x ∷ []
+  now : change_last f xs ≡ start ++ f x ∷ []
+
+split_last : {X : Type 0} (f : X → X) (xs : List X) (x : X) → last_of xs ≡ Some x → Split f xs x
+unfolding last_of change_last
+split_last f [] x e = absurd cc
+split_last f (y ∷ []) x e = record { start = []; was = ap (λ z. z ∷ []) (some_is y x e); now = ap (λ z. f z ∷ []) (some_is y x e) }
+split_last f (y ∷ z ∷ xs) x e =
+    let rest = split_last f (z ∷ xs) x e in
+    record { start = y ∷ rest.start; was = ap (λ l. y ∷ l) rest.was; now = ap (λ l. y ∷ l) rest.now }
+
+pub wires_begun : (c : Circuit) (ms : List ModuleLines) (m : ModuleLines) (earlier : List (List ℕ)) (local : List ℕ) → known c m ≡ [] → AreWires c ms earlier local → AreWires c (ms ++ m ∷ []) (earlier ++ local ∷ []) []
+wires_begun c ms m earlier local none h =
+    ap (λ l. l ++ [] ∷ []) h ∙ ap (λ w. [] ∷ (map (known c) ms ++ w ∷ [])) (sym none) ∙ ap (λ l. [] ∷ l) (sym (map-append (known c) ms (m ∷ [])))
+
+pub wires_more : (c : Circuit) (f : ModuleLines → ModuleLines) (ms : List ModuleLines) (m : ModuleLines) (earlier : List (List ℕ)) (local more : List ℕ) → last_of ms ≡ Some m → known c (f m) ≡ known c m ++ more →
+    AreWires c ms earlier local → AreWires c (change_last f ms) earlier (local ++ more)
+wires_more c f ms m earlier local more last is h =
+    let s = split_last f ms m last in
+    let parts = same_from_push earlier ([] ∷ map (known c) s.start) local (known c m) (h ∙ ap (λ l. [] ∷ map (known c) l) s.was ∙ ap (λ l. [] ∷ l) (map-append (known c) s.start (m ∷ []))) in
+    ap₂ (λ a b. a ++ b ∷ []) parts.0 (ap (λ l. l ++ more) parts.1 ∙ sym is) ∙ ap (λ l. [] ∷ l) (sym (map-append (known c) s.start (f m ∷ []))) ∙ ap (λ l. [] ∷ map (known c) l) (sym s.now)
+
+left : {X : Type 0} (xs ys : List X) (k : ℕ) → k < length xs → slice_get (xs ++ ys) k ≡ slice_get xs k
+left [] ys k lt = absurd (omega (arith, lt))
+left (x ∷ xs) ys zero lt = refl
+left (x ∷ xs) ys (suc k) lt = left xs ys k (omega (arith, lt))
+
+at_end : {X : Type 0} (xs : List X) (y : X) → slice_get (xs ++ y ∷ []) (length xs) ≡ Some y
+at_end [] y = refl
+at_end (x ∷ xs) y = at_end xs y
+
+module _ (c : Circuit) (ms : List ModuleLines) (earlier : List (List ℕ)) (local : List ℕ) (h : AreWires c ms earlier local) (k : ℕ) where
+  wires_at : slice_get (map (known c) ms) k ≡ slice_get (earlier ++ local ∷ []) (k + 1)
+  wires_at = let n : suc k ≡ k + 1 = omega arith in ap (λ l. slice_get l (suc k)) (sym h) ∙ ap (slice_get (earlier ++ local ∷ [])) n
+
+  pub earlier_wires : k + 1 < length earlier → slice_get (map (known c) ms) k ≡ slice_get earlier (k + 1)
+  earlier_wires lt = wires_at ∙ left earlier (local ∷ []) (k + 1) lt
+
+  pub last_wires : k < length ms → length earlier ≤ k + 1 → slice_get (map (known c) ms) k ≡ Some local
+  last_wires lt le =
+      let one = length_push earlier local in
+      let both = ap length h in
+      let same = length-map ms (known c) in
+      let n : k + 1 ≡ length earlier = omega (arith, one, both, same, lt, le) in
+      wires_at ∙ ap (slice_get (earlier ++ local ∷ [])) n ∙ at_end earlier local
+
+-- the box of a module, by its counts
+pub area_counted : (ms : List ModuleLines) (counts : List Counts) (k : ℕ) (m : ModuleLines) (of : Counts) → counts ≡ map counts_of ms → slice_get ms k ≡ Some m → of ≡ get_or counts k of → of.area ≡ m.area
+area_counted ms counts k m of are at is =
+    let there : slice_get (map counts_of ms) k ≡ Some (counts_of m) = slice_get-map counts_of ms k ∙ ap (option_map counts_of) at in
+    ap (λ (n : Counts). n.area) (is ∙ ap (λ l. get_or l k of) are ∙ get_or_from_slice_get (map counts_of ms) k (counts_of m) of there)
+
+-- ---- a module that is read
+
+in_rest : (es : List Entry) (place : ℕ) (m : ModuleLines) → In m (modules_of (drop place es)) → In m (modules_of es)
+unfolding In
+in_rest es zero m i = i
+in_rest [] (suc n) m i = i
+in_rest (Module b ∷ es) (suc n) m i = subst (In m) (sym (split_module b es)) (inr (in_rest es n m i))
+in_rest (Cut name ∷ es) (suc n) m i = subst (In m) (sym (split_other (Cut name) es refl)) (in_rest es n m i)
+in_rest (Use k ∷ es) (suc n) m i = subst (In m) (sym (split_other (Use k) es refl)) (in_rest es n m i)
+in_rest (Keep k ∷ es) (suc n) m i = subst (In m) (sym (split_other (Keep k) es refl)) (in_rest es n m i)
+in_rest (Edge e ∷ es) (suc n) m i = subst (In m) (sym (split_other (Edge e) es refl)) (in_rest es n m i)
+in_rest (Halo e ∷ es) (suc n) m i = subst (In m) (sym (split_other (Halo e) es refl)) (in_rest es n m i)
+in_rest (Stop s ∷ es) (suc n) m i = subst (In m) (sym (split_other (Stop s) es refl)) (in_rest es n m i)
+
+-- its edge lines are for cells of its box
+pub lines_inside : (g : Setting) (es : List Entry) (place : ℕ) (area : Box2) → AreSound g (modules_of es) → place < length es → Module area ≡ get_or es place (Module area) →
+    AreInBox area (flat_map edge_in (inner (drop (place + 1) es)))
+unfolding In
+lines_inside g es place area sound lt at =
+    let m : ModuleLines = record { area = area; lines = inner (drop (place + 1) es) } in
+    let here : In m (modules_of (drop place es)) = subst (In m) (sym (ap modules_of (line_here es place (Module area) lt at) ∙ split_module area (drop (place + 1) es))) (inl refl) in
+    let p = placed m (modules_of es) (in_rest es place m here) in
+    own_lines g m (sound.each p.0 m p.1).good

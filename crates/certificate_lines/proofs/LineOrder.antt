@@ -1,0 +1,254 @@
+-- Lines in their order
+use Rattle.std.proofs.Common.{◌≡◌, ◌⊎◌, ℕ, Bool, true, false, if◌then◌else◌, List, [], ◌∷◌, ◌++◌, Option, Some, None, Ordering, Less, Equal, Greater, refl, sym, ap, ap₂, subst, ◌∙◌, inl, inr, arith}
+use Rattle.std.specs.Prelude.{◌≢◌}
+use Rattle.std.specs.List.{filter, flat_map}
+use Rattle.std.specs.Ordering.{nat_cmp, is_lt, ordering_reverse}
+use Rattle.std.specs.Cmp.{IsTotalOrder}
+use Rattle.std.proofs.lemmas.Bool.{cases_Bool, cond-true, cond-false}
+use Rattle.std.proofs.lemmas.Cmp.{then_total, on_total, nat_cmp_total}
+use Rattle.module_box.proofs.Rising.{cell_total}
+use Rattle.certificate_lines.specs.Orders.{time_rank}
+use Rattle.certificate_lines.specs.Versions.{line_order, put_line, in_order}
+use Rattle.certificate_lines.specs.declared.entry.Border.{Border}
+use Rattle.certificate_lines.proofs.Pairs.{Each, Pairs, each_map}
+
+-- ---- which elements a list has
+
+unfoldable pub In : {A : Type 0} → A → List A → Type 0
+In x [] = ⊥
+In x (y ∷ ys) = (y ≡ x) ⊎ In x ys
+
+pub each_in : {A : Type 0} (P : A → Type 0) (xs : List A) → Each P xs → (x : A) → In x xs → P x
+unfolding Each In
+each_in P [] e x i = absurd i
+each_in P (y ∷ ys) e x (inl same) = subst P same e.0
+each_in P (y ∷ ys) e x (inr later) = each_in P ys e.1 x later
+
+pub in_each : {A : Type 0} (P : A → Type 0) (xs : List A) → ((x : A) → In x xs → P x) → Each P xs
+unfolding Each In
+in_each P [] h = tt
+in_each P (y ∷ ys) h = (h y (inl refl), in_each P ys (λ x i. h x (inr i)))
+
+pub in_left : {A : Type 0} (x : A) (xs ys : List A) → In x xs → In x (xs ++ ys)
+unfolding In
+in_left x [] ys i = absurd i
+in_left x (y ∷ xs) ys (inl same) = inl same
+in_left x (y ∷ xs) ys (inr later) = inr (in_left x xs ys later)
+
+pub in_right : {A : Type 0} (x : A) (xs ys : List A) → In x ys → In x (xs ++ ys)
+unfolding In
+in_right x [] ys i = i
+in_right x (y ∷ xs) ys i = inr (in_right x xs ys i)
+
+pub in_append : {A : Type 0} (x : A) (xs ys : List A) → In x (xs ++ ys) → In x xs ⊎ In x ys
+unfolding In
+in_append x [] ys i = inr i
+in_append x (y ∷ xs) ys (inl same) = inl (inl same)
+in_append x (y ∷ xs) ys (inr later) = elim (in_append x xs ys later) [
+  | inl first ↦ inl (inr first)
+  | inr second ↦ inr second
+]
+
+-- an element of a list that a function makes of each element
+pub in_flat : {A B : Type 0} (f : A → List B) (b : B) (xs : List A) → In b (flat_map f xs) → (a : A) × In a xs × In b (f a)
+unfolding In
+in_flat f b [] i = absurd i
+in_flat f b (x ∷ xs) i = elim (in_append b (f x) (flat_map f xs) i) [
+  | inl first ↦ (x, inl refl, first)
+  | inr second ↦ let r = in_flat f b xs second in (r.0, inr r.1, r.2)
+]
+
+pub flat_in : {A B : Type 0} (f : A → List B) (b : B) (xs : List A) (a : A) → In a xs → In b (f a) → In b (flat_map f xs)
+unfolding In
+flat_in f b [] a i j = absurd i
+flat_in f b (x ∷ xs) a (inl same) j = in_left b (f x) (flat_map f xs) (subst (λ y. In b (f y)) (sym same) j)
+flat_in f b (x ∷ xs) a (inr later) j = in_right b (f x) (flat_map f xs) (flat_in f b xs a later j)
+
+head_or_later : {A : Type 0} (x y : A) (ys : List A) → In x (y ∷ ys) → (y ≡ x) ⊎ In x ys
+unfolding In
+head_or_later x y ys i = i
+
+-- ---- the elements that pass a test
+
+filter_yes : {A : Type 0} (test : A → Bool) (y : A) (ys : List A) → test y ≡ true → filter test (y ∷ ys) ≡ y ∷ filter test ys
+filter_yes test y ys h = cond-true _ _ _ h
+
+filter_no : {A : Type 0} (test : A → Bool) (y : A) (ys : List A) → test y ≡ false → filter test (y ∷ ys) ≡ filter test ys
+filter_no test y ys h = cond-false _ _ _ h
+
+pub in_filter : {A : Type 0} (test : A → Bool) (x : A) (xs : List A) → In x (filter test xs) → In x xs × (test x ≡ true)
+unfolding In
+in_filter test x [] i = absurd i
+in_filter test x (y ∷ ys) i = elim (cases_Bool (test y)) [
+  | inl holds ↦ elim (head_or_later x y (filter test ys) (subst (In x) (filter_yes test y ys holds) i)) [
+    | inl same ↦ (inl same, sym (ap test same) ∙ holds)
+    | inr later ↦ let r = in_filter test x ys later in (inr r.0, r.1)
+  ]
+  | inr fails ↦ let r = in_filter test x ys (subst (In x) (filter_no test y ys fails) i) in (inr r.0, r.1)
+]
+
+pub filter_in : {A : Type 0} (test : A → Bool) (x : A) (xs : List A) → In x xs → test x ≡ true → In x (filter test xs)
+unfolding In
+filter_in test x [] i h = absurd i
+filter_in test x (y ∷ ys) (inl same) h = subst (In x) (sym (filter_yes test y ys (ap test same ∙ h))) (inl same)
+filter_in test x (y ∷ ys) (inr later) h = elim (cases_Bool (test y)) [
+  | inl holds ↦ subst (In x) (sym (filter_yes test y ys holds)) (inr (filter_in test x ys later h))
+  | inr fails ↦ subst (In x) (sym (filter_no test y ys fails)) (filter_in test x ys later h)
+]
+
+pub each_filter : {A : Type 0} (P : A → Type 0) (test : A → Bool) (xs : List A) → Each P xs → Each P (filter test xs)
+each_filter P test xs e = in_each P (filter test xs) (λ x i. each_in P xs e x (in_filter test x xs i).0)
+
+pub pairs_filter : {A : Type 0} (R : A → A → Type 0) (test : A → Bool) (xs : List A) → Pairs R xs → Pairs R (filter test xs)
+unfolding Pairs
+pairs_filter R test [] p = p
+pairs_filter R test (x ∷ xs) p = elim (cases_Bool (test x)) [
+  | inl holds ↦ subst (Pairs R) (sym (filter_yes test x xs holds)) (each_filter (R x) test xs p.0, pairs_filter R test xs p.1)
+  | inr fails ↦ subst (Pairs R) (sym (filter_no test x xs fails)) (pairs_filter R test xs p.1)
+]
+
+-- ---- the order
+
+pub line_total : IsTotalOrder line_order
+unfolding line_order
+line_total = then_total (on_total (λ (e : Border). time_rank e.time) nat_cmp_total) (on_total (λ (e : Border). e.cell) cell_total)
+
+abbrev pub Rises : List Border → Type 0
+Rises = Pairs (λ d e. line_order d e ≡ Less)
+
+abbrev pub AreDistinct : List Border → Type 0
+AreDistinct = Pairs (λ d e. line_order d e ≢ Equal)
+
+less_apart : (o : Ordering) → o ≡ Less → o ≢ Equal
+less_apart Less e h = cc
+less_apart Equal e h = cc
+less_apart Greater e h = cc
+
+pub pairs_each : {A : Type 0} (R S : A → A → Type 0) → ((a b : A) → R a b → S a b) → (xs : List A) → Pairs R xs → Pairs S xs
+unfolding Pairs
+pairs_each R S h [] p = p
+pairs_each R S h (x ∷ xs) p = (each_map (R x) (S x) (h x) xs p.0, pairs_each R S h xs p.1)
+
+pub rising_distinct : (es : List Border) → Rises es → AreDistinct es
+rising_distinct es p = pairs_each (λ d e. line_order d e ≡ Less) (λ d e. line_order d e ≢ Equal) (λ d e. less_apart (line_order d e)) es p
+
+-- ---- a line more
+
+after_line : (o : Ordering) → o ≢ Equal → is_lt o ≡ false → o ≡ Greater
+after_line Less n h = absurd cc
+after_line Equal n h = absurd (n refl)
+after_line Greater n h = refl
+
+is_before : (o : Ordering) → is_lt o ≡ true → o ≡ Less
+is_before Less h = refl
+is_before Equal h = absurd cc
+is_before Greater h = absurd cc
+
+turned : (d e : Border) → line_order d e ≡ Greater → line_order e d ≡ Less
+turned d e h = line_total.antisymm e d ∙ ap ordering_reverse h
+
+put_parts : (x d e : Border) (es : List Border) (b : Bool) → (In x (put_line d es) → (d ≡ x) ⊎ In x es) → In x (if b then d ∷ e ∷ es else e ∷ put_line d es) → (d ≡ x) ⊎ In x (e ∷ es)
+unfolding In
+put_parts x d e es true h i = i
+put_parts x d e es false h (inl same) = inr (inl same)
+put_parts x d e es false h (inr later) = elim (h later) [
+  | inl same ↦ inl same
+  | inr more ↦ inr (inr more)
+]
+
+put_back : (x d e : Border) (es : List Border) (b : Bool) → ((d ≡ x) ⊎ In x es → In x (put_line d es)) → (d ≡ x) ⊎ In x (e ∷ es) → In x (if b then d ∷ e ∷ es else e ∷ put_line d es)
+unfolding In
+put_back x d e es true h i = i
+put_back x d e es false h (inl same) = inr (h (inl same))
+put_back x d e es false h (inr (inl same)) = inl same
+put_back x d e es false h (inr (inr later)) = inr (h (inr later))
+
+pub in_put : (x d : Border) (es : List Border) → In x (put_line d es) → (d ≡ x) ⊎ In x es
+unfolding put_line In
+in_put x d [] i = i
+in_put x d (e ∷ es) i = put_parts x d e es (is_lt (line_order d e)) (in_put x d es) i
+
+pub put_in : (x d : Border) (es : List Border) → (d ≡ x) ⊎ In x es → In x (put_line d es)
+unfolding put_line In
+put_in x d [] i = i
+put_in x d (e ∷ es) i = put_back x d e es (is_lt (line_order d e)) (put_in x d es) i
+
+pub put_rises : (d : Border) (es : List Border) → Rises es → Each (λ e. line_order d e ≢ Equal) es → Rises (put_line d es)
+unfolding put_line Each Pairs
+put_rises d [] p n = (tt, tt)
+put_rises d (e ∷ es) p n = elim (cases_Bool (is_lt (line_order d e))) [
+  | inl holds ↦
+      let less = is_before (line_order d e) holds in
+      subst Rises (sym (cond-true _ _ _ holds)) ((less, each_map (λ f. line_order e f ≡ Less) (λ f. line_order d f ≡ Less) (λ f h. line_total.trans d e f less h) es p.0), p)
+  | inr fails ↦
+      let less = turned d e (after_line (line_order d e) n.0 fails) in
+      subst Rises (sym (cond-false _ _ _ fails)) (
+        in_each (λ f. line_order e f ≡ Less) (put_line d es) (λ f i. elim (in_put f d es i) [
+          | inl same ↦ subst (λ x. line_order e x ≡ Less) same less
+          | inr later ↦ each_in (λ f. line_order e f ≡ Less) es p.0 f later
+        ]),
+        put_rises d es p.1 n.1,
+      )
+]
+
+-- ---- lines in order
+
+pub in_ordered : (x : Border) (ds : List Border) → In x (in_order ds) → In x ds
+unfolding in_order In
+in_ordered x [] i = i
+in_ordered x (d ∷ ds) i = elim (in_put x d (in_order ds) i) [
+  | inl same ↦ inl same
+  | inr later ↦ inr (in_ordered x ds later)
+]
+
+pub ordered_in : (x : Border) (ds : List Border) → In x ds → In x (in_order ds)
+unfolding in_order In
+ordered_in x [] i = i
+ordered_in x (d ∷ ds) (inl same) = put_in x d (in_order ds) (inl same)
+ordered_in x (d ∷ ds) (inr later) = put_in x d (in_order ds) (inr (ordered_in x ds later))
+
+pub ordered_rises : (ds : List Border) → AreDistinct ds → Rises (in_order ds)
+unfolding in_order Pairs
+ordered_rises [] p = tt
+ordered_rises (d ∷ ds) p =
+    put_rises d (in_order ds) (ordered_rises ds p.1) (in_each (λ e. line_order d e ≢ Equal) (in_order ds) (λ e i. each_in (λ e. line_order d e ≢ Equal) ds p.0 e (in_ordered e ds i)))
+
+-- ---- lists that rise and have the same elements are the same
+
+never_before : (d e : Border) → line_order d e ≡ Less → line_order e d ≡ Less → ⊥
+never_before d e h k = let t = sym h ∙ line_total.antisymm d e ∙ ap ordering_reverse k in cc
+
+pub not_itself : (d : Border) → line_order d d ≡ Less → ⊥
+not_itself d h = never_before d d h h
+
+abbrev Among : List Border → List Border → Type 0
+Among xs ys = (x : Border) → In x xs → In x ys
+
+first_same : (d e : Border) (ds es : List Border) → Rises (d ∷ ds) → Rises (e ∷ es) → Among (d ∷ ds) (e ∷ es) → Among (e ∷ es) (d ∷ ds) → d ≡ e
+unfolding Pairs In
+first_same d e ds es p q f g = elim (f d (inl refl)) [
+  | inl same ↦ sym same
+  | inr later ↦ elim (g e (inl refl)) [
+    | inl same ↦ same
+    | inr last ↦ absurd (never_before d e (each_in (λ x. line_order d x ≡ Less) ds p.0 e last) (each_in (λ x. line_order e x ≡ Less) es q.0 d later))
+  ]
+]
+
+rest_among : (d : Border) (ds es : List Border) → Rises (d ∷ ds) → Among (d ∷ ds) (d ∷ es) → Among ds es
+unfolding Pairs In
+rest_among d ds es p f x i = elim (f x (inr i)) [
+  | inl same ↦ absurd (not_itself d (subst (λ y. line_order d y ≡ Less) (sym same) (each_in (λ y. line_order d y ≡ Less) ds p.0 x i)))
+  | inr later ↦ later
+]
+
+pub rising_same : (xs ys : List Border) → Rises xs → Rises ys → Among xs ys → Among ys xs → xs ≡ ys
+unfolding Pairs In
+rising_same [] [] p q f g = refl
+rising_same [] (y ∷ ys) p q f g = absurd (g y (inl refl))
+rising_same (x ∷ xs) [] p q f g = absurd (f x (inl refl))
+rising_same (x ∷ xs) (y ∷ ys) p q f g =
+    let first : x ≡ y = first_same x y xs ys p q f g in
+    let q' : Rises (x ∷ ys) = subst (λ z. Rises (z ∷ ys)) (sym first) q in
+    let f' : Among (x ∷ xs) (x ∷ ys) = subst (λ z. Among (x ∷ xs) (z ∷ ys)) (sym first) f in
+    let g' : Among (x ∷ ys) (x ∷ xs) = subst (λ z. Among (z ∷ ys) (x ∷ xs)) (sym first) g in
+    ap₂ (λ a b. a ∷ b) first (rising_same xs ys p.1 q.1 (rest_among x xs ys p f') (rest_among x ys xs q' g'))

@@ -1,0 +1,116 @@
+-- The lines of local wires after one more cut, and after one more used gate.
+use Rattle.std.proofs.Common.{◌≡◌, ℕ, zero, suc, ◌<◌, ◌==◌, Bool, true, false, not, List, [], ◌∷◌, ◌++◌, take, length, Option, Some, refl, sym, ap, subst, ◌∙◌, inl, inr, arith, rules, append-nil, append_assoc}
+use Rattle.std.specs.Prelude.{slice_get}
+use Rattle.std.specs.List.{All, flat_map, list_all}
+use Rattle.std.specs.Option.{option_map_or}
+use Rattle.std.proofs.Math.Seq.{take-append_seam}
+use Rattle.std.proofs.lemmas.Bool.{and_parts, true≢false}
+use Rattle.std.proofs.lemmas.List.{length_push}
+use Rattle.std.proofs.lemmas.List.Elements.{All-get_or}
+use Rattle.std.proofs.lemmas.List.Sums.{AllPass-from_list_all}
+use Rattle.std.proofs.lemmas.Option.{slice_get_within, get_or_from_slice_get}
+use Rattle.circuit.specs.Meaning.{Gate, Netlist}
+use Rattle.module_box.specs.Locals.{AreDifferent, AreLocalLines, IsKnown, is_among, local_wires, outs_of}
+use Rattle.module_box.proofs.Rising.{pushed}
+use Rattle.certificate_lines.specs.Rules.{are_new}
+use Rattle.certificate_lines.proofs.Growing.{flat_push}
+use Rattle.certificate_lines.proofs.Lists.{any_at}
+
+itself : (w : ℕ) → (w == w) ≡ true
+itself w = search rules
+
+-- ---- no wire twice
+
+among_at : (ws : List ℕ) (i w : ℕ) → slice_get ws i ≡ Some w → is_among ws w ≡ true
+among_at ws i w e = any_at (λ v. v == w) ws i w e (itself w)
+
+not_there : (ws : List ℕ) (i w : ℕ) → is_among ws w ≡ false → slice_get ws i ≡ Some w → ⊥
+not_there ws i w none e = true≢false (sym (among_at ws i w e) ∙ none)
+
+pub different_push : (ws : List ℕ) (w : ℕ) → AreDifferent ws → is_among ws w ≡ false → AreDifferent (ws ++ w ∷ [])
+different_push ws w different none i j v e f = elim (pushed ws w i v e) [
+  | inl old ↦ elim (pushed ws w j v f) [
+    | inl old' ↦ different i j v old old'
+    | inr new' ↦ absurd (not_there ws i w none (old ∙ ap (λ x. Some x) (sym new'.1)))
+  ]
+  | inr new ↦ elim (pushed ws w j v f) [
+    | inl old' ↦ absurd (not_there ws j w none (old' ∙ ap (λ x. Some x) (sym new.1)))
+    | inr new' ↦ new.0 ∙ sym new'.0
+  ]
+]
+
+not_true : (a : Bool) → not a ≡ true → a ≡ false
+not_true true h = sym h
+not_true false h = refl
+
+pub different_append : (ys xs : List ℕ) → AreDifferent xs → are_new xs ys ≡ true → AreDifferent (xs ++ ys)
+unfolding are_new
+different_append [] xs different new = subst AreDifferent (sym (append-nil xs)) different
+different_append (y ∷ ys) xs different new =
+    let both = and_parts (not (is_among xs y)) (are_new (xs ++ y ∷ []) ys) new in
+    subst AreDifferent (append_assoc xs (y ∷ []) ys) (different_append ys (xs ++ y ∷ []) (different_push xs y different (not_true (is_among xs y) both.0)) both.1)
+
+-- ---- cuts
+
+none_at : {A : Type 0} (i : ℕ) (a : A) → slice_get [] i ≡ Some a → ⊥
+none_at i a e = cc
+
+pub local_cut : (n : Netlist) (cw : List ℕ) (w : ℕ) → AreLocalLines n cw [] → length cw < 12 → is_among (local_wires n cw []) w ≡ false → AreLocalLines n (cw ++ w ∷ []) []
+local_cut n cw w l few fresh = record {
+  few_cuts = let e = length_push cw w in omega (arith, e);
+  few_gates = l.few_gates;
+  rising = λ i j k m lt e f. absurd (none_at i k e);
+  known = λ i k e. absurd (none_at i k e);
+  different = subst AreDifferent (sym (append-nil (cw ++ w ∷ []))) (different_push cw w (subst AreDifferent (append-nil cw) l.different) (ap (λ (ws : List ℕ). is_among ws w) (sym (append-nil cw)) ∙ fresh));
+}
+
+-- ---- used gates
+
+pub outs_is : (n : Netlist) (k : ℕ) (g : Gate) → slice_get n.gates k ≡ Some g → outs_of n k ≡ g.outs
+outs_is n k g e = ap (λ (o : Option Gate). option_map_or (λ x. x.outs) o []) e
+
+pub local_more : (n : Netlist) (cw gs : List ℕ) (k : ℕ) (g : Gate) → slice_get n.gates k ≡ Some g → local_wires n cw (gs ++ k ∷ []) ≡ local_wires n cw gs ++ g.outs
+local_more n cw gs k g e =
+    ap (λ (l : List ℕ). cw ++ l) (flat_push (outs_of n) gs k ∙ ap (λ (l : List ℕ). flat_map (outs_of n) gs ++ l) (outs_is n k g e)) ∙ sym (append_assoc cw (flat_map (outs_of n) gs) g.outs)
+
+take_within : (xs ys : List ℕ) (i : ℕ) → i < length xs → take i (xs ++ ys) ≡ take i xs
+take_within [] ys i h = absurd (omega arith)
+take_within (x ∷ xs) ys zero h = refl
+take_within (x ∷ xs) ys (suc i) h = ap (λ (l : List ℕ). x ∷ l) (take_within xs ys i (omega arith))
+
+at_all : (P : ℕ → Type 0) (xs : List ℕ) (i x : ℕ) → All P xs → slice_get xs i ≡ Some x → P x
+at_all P xs i x all e = subst P (get_or_from_slice_get xs i x x e) (All-get_or P xs i x (slice_get_within xs i x e) all)
+
+module _ (n : Netlist) (cw gs : List ℕ) (k : ℕ) (g : Gate) (l : AreLocalLines n cw gs) (at : slice_get n.gates k ≡ Some g) (lower : All (λ j. j < k) gs)
+    (ins : list_all (is_among (local_wires n cw gs)) g.ins ≡ true) (new : are_new (local_wires n cw gs) g.outs ≡ true) where
+  rises : (i j a b : ℕ) → i < j → slice_get (gs ++ k ∷ []) i ≡ Some a → slice_get (gs ++ k ∷ []) j ≡ Some b → a < b
+  rises i j a b lt e f = elim (pushed gs k j b f) [
+    | inl old' ↦ elim (pushed gs k i a e) [
+      | inl old ↦ l.rising i j a b lt old old'
+      | inr last ↦ absurd (let w = slice_get_within gs j b old' in omega (arith, w, last.0))
+    ]
+    | inr last' ↦ elim (pushed gs k i a e) [
+      | inl old ↦ subst (λ (x : ℕ). a < x) last'.1 (at_all (λ x. x < k) gs i a lower old)
+      | inr last ↦ absurd (omega (arith, last.0, last'.0))
+    ]
+  ]
+
+  last_known : IsKnown n (local_wires n cw gs) k
+  last_known = record { gate = g; numbered = at; ins = AllPass-from_list_all (is_among (local_wires n cw gs)) g.ins ins }
+
+  knows : (i a : ℕ) → slice_get (gs ++ k ∷ []) i ≡ Some a → IsKnown n (local_wires n cw (take i (gs ++ k ∷ []))) a
+  knows i a e = elim (pushed gs k i a e) [
+    | inl old ↦ subst (λ (t : List ℕ). IsKnown n (local_wires n cw t) a) (sym (take_within gs (k ∷ []) i (slice_get_within gs i a old))) (l.known i a old)
+    | inr last ↦
+        let all : take i (gs ++ k ∷ []) ≡ gs = ap (λ (j : ℕ). take j (gs ++ k ∷ [])) last.0 ∙ take-append_seam gs (k ∷ []) in
+        subst (λ (t : List ℕ). IsKnown n (local_wires n cw t) a) (sym all) (subst (λ (x : ℕ). IsKnown n (local_wires n cw gs) x) last.1 last_known)
+  ]
+
+  pub local_use : length gs < 64 → AreLocalLines n cw (gs ++ k ∷ [])
+  local_use few = record {
+    few_cuts = l.few_cuts;
+    few_gates = let e = length_push gs k in omega (arith, e);
+    rising = rises;
+    known = knows;
+    different = subst AreDifferent (sym (local_more n cw gs k g at)) (different_append g.outs (local_wires n cw gs) l.different new);
+  }

@@ -1,0 +1,213 @@
+-- A module after one more line.
+use Rattle.std.proofs.Common.{◌≡◌, ℕ, ◌<◌, Bool, true, false, ◌&&◌, ◌||◌, List, [], ◌∷◌, ◌++◌, Ordering, Less, Equal, Greater, refl, ap₂, ◌∙◌, arith}
+use Rattle.std.specs.List.{All, flat_map, list_all}
+use Rattle.std.specs.Ordering.{nat_cmp, is_lt, ordering_then}
+use Rattle.std.proofs.lemmas.Bool.{and_parts}
+use Rattle.std.proofs.lemmas.List.Elements.{All-nil, All-push, All-append}
+use Rattle.std.proofs.lemmas.List.Folds.{list_all-append}
+use Rattle.module_box.specs.Moments.{cell_cmp}
+use Rattle.certificate_lines.specs.Entries.{use_in, keep_in, edge_in, halo_in, stop_in}
+use Rattle.certificate_lines.specs.Orders.{AreInOrder, rank_of, number_of, cell_of, line_cmp, is_cut, may_precede, may_follow}
+use Rattle.certificate_lines.specs.declared.entry.Border.{Border}
+use Rattle.certificate_lines.specs.declared.entry.Entry.{Entry}
+use Rattle.certificate_lines.specs.declared.entry.StopLine.{StopLine}
+use Rattle.certificate_lines.specs.declared.entry.Entry.TheVariants.{Module, Cut, Use, Keep, Edge, Halo, Stop}
+
+-- ---- what comes before a line
+
+module _ {A : Type 0} (f : Entry → List A) (k : Entry) where
+  -- where no line that may precede k has any, lines that k may follow have none
+  pub none_before : ((j : Entry) → may_precede j k ≡ true → f j ≡ []) → (lines : List Entry) → may_follow lines k ≡ true → flat_map f lines ≡ []
+  unfolding may_follow
+  none_before none [] h = refl
+  none_before none (j ∷ lines) h =
+      let both = and_parts (may_precede j k) (list_all (λ i. may_precede i k) lines) h in
+      ap₂ (λ xs ys. xs ++ ys) (none j both.0) (none_before none lines both.1)
+
+  pub all_before : (P : A → Type 0) → ((j : Entry) → may_precede j k ≡ true → All P (f j)) → (lines : List Entry) → may_follow lines k ≡ true → All P (flat_map f lines)
+  unfolding may_follow
+  all_before P each [] h = All-nil P
+  all_before P each (j ∷ lines) h =
+      let both = and_parts (may_precede j k) (list_all (λ i. may_precede i k) lines) h in
+      All-append P (f j) (flat_map f lines) (each j both.0) (all_before P each lines both.1)
+
+false_or : (a b : Bool) → a ≡ false → b ≡ false → (a || b) ≡ true → ⊥
+false_or true b h k e = cc
+false_or false true h k e = cc
+false_or false false h k e = cc
+
+-- a line of a later kind does not precede
+later_kind : (i j : Entry) → is_lt (line_cmp i j) ≡ false → (is_cut i && is_cut j) ≡ false → may_precede i j ≡ true → ⊥
+unfolding may_precede
+later_kind i j h k e = false_or (is_lt (line_cmp i j)) (is_cut i && is_cut j) h k e
+
+use_then_cut : (g : ℕ) (n : List ℕ) → may_precede (Use g) (Cut n) ≡ true → ⊥
+unfolding line_cmp rank_of is_cut
+use_then_cut g n e = later_kind (Use g) (Cut n) refl refl e
+
+keep_then_cut : (k : ℕ) (n : List ℕ) → may_precede (Keep k) (Cut n) ≡ true → ⊥
+unfolding line_cmp rank_of is_cut
+keep_then_cut k n e = later_kind (Keep k) (Cut n) refl refl e
+
+keep_then_use : (k g : ℕ) → may_precede (Keep k) (Use g) ≡ true → ⊥
+unfolding line_cmp rank_of is_cut
+keep_then_use k g e = later_kind (Keep k) (Use g) refl refl e
+
+edge_then_cut : (d : Border) (n : List ℕ) → may_precede (Edge d) (Cut n) ≡ true → ⊥
+unfolding line_cmp rank_of is_cut
+edge_then_cut d n e = later_kind (Edge d) (Cut n) refl refl e
+
+halo_then_cut : (d : Border) (n : List ℕ) → may_precede (Halo d) (Cut n) ≡ true → ⊥
+unfolding line_cmp rank_of is_cut
+halo_then_cut d n e = later_kind (Halo d) (Cut n) refl refl e
+
+edge_then_use : (d : Border) (g : ℕ) → may_precede (Edge d) (Use g) ≡ true → ⊥
+unfolding line_cmp rank_of is_cut
+edge_then_use d g e = later_kind (Edge d) (Use g) refl refl e
+
+halo_then_use : (d : Border) (g : ℕ) → may_precede (Halo d) (Use g) ≡ true → ⊥
+unfolding line_cmp rank_of is_cut
+halo_then_use d g e = later_kind (Halo d) (Use g) refl refl e
+
+halo_then_edge : (d e : Border) → may_precede (Halo d) (Edge e) ≡ true → ⊥
+unfolding line_cmp rank_of is_cut
+halo_then_edge d e h = later_kind (Halo d) (Edge e) refl refl h
+
+stop_then_cut : (s : StopLine) (n : List ℕ) → may_precede (Stop s) (Cut n) ≡ true → ⊥
+unfolding line_cmp rank_of is_cut
+stop_then_cut s n e = later_kind (Stop s) (Cut n) refl refl e
+
+stop_then_use : (s : StopLine) (g : ℕ) → may_precede (Stop s) (Use g) ≡ true → ⊥
+unfolding line_cmp rank_of is_cut
+stop_then_use s g e = later_kind (Stop s) (Use g) refl refl e
+
+-- ---- no line of a kind stands before a line of an earlier kind
+
+pub no_use_before_cut : (n : List ℕ) (j : Entry) → may_precede j (Cut n) ≡ true → use_in j ≡ []
+no_use_before_cut n (Module b) h = refl
+no_use_before_cut n (Cut m) h = refl
+no_use_before_cut n (Use g) h = absurd (use_then_cut g n h)
+no_use_before_cut n (Keep k) h = refl
+no_use_before_cut n (Edge d) h = refl
+no_use_before_cut n (Halo d) h = refl
+no_use_before_cut n (Stop s) h = refl
+
+pub no_keep_before_cut : (n : List ℕ) (j : Entry) → may_precede j (Cut n) ≡ true → keep_in j ≡ []
+no_keep_before_cut n (Module b) h = refl
+no_keep_before_cut n (Cut m) h = refl
+no_keep_before_cut n (Use g) h = refl
+no_keep_before_cut n (Keep k) h = absurd (keep_then_cut k n h)
+no_keep_before_cut n (Edge d) h = refl
+no_keep_before_cut n (Halo d) h = refl
+no_keep_before_cut n (Stop s) h = refl
+
+pub no_keep_before_use : (g : ℕ) (j : Entry) → may_precede j (Use g) ≡ true → keep_in j ≡ []
+no_keep_before_use g (Module b) h = refl
+no_keep_before_use g (Cut m) h = refl
+no_keep_before_use g (Use k) h = refl
+no_keep_before_use g (Keep k) h = absurd (keep_then_use k g h)
+no_keep_before_use g (Edge d) h = refl
+no_keep_before_use g (Halo d) h = refl
+no_keep_before_use g (Stop s) h = refl
+
+pub no_edge_before_cut : (n : List ℕ) (j : Entry) → may_precede j (Cut n) ≡ true → edge_in j ≡ []
+no_edge_before_cut n (Module b) h = refl
+no_edge_before_cut n (Cut m) h = refl
+no_edge_before_cut n (Use g) h = refl
+no_edge_before_cut n (Keep k) h = refl
+no_edge_before_cut n (Edge d) h = absurd (edge_then_cut d n h)
+no_edge_before_cut n (Halo d) h = refl
+no_edge_before_cut n (Stop s) h = refl
+
+pub no_halo_before_cut : (n : List ℕ) (j : Entry) → may_precede j (Cut n) ≡ true → halo_in j ≡ []
+no_halo_before_cut n (Module b) h = refl
+no_halo_before_cut n (Cut m) h = refl
+no_halo_before_cut n (Use g) h = refl
+no_halo_before_cut n (Keep k) h = refl
+no_halo_before_cut n (Edge d) h = refl
+no_halo_before_cut n (Halo d) h = absurd (halo_then_cut d n h)
+no_halo_before_cut n (Stop s) h = refl
+
+pub no_edge_before_use : (g : ℕ) (j : Entry) → may_precede j (Use g) ≡ true → edge_in j ≡ []
+no_edge_before_use g (Module b) h = refl
+no_edge_before_use g (Cut m) h = refl
+no_edge_before_use g (Use k) h = refl
+no_edge_before_use g (Keep k) h = refl
+no_edge_before_use g (Edge d) h = absurd (edge_then_use d g h)
+no_edge_before_use g (Halo d) h = refl
+no_edge_before_use g (Stop s) h = refl
+
+pub no_halo_before_use : (g : ℕ) (j : Entry) → may_precede j (Use g) ≡ true → halo_in j ≡ []
+no_halo_before_use g (Module b) h = refl
+no_halo_before_use g (Cut m) h = refl
+no_halo_before_use g (Use k) h = refl
+no_halo_before_use g (Keep k) h = refl
+no_halo_before_use g (Edge d) h = refl
+no_halo_before_use g (Halo d) h = absurd (halo_then_use d g h)
+no_halo_before_use g (Stop s) h = refl
+
+pub no_halo_before_edge : (e : Border) (j : Entry) → may_precede j (Edge e) ≡ true → halo_in j ≡ []
+no_halo_before_edge e (Module b) h = refl
+no_halo_before_edge e (Cut m) h = refl
+no_halo_before_edge e (Use k) h = refl
+no_halo_before_edge e (Keep k) h = refl
+no_halo_before_edge e (Edge d) h = refl
+no_halo_before_edge e (Halo d) h = absurd (halo_then_edge d e h)
+no_halo_before_edge e (Stop s) h = refl
+
+pub no_stop_before_cut : (n : List ℕ) (j : Entry) → may_precede j (Cut n) ≡ true → stop_in j ≡ []
+no_stop_before_cut n (Module b) h = refl
+no_stop_before_cut n (Cut m) h = refl
+no_stop_before_cut n (Use k) h = refl
+no_stop_before_cut n (Keep k) h = refl
+no_stop_before_cut n (Edge d) h = refl
+no_stop_before_cut n (Halo d) h = refl
+no_stop_before_cut n (Stop s) h = absurd (stop_then_cut s n h)
+
+pub no_stop_before_use : (g : ℕ) (j : Entry) → may_precede j (Use g) ≡ true → stop_in j ≡ []
+no_stop_before_use g (Module b) h = refl
+no_stop_before_use g (Cut m) h = refl
+no_stop_before_use g (Use k) h = refl
+no_stop_before_use g (Keep k) h = refl
+no_stop_before_use g (Edge d) h = refl
+no_stop_before_use g (Halo d) h = refl
+no_stop_before_use g (Stop s) h = absurd (stop_then_use s g h)
+
+-- ---- used gates rise
+
+less_by : (o : Ordering) → is_lt (ordering_then o Equal) ≡ true → o ≡ Less
+less_by Less h = refl
+less_by Equal h = cc
+less_by Greater h = cc
+
+lower : (g k : ℕ) → nat_cmp g k ≡ Less → g < k
+lower g k h = grind arith
+
+or_false : (a : Bool) → (a || false) ≡ true → a ≡ true
+or_false true h = refl
+or_false false h = h
+
+use_then_use : (g k : ℕ) → may_precede (Use g) (Use k) ≡ true → g < k
+unfolding may_precede line_cmp rank_of number_of cell_of is_cut cell_cmp
+use_then_use g k h = lower g k (less_by (nat_cmp g k) (or_false _ h))
+
+pub lower_uses : (k : ℕ) (j : Entry) → may_precede j (Use k) ≡ true → All (λ g. g < k) (use_in j)
+lower_uses k (Module b) h = All-nil (λ (g : ℕ). g < k)
+lower_uses k (Cut m) h = All-nil (λ (g : ℕ). g < k)
+lower_uses k (Use g) h = All-push (λ (x : ℕ). x < k) [] g (All-nil (λ (x : ℕ). x < k)) (use_then_use g k h)
+lower_uses k (Keep j) h = All-nil (λ (g : ℕ). g < k)
+lower_uses k (Edge d) h = All-nil (λ (g : ℕ). g < k)
+lower_uses k (Halo d) h = All-nil (λ (g : ℕ). g < k)
+lower_uses k (Stop s) h = All-nil (λ (g : ℕ). g < k)
+
+-- ---- order
+
+list_all_push : (i j : Entry) (lines : List Entry) → list_all (may_precede i) lines ≡ true → may_precede i j ≡ true → list_all (may_precede i) (lines ++ j ∷ []) ≡ true
+list_all_push i j lines h k = list_all-append (may_precede i) lines (j ∷ []) ∙ rw (h, k) refl
+
+pub order_push : (lines : List Entry) (j : Entry) → AreInOrder lines → may_follow lines j ≡ true → AreInOrder (lines ++ j ∷ [])
+unfolding AreInOrder may_follow
+order_push [] j order h = (refl, tt)
+order_push (i ∷ lines) j order h =
+    let both = and_parts (may_precede i j) (list_all (λ k. may_precede k j) lines) h in
+    (list_all_push i j lines order.0 both.0, order_push lines j order.1 both.1)

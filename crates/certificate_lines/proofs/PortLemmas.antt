@@ -1,0 +1,48 @@
+-- Equal cells, and the cells of a box.
+use Rattle.std.proofs.Common.{◌≡◌, ℤ, Bool, true, List, [], ◌∷◌, refl, ap, ◌∙◌, inl, inr}
+use Rattle.std.specs.List.{list_any}
+use Rattle.std.specs.Ordering.{int_eq}
+use Rattle.std.proofs.lemmas.Bool.{and_parts}
+use Rattle.std.proofs.lemmas.Bool.Decides.{Decides-int_eq}
+use Rattle.bbm_rule.specs.Plane.{is_at}
+use Rattle.bbm_rule.specs.declared.block.Cell.{Cell}
+use Rattle.pattern.specs.Layout.{in_cells}
+use Rattle.pattern.proofs.RectangleLemmas.{in_rectangle_cells}
+use Rattle.module_box.specs.Boxes.{in_box}
+use Rattle.module_box.specs.declared.boxes.Box2.{Box2}
+use Rattle.certificate_lines.specs.Rules.{box_cells, same_cell}
+use Rattle.certificate_lines.proofs.Lists.{or_parts, or_left, or_right}
+
+pub cell_same : (c d : Cell) → same_cell c d ≡ true → c ≡ d
+cell_same c d h =
+    let parts = and_parts (int_eq c.x d.x) (int_eq c.y d.y) h in
+    let p : c.x ≡ d.x = (Decides-int_eq c.x d.x).0 parts.0 in
+    let q : c.y ≡ d.y = (Decides-int_eq c.y d.y).0 parts.1 in
+    λ i. record { x = p i; y = q i }
+
+pub cell_itself : (c : Cell) → same_cell c c ≡ true
+cell_itself c =
+    let p = (Decides-int_eq c.x c.x).1 refl in
+    let q = (Decides-int_eq c.y c.y).1 refl in
+    rw (p, q) refl
+
+-- ---- the cells of a box
+
+-- a cell of a list that passes a test, and is one of the list's cells
+pub cell_passed : (test : Cell → Bool) (cells : List Cell) → list_any test cells ≡ true → (c : Cell) × (in_cells cells c.x c.y ≡ true) × (test c ≡ true)
+cell_passed test [] h = absurd cc
+cell_passed test (c ∷ cells) h = elim (or_parts (test c) (list_any test cells) h) [
+  | inl here ↦ (c, or_left (is_at c c.x c.y) _ (cell_itself c), here)
+  | inr more ↦ let r = cell_passed test cells more in (r.0, or_right (is_at c r.0.x r.0.y) _ r.1, r.2)
+]
+
+pub has_cell : (test : Cell → Bool) (cells : List Cell) (d : Cell) → in_cells cells d.x d.y ≡ true → test d ≡ true → list_any test cells ≡ true
+has_cell test [] d h t = absurd cc
+has_cell test (c ∷ cells) d h t = elim (or_parts (is_at c d.x d.y) (in_cells cells d.x d.y) h) [
+  | inl here ↦ or_left (test c) _ (ap test (cell_same c d here) ∙ t)
+  | inr more ↦ or_right (test c) _ (has_cell test cells d more t)
+]
+
+pub in_box_cells : (b : Box2) (x y : ℤ) → in_cells (box_cells b) x y ≡ in_box b x y
+unfolding in_box
+in_box_cells b x y = in_rectangle_cells (record { x = b.x; y = b.y; w = b.w; h = b.h }) x y

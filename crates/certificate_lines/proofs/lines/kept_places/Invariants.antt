@@ -1,0 +1,12 @@
+-- The gates that the lines so far keep.
+use Rattle.std.proofs.Common.{◌≡◌, ◌<◌, length, map, take}
+use Rattle.std.specs.Prelude.{slice_index}
+use Rattle.std.specs.List.{All, flat_map}
+use Rattle.certificate_lines.specs.Entries.{keep_in}
+use Rattle.certificate_lines.proofs.lines.kept_places.Given as goal
+
+abbrev pub invariant-loop-line : goal.invariant-loop-line
+invariant-loop-line l = record {
+  gates : map (slice_index l.fn.gates) l.places.items ≡ flat_map keep_in (take l.line-index l.lines);
+  within : All (λ place. place < length l.fn.gates) l.places.items;
+}

@@ -1,0 +1,11 @@
+-- The cuts of the lines so far.
+use Rattle.std.proofs.Common.{◌≡◌, ◌++◌, take}
+use Rattle.std.specs.List.{flat_map}
+use Rattle.std.specs.Option.{option_to_list}
+use Rattle.circuit.specs.Bridge.{circuit_of}
+use Rattle.circuit.specs.Meaning.{wire_of}
+use Rattle.certificate_lines.specs.Entries.{cut_in}
+use Rattle.certificate_lines.proofs.lines.push_cuts.Given as goal
+
+abbrev pub invariant-loop-line : goal.invariant-loop-line
+invariant-loop-line l = l.wires.items ≡ l.fn.wires.items ++ flat_map (λ n. option_to_list (wire_of (circuit_of l.circuit) n)) (flat_map cut_in (take l.line-index l.lines))

@@ -1,0 +1,6 @@
+-- The table has the ports so far.
+use Rattle.certificate_lines.proofs.TableLemmas.{IsFilling}
+use Rattle.certificate_lines.proofs.ports.index_ports.Given as goal
+
+abbrev pub invariant-ports : goal.invariant-ports
+invariant-ports l = IsFilling l.area l.ports l.number l.numbers.items

@@ -1,0 +1,159 @@
+-- The lines of a certificate between its header and its end, and the modules that they make
+use Rattle.std.specs.Prelude.{ℕ, List, [], ◌∷◌, ◌++◌, map, length, Option, Some, None}
+use Rattle.std.specs.List.{fold, flat_map}
+use Rattle.std.specs.Option.{option_to_list}
+use Rattle.circuit.specs.Meaning.{Circuit, wire_of}
+use Rattle.pattern.specs.declared.parts.Port.{Port}
+use Rattle.pattern.specs.declared.parts.Extent.{Extent}
+use Rattle.module_box.specs.Locals.{local_wires}
+use Rattle.module_box.specs.declared.boxes.Box2.{Box2}
+use Rattle.certificate_lines.specs.declared.entry.Border.{Border}
+use Rattle.certificate_lines.specs.declared.entry.Counts.{Counts}
+use Rattle.certificate_lines.specs.declared.entry.Entry.{Entry}
+use Rattle.certificate_lines.specs.declared.entry.StopLine.{StopLine}
+use Rattle.certificate_lines.specs.declared.entry.Entry.TheVariants.{Module, Cut, Use, Keep, Edge, Halo, Stop}
+
+-- what a certificate is for: a circuit, and of a layout its size and its ports
+pub record Setting : Type 0 where
+  pub circuit : Circuit
+  pub size : Extent
+  pub ports : List Port
+
+-- ---- modules
+
+-- a module as its lines say it: the box of its `module` line, and the lines after that
+pub record ModuleLines : Type 0 where
+  pub area : Box2
+  pub lines : List Entry
+
+abbrev pub with_line : Entry → ModuleLines → ModuleLines
+with_line i m = record m { lines = m.lines ++ i ∷ [] }
+
+unfoldable pub change_last : {X : Type 0} → (X → X) → List X → List X
+change_last f [] = []
+change_last f (x ∷ []) = f x ∷ []
+change_last f (x ∷ y ∷ xs) = x ∷ change_last f (y ∷ xs)
+
+unfoldable pub last_of : {X : Type 0} → List X → Option X
+last_of [] = None
+last_of (x ∷ []) = Some x
+last_of (x ∷ y ∷ xs) = last_of (y ∷ xs)
+
+-- a `module` line begins a module, and every other line is one of the last module
+unfoldable pub add_line : List ModuleLines → Entry → List ModuleLines
+add_line ms (Module b) = ms ++ record { area = b; lines = [] } ∷ []
+add_line ms (Cut n) = change_last (with_line (Cut n)) ms
+add_line ms (Use k) = change_last (with_line (Use k)) ms
+add_line ms (Keep k) = change_last (with_line (Keep k)) ms
+add_line ms (Edge e) = change_last (with_line (Edge e)) ms
+add_line ms (Halo e) = change_last (with_line (Halo e)) ms
+add_line ms (Stop s) = change_last (with_line (Stop s)) ms
+
+-- the modules of lines
+unfoldable pub modules_of : List Entry → List ModuleLines
+modules_of entries = fold add_line [] entries
+
+-- the last module
+abbrev pub present : List Entry → Option ModuleLines
+present entries = last_of (modules_of entries)
+
+abbrev pub areas : List ModuleLines → List Box2
+areas ms = map (λ m. m.area) ms
+
+-- ---- the lines of a module by their kinds
+
+abbrev pub cut_in : Entry → List (List ℕ)
+cut_in (Module b) = []
+cut_in (Cut n) = n ∷ []
+cut_in (Use k) = []
+cut_in (Keep k) = []
+cut_in (Edge e) = []
+cut_in (Halo e) = []
+cut_in (Stop s) = []
+
+abbrev pub use_in : Entry → List ℕ
+use_in (Module b) = []
+use_in (Cut n) = []
+use_in (Use k) = k ∷ []
+use_in (Keep k) = []
+use_in (Edge e) = []
+use_in (Halo e) = []
+use_in (Stop s) = []
+
+abbrev pub edge_in : Entry → List Border
+edge_in (Module b) = []
+edge_in (Cut n) = []
+edge_in (Use k) = []
+edge_in (Keep k) = []
+edge_in (Edge e) = e ∷ []
+edge_in (Halo e) = []
+edge_in (Stop s) = []
+
+abbrev pub halo_in : Entry → List Border
+halo_in (Module b) = []
+halo_in (Cut n) = []
+halo_in (Use k) = []
+halo_in (Keep k) = []
+halo_in (Edge e) = []
+halo_in (Halo e) = e ∷ []
+halo_in (Stop s) = []
+
+abbrev pub stop_in : Entry → List StopLine
+stop_in (Module b) = []
+stop_in (Cut n) = []
+stop_in (Use k) = []
+stop_in (Keep k) = []
+stop_in (Edge e) = []
+stop_in (Halo e) = []
+stop_in (Stop s) = s ∷ []
+
+abbrev pub keep_in : Entry → List ℕ
+keep_in (Module b) = []
+keep_in (Cut n) = []
+keep_in (Use k) = []
+keep_in (Keep k) = k ∷ []
+keep_in (Edge e) = []
+keep_in (Halo e) = []
+keep_in (Stop s) = []
+
+-- the names of the wires that are cut
+abbrev pub cuts : ModuleLines → List (List ℕ)
+cuts m = flat_map cut_in m.lines
+
+-- the numbers of the gates that are used
+abbrev pub gates : ModuleLines → List ℕ
+gates m = flat_map use_in m.lines
+
+-- the numbers of the gates that are kept
+abbrev pub keeps : ModuleLines → List ℕ
+keeps m = flat_map keep_in m.lines
+
+abbrev pub edges : ModuleLines → List Border
+edges m = flat_map edge_in m.lines
+
+abbrev pub halos : ModuleLines → List Border
+halos m = flat_map halo_in m.lines
+
+abbrev pub stops : ModuleLines → List StopLine
+stops m = flat_map stop_in m.lines
+
+-- how many lines of each kind a module has, and its box; the lines that keep gates are not counted
+abbrev pub counts_of : ModuleLines → Counts
+counts_of m = record {
+  area = m.area;
+  cuts = length (cuts m);
+  gates = length (gates m);
+  edges = length (edges m);
+  halos = length (halos m);
+  stops = length (stops m);
+}
+
+-- ---- local wires
+
+-- the wires of the circuit that are cut
+abbrev pub cut_wires : Circuit → ModuleLines → List ℕ
+cut_wires c m = flat_map (λ n. option_to_list (wire_of c n)) (cuts m)
+
+-- the wires that are local in a module: its cuts, and what the gates that it uses define
+abbrev pub known : Circuit → ModuleLines → List ℕ
+known c m = local_wires c.netlist (cut_wires c m) (gates m)

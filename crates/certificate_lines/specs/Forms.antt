@@ -1,0 +1,70 @@
+-- The line forms of the certificate section: what the words of a line say
+use Rattle.std.specs.Prelude.{ℕ, List, length, codes, Option, Some, None, ◌==◌, if◌then◌else◌}
+use Rattle.section_text.specs.Words.{number_at, name_at, is_word_at, lone, lone_number, lone_name, ◌>>=◌}
+use Rattle.section_text.specs.declared.section.Form.{Form}
+use Rattle.section_text.specs.declared.section.Form.TheVariants.{Header, Item, End}
+use Rattle.pattern.specs.Forms.{cell_from}
+use Rattle.module_box.specs.declared.boxes.Box2.{Box2}
+use Rattle.certificate_lines.specs.declared.entry.Entry.{Entry}
+use Rattle.certificate_lines.specs.declared.entry.Entry.TheVariants.{Module, Cut, Use, Keep, Edge, Halo, Stop}
+use Rattle.certificate_lines.specs.declared.entry.Border.{Border}
+use Rattle.certificate_lines.specs.declared.entry.StopLine.{StopLine}
+
+-- the header is its version
+abbrev pub Line : Type 0
+Line = Form ℕ Entry
+
+-- a keyword and four numbers
+unfoldable pub corner_and_sides : List (List ℕ) → Option Box2
+corner_and_sides ws = do
+  x ← number_at ws 1
+  y ← number_at ws 2
+  w ← number_at ws 3
+  h ← number_at ws 4
+  Some (record { x = x; y = y; w = w; h = h })
+
+unfoldable pub area_of : List (List ℕ) → Option Box2
+area_of ws = if length ws == 5 then corner_and_sides ws else None
+
+-- `*`, or a time
+unfoldable pub time_at : List (List ℕ) → ℕ → Option (Option ℕ)
+time_at ws i = if is_word_at ws i (codes "*") then Some None else (number_at ws i >>= λ t. Some (Some t))
+
+-- `1`, or a name
+unfoldable pub signal_at : List (List ℕ) → ℕ → Option (Option (List ℕ))
+signal_at ws i = if is_word_at ws i (codes "1") then Some None else (name_at ws i >>= λ n. Some (Some n))
+
+-- a keyword, a time, a cell and a signal
+unfoldable pub timed_cell : List (List ℕ) → Option Border
+timed_cell ws = do
+  t ← time_at ws 1
+  c ← cell_from ws 2
+  s ← signal_at ws 4
+  Some (record { time = t; cell = c; signal = s })
+
+unfoldable pub border_of : List (List ℕ) → Option Border
+border_of ws = if length ws == 5 then timed_cell ws else None
+
+-- a keyword, a number, a name and a cell
+unfoldable pub timed_wire : List (List ℕ) → Option StopLine
+timed_wire ws = do
+  t ← number_at ws 1
+  n ← name_at ws 2
+  c ← cell_from ws 3
+  Some (record { time = t; wire = n; cell = c })
+
+unfoldable pub stop_of : List (List ℕ) → Option StopLine
+stop_of ws = if length ws == 5 then timed_wire ws else None
+
+unfoldable pub form_of : List (List ℕ) → Option Line
+form_of ws =
+    if is_word_at ws 0 (codes "edge") then (border_of ws >>= λ e. Some (Item (Edge e)))
+    else if is_word_at ws 0 (codes "halo") then (border_of ws >>= λ e. Some (Item (Halo e)))
+    else if is_word_at ws 0 (codes "stop") then (stop_of ws >>= λ s. Some (Item (Stop s)))
+    else if is_word_at ws 0 (codes "cut") then (lone_name ws >>= λ n. Some (Item (Cut n)))
+    else if is_word_at ws 0 (codes "use") then (lone_number ws >>= λ k. Some (Item (Use k)))
+    else if is_word_at ws 0 (codes "keep") then (lone_number ws >>= λ k. Some (Item (Keep k)))
+    else if is_word_at ws 0 (codes "module") then (area_of ws >>= λ b. Some (Item (Module b)))
+    else if is_word_at ws 0 (codes "certificate") then (lone_number ws >>= λ v. Some (Header v))
+    else if is_word_at ws 0 (codes "end") then lone ws End
+    else None

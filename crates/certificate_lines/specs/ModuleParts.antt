@@ -1,0 +1,26 @@
+-- The lines of one module
+use Rattle.std.specs.Prelude.{Bool, true, false, if◌then◌else◌, IsTrue, List, [], ◌∷◌}
+use Rattle.std.specs.List.{All}
+use Rattle.module_box.specs.Boxes.{in_box}
+use Rattle.module_box.specs.declared.boxes.Box2.{Box2}
+use Rattle.certificate_lines.specs.declared.entry.Border.{Border}
+use Rattle.certificate_lines.specs.declared.entry.Entry.{Entry}
+use Rattle.certificate_lines.specs.declared.entry.Entry.TheVariants.{Module, Cut, Use, Keep, Edge, Halo, Stop}
+
+abbrev pub is_module : Entry → Bool
+is_module (Module b) = true
+is_module (Cut n) = false
+is_module (Use k) = false
+is_module (Keep k) = false
+is_module (Edge e) = false
+is_module (Halo e) = false
+is_module (Stop s) = false
+
+-- the lines before the next `module` line
+unfoldable pub inner : List Entry → List Entry
+inner [] = []
+inner (i ∷ entries) = if is_module i then [] else i ∷ inner entries
+
+-- each of these lines is for a cell of the box
+abbrev pub AreInBox : Box2 → List Border → Type 0
+AreInBox area es = All (λ e. IsTrue (in_box area e.cell.x e.cell.y)) es

@@ -1,0 +1,79 @@
+-- What the modules of a certificate are that was read
+use Rattle.std.specs.Prelude.{◌≡◌, ℕ, ◌<◌, ◌≤◌, ◌%◌, ◌||◌, not, true, List, [], ◌∷◌, length, Some, slice_get, IsTrue, IsFalse, IfSome}
+use Rattle.std.specs.List.{All, list_all}
+use Rattle.module_box.specs.Boxes.{in_box, in_ring, in_halo, IsEven, Tile}
+use Rattle.module_box.specs.Locals.{AreLocalLines, is_among}
+use Rattle.module_box.specs.Tiling.{IsInside}
+use Rattle.module_box.specs.declared.boxes.Box2.{Box2}
+use Rattle.pattern.specs.declared.parts.Port.{Port}
+use Rattle.certificate_lines.specs.Entries.{Setting, ModuleLines, areas, cuts, gates, keeps, edges, halos, stops, cut_wires, known}
+use Rattle.certificate_lines.specs.Orders.{AreInOrder}
+use Rattle.certificate_lines.specs.Rules.{whole, is_local, is_inverse_gate, is_star, is_starred, border_count, border_limit}
+use Rattle.certificate_lines.specs.declared.entry.Border.{Border}
+use Rattle.certificate_lines.specs.declared.entry.StopLine.{StopLine}
+
+-- the time of an edge or halo line is odd and below the steps, and its signal is `1` or a local wire
+pub record IsBorder (g : Setting) (local : List ℕ) (e : Border) : Type 0 where
+  pub time : IfSome e.time (λ t. (t % 2 ≡ 1) × (t < g.size.steps))
+  pub signal : IfSome e.signal (λ name. IsTrue (is_local g.circuit local name))
+
+-- an edge is in the ring of the box, and not on the rim of the rectangle
+pub record IsEdge (g : Setting) (area : Box2) (local : List ℕ) (e : Border) : Type 0 where
+  pub ring : IsTrue (in_ring area e.cell.x e.cell.y)
+  pub rim : IsFalse (in_ring (whole g.size) e.cell.x e.cell.y)
+  pub border : IsBorder g local e
+
+-- a halo line is in the halo of the box, and inside the rectangle
+pub record IsHalo (g : Setting) (area : Box2) (local : List ℕ) (e : Border) : Type 0 where
+  pub halo : IsTrue (in_halo area e.cell.x e.cell.y)
+  pub inside : IsTrue (in_box (whole g.size) e.cell.x e.cell.y)
+  pub border : IsBorder g local e
+
+-- a stop is at a time up to the last one and at a cell of the box, and its wire is local
+pub record IsStop (g : Setting) (area : Box2) (local : List ℕ) (s : StopLine) : Type 0 where
+  pub time : s.time ≤ g.size.steps
+  pub inside : IsTrue (in_box area s.cell.x s.cell.y)
+  pub wire : IsTrue (is_local g.circuit local s.wire)
+
+-- a kept gate is an inverse gate, and it is one of those that are used
+pub record IsKeep (g : Setting) (used : List ℕ) (k : ℕ) : Type 0 where
+  pub inverse : IsTrue (is_inverse_gate (slice_get g.circuit.netlist.gates k))
+  pub among : IsTrue (is_among used k)
+
+-- where a line with a `*` stands before one with a time, they are for different cells
+unfoldable pub AreUnstarred : List Border → Type 0
+AreUnstarred [] = Unit {0}
+AreUnstarred (d ∷ es) = (list_all (λ e. is_star e.time || not (is_starred e.cell d)) es ≡ true) × AreUnstarred es
+
+-- A module: its box is even, has sides of 2 to 64 and lies inside the rectangle. Its cuts and used gates make wires local one
+-- after the other. Its lines are in order, it keeps inverse gates that it uses, and its edge, halo and stop lines stand where they may and
+-- name local wires. No edge line has a time for a cell that one has a `*` for.
+pub record IsModule (g : Setting) (m : ModuleLines) : Type 0 where
+  pub even : IsEven m.area
+  pub wide : (2 ≤ m.area.w) × (m.area.w ≤ 64)
+  pub high : (2 ≤ m.area.h) × (m.area.h ≤ 64)
+  pub inside : IsInside g.size.w g.size.h m.area
+  -- each cut is a wire of the circuit
+  pub named : length (cut_wires g.circuit m) ≡ length (cuts m)
+  pub local : AreLocalLines g.circuit.netlist (cut_wires g.circuit m) (gates m)
+  pub order : AreInOrder m.lines
+  pub keep_lines : All (IsKeep g (gates m)) (keeps m)
+  pub unstarred : AreUnstarred (edges m)
+  pub edge_lines : All (IsEdge g m.area (known g.circuit m)) (edges m)
+  pub halo_lines : All (IsHalo g m.area (known g.circuit m)) (halos m)
+  pub stop_lines : All (IsStop g m.area (known g.circuit m)) (stops m)
+
+-- the wires of the ports in the module's box are local
+pub record HasPorts (g : Setting) (m : ModuleLines) : Type 0 where
+  pub local : (i : ℕ) (p : Port) → slice_get g.ports i ≡ Some p → IsTrue (in_box m.area p.cell.x p.cell.y) → IsTrue (is_local g.circuit (known g.circuit m) p.name)
+
+-- the modules of a certificate: their boxes tile the rectangle
+pub record AreModules (g : Setting) (ms : List ModuleLines) : Type 0 where
+  pub few : length ms ≤ 1024
+  pub each : (k : ℕ) (m : ModuleLines) → slice_get ms k ≡ Some m → IsModule g m
+  pub ports : (k : ℕ) (m : ModuleLines) → slice_get ms k ≡ Some m → HasPorts g m
+  pub tile : Tile (whole g.size) (areas ms)
+
+-- a module has at most 65,536 edge, halo and stop lines of its own
+abbrev pub HasFewLines : ModuleLines → Type 0
+HasFewLines m = border_count m ≤ border_limit

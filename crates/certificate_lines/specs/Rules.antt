@@ -1,0 +1,213 @@
+-- Which line of a certificate is good after which lines. All that is asked is read from the lines themselves
+use Rattle.std.specs.Prelude.{ℕ, ◌+◌, ◌%◌, ◌==◌, ◌&&◌, ◌||◌, Bool, true, false, not, List, [], ◌∷◌, ◌++◌, length, slice_get, Option, Some, None, nat_lt, nat_le}
+use Rattle.std.specs.List.{list_any, list_all}
+use Rattle.std.specs.Ordering.{int_eq}
+use Rattle.bbm_rule.specs.Plane.{State}
+use Rattle.bbm_rule.specs.declared.block.Cell.{Cell}
+use Rattle.section_text.specs.Codes.{code_where, defined_twice, misplaced_box, no_place, not_local, or_else, out_of_order, past_limit, something_missing, unknown_name}
+use Rattle.circuit.specs.Gates.{is_inverse}
+use Rattle.circuit.specs.Meaning.{Circuit, Gate, wire_of}
+use Rattle.pattern.specs.Layout.{rectangle_cells}
+use Rattle.pattern.specs.declared.parts.Extent.{Extent}
+use Rattle.module_box.specs.Boxes.{in_box, in_ring, in_halo}
+use Rattle.module_box.specs.Locals.{is_among, cut_limit, use_limit}
+use Rattle.module_box.specs.Tiling.{rectangle_of}
+use Rattle.module_box.specs.declared.boxes.Box2.{Box2}
+use Rattle.certificate_lines.specs.declared.entry.Border.{Border}
+use Rattle.certificate_lines.specs.declared.entry.Entry.{Entry}
+use Rattle.certificate_lines.specs.declared.entry.StopLine.{StopLine}
+use Rattle.certificate_lines.specs.declared.entry.Entry.TheVariants.{Module, Cut, Use, Keep, Edge, Halo, Stop}
+use Rattle.certificate_lines.specs.Entries.{Setting, ModuleLines, modules_of, present, areas, cuts, gates, edges, halos, stops, known}
+use Rattle.certificate_lines.specs.Orders.{may_follow}
+
+-- the whole rectangle of the layout
+abbrev pub whole : Extent → Box2
+whole s = rectangle_of s.w s.h
+
+-- ---- local wires
+
+abbrev pub is_local_wire : List ℕ → Option ℕ → Bool
+is_local_wire local None = false
+is_local_wire local (Some w) = is_among local w
+
+-- whether the name is that of a wire that is local, where these wires are
+abbrev pub is_local : Circuit → List ℕ → List ℕ → Bool
+is_local c local name = is_local_wire local (wire_of c name)
+
+-- some port in the module's box has a wire that is not local
+unfoldable pub lacks_port : Setting → ModuleLines → Bool
+lacks_port g m = list_any (λ p. in_box m.area p.cell.x p.cell.y && not (is_local g.circuit (known g.circuit m) p.name)) g.ports
+
+abbrev pub is_incomplete : Setting → Option ModuleLines → Bool
+is_incomplete g None = false
+is_incomplete g (Some m) = lacks_port g m
+
+-- ---- a module line: 11, 2, 8
+
+abbrev pub is_odd : ℕ → Bool
+is_odd n = n % 2 == 1
+
+-- a side is even, 2 to 64
+abbrev pub is_wrong_side : ℕ → Bool
+is_wrong_side n = is_odd n || nat_lt n 2 || nat_lt 64 n
+
+-- a corner is even, and the box is inside the rectangle
+abbrev pub is_misplaced : Extent → Box2 → Bool
+is_misplaced s b = is_odd b.x || is_odd b.y || nat_lt s.w (b.x + b.w) || nat_lt s.h (b.y + b.h)
+
+-- whether one of the boxes has the cell (x, y)
+abbrev pub in_boxes : List Box2 → State
+in_boxes boxes x y = list_any (λ b. in_box b x y) boxes
+
+-- the cells of a box, in order of y and then x
+abbrev pub box_cells : Box2 → List Cell
+box_cells b = rectangle_cells (record { x = b.x; y = b.y; w = b.w; h = b.h })
+
+-- a cell of the box is one of an earlier box
+abbrev pub overlaps : List Box2 → Box2 → Bool
+overlaps boxes b = list_any (λ c. in_boxes boxes c.x c.y) (box_cells b)
+
+-- the tests of a box by itself, where so many modules come before it, the last of them `before`
+unfoldable pub box_fault : Setting → ℕ → Option ModuleLines → Box2 → Option ℕ
+box_fault g count before b =
+    or_else (code_where (is_incomplete g before) something_missing)
+    (or_else (code_where (is_wrong_side b.w || is_wrong_side b.h || nat_le 1024 count) past_limit)
+    (code_where (is_misplaced g.size b) misplaced_box))
+
+unfoldable pub module_fault : Setting → List ModuleLines → Option ModuleLines → Box2 → Option ℕ
+module_fault g ms before b = or_else (box_fault g (length ms) before b) (code_where (overlaps (areas ms) b) misplaced_box)
+
+-- ---- a cut, where so many wires are cut and these are local: 2, 3, 4
+
+abbrev pub cut_wire_fault : List ℕ → Option ℕ → Option ℕ
+cut_wire_fault local None = Some unknown_name
+cut_wire_fault local (Some w) = code_where (is_among local w) defined_twice
+
+unfoldable pub cut_fault : Circuit → ℕ → List ℕ → List ℕ → Option ℕ
+cut_fault c count local name = or_else (code_where (nat_le cut_limit count) past_limit) (cut_wire_fault local (wire_of c name))
+
+-- ---- a used gate, where so many gates are used and these wires are local: 2, 3, 9, 4
+
+-- the wires become local one after the other, and none is local already
+unfoldable pub are_new : List ℕ → List ℕ → Bool
+are_new local [] = true
+are_new local (w ∷ ws) = not (is_among local w) && are_new (local ++ w ∷ []) ws
+
+unfoldable pub gate_fault : List ℕ → Option Gate → Option ℕ
+gate_fault local None = Some unknown_name
+gate_fault local (Some gate) =
+    or_else (code_where (not (list_all (is_among local) gate.ins)) not_local) (code_where (not (are_new local gate.outs)) defined_twice)
+
+unfoldable pub use_fault : Circuit → ℕ → List ℕ → ℕ → Option ℕ
+use_fault c count local k = or_else (code_where (nat_le use_limit count) past_limit) (gate_fault local (slice_get c.netlist.gates k))
+
+-- ---- a kept gate, where these gates are used: 3, 9
+
+abbrev pub is_inverse_gate : Option Gate → Bool
+is_inverse_gate None = false
+is_inverse_gate (Some gate) = is_inverse gate.kind
+
+-- it is the number of an inverse gate, and the module uses that gate
+unfoldable pub keep_fault : Circuit → List ℕ → ℕ → Option ℕ
+keep_fault c used k =
+    or_else (code_where (not (is_inverse_gate (slice_get c.netlist.gates k))) unknown_name) (code_where (not (is_among used k)) not_local)
+
+-- ---- an edge, halo or stop line: 2, 10, 3, 9
+
+abbrev pub is_star : Option ℕ → Bool
+is_star None = true
+is_star (Some t) = false
+
+abbrev pub same_cell : Cell → Cell → Bool
+same_cell c d = int_eq c.x d.x && int_eq c.y d.y
+
+-- whether a line has a `*` and is for the cell
+abbrev pub is_starred : Cell → Border → Bool
+is_starred c e = is_star e.time && same_cell c e.cell
+
+-- A time is odd and below the steps, and no line with a `*` of the same list is for the cell. A `*` is good.
+unfoldable pub is_time : ℕ → Bool → Option ℕ → Bool
+is_time steps starred None = true
+is_time steps starred (Some t) = is_odd t && nat_lt t steps && not starred
+
+-- an edge stands in the box's ring, and not on the rim of the rectangle, which is the rectangle's ring
+unfoldable pub is_edge_place : Extent → Box2 → Bool → Border → Bool
+is_edge_place s area starred e = in_ring area e.cell.x e.cell.y && not (in_ring (whole s) e.cell.x e.cell.y) && is_time s.steps starred e.time
+
+-- a halo line stands in the box's halo, and inside the rectangle
+unfoldable pub is_halo_place : Extent → Box2 → Bool → Border → Bool
+is_halo_place s area starred e = in_halo area e.cell.x e.cell.y && in_box (whole s) e.cell.x e.cell.y && is_time s.steps starred e.time
+
+-- a stop stands in the box, at a time up to the last one
+unfoldable pub is_stop_place : Extent → Box2 → StopLine → Bool
+is_stop_place size area s = in_box area s.cell.x s.cell.y && nat_le s.time size.steps
+
+-- a signal is `1`, or a wire of the circuit, 3, that is local, 9
+abbrev pub wire_fault : List ℕ → Option ℕ → Option ℕ
+wire_fault local None = Some unknown_name
+wire_fault local (Some w) = code_where (not (is_among local w)) not_local
+
+unfoldable pub signal_fault : Circuit → List ℕ → Option (List ℕ) → Option ℕ
+signal_fault c local None = None
+signal_fault c local (Some name) = wire_fault local (wire_of c name)
+
+-- the most edge, halo and stop lines of a module
+abbrev pub border_limit : ℕ
+border_limit = 65536
+
+-- so many of these lines come before it; `placed` says whether it may stand at its cell and time
+unfoldable pub border_fault : Circuit → ℕ → List ℕ → Bool → Option (List ℕ) → Option ℕ
+border_fault c count local placed signal =
+    or_else (code_where (nat_le border_limit count) past_limit) (or_else (code_where (not placed) no_place) (signal_fault c local signal))
+
+-- ---- a line after the lines before it
+
+abbrev pub border_count : ModuleLines → ℕ
+border_count m = length (edges m) + length (halos m) + length (stops m)
+
+abbrev pub edge_fault : Setting → ModuleLines → Border → Option ℕ
+edge_fault g m e = border_fault g.circuit (border_count m) (known g.circuit m) (is_edge_place g.size m.area (list_any (is_starred e.cell) (edges m)) e) e.signal
+
+abbrev pub halo_fault : Setting → ModuleLines → Border → Option ℕ
+halo_fault g m e = border_fault g.circuit (border_count m) (known g.circuit m) (is_halo_place g.size m.area (list_any (is_starred e.cell) (halos m)) e) e.signal
+
+abbrev pub stop_fault : Setting → ModuleLines → StopLine → Option ℕ
+stop_fault g m s = border_fault g.circuit (border_count m) (known g.circuit m) (is_stop_place g.size m.area s) (Some s.wire)
+
+abbrev pub words_fault : Setting → ModuleLines → Entry → Option ℕ
+words_fault g m (Module b) = None
+words_fault g m (Cut n) = cut_fault g.circuit (length (cuts m)) (known g.circuit m) n
+words_fault g m (Use k) = use_fault g.circuit (length (gates m)) (known g.circuit m) k
+words_fault g m (Keep k) = keep_fault g.circuit (gates m) k
+words_fault g m (Edge e) = edge_fault g m e
+words_fault g m (Halo e) = halo_fault g m e
+words_fault g m (Stop s) = stop_fault g m s
+
+-- a line of a module after those before it: its order first, 6
+abbrev pub line_fault : Setting → ModuleLines → Entry → Option ℕ
+line_fault g m i = or_else (code_where (not (may_follow m.lines i)) out_of_order) (words_fault g m i)
+
+-- a line that is no `module` line belongs to a module
+abbrev pub inner_fault : Setting → Option ModuleLines → Entry → Option ℕ
+inner_fault g None i = Some out_of_order
+inner_fault g (Some m) i = line_fault g m i
+
+-- the code of the first test that a line fails
+unfoldable pub entry_fault : Setting → List Entry → Entry → Option ℕ
+entry_fault g before (Module b) = module_fault g (modules_of before) (present before) b
+entry_fault g before (Cut n) = inner_fault g (present before) (Cut n)
+entry_fault g before (Use k) = inner_fault g (present before) (Use k)
+entry_fault g before (Keep k) = inner_fault g (present before) (Keep k)
+entry_fault g before (Edge e) = inner_fault g (present before) (Edge e)
+entry_fault g before (Halo e) = inner_fault g (present before) (Halo e)
+entry_fault g before (Stop s) = inner_fault g (present before) (Stop s)
+
+-- ---- the end
+
+-- some cell of the rectangle lies in no box
+abbrev pub leaves_gap : Extent → List Box2 → Bool
+leaves_gap s boxes = not (list_all (λ c. in_boxes boxes c.x c.y) (box_cells (whole s)))
+
+-- the ports of the last module are local, and the boxes leave no gap
+unfoldable pub end_fault : Setting → List Entry → Option ℕ
+end_fault g entries = code_where (is_incomplete g (present entries) || leaves_gap g.size (areas (modules_of entries))) something_missing

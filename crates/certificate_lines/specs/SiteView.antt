@@ -1,0 +1,16 @@
+-- A circuit and a layout with tables of the layout's ports by their cells, and what contracts see of them
+use Rattle.std.specs.Prelude.{◌≡◌}
+use Rattle.pattern.specs.Layout.{HaveOwnCells}
+use Rattle.certificate_lines.specs.Entries.{Setting}
+use Rattle.certificate_lines.specs.Settings.{setting_of}
+use Rattle.certificate_lines.specs.declared.site.Site.TheInside.{Inside}
+
+abbrev pub site_setting : Inside → Setting
+site_setting a = setting_of a.circuit.now a.layout.now
+
+-- each table is of the layout's ports, and no two of these stand at one cell
+pub record IsSite (a : Inside) : Type 0 where
+  pub ins : a.ins ≡ a.layout.now.ins
+  pub outs : a.outs ≡ a.layout.now.outs
+  pub ins_apart : HaveOwnCells a.layout.now.ins
+  pub outs_apart : HaveOwnCells a.layout.now.outs

@@ -1,0 +1,98 @@
+-- What the modules of a certificate are, by its version
+--
+-- In version 1 a module says in halo lines what the cells of its halo carry. Version 2 has no halo lines. There each edge line of
+-- another module for a cell of its halo stands for the halo line that says the same.
+use Rattle.std.specs.Prelude.{◌≡◌, ℕ, ◌==◌, ◌&&◌, Bool, true, false, not, if◌then◌else◌, List, [], ◌∷◌, ◌++◌, map, Option, Some, None, nat_lt}
+use Rattle.std.specs.List.{filter, flat_map, list_any}
+use Rattle.std.specs.declared.cmp.Ordering.{Ordering}
+use Rattle.std.specs.Ordering.{nat_cmp, ordering_then, is_lt}
+use Rattle.module_box.specs.Boxes.{in_halo}
+use Rattle.module_box.specs.Moments.{cell_cmp}
+use Rattle.module_box.specs.declared.boxes.Box2.{Box2}
+use Rattle.circuit.specs.Meaning.{Circuit}
+use Rattle.certificate_lines.specs.Entries.{Setting, ModuleLines, edges, known, stops}
+use Rattle.certificate_lines.specs.Orders.{time_rank}
+use Rattle.certificate_lines.specs.Rules.{entry_fault, is_local}
+use Rattle.certificate_lines.specs.declared.entry.Border.{Border}
+use Rattle.certificate_lines.specs.declared.entry.Entry.{Entry}
+use Rattle.certificate_lines.specs.declared.entry.Entry.TheVariants.{Module, Cut, Use, Keep, Edge, Halo, Stop}
+
+-- ---- the order of edge and of halo lines
+
+-- lines with a `*` first, then by time; then by y and x
+unfoldable pub line_order : Border → Border → Ordering
+line_order d e = ordering_then (nat_cmp (time_rank d.time) (time_rank e.time)) (cell_cmp d.cell e.cell)
+
+-- before the first line that it comes before
+unfoldable pub put_line : Border → List Border → List Border
+put_line d [] = d ∷ []
+put_line d (e ∷ es) = if is_lt (line_order d e) then d ∷ e ∷ es else e ∷ put_line d es
+
+-- the same lines in that order
+unfoldable pub in_order : List Border → List Border
+in_order [] = []
+in_order (d ∷ ds) = put_line d (in_order ds)
+
+-- ---- halos
+
+-- The edge lines of the modules for the cells in the halo of a box. Where no odd time is below the steps, they say nothing.
+unfoldable pub beside : Setting → List ModuleLines → Box2 → List Border
+beside g ms area = if nat_lt 1 g.size.steps then filter (λ e. in_halo area e.cell.x e.cell.y) (flat_map edges ms) else []
+
+-- whether a line is a halo line
+unfoldable pub is_halo : Entry → Bool
+is_halo (Module b) = false
+is_halo (Cut n) = false
+is_halo (Use k) = false
+is_halo (Keep k) = false
+is_halo (Edge e) = false
+is_halo (Halo e) = true
+is_halo (Stop s) = false
+
+-- the lines other than halo lines
+unfoldable pub without_halos : List Entry → List Entry
+without_halos lines = filter (λ i. not (is_halo i)) lines
+
+-- a module without them
+unfoldable pub stripped : ModuleLines → ModuleLines
+stripped m = record m { lines = without_halos m.lines }
+
+-- whether a line stands before the halo lines of its module
+unfoldable pub is_early : Entry → Bool
+is_early (Module b) = true
+is_early (Cut n) = true
+is_early (Use k) = true
+is_early (Keep k) = true
+is_early (Edge e) = true
+is_early (Halo e) = false
+is_early (Stop s) = false
+
+-- a module of version 2 as one of version 1, where these are all modules; its stops come after the halo lines
+unfoldable pub with_halos : Setting → List ModuleLines → ModuleLines → ModuleLines
+with_halos g ms m = record m { lines = filter is_early m.lines ++ map Halo (in_order (beside g ms m.area)) ++ map Stop (stops m) }
+
+-- the version whose certificates have no halo lines
+abbrev pub is_haloless : ℕ → Bool
+is_haloless version = version == 2
+
+-- the modules of a certificate of this version whose lines make these
+unfoldable pub meant : ℕ → Setting → List ModuleLines → List ModuleLines
+meant version g ms = if is_haloless version then map (with_halos g ms) ms else ms
+
+-- ---- the wires of such lines
+
+-- a signal is neither `1` nor a wire that is local
+abbrev pub is_strange : Circuit → List ℕ → Option (List ℕ) → Bool
+is_strange c local None = false
+is_strange c local (Some name) = not (is_local c local name)
+
+-- an edge line for a cell in the halo of another module names a wire that is not local there
+unfoldable pub lacks_wire : Setting → List ModuleLines → Bool
+lacks_wire g ms = list_any (λ m. list_any (λ e. is_strange g.circuit (known g.circuit m) e.signal) (beside g ms m.area)) ms
+
+-- ---- good lines
+
+-- each of these lines is good after those before it
+abbrev pub AreGoodLines : Setting → List Entry → List Entry → Type 0
+AreGoodLines g before [] = Unit {0}
+AreGoodLines g before (i ∷ es) = (entry_fault g before i ≡ None) × AreGoodLines g (before ++ i ∷ []) es

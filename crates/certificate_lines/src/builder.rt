@@ -1,0 +1,348 @@
+//! A certificate that is read, line by line.
+ghost use Rattle.std.specs.Prelude.{◌≡◌, ◌+◌, ◌≤◌, ◌<◌, ◌++◌, ◌∷◌, [], not, map, ◌&&◌, Bool, None, Some, List, ℕ, length, slice_get, OnOk, OnErr, IfOk, IfErr};
+ghost use Rattle.section_text.specs.Adding.{FaultIs};
+ghost use Rattle.pattern.specs.Lines.{size_fault};
+ghost use Rattle.std.specs.List.{flat_map, list_any};
+ghost use Rattle.certificate_lines.specs.Entries.{ModuleLines, counts_of, edge_in, known, modules_of, present};
+ghost use Rattle.certificate_lines.specs.ModuleParts.{AreInBox};
+ghost use Rattle.certificate_lines.specs.Rules.{entry_fault, end_fault, box_fault, module_fault, inner_fault, words_fault, is_incomplete, is_local, leaves_gap, box_cells};
+ghost use Rattle.module_box.specs.Boxes.{in_box};
+ghost use Rattle.certificate_lines.specs.BuilderView.{BuilderState, IsInner, IsSmall, lacks_edge};
+ghost use Rattle.certificate_lines.specs.Versions.{lacks_wire};
+ghost use Rattle.certificate_lines.specs.declared.entry.Entry.TheVariants.{Module};
+
+use crate::counts::{count_in_last, last_counts, pop_module, push_entry, push_module};
+use crate::entry::{Counts, Entry};
+use crate::known::{learn_line, make_room_for_wires, put_away};
+use crate::lacks::has_unknown;
+use crate::lines::inner_lines;
+use crate::order::does_follow;
+use crate::rules::{border_code, cut_code, is_bad_place, is_bad_side, is_local_name, keep_code, may_be_edge, may_be_halo, may_be_stop, use_code};
+use crate::site::Site;
+use crate::stars::{has_star, make_room_for_stars, note_stars};
+use crate::tiles::{cells_of_box, is_full};
+use bbm_rule::{Cell, Grid};
+use indexmap::IndexSet;
+use module_box::Box2;
+use pattern::{is_any_live, make_live};
+use section_text::{LineFault, Name};
+use std::alloc::{AllocError, Global};
+use std::marker::Model;
+
+// The most modules.
+const MODULES: usize = 1024;
+
+/// What a certificate is for, the lines so far, and what they say of the modules and of the last one.
+#[derive(Drop)]
+pub struct Builder<'a> {
+    site: Site<'a>,
+    entries: Vec<Entry>,
+    modules: Vec<Counts>,
+    // the cells of all boxes
+    covered: Grid,
+    // the wires that are local in each module before the last, behind none
+    earlier: Vec<IndexSet<u16>>,
+    // of the last module: its last line, the names of its ports, its local wires, and its cells with a `*`
+    last: Option<Entry>,
+    names: Vec<Name>,
+    known: IndexSet<u16>,
+    edges: IndexSet<Cell>,
+    halos: IndexSet<Cell>,
+}
+
+impl<'a> Model for Builder<'a> {
+    ghost use Rattle.certificate_lines.specs.BuilderView.{BuilderState};
+
+    ghost Value = { BuilderState };
+
+    ghost use Rattle.certificate_lines.specs.BuilderView.{builder_state, IsBuilder};
+
+    ghost view = { builder_state };
+
+    ghost invariant = { IsBuilder };
+}
+
+// Whether some of the names is not that of a local wire.
+fn lacks_some(site: &Site, known: &IndexSet<u16>, names: &[Name]) -> bool
+    ensures { result ≡ list_any (λ n. not (is_local site.now.circuit known.now.keys n)) names.now }
+{
+    names.iter().any(|name| !is_local_name(site, known, name))
+}
+
+impl<'a> Builder<'a> {
+    /// No lines.
+    pub fn new(alloc: Global, site: Site<'a>) -> Result<Builder<'a>, AllocError>
+        ensures { IfOk result (λ b. b ≡ record { setting = site.entry; entries = [] }) }
+    {
+        let size = site.size();
+        let covered = Grid::new(alloc, size.w, size.h)?;
+        Ok(Builder {
+            site,
+            entries: Vec::new(alloc),
+            modules: Vec::new(alloc),
+            covered,
+            earlier: Vec::new(alloc),
+            last: None,
+            names: Vec::new(alloc),
+            known: IndexSet::new(alloc),
+            edges: IndexSet::new(alloc),
+            halos: IndexSet::new(alloc),
+        })
+    }
+
+    // Whether a port in the box of the last module has a wire that is not local.
+    fn lacks_port(&self) -> bool
+        ensures { result ≡ is_incomplete self.now.setting (present self.now.entries) }
+    {
+        lacks_some(&self.site, &self.known, &self.names)
+    }
+
+    // The code of the tests that come after that of the order, where these are the counts of the last module.
+    fn words_code(&self, counts: Counts, entry: &Entry) -> Option<u8>
+        requires { IsSmall counts }
+        ensures { (m : ModuleLines) → present self.now.entries ≡ Some m → counts ≡ counts_of m → result ≡ words_fault self.now.setting m entry.now }
+    {
+        let size = self.site.size();
+        let borders = counts.edges + counts.halos + counts.stops;
+        match entry {
+            Entry::Module(_) => None,
+            Entry::Cut(name) => cut_code(&self.site, counts.cuts, &self.known, name),
+            Entry::Use(number) => use_code(&self.site, counts.gates, &self.known, *number),
+            Entry::Keep(number) => keep_code(&self.site, self.entries.as_slice(), *number),
+            Entry::Edge(border) => {
+                let starred = has_star(&self.edges, border.cell);
+                let placed = may_be_edge(size, counts.area, starred, border);
+                border_code(&self.site, borders, &self.known, placed, border.signal)
+            }
+            Entry::Halo(border) => {
+                let starred = has_star(&self.halos, border.cell);
+                let placed = may_be_halo(size, counts.area, starred, border);
+                border_code(&self.site, borders, &self.known, placed, border.signal)
+            }
+            Entry::Stop(stop) => {
+                let placed = may_be_stop(size, counts.area, stop);
+                border_code(&self.site, borders, &self.known, placed, Some(stop.wire))
+            }
+        }
+    }
+
+    // The code of a line of a module.
+    fn inner_code(&self, entry: &Entry) -> Option<u8>
+        ensures { result ≡ inner_fault self.now.setting (present self.now.entries) entry.now }
+    {
+        let Some(counts) = last_counts(&self.modules) else {
+            return Some(6);
+        };
+        if !does_follow(self.last, entry) {
+            return Some(6);
+        }
+        self.words_code(counts, entry)
+    }
+}
+
+impl<'a> Builder<'a> {
+    // Adds a line of a module, or answers the code of the first test that it fails.
+    fn add_inner(&mut self, entry: Entry) -> Result<(), LineFault>
+        requires { IsInner entry }
+        ensures ok { OnOk result ((inner_fault self.old.setting (present self.old.entries) entry ≡ None) × (self.new ≡ record self.old { entries = self.old.entries ++ entry ∷ [] })) }
+        ensures fault { IfErr result (λ e. FaultIs e (inner_fault self.old.setting (present self.old.entries) entry)) }
+    {
+        if let Some(code) = self.inner_code(&entry) {
+            return Err(LineFault::Code(code));
+        }
+        if make_room_for_wires(&mut self.known, &self.site, &entry).is_err() {
+            return Err(LineFault::Memory);
+        }
+        if make_room_for_stars(&mut self.edges, &mut self.halos, &entry).is_err() {
+            return Err(LineFault::Memory);
+        }
+        push_entry(&mut self.entries, entry)?;
+        learn_line(&mut self.known, &self.site, &entry);
+        note_stars(&mut self.edges, &mut self.halos, &entry);
+        count_in_last(&mut self.modules, &entry);
+        self.last = Some(entry);
+        Ok(())
+    }
+}
+
+impl<'a> Builder<'a> {
+    // The names of the ports in a box of these cells.
+    fn names_in(&self, alloc: Global, area: Box2, cells: &[Cell]) -> Result<Vec<Name>, AllocError>
+        requires { cells.now ≡ box_cells area }
+        ensures { IfOk result (λ names. (f : List ℕ → Bool) → list_any f names.items ≡ list_any (λ p. in_box area p.cell.x p.cell.y && f p.name) self.now.setting.ports) }
+    {
+        let mut names = Vec::new(alloc);
+        self.site.push_ports(&mut names, area, cells)?;
+        Ok(names)
+    }
+
+    // How many modules there are.
+    fn count(&self) -> usize
+        ensures { result ≡ length (modules_of self.now.entries) }
+    {
+        self.modules.len()
+    }
+
+    // The code of the tests of a box by itself.
+    #[tactic(auto, unfolding(crate::specs::Rules::box_fault))]
+    fn box_code(&self, area: Box2) -> Option<u8>
+        ensures code { result ≡ box_fault self.now.setting (length (modules_of self.now.entries)) (present self.now.entries) area }
+        ensures right { result ≡ None → area.x + area.w ≤ 512 }
+        ensures bottom { result ≡ None → area.y + area.h ≤ 512 }
+    {
+        let size = self.site.size();
+        if self.lacks_port() {
+            return Some(11);
+        }
+        let bad_width = is_bad_side(area.w);
+        let bad_height = is_bad_side(area.h);
+        if bad_width | bad_height | (self.count() >= MODULES) {
+            return Some(2);
+        }
+        if is_bad_place(size, area) {
+            return Some(8);
+        }
+        None
+    }
+
+    // The cells of a box that may stand, by itself and among the earlier ones.
+    fn free_cells(&self, alloc: Global, area: Box2) -> Result<Vec<Cell>, LineFault>
+        ensures cells { IfOk result (λ cells. cells.items ≡ box_cells area) }
+        ensures alone { OnOk result (box_fault self.now.setting (length (modules_of self.now.entries)) (present self.now.entries) area ≡ None) }
+        ensures free { OnOk result (module_fault self.now.setting (modules_of self.now.entries) (present self.now.entries) area ≡ None) }
+        ensures fault { IfErr result (λ e. FaultIs e (module_fault self.now.setting (modules_of self.now.entries) (present self.now.entries) area)) }
+    {
+        if let Some(code) = self.box_code(area) {
+            return Err(LineFault::Code(code));
+        }
+        let Ok(cells) = cells_of_box(alloc, area) else {
+            return Err(LineFault::Memory);
+        };
+        if is_any_live(&self.covered, &cells) {
+            return Err(LineFault::Code(8));
+        }
+        Ok(cells)
+    }
+
+    fn add_module(&mut self, alloc: Global, area: Box2) -> Result<(), LineFault>
+        ensures ok { OnOk result ((module_fault self.old.setting (modules_of self.old.entries) (present self.old.entries) area ≡ None) × (self.new ≡ record self.old { entries = self.old.entries ++ Module area ∷ [] })) }
+        ensures fault { IfErr result (λ e. FaultIs e (module_fault self.old.setting (modules_of self.old.entries) (present self.old.entries) area)) }
+    {
+        let cells = self.free_cells(alloc, area)?;
+        let Ok(names) = self.names_in(alloc, area, &cells) else {
+            return Err(LineFault::Memory);
+        };
+        push_module(&mut self.entries, &mut self.modules, area)?;
+        let Ok(()) = put_away(alloc, &mut self.earlier, &mut self.known) else {
+            pop_module(&mut self.entries, &mut self.modules);
+            return Err(LineFault::Memory);
+        };
+        make_live(&mut self.covered, &cells);
+        self.last = None;
+        self.names = names;
+        self.edges.truncate(0);
+        self.halos.truncate(0);
+        Ok(())
+    }
+
+    /// Adds a line, or answers the code of the first test that it fails.
+    #[tactic(auto, unfolding(crate::specs::Rules::entry_fault))]
+    pub fn add(&mut self, alloc: Global, entry: Entry) -> Result<(), LineFault>
+        ensures ok { OnOk result ((entry_fault self.old.setting self.old.entries entry ≡ None) × (self.new ≡ record self.old { entries = self.old.entries ++ entry ∷ [] })) }
+        ensures fault { IfErr result (λ e. FaultIs e (entry_fault self.old.setting self.old.entries entry)) }
+    {
+        match entry {
+            Entry::Module(area) => self.add_module(alloc, area),
+            _ => self.add_inner(entry),
+        }
+    }
+
+    /// Code 11 where a port of the last module has a wire that is not local, or the boxes leave a gap.
+    pub fn missing(&self) -> Option<u8>
+        ensures { result ≡ end_fault self.now.setting self.now.entries }
+    {
+        let size = self.site.size();
+        let lacks = self.lacks_port();
+        let full = is_full(&self.covered, size.w, size.h);
+        if lacks | !full { Some(11) } else { None }
+    }
+
+    /// The lines, and the counts of the modules.
+    pub fn into_parts(self) -> (Vec<Entry>, Vec<Counts>)
+        ensures entries { result.0.items ≡ self.entry.entries }
+        ensures counts { result.1.items ≡ map counts_of (modules_of self.entry.entries) }
+    {
+        let Builder {
+            site: _,
+            entries,
+            modules,
+            covered: _,
+            earlier: _,
+            last: _,
+            names: _,
+            known: _,
+            edges: _,
+            halos: _,
+        } = self;
+        (entries, modules)
+    }
+}
+
+impl<'a> Builder<'a> {
+    // The wires that are local in the module of this number.
+    fn wires_of(&self, number: usize) -> &IndexSet<u16>
+        requires { number < length (modules_of self.now.entries) }
+        ensures { slice_get (map (known self.now.setting.circuit) (modules_of self.now.entries)) number ≡ Some result.now.keys }
+    {
+        let last = self.earlier.len();
+        if number + 1 < last {
+            &self.earlier[number + 1]
+        } else {
+            &self.known
+        }
+    }
+
+    // Whether one of the edge lines of a module names a wire that is not local in the module of this number, which is beside it.
+    fn lacks_wire_in(&self, number: usize, area: Box2, lines: &[Entry]) -> bool
+        requires number { number < length (modules_of self.now.entries) }
+        requires inside { AreInBox area (flat_map edge_in lines.now) }
+        ensures { (m : ModuleLines) → slice_get (modules_of self.now.entries) number ≡ Some m → result ≡ lacks_edge self.now.setting.circuit (flat_map edge_in lines.now) m }
+    {
+        let own = self.modules[number].area;
+        if !own.is_near(area) {
+            return false;
+        }
+        has_unknown(&self.site, self.wires_of(number), own, lines)
+    }
+
+    // The same of some module.
+    fn lacks_some_in(&self, area: Box2, lines: &[Entry]) -> bool
+        requires inside { AreInBox area (flat_map edge_in lines.now) }
+        ensures { result ≡ list_any (lacks_edge self.now.setting.circuit (flat_map edge_in lines.now)) (modules_of self.now.entries) }
+    {
+        'modules: for number in 0..self.modules.len() {
+            if self.lacks_wire_in(number, area, lines) {
+                return true;
+            }
+        }
+        false
+    }
+
+    /// Whether some module lacks the wire of an edge line beside it. It takes no memory.
+    pub fn lacks_wire(&self) -> bool
+        ensures { result ≡ lacks_wire self.now.setting (modules_of self.now.entries) }
+    {
+        let size = self.site.size();
+        if size.steps <= 1 {
+            return false;
+        }
+        'lines: for (place, entry) in self.entries.iter().enumerate() {
+            if let Entry::Module(area) = entry {
+                if self.lacks_some_in(*area, inner_lines(&self.entries[place + 1..])) {
+                    return true;
+                }
+            }
+        }
+        false
+    }
+}

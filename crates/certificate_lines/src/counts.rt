@@ -1,0 +1,117 @@
+//! How many lines of each kind a module has, line by line.
+ghost use Rattle.std.specs.Prelude.{◌≡◌, ◌+◌, ◌-◌, ◌<◌, ◌≤◌, ◌++◌, ◌∷◌, [], length, take, Some, OnOk, OnErr, IfErr};
+ghost use Rattle.section_text.specs.declared.section.LineFault.TheVariants.{Memory};
+ghost use Rattle.certificate_lines.specs.Entries.{change_last, last_of};
+ghost use Rattle.certificate_lines.specs.BuilderView.{counted, IsSmall};
+ghost use Rattle.certificate_lines.specs.declared.entry.Counts.{Counts};
+ghost use Rattle.certificate_lines.specs.declared.entry.Entry.TheVariants.{Module};
+
+use crate::entry::{Border, Counts, Entry, StopLine};
+use module_box::Box2;
+use section_text::{LineFault, Name};
+
+// One more line of a module.
+#[tactic(auto, unfolding(crate::specs::BuilderView::counted))]
+fn count_line(counts: Counts, entry: &Entry) -> Counts
+    requires { IsSmall counts }
+    ensures { result ≡ counted entry.now counts }
+{
+    let mut counts = counts;
+    match entry {
+        Entry::Module(_) => {}
+        Entry::Cut(_) => counts.cuts += 1,
+        Entry::Use(_) => counts.gates += 1,
+        Entry::Keep(_) => {}
+        Entry::Edge(_) => counts.edges += 1,
+        Entry::Halo(_) => counts.halos += 1,
+        Entry::Stop(_) => counts.stops += 1,
+    }
+    counts
+}
+
+/// The counts of the last module.
+pub(crate) fn last_counts(modules: &[Counts]) -> Option<Counts>
+    ensures { result ≡ last_of modules.now }
+{
+    modules.last().copied()
+}
+
+/// Counts one more line of the last module.
+pub(crate) fn count_in_last(modules: &mut Vec<Counts>, entry: &Entry)
+    requires { (k : Counts) → last_of modules.old.items ≡ Some k → IsSmall k }
+    ensures { modules.new.items ≡ change_last (counted entry.now) modules.old.items }
+{
+    if modules.is_empty() {
+        return;
+    }
+    let at = modules.len() - 1;
+    modules[at] = count_line(modules[at], entry);
+}
+
+// These three name the types inside an entry, which the borrow checker wants to see where an entry is moved.
+fn border_of(entry: &Entry) -> Option<Border> {
+    match entry {
+        Entry::Edge(border) => Some(*border),
+        Entry::Halo(border) => Some(*border),
+        _ => None,
+    }
+}
+
+fn stop_of(entry: &Entry) -> Option<StopLine> {
+    match entry {
+        Entry::Stop(stop) => Some(*stop),
+        _ => None,
+    }
+}
+
+fn signal_of(border: Option<Border>) -> Option<Name> {
+    border?.signal
+}
+
+/// One more line at the end.
+pub fn push_entry(entries: &mut Vec<Entry>, entry: Entry) -> Result<(), LineFault>
+    ensures ok { OnOk result (entries.new.items ≡ entries.old.items ++ entry ∷ []) }
+    ensures err { OnErr result (entries.new.items ≡ entries.old.items) }
+    ensures memory { IfErr result (λ e. e ≡ Memory) }
+{
+    let border = border_of(&entry);
+    let _signal = signal_of(border);
+    let _stop = stop_of(&entry);
+    match entries.push(entry) {
+        Ok(()) => Ok(()),
+        Err(_) => Err(LineFault::Memory),
+    }
+}
+
+/// Adds a `module` line, and its counts, or leaves both as they are.
+pub(crate) fn push_module(
+    entries: &mut Vec<Entry>,
+    modules: &mut Vec<Counts>,
+    area: Box2,
+) -> Result<(), LineFault>
+    ensures entries { OnOk result (entries.new.items ≡ entries.old.items ++ Module area ∷ []) }
+    ensures modules { OnOk result (modules.new.items ≡ modules.old.items ++ (record { area = area; cuts = 0; gates = 0; edges = 0; halos = 0; stops = 0 }) ∷ []) }
+    ensures same { OnErr result ((entries.new.items ≡ entries.old.items) × (modules.new.items ≡ modules.old.items)) }
+    ensures memory { IfErr result (λ e. e ≡ Memory) }
+{
+    let before = modules.len();
+    let Ok(()) = modules.push(Counts::new(area)) else {
+        return Err(LineFault::Memory);
+    };
+    if let Err(fault) = push_entry(entries, Entry::Module(area)) {
+        modules.truncate(before);
+        return Err(fault);
+    }
+    Ok(())
+}
+
+/// Takes the last line, and the last counts, away.
+pub(crate) fn pop_module(entries: &mut Vec<Entry>, modules: &mut Vec<Counts>)
+    requires lines { 0 < length entries.old.items }
+    requires modules { 0 < length modules.old.items }
+    ensures entries { entries.new.items ≡ take (length entries.old.items - 1) entries.old.items }
+    ensures modules { modules.new.items ≡ take (length modules.old.items - 1) modules.old.items }
+{
+    entries.truncate(entries.len() - 1);
+    modules.truncate(modules.len() - 1);
+}

@@ -1,0 +1,135 @@
+//! The wires that are local in a module, by their numbers in the circuit.
+ghost use Rattle.std.specs.Prelude.{◌≡◌, ◌≤◌, ◌<◌, ◌+◌, ◌++◌, ◌∷◌, [], length, map, true, false, OnErr, OnOk};
+ghost use Rattle.std.specs.List.{list_all};
+ghost use Rattle.indexmap.specs.IndexSet.{spare};
+ghost use Rattle.module_box.specs.Locals.{is_among};
+ghost use Rattle.certificate_lines.specs.BuilderView.{wires_in};
+ghost use Rattle.certificate_lines.specs.Rules.{are_new};
+
+use crate::entry::Entry;
+use crate::site::Site;
+use circuit::WireNo;
+use indexmap::IndexSet;
+use std::alloc::{AllocError, Global};
+use std::mem::swap;
+
+/// Whether the wire is local.
+#[tactic(auto, using(crate::proofs::KnownLemmas::among))]
+pub(crate) fn knows(known: &IndexSet<u16>, wire: u16) -> bool
+    ensures { result ≡ is_among known.now.keys wire }
+{
+    known.contains(&wire)
+}
+
+/// Whether all these wires are local.
+pub(crate) fn knows_all(known: &IndexSet<u16>, wires: &[WireNo]) -> bool
+    ensures { result ≡ list_all (is_among known.now.keys) wires.now }
+{
+    for wire in wires {
+        if !knows(known, wire.number()) {
+            return false;
+        }
+    }
+    true
+}
+
+fn stands_before(wires: &[WireNo], wire: WireNo) -> bool
+    ensures { result ≡ is_among wires.now wire }
+{
+    wires.iter().any(|w| w.number() == wire.number())
+}
+
+/// Whether none of these wires is local, and none stands twice.
+pub(crate) fn are_all_new(known: &IndexSet<u16>, wires: &[WireNo]) -> bool
+    ensures { result ≡ are_new known.now.keys wires.now }
+{
+    for at in 0..wires.len() {
+        let wire = wires[at];
+        let is_known = knows(known, wire.number());
+        let stands_twice = stands_before(&wires[..at], wire);
+        if is_known | stands_twice {
+            return false;
+        }
+    }
+    true
+}
+
+// Makes a wire local that is not, where there is room.
+fn learn(known: &mut IndexSet<u16>, wire: u16)
+    requires room { 0 < spare known.old }
+    requires new { is_among known.old.keys wire ≡ false }
+    ensures keys { known.new.keys ≡ known.old.keys ++ wire ∷ [] }
+    ensures room { spare known.old ≤ spare known.new + 1 }
+{
+    match known.insert(wire) {
+        Ok(_) => {}
+        Err(_) => unreachable!(),
+    }
+}
+
+// Makes wires local that are not, where there is room for them.
+fn learn_all(known: &mut IndexSet<u16>, wires: &[WireNo])
+    requires room { length wires.now ≤ spare known.old }
+    requires new { are_new known.old.keys wires.now ≡ true }
+    ensures { known.new.keys ≡ known.old.keys ++ wires.now }
+{
+    for wire in wires {
+        learn(known, wire.number());
+    }
+}
+
+/// Makes room for the wires that a line of a module makes local.
+pub(crate) fn make_room_for_wires(
+    known: &mut IndexSet<u16>,
+    site: &Site,
+    entry: &Entry,
+) -> Result<(), AllocError>
+    ensures keys { known.new.keys ≡ known.old.keys }
+    ensures room { OnOk result (length (wires_in site.now.circuit entry.now) ≤ spare known.new) }
+{
+    match entry {
+        Entry::Cut(_) => known.reserve(1),
+        Entry::Use(number) => match site.gate(*number) {
+            Some(gate) => known.reserve(gate.outs().len()),
+            None => Ok(()),
+        },
+        _ => Ok(()),
+    }
+}
+
+/// Makes these wires local, which are not, where there is room for them.
+pub(crate) fn learn_line(known: &mut IndexSet<u16>, site: &Site, entry: &Entry)
+    requires room { length (wires_in site.now.circuit entry.now) ≤ spare known.old }
+    requires new { are_new known.old.keys (wires_in site.now.circuit entry.now) ≡ true }
+    ensures { known.new.keys ≡ known.old.keys ++ wires_in site.now.circuit entry.now }
+{
+    match entry {
+        Entry::Cut(name) => {
+            if let Some(wire) = site.wire(name) {
+                learn(known, wire);
+            }
+        }
+        Entry::Use(number) => {
+            if let Some(gate) = site.gate(*number) {
+                learn_all(known, gate.outs());
+            }
+        }
+        _ => {}
+    }
+}
+
+/// Puts the local wires of a module that has ended behind those of the earlier ones. The next module has none.
+pub(crate) fn put_away(
+    alloc: Global,
+    earlier: &mut Vec<IndexSet<u16>>,
+    known: &mut IndexSet<u16>,
+) -> Result<(), AllocError>
+    ensures earlier { OnOk result (map (λ s. s.keys) earlier.new.items ≡ map (λ s. s.keys) earlier.old.items ++ known.old.keys ∷ []) }
+    ensures known { OnOk result (known.new.keys ≡ []) }
+    ensures same { OnErr result ((earlier.new.items ≡ earlier.old.items) × (known.new ≡ known.old)) }
+{
+    earlier.push(IndexSet::new(alloc))?;
+    let last = earlier.len() - 1;
+    swap(known, &mut earlier[last]);
+    Ok(())
+}

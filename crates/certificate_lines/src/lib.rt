@@ -1,0 +1,29 @@
+//! The lines of a certificate: their forms, and the rules by which a line is good after those before it.
+//!
+//! `specs/Entries.antt` has the lines and the modules that they make, `specs/Rules.antt` which line is good after which, and
+//! `specs/Modules.antt` what is known of the modules of good lines.
+#![tactic(auto)]
+
+mod builder;
+mod counts;
+mod entry;
+mod form;
+mod known;
+mod lacks;
+mod lines;
+mod order;
+mod ports;
+mod rules;
+mod site;
+mod stars;
+mod tiles;
+
+pub use builder::Builder;
+pub use counts::push_entry;
+pub use entry::{Border, Counts, Entry, StopLine};
+pub use form::line_form;
+pub use lines::{cut_list, inner_lines, is_module, kept_places, used_gates};
+pub use order::compare_borders;
+pub use ports::{PortTable, port_tables};
+pub use site::Site;
+pub use tiles::{cells_of_box, is_live};

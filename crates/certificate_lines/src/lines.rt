@@ -1,0 +1,163 @@
+//! The lines of one module, by their kinds.
+ghost use Rattle.std.specs.Prelude.{◌≡◌, ◌<◌, ◌≤◌, ◌^◌, ◌++◌, length, map, slice_index, IfOk, OnOk, IsTrue, Some};
+ghost use Rattle.std.specs.List.{All, flat_map};
+ghost use Rattle.std.specs.Option.{option_to_list};
+ghost use Rattle.circuit.specs.Bridge.{circuit_of};
+ghost use Rattle.circuit.specs.Meaning.{wire_of};
+ghost use Rattle.module_box.specs.Locals.{is_among};
+ghost use Rattle.certificate_lines.specs.Entries.{ModuleLines, cut_in, use_in, keep_in, gates, present};
+ghost use Rattle.certificate_lines.specs.ModuleParts.{inner, is_module};
+
+use crate::entry::Entry;
+use circuit::{Circuit, GateNo, WireNo};
+use std::alloc::{AllocError, Global};
+
+/// Whether the line begins a module.
+pub fn is_module(entry: &Entry) -> bool
+    ensures { result ≡ is_module entry.now }
+{
+    match entry {
+        Entry::Module(_) => true,
+        _ => false,
+    }
+}
+
+/// The lines before the next `module` line.
+pub fn inner_lines(entries: &[Entry]) -> &[Entry]
+    ensures { result.now ≡ inner entries.now }
+{
+    for (place, entry) in entries.iter().enumerate() {
+        if is_module(entry) {
+            return &entries[..place];
+        }
+    }
+    entries
+}
+
+// Whether the line uses the gate of this number.
+fn uses(entry: &Entry, number: u32) -> bool
+    ensures { result ≡ is_among (use_in entry.now) number }
+{
+    match entry {
+        Entry::Use(gate) => *gate == number,
+        _ => false,
+    }
+}
+
+/// Whether the last module of the lines uses the gate of this number. It looks back as far as that module's `module` line.
+pub(crate) fn is_used(entries: &[Entry], number: u32) -> bool
+    ensures { (m : ModuleLines) → present entries.now ≡ Some m → result ≡ is_among (gates m) number }
+{
+    let count = entries.len();
+    for back in 0..count {
+        let entry = &entries[count - 1 - back];
+        if is_module(entry) {
+            return false;
+        }
+        if uses(entry, number) {
+            return true;
+        }
+    }
+    false
+}
+
+fn push_cut(wires: &mut Vec<WireNo>, circuit: &Circuit, line: &Entry) -> Result<(), AllocError>
+    ensures { OnOk result (wires.new.items ≡ wires.old.items ++ flat_map (λ n. option_to_list (wire_of (circuit_of circuit.now) n)) (cut_in line.now)) }
+{
+    if let Entry::Cut(name) = line {
+        if let Some(wire) = circuit.wire(name) {
+            wires.push(wire)?;
+        }
+    }
+    Ok(())
+}
+
+fn push_cuts(wires: &mut Vec<WireNo>, circuit: &Circuit, lines: &[Entry]) -> Result<(), AllocError>
+    ensures { OnOk result (wires.new.items ≡ wires.old.items ++ flat_map (λ n. option_to_list (wire_of (circuit_of circuit.now) n)) (flat_map cut_in lines.now)) }
+{
+    for line in lines {
+        push_cut(wires, circuit, line)?;
+    }
+    Ok(())
+}
+
+/// The wires that the lines cut.
+pub fn cut_list(
+    alloc: Global,
+    circuit: &Circuit,
+    lines: &[Entry],
+) -> Result<Vec<WireNo>, AllocError>
+    ensures { IfOk result (λ wires. wires.items ≡ flat_map (λ n. option_to_list (wire_of (circuit_of circuit.now) n)) (flat_map cut_in lines.now)) }
+{
+    let mut wires = Vec::new(alloc);
+    push_cuts(&mut wires, circuit, lines)?;
+    Ok(wires)
+}
+
+fn push_use(gates: &mut Vec<GateNo>, line: &Entry) -> Result<(), AllocError>
+    requires { All (λ k. k < 2 ^ 16) (use_in line.now) }
+    ensures { OnOk result (gates.new.items ≡ gates.old.items ++ use_in line.now) }
+{
+    if let Entry::Use(number) = line {
+        gates.push(GateNo::of(*number as u16))?;
+    }
+    Ok(())
+}
+
+/// The gates that the lines use.
+pub fn used_gates(alloc: Global, lines: &[Entry]) -> Result<Vec<GateNo>, AllocError>
+    requires { All (λ k. k < 2 ^ 16) (flat_map use_in lines.now) }
+    ensures { IfOk result (λ gates. gates.items ≡ flat_map use_in lines.now) }
+{
+    let mut gates = Vec::new(alloc);
+    for line in lines {
+        push_use(&mut gates, line)?;
+    }
+    Ok(gates)
+}
+
+// The place of a gate among the used ones.
+fn place_of(gates: &[GateNo], number: u32) -> u16
+    requires few { length gates.now ≤ 64 }
+    requires used { IsTrue (is_among gates.now number) }
+    ensures within { result < length gates.now }
+    ensures gate { slice_index gates.now result ≡ number }
+{
+    for place in 0..gates.len() {
+        if u32::from(gates[place].number()) == number {
+            return place as u16;
+        }
+    }
+    unreachable!()
+}
+
+fn push_keep(places: &mut Vec<u16>, gates: &[GateNo], line: &Entry) -> Result<(), AllocError>
+    requires few { length gates.now ≤ 64 }
+    requires used { All (λ k. IsTrue (is_among gates.now k)) (keep_in line.now) }
+    requires within { All (λ place. place < length gates.now) places.old.items }
+    ensures gates { OnOk result (map (slice_index gates.now) places.new.items ≡ map (slice_index gates.now) places.old.items ++ keep_in line.now) }
+    ensures within { OnOk result (All (λ place. place < length gates.now) places.new.items) }
+{
+    if let Entry::Keep(number) = line {
+        places.push(place_of(gates, *number))?;
+    }
+    Ok(())
+}
+
+/// The gates that the lines keep, by their places among the used ones.
+pub fn kept_places(
+    alloc: Global,
+    gates: &[GateNo],
+    lines: &[Entry],
+) -> Result<Vec<u16>, AllocError>
+    requires few { length gates.now ≤ 64 }
+    requires used { All (λ k. IsTrue (is_among gates.now k)) (flat_map keep_in lines.now) }
+    ensures gates { IfOk result (λ places. map (slice_index gates.now) places.items ≡ flat_map keep_in lines.now) }
+    ensures within { IfOk result (λ places. All (λ place. place < length gates.now) places.items) }
+{
+    let mut places = Vec::new(alloc);
+    for line in lines {
+        push_keep(&mut places, gates, line)?;
+    }
+    Ok(places)
+}

@@ -1,0 +1,184 @@
+//! The tests of a line of a module, after its order.
+ghost use Rattle.std.specs.Prelude.{◌≡◌, ◌+◌, ◌≤◌, Some};
+ghost use Rattle.std.specs.List.{list_all};
+ghost use Rattle.circuit.specs.Meaning.{wire_of};
+ghost use Rattle.circuit.specs.Wiring.{gate_of};
+ghost use Rattle.module_box.specs.Locals.{is_among};
+ghost use Rattle.certificate_lines.specs.Entries.{ModuleLines, gates, present};
+ghost use Rattle.certificate_lines.specs.Rules.{is_wrong_side, is_misplaced, is_odd, whole, is_local, is_local_wire, are_new, cut_fault, cut_wire_fault, gate_fault, use_fault, keep_fault, is_time, is_edge_place, is_halo_place, is_stop_place, signal_fault, wire_fault, border_fault};
+
+use crate::entry::{Border, Entry, StopLine};
+use crate::known::{are_all_new, knows, knows_all};
+use crate::lines::is_used;
+use crate::site::Site;
+use crate::tiles::whole_of;
+use indexmap::IndexSet;
+use module_box::Box2;
+use pattern::Extent;
+use section_text::Name;
+
+// The most cuts of a module, the most gates that it uses, and the most edge, halo and stop lines.
+const CUTS: usize = 12;
+
+const GATES: usize = 64;
+
+const BORDERS: usize = 65_536;
+
+fn is_odd_number(n: u32) -> bool
+    ensures { result ≡ is_odd n }
+{
+    n % 2 == 1
+}
+
+/// Whether a box's side is odd, too small or too large.
+pub(crate) fn is_bad_side(n: u32) -> bool
+    ensures { result ≡ is_wrong_side n }
+{
+    is_odd_number(n) || n < 2 || n > 64
+}
+
+/// Whether a box has an odd corner, or a cell outside the rectangle.
+pub(crate) fn is_bad_place(size: Extent, area: Box2) -> bool
+    ensures { result ≡ is_misplaced size area }
+{
+    let right = u64::from(area.x) + u64::from(area.w);
+    let bottom = u64::from(area.y) + u64::from(area.h);
+    is_odd_number(area.x)
+        || is_odd_number(area.y)
+        || right > u64::from(size.w)
+        || bottom > u64::from(size.h)
+}
+
+/// Whether the name is that of a wire that is local.
+pub(crate) fn is_local_name(site: &Site, known: &IndexSet<u16>, name: &Name) -> bool
+    ensures { result ≡ is_local site.now.circuit known.now.keys name.now }
+{
+    match site.wire(name) {
+        Some(wire) => knows(known, wire),
+        None => false,
+    }
+}
+
+/// The code of a cut, where so many wires are cut already.
+#[tactic(auto, unfolding(crate::specs::Rules::cut_fault))]
+pub(crate) fn cut_code(site: &Site, count: usize, known: &IndexSet<u16>, name: &Name) -> Option<u8>
+    ensures { result ≡ cut_fault site.now.circuit count known.now.keys name.now }
+{
+    if count >= CUTS {
+        return Some(2);
+    }
+    match site.wire(name) {
+        None => Some(3),
+        Some(wire) if knows(known, wire) => Some(4),
+        Some(_) => None,
+    }
+}
+
+/// The code of a used gate, where so many gates are used already.
+#[tactic(auto, unfolding(crate::specs::Rules::use_fault, crate::specs::Rules::gate_fault))]
+pub(crate) fn use_code(site: &Site, count: usize, known: &IndexSet<u16>, number: u32) -> Option<u8>
+    ensures { result ≡ use_fault site.now.circuit count known.now.keys number }
+{
+    if count >= GATES {
+        return Some(2);
+    }
+    let Some(gate) = site.gate(number) else {
+        return Some(3);
+    };
+    if !knows_all(known, gate.ins()) {
+        return Some(9);
+    }
+    if !are_all_new(known, gate.outs()) {
+        return Some(4);
+    }
+    None
+}
+
+/// The code of a kept gate, where these are the lines before it.
+#[tactic(auto, unfolding(crate::specs::Rules::keep_fault))]
+pub(crate) fn keep_code(site: &Site, entries: &[Entry], number: u32) -> Option<u8>
+    ensures { (m : ModuleLines) → present entries.now ≡ Some m → result ≡ keep_fault site.now.circuit (gates m) number }
+{
+    if !site.is_inverse(number) {
+        return Some(3);
+    }
+    if !is_used(entries, number) {
+        return Some(9);
+    }
+    None
+}
+
+#[tactic(auto, unfolding(crate::specs::Rules::signal_fault))]
+fn signal_code(site: &Site, known: &IndexSet<u16>, signal: Option<Name>) -> Option<u8>
+    ensures { result ≡ signal_fault site.now.circuit known.now.keys signal }
+{
+    let name = signal?;
+    match site.wire(&name) {
+        None => Some(3),
+        Some(wire) if knows(known, wire) => None,
+        Some(_) => Some(9),
+    }
+}
+
+/// The code of an edge, halo or stop line, where so many stand before it, and `placed` says whether it may stand at its cell and
+/// time.
+#[tactic(auto, unfolding(crate::specs::Rules::border_fault))]
+pub(crate) fn border_code(
+    site: &Site,
+    count: usize,
+    known: &IndexSet<u16>,
+    placed: bool,
+    signal: Option<Name>,
+) -> Option<u8>
+    ensures { result ≡ border_fault site.now.circuit count known.now.keys placed signal }
+{
+    if count >= BORDERS {
+        return Some(2);
+    }
+    if !placed {
+        return Some(10);
+    }
+    signal_code(site, known, signal)
+}
+
+// Whether a line may have its time, where its cell has a `*` or has none.
+#[tactic(auto, unfolding(crate::specs::Rules::is_time))]
+fn is_good_time(steps: u32, starred: bool, time: Option<u32>) -> bool
+    ensures { result ≡ is_time steps starred time }
+{
+    match time {
+        None => true,
+        Some(t) => is_odd_number(t) & (t < steps) & !starred,
+    }
+}
+
+/// Whether an edge may stand at its cell and time.
+#[tactic(auto, unfolding(crate::specs::Rules::is_edge_place))]
+pub(crate) fn may_be_edge(size: Extent, area: Box2, starred: bool, border: &Border) -> bool
+    ensures { result ≡ is_edge_place size area starred border.now }
+{
+    let in_ring = area.in_ring(border.cell);
+    let on_rim = whole_of(size).in_ring(border.cell);
+    let timed = is_good_time(size.steps, starred, border.time);
+    in_ring & !on_rim & timed
+}
+
+/// Whether a halo line may stand at its cell and time.
+#[tactic(auto, unfolding(crate::specs::Rules::is_halo_place))]
+pub(crate) fn may_be_halo(size: Extent, area: Box2, starred: bool, border: &Border) -> bool
+    ensures { result ≡ is_halo_place size area starred border.now }
+{
+    let in_halo = area.in_halo(border.cell);
+    let inside = whole_of(size).holds(border.cell);
+    let timed = is_good_time(size.steps, starred, border.time);
+    in_halo & inside & timed
+}
+
+/// Whether a stop may stand at its cell and time.
+#[tactic(auto, unfolding(crate::specs::Rules::is_stop_place))]
+pub(crate) fn may_be_stop(size: Extent, area: Box2, stop: &StopLine) -> bool
+    ensures { result ≡ is_stop_place size area stop.now }
+{
+    let inside = area.holds(stop.cell);
+    inside & (stop.time <= size.steps)
+}

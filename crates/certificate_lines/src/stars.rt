@@ -1,0 +1,66 @@
+//! The cells of lines with a `*`.
+ghost use Rattle.std.specs.Prelude.{◌≡◌, ◌<◌, ◌≤◌, ◌||◌, length, OnOk};
+ghost use Rattle.std.specs.List.{list_any};
+ghost use Rattle.indexmap.specs.IndexSet.{spare};
+ghost use Rattle.certificate_lines.specs.Entries.{edge_in, halo_in};
+ghost use Rattle.certificate_lines.specs.Rules.{same_cell, is_starred};
+ghost use Rattle.bbm_rule.specs.declared.block.Cell.{Cell};
+
+use crate::entry::{Border, Entry};
+use bbm_rule::Cell;
+use indexmap::IndexSet;
+use std::alloc::AllocError;
+
+/// Whether a line with a `*` is for the cell.
+pub(crate) fn has_star(stars: &IndexSet<Cell>, cell: Cell) -> bool
+    ensures { result ≡ list_any (same_cell cell) stars.now.keys }
+{
+    stars.contains(&cell)
+}
+
+// Notes the cell of a line that has a `*`, where there is room.
+#[tactic(auto, using(crate::proofs::StarLemmas::star_noted, crate::proofs::StarLemmas::no_star))]
+fn note_star(stars: &mut IndexSet<Cell>, border: &Border)
+    requires { 0 < spare stars.old }
+    ensures { (c : Cell) → list_any (same_cell c) stars.new.keys ≡ (list_any (same_cell c) stars.old.keys || is_starred c border.now) }
+{
+    if border.time.is_some() {
+        return;
+    }
+    match stars.insert(border.cell) {
+        Ok(_) => {}
+        Err(_) => unreachable!(),
+    }
+}
+
+/// Makes room for the cell of an edge or halo line.
+pub(crate) fn make_room_for_stars(
+    edges: &mut IndexSet<Cell>,
+    halos: &mut IndexSet<Cell>,
+    entry: &Entry,
+) -> Result<(), AllocError>
+    ensures edges { edges.new.keys ≡ edges.old.keys }
+    ensures halos { halos.new.keys ≡ halos.old.keys }
+    ensures edge_room { OnOk result (length (edge_in entry.now) ≤ spare edges.new) }
+    ensures halo_room { OnOk result (length (halo_in entry.now) ≤ spare halos.new) }
+{
+    match entry {
+        Entry::Edge(_) => edges.reserve(1),
+        Entry::Halo(_) => halos.reserve(1),
+        _ => Ok(()),
+    }
+}
+
+/// Notes the cell of an edge or halo line that has a `*`, where there is room.
+pub(crate) fn note_stars(edges: &mut IndexSet<Cell>, halos: &mut IndexSet<Cell>, entry: &Entry)
+    requires edges { length (edge_in entry.now) ≤ spare edges.old }
+    requires halos { length (halo_in entry.now) ≤ spare halos.old }
+    ensures edges { (c : Cell) → list_any (same_cell c) edges.new.keys ≡ (list_any (same_cell c) edges.old.keys || list_any (is_starred c) (edge_in entry.now)) }
+    ensures halos { (c : Cell) → list_any (same_cell c) halos.new.keys ≡ (list_any (same_cell c) halos.old.keys || list_any (is_starred c) (halo_in entry.now)) }
+{
+    match entry {
+        Entry::Edge(border) => note_star(edges, border),
+        Entry::Halo(border) => note_star(halos, border),
+        _ => {}
+    }
+}

@@ -1,0 +1,73 @@
+//! The cells of boxes: their list, and those that are live on a grid.
+ghost use Rattle.std.specs.Prelude.{◌≡◌, ◌+◌, ◌≤◌, ◌<◌, IfOk};
+ghost use Rattle.std.specs.List.{list_all};
+ghost use Rattle.bbm_rule.specs.Board.{live};
+ghost use Rattle.pattern.specs.Layout.{row_cells};
+ghost use Rattle.certificate_lines.specs.Rules.{box_cells, whole};
+ghost use Rattle.module_box.specs.Tiling.{rectangle_of};
+
+use bbm_rule::{Cell, Grid};
+use module_box::Box2;
+use pattern::{Extent, Rectangle, push_rectangle};
+use std::alloc::{AllocError, Global};
+
+/// The whole rectangle of a layout.
+pub(crate) fn whole_of(size: Extent) -> Box2
+    ensures { result ≡ whole size }
+{
+    Box2 {
+        x: 0,
+        y: 0,
+        w: size.w,
+        h: size.h,
+    }
+}
+
+/// The cells of a box, whose columns and rows are below 512.
+pub fn cells_of_box(alloc: Global, area: Box2) -> Result<Vec<Cell>, AllocError>
+    requires columns { area.x + area.w ≤ 512 }
+    requires rows { area.y + area.h ≤ 512 }
+    ensures { IfOk result (λ cells. cells.items ≡ box_cells area) }
+{
+    let mut cells = Vec::new(alloc);
+    let Box2 { x, y, w, h } = area;
+    push_rectangle(&mut cells, Rectangle { x, y, w, h })?;
+    Ok(cells)
+}
+
+/// Whether a cell is on the grid and live.
+pub fn is_live(grid: &Grid, cell: Cell) -> bool
+    ensures { result ≡ live grid.now cell.x cell.y }
+{
+    grid.holds(cell) && grid.get(cell)
+}
+
+// Whether the first w cells of row y are live.
+fn is_row_full(grid: &Grid, w: u32, y: u32) -> bool
+    requires columns { (w ≤ grid.now.width) × (w ≤ 512) }
+    requires row { (y < grid.now.height) × (y < 512) }
+    ensures { result ≡ list_all (λ c. live grid.now c.x c.y) (row_cells 0 w y) }
+{
+    let mut full = true;
+    for x in 0..w {
+        let cell = Cell {
+            x: x as i32,
+            y: y as i32,
+        };
+        full &= grid.get(cell);
+    }
+    full
+}
+
+/// Whether all cells of a rectangle from the cell (0, 0) on, as wide and as high as the grid, are live.
+pub(crate) fn is_full(grid: &Grid, w: u32, h: u32) -> bool
+    requires same { (grid.now.width ≡ w) × (grid.now.height ≡ h) }
+    requires small { (w ≤ 512) × (h ≤ 512) }
+    ensures { result ≡ list_all (λ c. live grid.now c.x c.y) (box_cells (rectangle_of w h)) }
+{
+    let mut full = true;
+    for y in 0..h {
+        full &= is_row_full(grid, w, y);
+    }
+    full
+}

@@ -1,0 +1,18 @@
+//! The places of the cells of a box.
+ghost use Rattle.std.specs.Prelude.{◌≡◌, ◌+◌, ◌≤◌, IsTrue};
+ghost use Rattle.module_box.specs.Places.{place_in};
+ghost use Rattle.module_box.specs.Boxes.{in_box};
+
+use crate::boxes::Box2;
+use bbm_rule::Cell;
+
+/// The place of a cell of a box, whose cells are counted row by row.
+pub fn place_in(area: Box2, cell: Cell) -> usize
+    requires inside { IsTrue (in_box area cell.x cell.y) }
+    requires small { (area.w ≤ 512) × (area.h ≤ 512) }
+    ensures { result ≡ place_in area cell.x cell.y }
+{
+    let row = (cell.y.unsigned_abs() - area.y) as usize;
+    let column = (cell.x.unsigned_abs() - area.x) as usize;
+    row * area.w as usize + column
+}

@@ -1,0 +1,193 @@
+-- The tests of equality answer whether two jobs are equal.
+use Rattle.std.proofs.Common.{◌≡◌, ℕ, zero, suc, nat_eq, Bool, true, false, ◌&&◌, List, Option, Some, None, refl, sym, ap, ap₂, ◌∙◌}
+use Rattle.std.specs.Bool.{Decides}
+use Rattle.std.specs.Cmp.Lexicographic.{pointwise}
+use Rattle.std.proofs.lemmas.Bool.Decides.{Decides-eqb}
+use Rattle.module_box.proofs.EqualTests.{both, lists, options, signal_decides, cell_decides, signals_decides, locals_decides, netlists_decide}
+use Rattle.module_box.specs.Equality.{same_cell, same_signal}
+use Rattle.module_box.specs.declared.boxes.Box2.{Box2}
+use Rattle.module_box.specs.declared.schedules.Signal.{Signal}
+use Rattle.module_box.specs.declared.schedules.Signal.TheVariants.{Zero, One, Wire}
+use Rattle.module_box.specs.contracts.schedules.SignalPartialEq.TheImpl as signals
+use Rattle.module_job.specs.Equality.{same_box, demand_place, wire_asked, same_demand, same_job, same_shape, same_stop}
+use Rattle.module_job.specs.Laws.{JobEqualityDecides, ShapeEqualityDecides}
+use Rattle.module_job.specs.Shapes.{ShapeState, placed, shape_of}
+use Rattle.module_job.specs.declared.job.Demand.{Demand}
+use Rattle.module_job.specs.declared.job.Demand.TheVariants as Demanded
+use Rattle.module_job.specs.declared.job.Stop.{Stop}
+use Rattle.module_job.proofs.ShapeParts.{shape_placed}
+use Rattle.module_job.specs.contracts.job.DemandPartialEq.TheImpl as demands
+use Rattle.module_job.specs.contracts.job.StopPartialEq.TheImpl as stops
+
+-- the derived tests are these
+signal_test : (a b : Signal) → signals.eq-value.it a b ≡ same_signal a b
+signal_test Zero Zero = refl
+signal_test Zero One = refl
+signal_test Zero (Wire v) = refl
+signal_test One Zero = refl
+signal_test One One = refl
+signal_test One (Wire v) = refl
+signal_test (Wire w) Zero = refl
+signal_test (Wire w) One = refl
+signal_test (Wire w) (Wire v) = refl
+
+pub signal_tests : (xs ys : List Signal) → pointwise signals.eq-value.it xs ys ≡ pointwise same_signal xs ys
+signal_tests xs ys i = pointwise (λ a b. signal_test a b i) xs ys
+
+demand_test : (a b : Demand) → demands.eq-value.it a b ≡ same_demand a b
+demand_test Demanded.Dead Demanded.Dead = refl
+demand_test Demanded.Dead Demanded.Live = refl
+demand_test Demanded.Dead (Demanded.Wire v) = refl
+demand_test Demanded.Dead Demanded.Any = refl
+demand_test Demanded.Live Demanded.Dead = refl
+demand_test Demanded.Live Demanded.Live = refl
+demand_test Demanded.Live (Demanded.Wire v) = refl
+demand_test Demanded.Live Demanded.Any = refl
+demand_test (Demanded.Wire w) Demanded.Dead = refl
+demand_test (Demanded.Wire w) Demanded.Live = refl
+demand_test (Demanded.Wire w) (Demanded.Wire v) = refl
+demand_test (Demanded.Wire w) Demanded.Any = refl
+demand_test Demanded.Any Demanded.Dead = refl
+demand_test Demanded.Any Demanded.Live = refl
+demand_test Demanded.Any (Demanded.Wire v) = refl
+demand_test Demanded.Any Demanded.Any = refl
+
+pub demand_tests : (xs ys : List Demand) → pointwise demands.eq-value.it xs ys ≡ pointwise same_demand xs ys
+demand_tests xs ys i = pointwise (λ a b. demand_test a b i) xs ys
+
+and_apart : (p q r : Bool) → ((p && q) && r) ≡ (p && (q && r))
+and_apart true q r = refl
+and_apart false q r = refl
+
+stop_test : (a b : Stop) → stops.eq-value.it a b ≡ same_stop a b
+stop_test a b = and_apart (nat_eq a.at.time b.at.time) (same_cell a.at.cell b.at.cell) (nat_eq a.wire b.wire)
+
+pub stop_tests : (xs ys : List Stop) → pointwise stops.eq-value.it xs ys ≡ pointwise same_stop xs ys
+stop_tests xs ys i = pointwise (λ a b. stop_test a b i) xs ys
+
+-- ---- and they decide
+
+box_decides : (a b : Box2) → Decides (same_box a b) (a ≡ b)
+box_decides a b =
+    both _ _
+    (both {R = ((a.x ≡ b.x) × (a.y ≡ b.y)) × (a.w ≡ b.w)} _ _
+    (both {R = (a.x ≡ b.x) × (a.y ≡ b.y)} _ _ (Decides-eqb a.x b.x) (Decides-eqb a.y b.y) (λ x y. (x, y)) (λ p. p.0) (λ p. p.1))
+    (Decides-eqb a.w b.w) (λ p w. (p, w)) (λ p. p.0) (λ p. p.1))
+    (Decides-eqb a.h b.h) (λ p h i. record { x = p.0.0 i; y = p.0.1 i; w = p.1 i; h = h i })
+    (λ e. ((ap (λ c. c.x) e, ap (λ c. c.y) e), ap (λ c. c.w) e)) (λ e. ap (λ c. c.h) e)
+
+demand_from : ℕ → Option ℕ → Demand
+demand_from zero w = Demanded.Dead
+demand_from (suc zero) w = Demanded.Live
+demand_from (suc (suc zero)) None = Demanded.Any
+demand_from (suc (suc zero)) (Some w) = Demanded.Wire w
+demand_from (suc (suc (suc n))) w = Demanded.Any
+
+demand_back : (a : Demand) → demand_from (demand_place a) (wire_asked a) ≡ a
+unfolding demand_from
+demand_back Demanded.Dead = refl
+demand_back Demanded.Live = refl
+demand_back (Demanded.Wire w) = refl
+demand_back Demanded.Any = refl
+
+demand_decides : (a b : Demand) → Decides (same_demand a b) (a ≡ b)
+demand_decides a b =
+    both _ _ (Decides-eqb (demand_place a) (demand_place b)) (options nat_eq Decides-eqb (wire_asked a) (wire_asked b))
+    (λ place wire. sym (demand_back a) ∙ ap₂ demand_from place wire ∙ demand_back b) (λ e. ap demand_place e) (λ e. ap wire_asked e)
+
+stop_decides : (a b : Stop) → Decides (same_stop a b) (a ≡ b)
+stop_decides a b =
+    both _ _ (Decides-eqb a.at.time b.at.time)
+    (both {R = (a.at.cell ≡ b.at.cell) × (a.wire ≡ b.wire)} _ _ (cell_decides a.at.cell b.at.cell) (Decides-eqb a.wire b.wire) (λ cell wire. (cell, wire)) (λ p. p.0) (λ p. p.1))
+    (λ time rest i. record { at = record { time = time i; cell = rest.0 i }; wire = rest.1 i })
+    (λ e. ap (λ s. s.at.time) e) (λ e. (ap (λ s. s.at.cell) e, ap (λ s. s.wire) e))
+
+pub jobs_decide : JobEqualityDecides
+jobs_decide j k =
+    both _ _
+    (both {R = ((((j.area ≡ k.area) × (j.steps ≡ k.steps)) × (j.locals ≡ k.locals)) × ((j.starts ≡ k.starts) × (j.demands ≡ k.demands))) × ((j.edges ≡ k.edges) × (j.halos ≡ k.halos))} _ _
+    (both {R = (((j.area ≡ k.area) × (j.steps ≡ k.steps)) × (j.locals ≡ k.locals)) × ((j.starts ≡ k.starts) × (j.demands ≡ k.demands))} _ _
+    (both {R = ((j.area ≡ k.area) × (j.steps ≡ k.steps)) × (j.locals ≡ k.locals)} _ _
+    (both {R = (j.area ≡ k.area) × (j.steps ≡ k.steps)} _ _ (box_decides j.area k.area) (Decides-eqb j.steps k.steps) (λ p q. (p, q)) (λ p. p.0) (λ p. p.1))
+    (locals_decides j.locals k.locals) (λ p q. (p, q)) (λ p. p.0) (λ p. p.1))
+    (both {R = (j.starts ≡ k.starts) × (j.demands ≡ k.demands)} _ _ (lists same_signal signal_decides j.starts k.starts) (lists same_demand demand_decides j.demands k.demands) (λ p q. (p, q)) (λ p. p.0) (λ p. p.1))
+    (λ p q. (p, q)) (λ p. p.0) (λ p. p.1))
+    (both {R = (j.edges ≡ k.edges) × (j.halos ≡ k.halos)} _ _ (signals_decides j.edges k.edges) (signals_decides j.halos k.halos) (λ p q. (p, q)) (λ p. p.0) (λ p. p.1))
+    (λ p q. (p, q)) (λ p. p.0) (λ p. p.1))
+    (both {R = (j.stops ≡ k.stops) × (j.kept ≡ k.kept)} _ _ (lists same_stop stop_decides j.stops k.stops) (lists nat_eq Decides-eqb j.kept k.kept) (λ p q. (p, q)) (λ p. p.0) (λ p. p.1))
+    (λ p rest i. record {
+      area = p.0.0.0.0 i;
+      steps = p.0.0.0.1 i;
+      locals = p.0.0.1 i;
+      starts = p.0.1.0 i;
+      demands = p.0.1.1 i;
+      edges = p.1.0 i;
+      halos = p.1.1 i;
+      stops = rest.0 i;
+      kept = rest.1 i;
+    })
+    (λ e. ((((ap (λ l. l.area) e, ap (λ l. l.steps) e), ap (λ l. l.locals) e), (ap (λ l. l.starts) e, ap (λ l. l.demands) e)), (ap (λ l. l.edges) e, ap (λ l. l.halos) e)))
+    (λ e. (ap (λ l. l.stops) e, ap (λ l. l.kept) e))
+
+pub shapes_decide : ShapeEqualityDecides
+shapes_decide s t =
+    both _ _
+    (both {R = (((((s.width ≡ t.width) × (s.height ≡ t.height)) × (s.steps ≡ t.steps)) × (s.netlist ≡ t.netlist)) × ((s.starts ≡ t.starts) × (s.demands ≡ t.demands))) × ((s.edges ≡ t.edges) × (s.halos ≡ t.halos))} _ _
+    (both {R = ((((s.width ≡ t.width) × (s.height ≡ t.height)) × (s.steps ≡ t.steps)) × (s.netlist ≡ t.netlist)) × ((s.starts ≡ t.starts) × (s.demands ≡ t.demands))} _ _
+    (both {R = (((s.width ≡ t.width) × (s.height ≡ t.height)) × (s.steps ≡ t.steps)) × (s.netlist ≡ t.netlist)} _ _
+    (both {R = ((s.width ≡ t.width) × (s.height ≡ t.height)) × (s.steps ≡ t.steps)} _ _
+    (both {R = (s.width ≡ t.width) × (s.height ≡ t.height)} _ _ (Decides-eqb s.width t.width) (Decides-eqb s.height t.height) (λ p q. (p, q)) (λ p. p.0) (λ p. p.1))
+    (Decides-eqb s.steps t.steps) (λ p q. (p, q)) (λ p. p.0) (λ p. p.1))
+    (netlists_decide s.netlist t.netlist) (λ p q. (p, q)) (λ p. p.0) (λ p. p.1))
+    (both {R = (s.starts ≡ t.starts) × (s.demands ≡ t.demands)} _ _ (lists same_signal signal_decides s.starts t.starts) (lists same_demand demand_decides s.demands t.demands) (λ p q. (p, q)) (λ p. p.0) (λ p. p.1))
+    (λ p q. (p, q)) (λ p. p.0) (λ p. p.1))
+    (both {R = (s.edges ≡ t.edges) × (s.halos ≡ t.halos)} _ _ (signals_decides s.edges t.edges) (signals_decides s.halos t.halos) (λ p q. (p, q)) (λ p. p.0) (λ p. p.1))
+    (λ p q. (p, q)) (λ p. p.0) (λ p. p.1))
+    (both {R = (s.stops ≡ t.stops) × (s.kept ≡ t.kept)} _ _ (lists same_stop stop_decides s.stops t.stops) (lists nat_eq Decides-eqb s.kept t.kept) (λ p q. (p, q)) (λ p. p.0) (λ p. p.1))
+    (λ p rest i. record {
+      width = p.0.0.0.0.0 i;
+      height = p.0.0.0.0.1 i;
+      steps = p.0.0.0.1 i;
+      netlist = p.0.0.1 i;
+      starts = p.0.1.0 i;
+      demands = p.0.1.1 i;
+      edges = p.1.0 i;
+      halos = p.1.1 i;
+      stops = rest.0 i;
+      kept = rest.1 i;
+    })
+    (λ e. (((((ap (λ l. l.width) e, ap (λ l. l.height) e), ap (λ l. l.steps) e), ap (λ l. l.netlist) e), (ap (λ l. l.starts) e, ap (λ l. l.demands) e)), (ap (λ l. l.edges) e, ap (λ l. l.halos) e)))
+    (λ e. (ap (λ l. l.stops) e, ap (λ l. l.kept) e))
+
+-- ---- two jobs are the same exactly where corner, wires, gates and shape are
+
+-- two tests of the same fact
+one_fact : {P : Type 0} (a b : Bool) → Decides a P → Decides b P → a ≡ b
+one_fact true true d e = refl
+one_fact false false d e = refl
+one_fact true false d e = absurd (wrong (e.1 (d.0 refl)))
+  where
+    wrong : false ≡ true → ⊥
+    wrong h = cc
+one_fact false true d e = absurd (wrong (d.1 (e.0 refl)))
+  where
+    wrong : false ≡ true → ⊥
+    wrong h = cc
+
+parts_decide : (x y x' y' : ℕ) (ws gs ws' gs' : List ℕ) (s t : ShapeState) →
+    Decides ((((nat_eq x x' && nat_eq y y') && pointwise nat_eq ws ws') && pointwise nat_eq gs gs') && same_shape s t) (placed x y ws gs s ≡ placed x' y' ws' gs' t)
+parts_decide x y x' y' ws gs ws' gs' s t =
+    both _ _
+    (both {R = (((x ≡ x') × (y ≡ y')) × (ws ≡ ws')) × (gs ≡ gs')} _ _
+    (both {R = ((x ≡ x') × (y ≡ y')) × (ws ≡ ws')} _ _
+    (both {R = (x ≡ x') × (y ≡ y')} _ _ (Decides-eqb x x') (Decides-eqb y y') (λ p q. (p, q)) (λ p. p.0) (λ p. p.1))
+    (lists nat_eq Decides-eqb ws ws') (λ p q. (p, q)) (λ p. p.0) (λ p. p.1))
+    (lists nat_eq Decides-eqb gs gs') (λ p q. (p, q)) (λ p. p.0) (λ p. p.1))
+    (shapes_decide s t)
+    (λ p shape i. placed (p.0.0.0 i) (p.0.0.1 i) (p.0.1 i) (p.1 i) (shape i))
+    (λ e. (((ap (λ j. j.area.x) e, ap (λ j. j.area.y) e), ap (λ j. j.locals.circuit_wires) e), ap (λ j. j.locals.circuit_gates) e))
+    (λ e. sym (shape_placed x y ws gs s) ∙ ap shape_of e ∙ shape_placed x' y' ws' gs' t)
+
+pub parts_tell : (x y x' y' : ℕ) (ws gs ws' gs' : List ℕ) (s t : ShapeState) →
+    ((((nat_eq x x' && nat_eq y y') && pointwise nat_eq ws ws') && pointwise nat_eq gs gs') && same_shape s t) ≡ same_job (placed x y ws gs s) (placed x' y' ws' gs' t)
+parts_tell x y x' y' ws gs ws' gs' s t = one_fact _ _ (parts_decide x y x' y' ws gs ws' gs' s t) (jobs_decide (placed x y ws gs s) (placed x' y' ws' gs' t))

@@ -1,0 +1,5 @@
+pub mod EqualJobs
+pub mod FirstKeys
+pub mod FirstShapes
+pub mod ShapeParts
+pub mod TellingShapes

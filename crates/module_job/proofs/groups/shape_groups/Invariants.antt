@@ -1,0 +1,12 @@
+-- Those before have their groups.
+use Rattle.std.proofs.Common.{◌≡◌, ℕ, ◌<◌, map, length}
+use Rattle.std.specs.Prelude.{slice_index}
+use Rattle.std.specs.Arc.{arc_value}
+use Rattle.module_job.specs.Groups.{IsFirstLike}
+use Rattle.module_job.proofs.groups.shape_groups.Given as goal
+
+abbrev pub invariant-shapes : goal.invariant-shapes
+invariant-shapes l = record {
+  count : length l.groups.items ≡ l.number;
+  each : (k : ℕ) → k < l.number → IsFirstLike (map arc_value l.shapes) k (slice_index l.groups.items k);
+}

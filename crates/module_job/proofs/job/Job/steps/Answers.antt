@@ -1,0 +1,5 @@
+use Rattle.std.proofs.Common.{rules}
+use Rattle.module_job.proofs.job.Job.steps.Goals as goal
+
+pub returns : goal.returns
+returns c = search rules

@@ -1,0 +1,7 @@
+use Rattle.std.proofs.Common.{◌≡◌, take}
+use Rattle.std.specs.List.{flat_map}
+use Rattle.module_job.specs.Keys.{number_bytes}
+use Rattle.module_job.proofs.keys.bytes_of.Given as goal
+
+abbrev pub invariant-loop-number : goal.invariant-loop-number
+invariant-loop-number l = l.bytes.items ≡ flat_map number_bytes (take l.number-index l.numbers)

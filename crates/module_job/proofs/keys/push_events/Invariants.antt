@@ -1,0 +1,7 @@
+use Rattle.std.proofs.Common.{◌≡◌, ◌++◌, take}
+use Rattle.std.specs.List.{flat_map}
+use Rattle.module_job.specs.Keys.{event_numbers}
+use Rattle.module_job.proofs.keys.push_events.Given as goal
+
+abbrev pub invariant-loop-event : goal.invariant-loop-event
+invariant-loop-event l = l.numbers.items ≡ l.initial.numbers.items ++ flat_map event_numbers (take l.event-index l.events)

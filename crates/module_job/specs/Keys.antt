@@ -1,0 +1,75 @@
+-- The numbers of a shape, which tell it, and its key
+use Rattle.std.specs.Prelude.{◌≡◌, ℕ, ℤ, pos, negsuc, ◌+◌, ◌*◌, ◌^◌, ◌<◌, nat_lt, if◌then◌else◌, List, [], ◌∷◌, ◌++◌, length}
+use Rattle.std.specs.List.{All, flat_map}
+use Rattle.std.specs.Int.{to_le_bytes, w16, w64}
+use Rattle.sha2.specs.Sha256.{sha256}
+use Rattle.bbm_rule.specs.declared.block.Cell.{Cell}
+use Rattle.module_box.specs.Numbers.{AreTelling, counted, netlist_numbers}
+use Rattle.module_box.specs.Schedules.{Signals}
+use Rattle.module_box.specs.declared.schedules.Event.{Event}
+use Rattle.module_box.specs.declared.schedules.Held.{Held}
+use Rattle.module_box.specs.declared.schedules.Signal.{Signal}
+use Rattle.module_box.specs.declared.schedules.Signal.TheVariants.{Zero, One, Wire}
+use Rattle.module_job.specs.Shapes.{ShapeState}
+use Rattle.module_job.specs.declared.job.Demand.{Demand}
+use Rattle.module_job.specs.declared.job.Demand.TheVariants as Demanded
+use Rattle.module_job.specs.declared.job.Stop.{Stop}
+
+abbrev pub signal_number : Signal → ℕ
+signal_number Zero = 0
+signal_number One = 1
+signal_number (Wire w) = w + 2
+
+abbrev pub demand_number : Demand → ℕ
+demand_number Demanded.Dead = 0
+demand_number Demanded.Live = 1
+demand_number Demanded.Any = 2
+demand_number (Demanded.Wire w) = w + 3
+
+abbrev pub signal_numbers : Signal → List ℕ
+signal_numbers s = signal_number s ∷ []
+
+abbrev pub demand_numbers : Demand → List ℕ
+demand_numbers d = demand_number d ∷ []
+
+-- 0, -1, 1, -2 and so on, counted from 0
+abbrev pub integer_number : ℤ → ℕ
+integer_number (pos n) = 2 * n
+integer_number (negsuc n) = 2 * n + 1
+
+abbrev pub cell_numbers : Cell → List ℕ
+cell_numbers c = integer_number c.x ∷ integer_number c.y ∷ []
+
+abbrev pub held_numbers : Held → List ℕ
+held_numbers h = cell_numbers h.cell ++ signal_numbers h.signal
+
+abbrev pub event_numbers : Event → List ℕ
+event_numbers e = (e.at.time ∷ cell_numbers e.at.cell) ++ signal_numbers e.signal
+
+abbrev pub stop_numbers : Stop → List ℕ
+stop_numbers s = (s.at.time ∷ cell_numbers s.at.cell) ++ s.wire ∷ []
+
+abbrev pub signals_numbers : Signals → List ℕ
+signals_numbers s = counted held_numbers s.held ++ counted event_numbers s.events
+
+-- gates, sides and steps, starts, demands, edges, halos, stops and kept gates: all of the shape
+unfoldable pub shape_numbers : ShapeState → List ℕ
+shape_numbers s =
+    netlist_numbers s.netlist ++ (s.width ∷ s.height ∷ s.steps ∷ [])
+    ++ counted signal_numbers s.starts ++ counted demand_numbers s.demands
+    ++ signals_numbers s.edges ++ signals_numbers s.halos ++ counted stop_numbers s.stops ++ (length s.kept ∷ s.kept)
+
+-- A number below 2 ^ 64: one byte, or two or eight behind a byte that says so
+abbrev pub number_bytes : ℕ → List ℕ
+number_bytes n = if nat_lt n 254 then n ∷ [] else (if nat_lt n 65536 then 254 ∷ to_le_bytes w16 n else 255 ∷ to_le_bytes w64 n)
+
+-- the key of a shape
+abbrev pub shape_key : ShapeState → List ℕ
+shape_key s = sha256 (flat_map number_bytes (shape_numbers s))
+
+-- ---- laws: different shapes have different numbers, and different numbers different bytes
+abbrev pub NumbersTellShapes : Type 0
+NumbersTellShapes = AreTelling shape_numbers
+
+abbrev pub BytesTellNumbers : Type 0
+BytesTellNumbers = (ns ms : List ℕ) → All (λ n. n < 2 ^ 64) ns → All (λ n. n < 2 ^ 64) ms → flat_map number_bytes ns ≡ flat_map number_bytes ms → ns ≡ ms

@@ -1,0 +1,9 @@
+pub mod Equality
+pub mod Groups
+pub mod JobFields
+pub mod Jobs
+pub mod Keys
+pub mod Laws
+pub mod ShapeFields
+pub mod Shapes
+pub mod Signals

@@ -1,0 +1,17 @@
+-- The fields of a shape, and what contracts see of them
+use Rattle.module_job.specs.Shapes.{ShapeState}
+use Rattle.module_job.specs.declared.shape.Shape.TheInside.{Inside}
+
+abbrev pub shape_state : Inside → ShapeState
+shape_state a = record {
+  width = a.width;
+  height = a.height;
+  steps = a.steps;
+  netlist = a.wiring;
+  starts = a.starts.items;
+  demands = a.demands.items;
+  edges = a.edges;
+  halos = a.halos;
+  stops = a.stops.items;
+  kept = a.kept.items;
+}

@@ -1,0 +1,69 @@
+-- A job in relative form: its shape, and where that lies
+use Rattle.std.specs.Prelude.{ℕ, ℤ, pos, ◌-ℤ◌, List, map}
+use Rattle.circuit.specs.Meaning.{Netlist}
+use Rattle.module_box.specs.Moves.{moved_cell, moved_signals}
+use Rattle.module_box.specs.Schedules.{Signals}
+use Rattle.module_box.specs.declared.boxes.Box2.{Box2}
+use Rattle.module_box.specs.declared.schedules.Signal.{Signal}
+use Rattle.module_job.specs.Jobs.{JobState}
+use Rattle.module_job.specs.declared.job.Demand.{Demand}
+use Rattle.module_job.specs.declared.job.Stop.{Stop}
+
+-- All of a job but where its box lies and which wires and gates of the circuit its own are: the box's sides, the steps, the gates
+-- over wires of its own, what its cells carry at time 0 and are to be at the last time, row by row, and what the cells of ring and
+-- halo carry, its stops, and the gates that it keeps by their places, where the box's corner is at (0, 0)
+pub record ShapeState : Type 0 where
+  pub width : ℕ
+  pub height : ℕ
+  pub steps : ℕ
+  pub netlist : Netlist
+  pub starts : List Signal
+  pub demands : List Demand
+  pub edges : Signals
+  pub halos : Signals
+  pub stops : List Stop
+  pub kept : List ℕ
+
+abbrev pub moved_stop : ℤ → ℤ → Stop → Stop
+moved_stop dx dy s = record { at = record { time = s.at.time; cell = moved_cell dx dy s.at.cell }; wire = s.wire }
+
+-- signals whose cells are counted from the corner of the box, counted from that of the plane
+abbrev pub from_corner : Box2 → Signals → Signals
+from_corner b s = moved_signals (pos b.x) (pos b.y) s
+
+-- and stops likewise
+abbrev pub stops_from_corner : Box2 → List Stop → List Stop
+stops_from_corner b ss = map (moved_stop (pos b.x) (pos b.y)) ss
+
+-- as far as n, but the other way
+abbrev pub back : ℕ → ℤ
+back n = pos 0 -ℤ pos n
+
+-- the job of this shape whose box has its corner at (x, y), and whose wires and gates are these of the circuit
+abbrev pub placed : ℕ → ℕ → List ℕ → List ℕ → ShapeState → JobState
+placed x y wires gates s = record {
+  area = record { x = x; y = y; w = s.width; h = s.height };
+  steps = s.steps;
+  locals = record { netlist = s.netlist; circuit_wires = wires; circuit_gates = gates };
+  starts = s.starts;
+  demands = s.demands;
+  edges = moved_signals (pos x) (pos y) s.edges;
+  halos = moved_signals (pos x) (pos y) s.halos;
+  stops = map (moved_stop (pos x) (pos y)) s.stops;
+  kept = s.kept;
+}
+
+-- the shape of a job
+abbrev pub shape_of : JobState → ShapeState
+shape_of j = record {
+  width = j.area.w;
+  height = j.area.h;
+  steps = j.steps;
+  netlist = j.locals.netlist;
+  starts = j.starts;
+  demands = j.demands;
+  edges = moved_signals (back j.area.x) (back j.area.y) j.edges;
+  halos = moved_signals (back j.area.x) (back j.area.y) j.halos;
+  stops = map (moved_stop (back j.area.x) (back j.area.y)) j.stops;
+  kept = j.kept;
+}

@@ -1,0 +1,62 @@
+-- What signals and demands say, and the same by other numbers of the wires
+use Rattle.std.specs.Prelude.{◌≡◌, ℕ, ◌<◌, Bool, true, false, map}
+use Rattle.circuit.specs.Meaning.{Valuation}
+use Rattle.module_box.specs.Schedules.{Signals}
+use Rattle.module_box.specs.declared.schedules.Event.{Event}
+use Rattle.module_box.specs.declared.schedules.Held.{Held}
+use Rattle.module_box.specs.declared.schedules.Signal.{Signal}
+use Rattle.module_box.specs.declared.schedules.Signal.TheVariants.{Zero, One, Wire}
+use Rattle.module_job.specs.declared.job.Demand.{Demand}
+use Rattle.module_job.specs.declared.job.Demand.TheVariants as Demanded
+use Rattle.module_job.specs.declared.job.Stop.{Stop}
+
+-- whether a cell that carries the signal is live, where the wires have these values
+abbrev pub is_live : Valuation → Signal → Bool
+is_live v Zero = false
+is_live v One = true
+is_live v (Wire w) = v w
+
+-- a cell that is live or not meets a demand
+abbrev pub Meets : Valuation → Demand → Bool → Type 0
+Meets v Demanded.Dead live = live ≡ false
+Meets v Demanded.Live live = live ≡ true
+Meets v (Demanded.Wire w) live = live ≡ v w
+Meets v Demanded.Any live = Unit {0}
+
+-- ---- the wire that it names, if it names one, is below n
+
+abbrev pub IsBelow : ℕ → Signal → Type 0
+IsBelow n Zero = Unit {0}
+IsBelow n One = Unit {0}
+IsBelow n (Wire w) = w < n
+
+abbrev pub IsDemandBelow : ℕ → Demand → Type 0
+IsDemandBelow n Demanded.Dead = Unit {0}
+IsDemandBelow n Demanded.Live = Unit {0}
+IsDemandBelow n (Demanded.Wire w) = w < n
+IsDemandBelow n Demanded.Any = Unit {0}
+
+-- ---- the same by other numbers of the wires
+
+abbrev pub renumber_signal : (ℕ → ℕ) → Signal → Signal
+renumber_signal f Zero = Zero
+renumber_signal f One = One
+renumber_signal f (Wire w) = Wire (f w)
+
+abbrev pub renumber_demand : (ℕ → ℕ) → Demand → Demand
+renumber_demand f Demanded.Dead = Demanded.Dead
+renumber_demand f Demanded.Live = Demanded.Live
+renumber_demand f (Demanded.Wire w) = Demanded.Wire (f w)
+renumber_demand f Demanded.Any = Demanded.Any
+
+abbrev pub renumber_held : (ℕ → ℕ) → Held → Held
+renumber_held f h = record h { signal = renumber_signal f h.signal }
+
+abbrev pub renumber_event : (ℕ → ℕ) → Event → Event
+renumber_event f e = record e { signal = renumber_signal f e.signal }
+
+abbrev pub renumber_stop : (ℕ → ℕ) → Stop → Stop
+renumber_stop f s = record s { wire = f s.wire }
+
+abbrev pub renumber_signals : (ℕ → ℕ) → Signals → Signals
+renumber_signals f s = record { held = map (renumber_held f) s.held; events = map (renumber_event f) s.events }

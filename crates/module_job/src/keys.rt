@@ -1,0 +1,212 @@
+//! The numbers of shapes, which tell them, and their keys.
+ghost use Rattle.std.specs.Prelude.{◌≡◌, ◌^◌, ◌<◌, ◌++◌, [], ◌∷◌, length, IfOk, OnOk};
+ghost use Rattle.std.specs.List.{All, flat_map};
+ghost use Rattle.module_box.specs.Numbers.{counted};
+ghost use Rattle.module_job.specs.Keys.{cell_numbers, demand_number, demand_numbers, event_numbers, held_numbers, integer_number, number_bytes, shape_key, shape_numbers, signal_number, signal_numbers, signals_numbers, stop_numbers};
+
+use crate::job::{Demand, Stop};
+use crate::shape::Shape;
+use bbm_rule::Cell;
+use module_box::{Event, Held, Schedule, Signal};
+use sha2::{Digest, Sha256};
+use std::alloc::{AllocError, Global};
+
+fn signal_number(signal: Signal) -> u64
+    ensures { result ≡ signal_number signal }
+{
+    match signal {
+        Signal::Zero => 0,
+        Signal::One => 1,
+        Signal::Wire(wire) => wire as u64 + 2,
+    }
+}
+
+fn demand_number(demand: Demand) -> u64
+    ensures { result ≡ demand_number demand }
+{
+    match demand {
+        Demand::Dead => 0,
+        Demand::Live => 1,
+        Demand::Any => 2,
+        Demand::Wire(wire) => wire as u64 + 3,
+    }
+}
+
+fn integer_number(integer: i32) -> u64
+    ensures { result ≡ integer_number integer }
+{
+    let size = integer.unsigned_abs() as u64;
+    if integer < 0 {
+        return 2 * size - 1;
+    }
+    2 * size
+}
+
+fn push_cell(numbers: &mut Vec<u64>, cell: Cell) -> Result<(), AllocError>
+    ensures { OnOk result (numbers.new.items ≡ numbers.old.items ++ cell_numbers cell) }
+{
+    numbers.push(integer_number(cell.x))?;
+    numbers.push(integer_number(cell.y))?;
+    Ok(())
+}
+
+fn push_held(numbers: &mut Vec<u64>, held: Held) -> Result<(), AllocError>
+    ensures { OnOk result (numbers.new.items ≡ numbers.old.items ++ held_numbers held) }
+{
+    push_cell(numbers, held.cell)?;
+    numbers.push(signal_number(held.signal))?;
+    Ok(())
+}
+
+fn push_event(numbers: &mut Vec<u64>, event: Event) -> Result<(), AllocError>
+    ensures { OnOk result (numbers.new.items ≡ numbers.old.items ++ event_numbers event) }
+{
+    numbers.push(event.at.time as u64)?;
+    push_cell(numbers, event.at.cell)?;
+    numbers.push(signal_number(event.signal))?;
+    Ok(())
+}
+
+fn push_stop(numbers: &mut Vec<u64>, stop: Stop) -> Result<(), AllocError>
+    ensures { OnOk result (numbers.new.items ≡ numbers.old.items ++ stop_numbers stop) }
+{
+    numbers.push(stop.at.time as u64)?;
+    push_cell(numbers, stop.at.cell)?;
+    numbers.push(stop.wire as u64)?;
+    Ok(())
+}
+
+fn push_starts(numbers: &mut Vec<u64>, starts: &[Signal]) -> Result<(), AllocError>
+    ensures { OnOk result (numbers.new.items ≡ numbers.old.items ++ flat_map signal_numbers starts.now) }
+{
+    for start in starts {
+        numbers.push(signal_number(*start))?;
+    }
+    Ok(())
+}
+
+fn push_demands(numbers: &mut Vec<u64>, demands: &[Demand]) -> Result<(), AllocError>
+    ensures { OnOk result (numbers.new.items ≡ numbers.old.items ++ flat_map demand_numbers demands.now) }
+{
+    for demand in demands {
+        numbers.push(demand_number(*demand))?;
+    }
+    Ok(())
+}
+
+fn push_helds(numbers: &mut Vec<u64>, helds: &[Held]) -> Result<(), AllocError>
+    ensures { OnOk result (numbers.new.items ≡ numbers.old.items ++ flat_map held_numbers helds.now) }
+{
+    for held in helds {
+        push_held(numbers, *held)?;
+    }
+    Ok(())
+}
+
+fn push_events(numbers: &mut Vec<u64>, events: &[Event]) -> Result<(), AllocError>
+    ensures { OnOk result (numbers.new.items ≡ numbers.old.items ++ flat_map event_numbers events.now) }
+{
+    for event in events {
+        push_event(numbers, *event)?;
+    }
+    Ok(())
+}
+
+fn push_stops(numbers: &mut Vec<u64>, stops: &[Stop]) -> Result<(), AllocError>
+    ensures { OnOk result (numbers.new.items ≡ numbers.old.items ++ flat_map stop_numbers stops.now) }
+{
+    for stop in stops {
+        push_stop(numbers, *stop)?;
+    }
+    Ok(())
+}
+
+// Adds how many gates are kept, and then their places.
+fn push_kept(numbers: &mut Vec<u64>, kept: &[u16]) -> Result<(), AllocError>
+    ensures { OnOk result (numbers.new.items ≡ numbers.old.items ++ length kept.now ∷ kept.now) }
+{
+    numbers.push(kept.len() as u64)?;
+    for place in kept {
+        numbers.push(*place as u64)?;
+    }
+    Ok(())
+}
+
+fn push_schedule(numbers: &mut Vec<u64>, schedule: &Schedule) -> Result<(), AllocError>
+    ensures { OnOk result (numbers.new.items ≡ numbers.old.items ++ signals_numbers schedule.now) }
+{
+    numbers.push(schedule.held().len() as u64)?;
+    push_helds(numbers, schedule.held())?;
+    numbers.push(schedule.events().len() as u64)?;
+    push_events(numbers, schedule.events())
+}
+
+fn push_cells(numbers: &mut Vec<u64>, shape: &Shape) -> Result<(), AllocError>
+    ensures { OnOk result (numbers.new.items ≡ numbers.old.items ++ (shape.now.width ∷ shape.now.height ∷ shape.now.steps ∷ []) ++ counted signal_numbers shape.now.starts ++ counted demand_numbers shape.now.demands) }
+{
+    numbers.push(shape.width as u64)?;
+    numbers.push(shape.height as u64)?;
+    numbers.push(shape.steps as u64)?;
+    numbers.push(shape.starts.len() as u64)?;
+    push_starts(numbers, &shape.starts)?;
+    numbers.push(shape.demands.len() as u64)?;
+    push_demands(numbers, &shape.demands)
+}
+
+// The bytes of a number.
+fn push_bytes(bytes: &mut Vec<u8>, number: u64) -> Result<(), AllocError>
+    ensures { OnOk result (bytes.new.items ≡ bytes.old.items ++ number_bytes number) }
+{
+    if number < 254 {
+        bytes.push(number as u8)?;
+        return Ok(());
+    }
+    if number < 65536 {
+        bytes.push(254)?;
+        bytes.extend_from_slice(&(number as u16).to_le_bytes())?;
+        return Ok(());
+    }
+    bytes.push(255)?;
+    bytes.extend_from_slice(&number.to_le_bytes())?;
+    Ok(())
+}
+
+// The bytes of the numbers.
+fn bytes_of(alloc: Global, numbers: &[u64]) -> Result<Vec<u8>, AllocError>
+    ensures bytes { IfOk result (λ bytes. bytes.items ≡ flat_map number_bytes numbers.now) }
+    ensures small { All (λ n. n < 2 ^ 64) numbers.now }
+{
+    let mut bytes = Vec::with_capacity(alloc, numbers.len())?;
+    for number in numbers {
+        push_bytes(&mut bytes, *number)?;
+    }
+    Ok(bytes)
+}
+
+impl Shape {
+    // The numbers of all that it has.
+    #[tactic(auto, unfolding(crate::specs::Keys::shape_numbers))]
+    fn numbers(&self, alloc: Global) -> Result<Vec<u64>, AllocError>
+        ensures { IfOk result (λ numbers. numbers.items ≡ shape_numbers self.now) }
+    {
+        let mut numbers = self.wiring.numbers(alloc)?;
+        push_cells(&mut numbers, self)?;
+        push_schedule(&mut numbers, &self.edges)?;
+        push_schedule(&mut numbers, &self.halos)?;
+        numbers.push(self.stops.len() as u64)?;
+        push_stops(&mut numbers, &self.stops)?;
+        push_kept(&mut numbers, &self.kept)?;
+        Ok(numbers)
+    }
+
+    /// The SHA-256 of all of the shape. Shapes that are the same have the same key; shapes that differ have different numbers, and
+    /// these different bytes (laws), so one key for both would be a collision of SHA-256. `AllocError` is want of memory.
+    pub fn key(&self, alloc: Global) -> Result<[u8; 32], AllocError>
+        ensures key { IfOk result (λ key. key ≡ shape_key self.now) }
+        ensures small { IfOk result (λ _. All (λ n. n < 2 ^ 64) (shape_numbers self.now)) }
+    {
+        let numbers = self.numbers(alloc)?;
+        let bytes = bytes_of(alloc, &numbers)?;
+        Ok(Sha256::digest(bytes.as_slice()))
+    }
+}

@@ -1,0 +1,18 @@
+//! The job of a module: all that the run of a module by itself needs.
+//!
+//! A job is kept as the corner of its box, its wires and gates of the circuit, and a shape, which other jobs may share.
+//! `specs/Jobs.antt` says what a job is, and `specs/Shapes.antt` what job a shape becomes where it is placed.
+#![tactic(auto)]
+
+mod equality;
+mod groups;
+mod job;
+mod keys;
+pub mod laws;
+mod shape;
+mod stops;
+
+pub use groups::{job_groups, shape_groups};
+pub use job::{Demand, Job, Stop, back};
+pub use shape::Shape;
+pub use stops::moved_stops;

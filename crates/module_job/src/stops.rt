@@ -1,0 +1,42 @@
+//! Stops at cells that lie further.
+ghost use Rattle.std.specs.Prelude.{◌≡◌, IfOk, map};
+ghost use Rattle.std.specs.List.{All};
+ghost use Rattle.module_box.specs.Moves.{IsNear, IsSmall};
+ghost use Rattle.module_job.specs.Shapes.{moved_stop};
+
+use crate::job::Stop;
+use module_box::{Moment, moved_cell};
+use std::alloc::{AllocError, Global};
+
+/// The stop at the cell that lies `dx` columns and `dy` rows further, where all these numbers are from -1024 to 1023.
+pub(crate) fn moved_stop(stop: Stop, dx: i32, dy: i32) -> Stop
+    requires cell { IsNear stop.at.cell }
+    requires by { IsSmall dx × IsSmall dy }
+    ensures { result ≡ moved_stop dx dy stop }
+{
+    Stop {
+        at: Moment {
+            time: stop.at.time,
+            cell: moved_cell(stop.at.cell, dx, dy),
+        },
+        wire: stop.wire,
+    }
+}
+
+/// The same stops at the cells that lie so much further.
+pub fn moved_stops(
+    alloc: Global,
+    stops: &[Stop],
+    dx: i32,
+    dy: i32,
+) -> Result<Vec<Stop>, AllocError>
+    requires cells { All (λ s. IsNear s.at.cell) stops.now }
+    requires by { IsSmall dx × IsSmall dy }
+    ensures { IfOk result (λ v. v.items ≡ map (moved_stop dx dy) stops.now) }
+{
+    let mut moved = Vec::with_capacity(alloc, stops.len())?;
+    for stop in stops {
+        moved.push(moved_stop(*stop, dx, dy))?;
+    }
+    Ok(moved)
+}
