@@ -17,7 +17,10 @@ use crate::known::{learn_line, make_room_for_wires, put_away};
 use crate::lacks::has_unknown;
 use crate::lines::inner_lines;
 use crate::order::does_follow;
-use crate::rules::{border_code, cut_code, is_bad_place, is_bad_side, is_local_name, keep_code, may_be_edge, may_be_halo, may_be_stop, use_code};
+use crate::rules::{
+    border_code, cut_code, is_bad_place, is_bad_side, is_local_name, keep_code, may_be_edge,
+    may_be_halo, may_be_stop, use_code,
+};
 use crate::site::Site;
 use crate::stars::{has_star, make_room_for_stars, note_stars};
 use crate::tiles::{cells_of_box, is_full};

@@ -145,11 +145,7 @@ fn push_keep(places: &mut Vec<u16>, gates: &[GateNo], line: &Entry) -> Result<()
 }
 
 /// The gates that the lines keep, by their places among the used ones.
-pub fn kept_places(
-    alloc: Global,
-    gates: &[GateNo],
-    lines: &[Entry],
-) -> Result<Vec<u16>, AllocError>
+pub fn kept_places(alloc: Global, gates: &[GateNo], lines: &[Entry]) -> Result<Vec<u16>, AllocError>
     requires few { length gates.now ≤ 64 }
     requires used { All (λ k. IsTrue (is_among gates.now k)) (flat_map keep_in lines.now) }
     ensures gates { IfOk result (λ places. map (slice_index gates.now) places.items ≡ flat_map keep_in lines.now) }

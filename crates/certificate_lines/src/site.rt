@@ -61,6 +61,7 @@ fn push_names(names: &mut Vec<Name>, ports: &PortTable, cells: &[Cell]) -> Resul
 }
 
 impl<'a> Site<'a> {
+    /// The tables of the layout's ports are made. `AllocError` is want of memory.
     pub fn new(
         alloc: Global,
         circuit: &'a Circuit,

@@ -24,12 +24,7 @@ pub(crate) fn moved_stop(stop: Stop, dx: i32, dy: i32) -> Stop
 }
 
 /// The same stops at the cells that lie so much further.
-pub fn moved_stops(
-    alloc: Global,
-    stops: &[Stop],
-    dx: i32,
-    dy: i32,
-) -> Result<Vec<Stop>, AllocError>
+pub fn moved_stops(alloc: Global, stops: &[Stop], dx: i32, dy: i32) -> Result<Vec<Stop>, AllocError>
     requires cells { All (λ s. IsNear s.at.cell) stops.now }
     requires by { IsSmall dx × IsSmall dy }
     ensures { IfOk result (λ v. v.items ≡ map (moved_stop dx dy) stops.now) }
