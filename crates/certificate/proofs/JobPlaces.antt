@@ -13,8 +13,6 @@ use Rattle.certificate.specs.Jobs.{start_signal, end_demand}
 use Rattle.module_job.specs.Signals.{renumber_signal, renumber_demand}
 use Rattle.module_job.specs.declared.job.Demand.TheVariants as Demanded
 
--- ---- a job whose lists have an element for each cell of its box
-
 if_true : {A : Type 0} (b : Bool) (u v : A) → b ≡ true → (if b then u else v) ≡ u
 if_true true u v h = refl
 if_true false u v h = absurd cc
