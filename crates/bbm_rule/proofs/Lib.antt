@@ -9,6 +9,8 @@ pub mod PlaneLemmas
 pub mod BoardLemmas
 pub mod Boards
 pub mod CellLemmas
+pub mod MarkLemmas
+pub mod BandLemmas
 pub mod GridLemmas
 mod Meetings
 pub mod Moving

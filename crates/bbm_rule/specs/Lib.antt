@@ -3,6 +3,8 @@ pub mod Bits
 pub mod Spans
 pub mod Words
 pub mod Rows
+pub mod Marks
+pub mod Bands
 pub mod Board
 pub mod GridFields
 pub mod Laws

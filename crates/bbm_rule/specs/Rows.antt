@@ -41,6 +41,10 @@ pub record TurnsRows (p s r : ℕ) (old new : List ℕ) : Type 0 where
   pub before : (q : ℕ) → q < p → cell_at new q ≡ cell_at old q
   pub after : (q : ℕ) → p + 2 * (r * s) ≤ q → cell_at new q ≡ cell_at old q
 
+-- no cell changes
+abbrev pub AreSameCells : List ℕ → List ℕ → Type 0
+AreSameCells old new = (q : ℕ) → cell_at new q ≡ cell_at old q
+
 -- only the cell at place p changes, to the value
 pub record SetsPlace (p : ℕ) (value : Bool) (old new : List ℕ) : Type 0 where
   pub there : cell_at new p ≡ value
@@ -68,3 +72,7 @@ pub record HasLiveMargin (w h s : ℕ) (words : List ℕ) : Type 0 where
 -- no cell of it is
 abbrev pub HasDeadMargin : ℕ → ℕ → ℕ → List ℕ → Type 0
 HasDeadMargin w h s words = (x y : ℕ) → x < w + 2 → y < h + 2 → is_inner w h x y ≡ false → cell_at words (s * y + x) ≡ false
+
+-- none of it in row y is
+abbrev pub IsDeadMarginIn : ℕ → ℕ → ℕ → ℕ → List ℕ → Type 0
+IsDeadMarginIn w h s y words = (x : ℕ) → x < w + 2 → is_inner w h x y ≡ false → cell_at words (s * y + x) ≡ false

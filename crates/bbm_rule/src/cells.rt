@@ -2,9 +2,11 @@
 
 ghost use Rattle.std.specs.Prelude.{◌≡◌, ◌+◌, ◌*◌, ◌/◌, ◌<◌, ◌≤◌, ◌^◌, ◌%◌, ℕ, length, IsTrue, false, ℤ, pos, ◌≤ℤ◌, ◌<ℤ◌};
 ghost use Rattle.std.specs.Bool.{OnTrue};
-ghost use Rattle.bbm_rule.specs.Rows.{cell_at, SetsPlace, place_in, HasLiveMargin, HasDeadMargin};
+ghost use Rattle.bbm_rule.specs.Marks.{IsUnmarked};
+ghost use Rattle.bbm_rule.specs.Rows.{cell_at, SetsPlace, place_in, HasLiveMargin, HasDeadMargin, IsDeadMarginIn};
 
 use crate::block::Cell;
+use crate::marks::next_marked;
 
 // the place of a cell, in rows of `stride` words with a margin of one cell
 #[inline(always)]
@@ -15,6 +17,15 @@ pub(crate) fn place(stride: usize, cell: Cell) -> usize
     ensures { result ≡ place_in (64 * stride) cell.x cell.y }
 {
     64 * stride * (cell.y as usize + 1) + (cell.x as usize + 1)
+}
+
+// the row of a cell, as a number
+#[inline(always)]
+pub(crate) fn row_of(cell: Cell) -> usize
+    requires { (pos 0 ≤ℤ cell.y) × (cell.y <ℤ pos 1024) }
+    ensures { pos result ≡ cell.y }
+{
+    cell.y as usize
 }
 
 // whether the cell at a place is live
@@ -41,22 +52,55 @@ pub(crate) fn put_cell(words: &mut [u64], place: usize, value: bool)
     }
 }
 
-// whether a cell of the margin around the board is live
-pub(crate) fn has_live_margin(words: &[u64], stride: usize, width: usize, height: usize) -> bool
+// Whether a cell of the margin around the board is live. It is looked for in the pairs of rows that have a mark, of the partition
+// whose first pair begins at word 0.
+pub(crate) fn has_live_margin(
+    words: &[u64],
+    marks: &[u64],
+    stride: usize,
+    width: usize,
+    height: usize,
+) -> bool
     requires width { (width + 2 ≤ 64 * stride) × (stride ≤ 17) }
-    requires height { height ≤ 1024 }
+    requires height { (height ≤ 1024) × (height % 2 ≡ 0) }
     requires room { length words.now ≡ stride * (height + 2) }
+    requires marks { height / 2 + 1 ≤ 64 * length marks.now }
+    requires unmarked { (y : ℕ) → y < height + 2 → IsUnmarked marks.now (y / 2) → IsDeadMarginIn width height (64 * stride) y words.now }
     ensures live { OnTrue result (HasLiveMargin width height (64 * stride) words.now) }
     ensures dead { result ≡ false → HasDeadMargin width height (64 * stride) words.now }
 {
-    let row = 64 * stride;
-    for x in 0..width + 2 {
-        if cell_bit(words, x) || cell_bit(words, row * (height + 1) + x) {
+    let pairs = height / 2 + 1;
+    let mut pair = next_marked(marks, 0, pairs);
+    'rows: while pair < pairs {
+        if is_margin_live(words, stride, width, height, 2 * pair)
+            || is_margin_live(words, stride, width, height, 2 * pair + 1)
+        {
             return true;
         }
+        pair = next_marked(marks, pair + 1, pairs);
     }
-    for y in 0..height + 2 {
-        if cell_bit(words, row * y) || cell_bit(words, row * y + (width + 1)) {
+    false
+}
+
+// Whether a cell of row y is live that belongs to the margin: the first, the one after the last of the board, and all in the first
+// and the last row.
+fn is_margin_live(words: &[u64], stride: usize, width: usize, height: usize, y: usize) -> bool
+    requires width { (width + 2 ≤ 64 * stride) × (stride ≤ 17) }
+    requires height { height ≤ 1024 }
+    requires row { y < height + 2 }
+    requires room { length words.now ≡ stride * (height + 2) }
+    ensures live { OnTrue result (HasLiveMargin width height (64 * stride) words.now) }
+    ensures dead { result ≡ false → IsDeadMarginIn width height (64 * stride) y words.now }
+{
+    let first = 64 * stride * y;
+    if cell_bit(words, first) || cell_bit(words, first + (width + 1)) {
+        return true;
+    }
+    if 0 < y && y <= height {
+        return false;
+    }
+    for x in 0..width + 2 {
+        if cell_bit(words, first + x) {
             return true;
         }
     }

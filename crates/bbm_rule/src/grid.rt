@@ -1,10 +1,14 @@
 //! A rectangle of cells as bits, and its step.
+//!
+//! A step passes over the pairs of rows that are known to stay: those that stayed when they were turned last, and in which
+//! no cell has changed since.
 
 ghost use Rattle.std.specs.Prelude.{◌≡◌, ◌≤◌, ◌%◌, ◌<◌, IsTrue, IfOk, OnOk, OnErr, false, pos, ℤ};
 ghost use Rattle.bbm_rule.specs.Board.{Board, live, is_inside, HasSameSize, IsStep, Leaves, SetsCell};
 
 use crate::block::Cell;
-use crate::cells::{cell_bit, has_live_margin, place, put_cell};
+use crate::cells::{cell_bit, has_live_margin, place, put_cell, row_of};
+use crate::marks::mark;
 use crate::rows::{turn_all_aligned, turn_all_shifted};
 use std::alloc::{AllocError, Global};
 use std::marker::Model;
@@ -24,6 +28,9 @@ pub struct Grid {
     // the words of a row: there is room for a margin on both sides
     stride: usize,
     words: Vec<u64>,
+    // a bit for each pair of rows whose blocks a turn of the even, and of the odd partition may change
+    even_marks: Vec<u64>,
+    odd_marks: Vec<u64>,
 }
 
 impl Model for Grid {
@@ -52,11 +59,15 @@ impl Grid {
         let height = height as usize;
         let stride = width / 64 + 1;
         let words = vec![in alloc; 0u64; stride * (height + 2)]?;
+        let even_marks = vec![in alloc; 0u64; height / 128 + 1]?;
+        let odd_marks = vec![in alloc; 0u64; height / 128 + 1]?;
         Ok(Grid {
             width,
             height,
             stride,
             words,
+            even_marks,
+            odd_marks,
         })
     }
 
@@ -86,6 +97,9 @@ impl Grid {
     {
         let at = place(self.stride, cell);
         put_cell(&mut self.words, at, value);
+        let row = row_of(cell);
+        mark(&mut self.even_marks, row / 2);
+        mark(&mut self.odd_marks, (row + 1) / 2);
     }
 
     /// The step at time `t`: every block of that time's partition turns, those that lie across the border too.
@@ -99,14 +113,38 @@ impl Grid {
         ensures size { HasSameSize self.old self.new }
     {
         if t % 2 == 0 {
-            turn_all_shifted(&mut self.words, self.stride, self.height / 2);
+            turn_all_shifted(
+                &mut self.words,
+                &mut self.even_marks,
+                &mut self.odd_marks,
+                self.stride,
+                self.height / 2,
+            );
             return Ok(());
         }
         let pairs = self.height / 2 + 1;
-        turn_all_aligned(&mut self.words, self.stride, pairs);
-        if has_live_margin(&self.words, self.stride, self.width, self.height) {
+        turn_all_aligned(
+            &mut self.words,
+            &mut self.odd_marks,
+            &mut self.even_marks,
+            self.stride,
+            pairs,
+        );
+        if has_live_margin(
+            &self.words,
+            &self.odd_marks,
+            self.stride,
+            self.width,
+            self.height,
+        ) {
             // A turn undoes itself.
-            turn_all_aligned(&mut self.words, self.stride, pairs);
+            turn_all_aligned(
+                &mut self.words,
+                &mut self.odd_marks,
+                &mut self.even_marks,
+                self.stride,
+                pairs,
+            );
             return Err(Left);
         }
         Ok(())

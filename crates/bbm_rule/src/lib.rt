@@ -15,6 +15,7 @@ mod block;
 mod cells;
 mod grid;
 pub mod laws;
+pub mod marks;
 mod rows;
 mod words;
 

@@ -1,11 +1,11 @@
 //! A plane of bits in rows of words, whose blocks are turned in place. The cell at place p of the plane is bit p % 64 of
 //! word p / 64, and a row is `stride` words.
 
-ghost use Rattle.std.specs.Prelude.{◌≡◌, ◌+◌, ◌*◌, ◌<◌, ◌≤◌, ◌^◌, ℕ, length, slice_index, if◌then◌else◌, ◌&&◌, nat_le, nat_lt, ◌-◌};
-ghost use Rattle.bbm_rule.specs.Plane.{turned};
-ghost use Rattle.bbm_rule.specs.Bits.{bit};
-ghost use Rattle.bbm_rule.specs.Rows.{cell_at, mate, ArePairsTurned, HasWindow, SetsWindow, TurnsRun, TurnsRows};
+ghost use Rattle.std.specs.Prelude.{◌≡◌, ◌+◌, ◌*◌, ◌<◌, ◌≤◌, ◌^◌, ◌-◌, length, false};
+ghost use Rattle.bbm_rule.specs.Bands.{AreCalm};
+ghost use Rattle.bbm_rule.specs.Rows.{ArePairsTurned, AreSameCells, HasWindow, SetsWindow, TurnsRun, TurnsRows};
 
+use crate::marks::{mark, mark_before, next_marked, unmark};
 use crate::words::turn_words;
 
 // the first cell of each pair
@@ -47,60 +47,105 @@ fn put_window(words: &mut [u64], i: usize, cells: u64)
     words[i + 1] = (words[i + 1] & 0xFFFF_FFFF_FFFF_FFFE) | (cells >> 63);
 }
 
-// turns the blocks of two rows of words, whose blocks begin at the first cell of each
+// Turns the blocks of two rows of words, whose blocks begin at the first cell of each. Answers whether a cell changed.
 #[inline(always)]
-fn turn_aligned(words: &mut [u64], upper: usize, stride: usize)
+fn turn_aligned(words: &mut [u64], upper: usize, stride: usize) -> bool
     requires room { upper + stride + stride ≤ length words.old }
     requires wide { 0 < stride }
-    ensures { TurnsRun (64 * upper) (64 * stride) (64 * stride) words.old words.new }
+    ensures turned { TurnsRun (64 * upper) (64 * stride) (64 * stride) words.old words.new }
+    ensures same { result ≡ false → AreSameCells words.old words.new }
 {
+    let mut changed = 0;
     for k in 0..stride {
         let i = upper + k;
         let (a, b) = turn_pairs(words[i], words[i + stride]);
+        changed |= (a ^ words[i]) | (b ^ words[i + stride]);
         words[i] = a;
         words[i + stride] = b;
     }
+    changed != 0
 }
 
-// the same, where the blocks begin at the second cell of each
+// The same, where the blocks begin at the second cell of each.
 #[inline(always)]
-fn turn_shifted(words: &mut [u64], upper: usize, stride: usize)
+fn turn_shifted(words: &mut [u64], upper: usize, stride: usize) -> bool
     requires room { upper + stride + stride < length words.old }
     requires wide { 0 < stride }
-    ensures { TurnsRun (64 * upper + 1) (64 * stride) (64 * stride) words.old words.new }
+    ensures turned { TurnsRun (64 * upper + 1) (64 * stride) (64 * stride) words.old words.new }
+    ensures same { result ≡ false → AreSameCells words.old words.new }
 {
+    let mut changed = 0;
     for k in 0..stride {
         let i = upper + k;
-        let (a, b) = turn_pairs(window(words, i), window(words, i + stride));
+        let above = window(words, i);
+        let below = window(words, i + stride);
+        let (a, b) = turn_pairs(above, below);
+        changed |= (a ^ above) | (b ^ below);
         put_window(words, i, a);
         put_window(words, i + stride, b);
     }
+    changed != 0
 }
 
-/// Turns the blocks of all rows, the first of which is at word 0.
-pub(crate) fn turn_all_aligned(words: &mut [u64], stride: usize, pairs: usize)
+/// Turns the blocks of all pairs of rows, the first of which begins at word 0. A pair without a mark stays, and is passed over.
+/// `own` has the marks of these pairs, and `others` those of the pairs of the other partition.
+pub(crate) fn turn_all_aligned(
+    words: &mut [u64],
+    own: &mut [u64],
+    others: &mut [u64],
+    stride: usize,
+    pairs: usize,
+)
     requires room { 2 * (pairs * stride) ≤ length words.old }
     requires wide { 0 < stride }
     requires small { length words.old < 2 ^ 32 }
-    ensures { TurnsRows 0 (64 * stride) pairs words.old words.new }
+    requires marks { (pairs ≤ 64 * length own.old) × (pairs ≤ 64 * length others.old) }
+    requires own { AreCalm 0 (64 * stride) pairs own.old words.old }
+    requires others { AreCalm (64 * stride + 1) (64 * stride) (pairs - 1) others.old words.old }
+    ensures turned { TurnsRows 0 (64 * stride) pairs words.old words.new }
+    ensures own { AreCalm 0 (64 * stride) pairs own.new words.new }
+    ensures others { AreCalm (64 * stride + 1) (64 * stride) (pairs - 1) others.new words.new }
 {
-    let mut upper = 0;
-    'rows: for _ in 0..pairs {
-        turn_aligned(words, upper, stride);
-        upper += 2 * stride;
+    let mut pair = next_marked(own, 0, pairs);
+    'rows: while pair < pairs {
+        if turn_aligned(words, 2 * (pair * stride), stride) {
+            mark(own, pair);
+            mark(others, pair);
+            mark_before(others, pair, 1);
+        } else {
+            unmark(own, pair);
+        }
+        pair = next_marked(own, pair + 1, pairs);
     }
 }
 
-/// Turns the blocks of all rows but the first, from the second cell on.
-pub(crate) fn turn_all_shifted(words: &mut [u64], stride: usize, pairs: usize)
+/// Turns the blocks of all pairs of rows but the first row, from the second cell on, in the same way.
+pub(crate) fn turn_all_shifted(
+    words: &mut [u64],
+    own: &mut [u64],
+    others: &mut [u64],
+    stride: usize,
+    pairs: usize,
+)
     requires room { stride + 2 * (pairs * stride) < length words.old }
     requires wide { 0 < stride }
     requires small { length words.old < 2 ^ 32 }
-    ensures { TurnsRows (64 * stride + 1) (64 * stride) pairs words.old words.new }
+    requires marks { (pairs ≤ 64 * length own.old) × (pairs + 1 ≤ 64 * length others.old) }
+    requires own { AreCalm (64 * stride + 1) (64 * stride) pairs own.old words.old }
+    requires others { AreCalm 0 (64 * stride) (pairs + 1) others.old words.old }
+    ensures turned { TurnsRows (64 * stride + 1) (64 * stride) pairs words.old words.new }
+    ensures own { AreCalm (64 * stride + 1) (64 * stride) pairs own.new words.new }
+    ensures others { AreCalm 0 (64 * stride) (pairs + 1) others.new words.new }
 {
-    let mut upper = stride;
-    'rows: for _ in 0..pairs {
-        turn_shifted(words, upper, stride);
-        upper += 2 * stride;
+    let mut pair = next_marked(own, 0, pairs);
+    'rows: while pair < pairs {
+        if turn_shifted(words, stride + 2 * (pair * stride), stride) {
+            mark(own, pair);
+            mark(others, pair);
+            mark(others, pair + 1);
+        } else {
+            unmark(own, pair);
+        }
+        pair = next_marked(own, pair + 1, pairs);
     }
 }

@@ -3,7 +3,8 @@ use Rattle.std.proofs.Common.{◌≡◌, ◌≢◌, ℕ, ◌<◌, ◌≤◌, ◌
 use Rattle.std.proofs.Math.Nat.{mul-le-mul_left}
 use Rattle.bbm_rule.specs.Rows.{SetsPlace}
 use Rattle.bbm_rule.proofs.BitLemmas.{by_lt_or_le, by_eq_or_not}
-use Rattle.local_run.specs.Turns.{IsCalmBlock, IsUnmarked, SameBeside, TurnsPart, MarksOne, MarksAround, MarksCorners}
+use Rattle.bbm_rule.specs.Marks.{IsUnmarked, MarksOne}
+use Rattle.local_run.specs.Turns.{IsCalmBlock, SameBeside, TurnsPart, MarksAround, MarksCorners}
 use Rattle.local_run.specs.Calm.{OddCalm, EvenCalm, AllDead, IsDeadAt, ChangesCells}
 use Rattle.local_run.specs.Lanes.{HasSize}
 use Rattle.local_run.specs.declared.planes.Planes.{Planes}

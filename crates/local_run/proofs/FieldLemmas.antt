@@ -2,7 +2,8 @@
 use Rattle.std.proofs.Common.{◌≡◌, ℕ, ◌<◌, ◌≤◌, ◌+◌, ◌-◌, ◌*◌, refl, arith, ◌∙◌, ap, List, length}
 use Rattle.bbm_rule.specs.Plane.{turned}
 use Rattle.bbm_rule.specs.Rows.{mate}
-use Rattle.local_run.specs.Turns.{IsUnmarked, TurnsPart}
+use Rattle.bbm_rule.specs.Marks.{IsUnmarked}
+use Rattle.local_run.specs.Turns.{TurnsPart}
 use Rattle.local_run.specs.Calm.{OddCalm, EvenCalm}
 use Rattle.local_run.specs.Lanes.{HasSize, lane}
 use Rattle.local_run.specs.declared.planes.Planes.{Planes}

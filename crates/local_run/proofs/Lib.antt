@@ -5,7 +5,6 @@ pub mod Decided
 pub mod Least
 pub mod LaneLemmas
 pub mod Scans
-pub mod MarkLemmas
 pub mod TurnLemmas
 pub mod CalmLemmas
 pub mod InsideLemmas

@@ -13,7 +13,7 @@ use Rattle.module_box.proofs.MovedBoxes.{signals_moved}
 use Rattle.module_box.proofs.Rising.{held_none, event_none}
 use Rattle.module_job.specs.Shapes.{back}
 use Rattle.local_run.specs.Places.{outer}
-use Rattle.local_run.specs.Turns.{MarksOne}
+use Rattle.bbm_rule.specs.Marks.{MarksOne}
 use Rattle.local_run.specs.Leaps.{IsTimeBetween}
 use Rattle.local_run.specs.Quiet.{AreHeldMarked, IsCellMarked, IsQuietIn, KeepsMarks, number_at}
 use Rattle.bbm_rule.proofs.BitLemmas.{by_lt_or_le}

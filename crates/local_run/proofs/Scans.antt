@@ -2,7 +2,7 @@
 use Rattle.std.proofs.Common.{◌≡◌, ◌≢◌, ℕ, Bool, true, false, ◌<◌, ◌≤◌, ◌+◌, ◌-◌, ◌*◌, ◌/◌, ◌%◌, ◌^◌, refl, arith, sym, ◌∙◌, ap, ap₂, subst, List, [], ◌∷◌, ◌&&◌, zero, suc, length, get_or, set, get_or-set_same, get_or-set_other, w64, bit_and}
 use Rattle.std.specs.Prelude.{bit_xor}
 use Rattle.std.specs.Int.{bit_at, trailing_zeros}
-use Rattle.std.proofs.lemmas.Nat.Bits.{bit_at-trailing_zeros, bit_at_ones}
+use Rattle.std.proofs.lemmas.Nat.Bits.{bit_at-trailing_zeros}
 use Rattle.std.proofs.lemmas.Bool.{and_parts}
 use Rattle.std.proofs.lemmas.Nat.{xor_lt}
 use Rattle.std.specs.Int.Bits.{and_lt, and_zero_l, xor_self}
@@ -144,9 +144,6 @@ differs_not vs p x y s a e h = h.1 (xor_same _ _ (sym (and_true _) ∙ ap (λ (v
     and_true : (b : Bool) → (b && true) ≡ b
     and_true true = refl
     and_true false = refl
-
-pub bit_ones : (b : ℕ) → b < 64 → bit 18446744073709551615 b ≡ true
-bit_ones b l = bit-one 18446744073709551615 b (bit_at_ones 64 b l)
 
 -- ---- the row of a signal
 pub row_from : (vs : Values) (n : ℕ) (s : Signal) → IsBelow n s → vs.words * n ≤ length vs.rows.values.items → HasRow vs s

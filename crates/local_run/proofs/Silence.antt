@@ -13,7 +13,7 @@ use Rattle.local_run.specs.Faults.{assignments}
 use Rattle.local_run.specs.Runs.{local_run}
 use Rattle.local_run.specs.Lanes.{lane}
 use Rattle.local_run.specs.Places.{inner, outer}
-use Rattle.local_run.specs.Turns.{IsUnmarked}
+use Rattle.bbm_rule.specs.Marks.{IsUnmarked}
 use Rattle.local_run.specs.Quiet.{AreLines, number_at}
 use Rattle.local_run.specs.Scans.{HasEdgeAt, HasEdgesIn, HasHaloIn, IsFound, IsLeastBelow, IsOuter, IsReady, IsSilent, Shows, valuation}
 use Rattle.local_run.specs.declared.fault.Kind.TheVariants.{Edge}

@@ -1,7 +1,8 @@
 -- What is known of the blocks of four planes that have no mark
 use Rattle.std.specs.Prelude.{◌≡◌, ◌≢◌, ℕ, ◌+◌, ◌*◌, ◌<◌, List, slice_index}
 use Rattle.std.proofs.Props.{props}
-use Rattle.local_run.specs.Turns.{IsCalmBlock, IsUnmarked}
+use Rattle.bbm_rule.specs.Marks.{IsUnmarked}
+use Rattle.local_run.specs.Turns.{IsCalmBlock}
 use Rattle.local_run.specs.declared.planes.Planes.{Planes}
 
 -- the blocks of the odd partition stay, but for those with a mark

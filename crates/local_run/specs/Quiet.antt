@@ -9,7 +9,7 @@ use Rattle.module_box.specs.declared.schedules.Signal.TheVariants.{Zero}
 use Rattle.module_job.specs.Jobs.{JobState}
 use Rattle.module_job.specs.Shapes.{ShapeState}
 use Rattle.local_run.specs.Places.{outer}
-use Rattle.local_run.specs.Turns.{IsUnmarked}
+use Rattle.bbm_rule.specs.Marks.{IsUnmarked}
 
 -- the number of a cell in its plane, for a column and row counted from the halo
 abbrev pub number_at : Box2 → ℕ → ℕ → ℕ

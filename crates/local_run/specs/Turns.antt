@@ -1,6 +1,6 @@
--- Blocks that a turn leaves as they are, parts of lists whose blocks are turned, and marks on numbers
-use Rattle.std.specs.Prelude.{◌≡◌, ◌≢◌, ℕ, ◌+◌, ◌*◌, ◌<◌, ◌≤◌, List, slice_index, bit_xor, bit_or, false}
-use Rattle.bbm_rule.specs.Rows.{cell_at}
+-- Blocks that a turn leaves as they are, parts of lists whose blocks are turned, and marks on blocks
+use Rattle.std.specs.Prelude.{◌≡◌, ◌≢◌, ℕ, ◌+◌, ◌*◌, ◌<◌, ◌≤◌, List, slice_index, bit_xor, bit_or}
+use Rattle.bbm_rule.specs.Marks.{IsUnmarked}
 use Rattle.bbm_rule.specs.Words.{AreTurned}
 
 -- under no assignment has exactly one diagonal of the block a live cell, so the block stays
@@ -25,10 +25,6 @@ pub record TurnsPart (a b c d long : ℕ) (ul ur ll lr ul' ur' ll' lr' : List �
   pub lower_left : SameBeside c long ll ll'
   pub lower_right : SameBeside d long lr lr'
 
--- whether number u has no mark: a mark is a set bit, and the bits of the words are numbered one word after the other
-abbrev pub IsUnmarked : List ℕ → ℕ → Type 0
-IsUnmarked marks u = cell_at marks u ≡ false
-
 -- marks are made at block `at` of the odd partition, and at the blocks of the even partition that share a cell with it
 abbrev pub MarksAround : ℕ → ℕ → List ℕ → List ℕ → Type 0
 MarksAround stride at old new = (u : ℕ) → IsUnmarked new u → IsUnmarked old u × (u ≢ at) × (u + 1 ≢ at) × (u + stride ≢ at) × (u + stride + 1 ≢ at)
@@ -36,7 +32,3 @@ MarksAround stride at old new = (u : ℕ) → IsUnmarked new u → IsUnmarked ol
 -- marks are made at the blocks of the odd partition that share a cell with block `at` of the even partition
 abbrev pub MarksCorners : ℕ → ℕ → List ℕ → List ℕ → Type 0
 MarksCorners stride at old new = (u : ℕ) → IsUnmarked new u → IsUnmarked old u × (u ≢ at) × (u ≢ at + 1) × (u ≢ at + stride) × (u ≢ at + stride + 1)
-
--- one more number is marked
-abbrev pub MarksOne : ℕ → List ℕ → List ℕ → Type 0
-MarksOne at old new = (u : ℕ) → IsUnmarked new u → IsUnmarked old u × (u ≢ at)

@@ -11,9 +11,10 @@ ghost use Rattle.std.specs.Int.{div_ceil};
 ghost use Rattle.std.specs.Prelude.{ℕ, ◌≡◌, ◌+◌, ◌*◌, ◌/◌, ◌<◌, ◌≤◌, vec_len, IfOk, true, false};
 
 use crate::lines::mark_lines;
-use crate::marks::{is_marked, mark, mark_all, mark_around, mark_corners, next_marked, unmark};
+use crate::marks::{mark_around, mark_corners};
 use crate::planes::Planes;
 use crate::values::Values;
+use bbm_rule::marks::{is_marked, mark, mark_all, next_marked, unmark};
 use certificate::Job;
 use module_box::Signal;
 use std::alloc::{AllocError, Global};
@@ -54,7 +55,8 @@ fn are_many(changed: usize, cells: usize, words: usize, stride: usize) -> bool
 }
 
 impl Field {
-    ghost use Rattle.local_run.specs.Turns.{IsCalmBlock, IsUnmarked, TurnsPart};
+    ghost use Rattle.bbm_rule.specs.Marks.{IsUnmarked};
+    ghost use Rattle.local_run.specs.Turns.{IsCalmBlock, TurnsPart};
     ghost use Rattle.local_run.specs.Quiet.{AreLines};
     ghost use Rattle.local_run.specs.Scans.{IsReady};
     ghost use Rattle.local_run.specs.Lanes.{HasSize, SameInside, lane};

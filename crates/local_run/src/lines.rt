@@ -9,8 +9,8 @@ ghost use Rattle.local_run.specs.Places.{outer};
 ghost use Rattle.std.specs.Prelude.{ℕ, ◌≢◌, MatchOption, ◌≡◌, ◌<◌, ◌+◌, ◌*◌, ◌/◌, ◌≤◌, length, slice_index, slice_get, Some, IfOk};
 
 use crate::leaps::first_event;
-use crate::marks::mark;
 use bbm_rule::Cell;
+use bbm_rule::marks::mark;
 use certificate::{Job, Shape};
 use module_box::{Box2, Event, Held, Schedule};
 use std::alloc::{AllocError, Global};

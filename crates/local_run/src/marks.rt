@@ -1,64 +1,10 @@
-//! Marks on numbers: a bit for each.
+//! Marks on the blocks around a block.
 
-ghost use Rattle.bbm_rule.specs.Rows.{cell_at, SetsPlace};
-ghost use Rattle.local_run.specs.Turns.{IsUnmarked, MarksAround, MarksCorners, MarksOne};
-ghost use Rattle.std.specs.Prelude.{ℕ, ◌≡◌, ◌≢◌, ◌+◌, ◌*◌, ◌/◌, ◌^◌, ◌<◌, ◌≤◌, length, false};
+ghost use Rattle.bbm_rule.specs.Marks.{IsUnmarked};
+ghost use Rattle.local_run.specs.Turns.{MarksAround, MarksCorners};
+ghost use Rattle.std.specs.Prelude.{ℕ, ◌≡◌, ◌≢◌, ◌+◌, ◌/◌, ◌^◌, ◌<◌, ◌≤◌, length};
 
-/// The next number from `from` on that may have a mark, or `end` where there is none below it.
-pub fn next_marked(marks: &[u64], from: usize, end: usize) -> usize
-    requires within { (from ≤ end) × (end ≤ 64 * length marks.now) × (end < 2 ^ 32) }
-    ensures range { (from ≤ result) × (result ≤ end) }
-    ensures passed { (u : ℕ) → from ≤ u → u < result → IsUnmarked marks.now u }
-{
-    let mut at = from;
-    'search: while at < end {
-        let rest = marks[at / 64] >> (at % 64);
-        if rest != 0 {
-            let found = at + rest.trailing_zeros() as usize;
-            return if found < end { found } else { end };
-        }
-        at = 64 * (at / 64 + 1);
-    }
-    end
-}
-
-/// Whether a number has a mark.
-#[inline(always)]
-pub fn is_marked(marks: &[u64], at: usize) -> bool
-    requires { at / 64 < length marks.now }
-    ensures { result ≡ cell_at marks.now at }
-{
-    (marks[at / 64] >> (at % 64)) & 1 == 1
-}
-
-/// Marks a number.
-#[inline(always)]
-pub fn mark(marks: &mut [u64], at: usize)
-    requires { at / 64 < length marks.old }
-    ensures { MarksOne at marks.old marks.new }
-{
-    marks[at / 64] |= 1u64 << (at % 64);
-}
-
-/// Takes the mark off a number.
-#[inline(always)]
-pub fn unmark(marks: &mut [u64], at: usize)
-    requires { at / 64 < length marks.old }
-    ensures { SetsPlace at false marks.old marks.new }
-{
-    marks[at / 64] &= !(1u64 << (at % 64));
-}
-
-// Marks the number that is less than `at` by the distance, where there is one.
-#[inline(always)]
-fn mark_before(marks: &mut [u64], at: usize, distance: usize)
-    requires { at / 64 < length marks.old }
-    ensures { (u : ℕ) → IsUnmarked marks.new u → IsUnmarked marks.old u × (u + distance ≢ at) }
-{
-    if distance <= at {
-        mark(marks, at - distance);
-    }
-}
+use bbm_rule::marks::{mark, mark_before};
 
 /// Marks block `at`, and the blocks of the even partition that share a cell with block `at` of the odd partition.
 pub fn mark_around(marks: &mut [u64], at: usize, stride: usize)
@@ -80,13 +26,4 @@ pub fn mark_corners(marks: &mut [u64], at: usize, stride: usize)
     mark(marks, at + 1);
     mark(marks, at + stride);
     mark(marks, at + stride + 1);
-}
-
-/// Marks all numbers.
-pub fn mark_all(marks: &mut [u64])
-    ensures { (u : ℕ) → u < 64 * length marks.new → IsUnmarked marks.new u → ⊥ }
-{
-    for k in 0..marks.len() {
-        marks[k] = 0xFFFF_FFFF_FFFF_FFFF;
-    }
 }

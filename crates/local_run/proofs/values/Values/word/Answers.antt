@@ -3,7 +3,8 @@ use Rattle.bbm_rule.proofs.BitLemmas.{bit-zero}
 use Rattle.module_job.specs.Signals.{is_live}
 use Rattle.module_box.specs.declared.schedules.Signal.TheVariants.{Wire}
 use Rattle.local_run.specs.Scans.{HasRow, valuation}
-use Rattle.local_run.proofs.Scans.{row_in_word, bit_ones}
+use Rattle.bbm_rule.proofs.MarkLemmas.{bit_ones}
+use Rattle.local_run.proofs.Scans.{row_in_word}
 use Rattle.local_run.proofs.values.Values.word.Goals as goal
 
 pub returns-in-Zero : goal.returns-in-Zero

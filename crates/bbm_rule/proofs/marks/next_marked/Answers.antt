@@ -1,7 +1,7 @@
 use Rattle.std.proofs.Common.{arith, ◌/◌}
 use Rattle.bbm_rule.proofs.BitLemmas.{by_lt_or_le}
-use Rattle.local_run.proofs.MarkLemmas.{none_in_word, none_before}
-use Rattle.local_run.proofs.marks.next_marked.Goals as goal
+use Rattle.bbm_rule.proofs.MarkLemmas.{none_in_word, none_before}
+use Rattle.bbm_rule.proofs.marks.next_marked.Goals as goal
 
 pub returns-then-found-end-clause-passed : goal.returns-then-found-end-clause-passed
 returns-then-found-end-clause-passed c = λ u l h. by_lt_or_le u c.search.at (c.search.invariant.passed u l)

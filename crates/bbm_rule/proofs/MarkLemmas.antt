@@ -3,12 +3,11 @@ use Rattle.std.proofs.Common.{◌≡◌, ◌≢◌, ℕ, true, false, ◌<◌, �
 use Rattle.std.specs.Int.{bit_at, trailing_zeros}
 use Rattle.std.proofs.lemmas.Bool.{false≢true}
 use Rattle.std.proofs.Math.Nat.{div-le_self}
-use Rattle.std.proofs.lemmas.Nat.Bits.{bit_at-trailing_zeros}
+use Rattle.std.proofs.lemmas.Nat.Bits.{bit_at-trailing_zeros, bit_at_ones}
 use Rattle.bbm_rule.specs.Bits.{bit}
 use Rattle.bbm_rule.specs.Rows.{cell_at, SetsPlace}
 use Rattle.bbm_rule.proofs.BitLemmas.{by_lt_or_le, by_eq_or_not, bit-is, bit-zero, bit-shr, bit_above}
-use Rattle.local_run.specs.Turns.{IsUnmarked, MarksOne}
-use Rattle.local_run.proofs.Scans.{bit_ones}
+use Rattle.bbm_rule.specs.Marks.{IsUnmarked, MarksOne}
 
 -- where one number is set, each number without a mark is another, and had none before
 pub one_marked : (p : ℕ) (old new : List ℕ) → SetsPlace p true old new → MarksOne p old new
@@ -62,6 +61,9 @@ none_before marks at u some small l h = rest_bit marks at u l within ∙ bit_non
 
     within : u < 64 * (at / 64 + 1)
     within = omega (arith, in_word)
+
+pub bit_ones : (b : ℕ) → b < 64 → bit 18446744073709551615 b ≡ true
+bit_ones b l = bit_one 18446744073709551615 b (bit_at_ones 64 b l)
 
 -- each number in a full word is marked
 pub full_word : (marks : List ℕ) (u : ℕ) → get_or marks (u / 64) 0 ≡ 18446744073709551615 → cell_at marks u ≡ true

@@ -1,6 +1,6 @@
 use Rattle.std.proofs.Common.{ℕ, ◌-◌, ◌<◌, ◌≤◌}
-use Rattle.local_run.specs.Turns.{IsUnmarked}
-use Rattle.local_run.proofs.marks.next_marked.Given as goal
+use Rattle.bbm_rule.specs.Marks.{IsUnmarked}
+use Rattle.bbm_rule.proofs.marks.next_marked.Given as goal
 
 -- none was passed that has a mark
 abbrev pub invariant-search : goal.invariant-search
