@@ -13,3 +13,4 @@ pub mod StartLemmas
 pub mod RunLemmas
 pub mod Spelling
 pub mod RoundTrip
+pub mod PortLines

@@ -2,6 +2,7 @@ pub mod Layout
 pub mod Lines
 pub mod LayoutView
 pub mod Forms
+pub mod PortWords
 pub mod Assign
 pub mod DraftView
 pub mod Grammars

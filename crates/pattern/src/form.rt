@@ -2,11 +2,12 @@
 ghost use Rattle.std.specs.Prelude.{◌≡◌, ◌≤◌};
 ghost use Rattle.section_text.specs.Words.{words_of};
 ghost use Rattle.section_text.specs.FeedState.{IsLine, line_bytes};
-ghost use Rattle.pattern.specs.Forms.{cell_from, lone_cell, named_cell, port_of, corner_and_sides, rectangle_of, sides_and_steps, size_of, form_of};
+ghost use Rattle.pattern.specs.PortWords.{cell_by, port_by};
+ghost use Rattle.pattern.specs.Forms.{cell_from, lone_cell, port_of, corner_and_sides, rectangle_of, sides_and_steps, size_of, form_of};
 
 use crate::parts::{Extent, Part, Port, Rectangle};
 use bbm_rule::Cell;
-use section_text::{Feed, Form, Line};
+use section_text::{Feed, Form, FourWords, Line, Name, read_number};
 
 /// The cell that a word of a line and the next one are, by its column and its row, where `index` is at most eight. None
 /// where one of the two is no number, or is not there.
@@ -35,25 +36,36 @@ fn lone_cell_on(feed: &Feed, line: &Line) -> Option<Cell>
     read_cell(feed, line, 1)
 }
 
-#[tactic(auto, unfolding(crate::specs::Forms::named_cell))]
-fn named_cell_on(feed: &Feed, line: &Line) -> Option<Port>
-    requires { IsLine feed.now line.now }
-    ensures { result ≡ named_cell (words_of (line_bytes feed.now line.now)) }
+/// The cell that two words are, by its column and its row. None where one of the two is no number.
+#[tactic(auto, unfolding(crate::specs::PortWords::cell_by, crate::specs::Layout::cell))]
+pub fn cell_of(column: &[u8], row: &[u8]) -> Option<Cell>
+    ensures { result ≡ cell_by column.now row.now }
 {
-    let name = feed.name(line, 1)?;
-    let cell = read_cell(feed, line, 2)?;
+    let x = read_number(column)?;
+    let y = read_number(row)?;
+    Some(Cell {
+        x: x as i32,
+        y: y as i32,
+    })
+}
+
+#[tactic(auto, unfolding(crate::specs::PortWords::port_by))]
+fn port_of_words(words: &FourWords) -> Option<Port>
+    ensures { result ≡ port_by words.now.second.now words.now.third.now words.now.fourth.now }
+{
+    let name = Name::of(words.second)?;
+    let cell = cell_of(words.third, words.fourth)?;
     Some(Port { name, cell })
 }
 
-#[tactic(auto, unfolding(crate::specs::Forms::port_of))]
 fn port_on(feed: &Feed, line: &Line) -> Option<Port>
     requires { IsLine feed.now line.now }
     ensures { result ≡ port_of (words_of (line_bytes feed.now line.now)) }
 {
-    if feed.words(line) != 4 {
+    let Some(words) = feed.four_words(line) else {
         return None;
-    }
-    named_cell_on(feed, line)
+    };
+    port_of_words(&words)
 }
 
 #[tactic(auto, unfolding(crate::specs::Forms::corner_and_sides))]

@@ -2,7 +2,7 @@
 use Rattle.std.proofs.Common.{◌≡◌, ℕ, ◌+◌, List, [], ◌∷◌, ◌++◌, map, Option, Some, None, Ok, refl, sym, ap, ap₂, subst, ◌∙◌, append_assoc}
 use Rattle.std.specs.List.{flat_map}
 use Rattle.std.proofs.lemmas.List.{append-nil, append_cancel_left}
-use Rattle.section_text.specs.Words.{words_of, lines_of, rest_of}
+use Rattle.section_text.specs.Words.{words_of, rest_of}
 use Rattle.section_text.specs.SaidSection.{IsSection}
 use Rattle.section_text.specs.Section.{Grammar, section_of, body_of, ended_line}
 use Rattle.section_text.specs.declared.section.Form.{Form}

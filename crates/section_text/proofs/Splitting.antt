@@ -3,9 +3,10 @@ use Rattle.std.proofs.Common.{◌≡◌, ◌==◌, if◌then◌else◌, ℕ, suc
 use Rattle.std.specs.List.{position, position_or_len}
 use Rattle.std.proofs.lemmas.List.{length-drop, take_all}
 use Rattle.std.proofs.lemmas.Bool.Decides.{nat_tests}
+use Rattle.std.proofs.lemmas.Option.{same_Some}
 use Rattle.std.proofs.lemmas.List.Splits.{length-slice_split, slice_split_first, slice_split_none}
 use Rattle.std.proofs.lemmas.List.Sums.{fails_before_first}
-use Rattle.section_text.specs.Words.{is_space, words_of, five}
+use Rattle.section_text.specs.Words.{is_space, words_of, four, five}
 
 -- where the first space is
 found_by : (b : Bool) (p i : ℕ) → cond b (Some p) None ≡ Some i → (b ≡ true) × (p ≡ i)
@@ -35,39 +36,65 @@ split_none line e =
     let past = not_below (position_or_len is_space line) (length line) (missed_by (nat_lt (position_or_len is_space line) (length line)) (position_or_len is_space line) e) in
     slice_split_none is_space line (λ k d h. fails_before_first is_space line k d (omega (arith, past, h)))
 
--- ---- lines of fewer or more words than five
-
-pub one_word : (l : List ℕ) → words_of l ≡ l ∷ [] → None ≡ five (words_of l)
-unfolding five
-one_word l a = rw a refl
-
-pub two_words : (l w r : List ℕ) → words_of l ≡ w ∷ words_of r → words_of r ≡ r ∷ [] → None ≡ five (words_of l)
-unfolding five
-two_words l w r a b = rw (a, b) refl
-
-pub three_words : (l w r v s : List ℕ) → words_of l ≡ w ∷ words_of r → words_of r ≡ v ∷ words_of s → words_of s ≡ s ∷ [] → None ≡ five (words_of l)
-unfolding five
-three_words l w r v s a b c = rw (a, b, c) refl
-
-pub four_words : (l w r v s u t : List ℕ) → words_of l ≡ w ∷ words_of r → words_of r ≡ v ∷ words_of s → words_of s ≡ u ∷ words_of t → words_of t ≡ t ∷ [] → None ≡ five (words_of l)
-unfolding five
-four_words l w r v s u t a b c d = rw (a, b, c, d) refl
-
 -- a line has a word
 some_words : (l : List ℕ) → 0 < length (words_of l)
 some_words l = let n = length-slice_split is_space l in omega (arith, n)
 
-not_five : (n : ℕ) → (suc (suc (suc (suc (suc (suc n))))) == 5) ≡ false
-not_five n = grind arith
+-- ---- lines of fewer or more words than four
 
-six_or_more : (zs : List (List ℕ)) → 0 < length zs → (ws : List (List ℕ)) → None ≡ (if suc (suc (suc (suc (suc (length zs))))) == 5 then Some ws else None)
-six_or_more [] h ws = absurd (omega arith)
-six_or_more (z ∷ zs) h ws = rw (not_five (length zs)) refl
+pub one_word : (l : List ℕ) → words_of l ≡ l ∷ [] → None ≡ four (words_of l)
+unfolding four
+one_word l a = rw a refl
 
-pub many_words : (l w r v s u t x y z y' : List ℕ) → words_of l ≡ w ∷ words_of r → words_of r ≡ v ∷ words_of s → words_of s ≡ u ∷ words_of t → words_of t ≡ x ∷ words_of y → words_of y ≡ z ∷ words_of y' → None ≡ five (words_of l)
+pub two_words : (l w r : List ℕ) → words_of l ≡ w ∷ words_of r → words_of r ≡ r ∷ [] → None ≡ four (words_of l)
+unfolding four
+two_words l w r a b = rw (a, b) refl
+
+pub three_words : (l w r v s : List ℕ) → words_of l ≡ w ∷ words_of r → words_of r ≡ v ∷ words_of s → words_of s ≡ s ∷ [] → None ≡ four (words_of l)
+unfolding four
+three_words l w r v s a b c = rw (a, b, c) refl
+
+not_four : (n : ℕ) → (suc (suc (suc (suc (suc n)))) == 4) ≡ false
+not_four n = grind arith
+
+five_or_more : (zs : List (List ℕ)) → 0 < length zs → (ws : List (List ℕ)) → None ≡ (if suc (suc (suc (suc (length zs)))) == 4 then Some ws else None)
+five_or_more [] h ws = absurd (omega arith)
+five_or_more (z ∷ zs) h ws = rw (not_four (length zs)) refl
+
+pub many_words : (l w r v s u t x y : List ℕ) → words_of l ≡ w ∷ words_of r → words_of r ≡ v ∷ words_of s → words_of s ≡ u ∷ words_of t → words_of t ≡ x ∷ words_of y → None ≡ four (words_of l)
+unfolding four
+many_words l w r v s u t x y a b c d = rw (a, b, c, d) (five_or_more (words_of y) (some_words y) (w ∷ v ∷ u ∷ x ∷ words_of y))
+
+pub four_are : (l w r v s u t : List ℕ) → words_of l ≡ w ∷ words_of r → words_of r ≡ v ∷ words_of s → words_of s ≡ u ∷ words_of t → words_of t ≡ t ∷ [] → Some (w ∷ v ∷ u ∷ t ∷ []) ≡ four (words_of l)
+unfolding four
+four_are l w r v s u t a b c d = rw (a, b, c, d) refl
+
+-- ---- lines of five words, by those of four
+
+test_of : {A : Type 0} (b : Bool) (x y : A) → (if b then Some x else None) ≡ Some y → (b ≡ true) × (x ≡ y)
+test_of true x y e = (refl, same_Some x y e)
+test_of false x y e = absurd cc
+
+test_none : {A : Type 0} (b : Bool) (x : A) → (if b then Some x else None) ≡ None → b ≡ false
+test_none true x e = absurd cc
+test_none false x e = refl
+
+one_more : (n : ℕ) → (n == 4) ≡ true → (suc n == 5) ≡ true
+one_more n e = grind (arith, nat_tests)
+
+not_one_more : (n : ℕ) → (n == 4) ≡ false → (suc n == 5) ≡ false
+not_one_more n e = grind (arith, nat_tests)
+
+pub lone_word : (l : List ℕ) → words_of l ≡ l ∷ [] → None ≡ five (words_of l)
 unfolding five
-many_words l w r v s u t x y z y' a b c d e = rw (a, b, c, d, e) (six_or_more (words_of y') (some_words y') (w ∷ v ∷ u ∷ x ∷ z ∷ words_of y'))
+lone_word l a = rw a refl
 
-pub five_are : (l w r v s u t x y : List ℕ) → words_of l ≡ w ∷ words_of r → words_of r ≡ v ∷ words_of s → words_of s ≡ u ∷ words_of t → words_of t ≡ x ∷ words_of y → words_of y ≡ y ∷ [] → Some (w ∷ v ∷ u ∷ x ∷ y ∷ []) ≡ five (words_of l)
-unfolding five
-five_are l w r v s u t x y a b c d e = rw (a, b, c, d, e) refl
+pub no_five : (l w r : List ℕ) → words_of l ≡ w ∷ words_of r → None ≡ four (words_of r) → None ≡ five (words_of l)
+unfolding four five
+no_five l w r a none = rw (a, not_one_more (length (words_of r)) (test_none (length (words_of r) == 4) (words_of r) (sym none))) refl
+
+pub five_are : (l w r : List ℕ) (ws : List (List ℕ)) → words_of l ≡ w ∷ words_of r → Some ws ≡ four (words_of r) → Some (w ∷ ws) ≡ five (words_of l)
+unfolding four five
+five_are l w r ws a some =
+    let found = test_of (length (words_of r) == 4) (words_of r) ws (sym some) in
+    rw (a, one_more (length (words_of r)) found.0) (ap (λ vs. Some (w ∷ vs)) (sym found.1))

@@ -1,6 +1,10 @@
--- Five words that the code points to, as a list.
+-- Four or five words that the code points to, as a list.
 use Rattle.std.specs.Prelude.{ℕ, List, [], ◌∷◌}
+use Rattle.section_text.specs.declared.feed.FourWords.{FourWords}
 use Rattle.section_text.specs.declared.feed.FiveWords.{FiveWords}
+
+abbrev pub four_listed : FourWords → List (List ℕ)
+four_listed w = w.first.now ∷ w.second.now ∷ w.third.now ∷ w.fourth.now ∷ []
 
 abbrev pub listed : FiveWords → List (List ℕ)
 listed w = w.first.now ∷ w.second.now ∷ w.third.now ∷ w.fourth.now ∷ w.fifth.now ∷ []

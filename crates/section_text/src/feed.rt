@@ -3,9 +3,9 @@ ghost use Rattle.std.specs.Prelude.{drop, take, ◌≡◌, ℕ, ◌+◌, ◌-◌
 ghost use Rattle.std.specs.Option.{option_copied, option_map, ForSome};
 ghost use Rattle.std.specs.List.{position, list_all};
 ghost use Rattle.section_text.specs.Codes.{text_cut};
-ghost use Rattle.section_text.specs.Words.{is_digit, is_number, read_on, is_word_at, is_line_feed, is_space, rest_of, words_of, number_of, number_at, name_at, names_at, lone, lone_number, lone_name, five};
+ghost use Rattle.section_text.specs.Words.{is_digit, is_number, read_on, is_word_at, is_line_feed, is_space, rest_of, words_of, number_of, number_at, name_at, names_at, lone, lone_number, lone_name, four, five};
 ghost use Rattle.section_text.specs.declared.fault.ReadFault.TheVariants.{Memory};
-ghost use Rattle.section_text.specs.Listed.{listed};
+ghost use Rattle.section_text.specs.Listed.{four_listed, listed};
 ghost use Rattle.section_text.specs.Faults.{refusal};
 ghost use Rattle.section_text.specs.Seeding.{seed_of};
 ghost use Rattle.section_text.specs.FeedState.{FeedState, ahead, after_lines, IsLine, line_bytes, text_limit, TakesLine, RunsOut};
@@ -59,6 +59,15 @@ pub struct Line {
     to: usize,
 }
 
+/// The words of a line of four, in order.
+#[derive(Clone, Copy)]
+pub struct FourWords<'a> {
+    pub first: &'a [u8],
+    pub second: &'a [u8],
+    pub third: &'a [u8],
+    pub fourth: &'a [u8],
+}
+
 /// The words of a line of five, in order.
 #[derive(Clone, Copy)]
 pub struct FiveWords<'a> {
@@ -84,9 +93,9 @@ fn split_word(line: &[u8]) -> Option<(&[u8], &[u8])>
     Some((&line[..space], &line[space + 1..]))
 }
 
-// The words of a line of five.
-fn five_in(line: &[u8]) -> Option<FiveWords<'_>>
-    ensures { option_map listed result ≡ five (words_of line.now) }
+// The words of a line of four.
+fn four_in(line: &[u8]) -> Option<FourWords<'_>>
+    ensures { option_map four_listed result ≡ four (words_of line.now) }
 {
     let Some((first, rest)) = split_word(line) else {
         return None;
@@ -94,22 +103,43 @@ fn five_in(line: &[u8]) -> Option<FiveWords<'_>>
     let Some((second, rest)) = split_word(rest) else {
         return None;
     };
-    let Some((third, rest)) = split_word(rest) else {
+    let Some((third, fourth)) = split_word(rest) else {
         return None;
     };
-    let Some((fourth, fifth)) = split_word(rest) else {
-        return None;
-    };
-    match split_word(fifth) {
+    match split_word(fourth) {
         Some(_) => None,
-        None => Some(FiveWords {
+        None => Some(FourWords {
             first,
             second,
             third,
             fourth,
-            fifth,
         }),
     }
+}
+
+// The words of a line of five: the first one, and those of a line of four.
+fn five_in(line: &[u8]) -> Option<FiveWords<'_>>
+    ensures { option_map listed result ≡ five (words_of line.now) }
+{
+    let Some((first, rest)) = split_word(line) else {
+        return None;
+    };
+    let Some(FourWords {
+        first: second,
+        second: third,
+        third: fourth,
+        fourth: fifth,
+    }) = four_in(rest)
+    else {
+        return None;
+    };
+    Some(FiveWords {
+        first,
+        second,
+        third,
+        fourth,
+        fifth,
+    })
 }
 
 // The bytes, or the first of them where there are more than so many.
@@ -340,6 +370,14 @@ impl Feed {
             1 => Some(said),
             _ => None,
         }
+    }
+
+    /// The words of a line of four. None for any other line. It takes one pass over the line.
+    pub fn four_words(&self, line: &Line) -> Option<FourWords<'_>>
+        requires { IsLine self.now line.now }
+        ensures { option_map four_listed result ≡ four (words_of (line_bytes self.now line.now)) }
+    {
+        four_in(self.line(line))
     }
 
     /// The words of a line of five. None for any other line. It takes one pass over the line.
