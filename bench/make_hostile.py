@@ -136,14 +136,14 @@ def run_ports(full):
 
 
 def run_mirrors(full):
-    """run: each cell but the corners a mirror of its own, and all steps."""
+    """run: each cell but the corners a mirror of its own, and 4096 steps."""
     height = SIDE if full else SIDE // 2
     lines = (f"mirror {x} {y} 1 1" for x, y in cells(SIDE, height) if x not in (0, SIDE - 1) or y not in (0, height - 1))
     return joined([f"layout {SIDE} {height} 4096"], lines, ["end", "assign", "end"])
 
 
 def run_balls(full):
-    """run: balls in every other cell at random inside a wall, all steps."""
+    """run: balls in every other cell at random inside a wall, 4096 steps."""
     height, rng = SIDE if full else SIDE // 2, random.Random(1984)
     walls = [(2, 1, SIDE - 4, 2), (2, height - 3, SIDE - 4, 2), (2, 3, 2, height - 6), (SIDE - 4, 3, 2, height - 6)]
     balls = (f"ball {x} {y}" for y in range(3, height - 3) for x in range(4, SIDE - 4) if rng.random() < 0.5)

@@ -355,7 +355,7 @@ impl<'a> Section<'a> for Layout<'_, 'a> {
     }
 
     fn begin(&mut self, (w, h, steps): (u32, u32, u32)) -> Tested {
-        test(is_side(w, 512) && is_side(h, 512) && steps <= 4096, 2)?;
+        test(is_side(w, 512) && is_side(h, 512) && steps <= 65_536, 2)?;
         self.area = Area { x: 0, y: 0, w, h };
         self.steps = steps;
         self.begun = vec![false; (w * h) as usize];

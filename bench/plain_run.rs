@@ -174,7 +174,7 @@ fn run(text: &[u8]) -> Result<String, (usize, u8)> {
     let size: Vec<_> = first.split(|b| *b == b' ').skip(1).filter_map(number).collect();
     let &[w, h, steps] = size.as_slice() else { return Err((at, 1)) };
     let is_side = |n: usize| (2..=512).contains(&n) && n % 2 == 0;
-    if !is_side(w) || !is_side(h) || steps > 4096 {
+    if !is_side(w) || !is_side(h) || steps > 65_536 {
         return Err((at, 2));
     }
     let (begun, done) = (Grid::new(w, h), Grid::new(w, h));

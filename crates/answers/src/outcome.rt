@@ -5,7 +5,7 @@
 pub enum Outcome {
     /// The verdict is yes, or another command is done.
     Yes,
-    /// The verdict is no, or a ball left the rectangle.
+    /// The verdict is no, a ball left the rectangle, or a gate has no row for what it is fed.
     No,
     /// The text was refused.
     Refused,

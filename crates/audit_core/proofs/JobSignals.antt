@@ -30,7 +30,7 @@ use Rattle.module_job.specs.Signals.{is_live, Meets, renumber_signal, renumber_d
 use Rattle.certificate_lines.specs.declared.entry.Border.{Border}
 use Rattle.module_job.specs.declared.job.Demand.{Demand}
 use Rattle.module_job.specs.declared.job.Demand.TheVariants as Demanded
-use Rattle.certificate_lines.proofs.PortLemmas.{cell_same}
+use Rattle.bbm_rule.proofs.SameCells.{cell_same}
 use Rattle.border_match.specs.BorderFaults.{halo_signal, edge_signal}
 use Rattle.border_match.proofs.Bridge.{halo_same, edge_same}
 use Rattle.border_match.proofs.Modules.{there, value_of}

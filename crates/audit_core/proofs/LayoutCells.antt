@@ -29,7 +29,7 @@ use Rattle.module_job.specs.declared.job.Demand.TheVariants as Demanded
 use Rattle.module_box.specs.declared.schedules.Signal.TheVariants.{One}
 use Rattle.certificate_lines.proofs.Lists.{any_at, kept, passed, same_truth}
 use Rattle.certificate_lines.proofs.LayoutPorts.{port_stands, none_stands}
-use Rattle.certificate_lines.proofs.PortLemmas.{cell_same, cell_itself}
+use Rattle.bbm_rule.proofs.SameCells.{cell_same, cell_itself}
 use Rattle.audit_core.specs.Implements.{in_ports}
 
 -- ---- the ports at a cell

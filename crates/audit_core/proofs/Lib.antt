@@ -21,4 +21,5 @@ mod PortNames
 mod WrongExamples
 pub mod YesMeansCorrect
 pub mod NamedPorts
+pub mod ModuleJobs
 pub mod Migrated

@@ -40,7 +40,7 @@ use Rattle.local_run.specs.Faults.{IsFault, IsKeepFault}
 use Rattle.local_run.specs.Laws.{SayTheSame}
 use Rattle.local_run.specs.declared.fault.Fault.{Fault}
 use Rattle.local_run.specs.declared.fault.KeepFault.{KeepFault}
-use Rattle.local_run.proofs.ModuleJobs.{jobs_agree, keeps_agree, signal_back}
+use Rattle.audit_core.proofs.ModuleJobs.{jobs_agree, keeps_agree, signal_back}
 use Rattle.local_run.proofs.OwnWires.{halo_below}
 use Rattle.local_run.proofs.SameHalos.{same_halos_agree}
 use Rattle.border_match.specs.BorderFaults.{edge_signal, halo_signal}

@@ -13,4 +13,5 @@ pub mod CoreLaws
 pub mod Implements
 pub mod OnTime
 pub mod HeadlineLaws
+pub mod ModuleLaws
 pub mod MigrationLaws

@@ -1,5 +1,6 @@
 //! Laws of books, each the contract of a function without a body.
 ghost use Rattle.audit_core.specs.HeadlineLaws.{AcceptedHasValuation, AcceptedIsCorrect, AcceptedIsOnTime, EndsAsAsked, Example, InputsDecideTheRun, NoneIsUndefined, ReadLayoutHasInputNames, ReadLayoutIsNamed, StartsAsJobs, StepsAsJobs, WrongExample};
+ghost use Rattle.audit_core.specs.ModuleLaws.{JobsOfOneModuleAgree, JobsOfOneModuleAgreeOnKeeps};
 ghost use Rattle.audit_core.specs.MigrationLaws.{AcceptedWithoutHalos, MigrationIsAccepted};
 ghost use Rattle.audit_core.specs.CoreLaws.{AcceptsOneForEach, DrawsEachOnce, EmptyWhereAllAreDrawn, EventsKeepWhatIsHeld, EventsReplay, HoldsHonestOwn, HoldsWhatWasAccepted, OnlyAcceptedChangesWhatIsHeld, VerdictIsOne};
 ghost use Rattle.audit_core.specs.Laws.{AcceptsItsOwn, BooksAgree, ClosedAnswersClosed, ClosedByItsHistory, DoublesWhatIsHeld, FullBookHoldsAll, HoldsWhatIsAccepted, HoldsNothingElse, KeepsWhatIsHeld, KnowsItsOwn, StaysBook, StaysReplayed};
@@ -126,4 +127,10 @@ pub fn something_is_wrong()
 pub fn accepted_without_halos()
     ensures modules { AcceptedWithoutHalos }
     ensures migration { MigrationIsAccepted }
+{}
+
+/// Jobs of one module have the same faults: what is not pinned in a job makes no difference.
+pub fn jobs_of_one_module_agree()
+    ensures faults { JobsOfOneModuleAgree }
+    ensures keeps { JobsOfOneModuleAgreeOnKeeps }
 {}

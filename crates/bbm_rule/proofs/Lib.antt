@@ -14,3 +14,4 @@ pub mod BandLemmas
 pub mod GridLemmas
 mod Meetings
 pub mod Moving
+pub mod SameCells

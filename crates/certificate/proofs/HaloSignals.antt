@@ -24,7 +24,7 @@ use Rattle.certificate.proofs.FullModules.{beside_in, edge_cell, edges_rising, f
 use Rattle.certificate_lines.proofs.InList.{placed}
 use Rattle.certificate_lines.proofs.LineOrder.{In, Rises, filter_in, flat_in, in_filter, in_flat, in_ordered, ordered_in, pairs_filter, rising_same}
 use Rattle.certificate_lines.proofs.Lists.{some_is}
-use Rattle.certificate_lines.proofs.PortLemmas.{cell_same}
+use Rattle.bbm_rule.proofs.SameCells.{cell_same}
 
 -- ---- what lines say of a cell is what those for the cell say
 

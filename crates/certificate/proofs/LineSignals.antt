@@ -24,7 +24,7 @@ use Rattle.certificate_lines.specs.declared.entry.Border.{Border}
 use Rattle.certificate.proofs.HaloSignals.{event_past, held_past}
 use Rattle.certificate_lines.proofs.LineOrder.{In, Rises, each_in, line_total, not_itself}
 use Rattle.certificate_lines.proofs.Pairs.{Each, Pairs}
-use Rattle.certificate_lines.proofs.PortLemmas.{cell_itself, cell_same}
+use Rattle.bbm_rule.proofs.SameCells.{cell_itself, cell_same}
 
 -- the line says something at the time
 abbrev pub SaysAt : ℕ → Option ℕ → Type 0

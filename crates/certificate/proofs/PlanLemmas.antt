@@ -30,7 +30,7 @@ use Rattle.certificate.specs.PlanView.{KnowsPorts}
 use Rattle.certificate_lines.specs.Rules.{is_local}
 use Rattle.certificate_lines.proofs.BoxPlaces.{skipped}
 use Rattle.certificate_lines.proofs.Lists.{kept}
-use Rattle.certificate_lines.proofs.PortLemmas.{cell_same}
+use Rattle.bbm_rule.proofs.SameCells.{cell_same}
 use Rattle.certificate_lines.proofs.LayoutPorts.{port_stands, AllInLayout}
 
 -- ---- the cells of mirrors

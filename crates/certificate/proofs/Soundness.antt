@@ -28,7 +28,8 @@ use Rattle.certificate_lines.proofs.Growing.{modules_push}
 use Rattle.certificate_lines.proofs.Keeping.{good_line, IsGoodLine}
 use Rattle.certificate_lines.proofs.Lists.{any_at, or_parts, passed, some_is}
 use Rattle.certificate_lines.proofs.ModulePushes.{both_none, no_code, new_wire, good_use, cut_pushed, use_pushed, keep_pushed, edge_pushed, halo_pushed, stop_pushed}
-use Rattle.certificate_lines.proofs.PortLemmas.{cell_same, in_box_cells}
+use Rattle.bbm_rule.proofs.SameCells.{cell_same}
+use Rattle.certificate_lines.proofs.PortLemmas.{in_box_cells}
 
 module _ (g : Setting) (es : List Entry) (sound : AreSound g (modules_of es)) where
   -- one more line of the last module

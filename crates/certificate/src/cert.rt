@@ -81,12 +81,12 @@ impl<'a> Cert<'a> {
 
     /// How many modules the certificate has, at most 1024. They are numbered from 0 in the order of their lines.
     ///
-    /// So they are as they were written, and in version 2 also with the halo lines that the edge lines beside them stand for. Of its own
-    /// lines of edges, halos and stops each has at most 65,536. Their boxes tile the layout's rectangle. Each box has an even corner and even sides of 2 to 64. The used gates of a
+    /// Of its own lines of edges, halos and stops each has at most 65,536. Their boxes tile the layout's rectangle. Each box has an even corner and even sides of 2 to 64. The used gates of a
     /// module rise, and what they use is local before them. Its edge lines are in its ring and not on the rectangle's rim, its
     /// halo lines in its halo and inside the rectangle; their times are odd and below the steps, their wires are local, and
     /// they are in order. So are the wires of the ports in its box. Each gate of the circuit uses wires that are defined before
-    /// it; the inputs are the circuit's first wires.
+    /// it; the inputs are the circuit's first wires. All this holds of the modules as they were written, and in version 2 also with the halo
+    /// lines that the edge lines beside them stand for.
     pub fn modules(&self) -> usize
         ensures count { result ≡ length (modules_of self.now.entries) }
         ensures good { AreModules (setting_of self.now.circuit self.now.layout) (modules_in self.now) }

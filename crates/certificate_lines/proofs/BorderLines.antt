@@ -3,7 +3,8 @@ use Rattle.std.proofs.Common.{◌≡◌, ◌==◌, if◌then◌else◌, ℕ, Boo
 use Rattle.std.proofs.lemmas.Option.{same_Some}
 use Rattle.section_text.specs.Words.{five, is_word_at, number_at, name_at}
 use Rattle.pattern.specs.Forms.{cell_from}
-use Rattle.certificate_lines.specs.BorderWords.{border_by, cell_by, signal_by, stop_by, time_by}
+use Rattle.pattern.specs.PortWords.{cell_by}
+use Rattle.certificate_lines.specs.BorderWords.{border_by, signal_by, stop_by, time_by}
 use Rattle.certificate_lines.specs.Forms.{border_of, signal_at, stop_of, time_at, timed_cell, timed_wire}
 
 by_words : (k t x y s : List ℕ) → border_of (k ∷ t ∷ x ∷ y ∷ s ∷ []) ≡ border_by t x y s

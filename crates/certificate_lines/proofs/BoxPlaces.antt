@@ -15,7 +15,8 @@ use Rattle.module_box.proofs.BoxCells.{in_box_nats}
 use Rattle.module_box.specs.Places.{place_in}
 use Rattle.certificate_lines.specs.Rules.{box_cells}
 use Rattle.certificate_lines.proofs.Lists.{kept, any_at, some_is}
-use Rattle.certificate_lines.proofs.PortLemmas.{cell_itself, in_box_cells}
+use Rattle.bbm_rule.proofs.SameCells.{cell_itself}
+use Rattle.certificate_lines.proofs.PortLemmas.{in_box_cells}
 
 pub small_row : (r w : ℕ) → r < 64 → w ≤ 64 → r * w ≤ 4096
 small_row r w p q =

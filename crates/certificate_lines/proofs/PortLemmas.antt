@@ -1,30 +1,15 @@
--- Equal cells, and the cells of a box.
+-- The cells of a box.
 use Rattle.std.proofs.Common.{◌≡◌, ℤ, Bool, true, List, [], ◌∷◌, refl, ap, ◌∙◌, inl, inr}
 use Rattle.std.specs.List.{list_any}
-use Rattle.std.specs.Ordering.{int_eq}
-use Rattle.std.proofs.lemmas.Bool.{and_parts}
-use Rattle.std.proofs.lemmas.Bool.Decides.{Decides-int_eq}
 use Rattle.bbm_rule.specs.Plane.{is_at}
 use Rattle.bbm_rule.specs.declared.block.Cell.{Cell}
+use Rattle.bbm_rule.proofs.SameCells.{cell_same, cell_itself}
 use Rattle.pattern.specs.Layout.{in_cells}
 use Rattle.pattern.proofs.RectangleLemmas.{in_rectangle_cells}
 use Rattle.module_box.specs.Boxes.{in_box}
 use Rattle.module_box.specs.declared.boxes.Box2.{Box2}
-use Rattle.certificate_lines.specs.Rules.{box_cells, same_cell}
+use Rattle.certificate_lines.specs.Rules.{box_cells}
 use Rattle.certificate_lines.proofs.Lists.{or_parts, or_left, or_right}
-
-pub cell_same : (c d : Cell) → same_cell c d ≡ true → c ≡ d
-cell_same c d h =
-    let parts = and_parts (int_eq c.x d.x) (int_eq c.y d.y) h in
-    let p : c.x ≡ d.x = (Decides-int_eq c.x d.x).0 parts.0 in
-    let q : c.y ≡ d.y = (Decides-int_eq c.y d.y).0 parts.1 in
-    λ i. record { x = p i; y = q i }
-
-pub cell_itself : (c : Cell) → same_cell c c ≡ true
-cell_itself c =
-    let p = (Decides-int_eq c.x c.x).1 refl in
-    let q = (Decides-int_eq c.y c.y).1 refl in
-    rw (p, q) refl
 
 -- ---- the cells of a box
 

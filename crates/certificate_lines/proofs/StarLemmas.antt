@@ -6,7 +6,7 @@ use Rattle.std.proofs.lemmas.List.Folds.{list_any-append}
 use Rattle.bbm_rule.specs.declared.block.Cell.{Cell}
 use Rattle.certificate_lines.specs.Rules.{same_cell, is_star, is_starred}
 use Rattle.certificate_lines.specs.declared.entry.Border.{Border}
-use Rattle.certificate_lines.proofs.PortLemmas.{cell_same}
+use Rattle.bbm_rule.proofs.SameCells.{cell_same}
 
 pub or_none : (a : Bool) → (a || false) ≡ a
 or_none true = refl

@@ -22,7 +22,8 @@ use Rattle.certificate_lines.specs.Rules.{box_cells, whole}
 use Rattle.certificate_lines.proofs.BoxPlaces.{box_length, box_place}
 use Rattle.certificate_lines.proofs.Lists.{same_truth, passed, any_at, some_is}
 use Rattle.certificate_lines.proofs.LayoutPorts.{port_stands, none_stands}
-use Rattle.certificate_lines.proofs.PortLemmas.{cell_same, cell_itself, cell_passed, has_cell, in_box_cells}
+use Rattle.bbm_rule.proofs.SameCells.{cell_same, cell_itself}
+use Rattle.certificate_lines.proofs.PortLemmas.{cell_passed, has_cell, in_box_cells}
 
 -- ---- the ports in a box
 

@@ -2,8 +2,7 @@
 use Rattle.std.specs.Prelude.{ℕ, List, codes, Option, Some, None, if◌then◌else◌}
 use Rattle.std.specs.Str.{bytes_eq}
 use Rattle.section_text.specs.Words.{number_of, name_of, ◌>>=◌}
-use Rattle.bbm_rule.specs.declared.block.Cell.{Cell}
-use Rattle.pattern.specs.Layout.{cell}
+use Rattle.pattern.specs.PortWords.{cell_by}
 use Rattle.certificate_lines.specs.declared.entry.Border.{Border}
 use Rattle.certificate_lines.specs.declared.entry.StopLine.{StopLine}
 
@@ -12,12 +11,6 @@ time_by w = if bytes_eq w (codes "*") then Some None else (number_of w >>= λ t.
 
 unfoldable pub signal_by : List ℕ → Option (Option (List ℕ))
 signal_by w = if bytes_eq w (codes "1") then Some None else (name_of w >>= λ n. Some (Some n))
-
-unfoldable pub cell_by : List ℕ → List ℕ → Option Cell
-cell_by column row = do
-  x ← number_of column
-  y ← number_of row
-  Some (cell x y)
 
 unfoldable pub border_by : List ℕ → List ℕ → List ℕ → List ℕ → Option Border
 border_by time column row signal = do

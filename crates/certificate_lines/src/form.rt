@@ -3,11 +3,11 @@ ghost use Rattle.std.specs.Prelude.{◌≡◌, ◌+◌, ◌≤◌};
 ghost use Rattle.section_text.specs.Words.{words_of, lone};
 ghost use Rattle.section_text.specs.FeedState.{IsLine, line_bytes};
 ghost use Rattle.certificate_lines.specs.Forms.{Line as FormLine, corner_and_sides, area_of, border_of, form_of, stop_of};
-ghost use Rattle.certificate_lines.specs.BorderWords.{border_by, cell_by, signal_by, stop_by, time_by};
+ghost use Rattle.certificate_lines.specs.BorderWords.{border_by, signal_by, stop_by, time_by};
 
 use crate::entry::{Border, Entry, StopLine};
-use bbm_rule::Cell;
 use module_box::Box2;
+use pattern::cell_from_words;
 use section_text::{Feed, FiveWords, Form, Line, Name, read_number};
 
 #[tactic(auto, unfolding(crate::specs::Forms::corner_and_sides))]
@@ -53,24 +53,12 @@ fn signal_of(word: &[u8]) -> Option<Option<Name>>
     Some(Some(Name::of(word)?))
 }
 
-#[tactic(auto, unfolding(crate::specs::BorderWords::cell_by, pattern::specs::Layout::cell))]
-fn cell_of(column: &[u8], row: &[u8]) -> Option<Cell>
-    ensures { result ≡ cell_by column.now row.now }
-{
-    let x = read_number(column)?;
-    let y = read_number(row)?;
-    Some(Cell {
-        x: x as i32,
-        y: y as i32,
-    })
-}
-
 #[tactic(auto, unfolding(crate::specs::BorderWords::border_by))]
 fn border_of_words(words: &FiveWords) -> Option<Border>
     ensures { result ≡ border_by words.now.second.now words.now.third.now words.now.fourth.now words.now.fifth.now }
 {
     let time = time_of(words.second)?;
-    let cell = cell_of(words.third, words.fourth)?;
+    let cell = cell_from_words(words.third, words.fourth)?;
     let signal = signal_of(words.fifth)?;
     Some(Border { time, cell, signal })
 }
@@ -91,7 +79,7 @@ fn stop_of_words(words: &FiveWords) -> Option<StopLine>
 {
     let time = read_number(words.second)?;
     let wire = Name::of(words.third)?;
-    let cell = cell_of(words.fourth, words.fifth)?;
+    let cell = cell_from_words(words.fourth, words.fifth)?;
     Some(StopLine { time, wire, cell })
 }
 

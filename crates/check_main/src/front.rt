@@ -50,7 +50,7 @@ pub struct Streams<R, W, E> {
 /// Does what the words ask for and gives the exit status. The words have no program's name.
 ///
 /// - 0: the command is done, or help or the version was asked for and written
-/// - 1: the verdict is no, or a ball left the rectangle
+/// - 1: the verdict is no, a ball left the rectangle, or a gate has no row for what it is fed
 /// - 2: the words were refused
 /// - 3: the text was refused, and `writer` was told the line and why
 /// - 4: `reader` or `writer` failed, or the text is longer than 16 MiB

@@ -74,7 +74,7 @@ pub fn run_stream<R: Source, W: Sink>(
 }
 
 /// Evaluates a circuit under an assignment: reads the whole text, at most 16 MiB, and writes the answer once it is
-/// complete. The outcome is `Yes` or `Refused`.
+/// complete. `No` is a gate that has no row for what it is fed.
 pub fn value_stream<R: Source, W: Sink>(
     alloc: Global,
     reader: &mut R,

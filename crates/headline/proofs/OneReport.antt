@@ -16,10 +16,10 @@ use Rattle.certificate.specs.Jobs.{AreJobsOf}
 use Rattle.certificate_lines.specs.Modules.{AreModules}
 use Rattle.certificate.specs.Text.{certificate_text}
 use Rattle.local_run.specs.Faults.{IsFault, IsLeastFault, IsLeastKeepFault}
-use Rattle.local_run.specs.Laws.{SameKeeps}
+use Rattle.audit_core.specs.ModuleLaws.{SameKeeps}
 use Rattle.local_run.specs.declared.fault.Fault.{Fault}
 use Rattle.local_run.specs.declared.fault.KeepFault.{KeepFault}
-use Rattle.local_run.proofs.ModuleJobs.{jobs_agree, keeps_agree}
+use Rattle.audit_core.proofs.ModuleJobs.{jobs_agree, keeps_agree}
 use Rattle.audit_core.specs.CoreLaws.{SaysTheSame}
 use Rattle.audit_core.specs.Verdicts.{Accepts, AreLeastFaults, AreReportLines, IsToldOf, IsVerdict}
 use Rattle.audit_core.specs.declared.verdict.Reasons.{Reasons}

@@ -21,7 +21,8 @@ use Rattle.module_job.specs.Signals.{is_live, Meets}
 use Rattle.module_job.specs.declared.job.Demand.{Demand}
 use Rattle.module_job.specs.declared.job.Demand.TheVariants as Demanded
 use Rattle.certificate_lines.proofs.Lists.{or_parts}
-use Rattle.certificate_lines.proofs.PortLemmas.{cell_same, in_box_cells}
+use Rattle.bbm_rule.proofs.SameCells.{cell_same}
+use Rattle.certificate_lines.proofs.PortLemmas.{in_box_cells}
 use Rattle.local_run.specs.Faults.{IsFault, IsFaultUnder, assignments}
 use Rattle.local_run.specs.Runs.{local_run}
 use Rattle.local_run.specs.declared.fault.Fault.{Fault}

@@ -13,7 +13,7 @@ use Rattle.bbm_rule.specs.Plane.{is_at}
 use Rattle.module_box.specs.Schedules.{is_then}
 use Rattle.module_box.specs.declared.schedules.Moment.{Moment}
 use Rattle.module_box.proofs.Rising.{is_first, moment_total}
-use Rattle.certificate_lines.proofs.PortLemmas.{cell_same, cell_itself}
+use Rattle.bbm_rule.proofs.SameCells.{cell_same, cell_itself}
 use Rattle.module_job.specs.Jobs.{JobState, IsJob, job_demand, stop_moment}
 use Rattle.module_job.specs.Signals.{Meets, IsDemandBelow}
 use Rattle.module_job.specs.declared.job.Demand.{Demand}

@@ -17,6 +17,5 @@ pub mod Silence
 pub mod LeapLemmas
 pub mod Leasts
 pub mod LeapRuns
-pub mod ModuleJobs
 pub mod MovedJobs
 pub mod SameHalos

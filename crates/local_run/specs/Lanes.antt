@@ -13,7 +13,7 @@ plane_of p x y =
     if x % 2 == 0 then (if y % 2 == 0 then p.odd.items else p.down.items)
     else (if y % 2 == 0 then p.right.items else p.even.items)
 
--- whether the cell at column x and row y, counted from the ring, is live under assignment a
+-- whether the cell at column x and row y, counted from the halo, is live under assignment a
 unfoldable pub lane : Planes → ℕ → ℕ → ℕ → Bool
 lane p a x y = bit (slice_index (plane_of p x y) (p.words * (p.stride * (y / 2) + x / 2) + a / 64)) (a % 64)
 

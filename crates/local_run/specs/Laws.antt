@@ -1,16 +1,12 @@
 -- What the laws of this crate say
 use Rattle.std.specs.Prelude.{◌≡◌, ℕ, ℤ, ◌+◌, ◌<◌, ◌≤◌, ◌%◌, ◌↔◌, Option, None, IsTrue}
 use Rattle.std.specs.List.{All}
-use Rattle.circuit.specs.Meaning.{Circuit, Valuation, AreOrdered}
-use Rattle.pattern.specs.Layout.{Pattern}
+use Rattle.circuit.specs.Meaning.{Valuation, AreOrdered}
 use Rattle.module_box.specs.LocalValues.{IsLocalValuation, IsLocallyUndefined}
 use Rattle.module_box.specs.Laws.{LiesInBox}
 use Rattle.module_box.specs.Boxes.{in_halo}
-use Rattle.module_box.specs.Locals.{AreDifferent}
 use Rattle.module_box.specs.Schedules.{Signals, signal_at}
-use Rattle.certificate_lines.specs.Entries.{ModuleLines, known}
 use Rattle.module_job.specs.Jobs.{JobState, IsJob}
-use Rattle.certificate.specs.Jobs.{IsJobOf}
 use Rattle.local_run.specs.Faults.{IsEdgeFault, IsFault, IsFaultUnder, IsKeepFault, IsLeastFault, IsLeastKeepFault, assignments}
 use Rattle.local_run.specs.Leaps.{IsOddOf, IsSteady, StaysUpTo}
 use Rattle.local_run.specs.Runs.{local_run}
@@ -53,19 +49,6 @@ abbrev pub FaultsAreDecided : Type 0
 FaultsAreDecided = (j : JobState) (f : Fault) (u : Valuation) → IsJob j → AreOrdered j.locals.netlist.given j.locals.netlist.gates →
     f.assignment < assignments j → IsLocalValuation j.locals f.assignment u →
     IsFault j f ↔ IsFaultUnder j u f.time f.kind f.cell.x f.cell.y
-
--- jobs of one module have the same faults, where no wire of the module is cut or defined twice
-abbrev pub JobsOfOneModuleAgree : Type 0
-JobsOfOneModuleAgree = (c : Circuit) (p : Pattern) (m : ModuleLines) (j k : JobState) (f : Fault) → AreDifferent (known c m) → IsJobOf c p m j → IsJobOf c p m k →
-    IsFault j f → IsFault k f
-
--- and the same wires, gates and keep faults
-pub record SameKeeps (j k : JobState) : Type 0 where
-  pub locals : j.locals ≡ k.locals
-  pub keeps : (f : KeepFault) → IsKeepFault j f → IsKeepFault k f
-
-abbrev pub JobsOfOneModuleAgreeOnKeeps : Type 0
-JobsOfOneModuleAgreeOnKeeps = (c : Circuit) (p : Pattern) (m : ModuleLines) (j k : JobState) → AreDifferent (known c m) → IsJobOf c p m j → IsJobOf c p m k → SameKeeps j k
 
 -- at each odd time below the steps these say the same of each cell of the halo as the job
 abbrev pub SayTheSame : JobState → Signals → Type 0

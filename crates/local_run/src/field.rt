@@ -15,8 +15,8 @@ use crate::marks::{mark_around, mark_corners};
 use crate::planes::Planes;
 use crate::values::Values;
 use bbm_rule::marks::{is_marked, mark, mark_all, next_marked, unmark};
-use certificate::Job;
 use module_box::Signal;
+use module_job::Job;
 use std::alloc::{AllocError, Global};
 
 /// Planes with marks on the blocks that a turn may change.

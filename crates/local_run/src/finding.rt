@@ -8,8 +8,8 @@ ghost use Rattle.local_run.specs.Faults.{IsFault, IsLeastFault, IsLeastFault-pro
 ghost use Rattle.local_run.specs.Moves.{fault_on};
 
 use crate::fault::{Fault, KeepFault};
-use certificate::Job;
 use module_box::moved_cell;
+use module_job::Job;
 use std::sync::Arc;
 
 /// What was found of a job, with the digest of the certificate and the number of the module that it was made for.

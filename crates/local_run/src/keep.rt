@@ -4,7 +4,7 @@ ghost use Rattle.local_run.specs.Scans.{IsReady};
 
 use crate::fault::KeepFault;
 use crate::values::Values;
-use certificate::Job;
+use module_job::Job;
 
 /// The least keep fault of a job, by gate and assignment. Each assignment counts, also one under which an earlier run looks for no
 /// faults.

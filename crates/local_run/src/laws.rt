@@ -1,5 +1,5 @@
 //! Laws of findings.
-ghost use Rattle.local_run.specs.Laws.{FindingsAgree, FindingsAgreeOnKeeps, NoneMeansNoFault, NoneMeansNoKeepFault, LeastFaultIsUnique, LeastKeepFaultIsUnique, UndefinedHasNoFault, FaultsAreDecided, JobsOfOneModuleAgree, JobsOfOneModuleAgreeOnKeeps, JobsWithSameHalosAgree, StaysInBox, QuietRunsStay, NoNewEdgeFaults};
+ghost use Rattle.local_run.specs.Laws.{FindingsAgree, FindingsAgreeOnKeeps, NoneMeansNoFault, NoneMeansNoKeepFault, LeastFaultIsUnique, LeastKeepFaultIsUnique, UndefinedHasNoFault, FaultsAreDecided, JobsWithSameHalosAgree, StaysInBox, QuietRunsStay, NoNewEdgeFaults};
 ghost use Rattle.local_run.specs.Moves.{FaultsMoveAlong, LeastFaultMovesAlong, LeastKeepFaultStays};
 
 /// Two findings of one job have one fault, and one keep fault.
@@ -28,12 +28,6 @@ pub fn undefined_has_no_fault()
 /// Any one local valuation under an assignment tells whether the job has a fault under it.
 pub fn faults_are_decided()
     ensures { FaultsAreDecided }
-{}
-
-/// Jobs of one module have the same faults: what is not pinned in a job makes no difference.
-pub fn jobs_of_one_module_agree()
-    ensures faults { JobsOfOneModuleAgree }
-    ensures keeps { JobsOfOneModuleAgreeOnKeeps }
 {}
 
 /// Jobs have the same faults where they differ in their halos alone, and these say the same at each odd time below the steps.

@@ -6,8 +6,8 @@ ghost use Rattle.module_box.specs.Schedules.{IsRising, moment_of};
 ghost use Rattle.local_run.specs.Leaps.{HasNoEvents, IsLeap, IsSteady, IsTimeBetween};
 ghost use Rattle.local_run.specs.Scans.{IsNextStop};
 
-use certificate::{Job, Shape};
 use module_box::{Event, Schedule};
+use module_job::{Job, Shape};
 
 /// The place of the first event at the time or after it, or how many there are.
 pub fn first_event(events: &[Event], time: u32) -> usize

@@ -11,8 +11,8 @@ ghost use Rattle.std.specs.Prelude.{ℕ, ◌≢◌, MatchOption, ◌≡◌, ◌<
 use crate::leaps::first_event;
 use bbm_rule::Cell;
 use bbm_rule::marks::mark;
-use certificate::{Job, Shape};
 use module_box::{Box2, Event, Held, Schedule};
+use module_job::{Job, Shape};
 use std::alloc::{AllocError, Global};
 
 // The column or row of a coordinate, counted from the halo of a span of `count` numbers, if it is there.

@@ -8,8 +8,8 @@ ghost use Rattle.module_job.specs.Signals.{IsBelow, IsDemandBelow};
 ghost use Rattle.local_run.specs.Places.{inner, outer, IsSmall};
 
 use bbm_rule::Cell;
-use certificate::{Demand, Job};
 use module_box::{Box2, Signal};
+use module_job::{Demand, Job};
 
 /// The cell at a column and row of the box, for columns and rows below 67 of a box whose corner has coordinates of at most 512.
 #[tactic(auto, unfolding(crate::specs::Places::inner))]

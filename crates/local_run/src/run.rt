@@ -15,7 +15,7 @@ use crate::planes::Planes;
 use crate::scan::{are_edges_right, first_fault, first_stop_fault};
 use crate::steps::{even_time, odd_time, put_start};
 use crate::values::Values;
-use certificate::Job;
+use module_job::Job;
 use std::alloc::{AllocError, Global};
 use std::sync::Arc;
 

@@ -12,8 +12,8 @@ use crate::field::Field;
 use crate::places::{demand_at, edge_at, inner_cell, is_ring, place_of};
 use crate::steps::is_silent;
 use crate::values::Values;
-use certificate::{Demand, Job, Stop};
 use module_box::Signal;
+use module_job::{Demand, Job, Stop};
 
 // The least assignment under which the cell at a column and row of the box has a fault of the kind.
 fn cell_fault(

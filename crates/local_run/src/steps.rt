@@ -8,7 +8,7 @@ use crate::field::Field;
 use crate::places::{halo_at, start_at};
 use crate::planes::Planes;
 use crate::values::Values;
-use certificate::Job;
+use module_job::Job;
 
 /// The cells of the box become those of time 0.
 #[tactic(auto, using(crate::proofs::Scans::row_from))]

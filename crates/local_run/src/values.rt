@@ -10,8 +10,8 @@ ghost use Rattle.module_box.specs.LocalValues.{value_of};
 
 use crate::lines::held_cells;
 use crate::planes::Planes;
-use certificate::Job;
 use module_box::{Signal, ValueRows};
+use module_job::Job;
 use std::alloc::{AllocError, Global};
 
 /// For each wire of a job a row of words: bit b of word k is its value under assignment 64 k + b. With them the assignments under which

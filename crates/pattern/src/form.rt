@@ -38,7 +38,7 @@ fn lone_cell_on(feed: &Feed, line: &Line) -> Option<Cell>
 
 /// The cell that two words are, by its column and its row. None where one of the two is no number.
 #[tactic(auto, unfolding(crate::specs::PortWords::cell_by, crate::specs::Layout::cell))]
-pub fn cell_of(column: &[u8], row: &[u8]) -> Option<Cell>
+pub fn cell_from_words(column: &[u8], row: &[u8]) -> Option<Cell>
     ensures { result ≡ cell_by column.now row.now }
 {
     let x = read_number(column)?;
@@ -54,7 +54,7 @@ fn port_of_words(words: &FourWords) -> Option<Port>
     ensures { result ≡ port_by words.now.second.now words.now.third.now words.now.fourth.now }
 {
     let name = Name::of(words.second)?;
-    let cell = cell_of(words.third, words.fourth)?;
+    let cell = cell_from_words(words.third, words.fourth)?;
     Some(Port { name, cell })
 }
 

@@ -16,7 +16,7 @@ mod run;
 mod taken;
 
 pub use assign::read_assign;
-pub use form::read_cell;
+pub use form::{cell_from_words, read_cell};
 pub use layout::Layout;
 pub use on::are_on;
 pub use parts::{Extent, Part, Port, Rectangle};

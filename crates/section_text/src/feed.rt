@@ -124,12 +124,14 @@ fn five_in(line: &[u8]) -> Option<FiveWords<'_>>
     let Some((first, rest)) = split_word(line) else {
         return None;
     };
-    let Some(FourWords {
-        first: second,
-        second: third,
-        third: fourth,
-        fourth: fifth,
-    }) = four_in(rest)
+    let Some(
+        FourWords {
+            first: second,
+            second: third,
+            third: fourth,
+            fourth: fifth,
+        },
+    ) = four_in(rest)
     else {
         return None;
     };

@@ -1,5 +1,5 @@
-use Rattle.local_run.proofs.ModuleJobs.{jobs_agree, keeps_agree}
-use Rattle.local_run.proofs.laws.jobs_of_one_module_agree.Goals as goal
+use Rattle.audit_core.proofs.ModuleJobs.{jobs_agree, keeps_agree}
+use Rattle.audit_core.proofs.laws.jobs_of_one_module_agree.Goals as goal
 
 pub returns-clause-faults : goal.returns-clause-faults
 returns-clause-faults c = jobs_agree
