@@ -1,22 +1,17 @@
 -- Pairs of rows that stay, while others are turned
 use Rattle.std.proofs.Common.{◌≡◌, ◌≢◌, ℕ, Bool, true, false, ◌||◌, not, nat_eq, ◌<◌, ◌≤◌, ◌+◌, ◌-◌, ◌*◌, ◌/◌, ◌%◌, zero, suc, refl, arith, ◌∙◌, sym, ap, List, length, length-set, get_or, set, bit_or}
-use Rattle.std.specs.Prelude.{bit_xor}
 use Rattle.std.proofs.lemmas.Bool.Decides.{nat_tests}
 use Rattle.std.proofs.Math.Nat.{mul-le-mul_right}
-use Rattle.bbm_rule.specs.Bits.{bit}
+use Rattle.bbm_rule.specs.Bits.{bit, AreSameBits, IsBlank}
 use Rattle.bbm_rule.specs.Plane.{turned}
 use Rattle.bbm_rule.specs.Rows.{cell_at, mate, AreSameCells, HasWindow, SetsPlace, SetsWindow, TurnsRun, TurnsRows}
 use Rattle.bbm_rule.specs.Marks.{IsUnmarked, MarksOne}
 use Rattle.bbm_rule.specs.Bands.{AreCalm}
-use Rattle.bbm_rule.proofs.BitLemmas.{by_lt_or_le, by_eq_or_not, xor, bit-or, bit-xor, bit-zero}
+use Rattle.bbm_rule.proofs.BitLemmas.{by_lt_or_le, by_eq_or_not, bit-or, bit-zero}
 use Rattle.bbm_rule.proofs.RunLemmas.{mate_lt, rows_join, word_is_window, word_set}
 use Rattle.bbm_rule.proofs.PlaneLemmas.{turned_twice, mate_twice, dead_block}
 
 -- ---- what a turn of two rows changes
--- no bit is set
-abbrev pub IsBlank : ℕ → Type 0
-IsBlank n = (j : ℕ) → bit n j ≡ false
-
 pub blank_from_test : (n : ℕ) → not (nat_eq n 0) ≡ false → IsBlank n
 blank_from_test n h j =
     let e : n ≡ 0 = grind (arith, nat_tests) in
@@ -26,43 +21,31 @@ or_none : (a b : Bool) → (a || b) ≡ false → (a ≡ false) × (b ≡ false)
 or_none true b h = cc
 or_none false b h = (refl, h)
 
-xor_none : (a b : Bool) → xor a b ≡ false → a ≡ b
-xor_none true true h = refl
-xor_none true false h = cc
-xor_none false true h = cc
-xor_none false false h = refl
-
--- what is noted of the words so far, and of two more, before and after
-abbrev noted : ℕ → ℕ → ℕ → ℕ → ℕ → ℕ
-noted changed a above b below = bit_or changed (bit_or (bit_xor a above) (bit_xor b below))
-
-noted_bits : (changed a above b below j : ℕ) → bit (noted changed a above b below) j ≡ false → (bit changed j ≡ false) × (bit a j ≡ bit above j) × (bit b j ≡ bit below j)
-noted_bits changed a above b below j h =
-    let first = or_none (bit changed j) _ (sym (bit-or changed _ j) ∙ h) in
-    let rest = or_none _ _ (sym (bit-or (bit_xor a above) (bit_xor b below) j) ∙ first.1) in
-    (first.0, xor_none _ _ (sym (bit-xor a above j) ∙ rest.0), xor_none _ _ (sym (bit-xor b below j) ∙ rest.1))
+noted_bits : (changed told j : ℕ) → bit (bit_or changed told) j ≡ false → (bit changed j ≡ false) × (bit told j ≡ false)
+noted_bits changed told j h = or_none (bit changed j) _ (sym (bit-or changed told j) ∙ h)
 
 -- a window that gets the cells that it has
-window_same : (p a v : ℕ) (old new : List ℕ) → ((j : ℕ) → bit a j ≡ bit v j) → HasWindow old p v → SetsWindow p a old new → AreSameCells old new
+window_same : (p a v : ℕ) (old new : List ℕ) → AreSameBits v a → HasWindow old p v → SetsWindow p a old new → AreSameCells old new
 window_same p a v old new same has sets q = by_lt_or_le q p (sets.before q)
     (λ le. by_lt_or_le q (p + 64)
-    (λ l. let e : p + (q - p) ≡ q = omega arith in rw e at (sets.cells (q - p) (omega arith) ∙ same (q - p) ∙ has.cells (q - p) (omega arith)))
+    (λ l. let e : p + (q - p) ≡ q = omega arith in rw e at (sets.cells (q - p) (omega arith) ∙ same (q - p) (omega arith) ∙ has.cells (q - p) (omega arith)))
     (λ past. sets.after q past))
 
 has_same : (p v : ℕ) (old new : List ℕ) → AreSameCells old new → HasWindow old p v → HasWindow new p v
 has_same p v old new same has = record { cells = λ j l. has.cells j l ∙ sym (same (p + j)) }
 
 -- where nothing is noted, no cell changed, also in two more windows
-pub windows_same : (p r changed a above b below : ℕ) (first second mid third : List ℕ) → (IsBlank changed → AreSameCells first second) → HasWindow second p above → HasWindow second r below → SetsWindow p a second mid → SetsWindow r b mid third → IsBlank (noted changed a above b below) → AreSameCells first third
-windows_same p r changed a above b below first second mid third so_far has_a has_b set_a set_b none =
-    let one = window_same p a above second mid (λ j. (noted_bits changed a above b below j (none j)).1) has_a set_a in
-    let two = window_same r b below mid third (λ j. (noted_bits changed a above b below j (none j)).2) (has_same r below second mid one has_b) set_b in
-    λ q. two q ∙ one q ∙ so_far (λ j. (noted_bits changed a above b below j (none j)).0) q
+pub windows_same : (p r changed told a above b below : ℕ) (first second mid third : List ℕ) → (IsBlank changed → AreSameCells first second) → (IsBlank told → AreSameBits above a × AreSameBits below b) → HasWindow second p above → HasWindow second r below → SetsWindow p a second mid → SetsWindow r b mid third → IsBlank (bit_or changed told) → AreSameCells first third
+windows_same p r changed told a above b below first second mid third so_far stays has_a has_b set_a set_b none =
+    let same = stays (λ j. (noted_bits changed told j (none j)).1) in
+    let one = window_same p a above second mid same.0 has_a set_a in
+    let two = window_same r b below mid third same.1 (has_same r below second mid one has_b) set_b in
+    λ q. two q ∙ one q ∙ so_far (λ j. (noted_bits changed told j (none j)).0) q
 
 -- nor in two more words
-pub words_same : (i k changed a b : ℕ) (first second : List ℕ) → i < length second → k < length second → (IsBlank changed → AreSameCells first second) → IsBlank (noted changed a (get_or second i 0) b (get_or second k 0)) → AreSameCells first (set (set second i a) k b)
-words_same i k changed a b first second room room' so_far none =
-    windows_same (64 * i) (64 * k) changed a (get_or second i 0) b (get_or second k 0) first second (set second i a) _ so_far
+pub words_same : (i k changed told a b : ℕ) (first second : List ℕ) → i < length second → k < length second → (IsBlank changed → AreSameCells first second) → (IsBlank told → AreSameBits (get_or second i 0) a × AreSameBits (get_or second k 0) b) → IsBlank (bit_or changed told) → AreSameCells first (set (set second i a) k b)
+words_same i k changed told a b first second room room' so_far stays none =
+    windows_same (64 * i) (64 * k) changed told a (get_or second i 0) b (get_or second k 0) first second (set second i a) _ so_far stays
     (word_is_window second i) (word_is_window second k) (word_set second i a room) (word_set (set second i a) k b (omega (arith, length-set {A = ℕ}))) none
 
 -- ---- pairs that stay

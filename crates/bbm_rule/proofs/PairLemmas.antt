@@ -8,7 +8,7 @@ use Rattle.std.proofs.Math.Nat.{div-add-mod}
 use Rattle.std.proofs.Math.Dec.{eqb}
 use Rattle.bbm_rule.specs.Plane.{turned}
 use Rattle.bbm_rule.specs.Words.{AreTurned}
-use Rattle.bbm_rule.specs.Bits.{bit}
+use Rattle.bbm_rule.specs.Bits.{bit, AreSameBits}
 use Rattle.bbm_rule.specs.Rows.{cell_at, mate, ArePairsTurned, HasWindow, SetsWindow}
 use Rattle.bbm_rule.proofs.BitLemmas.{by_lt_or_le, by_eq_or_not, holds_below, below_from_test, bit-and, bit-or, bit-shr, bit-mod, bit-shl_low, bit-shl_high, bit_above}
 
@@ -124,6 +124,31 @@ pairs_turned a b ul ur ll lr t = record {
   upper = side_turned a b ul ur t.upper_left t.upper_right;
   lower = side_turned b a ll lr t.lower_left t.lower_right;
 }
+
+-- a word that is joined again from its first and its second cells
+pub joined_same : (a u v : ℕ) → AreSameBits (bit_and a first_mask) u → AreSameBits (bit_and (a / 2) first_mask) v → AreSameBits a (bit_or u (v * 2 % 18446744073709551616))
+joined_same a u v first second j l = by_eq_or_not (j % 2) 0
+    (λ even. at_even j l even)
+    (λ odd.
+    let i : ℕ = j - 1 in
+    let e : j ≡ 1 + i = omega arith in
+    rw e (at_odd i (omega arith) (omega arith)))
+  where
+    or_false : (x : Bool) → (x || false) ≡ x
+    or_false true = refl
+    or_false false = refl
+
+    at_even : (j : ℕ) → j < 64 → j % 2 ≡ 0 → bit (bit_or u (v * 2 % 18446744073709551616)) j ≡ bit a j
+    at_even zero l even = joined_zero u v ∙ first 0 l ∙ kept_first a 0 l even
+    at_even (suc i) l even = let e : suc i ≡ 1 + i = omega arith in rw e (at_later i (omega arith) (omega arith))
+      where
+        at_later : (i : ℕ) → i < 63 → i % 2 ≡ 1 → bit (bit_or u (v * 2 % 18446744073709551616)) (1 + i) ≡ bit a (1 + i)
+        at_later i l odd =
+            let none : bit v i ≡ false = second i (omega arith) ∙ kept_second (a / 2) i (omega arith) odd in
+            rw (bit-or u (v * 2 % 2 ^ 64) (1 + i), bit-mod (v * 2 ^ 1) 64 (1 + i) (omega arith), bit-shl_high v 1 i (omega arith), none) (or_false (bit u (1 + i))) ∙ first (1 + i) (omega arith) ∙ kept_first a (1 + i) (omega arith) (omega arith)
+
+    at_odd : (i : ℕ) → i < 63 → i % 2 ≡ 0 → bit (bit_or u (v * 2 % 18446744073709551616)) (1 + i) ≡ bit a (1 + i)
+    at_odd i l even = joined_first u v i l (first (1 + i) (omega arith) ∙ kept_second a (1 + i) (omega arith) (omega arith)) ∙ second i (omega arith) ∙ kept_first (a / 2) i (omega arith) even ∙ bit-shr a 1 i
 
 -- ---- windows
 pub cell_in_word : (words : List ℕ) (i b : ℕ) → b < 64 → cell_at words (64 * i + b) ≡ bit (get_or words i 0) b

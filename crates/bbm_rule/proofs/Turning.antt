@@ -4,7 +4,7 @@ use Rattle.std.proofs.lemmas.Bool.{eqb-true}
 use Rattle.std.specs.Prelude.{bit_xor}
 use Rattle.bbm_rule.specs.Plane.{turned}
 use Rattle.bbm_rule.specs.Words.{turn_of, AreTurned}
-use Rattle.bbm_rule.specs.Bits.{bit}
+use Rattle.bbm_rule.specs.Bits.{bit, AreSameBits, IsBlank}
 use Rattle.bbm_rule.proofs.BitLemmas.{holds_below, below_from_test, xor, bit-and, bit-or, bit-xor}
 
 -- where a block is one that is not as it was, and the flips of the two diagonals
@@ -103,6 +103,22 @@ words_turned ul ur ll lr = record {
   lower_left = λ j. simp (bit-xor, bit-or, bit-and) (by_cases_ll (bit ul j) (bit ur j) (bit ll j) (bit lr j));
   lower_right = λ j. simp (bit-xor, bit-or, bit-and) (by_cases_lr (bit ul j) (bit ur j) (bit ll j) (bit lr j));
 }
+
+-- a bit stays where no block changes
+flip_none : (n changed other j : ℕ) → bit changed j ≡ false → bit (bit_xor n (bit_xor changed (bit_and changed other))) j ≡ bit n j
+flip_none n changed other j none = rw (bit-xor n _ j, bit-xor changed _ j, bit-and changed other j, none) (xor_false (bit n j))
+  where
+    xor_false : (a : Bool) → xor a false ≡ a
+    xor_false true = refl
+    xor_false false = refl
+
+pub words_stay : (ul ur ll lr : ℕ) → IsBlank (changed_of ul ur ll lr) → AreSameBits ul (bit_xor ul (flip_main_of ul ur ll lr)) × AreSameBits ur (bit_xor ur (flip_anti_of ul ur ll lr)) × AreSameBits ll (bit_xor ll (flip_anti_of ul ur ll lr)) × AreSameBits lr (bit_xor lr (flip_main_of ul ur ll lr))
+words_stay ul ur ll lr none = (
+  λ j l. flip_none ul _ _ j (none j),
+  λ j l. flip_none ur _ _ j (none j),
+  λ j l. flip_none ll _ _ j (none j),
+  λ j l. flip_none lr _ _ j (none j),
+)
 
 abbrev pub turns : List ℕ
 turns = 0 ∷ 8 ∷ 4 ∷ 3 ∷ 2 ∷ 5 ∷ 9 ∷ 7 ∷ 1 ∷ 6 ∷ 10 ∷ 11 ∷ 12 ∷ 13 ∷ 14 ∷ 15 ∷ []

@@ -3,20 +3,22 @@
 
 ghost use Rattle.std.specs.Prelude.{◌≡◌, ◌+◌, ◌*◌, ◌<◌, ◌≤◌, ◌^◌, ◌-◌, length, false};
 ghost use Rattle.bbm_rule.specs.Bands.{AreCalm};
+ghost use Rattle.bbm_rule.specs.Bits.{AreSameBits, IsBlank};
 ghost use Rattle.bbm_rule.specs.Rows.{ArePairsTurned, AreSameCells, HasWindow, SetsWindow, TurnsRun, TurnsRows};
 
 use crate::marks::{mark, mark_before, next_marked, unmark};
-use crate::words::turn_words;
+use crate::words::turn_words_told;
 
 // the first cell of each pair
 const FIRST_OF_PAIR: u64 = 0x5555_5555_5555_5555;
 
-/// Turns the 32 blocks of two words that lie one above the other.
+/// Turns the 32 blocks of two words that lie one above the other. The third word has a bit for each block that changes.
 #[inline(always)]
-pub(crate) fn turn_pairs(upper: u64, lower: u64) -> (u64, u64)
-    ensures { ArePairsTurned upper lower result.0 result.1 }
+pub(crate) fn turn_pairs(upper: u64, lower: u64) -> (u64, u64, u64)
+    ensures turned { ArePairsTurned upper lower result.0 result.1 }
+    ensures stays { IsBlank result.2 → AreSameBits upper result.0 × AreSameBits lower result.1 }
 {
-    let (upper_first, upper_second, lower_first, lower_second) = turn_words(
+    let (upper_first, upper_second, lower_first, lower_second, changed) = turn_words_told(
         upper & FIRST_OF_PAIR,
         (upper >> 1) & FIRST_OF_PAIR,
         lower & FIRST_OF_PAIR,
@@ -25,6 +27,7 @@ pub(crate) fn turn_pairs(upper: u64, lower: u64) -> (u64, u64)
     (
         upper_first | (upper_second << 1),
         lower_first | (lower_second << 1),
+        changed,
     )
 }
 
@@ -58,8 +61,8 @@ fn turn_aligned(words: &mut [u64], upper: usize, stride: usize) -> bool
     let mut changed = 0;
     for k in 0..stride {
         let i = upper + k;
-        let (a, b) = turn_pairs(words[i], words[i + stride]);
-        changed |= (a ^ words[i]) | (b ^ words[i + stride]);
+        let (a, b, told) = turn_pairs(words[i], words[i + stride]);
+        changed |= told;
         words[i] = a;
         words[i + stride] = b;
     }
@@ -77,10 +80,8 @@ fn turn_shifted(words: &mut [u64], upper: usize, stride: usize) -> bool
     let mut changed = 0;
     for k in 0..stride {
         let i = upper + k;
-        let above = window(words, i);
-        let below = window(words, i + stride);
-        let (a, b) = turn_pairs(above, below);
-        changed |= (a ^ above) | (b ^ below);
+        let (a, b, told) = turn_pairs(window(words, i), window(words, i + stride));
+        changed |= told;
         put_window(words, i, a);
         put_window(words, i + stride, b);
     }

@@ -1,6 +1,7 @@
 //! Many blocks at a time, on words of bits.
 
 ghost use Rattle.std.specs.Prelude.{◌≡◌, ◌+◌, ◌<◌, ◌≤◌, ℕ, length, slice_index};
+ghost use Rattle.bbm_rule.specs.Bits.{AreSameBits, IsBlank};
 ghost use Rattle.bbm_rule.specs.Words.{AreTurned, AreTurnedAt, TurnsBetween};
 
 use std::simd::prelude::*;
@@ -16,6 +17,21 @@ pub fn turn_words(
 ) -> (u64, u64, u64, u64)
     ensures { AreTurned upper_left upper_right lower_left lower_right result.0 result.1 result.2 result.3 }
 {
+    let (a, b, c, d, _) = turn_words_told(upper_left, upper_right, lower_left, lower_right);
+    (a, b, c, d)
+}
+
+/// The same, and a fifth word with a bit for each block that changes.
+#[inline(always)]
+pub(crate) fn turn_words_told(
+    upper_left: u64,
+    upper_right: u64,
+    lower_left: u64,
+    lower_right: u64,
+) -> (u64, u64, u64, u64, u64)
+    ensures turned { AreTurned upper_left upper_right lower_left lower_right result.0 result.1 result.2 result.3 }
+    ensures stays { IsBlank result.4 → AreSameBits upper_left result.0 × AreSameBits upper_right result.1 × AreSameBits lower_left result.2 × AreSameBits lower_right result.3 }
+{
     // `a ^ (a & b)` stands for `a & !b`.
     let main = upper_left ^ lower_right;
     let anti = upper_right ^ lower_left;
@@ -27,6 +43,7 @@ pub fn turn_words(
         upper_right ^ flip_anti,
         lower_left ^ flip_anti,
         lower_right ^ flip_main,
+        changed,
     )
 }
 
