@@ -4,6 +4,7 @@ pub mod LocalRuns
 pub mod Decided
 pub mod Least
 pub mod LaneLemmas
+pub mod MarkSearch
 pub mod Scans
 pub mod TurnLemmas
 pub mod CalmLemmas

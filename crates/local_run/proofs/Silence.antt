@@ -1,13 +1,15 @@
 -- Cells that are known to be dead and have no line
-use Rattle.std.proofs.Common.{◌≡◌, ℕ, true, false, ◌<◌, ◌≤◌, ◌+◌, ◌-◌, ◌*◌, ◌/◌, ◌%◌, arith, sym, ◌∙◌, ap, ap₂, subst, List, None}
+use Rattle.std.proofs.Common.{◌≡◌, ℕ, true, false, ◌<◌, ◌≤◌, ◌+◌, ◌-◌, ◌*◌, ◌/◌, ◌%◌, arith, sym, ◌∙◌, ap, ap₂, subst, refl, inl, inr, ◌⊎◌, List, None}
 use Rattle.std.specs.Prelude.{ℤ}
 use Rattle.std.proofs.lemmas.Bool.{and_parts, false≢true}
 use Rattle.bbm_rule.specs.Spans.{in_span}
 use Rattle.module_box.specs.Boxes.{in_box, in_ring}
 use Rattle.module_box.specs.declared.boxes.Box2.{Box2}
-use Rattle.bbm_rule.proofs.BitLemmas.{by_eq_or_not, bit-zero}
+use Rattle.std.proofs.Math.Nat.{mul-le-mul_left}
+use Rattle.bbm_rule.proofs.BitLemmas.{by_eq_or_not, by_lt_or_le, bit-zero}
 use Rattle.module_job.specs.Jobs.{JobState}
 use Rattle.module_job.specs.Signals.{is_live}
+use Rattle.local_run.specs.Borders.{IsInner}
 use Rattle.local_run.specs.Calm.{IsDeadAt}
 use Rattle.local_run.specs.Faults.{assignments}
 use Rattle.local_run.specs.Runs.{local_run}
@@ -15,12 +17,13 @@ use Rattle.local_run.specs.Lanes.{lane}
 use Rattle.local_run.specs.Places.{inner, outer}
 use Rattle.bbm_rule.specs.Marks.{IsUnmarked}
 use Rattle.local_run.specs.Quiet.{AreLines, number_at}
-use Rattle.local_run.specs.Scans.{HasEdgeAt, HasEdgesIn, HasHaloIn, IsFound, IsLeastBelow, IsOuter, IsReady, IsSilent, Shows, valuation}
+use Rattle.local_run.specs.Scans.{HasEdgeAt, HasEdgesIn, HasHaloAt, HasHaloIn, IsFound, IsLeastBelow, IsOuter, IsReady, IsSilent, Shows, valuation}
 use Rattle.local_run.specs.declared.fault.Kind.TheVariants.{Edge}
 use Rattle.local_run.specs.declared.planes.Planes.{Planes}
 use Rattle.local_run.specs.declared.values.Values.{Values}
 use Rattle.local_run.proofs.Scans.{plane_odd, plane_down, plane_right, plane_even}
 use Rattle.local_run.proofs.Firsts.{not_in_ring, span_at}
+use Rattle.local_run.proofs.InsideLemmas.{in_row}
 use Rattle.local_run.proofs.QuietLemmas.{outer_same}
 use Rattle.local_run.proofs.Stepping.{box_out, outer_inner}
 
@@ -80,7 +83,7 @@ silent_from j p t u marks es dead lines free = record {
   halo = λ x y lx ly e. lines.halos x y lx ly (subst (IsUnmarked marks) (sym e) free);
 }
 
--- cells outside the box have none
+-- ---- cells outside the box have no edge fault
 pub outer_edge : (j : JobState) (vs : Values) (t x y : ℕ) → IsOuter j.area x y → HasEdgeAt j vs t x y
 outer_edge j vs t x y out a l f = false≢true (sym (box_out j.area x y out) ∙ ring_in_box j.area _ _ f.1.ring)
 
@@ -112,3 +115,49 @@ between_edges j vs t x y lx hx ly hy a l f =
   where
     next : (k : ℕ) → 1 ≤ k → k ≡ 1 + (k - 1)
     next k l = omega arith
+
+-- ---- the numbers that a look at ring and halo passes
+-- from one number to another: they have no cell of ring and halo, or are dead and without a mark
+abbrev pub ArePassed : ℕ → ℕ → List ℕ → Planes → Type 0
+ArePassed from to marks p = (column row : ℕ) → column < p.stride → row < p.rows → from ≤ p.stride * row + column → p.stride * row + column < to →
+    IsInner p.stride p.rows column row ⊎ (IsDeadAt (p.stride * row + column) p × IsUnmarked marks (p.stride * row + column))
+
+number_in : (j : JobState) (vs : Values) (t : ℕ) (p : Planes) (x y : ℕ) → Shows j vs t p → number_at j.area x y ≡ p.stride * (y / 2) + x / 2
+number_in j vs t p x y shows = ap (λ s. s * (y / 2) + x / 2) (sym shows.size.1)
+
+pub passed_edges : (j : JobState) (vs : Values) (p : Planes) (t from to x y : ℕ) (marks : List ℕ) → IsReady j vs → Shows j vs t p → AreLines j t marks → ArePassed from to marks p →
+    x < j.area.w + 2 → y < j.area.h + 2 → from ≤ number_at j.area x y → number_at j.area x y < to → HasEdgeAt j vs t x y
+passed_edges j vs p t from to x y marks ready shows lines passed lx ly after before =
+    let s1 = shows.size.1 in
+    let s2 = shows.size.2 in
+    let even_w = ready.job.even.w in
+    let even_h = ready.job.even.h in
+    let e = number_in j vs t p x y shows in
+    elim (passed (x / 2) (y / 2) (omega arith) (omega arith) (omega (arith, e, after)) (omega (arith, e, before))) [
+      | inl inner ↦ let i0 = inner.0 in let i1 = inner.1 in let i2 = inner.2 in let i3 = inner.3 in between_edges j vs t x y (omega arith) (omega arith) (omega arith) (omega arith)
+      | inr silent ↦ silent_edges j vs p t (x / 2) (y / 2) ready shows (omega arith) (silent_from j p t (p.stride * (y / 2) + x / 2) marks s1 silent.0 lines silent.1) x y lx ly refl refl
+    ]
+
+pub passed_halo : (j : JobState) (vs : Values) (p : Planes) (t from to x y : ℕ) (marks : List ℕ) → IsReady j vs → Shows j vs t p → AreLines j t marks → ArePassed from to marks p →
+    x < j.area.w + 2 → y < j.area.h + 2 → from ≤ number_at j.area x y → number_at j.area x y < to → HasHaloAt j vs t p x y
+passed_halo j vs p t from to x y marks ready shows lines passed lx ly after before =
+    let s1 = shows.size.1 in
+    let s2 = shows.size.2 in
+    let even_w = ready.job.even.w in
+    let even_h = ready.job.even.h in
+    let e = number_in j vs t p x y shows in
+    elim (passed (x / 2) (y / 2) (omega arith) (omega arith) (omega (arith, e, after)) (omega (arith, e, before))) [
+      | inl inner ↦ let i0 = inner.0 in let i1 = inner.1 in let i2 = inner.2 in let i3 = inner.3 in λ a l out. absurd (out (omega arith, omega arith, omega arith, omega arith))
+      | inr silent ↦ silent_halo j vs p t (x / 2) (y / 2) ready shows (silent_from j p t (p.stride * (y / 2) + x / 2) marks s1 silent.0 lines silent.1) x y lx ly refl refl
+    ]
+
+-- the cells with a number are those in one column and row
+pub same_place : (s column row x y : ℕ) → column < s → x / 2 < s → s * row + column ≡ s * (y / 2) + x / 2 → (x / 2 ≡ column) × (y / 2 ≡ row)
+same_place s column row x y lc lx e =
+    let ex : x / 2 ≡ column = sym (in_row s (y / 2) (x / 2) lx) ∙ sym (ap (λ n. n % s) e) ∙ in_row s row column lc in
+    (ex, by_rows (y / 2) row (omega arith))
+  where
+    by_rows : (r r' : ℕ) → s * r ≡ s * r' → r ≡ r'
+    by_rows r r' h = by_lt_or_le r r'
+        (λ l. let m : s * (r + 1) ≤ s * r' = mul-le-mul_left s (omega arith) in absurd (omega arith))
+        (λ l. by_eq_or_not r r' (λ same. same) (λ ne. let m : s * (r' + 1) ≤ s * r = mul-le-mul_left s (omega arith) in absurd (omega arith)))

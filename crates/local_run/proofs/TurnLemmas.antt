@@ -1,15 +1,18 @@
 -- Parts of lists whose blocks are turned, and blocks that stay
-use Rattle.std.proofs.Common.{◌≡◌, ℕ, Bool, true, false, ◌&&◌, ◌<◌, ◌≤◌, ◌+◌, ◌-◌, ◌*◌, ◌/◌, ◌%◌, refl, arith, sym, ◌∙◌, ap, List, length, get_or, bit_and}
+use Rattle.std.proofs.Common.{◌≡◌, ℕ, Bool, true, false, ◌<◌, ◌≤◌, ◌+◌, ◌-◌, ◌*◌, ◌/◌, ◌%◌, refl, arith, sym, ◌∙◌, ap, List, length, get_or, inl, inr, nat_eq}
+use Rattle.std.specs.Int.{bit_at}
 use Rattle.std.specs.Prelude.{bit_xor}
+use Rattle.std.proofs.lemmas.Bool.{false≢true}
+use Rattle.std.proofs.lemmas.Nat.Bits.{bit_at-lt, same_from_bits}
 use Rattle.std.proofs.lemmas.List.{get_or-take, get_or-drop}
 use Rattle.std.proofs.lemmas.Slice.{take-put_mid_below, drop-put_mid}
 use Rattle.std.proofs.Math.Nat.{mul-le-mul_left, div-add-mod, mod-lt}
 use borrow.Rule.Slice.PartMut.{mid_of, put_mid}
 use Rattle.bbm_rule.specs.Bits.{bit}
 use Rattle.bbm_rule.specs.Words.{AreTurned, AreTurnedAt}
-use Rattle.bbm_rule.proofs.BitLemmas.{by_lt_or_le, xor, bit-and, bit-xor, bit-zero}
-use Rattle.bbm_rule.proofs.Turning.{words_turned, changed_of}
-use Rattle.local_run.specs.Turns.{IsCalm, IsCalmBlock, SameBeside, TurnsPart}
+use Rattle.bbm_rule.proofs.BitLemmas.{by_lt_or_le, xor, zero_or_one, bit-is, bit-xor, bit-zero}
+use Rattle.bbm_rule.proofs.Turning.{words_turned, flip_main_of, flip_anti_of}
+use Rattle.local_run.specs.Turns.{DiagonalStays, IsCalmBlock, SameBeside, TurnsPart}
 use Rattle.local_run.proofs.LaneLemmas.{part_read, part_written}
 
 -- ---- what is turned in parts of slices
@@ -81,21 +84,50 @@ no_part a b c d n ul ur ll lr e = record {
 }
 
 -- ---- blocks that stay
-no_flip : (a x : Bool) → xor a (xor false (false && x)) ≡ a
-no_flip true x = refl
-no_flip false x = refl
+flips_none : (a f j : ℕ) → f ≡ 0 → bit (bit_xor a f) j ≡ bit a j
+flips_none a f j e = rw (e, bit-xor a 0 j, bit-zero j) (xor_false (bit a j))
+  where
+    xor_false : (b : Bool) → xor b false ≡ b
+    xor_false true = refl
+    xor_false false = refl
 
-flips_none : (a c x j : ℕ) → c ≡ 0 → bit (bit_xor a (bit_xor c (bit_and c x))) j ≡ bit a j
-flips_none a c x j e = rw (e, bit-xor a (bit_xor 0 (bit_and 0 x)) j, bit-xor 0 (bit_and 0 x) j, bit-and 0 x j, bit-zero j) (no_flip (bit a j) (bit x j))
+pub main_stays : (ul ur ll lr : ℕ) → flip_main_of ul ur ll lr ≡ 0 → DiagonalStays ul lr ur ll
+main_stays ul ur ll lr e j =
+    let t = words_turned ul ur ll lr in
+    (sym (t.upper_left j) ∙ flips_none ul (flip_main_of ul ur ll lr) j e, sym (t.lower_right j) ∙ flips_none lr (flip_main_of ul ur ll lr) j e)
 
-pub calm_turned : (ul ur ll lr : ℕ) → IsCalm ul ur ll lr → AreTurned ul ur ll lr ul ur ll lr
-calm_turned ul ur ll lr e =
-    let t = words_turned ul ur ll lr in record {
-      upper_left = λ j. sym (flips_none ul (changed_of ul ur ll lr) (bit_xor ur ll) j e) ∙ t.upper_left j;
-      upper_right = λ j. sym (flips_none ur (changed_of ul ur ll lr) (bit_xor ul lr) j e) ∙ t.upper_right j;
-      lower_left = λ j. sym (flips_none ll (changed_of ul ur ll lr) (bit_xor ul lr) j e) ∙ t.lower_left j;
-      lower_right = λ j. sym (flips_none lr (changed_of ul ur ll lr) (bit_xor ur ll) j e) ∙ t.lower_right j;
-    }
+pub anti_stays : (ul ur ll lr : ℕ) → flip_anti_of ul ur ll lr ≡ 0 → DiagonalStays ur ll ul lr
+anti_stays ul ur ll lr e j =
+    let t = words_turned ul ur ll lr in
+    (sym (t.upper_right j) ∙ flips_none ur (flip_anti_of ul ur ll lr) j e, sym (t.lower_left j) ∙ flips_none ll (flip_anti_of ul ur ll lr) j e)
+
+pub calm_turned : (ul ur ll lr : ℕ) → DiagonalStays ul lr ur ll → DiagonalStays ur ll ul lr → AreTurned ul ur ll lr ul ur ll lr
+calm_turned ul ur ll lr main anti = record {
+  upper_left = λ j. sym (main j).0;
+  upper_right = λ j. sym (anti j).0;
+  lower_left = λ j. sym (anti j).1;
+  lower_right = λ j. sym (main j).1;
+}
+
+-- a word is what its bits are
+word_of_bits : (a b : ℕ) → ((j : ℕ) → bit a j ≡ bit b j) → a ≡ b
+word_of_bits a b same = same_from_bits a b (λ j. at_place j (same j))
+  where
+    set_at : (n j m : ℕ) → bit_at n j ≡ m → bit n j ≡ nat_eq m 1
+    set_at n j m e = rw (bit-is n j, e) refl
+
+    at_place : (j : ℕ) → bit a j ≡ bit b j → bit_at a j ≡ bit_at b j
+    at_place j e = elim (zero_or_one (bit_at a j) (bit_at-lt a j)) [
+      | inl p ↦ elim (zero_or_one (bit_at b j) (bit_at-lt b j)) [ inl q ↦ p ∙ sym q | inr q ↦ absurd (false≢true (sym (set_at a j 0 p) ∙ e ∙ set_at b j 1 q)) ]
+      | inr p ↦ elim (zero_or_one (bit_at b j) (bit_at-lt b j)) [ inl q ↦ absurd (false≢true (sym (set_at b j 0 q) ∙ sym e ∙ set_at a j 1 p)) | inr q ↦ p ∙ sym q ]
+    ]
+
+-- the words of a diagonal that stays are as they were
+pub main_words : (ul ur ll lr ul' ur' ll' lr' : ℕ) → DiagonalStays ul lr ur ll → AreTurned ul ur ll lr ul' ur' ll' lr' → (ul' ≡ ul) × (lr' ≡ lr)
+main_words ul ur ll lr ul' ur' ll' lr' stays t = (word_of_bits ul' ul (λ j. t.upper_left j ∙ (stays j).0), word_of_bits lr' lr (λ j. t.lower_right j ∙ (stays j).1))
+
+pub anti_words : (ul ur ll lr ul' ur' ll' lr' : ℕ) → DiagonalStays ur ll ul lr → AreTurned ul ur ll lr ul' ur' ll' lr' → (ur' ≡ ur) × (ll' ≡ ll)
+anti_words ul ur ll lr ul' ur' ll' lr' stays t = (word_of_bits ur' ur (λ j. t.upper_right j ∙ (stays j).0), word_of_bits ll' ll (λ j. t.lower_left j ∙ (stays j).1))
 
 -- the blocks from number u to below v stay
 pub calm_part : (w a b c d u v long : ℕ) (ul ur ll lr : List ℕ) → 0 < w → long ≡ w * (v - u) → u ≤ v →
@@ -120,12 +152,13 @@ calm_part w a b c d u v long ul ur ll lr some e le calm = record {
         let eb : w * (u + b) + k ≡ w * (u + q + b) + r = omega arith in
         let ec : w * (u + c) + k ≡ w * (u + q + c) + r = omega arith in
         let ed : w * (u + d) + k ≡ w * (u + q + d) + r = omega arith in
-        rw (ea, eb, ec, ed) (calm_turned _ _ _ _ (calm (u + q) (omega arith) (omega arith) r lr'))
+        let h = calm (u + q) (omega arith) (omega arith) in
+        rw (ea, eb, ec, ed) (calm_turned _ _ _ _ (h.0 r lr') (h.1 r lr'))
 
 -- one block that stays
 pub calm_block : (w a b c d : ℕ) (ul ur ll lr : List ℕ) → IsCalmBlock w a b c d ul ur ll lr → TurnsPart (w * a) (w * b) (w * c) (w * d) w ul ur ll lr ul ur ll lr
 calm_block w a b c d ul ur ll lr calm = record {
-  turned = λ k l. calm_turned _ _ _ _ (calm k l);
+  turned = λ k l. calm_turned _ _ _ _ (calm.0 k l) (calm.1 k l);
   upper_left = same_beside _ w ul;
   upper_right = same_beside _ w ur;
   lower_left = same_beside _ w ll;

@@ -1,5 +1,5 @@
 -- What is known of the blocks of four planes that have no mark
-use Rattle.std.specs.Prelude.{◌≡◌, ◌≢◌, ℕ, ◌+◌, ◌*◌, ◌<◌, List, slice_index}
+use Rattle.std.specs.Prelude.{◌≡◌, ◌≢◌, Bool, true, ℕ, ◌+◌, ◌*◌, ◌<◌, List, slice_index}
 use Rattle.std.proofs.Props.{props}
 use Rattle.bbm_rule.specs.Marks.{IsUnmarked}
 use Rattle.local_run.specs.Turns.{IsCalmBlock}
@@ -33,9 +33,10 @@ EvenCalm-prop marks p = Prim.hlevel props
 pub AllDead-prop : (marks : List ℕ) (p : Planes) → IsProp (AllDead marks p)
 AllDead-prop marks p = Prim.hlevel props
 
--- of each plane the words of one cell may change, and no others: cells are numbered row by row
-pub record ChangesCells (odd right down even : ℕ) (p q : Planes) : Type 0 where
-  pub odd_same : (u k : ℕ) → k < p.words → u ≢ odd → slice_index q.odd.items (p.words * u + k) ≡ slice_index p.odd.items (p.words * u + k)
-  pub right_same : (u k : ℕ) → k < p.words → u ≢ right → slice_index q.right.items (p.words * u + k) ≡ slice_index p.right.items (p.words * u + k)
-  pub down_same : (u k : ℕ) → k < p.words → u ≢ down → slice_index q.down.items (p.words * u + k) ≡ slice_index p.down.items (p.words * u + k)
-  pub even_same : (u k : ℕ) → k < p.words → u ≢ even → slice_index q.even.items (p.words * u + k) ≡ slice_index p.even.items (p.words * u + k)
+-- Of each plane the words of one cell may change, and no others: cells are numbered row by row. Those of the planes odd and even may
+-- change only where `main`, those of the other two only where `anti`
+pub record ChangesCells (main anti : Bool) (odd right down even : ℕ) (p q : Planes) : Type 0 where
+  pub odd_same : (u k : ℕ) → k < p.words → (main ≡ true → u ≢ odd) → slice_index q.odd.items (p.words * u + k) ≡ slice_index p.odd.items (p.words * u + k)
+  pub right_same : (u k : ℕ) → k < p.words → (anti ≡ true → u ≢ right) → slice_index q.right.items (p.words * u + k) ≡ slice_index p.right.items (p.words * u + k)
+  pub down_same : (u k : ℕ) → k < p.words → (anti ≡ true → u ≢ down) → slice_index q.down.items (p.words * u + k) ≡ slice_index p.down.items (p.words * u + k)
+  pub even_same : (u k : ℕ) → k < p.words → (main ≡ true → u ≢ even) → slice_index q.even.items (p.words * u + k) ≡ slice_index p.even.items (p.words * u + k)

@@ -1,16 +1,28 @@
 -- Blocks that a turn leaves as they are, parts of lists whose blocks are turned, and marks on blocks
-use Rattle.std.specs.Prelude.{◌≡◌, ◌≢◌, ℕ, ◌+◌, ◌*◌, ◌<◌, ◌≤◌, List, slice_index, bit_xor, bit_or}
+use Rattle.std.specs.Prelude.{◌≡◌, ◌≢◌, Bool, true, ℕ, ◌+◌, ◌*◌, ◌<◌, ◌≤◌, List, slice_index}
+use Rattle.bbm_rule.specs.Bits.{bit}
 use Rattle.bbm_rule.specs.Marks.{IsUnmarked}
+use Rattle.bbm_rule.specs.Plane.{turned}
 use Rattle.bbm_rule.specs.Words.{AreTurned}
 
--- under no assignment has exactly one diagonal of the block a live cell, so the block stays
-abbrev pub IsCalm : ℕ → ℕ → ℕ → ℕ → Type 0
-IsCalm ul ur ll lr = bit_xor (bit_or ul lr) (bit_or ur ll) ≡ 0
+-- A block has two diagonals: its upper left and lower right cells, and the other two. For the first cells of a diagonal and their
+-- others, then those of the other diagonal: under no assignment does a turn change a cell of the diagonal
+abbrev pub DiagonalStays : ℕ → ℕ → ℕ → ℕ → Type 0
+DiagonalStays first last a b = (j : ℕ) → (turned (bit first j) (bit last j) (bit a j) (bit b j) ≡ bit first j) × (turned (bit last j) (bit first j) (bit b j) (bit a j) ≡ bit last j)
 
--- The words of four cells, w of each, which have these numbers in their lists, are the corners of a block that stays
+-- The words of four cells, w of each, which have these numbers in their lists, are the corners of a block whose main diagonal stays
+abbrev pub MainStays : ℕ → ℕ → ℕ → ℕ → ℕ → List ℕ → List ℕ → List ℕ → List ℕ → Type 0
+MainStays w a b c d ul ur ll lr =
+    (k : ℕ) → k < w → DiagonalStays (slice_index ul (w * a + k)) (slice_index lr (w * d + k)) (slice_index ur (w * b + k)) (slice_index ll (w * c + k))
+
+-- of one whose other diagonal stays
+abbrev pub AntiStays : ℕ → ℕ → ℕ → ℕ → ℕ → List ℕ → List ℕ → List ℕ → List ℕ → Type 0
+AntiStays w a b c d ul ur ll lr =
+    (k : ℕ) → k < w → DiagonalStays (slice_index ur (w * b + k)) (slice_index ll (w * c + k)) (slice_index ul (w * a + k)) (slice_index lr (w * d + k))
+
+-- and of one that stays
 abbrev pub IsCalmBlock : ℕ → ℕ → ℕ → ℕ → ℕ → List ℕ → List ℕ → List ℕ → List ℕ → Type 0
-IsCalmBlock w a b c d ul ur ll lr =
-    (k : ℕ) → k < w → IsCalm (slice_index ul (w * a + k)) (slice_index ur (w * b + k)) (slice_index ll (w * c + k)) (slice_index lr (w * d + k))
+IsCalmBlock w a b c d ul ur ll lr = MainStays w a b c d ul ur ll lr × AntiStays w a b c d ul ur ll lr
 
 -- the words from place a on, as many as `long`, may change, and no others
 pub record SameBeside (a long : ℕ) (old new : List ℕ) : Type 0 where
@@ -25,10 +37,13 @@ pub record TurnsPart (a b c d long : ℕ) (ul ur ll lr ul' ur' ll' lr' : List �
   pub lower_left : SameBeside c long ll ll'
   pub lower_right : SameBeside d long lr lr'
 
--- marks are made at block `at` of the odd partition, and at the blocks of the even partition that share a cell with it
-abbrev pub MarksAround : ℕ → ℕ → List ℕ → List ℕ → Type 0
-MarksAround stride at old new = (u : ℕ) → IsUnmarked new u → IsUnmarked old u × (u ≢ at) × (u + 1 ≢ at) × (u + stride ≢ at) × (u + stride + 1 ≢ at)
+-- marks are made at the blocks of the even partition that share with block `at` of the odd partition a cell of its main diagonal,
+-- where that changes, or of the other one, where that does
+abbrev pub MarksAround : Bool → Bool → ℕ → ℕ → List ℕ → List ℕ → Type 0
+MarksAround main anti stride at old new =
+    (u : ℕ) → IsUnmarked new u → IsUnmarked old u × (main ≡ true → (u ≢ at) × (u + stride + 1 ≢ at)) × (anti ≡ true → (u + 1 ≢ at) × (u + stride ≢ at))
 
--- marks are made at the blocks of the odd partition that share a cell with block `at` of the even partition
-abbrev pub MarksCorners : ℕ → ℕ → List ℕ → List ℕ → Type 0
-MarksCorners stride at old new = (u : ℕ) → IsUnmarked new u → IsUnmarked old u × (u ≢ at) × (u ≢ at + 1) × (u ≢ at + stride) × (u ≢ at + stride + 1)
+-- so they are at the blocks of the odd partition that share such a cell with block `at` of the even partition
+abbrev pub MarksCorners : Bool → Bool → ℕ → ℕ → List ℕ → List ℕ → Type 0
+MarksCorners main anti stride at old new =
+    (u : ℕ) → IsUnmarked new u → IsUnmarked old u × (main ≡ true → (u ≢ at) × (u ≢ at + stride + 1)) × (anti ≡ true → (u ≢ at + 1) × (u ≢ at + stride))

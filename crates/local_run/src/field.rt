@@ -6,15 +6,16 @@
 
 ghost use Rattle.bbm_rule.specs.Plane.{turned};
 ghost use Rattle.bbm_rule.specs.Rows.{mate};
+ghost use Rattle.local_run.specs.Borders.{AllInner, AllInner-prop, IsInner};
 ghost use Rattle.local_run.specs.Calm.{OddCalm, OddCalm-prop, EvenCalm, EvenCalm-prop, AllDead, AllDead-prop, IsDeadAt};
 ghost use Rattle.std.specs.Int.{div_ceil};
-ghost use Rattle.std.specs.Prelude.{ℕ, ◌≡◌, ◌+◌, ◌*◌, ◌/◌, ◌<◌, ◌≤◌, vec_len, IfOk, true, false};
+ghost use Rattle.std.specs.Prelude.{ℕ, ◌≡◌, ◌+◌, ◌*◌, ◌/◌, ◌<◌, ◌≤◌, ◌⊎◌, vec_len, IfOk, false};
 
 use crate::lines::mark_lines;
-use crate::marks::{mark_around, mark_corners};
-use crate::planes::Planes;
+use crate::marks::{mark_around, mark_border, mark_corners, next_marked_in};
+use crate::planes::{Changes, Planes};
 use crate::values::Values;
-use bbm_rule::marks::{is_marked, mark, mark_all, next_marked, unmark};
+use bbm_rule::marks::{mark, mark_all, next_marked, unmark};
 use module_box::Signal;
 use module_job::Job;
 use std::alloc::{AllocError, Global};
@@ -28,6 +29,8 @@ pub struct Field {
     even_marks: Vec<u64>,
     // and for each number of cells: those without a mark are dead
     live_marks: Vec<u64>,
+    // and those of ring and halo
+    border_marks: Vec<u64>,
     // and those of which an edge or halo line says something at the time that is looked at
     line_marks: Vec<u64>,
     // how many of the next steps turn whole planes
@@ -35,10 +38,12 @@ pub struct Field {
     ghost odd_room: { planes.stride * planes.rows ≤ 64 * vec_len odd_marks },
     ghost even_room: { planes.stride * planes.rows ≤ 64 * vec_len even_marks },
     ghost live_room: { planes.stride * planes.rows ≤ 64 * vec_len live_marks },
+    ghost border_room: { planes.stride * planes.rows ≤ 64 * vec_len border_marks },
     ghost line_long: { vec_len line_marks ≡ div_ceil (planes.stride * planes.rows) 64 },
     ghost odd_calm: { OddCalm odd_marks.items planes } by { OddCalm-prop odd_marks.items planes },
     ghost even_calm: { EvenCalm even_marks.items planes } by { EvenCalm-prop even_marks.items planes },
     ghost all_dead: { AllDead live_marks.items planes } by { AllDead-prop live_marks.items planes },
+    ghost all_inner: { AllInner planes.stride planes.rows border_marks.items } by { AllInner-prop planes.stride planes.rows border_marks.items },
 }
 
 // How many steps turn whole planes after one in which many blocks changed.
@@ -69,15 +74,18 @@ impl Field {
         let mut odd_marks = vec![in alloc; 0u64; long]?;
         let mut even_marks = vec![in alloc; 0u64; long]?;
         let mut live_marks = vec![in alloc; 0u64; long]?;
+        let mut border_marks = vec![in alloc; 0u64; long]?;
         let line_marks = vec![in alloc; 0u64; long]?;
         mark_all(&mut odd_marks);
         mark_all(&mut even_marks);
         mark_all(&mut live_marks);
+        mark_border(&mut border_marks, planes.stride(), planes.rows());
         Ok(Field {
             planes,
             odd_marks,
             even_marks,
             live_marks,
+            border_marks,
             line_marks,
             rush: 0,
         })
@@ -102,14 +110,21 @@ impl Field {
         mark_lines(&mut self.line_marks, job, time);
     }
 
-    /// Whether the cells with a number are known to be dead under each assignment, and no line says something of them at the time
-    /// that was looked at.
-    pub fn is_silent(&self, u: usize) -> bool
-        requires { u < self.now.planes.stride * self.now.planes.rows }
-        ensures dead { result ≡ true → IsDeadAt u self.now.planes }
-        ensures unmarked { result ≡ true → IsUnmarked self.now.line_marks.items u }
+    /// The next number from `from` on that has cells of ring or halo which may be live, or of which a line says something at the time
+    /// that was looked at; or how many numbers there are. The cells of the numbers that are passed are neither in the ring nor in the
+    /// halo, or dead under each assignment and without a line.
+    pub fn next_border(&self, from: usize) -> usize
+        requires { from ≤ self.now.planes.stride * self.now.planes.rows }
+        ensures range { (from ≤ result) × (result ≤ self.now.planes.stride * self.now.planes.rows) }
+        ensures passed { (column row : ℕ) → column < self.now.planes.stride → row < self.now.planes.rows → from ≤ self.now.planes.stride * row + column → self.now.planes.stride * row + column < result → IsInner self.now.planes.stride self.now.planes.rows column row ⊎ (IsDeadAt (self.now.planes.stride * row + column) self.now.planes × IsUnmarked self.now.line_marks.items (self.now.planes.stride * row + column)) }
     {
-        !is_marked(&self.live_marks, u) && !is_marked(&self.line_marks, u)
+        next_marked_in(
+            &self.border_marks,
+            &self.live_marks,
+            &self.line_marks,
+            from,
+            self.planes.cells(),
+        )
     }
 
     // Takes the mark off block u of the odd partition, which stays, and off its cells where they are dead.
@@ -131,14 +146,15 @@ impl Field {
         ensures size { HasSize self.old.planes.words self.old.planes.stride self.old.planes.rows self.new.planes }
         ensures stays { result ≡ false → self.new.planes ≡ self.old.planes }
     {
-        if self.planes.is_calm_odd(u) {
+        let changes = self.planes.odd_changes(u);
+        if changes.is_none() {
             self.settle(u);
             return false;
         }
         let stride = self.planes.stride();
         mark(&mut self.odd_marks, u);
         mark(&mut self.live_marks, u);
-        mark_around(&mut self.even_marks, u, stride);
+        mark_around(&mut self.even_marks, u, stride, changes);
         self.planes.turn_odd(u);
         true
     }
@@ -151,14 +167,15 @@ impl Field {
         ensures size { HasSize self.old.planes.words self.old.planes.stride self.old.planes.rows self.new.planes }
         ensures stays { result ≡ false → SameInside self.old.planes self.new.planes }
     {
-        if self.planes.is_calm_even(u) {
+        let changes = self.planes.even_changes(u);
+        if changes.is_none() {
             unmark(&mut self.even_marks, u);
             return false;
         }
         let stride = self.planes.stride();
         mark(&mut self.even_marks, u);
-        mark_corners(&mut self.odd_marks, u, stride);
-        mark_corners(&mut self.live_marks, u, stride);
+        mark_corners(&mut self.odd_marks, u, stride, changes);
+        mark_corners(&mut self.live_marks, u, stride, changes);
         self.planes.turn_even(u);
         (u + 1) % stride != 0
     }
@@ -240,7 +257,11 @@ impl Field {
         let u = stride * (y / 2) + x / 2;
         mark(&mut self.odd_marks, u);
         mark(&mut self.live_marks, u);
-        mark_around(&mut self.even_marks, u, stride);
+        let changes = Changes {
+            main: true,
+            anti: true,
+        };
+        mark_around(&mut self.even_marks, u, stride, changes);
         values.put(&mut self.planes, x, y, signal);
     }
 }

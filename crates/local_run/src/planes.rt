@@ -6,8 +6,8 @@
 ghost use Rattle.bbm_rule.specs.Plane.{turned};
 ghost use Rattle.bbm_rule.specs.Rows.{mate};
 ghost use Rattle.local_run.specs.Across.{TurnsAcross};
-ghost use Rattle.local_run.specs.Turns.{IsCalm, IsCalmBlock, TurnsPart};
-ghost use Rattle.std.specs.Prelude.{ℕ, ◌≡◌, ◌+◌, ◌-◌, ◌*◌, ◌/◌, ◌%◌, ◌<◌, ◌≤◌, length, slice_index, vec_len, IfOk, false, true};
+ghost use Rattle.local_run.specs.Turns.{AntiStays, DiagonalStays, MainStays, TurnsPart};
+ghost use Rattle.std.specs.Prelude.{ℕ, ◌≡◌, ◌+◌, ◌-◌, ◌*◌, ◌/◌, ◌%◌, ◌<◌, ◌≤◌, ◌⊎◌, length, slice_index, vec_len, IfOk, false, true};
 
 use bbm_rule::turn_lanes;
 use std::alloc::{AllocError, Global};
@@ -142,9 +142,43 @@ fn turn_part(
     );
 }
 
-// Whether a turn leaves them as they are.
+// The words that a turn flips of a block's main diagonal, and of the other one.
 #[inline(always)]
-fn is_calm_part(
+fn flips_of(upper_left: u64, upper_right: u64, lower_left: u64, lower_right: u64) -> (u64, u64)
+    ensures main { result.0 ≡ 0 → DiagonalStays upper_left lower_right upper_right lower_left }
+    ensures anti { result.1 ≡ 0 → DiagonalStays upper_right lower_left upper_left lower_right }
+{
+    // `a ^ (a & b)` stands for `a & !b`.
+    let changed = (upper_left | lower_right) ^ (upper_right | lower_left);
+    (
+        changed ^ (changed & (upper_right ^ lower_left)),
+        changed ^ (changed & (upper_left ^ lower_right)),
+    )
+}
+
+/// Which diagonals of a block a turn changes: that of its upper left and lower right cells, and the other one.
+#[derive(Clone, Copy)]
+pub struct Changes {
+    /// The cells of the main diagonal.
+    pub main: bool,
+    /// Those of the other one.
+    pub anti: bool,
+}
+
+impl Changes {
+    /// Whether it changes none, so that the block stays.
+    pub fn is_none(self) -> bool
+        ensures main { result ≡ true → self.main ≡ false }
+        ensures anti { result ≡ true → self.anti ≡ false }
+        ensures some { result ≡ false → (self.main ≡ true) ⊎ (self.anti ≡ true) }
+    {
+        !self.main && !self.anti
+    }
+}
+
+// Which diagonals a turn changes under some assignment.
+#[inline(always)]
+fn part_changes(
     upper_left: &[u64],
     upper_right: &[u64],
     lower_left: &[u64],
@@ -154,19 +188,29 @@ fn is_calm_part(
     c: usize,
     d: usize,
     long: usize,
-) -> bool
+) -> Changes
     requires upper { (a + long ≤ length upper_left.now) × (b + long ≤ length upper_right.now) }
     requires lower { (c + long ≤ length lower_left.now) × (d + long ≤ length lower_right.now) }
-    ensures { result ≡ true → (k : ℕ) → k < long → IsCalm (slice_index upper_left.now (a + k)) (slice_index upper_right.now (b + k)) (slice_index lower_left.now (c + k)) (slice_index lower_right.now (d + k)) }
+    ensures main { result.main ≡ false → (k : ℕ) → k < long → DiagonalStays (slice_index upper_left.now (a + k)) (slice_index lower_right.now (d + k)) (slice_index upper_right.now (b + k)) (slice_index lower_left.now (c + k)) }
+    ensures anti { result.anti ≡ false → (k : ℕ) → k < long → DiagonalStays (slice_index upper_right.now (b + k)) (slice_index lower_left.now (c + k)) (slice_index upper_left.now (a + k)) (slice_index lower_right.now (d + k)) }
 {
-    let mut changes = 0;
+    let mut main = 0;
+    let mut anti = 0;
     // Over all words, so that some are taken at once.
     for k in 0..long {
-        let main = upper_left[a + k] | lower_right[d + k];
-        let anti = upper_right[b + k] | lower_left[c + k];
-        changes |= main ^ anti;
+        let (main_flips, anti_flips) = flips_of(
+            upper_left[a + k],
+            upper_right[b + k],
+            lower_left[c + k],
+            lower_right[d + k],
+        );
+        main |= main_flips;
+        anti |= anti_flips;
     }
-    changes == 0
+    Changes {
+        main: main != 0,
+        anti: anti != 0,
+    }
 }
 
 impl Planes {
@@ -197,13 +241,14 @@ impl Planes {
         self.stride
     }
 
-    /// Whether block u of the odd partition stays as it is under each assignment.
-    pub fn is_calm_odd(&self, u: usize) -> bool
+    /// Which diagonals of block u of the odd partition a turn changes under some assignment.
+    pub fn odd_changes(&self, u: usize) -> Changes
         requires { u < self.now.stride * self.now.rows }
-        ensures { result ≡ true → IsCalmBlock self.now.words u u u u self.now.odd.items self.now.right.items self.now.down.items self.now.even.items }
+        ensures main { result.main ≡ false → MainStays self.now.words u u u u self.now.odd.items self.now.right.items self.now.down.items self.now.even.items }
+        ensures anti { result.anti ≡ false → AntiStays self.now.words u u u u self.now.odd.items self.now.right.items self.now.down.items self.now.even.items }
     {
         let at = self.words * u;
-        is_calm_part(
+        part_changes(
             &self.odd,
             &self.right,
             &self.down,
@@ -214,6 +259,24 @@ impl Planes {
             at,
             self.words,
         )
+    }
+
+    /// How many rows a plane has.
+    pub fn rows(&self) -> usize
+        ensures is { result ≡ self.now.rows }
+        ensures few { (2 ≤ result) × (result ≤ 64) }
+    {
+        self.rows
+    }
+
+    /// The column and row of the cells with number u.
+    pub fn place(&self, u: usize) -> (usize, usize)
+        requires { u < self.now.stride * self.now.rows }
+        ensures column { result.0 < self.now.stride }
+        ensures row { result.1 < self.now.rows }
+        ensures is { self.now.stride * result.1 + result.0 ≡ u }
+    {
+        (u % self.stride, u / self.stride)
     }
 
     /// Whether the cells with number u are dead under each assignment.
@@ -254,14 +317,15 @@ impl Planes {
         );
     }
 
-    /// Whether block u of the even partition stays as it is under each assignment: it has the number of its upper left cell.
-    pub fn is_calm_even(&self, u: usize) -> bool
+    /// Which diagonals of block u of the even partition a turn changes under some assignment: it has the number of its upper left cell.
+    pub fn even_changes(&self, u: usize) -> Changes
         requires { u + self.now.stride + 1 < self.now.stride * self.now.rows }
-        ensures { result ≡ true → IsCalmBlock self.now.words u (u + 1) (u + self.now.stride) (u + self.now.stride + 1) self.now.even.items self.now.down.items self.now.right.items self.now.odd.items }
+        ensures main { result.main ≡ false → MainStays self.now.words u (u + 1) (u + self.now.stride) (u + self.now.stride + 1) self.now.even.items self.now.down.items self.now.right.items self.now.odd.items }
+        ensures anti { result.anti ≡ false → AntiStays self.now.words u (u + 1) (u + self.now.stride) (u + self.now.stride + 1) self.now.even.items self.now.down.items self.now.right.items self.now.odd.items }
     {
         let words = self.words;
         let stride = self.stride;
-        is_calm_part(
+        part_changes(
             &self.even,
             &self.down,
             &self.right,
@@ -324,7 +388,7 @@ impl Planes {
     pub fn set_word(&mut self, x: usize, y: usize, k: usize, word: u64)
         requires { (x / 2 < self.old.stride) × (y / 2 < self.old.rows) × (k < self.old.words) }
         ensures set { SetsWord x y k word self.old self.new }
-        ensures cells { let u = self.old.stride * (y / 2) + x / 2 in ChangesCells u u u u self.old self.new }
+        ensures cells { let u = self.old.stride * (y / 2) + x / 2 in ChangesCells true true u u u u self.old self.new }
         ensures size { HasSize self.old.words self.old.stride self.old.rows self.new }
     {
         let at = self.words * (self.stride * (y / 2) + x / 2) + k;

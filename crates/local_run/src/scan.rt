@@ -10,7 +10,6 @@ ghost use Rattle.local_run.specs.Scans.{HasEdgeAt, HasEdgesIn, IsFirst, IsFound,
 use crate::fault::{Fault, Kind};
 use crate::field::Field;
 use crate::places::{demand_at, edge_at, inner_cell, is_ring, place_of};
-use crate::steps::is_silent;
 use crate::values::Values;
 use module_box::Signal;
 use module_job::{Demand, Job, Stop};
@@ -148,14 +147,10 @@ fn are_edges_right_in(
 ) -> bool
     requires ready { IsReady job.now values.now }
     requires shows { Shows job.now values.now time field.now.planes }
-    requires lines { AreLines job.now time field.now.line_marks.items }
     requires sought { IsSought job.now time Kind.Edge }
     requires place { (column < job.now.area.w / 2 + 1) × (row < job.now.area.h / 2 + 1) }
     ensures { result ≡ true → HasEdgesIn job.now values.now time column row }
 {
-    if is_silent(field, values, job, time, column, row) {
-        return true;
-    }
     are_both_right(field, values, job, time, column, 2 * row)
         && are_both_right(field, values, job, time, column, 2 * row + 1)
 }
@@ -168,18 +163,16 @@ pub fn are_edges_right(field: &Field, values: &Values, job: &Job, time: u32) -> 
     requires sought { IsSought job.now time Kind.Edge }
     ensures { result ≡ true → IsFree job.now values.now time Kind.Edge }
 {
-    let area = job.area();
-    let right = area.w as usize / 2;
-    let bottom = area.h as usize / 2;
-    'rows: for row in 0..bottom + 1 {
-        let stride = if 0 < row && row < bottom { right } else { 1 };
-        let mut column = 0;
-        'columns: while column <= right {
-            if !are_edges_right_in(field, values, job, time, column, row) {
-                return false;
-            }
-            column += stride;
+    let _area = job.area();
+    let planes = field.planes();
+    let cells = planes.cells();
+    let mut u = field.next_border(0);
+    'border: while u < cells {
+        let (column, row) = planes.place(u);
+        if !are_edges_right_in(field, values, job, time, column, row) {
+            return false;
         }
+        u = field.next_border(u + 1);
     }
     true
 }

@@ -2,7 +2,7 @@
 ghost use Rattle.std.specs.Prelude.{◌≡◌, ◌+◌, ◌*◌, ◌/◌, ◌%◌, ◌<◌, ◌≤◌, true, false};
 ghost use Rattle.local_run.specs.Lanes.{HasSize};
 ghost use Rattle.local_run.specs.Quiet.{AreLines};
-ghost use Rattle.local_run.specs.Scans.{HasHalo, HasHaloAt, HasHaloIn, IsReady, IsSilent, SameButIn, SameElsewhere, Shows};
+ghost use Rattle.local_run.specs.Scans.{HasHalo, HasHaloAt, HasHaloIn, IsReady, SameButIn, SameElsewhere, Shows};
 
 use crate::field::Field;
 use crate::places::{halo_at, start_at};
@@ -23,24 +23,6 @@ pub fn put_start(planes: &mut Planes, values: &Values, job: &Job)
             values.put(planes, 1 + x, 1 + y, start_at(job, x, y));
         }
     }
-}
-
-/// Whether the cells in a column and row of the planes are known to be dead under each assignment, and to have no line at the time.
-pub fn is_silent(
-    field: &Field,
-    values: &Values,
-    job: &Job,
-    time: u32,
-    column: usize,
-    row: usize,
-) -> bool
-    requires ready { IsReady job.now values.now }
-    requires size { HasSize values.now.words (job.now.area.w / 2 + 1) (job.now.area.h / 2 + 1) field.now.planes }
-    requires lines { AreLines job.now time field.now.line_marks.items }
-    requires place { (column < job.now.area.w / 2 + 1) × (row < job.now.area.h / 2 + 1) }
-    ensures { result ≡ true → IsSilent job.now time field.now.planes (field.now.planes.stride * row + column) }
-{
-    field.is_silent(field.planes().stride() * row + column)
 }
 
 // A cell of the halo becomes what its signal says, where it is one.
@@ -68,16 +50,12 @@ fn put_halo_cell(field: &mut Field, values: &Values, job: &Job, time: u32, x: us
 fn put_halo_in(field: &mut Field, values: &Values, job: &Job, time: u32, column: usize, row: usize)
     requires ready { IsReady job.now values.now }
     requires shows { Shows job.now values.now time field.old.planes }
-    requires lines { AreLines job.now time field.old.line_marks.items }
     requires place { (column < job.now.area.w / 2 + 1) × (row < job.now.area.h / 2 + 1) }
     ensures shows { Shows job.now values.now time field.new.planes }
     ensures lines { field.new.line_marks ≡ field.old.line_marks }
     ensures here { HasHaloIn job.now values.now time field.new.planes column row }
     ensures rest { SameButIn job.now field.old.planes field.new.planes column row }
 {
-    if is_silent(field, values, job, time, column, row) {
-        return;
-    }
     let x = 2 * column;
     let y = 2 * row;
     put_halo_cell(field, values, job, time, x, y);
@@ -94,16 +72,13 @@ fn put_halo(field: &mut Field, values: &Values, job: &Job, time: u32)
     ensures shows { Shows job.now values.now time field.new.planes }
     ensures halo { HasHalo job.now values.now time field.new.planes }
 {
-    let area = job.area();
-    let right = area.w as usize / 2;
-    let bottom = area.h as usize / 2;
-    'rows: for row in 0..bottom + 1 {
-        let stride = if 0 < row && row < bottom { right } else { 1 };
-        let mut column = 0;
-        'columns: while column <= right {
-            put_halo_in(field, values, job, time, column, row);
-            column += stride;
-        }
+    let _area = job.area();
+    let cells = field.planes().cells();
+    let mut u = field.next_border(0);
+    'border: while u < cells {
+        let (column, row) = field.planes().place(u);
+        put_halo_in(field, values, job, time, column, row);
+        u = field.next_border(u + 1);
     }
 }
 

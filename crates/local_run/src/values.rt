@@ -148,7 +148,7 @@ impl Values {
         requires words { (self.now.words ≡ planes.old.words) × (self.now.words ≤ 64) }
         requires row { HasRow self.now signal }
         ensures put { PutsCell self.now x y signal planes.old planes.new }
-        ensures cells { let u = planes.old.stride * (y / 2) + x / 2 in ChangesCells u u u u planes.old planes.new }
+        ensures cells { let u = planes.old.stride * (y / 2) + x / 2 in ChangesCells true true u u u u planes.old planes.new }
     {
         for k in 0..self.words {
             planes.set_word(x, y, k, self.word(signal, k));

@@ -1,13 +1,7 @@
-use Rattle.std.proofs.Common.{◌<◌, arith, ℕ}
+use Rattle.std.proofs.Common.{ℕ}
 use Rattle.local_run.specs.Scans.{HasEdgeAt}
-use Rattle.local_run.proofs.Silence.{four_cells, silent_edges}
+use Rattle.local_run.proofs.Silence.{four_cells}
 use Rattle.local_run.proofs.scan.are_edges_right_in.Goals as goal
-
-pub returns-then-is_silent : goal.returns-then-is_silent
-returns-then-is_silent c =
-    let s = c.requires.shows.size.1 in
-    let lc : c.args.column < c.args.field.now.planes.stride = omega (arith, s, c.requires.place.0) in
-    λ h. silent_edges c.args.job.now c.args.values.now c.args.field.now.planes c.args.time c.args.column c.args.row c.requires.ready c.requires.shows lc (c.is_silent.ensures c.if-is_silent.true)
 
 pub returns-then-are_both_right : goal.returns-then-are_both_right
 returns-then-are_both_right c = λ h.

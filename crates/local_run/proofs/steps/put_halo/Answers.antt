@@ -1,47 +1,46 @@
-use Rattle.std.proofs.Common.{arith, ◌≡◌, ◌∙◌, ◌/◌, ap, inl, inr}
+use Rattle.std.proofs.Common.{arith, ◌+◌, ◌*◌, ◌/◌, ◌≡◌, ◌∙◌, ap, ap₂, subst, sym, refl, vec_items}
 use Rattle.bbm_rule.proofs.BitLemmas.{by_lt_or_le, by_eq_or_not}
-use Rattle.module_box.specs.declared.boxes.Box2.{Box2}
+use Rattle.local_run.specs.Quiet.{AreLines, number_at}
+use Rattle.local_run.specs.declared.planes.Planes.{Planes}
+use Rattle.local_run.proofs.QuietLemmas.{number_below}
+use Rattle.local_run.proofs.Silence.{passed_halo, same_place}
 use Rattle.local_run.proofs.steps.put_halo.Goals as goal
 
-pub columns-preserved : goal.columns-preserved
-columns-preserved c =
+pub border-init : goal.border-init
+border-init c = record {
+  within = omega (arith, c.cells-cells.ensures.is, ap (λ (p : Planes). p.stride * p.rows) c.planes.ensures);
+  shows = c.requires.shows;
+  lines = refl;
+  halo = λ x y lx ly before. passed_halo c.args.job.now c.args.values.now c.args.field.now.planes c.args.time 0 c.next_border-u.result x y c.args.field.now.line_marks.items c.requires.ready c.requires.shows c.requires.lines c.next_border-u.ensures.passed lx ly (omega arith) before;
+}
+
+pub border-preserved : goal.border-preserved
+border-preserved c =
     let j = c.args.job.now in
+    let m = c.border.invariant in
     let e = c.put_halo_in.ensures in
-    let m = c.columns.invariant in
-    let ew : c.area-area.result.w ≡ j.area.w = ap (λ (b : Box2). b.w) c.area-area.ensures.area in
-    let eh : c.area-area.result.h ≡ j.area.h = ap (λ (b : Box2). b.h) c.area-area.ensures.area in
-    let even = c.requires.ready.job.even in
-    let even_w = even.w in
-    let even_h = even.h in
+    let p = c.planes-in-border.ensures in
+    let at = c.place-column.ensures in
+    let stride : c.planes-in-border.result.now.stride ≡ j.area.w / 2 + 1 = ap (λ (p : Planes). p.stride) p ∙ m.shows.size.1 in
+    let number : (j.area.w / 2 + 1) * c.place-column.result.1 + c.place-column.result.0 ≡ c.border.u = ap (λ s. s * c.place-column.result.1 + c.place-column.result.0) (sym stride) ∙ at.is in
+    let old : c.cells-cells.result ≡ (j.area.w / 2 + 1) * (j.area.h / 2 + 1) = c.cells-cells.ensures.is ∙ ap (λ (p : Planes). p.stride * p.rows) c.planes.ensures ∙ ap₂ (λ s r. s * r) c.requires.shows.size.1 c.requires.shows.size.2 in
+    let new = ap₂ (λ s r. s * r) e.shows.size.1 e.shows.size.2 in
     record {
+      within = omega (arith, c.next_border-u-in-border.ensures.range.1, old, new);
       shows = e.shows;
       lines = e.lines ∙ m.lines;
-      above = λ x y lx ly a la out. e.rest a x y la lx (λ s. let s1 = s.1 in omega arith) ∙ m.above x y lx ly a la out;
-      here = λ x y l lw er a la out. by_lt_or_le (x / 2) c.columns.column
-          (λ h. e.rest a x y la lw (λ s. let s0 = s.0 in omega arith) ∙ m.here x y h lw er a la out)
-          (λ g. by_eq_or_not (x / 2) c.columns.column
-          (λ same. e.here x y lw (omega arith) same er a la out)
-          (λ ne. elim m.at [
-            | inl one ↦ absurd (omega arith)
-            | inr far ↦ elim far.3 [
-              | inl start ↦ let f0 = far.0 in let f1 = far.1 in let f2 = far.2 in absurd (out (omega arith, omega arith, omega arith, omega arith))
-              | inr last ↦ absurd (omega arith)
-            ]
-          ]));
-      at = elim m.at [
-        | inl one ↦ inl one
-        | inr far ↦ let f2 = far.2 in inr (far.0, far.1, far.2, inr (omega arith))
-      ];
+      halo = λ x y lx ly before. by_lt_or_le (number_at j.area x y) c.border.u
+          (λ h a la out. e.rest a x y la lx (λ s. let same : number_at j.area x y ≡ c.border.u = ap₂ (λ r k. (j.area.w / 2 + 1) * r + k) s.1 s.0 ∙ number in absurd (omega arith)) ∙ m.halo x y lx ly h a la out)
+          (λ g. by_eq_or_not (number_at j.area x y) c.border.u
+          (λ here.
+          let h = same_place (j.area.w / 2 + 1) c.place-column.result.0 c.place-column.result.1 x y (omega (arith, at.column, stride)) (omega arith) (number ∙ sym here) in
+          e.here x y lx ly h.0 h.1)
+          (λ ne. passed_halo j c.args.values.now c.put_halo_in.new.field.planes c.args.time (c.border.u + 1) c.next_border-u-in-border.result x y c.put_halo_in.new.field.line_marks.items c.requires.ready e.shows (subst (λ m. AreLines j c.args.time (vec_items m)) (sym (e.lines ∙ m.lines)) c.requires.lines) c.next_border-u-in-border.ensures.passed lx ly (omega arith) before));
     }
 
-pub rows-preserved : goal.rows-preserved
-rows-preserved c =
-    let j = c.args.job.now in
-    let m = c.columns.invariant in
-    let ew : c.area-area.result.w ≡ j.area.w = ap (λ (b : Box2). b.w) c.area-area.ensures.area in
-    record {
-      shows = m.shows;
-      lines = m.lines;
-      above = λ x y lx ly a la out. by_lt_or_le (y / 2) c.rows.row (λ h. m.above x y lx h a la out)
-          (λ g. m.here x y (omega arith) lx (omega arith) a la out);
-    }
+pub returns-clause-halo : goal.returns-clause-halo
+returns-clause-halo c = λ x y lx ly.
+    let s1 = c.requires.shows.size.1 in
+    let s2 = c.requires.shows.size.2 in
+    let long : c.cells-cells.result ≡ (c.args.job.now.area.w / 2 + 1) * (c.args.job.now.area.h / 2 + 1) = c.cells-cells.ensures.is ∙ ap (λ (p : Planes). p.stride * p.rows) c.planes.ensures ∙ ap₂ (λ s r. s * r) s1 s2 in
+    c.border.invariant.halo x y lx ly (omega (arith, number_below c.args.job.now.area x y c.requires.ready.job.even.w c.requires.ready.job.even.h lx ly, long))

@@ -1,11 +1,7 @@
 use Rattle.std.proofs.Common.{arith, ◌∙◌, ℕ}
 use Rattle.local_run.specs.Scans.{HasHaloAt}
-use Rattle.local_run.proofs.Silence.{four_cells, silent_halo}
+use Rattle.local_run.proofs.Silence.{four_cells}
 use Rattle.local_run.proofs.steps.put_halo_in.Goals as goal
-
-pub returns-then-is_silent-clause-here : goal.returns-then-is_silent-clause-here
-returns-then-is_silent-clause-here c =
-    silent_halo c.args.job.now c.args.values.now c.args.field.now.planes c.args.time c.args.column c.args.row c.requires.ready c.requires.shows (c.is_silent.ensures c.if-is_silent.true)
 
 pub returns-clause-here : goal.returns-clause-here
 returns-clause-here c =

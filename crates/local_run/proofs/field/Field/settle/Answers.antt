@@ -13,6 +13,15 @@ invariant_of-self-clause-odd_calm c =
     subst (λ (m : List ℕ). OddCalm m f.planes) (sym items)
     (odd_unmarked c.args.u f.odd_marks.items c.unmark.new.marks f.planes sets c.requires.calm f.odd_calm)
 
+pub invariant_of-self-else-is_dead-clause-odd_calm : goal.invariant_of-self-else-is_dead-clause-odd_calm
+invariant_of-self-else-is_dead-clause-odd_calm c =
+    let f = c.args.self.now in
+    let v = c.deref_mut.ensures.value in
+    let items = with_items_is f.odd_marks c.unmark.new.marks (omega (arith, ap length v, f.odd_marks.ok.0)) in
+    let sets = rw v at c.unmark.ensures in
+    subst (λ (m : List ℕ). OddCalm m f.planes) (sym items)
+    (odd_unmarked c.args.u f.odd_marks.items c.unmark.new.marks f.planes sets c.requires.calm f.odd_calm)
+
 pub invariant_of-self-clause-all_dead : goal.invariant_of-self-clause-all_dead
 invariant_of-self-clause-all_dead c =
     let f = c.args.self.now in

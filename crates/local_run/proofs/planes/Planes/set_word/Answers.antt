@@ -31,7 +31,7 @@ pub returns-then-y-eq0-clause-cells : goal.returns-then-y-eq0-clause-cells
 returns-then-y-eq0-clause-cells c =
     let p = c.args.self.now in
     let u : ℕ = p.stride * (c.args.y / 2) + c.args.x / 2 in record {
-      odd_same = λ v l h ne. other_word p.words u c.args.k v l c.args.word p.odd.items c.requires.2 h ne;
+      odd_same = λ v l h ne. other_word p.words u c.args.k v l c.args.word p.odd.items c.requires.2 h (ne refl);
       right_same = λ v l h ne. refl;
       down_same = λ v l h ne. refl;
       even_same = λ v l h ne. refl;
@@ -43,7 +43,7 @@ returns-else-y-eq0-clause-cells c =
     let u : ℕ = p.stride * (c.args.y / 2) + c.args.x / 2 in record {
       odd_same = λ v l h ne. refl;
       right_same = λ v l h ne. refl;
-      down_same = λ v l h ne. other_word p.words u c.args.k v l c.args.word p.down.items c.requires.2 h ne;
+      down_same = λ v l h ne. other_word p.words u c.args.k v l c.args.word p.down.items c.requires.2 h (ne refl);
       even_same = λ v l h ne. refl;
     }
 
@@ -52,7 +52,7 @@ returns-then-y-eq0-2-clause-cells c =
     let p = c.args.self.now in
     let u : ℕ = p.stride * (c.args.y / 2) + c.args.x / 2 in record {
       odd_same = λ v l h ne. refl;
-      right_same = λ v l h ne. other_word p.words u c.args.k v l c.args.word p.right.items c.requires.2 h ne;
+      right_same = λ v l h ne. other_word p.words u c.args.k v l c.args.word p.right.items c.requires.2 h (ne refl);
       down_same = λ v l h ne. refl;
       even_same = λ v l h ne. refl;
     }
@@ -64,5 +64,5 @@ returns-else-y-eq0-2-clause-cells c =
       odd_same = λ v l h ne. refl;
       right_same = λ v l h ne. refl;
       down_same = λ v l h ne. refl;
-      even_same = λ v l h ne. other_word p.words u c.args.k v l c.args.word p.even.items c.requires.2 h ne;
+      even_same = λ v l h ne. other_word p.words u c.args.k v l c.args.word p.even.items c.requires.2 h (ne refl);
     }

@@ -1,4 +1,4 @@
-use Rattle.std.proofs.Common.{◌≡◌, ℕ, ◌<◌, ◌+◌, ◌*◌, ◌/◌}
+use Rattle.std.proofs.Common.{◌≡◌, ℕ, true, ◌<◌, ◌+◌, ◌*◌, ◌/◌}
 use Rattle.module_job.specs.Signals.{is_live}
 use Rattle.local_run.specs.Calm.{ChangesCells}
 use Rattle.local_run.specs.Lanes.{lane, HasSize}
@@ -10,5 +10,5 @@ invariant-loop-k l = record {
   size : HasSize l.fn.planes.words l.fn.planes.stride l.fn.planes.rows l.planes;
   there : (a : ℕ) → a < 64 * l.k → lane l.planes a l.x l.y ≡ is_live (valuation l.self a) l.signal;
   rest : (a x' y' : ℕ) → a < 64 * l.self.words → x' / 2 < l.fn.planes.stride → ((x' ≡ l.x) × (y' ≡ l.y) → ⊥) → lane l.planes a x' y' ≡ lane l.fn.planes a x' y';
-  cells : let u = l.fn.planes.stride * (l.y / 2) + l.x / 2 in ChangesCells u u u u l.fn.planes l.planes;
+  cells : let u = l.fn.planes.stride * (l.y / 2) + l.x / 2 in ChangesCells true true u u u u l.fn.planes l.planes;
 }

@@ -1,0 +1,30 @@
+use Rattle.std.proofs.Common.{◌≡◌, ◌+◌, ℕ, arith, sym, ap, ◌∙◌, subst, inl, inr, slice_index, bit_and, bit_or}
+use Rattle.std.proofs.lemmas.Bool.{cases_lt}
+use Rattle.std.proofs.lemmas.Nat.{and_or_self, or_comm}
+use Rattle.std.specs.Int.Bits.{and_zero_l}
+use Rattle.local_run.specs.Turns.{DiagonalStays}
+use Rattle.local_run.proofs.planes.part_changes.Goals as goal
+
+none_last : (a m : ℕ) → bit_or a m ≡ 0 → m ≡ 0
+none_last a m h = sym (and_or_self m a) ∙ ap (λ (n : ℕ). bit_and n m) h ∙ and_zero_l m
+
+none_first : (a m : ℕ) → bit_or a m ≡ 0 → a ≡ 0
+none_first a m h = none_last m a (or_comm m a ∙ h)
+
+pub loop-k-preserved : goal.loop-k-preserved
+loop-k-preserved c = record {
+  main = λ h k l. elim (cases_lt k c.loop-k.k) [
+    | inl lt ↦ c.loop-k.invariant.main (none_first _ _ h) k lt
+    | inr ge ↦
+        let e : c.loop-k.k ≡ k = omega arith in
+        subst (λ (n : ℕ). DiagonalStays (slice_index c.args.upper_left.now (c.args.a + n)) (slice_index c.args.lower_right.now (c.args.d + n)) (slice_index c.args.upper_right.now (c.args.b + n)) (slice_index c.args.lower_left.now (c.args.c + n))) e
+        (c.flips_of-main_flips.ensures.main (none_last _ _ h))
+  ];
+  anti = λ h k l. elim (cases_lt k c.loop-k.k) [
+    | inl lt ↦ c.loop-k.invariant.anti (none_first _ _ h) k lt
+    | inr ge ↦
+        let e : c.loop-k.k ≡ k = omega arith in
+        subst (λ (n : ℕ). DiagonalStays (slice_index c.args.upper_right.now (c.args.b + n)) (slice_index c.args.lower_left.now (c.args.c + n)) (slice_index c.args.upper_left.now (c.args.a + n)) (slice_index c.args.lower_right.now (c.args.d + n))) e
+        (c.flips_of-main_flips.ensures.anti (none_last _ _ h))
+  ];
+}
