@@ -239,6 +239,17 @@ fn turn_lanes(upper_left: &mut [u64], upper_right: &mut [u64], lower_left: &mut 
     }
 }
 
+/// What a turn flips of the block's diagonals, under some assignment: that of the upper left cell, and the other one.
+fn flips(upper_left: &[u64], upper_right: &[u64], lower_left: &[u64], lower_right: &[u64]) -> (u64, u64) {
+    let (mut main, mut anti) = (0, 0);
+    for (((a, b), c), d) in upper_left.iter().zip(upper_right).zip(lower_left).zip(lower_right) {
+        let changed = (a | d) ^ (b | c);
+        main |= changed & !(b ^ c);
+        anti |= changed & !(a ^ d);
+    }
+    (main, anti)
+}
+
 /// The cells of a box and its halo, counted from the halo, in four planes by the parities of column and row in the box.
 struct Planes {
     words: usize,
@@ -334,10 +345,6 @@ impl Marks {
         self.0[at / 64] &= !(1 << (at % 64));
     }
 
-    fn has(&self, at: usize) -> bool {
-        self.0[at / 64] >> (at % 64) & 1 == 1
-    }
-
     /// The first number from `from` on that has a mark.
     fn next(&self, from: usize) -> Option<usize> {
         let mut rest = *self.0.get(from / 64)? & (!0 << (from % 64));
@@ -368,10 +375,6 @@ impl Field {
         Field { planes, odd, even, live, lined, rush: 0 }
     }
 
-    fn is_silent(&self, u: usize) -> bool {
-        !self.live.has(u) && !self.lined.has(u)
-    }
-
     fn put(&mut self, x: usize, y: usize, row: &[u64]) {
         let s = self.planes.stride;
         let u = s * (y / 2) + x / 2;
@@ -385,7 +388,8 @@ impl Field {
     fn turn(&mut self, u: usize, is_odd: bool) -> bool {
         let s = self.planes.stride;
         let [a, b, c, d] = self.planes.block(u, is_odd);
-        if (0..a.len()).all(|k| a[k] | d[k] == b[k] | c[k]) {
+        let (main, anti) = flips(a, b, c, d);
+        if main | anti == 0 {
             if !is_odd {
                 self.even.clear(u);
                 return false;
@@ -397,7 +401,10 @@ impl Field {
             return false;
         }
         turn_lanes(a, b, c, d);
-        for v in [0, 1, s, s + 1] {
+        for (flips, v) in [(main, 0), (anti, 1), (anti, s), (main, s + 1)] {
+            if flips == 0 {
+                continue;
+            }
             if is_odd {
                 u.checked_sub(v).into_iter().for_each(|v| self.even.set(v));
             } else {
@@ -440,8 +447,8 @@ struct Run<'a> {
     edges: Schedule,
     halos: Schedule,
     field: Field,
-    /// The numbers of cells that have a cell of ring or halo.
-    border: Vec<usize>,
+    /// Marks on the numbers of cells that have a cell of ring or halo.
+    border: Marks,
     /// Marks on the cells of which a line says something at all times.
     held: Vec<u64>,
 }
@@ -458,7 +465,8 @@ impl<'a> Run<'a> {
         let edges = Schedule::of(&module.edges, &values);
         let halos = Schedule::of(&module.halos, &values);
         let field = Field::new(Planes::new(module.area[2], module.area[3], values.words));
-        let border = ring(module.area[2] / 2 + 1, module.area[3] / 2 + 1).map(|(x, y)| field.planes.stride * y + x).collect();
+        let mut border = Marks(vec![0; field.planes.cells().div_ceil(64)]);
+        ring(module.area[2] / 2 + 1, module.area[3] / 2 + 1).for_each(|(x, y)| border.set(field.planes.stride * y + x));
         let mut run = Run { bundle, area: module.area, values, edges, halos, field, border, held: vec![] };
         run.field.lined.0.fill(0);
         for cell in run.edges.held_cells().chain(run.halos.held_cells()).collect::<Vec<_>>() {
@@ -502,13 +510,23 @@ impl<'a> Run<'a> {
         [(x, y), (x + 1, y), (x, y + 1), (x + 1, y + 1)]
     }
 
+    /// The first number from `from` on with a cell of ring or halo that may be live or has a line.
+    fn next_loud(&self, from: usize) -> Option<usize> {
+        let loud = |k: usize| Some(self.border.0.get(k)? & (self.field.live.0[k] | self.field.lined.0[k]));
+        let mut word = from / 64;
+        let mut rest = loud(word)? & (!0 << (from % 64));
+        while rest == 0 {
+            word += 1;
+            rest = loud(word)?;
+        }
+        Some(64 * word + rest.trailing_zeros() as usize)
+    }
+
     fn put_halo(&mut self, time: usize) {
         let [left, top, w, h] = self.area;
-        for k in 0..self.border.len() {
-            let u = self.border[k];
-            if self.field.is_silent(u) {
-                continue;
-            }
+        let mut from = 0;
+        while let Some(u) = self.next_loud(from) {
+            from = u + 1;
             for (x, y) in self.four(u) {
                 if (1..=w).contains(&x) && (1..=h).contains(&y) {
                     continue;
@@ -538,11 +556,11 @@ impl<'a> Run<'a> {
         let in_box = |&(x, y): &Place| (1..=w).contains(&x) && (1..=h).contains(&y);
         let in_ring = |&(x, y): &Place| x == 1 || x == w || y == 1 || y == h;
         let as_said = |(x, y): Place| self.difference(x - 1, y - 1, self.edges.at(time, left + x - 1, top + y - 1)).is_none();
-        self.field.is_silent(u) || self.four(u).into_iter().filter(in_box).filter(in_ring).all(as_said)
+        self.four(u).into_iter().filter(in_box).filter(in_ring).all(as_said)
     }
 
     fn edge_fault(&self, time: usize) -> Option<(Place, usize)> {
-        if self.border.iter().all(|u| self.is_edge_right(time, *u)) {
+        if std::iter::successors(self.next_loud(0), |u| self.next_loud(u + 1)).all(|u| self.is_edge_right(time, u)) {
             return None;
         }
         let [left, top, w, h] = self.area;

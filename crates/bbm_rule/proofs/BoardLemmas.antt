@@ -269,14 +269,3 @@ even_step t w h s r old new at_even plane rows e u v =
         | inl near' ↦ rw (near.1, near'.1) (live_inner w h s new near.0 near'.0 near.2 near'.2 ∙ sym (even_cell t w h s r old new at_even plane rows e near.0 near'.0 near.2 near'.2))
       ]
     ]
-
--- ---- the margin
-pub margin_dead : (w h s : ℕ) (words : List ℕ) → ((x : ℕ) → x < w + 2 → cell_at words x ≡ false) → ((x : ℕ) → x < w + 2 → cell_at words (s * (h + 1) + x) ≡ false) → ((y : ℕ) → y < h + 2 → cell_at words (s * y) ≡ false) → ((y : ℕ) → y < h + 2 → cell_at words (s * y + (w + 1)) ≡ false) → HasDeadMargin w h s words
-margin_dead w h s words top bottom left right zero y lx ly outer = let place : s * y + 0 ≡ s * y = omega arith in rw place (left y ly)
-margin_dead w h s words top bottom left right (suc x) zero lx ly outer = let place : s * 0 + suc x ≡ suc x = omega arith in rw place (top (suc x) lx)
-margin_dead w h s words top bottom left right (suc x) (suc y) lx ly outer =
-    by_lt_or_le x w
-    (λ in_x. by_lt_or_le y h
-    (λ in_y. let inner : is_inner w h (suc x) (suc y) ≡ true = inner_test w h x y in_x in_y in cc)
-    (λ out_y. let e : suc y ≡ h + 1 = omega arith in rw e (bottom (suc x) lx)))
-    (λ out_x. let e : suc x ≡ w + 1 = omega arith in rw e (right (suc y) ly))

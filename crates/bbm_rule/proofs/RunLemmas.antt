@@ -141,18 +141,5 @@ aligned_step upper k stride first second a b l room run pairs =
     let set_b = rw below at (word_set (set second (upper + k) a) (upper + k + stride) b (omega (arith, length-set {A = ℕ}))) in
     rw more (run_join (64 * upper) (64 * k) (64 * stride) first second _ (omega arith) (omega arith) run (windows_turned (64 * upper + 64 * k) (64 * stride) _ _ a b second _ _ (omega arith) has_a has_b pairs set_a set_b))
 
--- the next pair of rows, from word upper on
-pub aligned_rows : (r stride upper : ℕ) (first second third : List ℕ) → upper ≡ 2 * (r * stride) → TurnsRows 0 (64 * stride) r first second → TurnsRun (64 * upper) (64 * stride) (64 * stride) second third → TurnsRows 0 (64 * stride) (r + 1) first third
-aligned_rows r stride upper first second third e rows run =
-    let place : 64 * upper ≡ 0 + 2 * (r * (64 * stride)) = omega arith in
-    let run = rw place at run in
-    rows_join 0 (64 * stride) r first second third (omega arith) rows run
-
-pub shifted_rows : (r stride upper : ℕ) (first second third : List ℕ) → upper ≡ stride + 2 * (r * stride) → TurnsRows (64 * stride + 1) (64 * stride) r first second → TurnsRun (64 * upper + 1) (64 * stride) (64 * stride) second third → TurnsRows (64 * stride + 1) (64 * stride) (r + 1) first third
-shifted_rows r stride upper first second third e rows run =
-    let place : 64 * upper + 1 ≡ 64 * stride + 1 + 2 * (r * (64 * stride)) = omega arith in
-    let run = rw place at run in
-    rows_join (64 * stride + 1) (64 * stride) r first second third (omega arith) rows run
-
 pub rows_room : (r pairs stride : ℕ) → r < pairs → 2 * (r * stride) + stride + stride ≤ 2 * (pairs * stride)
 rows_room r pairs stride l = let h : (r + 1) * stride ≤ pairs * stride = mul-le-mul_right stride (omega arith) in omega arith

@@ -22,15 +22,6 @@ pub fn next_marked(marks: &[u64], from: usize, end: usize) -> usize
     end
 }
 
-/// Whether a number has a mark.
-#[inline(always)]
-pub fn is_marked(marks: &[u64], at: usize) -> bool
-    requires { at / 64 < length marks.now }
-    ensures { result ≡ cell_at marks.now at }
-{
-    (marks[at / 64] >> (at % 64)) & 1 == 1
-}
-
 /// Marks a number.
 #[inline(always)]
 pub fn mark(marks: &mut [u64], at: usize)
