@@ -1,7 +1,7 @@
 //! The whole program, over the words and the streams that it is given.
 ghost use Rattle.std.specs.Prelude.{◌≡◌, ◌≢◌, ◌<◌, ◌≤◌, ◌⊎◌, false, true, IfErr, IsErrOf, OnOk, Ok, map};
 ghost use Rattle.clap.specs.Words.{kind_of};
-ghost use Rattle.command_line.specs.CommandLine.{IsAccepted, AsksForHelp, asked_by};
+ghost use Rattle.command_line.specs.CommandLine.{AsksForHelp, IsAccepted, IsHelpAlone, asked_by};
 ghost use Rattle.check_main.specs.Commands.{IsAnswerTo};
 ghost use Rattle.headline.specs.Headline.{Gives, IsRight, YesMeans};
 ghost use Rattle.headline.specs.Stops.{HasRightStops};
@@ -78,6 +78,8 @@ where
     ensures unread { ¬ IsAccepted (map (λ s. s.now) words.entry.now) → streams.new.reader ≡ streams.old.reader }
     ensures help { ¬ IsAccepted (map (λ s. s.now) words.entry.now) → result ≢ 2 → result ≢ 5 →
         AsksForHelp (map (λ s. s.now) words.entry.now) }
+
+    ensures told { IsHelpAlone (map (λ s. s.now) words.entry.now) → result ≢ 2 }
 
     ensures yes { IsAccepted (map (λ s. s.now) words.entry.now) → result ≡ 0
         → Answers (IsAnswerTo (asked_by (map (λ s. s.now) words.entry.now)))
@@ -194,6 +196,7 @@ fn explain<W: Sink, E: Sink>(alloc: Global, error: &Error, writer: &mut W, error
     ensures range { (result ≡ 0) ⊎ (result ≡ 2) ⊎ (result ≡ 4) ⊎ (result ≡ 5) }
     ensures help { result ≢ 2 → result ≢ 5 →
         (kind_of error.now ≡ ErrorKind.DisplayHelp) ⊎ (kind_of error.now ≡ ErrorKind.DisplayVersion) }
+    ensures told { (kind_of error.now ≡ ErrorKind.DisplayHelp) ⊎ (kind_of error.now ≡ ErrorKind.DisplayVersion) → result ≢ 2 }
     ensures words { result ≡ 2 → writer.new ≡ writer.old }
     ensures device { result ≡ 4 → (W.has_failed writer.new ≡ true)
         × Says (E.held errors.old) (E.held errors.new) (E.has_failed errors.new) CheckFault.Write }

@@ -6,6 +6,7 @@ use Rattle.std.specs.Str.Parse.{digits_value, without_leading_plus}
 use Rattle.clap.specs.Words.{App, IsAmong, Row, Rule, Text, fault_of, new_app, new_rule, one_of, subcommand_of, with_rule, with_subcommand}
 use Rattle.clap.specs.Simple.{on_top}
 use Rattle.clap.specs.declared.builder.value_parser.ValueParser.TheVariants as vp
+use Rattle.clap.specs.declared.error.kind.ErrorKind.{ErrorKind}
 use Rattle.clap.specs.declared.error.kind.ErrorKind.TheVariants as kind
 use Rattle.command_line.specs.declared.Request.{Request}
 use Rattle.command_line.specs.declared.Request.TheVariants.{Check, Run, Value, Modules, Migrate}
@@ -63,3 +64,7 @@ IsAccepted words = fault_of bbmcheck words ≡ []
 -- what they may ask for is help, or the version
 abbrev pub AsksForHelp : List Text → Type 0
 AsksForHelp words = IsAmong kind.DisplayHelp (fault_of bbmcheck words) ⊎ IsAmong kind.DisplayVersion (fault_of bbmcheck words)
+
+-- and nothing else
+abbrev pub IsHelpAlone : List Text → Type 0
+IsHelpAlone words = (k : ErrorKind) → IsAmong k (fault_of bbmcheck words) → (k ≡ kind.DisplayHelp) ⊎ (k ≡ kind.DisplayVersion)

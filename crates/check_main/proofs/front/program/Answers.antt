@@ -1,5 +1,5 @@
 -- Words in which nothing is wrong are not taken only where memory ran out, and then nothing is written.
-use Rattle.std.proofs.Common.{◌≡◌, [], ap, subst, inl, inr}
+use Rattle.std.proofs.Common.{◌≡◌, [], ap, arith, subst, inl, inr}
 use Rattle.clap.specs.Words.{HasKind, IsAmong, Kinds, kind_of}
 use Rattle.clap.specs.declared.error.Error.{Error}
 use Rattle.clap.specs.declared.error.kind.ErrorKind.TheVariants.{OutOfMemory}
@@ -11,6 +11,12 @@ use Rattle.check_main.proofs.front.program.Goals as goal
 of_memory : (kinds : Kinds) (error : Error) → kinds ≡ [] → HasKind kinds error → kind_of error ≡ OutOfMemory
 of_memory kinds error none (inl memory) = memory
 of_memory kinds error none (inr among) = absurd (subst (λ (k : Kinds). IsAmong (kind_of error) k) none among)
+
+pub returns-in-Err-clause-told : goal.returns-in-Err-clause-told
+returns-in-Err-clause-told g c help two = elim c.in-Err.ensures.fails [
+  | inl memory ↦ let five = c.explain.ensures.memory memory in absurd (omega (arith, five, two))
+  | inr among ↦ c.explain.ensures.told (help (kind_of c.in-Err.error) among) two
+]
 
 pub returns-in-Err-clause-says_yes : goal.returns-in-Err-clause-says_yes
 returns-in-Err-clause-says_yes g c accepted check =
