@@ -1,5 +1,5 @@
 -- Cells that are known to be dead and have no line
-use Rattle.std.proofs.Common.{◌≡◌, ℕ, true, false, ◌<◌, ◌≤◌, ◌+◌, ◌-◌, ◌*◌, ◌/◌, ◌%◌, arith, sym, ◌∙◌, ap, ap₂, subst, refl, inl, inr, ◌⊎◌, List, None}
+use Rattle.std.proofs.Common.{◌≡◌, ℕ, true, false, ◌<◌, ◌≤◌, ◌+◌, ◌-◌, ◌*◌, ◌/◌, ◌%◌, arith, sym, ◌∙◌, ap, ap₂, subst, refl, inl, inr, List, None}
 use Rattle.std.specs.Prelude.{ℤ}
 use Rattle.std.proofs.lemmas.Bool.{and_parts, false≢true}
 use Rattle.bbm_rule.specs.Spans.{in_span}
@@ -9,7 +9,7 @@ use Rattle.std.proofs.Math.Nat.{mul-le-mul_left}
 use Rattle.bbm_rule.proofs.BitLemmas.{by_eq_or_not, by_lt_or_le, bit-zero}
 use Rattle.module_job.specs.Jobs.{JobState}
 use Rattle.module_job.specs.Signals.{is_live}
-use Rattle.local_run.specs.Borders.{IsInner}
+use Rattle.local_run.specs.Borders.{ArePassed}
 use Rattle.local_run.specs.Calm.{IsDeadAt}
 use Rattle.local_run.specs.Faults.{assignments}
 use Rattle.local_run.specs.Runs.{local_run}
@@ -117,11 +117,6 @@ between_edges j vs t x y lx hx ly hy a l f =
     next k l = omega arith
 
 -- ---- the numbers that a look at ring and halo passes
--- from one number to another: they have no cell of ring and halo, or are dead and without a mark
-abbrev pub ArePassed : ℕ → ℕ → List ℕ → Planes → Type 0
-ArePassed from to marks p = (column row : ℕ) → column < p.stride → row < p.rows → from ≤ p.stride * row + column → p.stride * row + column < to →
-    IsInner p.stride p.rows column row ⊎ (IsDeadAt (p.stride * row + column) p × IsUnmarked marks (p.stride * row + column))
-
 number_in : (j : JobState) (vs : Values) (t : ℕ) (p : Planes) (x y : ℕ) → Shows j vs t p → number_at j.area x y ≡ p.stride * (y / 2) + x / 2
 number_in j vs t p x y shows = ap (λ s. s * (y / 2) + x / 2) (sym shows.size.1)
 

@@ -1,7 +1,9 @@
 -- Cells of planes that are neither in the ring of a box nor in its halo
-use Rattle.std.specs.Prelude.{ℕ, ◌+◌, ◌*◌, ◌<◌, List}
+use Rattle.std.specs.Prelude.{ℕ, ◌+◌, ◌*◌, ◌<◌, ◌≤◌, ◌⊎◌, List}
 use Rattle.std.proofs.Props.{props}
 use Rattle.bbm_rule.specs.Marks.{IsUnmarked}
+use Rattle.local_run.specs.Calm.{IsDeadAt}
+use Rattle.local_run.specs.declared.planes.Planes.{Planes}
 
 -- the cells in this column and row of planes of so many are neither in the ring nor in the halo
 abbrev pub IsInner : ℕ → ℕ → ℕ → ℕ → Type 0
@@ -11,6 +13,11 @@ IsInner stride rows column row = (0 < column) × (column + 1 < stride) × (0 < r
 abbrev pub AllInner : ℕ → ℕ → List ℕ → Type 0
 AllInner stride rows marks = (column row : ℕ) → column < stride → row < rows → IsUnmarked marks (stride * row + column) → IsInner stride rows column row
 
--- any two proofs of this are equal
+-- from one number to another, each has cells that are neither in the ring nor in the halo, or that are dead and have no mark
+abbrev pub ArePassed : ℕ → ℕ → List ℕ → Planes → Type 0
+ArePassed from to marks p = (column row : ℕ) → column < p.stride → row < p.rows → from ≤ p.stride * row + column → p.stride * row + column < to →
+    IsInner p.stride p.rows column row ⊎ (IsDeadAt (p.stride * row + column) p × IsUnmarked marks (p.stride * row + column))
+
+-- any two proofs of `AllInner` are equal
 pub AllInner-prop : (stride rows : ℕ) (marks : List ℕ) → IsProp (AllInner stride rows marks)
 AllInner-prop stride rows marks = Prim.hlevel props

@@ -6,7 +6,7 @@
 
 ghost use Rattle.bbm_rule.specs.Plane.{turned};
 ghost use Rattle.bbm_rule.specs.Rows.{mate};
-ghost use Rattle.local_run.specs.Borders.{AllInner, AllInner-prop, IsInner};
+ghost use Rattle.local_run.specs.Borders.{AllInner, AllInner-prop, ArePassed};
 ghost use Rattle.local_run.specs.Calm.{OddCalm, OddCalm-prop, EvenCalm, EvenCalm-prop, AllDead, AllDead-prop, IsDeadAt};
 ghost use Rattle.std.specs.Int.{div_ceil};
 ghost use Rattle.std.specs.Prelude.{ℕ, ◌≡◌, ◌+◌, ◌*◌, ◌/◌, ◌<◌, ◌≤◌, ◌⊎◌, vec_len, IfOk, false};
@@ -116,7 +116,7 @@ impl Field {
     pub fn next_border(&self, from: usize) -> usize
         requires { from ≤ self.now.planes.stride * self.now.planes.rows }
         ensures range { (from ≤ result) × (result ≤ self.now.planes.stride * self.now.planes.rows) }
-        ensures passed { (column row : ℕ) → column < self.now.planes.stride → row < self.now.planes.rows → from ≤ self.now.planes.stride * row + column → self.now.planes.stride * row + column < result → IsInner self.now.planes.stride self.now.planes.rows column row ⊎ (IsDeadAt (self.now.planes.stride * row + column) self.now.planes × IsUnmarked self.now.line_marks.items (self.now.planes.stride * row + column)) }
+        ensures passed { ArePassed from result self.now.line_marks.items self.now.planes }
     {
         next_marked_in(
             &self.border_marks,
