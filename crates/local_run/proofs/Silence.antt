@@ -5,6 +5,7 @@ use Rattle.std.proofs.lemmas.Bool.{and_parts, false≢true}
 use Rattle.bbm_rule.specs.Spans.{in_span}
 use Rattle.module_box.specs.Boxes.{in_box, in_ring}
 use Rattle.module_box.specs.declared.boxes.Box2.{Box2}
+use Rattle.module_box.specs.declared.schedules.Signal.TheVariants.{Zero}
 use Rattle.std.proofs.Math.Nat.{mul-le-mul_left}
 use Rattle.bbm_rule.proofs.BitLemmas.{by_eq_or_not, by_lt_or_le, bit-zero}
 use Rattle.module_job.specs.Jobs.{JobState}
@@ -17,7 +18,7 @@ use Rattle.local_run.specs.Lanes.{lane}
 use Rattle.local_run.specs.Places.{inner, outer}
 use Rattle.bbm_rule.specs.Marks.{IsUnmarked}
 use Rattle.local_run.specs.Quiet.{AreLines, number_at}
-use Rattle.local_run.specs.Scans.{HasEdgeAt, HasEdgesIn, HasHaloAt, HasHaloIn, IsFound, IsLeastBelow, IsOuter, IsReady, IsSilent, Shows, valuation}
+use Rattle.local_run.specs.Scans.{HasEdgeAt, HasEdgesIn, HasHaloAt, HasHaloIn, IsFound, IsLeastBelow, IsOuter, IsReady, IsShown, IsSilent, Shows, valuation}
 use Rattle.local_run.specs.declared.fault.Kind.TheVariants.{Edge}
 use Rattle.local_run.specs.declared.planes.Planes.{Planes}
 use Rattle.local_run.specs.declared.values.Values.{Values}
@@ -95,6 +96,16 @@ inner_edge j vs t x y lx ly none a l f =
   where
     next : (k : ℕ) → 1 ≤ k → k ≡ 1 + (k - 1)
     next k l = omega arith
+
+-- nor does a dead cell of which no line says something
+pub unsaid_edge : (j : JobState) (vs : Values) (p : Planes) (t x y : ℕ) (marks : List ℕ) → IsReady j vs → Shows j vs t p → AreLines j t marks → x < j.area.w + 2 → y < j.area.h + 2 →
+    IsUnmarked marks (p.stride * (y / 2) + x / 2) → IsShown vs p x y Zero vs.words → HasEdgeAt j vs t x y
+unsaid_edge j vs p t x y marks ready shows lines lx ly free dead a l f =
+    let room = ready.room in
+    let count = ready.count in
+    let free = rw shows.size.1 at free in
+    let inside = ring_in_box j.area _ _ f.1.ring in
+    f.1.differs (sym (shown_at j vs p t x y a shows l inside) ∙ dead a (omega arith) ∙ sym (ap (is_live (valuation vs a)) (lines.edges x y lx ly free)))
 
 -- the four cells in a column and row of the planes
 pub four_cells : (c r : ℕ) (P : ℕ → ℕ → Type 0) → P (2 * c) (2 * r) → P (2 * c + 1) (2 * r) → P (2 * c) (2 * r + 1) → P (2 * c + 1) (2 * r + 1) → (x y : ℕ) → x / 2 ≡ c → y / 2 ≡ r → P x y

@@ -12,7 +12,7 @@ ghost use Rattle.std.specs.Int.{div_ceil};
 ghost use Rattle.std.specs.Prelude.{ℕ, ◌≡◌, ◌+◌, ◌*◌, ◌/◌, ◌<◌, ◌≤◌, ◌⊎◌, vec_len, IfOk, false};
 
 use crate::lines::mark_lines;
-use crate::marks::{mark_around, mark_border, mark_corners, next_marked_in};
+use crate::marks::{is_marked, mark_around, mark_border, mark_corners, next_marked_in};
 use crate::planes::{Changes, Planes};
 use crate::values::Values;
 use bbm_rule::marks::{mark, mark_all, next_marked, unmark};
@@ -125,6 +125,14 @@ impl Field {
             from,
             self.planes.cells(),
         )
+    }
+
+    /// Whether an edge or halo line may say something, at the time that was looked at, of a cell, counted from the halo.
+    pub fn has_line(&self, x: usize, y: usize) -> bool
+        requires { (x / 2 < self.now.planes.stride) × (y / 2 < self.now.planes.rows) }
+        ensures { result ≡ false → IsUnmarked self.now.line_marks.items (self.now.planes.stride * (y / 2) + x / 2) }
+    {
+        is_marked(&self.line_marks, self.planes.number(x, y))
     }
 
     // Takes the mark off block u of the odd partition, which stays, and off its cells where they are dead.

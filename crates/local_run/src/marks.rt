@@ -1,12 +1,22 @@
 //! Marks on the blocks around a block, and on the cells of ring and halo.
 
 ghost use Rattle.bbm_rule.specs.Marks.{IsUnmarked};
+ghost use Rattle.bbm_rule.specs.Rows.{cell_at};
 ghost use Rattle.local_run.specs.Borders.{AllInner};
 ghost use Rattle.local_run.specs.Turns.{MarksAround, MarksCorners};
 ghost use Rattle.std.specs.Prelude.{ℕ, ◌≡◌, ◌≢◌, ◌+◌, ◌*◌, ◌/◌, ◌^◌, ◌<◌, ◌≤◌, ◌⊎◌, length};
 
 use crate::planes::Changes;
 use bbm_rule::marks::{mark, mark_before};
+
+/// Whether a number has a mark.
+#[inline(always)]
+pub fn is_marked(marks: &[u64], at: usize) -> bool
+    requires { at / 64 < length marks.now }
+    ensures { result ≡ cell_at marks.now at }
+{
+    (marks[at / 64] >> (at % 64)) & 1 == 1
+}
 
 /// Marks the blocks of the even partition that share with block `at` of the odd partition a cell of a diagonal that changes.
 pub fn mark_around(marks: &mut [u64], at: usize, stride: usize, changes: Changes)

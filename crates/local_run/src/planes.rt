@@ -279,6 +279,15 @@ impl Planes {
         (u % self.stride, u / self.stride)
     }
 
+    /// The number of a cell, counted from the halo.
+    pub fn number(&self, x: usize, y: usize) -> usize
+        requires { (x / 2 < self.now.stride) × (y / 2 < self.now.rows) }
+        ensures is { result ≡ self.now.stride * (y / 2) + x / 2 }
+        ensures range { result < self.now.stride * self.now.rows }
+    {
+        self.stride * (y / 2) + x / 2
+    }
+
     /// Whether the cells with number u are dead under each assignment.
     pub fn is_dead(&self, u: usize) -> bool
         requires { u < self.now.stride * self.now.rows }

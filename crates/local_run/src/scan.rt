@@ -101,6 +101,7 @@ pub fn first_fault(
 fn is_edge_right(field: &Field, values: &Values, job: &Job, time: u32, x: usize, y: usize) -> bool
     requires ready { IsReady job.now values.now }
     requires shows { Shows job.now values.now time field.now.planes }
+    requires lines { AreLines job.now time field.now.line_marks.items }
     requires sought { IsSought job.now time Kind.Edge }
     requires place { (x < job.now.area.w + 2) × (y < job.now.area.h + 2) }
     ensures { result ≡ true → HasEdgeAt job.now values.now time x y }
@@ -110,6 +111,10 @@ fn is_edge_right(field: &Field, values: &Values, job: &Job, time: u32, x: usize,
         return true;
     }
     if area.w as usize <= x - 1 || area.h as usize <= y - 1 {
+        return true;
+    }
+    // Most cells have no line and are dead.
+    if !field.has_line(x, y) && !values.is_different(field.planes(), x, y, Signal::Zero) {
         return true;
     }
     cell_fault(field, values, job, time, Kind::Edge, x - 1, y - 1).is_none()
@@ -127,6 +132,7 @@ fn are_both_right(
 ) -> bool
     requires ready { IsReady job.now values.now }
     requires shows { Shows job.now values.now time field.now.planes }
+    requires lines { AreLines job.now time field.now.line_marks.items }
     requires sought { IsSought job.now time Kind.Edge }
     requires place { (column < job.now.area.w / 2 + 1) × (y < job.now.area.h + 2) }
     ensures left { result ≡ true → HasEdgeAt job.now values.now time (2 * column) y }
@@ -147,6 +153,7 @@ fn are_edges_right_in(
 ) -> bool
     requires ready { IsReady job.now values.now }
     requires shows { Shows job.now values.now time field.now.planes }
+    requires lines { AreLines job.now time field.now.line_marks.items }
     requires sought { IsSought job.now time Kind.Edge }
     requires place { (column < job.now.area.w / 2 + 1) × (row < job.now.area.h / 2 + 1) }
     ensures { result ≡ true → HasEdgesIn job.now values.now time column row }

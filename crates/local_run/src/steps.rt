@@ -1,6 +1,11 @@
 //! The start of a run over planes, and its steps.
 ghost use Rattle.std.specs.Prelude.{◌≡◌, ◌+◌, ◌*◌, ◌/◌, ◌%◌, ◌<◌, ◌≤◌, true, false};
+ghost use Rattle.circuit.specs.Meaning.{wires};
+ghost use Rattle.module_box.specs.Schedules.{signal_at};
+ghost use Rattle.module_job.specs.Jobs.{IsJob};
+ghost use Rattle.module_job.specs.Signals.{IsBelow};
 ghost use Rattle.local_run.specs.Lanes.{HasSize};
+ghost use Rattle.local_run.specs.Places.{outer};
 ghost use Rattle.local_run.specs.Quiet.{AreLines};
 ghost use Rattle.local_run.specs.Scans.{HasHalo, HasHaloAt, HasHaloIn, IsReady, SameButIn, SameElsewhere, Shows};
 
@@ -8,6 +13,7 @@ use crate::field::Field;
 use crate::places::{halo_at, start_at};
 use crate::planes::Planes;
 use crate::values::Values;
+use module_box::Signal;
 use module_job::Job;
 
 /// The cells of the box become those of time 0.
@@ -25,11 +31,29 @@ pub fn put_start(planes: &mut Planes, values: &Values, job: &Job)
     }
 }
 
+// What a cell, counted from the halo, carries at an odd time, if it is in the halo. Where no line says something it is not sought.
+fn halo_signal(field: &Field, job: &Job, time: u32, x: usize, y: usize) -> Signal
+    requires job { IsJob job.now }
+    requires stride { field.now.planes.stride ≡ job.now.area.w / 2 + 1 }
+    requires rows { field.now.planes.rows ≡ job.now.area.h / 2 + 1 }
+    requires lines { AreLines job.now time field.now.line_marks.items }
+    requires place { (x < job.now.area.w + 2) × (y < job.now.area.h + 2) }
+    ensures is { result ≡ signal_at job.now.halos time (outer job.now.area.x x) (outer job.now.area.y y) }
+    ensures below { IsBelow (wires job.now.locals.netlist) result }
+{
+    if field.has_line(x, y) {
+        halo_at(job, time, x, y)
+    } else {
+        Signal::Zero
+    }
+}
+
 // A cell of the halo becomes what its signal says, where it is one.
 #[tactic(auto, using(crate::proofs::Scans::row_from))]
 fn put_halo_cell(field: &mut Field, values: &Values, job: &Job, time: u32, x: usize, y: usize)
     requires ready { IsReady job.now values.now }
     requires shows { Shows job.now values.now time field.old.planes }
+    requires lines { AreLines job.now time field.old.line_marks.items }
     requires place { (x < job.now.area.w + 2) × (y < job.now.area.h + 2) }
     ensures shows { Shows job.now values.now time field.new.planes }
     ensures lines { field.new.line_marks ≡ field.old.line_marks }
@@ -40,7 +64,7 @@ fn put_halo_cell(field: &mut Field, values: &Values, job: &Job, time: u32, x: us
     if 1 <= x && x <= area.w as usize && 1 <= y && y <= area.h as usize {
         return;
     }
-    let signal = halo_at(job, time, x, y);
+    let signal = halo_signal(field, job, time, x, y);
     if values.is_different(field.planes(), x, y, signal) {
         field.put(values, x, y, signal);
     }
@@ -50,6 +74,7 @@ fn put_halo_cell(field: &mut Field, values: &Values, job: &Job, time: u32, x: us
 fn put_halo_in(field: &mut Field, values: &Values, job: &Job, time: u32, column: usize, row: usize)
     requires ready { IsReady job.now values.now }
     requires shows { Shows job.now values.now time field.old.planes }
+    requires lines { AreLines job.now time field.old.line_marks.items }
     requires place { (column < job.now.area.w / 2 + 1) × (row < job.now.area.h / 2 + 1) }
     ensures shows { Shows job.now values.now time field.new.planes }
     ensures lines { field.new.line_marks ≡ field.old.line_marks }
