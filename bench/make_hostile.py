@@ -185,7 +185,7 @@ def alike_wires(count):
 # ---- check and modules: reading, borders
 
 def borders(full):
-    """check, modules: 15 MiB of lines at single times, for 64 modules of 64 by 64. A mirror lies over each border of two modules in a
+    """check, migrate, modules: 15 MiB of lines at single times, for 64 modules of 64 by 64. A mirror lies over each border of two modules in a
     row, and is named at every odd time, so the verdict is yes."""
     steps, height, side = 3800, SIDE if full else SIDE // 2, 64
     mirrors = [(x - 2, y + 21, 4, 2) for y in range(0, height, side) for x in range(side, SIDE, side)]
@@ -200,7 +200,7 @@ def borders(full):
 
 
 def most_lines(full):
-    """check, modules: as many lines as 16 MiB have: short ones, for 1008 modules of 4 by 2."""
+    """check, migrate, modules: as many lines as 16 MiB have: short ones, for 1008 modules of 4 by 2."""
     w, h, steps = 96, 84 if full else 42, 92
     modules = []
     for box in boxes(w, h, 4, 2):
@@ -216,7 +216,7 @@ def neighbours(full):
 
 
 def near_edges(full):
-    """check, modules: the same in version 2, with a wire that each module cuts."""
+    """check, migrate, modules: the same in version 2, with a wire that each module cuts."""
     return among_small(["module %d %d %d %d", "cut z"], "z", 65536 if full else 32768, ["source 0 -> z", "spill z"], 2)
 
 
@@ -236,7 +236,7 @@ def among_small(begin, signal, most, circuit=(), version=1):
 
 
 def most_edges(full):
-    """check, modules: as many edge lines of version 2 as 16 MiB have, of 1008 modules of 4 by 2 that all cut their wire."""
+    """check, migrate, modules: as many edge lines of version 2 as 16 MiB have, of 1008 modules of 4 by 2 that all cut their wire."""
     w, h, steps = 96, 84 if full else 42, 264
     modules = []
     for box in boxes(w, h, 4, 2):
@@ -269,7 +269,7 @@ def forked(names, sources):
 
 
 def cuts_and_uses(full):
-    """check, modules: 1024 modules with the most cuts and used gates, with long names."""
+    """check, migrate, modules: 1024 modules with the most cuts and used gates, with long names."""
     names = [f"a_name_of_thirty_two_bytes__{k:04d}" for k in range(22 + 4 * 1001)]
     cuts, uses = [f"cut {name}" for name in names[4000:4012]], [f"use {number}" for number in range(64)]
     area = boxes(SIDE, SIDE if full else SIDE // 2, 16, 16)
@@ -278,7 +278,7 @@ def cuts_and_uses(full):
 
 
 def alike_lines(full):
-    """check, modules: 14 MiB of lines that name the last of 4086 wires, whose hashes fall together."""
+    """check, migrate, modules: 14 MiB of lines that name the last of 4086 wires, whose hashes fall together."""
     names, height, modules = alike_wires(4086), SIDE if full else SIDE // 2, []
     for box in boxes(SIDE, height, 64, 64):
         modules += ["module %d %d %d %d" % box, f"cut {names[-1]}"]
@@ -287,7 +287,7 @@ def alike_lines(full):
 
 
 def most_stops(full):
-    """check, modules: the most stop lines of 16 modules, of a wire that is false at cells that are dead: a yes. The modules have 24 or 26
+    """check, migrate, modules: the most stop lines of 16 modules, of a wire that is false at cells that are dead: a yes. The modules have 24 or 26
     columns and rows, so that the lines are short."""
     sides, modules = [(0, 24), (24, 26), (50, 24), (74, 26)], []
     for y, b in sides if full else sides[:2]:
@@ -298,7 +298,7 @@ def most_stops(full):
 
 
 def alike_stops(full):
-    """check, modules: the same as alike_lines with stop lines in place of edge lines."""
+    """check, migrate, modules: the same as alike_lines with stop lines in place of edge lines."""
     names, height, modules = alike_wires(4086), SIDE if full else SIDE // 2, []
     for box in boxes(SIDE, height, 64, 64):
         modules += ["module %d %d %d %d" % box, f"cut {names[-1]}"]
@@ -307,7 +307,7 @@ def alike_stops(full):
 
 
 def same_port(full):
-    """check, modules: each cell an input and an output of the same name."""
+    """check, migrate, modules: each cell an input and an output of the same name."""
     height = SIDE if full else SIDE // 2
     ports = [f"{word} a {x} {y}" for word in ("in", "out") for x, y in cells(SIDE, height)]
     modules = (line for box in boxes(SIDE, height, 16, 16) for line in ["module %d %d %d %d" % box, "cut a"])
@@ -315,7 +315,7 @@ def same_port(full):
 
 
 def most_memory(full):
-    """check, modules: the same, and border lines up to 16 MiB."""
+    """check, migrate, modules: the same, and border lines up to 16 MiB."""
     height = SIDE if full else SIDE // 2
     ports = [f"{word} a {x} {y}" for word in ("in", "out") for x, y in cells(SIDE, height)]
     modules = []
@@ -327,7 +327,7 @@ def most_memory(full):
 
 
 def alike_places(full):
-    """check, modules: balls and waste cells whose hashes fall together."""
+    """check, migrate, modules: balls and waste cells whose hashes fall together."""
     height = SIDE if full else SIDE // 2
     chosen = alike_cells(SIDE, height, SIDE * height // 4)
     u, v = min(set(cells(SIDE, height)) - set(chosen))
@@ -337,7 +337,7 @@ def alike_places(full):
 
 
 def many_modules(full):
-    """check, modules: 1024 modules without lines on the largest layout."""
+    """check, migrate, modules: 1024 modules without lines on the largest layout."""
     height = SIDE if full else SIDE // 2
     return bundle((SIDE, height, 0), [], ("module %d %d %d %d" % box for box in boxes(SIDE, height, 16, 16)))
 

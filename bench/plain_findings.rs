@@ -220,9 +220,12 @@ impl Schedule {
         self.held.iter().map(|held| (held.0.1, held.0.0))
     }
 
-    /// The cells of which something is said at this time alone.
-    fn cells_at(&self, time: usize) -> impl Iterator<Item = Place> + '_ {
-        self.from(time).iter().take_while(move |event| event.0.0 == time).map(|event| (event.0.1.1, event.0.1.0))
+    /// The cells of which something is said at this time alone, sought from a place on, which becomes that of the first later event.
+    fn cells_at(&self, time: usize, place: &mut usize) -> Vec<Place> {
+        let end_of = |from: usize, end: usize| from + self.events[from..].iter().take_while(|event| event.0.0 < end).count();
+        let first = end_of(*place, time);
+        *place = end_of(first, time + 1);
+        self.events[first..*place].iter().map(|event| (event.0.1.1, event.0.1.0)).collect()
     }
 
     /// The next time from this one on of which something is said, or the end.
@@ -451,6 +454,8 @@ struct Run<'a> {
     border: Marks,
     /// Marks on the cells of which a line says something at all times.
     held: Vec<u64>,
+    /// Where the next lines stand, of edges and of halos.
+    places: [usize; 2],
 }
 
 /// The cells of the outermost columns and rows, by row.
@@ -467,7 +472,7 @@ impl<'a> Run<'a> {
         let field = Field::new(Planes::new(module.area[2], module.area[3], values.words));
         let mut border = Marks(vec![0; field.planes.cells().div_ceil(64)]);
         ring(module.area[2] / 2 + 1, module.area[3] / 2 + 1).for_each(|(x, y)| border.set(field.planes.stride * y + x));
-        let mut run = Run { bundle, area: module.area, values, edges, halos, field, border, held: vec![] };
+        let mut run = Run { bundle, area: module.area, values, edges, halos, field, border, held: vec![], places: [0; 2] };
         run.field.lined.0.fill(0);
         for cell in run.edges.held_cells().chain(run.halos.held_cells()).collect::<Vec<_>>() {
             run.mark_line(cell);
@@ -485,9 +490,9 @@ impl<'a> Run<'a> {
     /// Marks the cells that have a line at the time.
     fn look_at(&mut self, time: usize) {
         self.field.lined.0.copy_from_slice(&self.held);
-        for cell in self.edges.cells_at(time).chain(self.halos.cells_at(time)).collect::<Vec<_>>() {
-            self.mark_line(cell);
-        }
+        let edges = self.edges.cells_at(time, &mut self.places[0]);
+        let halos = self.halos.cells_at(time, &mut self.places[1]);
+        edges.into_iter().chain(halos).for_each(|cell| self.mark_line(cell));
     }
 
     fn cells(&self) -> impl Iterator<Item = Place> + use<> {

@@ -15,9 +15,8 @@ fn print_migration(alloc: Global, cert: &Cert<'_>) -> Result<Vec<u8>, AllocError
 {
     let mut text = print_circuit(alloc, cert.circuit())?;
     let layout = print_layout(alloc, cert.layout())?;
-    let lines = print_migrated(alloc, cert)?;
     text.extend_from_slice(&layout)?;
-    text.extend_from_slice(&lines)?;
+    print_migrated(alloc, &mut text, cert)?;
     Ok(text)
 }
 

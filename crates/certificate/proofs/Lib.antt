@@ -19,5 +19,6 @@ pub mod Soundness
 pub mod Spelling
 mod RoundTrip
 pub mod NearLines
+mod HashedLines
 mod PrintedLines
 pub mod JobPlaces

@@ -15,7 +15,8 @@ use pattern::print_cell;
 use section_text::{Name, print_number, print_word};
 use std::alloc::{AllocError, Global};
 
-fn print_header(alloc: Global, out: &mut Vec<u8>, version: u32) -> Result<(), AllocError>
+/// Prints the header line.
+pub(crate) fn print_header(alloc: Global, out: &mut Vec<u8>, version: u32) -> Result<(), AllocError>
     ensures { OnOk result (out.new.items ≡ out.old.items ++ line_text (codes "certificate") (decimal version ∷ [])) }
 {
     out.extend_from_slice(b"certificate")?;
@@ -110,7 +111,8 @@ fn print_stop(alloc: Global, out: &mut Vec<u8>, stop: &StopLine) -> Result<(), A
     Ok(())
 }
 
-fn print_entry(alloc: Global, out: &mut Vec<u8>, entry: &Entry) -> Result<(), AllocError>
+/// Prints a line between the header and the end.
+pub(crate) fn print_entry(alloc: Global, out: &mut Vec<u8>, entry: &Entry) -> Result<(), AllocError>
     ensures { OnOk result (out.new.items ≡ out.old.items ++ entry_text entry.now) }
 {
     match entry {
@@ -172,15 +174,14 @@ pub fn print_certificate(alloc: Global, cert: &Cert) -> Result<Vec<u8>, AllocErr
     Ok(out)
 }
 
-/// The text of a certificate as one of version 2: with that version in its header line, and without its halo lines. It is the text of
-/// the certificate itself where that is of version 2. The error is want of memory.
+/// Prints the text of a certificate as one of version 2: with that version in its header line, and without its halo lines. It is the text
+/// of the certificate itself where that is of version 2. The error is want of memory.
 #[tactic(auto, unfolding(crate::specs::Text::certificate_text))]
-pub fn print_migrated(alloc: Global, cert: &Cert) -> Result<Vec<u8>, AllocError>
-    ensures { IfOk result (λ text. text.items ≡ certificate_text (migrated cert.now)) }
+pub fn print_migrated(alloc: Global, out: &mut Vec<u8>, cert: &Cert) -> Result<(), AllocError>
+    ensures { OnOk result (out.new.items ≡ out.old.items ++ certificate_text (migrated cert.now)) }
 {
-    let mut out = Vec::new(alloc);
-    print_header(alloc, &mut out, 2)?;
-    print_without_halos(alloc, &mut out, cert.entries())?;
+    print_header(alloc, out, 2)?;
+    print_without_halos(alloc, out, cert.entries())?;
     out.extend_from_slice(b"end\n")?;
-    Ok(out)
+    Ok(())
 }

@@ -136,7 +136,7 @@ impl<'a> Builder<'a> {
         let Some(counts) = last_counts(&self.modules) else {
             return Some(6);
         };
-        if !does_follow(self.last, entry) {
+        if !does_follow(&self.last, entry) {
             return Some(6);
         }
         self.words_code(counts, entry)

@@ -96,12 +96,12 @@ fn does_precede(first: &Entry, second: &Entry) -> bool
 }
 
 /// Whether a line may stand after the lines of a module, of which this is the last.
-pub(crate) fn does_follow(last: Option<Entry>, entry: &Entry) -> bool
-    ensures { (lines : List Entry) → AreInOrder lines → last_of lines ≡ last → result ≡ may_follow lines entry.now }
+pub(crate) fn does_follow(last: &Option<Entry>, entry: &Entry) -> bool
+    ensures { (lines : List Entry) → AreInOrder lines → last_of lines ≡ last.now → result ≡ may_follow lines entry.now }
 {
     match last {
         None => true,
-        Some(last) => does_precede(&last, entry),
+        Some(last) => does_precede(last, entry),
     }
 }
 

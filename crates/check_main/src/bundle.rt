@@ -13,35 +13,39 @@ use std::alloc::{AllocError, Global};
 use std::sync::Wait;
 use std::thread::Threads;
 
-/// The report on a text that is read whole: reads a bundle up to the end of the text, and has its modules run by so many workers.
+/// The report on a text that is read whole: reads a bundle up to the end of the text, lets the text go, and has the modules run by so many
+/// workers.
 pub(crate) fn report_of_text<G: Gate + Sync, R: Threads + Wait + Sync>(
     rt: &R,
     alloc: Global,
-    feed: &mut Feed,
+    feed: Feed,
     workers: usize,
     gate: &G,
 ) -> Result<Answered, AllocError>
     requires workers { (0 < workers) × (workers ≤ 64) }
-    requires closed { feed.old.closed ≡ true }
-    requires unread { feed.old.taken ≡ 0 }
-    requires going { feed.old.stop ≡ None }
-    ensures answered { IfOk result (λ answered. IsReportOf feed.old.text answered.output.items answered.outcome) }
+    requires closed { feed.closed ≡ true }
+    requires unread { feed.taken ≡ 0 }
+    requires going { feed.stop ≡ None }
+    ensures answered { IfOk result (λ answered. IsReportOf feed.text answered.output.items answered.outcome) }
 {
-    let circuit = match read_circuit(alloc, feed) {
+    let mut feed = feed;
+    let circuit = match read_circuit(alloc, &mut feed) {
         Err(fault) => return refused(alloc, fault),
         Ok(circuit) => circuit,
     };
     let ports = port_names(alloc, &circuit)?;
-    let layout = match read_layout(alloc, feed, &ports) {
+    let layout = match read_layout(alloc, &mut feed, &ports) {
         Err(fault) => return refused(alloc, fault),
         Ok(layout) => layout,
     };
-    let cert = match read_certificate(alloc, feed, &circuit, &layout) {
+    let cert = match read_certificate(alloc, &mut feed, &circuit, &layout) {
         Err(fault) => return refused(alloc, fault),
         Ok(cert) => cert,
     };
     if let Err(fault) = feed.finish() {
         return refused(alloc, fault);
     }
+    // The text is needed no more, and its memory is.
+    drop(feed);
     report_on(rt, alloc, &cert, workers, gate)
 }

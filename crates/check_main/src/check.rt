@@ -1,5 +1,7 @@
 //! Checks a certificate: has its modules run by workers, and reports what was found.
 ghost use Rattle.std.specs.Prelude.{◌≡◌, ◌<◌, ◌≤◌, IfOk};
+ghost use Rattle.sha2.specs.Sha256.{sha256};
+ghost use Rattle.certificate.specs.Text.{certificate_text};
 ghost use Rattle.answers.specs.BundleReading.{bundle_by};
 ghost use Rattle.answers.specs.CheckText.{IsVerdictOn, SaysReport, verdict_outcome};
 ghost use Rattle.check_main.specs.Audits.{IsAuditOf};
@@ -10,7 +12,7 @@ use audit_core::{BookState, Unfinished, Verdict, conclude};
 use border_match::match_borders;
 use certificate::Cert;
 use job_pool::Gate;
-use report::report_text;
+use report::report_under;
 use std::alloc::{AllocError, Global};
 use std::sync::Wait;
 use std::thread::Threads;
@@ -26,27 +28,39 @@ pub(crate) fn report_on<G: Gate + Sync, R: Threads + Wait + Sync>(
     requires workers { (0 < workers) × (workers ≤ 64) }
     ensures says { IfOk result (λ answered. SaysReport (bundle_by cert.now) answered.output.items answered.outcome) }
 {
-    let verdict = verdict_on(rt, alloc, cert, workers, gate)?;
-    let output = report_text(alloc, cert, &verdict)?;
+    let Concluded { digest, verdict } = conclude_on(rt, alloc, cert, workers, gate)?;
+    let output = report_under(alloc, cert, digest, &verdict)?;
     Ok(Answered {
         outcome: outcome_of(&verdict),
         output,
     })
 }
 
-// The verdict on a certificate, whose modules so many workers run.
-fn verdict_on<G: Gate + Sync, R: Threads + Wait + Sync>(
+// The digest of a certificate, and the verdict on it.
+#[derive(Drop)]
+struct Concluded {
+    digest: [u8; 32],
+    verdict: Verdict,
+}
+
+// What is concluded on a certificate, whose modules so many workers run.
+fn conclude_on<G: Gate + Sync, R: Threads + Wait + Sync>(
     rt: &R,
     alloc: Global,
     cert: &Cert<'_>,
     workers: usize,
     gate: &G,
-) -> Result<Verdict, AllocError>
+) -> Result<Concluded, AllocError>
     requires workers { (0 < workers) × (workers ≤ 64) }
-    ensures verdict { IfOk result (IsVerdictOn cert.now) }
+    ensures digest { IfOk result (λ concluded. concluded.digest ≡ sha256 (certificate_text cert.now)) }
+    ensures verdict { IfOk result (λ concluded. IsVerdictOn cert.now concluded.verdict) }
 {
     let audited = audit(rt, alloc, cert, workers, gate)?;
-    verdict_from(alloc, cert, &audited.state)
+    let verdict = verdict_from(alloc, cert, &audited.state)?;
+    Ok(Concluded {
+        digest: audited.state.digest(),
+        verdict,
+    })
 }
 
 // The verdict on a certificate, from the book of its audit, which lacks no finding.

@@ -52,8 +52,8 @@ where
     ensures stops { result ≡ Ok Outcome.Yes → Gives HasRightStops (R.left reader.old) }
     ensures says_yes_of_stops { YesMeans HasRightStops (R.left reader.old) (W.held writer.old) (W.held writer.new) }
 {
-    let mut feed = read_text(alloc, reader)?;
-    let answered = report_of_text(rt, alloc, &mut feed, workers, gate)?;
+    let feed = read_text(alloc, reader)?;
+    let answered = report_of_text(rt, alloc, feed, workers, gate)?;
     write_answer(writer, &answered)
 }
 

@@ -1,5 +1,5 @@
 -- Runs that stay as they are, and times that can be leapt over
-use Rattle.std.proofs.Common.{◌≡◌, ◌≢◌, ℕ, zero, suc, ◌<◌, ◌≤◌, ◌+◌, ◌-◌, ◌%◌, ◌&&◌, ◌||◌, List, length, Option, Some, None, Less, Greater, refl, arith, sym, ◌∙◌, ap, ap₂, inl, inr}
+use Rattle.std.proofs.Common.{◌≡◌, ◌≢◌, ℕ, zero, suc, ◌<◌, ◌≤◌, ◌+◌, ◌-◌, ◌%◌, ◌&&◌, ◌||◌, List, length, Option, Some, None, Less, Greater, refl, arith, sym, ◌∙◌, ap, ap₂, inl, inr, subst}
 use Rattle.std.specs.Prelude.{ℤ, ◌+ℤ◌, slice_get, unwrap_or}
 use Rattle.std.proofs.lemmas.Option.{slice_get_within}
 use Rattle.std.specs.Ordering.{nat_cmp, ordering_then}
@@ -107,6 +107,13 @@ met es t low high l b = record {
   above = λ i e from ei. b.above i e (omega arith) ei;
 }
 
+-- before the search nothing is known, and then that events at a place and before it are earlier
+pub any_place : (es : List Event) (t : ℕ) → IsTimeBetween es t 0 (length es)
+any_place es t = record {
+  below = λ i e l ei. absurd (omega arith);
+  above = λ i e from ei. let h = slice_get_within es i e ei in absurd (omega arith);
+}
+
 nat_less : (a b : ℕ) → nat_cmp a b ≢ Greater → a ≤ b
 nat_less a b h = grind arith
 
@@ -130,6 +137,11 @@ raise_time es t low high m a rising b at less = record {
   below = λ i e l ei. let h = later es i m e a rising (omega arith) ei at in omega arith;
   above = b.above;
 }
+
+pub sure : (es : List Event) (t place : ℕ) (a : Event) → IsRising moment_cmp moment_of es → 0 < place → slice_get es (place - 1) ≡ Some a → a.at.time < t → IsTimeBetween es t place (length es)
+sure es t place a rising some at less =
+    let e : place - 1 + 1 ≡ place = omega arith in
+    subst (λ n. IsTimeBetween es t n (length es)) e (raise_time es t 0 (length es) (place - 1) a rising (any_place es t) at less)
 
 pub drop_time : (es : List Event) (t low high m : ℕ) (a : Event) → IsRising moment_cmp moment_of es → IsTimeBetween es t low high → slice_get es m ≡ Some a → t ≤ a.at.time → IsTimeBetween es t low m
 drop_time es t low high m a rising b at le = record {

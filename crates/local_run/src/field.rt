@@ -11,7 +11,7 @@ ghost use Rattle.local_run.specs.Calm.{OddCalm, OddCalm-prop, EvenCalm, EvenCalm
 ghost use Rattle.std.specs.Int.{div_ceil};
 ghost use Rattle.std.specs.Prelude.{ℕ, ◌≡◌, ◌+◌, ◌*◌, ◌/◌, ◌<◌, ◌≤◌, ◌⊎◌, vec_len, IfOk, false};
 
-use crate::lines::mark_lines;
+use crate::lines::{LinePlaces, mark_lines};
 use crate::marks::{is_marked, mark_around, mark_border, mark_corners, next_marked_in};
 use crate::planes::{Changes, Planes};
 use crate::values::Values;
@@ -33,6 +33,8 @@ pub struct Field {
     border_marks: Vec<u64>,
     // and those of which an edge or halo line says something at the time that is looked at
     line_marks: Vec<u64>,
+    // where its lines were
+    line_places: LinePlaces,
     // how many of the next steps turn whole planes
     rush: u32,
     ghost odd_room: { planes.stride * planes.rows ≤ 64 * vec_len odd_marks },
@@ -87,6 +89,7 @@ impl Field {
             live_marks,
             border_marks,
             line_marks,
+            line_places: LinePlaces::first(),
             rush: 0,
         })
     }
@@ -107,7 +110,7 @@ impl Field {
         ensures lines { AreLines job.now time self.new.line_marks.items }
     {
         self.line_marks.copy_from_slice(values.held());
-        mark_lines(&mut self.line_marks, job, time);
+        mark_lines(&mut self.line_marks, &mut self.line_places, job, time);
     }
 
     /// The next number from `from` on that has cells of ring or halo which may be live, or of which a line says something at the time

@@ -28,6 +28,39 @@ pub fn first_event(events: &[Event], time: u32) -> usize
     low
 }
 
+// A place before which all events are earlier than the time: the one that is asked about, if it is such, or the first.
+fn sure_place(events: &[Event], place: usize, time: u32) -> usize
+    requires rising { IsRising moment_cmp moment_of events.now }
+    ensures range { result ≤ length events.now }
+    ensures below { IsTimeBetween events.now time result (length events.now) }
+{
+    if place == 0 || events.len() < place {
+        return 0;
+    }
+    if events[place - 1].at.time < time {
+        return place;
+    }
+    0
+}
+
+/// The same as [`first_event`], by a search from a place on: where the event is near it, a few looks are enough.
+pub fn first_event_from(events: &[Event], place: usize, time: u32) -> usize
+    requires rising { IsRising moment_cmp moment_of events.now }
+    ensures range { result ≤ length events.now }
+    ensures first { IsTimeBetween events.now time result result }
+{
+    let mut low = sure_place(events, place, time);
+    let mut high = events.len();
+    'search: while low < high {
+        if events[low].at.time < time {
+            low += 1;
+        } else {
+            high = low;
+        }
+    }
+    low
+}
+
 // The first time from `time` on at which there is an event, or `end`, whichever comes first.
 fn next_event(events: &[Event], time: u32, end: u32) -> u32
     requires rising { IsRising moment_cmp moment_of events.now }

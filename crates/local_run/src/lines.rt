@@ -8,7 +8,7 @@ ghost use Rattle.local_run.specs.Quiet.{AreHeld, AreHeldMarked, AreLines, at_cor
 ghost use Rattle.local_run.specs.Places.{outer};
 ghost use Rattle.std.specs.Prelude.{ℕ, ◌≢◌, MatchOption, ◌≡◌, ◌<◌, ◌+◌, ◌*◌, ◌/◌, ◌≤◌, length, slice_index, slice_get, Some, IfOk};
 
-use crate::leaps::first_event;
+use crate::leaps::first_event_from;
 use bbm_rule::Cell;
 use bbm_rule::marks::mark;
 use module_box::{Box2, Event, Held, Schedule};
@@ -67,28 +67,36 @@ fn mark_events(marks: &mut [u64], area: Box2, list: &[Event], first: usize, end:
     }
 }
 
-// Marks the cells of the events of a time.
-fn mark_events_at(marks: &mut [u64], area: Box2, list: &[Event], time: u32)
+// Marks the cells of the events of a time, which are sought from a place on, and tells their place.
+fn mark_events_at(marks: &mut [u64], area: Box2, list: &[Event], place: usize, time: u32) -> usize
     requires room { HasRoom area marks.old }
     requires rising { IsRising moment_cmp moment_of list.now }
     requires range { time < 65536 }
     ensures keeps { KeepsMarks marks.old marks.new }
     ensures marked { (i : ℕ) (e : Event) → slice_get list.now i ≡ Some e → e.at.time ≡ time → IsCellMarked area e.at.cell marks.new }
 {
-    let first = first_event(list, time);
-    let end = first_event(list, time + 1);
+    let first = first_event_from(list, place, time);
+    let end = first_event_from(list, first, time + 1);
     mark_events(marks, area, list, first, end);
+    end
 }
 
-// Marks the cells of which a schedule says something at the time, where those of its held signals have marks.
-fn mark_schedule(marks: &mut [u64], area: Box2, schedule: &Schedule, time: u32)
+// Marks the cells of which a schedule says something at the time, where those of its held signals have marks. Its events are sought
+// from a place on, and it tells that of the first later one.
+fn mark_schedule(
+    marks: &mut [u64],
+    area: Box2,
+    schedule: &Schedule,
+    place: usize,
+    time: u32,
+) -> usize
     requires room { HasRoom area marks.old }
     requires range { time < 65536 }
     requires held { AreHeldMarked schedule.now area marks.old }
     ensures keeps { KeepsMarks marks.old marks.new }
     ensures quiet { IsQuietIn schedule.now area time marks.new }
 {
-    mark_events_at(marks, area, schedule.events(), time);
+    mark_events_at(marks, area, schedule.events(), place, time)
 }
 
 // The box of a shape, with its corner at (0, 0).
@@ -103,16 +111,31 @@ fn box_of(shape: &Shape) -> Box2
     }
 }
 
+/// The places of edge and halo lines of a job at which a search for those of a time begins: it may be any, and takes the fewest looks
+/// from the first line after an earlier time.
+#[derive(Clone, Copy)]
+pub struct LinePlaces {
+    edges: usize,
+    halos: usize,
+}
+
+impl LinePlaces {
+    /// Those of the first lines.
+    pub fn first() -> LinePlaces {
+        LinePlaces { edges: 0, halos: 0 }
+    }
+}
+
 /// Marks the cells of which an edge or halo line says something at the time, where those of which one does at all times have marks.
-pub fn mark_lines(marks: &mut [u64], job: &Job, time: u32)
+pub fn mark_lines(marks: &mut [u64], places: &mut LinePlaces, job: &Job, time: u32)
     requires held { AreHeld (shape_of job.now) marks.old }
     requires range { time < 65536 }
     ensures { AreLines job.now time marks.new }
 {
     let shape: &Shape = job.shape();
     let area = box_of(shape);
-    mark_schedule(marks, area, shape.edges(), time);
-    mark_schedule(marks, area, shape.halos(), time);
+    places.edges = mark_schedule(marks, area, shape.edges(), places.edges, time);
+    places.halos = mark_schedule(marks, area, shape.halos(), places.halos, time);
 }
 
 // Marks the cells of which an edge or halo line says something at all times.

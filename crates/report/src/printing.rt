@@ -2,8 +2,10 @@
 ghost use Rattle.std.specs.Prelude.{◌≡◌, ◌++◌, IfOk, OnOk};
 ghost use Rattle.std.specs.List.{flat_map};
 ghost use Rattle.std.specs.String.{string_bytes};
+ghost use Rattle.sha2.specs.Sha256.{sha256};
 ghost use Rattle.audit_core.specs.declared.verdict.ReportLine.TheVariants.{Border, Delay, Keep, Local, Meet, Unkept};
 ghost use Rattle.audit_core.specs.Verdicts.{timing};
+ghost use Rattle.certificate.specs.Text.{certificate_text};
 ghost use Rattle.certificate.specs.Times.{time_lines};
 ghost use Rattle.certificate.specs.Grammars.{modules_in};
 ghost use Rattle.circuit.specs.Bridge.{circuit_of};
@@ -28,11 +30,24 @@ pub fn refusal_text(alloc: Global, refusal: Refusal) -> Result<Vec<u8>, AllocErr
 /// The report on a certificate with this verdict: the version of reports, the certificate's SHA-256 as 64 digits in lower case,
 /// how many modules it has, the verdict, and then after a no the verdict's lines in their order, after a yes what the certificate's
 /// stops say of delays and meetings. `AllocError` is want of memory.
-#[tactic(auto, unfolding(crate::specs::ReportText::report_lines))]
 pub fn report_text(alloc: Global, cert: &Cert<'_>, verdict: &Verdict) -> Result<Vec<u8>, AllocError>
     ensures { IfOk result (λ text. text.items ≡ report_lines cert.now verdict.now) }
 {
     let digest = cert.digest(alloc)?;
+    report_under(alloc, cert, digest, verdict)
+}
+
+/// The same for a caller that has the certificate's digest already, by [`Cert::digest`].
+#[tactic(auto, unfolding(crate::specs::ReportText::report_lines))]
+pub fn report_under(
+    alloc: Global,
+    cert: &Cert<'_>,
+    digest: [u8; 32],
+    verdict: &Verdict,
+) -> Result<Vec<u8>, AllocError>
+    requires { digest ≡ sha256 (certificate_text cert.now) }
+    ensures { IfOk result (λ text. text.items ≡ report_lines cert.now verdict.now) }
+{
     let mut text = opening_text(alloc, digest, cert.modules())?;
     print_verdict(alloc, &mut text, cert, verdict)?;
     Ok(text)

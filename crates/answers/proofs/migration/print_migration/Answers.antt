@@ -16,5 +16,6 @@ pub returns : goal.returns
 returns c =
     let circuit = c.in_ok-text.ensures ∙ ap circuit_text c.circuit.ensures in
     let layout = c.deref.ensures.value ∙ c.in_ok-layout.ensures ∙ ap layout_text c.layout.ensures in
-    c.in_ok-extend_from_slice-2.ensures.items ∙ ap₂ (λ a b. a ++ b) (c.in_ok-extend_from_slice.ensures.items ∙ ap₂ (λ a b. a ++ b) circuit layout) (c.deref-2.ensures.value ∙ c.in_ok-lines.ensures)
+    c.in_ok-print_migrated.ensures
+    ∙ ap (λ a. a ++ certificate_text (migrated c.args.cert.now)) (c.in_ok-extend_from_slice.ensures.items ∙ ap₂ (λ a b. a ++ b) circuit layout)
     ∙ joined c.args.cert.now
