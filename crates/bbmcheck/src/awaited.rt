@@ -14,6 +14,7 @@ pub struct Awaited {
 }
 
 impl Awaited {
+    /// Standard input, of which nothing was read and nothing told yet.
     pub fn new(input: Stdin, errors: Stderr) -> Awaited {
         Awaited {
             input,

@@ -45,7 +45,7 @@ pub(crate) fn report_of_text<G: Gate + Sync, R: Threads + Wait + Sync>(
     if let Err(fault) = feed.finish() {
         return refused(alloc, fault);
     }
-    // The text is needed no more, and its memory is.
+    // The text is not needed any more, and the modules can use its memory.
     drop(feed);
     report_on(rt, alloc, &cert, workers, gate)
 }

@@ -33,7 +33,7 @@ pub struct Field {
     border_marks: Vec<u64>,
     // and those of which an edge or halo line says something at the time that is looked at
     line_marks: Vec<u64>,
-    // where its lines were
+    // where the search for the next time's lines begins
     line_places: LinePlaces,
     // how many of the next steps turn whole planes
     rush: u32,
@@ -52,7 +52,7 @@ pub struct Field {
 const RUSH: u32 = 62;
 
 // Whether it costs less to turn all blocks, with that many words a cell and cells a row, than to go by marks where so many change.
-// A block that changes has four others looked at. Where all are turned no cell of ring and halo is known to be dead, and at odd
+// A block that changes has up to four others looked at, two for each of its diagonals that changes. Where all are turned no cell of ring and halo is known to be dead, and at odd
 // times each is looked up.
 fn are_many(changed: usize, cells: usize, words: usize, stride: usize) -> bool
     requires { (changed ≤ 4096) × (cells ≤ 4096) × (words ≤ 64) × (0 < stride) × (stride ≤ 4096) }

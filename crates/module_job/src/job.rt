@@ -67,7 +67,7 @@ impl Model for Job {
     ghost invariant = { IsKeptJob };
 }
 
-// How far the cells of a box with this corner are moved back, so that its corner comes to (0, 0).
+/// How far the cells of a box with this corner are moved back, so that its corner comes to (0, 0).
 pub fn back(corner: u32) -> i32
     requires { corner ≤ 512 }
     ensures is { result ≡ back corner }

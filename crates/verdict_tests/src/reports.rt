@@ -1,4 +1,4 @@
-//! A report with a line of each kind, on a certificate whose digest was made with `sha256sum`.
+//! A report with a line of each kind; the digest of its certificate was made with `sha256sum`.
 
 use audit_core::{ReportLine, Verdict};
 use bbm_rule::Cell;
