@@ -1,19 +1,19 @@
 -- Cells of a halo, and the modules that have them
-use Rattle.std.proofs.Common.{◌≡◌, ℕ, ◌+◌, ◌-◌, ◌<◌, ◌≤◌, ◌%◌, List, map, length, Bool, true, false, ◌||◌, ◌&&◌, Some, refl, sym, ap, subst, ◌∙◌, inl, inr, ◌⊎◌, arith, get_or}
+use Rattle.std.proofs.Common.{◌≡◌, ℕ, ◌+◌, ◌-◌, ◌<◌, ◌≤◌, ◌%◌, List, map, length, Bool, true, ◌||◌, ◌&&◌, Some, sym, ap, subst, ◌∙◌, inl, inr, ◌⊎◌, arith, get_or}
 use Rattle.std.specs.Prelude.{ℤ, pos, ◌+ℤ◌, ◌-ℤ◌, ◌≢◌, ◌↔◌, IsTrue, slice_get, option_map}
 use Rattle.std.specs.Arc.{arc_value}
 use Rattle.std.proofs.lemmas.List.{length-map}
 use Rattle.std.proofs.lemmas.Option.{slice_get-map, slice_get-get_or, slice_get_within}
-use Rattle.std.proofs.lemmas.Bool.{and_parts, and_from, lt-ltb}
+use Rattle.std.proofs.lemmas.Bool.{and_parts, and_from}
 use Rattle.std.proofs.lemmas.Int.{ints}
 use Rattle.bbm_rule.specs.Spans.{in_span}
 use Rattle.module_box.specs.Boxes.{in_box, in_halo}
 use Rattle.module_box.specs.Tiling.{owner_of}
-use Rattle.module_box.specs.declared.boxes.Box2.{Box2}
 use Rattle.module_box.specs.declared.schedules.Signal.{Signal}
 use Rattle.module_box.proofs.BoxCells.{in_span_nat, in_box_nats, same_some}
 use Rattle.module_box.proofs.NearBoxes.{near_one, near_parts}
 use Rattle.module_job.specs.Jobs.{JobState}
+use Rattle.border_match.proofs.Modules.{there}
 use Rattle.border_match.specs.Boards.{job_halo, job_edge, jobs_of, IsReady, Faults, Differ}
 use Rattle.border_match.specs.declared.borders.Borders.{Borders}
 use Rattle.border_match.specs.declared.fault.BorderFault.{BorderFault}
@@ -22,6 +22,12 @@ use Rattle.border_match.specs.declared.fault.BorderFault.{BorderFault}
 
 pub job_at : {A : Type 0} (v : A → JobState) (xs : List A) (k : ℕ) (d : A) (j : JobState) → k < length xs → j ≡ v (get_or xs k d) → slice_get (map v xs) k ≡ Some j
 job_at v xs k d j lt same = slice_get-map v xs k ∙ ap (option_map v) (slice_get-get_or xs k d lt) ∙ ap Some (sym same)
+
+-- a number below that of the jobs is that of a job, and of its box
+pub numbered : (b : Borders) (k : ℕ) → IsReady b → k < length b.jobs.now → (j : JobState) × (slice_get (jobs_of b) k ≡ Some j) × (slice_get b.areas.now k ≡ Some j.area)
+numbered b k ready lt =
+    let j = there (jobs_of b) k (subst (λ n. k < n) (sym (length-map b.jobs.now arc_value)) lt) in
+    (j.0, j.1, ready.2 k j.0 j.1)
 
 pub owner_within : (b : Borders) (x y : ℤ) → IsReady b → in_box b.whole x y ≡ true → owner_of b.owners.now x y < length b.jobs.now
 owner_within b x y ready h =

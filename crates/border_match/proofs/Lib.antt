@@ -3,6 +3,7 @@ pub mod Least
 pub mod OwnSignals
 pub mod Cells
 pub mod Steps
+pub mod Unheld
 pub mod Renumbered
 pub mod Modules
 pub mod Bridge

@@ -1,5 +1,5 @@
 -- Border faults by the jobs of the modules, and the parts of a search for them
-use Rattle.std.specs.Prelude.{◌≡◌, ◌≢◌, ℕ, ℤ, pos, ◌+◌, ◌<◌, ◌%◌, List, map, Some, None, slice_get, IsTrue}
+use Rattle.std.specs.Prelude.{◌≡◌, ◌≢◌, ℕ, ℤ, pos, ◌<◌, ◌%◌, List, map, Some, None, slice_get, IsTrue}
 use Rattle.std.specs.Arc.{arc_value}
 use Rattle.bbm_rule.specs.declared.block.Cell.{Cell}
 use Rattle.module_box.specs.Boxes.{in_box, in_halo}
@@ -49,13 +49,17 @@ pub record IsBoard (w : Box2) (o : Owning) (jobs : List JobState) : Type 0 where
   pub holder : (x y : ℤ) → IsTrue (in_box w x y) → (j : JobState) × (slice_get jobs (owner_of o x y) ≡ Some j) × IsTrue (in_box j.area x y)
   pub quiet : (k : ℕ) (j : JobState) → slice_get jobs k ≡ Some j → IsQuiet j
 
+-- the boxes of the jobs, in their order
+abbrev pub AreBoxesOf : List JobState → List Box2 → Type 0
+AreBoxesOf jobs boxes = (k : ℕ) (j : JobState) → slice_get jobs k ≡ Some j → slice_get boxes k ≡ Some j.area
+
 -- ---- the same of a module among its neighbours
 
 abbrev pub jobs_of : Borders → List JobState
 jobs_of b = map arc_value b.jobs.now
 
 abbrev pub IsReady : Borders → Type 0
-IsReady b = IsBoard b.whole b.owners.now (jobs_of b) × IsQuiet b.job.now
+IsReady b = IsBoard b.whole b.owners.now (jobs_of b) × IsQuiet b.job.now × AreBoxesOf (jobs_of b) b.areas.now
 
 abbrev pub Faults : Borders → BorderFault → Type 0
 Faults b f = IsJobFault b.whole b.owners.now (jobs_of b) b.job.now f

@@ -15,15 +15,17 @@ use crate::fault::{BorderFault, lesser};
 use bbm_rule::Cell;
 use certificate::Job;
 use module_box::{Box2, Event, Owners, Signal};
+use module_job::Shape;
 use std::sync::Arc;
 
-/// The borders of a module: the layout's rectangle, the number of the module that has each cell of it, the jobs of all modules,
-/// and the job of this one.
+/// The borders of a module: the layout's rectangle, the number of the module that has each cell of it, the jobs of all modules and
+/// their boxes, and the job of this one.
 #[derive(Clone, Copy)]
 pub(crate) struct Borders<'a> {
     pub(crate) whole: Box2,
     pub(crate) owners: &'a Owners,
     pub(crate) jobs: &'a [Arc<Job>],
+    pub(crate) areas: &'a [Box2],
     pub(crate) job: &'a Job,
 }
 
@@ -85,6 +87,17 @@ impl<'a> Borders<'a> {
         // The cell lies in the owner's box, and so not far away.
         let _area = owner.area();
         halo_signal(self.job, time, cell) != edge_signal(owner, time, cell)
+    }
+
+    // Whether a line says something at all times of the module's halo, or of the ring of the module that has the cell.
+    fn has_held(&self, cell: Cell) -> bool
+        requires ready { IsReady self.now }
+        requires inside { IsTrue (in_box self.now.whole cell.x cell.y) }
+        ensures { Differ self.now 0 cell.x cell.y → IsTrue result }
+    {
+        let own: &Shape = self.job.shape();
+        let other: &Shape = self.owner(cell).shape();
+        !own.halos().held().is_empty() || !other.edges().held().is_empty()
     }
 
     // Whether this is a border fault of the module.
@@ -157,11 +170,10 @@ impl<'a> Borders<'a> {
         requires number { number < length self.now.jobs.now }
         ensures { IsBetter (Faults self.now) (IsEdgeNamedAt number self.now) best result }
     {
-        let other: &Job = &self.jobs[number];
-        if !self.job.area().is_near(other.area()) {
+        if !self.job.area().is_near(self.areas[number]) {
             return best;
         }
-        self.with_edge_events(best, other)
+        self.with_edge_events(best, &self.jobs[number])
     }
 
     // The least of the candidate and the faults that the edges of the modules name.
@@ -200,7 +212,7 @@ impl<'a> Borders<'a> {
         if !self.reaches(cell) {
             return best;
         }
-        if !self.differs(0, cell) {
+        if !self.has_held(cell) || !self.differs(0, cell) {
             return best;
         }
         self.with_first_at(best, cell)

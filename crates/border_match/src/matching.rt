@@ -27,16 +27,16 @@ fn areas_of(alloc: Global, cert: &Cert) -> Result<Vec<Box2>, AllocError>
     Ok(areas)
 }
 
-// Which module has each cell of the layout's rectangle.
-fn owners_of(alloc: Global, cert: &Cert) -> Result<Owners, AllocError>
+// Which module has each cell of the layout's rectangle, by their boxes.
+fn owners_of(alloc: Global, cert: &Cert, boxes: &[Box2]) -> Result<Owners, AllocError>
+    requires { boxes.now ≡ areas (modules_of cert.now.entries) }
     ensures width { IfOk result (λ o. o.width ≡ cert.now.layout.size.w) }
     ensures height { IfOk result (λ o. o.height ≡ cert.now.layout.size.h) }
     ensures owners { IfOk result (λ o. AreOwners o (areas (modules_in cert.now))) }
 {
     let _count = cert.modules();
     let size = cert.size();
-    let areas = areas_of(alloc, cert)?;
-    match owner_table(alloc, size.w, size.h, &areas) {
+    match owner_table(alloc, size.w, size.h, boxes) {
         Ok(owners) => Ok(owners),
         Err(fault) => {
             // The boxes of a certificate tile the rectangle.
@@ -79,13 +79,15 @@ pub fn match_borders(
         w: size.w,
         h: size.h,
     };
-    let owners = owners_of(alloc, cert)?;
+    let areas = areas_of(alloc, cert)?;
+    let owners = owners_of(alloc, cert, &areas)?;
     let mut faults = Vec::new(alloc);
     'jobs: for job in jobs {
         let borders = Borders {
             whole,
             owners: &owners,
             jobs,
+            areas: &areas,
             job,
         };
         faults.push(borders.least_fault())?;
