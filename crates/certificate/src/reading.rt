@@ -83,7 +83,7 @@ fn begin_reading<'a>(
     })
 }
 
-/// Reads a certificate section for a circuit and a layout, whose ports are named as the circuit's wires are.
+/// Reads a certificate section for a circuit and a layout.
 ///
 /// The error is want of memory, or the first line that is refused, counted from 1 over the whole feed, with the code of the
 /// first test that it fails:
@@ -98,9 +98,9 @@ fn begin_reading<'a>(
 ///   gates, or 65,536 edge, halo and stop lines of a module;
 /// - 8: a box has an odd corner, or a cell outside the rectangle or in an earlier box;
 /// - 10: an edge, halo or stop line may not stand at its cell or time;
-/// - 3: there is no wire of this name, or no gate of this number;
-/// - 4: a wire that is cut, or an output of a gate that is used, is local already;
-/// - 9: the wire of a signal or a stop, or an input of a gate that is used, is not local.
+/// - 3: there is no wire of this name, no gate of this number, or, at `keep`, no inverse gate of this number;
+/// - 9: the wire of a signal or a stop, or an input of a gate that is used, is not local, or a gate that is kept is not used;
+/// - 4: a wire that is cut, or an output of a gate that is used, is local already.
 ///
 /// After an error the feed answers it for good.
 pub fn read_certificate<'a>(

@@ -1,7 +1,8 @@
 -- What a yes of `check` means of stops, delays and meetings, of texts and bytes alone. Who writes no `stop` lines need not read this.
 --
--- Read before: all that Headline.antt names; certificate/specs/Entries.antt up to `stop_in` and Forms.antt (what a line of a certificate says);
--- Times.antt up to `times_of` and Arrivals.antt up to `AreOnTime` (delays and meetings); audit_core/specs/OnTime.antt (`StopHolds`).
+-- Read before: all that Headline.antt names; certificate_lines/specs/Entries.antt up to `stop_in` and Forms.antt (what a line of a certificate
+-- says); certificate/specs/Times.antt up to `times_of` and Arrivals.antt up to `AreOnTime` (delays and meetings); audit_core/specs/OnTime.antt
+-- (`StopHolds`).
 use Rattle.std.specs.Prelude.{◌≡◌, ℕ, List, ◌++◌}
 use Rattle.std.specs.List.{All, flat_map}
 use Rattle.section_text.specs.SaidSection.{IsSection}

@@ -52,8 +52,8 @@ pub struct Field {
 const RUSH: u32 = 62;
 
 // Whether it costs less to turn all blocks, with that many words a cell and cells a row, than to go by marks where so many change.
-// A block that changes has up to four others looked at, two for each of its diagonals that changes. Where all are turned no cell of ring and halo is known to be dead, and at odd
-// times each is looked up.
+// A block that changes has up to four others looked at, two for each of its diagonals that changes. Where all are turned no cell of
+// ring and halo is known to be dead, and at odd times each is looked up.
 fn are_many(changed: usize, cells: usize, words: usize, stride: usize) -> bool
     requires { (changed ≤ 4096) × (cells ≤ 4096) × (words ≤ 64) × (0 < stride) × (stride ≤ 4096) }
 {

@@ -267,7 +267,7 @@ impl Wiring {
         }
     }
 
-    /// The values of all wires under the assignments below `64 * words`, where `words` is at most 16, and the gates that have no
+    /// The values of all wires under the assignments below `64 * words`, where `words` is at most 64, and the gates that have no
     /// row: rows of `words` words. `AllocError` is want of memory.
     pub fn value_rows(&self, alloc: Global, words: usize) -> Result<ValueRows, AllocError>
         requires { words ≤ 64 }
