@@ -24,7 +24,7 @@ pub job_at : {A : Type 0} (v : A → JobState) (xs : List A) (k : ℕ) (d : A) (
 job_at v xs k d j lt same = slice_get-map v xs k ∙ ap (option_map v) (slice_get-get_or xs k d lt) ∙ ap Some (sym same)
 
 -- a number below that of the jobs is that of a job, and of its box
-pub numbered : (b : Borders) (k : ℕ) → IsReady b → k < length b.jobs.now → (j : JobState) × (slice_get (jobs_of b) k ≡ Some j) × (slice_get b.areas.now k ≡ Some j.area)
+pub numbered : (b : Borders) (k : ℕ) → IsReady b → k < length b.jobs.now → (j : JobState) × (slice_get (jobs_of b) k ≡ Some j) × (slice_get b.boxes.now k ≡ Some j.area)
 numbered b k ready lt =
     let j = there (jobs_of b) k (subst (λ n. k < n) (sym (length-map b.jobs.now arc_value)) lt) in
     (j.0, j.1, ready.2 k j.0 j.1)

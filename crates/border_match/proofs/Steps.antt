@@ -22,7 +22,7 @@ use Rattle.module_box.proofs.Rising.{then_moment}
 use Rattle.module_job.specs.Jobs.{JobState}
 use Rattle.module_job.specs.Signals.{renumber_signal}
 use Rattle.border_match.specs.BorderFaults.{border_cmp}
-use Rattle.border_match.specs.Boards.{jobs_of, IsReady, Faults, IsNamed, IsNamedBelow, IsEdgeNamed, IsEdgeNamedBelow, IsEdgeNamedAt, IsHeld, IsHeldAt, IsHeldInRow, IsHeldBefore, IsHeldAbove}
+use Rattle.border_match.specs.Boards.{jobs_of, IsReady, Faults, IsNamed, IsNamedBelow, IsEdgeNamed, IsEdgeNamedBelow, IsEdgeNamedAt, DiffersAlways, DiffersAlwaysAt, DiffersAlwaysInRow, DiffersAlwaysBefore, DiffersAlwaysAbove}
 use Rattle.border_match.specs.declared.borders.Borders.{Borders}
 use Rattle.border_match.specs.declared.fault.BorderFault.{BorderFault}
 use Rattle.border_match.proofs.FaultOrder.{border_total}
@@ -139,7 +139,7 @@ same_without : (s : Signals) (t t' : ℕ) (x y : ℤ) → event_at s.events t x 
 unfolding signal_at
 same_without s t t' x y e e' = ap (λ z. unwrap_or (held_at s.held x y) (unwrap_or z Zero)) (e ∙ sym e')
 
-pub fault_covered : (b : Borders) (f : BorderFault) → IsReady b → Faults b f → IsNamed b.job.now.halos.events f ⊎ (IsEdgeNamed b f ⊎ IsHeld b f)
+pub fault_covered : (b : Borders) (f : BorderFault) → IsReady b → Faults b f → IsNamed b.job.now.halos.events f ⊎ (IsEdgeNamed b f ⊎ DiffersAlways b f)
 fault_covered b f ready g =
     let x = f.cell.x in
     let y = f.cell.y in
@@ -160,7 +160,7 @@ fault_covered b f ready g =
 
 -- ---- columns and rows
 
-pub no_column : (b : Borders) (y x : ℕ) (f : BorderFault) → x ≡ b.job.now.area.x - 1 → Faults b f → IsHeldBefore b y x f → ⊥
+pub no_column : (b : Borders) (y x : ℕ) (f : BorderFault) → x ≡ b.job.now.area.x - 1 → Faults b f → DiffersAlwaysBefore b y x f → ⊥
 no_column b y x f e g h =
     let p = placed b f g in
     let same = pos_same h.at p.column (sym h.column ∙ p.x) in
@@ -170,21 +170,21 @@ no_column b y x f e g h =
     pos_same : (i k : ℕ) → pos i ≡ pos k → i ≡ k
     pos_same i k e = cc
 
-pub column_step : (b : Borders) (y x : ℕ) (c : Cell) (f : BorderFault) → c.x ≡ pos x → c.y ≡ pos y → IsHeldBefore b y (x + 1) f → IsHeldBefore b y x f ⊎ IsHeldAt b c f
+pub column_step : (b : Borders) (y x : ℕ) (c : Cell) (f : BorderFault) → c.x ≡ pos x → c.y ≡ pos y → DiffersAlwaysBefore b y (x + 1) f → DiffersAlwaysBefore b y x f ⊎ DiffersAlwaysAt b c f
 column_step b y x c f ex ey h =
     let mk : ℤ → ℤ → Cell = λ x y. record { x = x; y = y } in
     elim (lower_or_same h.at x h.before) [
-      | inl lt ↦ inl (record { held = h.held; at = h.at; column = h.column; before = lt })
-      | inr same ↦ inr (h.held.0, ap₂ mk (h.column ∙ ap pos same ∙ sym ex) (h.held.1 ∙ sym ey))
+      | inl lt ↦ inl (record { differs = h.differs; at = h.at; column = h.column; before = lt })
+      | inr same ↦ inr (h.differs.0, ap₂ mk (h.column ∙ ap pos same ∙ sym ex) (h.differs.1 ∙ sym ey))
     ]
 
-pub all_columns : (b : Borders) (y x : ℕ) (f : BorderFault) → b.job.now.area.x + b.job.now.area.w + 1 ≤ x → Faults b f → IsHeldInRow b y f → IsHeldBefore b y x f
+pub all_columns : (b : Borders) (y x : ℕ) (f : BorderFault) → b.job.now.area.x + b.job.now.area.w + 1 ≤ x → Faults b f → DiffersAlwaysInRow b y f → DiffersAlwaysBefore b y x f
 all_columns b y x f le g h =
     let p = placed b f g in
     let right = p.right in
-    record { held = h; at = p.column; column = p.x; before = omega (arith, right, le) }
+    record { differs = h; at = p.column; column = p.x; before = omega (arith, right, le) }
 
-pub no_row : (b : Borders) (y : ℕ) (f : BorderFault) → y ≡ b.job.now.area.y - 1 → Faults b f → IsHeldAbove b y f → ⊥
+pub no_row : (b : Borders) (y : ℕ) (f : BorderFault) → y ≡ b.job.now.area.y - 1 → Faults b f → DiffersAlwaysAbove b y f → ⊥
 no_row b y f e g h =
     let p = placed b f g in
     let same = pos_same h.at p.row (sym h.row ∙ p.y) in
@@ -194,14 +194,14 @@ no_row b y f e g h =
     pos_same : (i k : ℕ) → pos i ≡ pos k → i ≡ k
     pos_same i k e = cc
 
-pub row_step : (b : Borders) (y : ℕ) (f : BorderFault) → IsHeldAbove b (y + 1) f → IsHeldAbove b y f ⊎ IsHeldInRow b y f
+pub row_step : (b : Borders) (y : ℕ) (f : BorderFault) → DiffersAlwaysAbove b (y + 1) f → DiffersAlwaysAbove b y f ⊎ DiffersAlwaysInRow b y f
 row_step b y f h = elim (lower_or_same h.at y h.above) [
-  | inl lt ↦ inl (record { held = h.held; at = h.at; row = h.row; above = lt })
-  | inr same ↦ inr (h.held, h.row ∙ ap pos same)
+  | inl lt ↦ inl (record { differs = h.differs; at = h.at; row = h.row; above = lt })
+  | inr same ↦ inr (h.differs, h.row ∙ ap pos same)
 ]
 
-pub all_rows : (b : Borders) (y : ℕ) (f : BorderFault) → b.job.now.area.y + b.job.now.area.h + 1 ≤ y → Faults b f → IsHeld b f → IsHeldAbove b y f
+pub all_rows : (b : Borders) (y : ℕ) (f : BorderFault) → b.job.now.area.y + b.job.now.area.h + 1 ≤ y → Faults b f → DiffersAlways b f → DiffersAlwaysAbove b y f
 all_rows b y f le g h =
     let p = placed b f g in
     let bottom = p.bottom in
-    record { held = h; at = p.row; row = p.y; above = omega (arith, bottom, le) }
+    record { differs = h; at = p.row; row = p.y; above = omega (arith, bottom, le) }

@@ -1,4 +1,4 @@
--- Where no line says something at all times
+-- Where no line with a star speaks of all times
 use Rattle.std.proofs.Common.{◌≡◌, Bool, true, ◌==◌, List, [], ◌∷◌, map, length, Some, None, refl, sym, ap, ap₂, ◌∙◌, arith}
 use Rattle.std.proofs.lemmas.Bool.Decides.{nat_tests}
 use Rattle.module_box.specs.Moves.{moved_held, moved_signals}
@@ -25,8 +25,8 @@ none_mapped f (x ∷ xs) e = absurd (some_none e)
     some_none e = cc
 
 -- where a schedule that was moved has no held signals, it had none
-pub unheld_before : (dx dy : ℤ) (s moved : Signals) → moved ≡ moved_signals dx dy s → moved.held ≡ [] → s.held ≡ []
-unheld_before dx dy s moved is none = none_mapped (moved_held dx dy) s.held (sym (ap (λ (m : Signals). m.held) is) ∙ none)
+pub unheld_unmoved : (dx dy : ℤ) (s moved : Signals) → moved ≡ moved_signals dx dy s → moved.held ≡ [] → s.held ≡ []
+unheld_unmoved dx dy s moved is none = none_mapped (moved_held dx dy) s.held (sym (ap (λ (m : Signals). m.held) is) ∙ none)
 
 unheld_signal : (s : Signals) (x y : ℤ) → s.held ≡ [] → event_at s.events 0 x y ≡ None → signal_at s 0 x y ≡ Zero
 unfolding signal_at held_at

@@ -38,7 +38,7 @@ pub record IsJobFault (w : Box2) (o : Owning) (jobs : List JobState) (j : JobSta
   pub halo : IsTrue (in_halo j.area f.cell.x f.cell.y)
   pub different : AreDifferent o jobs j f.time f.cell.x f.cell.y
 
--- no edge and no halo of the job changes at time 0
+-- the job has no edge event and no halo event at time 0
 pub record IsQuiet (j : JobState) : Type 0 where
   pub halos : (x y : ℤ) → event_at j.halos.events 0 x y ≡ None
   pub edges : (x y : ℤ) → event_at j.edges.events 0 x y ≡ None
@@ -49,7 +49,7 @@ pub record IsBoard (w : Box2) (o : Owning) (jobs : List JobState) : Type 0 where
   pub holder : (x y : ℤ) → IsTrue (in_box w x y) → (j : JobState) × (slice_get jobs (owner_of o x y) ≡ Some j) × IsTrue (in_box j.area x y)
   pub quiet : (k : ℕ) (j : JobState) → slice_get jobs k ≡ Some j → IsQuiet j
 
--- the boxes of the jobs, in their order
+-- the box of each job stands at the job's number
 abbrev pub AreBoxesOf : List JobState → List Box2 → Type 0
 AreBoxesOf jobs boxes = (k : ℕ) (j : JobState) → slice_get jobs k ≡ Some j → slice_get boxes k ≡ Some j.area
 
@@ -59,7 +59,7 @@ abbrev pub jobs_of : Borders → List JobState
 jobs_of b = map arc_value b.jobs.now
 
 abbrev pub IsReady : Borders → Type 0
-IsReady b = IsBoard b.whole b.owners.now (jobs_of b) × IsQuiet b.job.now × AreBoxesOf (jobs_of b) b.areas.now
+IsReady b = IsBoard b.whole b.owners.now (jobs_of b) × IsQuiet b.job.now × AreBoxesOf (jobs_of b) b.boxes.now
 
 abbrev pub Faults : Borders → BorderFault → Type 0
 Faults b f = IsJobFault b.whole b.owners.now (jobs_of b) b.job.now f
@@ -77,47 +77,47 @@ pub record IsNamed (events : List Event) (f : BorderFault) : Type 0 where
   pub time : event.at.time ≡ f.time
   pub cell : event.at.cell ≡ f.cell
 
--- one of the first k is
+-- one of the first k events of the list is at the time and cell of f
 pub record IsNamedBelow (k : ℕ) (events : List Event) (f : BorderFault) : Type 0 where
   pub named : IsNamed events f
   pub below : named.place < k
 
--- an event of the edge of the module that has the cell is
+-- an event of the edges of the module that has f's cell is at the time and cell of f
 pub record IsEdgeNamed (b : Borders) (f : BorderFault) : Type 0 where
   pub owner : JobState
   pub numbered : slice_get (jobs_of b) (owner_of b.owners.now f.cell.x f.cell.y) ≡ Some owner
   pub named : IsNamed owner.edges.events f
 
--- and that is one of the first k modules
+-- the same, and that module is one of the first k
 abbrev pub IsEdgeNamedBelow : ℕ → Borders → BorderFault → Type 0
 IsEdgeNamedBelow k b f = IsEdgeNamed b f × (owner_of b.owners.now f.cell.x f.cell.y < k)
 
--- and that is module k
+-- the same, and that module has the number k
 abbrev pub IsEdgeNamedAt : ℕ → Borders → BorderFault → Type 0
 IsEdgeNamedAt k b f = IsEdgeNamed b f × (owner_of b.owners.now f.cell.x f.cell.y ≡ k)
 
--- at the other times, without an event, the signals at the cell differ
-abbrev pub IsHeld : Borders → BorderFault → Type 0
-IsHeld b f = Differ b 0 f.cell.x f.cell.y
+-- at time 0, which has no event, the signals of f's cell differ, and so at all times without one
+abbrev pub DiffersAlways : Borders → BorderFault → Type 0
+DiffersAlways b f = Differ b 0 f.cell.x f.cell.y
 
--- they do, and this is the cell
-abbrev pub IsHeldAt : Borders → Cell → BorderFault → Type 0
-IsHeldAt b c f = IsHeld b f × (f.cell ≡ c)
+-- the same, and c is f's cell
+abbrev pub DiffersAlwaysAt : Borders → Cell → BorderFault → Type 0
+DiffersAlwaysAt b c f = DiffersAlways b f × (f.cell ≡ c)
 
--- they do, and the cell is in row y
-abbrev pub IsHeldInRow : Borders → ℕ → BorderFault → Type 0
-IsHeldInRow b y f = IsHeld b f × (f.cell.y ≡ pos y)
+-- the same, and f's cell is in row y
+abbrev pub DiffersAlwaysInRow : Borders → ℕ → BorderFault → Type 0
+DiffersAlwaysInRow b y f = DiffersAlways b f × (f.cell.y ≡ pos y)
 
--- before column x
-pub record IsHeldBefore (b : Borders) (y x : ℕ) (f : BorderFault) : Type 0 where
-  pub held : IsHeldInRow b y f
+-- the same, in row y and before column x
+pub record DiffersAlwaysBefore (b : Borders) (y x : ℕ) (f : BorderFault) : Type 0 where
+  pub differs : DiffersAlwaysInRow b y f
   pub at : ℕ
   pub column : f.cell.x ≡ pos at
   pub before : at < x
 
--- above row y
-pub record IsHeldAbove (b : Borders) (y : ℕ) (f : BorderFault) : Type 0 where
-  pub held : IsHeld b f
+-- the same, above row y
+pub record DiffersAlwaysAbove (b : Borders) (y : ℕ) (f : BorderFault) : Type 0 where
+  pub differs : DiffersAlways b f
   pub at : ℕ
   pub row : f.cell.y ≡ pos at
   pub above : at < y

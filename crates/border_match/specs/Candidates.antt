@@ -19,9 +19,11 @@ pub record IsLeast (F : BorderFault → Type 0) (o : Option BorderFault) : Type 
   pub sound : IsSound F o
   pub least : (h : BorderFault) → F h → Covers o h
 
--- A candidate for the least of F becomes another: it is one of F if the old was, what the old was at most the new is at most,
--- and so are all of F with P
+-- A candidate for the least of F becomes another
 pub record IsBetter (F P : BorderFault → Type 0) (old new : Option BorderFault) : Type 0 where
+  -- which is one of F if the old one was
   pub sound : IsSound F old → IsSound F new
+  -- and at most whatever the old one was at most
   pub kept : (h : BorderFault) → Covers old h → Covers new h
+  -- and at most each of F with P
   pub covers : (h : BorderFault) → F h → P h → Covers new h

@@ -7,7 +7,7 @@ ghost use Rattle.module_box.specs.Locals.{circuit_wire};
 ghost use Rattle.module_box.specs.Moves.{IsNear};
 ghost use Rattle.module_box.specs.Tiling.{owner_of};
 ghost use Rattle.module_job.specs.Signals.{IsBelow, renumber_signal};
-ghost use Rattle.border_match.specs.Boards.{Differ, Faults, IsEdgeNamed, IsEdgeNamedAt, IsHeld, IsHeldAt, IsHeldInRow, IsNamed, IsReady, job_edge, job_halo, jobs_of};
+ghost use Rattle.border_match.specs.Boards.{Differ, Faults, IsEdgeNamed, IsEdgeNamedAt, DiffersAlways, DiffersAlwaysAt, DiffersAlwaysInRow, IsNamed, IsReady, job_edge, job_halo, jobs_of};
 ghost use Rattle.border_match.specs.Candidates.{IsBetter, IsLeast};
 ghost use Rattle.border_match.specs.declared.fault.BorderFault.{BorderFault};
 
@@ -25,7 +25,7 @@ pub(crate) struct Borders<'a> {
     pub(crate) whole: Box2,
     pub(crate) owners: &'a Owners,
     pub(crate) jobs: &'a [Arc<Job>],
-    pub(crate) areas: &'a [Box2],
+    pub(crate) boxes: &'a [Box2],
     pub(crate) job: &'a Job,
 }
 
@@ -89,8 +89,9 @@ impl<'a> Borders<'a> {
         halo_signal(self.job, time, cell) != edge_signal(owner, time, cell)
     }
 
-    // Whether a line says something at all times of the module's halo, or of the ring of the module that has the cell.
-    fn has_held(&self, cell: Cell) -> bool
+    // Whether a line with a star, which speaks of all times, is for the module's halo or for the ring of the module that has the
+    // cell. Where it is false the signals of the cell do not differ at time 0.
+    fn has_star_line(&self, cell: Cell) -> bool
         requires ready { IsReady self.now }
         requires inside { IsTrue (in_box self.now.whole cell.x cell.y) }
         ensures { Differ self.now 0 cell.x cell.y → IsTrue result }
@@ -170,7 +171,7 @@ impl<'a> Borders<'a> {
         requires number { number < length self.now.jobs.now }
         ensures { IsBetter (Faults self.now) (IsEdgeNamedAt number self.now) best result }
     {
-        if !self.job.area().is_near(self.areas[number]) {
+        if !self.job.area().is_near(self.boxes[number]) {
             return best;
         }
         self.with_edge_events(best, &self.jobs[number])
@@ -203,16 +204,16 @@ impl<'a> Borders<'a> {
     }
 
     // The lesser of the candidate and the first fault of a cell, if halo and edge signal differ where no line names a time. No
-    // line names time 0, so those signals are found there. The first fault is soon met, since only a time that a line names for
-    // the cell can be without one.
+    // line names time 0, so those signals are found there, and without a line with a star both are `Zero`. The first fault is soon
+    // met, since only an even time, or an odd one that a line names for the cell, is without one.
     fn with_cell(&self, best: Option<BorderFault>, cell: Cell) -> Option<BorderFault>
         requires { IsReady self.now }
-        ensures { IsBetter (Faults self.now) (IsHeldAt self.now cell) best result }
+        ensures { IsBetter (Faults self.now) (DiffersAlwaysAt self.now cell) best result }
     {
         if !self.reaches(cell) {
             return best;
         }
-        if !self.has_held(cell) || !self.differs(0, cell) {
+        if !self.has_star_line(cell) || !self.differs(0, cell) {
             return best;
         }
         self.with_first_at(best, cell)
@@ -222,7 +223,7 @@ impl<'a> Borders<'a> {
     fn with_row(&self, best: Option<BorderFault>, y: u32) -> Option<BorderFault>
         requires ready { IsReady self.now }
         requires row { y < 1024 }
-        ensures { IsBetter (Faults self.now) (IsHeldInRow self.now y) best result }
+        ensures { IsBetter (Faults self.now) (DiffersAlwaysInRow self.now y) best result }
     {
         let area = self.job.area();
         let mut least = best;
@@ -239,7 +240,7 @@ impl<'a> Borders<'a> {
     // The least of the candidate and the faults of those cells of the halo for which such signals differ.
     fn with_halo(&self, best: Option<BorderFault>) -> Option<BorderFault>
         requires { IsReady self.now }
-        ensures { IsBetter (Faults self.now) (IsHeld self.now) best result }
+        ensures { IsBetter (Faults self.now) (DiffersAlways self.now) best result }
     {
         let area = self.job.area();
         let mut least = best;

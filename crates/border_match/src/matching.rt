@@ -17,17 +17,17 @@ use std::alloc::{AllocError, Global};
 use std::sync::Arc;
 
 // The boxes of the modules.
-fn areas_of(alloc: Global, cert: &Cert) -> Result<Vec<Box2>, AllocError>
+fn boxes_of(alloc: Global, cert: &Cert) -> Result<Vec<Box2>, AllocError>
     ensures { IfOk result (λ boxes. boxes.items ≡ areas (modules_of cert.now.entries)) }
 {
-    let mut areas = Vec::new(alloc);
+    let mut boxes = Vec::new(alloc);
     'modules: for number in 0..cert.modules() {
-        areas.push(cert.counts(number).area)?;
+        boxes.push(cert.counts(number).area)?;
     }
-    Ok(areas)
+    Ok(boxes)
 }
 
-// Which module has each cell of the layout's rectangle, by their boxes.
+// Which module has each cell of the layout's rectangle, where `boxes` are those of the modules.
 fn owners_of(alloc: Global, cert: &Cert, boxes: &[Box2]) -> Result<Owners, AllocError>
     requires { boxes.now ≡ areas (modules_of cert.now.entries) }
     ensures width { IfOk result (λ o. o.width ≡ cert.now.layout.size.w) }
@@ -79,15 +79,15 @@ pub fn match_borders(
         w: size.w,
         h: size.h,
     };
-    let areas = areas_of(alloc, cert)?;
-    let owners = owners_of(alloc, cert, &areas)?;
+    let boxes = boxes_of(alloc, cert)?;
+    let owners = owners_of(alloc, cert, &boxes)?;
     let mut faults = Vec::new(alloc);
     'jobs: for job in jobs {
         let borders = Borders {
             whole,
             owners: &owners,
             jobs,
-            areas: &areas,
+            boxes: &boxes,
             job,
         };
         faults.push(borders.least_fault())?;

@@ -44,7 +44,7 @@ least_fault-requires c =
           (board s.circuit s.layout (modules_in s) js o good c.requires c.in_ok-owners.ensures.owners c.in_ok-owners.ensures.width c.in_ok-owners.ensures.height),
       quiet_job s.circuit s.layout (modules_in s) js o good c.requires c.in_ok-owners.ensures.owners c.in_ok-owners.ensures.width c.in_ok-owners.ensures.height c.jobs.job-index c.deref-in-jobs-2.result.now got,
       subst (λ (bs : List Box2). AreBoxesOf js bs)
-          (sym (c.deref-in-jobs.ensures.value ∙ c.in_ok-areas.ensures ∙ sym (meant_areas s.version (setting_of s.circuit s.layout) (modules_of s.entries))))
+          (sym (c.deref-in-jobs.ensures.value ∙ c.in_ok-boxes.ensures ∙ sym (meant_areas s.version (setting_of s.circuit s.layout) (modules_of s.entries))))
           (boxes s.circuit s.layout (modules_in s) js o good c.requires c.in_ok-owners.ensures.owners c.in_ok-owners.ensures.width c.in_ok-owners.ensures.height),
     )
 

@@ -14,14 +14,14 @@ pub bounds-self-number : goal.bounds-self-number
 bounds-self-number c =
     let b = c.args.self.now in
     let j = numbered b c.args.number c.requires.ready c.requires.number in
-    slice_get_within b.areas.now c.args.number j.0.area j.2
+    slice_get_within b.boxes.now c.args.number j.0.area j.2
 
 pub returns-then-not-is_near : goal.returns-then-not-is_near
 returns-then-not-is_near c =
     let b = c.args.self.now in
     let j = numbered b c.args.number c.requires.ready c.requires.number in
     better_same _ _ _ (λ h f p.
-    false≢true (sym c.if-not-is_near.true ∙ c.is_near.ensures ∙ ap₂ is_near c.area.ensures.area (get_or_from_slice_get b.areas.now c.args.number j.0.area _ j.2) ∙ near_needed b c.args.number j.0 h c.requires.ready j.1 f p))
+    false≢true (sym c.if-not-is_near.true ∙ c.is_near.ensures ∙ ap₂ is_near c.area.ensures.area (get_or_from_slice_get b.boxes.now c.args.number j.0.area _ j.2) ∙ near_needed b c.args.number j.0 h c.requires.ready j.1 f p))
 
 pub returns : goal.returns
 returns c =

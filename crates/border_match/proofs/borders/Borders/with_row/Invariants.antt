@@ -1,6 +1,6 @@
-use Rattle.border_match.specs.Boards.{Faults, IsHeldBefore}
+use Rattle.border_match.specs.Boards.{Faults, DiffersAlwaysBefore}
 use Rattle.border_match.specs.Candidates.{IsBetter}
 use Rattle.border_match.proofs.borders.Borders.with_row.Given as goal
 
 abbrev pub invariant-columns : goal.invariant-columns
-invariant-columns l = IsBetter (Faults l.self) (IsHeldBefore l.self l.y l.x) l.fn.best l.least
+invariant-columns l = IsBetter (Faults l.self) (DiffersAlwaysBefore l.self l.y l.x) l.fn.best l.least
