@@ -1,14 +1,14 @@
 #!/usr/bin/env python3
-"""make_cases.py FOLDER.. --stage K [--commands A,B] [--also NAME].. [--largest BYTES] [--bundles FOLDER [--without WORD,WORD]
+"""make_cases.py FOLDER.. [--commands A,B] [--also NAME].. [--largest BYTES] [--bundles FOLDER [--without WORD,WORD]
     [--runs BYTES]]
     > crates/worked_rows/data/cases.txt
 
 Writes case folders as one file of cases, in the form that crates/case_text/src/lib.rt tells.
 
 A case folder has args (one line of words), stdin or stdin_repeat (`COUNT UNIT`), stdout (left out: any
-output), status (left out: 0), since and until (left out: 1, and for ever) and stderr (left out: any).
-A case is taken where K lies between its since and its until, and the first of its words is one of the
-commands or it is about words alone: status 2, or help. --also takes a case of that name in any case.
+output), status (left out: 0) and stderr (left out: any). A folder with a file until is of a program that knew
+less of the formats, and is left out. A case is taken where the first of its words is one of the commands or
+it is about words alone: status 2, or help. --also takes a case of that name in any case.
 --largest leaves out cases whose stdin has more bytes; a stdin_repeat is short however much it stands for.
 --bundles adds a case of `check` for each NAME_v1.txt and NAME_v2.txt of a folder, whose report is NAME_v1.report or NAME_v2.report, but for the
 bundles that have a line which begins with one of the words of --without; and where there are both, of at most --largest bytes, a case
@@ -16,7 +16,7 @@ of `migrate` from the first to the second.
 --runs adds for each NAME_v1.txt that has at most so many bytes, at most four inputs and no waste cell, a case of `run` for each
 assignment of its inputs; what is to be listed is made from the circuit alone (tools/meaning.py).
 
-The repository's file is made with `--stage 15 --commands run,value,modules,check,migrate --largest 200000`, and with all bundles and
+The repository's file is made with `--commands run,value,modules,check,migrate --largest 200000`, and with all bundles and
 `--runs 3000`. That leaves out the cases with as many edge and halo lines as a module may have, or one
 more: each is over a megabyte. tools/compare makes such bundles itself.
 """
@@ -137,7 +137,7 @@ def has_word(text, words):
 def is_taken(folder, options):
     if folder.name in options.also:
         return True
-    if not number(folder / "since", 1) <= options.stage <= number(folder / "until", options.stage):
+    if (folder / "until").exists():
         return False
     given = folder / "stdin"
     if options.largest is not None and given.exists() and given.stat().st_size > options.largest:
@@ -151,7 +151,6 @@ def is_taken(folder, options):
 def main():
     parser = argparse.ArgumentParser(usage=__doc__)
     parser.add_argument("folders", nargs="+", type=Path)
-    parser.add_argument("--stage", type=int, required=True)
     parser.add_argument("--commands", type=lambda names: names.split(","), default=["run"])
     parser.add_argument("--also", action="append", default=[])
     parser.add_argument("--largest", type=int)
