@@ -1,6 +1,7 @@
 -- Where no line with a star speaks of all times
-use Rattle.std.proofs.Common.{◌≡◌, Bool, true, ◌==◌, List, [], ◌∷◌, map, length, Some, None, refl, sym, ap, ap₂, ◌∙◌, arith}
+use Rattle.std.proofs.Common.{◌≡◌, Bool, true, ◌==◌, List, [], map, length, Some, None, sym, ap, ap₂, ◌∙◌, arith}
 use Rattle.std.proofs.lemmas.Bool.Decides.{nat_tests}
+use Rattle.std.proofs.lemmas.List.{length-map, nil_from_length}
 use Rattle.module_box.specs.Moves.{moved_held, moved_signals}
 use Rattle.std.specs.Prelude.{ℤ, slice_get, unwrap_or}
 use Rattle.module_box.specs.Schedules.{Signals, held_at, event_at, signal_at}
@@ -14,15 +15,10 @@ use Rattle.border_match.specs.Boards.{jobs_of, job_edge, IsReady, Differ}
 use Rattle.border_match.specs.declared.borders.Borders.{Borders}
 
 pub no_elements : {A : Type 0} (xs : List A) (r : Bool) → r ≡ (length xs == 0) → r ≡ true → xs ≡ []
-no_elements [] r is holds = refl
-no_elements (x ∷ xs) r is holds = absurd (grind (arith, nat_tests))
+no_elements xs r is holds = nil_from_length xs (grind (arith, nat_tests))
 
 none_mapped : {A B : Type 0} (f : A → B) (xs : List A) → map f xs ≡ [] → xs ≡ []
-none_mapped f [] e = refl
-none_mapped f (x ∷ xs) e = absurd (some_none e)
-  where
-    some_none : {B : Type 0} {y : B} {ys : List B} → y ∷ ys ≡ [] → ⊥
-    some_none e = cc
+none_mapped f xs e = nil_from_length xs (sym (length-map xs f) ∙ ap length e)
 
 -- where a schedule that was moved has no held signals, it had none
 pub unheld_unmoved : (dx dy : ℤ) (s moved : Signals) → moved ≡ moved_signals dx dy s → moved.held ≡ [] → s.held ≡ []
