@@ -16,6 +16,9 @@ pub mod StopParts
 pub mod KeptGates
 pub mod WholeRuns
 pub mod InputRuns
+pub mod FirstFaults
+pub mod PlainCertificates
+pub mod EarliestLines
 pub mod Examples
 mod PortNames
 mod WrongExamples

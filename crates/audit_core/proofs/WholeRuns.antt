@@ -4,7 +4,7 @@ use Rattle.std.specs.Prelude.{ℤ, ◌≢◌, Contains, slice_get}
 use Rattle.std.specs.List.{All}
 use Rattle.std.proofs.lemmas.List.Elements.{All-contains_itself}
 use Rattle.std.proofs.lemmas.Option.{slice_get-get_or, slice_get_within}
-use Rattle.std.proofs.lemmas.Bool.{cases_Bool, false≢true, true≢false, not_from_false, not-true}
+use Rattle.std.proofs.lemmas.Bool.{and_parts, cases_Bool, false≢true, true≢false, not_from_false, not-true}
 use Rattle.bbm_rule.specs.Plane.{State, step, run}
 use Rattle.bbm_rule.proofs.Steps.{step_dead}
 use Rattle.circuit.specs.Bridge.{circuit_of, netlist_of}
@@ -33,17 +33,18 @@ use Rattle.module_job.specs.Signals.{is_live, Meets, renumber_stop}
 use Rattle.module_job.specs.declared.job.Demand.{Demand}
 use Rattle.module_job.specs.declared.job.Demand.TheVariants as Demanded
 use Rattle.local_run.specs.Runs.{with_halo, local_run}
-use Rattle.local_run.specs.Faults.{IsFaultUnder}
+use Rattle.local_run.specs.Faults.{IsFault, IsFaultUnder}
 use Rattle.local_run.specs.declared.fault.Fault.{Fault}
 use Rattle.local_run.specs.declared.fault.Kind.{Kind}
 use Rattle.local_run.specs.declared.fault.Kind.TheVariants.{Edge, End, Stop as AtStop}
 use Rattle.local_run.proofs.LocalRuns.{even_or_odd, local_even, local_odd}
 use Rattle.local_run.proofs.OwnWires as own
 use Rattle.border_match.proofs.Modules.{area_at, there}
-use Rattle.border_match.proofs.SameSignals.{same_signals}
+use Rattle.border_match.proofs.SameSignals.{same_at}
 use Rattle.audit_core.specs.Implements.{LooksAsAsked, run_under}
+use Rattle.audit_core.specs.Noes.{AcceptedKeepsOffRim, HasGoodBorders, IsAssignmentOf, StepsWithGoodBorders}
 use Rattle.audit_core.specs.OnTime.{StopHolds}
-use Rattle.audit_core.specs.HeadlineLaws.{BelongTogether, HasInputNames, IsAcceptedBundle, IsRunOfJobs, StartsAsJobs, StepsAsJobs, EndsAsAsked, AcceptedIsCorrect, AcceptedIsOnTime}
+use Rattle.audit_core.specs.HeadlineLaws.{BelongTogether, HasNoEndFault, HasNoFault, HasInputNames, IsAcceptedBundle, IsRunOfJobs, StartsAsJobs, StepsAsJobs, EndsAsAsked, AcceptedIsCorrect, AcceptedIsOnTime}
 use Rattle.audit_core.proofs.InputRuns.{inputs_decide}
 use Rattle.audit_core.proofs.StopParts.{all_flat, all_map, local_wire_is, one_said}
 use Rattle.audit_core.proofs.KeptGates.{accepted_has_valuation}
@@ -67,9 +68,14 @@ stable_meets v (Demanded.Wire w) b n = stable b (v w) n
 stable_meets v Demanded.Any b n = tt
 
 -- what the laws on a step share
-record Setting (lines : List Entry) (p : Pattern) (ms : List ModuleLines) (jobs : List JobState) (inputs v : Valuation) : Type 0 where
-  all : IsAcceptedBundle lines p ms jobs
+record Setting (lines : List Entry) (p : Pattern) (ms : List ModuleLines) (jobs : List JobState) (inputs v : Valuation) (t : ℕ) : Type 0 where
+  bundle : BelongTogether lines p ms jobs
+  right : HasGoodBorders lines p ms jobs v t
   satisfied : Satisfies (netlist_of lines) inputs v
+
+-- what is accepted has no fault
+right_of : (lines : List Entry) (p : Pattern) (ms : List ModuleLines) (jobs : List JobState) → IsAcceptedBundle lines p ms jobs → HasNoFault lines p ms jobs
+right_of lines p ms jobs all = record { of_jobs = all.accepted.no_fault; of_borders = all.accepted.no_border_fault }
 
 -- ---- the start
 
@@ -88,40 +94,41 @@ starts lines p ms jobs v b = record {
 abbrev fault_at : ℕ → Kind → ℤ → ℤ → ℕ → Fault
 fault_at t kind x y a = record { time = t; kind = kind; cell = record { x = x; y = y }; assignment = a }
 
--- where the wires have their values in the circuit, no job has a fault
-no_fault : (lines : List Entry) (p : Pattern) (ms : List ModuleLines) (jobs : List JobState) (inputs v : Valuation) (i t : ℕ) (j : JobState) (kind : Kind) (x y : ℤ) →
-    Setting lines p ms jobs inputs v → slice_get jobs i ≡ Some j → ¬ IsFaultUnder j (seen_by j.locals v) t kind x y
-no_fault lines p ms jobs inputs v i t j kind x y set e differs =
-    let k = known_job lines p ms jobs i j set.all.bundle e in
-    let a = choices_are_assignments j.locals.netlist.given (seen_by j.locals v) in
-    let agree = local_values_agree (netlist_of lines) j.locals inputs v a.0 k.is_job.locals set.satisfied a.2 in
-    set.all.accepted.no_fault i j (fault_at t kind x y a.0) e (record {
-      in_range = a.1;
+-- every job has an assignment of v
+pub its_assignment : (j : JobState) (v : Valuation) → (a : ℕ) × IsAssignmentOf j v a
+its_assignment j v = let a = choices_are_assignments j.locals.netlist.given (seen_by j.locals v) in (a.0, record { in_range = a.1; bits = a.2 })
+
+-- and under it, where the wires have their values in v, its faults are those of the job
+own_fault : (lines : List Entry) (p : Pattern) (ms : List ModuleLines) (inputs v : Valuation) (i t a : ℕ) (j : JobState) (kind : Kind) (x y : ℤ) → Known lines p ms i j →
+    Satisfies (netlist_of lines) inputs v → IsAssignmentOf j v a → IsFaultUnder j (seen_by j.locals v) t kind x y → IsFault j (fault_at t kind x y a)
+own_fault lines p ms inputs v i t a j kind x y k s is differs =
+    let agree = local_values_agree (netlist_of lines) j.locals inputs v a k.is_job.locals s is.bits in
+    record {
+      in_range = is.in_range;
       shown = ∣ record { values = seen_by j.locals v; local = agree.is_local; differs = differs } ∣₁;
-    })
+    }
 
 no_edge_fault : (lines : List Entry) (p : Pattern) (ms : List ModuleLines) (jobs : List JobState) (inputs v : Valuation) (i t : ℕ) (j : JobState) (x y : ℤ) →
-    Setting lines p ms jobs inputs v → slice_get jobs i ≡ Some j → t % 2 ≡ 1 → t < p.size.steps → in_ring j.area x y ≡ true →
+    Setting lines p ms jobs inputs v t → slice_get jobs i ≡ Some j → t % 2 ≡ 1 → t < p.size.steps → in_ring j.area x y ≡ true →
     local_run j (seen_by j.locals v) t x y ≡ is_live (seen_by j.locals v) (signal_at j.edges t x y)
 no_edge_fault lines p ms jobs inputs v i t j x y set e odd early ring =
-    let k = known_job lines p ms jobs i j set.all.bundle e in
-    stable _ _ (λ differ. no_fault lines p ms jobs inputs v i t j Edge x y set e (record {
+    let k = known_job lines p ms jobs i j set.bundle e in
+    let a = its_assignment j v in
+    stable _ _ (λ differ. set.right.of_jobs i j (fault_at t Edge x y a.0) e refl refl a.1 (own_fault lines p ms inputs v i t a.0 j Edge x y k set.satisfied a.1 (record {
       odd = odd;
       early = subst (λ n. t < n) (sym k.is_job.steps) early;
       ring = ring;
       differs = differ;
-    }))
+    })))
 
 no_end_fault : (lines : List Entry) (p : Pattern) (ms : List ModuleLines) (jobs : List JobState) (inputs v : Valuation) (i : ℕ) (j : JobState) (x y : ℤ) →
-    Setting lines p ms jobs inputs v → slice_get jobs i ≡ Some j → in_box j.area x y ≡ true →
+    BelongTogether lines p ms jobs → HasNoEndFault jobs → Satisfies (netlist_of lines) inputs v → slice_get jobs i ≡ Some j → in_box j.area x y ≡ true →
     Meets (seen_by j.locals v) (job_demand j x y) (local_run j (seen_by j.locals v) p.size.steps x y)
-no_end_fault lines p ms jobs inputs v i j x y set e h =
-    let k = known_job lines p ms jobs i j set.all.bundle e in
-    stable_meets _ (job_demand j x y) _ (λ differ. no_fault lines p ms jobs inputs v i p.size.steps j End x y set e (record {
-      last = sym k.is_job.steps;
-      inside = h;
-      differs = differ;
-    }))
+no_end_fault lines p ms jobs inputs v i j x y b right s e h =
+    let k = known_job lines p ms jobs i j b e in
+    let a = its_assignment j v in
+    stable_meets _ (job_demand j x y) _ (λ differ. right i j (fault_at p.size.steps End x y a.0) e refl
+    (own_fault lines p ms inputs v i p.size.steps a.0 j End x y k s a.1 (record { last = sym k.is_job.steps; inside = h; differs = differ })))
 
 -- ---- local runs stay in their boxes
 
@@ -136,17 +143,17 @@ local_stays lines p ms i j u (suc t) k x y out = elim (even_or_odd t) [
 -- ---- an even step
 
 even_outside : (lines : List Entry) (p : Pattern) (ms : List ModuleLines) (jobs : List JobState) (inputs v : Valuation) (t : ℕ) →
-    Setting lines p ms jobs inputs v → t % 2 ≡ 0 → IsRunOfJobs lines p jobs v t → LiesInBox (whole p.size) (run_under (circuit_of lines) p v (suc t))
+    Setting lines p ms jobs inputs v t → t % 2 ≡ 0 → IsRunOfJobs lines p jobs v t → LiesInBox (whole p.size) (run_under (circuit_of lines) p v (suc t))
 unfolding run
 even_outside lines p ms jobs inputs v t set e now =
-    even_stays (whole p.size) t (run_under (circuit_of lines) p v t) (whole_even p.size set.all.bundle.limits) e now.outside
+    even_stays (whole p.size) t (run_under (circuit_of lines) p v t) (whole_even p.size set.bundle.limits) e now.outside
 
 even_inside : (lines : List Entry) (p : Pattern) (ms : List ModuleLines) (jobs : List JobState) (inputs v : Valuation) (t i : ℕ) (j : JobState) →
-    Setting lines p ms jobs inputs v → t % 2 ≡ 0 → IsRunOfJobs lines p jobs v t → slice_get jobs i ≡ Some j →
+    Setting lines p ms jobs inputs v t → t % 2 ≡ 0 → IsRunOfJobs lines p jobs v t → slice_get jobs i ≡ Some j →
     SameInBox j.area (run_under (circuit_of lines) p v (suc t)) (local_run j (seen_by j.locals v) (suc t))
 unfolding run local_run
 even_inside lines p ms jobs inputs v t i j set e now at x y h =
-    let k = known_job lines p ms jobs i j set.all.bundle at in
+    let k = known_job lines p ms jobs i j set.bundle at in
     even_local j.area t (run_under (circuit_of lines) p v t) (local_run j (seen_by j.locals v) t) (job_even lines p ms i j k) e (now.inside i j at) x y h
     ∙ sym (local_even j (seen_by j.locals v) t _ x y e)
 
@@ -162,20 +169,20 @@ outer lines p ms jobs x y o b x' y' out = elim (cases_Bool (in_box o.job.area x'
 
 -- a cell with a neighbour outside the rectangle is dead
 rim_dead : (lines : List Entry) (p : Pattern) (ms : List ModuleLines) (jobs : List JobState) (inputs v : Valuation) (t : ℕ) (x y : ℤ) →
-    Setting lines p ms jobs inputs v → t % 2 ≡ 1 → t < p.size.steps → IsRunOfJobs lines p jobs v t →
+    Setting lines p ms jobs inputs v t → t % 2 ≡ 1 → t < p.size.steps → IsRunOfJobs lines p jobs v t →
     some_neighbour (λ x' y'. not (in_box (whole p.size) x' y')) x y ≡ true → run_under (circuit_of lines) p v t x y ≡ false
 rim_dead lines p ms jobs inputs v t x y set odd early now near = elim (cases_Bool (in_box (whole p.size) x y)) [
   | inr out ↦ now.outside x y out
   | inl h ↦
-      let o : Owner lines p ms jobs x y = owner_of lines p ms jobs x y set.all.bundle h in
-      let ring = ring_from o.job.area x y o.owned (some_neighbour_more _ (λ x' y'. not (in_box o.job.area x' y')) x y (outer lines p ms jobs x y o set.all.bundle) near) in
+      let o : Owner lines p ms jobs x y = owner_of lines p ms jobs x y set.bundle h in
+      let ring = ring_from o.job.area x y o.owned (some_neighbour_more _ (λ x' y'. not (in_box o.job.area x' y')) x y (outer lines p ms jobs x y o set.bundle) near) in
       now.inside o.number o.job o.numbered x y o.owned
       ∙ no_edge_fault lines p ms jobs inputs v o.number t o.job x y set o.numbered odd early ring
       ∙ rim_edge_dead lines p ms o.number o.job v t x y o.known (ring_from (whole p.size) x y h near)
 ]
 
 odd_outside : (lines : List Entry) (p : Pattern) (ms : List ModuleLines) (jobs : List JobState) (inputs v : Valuation) (t : ℕ) →
-    Setting lines p ms jobs inputs v → t % 2 ≡ 1 → t < p.size.steps → IsRunOfJobs lines p jobs v t →
+    Setting lines p ms jobs inputs v t → t % 2 ≡ 1 → t < p.size.steps → IsRunOfJobs lines p jobs v t →
     LiesInBox (whole p.size) (run_under (circuit_of lines) p v (suc t))
 unfolding run
 odd_outside lines p ms jobs inputs v t set odd early now x y out =
@@ -198,10 +205,10 @@ with_halo_outside j u t s x y dead h = ap₂ (λ q r. q || (r && is_live u (sign
 
 -- a cell of the halo is what the halo lines say
 halo_agrees : (lines : List Entry) (p : Pattern) (ms : List ModuleLines) (jobs : List JobState) (inputs v : Valuation) (t i : ℕ) (j : JobState) (x y : ℤ) →
-    Setting lines p ms jobs inputs v → t % 2 ≡ 1 → t < p.size.steps → IsRunOfJobs lines p jobs v t → slice_get jobs i ≡ Some j → in_halo j.area x y ≡ true →
+    Setting lines p ms jobs inputs v t → t % 2 ≡ 1 → t < p.size.steps → IsRunOfJobs lines p jobs v t → slice_get jobs i ≡ Some j → in_halo j.area x y ≡ true →
     run_under (circuit_of lines) p v t x y ≡ is_live (seen_by j.locals v) (signal_at j.halos t x y)
 halo_agrees lines p ms jobs inputs v t i j x y set odd early now at halo =
-    let b : BelongTogether lines p ms jobs = set.all.bundle in
+    let b : BelongTogether lines p ms jobs = set.bundle in
     let k = known_job lines p ms jobs i j b at in
     elim (cases_Bool (in_box (whole p.size) x y)) [
       | inr out ↦ now.outside x y out ∙ sym (outer_halo_dead lines p ms i j v t x y k out)
@@ -214,7 +221,7 @@ halo_agrees lines p ms jobs inputs v t i j x y set odd early now at halo =
           now.inside o.number o.job o.numbered x y o.owned
           ∙ no_edge_fault lines p ms jobs inputs v o.number t o.job x y set o.numbered odd early (ap (λ a. in_ring a x y) o.known.is_job.area ∙ ring)
           ∙ edge_by_circuit lines p ms o.number o.job v t x y o.known
-          ∙ sym (same_signals _ ms i o.number k.of o.known.of t x y v (set.all.accepted.no_border_fault i) (record {
+          ∙ sym (same_at _ ms i o.number k.of o.known.of t x y v (set.right.of_modules i) (record {
             tile = b.are_modules.tile;
             numbered = k.numbered;
             owner_numbered = o.known.numbered;
@@ -227,13 +234,13 @@ halo_agrees lines p ms jobs inputs v t i j x y set odd early now at halo =
     ]
 
 odd_inside : (lines : List Entry) (p : Pattern) (ms : List ModuleLines) (jobs : List JobState) (inputs v : Valuation) (t i : ℕ) (j : JobState) →
-    Setting lines p ms jobs inputs v → t % 2 ≡ 1 → t < p.size.steps → IsRunOfJobs lines p jobs v t → slice_get jobs i ≡ Some j →
+    Setting lines p ms jobs inputs v t → t % 2 ≡ 1 → t < p.size.steps → IsRunOfJobs lines p jobs v t → slice_get jobs i ≡ Some j →
     SameInBox j.area (run_under (circuit_of lines) p v (suc t)) (local_run j (seen_by j.locals v) (suc t))
 unfolding run local_run
 odd_inside lines p ms jobs inputs v t i j set odd early now at x y h =
     let u : Valuation = seen_by j.locals v in
     let m : State = with_halo j u t (local_run j u t) in
-    let k = known_job lines p ms jobs i j set.all.bundle at in
+    let k = known_job lines p ms jobs i j set.bundle at in
     near_step j.area t (run_under (circuit_of lines) p v t) m
     (λ x' y' g. now.inside i j at x' y' g ∙ sym (with_halo_inside j u t (local_run j u t) x' y' g))
     (λ x' y' g. halo_agrees lines p ms jobs inputs v t i j x' y' set odd early now at g
@@ -241,9 +248,9 @@ odd_inside lines p ms jobs inputs v t i j set odd early now at x y h =
     x y h
     ∙ sym (local_odd j u t (local_run j u t) x y odd ∙ ap (λ q. q && step t m x y) h)
 
-pub steps : StepsAsJobs
-steps lines p ms jobs inputs v t all s early now =
-    let set : Setting lines p ms jobs inputs v = record { all = all; satisfied = s } in
+pub steps_with_good_borders : StepsWithGoodBorders
+steps_with_good_borders lines p ms jobs inputs v t b s early right now =
+    let set : Setting lines p ms jobs inputs v t = record { bundle = b; right = right; satisfied = s } in
     elim (even_or_odd t) [
       | inl e ↦ record {
         outside = even_outside lines p ms jobs inputs v t set e now;
@@ -255,31 +262,38 @@ steps lines p ms jobs inputs v t all s early now =
       }
     ]
 
+-- where there is no fault, borders are good at all times
+pub good_borders : (lines : List Entry) (p : Pattern) (ms : List ModuleLines) (jobs : List JobState) (v : Valuation) (t : ℕ) → HasNoFault lines p ms jobs → HasGoodBorders lines p ms jobs v t
+good_borders lines p ms jobs v t right = record { of_jobs = λ n j f at kind time is. right.of_jobs n j f at; of_modules = λ n f time. right.of_borders n f }
+
+pub steps : StepsAsJobs
+steps lines p ms jobs inputs v t b right s early now = steps_with_good_borders lines p ms jobs inputs v t b s early (good_borders lines p ms jobs v t right) now
+
 -- ---- the end
 
-met : (lines : List Entry) (p : Pattern) (ms : List ModuleLines) (jobs : List JobState) (inputs v : Valuation) (x y : ℤ) → Setting lines p ms jobs inputs v →
+met : (lines : List Entry) (p : Pattern) (ms : List ModuleLines) (jobs : List JobState) (inputs v : Valuation) (x y : ℤ) →
+    BelongTogether lines p ms jobs → HasNoEndFault jobs → Satisfies (netlist_of lines) inputs v →
     IsRunOfJobs lines p jobs v p.size.steps → in_box (whole p.size) x y ≡ true →
     Meets v (end_demand (circuit_of lines) p x y) (run_under (circuit_of lines) p v p.size.steps x y)
-met lines p ms jobs inputs v x y set now h =
-    let o : Owner lines p ms jobs x y = owner_of lines p ms jobs x y set.all.bundle h in
+met lines p ms jobs inputs v x y b right s now h =
+    let o : Owner lines p ms jobs x y = owner_of lines p ms jobs x y b h in
     let here : in_box o.known.of.area x y ≡ true = ap (λ a. in_box a x y) (sym o.known.is_job.area) ∙ o.owned in
-    let seen = meets_seen o.job.locals v (job_demand o.job x y) _ (no_end_fault lines p ms jobs inputs v o.number o.job x y set o.numbered o.owned) in
+    let seen = meets_seen o.job.locals v (job_demand o.job x y) _ (no_end_fault lines p ms jobs inputs v o.number o.job x y b right s o.numbered o.owned) in
     let P : Demand → Type 0 = λ d. Meets v d (local_run o.job (seen_by o.job.locals v) p.size.steps x y) in
     let Q : Bool → Type 0 = λ b. Meets v (end_demand (circuit_of lines) p x y) b in
     subst Q (sym (now.inside o.number o.job o.numbered x y o.owned)) (subst P (o.known.is_job.demand x y here) seen)
 
 pub ends : EndsAsAsked
-ends lines p ms jobs inputs v all s now =
-    let set : Setting lines p ms jobs inputs v = record { all = all; satisfied = s } in
-    let good = all.bundle.laid_out in
+ends lines p ms jobs inputs v b right s now =
+    let good = b.laid_out in
     let c = circuit_of lines in
     record {
-      mirrors = λ x y h. met_mirror c p v x y _ h (met lines p ms jobs inputs v x y set now (mirror_inside p x y good h));
+      mirrors = λ x y h. met_mirror c p v x y _ h (met lines p ms jobs inputs v x y b right s now (mirror_inside p x y good h));
       outputs = λ i q e.
           let is : IsOutput p q = is_output p good i q e in
-          met_output c p v q.cell.x q.cell.y q.name _ is.no_mirror is.port (met lines p ms jobs inputs v q.cell.x q.cell.y set now is.inside);
+          met_output c p v q.cell.x q.cell.y q.name _ is.no_mirror is.port (met lines p ms jobs inputs v q.cell.x q.cell.y b right s now is.inside);
       elsewhere = λ x y mirror port waste. elim (cases_Bool (in_box (whole p.size) x y)) [
-        | inl h ↦ met_other c p v x y _ mirror port waste (met lines p ms jobs inputs v x y set now h)
+        | inl h ↦ met_other c p v x y _ mirror port waste (met lines p ms jobs inputs v x y b right s now h)
         | inr out ↦ now.outside x y out
       ];
     }
@@ -290,7 +304,7 @@ all_times : (lines : List Entry) (p : Pattern) (ms : List ModuleLines) (jobs : L
     Satisfies (netlist_of lines) inputs v → t ≤ p.size.steps → IsRunOfJobs lines p jobs v t
 all_times lines p ms jobs inputs v zero all s h = starts lines p ms jobs v all.bundle
 all_times lines p ms jobs inputs v (suc t) all s h =
-    steps lines p ms jobs inputs v t all s (omega arith) (all_times lines p ms jobs inputs v t all s (omega arith))
+    steps lines p ms jobs inputs v t all.bundle (right_of lines p ms jobs all) s (omega arith) (all_times lines p ms jobs inputs v t all s (omega arith))
 
 -- what looks as asked looks so wherever the same cells are live
 looks_same : (p : Pattern) (value : List ℕ → Bool) (now then : State) → ((x y : ℤ) → now x y ≡ then x y) → LooksAsAsked p value now → LooksAsAsked p value then
@@ -309,7 +323,7 @@ correct lines p ms jobs named ports all = record {
         values = found.0;
         satisfied = found.1;
         looks = λ v s. looks_same p (values_by_name (circuit_of lines) v) _ _ (λ x y. inputs_decide lines p inputs v p.size.steps x y named s)
-            (ends lines p ms jobs inputs v all s (all_times lines p ms jobs inputs v p.size.steps all s (omega arith)));
+            (ends lines p ms jobs inputs v all.bundle (λ n j f at is. all.accepted.no_fault n j f at) s (all_times lines p ms jobs inputs v p.size.steps all s (omega arith)));
       };
   stays = λ inputs t h x y live.
       let found = accepted_has_valuation lines p ms jobs inputs all in
@@ -319,25 +333,48 @@ correct lines p ms jobs named ports all = record {
       ];
 }
 
+-- ---- the rim
+
+-- what is accepted keeps off its rim
+pub off_rim : AcceptedKeepsOffRim
+unfolding in_ring
+off_rim lines p ms jobs named b accepted t =
+    let all : IsAcceptedBundle lines p ms jobs = record { bundle = b; accepted = accepted } in
+    let found = accepted_has_valuation lines p ms jobs t.inputs all in
+    let early = t.early in
+    let now = all_times lines p ms jobs t.inputs found.0 t.time all found.1 (omega (arith, early)) in
+    let set : Setting lines p ms jobs t.inputs found.0 t.time = record { bundle = b; right = good_borders lines p ms jobs found.0 t.time (right_of lines p ms jobs all); satisfied = found.1 } in
+    true≢false (sym t.live ∙ sym (inputs_decide lines p t.inputs found.0 t.time t.x t.y named found.1)
+    ∙ rim_dead lines p ms jobs t.inputs found.0 t.time t.x t.y set t.odd t.early now (and_parts (in_box (whole p.size) t.x t.y) _ t.rim).1)
+
 -- ---- stops
 
-no_stop_fault : (lines : List Entry) (p : Pattern) (ms : List ModuleLines) (jobs : List JobState) (inputs v : Valuation) (i : ℕ) (j : JobState) (s : listed.Stop) → Setting lines p ms jobs inputs v →
+-- a bundle without a fault
+record Faultless (lines : List Entry) (p : Pattern) (ms : List ModuleLines) (jobs : List JobState) (inputs v : Valuation) : Type 0 where
+  bundle : BelongTogether lines p ms jobs
+  right : HasNoFault lines p ms jobs
+  satisfied : Satisfies (netlist_of lines) inputs v
+
+no_stop_fault : (lines : List Entry) (p : Pattern) (ms : List ModuleLines) (jobs : List JobState) (inputs v : Valuation) (i : ℕ) (j : JobState) (s : listed.Stop) → Faultless lines p ms jobs inputs v →
     slice_get jobs i ≡ Some j → Contains j.stops s → local_run j (seen_by j.locals v) s.at.time s.at.cell.x s.at.cell.y ≡ seen_by j.locals v s.wire
 no_stop_fault lines p ms jobs inputs v i j s set e has =
-    stable _ _ (λ differ. no_fault lines p ms jobs inputs v i s.at.time j AtStop s.at.cell.x s.at.cell.y set e (record {
+    let k = known_job lines p ms jobs i j set.bundle e in
+    let a = its_assignment j v in
+    stable _ _ (λ differ. set.right.of_jobs i j (fault_at s.at.time AtStop s.at.cell.x s.at.cell.y a.0) e
+    (own_fault lines p ms inputs v i s.at.time a.0 j AtStop s.at.cell.x s.at.cell.y k set.satisfied a.1 (record {
       stop = s;
       is_listed = has;
       time = refl;
       column = refl;
       row = refl;
       differs = differ;
-    }))
+    })))
 
 -- the same by the wires of the circuit
 abbrev IsAsWire : JobState → Valuation → listed.Stop → Type 0
 IsAsWire j v r = local_run j (seen_by j.locals v) r.at.time r.at.cell.x r.at.cell.y ≡ v r.wire
 
-no_line_fault : (lines : List Entry) (p : Pattern) (ms : List ModuleLines) (jobs : List JobState) (inputs v : Valuation) (i : ℕ) (m : ModuleLines) (j : JobState) (k w : ℕ) (s : StopLine) → Setting lines p ms jobs inputs v →
+no_line_fault : (lines : List Entry) (p : Pattern) (ms : List ModuleLines) (jobs : List JobState) (inputs v : Valuation) (i : ℕ) (m : ModuleLines) (j : JobState) (k w : ℕ) (s : StopLine) → Faultless lines p ms jobs inputs v →
     slice_get jobs i ≡ Some j → IsJobOf (circuit_of lines) p m j → slice_get (stops m) k ≡ Some s → wire_of (circuit_of lines) s.wire ≡ Some w → local_run j (seen_by j.locals v) s.time s.cell.x s.cell.y ≡ v w
 no_line_fault lines p ms jobs inputs v i m j k w s set e is at named =
     let own = all_map (IsAsWire j v) (renumber_stop (circuit_wire j.locals)) j.stops (λ n d lt. no_stop_fault lines p ms jobs inputs v i j _ set e (All-contains_itself j.stops n d lt)) in
@@ -347,7 +384,7 @@ no_line_fault lines p ms jobs inputs v i m j k w s set e is at named =
 stop_holds : (lines : List Entry) (p : Pattern) (ms : List ModuleLines) (jobs : List JobState) → HasInputNames lines p → IsAcceptedBundle lines p ms jobs →
     (i k : ℕ) (m : ModuleLines) (s : StopLine) → slice_get ms i ≡ Some m → slice_get (stops m) k ≡ Some s → IsStop (setting_of lines p) m.area (known (circuit_of lines) m) s → StopHolds (circuit_of lines) p s
 stop_holds lines p ms jobs named all i k m s at has line inputs v satisfied =
-    let set : Setting lines p ms jobs inputs v = record { all = all; satisfied = satisfied } in
+    let set : Faultless lines p ms jobs inputs v = record { bundle = all.bundle; right = right_of lines p ms jobs all; satisfied = satisfied } in
     let b : BelongTogether lines p ms jobs = all.bundle in
     let j = there jobs i (let lt = slice_get_within ms i m at in let n = b.are_jobs.count in omega (arith, lt, n)) in
     let is : IsJobOf (circuit_of lines) p m j.0 = b.are_jobs.each i m j.0 at j.1 in

@@ -10,7 +10,7 @@ use Rattle.certificate.specs.Grammars.{CertState}
 use Rattle.module_job.specs.Jobs.{JobState}
 use Rattle.certificate_lines.specs.Modules.{AreModules}
 use Rattle.audit_core.specs.Concluding.{AreOwnJobs, modules, port_names_of, setting}
-use Rattle.audit_core.specs.HeadlineLaws.{IsAcceptedBundle}
+use Rattle.audit_core.specs.HeadlineLaws.{BelongTogether, IsAcceptedBundle}
 use Rattle.audit_core.specs.Implements.{IsCorrect}
 use Rattle.audit_core.specs.OnTime.{IsOnTime}
 use Rattle.audit_core.specs.Verdicts.{IsVerdict}
@@ -29,19 +29,20 @@ pub record IsRead (s : CertState) (size : Extent) : Type 0 where
   pub inputs : take (netlist_of s.circuit).given (defined s.circuit) ≡ input_names s.circuit
   pub named : AreNamed (Some (port_names_of s.circuit)) (parts_of s.layout)
 
+-- it belongs together with the jobs of its modules
+pub bundle_read : (s : CertState) (size : Extent) (jobs : List JobState) → IsRead s size → AreOwnJobs s jobs → BelongTogether s.circuit s.layout (modules s) jobs
+bundle_read s size jobs is own = record {
+  ordered = is.ordered;
+  limits = subst (λ (z : Extent). size_fault z ≡ None) is.same is.limits;
+  laid_out = subst (λ (z : Extent). AreGoodAfter z [] (parts_of s.layout)) is.same is.laid_out;
+  are_modules = is.are_modules;
+  are_jobs = own;
+}
+
 accepted_bundle : (s : CertState) (size : Extent) (jobs : List JobState) → IsRead s size → AreOwnJobs s jobs → IsVerdict (setting s) (modules s) jobs Yes →
     IsAcceptedBundle s.circuit s.layout (modules s) jobs
 unfolding IsVerdict
-accepted_bundle s size jobs is own accepted = record {
-  bundle = record {
-    ordered = is.ordered;
-    limits = subst (λ (z : Extent). size_fault z ≡ None) is.same is.limits;
-    laid_out = subst (λ (z : Extent). AreGoodAfter z [] (parts_of s.layout)) is.same is.laid_out;
-    are_modules = is.are_modules;
-    are_jobs = own;
-  };
-  accepted = accepted;
-}
+accepted_bundle s size jobs is own accepted = record { bundle = bundle_read s size jobs is own; accepted = accepted }
 
 pub yes_means-correct : (s : CertState) (size : Extent) (jobs : List JobState) → IsRead s size → AreOwnJobs s jobs → IsVerdict (setting s) (modules s) jobs Yes →
     IsCorrect s.circuit s.layout

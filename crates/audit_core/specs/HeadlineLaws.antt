@@ -16,6 +16,11 @@ use Rattle.certificate.specs.Jobs.{AreJobsOf}
 use Rattle.certificate_lines.specs.Modules.{AreModules}
 use Rattle.certificate_lines.specs.Rules.{whole}
 use Rattle.local_run.specs.Runs.{local_run}
+use Rattle.local_run.specs.Faults.{IsFault}
+use Rattle.local_run.specs.declared.fault.Fault.{Fault}
+use Rattle.local_run.specs.declared.fault.Kind.TheVariants.{End}
+use Rattle.border_match.specs.BorderFaults.{IsBorderFault}
+use Rattle.border_match.specs.declared.fault.BorderFault.{BorderFault}
 use Rattle.audit_core.specs.Implements.{IsCorrect, IsNamed, LooksAsAsked, run_under}
 use Rattle.audit_core.specs.OnTime.{IsOnTime}
 use Rattle.audit_core.specs.Verdicts.{Accepts}
@@ -34,6 +39,15 @@ pub record IsAcceptedBundle (lines : List Entry) (p : Pattern) (ms : List Module
   pub bundle : BelongTogether lines p ms jobs
   pub accepted : Accepts (setting_of lines p) ms jobs
 
+-- no job has a fault, and no module a border fault
+pub record HasNoFault (lines : List Entry) (p : Pattern) (ms : List ModuleLines) (jobs : List JobState) : Type 0 where
+  pub of_jobs : (number : ℕ) (j : JobState) (f : Fault) → slice_get jobs number ≡ Some j → ¬ IsFault j f
+  pub of_borders : (number : ℕ) (f : BorderFault) → ¬ IsBorderFault (setting_of lines p) ms number f
+
+-- no job has a fault of the kind `End`
+abbrev pub HasNoEndFault : List JobState → Type 0
+HasNoEndFault jobs = (number : ℕ) (j : JobState) (f : Fault) → slice_get jobs number ≡ Some j → f.kind ≡ End → ¬ IsFault j f
+
 -- At time t no cell outside the rectangle is live, and in the box of each job the plane is the job's run by itself, where the
 -- job's wires have the values that they have in the circuit.
 pub record IsRunOfJobs (lines : List Entry) (p : Pattern) (jobs : List JobState) (v : Valuation) (t : ℕ) : Type 0 where
@@ -49,13 +63,13 @@ StartsAsJobs = (lines : List Entry) (p : Pattern) (ms : List ModuleLines) (jobs 
 -- where it is so before a step, and neither a job nor a border has a fault, it is so after the step
 abbrev pub StepsAsJobs : Type 0
 StepsAsJobs = (lines : List Entry) (p : Pattern) (ms : List ModuleLines) (jobs : List JobState) (inputs v : Valuation) (t : ℕ) →
-    IsAcceptedBundle lines p ms jobs → Satisfies (netlist_of lines) inputs v → t < p.size.steps →
+    BelongTogether lines p ms jobs → HasNoFault lines p ms jobs → Satisfies (netlist_of lines) inputs v → t < p.size.steps →
     IsRunOfJobs lines p jobs v t → IsRunOfJobs lines p jobs v (suc t)
 
 -- where it is so after the last step, and no job has a fault, the plane looks as the layout asks
 abbrev pub EndsAsAsked : Type 0
 EndsAsAsked = (lines : List Entry) (p : Pattern) (ms : List ModuleLines) (jobs : List JobState) (inputs v : Valuation) →
-    IsAcceptedBundle lines p ms jobs → Satisfies (netlist_of lines) inputs v →
+    BelongTogether lines p ms jobs → HasNoEndFault jobs → Satisfies (netlist_of lines) inputs v →
     IsRunOfJobs lines p jobs v p.size.steps →
     LooksAsAsked p (values_by_name (circuit_of lines) v) (run_under (circuit_of lines) p v p.size.steps)
 

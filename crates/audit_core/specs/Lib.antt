@@ -15,3 +15,4 @@ pub mod OnTime
 pub mod HeadlineLaws
 pub mod ModuleLaws
 pub mod MigrationLaws
+pub mod Noes

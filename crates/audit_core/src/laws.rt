@@ -1,5 +1,6 @@
 //! Laws of books, each the contract of a function without a body.
 ghost use Rattle.audit_core.specs.HeadlineLaws.{AcceptedHasValuation, AcceptedIsCorrect, AcceptedIsOnTime, EndsAsAsked, Example, InputsDecideTheRun, NoneIsUndefined, ReadLayoutHasInputNames, ReadLayoutIsNamed, StartsAsJobs, StepsAsJobs, WrongExample};
+ghost use Rattle.audit_core.specs.Noes.{AcceptedKeepsOffRim, EarliestLineIsFirst, FirstEndFaultIsWrong, FirstFaultIsReal, PlainCertificateDecides, PlainNoIsWrong, StepsWithGoodBorders, UntimedIsOnTime};
 ghost use Rattle.audit_core.specs.ModuleLaws.{JobsOfOneModuleAgree, JobsOfOneModuleAgreeOnKeeps};
 ghost use Rattle.audit_core.specs.MigrationLaws.{AcceptedWithoutHalos, MigrationIsAccepted};
 ghost use Rattle.audit_core.specs.CoreLaws.{AcceptsOneForEach, DrawsEachOnce, EmptyWhereAllAreDrawn, EventsKeepWhatIsHeld, EventsReplay, HoldsHonestOwn, HoldsWhatWasAccepted, OnlyAcceptedChangesWhatIsHeld, VerdictIsOne};
@@ -76,9 +77,28 @@ pub fn starts_as_jobs()
     ensures { StartsAsJobs }
 {}
 
-/// Where that is so before a step, and neither a job nor a border has a fault, it is so after the step.
+/// Where that is so before a step, and neither a job nor a border has a fault, it is so after the step. It is enough that the edges and the
+/// borders have no fault at the time of the step, under the assignments of the circuit's values.
 pub fn steps_as_jobs()
-    ensures { StepsAsJobs }
+    ensures no_fault { StepsAsJobs }
+    ensures good_borders { StepsWithGoodBorders }
+{}
+
+/// The first fault under the circuit's values is one of the whole plane: there the cell is not as the module says. One of the end says that
+/// the layout does not compute the circuit. The earliest line of a report is the first fault, where its assignment occurs in the circuit.
+pub fn first_fault_is_real()
+    ensures real { FirstFaultIsReal }
+    ensures end { FirstEndFaultIsWrong }
+    ensures line { EarliestLineIsFirst }
+{}
+
+/// A plain certificate, of one module that is the whole rectangle, is accepted just where the layout computes the circuit, no run touches
+/// the rim at an odd time, and the stops, delays and meetings are right. So a no on it says that one of these is wrong.
+pub fn plain_certificate_decides()
+    ensures off_rim { AcceptedKeepsOffRim }
+    ensures decides { PlainCertificateDecides }
+    ensures no { PlainNoIsWrong }
+    ensures untimed { UntimedIsOnTime }
 {}
 
 /// Where that is so after the last step, and no job has a fault, the plane looks as the layout asks.

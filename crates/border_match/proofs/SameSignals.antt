@@ -1,13 +1,16 @@
 -- Where a module has no border fault, halo and edge signals are the same
-use Rattle.std.proofs.Common.{◌≡◌, sym, ap, ◌∙◌, inl, inr}
-use Rattle.std.specs.Prelude.{◌≢◌}
+use Rattle.std.proofs.Common.{◌≡◌, ℕ, List, refl, sym, ap, ◌∙◌, inl, inr}
+use Rattle.std.specs.Prelude.{◌≢◌, ℤ}
 use Rattle.std.proofs.lemmas.Bool.{cases_Bool, false≢true}
+use Rattle.circuit.specs.Meaning.{Valuation}
 use Rattle.module_box.specs.Equality.{same_signal}
 use Rattle.module_box.specs.declared.schedules.Signal.{Signal}
 use Rattle.module_box.proofs.EqualTests.{signal_decides}
+use Rattle.certificate_lines.specs.Entries.{Setting, ModuleLines}
 use Rattle.module_job.specs.Signals.{is_live}
-use Rattle.border_match.specs.BorderFaults.{halo_signal, edge_signal}
-use Rattle.border_match.specs.Laws.{NoFaultMeansSameSignals}
+use Rattle.border_match.specs.BorderFaults.{IsBorderFault, halo_signal, edge_signal}
+use Rattle.border_match.specs.Laws.{AreBeside, NoFaultMeansSameSignals}
+use Rattle.border_match.specs.declared.fault.BorderFault.{BorderFault}
 use Rattle.border_match.proofs.Modules.{area_at}
 
 -- signals that do not differ are the same
@@ -17,10 +20,13 @@ not_different a b h = elim (cases_Bool (same_signal a b)) [
   | inr other ↦ absurd (h (λ same. false≢true (sym other ∙ (signal_decides a b).1 same)))
 ]
 
-pub same_signals : NoFaultMeansSameSignals
-same_signals g ms i k m owner t x y v none beside =
+-- a fault at that time is enough
+pub same_at : (g : Setting) (ms : List ModuleLines) (i k : ℕ) (m owner : ModuleLines) (t : ℕ) (x y : ℤ) (v : Valuation) →
+    ((f : BorderFault) → f.time ≡ t → ¬ IsBorderFault g ms i f) → AreBeside g ms i k m owner t x y →
+    is_live v (halo_signal g.circuit m t x y) ≡ is_live v (edge_signal g.circuit owner t x y)
+same_at g ms i k m owner t x y v none beside =
     ap (is_live v) (not_different (halo_signal g.circuit m t x y) (edge_signal g.circuit owner t x y) (λ differ.
-    none (record { time = t; cell = record { x = x; y = y } }) (record {
+    none (record { time = t; cell = record { x = x; y = y } }) refl (record {
       odd = beside.odd;
       early = beside.early;
       inside = beside.tile.inside x y k owner.area (area_at ms k owner beside.owner_numbered) beside.owned;
@@ -33,3 +39,6 @@ same_signals g ms i k m owner t x y v none beside =
       owned = beside.owned;
       differ = differ;
     })))
+
+pub same_signals : NoFaultMeansSameSignals
+same_signals g ms i k m owner t x y v none beside = same_at g ms i k m owner t x y v (λ f at. none f) beside

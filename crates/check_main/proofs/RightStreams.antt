@@ -63,10 +63,14 @@ pub written_right : {E : Type 0} (P : List ℕ → Type 0) → Holds P → (left
 written_right P holds left left' held held' text output outcome read says (Ok o) all front = all_said_right P holds left left' held held' text output outcome read says all
 written_right P holds left left' held held' text output outcome read says (Err e) all front = said_right P holds left left' held held' text output front.taken front.rest outcome read says front.whole front.appended
 
--- and it ended as the report does
+-- and it ended as the report does, of which P is known
+pub outcome_means : {E : Type 0} (P : List ℕ → Type 0) (wanted : Outcome) → ((text output : List ℕ) → IsReportOf text output wanted → P text) → (left left' : Option (List ℕ)) (text output : List ℕ) (outcome : Outcome) →
+    ReadsAll left left' text → IsReportOf text output outcome → (result : Result Outcome E) → result ≡ Ok wanted → IfOk result (λ o. o ≡ outcome) → Gives P left
+outcome_means P wanted holds left left' text output outcome read says (Ok o) is same =
+    let wanted_is : o ≡ wanted = cc in
+    given P left left' text read (holds text output (subst (λ o. IsReportOf text output o) (sym same ∙ wanted_is) says))
+outcome_means P wanted holds left left' text output outcome read says (Err e) is same = absurd cc
+
 pub outcome_right : {E : Type 0} (P : List ℕ → Type 0) → Holds P → (left left' : Option (List ℕ)) (text output : List ℕ) (outcome : Outcome) → ReadsAll left left' text → IsReportOf text output outcome →
     (result : Result Outcome E) → result ≡ Ok Yes → IfOk result (λ o. o ≡ outcome) → Gives P left
-outcome_right P holds left left' text output outcome read says (Ok o) is same =
-    let yes_is : o ≡ Yes = cc in
-    given P left left' text read (holds text output (subst (λ o. IsReportOf text output o) (sym same ∙ yes_is) says))
-outcome_right P holds left left' text output outcome read says (Err e) is same = absurd cc
+outcome_right P holds left left' text output outcome read says result is same = outcome_means P Yes holds left left' text output outcome read says result is same

@@ -5,6 +5,7 @@ ghost use Rattle.command_line.specs.CommandLine.{AsksForHelp, IsAccepted, IsHelp
 ghost use Rattle.check_main.specs.Commands.{IsAnswerTo};
 ghost use Rattle.headline.specs.Headline.{Gives, IsRight, YesMeans};
 ghost use Rattle.headline.specs.Stops.{HasRightStops};
+ghost use Rattle.headline.specs.Plain.{IsWrongIfPlain};
 ghost use Rattle.check_main.specs.Status.{status_for, Says};
 ghost use Rattle.check_main.specs.Stream.{Answers, BreaksOff, GivesTooMuch, Serves};
 
@@ -97,6 +98,10 @@ where
     ensures says_yes_of_stops { IsAccepted (map (λ s. s.now) words.entry.now) → asked_by (map (λ s. s.now) words.entry.now) ≡ Request.Check
         → YesMeans HasRightStops (R.left streams.old.reader) (W.held streams.old.writer) (W.held streams.new.writer) }
 
+    // What a no of `check` means, where the certificate is plain.
+    ensures wrong { asked_by (map (λ s. s.now) words.entry.now) ≡ Request.Check → result ≡ 1
+        → Gives IsWrongIfPlain (R.left streams.old.reader) }
+
     ensures no { result ≡ 1 → Answers (IsAnswerTo (asked_by (map (λ s. s.now) words.entry.now)))
         (R.left streams.old.reader) (R.left streams.new.reader)
         (W.held streams.old.writer) (W.held streams.new.writer) Outcome.No }
@@ -160,6 +165,7 @@ fn serve<T: Threads + Wait + Sync, R: Source, W: Sink, G: Gate + Sync>(
     ensures says_yes { asked.request ≡ Request.Check → YesMeans IsRight (R.left reader.old) (W.held writer.old) (W.held writer.new) }
     ensures stops { asked.request ≡ Request.Check → result ≡ Ok Outcome.Yes → Gives HasRightStops (R.left reader.old) }
     ensures says_yes_of_stops { asked.request ≡ Request.Check → YesMeans HasRightStops (R.left reader.old) (W.held writer.old) (W.held writer.new) }
+    ensures wrong { asked.request ≡ Request.Check → result ≡ Ok Outcome.No → Gives IsWrongIfPlain (R.left reader.old) }
 {
     match asked.request {
         Request::Check => check_stream(rt, alloc, reader, writer, asked.workers, gate),

@@ -4,6 +4,7 @@ ghost use Rattle.std.specs.Io.KnownBytes.{Appends};
 ghost use Rattle.answers.specs.CheckText.{IsReportOf};
 ghost use Rattle.headline.specs.Headline.{Gives, IsRight, YesMeans};
 ghost use Rattle.headline.specs.Stops.{HasRightStops};
+ghost use Rattle.headline.specs.Plain.{IsWrongIfPlain};
 ghost use Rattle.answers.specs.MigrateText.{IsMigrationOf};
 ghost use Rattle.answers.specs.ModulesText.{IsModulesOf};
 ghost use Rattle.answers.specs.RunText.{IsRunOf};
@@ -29,7 +30,8 @@ const BLOCK: usize = 65_536;
 ///
 /// Where it is `Yes`, or `verdict yes` is the fourth line of what was written, the text begins with a circuit and a layout, and the
 /// whole pattern of the layout computes the circuit: `headline/specs/Headline.antt` says what that is. Then it goes on with a certificate
-/// whose stops hold on the whole pattern: `headline/specs/Stops.antt`.
+/// whose stops hold on the whole pattern: `headline/specs/Stops.antt`. Where it is `No`, and the certificate is one plain module, the whole
+/// rectangle, the text is wrong: `headline/specs/Plain.antt`.
 pub fn check_stream<T, R, W, G>(
     rt: &T,
     alloc: Global,
@@ -51,6 +53,7 @@ where
     ensures says_yes { YesMeans IsRight (R.left reader.old) (W.held writer.old) (W.held writer.new) }
     ensures stops { result ≡ Ok Outcome.Yes → Gives HasRightStops (R.left reader.old) }
     ensures says_yes_of_stops { YesMeans HasRightStops (R.left reader.old) (W.held writer.old) (W.held writer.new) }
+    ensures wrong { result ≡ Ok Outcome.No → Gives IsWrongIfPlain (R.left reader.old) }
 {
     let feed = read_text(alloc, reader)?;
     let answered = report_of_text(rt, alloc, feed, workers, gate)?;

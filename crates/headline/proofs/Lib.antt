@@ -8,6 +8,7 @@ mod TimedModules
 mod Trials
 pub mod FourthLines
 pub mod YesIsRight
+pub mod PlainTexts
 pub mod Migrations
 mod FullJobs
 mod AcceptedMigrations

@@ -3,7 +3,7 @@ use Rattle.std.proofs.Common.{◌≡◌, ℕ, zero, suc, ◌<◌, true, false, L
 use Rattle.std.specs.Prelude.{pos, codes, slice_get, IsTrue}
 use Rattle.std.proofs.Math.Logic.{∥∥₁_elim}
 use Rattle.std.proofs.lemmas.Bool.{true≢false}
-use Rattle.std.proofs.lemmas.List.Elements.{All-from_recursion}
+use Rattle.std.proofs.lemmas.List.Elements.{All-cons, All-from_recursion, All-nil}
 use Rattle.bbm_rule.specs.Bits.{bit}
 use Rattle.bbm_rule.specs.declared.block.Cell.{Cell}
 use Rattle.bbm_rule.specs.Spans.{in_span}
@@ -33,13 +33,13 @@ use Rattle.pattern.specs.declared.parts.Port.{Port}
 use Rattle.pattern.specs.declared.parts.Extent.{Extent}
 use Rattle.module_box.specs.Boxes.{in_box, in_halo, in_ring, some_neighbour}
 use Rattle.module_box.specs.LocalValues.{IsLocalValuation}
-use Rattle.module_box.specs.Locals.{AreLocalsOf, LocalNet, circuit_gate, circuit_wire, renumber_gate}
+use Rattle.module_box.specs.Locals.{AreLocalsOf, LocalNet, circuit_gate, circuit_wire, is_among, renumber_gate}
 use Rattle.module_box.specs.Moments.{cell_cmp, moment_cmp}
 use Rattle.module_box.specs.Schedules.{IsRising}
 use Rattle.module_box.specs.declared.schedules.Signal.TheVariants.{Wire}
 use Rattle.module_box.proofs.BoxCells.{same_some}
 use Rattle.certificate_lines.specs.Entries as entries
-use Rattle.certificate_lines.specs.Entries.{ModuleLines, modules_of}
+use Rattle.certificate_lines.specs.Entries.{ModuleLines, keeps, modules_of}
 use Rattle.certificate.specs.Grammars.{CertState, modules_in}
 use Rattle.certificate_lines.specs.Settings.{setting_of}
 use Rattle.certificate_lines.specs.Modules.{AreModules}
@@ -69,7 +69,9 @@ use Rattle.answers.specs.declared.outcome.Outcome.TheVariants.{Yes}
 use Rattle.headline.specs.ThereAndBack.{there_and_back}
 use Rattle.headline.specs.Laws.{ThereAndBackIsAccepted}
 use Rattle.headline.proofs.Trials.{at_every, end_test, every_cell, faultless, no_border_fault, same_demand, same_demand_is, same_signal, same_signal_is}
-use Rattle.headline.proofs.YesIsRight.{certificate_faultless}
+use Rattle.headline.specs.Plain.{ThereAndBackIsPlain}
+use Rattle.audit_core.specs.HeadlineLaws.{IsInputName}
+use Rattle.headline.proofs.YesIsRight.{bundle_good, certificate_faultless}
 
 abbrev at : ℕ → ℕ → Cell
 at x y = record { x = pos x; y = pos y }
@@ -344,3 +346,35 @@ answered read e = subst (λ r. Answered SaysReport r (report_lines certificate v
 
 pub accepted : ThereAndBackIsAccepted
 accepted = (report_lines certificate verdict.Yes, answered (bundle_of there_and_back) (sym reads))
+
+-- ---- its certificate is plain
+
+input_c : IsInputName circuit (codes "c")
+unfolding number place_of
+input_c = record { wire = 0; named = refl; is_given = omega arith }
+
+input_x : IsInputName circuit (codes "x")
+unfolding number place_of
+input_x = record { wire = 1; named = refl; is_given = omega arith }
+
+inverse_kept : (k : ℕ) (g : NetGate) → slice_get (netlist_of circuit).gates k ≡ Some g → IsTrue (is_inverse g.kind) → IsTrue (is_among (keeps only) k)
+unfolding number
+inverse_kept zero g e inverse = absurd (true≢false (sym inverse ∙ subst (λ (g : NetGate). is_inverse g.kind ≡ false) (same_some (slice_get (netlist_of circuit).gates 0) _ g refl e) refl))
+inverse_kept (suc zero) g e inverse = refl
+inverse_kept (suc (suc k)) g e inverse = absurd (let none : ◌≡◌ {A = Option NetGate} (slice_get [] k) (Some g) = e in cc)
+
+pub plain : ThereAndBackIsPlain
+plain = record {
+  circuit = circuit;
+  layout = layout;
+  certificate = bundle.entries;
+  says = (bundle_good there_and_back bundle reads).says_all layout refl;
+  one = only;
+  modules = modules_are;
+  plain = record {
+    box = refl;
+    inputs = All-cons (IsInputName circuit) (codes "c") (codes "x" ∷ []) input_c (All-cons (IsInputName circuit) (codes "x") [] input_x (All-nil (IsInputName circuit)));
+    inverses = inverse_kept;
+    no_edge = refl;
+  };
+}

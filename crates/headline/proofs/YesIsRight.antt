@@ -150,7 +150,7 @@ laid_out ports s before (part ∷ parts) good =
 -- ---- the sections of a bundle
 
 -- the circuit and the layout in their one spelling, and what follows
-record BeginsWith (text : List ℕ) (circuit : List CircuitLine) (p : Pattern) : Type 0 where
+pub record BeginsWith (text : List ℕ) (circuit : List CircuitLine) (p : Pattern) : Type 0 where
   pub rest : List ℕ
   pub begins : text ≡ circuit_text circuit ++ (layout_text p ++ rest)
 
@@ -171,7 +171,7 @@ spelled text circuit ports n p first second =
           ∙ append_assoc (circuit_text circuit) (layout_text p ++ after) (rest_of text) ∙ ap (λ a. circuit_text circuit ++ a) (append_assoc (layout_text p) after (rest_of text));
     }
 
-record IsReadBundle (text : List ℕ) (b : Bundle) : Type 0 where
+pub record IsReadBundle (text : List ℕ) (b : Bundle) : Type 0 where
   pub circuit : AreGood b.circuit
   pub layout : IsFaultless (layout_grammar (Some (port_names_of b.circuit))) b.size b.parts
   pub says : (p : Pattern) → layout_value p ≡ (b.size, b.parts) → SaysDesign text b.circuit p
@@ -194,7 +194,7 @@ is_finished n [] [] value b e = cc
 is_finished n [] (c ∷ rest) value b e = absurd cc
 is_finished n (l ∷ ls) rest value b e = absurd cc
 
-bundle_good : (text : List ℕ) (b : Bundle) → bundle_of text ≡ Ok b → IsReadBundle text b
+pub bundle_good : (text : List ℕ) (b : Bundle) → bundle_of text ≡ Ok b → IsReadBundle text b
 unfolding bundle_of
 bundle_good text b e =
     let c = went_on (section_of circuit_grammar 0 (lines_of text)) _ b e in
@@ -260,7 +260,7 @@ is_yes verdict.Yes e = refl
 is_yes (verdict.No lines) e = absurd cc
 
 -- what is known of the certificate of a report
-known : (text : List ℕ) (b : Bundle) (output : List ℕ) (outcome : Outcome) → bundle_of text ≡ Ok b → (says : SaysReport b output outcome) → IsRead says.certificate says.certificate.layout.size
+pub known : (text : List ℕ) (b : Bundle) (output : List ℕ) (outcome : Outcome) → bundle_of text ≡ Ok b → (says : SaysReport b output outcome) → IsRead says.certificate says.certificate.layout.size
 known text b output outcome reads says =
     let good = bundle_good text b reads in
     let c : CertState = says.certificate in

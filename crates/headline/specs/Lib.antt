@@ -3,5 +3,6 @@ pub mod Headline
 pub mod Stops
 pub mod ThereAndBack
 pub mod TimedModules
+pub mod Plain
 pub mod Laws
 pub mod Migration

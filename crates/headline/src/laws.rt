@@ -1,6 +1,7 @@
 //! Laws of the definitions, each the contract of a function without a body.
 ghost use Rattle.answers.specs.CheckText.{IsReportOf};
 ghost use Rattle.headline.specs.Laws.{FourthLineTells, HasOneAnswer, ReportsOnGoodDesigns, SaysOneCertificate, SaysOneDesign, ThereAndBackIsAccepted, TimedModulesAreAccepted, YesMeansRight, YesMeansRightStops};
+ghost use Rattle.headline.specs.Plain.{PlainIsDecided, PlainNoMeansWrong, ThereAndBackIsPlain, YesKeepsOffRim};
 ghost use Rattle.headline.specs.Migration.{KeepsVersionTwo, MigratesOnce, MigrationIsAccepted, MigrationSaysTheSame};
 ghost use Rattle.answers.specs.MigrateText.{IsMigrationOf};
 ghost use Rattle.answers.specs.ModulesText.{IsModulesOf};
@@ -50,6 +51,15 @@ pub fn yes_means_right()
     ensures told { FourthLineTells }
 {}
 
+/// A text whose certificate is one plain module, the whole rectangle, and for which the report says no is wrong: the layout does not compute
+/// the circuit, or the stops are not right, or the layout touches its rim. No text with a yes touches its rim. So of plain texts that are
+/// not refused `check` decides it.
+pub fn no_means_wrong()
+    ensures no { PlainNoMeansWrong }
+    ensures off_rim { YesKeepsOffRim }
+    ensures decided { PlainIsDecided }
+{}
+
 /// A text begins with one circuit, one layout and one certificate at most. Where it is not refused, each line of the circuit and of
 /// the layout is good after those before it, by names, limits and cells, and is spelled in the one way.
 pub fn says_one_design()
@@ -58,8 +68,10 @@ pub fn says_one_design()
     ensures good { ReportsOnGoodDesigns }
 {}
 
-/// Something is reported with a yes: the text of four modules with a gate, a delay and stops, and that of a switch and its inverse gate.
+/// Something is reported with a yes: the text of four modules with a gate, a delay and stops, and that of a switch and its inverse gate,
+/// whose certificate is plain.
 pub fn something_is_accepted()
     ensures timed { TimedModulesAreAccepted }
     ensures inverse { ThereAndBackIsAccepted }
+    ensures plain { ThereAndBackIsPlain }
 {}

@@ -14,7 +14,7 @@ use Rattle.module_box.specs.Schedules.{is_then}
 use Rattle.module_box.specs.declared.schedules.Moment.{Moment}
 use Rattle.module_box.proofs.Rising.{is_first, moment_total}
 use Rattle.bbm_rule.proofs.SameCells.{cell_same, cell_itself}
-use Rattle.module_job.specs.Jobs.{JobState, IsJob, job_demand, stop_moment}
+use Rattle.module_job.specs.Jobs.{JobState, IsJob, NamesOwnWires, job_demand, stop_moment}
 use Rattle.module_job.specs.Signals.{Meets, IsDemandBelow}
 use Rattle.module_job.specs.declared.job.Demand.{Demand}
 use Rattle.module_job.specs.declared.job.Demand.TheVariants as Demanded
@@ -36,30 +36,30 @@ meets_same n u u' Demanded.Live b same below h = h
 meets_same n u u' (Demanded.Wire w) b same below h = h ∙ same w below
 meets_same n u u' Demanded.Any b same below h = tt
 
-own_stop : (j : JobState) (s : listed.Stop) → IsJob j → Contains j.stops s → s.wire < wires j.locals.netlist
-own_stop j s is h = subst (λ (r : listed.Stop). r.wire < wires j.locals.netlist) h.2 (is.own.stops h.0 s h.1)
+own_stop : (j : JobState) (s : listed.Stop) → NamesOwnWires j → Contains j.stops s → s.wire < wires j.locals.netlist
+own_stop j s own h = subst (λ (r : listed.Stop). r.wire < wires j.locals.netlist) h.2 (own.stops h.0 s h.1)
 
-fault_same : (j : JobState) (u u' : Valuation) (t : ℕ) (kind : Kind) (x y : ℤ) → IsJob j → AgreeBelow (wires j.locals.netlist) u u' →
+pub fault_same : (j : JobState) (u u' : Valuation) (t : ℕ) (kind : Kind) (x y : ℤ) → NamesOwnWires j → AgreeBelow (wires j.locals.netlist) u u' →
     IsFaultUnder j u t kind x y → IsFaultUnder j u' t kind x y
-fault_same j u u' t Edge x y is same f = record {
+fault_same j u u' t Edge x y own same f = record {
   odd = f.odd;
   early = f.early;
   ring = f.ring;
-  differs = λ e. f.differs (run_same j u u' t is.own same x y ∙ e ∙ sym (live_same (wires j.locals.netlist) u u' _ same (edge_below j t x y is.own)));
+  differs = λ e. f.differs (run_same j u u' t own same x y ∙ e ∙ sym (live_same (wires j.locals.netlist) u u' _ same (edge_below j t x y own)));
 }
-fault_same j u u' t Stop x y is same f = record {
+fault_same j u u' t Stop x y own same f = record {
   stop = f.stop;
   is_listed = f.is_listed;
   time = f.time;
   column = f.column;
   row = f.row;
-  differs = λ e. f.differs (run_same j u u' t is.own same x y ∙ e ∙ sym (same f.stop.wire (own_stop j f.stop is f.is_listed)));
+  differs = λ e. f.differs (run_same j u u' t own same x y ∙ e ∙ sym (same f.stop.wire (own_stop j f.stop own f.is_listed)));
 }
-fault_same j u u' t End x y is same f = record {
+fault_same j u u' t End x y own same f = record {
   last = f.last;
   inside = f.inside;
-  differs = λ m. f.differs (meets_same (wires j.locals.netlist) u' u (job_demand j x y) _ (λ w l. sym (same w l)) (demand_below j x y is.own)
-      (subst (Meets u' (job_demand j x y)) (sym (run_same j u u' t is.own same x y)) m));
+  differs = λ m. f.differs (meets_same (wires j.locals.netlist) u' u (job_demand j x y) _ (λ w l. sym (same w l)) (demand_below j x y own)
+      (subst (Meets u' (job_demand j x y)) (sym (run_same j u u' t own same x y)) m));
 }
 
 -- ---- so any local valuation tells
@@ -133,7 +133,7 @@ told j u t End x y is some = ∥∥₁_elim some (Prim.hlevel props) (λ f. f)
 moved : (j : JobState) (f : Fault) (u : Valuation) → IsJob j → AreOrdered j.locals.netlist.given j.locals.netlist.gates → IsLocalValuation j.locals f.assignment u →
     HasFault j f → IsFaultUnder j u f.time f.kind f.cell.x f.cell.y
 moved j f u is ordered local h =
-    fault_same j h.values u f.time f.kind f.cell.x f.cell.y is (λ w l. at_most_one j.locals.netlist _ h.values u ordered h.local local w l) h.differs
+    fault_same j h.values u f.time f.kind f.cell.x f.cell.y is.own (λ w l. at_most_one j.locals.netlist _ h.values u ordered h.local local w l) h.differs
 
 pub decided : FaultsAreDecided
 decided j f u is ordered small local = (

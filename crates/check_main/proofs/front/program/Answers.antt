@@ -1,10 +1,15 @@
 -- Words in which nothing is wrong are not taken only where memory ran out, and then nothing is written.
-use Rattle.std.proofs.Common.{◌≡◌, [], ap, arith, subst, inl, inr}
+use Rattle.std.proofs.Common.{◌≡◌, ◌∙◌, [], Result, Ok, Err, ap, arith, refl, subst, sym, inl, inr}
 use Rattle.clap.specs.Words.{HasKind, IsAmong, Kinds, kind_of}
 use Rattle.clap.specs.declared.error.Error.{Error}
 use Rattle.clap.specs.declared.error.kind.ErrorKind.TheVariants.{OutOfMemory}
 use Rattle.headline.specs.Headline.{IsRight}
 use Rattle.headline.specs.Stops.{HasRightStops}
+use Rattle.answers.specs.declared.outcome.Outcome.{Outcome}
+use Rattle.answers.specs.declared.outcome.Outcome.TheVariants.{Yes, No, Refused}
+use Rattle.check_main.specs.Status.{status_for}
+use Rattle.check_main.specs.declared.fault.CheckFault.{CheckFault}
+use Rattle.check_main.specs.declared.fault.CheckFault.TheVariants.{Read, Write, TooLong, Memory}
 use Rattle.check_main.proofs.RightStreams.{nothing_said}
 use Rattle.check_main.proofs.front.program.Goals as goal
 
@@ -29,3 +34,17 @@ returns-in-Err-clause-says_yes_of_stops g c accepted check =
     let memory = of_memory _ c.in-Err.error accepted c.in-Err.ensures.fails in
     let same = (c.explain.ensures.not_decided (c.explain.ensures.memory memory)).0 in
     nothing_said HasRightStops (g.R.Source.left c.args.streams.now.reader) (g.W.Sink.held c.args.streams.now.writer) (g.W.Sink.held c.explain.new.writer) (ap g.W.Sink.held same)
+
+-- only a no has the status 1
+no_of : (ended : Result Outcome CheckFault) → status_for ended ≡ 1 → ended ≡ Ok No
+no_of (Ok Yes) e = absurd (omega (arith, e))
+no_of (Ok No) e = refl
+no_of (Ok Refused) e = absurd (omega (arith, e))
+no_of (Err Read) e = absurd (omega (arith, e))
+no_of (Err Write) e = absurd (omega (arith, e))
+no_of (Err TooLong) e = absurd (omega (arith, e))
+no_of (Err Memory) e = absurd (omega (arith, e))
+
+pub returns-in-Ok-clause-wrong : goal.returns-in-Ok-clause-wrong
+returns-in-Ok-clause-wrong g c check one =
+    c.serve-ended.ensures.wrong (c.in-Ok.ensures.request ∙ check) (no_of c.serve-ended.result (sym c.status_of.ensures.status ∙ one))

@@ -7,3 +7,6 @@ returns-clause-timed c = timed.accepted
 
 pub returns-clause-inverse : goal.returns-clause-inverse
 returns-clause-inverse c = inverse.accepted
+
+pub returns-clause-plain : goal.returns-clause-plain
+returns-clause-plain c = inverse.plain

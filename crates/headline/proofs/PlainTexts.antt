@@ -1,0 +1,181 @@
+-- What is reported on a plain text
+use Rattle.std.proofs.Common.{◌≡◌, ℕ, List, [], ◌∷◌, map, Result, Ok, Err, Vec, Global, refl, sym, ap, subst, ◌∙◌, inl, inr}
+use Rattle.std.specs.List.{All, flat_map}
+use Rattle.std.proofs.lemmas.Bool.{cases_Bool}
+use Rattle.section_text.specs.declared.fault.Refusal.{Refusal}
+use Rattle.circuit.specs.Bridge.{circuit_of}
+use Rattle.circuit.specs.declared.entry.Entry.{Entry as CircuitLine}
+use Rattle.pattern.specs.Layout.{Pattern}
+use Rattle.module_box.specs.Locals.{is_among}
+use Rattle.certificate_lines.specs.Entries.{ModuleLines, Setting, cut_in, edge_in, keep_in, modules_of, stop_in}
+use Rattle.certificate_lines.specs.Settings.{setting_of}
+use Rattle.certificate_lines.specs.Versions.{beside, in_order, is_haloless, meant, with_halos}
+use Rattle.certificate_lines.specs.declared.entry.Entry.{Entry}
+use Rattle.certificate.specs.Arrivals.{AreOnTime}
+use Rattle.certificate.specs.Grammars.{CertState, modules_in}
+use Rattle.certificate.specs.Times.{all_stops}
+use Rattle.certificate.proofs.FullModules.{meant_new, meant_old, other_lines}
+use Rattle.certificate.proofs.MeantLines.{stops_meant}
+use Rattle.certificate.proofs.TimeLemmas.{all_in_modules}
+use Rattle.audit_core.specs.HeadlineLaws.{BelongTogether, HasInputNames, IsInputName}
+use Rattle.audit_core.specs.Implements.{IsCorrect}
+use Rattle.audit_core.specs.Noes.{IsPlain, IsWrong, TouchesRim}
+use Rattle.audit_core.specs.OnTime.{IsOnTime, StopHolds}
+use Rattle.audit_core.specs.Verdicts.{Accepts, IsVerdict}
+use Rattle.audit_core.specs.declared.verdict.ReportLine.{ReportLine}
+use Rattle.audit_core.specs.declared.verdict.Verdict.{Verdict}
+use Rattle.audit_core.specs.declared.verdict.Verdict.TheVariants as verdict
+use Rattle.audit_core.proofs.InputRuns.{read_layout-names}
+use Rattle.audit_core.proofs.PlainCertificates.{plain_no}
+use Rattle.audit_core.proofs.WholeRuns.{off_rim}
+use Rattle.audit_core.proofs.YesMeansCorrect.{IsRead, bundle_read}
+use Rattle.answers.specs.Answers.{Answered}
+use Rattle.answers.specs.BundleText.{Bundle, bundle_of}
+use Rattle.answers.specs.CheckText.{SaysReport, verdict_outcome}
+use Rattle.answers.specs.declared.outcome.Outcome.{Outcome}
+use Rattle.answers.specs.declared.outcome.Outcome.TheVariants.{Yes, No, Refused}
+use Rattle.headline.specs.Design.{SaysDesign}
+use Rattle.headline.specs.Headline.{IsRight}
+use Rattle.headline.specs.Plain.{HasRimTouch, IsWrongIfPlain, IsWrongText, PlainIsDecided, PlainNoMeansWrong, SaysPlain, YesKeepsOffRim}
+use Rattle.headline.specs.Stops.{HasRightStops, SaysBundle}
+use Rattle.headline.proofs.Designs.{one_certificate, one_design}
+use Rattle.headline.proofs.YesIsRight.{bundle_good, by_outcome, certificate_faultless, known, yes_has_right_stops, yes_is_right}
+
+-- ---- a plain module is plain in either version
+
+full_plain : (g : Setting) (ms : List ModuleLines) (lines : List CircuitLine) (p : Pattern) (m : ModuleLines) → IsPlain lines p m → IsPlain lines p (with_halos g ms m)
+unfolding with_halos
+full_plain g ms lines p m plain = record {
+  box = plain.box;
+  inputs = subst (All (IsInputName lines)) (sym (other_lines cut_in (record { halo = λ e. refl; stop = λ s. refl }) m.lines (in_order (beside g ms m.area)))) plain.inputs;
+  inverses = λ n gate at inverse. ap (λ ks. is_among ks n) (other_lines keep_in (record { halo = λ e. refl; stop = λ s. refl }) m.lines (in_order (beside g ms m.area))) ∙ plain.inverses n gate at inverse;
+  no_edge = other_lines edge_in (record { halo = λ e. refl; stop = λ s. refl }) m.lines (in_order (beside g ms m.area)) ∙ plain.no_edge;
+}
+
+-- the one module that the lines mean
+record MeansPlain (version : ℕ) (g : Setting) (ms : List ModuleLines) (lines : List CircuitLine) (p : Pattern) : Type 0 where
+  one : ModuleLines
+  alone : meant version g ms ≡ one ∷ []
+  plain : IsPlain lines p one
+
+means_plain : (version : ℕ) (g : Setting) (ms : List ModuleLines) (lines : List CircuitLine) (p : Pattern) (m : ModuleLines) → ms ≡ m ∷ [] → IsPlain lines p m → MeansPlain version g ms lines p
+means_plain version g ms lines p m is plain = elim (cases_Bool (is_haloless version)) [
+  | inl new ↦ record { one = with_halos g ms m; alone = meant_new version g ms new ∙ ap (map (with_halos g ms)) is; plain = full_plain g ms lines p m plain }
+  | inr old ↦ record { one = m; alone = meant_old version g ms old ∙ is; plain = plain }
+]
+
+-- ---- a report of a bundle
+
+record IsNo (v : Verdict) : Type 0 where
+  lines : Vec ReportLine Global
+  is : v ≡ verdict.No lines
+
+is_no : (v : Verdict) → No ≡ verdict_outcome v → IsNo v
+is_no verdict.Yes e = absurd cc
+is_no (verdict.No lines) e = record { lines = lines; is = refl }
+
+module _ (text : List ℕ) (b : Bundle) (output : List ℕ) (outcome : Outcome) (reads : bundle_of text ≡ Ok b) (says : SaysReport b output outcome) where
+  abbrev c : CertState
+  c = says.certificate
+
+  read : IsRead c c.layout.size
+  read = known text b output outcome reads says
+
+  together : BelongTogether c.circuit c.layout (modules_in c) says.is_verdict.jobs
+  together = bundle_read c c.layout.size says.is_verdict.jobs read says.is_verdict.are_jobs
+
+  named : HasInputNames c.circuit c.layout
+  named = read_layout-names c.circuit c.layout read.inputs read.named
+
+  -- the text says the circuit and the layout of the certificate
+  said : SaysBundle text c.circuit c.layout b.entries
+  said = subst (λ cs. SaysBundle text cs c.layout b.entries) (sym says.its_own.circuit) ((bundle_good text b reads).says_all c.layout says.its_own.layout)
+
+  same_design : (circuit : List CircuitLine) (layout : Pattern) → SaysDesign text circuit layout → (circuit ≡ c.circuit) × (layout ≡ c.layout)
+  same_design circuit layout d = one_design text circuit c.circuit layout c.layout d said.design
+
+  right_correct : IsRight text → IsCorrect c.circuit c.layout
+  right_correct r =
+      let same = same_design r.circuit r.layout r.says in
+      subst (λ cs. IsCorrect cs c.layout) same.0 (subst (λ p. IsCorrect r.circuit p) same.1 r.correct)
+
+  touch_of : HasRimTouch text → TouchesRim c.circuit c.layout
+  touch_of r =
+      let same = same_design r.circuit r.layout r.says in
+      subst (λ cs. TouchesRim cs c.layout) same.0 (subst (λ p. TouchesRim r.circuit p) same.1 r.touches)
+
+  own_stops : all_stops (modules_in c) ≡ flat_map stop_in b.entries
+  own_stops =
+      stops_meant c.version (setting_of c.circuit c.layout) (modules_of c.entries) ∙ ap (λ (es : List Entry). all_stops (modules_of es)) says.its_own.entries
+      ∙ all_in_modules (setting_of b.circuit c.layout) b.version b.entries (certificate_faultless text b c.layout reads says.its_own.layout)
+
+  stops_on_time : HasRightStops text → IsOnTime (circuit_of c.circuit) c.layout (modules_in c)
+  stops_on_time r =
+      let same = same_design r.circuit r.layout r.says.design in
+      let lines : r.certificate ≡ b.entries = one_certificate text r.circuit c.circuit r.layout c.layout r.certificate b.entries r.says said in
+      let ss : flat_map stop_in r.certificate ≡ all_stops (modules_in c) = ap (flat_map stop_in) lines ∙ sym own_stops in
+      record {
+        stops = subst (All (StopHolds (circuit_of c.circuit) c.layout)) ss
+            (subst (λ cs. All (StopHolds (circuit_of cs) c.layout) (flat_map stop_in r.certificate)) same.0
+            (subst (λ p. All (StopHolds (circuit_of r.circuit) p) (flat_map stop_in r.certificate)) same.1 r.stops));
+        times = subst (AreOnTime (circuit_of c.circuit)) ss (subst (λ cs. AreOnTime (circuit_of cs) (flat_map stop_in r.certificate)) same.0 r.on_time);
+      }
+
+  -- ---- a yes
+
+  accepts : says.verdict ≡ verdict.Yes → Accepts (setting_of c.circuit c.layout) (modules_in c) says.is_verdict.jobs
+  unfolding IsVerdict
+  accepts is = subst (λ v. IsVerdict (setting_of c.circuit c.layout) (modules_in c) says.is_verdict.jobs v) is says.is_verdict.judged
+
+  no_touch : says.verdict ≡ verdict.Yes → ¬ HasRimTouch text
+  no_touch is r = off_rim c.circuit c.layout (modules_in c) says.is_verdict.jobs named together (accepts is) (touch_of r)
+
+  -- ---- a no
+
+  wrong_text : (m : ModuleLines) → modules_in c ≡ m ∷ [] → IsWrong c.circuit c.layout m → IsWrongText text
+  wrong_text m alone (inl incorrect) = inl (λ r. incorrect (right_correct r))
+  wrong_text m alone (inr (inl late)) = inr (inl (λ r. late (subst (IsOnTime (circuit_of c.circuit) c.layout) alone (stops_on_time r))))
+  wrong_text m alone (inr (inr touch)) = inr (inr (record { circuit = c.circuit; layout = c.layout; says = said.design; touches = touch }))
+
+  its_plain : SaysPlain text → MeansPlain c.version (setting_of c.circuit c.layout) (modules_of c.entries) c.circuit c.layout
+  its_plain r =
+      let same = same_design r.circuit r.layout r.says.design in
+      let lines : r.certificate ≡ b.entries = one_certificate text r.circuit c.circuit r.layout c.layout r.certificate b.entries r.says said in
+      means_plain c.version (setting_of c.circuit c.layout) (modules_of c.entries) c.circuit c.layout r.one
+      (ap modules_of (says.its_own.entries ∙ sym lines) ∙ r.modules)
+      (subst (λ cs. IsPlain cs c.layout r.one) same.0 (subst (λ p. IsPlain r.circuit p r.one) same.1 r.plain))
+
+  wrong : No ≡ outcome → IsWrongIfPlain text
+  wrong is r =
+      let no = is_no says.verdict (is ∙ says.ends) in
+      let it = its_plain r in
+      let jobs = says.is_verdict.jobs in
+      let g = setting_of c.circuit c.layout in
+      wrong_text it.one it.alone (plain_no c.circuit c.layout it.one jobs no.lines named
+      (subst (λ ms. BelongTogether c.circuit c.layout ms jobs) it.alone together) it.plain
+      (subst (λ ms. IsVerdict g ms jobs (verdict.No no.lines)) it.alone (subst (λ v. IsVerdict g (modules_in c) jobs v) no.is says.is_verdict.judged)))
+
+-- ---- of texts
+
+not_refused : No ≡ Refused → ⊥
+not_refused e = cc
+
+by_read : (text output : List ℕ) (read : Result Bundle Refusal) → bundle_of text ≡ read → Answered SaysReport read output No → IsWrongIfPlain text
+by_read text output (Ok b) e says = wrong text b output No e says refl
+by_read text output (Err refusal) e told = absurd (not_refused told.1)
+
+pub no_is_wrong : PlainNoMeansWrong
+no_is_wrong text output says = by_read text output (bundle_of text) refl says
+
+pub yes_off_rim : YesKeepsOffRim
+yes_off_rim text output says = by_outcome (¬ HasRimTouch text) text output (λ b e says is. no_touch text b output Yes e says is) (bundle_of text) refl says
+
+contradicts : (text : List ℕ) → IsWrongText text → IsRight text → HasRightStops text → ¬ HasRimTouch text → ⊥
+contradicts text (inl incorrect) right stops off = incorrect right
+contradicts text (inr (inl late)) right stops off = late stops
+contradicts text (inr (inr touch)) right stops off = off touch
+
+pub plain_is_decided : PlainIsDecided
+plain_is_decided text output Yes plain says some = ((λ e. (yes_is_right text output says, yes_has_right_stops text output says, yes_off_rim text output says)), (λ is. refl))
+plain_is_decided text output No plain says some = ((λ e. absurd cc), (λ is. absurd (contradicts text (no_is_wrong text output says plain) is.0 is.1 is.2)))
+plain_is_decided text output Refused plain says some = absurd (some refl)

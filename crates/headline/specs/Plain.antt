@@ -1,0 +1,61 @@
+-- What a no of `check` means of a plain text: one module that is the whole rectangle. Of other texts a no says nothing.
+--
+-- Read before: all that Headline.antt and Stops.antt name; certificate_lines/specs/Entries.antt up to `keep_in` (the lines of a module);
+-- audit_core/specs/Noes.antt from `IsPlain` to `TouchesRim`.
+use Rattle.std.specs.Prelude.{◌≡◌, ◌≢◌, ◌↔◌, ◌⊎◌, ℕ, List, [], ◌∷◌}
+use Rattle.circuit.specs.declared.entry.Entry.{Entry as CircuitLine}
+use Rattle.pattern.specs.Layout.{Pattern}
+use Rattle.certificate_lines.specs.Entries.{ModuleLines, modules_of}
+use Rattle.certificate_lines.specs.declared.entry.Entry.{Entry}
+use Rattle.audit_core.specs.Noes.{IsPlain, TouchesRim}
+use Rattle.answers.specs.CheckText.{IsReportOf}
+use Rattle.answers.specs.declared.outcome.Outcome.{Outcome}
+use Rattle.answers.specs.declared.outcome.Outcome.TheVariants.{Yes, No, Refused}
+use Rattle.headline.specs.Design.{SaysDesign}
+use Rattle.headline.specs.Headline.{IsRight}
+use Rattle.headline.specs.Stops.{HasRightStops, SaysBundle}
+use Rattle.headline.specs.ThereAndBack.{there_and_back}
+
+-- The text says a circuit, a layout and the lines of a certificate, which make one module, and the module is plain.
+pub record SaysPlain (text : List ℕ) : Type 0 where
+  pub circuit : List CircuitLine
+  pub layout : Pattern
+  pub certificate : List Entry
+  pub says : SaysBundle text circuit layout certificate
+  pub one : ModuleLines
+  pub modules : modules_of certificate ≡ one ∷ []
+  pub plain : IsPlain circuit layout one
+
+-- the text says a circuit and then a layout that touches its rim
+pub record HasRimTouch (text : List ℕ) : Type 0 where
+  pub circuit : List CircuitLine
+  pub layout : Pattern
+  pub says : SaysDesign text circuit layout
+  pub touches : TouchesRim circuit layout
+
+-- the layout does not compute the circuit, or the stops are not right, or the layout touches its rim
+abbrev pub IsWrongText : List ℕ → Type 0
+IsWrongText text = (¬ IsRight text) ⊎ ((¬ HasRightStops text) ⊎ HasRimTouch text)
+
+-- if the text is plain, it is wrong
+abbrev pub IsWrongIfPlain : List ℕ → Type 0
+IsWrongIfPlain text = SaysPlain text → IsWrongText text
+
+-- ---- laws
+
+-- so is what is reported with the outcome no
+abbrev pub PlainNoMeansWrong : Type 0
+PlainNoMeansWrong = (text output : List ℕ) → IsReportOf text output No → IsWrongIfPlain text
+
+-- what is reported with the outcome yes keeps off its rim, plain or not
+abbrev pub YesKeepsOffRim : Type 0
+YesKeepsOffRim = (text output : List ℕ) → IsReportOf text output Yes → ¬ HasRimTouch text
+
+-- so of a plain text that is not refused `check` decides whether it is right, has right stops and keeps off its rim
+abbrev pub PlainIsDecided : Type 0
+PlainIsDecided = (text output : List ℕ) (outcome : Outcome) → SaysPlain text → IsReportOf text output outcome → outcome ≢ Refused →
+    (outcome ≡ Yes) ↔ (IsRight text × HasRightStops text × ¬ HasRimTouch text)
+
+-- Some plain text is reported with the outcome yes (`ThereAndBackIsAccepted`), so the laws are not about nothing.
+abbrev pub ThereAndBackIsPlain : Type 0
+ThereAndBackIsPlain = SaysPlain there_and_back
