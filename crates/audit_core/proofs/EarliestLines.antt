@@ -1,5 +1,6 @@
 -- The earliest line of a report is the first fault
-use Rattle.std.proofs.Common.{◌≡◌, ◌≢◌, ℕ, zero, suc, ◌+◌, ◌<◌, ◌≤◌, ◌++◌, List, [], ◌∷◌, map, length, Option, Some, None, refl, sym, ap, subst, ◌∙◌, inl, inr, arith}
+use Rattle.std.proofs.Common.{◌≡◌, ◌≢◌, ℕ, zero, suc, ◌+◌, ◌<◌, ◌≤◌, ◌++◌, List, [], ◌∷◌, map, length, Option, Some}
+use Rattle.std.proofs.Common.{None, refl, sym, ap, subst, ◌∙◌, inl, inr, arith}
 use Rattle.std.specs.Prelude.{Contains, slice_get}
 use Rattle.std.specs.Option.{option_map, option_to_list}
 use Rattle.std.specs.Ordering.{ordering_then}
@@ -20,8 +21,9 @@ use Rattle.local_run.specs.declared.fault.Fault.{Fault}
 use Rattle.border_match.specs.BorderFaults.{IsBorderFault, IsLeastBorderFault, border_cmp}
 use Rattle.border_match.specs.declared.fault.BorderFault.{BorderFault}
 use Rattle.border_match.proofs.Modules.{there}
-use Rattle.audit_core.specs.Noes.{EarliestLineIsFirst}
-use Rattle.audit_core.specs.Verdicts.{AreReportLines, IsToldOf, IsVerdict, border_line, keep_line, lines_from, local_line, timing, unkept_lines}
+use Rattle.audit_core.specs.FirstFaults.{EarliestLineIsFirst}
+use Rattle.audit_core.specs.Verdicts.{AreReportLines, IsToldOf, IsVerdict, border_line, keep_line, lines_from}
+use Rattle.audit_core.specs.Verdicts.{local_line, timing, unkept_lines}
 use Rattle.audit_core.specs.declared.verdict.Reasons.{Reasons}
 use Rattle.audit_core.specs.declared.verdict.ReportLine.{ReportLine}
 use Rattle.audit_core.specs.declared.verdict.ReportLine.TheVariants.{Local, Keep, Border, Unkept, Delay, Meet}
@@ -47,11 +49,13 @@ not_mapped f [] y never h = nothing_in y h
 not_mapped f (x ∷ xs) y never (zero, lt, e) = never x e
 not_mapped f (x ∷ xs) y never (suc k, lt, e) = not_mapped f xs y never (k, (omega (arith, lt)), e)
 
-not_optional : {X Y : Type 0} (f : X → Y) (o : Option X) (y : Y) → ((x : X) → ¬ (f x ≡ y)) → ¬ Contains (option_to_list (option_map f o)) y
+not_optional : {X Y : Type 0} (f : X → Y) (o : Option X) (y : Y) → ((x : X) → ¬ (f x ≡ y)) →
+    ¬ Contains (option_to_list (option_map f o)) y
 not_optional f None y never h = nothing_in y h
 not_optional f (Some x) y never h = never x (one_is (f x) y h)
 
-optional_there : {X Y : Type 0} (f : X → Y) (o : Option X) (x : X) → o ≡ Some x → Contains (option_to_list (option_map f o)) (f x)
+optional_there : {X Y : Type 0} (f : X → Y) (o : Option X) (x : X) → o ≡ Some x →
+    Contains (option_to_list (option_map f o)) (f x)
 optional_there f None x e = absurd cc
 optional_there f (Some z) x e = subst (λ z. Contains (f z ∷ []) (f x)) (sym (same_Some z x e)) (at_head (f x) [])
 
@@ -79,14 +83,16 @@ record IsFrom (number i : ℕ) (f : Fault) (fs : List Reasons) : Type 0 where
   numbered : i ≡ number + place
   fault : reasons.fault ≡ Some f
 
-own_line : (number i : ℕ) (f : Fault) (o : Option Fault) → Contains (option_to_list (local_line number o)) (Local i f) → (number ≡ i) × (o ≡ Some f)
+own_line : (number i : ℕ) (f : Fault) (o : Option Fault) → Contains (option_to_list (local_line number o)) (Local i f) →
+    (number ≡ i) × (o ≡ Some f)
 unfolding local_number local_fault
 own_line number i f None h = absurd (nothing_in (Local i f) h)
 own_line number i f (Some g) h =
     let e = one_is (Local number g) (Local i f) h in
     (ap local_number e, ap Some (ap (local_fault f) e))
 
-from_line : (number i : ℕ) (f : Fault) (fs : List Reasons) (bs : List (Option BorderFault)) → Contains (lines_from number fs bs) (Local i f) → IsFrom number i f fs
+from_line : (number i : ℕ) (f : Fault) (fs : List Reasons) (bs : List (Option BorderFault)) →
+    Contains (lines_from number fs bs) (Local i f) → IsFrom number i f fs
 unfolding lines_from
 from_line number i f [] bs h = absurd (nothing_in (Local i f) h)
 from_line number i f (g ∷ fs) [] h = absurd (nothing_in (Local i f) h)
@@ -97,7 +103,8 @@ from_line number i f (g ∷ fs) (b ∷ bs) h =
     elim (Contains-append_cases (A ++ B ++ C) (lines_from (number + 1) fs bs) (Local i f) h) [
       | inl here ↦ elim (Contains-append_cases (A ++ B) C (Local i f) here) [
         | inl two ↦ elim (Contains-append_cases A B (Local i f) two) [
-          | inl first ↦ let own = own_line number i f g.fault first in let n = own.0 in record { place = 0; reasons = g; listed = refl; numbered = omega (arith, n); fault = own.1 }
+          | inl first ↦ let own = own_line number i f g.fault first in let n = own.0 in
+              record { place = 0; reasons = g; listed = refl; numbered = omega (arith, n); fault = own.1 }
           | inr second ↦ absurd (not_optional (λ f. Keep number f) g.keep (Local i f) (λ x e. cc) second)
         ]
         | inr third ↦ absurd (not_optional (λ f. Border number f) b (Local i f) (λ x e. cc) third)
@@ -105,10 +112,12 @@ from_line number i f (g ∷ fs) (b ∷ bs) h =
       | inr later ↦
           let r : IsFrom (number + 1) i f fs = from_line (number + 1) i f fs bs later in
           let n = r.numbered in
-          record { place = suc r.place; reasons = r.reasons; listed = r.listed; numbered = omega (arith, n); fault = r.fault }
+          record { place = suc r.place; reasons = r.reasons; listed = r.listed; numbered = omega (arith, n);
+              fault = r.fault }
     ]
 
-lists_local : (number k : ℕ) (fs : List Reasons) (bs : List (Option BorderFault)) (r : Reasons) (f : Fault) → slice_get fs k ≡ Some r → k < length bs → r.fault ≡ Some f →
+lists_local : (number k : ℕ) (fs : List Reasons) (bs : List (Option BorderFault)) (r : Reasons) (f : Fault) →
+    slice_get fs k ≡ Some r → k < length bs → r.fault ≡ Some f →
     Contains (lines_from number fs bs) (Local (number + k) f)
 unfolding lines_from
 lists_local number k [] bs r f at lt is = absurd cc
@@ -118,16 +127,19 @@ lists_local number zero (g ∷ fs) (b ∷ bs) r f at lt is =
     let A = option_to_list (local_line number g.fault) in
     let B = option_to_list (keep_line number g.keep) in
     let C = option_to_list (border_line number b) in
-    Contains-append_left (A ++ B ++ C) _ (Local (number + 0) f) (Contains-append_left (A ++ B) C _ (Contains-append_left A B _
+    Contains-append_left (A ++ B ++ C) _ (Local (number + 0) f) (Contains-append_left (A ++ B) C _
+        (Contains-append_left A B _
     (subst (λ n. Contains A (Local n f)) (omega arith) (optional_there (λ f. Local number f) g.fault f own))))
 lists_local number (suc k) (g ∷ fs) (b ∷ bs) r f at lt is =
     let A = option_to_list (local_line number g.fault) in
     let B = option_to_list (keep_line number g.keep) in
     let C = option_to_list (border_line number b) in
     Contains-append_right (A ++ B ++ C) (lines_from (number + 1) fs bs) (Local (number + suc k) f)
-    (subst (λ n. Contains (lines_from (number + 1) fs bs) (Local n f)) (omega arith) (lists_local (number + 1) k fs bs r f at (omega (arith, lt)) is))
+    (subst (λ n. Contains (lines_from (number + 1) fs bs) (Local n f)) (omega arith)
+        (lists_local (number + 1) k fs bs r f at (omega (arith, lt)) is))
 
-lists_border : (number k : ℕ) (fs : List Reasons) (bs : List (Option BorderFault)) (f : BorderFault) → slice_get bs k ≡ Some (Some f) → k < length fs →
+lists_border : (number k : ℕ) (fs : List Reasons) (bs : List (Option BorderFault)) (f : BorderFault) →
+    slice_get bs k ≡ Some (Some f) → k < length fs →
     Contains (lines_from number fs bs) (Border (number + k) f)
 unfolding lines_from
 lists_border number k [] bs f at lt = absurd (omega (arith, lt))
@@ -144,7 +156,8 @@ lists_border number (suc k) (g ∷ fs) (b ∷ bs) f at lt =
     let B = option_to_list (keep_line number g.keep) in
     let C = option_to_list (border_line number b) in
     Contains-append_right (A ++ B ++ C) (lines_from (number + 1) fs bs) (Border (number + suc k) f)
-    (subst (λ n. Contains (lines_from (number + 1) fs bs) (Border n f)) (omega arith) (lists_border (number + 1) k fs bs f at (omega (arith, lt))))
+    (subst (λ n. Contains (lines_from (number + 1) fs bs) (Border n f)) (omega arith)
+        (lists_border (number + 1) k fs bs f at (omega (arith, lt))))
 
 not_timing : (i : ℕ) (f : Fault) (l : TimeLine) → ¬ (timing l ≡ Local i f)
 not_timing i f (times.Delay k n gap) e = cc
@@ -170,19 +183,23 @@ no_later_border f g least = by_lt (λ lt. least (border_greater f g lt))
 
 -- ---- the report
 
-module _ (g : Setting) (ms : List ModuleLines) (jobs : List JobState) (report : List ReportLine) (are : AreReportLines g ms jobs report) (count : length jobs ≡ length ms) where
+module _ (g : Setting) (ms : List ModuleLines) (jobs : List JobState) (report : List ReportLine)
+    (are : AreReportLines g ms jobs report) (count : length jobs ≡ length ms) where
   same_count : length are.faults ≡ length are.borders
   same_count = are.are_least.count ∙ count ∙ sym are.are_border_faults.count
 
   has_line : (l : ReportLine) → Contains (lines_from 0 are.faults are.borders) l → Contains report l
   has_line l h =
       subst (λ ls. Contains ls l) (sym are.lines_are)
-      (Contains-append_left (lines_from 0 are.faults are.borders ++ unkept_lines g ms) _ l (Contains-append_left (lines_from 0 are.faults are.borders) (unkept_lines g ms) l h))
+      (Contains-append_left (lines_from 0 are.faults are.borders ++ unkept_lines g ms) _ l
+          (Contains-append_left (lines_from 0 are.faults are.borders) (unkept_lines g ms) l h))
 
   local_is : (i : ℕ) (f : Fault) → Contains report (Local i f) → IsFrom 0 i f are.faults
   local_is i f h =
-      elim (Contains-append_cases (lines_from 0 are.faults are.borders ++ unkept_lines g ms) (map timing (time_lines g.circuit ms)) (Local i f) (subst (λ ls. Contains ls (Local i f)) are.lines_are h)) [
-        | inl front ↦ elim (Contains-append_cases (lines_from 0 are.faults are.borders) (unkept_lines g ms) (Local i f) front) [
+      elim (Contains-append_cases (lines_from 0 are.faults are.borders ++ unkept_lines g ms)
+          (map timing (time_lines g.circuit ms)) (Local i f) (subst (λ ls. Contains ls (Local i f)) are.lines_are h)) [
+        | inl front ↦ elim (Contains-append_cases (lines_from 0 are.faults are.borders) (unkept_lines g ms)
+            (Local i f) front) [
           | inl own ↦ from_line 0 i f are.faults are.borders own
           | inr other ↦ absurd (not_mapped (λ n. Unkept n) (unkept g ms) (Local i f) (λ x e. cc) other)
         ]
@@ -193,26 +210,33 @@ module _ (g : Setting) (ms : List ModuleLines) (jobs : List JobState) (report : 
   its_fault i f j h at =
       let r = local_is i f h in
       let n = r.numbered in
-      let told : IsToldOf j r.reasons = are.are_least.each i j r.reasons at (ap (slice_get are.faults) (omega (arith, n)) ∙ r.listed) in
+      let told : IsToldOf j r.reasons = are.are_least.each i j r.reasons at
+          (ap (slice_get are.faults) (omega (arith, n)) ∙ r.listed) in
       (subst (IsLeastFault j) r.fault told.fault).0
 
-  by_least : (n : ℕ) (j : JobState) (r : Reasons) (o : Option Fault) (e : Fault) → slice_get are.faults n ≡ Some r → r.fault ≡ o → IsLeastFault j o → IsFault j e →
+  by_least : (n : ℕ) (j : JobState) (r : Reasons) (o : Option Fault) (e : Fault) → slice_get are.faults n ≡ Some r →
+      r.fault ≡ o → IsLeastFault j o → IsFault j e →
       (t : ℕ) → ((n : ℕ) (h : Fault) → Contains report (Local n h) → t ≤ h.time) → t ≤ e.time
   by_least n j r None e at is none fault t least = absurd (none e fault)
   by_least n j r (Some h) e at is own fault t least =
       let lt = slice_get_within are.faults n r at in
       let count = same_count in
-      let first = least n h (has_line (Local n h) (subst (λ k. Contains (lines_from 0 are.faults are.borders) (Local k h)) (omega arith) (lists_local 0 n are.faults are.borders r h at (omega (arith, lt, count)) is))) in
+      let first = least n h (has_line (Local n h)
+          (subst (λ k. Contains (lines_from 0 are.faults are.borders) (Local k h)) (omega arith)
+          (lists_local 0 n are.faults are.borders r h at (omega (arith, lt, count)) is))) in
       let next = no_later h e (own.1 e fault) in
       omega (arith, first, next)
 
-  by_least_border : (n : ℕ) (o : Option BorderFault) (e : BorderFault) → slice_get are.borders n ≡ Some o → IsLeastBorderFault g ms n o → IsBorderFault g ms n e →
+  by_least_border : (n : ℕ) (o : Option BorderFault) (e : BorderFault) → slice_get are.borders n ≡ Some o →
+      IsLeastBorderFault g ms n o → IsBorderFault g ms n e →
       (t : ℕ) → ((n : ℕ) (h : BorderFault) → Contains report (Border n h) → t ≤ h.time) → t ≤ e.time
   by_least_border n None e at none fault t least = absurd (none e fault)
   by_least_border n (Some h) e at own fault t least =
       let lt = slice_get_within are.borders n (Some h) at in
       let count = same_count in
-      let first = least n h (has_line (Border n h) (subst (λ k. Contains (lines_from 0 are.faults are.borders) (Border k h)) (omega arith) (lists_border 0 n are.faults are.borders h at (omega (arith, lt, count))))) in
+      let first = least n h (has_line (Border n h)
+          (subst (λ k. Contains (lines_from 0 are.faults are.borders) (Border k h)) (omega arith)
+          (lists_border 0 n are.faults are.borders h at (omega (arith, lt, count))))) in
       let next = no_later_border h e (own.1 e fault) in
       omega (arith, first, next)
 
@@ -232,13 +256,17 @@ earliest_is_first lines p ms jobs report inputs v i m j f b judged first atm atj
       under = under;
       before = λ t lt. record {
         of_jobs = λ n k e at kind time own fault.
-            let r = there are.faults n (let inside = slice_get_within jobs n k at in let same = are.are_least.count in omega (arith, inside, same)) in
+            let r = there are.faults n (let inside = slice_get_within jobs n k at in let same = are.are_least.count in
+                omega (arith, inside, same)) in
             let told : IsToldOf k r.0 = are.are_least.each n k r.0 at r.1 in
-            let le = by_least g ms jobs report.items are count n k r.0 r.0.fault e r.1 refl told.fault fault f.time first.of_jobs in
+            let le = by_least g ms jobs report.items are count n k r.0 r.0.fault e r.1 refl told.fault fault f.time
+                first.of_jobs in
             omega (arith, le, lt, time);
         of_modules = λ n e time fault.
-            let o = there are.borders n (let inside = slice_get_within ms n fault.lines fault.numbered in let same = are.are_border_faults.count in omega (arith, inside, same)) in
-            let le = by_least_border g ms jobs report.items are count n o.0 e o.1 (are.are_border_faults.each n o.0 o.1) fault f.time first.of_borders in
+            let o = there are.borders n (let inside = slice_get_within ms n fault.lines fault.numbered in
+                let same = are.are_border_faults.count in omega (arith, inside, same)) in
+            let le = by_least_border g ms jobs report.items are count n o.0 e o.1 (are.are_border_faults.each n o.0 o.1)
+                fault f.time first.of_borders in
             omega (arith, le, lt, time);
       };
     }

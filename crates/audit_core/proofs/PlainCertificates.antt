@@ -1,5 +1,7 @@
 -- A plain certificate decides whether its layout is correct
-use Rattle.std.proofs.Common.{◌||◌, map, ◌≡◌, ◌≢◌, ℕ, zero, suc, ◌+◌, ◌<◌, ◌≤◌, ◌++◌, eqb, Bool, true, false, List, [], ◌∷◌, length, Option, Some, None, refl, sym, ap, ap₂, subst, ◌∙◌, ◌⊎◌, inl, inr, arith, if◌then◌else◌}
+use Rattle.std.proofs.Common.{◌||◌, map, ◌≡◌, ◌≢◌, ℕ, zero, suc, ◌+◌, ◌<◌, ◌≤◌, ◌++◌, eqb, Bool, true, false, List, []}
+use Rattle.std.proofs.Common.{◌∷◌, length, Option, Some, None, refl, sym, ap, ap₂, subst, ◌∙◌, ◌⊎◌, inl, inr, arith}
+use Rattle.std.proofs.Common.{if◌then◌else◌}
 use Rattle.std.specs.Prelude.{ℤ, Contains, slice_get, slice_index}
 use Rattle.std.specs.List.{All, list_all, range_with_len}
 use Rattle.std.specs.Option.{option_to_list}
@@ -46,7 +48,8 @@ use Rattle.certificate_lines.specs.Modules.{IsStop}
 use Rattle.module_job.specs.Jobs.{JobState}
 use Rattle.module_job.specs.Signals.{is_live}
 use Rattle.module_job.specs.declared.job.Stop as listed
-use Rattle.local_run.specs.Faults.{IsEdgeFault, IsFault, IsFaultUnder, IsKeepFault, IsLeastFault, IsLeastKeepFault, assignments}
+use Rattle.local_run.specs.Faults.{IsEdgeFault, IsFault, IsFaultUnder, IsKeepFault, IsLeastFault, IsLeastKeepFault}
+use Rattle.local_run.specs.Faults.{assignments}
 use Rattle.local_run.specs.Order.{fault_cmp, kind_number}
 use Rattle.local_run.specs.Runs.{local_run}
 use Rattle.local_run.specs.declared.fault.Fault.{Fault}
@@ -58,10 +61,13 @@ use Rattle.border_match.specs.declared.fault.BorderFault.{BorderFault}
 use Rattle.border_match.proofs.Modules.{there}
 use Rattle.audit_core.specs.HeadlineLaws.{BelongTogether, HasInputNames, IsAcceptedBundle, IsInputName, IsRunOfJobs}
 use Rattle.audit_core.specs.Implements.{IsCorrect, run_under}
-use Rattle.audit_core.specs.Noes.{HasGoodBorders, IsAsSaid, IsAssignmentOf, IsFirstFault, IsPlain, IsWrong, PlainCertificateDecides, PlainNoIsWrong, TouchesRim, UntimedIsOnTime}
+use Rattle.audit_core.specs.FirstFaults.{HasGoodBorders, IsAsCertified, IsAssignmentOf, IsFirstFault}
+use Rattle.audit_core.specs.PlainCertificates.{IsPlain, IsWrongDesign, PlainCertificateDecides, PlainNoMeansWrong}
+use Rattle.audit_core.specs.PlainCertificates.{TouchesRim, UntimedIsOnTime}
 use Rattle.audit_core.specs.OnTime.{StopHolds}
 use Rattle.audit_core.specs.Verdicts.{Accepts, IsToldOf, IsVerdict}
-use Rattle.audit_core.proofs.FirstFaults.{correct_meets, first_end_is_wrong, first_is_real, nothing_prop, real, ring_inside, runs_up_to, seen_fault, stop_by_lines}
+use Rattle.audit_core.proofs.FirstFaults.{correct_meets, first_end_is_wrong, first_is_real, nothing_prop, real}
+use Rattle.audit_core.proofs.FirstFaults.{ring_inside, runs_up_to, seen_fault, stop_by_lines}
 use Rattle.audit_core.proofs.InputRuns.{at_place, inputs_decide}
 use Rattle.audit_core.proofs.JobSignals.{Known, edge_by_circuit, no_signal}
 use Rattle.audit_core.proofs.StopParts.{all_flat}
@@ -73,7 +79,8 @@ nat_greater a b lt = grind arith
 pub greater : (f g : Fault) → g.time < f.time → fault_cmp f g ≡ Greater
 unfolding fault_cmp
 greater f g lt =
-    ap (λ o. ordering_then o (ordering_then (nat_cmp (kind_number f.kind) (kind_number g.kind)) (ordering_then (cell_cmp f.cell g.cell) (nat_cmp f.assignment g.assignment))))
+    ap (λ o. ordering_then o (ordering_then (nat_cmp (kind_number f.kind) (kind_number g.kind))
+        (ordering_then (cell_cmp f.cell g.cell) (nat_cmp f.assignment g.assignment))))
     (nat_greater f.time g.time lt)
 
 -- ---- inputs that have the values of an assignment
@@ -91,7 +98,8 @@ place_has (u ∷ us) k w e = elim (cases_Bool (eqb u w)) [
   | inr h ↦ ap (λ b. slice_get (u ∷ us) (if b then 0 else suc (place us w))) h ∙ later (place_has us) k e h
 ]
   where
-    later : ((k w : ℕ) → slice_get us k ≡ Some w → slice_get us (place us w) ≡ Some w) → (k : ℕ) → slice_get (u ∷ us) k ≡ Some w → eqb u w ≡ false → slice_get us (place us w) ≡ Some w
+    later : ((k w : ℕ) → slice_get us k ≡ Some w → slice_get us (place us w) ≡ Some w) → (k : ℕ) →
+        slice_get (u ∷ us) k ≡ Some w → eqb u w ≡ false → slice_get us (place us w) ≡ Some w
     later rest zero e h = absurd (true≢false (sym (eq-eqb u w (same_Some u w e)) ∙ h))
     later rest (suc k) e h = rest k w e
 
@@ -107,9 +115,11 @@ some_wire : (P : ℕ → Type 0) (o : Option ℕ) (w : ℕ) → o ≡ Some w →
 some_wire P None w e h = absurd cc
 some_wire P (Some u) w e h = All-cons P u [] (subst P (sym (same_Some u w e)) h) (All-nil P)
 
-cuts_are_inputs : (lines : List Entry) (m : ModuleLines) → All (IsInputName lines) (cuts m) → All (λ w. w < (netlist_of lines).given) (cut_wires (circuit_of lines) m)
+cuts_are_inputs : (lines : List Entry) (m : ModuleLines) → All (IsInputName lines) (cuts m) →
+    All (λ w. w < (netlist_of lines).given) (cut_wires (circuit_of lines) m)
 cuts_are_inputs lines m all =
-    all_flat (λ w. w < (netlist_of lines).given) (λ n. option_to_list (wire_of (circuit_of lines) n)) (cuts m) (λ k n at.
+    all_flat (λ w. w < (netlist_of lines).given) (λ n. option_to_list (wire_of (circuit_of lines) n)) (cuts m)
+        (λ k n at.
     let is : IsInputName lines n = at_place (IsInputName lines) (cuts m) k n all at in
     some_wire (λ w. w < (netlist_of lines).given) (wire_of (circuit_of lines) n) is.wire is.named is.is_given)
 
@@ -139,14 +149,16 @@ one_element [] e = absurd (omega (arith, e))
 one_element (w ∷ []) e = (w, refl)
 one_element (w ∷ v ∷ ws) e = absurd (omega (arith, e))
 
-delay_wires : (m n : ℕ) (gs : List Gate) (k : ℕ) (g : Gate) → AreOrdered m gs → slice_get gs k ≡ Some g → g.kind ≡ Delay n → HasOneWire g
+delay_wires : (m n : ℕ) (gs : List Gate) (k : ℕ) (g : Gate) → AreOrdered m gs → slice_get gs k ≡ Some g →
+    g.kind ≡ Delay n → HasOneWire g
 unfolding AreOrdered
 delay_wires m n [] k g ordered at is = absurd cc
 delay_wires m n (f ∷ gs) zero g ordered at is =
     let same : f ≡ g = same_Some f g at in
     let kind : f.kind ≡ Delay n = ap (λ (g : Gate). g.kind) same ∙ is in
     let used = one_element f.ins (ordered.1 ∙ ap uses kind) in
-    subst HasOneWire same (record { used = used.0; made = m; ins = used.1; outs = ordered.2 ∙ ap (λ r. range_with_len m (defines r)) kind })
+    subst HasOneWire same (record { used = used.0; made = m; ins = used.1; outs = ordered.2 ∙
+        ap (λ r. range_with_len m (defines r)) kind })
 delay_wires m n (f ∷ gs) (suc k) g ordered at is = delay_wires (m + defines f.kind) n gs k g ordered.3 at is
 
 same_steps : (c : Circuit) (ss : List StopLine) (m n a b : ℕ) → TakesSteps c ss m a b → TakesSteps c ss n a b → m ≡ n
@@ -155,13 +167,15 @@ same_steps c ss m n a b s t =
     let to = first_one c ss b (s.leaves + m) (t.leaves + n) s.first t.first in
     omega (arith, from, to)
 
-not_before : (c : Circuit) (ss : List StopLine) (n a b s t : ℕ) → TakesSteps c ss n a b → IsLastTime c ss a s → IsFirstTime c ss b t → t < s → ⊥
+not_before : (c : Circuit) (ss : List StopLine) (n a b s t : ℕ) → TakesSteps c ss n a b → IsLastTime c ss a s →
+    IsFirstTime c ss b t → t < s → ⊥
 not_before c ss n a b s t takes last first lt =
     let from = last_one c ss a s takes.leaves last takes.last in
     let to = first_one c ss b t (takes.leaves + n) first takes.first in
     omega (arith, from, to, lt)
 
-kept_gap : (c : Circuit) (ss : List StopLine) (k n a b : ℕ) (gap : Gap) → TakesSteps c ss n a b → TellsOfDelay c ss gap a b → is_kept (times.Delay k n gap) ≡ true
+kept_gap : (c : Circuit) (ss : List StopLine) (k n a b : ℕ) (gap : Gap) → TakesSteps c ss n a b →
+    TellsOfDelay c ss gap a b → is_kept (times.Delay k n gap) ≡ true
 kept_gap c ss k n a b (Steps m) takes tells = eq-eqb m n (same_steps c ss m n a b tells takes)
 kept_gap c ss k n a b Missing takes tells = absurd (tells takes.leaves (takes.leaves + n) takes.last takes.first)
 kept_gap c ss k n a b Before takes tells = absurd (not_before c ss n a b tells.0 tells.1 takes tells.2 tells.3 tells.4)
@@ -169,38 +183,51 @@ kept_gap c ss k n a b Before takes tells = absurd (not_before c ss n a b tells.0
 same_gate : (o : Option Gate) (g h : Gate) → o ≡ Some g → g ≡ h → o ≡ Some h
 same_gate o g h e same = e ∙ ap Some same
 
-kept_line : (lines : List Entry) (ss : List StopLine) (l : TimeLine) → AreOrdered (netlist_of lines).given (netlist_of lines).gates → AreOnTime (circuit_of lines) ss →
+kept_line : (lines : List Entry) (ss : List StopLine) (l : TimeLine) → AreOrdered (netlist_of lines).given
+    (netlist_of lines).gates → AreOnTime (circuit_of lines) ss →
     Tells (circuit_of lines) ss l → is_kept l ≡ true
 kept_line lines ss (times.Delay k n gap) ordered timed (g, at, is, tells) =
     let w = delay_wires (netlist_of lines).given n (netlist_of lines).gates k g ordered at is in
     let a = w.used in let b = w.made in
-    let same : g ≡ record { kind = Delay n; ins = a ∷ []; outs = b ∷ [] } = λ i. record { kind = is i; ins = w.ins i; outs = w.outs i } in
+    let same : g ≡ record { kind = Delay n; ins = a ∷ []; outs = b ∷ [] } = λ i. record { kind = is i; ins = w.ins i;
+        outs = w.outs i } in
     kept_gap (circuit_of lines) ss k n a b gap (timed.delays k n a b (at ∙ ap Some same)) (tells a b w.ins w.outs)
 kept_line lines ss (times.Meet k (Some t)) ordered timed tells = refl
-kept_line lines ss (times.Meet k None) ordered timed (g, at, tells) = let m = timed.meetings k g at in absurd (tells m.0 m.1)
+kept_line lines ss (times.Meet k None) ordered timed (g, at, tells) = let m = timed.meetings k g at in
+    absurd (tells m.0 m.1)
 
-all_true : (P : TimeLine → Type 0) (test : TimeLine → Bool) (ls : List TimeLine) → ((l : TimeLine) → P l → test l ≡ true) → All P ls → list_all test ls ≡ true
+all_true : (P : TimeLine → Type 0) (test : TimeLine → Bool) (ls : List TimeLine) →
+    ((l : TimeLine) → P l → test l ≡ true) → All P ls → list_all test ls ≡ true
 all_true P test [] h all = refl
-all_true P test (l ∷ ls) h all = and_from (test l) (list_all test ls) (h l (All-head P l ls all)) (all_true P test ls h (All-tail P l ls all))
+all_true P test (l ∷ ls) h all = and_from (test l) (list_all test ls) (h l (All-head P l ls all))
+    (all_true P test ls h (All-tail P l ls all))
 
-timed_is_kept : (lines : List Entry) (ms : List ModuleLines) → AreOrdered (netlist_of lines).given (netlist_of lines).gates → AreOnTime (circuit_of lines) (all_stops ms) →
+timed_is_kept : (lines : List Entry) (ms : List ModuleLines) → AreOrdered (netlist_of lines).given
+    (netlist_of lines).gates → AreOnTime (circuit_of lines) (all_stops ms) →
     are_all_kept (time_lines (circuit_of lines) ms) ≡ true
 timed_is_kept lines ms ordered timed =
-    all_true (Tells (circuit_of lines) (all_stops ms)) is_kept (time_lines (circuit_of lines) ms) (λ l. kept_line lines (all_stops ms) l ordered timed) (lines_tell (circuit_of lines) ms)
+    all_true (Tells (circuit_of lines) (all_stops ms)) is_kept (time_lines (circuit_of lines) ms) (λ l.
+        kept_line lines (all_stops ms) l ordered timed) (lines_tell (circuit_of lines) ms)
 
 -- ---- a valuation, or none
 
 some_none : (k : ℕ) → None ≡ Some k → ⊥
 some_none k e = cc
 
-by_undefined : (n : Netlist) (a : Valuation) (given : List Bool) (o : Option ℕ) → first_undefined given n.gates ≡ o → AreOrdered n.given n.gates → length given ≡ n.given →
-    ((i : ℕ) → i < n.given → read given i ≡ a i) → ((v : Valuation) × Satisfies n a v) ⊎ ((v : Valuation) → ¬ Satisfies n a v)
-by_undefined n a given None e ordered long same = inl (has_valuation n a ordered (λ k u. some_none k (sym e ∙ undefined_at n a given k ordered long same u)))
-by_undefined n a given (Some k) e ordered long same = inr (λ v s. undefined_has_none n a v k ordered (undefined_is n a given k ordered long same e) s)
+by_undefined : (n : Netlist) (a : Valuation) (given : List Bool) (o : Option ℕ) → first_undefined given n.gates ≡ o →
+    AreOrdered n.given n.gates → length given ≡ n.given →
+    ((i : ℕ) → i < n.given → read given i ≡ a i) → ((v : Valuation) × Satisfies n a v) ⊎ ((v : Valuation) →
+        ¬ Satisfies n a v)
+by_undefined n a given None e ordered long same = inl
+    (has_valuation n a ordered (λ k u. some_none k (sym e ∙ undefined_at n a given k ordered long same u)))
+by_undefined n a given (Some k) e ordered long same = inr (λ v s. undefined_has_none n a v k ordered
+    (undefined_is n a given k ordered long same e) s)
 
-valuation_or_none : (n : Netlist) (a : Valuation) → AreOrdered n.given n.gates → ((v : Valuation) × Satisfies n a v) ⊎ ((v : Valuation) → ¬ Satisfies n a v)
+valuation_or_none : (n : Netlist) (a : Valuation) → AreOrdered n.given n.gates → ((v : Valuation) × Satisfies n a v) ⊎
+    ((v : Valuation) → ¬ Satisfies n a v)
 valuation_or_none n a ordered =
-    by_undefined n a (map a (range_with_len 0 n.given)) _ refl ordered (length-map (range_with_len 0 n.given) a ∙ length-range_with_len 0 n.given)
+    by_undefined n a (map a (range_with_len 0 n.given)) _ refl ordered (length-map (range_with_len 0 n.given) a ∙
+        length-range_with_len 0 n.given)
     (λ i h. get_or-map-range_with_len a 0 n.given i i false h (omega arith))
 
 -- the one module
@@ -212,7 +239,8 @@ only_number : (m k : ModuleLines) (n : ℕ) → slice_get (m ∷ []) n ≡ Some 
 only_number m k zero e = refl
 only_number m k (suc n) e = absurd cc
 
-module _ (lines : List Entry) (p : Pattern) (m : ModuleLines) (jobs : List JobState) (named : HasInputNames lines p) (b : BelongTogether lines p (m ∷ []) jobs) (plain : IsPlain lines p m) where
+module _ (lines : List Entry) (p : Pattern) (m : ModuleLines) (jobs : List JobState) (named : HasInputNames lines p)
+    (b : BelongTogether lines p (m ∷ []) jobs) (plain : IsPlain lines p m) where
   abbrev c : Circuit
   c = circuit_of lines
 
@@ -224,14 +252,17 @@ module _ (lines : List Entry) (p : Pattern) (m : ModuleLines) (jobs : List JobSt
 
   its_job : (n : ℕ) (j : JobState) → slice_get jobs n ≡ Some j → IsItsJob n j
   its_job n j at =
-      let k = there (m ∷ []) n (let lt = slice_get_within jobs n j at in let count = b.are_jobs.count in omega (arith, lt, count)) in
-      record { at = at; first = only_number m k.0 n k.1; is = subst (λ k. IsJobOf c p k j) (sym (only_module m k.0 n k.1)) (b.are_jobs.each n k.0 j k.1 at) }
+      let k = there (m ∷ []) n (let lt = slice_get_within jobs n j at in let count = b.are_jobs.count in
+          omega (arith, lt, count)) in
+      record { at = at; first = only_number m k.0 n k.1; is = subst (λ k. IsJobOf c p k j)
+          (sym (only_module m k.0 n k.1)) (b.are_jobs.each n k.0 j k.1 at) }
 
   -- every assignment is that of some values of the inputs
   its_inputs : ℕ → Valuation
   its_inputs a = inputs_of (known c m) a
 
-  induced : (j : JobState) (a : ℕ) (v : Valuation) → IsJobOf c p m j → a < assignments j → Satisfies (netlist_of lines) (its_inputs a) v → IsAssignmentOf j v a
+  induced : (j : JobState) (a : ℕ) (v : Valuation) → IsJobOf c p m j → a < assignments j → Satisfies (netlist_of lines)
+      (its_inputs a) v → IsAssignmentOf j v a
   unfolding its_inputs
   induced j a v is small s = record {
     in_range = small;
@@ -239,9 +270,11 @@ module _ (lines : List Entry) (p : Pattern) (m : ModuleLines) (jobs : List JobSt
         let good = b.are_modules.each 0 m refl in
         let w = there (cut_wires c m) k (let cut = is.cut in let all = good.named in omega (arith, lt, cut, all)) in
         let at : slice_get (known c m) k ≡ Some w.0 = kept (cut_wires c m) _ k w.0 w.1 in
-        let number : circuit_wire j.locals k ≡ w.0 = ap (λ ws. slice_index ws k) is.wires ∙ get_or_from_slice_get (known c m) k w.0 0 at in
+        let number : circuit_wire j.locals k ≡ w.0 = ap (λ ws. slice_index ws k) is.wires ∙
+            get_or_from_slice_get (known c m) k w.0 0 at in
         sym (value_there (known c m) a k w.0 good.local.different at)
-        ∙ sym (s.given w.0 (at_place (λ w. w < (netlist_of lines).given) (cut_wires c m) k w.0 (cuts_are_inputs lines m plain.inputs) w.1))
+        ∙ sym (s.given w.0 (at_place (λ w. w < (netlist_of lines).given) (cut_wires c m) k w.0
+            (cuts_are_inputs lines m plain.inputs) w.1))
         ∙ sym (ap v number);
   }
 
@@ -252,14 +285,18 @@ module _ (lines : List Entry) (p : Pattern) (m : ModuleLines) (jobs : List JobSt
   -- ---- where the run keeps off the rim, borders are good
 
   no_edge_signal : (t : ℕ) (x y : ℤ) → edge_signal c m t x y ≡ Zero
-  no_edge_signal t x y = ap (λ (es : List Border). signal_at (line_signals c es) t x y) plain.no_edge ∙ no_signal c [] t x y (All-nil _)
+  no_edge_signal t x y = ap (λ (es : List Border). signal_at (line_signals c es) t x y) plain.no_edge ∙
+      no_signal c [] t x y (All-nil _)
 
-  edge_touches : (inputs v : Valuation) (t n : ℕ) (j : JobState) (x y : ℤ) → Satisfies (netlist_of lines) inputs v → IsRunOfJobs lines p jobs v t → IsItsJob n j →
+  edge_touches : (inputs v : Valuation) (t n : ℕ) (j : JobState) (x y : ℤ) → Satisfies (netlist_of lines) inputs v →
+      IsRunOfJobs lines p jobs v t → IsItsJob n j →
       IsEdgeFault j (seen_by j.locals v) t x y → TouchesRim lines p
   edge_touches inputs v t n j x y s now it f =
       let box : j.area ≡ whole p.size = it.is.area ∙ plain.box in
-      let k : Known lines p (m ∷ []) 0 j = record { of = m; numbered = refl; is_job = it.is; good = b.are_modules.each 0 m refl } in
-      let said : is_live (seen_by j.locals v) (signal_at j.edges t x y) ≡ false = edge_by_circuit lines p (m ∷ []) 0 j v t x y k ∙ ap (is_live v) (no_edge_signal t x y) in
+      let k : Known lines p (m ∷ []) 0 j = record { of = m; numbered = refl; is_job = it.is;
+          good = b.are_modules.each 0 m refl } in
+      let said : is_live (seen_by j.locals v) (signal_at j.edges t x y) ≡ false = edge_by_circuit lines p
+          (m ∷ []) 0 j v t x y k ∙ ap (is_live v) (no_edge_signal t x y) in
       let same = now.inside n j it.at x y (ring_inside j.area x y f.ring) in
       record {
         inputs = inputs;
@@ -277,25 +314,31 @@ module _ (lines : List Entry) (p : Pattern) (m : ModuleLines) (jobs : List JobSt
 
   no_border : (n : ℕ) (f : BorderFault) → ¬ IsBorderFault (setting_of lines p) (m ∷ []) n f
   no_border n f fault =
-      let box : fault.lines.area ≡ whole p.size = ap (λ (k : ModuleLines). k.area) (sym (only_module m fault.lines n fault.numbered)) ∙ plain.box in
-      true≢false (sym fault.inside ∙ ap (λ a. in_box a f.cell.x f.cell.y) (sym box) ∙ (halo_parts fault.lines.area f.cell.x f.cell.y fault.halo).0)
+      let box : fault.lines.area ≡ whole p.size = ap (λ (k : ModuleLines). k.area)
+          (sym (only_module m fault.lines n fault.numbered)) ∙ plain.box in
+      true≢false (sym fault.inside ∙ ap (λ a. in_box a f.cell.x f.cell.y) (sym box) ∙
+          (halo_parts fault.lines.area f.cell.x f.cell.y fault.halo).0)
 
-  edge_of : (j : JobState) (u : Valuation) (t : ℕ) (kind : Kind) (x y : ℤ) → kind ≡ Edge → IsFaultUnder j u t kind x y → IsEdgeFault j u t x y
+  edge_of : (j : JobState) (u : Valuation) (t : ℕ) (kind : Kind) (x y : ℤ) → kind ≡ Edge → IsFaultUnder j u t kind x y →
+      IsEdgeFault j u t x y
   edge_of j u t Edge x y e f = f
   edge_of j u t AtStop x y e f = absurd cc
   edge_of j u t End x y e f = absurd cc
 
-  good : (inputs v : Valuation) (t : ℕ) → ¬ TouchesRim lines p → Satisfies (netlist_of lines) inputs v → IsRunOfJobs lines p jobs v t → HasGoodBorders lines p (m ∷ []) jobs v t
+  good : (inputs v : Valuation) (t : ℕ) → ¬ TouchesRim lines p → Satisfies (netlist_of lines) inputs v →
+      IsRunOfJobs lines p jobs v t → HasGoodBorders lines p (m ∷ []) jobs v t
   good inputs v t off s now = record {
     of_jobs = λ n j f at kind time under fault.
         let it = its_job n j at in
         ∥∥₁_elim fault.shown nothing_prop (λ h.
         off (edge_touches inputs v f.time n j f.cell.x f.cell.y s (subst (IsRunOfJobs lines p jobs v) (sym time) now) it
-        (edge_of j (seen_by j.locals v) f.time f.kind f.cell.x f.cell.y kind (seen_fault lines p m inputs v j f it.is s under h))));
+        (edge_of j (seen_by j.locals v) f.time f.kind f.cell.x f.cell.y kind
+            (seen_fault lines p m inputs v j f it.is s under h))));
     of_modules = λ n f time. no_border n f;
   }
 
-  all_runs : (inputs v : Valuation) (t : ℕ) → ¬ TouchesRim lines p → Satisfies (netlist_of lines) inputs v → t ≤ p.size.steps → IsRunOfJobs lines p jobs v t
+  all_runs : (inputs v : Valuation) (t : ℕ) → ¬ TouchesRim lines p → Satisfies (netlist_of lines) inputs v →
+      t ≤ p.size.steps → IsRunOfJobs lines p jobs v t
   all_runs inputs v zero off s h = starts lines p (m ∷ []) jobs v b
   all_runs inputs v (suc t) off s h =
       let now = all_runs inputs v t off s (omega arith) in
@@ -305,19 +348,24 @@ module _ (lines : List Entry) (p : Pattern) (m : ModuleLines) (jobs : List JobSt
 
   in_time : (j : JobState) → IsJobOf c p m j → (s : listed.Stop) → Contains j.stops s → s.at.time ≤ p.size.steps
   in_time j is s has = stop_by_lines c p m j (λ r. r.at.time ≤ p.size.steps) is (λ k s at w e.
-      (at_place (IsStop (setting_of lines p) m.area (known c m)) (stops m) k s (b.are_modules.each 0 m refl).stop_lines at).time) s has
+      (at_place (IsStop (setting_of lines p) m.area (known c m)) (stops m) k s (b.are_modules.each 0 m refl).stop_lines
+          at).time) s has
 
   -- the stops hold
   abbrev AreHeld : Type 0
   AreHeld = All (StopHolds c p) (all_stops (m ∷ []))
 
-  stops_said : (inputs v : Valuation) (t : ℕ) (x y : ℤ) → AreHeld → Satisfies (netlist_of lines) inputs v → IsAsSaid c p m v t AtStop x y
+  stops_said : (inputs v : Valuation) (t : ℕ) (x y : ℤ) → AreHeld → Satisfies (netlist_of lines) inputs v →
+      IsAsCertified c p m v t AtStop x y
   stops_said inputs v t x y held s line has time column row =
-      let holds : StopHolds c p line = All-contains (StopHolds c p) (all_stops (m ∷ [])) line held (Contains-append_left (stops m) [] line has) in
+      let holds : StopHolds c p line = All-contains (StopHolds c p) (all_stops (m ∷ [])) line held
+          (Contains-append_left (stops m) [] line has) in
       inputs_decide lines p inputs v t x y named s
-      ∙ ap (λ n. run_under c p inputs n x y) (sym time) ∙ ap₂ (run_under c p inputs line.time) (sym column) (sym row) ∙ holds inputs v s
+      ∙ ap (λ n. run_under c p inputs n x y) (sym time) ∙ ap₂ (run_under c p inputs line.time) (sym column) (sym row) ∙
+          holds inputs v s
 
-  none_under : (inputs v : Valuation) (t n : ℕ) (kind : Kind) (x y : ℤ) (j : JobState) → IsCorrect lines p → AreHeld → ¬ TouchesRim lines p → Satisfies (netlist_of lines) inputs v → IsItsJob n j →
+  none_under : (inputs v : Valuation) (t n : ℕ) (kind : Kind) (x y : ℤ) (j : JobState) → IsCorrect lines p → AreHeld →
+      ¬ TouchesRim lines p → Satisfies (netlist_of lines) inputs v → IsItsJob n j →
       ¬ IsFaultUnder j (seen_by j.locals v) t kind x y
   none_under inputs v t n Edge x y j right held off s it f =
       let early = subst (λ n. t < n) it.is.steps f.early in
@@ -325,20 +373,23 @@ module _ (lines : List Entry) (p : Pattern) (m : ModuleLines) (jobs : List JobSt
   none_under inputs v t n AtStop x y j right held off s it f =
       let at_time = f.time in let within = in_time j it.is f.stop f.is_listed in
       real lines p (m ∷ []) jobs inputs v n m j t AtStop x y b (ap (slice_get (m ∷ [])) it.first) it.at s
-      (λ r lt. good inputs v r off s (all_runs inputs v r off s (omega (arith, at_time, within, lt)))) f (stops_said inputs v t x y held s)
+      (λ r lt. good inputs v r off s (all_runs inputs v r off s (omega (arith, at_time, within, lt)))) f
+          (stops_said inputs v t x y held s)
   none_under inputs v t n End x y j right held off s it f =
       let last : t ≡ p.size.steps = f.last ∙ it.is.steps in
       real lines p (m ∷ []) jobs inputs v n m j t End x y b (ap (slice_get (m ∷ [])) it.first) it.at s
       (λ r lt. good inputs v r off s (all_runs inputs v r off s (omega (arith, last, lt)))) f
-      (subst (λ t. IsAsSaid c p m v t End x y) (sym last) (correct_meets lines p inputs v x y named s right))
+      (subst (λ t. IsAsCertified c p m v t End x y) (sym last) (correct_meets lines p inputs v x y named s right))
 
-  no_fault : IsCorrect lines p → AreHeld → ¬ TouchesRim lines p → (n : ℕ) (j : JobState) (f : Fault) → slice_get jobs n ≡ Some j → ¬ IsFault j f
+  no_fault : IsCorrect lines p → AreHeld → ¬ TouchesRim lines p → (n : ℕ) (j : JobState) (f : Fault) →
+      slice_get jobs n ≡ Some j → ¬ IsFault j f
   no_fault right held off n j f at fault =
       let it = its_job n j at in
       let v = right_values f.assignment right in
       ∥∥₁_elim fault.shown nothing_prop (λ h.
       none_under (its_inputs f.assignment) v.0 f.time n f.kind f.cell.x f.cell.y j right held off v.1 it
-      (seen_fault lines p m (its_inputs f.assignment) v.0 j f it.is v.1 (induced j f.assignment v.0 it.is fault.in_range v.1) h))
+      (seen_fault lines p m (its_inputs f.assignment) v.0 j f it.is v.1
+          (induced j f.assignment v.0 it.is fault.in_range v.1) h))
 
   -- ---- nor any other line
 
@@ -347,10 +398,13 @@ module _ (lines : List Entry) (p : Pattern) (m : ModuleLines) (jobs : List JobSt
       let it = its_job n j at in
       let v = right_values f.assignment right in
       let under = induced j f.assignment v.0 it.is fault.in_range v.1 in
-      let agree = local_values_agree (netlist_of lines) j.locals (its_inputs f.assignment) v.0 f.assignment it.is.locals v.1 under.bits in
-      ∥∥₁_elim fault.shown nothing_prop (λ u. undefined_has_none j.locals.netlist (bit f.assignment) (seen_by j.locals v.0) f.gate it.is.locals.ordered u agree.is_local)
+      let agree = local_values_agree (netlist_of lines) j.locals (its_inputs f.assignment) v.0 f.assignment it.is.locals
+          v.1 under.bits in
+      ∥∥₁_elim fault.shown nothing_prop (λ u. undefined_has_none j.locals.netlist (bit f.assignment)
+          (seen_by j.locals v.0) f.gate it.is.locals.ordered u agree.is_local)
 
-  accepts : ((n : ℕ) (j : JobState) (f : Fault) → slice_get jobs n ≡ Some j → ¬ IsFault j f) → ((n : ℕ) (j : JobState) (f : KeepFault) → slice_get jobs n ≡ Some j → ¬ IsKeepFault j f) →
+  accepts : ((n : ℕ) (j : JobState) (f : Fault) → slice_get jobs n ≡ Some j → ¬ IsFault j f) →
+      ((n : ℕ) (j : JobState) (f : KeepFault) → slice_get jobs n ≡ Some j → ¬ IsKeepFault j f) →
       are_all_kept (time_lines c (m ∷ [])) ≡ true → Accepts (setting_of lines p) (m ∷ []) jobs
   accepts none no_keep timed = record {
     no_fault = none;
@@ -362,7 +416,8 @@ module _ (lines : List Entry) (p : Pattern) (m : ModuleLines) (jobs : List JobSt
 
   -- ---- what the least fault says
 
-  before : (f : Fault) (j : JobState) → IsItsJob 0 j → ((g : Fault) → IsFault j g → fault_cmp f g ≢ Greater) → (v : Valuation) (s : ℕ) → s < f.time → HasGoodBorders lines p (m ∷ []) jobs v s
+  before : (f : Fault) (j : JobState) → IsItsJob 0 j → ((g : Fault) → IsFault j g → fault_cmp f g ≢ Greater) →
+      (v : Valuation) (s : ℕ) → s < f.time → HasGoodBorders lines p (m ∷ []) jobs v s
   before f j it least v s lt = record {
     of_jobs = λ n k g at kind time under fault.
         let same : k ≡ j = same_Some k j (sym at ∙ ap (slice_get jobs) (its_job n k at).first ∙ it.at) in
@@ -373,15 +428,19 @@ module _ (lines : List Entry) (p : Pattern) (m : ModuleLines) (jobs : List JobSt
   edge_prop : (j : JobState) (u : Valuation) (t : ℕ) (x y : ℤ) → IsProp (IsEdgeFault j u t x y)
   edge_prop j u t x y = Prim.hlevel props
 
-  edge_seen : (f : Fault) (j : JobState) (v : Valuation) → f.kind ≡ Edge → IsItsJob 0 j → IsFault j f → Satisfies (netlist_of lines) (its_inputs f.assignment) v →
+  edge_seen : (f : Fault) (j : JobState) (v : Valuation) → f.kind ≡ Edge → IsItsJob 0 j → IsFault j f →
+      Satisfies (netlist_of lines) (its_inputs f.assignment) v →
       IsEdgeFault j (seen_by j.locals v) f.time f.cell.x f.cell.y
   edge_seen f j v e it fault s =
       ∥∥₁_elim fault.shown (edge_prop j (seen_by j.locals v) f.time f.cell.x f.cell.y) (λ h.
       edge_of j (seen_by j.locals v) f.time f.kind f.cell.x f.cell.y e
-      (seen_fault lines p m (its_inputs f.assignment) v j f it.is s (induced j f.assignment v it.is fault.in_range s) h))
+      (seen_fault lines p m (its_inputs f.assignment) v j f it.is s (induced j f.assignment v it.is fault.in_range s)
+          h))
 
-  its_first : (f : Fault) (j : JobState) (v : Valuation) → IsItsJob 0 j → IsFault j f → ((g : Fault) → IsFault j g → fault_cmp f g ≢ Greater) →
-      Satisfies (netlist_of lines) (its_inputs f.assignment) v → IsFirstFault lines p (m ∷ []) jobs (its_inputs f.assignment) v 0 m f
+  its_first : (f : Fault) (j : JobState) (v : Valuation) → IsItsJob 0 j → IsFault j f →
+      ((g : Fault) → IsFault j g → fault_cmp f g ≢ Greater) →
+      Satisfies (netlist_of lines) (its_inputs f.assignment) v → IsFirstFault lines p (m ∷ []) jobs
+          (its_inputs f.assignment) v 0 m f
   its_first f j v it fault least s = record {
     bundle = b;
     lines_are = refl;
@@ -393,22 +452,28 @@ module _ (lines : List Entry) (p : Pattern) (m : ModuleLines) (jobs : List JobSt
     before = before f j it least v;
   }
 
-  by_kind : (f : Fault) (j : JobState) (v : Valuation) (kind : Kind) → f.kind ≡ kind → IsItsJob 0 j → IsFault j f → ((g : Fault) → IsFault j g → fault_cmp f g ≢ Greater) →
-      Satisfies (netlist_of lines) (its_inputs f.assignment) v → IsWrong lines p m
+  by_kind : (f : Fault) (j : JobState) (v : Valuation) (kind : Kind) → f.kind ≡ kind → IsItsJob 0 j → IsFault j f →
+      ((g : Fault) → IsFault j g → fault_cmp f g ≢ Greater) →
+      Satisfies (netlist_of lines) (its_inputs f.assignment) v → IsWrongDesign lines p m
   by_kind f j v Edge e it fault least s =
       let inputs = its_inputs f.assignment in
       let edge = edge_seen f j v e it fault s in
       let early : f.time < p.size.steps = subst (λ n. f.time < n) it.is.steps edge.early in
-      inr (inr (edge_touches inputs v f.time 0 j f.cell.x f.cell.y s (runs_up_to lines p (m ∷ []) jobs inputs v f.time b s (omega (arith, early)) (before f j it least v)) it edge))
+      inr (inr (edge_touches inputs v f.time 0 j f.cell.x f.cell.y s
+          (runs_up_to lines p (m ∷ []) jobs inputs v f.time b s (omega (arith, early)) (before f j it least v)) it
+          edge))
   by_kind f j v AtStop e it fault least s =
       let inputs = its_inputs f.assignment in
       inr (inl (λ timed.
       first_is_real lines p (m ∷ []) jobs inputs v 0 m f (its_first f j v it fault least s)
-      (subst (λ k. IsAsSaid c p m v f.time k f.cell.x f.cell.y) (sym e) (stops_said inputs v f.time f.cell.x f.cell.y timed.stops s))))
+      (subst (λ k. IsAsCertified c p m v f.time k f.cell.x f.cell.y) (sym e)
+          (stops_said inputs v f.time f.cell.x f.cell.y timed.stops s))))
   by_kind f j v End e it fault least s =
-      inl (first_end_is_wrong lines p (m ∷ []) jobs (its_inputs f.assignment) v 0 m f named (its_first f j v it fault least s) e)
+      inl (first_end_is_wrong lines p (m ∷ []) jobs (its_inputs f.assignment) v 0 m f named
+          (its_first f j v it fault least s) e)
 
-  by_fault : (f : Fault) (j : JobState) → IsItsJob 0 j → IsFault j f → ((g : Fault) → IsFault j g → fault_cmp f g ≢ Greater) → IsWrong lines p m
+  by_fault : (f : Fault) (j : JobState) → IsItsJob 0 j → IsFault j f →
+      ((g : Fault) → IsFault j g → fault_cmp f g ≢ Greater) → IsWrongDesign lines p m
   by_fault f j it fault least = elim (valuation_or_none (netlist_of lines) (its_inputs f.assignment) b.ordered) [
     | inl found ↦ by_kind f j found.0 f.kind refl it fault least found.1
     | inr none ↦ inl (λ right. let v = right_values f.assignment right in none v.0 v.1)
@@ -417,8 +482,9 @@ module _ (lines : List Entry) (p : Pattern) (m : ModuleLines) (jobs : List JobSt
   its_own : (n : ℕ) (j k : JobState) → IsItsJob 0 j → slice_get jobs n ≡ Some k → k ≡ j
   its_own n j k it at = same_Some k j (sym at ∙ ap (slice_get jobs) (its_job n k at).first ∙ it.at)
 
-  decide : (o : Option Fault) (q : Option KeepFault) (timed : Bool) (j : JobState) → IsItsJob 0 j → IsLeastFault j o → IsLeastKeepFault j q → are_all_kept (time_lines c (m ∷ [])) ≡ timed →
-      ¬ Accepts (setting_of lines p) (m ∷ []) jobs → IsWrong lines p m
+  decide : (o : Option Fault) (q : Option KeepFault) (timed : Bool) (j : JobState) → IsItsJob 0 j → IsLeastFault j o →
+      IsLeastKeepFault j q → are_all_kept (time_lines c (m ∷ [])) ≡ timed →
+      ¬ Accepts (setting_of lines p) (m ∷ []) jobs → IsWrongDesign lines p m
   decide (Some f) q timed j it least least_keep e not = by_fault f j it least.0 least.1
   decide None (Some g) timed j it least least_keep e not = inl (λ right. no_keep right 0 j g it.at least_keep.0)
   decide None None true j it none no_keep e not =
@@ -426,19 +492,22 @@ module _ (lines : List Entry) (p : Pattern) (m : ModuleLines) (jobs : List JobSt
       (λ n k f at fault. none f (subst (λ k. IsFault k f) (its_own n j k it at) fault))
       (λ n k f at fault. no_keep f (subst (λ k. IsKeepFault k f) (its_own n j k it at) fault))
       e))
-  decide None None false j it none no_keep e not = inr (inl (λ timed. false≢true (sym e ∙ timed_is_kept lines (m ∷ []) b.ordered timed.times)))
+  decide None None false j it none no_keep e not = inr
+      (inl (λ timed. false≢true (sym e ∙ timed_is_kept lines (m ∷ []) b.ordered timed.times)))
 
 pub plain_decides : PlainCertificateDecides
 plain_decides lines p m jobs named ports b plain = (
   (λ is.
       let all : IsAcceptedBundle lines p (m ∷ []) jobs = record { bundle = b; accepted = is } in
-      (correct lines p (m ∷ []) jobs named ports all, on_time lines p (m ∷ []) jobs named all, off_rim lines p (m ∷ []) jobs named b is)),
+      (correct lines p (m ∷ []) jobs named ports all, on_time lines p (m ∷ []) jobs named all, off_rim lines p
+          (m ∷ []) jobs named b is)),
   (λ is.
-      accepts lines p m jobs named b plain (no_fault lines p m jobs named b plain is.0 is.1.stops is.2) (no_keep lines p m jobs named b plain is.0)
+      accepts lines p m jobs named b plain (no_fault lines p m jobs named b plain is.0 is.1.stops is.2)
+          (no_keep lines p m jobs named b plain is.0)
       (timed_is_kept lines (m ∷ []) b.ordered is.1.times)),
 )
 
-pub plain_no : PlainNoIsWrong
+pub plain_no : PlainNoMeansWrong
 unfolding IsVerdict
 plain_no lines p m jobs report named b plain judged =
     let count = b.are_jobs.count in
@@ -447,7 +516,8 @@ plain_no lines p m jobs report named b plain judged =
     let counted = r.are_least.count in
     let f = there r.faults 0 (omega (arith, count, counted)) in
     let is : IsToldOf j.0 f.0 = r.are_least.each 0 j.0 f.0 j.1 f.1 in
-    decide lines p m jobs named b plain f.0.fault is.keep _ j.0 (its_job lines p m jobs named b plain 0 j.0 j.1) is.fault is.least_keep refl judged.0
+    decide lines p m jobs named b plain f.0.fault is.keep _ j.0 (its_job lines p m jobs named b plain 0 j.0 j.1)
+        is.fault is.least_keep refl judged.0
 
 -- ---- where nothing is timed
 
@@ -461,7 +531,8 @@ untimed lines p m none no_delay =
     record {
       stops = subst (All (StopHolds c p)) (sym all) (All-nil (StopHolds c p));
       times = subst (AreOnTime c) (sym all) (record {
-        delays = λ k n a b is. absurd (at_place (λ (g : Gate). (n : ℕ) → ¬ (g.kind ≡ Delay n)) (netlist_of lines).gates k _ no_delay is n refl);
+        delays = λ k n a b is. absurd (at_place (λ (g : Gate). (n : ℕ) → ¬ (g.kind ≡ Delay n))
+            (netlist_of lines).gates k _ no_delay is n refl);
         meetings = λ k g at. (0, λ w s has last. absurd (not_any s last.seen));
       });
     }

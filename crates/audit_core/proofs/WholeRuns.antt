@@ -42,7 +42,8 @@ use Rattle.local_run.proofs.OwnWires as own
 use Rattle.border_match.proofs.Modules.{area_at, there}
 use Rattle.border_match.proofs.SameSignals.{same_at}
 use Rattle.audit_core.specs.Implements.{LooksAsAsked, run_under}
-use Rattle.audit_core.specs.Noes.{AcceptedKeepsOffRim, HasGoodBorders, IsAssignmentOf, StepsWithGoodBorders}
+use Rattle.audit_core.specs.FirstFaults.{HasGoodBorders, IsAssignmentOf, StepsWithGoodBorders}
+use Rattle.audit_core.specs.PlainCertificates.{AcceptedKeepsOffRim}
 use Rattle.audit_core.specs.OnTime.{StopHolds}
 use Rattle.audit_core.specs.HeadlineLaws.{BelongTogether, HasNoEndFault, HasNoFault, HasInputNames, IsAcceptedBundle, IsRunOfJobs, StartsAsJobs, StepsAsJobs, EndsAsAsked, AcceptedIsCorrect, AcceptedIsOnTime}
 use Rattle.audit_core.proofs.InputRuns.{inputs_decide}

@@ -15,4 +15,5 @@ pub mod OnTime
 pub mod HeadlineLaws
 pub mod ModuleLaws
 pub mod MigrationLaws
-pub mod Noes
+pub mod FirstFaults
+pub mod PlainCertificates

@@ -1,6 +1,7 @@
 //! Laws of books, each the contract of a function without a body.
 ghost use Rattle.audit_core.specs.HeadlineLaws.{AcceptedHasValuation, AcceptedIsCorrect, AcceptedIsOnTime, EndsAsAsked, Example, InputsDecideTheRun, NoneIsUndefined, ReadLayoutHasInputNames, ReadLayoutIsNamed, StartsAsJobs, StepsAsJobs, WrongExample};
-ghost use Rattle.audit_core.specs.Noes.{AcceptedKeepsOffRim, EarliestLineIsFirst, FirstEndFaultIsWrong, FirstFaultIsReal, PlainCertificateDecides, PlainNoIsWrong, StepsWithGoodBorders, UntimedIsOnTime};
+ghost use Rattle.audit_core.specs.FirstFaults.{EarliestLineIsFirst, EndFaultMeansIncorrect, FirstFaultIsReal, StepsWithGoodBorders};
+ghost use Rattle.audit_core.specs.PlainCertificates.{AcceptedKeepsOffRim, PlainCertificateDecides, PlainNoMeansWrong, UntimedIsOnTime};
 ghost use Rattle.audit_core.specs.ModuleLaws.{JobsOfOneModuleAgree, JobsOfOneModuleAgreeOnKeeps};
 ghost use Rattle.audit_core.specs.MigrationLaws.{AcceptedWithoutHalos, MigrationIsAccepted};
 ghost use Rattle.audit_core.specs.CoreLaws.{AcceptsOneForEach, DrawsEachOnce, EmptyWhereAllAreDrawn, EventsKeepWhatIsHeld, EventsReplay, HoldsHonestOwn, HoldsWhatWasAccepted, OnlyAcceptedChangesWhatIsHeld, VerdictIsOne};
@@ -88,7 +89,7 @@ pub fn steps_as_jobs()
 /// the layout does not compute the circuit. The earliest line of a report is the first fault, where its assignment occurs in the circuit.
 pub fn first_fault_is_real()
     ensures real { FirstFaultIsReal }
-    ensures end { FirstEndFaultIsWrong }
+    ensures end { EndFaultMeansIncorrect }
     ensures line { EarliestLineIsFirst }
 {}
 
@@ -97,7 +98,7 @@ pub fn first_fault_is_real()
 pub fn plain_certificate_decides()
     ensures off_rim { AcceptedKeepsOffRim }
     ensures decides { PlainCertificateDecides }
-    ensures no { PlainNoIsWrong }
+    ensures no { PlainNoMeansWrong }
     ensures untimed { UntimedIsOnTime }
 {}
 

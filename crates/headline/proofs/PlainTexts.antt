@@ -1,5 +1,6 @@
 -- What is reported on a plain text
-use Rattle.std.proofs.Common.{◌≡◌, ℕ, List, [], ◌∷◌, map, Result, Ok, Err, Vec, Global, refl, sym, ap, subst, ◌∙◌, inl, inr}
+use Rattle.std.proofs.Common.{◌≡◌, ℕ, List, [], ◌∷◌, map, Result, Ok, Err, Vec, Global, refl, sym, ap, subst, ◌∙◌, inl}
+use Rattle.std.proofs.Common.{inr}
 use Rattle.std.specs.List.{All, flat_map}
 use Rattle.std.proofs.lemmas.Bool.{cases_Bool}
 use Rattle.section_text.specs.declared.fault.Refusal.{Refusal}
@@ -19,7 +20,7 @@ use Rattle.certificate.proofs.MeantLines.{stops_meant}
 use Rattle.certificate.proofs.TimeLemmas.{all_in_modules}
 use Rattle.audit_core.specs.HeadlineLaws.{BelongTogether, HasInputNames, IsInputName}
 use Rattle.audit_core.specs.Implements.{IsCorrect}
-use Rattle.audit_core.specs.Noes.{IsPlain, IsWrong, TouchesRim}
+use Rattle.audit_core.specs.PlainCertificates.{IsPlain, IsWrongDesign, TouchesRim}
 use Rattle.audit_core.specs.OnTime.{IsOnTime, StopHolds}
 use Rattle.audit_core.specs.Verdicts.{Accepts, IsVerdict}
 use Rattle.audit_core.specs.declared.verdict.ReportLine.{ReportLine}
@@ -36,31 +37,42 @@ use Rattle.answers.specs.declared.outcome.Outcome.{Outcome}
 use Rattle.answers.specs.declared.outcome.Outcome.TheVariants.{Yes, No, Refused}
 use Rattle.headline.specs.Design.{SaysDesign}
 use Rattle.headline.specs.Headline.{IsRight}
-use Rattle.headline.specs.Plain.{HasRimTouch, IsWrongIfPlain, IsWrongText, PlainIsDecided, PlainNoMeansWrong, SaysPlain, YesKeepsOffRim}
+use Rattle.headline.specs.Plain.{HasRimTouch, IsWrongIfPlain, IsWrongText, PlainIsDecided, PlainNoMeansWrong, SaysPlain}
+use Rattle.headline.specs.Plain.{YesKeepsOffRim}
 use Rattle.headline.specs.Stops.{HasRightStops, SaysBundle}
 use Rattle.headline.proofs.Designs.{one_certificate, one_design}
-use Rattle.headline.proofs.YesIsRight.{bundle_good, by_outcome, certificate_faultless, known, yes_has_right_stops, yes_is_right}
+use Rattle.headline.proofs.YesIsRight.{bundle_good, by_outcome, certificate_faultless, known, yes_has_right_stops}
+use Rattle.headline.proofs.YesIsRight.{yes_is_right}
 
 -- ---- a plain module is plain in either version
 
-full_plain : (g : Setting) (ms : List ModuleLines) (lines : List CircuitLine) (p : Pattern) (m : ModuleLines) → IsPlain lines p m → IsPlain lines p (with_halos g ms m)
+full_plain : (g : Setting) (ms : List ModuleLines) (lines : List CircuitLine) (p : Pattern) (m : ModuleLines) →
+    IsPlain lines p m → IsPlain lines p (with_halos g ms m)
 unfolding with_halos
 full_plain g ms lines p m plain = record {
   box = plain.box;
-  inputs = subst (All (IsInputName lines)) (sym (other_lines cut_in (record { halo = λ e. refl; stop = λ s. refl }) m.lines (in_order (beside g ms m.area)))) plain.inputs;
-  inverses = λ n gate at inverse. ap (λ ks. is_among ks n) (other_lines keep_in (record { halo = λ e. refl; stop = λ s. refl }) m.lines (in_order (beside g ms m.area))) ∙ plain.inverses n gate at inverse;
-  no_edge = other_lines edge_in (record { halo = λ e. refl; stop = λ s. refl }) m.lines (in_order (beside g ms m.area)) ∙ plain.no_edge;
+  inputs = subst (All (IsInputName lines))
+      (sym (other_lines cut_in (record { halo = λ e. refl; stop = λ s. refl }) m.lines (in_order (beside g ms m.area))))
+      plain.inputs;
+  inverses = λ n gate at inverse.
+      ap (λ ks. is_among ks n) (other_lines keep_in (record { halo = λ e. refl; stop = λ s. refl }) m.lines
+      (in_order (beside g ms m.area))) ∙ plain.inverses n gate at inverse;
+  no_edge = other_lines edge_in (record { halo = λ e. refl; stop = λ s. refl }) m.lines
+      (in_order (beside g ms m.area)) ∙ plain.no_edge;
 }
 
 -- the one module that the lines mean
-record MeansPlain (version : ℕ) (g : Setting) (ms : List ModuleLines) (lines : List CircuitLine) (p : Pattern) : Type 0 where
+record MeansPlain (version : ℕ) (g : Setting) (ms : List ModuleLines) (lines : List CircuitLine)
+    (p : Pattern) : Type 0 where
   one : ModuleLines
   alone : meant version g ms ≡ one ∷ []
   plain : IsPlain lines p one
 
-means_plain : (version : ℕ) (g : Setting) (ms : List ModuleLines) (lines : List CircuitLine) (p : Pattern) (m : ModuleLines) → ms ≡ m ∷ [] → IsPlain lines p m → MeansPlain version g ms lines p
+means_plain : (version : ℕ) (g : Setting) (ms : List ModuleLines) (lines : List CircuitLine) (p : Pattern)
+    (m : ModuleLines) → ms ≡ m ∷ [] → IsPlain lines p m → MeansPlain version g ms lines p
 means_plain version g ms lines p m is plain = elim (cases_Bool (is_haloless version)) [
-  | inl new ↦ record { one = with_halos g ms m; alone = meant_new version g ms new ∙ ap (map (with_halos g ms)) is; plain = full_plain g ms lines p m plain }
+  | inl new ↦ record { one = with_halos g ms m; alone = meant_new version g ms new ∙ ap (map (with_halos g ms)) is;
+      plain = full_plain g ms lines p m plain }
   | inr old ↦ record { one = m; alone = meant_old version g ms old ∙ is; plain = plain }
 ]
 
@@ -74,7 +86,8 @@ is_no : (v : Verdict) → No ≡ verdict_outcome v → IsNo v
 is_no verdict.Yes e = absurd cc
 is_no (verdict.No lines) e = record { lines = lines; is = refl }
 
-module _ (text : List ℕ) (b : Bundle) (output : List ℕ) (outcome : Outcome) (reads : bundle_of text ≡ Ok b) (says : SaysReport b output outcome) where
+module _ (text : List ℕ) (b : Bundle) (output : List ℕ) (outcome : Outcome) (reads : bundle_of text ≡ Ok b)
+    (says : SaysReport b output outcome) where
   abbrev c : CertState
   c = says.certificate
 
@@ -89,9 +102,11 @@ module _ (text : List ℕ) (b : Bundle) (output : List ℕ) (outcome : Outcome) 
 
   -- the text says the circuit and the layout of the certificate
   said : SaysBundle text c.circuit c.layout b.entries
-  said = subst (λ cs. SaysBundle text cs c.layout b.entries) (sym says.its_own.circuit) ((bundle_good text b reads).says_all c.layout says.its_own.layout)
+  said = subst (λ cs. SaysBundle text cs c.layout b.entries) (sym says.its_own.circuit)
+      ((bundle_good text b reads).says_all c.layout says.its_own.layout)
 
-  same_design : (circuit : List CircuitLine) (layout : Pattern) → SaysDesign text circuit layout → (circuit ≡ c.circuit) × (layout ≡ c.layout)
+  same_design : (circuit : List CircuitLine) (layout : Pattern) → SaysDesign text circuit layout →
+      (circuit ≡ c.circuit) × (layout ≡ c.layout)
   same_design circuit layout d = one_design text circuit c.circuit layout c.layout d said.design
 
   right_correct : IsRight text → IsCorrect c.circuit c.layout
@@ -106,41 +121,52 @@ module _ (text : List ℕ) (b : Bundle) (output : List ℕ) (outcome : Outcome) 
 
   own_stops : all_stops (modules_in c) ≡ flat_map stop_in b.entries
   own_stops =
-      stops_meant c.version (setting_of c.circuit c.layout) (modules_of c.entries) ∙ ap (λ (es : List Entry). all_stops (modules_of es)) says.its_own.entries
-      ∙ all_in_modules (setting_of b.circuit c.layout) b.version b.entries (certificate_faultless text b c.layout reads says.its_own.layout)
+      stops_meant c.version (setting_of c.circuit c.layout) (modules_of c.entries) ∙
+          ap (λ (es : List Entry). all_stops (modules_of es)) says.its_own.entries
+      ∙ all_in_modules (setting_of b.circuit c.layout) b.version b.entries
+          (certificate_faultless text b c.layout reads says.its_own.layout)
 
   stops_on_time : HasRightStops text → IsOnTime (circuit_of c.circuit) c.layout (modules_in c)
   stops_on_time r =
       let same = same_design r.circuit r.layout r.says.design in
-      let lines : r.certificate ≡ b.entries = one_certificate text r.circuit c.circuit r.layout c.layout r.certificate b.entries r.says said in
-      let ss : flat_map stop_in r.certificate ≡ all_stops (modules_in c) = ap (flat_map stop_in) lines ∙ sym own_stops in
+      let lines : r.certificate ≡ b.entries = one_certificate text r.circuit c.circuit r.layout c.layout r.certificate
+          b.entries r.says said in
+      let ss : flat_map stop_in r.certificate ≡ all_stops (modules_in c) = ap (flat_map stop_in) lines ∙
+          sym own_stops in
       record {
         stops = subst (All (StopHolds (circuit_of c.circuit) c.layout)) ss
             (subst (λ cs. All (StopHolds (circuit_of cs) c.layout) (flat_map stop_in r.certificate)) same.0
             (subst (λ p. All (StopHolds (circuit_of r.circuit) p) (flat_map stop_in r.certificate)) same.1 r.stops));
-        times = subst (AreOnTime (circuit_of c.circuit)) ss (subst (λ cs. AreOnTime (circuit_of cs) (flat_map stop_in r.certificate)) same.0 r.on_time);
+        times = subst (AreOnTime (circuit_of c.circuit)) ss
+            (subst (λ cs. AreOnTime (circuit_of cs) (flat_map stop_in r.certificate)) same.0 r.on_time);
       }
 
   -- ---- a yes
 
   accepts : says.verdict ≡ verdict.Yes → Accepts (setting_of c.circuit c.layout) (modules_in c) says.is_verdict.jobs
   unfolding IsVerdict
-  accepts is = subst (λ v. IsVerdict (setting_of c.circuit c.layout) (modules_in c) says.is_verdict.jobs v) is says.is_verdict.judged
+  accepts is = subst (λ v. IsVerdict (setting_of c.circuit c.layout) (modules_in c) says.is_verdict.jobs v) is
+      says.is_verdict.judged
 
   no_touch : says.verdict ≡ verdict.Yes → ¬ HasRimTouch text
-  no_touch is r = off_rim c.circuit c.layout (modules_in c) says.is_verdict.jobs named together (accepts is) (touch_of r)
+  no_touch is r = off_rim c.circuit c.layout (modules_in c) says.is_verdict.jobs named together (accepts is)
+      (touch_of r)
 
   -- ---- a no
 
-  wrong_text : (m : ModuleLines) → modules_in c ≡ m ∷ [] → IsWrong c.circuit c.layout m → IsWrongText text
+  wrong_text : (m : ModuleLines) → modules_in c ≡ m ∷ [] → IsWrongDesign c.circuit c.layout m → IsWrongText text
   wrong_text m alone (inl incorrect) = inl (λ r. incorrect (right_correct r))
-  wrong_text m alone (inr (inl late)) = inr (inl (λ r. late (subst (IsOnTime (circuit_of c.circuit) c.layout) alone (stops_on_time r))))
-  wrong_text m alone (inr (inr touch)) = inr (inr (record { circuit = c.circuit; layout = c.layout; says = said.design; touches = touch }))
+  wrong_text m alone (inr (inl late)) = inr
+      (inl (λ r. late (subst (IsOnTime (circuit_of c.circuit) c.layout) alone (stops_on_time r))))
+  wrong_text m alone (inr (inr touch)) = inr (inr (record { circuit = c.circuit; layout = c.layout; says = said.design;
+      touches = touch }))
 
-  its_plain : SaysPlain text → MeansPlain c.version (setting_of c.circuit c.layout) (modules_of c.entries) c.circuit c.layout
+  its_plain : SaysPlain text → MeansPlain c.version (setting_of c.circuit c.layout) (modules_of c.entries) c.circuit
+      c.layout
   its_plain r =
       let same = same_design r.circuit r.layout r.says.design in
-      let lines : r.certificate ≡ b.entries = one_certificate text r.circuit c.circuit r.layout c.layout r.certificate b.entries r.says said in
+      let lines : r.certificate ≡ b.entries = one_certificate text r.circuit c.circuit r.layout c.layout r.certificate
+          b.entries r.says said in
       means_plain c.version (setting_of c.circuit c.layout) (modules_of c.entries) c.circuit c.layout r.one
       (ap modules_of (says.its_own.entries ∙ sym lines) ∙ r.modules)
       (subst (λ cs. IsPlain cs c.layout r.one) same.0 (subst (λ p. IsPlain r.circuit p r.one) same.1 r.plain))
@@ -153,14 +179,16 @@ module _ (text : List ℕ) (b : Bundle) (output : List ℕ) (outcome : Outcome) 
       let g = setting_of c.circuit c.layout in
       wrong_text it.one it.alone (plain_no c.circuit c.layout it.one jobs no.lines named
       (subst (λ ms. BelongTogether c.circuit c.layout ms jobs) it.alone together) it.plain
-      (subst (λ ms. IsVerdict g ms jobs (verdict.No no.lines)) it.alone (subst (λ v. IsVerdict g (modules_in c) jobs v) no.is says.is_verdict.judged)))
+      (subst (λ ms. IsVerdict g ms jobs (verdict.No no.lines)) it.alone
+          (subst (λ v. IsVerdict g (modules_in c) jobs v) no.is says.is_verdict.judged)))
 
 -- ---- of texts
 
 not_refused : No ≡ Refused → ⊥
 not_refused e = cc
 
-by_read : (text output : List ℕ) (read : Result Bundle Refusal) → bundle_of text ≡ read → Answered SaysReport read output No → IsWrongIfPlain text
+by_read : (text output : List ℕ) (read : Result Bundle Refusal) → bundle_of text ≡ read →
+    Answered SaysReport read output No → IsWrongIfPlain text
 by_read text output (Ok b) e says = wrong text b output No e says refl
 by_read text output (Err refusal) e told = absurd (not_refused told.1)
 
@@ -168,7 +196,8 @@ pub no_is_wrong : PlainNoMeansWrong
 no_is_wrong text output says = by_read text output (bundle_of text) refl says
 
 pub yes_off_rim : YesKeepsOffRim
-yes_off_rim text output says = by_outcome (¬ HasRimTouch text) text output (λ b e says is. no_touch text b output Yes e says is) (bundle_of text) refl says
+yes_off_rim text output says = by_outcome (¬ HasRimTouch text) text output (λ b e says is.
+    no_touch text b output Yes e says is) (bundle_of text) refl says
 
 contradicts : (text : List ℕ) → IsWrongText text → IsRight text → HasRightStops text → ¬ HasRimTouch text → ⊥
 contradicts text (inl incorrect) right stops off = incorrect right
@@ -176,6 +205,9 @@ contradicts text (inr (inl late)) right stops off = late stops
 contradicts text (inr (inr touch)) right stops off = off touch
 
 pub plain_is_decided : PlainIsDecided
-plain_is_decided text output Yes plain says some = ((λ e. (yes_is_right text output says, yes_has_right_stops text output says, yes_off_rim text output says)), (λ is. refl))
-plain_is_decided text output No plain says some = ((λ e. absurd cc), (λ is. absurd (contradicts text (no_is_wrong text output says plain) is.0 is.1 is.2)))
+plain_is_decided text output Yes plain says some =
+    ((λ e. (yes_is_right text output says, yes_has_right_stops text output says, yes_off_rim text output says)), (λ is.
+    refl))
+plain_is_decided text output No plain says some =
+    ((λ e. absurd cc), (λ is. absurd (contradicts text (no_is_wrong text output says plain) is.0 is.1 is.2)))
 plain_is_decided text output Refused plain says some = absurd (some refl)

@@ -1,13 +1,14 @@
 -- What a no of `check` means of a plain text: one module that is the whole rectangle. Of other texts a no says nothing.
 --
--- Read before: all that Headline.antt and Stops.antt name; certificate_lines/specs/Entries.antt up to `keep_in` (the lines of a module);
+-- Read before: all that Headline.antt and Stops.antt name; certificate_lines/specs/Entries.antt up to `keep_in` (the
+-- lines of a module);
 -- audit_core/specs/Noes.antt from `IsPlain` to `TouchesRim`.
 use Rattle.std.specs.Prelude.{◌≡◌, ◌≢◌, ◌↔◌, ◌⊎◌, ℕ, List, [], ◌∷◌}
 use Rattle.circuit.specs.declared.entry.Entry.{Entry as CircuitLine}
 use Rattle.pattern.specs.Layout.{Pattern}
 use Rattle.certificate_lines.specs.Entries.{ModuleLines, modules_of}
 use Rattle.certificate_lines.specs.declared.entry.Entry.{Entry}
-use Rattle.audit_core.specs.Noes.{IsPlain, TouchesRim}
+use Rattle.audit_core.specs.PlainCertificates.{IsPlain, TouchesRim}
 use Rattle.answers.specs.CheckText.{IsReportOf}
 use Rattle.answers.specs.declared.outcome.Outcome.{Outcome}
 use Rattle.answers.specs.declared.outcome.Outcome.TheVariants.{Yes, No, Refused}
@@ -53,7 +54,8 @@ YesKeepsOffRim = (text output : List ℕ) → IsReportOf text output Yes → ¬ 
 
 -- so of a plain text that is not refused `check` decides whether it is right, has right stops and keeps off its rim
 abbrev pub PlainIsDecided : Type 0
-PlainIsDecided = (text output : List ℕ) (outcome : Outcome) → SaysPlain text → IsReportOf text output outcome → outcome ≢ Refused →
+PlainIsDecided = (text output : List ℕ) (outcome : Outcome) → SaysPlain text → IsReportOf text output outcome →
+    outcome ≢ Refused →
     (outcome ≡ Yes) ↔ (IsRight text × HasRightStops text × ¬ HasRimTouch text)
 
 -- Some plain text is reported with the outcome yes (`ThereAndBackIsAccepted`), so the laws are not about nothing.

@@ -1,0 +1,78 @@
+-- What a no means under a plain certificate, of one module that is the whole rectangle: `check` decides the layout.
+--
+-- Read before: Implements.antt, OnTime.antt, FirstFaults.antt.
+use Rattle.std.specs.Prelude.{◌≡◌, ℕ, ℤ, ◌<◌, ◌%◌, ◌↔◌, ◌⊎◌, List, [], ◌∷◌, Some, slice_get, IsTrue}
+use Rattle.std.specs.List.{All}
+use Rattle.std.specs.declared.vec.Vec.{Vec}
+use Rattle.std.specs.declared.alloc.Global.{Global}
+use Rattle.circuit.specs.Gates.{Delay, is_inverse}
+use Rattle.circuit.specs.Bridge.{circuit_of, netlist_of}
+use Rattle.circuit.specs.Meaning.{Gate, Valuation}
+use Rattle.circuit.specs.declared.entry.Entry.{Entry}
+use Rattle.pattern.specs.Layout.{Pattern}
+use Rattle.module_box.specs.Boxes.{in_ring}
+use Rattle.module_box.specs.Locals.{is_among}
+use Rattle.certificate_lines.specs.Entries.{ModuleLines, cuts, edges, keeps, stops}
+use Rattle.certificate_lines.specs.Rules.{whole}
+use Rattle.certificate_lines.specs.Settings.{setting_of}
+use Rattle.module_job.specs.Jobs.{JobState}
+use Rattle.audit_core.specs.HeadlineLaws.{BelongTogether, HasInputNames, IsInputName}
+use Rattle.audit_core.specs.Implements.{IsCorrect, IsNamed, run_under}
+use Rattle.audit_core.specs.OnTime.{IsOnTime}
+use Rattle.audit_core.specs.Verdicts.{Accepts, IsVerdict}
+use Rattle.audit_core.specs.declared.verdict.Verdict.TheVariants.{No}
+use Rattle.audit_core.specs.declared.verdict.ReportLine.{ReportLine}
+
+-- ---- plain certificates
+
+-- The one module of a certificate is plain: its box is the whole rectangle, it cuts inputs of the circuit alone, it
+-- keeps each inverse gate of the circuit, and it has no edge line.
+pub record IsPlain (lines : List Entry) (p : Pattern) (m : ModuleLines) : Type 0 where
+  pub box : m.area ≡ whole p.size
+  pub inputs : All (IsInputName lines) (cuts m)
+  pub inverses : (number : ℕ) (gate : Gate) → slice_get (netlist_of lines).gates number ≡ Some gate →
+      IsTrue (is_inverse gate.kind) → IsTrue (is_among (keeps m) number)
+  pub no_edge : edges m ≡ []
+
+-- Some values of the inputs make a cell of the rim live at an odd time below the steps. The rim is the outermost cells
+-- of the rectangle.
+pub record TouchesRim (lines : List Entry) (p : Pattern) : Type 0 where
+  pub inputs : Valuation
+  pub time : ℕ
+  pub x : ℤ
+  pub y : ℤ
+  pub odd : time % 2 ≡ 1
+  pub early : time < p.size.steps
+  pub rim : IsTrue (in_ring (whole p.size) x y)
+  pub live : IsTrue (run_under (circuit_of lines) p inputs time x y)
+
+-- what is accepted, plain or not, keeps off its rim
+abbrev pub AcceptedKeepsOffRim : Type 0
+AcceptedKeepsOffRim = (lines : List Entry) (p : Pattern) (ms : List ModuleLines) (jobs : List JobState) →
+    HasInputNames lines p → BelongTogether lines p ms jobs → Accepts (setting_of lines p) ms jobs → ¬ TouchesRim lines p
+
+-- A plain certificate is accepted exactly if the layout computes the circuit and keeps off its rim, and the stops,
+-- delays and meetings are right on the whole plane.
+abbrev pub PlainCertificateDecides : Type 0
+PlainCertificateDecides = (lines : List Entry) (p : Pattern) (m : ModuleLines) (jobs : List JobState) →
+    HasInputNames lines p → IsNamed lines p → BelongTogether lines p (m ∷ []) jobs → IsPlain lines p m →
+    Accepts (setting_of lines p) (m ∷ []) jobs ↔ (IsCorrect lines p × IsOnTime (circuit_of lines) p
+        (m ∷ []) × ¬ TouchesRim lines p)
+
+-- what is wrong where the verdict is no: the layout, the stops, or the rim
+abbrev pub IsWrongDesign : List Entry → Pattern → ModuleLines → Type 0
+IsWrongDesign lines p m = (¬ IsCorrect lines p) ⊎ ((¬ IsOnTime (circuit_of lines) p (m ∷ [])) ⊎ TouchesRim lines p)
+
+-- so a verdict of no on a plain certificate says that one of these is
+abbrev pub PlainNoMeansWrong : Type 0
+PlainNoMeansWrong = (lines : List Entry) (p : Pattern) (m : ModuleLines) (jobs : List JobState)
+    (report : Vec ReportLine Global) →
+    HasInputNames lines p → BelongTogether lines p (m ∷ []) jobs → IsPlain lines p m → IsVerdict (setting_of lines p)
+        (m ∷ []) jobs (No report) →
+    IsWrongDesign lines p m
+
+-- where the module has no stop and the circuit no delay, nothing is asked of times
+abbrev pub UntimedIsOnTime : Type 0
+UntimedIsOnTime = (lines : List Entry) (p : Pattern) (m : ModuleLines) →
+    stops m ≡ [] → All (λ g. (n : ℕ) → ¬ (g.kind ≡ Delay n)) (netlist_of lines).gates → IsOnTime (circuit_of lines) p
+        (m ∷ [])
