@@ -21,7 +21,8 @@ use Rattle.local_run.specs.declared.fault.Fault.{Fault}
 use Rattle.border_match.specs.BorderFaults.{IsBorderFault, IsLeastBorderFault, border_cmp}
 use Rattle.border_match.specs.declared.fault.BorderFault.{BorderFault}
 use Rattle.border_match.proofs.Modules.{there}
-use Rattle.audit_core.specs.FirstFaults.{EarliestLineIsFirst}
+use Rattle.audit_core.specs.FirstFaults.{EarliestLineIsFirst, EarliestLineIsReal, IsAssignmentOf}
+use Rattle.audit_core.proofs.FirstFaults.{assigned, first_means}
 use Rattle.audit_core.specs.Verdicts.{AreReportLines, IsToldOf, IsVerdict, border_line, keep_line, lines_from}
 use Rattle.audit_core.specs.Verdicts.{local_line, timing, unkept_lines}
 use Rattle.audit_core.specs.declared.verdict.Reasons.{Reasons}
@@ -112,8 +113,13 @@ from_line number i f (g ∷ fs) (b ∷ bs) h =
       | inr later ↦
           let r : IsFrom (number + 1) i f fs = from_line (number + 1) i f fs bs later in
           let n = r.numbered in
-          record { place = suc r.place; reasons = r.reasons; listed = r.listed; numbered = omega (arith, n);
-              fault = r.fault }
+          record {
+            place = suc r.place;
+            reasons = r.reasons;
+            listed = r.listed;
+            numbered = omega (arith, n);
+            fault = r.fault;
+          }
     ]
 
 lists_local : (number k : ℕ) (fs : List Reasons) (bs : List (Option BorderFault)) (r : Reasons) (f : Fault) →
@@ -128,7 +134,7 @@ lists_local number zero (g ∷ fs) (b ∷ bs) r f at lt is =
     let B = option_to_list (keep_line number g.keep) in
     let C = option_to_list (border_line number b) in
     Contains-append_left (A ++ B ++ C) _ (Local (number + 0) f) (Contains-append_left (A ++ B) C _
-        (Contains-append_left A B _
+    (Contains-append_left A B _
     (subst (λ n. Contains A (Local n f)) (omega arith) (optional_there (λ f. Local number f) g.fault f own))))
 lists_local number (suc k) (g ∷ fs) (b ∷ bs) r f at lt is =
     let A = option_to_list (local_line number g.fault) in
@@ -136,7 +142,7 @@ lists_local number (suc k) (g ∷ fs) (b ∷ bs) r f at lt is =
     let C = option_to_list (border_line number b) in
     Contains-append_right (A ++ B ++ C) (lines_from (number + 1) fs bs) (Local (number + suc k) f)
     (subst (λ n. Contains (lines_from (number + 1) fs bs) (Local n f)) (omega arith)
-        (lists_local (number + 1) k fs bs r f at (omega (arith, lt)) is))
+    (lists_local (number + 1) k fs bs r f at (omega (arith, lt)) is))
 
 lists_border : (number k : ℕ) (fs : List Reasons) (bs : List (Option BorderFault)) (f : BorderFault) →
     slice_get bs k ≡ Some (Some f) → k < length fs →
@@ -157,7 +163,7 @@ lists_border number (suc k) (g ∷ fs) (b ∷ bs) f at lt =
     let C = option_to_list (border_line number b) in
     Contains-append_right (A ++ B ++ C) (lines_from (number + 1) fs bs) (Border (number + suc k) f)
     (subst (λ n. Contains (lines_from (number + 1) fs bs) (Border n f)) (omega arith)
-        (lists_border (number + 1) k fs bs f at (omega (arith, lt))))
+    (lists_border (number + 1) k fs bs f at (omega (arith, lt))))
 
 not_timing : (i : ℕ) (f : Fault) (l : TimeLine) → ¬ (timing l ≡ Local i f)
 not_timing i f (times.Delay k n gap) e = cc
@@ -192,17 +198,17 @@ module _ (g : Setting) (ms : List ModuleLines) (jobs : List JobState) (report : 
   has_line l h =
       subst (λ ls. Contains ls l) (sym are.lines_are)
       (Contains-append_left (lines_from 0 are.faults are.borders ++ unkept_lines g ms) _ l
-          (Contains-append_left (lines_from 0 are.faults are.borders) (unkept_lines g ms) l h))
+      (Contains-append_left (lines_from 0 are.faults are.borders) (unkept_lines g ms) l h))
 
   local_is : (i : ℕ) (f : Fault) → Contains report (Local i f) → IsFrom 0 i f are.faults
   local_is i f h =
       elim (Contains-append_cases (lines_from 0 are.faults are.borders ++ unkept_lines g ms)
-          (map timing (time_lines g.circuit ms)) (Local i f) (subst (λ ls. Contains ls (Local i f)) are.lines_are h)) [
+      (map timing (time_lines g.circuit ms)) (Local i f) (subst (λ ls. Contains ls (Local i f)) are.lines_are h)) [
         | inl front ↦ elim (Contains-append_cases (lines_from 0 are.faults are.borders) (unkept_lines g ms)
             (Local i f) front) [
-          | inl own ↦ from_line 0 i f are.faults are.borders own
-          | inr other ↦ absurd (not_mapped (λ n. Unkept n) (unkept g ms) (Local i f) (λ x e. cc) other)
-        ]
+              | inl own ↦ from_line 0 i f are.faults are.borders own
+              | inr other ↦ absurd (not_mapped (λ n. Unkept n) (unkept g ms) (Local i f) (λ x e. cc) other)
+            ]
         | inr other ↦ absurd (not_mapped timing (time_lines g.circuit ms) (Local i f) (not_timing i f) other)
       ]
 
@@ -211,7 +217,7 @@ module _ (g : Setting) (ms : List ModuleLines) (jobs : List JobState) (report : 
       let r = local_is i f h in
       let n = r.numbered in
       let told : IsToldOf j r.reasons = are.are_least.each i j r.reasons at
-          (ap (slice_get are.faults) (omega (arith, n)) ∙ r.listed) in
+      (ap (slice_get are.faults) (omega (arith, n)) ∙ r.listed) in
       (subst (IsLeastFault j) r.fault told.fault).0
 
   by_least : (n : ℕ) (j : JobState) (r : Reasons) (o : Option Fault) (e : Fault) → slice_get are.faults n ≡ Some r →
@@ -222,8 +228,8 @@ module _ (g : Setting) (ms : List ModuleLines) (jobs : List JobState) (report : 
       let lt = slice_get_within are.faults n r at in
       let count = same_count in
       let first = least n h (has_line (Local n h)
-          (subst (λ k. Contains (lines_from 0 are.faults are.borders) (Local k h)) (omega arith)
-          (lists_local 0 n are.faults are.borders r h at (omega (arith, lt, count)) is))) in
+      (subst (λ k. Contains (lines_from 0 are.faults are.borders) (Local k h)) (omega arith)
+      (lists_local 0 n are.faults are.borders r h at (omega (arith, lt, count)) is))) in
       let next = no_later h e (own.1 e fault) in
       omega (arith, first, next)
 
@@ -235,8 +241,8 @@ module _ (g : Setting) (ms : List ModuleLines) (jobs : List JobState) (report : 
       let lt = slice_get_within are.borders n (Some h) at in
       let count = same_count in
       let first = least n h (has_line (Border n h)
-          (subst (λ k. Contains (lines_from 0 are.faults are.borders) (Border k h)) (omega arith)
-          (lists_border 0 n are.faults are.borders h at (omega (arith, lt, count))))) in
+      (subst (λ k. Contains (lines_from 0 are.faults are.borders) (Border k h)) (omega arith)
+      (lists_border 0 n are.faults are.borders h at (omega (arith, lt, count))))) in
       let next = no_later_border h e (own.1 e fault) in
       omega (arith, first, next)
 
@@ -257,16 +263,32 @@ earliest_is_first lines p ms jobs report inputs v i m j f b judged first atm atj
       before = λ t lt. record {
         of_jobs = λ n k e at kind time own fault.
             let r = there are.faults n (let inside = slice_get_within jobs n k at in let same = are.are_least.count in
-                omega (arith, inside, same)) in
+            omega (arith, inside, same)) in
             let told : IsToldOf k r.0 = are.are_least.each n k r.0 at r.1 in
             let le = by_least g ms jobs report.items are count n k r.0 r.0.fault e r.1 refl told.fault fault f.time
-                first.of_jobs in
+            first.of_jobs in
             omega (arith, le, lt, time);
         of_modules = λ n e time fault.
             let o = there are.borders n (let inside = slice_get_within ms n fault.lines fault.numbered in
-                let same = are.are_border_faults.count in omega (arith, inside, same)) in
+            let same = are.are_border_faults.count in omega (arith, inside, same)) in
             let le = by_least_border g ms jobs report.items are count n o.0 e o.1 (are.are_border_faults.each n o.0 o.1)
-                fault f.time first.of_borders in
+            fault f.time first.of_borders in
             omega (arith, le, lt, time);
       };
     }
+
+pub earliest_is_real : EarliestLineIsReal
+unfolding IsVerdict
+earliest_is_real lines p ms jobs report inputs v i m f named b judged first atm s has =
+    let count = b.are_jobs.count in
+    let within = slice_get_within ms i m atm in
+    let j = there jobs i (omega (arith, count, within)) in
+    let is = b.are_jobs.each i m j.0 atm j.1 in
+    let fault : IsFault j.0 f =
+    its_fault (setting_of lines p) ms jobs report.items judged.1 count i f j.0 first.listed j.1 in
+    let under : IsAssignmentOf j.0 v f.assignment = record {
+      in_range = fault.in_range;
+      bits = assigned lines p m j.0 v f.assignment (b.are_modules.each i m atm) is has;
+    } in
+    first_means lines p ms jobs inputs v i m f named
+    (earliest_is_first lines p ms jobs report inputs v i m j.0 f b judged first atm j.1 s under)

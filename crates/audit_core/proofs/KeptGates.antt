@@ -34,11 +34,11 @@ keeper (m ∷ ms) n e = elim (cases_Bool (is_among (keeps m) n)) [
 ]
 
 -- the place of a number among the places that are mapped to these numbers
-record PlaceOf (f : ℕ → ℕ) (places : List ℕ) (count n : ℕ) : Type 0 where
-  place : ℕ
-  listed : is_among places place ≡ true
-  below : place < count
-  same : f place ≡ n
+pub record PlaceOf (f : ℕ → ℕ) (places : List ℕ) (count n : ℕ) : Type 0 where
+  pub place : ℕ
+  pub listed : is_among places place ≡ true
+  pub below : place < count
+  pub same : f place ≡ n
 
 listed_first : (p : ℕ) (places : List ℕ) → is_among (p ∷ places) p ≡ true
 listed_first p places = rw (eq-eqb p p refl) refl
@@ -49,7 +49,7 @@ listed_later p q places e = elim (cases_Bool (eqb p q)) [
   | inr other ↦ rw other e
 ]
 
-place_of : (f : ℕ → ℕ) (places : List ℕ) (count n : ℕ) → All (λ k. k < count) places → is_among (map f places) n ≡ true → PlaceOf f places count n
+pub place_of : (f : ℕ → ℕ) (places : List ℕ) (count n : ℕ) → All (λ k. k < count) places → is_among (map f places) n ≡ true → PlaceOf f places count n
 place_of f [] count n all e = absurd (true≢false (sym e))
 place_of f (p ∷ places) count n all e = elim (cases_Bool (eqb (f p) n)) [
   | inl here ↦ record { place = p; listed = listed_first p places; below = All-head (λ k. k < count) p places all; same = eqb-true (f p) n here }

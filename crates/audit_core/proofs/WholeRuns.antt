@@ -342,11 +342,12 @@ unfolding in_ring
 off_rim lines p ms jobs named b accepted t =
     let all : IsAcceptedBundle lines p ms jobs = record { bundle = b; accepted = accepted } in
     let found = accepted_has_valuation lines p ms jobs t.inputs all in
-    let early = t.early in
+    let early = t.touch.early in
     let now = all_times lines p ms jobs t.inputs found.0 t.time all found.1 (omega (arith, early)) in
     let set : Setting lines p ms jobs t.inputs found.0 t.time = record { bundle = b; right = good_borders lines p ms jobs found.0 t.time (right_of lines p ms jobs all); satisfied = found.1 } in
-    true≢false (sym t.live ∙ sym (inputs_decide lines p t.inputs found.0 t.time t.x t.y named found.1)
-    ∙ rim_dead lines p ms jobs t.inputs found.0 t.time t.x t.y set t.odd t.early now (and_parts (in_box (whole p.size) t.x t.y) _ t.rim).1)
+    true≢false (sym t.touch.live ∙ sym (inputs_decide lines p t.inputs found.0 t.time t.x t.y named found.1)
+    ∙ rim_dead lines p ms jobs t.inputs found.0 t.time t.x t.y set t.touch.odd t.touch.early now
+    (and_parts (in_box (whole p.size) t.x t.y) _ t.touch.rim).1)
 
 -- ---- stops
 

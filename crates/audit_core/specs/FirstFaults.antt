@@ -11,7 +11,6 @@ use Rattle.circuit.specs.declared.entry.Entry.{Entry}
 use Rattle.pattern.specs.Layout.{Pattern}
 use Rattle.module_box.specs.LocalValues.{seen_by}
 use Rattle.certificate_lines.specs.Entries.{ModuleLines, cuts, stops}
-use Rattle.certificate_lines.specs.Rules.{whole}
 use Rattle.certificate_lines.specs.Settings.{setting_of}
 use Rattle.certificate_lines.specs.declared.entry.StopLine.{StopLine}
 use Rattle.module_job.specs.Jobs.{JobState}
@@ -24,7 +23,7 @@ use Rattle.local_run.specs.declared.fault.Kind.TheVariants.{Edge, Stop, End}
 use Rattle.border_match.specs.BorderFaults.{IsBorderFault, edge_signal}
 use Rattle.border_match.specs.declared.fault.BorderFault.{BorderFault}
 use Rattle.audit_core.specs.HeadlineLaws.{BelongTogether, HasInputNames, IsRunOfJobs}
-use Rattle.audit_core.specs.Implements.{IsCorrect, run_under}
+use Rattle.audit_core.specs.Implements.{IsCorrect, LooksAsAsked, run_under}
 use Rattle.audit_core.specs.Verdicts.{IsVerdict}
 use Rattle.audit_core.specs.declared.verdict.Verdict.TheVariants.{No}
 use Rattle.audit_core.specs.declared.verdict.ReportLine.{ReportLine}
@@ -50,7 +49,7 @@ abbrev pub StepsWithGoodBorders : Type 0
 StepsWithGoodBorders = (lines : List Entry) (p : Pattern) (ms : List ModuleLines) (jobs : List JobState)
     (inputs v : Valuation) (t : ℕ) →
     BelongTogether lines p ms jobs → Satisfies (netlist_of lines) inputs v → t < p.size.steps →
-        HasGoodBorders lines p ms jobs v t →
+    HasGoodBorders lines p ms jobs v t →
     IsRunOfJobs lines p jobs v t → IsRunOfJobs lines p jobs v (suc t)
 
 -- ---- the first fault
@@ -80,7 +79,7 @@ abbrev pub FirstFaultIsReal : Type 0
 FirstFaultIsReal = (lines : List Entry) (p : Pattern) (ms : List ModuleLines) (jobs : List JobState)
     (inputs v : Valuation) (i : ℕ) (m : ModuleLines) (f : Fault) →
     IsFirstFault lines p ms jobs inputs v i m f → ¬ IsAsCertified (circuit_of lines) p m v f.time f.kind f.cell.x
-        f.cell.y
+    f.cell.y
 
 -- If it is a fault at the end, the layout does not compute the circuit.
 abbrev pub EndFaultMeansIncorrect : Type 0
@@ -99,7 +98,31 @@ abbrev pub EarliestLineIsFirst : Type 0
 EarliestLineIsFirst = (lines : List Entry) (p : Pattern) (ms : List ModuleLines) (jobs : List JobState)
     (report : Vec ReportLine Global) (inputs v : Valuation) (i : ℕ) (m : ModuleLines) (j : JobState) (f : Fault) →
     BelongTogether lines p ms jobs → IsVerdict (setting_of lines p) ms jobs (No report) →
-        IsEarliestLine report.items i f →
+    IsEarliestLine report.items i f →
     slice_get ms i ≡ Some m → slice_get jobs i ≡ Some j → Satisfies (netlist_of lines) inputs v →
-        IsAssignmentOf j v f.assignment →
+    IsAssignmentOf j v f.assignment →
     IsFirstFault lines p ms jobs inputs v i m f
+
+-- ---- what a line says of the whole plane
+
+-- The values v of the circuit's wires give module m the assignment a: cut k has the value of bit k.
+abbrev pub HasAssignment : Circuit → ModuleLines → Valuation → ℕ → Type 0
+HasAssignment c m v a = (k : ℕ) (name : List ℕ) → slice_get (cuts m) k ≡ Some name → values_by_name c v name ≡ bit a k
+
+-- The fault of module m is one of the whole plane, where the inputs have these values and the wires the values v: there
+-- the cell is not as certified. If it is a fault at the end, the plane does not look as asked after the last step, so
+-- the
+-- layout does not compute the circuit.
+pub record IsReal (lines : List Entry) (p : Pattern) (m : ModuleLines) (inputs v : Valuation) (f : Fault) : Type 0 where
+  pub differs : ¬ IsAsCertified (circuit_of lines) p m v f.time f.kind f.cell.x f.cell.y
+  pub not_asked : f.kind ≡ End →
+      ¬ LooksAsAsked p (values_by_name (circuit_of lines) v) (run_under (circuit_of lines) p inputs p.size.steps)
+  pub incorrect : f.kind ≡ End → ¬ IsCorrect lines p
+
+-- The earliest line of a report is real, under each valuation that has its assignment.
+abbrev pub EarliestLineIsReal : Type 0
+EarliestLineIsReal = (lines : List Entry) (p : Pattern) (ms : List ModuleLines) (jobs : List JobState)
+    (report : Vec ReportLine Global) (inputs v : Valuation) (i : ℕ) (m : ModuleLines) (f : Fault) →
+    HasInputNames lines p → BelongTogether lines p ms jobs → IsVerdict (setting_of lines p) ms jobs (No report) →
+    IsEarliestLine report.items i f → slice_get ms i ≡ Some m → Satisfies (netlist_of lines) inputs v →
+    HasAssignment (circuit_of lines) m v f.assignment → IsReal lines p m inputs v f

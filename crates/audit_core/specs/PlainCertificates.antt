@@ -1,13 +1,13 @@
 -- What a no means under a plain certificate, of one module that is the whole rectangle: `check` decides the layout.
 --
 -- Read before: Implements.antt, OnTime.antt, FirstFaults.antt.
-use Rattle.std.specs.Prelude.{◌≡◌, ℕ, ℤ, ◌<◌, ◌%◌, ◌↔◌, ◌⊎◌, List, [], ◌∷◌, Some, slice_get, IsTrue}
+use Rattle.std.specs.Prelude.{◌≡◌, ◌≢◌, ℕ, ℤ, ◌<◌, ◌%◌, ◌↔◌, ◌⊎◌, List, [], ◌∷◌, Some, None, slice_get, IsTrue}
 use Rattle.std.specs.List.{All}
 use Rattle.std.specs.declared.vec.Vec.{Vec}
 use Rattle.std.specs.declared.alloc.Global.{Global}
 use Rattle.circuit.specs.Gates.{Delay, is_inverse}
 use Rattle.circuit.specs.Bridge.{circuit_of, netlist_of}
-use Rattle.circuit.specs.Meaning.{Gate, Valuation}
+use Rattle.circuit.specs.Meaning.{Gate, Satisfies, Valuation}
 use Rattle.circuit.specs.declared.entry.Entry.{Entry}
 use Rattle.pattern.specs.Layout.{Pattern}
 use Rattle.module_box.specs.Boxes.{in_ring}
@@ -16,12 +16,19 @@ use Rattle.certificate_lines.specs.Entries.{ModuleLines, cuts, edges, keeps, sto
 use Rattle.certificate_lines.specs.Rules.{whole}
 use Rattle.certificate_lines.specs.Settings.{setting_of}
 use Rattle.module_job.specs.Jobs.{JobState}
+use Rattle.certificate.specs.Arrivals.{AreOnTime}
+use Rattle.certificate.specs.declared.times.Gap.TheVariants.{Steps}
+use Rattle.local_run.specs.declared.fault.Fault.{Fault}
+use Rattle.local_run.specs.declared.fault.Kind.TheVariants.{Edge, Stop}
+use Rattle.audit_core.specs.FirstFaults.{HasAssignment, IsReal}
 use Rattle.audit_core.specs.HeadlineLaws.{BelongTogether, HasInputNames, IsInputName}
 use Rattle.audit_core.specs.Implements.{IsCorrect, IsNamed, run_under}
-use Rattle.audit_core.specs.OnTime.{IsOnTime}
+use Rattle.audit_core.specs.OnTime.{IsOnTime, StopHolds}
 use Rattle.audit_core.specs.Verdicts.{Accepts, IsVerdict}
 use Rattle.audit_core.specs.declared.verdict.Verdict.TheVariants.{No}
 use Rattle.audit_core.specs.declared.verdict.ReportLine.{ReportLine}
+use Rattle.audit_core.specs.declared.verdict.ReportLine.TheVariants.{Local, Keep, Border, Unkept, Delay as DelayLine}
+use Rattle.audit_core.specs.declared.verdict.ReportLine.TheVariants.{Meet}
 
 -- ---- plain certificates
 
@@ -34,17 +41,22 @@ pub record IsPlain (lines : List Entry) (p : Pattern) (m : ModuleLines) : Type 0
       IsTrue (is_inverse gate.kind) → IsTrue (is_among (keeps m) number)
   pub no_edge : edges m ≡ []
 
--- Some values of the inputs make a cell of the rim live at an odd time below the steps. The rim is the outermost cells
--- of the rectangle.
+-- The inputs have these values. Then the cell (x, y) of the rim is live at this odd time below the steps. The rim is
+-- the
+-- outermost cells of the rectangle.
+pub record IsLiveOnRim (lines : List Entry) (p : Pattern) (inputs : Valuation) (time : ℕ) (x y : ℤ) : Type 0 where
+  pub odd : time % 2 ≡ 1
+  pub early : time < p.size.steps
+  pub rim : IsTrue (in_ring (whole p.size) x y)
+  pub live : IsTrue (run_under (circuit_of lines) p inputs time x y)
+
+-- for some values of the inputs a cell of the rim is live at an odd time below the steps
 pub record TouchesRim (lines : List Entry) (p : Pattern) : Type 0 where
   pub inputs : Valuation
   pub time : ℕ
   pub x : ℤ
   pub y : ℤ
-  pub odd : time % 2 ≡ 1
-  pub early : time < p.size.steps
-  pub rim : IsTrue (in_ring (whole p.size) x y)
-  pub live : IsTrue (run_under (circuit_of lines) p inputs time x y)
+  pub touch : IsLiveOnRim lines p inputs time x y
 
 -- what is accepted, plain or not, keeps off its rim
 abbrev pub AcceptedKeepsOffRim : Type 0
@@ -57,7 +69,7 @@ abbrev pub PlainCertificateDecides : Type 0
 PlainCertificateDecides = (lines : List Entry) (p : Pattern) (m : ModuleLines) (jobs : List JobState) →
     HasInputNames lines p → IsNamed lines p → BelongTogether lines p (m ∷ []) jobs → IsPlain lines p m →
     Accepts (setting_of lines p) (m ∷ []) jobs ↔ (IsCorrect lines p × IsOnTime (circuit_of lines) p
-        (m ∷ []) × ¬ TouchesRim lines p)
+    (m ∷ []) × ¬ TouchesRim lines p)
 
 -- what is wrong where the verdict is no: the layout, the stops, or the rim
 abbrev pub IsWrongDesign : List Entry → Pattern → ModuleLines → Type 0
@@ -68,11 +80,55 @@ abbrev pub PlainNoMeansWrong : Type 0
 PlainNoMeansWrong = (lines : List Entry) (p : Pattern) (m : ModuleLines) (jobs : List JobState)
     (report : Vec ReportLine Global) →
     HasInputNames lines p → BelongTogether lines p (m ∷ []) jobs → IsPlain lines p m → IsVerdict (setting_of lines p)
-        (m ∷ []) jobs (No report) →
+    (m ∷ []) jobs (No report) →
     IsWrongDesign lines p m
+
+-- ---- what each line means under a plain certificate
+
+-- What a `local` line shows: inputs that have its assignment, and values of the wires for these, under which its fault
+-- is
+-- real. If it is an edge line, its cell of the rim is live at its time. If it is a stop line, some stop is wrong. If it
+-- is
+-- an end line, the layout does not compute the circuit (`IsReal`).
+pub record Shows (lines : List Entry) (p : Pattern) (m : ModuleLines) (f : Fault) : Type 0 where
+  pub inputs : Valuation
+  pub under : HasAssignment (circuit_of lines) m inputs f.assignment
+  pub values : Valuation
+  pub satisfied : Satisfies (netlist_of lines) inputs values
+  pub real : IsReal lines p m inputs values f
+  pub on_rim : f.kind ≡ Edge → IsLiveOnRim lines p inputs f.time f.cell.x f.cell.y
+  pub wrong_stop : f.kind ≡ Stop → ¬ All (StopHolds (circuit_of lines) p) (stops m)
+
+-- What a `keep` line shows: inputs that have its assignment, for which the circuit has no values. So the layout does
+-- not
+-- compute it.
+pub record LacksValues (lines : List Entry) (p : Pattern) (m : ModuleLines) (assignment : ℕ) : Type 0 where
+  pub inputs : Valuation
+  pub under : HasAssignment (circuit_of lines) m inputs assignment
+  pub lacks : (v : Valuation) → ¬ Satisfies (netlist_of lines) inputs v
+  pub incorrect : ¬ IsCorrect lines p
+
+-- What each line of a report means. No `border` and no `unkept` line occurs. A `delay` line that tells another number
+-- of
+-- steps than it wants, and a `meet` line without a time, say that the stops are not on time.
+abbrev pub LineMeans : List Entry → Pattern → ModuleLines → ReportLine → Type 0
+LineMeans lines p m (Local i f) = Shows lines p m f
+LineMeans lines p m (Keep i f) = LacksValues lines p m f.assignment
+LineMeans lines p m (Border i f) = ⊥
+LineMeans lines p m (Unkept gate) = ⊥
+LineMeans lines p m (DelayLine gate wanted gap) = gap ≢ Steps wanted → ¬ AreOnTime (circuit_of lines) (stops m)
+LineMeans lines p m (Meet gate (Some t)) = Unit {0}
+LineMeans lines p m (Meet gate None) = ¬ AreOnTime (circuit_of lines) (stops m)
+
+-- It means so in every report on a plain certificate.
+abbrev pub PlainLinesMean : Type 0
+PlainLinesMean = (lines : List Entry) (p : Pattern) (m : ModuleLines) (jobs : List JobState)
+    (report : Vec ReportLine Global) → HasInputNames lines p → BelongTogether lines p (m ∷ []) jobs →
+    IsPlain lines p m →
+    IsVerdict (setting_of lines p) (m ∷ []) jobs (No report) → All (LineMeans lines p m) report.items
 
 -- where the module has no stop and the circuit no delay, nothing is asked of times
 abbrev pub UntimedIsOnTime : Type 0
 UntimedIsOnTime = (lines : List Entry) (p : Pattern) (m : ModuleLines) →
     stops m ≡ [] → All (λ g. (n : ℕ) → ¬ (g.kind ≡ Delay n)) (netlist_of lines).gates → IsOnTime (circuit_of lines) p
-        (m ∷ [])
+    (m ∷ [])

@@ -1,7 +1,7 @@
 //! Laws of books, each the contract of a function without a body.
 ghost use Rattle.audit_core.specs.HeadlineLaws.{AcceptedHasValuation, AcceptedIsCorrect, AcceptedIsOnTime, EndsAsAsked, Example, InputsDecideTheRun, NoneIsUndefined, ReadLayoutHasInputNames, ReadLayoutIsNamed, StartsAsJobs, StepsAsJobs, WrongExample};
-ghost use Rattle.audit_core.specs.FirstFaults.{EarliestLineIsFirst, EndFaultMeansIncorrect, FirstFaultIsReal, StepsWithGoodBorders};
-ghost use Rattle.audit_core.specs.PlainCertificates.{AcceptedKeepsOffRim, PlainCertificateDecides, PlainNoMeansWrong, UntimedIsOnTime};
+ghost use Rattle.audit_core.specs.FirstFaults.{EarliestLineIsFirst, EarliestLineIsReal, EndFaultMeansIncorrect, FirstFaultIsReal, StepsWithGoodBorders};
+ghost use Rattle.audit_core.specs.PlainCertificates.{AcceptedKeepsOffRim, PlainCertificateDecides, PlainLinesMean, PlainNoMeansWrong, UntimedIsOnTime};
 ghost use Rattle.audit_core.specs.ModuleLaws.{JobsOfOneModuleAgree, JobsOfOneModuleAgreeOnKeeps};
 ghost use Rattle.audit_core.specs.MigrationLaws.{AcceptedWithoutHalos, MigrationIsAccepted};
 ghost use Rattle.audit_core.specs.CoreLaws.{AcceptsOneForEach, DrawsEachOnce, EmptyWhereAllAreDrawn, EventsKeepWhatIsHeld, EventsReplay, HoldsHonestOwn, HoldsWhatWasAccepted, OnlyAcceptedChangesWhatIsHeld, VerdictIsOne};
@@ -85,20 +85,24 @@ pub fn steps_as_jobs()
     ensures good_borders { StepsWithGoodBorders }
 {}
 
-/// The first fault under the circuit's values is one of the whole plane: there the cell is not as the module says. One of the end says that
-/// the layout does not compute the circuit. The earliest line of a report is the first fault, where its assignment occurs in the circuit.
+/// The first fault under the circuit's values is one of the whole plane: there the cell is not as its module certifies. A first fault
+/// at the end means that the layout does not compute the circuit. The earliest line of a report is the first fault under each
+/// valuation that has its assignment.
 pub fn first_fault_is_real()
     ensures real { FirstFaultIsReal }
-    ensures end { EndFaultMeansIncorrect }
-    ensures line { EarliestLineIsFirst }
+    ensures incorrect { EndFaultMeansIncorrect }
+    ensures first { EarliestLineIsFirst }
+    ensures earliest { EarliestLineIsReal }
 {}
 
-/// A plain certificate, of one module that is the whole rectangle, is accepted just where the layout computes the circuit, no run touches
-/// the rim at an odd time, and the stops, delays and meetings are right. So a no on it says that one of these is wrong.
+/// A plain certificate, of one module that is the whole rectangle, is accepted exactly if the layout computes the circuit, no run touches
+/// the rim at an odd time, and the stops, delays and meetings are right. So a no on it says that one of these is wrong, and each line of
+/// its report says which, and for which inputs.
 pub fn plain_certificate_decides()
     ensures off_rim { AcceptedKeepsOffRim }
     ensures decides { PlainCertificateDecides }
     ensures no { PlainNoMeansWrong }
+    ensures lines { PlainLinesMean }
     ensures untimed { UntimedIsOnTime }
 {}
 

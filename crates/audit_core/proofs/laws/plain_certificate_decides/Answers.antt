@@ -1,4 +1,4 @@
-use Rattle.audit_core.proofs.PlainCertificates.{plain_decides, plain_no, untimed}
+use Rattle.audit_core.proofs.PlainCertificates.{plain_decides, plain_lines, plain_no, untimed}
 use Rattle.audit_core.proofs.WholeRuns.{off_rim}
 use Rattle.audit_core.proofs.laws.plain_certificate_decides.Goals as goal
 
@@ -13,3 +13,6 @@ returns-clause-no c = plain_no
 
 pub returns-clause-untimed : goal.returns-clause-untimed
 returns-clause-untimed c = untimed
+
+pub returns-clause-lines : goal.returns-clause-lines
+returns-clause-lines c = plain_lines
