@@ -1,33 +1,50 @@
 -- What is reported on a plain text
 use Rattle.std.proofs.Common.{◌≡◌, ℕ, List, [], ◌∷◌, map, Result, Ok, Err, Vec, Global, refl, sym, ap, subst, ◌∙◌, inl}
-use Rattle.std.proofs.Common.{inr}
+use Rattle.std.proofs.Common.{inr, ℤ, length, Some, None, option_map}
 use Rattle.std.specs.List.{All, flat_map}
 use Rattle.std.proofs.lemmas.Bool.{cases_Bool}
 use Rattle.section_text.specs.declared.fault.Refusal.{Refusal}
-use Rattle.circuit.specs.Bridge.{circuit_of}
+use Rattle.circuit.specs.Bridge.{circuit_of, netlist_of}
 use Rattle.circuit.specs.declared.entry.Entry.{Entry as CircuitLine}
 use Rattle.pattern.specs.Layout.{Pattern}
 use Rattle.module_box.specs.Locals.{is_among}
-use Rattle.certificate_lines.specs.Entries.{ModuleLines, Setting, cut_in, edge_in, keep_in, modules_of, stop_in}
+use Rattle.certificate_lines.specs.Entries.{ModuleLines, Setting, cut_in, edge_in, keep_in, modules_of, stop_in, cuts}
+use Rattle.certificate_lines.specs.Entries.{edges, stops}
 use Rattle.certificate_lines.specs.Settings.{setting_of}
 use Rattle.certificate_lines.specs.Versions.{beside, in_order, is_haloless, meant, with_halos}
 use Rattle.certificate_lines.specs.declared.entry.Entry.{Entry}
 use Rattle.certificate.specs.Arrivals.{AreOnTime}
 use Rattle.certificate.specs.Grammars.{CertState, modules_in}
 use Rattle.certificate.specs.Times.{all_stops}
-use Rattle.certificate.proofs.FullModules.{meant_new, meant_old, other_lines}
+use Rattle.certificate.proofs.FullModules.{meant_new, meant_old, other_lines, stop_lines}
 use Rattle.certificate.proofs.MeantLines.{stops_meant}
 use Rattle.certificate.proofs.TimeLemmas.{all_in_modules}
+use Rattle.std.specs.Prelude.{Contains, slice_get}
+use Rattle.std.proofs.lemmas.Option.{slice_get-map}
+use Rattle.sha2.specs.Sha256.{sha256}
+use Rattle.circuit.specs.Meaning.{Circuit, Satisfies, Valuation}
+use Rattle.module_box.specs.Schedules.{signal_at}
+use Rattle.module_job.specs.Signals.{is_live}
+use Rattle.certificate.specs.Jobs.{line_signals}
+use Rattle.certificate.specs.Text.{certificate_text}
+use Rattle.local_run.specs.declared.fault.Fault.{Fault}
+use Rattle.local_run.specs.declared.fault.Kind.{Kind}
+use Rattle.local_run.specs.declared.fault.Kind.TheVariants.{Edge, End, Stop as AtStop}
+use Rattle.audit_core.proofs.EarliestLines.{earliest_is_real}
+use Rattle.report.specs.ReportText.{report_lines}
+use Rattle.headline.specs.ReportLines.{EarliestIsReal, LinesMeanIfPlain, LinesTell, NoLinesTell, SaysNoWith}
+use Rattle.audit_core.specs.declared.verdict.ReportLine.TheVariants.{Local, Keep, Border, Unkept, Delay, Meet}
+use Rattle.audit_core.specs.FirstFaults.{HasAssignment, IsAsCertified, IsEarliestLine, IsReal}
 use Rattle.audit_core.specs.HeadlineLaws.{BelongTogether, HasInputNames, IsInputName}
 use Rattle.audit_core.specs.Implements.{IsCorrect}
-use Rattle.audit_core.specs.PlainCertificates.{IsPlain, IsWrongDesign, TouchesRim}
+use Rattle.audit_core.specs.PlainCertificates.{IsPlain, IsWrongDesign, TouchesRim, LineMeans}
 use Rattle.audit_core.specs.OnTime.{IsOnTime, StopHolds}
 use Rattle.audit_core.specs.Verdicts.{Accepts, IsVerdict}
 use Rattle.audit_core.specs.declared.verdict.ReportLine.{ReportLine}
 use Rattle.audit_core.specs.declared.verdict.Verdict.{Verdict}
 use Rattle.audit_core.specs.declared.verdict.Verdict.TheVariants as verdict
 use Rattle.audit_core.proofs.InputRuns.{read_layout-names}
-use Rattle.audit_core.proofs.PlainCertificates.{plain_no}
+use Rattle.audit_core.proofs.PlainCertificates.{plain_no, plain_lines}
 use Rattle.audit_core.proofs.WholeRuns.{off_rim}
 use Rattle.audit_core.proofs.YesMeansCorrect.{IsRead, bundle_read}
 use Rattle.answers.specs.Answers.{Answered}
@@ -61,19 +78,121 @@ full_plain g ms lines p m plain = record {
       (in_order (beside g ms m.area)) ∙ plain.no_edge;
 }
 
+-- ---- what a module says, and what it means
+
+-- both have the same cuts, edge lines and stops
+record HaveSameLines (full m : ModuleLines) : Type 0 where
+  cuts_same : cuts full ≡ cuts m
+  edges_same : edges full ≡ edges m
+  stops_same : stops full ≡ stops m
+
+with_halos_same : (g : Setting) (ms : List ModuleLines) (m : ModuleLines) → HaveSameLines (with_halos g ms m) m
+unfolding with_halos
+with_halos_same g ms m = record {
+  cuts_same = other_lines cut_in (record { halo = λ e. refl; stop = λ s. refl }) m.lines
+      (in_order (beside g ms m.area));
+  edges_same = other_lines edge_in (record { halo = λ e. refl; stop = λ s. refl }) m.lines
+      (in_order (beside g ms m.area));
+  stops_same = stop_lines m.lines (in_order (beside g ms m.area));
+}
+
+-- the module that module i means
+record MeansModule (version : ℕ) (g : Setting) (ms : List ModuleLines) (i : ℕ) (m : ModuleLines) : Type 0 where
+  full : ModuleLines
+  numbered : slice_get (meant version g ms) i ≡ Some full
+  same : HaveSameLines full m
+
+means_module : (version : ℕ) (g : Setting) (ms : List ModuleLines) (i : ℕ) (m : ModuleLines) →
+    slice_get ms i ≡ Some m → MeansModule version g ms i m
+means_module version g ms i m at = elim (cases_Bool (is_haloless version)) [
+  | inl new ↦ record {
+    full = with_halos g ms m;
+    numbered = ap (λ ns. slice_get ns i) (meant_new version g ms new) ∙ slice_get-map (with_halos g ms) ms i
+        ∙ ap (option_map (with_halos g ms)) at;
+    same = with_halos_same g ms m;
+  }
+  | inr old ↦ record {
+    full = m;
+    numbered = ap (λ ns. slice_get ns i) (meant_old version g ms old) ∙ at;
+    same = record { cuts_same = refl; edges_same = refl; stops_same = refl };
+  }
+]
+
+certified_same : (c : Circuit) (p : Pattern) (full m : ModuleLines) (v : Valuation) (t : ℕ) (kind : Kind) (x y : ℤ) →
+    HaveSameLines full m → IsAsCertified c p m v t kind x y → IsAsCertified c p full v t kind x y
+certified_same c p full m v t Edge x y same h =
+    h ∙ sym (ap (λ es. is_live v (signal_at (line_signals c es) t x y)) same.edges_same)
+certified_same c p full m v t AtStop x y same h = λ s has. h s (subst (λ ss. Contains ss s) same.stops_same has)
+certified_same c p full m v t End x y same h = h
+
+real_same : (lines : List CircuitLine) (p : Pattern) (full m : ModuleLines) (inputs v : Valuation) (f : Fault) →
+    HaveSameLines full m → IsReal lines p full inputs v f → IsReal lines p m inputs v f
+real_same lines p full m inputs v f same real = record {
+  differs = λ h. real.differs (certified_same (circuit_of lines) p full m v f.time f.kind f.cell.x f.cell.y same h);
+  not_asked = real.not_asked;
+  incorrect = real.incorrect;
+}
+
+assignment_same : (c : Circuit) (full m : ModuleLines) (v : Valuation) (a : ℕ) → HaveSameLines full m →
+    HasAssignment c m v a → HasAssignment c full v a
+assignment_same c full m v a same has k name at = has k name (sym (ap (λ ns. slice_get ns k) same.cuts_same) ∙ at)
+
+assignment_back : (c : Circuit) (full m : ModuleLines) (v : Valuation) (a : ℕ) → HaveSameLines full m →
+    HasAssignment c full v a → HasAssignment c m v a
+assignment_back c full m v a same has k name at = has k name (ap (λ ns. slice_get ns k) same.cuts_same ∙ at)
+
+line_same : (lines : List CircuitLine) (p : Pattern) (full m : ModuleLines) (l : ReportLine) → HaveSameLines full m →
+    LineMeans lines p full l → LineMeans lines p m l
+line_same lines p full m (Local i f) same shown = record {
+  inputs = shown.inputs;
+  under = assignment_back (circuit_of lines) full m shown.inputs f.assignment same shown.under;
+  values = shown.values;
+  satisfied = shown.satisfied;
+  real = real_same lines p full m shown.inputs shown.values f same shown.real;
+  on_rim = shown.on_rim;
+  wrong_stop = λ e held. shown.wrong_stop e (subst (All (StopHolds (circuit_of lines) p)) (sym same.stops_same) held);
+}
+line_same lines p full m (Keep i f) same lacks = record {
+  inputs = lacks.inputs;
+  under = assignment_back (circuit_of lines) full m lacks.inputs f.assignment same lacks.under;
+  lacks = lacks.lacks;
+  incorrect = lacks.incorrect;
+}
+line_same lines p full m (Border i f) same h = h
+line_same lines p full m (Unkept gate) same h = h
+line_same lines p full m (Delay gate wanted gap) same h =
+    λ other timed. h other (subst (AreOnTime (circuit_of lines)) (sym same.stops_same) timed)
+line_same lines p full m (Meet gate (Some t)) same h = tt
+line_same lines p full m (Meet gate None) same h =
+    λ timed. h (subst (AreOnTime (circuit_of lines)) (sym same.stops_same) timed)
+
+all_same : (lines : List CircuitLine) (p : Pattern) (full m : ModuleLines) (ls : List ReportLine) →
+    HaveSameLines full m → All (LineMeans lines p full) ls → All (LineMeans lines p m) ls
+all_same lines p full m ls same all k d lt = line_same lines p full m _ same (all k d lt)
+
 -- the one module that the lines mean
-record MeansPlain (version : ℕ) (g : Setting) (ms : List ModuleLines) (lines : List CircuitLine)
-    (p : Pattern) : Type 0 where
+record MeansPlain (version : ℕ) (g : Setting) (ms : List ModuleLines) (lines : List CircuitLine) (p : Pattern)
+    (m : ModuleLines) : Type 0 where
   one : ModuleLines
   alone : meant version g ms ≡ one ∷ []
   plain : IsPlain lines p one
+  same : HaveSameLines one m
 
 means_plain : (version : ℕ) (g : Setting) (ms : List ModuleLines) (lines : List CircuitLine) (p : Pattern)
-    (m : ModuleLines) → ms ≡ m ∷ [] → IsPlain lines p m → MeansPlain version g ms lines p
+    (m : ModuleLines) → ms ≡ m ∷ [] → IsPlain lines p m → MeansPlain version g ms lines p m
 means_plain version g ms lines p m is plain = elim (cases_Bool (is_haloless version)) [
-  | inl new ↦ record { one = with_halos g ms m; alone = meant_new version g ms new ∙ ap (map (with_halos g ms)) is;
-      plain = full_plain g ms lines p m plain }
-  | inr old ↦ record { one = m; alone = meant_old version g ms old ∙ is; plain = plain }
+  | inl new ↦ record {
+    one = with_halos g ms m;
+    alone = meant_new version g ms new ∙ ap (map (with_halos g ms)) is;
+    plain = full_plain g ms lines p m plain;
+    same = with_halos_same g ms m;
+  }
+  | inr old ↦ record {
+    one = m;
+    alone = meant_old version g ms old ∙ is;
+    plain = plain;
+    same = record { cuts_same = refl; edges_same = refl; stops_same = refl };
+  }
 ]
 
 -- ---- a report of a bundle
@@ -122,17 +241,17 @@ module _ (text : List ℕ) (b : Bundle) (output : List ℕ) (outcome : Outcome) 
   own_stops : all_stops (modules_in c) ≡ flat_map stop_in b.entries
   own_stops =
       stops_meant c.version (setting_of c.circuit c.layout) (modules_of c.entries) ∙
-          ap (λ (es : List Entry). all_stops (modules_of es)) says.its_own.entries
+      ap (λ (es : List Entry). all_stops (modules_of es)) says.its_own.entries
       ∙ all_in_modules (setting_of b.circuit c.layout) b.version b.entries
-          (certificate_faultless text b c.layout reads says.its_own.layout)
+      (certificate_faultless text b c.layout reads says.its_own.layout)
 
   stops_on_time : HasRightStops text → IsOnTime (circuit_of c.circuit) c.layout (modules_in c)
   stops_on_time r =
       let same = same_design r.circuit r.layout r.says.design in
       let lines : r.certificate ≡ b.entries = one_certificate text r.circuit c.circuit r.layout c.layout r.certificate
-          b.entries r.says said in
+      b.entries r.says said in
       let ss : flat_map stop_in r.certificate ≡ all_stops (modules_in c) = ap (flat_map stop_in) lines ∙
-          sym own_stops in
+      sym own_stops in
       record {
         stops = subst (All (StopHolds (circuit_of c.circuit) c.layout)) ss
             (subst (λ cs. All (StopHolds (circuit_of cs) c.layout) (flat_map stop_in r.certificate)) same.0
@@ -158,15 +277,19 @@ module _ (text : List ℕ) (b : Bundle) (output : List ℕ) (outcome : Outcome) 
   wrong_text m alone (inl incorrect) = inl (λ r. incorrect (right_correct r))
   wrong_text m alone (inr (inl late)) = inr
       (inl (λ r. late (subst (IsOnTime (circuit_of c.circuit) c.layout) alone (stops_on_time r))))
-  wrong_text m alone (inr (inr touch)) = inr (inr (record { circuit = c.circuit; layout = c.layout; says = said.design;
-      touches = touch }))
+  wrong_text m alone (inr (inr touch)) = inr (inr (record {
+    circuit = c.circuit;
+    layout = c.layout;
+    says = said.design;
+    touches = touch;
+  }))
 
-  its_plain : SaysPlain text → MeansPlain c.version (setting_of c.circuit c.layout) (modules_of c.entries) c.circuit
-      c.layout
+  its_plain : (r : SaysPlain text) →
+      MeansPlain c.version (setting_of c.circuit c.layout) (modules_of c.entries) c.circuit c.layout r.one
   its_plain r =
       let same = same_design r.circuit r.layout r.says.design in
       let lines : r.certificate ≡ b.entries = one_certificate text r.circuit c.circuit r.layout c.layout r.certificate
-          b.entries r.says said in
+      b.entries r.says said in
       means_plain c.version (setting_of c.circuit c.layout) (modules_of c.entries) c.circuit c.layout r.one
       (ap modules_of (says.its_own.entries ∙ sym lines) ∙ r.modules)
       (subst (λ cs. IsPlain cs c.layout r.one) same.0 (subst (λ p. IsPlain r.circuit p r.one) same.1 r.plain))
@@ -180,7 +303,68 @@ module _ (text : List ℕ) (b : Bundle) (output : List ℕ) (outcome : Outcome) 
       wrong_text it.one it.alone (plain_no c.circuit c.layout it.one jobs no.lines named
       (subst (λ ms. BelongTogether c.circuit c.layout ms jobs) it.alone together) it.plain
       (subst (λ ms. IsVerdict g ms jobs (verdict.No no.lines)) it.alone
-          (subst (λ v. IsVerdict g (modules_in c) jobs v) no.is says.is_verdict.judged)))
+      (subst (λ v. IsVerdict g (modules_in c) jobs v) no.is says.is_verdict.judged)))
+
+  -- ---- its lines
+
+  module _ (is : No ≡ outcome) where
+    its_no : IsNo says.verdict
+    its_no = is_no says.verdict (is ∙ says.ends)
+
+    judged : IsVerdict (setting_of c.circuit c.layout) (modules_in c) says.is_verdict.jobs (verdict.No its_no.lines)
+    judged = subst (λ v. IsVerdict (setting_of c.circuit c.layout) (modules_in c) says.is_verdict.jobs v) its_no.is
+        says.is_verdict.judged
+
+    spelled : SaysNoWith output its_no.lines.items
+    unfolding report_lines
+    spelled = record {
+      digest = sha256 (certificate_text c);
+      modules = length (modules_of c.entries);
+      spelled = says.says ∙ ap (report_lines c) its_no.is;
+    }
+
+    -- what is said of the earliest line, of a design and the lines of a certificate
+    abbrev Earliest : List CircuitLine → Pattern → List Entry → Type 0
+    Earliest circuit layout certificate = (i : ℕ) (m : ModuleLines) (f : Fault) (inputs v : Valuation) →
+        IsEarliestLine its_no.lines.items i f → slice_get (modules_of certificate) i ≡ Some m →
+        Satisfies (netlist_of circuit) inputs v → HasAssignment (circuit_of circuit) m v f.assignment →
+        IsReal circuit layout m inputs v f
+
+    own_earliest : Earliest c.circuit c.layout c.entries
+    own_earliest i m f inputs v first at s has =
+        let own : MeansModule c.version (setting_of c.circuit c.layout) (modules_of c.entries) i m =
+        means_module c.version (setting_of c.circuit c.layout) (modules_of c.entries) i m at in
+        real_same c.circuit c.layout own.full m inputs v f own.same
+        (earliest_is_real c.circuit c.layout (modules_in c) says.is_verdict.jobs its_no.lines inputs v i own.full f
+        named
+        together judged first own.numbered s
+        (assignment_same (circuit_of c.circuit) own.full m v f.assignment own.same has))
+
+    earliest : EarliestIsReal text its_no.lines.items
+    earliest circuit layout certificate r =
+        let same = same_design circuit layout r.design in
+        let lines : certificate ≡ b.entries =
+        one_certificate text circuit c.circuit layout c.layout certificate b.entries r said in
+        subst (λ cs. Earliest cs layout certificate) (sym same.0)
+        (subst (λ p. Earliest c.circuit p certificate) (sym same.1)
+        (subst (Earliest c.circuit c.layout) (says.its_own.entries ∙ sym lines) own_earliest))
+
+    meant_lines : LinesMeanIfPlain text its_no.lines.items
+    meant_lines r =
+        let same = same_design r.circuit r.layout r.says.design in
+        let it = its_plain r in
+        let jobs = says.is_verdict.jobs in
+        let g = setting_of c.circuit c.layout in
+        let all : All (LineMeans c.circuit c.layout it.one) its_no.lines.items =
+        plain_lines c.circuit c.layout it.one jobs its_no.lines named
+        (subst (λ ms. BelongTogether c.circuit c.layout ms jobs) it.alone together) it.plain
+        (subst (λ ms. IsVerdict g ms jobs (verdict.No its_no.lines)) it.alone judged) in
+        subst (λ cs. All (LineMeans cs r.layout r.one) its_no.lines.items) (sym same.0)
+        (subst (λ p. All (LineMeans c.circuit p r.one) its_no.lines.items) (sym same.1)
+        (all_same c.circuit c.layout it.one r.one its_no.lines.items it.same all))
+
+    tells : LinesTell text output
+    tells = record { lines = its_no.lines.items; says = spelled; earliest = earliest; plain = meant_lines }
 
 -- ---- of texts
 
@@ -205,9 +389,19 @@ contradicts text (inr (inl late)) right stops off = late stops
 contradicts text (inr (inr touch)) right stops off = off touch
 
 pub plain_is_decided : PlainIsDecided
-plain_is_decided text output Yes plain says some =
-    ((λ e. (yes_is_right text output says, yes_has_right_stops text output says, yes_off_rim text output says)), (λ is.
-    refl))
+plain_is_decided text output Yes plain says some = (
+  (λ e. (yes_is_right text output says, yes_has_right_stops text output says, yes_off_rim text output says)),
+  (λ is.
+      refl),
+)
 plain_is_decided text output No plain says some =
     ((λ e. absurd cc), (λ is. absurd (contradicts text (no_is_wrong text output says plain) is.0 is.1 is.2)))
 plain_is_decided text output Refused plain says some = absurd (some refl)
+
+told : (text output : List ℕ) (read : Result Bundle Refusal) → bundle_of text ≡ read →
+    Answered SaysReport read output No → LinesTell text output
+told text output (Ok b) e says = tells text b output No e says refl
+told text output (Err refusal) e answer = absurd (not_refused answer.1)
+
+pub no_lines_tell : NoLinesTell
+no_lines_tell text output says = told text output (bundle_of text) refl says

@@ -4,5 +4,6 @@ pub mod Stops
 pub mod ThereAndBack
 pub mod TimedModules
 pub mod Plain
+pub mod ReportLines
 pub mod Laws
 pub mod Migration

@@ -1,8 +1,7 @@
--- What a no of `check` means of a plain text: one module that is the whole rectangle. Of other texts a no says nothing.
+-- What a no of `check` means if the certificate is plain: one module that is the whole rectangle.
 --
 -- Read before: all that Headline.antt and Stops.antt name; certificate_lines/specs/Entries.antt up to `keep_in` (the
--- lines of a module);
--- audit_core/specs/Noes.antt from `IsPlain` to `TouchesRim`.
+-- lines of a module); audit_core/specs/PlainCertificates.antt from `IsPlain` to `TouchesRim`.
 use Rattle.std.specs.Prelude.{◌≡◌, ◌≢◌, ◌↔◌, ◌⊎◌, ℕ, List, [], ◌∷◌}
 use Rattle.circuit.specs.declared.entry.Entry.{Entry as CircuitLine}
 use Rattle.pattern.specs.Layout.{Pattern}
@@ -44,20 +43,20 @@ IsWrongIfPlain text = SaysPlain text → IsWrongText text
 
 -- ---- laws
 
--- so is what is reported with the outcome no
+-- A text that is reported with the outcome no is wrong if it is plain.
 abbrev pub PlainNoMeansWrong : Type 0
 PlainNoMeansWrong = (text output : List ℕ) → IsReportOf text output No → IsWrongIfPlain text
 
--- what is reported with the outcome yes keeps off its rim, plain or not
+-- A text that is reported with the outcome yes keeps off its rim, plain or not.
 abbrev pub YesKeepsOffRim : Type 0
 YesKeepsOffRim = (text output : List ℕ) → IsReportOf text output Yes → ¬ HasRimTouch text
 
--- so of a plain text that is not refused `check` decides whether it is right, has right stops and keeps off its rim
+-- So `check` decides whether a plain text is right, has right stops and keeps off its rim, if it does not refuse it.
 abbrev pub PlainIsDecided : Type 0
 PlainIsDecided = (text output : List ℕ) (outcome : Outcome) → SaysPlain text → IsReportOf text output outcome →
     outcome ≢ Refused →
     (outcome ≡ Yes) ↔ (IsRight text × HasRightStops text × ¬ HasRimTouch text)
 
--- Some plain text is reported with the outcome yes (`ThereAndBackIsAccepted`), so the laws are not about nothing.
+-- Some plain text is reported with the outcome yes (`ThereAndBackIsAccepted`), so the laws are not vacuous.
 abbrev pub ThereAndBackIsPlain : Type 0
 ThereAndBackIsPlain = SaysPlain there_and_back

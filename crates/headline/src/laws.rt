@@ -2,6 +2,7 @@
 ghost use Rattle.answers.specs.CheckText.{IsReportOf};
 ghost use Rattle.headline.specs.Laws.{FourthLineTells, HasOneAnswer, ReportsOnGoodDesigns, SaysOneCertificate, SaysOneDesign, ThereAndBackIsAccepted, TimedModulesAreAccepted, YesMeansRight, YesMeansRightStops};
 ghost use Rattle.headline.specs.Plain.{PlainIsDecided, PlainNoMeansWrong, ThereAndBackIsPlain, YesKeepsOffRim};
+ghost use Rattle.headline.specs.ReportLines.{NoLinesTell};
 ghost use Rattle.headline.specs.Migration.{KeepsVersionTwo, MigratesOnce, MigrationIsAccepted, MigrationSaysTheSame};
 ghost use Rattle.answers.specs.MigrateText.{IsMigrationOf};
 ghost use Rattle.answers.specs.ModulesText.{IsModulesOf};
@@ -58,6 +59,13 @@ pub fn no_means_wrong()
     ensures no { PlainNoMeansWrong }
     ensures off_rim { YesKeepsOffRim }
     ensures decided { PlainIsDecided }
+{}
+
+/// The earliest line of a report is real: its fault is one of the whole plane, for each valuation that has its assignment. If the
+/// certificate is plain, each line of a no means something: `edge`, the layout touches its rim; `stop`, a stop is wrong; `end` and
+/// `keep`, the layout does not compute the circuit, for the inputs in the line; `delay` and `meet`, the times are wrong.
+pub fn lines_of_a_no_tell()
+    ensures { NoLinesTell }
 {}
 
 /// A text begins with one circuit, one layout and one certificate at most. Where it is not refused, each line of the circuit and of

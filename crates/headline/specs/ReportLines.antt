@@ -1,0 +1,67 @@
+-- What the lines of a report mean if it says no, of texts and bytes.
+--
+-- Read before: Plain.antt; report/specs/ReportText.antt up to `opening_lines` (how a line is spelled);
+-- audit_core/specs/FirstFaults.antt from `IsAsCertified` on, without the laws; audit_core/specs/PlainCertificates.antt
+-- from
+-- `Shows` to `LineMeans`.
+use Rattle.std.specs.Prelude.{◌≡◌, ℕ, List, [], ◌∷◌, ◌++◌, Option, Some, slice_get, codes}
+use Rattle.std.specs.List.{All, flat_map}
+use Rattle.section_text.specs.Spelling.{line_text}
+use Rattle.circuit.specs.Bridge.{circuit_of, netlist_of}
+use Rattle.circuit.specs.Meaning.{Satisfies, Valuation}
+use Rattle.circuit.specs.declared.entry.Entry.{Entry as CircuitLine}
+use Rattle.pattern.specs.Layout.{Pattern}
+use Rattle.certificate_lines.specs.Entries.{ModuleLines, modules_of}
+use Rattle.certificate_lines.specs.declared.entry.Entry.{Entry}
+use Rattle.local_run.specs.declared.fault.Fault.{Fault}
+use Rattle.audit_core.specs.FirstFaults.{HasAssignment, IsEarliestLine, IsReal}
+use Rattle.audit_core.specs.PlainCertificates.{LineMeans}
+use Rattle.audit_core.specs.declared.verdict.ReportLine.{ReportLine}
+use Rattle.report.specs.ReportText.{fault_line, opening_lines}
+use Rattle.answers.specs.CheckText.{IsReportOf}
+use Rattle.answers.specs.declared.outcome.Outcome.TheVariants.{No}
+use Rattle.headline.specs.Plain.{SaysPlain}
+use Rattle.headline.specs.Stops.{SaysBundle}
+
+-- the output is three opening lines, then `verdict no`, and then these lines as `fault_line` spells them
+pub record SaysNoWith (output : List ℕ) (lines : List ReportLine) : Type 0 where
+  pub digest : List ℕ
+  pub modules : ℕ
+  pub spelled : output ≡ opening_lines digest modules
+      ++ (line_text (codes "verdict") (codes "no" ∷ []) ++ flat_map fault_line lines)
+
+-- The text says a circuit, a layout and a certificate. Then the earliest of these lines is real: whatever the inputs
+-- and
+-- the values v of the wires for them, if v gives the module of the line the line's assignment, its fault is one of the
+-- whole plane.
+abbrev pub EarliestIsReal : List ℕ → List ReportLine → Type 0
+EarliestIsReal text lines = (circuit : List CircuitLine) (layout : Pattern) (certificate : List Entry) →
+    SaysBundle text circuit layout certificate →
+    (i : ℕ) (m : ModuleLines) (f : Fault) (inputs v : Valuation) → IsEarliestLine lines i f →
+    slice_get (modules_of certificate) i ≡ Some m → Satisfies (netlist_of circuit) inputs v →
+    HasAssignment (circuit_of circuit) m v f.assignment → IsReal circuit layout m inputs v f
+
+-- if the text is plain, each of these lines means what `LineMeans` says
+abbrev pub LinesMeanIfPlain : List ℕ → List ReportLine → Type 0
+LinesMeanIfPlain text lines = (said : SaysPlain text) → All (LineMeans said.circuit said.layout said.one) lines
+
+-- What an output of no tells of a text: the lines after its fourth, of which the earliest is real. If the text is
+-- plain,
+-- each of them means something.
+pub record LinesTell (text output : List ℕ) : Type 0 where
+  pub lines : List ReportLine
+  pub says : SaysNoWith output lines
+  pub earliest : EarliestIsReal text lines
+  pub plain : LinesMeanIfPlain text lines
+
+-- The bytes of a reader are known, and so are those of a writer before and after: P holds of what there was to read and
+-- of what was written.
+abbrev pub Relates : (List ℕ → List ℕ → Type 0) → Option (List ℕ) → Option (List ℕ) → Option (List ℕ) → Type 0
+Relates P left held held' = (text before output : List ℕ) → left ≡ Some text → held ≡ Some before →
+    held' ≡ Some (before ++ output) → P text output
+
+-- ---- the law
+
+-- the lines of a report with the outcome no tell so
+abbrev pub NoLinesTell : Type 0
+NoLinesTell = (text output : List ℕ) → IsReportOf text output No → LinesTell text output
