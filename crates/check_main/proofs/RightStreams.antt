@@ -8,6 +8,7 @@ use Rattle.answers.specs.CheckText.{IsReportOf}
 use Rattle.answers.specs.declared.outcome.Outcome.{Outcome}
 use Rattle.answers.specs.declared.outcome.Outcome.TheVariants.{Yes}
 use Rattle.headline.specs.Headline.{Gives, SaysYes, YesMeans}
+use Rattle.headline.specs.ReportLines.{Relates}
 use Rattle.headline.proofs.FourthLines.{says_on}
 use Rattle.headline.proofs.YesIsRight.{by_line}
 use Rattle.check_main.specs.Stream.{ReadsAll, TakesPrefix}
@@ -74,3 +75,18 @@ outcome_means P wanted holds left left' text output outcome read says (Err e) is
 pub outcome_right : {E : Type 0} (P : List ℕ → Type 0) → Holds P → (left left' : Option (List ℕ)) (text output : List ℕ) (outcome : Outcome) → ReadsAll left left' text → IsReportOf text output outcome →
     (result : Result Outcome E) → result ≡ Ok Yes → IfOk result (λ o. o ≡ outcome) → Gives P left
 outcome_right P holds left left' text output outcome read says result is same = outcome_means P Yes holds left left' text output outcome read says result is same
+
+-- and all of the report was written, which P relates to the text
+pub outcome_tells : {E : Type 0} (P : List ℕ → List ℕ → Type 0) (wanted : Outcome) →
+    ((text output : List ℕ) → IsReportOf text output wanted → P text output) →
+    (left left' held held' : Option (List ℕ)) (text output : List ℕ) (outcome : Outcome) → ReadsAll left left' text →
+    IsReportOf text output outcome → (result : Result Outcome E) → result ≡ Ok wanted →
+    IfOk result (λ o. o ≡ outcome) → OnOk result (Appends held held' output) → Relates P left held held'
+outcome_tells P wanted holds left left' held held' text output outcome read says (Ok o) is same all
+    known before more e f g =
+    let wanted_is : o ≡ wanted = cc in
+    let own : more ≡ output = taken_is held held' before more output f g all in
+    subst (λ t. P t more) (all_read left left' text known e read.given read.ended)
+    (subst (P text) (sym own) (holds text output (subst (λ o. IsReportOf text output o) (sym same ∙ wanted_is) says)))
+outcome_tells P wanted holds left left' held held' text output outcome read says (Err e') is same all
+    known before more e f g = absurd cc

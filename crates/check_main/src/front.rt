@@ -6,6 +6,7 @@ ghost use Rattle.check_main.specs.Commands.{IsAnswerTo};
 ghost use Rattle.headline.specs.Headline.{Gives, IsRight, YesMeans};
 ghost use Rattle.headline.specs.Stops.{HasRightStops};
 ghost use Rattle.headline.specs.Plain.{IsWrongIfPlain};
+ghost use Rattle.headline.specs.ReportLines.{LinesTell, Relates};
 ghost use Rattle.check_main.specs.Status.{status_for, Says};
 ghost use Rattle.check_main.specs.Stream.{Answers, BreaksOff, GivesTooMuch, Serves};
 
@@ -98,9 +99,12 @@ where
     ensures says_yes_of_stops { IsAccepted (map (λ s. s.now) words.entry.now) → asked_by (map (λ s. s.now) words.entry.now) ≡ Request.Check
         → YesMeans HasRightStops (R.left streams.old.reader) (W.held streams.old.writer) (W.held streams.new.writer) }
 
-    // What a no of `check` means, where the certificate is plain.
+    // What a no of `check` means if the certificate is plain, and what its lines mean.
     ensures wrong { asked_by (map (λ s. s.now) words.entry.now) ≡ Request.Check → result ≡ 1
         → Gives IsWrongIfPlain (R.left streams.old.reader) }
+    ensures lines { asked_by (map (λ s. s.now) words.entry.now) ≡ Request.Check → result ≡ 1
+        → Relates LinesTell (R.left streams.old.reader)
+        (W.held streams.old.writer) (W.held streams.new.writer) }
 
     ensures no { result ≡ 1 → Answers (IsAnswerTo (asked_by (map (λ s. s.now) words.entry.now)))
         (R.left streams.old.reader) (R.left streams.new.reader)
@@ -166,6 +170,8 @@ fn serve<T: Threads + Wait + Sync, R: Source, W: Sink, G: Gate + Sync>(
     ensures stops { asked.request ≡ Request.Check → result ≡ Ok Outcome.Yes → Gives HasRightStops (R.left reader.old) }
     ensures says_yes_of_stops { asked.request ≡ Request.Check → YesMeans HasRightStops (R.left reader.old) (W.held writer.old) (W.held writer.new) }
     ensures wrong { asked.request ≡ Request.Check → result ≡ Ok Outcome.No → Gives IsWrongIfPlain (R.left reader.old) }
+    ensures lines { asked.request ≡ Request.Check → result ≡ Ok Outcome.No →
+        Relates LinesTell (R.left reader.old) (W.held writer.old) (W.held writer.new) }
 {
     match asked.request {
         Request::Check => check_stream(rt, alloc, reader, writer, asked.workers, gate),

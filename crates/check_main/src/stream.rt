@@ -5,6 +5,7 @@ ghost use Rattle.answers.specs.CheckText.{IsReportOf};
 ghost use Rattle.headline.specs.Headline.{Gives, IsRight, YesMeans};
 ghost use Rattle.headline.specs.Stops.{HasRightStops};
 ghost use Rattle.headline.specs.Plain.{IsWrongIfPlain};
+ghost use Rattle.headline.specs.ReportLines.{LinesTell, Relates};
 ghost use Rattle.answers.specs.MigrateText.{IsMigrationOf};
 ghost use Rattle.answers.specs.ModulesText.{IsModulesOf};
 ghost use Rattle.answers.specs.RunText.{IsRunOf};
@@ -30,8 +31,10 @@ const BLOCK: usize = 65_536;
 ///
 /// Where it is `Yes`, or `verdict yes` is the fourth line of what was written, the text begins with a circuit and a layout, and the
 /// whole pattern of the layout computes the circuit: `headline/specs/Headline.antt` says what that is. Then it goes on with a certificate
-/// whose stops hold on the whole pattern: `headline/specs/Stops.antt`. Where it is `No`, and the certificate is one plain module, the whole
-/// rectangle, the text is wrong: `headline/specs/Plain.antt`.
+/// whose stops hold on the whole pattern: `headline/specs/Stops.antt`.
+///
+/// If it is `No`, and the certificate is one plain module, the whole rectangle, the text is wrong: `headline/specs/Plain.antt`. What the
+/// lines of the report mean is in `headline/specs/ReportLines.antt`.
 pub fn check_stream<T, R, W, G>(
     rt: &T,
     alloc: Global,
@@ -54,6 +57,8 @@ where
     ensures stops { result ≡ Ok Outcome.Yes → Gives HasRightStops (R.left reader.old) }
     ensures says_yes_of_stops { YesMeans HasRightStops (R.left reader.old) (W.held writer.old) (W.held writer.new) }
     ensures wrong { result ≡ Ok Outcome.No → Gives IsWrongIfPlain (R.left reader.old) }
+    ensures lines { result ≡ Ok Outcome.No →
+        Relates LinesTell (R.left reader.old) (W.held writer.old) (W.held writer.new) }
 {
     let feed = read_text(alloc, reader)?;
     let answered = report_of_text(rt, alloc, feed, workers, gate)?;

@@ -48,3 +48,8 @@ no_of (Err Memory) e = absurd (omega (arith, e))
 pub returns-in-Ok-clause-wrong : goal.returns-in-Ok-clause-wrong
 returns-in-Ok-clause-wrong g c check one =
     c.serve-ended.ensures.wrong (c.in-Ok.ensures.request ∙ check) (no_of c.serve-ended.result (sym c.status_of.ensures.status ∙ one))
+
+pub returns-in-Ok-clause-lines : goal.returns-in-Ok-clause-lines
+returns-in-Ok-clause-lines g c check one =
+    c.serve-ended.ensures.lines (c.in-Ok.ensures.request ∙ check)
+    (no_of c.serve-ended.result (sym c.status_of.ensures.status ∙ one))

@@ -3,10 +3,11 @@ use Rattle.std.proofs.Common.{refl}
 use Rattle.headline.specs.Headline.{IsRight}
 use Rattle.headline.specs.Stops.{HasRightStops}
 use Rattle.headline.specs.Plain.{IsWrongIfPlain}
-use Rattle.headline.proofs.PlainTexts.{no_is_wrong}
+use Rattle.headline.specs.ReportLines.{LinesTell}
+use Rattle.headline.proofs.PlainTexts.{no_is_wrong, no_lines_tell}
 use Rattle.answers.specs.declared.outcome.Outcome.TheVariants.{No}
 use Rattle.headline.proofs.YesIsRight.{yes_has_right_stops, yes_is_right}
-use Rattle.check_main.proofs.RightStreams.{nothing_said, outcome_means, outcome_right, written_right}
+use Rattle.check_main.proofs.RightStreams.{nothing_said, outcome_means, outcome_right, outcome_tells, written_right}
 use Rattle.check_main.proofs.stream.check_stream.Goals as goal
 
 pub returns-in_err-feed-clause-says_yes : goal.returns-in_err-feed-clause-says_yes
@@ -47,3 +48,11 @@ pub returns-clause-wrong : goal.returns-clause-wrong
 returns-clause-wrong g c is =
     outcome_means IsWrongIfPlain No no_is_wrong (g.R.Source.left c.args.reader.now) (g.R.Source.left c.read_text.new.reader) c.in_ok-feed.feed.text c.in_ok-answered.answered.output.items c.in_ok-answered.answered.outcome
     c.in_ok-feed.ensures.read_all c.in_ok-answered.ensures.answered c.write_answer.result is c.write_answer.ensures.outcome
+
+pub returns-clause-lines : goal.returns-clause-lines
+returns-clause-lines g c is =
+    outcome_tells LinesTell No no_lines_tell (g.R.Source.left c.args.reader.now) (g.R.Source.left c.read_text.new.reader)
+    (g.W.Sink.held c.args.writer.now) (g.W.Sink.held c.write_answer.new.writer)
+    c.in_ok-feed.feed.text c.in_ok-answered.answered.output.items c.in_ok-answered.answered.outcome
+    c.in_ok-feed.ensures.read_all c.in_ok-answered.ensures.answered c.write_answer.result is
+    c.write_answer.ensures.outcome c.write_answer.ensures.all
