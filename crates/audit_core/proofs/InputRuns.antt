@@ -25,10 +25,10 @@ use Rattle.audit_core.specs.HeadlineLaws.{InputsDecideTheRun, IsInputName, ReadL
 -- ---- input cells have the names of inputs
 
 -- a name that stands among the first k has its place there
-record IsPlaced (name : List ℕ) (names : List (List ℕ)) (k : ℕ) : Type 0 where
-  place : ℕ
-  is : place_of name names ≡ Some place
-  early : place < k
+pub record IsPlaced (name : List ℕ) (names : List (List ℕ)) (k : ℕ) : Type 0 where
+  pub place : ℕ
+  pub is : place_of name names ≡ Some place
+  pub early : place < k
 
 first_place : (name m : List ℕ) (names : List (List ℕ)) → bytes_eq name m ≡ true → place_of name (m ∷ names) ≡ Some 0
 unfolding place_of number
@@ -42,7 +42,7 @@ next_place : (name m : List ℕ) (names : List (List ℕ)) (p : ℕ) → bytes_e
 unfolding place_of number
 next_place name m names p e is = rw e (later_place (has names name) (number names name) p is)
 
-placed : (name : List ℕ) (names : List (List ℕ)) (k : ℕ) → has (take k names) name ≡ true → IsPlaced name names k
+pub placed : (name : List ℕ) (names : List (List ℕ)) (k : ℕ) → has (take k names) name ≡ true → IsPlaced name names k
 placed name names zero h = absurd (false≢true h)
 placed name [] (suc k) h = absurd (false≢true h)
 placed name (m ∷ names) (suc k) h = elim (cases_Bool (bytes_eq name m)) [

@@ -9,6 +9,7 @@ mod Trials
 pub mod FourthLines
 pub mod YesIsRight
 pub mod PlainTexts
+mod PlainLines
 pub mod Migrations
 mod FullJobs
 mod AcceptedMigrations

@@ -2,11 +2,15 @@
 --
 -- Read before: all that Headline.antt and Stops.antt name; certificate_lines/specs/Entries.antt up to `keep_in` (the
 -- lines of a module); audit_core/specs/PlainCertificates.antt from `IsPlain` to `TouchesRim`.
-use Rattle.std.specs.Prelude.{◌≡◌, ◌≢◌, ◌↔◌, ◌⊎◌, ℕ, List, [], ◌∷◌}
+use Rattle.std.specs.Prelude.{◌≡◌, ◌≢◌, ◌↔◌, ◌⊎◌, ℕ, List, [], ◌∷◌, ◌++◌, length, map, filter, slice_get}
+use Rattle.std.specs.List.{range_with_len}
+use Rattle.circuit.specs.Bridge.{input_names, netlist_of}
 use Rattle.circuit.specs.declared.entry.Entry.{Entry as CircuitLine}
 use Rattle.pattern.specs.Layout.{Pattern}
 use Rattle.certificate_lines.specs.Entries.{ModuleLines, modules_of}
+use Rattle.certificate_lines.specs.Rules.{is_inverse_gate, whole}
 use Rattle.certificate_lines.specs.declared.entry.Entry.{Entry}
+use Rattle.certificate_lines.specs.declared.entry.Entry.TheVariants.{Module, Cut, Use, Keep}
 use Rattle.audit_core.specs.PlainCertificates.{IsPlain, TouchesRim}
 use Rattle.answers.specs.CheckText.{IsReportOf}
 use Rattle.answers.specs.declared.outcome.Outcome.{Outcome}
@@ -41,6 +45,18 @@ IsWrongText text = (¬ IsRight text) ⊎ ((¬ HasRightStops text) ⊎ HasRimTouc
 abbrev pub IsWrongIfPlain : List ℕ → Type 0
 IsWrongIfPlain text = SaysPlain text → IsWrongText text
 
+-- ---- the plain certificate of a design
+
+-- the numbers of the gates of a circuit
+abbrev pub gate_numbers : List CircuitLine → List ℕ
+gate_numbers circuit = range_with_len 0 (length (netlist_of circuit).gates)
+
+-- Its lines: one module, the whole rectangle. It cuts each input, uses each gate, and keeps each inverse gate.
+abbrev pub plain_lines : List CircuitLine → Pattern → List Entry
+plain_lines circuit layout = Module (whole layout.size) ∷ (map Cut (input_names circuit) ++ map Use
+    (gate_numbers circuit)
+    ++ map Keep (filter (λ k. is_inverse_gate (slice_get (netlist_of circuit).gates k)) (gate_numbers circuit)))
+
 -- ---- laws
 
 -- A text that is reported with the outcome no is wrong if it is plain.
@@ -56,6 +72,12 @@ abbrev pub PlainIsDecided : Type 0
 PlainIsDecided = (text output : List ℕ) (outcome : Outcome) → SaysPlain text → IsReportOf text output outcome →
     outcome ≢ Refused →
     (outcome ≡ Yes) ↔ (IsRight text × HasRightStops text × ¬ HasRimTouch text)
+
+-- A text whose certificate has these lines is plain, so `check` decides it, if it does not refuse it.
+abbrev pub PlainLinesDecide : Type 0
+PlainLinesDecide = (text output : List ℕ) (outcome : Outcome) (circuit : List CircuitLine) (layout : Pattern) →
+    SaysBundle text circuit layout (plain_lines circuit layout) → IsReportOf text output outcome → outcome ≢ Refused →
+    SaysPlain text × ((outcome ≡ Yes) ↔ (IsRight text × HasRightStops text × ¬ HasRimTouch text))
 
 -- Some plain text is reported with the outcome yes (`ThereAndBackIsAccepted`), so the laws are not vacuous.
 abbrev pub ThereAndBackIsPlain : Type 0

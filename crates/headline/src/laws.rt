@@ -1,7 +1,7 @@
 //! Laws of the definitions, each the contract of a function without a body.
 ghost use Rattle.answers.specs.CheckText.{IsReportOf};
 ghost use Rattle.headline.specs.Laws.{FourthLineTells, HasOneAnswer, ReportsOnGoodDesigns, SaysOneCertificate, SaysOneDesign, ThereAndBackIsAccepted, TimedModulesAreAccepted, YesMeansRight, YesMeansRightStops};
-ghost use Rattle.headline.specs.Plain.{PlainIsDecided, PlainNoMeansWrong, ThereAndBackIsPlain, YesKeepsOffRim};
+ghost use Rattle.headline.specs.Plain.{PlainIsDecided, PlainLinesDecide, PlainNoMeansWrong, ThereAndBackIsPlain, YesKeepsOffRim};
 ghost use Rattle.headline.specs.ReportLines.{NoLinesTell};
 ghost use Rattle.headline.specs.Migration.{KeepsVersionTwo, MigratesOnce, MigrationIsAccepted, MigrationSaysTheSame};
 ghost use Rattle.answers.specs.MigrateText.{IsMigrationOf};
@@ -59,6 +59,7 @@ pub fn no_means_wrong()
     ensures no { PlainNoMeansWrong }
     ensures off_rim { YesKeepsOffRim }
     ensures decided { PlainIsDecided }
+    ensures lines { PlainLinesDecide }
 {}
 
 /// The earliest line of a report is real: its fault is one of the whole plane, for each valuation that has its assignment. If the

@@ -1,0 +1,211 @@
+-- The lines of the plain certificate of a design make a plain module
+use Rattle.std.proofs.Common.{◌≡◌, ℕ, zero, suc, ◌+◌, ◌<◌, ◌≤◌, ◌++◌, ◌&&◌, not, eqb, fold, Bool, true, false, List, []}
+use Rattle.std.proofs.Common.{◌∷◌}
+use Rattle.std.proofs.Common.{length, map, filter, Some, refl, sym, ap, ap₂, subst, ◌∙◌, inl, inr, arith}
+use Rattle.std.proofs.Common.{append-nil, append_assoc}
+use Rattle.std.specs.Prelude.{slice_get}
+use Rattle.std.specs.List.{All, flat_map, list_all, range_with_len}
+use Rattle.std.proofs.lemmas.Bool.{and_parts, cases_Bool, eq-eqb, eqb-true}
+use Rattle.std.proofs.lemmas.Grind.{flat_map-append}
+use Rattle.std.proofs.lemmas.List.Elements.{All-nil, All-cons}
+use Rattle.std.proofs.lemmas.Option.{slice_get_within}
+use Rattle.section_text.specs.Words.{has}
+use Rattle.circuit.specs.Bridge.{AreGood, input_names, netlist_of}
+use Rattle.circuit.specs.Entries.{defined}
+use Rattle.circuit.specs.declared.entry.Entry.{Entry as CircuitLine}
+use Rattle.circuit.proofs.Naming.{inputs_are_first}
+use Rattle.circuit.proofs.Places.{bytes_same}
+use Rattle.pattern.specs.Layout.{Pattern}
+use Rattle.module_box.specs.Locals.{is_among}
+use Rattle.module_box.specs.declared.boxes.Box2.{Box2}
+use Rattle.certificate_lines.specs.Entries.{ModuleLines, add_line, change_last, cut_in, cuts, edge_in, edges, keep_in}
+use Rattle.certificate_lines.specs.Entries.{keeps}
+use Rattle.certificate_lines.specs.Entries.{modules_of}
+use Rattle.certificate_lines.specs.ModuleParts.{is_module}
+use Rattle.certificate_lines.specs.Rules.{is_inverse_gate, whole}
+use Rattle.certificate_lines.specs.declared.entry.Entry.{Entry}
+use Rattle.certificate_lines.specs.declared.entry.Entry.TheVariants.{Module, Cut, Use, Keep, Edge, Halo, Stop}
+use Rattle.certificate_lines.proofs.Lists.{any_at}
+use Rattle.audit_core.specs.HeadlineLaws.{IsInputName}
+use Rattle.audit_core.specs.PlainCertificates.{IsPlain}
+use Rattle.audit_core.proofs.InputRuns.{IsPlaced, placed}
+use Rattle.headline.specs.Laws.{IsGoodDesign}
+use Rattle.headline.specs.Plain.{PlainLinesDecide, SaysPlain, gate_numbers, plain_lines}
+use Rattle.headline.proofs.PlainTexts.{plain_is_decided}
+use Rattle.headline.proofs.YesIsRight.{good_designs}
+
+-- ---- lines that begin no module belong to the one before
+
+one_more : (b : Box2) (ms : List Entry) (i : Entry) → is_module i ≡ false →
+    add_line (record { area = b; lines = ms } ∷ []) i ≡ record { area = b; lines = ms ++ i ∷ [] } ∷ []
+unfolding add_line change_last
+one_more b ms (Module x) h = absurd cc
+one_more b ms (Cut n) h = refl
+one_more b ms (Use k) h = refl
+one_more b ms (Keep k) h = refl
+one_more b ms (Edge e) h = refl
+one_more b ms (Halo e) h = refl
+one_more b ms (Stop s) h = refl
+
+not_false : (a : Bool) → not a ≡ true → a ≡ false
+not_false true h = sym h
+not_false false h = refl
+
+all_inner : (b : Box2) (ms ls : List Entry) → list_all (λ i. not (is_module i)) ls ≡ true →
+    fold add_line (record { area = b; lines = ms } ∷ []) ls ≡ record { area = b; lines = ms ++ ls } ∷ []
+all_inner b ms [] h = ap (λ (l : List Entry). (record { area = b; lines = l }) ∷ []) (sym (append-nil ms))
+all_inner b ms (i ∷ ls) h =
+    let both = and_parts (not (is_module i)) (list_all (λ i. not (is_module i)) ls) h in
+    ap (λ s. fold add_line s ls) (one_more b ms i (not_false (is_module i) both.0))
+    ∙ all_inner b (ms ++ i ∷ []) ls both.1
+    ∙ ap (λ (l : List Entry). (record { area = b; lines = l }) ∷ []) (append_assoc ms (i ∷ []) ls)
+
+-- ---- lines of one kind after another
+
+module _ {X : Type 0} (mk : X → Entry) where
+  all_mapped : ((x : X) → is_module (mk x) ≡ false) → (xs : List X) → list_all (λ i. not (is_module i))
+      (map mk xs) ≡ true
+  all_mapped h [] = refl
+  all_mapped h (x ∷ xs) = ap₂ (λ a b. not a && b) (h x) (all_mapped h xs)
+
+  none_of : {Y : Type 0} (f : Entry → List Y) → ((x : X) → f (mk x) ≡ []) → (xs : List X) → flat_map f (map mk xs) ≡ []
+  none_of f h [] = refl
+  none_of f h (x ∷ xs) = ap₂ (λ a b. a ++ b) (h x) (none_of f h xs)
+
+  own_of : (f : Entry → List X) → ((x : X) → f (mk x) ≡ x ∷ []) → (xs : List X) → flat_map f (map mk xs) ≡ xs
+  own_of f h [] = refl
+  own_of f h (x ∷ xs) = ap₂ (λ a b. a ++ b) (h x) (own_of f h xs)
+
+both_true : (xs ys : List Entry) → list_all (λ i. not (is_module i)) xs ≡ true →
+    list_all (λ i. not (is_module i)) ys ≡ true → list_all (λ i. not (is_module i)) (xs ++ ys) ≡ true
+both_true [] ys h k = k
+both_true (x ∷ xs) ys h k =
+    let both = and_parts (not (is_module x)) (list_all (λ i. not (is_module i)) xs) h in
+    ap₂ (λ a b. a && b) both.0 (both_true xs ys both.1 k)
+
+three_parts : {Y : Type 0} (f : Entry → List Y) (xs ys zs : List Entry) →
+    flat_map f (xs ++ ys ++ zs) ≡ flat_map f xs ++ flat_map f ys ++ flat_map f zs
+three_parts f xs ys zs =
+    flat_map-append f (xs ++ ys) zs ∙ ap (λ l. l ++ flat_map f zs) (flat_map-append f xs ys)
+
+-- ---- numbers among those that pass a test
+
+among_later : (x k : ℕ) (xs : List ℕ) → is_among xs k ≡ true → is_among (x ∷ xs) k ≡ true
+among_later x k xs h = elim (cases_Bool (eqb x k)) [
+  | inl here ↦ rw here refl
+  | inr other ↦ rw other h
+]
+
+among_range : (n a k : ℕ) → a ≤ k → k < a + n → is_among (range_with_len a n) k ≡ true
+among_range zero a k low high = absurd (omega (arith, low, high))
+among_range (suc n) a k low high = elim (cases_Bool (eqb a k)) [
+  | inl here ↦ rw here refl
+  | inr other ↦ among_later a k (range_with_len (a + 1) n) (among_range n (a + 1) k (above other) (omega (arith, high)))
+]
+  where
+    above : eqb a k ≡ false → a + 1 ≤ k
+    above other = grind (arith, low, other, eq-eqb a k)
+
+among_filter : (test : ℕ → Bool) (xs : List ℕ) (k : ℕ) → is_among xs k ≡ true → test k ≡ true →
+    is_among (filter test xs) k ≡ true
+among_filter test [] k h t = h
+among_filter test (x ∷ xs) k h t = elim (cases_Bool (eqb x k)) [
+  | inl here ↦
+      let same : x ≡ k = eqb-true x k here in
+      let passes : test x ≡ true = ap test same ∙ t in
+      rw passes (rw here refl)
+  | inr other ↦ by_test (test x) refl (among_filter test xs k (rw other at h) t)
+]
+  where
+    by_test : (b : Bool) → test x ≡ b → is_among (filter test xs) k ≡ true → is_among (filter test (x ∷ xs)) k ≡ true
+    by_test true e h = rw e (among_later x k (filter test xs) h)
+    by_test false e h = rw e h
+
+-- ---- the plain module
+
+module _ (circuit : List CircuitLine) (p : Pattern) (good : AreGood circuit) where
+  abbrev kept : List ℕ
+  kept = filter (λ k. is_inverse_gate (slice_get (netlist_of circuit).gates k)) (gate_numbers circuit)
+
+  abbrev cut_lines : List Entry
+  cut_lines = map Cut (input_names circuit)
+
+  abbrev use_lines : List Entry
+  use_lines = map Use (gate_numbers circuit)
+
+  abbrev keep_lines : List Entry
+  keep_lines = map Keep kept
+
+  abbrev one : ModuleLines
+  one = record { area = whole p.size; lines = cut_lines ++ use_lines ++ keep_lines }
+
+  is_one : modules_of (plain_lines circuit p) ≡ one ∷ []
+  unfolding modules_of add_line
+  is_one = all_inner (whole p.size) [] (cut_lines ++ use_lines ++ keep_lines)
+      (both_true (cut_lines ++ use_lines) keep_lines
+      (both_true cut_lines use_lines (all_mapped Cut (λ n. refl) (input_names circuit))
+      (all_mapped Use (λ k. refl) (gate_numbers circuit)))
+      (all_mapped Keep (λ k. refl) kept))
+
+  its_cuts : cuts one ≡ input_names circuit
+  its_cuts = three_parts cut_in cut_lines use_lines keep_lines
+      ∙ ap₂ (λ a b. a ++ b)
+      (ap₂ (λ a b. a ++ b) (own_of Cut cut_in (λ n. refl) (input_names circuit))
+      (none_of Use cut_in (λ k. refl) (gate_numbers circuit)) ∙ append-nil (input_names circuit))
+      (none_of Keep cut_in (λ k. refl) kept)
+      ∙ append-nil (input_names circuit)
+
+  its_keeps : keeps one ≡ kept
+  its_keeps = three_parts keep_in cut_lines use_lines keep_lines
+      ∙ ap₂ (λ a b. a ++ b)
+      (ap₂ (λ a b. a ++ b) (none_of Cut keep_in (λ n. refl) (input_names circuit))
+      (none_of Use keep_in (λ k. refl) (gate_numbers circuit)))
+      (own_of Keep keep_in (λ k. refl) kept)
+
+  its_edges : edges one ≡ []
+  its_edges = three_parts edge_in cut_lines use_lines keep_lines
+      ∙ ap₂ (λ a b. a ++ b)
+      (ap₂ (λ a b. a ++ b) (none_of Cut edge_in (λ n. refl) (input_names circuit))
+      (none_of Use edge_in (λ k. refl) (gate_numbers circuit)))
+      (none_of Keep edge_in (λ k. refl) kept)
+
+  input_name : (k : ℕ) (n : List ℕ) → slice_get (input_names circuit) k ≡ Some n → IsInputName circuit n
+  input_name k n at =
+      let known : has (input_names circuit) n ≡ true = any_at _ (input_names circuit) k n at (bytes_same n) in
+      let is : IsPlaced n (defined circuit) (netlist_of circuit).given =
+      placed n (defined circuit) _ (ap (λ ns. has ns n) (inputs_are_first circuit good) ∙ known) in
+      record { wire = is.place; named = is.is; is_given = is.early }
+
+  all_inputs : (P : List ℕ → Type 0) (ns : List (List ℕ)) →
+      ((k : ℕ) (n : List ℕ) → slice_get ns k ≡ Some n → P n) → All P ns
+  all_inputs P [] h = All-nil P
+  all_inputs P (n ∷ ns) h = All-cons P n ns (h 0 n refl) (all_inputs P ns (λ k. h (suc k)))
+
+  is_plain : IsPlain circuit p one
+  is_plain = record {
+    box = refl;
+    inputs = subst (All (IsInputName circuit)) (sym its_cuts)
+        (all_inputs (IsInputName circuit) (input_names circuit) input_name);
+    inverses = λ number gate at inverse.
+        ap (λ ks. is_among ks number) its_keeps
+        ∙ among_filter (λ k. is_inverse_gate (slice_get (netlist_of circuit).gates k)) (gate_numbers circuit) number
+        (among_range (length (netlist_of circuit).gates) 0 number (omega arith)
+        (let within = slice_get_within (netlist_of circuit).gates number gate at in omega (arith, within)))
+        (ap is_inverse_gate at ∙ inverse);
+    no_edge = its_edges;
+  }
+
+pub plain_lines_decide : PlainLinesDecide
+plain_lines_decide text output outcome circuit layout said reports some =
+    let good : IsGoodDesign text circuit layout = good_designs text output outcome circuit layout reports some
+    said.design in
+    let plain : SaysPlain text = record {
+      circuit = circuit;
+      layout = layout;
+      certificate = plain_lines circuit layout;
+      says = said;
+      one = one circuit layout good.circuit_lines;
+      modules = is_one circuit layout good.circuit_lines;
+      plain = is_plain circuit layout good.circuit_lines;
+    } in
+    (plain, plain_is_decided text output outcome plain reports some)
