@@ -20,7 +20,7 @@ pub mod FirstFaults
 pub mod PlainCertificates
 pub mod EarliestLines
 pub mod Examples
-mod PortNames
+pub mod PortNames
 mod WrongExamples
 pub mod YesMeansCorrect
 pub mod NamedPorts
