@@ -51,7 +51,7 @@ not_false : (a : Bool) → not a ≡ true → a ≡ false
 not_false true h = sym h
 not_false false h = refl
 
-all_inner : (b : Box2) (ms ls : List Entry) → list_all (λ i. not (is_module i)) ls ≡ true →
+pub all_inner : (b : Box2) (ms ls : List Entry) → list_all (λ i. not (is_module i)) ls ≡ true →
     fold add_line (record { area = b; lines = ms } ∷ []) ls ≡ record { area = b; lines = ms ++ ls } ∷ []
 all_inner b ms [] h = ap (λ (l : List Entry). (record { area = b; lines = l }) ∷ []) (sym (append-nil ms))
 all_inner b ms (i ∷ ls) h =
@@ -63,20 +63,21 @@ all_inner b ms (i ∷ ls) h =
 -- ---- lines of one kind after another
 
 module _ {X : Type 0} (mk : X → Entry) where
-  all_mapped : ((x : X) → is_module (mk x) ≡ false) → (xs : List X) → list_all (λ i. not (is_module i))
+  pub all_mapped : ((x : X) → is_module (mk x) ≡ false) → (xs : List X) → list_all (λ i. not (is_module i))
       (map mk xs) ≡ true
   all_mapped h [] = refl
   all_mapped h (x ∷ xs) = ap₂ (λ a b. not a && b) (h x) (all_mapped h xs)
 
-  none_of : {Y : Type 0} (f : Entry → List Y) → ((x : X) → f (mk x) ≡ []) → (xs : List X) → flat_map f (map mk xs) ≡ []
+  pub none_of : {Y : Type 0} (f : Entry → List Y) → ((x : X) → f (mk x) ≡ []) → (xs : List X) →
+      flat_map f (map mk xs) ≡ []
   none_of f h [] = refl
   none_of f h (x ∷ xs) = ap₂ (λ a b. a ++ b) (h x) (none_of f h xs)
 
-  own_of : (f : Entry → List X) → ((x : X) → f (mk x) ≡ x ∷ []) → (xs : List X) → flat_map f (map mk xs) ≡ xs
+  pub own_of : (f : Entry → List X) → ((x : X) → f (mk x) ≡ x ∷ []) → (xs : List X) → flat_map f (map mk xs) ≡ xs
   own_of f h [] = refl
   own_of f h (x ∷ xs) = ap₂ (λ a b. a ++ b) (h x) (own_of f h xs)
 
-both_true : (xs ys : List Entry) → list_all (λ i. not (is_module i)) xs ≡ true →
+pub both_true : (xs ys : List Entry) → list_all (λ i. not (is_module i)) xs ≡ true →
     list_all (λ i. not (is_module i)) ys ≡ true → list_all (λ i. not (is_module i)) (xs ++ ys) ≡ true
 both_true [] ys h k = k
 both_true (x ∷ xs) ys h k =
@@ -96,7 +97,7 @@ among_later x k xs h = elim (cases_Bool (eqb x k)) [
   | inr other ↦ rw other h
 ]
 
-among_range : (n a k : ℕ) → a ≤ k → k < a + n → is_among (range_with_len a n) k ≡ true
+pub among_range : (n a k : ℕ) → a ≤ k → k < a + n → is_among (range_with_len a n) k ≡ true
 among_range zero a k low high = absurd (omega (arith, low, high))
 among_range (suc n) a k low high = elim (cases_Bool (eqb a k)) [
   | inl here ↦ rw here refl
@@ -139,7 +140,7 @@ module _ (circuit : List CircuitLine) (p : Pattern) (good : AreGood circuit) whe
   abbrev one : ModuleLines
   one = record { area = whole p.size; lines = cut_lines ++ use_lines ++ keep_lines }
 
-  is_one : modules_of (plain_lines circuit p) ≡ one ∷ []
+  pub is_one : modules_of (plain_lines circuit p) ≡ one ∷ []
   unfolding modules_of add_line
   is_one = all_inner (whole p.size) [] (cut_lines ++ use_lines ++ keep_lines)
       (both_true (cut_lines ++ use_lines) keep_lines

@@ -132,7 +132,7 @@ header_good ls n rows (Some (Header k)) e =
     let t = body_good ls [] (n + 1) rows refl (unless_ok n None (body_of circuit_grammar tt [] (n + 1) ls) (tt, rows) e).1 in
     subst (AreGoodAfter []) (sym t.rows_are) t.good
 
-circuit_good : (n : ℕ) (ls : List (List ℕ)) (h : Unit {0}) (rows : List CircuitLine) → section_of circuit_grammar n ls ≡ Ok (h, rows) → AreGood rows
+pub circuit_good : (n : ℕ) (ls : List (List ℕ)) (h : Unit {0}) (rows : List CircuitLine) → section_of circuit_grammar n ls ≡ Ok (h, rows) → AreGood rows
 unfolding section_of
 circuit_good n [] h rows e = absurd cc
 circuit_good n (l ∷ ls) h rows e = header_good ls n rows (form_of (words_of l)) e

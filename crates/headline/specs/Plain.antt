@@ -2,11 +2,20 @@
 --
 -- Read before: all that Headline.antt and Stops.antt name; certificate_lines/specs/Entries.antt up to `keep_in` (the
 -- lines of a module); audit_core/specs/PlainCertificates.antt from `IsPlain` to `TouchesRim`.
-use Rattle.std.specs.Prelude.{◌≡◌, ◌≢◌, ◌↔◌, ◌⊎◌, ℕ, List, [], ◌∷◌, ◌++◌, length, map, filter, slice_get}
+use Rattle.std.specs.Prelude.{◌≡◌, ◌≢◌, ◌↔◌, ◌⊎◌, ℕ, List, [], ◌∷◌, ◌++◌, ◌≤◌, length, map, filter, slice_get, Ok, Some}
 use Rattle.std.specs.List.{range_with_len}
+use Rattle.section_text.specs.SaidSection.{IsSection}
+use Rattle.section_text.specs.Section.{section_of}
+use Rattle.section_text.specs.Words.{lines_of, rest_of}
 use Rattle.circuit.specs.Bridge.{input_names, netlist_of}
+use Rattle.circuit.specs.Forms.{form_of as circuit_form}
+use Rattle.circuit.specs.Grammars.{circuit_grammar}
+use Rattle.pattern.specs.Forms.{form_of as layout_form}
+use Rattle.pattern.specs.Grammars.{layout_grammar, layout_value}
+use Rattle.certificate_lines.specs.Forms.{form_of as certificate_form}
+use Rattle.audit_core.specs.Concluding.{port_names_of}
 use Rattle.circuit.specs.declared.entry.Entry.{Entry as CircuitLine}
-use Rattle.pattern.specs.Layout.{Pattern}
+use Rattle.pattern.specs.Layout.{Pattern, parts_of}
 use Rattle.certificate_lines.specs.Entries.{ModuleLines, modules_of}
 use Rattle.certificate_lines.specs.Rules.{is_inverse_gate, whole}
 use Rattle.certificate_lines.specs.declared.entry.Entry.{Entry}
@@ -78,6 +87,36 @@ abbrev pub PlainLinesDecide : Type 0
 PlainLinesDecide = (text output : List ℕ) (outcome : Outcome) (circuit : List CircuitLine) (layout : Pattern) →
     SaysBundle text circuit layout (plain_lines circuit layout) → IsReportOf text output outcome → outcome ≢ Refused →
     SaysPlain text × ((outcome ≡ Yes) ↔ (IsRight text × HasRightStops text × ¬ HasRimTouch text))
+
+-- ---- every small design has a plain certificate
+
+-- The text says this circuit and this layout, in sections that are read, and then the plain certificate, and nothing
+-- more.
+pub record IsPlainText (text : List ℕ) (circuit : List CircuitLine) (layout : Pattern) : Type 0 where
+  pub first : List (List ℕ)
+  pub second : List (List ℕ)
+  pub third : List (List ℕ)
+  pub lines : lines_of text ≡ first ++ (second ++ third)
+  pub ended : rest_of text ≡ []
+  pub circuit_is : IsSection circuit_form first tt circuit
+  pub circuit_read : section_of circuit_grammar 0 first ≡ Ok (tt, circuit)
+  pub layout_is : IsSection layout_form second layout.size (parts_of layout)
+  pub layout_read : section_of (layout_grammar (Some (port_names_of circuit))) 0 second ≡ Ok (layout_value layout)
+  pub certificate_is : IsSection certificate_form third 1 (plain_lines circuit layout)
+
+-- at most 64 by 64 cells, 12 inputs and 64 gates
+pub record IsSmall (circuit : List CircuitLine) (layout : Pattern) : Type 0 where
+  pub wide : layout.size.w ≤ 64
+  pub high : layout.size.h ≤ 64
+  pub inputs : length (input_names circuit) ≤ 12
+  pub gates : length (netlist_of circuit).gates ≤ 64
+
+-- So for every small design right is the same as accepted: `check` says yes to its plain text exactly if the layout
+-- computes the circuit and keeps off its rim, and its delays and meetings are right.
+abbrev pub SmallDesignIsDecided : Type 0
+SmallDesignIsDecided = (text output : List ℕ) (outcome : Outcome) (circuit : List CircuitLine) (layout : Pattern) →
+    IsPlainText text circuit layout → IsSmall circuit layout → IsReportOf text output outcome →
+    (outcome ≢ Refused) × ((outcome ≡ Yes) ↔ (IsRight text × HasRightStops text × ¬ HasRimTouch text))
 
 -- Some plain text is reported with the outcome yes (`ThereAndBackIsAccepted`), so the laws are not vacuous.
 abbrev pub ThereAndBackIsPlain : Type 0

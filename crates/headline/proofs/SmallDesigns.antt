@@ -1,0 +1,771 @@
+-- The lines of the plain certificate of a small design are good
+use Rattle.std.proofs.Common.{◌≡◌, ℕ, zero, suc, ◌+◌, ◌<◌, ◌≤◌, ◌++◌, ◌&&◌, ◌||◌, not, eqb, Bool, true, false, List, []}
+use Rattle.std.proofs.Common.{◌∷◌, length, map, filter, take, drop, Some, None, Less, refl, sym, ap, ap₂, subst, ◌∙◌}
+use Rattle.std.proofs.Common.{append-nil, append_assoc, take-append-drop, cond, option_map, inl, inr, arith, ◌%◌}
+use Rattle.std.proofs.Common.{if◌then◌else◌, Ok}
+use Rattle.std.proofs.Math.Seq.{take-length}
+use Rattle.std.specs.Prelude.{slice_get, nat_lt, nat_le, ◌==◌, ◌≢◌}
+use Rattle.std.specs.List.{All, flat_map, list_all, list_any, range_with_len}
+use Rattle.std.specs.Option.{option_to_list}
+use Rattle.std.specs.Ordering.{is_lt, nat_cmp, ordering_then}
+use Rattle.std.proofs.lemmas.Bool.{and_parts, cases_Bool, eqb-true, true≢false}
+use Rattle.std.proofs.lemmas.List.Elements.{All-append, All-nil, All-cons, All-head, All-tail}
+use Rattle.std.proofs.lemmas.List.{length-append, map-append}
+use Rattle.std.proofs.lemmas.Option.{same_Some, slice_get-map, slice_get_within}
+use Rattle.section_text.specs.Codes.{code_where, or_else}
+use Rattle.section_text.specs.Words.{has}
+use Rattle.circuit.specs.Bridge.{AreGood, AreGoodAfter, circuit_of, input_names, netlist_of, is_output, output_names}
+use Rattle.circuit.specs.Entries.{defined}
+use Rattle.circuit.specs.Gates.{defines}
+use Rattle.circuit.specs.Meaning.{AreOrdered, Circuit, Gate, number, place_of, wire_of, wires, wires_after}
+use Rattle.circuit.specs.Rules.{define, consumed}
+use Rattle.circuit.specs.declared.entry.Entry.{Entry as CircuitLine}
+use Rattle.circuit.proofs.Bridging.{define_first, defined_push, gates_are_ordered, names_pass, numbers_new, push_cons}
+use Rattle.circuit.proofs.Naming.{inputs_are_first, wires_are_named}
+use Rattle.circuit.proofs.Places.{bytes_same, Have, consume_have, have_left}
+use Rattle.module_box.specs.Locals.{is_among, local_wires}
+use Rattle.pattern.specs.Layout.{Pattern, parts_of}
+use Rattle.module_box.specs.declared.boxes.Box2.{Box2}
+use Rattle.certificate_lines.specs.Entries.{ModuleLines, Setting, cut_in, cuts, gates, known, last_of, modules_of}
+use Rattle.certificate_lines.specs.Entries.{add_line, use_in, areas}
+use Rattle.certificate_lines.specs.ModuleParts.{is_module}
+use Rattle.certificate_lines.specs.Orders.{cell_of, is_cut, line_cmp, may_follow, may_precede, number_of, rank_of}
+use Rattle.certificate_lines.specs.Rules.{are_new, cut_fault, cut_wire_fault, entry_fault, gate_fault, inner_fault}
+use Rattle.certificate_lines.specs.Rules.{is_inverse_gate, keep_fault, line_fault, use_fault, words_fault, box_cells}
+use Rattle.certificate_lines.specs.Rules.{box_fault, end_fault, is_incomplete, is_local, is_local_wire, is_odd}
+use Rattle.certificate_lines.specs.Rules.{is_wrong_side, lacks_port, leaves_gap, module_fault, whole}
+use Rattle.certificate_lines.specs.Settings.{setting_of}
+use Rattle.certificate_lines.specs.declared.entry.Entry.{Entry}
+use Rattle.certificate_lines.specs.declared.entry.Entry.TheVariants.{Module, Cut, Use, Keep, Edge, Halo, Stop}
+use Rattle.certificate_lines.proofs.Lists.{any_at, kept}
+use Rattle.certificate_lines.proofs.LocalLemmas.{local_more}
+use Rattle.certificate.specs.Grammars.{certificate_grammar}
+use Rattle.section_text.proofs.Good.{AreFaultless, IsFaultless, read_faultless}
+use Rattle.std.specs.Str.{bytes_eq}
+use Rattle.std.proofs.lemmas.Slice.Eq.{bytes_eq-Decides}
+use Rattle.std.proofs.lemmas.List.Folds.{list_any-append}
+use Rattle.circuit.specs.Grammars.{circuit_grammar}
+use Rattle.pattern.specs.Grammars.{layout_grammar}
+use Rattle.pattern.specs.Lines.{AreNamed, is_side, size_fault}
+use Rattle.pattern.specs.declared.parts.Port.{Port}
+use Rattle.pattern.proofs.Named.{faultless_named}
+use Rattle.module_box.specs.Boxes.{in_box}
+use Rattle.certificate_lines.proofs.BoxPlaces.{cells_inside}
+use Rattle.audit_core.specs.Concluding.{port_names_of}
+use Rattle.audit_core.specs.HeadlineLaws.{IsInputName}
+use Rattle.audit_core.specs.declared.verdict.Verdict.{Verdict}
+use Rattle.audit_core.proofs.InputRuns.{IsPlaced, placed, read_layout-names}
+use Rattle.audit_core.proofs.PortNames.{read_layout-is_named}
+use Rattle.answers.specs.Answers.{Answered}
+use Rattle.answers.specs.BundleText.{Bundle, bundle_of}
+use Rattle.answers.specs.CheckText.{SaysReport, verdict_outcome}
+use Rattle.answers.specs.declared.outcome.Outcome.{Outcome}
+use Rattle.answers.specs.declared.outcome.Outcome.TheVariants.{Yes, No, Refused}
+use Rattle.answers.proofs.Bundles.{same_setting}
+use Rattle.headline.specs.Plain.{IsSmall, SmallDesignIsDecided, gate_numbers, plain_lines}
+use Rattle.headline.specs.Stops.{SaysBundle}
+use Rattle.headline.proofs.Migrations.{HasSections, IsGoodBundle, bundle_made}
+use Rattle.headline.proofs.YesIsRight.{circuit_good}
+use Rattle.audit_core.specs.declared.verdict.Verdict.TheVariants as verdict
+use Rattle.headline.proofs.PlainLines.{all_inner, among_range, none_of, own_of, is_one, plain_lines_decide}
+use Rattle.std.proofs.lemmas.Grind.{flat_map-append}
+use Rattle.std.proofs.lemmas.Bool.Decides.{nat_tests}
+use Rattle.module_box.specs.Moments.{cell_cmp}
+
+-- ---- numbers in a range
+
+pub range_at : (n a k : ℕ) → k < n → slice_get (range_with_len a n) k ≡ Some (a + k)
+range_at zero a k lt = absurd (omega (arith, lt))
+range_at (suc n) a zero lt = ap Some (omega arith)
+range_at (suc n) a (suc k) lt = range_at n (a + 1) k (omega (arith, lt)) ∙ ap Some (omega arith)
+
+pub range_append : (n a d : ℕ) → range_with_len a n ++ range_with_len (a + n) d ≡ range_with_len a (n + d)
+range_append zero a d = ap₂ range_with_len (omega arith) (omega arith)
+range_append (suc n) a d =
+    let e : a + suc n ≡ (a + 1) + n = omega arith in
+    let f : suc (n + d) ≡ suc n + d = omega arith in
+    ap (λ k. a ∷ (range_with_len (a + 1) n ++ range_with_len k d)) e
+    ∙ ap (λ l. a ∷ l) (range_append n (a + 1) d) ∙ ap (range_with_len a) f
+
+pub range_next : (n : ℕ) → range_with_len 0 n ++ n ∷ [] ≡ range_with_len 0 (n + 1)
+range_next n = ap (λ k. range_with_len 0 n ++ k ∷ []) (omega arith) ∙ range_append n 0 1
+
+pub length_range : (n a : ℕ) → length (range_with_len a n) ≡ n
+length_range zero a = refl
+length_range (suc n) a = ap suc (length_range n (a + 1))
+
+not_among : (n a w : ℕ) → a + n ≤ w → is_among (range_with_len a n) w ≡ false
+not_among zero a w h = refl
+not_among (suc n) a w h = ap₂ (λ p q. p || q) (apart a w (omega (arith, h))) (not_among n (a + 1) w (omega (arith, h)))
+  where
+    apart : (a w : ℕ) → a < w → eqb a w ≡ false
+    apart a w lt = grind (arith, lt, eqb-true a w)
+
+-- ---- the names of a circuit are different
+
+define_append : (d xs ys : List (List ℕ)) → define d xs ≡ None → define (d ++ xs) ys ≡ None → define d (xs ++ ys) ≡ None
+define_append d [] ys h k = subst (λ l. define l ys ≡ None) (append-nil d) k
+define_append d (x ∷ xs) ys h k =
+    let first = define_first d x xs h in
+    rw first.0 (define_append (d ++ x ∷ []) xs ys first.1
+    (subst (λ l. define l ys ≡ None) (sym (append_assoc d (x ∷ []) xs)) k))
+
+define_all : (before rest : List CircuitLine) → AreGoodAfter before rest → define [] (defined before) ≡ None →
+    define [] (defined (before ++ rest)) ≡ None
+unfolding AreGoodAfter
+define_all before [] good h = subst (λ l. define [] (defined l) ≡ None) (sym (append-nil before)) h
+define_all before (r ∷ rest) good h =
+    let own = (names_pass before r good.0.adds).1 in
+    let now : define [] (defined (before ++ r ∷ [])) ≡ None =
+    subst (λ l. define [] l ≡ None) (sym (defined_push before r)) (define_append [] (defined before) r.outs h own) in
+    subst (λ l. define [] (defined l) ≡ None) (push_cons before r rest) (define_all (before ++ r ∷ []) rest good.1 now)
+
+module _ (circuit : List CircuitLine) (good : AreGood circuit) where
+  abbrev names : List (List ℕ)
+  names = defined circuit
+
+  numbers : map (number names) names ≡ range_with_len 0 (length names)
+  numbers =
+      ap (λ l. map (number l) names) (sym (append-nil names)) ∙
+      numbers_new [] names [] (define_all [] circuit good refl)
+
+  number_at : (k : ℕ) (n : List ℕ) → slice_get names k ≡ Some n → number names n ≡ k
+  number_at k n at =
+      let within = slice_get_within names k n at in
+      same_Some (number names n) k
+      (sym (slice_get-map (number names) names k ∙ ap (option_map (number names)) at)
+      ∙ ap (λ l. slice_get l k) numbers ∙ range_at (length names) 0 k within ∙ ap Some (omega arith))
+
+  pub wire_at : (k : ℕ) (n : List ℕ) → slice_get names k ≡ Some n → wire_of (circuit_of circuit) n ≡ Some k
+  unfolding place_of
+  wire_at k n at =
+      ap (λ b. cond b (Some (number names n)) None) (any_at _ names k n at (bytes_same n))
+      ∙ ap Some (number_at k n at)
+
+  pub input_wire : (k : ℕ) (n : List ℕ) → slice_get (input_names circuit) k ≡ Some n →
+      wire_of (circuit_of circuit) n ≡ Some k
+  input_wire k n at =
+      wire_at k n (ap (λ l. slice_get l k) (sym (take-append-drop (netlist_of circuit).given names))
+      ∙ kept (take (netlist_of circuit).given names) (drop (netlist_of circuit).given names) k n
+      (ap (λ l. slice_get l k) (inputs_are_first circuit good) ∙ at))
+
+-- ---- the lines of one module
+
+-- each of these lines may stand in the module after those before it
+pub Inner : Setting → Box2 → List Entry → List Entry → Type 0
+Inner g b ms [] = Unit {0}
+Inner g b ms (i ∷ ls) =
+    (is_module i ≡ false) × (line_fault g (record { area = b; lines = ms }) i ≡ None) × Inner g b (ms ++ i ∷ []) ls
+
+inner_append : (g : Setting) (b : Box2) (ms xs ys : List Entry) → Inner g b ms xs → Inner g b (ms ++ xs) ys →
+    Inner g b ms (xs ++ ys)
+unfolding Inner
+inner_append g b ms [] ys h k = subst (λ l. Inner g b l ys) (append-nil ms) k
+inner_append g b ms (x ∷ xs) ys h k = (
+  h.0,
+  h.1,
+  inner_append g b (ms ++ x ∷ []) xs ys h.2 (subst (λ l. Inner g b l ys) (sym (append_assoc ms (x ∷ []) xs)) k),
+)
+
+in_module : (g : Setting) (before : List Entry) (m : ModuleLines) (i : Entry) → last_of (modules_of before) ≡ Some m →
+    is_module i ≡ false → line_fault g m i ≡ None → entry_fault g before i ≡ None
+unfolding entry_fault
+in_module g before m (Module b) e h f = absurd cc
+in_module g before m (Cut n) e h f = ap (λ o. inner_fault g o (Cut n)) e ∙ f
+in_module g before m (Use k) e h f = ap (λ o. inner_fault g o (Use k)) e ∙ f
+in_module g before m (Keep k) e h f = ap (λ o. inner_fault g o (Keep k)) e ∙ f
+in_module g before m (Edge x) e h f = ap (λ o. inner_fault g o (Edge x)) e ∙ f
+in_module g before m (Halo x) e h f = ap (λ o. inner_fault g o (Halo x)) e ∙ f
+in_module g before m (Stop s) e h f = ap (λ o. inner_fault g o (Stop s)) e ∙ f
+
+present_one : (b : Box2) (ms : List Entry) → list_all (λ i. not (is_module i)) ms ≡ true →
+    last_of (modules_of (Module b ∷ ms)) ≡ Some (record { area = b; lines = ms })
+unfolding modules_of last_of add_line
+present_one b ms inner = ap last_of (all_inner b [] ms inner)
+
+all_push : (ms : List Entry) (i : Entry) → list_all (λ i. not (is_module i)) ms ≡ true → is_module i ≡ false →
+    list_all (λ i. not (is_module i)) (ms ++ i ∷ []) ≡ true
+all_push [] i h k = ap (λ b. not b && true) k
+all_push (m ∷ ms) i h k =
+    let both = and_parts (not (is_module m)) (list_all (λ i. not (is_module i)) ms) h in
+    ap₂ (λ a b. a && b) both.0 (all_push ms i both.1 k)
+
+inner_faultless : (g : Setting) (b : Box2) (ms ls : List Entry) → list_all (λ i. not (is_module i)) ms ≡ true →
+    Inner g b ms ls → AreFaultless (certificate_grammar g) 1 (Module b ∷ ms) ls
+unfolding Inner
+inner_faultless g b ms [] all h = tt
+inner_faultless g b ms (i ∷ ls) all h = (
+  in_module g (Module b ∷ ms) (record { area = b; lines = ms }) i (present_one b ms all) h.0 h.1,
+  inner_faultless g b (ms ++ i ∷ []) ls (all_push ms i all h.0) h.2,
+)
+
+-- ---- the order of lines
+
+follow_mapped : {X : Type 0} (mk : X → Entry) (j : Entry) (P : X → Type 0) (xs : List X) → All P xs →
+    ((x : X) → P x → may_precede (mk x) j ≡ true) → list_all (λ i. may_precede i j) (map mk xs) ≡ true
+follow_mapped mk j P [] all h = refl
+follow_mapped mk j P (x ∷ xs) all h =
+    ap₂ (λ a b. a && b) (h x (All-head P x xs all)) (follow_mapped mk j P xs (All-tail P x xs all) h)
+
+follow_both : (j : Entry) (xs ys : List Entry) → list_all (λ i. may_precede i j) xs ≡ true →
+    list_all (λ i. may_precede i j) ys ≡ true → list_all (λ i. may_precede i j) (xs ++ ys) ≡ true
+follow_both j [] ys h k = k
+follow_both j (x ∷ xs) ys h k =
+    let both = and_parts (may_precede x j) (list_all (λ i. may_precede i j) xs) h in
+    ap₂ (λ a b. a && b) both.0 (follow_both j xs ys both.1 k)
+
+all_anything : {X : Type 0} (xs : List X) → All (λ x. Unit {0}) xs
+all_anything [] = All-nil (λ x. Unit {0})
+all_anything (x ∷ xs) = All-cons (λ x. Unit {0}) x xs tt (all_anything xs)
+
+or_true : (a : Bool) → (a || true) ≡ true
+or_true true = refl
+or_true false = refl
+
+less : (a b : ℕ) → a < b → nat_cmp a b ≡ Less
+less a b lt = grind (arith, lt)
+
+cut_cut : (a b : List ℕ) → may_precede (Cut a) (Cut b) ≡ true
+unfolding may_precede is_cut
+cut_cut a b = or_true (is_lt (line_cmp (Cut a) (Cut b)))
+
+cut_use : (a : List ℕ) (k : ℕ) → may_precede (Cut a) (Use k) ≡ true
+unfolding may_precede is_cut line_cmp rank_of
+cut_use a k = refl
+
+cut_keep : (a : List ℕ) (k : ℕ) → may_precede (Cut a) (Keep k) ≡ true
+unfolding may_precede is_cut line_cmp rank_of
+cut_keep a k = refl
+
+use_keep : (j k : ℕ) → may_precede (Use j) (Keep k) ≡ true
+unfolding may_precede is_cut line_cmp rank_of
+use_keep j k = refl
+
+use_use : (j k : ℕ) → j < k → may_precede (Use j) (Use k) ≡ true
+unfolding may_precede is_cut line_cmp rank_of number_of
+use_use j k lt =
+    ap (λ o. is_lt (ordering_then o (cell_cmp (cell_of (Use j)) (cell_of (Use k)))) || false) (less j k lt)
+
+keep_keep : (j k : ℕ) → j < k → may_precede (Keep j) (Keep k) ≡ true
+unfolding may_precede is_cut line_cmp rank_of number_of
+keep_keep j k lt =
+    ap (λ o. is_lt (ordering_then o (cell_cmp (cell_of (Keep j)) (cell_of (Keep k)))) || false) (less j k lt)
+
+follow_by : (g : Setting) (m : ModuleLines) (i : Entry) → may_follow m.lines i ≡ true → words_fault g m i ≡ None →
+    line_fault g m i ≡ None
+follow_by g m i f w = ap₂ or_else (ap (λ b. code_where (not b) 6) f) w
+
+all_below : (n a b : ℕ) → a + n ≤ b → All (λ j. j < b) (range_with_len a n)
+all_below zero a b h = All-nil (λ j. j < b)
+all_below (suc n) a b h =
+    All-cons (λ j. j < b) a (range_with_len (a + 1) n) (omega (arith, h)) (all_below n (a + 1) b (omega (arith, h)))
+
+-- ---- what a line asks
+
+below_limit : (a b : ℕ) → b < a → nat_le a b ≡ false
+below_limit a b lt = grind (arith, nat_tests, lt)
+
+cut_ok : (c : Circuit) (count : ℕ) (local : List ℕ) (n : List ℕ) (w : ℕ) → count < 12 → wire_of c n ≡ Some w →
+    is_among local w ≡ false → cut_fault c count local n ≡ None
+unfolding cut_fault
+cut_ok c count local n w few e fresh =
+    ap₂ or_else (ap (λ b. code_where b 2) (below_limit 12 count few))
+    (ap (cut_wire_fault local) e ∙ ap (λ b. code_where b 4) fresh)
+
+use_ok : (c : Circuit) (count : ℕ) (local : List ℕ) (k : ℕ) (x : Gate) → count < 64 →
+    slice_get c.netlist.gates k ≡ Some x → list_all (is_among local) x.ins ≡ true → are_new local x.outs ≡ true →
+    use_fault c count local k ≡ None
+unfolding use_fault gate_fault
+use_ok c count local k x few at ins new =
+    ap₂ or_else (ap (λ b. code_where b 2) (below_limit 64 count few))
+    (ap (gate_fault local) at ∙ ap₂ or_else (ap (λ b. code_where (not b) 9) ins) (ap (λ b. code_where (not b) 4) new))
+
+keep_ok : (c : Circuit) (used : List ℕ) (k : ℕ) → is_inverse_gate (slice_get c.netlist.gates k) ≡ true →
+    is_among used k ≡ true → keep_fault c used k ≡ None
+unfolding keep_fault
+keep_ok c used k inverse among =
+    ap₂ or_else (ap (λ b. code_where (not b) 3) inverse) (ap (λ b. code_where (not b) 9) among)
+
+all_among : (n : ℕ) (ws : List ℕ) → All (λ w. w < n) ws → list_all (is_among (range_with_len 0 n)) ws ≡ true
+all_among n [] all = refl
+all_among n (w ∷ ws) all =
+    let lt = All-head (λ w. w < n) w ws all in
+    ap₂ (λ a b. a && b) (among_range n 0 w (omega arith) (omega (arith, lt)))
+    (all_among n ws (All-tail (λ w. w < n) w ws all))
+
+new_range : (d n : ℕ) → are_new (range_with_len 0 n) (range_with_len n d) ≡ true
+unfolding are_new
+new_range zero n = refl
+new_range (suc d) n =
+    ap₂ (λ a b. not a && b) (not_among n 0 n (omega arith))
+    (ap (λ l. are_new l (range_with_len (n + 1) d)) (range_next n) ∙ new_range d (n + 1))
+
+-- ---- the three kinds of lines
+
+at_seam : {X : Type 0} (xs ys : List X) (y : X) → slice_get (xs ++ y ∷ ys) (length xs) ≡ Some y
+at_seam [] ys y = refl
+at_seam (x ∷ xs) ys y = at_seam xs ys y
+
+wires_by : (c : Circuit) (a : ℕ) (ns : List (List ℕ)) →
+    ((k : ℕ) (n : List ℕ) → slice_get ns k ≡ Some n → wire_of c n ≡ Some (a + k)) →
+    flat_map (λ n. option_to_list (wire_of c n)) ns ≡ range_with_len a (length ns)
+wires_by c a [] h = refl
+wires_by c a (n ∷ ns) h =
+    let here : wire_of c n ≡ Some a = h 0 n refl ∙ ap Some (omega arith) in
+    ap₂ (λ o ws. option_to_list o ++ ws) here (wires_by c (a + 1) ns (λ k n at. h (suc k) n at ∙ ap Some (omega arith)))
+
+module _ (circuit : List CircuitLine) (good : AreGood circuit) (p : Pattern) (b : Box2)
+    (few : length (input_names circuit) ≤ 12) (few_gates : length (netlist_of circuit).gates ≤ 64)
+    (given : length (input_names circuit) ≡ (netlist_of circuit).given) where
+  abbrev g : Setting
+  g = setting_of circuit p
+
+  abbrev c : Circuit
+  c = circuit_of circuit
+
+  abbrev ins : List (List ℕ)
+  ins = input_names circuit
+
+  abbrev all_gates : List Gate
+  all_gates = (netlist_of circuit).gates
+
+  abbrev module_of : List Entry → ModuleLines
+  module_of ls = record { area = b; lines = ls }
+
+  cuts_known : (done todo : List (List ℕ)) → done ++ todo ≡ ins →
+      flat_map (λ n. option_to_list (wire_of c n)) done ≡ range_with_len 0 (length done)
+  cuts_known done todo e = wires_by c 0 done (λ k n at.
+      input_wire circuit good k n (ap (λ l. slice_get l k) (sym e) ∙ kept done todo k n at) ∙ ap Some (omega arith))
+
+  known_after_cuts : (done todo : List (List ℕ)) → done ++ todo ≡ ins →
+      known c (module_of (map Cut done)) ≡ range_with_len 0 (length done)
+  known_after_cuts done todo e =
+      ap₂ (λ ns ks. local_wires c.netlist (flat_map (λ n. option_to_list (wire_of c n)) ns) ks)
+      (own_of Cut cut_in (λ n. refl) done) (none_of Cut use_in (λ n. refl) done)
+      ∙ append-nil (flat_map (λ n. option_to_list (wire_of c n)) done) ∙ cuts_known done todo e
+
+  cuts_run : (done todo : List (List ℕ)) → done ++ todo ≡ ins → Inner g b (map Cut done) (map Cut todo)
+  unfolding Inner may_follow
+  cuts_run done [] e = tt
+  cuts_run done (n ∷ todo) e =
+      let at : slice_get ins (length done) ≡ Some n =
+      ap (λ l. slice_get l (length done)) (sym e) ∙ at_seam done todo n in
+      let within = slice_get_within ins (length done) n at in
+      let follows : may_follow (map Cut done) (Cut n) ≡ true =
+      follow_mapped Cut (Cut n) (λ m. Unit {0}) done (all_anything done) (λ m u. cut_cut m n) in
+      let counted : length (cuts (module_of (map Cut done))) ≡ length done = ap length
+      (own_of Cut cut_in (λ n. refl) done) in
+      let fresh : is_among (known c (module_of (map Cut done))) (length done) ≡ false =
+      ap (λ l. is_among l (length done)) (known_after_cuts done (n ∷ todo) e) ∙ not_among (length done) 0 (length done)
+      (omega arith) in (
+        refl,
+        follow_by g (module_of (map Cut done)) (Cut n) follows
+            (cut_ok c _ _ n (length done) (omega (arith, within, few, counted))
+            (input_wire circuit good (length done) n at) fresh),
+        subst (λ l. Inner g b l (map Cut todo)) (map-append Cut done (n ∷ []))
+            (cuts_run (done ++ n ∷ []) todo (append_assoc done (n ∷ []) todo ∙ e)),
+      )
+
+  -- the lines before a use
+  abbrev front : List ℕ → List Entry
+  front ks = map Cut ins ++ map Use ks
+
+  front_cuts : (ks : List ℕ) → cuts (module_of (front ks)) ≡ ins
+  front_cuts ks = flat_map-append cut_in (map Cut ins) (map Use ks)
+      ∙ ap₂ (λ a b. a ++ b) (own_of Cut cut_in (λ n. refl) ins) (none_of Use cut_in (λ k. refl) ks) ∙ append-nil ins
+
+  front_gates : (ks : List ℕ) → gates (module_of (front ks)) ≡ ks
+  front_gates ks = flat_map-append use_in (map Cut ins) (map Use ks)
+      ∙ ap₂ (λ a b. a ++ b) (none_of Cut use_in (λ n. refl) ins) (own_of Use use_in (λ k. refl) ks)
+
+  front_known : (ks : List ℕ) →
+      known c (module_of (front ks)) ≡ local_wires c.netlist (range_with_len 0 (length ins)) ks
+  front_known ks = ap₂ (λ ns ks. local_wires c.netlist (flat_map (λ n. option_to_list (wire_of c n)) ns) ks)
+      (front_cuts ks) (front_gates ks)
+      ∙ ap (λ ws. local_wires c.netlist ws ks) (cuts_known ins [] (append-nil ins))
+
+  -- the wires that are known after the first gates
+  abbrev after_gates : ℕ → List ℕ
+  after_gates k = local_wires c.netlist (range_with_len 0 (length ins)) (range_with_len 0 k)
+
+  more_known : (k n : ℕ) (x : Gate) → slice_get all_gates k ≡ Some x → after_gates k ≡ range_with_len 0 n →
+      x.outs ≡ range_with_len n (defines x.kind) → after_gates (k + 1) ≡ range_with_len 0 (n + defines x.kind)
+  more_known k n x at now outs =
+      let e : n ≡ 0 + n = omega arith in
+      ap (local_wires c.netlist (range_with_len 0 (length ins))) (sym (range_next k))
+      ∙ local_more c.netlist (range_with_len 0 (length ins)) (range_with_len 0 k) k x at
+      ∙ ap₂ (λ a b. a ++ b) now outs
+      ∙ ap (λ k. range_with_len 0 n ++ range_with_len k (defines x.kind)) e ∙ range_append n 0 (defines x.kind)
+
+  uses_run : (n : ℕ) (done gs : List Gate) → done ++ gs ≡ all_gates → AreOrdered n gs →
+      after_gates (length done) ≡ range_with_len 0 n →
+      Inner g b (front (range_with_len 0 (length done))) (map Use (range_with_len (length done) (length gs)))
+  unfolding Inner may_follow AreOrdered
+  uses_run n done [] e ordered now = tt
+  uses_run n done (x ∷ gs) e ordered now =
+      let k = length done in
+      let at : slice_get all_gates k ≡ Some x = ap (λ l. slice_get l k) (sym e) ∙ at_seam done gs x in
+      let within = slice_get_within all_gates k x at in
+      let follows : may_follow (front (range_with_len 0 k)) (Use k) ≡ true =
+      follow_both (Use k) (map Cut ins) (map Use (range_with_len 0 k))
+      (follow_mapped Cut (Use k) (λ m. Unit {0}) ins (all_anything ins) (λ m u. cut_use m k))
+      (follow_mapped Use (Use k) (λ j. j < k) (range_with_len 0 k) (all_below k 0 k (omega arith)) (λ j lt.
+      use_use j k lt)) in
+      let counted : length (gates (module_of (front (range_with_len 0 k)))) ≡ k =
+      ap length (front_gates (range_with_len 0 k)) ∙ length_range k 0 in
+      let local : known c (module_of (front (range_with_len 0 k))) ≡ range_with_len 0 n =
+      front_known (range_with_len 0 k) ∙ now in
+      let longer : length (done ++ x ∷ []) ≡ k + 1 = length-append done (x ∷ []) in (
+        refl,
+        follow_by g (module_of (front (range_with_len 0 k))) (Use k) follows
+            (use_ok c _ _ k x (omega (arith, within, few_gates, counted)) at
+            (ap (λ l. list_all (is_among l) x.ins) local ∙ all_among n x.ins ordered.0)
+            (ap₂ are_new local ordered.2 ∙ new_range (defines x.kind) n)),
+        subst (λ l. Inner g b l (map Use (range_with_len (k + 1) (length gs))))
+            (ap (λ ks. map Cut ins ++ ks) (ap (map Use) (sym (range_next k)) ∙ map-append Use (range_with_len 0 k)
+            (k ∷ []))
+            ∙ sym (append_assoc (map Cut ins) (map Use (range_with_len 0 k)) (Use k ∷ [])))
+            (subst (λ j. Inner g b (front (range_with_len 0 j)) (map Use (range_with_len j (length gs)))) longer
+            (uses_run (n + defines x.kind) (done ++ x ∷ []) gs (append_assoc done (x ∷ []) gs ∙ e) ordered.3
+            (ap after_gates longer ∙ more_known k n x at now ordered.2))),
+      )
+
+  abbrev uses : List Entry
+  uses = front (range_with_len 0 (length all_gates))
+
+  abbrev is_inverse_number : ℕ → Bool
+  is_inverse_number k = is_inverse_gate (slice_get all_gates k)
+
+  all_more : (a : ℕ) (js : List ℕ) → All (λ j. j < a) js → All (λ j. j < a + 1) js
+  all_more a [] all = All-nil (λ j. j < a + 1)
+  all_more a (j ∷ js) all =
+      let lt = All-head (λ j. j < a) j js all in
+      All-cons (λ j. j < a + 1) j js (omega (arith, lt)) (all_more a js (All-tail (λ j. j < a) j js all))
+
+  all_pushed : (a : ℕ) (js : List ℕ) → All (λ j. j < a) js → All (λ j. j < a + 1) (js ++ a ∷ [])
+  all_pushed a js all =
+      All-append (λ j. j < a + 1) js (a ∷ []) (all_more a js all)
+      (All-cons (λ j. j < a + 1) a [] (omega arith) (All-nil (λ j. j < a + 1)))
+
+  keep_gates : (done : List ℕ) → gates (module_of (uses ++ map Keep done)) ≡ range_with_len 0 (length all_gates)
+  keep_gates done = flat_map-append use_in uses (map Keep done)
+      ∙ ap₂ (λ a b. a ++ b) (front_gates (range_with_len 0 (length all_gates))) (none_of Keep use_in (λ k. refl) done)
+      ∙ append-nil (range_with_len 0 (length all_gates))
+
+  keeps_run : (n a : ℕ) (done : List ℕ) → a + n ≡ length all_gates → All (λ j. j < a) done →
+      Inner g b (uses ++ map Keep done) (map Keep (filter is_inverse_number (range_with_len a n)))
+  unfolding Inner may_follow
+  keeps_run zero a done e all = tt
+  keeps_run (suc n) a done e all =
+      by_test (is_inverse_number a) refl (keeps_run n (a + 1) done (omega (arith, e)) (all_more a done all))
+      (keeps_run n (a + 1) (done ++ a ∷ []) (omega (arith, e)) (all_pushed a done all))
+    where
+      follows : may_follow (uses ++ map Keep done) (Keep a) ≡ true
+      follows =
+          follow_both (Keep a) uses (map Keep done)
+          (follow_both (Keep a) (map Cut ins) (map Use (range_with_len 0 (length all_gates)))
+          (follow_mapped Cut (Keep a) (λ m. Unit {0}) ins (all_anything ins) (λ m u. cut_keep m a))
+          (follow_mapped Use (Keep a) (λ j. Unit {0}) _ (all_anything (range_with_len 0 (length all_gates))) (λ j u.
+          use_keep j a)))
+          (follow_mapped Keep (Keep a) (λ j. j < a) done all (λ j lt. keep_keep j a lt))
+
+      by_test : (t : Bool) → is_inverse_number a ≡ t →
+          Inner g b (uses ++ map Keep done) (map Keep (filter is_inverse_number (range_with_len (a + 1) n))) →
+          Inner g b (uses ++ map Keep (done ++ a ∷ [])) (map Keep (filter is_inverse_number (range_with_len (a + 1) n)))
+          →
+          Inner g b (uses ++ map Keep done) (map Keep (filter is_inverse_number (a ∷ range_with_len (a + 1) n)))
+      by_test false t without with = rw t without
+      by_test true t without with = rw t (
+        refl,
+        follow_by g (module_of (uses ++ map Keep done)) (Keep a) follows
+            (keep_ok c _ a t (ap (λ l. is_among l a) (keep_gates done)
+            ∙ among_range (length all_gates) 0 a (omega arith) (omega (arith, e)))),
+        subst (λ l. Inner g b l (map Keep (filter is_inverse_number (range_with_len (a + 1) n))))
+            (ap (λ ks. uses ++ ks) (map-append Keep done (a ∷ [])) ∙
+            sym (append_assoc uses (map Keep done) (Keep a ∷ []))) with,
+      )
+
+  pub all_lines : Inner g b [] (map Cut ins ++ map Use (range_with_len 0 (length all_gates))
+      ++ map Keep (filter is_inverse_number (range_with_len 0 (length all_gates))))
+  all_lines =
+      inner_append g b [] uses _
+      (inner_append g b [] (map Cut ins) (map Use (range_with_len 0 (length all_gates))) (cuts_run [] ins refl)
+      (subst (λ l. Inner g b l (map Use (range_with_len 0 (length all_gates)))) (append-nil (map Cut ins))
+      (uses_run (netlist_of circuit).given [] all_gates refl (gates_are_ordered circuit good)
+      (append-nil (range_with_len 0 (length ins)) ∙ ap (range_with_len 0) given))))
+      (subst (λ l. Inner g b l (map Keep (filter is_inverse_number (range_with_len 0 (length all_gates)))))
+      (append-nil uses)
+      (keeps_run (length all_gates) 0 [] (omega arith) (All-nil (λ j. j < 0))))
+
+  keep_cuts : (done : List ℕ) → cuts (module_of (uses ++ map Keep done)) ≡ ins
+  keep_cuts done = flat_map-append cut_in uses (map Keep done)
+      ∙ ap₂ (λ a b. a ++ b) (front_cuts (range_with_len 0 (length all_gates))) (none_of Keep cut_in (λ k. refl) done)
+      ∙ append-nil ins
+
+  final_known : (n : ℕ) (done gs : List Gate) → done ++ gs ≡ all_gates → AreOrdered n gs →
+      after_gates (length done) ≡ range_with_len 0 n →
+      after_gates (length all_gates) ≡ range_with_len 0 (wires_after n gs)
+  unfolding AreOrdered wires_after
+  final_known n done [] e ordered now =
+      ap (λ (gs : List Gate). after_gates (length gs)) (sym e ∙ append-nil done) ∙ now
+  final_known n done (x ∷ gs) e ordered now =
+      let k = length done in
+      let at : slice_get all_gates k ≡ Some x = ap (λ l. slice_get l k) (sym e) ∙ at_seam done gs x in
+      let longer : length (done ++ x ∷ []) ≡ k + 1 = length-append done (x ∷ []) in
+      final_known (n + defines x.kind) (done ++ x ∷ []) gs (append_assoc done (x ∷ []) gs ∙ e) ordered.3
+      (ap after_gates longer ∙ more_known k n x at now ordered.2)
+
+  -- at the end all wires are known
+  pub all_known : (done : List ℕ) →
+      known c (module_of (uses ++ map Keep done)) ≡ range_with_len 0 (wires (netlist_of circuit))
+  all_known done =
+      ap₂ (λ ns ks. local_wires c.netlist (flat_map (λ n. option_to_list (wire_of c n)) ns) ks)
+      (keep_cuts done) (keep_gates done)
+      ∙ ap (λ ws. local_wires c.netlist ws (range_with_len 0 (length all_gates))) (cuts_known ins [] (append-nil ins))
+      ∙ final_known (netlist_of circuit).given [] all_gates refl (gates_are_ordered circuit good)
+      (append-nil (range_with_len 0 (length ins)) ∙ ap (range_with_len 0) given)
+
+-- ---- names that are defined
+
+have_append : (d xs ys : List (List ℕ)) → Have d xs → Have d ys → Have d (xs ++ ys)
+have_append d [] ys h k = k
+have_append d (x ∷ xs) ys h k = (h.0, have_append d xs ys h.1 k)
+
+have_if : (d ns : List (List ℕ)) (b : Bool) → Have d ns → Have d (if b then ns else [])
+have_if d ns true h = h
+have_if d ns false h = tt
+
+outs_have : (before rest : List CircuitLine) → AreGoodAfter before rest → Have (defined (before ++ rest))
+    (output_names rest)
+unfolding AreGoodAfter
+outs_have before [] good = tt
+outs_have before (r ∷ rest) good =
+    let D = defined (before ++ r ∷ rest) in
+    let own : Have (defined before) r.ins =
+    consume_have (defined before) (consumed before) r.ins (names_pass before r good.0.adds).0 in
+    let here : Have D r.ins =
+    subst (λ d. Have d r.ins) (sym (flat_map-append (λ (r : CircuitLine). r.outs) before (r ∷ rest)))
+    (have_left (defined before) (defined (r ∷ rest)) r.ins own) in
+    have_append D (if is_output r.kind then r.ins else []) (output_names rest) (have_if D r.ins (is_output r.kind) here)
+    (subst (λ (es : List CircuitLine). Have (defined es) (output_names rest)) (push_cons before r rest)
+    (outs_have (before ++ r ∷ []) rest good.1))
+
+has_member : (d ns : List (List ℕ)) (n : List ℕ) → Have d ns → has ns n ≡ true → has d n ≡ true
+has_member d [] n h e = absurd (true≢false (sym e))
+has_member d (m ∷ ns) n h e = elim (cases_Bool (bytes_eq n m)) [
+  | inl same ↦ subst (λ k. has d k ≡ true) (sym ((bytes_eq-Decides n m).0 same)) h.0
+  | inr other ↦ has_member d ns n h.1 (sym (ap (λ b. b || has ns n) other) ∙ e)
+]
+
+-- ---- the end of the lines
+
+none_any : {X : Type 0} (test : X → Bool) (xs : List X) → ((k : ℕ) (x : X) → slice_get xs k ≡ Some x → test x ≡ false) →
+    list_any test xs ≡ false
+none_any test [] h = refl
+none_any test (x ∷ xs) h = ap₂ (λ a b. a || b) (h 0 x refl) (none_any test xs (λ k. h (suc k)))
+
+all_pass : {X : Type 0} (test : X → Bool) (xs : List X) → ((k : ℕ) (x : X) → slice_get xs k ≡ Some x → test x ≡ true) →
+    list_all test xs ≡ true
+all_pass test [] h = refl
+all_pass test (x ∷ xs) h = ap₂ (λ a b. a && b) (h 0 x refl) (all_pass test xs (λ k. h (suc k)))
+
+and_false : (a : Bool) → (a && false) ≡ false
+and_false true = refl
+and_false false = refl
+
+length_taken : {X : Type 0} (n : ℕ) (xs : List X) → n ≤ length xs → length (take n xs) ≡ n
+length_taken zero xs h = refl
+length_taken (suc n) [] h = absurd (omega (arith, h))
+length_taken (suc n) (x ∷ xs) h = ap suc (length_taken n xs (omega (arith, h)))
+
+more_wires : (n : ℕ) (gs : List Gate) → n ≤ wires_after n gs
+unfolding wires_after
+more_wires n [] = omega arith
+more_wires n (x ∷ gs) = let more = more_wires (n + defines x.kind) gs in omega (arith, more)
+
+side_ok : (n : ℕ) → is_side n ≡ true → n ≤ 64 → is_wrong_side n ≡ false
+side_ok n side few =
+    let first = and_parts (nat_le 2 n && nat_le n 512) (n % 2 == 0) side in
+    let low = and_parts (nat_le 2 n) (nat_le n 512) first.0 in
+    let even : n % 2 ≡ 0 = eqb-true (n % 2) 0 first.1 in
+    let not_odd : is_odd n ≡ false = ap (λ k. k == 1) even in
+    let not_low : nat_lt n 2 ≡ false = not_less n 2 low.0 in
+    let not_high : nat_lt 64 n ≡ false = not_above n 64 few in
+    ap₂ (λ a b. a || b) (ap₂ (λ a b. a || b) not_odd not_low) not_high
+  where
+    not_less : (n k : ℕ) → nat_le k n ≡ true → nat_lt n k ≡ false
+    not_less n k h = grind (arith, nat_tests, h)
+
+    not_above : (n k : ℕ) → n ≤ k → nat_lt k n ≡ false
+    not_above n k h = grind (arith, nat_tests, h)
+
+none_code : (a : Bool) (code : ℕ) → code_where (not a) code ≡ None → a ≡ true
+none_code true code e = refl
+none_code false code e = absurd cc
+
+module _ (circuit : List CircuitLine) (p : Pattern) (good : AreGood circuit)
+    (layout_good : IsFaultless (layout_grammar (Some (port_names_of circuit))) p.size (parts_of p))
+    (small : IsSmall circuit p) where
+  abbrev its_setting : Setting
+  its_setting = setting_of circuit p
+
+  abbrev its_kept : List ℕ
+  its_kept = filter (λ k. is_inverse_gate (slice_get (netlist_of circuit).gates k)) (gate_numbers circuit)
+
+  abbrev its_module : ModuleLines
+  its_module = record {
+    area = whole p.size;
+    lines = map Cut (input_names circuit) ++ map Use (gate_numbers circuit) ++ map Keep its_kept;
+  }
+
+  its_given : length (input_names circuit) ≡ (netlist_of circuit).given
+  its_given =
+      let all = wires_are_named circuit good in
+      let more = more_wires (netlist_of circuit).given (netlist_of circuit).gates in
+      ap length (sym (inputs_are_first circuit good))
+      ∙ length_taken (netlist_of circuit).given (defined circuit) (omega (arith, all, more))
+
+  abbrev names_are : AreNamed (Some (port_names_of circuit)) (parts_of p)
+  names_are = faultless_named (Some (port_names_of circuit)) p.size (parts_of p) layout_good
+
+  local_by : (n : List ℕ) (w : ℕ) → wire_of (circuit_of circuit) n ≡ Some w → w < wires (netlist_of circuit) →
+      is_local (circuit_of circuit) (known (circuit_of circuit) its_module) n ≡ true
+  local_by n w e lt =
+      ap (is_local_wire (known (circuit_of circuit) its_module)) e
+      ∙ ap (λ ws. is_among ws w) (all_known circuit good p (whole p.size) small.inputs small.gates its_given its_kept)
+      ∙ among_range (wires (netlist_of circuit)) 0 w (omega arith) (omega (arith, lt))
+
+  in_local : (k : ℕ) (q : Port) → slice_get p.ins k ≡ Some q →
+      is_local (circuit_of circuit) (known (circuit_of circuit) its_module) q.name ≡ true
+  in_local k q at =
+      let is : IsInputName circuit q.name = read_layout-names circuit p (inputs_are_first circuit good) names_are k q at
+      in
+      let low = is.is_given in
+      let more = more_wires (netlist_of circuit).given (netlist_of circuit).gates in
+      local_by q.name is.wire is.named (omega (arith, low, more))
+
+  out_local : (k : ℕ) (q : Port) → slice_get p.outs k ≡ Some q →
+      is_local (circuit_of circuit) (known (circuit_of circuit) its_module) q.name ≡ true
+  out_local k q at =
+      let here : has (map (λ (q : Port). q.name) p.outs) q.name ≡ true =
+      any_at _ (map (λ (q : Port). q.name) p.outs) k q.name
+      (slice_get-map (λ (q : Port). q.name) p.outs k ∙ ap (option_map (λ (q : Port). q.name)) at)
+      (bytes_same q.name) in
+      let named : has (output_names circuit) q.name ≡ true =
+      sym ((read_layout-is_named circuit p names_are).outs q.name) ∙ here in
+      let stands : has (defined circuit) q.name ≡ true =
+      has_member (defined circuit) (output_names circuit) q.name (outs_have [] circuit good) named in
+      let is : IsPlaced q.name (defined circuit) (length (defined circuit)) =
+      placed q.name (defined circuit) (length (defined circuit))
+      (ap (λ l. has l q.name) (take-length (defined circuit)) ∙ stands) in
+      let early = is.early in
+      let all = wires_are_named circuit good in
+      local_by q.name is.place is.is (omega (arith, early, all))
+
+  lacks_none : lacks_port its_setting its_module ≡ false
+  unfolding lacks_port
+  lacks_none =
+      list_any-append _ p.ins p.outs
+      ∙ ap₂ (λ a b. a || b)
+      (none_any _ p.ins (λ k q at. ap (λ b. in_box (whole p.size) q.cell.x q.cell.y && not b) (in_local k q at) ∙
+      and_false _))
+      (none_any _ p.outs (λ k q at. ap (λ b. in_box (whole p.size) q.cell.x q.cell.y && not b) (out_local k q at) ∙
+      and_false _))
+
+  no_gap : leaves_gap p.size (whole p.size ∷ []) ≡ false
+  no_gap = ap not (all_pass _ (box_cells (whole p.size)) (λ k d at.
+      ap (λ b. b || false) (cells_inside (whole p.size) k d at)))
+
+  sides : (is_side p.size.w ≡ true) × (is_side p.size.h ≡ true)
+  unfolding size_fault
+  sides =
+      let all = none_code (is_side p.size.w && is_side p.size.h && nat_le p.size.steps 65536) 2 layout_good.header in
+      let both = and_parts (is_side p.size.w && is_side p.size.h) (nat_le p.size.steps 65536) all in
+      and_parts (is_side p.size.w) (is_side p.size.h) both.0
+
+  not_past : (n : ℕ) → nat_lt n (0 + n) ≡ false
+  not_past n = grind (arith, nat_tests)
+
+  module_good : entry_fault its_setting [] (Module (whole p.size)) ≡ None
+  unfolding entry_fault module_fault box_fault modules_of last_of
+  module_good =
+      ap₂ or_else
+      (ap₂ or_else
+      (ap (λ b. code_where b 2) (ap₂ (λ a b. a || b || nat_le 1024 0) (side_ok p.size.w sides.0 small.wide)
+      (side_ok p.size.h sides.1 small.high)))
+      (ap (λ b. code_where b 8) (ap₂ (λ a b. a || b) (not_past p.size.w) (not_past p.size.h))))
+      (ap (λ b. code_where b 8) (none_any _ (box_cells (whole p.size)) (λ k d at. refl)))
+
+  end_good : end_fault its_setting (plain_lines circuit p) ≡ None
+  unfolding end_fault last_of
+  end_good =
+      ap (λ (ms : List ModuleLines). code_where (is_incomplete its_setting (last_of ms) || leaves_gap p.size (areas ms))
+      11)
+      (is_one circuit p good)
+      ∙ ap₂ (λ a b. code_where (a || b) 11) lacks_none no_gap
+
+  pub plain_faultless : IsFaultless (certificate_grammar its_setting) 1 (plain_lines circuit p)
+  plain_faultless = record {
+    header = refl;
+    each = (
+      module_good,
+      inner_faultless its_setting (whole p.size) [] its_module.lines refl
+          (all_lines circuit good p (whole p.size) small.inputs small.gates its_given),
+    );
+    end = ap (λ o. or_else o None) end_good;
+  }
+
+-- ---- the text
+
+not_refused : (v : Verdict) (outcome : Outcome) → outcome ≡ verdict_outcome v → outcome ≡ Refused → ⊥
+not_refused verdict.Yes outcome e r = let clash : Yes ≡ Refused = sym e ∙ r in cc
+not_refused (verdict.No lines) outcome e r = let clash : No ≡ Refused = sym e ∙ r in cc
+
+pub small_is_decided : SmallDesignIsDecided
+small_is_decided text output outcome circuit layout t small reports =
+    let ports = Some (port_names_of circuit) in
+    let b : Bundle = record {
+      circuit = circuit;
+      size = layout.size;
+      parts = parts_of layout;
+      version = 1;
+      entries = plain_lines circuit layout;
+    } in
+    let good : AreGood circuit = circuit_good 0 t.first tt circuit t.circuit_read in
+    let layout_good : IsFaultless (layout_grammar ports) layout.size (parts_of layout) =
+    read_faultless (layout_grammar ports) 0 t.second layout.size (parts_of layout) t.layout_read in
+    let sections : HasSections text b = record {
+      first = t.first;
+      second = t.second;
+      third = t.third;
+      lines = t.lines;
+      rest = t.ended;
+      circuit_is = t.circuit_is;
+      layout_is = t.layout_is;
+      certificate_is = t.certificate_is;
+    } in
+    let is_good : IsGoodBundle b = record {
+      circuit = read_faultless circuit_grammar 0 t.first tt circuit t.circuit_read;
+      layout = layout_good;
+      certificate = subst (λ g. IsFaultless (certificate_grammar g) 1 (plain_lines circuit layout))
+          (sym (same_setting circuit layout)) (plain_faultless circuit layout good layout_good small);
+    } in
+    let reads : bundle_of text ≡ Ok b = bundle_made text b sections is_good in
+    let says : SaysReport b output outcome = subst (λ r. Answered SaysReport r output outcome) reads reports in
+    let some : outcome ≢ Refused = not_refused says.verdict outcome says.ends in
+    let said : SaysBundle text circuit layout (plain_lines circuit layout) = record {
+      design = record {
+        first = t.first;
+        second = t.second;
+        others = t.third;
+        lines = t.lines;
+        circuit_is = t.circuit_is;
+        layout_is = t.layout_is;
+      };
+      version = 1;
+      third = t.third;
+      rest = [];
+      lines = sym (append-nil t.third);
+      certificate_is = t.certificate_is;
+    } in
+    (some, (plain_lines_decide text output outcome circuit layout said reports some).1)
