@@ -69,7 +69,7 @@ use Rattle.answers.specs.declared.outcome.Outcome.TheVariants.{Yes}
 use Rattle.headline.specs.ThereAndBack.{there_and_back}
 use Rattle.headline.specs.Laws.{ThereAndBackIsAccepted}
 use Rattle.headline.proofs.Trials.{at_every, end_test, every_cell, faultless, no_border_fault, same_demand, same_demand_is, same_signal, same_signal_is}
-use Rattle.headline.specs.Plain.{ThereAndBackIsPlain}
+use Rattle.headline.specs.Plain.{ThereAndBackIsPlain, ThereAndBackIsSmall}
 use Rattle.audit_core.specs.HeadlineLaws.{IsInputName}
 use Rattle.headline.proofs.YesIsRight.{bundle_good, certificate_faultless}
 
@@ -377,4 +377,29 @@ plain = record {
     inverses = inverse_kept;
     no_edge = refl;
   };
+}
+
+-- ---- it is the plain text of a small design
+
+pub small : ThereAndBackIsSmall
+unfolding there_and_back words.lines_of words.rest_of words.number_of words.name_of words.number_at words.name_at words.names_at words.is_word_at words.lone words.lone_number words.lone_name section.section_of section.body_of circuit_forms.form_of circuit_forms.gate_entry circuit_forms.gate_names circuit_forms.gate_kind circuit_forms.bit_at circuit_rules.add_fault meaning.number meaning.place_of layout_forms.form_of layout_forms.cell_from layout_forms.lone_cell layout_forms.named_cell layout_forms.port_of layout_forms.size_of layout_forms.sides_and_steps layout_rules.size_fault layout_rules.limit_fault layout_rules.rank_of layout_rules.is_late layout_rules.order_fault layout_rules.name_fault layout_rules.cells_of layout_rules.is_inside layout_rules.begins layout_rules.ends layout_rules.begun layout_rules.ended layout_rules.is_taken layout_rules.cell_fault layout_rules.line_fault layout_rules.part_fault layout_rules.missing_fault layouts.rectangle_cells in_span boxes.in_box boxes.some_neighbour boxes.in_ring boxes.in_halo entries.change_last entries.last_of entries.add_line entries.modules_of forms.corner_and_sides forms.area_of forms.time_at forms.signal_at forms.timed_cell forms.border_of forms.timed_wire forms.stop_of forms.form_of orders.rank_of orders.number_of orders.cell_of orders.line_cmp orders.is_cut orders.may_precede orders.may_follow rules.lacks_port rules.box_fault rules.module_fault rules.cut_fault rules.are_new rules.gate_fault rules.use_fault rules.keep_fault rules.is_time rules.is_edge_place rules.is_halo_place rules.is_stop_place rules.signal_fault rules.border_fault rules.entry_fault rules.end_fault cell_cmp
+small = record {
+  circuit = circuit;
+  layout = layout;
+  plain = record {
+    first = codes "circuit" ∷ codes "input c" ∷ codes "input x" ∷ codes "switch c x -> d y z"
+        ∷ codes "unswitch d y z -> e w" ∷ codes "output e" ∷ codes "output w" ∷ codes "end" ∷ [];
+    second = codes "layout 2 2 0" ∷ codes "in c 0 0" ∷ codes "in x 1 0" ∷ codes "out e 0 0" ∷ codes "out w 1 0"
+        ∷ codes "end" ∷ [];
+    third = codes "certificate 1" ∷ codes "module 0 0 2 2" ∷ codes "cut c" ∷ codes "cut x" ∷ codes "use 0"
+        ∷ codes "use 1" ∷ codes "keep 1" ∷ codes "end" ∷ [];
+    lines = refl;
+    ended = refl;
+    circuit_is = refl;
+    circuit_read = refl;
+    layout_is = refl;
+    layout_read = refl;
+    certificate_is = refl;
+  };
+  small = record { wide = omega arith; high = omega arith; inputs = omega arith; gates = omega arith };
 }

@@ -121,3 +121,10 @@ SmallDesignIsDecided = (text output : List ℕ) (outcome : Outcome) (circuit : L
 -- Some plain text is reported with the outcome yes (`ThereAndBackIsAccepted`), so the laws are not vacuous.
 abbrev pub ThereAndBackIsPlain : Type 0
 ThereAndBackIsPlain = SaysPlain there_and_back
+
+-- It is the plain text of a small design, so `SmallDesignIsDecided` is not vacuous.
+pub record ThereAndBackIsSmall : Type 0 where
+  pub circuit : List CircuitLine
+  pub layout : Pattern
+  pub plain : IsPlainText there_and_back circuit layout
+  pub small : IsSmall circuit layout

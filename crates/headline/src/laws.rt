@@ -1,7 +1,7 @@
 //! Laws of the definitions, each the contract of a function without a body.
 ghost use Rattle.answers.specs.CheckText.{IsReportOf};
 ghost use Rattle.headline.specs.Laws.{FourthLineTells, HasOneAnswer, ReportsOnGoodDesigns, SaysOneCertificate, SaysOneDesign, ThereAndBackIsAccepted, TimedModulesAreAccepted, YesMeansRight, YesMeansRightStops};
-ghost use Rattle.headline.specs.Plain.{PlainIsDecided, PlainLinesDecide, PlainNoMeansWrong, SmallDesignIsDecided, ThereAndBackIsPlain, YesKeepsOffRim};
+ghost use Rattle.headline.specs.Plain.{PlainIsDecided, PlainLinesDecide, PlainNoMeansWrong, SmallDesignIsDecided, ThereAndBackIsPlain, ThereAndBackIsSmall, YesKeepsOffRim};
 ghost use Rattle.headline.specs.ReportLines.{NoLinesTell};
 ghost use Rattle.headline.specs.Migration.{KeepsVersionTwo, MigratesOnce, MigrationIsAccepted, MigrationSaysTheSame};
 ghost use Rattle.answers.specs.MigrateText.{IsMigrationOf};
@@ -89,4 +89,5 @@ pub fn something_is_accepted()
     ensures timed { TimedModulesAreAccepted }
     ensures inverse { ThereAndBackIsAccepted }
     ensures plain { ThereAndBackIsPlain }
+    ensures small { ThereAndBackIsSmall }
 {}

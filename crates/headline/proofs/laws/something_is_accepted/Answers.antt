@@ -10,3 +10,6 @@ returns-clause-inverse c = inverse.accepted
 
 pub returns-clause-plain : goal.returns-clause-plain
 returns-clause-plain c = inverse.plain
+
+pub returns-clause-small : goal.returns-clause-small
+returns-clause-small c = inverse.small
