@@ -5,7 +5,7 @@ ghost use Rattle.command_line.specs.CommandLine.{AsksForHelp, IsAccepted, IsHelp
 ghost use Rattle.check_main.specs.Commands.{IsAnswerTo};
 ghost use Rattle.headline.specs.Headline.{Gives, IsRight, YesMeans};
 ghost use Rattle.headline.specs.Stops.{HasRightStops};
-ghost use Rattle.headline.specs.Plain.{IsWrongIfPlain};
+ghost use Rattle.headline.specs.Plain.{IsNoSmallDesign, IsWrongIfPlain};
 ghost use Rattle.headline.specs.ReportLines.{LinesTell, Relates};
 ghost use Rattle.check_main.specs.Status.{status_for, Says};
 ghost use Rattle.check_main.specs.Stream.{Answers, BreaksOff, GivesTooMuch, Serves};
@@ -105,6 +105,9 @@ where
     ensures lines { asked_by (map (λ s. s.now) words.entry.now) ≡ Request.Check → result ≡ 1
         → Relates LinesTell (R.left streams.old.reader)
         (W.held streams.old.writer) (W.held streams.new.writer) }
+    // The plain text of a small design is not refused.
+    ensures small { asked_by (map (λ s. s.now) words.entry.now) ≡ Request.Check → result ≡ 3
+        → Gives IsNoSmallDesign (R.left streams.old.reader) }
 
     ensures no { result ≡ 1 → Answers (IsAnswerTo (asked_by (map (λ s. s.now) words.entry.now)))
         (R.left streams.old.reader) (R.left streams.new.reader)
@@ -172,6 +175,8 @@ fn serve<T: Threads + Wait + Sync, R: Source, W: Sink, G: Gate + Sync>(
     ensures wrong { asked.request ≡ Request.Check → result ≡ Ok Outcome.No → Gives IsWrongIfPlain (R.left reader.old) }
     ensures lines { asked.request ≡ Request.Check → result ≡ Ok Outcome.No →
         Relates LinesTell (R.left reader.old) (W.held writer.old) (W.held writer.new) }
+    ensures small { asked.request ≡ Request.Check → result ≡ Ok Outcome.Refused →
+        Gives IsNoSmallDesign (R.left reader.old) }
 {
     match asked.request {
         Request::Check => check_stream(rt, alloc, reader, writer, asked.workers, gate),

@@ -10,7 +10,7 @@ pub mod FourthLines
 pub mod YesIsRight
 pub mod PlainTexts
 mod PlainLines
-mod SmallDesigns
+pub mod SmallDesigns
 pub mod Migrations
 mod FullJobs
 mod AcceptedMigrations

@@ -62,7 +62,7 @@ use Rattle.answers.specs.CheckText.{SaysReport, verdict_outcome}
 use Rattle.answers.specs.declared.outcome.Outcome.{Outcome}
 use Rattle.answers.specs.declared.outcome.Outcome.TheVariants.{Yes, No, Refused}
 use Rattle.answers.proofs.Bundles.{same_setting}
-use Rattle.headline.specs.Plain.{IsSmall, SmallDesignIsDecided, gate_numbers, plain_lines}
+use Rattle.headline.specs.Plain.{IsSmall, RefusedIsNoSmallDesign, SmallDesignIsDecided, gate_numbers, plain_lines}
 use Rattle.headline.specs.Stops.{SaysBundle}
 use Rattle.headline.proofs.Migrations.{HasSections, IsGoodBundle, bundle_made}
 use Rattle.headline.proofs.YesIsRight.{circuit_good}
@@ -769,3 +769,7 @@ small_is_decided text output outcome circuit layout t small reports =
       certificate_is = t.certificate_is;
     } in
     (some, (plain_lines_decide text output outcome circuit layout said reports some).1)
+
+pub refused_is_none : RefusedIsNoSmallDesign
+refused_is_none text output reports circuit layout plain small =
+    (small_is_decided text output Refused circuit layout plain small reports).0 refl

@@ -118,6 +118,15 @@ SmallDesignIsDecided = (text output : List ℕ) (outcome : Outcome) (circuit : L
     IsPlainText text circuit layout → IsSmall circuit layout → IsReportOf text output outcome →
     (outcome ≢ Refused) × ((outcome ≡ Yes) ↔ (IsRight text × HasRightStops text × ¬ HasRimTouch text))
 
+-- the text is not the plain text of a small design
+abbrev pub IsNoSmallDesign : List ℕ → Type 0
+IsNoSmallDesign text = (circuit : List CircuitLine) (layout : Pattern) → IsPlainText text circuit layout →
+    ¬ IsSmall circuit layout
+
+-- Only such a text is refused.
+abbrev pub RefusedIsNoSmallDesign : Type 0
+RefusedIsNoSmallDesign = (text output : List ℕ) → IsReportOf text output Refused → IsNoSmallDesign text
+
 -- Some plain text is reported with the outcome yes (`ThereAndBackIsAccepted`), so the laws are not vacuous.
 abbrev pub ThereAndBackIsPlain : Type 0
 ThereAndBackIsPlain = SaysPlain there_and_back

@@ -1,7 +1,7 @@
 //! Laws of the definitions, each the contract of a function without a body.
 ghost use Rattle.answers.specs.CheckText.{IsReportOf};
 ghost use Rattle.headline.specs.Laws.{FourthLineTells, HasOneAnswer, ReportsOnGoodDesigns, SaysOneCertificate, SaysOneDesign, ThereAndBackIsAccepted, TimedModulesAreAccepted, YesMeansRight, YesMeansRightStops};
-ghost use Rattle.headline.specs.Plain.{PlainIsDecided, PlainLinesDecide, PlainNoMeansWrong, SmallDesignIsDecided, ThereAndBackIsPlain, ThereAndBackIsSmall, YesKeepsOffRim};
+ghost use Rattle.headline.specs.Plain.{PlainIsDecided, PlainLinesDecide, PlainNoMeansWrong, RefusedIsNoSmallDesign, SmallDesignIsDecided, ThereAndBackIsPlain, ThereAndBackIsSmall, YesKeepsOffRim};
 ghost use Rattle.headline.specs.ReportLines.{NoLinesTell};
 ghost use Rattle.headline.specs.Migration.{KeepsVersionTwo, MigratesOnce, MigrationIsAccepted, MigrationSaysTheSame};
 ghost use Rattle.answers.specs.MigrateText.{IsMigrationOf};
@@ -65,7 +65,8 @@ pub fn no_means_wrong()
 /// Every design of at most 64 by 64 cells, 12 inputs and 64 gates has a plain certificate that is read: `plain_lines`. So for these
 /// designs right is the same as accepted.
 pub fn small_designs_are_decided()
-    ensures { SmallDesignIsDecided }
+    ensures decided { SmallDesignIsDecided }
+    ensures refused { RefusedIsNoSmallDesign }
 {}
 
 /// The earliest line of a report is real: its fault is one of the whole plane, for each valuation that has its assignment. If the

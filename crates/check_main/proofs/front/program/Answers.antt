@@ -53,3 +53,18 @@ pub returns-in-Ok-clause-lines : goal.returns-in-Ok-clause-lines
 returns-in-Ok-clause-lines g c check one =
     c.serve-ended.ensures.lines (c.in-Ok.ensures.request ∙ check)
     (no_of c.serve-ended.result (sym c.status_of.ensures.status ∙ one))
+
+-- only a refusal has the status 3
+refusal_of : (ended : Result Outcome CheckFault) → status_for ended ≡ 3 → ended ≡ Ok Refused
+refusal_of (Ok Yes) e = absurd (omega (arith, e))
+refusal_of (Ok No) e = absurd (omega (arith, e))
+refusal_of (Ok Refused) e = refl
+refusal_of (Err Read) e = absurd (omega (arith, e))
+refusal_of (Err Write) e = absurd (omega (arith, e))
+refusal_of (Err TooLong) e = absurd (omega (arith, e))
+refusal_of (Err Memory) e = absurd (omega (arith, e))
+
+pub returns-in-Ok-clause-small : goal.returns-in-Ok-clause-small
+returns-in-Ok-clause-small g c check three =
+    c.serve-ended.ensures.small (c.in-Ok.ensures.request ∙ check)
+    (refusal_of c.serve-ended.result (sym c.status_of.ensures.status ∙ three))

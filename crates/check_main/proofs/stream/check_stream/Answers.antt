@@ -2,10 +2,11 @@
 use Rattle.std.proofs.Common.{refl}
 use Rattle.headline.specs.Headline.{IsRight}
 use Rattle.headline.specs.Stops.{HasRightStops}
-use Rattle.headline.specs.Plain.{IsWrongIfPlain}
+use Rattle.headline.specs.Plain.{IsNoSmallDesign, IsWrongIfPlain}
 use Rattle.headline.specs.ReportLines.{LinesTell}
 use Rattle.headline.proofs.PlainTexts.{no_is_wrong, no_lines_tell}
-use Rattle.answers.specs.declared.outcome.Outcome.TheVariants.{No}
+use Rattle.answers.specs.declared.outcome.Outcome.TheVariants.{No, Refused}
+use Rattle.headline.proofs.SmallDesigns.{refused_is_none}
 use Rattle.headline.proofs.YesIsRight.{yes_has_right_stops, yes_is_right}
 use Rattle.check_main.proofs.RightStreams.{nothing_said, outcome_means, outcome_right, outcome_tells, written_right}
 use Rattle.check_main.proofs.stream.check_stream.Goals as goal
@@ -56,3 +57,10 @@ returns-clause-lines g c is =
     c.in_ok-feed.feed.text c.in_ok-answered.answered.output.items c.in_ok-answered.answered.outcome
     c.in_ok-feed.ensures.read_all c.in_ok-answered.ensures.answered c.write_answer.result is
     c.write_answer.ensures.outcome c.write_answer.ensures.all
+
+pub returns-clause-small : goal.returns-clause-small
+returns-clause-small g c is =
+    outcome_means IsNoSmallDesign Refused refused_is_none (g.R.Source.left c.args.reader.now)
+    (g.R.Source.left c.read_text.new.reader) c.in_ok-feed.feed.text c.in_ok-answered.answered.output.items
+    c.in_ok-answered.answered.outcome c.in_ok-feed.ensures.read_all c.in_ok-answered.ensures.answered
+    c.write_answer.result is c.write_answer.ensures.outcome

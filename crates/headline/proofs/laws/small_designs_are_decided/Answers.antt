@@ -1,5 +1,5 @@
-use Rattle.headline.proofs.SmallDesigns.{small_is_decided}
+use Rattle.headline.proofs.SmallDesigns.{refused_is_none, small_is_decided}
 use Rattle.headline.proofs.laws.small_designs_are_decided.Goals as goal
 
 pub returns : goal.returns
-returns c = small_is_decided
+returns c = record { decided = small_is_decided; refused = refused_is_none }
