@@ -24,5 +24,6 @@ pub mod PortNames
 mod WrongExamples
 pub mod YesMeansCorrect
 pub mod NamedPorts
+mod BoxLists
 pub mod ModuleJobs
 pub mod Migrated

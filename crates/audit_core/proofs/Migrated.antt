@@ -40,7 +40,7 @@ use Rattle.local_run.specs.Faults.{IsFault, IsKeepFault}
 use Rattle.local_run.specs.Laws.{SayTheSame}
 use Rattle.local_run.specs.declared.fault.Fault.{Fault}
 use Rattle.local_run.specs.declared.fault.KeepFault.{KeepFault}
-use Rattle.audit_core.proofs.ModuleJobs.{jobs_agree, keeps_agree, signal_back}
+use Rattle.audit_core.proofs.ModuleJobs.{one_job, signal_back}
 use Rattle.local_run.proofs.OwnWires.{halo_below}
 use Rattle.local_run.proofs.SameHalos.{same_halos_agree}
 use Rattle.border_match.specs.BorderFaults.{edge_signal, halo_signal}
@@ -187,6 +187,8 @@ module _ (lines : List Entry) (p : Pattern) (ms : List ModuleLines) (jobs : List
       cut = of_k.cut ∙ ap length (full_cuts g ms good m);
       wires = of_k.wires ∙ full_known g ms good m;
       used = of_k.used ∙ full_gates g ms good m;
+      start_count = of_k.start_count;
+      demand_count = of_k.demand_count;
       start = of_k.start;
       demand = of_k.demand;
       edges = of_k.edges ∙ ap (line_signals c) (full_edges g ms good m);
@@ -233,13 +235,15 @@ module _ (lines : List Entry) (p : Pattern) (ms : List ModuleLines) (jobs : List
         ∙ same_halo t x y odd (subst (λ n. t < n) of_k.steps early) (ap (λ (a : Box2). in_halo a x y) (sym of_k.area) ∙ halo)
         ∙ sym (halo_same lines p m j t x y of_j) ∙ ap (λ w. renumber_signal (slice_index w) (signal_at j.halos t x y)) (sym same_wires))
 
+    -- with the halos of the first job the second is the first
+    between_is : between ≡ j
+    between_is = one_job c p m between j (good.each i m at).local.different of_between of_j
+
     fault_kept : (f : Fault) → IsFault k f → IsFault j f
-    fault_kept f is = jobs_agree c p m between j f (good.each i m at).local.different of_between of_j (same_halos_agree k j.halos f early_stops say_the_same is)
+    fault_kept f is = subst (λ (l : JobState). IsFault l f) between_is (same_halos_agree k j.halos f early_stops say_the_same is)
 
     keep_fault_kept : (f : KeepFault) → IsKeepFault k f → IsKeepFault j f
-    keep_fault_kept f is =
-        let same_keeps = keeps_agree c p m between j (good.each i m at).local.different of_between of_j in
-        same_keeps.keeps f (record { in_range = is.in_range; is_kept = is.is_kept; shown = is.shown })
+    keep_fault_kept f is = subst (λ (l : JobState). IsKeepFault l f) between_is (record { in_range = is.in_range; is_kept = is.is_kept; shown = is.shown })
 
   pub accepted_without : IsAcceptedWithout lines p ms
   accepted_without = record {

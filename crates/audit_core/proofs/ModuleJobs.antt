@@ -1,19 +1,18 @@
--- Jobs of one module have the same faults
-use Rattle.std.proofs.Common.{◌≡◌, ℕ, zero, suc, ◌+◌, ◌<◌, ◌≤◌, ◌^◌, ◌&&◌, ◌||◌, List, [], ◌∷◌, map, length, drop, Some, refl, sym, ap, ap₂, subst, ◌∙◌, arith, inl, inr}
-use Rattle.std.specs.Prelude.{ℤ, IsTrue, Contains, slice_get, slice_index, slice_index_or}
+-- A module has one job
+use Rattle.std.proofs.Common.{◌≡◌, ℕ, suc, ◌+◌, ◌*◌, ◌<◌, ◌≤◌, true, List, [], ◌∷◌, map, length, drop, Some, refl, sym, ap, ap₂, subst, ◌∙◌, arith, inl, inr}
+use Rattle.std.specs.Prelude.{ℤ, IsTrue, slice_get, slice_index, slice_index_or, unwrap_or}
 use Rattle.std.specs.List.{All, range_with_len}
-use Rattle.std.proofs.lemmas.Bool.{cases_Bool, cases_lt}
+use Rattle.std.proofs.lemmas.Bool.{cases_Bool, cases_lt, cond-true}
 use Rattle.std.proofs.lemmas.List.Elements.{All-head, All-tail}
 use Rattle.std.proofs.lemmas.Option.{same_Some, slice_get-get_or}
-use Rattle.std.proofs.Math.Logic.{∥∥₁_map}
-use Rattle.bbm_rule.specs.Plane.{State}
 use Rattle.circuit.specs.Gates.{Rule, Source, Fredkin, Cswap, Interact, Switch, Delay, Unswitch, Uninteract, defines}
 use Rattle.circuit.specs.Meaning.{Circuit, Gate, Netlist, Valuation, AreOrdered, wires, wires_after}
 use Rattle.pattern.specs.Layout.{Pattern}
-use Rattle.module_box.specs.Boxes.{in_box, in_ring, in_halo}
-use Rattle.module_box.specs.LocalValues.{IsLocalValuation, IsLocallyUndefined}
-use Rattle.module_box.specs.Locals.{LocalNet, AreDifferent, AreLocalsOf, circuit_gate, circuit_wire, is_among, renumber_gate}
-use Rattle.module_box.specs.Schedules.{Signals, signal_at}
+use Rattle.module_box.specs.Boxes.{in_box}
+use Rattle.module_box.specs.Locals.{LocalNet, AreDifferent, AreLocalsOf, circuit_gate, circuit_wire, renumber_gate}
+use Rattle.module_box.specs.Places.{place_in}
+use Rattle.module_box.specs.Schedules.{Signals}
+use Rattle.module_box.specs.declared.boxes.Box2.{Box2}
 use Rattle.module_box.specs.declared.schedules.Event.{Event}
 use Rattle.module_box.specs.declared.schedules.Held.{Held}
 use Rattle.module_box.specs.declared.schedules.Signal.{Signal}
@@ -21,82 +20,13 @@ use Rattle.module_box.specs.declared.schedules.Signal.TheVariants.{Zero, One, Wi
 use Rattle.certificate_lines.specs.Entries.{ModuleLines, known}
 use Rattle.module_job.specs.Jobs.{JobState, job_demand, job_start}
 use Rattle.certificate.specs.Jobs.{IsJobOf}
-use Rattle.module_job.specs.Signals.{IsBelow, IsDemandBelow, Meets, is_live, renumber_demand, renumber_event, renumber_held, renumber_signal, renumber_signals, renumber_stop}
+use Rattle.module_job.specs.Signals.{IsBelow, IsDemandBelow, renumber_demand, renumber_event, renumber_held, renumber_signal, renumber_signals, renumber_stop}
 use Rattle.module_job.specs.declared.job.Demand.{Demand}
 use Rattle.module_job.specs.declared.job.Demand.TheVariants as Demanded
 use Rattle.module_job.specs.declared.job.Stop as listed
-use Rattle.local_run.specs.Faults.{HasFault, IsFault, IsFaultUnder, IsKeepFault}
-use Rattle.audit_core.specs.ModuleLaws.{JobsOfOneModuleAgree, JobsOfOneModuleAgreeOnKeeps}
-use Rattle.local_run.specs.Runs.{local_run, with_halo}
-use Rattle.local_run.specs.declared.fault.Fault.{Fault}
-use Rattle.local_run.specs.declared.fault.KeepFault.{KeepFault}
-use Rattle.local_run.specs.declared.fault.Kind.{Kind}
-use Rattle.local_run.specs.declared.fault.Kind.TheVariants.{Edge, Stop, End}
-use Rattle.local_run.proofs.LocalRuns.{even_or_odd, local_even, local_odd, step_all_same}
+use Rattle.audit_core.specs.ModuleLaws.{ModuleHasOneJob}
+use Rattle.audit_core.proofs.BoxLists.{same_over_box}
 use Rattle.local_run.proofs.OwnWires.{demand_below, demand_outside, start_below, start_outside}
-
--- ---- what is alike in two jobs where their faults are the same
-
-record AreAlike (j k : JobState) : Type 0 where
-  area : j.area ≡ k.area
-  steps : j.steps ≡ k.steps
-  locals : j.locals ≡ k.locals
-  start : (x y : ℤ) → job_start j x y ≡ job_start k x y
-  demand : (x y : ℤ) → job_demand j x y ≡ job_demand k x y
-  edges : j.edges ≡ k.edges
-  halos : j.halos ≡ k.halos
-  stops : j.stops ≡ k.stops
-  kept : j.kept ≡ k.kept
-
-halo_alike : (j k : JobState) → AreAlike j k → (u : Valuation) (t : ℕ) (s s' : State) (x y : ℤ) → s x y ≡ s' x y → with_halo j u t s x y ≡ with_halo k u t s' x y
-unfolding with_halo
-halo_alike j k a u t s s' x y e = λ i. e i || (in_halo (a.area i) x y && is_live u (signal_at (a.halos i) t x y))
-
-run_alike : (j k : JobState) → AreAlike j k → (u : Valuation) (t : ℕ) (x y : ℤ) → local_run j u t x y ≡ local_run k u t x y
-unfolding local_run
-run_alike j k a u zero x y = ap (is_live u) (a.start x y)
-run_alike j k a u (suc t) x y =
-    let before : (x' y' : ℤ) → local_run j u t x' y' ≡ local_run k u t x' y' = run_alike j k a u t in
-    elim (even_or_odd t) [
-      | inl e ↦ local_even j u t _ x y e ∙ step_all_same t _ _ x y before ∙ sym (local_even k u t _ x y e)
-      | inr o ↦ local_odd j u t _ x y o
-          ∙ ap₂ (λ b p. b && p) (ap (λ b. in_box b x y) a.area) (step_all_same t _ _ x y (λ x' y'. halo_alike j k a u t _ _ x' y' (before x' y')))
-          ∙ sym (local_odd k u t _ x y o)
-    ]
-
-under_alike : (j k : JobState) → AreAlike j k → (u : Valuation) (t : ℕ) (kind : Kind) (x y : ℤ) → IsFaultUnder j u t kind x y → IsFaultUnder k u t kind x y
-under_alike j k a u t Edge x y f = record {
-  odd = f.odd;
-  early = subst (λ s. t < s) a.steps f.early;
-  ring = subst (λ b. IsTrue (in_ring b x y)) a.area f.ring;
-  differs = λ e. f.differs (run_alike j k a u t x y ∙ e ∙ ap (λ s. is_live u (signal_at s t x y)) (sym a.edges));
-}
-under_alike j k a u t Stop x y f = record {
-  stop = f.stop;
-  is_listed = subst (λ (l : List listed.Stop). Contains l f.stop) a.stops f.is_listed;
-  time = f.time;
-  column = f.column;
-  row = f.row;
-  differs = λ e. f.differs (run_alike j k a u t x y ∙ e);
-}
-under_alike j k a u t End x y f = record {
-  last = f.last ∙ a.steps;
-  inside = subst (λ b. IsTrue (in_box b x y)) a.area f.inside;
-  differs = λ m. f.differs (subst (λ d. Meets u d (local_run j u t x y)) (sym (a.demand x y)) (subst (Meets u (job_demand k x y)) (sym (run_alike j k a u t x y)) m));
-}
-
-fault_alike : (j k : JobState) → AreAlike j k → (f : Fault) → IsFault j f → IsFault k f
-fault_alike j k a f is = record {
-  in_range = subst (λ (l : LocalNet). f.assignment < 2 ^ l.netlist.given) a.locals is.in_range;
-  shown = ∥∥₁_map is.shown moved;
-}
-  where
-    moved : HasFault j f → HasFault k f
-    moved h = record {
-      values = h.values;
-      local = subst (λ (l : LocalNet). IsLocalValuation l f.assignment h.values) a.locals h.local;
-      differs = under_alike j k a h.values f.time f.kind f.cell.x f.cell.y h.differs;
-    }
 
 -- ---- what the same wires of the circuit stand for is the same
 
@@ -328,31 +258,44 @@ module _ (c : Circuit) (p : Pattern) (m : ModuleLines) (j k : JobState) (differe
       (subst (λ (l : LocalNet). All (λ g. g < length l.netlist.gates) k.kept) (sym same_locals) of_k.kept_are_used)
       (of_j.kept ∙ sym of_k.kept ∙ ap (λ (l : LocalNet). map (circuit_gate l) k.kept) (sym same_locals))
 
-  alike : AreAlike j k
-  alike = record {
-    area = same_area;
-    steps = of_j.steps ∙ sym of_k.steps;
-    locals = same_locals;
-    start = same_start;
-    demand = same_demand;
-    edges = same_edges;
-    halos = same_halos;
-    stops = same_stops;
-    kept = same_kept;
+  -- where a cell of the box is, a list says what the job says
+  start_inside : (i : JobState) (x y : ℤ) → in_box i.area x y ≡ true → job_start i x y ≡ unwrap_or (slice_get i.starts (place_in i.area x y)) Zero
+  unfolding job_start
+  start_inside i x y h = cond-true _ _ _ h
+
+  demand_inside : (i : JobState) (x y : ℤ) → in_box i.area x y ≡ true
+      → job_demand i x y ≡ unwrap_or (slice_get i.demands (place_in i.area x y)) Demanded.Dead
+  unfolding job_demand
+  demand_inside i x y h = cond-true _ _ _ h
+
+  inside_k : (x y : ℤ) → in_box j.area x y ≡ true → in_box k.area x y ≡ true
+  inside_k x y h = ap (λ b. in_box b x y) (sym same_area) ∙ h
+
+  area_of_j : m.area.w * m.area.h ≡ j.area.w * j.area.h
+  area_of_j = ap (λ (b : Box2). b.w * b.h) (sym of_j.area)
+
+  same_starts : j.starts ≡ k.starts
+  same_starts = same_over_box j.area j.starts k.starts Zero (of_j.start_count ∙ area_of_j) (of_k.start_count ∙ area_of_j)
+      (λ x y h. sym (start_inside j x y h) ∙ same_start x y ∙ start_inside k x y (inside_k x y h)
+          ∙ ap (λ b. unwrap_or (slice_get k.starts (place_in b x y)) Zero) (sym same_area))
+
+  same_demands : j.demands ≡ k.demands
+  same_demands = same_over_box j.area j.demands k.demands Demanded.Dead (of_j.demand_count ∙ area_of_j) (of_k.demand_count ∙ area_of_j)
+      (λ x y h. sym (demand_inside j x y h) ∙ same_demand x y ∙ demand_inside k x y (inside_k x y h)
+          ∙ ap (λ b. unwrap_or (slice_get k.demands (place_in b x y)) Demanded.Dead) (sym same_area))
+
+  same_job : j ≡ k
+  same_job = λ i. record {
+    area = same_area i;
+    steps = (of_j.steps ∙ sym of_k.steps) i;
+    locals = same_locals i;
+    starts = same_starts i;
+    demands = same_demands i;
+    edges = same_edges i;
+    halos = same_halos i;
+    stops = same_stops i;
+    kept = same_kept i;
   }
 
-keep_alike : (j k : JobState) → AreAlike j k → (f : KeepFault) → IsKeepFault j f → IsKeepFault k f
-keep_alike j k a f is = record {
-  in_range = subst (λ (l : LocalNet). f.assignment < 2 ^ l.netlist.given) a.locals is.in_range;
-  is_kept = subst (λ (ks : List ℕ). IsTrue (is_among ks f.gate)) a.kept is.is_kept;
-  shown = subst (λ (l : LocalNet). ∥ IsLocallyUndefined l f.assignment f.gate ∥₁) a.locals is.shown;
-}
-
-pub keeps_agree : JobsOfOneModuleAgreeOnKeeps
-keeps_agree c p m j k different of_j of_k = record {
-  locals = same_locals c p m j k different of_j of_k;
-  keeps = λ f is. keep_alike j k (alike c p m j k different of_j of_k) f is;
-}
-
-pub jobs_agree : JobsOfOneModuleAgree
-jobs_agree c p m j k f different of_j of_k is = fault_alike j k (alike c p m j k different of_j of_k) f is
+pub one_job : ModuleHasOneJob
+one_job c p m j k different of_j of_k = same_job c p m j k different of_j of_k

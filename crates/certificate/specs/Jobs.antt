@@ -1,5 +1,5 @@
 -- The job of a module: all that its run by itself needs
-use Rattle.std.specs.Prelude.{◌≡◌, ℕ, ℤ, ◌<◌, ◌||◌, Bool, true, false, if◌then◌else◌, List, [], ◌∷◌, length, map, Option, Some, None, slice_get, IsTrue}
+use Rattle.std.specs.Prelude.{◌≡◌, ℕ, ℤ, ◌*◌, ◌<◌, ◌||◌, Bool, true, false, if◌then◌else◌, List, [], ◌∷◌, length, map, Option, Some, None, slice_get, IsTrue}
 use Rattle.std.specs.List.{All, flat_map}
 use Rattle.circuit.specs.Meaning.{Circuit, wire_of}
 use Rattle.pattern.specs.Layout.{Pattern, in_cells, in_rectangles}
@@ -88,6 +88,9 @@ pub record IsJobOf (c : Circuit) (p : Pattern) (m : ModuleLines) (j : JobState) 
   pub cut : j.locals.netlist.given ≡ length (cuts m)
   pub wires : j.locals.circuit_wires ≡ known c m
   pub used : j.locals.circuit_gates ≡ gates m
+  -- one signal and one demand for each cell of the box
+  pub start_count : length j.starts ≡ m.area.w * m.area.h
+  pub demand_count : length j.demands ≡ m.area.w * m.area.h
   pub start : (x y : ℤ) → IsTrue (in_box m.area x y) → renumber_signal (circuit_wire j.locals) (job_start j x y) ≡ start_signal c p x y
   pub demand : (x y : ℤ) → IsTrue (in_box m.area x y) → renumber_demand (circuit_wire j.locals) (job_demand j x y) ≡ end_demand c p x y
   pub edges : renumber_signals (circuit_wire j.locals) j.edges ≡ line_signals c (edges m)

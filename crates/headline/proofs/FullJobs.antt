@@ -142,6 +142,8 @@ module _ (lines : List Entry) (p : Pattern) (ms : List ModuleLines) (good : AreM
         cut = is.cut ∙ ap length (sym (full_cuts g ms good m));
         wires = is.wires ∙ sym (full_known g ms good m);
         used = is.used ∙ sym (full_gates g ms good m);
+        start_count = is.start_count;
+        demand_count = is.demand_count;
         start = is.start;
         demand = is.demand;
         edges = is.edges ∙ ap (line_signals c) (sym (full_edges g ms good m));
