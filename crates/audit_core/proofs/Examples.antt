@@ -18,7 +18,8 @@ use Rattle.module_box.specs.Boxes.{in_box, some_neighbour, in_ring, in_halo, Til
 use Rattle.module_box.specs.Locals.{AreLocalLines, AreLocalsOf, circuit_wire, is_among}
 use Rattle.module_box.specs.Schedules.{held_at, event_at, signal_at}
 use Rattle.module_box.specs.declared.boxes.Box2.{Box2}
-use Rattle.module_box.specs.declared.schedules.Signal.TheVariants.{Zero, Wire}
+use Rattle.module_box.specs.declared.schedules.Signal.{Signal}
+use Rattle.module_box.specs.declared.schedules.Signal.TheVariants.{Zero, One, Wire}
 use Rattle.module_box.proofs.BoxCells.{in_span_nat, same_some}
 use Rattle.module_box.proofs.Neighbours.{halo_parts}
 use Rattle.certificate_lines.specs.Entries.{ModuleLines, areas, known}
@@ -33,7 +34,9 @@ use Rattle.certificate_lines.specs.Orders.{AreInOrder}
 use Rattle.certificate_lines.specs.Rules.{whole, is_local}
 use Rattle.module_job.specs.Signals.{is_live, IsBelow, IsDemandBelow, Meets, renumber_signal, renumber_demand}
 use Rattle.certificate_lines.specs.declared.entry.Entry.TheVariants.{Cut}
+use Rattle.module_job.specs.declared.job.Demand.{Demand}
 use Rattle.module_job.specs.declared.job.Demand.TheVariants as Demanded
+use Rattle.local_run.proofs.OwnWires.{demand_below, start_below}
 use Rattle.local_run.specs.Faults.{IsFault, IsFaultUnder}
 use Rattle.local_run.specs.Runs.{with_halo, local_step, local_run}
 use Rattle.local_run.specs.declared.fault.Fault.{Fault}
@@ -63,15 +66,16 @@ area = record { x = 0; y = 0; w = 4; h = 4 }
 abbrev one : ModuleLines
 one = record { area = area; lines = Cut name_p ∷ [] }
 
--- what a list does not reach is `Zero`, or `Dead`
 abbrev job : JobState
 job = record {
   area = area;
   steps = 2;
   locals = record { netlist = record { given = 1; gates = [] }; circuit_wires = 0 ∷ []; circuit_gates = [] };
-  starts = Wire 0 ∷ [];
-  demands = Demanded.Dead ∷ Demanded.Dead ∷ Demanded.Dead ∷ Demanded.Dead ∷ Demanded.Dead ∷ Demanded.Dead ∷ Demanded.Dead ∷ Demanded.Dead ∷ Demanded.Dead ∷ Demanded.Dead
-      ∷ Demanded.Wire 0 ∷ [];
+  starts = Wire 0 ∷ Zero ∷ Zero ∷ Zero ∷ Zero ∷ Zero ∷ Zero ∷ Zero ∷ Zero ∷ Zero ∷ Zero ∷ Zero ∷ Zero ∷ Zero
+      ∷ Zero ∷ Zero ∷ [];
+  demands = Demanded.Dead ∷ Demanded.Dead ∷ Demanded.Dead ∷ Demanded.Dead ∷ Demanded.Dead ∷ Demanded.Dead
+      ∷ Demanded.Dead ∷ Demanded.Dead ∷ Demanded.Dead ∷ Demanded.Dead ∷ Demanded.Wire 0 ∷ Demanded.Dead
+      ∷ Demanded.Dead ∷ Demanded.Dead ∷ Demanded.Dead ∷ Demanded.Dead ∷ [];
   edges = record { held = []; events = [] };
   halos = record { held = []; events = [] };
   stops = [];
@@ -109,15 +113,29 @@ cell_by_cell P a b c d e f g h i j k l m n o q x y inside =
 abbrev all : Bool → Valuation
 all b w = b
 
-one_start : (u : Valuation) (inside : Bool) (k : ℕ) →
-    is_live u (if inside then unwrap_or (slice_get (Wire 0 ∷ []) k) Zero else Zero) ≡ is_live (all (u 0)) (if inside then unwrap_or (slice_get (Wire 0 ∷ []) k) Zero else Zero)
-one_start u false k = refl
-one_start u true zero = refl
-one_start u true (suc k) = refl
+own_wires : NamesOwnWires job
+unfolding wires_after
+own_wires = record {
+  starts = All-from_recursion (IsBelow 1) job.starts
+      (omega arith, (tt, (tt, (tt, (tt, (tt, (tt, (tt, (tt, (tt, (tt, (tt, (tt, (tt, (tt, (tt, tt))))))))))))))));
+  demands = All-from_recursion (IsDemandBelow 1) job.demands
+      (tt, (tt, (tt, (tt, (tt, (tt, (tt, (tt, (tt, (tt, (omega arith, (tt, (tt, (tt, (tt, (tt, tt))))))))))))))));
+  edge_held = λ k d lt. absurd (omega arith);
+  edge_events = λ k d lt. absurd (omega arith);
+  halo_held = λ k d lt. absurd (omega arith);
+  halo_events = λ k d lt. absurd (omega arith);
+  stops = λ k d lt. absurd (omega arith);
+}
+
+-- the only wire is wire 0
+live_below : (u : Valuation) (s : Signal) → IsBelow 1 s → is_live u s ≡ is_live (all (u 0)) s
+live_below u Zero h = refl
+live_below u One h = refl
+live_below u (Wire w) h = let first : w ≡ 0 = omega (arith, h) in ap u first
 
 same_start : (u : Valuation) (x y : ℤ) → is_live u (job_start job x y) ≡ is_live (all (u 0)) (job_start job x y)
-unfolding job_start
-same_start u x y = one_start u (in_box area x y) (place_in area x y)
+unfolding wires_after
+same_start u x y = live_below u (job_start job x y) (start_below job x y own_wires)
 
 same_halo : (u : Valuation) (t : ℕ) (s s' : State) (x y : ℤ) → s x y ≡ s' x y → with_halo job u t s x y ≡ with_halo job (all (u 0)) t s' x y
 unfolding with_halo signal_at held_at event_at
@@ -176,30 +194,15 @@ edge_met u x y h = same_run u 1 x y ∙ not_both (in_ring area x y) (local_run j
 only_time : (t : ℕ) → t % 2 ≡ 1 → t < 2 → t ≡ 1
 only_time t odd early = omega arith
 
-by_place : (u : Valuation) (inside : Bool) (k : ℕ) (live : Bool) →
-    Meets (all (u 0)) (if inside then unwrap_or (slice_get job.demands k) Demanded.Dead else Demanded.Dead) live →
-    Meets u (if inside then unwrap_or (slice_get job.demands k) Demanded.Dead else Demanded.Dead) live
-by_place u false k live h = h
-by_place u true zero live h = h
-by_place u true (suc zero) live h = h
-by_place u true (suc (suc zero)) live h = h
-by_place u true (suc (suc (suc zero))) live h = h
-by_place u true (suc (suc (suc (suc zero)))) live h = h
-by_place u true (suc (suc (suc (suc (suc zero))))) live h = h
-by_place u true (suc (suc (suc (suc (suc (suc zero)))))) live h = h
-by_place u true (suc (suc (suc (suc (suc (suc (suc zero))))))) live h = h
-by_place u true (suc (suc (suc (suc (suc (suc (suc (suc zero)))))))) live h = h
-by_place u true (suc (suc (suc (suc (suc (suc (suc (suc (suc zero))))))))) live h = h
-by_place u true (suc (suc (suc (suc (suc (suc (suc (suc (suc (suc k)))))))))) live h = by_last u k live h
-  where
-    by_last : (u : Valuation) (k : ℕ) (live : Bool) →
-        Meets (all (u 0)) (unwrap_or (slice_get (Demanded.Wire 0 ∷ []) k) Demanded.Dead) live → Meets u (unwrap_or (slice_get (Demanded.Wire 0 ∷ []) k) Demanded.Dead) live
-    by_last u zero live h = h
-    by_last u (suc k) live h = h
+meets_below : (u : Valuation) (d : Demand) (live : Bool) → IsDemandBelow 1 d → Meets (all (u 0)) d live → Meets u d live
+meets_below u Demanded.Dead live h m = m
+meets_below u Demanded.Live live h m = m
+meets_below u (Demanded.Wire w) live h m = let first : 0 ≡ w = omega (arith, h) in m ∙ ap u first
+meets_below u Demanded.Any live h m = m
 
 meets_all : (u : Valuation) (x y : ℤ) (live : Bool) → Meets (all (u 0)) (job_demand job x y) live → Meets u (job_demand job x y) live
-unfolding job_demand
-meets_all u x y live h = by_place u (in_box area x y) (place_in area x y) live h
+unfolding wires_after
+meets_all u x y live m = meets_below u (job_demand job x y) live (demand_below job x y own_wires) m
 
 under_none : (u : Valuation) (t : ℕ) (kind : Kind) (x y : ℤ) → IsFaultUnder job u t kind x y → ⊥
 under_none u t Edge x y f =
@@ -318,18 +321,6 @@ job_demands : (x y : ℤ) → in_box area x y ≡ true → renumber_demand (circ
 unfolding job_demand end_demand port_at place_of number in_box in_span
 job_demands = cell_by_cell (λ x y. renumber_demand (circuit_wire job.locals) (job_demand job x y) ≡ end_demand (circuit_of lines) layout x y)
     refl refl refl refl refl refl refl refl refl refl refl refl refl refl refl refl
-
-own_wires : NamesOwnWires job
-unfolding wires_after
-own_wires = record {
-  starts = All-from_recursion (IsBelow 1) job.starts (omega arith, tt);
-  demands = All-from_recursion (IsDemandBelow 1) job.demands (tt, (tt, (tt, (tt, (tt, (tt, (tt, (tt, (tt, (tt, (omega arith, tt)))))))))));
-  edge_held = λ k d lt. absurd (omega arith);
-  edge_events = λ k d lt. absurd (omega arith);
-  halo_held = λ k d lt. absurd (omega arith);
-  halo_events = λ k d lt. absurd (omega arith);
-  stops = λ k d lt. absurd (omega arith);
-}
 
 is_job : IsJobOf (circuit_of lines) layout one job
 unfolding place_of number

@@ -132,8 +132,8 @@ job = record {
   area = only.area;
   steps = 0;
   locals = net;
-  starts = Wire 0 ∷ Wire 1 ∷ [];
-  demands = Demanded.Wire 5 ∷ Demanded.Wire 6 ∷ [];
+  starts = Wire 0 ∷ Wire 1 ∷ Zero ∷ Zero ∷ [];
+  demands = Demanded.Wire 5 ∷ Demanded.Wire 6 ∷ Demanded.Dead ∷ Demanded.Dead ∷ [];
   edges = record { held = []; events = [] };
   halos = record { held = []; events = [] };
   stops = [];
@@ -208,8 +208,10 @@ no_time t early = omega (arith, early)
 own : NamesOwnWires job
 unfolding wires_after
 own = record {
-  starts = All-from_recursion (IsBelow 7) job.starts (omega arith, (omega arith, tt));
-  demands = All-from_recursion (IsDemandBelow 7) job.demands (omega arith, (omega arith, tt));
+  starts = All-from_recursion (IsBelow 7) job.starts
+      (omega arith, (omega arith, (tt, (tt, tt))));
+  demands = All-from_recursion (IsDemandBelow 7) job.demands
+      (omega arith, (omega arith, (tt, (tt, tt))));
   edge_held = λ k d lt. absurd (omega arith);
   edge_events = λ k d lt. absurd (omega arith);
   halo_held = λ k d lt. absurd (omega arith);

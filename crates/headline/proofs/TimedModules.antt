@@ -193,14 +193,16 @@ third_net = record { netlist = record { given = 3; gates = third_gate ∷ delay 
 abbrev stands : ℕ → ℕ → ℕ → ℕ → Stop
 stands t x y w = record { at = record { time = t; cell = at x y }; wire = w }
 
--- what a list of starts or demands does not reach is `Zero`, or `Dead`
 abbrev first_job : JobState
 first_job = record {
   area = first.area;
   steps = 3;
   locals = net;
-  starts = Zero ∷ Zero ∷ Zero ∷ Zero ∷ Zero ∷ Zero ∷ Zero ∷ Zero ∷ Zero ∷ Zero ∷ Wire 0 ∷ [];
-  demands = Demanded.Dead ∷ Demanded.Dead ∷ Demanded.Dead ∷ Demanded.Dead ∷ Demanded.Dead ∷ Demanded.Dead ∷ Demanded.Dead ∷ Demanded.Dead ∷ Demanded.Dead ∷ Demanded.Dead ∷ Demanded.Wire 3 ∷ [];
+  starts = Zero ∷ Zero ∷ Zero ∷ Zero ∷ Zero ∷ Zero ∷ Zero ∷ Zero ∷ Zero ∷ Zero ∷ Wire 0 ∷ Zero ∷ Zero ∷ Zero
+      ∷ Zero ∷ Zero ∷ [];
+  demands = Demanded.Dead ∷ Demanded.Dead ∷ Demanded.Dead ∷ Demanded.Dead ∷ Demanded.Dead ∷ Demanded.Dead
+      ∷ Demanded.Dead ∷ Demanded.Dead ∷ Demanded.Dead ∷ Demanded.Dead ∷ Demanded.Wire 3 ∷ Demanded.Dead
+      ∷ Demanded.Dead ∷ Demanded.Dead ∷ Demanded.Dead ∷ Demanded.Dead ∷ [];
   edges = record { held = []; events = event 3 3 0 ∷ [] };
   halos = record { held = []; events = event 4 4 1 ∷ [] };
   stops = stands 0 2 2 0 ∷ [];
@@ -212,8 +214,11 @@ second_job = record {
   area = second.area;
   steps = 3;
   locals = net;
-  starts = [];
-  demands = Demanded.Dead ∷ Demanded.Dead ∷ Demanded.Dead ∷ Demanded.Dead ∷ Demanded.Dead ∷ Demanded.Dead ∷ Demanded.Dead ∷ Demanded.Dead ∷ Demanded.Dead ∷ Demanded.Wire 2 ∷ [];
+  starts = Zero ∷ Zero ∷ Zero ∷ Zero ∷ Zero ∷ Zero ∷ Zero ∷ Zero ∷ Zero ∷ Zero ∷ Zero ∷ Zero ∷ Zero ∷ Zero
+      ∷ Zero ∷ Zero ∷ [];
+  demands = Demanded.Dead ∷ Demanded.Dead ∷ Demanded.Dead ∷ Demanded.Dead ∷ Demanded.Dead ∷ Demanded.Dead
+      ∷ Demanded.Dead ∷ Demanded.Dead ∷ Demanded.Dead ∷ Demanded.Wire 2 ∷ Demanded.Dead ∷ Demanded.Dead
+      ∷ Demanded.Dead ∷ Demanded.Dead ∷ Demanded.Dead ∷ Demanded.Dead ∷ [];
   edges = record { held = []; events = [] };
   halos = record { held = []; events = event 3 3 0 ∷ event 4 4 1 ∷ [] };
   stops = [];
@@ -225,8 +230,11 @@ third_job = record {
   area = third.area;
   steps = 3;
   locals = third_net;
-  starts = Wire 2 ∷ [];
-  demands = Demanded.Dead ∷ Demanded.Dead ∷ Demanded.Dead ∷ Demanded.Dead ∷ Demanded.Dead ∷ Demanded.Dead ∷ Demanded.Wire 6 ∷ Demanded.Dead ∷ Demanded.Dead ∷ Demanded.Dead ∷ Demanded.Dead ∷ Demanded.Dead ∷ Demanded.Dead ∷ Demanded.Dead ∷ Demanded.Dead ∷ Demanded.Wire 7 ∷ [];
+  starts = Wire 2 ∷ Zero ∷ Zero ∷ Zero ∷ Zero ∷ Zero ∷ Zero ∷ Zero ∷ Zero ∷ Zero ∷ Zero ∷ Zero ∷ Zero ∷ Zero
+      ∷ Zero ∷ Zero ∷ [];
+  demands = Demanded.Dead ∷ Demanded.Dead ∷ Demanded.Dead ∷ Demanded.Dead ∷ Demanded.Dead ∷ Demanded.Dead
+      ∷ Demanded.Wire 6 ∷ Demanded.Dead ∷ Demanded.Dead ∷ Demanded.Dead ∷ Demanded.Dead ∷ Demanded.Dead
+      ∷ Demanded.Dead ∷ Demanded.Dead ∷ Demanded.Dead ∷ Demanded.Wire 7 ∷ [];
   edges = record { held = []; events = [] };
   halos = record { held = []; events = event 3 3 0 ∷ event 4 4 1 ∷ [] };
   stops = stands 0 0 4 2 ∷ stands 3 3 7 7 ∷ [];
@@ -238,8 +246,11 @@ fourth_job = record {
   area = fourth.area;
   steps = 3;
   locals = net;
-  starts = Zero ∷ Zero ∷ Zero ∷ Zero ∷ Zero ∷ Wire 1 ∷ [];
-  demands = Demanded.Dead ∷ Demanded.Dead ∷ Demanded.Dead ∷ Demanded.Dead ∷ Demanded.Dead ∷ Demanded.Wire 4 ∷ [];
+  starts = Zero ∷ Zero ∷ Zero ∷ Zero ∷ Zero ∷ Wire 1 ∷ Zero ∷ Zero ∷ Zero ∷ Zero ∷ Zero ∷ Zero ∷ Zero ∷ Zero
+      ∷ Zero ∷ Zero ∷ [];
+  demands = Demanded.Dead ∷ Demanded.Dead ∷ Demanded.Dead ∷ Demanded.Dead ∷ Demanded.Dead ∷ Demanded.Wire 4
+      ∷ Demanded.Dead ∷ Demanded.Dead ∷ Demanded.Dead ∷ Demanded.Dead ∷ Demanded.Dead ∷ Demanded.Dead
+      ∷ Demanded.Dead ∷ Demanded.Dead ∷ Demanded.Dead ∷ Demanded.Dead ∷ [];
   edges = record { held = []; events = event 4 4 1 ∷ [] };
   halos = record { held = []; events = event 3 3 0 ∷ [] };
   stops = stands 0 5 5 1 ∷ [];
@@ -389,8 +400,10 @@ only_time P one t odd early = let is : 1 ≡ t = omega (arith, odd, early) in su
 first_own : NamesOwnWires first_job
 unfolding wires_after
 first_own = record {
-  starts = All-from_recursion (IsBelow 6) first_job.starts (tt, (tt, (tt, (tt, (tt, (tt, (tt, (tt, (tt, (tt, (omega arith, tt)))))))))));
-  demands = All-from_recursion (IsDemandBelow 6) first_job.demands (tt, (tt, (tt, (tt, (tt, (tt, (tt, (tt, (tt, (tt, (omega arith, tt)))))))))));
+  starts = All-from_recursion (IsBelow 6) first_job.starts
+      (tt, (tt, (tt, (tt, (tt, (tt, (tt, (tt, (tt, (tt, (omega arith, (tt, (tt, (tt, (tt, (tt, tt))))))))))))))));
+  demands = All-from_recursion (IsDemandBelow 6) first_job.demands
+      (tt, (tt, (tt, (tt, (tt, (tt, (tt, (tt, (tt, (tt, (omega arith, (tt, (tt, (tt, (tt, (tt, tt))))))))))))))));
   edge_held = λ k d lt. absurd (omega arith);
   edge_events = All-from_recursion (λ (e : Event). IsBelow 6 e.signal) first_job.edges.events (omega arith, tt);
   halo_held = λ k d lt. absurd (omega arith);
@@ -462,8 +475,10 @@ no_stop j b e = cc
 second_own : NamesOwnWires second_job
 unfolding wires_after
 second_own = record {
-  starts = All-from_recursion (IsBelow 6) second_job.starts tt;
-  demands = All-from_recursion (IsDemandBelow 6) second_job.demands (tt, (tt, (tt, (tt, (tt, (tt, (tt, (tt, (tt, (omega arith, tt))))))))));
+  starts = All-from_recursion (IsBelow 6) second_job.starts
+      (tt, (tt, (tt, (tt, (tt, (tt, (tt, (tt, (tt, (tt, (tt, (tt, (tt, (tt, (tt, (tt, tt))))))))))))))));
+  demands = All-from_recursion (IsDemandBelow 6) second_job.demands
+      (tt, (tt, (tt, (tt, (tt, (tt, (tt, (tt, (tt, (omega arith, (tt, (tt, (tt, (tt, (tt, (tt, tt))))))))))))))));
   edge_held = λ k d lt. absurd (omega arith);
   edge_events = All-from_recursion (λ (e : Event). IsBelow 6 e.signal) second_job.edges.events tt;
   halo_held = λ k d lt. absurd (omega arith);
@@ -531,8 +546,10 @@ second_faultless = faultless second_job values second_whole is_ordered are_local
 third_own : NamesOwnWires third_job
 unfolding wires_after
 third_own = record {
-  starts = All-from_recursion (IsBelow 8) third_job.starts (omega arith, tt);
-  demands = All-from_recursion (IsDemandBelow 8) third_job.demands (tt, (tt, (tt, (tt, (tt, (tt, (omega arith, (tt, (tt, (tt, (tt, (tt, (tt, (tt, (tt, (omega arith, tt))))))))))))))));
+  starts = All-from_recursion (IsBelow 8) third_job.starts
+      (omega arith, (tt, (tt, (tt, (tt, (tt, (tt, (tt, (tt, (tt, (tt, (tt, (tt, (tt, (tt, (tt, tt))))))))))))))));
+  demands = All-from_recursion (IsDemandBelow 8) third_job.demands
+      (tt, (tt, (tt, (tt, (tt, (tt, (omega arith, (tt, (tt, (tt, (tt, (tt, (tt, (tt, (tt, (omega arith, tt))))))))))))))));
   edge_held = λ k d lt. absurd (omega arith);
   edge_events = All-from_recursion (λ (e : Event). IsBelow 8 e.signal) third_job.edges.events tt;
   halo_held = λ k d lt. absurd (omega arith);
@@ -601,8 +618,10 @@ third_faultless = faultless third_job third_values third_whole third_is_ordered 
 fourth_own : NamesOwnWires fourth_job
 unfolding wires_after
 fourth_own = record {
-  starts = All-from_recursion (IsBelow 6) fourth_job.starts (tt, (tt, (tt, (tt, (tt, (omega arith, tt))))));
-  demands = All-from_recursion (IsDemandBelow 6) fourth_job.demands (tt, (tt, (tt, (tt, (tt, (omega arith, tt))))));
+  starts = All-from_recursion (IsBelow 6) fourth_job.starts
+      (tt, (tt, (tt, (tt, (tt, (omega arith, (tt, (tt, (tt, (tt, (tt, (tt, (tt, (tt, (tt, (tt, tt))))))))))))))));
+  demands = All-from_recursion (IsDemandBelow 6) fourth_job.demands
+      (tt, (tt, (tt, (tt, (tt, (omega arith, (tt, (tt, (tt, (tt, (tt, (tt, (tt, (tt, (tt, (tt, tt))))))))))))))));
   edge_held = λ k d lt. absurd (omega arith);
   edge_events = All-from_recursion (λ (e : Event). IsBelow 6 e.signal) fourth_job.edges.events (omega arith, tt);
   halo_held = λ k d lt. absurd (omega arith);
