@@ -4,7 +4,7 @@ ghost use Rattle.std.specs.Arc.{arc_value};
 ghost use Rattle.local_run.specs.Faults.{IsLeastFault, IsLeastKeepFault};
 ghost use Rattle.local_run.specs.Quiet.{AreLines};
 ghost use Rattle.local_run.specs.Scans.{IsFirstAt, IsNextStop, IsPassed, IsReady, Shows};
-ghost use Rattle.local_run.specs.Shown.{digest_of, number_of, job_of};
+ghost use Rattle.local_run.specs.Shown.{digest_of, number_of, job_of, fault_of, keep_of};
 
 use crate::fault::{Fault, KeepFault, Kind};
 use crate::field::Field;
@@ -113,6 +113,8 @@ pub fn run_job(
     ensures digest { IfOk result (λ f. digest_of f ≡ digest) }
     ensures number { IfOk result (λ f. number_of f ≡ number) }
     ensures job { IfOk result (λ f. job_of f ≡ arc_value job) }
+    ensures least_fault { IfOk result (λ f. IsLeastFault (arc_value job) (fault_of f)) }
+    ensures least_keep_fault { IfOk result (λ f. IsLeastKeepFault (arc_value job) (keep_of f)) }
 {
     let (fault, keep) = least_faults(alloc, &job)?;
     Ok(Finding::new(digest, number, job, fault, keep))
