@@ -1,18 +1,52 @@
-# `make install` copies the proved program, its man page and its completions. It proves and builds the program first, where that is due.
+# Installs, checks and packs the program. No target needs the Rattle kit while the sources are those of the release.
+#
+#   make install [PREFIX=/usr/local] [DESTDIR=..]    the program, its man page, completions and pages
+#   make uninstall [PREFIX=..] [DESTDIR=..]          removes them
+#   make check        the worked cases and the commands that the pages show (needs Python 3)
+#   make dist         dist/bbmcheck-VERSION-x86_64-linux-gnu.tar.gz, the same bytes each time
+#   make deb          dist/bbmcheck_VERSION_amd64.deb (needs dpkg-deb)
+#   make prove        proves and builds the program here, and compares it with the released one (needs the kit)
+#   make release      renews release/ from the program that was proved and built here (needs Python 3)
+#   make mostlyclean  removes what packing and the wrapper wrote
+#   make clean        removes that and all proofs that were kept
 PREFIX ?= /usr/local
 DESTDIR ?=
 
+# The folder of this file, also with `make -f`.
+top := $(shell dirname -- '$(strip $(MAKEFILE_LIST))')
 room = $(DESTDIR)$(PREFIX)
-program = crates/bbmcheck/out/bbmcheck
-page = share/man/man1/bbmcheck.1
-completions = share/bash-completion/completions/bbmcheck
 
-.PHONY: all install
+.PHONY: all install uninstall check dist deb prove release mostlyclean clean
 
 all:
-	./bbmcheck --version
+	'$(top)/bbmcheck' --wrapper-program
 
-install: all
-	install -D -m 755 $(program) "$(room)/bin/bbmcheck"
-	install -D -m 644 $(page) "$(room)/$(page)"
-	install -D -m 644 $(completions) "$(room)/$(completions)"
+install:
+	'$(top)/tools/install_files' install '$(room)'
+
+uninstall:
+	'$(top)/tools/install_files' uninstall '$(room)'
+
+check:
+	program="$$('$(top)/bbmcheck' --wrapper-program)" && \
+	'$(top)/conformance/run.py' "$$program" --all && \
+	'$(top)/tools/documented_commands.py' "$$program"
+
+dist:
+	'$(top)/tools/make_archive'
+
+deb:
+	'$(top)/tools/make_deb'
+
+prove:
+	'$(top)/tools/prove'
+
+release:
+	'$(top)/tools/release'
+
+mostlyclean:
+	rm -rf -- '$(top)/dist' '$(top)/crates/bbmcheck/out/wrapper'
+	find '$(top)/tools' '$(top)/conformance' '$(top)/examples' -name __pycache__ -prune -exec rm -rf -- {} +
+
+clean: mostlyclean
+	rm -rf -- '$(top)'/crates/*/out

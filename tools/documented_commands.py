@@ -32,6 +32,7 @@ TOOLS = Path(__file__).resolve().parent
 TOP = TOOLS.parent
 sys.dont_write_bytecode = True
 sys.path.insert(0, str(TOOLS))
+from proved import program  # noqa: E402
 import reference  # noqa: E402
 import reference_reports  # noqa: E402
 
@@ -43,8 +44,8 @@ BARE, CAPITALS = re.compile(rf"\./bbmcheck (?:{WORDS})"), re.compile(r"\b[A-Z]+\
 LISTED = re.compile(r"prints ((?:`[^`]+`(?:, | and )?)+)")
 OVER_A_TEXT = re.compile(rf"\./bbmcheck ({WORDS})(?: --workers \d+)? < (\S+)")
 SECTION = re.compile(r"circuit|layout \d+ \d+ \d+|assign|certificate \d|module( \d+){4}")
-# tools/gate_extras runs these, the first with --all.
-ELSEWHERE = re.compile(r"conformance/run\.py \./bbmcheck|tools/refuse_growths_in_tests .*")
+# tools/gate_extras runs these, the first with --all, and tools/operations tries the wrapper.
+ELSEWHERE = re.compile(r"conformance/run\.py \./bbmcheck|tools/refuse_growths_in_tests .*|\./bbmcheck --wrapper-\w+|tools/(?:operations|release) .*")
 SECONDS = 120
 
 # where it stands; what is run; the output that is shown, a text, or a list of its lines, or None; and the status that is told, or None
@@ -185,7 +186,7 @@ def faults_of(room, shown):
 
 def main():
     parser = argparse.ArgumentParser(usage=__doc__)
-    parser.add_argument("program", nargs="?", type=Path, default=TOP / "crates" / "bbmcheck" / "out" / "bbmcheck")
+    parser.add_argument("program", nargs="?", type=Path)
     parser.add_argument("--list", action="store_true")
     options = parser.parse_args()
     shown, sections, wrong = [], [], 0
@@ -202,7 +203,7 @@ def main():
             wrong += 1
             print(f"{place}: this stands in no text of examples/")
     with tempfile.TemporaryDirectory() as room:
-        make_room(Path(room), options.program.resolve())
+        make_room(Path(room), (options.program or Path(program())).resolve())
         for one in shown:
             for fault in faults_of(Path(room), one):
                 wrong += 1

@@ -1,8 +1,8 @@
 #!/usr/bin/env python3
-"""make_man.py PROGRAM [--check]: the man page and the completions for bash, of what PROGRAM says with --help and --version.
+"""make_man.py PROGRAM [--check]: writes the man page and the completions for bash, zsh and fish, from PROGRAM's --help and --version.
 
-It writes share/man/man1/bbmcheck.1 and share/bash-completion/completions/bbmcheck; with --check it writes nothing, and the status is
-1 where one of them is not what it would write.
+It writes the four files of share/. With --check it writes nothing, and the status is 1 if one of them differs from what it
+would write. The date of the man page is that of release/x86_64-linux-gnu/MANIFEST.
 """
 import argparse
 import re
@@ -13,8 +13,14 @@ from typing import NamedTuple
 
 TOP = Path(__file__).resolve().parent.parent
 MAN = TOP / "share" / "man" / "man1" / "bbmcheck.1"
-COMPLETIONS = TOP / "share" / "bash-completion" / "completions" / "bbmcheck"
-NOTE = "tools/make_man.py writes this file, of what the program says with --help and --version."
+BASH = TOP / "share" / "bash-completion" / "completions" / "bbmcheck"
+ZSH = TOP / "share" / "zsh" / "site-functions" / "_bbmcheck"
+FISH = TOP / "share" / "fish" / "vendor_completions.d" / "bbmcheck.fish"
+MANIFEST = TOP / "release" / "x86_64-linux-gnu" / "MANIFEST"
+NOTE = "tools/make_man.py writes this file from what the program prints with --help and --version."
+# What an installed program has beside it.
+PAGES = [("FORMATS.md", "the texts, the refusals and the statuses"), ("CERTIFICATES.md", "how to write a certificate"),
+         ("OPERATING.md", "how to run it as a service: limits, statuses, a sandbox"), ("examples/", "texts to try")]
 
 
 class Help(NamedTuple):
@@ -76,9 +82,13 @@ def command_part(name, page):
     yield from (".PP", "Example:", ".PP", ".RS", f".B {roff(page.example)}", ".RE")
 
 
+def release_date():
+    return re.search(r"^date (\S+)$", MANIFEST.read_text(), re.MULTILINE).group(1)
+
+
 def man_page(version, top, pages):
     first, *facts = version.splitlines()
-    yield from (f".\\\" {NOTE}", f'.TH BBMCHECK 1 "" "{roff(first)}" "User Commands"')
+    yield from (f".\\\" {NOTE}", f'.TH BBMCHECK 1 "{release_date()}" "{roff(first)}" "User Commands"')
     yield from (".SH NAME", f"bbmcheck \\- {roff(top.about[0].lower() + top.about[1:])}")
     yield from (".SH SYNOPSIS", f".B {roff(top.usage)}", ".SH DESCRIPTION")
     yield from reads_and_writes(top)
@@ -92,6 +102,9 @@ def man_page(version, top, pages):
     yield from (".SH EXAMPLE", f".B {roff(top.example)}", ".SH VERSION", roff(first))
     for fact in facts:
         yield from (".br", roff(fact))
+    yield from (".SH SEE ALSO", "In the folder share/doc/bbmcheck beside the program's folder:")
+    yield from tagged((f"{name}", f"{about}") for name, about in PAGES)
+    yield from (".SH LICENSE", "MIT: the file LICENSE there. THIRD\\-PARTY.md has the licences of the crates in the program.")
 
 
 def flags(page):
@@ -103,16 +116,60 @@ def flags_with_values(pages):
     return sorted(found)
 
 
-def completions(top, pages):
+def bash_completions(top, pages):
     names = [name for name, _ in top.commands]
     yield from (f"# {NOTE}", "_bbmcheck() {", "    local words=")
     yield from ('    if ((COMP_CWORD == 1)); then', f'        words="{" ".join(names + flags(top))}"', "    else")
     yield '        case ${COMP_WORDS[1]} in'
     for name in names:
         yield f'            {name}) words="{" ".join(flags(pages[name]) if name in pages else pages)}" ;;'
-    yield from ("        esac", "    fi", "    # What comes after these is a number.")
-    yield from ('    case ${COMP_WORDS[COMP_CWORD - 1]} in', f'        {" | ".join(flags_with_values(pages))}) words= ;;', "    esac")
-    yield from ('    mapfile -t COMPREPLY < <(compgen -W "$words" -- "${COMP_WORDS[COMP_CWORD]}")', "}", "complete -F _bbmcheck bbmcheck")
+    yield from ("        esac", "    fi", '    case ${COMP_WORDS[COMP_CWORD - 1]} in')
+    yield from ("        # A number follows, and no file.", f'        {" | ".join(flags_with_values(pages))}) words=; compopt +o default 2>/dev/null ;;')
+    yield from ("        # A file follows: bash completes it where nothing is offered.", "        *'<' | *'>') words= ;;", "    esac")
+    yield from ('    mapfile -t COMPREPLY < <(compgen -W "$words" -- "${COMP_WORDS[COMP_CWORD]}")', "}", "complete -o default -F _bbmcheck bbmcheck")
+
+
+def quoted(text):
+    """The text between single quotes, as a shell reads it."""
+    return "'" + text.replace("'", "'\\''") + "'"
+
+
+def zsh_options(page):
+    """An option as _arguments takes it: its names exclude one another."""
+    for head, about in page.options:
+        names, value = re.findall(r"--?[\w-]+", head), "<" in head
+        text = re.sub(r"([\[\]:])", r"\\\1", about)
+        group = f"({' '.join(names)})" if len(names) > 1 else ""
+        for name in names:
+            yield quoted(f"{group}{name}[{text}]" + (": : " if value else ""))
+
+
+def zsh_completions(top, pages):
+    yield from ("#compdef bbmcheck", f"# {NOTE}", "_bbmcheck() {", "    local -a commands", "    commands=(")
+    for name, about in top.commands:
+        yield f"        {quoted(name + ':' + about.replace(':', chr(92) + ':'))}"
+    yield from ("    )", "    local curcontext=$curcontext state line", f"    _arguments -C {' '.join(zsh_options(top))} '1: :->command' '*:: :->rest'")
+    yield from ("    case $state in", "        command) _describe command commands ;;", "        rest)", "            case $words[1] in")
+    for name, _ in top.commands:
+        yield f"                {name}) " + (f"_arguments {' '.join(zsh_options(pages[name]))} ;;" if name in pages else "_describe command commands ;;")
+    yield from ("            esac ;;", "    esac", "}", '_bbmcheck "$@"')
+
+
+def fish_options(page, condition):
+    for head, about in page.options:
+        names = re.findall(r"--?[\w-]+", head)
+        words = [f"-l {name[2:]}" if name.startswith("--") else f"-s {name[1:]}" for name in names]
+        yield f"complete -c bbmcheck -n {quoted(condition)} {' '.join(words)}{' -x' if '<' in head else ''} -d {quoted(about)}"
+
+
+def fish_completions(top, pages):
+    yield from (f"# {NOTE}", "# A word is never a file; after `<` fish completes files by itself.", "complete -c bbmcheck -f")
+    for name, about in top.commands:
+        yield f"complete -c bbmcheck -n __fish_use_subcommand -a {name} -d {quoted(about)}"
+    yield from fish_options(top, "__fish_use_subcommand")
+    for name, page in pages.items():
+        yield from fish_options(page, f"__fish_seen_subcommand_from {name}")
+    yield f"complete -c bbmcheck -n '__fish_seen_subcommand_from help' -a {quoted(' '.join(pages))}"
 
 
 def main():
@@ -123,7 +180,8 @@ def main():
     top = help_in(said(given.program, "--help"))
     # `help` is the library's own command, and has no page.
     pages = {name: help_in(said(given.program, name, "--help")) for name, _ in top.commands if name != "help"}
-    made = {MAN: man_page(said(given.program, "--version"), top, pages), COMPLETIONS: completions(top, pages)}
+    made = {MAN: man_page(said(given.program, "--version"), top, pages), BASH: bash_completions(top, pages), ZSH: zsh_completions(top, pages),
+            FISH: fish_completions(top, pages)}
     differ = 0
     for path, lines in made.items():
         text = "".join(line + "\n" for line in lines)
