@@ -36,7 +36,7 @@ use Rattle.module_box.specs.LocalValues.{IsLocalValuation}
 use Rattle.module_box.specs.Locals.{AreLocalsOf, LocalNet, circuit_gate, circuit_wire, is_among, renumber_gate}
 use Rattle.module_box.specs.Moments.{cell_cmp, moment_cmp}
 use Rattle.module_box.specs.Schedules.{IsRising}
-use Rattle.module_box.specs.declared.schedules.Signal.TheVariants.{Wire}
+use Rattle.module_box.specs.declared.schedules.Signal.TheVariants.{Zero, Wire}
 use Rattle.module_box.proofs.BoxCells.{same_some}
 use Rattle.certificate_lines.specs.Entries as entries
 use Rattle.certificate_lines.specs.Entries.{ModuleLines, keeps, modules_of}

@@ -1,5 +1,5 @@
 -- What workers did
-use Rattle.std.specs.Prelude.{◌≡◌, ℕ, ◌+◌, ◌<◌, ◌≤◌, false, List, [], ◌∷◌, map, slice_index_or, sum_by, length}
+use Rattle.std.specs.Prelude.{◌≡◌, ℕ, ◌+◌, ◌-◌, ◌^◌, ◌<◌, ◌≤◌, false, List, [], ◌∷◌, map, slice_index_or, sum_by, length}
 use Rattle.audit_core.specs.Draws.{end_of, times}
 use Rattle.module_job.specs.Jobs.{JobState}
 use Rattle.module_job.specs.Shapes.{ShapeState, shape_of}
@@ -17,6 +17,10 @@ filed_by shares = sum_by (λ (s : Counts). s.filed) shares
 pub record HasRisen (before after : Counts) : Type 0 where
   pub filed : before.filed ≤ after.filed
   pub accepted : before.accepted ≤ after.accepted
+
+-- A count after one more; the count stops at the greatest number that it can hold.
+abbrev pub IsOneMore : ℕ → ℕ → Type 0
+IsOneMore before after = before < 2 ^ 64 - 1 → after ≡ before + 1
 
 -- as many shares, and each has counted more, or nothing more
 pub record HaveRisen (before after : List Counts) : Type 0 where

@@ -1,5 +1,5 @@
 //! One worker.
-ghost use Rattle.std.specs.Prelude.{◌≡◌, ◌+◌, ◌<◌, IfOk, OnErr, OnOk, Some, length, map, slice_get};
+ghost use Rattle.std.specs.Prelude.{◌≡◌, ◌≢◌, ◌+◌, ◌<◌, IfOk, OnErr, OnOk, Some, length, map, slice_get, slice_index};
 ghost use Rattle.std.specs.Arc.{arc_value};
 ghost use Rattle.audit_core.specs.Draws.{times};
 ghost use Rattle.module_job.specs.Groups.{AreGroups};
@@ -8,7 +8,7 @@ ghost use Rattle.local_run.specs.Shown.{digest_of, job_of};
 ghost use Rattle.verdict_book.specs.Counts.{counted};
 ghost use Rattle.verdict_book.specs.Replies.{IsReplyOf};
 ghost use Rattle.job_pool.specs.Seats.{numbers_of};
-ghost use Rattle.job_pool.specs.Work.{HasRisen, HasWorked, IsReady, shapes_of};
+ghost use Rattle.job_pool.specs.Work.{HasRisen, HasWorked, IsOneMore, IsReady, shapes_of};
 
 use crate::desk::{Desk, DeskSeat};
 use crate::gate::Gate;
@@ -78,15 +78,32 @@ fn run_group<F: Filings, A: Ledger, G, R: Wait>(
     requires groups { AreGroups (shapes_of (map arc_value site.now.jobs.now)) site.now.groups.now }
     ensures filed { OnOk result (share.new.filed ≡ share.old.filed + times number site.now.groups.now) }
     ensures risen { HasRisen share.old share.new }
+    ensures no_run { slice_index site.now.groups.now number ≢ number → runs.new ≡ runs.old }
+    ensures one_run { slice_index site.now.groups.now number ≡ number → IsOneMore runs.old runs.new }
 {
     let (jobs, groups) = (site.jobs, site.groups);
     if groups[number] != number {
         return Ok(());
     }
     let digest = site.book.digest();
-    let finding = run_job(alloc, digest, number, jobs[number].clone()?)?;
-    *runs = runs.saturating_add(1);
+    let finding = run_counted(alloc, digest, number, &jobs[number], runs)?;
     file_members(rt, site, &finding, number, share)
+}
+
+// Runs a job and counts the run, also one that finds no memory. No other function of this crate runs jobs.
+fn run_counted(
+    alloc: Global,
+    digest: [u8; 32],
+    number: usize,
+    job: &Arc<Job>,
+    runs: &mut usize,
+) -> Result<Finding, AllocError>
+    ensures digest { IfOk result (λ f. digest_of f ≡ digest) }
+    ensures job { IfOk result (λ f. job_of f ≡ arc_value job.now) }
+    ensures counted { IsOneMore runs.old runs.new }
+{
+    *runs = runs.saturating_add(1);
+    run_job(alloc, digest, number, job.clone()?)
 }
 
 // Files the findings of all members of a group, by that of its first number.

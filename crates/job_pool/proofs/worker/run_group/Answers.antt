@@ -13,7 +13,7 @@ returns-then-groups-number g c =
 
 pub file_members-requires-clause-first : goal.file_members-requires-clause-first
 file_members-requires-clause-first g c =
-    value_at arc_value c.args.site.now.jobs.now c.args.number _ (job_of c.in_ok-finding.finding) c.requires.number c.index-jobs-number.is (c.in_ok-finding.ensures.job ∙ c.in_ok-clone.ensures.cases)
+    value_at arc_value c.args.site.now.jobs.now c.args.number _ (job_of c.in_ok-finding.finding) c.requires.number c.index-jobs-number.is c.in_ok-finding.ensures.job
 
 pub file_members-requires-clause-digest : goal.file_members-requires-clause-digest
 file_members-requires-clause-digest g c = search rules
