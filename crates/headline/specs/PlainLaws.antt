@@ -23,10 +23,9 @@ YesKeepsOffRim = (text output : List ℕ) → IsReportOf text output Yes → ¬ 
 -- So `check` decides whether a plain text is right, has right stops and keeps off its rim, if it does not refuse it.
 abbrev pub PlainIsDecided : Type 0
 PlainIsDecided = (text output : List ℕ) (outcome : Outcome) → SaysPlain text → IsReportOf text output outcome →
-    outcome ≢ Refused →
-    (outcome ≡ Yes) ↔ (IsRight text × HasRightStops text × ¬ HasRimTouch text)
+    outcome ≢ Refused → (outcome ≡ Yes) ↔ (IsRight text × HasRightStops text × ¬ HasRimTouch text)
 
--- A text whose certificate has these lines is plain, so `check` decides it, if it does not refuse it.
+-- A text with the lines of the plain certificate is plain, so `check` decides it, if it does not refuse it.
 abbrev pub PlainLinesDecide : Type 0
 PlainLinesDecide = (text output : List ℕ) (outcome : Outcome) (circuit : List CircuitLine) (layout : Pattern) →
     SaysBundle text circuit layout (plain_lines circuit layout) → IsReportOf text output outcome → outcome ≢ Refused →
@@ -39,7 +38,7 @@ SmallDesignIsDecided = (text output : List ℕ) (outcome : Outcome) (circuit : L
     IsPlainText text circuit layout → IsSmall circuit layout → IsReportOf text output outcome →
     (outcome ≢ Refused) × ((outcome ≡ Yes) ↔ (IsRight text × HasRightStops text × ¬ HasRimTouch text))
 
--- Only such a text is refused.
+-- So no such text is refused.
 abbrev pub RefusedIsNoSmallDesign : Type 0
 RefusedIsNoSmallDesign = (text output : List ℕ) → IsReportOf text output Refused → IsNoSmallDesign text
 

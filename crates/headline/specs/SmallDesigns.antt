@@ -24,14 +24,18 @@ use Rattle.certificate_lines.specs.declared.entry.Entry.TheVariants.{Module, Cut
 abbrev pub gate_numbers : List CircuitLine → List ℕ
 gate_numbers circuit = range_with_len 0 (length (netlist_of circuit).gates)
 
--- Its lines: one module, the whole rectangle. It cuts each input, uses each gate, and keeps each inverse gate.
-abbrev pub plain_lines : List CircuitLine → Pattern → List Entry
-plain_lines circuit layout = Module (whole layout.size) ∷ (map Cut (input_names circuit) ++ map Use
-    (gate_numbers circuit)
-    ++ map Keep (filter (λ k. is_inverse_gate (slice_get (netlist_of circuit).gates k)) (gate_numbers circuit)))
+-- those of its inverse gates
+abbrev pub inverse_numbers : List CircuitLine → List ℕ
+inverse_numbers circuit =
+    filter (λ k. is_inverse_gate (slice_get (netlist_of circuit).gates k)) (gate_numbers circuit)
 
--- The text says this circuit and this layout, in sections that are read, and then the plain certificate, and nothing
--- more.
+-- The lines of the plain certificate: one module, the whole rectangle, which cuts each input, uses each gate and keeps
+-- each inverse gate.
+abbrev pub plain_lines : List CircuitLine → Pattern → List Entry
+plain_lines circuit layout = Module (whole layout.size)
+    ∷ (map Cut (input_names circuit) ++ map Use (gate_numbers circuit) ++ map Keep (inverse_numbers circuit))
+
+-- The text says this circuit and this layout, in sections that are read, then the plain certificate, and nothing more.
 pub record IsPlainText (text : List ℕ) (circuit : List CircuitLine) (layout : Pattern) : Type 0 where
   pub first : List (List ℕ)
   pub second : List (List ℕ)
