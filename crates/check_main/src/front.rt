@@ -5,7 +5,8 @@ ghost use Rattle.command_line.specs.CommandLine.{AsksForHelp, IsAccepted, IsHelp
 ghost use Rattle.check_main.specs.Commands.{IsAnswerTo};
 ghost use Rattle.headline.specs.Headline.{Gives, IsRight, YesMeans};
 ghost use Rattle.headline.specs.Stops.{HasRightStops};
-ghost use Rattle.headline.specs.Plain.{IsNoSmallDesign, IsWrongIfPlain};
+ghost use Rattle.headline.specs.Plain.{IsWrongIfPlain};
+ghost use Rattle.headline.specs.SmallDesigns.{IsNoSmallDesign};
 ghost use Rattle.headline.specs.ReportLines.{LinesTell, Relates};
 ghost use Rattle.check_main.specs.Status.{status_for, Says};
 ghost use Rattle.check_main.specs.Stream.{Answers, BreaksOff, GivesTooMuch, Serves};

@@ -4,7 +4,8 @@ ghost use Rattle.std.specs.Io.KnownBytes.{Appends};
 ghost use Rattle.answers.specs.CheckText.{IsReportOf};
 ghost use Rattle.headline.specs.Headline.{Gives, IsRight, YesMeans};
 ghost use Rattle.headline.specs.Stops.{HasRightStops};
-ghost use Rattle.headline.specs.Plain.{IsNoSmallDesign, IsWrongIfPlain};
+ghost use Rattle.headline.specs.Plain.{IsWrongIfPlain};
+ghost use Rattle.headline.specs.SmallDesigns.{IsNoSmallDesign};
 ghost use Rattle.headline.specs.ReportLines.{LinesTell, Relates};
 ghost use Rattle.answers.specs.MigrateText.{IsMigrationOf};
 ghost use Rattle.answers.specs.ModulesText.{IsModulesOf};
@@ -34,7 +35,8 @@ const BLOCK: usize = 65_536;
 /// whose stops hold on the whole pattern: `headline/specs/Stops.antt`.
 ///
 /// If it is `No`, and the certificate is one plain module, the whole rectangle, the text is wrong: `headline/specs/Plain.antt`. What the
-/// lines of the report mean is in `headline/specs/ReportLines.antt`. The plain text of a small design is never `Refused`.
+/// lines of the report mean is in `headline/specs/ReportLines.antt`. The plain text of a small design is never `Refused`:
+/// `headline/specs/SmallDesigns.antt`.
 pub fn check_stream<T, R, W, G>(
     rt: &T,
     alloc: Global,

@@ -30,7 +30,9 @@ use Rattle.audit_core.specs.HeadlineLaws.{IsInputName}
 use Rattle.audit_core.specs.PlainCertificates.{IsPlain}
 use Rattle.audit_core.proofs.InputRuns.{IsPlaced, placed}
 use Rattle.headline.specs.Laws.{IsGoodDesign}
-use Rattle.headline.specs.Plain.{PlainLinesDecide, SaysPlain, gate_numbers, plain_lines}
+use Rattle.headline.specs.Plain.{SaysPlain}
+use Rattle.headline.specs.SmallDesigns.{gate_numbers, plain_lines}
+use Rattle.headline.specs.PlainLaws.{PlainLinesDecide}
 use Rattle.headline.proofs.PlainTexts.{plain_is_decided}
 use Rattle.headline.proofs.YesIsRight.{good_designs}
 

@@ -32,7 +32,9 @@ use Rattle.local_run.specs.declared.fault.Kind.{Kind}
 use Rattle.local_run.specs.declared.fault.Kind.TheVariants.{Edge, End, Stop as AtStop}
 use Rattle.audit_core.proofs.EarliestLines.{earliest_is_real}
 use Rattle.report.specs.ReportText.{report_lines}
-use Rattle.headline.specs.ReportLines.{EarliestIsReal, LinesMeanIfPlain, LinesTell, NoLinesTell, SaysNoWith}
+use Rattle.headline.specs.Plain.{HasRimTouch, IsWrongIfPlain, IsWrongText, SaysPlain}
+use Rattle.headline.specs.ReportLines.{EarliestIsReal, LinesMeanIfPlain, LinesTell, SaysNoWith}
+use Rattle.headline.specs.PlainLaws.{NoLinesTell, PlainIsDecided, PlainNoMeansWrong, YesKeepsOffRim}
 use Rattle.audit_core.specs.declared.verdict.ReportLine.TheVariants.{Local, Keep, Border, Unkept, Delay, Meet}
 use Rattle.audit_core.specs.FirstFaults.{HasAssignment, IsAsCertified, IsEarliestLine, IsReal}
 use Rattle.audit_core.specs.HeadlineLaws.{BelongTogether, HasInputNames, IsInputName}
@@ -54,8 +56,6 @@ use Rattle.answers.specs.declared.outcome.Outcome.{Outcome}
 use Rattle.answers.specs.declared.outcome.Outcome.TheVariants.{Yes, No, Refused}
 use Rattle.headline.specs.Design.{SaysDesign}
 use Rattle.headline.specs.Headline.{IsRight}
-use Rattle.headline.specs.Plain.{HasRimTouch, IsWrongIfPlain, IsWrongText, PlainIsDecided, PlainNoMeansWrong, SaysPlain}
-use Rattle.headline.specs.Plain.{YesKeepsOffRim}
 use Rattle.headline.specs.Stops.{HasRightStops, SaysBundle}
 use Rattle.headline.proofs.Designs.{one_certificate, one_design}
 use Rattle.headline.proofs.YesIsRight.{bundle_good, by_outcome, certificate_faultless, known, yes_has_right_stops}

@@ -62,7 +62,8 @@ use Rattle.answers.specs.CheckText.{SaysReport, verdict_outcome}
 use Rattle.answers.specs.declared.outcome.Outcome.{Outcome}
 use Rattle.answers.specs.declared.outcome.Outcome.TheVariants.{Yes, No, Refused}
 use Rattle.answers.proofs.Bundles.{same_setting}
-use Rattle.headline.specs.Plain.{IsSmall, RefusedIsNoSmallDesign, SmallDesignIsDecided, gate_numbers, plain_lines}
+use Rattle.headline.specs.SmallDesigns.{IsSmall, gate_numbers, plain_lines}
+use Rattle.headline.specs.PlainLaws.{RefusedIsNoSmallDesign, SmallDesignIsDecided}
 use Rattle.headline.specs.Stops.{SaysBundle}
 use Rattle.headline.proofs.Migrations.{HasSections, IsGoodBundle, bundle_made}
 use Rattle.headline.proofs.YesIsRight.{circuit_good}

@@ -69,7 +69,7 @@ use Rattle.answers.specs.declared.outcome.Outcome.TheVariants.{Yes}
 use Rattle.headline.specs.ThereAndBack.{there_and_back}
 use Rattle.headline.specs.Laws.{ThereAndBackIsAccepted}
 use Rattle.headline.proofs.Trials.{at_every, end_test, every_cell, faultless, no_border_fault, same_demand, same_demand_is, same_signal, same_signal_is}
-use Rattle.headline.specs.Plain.{ThereAndBackIsPlain, ThereAndBackIsSmall}
+use Rattle.headline.specs.PlainLaws.{ThereAndBackIsPlain, ThereAndBackIsSmall}
 use Rattle.audit_core.specs.HeadlineLaws.{IsInputName}
 use Rattle.headline.proofs.YesIsRight.{bundle_good, certificate_faultless}
 

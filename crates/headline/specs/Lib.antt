@@ -4,6 +4,8 @@ pub mod Stops
 pub mod ThereAndBack
 pub mod TimedModules
 pub mod Plain
+pub mod SmallDesigns
 pub mod ReportLines
+pub mod PlainLaws
 pub mod Laws
 pub mod Migration

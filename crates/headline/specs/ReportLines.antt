@@ -4,24 +4,22 @@
 -- audit_core/specs/FirstFaults.antt from `IsAsCertified` on, without the laws; audit_core/specs/PlainCertificates.antt
 -- from
 -- `Shows` to `LineMeans`.
-use Rattle.std.specs.Prelude.{◌≡◌, ℕ, List, [], ◌∷◌, ◌++◌, Option, Some, slice_get, codes}
+use Rattle.std.specs.Prelude.{◌≡◌, ℕ, List, [], ◌∷◌, ◌++◌, slice_get, Some, Option, codes}
 use Rattle.std.specs.List.{All, flat_map}
-use Rattle.section_text.specs.Spelling.{line_text}
-use Rattle.circuit.specs.Bridge.{circuit_of, netlist_of}
-use Rattle.circuit.specs.Meaning.{Satisfies, Valuation}
+use Rattle.circuit.specs.Bridge.{netlist_of, circuit_of}
 use Rattle.circuit.specs.declared.entry.Entry.{Entry as CircuitLine}
 use Rattle.pattern.specs.Layout.{Pattern}
 use Rattle.certificate_lines.specs.Entries.{ModuleLines, modules_of}
 use Rattle.certificate_lines.specs.declared.entry.Entry.{Entry}
+use Rattle.audit_core.specs.PlainCertificates.{LineMeans}
+use Rattle.headline.specs.Stops.{SaysBundle}
+use Rattle.section_text.specs.Spelling.{line_text}
+use Rattle.circuit.specs.Meaning.{Satisfies, Valuation}
 use Rattle.local_run.specs.declared.fault.Fault.{Fault}
 use Rattle.audit_core.specs.FirstFaults.{HasAssignment, IsEarliestLine, IsReal}
-use Rattle.audit_core.specs.PlainCertificates.{LineMeans}
 use Rattle.audit_core.specs.declared.verdict.ReportLine.{ReportLine}
 use Rattle.report.specs.ReportText.{fault_line, opening_lines}
-use Rattle.answers.specs.CheckText.{IsReportOf}
-use Rattle.answers.specs.declared.outcome.Outcome.TheVariants.{No}
 use Rattle.headline.specs.Plain.{SaysPlain}
-use Rattle.headline.specs.Stops.{SaysBundle}
 
 -- the output is three opening lines, then `verdict no`, and then these lines as `fault_line` spells them
 pub record SaysNoWith (output : List ℕ) (lines : List ReportLine) : Type 0 where
@@ -59,9 +57,3 @@ pub record LinesTell (text output : List ℕ) : Type 0 where
 abbrev pub Relates : (List ℕ → List ℕ → Type 0) → Option (List ℕ) → Option (List ℕ) → Option (List ℕ) → Type 0
 Relates P left held held' = (text before output : List ℕ) → left ≡ Some text → held ≡ Some before →
     held' ≡ Some (before ++ output) → P text output
-
--- ---- the law
-
--- the lines of a report with the outcome no tell so
-abbrev pub NoLinesTell : Type 0
-NoLinesTell = (text output : List ℕ) → IsReportOf text output No → LinesTell text output

@@ -1,8 +1,7 @@
 //! Laws of the definitions, each the contract of a function without a body.
 ghost use Rattle.answers.specs.CheckText.{IsReportOf};
 ghost use Rattle.headline.specs.Laws.{FourthLineTells, HasOneAnswer, ReportsOnGoodDesigns, SaysOneCertificate, SaysOneDesign, ThereAndBackIsAccepted, TimedModulesAreAccepted, YesMeansRight, YesMeansRightStops};
-ghost use Rattle.headline.specs.Plain.{PlainIsDecided, PlainLinesDecide, PlainNoMeansWrong, RefusedIsNoSmallDesign, SmallDesignIsDecided, ThereAndBackIsPlain, ThereAndBackIsSmall, YesKeepsOffRim};
-ghost use Rattle.headline.specs.ReportLines.{NoLinesTell};
+ghost use Rattle.headline.specs.PlainLaws.{PlainIsDecided, PlainLinesDecide, PlainNoMeansWrong, RefusedIsNoSmallDesign, SmallDesignIsDecided, ThereAndBackIsPlain, ThereAndBackIsSmall, YesKeepsOffRim, NoLinesTell};
 ghost use Rattle.headline.specs.Migration.{KeepsVersionTwo, MigratesOnce, MigrationIsAccepted, MigrationSaysTheSame};
 ghost use Rattle.answers.specs.MigrateText.{IsMigrationOf};
 ghost use Rattle.answers.specs.ModulesText.{IsModulesOf};

@@ -2,7 +2,8 @@
 use Rattle.std.proofs.Common.{refl}
 use Rattle.headline.specs.Headline.{IsRight}
 use Rattle.headline.specs.Stops.{HasRightStops}
-use Rattle.headline.specs.Plain.{IsNoSmallDesign, IsWrongIfPlain}
+use Rattle.headline.specs.Plain.{IsWrongIfPlain}
+use Rattle.headline.specs.SmallDesigns.{IsNoSmallDesign}
 use Rattle.headline.specs.ReportLines.{LinesTell}
 use Rattle.headline.proofs.PlainTexts.{no_is_wrong, no_lines_tell}
 use Rattle.answers.specs.declared.outcome.Outcome.TheVariants.{No, Refused}

@@ -1,0 +1,58 @@
+-- Laws of plain texts: `check` decides them, and the lines of a no mean something.
+use Rattle.std.specs.Prelude.{◌≡◌, ◌≢◌, ◌↔◌, ℕ, List}
+use Rattle.circuit.specs.declared.entry.Entry.{Entry as CircuitLine}
+use Rattle.pattern.specs.Layout.{Pattern}
+use Rattle.answers.specs.CheckText.{IsReportOf}
+use Rattle.answers.specs.declared.outcome.Outcome.{Outcome}
+use Rattle.answers.specs.declared.outcome.Outcome.TheVariants.{Yes, No, Refused}
+use Rattle.headline.specs.Headline.{IsRight}
+use Rattle.headline.specs.Stops.{HasRightStops, SaysBundle}
+use Rattle.headline.specs.ThereAndBack.{there_and_back}
+use Rattle.headline.specs.Plain.{SaysPlain, HasRimTouch, IsWrongIfPlain}
+use Rattle.headline.specs.SmallDesigns.{plain_lines, IsPlainText, IsSmall, IsNoSmallDesign}
+use Rattle.headline.specs.ReportLines.{LinesTell}
+
+-- A text that is reported with the outcome no is wrong if it is plain.
+abbrev pub PlainNoMeansWrong : Type 0
+PlainNoMeansWrong = (text output : List ℕ) → IsReportOf text output No → IsWrongIfPlain text
+
+-- A text that is reported with the outcome yes keeps off its rim, plain or not.
+abbrev pub YesKeepsOffRim : Type 0
+YesKeepsOffRim = (text output : List ℕ) → IsReportOf text output Yes → ¬ HasRimTouch text
+
+-- So `check` decides whether a plain text is right, has right stops and keeps off its rim, if it does not refuse it.
+abbrev pub PlainIsDecided : Type 0
+PlainIsDecided = (text output : List ℕ) (outcome : Outcome) → SaysPlain text → IsReportOf text output outcome →
+    outcome ≢ Refused → (outcome ≡ Yes) ↔ (IsRight text × HasRightStops text × ¬ HasRimTouch text)
+
+-- A text with the lines of the plain certificate is plain, so `check` decides it, if it does not refuse it.
+abbrev pub PlainLinesDecide : Type 0
+PlainLinesDecide = (text output : List ℕ) (outcome : Outcome) (circuit : List CircuitLine) (layout : Pattern) →
+    SaysBundle text circuit layout (plain_lines circuit layout) → IsReportOf text output outcome → outcome ≢ Refused →
+    SaysPlain text × ((outcome ≡ Yes) ↔ (IsRight text × HasRightStops text × ¬ HasRimTouch text))
+
+-- So for every small design right is the same as accepted: `check` says yes to its plain text exactly if the layout
+-- computes the circuit and keeps off its rim, and its delays and meetings are right.
+abbrev pub SmallDesignIsDecided : Type 0
+SmallDesignIsDecided = (text output : List ℕ) (outcome : Outcome) (circuit : List CircuitLine) (layout : Pattern) →
+    IsPlainText text circuit layout → IsSmall circuit layout → IsReportOf text output outcome →
+    (outcome ≢ Refused) × ((outcome ≡ Yes) ↔ (IsRight text × HasRightStops text × ¬ HasRimTouch text))
+
+-- So no such text is refused.
+abbrev pub RefusedIsNoSmallDesign : Type 0
+RefusedIsNoSmallDesign = (text output : List ℕ) → IsReportOf text output Refused → IsNoSmallDesign text
+
+-- Some plain text is reported with the outcome yes (`ThereAndBackIsAccepted`), so the laws are not vacuous.
+abbrev pub ThereAndBackIsPlain : Type 0
+ThereAndBackIsPlain = SaysPlain there_and_back
+
+-- It is the plain text of a small design, so `SmallDesignIsDecided` is not vacuous.
+pub record ThereAndBackIsSmall : Type 0 where
+  pub circuit : List CircuitLine
+  pub layout : Pattern
+  pub plain : IsPlainText there_and_back circuit layout
+  pub small : IsSmall circuit layout
+
+-- the lines of a report with the outcome no tell so
+abbrev pub NoLinesTell : Type 0
+NoLinesTell = (text output : List ℕ) → IsReportOf text output No → LinesTell text output
