@@ -17,12 +17,13 @@ use Rattle.section_text.specs.Sections.{go_on, finished}
 use Rattle.section_text.specs.declared.fault.Refusal.{Refusal}
 use Rattle.section_text.specs.declared.section.Form.TheVariants.{Header, Item, End}
 use Rattle.section_text.proofs.Good.{AreFaultless, IsFaultless, read_faultless}
-use Rattle.circuit.specs.Bridge.{AreGoodAfter, AreGood, circuit_of}
+use Rattle.circuit.specs.Bridge.{AreGoodAfter, AreGood, circuit_of, netlist_of}
 use Rattle.circuit.specs.Entries.{rank_of}
 use Rattle.circuit.specs.Forms.{Line, form_of}
 use Rattle.circuit.specs.Grammars.{circuit_grammar}
 use Rattle.circuit.specs.Rules.{add_fault, gate_count, is_gate, last_rank, order_fault}
 use Rattle.circuit.specs.declared.entry.Entry.{Entry as CircuitLine}
+use Rattle.circuit.proofs.Valuations.{at_most_one}
 use Rattle.circuit.proofs.Bridging.{count_append, gates_are_ordered}
 use Rattle.circuit.proofs.Fitting.{entry_fits, no_gate_still, no_gate_yet}
 use Rattle.circuit.proofs.Naming.{inputs_are_first}
@@ -57,7 +58,7 @@ use Rattle.answers.specs.BundleText.{Bundle, bundle_of}
 use Rattle.answers.specs.CheckText.{IsReportOf, SaysReport, verdict_outcome}
 use Rattle.headline.specs.Design.{SaysDesign}
 use Rattle.headline.specs.Headline.{IsRight, SaysYes}
-use Rattle.headline.specs.Laws.{FourthLineTells, IsGoodDesign, ReportsOnGoodDesigns, YesMeansRight, YesMeansRightStops}
+use Rattle.headline.specs.Laws.{FourthLineTells, IsGoodDesign, ReportsOnGoodDesigns, YesHasOneValuation, YesMeansRight, YesMeansRightStops}
 use Rattle.answers.proofs.Bundles.{same_setting}
 use Rattle.headline.proofs.Designs.{bundle_said, design_said, one_design}
 use Rattle.headline.specs.Stops.{HasRightStops, SaysBundle}
@@ -342,3 +343,13 @@ fourth_line-tells text output outcome says = line_tells output outcome (bundle_o
 
 pub by_line : (text output : List ℕ) (outcome : Outcome) → IsReportOf text output outcome → SaysYes output → IsReportOf text output Yes
 by_line text output outcome says line = subst (λ o. IsReportOf text output o) ((fourth_line-tells text output outcome says).0 line) says
+
+-- ---- there is one valuation
+
+refused-yes : Yes ≡ Refused → ⊥
+refused-yes e = cc
+
+pub one_valuation : YesHasOneValuation
+one_valuation text output circuit layout inputs u v says design fits fits' w below =
+    let good = good_designs text output Yes circuit layout says refused-yes design in
+    at_most_one (netlist_of circuit) inputs u v (gates_are_ordered circuit good.circuit_lines) fits fits' w below

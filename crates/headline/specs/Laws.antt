@@ -1,6 +1,7 @@
 -- Laws of the answers.
-use Rattle.std.specs.Prelude.{◌≡◌, ◌≢◌, ℕ, List, [], ◌++◌, None}
-use Rattle.circuit.specs.Bridge.{AreGood}
+use Rattle.std.specs.Prelude.{◌≡◌, ◌≢◌, ◌<◌, ℕ, List, [], ◌++◌, None}
+use Rattle.circuit.specs.Bridge.{AreGood, netlist_of}
+use Rattle.circuit.specs.Meaning.{Satisfies, Valuation, wires}
 use Rattle.circuit.specs.Text.{circuit_text}
 use Rattle.circuit.specs.declared.entry.Entry.{Entry}
 use Rattle.certificate_lines.specs.declared.entry.Entry.{Entry as CertificateLine}
@@ -27,6 +28,13 @@ YesMeansRight = (text output : List ℕ) → IsReportOf text output Yes → IsRi
 -- and its stops are right
 abbrev pub YesMeansRightStops : Type 0
 YesMeansRightStops = (text output : List ℕ) → IsReportOf text output Yes → HasRightStops text
+
+-- and its circuit has one valuation for each choice of values of the inputs: two of them agree on each wire
+abbrev pub YesHasOneValuation : Type 0
+YesHasOneValuation = (text output : List ℕ) (circuit : List Entry) (layout : Pattern) (inputs u v : Valuation) →
+    IsReportOf text output Yes → SaysDesign text circuit layout →
+    Satisfies (netlist_of circuit) inputs u → Satisfies (netlist_of circuit) inputs v →
+    (w : ℕ) → w < wires (netlist_of circuit) → u w ≡ v w
 
 -- a report says yes in its fourth line just where that is the outcome
 abbrev pub FourthLineTells : Type 0

@@ -1,6 +1,6 @@
 //! Laws of the definitions, each the contract of a function without a body.
 ghost use Rattle.answers.specs.CheckText.{IsReportOf};
-ghost use Rattle.headline.specs.Laws.{FourthLineTells, HasOneAnswer, ReportsOnGoodDesigns, SaysOneCertificate, SaysOneDesign, ThereAndBackIsAccepted, TimedModulesAreAccepted, YesMeansRight, YesMeansRightStops};
+ghost use Rattle.headline.specs.Laws.{FourthLineTells, HasOneAnswer, ReportsOnGoodDesigns, SaysOneCertificate, SaysOneDesign, ThereAndBackIsAccepted, TimedModulesAreAccepted, YesHasOneValuation, YesMeansRight, YesMeansRightStops};
 ghost use Rattle.headline.specs.PlainLaws.{PlainIsDecided, PlainLinesDecide, PlainNoMeansWrong, RefusedIsNoSmallDesign, SmallDesignIsDecided, ThereAndBackIsPlain, ThereAndBackIsSmall, YesKeepsOffRim, NoLinesTell};
 ghost use Rattle.headline.specs.Migration.{KeepsVersionTwo, MigratesOnce, MigrationIsAccepted, MigrationSaysTheSame};
 ghost use Rattle.answers.specs.MigrateText.{IsMigrationOf};
@@ -44,10 +44,12 @@ pub fn migration_keeps_what_is_accepted()
 {}
 
 /// A text for which the report says yes begins with a circuit and a layout that computes it, and goes on with a certificate whose stops hold.
+/// The circuit has exactly one valuation for each choice of values of its inputs.
 /// The fourth line of a report is `verdict yes` just where it says yes.
 pub fn yes_means_right()
     ensures right { YesMeansRight }
     ensures stops { YesMeansRightStops }
+    ensures one_valuation { YesHasOneValuation }
     ensures told { FourthLineTells }
 {}
 

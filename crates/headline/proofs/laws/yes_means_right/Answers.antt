@@ -1,5 +1,5 @@
-use Rattle.headline.proofs.YesIsRight.{fourth_line-tells, yes_has_right_stops, yes_is_right}
+use Rattle.headline.proofs.YesIsRight.{fourth_line-tells, one_valuation, yes_has_right_stops, yes_is_right}
 use Rattle.headline.proofs.laws.yes_means_right.Goals as goal
 
 pub returns : goal.returns
-returns c = record { right = yes_is_right; stops = yes_has_right_stops; told = fourth_line-tells }
+returns c = record { right = yes_is_right; stops = yes_has_right_stops; one_valuation = one_valuation; told = fourth_line-tells }
