@@ -25,6 +25,8 @@ mod layouts;
 #[cfg(test)]
 mod locals;
 #[cfg(test)]
+mod printed;
+#[cfg(test)]
 mod reports;
 #[cfg(test)]
 mod schedules;
