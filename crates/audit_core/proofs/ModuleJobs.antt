@@ -277,12 +277,12 @@ module _ (c : Circuit) (p : Pattern) (m : ModuleLines) (j k : JobState) (differe
   same_starts : j.starts ≡ k.starts
   same_starts = same_over_box j.area j.starts k.starts Zero (of_j.start_count ∙ area_of_j) (of_k.start_count ∙ area_of_j)
       (λ x y h. sym (start_inside j x y h) ∙ same_start x y ∙ start_inside k x y (inside_k x y h)
-          ∙ ap (λ b. unwrap_or (slice_get k.starts (place_in b x y)) Zero) (sym same_area))
+      ∙ ap (λ b. unwrap_or (slice_get k.starts (place_in b x y)) Zero) (sym same_area))
 
   same_demands : j.demands ≡ k.demands
   same_demands = same_over_box j.area j.demands k.demands Demanded.Dead (of_j.demand_count ∙ area_of_j) (of_k.demand_count ∙ area_of_j)
       (λ x y h. sym (demand_inside j x y h) ∙ same_demand x y ∙ demand_inside k x y (inside_k x y h)
-          ∙ ap (λ b. unwrap_or (slice_get k.demands (place_in b x y)) Demanded.Dead) (sym same_area))
+      ∙ ap (λ b. unwrap_or (slice_get k.demands (place_in b x y)) Demanded.Dead) (sym same_area))
 
   same_job : j ≡ k
   same_job = λ i. record {

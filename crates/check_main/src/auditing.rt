@@ -24,7 +24,7 @@ use verdict_book::{Book, Filings, Share, gather};
 pub struct Audited {
     /// The book, which is closed, and holds a finding of each module's job.
     pub state: BookState,
-    /// Whether the workers lacked memory for something. Otherwise they filed as many findings as there are modules.
+    /// Whether a worker found no memory for something. The book is complete in either case.
     pub memory: bool,
 }
 

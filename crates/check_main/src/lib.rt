@@ -11,7 +11,7 @@ mod stream;
 
 pub use answers::Outcome;
 pub use auditing::{Audited, audit};
-pub use device::{Over, Sink, Source};
+pub use device::{Awaited, Over, Retrying, Sink, Source};
 pub use fault::CheckFault;
 pub use front::{Streams, WORDS_REFUSED, program, status_of};
 pub use job_pool::{Gate, OpenGate};

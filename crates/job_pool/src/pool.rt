@@ -19,11 +19,11 @@ use verdict_book::{Book, Filings, Share};
 /// What is left where all workers have ended.
 #[derive(Drop)]
 pub struct WorkEnd<F: Filings, A: Ledger> {
-    /// All shares that were handed in, in their order.
+    /// The shares that were passed in: as many, and none of them counts less than before.
     pub shares: Vec<Share<F, A>>,
     /// Whether there was no memory for something. Otherwise as many findings were filed as there are jobs.
     pub memory: bool,
-    /// How many jobs were run: one of each shape, where there was memory.
+    /// How many runs of jobs the workers began.
     pub runs: usize,
 }
 

@@ -19,6 +19,8 @@ mod floods;
 #[cfg(test)]
 mod gates;
 #[cfg(test)]
+mod interruptions;
+#[cfg(test)]
 mod largest;
 #[cfg(test)]
 mod prefixes;

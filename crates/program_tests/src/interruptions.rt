@@ -1,0 +1,65 @@
+//! Reads and writes that signals interrupt.
+use crate::devices::{FailingWriter, Letters};
+use check_main::Retrying;
+use std::io;
+use std::io::{ErrorKind, Read, Write};
+
+/// Is interrupted before each call that gives or takes something.
+#[derive(Drop)]
+struct Interrupted<T> {
+    inner: T,
+    is_ready: bool,
+}
+
+impl<T> Interrupted<T> {
+    fn new(inner: T) -> Interrupted<T> {
+        Interrupted {
+            inner,
+            is_ready: false,
+        }
+    }
+}
+
+impl<R: Read> Read for Interrupted<R> {
+    fn read(&mut self, buf: &mut [u8]) -> io::Result<usize> {
+        self.is_ready = !self.is_ready;
+        if self.is_ready {
+            return Err(io::Error::from(ErrorKind::Interrupted));
+        }
+        self.inner.read(buf)
+    }
+}
+
+impl<W: Write> Write for Interrupted<W> {
+    fn write(&mut self, piece: &[u8]) -> io::Result<usize> {
+        self.is_ready = !self.is_ready;
+        if self.is_ready {
+            return Err(io::Error::from(ErrorKind::Interrupted));
+        }
+        self.inner.write(piece)
+    }
+
+    fn flush(&mut self) -> io::Result<()> {
+        self.inner.flush()
+    }
+}
+
+#[test]
+fn interrupted_reads_are_made_again(rt: HostRuntime) {
+    let letters = Letters { left: 5, piece: 2 };
+    let mut reader = Retrying::new(Interrupted::new(letters));
+    let mut buf = [0u8; 4];
+    for wanted in [2, 2, 1, 0] {
+        assert!(rt; reader.read(&mut buf).ok() == Some(wanted), "{wanted}");
+    }
+}
+
+#[test]
+fn interrupted_writes_are_made_again(rt: HostRuntime) {
+    let room = FailingWriter::new(rt.alloc(), 3, true);
+    let mut writer = Retrying::new(Interrupted::new(room));
+    assert!(rt; writer.write(b"ab").ok() == Some(2));
+    assert!(rt; writer.write(b"cd").ok() == Some(1));
+    assert!(rt; writer.write(b"e").is_err());
+    assert!(rt; writer.flush().is_ok());
+}
