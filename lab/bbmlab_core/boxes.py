@@ -3,7 +3,7 @@
 from dataclasses import dataclass
 from typing import Iterator
 
-from .layouts import Cell, cells_of
+from .layouts import Cell, Layout, Part, cells_of
 
 
 @dataclass(frozen=True)
@@ -43,3 +43,14 @@ class Box:
     def __str__(self) -> str:
         """Writes the box as its line does."""
         return f"{self.x} {self.y} {self.width} {self.height}"
+
+
+def clipped(layout: Layout, box: Box) -> Layout:
+    """Returns the layout with the parts that lie in the box, and of mirrors what lies in it."""
+    parts = []
+    for part in layout.parts:
+        left, top = max(part.x, box.x), max(part.y, box.y)
+        right, bottom = min(part.x + part.width, box.x + box.width), min(part.y + part.height, box.y + box.height)
+        if left < right and top < bottom:
+            parts.append(Part(part.kind, part.name, left, top, right - left, bottom - top, part.line))
+    return Layout(layout.width, layout.height, layout.steps, parts)
