@@ -5,12 +5,12 @@ import os
 import sys
 from typing import Callable
 
-from . import VERSION, checking, explaining
-from .documents import command_for, read_document
+from . import VERSION, certify, checking, drawing, explaining, golly, json_form, tracing
+from .documents import Document, command_for, read_document
 from .explaining import Explanation
 from .pictures import LEGEND
 from .program import ProgramError, ProgramTimeout, ask, find_program
-from .reports import ReportError
+from .reports import Report, ReportError, parse_report
 from .spelling import spelled
 from .terminal import LabError, painted, read_bytes, read_text, wrapped, write_text
 
@@ -108,6 +108,119 @@ def fmt_command(options: argparse.Namespace) -> int:
     return 1 if changed else 0
 
 
+def read_design(name: str, needs_circuit: bool = False) -> Document:
+    """Returns a text with a layout; raises LabError where it is refused. What stands behind circuit and layout may be missing."""
+    document = read_document(read_text(name))
+    if document.refusal:
+        refusal = document.refusal
+        raise LabError(f"{name}: line {refusal.line} is refused with code {refusal.code}; bbmlab explain tells why", 1)
+    if document.layout is None or needs_circuit and document.circuit is None:
+        raise LabError(f"{name}: the text has no {'circuit and ' if needs_circuit else ''}layout", 1)
+    return document
+
+
+def certify_command(options: argparse.Namespace) -> int:
+    """Runs `bbmlab certify`. An old certificate is left out, also a wrong one."""
+    text = read_text(options.file)
+    lines = text.split("\n")
+    old = next((index for index, line in enumerate(lines) if line.startswith("certificate")), None)
+    if old is not None:
+        text = "\n".join([*lines[:old], ""])
+    document = read_document(text, "design")
+    if document.refusal:
+        raise LabError(f"{options.file}: line {document.refusal.line} is refused with code {document.refusal.code}; bbmlab explain tells why", 1)
+    write_text(options.output, certify.certified(document, None if options.plain else options.grid, options.version_of_text, options.cuts))
+    return 0
+
+
+def trace_command(options: argparse.Namespace) -> int:
+    """Runs `bbmlab trace`."""
+    document = read_design(options.file)
+    layout = document.layout
+    last = layout.steps if options.to is None else options.to
+    if options.module is not None:
+        trace = tracing.trace_module(document, options.module, options.assignment, options.start, last)
+    else:
+        on = tracing.chosen_inputs(document, options.on)
+        trace = tracing.trace_layout(layout, on, options.start, last)
+        warn_of_difference(options, trace, tracing.run_text(tracing.layout_lines(document), on))
+    mirrors = layout.mirror_cells()
+    write_text(options.output, tracing.as_json(trace, mirrors) if options.json else tracing.as_text(trace, mirrors, options.pictures))
+    return 1 if trace.left is not None else 0
+
+
+def warn_of_difference(options: argparse.Namespace, trace: tracing.Trace, text: bytes) -> None:
+    """Compares the last state with the program's `run`, where there is a program, and says what came of it on standard error."""
+    try:
+        answer = ask(find_program(options.program), "run", text, options.timeout)
+    except (ProgramError, ProgramTimeout) as error:
+        print(f"bbmlab: the last state was not compared: {error}", file=sys.stderr)
+        return
+    differs = tracing.compare_with_run(trace, answer.output)
+    if differs:
+        raise LabError(f"the lab's run is wrong: {differs}")
+    print("bbmlab: the last state is what the program's run says", file=sys.stderr)
+
+
+def report_for(options: argparse.Namespace) -> Report | None:
+    """Returns the report of the option `--report`, if it is given."""
+    return parse_report(read_text(options.report)) if options.report else None
+
+
+def draw_command(options: argparse.Namespace) -> int:
+    """Runs `bbmlab draw`."""
+    document, report = read_design(options.file), report_for(options)
+    layout = document.layout
+    on = tracing.chosen_inputs(document, options.on)
+    picture = drawing.Drawing(modules=document.certificate.modules if document.certificate else [])
+    if options.ways:
+        picture.ways = drawing.ball_ways(document, on if options.on is not None else None, layout.steps)
+        picture.title = "ways of the balls" + (f" with {' '.join(on) or 'no input'} on" if options.on is not None else "")
+    else:
+        trace = tracing.trace_layout(layout, on, options.time, options.time)
+        if not trace.states:
+            raise LabError(f"there is no time {options.time}: the run ends at {layout.steps if trace.left is None else trace.left - 1}", 2)
+        picture.live, picture.title = trace.states[0], f"time {options.time} with {' '.join(on) or 'no input'} on"
+    for finding in report.faults if report else []:
+        if "x" in finding.values:
+            picture.faults.append(((finding.number("x"), finding.number("y")), finding.text))
+    wires = list(document.circuit.defined) if document.circuit else tracing.port_names(layout)
+    write_text(options.output, drawing.svg(layout, picture, wires))
+    return 0
+
+
+def json_command(options: argparse.Namespace) -> int:
+    """Runs `bbmlab json`."""
+    if options.back:
+        write_text(options.output, json_form.text_from_json(read_text(options.file)))
+    else:
+        write_text(options.output, json_form.document_json(read_document(read_text(options.file)), report_for(options)))
+    return 0
+
+
+def golly_command(options: argparse.Namespace) -> int:
+    """Runs `bbmlab golly`."""
+    document = read_design(options.file)
+    on = tracing.chosen_inputs(document, options.on)
+    start = tracing.trace_layout(document.layout, on, 0, 0).states[0]
+    write_text(options.output, golly.golly_text(document.layout, start, on, tracing.layout_lines(document)))
+    return 0
+
+
+def from_golly_command(options: argparse.Namespace) -> int:
+    """Runs `bbmlab from-golly`."""
+    write_text(options.output, golly.layout_from_golly(read_text(options.file)))
+    return 0
+
+
+def grid_sides(word: str) -> tuple[int, int]:
+    """Returns the sides of boxes, written W,H or WxH."""
+    sides = word.lower().replace("x", ",").split(",")
+    if len(sides) != 2 or not all(side.isdigit() for side in sides):
+        raise argparse.ArgumentTypeError("it is W,H, such as 16,16")
+    return int(sides[0]), int(sides[1])
+
+
 def positive(word: str) -> int:
     """Returns a whole number from 1."""
     number = int(word)
@@ -180,7 +293,68 @@ def add_fmt(commands: Commands) -> None:
     parser.add_argument("--check", action="store_true", help="write nothing; exit 1 if a file would change")
 
 
-ADDERS = [add_check, add_explain, add_fmt]
+def add_file(parser: argparse.ArgumentParser, about: str) -> None:
+    """Adds the file that a command reads, and the one that it writes."""
+    parser.add_argument("file", metavar="FILE", help=f"{about}, or - for standard input")
+    parser.add_argument("-o", "--output", metavar="FILE", help="write to this file (default: standard output)")
+
+
+def add_certify(commands: Commands) -> None:
+    """Adds `certify`."""
+    parser = commands.add("certify", certify_command, "Make a certificate for a circuit and a layout.",
+                          "Example: bbmlab certify --grid 16,16 design.txt -o bundle.txt")
+    add_file(parser, "a text that begins with a circuit and a layout")
+    parser.add_argument("--grid", type=grid_sides, metavar="W,H", help="cut the layout into boxes of W by H cells, even and at most 64")
+    parser.add_argument("--plain", action="store_true", help="one module for the whole layout, without edge lines")
+    parser.add_argument("--version", dest="version_of_text", type=int, choices=[1, 2], default=2, help="certificate version (default: 2)")
+    parser.add_argument("--cuts", choices=["safe", "cheap"], default="safe",
+                        help="safe: use all gates back to the inputs. cheap: cut wires where they come in, where that holds (default: safe)")
+
+
+def add_trace(commands: Commands) -> None:
+    """Adds `trace`."""
+    parser = commands.add("trace", trace_command, "Write the live cells at each time; the last state is compared with the program's run.",
+                          "Example: bbmlab trace examples/head_on.txt --on p,q")
+    add_file(parser, "a bundle, a circuit and a layout, or a layout with or without an assign section")
+    parser.add_argument("--on", metavar="NAMES", help="the inputs that are on, with commas between (default: those of the assign section)")
+    parser.add_argument("--from", dest="start", type=int, default=0, metavar="T", help="the first time (default: 0)")
+    parser.add_argument("--to", type=int, metavar="T", help="the last time (default: the layout's steps)")
+    parser.add_argument("--module", type=int, metavar="M", help="run this module of the certificate by itself")
+    parser.add_argument("--assignment", type=int, default=0, metavar="A", help="bit i of A is the value of the module's cut i (default: 0)")
+    parser.add_argument("--pictures", action="store_true", help="add a small picture at each time")
+    parser.add_argument("--json", action="store_true", help="write one JSON document")
+    add_program(parser)
+
+
+def add_draw(commands: Commands) -> None:
+    """Adds `draw`."""
+    parser = commands.add("draw", draw_command, "Draw a layout as SVG: mirrors, ports, modules, balls at a time or their ways.",
+                          "Example: bbmlab draw examples/fredkin_gate.txt --ways -o ways.svg")
+    add_file(parser, "a text with a layout")
+    parser.add_argument("--on", metavar="NAMES", help="the inputs that are on, with commas between")
+    which = parser.add_mutually_exclusive_group()
+    which.add_argument("--time", type=int, default=0, metavar="T", help="the time that is shown (default: 0)")
+    which.add_argument("--ways", action="store_true", help="the ways of the balls over all times, coloured by wire")
+    parser.add_argument("--report", metavar="FILE", help="mark the cells of the faults of this report")
+
+
+def add_others(commands: Commands) -> None:
+    """Adds `json`, `golly` and `from-golly`."""
+    parser = commands.add("json", json_command, "Write a text and its report as one JSON document, or the text of such a document.",
+                          "Example: bbmlab json bundle.txt | bbmlab json --back -")
+    add_file(parser, "a text, or a JSON document with --back")
+    parser.add_argument("--back", action="store_true", help="read a JSON document and write its text")
+    parser.add_argument("--report", metavar="FILE", help="add this report to the document")
+    parser = commands.add("golly", golly_command, "Write the start of a layout as an RLE file for Golly.",
+                          "Example: bbmlab golly examples/head_on.txt --on p,q -o head_on.rle")
+    add_file(parser, "a text with a layout")
+    parser.add_argument("--on", metavar="NAMES", help="the inputs that are on, with commas between")
+    parser = commands.add("from-golly", from_golly_command, "Write the layout of an RLE file: that of its comments, or its live cells as balls.",
+                          "Example: bbmlab from-golly pattern.rle")
+    add_file(parser, "an RLE file for Golly's rule BBM-Margolus-emulated")
+
+
+ADDERS = [add_check, add_explain, add_trace, add_draw, add_certify, add_fmt, add_others]
 
 
 def main(words: list[str] | None = None) -> int:

@@ -45,6 +45,4 @@ def text_picture(box: tuple[int, int, int, int], live: set[Cell], mirrors: set[C
             else:
                 line += " "
         picture.append(f"{v if v >= 0 else '':>4} {line}".rstrip())
-    while picture and not picture[-1][4:].strip():
-        picture.pop()
-    return picture
+    return [row for row in picture if row[4:].strip()]
