@@ -130,7 +130,7 @@ class Maker:
         """Writes the edge lines of all modules, and in version 1 the halo lines."""
         self.require_quiet_rim(plan)
         lines = [BorderLine("edge", None, *cell_of(key), "1", 0) for key in plan.always]
-        lines += [BorderLine("edge", time, *cell_of(key), self.signal(key, table, time), 0) for time, key, table in plan.timed]
+        lines += [BorderLine("edge", time, *cell_of(key), self.signal(key, table, time), 0) for time, key, table in sorted(plan.timed)]
         for line in sorted(lines, key=lambda line: line.place):
             self.owner(line.cell).edges.append(line)
             if self.version == 1:

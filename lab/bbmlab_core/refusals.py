@@ -60,6 +60,11 @@ def near(name: str, known: list[str]) -> str:
     return f" Did you mean {' or '.join(f'`{other}`' for other in alike)}?" if alike else ""
 
 
+def earlier(facts: Facts) -> str:
+    """Returns the line of what comes before, where it is not the refused line itself."""
+    return "on this line" if facts["at"] == facts["here"] else f"line {facts['at']}"
+
+
 def box_words(box: Any) -> str:
     """Returns a box as its columns and rows."""
     return f"columns {box.x} to {box.x + box.width - 1}, rows {box.y} to {box.y + box.height - 1}"
@@ -337,13 +342,13 @@ def _on_twice(facts: Facts) -> Explained:
 
 @tells("wire_defined")
 def _wire_defined(facts: Facts) -> Explained:
-    return Explained([f"The wire `{facts['name']}` is defined already (line {facts['at']})."], ["Give one of the two another name."],
+    return Explained([f"The wire `{facts['name']}` is defined already ({earlier(facts)})."], ["Give one of the two another name."],
                      names=[facts["name"]], lines=[facts["at"]])
 
 
 @tells("wire_consumed")
 def _wire_consumed(facts: Facts) -> Explained:
-    return Explained([f"The wire `{facts['name']}` is consumed already (line {facts['at']}): no wire branches."],
+    return Explained([f"The wire `{facts['name']}` is consumed already ({earlier(facts)}): no wire branches."],
                      ["Use another wire, or copy the value by a gate, such as a `switch` with a source."], names=[facts["name"]], lines=[facts["at"]])
 
 
@@ -467,7 +472,7 @@ def explain_refusal(document: Document, refusal: Refusal) -> Explained:
         hints = shape_hints(line, refusal.facts["section"], refusal.facts["begun"], refusal.facts["forms"])
         explained = Explained([what for what, _ in hints], list(dict.fromkeys(cure for _, cure in hints)))
     else:
-        explained = TELLERS[refusal.cause](refusal.facts)
+        explained = TELLERS[refusal.cause]({"here": refusal.line, **refusal.facts})
     explained.rule = RULES[refusal.code]
     return explained
 
