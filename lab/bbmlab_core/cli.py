@@ -167,25 +167,31 @@ def report_for(options: argparse.Namespace) -> Report | None:
     return parse_report(read_text(options.report)) if options.report else None
 
 
-def draw_command(options: argparse.Namespace) -> int:
-    """Runs `bbmlab draw`."""
-    document, report = read_design(options.file), report_for(options)
+def picture_of(file: str, names: str | None, time: int | None, report: Report | None = None) -> str:
+    """Returns the picture of a text at a time, or without a time the ways of its balls."""
+    document = read_design(file)
     layout = document.layout
-    on = tracing.chosen_inputs(document, options.on)
+    on = tracing.chosen_inputs(document, names)
+    under = f" with {' '.join(on) or 'no input'} on"
     picture = drawing.Drawing(modules=document.certificate.modules if document.certificate else [])
-    if options.ways:
-        picture.ways = drawing.ball_ways(document, on if options.on is not None else None, layout.steps)
-        picture.title = "ways of the balls" + (f" with {' '.join(on) or 'no input'} on" if options.on is not None else "")
+    if time is None:
+        picture.ways = drawing.ball_ways(document, on if names is not None else None, layout.steps)
+        picture.title = "ways of the balls" + (under if names is not None else "")
     else:
-        trace = tracing.trace_layout(layout, on, options.time, options.time)
+        trace = tracing.trace_layout(layout, on, time, time)
         if not trace.states:
-            raise LabError(f"there is no time {options.time}: the run ends at {layout.steps if trace.left is None else trace.left - 1}", 2)
-        picture.live, picture.title = trace.states[0], f"time {options.time} with {' '.join(on) or 'no input'} on"
+            raise LabError(f"there is no time {time}: the run ends at {layout.steps if trace.left is None else trace.left - 1}", 2)
+        picture.live, picture.title = trace.states[0], f"time {time}{under}"
     for finding in report.faults if report else []:
         if "x" in finding.values:
             picture.faults.append(((finding.number("x"), finding.number("y")), finding.text))
     wires = list(document.circuit.defined) if document.circuit else tracing.port_names(layout)
-    write_text(options.output, drawing.svg(layout, picture, wires))
+    return drawing.svg(layout, picture, wires)
+
+
+def draw_command(options: argparse.Namespace) -> int:
+    """Runs `bbmlab draw`."""
+    write_text(options.output, picture_of(options.file, options.on, None if options.ways else options.time, report_for(options)))
     return 0
 
 

@@ -18,13 +18,13 @@ COLOURS = ["#0072b2", "#d55e00", "#009e73", "#cc79a7", "#e69f00", "#56b4e9", "#8
 DASHES = ["", "6 2", "2 2", "8 2 2 2", "4 4", "1 3", "10 3", "6 2 1 2 1 2"]
 SEVERAL = "#777777"
 
-STYLE = """text{font:7px sans-serif;fill:var(--ink)}.name{font-weight:bold;font-size:8px}.in{fill:none;stroke:var(--ink);stroke-width:1}
-.out{fill:none;stroke:var(--ink);stroke-width:1;stroke-dasharray:2 1.5}.waste{stroke:var(--ink);stroke-width:1}
-.mirror{fill:var(--mirror)}.ball{fill:var(--ball)}.box{fill:none;stroke:var(--box);stroke-width:1.2;stroke-dasharray:5 3}
-.number{fill:var(--box);font-size:8px}.fault{fill:none;stroke:#d00000;stroke-width:2.5}.way{fill:none;stroke-width:2;stroke-linecap:round}
-.back{fill:var(--paper)}.plane{fill:var(--plane)}.line{stroke:var(--line);stroke-width:.4}
-svg{--ink:#222;--mirror:#8a8f98;--ball:#111;--box:#7a3db8;--paper:#fff;--plane:#f7f7f4;--line:#dcdcd6}
-@media(prefers-color-scheme:dark){svg{--ink:#eee;--mirror:#8a8f98;--ball:#fff;--box:#c79bff;--paper:#16181c;--plane:#1e2126;--line:#343840}}"""
+STYLE = """text{font:7px sans-serif;fill:#222}.name{font-weight:bold;font-size:8px}.in{fill:none;stroke:#222}
+.out{fill:none;stroke:#222;stroke-dasharray:2 1.5}.waste{stroke:#222;fill:none}.mirror{fill:#9aa0aa}.ball{fill:#111}
+.box{fill:none;stroke:#7a3db8;stroke-width:1.2;stroke-dasharray:5 3}.number{fill:#7a3db8;font-size:8px}
+.fault{fill:none;stroke:#d00000;stroke-width:2.5}.way{fill:none;stroke-width:2.2;stroke-linecap:round}
+.back{fill:#fff}.plane{fill:#f7f7f4}.line{stroke:#dcdcd6;stroke-width:.4}
+@media(prefers-color-scheme:dark){text{fill:#eee}.in,.out,.waste{stroke:#eee}.mirror{fill:#7c828c}.ball{fill:#fff}
+.box{stroke:#c79bff}.number{fill:#c79bff}.back{fill:#16181c}.plane{fill:#1e2126}.line{stroke:#343840}}"""
 
 
 @dataclass
@@ -160,12 +160,15 @@ def way_parts(ways: dict[tuple[Cell, Cell], set[str]], wires: list[str]) -> list
         for name in names:
             by_wire.setdefault(name, []).append(segment)
     styles, parts = wire_style([wire for wire in [*wires, "1"] if wire in by_wire]), []
-    for wire in sorted(by_wire, key=lambda name: [*wires, "1", ""].index(name)):
+    order = [wire for wire in [*wires, "1", ""] if wire in by_wire]
+    for index, wire in enumerate(order):
         colour, dash = styles[wire]
+        # Later ways are thinner, so that one below another is still seen.
+        width = 5 - 3.4 * index / max(1, len(order) - 1)
         path = "".join(f"M{short(centre(a)[0])} {short(centre(a)[1])}L{short(centre(b)[0])} {short(centre(b)[1])}" for a, b in merged(by_wire[wire]))
         dashes = f' stroke-dasharray="{dash}"' if dash else ""
         title = {"": "several wires", "1": "constant"}.get(wire, wire)
-        parts.append(f'<path class="way" stroke="{colour}"{dashes} d="{path}"><title>{escape(title)}</title></path>')
+        parts.append(f'<path class="way" style="stroke-width:{short(width)}" stroke="{colour}"{dashes} d="{path}"><title>{escape(title)}</title></path>')
     return parts
 
 

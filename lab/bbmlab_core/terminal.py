@@ -54,6 +54,6 @@ def write_text(name: str | None, text: str) -> None:
         sys.stdout.write(text)
         return
     try:
-        Path(str(name)).write_text(text, encoding="latin-1" if text.isascii() else "utf-8")
+        Path(str(name)).write_text(text, encoding="utf-8")
     except OSError as error:
         raise LabError(f"{name}: {error.strerror or error}") from error
