@@ -5,7 +5,7 @@ import os
 import sys
 from typing import Callable
 
-from . import VERSION, certify, checking, drawing, explaining, golly, json_form, tracing
+from . import VERSION, certify, checking, drawing, explaining, golly, json_form, tracing, viewing
 from .documents import Document, command_for, read_document
 from .explaining import Explanation
 from .pictures import LEGEND
@@ -195,6 +195,20 @@ def draw_command(options: argparse.Namespace) -> int:
     return 0
 
 
+def view_command(options: argparse.Namespace) -> int:
+    """Runs `bbmlab view`. A bundle is checked by the program, where there is one."""
+    document, explanation = read_design(options.file), None
+    if document.certificate:
+        try:
+            output = read_text(options.report) if options.report else ask(
+                find_program(options.program), "check", document.text.encode("latin-1"), options.timeout).output
+            explanation = explaining.explain_answer(document.text, "check", output, options.file)
+        except (ProgramError, ProgramTimeout) as error:
+            print(f"bbmlab: the page has no report: {error}", file=sys.stderr)
+    write_text(options.output, viewing.page(document, explanation, os.path.basename(options.file)))
+    return 0
+
+
 def json_command(options: argparse.Namespace) -> int:
     """Runs `bbmlab json`."""
     if options.back:
@@ -344,6 +358,15 @@ def add_draw(commands: Commands) -> None:
     parser.add_argument("--report", metavar="FILE", help="mark the cells of the faults of this report")
 
 
+def add_view(commands: Commands) -> None:
+    """Adds `view`."""
+    parser = commands.add("view", view_command, "Write one HTML file that shows a layout in a browser, without a network.",
+                          "Example: bbmlab view examples/wrong_edge.txt -o wrong_edge.html")
+    add_file(parser, "a text with a layout")
+    parser.add_argument("--report", metavar="FILE", help="show this report in place of running the program")
+    add_program(parser)
+
+
 def add_others(commands: Commands) -> None:
     """Adds `json`, `golly` and `from-golly`."""
     parser = commands.add("json", json_command, "Write a text and its report as one JSON document, or the text of such a document.",
@@ -360,7 +383,7 @@ def add_others(commands: Commands) -> None:
     add_file(parser, "an RLE file for Golly's rule BBM-Margolus-emulated")
 
 
-ADDERS = [add_check, add_explain, add_trace, add_draw, add_certify, add_fmt, add_others]
+ADDERS = [add_check, add_explain, add_trace, add_draw, add_view, add_certify, add_fmt, add_others]
 
 
 def main(words: list[str] | None = None) -> int:
