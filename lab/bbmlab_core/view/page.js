@@ -6,7 +6,8 @@ const element = (id) => document.getElementById(id);
 const layout = data.layout, modules = data.certificate ? data.certificate.modules : [];
 const mirrors = new Set(startKeys({ mirrors: layout.mirrors, balls: [], ins: [] }, () => false));
 const names = data.circuit ? data.circuit.inputs : [...new Set(layout.ins.map((port) => port.name))];
-const view = { on: new Set(), run: null, last: null, own: null, fault: null, scale: 10, left: 0, top: 0, timer: null };
+const view = { on: new Set(), run: null, ahead: null, last: null, own: null, fault: null, scale: 10, left: 0, top: 0, timer: null };
+const said = linesByTime();
 const colour = (name) => getComputedStyle(document.documentElement).getPropertyValue(`--${name}`).trim();
 
 // Begins a run anew with the inputs that are on, and keeps the time.
@@ -14,8 +15,25 @@ function restart() {
   const time = view.run ? view.run.time : 0;
   view.run = new WholeRun(layout, view.on);
   view.last = null;
+  clearTimeout(view.aheadTimer);
+  view.ahead = new WholeRun(layout, view.on);
+  view.ahead.snapshots = view.run.snapshots;
+  runAhead();
   seek(time);
-  showOutputs();
+}
+
+// Runs to the last time in slices, so that the page stays quick. Its snapshots serve the slider too.
+function runAhead() {
+  const until = performance.now() + 20, ahead = view.ahead;
+  let moved = true;
+  while (moved && performance.now() < until) moved = ahead.forward();
+  if (moved) {
+    element("outputs").textContent = `running to the last time: ${ahead.time} of ${layout.steps}`;
+    view.aheadTimer = setTimeout(runAhead, 0);
+  } else {
+    showOutputs();
+    if (view.run.time === layout.steps) paint();
+  }
 }
 
 function seek(time) {
@@ -28,13 +46,12 @@ function seek(time) {
   paint();
 }
 
-// Compares the outputs with the circuit's values: in a run of its own, so that the time stays.
+// Compares the outputs at the last time with the circuit's values.
 function showOutputs() {
-  const box = element("outputs");
+  const box = element("outputs"), last = view.ahead;
   box.replaceChildren();
   if (!data.circuit) { box.textContent = "no circuit"; return; }
-  const last = new WholeRun(layout, view.on), values = circuitValues(data.circuit, view.on);
-  last.seek(layout.steps);
+  const values = circuitValues(data.circuit, view.on);
   view.last = new Map();
   for (const port of layout.outs) {
     const wanted = Boolean(values.get(port.name)), isGood = last.time === layout.steps && last.live.has(keyOf(...port.cell)) === wanted;
@@ -47,17 +64,23 @@ function showOutputs() {
   }
 }
 
-// The edge, halo and stop lines that speak of this time.
-function linesNow() {
-  const time = view.run.time, found = [];
+// The edge, halo and stop lines by their times; lines for all odd times stand at "*".
+function linesByTime() {
+  const found = new Map();
+  const add = (time, line) => { if (!found.has(time)) found.set(time, []); found.get(time).push(line); };
   modules.forEach((module, number) => {
-    const odd = time % 2 === 1 && time < layout.steps;
     for (const [kind, lines] of [["edge", module.edges], ["halo", module.halos]]) {
-      for (const [at, x, y, signal] of odd ? lines : []) if (at === null || at === time) found.push({ kind, number, x, y, signal });
+      for (const [time, x, y, signal] of lines) add(time === null ? "*" : time, { kind, number, x, y, signal });
     }
-    for (const [at, signal, x, y] of module.stops) if (at === time) found.push({ kind: "stop", number, x, y, signal });
+    for (const [time, signal, x, y] of module.stops) add(time, { kind: "stop", number, x, y, signal });
   });
   return found;
+}
+
+// The lines that speak of this time.
+function linesNow() {
+  const time = view.run.time, timed = said.get(time) || [];
+  return time % 2 === 1 && time < layout.steps ? [...timed, ...(said.get("*") || [])] : timed;
 }
 
 function showLines() {
