@@ -11,6 +11,8 @@ from .simulation import Field, ModuleRun, Table, WholeRun, cell_of, end_tables, 
 
 MAX_INPUTS = 12
 MAX_WORK = 20_000_000
+# The most steps for which the whole run is made under all inputs.
+MAX_STEPS = 5000
 
 
 @dataclass
@@ -150,6 +152,41 @@ class Diagnosis:
             if not run.step():
                 break
         return good
+
+    def can_run_whole(self) -> bool:
+        """Whether a run of the whole layout under all inputs takes seconds at most."""
+        return self.is_small() and self.layout.steps <= MAX_STEPS
+
+    def whole_fault(self) -> str | None:
+        """Returns how the whole run goes against the layout, whatever the certificate says, or None where it does not."""
+        values = self.valuation()
+        run = WholeRun(self.layout, values.tables, values.full)
+        if not run.run_to(self.layout.steps):
+            assert run.left is not None
+            inputs = self.inputs_of(lowest_bit(run.left[1]))
+            return f"with {inputs} step {run.left[0]} makes the cell ({run.left[2][0]}, {run.left[2][1]}) outside the rectangle live"
+        wanted = {key_of(cell): table for cell, table in end_tables(self.layout, values.tables, values.full).items()}
+        for key in sorted(wanted.keys() | run.field.live.keys()):
+            table = wanted.get(key, 0)
+            differs = 0 if table is None else table ^ run.field.live.get(key, 0)
+            if differs:
+                inputs, (x, y) = self.inputs_of(lowest_bit(differs)), cell_of(key)
+                is_live = run.field.live.get(key, 0) >> lowest_bit(differs) & 1
+                return f"with {inputs} the cell ({x}, {y}) is {'live' if is_live else 'dead'} at the end and should be {'dead' if is_live else 'live'}"
+        return None
+
+    def inputs_of(self, assignment: int) -> str:
+        """Returns a choice of inputs as `p=1 q=0`."""
+        return " ".join(f"{name}={assignment >> index & 1}" for index, name in enumerate(self.circuit.inputs)) or "no inputs"
+
+    def is_always_live(self, cell: Cell) -> bool:
+        """Whether a cell is live at each odd time below the steps, whatever the inputs."""
+        values = self.valuation()
+        run = WholeRun(self.layout, values.tables, values.full)
+        while run.time < self.layout.steps:
+            if run.time % 2 and run.field.live.get(key_of(cell), 0) != values.full or not run.step():
+                return False
+        return True
 
     def module_of(self, finding: Finding) -> Module:
         """Returns the module of a line of a report."""

@@ -110,8 +110,20 @@ def explain_report(document: Document, report: Report, file: str) -> Explanation
         if sum(1 for finding in report.faults if finding.word == "local") > 1:
             first = min((finding for finding in report.faults if finding.word == "local"), key=lambda finding: finding.number("time"))
             headline.append(f"Begin with `{first.text}`, which has the least time: others may come of it.")
+        headline += whole_run_words(diagnosis, any(finding.word in ("local", "border") for finding in report.faults))
     headline.append(f"The certificate has {report.modules} module{'s' if report.modules != 1 else ''}; its digest is {report.digest[:16]}..")
     return Explanation(file, "check", headline, report.verdict, entries)
+
+
+def whole_run_words(diagnosis: Diagnosis, has_fault: bool) -> list[str]:
+    """Returns whether the whole run ends as the layout asks, under all inputs, where that can be tried."""
+    if not diagnosis.can_run_whole():
+        return ["The whole run was not tried here: too many inputs or steps."]
+    fault = diagnosis.whole_fault()
+    if fault:
+        return [f"The layout itself does not do what the circuit asks: {fault}. No certificate mends that: mend the layout, or the circuit, first."]
+    so = ", so the certificate is to be mended" if has_fault else ""
+    return [f"The whole run was tried here under all inputs: it ends as the layout asks{so}."]
 
 
 def explain_refused(document: Document, line: int, code: int, file: str) -> Explanation:

@@ -159,6 +159,8 @@ def add_cause(diagnosis: Diagnosis, module: Module, finding: Finding, entry: Ent
     else:
         entry.cause = "line"
         add_line_cure(diagnosis, finding, cell, entry)
+        if diagnosis.can_run_whole() and diagnosis.whole_fault():
+            entry.cures = [f"The layout is wrong too, so mend it first. If it is meant so here: {cure[0].lower()}{cure[1:]}" for cure in entry.cures]
 
 
 def add_difference(diagnosis: Diagnosis, module: Module, entry: Entry, difference: Difference) -> None:
@@ -197,6 +199,7 @@ def unheard_cure(diagnosis: Diagnosis, module: Module, cell: Cell, time: int, is
 def add_line_cure(diagnosis: Diagnosis, finding: Finding, cell: Cell, entry: Entry) -> None:
     """Adds what the whole run has at the cell of an edge or stop fault, and the line that would hold."""
     time, kind = finding.number("time"), finding.values["kind"]
+    entry.what += mirror_note(diagnosis, cell)
     entry.what.append("The run of the whole layout has the cell so too: the line of the certificate is wrong or missing.")
     signal, where = diagnosis.signal_of(cell, time), f"{cell[0]} {cell[1]}"
     if kind == "stop":
@@ -205,11 +208,22 @@ def add_line_cure(diagnosis: Diagnosis, finding: Finding, cell: Cell, entry: Ent
         entry.cures.append(f"The cell is never live at time {time}: remove the line.")
     elif signal is None:
         entry.cures.append(f"No wire of the circuit is true exactly where the cell is live at time {time}: move the border of the module.")
+    elif signal == "1" and diagnosis.can_run_whole() and diagnosis.is_always_live(cell):
+        entry.cures.append(f"The cell is always live at odd times: write `edge * {where} 1` in module {finding.number('module')}.")
     elif entry.line is None:
         entry.cures.append(f"Add `edge {time} {where} {signal}` to module {finding.number('module')}.")
     else:
         moves = "; the mirror there does not stay, so `*` does not hold" if (entry.facts["text"] or "").startswith("edge *") else ""
         entry.cures.append(f"Write `edge {time} {where} {signal}` for line {entry.line}{moves}.")
+
+
+def mirror_note(diagnosis: Diagnosis, cell: Cell) -> list[str]:
+    """Returns a note where the cell is of a mirror that need not stay as it is."""
+    part = diagnosis.layout.part_at(cell, ("mirror",))
+    if part is None or not (part.width % 2 or part.height % 2 or part.x % 2 or part.y % 2 == 0):
+        return []
+    return [f"The cell is of the mirror of line {part.line} (`{diagnosis.document.line(part.line)}`). A mirror is sure to stay if its width and "
+            "height are even, X is even and Y is odd; this one is not of that form."]
 
 
 def add_stop_cure(diagnosis: Diagnosis, cell: Cell, time: int, signal: str | None, entry: Entry) -> None:
@@ -234,6 +248,7 @@ def add_stop_cure(diagnosis: Diagnosis, cell: Cell, time: int, signal: str | Non
 
 def add_layout_cure(diagnosis: Diagnosis, cell: Cell, entry: Entry) -> None:
     """Adds what is wrong with a layout whose whole run does not end as it asks."""
+    entry.what += mirror_note(diagnosis, cell)
     entry.what.append("The run of the whole layout ends so too: the layout is wrong, and no certificate mends it.")
     good = diagnosis.good_steps()
     if good:

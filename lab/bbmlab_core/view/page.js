@@ -169,8 +169,8 @@ function paintPorts(pen, place) {
 
 function paintModules(pen, place) {
   pen.strokeStyle = pen.fillStyle = colour("box");
-  pen.setLineDash([6, 4]);
-  pen.lineWidth = 1;
+  pen.setLineDash(place.scale < 4 ? [] : [6, 4]);
+  pen.lineWidth = place.scale < 4 ? 0.3 : 1;
   pen.font = "11px sans-serif";
   pen.textAlign = "left";
   modules.forEach(({ box: [x, y, w, h] }, number) => {
