@@ -1,6 +1,7 @@
 """What can be found out about a line of a report: the module's own run, the whole run, and which inputs give an assignment."""
 
 from dataclasses import dataclass, field
+from functools import cached_property
 
 from .certificates import Module
 from .circuits import Circuit, Valuation, evaluate
@@ -10,7 +11,6 @@ from .reports import Finding
 from .simulation import Field, ModuleRun, Table, WholeRun, cell_of, end_tables, key_of, lowest_bit
 
 MAX_INPUTS = 12
-MAX_WORK = 20_000_000
 # The most steps for which the whole run is made under all inputs.
 MAX_STEPS = 5000
 
@@ -47,7 +47,9 @@ class Diagnosis:
         self.certificate = document.certificate
         self.mirrors = self.layout.mirror_cells()
         self._valuation: Valuation | None = None
-        self._states: dict[tuple[str, ...], list[set[Cell]]] = {}
+        self._fields: dict[int, Field | None] = {}
+        # The lines whose causes are looked for by runs; None stands for all.
+        self.detailed: set[str] | None = None
 
     def is_small(self) -> bool:
         """Whether all assignments of the inputs can be tried."""
@@ -111,13 +113,14 @@ class Diagnosis:
 
     def whole_field(self, time: int) -> Field | None:
         """Returns the whole run under all assignments of the inputs at a time, or None where that is too much."""
-        cells = sum(part.width * part.height for part in self.layout.parts)
-        if not self.is_small() or cells * 4 + time * 200 > MAX_WORK:
-            return None
-        values = self.valuation()
-        run = WholeRun(self.layout, values.tables, values.full)
-        run.run_to(time)
-        return run.field if run.time == time and run.left is None else None
+        if time not in self._fields:
+            run = None
+            if self.can_run_whole():
+                values = self.valuation()
+                run = WholeRun(self.layout, values.tables, values.full)
+                run.run_to(time)
+            self._fields[time] = run.field if run and run.time == time and run.left is None else None
+        return self._fields[time]
 
     def wires_with(self, table: Table) -> list[str]:
         """Returns the wires that have a table over all assignments of the inputs."""
@@ -136,9 +139,10 @@ class Diagnosis:
         field_ = self.whole_field(time)
         return None if field_ is None else self.signal_for(field_.live.get(key_of(cell), 0))
 
+    @cached_property
     def good_steps(self) -> list[int]:
         """Returns the numbers of steps, up to twice those of the layout, after which the whole run is as the layout asks."""
-        if not self.is_small():
+        if not self.can_run_whole():
             return []
         values = self.valuation()
         wanted = {key_of(cell): table for cell, table in end_tables(self.layout, values.tables, values.full).items()}
@@ -157,6 +161,7 @@ class Diagnosis:
         """Whether a run of the whole layout under all inputs takes seconds at most."""
         return self.is_small() and self.layout.steps <= MAX_STEPS
 
+    @cached_property
     def whole_fault(self) -> str | None:
         """Returns how the whole run goes against the layout, whatever the certificate says, or None where it does not."""
         values = self.valuation()

@@ -11,6 +11,10 @@ from .refusals import Explained, explain_code, explain_refusal, listed
 from .reports import Finding, Report, parse_report
 
 
+# Of how many modules the faults are told in full, with runs and pictures.
+MAX_DETAILED = 12
+
+
 @dataclass
 class Explanation:
     """An answer in words. A refusal has `refused` and no entries."""
@@ -101,15 +105,16 @@ def explain_report(document: Document, report: Report, file: str) -> Explanation
     if report.refused:
         return explain_refused(document, *report.refused, file)
     diagnosis = Diagnosis(document)
+    faults = sorted((finding for finding in report.faults if finding.word == "local"), key=lambda finding: finding.number("time"))
+    diagnosis.detailed = {finding.text for finding in faults[:MAX_DETAILED]}
     entries = [EXPLAINERS[finding.word](diagnosis, finding) for finding in report.findings]
     count = len(report.faults)
     if report.verdict == "yes":
         headline = [f"The verdict is yes: for each choice of the {len(diagnosis.circuit.inputs)} inputs the layout computes the circuit."]
     else:
         headline = [f"The verdict is no, for {count} reason{'s' if count != 1 else ''}."]
-        if sum(1 for finding in report.faults if finding.word == "local") > 1:
-            first = min((finding for finding in report.faults if finding.word == "local"), key=lambda finding: finding.number("time"))
-            headline.append(f"Begin with `{first.text}`, which has the least time: others may come of it.")
+        if len(faults) > 1:
+            headline.append(f"Begin with `{faults[0].text}`, which has the least time: others may come of it.")
         headline += whole_run_words(diagnosis, any(finding.word in ("local", "border") for finding in report.faults))
     headline.append(f"The certificate has {report.modules} module{'s' if report.modules != 1 else ''}; its digest is {report.digest[:16]}..")
     return Explanation(file, "check", headline, report.verdict, entries)
@@ -119,7 +124,7 @@ def whole_run_words(diagnosis: Diagnosis, has_fault: bool) -> list[str]:
     """Returns whether the whole run ends as the layout asks, under all inputs, where that can be tried."""
     if not diagnosis.can_run_whole():
         return ["The whole run was not tried here: too many inputs or steps."]
-    fault = diagnosis.whole_fault()
+    fault = diagnosis.whole_fault
     if fault:
         return [f"The layout itself does not do what the circuit asks: {fault}. No certificate mends that: mend the layout, or the circuit, first."]
     so = ", so the certificate is to be mended" if has_fault else ""

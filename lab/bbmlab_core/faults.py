@@ -117,6 +117,9 @@ def explain_local(diagnosis: Diagnosis, finding: Finding) -> Entry:
     entry.facts = {"module": module.number, "kind": finding.values["kind"], "time": time, "cell": list(cell),
                    "assignment": values, "found": found, "wanted": want, "occurs": occurrence.occurs, "inputs": occurrence.inputs,
                    "text": wanted.text, "box": [module.box.x, module.box.y, module.box.width, module.box.height]}
+    if diagnosis.detailed is not None and finding.text not in diagnosis.detailed:
+        entry.cures.append("Many modules have faults: mend those with the least times first, which are told in full.")
+        return entry
     live, heard = diagnosis.module_state(module, assignment, time)
     box = module.box
     entry.picture = [f"Module {module.number} by itself at time {time} with {names}:",
@@ -159,7 +162,7 @@ def add_cause(diagnosis: Diagnosis, module: Module, finding: Finding, entry: Ent
     else:
         entry.cause = "line"
         add_line_cure(diagnosis, finding, cell, entry)
-        if diagnosis.can_run_whole() and diagnosis.whole_fault():
+        if diagnosis.can_run_whole() and diagnosis.whole_fault:
             entry.cures = [f"The layout is wrong too, so mend it first. If it is meant so here: {cure[0].lower()}{cure[1:]}" for cure in entry.cures]
 
 
@@ -250,7 +253,7 @@ def add_layout_cure(diagnosis: Diagnosis, cell: Cell, entry: Entry) -> None:
     """Adds what is wrong with a layout whose whole run does not end as it asks."""
     entry.what += mirror_note(diagnosis, cell)
     entry.what.append("The run of the whole layout ends so too: the layout is wrong, and no certificate mends it.")
-    good = diagnosis.good_steps()
+    good = diagnosis.good_steps
     if good:
         best = min(good, key=lambda steps: abs(steps - diagnosis.layout.steps))
         entry.cures.append(f"After {best} steps everything is as the layout asks: write "
