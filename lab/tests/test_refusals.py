@@ -101,6 +101,25 @@ class Refusals(unittest.TestCase):
             if refusal.cause == "port_not_local":
                 self.assertRegex(text, rf"\n(in|out) {told.names[0]} ")
 
+    def test_places_of_code_10(self) -> None:
+        """Each reason that is told for a place holds by the numbers of the text, and each that holds is told."""
+        for case, document, refusal, told in self.told:
+            if refusal.code != 10:
+                continue
+            words = " ".join(told.what)
+            for reason, holds in place_reasons(document, refusal.line).items():
+                self.assertEqual(reason in words, holds, f"{case.name}: {reason}: {words}")
+
+    def test_cells_of_code_7(self) -> None:
+        """A cell that is said to be taken is one of the refused line and of the line that is named."""
+        for case, document, refusal, told in self.told:
+            if refusal.cause == "cell_taken":
+                x, y = map(int, re.search(r"\((\d+), (\d+)\)", told.what[0]).groups())
+                for number in (refusal.line, told.lines[0]):
+                    u, v, *sides = [int(word) for word in document.line(number).split(" ") if word.isdigit()]
+                    w, h = sides or (1, 1)
+                    self.assertTrue(u <= x < u + w and v <= y < v + h, f"{case.name}: line {number}")
+
     def test_bytes_of_code_1(self) -> None:
         """What is wrong with the bytes of a line is said."""
         base = "circuit\ninput p\noutput p\nend\n"
@@ -119,6 +138,27 @@ class Refusals(unittest.TestCase):
         used = {refusal.cause for _, _, refusal, _ in self.told}
         self.assertLessEqual(used - {"shape"}, set(TELLERS))
         self.assertEqual(set(TELLERS) - used, {"keep_not_used", "border_count"})
+
+
+def place_reasons(document: support.Document, number: int) -> dict[str, bool]:
+    """Returns which reasons of code 10 hold for a line, by the numbers of the text alone."""
+    lines = document.text.split("\n")
+    kind, *words = lines[number - 1].split(" ")
+    x, y = (int(word) for word in (words[2:4] if kind == "stop" else words[1:3]))
+    time = None if words[0] == "*" else int(words[0])
+    box = next(line for line in reversed(lines[:number]) if line.startswith("module ")).split(" ")
+    left, top, w, h = map(int, box[1:])
+    width, height, steps = map(int, next(line for line in lines if line.startswith("layout ")).split(" ")[1:])
+    inside = left <= x < left + w and top <= y < top + h
+    inner = left < x < left + w - 1 and top < y < top + h - 1
+    beside = not inside and left - 1 <= x <= left + w and top - 1 <= y <= top + h
+    if kind == "stop":
+        return {"is not in the box": not inside, "after the last time": time > steps}
+    return {"is even": time is not None and time % 2 == 0, "is not below the steps": time is not None and time >= steps,
+            "is not in the ring": kind == "edge" and (not inside or inner),
+            "is on the rim": kind == "edge" and inside and not inner and (x in (0, width - 1) or y in (0, height - 1)),
+            "is not in the halo": kind == "halo" and not beside,
+            "is outside the rectangle": kind == "halo" and beside and (x >= width or y >= height)}
 
 
 if __name__ == "__main__":
