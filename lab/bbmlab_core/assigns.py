@@ -1,0 +1,30 @@
+"""The assign section and its reader."""
+
+from .lines import Lines, SectionReader, forms_of
+
+
+class AssignReader(SectionReader):
+    """Reads an assign section."""
+
+    name = "assign"
+    forms = forms_of("assign", "on NAME", "end")
+
+    def __init__(self, lines: Lines, known: list[str], command: str) -> None:
+        super().__init__(lines)
+        self.known = known
+        self.command = command
+        self.on: dict[str, int] = {}
+
+    def read_assign(self) -> None:
+        """Reads the header."""
+
+    def read_on(self, name: str) -> None:
+        """Reads a line `on`."""
+        if name not in self.known:
+            self.lines.refuse(3, "on_unknown", name=name, known=list(dict.fromkeys(self.known)), command=self.command)
+        if name in self.on:
+            self.lines.refuse(4, "on_twice", name=name, at=self.on[name])
+        self.on[name] = self.lines.taken
+
+    def read_end(self) -> None:
+        """Reads the line `end`."""

@@ -1,0 +1,56 @@
+"""Boxes of cells: their rings and halos."""
+
+from dataclasses import dataclass
+from typing import Iterator
+
+from .layouts import Cell, Layout, Part, cells_of
+
+
+@dataclass(frozen=True)
+class Box:
+    """A rectangle with its upper left cell at (x, y)."""
+
+    x: int
+    y: int
+    width: int
+    height: int
+
+    def has(self, cell: Cell) -> bool:
+        """Whether a cell lies in the box."""
+        return self.x <= cell[0] < self.x + self.width and self.y <= cell[1] < self.y + self.height
+
+    def has_in_ring(self, cell: Cell) -> bool:
+        """Whether a cell is one of the outermost of the box."""
+        inner = Box(self.x + 1, self.y + 1, self.width - 2, self.height - 2)
+        return self.has(cell) and not inner.has(cell)
+
+    def has_in_halo(self, cell: Cell) -> bool:
+        """Whether a cell lies outside the box and touches it at a side or a corner."""
+        return Box(self.x - 1, self.y - 1, self.width + 2, self.height + 2).has(cell) and not self.has(cell)
+
+    def cells(self) -> Iterator[Cell]:
+        """Yields the cells of the box, row by row."""
+        return cells_of(self.x, self.y, self.width, self.height)
+
+    def ring(self) -> set[Cell]:
+        """Returns the outermost cells of the box."""
+        return set(self.cells()) - set(cells_of(self.x + 1, self.y + 1, self.width - 2, self.height - 2))
+
+    def halo(self) -> set[Cell]:
+        """Returns the cells around the box."""
+        return Box(self.x - 1, self.y - 1, self.width + 2, self.height + 2).ring()
+
+    def __str__(self) -> str:
+        """Writes the box as its line does."""
+        return f"{self.x} {self.y} {self.width} {self.height}"
+
+
+def clipped(layout: Layout, box: Box) -> Layout:
+    """Returns the layout with the parts that lie in the box, and of mirrors what lies in it."""
+    parts = []
+    for part in layout.parts:
+        left, top = max(part.x, box.x), max(part.y, box.y)
+        right, bottom = min(part.x + part.width, box.x + box.width), min(part.y + part.height, box.y + box.height)
+        if left < right and top < bottom:
+            parts.append(Part(part.kind, part.name, left, top, right - left, bottom - top, part.line))
+    return Layout(layout.width, layout.height, layout.steps, parts)

@@ -1,0 +1,210 @@
+"""The circuit section: its model, its reader, and the values of its wires."""
+
+from dataclasses import dataclass, field
+
+from .gates import GATE_SIZES, INVERSE_GATES, Table, gate_row, input_tables
+from .lines import Lines, SectionReader, forms_of
+
+MAX_WIRES = 4096
+MAX_GATES = 1024
+MAX_DELAY = 4096
+ORDER = ["input", "gate", "output", "spill"]
+
+
+@dataclass
+class Gate:
+    """A gate line: its word, its bit or its number of steps, the wires that it uses and those that it defines."""
+
+    number: int
+    word: str
+    parameter: int | None
+    ins: list[str]
+    outs: list[str]
+    line: int
+
+    @property
+    def is_inverse(self) -> bool:
+        """Whether the gate turns back another one, and so has no row at some values."""
+        return self.word in INVERSE_GATES
+
+
+@dataclass
+class Circuit:
+    """The wires and gates of a circuit, each with the line that it comes from."""
+
+    inputs: list[str] = field(default_factory=list)
+    gates: list[Gate] = field(default_factory=list)
+    outputs: list[str] = field(default_factory=list)
+    spills: list[str] = field(default_factory=list)
+    defined: dict[str, int] = field(default_factory=dict)
+    consumed: dict[str, int] = field(default_factory=dict)
+    maker: dict[str, Gate] = field(default_factory=dict)
+
+    def cone(self, wires: list[str], stop_at: frozenset[str] = frozenset()) -> tuple[list[str], list[int]]:
+        """Returns the free wires and the gates from which `wires` follow. Free are inputs and the wires of `stop_at`."""
+        todo, free, used = list(wires), set(), set()
+        while todo:
+            wire = todo.pop()
+            gate = self.maker.get(wire)
+            if gate is None or wire in stop_at:
+                free.add(wire)
+            elif gate.number not in used:
+                used.add(gate.number)
+                todo += gate.ins
+        return sorted(free, key=self.rank), sorted(used)
+
+    def rank(self, wire: str) -> tuple[int, int]:
+        """Returns a key that sorts wires in order of definition."""
+        gate = self.maker.get(wire)
+        return self.defined[wire], gate.outs.index(wire) if gate else 0
+
+
+@dataclass
+class Valuation:
+    """Tables of wires over all assignments of some free wires, and where each gate has a row."""
+
+    free: list[str]
+    full: Table
+    tables: dict[str, Table]
+    # The assignments under which each gate and all gates before it have a row.
+    rows: dict[int, Table]
+
+    def names_of(self, assignment: int) -> list[str]:
+        """Returns the free wires that are true under an assignment."""
+        return [name for index, name in enumerate(self.free) if assignment >> index & 1]
+
+
+def evaluate(circuit: Circuit, free: list[str], gates: list[int]) -> Valuation:
+    """Returns the tables of the free wires and of the outputs of `gates`, in order of gates."""
+    full = (1 << (1 << len(free))) - 1
+    tables = dict(zip(free, input_tables(len(free))))
+    defined, rows = full, {}
+    for number in gates:
+        gate = circuit.gates[number]
+        outs, has_row = gate_row(gate.word, gate.parameter, [tables[name] for name in gate.ins], full)
+        defined &= has_row
+        rows[number] = defined
+        tables.update((name, table & defined) for name, table in zip(gate.outs, outs))
+    return Valuation(free, full, tables, rows)
+
+
+def values_under(circuit: Circuit, on: set[str]) -> tuple[dict[str, bool], int | None]:
+    """Returns the value of each wire under one assignment, and the first gate without a row, behind which there are none."""
+    values = {name: name in on for name in circuit.inputs}
+    for gate in circuit.gates:
+        outs, has_row = gate_row(gate.word, gate.parameter, [int(values[name]) for name in gate.ins], 1)
+        if not has_row:
+            return values, gate.number
+        values.update((name, bool(table)) for name, table in zip(gate.outs, outs))
+    return values, None
+
+
+class CircuitReader(SectionReader):
+    """Reads a circuit section."""
+
+    name = "circuit"
+    forms = forms_of(
+        "circuit", "input NAME", "source BIT -> NAME", "fredkin A B C -> D E F", "cswap A B C -> D E F",
+        "interact A B -> C D E F", "switch A B -> C D E", "delay N A -> B", "unswitch A B C -> D E",
+        "uninteract A B C D -> E F", "output NAME", "spill NAME", "end")
+
+    def __init__(self, lines: Lines) -> None:
+        super().__init__(lines)
+        self.circuit = Circuit()
+
+    def read_circuit(self) -> None:
+        """Reads the header."""
+
+    def read_input(self, name: str) -> None:
+        """Reads a line `input`."""
+        self.require_kind_order("input", ORDER)
+        self.require_room([name])
+        self.define([name])
+        self.circuit.inputs.append(name)
+
+    def read_output(self, name: str) -> None:
+        """Reads a line `output`."""
+        self.require_kind_order("output", ORDER)
+        self.consume([name])
+        self.circuit.outputs.append(name)
+
+    def read_spill(self, name: str) -> None:
+        """Reads a line `spill`."""
+        self.consume([name])
+        self.circuit.spills.append(name)
+
+    def read_gate(self, word: str, parameter: int | None, names: list[str]) -> None:
+        """Reads a gate line of any kind."""
+        self.require_kind_order("gate", ORDER)
+        uses = GATE_SIZES[word][0]
+        ins, outs = names[:uses], names[uses:]
+        if word == "delay" and not 1 <= (parameter or 0) <= MAX_DELAY:
+            self.lines.refuse(2, "delay_limit", number=parameter)
+        self.require_room(outs)
+        if len(self.circuit.gates) == MAX_GATES:
+            self.lines.refuse(2, "gate_count")
+        self.consume(ins)
+        gate = Gate(len(self.circuit.gates), word, parameter, ins, outs, self.lines.taken)
+        self.define(outs)
+        self.circuit.gates.append(gate)
+        self.circuit.maker.update((name, gate) for name in outs)
+        self.kind_lines["gate"] = self.lines.taken
+
+    def read_source(self, bit: int, name: str) -> None:
+        """Reads a line `source`."""
+        self.read_gate("source", bit, [name])
+
+    def read_delay(self, steps: int, used: str, made: str) -> None:
+        """Reads a line `delay`."""
+        self.read_gate("delay", steps, [used, made])
+
+    def read_fredkin(self, *names: str) -> None:
+        """Reads a line `fredkin`."""
+        self.read_gate("fredkin", None, list(names))
+
+    def read_cswap(self, *names: str) -> None:
+        """Reads a line `cswap`."""
+        self.read_gate("cswap", None, list(names))
+
+    def read_interact(self, *names: str) -> None:
+        """Reads a line `interact`."""
+        self.read_gate("interact", None, list(names))
+
+    def read_switch(self, *names: str) -> None:
+        """Reads a line `switch`."""
+        self.read_gate("switch", None, list(names))
+
+    def read_unswitch(self, *names: str) -> None:
+        """Reads a line `unswitch`."""
+        self.read_gate("unswitch", None, list(names))
+
+    def read_uninteract(self, *names: str) -> None:
+        """Reads a line `uninteract`."""
+        self.read_gate("uninteract", None, list(names))
+
+    def read_end(self) -> None:
+        """Reads the line `end`, at which each wire is consumed."""
+        unused = [name for name in self.circuit.defined if name not in self.circuit.consumed]
+        if unused:
+            self.lines.refuse(11, "wire_not_consumed", names=unused, defined=dict(self.circuit.defined))
+
+    def require_room(self, outs: list[str]) -> None:
+        """Refuses the line that would pass the limit of wires."""
+        if len(self.circuit.defined) + len(outs) > MAX_WIRES:
+            self.lines.refuse(2, "wire_count")
+
+    def consume(self, names: list[str]) -> None:
+        """Consumes wires from the left, each of which is defined and not yet consumed."""
+        for name in names:
+            if name not in self.circuit.defined:
+                self.lines.refuse(3, "wire_not_defined", name=name, known=list(self.circuit.defined))
+            if name in self.circuit.consumed:
+                self.lines.refuse(5, "wire_consumed", name=name, at=self.circuit.consumed[name])
+            self.circuit.consumed[name] = self.lines.taken
+
+    def define(self, names: list[str]) -> None:
+        """Defines wires from the left, none of which is defined yet."""
+        for name in names:
+            if name in self.circuit.defined:
+                self.lines.refuse(4, "wire_defined", name=name, at=self.circuit.defined[name])
+            self.circuit.defined[name] = self.lines.taken

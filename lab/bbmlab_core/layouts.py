@@ -1,0 +1,166 @@
+"""The layout section: its model and its reader."""
+
+from dataclasses import dataclass, field
+from typing import Iterator
+
+from .circuits import Circuit
+from .lines import Lines, SectionReader, forms_of
+
+MAX_SIDE = 512
+MAX_STEPS = 65_536
+ORDER = ["mirror", "ball", "in", "out", "waste"]
+
+Cell = tuple[int, int]
+
+
+def row_order(cell: Cell) -> Cell:
+    """Returns the key that sorts cells by y and then x."""
+    return cell[1], cell[0]
+
+
+def cells_of(x: int, y: int, width: int, height: int) -> Iterator[Cell]:
+    """Yields the cells of a rectangle, row by row."""
+    for v in range(y, y + height):
+        for u in range(x, x + width):
+            yield u, v
+
+
+@dataclass(frozen=True)
+class Part:
+    """A line of a layout: its kind, its name if it has one, its rectangle, and its number."""
+
+    kind: str
+    name: str | None
+    x: int
+    y: int
+    width: int
+    height: int
+    line: int
+
+    @property
+    def cell(self) -> Cell:
+        """The upper left cell."""
+        return self.x, self.y
+
+    def cells(self) -> Iterator[Cell]:
+        """Yields the cells of the part, row by row."""
+        return cells_of(self.x, self.y, self.width, self.height)
+
+
+@dataclass
+class Layout:
+    """A rectangle of cells with its mirrors, balls, ports and waste cells."""
+
+    width: int = 0
+    height: int = 0
+    steps: int = 0
+    parts: list[Part] = field(default_factory=list)
+
+    def of_kind(self, kind: str) -> list[Part]:
+        """Returns the parts of a kind, in order."""
+        return [part for part in self.parts if part.kind == kind]
+
+    def has(self, cell: Cell) -> bool:
+        """Whether a cell lies in the rectangle."""
+        return 0 <= cell[0] < self.width and 0 <= cell[1] < self.height
+
+    def is_rim(self, cell: Cell) -> bool:
+        """Whether a cell is one of the outermost of the rectangle."""
+        return self.has(cell) and (cell[0] in (0, self.width - 1) or cell[1] in (0, self.height - 1))
+
+    def mirror_cells(self) -> set[Cell]:
+        """Returns the cells of all mirrors."""
+        return {cell for part in self.of_kind("mirror") for cell in part.cells()}
+
+    def part_at(self, cell: Cell, kinds: tuple[str, ...]) -> Part | None:
+        """Returns the first part of some kinds that has the cell."""
+        return next((part for part in self.parts if part.kind in kinds and part.x <= cell[0] < part.x + part.width
+                     and part.y <= cell[1] < part.y + part.height), None)
+
+
+class LayoutReader(SectionReader):
+    """Reads a layout section, of a bundle where a circuit is given."""
+
+    name = "layout"
+    forms = forms_of("layout W H STEPS", "mirror X Y W H", "ball X Y", "in NAME X Y", "out NAME X Y", "waste X Y", "end")
+
+    def __init__(self, lines: Lines, circuit: Circuit | None = None) -> None:
+        super().__init__(lines)
+        self.circuit = circuit
+        self.layout = Layout()
+        # The part that takes a cell at the start, and the one that takes it at the end.
+        self.starts: dict[Cell, Part] = {}
+        self.ends: dict[Cell, Part] = {}
+
+    def read_layout(self, width: int, height: int, steps: int) -> None:
+        """Reads the header."""
+        self.layout.width, self.layout.height, self.layout.steps = width, height, steps
+        for what, side in (("width", width), ("height", height)):
+            if side % 2 or not 2 <= side <= MAX_SIDE:
+                self.lines.refuse(2, "layout_side", what=what, number=side)
+        if steps > MAX_STEPS:
+            self.lines.refuse(2, "layout_steps", number=steps)
+
+    def read_mirror(self, x: int, y: int, width: int, height: int) -> None:
+        """Reads a line `mirror`."""
+        self.read_part("mirror", None, (x, y, width, height))
+
+    def read_ball(self, x: int, y: int) -> None:
+        """Reads a line `ball`."""
+        self.read_part("ball", None, (x, y, 1, 1))
+
+    def read_in(self, name: str, x: int, y: int) -> None:
+        """Reads a line `in`."""
+        self.read_part("in", name, (x, y, 1, 1))
+
+    def read_out(self, name: str, x: int, y: int) -> None:
+        """Reads a line `out`."""
+        self.read_part("out", name, (x, y, 1, 1))
+
+    def read_waste(self, x: int, y: int) -> None:
+        """Reads a line `waste`."""
+        self.read_part("waste", None, (x, y, 1, 1))
+
+    def read_part(self, kind: str, name: str | None, box: tuple[int, int, int, int]) -> None:
+        """Reads a line of any kind but header and end."""
+        self.require_kind_order(kind, ORDER)
+        x, y, width, height = box
+        for what, side in (("width", width), ("height", height)):
+            if not 1 <= side <= MAX_SIDE:
+                self.lines.refuse(2, "mirror_side", what=what, number=side)
+        self.require_port(kind, name)
+        if x + width > self.layout.width or y + height > self.layout.height:
+            self.lines.refuse(7, "cell_outside", kind=kind, box=box, size=(self.layout.width, self.layout.height))
+        part = Part(kind, name, x, y, width, height, self.lines.taken)
+        if kind != "out" and kind != "waste":
+            self.take_cells(part, self.starts)
+        if kind in ("mirror", "out", "waste"):
+            self.take_cells(part, self.ends)
+        self.layout.parts.append(part)
+
+    def require_port(self, kind: str, name: str | None) -> None:
+        """Refuses an `in` that is no input and an `out` that is no output of the circuit."""
+        if self.circuit is None or name is None:
+            return
+        known = self.circuit.inputs if kind == "in" else self.circuit.outputs
+        if name not in known:
+            self.lines.refuse(3, "port_unknown", kind=kind, name=name, known=list(known), is_wire=name in self.circuit.defined)
+
+    def take_cells(self, part: Part, taken: dict[Cell, Part]) -> None:
+        """Takes the cells of a part, none of which is taken yet."""
+        for cell in part.cells():
+            other = taken.get(cell)
+            if other is not None:
+                self.lines.refuse(7, "cell_taken", kind=part.kind, cell=cell, other=other.kind, other_name=other.name, at=other.line)
+        taken.update((cell, part) for cell in part.cells())
+
+    def read_end(self) -> None:
+        """Reads the line `end`, at which each input and output of the circuit has a cell."""
+        if self.circuit is None:
+            return
+        ins = {part.name for part in self.layout.of_kind("in")}
+        outs = {part.name for part in self.layout.of_kind("out")}
+        no_in = [name for name in self.circuit.inputs if name not in ins]
+        no_out = [name for name in self.circuit.outputs if name not in outs]
+        if no_in or no_out:
+            self.lines.refuse(11, "port_without_cell", inputs=no_in, outputs=no_out)

@@ -1,0 +1,483 @@
+"""Refusals in plain English: for each cause that the lab's reader finds, what is wrong, which rule it breaks, and the cure."""
+
+import difflib
+from dataclasses import dataclass, field
+from typing import Any, Callable
+
+from .documents import Document
+from .lines import Refusal
+from .shape_hints import shape_hints
+
+RULES = {
+    1: "Each line has one of the forms of its section, with one space between words.",
+    2: "Each number and each count has a limit.",
+    3: "A name or a gate number is used after it is defined.",
+    4: "A name is defined, cut or turned on once.",
+    5: "Each wire is consumed once: by a gate, an `output` or a `spill`.",
+    6: "Kinds of line come in the order of docs/FORMATS.md, and lists rise.",
+    7: "Each cell lies in the rectangle, and no two parts share a cell.",
+    8: "A box has even corners, lies in the rectangle, and overlaps no earlier box.",
+    9: "A line of a module names wires that the module knows: its cuts and the outputs of the gates that it uses.",
+    10: "A line names a time and a cell at which a signal or a stop may be.",
+    11: "A section or a module ends when nothing is missing.",
+    12: "A text has its sections and nothing else, and its last line ends with a line feed.",
+}
+
+
+@dataclass
+class Explained:
+    """A refusal in words: what is wrong, the rule, the cures, and the names and lines that are meant."""
+
+    what: list[str]
+    cures: list[str]
+    rule: str = ""
+    names: list[str] = field(default_factory=list)
+    lines: list[int] = field(default_factory=list)
+
+
+Facts = dict[str, Any]
+Teller = Callable[[Facts], Explained]
+TELLERS: dict[str, Teller] = {}
+
+
+def tells(cause: str) -> Callable[[Teller], Teller]:
+    """Registers the function that explains a cause."""
+    def register(teller: Teller) -> Teller:
+        TELLERS[cause] = teller
+        return teller
+    return register
+
+
+def listed(names: list[str], most: int = 8) -> str:
+    """Returns names in backticks with commas, at most `most` of them."""
+    shown = ", ".join(f"`{name}`" for name in names[:most])
+    return shown + (f" and {len(names) - most} more" if len(names) > most else "")
+
+
+def near(name: str, known: list[str]) -> str:
+    """Returns a hint at names that are written alike."""
+    alike = difflib.get_close_matches(name, known, 2, 0.5)
+    return f" Did you mean {' or '.join(f'`{other}`' for other in alike)}?" if alike else ""
+
+
+def earlier(facts: Facts) -> str:
+    """Returns the line of what comes before, where it is not the refused line itself."""
+    return "on this line" if facts["at"] == facts["here"] else f"line {facts['at']}"
+
+
+def box_words(box: Any) -> str:
+    """Returns a box as its columns and rows."""
+    return f"columns {box.x} to {box.x + box.width - 1}, rows {box.y} to {box.y + box.height - 1}"
+
+
+# ---- code 12
+
+@tells("text_ended")
+def _text_ended(facts: Facts) -> Explained:
+    section = facts["section"]
+    return Explained([f"The text ends before the {section} section is complete: no line is left."],
+                     [f"Write the {section} section up to its line `end`. The file may have been cut off."])
+
+
+@tells("line_not_ended")
+def _line_not_ended(facts: Facts) -> Explained:
+    return Explained([f"The last line, `{facts['rest'][:60]}`, does not end with a line feed."],
+                     ["Add a line feed at the end of the file. `bbmlab fmt` does."])
+
+
+@tells("text_goes_on")
+def _text_goes_on(facts: Facts) -> Explained:
+    rest = facts["rest"]
+    shown = f"`{rest[:60]}`" if rest else "an empty line"
+    return Explained([f"The text goes on after the {facts['section']} section, which is the last: {shown}."],
+                     ["Remove what comes after the last `end`, or use the command that reads these sections."])
+
+
+# ---- code 6
+
+@tells("first_not_header")
+def _first_not_header(facts: Facts) -> Explained:
+    header = {"layout": "layout W H STEPS", "certificate": "certificate 2"}.get(facts["section"], facts["section"])
+    return Explained([f"The {facts['section']} section begins here with a line `{facts['keyword']}` and not with its header."],
+                     [f"Write the header `{header}` first."])
+
+
+@tells("second_header")
+def _second_header(facts: Facts) -> Explained:
+    return Explained([f"The {facts['section']} section has a second header; the first is line {facts['first']}."],
+                     ["Remove this header, or write `end` before it."], lines=[facts["first"]])
+
+
+@tells("kind_after_later_kind")
+def _kind_after_later_kind(facts: Facts) -> Explained:
+    kind, other = ("gate" if facts[name] == "gate" else f"`{facts[name]}`" for name in ("kind", "later"))
+    return Explained([f"This {kind} line comes after the {other} line {facts['at']}; it belongs before all {other} lines."],
+                     ["Move the line up. `bbmlab fmt` sorts the kinds."], lines=[facts["at"]])
+
+
+@tells("before_first_module")
+def _before_first_module(facts: Facts) -> Explained:
+    return Explained([f"This `{facts['kind']}` line comes before the first `module` line, so it belongs to no module."],
+                     ["Write a line `module X Y W H` before it."])
+
+
+@tells("gate_not_rising")
+def _gate_not_rising(facts: Facts) -> Explained:
+    kind, number, last = facts["kind"], facts["number"], facts["last"]
+    how = "the same number as" if number == last else "a lower number than"
+    return Explained([f"`{kind} {number}` has {how} `{kind} {last}` on line {facts['at']}; the gate numbers of a module rise."],
+                     ["Remove the line." if number == last else "Sort these lines by number. `bbmlab fmt` does."], lines=[facts["at"]])
+
+
+@tells("border_not_rising")
+def _border_not_rising(facts: Facts) -> Explained:
+    new, last = facts["new"], facts["last"]
+    if new.place == last.place:
+        what, cure = "names the same time and cell as", "Keep one of the two lines."
+    elif new.place[0] == -1:
+        what, cure = "has `*`, and lines with `*` come first; it is out of order with", "Move it up. `bbmlab fmt` sorts."
+    else:
+        part = next(name for name, a, b in zip(("time", "y", "x"), new.place, last.place) if a != b)
+        what, cure = f"has a smaller {part} than", "Sort by time, then y, then x. `bbmlab fmt` does."
+    return Explained([f"`{new}` {what} the line before it in the list, `{last}` (line {last.line})."], [cure], lines=[last.line])
+
+
+# ---- code 11
+
+@tells("wire_not_consumed")
+def _wire_not_consumed(facts: Facts) -> Explained:
+    names = facts["names"]
+    lines = [facts["defined"][name] for name in names]
+    where = ", ".join(f"`{name}` (line {line})" for name, line in list(zip(names, lines))[:8])
+    verb = "wires are" if len(names) > 1 else "wire is"
+    return Explained([f"{len(names)} {verb} defined and not consumed: {where}."],
+                     [f"Add `output {names[0]}`, or `spill {names[0]}` for a wire that is left over."], names=names, lines=lines)
+
+
+@tells("port_without_cell")
+def _port_without_cell(facts: Facts) -> Explained:
+    what, cures = [], []
+    for kind, side in (("in", "inputs"), ("out", "outputs")):
+        names = facts[side]
+        if names:
+            what.append(f"The layout has no `{kind}` cell for {side[:-1] if len(names) == 1 else side} {listed(names)} of the circuit.")
+            cures.append(f"Add a line `{kind} {names[0]} X Y`.")
+    return Explained(what, cures, names=facts["inputs"] + facts["outputs"])
+
+
+@tells("port_not_local")
+def _port_not_local(facts: Facts) -> Explained:
+    what = [f"Module {facts['module']} (line {facts['at']}) has the cell of `{port.kind} {port.name} {port.x} {port.y}` (line {port.line}) "
+            f"in its box, and does not know the wire `{port.name}`." for port in facts["ports"][:8]]
+    cures = [make_local(port.name, facts["makers"][port.name]) for port in facts["ports"][:8]]
+    names = list(dict.fromkeys(port.name for port in facts["ports"]))
+    return Explained(what, list(dict.fromkeys(cures)), names=names, lines=[facts["at"]] + [port.line for port in facts["ports"]])
+
+
+def make_local(name: str, gate: Any) -> str:
+    """Returns how a module comes to know a wire."""
+    if gate is None:
+        return f"Add `cut {name}` to the module."
+    if not gate.ins:
+        return f"Add `use {gate.number}` to the module: that source makes `{name}`."
+    return (f"Add `use {gate.number}` to the module: that {gate.word} makes `{name}` from {listed(gate.ins)}, which the module then knows too. "
+            f"Or add `cut {name}` if the module lies away from that gate.")
+
+
+@tells("no_module")
+def _no_module(facts: Facts) -> Explained:
+    width, height = facts["size"]
+    return Explained(["The certificate has no module."],
+                     [f"Add modules that cover the rectangle of {width} by {height} cells, such as `module 0 0 {min(width, 64)} {min(height, 64)}`."])
+
+
+@tells("gap")
+def _gap(facts: Facts) -> Explained:
+    gaps = facts["gaps"]
+    shown = "; ".join(box_words(gap) for gap in gaps[:4]) + (f"; and {len(gaps) - 4} more" if len(gaps) > 4 else "")
+    return Explained([f"The boxes of the {facts['modules']} modules leave a gap: {shown} are in no box."],
+                     [f"Add a module for the gap, such as `module {gaps[0].x} {gaps[0].y} {min(gaps[0].width, 64)} {min(gaps[0].height, 64)}`, "
+                      "or make a neighbour larger."])
+
+
+@tells("heard_not_local")
+def _heard_not_local(facts: Facts) -> Explained:
+    missing = facts["missing"]
+    what = [f"Module {module} does not know the wire `{line.signal}`: line {line.line} (`{line}`, of module {other}) speaks of a cell "
+            f"beside its box." for module, line, other in missing[:4]]
+    more = [f"There are {len(missing) - 4} more lines of that kind."] if len(missing) > 4 else []
+    cures = [f"Add `cut {line.signal}` to module {module}, or `use` the gate that makes it." for module, line, _ in missing[:4]]
+    return Explained(what + more, list(dict.fromkeys(cures)), names=list(dict.fromkeys(line.signal for _, line, _ in missing)),
+                     lines=[line.line for _, line, _ in missing])
+
+
+# ---- code 2
+
+def limit(what: str, cure: str) -> Explained:
+    """Returns a refusal for a limit."""
+    return Explained([what], [cure])
+
+
+@tells("layout_side")
+def _layout_side(facts: Facts) -> Explained:
+    number = facts["number"]
+    why = "outside 2 to 512" if not 2 <= number <= 512 else "odd"
+    return limit(f"The {facts['what']} of the layout is {number}, which is {why}.",
+                 f"Take an even {facts['what']} from 2 to 512" + (f", such as {number + 1}." if number % 2 and number < 512 else "."))
+
+
+@tells("layout_steps")
+def _layout_steps(facts: Facts) -> Explained:
+    return limit(f"The layout runs {facts['number']} steps; 65536 is the most.", "Take fewer steps.")
+
+
+@tells("mirror_side")
+def _mirror_side(facts: Facts) -> Explained:
+    return limit(f"The {facts['what']} of the mirror is {facts['number']}; it is 1 to 512.",
+                 "A `mirror` line is `mirror X Y W H`: the cell, then width and height.")
+
+
+@tells("delay_limit")
+def _delay_limit(facts: Facts) -> Explained:
+    return limit(f"The delay has {facts['number']} steps; it has 1 to 4096.", "Take a number from 1 to 4096, or several delays in a row.")
+
+
+@tells("wire_count")
+def _wire_count(_facts: Facts) -> Explained:
+    return limit("With this line the circuit has more than 4096 wires.", "Split the design into smaller circuits.")
+
+
+@tells("gate_count")
+def _gate_count(_facts: Facts) -> Explained:
+    return limit("With this line the circuit has more than 1024 gates, sources among them.", "Split the design into smaller circuits.")
+
+
+@tells("certificate_version")
+def _certificate_version(facts: Facts) -> Explained:
+    return limit(f"There is no certificate version {facts['number']}.", "Write `certificate 2`, or `certificate 1` with `halo` lines.")
+
+
+@tells("box_side")
+def _box_side(facts: Facts) -> Explained:
+    number = facts["number"]
+    why = "outside 2 to 64" if not 2 <= number <= 64 else "odd"
+    return limit(f"The {facts['what']} of the box is {number}, which is {why}.", f"Take an even {facts['what']} from 2 to 64.")
+
+
+@tells("module_count")
+def _module_count(_facts: Facts) -> Explained:
+    return limit("This is module 1024 from 0; a certificate has at most 1024 modules.", "Take larger boxes.")
+
+
+@tells("cut_count")
+def _cut_count(facts: Facts) -> Explained:
+    return limit(f"Module {facts['module']} has 12 `cut` lines already; `{facts['name']}` would be the thirteenth.",
+                 "Use gates in place of cutting their outputs, or take a smaller box.")
+
+
+@tells("use_count")
+def _use_count(facts: Facts) -> Explained:
+    return limit(f"Module {facts['module']} has 64 `use` lines already.", "Cut a wire in place of using the gates before it, or take a smaller box.")
+
+
+@tells("border_count")
+def _border_count(facts: Facts) -> Explained:
+    return limit(f"Module {facts['module']} has 65536 `edge`, `halo` and `stop` lines already.", "Take a smaller box, or a border that fewer balls cross.")
+
+
+# ---- codes 3, 4 and 5
+
+@tells("wire_not_defined")
+def _wire_not_defined(facts: Facts) -> Explained:
+    name = facts["name"]
+    return Explained([f"The wire `{name}` is not defined before this line.{near(name, facts['known'])}"],
+                     [f"Define `{name}` first, by an `input` or behind the arrow of an earlier gate. A circuit has no loops."], names=[name])
+
+
+@tells("wire_unknown")
+def _wire_unknown(facts: Facts) -> Explained:
+    name = facts["name"]
+    return Explained([f"The circuit has no wire `{name}`.{near(name, facts['known'])}"],
+                     ["Write the name as the circuit has it."], names=[name])
+
+
+@tells("gate_unknown")
+def _gate_unknown(facts: Facts) -> Explained:
+    count = facts["count"]
+    has = f"gates 0 to {count - 1}" if count > 1 else "gate 0 alone" if count else "no gate"
+    return Explained([f"There is no gate {facts['number']}: the circuit has {has}."],
+                     ["Count gate lines from 0, `source` lines among them, in the order of their lines."], names=[str(facts["number"])])
+
+
+@tells("keep_not_inverse")
+def _keep_not_inverse(facts: Facts) -> Explained:
+    gate, inverse = facts["gate"], facts["inverse"]
+    has = f"Its inverse gates are {', '.join(map(str, inverse))}." if inverse else "The circuit has no inverse gate."
+    return Explained([f"Gate {facts['number']} is `{gate.word}` (line {gate.line}), which is no inverse gate. {has}"],
+                     ["Remove the line, or give the number of an `unswitch` or `uninteract`."], names=[str(facts["number"])], lines=[gate.line])
+
+
+@tells("port_unknown")
+def _port_unknown(facts: Facts) -> Explained:
+    kind, name = facts["kind"], facts["name"]
+    side = "input" if kind == "in" else "output"
+    extra = f" It is a wire, and no {side}." if facts["is_wire"] else near(name, facts["known"])
+    return Explained([f"`{name}` is no {side} of the circuit.{extra}"],
+                     [f"Name one of the {side}s: {listed(facts['known'])}." if facts["known"] else f"The circuit has no {side}."], names=[name])
+
+
+@tells("on_unknown")
+def _on_unknown(facts: Facts) -> Explained:
+    name, known = facts["name"], facts["known"]
+    what = "no `in` line of the layout has that name" if facts["command"] == "run" else "the circuit has no such input"
+    return Explained([f"`{name}` can't be turned on: {what}.{near(name, known)}"],
+                     [f"The names are {listed(known)}." if known else "There is none: remove the `on` line."], names=[name])
+
+
+@tells("on_twice")
+def _on_twice(facts: Facts) -> Explained:
+    return Explained([f"`{facts['name']}` is on already (line {facts['at']})."], ["Remove one of the two lines."],
+                     names=[facts["name"]], lines=[facts["at"]])
+
+
+@tells("wire_defined")
+def _wire_defined(facts: Facts) -> Explained:
+    return Explained([f"The wire `{facts['name']}` is defined already ({earlier(facts)})."], ["Give one of the two another name."],
+                     names=[facts["name"]], lines=[facts["at"]])
+
+
+@tells("wire_consumed")
+def _wire_consumed(facts: Facts) -> Explained:
+    return Explained([f"The wire `{facts['name']}` is consumed already ({earlier(facts)}): no wire branches."],
+                     ["Use another wire, or copy the value by a gate, such as a `switch` with a source."], names=[facts["name"]], lines=[facts["at"]])
+
+
+@tells("cut_twice")
+def _cut_twice(facts: Facts) -> Explained:
+    return Explained([f"Module {facts['module']} cuts `{facts['name']}` already (line {facts['at']})."], ["Remove one of the two lines."],
+                     names=[facts["name"]], lines=[facts["at"]])
+
+
+@tells("use_output_local")
+def _use_output_local(facts: Facts) -> Explained:
+    gate, names = facts["gate"], facts["names"]
+    return Explained([f"Gate {gate.number} (`{gate.word}`, line {gate.line}) makes {listed(names)}, which module {facts['module']} "
+                      f"cuts already (line {facts['at'][0]})."],
+                     [f"Remove `cut {names[0]}`: a wire is cut, or made by a used gate, and not both."], names=names, lines=facts["at"])
+
+
+# ---- codes 7 and 8
+
+@tells("cell_outside")
+def _cell_outside(facts: Facts) -> Explained:
+    x, y, width, height = facts["box"]
+    size = f"{facts['size'][0]} by {facts['size'][1]}"
+    shown = f"({x}, {y})" if width == height == 1 else f"({x}, {y}) to ({x + width - 1}, {y + height - 1})"
+    return Explained([f"The `{facts['kind']}` lies at {shown}, outside the rectangle of {size} cells, from (0, 0) to "
+                      f"({facts['size'][0] - 1}, {facts['size'][1] - 1})."],
+                     ["Move it, or make the layout larger."])
+
+
+@tells("cell_taken")
+def _cell_taken(facts: Facts) -> Explained:
+    x, y = facts["cell"]
+    other = f"`{facts['other']} {facts['other_name']}`" if facts["other_name"] else f"a `{facts['other']}`"
+    return Explained([f"The cell ({x}, {y}) is taken by {other} already (line {facts['at']})."],
+                     ["Move one of the two, or remove it. An `in` and an `out` may share a cell."], lines=[facts["at"]])
+
+
+@tells("box_odd")
+def _box_odd(facts: Facts) -> Explained:
+    box = facts["box"]
+    odd = " and ".join(f"{name} {value}" for name, value in (("x", box.x), ("y", box.y)) if value % 2)
+    return Explained([f"The corner of the box is odd: {odd}."], ["Move the box so that X and Y are even."])
+
+
+@tells("box_outside")
+def _box_outside(facts: Facts) -> Explained:
+    return Explained([f"The box ({box_words(facts['box'])}) is not inside the rectangle of {facts['size'][0]} by {facts['size'][1]} cells."],
+                     ["Make the box smaller, or move it."])
+
+
+@tells("box_overlap")
+def _box_overlap(facts: Facts) -> Explained:
+    x, y = facts["cell"]
+    return Explained([f"The box ({box_words(facts['box'])}) overlaps that of module {facts['other']} ({box_words(facts['other_box'])}, "
+                      f"line {facts['at']}): the cell ({x}, {y}) is in both."],
+                     ["Move one of the boxes, or make it smaller."], lines=[facts["at"]])
+
+
+# ---- codes 9 and 10
+
+@tells("use_input_not_local")
+def _use_input_not_local(facts: Facts) -> Explained:
+    gate, names = facts["gate"], facts["names"]
+    is_are = "are" if len(names) > 1 else "is"
+    return Explained([f"Gate {gate.number} (`{gate.word}`, line {gate.line}) uses {listed(names)}, which {is_are} not local in module "
+                      f"{facts['module']}."],
+                     [f"Add `cut {names[0]}`, or `use` the gate that makes `{names[0]}`, before this line."], names=names, lines=[gate.line])
+
+
+@tells("wire_not_local")
+def _wire_not_local(facts: Facts) -> Explained:
+    name = facts["name"]
+    local = f"Local there: {listed(facts['local'])}." if facts["local"] else "No wire is local there."
+    return Explained([f"The wire `{name}` is not local in module {facts['module']}. {local}"], [make_local(name, facts["gate"])], names=[name])
+
+
+@tells("keep_not_used")
+def _keep_not_used(facts: Facts) -> Explained:
+    gate = facts["gate"]
+    return Explained([f"Module {facts['module']} keeps gate {gate.number} (`{gate.word}`, line {gate.line}) and does not use it."],
+                     [f"Add `use {gate.number}` before it, with the wires {listed(gate.ins)} local."], names=[str(gate.number)], lines=[gate.line])
+
+
+def place_words(fault: str, facts: Facts) -> tuple[str, str]:
+    """Returns what is wrong with a time or a cell, and the cure."""
+    new, box, steps = facts["new"], facts["box"], facts["steps"]
+    cell, last = f"({new.x}, {new.y})", steps - 1 if steps % 2 == 0 else steps - 2
+    corner = f"({box.x + box.width - 1}, {box.y + box.height - 1})"
+    return {
+        "not_in_ring": (f"The cell {cell} is not in the ring of module {facts['module']}, the outermost cells of its box ({box_words(box)}).",
+                        "Name a cell of the ring; a cell inside the box needs no line."),
+        "on_rim": (f"The cell {cell} is on the rim, the outermost cells of the whole rectangle, where nothing is live at odd times.",
+                   "Remove the line; make the layout larger if a ball or a mirror is there."),
+        "not_in_halo": (f"The cell {cell} is not in the halo of module {facts['module']}, the cells around its box ({box_words(box)}).",
+                        "Name a cell that touches the box from outside."),
+        "halo_outside": (f"The cell {cell} is outside the rectangle.", "Remove the line."),
+        "even_time": (f"The time {new.time} is even; edge and halo lines have odd times.",
+                      f"Take the odd time at which the cell is live, {max((new.time or 0) - 1, 1)} or {(new.time or 0) + 1}."),
+        "time_not_below_steps": (f"The time {new.time} is not below the steps, {steps}.",
+                                 f"The last odd time below the steps is {last}." if last > 0 else "There is no odd time below the steps: remove the line."),
+        "star_cell": (f"The cell {cell} has a line with `*` already (line {facts['star']}).", "Remove one of the two lines."),
+        "stop_late": (f"The time {new.time} is after the last time, {steps}.", f"Take a time from 0 to {steps}."),
+        "stop_outside": (f"The cell {cell} is not in the box of module {facts['module']}, from ({box.x}, {box.y}) to {corner}.",
+                         "Move the stop into the module that has the cell."),
+    }[fault]
+
+
+@tells("border_place")
+def _border_place(facts: Facts) -> Explained:
+    told = [place_words(fault, facts) for fault in facts["faults"]]
+    star = [facts["star"]] if facts["star"] else []
+    return Explained([what for what, _ in told], [cure for _, cure in told], lines=star)
+
+
+# ---- all
+
+def explain_refusal(document: Document, refusal: Refusal) -> Explained:
+    """Returns a refusal of the lab's reader in words."""
+    if refusal.cause == "shape":
+        line = document.line(refusal.line)
+        hints = shape_hints(line, refusal.facts["section"], refusal.facts["begun"], refusal.facts["forms"])
+        explained = Explained([what for what, _ in hints], list(dict.fromkeys(cure for _, cure in hints)))
+    else:
+        explained = TELLERS[refusal.cause]({"here": refusal.line, **refusal.facts})
+    explained.rule = RULES[refusal.code]
+    return explained
+
+
+def explain_code(line: int, code: int) -> Explained:
+    """Returns what a refusal alone says, where the lab's reader does not come to the same one."""
+    rule = RULES.get(code, "There is no such code.")
+    return Explained([f"The program refuses line {line} with code {code}."], ["docs/FORMATS.md has the rules of that line."], rule)

@@ -1,0 +1,76 @@
+"""What the program answers: reports and refusals as values."""
+
+import re
+from dataclasses import dataclass, field
+
+FORMS = {
+    "local": r"local (?P<module>\d+) (?P<kind>edge|stop|end) (?P<time>\d+) (?P<x>\d+) (?P<y>\d+) (?P<assignment>\d+)",
+    "keep": r"keep (?P<module>\d+) (?P<gate>\d+) (?P<assignment>\d+)",
+    "border": r"border (?P<module>\d+) (?P<time>\d+) (?P<x>\d+) (?P<y>\d+)",
+    "unkept": r"unkept (?P<gate>\d+)",
+    "delay": r"delay (?P<gate>\d+) (?P<wanted>\d+) (?P<found>\d+|missing|before)",
+    "meet": r"meet (?P<gate>\d+) (?P<found>\d+|differ)",
+}
+PATTERNS = {word: re.compile(form + r"\Z") for word, form in FORMS.items()}
+
+
+@dataclass(frozen=True)
+class Finding:
+    """A line of a report behind the verdict: its word, its numbers by name, and the line itself."""
+
+    word: str
+    values: dict[str, int | str]
+    text: str
+
+    def number(self, name: str) -> int:
+        """Returns a number of the line."""
+        return int(self.values[name])
+
+    @property
+    def is_against(self) -> bool:
+        """Whether the line is a reason for the verdict `no`."""
+        if self.word == "delay":
+            return self.values["found"] != self.values["wanted"]
+        return self.word != "meet" or self.values["found"] == "differ"
+
+
+@dataclass
+class Report:
+    """A report, or a refusal where `refused` is set."""
+
+    verdict: str = ""
+    digest: str = ""
+    modules: int = 0
+    findings: list[Finding] = field(default_factory=list)
+    refused: tuple[int, int] | None = None
+
+    @property
+    def faults(self) -> list[Finding]:
+        """The lines that are reasons for a no."""
+        return [finding for finding in self.findings if finding.is_against]
+
+
+class ReportError(Exception):
+    """A text that is neither a report nor a refusal."""
+
+
+def parse_finding(line: str) -> Finding:
+    """Returns a line of a report behind the verdict."""
+    pattern = PATTERNS.get(line.split(" ")[0])
+    found = pattern.match(line) if pattern else None
+    if not found:
+        raise ReportError(f"no line of a report: {line!r}")
+    values = {name: int(word) if word.isdigit() else word for name, word in found.groupdict().items()}
+    return Finding(line.split(" ")[0], values, line)
+
+
+def parse_report(text: str) -> Report:
+    """Reads what `check` wrote."""
+    lines = text.splitlines()
+    refused = re.match(r"refused (\d+) (\d+)\Z", lines[0]) if len(lines) == 1 else None
+    if refused:
+        return Report(refused=(int(refused[1]), int(refused[2])))
+    head = re.match(r"bbmcheck 1\ncertificate ([0-9a-f]{64})\nmodules (\d+)\nverdict (yes|no)\Z", "\n".join(lines[:4]))
+    if not head:
+        raise ReportError("this is no report of `bbmcheck check`: it does not begin with `bbmcheck 1`")
+    return Report(head[3], head[1], int(head[2]), [parse_finding(line) for line in lines[4:]])

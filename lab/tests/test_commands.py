@@ -1,0 +1,116 @@
+"""The command line: exit statuses, formats, and what goes wrong."""
+
+import json
+import os
+import stat
+import tempfile
+import unittest
+import xml.etree.ElementTree as ET
+from pathlib import Path
+
+import support
+
+
+def fake_program(room: str, body: str) -> str:
+    """Writes a program that answers as its body says."""
+    path = Path(room) / "fake"
+    path.write_text("#!/bin/sh\n" + body)
+    path.chmod(path.stat().st_mode | stat.S_IXUSR)
+    return str(path)
+
+
+class Check(unittest.TestCase):
+    """`check`."""
+
+    def test_statuses(self) -> None:
+        """0 where all said yes, 1 for a no or a refusal, 4 for a missing file."""
+        program = support.program()
+        yes, no, refused = (support.example(name) for name in ("gate_and_mirror", "wrong_edge", "not_known"))
+        for files, status, words in [([yes], 0, "1 yes"), ([yes, no], 1, "1 yes, 1 no"), ([refused], 1, "1 refused"),
+                                     ([yes, "/no/such"], 4, "1 missing")]:
+            ended = support.lab("check", "--program", program, *files)
+            with self.subTest(words):
+                self.assertEqual(ended.returncode, status)
+                self.assertIn(words, ended.stdout)
+
+    def test_formats(self) -> None:
+        """JSON, TAP and JUnit have a place for each file."""
+        program, files = support.program(), [support.example("gate_and_mirror"), support.example("wrong_edge")]
+        told = {name: support.lab("check", "--program", program, "--format", name, *files).stdout for name in ("json", "tap", "junit")}
+        self.assertEqual([row["result"] for row in json.loads(told["json"])["results"]], ["yes", "no"])
+        self.assertEqual([line.split(" - ")[0] for line in told["tap"].splitlines()[2:]], ["ok 1", "not ok 2"])
+        self.assertEqual(ET.fromstring(told["junit"]).get("failures"), "1")
+
+    def test_troubles_are_told_apart(self) -> None:
+        """A time-out, a crash and a program that is not there are no noes."""
+        with tempfile.TemporaryDirectory() as room:
+            file = support.example("gate_and_mirror")
+            for body, word in [("exec sleep 5\n", "time-out"), ("exit 70\n", "error"), ("echo hello\n", "error")]:
+                ended = support.lab("check", "--program", fake_program(room, body), "--timeout", "0.3", file)
+                with self.subTest(word):
+                    self.assertEqual(ended.returncode, 4)
+                    self.assertIn(f"1 {word}", ended.stdout)
+            ended = support.lab("check", "--program", str(Path(room) / "none"), file)
+            self.assertEqual((ended.returncode, ended.stdout), (4, ""))
+            self.assertIn("the program is not at", ended.stderr)
+
+    def test_folders(self) -> None:
+        """A folder is all its .txt files."""
+        ended = support.lab("check", "--program", support.program(), "--format", "json", str(support.EXAMPLES))
+        self.assertEqual(len(json.loads(ended.stdout)["results"]), len(list(support.EXAMPLES.glob("*.txt"))))
+
+
+class Others(unittest.TestCase):
+    """Other commands, and what all have in common."""
+
+    def test_help_of_each(self) -> None:
+        """Each command has a help with an example."""
+        for name in ("check", "explain", "trace", "draw", "view", "certify", "fmt", "json", "golly", "from-golly"):
+            ended = support.lab(name, "--help")
+            with self.subTest(name):
+                self.assertEqual(ended.returncode, 0)
+                self.assertIn("Example: bbmlab", ended.stdout)
+
+    def test_no_colours_in_a_pipe(self) -> None:
+        """What goes to a pipe has no escape codes."""
+        ended = support.lab("explain", support.example("wrong_edge"), "--program", support.program())
+        self.assertNotIn("\033", ended.stdout)
+
+    def test_standard_input(self) -> None:
+        """`-` is standard input."""
+        text = (support.EXAMPLES / "not_known.txt").read_text()
+        ended = support.lab("explain", "-", text=text, BBMCHECK=support.program())
+        self.assertIn("does not know the wire `c`", ended.stdout.replace("\n  ", " "))
+
+    def test_explains_refusals_without_the_program(self) -> None:
+        """Without the program a refusal is explained by the lab's reader, and that is said."""
+        ended = support.lab("explain", support.example("not_known"), "--program", "/no/such/program")
+        self.assertIn("lab's reading", ended.stdout)
+        self.assertEqual(support.lab("explain", support.example("gate_and_mirror"), "--program", "/no/such/program").returncode, 4)
+
+    def test_trace_is_compared(self) -> None:
+        """`trace` compares its last state with the program, and says where a program says otherwise."""
+        ended = support.lab("trace", support.example("head_on"), "--program", support.program())
+        self.assertIn("3: 5,2 2,5", ended.stdout)
+        self.assertIn("what the program's run says", ended.stderr)
+        with tempfile.TemporaryDirectory() as room:
+            liar = fake_program(room, "cat >/dev/null; echo cells 0\n")
+            self.assertEqual(support.lab("trace", support.example("head_on"), "--program", liar).returncode, 4)
+
+    def test_unknown_input(self) -> None:
+        """A name that no `in` line has is said with those that there are."""
+        ended = support.lab("draw", support.example("head_on"), "--on", "r")
+        self.assertIn("the names are p, q", ended.stderr)
+        self.assertEqual(ended.returncode, 2)
+
+    def test_runs_with_debian_python(self) -> None:
+        """The lab runs with /usr/bin/python3, where there is one."""
+        import subprocess
+        if not os.path.exists("/usr/bin/python3"):
+            self.skipTest("there is no /usr/bin/python3")
+        ended = subprocess.run(["/usr/bin/python3", str(support.LAB / "bbmlab"), "--version"], capture_output=True, check=False)
+        self.assertEqual(ended.returncode, 0)
+
+
+if __name__ == "__main__":
+    unittest.main()

@@ -1,0 +1,147 @@
+"""The words of reports: what they say of faults is compared with runs and values that are made here in another way."""
+
+import itertools
+import json
+import re
+import unittest
+
+import support
+from bbmlab_core.certify import certified
+from bbmlab_core.circuits import values_under
+from bbmlab_core.diagnosis import Diagnosis
+from bbmlab_core.explaining import as_gcc, explain_answer
+from bbmlab_core.reports import parse_report
+
+
+def small_noes() -> list:
+    """Returns worked cases with a `no` that are small enough to try all inputs."""
+    found = []
+    for case in support.worked_cases():
+        if case.words[0] == "check" and case.status == 1 and case.output and len(case.input) < 6000:
+            document = support.document_of(case)
+            if len(document.circuit.inputs) <= 6:
+                found.append((case, document))
+    return found
+
+
+class Reports(unittest.TestCase):
+    """Lines of reports in words."""
+
+    def test_each_line_is_told(self) -> None:
+        """Each line of each worked no has sentences, and each reason a cure; cells and module numbers are those of the line."""
+        count = 0
+        for case, _ in small_noes():
+            told = explain_answer(support.decode(case.input), "check", case.output.decode(), case.name)
+            report = parse_report(case.output.decode())
+            self.assertEqual([entry.report_line for entry in told.entries], [finding.text for finding in report.findings])
+            for entry, finding in zip(told.entries, report.findings):
+                words = " ".join(entry.what)
+                count += 1
+                if finding.is_against:
+                    self.assertTrue(entry.cures, f"{case.name}: {finding.text}")
+                if finding.word in ("local", "border"):
+                    self.assertIn(f"({finding.values['x']}, {finding.values['y']})", words, case.name)
+                    self.assertRegex(words, rf"[Mm]odules? {finding.values['module']}\b|{finding.values['module']} and", case.name)
+        self.assertGreater(count, 100)
+
+    def test_occurrence_is_that_of_all_values(self) -> None:
+        """Whether an assignment occurs is what trying all inputs one by one says, and the inputs that are named give it."""
+        tried = 0
+        for case, document in small_noes():
+            diagnosis = Diagnosis(document)
+            for finding in parse_report(case.output.decode()).findings:
+                if finding.word != "local":
+                    continue
+                module = document.certificate.modules[finding.number("module")]
+                wanted = module.assignment_names(finding.number("assignment"))
+                occurrence = diagnosis.occurrence(module, finding.number("assignment"))
+                all_inputs = itertools.product((0, 1), repeat=len(document.circuit.inputs))
+                found = any(gives(document, dict(zip(document.circuit.inputs, bits)), wanted) for bits in all_inputs)
+                tried += 1
+                self.assertEqual(occurrence.occurs, found, f"{case.name}: {finding.text}")
+                if found:
+                    self.assertTrue(gives(document, occurrence.inputs, wanted), f"{case.name}: {finding.text}")
+        self.assertGreater(tried, 50)
+
+    def test_examples_name_their_cause(self) -> None:
+        """The causes of the examples are those that docs/CERTIFICATES.md tells, with the lines that mend them."""
+        for name, report_line, cause, cure in [
+                ("extra_cut", "local 0 edge 3 7 4 3", "never_occurs", "use 0"),
+                ("wrong_edge", "local 1 edge 5 8 8 2", "line", "edge 5 8 8 c"),
+                ("wrong_edge", "local 0 end 6 7 7 1", "not_heard", "edge 5 8 8 c"),
+                ("wrong_end", "local 1 end 6 10 10 2", "layout", "out c 7 7"),
+                ("wrong_stop", "local 0 stop 2 6 6 1", "line", "stop 1 q 6 6"),
+                ("wrong_border", "local 0 end 3 2 2 2", "not_heard", "halo 1 4 4 q"),
+                ("wrong_border", "border 0 1 4 4", "border", "halo 1 4 4 q"),
+                ("outside_domain", "keep 0 1 8", "never_occurs", "use 0"),
+                ("not_kept", "unkept 1", "unkept", "keep 1")]:
+            told = explained_example(name)
+            entry = next(entry for entry in told.entries if entry.report_line == report_line)
+            with self.subTest(f"{name}: {report_line}"):
+                self.assertEqual(entry.cause, cause)
+                self.assertIn(f"`{cure}`", " ".join(entry.cures))
+
+    def test_line_numbers_are_right(self) -> None:
+        """The line of the text that a fault names is the one that says what was wanted."""
+        entry = explained_example("extra_cut").entries[0]
+        text = (support.EXAMPLES / "extra_cut.txt").read_text().split("\n")
+        self.assertEqual(text[entry.line - 1], "edge 3 7 4 a")
+        self.assertIn("p=1 q=1 a=0", entry.what[0])
+
+    def test_forms_for_tools(self) -> None:
+        """`--gcc` has a line for each reason, and JSON is one document."""
+        told = explained_example("wrong_edge")
+        lines = as_gcc(told)
+        self.assertEqual(len(lines), 2)
+        for line in lines:
+            self.assertRegex(line, r"\Awrong_edge:\d+: error: ")
+        program = support.program()
+        ended = support.lab("explain", support.example("wrong_edge"), "--json", "--program", program)
+        self.assertEqual(json.loads(ended.stdout)["verdict"], "no")
+        self.assertEqual(ended.returncode, 1)
+
+
+class Cures(unittest.TestCase):
+    """Cures that are carried out."""
+
+    def test_lines_that_are_left_out_come_back(self) -> None:
+        """Where one edge line of a good bundle is left out, the cure of the first fault is that line."""
+        document = support.read_document((support.EXAMPLES / "gate_and_mirror.txt").read_text(), "check")
+        text = document.text
+        for line in re.findall(r"^edge \d+ .*$", text, re.M):
+            broken = text.replace(line + "\n", "", 1)
+            output = self.answer(broken)
+            told = explain_answer(broken, "check", output, "broken")
+            first = min((entry for entry in told.entries if entry.facts.get("time") is not None), key=lambda entry: entry.facts["time"])
+            wires = {"a": "ad", "d": "ad"}.get(line[-1], line[-1])
+            with self.subTest(line):
+                self.assertTrue(any(f"`{line[:-1]}{wire}`" in " ".join(first.cures) for wire in wires), first.cures)
+
+    def test_cut_certificates_get_a_yes(self) -> None:
+        """A design whose certificate `certify` makes anew gets a yes."""
+        document = support.read_document((support.EXAMPLES / "wrong_edge.txt").read_text())
+        self.assertIn("verdict yes", self.answer(certified(document, (8, 12), 2, "safe")))
+
+    def answer(self, text: str) -> str:
+        """Returns what the program's `check` says of a text."""
+        from bbmlab_core.program import ask
+        return ask(support.program(), "check", text.encode("latin-1")).output
+
+
+def gives(document: support.Document, inputs: dict[str, int], wanted: dict[str, int]) -> bool:
+    """Whether the circuit's values under these inputs are the wanted ones."""
+    values, _ = values_under(document.circuit, {name for name, value in inputs.items() if value})
+    return all(name in values and values[name] == bool(value) for name, value in wanted.items())
+
+
+def explained_example(name: str):
+    """Returns the words of an example's report, which the plain programs of tools/ make."""
+    import sys
+    sys.path.insert(0, str(support.TOP / "tools"))
+    import reference_reports
+    data = (support.EXAMPLES / f"{name}.txt").read_bytes()
+    return explain_answer(data.decode(), "check", reference_reports.answer(data)[1].decode(), name)
+
+
+if __name__ == "__main__":
+    unittest.main()

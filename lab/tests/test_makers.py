@@ -1,0 +1,194 @@
+"""What the lab writes: certificates, spellings, JSON, pattern files and pictures."""
+
+import random
+import shutil
+import subprocess
+import tempfile
+import unittest
+import xml.etree.ElementTree as ET
+from pathlib import Path
+
+import support
+from bbmlab_core import golly, json_form
+from bbmlab_core.boxes import Box
+from bbmlab_core.certify import certified
+from bbmlab_core.drawing import merged
+from bbmlab_core.program import ask
+from bbmlab_core.reports import parse_report
+from bbmlab_core.simulation import run_layout
+from bbmlab_core.spelling import spelled
+from bbmlab_core.terminal import LabError
+
+# Examples, and grids by which they have a certificate.
+GRIDS = [("fredkin_gate", (14, 14)), ("full_adder", (26, 34)), ("timed_modules", (4, 4)), ("gate_and_mirror", (8, 12)), ("not_gate", (6, 6)),
+         ("delay_line", (4, 4)), ("there_and_back", (2, 2)), ("meeting", (4, 4)), ("head_on_bundle", (4, 4))]
+
+
+def design(name: str) -> support.Document:
+    """Returns the circuit and the layout of an example."""
+    text = (support.EXAMPLES / f"{name}.txt").read_text()
+    return support.read_document(text.split("certificate ")[0], "design")
+
+
+class Certificates(unittest.TestCase):
+    """`certify`."""
+
+    def test_the_program_says_yes(self) -> None:
+        """What is made of examples gets a yes, in both versions and with both ways to cut."""
+        for name, grid in GRIDS:
+            for version in (1, 2):
+                for cuts in ("safe", "cheap"):
+                    text = certified(design(name), grid, version, cuts)
+                    with self.subTest(f"{name} {grid} {version} {cuts}"):
+                        self.assertIn("verdict yes", ask(support.program(), "check", text.encode()).output)
+
+    def test_plain_has_one_module(self) -> None:
+        """`--plain` makes one module without edge lines, and it gets a yes."""
+        ended = support.lab("certify", "--plain", support.example("fredkin_gate"))
+        self.assertEqual((ended.stdout.count("module "), ended.stdout.count("edge ")), (1, 0))
+        self.assertIn("verdict yes", ask(support.program(), "check", ended.stdout.encode()).output)
+
+    def test_says_why_there_is_none(self) -> None:
+        """Where a cell has the value of no wire, that is said with time and cell: here c without x goes to (8, 10)."""
+        with self.assertRaisesRegex(LabError, r"at time 1 the cell \(8, 10\) of a ring is live under 2 of 8 assignments, the first with `c` on"):
+            certified(design("fredkin_gate"), (10, 10), 2, "safe")
+
+    def test_cheap_cuts_fewer(self) -> None:
+        """Cheap cuts are fewer somewhere than safe ones."""
+        safe, cheap = (certified(design("gate_and_mirror"), (8, 12), 2, cuts) for cuts in ("safe", "cheap"))
+        self.assertLess(cheap.count("\nuse "), safe.count("\nuse "))
+
+
+class Spelling(unittest.TestCase):
+    """`fmt`."""
+
+    def test_good_texts_stay(self) -> None:
+        """A text that the program takes stays as it is."""
+        for case in support.worked_cases():
+            if case.status in (0, 1) and len(case.input) < 20000:
+                with self.subTest(case.name):
+                    self.assertEqual(spelled(support.decode(case.input)).text, support.decode(case.input))
+
+    def test_free_texts_come_back(self) -> None:
+        """A text with comments, odd spaces, other line ends and shuffled lists of modules comes back."""
+        chooser = random.Random(7)
+        for name in ("gate_and_mirror", "four_modules", "timed_modules", "full_adder"):
+            text = (support.EXAMPLES / f"{name}.txt").read_text()
+            with self.subTest(name):
+                self.assertEqual(spelled(roughened(text, chooser)).text, text)
+
+    def test_a_refused_text_is_mended(self) -> None:
+        """`fmt` on a Windows text is what the program takes."""
+        text = "\ufeff" + (support.EXAMPLES / "head_on.txt").read_text().replace("\n", "\r\n")
+        ended = support.lab("fmt", "-", text=text.encode())
+        self.assertEqual(ended.stdout, (support.EXAMPLES / "head_on.txt").read_text())
+
+
+def roughened(text: str, chooser: random.Random) -> str:
+    """Returns a text with comments and odd spaces, and with the edge, halo and stop lines of each module shuffled."""
+    lines, run = [], []
+    for line in [*text.splitlines(), ""]:
+        if line.startswith(("edge ", "halo ", "stop ")):
+            run.append(line)
+            continue
+        chooser.shuffle(run)
+        lines += [*run, line]
+        run = []
+    rough = [f"  {line.replace(' ', chooser.choice([' ', '  ', chr(9)]))} # note {index}" for index, line in enumerate(lines) if line]
+    return "\xef\xbb\xbf# first\r\n\r\n" + "\r\n".join(rough) + "\r\n\r\n"
+
+
+class Json(unittest.TestCase):
+    """`json` and back."""
+
+    def test_back_to_the_same_text(self) -> None:
+        """Each text that is taken comes back from JSON to the byte."""
+        for case in support.worked_cases():
+            if case.status in (0, 1) and len(case.input) < 20000:
+                document = support.document_of(case)
+                with self.subTest(case.name):
+                    self.assertEqual(json_form.text_from_json(json_form.document_json(document, None)), document.text)
+
+    def test_report_is_in_it(self) -> None:
+        """The report is in the document with its verdict and its lines."""
+        report = parse_report("bbmcheck 1\ncertificate " + "0" * 64 + "\nmodules 1\nverdict no\nlocal 0 end 3 2 2 2\n")
+        text = json_form.document_json(support.read_document((support.EXAMPLES / "wrong_border.txt").read_text()), report)
+        self.assertIn('"verdict": "no"', text)
+        self.assertIn('"assignment": 2', text)
+
+
+class Golly(unittest.TestCase):
+    """Pattern files."""
+
+    def test_there_and_back(self) -> None:
+        """A layout comes back from its pattern file, and so do its live cells."""
+        for name in ("head_on", "off_a_mirror", "full_adder"):
+            document = support.read_document((support.EXAMPLES / f"{name}.txt").read_text())
+            lines = document.text[document.text.index("layout "):].split("\nend\n")[0].split("\n") + ["end"]
+            live = run_layout(document.layout, ["p"]).field.state()
+            text = golly.golly_text(document.layout, live, ["p"], lines)
+            with self.subTest(name):
+                self.assertEqual(golly.layout_from_golly(text), "\n".join(lines) + "\n")
+                self.assertEqual(golly.live_cells(golly.golly_states(text)[0]), live)
+
+    def test_same_states_as_golly(self) -> None:
+        """Golly's run of a pattern file has our live cells at each of some times."""
+        if shutil.which("bgolly") is None:
+            self.skipTest("Golly is not installed (apt-get install golly)")
+        for name, on in (("head_on", ["p", "q"]), ("off_a_mirror", ["a"]), ("fredkin_gate", ["c", "x"]), ("full_adder", ["a", "b"])):
+            document = support.read_document((support.EXAMPLES / f"{name}.txt").read_text())
+            for time in range(0, document.layout.steps + 1, max(1, document.layout.steps // 5)):
+                run = run_layout(document.layout, on)
+                run.run_to(time)
+                with self.subTest(f"{name} at {time}"):
+                    self.assertEqual(golly_run(document, on, time), run.field.state())
+
+    def test_free_patterns_keep_their_phase(self) -> None:
+        """Live cells without comments become balls whose blocks are even ones."""
+        section = golly.layout_from_golly("x = 2, y = 2, rule = BBM-Margolus-emulated\nCB$2B!\n")
+        self.assertEqual(section, "layout 6 6 0\nball 2 2\nend\n")
+
+
+def golly_run(document: support.Document, on: list[str], time: int) -> set:
+    """Returns the live cells that Golly has at a time."""
+    start = run_layout(document.layout, on).field.state()
+    with tempfile.TemporaryDirectory() as room:
+        before, after = Path(room) / "before.rle", Path(room) / "after.rle"
+        before.write_text(golly.golly_text(document.layout, start, on, []))
+        if time == 0:
+            after = before
+        else:
+            subprocess.run(["bgolly", "-q", "-q", "-a", "RuleLoader", "-s", "/usr/share/golly/Rules/", "-m", str(time), "-o", str(after), str(before)], check=True, capture_output=True)
+        # bgolly does not write where the pattern lies; its dead margin stays as it was.
+        return golly.live_cells(golly.golly_states(f"#CXRLE Pos={-golly.MARGIN},{-golly.MARGIN}\n" + after.read_text())[0])
+
+
+class Pictures(unittest.TestCase):
+    """`draw`."""
+
+    def test_pictures_are_svg(self) -> None:
+        """A picture has the mirrors, ports and balls of the layout."""
+        ended = support.lab("draw", support.example("gate_and_mirror"), "--on", "p,q", "--time", "2")
+        root = ET.fromstring(ended.stdout)
+        classes = [part.get("class") for part in root.iter() if part.get("class")]
+        self.assertEqual((classes.count("mirror"), classes.count("in"), classes.count("out"), classes.count("ball")), (1, 2, 4, 2))
+
+    def test_faults_are_marked(self) -> None:
+        """The cells of a report's faults are marked."""
+        with tempfile.NamedTemporaryFile("w", suffix=".report") as report:
+            report.write("bbmcheck 1\ncertificate " + "0" * 64 + "\nmodules 4\nverdict no\nlocal 0 end 3 2 2 2\nborder 0 1 4 4\n")
+            report.flush()
+            ended = support.lab("draw", support.example("wrong_border"), "--report", report.name)
+        self.assertEqual(ended.stdout.count('class="fault"'), 2)
+
+    def test_ways_join(self) -> None:
+        """Segments of one diagonal that meet become one."""
+        self.assertEqual(merged([((0, 0), (1, 1)), ((2, 2), (1, 1)), ((4, 4), (5, 5))]), [((0, 0), (2, 2)), ((4, 4), (5, 5))])
+
+    def test_ring_and_halo(self) -> None:
+        """The ring of a box of four by two cells has all of them, and its halo has sixteen."""
+        self.assertEqual((len(Box(2, 2, 4, 2).ring()), len(Box(2, 2, 4, 2).halo())), (8, 16))
+
+
+if __name__ == "__main__":
+    unittest.main()
