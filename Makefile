@@ -1,6 +1,6 @@
 # Installs, checks and packs the program. No target needs the Rattle kit while the sources are those of the release.
 #
-#   make install [PREFIX=/usr/local] [DESTDIR=..]    the program, its man page, completions and pages
+#   make install [PREFIX=/usr/local] [DESTDIR=..]    the program and the lab, man pages, completions and pages
 #   make uninstall [PREFIX=..] [DESTDIR=..]          removes them
 #   make check        the worked cases and the commands that the pages show (needs Python 3)
 #   make dist         dist/bbmcheck-VERSION-x86_64-linux-gnu.tar.gz, the same bytes each time
@@ -23,8 +23,10 @@ all:
 
 install:
 	'$(top)/tools/install_files' install '$(room)'
+	'$(top)/tools/install_files' install_lab '$(room)'
 
 uninstall:
+	'$(top)/tools/install_files' uninstall_lab '$(room)'
 	'$(top)/tools/install_files' uninstall '$(room)'
 
 check:
