@@ -20,6 +20,7 @@ stands in a text of examples/. Words in capitals stand for others: such a comman
 another part of the gate; so are commands of the kit (`rt`) and .ci/run, which comes here. --list prints the commands and runs none.
 """
 import argparse
+import os
 import re
 import shutil
 import subprocess
@@ -38,7 +39,7 @@ import reference_reports  # noqa: E402
 
 PAGES = ["README.md", "examples/README.md", "docs/*.md", "conformance/README.md", "CHANGELOG.md", "CONTRIBUTING.md"]
 WORDS = "check|run|value|modules|migrate"
-SCRIPT = r"(?:examples|conformance|tools)/\w+(?:\.py)?"
+SCRIPT = r"(?:examples|conformance|lab|tools)/\w+(?:\.py)?"
 COMMAND = re.compile(rf"(?:\./bbmcheck|{SCRIPT}|sed|cp) .*\S")
 BARE, CAPITALS = re.compile(rf"\./bbmcheck (?:{WORDS})"), re.compile(r"\b[A-Z]+\b")
 LISTED = re.compile(r"prints ((?:`[^`]+`(?:, | and )?)+)")
@@ -139,9 +140,13 @@ def make_room(room, program):
     """The folder in which the commands run."""
     for name in ("examples", "conformance"):
         shutil.copytree(TOP / name, room / name, ignore=shutil.ignore_patterns("__pycache__"))
-    for name in ("crates", "docs", "tools"):
+    for name in ("crates", "docs", "lab", "tools"):
         (room / name).symlink_to(TOP / name)
     (room / "bbmcheck").symlink_to(program)
+    # What `make install` puts on PATH.
+    (room / ".bin").mkdir()
+    (room / ".bin" / "bbmcheck").symlink_to(program)
+    (room / ".bin" / "bbmlab").symlink_to(TOP / "lab" / "bbmlab")
 
 
 def of_the_reference(command, room):
@@ -165,11 +170,16 @@ def is_shown(command, output, wanted):
     return all(any(line == piece for line in rest) for piece in wanted)
 
 
+def environment_in(room):
+    """The environment of a command: with the program and the lab on PATH."""
+    return {**os.environ, "PATH": f"{room / '.bin'}:{os.environ['PATH']}", "BBMCHECK": str(room / "bbmcheck")}
+
+
 def faults_of(room, shown):
     """What is wrong with a command."""
     try:
         ended = subprocess.run(["sh", "-c", shown.command], cwd=room, stdin=subprocess.DEVNULL, stdout=subprocess.PIPE,
-                               stderr=subprocess.STDOUT, timeout=SECONDS, check=False)
+                               stderr=subprocess.STDOUT, timeout=SECONDS, check=False, env=environment_in(room))
     except subprocess.TimeoutExpired:
         yield f"it had not ended after {SECONDS} seconds"
         return
