@@ -24,7 +24,7 @@ def page(document: Document, explanation: Explanation | None, title: str) -> str
     assert document.layout
     text = (TEMPLATE / "page.html").read_text(encoding="utf-8")
     pieces = {"TITLE": escape(title), "STYLE": (TEMPLATE / "page.css").read_text(encoding="utf-8"),
-              "AUTOMATON": (TEMPLATE / "automaton.js").read_text(encoding="utf-8"), "PAGE": (TEMPLATE / "page.js").read_text(encoding="utf-8")}
+              "AUTOMATON": (TEMPLATE / "automaton.js").read_text(encoding="utf-8"), "PAGE": "".join((TEMPLATE / name).read_text(encoding="utf-8") for name in ("painting.js", "page.js"))}
     before, after = text.split("DATA")
     for mark in ("TITLE", "STYLE"):
         before = before.replace(mark, pieces[mark])

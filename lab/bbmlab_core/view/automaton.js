@@ -1,174 +1,265 @@
-// The automaton, circuits and runs of modules, without a page: also run by node in lab/tests.
+/**
+ * The automaton, circuits and runs of modules, without a page. Node runs this file too, in lab/tests.
+ *
+ * @typedef {[number, number]} Cell
+ * @typedef {{name: string, cell: Cell}} Port
+ * @typedef {{width: number, height: number, steps: number, mirrors: number[][], balls: Cell[], ins: Port[], outs: Port[],
+ *   wastes: Cell[]}} Layout
+ * @typedef {{gate: string, parameter: ?number, ins: string[], outs: string[]}} Gate
+ * @typedef {{inputs: string[], gates: Gate[], outputs: string[]}} Circuit
+ * @typedef {[?number, number, number, string]} BorderLine time (null is every odd time), x, y, signal
+ * @typedef {{box: number[], cuts: string[], uses: number[], edges: BorderLine[], halos: BorderLine[], stops: Array}} Module
+ * @typedef {{layout: Layout, circuit: ?Circuit, certificate: ?{version: number, modules: Module[]}}} Data
+ */
 "use strict";
 
-// A cell as one number, so that a block's other cells are 1, 1024 and 1025 further.
-const ROW = 1024;
-const keyOf = (x, y) => (y + 2) * ROW + x + 2;
-const xOf = (key) => key % ROW - 2;
-const yOf = (key) => Math.floor(key / ROW) - 2;
-const blockOf = (key, odd) => {
-  const x = key % ROW, y = Math.floor(key / ROW);
-  return (y - ((y ^ odd) & 1)) * ROW + x - ((x ^ odd) & 1);
-};
+const bbmlab = (() => {
+  // A cell is one number, so that a block's other cells are 1, 1024 and 1025 further. Sides are at most 512.
+  const ROW = 1024;
 
-// Applies the block rule to the blocks of some cells, and returns the cells that changed.
-function turnBlocks(live, cells, odd) {
-  const changed = new Set(), done = new Set();
-  for (const key of cells) {
-    const a = blockOf(key, odd);
-    if (done.has(a)) continue;
-    done.add(a);
-    const d = a + ROW + 1, b = a + 1, c = a + ROW;
+  /** @type {(x: number, y: number) => number} */
+  const keyOf = (x, y) => (y + 2) * ROW + x + 2;
+
+  /** @type {(key: number) => number} */
+  const xOf = (key) => key % ROW - 2;
+
+  /** @type {(key: number) => number} */
+  const yOf = (key) => Math.floor(key / ROW) - 2;
+
+  /** Returns the upper left cell of the block that has a cell. Even steps take even blocks. */
+  const blockOf = (key, odd) => {
+    const x = key % ROW, y = Math.floor(key / ROW);
+    return (y - ((y ^ odd) & 1)) * ROW + x - ((x ^ odd) & 1);
+  };
+
+  /**
+   * Returns the cells of a block that the rule turns. One ball crosses the block; two on a diagonal go to the other diagonal;
+   * everything else stays (Margolus 1984, block rule).
+   */
+  function turnedCells(live, a) {
+    const b = a + 1, c = a + ROW, d = a + ROW + 1;
     const one = live.has(a) + live.has(d), other = live.has(b) + live.has(c);
-    const turned = one === 1 && other === 0 ? [a, d] : one === 0 && other === 1 ? [b, c]
-      : (one === 2 && other === 0) || (one === 0 && other === 2) ? [a, b, c, d] : [];
-    for (const cell of turned) {
-      if (!live.delete(cell)) live.add(cell);
-      changed.add(cell);
+    if (one + other === 1) return one === 1 ? [a, d] : [b, c];
+    return one + other === 2 && one !== other ? [a, b, c, d] : [];
+  }
+
+  /**
+   * Applies the block rule to the blocks of some cells, and returns the cells that changed.
+   * @param {Set<number>} live
+   * @param {Iterable<number>[]} lists
+   * @param {number} odd
+   * @returns {Set<number>}
+   */
+  function turnBlocks(live, lists, odd) {
+    const changed = new Set(), done = new Set();
+    for (const cells of lists) {
+      for (const key of cells) {
+        const block = blockOf(key, odd);
+        if (done.has(block)) continue;
+        done.add(block);
+        for (const cell of turnedCells(live, block)) {
+          if (!live.delete(cell)) live.add(cell);
+          changed.add(cell);
+        }
+      }
     }
-  }
-  return changed;
-}
-
-// A whole run. The rule undoes itself on each block, so steps go back as well as forward.
-class WholeRun {
-  constructor(layout, on) {
-    this.layout = layout;
-    this.live = new Set(startKeys(layout, (name) => on.has(name)));
-    this.time = 0;
-    this.direction = 0;
-    this.recent = [];
-    this.every = Math.max(64, Math.ceil(layout.steps / 64));
-    this.snapshots = new Map([[0, Int32Array.from(this.live)]]);
-    this.leftAt = null;
+    return changed;
   }
 
-  isInside(key) {
-    const x = xOf(key), y = yOf(key);
-    return x >= 0 && y >= 0 && x < this.layout.width && y < this.layout.height;
-  }
-
-  turn(odd, direction) {
-    // Only blocks in which one of the last two steps changed something can change; after a turn of direction all are tried.
-    if (this.direction !== direction) { this.direction = direction; this.recent = [null, null]; }
-    const all = this.recent.some((cells) => cells === null);
-    const cells = all ? [...this.live] : [...this.recent[0], ...this.recent[1]];
-    this.recent = [this.recent[1], turnBlocks(this.live, cells, odd)];
-  }
-
-  forward() {
-    if (this.time === this.layout.steps || this.leftAt === this.time + 1) return false;
-    this.turn(this.time % 2, 1);
-    this.time += 1;
-    if ([...this.recent[1]].some((key) => this.live.has(key) && !this.isInside(key))) {
-      this.leftAt = this.time;
-      this.backward();
-      return false;
+  /**
+   * Returns the cells that are live at the start.
+   * @param {Layout} layout
+   * @param {(name: string) => boolean} isOn whether a wire is true
+   * @returns {number[]}
+   */
+  function startKeys(layout, isOn) {
+    const keys = [];
+    for (const [x, y, w, h] of layout.mirrors) {
+      for (let v = y; v < y + h; v += 1) for (let u = x; u < x + w; u += 1) keys.push(keyOf(u, v));
     }
-    if (this.time % this.every === 0 && !this.snapshots.has(this.time)) this.snapshots.set(this.time, Int32Array.from(this.live));
-    return true;
+    for (const [x, y] of layout.balls) keys.push(keyOf(x, y));
+    for (const port of layout.ins) if (isOn(port.name)) keys.push(keyOf(...port.cell));
+    return keys;
   }
 
-  backward() {
-    if (this.time === 0) return false;
-    this.turn((this.time - 1) % 2, -1);
-    this.time -= 1;
-    return true;
-  }
+  /** Returns how many steps lie between two snapshots. */
+  const snapshotStep = (steps) => Math.max(64, Math.ceil(steps / 64));
 
-  seek(time) {
-    const near = [...this.snapshots.keys()].reduce((best, at) => (Math.abs(at - time) < Math.abs(best - time) ? at : best), this.time);
-    if (near !== this.time) {
+  /** A run of a whole layout. The rule undoes itself on each block, so steps go back as well as forward. */
+  class WholeRun {
+    /** @param {Layout} layout @param {Set<string>} on the inputs that are true */
+    constructor(layout, on) {
+      this.layout = layout;
+      this.live = new Set(startKeys(layout, (name) => on.has(name)));
+      this.time = 0;
+      this.direction = 1;
+      // What changed in the last two steps, or null where that is not known.
+      this.recent = [null, null];
+      this.every = snapshotStep(layout.steps);
+      this.snapshots = new Map([[0, Int32Array.from(this.live)]]);
+      this.leftAt = null;
+    }
+
+    /** Whether a cell lies in the rectangle. */
+    isInside(key) {
+      const x = xOf(key), y = yOf(key);
+      return x >= 0 && y >= 0 && x < this.layout.width && y < this.layout.height;
+    }
+
+    /** Makes one step in a direction. Only blocks in which one of the last two steps changed a cell can change. */
+    turn(odd, direction) {
+      if (this.direction !== direction) this.recent = [this.recent[1], this.recent[0]];
+      this.direction = direction;
+      const lists = this.recent.includes(null) ? [[...this.live]] : this.recent;
+      this.recent = [this.recent[1], turnBlocks(this.live, lists, odd)];
+    }
+
+    /** Makes the next step, and returns whether there is one and it stays in the rectangle. */
+    forward() {
+      if (this.time === this.layout.steps || this.leftAt === this.time + 1) return false;
+      this.turn(this.time % 2, 1);
+      this.time += 1;
+      for (const key of this.recent[1]) {
+        if (this.live.has(key) && !this.isInside(key)) {
+          this.leftAt = this.time;
+          this.backward();
+          return false;
+        }
+      }
+      if (this.time % this.every === 0 && !this.snapshots.has(this.time)) this.snapshots.set(this.time, Int32Array.from(this.live));
+      return true;
+    }
+
+    /** Undoes the last step, and returns whether there was one. */
+    backward() {
+      if (this.time === 0) return false;
+      this.turn((this.time - 1) % 2, -1);
+      this.time -= 1;
+      return true;
+    }
+
+    /** Takes the snapshot that is nearest to a time, if it is nearer than the present state. */
+    jump(time) {
+      const near = [...this.snapshots.keys()].reduce((best, at) => (Math.abs(at - time) < Math.abs(best - time) ? at : best), this.time);
+      if (near === this.time) return;
       this.live = new Set(this.snapshots.get(near));
       this.time = near;
-      this.direction = 0;
+      this.recent = [null, null];
     }
-    while (this.time < time && this.forward());
-    while (this.time > time && this.backward());
-  }
-}
 
-// The cells that are live at the start, where isOn says which wires are true.
-function startKeys(layout, isOn) {
-  const keys = [];
-  for (const [x, y, w, h] of layout.mirrors) {
-    for (let v = y; v < y + h; v += 1) for (let u = x; u < x + w; u += 1) keys.push(keyOf(u, v));
-  }
-  for (const [x, y] of layout.balls) keys.push(keyOf(x, y));
-  for (const port of layout.ins) if (isOn(port.name)) keys.push(keyOf(...port.cell));
-  return keys;
-}
-
-const ROWS = {
-  fredkin: ([c, x, y]) => (c ? [c, x, y] : [c, y, x]),
-  cswap: ([c, x, y]) => (c ? [c, y, x] : [c, x, y]),
-  interact: ([p, q]) => [p && q, !p && q, p && !q, p && q],
-  switch: ([c, x]) => [c, c && x, !c && x],
-  delay: ([a]) => [a],
-  unswitch: ([c, y, z]) => ((c ? z : y) ? null : [c, y || z]),
-  uninteract: ([a, b, c, d]) => ({ 0: [false, false], 4: [false, true], 2: [true, false], 9: [true, true] })[a * 8 + b * 4 + c * 2 + d * 1] || null,
-};
-
-// Adds the values that gates give. Behind a gate without a row there are none.
-function addGates(circuit, numbers, values) {
-  for (const number of numbers) {
-    const gate = circuit.gates[number];
-    const row = gate.gate === "source" ? [gate.parameter === 1] : ROWS[gate.gate](gate.ins.map((name) => Boolean(values.get(name))));
-    if (row === null) return values;
-    gate.outs.forEach((name, index) => values.set(name, Boolean(row[index])));
-  }
-  return values;
-}
-
-const circuitValues = (circuit, on) =>
-  addGates(circuit, circuit.gates.keys(), new Map(circuit.inputs.map((name) => [name, on.has(name)])));
-
-// The run of a module by itself under one assignment of its cuts. It goes forward only.
-class ModuleRun {
-  constructor(data, number, assignment) {
-    const module = data.certificate.modules[number];
-    Object.assign(this, { data, module, number, assignment });
-    this.values = addGates(data.circuit, module.uses, new Map(module.cuts.map((name, index) => [name, Boolean(assignment >> index & 1)])));
-    this.values.set("1", true);
-    this.heardLines = heardLines(data, number);
-    this.restart();
+    /** Goes to a time, or to the last time before a ball leaves the rectangle. */
+    seek(time) {
+      this.jump(time);
+      while (this.time < time && this.forward());
+      while (this.time > time && this.backward());
+    }
   }
 
-  restart() {
-    this.live = new Set(startKeys(this.data.layout, (name) => this.values.get(name)).filter((key) => this.isInside(key)));
-    this.time = 0;
+  /** The rows of the gates: the outputs for some inputs, or null where a gate has none (docs/FORMATS.md). */
+  const ROWS = {
+    fredkin: ([c, x, y]) => (c ? [c, x, y] : [c, y, x]),
+    cswap: ([c, x, y]) => (c ? [c, y, x] : [c, x, y]),
+    interact: ([p, q]) => [p && q, !p && q, p && !q, p && q],
+    switch: ([c, x]) => [c, c && x, !c && x],
+    delay: ([a]) => [a],
+    unswitch: ([c, y, z]) => ((c ? z : y) ? null : [c, y || z]),
+    uninteract: ([a, b, c, d]) => ({ 0: [false, false], 4: [false, true], 2: [true, false], 9: [true, true] })[a * 8 + b * 4 + c * 2 + d * 1] || null,
+  };
+
+  /**
+   * Adds the values that gates give. Behind a gate without a row there are none.
+   * @param {Circuit} circuit
+   * @param {Iterable<number>} numbers
+   * @param {Map<string, boolean>} values
+   */
+  function addGates(circuit, numbers, values) {
+    for (const number of numbers) {
+      const gate = circuit.gates[number];
+      const row = gate.gate === "source" ? [gate.parameter === 1] : ROWS[gate.gate](gate.ins.map((name) => Boolean(values.get(name))));
+      if (row === null) return values;
+      gate.outs.forEach((name, index) => values.set(name, Boolean(row[index])));
+    }
+    return values;
   }
 
-  isInside(key) {
-    const [x, y, w, h] = this.module.box;
-    return xOf(key) >= x && yOf(key) >= y && xOf(key) < x + w && yOf(key) < y + h;
+  /** Returns the value of each wire where just the inputs `on` are true. @type {(circuit: Circuit, on: Set<string>) => Map<string, boolean>} */
+  const circuitValues = (circuit, on) =>
+    addGates(circuit, circuit.gates.keys(), new Map(circuit.inputs.map((name) => [name, on.has(name)])));
+
+  /** Returns the lines that a module hears: its halo lines, in version 2 the edge lines of others for the cells around its box. */
+  function heardLines(data, number) {
+    const modules = data.certificate.modules, [x, y, w, h] = modules[number].box;
+    if (data.certificate.version === 1) return modules[number].halos;
+    const isNear = (u, v) => u >= x - 1 && v >= y - 1 && u <= x + w && v <= y + h;
+    return modules.flatMap((module, other) => (other === number ? [] : module.edges.filter(([, u, v]) => isNear(u, v))));
   }
 
-  heardNow() {
-    if (this.time % 2 === 0 || this.time >= this.data.layout.steps) return [];
-    return this.heardLines.filter(([time, , , signal]) => (time === null || time === this.time) && this.values.get(signal))
-      .map(([, x, y]) => keyOf(x, y));
+  /** The run of a module by itself under one assignment of its cuts: bit i is the value of cut i. */
+  class ModuleRun {
+    /** @param {Data} data @param {number} number @param {number} assignment */
+    constructor(data, number, assignment) {
+      const module = data.certificate.modules[number];
+      Object.assign(this, { data, module, number, assignment });
+      this.values = addGates(data.circuit, module.uses, new Map(module.cuts.map((name, index) => [name, Boolean(assignment >> index & 1)])));
+      this.values.set("1", true);
+      this.every = snapshotStep(data.layout.steps);
+      this.always = [];
+      this.timed = new Map();
+      for (const line of heardLines(data, number)) if (this.values.get(line[3])) this.hear(line);
+      this.live = new Set(startKeys(data.layout, (name) => Boolean(this.values.get(name))).filter((key) => this.isInside(key)));
+      this.time = 0;
+      this.recent = null;
+      this.snapshots = new Map([[0, Int32Array.from(this.live)]]);
+    }
+
+    /** Files a line whose signal is true. */
+    hear([time, x, y]) {
+      if (time !== null && !this.timed.has(time)) this.timed.set(time, []);
+      (time === null ? this.always : this.timed.get(time)).push(keyOf(x, y));
+    }
+
+    /** Whether a cell lies in the box. */
+    isInside(key) {
+      const [x, y, w, h] = this.module.box;
+      return xOf(key) >= x && yOf(key) >= y && xOf(key) < x + w && yOf(key) < y + h;
+    }
+
+    /** Returns the cells around the box that the module is told to be live now. */
+    heardNow() {
+      if (this.time % 2 === 0 || this.time >= this.data.layout.steps) return [];
+      return [...this.always, ...(this.timed.get(this.time) || [])];
+    }
+
+    /** Makes the next step: an even one in the box, an odd one with what is heard; then only the box is kept. */
+    forward() {
+      const heard = this.heardNow();
+      for (const key of heard) this.live.add(key);
+      const lists = this.recent === null ? [[...this.live]] : [...this.recent, heard];
+      const changed = turnBlocks(this.live, lists, this.time % 2);
+      for (const key of [...heard, ...changed]) {
+        if (this.isInside(key)) continue;
+        this.live.delete(key);
+        // What is cut off or heard counts as changed, since it is so for the blocks at the border.
+        changed.add(key);
+      }
+      this.recent = [this.recent === null ? [...this.live] : this.recent[1], changed];
+      this.time += 1;
+      if (this.time % this.every === 0 && !this.snapshots.has(this.time)) this.snapshots.set(this.time, Int32Array.from(this.live));
+    }
+
+    /** Goes to a time, from the last snapshot before it if that is nearer than the present state. */
+    seek(time) {
+      const start = Math.max(...[...this.snapshots.keys()].filter((at) => at <= time));
+      if (time < this.time || start > this.time) {
+        this.live = new Set(this.snapshots.get(start));
+        this.time = start;
+        this.recent = null;
+      }
+      while (this.time < time) this.forward();
+    }
   }
 
-  forward() {
-    for (const key of this.heardNow()) this.live.add(key);
-    turnBlocks(this.live, [...this.live], this.time % 2);
-    for (const key of [...this.live]) if (!this.isInside(key)) this.live.delete(key);
-    this.time += 1;
-  }
+  return { WholeRun, ModuleRun, circuitValues, startKeys, keyOf, xOf, yOf };
+})();
 
-  seek(time) {
-    if (time < this.time) this.restart();
-    while (this.time < time) this.forward();
-  }
-}
-
-// What a module hears: its halo lines, in version 2 the edge lines of others for the cells around its box.
-function heardLines(data, number) {
-  const modules = data.certificate.modules, [x, y, w, h] = modules[number].box;
-  if (data.certificate.version === 1) return modules[number].halos;
-  const isBeside = (u, v) => u >= x - 1 && v >= y - 1 && u <= x + w && v <= y + h && !(u >= x && v >= y && u < x + w && v < y + h);
-  return modules.flatMap((module, other) => (other === number ? [] : module.edges.filter(([, u, v]) => isBeside(u, v))));
-}
-
-if (typeof module !== "undefined") module.exports = { WholeRun, ModuleRun, circuitValues, keyOf, xOf, yOf };
+if (typeof module !== "undefined") module.exports = bbmlab;

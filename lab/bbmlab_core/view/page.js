@@ -1,349 +1,416 @@
-// The page: shows a layout and its runs. All state is in `view`.
+/** The page: shows a layout and its runs. All state is in `view`. */
 "use strict";
 
-const data = JSON.parse(document.getElementById("data").textContent);
-const element = (id) => document.getElementById(id);
-const layout = data.layout, modules = data.certificate ? data.certificate.modules : [];
-const mirrors = new Set(startKeys({ mirrors: layout.mirrors, balls: [], ins: [] }, () => false));
-const names = data.circuit ? data.circuit.inputs : [...new Set(layout.ins.map((port) => port.name))];
-const view = { on: new Set(), run: null, ahead: null, last: null, own: null, fault: null, scale: 10, left: 0, top: 0, timer: null };
-const said = linesByTime();
-const colour = (name) => getComputedStyle(document.documentElement).getPropertyValue(`--${name}`).trim();
+(() => {
+  const { WholeRun, ModuleRun, circuitValues, startKeys, keyOf, painting } = bbmlab;
+  const element = (id) => document.getElementById(id);
+  /** @type {Data} */
+  const data = JSON.parse(element("data").textContent);
+  const layout = data.layout, modules = data.certificate ? data.certificate.modules : [];
+  const mirrors = new Set(startKeys({ mirrors: layout.mirrors, balls: [], ins: [] }, () => false));
+  const names = data.circuit ? data.circuit.inputs : [...new Set(layout.ins.map((port) => port.name))];
+  const MAX_LINES_SHOWN = 200;
+  const view = { on: new Set(), values: null, run: null, ahead: null, good: null, own: null, fault: null, module: null, scale: 10, left: 0, top: 0,
+    playing: false, isFit: true, lines: [], target: 0 };
+  const said = linesByTime();
 
-// Begins a run anew with the inputs that are on, and keeps the time.
-function restart() {
-  const time = view.run ? view.run.time : 0;
-  view.run = new WholeRun(layout, view.on);
-  view.last = null;
-  clearTimeout(view.aheadTimer);
-  view.ahead = new WholeRun(layout, view.on);
-  view.ahead.snapshots = view.run.snapshots;
-  runAhead();
-  seek(time);
-}
-
-// Runs to the last time in slices, so that the page stays quick. Its snapshots serve the slider too.
-function runAhead() {
-  const until = performance.now() + 20, ahead = view.ahead;
-  let moved = true;
-  while (moved && performance.now() < until) moved = ahead.forward();
-  if (moved) {
-    element("outputs").textContent = `running to the last time: ${ahead.time} of ${layout.steps}`;
-    view.aheadTimer = setTimeout(runAhead, 0);
-  } else {
-    showOutputs();
-    if (view.run.time === layout.steps) paint();
+  /** Returns a new element with a text. */
+  function made(tag, text, className = "") {
+    const found = document.createElement(tag);
+    found.textContent = text;
+    found.className = className;
+    return found;
   }
-}
 
-function seek(time) {
-  view.run.seek(Math.max(0, Math.min(layout.steps, time)));
-  if (view.own) view.own.seek(view.run.time);
-  element("slider").value = view.run.time;
-  element("time").textContent = `${view.run.time} of ${layout.steps}`;
-  element("status").textContent = view.run.leftAt === null ? "" : `Step ${view.run.leftAt} makes a cell outside the rectangle live.`;
-  showLines();
-  paint();
-}
-
-// Compares the outputs at the last time with the circuit's values.
-function showOutputs() {
-  const box = element("outputs"), last = view.ahead;
-  box.replaceChildren();
-  if (!data.circuit) { box.textContent = "no circuit"; return; }
-  const values = circuitValues(data.circuit, view.on);
-  view.last = new Map();
-  for (const port of layout.outs) {
-    const wanted = Boolean(values.get(port.name)), isGood = last.time === layout.steps && last.live.has(keyOf(...port.cell)) === wanted;
-    view.last.set(keyOf(...port.cell), isGood);
-    const label = document.createElement("span");
-    label.className = isGood ? "good" : "bad";
-    label.textContent = `${isGood ? "✓" : "✗"} ${port.name}=${Number(wanted)}`;
-    label.title = isGood ? "as the circuit says" : "not as the circuit says";
-    box.append(label);
+  /** Appends a text to an element, where words between backticks are code. */
+  function appendWords(parent, text) {
+    text.split("`").forEach((part, index) => parent.append(index % 2 ? made("code", part) : part));
+    return parent;
   }
-}
 
-// The edge, halo and stop lines by their times; lines for all odd times stand at "*".
-function linesByTime() {
-  const found = new Map();
-  const add = (time, line) => { if (!found.has(time)) found.set(time, []); found.get(time).push(line); };
-  modules.forEach((module, number) => {
-    for (const [kind, lines] of [["edge", module.edges], ["halo", module.halos]]) {
-      for (const [time, x, y, signal] of lines) add(time === null ? "*" : time, { kind, number, x, y, signal });
+  /** Begins the runs anew with the inputs that are on, and goes to a time. */
+  function restart(time = view.target) {
+    view.values = data.circuit ? circuitValues(data.circuit, view.on) : null;
+    view.run = new WholeRun(layout, view.on);
+    view.ahead = new WholeRun(layout, view.on);
+    view.ahead.snapshots = view.run.snapshots;
+    view.good = null;
+    clearTimeout(view.aheadTimer);
+    seek(time);
+    runAhead();
+  }
+
+  /** Runs to the last time in slices, so that the page stays quick. Its snapshots serve the slider too. */
+  function runAhead() {
+    const until = performance.now() + 25, ahead = view.ahead;
+    let moved = true;
+    for (let count = 1; moved && (count % 16 || performance.now() < until); count += 1) moved = ahead.forward();
+    if (moved) {
+      element("outputs").textContent = `Running to the last time: ${ahead.time} of ${layout.steps}.`;
+      view.aheadTimer = setTimeout(runAhead, 0);
+      return;
     }
-    for (const [time, signal, x, y] of module.stops) add(time, { kind: "stop", number, x, y, signal });
-  });
-  return found;
-}
-
-// The lines that speak of this time.
-function linesNow() {
-  const time = view.run.time, timed = said.get(time) || [];
-  return time % 2 === 1 && time < layout.steps ? [...timed, ...(said.get("*") || [])] : timed;
-}
-
-function showLines() {
-  element("lines-box").hidden = modules.length === 0;
-  const shown = linesNow().filter((line) => line.signal !== "1").slice(0, 200).map((line) => {
-    const item = document.createElement("li");
-    item.textContent = `module ${line.number}: ${line.kind} ${line.x} ${line.y} ${line.signal}`;
-    return item;
-  });
-  element("lines").replaceChildren(...shown);
-}
-
-function fit() {
-  const canvas = element("whole");
-  view.scale = Math.max(1, Math.min(canvas.clientWidth / (layout.width + 2), canvas.clientHeight / (layout.height + 2)));
-  view.left = -1;
-  view.top = -1;
-  paint();
-}
-
-// A canvas with its real number of pixels, cleared.
-function cleared(canvas) {
-  const ratio = window.devicePixelRatio || 1;
-  canvas.width = Math.max(1, canvas.clientWidth * ratio);
-  canvas.height = Math.max(1, canvas.clientHeight * ratio);
-  const pen = canvas.getContext("2d");
-  pen.setTransform(ratio, 0, 0, ratio, 0, 0);
-  pen.clearRect(0, 0, canvas.clientWidth, canvas.clientHeight);
-  return pen;
-}
-
-function paintGrid(pen, place, box) {
-  if (place.scale < 5) return;
-  pen.strokeStyle = colour("line");
-  pen.lineWidth = 0.5;
-  pen.beginPath();
-  const odd = view.run.time % 2;
-  for (let x = box[0] + odd; x <= box[0] + box[2]; x += 2) { pen.moveTo(place.x(x), place.y(box[1])); pen.lineTo(place.x(x), place.y(box[1] + box[3])); }
-  for (let y = box[1] + odd; y <= box[1] + box[3]; y += 2) { pen.moveTo(place.x(box[0]), place.y(y)); pen.lineTo(place.x(box[0] + box[2]), place.y(y)); }
-  pen.stroke();
-}
-
-function paintCells(pen, place, live, others) {
-  const scale = place.scale;
-  for (const key of live) {
-    const x = place.x(xOf(key)), y = place.y(yOf(key));
-    if (x < -scale || y < -scale || x > pen.canvas.clientWidth || y > pen.canvas.clientHeight) continue;
-    const isMirror = mirrors.has(key);
-    pen.fillStyle = others && !others.has(key) ? colour("bad") : colour(isMirror ? "mirror" : "ball");
-    if (isMirror || scale < 4) pen.fillRect(x, y, Math.max(1, scale), Math.max(1, scale));
-    else { pen.beginPath(); pen.arc(x + scale / 2, y + scale / 2, scale * 0.36, 0, 7); pen.fill(); }
+    view.run.leftAt = ahead.leftAt;
+    showOutputs();
+    showTime();
+    paint();
   }
-}
 
-function paintPorts(pen, place) {
-  pen.font = `bold ${Math.max(9, Math.min(14, place.scale * 0.8))}px sans-serif`;
-  pen.textAlign = "center";
-  const outline = (cell, dash, ink) => {
-    pen.strokeStyle = ink;
-    pen.lineWidth = 1.5;
-    pen.setLineDash(dash);
-    pen.strokeRect(place.x(cell[0]) + 1, place.y(cell[1]) + 1, place.scale - 2, place.scale - 2);
-    pen.setLineDash([]);
-  };
-  const label = (text, cell, down, ink) => {
-    if (place.scale < 6) return;
-    pen.fillStyle = ink;
-    pen.fillText(text, place.x(cell[0] + 0.5), down ? place.y(cell[1] + 1) + 11 : place.y(cell[1]) - 3);
-  };
-  for (const port of layout.ins) { outline(port.cell, [], colour("ink")); label(`→${port.name}`, port.cell, false, colour("ink")); }
-  for (const port of layout.outs) {
-    const good = view.last && view.run.time === layout.steps ? view.last.get(keyOf(...port.cell)) : undefined;
-    const ink = good === undefined ? colour("ink") : colour(good ? "good" : "bad");
-    outline(port.cell, [3, 2], ink);
-    label(`${good === undefined ? "" : good ? "✓" : "✗"}${port.name}→`, port.cell, true, ink);
+  /** Goes to a time: in slices, so that a far one does not stop the page. */
+  function seek(time) {
+    view.target = Math.max(0, Math.min(layout.steps, time));
+    clearTimeout(view.seekTimer);
+    view.run.jump(view.target);
+    seekOn();
   }
-  pen.strokeStyle = colour("ink");
-  pen.lineWidth = 1;
-  for (const [x, y] of layout.wastes) {
-    pen.beginPath();
-    pen.moveTo(place.x(x + 0.2), place.y(y + 0.2)); pen.lineTo(place.x(x + 0.8), place.y(y + 0.8));
-    pen.moveTo(place.x(x + 0.8), place.y(y + 0.2)); pen.lineTo(place.x(x + 0.2), place.y(y + 0.8));
-    pen.stroke();
+
+  /** Makes the steps of a seek for a while, and goes on later if more are needed. */
+  function seekOn() {
+    const until = performance.now() + 40, { run, target } = view;
+    let moved = true;
+    for (let count = 1; moved && run.time !== target && (count % 16 || performance.now() < until); count += 1) {
+      moved = run.time < target ? run.forward() : run.backward();
+    }
+    if (moved && run.time !== target) view.seekTimer = setTimeout(() => { run.jump(target); seekOn(); }, 0);
+    else view.target = run.time;
+    if (view.own) view.own.seek(run.time);
+    showTime();
+    showLines();
+    paint();
   }
-}
 
-function paintModules(pen, place) {
-  pen.strokeStyle = pen.fillStyle = colour("box");
-  pen.setLineDash(place.scale < 4 ? [] : [6, 4]);
-  pen.lineWidth = place.scale < 4 ? 0.3 : 1;
-  pen.font = "11px sans-serif";
-  pen.textAlign = "left";
-  modules.forEach(({ box: [x, y, w, h] }, number) => {
-    pen.strokeRect(place.x(x), place.y(y), w * place.scale, h * place.scale);
-    if (w * place.scale > 24) pen.fillText(number, place.x(x) + 3, place.y(y) + 12);
-  });
-  pen.setLineDash([]);
-  pen.strokeStyle = pen.fillStyle = colour("edge");
-  for (const line of place.scale >= 4 ? linesNow() : []) {
-    pen.strokeRect(place.x(line.x) + 2, place.y(line.y) + 2, place.scale - 4, place.scale - 4);
-    if (place.scale >= 14 && line.signal !== "1" && line.kind !== "halo") pen.fillText(line.signal, place.x(line.x) + 2, place.y(line.y) - 1);
+  /** Shows the time, and whether a ball leaves. */
+  function showTime() {
+    const { time, leftAt } = view.run, slider = element("slider");
+    slider.value = view.target;
+    slider.setAttribute("aria-valuetext", `time ${view.target} of ${layout.steps}`);
+    element("time").textContent = `${time} of ${layout.steps}`;
+    const next = time === layout.steps ? "The last time." : `Next come the ${time % 2 ? "odd" : "even"} blocks.`;
+    element("status").textContent = leftAt === null ? next : `Step ${leftAt} makes a cell outside the rectangle live: the run ends before it.`;
   }
-}
 
-function paintFault(pen, place) {
-  if (!view.fault) return;
-  const [x, y] = view.fault.cell;
-  pen.strokeStyle = colour("bad");
-  pen.lineWidth = 3;
-  pen.beginPath();
-  pen.arc(place.x(x + 0.5), place.y(y + 0.5), Math.max(8, place.scale * 0.8), 0, 7);
-  pen.stroke();
-}
+  /** Compares the outputs at the last time with the circuit's values. */
+  function showOutputs() {
+    const box = element("outputs"), { ahead, values } = view;
+    box.replaceChildren();
+    if (!values) { box.textContent = "The text has no circuit to compare with."; return; }
+    view.good = new Map();
+    for (const port of layout.outs) {
+      const wanted = values.get(port.name), key = keyOf(...port.cell), isLive = ahead.live.has(key);
+      const isGood = ahead.time === layout.steps && wanted === isLive;
+      view.good.set(key, isGood);
+      const why = wanted === undefined ? "has no value in the circuit" : ahead.leftAt !== null ? "the run ends early"
+        : isGood ? "as the circuit says" : `the cell is ${isLive ? "live" : "dead"}`;
+      const label = made("span", `${isGood ? "✓" : "✗"} ${port.name}=${wanted === undefined ? "?" : Number(wanted)}`, isGood ? "good" : "bad");
+      label.title = `${port.name} at (${port.cell.join(", ")}): ${why}`;
+      if (!isGood) label.textContent += ` (${why})`;
+      box.append(label);
+    }
+  }
 
-function paint() {
-  const canvas = element("whole"), pen = cleared(canvas), { scale, left, top } = view;
-  const place = { scale, x: (x) => (x - left) * scale, y: (y) => (y - top) * scale };
-  const box = [0, 0, layout.width, layout.height];
-  pen.strokeStyle = colour("mirror");
-  pen.strokeRect(place.x(0), place.y(0), layout.width * scale, layout.height * scale);
-  paintGrid(pen, place, box);
-  paintCells(pen, place, view.run.live, null);
-  paintModules(pen, place);
-  paintPorts(pen, place);
-  paintFault(pen, place);
-  if (view.own) paintOwn();
-}
+  /** Returns the edge, halo and stop lines by their times; lines for all odd times are at "*". */
+  function linesByTime() {
+    const found = new Map();
+    const add = (time, line) => { if (!found.has(time)) found.set(time, []); found.get(time).push(line); };
+    modules.forEach((module, number) => {
+      for (const [kind, lines] of [["edge", module.edges], ["halo", module.halos]]) {
+        for (const [time, x, y, signal] of lines) add(time === null ? "*" : time, { kind, number, time, x, y, signal });
+      }
+      for (const [time, signal, x, y] of module.stops) add(time, { kind: "stop", number, time, x, y, signal });
+    });
+    return found;
+  }
 
-// The module's own run. Cells that are live here and not in the whole run, or the other way round, are red.
-function paintOwn() {
-  const canvas = element("own"), pen = cleared(canvas), [x, y, w, h] = view.own.module.box;
-  const scale = Math.min(canvas.clientWidth / (w + 2), canvas.clientHeight / (h + 2));
-  const place = { scale, x: (u) => (u - x + 1) * scale, y: (v) => (v - y + 1) * scale };
-  pen.strokeStyle = colour("box");
-  pen.strokeRect(place.x(x), place.y(y), w * scale, h * scale);
-  paintGrid(pen, place, view.own.module.box);
-  const whole = new Set([...view.run.live].filter((key) => view.own.isInside(key)));
-  paintCells(pen, place, view.own.live, whole);
-  pen.strokeStyle = colour("bad");
-  for (const key of whole) if (!view.own.live.has(key)) pen.strokeRect(place.x(xOf(key)) + 1, place.y(yOf(key)) + 1, scale - 2, scale - 2);
-  paintFault(pen, place);
-}
+  /** Returns the lines that speak of the present time, those of the chosen module first. */
+  function linesNow() {
+    const time = view.run.time, timed = said.get(time) || [];
+    const found = time % 2 === 1 && time < layout.steps ? [...timed, ...(said.get("*") || [])] : timed;
+    if (view.module === null) return found;
+    return [...found.filter((line) => line.number === view.module), ...found.filter((line) => line.number !== view.module)];
+  }
 
-function showFault(entry, button) {
-  const facts = entry.facts;
-  for (const other of document.querySelectorAll("#report button")) other.setAttribute("aria-pressed", String(other === button));
-  if (!facts.cell) return;
-  view.fault = facts;
-  if (facts.inputs) {
-    view.on = new Set(Object.keys(facts.inputs).filter((name) => facts.inputs[name]));
+  /** Lists the lines of the present time with the values that their wires have in the circuit. */
+  function showLines() {
+    element("lines-box").hidden = modules.length === 0;
+    view.lines = linesNow();
+    const value = (signal) => (signal === "1" ? true : view.values ? view.values.get(signal) : undefined);
+    const shown = view.lines.slice(0, MAX_LINES_SHOWN).map(({ kind, number, time, x, y, signal }) => {
+      const place = kind === "stop" ? `${time} ${signal} ${x} ${y}` : `${time === null ? "*" : time} ${x} ${y} ${signal}`;
+      const now = value(signal) === undefined ? "" : signal === "1" ? " (live)" : ` (${signal}=${Number(value(signal))})`;
+      const item = made("li", "");
+      item.append(`module ${number}: `, made("span", `${kind} ${place}`, kind), now);
+      return item;
+    });
+    const more = view.lines.length - shown.length;
+    if (more > 0) shown.push(made("li", `and ${more} more`));
+    element("lines").replaceChildren(...(shown.length ? shown : [made("li", "No line speaks of this time.")]));
+  }
+
+  /** Shows the whole layout in the middle of the canvas. */
+  function fit() {
+    const canvas = element("whole"), wide = layout.width + 2, high = layout.height + 3;
+    view.scale = Math.min(60, canvas.clientWidth / wide, canvas.clientHeight / high);
+    view.left = layout.width / 2 - canvas.clientWidth / view.scale / 2;
+    view.top = layout.height / 2 - canvas.clientHeight / view.scale / 2;
+    view.isFit = true;
+    paint();
+  }
+
+  /** Draws at the next frame, once however often it is called. */
+  function paint() {
+    if (view.frame) return;
+    view.frame = requestAnimationFrame(() => { view.frame = null; paintWhole(); if (view.own) paintOwn(); });
+  }
+
+  /** Draws the whole layout. */
+  function paintWhole() {
+    const place = painting.placeOn(element("whole"), view.scale, view.left, view.top), box = [0, 0, layout.width, layout.height];
+    painting.grid(place, box, view.run.time % 2);
+    painting.outline(place, box, place.inks.soft, [], 0, 1.5);
+    painting.cells(place, view.run.live, mirrors);
+    painting.modules(place, modules, view.module);
+    painting.lines(place, view.lines);
+    painting.ports(place, layout, view.run.time === layout.steps ? view.good : null);
+    if (view.fault) painting.ring(place, view.fault);
+  }
+
+  /** Draws the module's own run, and marks the cells that differ from the whole run. */
+  function paintOwn() {
+    const canvas = element("own"), own = view.own, [x, y, w, h] = own.module.box;
+    const scale = Math.min(48, canvas.clientWidth / (w + 4), canvas.clientHeight / (h + 4));
+    const place = painting.placeOn(canvas, scale, x + w / 2 - canvas.clientWidth / scale / 2, y + h / 2 - canvas.clientHeight / scale / 2);
+    const heard = own.heardNow().map((key) => [bbmlab.xOf(key), bbmlab.yOf(key)]);
+    const isSame = own.time === view.run.time;
+    const more = isSame ? [...own.live].filter((key) => !view.run.live.has(key)) : [];
+    const less = isSame ? [...view.run.live].filter((key) => own.isInside(key) && !own.live.has(key)) : [];
+    painting.grid(place, own.module.box, own.time % 2);
+    painting.outline(place, own.module.box, place.inks.box, [6, 4], 0, 1.5);
+    painting.cells(place, own.live, mirrors);
+    for (const cell of heard) painting.outline(place, [...cell, 1, 1], place.inks.halo, [2, 2], 3, 2.5);
+    painting.differences(place, more, less);
+    if (view.fault) painting.ring(place, view.fault);
+    const told = heard.length ? ` Dotted: ${heard.length} live around the box, as the module is told.` : "";
+    element("beside-note").textContent = (more.length + less.length === 0 ? "No cell differs from the whole run now."
+      : `${more.length + less.length} cells differ from the whole run: ✗ is live only here, ☐ only there.`) + told;
+  }
+
+  /** Returns all stops of a wire in order of time. */
+  const stopsOf = (wire) => modules.flatMap((module, number) => module.stops.filter((stop) => stop[1] === wire)
+    .map(([time, , x, y]) => ({ time, cell: [x, y], module: number }))).sort((a, b) => a.time - b.time);
+
+  /** Returns the stop that a line `delay` or `meet` speaks of, if there is one. */
+  function stopOf(facts) {
+    if (facts.last_stops) {
+      const late = Object.entries(facts.last_stops).sort((a, b) => b[1] - a[1])[0];
+      return late && stopsOf(late[0]).at(-1);
+    }
+    const gate = data.circuit && facts.gate !== undefined && data.circuit.gates[facts.gate];
+    return gate ? stopsOf(gate.outs[0])[0] || (gate.ins[0] && stopsOf(gate.ins[0]).at(-1)) : undefined;
+  }
+
+  /** Opens the run of a module by itself. The bits of an assignment are in order of the cuts. */
+  function openOwn(number, values) {
+    const bits = modules[number].cuts.reduce((sum, name, index) => sum + (values[name] ? 2 ** index : 0), 0);
+    view.own = new ModuleRun(data, number, bits);
+    const words = Object.entries(values).map(([name, value]) => `${name}=${value}`).join(" ") || "no cuts";
+    element("beside-title").textContent = `Module ${number} by itself with ${words}.`;
+    element("beside").hidden = false;
+  }
+
+  /** Closes the run of a module by itself. */
+  function closeOwn() {
+    view.own = null;
+    element("beside").hidden = true;
+    if (view.isFit) fit(); else paint();
+  }
+
+  /** Sets the inputs that are on. */
+  function setInputs(values) {
+    for (const [name, value] of Object.entries(values)) if (value) view.on.add(name); else view.on.delete(name);
     for (const box of document.querySelectorAll("#inputs input")) box.checked = view.on.has(box.value);
   }
-  if (facts.assignment) {
-    const bits = Object.values(facts.assignment).reduce((sum, value, index) => sum + value * 2 ** index, 0);
-    view.own = new ModuleRun(data, facts.module, bits);
-    element("beside").hidden = false;
-    const values = Object.entries(facts.assignment).map(([name, value]) => `${name}=${value}`).join(" ");
-    element("beside-title").textContent = `Module ${facts.module} by itself with ${values}. Red cells differ from the whole run.`;
+
+  /** Goes to the module, time, assignment and cell of a line of the report. */
+  function showEntry(entry, button) {
+    for (const other of document.querySelectorAll("#report button")) other.setAttribute("aria-pressed", String(other === button));
+    const facts = entry.facts, stop = facts.cell || facts.assignment ? undefined : stopOf(facts);
+    play(false);
+    view.fault = facts.cell || (stop ? stop.cell : null);
+    view.module = facts.module !== undefined ? facts.module : stop ? stop.module : null;
+    if (facts.inputs) setInputs(facts.inputs);
+    if (facts.assignment && facts.module !== undefined) openOwn(facts.module, facts.assignment); else closeOwn();
+    restart(facts.time !== undefined ? facts.time : stop ? stop.time : view.target);
+    const box = view.module === null ? null : modules[view.module].box;
+    const centre = view.fault ? view.fault.map((part) => part + 0.5) : box ? [box[0] + box[2] / 2, box[1] + box[3] / 2] : null;
+    if (centre) lookAt(centre, box);
+    if (innerWidth <= 800) element("whole").scrollIntoView({ block: "nearest" });
   }
-  restart();
-  seek(facts.time);
-  const canvas = element("whole");
-  view.scale = Math.max(view.scale, 8);
-  view.left = facts.cell[0] + 0.5 - canvas.clientWidth / view.scale / 2;
-  view.top = facts.cell[1] + 0.5 - canvas.clientHeight / view.scale / 2;
-  paint();
-}
 
-function showReport() {
-  const explanation = data.explanation, box = element("report");
-  element("verdict").textContent = explanation ? explanation.headline[0] : "No report: the program was not run.";
-  if (!explanation) { box.textContent = "No report."; return; }
-  element("verdict").className = explanation.verdict === "yes" ? "good" : "bad";
-  for (const entry of explanation.entries) {
-    const button = document.createElement("button");
-    button.type = "button";
-    button.textContent = entry.report_line;
-    button.addEventListener("click", () => showFault(entry, button));
-    box.append(button, ...[...entry.what, ...entry.cures.map((cure) => `Cure: ${cure}`)].map((text) => {
-      const paragraph = document.createElement("p");
-      paragraph.textContent = text;
-      return paragraph;
-    }));
-  }
-  if (explanation.entries.length === 0) box.textContent = explanation.headline.join(" ");
-}
-
-function play(isOn) {
-  clearInterval(view.timer);
-  view.timer = null;
-  element("play").textContent = isOn ? "■ stop" : "▶ play";
-  if (!isOn) return;
-  if (view.run.time === layout.steps) seek(0);
-  view.timer = setInterval(() => {
-    const before = view.run.time;
-    seek(before + 1);
-    if (view.run.time === before) play(false);
-  }, 1000 / Number(element("speed").value));
-}
-
-function zoom(factor, x, y) {
-  const scale = Math.max(0.5, Math.min(60, view.scale * factor));
-  view.left += x / view.scale - x / scale;
-  view.top += y / view.scale - y / scale;
-  view.scale = scale;
-  paint();
-}
-
-function onKey(event) {
-  if (event.target.tagName === "INPUT" && event.key !== "Escape" || event.target.tagName === "BUTTON" && event.key === " ") return;
-  const canvas = element("whole"), pan = 40 / view.scale, middle = [canvas.clientWidth / 2, canvas.clientHeight / 2];
-  const moves = { ArrowLeft: [-pan, 0], ArrowRight: [pan, 0], ArrowUp: [0, -pan], ArrowDown: [0, pan] };
-  const actions = {
-    " ": () => play(view.timer === null), ArrowRight: () => seek(view.run.time + 1), ArrowLeft: () => seek(view.run.time - 1),
-    Home: () => seek(0), End: () => seek(layout.steps), "0": fit, "+": () => zoom(1.25, ...middle), "=": () => zoom(1.25, ...middle),
-    "-": () => zoom(0.8, ...middle),
-  };
-  if (event.shiftKey && moves[event.key]) { view.left += moves[event.key][0]; view.top += moves[event.key][1]; paint(); }
-  else if (actions[event.key] && !event.ctrlKey && !event.metaKey && !event.altKey) actions[event.key]();
-  else return;
-  event.preventDefault();
-}
-
-function listenToCanvas(canvas) {
-  let from = null;
-  canvas.addEventListener("pointerdown", (event) => { from = [event.clientX, event.clientY]; canvas.setPointerCapture(event.pointerId); });
-  canvas.addEventListener("pointerup", () => { from = null; });
-  canvas.addEventListener("pointermove", (event) => {
-    if (!from) return;
-    view.left -= (event.clientX - from[0]) / view.scale;
-    view.top -= (event.clientY - from[1]) / view.scale;
-    from = [event.clientX, event.clientY];
+  /** Moves the picture to a place. It shows all if that is large enough, else the module. */
+  function lookAt([x, y], box) {
+    const canvas = element("whole");
+    fit();
+    if (view.scale >= 12) return;
+    const side = box ? Math.max(box[2], box[3]) + 8 : 24;
+    view.scale = Math.max(view.scale, Math.min(28, Math.max(8, Math.min(canvas.clientWidth, canvas.clientHeight) / side)));
+    view.left = x - canvas.clientWidth / view.scale / 2;
+    view.top = y - canvas.clientHeight / view.scale / 2;
+    view.isFit = false;
     paint();
-  });
-  canvas.addEventListener("wheel", (event) => { event.preventDefault(); zoom(event.deltaY < 0 ? 1.15 : 0.87, event.offsetX, event.offsetY); },
-    { passive: false });
-}
-
-function begin() {
-  for (const name of names) {
-    const label = document.createElement("label"), box = document.createElement("input");
-    box.type = "checkbox";
-    box.value = name;
-    box.addEventListener("change", () => { if (box.checked) view.on.add(name); else view.on.delete(name); restart(); });
-    label.append(box, ` ${name}`);
-    element("inputs").append(label);
   }
-  if (names.length === 0) element("inputs").textContent = "none";
-  element("slider").max = layout.steps;
-  element("slider").addEventListener("input", (event) => seek(Number(event.target.value)));
-  element("speed").addEventListener("change", () => { if (view.timer !== null) play(true); });
-  element("play").addEventListener("click", () => play(view.timer === null));
-  element("back").addEventListener("click", () => seek(view.run.time - 1));
-  element("next").addEventListener("click", () => seek(view.run.time + 1));
-  element("fit").addEventListener("click", fit);
-  element("close-own").addEventListener("click", () => { view.own = null; element("beside").hidden = true; paint(); });
-  document.addEventListener("keydown", onKey);
-  window.addEventListener("resize", paint);
-  matchMedia("(prefers-color-scheme: dark)").addEventListener("change", paint);
-  listenToCanvas(element("whole"));
-  showReport();
-  restart();
-  fit();
-}
 
-begin();
+  /** Writes the report: each line is a button, with its words below. */
+  function showReport() {
+    const explanation = data.explanation, box = element("report"), verdict = element("verdict");
+    if (!explanation) {
+      verdict.textContent = modules.length ? "No verdict: the program was not run." : "No verdict: the text has no certificate.";
+      box.textContent = "There is no report.";
+      return;
+    }
+    const isGood = explanation.verdict === "yes";
+    verdict.textContent = `${isGood ? "✓" : "✗"} ${explanation.headline[0]}`;
+    verdict.className = isGood ? "good" : "bad";
+    for (const text of explanation.headline.slice(1)) box.append(appendWords(made("p", ""), text));
+    for (const entry of explanation.entries) {
+      const button = made("button", `${entry.is_against ? "✗" : "✓"} ${entry.report_line}`);
+      button.type = "button";
+      button.setAttribute("aria-pressed", "false");
+      button.addEventListener("click", () => showEntry(entry, button));
+      box.append(button);
+      for (const text of entry.what) box.append(appendWords(made("p", ""), text));
+      for (const text of entry.cures) box.append(appendWords(made("p", ""), `Cure: ${text}`));
+    }
+  }
+
+  /** Returns how many steps a second are made. */
+  const rate = () => 2 ** Number(element("speed").value);
+
+  /** Begins or ends playing. */
+  function play(isOn) {
+    view.playing = isOn;
+    element("play").textContent = isOn ? "■ stop" : "▶ play";
+    cancelAnimationFrame(view.playFrame);
+    if (!isOn) return;
+    if (view.run.time === layout.steps || view.run.leftAt === view.run.time + 1) seek(0);
+    view.playedAt = performance.now();
+    view.playFrame = requestAnimationFrame(playOn);
+  }
+
+  /** Makes the steps that are due since the last frame. */
+  function playOn() {
+    const count = Math.floor((performance.now() - view.playedAt) / 1000 * rate());
+    if (count > 0) {
+      // A page that was hidden, or is slow, does not make up for lost time.
+      view.playedAt = performance.now() - view.playedAt > 500 ? performance.now() : view.playedAt + count / rate() * 1000;
+      const before = view.run.time;
+      seek(before + Math.min(count, Math.max(1, Math.ceil(rate() / 2))));
+      if (view.run.time === before || view.run.time === layout.steps) { play(false); return; }
+    }
+    view.playFrame = requestAnimationFrame(playOn);
+  }
+
+  /** Zooms about a place of the canvas, its middle if none is given. */
+  function zoom(factor, x = element("whole").clientWidth / 2, y = element("whole").clientHeight / 2) {
+    const scale = Math.max(0.5, Math.min(80, view.scale * factor));
+    view.left += x / view.scale - x / scale;
+    view.top += y / view.scale - y / scale;
+    view.scale = scale;
+    view.isFit = false;
+    paint();
+  }
+
+  /** Moves the picture by pixels. */
+  function pan(x, y) {
+    view.left += x / view.scale;
+    view.top += y / view.scale;
+    view.isFit = false;
+    paint();
+  }
+
+  const MOVES = { ArrowLeft: [-40, 0], ArrowRight: [40, 0], ArrowUp: [0, -40], ArrowDown: [0, 40] };
+  const ACTIONS = {
+    " ": () => play(!view.playing), ArrowRight: () => { play(false); seek(view.target + 1); }, ArrowLeft: () => { play(false); seek(view.target - 1); },
+    Home: () => seek(0), End: () => seek(layout.steps), "0": fit, "+": () => zoom(1.25), "=": () => zoom(1.25), "-": () => zoom(0.8),
+  };
+
+  /** Whether the element that has the focus uses a key itself. */
+  function isTaken(target, key) {
+    if (target.type === "range") return key !== " ";
+    return ["INPUT", "BUTTON", "SUMMARY"].includes(target.tagName) && key === " ";
+  }
+
+  /** Does what a key asks. */
+  function onKey(event) {
+    if (event.ctrlKey || event.metaKey || event.altKey || isTaken(event.target, event.key)) return;
+    if (event.shiftKey && MOVES[event.key]) pan(...MOVES[event.key]);
+    else if (ACTIONS[event.key]) ACTIONS[event.key]();
+    else return;
+    event.preventDefault();
+  }
+
+  /** Moves and zooms by mouse, wheel and fingers: one finger moves, two zoom. */
+  function listenToCanvas(canvas) {
+    const fingers = new Map();
+    const gap = () => { const [a, b] = [...fingers.values()]; return Math.hypot(a[0] - b[0], a[1] - b[1]); };
+    canvas.addEventListener("pointerdown", (event) => {
+      fingers.set(event.pointerId, [event.offsetX, event.offsetY]);
+      canvas.setPointerCapture(event.pointerId);
+    });
+    for (const name of ["pointerup", "pointercancel"]) canvas.addEventListener(name, (event) => fingers.delete(event.pointerId));
+    canvas.addEventListener("pointermove", (event) => {
+      const from = fingers.get(event.pointerId);
+      if (!from) return;
+      const before = fingers.size === 2 ? gap() : 0;
+      fingers.set(event.pointerId, [event.offsetX, event.offsetY]);
+      if (before > 0) zoom(gap() / before, event.offsetX, event.offsetY);
+      else if (fingers.size === 1) pan(from[0] - event.offsetX, from[1] - event.offsetY);
+    });
+    canvas.addEventListener("wheel", (event) => {
+      event.preventDefault();
+      zoom(Math.exp(-Math.max(-100, Math.min(100, event.deltaY)) / 500), event.offsetX, event.offsetY);
+    }, { passive: false });
+  }
+
+  /** Makes a switch for each input. */
+  function makeInputs() {
+    for (const name of names) {
+      const label = made("label", ""), box = made("input", "");
+      box.type = "checkbox";
+      box.value = name;
+      box.addEventListener("change", () => { if (box.checked) view.on.add(name); else view.on.delete(name); restart(); });
+      label.append(box, name);
+      element("inputs").append(label);
+    }
+    if (names.length === 0) element("inputs").textContent = "The layout has no inputs.";
+  }
+
+  /** Says what the signs of the picture mean. */
+  function showSigns() {
+    const signs = ["● a ball, ■ a mirror, × waste", "→name an input, name→ an output (✓ or ✗ at the last time)"];
+    if (modules.length) signs.push("dashed boxes: modules with their numbers", "E edge, S stop with their wires; dotted: halo");
+    element("signs").replaceChildren(...signs.map((text) => made("li", text)));
+  }
+
+  /** Sets what the controls do. */
+  function listen() {
+    const clicks = { play: () => play(!view.playing), back: ACTIONS.ArrowLeft, next: ACTIONS.ArrowRight, first: ACTIONS.Home, last: ACTIONS.End, fit,
+      in: () => zoom(1.25), out: () => zoom(0.8), "close-own": closeOwn };
+    for (const [id, action] of Object.entries(clicks)) element(id).addEventListener("click", () => action());
+    element("slider").max = layout.steps;
+    element("slider").addEventListener("input", (event) => seek(Number(event.target.value)));
+    const showRate = () => { element("rate").textContent = `${rate()} ${rate() === 1 ? "step" : "steps"} a second`; };
+    element("speed").addEventListener("input", showRate);
+    showRate();
+    document.addEventListener("keydown", onKey);
+    new ResizeObserver(() => (view.isFit ? fit() : paint())).observe(element("whole"));
+    matchMedia("(prefers-color-scheme: dark)").addEventListener("change", paint);
+    listenToCanvas(element("whole"));
+  }
+
+  makeInputs();
+  showSigns();
+  listen();
+  showReport();
+  restart(0);
+  fit();
+})();
