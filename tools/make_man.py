@@ -13,11 +13,12 @@ from typing import NamedTuple
 
 TOP = Path(__file__).resolve().parent.parent
 MAN = TOP / "share" / "man" / "man1" / "bbmcheck.1"
+FORMATS = TOP / "docs" / "FORMATS.md"
 BASH = TOP / "share" / "bash-completion" / "completions" / "bbmcheck"
 ZSH = TOP / "share" / "zsh" / "site-functions" / "_bbmcheck"
 FISH = TOP / "share" / "fish" / "vendor_completions.d" / "bbmcheck.fish"
 MANIFEST = TOP / "release" / "x86_64-linux-gnu" / "MANIFEST"
-NOTE = "tools/make_man.py writes this file from what the program prints with --help and --version."
+NOTE = "tools/make_man.py writes this file from what the program prints with --help and --version, and from docs/FORMATS.md."
 # What an installed program has beside it.
 PAGES = [("FORMATS.md", "the texts, the refusals and the statuses"), ("CERTIFICATES.md", "how to write a certificate"),
          ("OPERATING.md", "how to run it as a service: limits, statuses, a sandbox"), ("examples/", "texts to try")]
@@ -33,6 +34,18 @@ class Help(NamedTuple):
     writes: str
     statuses: list  # of a number and when it comes
     example: str
+
+# The lines of a report, and what each says.
+REPORT_LINES = [
+    ("local M edge T X Y A", "in the run of the module by itself this cell of its ring is not as its edge line says, or dead without one"),
+    ("local M stop T X Y A", "the cell of a stop line is not as its wire at this time"),
+    ("local M end T X Y A", "at the last time the cell is not what the layout asks of it"),
+    ("keep M G A", "an inverse gate that the module keeps has no row under this assignment"),
+    ("border M T X Y", "the module and its neighbour say different things of this cell"),
+    ("unkept G", "no module keeps this inverse gate"),
+    ("delay G N M", "the stops of the delay of N steps are M steps apart; a fault unless M is N"),
+    ("meet G T", "the inputs of the gate have their last stops at the time T; a fault if it says `differ`"),
+]
 
 
 def said(program, *words):
@@ -86,6 +99,13 @@ def release_date():
     return re.search(r"^date (\S+)$", MANIFEST.read_text(), re.MULTILINE).group(1)
 
 
+def refusal_codes():
+    """The codes of refusals, and what each is for, from the table of docs/FORMATS.md."""
+    section = FORMATS.read_text().split("\n## Refusals\n")[1].split("\n## ")[0]
+    found = re.findall(r"^\| (?:then word by word from the left: )?(.+) \| (\d+) \|$", section, re.MULTILINE)
+    return sorted(((code, about) for about, code in found), key=lambda row: int(row[0]))
+
+
 def man_page(version, top, pages):
     first, *facts = version.splitlines()
     yield from (f".\\\" {NOTE}", f'.TH BBMCHECK 1 "{release_date()}" "{roff(first)}" "User Commands"')
@@ -99,6 +119,11 @@ def man_page(version, top, pages):
         yield from command_part(name, pages[name]) if name in pages else (f".SS {name}", f"{roff(about)}.")
     yield ".SH EXIT STATUS"
     yield from tagged(top.statuses)
+    yield from (".SH REFUSALS", roff("`refused LINE CODE` names the first line with a failing test, counted from 1, and its first failing test:"))
+    yield from tagged(refusal_codes())
+    yield from (".SH REPORTS", roff("After `verdict no` the report of `check` has lines for the reasons. M is a module, T a time, X Y a cell,"),
+                roff("G a gate, and A an assignment: bit i of A is the value of the module's cut i."))
+    yield from tagged(REPORT_LINES)
     yield from (".SH EXAMPLE", f".B {roff(top.example)}", ".SH VERSION", roff(first))
     for fact in facts:
         yield from (".br", roff(fact))
