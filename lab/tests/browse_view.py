@@ -87,7 +87,7 @@ def use_controls(page: Page) -> None:
     page.keys(" ")
     page.wait(lambda: page.text("time") == "3 of 3" and "play" in page.text("play"), "playing comes to the end and stops")
     page.keys("+", "+", Keys.SHIFT + Keys.ARROW_LEFT + Keys.NULL, "0")
-    assert "not proved" in page.browser.page_source or "Nothing on this page is proved" in page.browser.page_source
+    assert "Nothing on this page is proved" in page.browser.find_element(By.TAG_NAME, "footer").text
 
 
 def use_report(page: Page) -> None:
@@ -102,6 +102,7 @@ def use_report(page: Page) -> None:
     page.scheme("light")
     page.click("#report button", 1)
     assert page.text("time") == "1 of 3" and not page.browser.find_element(By.ID, "beside").is_displayed()
+    page.shoot("border")
 
 
 def use_wrong(page: Page) -> None:

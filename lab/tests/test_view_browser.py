@@ -20,14 +20,15 @@ input q
 source 1 -> r
 fredkin p q r -> a b c
 output a
+output b
 output c
-spill b
 end
-layout 8 8 4
+layout 8 8 2
 ball 4 4
 in p 0 0
 in q 2 0
 out a 4 0
+out b 6 2
 out c 6 0
 end
 certificate 2

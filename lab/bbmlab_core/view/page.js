@@ -401,7 +401,7 @@
     for (const [id, action] of Object.entries(clicks)) element(id).addEventListener("click", () => action());
     element("slider").max = layout.steps;
     element("slider").addEventListener("input", (event) => seek(Number(event.target.value)));
-    const showRate = () => { element("rate").textContent = `${counted(rate(), "step", "steps")} a second`; };
+    const showRate = () => { element("rate").textContent = `${counted(rate(), "step", "steps")}/s`; };
     element("speed").addEventListener("input", showRate);
     showRate();
     document.addEventListener("keydown", onKey);
