@@ -19,15 +19,17 @@ def page_data(document: Document, explanation: Explanation | None) -> str:
     return json.dumps(parts).replace("<", "\\u003c")
 
 
+def piece(*names: str) -> str:
+    """Returns the text of files of the template, one behind the other."""
+    return "".join((TEMPLATE / name).read_text(encoding="utf-8") for name in names)
+
+
 def page(document: Document, explanation: Explanation | None, title: str) -> str:
     """Writes the page: the template with its style, its scripts and its data in place."""
     assert document.layout
-    text = (TEMPLATE / "page.html").read_text(encoding="utf-8")
-    pieces = {"TITLE": escape(title), "STYLE": (TEMPLATE / "page.css").read_text(encoding="utf-8"),
-              "AUTOMATON": (TEMPLATE / "automaton.js").read_text(encoding="utf-8"), "PAGE": "".join((TEMPLATE / name).read_text(encoding="utf-8") for name in ("painting.js", "page.js"))}
-    before, after = text.split("DATA")
-    for mark in ("TITLE", "STYLE"):
-        before = before.replace(mark, pieces[mark])
-    for mark in ("AUTOMATON", "PAGE"):
-        after = after.replace(f"<script>{mark}</script>", f"<script>\n{pieces[mark]}</script>")
+    before, after = piece("page.html").split("DATA")
+    for mark, text in (("STYLE", piece("page.css")), ("TITLE", escape(title))):
+        before = before.replace(mark, text)
+    for mark, text in (("AUTOMATON", piece("automaton.js")), ("PAGE", piece("painting.js", "page.js"))):
+        after = after.replace(f"<script>{mark}</script>", f"<script>\n{text}</script>")
     return before + page_data(document, explanation) + after

@@ -170,9 +170,12 @@
     painting.cells(place, view.run.live, mirrors);
     painting.modules(place, modules, view.module);
     painting.lines(place, view.lines);
-    painting.ports(place, layout, view.run.time === layout.steps ? view.good : null);
     if (view.fault) painting.ring(place, view.fault);
+    painting.ports(place, layout, view.run.time === layout.steps ? view.good : null);
   }
+
+  /** Writes a number with its noun. */
+  const counted = (count, one, several) => `${count} ${count === 1 ? one : several}`;
 
   /** Draws the module's own run, and marks the cells that differ from the whole run. */
   function paintOwn() {
@@ -191,7 +194,7 @@
     if (view.fault) painting.ring(place, view.fault);
     const told = heard.length ? ` Dotted: ${heard.length} live around the box, as the module is told.` : "";
     element("beside-note").textContent = (more.length + less.length === 0 ? "No cell differs from the whole run now."
-      : `${more.length + less.length} cells differ from the whole run: ✗ is live only here, ☐ only there.`) + told;
+      : `${counted(more.length + less.length, "cell differs", "cells differ")} from the whole run: ✗ is live only here, ☐ only there.`) + told;
   }
 
   /** Returns all stops of a wire in order of time. */
@@ -398,7 +401,7 @@
     for (const [id, action] of Object.entries(clicks)) element(id).addEventListener("click", () => action());
     element("slider").max = layout.steps;
     element("slider").addEventListener("input", (event) => seek(Number(event.target.value)));
-    const showRate = () => { element("rate").textContent = `${rate()} ${rate() === 1 ? "step" : "steps"} a second`; };
+    const showRate = () => { element("rate").textContent = `${counted(rate(), "step", "steps")}/s`; };
     element("speed").addEventListener("input", showRate);
     showRate();
     document.addEventListener("keydown", onKey);

@@ -64,17 +64,13 @@ bbmlab.painting = (() => {
     pen.fill();
   }
 
-  /** Draws the live cells that can be seen, mirrors first. Goes by cells of the picture or by live cells, whichever are fewer. */
+  /** Draws the live cells that can be seen, mirrors first. */
   function cells(place, live, mirrors) {
     const x0 = Math.max(-2, Math.floor(place.left)), x1 = Math.min(514, Math.ceil(place.left + place.wide / place.scale));
     const y0 = Math.max(-2, Math.floor(place.top)), y1 = Math.min(514, Math.ceil(place.top + place.high / place.scale));
     const balls = [];
     const show = (key, x, y) => { if (mirrors.has(key)) cell(place, x, y, true); else balls.push([x, y]); };
-    if ((x1 - x0) * (y1 - y0) < live.size) {
-      for (let y = y0; y < y1; y += 1) for (let x = x0; x < x1; x += 1) if (live.has(keyOf(x, y))) show(keyOf(x, y), x, y);
-    } else {
-      for (const key of live) if (isSeen(place, xOf(key), yOf(key))) show(key, xOf(key), yOf(key));
-    }
+    for (let y = y0; y < y1; y += 1) for (let x = x0; x < x1; x += 1) if (live.has(keyOf(x, y))) show(keyOf(x, y), x, y);
     for (const [x, y] of balls) cell(place, x, y, false);
   }
 

@@ -1,0 +1,144 @@
+#!/usr/bin/python3
+"""browse_view.py FOLDER: uses FOLDER/fault.html (of wrong_border.txt), FOLDER/wrong.html and FOLDER/large.html in headless Chromium.
+
+It runs with Debian's python3-selenium, and writes screenshots of two sizes, light and dark, to FOLDER.
+"""
+import sys
+import time
+from pathlib import Path
+from typing import Callable
+
+from selenium import webdriver
+from selenium.webdriver.chrome.service import Service
+from selenium.webdriver.common.by import By
+from selenium.webdriver.common.keys import Keys
+
+SIZES = {"wide": (1280, 800), "phone": (390, 844)}
+
+
+class Page:
+    """A page in a headless browser."""
+
+    def __init__(self, folder: Path) -> None:
+        options = webdriver.ChromeOptions()
+        for word in ("--headless", "--no-sandbox", "--hide-scrollbars"):
+            options.add_argument(word)
+        options.set_capability("goog:loggingPrefs", {"browser": "ALL"})
+        self.folder, self.browser = folder, webdriver.Chrome(service=Service("/usr/bin/chromedriver"), options=options)
+
+    def open(self, name: str) -> None:
+        """Opens a page of the folder at the wide size."""
+        self.size("wide")
+        self.browser.get((self.folder / f"{name}.html").resolve().as_uri())
+
+    def size(self, name: str) -> None:
+        """Sets the size of the window."""
+        width, height = SIZES[name]
+        self.browser.execute_cdp_cmd("Emulation.setDeviceMetricsOverride", {"width": width, "height": height, "deviceScaleFactor": 1, "mobile": False})
+
+    def scheme(self, name: str) -> None:
+        """Sets light or dark."""
+        self.browser.execute_cdp_cmd("Emulation.setEmulatedMedia", {"features": [{"name": "prefers-color-scheme", "value": name}]})
+
+    def text(self, name: str) -> str:
+        """Returns the text of an element."""
+        return self.browser.find_element(By.ID, name).text
+
+    def click(self, selector: str, which: int = 0) -> None:
+        """Clicks an element."""
+        self.browser.find_elements(By.CSS_SELECTOR, selector)[which].click()
+
+    def keys(self, *keys: str) -> None:
+        """Presses keys on the picture."""
+        self.browser.find_element(By.ID, "whole").send_keys(*keys)
+
+    def wait(self, test: Callable[[], bool], what: str, seconds: float = 20) -> None:
+        """Waits until something holds."""
+        until = time.monotonic() + seconds
+        while not test():
+            assert time.monotonic() < until, what
+            time.sleep(0.05)
+
+    def shoot(self, name: str) -> None:
+        """Writes a screenshot at each size, with nothing wider than the window."""
+        for size in SIZES:
+            self.size(size)
+            time.sleep(0.3)
+            too_wide = self.browser.execute_script("return document.documentElement.scrollWidth > innerWidth")
+            assert not too_wide, f"{name} is wider than the window at {size}"
+            self.browser.save_screenshot(str(self.folder / f"{name}_{size}.png"))
+        self.size("wide")
+
+
+def use_controls(page: Page) -> None:
+    """Steps by keys and buttons, plays, and toggles an input."""
+    page.open("fault")
+    assert page.text("time") == "0 of 3" and "The verdict is no" in page.text("verdict"), page.text("verdict")
+    page.keys(Keys.ARROW_RIGHT)
+    assert page.text("time") == "1 of 3" and "edge 1 3 3 p" in page.text("lines"), page.text("lines")
+    page.keys(Keys.END, Keys.ARROW_LEFT)
+    assert page.text("time") == "2 of 3"
+    page.keys(Keys.HOME)
+    page.click("#next")
+    assert page.text("time") == "1 of 3"
+    page.click("#inputs input[value=p]")
+    page.wait(lambda: "c=1" in page.text("outputs"), "the switch of p changes the outputs")
+    assert "✗" not in page.text("outputs") and "(p=1)" in page.text("lines"), page.text("lines")
+    page.keys(" ")
+    page.wait(lambda: page.text("time") == "3 of 3" and "play" in page.text("play"), "playing comes to the end and stops")
+    page.keys("+", "+", Keys.SHIFT + Keys.ARROW_LEFT + Keys.NULL, "0")
+    assert "Nothing on this page is proved" in page.browser.find_element(By.TAG_NAME, "footer").text
+
+
+def use_report(page: Page) -> None:
+    """Clicks lines of the report."""
+    page.click("#report button")
+    assert page.text("time") == "3 of 3" and "Module 0 by itself with p=0 q=1" in page.text("beside-title"), page.text("beside-title")
+    page.wait(lambda: "1 cell differs" in page.text("beside-note"), "the cell that differs is counted")
+    assert not page.browser.find_element(By.CSS_SELECTOR, "#inputs input[value=p]").is_selected()
+    page.shoot("fault")
+    page.scheme("dark")
+    page.shoot("fault_dark")
+    page.scheme("light")
+    page.click("#report button", 1)
+    assert page.text("time") == "1 of 3" and not page.browser.find_element(By.ID, "beside").is_displayed()
+    page.shoot("border")
+
+
+def use_wrong(page: Page) -> None:
+    """Shows outputs that are not as the circuit says."""
+    page.open("wrong")
+    page.wait(lambda: "✗" in page.text("outputs"), "a wrong output has its sign")
+    page.keys(Keys.END)
+    page.shoot("wrong")
+
+
+def use_large(page: Page) -> None:
+    """Goes to the last of 65,536 times of 512 by 512 cells, and back, while the page still answers."""
+    page.open("large")
+    page.wait(lambda: page.text("time") == "0 of 65536", "the page answers while it runs ahead")
+    page.keys(Keys.END)
+    page.wait(lambda: page.text("time") == "65536 of 65536", "the last time comes within a minute", 60)
+    page.keys(Keys.ARROW_LEFT)
+    page.wait(lambda: page.text("time") == "65535 of 65536", "a step back is quick", 2)
+    page.browser.execute_script("const s = document.getElementById('slider'); s.value = 30001; s.dispatchEvent(new Event('input'));")
+    page.wait(lambda: page.text("time") == "30001 of 65536", "the slider is quick", 5)
+    page.shoot("large")
+
+
+def main() -> int:
+    """Uses the pages, and returns the exit status: 1 where the console has an error."""
+    page = Page(Path(sys.argv[1]))
+    try:
+        for use in (use_controls, use_report, use_wrong, use_large):
+            use(page)
+        logged = [entry for entry in page.browser.get_log("browser") if entry["level"] in ("SEVERE", "WARNING")]
+    finally:
+        page.browser.quit()
+    for entry in logged:
+        print(entry["message"], file=sys.stderr)
+    return 1 if logged else 0
+
+
+if __name__ == "__main__":
+    sys.exit(main())

@@ -1,0 +1,105 @@
+"""The page's runs under node: last states against the program's `run`, the states between against the lab, and the time they take."""
+
+import json
+import random
+import shutil
+import subprocess
+import time
+import unittest
+
+import support
+from bbmlab_core import json_form, tracing
+from bbmlab_core.documents import Document
+from bbmlab_core.program import ask
+
+STATES = support.LAB / "tests" / "run_states.js"
+AUTOMATON = support.LAB / "bbmlab_core" / "view" / "automaton.js"
+MAX_SECONDS = 60
+
+
+def node(jobs: list[dict]) -> list[dict]:
+    """Returns what the page's automaton makes of some jobs."""
+    if shutil.which("node") is None:
+        raise unittest.SkipTest("node is not installed (apt-get install nodejs)")
+    ended = subprocess.run(["node", str(STATES), str(AUTOMATON)], input=json.dumps(jobs), text=True, capture_output=True, check=True)
+    return json.loads(ended.stdout)
+
+
+def job(document: Document, on: list[str], times: list[int]) -> dict:
+    """Returns the data of a text, the inputs that are on, and the times to go to."""
+    return {"data": json.loads(json_form.document_json(document, None)), "on": on, "times": times}
+
+
+def layouts() -> list[tuple[str, Document]]:
+    """Returns the examples that have a layout and are read without a refusal, with their names."""
+    found = []
+    for path in sorted(support.EXAMPLES.glob("*.txt")):
+        document = support.read_document(path.read_text(encoding="latin-1"))
+        if document.layout and not document.refusal:
+            found.append((path.name, document))
+    return found
+
+
+def run_words(told: dict) -> str:
+    """Writes the last state of a job as the program's `run` does."""
+    if told["left"] is not None:
+        return f"left {told['left']}\n"
+    cells = told["states"][-1][1]
+    return f"cells {len(cells)}\n" + "".join(f"{x} {y}\n" for x, y in cells)
+
+
+def large_layout() -> Document:
+    """Returns a layout of 512 by 512 cells and 65,536 steps with 1,024 cavities in which a ball goes to and fro."""
+    places = [(x, y) for y in range(0, 512, 16) for x in range(0, 512, 16)]
+    lines = ["layout 512 512 65536"]
+    for x, y in places:
+        lines += [f"mirror {x + 2} {y + 1} 2 2", f"mirror {x + 12} {y + 9} 2 2"]
+    lines += [f"ball {x + 4} {y + 2}" for x, y in places]
+    return support.read_document("\n".join([*lines, "end"]) + "\n")
+
+
+class Engine(unittest.TestCase):
+    """The page's automaton under node."""
+
+    def test_last_states_by_the_program(self) -> None:
+        """Each example ends as the program's `run` says, under three choices of inputs, also by way of other times."""
+        program, chooser, asked, jobs = support.program(), random.Random(43), [], []
+        for name, document in layouts():
+            names, steps = tracing.port_names(document.layout), document.layout.steps
+            for share in (0.0, 0.5, 1.0):
+                on = [wire for wire in names if chooser.random() < share]
+                asked.append((name, on, ask(program, "run", tracing.run_text(tracing.layout_lines(document), on)).output))
+                jobs.append(job(document, on, [chooser.randrange(steps + 1), steps, chooser.randrange(steps + 1), 0, steps]))
+        self.assertGreater(len(jobs), 30)
+        for (name, on, output), told in zip(asked, node(jobs)):
+            with self.subTest(name, on=on):
+                self.assertEqual(run_words(told), output)
+
+    def test_every_time_there_and_back(self) -> None:
+        """Each time of each example is as in the lab's trace, on the way there and on the way back."""
+        jobs, wanted = [], []
+        for name, document in layouts():
+            on = tracing.port_names(document.layout)
+            trace = tracing.trace_layout(document.layout, on, 0, 200)
+            states = [[at, tracing.cells_text(state)] for at, state in enumerate(trace.states)]
+            times = list(range(len(states))) + list(range(len(states) - 1, -1, -1))
+            jobs.append(job(document, on, times))
+            wanted.append((name, [states[at] for at in times]))
+        for (name, states), told in zip(wanted, node(jobs)):
+            with self.subTest(name):
+                self.assertEqual(told["states"], states)
+
+    def test_large(self) -> None:
+        """512 by 512 cells and 65,536 steps with 1,024 balls: all steps and far jumps take less than a minute, and are the program's."""
+        document, program = large_layout(), support.program()
+        output = ask(program, "run", tracing.run_text(tracing.layout_lines(document), [])).output
+        last = 65536
+        began = time.monotonic()
+        told = node([job(document, [], [last, last // 2, 3, last])])[0]
+        self.assertLess(time.monotonic() - began, MAX_SECONDS)
+        self.assertEqual([at for at, _ in told["states"]], [last, last // 2, 3, last])
+        self.assertEqual(run_words(told), output)
+
+
+if __name__ == "__main__":
+    unittest.main()
