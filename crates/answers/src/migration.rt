@@ -16,7 +16,7 @@ fn print_migration(alloc: Global, cert: &Cert<'_>) -> Result<Vec<u8>, AllocError
     let mut text = print_circuit(alloc, cert.circuit())?;
     let layout = print_layout(alloc, cert.layout())?;
     text.extend_from_slice(&layout)?;
-    print_migrated(alloc, &mut text, cert)?;
+    print_migrated(&mut text, cert)?;
     Ok(text)
 }
 

@@ -23,13 +23,13 @@ fn print_count(alloc: Global, out: &mut Vec<u8>, count: usize) -> Result<(), All
 }
 
 // The corner and the sides of a box.
-fn print_area(alloc: Global, out: &mut Vec<u8>, area: Box2) -> Result<(), AllocError>
+fn print_area(out: &mut Vec<u8>, area: Box2) -> Result<(), AllocError>
     ensures { OnOk result (out.new.items ≡ out.old.items ++ flat_map spaced (area_words area)) }
 {
-    print_number(alloc, out, area.x)?;
-    print_number(alloc, out, area.y)?;
-    print_number(alloc, out, area.w)?;
-    print_number(alloc, out, area.h)?;
+    print_number(out, area.x)?;
+    print_number(out, area.y)?;
+    print_number(out, area.w)?;
+    print_number(out, area.h)?;
     Ok(())
 }
 
@@ -66,7 +66,7 @@ fn print_module(
 {
     out.extend_from_slice(b"module")?;
     print_count(alloc, out, number)?;
-    print_area(alloc, out, counts.area)?;
+    print_area(out, counts.area)?;
     print_counts(alloc, out, counts)?;
     out.push(b'\n')?;
     Ok(())

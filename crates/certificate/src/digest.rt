@@ -12,31 +12,21 @@ use sha2::{Digest, Sha256};
 use std::alloc::{AllocError, Global};
 
 // Hashes the text of a line, which is printed in place of the one before it.
-fn hash_line(
-    alloc: Global,
-    hasher: &mut Sha256,
-    line: &mut Vec<u8>,
-    entry: &Entry,
-) -> Result<(), AllocError>
+fn hash_line(hasher: &mut Sha256, line: &mut Vec<u8>, entry: &Entry) -> Result<(), AllocError>
     ensures { OnOk result ((m : List ℕ) → Holds256 hasher.old m → Holds256 hasher.new (m ++ entry_text entry.now)) }
 {
     line.truncate(0);
-    print_entry(alloc, line, entry)?;
+    print_entry(line, entry)?;
     hasher.update(line.as_slice());
     Ok(())
 }
 
 // Hashes the text of lines.
-fn hash_lines(
-    alloc: Global,
-    hasher: &mut Sha256,
-    line: &mut Vec<u8>,
-    entries: &[Entry],
-) -> Result<(), AllocError>
+fn hash_lines(hasher: &mut Sha256, line: &mut Vec<u8>, entries: &[Entry]) -> Result<(), AllocError>
     ensures { OnOk result ((m : List ℕ) → Holds256 hasher.old m → Holds256 hasher.new (m ++ flat_map entry_text entries.now)) }
 {
     for entry in entries {
-        hash_line(alloc, hasher, line, entry)?;
+        hash_line(hasher, line, entry)?;
     }
     Ok(())
 }
@@ -50,9 +40,9 @@ impl<'a> Cert<'a> {
     {
         let mut hasher = Sha256::new();
         let mut line = Vec::new(alloc);
-        print_header(alloc, &mut line, self.version() as u32)?;
+        print_header(&mut line, self.version() as u32)?;
         hasher.update(line.as_slice());
-        hash_lines(alloc, &mut hasher, &mut line, self.entries())?;
+        hash_lines(&mut hasher, &mut line, self.entries())?;
         hasher.update(b"end\n");
         Ok(hasher.finalize())
     }

@@ -16,23 +16,23 @@ use section_text::{Name, print_number, print_word};
 use std::alloc::{AllocError, Global};
 
 /// Prints the header line.
-pub(crate) fn print_header(alloc: Global, out: &mut Vec<u8>, version: u32) -> Result<(), AllocError>
+pub(crate) fn print_header(out: &mut Vec<u8>, version: u32) -> Result<(), AllocError>
     ensures { OnOk result (out.new.items ≡ out.old.items ++ line_text (codes "certificate") (decimal version ∷ [])) }
 {
     out.extend_from_slice(b"certificate")?;
-    print_number(alloc, out, version)?;
+    print_number(out, version)?;
     out.push(b'\n')?;
     Ok(())
 }
 
-fn print_module(alloc: Global, out: &mut Vec<u8>, area: Box2) -> Result<(), AllocError>
+fn print_module(out: &mut Vec<u8>, area: Box2) -> Result<(), AllocError>
     ensures { OnOk result (out.new.items ≡ out.old.items ++ line_text (codes "module") (area_words area)) }
 {
     out.extend_from_slice(b"module")?;
-    print_number(alloc, out, area.x)?;
-    print_number(alloc, out, area.y)?;
-    print_number(alloc, out, area.w)?;
-    print_number(alloc, out, area.h)?;
+    print_number(out, area.x)?;
+    print_number(out, area.y)?;
+    print_number(out, area.w)?;
+    print_number(out, area.h)?;
     out.push(b'\n')?;
     Ok(())
 }
@@ -46,31 +46,31 @@ fn print_cut(out: &mut Vec<u8>, name: Name) -> Result<(), AllocError>
     Ok(())
 }
 
-fn print_use(alloc: Global, out: &mut Vec<u8>, number: u32) -> Result<(), AllocError>
+fn print_use(out: &mut Vec<u8>, number: u32) -> Result<(), AllocError>
     ensures { OnOk result (out.new.items ≡ out.old.items ++ line_text (codes "use") (decimal number ∷ [])) }
 {
     out.extend_from_slice(b"use")?;
-    print_number(alloc, out, number)?;
+    print_number(out, number)?;
     out.push(b'\n')?;
     Ok(())
 }
 
-fn print_keep(alloc: Global, out: &mut Vec<u8>, number: u32) -> Result<(), AllocError>
+fn print_keep(out: &mut Vec<u8>, number: u32) -> Result<(), AllocError>
     ensures { OnOk result (out.new.items ≡ out.old.items ++ line_text (codes "keep") (decimal number ∷ [])) }
 {
     out.extend_from_slice(b"keep")?;
-    print_number(alloc, out, number)?;
+    print_number(out, number)?;
     out.push(b'\n')?;
     Ok(())
 }
 
 // A time, or `*` for every odd time.
-fn print_time(alloc: Global, out: &mut Vec<u8>, time: Option<u32>) -> Result<(), AllocError>
+fn print_time(out: &mut Vec<u8>, time: Option<u32>) -> Result<(), AllocError>
     ensures { OnOk result (out.new.items ≡ out.old.items ++ spaced (time_word time)) }
 {
     match time {
         None => print_word(out, b"*"),
-        Some(number) => print_number(alloc, out, number),
+        Some(number) => print_number(out, number),
     }
 }
 
@@ -84,78 +84,69 @@ fn print_signal(out: &mut Vec<u8>, signal: Option<Name>) -> Result<(), AllocErro
     }
 }
 
-fn print_border(
-    alloc: Global,
-    out: &mut Vec<u8>,
-    word: &[u8],
-    border: &Border,
-) -> Result<(), AllocError>
+fn print_border(out: &mut Vec<u8>, word: &[u8], border: &Border) -> Result<(), AllocError>
     ensures { OnOk result (out.new.items ≡ out.old.items ++ line_text word.now (border_words border.now)) }
 {
     out.extend_from_slice(word)?;
-    print_time(alloc, out, border.time)?;
-    print_cell(alloc, out, border.cell)?;
+    print_time(out, border.time)?;
+    print_cell(out, border.cell)?;
     print_signal(out, border.signal)?;
     out.push(b'\n')?;
     Ok(())
 }
 
-fn print_stop(alloc: Global, out: &mut Vec<u8>, stop: &StopLine) -> Result<(), AllocError>
+fn print_stop(out: &mut Vec<u8>, stop: &StopLine) -> Result<(), AllocError>
     ensures { OnOk result (out.new.items ≡ out.old.items ++ line_text (codes "stop") (stop_words stop.now)) }
 {
     out.extend_from_slice(b"stop")?;
-    print_number(alloc, out, stop.time)?;
+    print_number(out, stop.time)?;
     print_word(out, stop.wire.bytes())?;
-    print_cell(alloc, out, stop.cell)?;
+    print_cell(out, stop.cell)?;
     out.push(b'\n')?;
     Ok(())
 }
 
 /// Prints a line between the header and the end.
-pub(crate) fn print_entry(alloc: Global, out: &mut Vec<u8>, entry: &Entry) -> Result<(), AllocError>
+pub(crate) fn print_entry(out: &mut Vec<u8>, entry: &Entry) -> Result<(), AllocError>
     ensures { OnOk result (out.new.items ≡ out.old.items ++ entry_text entry.now) }
 {
     match entry {
-        Entry::Module(area) => print_module(alloc, out, *area),
+        Entry::Module(area) => print_module(out, *area),
         Entry::Cut(name) => print_cut(out, *name),
-        Entry::Use(number) => print_use(alloc, out, *number),
-        Entry::Keep(number) => print_keep(alloc, out, *number),
-        Entry::Edge(border) => print_border(alloc, out, b"edge", border),
-        Entry::Halo(border) => print_border(alloc, out, b"halo", border),
-        Entry::Stop(stop) => print_stop(alloc, out, stop),
+        Entry::Use(number) => print_use(out, *number),
+        Entry::Keep(number) => print_keep(out, *number),
+        Entry::Edge(border) => print_border(out, b"edge", border),
+        Entry::Halo(border) => print_border(out, b"halo", border),
+        Entry::Stop(stop) => print_stop(out, stop),
     }
 }
 
-fn print_entries(alloc: Global, out: &mut Vec<u8>, entries: &[Entry]) -> Result<(), AllocError>
+fn print_entries(out: &mut Vec<u8>, entries: &[Entry]) -> Result<(), AllocError>
     ensures { OnOk result (out.new.items ≡ out.old.items ++ flat_map entry_text entries.now) }
 {
     for entry in entries {
-        print_entry(alloc, out, entry)?;
+        print_entry(out, entry)?;
     }
     Ok(())
 }
 
 // A line, unless it is a halo line.
 #[tactic(auto, unfolding(certificate_lines::specs::Versions::without_halos))]
-fn print_unless_halo(alloc: Global, out: &mut Vec<u8>, entry: &Entry) -> Result<(), AllocError>
+fn print_unless_halo(out: &mut Vec<u8>, entry: &Entry) -> Result<(), AllocError>
     ensures { OnOk result (out.new.items ≡ out.old.items ++ flat_map entry_text (without_halos (entry.now ∷ []))) }
 {
     if is_halo(entry) {
         return Ok(());
     }
-    print_entry(alloc, out, entry)
+    print_entry(out, entry)
 }
 
 // The lines other than halo lines.
-fn print_without_halos(
-    alloc: Global,
-    out: &mut Vec<u8>,
-    entries: &[Entry],
-) -> Result<(), AllocError>
+fn print_without_halos(out: &mut Vec<u8>, entries: &[Entry]) -> Result<(), AllocError>
     ensures { OnOk result (out.new.items ≡ out.old.items ++ flat_map entry_text (without_halos entries.now)) }
 {
     for entry in entries {
-        print_unless_halo(alloc, out, entry)?;
+        print_unless_halo(out, entry)?;
     }
     Ok(())
 }
@@ -168,8 +159,8 @@ pub fn print_certificate(alloc: Global, cert: &Cert) -> Result<Vec<u8>, AllocErr
     ensures { IfOk result (λ text. text.items ≡ certificate_text cert.now) }
 {
     let mut out = Vec::new(alloc);
-    print_header(alloc, &mut out, cert.version() as u32)?;
-    print_entries(alloc, &mut out, cert.entries())?;
+    print_header(&mut out, cert.version() as u32)?;
+    print_entries(&mut out, cert.entries())?;
     out.extend_from_slice(b"end\n")?;
     Ok(out)
 }
@@ -177,11 +168,11 @@ pub fn print_certificate(alloc: Global, cert: &Cert) -> Result<Vec<u8>, AllocErr
 /// Prints the text of a certificate as one of version 2: with that version in its header line, and without its halo lines. It is the text
 /// of the certificate itself where that is of version 2. The error is want of memory.
 #[tactic(auto, unfolding(crate::specs::Text::certificate_text))]
-pub fn print_migrated(alloc: Global, out: &mut Vec<u8>, cert: &Cert) -> Result<(), AllocError>
+pub fn print_migrated(out: &mut Vec<u8>, cert: &Cert) -> Result<(), AllocError>
     ensures { OnOk result (out.new.items ≡ out.old.items ++ certificate_text (migrated cert.now)) }
 {
-    print_header(alloc, out, 2)?;
-    print_without_halos(alloc, out, cert.entries())?;
+    print_header(out, 2)?;
+    print_without_halos(out, cert.entries())?;
     out.extend_from_slice(b"end\n")?;
     Ok(())
 }

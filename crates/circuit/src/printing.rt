@@ -22,7 +22,7 @@ fn print_names(out: &mut Vec<u8>, names: &[Name]) -> Result<(), AllocError>
 }
 
 // The keyword of a gate, and its bit or number.
-fn print_gate(alloc: Global, out: &mut Vec<u8>, kind: GateKind) -> Result<(), AllocError>
+fn print_gate(out: &mut Vec<u8>, kind: GateKind) -> Result<(), AllocError>
     ensures { OnOk result (out.new.items ≡ out.old.items ++ (gate_word kind ++ flat_map spaced (gate_number kind))) }
 {
     match kind {
@@ -34,7 +34,7 @@ fn print_gate(alloc: Global, out: &mut Vec<u8>, kind: GateKind) -> Result<(), Al
         GateKind::Switch => out.extend_from_slice(b"switch"),
         GateKind::Delay(n) => {
             out.extend_from_slice(b"delay")?;
-            print_number(alloc, out, n)
+            print_number(out, n)
         }
         GateKind::Unswitch => out.extend_from_slice(b"unswitch"),
         GateKind::Uninteract => out.extend_from_slice(b"uninteract"),
@@ -42,7 +42,7 @@ fn print_gate(alloc: Global, out: &mut Vec<u8>, kind: GateKind) -> Result<(), Al
 }
 
 #[tactic(auto, unfolding(crate::specs::Text::entry_text, crate::specs::Text::first_word, crate::specs::Text::more_words))]
-fn print_entry(alloc: Global, out: &mut Vec<u8>, entry: &Entry) -> Result<(), AllocError>
+fn print_entry(out: &mut Vec<u8>, entry: &Entry) -> Result<(), AllocError>
     ensures { OnOk result (out.new.items ≡ out.old.items ++ entry_text entry.now) }
 {
     match entry.kind {
@@ -51,7 +51,7 @@ fn print_entry(alloc: Global, out: &mut Vec<u8>, entry: &Entry) -> Result<(), Al
             print_names(out, entry.outs.as_slice())?;
         }
         Kind::Gate(kind) => {
-            print_gate(alloc, out, kind)?;
+            print_gate(out, kind)?;
             print_names(out, entry.ins.as_slice())?;
             out.extend_from_slice(b" ->")?;
             print_names(out, entry.outs.as_slice())?;
@@ -69,11 +69,11 @@ fn print_entry(alloc: Global, out: &mut Vec<u8>, entry: &Entry) -> Result<(), Al
     Ok(())
 }
 
-fn print_entries(alloc: Global, out: &mut Vec<u8>, entries: &[Entry]) -> Result<(), AllocError>
+fn print_entries(out: &mut Vec<u8>, entries: &[Entry]) -> Result<(), AllocError>
     ensures { OnOk result (out.new.items ≡ out.old.items ++ flat_map entry_text entries.now) }
 {
     for entry in entries {
-        print_entry(alloc, out, entry)?;
+        print_entry(out, entry)?;
     }
     Ok(())
 }
@@ -85,7 +85,7 @@ pub fn print_circuit(alloc: Global, circuit: &Circuit) -> Result<Vec<u8>, AllocE
 {
     let mut out = Vec::new(alloc);
     out.extend_from_slice(b"circuit\n")?;
-    print_entries(alloc, &mut out, circuit.entries())?;
+    print_entries(&mut out, circuit.entries())?;
     out.extend_from_slice(b"end\n")?;
     Ok(out)
 }

@@ -19,95 +19,80 @@ fn natural(x: i32) -> u32
 
 /// Writes the column and the row of a cell at the end of `out`, each behind a space. A negative one, which no cell of a
 /// layout has, is written as 0. After want of memory a part of them may stand there.
-pub fn print_cell(alloc: Global, out: &mut Vec<u8>, cell: Cell) -> Result<(), AllocError>
+pub fn print_cell(out: &mut Vec<u8>, cell: Cell) -> Result<(), AllocError>
     ensures ok { OnOk result (out.new.items ≡ out.old.items ++ flat_map spaced (cell_words cell)) }
     ensures err { OnErr result ((part : List ℕ) × (out.new.items ≡ out.old.items ++ part)) }
 {
-    print_number(alloc, out, natural(cell.x))?;
-    print_number(alloc, out, natural(cell.y))?;
+    print_number(out, natural(cell.x))?;
+    print_number(out, natural(cell.y))?;
     Ok(())
 }
 
-fn print_size(alloc: Global, out: &mut Vec<u8>, size: Extent) -> Result<(), AllocError>
+fn print_size(out: &mut Vec<u8>, size: Extent) -> Result<(), AllocError>
     ensures { OnOk result (out.new.items ≡ out.old.items ++ line_text (codes "layout") (size_words size)) }
 {
     out.extend_from_slice(b"layout")?;
-    print_number(alloc, out, size.w)?;
-    print_number(alloc, out, size.h)?;
-    print_number(alloc, out, size.steps)?;
+    print_number(out, size.w)?;
+    print_number(out, size.h)?;
+    print_number(out, size.steps)?;
     out.push(b'\n')?;
     Ok(())
 }
 
-fn print_mirror(alloc: Global, out: &mut Vec<u8>, r: Rectangle) -> Result<(), AllocError>
+fn print_mirror(out: &mut Vec<u8>, r: Rectangle) -> Result<(), AllocError>
     ensures { OnOk result (out.new.items ≡ out.old.items ++ line_text (codes "mirror") (rectangle_words r)) }
 {
     out.extend_from_slice(b"mirror")?;
-    print_number(alloc, out, r.x)?;
-    print_number(alloc, out, r.y)?;
-    print_number(alloc, out, r.w)?;
-    print_number(alloc, out, r.h)?;
+    print_number(out, r.x)?;
+    print_number(out, r.y)?;
+    print_number(out, r.w)?;
+    print_number(out, r.h)?;
     out.push(b'\n')?;
     Ok(())
 }
 
-fn print_mirrors(alloc: Global, out: &mut Vec<u8>, mirrors: &[Rectangle]) -> Result<(), AllocError>
+fn print_mirrors(out: &mut Vec<u8>, mirrors: &[Rectangle]) -> Result<(), AllocError>
     ensures { OnOk result (out.new.items ≡ out.old.items ++ flat_map (λ r. line_text (codes "mirror") (rectangle_words r)) mirrors.now) }
 {
     for mirror in mirrors {
-        print_mirror(alloc, out, *mirror)?;
+        print_mirror(out, *mirror)?;
     }
     Ok(())
 }
 
-fn print_lone_cell(
-    alloc: Global,
-    out: &mut Vec<u8>,
-    word: &[u8],
-    cell: Cell,
-) -> Result<(), AllocError>
+fn print_lone_cell(out: &mut Vec<u8>, word: &[u8], cell: Cell) -> Result<(), AllocError>
     ensures { OnOk result (out.new.items ≡ out.old.items ++ line_text word.now (cell_words cell)) }
 {
     out.extend_from_slice(word)?;
-    print_cell(alloc, out, cell)?;
+    print_cell(out, cell)?;
     out.push(b'\n')?;
     Ok(())
 }
 
-fn print_cells(
-    alloc: Global,
-    out: &mut Vec<u8>,
-    word: &[u8],
-    cells: &[Cell],
-) -> Result<(), AllocError>
+fn print_cells(out: &mut Vec<u8>, word: &[u8], cells: &[Cell]) -> Result<(), AllocError>
     ensures { OnOk result (out.new.items ≡ out.old.items ++ flat_map (λ c. line_text word.now (cell_words c)) cells.now) }
 {
     for cell in cells {
-        print_lone_cell(alloc, out, word, *cell)?;
+        print_lone_cell(out, word, *cell)?;
     }
     Ok(())
 }
 
-fn print_port(alloc: Global, out: &mut Vec<u8>, word: &[u8], port: &Port) -> Result<(), AllocError>
+fn print_port(out: &mut Vec<u8>, word: &[u8], port: &Port) -> Result<(), AllocError>
     ensures { OnOk result (out.new.items ≡ out.old.items ++ line_text word.now (port_words port.now)) }
 {
     out.extend_from_slice(word)?;
     print_word(out, port.name.bytes())?;
-    print_cell(alloc, out, port.cell)?;
+    print_cell(out, port.cell)?;
     out.push(b'\n')?;
     Ok(())
 }
 
-fn print_ports(
-    alloc: Global,
-    out: &mut Vec<u8>,
-    word: &[u8],
-    ports: &[Port],
-) -> Result<(), AllocError>
+fn print_ports(out: &mut Vec<u8>, word: &[u8], ports: &[Port]) -> Result<(), AllocError>
     ensures { OnOk result (out.new.items ≡ out.old.items ++ flat_map (λ p. line_text word.now (port_words p)) ports.now) }
 {
     for port in ports {
-        print_port(alloc, out, word, port)?;
+        print_port(out, word, port)?;
     }
     Ok(())
 }
@@ -118,12 +103,12 @@ pub fn print_layout(alloc: Global, layout: &Layout) -> Result<Vec<u8>, AllocErro
     ensures { IfOk result (λ text. text.items ≡ layout_text layout.now) }
 {
     let mut out = Vec::new(alloc);
-    print_size(alloc, &mut out, layout.size())?;
-    print_mirrors(alloc, &mut out, layout.mirrors())?;
-    print_cells(alloc, &mut out, b"ball", layout.balls())?;
-    print_ports(alloc, &mut out, b"in", layout.ins())?;
-    print_ports(alloc, &mut out, b"out", layout.outs())?;
-    print_cells(alloc, &mut out, b"waste", layout.wastes())?;
+    print_size(&mut out, layout.size())?;
+    print_mirrors(&mut out, layout.mirrors())?;
+    print_cells(&mut out, b"ball", layout.balls())?;
+    print_ports(&mut out, b"in", layout.ins())?;
+    print_ports(&mut out, b"out", layout.outs())?;
+    print_cells(&mut out, b"waste", layout.wastes())?;
     out.extend_from_slice(b"end\n")?;
     Ok(out)
 }

@@ -1,3 +1,4 @@
+pub mod LineFeeds
 pub mod Lines
 pub mod Digits
 pub mod NameLemmas

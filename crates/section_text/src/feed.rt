@@ -7,20 +7,21 @@ ghost use Rattle.section_text.specs.Words.{is_digit, is_number, read_on, is_word
 ghost use Rattle.section_text.specs.declared.fault.ReadFault.TheVariants.{Memory};
 ghost use Rattle.section_text.specs.Listed.{four_listed, listed};
 ghost use Rattle.section_text.specs.Faults.{refusal};
-ghost use Rattle.section_text.specs.Seeding.{seed_of};
+ghost use Rattle.section_text.specs.Seeding.{first_section, seed_of};
 ghost use Rattle.section_text.specs.FeedState.{FeedState, ahead, after_lines, IsLine, line_bytes, text_limit, TakesLine, RunsOut};
 
 use crate::fault::{PushFault, ReadFault, Refusal};
 use crate::name::Name;
 use crate::names::Names;
 use crate::seed::Seed;
+use memchr::{memchr, memmem};
 use std::alloc::Global;
 use std::marker::Model;
 
 /// The longest text, in bytes: 16 MiB.
 pub const LONGEST: usize = 16_777_216;
 
-// How much of a text a seed is of, in bytes: 1 MiB, which is more than the longest circuit section has.
+// The most bytes of a text that a seed is of: 1 MiB, which is more than the longest circuit section has.
 const SEEDED: usize = 1_048_576;
 
 /// A text that comes in pieces and is then taken line by line.
@@ -155,6 +156,16 @@ fn first_bytes(bytes: &[u8], most: usize) -> &[u8]
     }
 }
 
+// The text through its first line `end` that is not its first line, or the whole text if it has none.
+fn first_section(text: &[u8]) -> &[u8]
+    ensures { result.now ≡ first_section text.now }
+{
+    match memmem::find(text, b"\nend\n") {
+        Some(at) => &text[..at + 5],
+        None => text,
+    }
+}
+
 // How many bytes stand between a place and the next line feed.
 fn line_length(bytes: &[u8], at: usize) -> Option<usize>
     requires { at ≤ length bytes.now }
@@ -166,7 +177,7 @@ fn line_length(bytes: &[u8], at: usize) -> Option<usize>
 fn first_line_feed(bytes: &[u8]) -> Option<usize>
     ensures { result ≡ position is_line_feed bytes.now }
 {
-    bytes.iter().position(|b| *b == b'\n')
+    memchr(b'\n', bytes)
 }
 
 fn word_in(line: &[u8], index: usize) -> Option<&[u8]>
@@ -277,12 +288,14 @@ impl Feed {
         self.stop
     }
 
-    /// The seed for tables of a circuit's names, where the text begins with the circuit: that of its first 1,048,576 bytes. A circuit
-    /// section of more has a line that is refused, by the limits on wires and gates.
+    /// Returns the seed for tables of a circuit's names, if the text begins with the circuit.
+    ///
+    /// It is the seed of the text's first section, of at most 1,048,576 bytes. A longer circuit section has a line that is
+    /// refused, by the limits on wires and gates.
     pub fn seed(&self) -> Seed
-        ensures { result ≡ seed_of (take 1048576 self.now.text) }
+        ensures { result ≡ seed_of (take 1048576 (first_section self.now.text)) }
     {
-        Seed::of(first_bytes(&self.bytes, SEEDED))
+        Seed::of(first_bytes(first_section(&self.bytes), SEEDED))
     }
 
     /// The next line that a line feed ends. Where there is none, code 12 at the line after those taken, for good. A

@@ -3,7 +3,8 @@ ghost use Rattle.std.specs.Prelude.{◌≡◌, ◌++◌, ℕ, List, OnOk, OnErr}
 ghost use Rattle.std.specs.Fmt.{decimal};
 ghost use Rattle.section_text.specs.Spelling.{spaced};
 
-use std::alloc::{AllocError, Global};
+use itoa::Buffer;
+use std::alloc::AllocError;
 
 /// Writes a space and a word at the end of `out`. After want of memory a part of them may stand there.
 pub fn print_word(out: &mut Vec<u8>, word: &[u8]) -> Result<(), AllocError>
@@ -16,10 +17,10 @@ pub fn print_word(out: &mut Vec<u8>, word: &[u8]) -> Result<(), AllocError>
 }
 
 /// Writes a space and a number, in decimal, at the end of `out`. After want of memory a part of them may stand there.
-pub fn print_number(alloc: Global, out: &mut Vec<u8>, number: u32) -> Result<(), AllocError>
+pub fn print_number(out: &mut Vec<u8>, number: u32) -> Result<(), AllocError>
     ensures ok { OnOk result (out.new.items ≡ out.old.items ++ spaced (decimal number)) }
     ensures err { OnErr result ((part : List ℕ) × (out.new.items ≡ out.old.items ++ part)) }
 {
-    let digits = number.to_string(alloc)?;
-    print_word(out, digits.as_bytes())
+    let mut digits = Buffer::new();
+    print_word(out, digits.format(number).as_bytes())
 }

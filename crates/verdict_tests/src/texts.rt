@@ -125,7 +125,7 @@ fn written_words(rt: HostRuntime) {
     let mut out = Vec::new(rt.alloc());
     assert!(rt; print_word(&mut out, b"cut").is_ok() && print_word(&mut out, b"").is_ok());
     for number in [0, 4_294_967_295] {
-        assert!(rt; print_number(rt.alloc(), &mut out, number).is_ok());
+        assert!(rt; print_number(&mut out, number).is_ok());
     }
     assert!(rt; out.as_slice() == b" cut  0 4294967295".as_slice());
 }
