@@ -432,6 +432,12 @@ def _keep_not_used(facts: Facts) -> Explained:
                      [f"Add `use {gate.number}` before it, with the wires {listed(gate.ins)} local."], names=[str(gate.number)], lines=[gate.line])
 
 
+def even_time_cure(time: int, steps: int) -> str:
+    """Returns the cure for an edge or halo line at an even time: the odd times beside it that are below the steps."""
+    times = [str(odd) for odd in (time - 1, time + 1) if 0 < odd < steps]
+    return f"Take the odd time at which the cell is live: {' or '.join(times)}." if times else "Remove the line."
+
+
 def place_words(fault: str, facts: Facts) -> tuple[str, str]:
     """Returns what is wrong with a time or a cell, and the cure."""
     new, box, steps = facts["new"], facts["box"], facts["steps"]
@@ -446,7 +452,7 @@ def place_words(fault: str, facts: Facts) -> tuple[str, str]:
                         "Name a cell that touches the box from outside."),
         "halo_outside": (f"The cell {cell} is outside the rectangle.", "Remove the line."),
         "even_time": (f"The time {new.time} is even; edge and halo lines have odd times.",
-                      f"Take the odd time at which the cell is live, {max((new.time or 0) - 1, 1)} or {(new.time or 0) + 1}."),
+                      even_time_cure(new.time or 0, steps)),
         "time_not_below_steps": (f"The time {new.time} is not below the steps, {steps}.",
                                  f"The last odd time below the steps is {last}." if last > 0 else "There is no odd time below the steps: remove the line."),
         "star_cell": (f"The cell {cell} has a line with `*` already (line {facts['star']}).", "Remove one of the two lines."),

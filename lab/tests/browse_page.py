@@ -32,7 +32,7 @@ def use(browser: webdriver.Chrome, folder: Path) -> None:
     assert shown(browser, "time") == "0 of 6" and "no, for 2 reasons" in shown(browser, "verdict")
     browser.find_element(By.TAG_NAME, "body").send_keys(Keys.ARROW_RIGHT)
     assert shown(browser, "time") == "1 of 6"
-    browser.find_element(By.CSS_SELECTOR, "#inputs input[value=p]").click()
+    browser.find_element(By.CSS_SELECTOR, "#inputs input[value=q]").click()
     time.sleep(0.3)
     assert "c=1" in shown(browser, "outputs") and "✗" not in shown(browser, "outputs"), shown(browser, "outputs")
     browser.find_element(By.ID, "play").click()

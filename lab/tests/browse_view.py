@@ -81,8 +81,9 @@ def use_controls(page: Page) -> None:
     page.keys(Keys.HOME)
     page.click("#next")
     assert page.text("time") == "1 of 3"
-    page.click("#inputs input[value=p]")
-    page.wait(lambda: "c=1" in page.text("outputs"), "the switch of p changes the outputs")
+    page.wait(lambda: "a=1" in page.text("outputs"), "all inputs are on at first")
+    page.click("#inputs input[value=q]")
+    page.wait(lambda: "c=1" in page.text("outputs"), "the switch of q changes the outputs")
     assert "✗" not in page.text("outputs") and "(p=1)" in page.text("lines"), page.text("lines")
     page.keys(" ")
     page.wait(lambda: page.text("time") == "3 of 3" and "play" in page.text("play"), "playing comes to the end and stops")

@@ -10,7 +10,8 @@
   const mirrors = new Set(startKeys({ mirrors: layout.mirrors, balls: [], ins: [] }, () => false));
   const names = data.circuit ? data.circuit.inputs : [...new Set(layout.ins.map((port) => port.name))];
   const MAX_LINES_SHOWN = 200;
-  const view = { on: new Set(), values: null, run: null, ahead: null, good: null, own: null, fault: null, module: null, scale: 10, left: 0, top: 0,
+  // The inputs that the text's assign section puts on, or all, so that the first picture has balls.
+  const view = { on: new Set(data.assign ? data.assign.on : names), values: null, run: null, ahead: null, good: null, own: null, fault: null, module: null, scale: 10, left: 0, top: 0,
     playing: false, isFit: true, lines: [], target: 0 };
   const said = linesByTime();
 
@@ -380,6 +381,7 @@
       const label = made("label", ""), box = made("input", "");
       box.type = "checkbox";
       box.value = name;
+      box.checked = view.on.has(name);
       box.addEventListener("change", () => { if (box.checked) view.on.add(name); else view.on.delete(name); restart(); });
       label.append(box, name);
       element("inputs").append(label);
