@@ -121,6 +121,20 @@ impl Values {
         false
     }
 
+    /// Returns whether each used gate has a row under some assignment.
+    pub fn is_some_defined(&self) -> bool
+        requires defined { self.now.words ≤ length self.now.rows.defined.items }
+        requires room { self.now.count ≤ 64 * self.now.words }
+        ensures { result ≡ false → (a : ℕ) → a < self.now.count → is_defined self.now a ≡ false }
+    {
+        for k in 0..self.words {
+            if self.rows.defined[k] != 0 {
+                return true;
+            }
+        }
+        false
+    }
+
     /// The least assignment under which a used gate is the first that has no row.
     pub fn first_undefined(&self, gate: usize) -> Option<u32>
         requires words { self.now.words ≤ 64 }
