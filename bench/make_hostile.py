@@ -410,21 +410,12 @@ def never_defined(full):
     return crowded(SIDE, SIDE if full else SIDE // 2, 65536, gates, [f"in {name}" for name in CUTS] + ["ball"] * 12)
 
 
-def once_defined(w, h, steps):
-    """The same with inverse gates that have rows if all cuts are false, and with balls only if a cut is true: no fault ends a run."""
+def once_defined(full):
+    """check: the same with inverse gates that have rows if all cuts are false, and with balls only if a cut is true: no fault ends a
+    run."""
     gates = [f"source 1 -> one{k}" for k in range(6)]
     gates += [f"unswitch {CUTS[2 * k]} {CUTS[2 * k + 1]} one{k} -> x{k} y{k}" for k in range(6)]
-    return crowded(w, h, steps, gates, [f"in {name}" for name in CUTS])
-
-
-def longest_runs(full):
-    """check: four modules of 4 by 64 with twelve cuts and 65,536 steps, whose inverse gates have rows under one assignment."""
-    return once_defined(16 if full else 8, 64, 65536)
-
-
-def many_long_runs(full):
-    """check: 1024 modules of the same with 64 steps."""
-    return once_defined(SIDE, SIDE if full else SIDE // 2, 64)
+    return crowded(SIDE, SIDE if full else SIDE // 2, 65536, gates, [f"in {name}" for name in CUTS])
 
 
 def streams(w, h, steps):
@@ -444,14 +435,19 @@ def streams(w, h, steps):
     return bundle((w, h, steps), [f"in {name} {x} {y}" for (x, y), name in ins.items()], modules, circuit)
 
 
-def long_streams(full):
+def longest_runs(full):
     """check: four modules of 4 by 64 with twelve cuts that balls cross for 65,536 steps, beside two that end at once."""
     return streams(24 if full else 16, 64, 65536)
 
 
+def many_long_runs(full):
+    """check: 1008 modules of the same for 256 steps, beside sixteen that end at once."""
+    return streams(SIDE, SIDE if full else SIDE // 2, 256)
+
+
 KINDS = [run_names, run_alike_names, run_ports, run_mirrors, run_balls, one_line, spaces, value_wide, value_alike, borders, most_lines,
          neighbours, near_edges, most_edges, stars, cuts_and_uses, alike_lines, most_stops, alike_stops, same_port, most_memory, alike_places, many_modules, long_runs, square_runs, flat_runs,
-         long_runs_with_lines, never_defined, longest_runs, many_long_runs, long_streams]
+         long_runs_with_lines, never_defined, once_defined, longest_runs, many_long_runs]
 
 
 def main():

@@ -123,7 +123,6 @@ fn workers<'a>(alloc: Global) -> Arg<'a>
     Arg::new(alloc, "workers")
         .long("workers")
         .value_name("N")
-        .help("How many workers share the modules, 1 to 64")
         .value_parser(value_parser!(usize).range(1..=64))
         .default_value("1")
 }
@@ -135,7 +134,6 @@ fn plain<'a>(alloc: Global, name: &'a str, help: Help) -> Command<'a>
 {
     Command::new(alloc, name)
         .about(help.about)
-        .long_about(help.long)
         .override_usage(help.usage)
-        .after_help(help.example)
+        .override_help(help.text)
 }

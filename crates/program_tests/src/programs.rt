@@ -40,7 +40,7 @@ const HELP: &str = concat!(
     "Usage: bbmcheck value < CIRCUIT_AND_ASSIGN\n",
     "\n",
     "Options:\n",
-    "  -h, --help  Print help (see a summary with '-h')\n",
+    "  -h, --help  Print help\n",
     "\n",
     "Example:\n",
     "  bbmcheck value < circuit_and_assign.txt\n",
