@@ -385,14 +385,69 @@ def long_runs_with_lines(full):
     return runs_of(SIDE, SIDE if full else SIDE // 2, (64, 4), 4096, 830)
 
 
+CUTS = [f"w{k}" for k in range(12)]
+
+
+def crowded(w, h, steps, gates, parts):
+    """Modules of 4 by 64 with twelve cuts, which use these gates and have a `*` line for each cell of ring and halo. Half of the cells,
+    at random, have a part of these."""
+    rng, modules = random.Random(1984), []
+    placed = sorted((f"{rng.choice(parts)} {x} {y}" for x, y in cells(w, h) if rng.random() < 0.5), key=lambda line: line[0])
+    for box in boxes(w, h, 4, 64):
+        modules += ["module %d %d %d %d" % box, *(f"cut {name}" for name in CUTS), *(f"use {k}" for k in range(len(gates)))]
+        for kind, places in (("edge", edge_cells(w, h, box)), ("halo", halo_cells(w, h, box))):
+            modules += [f"{kind} * {x} {y} {rng.choice(CUTS)}" for x, y in places]
+    ends = [name for gate in gates if "switch" in gate for name in gate.split(" -> ")[1].split()]
+    circuit = [*(f"input {name}" for name in CUTS), *gates, *(f"spill {name}" for name in ends)]
+    return bundle((w, h, steps), placed, modules, circuit)
+
+
+def never_defined(full):
+    """check: 1024 modules of 4 by 64 with balls at random, twelve cuts and 65,536 steps, which use an inverse gate that has no row under
+    any assignment."""
+    gates = ["source 1 -> a", "source 0 -> b", "source 1 -> c", "unswitch a b c -> d e"]
+    gates += [f"switch {CUTS[2 * k]} {CUTS[2 * k + 1]} -> x{k} y{k} z{k}" for k in range(6)]
+    return crowded(SIDE, SIDE if full else SIDE // 2, 65536, gates, [f"in {name}" for name in CUTS] + ["ball"] * 12)
+
+
+def once_defined(full):
+    """check: the same with inverse gates that have rows if all cuts are false, and with balls only if a cut is true: no fault ends a
+    run."""
+    gates = [f"source 1 -> one{k}" for k in range(6)]
+    gates += [f"unswitch {CUTS[2 * k]} {CUTS[2 * k + 1]} one{k} -> x{k} y{k}" for k in range(6)]
+    return crowded(SIDE, SIDE if full else SIDE // 2, 65536, gates, [f"in {name}" for name in CUTS])
+
+
+def streams(w, h, steps):
+    """Modules of 4 by 64 that balls cross from the upper left to the lower right at all times, each diagonal under a cut of its own. Only
+    the modules in the first and the last column have a fault before the last time. Each cell of ring and halo has a `*` line."""
+    rng, ins, modules = random.Random(1984), {}, []
+    for box in boxes(w, h, 4, 64):
+        wires = {c: rng.choice(CUTS) for c in range(-2, 64, 2) if (box[1] or c > 0) and (box[1] + 64 < h or c < 60)}
+        modules += ["module %d %d %d %d" % box, *(f"cut {name}" for name in CUTS), "use 0"]
+        for kind, places in (("edge", edge_cells(w, h, box)), ("halo", halo_cells(w, h, box))):
+            for x, y in places:
+                c = y - box[1] - x + box[0]
+                is_in = kind == "edge" or x < box[0] or y < box[1]
+                modules.append(f"{kind} * {x} {y} {wires.get(c, 'z') if x % 2 and y % 2 and is_in else 'z'}")
+        ins.update({(box[0] + x, box[1] + x + c): name for c, name in wires.items() for x in (0, 2) if 0 <= x + c < 64})
+    circuit = [*(f"input {name}" for name in CUTS), "source 0 -> z", *(f"spill {name}" for name in [*CUTS, "z"])]
+    return bundle((w, h, steps), [f"in {name} {x} {y}" for (x, y), name in ins.items()], modules, circuit)
+
+
 def longest_runs(full):
-    """check: 16 modules of 64 by 4 with twelve cuts and 65,536 steps, so each takes 64 times what one of long_runs does."""
-    return runs_of(64, 64 if full else 32, (64, 4), 65536, 0, 12)
+    """check: four modules of 4 by 64 with twelve cuts that balls cross for 65,536 steps, beside two that end at once."""
+    return streams(24 if full else 16, 64, 65536)
+
+
+def many_long_runs(full):
+    """check: 1008 modules of the same for 256 steps, beside sixteen that end at once."""
+    return streams(SIDE, SIDE if full else SIDE // 2, 256)
 
 
 KINDS = [run_names, run_alike_names, run_ports, run_mirrors, run_balls, one_line, spaces, value_wide, value_alike, borders, most_lines,
          neighbours, near_edges, most_edges, stars, cuts_and_uses, alike_lines, most_stops, alike_stops, same_port, most_memory, alike_places, many_modules, long_runs, square_runs, flat_runs,
-         long_runs_with_lines, longest_runs]
+         long_runs_with_lines, never_defined, once_defined, longest_runs, many_long_runs]
 
 
 def main():

@@ -1,5 +1,5 @@
 //! From a reader's bytes to a writer's.
-ghost use Rattle.std.specs.Prelude.{◌≡◌, ◌≢◌, ◌<◌, ◌≤◌, true, false, Ok, IfOk, IfErr, IsErrOf, OnOk};
+ghost use Rattle.std.specs.Prelude.{◌≡◌, ◌≢◌, ◌<◌, ◌≤◌, true, false, Ok, IfOk, IfErr, IsErrOf, OnOk, length};
 ghost use Rattle.std.specs.Io.KnownBytes.{Appends};
 ghost use Rattle.answers.specs.CheckText.{IsReportOf};
 ghost use Rattle.headline.specs.Headline.{Gives, IsRight, YesMeans};
@@ -144,11 +144,29 @@ fn read_text<R: Source>(alloc: Global, reader: &mut R) -> Result<Feed, CheckFaul
         GivesTooMuch (R.left reader.old) (R.left reader.new) }
     ensures no_write { IfErr result (λ fault. fault ≢ CheckFault.Write) }
 {
+    // On the heap, so that a small stack is enough.
+    let Ok(mut block) = vec![in alloc; 0u8; BLOCK] else {
+        return Err(CheckFault::Memory);
+    };
+    read_by(alloc, reader, &mut block)
+}
+
+// The same, by reads that ask for as many bytes as the block has.
+fn read_by<R: Source>(alloc: Global, reader: &mut R, block: &mut [u8]) -> Result<Feed, CheckFault>
+    requires works { R.has_failed reader.old ≡ false }
+    requires room { 0 < length block.old }
+    ensures read_all { IfOk result (λ feed. ReadsAll (R.left reader.old) (R.left reader.new) feed.text) }
+    ensures whole { IfOk result (λ feed. feed ≡ whole_text feed.text) }
+    ensures works { OnOk result (R.has_failed reader.new ≡ false) }
+    ensures read { IsErrOf result CheckFault.Read → R.has_failed reader.new ≡ true }
+    ensures too_long { IsErrOf result CheckFault.TooLong →
+        GivesTooMuch (R.left reader.old) (R.left reader.new) }
+    ensures no_write { IfErr result (λ fault. fault ≢ CheckFault.Write) }
+{
     let mut feed = Feed::new(alloc);
-    let mut block = [0u8; BLOCK];
     // Each read but the last gives a byte, and no text has so many.
     for _ in 0..LONGEST + 1 {
-        let Ok(count) = reader.read(&mut block) else {
+        let Ok(count) = reader.read(block) else {
             return Err(CheckFault::Read);
         };
         if count == 0 {

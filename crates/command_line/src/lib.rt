@@ -3,13 +3,15 @@
 
 mod texts;
 
-ghost use Rattle.std.specs.Prelude.{◌≡◌, ◌≤◌, IfOk, map, false};
-ghost use Rattle.clap.specs.Words.{FailsBy, app_of, fault_of, new_app, rule_of};
+ghost use Rattle.std.specs.Prelude.{◌≡◌, ◌≤◌, ◌⊎◌, IfOk, map, false};
+ghost use Rattle.clap.specs.Words.{FailsBy, app_of, fault_of, kind_of, new_app, rule_of};
 ghost use Rattle.clap.specs.declared.builder.command.Command.TheViews.{out-Command as fields_of};
 ghost use Rattle.command_line.specs.CommandLine.{asked_by, bbmcheck, check_app, top_app, workers_asked, workers_rule};
 
+use clap::error::ErrorKind;
 use clap::{Arg, Command, Error, value_parser};
 use std::alloc::{AllocError, Global};
+use texts::Help;
 
 /// A command.
 #[derive(Clone, Copy, Debug, PartialEq, Eq)]
@@ -42,7 +44,10 @@ pub fn read_words<'a>(alloc: Global, words: &'a [&'a str]) -> Result<Asked, Erro
     ensures number { IfOk result (λ asked. asked.workers ≡ workers_asked (map (λ s. s.now) words.entry.now)) }
     ensures fails { FailsBy (fault_of bbmcheck (map (λ s. s.now) words.entry.now)) result }
 {
-    let matches = command(alloc)?.try_get_matches_from(words)?;
+    let matches = match command(alloc)?.try_get_matches_from(words) {
+        Ok(matches) => matches,
+        Err(error) => return Err(explained(alloc, error)),
+    };
     let request = match matches.subcommand_name() {
         Some("check") => Request::Check,
         Some("value") => Request::Value,
@@ -57,46 +62,45 @@ pub fn read_words<'a>(alloc: Global, words: &'a [&'a str]) -> Result<Asked, Erro
     Ok(Asked { request, workers })
 }
 
+// The same error. One about the number of workers says which numbers there are.
+fn explained(alloc: Global, error: Error) -> Error
+    ensures kind { (kind_of result ≡ kind_of error) ⊎ (kind_of result ≡ ErrorKind.OutOfMemory) }
+{
+    if !matches!(error.kind(), ErrorKind::ValueValidation) {
+        return error;
+    }
+    match number_error(alloc) {
+        Ok(other) => other,
+        Err(other) => Error::from(other),
+    }
+}
+
+// Only a number of workers is refused by its value.
+fn number_error(alloc: Global) -> Result<Error, AllocError>
+    ensures { IfOk result (λ error. kind_of error ≡ ErrorKind.ValueValidation) }
+{
+    let mut check = check(alloc)?;
+    check.error(ErrorKind::ValueValidation, texts::WORKERS)
+}
+
 fn command<'a>(alloc: Global) -> Result<Command<'a>, AllocError>
     ensures { IfOk result (λ command. app_of command ≡ bbmcheck) }
 {
     top(alloc)?
         .subcommand(check(alloc)?)?
-        .subcommand(plain(
-            alloc,
-            "run",
-            "Runs a layout under an assignment",
-            texts::RUN,
-        ))?
-        .subcommand(plain(
-            alloc,
-            "value",
-            "Evaluates a circuit under an assignment",
-            texts::VALUE,
-        ))?
-        .subcommand(plain(
-            alloc,
-            "modules",
-            "Lists the modules of a certificate",
-            texts::MODULES,
-        ))?
-        .subcommand(plain(
-            alloc,
-            "migrate",
-            "Writes a bundle in certificate version 2",
-            texts::MIGRATE,
-        ))
+        .subcommand(plain(alloc, "run", texts::RUN))?
+        .subcommand(plain(alloc, "value", texts::VALUE))?
+        .subcommand(plain(alloc, "modules", texts::MODULES))?
+        .subcommand(plain(alloc, "migrate", texts::MIGRATE))
 }
 
 // The command line without its commands.
 fn top<'a>(alloc: Global) -> Result<Command<'a>, AllocError>
     ensures app { IfOk result (λ command. app_of command ≡ top_app) }
 {
-    let named = Command::new(alloc, "bbmcheck").bin_name("bbmcheck")?;
+    let named = plain(alloc, "bbmcheck", texts::ALL).bin_name("bbmcheck")?;
     Ok(
         named
-            .about("Checks billiard ball patterns, over standard input and output")
-            .after_help(texts::ALL)
             .version(texts::VERSION)
             .no_binary_name(true)
             .subcommand_required(true),
@@ -108,13 +112,7 @@ fn check<'a>(alloc: Global) -> Result<Command<'a>, AllocError>
     ensures app { IfOk result (λ command. app_of command ≡ check_app) }
     ensures local { IfOk result (λ command. (fields_of command).has_globals ≡ false) }
 {
-    plain(
-        alloc,
-        "check",
-        "Checks a layout against its circuit by a certificate",
-        texts::CHECK,
-    )
-    .arg(workers(alloc))
+    plain(alloc, "check", texts::CHECK).arg(workers(alloc))
 }
 
 // Its option.
@@ -125,15 +123,17 @@ fn workers<'a>(alloc: Global) -> Arg<'a>
     Arg::new(alloc, "workers")
         .long("workers")
         .value_name("N")
-        .help("How many workers share the modules, 1 to 64")
         .value_parser(value_parser!(usize).range(1..=64))
         .default_value("1")
 }
 
 // A command without options.
-fn plain<'a>(alloc: Global, name: &'a str, about: &'a str, more: &'a str) -> Command<'a>
+fn plain<'a>(alloc: Global, name: &'a str, help: Help) -> Command<'a>
     ensures app { app_of result ≡ new_app name.entry.now }
     ensures local { (fields_of result).has_globals ≡ false }
 {
-    Command::new(alloc, name).about(about).after_help(more)
+    Command::new(alloc, name)
+        .about(help.about)
+        .override_usage(help.usage)
+        .override_help(help.text)
 }

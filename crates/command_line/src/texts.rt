@@ -1,22 +1,53 @@
 //! The texts of help and of the version. The man page and the completions are made of what is printed of them.
 
-// What a command reads and writes, its own statuses and those that each command has, and an example.
+/// The help of a command.
+#[derive(Clone, Copy)]
+pub struct Help {
+    /// What the command does, for the list of commands.
+    pub about: &'static str,
+    /// The words of a call.
+    pub usage: &'static str,
+    /// All that `--help` prints.
+    pub text: &'static str,
+}
+
+// The help of a command, from what it does, its usage, what it reads and writes, its own statuses beside those that each command has, the
+// list of its commands, its options and an example.
 macro_rules! help {
-    ($reads:literal, $writes:literal, $($status:literal),+; $example:literal) => {
-        concat!(
-            "Reads: ",
-            $reads,
-            "\nWrites: ",
-            $writes,
-            "\n\nExit statuses:\n",
-            $("  ", $status, "\n",)+
-            "  2  the words of the command were refused\n",
-            "  3  the text was refused, with the line `refused LINE CODE`\n",
-            "  4  a read or a write failed, or the text is longer than 16 MiB\n",
-            "  5  memory ran out\n",
-            "\nExample:\n  ",
-            $example,
-        )
+    (
+        $about:literal,
+        $usage:literal,
+        $reads:literal,
+        $writes:literal,
+        [$($status:literal),+],
+        [$($command:literal),*],
+        [$($option:literal),+],
+        $example:literal
+    ) => {
+        Help {
+            about: $about,
+            usage: $usage,
+            text: concat!(
+                $about,
+                "\n\nReads: ",
+                $reads,
+                "\nWrites: ",
+                $writes,
+                "\n\nExit statuses:\n",
+                $("  ", $status, "\n",)+
+                "  2  the words of the command were refused\n",
+                "  3  the text was refused, with the line `refused LINE CODE`\n",
+                "  4  a read or a write failed, or the text is longer than 16 MiB\n",
+                "  5  memory ran out\n",
+                "\nUsage: ",
+                $usage,
+                $($command,)*
+                "\n\nOptions:\n",
+                $($option, "\n",)+
+                "\nExample:\n  ",
+                $example,
+            ),
+        }
     };
 }
 
@@ -28,49 +59,92 @@ pub const VERSION: &str = concat!(
     "proved by rattle-kit-13f logic dac8208d650f15bf",
 );
 
-/// Stands under the list of commands.
-pub const ALL: &str = help!(
+/// Says which numbers of workers there are.
+pub const WORKERS: &str =
+    "'--workers <N>' takes a whole number from 1 to 64, for example '--workers 4'";
+
+pub const ALL: Help = help!(
+    "Checks billiard ball patterns, over standard input and output",
+    "bbmcheck <COMMAND> < TEXT",
     "one text, of at most 16 MiB, from standard input",
     "the answer, to standard output; what is wrong with the words, and a line for a\n  status of 4 or 5, to standard error",
-    "0  the verdict is yes, another command is done, or help or the version was asked for",
-    "1  the verdict is no, a ball left the rectangle, or a gate has no row for what it is fed";
+    [
+        "0  the verdict is yes, another command is done, or help or the version was asked for",
+        "1  the verdict is no, a ball left the rectangle, or a gate has no row for what it is fed"
+    ],
+    [
+        "\n\nCommands:\n",
+        "  check    Checks a layout against its circuit by a certificate\n",
+        "  run      Runs a layout under an assignment\n",
+        "  value    Evaluates a circuit under an assignment\n",
+        "  modules  Lists the modules of a certificate\n",
+        "  migrate  Writes a bundle in certificate version 2\n",
+        "  help     Print this message or the help of the given subcommand(s)"
+    ],
+    [
+        "  -h, --help     Print help",
+        "  -V, --version  Print version"
+    ],
     "bbmcheck check < bundle.txt"
 );
 
-pub const CHECK: &str = help!(
+pub const CHECK: Help = help!(
+    "Checks a layout against its circuit by a certificate",
+    "bbmcheck check [--workers N] < BUNDLE",
     "a bundle, which is a circuit, a layout for it and a certificate for both",
     "a report, with the digest of the certificate, the verdict and its reasons",
-    "0  the verdict is yes",
-    "1  the verdict is no";
+    ["0  the verdict is yes", "1  the verdict is no"],
+    [],
+    [
+        "      --workers <N>  How many workers share the modules, 1 to 64 [default: 1]",
+        "  -h, --help         Print help"
+    ],
     "bbmcheck check < bundle.txt"
 );
 
-pub const RUN: &str = help!(
+pub const RUN: Help = help!(
+    "Runs a layout under an assignment",
+    "bbmcheck run < LAYOUT_AND_ASSIGN",
     "a layout and an assign section, which names the inputs that are on",
     "the cells that are live at the end, or the step at which a ball left",
-    "0  all steps were made",
-    "1  a ball left the rectangle";
+    ["0  all steps were made", "1  a ball left the rectangle"],
+    [],
+    ["  -h, --help  Print help"],
     "bbmcheck run < layout_and_assign.txt"
 );
 
-pub const VALUE: &str = help!(
+pub const VALUE: Help = help!(
+    "Evaluates a circuit under an assignment",
+    "bbmcheck value < CIRCUIT_AND_ASSIGN",
     "a circuit and an assign section, which names the inputs that are on",
     "the value of each wire, up to a gate that has no row for what it is fed",
-    "0  each wire has its value",
-    "1  a gate has no row for what it is fed";
+    [
+        "0  each wire has its value",
+        "1  a gate has no row for what it is fed"
+    ],
+    [],
+    ["  -h, --help  Print help"],
     "bbmcheck value < circuit_and_assign.txt"
 );
 
-pub const MODULES: &str = help!(
+pub const MODULES: Help = help!(
+    "Lists the modules of a certificate",
+    "bbmcheck modules < BUNDLE",
     "a bundle, which is a circuit, a layout for it and a certificate for both",
     "a line for each module, with its box and how many lines of each kind it has",
-    "0  the modules are listed";
+    ["0  the modules are listed"],
+    [],
+    ["  -h, --help  Print help"],
     "bbmcheck modules < bundle.txt"
 );
 
-pub const MIGRATE: &str = help!(
+pub const MIGRATE: Help = help!(
+    "Writes a bundle in certificate version 2",
+    "bbmcheck migrate < BUNDLE > BUNDLE_OF_VERSION_2",
     "a bundle, which is a circuit, a layout for it and a certificate for both",
     "the bundle with a certificate of version 2, which has no halo lines",
-    "0  the bundle is written";
+    ["0  the bundle is written"],
+    [],
+    ["  -h, --help  Print help"],
     "bbmcheck migrate < bundle.txt > bundle_of_version_2.txt"
 );

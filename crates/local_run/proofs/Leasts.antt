@@ -1,10 +1,10 @@
 -- From the first fault of a time and a kind to the least fault of the job
-use Rattle.std.proofs.Common.{◌≡◌, ◌≢◌, ℕ, ◌+◌, true, length, ◌<◌, ◌≤◌, ◌%◌, refl, arith, sym, ◌∙◌, subst, Option, Some, None, Ordering, Less, Equal, Greater, ◌⊎◌, inl, inr}
+use Rattle.std.proofs.Common.{◌≡◌, ◌≢◌, ℕ, ◌+◌, true, false, length, ◌<◌, ◌≤◌, ◌%◌, refl, arith, sym, ◌∙◌, subst, Option, Some, None, Ordering, Less, Equal, Greater, ◌⊎◌, inl, inr}
 use Rattle.std.specs.Prelude.{ℤ, ◌<ℤ◌, ◌↔◌, MatchOption, IsTrue}
 use Rattle.std.proofs.Props.{props}
 use Rattle.std.proofs.lemmas.Option.{slice_get_within}
 use Rattle.module_box.specs.Locals.{is_among}
-use Rattle.std.proofs.lemmas.Bool.{cases_Bool, cases_lt}
+use Rattle.std.proofs.lemmas.Bool.{cases_Bool, cases_lt, true≢false}
 use Rattle.std.proofs.Math.Logic.{∥∥₁_elim}
 use Rattle.bbm_rule.specs.Bits.{bit}
 use Rattle.circuit.proofs.Undefined.{undefined_has_none}
@@ -200,6 +200,11 @@ pub end_least_fault : (j : JobState) (vs : Values) (o : Option Fault) → IsRead
 end_least_fault j vs (Some f) ready free stops first = least_at j vs j.steps End f ready (omega arith) free first (none_below_end j vs stops)
 end_least_fault j vs None ready free stops ends = λ g h.
     none_left j vs free stops ends (λ k s l. (ready.job.stops k s l).time) g.time g.kind g.cell.x g.cell.y g.assignment h.in_range (under j vs g ready h)
+
+-- where each assignment lacks the row of a used gate, there is no fault
+pub none_undefined : (j : JobState) (vs : Values) → IsReady j vs → ((a : ℕ) → a < vs.count → is_defined vs a ≡ false) → IsLeastFault j None
+none_undefined j vs ready none f h =
+    true≢false (sym (under j vs f ready h).0 ∙ none f.assignment (let count = ready.count in let small = h.in_range in omega (arith, count, small)))
 
 -- ---- keep faults
 -- a gate's row tells its keep faults

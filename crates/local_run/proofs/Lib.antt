@@ -1,4 +1,5 @@
 pub mod Numbers
+pub mod Cleared
 pub mod OwnWires
 pub mod LocalRuns
 pub mod Decided

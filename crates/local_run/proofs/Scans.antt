@@ -132,6 +132,12 @@ shown_more vs p x y k s cells wanted are should same before a l = by_lt_or_le a 
     (λ g. let e : 64 * k + (a - 64 * k) ≡ a = omega arith in
     subst (λ (n : ℕ). lane p n x y ≡ is_live (valuation vs n) s) e (sym (are (a - 64 * k) (omega arith)) ∙ ap (λ (n : ℕ). bit n (a - 64 * k)) same ∙ should (a - 64 * k) (omega arith)))
 
+-- bit b of word k of the defined row
+pub defined_in_word : (vs : Values) (k b v d : ℕ) → b < 64 → k < length vs.rows.defined.items → v ≡ get_or vs.rows.defined.items k d → bit v b ≡ is_defined vs (64 * k + b)
+unfolding bit_of_row
+defined_in_word vs k b v d l room is =
+    ap (λ n. bit n b) (is ∙ get_or_any vs.rows.defined.items k d 0 room) ∙ ap₂ (λ i j. bit (get_or vs.rows.defined.items i 0) j) (sym (quotient k b l)) (sym (remainder k b l))
+
 pub difference_small : (v w d : ℕ) → v < 2 ^ 64 → w < 2 ^ 64 → d < 2 ^ 64 → bit_and (bit_xor v w) d < 2 ^ 64
 difference_small v w d sv sw sd = and_lt 64 (bit_xor v w) d (xor_lt 64 v w sv sw) sd
 

@@ -1,5 +1,5 @@
 -- The run of a job under all assignments, and the first of its faults
-use Rattle.std.specs.Prelude.{◌≡◌, ◌≢◌, Bool, true, false, ℕ, ℤ, ◌+◌, ◌*◌, ◌/◌, ◌%◌, ◌<◌, ◌≤◌, ◌<ℤ◌, length, slice_get, Option, Some, None, ◌⊎◌}
+use Rattle.std.specs.Prelude.{◌≡◌, ◌≢◌, Bool, true, false, ℕ, ℤ, ◌+◌, ◌*◌, ◌/◌, ◌%◌, ◌<◌, ◌≤◌, ◌<ℤ◌, List, length, slice_get, Option, Some, None, ◌⊎◌}
 use Rattle.circuit.specs.Meaning.{Valuation, AreOrdered, wires}
 use Rattle.module_box.specs.LocalValues.{AreValueRows, bit_of_row, value_of}
 use Rattle.module_box.specs.Schedules.{signal_at}
@@ -33,6 +33,10 @@ valuation vs a = value_of vs.words vs.rows.values.items a
 -- whether each used gate has a row under assignment a
 abbrev pub is_defined : Values → ℕ → Bool
 is_defined vs a = bit_of_row vs.rows.defined.items a
+
+-- where each used gate has a row, the values of the wires stay: in rows of words, with the row of the assignments that are so
+abbrev pub KeepsDefined : List ℕ → List ℕ → List ℕ → Type 0
+KeepsDefined defined old new = (a w : ℕ) → a < 64 * length defined → bit_of_row defined a ≡ true → value_of (length defined) new a w ≡ value_of (length defined) old a w
 
 -- each used gate has a row under assignment a, and the job has the fault
 abbrev pub IsFound : JobState → Values → ℕ → ℕ → Kind → ℤ → ℤ → Type 0

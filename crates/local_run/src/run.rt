@@ -90,6 +90,22 @@ fn least_fault(alloc: Global, values: &Values, job: &Job) -> Result<Option<Fault
     Ok(first_fault(&field, values, job, steps, Kind::End))
 }
 
+// The least fault of the job. If a used gate lacks a row under every assignment, the job has no fault and is not run.
+fn fault_where_defined(
+    alloc: Global,
+    values: &Values,
+    job: &Job,
+) -> Result<Option<Fault>, AllocError>
+    requires { IsReady job.now values.now }
+    ensures { IfOk result (λ o. IsLeastFault job.now o) }
+{
+    if values.is_some_defined() {
+        least_fault(alloc, values, job)
+    } else {
+        Ok(None)
+    }
+}
+
 // The least fault of the job, and its least keep fault.
 fn least_faults(alloc: Global, job: &Job) -> Result<(Option<Fault>, Option<KeepFault>), AllocError>
     ensures fault { IfOk result (λ o. IsLeastFault job.now o.0) }
@@ -97,7 +113,7 @@ fn least_faults(alloc: Global, job: &Job) -> Result<(Option<Fault>, Option<KeepF
 {
     let _area = job.area();
     let values = Values::of(alloc, job)?;
-    let fault = least_fault(alloc, &values, job)?;
+    let fault = fault_where_defined(alloc, &values, job)?;
     let keep = least_keep(&values, job);
     Ok((fault, keep))
 }

@@ -5,7 +5,7 @@ ghost use Rattle.module_job.specs.Jobs.{IsJob};
 ghost use Rattle.module_job.specs.Signals.{is_live};
 ghost use Rattle.local_run.specs.Calm.{ChangesCells};
 ghost use Rattle.local_run.specs.Lanes.{lane};
-ghost use Rattle.local_run.specs.Scans.{HasRow, IsLeastBelow, IsReady, IsShown, PutsCell, is_defined, valuation};
+ghost use Rattle.local_run.specs.Scans.{HasRow, IsLeastBelow, IsReady, IsShown, KeepsDefined, PutsCell, is_defined, valuation};
 ghost use Rattle.module_box.specs.LocalValues.{value_of};
 
 use crate::lines::held_cells;
@@ -13,6 +13,44 @@ use crate::planes::Planes;
 use module_box::{Signal, ValueRows};
 use module_job::Job;
 use std::alloc::{AllocError, Global};
+
+// The same rows, in which the values are false under the assignments under which some used gate lacks a row.
+fn without_undefined(rows: ValueRows) -> ValueRows
+    requires wide { 0 < length rows.defined.items }
+    ensures defined { result.defined ≡ rows.defined }
+    ensures undefined { result.undefined ≡ rows.undefined }
+    ensures long { length result.values.items ≡ length rows.values.items }
+    ensures keeps { KeepsDefined rows.defined.items rows.values.items result.values.items }
+{
+    let ValueRows {
+        values,
+        undefined,
+        defined,
+    } = rows;
+    let mut values = values;
+    clear_undefined(&mut values, &defined);
+    ValueRows {
+        values,
+        undefined,
+        defined,
+    }
+}
+
+// Makes the values false under the assignments under which some used gate lacks a row. No fault is sought under these, and a run in
+// which all wires are false changes less.
+fn clear_undefined(values: &mut [u64], defined: &[u64])
+    requires wide { 0 < length defined.now }
+    ensures long { length values.new ≡ length values.old }
+    ensures keeps { KeepsDefined defined.now values.old values.new }
+{
+    if defined.iter().all(|word| *word == 0xFFFF_FFFF_FFFF_FFFF) {
+        return;
+    }
+    let words = defined.len();
+    'all: for k in 0..values.len() {
+        values[k] &= defined[k % words];
+    }
+}
 
 /// For each wire of a job a row of words: bit b of word k is its value under assignment 64 k + b. With them the assignments under which
 /// each used gate has a row, and for each gate those under which it is the first that has none.
@@ -36,7 +74,7 @@ impl Values {
         let wiring = job.wiring();
         let count = 1usize << wiring.cuts();
         let words = count.div_ceil(64);
-        let rows = wiring.value_rows(alloc, words)?;
+        let rows = without_undefined(wiring.value_rows(alloc, words)?);
         let held = held_cells(alloc, job)?;
         Ok(Values {
             words,
@@ -115,6 +153,20 @@ impl Values {
     {
         for k in 0..self.words {
             if planes.word(x, y, k) != self.word(signal, k) {
+                return true;
+            }
+        }
+        false
+    }
+
+    /// Returns whether each used gate has a row under some assignment.
+    pub fn is_some_defined(&self) -> bool
+        requires defined { self.now.words ≤ length self.now.rows.defined.items }
+        requires room { self.now.count ≤ 64 * self.now.words }
+        ensures { result ≡ false → (a : ℕ) → a < self.now.count → is_defined self.now a ≡ false }
+    {
+        for k in 0..self.words {
+            if self.rows.defined[k] != 0 {
                 return true;
             }
         }

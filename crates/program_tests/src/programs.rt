@@ -26,11 +26,6 @@ struct Command {
 const HELP: &str = concat!(
     "Evaluates a circuit under an assignment\n",
     "\n",
-    "Usage: bbmcheck value\n",
-    "\n",
-    "Options:\n",
-    "  -h, --help  Print help\n",
-    "\n",
     "Reads: a circuit and an assign section, which names the inputs that are on\n",
     "Writes: the value of each wire, up to a gate that has no row for what it is fed\n",
     "\n",
@@ -41,6 +36,11 @@ const HELP: &str = concat!(
     "  3  the text was refused, with the line `refused LINE CODE`\n",
     "  4  a read or a write failed, or the text is longer than 16 MiB\n",
     "  5  memory ran out\n",
+    "\n",
+    "Usage: bbmcheck value < CIRCUIT_AND_ASSIGN\n",
+    "\n",
+    "Options:\n",
+    "  -h, --help  Print help\n",
     "\n",
     "Example:\n",
     "  bbmcheck value < circuit_and_assign.txt\n",
@@ -170,20 +170,25 @@ fn writes_the_front_before_a_write_fails(rt: HostRuntime) {
     }
 }
 
+const NUMBERS: &str =
+    "error: '--workers <N>' takes a whole number from 1 to 64, for example '--workers 4'\n\nUsage: bbmcheck check [--workers N] < BUNDLE\n\nFor more information, try '--help'.\n";
+
 /// Words, the status, and what is said, where nothing can be read.
-const UNREAD: [(&[&str], u8, &str, &str); 3] = [
+const UNREAD: [(&[&str], u8, &str, &str); 5] = [
     (&["value", "--help"], 0, HELP, ""),
+    (&["check", "--workers", "four"], 2, "", NUMBERS),
+    (&["check", "--workers=65"], 2, "", NUMBERS),
     (
         &["prove"],
         2,
         "",
-        "error: unrecognized subcommand 'prove'\n\nUsage: bbmcheck <COMMAND>\n\nFor more information, try '--help'.\n",
+        "error: unrecognized subcommand 'prove'\n\nUsage: bbmcheck <COMMAND> < TEXT\n\nFor more information, try '--help'.\n",
     ),
     (
         &[""],
         2,
         "",
-        "error: unrecognized subcommand ''\n\nUsage: bbmcheck <COMMAND>\n\nFor more information, try '--help'.\n",
+        "error: unrecognized subcommand ''\n\nUsage: bbmcheck <COMMAND> < TEXT\n\nFor more information, try '--help'.\n",
     ),
 ];
 

@@ -23,7 +23,7 @@ simple = refl
 
 pub returns-clause-fails : goal.returns-clause-fails
 returns-clause-fails c =
-    sym (ap₂ fault_of c.in_ok-command.ensures refl) ∙ c.in_ok-matches.ensures.kinds (ap is_simple_and_free c.in_ok-command.ensures ∙ is_free)
+    sym (ap₂ fault_of c.in_ok-command.ensures refl) ∙ c.in-Ok.ensures.kinds (ap is_simple_and_free c.in_ok-command.ensures ∙ is_free)
 
 -- the request by the name that was met
 by_name : (met : Option (Text × List Row)) (name : Option Text) → name ≡ option_map (λ p. p.0) met
@@ -34,18 +34,18 @@ by_name (Some p) name same = rw same refl
 pub returns-clause-request : goal.returns-clause-request
 returns-clause-request c =
     let words = map (λ s. s.now) c.args.words.now in
-    let met : subcommand_rows_of c.in_ok-matches.matches ≡ subcommand_of bbmcheck words =
-    (c.in_ok-matches.ensures.matches (ap is_simple c.in_ok-command.ensures ∙ simple)).1 ∙ ap₂ subcommand_of c.in_ok-command.ensures refl in
-    let name = c.subcommand_name.ensures ∙ name_by_rows c.in_ok-matches.matches ∙ ap (option_map (λ p. p.0)) met in
+    let met : subcommand_rows_of c.in-Ok.matches ≡ subcommand_of bbmcheck words =
+    (c.in-Ok.ensures.matches (ap is_simple c.in_ok-command.ensures ∙ simple)).1 ∙ ap₂ subcommand_of c.in_ok-command.ensures refl in
+    let name = c.subcommand_name.ensures ∙ name_by_rows c.in-Ok.matches ∙ ap (option_map (λ p. p.0)) met in
     rw (← by_name (subcommand_of bbmcheck words) _ name) (search rules)
 
 pub returns-clause-number : goal.returns-clause-number
 returns-clause-number c =
     let words = map (λ s. s.now) c.args.words.now in
     let none : fault_of bbmcheck words ≡ [] = returns-clause-fails c in
-    let met : subcommand_rows_of c.in_ok-matches.matches ≡ subcommand_of bbmcheck words =
-    (c.in_ok-matches.ensures.matches (ap is_simple c.in_ok-command.ensures ∙ simple)).1 ∙ ap₂ subcommand_of c.in_ok-command.ensures refl in
-    let name = sym (name_by_rows c.in_ok-matches.matches) in
+    let met : subcommand_rows_of c.in-Ok.matches ≡ subcommand_of bbmcheck words =
+    (c.in-Ok.ensures.matches (ap is_simple c.in_ok-command.ensures ∙ simple)).1 ∙ ap₂ subcommand_of c.in_ok-command.ensures refl in
+    let name = sym (name_by_rows c.in-Ok.matches) in
     elim c.match-subcommand_matches.branch [
       | in-Some w ↦
           w.workers-is ∙ w.unwrap_or-workers.ensures

@@ -5,6 +5,7 @@ use Rattle.std.specs.Int.{div_ceil}
 use Rattle.circuit.specs.Meaning.{AreOrdered, Netlist}
 use Rattle.module_box.specs.LocalValues.{AreValueRows}
 use Rattle.local_run.specs.Faults.{assignments}
+use Rattle.local_run.proofs.Cleared.{rows_kept}
 use Rattle.local_run.proofs.values.Values.of.Goals as goal
 
 -- so many cuts have so many assignments, and these so many words
@@ -26,7 +27,10 @@ returns c =
     let w = enough c.cuts-count.result c.div_ceil-words.result c.cuts-count.ensures.few c.div_ceil-words.ensures in
     let count : 1 * 2 ^ c.cuts-count.result % 18446744073709551616 ≡ assignments c.args.job.now =
     shifted c.cuts-count.result c.cuts-count.ensures.few ∙ ap (λ n. 2 ^ n) c.cuts-count.ensures.count ∙ ap (λ (l : Netlist). 2 ^ l.given) e in
-    let rows : AreValueRows c.args.job.now.locals.netlist c.div_ceil-words.result c.in_ok-rows.rows = subst (λ (m : Netlist). AreValueRows m c.div_ceil-words.result c.in_ok-rows.rows) e c.in_ok-rows.ensures in
+    let known = c.without_undefined-rows.ensures in
+    let rows : AreValueRows c.args.job.now.locals.netlist c.div_ceil-words.result c.without_undefined-rows.result =
+    subst (λ (m : Netlist). AreValueRows m c.div_ceil-words.result c.without_undefined-rows.result) e
+    (rows_kept _ c.div_ceil-words.result _ _ known.defined known.undefined known.long known.keeps c.in_ok-value_rows.ensures) in
     record {
       job = c.requires;
       ordered = subst (λ (l : Netlist). AreOrdered l.given l.gates) e c.cuts-count.ensures.ordered;

@@ -2,7 +2,7 @@
 use Rattle.std.proofs.Common.{◌≡◌, ◌≤◌, false, None, length}
 use Rattle.std.specs.Io.KnownBytes.{Consumes}
 use Rattle.section_text.specs.FeedState.{text_limit}
-use Rattle.check_main.proofs.stream.read_text.Given as goal
+use Rattle.check_main.proofs.stream.read_by.Given as goal
 
 abbrev pub invariant-loop : goal.invariant-loop
 invariant-loop g l =

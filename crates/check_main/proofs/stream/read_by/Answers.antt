@@ -2,7 +2,7 @@
 use Rattle.std.proofs.Common.{◌+◌, ◌<◌, ◌++◌, Err, length, take, ap, length-append}
 use Rattle.std.proofs.KnownBytes.{Consumes-trans}
 use Rattle.section_text.specs.FeedState.{text_limit}
-use Rattle.check_main.proofs.stream.read_text.Goals as goal
+use Rattle.check_main.proofs.stream.read_by.Goals as goal
 
 pub returns-in-Err-TooLong-clause-too_long : goal.returns-in-Err-TooLong-clause-too_long
 returns-in-Err-TooLong-clause-too_long g c _ =
