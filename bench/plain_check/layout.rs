@@ -53,9 +53,12 @@ impl Cells {
 /// Returns the places of the bits that are set, from the lowest on.
 pub fn places(mut bits: u64) -> impl Iterator<Item = usize> {
     std::iter::from_fn(move || {
+        if bits == 0 {
+            return None;
+        }
         let place = bits.trailing_zeros() as usize;
-        bits &= bits.wrapping_sub(1);
-        (place < 64).then_some(place)
+        bits &= bits - 1;
+        Some(place)
     })
 }
 

@@ -1,8 +1,9 @@
 //! The run of one module under all assignments of its cuts at once, 64 in a word (`docs/FORMATS.md`, "`check`").
 //!
-//! A cell holds the number of a value, and a value has a bit for each assignment. Most cells are dead, or carry a wire
-//! alone, so most blocks are turned without a look at the bits of their values. Only blocks of which a cell changed
-//! are turned, and where nothing is left to turn the run leaps to the next border line or stop.
+//! A value has a bit for each assignment. Most cells are dead, or carry a wire, so a cell holds a handle: the number of
+//! a signal, or else that its value is its own. Most blocks are turned by their handles alone, without a look at values.
+//! Only blocks of which a cell changed are turned, and where nothing is left to turn the run leaps to the next border
+//! line or stop.
 
 use crate::certificate::BorderLine;
 use crate::circuit::Row;
@@ -46,90 +47,40 @@ pub fn find(job: &Job) -> Finding {
     }
 }
 
-type Value<const W: usize> = Box<[u64; W]>;
+type Value<const W: usize> = [u64; W];
 
-/// The number of a value in the table of values.
+/// What a cell carries: a value of the job's table, or its own.
 type Handle = u16;
 const DEAD: Handle = 0;
 const LIVE: Handle = 1;
+const OWN: Handle = u16::MAX;
 
-/// The values of the job's wires, and those of cells, of which each has its own.
-struct Values<const W: usize> {
-    table: Vec<Value<W>>,
+/// The values of a job's signals.
+struct Table<const W: usize> {
+    values: Vec<Value<W>>,
     /// The bits that are assignments: all, but for fewer than six cuts.
     full: u64,
-    /// The values from here on belong to one cell each.
-    first_owned: usize,
-    free: Vec<Handle>,
-    spare: [Value<W>; 4],
 }
 
-impl<const W: usize> Values<W> {
+impl<const W: usize> Table<W> {
     fn new(cut_count: usize) -> Self {
         let full = if cut_count < 6 { (1 << (1 << cut_count)) - 1 } else { !0 };
-        let zero = || Box::new([0; W]);
-        let table = vec![zero(), Box::new([full; W])];
-        Values { table, full, first_owned: 0, free: Vec::new(), spare: [zero(), zero(), zero(), zero()] }
-    }
-
-    fn get(&self, handle: Handle) -> &[u64; W] {
-        &self.table[usize::from(handle)]
-    }
-
-    fn is_owned(&self, handle: Handle) -> bool {
-        usize::from(handle) >= self.first_owned
-    }
-
-    fn release(&mut self, handle: Handle) {
-        if self.is_owned(handle) {
-            self.free.push(handle);
-        }
+        Table { values: vec![[0; W], [full; W]], full }
     }
 
     /// Returns DEAD or LIVE if the value is false or true under every assignment.
-    fn constant(&self, value: &[u64; W]) -> Option<Handle> {
-        if value.iter().all(|&word| word == 0) {
-            Some(DEAD)
-        } else if value.iter().all(|&word| word == self.full) {
-            Some(LIVE)
-        } else {
-            None
-        }
+    fn constant(&self, value: &Value<W>) -> Option<Handle> {
+        let handle = if value[0] == 0 { DEAD } else { LIVE };
+        let is_constant = (value[0] == 0 || value[0] == self.full) && value.iter().all(|&word| word == value[0]);
+        is_constant.then_some(handle)
     }
 
-    fn add_wire(&mut self, value: [u64; W]) -> Handle {
+    fn add(&mut self, value: Value<W>) -> Handle {
         let handle = self.constant(&value);
         handle.unwrap_or_else(|| {
-            self.table.push(Box::new(value));
-            (self.table.len() - 1) as Handle
+            self.values.push(value);
+            (self.values.len() - 1) as Handle
         })
-    }
-
-    /// Replaces a cell's value by the spare one of this number.
-    fn replace(&mut self, old: Handle, spare: usize) -> Handle {
-        if let Some(handle) = self.constant(&self.spare[spare]) {
-            self.release(old);
-            return handle;
-        }
-        let slot = if self.is_owned(old) { old } else { self.free.pop().unwrap_or_else(|| self.add_slot()) };
-        std::mem::swap(&mut self.table[usize::from(slot)], &mut self.spare[spare]);
-        slot
-    }
-
-    fn add_slot(&mut self) -> Handle {
-        self.table.push(Box::new([0; W]));
-        (self.table.len() - 1) as Handle
-    }
-
-    /// Returns the least assignment among the defined ones under which the values differ.
-    fn first_difference(&self, one: Handle, other: Handle, defined: &[u64; W]) -> Option<u64> {
-        if one == other {
-            return None;
-        }
-        let pairs = self.get(one).iter().zip(self.get(other)).zip(defined);
-        let mut differences = pairs.map(|((one, other), defined)| (one ^ other) & defined).enumerate();
-        let (word, bits) = differences.find(|&(_, bits)| bits != 0)?;
-        Some(word as u64 * 64 + u64::from(bits.trailing_zeros()))
     }
 }
 
@@ -137,29 +88,31 @@ impl<const W: usize> Values<W> {
 /// (Margolus 1984, block rule).
 const TURNED: [u8; 16] = [0, 8, 4, 3, 2, 5, 9, 7, 1, 6, 10, 11, 12, 13, 14, 15];
 
+fn bits(cells: [bool; 4]) -> u8 {
+    let [ul, ur, dl, dr] = cells.map(u8::from);
+    ul | ur << 1 | dl << 2 | dr << 3
+}
+
+/// The sets of cells, by their bits, with two side by side. Those stay, whatever else the block has.
+const SIDE_BY_SIDE: u16 = 0b1111_1100_1010_1000;
+
 /// Turns a block under all assignments, and returns whether the main and the other diagonal change under any.
 #[inline(never)]
-#[allow(clippy::too_many_arguments)]
 fn turn_values<const W: usize>(
-    upper_left: &[u64; W],
-    upper_right: &[u64; W],
-    lower_left: &[u64; W],
-    lower_right: &[u64; W],
-    new_upper_left: &mut [u64; W],
-    new_upper_right: &mut [u64; W],
-    new_lower_left: &mut [u64; W],
-    new_lower_right: &mut [u64; W],
+    ul: &mut Value<W>,
+    ur: &mut Value<W>,
+    dl: &mut Value<W>,
+    dr: &mut Value<W>,
 ) -> (bool, bool) {
     let (mut any_main, mut any_other) = (0, 0);
     for i in 0..W {
-        let (ul, ur, dl, dr) = (upper_left[i], upper_right[i], lower_left[i], lower_right[i]);
-        let (flip_main, flip_other) = flips(ul, ur, dl, dr);
-        any_main |= flip_main;
-        any_other |= flip_other;
-        new_upper_left[i] = ul ^ flip_main;
-        new_lower_right[i] = dr ^ flip_main;
-        new_upper_right[i] = ur ^ flip_other;
-        new_lower_left[i] = dl ^ flip_other;
+        let (main, other) = flips(ul[i], ur[i], dl[i], dr[i]);
+        any_main |= main;
+        any_other |= other;
+        ul[i] ^= main;
+        dr[i] ^= main;
+        ur[i] ^= other;
+        dl[i] ^= other;
     }
     (any_main != 0, any_other != 0)
 }
@@ -174,18 +127,29 @@ pub fn flips(ul: u64, ur: u64, dl: u64, dr: u64) -> (u64, u64) {
     (crossed | (main_differ & !other_any), crossed | (other_differ & !main_any))
 }
 
-/// A set of blocks of one parity.
-#[derive(Default)]
+/// A set of blocks of one parity: a box of 64 by 64 cells with its halo has 33 rows of them, and those of even steps
+/// count from 1.
 struct Blocks {
-    rows: Vec<u64>,
+    rows: [u64; 34],
     /// The rows that have a block.
     some: u64,
 }
 
 impl Blocks {
+    fn new() -> Self {
+        Blocks { rows: [0; 34], some: 0 }
+    }
+
     fn insert(&mut self, row: usize, column: usize) {
-        self.rows[row] |= 1 << column;
-        self.some |= 1 << row;
+        self.insert_pair(row, column, 1);
+    }
+
+    /// Inserts the block, the one to its right, or both, by two bits.
+    fn insert_pair(&mut self, row: usize, column: usize, bits: u8) {
+        if bits != 0 {
+            self.rows[row] |= u64::from(bits) << column;
+            self.some |= 1 << row;
+        }
     }
 
     fn is_empty(&self) -> bool {
@@ -202,13 +166,14 @@ enum Place {
 
 struct Run<'j, const W: usize> {
     job: &'j Job,
-    values: Values<W>,
+    table: Table<W>,
     /// The handle of each signal.
     signals: Vec<Handle>,
     /// The assignments under which every used gate has a row.
     defined: Value<W>,
-    /// The box with its halo, in rows of `stride` cells.
+    /// The box with its halo, in rows of `stride` cells, and the values that are a cell's own.
     cells: Vec<Handle>,
+    own: Vec<Value<W>>,
     places: Vec<Place>,
     stride: usize,
     /// What the `*` lines say of each halo cell.
@@ -224,7 +189,6 @@ impl<'j, const W: usize> Run<'j, W> {
     fn find(job: &'j Job) -> Finding {
         let mut run = Self::new(job);
         let keep = run.evaluate_gates();
-        run.values.first_owned = run.values.table.len();
         run.start();
         let fault = run.run();
         Finding { fault, keep }
@@ -232,18 +196,18 @@ impl<'j, const W: usize> Run<'j, W> {
 
     fn new(job: &'j Job) -> Self {
         let (stride, count) = (job.width + 2, (job.width + 2) * (job.height + 2));
-        let values = Values::new(job.cut_count);
-        let blocks = || Blocks { rows: vec![0; job.height / 2 + 2], some: 0 };
+        let table = Table::new(job.cut_count);
         Run {
             job,
-            defined: Box::new([values.full; W]),
-            values,
+            defined: [table.full; W],
+            table,
             signals: vec![DEAD, LIVE],
             cells: vec![DEAD; count],
+            own: vec![[0; W]; count],
             places: places_of(job),
             stride,
             held: vec![DEAD; count],
-            due: [blocks(), blocks()],
+            due: [Blocks::new(), Blocks::new()],
             ring_count: 0,
             is_ring_due: true,
         }
@@ -259,15 +223,15 @@ impl<'j, const W: usize> Run<'j, W> {
             0xFFFF_0000_FFFF_0000,
             0xFFFF_FFFF_0000_0000,
         ];
-        let full = self.values.full;
+        let full = self.table.full;
         for cut in 0..self.job.cut_count {
             let word = |i: usize| if cut < 6 { PATTERNS[cut] } else { ((i >> (cut - 6) & 1) as u64).wrapping_neg() };
-            let handle = self.values.add_wire(std::array::from_fn(|i| word(i) & full));
+            let handle = self.table.add(std::array::from_fn(|i| word(i) & full));
             self.signals.push(handle);
         }
         let mut keep = None;
         for (number, gate) in self.job.gates.iter().enumerate() {
-            let inputs = gate.inputs.map(|signal| self.values.get(self.signals[usize::from(signal)]));
+            let inputs = gate.inputs.map(|signal| self.table.values[usize::from(self.signals[usize::from(signal)])]);
             let rows: [Row; W] = std::array::from_fn(|i| Row::of(gate.kind, gate.number, inputs.map(|input| input[i])));
             let undefined = rows.iter().zip(self.defined.iter()).position(|(row, defined)| defined & !row.domain != 0);
             if let (true, None, Some(word)) = (gate.is_kept, keep, undefined) {
@@ -281,8 +245,8 @@ impl<'j, const W: usize> Run<'j, W> {
                 let value = std::array::from_fn(|i| rows[i].outputs[output] & full);
                 // an output that copies the first input keeps its handle
                 let first = self.signals[usize::from(gate.inputs[0])];
-                let is_copy = gate.kind.input_count() > 0 && *self.values.get(first) == value;
-                let handle = if is_copy { first } else { self.values.add_wire(value) };
+                let is_copy = gate.kind.input_count() > 0 && self.table.values[usize::from(first)] == value;
+                let handle = if is_copy { first } else { self.table.add(value) };
                 self.signals.push(handle);
             }
         }
@@ -379,79 +343,129 @@ impl<'j, const W: usize> Run<'j, W> {
         let back = 1 - parity;
         let corner = self.cell(2 * column - back, 2 * row - back);
         let at = [corner, corner + 1, corner + self.stride, corner + self.stride + 1];
-        let old = at.map(|cell| self.cells[cell]);
-        if old == [DEAD; 4] {
+        let ([ul, ur], [dl, dr]) = (*self.pair(at[0]), *self.pair(at[2]));
+        let old = [ul, ur, dl, dr];
+        let some = bits(old.map(|handle| handle != DEAD));
+        if some == 0 {
             return;
         }
-        let (mut new, mut changed) = self.turned(old);
-        let job = self.job;
-        let is_at_halo = row == 0 || column == 0 || 2 * row == job.height || 2 * column == job.width;
-        if parity == 1 && is_at_halo {
-            for (k, &cell) in at.iter().enumerate() {
-                if self.places[cell] == Place::Halo {
-                    if new[k] != self.held[cell] {
-                        self.values.release(new[k]);
-                        new[k] = self.held[cell];
+        let Job { width, height, .. } = *self.job;
+        let is_at_border = row == back || column == back || 2 * row == height || 2 * column == width;
+        if some.is_power_of_two() && !is_at_border {
+            return self.move_lone(parity, row, column, at, some.trailing_zeros() as usize);
+        }
+        let (mut new, mut changed) = self.turned(at, old, some);
+        // the cells of the box, by their bits
+        let mut inside = 0b1111;
+        if is_at_border {
+            for k in 0..4 {
+                match self.places[at[k]] {
+                    Place::Halo => {
+                        // an odd step is cut back to the box, and `*` lines hold at each
+                        new[k] = self.held[at[k]];
+                        changed = changed & !(1 << k) | u8::from(new[k] != old[k]) << k;
+                        inside &= !(1 << k);
                     }
-                    changed[k] = new[k] != old[k];
+                    Place::Ring if changed >> k & 1 == 1 => {
+                        self.ring_count += usize::from(new[k] != DEAD);
+                        self.ring_count -= usize::from(old[k] != DEAD);
+                        self.is_ring_due = true;
+                    }
+                    _ => {}
                 }
             }
         }
-        for k in (0..4).filter(|&k| changed[k]) {
-            let (right, down) = (k % 2, k / 2);
-            self.cells[at[k]] = new[k];
-            self.due[parity].insert(row, column);
-            match self.places[at[k]] {
-                Place::Halo => continue,
-                Place::Ring => {
-                    self.ring_count += usize::from(new[k] != DEAD);
-                    self.ring_count -= usize::from(old[k] != DEAD);
-                    self.is_ring_due = true;
-                }
-                Place::Inside => {}
-            }
-            self.due[back].insert(row + down - back, column + right - back);
+        if changed == 0 {
+            return;
         }
+        *self.pair(at[0]) = [new[0], new[1]];
+        *self.pair(at[2]) = [new[2], new[3]];
+        // each changed cell is in this block again two steps on, and in another one at the next step
+        self.due[parity].insert(row, column);
+        let marks = changed & inside;
+        self.due[back].insert_pair(row - back, column - back, marks & 0b11);
+        self.due[back].insert_pair(row + 1 - back, column - back, marks >> 2);
     }
 
-    /// Returns the block after a step, and which of its cells changed.
-    fn turned(&mut self, old: [Handle; 4]) -> ([Handle; 4], [bool; 4]) {
-        let mask = |is: &dyn Fn(Handle) -> bool| (0..4).filter(|&k| is(old[k])).fold(0, |mask, k| mask | 1 << k);
-        let some: u8 = mask(&|handle| handle != DEAD);
-        let first = old[some.trailing_zeros() as usize];
-        if old.iter().all(|&handle| handle == DEAD || handle == first) {
+    fn pair(&mut self, cell: usize) -> &mut [Handle; 2] {
+        self.cells[cell..].first_chunk_mut().expect("a block has two cells in a row")
+    }
+
+    /// Moves the only cell of a block that is not dead to the opposite corner.
+    fn move_lone(&mut self, parity: usize, row: usize, column: usize, at: [usize; 4], place: usize) {
+        let back = 1 - parity;
+        let (from, to) = (at[place], at[3 - place]);
+        let handle = std::mem::replace(&mut self.cells[from], DEAD);
+        self.cells[to] = handle;
+        if handle == OWN {
+            self.own[to] = self.own[from];
+        }
+        let marks: u8 = if place == 0 || place == 3 { 0b01 } else { 0b10 };
+        self.due[parity].insert(row, column);
+        self.due[back].insert_pair(row - back, column - back, marks);
+        self.due[back].insert_pair(row + 1 - back, column - back, 0b11 ^ marks);
+    }
+
+    /// Returns the block after a step, and the bits of the cells that changed.
+    fn turned(&mut self, at: [usize; 4], old: [Handle; 4], some: u8) -> ([Handle; 4], u8) {
+        let place = some.trailing_zeros() as usize & 3;
+        let first = old[place];
+        let are_equal = old.iter().all(|&handle| handle == DEAD || handle == first);
+        if are_equal && (first != OWN || some.is_power_of_two()) {
             // one value alone: where it is true the block is one of the table, and else all dead
             let after = TURNED[usize::from(some)];
+            if first == OWN {
+                self.own[at[3 - place]] = self.own[at[place]];
+            }
             let new = std::array::from_fn(|k| if after >> k & 1 == 1 { first } else { DEAD });
-            return (new, std::array::from_fn(|k| (some ^ after) >> k & 1 == 1));
+            return (new, some ^ after);
         }
-        let live: u8 = mask(&|handle| handle == LIVE);
-        if [0b0011, 0b1100, 0b0101, 0b1010].iter().any(|&pair| live & pair == pair) {
-            // two live cells side by side stay, whatever else the block has
-            return (old, [false; 4]);
+        let live = bits(old.map(|handle| handle == LIVE));
+        if SIDE_BY_SIDE >> live & 1 == 1 {
+            return (old, 0);
         }
-        self.turned_by_values(old)
+        self.turned_by_values(at, old)
     }
 
-    fn turned_by_values(&mut self, old: [Handle; 4]) -> ([Handle; 4], [bool; 4]) {
-        let values = &mut self.values;
-        let [ul, ur, dl, dr] = old.map(|handle| &*values.table[usize::from(handle)]);
-        let [new_ul, new_ur, new_dl, new_dr] = &mut values.spare;
-        let (main, other) = turn_values(ul, ur, dl, dr, new_ul, new_ur, new_dl, new_dr);
-        let changed = [main, other, other, main];
-        let new = std::array::from_fn(|k| if changed[k] { values.replace(old[k], k) } else { old[k] });
+    fn turned_by_values(&mut self, at: [usize; 4], old: [Handle; 4]) -> ([Handle; 4], u8) {
+        for (&cell, &handle) in at.iter().zip(&old) {
+            if handle != OWN {
+                self.own[cell] = self.table.values[usize::from(handle)];
+            }
+        }
+        let (upper, lower) = self.own.split_at_mut(at[2]);
+        let ([ul, ur], [dl, dr, ..]) = (&mut upper[at[0]..at[0] + 2], lower) else { return (old, 0) };
+        let (main, other) = turn_values(ul, ur, dl, dr);
+        let changed = u8::from(main) * 0b1001 | u8::from(other) * 0b0110;
+        let mut new = old;
+        for k in (0..4).filter(|k| changed >> k & 1 == 1) {
+            new[k] = self.table.constant(&self.own[at[k]]).unwrap_or(OWN);
+        }
         (new, changed)
+    }
+
+    /// Returns the least assignment among the defined ones under which the cell is not as the signal of the handle.
+    fn first_difference(&self, cell: usize, wanted: Handle) -> Option<u64> {
+        let handle = self.cells[cell];
+        if handle == wanted {
+            return None;
+        }
+        let value = if handle == OWN { &self.own[cell] } else { &self.table.values[usize::from(handle)] };
+        let pairs = value.iter().zip(&self.table.values[usize::from(wanted)]).zip(&self.defined);
+        let mut differences = pairs.map(|((is, wanted), defined)| (is ^ wanted) & defined).enumerate();
+        let (word, bits) = differences.find(|&(_, bits)| bits != 0)?;
+        Some(word as u64 * 64 + u64::from(bits.trailing_zeros()))
     }
 
     /// Returns whether each ring cell is as its line says and the others are dead, by a quick look. False may be wrong.
     fn is_ring_right(&self, timed: &[BorderLine]) -> bool {
         let mut count = 0;
         for &line in self.job.edges.stars.iter().chain(timed) {
-            let cell = self.cells[self.cell(line.x(), line.y())];
-            if self.values.first_difference(cell, self.handle(line), &self.defined).is_some() {
+            let cell = self.cell(line.x(), line.y());
+            if self.first_difference(cell, self.handle(line)).is_some() {
                 return false;
             }
-            count += usize::from(cell != DEAD);
+            count += usize::from(self.cells[cell] != DEAD);
         }
         count == self.ring_count
     }
@@ -468,8 +482,7 @@ impl<'j, const W: usize> Run<'j, W> {
 
     fn stop_fault(&self, lines: &[BorderLine], time: u32) -> Option<Fault> {
         lines.iter().find_map(|&line| {
-            let cell = self.cells[self.cell(line.x(), line.y())];
-            let assignment = self.values.first_difference(cell, self.handle(line), &self.defined)?;
+            let assignment = self.first_difference(self.cell(line.x(), line.y()), self.handle(line))?;
             Some(Fault { time, kind: FaultKind::Stop, x: line.x() - 1, y: line.y() - 1, assignment })
         })
     }
@@ -497,7 +510,7 @@ impl<'j, const W: usize> Run<'j, W> {
             for x in 0..self.job.width {
                 let cell = self.cell(x + 1, y + 1);
                 let Some(wanted) = wanted(cell, x, y) else { continue };
-                if let Some(assignment) = self.values.first_difference(self.cells[cell], wanted, &self.defined) {
+                if let Some(assignment) = self.first_difference(cell, wanted) {
                     return Some(Fault { time, kind, x, y, assignment });
                 }
             }
