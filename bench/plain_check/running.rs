@@ -70,9 +70,7 @@ impl<const W: usize> Table<W> {
 
     /// Returns DEAD or LIVE if the value is false or true under every assignment.
     fn constant(&self, value: &Value<W>) -> Option<Handle> {
-        let handle = if value[0] == 0 { DEAD } else { LIVE };
-        let is_constant = (value[0] == 0 || value[0] == self.full) && value.iter().all(|&word| word == value[0]);
-        is_constant.then_some(handle)
+        [DEAD, LIVE].into_iter().find(|&handle| self.values[usize::from(handle)] == *value)
     }
 
     fn add(&mut self, value: Value<W>) -> Handle {
@@ -96,25 +94,29 @@ fn bits(cells: [bool; 4]) -> u8 {
 /// The sets of cells, by their bits, with two side by side. Those stay, whatever else the block has.
 const SIDE_BY_SIDE: u16 = 0b1111_1100_1010_1000;
 
-/// Turns a block under all assignments, and returns whether the main and the other diagonal change under any.
+/// What a block came to under all assignments: whether each diagonal changed under any, and whether each cell is live
+/// under any.
+struct Turn {
+    has_main: bool,
+    has_other: bool,
+    is_live: [bool; 4],
+}
+
+/// Turns a block under all assignments.
 #[inline(never)]
-fn turn_values<const W: usize>(
-    ul: &mut Value<W>,
-    ur: &mut Value<W>,
-    dl: &mut Value<W>,
-    dr: &mut Value<W>,
-) -> (bool, bool) {
-    let (mut any_main, mut any_other) = (0, 0);
+fn turn_values<const W: usize>(ul: &mut Value<W>, ur: &mut Value<W>, dl: &mut Value<W>, dr: &mut Value<W>) -> Turn {
+    let (mut any_main, mut any_other, mut any) = (0, 0, [0; 4]);
     for i in 0..W {
         let (main, other) = flips(ul[i], ur[i], dl[i], dr[i]);
         any_main |= main;
         any_other |= other;
-        ul[i] ^= main;
-        dr[i] ^= main;
-        ur[i] ^= other;
-        dl[i] ^= other;
+        let new = [ul[i] ^ main, ur[i] ^ other, dl[i] ^ other, dr[i] ^ main];
+        [ul[i], ur[i], dl[i], dr[i]] = new;
+        for k in 0..4 {
+            any[k] |= new[k];
+        }
     }
-    (any_main != 0, any_other != 0)
+    Turn { has_main: any_main != 0, has_other: any_other != 0, is_live: any.map(|any| any != 0) }
 }
 
 /// Returns the bits under which both cells of the main diagonal change, and both of the other one. A lone cell changes
@@ -410,8 +412,8 @@ impl<'j, const W: usize> Run<'j, W> {
     fn turned(&mut self, at: [usize; 4], old: [Handle; 4], some: u8) -> ([Handle; 4], u8) {
         let place = some.trailing_zeros() as usize & 3;
         let first = old[place];
-        let are_equal = old.iter().all(|&handle| handle == DEAD || handle == first);
-        if are_equal && (first != OWN || some.is_power_of_two()) {
+        let are_equal = || old.iter().all(|&handle| handle == DEAD || handle == first);
+        if some.is_power_of_two() || (first != OWN && are_equal()) {
             // one value alone: where it is true the block is one of the table, and else all dead
             let after = TURNED[usize::from(some)];
             if first == OWN {
@@ -435,11 +437,17 @@ impl<'j, const W: usize> Run<'j, W> {
         }
         let (upper, lower) = self.own.split_at_mut(at[2]);
         let ([ul, ur], [dl, dr, ..]) = (&mut upper[at[0]..at[0] + 2], lower) else { return (old, 0) };
-        let (main, other) = turn_values(ul, ur, dl, dr);
-        let changed = u8::from(main) * 0b1001 | u8::from(other) * 0b0110;
+        let turn = turn_values(ul, ur, dl, dr);
+        let changed = u8::from(turn.has_main) * 0b1001 | u8::from(turn.has_other) * 0b0110;
         let mut new = old;
         for k in (0..4).filter(|k| changed >> k & 1 == 1) {
-            new[k] = self.table.constant(&self.own[at[k]]).unwrap_or(OWN);
+            let own = &self.own[at[k]];
+            let is_full = || own[0] == self.table.full && *own == self.table.values[usize::from(LIVE)];
+            new[k] = match turn.is_live[k] {
+                false => DEAD,
+                true if is_full() => LIVE,
+                true => OWN,
+            };
         }
         (new, changed)
     }
