@@ -1,5 +1,5 @@
-//! The least border fault of each module (`docs/FORMATS.md`, "`check`"): both lists are in order, so they are walked
-//! side by side.
+//! The least border fault of each module (`docs/FORMATS.md`, "`check`"): both lists are in order, so they are
+//! walked side by side.
 
 use crate::certificate::BorderLine;
 use crate::text::FastMap;
@@ -18,8 +18,8 @@ struct Star {
     open: u32,
 }
 
-/// Returns the first odd time below the steps, and the first cell, at which the halo lines of a module and the edge
-/// lines beside it differ. At an odd time a line with `*` says the same as a line of that time.
+/// Returns the first odd time below the steps, and the first cell, at which the halo lines of a module and
+/// the edge lines beside it differ. At an odd time a line with `*` says the same as a line of that time.
 pub fn border_fault(halos: &[BorderLine], beside: &[BorderLine], steps: u32) -> Option<BorderFault> {
     if steps < 2 || halos == beside {
         return None;
@@ -39,7 +39,9 @@ pub fn border_fault(halos: &[BorderLine], beside: &[BorderLine], steps: u32) -> 
                 star.open = steps;
                 faults.add(1, line);
             }
-            (Some(time), Some(star)) if star.is_here != is_here && star.signal == line.signal() && star.open == time => {
+            (Some(time), Some(star))
+                if star.is_here != is_here && star.signal == line.signal() && star.open == time =>
+            {
                 star.open += 2;
             }
             (Some(time), Some(star)) => faults.add(time.min(star.open), line),

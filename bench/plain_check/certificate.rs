@@ -12,7 +12,8 @@ const MAX_CUTS: usize = 12;
 const MAX_USES: usize = 64;
 const MAX_BORDER_LINES: usize = 65_536;
 
-/// A time, a cell and a signal in one word, in the order of time, y, x. A line with `*` has no time and comes first.
+/// A time, a cell and a signal in one word, in the order of time, y, x. A line with `*` has no time and comes
+/// first.
 #[derive(Clone, Copy, PartialEq, Eq, PartialOrd, Ord, Hash)]
 pub struct BorderLine(u64);
 
@@ -23,7 +24,9 @@ impl BorderLine {
     /// Numbers that are too large for a line count as the largest of their field, so the order stays right.
     pub fn new(time: Option<u32>, x: u32, y: u32, signal: u16) -> Self {
         let time = u64::from(time.map_or(0, |time| time.min(0x1_FFFF) + 1));
-        BorderLine(time << 33 | u64::from(y.min(1023)) << 23 | u64::from(x.min(1023)) << 13 | u64::from(signal))
+        BorderLine(
+            time << 33 | u64::from(y.min(1023)) << 23 | u64::from(x.min(1023)) << 13 | u64::from(signal),
+        )
     }
 
     pub fn time(self) -> Option<u32> {
@@ -103,12 +106,14 @@ impl Module {
     }
 
     fn is_ring(&self, x: usize, y: usize) -> bool {
-        let is_side = x == self.x || x + 1 == self.x + self.width || y == self.y || y + 1 == self.y + self.height;
+        let is_side =
+            x == self.x || x + 1 == self.x + self.width || y == self.y || y + 1 == self.y + self.height;
         is_side && self.contains(x, y)
     }
 
     fn is_halo(&self, x: usize, y: usize) -> bool {
-        let is_near = x + 1 >= self.x && x <= self.x + self.width && y + 1 >= self.y && y <= self.y + self.height;
+        let is_near =
+            x + 1 >= self.x && x <= self.x + self.width && y + 1 >= self.y && y <= self.y + self.height;
         is_near && !self.contains(x, y)
     }
 
@@ -116,7 +121,8 @@ impl Module {
         self.edges.lines.len() + self.halos.lines.len() + self.stops.lines.len()
     }
 
-    /// Returns the module's wires in the order of their local numbers: the cuts, then the outputs of the used gates.
+    /// Returns the module's wires in the order of their local numbers: the cuts, then the outputs of the used
+    /// gates.
     pub fn wires(&self, circuit: &Circuit) -> impl Iterator<Item = u16> {
         let outputs = self.uses.iter().flat_map(|&gate| circuit.gates[usize::from(gate)].outputs());
         self.cuts.iter().copied().chain(outputs)
@@ -187,7 +193,8 @@ impl Owners {
         self.covered == self.owners.len()
     }
 
-    /// Returns the modules that have a ring cell of module `own` in their halo: a cell touches three other blocks.
+    /// Returns the modules that have a ring cell of module `own` in their halo: a cell touches three other
+    /// blocks.
     pub fn watchers(&self, own: usize, x: usize, y: usize) -> impl Iterator<Item = usize> {
         let (u, v) = ((x / 2) as isize, (y / 2) as isize);
         let aside = if x % 2 == 1 { u + 1 } else { u - 1 };
@@ -195,7 +202,8 @@ impl Owners {
         let rows = (self.owners.len() / self.blocks_per_row) as isize;
         let owner = |u: isize, v: isize| {
             let is_inside = (0..self.blocks_per_row as isize).contains(&u) && (0..rows).contains(&v);
-            let number = if is_inside { self.owners[v as usize * self.blocks_per_row + u as usize] } else { NOBODY };
+            let number =
+                if is_inside { self.owners[v as usize * self.blocks_per_row + u as usize] } else { NOBODY };
             if usize::from(number) == own { NOBODY } else { number }
         };
         let [first, second, third] = [owner(aside, v), owner(u, beyond), owner(aside, beyond)];
@@ -268,7 +276,11 @@ struct Reader<'r, 'a> {
 }
 
 impl Certificate {
-    pub fn read<'a>(lines: &mut Lines<'a>, circuit: &Circuit<'a>, layout: &Layout<'a>) -> Result<Self, Refusal> {
+    pub fn read<'a>(
+        lines: &mut Lines<'a>,
+        circuit: &Circuit<'a>,
+        layout: &Layout<'a>,
+    ) -> Result<Self, Refusal> {
         let mut reader = Reader {
             circuit,
             layout,
@@ -423,8 +435,8 @@ impl<'a> Reader<'_, 'a> {
         })
     }
 
-    /// Returns for each module the edge lines of the others for cells of its halo, in order. In version 2 their
-    /// wires must be local.
+    /// Returns for each module the edge lines of the others for cells of its halo, in order. In version 2
+    /// their wires must be local.
     fn lines_beside(&mut self) -> Result<Vec<Vec<BorderLine>>, Code> {
         let mut beside = vec![Vec::new(); self.modules.len()];
         if self.layout.steps < 2 {
@@ -442,7 +454,8 @@ impl<'a> Reader<'_, 'a> {
             if self.version == 2 {
                 self.locals.clear();
                 module.wires(self.circuit).for_each(|wire| self.locals.insert(wire, 0));
-                let is_known = |line: &BorderLine| line.signal() == ONE || self.locals.contains(line.signal());
+                let is_known =
+                    |line: &BorderLine| line.signal() == ONE || self.locals.contains(line.signal());
                 ensure(lines.iter().all(is_known), Code::Missing)?;
             }
         }
@@ -458,7 +471,14 @@ fn open<'m>(modules: &'m mut [Module], last: &mut Part, part: Part) -> Result<&'
 }
 
 /// Whether a line of this kind may name this time and cell (code 10), but for the cells with a `*`.
-fn is_good_place(layout: &Layout, module: &Module, part: Part, time: Option<u32>, x: usize, y: usize) -> bool {
+fn is_good_place(
+    layout: &Layout,
+    module: &Module,
+    part: Part,
+    time: Option<u32>,
+    x: usize,
+    y: usize,
+) -> bool {
     let is_odd_time = time.is_none_or(|time| time % 2 == 1 && time < layout.steps);
     match part {
         Part::Edge => {
@@ -476,12 +496,17 @@ pub fn print_modules(certificate: &Certificate) -> Vec<u8> {
     for (number, m) in certificate.modules.iter().enumerate() {
         let (edges, halos, stops) = (m.edges.lines.len(), m.halos.lines.len(), m.stops.lines.len());
         out += &format!("module {number} {} {} {} {}", m.x, m.y, m.width, m.height);
-        out += &format!(" cuts {} gates {} edges {edges} halos {halos} stops {stops}\n", m.cuts.len(), m.uses.len());
+        out += &format!(
+            " cuts {} gates {} edges {edges} halos {halos} stops {stops}\n",
+            m.cuts.len(),
+            m.uses.len()
+        );
     }
     out.into_bytes()
 }
 
-/// Prints the bundle in version 2: the halo lines of each module are one piece of the text, which is left out.
+/// Prints the bundle in version 2: the halo lines of each module are one piece of the text, which is left
+/// out.
 pub fn migrate(text: &[u8], certificate: &Certificate) -> Vec<u8> {
     let header = b"certificate 2\n";
     let mut out = Vec::with_capacity(text.len());

@@ -1,4 +1,5 @@
-//! Circuits, assign sections, and the values of a circuit (`docs/FORMATS.md`, "The circuit section", "`value`").
+//! Circuits, assign sections, and the values of a circuit (`docs/FORMATS.md`, "The circuit section",
+//! "`value`").
 
 use crate::text::{Code, FastMap, Lines, Refusal, ensure};
 
@@ -178,7 +179,13 @@ impl<'a> Circuit<'a> {
         }
     }
 
-    fn add_gate(&mut self, kind: Kind, number: u32, inputs: [&'a [u8]; 4], outputs: [&'a [u8]; 4]) -> Result<(), Code> {
+    fn add_gate(
+        &mut self,
+        kind: Kind,
+        number: u32,
+        inputs: [&'a [u8]; 4],
+        outputs: [&'a [u8]; 4],
+    ) -> Result<(), Code> {
         let (input_count, output_count) = (kind.input_count(), kind.output_count());
         ensure(kind != Kind::Delay || (1..=MAX_DELAY).contains(&number), Code::Limit)?;
         ensure(self.names.len() + output_count <= MAX_WIRES && self.gates.len() < MAX_GATES, Code::Limit)?;

@@ -1,9 +1,8 @@
 //! SHA-256 (FIPS 180-4), as the report prints it.
 
 const ROUND: [u32; 64] = round_constants();
-const START: [u32; 8] = [
-    0x6a09e667, 0xbb67ae85, 0x3c6ef372, 0xa54ff53a, 0x510e527f, 0x9b05688c, 0x1f83d9ab, 0x5be0cd19,
-];
+const START: [u32; 8] =
+    [0x6a09e667, 0xbb67ae85, 0x3c6ef372, 0xa54ff53a, 0x510e527f, 0x9b05688c, 0x1f83d9ab, 0x5be0cd19];
 
 /// Returns the first 32 bits of the fractional parts of the cube roots of the first 64 primes.
 const fn round_constants() -> [u32; 64] {
@@ -36,12 +35,14 @@ const fn cube_root(value: u128) -> u128 {
     root
 }
 
-/// One round for the variables in their present places; the next round has them one place further.
+/// One round for the variables in their present places; the next round has them one place further. Three
+/// rotations of a variable (by 6, 11 and 25, and by 2, 13 and 22) are taken one after another, which saves
+/// two moves.
 macro_rules! round {
     ($a:ident $b:ident $c:ident $d:ident $e:ident $f:ident $g:ident $h:ident, $word:expr) => {
-        let high = $e.rotate_right(6) ^ $e.rotate_right(11) ^ $e.rotate_right(25);
+        let high = (($e.rotate_right(14) ^ $e).rotate_right(5) ^ $e).rotate_right(6);
         let first = $h.wrapping_add(high).wrapping_add($g ^ ($e & ($f ^ $g))).wrapping_add($word);
-        let low = $a.rotate_right(2) ^ $a.rotate_right(13) ^ $a.rotate_right(22);
+        let low = (($a.rotate_right(9) ^ $a).rotate_right(11) ^ $a).rotate_right(2);
         $d = $d.wrapping_add(first);
         $h = first.wrapping_add(low).wrapping_add(($a & $b) | ($c & ($a | $b)));
     };

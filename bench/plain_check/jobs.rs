@@ -18,7 +18,8 @@ pub struct LocalGate {
     pub is_kept: bool,
 }
 
-/// Lines have cells relative to the box, one to the right and below of it, so the halo begins at 0, and local signals.
+/// Lines have cells relative to the box, one to the right and below of it, so the halo begins at 0, and local
+/// signals.
 #[derive(Default, PartialEq, Eq, Hash)]
 pub struct Events {
     pub stars: Vec<BorderLine>,
@@ -68,7 +69,8 @@ impl Maker<'_> {
     fn events(&self, lines: &[BorderLine]) -> Events {
         let Module { x, y, .. } = *self.module;
         let star_count = lines.partition_point(|line| line.time().is_none());
-        let local = |line: &BorderLine| line.with(line.x() + 1 - x, line.y() + 1 - y, self.signal(line.signal()));
+        let local =
+            |line: &BorderLine| line.with(line.x() + 1 - x, line.y() + 1 - y, self.signal(line.signal()));
         let (stars, timed) = lines.split_at(star_count);
         Events { stars: stars.iter().map(local).collect(), timed: timed.iter().map(local).collect() }
     }
@@ -96,7 +98,8 @@ pub fn jobs(circuit: &Circuit, layout: &Layout, certificate: &Certificate) -> Ve
         module.wires(circuit).enumerate().for_each(|(number, wire)| locals.insert(wire, number));
         let maker = Maker { module, locals: &mut locals };
         let Module { x, y, width, height, .. } = *module;
-        let rows = |cells: &crate::layout::Cells| (y..y + height).map(|y| cells.window(x, y, width)).collect();
+        let rows =
+            |cells: &crate::layout::Cells| (y..y + height).map(|y| cells.window(x, y, width)).collect();
         let halos = if certificate.version == 1 { &module.halos.lines } else { beside };
         Job {
             width,

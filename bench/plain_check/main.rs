@@ -1,5 +1,6 @@
-//! A whole checker in plain Rust: the peer that `bench/run` compares the proved program with. It was written from
-//! `docs/FORMATS.md`, and shares no code with the project. `rustc -O --edition 2024 bench/plain_check/main.rs` builds it.
+//! A whole checker in plain Rust: the peer that `bench/run` compares the proved program with. It was written
+//! from `docs/FORMATS.md`, and shares no code with the project. `rustc -O --edition 2024
+//! bench/plain_check/main.rs` builds it.
 //!
 //! Usage: plain_check check [--workers N] | modules | migrate | run | value
 

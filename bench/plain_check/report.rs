@@ -12,7 +12,8 @@ use crate::layout::Layout;
 use crate::running::{FaultKind, Finding, find};
 use crate::text::FastMap;
 
-/// Returns the finding of each module. Equal jobs are run once, and the workers draw the jobs that are left in turn.
+/// Returns the finding of each module. Equal jobs are run once, and the workers draw the jobs that are left
+/// in turn.
 fn findings(jobs: &[Job], workers: usize) -> Vec<Finding> {
     let mut first_of: FastMap<&Job, usize> = FastMap::default();
     let mut different = Vec::new();
@@ -82,7 +83,8 @@ fn stop_times(circuit: &Circuit, modules: &[Module]) -> Vec<Option<(u32, u32)>> 
     for line in modules.iter().flat_map(|module| &module.stops.lines) {
         let wire = &mut times[usize::from(line.signal())];
         let time = line.time().unwrap_or(0);
-        *wire = Some(wire.map_or((time, time), |(first, last): (u32, u32)| (first.min(time), last.max(time))));
+        *wire =
+            Some(wire.map_or((time, time), |(first, last): (u32, u32)| (first.min(time), last.max(time))));
     }
     times
 }
@@ -103,7 +105,8 @@ fn time_lines(circuit: &Circuit, modules: &[Module]) -> (String, bool) {
         lines += &format!("delay {number} {} {told}\n", gate.number);
     }
     for (number, gate) in circuit.gates.iter().enumerate() {
-        let lasts: Vec<u32> = gate.inputs().iter().filter_map(|&wire| times[usize::from(wire)]).map(|it| it.1).collect();
+        let lasts: Vec<u32> =
+            gate.inputs().iter().filter_map(|&wire| times[usize::from(wire)]).map(|it| it.1).collect();
         if lasts.len() >= 2 {
             let do_meet = lasts.iter().all(|last| *last == lasts[0]);
             are_kept &= do_meet;

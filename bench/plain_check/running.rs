@@ -1,9 +1,10 @@
-//! The run of one module under all assignments of its cuts at once, 64 in a word (`docs/FORMATS.md`, "`check`").
+//! The run of one module under all assignments of its cuts at once, 64 in a word (`docs/FORMATS.md`,
+//! "`check`").
 //!
-//! A value has a bit for each assignment. Most cells are dead, or carry a wire, so a cell holds a handle: the number of
-//! a signal, or else that its value is its own. Most blocks are turned by their handles alone, without a look at values.
-//! Only blocks of which a cell changed are turned, and where nothing is left to turn the run leaps to the next border
-//! line or stop.
+//! A value has a bit for each assignment. Most cells are dead, or carry a wire, so a cell holds a handle: the
+//! number of a signal, or else that its value is its own. Most blocks are turned by their handles alone,
+//! without a look at values. Only blocks of which a cell changed are turned, and where nothing is left to
+//! turn the run leaps to the next border line or stop.
 
 use crate::certificate::BorderLine;
 use crate::circuit::Row;
@@ -82,8 +83,8 @@ impl<const W: usize> Table<W> {
     }
 }
 
-/// What a block of whole cells turns into, by the bits upper left 1, upper right 2, lower left 4, lower right 8
-/// (Margolus 1984, block rule).
+/// What a block of whole cells turns into, by the bits upper left 1, upper right 2, lower left 4, lower right
+/// 8 (Margolus 1984, block rule).
 const TURNED: [u8; 16] = [0, 8, 4, 3, 2, 5, 9, 7, 1, 6, 10, 11, 12, 13, 14, 15];
 
 fn bits(cells: [bool; 4]) -> u8 {
@@ -94,8 +95,8 @@ fn bits(cells: [bool; 4]) -> u8 {
 /// The sets of cells, by their bits, with two side by side. Those stay, whatever else the block has.
 const SIDE_BY_SIDE: u16 = 0b1111_1100_1010_1000;
 
-/// What a block came to under all assignments: whether each diagonal changed under any, and whether each cell is live
-/// under any.
+/// What a block came to under all assignments: whether each diagonal changed under any, and whether each cell
+/// is live under any.
 struct Turn {
     has_main: bool,
     has_other: bool,
@@ -104,7 +105,12 @@ struct Turn {
 
 /// Turns a block under all assignments.
 #[inline(never)]
-fn turn_values<const W: usize>(ul: &mut Value<W>, ur: &mut Value<W>, dl: &mut Value<W>, dr: &mut Value<W>) -> Turn {
+fn turn_values<const W: usize>(
+    ul: &mut Value<W>,
+    ur: &mut Value<W>,
+    dl: &mut Value<W>,
+    dr: &mut Value<W>,
+) -> Turn {
     let (mut any_main, mut any_other, mut any) = (0, 0, [0; 4]);
     for i in 0..W {
         let (main, other) = flips(ul[i], ur[i], dl[i], dr[i]);
@@ -119,8 +125,8 @@ fn turn_values<const W: usize>(ul: &mut Value<W>, ur: &mut Value<W>, dl: &mut Va
     Turn { has_main: any_main != 0, has_other: any_other != 0, is_live: any.map(|any| any != 0) }
 }
 
-/// Returns the bits under which both cells of the main diagonal change, and both of the other one. A lone cell changes
-/// its own diagonal, and two cells on a diagonal change both.
+/// Returns the bits under which both cells of the main diagonal change, and both of the other one. A lone
+/// cell changes its own diagonal, and two cells on a diagonal change both.
 #[inline]
 pub fn flips(ul: u64, ur: u64, dl: u64, dr: u64) -> (u64, u64) {
     let (main_differ, other_differ) = (ul ^ dr, ur ^ dl);
@@ -129,8 +135,8 @@ pub fn flips(ul: u64, ur: u64, dl: u64, dr: u64) -> (u64, u64) {
     (crossed | (main_differ & !other_any), crossed | (other_differ & !main_any))
 }
 
-/// A set of blocks of one parity: a box of 64 by 64 cells with its halo has 33 rows of them, and those of even steps
-/// count from 1.
+/// A set of blocks of one parity: a box of 64 by 64 cells with its halo has 33 rows of them, and those of
+/// even steps count from 1.
 struct Blocks {
     rows: [u64; 34],
     /// The rows that have a block.
@@ -215,7 +221,8 @@ impl<'j, const W: usize> Run<'j, W> {
         }
     }
 
-    /// Gives each cut its bit of the assignment's number, and each used gate its row. Returns the least keep fault.
+    /// Gives each cut its bit of the assignment's number, and each used gate its row. Returns the least keep
+    /// fault.
     fn evaluate_gates(&mut self) -> Option<(usize, u64)> {
         const PATTERNS: [u64; 6] = [
             0xAAAA_AAAA_AAAA_AAAA,
@@ -227,15 +234,19 @@ impl<'j, const W: usize> Run<'j, W> {
         ];
         let full = self.table.full;
         for cut in 0..self.job.cut_count {
-            let word = |i: usize| if cut < 6 { PATTERNS[cut] } else { ((i >> (cut - 6) & 1) as u64).wrapping_neg() };
+            let word =
+                |i: usize| if cut < 6 { PATTERNS[cut] } else { ((i >> (cut - 6) & 1) as u64).wrapping_neg() };
             let handle = self.table.add(std::array::from_fn(|i| word(i) & full));
             self.signals.push(handle);
         }
         let mut keep = None;
         for (number, gate) in self.job.gates.iter().enumerate() {
-            let inputs = gate.inputs.map(|signal| self.table.values[usize::from(self.signals[usize::from(signal)])]);
-            let rows: [Row; W] = std::array::from_fn(|i| Row::of(gate.kind, gate.number, inputs.map(|input| input[i])));
-            let undefined = rows.iter().zip(self.defined.iter()).position(|(row, defined)| defined & !row.domain != 0);
+            let inputs =
+                gate.inputs.map(|signal| self.table.values[usize::from(self.signals[usize::from(signal)])]);
+            let rows: [Row; W] =
+                std::array::from_fn(|i| Row::of(gate.kind, gate.number, inputs.map(|input| input[i])));
+            let undefined =
+                rows.iter().zip(self.defined.iter()).position(|(row, defined)| defined & !row.domain != 0);
             if let (true, None, Some(word)) = (gate.is_kept, keep, undefined) {
                 let bit = (self.defined[word] & !rows[word].domain).trailing_zeros();
                 keep = Some((number, word as u64 * 64 + u64::from(bit)));
@@ -291,7 +302,8 @@ impl<'j, const W: usize> Run<'j, W> {
     /// Makes all steps, up to the least fault.
     fn run(&mut self) -> Option<Fault> {
         let job = self.job;
-        let (mut edges, mut halos, mut stops) = (&job.edges.timed[..], &job.halos.timed[..], &job.stops.timed[..]);
+        let (mut edges, mut halos, mut stops) =
+            (&job.edges.timed[..], &job.halos.timed[..], &job.stops.timed[..]);
         let mut time = 0;
         loop {
             if self.due.iter().all(Blocks::is_empty) && !self.is_ring_due {
@@ -354,58 +366,73 @@ impl<'j, const W: usize> Run<'j, W> {
         let Job { width, height, .. } = *self.job;
         let is_at_border = row == back || column == back || 2 * row == height || 2 * column == width;
         if some.is_power_of_two() && !is_at_border {
-            return self.move_lone(parity, row, column, at, some.trailing_zeros() as usize);
+            let changed = self.move_lone(at, some.trailing_zeros() as usize);
+            return self.mark(parity, row, column, changed);
         }
         let (mut new, mut changed) = self.turned(at, old, some);
-        // the cells of the box, by their bits
         let mut inside = 0b1111;
         if is_at_border {
-            for k in 0..4 {
-                match self.places[at[k]] {
-                    Place::Halo => {
-                        // an odd step is cut back to the box, and `*` lines hold at each
-                        new[k] = self.held[at[k]];
-                        changed = changed & !(1 << k) | u8::from(new[k] != old[k]) << k;
-                        inside &= !(1 << k);
-                    }
-                    Place::Ring if changed >> k & 1 == 1 => {
-                        self.ring_count += usize::from(new[k] != DEAD);
-                        self.ring_count -= usize::from(old[k] != DEAD);
-                        self.is_ring_due = true;
-                    }
-                    _ => {}
-                }
-            }
+            (changed, inside) = self.cut_back(at, old, &mut new, changed);
         }
         if changed == 0 {
             return;
         }
         *self.pair(at[0]) = [new[0], new[1]];
         *self.pair(at[2]) = [new[2], new[3]];
-        // each changed cell is in this block again two steps on, and in another one at the next step
-        self.due[parity].insert(row, column);
-        let marks = changed & inside;
-        self.due[back].insert_pair(row - back, column - back, marks & 0b11);
-        self.due[back].insert_pair(row + 1 - back, column - back, marks >> 2);
+        self.mark(parity, row, column, changed & inside);
     }
 
+    /// Gives the halo cells of a block what `*` lines say, since an odd step is cut back to the box, and
+    /// counts the ring cells. Returns which cells changed and which are inside the box.
+    fn cut_back(
+        &mut self,
+        at: [usize; 4],
+        old: [Handle; 4],
+        new: &mut [Handle; 4],
+        mut changed: u8,
+    ) -> (u8, u8) {
+        let mut inside = 0b1111;
+        for k in 0..4 {
+            match self.places[at[k]] {
+                Place::Halo => {
+                    new[k] = self.held[at[k]];
+                    changed = changed & !(1 << k) | u8::from(new[k] != old[k]) << k;
+                    inside &= !(1 << k);
+                }
+                Place::Ring if changed >> k & 1 == 1 => {
+                    self.ring_count += usize::from(new[k] != DEAD);
+                    self.ring_count -= usize::from(old[k] != DEAD);
+                    self.is_ring_due = true;
+                }
+                _ => {}
+            }
+        }
+        (changed, inside)
+    }
+
+    /// Marks a block that changed: its cells are in it again two steps on, and in others at the next step.
+    fn mark(&mut self, parity: usize, row: usize, column: usize, changed: u8) {
+        let back = 1 - parity;
+        self.due[parity].insert(row, column);
+        self.due[back].insert_pair(row - back, column - back, changed & 0b11);
+        self.due[back].insert_pair(row + 1 - back, column - back, changed >> 2);
+    }
+
+    /// Returns a cell and the one to its right.
     fn pair(&mut self, cell: usize) -> &mut [Handle; 2] {
         self.cells[cell..].first_chunk_mut().expect("a block has two cells in a row")
     }
 
-    /// Moves the only cell of a block that is not dead to the opposite corner.
-    fn move_lone(&mut self, parity: usize, row: usize, column: usize, at: [usize; 4], place: usize) {
-        let back = 1 - parity;
+    /// Moves the only cell of a block that is not dead to the opposite corner. Returns the bits of the two
+    /// cells.
+    fn move_lone(&mut self, at: [usize; 4], place: usize) -> u8 {
         let (from, to) = (at[place], at[3 - place]);
         let handle = std::mem::replace(&mut self.cells[from], DEAD);
         self.cells[to] = handle;
         if handle == OWN {
             self.own[to] = self.own[from];
         }
-        let marks: u8 = if place == 0 || place == 3 { 0b01 } else { 0b10 };
-        self.due[parity].insert(row, column);
-        self.due[back].insert_pair(row - back, column - back, marks);
-        self.due[back].insert_pair(row + 1 - back, column - back, 0b11 ^ marks);
+        1 << place | 1 << (3 - place)
     }
 
     /// Returns the block after a step, and the bits of the cells that changed.
@@ -452,7 +479,8 @@ impl<'j, const W: usize> Run<'j, W> {
         (new, changed)
     }
 
-    /// Returns the least assignment among the defined ones under which the cell is not as the signal of the handle.
+    /// Returns the least assignment among the defined ones under which the cell is not as the signal of the
+    /// handle.
     fn first_difference(&self, cell: usize, wanted: Handle) -> Option<u64> {
         let handle = self.cells[cell];
         if handle == wanted {
@@ -465,7 +493,8 @@ impl<'j, const W: usize> Run<'j, W> {
         Some(word as u64 * 64 + u64::from(bits.trailing_zeros()))
     }
 
-    /// Returns whether each ring cell is as its line says and the others are dead, by a quick look. False may be wrong.
+    /// Returns whether each ring cell is as its line says and the others are dead, by a quick look. False may
+    /// be wrong.
     fn is_ring_right(&self, timed: &[BorderLine]) -> bool {
         let mut count = 0;
         for &line in self.job.edges.stars.iter().chain(timed) {
@@ -507,7 +536,8 @@ impl<'j, const W: usize> Run<'j, W> {
         })
     }
 
-    /// Returns the first cell of the box, by y and then x, that is not as it is wanted, if anything is wanted of it.
+    /// Returns the first cell of the box, by y and then x, that is not as it is wanted, if anything is wanted
+    /// of it.
     fn first_fault(
         &self,
         kind: FaultKind,

@@ -1,4 +1,5 @@
-//! The lines and words of a text, and how a text is refused (`docs/FORMATS.md`, "Lines, words, numbers, names").
+//! The lines and words of a text, and how a text is refused (`docs/FORMATS.md`, "Lines, words, numbers,
+//! names").
 
 use std::collections::HashMap;
 use std::hash::{BuildHasherDefault, Hasher};

@@ -1,8 +1,8 @@
 //! The run of a whole layout under one assignment (`docs/FORMATS.md`, "`run`").
 //!
-//! Rows have a margin of one cell on each side. The even and the odd columns of a row are bits of words of their own, so
-//! 64 blocks are turned at once. Two rows are turned together, and only where one of them changed since the blocks of
-//! that parity were turned last.
+//! Rows have a margin of one cell on each side. The even and the odd columns of a row are bits of words of
+//! their own, so 64 blocks are turned at once. Two rows are turned together, and only where one of them
+//! changed since the blocks of that parity were turned last.
 
 use crate::layout::{Layout, places};
 use crate::running::flips;
@@ -53,7 +53,8 @@ impl Grid {
     fn turn_rows(&mut self, y: usize, parity: usize) -> bool {
         let half = self.half;
         let (upper, lower) = self.words[2 * half * y..2 * half * (y + 2)].split_at_mut(2 * half);
-        let ((upper_even, upper_odd), (lower_even, lower_odd)) = (upper.split_at_mut(half), lower.split_at_mut(half));
+        let ((upper_even, upper_odd), (lower_even, lower_odd)) =
+            (upper.split_at_mut(half), lower.split_at_mut(half));
         if parity == 1 {
             turn_aligned(upper_even, upper_odd, lower_even, lower_odd)
         } else {
@@ -61,7 +62,8 @@ impl Grid {
         }
     }
 
-    /// Makes a step and returns whether a cell changed, or else None if a cell of the margin is live after it.
+    /// Makes a step and returns whether a cell changed, or else None if a cell of the margin is live after
+    /// it.
     fn step(&mut self, parity: usize) -> Option<bool> {
         let mut has_changed = false;
         let (back, pair_count) = (1 - parity, self.height / 2 + parity);
@@ -89,7 +91,8 @@ impl Grid {
 
     /// Returns whether a cell of the margin is live in the rows `y` and `y + 1`.
     fn is_left(&self, y: usize) -> bool {
-        let has_any = |y: usize| self.words[2 * self.half * y..2 * self.half * (y + 1)].iter().any(|&word| word != 0);
+        let has_any =
+            |y: usize| self.words[2 * self.half * y..2 * self.half * (y + 1)].iter().any(|&word| word != 0);
         let is_outside = |y: usize| (y == 0 || y == self.height + 1) && has_any(y);
         let rows = [y, y + 1];
         rows.into_iter().any(|y| is_outside(y) || self.contains(0, y) || self.contains(self.width + 1, y))
