@@ -2,6 +2,7 @@ mod OneAnswer
 mod OneValue
 mod OneListing
 mod OneReport
+mod SomeAnswer
 mod Designs
 mod ThereAndBack
 mod TimedModules

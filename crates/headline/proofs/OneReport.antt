@@ -2,12 +2,10 @@
 use Rattle.std.proofs.Common.{◌≡◌, ◌∙◌, ◌<◌, ◌++◌, ◌∷◌, ℕ, suc, List, [], length, Option, Some, None, refl, sym, ap, ap₂, subst, arith}
 use Rattle.std.specs.Prelude.{slice_get, codes}
 use Rattle.std.specs.List.{flat_map}
-use Rattle.std.specs.Option.{option_map}
 use Rattle.std.proofs.lemmas.Option.{slice_get_within}
 use Rattle.sha2.specs.Sha256.{sha256}
 use Rattle.section_text.specs.Spelling.{line_text}
 use Rattle.circuit.specs.Bridge.{circuit_of}
-use Rattle.module_box.specs.Locals.{LocalNet, circuit_gate}
 use Rattle.certificate_lines.specs.Entries.{ModuleLines, modules_of}
 use Rattle.certificate.specs.Grammars.{CertState, modules_in}
 use Rattle.certificate_lines.specs.Settings.{setting_of}
@@ -15,14 +13,9 @@ use Rattle.module_job.specs.Jobs.{JobState}
 use Rattle.certificate.specs.Jobs.{AreJobsOf}
 use Rattle.certificate_lines.specs.Modules.{AreModules}
 use Rattle.certificate.specs.Text.{certificate_text}
-use Rattle.local_run.specs.Faults.{IsFault, IsLeastFault, IsLeastKeepFault}
-use Rattle.local_run.specs.declared.fault.Fault.{Fault}
-use Rattle.local_run.specs.declared.fault.KeepFault.{KeepFault}
 use Rattle.audit_core.proofs.ModuleJobs.{one_job}
 use Rattle.audit_core.specs.CoreLaws.{SaysTheSame}
-use Rattle.audit_core.specs.Verdicts.{Accepts, AreLeastFaults, AreReportLines, IsToldOf, IsVerdict}
-use Rattle.audit_core.specs.declared.verdict.Reasons.{Reasons}
-use Rattle.audit_core.specs.declared.verdict.ReportLine.{ReportLine}
+use Rattle.audit_core.specs.Verdicts.{IsVerdict}
 use Rattle.audit_core.specs.declared.verdict.Verdict.{Verdict}
 use Rattle.audit_core.specs.declared.verdict.Verdict.TheVariants as verdict
 use Rattle.audit_core.proofs.OneVerdict.{none-past, verdict-is-one}

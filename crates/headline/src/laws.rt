@@ -1,6 +1,6 @@
 //! Laws of the definitions, each the contract of a function without a body.
 ghost use Rattle.answers.specs.CheckText.{IsReportOf};
-ghost use Rattle.headline.specs.Laws.{FourthLineTells, HasOneAnswer, ReportsOnGoodDesigns, SaysOneCertificate, SaysOneDesign, ThereAndBackIsAccepted, TimedModulesAreAccepted, YesHasOneValuation, YesMeansRight, YesMeansRightStops};
+ghost use Rattle.headline.specs.Laws.{FourthLineTells, HasAnAnswer, HasOneAnswer, ReportsOnGoodDesigns, SaysOneCertificate, SaysOneDesign, ThereAndBackIsAccepted, TimedModulesAreAccepted, YesHasOneValuation, YesMeansRight, YesMeansRightStops};
 ghost use Rattle.headline.specs.PlainLaws.{PlainIsDecided, PlainLinesDecide, PlainNoMeansWrong, RefusedIsNoSmallDesign, SmallDesignIsDecided, ThereAndBackIsPlain, ThereAndBackIsSmall, YesKeepsOffRim, NoLinesTell};
 ghost use Rattle.headline.specs.Migration.{KeepsVersionTwo, MigratesOnce, MigrationIsAccepted, MigrationSaysTheSame};
 ghost use Rattle.answers.specs.MigrateText.{IsMigrationOf};
@@ -20,17 +20,20 @@ pub fn run_has_one_answer()
 
 /// What `value` writes for a text, and how it ends, is a function of the text.
 pub fn value_has_one_answer()
-    ensures { HasOneAnswer IsValueOf }
+    ensures one { HasOneAnswer IsValueOf }
+    ensures some { HasAnAnswer IsValueOf }
 {}
 
 /// What `modules` writes for a text, and how it ends, is a function of the text.
 pub fn modules_has_one_answer()
-    ensures { HasOneAnswer IsModulesOf }
+    ensures one { HasOneAnswer IsModulesOf }
+    ensures some { HasAnAnswer IsModulesOf }
 {}
 
 /// What `migrate` writes for a text, and how it ends, is a function of the text.
 pub fn migrate_has_one_answer()
-    ensures { HasOneAnswer IsMigrationOf }
+    ensures one { HasOneAnswer IsMigrationOf }
+    ensures some { HasAnAnswer IsMigrationOf }
 {}
 
 /// What `migrate` writes for a text says the same circuit and layout, and in version 2 the same lines of the certificate other than its
