@@ -25,5 +25,7 @@ mod WrongExamples
 pub mod YesMeansCorrect
 pub mod NamedPorts
 mod BoxLists
+pub mod NumberedSignals
+pub mod SomeJobs
 pub mod ModuleJobs
 pub mod Migrated

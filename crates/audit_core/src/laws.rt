@@ -2,7 +2,7 @@
 ghost use Rattle.audit_core.specs.HeadlineLaws.{AcceptedHasValuation, AcceptedIsCorrect, AcceptedIsOnTime, EndsAsAsked, Example, InputsDecideTheRun, NoneIsUndefined, ReadLayoutHasInputNames, ReadLayoutIsNamed, StartsAsJobs, StepsAsJobs, WrongExample};
 ghost use Rattle.audit_core.specs.FirstFaults.{EarliestLineIsFirst, EarliestLineIsReal, EndFaultMeansIncorrect, FirstFaultIsReal, StepsWithGoodBorders};
 ghost use Rattle.audit_core.specs.PlainCertificates.{AcceptedKeepsOffRim, PlainCertificateDecides, PlainLinesMean, PlainNoMeansWrong, UntimedIsOnTime};
-ghost use Rattle.audit_core.specs.ModuleLaws.{ModuleHasOneJob};
+ghost use Rattle.audit_core.specs.ModuleLaws.{ModuleHasOneJob, ModuleHasSomeJob};
 ghost use Rattle.audit_core.specs.MigrationLaws.{AcceptedWithoutHalos, MigrationIsAccepted};
 ghost use Rattle.audit_core.specs.CoreLaws.{AcceptsOneForEach, DrawsEachOnce, EmptyWhereAllAreDrawn, EventsKeepWhatIsHeld, EventsReplay, HoldsHonestOwn, HoldsWhatWasAccepted, OnlyAcceptedChangesWhatIsHeld, VerdictIsOne};
 ghost use Rattle.audit_core.specs.Laws.{AcceptsItsOwn, BooksAgree, ClosedAnswersClosed, ClosedByItsHistory, DoublesWhatIsHeld, FullBookHoldsAll, HoldsWhatIsAccepted, HoldsNothingElse, KeepsWhatIsHeld, KnowsItsOwn, StaysBook, StaysReplayed};
@@ -154,7 +154,8 @@ pub fn accepted_without_halos()
     ensures migration { MigrationIsAccepted }
 {}
 
-/// A module has exactly one job by the definition of a job: no part of it is left open.
+/// A module that is as the grammar asks has exactly one job.
 pub fn module_has_one_job()
-    ensures { ModuleHasOneJob }
+    ensures one { ModuleHasOneJob }
+    ensures some { ModuleHasSomeJob }
 {}
