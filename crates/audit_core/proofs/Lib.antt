@@ -27,5 +27,9 @@ pub mod NamedPorts
 mod BoxLists
 pub mod NumberedSignals
 pub mod SomeJobs
+pub mod SomeValues
+pub mod SomeLeast
+pub mod SomeFaults
+pub mod SomeVerdict
 pub mod ModuleJobs
 pub mod Migrated

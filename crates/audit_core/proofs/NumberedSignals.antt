@@ -1,5 +1,5 @@
 -- The wires that signals name, by their places in a list of wires
-use Rattle.std.proofs.Common.{◌≡◌, ℕ, zero, suc, ◌<◌, ◌==◌, Bool, true, false, if◌then◌else◌, List, [], ◌∷◌, ◌++◌}
+use Rattle.std.proofs.Common.{◌≡◌, ℕ, suc, ◌<◌, ◌==◌, Bool, true, false, if◌then◌else◌, List, [], ◌∷◌, ◌++◌}
 use Rattle.std.proofs.Common.{map, length, Option, Some, None, refl, ap, ap₂, arith}
 use Rattle.std.specs.Prelude.{◌||◌, slice_index, IsTrue, IfSome}
 use Rattle.std.proofs.lemmas.Bool.{false≢true}

@@ -1,26 +1,22 @@
 -- A module has a job
-use Rattle.std.proofs.Common.{◌≡◌, ◌≤◌, ◌<◌, ◌+◌, ◌*◌, ◌++◌, ◌∷◌, ◌∙◌, [], ℕ, zero, suc, Bool, true, false, List, Option}
-use Rattle.std.proofs.Common.{Some, None, refl, sym, ap, ap₂, subst, map, length, take, get_or, arith, append-nil}
+use Rattle.std.proofs.Common.{◌≡◌, ◌≤◌, ◌<◌, ◌+◌, ◌++◌, ◌∷◌, ◌∙◌, [], ℕ, zero, suc, Bool, true, false, List, Option}
+use Rattle.std.proofs.Common.{Some, None, refl, sym, ap, ap₂, subst, map, length, get_or, arith}
 use Rattle.std.specs.Prelude.{ℤ, IsTrue, IfSome, slice_get, slice_index, if◌then◌else◌, ◌||◌}
-use Rattle.std.specs.List.{All, flat_map, range_with_len}
-use Rattle.std.proofs.lemmas.List.{length-map, take_all}
+use Rattle.std.specs.List.{All, range_with_len}
+use Rattle.std.proofs.lemmas.List.{take_all}
 use Rattle.std.proofs.lemmas.List.Elements.{All-nil, All-cons, All-head, All-tail}
-use Rattle.std.proofs.lemmas.Option.{slice_get-get_or}
 use Rattle.bbm_rule.specs.declared.block.Cell.{Cell}
 use Rattle.circuit.specs.Bridge.{circuit_of, netlist_of}
 use Rattle.circuit.specs.Gates.{defines}
 use Rattle.circuit.specs.Meaning.{AreOrdered, Circuit, Gate, Netlist, wire_of, wires}
 use Rattle.circuit.specs.declared.entry.Entry.{Entry}
 use Rattle.pattern.specs.Layout.{Pattern, in_cells, in_rectangles}
-use Rattle.pattern.specs.Lines.{size_fault}
 use Rattle.module_box.specs.Boxes.{in_box}
 use Rattle.module_box.specs.Locals.{AreLocalLines, AreLocalsOf, LocalNet, is_among, local_wires}
-use Rattle.module_box.specs.Schedules.{Signals}
-use Rattle.module_box.specs.declared.boxes.Box2.{Box2}
 use Rattle.module_box.specs.declared.schedules.Signal.{Signal}
-use Rattle.module_box.specs.declared.schedules.Signal.TheVariants.{Zero, One, Wire}
+use Rattle.module_box.specs.declared.schedules.Signal.TheVariants.{Zero, One}
 use Rattle.module_box.proofs.LocalNets.{IsOver, IsPart, next_known, part_all, part_more, part_none}
-use Rattle.certificate_lines.specs.Entries.{ModuleLines, cut_wires, cuts, edges, gates, halos, keeps, known, stops}
+use Rattle.certificate_lines.specs.Entries.{ModuleLines, cut_wires, edges, gates, halos, keeps, known, stops}
 use Rattle.certificate_lines.specs.Modules.{HasPorts, IsModule}
 use Rattle.certificate_lines.specs.PortTables.{port_at}
 use Rattle.certificate_lines.specs.Rules.{box_cells, is_local, is_local_wire}
@@ -28,21 +24,18 @@ use Rattle.certificate_lines.specs.Settings.{setting_of}
 use Rattle.certificate_lines.specs.declared.entry.StopLine.{StopLine}
 use Rattle.certificate_lines.proofs.BoxPlaces.{cells_inside, found_at, same_count}
 use Rattle.certificate_lines.proofs.Pairs.{Each, each_of_all}
-use Rattle.module_job.specs.Jobs.{IsJob, JobState}
+use Rattle.module_job.specs.Jobs.{JobState}
 use Rattle.module_job.specs.Signals.{IsBelow, IsDemandBelow, renumber_demand, renumber_signal, renumber_stop}
 use Rattle.module_job.specs.declared.job.Demand.{Demand}
 use Rattle.module_job.specs.declared.job.Demand.TheVariants as Demanded
 use Rattle.module_job.specs.declared.job.Stop as listed
 use Rattle.certificate.specs.Jobs.{IsJobOf, demand_elsewhere, demand_of, end_demand, line_signals, line_stops, named_wire, numbered_stop, signal_of, start_signal}
-use Rattle.certificate.specs.StopLists.{AreStops}
 use Rattle.certificate.proofs.FullModules.{all_of_each}
-use Rattle.certificate.proofs.JobLemmas.{within_512}
 use Rattle.certificate.proofs.JobPlaces.{demand_found, start_found}
 use Rattle.certificate.proofs.PlanLemmas.{cells_have_ports}
-use Rattle.certificate.proofs.StopLemmas.{stops_rise, stops_stand}
 use Rattle.audit_core.specs.ModuleLaws.{ModuleHasSomeJob}
-use Rattle.audit_core.proofs.NumberedSignals.{IsBack, IsNamed, IsNumbered, is_place, lines_back, numbered, numbered_event}
-use Rattle.audit_core.proofs.NumberedSignals.{numbered_held, numbered_signals, place_among, wire_numbered}
+use Rattle.audit_core.proofs.NumberedSignals.{IsBack, IsNamed, IsNumbered, is_place, lines_back, numbered}
+use Rattle.audit_core.proofs.NumberedSignals.{numbered_signals, place_among, wire_numbered}
 
 -- ---- the places of wires
 

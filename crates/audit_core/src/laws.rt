@@ -2,7 +2,7 @@
 ghost use Rattle.audit_core.specs.HeadlineLaws.{AcceptedHasValuation, AcceptedIsCorrect, AcceptedIsOnTime, EndsAsAsked, Example, InputsDecideTheRun, NoneIsUndefined, ReadLayoutHasInputNames, ReadLayoutIsNamed, StartsAsJobs, StepsAsJobs, WrongExample};
 ghost use Rattle.audit_core.specs.FirstFaults.{EarliestLineIsFirst, EarliestLineIsReal, EndFaultMeansIncorrect, FirstFaultIsReal, StepsWithGoodBorders};
 ghost use Rattle.audit_core.specs.PlainCertificates.{AcceptedKeepsOffRim, PlainCertificateDecides, PlainLinesMean, PlainNoMeansWrong, UntimedIsOnTime};
-ghost use Rattle.audit_core.specs.ModuleLaws.{ModuleHasOneJob, ModuleHasSomeJob};
+ghost use Rattle.audit_core.specs.ModuleLaws.{ModuleHasOneJob, ModuleHasSomeJob, ModulesHaveVerdict};
 ghost use Rattle.audit_core.specs.MigrationLaws.{AcceptedWithoutHalos, MigrationIsAccepted};
 ghost use Rattle.audit_core.specs.CoreLaws.{AcceptsOneForEach, DrawsEachOnce, EmptyWhereAllAreDrawn, EventsKeepWhatIsHeld, EventsReplay, HoldsHonestOwn, HoldsWhatWasAccepted, OnlyAcceptedChangesWhatIsHeld, VerdictIsOne};
 ghost use Rattle.audit_core.specs.Laws.{AcceptsItsOwn, BooksAgree, ClosedAnswersClosed, ClosedByItsHistory, DoublesWhatIsHeld, FullBookHoldsAll, HoldsWhatIsAccepted, HoldsNothingElse, KeepsWhatIsHeld, KnowsItsOwn, StaysBook, StaysReplayed};
@@ -29,9 +29,10 @@ pub fn events_keep_what_is_held()
     ensures only { OnlyAcceptedChangesWhatIsHeld }
 {}
 
-/// The modules of a certificate have one verdict: two books from which it is concluded give the same.
+/// The modules of a certificate have exactly one verdict: two books from which it is concluded give the same.
 pub fn verdict_is_one()
-    ensures { VerdictIsOne }
+    ensures one { VerdictIsOne }
+    ensures some { ModulesHaveVerdict }
 {}
 
 /// A closed book answers `Closed` to every finding, and no other book does.
