@@ -1,28 +1,18 @@
 -- The modules without halo lines have jobs: those of the modules with them, with the halos that the edge lines beside them stand for.
-use Rattle.std.proofs.Common.{◌≡◌, ℕ, zero, suc, ◌<◌, ◌==◌, Bool, true, false, if◌then◌else◌, List, [], ◌∷◌, ◌++◌, map, length, Option, Some, None, refl, sym, ap, ap₂, subst, ◌∙◌, arith}
-use Rattle.std.specs.Prelude.{◌||◌, slice_get, slice_index, IsTrue, IfSome}
-use Rattle.std.proofs.lemmas.Bool.{false≢true}
-use Rattle.std.proofs.lemmas.Bool.Decides.{nat_tests}
+use Rattle.std.proofs.Common.{◌≡◌, ℕ, zero, suc, false, List, [], ◌∷◌, map, length, Some, refl, sym, ap, ap₂, subst, ◌∙◌, arith}
+use Rattle.std.specs.Prelude.{slice_get}
 use Rattle.std.proofs.lemmas.List.{length-map}
 use Rattle.circuit.specs.Bridge.{circuit_of}
-use Rattle.circuit.specs.Meaning.{Circuit, wire_of}
+use Rattle.circuit.specs.Meaning.{Circuit}
 use Rattle.circuit.specs.declared.entry.Entry.{Entry}
 use Rattle.pattern.specs.Layout.{Pattern}
-use Rattle.module_box.specs.Locals.{is_among}
-use Rattle.module_box.specs.Schedules.{Signals}
-use Rattle.module_box.specs.declared.schedules.Event.{Event}
-use Rattle.module_box.specs.declared.schedules.Held.{Held}
-use Rattle.module_box.specs.declared.schedules.Signal.{Signal}
-use Rattle.module_box.specs.declared.schedules.Signal.TheVariants.{Zero, One, Wire}
 use Rattle.certificate_lines.specs.Entries.{Setting, ModuleLines, halos, known}
 use Rattle.certificate_lines.specs.Settings.{setting_of}
 use Rattle.module_job.specs.Jobs.{JobState, job_demand, job_start}
-use Rattle.certificate.specs.Jobs.{IsJobOf, AreJobsOf, event_by, held_by, line_signal, line_signals, line_stops, signal_of}
+use Rattle.certificate.specs.Jobs.{IsJobOf, AreJobsOf, line_signals, line_stops}
 use Rattle.certificate_lines.specs.Modules.{AreModules, IsHalo}
-use Rattle.certificate_lines.specs.Rules.{is_local, is_local_wire}
-use Rattle.module_job.specs.Signals.{IsBelow, renumber_event, renumber_held, renumber_signal}
+use Rattle.module_job.specs.Signals.{IsBelow}
 use Rattle.certificate_lines.specs.Versions.{lacks_wire, with_halos}
-use Rattle.certificate_lines.specs.declared.entry.Border.{Border}
 use Rattle.certificate_lines.proofs.InList.{all_in}
 use Rattle.certificate.proofs.FullModules.{all_of_each, full_cuts, full_edges, full_gates, full_keeps, full_known, full_modules, full_stops, mapped_at, mapped_from}
 use Rattle.certificate_lines.proofs.LineOrder.{in_each}

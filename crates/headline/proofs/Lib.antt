@@ -3,6 +3,7 @@ mod OneValue
 mod OneListing
 mod OneReport
 mod SomeAnswer
+mod SomeReport
 mod Designs
 mod ThereAndBack
 mod TimedModules

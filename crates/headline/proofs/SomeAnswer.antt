@@ -1,25 +1,20 @@
 -- `modules`, `migrate` and `value` have an answer to each text
-use Rattle.std.proofs.Common.{◌≡◌, ◌<◌, ◌++◌, ◌∷◌, ◌∙◌, [], ℕ, Bool, List, Option, Some, None, Result, Ok, Err}
-use Rattle.std.proofs.Common.{refl, map, length, false, inl, inr, arith, subst, sym}
+use Rattle.std.proofs.Common.{◌≡◌, ◌⊎◌, ◌++◌, ◌∷◌, [], ℕ, List, Result, Ok, Err}
+use Rattle.std.proofs.Common.{refl, inl, inr, subst}
 use Rattle.std.specs.Prelude.{codes}
 use Rattle.std.specs.Fmt.{decimal}
-use Rattle.std.specs.List.{range_with_len}
-use Rattle.std.proofs.lemmas.List.{length-map}
-use Rattle.std.proofs.lemmas.List.FromFn.{get_or-map-range_with_len, length-range_with_len}
 use Rattle.section_text.specs.Spelling.{line_text}
 use Rattle.section_text.specs.Words.{lines_of}
 use Rattle.section_text.specs.Section.{section_of}
 use Rattle.section_text.specs.declared.fault.Refusal.{Refusal}
-use Rattle.circuit.specs.Bridge.{netlist_of, read}
+use Rattle.circuit.specs.Bridge.{netlist_of}
 use Rattle.circuit.specs.Entries.{defined}
-use Rattle.circuit.specs.Evaluate.{first_undefined}
 use Rattle.circuit.specs.Grammars.{circuit_grammar}
-use Rattle.circuit.specs.Meaning.{AreOrdered, Netlist, Valuation}
+use Rattle.circuit.specs.Meaning.{AreOrdered}
 use Rattle.circuit.specs.Text.{value_lines}
 use Rattle.circuit.specs.declared.entry.Entry.{Entry}
 use Rattle.circuit.proofs.Bridging.{gates_are_ordered}
-use Rattle.circuit.proofs.Undefined.{all_evaluated, stops, up_to}
-use Rattle.circuit.proofs.Valuations.{evaluated}
+use Rattle.audit_core.proofs.SomeValues.{HasStop, HasValues, values_or_stop}
 use Rattle.report.specs.ReportText.{refusal_line}
 use Rattle.answers.specs.Answers.{Answered, with_value}
 use Rattle.answers.specs.BundleText.{bundle_of}
@@ -54,55 +49,19 @@ some_migration text = answered_always SaysMigration (bundle_of text)
 
 -- ---- the values of a circuit
 
--- the given wires have these values
-record IsGiven (n : Netlist) (a : Valuation) (given : List Bool) : Type 0 where
-  pub long : length given ≡ n.given
-  pub same : (i : ℕ) → i < n.given → read given i ≡ a i
-
-given_of : (n : Netlist) (a : Valuation) → IsGiven n a (map a (range_with_len 0 n.given))
-given_of n a = record {
-  long = length-map (range_with_len 0 n.given) a ∙ length-range_with_len 0 n.given;
-  same = λ i h. get_or-map-range_with_len a 0 n.given i i false h (omega arith);
+says_values : (asked : ValueAsked) (ordered : AreOrdered (netlist_of asked.0).given (netlist_of asked.0).gates)
+    → HasValues (netlist_of asked.0) (inputs_asked asked) ordered ⊎ HasStop (netlist_of asked.0) (inputs_asked asked) ordered
+    → SaysSomething SaysValues asked
+says_values asked ordered (inl v) = record {
+  output = value_lines (defined asked.0) v.0;
+  outcome = Yes;
+  is = record { ordered = ordered; says = inl (record { values = v.0; are = v.1; says = refl; ends = refl }) };
 }
-
--- the values of all wires, or the first gate that has no row and the values before it
-values_or_stop : (asked : ValueAsked) (given : List Bool) (o : Option ℕ)
-    → first_undefined given (netlist_of asked.0).gates ≡ o
-    → AreOrdered (netlist_of asked.0).given (netlist_of asked.0).gates
-    → IsGiven (netlist_of asked.0) (inputs_asked asked) given → SaysSomething SaysValues asked
-values_or_stop asked given None e ordered is =
-    let n = netlist_of asked.0 in
-    let found = all_evaluated given n.gates (subst (λ m. AreOrdered m n.gates) (sym is.long) ordered) e in
-    record {
-      output = value_lines (defined asked.0) found.0;
-      outcome = Yes;
-      is = record {
-        ordered = ordered;
-        says = inl (record {
-          values = found.0;
-          are = evaluated n (inputs_asked asked) given found.0 ordered is.long is.same found.1;
-          says = refl;
-          ends = refl;
-        });
-      };
-    }
-values_or_stop asked given (Some k) e ordered is =
-    let n = netlist_of asked.0 in
-    let found = up_to given n.gates k (subst (λ m. AreOrdered m n.gates) (sym is.long) ordered) e in
-    record {
-      output = value_lines (defined asked.0) found.0 ++ line_text (codes "undefined") (decimal k ∷ []);
-      outcome = No;
-      is = record {
-        ordered = ordered;
-        says = inr (record {
-          gate = k;
-          values = found.0;
-          stops = stops n (inputs_asked asked) given k found.0 ordered is.long is.same found.1;
-          says = refl;
-          ends = refl;
-        });
-      };
-    }
+says_values asked ordered (inr s) = record {
+  output = value_lines (defined asked.0) s.1 ++ line_text (codes "undefined") (decimal s.0 ∷ []);
+  outcome = No;
+  is = record { ordered = ordered; says = inr (record { gate = s.0; values = s.1; stops = s.2; says = refl; ends = refl }) };
+}
 
 -- what is asked has the lines of a circuit that was read
 asked_first : (entries : List Entry) (read : Result (List (List ℕ)) Refusal) (asked : ValueAsked)
@@ -121,4 +80,5 @@ asked_ordered text asked e =
 
 pub some_values : HasAnAnswer IsValueOf
 some_values text = answered_always SaysValues (value_asked text) (λ asked e.
-    values_or_stop asked _ _ refl (asked_ordered text asked e) (given_of (netlist_of asked.0) (inputs_asked asked)))
+    let ordered = asked_ordered text asked e in
+    says_values asked ordered (values_or_stop (netlist_of asked.0) (inputs_asked asked) ordered))

@@ -10,7 +10,8 @@ ghost use Rattle.answers.specs.ValueText.{IsValueOf};
 
 /// What `check` writes for a text, and how it ends, is a function of the text.
 pub fn check_has_one_answer()
-    ensures { HasOneAnswer IsReportOf }
+    ensures one { HasOneAnswer IsReportOf }
+    ensures some { HasAnAnswer IsReportOf }
 {}
 
 /// What `run` writes for a text, and how it ends, is a function of the text.
