@@ -154,11 +154,11 @@ few_gates lines good =
 
 -- ---- a vector of some elements
 
-record IsVecOf {A : Type 0} (xs : List A) : Type 0 where
+pub record IsVecOf {A : Type 0} (xs : List A) : Type 0 where
   pub vec : Vec A Global
   pub items : vec.items ≡ xs
 
-vec_of : {A : Type 0} (xs : List A) → length xs < 2 ^ 63 → IsVecOf xs
+pub vec_of : {A : Type 0} (xs : List A) → length xs < 2 ^ 63 → IsVecOf xs
 vec_of xs small = record {
   vec = record {
     ptr = null_ptr;

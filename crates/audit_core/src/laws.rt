@@ -87,8 +87,8 @@ pub fn steps_as_jobs()
 {}
 
 /// The first fault under the circuit's values is one of the whole plane: there the cell is not as its module certifies. A first fault
-/// at the end means that the layout does not compute the circuit. The earliest line of a report is the first fault under each
-/// valuation that has its assignment.
+/// at the end means that the layout does not compute the circuit. If the earliest line of a report is a `local` line, its fault is the
+/// first one under each valuation that has its assignment.
 pub fn first_fault_is_real()
     ensures real { FirstFaultIsReal }
     ensures incorrect { EndFaultMeansIncorrect }

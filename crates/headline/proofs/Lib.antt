@@ -4,6 +4,7 @@ mod OneListing
 mod OneReport
 mod SomeAnswer
 mod SomeReport
+mod SomeRun
 mod Designs
 mod ThereAndBack
 mod TimedModules

@@ -16,7 +16,8 @@ pub fn check_has_one_answer()
 
 /// What `run` writes for a text, and how it ends, is a function of the text.
 pub fn run_has_one_answer()
-    ensures { HasOneAnswer IsRunOf }
+    ensures one { HasOneAnswer IsRunOf }
+    ensures some { HasAnAnswer IsRunOf }
 {}
 
 /// What `value` writes for a text, and how it ends, is a function of the text.
@@ -67,16 +68,18 @@ pub fn no_means_wrong()
     ensures lines { PlainLinesDecide }
 {}
 
-/// Every design of at most 64 by 64 cells, 12 inputs and 64 gates has a plain certificate that is read: `plain_lines`. So for these
-/// designs right is the same as accepted.
+/// A text that says a design of at most 64 by 64 cells, 12 inputs and 64 gates, and then `plain_lines`, is not refused. `check` says yes
+/// to it exactly if the layout computes the circuit, the stops are right, and the layout keeps off its rim. That each such design has a
+/// text is not proved.
 pub fn small_designs_are_decided()
     ensures decided { SmallDesignIsDecided }
     ensures refused { RefusedIsNoSmallDesign }
 {}
 
-/// The earliest line of a report is real: its fault is one of the whole plane, for each valuation that has its assignment. If the
-/// certificate is plain, each line of a no means something: `edge`, the layout touches its rim; `stop`, a stop is wrong; `end` and
-/// `keep`, the layout does not compute the circuit, for the inputs in the line; `delay` and `meet`, the times are wrong.
+/// If the earliest line of a no is a `local` line, its fault is one of the whole plane, for each valuation that gives the module the
+/// assignment of the line. If no valuation of the circuit does, the law says nothing of the line. If the certificate is plain, each line
+/// of a no means something: `edge`, the layout touches its rim; `stop`, a stop is wrong; `end` and `keep`, the layout does not compute
+/// the circuit, for the inputs in the line; `delay` and `meet`, the times are wrong.
 pub fn lines_of_a_no_tell()
     ensures { NoLinesTell }
 {}
