@@ -25,5 +25,11 @@ mod WrongExamples
 pub mod YesMeansCorrect
 pub mod NamedPorts
 mod BoxLists
+pub mod NumberedSignals
+pub mod SomeJobs
+pub mod SomeValues
+pub mod SomeLeast
+pub mod SomeFaults
+pub mod SomeVerdict
 pub mod ModuleJobs
 pub mod Migrated

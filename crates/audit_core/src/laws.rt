@@ -2,7 +2,7 @@
 ghost use Rattle.audit_core.specs.HeadlineLaws.{AcceptedHasValuation, AcceptedIsCorrect, AcceptedIsOnTime, EndsAsAsked, Example, InputsDecideTheRun, NoneIsUndefined, ReadLayoutHasInputNames, ReadLayoutIsNamed, StartsAsJobs, StepsAsJobs, WrongExample};
 ghost use Rattle.audit_core.specs.FirstFaults.{EarliestLineIsFirst, EarliestLineIsReal, EndFaultMeansIncorrect, FirstFaultIsReal, StepsWithGoodBorders};
 ghost use Rattle.audit_core.specs.PlainCertificates.{AcceptedKeepsOffRim, PlainCertificateDecides, PlainLinesMean, PlainNoMeansWrong, UntimedIsOnTime};
-ghost use Rattle.audit_core.specs.ModuleLaws.{ModuleHasOneJob};
+ghost use Rattle.audit_core.specs.ModuleLaws.{ModuleHasOneJob, ModuleHasSomeJob, ModulesHaveVerdict};
 ghost use Rattle.audit_core.specs.MigrationLaws.{AcceptedWithoutHalos, MigrationIsAccepted};
 ghost use Rattle.audit_core.specs.CoreLaws.{AcceptsOneForEach, DrawsEachOnce, EmptyWhereAllAreDrawn, EventsKeepWhatIsHeld, EventsReplay, HoldsHonestOwn, HoldsWhatWasAccepted, OnlyAcceptedChangesWhatIsHeld, VerdictIsOne};
 ghost use Rattle.audit_core.specs.Laws.{AcceptsItsOwn, BooksAgree, ClosedAnswersClosed, ClosedByItsHistory, DoublesWhatIsHeld, FullBookHoldsAll, HoldsWhatIsAccepted, HoldsNothingElse, KeepsWhatIsHeld, KnowsItsOwn, StaysBook, StaysReplayed};
@@ -29,9 +29,10 @@ pub fn events_keep_what_is_held()
     ensures only { OnlyAcceptedChangesWhatIsHeld }
 {}
 
-/// The modules of a certificate have one verdict: two books from which it is concluded give the same.
+/// The modules of a certificate have exactly one verdict: two books from which it is concluded give the same.
 pub fn verdict_is_one()
-    ensures { VerdictIsOne }
+    ensures one { VerdictIsOne }
+    ensures some { ModulesHaveVerdict }
 {}
 
 /// A closed book answers `Closed` to every finding, and no other book does.
@@ -86,8 +87,8 @@ pub fn steps_as_jobs()
 {}
 
 /// The first fault under the circuit's values is one of the whole plane: there the cell is not as its module certifies. A first fault
-/// at the end means that the layout does not compute the circuit. The earliest line of a report is the first fault under each
-/// valuation that has its assignment.
+/// at the end means that the layout does not compute the circuit. If the earliest line of a report is a `local` line, its fault is the
+/// first one under each valuation that has its assignment.
 pub fn first_fault_is_real()
     ensures real { FirstFaultIsReal }
     ensures incorrect { EndFaultMeansIncorrect }
@@ -154,7 +155,8 @@ pub fn accepted_without_halos()
     ensures migration { MigrationIsAccepted }
 {}
 
-/// A module has exactly one job by the definition of a job: no part of it is left open.
+/// A module that is as the grammar asks has exactly one job.
 pub fn module_has_one_job()
-    ensures { ModuleHasOneJob }
+    ensures one { ModuleHasOneJob }
+    ensures some { ModuleHasSomeJob }
 {}
