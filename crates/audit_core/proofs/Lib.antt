@@ -23,7 +23,6 @@ pub mod Examples
 pub mod PortNames
 mod WrongExamples
 pub mod YesMeansCorrect
-pub mod NamedPorts
 mod BoxLists
 pub mod NumberedSignals
 pub mod SomeJobs

@@ -11,11 +11,12 @@ use local_run::{Finding, run_job};
 use std::alloc::{AllocError, Global};
 use std::sync::Arc;
 
-/// Has a state hold a finding for each of these jobs. A state that is closed, or of another digest or of other jobs, is first
-/// replaced by a new book of these. Then each number without a finding gets one, in order, which is accepted. Of the jobs of one
-/// shape at most one is run.
+/// Has a state hold a finding for each of these jobs. A state that is closed, or of another digest or of other jobs, is
+/// first replaced by a new book of these. Then each number without a finding gets one, in order, which is accepted. Of
+/// the jobs of one shape at most one is run.
 ///
-/// `AllocError` is want of memory: where there was none for the new book, the state is unchanged; else what was accepted stays.
+/// `AllocError` is want of memory: where there was none for the new book, the state is unchanged; else what was
+/// accepted stays.
 pub fn fill(
     alloc: Global,
     state: &mut BookState,
@@ -23,9 +24,11 @@ pub fn fill(
     jobs: &[Arc<Job>],
 ) -> Result<(), AllocError>
     ensures full { OnOk result (IsFull digest (map arc_value jobs.now) state.new) }
-    ensures kept { IsOpenFor digest (map arc_value jobs.now) state.old → IsPartlyFilled state.old state.new }
+    ensures kept { IsOpenFor digest (map arc_value jobs.now) state.old →
+        IsPartlyFilled state.old state.new }
     ensures replaced { ¬ IsOpenFor digest (map arc_value jobs.now) state.old →
-        (IsErr result × (state.new ≡ state.old)) ⊎ IsPartlyFilled (new_book digest (map arc_value jobs.now)) state.new }
+        (IsErr result × (state.new ≡ state.old))
+        ⊎ IsPartlyFilled (new_book digest (map arc_value jobs.now)) state.new }
 {
     let own = is_open_for(state, digest, jobs);
     if !own {
@@ -100,7 +103,8 @@ fn fill_number(
     }
 }
 
-// The finding of a job: that of the first number of its group, where one is held and the shapes are the same, else by a run.
+// The finding of a job: that of the first number of its group, where one is held and the shapes are the same, else by a
+// run.
 fn finding_of(
     alloc: Global,
     state: &BookState,

@@ -49,7 +49,8 @@ pub(crate) enum Hold {
     Reverse,
     /// This number, until the three others have ended.
     UntilOthers(usize),
-    /// Each number but the first, until the first has ended; and the first at its end, until the three others have ended.
+    /// Each number but the first, until the first has ended; and the first at its end, until the three others have
+    /// ended.
     FirstAlone,
 }
 
