@@ -292,8 +292,19 @@ module _ (g : Setting) (ms : List ModuleLines) (i : ℕ) where
   }
 
   of_fault : (f : BorderFault) (h : IsBorderFault g ms i f) → IsBorderFaultOf h.lines f
-  of_fault f h = (h.odd, (h.early, (h.inside, (h.halo,
-      record { number = h.owner_number; one = h.owner; at = h.owner_numbered; holds = (h.owned, h.differ) }))))
+  of_fault f h = (
+    h.odd,
+    (
+      h.early,
+      (
+        h.inside,
+        (
+          h.halo,
+          record { number = h.owner_number; one = h.owner; at = h.owner_numbered; holds = (h.owned, h.differ) },
+        ),
+      ),
+    ),
+  )
 
   same_module : (m n : ModuleLines) → slice_get ms i ≡ Some m → slice_get ms i ≡ Some n → n ≡ m
   same_module m n at there = cc

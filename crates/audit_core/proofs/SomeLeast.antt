@@ -147,30 +147,51 @@ module _ {A : Type 0} (cmp : A → A → Ordering) (total : IsTotalOrder cmp) (P
     | inl same ↦ not_so (subst P (sym same) p)
     | inr later ↦ h a later p
   ]
-  without x xs (Some f) not_so h = (h.0, λ a i p. elim i [
-    | inl same ↦ absurd (not_so (subst P (sym same) p))
-    | inr later ↦ h.1 a later p
-  ])
+  without x xs (Some f) not_so h = (
+    h.0,
+    λ a i p. elim i [
+      | inl same ↦ absurd (not_so (subst P (sym same) p))
+      | inr later ↦ h.1 a later p
+    ],
+  )
 
   with_first : (x : A) (xs : List A) (o : Option A) → P x → IsLeastIn xs o → HasLeast (x ∷ xs)
   unfolding In
-  with_first x xs None so h = record { least = Some x; is = (so, λ a i p. elim i [
-    | inl same ↦ subst (NotAfter x) same (itself x)
-    | inr later ↦ absurd (h a later p)
-  ]) }
+  with_first x xs None so h = record {
+    least = Some x;
+    is = (
+      so,
+      λ a i p. elim i [
+        | inl same ↦ subst (NotAfter x) same (itself x)
+        | inr later ↦ absurd (h a later p)
+      ],
+    );
+  }
   with_first x xs (Some f) so h = by (cmp x f) refl
     where
       keep : cmp x f ≡ Greater → HasLeast (x ∷ xs)
-      keep e = record { least = Some f; is = (h.0, λ a i p. elim i [
-        | inl same ↦ subst (NotAfter f) same (back x f e)
-        | inr later ↦ h.1 a later p
-      ]) }
+      keep e = record {
+        least = Some f;
+        is = (
+          h.0,
+          λ a i p. elim i [
+            | inl same ↦ subst (NotAfter f) same (back x f e)
+            | inr later ↦ h.1 a later p
+          ],
+        );
+      }
 
       take : NotAfter x f → HasLeast (x ∷ xs)
-      take n = record { least = Some x; is = (so, λ a i p. elim i [
-        | inl same ↦ subst (NotAfter x) same (itself x)
-        | inr later ↦ along x f a n (h.1 a later p)
-      ]) }
+      take n = record {
+        least = Some x;
+        is = (
+          so,
+          λ a i p. elim i [
+            | inl same ↦ subst (NotAfter x) same (itself x)
+            | inr later ↦ along x f a n (h.1 a later p)
+          ],
+        );
+      }
 
       by : (o : Ordering) → cmp x f ≡ o → HasLeast (x ∷ xs)
       by Greater e = keep e
