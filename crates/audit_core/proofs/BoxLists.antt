@@ -1,5 +1,5 @@
 -- Lists with one element for each cell of a box are the same where they say the same of each cell
-use Rattle.std.proofs.Common.{◌≡◌, ℕ, zero, suc, ◌+◌, ◌-◌, ◌*◌, ◌/◌, ◌<◌, ◌≤◌, true, List, [], ◌∷◌, length, refl, sym, ap₂, subst, ◌∙◌, arith}
+use Rattle.std.proofs.Common.{◌≡◌, ℕ, zero, suc, ◌+◌, ◌-◌, ◌*◌, ◌/◌, ◌<◌, ◌≤◌, true, List, length, refl, sym, ap₂, subst, ◌∙◌, arith}
 use Rattle.std.specs.Prelude.{ℤ, pos, slice_get, unwrap_or}
 use Rattle.std.proofs.lemmas.List.{get_or_default, same_lists}
 use Rattle.std.proofs.lemmas.Option.{unwrap_or-slice_get}

@@ -10,6 +10,7 @@ pub mod ReportLines
 pub mod Conclusions
 pub mod FullBooks
 pub mod Fillings
+pub mod FillingRuns
 pub mod LayoutCells
 pub mod JobSignals
 pub mod StopParts

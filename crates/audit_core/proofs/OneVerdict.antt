@@ -1,5 +1,5 @@
 -- The modules of a certificate have one verdict
-use Rattle.std.proofs.Common.{◌≡◌, ◌∙◌, ◌<◌, ◌≤◌, ◌∷◌, ℕ, suc, zero, List, [], length, map, Option, None, Some, refl, sym, ap, ap₂, arith, ◌++◌}
+use Rattle.std.proofs.Common.{◌≡◌, ◌∙◌, ◌<◌, ◌≤◌, ◌∷◌, ℕ, suc, zero, List, [], length, map, Option, None, Some, refl, sym, ap, arith, ◌++◌}
 use Rattle.std.specs.Prelude.{slice_get}
 use Rattle.std.specs.Option.{option_map}
 use Rattle.std.proofs.lemmas.List.{same_lists}

@@ -6,7 +6,7 @@ ghost use Rattle.audit_core.specs.Filling.{IsOpenFor};
 ghost use Rattle.module_job.specs.Groups.{AreGroups};
 ghost use Rattle.audit_core.specs.Concluding.{modules};
 ghost use Rattle.audit_core.specs.Replay.{has_closing};
-ghost use Rattle.job_pool.specs.Work.{shapes_of};
+ghost use Rattle.audit_core.specs.Filling.{shapes_of};
 ghost use Rattle.check_main.specs.Audits.{IsAuditOf, IsClosedOnce, IsCompleted, filings_in};
 
 use audit_core::{BookState, fill};

@@ -3,7 +3,8 @@ ghost use Rattle.std.specs.Prelude.{◌≡◌, ℕ, ◌+◌, ◌<◌, ◌≤◌,
 ghost use Rattle.std.specs.Arc.{arc_value};
 ghost use Rattle.module_job.specs.Groups.{AreGroups};
 ghost use Rattle.job_pool.specs.Seats.{IsNewSeatOf, numbers_of, seats_opened};
-ghost use Rattle.job_pool.specs.Work.{HasWorked, HaveRisen, IsReady, filed_by, seats_of, shapes_of, shares_of};
+ghost use Rattle.audit_core.specs.Filling.{shapes_of};
+ghost use Rattle.job_pool.specs.Work.{HasWorked, HaveRisen, IsReady, filed_by, seats_of, shares_of};
 
 use crate::desk::{Desk, DeskSeat};
 use crate::gate::Gate;

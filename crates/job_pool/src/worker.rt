@@ -8,7 +8,8 @@ ghost use Rattle.local_run.specs.Shown.{digest_of, job_of};
 ghost use Rattle.verdict_book.specs.Counts.{counted};
 ghost use Rattle.verdict_book.specs.Replies.{IsReplyOf};
 ghost use Rattle.job_pool.specs.Seats.{numbers_of};
-ghost use Rattle.job_pool.specs.Work.{HasRisen, HasWorked, IsOneMore, IsReady, shapes_of};
+ghost use Rattle.audit_core.specs.Filling.{IsOneMore, shapes_of};
+ghost use Rattle.job_pool.specs.Work.{HasRisen, HasWorked, IsReady};
 
 use crate::desk::{Desk, DeskSeat};
 use crate::gate::Gate;
