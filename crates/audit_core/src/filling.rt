@@ -64,7 +64,8 @@ fn fill_open(
     requires own { IsOpenFor digest (map arc_value jobs.now) state.old }
     ensures full { OnOk result (IsFull digest (map arc_value jobs.now) state.new) }
     ensures partly { IsPartlyFilled state.old state.new }
-    ensures one_run_a_shape { RunsOneForEach (shapes_of (map arc_value jobs.now)) runs.old runs.new }
+    ensures one_run_a_shape { RunsOneForEach (shapes_of (map arc_value jobs.now)) runs.old
+        runs.new }
 {
     // The history replays to the state.
     let _history = state.history();
