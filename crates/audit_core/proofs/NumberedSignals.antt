@@ -30,10 +30,12 @@ pub record IsPlace (ws : List ℕ) (w i : ℕ) : Type 0 where
 same_number : (v w : ℕ) → (v == w) ≡ true → v ≡ w
 same_number v w e = grind (arith, nat_tests)
 
-place_step : (v w : ℕ) (ws : List ℕ) (b : Bool) → (v == w) ≡ b → (b || is_among ws w) ≡ true → (is_among ws w ≡ true → IsPlace ws w (place_among ws w))
+place_step : (v w : ℕ) (ws : List ℕ) (b : Bool) → (v == w) ≡ b → (b || is_among ws w) ≡ true →
+    (is_among ws w ≡ true → IsPlace ws w (place_among ws w))
     → IsPlace (v ∷ ws) w (if b then 0 else suc (place_among ws w))
 place_step v w ws true same e more = record { below = omega arith; there = same_number v w same }
-place_step v w ws false other e more = let p = more e in record { below = let b = p.below in omega (arith, b); there = p.there }
+place_step v w ws false other e more = let p = more e in record { below = let b = p.below in omega
+    (arith, b); there = p.there }
 
 pub is_place : (ws : List ℕ) (w : ℕ) → is_among ws w ≡ true → IsPlace ws w (place_among ws w)
 unfolding place_among
@@ -61,7 +63,8 @@ module _ (c : Circuit) (ws : List ℕ) where
   wire_numbered None h = absurd (false≢true h)
   wire_numbered (Some w) h = let p = is_place ws w h in record { back = ap (λ v. Wire v) p.there; below = p.below }
 
-  pub signal_numbered : (s : Option (List ℕ)) → IfSome s (λ name. IsTrue (is_local c ws name)) → IsNumbered ws (line_signal c s)
+  pub signal_numbered : (s : Option (List ℕ)) → IfSome s (λ name. IsTrue (is_local c ws name)) →
+      IsNumbered ws (line_signal c s)
   unfolding numbered
   signal_numbered None h = record { back = refl; below = tt }
   signal_numbered (Some name) h = wire_numbered (wire_of c name) h
@@ -83,7 +86,8 @@ module _ (c : Circuit) (ws : List ℕ) where
     pub held_below : Each (λ h. IsBelow (length ws) h.signal) (map numbered_held hs)
     pub events_below : Each (λ e. IsBelow (length ws) e.signal) (map numbered_event es)
 
-  back_from : (e : Border) (time : Option ℕ) (s : Signal) (hs : List Held) (es : List Event) → IsNumbered ws s → IsBack hs es → IsBack (held_by e time s ++ hs) (event_by e time s ++ es)
+  back_from : (e : Border) (time : Option ℕ) (s : Signal) (hs : List Held) (es : List Event) → IsNumbered ws s →
+      IsBack hs es → IsBack (held_by e time s ++ hs) (event_by e time s ++ es)
   unfolding numbered_held numbered_event Each
   back_from e None s hs es is more = record {
     held = ap₂ (λ a l. record { cell = e.cell; signal = a } ∷ l) is.back more.held;
@@ -101,4 +105,5 @@ module _ (c : Circuit) (ws : List ℕ) where
   pub lines_back : (es : List Border) → Each IsNamed es → IsBack (line_signals c es).held (line_signals c es).events
   unfolding Each
   lines_back [] h = record { held = refl; events = refl; held_below = tt; events_below = tt }
-  lines_back (e ∷ es) h = back_from e e.time (line_signal c e.signal) _ _ (signal_numbered e.signal h.0) (lines_back es h.1)
+  lines_back (e ∷ es) h = back_from e e.time (line_signal c e.signal) _ _ (signal_numbered e.signal h.0)
+      (lines_back es h.1)

@@ -44,8 +44,10 @@ use Rattle.local_run.proofs.Leasts.{undefined_no_fault}
 use Rattle.border_match.specs.BorderFaults.{IsBorderFault, IsLeastBorderFault, border_cmp, edge_signal, halo_signal}
 use Rattle.border_match.specs.declared.fault.BorderFault.{BorderFault}
 use Rattle.border_match.proofs.FaultOrder.{border_total}
-use Rattle.audit_core.proofs.SomeLeast.{Decided, HasOne, among_in, below_decided, bools_decided, both_decided, decided_by}
-use Rattle.audit_core.proofs.SomeLeast.{IsLeastIn, in_map, in_range, least_in, not_decided, numbers_decided, some_decided, true_decided}
+use Rattle.audit_core.proofs.SomeLeast.{Decided, HasOne, among_in, below_decided, bools_decided, both_decided}
+use Rattle.audit_core.proofs.SomeLeast.{decided_by}
+use Rattle.audit_core.proofs.SomeLeast.{IsLeastIn, in_map, in_range, least_in, not_decided, numbers_decided}
+use Rattle.audit_core.proofs.SomeLeast.{some_decided, true_decided}
 use Rattle.audit_core.proofs.SomeValues.{HasStop, HasValues, values_or_stop}
 use Rattle.std.proofs.lemmas.Bool.Decides.{Decides-int_eq}
 
@@ -82,7 +84,8 @@ module _ (j : JobState) (u : Valuation) (t : ℕ) (x y : ℤ) where
   missed_decided s =
       both_decided (numbers_decided s.at.time t) (λ _.
       both_decided (integers_decided s.at.cell.x x) (λ _.
-      both_decided (integers_decided s.at.cell.y y) (λ _. not_decided (bools_decided (local_run j u t x y) (u s.wire)))))
+      both_decided (integers_decided s.at.cell.y y)
+          (λ _. not_decided (bools_decided (local_run j u t x y) (u s.wire)))))
 
   under_decided : (kind : Kind) → Decided (IsFaultUnder j u t kind x y)
   under_decided Edge = decided_by
@@ -125,7 +128,8 @@ module _ (j : JobState) (is : IsJob j) (ordered : AreOrdered j.locals.netlist.gi
   abbrev Bounded : Fault → Type 0
   Bounded f = (f.time < j.steps + 1) × (in_box j.area f.cell.x f.cell.y ≡ true)
 
-  stop_inside : (f : Fault) (s : listed.Stop) → IsStopOf j s → s.at.time ≡ f.time → s.at.cell.x ≡ f.cell.x → s.at.cell.y ≡ f.cell.y → Bounded f
+  stop_inside : (f : Fault) (s : listed.Stop) → IsStopOf j s → s.at.time ≡ f.time → s.at.cell.x ≡ f.cell.x →
+      s.at.cell.y ≡ f.cell.y → Bounded f
   stop_inside f s stop time column row = (
     (let e = time in let le = stop.time in omega (arith, e, le)),
     sym (λ i. in_box j.area (column i) (row i)) ∙ stop.inside,
@@ -133,7 +137,8 @@ module _ (j : JobState) (is : IsJob j) (ordered : AreOrdered j.locals.netlist.gi
 
   bounded : (u : Valuation) (f : Fault) (kind : Kind) → IsFaultUnder j u f.time kind f.cell.x f.cell.y → Bounded f
   bounded u f Edge h = ((let lt = h.early in omega (arith, lt)), ring_inside j.area f.cell.x f.cell.y h.ring)
-  bounded u f Stop h = stop_inside f h.stop (subst (IsStopOf j) h.is_listed.2 (is.stops h.is_listed.0 h.stop h.is_listed.1)) h.time h.column h.row
+  bounded u f Stop h = stop_inside f h.stop
+      (subst (IsStopOf j) h.is_listed.2 (is.stops h.is_listed.0 h.stop h.is_listed.1)) h.time h.column h.row
   bounded u f End h = ((let e = h.last in omega (arith, e)), h.inside)
 
   abbrev kinds : List Kind
@@ -157,10 +162,13 @@ module _ (j : JobState) (is : IsJob j) (ordered : AreOrdered j.locals.netlist.gi
 
   in_places : (f : Fault) → Bounded f → f.assignment < assignments j → In f places_of
   in_places f b small =
-      flat_in (λ t. flat_map (places_at t) kinds) f (range_with_len 0 (j.steps + 1)) f.time (in_range (j.steps + 1) f.time b.0)
+      flat_in (λ t. flat_map (places_at t) kinds) f (range_with_len 0 (j.steps + 1)) f.time
+          (in_range (j.steps + 1) f.time b.0)
       (flat_in (places_at f.time) f kinds f.kind (in_kinds f.kind)
-      (flat_in (λ d. map (fault_at f.time f.kind d) (range_with_len 0 (assignments j))) f (box_cells j.area) f.cell (in_cells_of_box j.area f.cell b.1)
-      (in_map (fault_at f.time f.kind f.cell) f.assignment (range_with_len 0 (assignments j)) (in_range (assignments j) f.assignment small))))
+      (flat_in (λ d. map (fault_at f.time f.kind d) (range_with_len 0 (assignments j))) f (box_cells j.area) f.cell
+          (in_cells_of_box j.area f.cell b.1)
+      (in_map (fault_at f.time f.kind f.cell) f.assignment (range_with_len 0 (assignments j))
+          (in_range (assignments j) f.assignment small))))
 
   values_of : (a : ℕ) → HasValues j.locals.netlist (bit a) ordered ⊎ HasStop j.locals.netlist (bit a) ordered
   values_of a = values_or_stop j.locals.netlist (bit a) ordered
@@ -181,11 +189,13 @@ module _ (j : JobState) (is : IsJob j) (ordered : AreOrdered j.locals.netlist.gi
 
   fault_placed : (f : Fault) → IsFault j f → In f places_of
   fault_placed f h = elim (values_of f.assignment) [
-    | inl v ↦ in_places f (bounded (read v.0) f f.kind ((decided j f (read v.0) is ordered h.in_range v.1.satisfies).0 h)) h.in_range
+    | inl v ↦ in_places f
+        (bounded (read v.0) f f.kind ((decided j f (read v.0) is ordered h.in_range v.1.satisfies).0 h)) h.in_range
     | inr s ↦ absurd (undefined_no_fault j f s.0 ordered (undefined_at f.assignment s) h)
   ]
 
-  everywhere : (o : Option Fault) → IsLeastIn fault_cmp fault_total (IsFault j) fault_decided places_of o → IsLeastFault j o
+  everywhere : (o : Option Fault) → IsLeastIn fault_cmp fault_total (IsFault j) fault_decided places_of o →
+      IsLeastFault j o
   everywhere None h = λ f is. h f (fault_placed f is) is
   everywhere (Some f) h = (h.0, λ g is. h.1 g (fault_placed g is) is)
 
@@ -210,7 +220,8 @@ module _ (j : JobState) (is : IsJob j) (ordered : AreOrdered j.locals.netlist.gi
         shown = ∣ subst (λ k. IsLocallyUndefined j.locals f.assignment k) same (undefined_at f.assignment s) ∣₁;
       })
       | inr other ↦ inr (λ h. ∥∥₁_elim h.shown (λ x y. absurd x)
-          (λ r. other (undefined_is_one j.locals.netlist (bit f.assignment) s.0 f.gate ordered (undefined_at f.assignment s) r)))
+          (λ r. other (undefined_is_one j.locals.netlist (bit f.assignment) s.0 f.gate ordered
+              (undefined_at f.assignment s) r)))
     ]
   ]
 
@@ -231,10 +242,13 @@ module _ (j : JobState) (is : IsJob j) (ordered : AreOrdered j.locals.netlist.gi
 
   keep_placed : (f : KeepFault) → IsKeepFault j f → In f keeps_of
   keep_placed f h =
-      flat_in (λ k. map (keep_of k) (range_with_len 0 (assignments j))) f j.kept f.gate (among_in j.kept f.gate h.is_kept)
-      (in_map (keep_of f.gate) f.assignment (range_with_len 0 (assignments j)) (in_range (assignments j) f.assignment h.in_range))
+      flat_in (λ k. map (keep_of k) (range_with_len 0 (assignments j))) f j.kept f.gate
+          (among_in j.kept f.gate h.is_kept)
+      (in_map (keep_of f.gate) f.assignment (range_with_len 0 (assignments j))
+          (in_range (assignments j) f.assignment h.in_range))
 
-  keep_everywhere : (o : Option KeepFault) → IsLeastIn keep_cmp keep_total (IsKeepFault j) keep_decided keeps_of o → IsLeastKeepFault j o
+  keep_everywhere : (o : Option KeepFault) → IsLeastIn keep_cmp keep_total (IsKeepFault j) keep_decided keeps_of o →
+      IsLeastKeepFault j o
   keep_everywhere None h = λ f is. h f (keep_placed f is) is
   keep_everywhere (Some f) h = (h.0, λ g is. h.1 g (keep_placed g is) is)
 
@@ -262,7 +276,8 @@ module _ (g : Setting) (ms : List ModuleLines) (i : ℕ) where
       × (halo_signal g.circuit m f.time f.cell.x f.cell.y ≢ edge_signal g.circuit o f.time f.cell.x f.cell.y)
 
   otherwise_decided : (m : ModuleLines) (f : BorderFault) (o : ModuleLines) → Decided (IsOtherwise m f o)
-  otherwise_decided m f o = both_decided (true_decided (in_box o.area f.cell.x f.cell.y)) (λ _. not_decided (signals_decided _ _))
+  otherwise_decided m f o = both_decided (true_decided (in_box o.area f.cell.x f.cell.y))
+      (λ _. not_decided (signals_decided _ _))
 
   abbrev IsBorderFaultOf : ModuleLines → BorderFault → Type 0
   IsBorderFaultOf m f = (f.time % 2 ≡ 1) × ((f.time < g.size.steps) × (IsTrue (in_box (whole g.size) f.cell.x f.cell.y)
@@ -276,7 +291,8 @@ module _ (g : Setting) (ms : List ModuleLines) (i : ℕ) where
       both_decided (true_decided (in_halo m.area f.cell.x f.cell.y)) (λ _.
       some_decided (IsOtherwise m f) (otherwise_decided m f) ms))))
 
-  to_fault : (m : ModuleLines) (f : BorderFault) → slice_get ms i ≡ Some m → IsBorderFaultOf m f → IsBorderFault g ms i f
+  to_fault : (m : ModuleLines) (f : BorderFault) → slice_get ms i ≡ Some m → IsBorderFaultOf m f →
+      IsBorderFault g ms i f
   to_fault m f at h = record {
     odd = h.0;
     early = h.1.0;
@@ -315,7 +331,8 @@ module _ (g : Setting) (ms : List ModuleLines) (i : ℕ) where
       none : (m : ModuleLines) → slice_get ms i ≡ Some m → ⊥
       none m at = cc
   border_decided (Some m) e f = decided_by (to_fault m f e)
-      (λ h. subst (λ n. IsBorderFaultOf n f) (same_module m h.lines e h.numbered) (of_fault f h)) (of_module_decided m f)
+      (λ h. subst (λ n. IsBorderFaultOf n f) (same_module m h.lines e h.numbered) (of_fault f h))
+          (of_module_decided m f)
 
   abbrev border_at : ℕ → Cell → BorderFault
   border_at t d = record { time = t; cell = d }
@@ -325,14 +342,18 @@ module _ (g : Setting) (ms : List ModuleLines) (i : ℕ) where
 
   border_placed : (f : BorderFault) → IsBorderFault g ms i f → In f borders_of
   border_placed f h =
-      flat_in (λ t. map (border_at t) (box_cells (whole g.size))) f (range_with_len 0 g.size.steps) f.time (in_range g.size.steps f.time h.early)
+      flat_in (λ t. map (border_at t) (box_cells (whole g.size))) f (range_with_len 0 g.size.steps) f.time
+          (in_range g.size.steps f.time h.early)
       (in_map (border_at f.time) f.cell (box_cells (whole g.size)) (in_cells_of_box (whole g.size) f.cell h.inside))
 
-  border_everywhere : (o : Option BorderFault) → IsLeastIn border_cmp border_total (IsBorderFault g ms i) (border_decided (slice_get ms i) refl) borders_of o → IsLeastBorderFault g ms i o
+  border_everywhere : (o : Option BorderFault) →
+      IsLeastIn border_cmp border_total (IsBorderFault g ms i) (border_decided (slice_get ms i) refl) borders_of o →
+      IsLeastBorderFault g ms i o
   border_everywhere None h = λ f is. h f (border_placed f is) is
   border_everywhere (Some f) h = (h.0, λ q is. h.1 q (border_placed q is) is)
 
   pub least_border_fault : (o : Option BorderFault) × IsLeastBorderFault g ms i o
   least_border_fault =
-      let l = least_in border_cmp border_total (IsBorderFault g ms i) (border_decided (slice_get ms i) refl) borders_of in
+      let l = least_in border_cmp border_total (IsBorderFault g ms i)
+          (border_decided (slice_get ms i) refl) borders_of in
       (l.least, border_everywhere l.least l.is)

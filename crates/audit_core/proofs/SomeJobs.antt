@@ -29,7 +29,8 @@ use Rattle.module_job.specs.Signals.{IsBelow, IsDemandBelow, renumber_demand, re
 use Rattle.module_job.specs.declared.job.Demand.{Demand}
 use Rattle.module_job.specs.declared.job.Demand.TheVariants as Demanded
 use Rattle.module_job.specs.declared.job.Stop as listed
-use Rattle.certificate.specs.Jobs.{IsJobOf, demand_elsewhere, demand_of, end_demand, line_signals, line_stops, named_wire, numbered_stop, signal_of, start_signal}
+use Rattle.certificate.specs.Jobs.{IsJobOf, demand_elsewhere, demand_of, end_demand, line_signals, line_stops}
+use Rattle.certificate.specs.Jobs.{named_wire, numbered_stop, signal_of, start_signal}
 use Rattle.certificate.proofs.FullModules.{all_of_each}
 use Rattle.certificate.proofs.JobPlaces.{demand_found, start_found}
 use Rattle.certificate.proofs.PlanLemmas.{cells_have_ports}
@@ -60,7 +61,8 @@ are_places ws (x ∷ xs) h =
 
 -- ---- the wires and gates of a module
 
-module _ (n : Netlist) (cuts gates : List ℕ) (ordered : AreOrdered n.given n.gates) (lines : AreLocalLines n cuts gates) where
+module _ (n : Netlist) (cuts gates : List ℕ) (ordered : AreOrdered n.given n.gates)
+    (lines : AreLocalLines n cuts gates) where
   -- the first i gates by other numbers
   Renumbered : ℕ → Type 0
   Renumbered i = (keys : List ℕ) × (done : List Gate) × IsPart n cuts gates i keys done
@@ -80,7 +82,8 @@ module _ (n : Netlist) (cuts gates : List ℕ) (ordered : AreOrdered n.given n.g
       let over : IsOver keys is.gate new = record { kind = refl; within = ins.below; ins = ins.there; outs = refl } in (
         keys ++ is.gate.outs,
         done ++ new ∷ [],
-        part_more n cuts gates i k keys (keys ++ is.gate.outs) done is.gate new ordered part within own is.numbered over refl,
+        part_more n cuts gates i k keys
+            (keys ++ is.gate.outs) done is.gate new ordered part within own is.numbered over refl,
       )
     where
       same_default : (gates : List ℕ) (i : ℕ) → i < length gates → get_or gates i 0 ≡ get_or gates i (get_or gates i 0)
@@ -109,10 +112,12 @@ module _ (n : Netlist) (cuts gates : List ℕ) (ordered : AreOrdered n.given n.g
     where
       by : Renumbered (length gates) → (gates' : List Gate) × HasLocals gates'
       by (keys, done, part) =
-          let same : local_wires n cuts gates ≡ keys = sym (part.known ∙ ap (local_wires n cuts) (take_all (length gates) gates (omega arith))) in (
+          let same : local_wires n cuts gates ≡ keys = sym
+              (part.known ∙ ap (local_wires n cuts) (take_all (length gates) gates (omega arith))) in (
             done,
             record {
-              are = part_all n cuts gates keys (local_wires n cuts gates) gates (length gates) done lines part refl same refl;
+              are = part_all n cuts gates keys (local_wires n cuts gates) gates
+                  (length gates) done lines part refl same refl;
               count = part.count;
             },
           )
@@ -131,7 +136,8 @@ module _ (ws : List ℕ) where
       let more = cells_back f cells h.1 in
       record {
         back = ap₂ (λ s l. s ∷ l) h.0.back more.back;
-        below = All-cons (IsBelow (length ws)) (numbered ws (f d)) (map (λ d. numbered ws (f d)) cells) h.0.below more.below;
+        below = All-cons (IsBelow (length ws)) (numbered ws (f d))
+            (map (λ d. numbered ws (f d)) cells) h.0.below more.below;
       }
 
   demanded : Demand → Demand
@@ -155,13 +161,15 @@ module _ (ws : List ℕ) where
       let more = demands_back f cells h.1 in
       record {
         back = ap₂ (λ s l. s ∷ l) h.0.back more.back;
-        below = All-cons (IsDemandBelow (length ws)) (demanded (f d)) (map (λ d. demanded (f d)) cells) h.0.below more.below;
+        below = All-cons (IsDemandBelow (length ws)) (demanded (f d))
+            (map (λ d. demanded (f d)) cells) h.0.below more.below;
       }
 
   demand_numbered : (o : Option ℕ) → is_local_wire ws o ≡ true → IsDemanded (demand_of o)
   unfolding demanded
   demand_numbered None h = absurd cc
-  demand_numbered (Some w) h = let p = is_place ws w h in record { back = ap (λ v. Demanded.Wire v) p.there; below = p.below }
+  demand_numbered (Some w) h = let p = is_place ws w h in record { back = ap
+      (λ v. Demanded.Wire v) p.there; below = p.below }
 
   -- ---- its stops
 
@@ -172,7 +180,8 @@ module _ (ws : List ℕ) where
     pub back : map (renumber_stop (slice_index ws)) (map placed_stop ss) ≡ ss
     pub below : All (λ s. s.wire < length ws) (map placed_stop ss)
 
-  one_stop : (s : StopLine) (o : Option ℕ) (ss : List listed.Stop) → is_local_wire ws o ≡ true → StopsBack ss → StopsBack (numbered_stop s o ++ ss)
+  one_stop : (s : StopLine) (o : Option ℕ) (ss : List listed.Stop) → is_local_wire ws o ≡ true → StopsBack ss →
+      StopsBack (numbered_stop s o ++ ss)
   unfolding placed_stop
   one_stop s None ss h more = absurd cc
   one_stop s (Some w) ss h more =
@@ -182,19 +191,22 @@ module _ (ws : List ℕ) where
         below = All-cons (λ (s : listed.Stop). s.wire < length ws) _ (map placed_stop ss) p.below more.below;
       }
 
-  stops_back : (c : Circuit) (ss : List StopLine) → Each (λ s. is_local c ws s.wire ≡ true) ss → StopsBack (line_stops c ss)
+  stops_back : (c : Circuit) (ss : List StopLine) → Each (λ s. is_local c ws s.wire ≡ true) ss →
+      StopsBack (line_stops c ss)
   unfolding Each
   stops_back c [] h = record { back = refl; below = All-nil (λ (s : listed.Stop). s.wire < length ws) }
   stops_back c (s ∷ ss) h = one_stop s (wire_of c s.wire) (line_stops c ss) h.0 (stops_back c ss h.1)
 
-each_at_place : {A : Type 0} (P : A → Type 0) (xs : List A) → ((k : ℕ) (x : A) → slice_get xs k ≡ Some x → P x) → Each P xs
+each_at_place : {A : Type 0} (P : A → Type 0) (xs : List A) → ((k : ℕ) (x : A) → slice_get xs k ≡ Some x → P x) →
+    Each P xs
 unfolding Each
 each_at_place P [] h = tt
 each_at_place P (x ∷ xs) h = (h 0 x refl, each_at_place P xs (λ k. h (suc k)))
 
 -- ---- the job
 
-module _ (lines : List Entry) (p : Pattern) (m : ModuleLines) (ordered : AreOrdered (netlist_of lines).given (netlist_of lines).gates)
+module _ (lines : List Entry) (p : Pattern) (m : ModuleLines)
+    (ordered : AreOrdered (netlist_of lines).given (netlist_of lines).gates)
     (is : IsModule (setting_of lines p) m) (ports : HasPorts (setting_of lines p) m) where
   abbrev c : Circuit
   c = circuit_of lines
@@ -223,7 +235,8 @@ module _ (lines : List Entry) (p : Pattern) (m : ModuleLines) (ordered : AreOrde
   abbrev demands : Cell → Demand
   demands d = end_demand c p d.x d.y
 
-  start_by : (b : Bool) (o : Option (List ℕ)) → IfSome o (λ name. IsTrue (is_local c ws name)) → IsNumbered ws (if b then One else signal_of (named_wire c o))
+  start_by : (b : Bool) (o : Option (List ℕ)) → IfSome o (λ name. IsTrue (is_local c ws name)) →
+      IsNumbered ws (if b then One else signal_of (named_wire c o))
   unfolding numbered
   start_by true o h = record { back = refl; below = tt }
   start_by false None h = record { back = refl; below = tt }
@@ -231,41 +244,50 @@ module _ (lines : List Entry) (p : Pattern) (m : ModuleLines) (ordered : AreOrde
 
   start_numbered : (x y : ℤ) → in_box m.area x y ≡ true → IsNumbered ws (start_signal c p x y)
   unfolding start_signal
-  start_numbered x y h = start_by (in_rectangles p.mirrors x y || in_cells p.balls x y) (port_at p.ins x y) ((cells_have_ports lines p m ports).0 x y h)
+  start_numbered x y h = start_by (in_rectangles p.mirrors x y || in_cells p.balls x y) (port_at p.ins x y)
+      ((cells_have_ports lines p m ports).0 x y h)
 
-  elsewhere : (o : Option (List ℕ)) (waste : Bool) → IfSome o (λ name. IsTrue (is_local c ws name)) → IsDemanded ws (demand_elsewhere c o waste)
+  elsewhere : (o : Option (List ℕ)) (waste : Bool) → IfSome o (λ name. IsTrue (is_local c ws name)) →
+      IsDemanded ws (demand_elsewhere c o waste)
   unfolding demanded
   elsewhere None true h = record { back = refl; below = tt }
   elsewhere None false h = record { back = refl; below = tt }
   elsewhere (Some name) waste h = demand_numbered ws (wire_of c name) h
 
-  end_by : (b : Bool) (o : Option (List ℕ)) (waste : Bool) → IfSome o (λ name. IsTrue (is_local c ws name)) → IsDemanded ws (if b then Demanded.Live else demand_elsewhere c o waste)
+  end_by : (b : Bool) (o : Option (List ℕ)) (waste : Bool) → IfSome o (λ name. IsTrue (is_local c ws name)) →
+      IsDemanded ws (if b then Demanded.Live else demand_elsewhere c o waste)
   unfolding demanded
   end_by true o waste h = record { back = refl; below = tt }
   end_by false o waste h = elsewhere o waste h
 
   demand_is_numbered : (x y : ℤ) → in_box m.area x y ≡ true → IsDemanded ws (end_demand c p x y)
   unfolding end_demand
-  demand_is_numbered x y h = end_by (in_rectangles p.mirrors x y) (port_at p.outs x y) (in_cells p.wastes x y) ((cells_have_ports lines p m ports).1 x y h)
+  demand_is_numbered x y h = end_by (in_rectangles p.mirrors x y) (port_at p.outs x y) (in_cells p.wastes x y)
+      ((cells_have_ports lines p m ports).1 x y h)
 
   starts_back : CellsBack ws starts (box_cells m.area)
-  starts_back = cells_back ws starts (box_cells m.area) (each_at_place (λ d. IsNumbered ws (starts d)) (box_cells m.area)
+  starts_back = cells_back ws starts (box_cells m.area)
+      (each_at_place (λ d. IsNumbered ws (starts d)) (box_cells m.area)
       (λ k d at. start_numbered d.x d.y (cells_inside m.area k d at)))
 
   ends_back : DemandsBack ws demands (box_cells m.area)
-  ends_back = demands_back ws demands (box_cells m.area) (each_at_place (λ d. IsDemanded ws (demands d)) (box_cells m.area)
+  ends_back = demands_back ws demands (box_cells m.area)
+      (each_at_place (λ d. IsDemanded ws (demands d)) (box_cells m.area)
       (λ k d at. demand_is_numbered d.x d.y (cells_inside m.area k d at)))
 
   -- its lines
 
   edges_back : IsBack c ws (line_signals c (edges m)).held (line_signals c (edges m)).events
-  edges_back = lines_back c ws (edges m) (each_of_all (IsNamed c ws) (edges m) (λ k d lt. (is.edge_lines k d lt).border.signal))
+  edges_back = lines_back c ws (edges m)
+      (each_of_all (IsNamed c ws) (edges m) (λ k d lt. (is.edge_lines k d lt).border.signal))
 
   halos_back : IsBack c ws (line_signals c (halos m)).held (line_signals c (halos m)).events
-  halos_back = lines_back c ws (halos m) (each_of_all (IsNamed c ws) (halos m) (λ k d lt. (is.halo_lines k d lt).border.signal))
+  halos_back = lines_back c ws (halos m)
+      (each_of_all (IsNamed c ws) (halos m) (λ k d lt. (is.halo_lines k d lt).border.signal))
 
   own_stops : StopsBack ws (line_stops c (stops m))
-  own_stops = stops_back ws c (stops m) (each_of_all (λ s. is_local c ws s.wire ≡ true) (stops m) (λ k d lt. (is.stop_lines k d lt).wire))
+  own_stops = stops_back ws c (stops m)
+      (each_of_all (λ s. is_local c ws s.wire ≡ true) (stops m) (λ k d lt. (is.stop_lines k d lt).wire))
 
   own_keeps : ArePlaces (gates m) (keeps m)
   own_keeps = are_places (gates m) (keeps m) (λ k d lt. (is.keep_lines k d lt).among)
@@ -283,7 +305,8 @@ module _ (lines : List Entry) (p : Pattern) (m : ModuleLines) (ordered : AreOrde
     kept = places (gates m) (keeps m);
   }
 
-  signals_below : {X : Type 0} (signal : X → Signal) (xs : List X) → Each (λ x. IsBelow (length ws) (signal x)) xs → All (λ x. IsBelow (wires net.netlist) (signal x)) xs
+  signals_below : {X : Type 0} (signal : X → Signal) (xs : List X) → Each (λ x. IsBelow (length ws) (signal x)) xs →
+      All (λ x. IsBelow (wires net.netlist) (signal x)) xs
   signals_below signal xs h = all_of_each _ xs (subst (λ n. Each (λ x. IsBelow n (signal x)) xs) sized h)
 
   is_job_of : IsJobOf c p m job
@@ -297,8 +320,10 @@ module _ (lines : List Entry) (p : Pattern) (m : ModuleLines) (ordered : AreOrde
     used = refl;
     start_count = same_count (renumber_signal (slice_index ws)) starts m.area job.starts starts_back.back;
     demand_count = same_count (renumber_demand (slice_index ws)) demands m.area job.demands ends_back.back;
-    start = start_found c p m.area job refl (found_at (renumber_signal (slice_index ws)) starts m.area job.starts Zero starts_back.back);
-    demand = demand_found c p m.area job refl (found_at (renumber_demand (slice_index ws)) demands m.area job.demands Demanded.Dead ends_back.back);
+    start = start_found c p m.area job refl
+        (found_at (renumber_signal (slice_index ws)) starts m.area job.starts Zero starts_back.back);
+    demand = demand_found c p m.area job refl
+        (found_at (renumber_demand (slice_index ws)) demands m.area job.demands Demanded.Dead ends_back.back);
     edges = ap₂ (λ a b. record { held = a; events = b }) edges_back.held edges_back.events;
     halos = ap₂ (λ a b. record { held = a; events = b }) halos_back.held halos_back.events;
     stops = own_stops.back;

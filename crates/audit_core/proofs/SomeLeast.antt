@@ -1,6 +1,7 @@
 -- The least of the elements of a list for which a fact holds that can be decided
 use Rattle.std.proofs.Common.{◌≡◌, ◌≢◌, ◌⊎◌, ◌<◌, ◌+◌, ◌∷◌, ◌∙◌, [], ℕ, zero, suc, Bool, true, false, List, Option}
-use Rattle.std.proofs.Common.{Some, None, Ordering, Less, Equal, Greater, refl, sym, ap, subst, map, eqb, inl, inr, arith}
+use Rattle.std.proofs.Common.{Some, None, Ordering, Less, Equal, Greater, refl, sym, ap, subst, map, eqb, inl, inr}
+use Rattle.std.proofs.Common.{arith}
 use Rattle.std.specs.Prelude.{slice_get, ◌||◌}
 use Rattle.std.specs.List.{range_with_len}
 use Rattle.std.specs.Ordering.{is_gt, ordering_reverse}
@@ -98,7 +99,8 @@ in_range n k lt = subst (λ m. In m (range_with_len 0 n)) (from_zero k) (in_rang
     from_zero : (k : ℕ) → 0 + k ≡ k
     from_zero k = omega arith
 
-among_by : (v w : ℕ) (ws : List ℕ) (b : Bool) → eqb v w ≡ b → (b || is_among ws w) ≡ true → (is_among ws w ≡ true → In w ws) → In w (v ∷ ws)
+among_by : (v w : ℕ) (ws : List ℕ) (b : Bool) → eqb v w ≡ b → (b || is_among ws w) ≡ true →
+    (is_among ws w ≡ true → In w ws) → In w (v ∷ ws)
 unfolding In
 among_by v w ws true same e later = inl (eqb-true v w same)
 among_by v w ws false other e later = inr (later e)
@@ -110,7 +112,8 @@ among_in (v ∷ ws) w e = among_by v w ws (eqb v w) refl e (among_in ws w)
 
 -- ---- the least
 
-module _ {A : Type 0} (cmp : A → A → Ordering) (total : IsTotalOrder cmp) (P : A → Type 0) (decide : (a : A) → Decided (P a)) where
+module _ {A : Type 0} (cmp : A → A → Ordering) (total : IsTotalOrder cmp) (P : A → Type 0)
+    (decide : (a : A) → Decided (P a)) where
   abbrev pub IsLeastIn : List A → Option A → Type 0
   IsLeastIn xs None = (a : A) → In a xs → ¬ P a
   IsLeastIn xs (Some f) = P f × ((a : A) → In a xs → P a → cmp f a ≢ Greater)

@@ -1,5 +1,6 @@
 -- Ordered gates have values, or there is a first gate that has no row
-use Rattle.std.proofs.Common.{◌≡◌, ◌⊎◌, ◌<◌, ◌∙◌, ℕ, Bool, List, Option, Some, None, refl, sym, subst, map, length, false, inl, inr, arith}
+use Rattle.std.proofs.Common.{◌≡◌, ◌⊎◌, ◌<◌, ◌∙◌, ℕ, Bool, List, Option, Some, None, refl, sym, subst, map, length}
+use Rattle.std.proofs.Common.{false, inl, inr, arith}
 use Rattle.std.specs.List.{range_with_len}
 use Rattle.std.proofs.lemmas.List.{length-map}
 use Rattle.std.proofs.lemmas.List.FromFn.{get_or-map-range_with_len, length-range_with_len}

@@ -1,6 +1,8 @@
 -- The modules of a certificate have jobs and a verdict
-use Rattle.std.proofs.Common.{◌≡◌, ◌≤◌, ◌<◌, ◌+◌, ◌*◌, ◌^◌, ◌&&◌, ◌||◌, ◌++◌, ◌∷◌, ◌∙◌, [], ℕ, zero, suc, Bool, true, false, not}
-use Rattle.std.proofs.Common.{List, Option, Some, None, Vec, Global, refl, sym, ap, subst, map, length, get_or, cond, inl, inr, arith}
+use Rattle.std.proofs.Common.{◌≡◌, ◌≤◌, ◌<◌, ◌+◌, ◌*◌, ◌^◌, ◌&&◌, ◌||◌, ◌++◌, ◌∷◌, ◌∙◌, [], ℕ, zero, suc, Bool, true}
+use Rattle.std.proofs.Common.{false, not}
+use Rattle.std.proofs.Common.{List, Option, Some, None, Vec, Global, refl, sym, ap, subst, map, length, get_or, cond}
+use Rattle.std.proofs.Common.{inl, inr, arith}
 use Rattle.std.proofs.Common.{append-nil, append_assoc, length-append}
 use Rattle.std.specs.Prelude.{nat_le, nat_lt, slice_get}
 use Rattle.std.specs.Option.{option_map, option_to_list}
@@ -27,7 +29,8 @@ use Rattle.module_job.specs.Jobs.{IsJob, JobState}
 use Rattle.certificate.specs.Jobs.{AreJobsOf, IsJobOf}
 use Rattle.certificate.specs.Keeps.{is_kept, unkept_from}
 use Rattle.certificate.specs.StopLists.{AreStops}
-use Rattle.certificate.specs.Times.{agreed, all_stops, are_all_kept, delay_by, delay_line, first_seen, gap_between, last_seen, last_times, lines_by, meet_by, meet_line, numbered, of_wire, time_lines}
+use Rattle.certificate.specs.Times.{agreed, all_stops, are_all_kept, delay_by, delay_line, first_seen, gap_between}
+use Rattle.certificate.specs.Times.{last_seen, last_times, lines_by, meet_by, meet_line, numbered, of_wire, time_lines}
 use Rattle.certificate.specs.declared.times.Gap.{Gap}
 use Rattle.certificate.specs.declared.times.TimeLine.{TimeLine}
 use Rattle.certificate.specs.declared.times.TimeLine.TheVariants.{Meet}
@@ -36,7 +39,8 @@ use Rattle.certificate.proofs.StopLemmas.{stops_rise, stops_stand}
 use Rattle.border_match.specs.BorderFaults.{AreBorderFaultsOf, IsLeastBorderFault}
 use Rattle.border_match.specs.declared.fault.BorderFault.{BorderFault}
 use Rattle.audit_core.specs.ModuleLaws.{ModulesHaveVerdict}
-use Rattle.audit_core.specs.Verdicts.{AreLeastFaults, IsToldOf, IsVerdict, border_line, keep_line, lines_from, local_line}
+use Rattle.audit_core.specs.Verdicts.{AreLeastFaults, IsToldOf, IsVerdict, border_line, keep_line, lines_from}
+use Rattle.audit_core.specs.Verdicts.{local_line}
 use Rattle.audit_core.specs.Verdicts.{renumber_keep, timing, unkept_lines}
 use Rattle.audit_core.specs.declared.verdict.Reasons.{Reasons}
 use Rattle.audit_core.specs.declared.verdict.ReportLine.{ReportLine}
@@ -65,8 +69,11 @@ three_each n (f ∷ fs) (b ∷ bs) =
     let a = few_of (local_line n f.fault) in
     let k = few_of (keep_line n f.keep) in
     let c = few_of (border_line n b) in
-    let sum = length-append (option_to_list (local_line n f.fault) ++ option_to_list (keep_line n f.keep) ++ option_to_list (border_line n b)) (lines_from (n + 1) fs bs) in
-    let two = length-append (option_to_list (local_line n f.fault) ++ option_to_list (keep_line n f.keep)) (option_to_list (border_line n b)) in
+    let sum = length-append
+        (option_to_list (local_line n f.fault) ++ option_to_list (keep_line n f.keep) ++ option_to_list
+        (border_line n b)) (lines_from (n + 1) fs bs) in
+    let two = length-append (option_to_list (local_line n f.fault) ++ option_to_list (keep_line n f.keep))
+        (option_to_list (border_line n b)) in
     let one = length-append (option_to_list (local_line n f.fault)) (option_to_list (keep_line n f.keep)) in
     omega (arith, more, a, k, c, sum, two, one)
 
@@ -84,7 +91,8 @@ one_each ms n (g ∷ gs) =
     at_most n true = omega arith
     at_most n false = omega arith
 
-line_each : (f : ℕ → Gate → List TimeLine) → ((k : ℕ) (g : Gate) → length (f k g) ≤ 1) → (k : ℕ) (gs : List Gate) → length (numbered f k gs) ≤ length gs
+line_each : (f : ℕ → Gate → List TimeLine) → ((k : ℕ) (g : Gate) → length (f k g) ≤ 1) → (k : ℕ) (gs : List Gate) →
+    length (numbered f k gs) ≤ length gs
 unfolding numbered
 line_each f few k [] = omega arith
 line_each f few k (g ∷ gs) =
@@ -112,7 +120,8 @@ few_meetings k ts = by (nat_le 2 (length ts)) (agreed ts)
 
 two_each : (first last : ℕ → Option ℕ) (gs : List Gate) → length (lines_by first last gs) ≤ 2 * length gs
 two_each first last gs =
-    let a = line_each (delay_line first last) (λ k g. few_delays k g.kind (gap_between (of_wire last g.ins) (of_wire first g.outs))) 0 gs in
+    let a = line_each (delay_line first last)
+        (λ k g. few_delays k g.kind (gap_between (of_wire last g.ins) (of_wire first g.outs))) 0 gs in
     let b = line_each (meet_line last) (λ k g. few_meetings k (last_times last g.ins)) 0 gs in
     let sum = length-append (numbered (delay_line first last) 0 gs) (numbered (meet_line last) 0 gs) in
     omega (arith, a, b, sum)
@@ -134,18 +143,22 @@ one_gate_more : (b : Bool) (n : ℕ) → (b && nat_le 1024 n) ≡ false → n �
 one_gate_more true n e le = grind (arith, nat_tests)
 one_gate_more false n e le = omega (arith, le)
 
-gates_below : (before rest : List Entry) → AreGoodAfter before rest → gate_count before ≤ 1024 → gate_count (before ++ rest) ≤ 1024
+gates_below : (before rest : List Entry) → AreGoodAfter before rest → gate_count before ≤ 1024 →
+    gate_count (before ++ rest) ≤ 1024
 unfolding AreGoodAfter add_fault
 gates_below before [] good h = subst (λ l. gate_count l ≤ 1024) (sym (append-nil before)) h
 gates_below before (r ∷ rest) good h =
     let passes = no_code (passes_limit before r) _ (first_none _ _ good.0.adds) in
-    let last = last_false (is_wrong_delay r.kind) (nat_lt 4096 (length (defined before) + length r.outs)) (is_gate r.kind && nat_le 1024 (gate_count before)) passes in
+    let last = last_false (is_wrong_delay r.kind) (nat_lt 4096 (length (defined before) + length r.outs))
+        (is_gate r.kind && nat_le 1024 (gate_count before)) passes in
     let count : gate_count (before ++ r ∷ []) ≡ gate_count before + cond (is_gate r.kind) 1 0 =
     count_append (λ (r : Entry). is_gate r.kind) before (r ∷ []) ∙ omega arith in
-    let turned : gate_count before + cond (is_gate r.kind) 1 0 ≡ cond (is_gate r.kind) 1 0 + gate_count before = omega arith in
+    let turned : gate_count before + cond (is_gate r.kind) 1 0 ≡ cond
+        (is_gate r.kind) 1 0 + gate_count before = omega arith in
     let more : gate_count (before ++ r ∷ []) ≤ 1024 =
     subst (λ n. n ≤ 1024) (sym (count ∙ turned)) (one_gate_more (is_gate r.kind) (gate_count before) last h) in
-    subst (λ l. gate_count l ≤ 1024) (append_assoc before (r ∷ []) rest) (gates_below (before ++ r ∷ []) rest good.1 more)
+    subst (λ l. gate_count l ≤ 1024) (append_assoc before (r ∷ []) rest)
+        (gates_below (before ++ r ∷ []) rest good.1 more)
 
 few_gates : (lines : List Entry) → AreGood lines → length (netlist_of lines).gates ≤ 1024
 few_gates lines good =
@@ -177,8 +190,10 @@ vec_of xs small = record {
 nothing : {A : Type 0} (k : ℕ) (a : A) → slice_get {X = A} [] k ≡ Some a → ⊥
 nothing k a at = cc
 
-all_jobs : (lines : List Entry) (p : Pattern) (ms : List ModuleLines) → AreOrdered (netlist_of lines).given (netlist_of lines).gates →
-    ((k : ℕ) (m : ModuleLines) → slice_get ms k ≡ Some m → IsModule (setting_of lines p) m × HasPorts (setting_of lines p) m) →
+all_jobs : (lines : List Entry) (p : Pattern) (ms : List ModuleLines) →
+    AreOrdered (netlist_of lines).given (netlist_of lines).gates →
+    ((k : ℕ) (m : ModuleLines) → slice_get ms k ≡ Some m →
+        IsModule (setting_of lines p) m × HasPorts (setting_of lines p) m) →
     (js : List JobState) × AreJobsOf (circuit_of lines) p ms js
 all_jobs lines p [] ordered each = ([], record { count = refl; each = λ k m j at. absurd (nothing k m at) })
 all_jobs lines p (m ∷ ms) ordered each =
@@ -187,15 +202,19 @@ all_jobs lines p (m ∷ ms) ordered each =
     let more = all_jobs lines p ms ordered (λ k. each (suc k)) in
     (one.0 ∷ more.0, record { count = ap suc more.1.count; each = at_each one.0 one.1 more.0 more.1 })
   where
-    at_each : (j : JobState) → IsJobOf (circuit_of lines) p m j → (js : List JobState) → AreJobsOf (circuit_of lines) p ms js →
-        (k : ℕ) (n : ModuleLines) (i : JobState) → slice_get (m ∷ ms) k ≡ Some n → slice_get (j ∷ js) k ≡ Some i → IsJobOf (circuit_of lines) p n i
+    at_each : (j : JobState) → IsJobOf (circuit_of lines) p m j → (js : List JobState) →
+        AreJobsOf (circuit_of lines) p ms js →
+        (k : ℕ) (n : ModuleLines) (i : JobState) → slice_get (m ∷ ms) k ≡ Some n → slice_get (j ∷ js) k ≡ Some i →
+            IsJobOf (circuit_of lines) p n i
     at_each j is js are zero n i at there =
         let same : m ≡ n = cc in
         let alike : j ≡ i = cc in
         subst (λ n. IsJobOf (circuit_of lines) p n i) same (subst (IsJobOf (circuit_of lines) p m) alike is)
     at_each j is js are (suc k) n i at there = are.each k n i at there
 
-all_reasons : (js : List JobState) → ((k : ℕ) (j : JobState) → slice_get js k ≡ Some j → IsJob j × AreOrdered j.locals.netlist.given j.locals.netlist.gates) →
+all_reasons : (js : List JobState) →
+    ((k : ℕ) (j : JobState) → slice_get js k ≡ Some j →
+    IsJob j × AreOrdered j.locals.netlist.given j.locals.netlist.gates) →
     (fs : List Reasons) × AreLeastFaults js fs
 all_reasons [] each = ([], record { count = refl; each = λ k j f at. absurd (nothing k j at) })
 all_reasons (j ∷ js) each =
@@ -208,7 +227,8 @@ all_reasons (j ∷ js) each =
     (reasons ∷ more.0, record { count = ap suc more.1.count; each = at_each reasons told more.0 more.1 })
   where
     at_each : (r : Reasons) → IsToldOf j r → (fs : List Reasons) → AreLeastFaults js fs →
-        (k : ℕ) (i : JobState) (f : Reasons) → slice_get (j ∷ js) k ≡ Some i → slice_get (r ∷ fs) k ≡ Some f → IsToldOf i f
+        (k : ℕ) (i : JobState) (f : Reasons) → slice_get (j ∷ js) k ≡ Some i → slice_get (r ∷ fs) k ≡ Some f →
+            IsToldOf i f
     at_each r is fs are zero i f at there =
         let same : j ≡ i = cc in
         let alike : r ≡ f = cc in
@@ -219,14 +239,16 @@ record AreBordersFrom (g : Setting) (ms : List ModuleLines) (n many : ℕ) (fs :
   pub count : length fs ≡ many
   pub each : (i : ℕ) (f : Option BorderFault) → slice_get fs i ≡ Some f → IsLeastBorderFault g ms (n + i) f
 
-all_borders : (g : Setting) (ms : List ModuleLines) (count n : ℕ) → (fs : List (Option BorderFault)) × AreBordersFrom g ms n count fs
+all_borders : (g : Setting) (ms : List ModuleLines) (count n : ℕ) →
+    (fs : List (Option BorderFault)) × AreBordersFrom g ms n count fs
 all_borders g ms zero n = ([], record { count = refl; each = λ i f at. absurd (nothing i f at) })
 all_borders g ms (suc count) n =
     let one = least_border_fault g ms n in
     let more = all_borders g ms count (n + 1) in
     (one.0 ∷ more.0, record { count = ap suc more.1.count; each = at_each one.0 one.1 more.0 more.1 })
   where
-    at_each : (o : Option BorderFault) → IsLeastBorderFault g ms n o → (fs : List (Option BorderFault)) → AreBordersFrom g ms (n + 1) count fs →
+    at_each : (o : Option BorderFault) → IsLeastBorderFault g ms n o → (fs : List (Option BorderFault)) →
+        AreBordersFrom g ms (n + 1) count fs →
         (i : ℕ) (f : Option BorderFault) → slice_get (o ∷ fs) i ≡ Some f → IsLeastBorderFault g ms (n + i) f
     at_each o is fs are zero f at =
         let same : o ≡ f = cc in
@@ -238,7 +260,8 @@ all_borders g ms (suc count) n =
 
 -- ---- a job of a module is a good one
 
-job_good : (lines : List Entry) (p : Pattern) (m : ModuleLines) (j : JobState) → size_fault p.size ≡ None → IsModule (setting_of lines p) m →
+job_good : (lines : List Entry) (p : Pattern) (m : ModuleLines) (j : JobState) → size_fault p.size ≡ None →
+    IsModule (setting_of lines p) m →
     IsJobOf (circuit_of lines) p m j → IsJob j
 job_good lines p m j limits own is =
     let c = circuit_of lines in
@@ -253,9 +276,11 @@ job_good lines p m j limits own is =
       own = is.own;
       stops = λ k d lt. record {
         time = stops_stand (λ q. q.time ≤ j.steps) c j.locals (stops m) j.stops said
-            (λ i r below. subst (λ n. (get_or (stops m) i r).time ≤ n) (sym is.steps) (own.stop_lines i r below).time) k d lt;
+            (λ i r below. subst (λ n. (get_or (stops m) i r).time ≤ n) (sym is.steps)
+                (own.stop_lines i r below).time) k d lt;
         inside = stops_stand (λ q. in_box j.area q.cell.x q.cell.y ≡ true) c j.locals (stops m) j.stops said
-            (λ i r below. subst (λ (b : Box2). in_box b (get_or (stops m) i r).cell.x (get_or (stops m) i r).cell.y ≡ true) area (own.stop_lines i r below).inside) k d lt;
+            (λ i r below. subst (λ (b : Box2). in_box b (get_or (stops m) i r).cell.x
+                (get_or (stops m) i r).cell.y ≡ true) area (own.stop_lines i r below).inside) k d lt;
       };
       stops_rise = stops_rise c j.locals m.lines j.stops own.order said;
     }
@@ -266,7 +291,8 @@ empty_decided : {A : Type 0} (xs : List A) → Decided (xs ≡ [])
 empty_decided [] = inl refl
 empty_decided (x ∷ xs) = inr (λ e. cc)
 
-module _ (lines : List Entry) (p : Pattern) (ms : List ModuleLines) (good : AreGood lines) (limits : size_fault p.size ≡ None)
+module _ (lines : List Entry) (p : Pattern) (ms : List ModuleLines) (good : AreGood lines)
+    (limits : size_fault p.size ≡ None)
     (are : AreModules (setting_of lines p) ms) where
   abbrev g : Setting
   g = setting_of lines p
@@ -280,10 +306,12 @@ module _ (lines : List Entry) (p : Pattern) (ms : List ModuleLines) (good : AreG
   abbrev js : List JobState
   js = own_jobs.0
 
-  good_at : (k : ℕ) (j : JobState) → slice_get js k ≡ Some j → IsJob j × AreOrdered j.locals.netlist.given j.locals.netlist.gates
+  good_at : (k : ℕ) (j : JobState) → slice_get js k ≡ Some j →
+      IsJob j × AreOrdered j.locals.netlist.given j.locals.netlist.gates
   good_at k j at = by (slice_get ms k) refl
     where
-      by : (o : Option ModuleLines) → slice_get ms k ≡ o → IsJob j × AreOrdered j.locals.netlist.given j.locals.netlist.gates
+      by : (o : Option ModuleLines) → slice_get ms k ≡ o →
+          IsJob j × AreOrdered j.locals.netlist.given j.locals.netlist.gates
       by None e =
           let past = none-past ms k e in
           let below : k < length js = slice_get_within js k j at in
@@ -337,7 +365,8 @@ module _ (lines : List Entry) (p : Pattern) (ms : List ModuleLines) (good : AreG
 
   verdict : (v : Verdict) × IsVerdict g ms js v
   unfolding IsVerdict
-  verdict = elim (both_decided (empty_decided (lines_from 0 fs bs ++ unkept_lines g ms)) (λ _. true_decided (are_all_kept (time_lines g.circuit ms)))) [
+  verdict = elim (both_decided (empty_decided (lines_from 0 fs bs ++ unkept_lines g ms))
+      (λ _. true_decided (are_all_kept (time_lines g.circuit ms)))) [
     | inl h ↦ (Yes, accepted g ms js fs bs reasons.1 are_borders same_count h.0 h.1)
     | inr not_so ↦
         let v = vec_of all_lines few_lines in (

@@ -1,5 +1,6 @@
 -- Books that are filled up: each number without a finding gets one, in order
-use Rattle.std.specs.Prelude.{◌≡◌, ℕ, zero, suc, ◌<◌, ◌≤◌, ◌⊎◌, true, false, if◌then◌else◌, List, [], ◌∷◌, ◌++◌, length, map, Some, IsSome, is_some, ◌+◌, ◌-◌, ◌^◌, ◌==◌, slice_index}
+use Rattle.std.specs.Prelude.{◌≡◌, ℕ, zero, suc, ◌<◌, ◌≤◌, ◌⊎◌, true, false, if◌then◌else◌, List, [], ◌∷◌, ◌++◌, length}
+use Rattle.std.specs.Prelude.{map, Some, IsSome, is_some, ◌+◌, ◌-◌, ◌^◌, ◌==◌, slice_index}
 use Rattle.module_job.specs.Groups.{AreGroups}
 use Rattle.module_job.specs.Jobs.{JobState}
 use Rattle.module_job.specs.Shapes.{ShapeState, shape_of}
@@ -84,4 +85,5 @@ firsts groups (suc n) = firsts groups n + (if slice_index groups n == n then 1 e
 
 -- a count of runs after at most one for each shape
 abbrev pub RunsOneForEach : List ShapeState → ℕ → ℕ → Type 0
-RunsOneForEach shapes before after = (groups : List ℕ) → AreGroups shapes groups → after ≤ before + firsts groups (length shapes)
+RunsOneForEach shapes before after = (groups : List ℕ) → AreGroups shapes groups →
+    after ≤ before + firsts groups (length shapes)

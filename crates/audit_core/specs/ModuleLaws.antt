@@ -34,5 +34,6 @@ pub record HasVerdict (lines : List Entry) (p : Pattern) (ms : List ModuleLines)
 
 -- the modules of a certificate have a verdict, where circuit, layout and modules are as the grammars ask
 abbrev pub ModulesHaveVerdict : Type 0
-ModulesHaveVerdict = (lines : List Entry) (p : Pattern) (ms : List ModuleLines) → AreGood lines → size_fault p.size ≡ None →
+ModulesHaveVerdict = (lines : List Entry) (p : Pattern) (ms : List ModuleLines) → AreGood lines →
+    size_fault p.size ≡ None →
     AreModules (setting_of lines p) ms → HasVerdict lines p ms

@@ -1,5 +1,6 @@
 -- A text has a report
-use Rattle.std.proofs.Common.{◌≡◌, ◌++◌, ◌∷◌, ◌∙◌, [], ℕ, List, Option, Some, None, Ok, refl, sym, ap, ap₂, subst, append-nil, append_assoc}
+use Rattle.std.proofs.Common.{◌≡◌, ◌++◌, ◌∷◌, ◌∙◌, [], ℕ, List, Option, Some, None, Ok, refl, sym, ap, ap₂, subst}
+use Rattle.std.proofs.Common.{append-nil, append_assoc}
 use Rattle.section_text.proofs.Good.{AreFaultless, IsFaultless}
 use Rattle.section_text.specs.Codes.{or_else}
 use Rattle.section_text.specs.Ports.{Named}
@@ -34,7 +35,8 @@ record HasLines (s : Extent) (parts : List Part) : Type 0 where
   pub size : layout.size ≡ s
   pub are : parts_of layout ≡ parts
 
-with_part : (p : Pattern) (part : Part) → order_fault (parts_of p) part ≡ None → HasLines p.size (parts_of p ++ part ∷ [])
+with_part : (p : Pattern) (part : Part) → order_fault (parts_of p) part ≡ None →
+    HasLines p.size (parts_of p ++ part ∷ [])
 with_part p (Mirror r) follows = record {
   layout = record p { mirrors = p.mirrors ++ r ∷ [] };
   size = refl;
@@ -65,17 +67,23 @@ first_none : (a b : Option ℕ) → or_else a b ≡ None → a ≡ None
 first_none None b e = refl
 first_none (Some code) b e = absurd cc
 
-follows : (ports : Option Named) (s : Extent) (before : List Part) (part : Part) → part_fault ports s before part ≡ None → order_fault before part ≡ None
+follows : (ports : Option Named) (s : Extent) (before : List Part) (part : Part) →
+    part_fault ports s before part ≡ None → order_fault before part ≡ None
 unfolding part_fault line_fault
 follows ports s before part e = first_none (order_fault before part) _ (first_none _ _ e)
 
-more_parts : (ports : Option Named) (s : Extent) (before parts : List Part) → HasLines s before → AreFaultless (layout_grammar ports) s before parts →
+more_parts : (ports : Option Named) (s : Extent) (before parts : List Part) → HasLines s before →
+    AreFaultless (layout_grammar ports) s before parts →
     HasLines s (before ++ parts)
 more_parts ports s before [] has good = subst (HasLines s) (sym (append-nil before)) has
 more_parts ports s before (part ∷ parts) has good =
-    let one = with_part has.layout part (subst (λ l. order_fault l part ≡ None) (sym has.are) (follows ports s before part good.0)) in
-    let more : HasLines s (before ++ part ∷ []) = record { layout = one.layout; size = one.size ∙ has.size; are = one.are ∙ ap (λ l. l ++ part ∷ []) has.are } in
-    subst (HasLines s) (append_assoc before (part ∷ []) parts) (more_parts ports s (before ++ part ∷ []) parts more good.1)
+    let one = with_part has.layout part
+        (subst (λ l. order_fault l part ≡ None) (sym has.are) (follows ports s before part good.0)) in
+    let more : HasLines s
+        (before ++ part ∷ []) = record { layout = one.layout; size = one.size ∙ has.size; are = one.are
+        ∙ ap (λ l. l ++ part ∷ []) has.are } in
+    subst (HasLines s) (append_assoc before (part ∷ []) parts)
+        (more_parts ports s (before ++ part ∷ []) parts more good.1)
 
 pub some_layout : (ports : Option Named) (s : Extent) (parts : List Part) → IsFaultless (layout_grammar ports) s parts →
     (p : Pattern) × (layout_value p ≡ (s, parts))
@@ -100,10 +108,12 @@ module _ (text : List ℕ) (b : Bundle) (e : bundle_of text ≡ Ok b) where
   faultless = certificate_faultless text b own_layout.0 e own_layout.1
 
   modules_good : AreModules g (modules_in c)
-  modules_good = meant_modules b.version g (modules_of b.entries) (faultless_modules g b.version b.entries faultless) (read_complete g b.version b.entries faultless)
+  modules_good = meant_modules b.version g (modules_of b.entries) (faultless_modules g b.version b.entries faultless)
+      (read_complete g b.version b.entries faultless)
 
   limits : size_fault own_layout.0.size ≡ None
-  limits = subst (λ (q : Extent × List Part). size_fault q.0 ≡ None) (sym own_layout.1) (bundle_good text b e).layout.header
+  limits = subst (λ (q : Extent × List Part). size_fault q.0 ≡ None) (sym own_layout.1)
+      (bundle_good text b e).layout.header
 
   judged : HasVerdict b.circuit own_layout.0 (modules_in c)
   judged = some_verdict b.circuit own_layout.0 (modules_in c) (bundle_good text b e).circuit limits modules_good

@@ -62,19 +62,22 @@ module _ (s : Extent) where
     by_opposite : (x y : ℤ) → state (partner t x) (partner t y) ≡ true → In (record { x = x; y = y }) near_cells
     unfolding In
     by_opposite x y live =
-        flat_in block_cells (record { x = x; y = y }) (box_cells (whole s)) (record { x = partner t x; y = partner t y }) (in_whole _ _ (stays _ _ live))
+        flat_in block_cells (record { x = x; y = y }) (box_cells (whole s))
+            (record { x = partner t x; y = partner t y }) (in_whole _ _ (stays _ _ live))
         (inl (λ i. record { x = partner_twice t x i; y = partner_twice t y i }))
 
     by_column : (x y : ℤ) → state (partner t x) y ≡ true → In (record { x = x; y = y }) near_cells
     unfolding In
     by_column x y live =
-        flat_in block_cells (record { x = x; y = y }) (box_cells (whole s)) (record { x = partner t x; y = y }) (in_whole _ _ (stays _ _ live))
+        flat_in block_cells (record { x = x; y = y }) (box_cells (whole s)) (record { x = partner t x; y = y })
+            (in_whole _ _ (stays _ _ live))
         (inr (inl (λ i. record { x = partner_twice t x i; y = y })))
 
     by_row : (x y : ℤ) → state x (partner t y) ≡ true → In (record { x = x; y = y }) near_cells
     unfolding In
     by_row x y live =
-        flat_in block_cells (record { x = x; y = y }) (box_cells (whole s)) (record { x = x; y = partner t y }) (in_whole _ _ (stays _ _ live))
+        flat_in block_cells (record { x = x; y = y }) (box_cells (whole s)) (record { x = x; y = partner t y })
+            (in_whole _ _ (stays _ _ live))
         (inr (inr (inl (λ i. record { x = x; y = partner_twice t y i }))))
 
     own_dead : (x y : ℤ) → in_layout s x y ≡ false → (b : Bool) → state x y ≡ b → state x y ≡ false
@@ -117,7 +120,8 @@ module _ (s : Extent) where
 
   run_to : (first : State) → StaysInside s first → (n : ℕ) → n ≤ s.steps → StaysUpTo first n ⊎ Leaves first
   unfolding run
-  run_to first inside zero le = inl (λ k low. let e : zero ≡ k = omega (arith, low) in subst (λ k. StaysInside s (run first k)) e inside)
+  run_to first inside zero le = inl
+      (λ k low. let e : zero ≡ k = omega (arith, low) in subst (λ k. StaysInside s (run first k)) e inside)
   run_to first inside (suc n) le = next (run_to first inside n (omega (arith, le)))
     where
       last : StaysUpTo first n → StaysInside s (run first (suc n)) → StaysUpTo first (suc n)
@@ -139,7 +143,8 @@ filter_few : {A : Type 0} (test : A → Bool) (xs : List A) → length (filter t
 filter_few test [] = omega arith
 filter_few test (x ∷ xs) = one (test x) (filter_few test xs)
   where
-    one : (b : Bool) → length (filter test xs) ≤ length xs → length (cond b (x ∷ filter test xs) (filter test xs)) ≤ suc (length xs)
+    one : (b : Bool) → length (filter test xs) ≤ length xs →
+        length (cond b (x ∷ filter test xs) (filter test xs)) ≤ suc (length xs)
     one true h = omega (arith, h)
     one false h = omega (arith, h)
 
@@ -154,10 +159,12 @@ few_cells s state limits =
     let count = box_length (whole s) in
     omega (arith, all, count, area, high)
 
-some_end : (p : Pattern) (on : List ℕ → Bool) → size_fault p.size ≡ None → StaysInside p.size (start p on) → (end : RunEnd) × IsRunEnd p on end
+some_end : (p : Pattern) (on : List ℕ → Bool) → size_fault p.size ≡ None → StaysInside p.size (start p on) →
+    (end : RunEnd) × IsRunEnd p on end
 some_end p on limits inside = elim (run_to p.size (start p on) inside p.size.steps (omega arith)) [
   | inl stays ↦
-      let v = vec_of (live_cells p.size (plane_at p on p.size.steps)) (few_cells p.size (plane_at p on p.size.steps) limits) in
+      let v = vec_of (live_cells p.size (plane_at p on p.size.steps))
+          (few_cells p.size (plane_at p on p.size.steps) limits) in
       (Cells v.vec, record { stays = stays; cells = v.items })
   | inr left ↦ (LeftAt left.0, left.1)
 ]
@@ -171,7 +178,8 @@ record IsAskedLayout (asked : RunAsked) : Type 0 where
   pub good : IsFaultless (layout_grammar None) size parts
   pub same : (size, parts) ≡ asked.0
 
-asked_first : (lines : Extent × List Part) (read : Result (List (List ℕ)) Refusal) (asked : RunAsked) → with_value lines read ≡ Ok asked → lines ≡ asked.0
+asked_first : (lines : Extent × List Part) (read : Result (List (List ℕ)) Refusal) (asked : RunAsked) →
+    with_value lines read ≡ Ok asked → lines ≡ asked.0
 asked_first lines (Ok on) asked e = cc
 asked_first lines (Err refusal) asked e = absurd cc
 

@@ -17,11 +17,11 @@ use Rattle.headline.specs.TimedModules.{timed_modules}
 use Rattle.headline.specs.Headline.{IsRight, SaysYes}
 use Rattle.headline.specs.Stops.{HasRightStops, SaysBundle}
 
--- a command has one answer to each text
+-- a command has at most one answer to each text
 abbrev pub HasOneAnswer : (List ℕ → List ℕ → Outcome → Type 0) → Type 0
 HasOneAnswer R = (text output output' : List ℕ) (outcome outcome' : Outcome) → R text output outcome → R text output' outcome' → (output ≡ output') × (outcome ≡ outcome')
 
--- and it has an answer to each text, so that its answer is a function of the text
+-- a command has an answer to each text; with the law above, its answer is a function of the text
 abbrev pub HasAnAnswer : (List ℕ → List ℕ → Outcome → Type 0) → Type 0
 HasAnAnswer R = (text : List ℕ) → (output : List ℕ) × (outcome : Outcome) × R text output outcome
 
