@@ -3,7 +3,7 @@
 
 The layout has 512 by 512 cells and 4096 steps. Its 1024 modules, of 16 by 16, have each some cuts and used gates of a circuit
 of about a thousand gates, and some hundreds of edge and halo lines at random places, times and local wires. It has no stop lines and no
-inverse gates, which the plain program does not read.
+inverse gates.
 """
 import os
 import random

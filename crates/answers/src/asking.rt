@@ -16,7 +16,8 @@ pub(crate) fn read_names(
 ) -> Result<Vec<Name>, ReadFault>
     requires closed { feed.old.closed ≡ true }
     requires going { feed.old.stop ≡ None }
-    ensures { Gives (λ on. on.items) result (names_read feed.old.text names.now feed.old.taken (ahead feed.old)) }
+    ensures { Gives (λ on. on.items) result
+        (names_read feed.old.text names.now feed.old.taken (ahead feed.old)) }
 {
     match read_assign(alloc, feed, names) {
         Err(fault) => Err(fault),

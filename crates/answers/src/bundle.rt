@@ -31,18 +31,20 @@ pub fn modules_text(alloc: Global, text: &mut Feed) -> Result<Answered, AllocErr
     requires closed { text.old.closed ≡ true }
     requires unread { text.old.taken ≡ 0 }
     requires going { text.old.stop ≡ None }
-    ensures { IfOk result (λ answered. IsModulesOf text.old.text answered.output.items answered.outcome) }
+    ensures { IfOk result (λ answered. IsModulesOf text.old.text answered.output.items
+        answered.outcome) }
 {
     answer_of_text(alloc, text, Question::Modules)
 }
 
-/// A text that is read whole, in certificate version 2: reads a bundle up to the end of the text, and writes it with that version and
-/// without halo lines.
+/// A text that is read whole, in certificate version 2: reads a bundle up to the end of the text, and writes it with
+/// that version and without halo lines.
 pub fn migrate_text(alloc: Global, text: &mut Feed) -> Result<Answered, AllocError>
     requires closed { text.old.closed ≡ true }
     requires unread { text.old.taken ≡ 0 }
     requires going { text.old.stop ≡ None }
-    ensures { IfOk result (λ answered. IsMigrationOf text.old.text answered.output.items answered.outcome) }
+    ensures { IfOk result (λ answered. IsMigrationOf text.old.text answered.output.items
+        answered.outcome) }
 {
     answer_of_text(alloc, text, Question::Migration)
 }
@@ -56,7 +58,8 @@ fn answer_of_text(
     requires closed { text.old.closed ≡ true }
     requires unread { text.old.taken ≡ 0 }
     requires going { text.old.stop ≡ None }
-    ensures { IfOk result (λ answered. AnsweredAs (says_of question) (bundle_of text.old.text) answered.output.items answered.outcome) }
+    ensures { IfOk result (λ answered. AnsweredAs (says_of question) (bundle_of text.old.text)
+        answered.output.items answered.outcome) }
 {
     let circuit = match read_circuit(alloc, text) {
         Err(fault) => return refused(alloc, fault),
@@ -82,7 +85,8 @@ fn answer_of_text(
 
 // Answers the question for the bundle of a certificate.
 fn answer(alloc: Global, cert: &Cert<'_>, question: Question) -> Result<Answered, AllocError>
-    ensures says { IfOk result (λ answered. says_of question (bundle_by cert.now) answered.output.items answered.outcome) }
+    ensures says { IfOk result (λ answered. says_of question (bundle_by cert.now)
+        answered.output.items answered.outcome) }
 {
     match question {
         Question::Modules => list_modules(alloc, cert),

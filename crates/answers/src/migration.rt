@@ -22,7 +22,8 @@ fn print_migration(alloc: Global, cert: &Cert<'_>) -> Result<Vec<u8>, AllocError
 
 /// Writes the bundle of a certificate in version 2, without halo lines.
 pub(crate) fn migrate(alloc: Global, cert: &Cert<'_>) -> Result<Answered, AllocError>
-    ensures says { IfOk result (λ answered. SaysMigration (bundle_by cert.now) answered.output.items answered.outcome) }
+    ensures says { IfOk result (λ answered. SaysMigration (bundle_by cert.now) answered.output.items
+        answered.outcome) }
 {
     let output = print_migration(alloc, cert)?;
     Ok(Answered {

@@ -35,7 +35,8 @@ fn print_area(out: &mut Vec<u8>, area: Box2) -> Result<(), AllocError>
 
 // How many lines of a kind there are.
 fn print_kind(alloc: Global, out: &mut Vec<u8>, kind: &[u8], count: usize) -> Result<(), AllocError>
-    ensures { OnOk result (out.new.items ≡ out.old.items ++ flat_map spaced (kind.now ∷ decimal count ∷ [])) }
+    ensures { OnOk result (out.new.items
+        ≡ out.old.items ++ flat_map spaced (kind.now ∷ decimal count ∷ [])) }
 {
     print_word(out, kind)?;
     print_count(alloc, out, count)?;
@@ -74,7 +75,8 @@ fn print_module(
 
 // The lines of the certificate's modules.
 fn print_modules(alloc: Global, cert: &Cert) -> Result<Vec<u8>, AllocError>
-    ensures { IfOk result (λ out. out.items ≡ module_lines 0 (map counts_of (modules_of cert.now.entries))) }
+    ensures { IfOk result (λ out. out.items
+        ≡ module_lines 0 (map counts_of (modules_of cert.now.entries))) }
 {
     let mut out = Vec::new(alloc);
     for number in 0..cert.modules() {
@@ -85,7 +87,8 @@ fn print_modules(alloc: Global, cert: &Cert) -> Result<Vec<u8>, AllocError>
 
 /// Lists the modules of a certificate.
 pub(crate) fn list_modules(alloc: Global, cert: &Cert<'_>) -> Result<Answered, AllocError>
-    ensures says { IfOk result (λ answered. SaysModules (bundle_by cert.now) answered.output.items answered.outcome) }
+    ensures says { IfOk result (λ answered. SaysModules (bundle_by cert.now) answered.output.items
+        answered.outcome) }
 {
     let output = print_modules(alloc, cert)?;
     Ok(Answered {

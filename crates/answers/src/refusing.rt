@@ -9,7 +9,8 @@ use std::alloc::{AllocError, Global};
 
 /// The line for a refusal, or want of memory.
 pub fn refused(alloc: Global, fault: ReadFault) -> Result<Answered, AllocError>
-    ensures told { IfOk result (λ answered. TellsRefusal fault answered.output.items answered.outcome) }
+    ensures told { IfOk result (λ answered. TellsRefusal fault answered.output.items
+        answered.outcome) }
 {
     match fault {
         ReadFault::Memory => Err(AllocError),

@@ -27,7 +27,8 @@ fn read_asked(alloc: Global, feed: &mut Feed) -> Result<(Layout, Vec<Name>), Rea
     requires closed { feed.old.closed ≡ true }
     requires unread { feed.old.taken ≡ 0 }
     requires going { feed.old.stop ≡ None }
-    ensures { Gives (λ asked. (layout_value asked.0, asked.1.items)) result (run_asked feed.old.text) }
+    ensures { Gives (λ asked. (layout_value asked.0, asked.1.items)) result
+        (run_asked feed.old.text) }
 {
     let layout = match read_layout(alloc, feed, &PortNames::Any) {
         Err(fault) => return Err(fault),
@@ -74,7 +75,9 @@ fn count_text(alloc: Global, count: usize) -> Result<Vec<u8>, AllocError>
 }
 
 fn cells_text(alloc: Global, cells: &[Cell]) -> Result<Vec<u8>, AllocError>
-    ensures { IfOk result (λ text. text.items ≡ line_text (codes "cells") (decimal (length cells.now) ∷ []) ++ flat_map cell_line cells.now) }
+    ensures { IfOk result (λ text. text.items
+        ≡ line_text (codes "cells") (decimal (length cells.now) ∷ [])
+        ++ flat_map cell_line cells.now) }
 {
     let mut text = count_text(alloc, cells.len())?;
     print_cells(alloc, &mut text, cells)?;
@@ -101,7 +104,8 @@ fn outcome_of(end: &RunEnd) -> Outcome
 
 // Runs a layout with these names on.
 fn answer(alloc: Global, layout: &Layout, on: &[Name]) -> Result<Answered, AllocError>
-    ensures { IfOk result (λ answered. SaysRunEnd (layout_value layout.now, on.now) answered.output.items answered.outcome) }
+    ensures { IfOk result (λ answered. SaysRunEnd (layout_value layout.now, on.now)
+        answered.output.items answered.outcome) }
 {
     let end = run_plain(alloc, layout, on)?;
     let outcome = outcome_of(&end);
@@ -114,7 +118,8 @@ pub fn run_text(alloc: Global, feed: &mut Feed) -> Result<Answered, AllocError>
     requires closed { feed.old.closed ≡ true }
     requires unread { feed.old.taken ≡ 0 }
     requires going { feed.old.stop ≡ None }
-    ensures { IfOk result (λ answered. IsRunOf feed.old.text answered.output.items answered.outcome) }
+    ensures { IfOk result (λ answered. IsRunOf feed.old.text answered.output.items
+        answered.outcome) }
 {
     match read_asked(alloc, feed) {
         Err(fault) => refused(alloc, fault),

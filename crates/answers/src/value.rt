@@ -56,7 +56,9 @@ fn undefined_text(
     before: &[bool],
 ) -> Result<Vec<u8>, AllocError>
     requires { length before.now ≤ wires (netlist_of circuit.now) }
-    ensures { IfOk result (λ text. text.items ≡ value_lines (defined circuit.now) before.now ++ line_text (codes "undefined") (decimal gate ∷ [])) }
+    ensures { IfOk result (λ text. text.items
+        ≡ value_lines (defined circuit.now) before.now
+        ++ line_text (codes "undefined") (decimal gate ∷ [])) }
 {
     let mut output = print_values(alloc, circuit, before)?;
     let line = format!(in alloc; "undefined {gate}\n")?;
@@ -66,7 +68,8 @@ fn undefined_text(
 
 // Evaluates a circuit with these names on.
 fn answer(alloc: Global, circuit: &Circuit, on: &[Name]) -> Result<Answered, AllocError>
-    ensures { IfOk result (λ answered. SaysValues (circuit.now, on.now) answered.output.items answered.outcome) }
+    ensures { IfOk result (λ answered. SaysValues (circuit.now, on.now) answered.output.items
+        answered.outcome) }
 {
     let ins = input_list(alloc, circuit)?;
     let bits = are_on(alloc, &ins, on)?;
@@ -96,7 +99,8 @@ pub fn value_text(alloc: Global, feed: &mut Feed) -> Result<Answered, AllocError
     requires closed { feed.old.closed ≡ true }
     requires unread { feed.old.taken ≡ 0 }
     requires going { feed.old.stop ≡ None }
-    ensures { IfOk result (λ answered. IsValueOf feed.old.text answered.output.items answered.outcome) }
+    ensures { IfOk result (λ answered. IsValueOf feed.old.text answered.output.items
+        answered.outcome) }
 {
     match read_asked(alloc, feed) {
         Err(fault) => refused(alloc, fault),

@@ -1,24 +1,14 @@
 -- Lists with one element for each cell of a box are the same where they say the same of each cell
-use Rattle.std.proofs.Common.{◌≡◌, ℕ, zero, suc, ◌+◌, ◌-◌, ◌*◌, ◌/◌, ◌%◌, ◌<◌, ◌≤◌, true, List, [], ◌∷◌, length, Some, refl, sym, ap, ap₂, subst, ◌∙◌, arith}
+use Rattle.std.proofs.Common.{◌≡◌, ℕ, zero, suc, ◌+◌, ◌-◌, ◌*◌, ◌/◌, ◌<◌, ◌≤◌, true, List, length, refl, sym, ap₂, subst, ◌∙◌, arith}
 use Rattle.std.specs.Prelude.{ℤ, pos, slice_get, unwrap_or}
-use Rattle.std.specs.Int.RustNames.{unsigned_abs}
+use Rattle.std.proofs.lemmas.List.{get_or_default, same_lists}
+use Rattle.std.proofs.lemmas.Option.{unwrap_or-slice_get}
 use Rattle.std.proofs.Math.Nat.{div-mul-le_self, lt_of_mul-lt-mul_right, lt-div-mul-add}
 use Rattle.bbm_rule.proofs.Spans.{span_from}
 use Rattle.bbm_rule.specs.Spans.{in_span}
 use Rattle.module_box.specs.Boxes.{in_box}
 use Rattle.module_box.specs.Places.{place_in}
 use Rattle.module_box.specs.declared.boxes.Box2.{Box2}
-
--- lists of one length are the same where each place has the same element
-same_lists : {A : Type 0} (xs ys : List A) (d : A) → length xs ≡ length ys
-    → ((k : ℕ) → k < length xs → unwrap_or (slice_get xs k) d ≡ unwrap_or (slice_get ys k) d) → xs ≡ ys
-same_lists [] [] d e each = refl
-same_lists [] (y ∷ ys) d e each = absurd (omega (arith, e))
-same_lists (x ∷ xs) [] d e each = absurd (omega (arith, e))
-same_lists (x ∷ xs) (y ∷ ys) d e each =
-    let first : x ≡ y = each 0 (omega arith) in
-    let rest : length xs ≡ length ys = omega (arith, e) in
-    ap₂ (λ z zs. z ∷ zs) first (same_lists xs ys d rest (λ k h. each (suc k) (omega (arith, h))))
 
 -- the cell of a box at a place
 record HasCell (b : Box2) (k : ℕ) : Type 0 where
@@ -57,5 +47,9 @@ cell_at b k lt =
 
 pub same_over_box : {A : Type 0} (b : Box2) (xs ys : List A) (d : A) → length xs ≡ b.w * b.h → length ys ≡ b.w * b.h
     → ((x y : ℤ) → in_box b x y ≡ true → unwrap_or (slice_get xs (place_in b x y)) d ≡ unwrap_or (slice_get ys (place_in b x y)) d) → xs ≡ ys
-same_over_box b xs ys d many as_many each = same_lists xs ys d (many ∙ sym as_many)
-    (λ k h. let c = cell_at b k (subst (λ n. k < n) many h) in subst (λ n. unwrap_or (slice_get xs n) d ≡ unwrap_or (slice_get ys n) d) c.place (each c.x c.y c.inside))
+same_over_box b xs ys d many as_many each = same_lists xs ys (many ∙ sym as_many) (λ k e h.
+    let c = cell_at b k (subst (λ n. k < n) many h) in
+    let there = subst (λ n. k < n) (many ∙ sym as_many) h in
+    let one = subst (λ n. unwrap_or (slice_get xs n) d ≡ unwrap_or (slice_get ys n) d) c.place (each c.x c.y c.inside) in
+    sym (get_or_default xs k d e h) ∙ sym (unwrap_or-slice_get xs k d) ∙ one
+    ∙ unwrap_or-slice_get ys k d ∙ get_or_default ys k d e there)

@@ -1,6 +1,6 @@
 -- A ball that goes two steps along a diagonal, in a rectangle that is one module
 use Rattle.std.proofs.Common.{◌≡◌, ℕ, zero, suc, ◌<◌, ◌%◌, Bool, true, false, not, ◌&&◌, ◌||◌, List, [], ◌∷◌, Some, None, refl, sym, ap, subst, ◌∙◌, inl, inr, arith}
-use Rattle.std.specs.Prelude.{ℤ, pos, slice_get, unwrap_or, if◌then◌else◌}
+use Rattle.std.specs.Prelude.{ℤ, pos, slice_get}
 use Rattle.std.proofs.Math.Logic.{∥∥₁_elim}
 use Rattle.std.proofs.lemmas.Bool.{and_parts, false≢true, true≢false}
 use Rattle.std.proofs.lemmas.List.Elements.{All-from_recursion}
@@ -26,7 +26,6 @@ use Rattle.certificate_lines.specs.Entries.{ModuleLines, areas, known}
 use Rattle.certificate_lines.specs.Settings.{setting_of}
 use Rattle.module_job.specs.Jobs.{JobState, NamesOwnWires, job_start, job_demand}
 use Rattle.certificate.specs.Jobs.{IsJobOf, start_signal, end_demand}
-use Rattle.module_box.specs.Places.{place_in}
 use Rattle.certificate_lines.specs.PortTables.{port_at}
 use Rattle.certificate.specs.Times.{are_all_kept, numbered, time_lines}
 use Rattle.certificate_lines.specs.Modules.{AreModules, AreUnstarred, HasPorts, IsModule}

@@ -10,6 +10,7 @@ pub mod ReportLines
 pub mod Conclusions
 pub mod FullBooks
 pub mod Fillings
+pub mod FillingRuns
 pub mod LayoutCells
 pub mod JobSignals
 pub mod StopParts
@@ -23,7 +24,12 @@ pub mod Examples
 pub mod PortNames
 mod WrongExamples
 pub mod YesMeansCorrect
-pub mod NamedPorts
 mod BoxLists
+pub mod NumberedSignals
+pub mod SomeJobs
+pub mod SomeValues
+pub mod SomeLeast
+pub mod SomeFaults
+pub mod SomeVerdict
 pub mod ModuleJobs
 pub mod Migrated

@@ -6,7 +6,7 @@ use Rattle.std.proofs.lemmas.Bool.{cases_Bool, cases_lt, cond-true}
 use Rattle.std.proofs.lemmas.List.Elements.{All-head, All-tail}
 use Rattle.std.proofs.lemmas.Option.{same_Some, slice_get-get_or}
 use Rattle.circuit.specs.Gates.{Rule, Source, Fredkin, Cswap, Interact, Switch, Delay, Unswitch, Uninteract, defines}
-use Rattle.circuit.specs.Meaning.{Circuit, Gate, Netlist, Valuation, AreOrdered, wires, wires_after}
+use Rattle.circuit.specs.Meaning.{Circuit, Gate, Netlist, AreOrdered, wires, wires_after}
 use Rattle.pattern.specs.Layout.{Pattern}
 use Rattle.module_box.specs.Boxes.{in_box}
 use Rattle.module_box.specs.Locals.{LocalNet, AreDifferent, AreLocalsOf, circuit_gate, circuit_wire, renumber_gate}

@@ -1,8 +1,9 @@
 -- The modules of a certificate have one verdict
-use Rattle.std.proofs.Common.{◌≡◌, ◌∙◌, ◌<◌, ◌≤◌, ◌∷◌, ℕ, suc, zero, List, [], length, map, Option, None, Some, refl, sym, ap, ap₂, arith, ◌++◌}
+use Rattle.std.proofs.Common.{◌≡◌, ◌∙◌, ◌<◌, ◌≤◌, ◌∷◌, ℕ, suc, zero, List, [], length, map, Option, None, Some, refl, sym, ap, arith, ◌++◌}
 use Rattle.std.specs.Prelude.{slice_get}
 use Rattle.std.specs.Option.{option_map}
-use Rattle.std.proofs.lemmas.Option.{slice_get_within}
+use Rattle.std.proofs.lemmas.List.{same_lists}
+use Rattle.std.proofs.lemmas.Option.{slice_get-get_or, slice_get_within}
 use Rattle.certificate_lines.specs.Entries.{Setting, ModuleLines}
 use Rattle.module_job.specs.Jobs.{JobState}
 use Rattle.certificate.specs.Times.{time_lines}
@@ -16,11 +17,10 @@ use Rattle.audit_core.specs.declared.verdict.Reasons.{Reasons}
 use Rattle.audit_core.specs.declared.verdict.ReportLine.{ReportLine}
 use Rattle.audit_core.specs.declared.verdict.Verdict.TheVariants.{Yes, No}
 
-same-lists : {X : Type 0} (xs ys : List X) → length xs ≡ length ys → ((k : ℕ) (x y : X) → slice_get xs k ≡ Some x → slice_get ys k ≡ Some y → x ≡ y) → xs ≡ ys
-same-lists [] [] len each = refl
-same-lists [] (y ∷ ys) len each = absurd (omega (arith, len))
-same-lists (x ∷ xs) [] len each = absurd (omega (arith, len))
-same-lists (x ∷ xs) (y ∷ ys) len each = ap₂ (λ z zs. z ∷ zs) (each zero x y refl refl) (same-lists xs ys (omega (arith, len)) (λ k. each (suc k)))
+-- lists of one length with the same elements are the same
+pub same-elements : {X : Type 0} (xs ys : List X) → length xs ≡ length ys → ((k : ℕ) (x y : X) → slice_get xs k ≡ Some x → slice_get ys k ≡ Some y → x ≡ y) → xs ≡ ys
+same-elements xs ys len each = same_lists xs ys len
+    (λ k d lt. each k _ _ (slice_get-get_or xs k d lt) (slice_get-get_or ys k d (omega (arith, lt, len))))
 
 pub none-past : {X : Type 0} (xs : List X) (k : ℕ) → slice_get xs k ≡ None → length xs ≤ k
 none-past [] k e = omega arith
@@ -34,7 +34,7 @@ told_unique j x y a b =
     λ i. record { fault = fault i; keep = keep i }
 
 faults-same : (jobs : List JobState) (fs gs : List Reasons) → AreLeastFaults jobs fs → AreLeastFaults jobs gs → fs ≡ gs
-faults-same jobs fs gs a b = same-lists fs gs (a.count ∙ sym b.count) each
+faults-same jobs fs gs a b = same-elements fs gs (a.count ∙ sym b.count) each
   where
     each : (k : ℕ) (x y : Reasons) → slice_get fs k ≡ Some x → slice_get gs k ≡ Some y → x ≡ y
     each k x y hx hy = by_job (slice_get jobs k) refl
@@ -44,7 +44,7 @@ faults-same jobs fs gs a b = same-lists fs gs (a.count ∙ sym b.count) each
         by_job (Some j) e = told_unique j x y (a.each k j x e hx) (b.each k j y e hy)
 
 borders-same : (g : Setting) (ms : List ModuleLines) (fs gs : List (Option BorderFault)) → AreBorderFaultsOf g ms fs → AreBorderFaultsOf g ms gs → fs ≡ gs
-borders-same g ms fs gs a b = same-lists fs gs (a.count ∙ sym b.count) (λ k x y hx hy. least_border_unique g ms k x y (a.each k x hx) (b.each k y hy))
+borders-same g ms fs gs a b = same-elements fs gs (a.count ∙ sym b.count) (λ k x y hx hy. least_border_unique g ms k x y (a.each k x hx) (b.each k y hy))
 
 lines-same : (g : Setting) (ms : List ModuleLines) (jobs : List JobState) (xs ys : List ReportLine) → AreReportLines g ms jobs xs → AreReportLines g ms jobs ys → xs ≡ ys
 lines-same g ms jobs xs ys a b =

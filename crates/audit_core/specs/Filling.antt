@@ -1,7 +1,9 @@
 -- Books that are filled up: each number without a finding gets one, in order
-use Rattle.std.specs.Prelude.{◌≡◌, ℕ, zero, suc, ◌<◌, ◌≤◌, ◌⊎◌, true, false, if◌then◌else◌, List, [], ◌∷◌, ◌++◌, length, map, Some, IsSome, is_some}
+use Rattle.std.specs.Prelude.{◌≡◌, ℕ, zero, suc, ◌<◌, ◌≤◌, ◌⊎◌, true, false, if◌then◌else◌, List, [], ◌∷◌, ◌++◌, length, map, Some, IsSome, is_some, ◌+◌, ◌-◌, ◌^◌, ◌==◌, slice_index}
+use Rattle.module_job.specs.Groups.{AreGroups}
 use Rattle.module_job.specs.Jobs.{JobState}
-use Rattle.local_run.specs.Shown.{number_of}
+use Rattle.module_job.specs.Shapes.{ShapeState, shape_of}
+use Rattle.local_run.specs.Shown.{job_of, number_of}
 use Rattle.local_run.specs.declared.finding.Finding.{Finding}
 use Rattle.audit_core.specs.Book.{BookView, IsReplayed, accepted_in, after_filing, found_in, reply_to}
 use Rattle.audit_core.specs.Verdicts.{AreHeldBelow}
@@ -59,3 +61,27 @@ pub record IsFiledFor (b c : BookView) (number : ℕ) : Type 0 where
 -- the book held a finding for this number and is as it was, or one was filed and accepted
 abbrev pub IsHeldOrFiled : BookView → BookView → ℕ → Type 0
 IsHeldOrFiled b c number = ((is_some (found_in b number) ≡ true) × (c ≡ b)) ⊎ IsFiledFor b c number
+
+-- ---- how many jobs are run
+
+abbrev pub shapes_of : List JobState → List ShapeState
+shapes_of jobs = map shape_of jobs
+
+-- A count after one more; the count stops at the greatest number that it can hold.
+abbrev pub IsOneMore : ℕ → ℕ → Type 0
+IsOneMore before after = before < 2 ^ 64 - 1 → after ≡ before + 1
+
+-- the book holds a finding for this number, and of a job of the same shape
+pub record HoldsAlike (b : BookView) (number : ℕ) (job : JobState) : Type 0 where
+  pub finding : Finding
+  pub held : found_in b number ≡ Some finding
+  pub alike : shape_of (job_of finding) ≡ shape_of job
+
+-- how many of the numbers below this one are the first of their group
+abbrev pub firsts : List ℕ → ℕ → ℕ
+firsts groups zero = 0
+firsts groups (suc n) = firsts groups n + (if slice_index groups n == n then 1 else 0)
+
+-- a count of runs after at most one for each shape
+abbrev pub RunsOneForEach : List ShapeState → ℕ → ℕ → Type 0
+RunsOneForEach shapes before after = (groups : List ℕ) → AreGroups shapes groups → after ≤ before + firsts groups (length shapes)

@@ -10,11 +10,11 @@ use std::alloc::{AllocError, Global};
 use std::marker::Model;
 use std::sync::Arc;
 
-/// The jobs of a certificate, under its digest, and for each of their numbers the finding that is held for it, if there is one; and
-/// an entry for each filing so far. Contracts see it as a `BookView`.
+/// The jobs of a certificate, under its digest, and for each of their numbers the finding that is held for it, if there
+/// is one; and an entry for each filing so far. Contracts see it as a `BookView`.
 ///
-/// By its type each finding that is held was made for the book's digest, for the number that it is held for, and for the book's
-/// whole job of that number; and the history replays to what the book holds and to whether it is closed.
+/// By its type each finding that is held was made for the book's digest, for the number that it is held for, and for
+/// the book's whole job of that number; and the history replays to what the book holds and to whether it is closed.
 #[derive(Drop)]
 pub struct BookState {
     digest: [u8; 32],
@@ -53,8 +53,8 @@ impl BookState {
     ghost use Rattle.audit_core.specs.Verdicts.{IsHeld};
     ghost use Rattle.audit_core.specs.Book.{IsBook, IsOwn, IsReplayed, accepted_in, after_closing, after_filing, count_after, filing_of, found_in, is_job_of, new_book, reply_to};
 
-    /// An open book of these jobs, numbered from 0 in their order, in which nothing is held, without history. `AllocError` is want
-    /// of memory.
+    /// An open book of these jobs, numbered from 0 in their order, in which nothing is held, without history.
+    /// `AllocError` is want of memory.
     pub fn new(
         alloc: Global,
         digest: [u8; 32],
@@ -73,14 +73,15 @@ impl BookState {
         })
     }
 
-    /// Files a finding. It is held from now on where the reply is `Accepted`; otherwise it is dropped, and what is held stays. The
-    /// history gets an entry whatever the reply is.
+    /// Files a finding. It is held from now on where the reply is `Accepted`; otherwise it is dropped, and what is held
+    /// stays. The history gets an entry whatever the reply is.
     ///
     /// `NotFiled` is want of memory: then the book is as before, and the finding comes back.
     pub fn file(&mut self, finding: Finding) -> Result<Reply, NotFiled>
         ensures reply { IfOk result (λ r. r ≡ reply_to self.old finding) }
         ensures after { IfOk result (λ _. self.new ≡ after_filing self.old finding) }
-        ensures counted { IfOk result (λ r. accepted_in self.new ≡ count_after (accepted_in self.old) r) }
+        ensures counted { IfOk result (λ r. accepted_in self.new
+            ≡ count_after (accepted_in self.old) r) }
         ensures room { OnOk result (length self.new.history < 2 ^ 64) }
         ensures unchanged { OnErr result (self.new ≡ self.old) }
         ensures returned { IfErr result (λ e. e.finding ≡ finding) }
@@ -146,8 +147,8 @@ impl BookState {
         }
     }
 
-    /// Closes the book, with an entry that says so: from now on each finding is answered `Closed`. `AllocError` is want of memory:
-    /// then the book is as before.
+    /// Closes the book, with an entry that says so: from now on each finding is answered `Closed`. `AllocError` is want
+    /// of memory: then the book is as before.
     pub fn close(&mut self) -> Result<(), AllocError>
         ensures after { OnOk result (self.new ≡ after_closing self.old) }
         ensures unchanged { OnErr result (self.new ≡ self.old) }
@@ -164,7 +165,8 @@ impl BookState {
         self.closed
     }
 
-    /// What was filed and when the book was closed, in this order. It replays to what the book holds and to whether it is closed.
+    /// What was filed and when the book was closed, in this order. It replays to what the book holds and to whether it
+    /// is closed.
     pub fn history(&self) -> &[Entry]
         ensures entries { result.now ≡ self.now.history }
         ensures replays { IsReplayed self.now }
@@ -173,8 +175,8 @@ impl BookState {
         history.as_slice()
     }
 
-    /// The finding that is held for a number. It was made for the book's digest, for this number and for the book's whole job of
-    /// it. `None` where none is held, as for a number past the last job.
+    /// The finding that is held for a number. It was made for the book's digest, for this number and for the book's
+    /// whole job of it. `None` where none is held, as for a number past the last job.
     pub fn found(&self, number: usize) -> Option<&Finding>
         ensures held { option_copied result ≡ found_in self.now number }
         ensures own { IfSome result (λ f. IsOwn self.now number f.now) }
@@ -187,7 +189,8 @@ impl BookState {
 
     // The finding that is held for a number, where it is of this whole job.
     pub(crate) fn found_for(&self, number: usize, job: &Job) -> Option<&Finding>
-        ensures held { IfSome result (λ f. (found_in self.now number ≡ Some f.now) × (job_of f.now ≡ job.now)) }
+        ensures held { IfSome result (λ f. (found_in self.now number ≡ Some f.now)
+            × (job_of f.now ≡ job.now)) }
         ensures missing { IfNone result (¬ IsHeld self.now number job.now) }
     {
         match self.found(number) {

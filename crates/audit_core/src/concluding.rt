@@ -24,15 +24,15 @@ use local_run::{Fault, Finding, KeepFault};
 use std::alloc::{AllocError, Global};
 use std::sync::Arc;
 
-/// The verdict on a certificate for its circuit and its layout: from its jobs, the least border fault of each of its modules, and
-/// what a book holds.
+/// The verdict on a certificate for its circuit and its layout: from its jobs, the least border fault of each of its
+/// modules, and what a book holds.
 ///
-/// Where it is `Yes`, and the layout was read with the names of the circuit's ports, the whole pattern computes the circuit, for all
-/// values of the inputs, and nothing leaves its rectangle; and each stop holds on the whole pattern, and the rules on delays and
-/// meetings are kept: `specs/Implements.antt` and `specs/OnTime.antt` say what that is.
+/// Where it is `Yes`, and the layout was read with the names of the circuit's ports, the whole pattern computes the
+/// circuit, for all values of the inputs, and nothing leaves its rectangle; and each stop holds on the whole pattern,
+/// and the rules on delays and meetings are kept: `specs/Implements.antt` and `specs/OnTime.antt` say what that is.
 ///
-/// `Missing` names the first module for whose whole job the book holds no finding, whatever the book's own digest and jobs are.
-/// `Memory` is want of memory.
+/// `Missing` names the first module for whose whole job the book holds no finding, whatever the book's own digest and
+/// jobs are. `Memory` is want of memory.
 pub fn conclude(
     alloc: Global,
     cert: &Cert<'_>,
@@ -43,11 +43,15 @@ pub fn conclude(
     requires own { AreOwnJobs cert.now (map arc_value jobs.now) }
     requires borders { AreBorderFaultsOf (setting cert.now) (modules cert.now) borders.now }
     ensures held { OnOk result (AreHeldBelow book.now (map arc_value jobs.now) (length jobs.now)) }
-    ensures verdict { IfOk result (λ v. IsVerdict (setting cert.now) (modules cert.now) (map arc_value jobs.now) v) }
-    ensures missing { (number : ℕ) → result ≡ Err (Missing number) → IsFirstMissing book.now (map arc_value jobs.now) number }
-    ensures correct { result ≡ Ok Yes → AreNamed (Some (port_names_of cert.now.circuit)) (parts_of cert.now.layout) →
+    ensures verdict { IfOk result (λ v. IsVerdict (setting cert.now) (modules cert.now)
+        (map arc_value jobs.now) v) }
+    ensures missing { (number : ℕ) → result ≡ Err (Missing number) →
+        IsFirstMissing book.now (map arc_value jobs.now) number }
+    ensures correct { result ≡ Ok Yes →
+        AreNamed (Some (port_names_of cert.now.circuit)) (parts_of cert.now.layout) →
         IsCorrect cert.now.circuit cert.now.layout }
-    ensures on_time { result ≡ Ok Yes → AreNamed (Some (port_names_of cert.now.circuit)) (parts_of cert.now.layout) →
+    ensures on_time { result ≡ Ok Yes →
+        AreNamed (Some (port_names_of cert.now.circuit)) (parts_of cert.now.layout) →
         IsOnTime (circuit_of cert.now.circuit) cert.now.layout (modules cert.now) }
 {
     // What is known of the layout, the circuit and the modules.
@@ -100,7 +104,8 @@ fn held_faults(
 ) -> Result<Vec<Reasons>, Unfinished>
     ensures held { OnOk result (AreHeldBelow book.now (map arc_value jobs.now) (length jobs.now)) }
     ensures least { IfOk result (λ fs. AreLeastFaults (map arc_value jobs.now) fs.items) }
-    ensures missing { (number : ℕ) → result ≡ Err (Missing number) → IsFirstMissing book.now (map arc_value jobs.now) number }
+    ensures missing { (number : ℕ) → result ≡ Err (Missing number) →
+        IsFirstMissing book.now (map arc_value jobs.now) number }
 {
     let mut faults = Vec::with_capacity(alloc, jobs.len())?;
     'modules: for (number, job) in jobs.iter().enumerate() {
@@ -155,7 +160,8 @@ fn report_lines(
     unkept: &[usize],
 ) -> Result<Vec<ReportLine>, AllocError>
     requires { length faults.now ≡ length borders.now }
-    ensures { IfOk result (λ lines. lines.items ≡ lines_from 0 faults.now borders.now ++ map (λ n. Unkept n) unkept.now) }
+    ensures { IfOk result (λ lines. lines.items
+        ≡ lines_from 0 faults.now borders.now ++ map (λ n. Unkept n) unkept.now) }
 {
     let mut lines = module_lines(alloc, faults, borders)?;
     'gates: for gate in unkept {

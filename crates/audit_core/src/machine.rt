@@ -74,8 +74,8 @@ impl Core {
     ghost use Rattle.audit_core.specs.Draws.{IsDrawn};
     ghost use Rattle.audit_core.specs.Core.{IsSeated, after_claim, after_event, answer_to, claim_of, draws_of, new_core};
 
-    /// A core of these jobs, numbered from 0 in their order, and of as many seats, of which none has drawn. At most 1024 jobs, and 1
-    /// to 64 seats. `AllocError` is want of memory.
+    /// A core of these jobs, numbered from 0 in their order, and of as many seats, of which none has drawn. At most
+    /// 1024 jobs, and 1 to 64 seats. `AllocError` is want of memory.
     pub fn new(
         alloc: Global,
         digest: [u8; 32],
@@ -140,7 +140,8 @@ impl Core {
 
     // A filing.
     fn file(&mut self, finding: Finding) -> Result<Reply, NotFiled>
-        ensures reply { IfOk result (λ r. Answer.Reply r ≡ answer_to self.old (Event.File finding)) }
+        ensures reply { IfOk result (λ r. Answer.Reply r
+            ≡ answer_to self.old (Event.File finding)) }
         ensures after { OnOk result (self.new ≡ after_event self.old (Event.File finding)) }
         ensures unchanged { OnErr result (self.new ≡ self.old) }
         ensures returned { IfErr result (λ e. e.finding ≡ finding) }

@@ -5,8 +5,8 @@ use certificate::Gap;
 use local_run::{Fault, KeepFault};
 use std::alloc::{AllocError, AllocFailed};
 
-/// A line of a report: a fault of a module, a gate that no module keeps, or what stops say of a gate. Modules and gates are numbered
-/// from 0.
+/// A line of a report: a fault of a module, a gate that no module keeps, or what stops say of a gate. Modules and gates
+/// are numbered from 0.
 #[derive(Clone, Copy, Debug, PartialEq, Eq)]
 pub enum ReportLine {
     /// The least fault of the module's job.
@@ -30,14 +30,16 @@ pub struct Reasons {
     pub keep: Option<KeepFault>,
 }
 
-/// Whether the modules of a certificate have no fault and keep all inverse gates, and its stops keep the rules on delays and meetings.
+/// Whether the modules of a certificate have no fault and keep all inverse gates, and its stops keep the rules on
+/// delays and meetings.
 #[derive(Debug, Drop, PartialEq, Eq)]
 pub enum Verdict {
     /// No module has a fault, each inverse gate is kept, and the rules are kept.
     Yes,
-    /// Some module has one, an inverse gate is kept by none, or a rule is broken. For each module in order the lines have its least
-    /// fault, its least keep fault and its least border fault, each if there is one; then come the inverse gates that are not kept, in
-    /// order; and then the lines of all delays and meetings, of those too that keep the rules.
+    /// Some module has one, an inverse gate is kept by none, or a rule is broken. For each module in order the lines
+    /// have its least fault, its least keep fault and its least border fault, each if there is one; then come the
+    /// inverse gates that are not kept, in order; and then the lines of all delays and meetings, of those too that keep
+    /// the rules.
     No(Vec<ReportLine>),
 }
 

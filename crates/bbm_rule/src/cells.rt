@@ -52,8 +52,8 @@ pub(crate) fn put_cell(words: &mut [u64], place: usize, value: bool)
     }
 }
 
-// Whether a cell of the margin around the board is live. It is looked for in the pairs of rows that have a mark, of the partition
-// whose first pair begins at word 0.
+// Whether a cell of the margin around the board is live. It is looked for in the pairs of rows that have a mark, of the
+// partition whose first pair begins at word 0.
 pub(crate) fn has_live_margin(
     words: &[u64],
     marks: &[u64],
@@ -65,7 +65,8 @@ pub(crate) fn has_live_margin(
     requires height { (height ≤ 1024) × (height % 2 ≡ 0) }
     requires room { length words.now ≡ stride * (height + 2) }
     requires marks { height / 2 + 1 ≤ 64 * length marks.now }
-    requires unmarked { (y : ℕ) → y < height + 2 → IsUnmarked marks.now (y / 2) → IsDeadMarginIn width height (64 * stride) y words.now }
+    requires unmarked { (y : ℕ) → y < height + 2 → IsUnmarked marks.now (y / 2) →
+        IsDeadMarginIn width height (64 * stride) y words.now }
     ensures live { OnTrue result (HasLiveMargin width height (64 * stride) words.now) }
     ensures dead { result ≡ false → HasDeadMargin width height (64 * stride) words.now }
 {
@@ -82,8 +83,8 @@ pub(crate) fn has_live_margin(
     false
 }
 
-// Whether a cell of row y is live that belongs to the margin: the first, the one after the last of the board, and all in the first
-// and the last row.
+// Whether a cell of row y is live that belongs to the margin: the first, the one after the last of the board, and all
+// in the first and the last row.
 fn is_margin_live(words: &[u64], stride: usize, width: usize, height: usize, y: usize) -> bool
     requires width { (width + 2 ≤ 64 * stride) × (stride ≤ 17) }
     requires height { height ≤ 1024 }

@@ -1,7 +1,7 @@
 //! A rectangle of cells as bits, and its step.
 //!
-//! A step passes over the pairs of rows that are known to stay: those that stayed when they were turned last, and in which
-//! no cell has changed since.
+//! A step passes over the pairs of rows that are known to stay: those that stayed when they were turned last, and in
+//! which no cell has changed since.
 
 ghost use Rattle.std.specs.Prelude.{◌≡◌, ◌≤◌, ◌%◌, ◌<◌, IsTrue, IfOk, OnOk, OnErr, false, pos, ℤ};
 ghost use Rattle.bbm_rule.specs.Board.{Board, live, is_inside, HasSameSize, IsStep, Leaves, SetsCell};
@@ -17,10 +17,10 @@ use std::marker::Model;
 #[derive(Clone, Copy, Debug, PartialEq, Eq)]
 pub struct Left;
 
-/// A rectangle of cells of the plane, each live or dead. Its upper left corner is the cell (0, 0), and the cells outside
-/// it are dead. Width and height are even, from 2 to 1024.
-// A row is `stride` words of bits, and a margin of one cell is kept around the rectangle: the cell (x, y) is bit x + 1 of row
-// y + 1, counted from the first bit of the row. So no block of either partition is cut by the border.
+/// A rectangle of cells of the plane, each live or dead. Its upper left corner is the cell (0, 0), and the cells
+/// outside it are dead. Width and height are even, from 2 to 1024.
+// A row is `stride` words of bits, and a margin of one cell is kept around the rectangle: the cell (x, y) is bit x + 1
+// of row y + 1, counted from the first bit of the row. So no block of either partition is cut by the border.
 #[derive(Drop)]
 pub struct Grid {
     width: usize,
@@ -104,8 +104,8 @@ impl Grid {
 
     /// The step at time `t`: every block of that time's partition turns, those that lie across the border too.
     ///
-    /// The error is [`Left`], and comes exactly where a cell outside the grid would become live. The grid is then unchanged.
-    /// At an even time no block lies across the border, so nothing leaves.
+    /// The error is [`Left`], and comes exactly where a cell outside the grid would become live. The grid is then
+    /// unchanged. At an even time no block lies across the border, so nothing leaves.
     pub fn step(&mut self, t: u32) -> Result<(), Left>
         ensures stepped { OnOk result (IsStep t self.old self.new) }
         ensures left { OnErr result (Leaves t self.old) }

@@ -20,7 +20,8 @@ pub fn step_undoes_itself()
     ensures { StepUndoesItself }
 {}
 
-/// A state that is moved by an even number of columns and of rows stays so over a step at any time: the step moves along.
+/// A state that is moved by an even number of columns and of rows stays so over a step at any time: the step moves
+/// along.
 pub fn step_moves_along()
     ensures { StepMovesAlong }
 {}

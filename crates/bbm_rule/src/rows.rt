@@ -1,5 +1,5 @@
-//! A plane of bits in rows of words, whose blocks are turned in place. The cell at place p of the plane is bit p % 64 of
-//! word p / 64, and a row is `stride` words.
+//! A plane of bits in rows of words, whose blocks are turned in place. The cell at place p of the plane is bit p % 64
+//! of word p / 64, and a row is `stride` words.
 
 ghost use Rattle.std.specs.Prelude.{◌≡◌, ◌+◌, ◌*◌, ◌<◌, ◌≤◌, ◌^◌, ◌-◌, length, false};
 ghost use Rattle.bbm_rule.specs.Bands.{AreCalm};
@@ -88,8 +88,8 @@ fn turn_shifted(words: &mut [u64], upper: usize, stride: usize) -> bool
     changed != 0
 }
 
-/// Turns the blocks of all pairs of rows, the first of which begins at word 0. A pair without a mark stays, and is passed over.
-/// `own` has the marks of these pairs, and `others` those of the pairs of the other partition.
+/// Turns the blocks of all pairs of rows, the first of which begins at word 0. A pair without a mark stays, and is
+/// passed over. `own` has the marks of these pairs, and `others` those of the pairs of the other partition.
 pub(crate) fn turn_all_aligned(
     words: &mut [u64],
     own: &mut [u64],

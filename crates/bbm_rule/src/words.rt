@@ -6,8 +6,8 @@ ghost use Rattle.bbm_rule.specs.Words.{AreTurned, AreTurnedAt, TurnsBetween};
 
 use std::simd::prelude::*;
 
-/// Turns 64 blocks: bit j of the four words is the upper left, upper right, lower left and lower right cell of block j, a
-/// set bit being a live cell. The new words are given in the same order.
+/// Turns 64 blocks: bit j of the four words is the upper left, upper right, lower left and lower right cell of block j,
+/// a set bit being a live cell. The new words are given in the same order.
 #[inline(always)]
 pub fn turn_words(
     upper_left: u64,
@@ -15,7 +15,8 @@ pub fn turn_words(
     lower_left: u64,
     lower_right: u64,
 ) -> (u64, u64, u64, u64)
-    ensures { AreTurned upper_left upper_right lower_left lower_right result.0 result.1 result.2 result.3 }
+    ensures { AreTurned upper_left upper_right lower_left lower_right result.0 result.1 result.2
+        result.3 }
 {
     let (a, b, c, d, _) = turn_words_told(upper_left, upper_right, lower_left, lower_right);
     (a, b, c, d)
@@ -29,8 +30,11 @@ pub(crate) fn turn_words_told(
     lower_left: u64,
     lower_right: u64,
 ) -> (u64, u64, u64, u64, u64)
-    ensures turned { AreTurned upper_left upper_right lower_left lower_right result.0 result.1 result.2 result.3 }
-    ensures stays { IsBlank result.4 → AreSameBits upper_left result.0 × AreSameBits upper_right result.1 × AreSameBits lower_left result.2 × AreSameBits lower_right result.3 }
+    ensures turned { AreTurned upper_left upper_right lower_left lower_right result.0 result.1
+        result.2 result.3 }
+    ensures stays { IsBlank result.4 →
+        AreSameBits upper_left result.0 × AreSameBits upper_right result.1
+        × AreSameBits lower_left result.2 × AreSameBits lower_right result.3 }
 {
     // `a ^ (a & b)` stands for `a & !b`.
     let main = upper_left ^ lower_right;
@@ -55,8 +59,11 @@ fn turn_vectors(
     lower_lefts: u64x4,
     lower_rights: u64x4,
 ) -> (u64x4, u64x4, u64x4, u64x4)
-    ensures lanes { (k : ℕ) → k < 4 → AreTurnedAt k upper_lefts upper_rights lower_lefts lower_rights result.0 result.1 result.2 result.3 }
-    ensures long { (length result.0 ≡ 4) × (length result.1 ≡ 4) × (length result.2 ≡ 4) × (length result.3 ≡ 4) }
+    ensures lanes { (k : ℕ) → k < 4 →
+        AreTurnedAt k upper_lefts upper_rights lower_lefts lower_rights result.0 result.1 result.2
+        result.3 }
+    ensures long { (length result.0 ≡ 4) × (length result.1 ≡ 4) × (length result.2 ≡ 4)
+        × (length result.3 ≡ 4) }
 {
     let main = upper_lefts ^ lower_rights;
     let anti = upper_rights ^ lower_lefts;
@@ -80,8 +87,10 @@ fn turn_chunk(
     lower_right: &mut [u64],
     at: usize,
 )
-    requires { (at + 4 ≤ length upper_left.old) × (at + 4 ≤ length upper_right.old) × (at + 4 ≤ length lower_left.old) × (at + 4 ≤ length lower_right.old) }
-    ensures { TurnsBetween at (at + 4) upper_left.old upper_right.old lower_left.old lower_right.old upper_left.new upper_right.new lower_left.new lower_right.new }
+    requires { (at + 4 ≤ length upper_left.old) × (at + 4 ≤ length upper_right.old)
+        × (at + 4 ≤ length lower_left.old) × (at + 4 ≤ length lower_right.old) }
+    ensures { TurnsBetween at (at + 4) upper_left.old upper_right.old lower_left.old lower_right.old
+        upper_left.new upper_right.new lower_left.new lower_right.new }
 {
     let (a, b, c, d) = turn_vectors(
         u64x4::from_slice(&upper_left[at..]),
@@ -104,8 +113,10 @@ fn turn_one(
     lower_right: &mut [u64],
     at: usize,
 )
-    requires { (at < length upper_left.old) × (at < length upper_right.old) × (at < length lower_left.old) × (at < length lower_right.old) }
-    ensures { TurnsBetween at (at + 1) upper_left.old upper_right.old lower_left.old lower_right.old upper_left.new upper_right.new lower_left.new lower_right.new }
+    requires { (at < length upper_left.old) × (at < length upper_right.old)
+        × (at < length lower_left.old) × (at < length lower_right.old) }
+    ensures { TurnsBetween at (at + 1) upper_left.old upper_right.old lower_left.old lower_right.old
+        upper_left.new upper_right.new lower_left.new lower_right.new }
 {
     let (a, b, c, d) = turn_words(
         upper_left[at],
@@ -119,8 +130,8 @@ fn turn_one(
     lower_right[at] = d;
 }
 
-/// Turns the blocks of four slices of the same length, 64 at each place, as [`turn_words`] does: upper left, upper right,
-/// lower left and lower right cells.
+/// Turns the blocks of four slices of the same length, 64 at each place, as [`turn_words`] does: upper left, upper
+/// right, lower left and lower right cells.
 pub fn turn_lanes(
     upper_left: &mut [u64],
     upper_right: &mut [u64],
@@ -130,7 +141,9 @@ pub fn turn_lanes(
     requires upper { length upper_right.old ≡ length upper_left.old }
     requires left { length lower_left.old ≡ length upper_left.old }
     requires right { length lower_right.old ≡ length upper_left.old }
-    ensures { (k : ℕ) → k < length upper_left.old → AreTurnedAt k upper_left.old upper_right.old lower_left.old lower_right.old upper_left.new upper_right.new lower_left.new lower_right.new }
+    ensures { (k : ℕ) → k < length upper_left.old →
+        AreTurnedAt k upper_left.old upper_right.old lower_left.old lower_right.old upper_left.new
+        upper_right.new lower_left.new lower_right.new }
 {
     let n = upper_left.len();
     let mut at = 0;

@@ -18,8 +18,8 @@ use module_box::{Box2, Event, Owners, Signal};
 use module_job::Shape;
 use std::sync::Arc;
 
-/// The borders of a module: the layout's rectangle, the number of the module that has each cell of it, the jobs of all modules and
-/// their boxes, and the job of this one.
+/// The borders of a module: the layout's rectangle, the number of the module that has each cell of it, the jobs of all
+/// modules and their boxes, and the job of this one.
 #[derive(Clone, Copy)]
 pub(crate) struct Borders<'a> {
     pub(crate) whole: Box2,
@@ -65,14 +65,16 @@ impl<'a> Borders<'a> {
     fn owner(&self, cell: Cell) -> &'a Job
         requires ready { IsReady self.now }
         requires inside { IsTrue (in_box self.now.whole cell.x cell.y) }
-        ensures { slice_get (jobs_of self.now) (owner_of self.now.owners.now cell.x cell.y) ≡ Some result.now }
+        ensures { slice_get (jobs_of self.now) (owner_of self.now.owners.now cell.x cell.y)
+            ≡ Some result.now }
     {
         &self.jobs[self.owners.owner(cell)]
     }
 
     // Whether the cell is in the module's halo and in the rectangle.
     fn reaches(&self, cell: Cell) -> bool
-        ensures { result ≡ (in_box self.now.whole cell.x cell.y && in_halo self.now.job.now.area cell.x cell.y) }
+        ensures { result
+            ≡ (in_box self.now.whole cell.x cell.y && in_halo self.now.job.now.area cell.x cell.y) }
     {
         self.whole.holds(cell) & self.job.area().in_halo(cell)
     }
@@ -89,8 +91,8 @@ impl<'a> Borders<'a> {
         halo_signal(self.job, time, cell) != edge_signal(owner, time, cell)
     }
 
-    // Whether a line with a star, which speaks of all times, is for the module's halo or for the ring of the module that has the
-    // cell. Where it is false the signals of the cell do not differ at time 0.
+    // Whether a line with a star, which speaks of all times, is for the module's halo or for the ring of the module
+    // that has the cell. Where it is false the signals of the cell do not differ at time 0.
     fn has_star_line(&self, cell: Cell) -> bool
         requires ready { IsReady self.now }
         requires inside { IsTrue (in_box self.now.whole cell.x cell.y) }
@@ -132,7 +134,8 @@ impl<'a> Borders<'a> {
     // The lesser of the candidate and the fault that an event names.
     fn with_event(&self, best: Option<BorderFault>, event: Event) -> Option<BorderFault>
         requires { IsReady self.now }
-        ensures { IsBetter (Faults self.now) (λ h. h ≡ record { time = event.at.time; cell = event.at.cell }) best result }
+        ensures { IsBetter (Faults self.now)
+            (λ h. h ≡ record { time = event.at.time; cell = event.at.cell }) best result }
     {
         let fault = BorderFault {
             time: event.at.time,
@@ -203,9 +206,9 @@ impl<'a> Borders<'a> {
         best
     }
 
-    // The lesser of the candidate and the first fault of a cell, if halo and edge signal differ where no line names a time. No
-    // line names time 0, so those signals are found there, and without a line with a star both are `Zero`. The first fault is soon
-    // met, since only an even time, or an odd one that a line names for the cell, is without one.
+    // The lesser of the candidate and the first fault of a cell, if halo and edge signal differ where no line names a
+    // time. No line names time 0, so those signals are found there, and without a line with a star both are `Zero`. The
+    // first fault is soon met, since only an even time, or an odd one that a line names for the cell, is without one.
     fn with_cell(&self, best: Option<BorderFault>, cell: Cell) -> Option<BorderFault>
         requires { IsReady self.now }
         ensures { IsBetter (Faults self.now) (DiffersAlwaysAt self.now cell) best result }

@@ -53,20 +53,23 @@ fn no_faults(alloc: Global, count: usize) -> Result<Vec<Option<BorderFault>>, Al
     vec![in alloc; None; count]
 }
 
-/// The least border fault of each module of the certificate, by time, then y, then x, or `None` where the module has none; one
-/// for each module, in their order. `specs/BorderFaults.antt` says what a border fault is. In version 2 no module has one.
+/// The least border fault of each module of the certificate, by time, then y, then x, or `None` where the module has
+/// none; one for each module, in their order. `specs/BorderFaults.antt` says what a border fault is. In version 2 no
+/// module has one.
 ///
 /// The jobs are the certificate's, as [`Cert::jobs`](certificate::Cert::jobs) makes them.
 ///
-/// `AllocError` is want of memory, which is taken for the modules' boxes, a table of the rectangle's blocks of two by two cells,
-/// and the answer.
+/// `AllocError` is want of memory, which is taken for the modules' boxes, a table of the rectangle's blocks of two by
+/// two cells, and the answer.
 pub fn match_borders(
     alloc: Global,
     cert: &Cert,
     jobs: &[Arc<Job>],
 ) -> Result<Vec<Option<BorderFault>>, AllocError>
-    requires { AreJobsOf (circuit_of cert.now.circuit) cert.now.layout (modules_in cert.now) (map arc_value jobs.now) }
-    ensures { IfOk result (λ faults. AreBorderFaultsOf (setting_of cert.now.circuit cert.now.layout) (modules_in cert.now) faults.items) }
+    requires { AreJobsOf (circuit_of cert.now.circuit) cert.now.layout (modules_in cert.now)
+        (map arc_value jobs.now) }
+    ensures { IfOk result (λ faults. AreBorderFaultsOf (setting_of cert.now.circuit cert.now.layout)
+        (modules_in cert.now) faults.items) }
 {
     let count = cert.modules();
     if cert.version() == 2 {

@@ -48,7 +48,8 @@ fn push_border(halos: &mut Vec<Border>, border: Border) -> Result<(), AllocError
 
 // Adds an edge line for a cell in the halo of the box.
 fn push_line(halos: &mut Vec<Border>, area: Box2, line: &Entry) -> Result<(), AllocError>
-    ensures { OnOk result (halos.new.items ≡ halos.old.items ++ filter (λ e. in_halo area e.cell.x e.cell.y) (edge_in line.now)) }
+    ensures { OnOk result (halos.new.items
+        ≡ halos.old.items ++ filter (λ e. in_halo area e.cell.x e.cell.y) (edge_in line.now)) }
 {
     match line {
         Entry::Edge(border) if area.in_halo(border.cell) => push_border(halos, *border),
@@ -57,7 +58,9 @@ fn push_line(halos: &mut Vec<Border>, area: Box2, line: &Entry) -> Result<(), Al
 }
 
 fn push_lines(halos: &mut Vec<Border>, area: Box2, lines: &[Entry]) -> Result<(), AllocError>
-    ensures { OnOk result (halos.new.items ≡ halos.old.items ++ filter (λ e. in_halo area e.cell.x e.cell.y) (flat_map edge_in lines.now)) }
+    ensures { OnOk result (halos.new.items
+        ≡ halos.old.items ++ filter (λ e. in_halo area e.cell.x e.cell.y)
+        (flat_map edge_in lines.now)) }
 {
     'lines: for line in lines {
         push_line(halos, area, line)?;
@@ -68,7 +71,9 @@ fn push_lines(halos: &mut Vec<Border>, area: Box2, lines: &[Entry]) -> Result<()
 // Adds the edge lines of a module, which are for cells of its box.
 fn push_part(halos: &mut Vec<Border>, area: Box2, part: &Part) -> Result<(), AllocError>
     requires { AreInBox part.now.area (edges (part_lines part.now)) }
-    ensures { OnOk result (halos.new.items ≡ halos.old.items ++ filter (λ e. in_halo area e.cell.x e.cell.y) (edges (part_lines part.now))) }
+    ensures { OnOk result (halos.new.items
+        ≡ halos.old.items ++ filter (λ e. in_halo area e.cell.x e.cell.y)
+        (edges (part_lines part.now))) }
 {
     if !area.is_near(part.area) {
         return Ok(());
@@ -78,7 +83,9 @@ fn push_part(halos: &mut Vec<Border>, area: Box2, part: &Part) -> Result<(), All
 
 fn push_parts(halos: &mut Vec<Border>, area: Box2, parts: &[Part]) -> Result<(), AllocError>
     requires { All (λ p. AreInBox p.area (edges (part_lines p))) parts.now }
-    ensures { OnOk result (halos.new.items ≡ halos.old.items ++ filter (λ e. in_halo area e.cell.x e.cell.y) (flat_map edges (map part_lines parts.now))) }
+    ensures { OnOk result (halos.new.items
+        ≡ halos.old.items ++ filter (λ e. in_halo area e.cell.x e.cell.y)
+        (flat_map edges (map part_lines parts.now))) }
 {
     'parts: for part in parts {
         push_part(halos, area, part)?;
@@ -95,7 +102,8 @@ fn lines_beside(
     area: Box2,
 ) -> Result<Vec<Border>, AllocError>
     requires { AreModules (setting_of plan.now.circuit plan.now.layout) (map part_lines parts.now) }
-    ensures { IfOk result (λ halos. halos.items ≡ beside (setting_of plan.now.circuit plan.now.layout) (map part_lines parts.now) area) }
+    ensures { IfOk result (λ halos. halos.items
+        ≡ beside (setting_of plan.now.circuit plan.now.layout) (map part_lines parts.now) area) }
 {
     let mut halos = Vec::new(alloc);
     let size = plan.layout().size();
@@ -114,7 +122,9 @@ fn halos_beside(
     area: Box2,
 ) -> Result<Vec<Border>, AllocError>
     requires { AreModules (setting_of plan.now.circuit plan.now.layout) (map part_lines parts.now) }
-    ensures { IfOk result (λ halos. halos.items ≡ in_order (beside (setting_of plan.now.circuit plan.now.layout) (map part_lines parts.now) area)) }
+    ensures { IfOk result (λ halos. halos.items
+        ≡ in_order (beside (setting_of plan.now.circuit plan.now.layout) (map part_lines parts.now)
+        area)) }
 {
     let mut halos = lines_beside(alloc, plan, parts, area)?;
     halos.sort_by(|a, b| compare_borders(a, b))?;
@@ -186,7 +196,8 @@ fn push_stop(full: &mut Vec<Entry>, line: &Entry) -> Result<(), AllocError>
 
 // Adds the stops.
 fn push_stops(full: &mut Vec<Entry>, lines: &[Entry]) -> Result<(), AllocError>
-    ensures { OnOk result (full.new.items ≡ full.old.items ++ map Stop (flat_map stop_in lines.now)) }
+    ensures { OnOk result (full.new.items
+        ≡ full.old.items ++ map Stop (flat_map stop_in lines.now)) }
 {
     'lines: for line in lines {
         push_stop(full, line)?;
@@ -203,7 +214,9 @@ pub(crate) fn full_lines(
     part: &Part,
 ) -> Result<Vec<Entry>, AllocError>
     requires { AreModules (setting_of plan.now.circuit plan.now.layout) (map part_lines parts.now) }
-    ensures { IfOk result (λ lines. record { area = part.now.area; lines = lines.items } ≡ with_halos (setting_of plan.now.circuit plan.now.layout) (map part_lines parts.now) (part_lines part.now)) }
+    ensures { IfOk result (λ lines. record { area = part.now.area; lines = lines.items }
+        ≡ with_halos (setting_of plan.now.circuit plan.now.layout) (map part_lines parts.now)
+        (part_lines part.now)) }
 {
     let halos = halos_beside(alloc, plan, parts, part.area)?;
     let mut full = Vec::new(alloc);

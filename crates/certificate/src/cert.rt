@@ -16,8 +16,8 @@ use circuit::Circuit;
 use pattern::{Extent, Layout};
 use std::marker::Model;
 
-/// A certificate, which cuts a layout of a circuit into modules. Contracts see what it is for, its version and its lines, as a
-/// `CertState`.
+/// A certificate, which cuts a layout of a circuit into modules. Contracts see what it is for, its version and its
+/// lines, as a `CertState`.
 #[derive(Drop)]
 pub struct Cert<'a> {
     pub(crate) circuit: &'a Circuit,
@@ -69,8 +69,8 @@ impl<'a> Cert<'a> {
         self.entries.as_slice()
     }
 
-    /// The width, the height and the steps of the layout: even sides of 2 to 512, and at most 65,536 steps. All that stands in the
-    /// layout is inside, and no cell is taken twice at the start, or twice at the end.
+    /// The width, the height and the steps of the layout: even sides of 2 to 512, and at most 65,536 steps. All that
+    /// stands in the layout is inside, and no cell is taken twice at the start, or twice at the end.
     pub fn size(&self) -> Extent
         ensures size { result ≡ self.now.layout.size }
         ensures limits { size_fault result ≡ None }
@@ -81,19 +81,24 @@ impl<'a> Cert<'a> {
 
     /// How many modules the certificate has, at most 1024. They are numbered from 0 in the order of their lines.
     ///
-    /// Of its own lines of edges, halos and stops each has at most 65,536. Their boxes tile the layout's rectangle. Each box has an even corner and even sides of 2 to 64. The used gates of a
-    /// module rise, and what they use is local before them. Its edge lines are in its ring and not on the rectangle's rim, its
-    /// halo lines in its halo and inside the rectangle; their times are odd and below the steps, their wires are local, and
-    /// they are in order. So are the wires of the ports in its box. Each gate of the circuit uses wires that are defined before
-    /// it; the inputs are the circuit's first wires. All this holds of the modules as they were written, and in version 2 also with the halo
-    /// lines that the edge lines beside them stand for.
+    /// Of its own lines of edges, halos and stops each has at most 65,536. Their boxes tile the layout's rectangle.
+    /// Each box has an even corner and even sides of 2 to 64. The used gates of a module rise, and what they use is
+    /// local before them. Its edge lines are in its ring and not on the rectangle's rim, its halo lines in its halo and
+    /// inside the rectangle; their times are odd and below the steps, their wires are local, and they are in order. So
+    /// are the wires of the ports in its box. Each gate of the circuit uses wires that are defined before it; the
+    /// inputs are the circuit's first wires. All this holds of the modules as they were written, and in version 2 also
+    /// with the halo lines that the edge lines beside them stand for.
     pub fn modules(&self) -> usize
         ensures count { result ≡ length (modules_of self.now.entries) }
-        ensures good { AreModules (setting_of self.now.circuit self.now.layout) (modules_in self.now) }
-        ensures written { AreModules (setting_of self.now.circuit self.now.layout) (modules_of self.now.entries) }
+        ensures good { AreModules (setting_of self.now.circuit self.now.layout)
+            (modules_in self.now) }
+        ensures written { AreModules (setting_of self.now.circuit self.now.layout)
+            (modules_of self.now.entries) }
         ensures lines { All HasFewLines (modules_of self.now.entries) }
-        ensures ordered { AreOrdered (netlist_of self.now.circuit).given (netlist_of self.now.circuit).gates }
-        ensures inputs { take (netlist_of self.now.circuit).given (defined self.now.circuit) ≡ input_names self.now.circuit }
+        ensures ordered { AreOrdered (netlist_of self.now.circuit).given
+            (netlist_of self.now.circuit).gates }
+        ensures inputs { take (netlist_of self.now.circuit).given (defined self.now.circuit)
+            ≡ input_names self.now.circuit }
     {
         let _gates = self.circuit.gates();
         let _inputs = self.circuit.inputs();

@@ -13,7 +13,8 @@ use std::alloc::{AllocError, Global};
 
 // Hashes the text of a line, which is printed in place of the one before it.
 fn hash_line(hasher: &mut Sha256, line: &mut Vec<u8>, entry: &Entry) -> Result<(), AllocError>
-    ensures { OnOk result ((m : List ℕ) → Holds256 hasher.old m → Holds256 hasher.new (m ++ entry_text entry.now)) }
+    ensures { OnOk result ((m : List ℕ) → Holds256 hasher.old m →
+        Holds256 hasher.new (m ++ entry_text entry.now)) }
 {
     line.truncate(0);
     print_entry(line, entry)?;
@@ -23,7 +24,8 @@ fn hash_line(hasher: &mut Sha256, line: &mut Vec<u8>, entry: &Entry) -> Result<(
 
 // Hashes the text of lines.
 fn hash_lines(hasher: &mut Sha256, line: &mut Vec<u8>, entries: &[Entry]) -> Result<(), AllocError>
-    ensures { OnOk result ((m : List ℕ) → Holds256 hasher.old m → Holds256 hasher.new (m ++ flat_map entry_text entries.now)) }
+    ensures { OnOk result ((m : List ℕ) → Holds256 hasher.old m →
+        Holds256 hasher.new (m ++ flat_map entry_text entries.now)) }
 {
     for entry in entries {
         hash_line(hasher, line, entry)?;
@@ -32,8 +34,9 @@ fn hash_lines(hasher: &mut Sha256, line: &mut Vec<u8>, entries: &[Entry]) -> Res
 }
 
 impl<'a> Cert<'a> {
-    /// The SHA-256 digest of the certificate's text: of the bytes of its section, from its header line to its `end` line with
-    /// the line feed. It is hashed line by line, so it takes no memory for the whole text. The error is want of memory.
+    /// The SHA-256 digest of the certificate's text: of the bytes of its section, from its header line to its `end`
+    /// line with the line feed. It is hashed line by line, so it takes no memory for the whole text. The error is want
+    /// of memory.
     #[tactic(auto, unfolding(crate::specs::Text::certificate_text))]
     pub fn digest(&self, alloc: Global) -> Result<[u8; 32], AllocError>
         ensures { IfOk result (λ digest. digest ≡ sha256 (certificate_text self.now)) }

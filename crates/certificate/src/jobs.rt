@@ -39,15 +39,26 @@ fn named_locals(
     circuit: &Circuit,
     lines: &[Entry],
 ) -> Result<(Locals, Vec<u16>), AllocError>
-    requires lines { AreLocalLines (netlist_of circuit.now) (flat_map (λ n. option_to_list (wire_of (circuit_of circuit.now) n)) (flat_map cut_in lines.now)) (flat_map use_in lines.now) }
-    requires kept { All (λ k. IsTrue (is_among (flat_map use_in lines.now) k)) (flat_map keep_in lines.now) }
+    requires lines { AreLocalLines (netlist_of circuit.now)
+        (flat_map (λ n. option_to_list (wire_of (circuit_of circuit.now) n))
+        (flat_map cut_in lines.now)) (flat_map use_in lines.now) }
+    requires kept { All (λ k. IsTrue (is_among (flat_map use_in lines.now) k))
+        (flat_map keep_in lines.now) }
     ensures locals { IfOk result (λ l. AreLocalsOf (netlist_of circuit.now) l.0) }
-    ensures wires { IfOk result (λ l. l.0.circuit_wires ≡ local_wires (netlist_of circuit.now) (flat_map (λ n. option_to_list (wire_of (circuit_of circuit.now) n)) (flat_map cut_in lines.now)) (flat_map use_in lines.now)) }
+    ensures wires { IfOk result (λ l. l.0.circuit_wires
+        ≡ local_wires (netlist_of circuit.now)
+        (flat_map (λ n. option_to_list (wire_of (circuit_of circuit.now) n))
+        (flat_map cut_in lines.now)) (flat_map use_in lines.now)) }
     ensures gates { IfOk result (λ l. l.0.circuit_gates ≡ flat_map use_in lines.now) }
-    ensures count { IfOk result (λ l. length l.0.netlist.gates ≡ length (flat_map use_in lines.now)) }
-    ensures given { IfOk result (λ l. l.0.netlist.given ≡ length (flat_map (λ n. option_to_list (wire_of (circuit_of circuit.now) n)) (flat_map cut_in lines.now))) }
-    ensures kept { IfOk result (λ l. map (slice_index (flat_map use_in lines.now)) l.1.items ≡ flat_map keep_in lines.now) }
-    ensures within { IfOk result (λ l. All (λ k. k < length (flat_map use_in lines.now)) l.1.items) }
+    ensures count { IfOk result (λ l. length l.0.netlist.gates
+        ≡ length (flat_map use_in lines.now)) }
+    ensures given { IfOk result (λ l. l.0.netlist.given
+        ≡ length (flat_map (λ n. option_to_list (wire_of (circuit_of circuit.now) n))
+        (flat_map cut_in lines.now))) }
+    ensures kept { IfOk result (λ l. map (slice_index (flat_map use_in lines.now)) l.1.items
+        ≡ flat_map keep_in lines.now) }
+    ensures within { IfOk result (λ l. All (λ k. k < length (flat_map use_in lines.now))
+        l.1.items) }
 {
     // A circuit has at most 1024 gates, so their numbers fit.
     let _gate_count = circuit.gates();
@@ -68,12 +79,16 @@ fn own_signals(
     lines: &[Entry],
 ) -> Result<Schedule, AllocError>
     requires order { AreInOrder lines.now }
-    requires local { All (IsNamedLocal (circuit_of circuit.now) locals.now) (flat_map (borders_in side) lines.now) }
+    requires local { All (IsNamedLocal (circuit_of circuit.now) locals.now)
+        (flat_map (borders_in side) lines.now) }
     requires low { All (λ e. IsLow e.cell) (flat_map (borders_in side) lines.now) }
     requires corner { (area.x ≤ 512) × (area.y ≤ 512) }
-    ensures same { IfOk result (λ s. renumber_signals (circuit_wire locals.now) (from_corner area s) ≡ line_signals (circuit_of circuit.now) (flat_map (borders_in side) lines.now)) }
-    ensures held { IfOk result (λ s. All (λ h. IsBelow (wires locals.now.netlist) h.signal) (from_corner area s).held) }
-    ensures events { IfOk result (λ s. All (λ e. IsBelow (wires locals.now.netlist) e.signal) (from_corner area s).events) }
+    ensures same { IfOk result (λ s. renumber_signals (circuit_wire locals.now) (from_corner area s)
+        ≡ line_signals (circuit_of circuit.now) (flat_map (borders_in side) lines.now)) }
+    ensures held { IfOk result (λ s. All (λ h. IsBelow (wires locals.now.netlist) h.signal)
+        (from_corner area s).held) }
+    ensures events { IfOk result (λ s. All (λ e. IsBelow (wires locals.now.netlist) e.signal)
+        (from_corner area s).events) }
     ensures near { IfOk result (λ s. All (λ e. IsNear e.at.cell) s.events) }
 {
     let signals = signals_of(alloc, circuit, locals, side, lines)?;
@@ -89,18 +104,28 @@ fn schedules(
     lines: &[Entry],
 ) -> Result<(Schedule, Schedule), AllocError>
     requires order { AreInOrder lines.now }
-    requires edges { All (IsNamedLocal (circuit_of circuit.now) locals.now) (flat_map (borders_in Side.Ring) lines.now) }
+    requires edges { All (IsNamedLocal (circuit_of circuit.now) locals.now)
+        (flat_map (borders_in Side.Ring) lines.now) }
     requires low_edges { All (λ e. IsLow e.cell) (flat_map (borders_in Side.Ring) lines.now) }
-    requires halos { All (IsNamedLocal (circuit_of circuit.now) locals.now) (flat_map (borders_in Side.Halo) lines.now) }
+    requires halos { All (IsNamedLocal (circuit_of circuit.now) locals.now)
+        (flat_map (borders_in Side.Halo) lines.now) }
     requires low_halos { All (λ e. IsLow e.cell) (flat_map (borders_in Side.Halo) lines.now) }
     requires corner { (area.x ≤ 512) × (area.y ≤ 512) }
-    ensures edges { IfOk result (λ sides. renumber_signals (circuit_wire locals.now) (from_corner area sides.0) ≡ line_signals (circuit_of circuit.now) (flat_map (borders_in Side.Ring) lines.now)) }
-    ensures edges_held { IfOk result (λ sides. All (λ h. IsBelow (wires locals.now.netlist) h.signal) (from_corner area sides.0).held) }
-    ensures edge_events { IfOk result (λ sides. All (λ e. IsBelow (wires locals.now.netlist) e.signal) (from_corner area sides.0).events) }
+    ensures edges { IfOk result (λ sides. renumber_signals (circuit_wire locals.now)
+        (from_corner area sides.0)
+        ≡ line_signals (circuit_of circuit.now) (flat_map (borders_in Side.Ring) lines.now)) }
+    ensures edges_held { IfOk result (λ sides. All
+        (λ h. IsBelow (wires locals.now.netlist) h.signal) (from_corner area sides.0).held) }
+    ensures edge_events { IfOk result (λ sides. All
+        (λ e. IsBelow (wires locals.now.netlist) e.signal) (from_corner area sides.0).events) }
     ensures near_edges { IfOk result (λ sides. All (λ e. IsNear e.at.cell) sides.0.events) }
-    ensures halos { IfOk result (λ sides. renumber_signals (circuit_wire locals.now) (from_corner area sides.1) ≡ line_signals (circuit_of circuit.now) (flat_map (borders_in Side.Halo) lines.now)) }
-    ensures halos_held { IfOk result (λ sides. All (λ h. IsBelow (wires locals.now.netlist) h.signal) (from_corner area sides.1).held) }
-    ensures halo_events { IfOk result (λ sides. All (λ e. IsBelow (wires locals.now.netlist) e.signal) (from_corner area sides.1).events) }
+    ensures halos { IfOk result (λ sides. renumber_signals (circuit_wire locals.now)
+        (from_corner area sides.1)
+        ≡ line_signals (circuit_of circuit.now) (flat_map (borders_in Side.Halo) lines.now)) }
+    ensures halos_held { IfOk result (λ sides. All
+        (λ h. IsBelow (wires locals.now.netlist) h.signal) (from_corner area sides.1).held) }
+    ensures halo_events { IfOk result (λ sides. All
+        (λ e. IsBelow (wires locals.now.netlist) e.signal) (from_corner area sides.1).events) }
     ensures near_halos { IfOk result (λ sides. All (λ e. IsNear e.at.cell) sides.1.events) }
 {
     let edges = own_signals(alloc, circuit, locals, Side::Ring, area, lines)?;
@@ -116,10 +141,13 @@ fn own_stops(
     area: Box2,
     lines: &[Entry],
 ) -> Result<Vec<Stop>, AllocError>
-    requires local { All (λ s. IsTrue (is_local (circuit_of circuit.now) locals.now.circuit_wires s.wire)) (flat_map stop_in lines.now) }
+    requires local { All
+        (λ s. IsTrue (is_local (circuit_of circuit.now) locals.now.circuit_wires s.wire))
+        (flat_map stop_in lines.now) }
     requires low { All (λ s. IsLow s.cell) (flat_map stop_in lines.now) }
     requires corner { (area.x ≤ 512) × (area.y ≤ 512) }
-    ensures said { IfOk result (λ stops. AreStops (circuit_of circuit.now) locals.now (flat_map stop_in lines.now) (stops_from_corner area stops.items)) }
+    ensures said { IfOk result (λ stops. AreStops (circuit_of circuit.now) locals.now
+        (flat_map stop_in lines.now) (stops_from_corner area stops.items)) }
     ensures near { IfOk result (λ stops. All (λ s. IsNear s.at.cell) stops.items) }
 {
     let stops = stops_of(alloc, circuit, locals, lines)?;
@@ -128,9 +156,12 @@ fn own_stops(
 
 // The job of the module that has this box and these lines.
 fn make_job(alloc: Global, plan: &Plan, area: Box2, lines: &[Entry]) -> Result<Job, AllocError>
-    requires module { IsModule (setting_of plan.now.circuit plan.now.layout) (record { area = area; lines = lines.now }) }
-    requires ports { HasPorts (setting_of plan.now.circuit plan.now.layout) (record { area = area; lines = lines.now }) }
-    ensures { IfOk result (λ j. IsJobOf (circuit_of plan.now.circuit) plan.now.layout (record { area = area; lines = lines.now }) j) }
+    requires module { IsModule (setting_of plan.now.circuit plan.now.layout)
+        (record { area = area; lines = lines.now }) }
+    requires ports { HasPorts (setting_of plan.now.circuit plan.now.layout)
+        (record { area = area; lines = lines.now }) }
+    ensures { IfOk result (λ j. IsJobOf (circuit_of plan.now.circuit) plan.now.layout
+        (record { area = area; lines = lines.now }) j) }
 {
     let circuit = plan.circuit();
     let size = plan.layout().size();
@@ -163,7 +194,8 @@ fn make_job(alloc: Global, plan: &Plan, area: Box2, lines: &[Entry]) -> Result<J
 // The jobs of the modules that have these lines.
 fn jobs_of_lines(alloc: Global, plan: &Plan, entries: &[Entry]) -> Result<Vec<Arc<Job>>, AllocError>
     requires { AreModules (setting_of plan.now.circuit plan.now.layout) (modules_of entries.now) }
-    ensures { IfOk result (λ js. AreJobsOf (circuit_of plan.now.circuit) plan.now.layout (modules_of entries.now) (map arc_value js.items)) }
+    ensures { IfOk result (λ js. AreJobsOf (circuit_of plan.now.circuit) plan.now.layout
+        (modules_of entries.now) (map arc_value js.items)) }
 {
     let mut jobs = Vec::new(alloc);
     'lines: for (place, entry) in entries.iter().enumerate() {
@@ -177,9 +209,13 @@ fn jobs_of_lines(alloc: Global, plan: &Plan, entries: &[Entry]) -> Result<Vec<Ar
 
 // The jobs of modules without halo lines, by the edge lines beside them.
 fn jobs_of_parts(alloc: Global, plan: &Plan, parts: &[Part]) -> Result<Vec<Arc<Job>>, AllocError>
-    requires modules { AreModules (setting_of plan.now.circuit plan.now.layout) (map part_lines parts.now) }
-    requires complete { lacks_wire (setting_of plan.now.circuit plan.now.layout) (map part_lines parts.now) ≡ false }
-    ensures { IfOk result (λ js. AreJobsOf (circuit_of plan.now.circuit) plan.now.layout (map (with_halos (setting_of plan.now.circuit plan.now.layout) (map part_lines parts.now)) (map part_lines parts.now)) (map arc_value js.items)) }
+    requires modules { AreModules (setting_of plan.now.circuit plan.now.layout)
+        (map part_lines parts.now) }
+    requires complete { lacks_wire (setting_of plan.now.circuit plan.now.layout)
+        (map part_lines parts.now) ≡ false }
+    ensures { IfOk result (λ js. AreJobsOf (circuit_of plan.now.circuit) plan.now.layout
+        (map (with_halos (setting_of plan.now.circuit plan.now.layout) (map part_lines parts.now))
+        (map part_lines parts.now)) (map arc_value js.items)) }
 {
     let mut jobs = Vec::new(alloc);
     'parts: for part in parts {
@@ -198,9 +234,14 @@ fn jobs_of_version(
     version: u32,
     entries: &[Entry],
 ) -> Result<Vec<Arc<Job>>, AllocError>
-    requires modules { AreModules (setting_of plan.now.circuit plan.now.layout) (modules_of entries.now) }
-    requires complete { (is_haloless version && lacks_wire (setting_of plan.now.circuit plan.now.layout) (modules_of entries.now)) ≡ false }
-    ensures { IfOk result (λ js. AreJobsOf (circuit_of plan.now.circuit) plan.now.layout (meant version (setting_of plan.now.circuit plan.now.layout) (modules_of entries.now)) (map arc_value js.items)) }
+    requires modules { AreModules (setting_of plan.now.circuit plan.now.layout)
+        (modules_of entries.now) }
+    requires complete { (is_haloless version
+        && lacks_wire (setting_of plan.now.circuit plan.now.layout) (modules_of entries.now))
+        ≡ false }
+    ensures { IfOk result (λ js. AreJobsOf (circuit_of plan.now.circuit) plan.now.layout
+        (meant version (setting_of plan.now.circuit plan.now.layout) (modules_of entries.now))
+        (map arc_value js.items)) }
 {
     if version == 2 {
         let parts = parts_of(alloc, entries)?;
@@ -210,10 +251,11 @@ fn jobs_of_version(
 }
 
 impl<'a> Cert<'a> {
-    /// The jobs of the modules, in their order: for each module all that its run by itself needs, by its lines and by what the
-    /// circuit and the layout say of its cells. `AllocError` is want of memory.
+    /// The jobs of the modules, in their order: for each module all that its run by itself needs, by its lines and by
+    /// what the circuit and the layout say of its cells. `AllocError` is want of memory.
     pub fn jobs(&self, alloc: Global) -> Result<Vec<Arc<Job>>, AllocError>
-        ensures { IfOk result (λ js. AreJobsOf (circuit_of self.now.circuit) self.now.layout (modules_in self.now) (map arc_value js.items)) }
+        ensures { IfOk result (λ js. AreJobsOf (circuit_of self.now.circuit) self.now.layout
+            (modules_in self.now) (map arc_value js.items)) }
     {
         let plan = Plan::new(alloc, self.circuit, self.layout)?;
         jobs_of_version(alloc, &plan, self.version, self.entries.as_slice())

@@ -15,7 +15,8 @@ use std::alloc::{AllocError, Global};
 
 // Notes the gate that a line keeps, if it is such a line.
 fn note_keep(kept: &mut IndexSet<u32>, line: &Entry) -> Result<(), AllocError>
-    ensures { OnOk result ((n : ℕ) → is_among kept.new.keys n ≡ (is_among kept.old.keys n || is_among (keep_in line.now) n)) }
+    ensures { OnOk result ((n : ℕ) →
+        is_among kept.new.keys n ≡ (is_among kept.old.keys n || is_among (keep_in line.now) n)) }
 {
     if let Entry::Keep(number) = line {
         kept.insert(*number)?;
@@ -25,7 +26,9 @@ fn note_keep(kept: &mut IndexSet<u32>, line: &Entry) -> Result<(), AllocError>
 
 // Notes the gates that the lines keep.
 fn note_keeps(kept: &mut IndexSet<u32>, lines: &[Entry]) -> Result<(), AllocError>
-    ensures { OnOk result ((n : ℕ) → is_among kept.new.keys n ≡ (is_among kept.old.keys n || is_among (flat_map keep_in lines.now) n)) }
+    ensures { OnOk result ((n : ℕ) →
+        is_among kept.new.keys n
+        ≡ (is_among kept.old.keys n || is_among (flat_map keep_in lines.now) n)) }
 {
     for line in lines {
         note_keep(kept, line)?;
@@ -35,7 +38,8 @@ fn note_keeps(kept: &mut IndexSet<u32>, lines: &[Entry]) -> Result<(), AllocErro
 
 // The gates that some module of the lines keeps.
 fn kept_gates(alloc: Global, entries: &[Entry]) -> Result<IndexSet<u32>, AllocError>
-    ensures { IfOk result (λ kept. (n : ℕ) → is_among kept.keys n ≡ is_kept (modules_of entries.now) n) }
+    ensures { IfOk result (λ kept. (n : ℕ) →
+        is_among kept.keys n ≡ is_kept (modules_of entries.now) n) }
 {
     let mut kept = IndexSet::new(alloc);
     'lines: for (place, entry) in entries.iter().enumerate() {
@@ -62,7 +66,8 @@ fn push_unkept(
     kept: bool,
     number: usize,
 ) -> Result<(), AllocError>
-    ensures { OnOk result (gates.new.items ≡ gates.old.items ++ (if inverse && not kept then number ∷ [] else [])) }
+    ensures { OnOk result (gates.new.items
+        ≡ gates.old.items ++ (if inverse && not kept then number ∷ [] else [])) }
 {
     if inverse & !kept {
         gates.push(number)?;
@@ -73,7 +78,8 @@ fn push_unkept(
 impl<'a> Cert<'a> {
     /// The numbers of the inverse gates that no module keeps, in order. `AllocError` is want of memory.
     pub fn unkept(&self, alloc: Global) -> Result<Vec<usize>, AllocError>
-        ensures { IfOk result (λ gates. gates.items ≡ unkept (setting_of self.now.circuit self.now.layout) (modules_in self.now)) }
+        ensures { IfOk result (λ gates. gates.items
+            ≡ unkept (setting_of self.now.circuit self.now.layout) (modules_in self.now)) }
     {
         let kept = kept_gates(alloc, self.entries.as_slice())?;
         let mut gates = Vec::new(alloc);

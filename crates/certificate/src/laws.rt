@@ -16,10 +16,10 @@ pub fn seen_first_and_last()
     ensures last { LastIsGreatest }
 {}
 
-/// What stops tell of gates. Each line of [`Cert::times`](crate::Cert::times) tells of its gate what `specs/Arrivals.antt` says: a delay line
-/// of N steps, that the first stop of the wire that the delay defines comes N steps after the last one of the wire that it uses; a meeting at
-/// T, that the last stops of those inputs that have any are at T. So where all rules are kept, each delay takes as many steps as it
-/// says, and inputs meet.
+/// What stops tell of gates. Each line of [`Cert::times`](crate::Cert::times) tells of its gate what
+/// `specs/Arrivals.antt` says: a delay line of N steps, that the first stop of the wire that the delay defines comes N
+/// steps after the last one of the wire that it uses; a meeting at T, that the last stops of those inputs that have any
+/// are at T. So where all rules are kept, each delay takes as many steps as it says, and inputs meet.
 pub fn lines_tell_of_gates()
     ensures each { LinesTell }
     ensures kept { KeptIsOnTime }

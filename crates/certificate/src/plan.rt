@@ -24,8 +24,8 @@ use section_text::Name;
 use std::alloc::{AllocError, Global};
 use std::marker::Model;
 
-/// A circuit and a layout, with tables by which each cell of the layout is looked up in constant time. Contracts see the
-/// circuit and the layout, as a `PlanState`.
+/// A circuit and a layout, with tables by which each cell of the layout is looked up in constant time. Contracts see
+/// the circuit and the layout, as a `PlanState`.
 // The mirrors' cells, the balls and the wastes are the live cells of grids.
 #[derive(Drop)]
 pub(crate) struct Plan<'a> {
@@ -75,9 +75,12 @@ fn cells_of_mirrors(alloc: Global, mirrors: &[Rectangle]) -> Result<Vec<Cell>, A
 
 // The grids of a layout's mirrors, of its balls and of its wastes.
 fn grids_of(alloc: Global, layout: &Layout) -> Result<(Grid, Grid, Grid), AllocError>
-    ensures mirrors { IfOk result (λ grids. (x y : ℤ) → live grids.0 x y ≡ in_rectangles layout.now.mirrors x y) }
-    ensures balls { IfOk result (λ grids. (x y : ℤ) → live grids.1 x y ≡ in_cells layout.now.balls x y) }
-    ensures wastes { IfOk result (λ grids. (x y : ℤ) → live grids.2 x y ≡ in_cells layout.now.wastes x y) }
+    ensures mirrors { IfOk result (λ grids. (x y : ℤ) →
+        live grids.0 x y ≡ in_rectangles layout.now.mirrors x y) }
+    ensures balls { IfOk result (λ grids. (x y : ℤ) →
+        live grids.1 x y ≡ in_cells layout.now.balls x y) }
+    ensures wastes { IfOk result (λ grids. (x y : ℤ) →
+        live grids.2 x y ≡ in_cells layout.now.wastes x y) }
 {
     let size = layout.size();
     let cells = cells_of_mirrors(alloc, layout.mirrors())?;
@@ -106,7 +109,8 @@ pub(crate) fn local_wire(locals: &Locals, wire: WireNo) -> u16
 /// The number among a module's wires of the wire of this name, which the module knows.
 pub(crate) fn local_name(circuit: &Circuit, locals: &Locals, name: &Name) -> u16
     requires { IsTrue (is_local (circuit_of circuit.now) locals.now.circuit_wires name.now) }
-    ensures same { wire_of (circuit_of circuit.now) name.now ≡ Some (circuit_wire locals.now result) }
+    ensures same { wire_of (circuit_of circuit.now) name.now
+        ≡ Some (circuit_wire locals.now result) }
     ensures below { result < wires locals.now.netlist }
 {
     match circuit.wire(name) {
@@ -122,7 +126,8 @@ impl<'a> Plan<'a> {
         circuit: &'a Circuit,
         layout: &'a Layout,
     ) -> Result<Plan<'a>, AllocError>
-        ensures { IfOk result (λ plan. plan ≡ record { circuit = circuit.now; layout = layout.now }) }
+        ensures { IfOk result (λ plan. plan
+            ≡ record { circuit = circuit.now; layout = layout.now }) }
     {
         let (ins, outs) = port_tables(alloc, layout)?;
         let (mirrors, balls, wastes) = grids_of(alloc, layout)?;
@@ -153,8 +158,10 @@ impl<'a> Plan<'a> {
 
     // What a cell carries at time 0, where the module knows the wire of an input there.
     fn start_at(&self, locals: &Locals, cell: Cell) -> Signal
-        requires { KnowsPort (circuit_of self.now.circuit) locals.now.circuit_wires self.now.layout.ins cell.x cell.y }
-        ensures same { renumber_signal (circuit_wire locals.now) result ≡ start_signal (circuit_of self.now.circuit) self.now.layout cell.x cell.y }
+        requires { KnowsPort (circuit_of self.now.circuit) locals.now.circuit_wires
+            self.now.layout.ins cell.x cell.y }
+        ensures same { renumber_signal (circuit_wire locals.now) result
+            ≡ start_signal (circuit_of self.now.circuit) self.now.layout cell.x cell.y }
         ensures below { IsBelow (wires locals.now.netlist) result }
     {
         let mirror = is_live(&self.mirrors, cell);
@@ -170,8 +177,10 @@ impl<'a> Plan<'a> {
 
     // What a cell is to be at the last time, where the module knows the wire of an output there.
     fn demand_at(&self, locals: &Locals, cell: Cell) -> Demand
-        requires { KnowsPort (circuit_of self.now.circuit) locals.now.circuit_wires self.now.layout.outs cell.x cell.y }
-        ensures same { renumber_demand (circuit_wire locals.now) result ≡ end_demand (circuit_of self.now.circuit) self.now.layout cell.x cell.y }
+        requires { KnowsPort (circuit_of self.now.circuit) locals.now.circuit_wires
+            self.now.layout.outs cell.x cell.y }
+        ensures same { renumber_demand (circuit_wire locals.now) result
+            ≡ end_demand (circuit_of self.now.circuit) self.now.layout cell.x cell.y }
         ensures below { IsDemandBelow (wires locals.now.netlist) result }
     {
         if is_live(&self.mirrors, cell) {
@@ -189,8 +198,8 @@ impl<'a> Plan<'a> {
         }
     }
 
-    /// What the cells of a box carry at time 0, and what they are to be at the last time, row by row, where the module knows the
-    /// wires of the ports there.
+    /// What the cells of a box carry at time 0, and what they are to be at the last time, row by row, where the module
+    /// knows the wires of the ports there.
     pub(crate) fn cell_lists(
         &self,
         alloc: Global,
@@ -199,14 +208,24 @@ impl<'a> Plan<'a> {
     ) -> Result<(Vec<Signal>, Vec<Demand>), AllocError>
         requires columns { area.x + area.w ≤ 512 }
         requires rows { area.y + area.h ≤ 512 }
-        requires ins { KnowsPorts (circuit_of self.now.circuit) locals.now.circuit_wires self.now.layout.ins area }
-        requires outs { KnowsPorts (circuit_of self.now.circuit) locals.now.circuit_wires self.now.layout.outs area }
+        requires ins { KnowsPorts (circuit_of self.now.circuit) locals.now.circuit_wires
+            self.now.layout.ins area }
+        requires outs { KnowsPorts (circuit_of self.now.circuit) locals.now.circuit_wires
+            self.now.layout.outs area }
         ensures starts_count { IfOk result (λ lists. length lists.0.items ≡ area.w * area.h) }
-        ensures starts_own { IfOk result (λ lists. All (IsBelow (wires locals.now.netlist)) lists.0.items) }
-        ensures starts { IfOk result (λ lists. (x y : ℤ) → IsTrue (in_box area x y) → renumber_signal (circuit_wire locals.now) (unwrap_or (slice_get lists.0.items (place_in area x y)) Signal.Zero) ≡ start_signal (circuit_of self.now.circuit) self.now.layout x y) }
+        ensures starts_own { IfOk result (λ lists. All (IsBelow (wires locals.now.netlist))
+            lists.0.items) }
+        ensures starts { IfOk result (λ lists. (x y : ℤ) → IsTrue (in_box area x y) →
+            renumber_signal (circuit_wire locals.now)
+            (unwrap_or (slice_get lists.0.items (place_in area x y)) Signal.Zero)
+            ≡ start_signal (circuit_of self.now.circuit) self.now.layout x y) }
         ensures demands_count { IfOk result (λ lists. length lists.1.items ≡ area.w * area.h) }
-        ensures demands_own { IfOk result (λ lists. All (IsDemandBelow (wires locals.now.netlist)) lists.1.items) }
-        ensures demands { IfOk result (λ lists. (x y : ℤ) → IsTrue (in_box area x y) → renumber_demand (circuit_wire locals.now) (unwrap_or (slice_get lists.1.items (place_in area x y)) Demand.Dead) ≡ end_demand (circuit_of self.now.circuit) self.now.layout x y) }
+        ensures demands_own { IfOk result (λ lists. All (IsDemandBelow (wires locals.now.netlist))
+            lists.1.items) }
+        ensures demands { IfOk result (λ lists. (x y : ℤ) → IsTrue (in_box area x y) →
+            renumber_demand (circuit_wire locals.now)
+            (unwrap_or (slice_get lists.1.items (place_in area x y)) Demand.Dead)
+            ≡ end_demand (circuit_of self.now.circuit) self.now.layout x y) }
     {
         let cells = cells_of_box(alloc, area)?;
         let mut starts = Vec::new(alloc);

@@ -17,7 +17,8 @@ use std::alloc::{AllocError, Global};
 
 /// Prints the header line.
 pub(crate) fn print_header(out: &mut Vec<u8>, version: u32) -> Result<(), AllocError>
-    ensures { OnOk result (out.new.items ≡ out.old.items ++ line_text (codes "certificate") (decimal version ∷ [])) }
+    ensures { OnOk result (out.new.items
+        ≡ out.old.items ++ line_text (codes "certificate") (decimal version ∷ [])) }
 {
     out.extend_from_slice(b"certificate")?;
     print_number(out, version)?;
@@ -26,7 +27,8 @@ pub(crate) fn print_header(out: &mut Vec<u8>, version: u32) -> Result<(), AllocE
 }
 
 fn print_module(out: &mut Vec<u8>, area: Box2) -> Result<(), AllocError>
-    ensures { OnOk result (out.new.items ≡ out.old.items ++ line_text (codes "module") (area_words area)) }
+    ensures { OnOk result (out.new.items
+        ≡ out.old.items ++ line_text (codes "module") (area_words area)) }
 {
     out.extend_from_slice(b"module")?;
     print_number(out, area.x)?;
@@ -47,7 +49,8 @@ fn print_cut(out: &mut Vec<u8>, name: Name) -> Result<(), AllocError>
 }
 
 fn print_use(out: &mut Vec<u8>, number: u32) -> Result<(), AllocError>
-    ensures { OnOk result (out.new.items ≡ out.old.items ++ line_text (codes "use") (decimal number ∷ [])) }
+    ensures { OnOk result (out.new.items
+        ≡ out.old.items ++ line_text (codes "use") (decimal number ∷ [])) }
 {
     out.extend_from_slice(b"use")?;
     print_number(out, number)?;
@@ -56,7 +59,8 @@ fn print_use(out: &mut Vec<u8>, number: u32) -> Result<(), AllocError>
 }
 
 fn print_keep(out: &mut Vec<u8>, number: u32) -> Result<(), AllocError>
-    ensures { OnOk result (out.new.items ≡ out.old.items ++ line_text (codes "keep") (decimal number ∷ [])) }
+    ensures { OnOk result (out.new.items
+        ≡ out.old.items ++ line_text (codes "keep") (decimal number ∷ [])) }
 {
     out.extend_from_slice(b"keep")?;
     print_number(out, number)?;
@@ -85,7 +89,8 @@ fn print_signal(out: &mut Vec<u8>, signal: Option<Name>) -> Result<(), AllocErro
 }
 
 fn print_border(out: &mut Vec<u8>, word: &[u8], border: &Border) -> Result<(), AllocError>
-    ensures { OnOk result (out.new.items ≡ out.old.items ++ line_text word.now (border_words border.now)) }
+    ensures { OnOk result (out.new.items
+        ≡ out.old.items ++ line_text word.now (border_words border.now)) }
 {
     out.extend_from_slice(word)?;
     print_time(out, border.time)?;
@@ -96,7 +101,8 @@ fn print_border(out: &mut Vec<u8>, word: &[u8], border: &Border) -> Result<(), A
 }
 
 fn print_stop(out: &mut Vec<u8>, stop: &StopLine) -> Result<(), AllocError>
-    ensures { OnOk result (out.new.items ≡ out.old.items ++ line_text (codes "stop") (stop_words stop.now)) }
+    ensures { OnOk result (out.new.items
+        ≡ out.old.items ++ line_text (codes "stop") (stop_words stop.now)) }
 {
     out.extend_from_slice(b"stop")?;
     print_number(out, stop.time)?;
@@ -133,7 +139,8 @@ fn print_entries(out: &mut Vec<u8>, entries: &[Entry]) -> Result<(), AllocError>
 // A line, unless it is a halo line.
 #[tactic(auto, unfolding(certificate_lines::specs::Versions::without_halos))]
 fn print_unless_halo(out: &mut Vec<u8>, entry: &Entry) -> Result<(), AllocError>
-    ensures { OnOk result (out.new.items ≡ out.old.items ++ flat_map entry_text (without_halos (entry.now ∷ []))) }
+    ensures { OnOk result (out.new.items
+        ≡ out.old.items ++ flat_map entry_text (without_halos (entry.now ∷ []))) }
 {
     if is_halo(entry) {
         return Ok(());
@@ -143,7 +150,8 @@ fn print_unless_halo(out: &mut Vec<u8>, entry: &Entry) -> Result<(), AllocError>
 
 // The lines other than halo lines.
 fn print_without_halos(out: &mut Vec<u8>, entries: &[Entry]) -> Result<(), AllocError>
-    ensures { OnOk result (out.new.items ≡ out.old.items ++ flat_map entry_text (without_halos entries.now)) }
+    ensures { OnOk result (out.new.items
+        ≡ out.old.items ++ flat_map entry_text (without_halos entries.now)) }
 {
     for entry in entries {
         print_unless_halo(out, entry)?;
@@ -151,9 +159,9 @@ fn print_without_halos(out: &mut Vec<u8>, entries: &[Entry]) -> Result<(), Alloc
     Ok(())
 }
 
-/// The text of a certificate: the bytes of its section, from its header line to its `end` line with the line feed. It is the
-/// text that the certificate was read from, and is read as the same certificate (see the laws of this crate). The error is
-/// want of memory.
+/// The text of a certificate: the bytes of its section, from its header line to its `end` line with the line feed. It
+/// is the text that the certificate was read from, and is read as the same certificate (see the laws of this crate).
+/// The error is want of memory.
 #[tactic(auto, unfolding(crate::specs::Text::certificate_text))]
 pub fn print_certificate(alloc: Global, cert: &Cert) -> Result<Vec<u8>, AllocError>
     ensures { IfOk result (λ text. text.items ≡ certificate_text cert.now) }
@@ -165,8 +173,8 @@ pub fn print_certificate(alloc: Global, cert: &Cert) -> Result<Vec<u8>, AllocErr
     Ok(out)
 }
 
-/// Prints the text of a certificate as one of version 2: with that version in its header line, and without its halo lines. It is the text
-/// of the certificate itself where that is of version 2. The error is want of memory.
+/// Prints the text of a certificate as one of version 2: with that version in its header line, and without its halo
+/// lines. It is the text of the certificate itself where that is of version 2. The error is want of memory.
 #[tactic(auto, unfolding(crate::specs::Text::certificate_text))]
 pub fn print_migrated(out: &mut Vec<u8>, cert: &Cert) -> Result<(), AllocError>
     ensures { OnOk result (out.new.items ≡ out.old.items ++ certificate_text (migrated cert.now)) }

@@ -21,7 +21,8 @@ use std::alloc::{AllocError, Global};
 // A stop line over the wires that the module knows.
 fn local_stop(circuit: &Circuit, locals: &Locals, line: &StopLine) -> Stop
     requires { IsTrue (is_local (circuit_of circuit.now) locals.now.circuit_wires line.now.wire) }
-    ensures same { renumber_stop (circuit_wire locals.now) result ∷ [] ≡ line_stops (circuit_of circuit.now) (line.now ∷ []) }
+    ensures same { renumber_stop (circuit_wire locals.now) result ∷ []
+        ≡ line_stops (circuit_of circuit.now) (line.now ∷ []) }
     ensures own { result.wire < wires locals.now.netlist }
 {
     let at = Moment {
@@ -39,8 +40,11 @@ fn push_stop(
     locals: &Locals,
     line: &Entry,
 ) -> Result<(), AllocError>
-    requires { All (λ s. IsTrue (is_local (circuit_of circuit.now) locals.now.circuit_wires s.wire)) (stop_in line.now) }
-    ensures { OnOk result ((ss : List Line) → AreStops (circuit_of circuit.now) locals.now ss stops.old.items → AreStops (circuit_of circuit.now) locals.now (ss ++ stop_in line.now) stops.new.items) }
+    requires { All (λ s. IsTrue (is_local (circuit_of circuit.now) locals.now.circuit_wires s.wire))
+        (stop_in line.now) }
+    ensures { OnOk result ((ss : List Line) →
+        AreStops (circuit_of circuit.now) locals.now ss stops.old.items →
+        AreStops (circuit_of circuit.now) locals.now (ss ++ stop_in line.now) stops.new.items) }
 {
     if let Entry::Stop(stop) = line {
         stops.push(local_stop(circuit, locals, stop))?;
@@ -55,8 +59,10 @@ pub(crate) fn stops_of(
     locals: &Locals,
     lines: &[Entry],
 ) -> Result<Vec<Stop>, AllocError>
-    requires { All (λ s. IsTrue (is_local (circuit_of circuit.now) locals.now.circuit_wires s.wire)) (flat_map stop_in lines.now) }
-    ensures { IfOk result (λ stops. AreStops (circuit_of circuit.now) locals.now (flat_map stop_in lines.now) stops.items) }
+    requires { All (λ s. IsTrue (is_local (circuit_of circuit.now) locals.now.circuit_wires s.wire))
+        (flat_map stop_in lines.now) }
+    ensures { IfOk result (λ stops. AreStops (circuit_of circuit.now) locals.now
+        (flat_map stop_in lines.now) stops.items) }
 {
     let mut stops = Vec::new(alloc);
     'lines: for line in lines {

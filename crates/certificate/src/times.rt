@@ -31,7 +31,8 @@ pub enum Gap {
 pub enum TimeLine {
     /// Of a delay of so many steps.
     Delay { gate: usize, wanted: u32, gap: Gap },
-    /// Of a gate of which two inputs or more have stops: the time at which all of these are seen last, or None where they differ.
+    /// Of a gate of which two inputs or more have stops: the time at which all of these are seen last, or None where
+    /// they differ.
     Meet { gate: usize, at: Option<u32> },
 }
 
@@ -72,7 +73,8 @@ fn chosen(choice: Choice, before: Option<u32>, time: u32) -> Option<u32>
 // Takes a stop into a table of the wires.
 fn note_stop(table: &mut [Option<u32>], circuit: &Circuit, choice: Choice, stop: &StopLine)
     requires { length table.old ≡ wires (netlist_of circuit.now) }
-    ensures table { (ss : List Line) → IsTable choice (circuit_of circuit.now) ss table.old → IsTable choice (circuit_of circuit.now) (ss ++ stop.now ∷ []) table.new }
+    ensures table { (ss : List Line) → IsTable choice (circuit_of circuit.now) ss table.old →
+        IsTable choice (circuit_of circuit.now) (ss ++ stop.now ∷ []) table.new }
     ensures long { length table.new ≡ length table.old }
 {
     if let Some(wire) = circuit.wire(&stop.wire) {
@@ -84,7 +86,8 @@ fn note_stop(table: &mut [Option<u32>], circuit: &Circuit, choice: Choice, stop:
 // Takes a line into it, if it is a stop.
 fn note_line(table: &mut [Option<u32>], circuit: &Circuit, choice: Choice, line: &Entry)
     requires { length table.old ≡ wires (netlist_of circuit.now) }
-    ensures table { (ss : List Line) → IsTable choice (circuit_of circuit.now) ss table.old → IsTable choice (circuit_of circuit.now) (ss ++ stop_in line.now) table.new }
+    ensures table { (ss : List Line) → IsTable choice (circuit_of circuit.now) ss table.old →
+        IsTable choice (circuit_of circuit.now) (ss ++ stop_in line.now) table.new }
     ensures long { length table.new ≡ length table.old }
 {
     if let Entry::Stop(stop) = line {
@@ -99,7 +102,8 @@ fn table_of(
     choice: Choice,
     lines: &[Entry],
 ) -> Result<Vec<Option<u32>>, AllocError>
-    ensures { IfOk result (λ table. IsTable choice (circuit_of circuit.now) (flat_map stop_in lines.now) table.items) }
+    ensures { IfOk result (λ table. IsTable choice (circuit_of circuit.now)
+        (flat_map stop_in lines.now) table.items) }
 {
     let mut table = vec![in alloc; None; circuit.wires()]?;
     'lines: for line in lines {
@@ -143,7 +147,9 @@ fn push_delay(
     firsts: &[Option<u32>],
     lasts: &[Option<u32>],
 ) -> Result<(), AllocError>
-    ensures { OnOk result (lines.new.items ≡ lines.old.items ++ delay_line (told_by firsts.now) (told_by lasts.now) number (gate_of gate.now)) }
+    ensures { OnOk result (lines.new.items
+        ≡ lines.old.items ++ delay_line (told_by firsts.now) (told_by lasts.now) number
+        (gate_of gate.now)) }
 {
     let last = time_of_first(lasts, gate.ins());
     let first = time_of_first(firsts, gate.outs());
@@ -200,7 +206,8 @@ fn push_meet(
     gate: &GateWires,
     lasts: &[Option<u32>],
 ) -> Result<(), AllocError>
-    ensures { OnOk result (lines.new.items ≡ lines.old.items ++ meet_line (told_by lasts.now) number (gate_of gate.now)) }
+    ensures { OnOk result (lines.new.items
+        ≡ lines.old.items ++ meet_line (told_by lasts.now) number (gate_of gate.now)) }
 {
     let times = last_times(alloc, lasts, gate.ins())?;
     if times.len() >= 2 {
@@ -217,7 +224,8 @@ fn lines_by(
     firsts: &[Option<u32>],
     lasts: &[Option<u32>],
 ) -> Result<Vec<TimeLine>, AllocError>
-    ensures { IfOk result (λ lines. lines.items ≡ lines_by (told_by firsts.now) (told_by lasts.now) (netlist_of circuit.now).gates) }
+    ensures { IfOk result (λ lines. lines.items
+        ≡ lines_by (told_by firsts.now) (told_by lasts.now) (netlist_of circuit.now).gates) }
 {
     let mut lines = Vec::new(alloc);
     let count = circuit.gates();
@@ -247,7 +255,8 @@ fn lines_of(
     circuit: &Circuit,
     entries: &[Entry],
 ) -> Result<Vec<TimeLine>, AllocError>
-    ensures { IfOk result (λ lines. lines.items ≡ time_lines (circuit_of circuit.now) (modules_of entries.now)) }
+    ensures { IfOk result (λ lines. lines.items
+        ≡ time_lines (circuit_of circuit.now) (modules_of entries.now)) }
 {
     let lines = module_lines(entries);
     let firsts = table_of(alloc, circuit, Choice::First, lines)?;
@@ -256,10 +265,11 @@ fn lines_of(
 }
 
 impl<'a> Cert<'a> {
-    /// What the stops of all modules say of the circuit's gates: a line for each delay, in order of gates, and then a line for each
-    /// gate of which two inputs or more have stops. `AllocError` is want of memory.
+    /// What the stops of all modules say of the circuit's gates: a line for each delay, in order of gates, and then a
+    /// line for each gate of which two inputs or more have stops. `AllocError` is want of memory.
     pub fn times(&self, alloc: Global) -> Result<Vec<TimeLine>, AllocError>
-        ensures { IfOk result (λ lines. lines.items ≡ time_lines (circuit_of self.now.circuit) (modules_in self.now)) }
+        ensures { IfOk result (λ lines. lines.items
+            ≡ time_lines (circuit_of self.now.circuit) (modules_in self.now)) }
     {
         lines_of(alloc, self.circuit, self.entries.as_slice())
     }

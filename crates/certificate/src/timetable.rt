@@ -33,8 +33,10 @@ struct Timetable {
 }
 
 fn local_signal(circuit: &Circuit, locals: &Locals, signal: &Option<Name>) -> Signal
-    requires { IfSome signal.now (λ name. IsTrue (is_local (circuit_of circuit.now) locals.now.circuit_wires name)) }
-    ensures same { renumber_signal (circuit_wire locals.now) result ≡ line_signal (circuit_of circuit.now) signal.now }
+    requires { IfSome signal.now
+        (λ name. IsTrue (is_local (circuit_of circuit.now) locals.now.circuit_wires name)) }
+    ensures same { renumber_signal (circuit_wire locals.now) result
+        ≡ line_signal (circuit_of circuit.now) signal.now }
     ensures own { IsBelow (wires locals.now.netlist) result }
 {
     match signal {
@@ -45,8 +47,10 @@ fn local_signal(circuit: &Circuit, locals: &Locals, signal: &Option<Name>) -> Si
 
 impl Timetable {
     fn push(&mut self, border: &Border, signal: Signal) -> Result<(), AllocError>
-        ensures held { OnOk result (self.new.held.items ≡ self.old.held.items ++ held_by border.now border.now.time signal) }
-        ensures events { OnOk result (self.new.events.items ≡ self.old.events.items ++ event_by border.now border.now.time signal) }
+        ensures held { OnOk result (self.new.held.items
+            ≡ self.old.held.items ++ held_by border.now border.now.time signal) }
+        ensures events { OnOk result (self.new.events.items
+            ≡ self.old.events.items ++ event_by border.now border.now.time signal) }
     {
         let cell = border.cell;
         match border.time {
@@ -62,7 +66,9 @@ impl Timetable {
     // Adds an edge or halo line.
     fn add(&mut self, circuit: &Circuit, locals: &Locals, border: &Border) -> Result<(), AllocError>
         requires { IsNamedLocal (circuit_of circuit.now) locals.now border.now }
-        ensures { OnOk result ((es : List Border) → IsTimetable (circuit_of circuit.now) locals.now es self.old → IsTimetable (circuit_of circuit.now) locals.now (es ++ border.now ∷ []) self.new) }
+        ensures { OnOk result ((es : List Border) →
+            IsTimetable (circuit_of circuit.now) locals.now es self.old →
+            IsTimetable (circuit_of circuit.now) locals.now (es ++ border.now ∷ []) self.new) }
     {
         let signal = local_signal(circuit, locals, &border.signal);
         self.push(border, signal)
@@ -76,8 +82,12 @@ impl Timetable {
         side: Side,
         line: &Entry,
     ) -> Result<(), AllocError>
-        requires { All (IsNamedLocal (circuit_of circuit.now) locals.now) (borders_in side line.now) }
-        ensures { OnOk result ((es : List Border) → IsTimetable (circuit_of circuit.now) locals.now es self.old → IsTimetable (circuit_of circuit.now) locals.now (es ++ borders_in side line.now) self.new) }
+        requires { All (IsNamedLocal (circuit_of circuit.now) locals.now)
+            (borders_in side line.now) }
+        ensures { OnOk result ((es : List Border) →
+            IsTimetable (circuit_of circuit.now) locals.now es self.old →
+            IsTimetable (circuit_of circuit.now) locals.now (es ++ borders_in side line.now)
+            self.new) }
     {
         match (side, line) {
             (Side::Ring, Entry::Edge(border)) => self.add(circuit, locals, border),
@@ -96,10 +106,14 @@ pub(crate) fn signals_of(
     lines: &[Entry],
 ) -> Result<Schedule, AllocError>
     requires order { AreInOrder lines.now }
-    requires local { All (IsNamedLocal (circuit_of circuit.now) locals.now) (flat_map (borders_in side) lines.now) }
-    ensures same { IfOk result (λ s. renumber_signals (circuit_wire locals.now) s ≡ line_signals (circuit_of circuit.now) (flat_map (borders_in side) lines.now)) }
-    ensures held { IfOk result (λ s. All (λ h. IsBelow (wires locals.now.netlist) h.signal) s.held) }
-    ensures events { IfOk result (λ s. All (λ e. IsBelow (wires locals.now.netlist) e.signal) s.events) }
+    requires local { All (IsNamedLocal (circuit_of circuit.now) locals.now)
+        (flat_map (borders_in side) lines.now) }
+    ensures same { IfOk result (λ s. renumber_signals (circuit_wire locals.now) s
+        ≡ line_signals (circuit_of circuit.now) (flat_map (borders_in side) lines.now)) }
+    ensures held { IfOk result (λ s. All (λ h. IsBelow (wires locals.now.netlist) h.signal)
+        s.held) }
+    ensures events { IfOk result (λ s. All (λ e. IsBelow (wires locals.now.netlist) e.signal)
+        s.events) }
 {
     let mut table = Timetable {
         held: Vec::new(alloc),

@@ -103,7 +103,8 @@ impl<'a> Builder<'a> {
     // The code of the tests that come after that of the order, where these are the counts of the last module.
     fn words_code(&self, counts: Counts, entry: &Entry) -> Option<u8>
         requires { IsSmall counts }
-        ensures { (m : ModuleLines) → present self.now.entries ≡ Some m → counts ≡ counts_of m → result ≡ words_fault self.now.setting m entry.now }
+        ensures { (m : ModuleLines) → present self.now.entries ≡ Some m → counts ≡ counts_of m →
+            result ≡ words_fault self.now.setting m entry.now }
     {
         let size = self.site.size();
         let borders = counts.edges + counts.halos + counts.stops;
@@ -147,8 +148,10 @@ impl<'a> Builder<'a> {
     // Adds a line of a module, or answers the code of the first test that it fails.
     fn add_inner(&mut self, entry: Entry) -> Result<(), LineFault>
         requires { IsInner entry }
-        ensures ok { OnOk result ((inner_fault self.old.setting (present self.old.entries) entry ≡ None) × (self.new ≡ record self.old { entries = self.old.entries ++ entry ∷ [] })) }
-        ensures fault { IfErr result (λ e. FaultIs e (inner_fault self.old.setting (present self.old.entries) entry)) }
+        ensures ok { OnOk result ((inner_fault self.old.setting (present self.old.entries) entry
+            ≡ None) × (self.new ≡ record self.old { entries = self.old.entries ++ entry ∷ [] })) }
+        ensures fault { IfErr result (λ e. FaultIs e
+            (inner_fault self.old.setting (present self.old.entries) entry)) }
     {
         if let Some(code) = self.inner_code(&entry) {
             return Err(LineFault::Code(code));
@@ -172,7 +175,9 @@ impl<'a> Builder<'a> {
     // The names of the ports in a box of these cells.
     fn names_in(&self, alloc: Global, area: Box2, cells: &[Cell]) -> Result<Vec<Name>, AllocError>
         requires { cells.now ≡ box_cells area }
-        ensures { IfOk result (λ names. (f : List ℕ → Bool) → list_any f names.items ≡ list_any (λ p. in_box area p.cell.x p.cell.y && f p.name) self.now.setting.ports) }
+        ensures { IfOk result (λ names. (f : List ℕ → Bool) →
+            list_any f names.items
+            ≡ list_any (λ p. in_box area p.cell.x p.cell.y && f p.name) self.now.setting.ports) }
     {
         let mut names = Vec::new(alloc);
         self.site.push_ports(&mut names, area, cells)?;
@@ -189,7 +194,9 @@ impl<'a> Builder<'a> {
     // The code of the tests of a box by itself.
     #[tactic(auto, unfolding(crate::specs::Rules::box_fault))]
     fn box_code(&self, area: Box2) -> Option<u8>
-        ensures code { result ≡ box_fault self.now.setting (length (modules_of self.now.entries)) (present self.now.entries) area }
+        ensures code { result
+            ≡ box_fault self.now.setting (length (modules_of self.now.entries))
+            (present self.now.entries) area }
         ensures right { result ≡ None → area.x + area.w ≤ 512 }
         ensures bottom { result ≡ None → area.y + area.h ≤ 512 }
     {
@@ -211,9 +218,13 @@ impl<'a> Builder<'a> {
     // The cells of a box that may stand, by itself and among the earlier ones.
     fn free_cells(&self, alloc: Global, area: Box2) -> Result<Vec<Cell>, LineFault>
         ensures cells { IfOk result (λ cells. cells.items ≡ box_cells area) }
-        ensures alone { OnOk result (box_fault self.now.setting (length (modules_of self.now.entries)) (present self.now.entries) area ≡ None) }
-        ensures free { OnOk result (module_fault self.now.setting (modules_of self.now.entries) (present self.now.entries) area ≡ None) }
-        ensures fault { IfErr result (λ e. FaultIs e (module_fault self.now.setting (modules_of self.now.entries) (present self.now.entries) area)) }
+        ensures alone { OnOk result (box_fault self.now.setting
+            (length (modules_of self.now.entries)) (present self.now.entries) area ≡ None) }
+        ensures free { OnOk result (module_fault self.now.setting (modules_of self.now.entries)
+            (present self.now.entries) area ≡ None) }
+        ensures fault { IfErr result (λ e. FaultIs e
+            (module_fault self.now.setting (modules_of self.now.entries) (present self.now.entries)
+            area)) }
     {
         if let Some(code) = self.box_code(area) {
             return Err(LineFault::Code(code));
@@ -228,8 +239,12 @@ impl<'a> Builder<'a> {
     }
 
     fn add_module(&mut self, alloc: Global, area: Box2) -> Result<(), LineFault>
-        ensures ok { OnOk result ((module_fault self.old.setting (modules_of self.old.entries) (present self.old.entries) area ≡ None) × (self.new ≡ record self.old { entries = self.old.entries ++ Module area ∷ [] })) }
-        ensures fault { IfErr result (λ e. FaultIs e (module_fault self.old.setting (modules_of self.old.entries) (present self.old.entries) area)) }
+        ensures ok { OnOk result ((module_fault self.old.setting (modules_of self.old.entries)
+            (present self.old.entries) area ≡ None)
+            × (self.new ≡ record self.old { entries = self.old.entries ++ Module area ∷ [] })) }
+        ensures fault { IfErr result (λ e. FaultIs e
+            (module_fault self.old.setting (modules_of self.old.entries) (present self.old.entries)
+            area)) }
     {
         let cells = self.free_cells(alloc, area)?;
         let Ok(names) = self.names_in(alloc, area, &cells) else {
@@ -251,8 +266,10 @@ impl<'a> Builder<'a> {
     /// Adds a line, or answers the code of the first test that it fails.
     #[tactic(auto, unfolding(crate::specs::Rules::entry_fault))]
     pub fn add(&mut self, alloc: Global, entry: Entry) -> Result<(), LineFault>
-        ensures ok { OnOk result ((entry_fault self.old.setting self.old.entries entry ≡ None) × (self.new ≡ record self.old { entries = self.old.entries ++ entry ∷ [] })) }
-        ensures fault { IfErr result (λ e. FaultIs e (entry_fault self.old.setting self.old.entries entry)) }
+        ensures ok { OnOk result ((entry_fault self.old.setting self.old.entries entry ≡ None)
+            × (self.new ≡ record self.old { entries = self.old.entries ++ entry ∷ [] })) }
+        ensures fault { IfErr result (λ e. FaultIs e
+            (entry_fault self.old.setting self.old.entries entry)) }
     {
         match entry {
             Entry::Module(area) => self.add_module(alloc, area),
@@ -295,7 +312,8 @@ impl<'a> Builder<'a> {
     // The wires that are local in the module of this number.
     fn wires_of(&self, number: usize) -> &IndexSet<u16>
         requires { number < length (modules_of self.now.entries) }
-        ensures { slice_get (map (known self.now.setting.circuit) (modules_of self.now.entries)) number ≡ Some result.now.keys }
+        ensures { slice_get (map (known self.now.setting.circuit) (modules_of self.now.entries))
+            number ≡ Some result.now.keys }
     {
         let last = self.earlier.len();
         if number + 1 < last {
@@ -305,11 +323,13 @@ impl<'a> Builder<'a> {
         }
     }
 
-    // Whether one of the edge lines of a module names a wire that is not local in the module of this number, which is beside it.
+    // Whether one of the edge lines of a module names a wire that is not local in the module of this number, which is
+    // beside it.
     fn lacks_wire_in(&self, number: usize, area: Box2, lines: &[Entry]) -> bool
         requires number { number < length (modules_of self.now.entries) }
         requires inside { AreInBox area (flat_map edge_in lines.now) }
-        ensures { (m : ModuleLines) → slice_get (modules_of self.now.entries) number ≡ Some m → result ≡ lacks_edge self.now.setting.circuit (flat_map edge_in lines.now) m }
+        ensures { (m : ModuleLines) → slice_get (modules_of self.now.entries) number ≡ Some m →
+            result ≡ lacks_edge self.now.setting.circuit (flat_map edge_in lines.now) m }
     {
         let own = self.modules[number].area;
         if !own.is_near(area) {
@@ -321,7 +341,9 @@ impl<'a> Builder<'a> {
     // The same of some module.
     fn lacks_some_in(&self, area: Box2, lines: &[Entry]) -> bool
         requires inside { AreInBox area (flat_map edge_in lines.now) }
-        ensures { result ≡ list_any (lacks_edge self.now.setting.circuit (flat_map edge_in lines.now)) (modules_of self.now.entries) }
+        ensures { result
+            ≡ list_any (lacks_edge self.now.setting.circuit (flat_map edge_in lines.now))
+            (modules_of self.now.entries) }
     {
         'modules: for number in 0..self.modules.len() {
             if self.lacks_wire_in(number, area, lines) {

@@ -90,8 +90,11 @@ pub(crate) fn push_module(
     area: Box2,
 ) -> Result<(), LineFault>
     ensures entries { OnOk result (entries.new.items ≡ entries.old.items ++ Module area ∷ []) }
-    ensures modules { OnOk result (modules.new.items ≡ modules.old.items ++ (record { area = area; cuts = 0; gates = 0; edges = 0; halos = 0; stops = 0 }) ∷ []) }
-    ensures same { OnErr result ((entries.new.items ≡ entries.old.items) × (modules.new.items ≡ modules.old.items)) }
+    ensures modules { OnOk result (modules.new.items
+        ≡ modules.old.items ++
+        (record { area = area; cuts = 0; gates = 0; edges = 0; halos = 0; stops = 0 }) ∷ []) }
+    ensures same { OnErr result ((entries.new.items ≡ entries.old.items)
+        × (modules.new.items ≡ modules.old.items)) }
     ensures memory { IfErr result (λ e. e ≡ Memory) }
 {
     let before = modules.len();

@@ -5,8 +5,8 @@ use bbm_rule::Cell;
 use module_box::Box2;
 use section_text::Name;
 
-/// An edge or halo line: its time, or None where it stands for every odd time below the steps (a `*`); its cell; and its
-/// signal, which is a wire's name, or None for the constant `1`.
+/// An edge or halo line: its time, or None where it stands for every odd time below the steps (a `*`); its cell; and
+/// its signal, which is a wire's name, or None for the constant `1`.
 #[derive(Clone, Copy)]
 pub struct Border {
     pub time: Option<u32>,
@@ -55,7 +55,8 @@ pub struct Counts {
 impl Counts {
     // A module without lines.
     pub(crate) fn new(area: Box2) -> Counts
-        ensures { result ≡ record { area = area; cuts = 0; gates = 0; edges = 0; halos = 0; stops = 0 } }
+        ensures { result
+            ≡ record { area = area; cuts = 0; gates = 0; edges = 0; halos = 0; stops = 0 } }
     {
         Counts {
             area,

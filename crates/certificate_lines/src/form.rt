@@ -55,7 +55,9 @@ fn signal_of(word: &[u8]) -> Option<Option<Name>>
 
 #[tactic(auto, unfolding(crate::specs::BorderWords::border_by))]
 fn border_of_words(words: &FiveWords) -> Option<Border>
-    ensures { result ≡ border_by words.now.second.now words.now.third.now words.now.fourth.now words.now.fifth.now }
+    ensures { result
+        ≡ border_by words.now.second.now words.now.third.now words.now.fourth.now
+        words.now.fifth.now }
 {
     let time = time_of(words.second)?;
     let cell = cell_from_words(words.third, words.fourth)?;
@@ -75,7 +77,9 @@ fn border_in(feed: &Feed, line: &Line) -> Option<Border>
 
 #[tactic(auto, unfolding(crate::specs::BorderWords::stop_by))]
 fn stop_of_words(words: &FiveWords) -> Option<StopLine>
-    ensures { result ≡ stop_by words.now.second.now words.now.third.now words.now.fourth.now words.now.fifth.now }
+    ensures { result
+        ≡ stop_by words.now.second.now words.now.third.now words.now.fourth.now
+        words.now.fifth.now }
 {
     let time = read_number(words.second)?;
     let wire = Name::of(words.third)?;

@@ -124,9 +124,11 @@ pub(crate) fn put_away(
     earlier: &mut Vec<IndexSet<u16>>,
     known: &mut IndexSet<u16>,
 ) -> Result<(), AllocError>
-    ensures earlier { OnOk result (map (λ s. s.keys) earlier.new.items ≡ map (λ s. s.keys) earlier.old.items ++ known.old.keys ∷ []) }
+    ensures earlier { OnOk result (map (λ s. s.keys) earlier.new.items
+        ≡ map (λ s. s.keys) earlier.old.items ++ known.old.keys ∷ []) }
     ensures known { OnOk result (known.new.keys ≡ []) }
-    ensures same { OnErr result ((earlier.new.items ≡ earlier.old.items) × (known.new ≡ known.old)) }
+    ensures same { OnErr result ((earlier.new.items ≡ earlier.old.items)
+        × (known.new ≡ known.old)) }
 {
     earlier.push(IndexSet::new(alloc))?;
     let last = earlier.len() - 1;

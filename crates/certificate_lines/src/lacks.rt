@@ -24,7 +24,9 @@ fn is_unknown(site: &Site, known: &IndexSet<u16>, signal: Option<Name>) -> bool
 
 // The same of an edge line, where it is for a cell of the halo.
 fn is_unknown_line(site: &Site, known: &IndexSet<u16>, area: Box2, line: &Entry) -> bool
-    ensures { result ≡ list_any (λ e. is_strange site.now.circuit known.now.keys e.signal) (filter (λ e. in_halo area e.cell.x e.cell.y) (edge_in line.now)) }
+    ensures { result
+        ≡ list_any (λ e. is_strange site.now.circuit known.now.keys e.signal)
+        (filter (λ e. in_halo area e.cell.x e.cell.y) (edge_in line.now)) }
 {
     match line {
         Entry::Edge(border) if area.in_halo(border.cell) => {
@@ -36,7 +38,9 @@ fn is_unknown_line(site: &Site, known: &IndexSet<u16>, area: Box2, line: &Entry)
 
 /// Whether one of these lines is an edge line for a cell in the halo of the box, of a wire that is not local.
 pub(crate) fn has_unknown(site: &Site, known: &IndexSet<u16>, area: Box2, lines: &[Entry]) -> bool
-    ensures { result ≡ list_any (λ e. is_strange site.now.circuit known.now.keys e.signal) (filter (λ e. in_halo area e.cell.x e.cell.y) (flat_map edge_in lines.now)) }
+    ensures { result
+        ≡ list_any (λ e. is_strange site.now.circuit known.now.keys e.signal)
+        (filter (λ e. in_halo area e.cell.x e.cell.y) (flat_map edge_in lines.now)) }
 {
     'lines: for line in lines {
         if is_unknown_line(site, known, area, line) {

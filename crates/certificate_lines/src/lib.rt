@@ -1,7 +1,7 @@
 //! The lines of a certificate: their forms, and the rules by which a line is good after those before it.
 //!
-//! `specs/Entries.antt` has the lines and the modules that they make, `specs/Rules.antt` which line is good after which, and
-//! `specs/Modules.antt` what is known of the modules of good lines.
+//! `specs/Entries.antt` has the lines and the modules that they make, `specs/Rules.antt` which line is good after
+//! which, and `specs/Modules.antt` what is known of the modules of good lines.
 #![tactic(auto)]
 
 mod builder;

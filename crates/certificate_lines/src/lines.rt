@@ -44,9 +44,11 @@ fn uses(entry: &Entry, number: u32) -> bool
     }
 }
 
-/// Whether the last module of the lines uses the gate of this number. It looks back as far as that module's `module` line.
+/// Whether the last module of the lines uses the gate of this number. It looks back as far as that module's `module`
+/// line.
 pub(crate) fn is_used(entries: &[Entry], number: u32) -> bool
-    ensures { (m : ModuleLines) → present entries.now ≡ Some m → result ≡ is_among (gates m) number }
+    ensures { (m : ModuleLines) → present entries.now ≡ Some m →
+        result ≡ is_among (gates m) number }
 {
     let count = entries.len();
     for back in 0..count {
@@ -62,7 +64,9 @@ pub(crate) fn is_used(entries: &[Entry], number: u32) -> bool
 }
 
 fn push_cut(wires: &mut Vec<WireNo>, circuit: &Circuit, line: &Entry) -> Result<(), AllocError>
-    ensures { OnOk result (wires.new.items ≡ wires.old.items ++ flat_map (λ n. option_to_list (wire_of (circuit_of circuit.now) n)) (cut_in line.now)) }
+    ensures { OnOk result (wires.new.items
+        ≡ wires.old.items ++ flat_map (λ n. option_to_list (wire_of (circuit_of circuit.now) n))
+        (cut_in line.now)) }
 {
     if let Entry::Cut(name) = line {
         if let Some(wire) = circuit.wire(name) {
@@ -73,7 +77,9 @@ fn push_cut(wires: &mut Vec<WireNo>, circuit: &Circuit, line: &Entry) -> Result<
 }
 
 fn push_cuts(wires: &mut Vec<WireNo>, circuit: &Circuit, lines: &[Entry]) -> Result<(), AllocError>
-    ensures { OnOk result (wires.new.items ≡ wires.old.items ++ flat_map (λ n. option_to_list (wire_of (circuit_of circuit.now) n)) (flat_map cut_in lines.now)) }
+    ensures { OnOk result (wires.new.items
+        ≡ wires.old.items ++ flat_map (λ n. option_to_list (wire_of (circuit_of circuit.now) n))
+        (flat_map cut_in lines.now)) }
 {
     for line in lines {
         push_cut(wires, circuit, line)?;
@@ -87,7 +93,9 @@ pub fn cut_list(
     circuit: &Circuit,
     lines: &[Entry],
 ) -> Result<Vec<WireNo>, AllocError>
-    ensures { IfOk result (λ wires. wires.items ≡ flat_map (λ n. option_to_list (wire_of (circuit_of circuit.now) n)) (flat_map cut_in lines.now)) }
+    ensures { IfOk result (λ wires. wires.items
+        ≡ flat_map (λ n. option_to_list (wire_of (circuit_of circuit.now) n))
+        (flat_map cut_in lines.now)) }
 {
     let mut wires = Vec::new(alloc);
     push_cuts(&mut wires, circuit, lines)?;
@@ -135,7 +143,8 @@ fn push_keep(places: &mut Vec<u16>, gates: &[GateNo], line: &Entry) -> Result<()
     requires few { length gates.now ≤ 64 }
     requires used { All (λ k. IsTrue (is_among gates.now k)) (keep_in line.now) }
     requires within { All (λ place. place < length gates.now) places.old.items }
-    ensures gates { OnOk result (map (slice_index gates.now) places.new.items ≡ map (slice_index gates.now) places.old.items ++ keep_in line.now) }
+    ensures gates { OnOk result (map (slice_index gates.now) places.new.items
+        ≡ map (slice_index gates.now) places.old.items ++ keep_in line.now) }
     ensures within { OnOk result (All (λ place. place < length gates.now) places.new.items) }
 {
     if let Entry::Keep(number) = line {
@@ -148,7 +157,8 @@ fn push_keep(places: &mut Vec<u16>, gates: &[GateNo], line: &Entry) -> Result<()
 pub fn kept_places(alloc: Global, gates: &[GateNo], lines: &[Entry]) -> Result<Vec<u16>, AllocError>
     requires few { length gates.now ≤ 64 }
     requires used { All (λ k. IsTrue (is_among gates.now k)) (flat_map keep_in lines.now) }
-    ensures gates { IfOk result (λ places. map (slice_index gates.now) places.items ≡ flat_map keep_in lines.now) }
+    ensures gates { IfOk result (λ places. map (slice_index gates.now) places.items
+        ≡ flat_map keep_in lines.now) }
     ensures within { IfOk result (λ places. All (λ place. place < length gates.now) places.items) }
 {
     let mut places = Vec::new(alloc);

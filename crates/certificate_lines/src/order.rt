@@ -97,7 +97,8 @@ fn does_precede(first: &Entry, second: &Entry) -> bool
 
 /// Whether a line may stand after the lines of a module, of which this is the last.
 pub(crate) fn does_follow(last: &Option<Entry>, entry: &Entry) -> bool
-    ensures { (lines : List Entry) → AreInOrder lines → last_of lines ≡ last.now → result ≡ may_follow lines entry.now }
+    ensures { (lines : List Entry) → AreInOrder lines → last_of lines ≡ last.now →
+        result ≡ may_follow lines entry.now }
 {
     match last {
         None => true,

@@ -12,7 +12,8 @@ use section_text::Name;
 use std::alloc::{AllocError, Global};
 use std::marker::Model;
 
-/// The inputs or the outputs of a layout, with a table by which the one at a cell is looked up. Contracts see the ports.
+/// The inputs or the outputs of a layout, with a table by which the one at a cell is looked up. Contracts see the
+/// ports.
 #[derive(Drop)]
 pub struct PortTable<'a> {
     area: Box2,

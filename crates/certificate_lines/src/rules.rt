@@ -97,7 +97,8 @@ pub(crate) fn use_code(site: &Site, count: usize, known: &IndexSet<u16>, number:
 /// The code of a kept gate, where these are the lines before it.
 #[tactic(auto, unfolding(crate::specs::Rules::keep_fault))]
 pub(crate) fn keep_code(site: &Site, entries: &[Entry], number: u32) -> Option<u8>
-    ensures { (m : ModuleLines) → present entries.now ≡ Some m → result ≡ keep_fault site.now.circuit (gates m) number }
+    ensures { (m : ModuleLines) → present entries.now ≡ Some m →
+        result ≡ keep_fault site.now.circuit (gates m) number }
 {
     if !site.is_inverse(number) {
         return Some(3);
@@ -120,8 +121,8 @@ fn signal_code(site: &Site, known: &IndexSet<u16>, signal: Option<Name>) -> Opti
     }
 }
 
-/// The code of an edge, halo or stop line, where so many stand before it, and `placed` says whether it may stand at its cell and
-/// time.
+/// The code of an edge, halo or stop line, where so many stand before it, and `placed` says whether it may stand at its
+/// cell and time.
 #[tactic(auto, unfolding(crate::specs::Rules::border_fault))]
 pub(crate) fn border_code(
     site: &Site,

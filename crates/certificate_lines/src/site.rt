@@ -41,7 +41,8 @@ impl<'a> Model for Site<'a> {
 }
 
 fn push_named(names: &mut Vec<Name>, name: Option<Name>) -> Result<(), AllocError>
-    ensures { OnOk result ((f : List ℕ → Bool) → list_any f names.new.items ≡ (list_any f names.old.items || option_map_or f name false)) }
+    ensures { OnOk result ((f : List ℕ → Bool) →
+        list_any f names.new.items ≡ (list_any f names.old.items || option_map_or f name false)) }
 {
     match name {
         Some(name) => names.push(name)?,
@@ -52,7 +53,10 @@ fn push_named(names: &mut Vec<Name>, name: Option<Name>) -> Result<(), AllocErro
 
 // The names of the ports at the cells.
 fn push_names(names: &mut Vec<Name>, ports: &PortTable, cells: &[Cell]) -> Result<(), AllocError>
-    ensures { OnOk result ((f : List ℕ → Bool) → list_any f names.new.items ≡ (list_any f names.old.items || list_any (λ c. option_map_or f (port_at ports.now c.x c.y) false) cells.now)) }
+    ensures { OnOk result ((f : List ℕ → Bool) →
+        list_any f names.new.items
+        ≡ (list_any f names.old.items || list_any
+        (λ c. option_map_or f (port_at ports.now c.x c.y) false) cells.now)) }
 {
     for cell in cells {
         push_named(names, ports.get(*cell))?;
@@ -122,7 +126,10 @@ impl<'a> Site<'a> {
         cells: &[Cell],
     ) -> Result<(), AllocError>
         requires { cells.now ≡ box_cells area }
-        ensures { OnOk result ((f : List ℕ → Bool) → list_any f names.new.items ≡ (list_any f names.old.items || list_any (λ p. in_box area p.cell.x p.cell.y && f p.name) self.now.ports)) }
+        ensures { OnOk result ((f : List ℕ → Bool) →
+            list_any f names.new.items
+            ≡ (list_any f names.old.items || list_any
+            (λ p. in_box area p.cell.x p.cell.y && f p.name) self.now.ports)) }
     {
         push_names(names, &self.ins, cells)?;
         push_names(names, &self.outs, cells)?;

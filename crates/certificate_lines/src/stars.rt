@@ -22,7 +22,9 @@ pub(crate) fn has_star(stars: &IndexSet<Cell>, cell: Cell) -> bool
 #[tactic(auto, using(crate::proofs::StarLemmas::star_noted, crate::proofs::StarLemmas::no_star))]
 fn note_star(stars: &mut IndexSet<Cell>, border: &Border)
     requires { 0 < spare stars.old }
-    ensures { (c : Cell) → list_any (same_cell c) stars.new.keys ≡ (list_any (same_cell c) stars.old.keys || is_starred c border.now) }
+    ensures { (c : Cell) →
+        list_any (same_cell c) stars.new.keys
+        ≡ (list_any (same_cell c) stars.old.keys || is_starred c border.now) }
 {
     if border.time.is_some() {
         return;
@@ -55,8 +57,12 @@ pub(crate) fn make_room_for_stars(
 pub(crate) fn note_stars(edges: &mut IndexSet<Cell>, halos: &mut IndexSet<Cell>, entry: &Entry)
     requires edges { length (edge_in entry.now) ≤ spare edges.old }
     requires halos { length (halo_in entry.now) ≤ spare halos.old }
-    ensures edges { (c : Cell) → list_any (same_cell c) edges.new.keys ≡ (list_any (same_cell c) edges.old.keys || list_any (is_starred c) (edge_in entry.now)) }
-    ensures halos { (c : Cell) → list_any (same_cell c) halos.new.keys ≡ (list_any (same_cell c) halos.old.keys || list_any (is_starred c) (halo_in entry.now)) }
+    ensures edges { (c : Cell) →
+        list_any (same_cell c) edges.new.keys
+        ≡ (list_any (same_cell c) edges.old.keys || list_any (is_starred c) (edge_in entry.now)) }
+    ensures halos { (c : Cell) →
+        list_any (same_cell c) halos.new.keys
+        ≡ (list_any (same_cell c) halos.old.keys || list_any (is_starred c) (halo_in entry.now)) }
 {
     match entry {
         Entry::Edge(border) => note_star(edges, border),

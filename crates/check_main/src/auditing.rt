@@ -6,7 +6,7 @@ ghost use Rattle.audit_core.specs.Filling.{IsOpenFor};
 ghost use Rattle.module_job.specs.Groups.{AreGroups};
 ghost use Rattle.audit_core.specs.Concluding.{modules};
 ghost use Rattle.audit_core.specs.Replay.{has_closing};
-ghost use Rattle.job_pool.specs.Work.{shapes_of};
+ghost use Rattle.audit_core.specs.Filling.{shapes_of};
 ghost use Rattle.check_main.specs.Audits.{IsAuditOf, IsClosedOnce, IsCompleted, filings_in};
 
 use audit_core::{BookState, fill};
@@ -28,13 +28,13 @@ pub struct Audited {
     pub memory: bool,
 }
 
-/// Runs the modules of a certificate by 1 to 64 workers, which file what they find into one book of its jobs, under its digest, files
-/// what they left, and closes the book.
+/// Runs the modules of a certificate by 1 to 64 workers, which file what they find into one book of its jobs, under its
+/// digest, files what they left, and closes the book.
 ///
-/// A worker draws the number of a module, and where that is the first of its shape, runs its job and files the findings of all modules
-/// of that shape, in a thread of its own where one can be made, until no number is left. The gate is told of each number that a worker
-/// draws. All workers have ended when it returns. `AllocError` is want of memory before the workers began, for what they left, or for
-/// the closing entry: that a worker lacked memory is no fault.
+/// A worker draws the number of a module, and where that is the first of its shape, runs its job and files the findings
+/// of all modules of that shape, in a thread of its own where one can be made, until no number is left. The gate is
+/// told of each number that a worker draws. All workers have ended when it returns. `AllocError` is want of memory
+/// before the workers began, for what they left, or for the closing entry: that a worker lacked memory is no fault.
 pub fn audit<G: Gate + Sync, R: Threads + Wait + Sync>(
     rt: &R,
     alloc: Global,
@@ -46,7 +46,8 @@ pub fn audit<G: Gate + Sync, R: Threads + Wait + Sync>(
     ensures full { IfOk result (λ audited. IsAuditOf cert.now audited.state) }
     ensures replays { IfOk result (λ audited. IsReplayed audited.state) }
     ensures closed { IfOk result (λ audited. IsClosedOnce audited.state.history) }
-    ensures filed { IfOk result (λ audited. length (modules cert.now) ≤ length (filings_in audited.state.history)) }
+    ensures filed { IfOk result (λ audited. length (modules cert.now) ≤ length
+        (filings_in audited.state.history)) }
 {
     // There are at most 1024 modules.
     let _count = cert.modules();
@@ -76,7 +77,8 @@ fn complete(
     jobs: &[Arc<Job>],
 ) -> Result<(), AllocError>
     requires own { IsOpenFor digest (map arc_value jobs.now) state.old }
-    ensures completed { OnOk result (IsCompleted digest (map arc_value jobs.now) state.old state.new) }
+    ensures completed { OnOk result (IsCompleted digest (map arc_value jobs.now) state.old
+        state.new) }
     ensures replays { OnOk result (IsReplayed state.new) }
 {
     fill(alloc, state, digest, jobs)?;
@@ -104,8 +106,11 @@ fn audited_by<F: Filings + Sync, A: Ledger + Sync, G: Gate + Sync, R: Threads + 
     groups: &[usize],
     beginning: Beginning,
 ) -> Result<Audited, AllocError>
-    requires filings { (beginning.filings.name ≡ F.name) × (beginning.filings.parts ≡ F.parts) × (beginning.filings.parts ≡ beginning.workers) }
-    requires acceptances { (beginning.acceptances.name ≡ A.name) × (beginning.acceptances.parts ≡ A.parts) × (beginning.acceptances.parts ≡ beginning.workers) }
+    requires filings { (beginning.filings.name ≡ F.name) × (beginning.filings.parts ≡ F.parts)
+        × (beginning.filings.parts ≡ beginning.workers) }
+    requires acceptances { (beginning.acceptances.name ≡ A.name)
+        × (beginning.acceptances.parts ≡ A.parts)
+        × (beginning.acceptances.parts ≡ beginning.workers) }
     requires workers { (0 < beginning.workers) × (beginning.workers ≤ 64) }
     requires jobs { length jobs.now ≤ 1024 }
     requires groups { AreGroups (shapes_of (map arc_value jobs.now)) groups.now }
@@ -113,7 +118,8 @@ fn audited_by<F: Filings + Sync, A: Ledger + Sync, G: Gate + Sync, R: Threads + 
     requires fresh { beginning.state.history ≡ [] }
     ensures own { IfOk result (λ audited. IsOpenFor F.digest F.jobs audited.state) }
     ensures no_closing { IfOk result (λ audited. has_closing audited.state.history ≡ false) }
-    ensures filed { IfOk result (λ audited. audited.memory ≡ false → length audited.state.history ≡ length jobs.now) }
+    ensures filed { IfOk result (λ audited. audited.memory ≡ false →
+        length audited.state.history ≡ length jobs.now) }
 {
     let Beginning {
         state,

@@ -13,8 +13,8 @@ use std::alloc::{AllocError, Global};
 use std::sync::Wait;
 use std::thread::Threads;
 
-/// The report on a text that is read whole: reads a bundle up to the end of the text, lets the text go, and has the modules run by so many
-/// workers.
+/// The report on a text that is read whole: reads a bundle up to the end of the text, lets the text go, and has the
+/// modules run by so many workers.
 pub(crate) fn report_of_text<G: Gate + Sync, R: Threads + Wait + Sync>(
     rt: &R,
     alloc: Global,
@@ -26,7 +26,8 @@ pub(crate) fn report_of_text<G: Gate + Sync, R: Threads + Wait + Sync>(
     requires closed { feed.closed ≡ true }
     requires unread { feed.taken ≡ 0 }
     requires going { feed.stop ≡ None }
-    ensures answered { IfOk result (λ answered. IsReportOf feed.text answered.output.items answered.outcome) }
+    ensures answered { IfOk result (λ answered. IsReportOf feed.text answered.output.items
+        answered.outcome) }
 {
     let mut feed = feed;
     let circuit = match read_circuit(alloc, &mut feed) {

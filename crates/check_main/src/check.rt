@@ -26,7 +26,8 @@ pub(crate) fn report_on<G: Gate + Sync, R: Threads + Wait + Sync>(
     gate: &G,
 ) -> Result<Answered, AllocError>
     requires workers { (0 < workers) × (workers ≤ 64) }
-    ensures says { IfOk result (λ answered. SaysReport (bundle_by cert.now) answered.output.items answered.outcome) }
+    ensures says { IfOk result (λ answered. SaysReport (bundle_by cert.now) answered.output.items
+        answered.outcome) }
 {
     let Concluded { digest, verdict } = conclude_on(rt, alloc, cert, workers, gate)?;
     let output = report_under(alloc, cert, digest, &verdict)?;
@@ -52,7 +53,8 @@ fn conclude_on<G: Gate + Sync, R: Threads + Wait + Sync>(
     gate: &G,
 ) -> Result<Concluded, AllocError>
     requires workers { (0 < workers) × (workers ≤ 64) }
-    ensures digest { IfOk result (λ concluded. concluded.digest ≡ sha256 (certificate_text cert.now)) }
+    ensures digest { IfOk result (λ concluded. concluded.digest
+        ≡ sha256 (certificate_text cert.now)) }
     ensures verdict { IfOk result (λ concluded. IsVerdictOn cert.now concluded.verdict) }
 {
     let audited = audit(rt, alloc, cert, workers, gate)?;

@@ -59,8 +59,8 @@ pub struct Streams<R, W, E> {
 /// - 4: `reader` or `writer` failed, or the text is longer than 16 MiB
 /// - 5: memory ran out
 ///
-/// What is wrong with the words, and a line for a status of 4 or 5, is said to `errors`, and that a write to
-/// it fails changes nothing. The workers of `check` tell the gate of each module that they draw; the program's is `OpenGate`.
+/// What is wrong with the words, and a line for a status of 4 or 5, is said to `errors`, and that a write to it fails
+/// changes nothing. The workers of `check` tell the gate of each module that they draw; the program's is `OpenGate`.
 pub fn program<'a, T, R, W, E, G>(
     rt: &T,
     alloc: Global,
@@ -78,7 +78,8 @@ where
     requires writer_works { W.has_failed streams.old.writer ≡ false }
     ensures range { result ≤ 5 }
     ensures accepted { IsAccepted (map (λ s. s.now) words.entry.now) → result ≢ 2 }
-    ensures unread { ¬ IsAccepted (map (λ s. s.now) words.entry.now) → streams.new.reader ≡ streams.old.reader }
+    ensures unread { ¬ IsAccepted (map (λ s. s.now) words.entry.now) →
+        streams.new.reader ≡ streams.old.reader }
     ensures help { ¬ IsAccepted (map (λ s. s.now) words.entry.now) → result ≢ 2 → result ≢ 5 →
         AsksForHelp (map (λ s. s.now) words.entry.now) }
 
@@ -90,15 +91,21 @@ where
         (W.held streams.old.writer) (W.held streams.new.writer) Outcome.Yes }
 
     // What a yes of `check` means, by the status and by what is written.
-    ensures correct { IsAccepted (map (λ s. s.now) words.entry.now) → asked_by (map (λ s. s.now) words.entry.now) ≡ Request.Check → result ≡ 0
-        → Gives IsRight (R.left streams.old.reader) }
-    ensures says_yes { IsAccepted (map (λ s. s.now) words.entry.now) → asked_by (map (λ s. s.now) words.entry.now) ≡ Request.Check
-        → YesMeans IsRight (R.left streams.old.reader) (W.held streams.old.writer) (W.held streams.new.writer) }
+    ensures correct { IsAccepted (map (λ s. s.now) words.entry.now) →
+        asked_by (map (λ s. s.now) words.entry.now) ≡ Request.Check → result ≡ 0 →
+        Gives IsRight (R.left streams.old.reader) }
+    ensures says_yes { IsAccepted (map (λ s. s.now) words.entry.now) →
+        asked_by (map (λ s. s.now) words.entry.now) ≡ Request.Check →
+        YesMeans IsRight (R.left streams.old.reader) (W.held streams.old.writer)
+        (W.held streams.new.writer) }
     // And of its stops.
-    ensures stops { IsAccepted (map (λ s. s.now) words.entry.now) → asked_by (map (λ s. s.now) words.entry.now) ≡ Request.Check → result ≡ 0
-        → Gives HasRightStops (R.left streams.old.reader) }
-    ensures says_yes_of_stops { IsAccepted (map (λ s. s.now) words.entry.now) → asked_by (map (λ s. s.now) words.entry.now) ≡ Request.Check
-        → YesMeans HasRightStops (R.left streams.old.reader) (W.held streams.old.writer) (W.held streams.new.writer) }
+    ensures stops { IsAccepted (map (λ s. s.now) words.entry.now) →
+        asked_by (map (λ s. s.now) words.entry.now) ≡ Request.Check → result ≡ 0 →
+        Gives HasRightStops (R.left streams.old.reader) }
+    ensures says_yes_of_stops { IsAccepted (map (λ s. s.now) words.entry.now) →
+        asked_by (map (λ s. s.now) words.entry.now) ≡ Request.Check →
+        YesMeans HasRightStops (R.left streams.old.reader) (W.held streams.old.writer)
+        (W.held streams.new.writer) }
 
     // What a no of `check` means if the certificate is plain, and what its lines mean.
     ensures wrong { asked_by (map (λ s. s.now) words.entry.now) ≡ Request.Check → result ≡ 1
@@ -113,20 +120,26 @@ where
     ensures no { result ≡ 1 → Answers (IsAnswerTo (asked_by (map (λ s. s.now) words.entry.now)))
         (R.left streams.old.reader) (R.left streams.new.reader)
         (W.held streams.old.writer) (W.held streams.new.writer) Outcome.No }
-    ensures words { result ≡ 2 → (streams.new.reader ≡ streams.old.reader) × (streams.new.writer ≡ streams.old.writer) }
-    ensures refused { result ≡ 3 → Answers (IsAnswerTo (asked_by (map (λ s. s.now) words.entry.now)))
-        (R.left streams.old.reader) (R.left streams.new.reader)
-        (W.held streams.old.writer) (W.held streams.new.writer) Outcome.Refused }
+    ensures words { result ≡ 2 →
+        (streams.new.reader ≡ streams.old.reader) × (streams.new.writer ≡ streams.old.writer) }
+    ensures refused { result ≡ 3 →
+        Answers (IsAnswerTo (asked_by (map (λ s. s.now) words.entry.now)))
+        (R.left streams.old.reader) (R.left streams.new.reader) (W.held streams.old.writer)
+        (W.held streams.new.writer) Outcome.Refused }
     // Each fault comes only where it is one, and its line is said.
     ensures device { result ≡ 4 →
         ((R.has_failed streams.new.reader ≡ true)
-        × Says (E.held streams.old.errors) (E.held streams.new.errors) (E.has_failed streams.new.errors) CheckFault.Read)
+        × Says (E.held streams.old.errors) (E.held streams.new.errors)
+        (E.has_failed streams.new.errors) CheckFault.Read)
         ⊎ ((W.has_failed streams.new.writer ≡ true)
-        × Says (E.held streams.old.errors) (E.held streams.new.errors) (E.has_failed streams.new.errors) CheckFault.Write)
+        × Says (E.held streams.old.errors) (E.held streams.new.errors)
+        (E.has_failed streams.new.errors) CheckFault.Write)
         ⊎ (GivesTooMuch (R.left streams.old.reader) (R.left streams.new.reader)
-        × Says (E.held streams.old.errors) (E.held streams.new.errors) (E.has_failed streams.new.errors) CheckFault.TooLong) }
+        × Says (E.held streams.old.errors) (E.held streams.new.errors)
+        (E.has_failed streams.new.errors) CheckFault.TooLong) }
     ensures works { result ≢ 4 → W.has_failed streams.new.writer ≡ false }
-    ensures unwritten { result ≡ 4 → W.has_failed streams.new.writer ≡ false → streams.new.writer ≡ streams.old.writer }
+    ensures unwritten { result ≡ 4 → W.has_failed streams.new.writer ≡ false →
+        streams.new.writer ≡ streams.old.writer }
 
     ensures prefix { IsAccepted (map (λ s. s.now) words.entry.now)
         → result ≡ 4 → W.has_failed streams.new.writer ≡ true
@@ -134,8 +147,10 @@ where
         (R.left streams.old.reader) (R.left streams.new.reader)
         (W.held streams.old.writer) (W.held streams.new.writer) }
 
-    ensures not_decided { result ≡ 5 → (streams.new.writer ≡ streams.old.writer)
-        × Says (E.held streams.old.errors) (E.held streams.new.errors) (E.has_failed streams.new.errors) CheckFault.Memory }
+    ensures not_decided { result ≡ 5 →
+        (streams.new.writer ≡ streams.old.writer)
+        × Says (E.held streams.old.errors) (E.held streams.new.errors)
+        (E.has_failed streams.new.errors) CheckFault.Memory }
 
     // Where an answer or help was written, nothing is said.
     ensures quiet { result ≢ 2 → result ≢ 4 → result ≢ 5 → streams.new.errors ≡ streams.old.errors }
@@ -168,12 +183,18 @@ fn serve<T: Threads + Wait + Sync, R: Source, W: Sink, G: Gate + Sync>(
     requires workers { (0 < asked.workers) × (asked.workers ≤ 64) }
     requires reader_works { R.has_failed reader.old ≡ false }
     requires writer_works { W.has_failed writer.old ≡ false }
-    ensures serves { Serves (IsAnswerTo asked.request) R.left R.has_failed reader.old reader.new W.held W.has_failed writer.old writer.new result }
-    ensures correct { asked.request ≡ Request.Check → result ≡ Ok Outcome.Yes → Gives IsRight (R.left reader.old) }
-    ensures says_yes { asked.request ≡ Request.Check → YesMeans IsRight (R.left reader.old) (W.held writer.old) (W.held writer.new) }
-    ensures stops { asked.request ≡ Request.Check → result ≡ Ok Outcome.Yes → Gives HasRightStops (R.left reader.old) }
-    ensures says_yes_of_stops { asked.request ≡ Request.Check → YesMeans HasRightStops (R.left reader.old) (W.held writer.old) (W.held writer.new) }
-    ensures wrong { asked.request ≡ Request.Check → result ≡ Ok Outcome.No → Gives IsWrongIfPlain (R.left reader.old) }
+    ensures serves { Serves (IsAnswerTo asked.request) R.left R.has_failed reader.old reader.new
+        W.held W.has_failed writer.old writer.new result }
+    ensures correct { asked.request ≡ Request.Check → result ≡ Ok Outcome.Yes →
+        Gives IsRight (R.left reader.old) }
+    ensures says_yes { asked.request ≡ Request.Check →
+        YesMeans IsRight (R.left reader.old) (W.held writer.old) (W.held writer.new) }
+    ensures stops { asked.request ≡ Request.Check → result ≡ Ok Outcome.Yes →
+        Gives HasRightStops (R.left reader.old) }
+    ensures says_yes_of_stops { asked.request ≡ Request.Check →
+        YesMeans HasRightStops (R.left reader.old) (W.held writer.old) (W.held writer.new) }
+    ensures wrong { asked.request ≡ Request.Check → result ≡ Ok Outcome.No →
+        Gives IsWrongIfPlain (R.left reader.old) }
     ensures lines { asked.request ≡ Request.Check → result ≡ Ok Outcome.No →
         Relates LinesTell (R.left reader.old) (W.held writer.old) (W.held writer.new) }
     ensures small { asked.request ≡ Request.Check → result ≡ Ok Outcome.Refused →
@@ -192,7 +213,8 @@ fn serve<T: Threads + Wait + Sync, R: Source, W: Sink, G: Gate + Sync>(
 pub fn status_of<E: Sink>(ended: Result<Outcome, CheckFault>, errors: &mut E) -> u8
     ensures status { result ≡ status_for ended }
     ensures quiet { OnOk ended (errors.new ≡ errors.old) }
-    ensures said { IfErr ended (Says (E.held errors.old) (E.held errors.new) (E.has_failed errors.new)) }
+    ensures said { IfErr ended (Says (E.held errors.old) (E.held errors.new)
+        (E.has_failed errors.new)) }
 {
     match ended {
         Ok(Outcome::Yes) => DONE,
@@ -213,8 +235,10 @@ fn explain<W: Sink, E: Sink>(alloc: Global, error: &Error, writer: &mut W, error
     requires { W.has_failed writer.old ≡ false }
     ensures range { (result ≡ 0) ⊎ (result ≡ 2) ⊎ (result ≡ 4) ⊎ (result ≡ 5) }
     ensures help { result ≢ 2 → result ≢ 5 →
-        (kind_of error.now ≡ ErrorKind.DisplayHelp) ⊎ (kind_of error.now ≡ ErrorKind.DisplayVersion) }
-    ensures told { (kind_of error.now ≡ ErrorKind.DisplayHelp) ⊎ (kind_of error.now ≡ ErrorKind.DisplayVersion) → result ≢ 2 }
+        (kind_of error.now ≡ ErrorKind.DisplayHelp)
+        ⊎ (kind_of error.now ≡ ErrorKind.DisplayVersion) }
+    ensures told { (kind_of error.now ≡ ErrorKind.DisplayHelp)
+        ⊎ (kind_of error.now ≡ ErrorKind.DisplayVersion) → result ≢ 2 }
     ensures words { result ≡ 2 → writer.new ≡ writer.old }
     ensures device { result ≡ 4 → (W.has_failed writer.new ≡ true)
         × Says (E.held errors.old) (E.held errors.new) (E.has_failed errors.new) CheckFault.Write }

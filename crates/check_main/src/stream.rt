@@ -26,17 +26,17 @@ use std::thread::Threads;
 // What one read asks for, in bytes.
 const BLOCK: usize = 65_536;
 
-/// Checks a bundle: reads the whole text, at most 16 MiB, has the modules of its certificate run by 1 to 64 workers, and writes the
-/// report once it is complete. `Yes` and `No` are the verdict. What is written is the same for every number of workers, every gate
-/// and every order in which they end.
+/// Checks a bundle: reads the whole text, at most 16 MiB, has the modules of its certificate run by 1 to 64 workers,
+/// and writes the report once it is complete. `Yes` and `No` are the verdict. What is written is the same for every
+/// number of workers, every gate and every order in which they end.
 ///
-/// Where it is `Yes`, or `verdict yes` is the fourth line of what was written, the text begins with a circuit and a layout, and the
-/// whole pattern of the layout computes the circuit: `headline/specs/Headline.antt` says what that is. Then it goes on with a certificate
-/// whose stops hold on the whole pattern: `headline/specs/Stops.antt`.
+/// Where it is `Yes`, or `verdict yes` is the fourth line of what was written, the text begins with a circuit and a
+/// layout, and the whole pattern of the layout computes the circuit: `headline/specs/Headline.antt` says what that is.
+/// Then it goes on with a certificate whose stops hold on the whole pattern: `headline/specs/Stops.antt`.
 ///
-/// If it is `No`, and the certificate is one plain module, the whole rectangle, the text is wrong: `headline/specs/Plain.antt`. What the
-/// lines of the report mean is in `headline/specs/ReportLines.antt`. The plain text of a small design is never `Refused`:
-/// `headline/specs/SmallDesigns.antt`.
+/// If it is `No`, and the certificate is one plain module, the whole rectangle, the text is wrong:
+/// `headline/specs/Plain.antt`. What the lines of the report mean is in `headline/specs/ReportLines.antt`. The plain
+/// text of a small design is never `Refused`: `headline/specs/SmallDesigns.antt`.
 pub fn check_stream<T, R, W, G>(
     rt: &T,
     alloc: Global,
@@ -53,11 +53,14 @@ where
     requires workers { (0 < workers) × (workers ≤ 64) }
     requires reader_works { R.has_failed reader.old ≡ false }
     requires writer_works { W.has_failed writer.old ≡ false }
-    ensures serves { Serves IsReportOf R.left R.has_failed reader.old reader.new W.held W.has_failed writer.old writer.new result }
+    ensures serves { Serves IsReportOf R.left R.has_failed reader.old reader.new W.held W.has_failed
+        writer.old writer.new result }
     ensures correct { result ≡ Ok Outcome.Yes → Gives IsRight (R.left reader.old) }
-    ensures says_yes { YesMeans IsRight (R.left reader.old) (W.held writer.old) (W.held writer.new) }
+    ensures says_yes { YesMeans IsRight (R.left reader.old) (W.held writer.old)
+        (W.held writer.new) }
     ensures stops { result ≡ Ok Outcome.Yes → Gives HasRightStops (R.left reader.old) }
-    ensures says_yes_of_stops { YesMeans HasRightStops (R.left reader.old) (W.held writer.old) (W.held writer.new) }
+    ensures says_yes_of_stops { YesMeans HasRightStops (R.left reader.old) (W.held writer.old)
+        (W.held writer.new) }
     ensures wrong { result ≡ Ok Outcome.No → Gives IsWrongIfPlain (R.left reader.old) }
     ensures lines { result ≡ Ok Outcome.No →
         Relates LinesTell (R.left reader.old) (W.held writer.old) (W.held writer.new) }
@@ -77,7 +80,8 @@ pub fn run_stream<R: Source, W: Sink>(
 ) -> Result<Outcome, CheckFault>
     requires reader_works { R.has_failed reader.old ≡ false }
     requires writer_works { W.has_failed writer.old ≡ false }
-    ensures serves { Serves IsRunOf R.left R.has_failed reader.old reader.new W.held W.has_failed writer.old writer.new result }
+    ensures serves { Serves IsRunOf R.left R.has_failed reader.old reader.new W.held W.has_failed
+        writer.old writer.new result }
 {
     let mut feed = read_text(alloc, reader)?;
     let answered = run_text(alloc, &mut feed).map_err(|_| CheckFault::Memory)?;
@@ -93,7 +97,8 @@ pub fn value_stream<R: Source, W: Sink>(
 ) -> Result<Outcome, CheckFault>
     requires reader_works { R.has_failed reader.old ≡ false }
     requires writer_works { W.has_failed writer.old ≡ false }
-    ensures serves { Serves IsValueOf R.left R.has_failed reader.old reader.new W.held W.has_failed writer.old writer.new result }
+    ensures serves { Serves IsValueOf R.left R.has_failed reader.old reader.new W.held W.has_failed
+        writer.old writer.new result }
 {
     let mut feed = read_text(alloc, reader)?;
     let answered = value_text(alloc, &mut feed).map_err(|_| CheckFault::Memory)?;
@@ -109,16 +114,17 @@ pub fn modules_stream<R: Source, W: Sink>(
 ) -> Result<Outcome, CheckFault>
     requires reader_works { R.has_failed reader.old ≡ false }
     requires writer_works { W.has_failed writer.old ≡ false }
-    ensures serves { Serves IsModulesOf R.left R.has_failed reader.old reader.new W.held W.has_failed writer.old writer.new result }
+    ensures serves { Serves IsModulesOf R.left R.has_failed reader.old reader.new W.held
+        W.has_failed writer.old writer.new result }
 {
     let mut feed = read_text(alloc, reader)?;
     let answered = modules_text(alloc, &mut feed).map_err(|_| CheckFault::Memory)?;
     write_answer(writer, &answered)
 }
 
-/// Writes a bundle in certificate version 2, without halo lines: reads the whole text, at most 16 MiB, and writes the answer once it is
-/// complete. The outcome is `Yes` or `Refused`. A bundle of version 2 is written as it is, and what `check` accepts it accepts
-/// afterwards: `headline/specs/Migration.antt`.
+/// Writes a bundle in certificate version 2, without halo lines: reads the whole text, at most 16 MiB, and writes the
+/// answer once it is complete. The outcome is `Yes` or `Refused`. A bundle of version 2 is written as it is, and what
+/// `check` accepts it accepts afterwards: `headline/specs/Migration.antt`.
 pub fn migrate_stream<R: Source, W: Sink>(
     alloc: Global,
     reader: &mut R,
@@ -126,7 +132,8 @@ pub fn migrate_stream<R: Source, W: Sink>(
 ) -> Result<Outcome, CheckFault>
     requires reader_works { R.has_failed reader.old ≡ false }
     requires writer_works { W.has_failed writer.old ≡ false }
-    ensures serves { Serves IsMigrationOf R.left R.has_failed reader.old reader.new W.held W.has_failed writer.old writer.new result }
+    ensures serves { Serves IsMigrationOf R.left R.has_failed reader.old reader.new W.held
+        W.has_failed writer.old writer.new result }
 {
     let mut feed = read_text(alloc, reader)?;
     let answered = migrate_text(alloc, &mut feed).map_err(|_| CheckFault::Memory)?;
@@ -136,7 +143,8 @@ pub fn migrate_stream<R: Source, W: Sink>(
 // Reads up to the end. A read of no byte ends the text.
 fn read_text<R: Source>(alloc: Global, reader: &mut R) -> Result<Feed, CheckFault>
     requires { R.has_failed reader.old ≡ false }
-    ensures read_all { IfOk result (λ feed. ReadsAll (R.left reader.old) (R.left reader.new) feed.text) }
+    ensures read_all { IfOk result (λ feed. ReadsAll (R.left reader.old) (R.left reader.new)
+        feed.text) }
     ensures whole { IfOk result (λ feed. feed ≡ whole_text feed.text) }
     ensures works { OnOk result (R.has_failed reader.new ≡ false) }
     ensures read { IsErrOf result CheckFault.Read → R.has_failed reader.new ≡ true }
@@ -155,7 +163,8 @@ fn read_text<R: Source>(alloc: Global, reader: &mut R) -> Result<Feed, CheckFaul
 fn read_by<R: Source>(alloc: Global, reader: &mut R, block: &mut [u8]) -> Result<Feed, CheckFault>
     requires works { R.has_failed reader.old ≡ false }
     requires room { 0 < length block.old }
-    ensures read_all { IfOk result (λ feed. ReadsAll (R.left reader.old) (R.left reader.new) feed.text) }
+    ensures read_all { IfOk result (λ feed. ReadsAll (R.left reader.old) (R.left reader.new)
+        feed.text) }
     ensures whole { IfOk result (λ feed. feed ≡ whole_text feed.text) }
     ensures works { OnOk result (R.has_failed reader.new ≡ false) }
     ensures read { IsErrOf result CheckFault.Read → R.has_failed reader.new ≡ true }
@@ -186,7 +195,8 @@ fn read_by<R: Source>(alloc: Global, reader: &mut R, block: &mut [u8]) -> Result
 fn write_answer<W: Sink>(writer: &mut W, answered: &Answered) -> Result<Outcome, CheckFault>
     requires { W.has_failed writer.old ≡ false }
     ensures outcome { IfOk result (λ outcome. outcome ≡ answered.now.outcome) }
-    ensures all { OnOk result (Appends (W.held writer.old) (W.held writer.new) answered.now.output.items) }
+    ensures all { OnOk result (Appends (W.held writer.old) (W.held writer.new)
+        answered.now.output.items) }
     ensures works { OnOk result (W.has_failed writer.new ≡ false) }
     ensures only { IfErr result (λ fault. fault ≡ CheckFault.Write) }
     ensures fails { IfErr result (λ fault. W.has_failed writer.new ≡ true) }
@@ -205,7 +215,8 @@ pub(crate) fn write_whole<W: Sink>(writer: &mut W, bytes: &[u8]) -> bool
     ensures all { result ≡ true → Appends (W.held writer.old) (W.held writer.new) bytes.now }
     ensures works { result ≡ true → W.has_failed writer.new ≡ W.has_failed writer.old }
     ensures fails { result ≡ false → W.has_failed writer.new ≡ true }
-    ensures prefix { result ≡ false → TakesPrefix (W.held writer.old) (W.held writer.new) bytes.now }
+    ensures prefix { result ≡ false →
+        TakesPrefix (W.held writer.old) (W.held writer.new) bytes.now }
 {
     let mut rest = bytes;
     while !rest.is_empty() {

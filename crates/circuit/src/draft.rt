@@ -92,10 +92,15 @@ fn take_names(
     consumed: &mut IndexSet<Name, Seed>,
     entry: &Entry,
 ) -> Result<(), LineFault>
-    ensures ins { OnOk result ((consume wires.old.keys consumed.old.keys entry.now.ins ≡ None) × (consumed.new.keys ≡ consumed.old.keys ++ entry.now.ins)) }
-    ensures outs { OnOk result ((define wires.old.keys entry.now.outs ≡ None) × (wires.new.keys ≡ wires.old.keys ++ entry.now.outs)) }
-    ensures err { OnErr result ((wires.new.keys ≡ wires.old.keys) × (consumed.new.keys ≡ consumed.old.keys)) }
-    ensures fault { IfErr result (λ e. FaultIs e (or_else (consume wires.old.keys consumed.old.keys entry.now.ins) (define wires.old.keys entry.now.outs))) }
+    ensures ins { OnOk result ((consume wires.old.keys consumed.old.keys entry.now.ins ≡ None)
+        × (consumed.new.keys ≡ consumed.old.keys ++ entry.now.ins)) }
+    ensures outs { OnOk result ((define wires.old.keys entry.now.outs ≡ None)
+        × (wires.new.keys ≡ wires.old.keys ++ entry.now.outs)) }
+    ensures err { OnErr result ((wires.new.keys ≡ wires.old.keys)
+        × (consumed.new.keys ≡ consumed.old.keys)) }
+    ensures fault { IfErr result (λ e. FaultIs e
+        (or_else (consume wires.old.keys consumed.old.keys entry.now.ins)
+        (define wires.old.keys entry.now.outs))) }
 {
     let before = consumed.len();
     consume_all(wires, consumed, entry.ins.as_slice())?;
@@ -116,8 +121,10 @@ fn keep_line(
 ) -> Result<(), AllocError>
     requires { first ≤ 4096 }
     ensures line { OnOk result (entries.new.items ≡ entries.old.items ++ entry ∷ []) }
-    ensures gate { OnOk result (map gate_of wired.new.items ≡ map gate_of wired.old.items ++ gate_at entry.kind ins first) }
-    ensures err { OnErr result ((entries.new.items ≡ entries.old.items) × (wired.new.items ≡ wired.old.items)) }
+    ensures gate { OnOk result (map gate_of wired.new.items
+        ≡ map gate_of wired.old.items ++ gate_at entry.kind ins first) }
+    ensures err { OnErr result ((entries.new.items ≡ entries.old.items)
+        × (wired.new.items ≡ wired.old.items)) }
 {
     let before = wired.len();
     add_wires(wired, entry.kind, ins, first)?;
@@ -163,7 +170,8 @@ impl Draft {
     pub(crate) fn add(&mut self, entry: Entry) -> Result<(), LineFault>
         requires fits { FitsKind entry }
         requires inputs_first { InputsFirst self.old entry }
-        ensures ok { OnOk result ((add_fault self.old entry ≡ None) × (self.new ≡ self.old ++ entry ∷ [])) }
+        ensures ok { OnOk result ((add_fault self.old entry ≡ None)
+            × (self.new ≡ self.old ++ entry ∷ [])) }
         ensures err { OnErr result (self.new ≡ self.old) }
         ensures fault { IfErr result (λ e. FaultIs e (add_fault self.old entry)) }
     {
@@ -197,9 +205,11 @@ impl Draft {
     /// 4 where the name is defined already. A fault changes nothing.
     pub fn add_input(&mut self, name: Name) -> Result<(), LineFault>
         requires { gate_count self.old ≡ 0 }
-        ensures ok { OnOk result ((add_fault self.old (entry Input [] (name ∷ [])) ≡ None) × (self.new ≡ self.old ++ entry Input [] (name ∷ []) ∷ [])) }
+        ensures ok { OnOk result ((add_fault self.old (entry Input [] (name ∷ [])) ≡ None)
+            × (self.new ≡ self.old ++ entry Input [] (name ∷ []) ∷ [])) }
         ensures err { OnErr result (self.new ≡ self.old) }
-        ensures fault { IfErr result (λ e. FaultIs e (add_fault self.old (entry Input [] (name ∷ [])))) }
+        ensures fault { IfErr result (λ e. FaultIs e
+            (add_fault self.old (entry Input [] (name ∷ [])))) }
     {
         self.add(Entry::input(name))
     }
@@ -207,9 +217,11 @@ impl Draft {
     /// Adds a source, a gate without inputs whose wire has the value `bit`. The code is 2 where the wire would be the
     /// 4097th or the gate the 1025th, 4 where the name is defined already. A fault changes nothing.
     pub fn add_source(&mut self, bit: bool, name: Name) -> Result<(), LineFault>
-        ensures ok { OnOk result ((add_fault self.old (entry (Gate (Source bit)) [] (name ∷ [])) ≡ None) × (self.new ≡ self.old ++ entry (Gate (Source bit)) [] (name ∷ []) ∷ [])) }
+        ensures ok { OnOk result ((add_fault self.old (entry (Gate (Source bit)) [] (name ∷ []))
+            ≡ None) × (self.new ≡ self.old ++ entry (Gate (Source bit)) [] (name ∷ []) ∷ [])) }
         ensures err { OnErr result (self.new ≡ self.old) }
-        ensures fault { IfErr result (λ e. FaultIs e (add_fault self.old (entry (Gate (Source bit)) [] (name ∷ [])))) }
+        ensures fault { IfErr result (λ e. FaultIs e
+            (add_fault self.old (entry (Gate (Source bit)) [] (name ∷ [])))) }
     {
         self.add(Entry::source(bit, name))
     }
@@ -221,9 +233,11 @@ impl Draft {
     pub fn add_gate(&mut self, kind: GateKind, ins: &[Name], outs: &[Name]) -> Result<(), LineFault>
         requires ins { length ins.now ≡ uses (rule_of kind) }
         requires outs { length outs.now ≡ defines (rule_of kind) }
-        ensures ok { OnOk result ((add_fault self.old (entry (Gate kind) ins.now outs.now) ≡ None) × (self.new ≡ self.old ++ entry (Gate kind) ins.now outs.now ∷ [])) }
+        ensures ok { OnOk result ((add_fault self.old (entry (Gate kind) ins.now outs.now) ≡ None)
+            × (self.new ≡ self.old ++ entry (Gate kind) ins.now outs.now ∷ [])) }
         ensures err { OnErr result (self.new ≡ self.old) }
-        ensures fault { IfErr result (λ e. FaultIs e (add_fault self.old (entry (Gate kind) ins.now outs.now))) }
+        ensures fault { IfErr result (λ e. FaultIs e
+            (add_fault self.old (entry (Gate kind) ins.now outs.now))) }
     {
         let few_ins = kind.ins();
         let few_outs = kind.outs();
@@ -238,9 +252,11 @@ impl Draft {
     /// Adds an output, which consumes a wire. The code is 3 where the name is not defined, 5 where the wire is consumed
     /// already. A fault changes nothing.
     pub fn add_output(&mut self, name: Name) -> Result<(), LineFault>
-        ensures ok { OnOk result ((add_fault self.old (entry Output (name ∷ []) []) ≡ None) × (self.new ≡ self.old ++ entry Output (name ∷ []) [] ∷ [])) }
+        ensures ok { OnOk result ((add_fault self.old (entry Output (name ∷ []) []) ≡ None)
+            × (self.new ≡ self.old ++ entry Output (name ∷ []) [] ∷ [])) }
         ensures err { OnErr result (self.new ≡ self.old) }
-        ensures fault { IfErr result (λ e. FaultIs e (add_fault self.old (entry Output (name ∷ []) []))) }
+        ensures fault { IfErr result (λ e. FaultIs e
+            (add_fault self.old (entry Output (name ∷ []) []))) }
     {
         self.add(Entry::output(name))
     }
@@ -248,9 +264,11 @@ impl Draft {
     /// Adds a spill, which consumes a wire that is no output. The code is 3 where the name is not defined, 5 where the
     /// wire is consumed already. A fault changes nothing.
     pub fn add_spill(&mut self, name: Name) -> Result<(), LineFault>
-        ensures ok { OnOk result ((add_fault self.old (entry Spill (name ∷ []) []) ≡ None) × (self.new ≡ self.old ++ entry Spill (name ∷ []) [] ∷ [])) }
+        ensures ok { OnOk result ((add_fault self.old (entry Spill (name ∷ []) []) ≡ None)
+            × (self.new ≡ self.old ++ entry Spill (name ∷ []) [] ∷ [])) }
         ensures err { OnErr result (self.new ≡ self.old) }
-        ensures fault { IfErr result (λ e. FaultIs e (add_fault self.old (entry Spill (name ∷ []) []))) }
+        ensures fault { IfErr result (λ e. FaultIs e
+            (add_fault self.old (entry Spill (name ∷ []) []))) }
     {
         self.add(Entry::spill(name))
     }
@@ -264,8 +282,10 @@ impl Draft {
 
     /// The circuit of these lines, if each wire is consumed. Takes no memory.
     pub fn finish(self) -> Result<Circuit, Unused>
-        ensures ok { IfOk result (λ c. (c ≡ self) × (unused (consumed self) (defined self) ≡ None)) }
-        ensures err { IfErr result (λ u. (u.draft ≡ self) × (unused (consumed self) (defined self) ≡ Some u.wire)) }
+        ensures ok { IfOk result (λ c. (c ≡ self)
+            × (unused (consumed self) (defined self) ≡ None)) }
+        ensures err { IfErr result (λ u. (u.draft ≡ self)
+            × (unused (consumed self) (defined self) ≡ Some u.wire)) }
     {
         if let Some(wire) = first_unused(self.wires.as_slice(), &self.consumed) {
             return Err(Unused { draft: self, wire });

@@ -23,8 +23,8 @@ pub enum GateKind {
     Switch,
     /// `a -> b`: b is a. The number, 1..4096, is the delay in steps.
     Delay(u32),
-    /// `c y z -> d x`: turns back `switch`. d is c, and x is y where c is true, z where it is false. There is no row where the other
-    /// one of y and z is true.
+    /// `c y z -> d x`: turns back `switch`. d is c, and x is y where c is true, z where it is false. There is no row
+    /// where the other one of y and z is true.
     Unswitch,
     /// `a b c d -> p q`: turns back `interact`. There is no row at inputs that `interact` never gives.
     Uninteract,

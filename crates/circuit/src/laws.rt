@@ -1,7 +1,8 @@
 //! Laws of the definitions.
 ghost use Rattle.circuit.specs.Laws.{PrintsWhatIsRead, ReadsWhatIsPrinted, GatesAreOrdered, HasValuation, UndefinedHasNoValuation, OnlyInverseGatesAreUndefined, UndefinedIsOne, StoppedIsUndefined, HasAtMostOneValuation, HasOneValuation, ListsValues, WiresAreNamed, NamesAreOwn, InputsAreFirst, GatesKeepOnes, InverseGatesUndo};
 
-/// The text of a circuit that is read is the text of the lines that it is read from, and it is read as the same circuit again.
+/// The text of a circuit that is read is the text of the lines that it is read from, and it is read as the same circuit
+/// again.
 pub fn one_text()
     ensures printed { PrintsWhatIsRead }
     ensures read_again { ReadsWhatIsPrinted }
@@ -18,7 +19,8 @@ pub fn has_valuation()
     ensures only { UndefinedHasNoValuation }
 {}
 
-/// Only an inverse gate is the first that has no row, and there is at most one such gate. `Circuit::values` stops at it.
+/// Only an inverse gate is the first that has no row, and there is at most one such gate. `Circuit::values` stops at
+/// it.
 pub fn one_gate_is_undefined()
     ensures inverse { OnlyInverseGatesAreUndefined }
     ensures one { UndefinedIsOne }

@@ -144,11 +144,14 @@ impl Circuit {
     }
 
     /// Each wire's value, by its number, in the one valuation in which the inputs have these values, one for each
-    /// input. Where there is none, the first gate that has no row, and the values of the wires that are defined before it.
+    /// input. Where there is none, the first gate that has no row, and the values of the wires that are defined before
+    /// it.
     pub fn values(&self, alloc: Global, inputs: &[bool]) -> Result<Vec<bool>, ValuesFault>
         requires { length inputs.now ≡ (netlist_of self.now).given }
-        ensures values { IfOk result (λ vs. AreValues (netlist_of self.now) (read inputs.now) vs.items) }
-        ensures fault { IfErr result (λ e. IsValuesFault (netlist_of self.now) (read inputs.now) e) }
+        ensures values { IfOk result (λ vs. AreValues (netlist_of self.now) (read inputs.now)
+            vs.items) }
+        ensures fault { IfErr result (λ e. IsValuesFault (netlist_of self.now) (read inputs.now)
+            e) }
     {
         match values_of(alloc, inputs, self.wired.as_slice()) {
             Ok(values) => Ok(values),

@@ -39,7 +39,8 @@ fn ports_of(ins: &mut Vec<Name>, outs: &mut Vec<Name>, entries: &[Entry]) -> Res
 
 /// The names of the inputs and of the outputs, each in the order of their lines. A spill is no output.
 pub fn port_names(alloc: Global, circuit: &Circuit) -> Result<PortNames, AllocError>
-    ensures ports { IfOk result (λ names. named_ports names ≡ Some (record { ins = input_names circuit.now; outs = output_names circuit.now })) }
+    ensures ports { IfOk result (λ names. named_ports names
+        ≡ Some (record { ins = input_names circuit.now; outs = output_names circuit.now })) }
     ensures count { length (input_names circuit.now) ≡ (netlist_of circuit.now).given }
 {
     let mut ins = Vec::with_capacity(alloc, circuit.inputs())?;

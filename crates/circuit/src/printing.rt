@@ -23,7 +23,8 @@ fn print_names(out: &mut Vec<u8>, names: &[Name]) -> Result<(), AllocError>
 
 // The keyword of a gate, and its bit or number.
 fn print_gate(out: &mut Vec<u8>, kind: GateKind) -> Result<(), AllocError>
-    ensures { OnOk result (out.new.items ≡ out.old.items ++ (gate_word kind ++ flat_map spaced (gate_number kind))) }
+    ensures { OnOk result (out.new.items
+        ≡ out.old.items ++ (gate_word kind ++ flat_map spaced (gate_number kind))) }
 {
     match kind {
         GateKind::Source(true) => out.extend_from_slice(b"source 1"),

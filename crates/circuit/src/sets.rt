@@ -12,9 +12,12 @@ fn consume_one(
     consumed: &mut IndexSet<Name, Seed>,
     name: Name,
 ) -> Result<(), LineFault>
-    ensures ok { OnOk result ((has wires.now.keys name ≡ true) × (has consumed.old.keys name ≡ false) × (consumed.new.keys ≡ consumed.old.keys ++ name ∷ [])) }
+    ensures ok { OnOk result ((has wires.now.keys name ≡ true)
+        × (has consumed.old.keys name ≡ false)
+        × (consumed.new.keys ≡ consumed.old.keys ++ name ∷ [])) }
     ensures err { OnErr result (consumed.new.keys ≡ consumed.old.keys) }
-    ensures fault { IfErr result (λ e. FaultIs e (consume wires.now.keys consumed.old.keys (name ∷ []))) }
+    ensures fault { IfErr result (λ e. FaultIs e
+        (consume wires.now.keys consumed.old.keys (name ∷ []))) }
 {
     if !wires.contains(&name) {
         return Err(LineFault::Code(3));
@@ -27,7 +30,8 @@ fn consume_one(
 }
 
 fn define_one(wires: &mut IndexSet<Name, Seed>, name: Name) -> Result<(), LineFault>
-    ensures ok { OnOk result ((has wires.old.keys name ≡ false) × (wires.new.keys ≡ wires.old.keys ++ name ∷ [])) }
+    ensures ok { OnOk result ((has wires.old.keys name ≡ false)
+        × (wires.new.keys ≡ wires.old.keys ++ name ∷ [])) }
     ensures err { OnErr result (wires.new.keys ≡ wires.old.keys) }
     ensures fault { IfErr result (λ e. FaultIs e (define wires.old.keys (name ∷ []))) }
 {
@@ -44,9 +48,11 @@ pub fn consume_all(
     consumed: &mut IndexSet<Name, Seed>,
     names: &[Name],
 ) -> Result<(), LineFault>
-    ensures ok { OnOk result ((consume wires.now.keys consumed.old.keys names.now ≡ None) × (consumed.new.keys ≡ consumed.old.keys ++ names.now)) }
+    ensures ok { OnOk result ((consume wires.now.keys consumed.old.keys names.now ≡ None)
+        × (consumed.new.keys ≡ consumed.old.keys ++ names.now)) }
     ensures err { OnErr result (consumed.new.keys ≡ consumed.old.keys) }
-    ensures fault { IfErr result (λ e. FaultIs e (consume wires.now.keys consumed.old.keys names.now)) }
+    ensures fault { IfErr result (λ e. FaultIs e
+        (consume wires.now.keys consumed.old.keys names.now)) }
 {
     let before = consumed.len();
     for name in names {
@@ -60,7 +66,8 @@ pub fn consume_all(
 
 /// Defines names from left to right. A fault changes nothing.
 pub fn define_all(wires: &mut IndexSet<Name, Seed>, names: &[Name]) -> Result<(), LineFault>
-    ensures ok { OnOk result ((define wires.old.keys names.now ≡ None) × (wires.new.keys ≡ wires.old.keys ++ names.now)) }
+    ensures ok { OnOk result ((define wires.old.keys names.now ≡ None)
+        × (wires.new.keys ≡ wires.old.keys ++ names.now)) }
     ensures err { OnErr result (wires.new.keys ≡ wires.old.keys) }
     ensures fault { IfErr result (λ e. FaultIs e (define wires.old.keys names.now)) }
 {

@@ -105,7 +105,8 @@ pub(crate) fn add_wires(
     first: u16,
 ) -> Result<(), AllocError>
     requires { first ≤ 4096 }
-    ensures ok { OnOk result (map gate_of gates.new.items ≡ map gate_of gates.old.items ++ gate_at kind ins first) }
+    ensures ok { OnOk result (map gate_of gates.new.items
+        ≡ map gate_of gates.old.items ++ gate_at kind ins first) }
     ensures kept { OnOk result (take (length gates.old.items) gates.new.items ≡ gates.old.items) }
     ensures err { OnErr result (gates.new.items ≡ gates.old.items) }
 {
@@ -128,8 +129,14 @@ fn value_at(values: &[bool], wire: WireNo) -> bool
 /// Adds the values of the wires that the gate defines. `false`: it has no row.
 #[tactic(auto, unfolding(crate::specs::Gates::row))]
 fn push_outs(values: &mut Vec<bool>, gate: GateWires) -> Result<bool, AllocError>
-    ensures found { result ≡ Ok true → option_map (λ (r : List Bool). values.old.items ++ r) (row (rule_of gate.kind) (map (read values.old.items) (take (uses (rule_of gate.kind)) gate.ins))) ≡ Some values.new.items }
-    ensures none { result ≡ Ok false → row (rule_of gate.kind) (map (read values.old.items) (take (uses (rule_of gate.kind)) gate.ins)) ≡ None }
+    ensures found { result ≡ Ok true →
+        option_map (λ (r : List Bool). values.old.items ++ r)
+        (row (rule_of gate.kind)
+        (map (read values.old.items) (take (uses (rule_of gate.kind)) gate.ins)))
+        ≡ Some values.new.items }
+    ensures none { result ≡ Ok false →
+        row (rule_of gate.kind)
+        (map (read values.old.items) (take (uses (rule_of gate.kind)) gate.ins)) ≡ None }
     ensures kept { result ≡ Ok false → values.new.items ≡ values.old.items }
 {
     let [x, y, z, w] = gate.ins;
@@ -167,13 +174,15 @@ fn push_outs(values: &mut Vec<bool>, gate: GateWires) -> Result<bool, AllocError
     Ok(true)
 }
 
-/// The values of all wires, those that are given first. Where a gate has no row, those of the wires that are defined before it.
+/// The values of all wires, those that are given first. Where a gate has no row, those of the wires that are defined
+/// before it.
 pub(crate) fn values_of(
     alloc: Global,
     given: &[bool],
     gates: &[GateWires],
 ) -> Result<Vec<bool>, ValuesFault>
-    ensures values { IfOk result (λ vs. evaluate given.now (map gate_of gates.now) ≡ Some vs.items) }
+    ensures values { IfOk result (λ vs. evaluate given.now (map gate_of gates.now)
+        ≡ Some vs.items) }
     ensures fault { IfErr result (λ e. IsEvaluateFault given.now (map gate_of gates.now) e) }
 {
     let mut values = given.to_vec(alloc)?;

@@ -35,13 +35,15 @@ pub struct Asked {
     pub workers: usize,
 }
 
-/// Reads the words after the program's name, of which the first is the command. `check` may have `--workers` with a whole number
-/// of 1 to 64; without it there is one worker. The error is `clap`'s: it says what is wrong with the words, or has the text of the
-/// help that they ask for.
+/// Reads the words after the program's name, of which the first is the command. `check` may have `--workers` with a
+/// whole number of 1 to 64; without it there is one worker. The error is `clap`'s: it says what is wrong with the
+/// words, or has the text of the help that they ask for.
 pub fn read_words<'a>(alloc: Global, words: &'a [&'a str]) -> Result<Asked, Error>
-    ensures request { IfOk result (λ asked. asked.request ≡ asked_by (map (λ s. s.now) words.entry.now)) }
+    ensures request { IfOk result (λ asked. asked.request
+        ≡ asked_by (map (λ s. s.now) words.entry.now)) }
     ensures workers { IfOk result (λ asked. (1 ≤ asked.workers) × (asked.workers ≤ 64)) }
-    ensures number { IfOk result (λ asked. asked.workers ≡ workers_asked (map (λ s. s.now) words.entry.now)) }
+    ensures number { IfOk result (λ asked. asked.workers
+        ≡ workers_asked (map (λ s. s.now) words.entry.now)) }
     ensures fails { FailsBy (fault_of bbmcheck (map (λ s. s.now) words.entry.now)) result }
 {
     let matches = match command(alloc)?.try_get_matches_from(words) {

@@ -11,8 +11,8 @@ pub struct Help {
     pub text: &'static str,
 }
 
-// The help of a command, from what it does, its usage, what it reads and writes, its own statuses beside those that each command has, the
-// list of its commands, its options and an example.
+// The help of a command, from what it does, its usage, what it reads and writes, its own statuses beside those that
+// each command has, the list of its commands, its options and an example.
 macro_rules! help {
     (
         $about:literal,
@@ -51,8 +51,8 @@ macro_rules! help {
     };
 }
 
-/// What `--version` prints after the program's name: its number, the sections that it reads by their headers, and the kit
-/// that proved it, as `rt version` says.
+/// What `--version` prints after the program's name: its number, the sections that it reads by their headers, and the
+/// kit that proved it, as `rt version` says.
 pub const VERSION: &str = concat!(
     "1.0.0\n",
     "reads circuit, layout, assign, certificate 1, certificate 2\n",

@@ -37,7 +37,8 @@ pub trait Sink {
     fn write(&mut self, piece: &[u8]) -> io::Result<usize>
         ensures bound { WritesAtMost result piece.now }
         ensures bytes { WriteAppends (held self.old) (held self.new) result piece.now }
-        ensures failure { has_failed self.new ≡ (has_failed self.old || write_fails result piece.now) };
+        ensures failure { has_failed self.new
+            ≡ (has_failed self.old || write_fails result piece.now) };
 
     /// Whether a write has failed.
     fn failed(&self) -> bool

@@ -1,117 +1,23 @@
 -- The modules without halo lines have jobs: those of the modules with them, with the halos that the edge lines beside them stand for.
-use Rattle.std.proofs.Common.{◌≡◌, ℕ, zero, suc, ◌<◌, ◌==◌, Bool, true, false, if◌then◌else◌, List, [], ◌∷◌, ◌++◌, map, length, Option, Some, None, refl, sym, ap, ap₂, subst, ◌∙◌, arith}
-use Rattle.std.specs.Prelude.{◌||◌, slice_get, slice_index, IsTrue, IfSome}
-use Rattle.std.proofs.lemmas.Bool.{false≢true}
-use Rattle.std.proofs.lemmas.Bool.Decides.{nat_tests}
+use Rattle.std.proofs.Common.{◌≡◌, ℕ, zero, suc, false, List, [], ◌∷◌, map, length, Some, refl, sym, ap, ap₂, subst, ◌∙◌, arith}
+use Rattle.std.specs.Prelude.{slice_get}
 use Rattle.std.proofs.lemmas.List.{length-map}
 use Rattle.circuit.specs.Bridge.{circuit_of}
-use Rattle.circuit.specs.Meaning.{Circuit, wire_of}
+use Rattle.circuit.specs.Meaning.{Circuit}
 use Rattle.circuit.specs.declared.entry.Entry.{Entry}
 use Rattle.pattern.specs.Layout.{Pattern}
-use Rattle.module_box.specs.Locals.{is_among}
-use Rattle.module_box.specs.Schedules.{Signals}
-use Rattle.module_box.specs.declared.schedules.Event.{Event}
-use Rattle.module_box.specs.declared.schedules.Held.{Held}
-use Rattle.module_box.specs.declared.schedules.Signal.{Signal}
-use Rattle.module_box.specs.declared.schedules.Signal.TheVariants.{Zero, One, Wire}
 use Rattle.certificate_lines.specs.Entries.{Setting, ModuleLines, halos, known}
 use Rattle.certificate_lines.specs.Settings.{setting_of}
 use Rattle.module_job.specs.Jobs.{JobState, job_demand, job_start}
-use Rattle.certificate.specs.Jobs.{IsJobOf, AreJobsOf, event_by, held_by, line_signal, line_signals, line_stops, signal_of}
+use Rattle.certificate.specs.Jobs.{IsJobOf, AreJobsOf, line_signals, line_stops}
 use Rattle.certificate_lines.specs.Modules.{AreModules, IsHalo}
-use Rattle.certificate_lines.specs.Rules.{is_local, is_local_wire}
-use Rattle.module_job.specs.Signals.{IsBelow, renumber_event, renumber_held, renumber_signal}
+use Rattle.module_job.specs.Signals.{IsBelow}
 use Rattle.certificate_lines.specs.Versions.{lacks_wire, with_halos}
-use Rattle.certificate_lines.specs.declared.entry.Border.{Border}
 use Rattle.certificate_lines.proofs.InList.{all_in}
 use Rattle.certificate.proofs.FullModules.{all_of_each, full_cuts, full_edges, full_gates, full_keeps, full_known, full_modules, full_stops, mapped_at, mapped_from}
 use Rattle.certificate_lines.proofs.LineOrder.{in_each}
+use Rattle.audit_core.proofs.NumberedSignals.{IsNamed, lines_back, numbered_event, numbered_held, numbered_signals}
 use Rattle.certificate_lines.proofs.Pairs.{Each}
-
--- ---- the number of a wire in a list of wires
-
-place_among : List ℕ → ℕ → ℕ
-place_among [] w = 0
-place_among (v ∷ ws) w = if v == w then 0 else suc (place_among ws w)
-
-record IsPlace (ws : List ℕ) (w i : ℕ) : Type 0 where
-  pub below : i < length ws
-  pub there : slice_index ws i ≡ w
-
-same_number : (v w : ℕ) → (v == w) ≡ true → v ≡ w
-same_number v w e = grind (arith, nat_tests)
-
-place_step : (v w : ℕ) (ws : List ℕ) (b : Bool) → (v == w) ≡ b → (b || is_among ws w) ≡ true → (is_among ws w ≡ true → IsPlace ws w (place_among ws w))
-    → IsPlace (v ∷ ws) w (if b then 0 else suc (place_among ws w))
-place_step v w ws true same e more = record { below = omega arith; there = same_number v w same }
-place_step v w ws false other e more = let p = more e in record { below = let b = p.below in omega (arith, b); there = p.there }
-
-is_place : (ws : List ℕ) (w : ℕ) → is_among ws w ≡ true → IsPlace ws w (place_among ws w)
-unfolding place_among
-is_place [] w e = absurd (false≢true e)
-is_place (v ∷ ws) w e = place_step v w ws (v == w) refl e (is_place ws w)
-
--- a signal over those wires
-numbered : List ℕ → Signal → Signal
-numbered ws Zero = Zero
-numbered ws One = One
-numbered ws (Wire w) = Wire (place_among ws w)
-
-record IsNumbered (ws : List ℕ) (s : Signal) : Type 0 where
-  pub back : renumber_signal (slice_index ws) (numbered ws s) ≡ s
-  pub below : IsBelow (length ws) (numbered ws s)
-
--- ---- the signals of lines that name local wires
-
-module _ (c : Circuit) (ws : List ℕ) where
-  abbrev IsNamed : Border → Type 0
-  IsNamed e = IfSome e.signal (λ name. IsTrue (is_local c ws name))
-
-  signal_numbered : (s : Option (List ℕ)) → IfSome s (λ name. IsTrue (is_local c ws name)) → IsNumbered ws (line_signal c s)
-  unfolding numbered
-  signal_numbered None h = record { back = refl; below = tt }
-  signal_numbered (Some name) h = by (wire_of c name) h
-    where
-      by : (o : Option ℕ) → is_local_wire ws o ≡ true → IsNumbered ws (signal_of o)
-      by None h = absurd (false≢true h)
-      by (Some w) h = let p = is_place ws w h in record { back = ap (λ v. Wire v) p.there; below = p.below }
-
-  numbered_held : Held → Held
-  numbered_held h = record h { signal = numbered ws h.signal }
-
-  numbered_event : Event → Event
-  numbered_event e = record e { signal = numbered ws e.signal }
-
-  -- what lines say, over those wires
-  numbered_signals : Signals → Signals
-  numbered_signals s = record { held = map numbered_held s.held; events = map numbered_event s.events }
-
-  -- what one line says comes back, and names no other wires
-  record IsBack (hs : List Held) (es : List Event) : Type 0 where
-    pub held : map (renumber_held (slice_index ws)) (map numbered_held hs) ≡ hs
-    pub events : map (renumber_event (slice_index ws)) (map numbered_event es) ≡ es
-    pub held_below : Each (λ h. IsBelow (length ws) h.signal) (map numbered_held hs)
-    pub events_below : Each (λ e. IsBelow (length ws) e.signal) (map numbered_event es)
-
-  back_from : (e : Border) (time : Option ℕ) (s : Signal) (hs : List Held) (es : List Event) → IsNumbered ws s → IsBack hs es → IsBack (held_by e time s ++ hs) (event_by e time s ++ es)
-  unfolding numbered_held numbered_event Each
-  back_from e None s hs es is more = record {
-    held = ap₂ (λ a l. record { cell = e.cell; signal = a } ∷ l) is.back more.held;
-    events = more.events;
-    held_below = (is.below, more.held_below);
-    events_below = more.events_below;
-  }
-  back_from e (Some t) s hs es is more = record {
-    held = more.held;
-    events = ap₂ (λ a l. record { at = record { time = t; cell = e.cell }; signal = a } ∷ l) is.back more.events;
-    held_below = more.held_below;
-    events_below = (is.below, more.events_below);
-  }
-
-  lines_back : (es : List Border) → Each IsNamed es → IsBack (line_signals c es).held (line_signals c es).events
-  unfolding Each
-  lines_back [] h = record { held = refl; events = refl; held_below = tt; events_below = tt }
-  lines_back (e ∷ es) h = back_from e e.time (line_signal c e.signal) _ _ (signal_numbered e.signal h.0) (lines_back es h.1)
 
 -- ---- the job of a module with the edge lines beside it
 

@@ -2,6 +2,9 @@ mod OneAnswer
 mod OneValue
 mod OneListing
 mod OneReport
+mod SomeAnswer
+mod SomeReport
+mod SomeRun
 mod Designs
 mod ThereAndBack
 mod TimedModules

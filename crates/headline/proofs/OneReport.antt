@@ -1,13 +1,11 @@
 -- A text has one report.
-use Rattle.std.proofs.Common.{◌≡◌, ◌∙◌, ◌<◌, ◌++◌, ◌∷◌, ℕ, suc, List, [], length, Option, Some, None, refl, sym, ap, ap₂, subst, arith}
+use Rattle.std.proofs.Common.{◌≡◌, ◌∙◌, ◌<◌, ◌++◌, ◌∷◌, ℕ, List, [], length, Option, Some, None, refl, sym, ap, subst, arith}
 use Rattle.std.specs.Prelude.{slice_get, codes}
 use Rattle.std.specs.List.{flat_map}
-use Rattle.std.specs.Option.{option_map}
 use Rattle.std.proofs.lemmas.Option.{slice_get_within}
 use Rattle.sha2.specs.Sha256.{sha256}
 use Rattle.section_text.specs.Spelling.{line_text}
 use Rattle.circuit.specs.Bridge.{circuit_of}
-use Rattle.module_box.specs.Locals.{LocalNet, circuit_gate}
 use Rattle.certificate_lines.specs.Entries.{ModuleLines, modules_of}
 use Rattle.certificate.specs.Grammars.{CertState, modules_in}
 use Rattle.certificate_lines.specs.Settings.{setting_of}
@@ -15,17 +13,12 @@ use Rattle.module_job.specs.Jobs.{JobState}
 use Rattle.certificate.specs.Jobs.{AreJobsOf}
 use Rattle.certificate_lines.specs.Modules.{AreModules}
 use Rattle.certificate.specs.Text.{certificate_text}
-use Rattle.local_run.specs.Faults.{IsFault, IsLeastFault, IsLeastKeepFault}
-use Rattle.local_run.specs.declared.fault.Fault.{Fault}
-use Rattle.local_run.specs.declared.fault.KeepFault.{KeepFault}
 use Rattle.audit_core.proofs.ModuleJobs.{one_job}
 use Rattle.audit_core.specs.CoreLaws.{SaysTheSame}
-use Rattle.audit_core.specs.Verdicts.{Accepts, AreLeastFaults, AreReportLines, IsToldOf, IsVerdict}
-use Rattle.audit_core.specs.declared.verdict.Reasons.{Reasons}
-use Rattle.audit_core.specs.declared.verdict.ReportLine.{ReportLine}
+use Rattle.audit_core.specs.Verdicts.{IsVerdict}
 use Rattle.audit_core.specs.declared.verdict.Verdict.{Verdict}
 use Rattle.audit_core.specs.declared.verdict.Verdict.TheVariants as verdict
-use Rattle.audit_core.proofs.OneVerdict.{none-past, verdict-is-one}
+use Rattle.audit_core.proofs.OneVerdict.{none-past, same-elements, verdict-is-one}
 use Rattle.report.specs.ReportText.{fault_line, opening_lines, report_lines}
 use Rattle.answers.specs.BundleText.{Bundle, bundle_of}
 use Rattle.answers.specs.CheckText.{IsCertificateOf, IsReportOf, IsVerdictOn, SaysReport, verdict_outcome}
@@ -34,15 +27,6 @@ use Rattle.answers.specs.declared.outcome.Outcome.{Outcome}
 use Rattle.headline.proofs.OneAnswer.{answered_once, one_layout}
 
 -- ---- modules have one list of jobs
-
-same_lists : {A : Type 0} (xs ys : List A) → length xs ≡ length ys
-    → ((k : ℕ) (x y : A) → slice_get xs k ≡ Some x → slice_get ys k ≡ Some y → x ≡ y) → xs ≡ ys
-same_lists [] [] e each = refl
-same_lists [] (y ∷ ys) e each = absurd (omega (arith, e))
-same_lists (x ∷ xs) [] e each = absurd (omega (arith, e))
-same_lists (x ∷ xs) (y ∷ ys) e each =
-    let rest : length xs ≡ length ys = omega (arith, e) in
-    ap₂ (λ z zs. z ∷ zs) (each 0 x y refl refl) (same_lists xs ys rest (λ k. each (suc k)))
 
 module _ (c : CertState) (good : AreModules (setting_of c.circuit c.layout) (modules_in c)) where
   abbrev AreOwn : List JobState → Type 0
@@ -60,7 +44,7 @@ module _ (c : CertState) (good : AreModules (setting_of c.circuit c.layout) (mod
           one_job (circuit_of c.circuit) c.layout m j i (good.each k m e).local.different (own_j.each k m j e at_j) (own_k.each k m i e at_k)
 
   one_list_of_jobs : (js ks : List JobState) → AreOwn js → AreOwn ks → js ≡ ks
-  one_list_of_jobs js ks own_j own_k = same_lists js ks (own_j.count ∙ sym own_k.count) (same_job_at js ks own_j own_k)
+  one_list_of_jobs js ks own_j own_k = same-elements js ks (own_j.count ∙ sym own_k.count) (same_job_at js ks own_j own_k)
 
   verdict_over : (js ks : List JobState) (v : Verdict) → AreOwn js → AreOwn ks → IsVerdict (setting_of c.circuit c.layout) (modules_in c) js v → IsVerdict (setting_of c.circuit c.layout) (modules_in c) ks v
   verdict_over js ks v own_j own_k is = subst (λ (l : List JobState). IsVerdict (setting_of c.circuit c.layout) (modules_in c) l v) (one_list_of_jobs js ks own_j own_k) is

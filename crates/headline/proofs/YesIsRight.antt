@@ -140,7 +140,7 @@ circuit_good n (l ∷ ls) h rows e = header_good ls n rows (form_of (words_of l)
 
 -- ---- and so are those of a layout
 
-laid_out : (ports : Option Named) (s : Extent) (before parts : List Part) → AreFaultless (layout_grammar ports) s before parts → lines.AreGoodAfter s before parts
+pub laid_out : (ports : Option Named) (s : Extent) (before parts : List Part) → AreFaultless (layout_grammar ports) s before parts → lines.AreGoodAfter s before parts
 unfolding lines.part_fault lines.line_fault
 laid_out ports s before [] good = tt
 laid_out ports s before (part ∷ parts) good =
@@ -346,10 +346,7 @@ by_line text output outcome says line = subst (λ o. IsReportOf text output o) (
 
 -- ---- there is one valuation
 
-refused-yes : Yes ≡ Refused → ⊥
-refused-yes e = cc
-
 pub one_valuation : YesHasOneValuation
 one_valuation text output circuit layout inputs u v says design fits fits' w below =
-    let good = good_designs text output Yes circuit layout says refused-yes design in
+    let good = good_designs text output Yes circuit layout says not_refused design in
     at_most_one (netlist_of circuit) inputs u v (gates_are_ordered circuit good.circuit_lines) fits fits' w below

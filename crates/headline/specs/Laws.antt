@@ -21,6 +21,10 @@ use Rattle.headline.specs.Stops.{HasRightStops, SaysBundle}
 abbrev pub HasOneAnswer : (List ℕ → List ℕ → Outcome → Type 0) → Type 0
 HasOneAnswer R = (text output output' : List ℕ) (outcome outcome' : Outcome) → R text output outcome → R text output' outcome' → (output ≡ output') × (outcome ≡ outcome')
 
+-- and it has an answer to each text, so that its answer is a function of the text
+abbrev pub HasAnAnswer : (List ℕ → List ℕ → Outcome → Type 0) → Type 0
+HasAnAnswer R = (text : List ℕ) → (output : List ℕ) × (outcome : Outcome) × R text output outcome
+
 -- what is reported with the outcome yes is right
 abbrev pub YesMeansRight : Type 0
 YesMeansRight = (text output : List ℕ) → IsReportOf text output Yes → IsRight text

@@ -31,8 +31,8 @@ PlainLinesDecide = (text output : List ℕ) (outcome : Outcome) (circuit : List 
     SaysBundle text circuit layout (plain_lines circuit layout) → IsReportOf text output outcome → outcome ≢ Refused →
     SaysPlain text × ((outcome ≡ Yes) ↔ (IsRight text × HasRightStops text × ¬ HasRimTouch text))
 
--- So for every small design right is the same as accepted: `check` says yes to its plain text exactly if the layout
--- computes the circuit and keeps off its rim, and its delays and meetings are right.
+-- A plain text of a small design is not refused. `check` says yes to it exactly if the layout computes the circuit and
+-- keeps off its rim, and its stops, delays and meetings are right.
 abbrev pub SmallDesignIsDecided : Type 0
 SmallDesignIsDecided = (text output : List ℕ) (outcome : Outcome) (circuit : List CircuitLine) (layout : Pattern) →
     IsPlainText text circuit layout → IsSmall circuit layout → IsReportOf text output outcome →

@@ -11,7 +11,8 @@ use Rattle.audit_core.specs.Draws.{total, times, IsDrawn}
 use Rattle.module_job.specs.Groups.{AreGroups, IsFirstLike}
 use Rattle.module_job.specs.Jobs.{JobState}
 use Rattle.module_job.specs.Shapes.{ShapeState, shape_of}
-use Rattle.job_pool.specs.Work.{due, shapes_of}
+use Rattle.audit_core.specs.Filling.{shapes_of}
+use Rattle.job_pool.specs.Work.{due}
 use Rattle.job_pool.proofs.Sums.{times-append, total-add, total_same}
 
 -- ---- groups

@@ -1,8 +1,6 @@
 -- What workers did
 use Rattle.std.specs.Prelude.{◌≡◌, ℕ, ◌+◌, ◌-◌, ◌^◌, ◌<◌, ◌≤◌, false, List, [], ◌∷◌, map, slice_index_or, sum_by, length}
 use Rattle.audit_core.specs.Draws.{end_of, times}
-use Rattle.module_job.specs.Jobs.{JobState}
-use Rattle.module_job.specs.Shapes.{ShapeState, shape_of}
 use Rattle.verdict_book.specs.Counts.{Counts}
 use Rattle.job_pool.specs.Seats.{IsSeatOf, IsNewSeatOf, drawn_by, numbers_of}
 use Rattle.job_pool.specs.declared.desk.Desk.{Desk}
@@ -18,18 +16,10 @@ pub record HasRisen (before after : Counts) : Type 0 where
   pub filed : before.filed ≤ after.filed
   pub accepted : before.accepted ≤ after.accepted
 
--- A count after one more; the count stops at the greatest number that it can hold.
-abbrev pub IsOneMore : ℕ → ℕ → Type 0
-IsOneMore before after = before < 2 ^ 64 - 1 → after ≡ before + 1
-
 -- as many shares, and each has counted more, or nothing more
 pub record HaveRisen (before after : List Counts) : Type 0 where
   pub count : length after ≡ length before
   pub each : (i : ℕ) (d : Counts) → i < length before → HasRisen (slice_index_or before i d) (slice_index_or after i d)
-
--- the shapes of jobs
-abbrev pub shapes_of : List JobState → List ShapeState
-shapes_of jobs = map shape_of jobs
 
 -- For each job `groups` has the number of the first of its shape. So many findings are due from who drew these numbers: those of all
 -- members of the groups whose first numbers they are

@@ -35,11 +35,14 @@ impl Desk {
     pub fn close(self, alloc: Global, seats: Vec<DeskSeat>) -> Result<Closed, CloseFault>
         requires { All (IsSeatOf self) seats.items }
         ensures draws { IfOk result (λ c. draws_of c ≡ map drawn_by seats.items) }
-        ensures all { IfOk result (λ c. AreAllDraws (numbers_of self) (seats_opened self) c.counter (draws_of c)) }
+        ensures all { IfOk result (λ c. AreAllDraws (numbers_of self) (seats_opened self) c.counter
+            (draws_of c)) }
         // where some seat met the end, each number was drawn
-        ensures ended { IfOk result (λ c. Any (λ s. numbers_of self < end_of (drawn_by s)) seats.items → numbers_of self < c.counter) }
+        ensures ended { IfOk result (λ c. Any (λ s. numbers_of self < end_of (drawn_by s))
+            seats.items → numbers_of self < c.counter) }
         ensures back { IfErr result (λ f. (f.desk ≡ self) × (f.seats ≡ seats)) }
-        ensures missing { IfErr result (λ f. IsTrue f.missing ↔ (vec_len seats < seats_opened self)) }
+        ensures missing { IfErr result (λ f. IsTrue f.missing
+            ↔ (vec_len seats < seats_opened self)) }
     {
         if seats.len() < self.seats {
             return Err(CloseFault {
@@ -70,7 +73,8 @@ impl Desk {
         requires some { 0 < vec_len seats }
         requires empty { draws.items ≡ [] }
         requires room { vec_len seats ≤ vec_capacity draws }
-        ensures seat { (result.0.table_id ≡ self.now.table.shared.table_id) × (result.0.me.0.places ≡ vec_len seats) }
+        ensures seat { (result.0.table_id ≡ self.now.table.shared.table_id)
+            × (result.0.me.0.places ≡ vec_len seats) }
         ensures draws { map (λ v. v.items) result.1.items ≡ map drawn_by seats.items }
         ensures joined { result.0.me.0.draws ≡ joined (map drawn_by seats.items) }
     {
@@ -98,7 +102,8 @@ impl Desk {
 
     // The last count of the word, once one seat has all places.
     fn end(self, seat: Seat<(), View>) -> usize
-        requires { (seat.table_id ≡ self.table.shared.table_id) × (seats_opened self ≤ seat.me.0.places) }
+        requires { (seat.table_id ≡ self.table.shared.table_id)
+            × (seats_opened self ≤ seat.me.0.places) }
         ensures { IsWhole (numbers_of self) (seats_opened self) result seat.me.0 }
     {
         let Desk { table, .. } = self;

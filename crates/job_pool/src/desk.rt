@@ -10,9 +10,9 @@ use std::alloc::{AllocError, Global};
 
 /// Hands out the numbers below a count of at most 1024, each once, to 1 to 64 seats that were opened with it.
 ///
-/// It is one word, the next number, and it keeps the desk rule at each moment, whoever draws: each number below the word was
-/// drawn by one seat, once. A claim adds 1 to the word, in one atomic step; a look at the word, and the splits and joins of
-/// seats by `open` and `close`, add nothing. There is no other step.
+/// It is one word, the next number, and it keeps the desk rule at each moment, whoever draws: each number below the
+/// word was drawn by one seat, once. A claim adds 1 to the word, in one atomic step; a look at the word, and the splits
+/// and joins of seats by `open` and `close`, add nothing. There is no other step.
 #[derive(Drop)]
 pub struct Desk {
     pub(crate) table: Table<(), View, Size, Numbered, Global>,
@@ -23,7 +23,8 @@ pub struct Desk {
     ghost small: { (numbers ≤ 1024) × (0 < seats) × (seats ≤ 64) },
 }
 
-/// One of the seats that were opened with a desk, with the numbers that it drew. It is drawn with by one thread at a time.
+/// One of the seats that were opened with a desk, with the numbers that it drew. It is drawn with by one thread at a
+/// time.
 ///
 /// A seat that is dropped is missing when its desk is closed.
 #[derive(Drop)]
@@ -57,8 +58,8 @@ impl Desk {
     ghost use Rattle.job_pool.specs.Rule.{view};
     ghost use Rattle.job_pool.specs.Seats.{IsClaim, IsNewSeatOf, IsSeatOf, Tells, drawn_by, numbers_of, seats_opened, seen_by};
 
-    /// A desk for the numbers below `numbers`, and its seats. All memory that they need is found here. `AllocError` is want of
-    /// memory.
+    /// A desk for the numbers below `numbers`, and its seats. All memory that they need is found here. `AllocError` is
+    /// want of memory.
     pub fn open(
         alloc: Global,
         numbers: usize,
@@ -87,9 +88,11 @@ impl Desk {
         Ok((desk, opened))
     }
 
-    // Cuts one place off for each seat, which has room for all numbers and for the draw that tells it that there are no more.
+    // Cuts one place off for each seat, which has room for all numbers and for the draw that tells it that there are no
+    // more.
     fn cut(&self, alloc: Global, mut rest: Seat<(), View>) -> Result<Vec<DeskSeat>, AllocError>
-        requires { (rest.table_id ≡ self.now.table.shared.table_id) × (rest.me.0 ≡ view [] 0 (seats_opened self.now)) }
+        requires { (rest.table_id ≡ self.now.table.shared.table_id)
+            × (rest.me.0 ≡ view [] 0 (seats_opened self.now)) }
         ensures count { IfOk result (λ v. vec_len v ≡ seats_opened self.now) }
         ensures each { IfOk result (λ v. All (IsNewSeatOf self.now) v.items) }
     {
@@ -128,8 +131,8 @@ impl Desk {
         }
     }
 
-    /// How many numbers are left, by one look at the word, which neither waits nor takes memory. A later answer to the same
-    /// seat is never greater.
+    /// How many numbers are left, by one look at the word, which neither waits nor takes memory. A later answer to the
+    /// same seat is never greater.
     pub fn left(&self, seat: &mut DeskSeat) -> usize
         requires { IsSeatOf self.now seat.old }
         ensures seat { IsSeatOf self.now seat.new }

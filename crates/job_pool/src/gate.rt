@@ -1,9 +1,9 @@
 //! What is told of each number.
 
-/// Is told of each number that a worker draws, before and after what it does for it. Where the number is the first of a group of
-/// jobs of the same shape, that is to run its job and file the findings of all members of the group; for another number there is
-/// nothing to do, and its finding may be filed by another worker, before or later. Nothing is told after a number for which there
-/// was no memory.
+/// Is told of each number that a worker draws, before and after what it does for it. Where the number is the first of a
+/// group of jobs of the same shape, that is to run its job and file the findings of all members of the group; for
+/// another number there is nothing to do, and its finding may be filed by another worker, before or later. Nothing is
+/// told after a number for which there was no memory.
 ///
 /// All workers share it, and each tells it of its own numbers.
 pub trait Gate {

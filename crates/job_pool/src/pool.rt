@@ -3,7 +3,8 @@ ghost use Rattle.std.specs.Prelude.{◌≡◌, ℕ, ◌+◌, ◌<◌, ◌≤◌,
 ghost use Rattle.std.specs.Arc.{arc_value};
 ghost use Rattle.module_job.specs.Groups.{AreGroups};
 ghost use Rattle.job_pool.specs.Seats.{IsNewSeatOf, numbers_of, seats_opened};
-ghost use Rattle.job_pool.specs.Work.{HasWorked, HaveRisen, IsReady, filed_by, seats_of, shapes_of, shares_of};
+ghost use Rattle.audit_core.specs.Filling.{shapes_of};
+ghost use Rattle.job_pool.specs.Work.{HasWorked, HaveRisen, IsReady, filed_by, seats_of, shares_of};
 
 use crate::desk::{Desk, DeskSeat};
 use crate::gate::Gate;
@@ -35,13 +36,13 @@ struct Rooms<F: Filings, A: Ledger> {
     shares: Vec<Share<F, A>>,
 }
 
-/// Files the findings of all jobs under the book's digest, by one worker a share. Each worker draws numbers at a desk, in a thread
-/// of its own where one can be made, until no number is left. Who draws the first number of a group of jobs of the same shape runs
-/// its job and files the findings of all members; who draws another number files nothing for it.
+/// Files the findings of all jobs under the book's digest, by one worker a share. Each worker draws numbers at a desk,
+/// in a thread of its own where one can be made, until no number is left. Who draws the first number of a group of jobs
+/// of the same shape runs its job and files the findings of all members; who draws another number files nothing for it.
 ///
-/// There are at most 1024 jobs, numbered from 0 in their order, for each of them the number of the first of its shape in `groups`,
-/// and 1 to 64 shares of the book. All workers have ended when it returns. A worker that finds no memory stops, and leaves the
-/// numbers that are left to the others. No share counts less than before.
+/// There are at most 1024 jobs, numbered from 0 in their order, for each of them the number of the first of its shape
+/// in `groups`, and 1 to 64 shares of the book. All workers have ended when it returns. A worker that finds no memory
+/// stops, and leaves the numbers that are left to the others. No share counts less than before.
 pub fn work<F: Filings + Sync, A: Ledger + Sync, G: Gate + Sync, R: Threads + Wait + Sync>(
     rt: &R,
     alloc: Global,
@@ -55,7 +56,8 @@ pub fn work<F: Filings + Sync, A: Ledger + Sync, G: Gate + Sync, R: Threads + Wa
     requires groups { AreGroups (shapes_of (map arc_value jobs.now)) groups.now }
     requires shares { (0 < vec_len shares) × (vec_len shares ≤ 64) }
     ensures shares { HaveRisen shares.items result.shares.items }
-    ensures filed { result.memory ≡ false → filed_by result.shares.items ≡ filed_by shares.items + length jobs.now }
+    ensures filed { result.memory ≡ false →
+        filed_by result.shares.items ≡ filed_by shares.items + length jobs.now }
 {
     let Ok((desk, seats, rooms)) = prepare(alloc, jobs.len(), shares.len()) else {
         return WorkEnd {
@@ -100,10 +102,13 @@ fn prepare<F: Filings, A: Ledger>(
     count: usize,
 ) -> Result<(Desk, Vec<DeskSeat>, Rooms<F, A>), AllocError>
     requires { (numbers ≤ 1024) × (0 < count) × (count ≤ 64) }
-    ensures desk { IfOk result (λ p. (numbers_of p.0 ≡ numbers) × (seats_opened p.0 ≡ count) × (vec_len p.1 ≡ count)) }
+    ensures desk { IfOk result (λ p. (numbers_of p.0 ≡ numbers) × (seats_opened p.0 ≡ count)
+        × (vec_len p.1 ≡ count)) }
     ensures seats { IfOk result (λ p. All (IsNewSeatOf p.0) p.1.items) }
-    ensures empty { IfOk result (λ p. (p.2.workers.items ≡ []) × (p.2.seats.items ≡ []) × (p.2.shares.items ≡ [])) }
-    ensures room { IfOk result (λ p. (count ≤ vec_capacity p.2.workers) × (count ≤ vec_capacity p.2.seats) × (count ≤ vec_capacity p.2.shares)) }
+    ensures empty { IfOk result (λ p. (p.2.workers.items ≡ []) × (p.2.seats.items ≡ [])
+        × (p.2.shares.items ≡ [])) }
+    ensures room { IfOk result (λ p. (count ≤ vec_capacity p.2.workers)
+        × (count ≤ vec_capacity p.2.seats) × (count ≤ vec_capacity p.2.shares)) }
 {
     let workers = Vec::with_capacity(alloc, count)?;
     let seats = Vec::with_capacity(alloc, count)?;
@@ -157,7 +162,9 @@ fn run_all<F: Filings + Sync, A: Ledger + Sync, G: Gate + Sync, R: Threads + Wai
     requires ready { All (IsReady site.now.desk.now) workers.old }
     requires all { numbers_of site.now.desk.now ≡ length site.now.jobs.now }
     requires groups { AreGroups (shapes_of (map arc_value site.now.jobs.now)) site.now.groups.now }
-    ensures { (i : ℕ) (d : _) → i < length workers.old → HasWorked site.now.desk.now site.now.groups.now (slice_index_or workers.old i d) (slice_index_or workers.new i d) }
+    ensures { (i : ℕ) (d : _) → i < length workers.old →
+        HasWorked site.now.desk.now site.now.groups.now (slice_index_or workers.old i d)
+        (slice_index_or workers.new i d) }
 {
     let threads = workers.len();
     thread::for_each_mut(
@@ -175,7 +182,8 @@ fn dismiss<F: Filings, A: Ledger>(
     mut shares: Vec<Share<F, A>>,
 ) -> (Vec<DeskSeat>, Vec<Share<F, A>>, bool, usize)
     requires empty { (seats.items ≡ []) × (shares.items ≡ []) }
-    requires room { (vec_len workers ≤ vec_capacity seats) × (vec_len workers ≤ vec_capacity shares) }
+    requires room { (vec_len workers ≤ vec_capacity seats)
+        × (vec_len workers ≤ vec_capacity shares) }
     ensures seats { result.0.items ≡ seats_of workers.items }
     ensures shares { result.1.items ≡ shares_of workers.items }
     ensures starved { result.2 ≡ false → All (λ w. w.starved ≡ false) workers.items }

@@ -2,8 +2,8 @@
 use atomic_table::{Join, Play, Split, TableRule};
 use std::collections::LinkedList;
 
-/// What a seat knows: the numbers that it drew, a count that the word has reached, and of how many seats it has the place. No value
-/// of it is made.
+/// What a seat knows: the numbers that it drew, a count that the word has reached, and of how many seats it has the
+/// place. No value of it is made.
 pub struct View {
     pub draws: LinkedList<u64>,
     pub seen: u64,

@@ -8,7 +8,8 @@ ghost use Rattle.local_run.specs.Shown.{digest_of, job_of};
 ghost use Rattle.verdict_book.specs.Counts.{counted};
 ghost use Rattle.verdict_book.specs.Replies.{IsReplyOf};
 ghost use Rattle.job_pool.specs.Seats.{numbers_of};
-ghost use Rattle.job_pool.specs.Work.{HasRisen, HasWorked, IsOneMore, IsReady, shapes_of};
+ghost use Rattle.audit_core.specs.Filling.{IsOneMore, shapes_of};
+ghost use Rattle.job_pool.specs.Work.{HasRisen, HasWorked, IsReady};
 
 use crate::desk::{Desk, DeskSeat};
 use crate::gate::Gate;
@@ -31,7 +32,8 @@ pub struct Site<'a, F: Filings, A: Ledger, G> {
     pub(crate) book: &'a Book<F, A>,
 }
 
-/// A seat to draw with, a share to file through, whether the worker stopped for want of memory, and how many jobs it ran.
+/// A seat to draw with, a share to file through, whether the worker stopped for want of memory, and how many jobs it
+/// ran.
 #[derive(Drop)]
 pub struct Worker<F: Filings, A: Ledger> {
     pub(crate) seat: DeskSeat,
@@ -41,12 +43,13 @@ pub struct Worker<F: Filings, A: Ledger> {
 }
 
 impl<F: Filings, A: Ledger> Worker<F, A> {
-    /// Draws numbers, runs the jobs of those that are the first of their groups and files the findings of all members, until no
-    /// number is left or there is no memory.
+    /// Draws numbers, runs the jobs of those that are the first of their groups and files the findings of all members,
+    /// until no number is left or there is no memory.
     pub(crate) fn run<G: Gate, R: Wait>(&mut self, rt: &R, alloc: Global, site: &Site<'_, F, A, G>)
         requires ready { IsReady site.now.desk.now self.old }
         requires all { numbers_of site.now.desk.now ≡ length site.now.jobs.now }
-        requires groups { AreGroups (shapes_of (map arc_value site.now.jobs.now)) site.now.groups.now }
+        requires groups { AreGroups (shapes_of (map arc_value site.now.jobs.now))
+            site.now.groups.now }
         ensures { HasWorked site.now.desk.now site.now.groups.now self.old self.new }
     {
         while let Claim::Number(number) = site.desk.claim(&mut self.seat) {
@@ -64,8 +67,8 @@ impl<F: Filings, A: Ledger> Worker<F, A> {
     }
 }
 
-// Runs the job of a number that is the first of its group, and files the findings of all members of the group under the book's
-// digest. For another number there is nothing to do.
+// Runs the job of a number that is the first of its group, and files the findings of all members of the group under the
+// book's digest. For another number there is nothing to do.
 fn run_group<F: Filings, A: Ledger, G, R: Wait>(
     rt: &R,
     alloc: Global,
@@ -76,10 +79,12 @@ fn run_group<F: Filings, A: Ledger, G, R: Wait>(
 ) -> Result<(), AllocError>
     requires number { number < length site.now.jobs.now }
     requires groups { AreGroups (shapes_of (map arc_value site.now.jobs.now)) site.now.groups.now }
-    ensures filed { OnOk result (share.new.filed ≡ share.old.filed + times number site.now.groups.now) }
+    ensures filed { OnOk result (share.new.filed
+        ≡ share.old.filed + times number site.now.groups.now) }
     ensures risen { HasRisen share.old share.new }
     ensures no_run { slice_index site.now.groups.now number ≢ number → runs.new ≡ runs.old }
-    ensures one_run { slice_index site.now.groups.now number ≡ number → IsOneMore runs.old runs.new }
+    ensures one_run { slice_index site.now.groups.now number ≡ number →
+        IsOneMore runs.old runs.new }
 {
     let (jobs, groups) = (site.jobs, site.groups);
     if groups[number] != number {
@@ -115,9 +120,11 @@ fn file_members<F: Filings, A: Ledger, G, R: Wait>(
     share: &mut Share<F, A>,
 ) -> Result<(), AllocError>
     requires groups { AreGroups (shapes_of (map arc_value site.now.jobs.now)) site.now.groups.now }
-    requires first { slice_get (map arc_value site.now.jobs.now) number ≡ Some (job_of finding.now) }
+    requires first { slice_get (map arc_value site.now.jobs.now) number
+        ≡ Some (job_of finding.now) }
     requires digest { digest_of finding.now ≡ F.digest }
-    ensures filed { OnOk result (share.new.filed ≡ share.old.filed + times number site.now.groups.now) }
+    ensures filed { OnOk result (share.new.filed
+        ≡ share.old.filed + times number site.now.groups.now) }
     ensures risen { HasRisen share.old share.new }
 {
     let (jobs, groups) = (site.jobs, site.groups);

@@ -17,8 +17,8 @@ pub enum Kind {
     End,
 }
 
-/// A cell of a module's box that is not as the module says, at a time and under an assignment: bit i of the assignment is the
-/// value of cut i.
+/// A cell of a module's box that is not as the module says, at a time and under an assignment: bit i of the assignment
+/// is the value of cut i.
 #[derive(Clone, Copy, Debug, PartialEq, Eq)]
 pub struct Fault {
     pub time: u32,
@@ -27,8 +27,8 @@ pub struct Fault {
     pub assignment: u32,
 }
 
-/// A gate that a module keeps, by its place among those that it uses, and an assignment under which it is the first of them that has
-/// no row. Keep faults are ordered by gate and assignment.
+/// A gate that a module keeps, by its place among those that it uses, and an assignment under which it is the first of
+/// them that has no row. Keep faults are ordered by gate and assignment.
 #[derive(Clone, Copy, Debug, PartialEq, Eq)]
 pub struct KeepFault {
     pub gate: usize,

@@ -1,8 +1,9 @@
 //! Planes whose steps pass over the blocks that are known to stay.
 //!
-//! A block stays where under no assignment exactly one of its diagonals has a live cell: an empty one, one in a mirror, one with
-//! two balls side by side. Once it was seen to stay it does so until one of its cells changes, so only the blocks near cells that
-//! changed are looked at. A step in which many blocks change is followed by some that turn whole planes.
+//! A block stays where under no assignment exactly one of its diagonals has a live cell: an empty one, one in a mirror,
+//! one with two balls side by side. Once it was seen to stay it does so until one of its cells changes, so only the
+//! blocks near cells that changed are looked at. A step in which many blocks change is followed by some that turn whole
+//! planes.
 
 ghost use Rattle.bbm_rule.specs.Plane.{turned};
 ghost use Rattle.bbm_rule.specs.Rows.{mate};
@@ -51,9 +52,9 @@ pub struct Field {
 // How many steps turn whole planes after one in which many blocks changed.
 const RUSH: u32 = 62;
 
-// Whether it costs less to turn all blocks, with that many words a cell and cells a row, than to go by marks where so many change.
-// A block that changes has up to four others looked at, two for each of its diagonals that changes. Where all are turned no cell of
-// ring and halo is known to be dead, and at odd times each is looked up.
+// Whether it costs less to turn all blocks, with that many words a cell and cells a row, than to go by marks where so
+// many change. A block that changes has up to four others looked at, two for each of its diagonals that changes. Where
+// all are turned no cell of ring and halo is known to be dead, and at odd times each is looked up.
 fn are_many(changed: usize, cells: usize, words: usize, stride: usize) -> bool
     requires { (changed ≤ 4096) × (cells ≤ 4096) × (words ≤ 64) × (0 < stride) × (stride ≤ 4096) }
 {
@@ -104,7 +105,8 @@ impl Field {
     /// Looks at the edge and halo lines of a job at a time: the cells of which one says something get a mark.
     pub fn look_at(&mut self, values: &Values, job: &Job, time: u32)
         requires ready { IsReady job.now values.now }
-        requires size { HasSize values.now.words (job.now.area.w / 2 + 1) (job.now.area.h / 2 + 1) self.old.planes }
+        requires size { HasSize values.now.words (job.now.area.w / 2 + 1) (job.now.area.h / 2 + 1)
+            self.old.planes }
         requires range { time < 65536 }
         ensures planes { self.new.planes ≡ self.old.planes }
         ensures lines { AreLines job.now time self.new.line_marks.items }
@@ -113,9 +115,9 @@ impl Field {
         mark_lines(&mut self.line_marks, &mut self.line_places, job, time);
     }
 
-    /// The next number from `from` on that has cells of ring or halo which may be live, or of which a line says something at the time
-    /// that was looked at; or how many numbers there are. The cells of the numbers that are passed are neither in the ring nor in the
-    /// halo, or dead under each assignment and without a line.
+    /// The next number from `from` on that has cells of ring or halo which may be live, or of which a line says
+    /// something at the time that was looked at; or how many numbers there are. The cells of the numbers that are
+    /// passed are neither in the ring nor in the halo, or dead under each assignment and without a line.
     pub fn next_border(&self, from: usize) -> usize
         requires { from ≤ self.now.planes.stride * self.now.planes.rows }
         ensures range { (from ≤ result) × (result ≤ self.now.planes.stride * self.now.planes.rows) }
@@ -130,10 +132,12 @@ impl Field {
         )
     }
 
-    /// Whether an edge or halo line may say something, at the time that was looked at, of a cell, counted from the halo.
+    /// Whether an edge or halo line may say something, at the time that was looked at, of a cell, counted from the
+    /// halo.
     pub fn has_line(&self, x: usize, y: usize) -> bool
         requires { (x / 2 < self.now.planes.stride) × (y / 2 < self.now.planes.rows) }
-        ensures { result ≡ false → IsUnmarked self.now.line_marks.items (self.now.planes.stride * (y / 2) + x / 2) }
+        ensures { result ≡ false →
+            IsUnmarked self.now.line_marks.items (self.now.planes.stride * (y / 2) + x / 2) }
     {
         is_marked(&self.line_marks, self.planes.number(x, y))
     }
@@ -141,7 +145,8 @@ impl Field {
     // Takes the mark off block u of the odd partition, which stays, and off its cells where they are dead.
     fn settle(&mut self, u: usize)
         requires place { u < self.old.planes.stride * self.old.planes.rows }
-        requires calm { IsCalmBlock self.old.planes.words u u u u self.old.planes.odd.items self.old.planes.right.items self.old.planes.down.items self.old.planes.even.items }
+        requires calm { IsCalmBlock self.old.planes.words u u u u self.old.planes.odd.items
+            self.old.planes.right.items self.old.planes.down.items self.old.planes.even.items }
         ensures { self.new.planes ≡ self.old.planes }
     {
         unmark(&mut self.odd_marks, u);
@@ -153,8 +158,12 @@ impl Field {
     // Turns block u of the odd partition, unless it stays, and tells whether it turned it.
     fn turn_odd(&mut self, u: usize) -> bool
         requires { u < self.old.planes.stride * self.old.planes.rows }
-        ensures part { let at = self.old.planes.words * u in TurnsPart at at at at self.old.planes.words self.old.planes.odd.items self.old.planes.right.items self.old.planes.down.items self.old.planes.even.items self.new.planes.odd.items self.new.planes.right.items self.new.planes.down.items self.new.planes.even.items }
-        ensures size { HasSize self.old.planes.words self.old.planes.stride self.old.planes.rows self.new.planes }
+        ensures part { let at = self.old.planes.words * u in TurnsPart at at at at
+            self.old.planes.words self.old.planes.odd.items self.old.planes.right.items
+            self.old.planes.down.items self.old.planes.even.items self.new.planes.odd.items
+            self.new.planes.right.items self.new.planes.down.items self.new.planes.even.items }
+        ensures size { HasSize self.old.planes.words self.old.planes.stride self.old.planes.rows
+            self.new.planes }
         ensures stays { result ≡ false → self.new.planes ≡ self.old.planes }
     {
         let changes = self.planes.odd_changes(u);
@@ -170,12 +179,18 @@ impl Field {
         true
     }
 
-    // Turns block u of the even partition, unless it stays, and tells whether it turned it and it is in the box. The last block of
-    // a row is not: its cells stand in the halo at the right end of two rows and at the left end of the next two.
+    // Turns block u of the even partition, unless it stays, and tells whether it turned it and it is in the box. The
+    // last block of a row is not: its cells stand in the halo at the right end of two rows and at the left end of the
+    // next two.
     fn turn_even(&mut self, u: usize) -> bool
         requires { u + self.old.planes.stride + 1 < self.old.planes.stride * self.old.planes.rows }
-        ensures part { let w = self.old.planes.words in TurnsPart (w * u) (w * (u + 1)) (w * (u + self.old.planes.stride)) (w * (u + self.old.planes.stride + 1)) w self.old.planes.even.items self.old.planes.down.items self.old.planes.right.items self.old.planes.odd.items self.new.planes.even.items self.new.planes.down.items self.new.planes.right.items self.new.planes.odd.items }
-        ensures size { HasSize self.old.planes.words self.old.planes.stride self.old.planes.rows self.new.planes }
+        ensures part { let w = self.old.planes.words in TurnsPart (w * u) (w * (u + 1))
+            (w * (u + self.old.planes.stride)) (w * (u + self.old.planes.stride + 1)) w
+            self.old.planes.even.items self.old.planes.down.items self.old.planes.right.items
+            self.old.planes.odd.items self.new.planes.even.items self.new.planes.down.items
+            self.new.planes.right.items self.new.planes.odd.items }
+        ensures size { HasSize self.old.planes.words self.old.planes.stride self.old.planes.rows
+            self.new.planes }
         ensures stays { result ≡ false → SameInside self.old.planes self.new.planes }
     {
         let changes = self.planes.even_changes(u);
@@ -193,8 +208,13 @@ impl Field {
 
     /// Turns the blocks whose upper left corner is odd: they fill box and halo. Tells whether a block may have changed.
     pub fn odd_step(&mut self) -> bool
-        ensures turned { (a x y : ℕ) → a < 64 * self.old.planes.words → x < 2 * self.old.planes.stride → y < 2 * self.old.planes.rows → lane self.new.planes a x y ≡ turned (lane self.old.planes a x y) (lane self.old.planes a (mate x) (mate y)) (lane self.old.planes a (mate x) y) (lane self.old.planes a x (mate y)) }
-        ensures size { HasSize self.old.planes.words self.old.planes.stride self.old.planes.rows self.new.planes }
+        ensures turned { (a x y : ℕ) → a < 64 * self.old.planes.words →
+            x < 2 * self.old.planes.stride → y < 2 * self.old.planes.rows →
+            lane self.new.planes a x y
+            ≡ turned (lane self.old.planes a x y) (lane self.old.planes a (mate x) (mate y))
+            (lane self.old.planes a (mate x) y) (lane self.old.planes a x (mate y)) }
+        ensures size { HasSize self.old.planes.words self.old.planes.stride self.old.planes.rows
+            self.new.planes }
         ensures stays { result ≡ false → self.new.planes ≡ self.old.planes }
     {
         if self.rush > 0 {
@@ -224,8 +244,15 @@ impl Field {
     /// Turns the blocks of the box whose upper left corner is even. The cells of the halo are not read. Tells whether a
     /// cell of the box may have changed.
     pub fn even_step(&mut self) -> bool
-        ensures turned { (a x y : ℕ) → a < 64 * self.old.planes.words → x + 2 < 2 * self.old.planes.stride → y + 2 < 2 * self.old.planes.rows → lane self.new.planes a (1 + x) (1 + y) ≡ turned (lane self.old.planes a (1 + x) (1 + y)) (lane self.old.planes a (1 + mate x) (1 + mate y)) (lane self.old.planes a (1 + mate x) (1 + y)) (lane self.old.planes a (1 + x) (1 + mate y)) }
-        ensures size { HasSize self.old.planes.words self.old.planes.stride self.old.planes.rows self.new.planes }
+        ensures turned { (a x y : ℕ) → a < 64 * self.old.planes.words →
+            x + 2 < 2 * self.old.planes.stride → y + 2 < 2 * self.old.planes.rows →
+            lane self.new.planes a (1 + x) (1 + y)
+            ≡ turned (lane self.old.planes a (1 + x) (1 + y))
+            (lane self.old.planes a (1 + mate x) (1 + mate y))
+            (lane self.old.planes a (1 + mate x) (1 + y))
+            (lane self.old.planes a (1 + x) (1 + mate y)) }
+        ensures size { HasSize self.old.planes.words self.old.planes.stride self.old.planes.rows
+            self.new.planes }
         ensures stays { result ≡ false → SameInside self.old.planes self.new.planes }
     {
         if self.rush > 0 {

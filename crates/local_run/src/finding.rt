@@ -14,8 +14,8 @@ use std::sync::Arc;
 
 /// What was found of a job, with the digest of the certificate and the number of the module that it was made for.
 ///
-/// Each finding is honest, by its type: its fault is the least fault of its own job, or `None` where that job has no fault, and so
-/// is its keep fault.
+/// Each finding is honest, by its type: its fault is the least fault of its own job, or `None` where that job has no
+/// fault, and so is its keep fault.
 #[derive(Drop)]
 pub struct Finding {
     digest: [u8; 32],
@@ -71,7 +71,9 @@ impl Finding {
     ) -> Finding
         requires fault { IsLeastFault (arc_value job) fault }
         requires keep { IsLeastKeepFault (arc_value job) keep }
-        ensures { (digest_of result ≡ digest) × (number_of result ≡ number) × (job_of result ≡ arc_value job) × (fault_of result ≡ fault) × (keep_of result ≡ keep) }
+        ensures { (digest_of result ≡ digest) × (number_of result ≡ number)
+            × (job_of result ≡ arc_value job) × (fault_of result ≡ fault)
+            × (keep_of result ≡ keep) }
     {
         Finding {
             digest,
@@ -119,17 +121,19 @@ impl Finding {
         self.keep
     }
 
-    /// The finding of another job of the same shape, for a module of this number of the certificate with the same digest, without
-    /// another run: its fault is that of this finding, where the job lies, and its keep fault is the same. `None` where the job has
-    /// another shape. It takes no memory.
+    /// The finding of another job of the same shape, for a module of this number of the certificate with the same
+    /// digest, without another run: its fault is that of this finding, where the job lies, and its keep fault is the
+    /// same. `None` where the job has another shape. It takes no memory.
     pub fn for_job(&self, number: usize, job: Arc<Job>) -> Option<Finding>
-        ensures shapes { IfSome result (λ _. shape_of (job_of self.now) ≡ shape_of (arc_value job)) }
+        ensures shapes { IfSome result (λ _. shape_of (job_of self.now)
+            ≡ shape_of (arc_value job)) }
         ensures none { IfNone result (shape_of (job_of self.now) ≢ shape_of (arc_value job)) }
         ensures digest { IfSome result (λ f. digest_of f ≡ digest_of self.now) }
         ensures number { IfSome result (λ f. number_of f ≡ number) }
         ensures job { IfSome result (λ f. job_of f ≡ arc_value job) }
         ensures keep { IfSome result (λ f. keep_of f ≡ keep_of self.now) }
-        ensures fault { IfSome result (λ f. fault_of f ≡ option_map (fault_on (job_of self.now) (arc_value job)) (fault_of self.now)) }
+        ensures fault { IfSome result (λ f. fault_of f
+            ≡ option_map (fault_on (job_of self.now) (arc_value job)) (fault_of self.now)) }
     {
         let own: &Job = &self.job;
         let same = **own.shape() == **job.shape();

@@ -30,7 +30,8 @@ pub fn faults_are_decided()
     ensures { FaultsAreDecided }
 {}
 
-/// Jobs have the same faults where they differ in their halos alone, and these say the same at each odd time below the steps.
+/// Jobs have the same faults where they differ in their halos alone, and these say the same at each odd time below the
+/// steps.
 pub fn jobs_with_same_halos_agree()
     ensures { JobsWithSameHalosAgree }
 {}
@@ -40,8 +41,8 @@ pub fn stays_in_box()
     ensures { StaysInBox }
 {}
 
-/// Jobs of the same shape have the same faults but for where they lie, and so the least fault of one is that of the other, moved;
-/// their least keep fault is the same.
+/// Jobs of the same shape have the same faults but for where they lie, and so the least fault of one is that of the
+/// other, moved; their least keep fault is the same.
 pub fn faults_move_along()
     ensures faults { FaultsMoveAlong }
     ensures least { LeastFaultMovesAlong }

@@ -117,9 +117,9 @@ fn stop_until(job: &Job, next: usize, time: u32, end: u32) -> u32
     end
 }
 
-/// The time that comes next in a run, where `next` is the place of the first stop after `time`. It is the one after `time`, but where
-/// an odd step and the even one at `time` changed nothing it is a time, `steps` at most and no later than that stop, before which the
-/// signals of ring and halo at odd times stay as they were at the odd one.
+/// The time that comes next in a run, where `next` is the place of the first stop after `time`. It is the one after
+/// `time`, but where an odd step and the even one at `time` changed nothing it is a time, `steps` at most and no later
+/// than that stop, before which the signals of ring and halo at odd times stay as they were at the odd one.
 pub fn next_time(job: &Job, time: u32, steps: u32, changed: bool, next: usize) -> u32
     requires range { (time < steps) × (steps ≤ 65536) }
     requires next { IsNextStop job.now (time + 1) next }

@@ -1,15 +1,17 @@
 //! Runs of modules by themselves, under all assignments of their cuts, and what they find.
 //!
-//! A module's run begins with the cells of its box that are live at time 0. An even step is made inside the box. An odd step is
-//! made on the box together with the live cells of its halo, and cut back to the box. A fault is a cell that is not as the
-//! module says: at an odd time a cell of the ring, at the time of a stop its cell, at the last time any cell of the box.
-//! `specs/Runs.antt` and `specs/Faults.antt` have these definitions, over whole numbers, cells of the plane and valuations.
+//! A module's run begins with the cells of its box that are live at time 0. An even step is made inside the box. An odd
+//! step is made on the box together with the live cells of its halo, and cut back to the box. A fault is a cell that is
+//! not as the module says: at an odd time a cell of the ring, at the time of a stop its cell, at the last time any cell
+//! of the box. `specs/Runs.antt` and `specs/Faults.antt` have these definitions, over whole numbers, cells of the plane
+//! and valuations.
 //!
-//! All assignments are run at once: each cell has a bit for each of them, and the cells lie in planes whose words are turned
-//! together. Faults are looked for in their order, so the first one that is found is the least.
+//! All assignments are run at once: each cell has a bit for each of them, and the cells lie in planes whose words are
+//! turned together. Faults are looked for in their order, so the first one that is found is the least.
 //!
-//! What stays is passed over: a block until one of its cells changes, a cell of ring and halo that is dead and has no line, and
-//! the times up to the next line or stop where two steps changed nothing. Where many blocks change, whole planes are turned.
+//! What stays is passed over: a block until one of its cells changes, a cell of ring and halo that is dead and has no
+//! line, and the times up to the next line or stop where two steps changed nothing. Where many blocks change, whole
+//! planes are turned.
 //!
 //! The step is that of Norman Margolus's billiard ball model (Physics-like Models of Computation, 1984).
 #![tactic(auto)]

@@ -19,7 +19,8 @@ use std::alloc::{AllocError, Global};
 #[tactic(auto, unfolding(crate::specs::Places::outer))]
 fn outer_number(coordinate: i32, first: u32, count: u32) -> Option<usize>
     requires { (first ≤ 512) × (count ≤ 64) }
-    ensures { MatchOption result ((k : ℕ) → k < count + 2 → coordinate ≢ outer first k) (λ k. (k < count + 2) × (coordinate ≡ outer first k)) }
+    ensures { MatchOption result ((k : ℕ) → k < count + 2 → coordinate ≢ outer first k)
+        (λ k. (k < count + 2) × (coordinate ≡ outer first k)) }
 {
     let before = first as i32 - 1;
     if coordinate < before || before + count as i32 + 1 < coordinate {
@@ -48,7 +49,8 @@ fn mark_cell(marks: &mut [u64], area: Box2, cell: Cell)
 fn mark_held(marks: &mut [u64], area: Box2, list: &[Held])
     requires { HasRoom area marks.old }
     ensures keeps { KeepsMarks marks.old marks.new }
-    ensures marked { (i : ℕ) (h : Held) → slice_get list.now i ≡ Some h → IsCellMarked area h.cell marks.new }
+    ensures marked { (i : ℕ) (h : Held) → slice_get list.now i ≡ Some h →
+        IsCellMarked area h.cell marks.new }
 {
     for held in list {
         mark_cell(marks, area, held.cell);
@@ -60,7 +62,8 @@ fn mark_events(marks: &mut [u64], area: Box2, list: &[Event], first: usize, end:
     requires room { HasRoom area marks.old }
     requires range { end ≤ length list.now }
     ensures keeps { KeepsMarks marks.old marks.new }
-    ensures marked { (i : ℕ) (e : Event) → first ≤ i → i < end → slice_get list.now i ≡ Some e → IsCellMarked area e.at.cell marks.new }
+    ensures marked { (i : ℕ) (e : Event) → first ≤ i → i < end → slice_get list.now i ≡ Some e →
+        IsCellMarked area e.at.cell marks.new }
 {
     for k in first..end {
         mark_cell(marks, area, list[k].at.cell);
@@ -73,7 +76,8 @@ fn mark_events_at(marks: &mut [u64], area: Box2, list: &[Event], place: usize, t
     requires rising { IsRising moment_cmp moment_of list.now }
     requires range { time < 65536 }
     ensures keeps { KeepsMarks marks.old marks.new }
-    ensures marked { (i : ℕ) (e : Event) → slice_get list.now i ≡ Some e → e.at.time ≡ time → IsCellMarked area e.at.cell marks.new }
+    ensures marked { (i : ℕ) (e : Event) → slice_get list.now i ≡ Some e → e.at.time ≡ time →
+        IsCellMarked area e.at.cell marks.new }
 {
     let first = first_event_from(list, place, time);
     let end = first_event_from(list, first, time + 1);
@@ -81,8 +85,8 @@ fn mark_events_at(marks: &mut [u64], area: Box2, list: &[Event], place: usize, t
     end
 }
 
-// Marks the cells of which a schedule says something at the time, where those of its held signals have marks. Its events are sought
-// from a place on, and it tells that of the first later one.
+// Marks the cells of which a schedule says something at the time, where those of its held signals have marks. Its
+// events are sought from a place on, and it tells that of the first later one.
 fn mark_schedule(
     marks: &mut [u64],
     area: Box2,
@@ -111,8 +115,8 @@ fn box_of(shape: &Shape) -> Box2
     }
 }
 
-/// The places of edge and halo lines of a job at which a search for those of a time begins: it may be any, and takes the fewest looks
-/// from the first line after an earlier time.
+/// The places of edge and halo lines of a job at which a search for those of a time begins: it may be any, and takes
+/// the fewest looks from the first line after an earlier time.
 #[derive(Clone, Copy)]
 pub struct LinePlaces {
     edges: usize,
@@ -126,7 +130,8 @@ impl LinePlaces {
     }
 }
 
-/// Marks the cells of which an edge or halo line says something at the time, where those of which one does at all times have marks.
+/// Marks the cells of which an edge or halo line says something at the time, where those of which one does at all times
+/// have marks.
 pub fn mark_lines(marks: &mut [u64], places: &mut LinePlaces, job: &Job, time: u32)
     requires held { AreHeld (shape_of job.now) marks.old }
     requires range { time < 65536 }

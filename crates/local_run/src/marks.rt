@@ -18,7 +18,8 @@ pub fn is_marked(marks: &[u64], at: usize) -> bool
     (marks[at / 64] >> (at % 64)) & 1 == 1
 }
 
-/// Marks the blocks of the even partition that share with block `at` of the odd partition a cell of a diagonal that changes.
+/// Marks the blocks of the even partition that share with block `at` of the odd partition a cell of a diagonal that
+/// changes.
 pub fn mark_around(marks: &mut [u64], at: usize, stride: usize, changes: Changes)
     requires { (at / 64 < length marks.old) × (stride ≤ 64) }
     ensures { MarksAround changes.main changes.anti stride at marks.old marks.new }
@@ -33,7 +34,8 @@ pub fn mark_around(marks: &mut [u64], at: usize, stride: usize, changes: Changes
     }
 }
 
-/// Marks the blocks of the odd partition that share with block `at` of the even partition a cell of a diagonal that changes.
+/// Marks the blocks of the odd partition that share with block `at` of the even partition a cell of a diagonal that
+/// changes.
 pub fn mark_corners(marks: &mut [u64], at: usize, stride: usize, changes: Changes)
     requires { ((at + stride + 1) / 64 < length marks.old) × (at + stride + 1 < 2 ^ 32) }
     ensures { MarksCorners changes.main changes.anti stride at marks.old marks.new }
@@ -64,8 +66,8 @@ pub fn mark_border(marks: &mut [u64], stride: usize, rows: usize)
     }
 }
 
-/// The next number from `from` on that may have a mark among the first, and one among the second or the third; or `end` where there
-/// is none below it.
+/// The next number from `from` on that may have a mark among the first, and one among the second or the third; or `end`
+/// where there is none below it.
 pub fn next_marked_in(
     first: &[u64],
     second: &[u64],
@@ -74,9 +76,11 @@ pub fn next_marked_in(
     end: usize,
 ) -> usize
     requires within { (from ≤ end) × (end < 2 ^ 32) }
-    requires room { (end ≤ 64 * length first.now) × (end ≤ 64 * length second.now) × (end ≤ 64 * length third.now) }
+    requires room { (end ≤ 64 * length first.now) × (end ≤ 64 * length second.now)
+        × (end ≤ 64 * length third.now) }
     ensures range { (from ≤ result) × (result ≤ end) }
-    ensures passed { (u : ℕ) → from ≤ u → u < result → IsUnmarked first.now u ⊎ (IsUnmarked second.now u × IsUnmarked third.now u) }
+    ensures passed { (u : ℕ) → from ≤ u → u < result →
+        IsUnmarked first.now u ⊎ (IsUnmarked second.now u × IsUnmarked third.now u) }
 {
     let mut at = from;
     'search: while at < end {

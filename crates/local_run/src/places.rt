@@ -11,7 +11,8 @@ use bbm_rule::Cell;
 use module_box::{Box2, Signal};
 use module_job::{Demand, Job};
 
-/// The cell at a column and row of the box, for columns and rows below 67 of a box whose corner has coordinates of at most 512.
+/// The cell at a column and row of the box, for columns and rows below 67 of a box whose corner has coordinates of at
+/// most 512.
 #[tactic(auto, unfolding(crate::specs::Places::inner))]
 pub fn inner_cell(area: Box2, x: usize, y: usize) -> Cell
     requires { IsSmall area x y }
@@ -58,7 +59,8 @@ pub fn demand_at(job: &Job, x: usize, y: usize) -> Demand
 /// What it carries at an odd time, if it is in the ring.
 pub fn edge_at(job: &Job, time: u32, x: usize, y: usize) -> Signal
     requires { (x < job.now.area.w) × (y < job.now.area.h) }
-    ensures is { result ≡ signal_at job.now.edges time (inner job.now.area.x x) (inner job.now.area.y y) }
+    ensures is { result
+        ≡ signal_at job.now.edges time (inner job.now.area.x x) (inner job.now.area.y y) }
     ensures below { IsBelow (wires job.now.locals.netlist) result }
 {
     job.edge(time, inner_cell(job.area(), x, y))
@@ -67,7 +69,8 @@ pub fn edge_at(job: &Job, time: u32, x: usize, y: usize) -> Signal
 /// What the cell at a column and row, counted from the halo, carries at an odd time, if it is in the halo.
 pub fn halo_at(job: &Job, time: u32, x: usize, y: usize) -> Signal
     requires { (x < job.now.area.w + 2) × (y < job.now.area.h + 2) }
-    ensures is { result ≡ signal_at job.now.halos time (outer job.now.area.x x) (outer job.now.area.y y) }
+    ensures is { result
+        ≡ signal_at job.now.halos time (outer job.now.area.x x) (outer job.now.area.y y) }
     ensures below { IsBelow (wires job.now.locals.netlist) result }
 {
     job.halo(time, outer_cell(job.area(), x, y))

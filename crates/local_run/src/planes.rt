@@ -1,7 +1,7 @@
 //! The cells of a box and of its halo under many assignments at once.
 //!
-//! They lie in four planes by the parities of their coordinates, so that a block of either partition has one cell in each plane,
-//! and each step turns whole planes.
+//! They lie in four planes by the parities of their coordinates, so that a block of either partition has one cell in
+//! each plane, and each step turns whole planes.
 
 ghost use Rattle.bbm_rule.specs.Plane.{turned};
 ghost use Rattle.bbm_rule.specs.Rows.{mate};
@@ -12,7 +12,8 @@ ghost use Rattle.std.specs.Prelude.{ℕ, ◌≡◌, ◌+◌, ◌-◌, ◌*◌, �
 use bbm_rule::turn_lanes;
 use std::alloc::{AllocError, Global};
 
-/// The cells of a box and of its halo, under 64 assignments in each word of a cell: bit b of word k is assignment 64 k + b.
+/// The cells of a box and of its halo, under 64 assignments in each word of a cell: bit b of word k is assignment 64 k
+/// + b.
 ///
 /// Columns and rows are counted from the halo: the cell at column x and row y of the box stands at (x + 1, y + 1).
 #[derive(Drop)]
@@ -66,7 +67,10 @@ impl Planes {
 
     /// Turns the blocks whose upper left corner is odd: they fill box and halo.
     pub fn odd_step(&mut self)
-        ensures turned { (a x y : ℕ) → a < 64 * self.old.words → x < 2 * self.old.stride → y < 2 * self.old.rows → lane self.new a x y ≡ turned (lane self.old a x y) (lane self.old a (mate x) (mate y)) (lane self.old a (mate x) y) (lane self.old a x (mate y)) }
+        ensures turned { (a x y : ℕ) → a < 64 * self.old.words → x < 2 * self.old.stride →
+            y < 2 * self.old.rows →
+            lane self.new a x y ≡ turned (lane self.old a x y) (lane self.old a (mate x) (mate y))
+            (lane self.old a (mate x) y) (lane self.old a x (mate y)) }
         ensures size { HasSize self.old.words self.old.stride self.old.rows self.new }
     {
         turn_lanes(
@@ -79,7 +83,11 @@ impl Planes {
 
     /// Turns the blocks of the box whose upper left corner is even. The cells of the halo are not read.
     pub fn even_step(&mut self)
-        ensures turned { (a x y : ℕ) → a < 64 * self.old.words → x + 2 < 2 * self.old.stride → y + 2 < 2 * self.old.rows → lane self.new a (1 + x) (1 + y) ≡ turned (lane self.old a (1 + x) (1 + y)) (lane self.old a (1 + mate x) (1 + mate y)) (lane self.old a (1 + mate x) (1 + y)) (lane self.old a (1 + x) (1 + mate y)) }
+        ensures turned { (a x y : ℕ) → a < 64 * self.old.words → x + 2 < 2 * self.old.stride →
+            y + 2 < 2 * self.old.rows →
+            lane self.new a (1 + x) (1 + y)
+            ≡ turned (lane self.old a (1 + x) (1 + y)) (lane self.old a (1 + mate x) (1 + mate y))
+            (lane self.old a (1 + mate x) (1 + y)) (lane self.old a (1 + x) (1 + mate y)) }
         ensures size { HasSize self.old.words self.old.stride self.old.rows self.new }
     {
         turn_across(
@@ -106,7 +114,8 @@ fn turn_across(
     requires right { length right.old ≡ length even.old }
     requires odd { length odd.old ≡ length even.old }
     requires room { below + across ≤ length even.old }
-    ensures { TurnsAcross across below even.old down.old right.old odd.old even.new down.new right.new odd.new }
+    ensures { TurnsAcross across below even.old down.old right.old odd.old even.new down.new
+        right.new odd.new }
 {
     let long = even.len() - below - across;
     turn_lanes(
@@ -132,7 +141,8 @@ fn turn_part(
 )
     requires upper { (a + long ≤ length upper_left.old) × (b + long ≤ length upper_right.old) }
     requires lower { (c + long ≤ length lower_left.old) × (d + long ≤ length lower_right.old) }
-    ensures { TurnsPart a b c d long upper_left.old upper_right.old lower_left.old lower_right.old upper_left.new upper_right.new lower_left.new lower_right.new }
+    ensures { TurnsPart a b c d long upper_left.old upper_right.old lower_left.old lower_right.old
+        upper_left.new upper_right.new lower_left.new lower_right.new }
 {
     turn_lanes(
         &mut upper_left[a..a + long],
@@ -191,8 +201,12 @@ fn part_changes(
 ) -> Changes
     requires upper { (a + long ≤ length upper_left.now) × (b + long ≤ length upper_right.now) }
     requires lower { (c + long ≤ length lower_left.now) × (d + long ≤ length lower_right.now) }
-    ensures main { result.main ≡ false → (k : ℕ) → k < long → DiagonalStays (slice_index upper_left.now (a + k)) (slice_index lower_right.now (d + k)) (slice_index upper_right.now (b + k)) (slice_index lower_left.now (c + k)) }
-    ensures anti { result.anti ≡ false → (k : ℕ) → k < long → DiagonalStays (slice_index upper_right.now (b + k)) (slice_index lower_left.now (c + k)) (slice_index upper_left.now (a + k)) (slice_index lower_right.now (d + k)) }
+    ensures main { result.main ≡ false → (k : ℕ) → k < long →
+        DiagonalStays (slice_index upper_left.now (a + k)) (slice_index lower_right.now (d + k))
+        (slice_index upper_right.now (b + k)) (slice_index lower_left.now (c + k)) }
+    ensures anti { result.anti ≡ false → (k : ℕ) → k < long →
+        DiagonalStays (slice_index upper_right.now (b + k)) (slice_index lower_left.now (c + k))
+        (slice_index upper_left.now (a + k)) (slice_index lower_right.now (d + k)) }
 {
     let mut main = 0;
     let mut anti = 0;
@@ -220,7 +234,8 @@ impl Planes {
     /// How many cells a plane has. A block of the odd partition has the number of its cells, counted row by row.
     pub fn cells(&self) -> usize
         ensures is { result ≡ self.now.stride * self.now.rows }
-        ensures few { (4 ≤ result) × (result ≤ 4096) × (self.now.stride + self.now.stride ≤ result) }
+        ensures few { (4 ≤ result) × (result ≤ 4096)
+            × (self.now.stride + self.now.stride ≤ result) }
     {
         self.stride * self.rows
     }
@@ -244,8 +259,12 @@ impl Planes {
     /// Which diagonals of block u of the odd partition a turn changes under some assignment.
     pub fn odd_changes(&self, u: usize) -> Changes
         requires { u < self.now.stride * self.now.rows }
-        ensures main { result.main ≡ false → MainStays self.now.words u u u u self.now.odd.items self.now.right.items self.now.down.items self.now.even.items }
-        ensures anti { result.anti ≡ false → AntiStays self.now.words u u u u self.now.odd.items self.now.right.items self.now.down.items self.now.even.items }
+        ensures main { result.main ≡ false →
+            MainStays self.now.words u u u u self.now.odd.items self.now.right.items
+            self.now.down.items self.now.even.items }
+        ensures anti { result.anti ≡ false →
+            AntiStays self.now.words u u u u self.now.odd.items self.now.right.items
+            self.now.down.items self.now.even.items }
     {
         let at = self.words * u;
         part_changes(
@@ -309,7 +328,9 @@ impl Planes {
     /// Turns block u of the odd partition.
     pub fn turn_odd(&mut self, u: usize)
         requires { u < self.old.stride * self.old.rows }
-        ensures part { let at = self.old.words * u in TurnsPart at at at at self.old.words self.old.odd.items self.old.right.items self.old.down.items self.old.even.items self.new.odd.items self.new.right.items self.new.down.items self.new.even.items }
+        ensures part { let at = self.old.words * u in TurnsPart at at at at self.old.words
+            self.old.odd.items self.old.right.items self.old.down.items self.old.even.items
+            self.new.odd.items self.new.right.items self.new.down.items self.new.even.items }
         ensures size { HasSize self.old.words self.old.stride self.old.rows self.new }
     {
         let at = self.words * u;
@@ -326,11 +347,16 @@ impl Planes {
         );
     }
 
-    /// Which diagonals of block u of the even partition a turn changes under some assignment: it has the number of its upper left cell.
+    /// Which diagonals of block u of the even partition a turn changes under some assignment: it has the number of its
+    /// upper left cell.
     pub fn even_changes(&self, u: usize) -> Changes
         requires { u + self.now.stride + 1 < self.now.stride * self.now.rows }
-        ensures main { result.main ≡ false → MainStays self.now.words u (u + 1) (u + self.now.stride) (u + self.now.stride + 1) self.now.even.items self.now.down.items self.now.right.items self.now.odd.items }
-        ensures anti { result.anti ≡ false → AntiStays self.now.words u (u + 1) (u + self.now.stride) (u + self.now.stride + 1) self.now.even.items self.now.down.items self.now.right.items self.now.odd.items }
+        ensures main { result.main ≡ false →
+            MainStays self.now.words u (u + 1) (u + self.now.stride) (u + self.now.stride + 1)
+            self.now.even.items self.now.down.items self.now.right.items self.now.odd.items }
+        ensures anti { result.anti ≡ false →
+            AntiStays self.now.words u (u + 1) (u + self.now.stride) (u + self.now.stride + 1)
+            self.now.even.items self.now.down.items self.now.right.items self.now.odd.items }
     {
         let words = self.words;
         let stride = self.stride;
@@ -350,7 +376,10 @@ impl Planes {
     /// Turns block u of the even partition.
     pub fn turn_even(&mut self, u: usize)
         requires { u + self.old.stride + 1 < self.old.stride * self.old.rows }
-        ensures part { let w = self.old.words in TurnsPart (w * u) (w * (u + 1)) (w * (u + self.old.stride)) (w * (u + self.old.stride + 1)) w self.old.even.items self.old.down.items self.old.right.items self.old.odd.items self.new.even.items self.new.down.items self.new.right.items self.new.odd.items }
+        ensures part { let w = self.old.words in TurnsPart (w * u) (w * (u + 1))
+            (w * (u + self.old.stride)) (w * (u + self.old.stride + 1)) w self.old.even.items
+            self.old.down.items self.old.right.items self.old.odd.items self.new.even.items
+            self.new.down.items self.new.right.items self.new.odd.items }
         ensures size { HasSize self.old.words self.old.stride self.old.rows self.new }
     {
         let words = self.words;
@@ -397,7 +426,8 @@ impl Planes {
     pub fn set_word(&mut self, x: usize, y: usize, k: usize, word: u64)
         requires { (x / 2 < self.old.stride) × (y / 2 < self.old.rows) × (k < self.old.words) }
         ensures set { SetsWord x y k word self.old self.new }
-        ensures cells { let u = self.old.stride * (y / 2) + x / 2 in ChangesCells true true u u u u self.old self.new }
+        ensures cells { let u = self.old.stride * (y / 2) + x / 2 in ChangesCells true true u u u u
+            self.old self.new }
         ensures size { HasSize self.old.words self.old.stride self.old.rows self.new }
     {
         let at = self.words * (self.stride * (y / 2) + x / 2) + k;

@@ -19,8 +19,8 @@ use module_job::Job;
 use std::alloc::{AllocError, Global};
 use std::sync::Arc;
 
-// The first fault of a time before the last, where `next` is the place of the first stop that is not earlier. Where there is none,
-// `next` is then the place of the first later stop.
+// The first fault of a time before the last, where `next` is the place of the first stop that is not earlier. Where
+// there is none, `next` is then the place of the first later stop.
 fn time_fault(
     field: &Field,
     values: &Values,
@@ -33,7 +33,8 @@ fn time_fault(
     requires shows { Shows job.now values.now time field.now.planes }
     requires lines { time % 2 ≡ 1 → AreLines job.now time field.now.line_marks.items }
     requires next { IsNextStop job.now time next.old }
-    ensures { MatchOption result (IsPassed job.now values.now time next.new) (λ f. IsFirstAt job.now values.now time f) }
+    ensures { MatchOption result (IsPassed job.now values.now time next.new)
+        (λ f. IsFirstAt job.now values.now time f) }
 {
     if time % 2 == 1 && !are_edges_right(field, values, job, time) {
         if let Some(fault) = first_fault(field, values, job, time, Kind::Edge) {
@@ -58,9 +59,9 @@ fn one_step(field: &mut Field, values: &Values, job: &Job, time: u32) -> bool
     }
 }
 
-// The least fault of the job, by a run under all assignments at once. Where an odd step and the even one after it change nothing,
-// nothing changes before the next time at which a line of ring or halo begins or ends, and the times up to it or to the next stop
-// are leapt over.
+// The least fault of the job, by a run under all assignments at once. Where an odd step and the even one after it
+// change nothing, nothing changes before the next time at which a line of ring or halo begins or ends, and the times up
+// to it or to the next stop are leapt over.
 fn least_fault(alloc: Global, values: &Values, job: &Job) -> Result<Option<Fault>, AllocError>
     requires { IsReady job.now values.now }
     ensures { IfOk result (λ o. IsLeastFault job.now o) }
@@ -118,8 +119,9 @@ fn least_faults(alloc: Global, job: &Job) -> Result<(Option<Fault>, Option<KeepF
     Ok((fault, keep))
 }
 
-/// Runs a job under all assignments of its cuts, for a module of this number of the certificate with this digest. This and
-/// [`Finding::for_job`] are the only makers of findings. `AllocError` is want of memory, and nothing else keeps it from a finding.
+/// Runs a job under all assignments of its cuts, for a module of this number of the certificate with this digest. This
+/// and [`Finding::for_job`] are the only makers of findings. `AllocError` is want of memory, and nothing else keeps it
+/// from a finding.
 pub fn run_job(
     alloc: Global,
     digest: [u8; 32],

@@ -28,7 +28,9 @@ fn cell_fault(
     requires shows { Shows job.now values.now time field.now.planes }
     requires sought { IsSought job.now time kind }
     requires place { (x < job.now.area.w) × (y < job.now.area.h) }
-    ensures { IsLeastBelow (assignments job.now) (λ a. IsFound job.now values.now a time kind (inner job.now.area.x x) (inner job.now.area.y y)) result }
+    ensures { IsLeastBelow (assignments job.now)
+        (λ a. IsFound job.now values.now a time kind (inner job.now.area.x x)
+        (inner job.now.area.y y)) result }
 {
     let planes = field.planes();
     match kind {
@@ -50,8 +52,8 @@ fn cell_fault(
     }
 }
 
-// How far apart the cells of row y are that can have a fault of the kind. Only cells of the ring have edge faults: of the rows
-// between the first and the last one these are the first and the last cell.
+// How far apart the cells of row y are that can have a fault of the kind. Only cells of the ring have edge faults: of
+// the rows between the first and the last one these are the first and the last cell.
 fn stride_of(kind: Kind, width: usize, height: usize, y: usize) -> usize
     requires { (2 ≤ width) × (width ≤ 64) × (y < height) × (height ≤ 64) }
     ensures { IsStride kind width height y result }
@@ -73,7 +75,8 @@ pub fn first_fault(
     requires ready { IsReady job.now values.now }
     requires shows { Shows job.now values.now time field.now.planes }
     requires sought { IsSought job.now time kind }
-    ensures { MatchOption result (IsFree job.now values.now time kind) (λ f. IsFirst job.now values.now time kind f) }
+    ensures { MatchOption result (IsFree job.now values.now time kind)
+        (λ f. IsFirst job.now values.now time kind f) }
 {
     let area = job.area();
     let width = area.w as usize;
@@ -120,8 +123,8 @@ fn is_edge_right(field: &Field, values: &Values, job: &Job, time: u32, x: usize,
     cell_fault(field, values, job, time, Kind::Edge, x - 1, y - 1).is_none()
 }
 
-// Whether the two cells of a row, counted from the halo, that stand in a column of the planes carry what their edge signals say, where
-// they are in the ring.
+// Whether the two cells of a row, counted from the halo, that stand in a column of the planes carry what their edge
+// signals say, where they are in the ring.
 fn are_both_right(
     field: &Field,
     values: &Values,
@@ -196,8 +199,8 @@ fn stop_fault(field: &Field, values: &Values, job: &Job, stop: Stop) -> Option<u
     values.first_difference(field.planes(), 1 + x, 1 + y, Signal::Wire(stop.wire))
 }
 
-/// The first fault of a stop at the time, where `next` is the place of the first stop that is not earlier. Where there is none,
-/// `next` is then the place of the first later stop.
+/// The first fault of a stop at the time, where `next` is the place of the first stop that is not earlier. Where there
+/// is none, `next` is then the place of the first later stop.
 pub fn first_stop_fault(
     field: &Field,
     values: &Values,
@@ -208,7 +211,9 @@ pub fn first_stop_fault(
     requires ready { IsReady job.now values.now }
     requires shows { Shows job.now values.now time field.now.planes }
     requires next { IsNextStop job.now time next.old }
-    ensures { MatchOption result (IsFree job.now values.now time Kind.Stop × IsNextStop job.now (time + 1) next.new) (λ f. IsFirst job.now values.now time Kind.Stop f) }
+    ensures { MatchOption result
+        (IsFree job.now values.now time Kind.Stop × IsNextStop job.now (time + 1) next.new)
+        (λ f. IsFirst job.now values.now time Kind.Stop f) }
 {
     let mut place = *next;
     'stops: while place < job.stops() {

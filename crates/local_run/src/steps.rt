@@ -20,7 +20,8 @@ use module_job::Job;
 #[tactic(auto, using(crate::proofs::Scans::row_from))]
 pub fn put_start(planes: &mut Planes, values: &Values, job: &Job)
     requires ready { IsReady job.now values.now }
-    requires size { HasSize values.now.words (job.now.area.w / 2 + 1) (job.now.area.h / 2 + 1) planes.old }
+    requires size { HasSize values.now.words (job.now.area.w / 2 + 1) (job.now.area.h / 2 + 1)
+        planes.old }
     ensures { Shows job.now values.now 0 planes.new }
 {
     let area = job.area();
@@ -31,14 +32,16 @@ pub fn put_start(planes: &mut Planes, values: &Values, job: &Job)
     }
 }
 
-// What a cell, counted from the halo, carries at an odd time, if it is in the halo. Where no line says something it is not sought.
+// What a cell, counted from the halo, carries at an odd time, if it is in the halo. Where no line says something it is
+// not sought.
 fn halo_signal(field: &Field, job: &Job, time: u32, x: usize, y: usize) -> Signal
     requires job { IsJob job.now }
     requires stride { field.now.planes.stride ≡ job.now.area.w / 2 + 1 }
     requires rows { field.now.planes.rows ≡ job.now.area.h / 2 + 1 }
     requires lines { AreLines job.now time field.now.line_marks.items }
     requires place { (x < job.now.area.w + 2) × (y < job.now.area.h + 2) }
-    ensures is { result ≡ signal_at job.now.halos time (outer job.now.area.x x) (outer job.now.area.y y) }
+    ensures is { result
+        ≡ signal_at job.now.halos time (outer job.now.area.x x) (outer job.now.area.y y) }
     ensures below { IsBelow (wires job.now.locals.netlist) result }
 {
     if field.has_line(x, y) {

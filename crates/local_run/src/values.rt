@@ -36,8 +36,8 @@ fn without_undefined(rows: ValueRows) -> ValueRows
     }
 }
 
-// Makes the values false under the assignments under which some used gate lacks a row. No fault is sought under these, and a run in
-// which all wires are false changes less.
+// Makes the values false under the assignments under which some used gate lacks a row. No fault is sought under these,
+// and a run in which all wires are false changes less.
 fn clear_undefined(values: &mut [u64], defined: &[u64])
     requires wide { 0 < length defined.now }
     ensures long { length values.new ≡ length values.old }
@@ -52,8 +52,8 @@ fn clear_undefined(values: &mut [u64], defined: &[u64])
     }
 }
 
-/// For each wire of a job a row of words: bit b of word k is its value under assignment 64 k + b. With them the assignments under which
-/// each used gate has a row, and for each gate those under which it is the first that has none.
+/// For each wire of a job a row of words: bit b of word k is its value under assignment 64 k + b. With them the
+/// assignments under which each used gate has a row, and for each gate those under which it is the first that has none.
 #[derive(Drop)]
 pub struct Values {
     // the words of a wire
@@ -101,7 +101,8 @@ impl Values {
     /// Word k of a signal: bit b is whether it is true under assignment 64 k + b.
     pub fn word(&self, signal: Signal, k: usize) -> u64
         requires { (k < self.now.words) × HasRow self.now signal }
-        ensures { (b : ℕ) → b < 64 → bit result b ≡ is_live (valuation self.now (64 * k + b)) signal }
+        ensures { (b : ℕ) → b < 64 →
+            bit result b ≡ is_live (valuation self.now (64 * k + b)) signal }
     {
         match signal {
             Signal::Zero => 0,
@@ -110,7 +111,8 @@ impl Values {
         }
     }
 
-    /// The least assignment at which each used gate has a row and a cell, counted from the halo, is not as the signal says.
+    /// The least assignment at which each used gate has a row and a cell, counted from the halo, is not as the signal
+    /// says.
     pub fn first_difference(
         &self,
         planes: &Planes,
@@ -123,7 +125,9 @@ impl Values {
         requires room { self.now.count ≤ 64 * self.now.words }
         requires row { HasRow self.now signal }
         requires defined { self.now.words ≤ length self.now.rows.defined.items }
-        ensures { IsLeastBelow self.now.count (λ a. (is_defined self.now a ≡ true) × (lane planes.now a x y ≢ is_live (valuation self.now a) signal)) result }
+        ensures { IsLeastBelow self.now.count
+            (λ a. (is_defined self.now a ≡ true)
+            × (lane planes.now a x y ≢ is_live (valuation self.now a) signal)) result }
     {
         for k in 0..self.words {
             let cells = planes.word(x, y, k);
@@ -144,7 +148,8 @@ impl Values {
         None
     }
 
-    /// Whether a cell, counted from the halo, is not as the signal says under some assignment, whatever rows the gates have.
+    /// Whether a cell, counted from the halo, is not as the signal says under some assignment, whatever rows the gates
+    /// have.
     pub fn is_different(&self, planes: &Planes, x: usize, y: usize, signal: Signal) -> bool
         requires place { (x / 2 < planes.now.stride) × (y / 2 < planes.now.rows) }
         requires words { (self.now.words ≡ planes.now.words) × (self.now.words ≤ 64) }
@@ -178,8 +183,10 @@ impl Values {
         requires words { self.now.words ≤ 64 }
         requires few { gate < 64 }
         requires room { self.now.count ≤ 64 * self.now.words }
-        requires row { self.now.words * gate + self.now.words ≤ length self.now.rows.undefined.items }
-        ensures { IsLeastBelow self.now.count (λ a. value_of self.now.words self.now.rows.undefined.items a gate ≡ true) result }
+        requires row { self.now.words * gate + self.now.words ≤ length
+            self.now.rows.undefined.items }
+        ensures { IsLeastBelow self.now.count
+            (λ a. value_of self.now.words self.now.rows.undefined.items a gate ≡ true) result }
     {
         for k in 0..self.words {
             let word = self.rows.undefined[self.words * gate + k];
@@ -200,7 +207,8 @@ impl Values {
         requires words { (self.now.words ≡ planes.old.words) × (self.now.words ≤ 64) }
         requires row { HasRow self.now signal }
         ensures put { PutsCell self.now x y signal planes.old planes.new }
-        ensures cells { let u = planes.old.stride * (y / 2) + x / 2 in ChangesCells true true u u u u planes.old planes.new }
+        ensures cells { let u = planes.old.stride * (y / 2) + x / 2 in ChangesCells true true u u u
+            u planes.old planes.new }
     {
         for k in 0..self.words {
             planes.set_word(x, y, k, self.word(signal, k));

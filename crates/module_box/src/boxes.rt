@@ -73,7 +73,8 @@ fn is_inner(from: u32, n: u32, x: i32) -> bool
 
 // whether x, the number before it or the one after it is among the n from `from` on.
 fn is_beside(from: u32, n: u32, x: i32) -> bool
-    ensures { result ≡ (in_span from n (x -ℤ pos 1) || in_span from n x || in_span from n (x +ℤ pos 1)) }
+    ensures { result
+        ≡ (in_span from n (x -ℤ pos 1) || in_span from n x || in_span from n (x +ℤ pos 1)) }
 {
     let x = x as i64;
     let before = is_among(from, n, x - 1);

@@ -19,7 +19,8 @@ pub fn halo_cell_is_ring_cell_of_owner()
     ensures { HaloCellIsRingCellOfOwner }
 {}
 
-/// Where [`owner_table`](crate::owner_table) names a fault other than want of memory, the boxes do not tile the rectangle.
+/// Where [`owner_table`](crate::owner_table) names a fault other than want of memory, the boxes do not tile the
+/// rectangle.
 pub fn fault_means_no_tiling()
     ensures { FaultMeansNoTiling }
 {}
@@ -31,8 +32,8 @@ pub fn equality_is_of_content()
     ensures schedules { ScheduleEqualityDecides }
 {}
 
-/// Some assignment gives each cut the value that its wire has in the circuit; and under such an assignment each wire of the module
-/// has its value in the circuit. A gate of the circuit that has no row has none in a module that uses it.
+/// Some assignment gives each cut the value that its wire has in the circuit; and under such an assignment each wire of
+/// the module has its value in the circuit. A gate of the circuit that has no row has none in a module that uses it.
 pub fn local_values_agree()
     ensures assignment { ChoicesAreAssignments }
     ensures agree { LocalValuesAgree }

@@ -15,8 +15,8 @@ use indexmap::IndexSet;
 use std::alloc::{AllocError, Global};
 use std::marker::Model;
 
-// A gate over the wires that a module knows, by their numbers there: the wires that it uses, and the first of those that it
-// defines, which are numbered one after the other.
+// A gate over the wires that a module knows, by their numbers there: the wires that it uses, and the first of those
+// that it defines, which are numbered one after the other.
 #[derive(Clone, Copy, Debug)]
 pub(crate) struct LocalGate {
     pub(crate) kind: GateKind,
@@ -24,8 +24,8 @@ pub(crate) struct LocalGate {
     pub(crate) first: u16,
 }
 
-/// The wires that a module knows: its cuts, then the outputs of the gates that it uses, numbered from 0 in this order. With
-/// them those gates, over these numbers.
+/// The wires that a module knows: its cuts, then the outputs of the gates that it uses, numbered from 0 in this order.
+/// With them those gates, over these numbers.
 #[derive(Debug, Drop)]
 pub struct Locals {
     pub(crate) given: usize,
@@ -101,8 +101,14 @@ fn add_lines(
 ) -> Result<Vec<LocalGate>, AllocError>
     requires none { known.old.keys ≡ [] }
     requires lines { AreLocalLines (netlist_of circuit.now) cuts.now gates.now }
-    ensures locals { IfOk result (λ made. AreLocalsOf (netlist_of circuit.now) (record { netlist = record { given = length cuts.now; gates = map kept_gate made.items }; circuit_wires = known.new.keys; circuit_gates = gates.now })) }
-    ensures wires { IfOk result (λ made. known.new.keys ≡ local_wires (netlist_of circuit.now) cuts.now gates.now) }
+    ensures locals { IfOk result (λ made. AreLocalsOf (netlist_of circuit.now)
+        (record {
+          netlist = record { given = length cuts.now; gates = map kept_gate made.items };
+          circuit_wires = known.new.keys;
+          circuit_gates = gates.now;
+        })) }
+    ensures wires { IfOk result (λ made. known.new.keys
+        ≡ local_wires (netlist_of circuit.now) cuts.now gates.now) }
     ensures count { IfOk result (λ made. length made.items ≡ length gates.now) }
     ensures few { IfOk result (λ made. length known.new.keys ≤ 268) }
 {
@@ -120,9 +126,9 @@ fn add_lines(
 }
 
 impl Locals {
-    /// The wires and gates that the lines of a module name: the wires of the circuit that it cuts, at most 12, and the gates
-    /// that it uses, at most 64, in the order of the circuit. Each of them uses wires that are cut or that one before it
-    /// defines, and no wire is cut twice, or cut and defined. `AllocError` is want of memory.
+    /// The wires and gates that the lines of a module name: the wires of the circuit that it cuts, at most 12, and the
+    /// gates that it uses, at most 64, in the order of the circuit. Each of them uses wires that are cut or that one
+    /// before it defines, and no wire is cut twice, or cut and defined. `AllocError` is want of memory.
     pub fn new(
         alloc: Global,
         circuit: &Circuit,
@@ -131,7 +137,8 @@ impl Locals {
     ) -> Result<Locals, AllocError>
         requires { AreLocalLines (netlist_of circuit.now) cuts.now gates.now }
         ensures locals { IfOk result (λ l. AreLocalsOf (netlist_of circuit.now) l) }
-        ensures wires { IfOk result (λ l. l.circuit_wires ≡ local_wires (netlist_of circuit.now) cuts.now gates.now) }
+        ensures wires { IfOk result (λ l. l.circuit_wires
+            ≡ local_wires (netlist_of circuit.now) cuts.now gates.now) }
         ensures gates { IfOk result (λ l. l.circuit_gates ≡ gates.now) }
         ensures count { IfOk result (λ l. length l.netlist.gates ≡ length gates.now) }
         ensures given { IfOk result (λ l. l.netlist.given ≡ length cuts.now) }
@@ -147,8 +154,8 @@ impl Locals {
         })
     }
 
-    /// The gates over the module's own wires; which wires of the circuit these are, by their numbers; and which gates of the
-    /// circuit those are.
+    /// The gates over the module's own wires; which wires of the circuit these are, by their numbers; and which gates
+    /// of the circuit those are.
     pub fn into_parts(self) -> (Wiring, IndexSet<u16>, Vec<GateNo>)
         ensures wiring { result.0 ≡ self.netlist }
         ensures wires { result.1.keys ≡ self.circuit_wires }

@@ -71,8 +71,8 @@ fn moved_events(alloc: Global, events: &[Event], dx: i32, dy: i32) -> Result<Vec
 }
 
 impl Schedule {
-    /// The same signals at the cells that lie `dx` columns and `dy` rows further, where all these numbers are from -1024 to 1023.
-    /// `AllocError` is want of memory.
+    /// The same signals at the cells that lie `dx` columns and `dy` rows further, where all these numbers are from
+    /// -1024 to 1023. `AllocError` is want of memory.
     pub fn moved(&self, alloc: Global, dx: i32, dy: i32) -> Result<Schedule, AllocError>
         requires held { All (λ h. IsNear h.cell) self.now.held }
         requires events { All (λ e. IsNear e.at.cell) self.now.events }

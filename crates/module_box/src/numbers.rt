@@ -51,7 +51,8 @@ fn push_wires(numbers: &mut Vec<u64>, wires: &[u16]) -> Result<(), AllocError>
 // The same of `count` wires from `first` on.
 fn push_wires_from(numbers: &mut Vec<u64>, first: u16, count: usize) -> Result<(), AllocError>
     requires { count ≤ 4 }
-    ensures { OnOk result (numbers.new.items ≡ numbers.old.items ++ count ∷ range_with_len first count) }
+    ensures { OnOk result (numbers.new.items
+        ≡ numbers.old.items ++ count ∷ range_with_len first count) }
 {
     numbers.push(count as u64)?;
     for place in 0..count {
@@ -61,7 +62,8 @@ fn push_wires_from(numbers: &mut Vec<u64>, first: u16, count: usize) -> Result<(
 }
 
 fn push_gate(numbers: &mut Vec<u64>, gate: &LocalGate) -> Result<(), AllocError>
-    ensures { OnOk result (numbers.new.items ≡ numbers.old.items ++ gate_numbers (kept_gate gate.now)) }
+    ensures { OnOk result (numbers.new.items
+        ≡ numbers.old.items ++ gate_numbers (kept_gate gate.now)) }
 {
     numbers.push(place_of(gate.kind))?;
     numbers.push(detail_of(gate.kind))?;
@@ -70,7 +72,8 @@ fn push_gate(numbers: &mut Vec<u64>, gate: &LocalGate) -> Result<(), AllocError>
 }
 
 fn push_gates(numbers: &mut Vec<u64>, gates: &[LocalGate]) -> Result<(), AllocError>
-    ensures { OnOk result (numbers.new.items ≡ numbers.old.items ++ flat_map gate_numbers (map kept_gate gates.now)) }
+    ensures { OnOk result (numbers.new.items
+        ≡ numbers.old.items ++ flat_map gate_numbers (map kept_gate gates.now)) }
 {
     for gate in gates {
         push_gate(numbers, gate)?;
@@ -79,8 +82,9 @@ fn push_gates(numbers: &mut Vec<u64>, gates: &[LocalGate]) -> Result<(), AllocEr
 }
 
 impl Wiring {
-    /// Numbers that tell the wiring: how many wires are given, how many gates there are, and for each what it does, the wires that
-    /// it uses and those that it defines. Two that differ have different numbers. `AllocError` is want of memory.
+    /// Numbers that tell the wiring: how many wires are given, how many gates there are, and for each what it does, the
+    /// wires that it uses and those that it defines. Two that differ have different numbers. `AllocError` is want of
+    /// memory.
     #[tactic(auto, unfolding(crate::specs::Numbers::netlist_numbers))]
     pub fn numbers(&self, alloc: Global) -> Result<Vec<u64>, AllocError>
         ensures { IfOk result (λ numbers. numbers.items ≡ netlist_numbers self.now) }

@@ -7,8 +7,8 @@ ghost use Rattle.module_box.specs.Tiling.{rectangle, owner_of};
 use bbm_rule::Cell;
 use std::marker::Model;
 
-/// Which box has each cell of a rectangle, whose upper left corner is the cell (0, 0). [`owner_table`](crate::owner_table)
-/// makes it.
+/// Which box has each cell of a rectangle, whose upper left corner is the cell (0, 0).
+/// [`owner_table`](crate::owner_table) makes it.
 // the number of a box for each block of two by two cells, row by row
 #[derive(Drop)]
 pub struct Owners {

@@ -119,8 +119,8 @@ fn find_event(events: &[Event], moment: Moment) -> Option<Signal>
 }
 
 impl Schedule {
-    /// The signals of two lists. The held signals rise strictly by y, then x of their cells; the events rise strictly by time,
-    /// then y, then x. Both lists may be empty.
+    /// The signals of two lists. The held signals rise strictly by y, then x of their cells; the events rise strictly
+    /// by time, then y, then x. Both lists may be empty.
     pub fn new(held: Vec<Held>, events: Vec<Event>) -> Schedule
         requires held { IsRising cell_cmp cell_of held.items }
         requires events { IsRising moment_cmp moment_of events.items }

@@ -16,11 +16,11 @@ use std::alloc::{AllocError, Global};
 pub enum TileFault {
     /// The box of this number is the first that has a cell outside the rectangle.
     Outside(usize),
-    /// The block with this upper left corner lies in two boxes. All boxes are inside the rectangle, and each block before it,
-    /// by y, then x, lies in exactly one.
+    /// The block with this upper left corner lies in two boxes. All boxes are inside the rectangle, and each block
+    /// before it, by y, then x, lies in exactly one.
     Overlap(Cell),
-    /// The block with this upper left corner lies in no box. All boxes are inside the rectangle, and each block before it, by
-    /// y, then x, lies in exactly one.
+    /// The block with this upper left corner lies in no box. All boxes are inside the rectangle, and each block before
+    /// it, by y, then x, lies in exactly one.
     Gap(Cell),
     /// Memory was wanting.
     Memory,
@@ -47,7 +47,8 @@ fn is_inside(width: u32, height: u32, area: Box2) -> bool
 fn first_outside(width: u32, height: u32, boxes: &[Box2]) -> usize
     ensures bound { result ≤ length boxes.now }
     ensures before { AllInside width height result boxes.now }
-    ensures outside { result < length boxes.now → (b : Box2) × (slice_get boxes.now result ≡ Some b) × ¬ IsInside width height b }
+    ensures outside { result < length boxes.now →
+        (b : Box2) × (slice_get boxes.now result ≡ Some b) × ¬ IsInside width height b }
 {
     'boxes: for number in 0..boxes.len() {
         let area = boxes[number];
@@ -84,16 +85,17 @@ fn corner(columns: usize, place: usize) -> Cell
     }
 }
 
-/// Which box has each cell of the rectangle of `width` by `height` cells whose upper left corner is the cell (0, 0), or why
-/// the boxes do not tile it: they tile it where each of its cells lies in exactly one box and no box has a cell outside.
+/// Which box has each cell of the rectangle of `width` by `height` cells whose upper left corner is the cell (0, 0), or
+/// why the boxes do not tile it: they tile it where each of its cells lies in exactly one box and no box has a cell
+/// outside.
 ///
-/// Width and height are even, from 2 to 512. Corners and sides of the boxes are even, and the sides are at least 2. Boxes are
-/// numbered from 0 in the order given.
+/// Width and height are even, from 2 to 512. Corners and sides of the boxes are even, and the sides are at least 2.
+/// Boxes are numbered from 0 in the order given.
 ///
-/// The error is the first fault: a box that is not inside, by number; else a block of two by two cells that lies in two boxes
-/// or in none, by y, then x; else want of memory, which may also come before a block's fault is seen. By the law
-/// [`fault_means_no_tiling`](crate::laws::fault_means_no_tiling) every fault but want of memory means that the boxes do not
-/// tile.
+/// The error is the first fault: a box that is not inside, by number; else a block of two by two cells that lies in two
+/// boxes or in none, by y, then x; else want of memory, which may also come before a block's fault is seen. By the law
+/// [`fault_means_no_tiling`](crate::laws::fault_means_no_tiling) every fault but want of memory means that the boxes do
+/// not tile.
 ///
 /// It takes some steps for each block and for each box, whether there is a fault or not.
 pub fn owner_table(
@@ -103,7 +105,9 @@ pub fn owner_table(
     boxes: &[Box2],
 ) -> Result<Owners, TileFault>
     requires { IsTask width height boxes.now }
-    ensures { MatchResult result (λ owners. (owners.width ≡ width) × (owners.height ≡ height) × AreOwners owners boxes.now) (λ fault. IsTileFault width height boxes.now fault) }
+    ensures { MatchResult result
+        (λ owners. (owners.width ≡ width) × (owners.height ≡ height) × AreOwners owners boxes.now)
+        (λ fault. IsTileFault width height boxes.now fault) }
 {
     let outside = first_outside(width, height, boxes);
     if outside < boxes.len() {

@@ -38,7 +38,8 @@ fn cut_word(cut: usize, chunk: u32) -> u64
 fn cut_words(alloc: Global, cuts: usize, chunk: u32) -> Result<Vec<u64>, AllocError>
     requires { cuts ≤ 32 }
     ensures count { IfOk result (λ ws. length ws.items ≡ cuts) }
-    ensures bits { IfOk result (λ ws. (i : ℕ) → i < cuts → (b : ℕ) → b < 64 → bit (slice_index_or ws.items i 0) b ≡ bit (64 * chunk + b) i) }
+    ensures bits { IfOk result (λ ws. (i : ℕ) → i < cuts → (b : ℕ) → b < 64 →
+        bit (slice_index_or ws.items i 0) b ≡ bit (64 * chunk + b) i) }
 {
     let mut words = Vec::new(alloc);
     for cut in 0..cuts {
@@ -108,8 +109,8 @@ fn push_outs(words: &mut Vec<u64>, gate: LocalGate) -> Result<u64, AllocError>
     Ok(no_row(gate.kind, a, b, c, d))
 }
 
-// The words of all wires. A bit of `defined` is set where all gates have a row there. For each gate there is a word, whose bits
-// are set where it is the first that has none.
+// The words of all wires. A bit of `defined` is set where all gates have a row there. For each gate there is a word,
+// whose bits are set where it is the first that has none.
 #[derive(Drop)]
 struct Column {
     words: Vec<u64>,
@@ -119,9 +120,12 @@ struct Column {
 
 // The words of all wires, those that are given first.
 fn words_of(alloc: Global, given: &[u64], gates: &[LocalGate]) -> Result<Column, AllocError>
-    ensures long { IfOk result (λ c. length c.words.items ≡ wires_after (length given.now) (map kept_gate gates.now)) }
+    ensures long { IfOk result (λ c. length c.words.items
+        ≡ wires_after (length given.now) (map kept_gate gates.now)) }
     ensures count { IfOk result (λ c. length c.undefined.items ≡ length gates.now) }
-    ensures says { IfOk result (λ c. (b : ℕ) → b < 64 → SaysColumn given.now (map kept_gate gates.now) c.words.items c.undefined.items c.defined b) }
+    ensures says { IfOk result (λ c. (b : ℕ) → b < 64 →
+        SaysColumn given.now (map kept_gate gates.now) c.words.items c.undefined.items c.defined
+        b) }
 {
     let mut words = given.to_vec(alloc)?;
     let mut undefined = Vec::with_capacity(alloc, gates.len())?;
@@ -154,8 +158,10 @@ fn bits_of(alloc: Global, words: &[u64], place: u32) -> Result<Vec<bool>, AllocE
 // The first word that has bit `place`.
 fn first_with(words: &[u64], place: u32) -> Option<usize>
     requires { place < 64 }
-    ensures some { IfSome result (λ k. (k < length words.now) × (bit (slice_index words.now k) place ≡ true)) }
-    ensures none { result ≡ None → (k : ℕ) → k < length words.now → bit (slice_index words.now k) place ≡ false }
+    ensures some { IfSome result (λ k. (k < length words.now)
+        × (bit (slice_index words.now k) place ≡ true)) }
+    ensures none { result ≡ None → (k : ℕ) → k < length words.now →
+        bit (slice_index words.now k) place ≡ false }
 {
     for (number, word) in words.iter().enumerate() {
         if (*word >> place) % 2 == 1 {
@@ -172,8 +178,10 @@ fn put_column(rows: &mut [u64], words: usize, place: usize, column: &[u64])
     requires place { place < words }
     requires long { length rows.old ≡ words * length column.now }
     ensures long { length rows.new ≡ length rows.old }
-    ensures put { (w : ℕ) → w < length column.now → slice_index rows.new (words * w + place) ≡ slice_index column.now w }
-    ensures kept { (w k : ℕ) → w < length column.now → k < words → k ≢ place → slice_index rows.new (words * w + k) ≡ slice_index rows.old (words * w + k) }
+    ensures put { (w : ℕ) → w < length column.now →
+        slice_index rows.new (words * w + place) ≡ slice_index column.now w }
+    ensures kept { (w k : ℕ) → w < length column.now → k < words → k ≢ place →
+        slice_index rows.new (words * w + k) ≡ slice_index rows.old (words * w + k) }
 {
     for (wire, word) in column.iter().enumerate() {
         rows[words * wire + place] = *word;
@@ -200,8 +208,8 @@ impl From<AllocError> for LocalFault {
     }
 }
 
-/// What a module's wires and gates have under many assignments, in rows of words: assignment a stands at bit `a % 64` of the row's
-/// word `a / 64`.
+/// What a module's wires and gates have under many assignments, in rows of words: assignment a stands at bit `a % 64`
+/// of the row's word `a / 64`.
 #[derive(Drop)]
 pub struct ValueRows {
     /// For each wire, by its number in the module, a row with its values.
@@ -213,8 +221,8 @@ pub struct ValueRows {
 }
 
 impl Wiring {
-    /// How many wires are given: those that the module cuts, at most 12. They are its first wires, and each gate uses wires that
-    /// are given or that a gate before it defines.
+    /// How many wires are given: those that the module cuts, at most 12. They are its first wires, and each gate uses
+    /// wires that are given or that a gate before it defines.
     pub fn cuts(&self) -> usize
         ensures count { result ≡ self.now.given }
         ensures few { result ≤ 12 }
@@ -244,15 +252,16 @@ impl Wiring {
         ensures ordered { AreOrdered self.now.given self.now.gates }
         ensures count { IfOk result (λ c. length c.words.items ≡ wires self.now) }
         ensures gates { IfOk result (λ c. length c.undefined.items ≡ length self.now.gates) }
-        ensures values { IfOk result (λ c. (b : ℕ) → b < 64 → IsColumnAt self.now (64 * chunk + b) c.words.items c.undefined.items c.defined b) }
+        ensures values { IfOk result (λ c. (b : ℕ) → b < 64 →
+            IsColumnAt self.now (64 * chunk + b) c.words.items c.undefined.items c.defined b) }
     {
         let given = cut_words(alloc, self.given, chunk)?;
         let column = words_of(alloc, given.as_slice(), self.gates.as_slice())?;
         Ok(column)
     }
 
-    /// Each wire's value, by its number here, where bit i of `cut_bits` is the value of cut i. Bits from `cuts()` on are not
-    /// looked at. Where a used gate has no row there are none.
+    /// Each wire's value, by its number here, where bit i of `cut_bits` is the value of cut i. Bits from `cuts()` on
+    /// are not looked at. Where a used gate has no row there are none.
     pub fn local_values(&self, alloc: Global, cut_bits: u32) -> Result<Vec<bool>, LocalFault>
         ensures values { IfOk result (λ vs. AreValues self.now (bit cut_bits) vs.items) }
         ensures fault { IfErr result (λ e. IsLocalFault self.now cut_bits e) }
@@ -267,8 +276,8 @@ impl Wiring {
         }
     }
 
-    /// The values of all wires under the assignments below `64 * words`, where `words` is at most 64, and the gates that have no
-    /// row: rows of `words` words. `AllocError` is want of memory.
+    /// The values of all wires under the assignments below `64 * words`, where `words` is at most 64, and the gates
+    /// that have no row: rows of `words` words. `AllocError` is want of memory.
     pub fn value_rows(&self, alloc: Global, words: usize) -> Result<ValueRows, AllocError>
         requires { words ≤ 64 }
         ensures { IfOk result (λ rows. AreValueRows self.now words rows) }

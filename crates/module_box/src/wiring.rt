@@ -3,9 +3,9 @@
 use crate::locals::LocalGate;
 use std::marker::Model;
 
-/// Wires that are numbered from 0, and gates over them: the first wires are given, each gate uses wires that are given or that a
-/// gate before it defines, and defines the next ones. It knows nothing of the circuit that they come from. Contracts see it as a
-/// `Netlist`.
+/// Wires that are numbered from 0, and gates over them: the first wires are given, each gate uses wires that are given
+/// or that a gate before it defines, and defines the next ones. It knows nothing of the circuit that they come from.
+/// Contracts see it as a `Netlist`.
 #[derive(Debug, Drop)]
 pub struct Wiring {
     pub(crate) given: usize,

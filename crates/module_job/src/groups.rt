@@ -18,7 +18,9 @@ fn first_with(
     number: usize,
 ) -> Result<usize, AllocError>
     ensures first { IfOk result (λ first. first ≡ unwrap_or (get same_key firsts.old key) number) }
-    ensures kept { IfOk result (λ first. (other : List ℕ) → get same_key firsts.new other ≡ (if same_key key other then Some first else get same_key firsts.old other)) }
+    ensures kept { IfOk result (λ first. (other : List ℕ) →
+        get same_key firsts.new other
+        ≡ (if same_key key other then Some first else get same_key firsts.old other)) }
 {
     if let Some(first) = firsts.get(&key) {
         return Ok(*first);
@@ -42,8 +44,8 @@ fn key_groups(alloc: Global, keys: &[[u8; 32]]) -> Result<Vec<usize>, AllocError
     Ok(groups)
 }
 
-// The number of the first shape that is the same as this one, where `first` is that of the first with the same key. Where keys tell
-// shapes apart, that is the one, or there is none before.
+// The number of the first shape that is the same as this one, where `first` is that of the first with the same key.
+// Where keys tell shapes apart, that is the one, or there is none before.
 fn first_like(shapes: &[Arc<Shape>], keys: &[[u8; 32]], number: usize, first: usize) -> usize
     requires keys { AreKeys (map arc_value shapes.now) keys.now }
     requires number { number < length shapes.now }
@@ -63,12 +65,12 @@ fn first_like(shapes: &[Arc<Shape>], keys: &[[u8; 32]], number: usize, first: us
     number
 }
 
-/// For each shape the number of the first that is the same, by content. There are as many keys as shapes, and shapes that are the
-/// same have the same key; that two have one key is not enough.
+/// For each shape the number of the first that is the same, by content. There are as many keys as shapes, and shapes
+/// that are the same have the same key; that two have one key is not enough.
 ///
-/// It looks at one earlier shape for each, the first with its key; where two that differ have one key, at all after it with that
-/// key. With the keys of [`Shape::key`] that would be a collision of SHA-256. At worst, whatever the keys, each pair of shapes is
-/// compared once. `AllocError` is want of memory.
+/// It looks at one earlier shape for each, the first with its key; where two that differ have one key, at all after it
+/// with that key. With the keys of [`Shape::key`] that would be a collision of SHA-256. At worst, whatever the keys,
+/// each pair of shapes is compared once. `AllocError` is want of memory.
 pub fn shape_groups(
     alloc: Global,
     shapes: &[Arc<Shape>],
@@ -87,7 +89,8 @@ pub fn shape_groups(
 
 /// For each job the number of the first that has the same shape. `AllocError` is want of memory.
 pub fn job_groups(alloc: Global, jobs: &[Arc<Job>]) -> Result<Vec<usize>, AllocError>
-    ensures { IfOk result (λ groups. AreGroups (map shape_of (map arc_value jobs.now)) groups.items) }
+    ensures { IfOk result (λ groups. AreGroups (map shape_of (map arc_value jobs.now))
+        groups.items) }
 {
     let mut shapes = Vec::with_capacity(alloc, jobs.len())?;
     let mut keys = Vec::with_capacity(alloc, jobs.len())?;

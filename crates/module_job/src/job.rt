@@ -37,10 +37,12 @@ pub struct Stop {
     pub wire: u16,
 }
 
-/// All that the run of a module by itself needs: its box, the steps, the wires and gates that it knows, what the cells of the box
-/// carry at time 0 and what they are to be at the last time, what the cells of ring and halo carry at odd times, its stops, and the
-/// gates that it keeps. Contracts see it as a `JobState`; each wire that it names is one of its own.
-// It is kept as the corner of its box, the circuit's numbers of its wires and gates, and its shape, in which the corner is (0, 0).
+/// All that the run of a module by itself needs: its box, the steps, the wires and gates that it knows, what the cells
+/// of the box carry at time 0 and what they are to be at the last time, what the cells of ring and halo carry at odd
+/// times, its stops, and the gates that it keeps. Contracts see it as a `JobState`; each wire that it names is one of
+/// its own.
+// It is kept as the corner of its box, the circuit's numbers of its wires and gates, and its shape, in which the corner
+// is (0, 0).
 #[derive(Drop)]
 pub struct Job {
     /// The column of the box's corner.
@@ -86,7 +88,8 @@ fn forth(corner: u32) -> i32
 }
 
 impl Job {
-    /// The box of the module: its corner and sides are even, its sides 2 to 64, and it lies in a rectangle of 512 by 512 cells.
+    /// The box of the module: its corner and sides are even, its sides 2 to 64, and it lies in a rectangle of 512 by
+    /// 512 cells.
     pub fn area(&self) -> Box2
         ensures area { result ≡ self.now.area }
         ensures good { IsJob self.now }

@@ -77,7 +77,8 @@ fn push_stop(numbers: &mut Vec<u64>, stop: Stop) -> Result<(), AllocError>
 }
 
 fn push_starts(numbers: &mut Vec<u64>, starts: &[Signal]) -> Result<(), AllocError>
-    ensures { OnOk result (numbers.new.items ≡ numbers.old.items ++ flat_map signal_numbers starts.now) }
+    ensures { OnOk result (numbers.new.items
+        ≡ numbers.old.items ++ flat_map signal_numbers starts.now) }
 {
     for start in starts {
         numbers.push(signal_number(*start))?;
@@ -86,7 +87,8 @@ fn push_starts(numbers: &mut Vec<u64>, starts: &[Signal]) -> Result<(), AllocErr
 }
 
 fn push_demands(numbers: &mut Vec<u64>, demands: &[Demand]) -> Result<(), AllocError>
-    ensures { OnOk result (numbers.new.items ≡ numbers.old.items ++ flat_map demand_numbers demands.now) }
+    ensures { OnOk result (numbers.new.items
+        ≡ numbers.old.items ++ flat_map demand_numbers demands.now) }
 {
     for demand in demands {
         numbers.push(demand_number(*demand))?;
@@ -95,7 +97,8 @@ fn push_demands(numbers: &mut Vec<u64>, demands: &[Demand]) -> Result<(), AllocE
 }
 
 fn push_helds(numbers: &mut Vec<u64>, helds: &[Held]) -> Result<(), AllocError>
-    ensures { OnOk result (numbers.new.items ≡ numbers.old.items ++ flat_map held_numbers helds.now) }
+    ensures { OnOk result (numbers.new.items
+        ≡ numbers.old.items ++ flat_map held_numbers helds.now) }
 {
     for held in helds {
         push_held(numbers, *held)?;
@@ -104,7 +107,8 @@ fn push_helds(numbers: &mut Vec<u64>, helds: &[Held]) -> Result<(), AllocError>
 }
 
 fn push_events(numbers: &mut Vec<u64>, events: &[Event]) -> Result<(), AllocError>
-    ensures { OnOk result (numbers.new.items ≡ numbers.old.items ++ flat_map event_numbers events.now) }
+    ensures { OnOk result (numbers.new.items
+        ≡ numbers.old.items ++ flat_map event_numbers events.now) }
 {
     for event in events {
         push_event(numbers, *event)?;
@@ -113,7 +117,8 @@ fn push_events(numbers: &mut Vec<u64>, events: &[Event]) -> Result<(), AllocErro
 }
 
 fn push_stops(numbers: &mut Vec<u64>, stops: &[Stop]) -> Result<(), AllocError>
-    ensures { OnOk result (numbers.new.items ≡ numbers.old.items ++ flat_map stop_numbers stops.now) }
+    ensures { OnOk result (numbers.new.items
+        ≡ numbers.old.items ++ flat_map stop_numbers stops.now) }
 {
     for stop in stops {
         push_stop(numbers, *stop)?;
@@ -142,7 +147,9 @@ fn push_schedule(numbers: &mut Vec<u64>, schedule: &Schedule) -> Result<(), Allo
 }
 
 fn push_cells(numbers: &mut Vec<u64>, shape: &Shape) -> Result<(), AllocError>
-    ensures { OnOk result (numbers.new.items ≡ numbers.old.items ++ (shape.now.width ∷ shape.now.height ∷ shape.now.steps ∷ []) ++ counted signal_numbers shape.now.starts ++ counted demand_numbers shape.now.demands) }
+    ensures { OnOk result (numbers.new.items
+        ≡ numbers.old.items ++ (shape.now.width ∷ shape.now.height ∷ shape.now.steps ∷ [])
+        ++ counted signal_numbers shape.now.starts ++ counted demand_numbers shape.now.demands) }
 {
     numbers.push(shape.width as u64)?;
     numbers.push(shape.height as u64)?;
@@ -199,8 +206,9 @@ impl Shape {
         Ok(numbers)
     }
 
-    /// The SHA-256 of all of the shape. Shapes that are the same have the same key; shapes that differ have different numbers, and
-    /// these different bytes (laws), so one key for both would be a collision of SHA-256. `AllocError` is want of memory.
+    /// The SHA-256 of all of the shape. Shapes that are the same have the same key; shapes that differ have different
+    /// numbers, and these different bytes (laws), so one key for both would be a collision of SHA-256. `AllocError` is
+    /// want of memory.
     pub fn key(&self, alloc: Global) -> Result<[u8; 32], AllocError>
         ensures key { IfOk result (λ key. key ≡ shape_key self.now) }
         ensures small { IfOk result (λ _. All (λ n. n < 2 ^ 64) (shape_numbers self.now)) }

@@ -2,7 +2,8 @@
 ghost use Rattle.module_job.specs.Keys.{BytesTellNumbers, NumbersTellShapes};
 ghost use Rattle.module_job.specs.Laws.{JobEqualityDecides, ShapeEqualityDecides, ShapesAreParts};
 
-/// Two [`Job`](crate::Job)s are equal exactly where contracts see the same of both, and so are two [`Shape`](crate::Shape)s.
+/// Two [`Job`](crate::Job)s are equal exactly where contracts see the same of both, and so are two
+/// [`Shape`](crate::Shape)s.
 pub fn equality_is_of_content()
     ensures jobs { JobEqualityDecides }
     ensures shapes { ShapeEqualityDecides }

@@ -6,8 +6,9 @@ use crate::job::{Demand, Stop};
 use module_box::{Schedule, Signal, Wiring};
 use std::marker::Model;
 
-/// All that the run of a module by itself needs, but where its box lies and which wires and gates of the circuit its own are: as if
-/// the box had its corner at (0, 0). Modules that differ in nothing else have equal shapes. Contracts see it as a `ShapeState`.
+/// All that the run of a module by itself needs, but where its box lies and which wires and gates of the circuit its
+/// own are: as if the box had its corner at (0, 0). Modules that differ in nothing else have equal shapes. Contracts
+/// see it as a `ShapeState`.
 #[derive(Drop)]
 pub struct Shape {
     /// The width of the box.

@@ -79,7 +79,8 @@ fn read_names(
 ) -> Result<Vec<Name>, ReadFault>
     requires closed { feed.old.closed ≡ true }
     requires none { reading.old.on.keys ≡ [] }
-    ensures { Reads (assign_grammar reading.old.ins.now) (λ names. assign_value names.items) feed.old feed.new result }
+    ensures { Reads (assign_grammar reading.old.ins.now) (λ names. assign_value names.items)
+        feed.old feed.new result }
 {
     read_section(feed, reading)?;
     match reading.on.as_slice().to_vec(alloc) {
@@ -103,7 +104,8 @@ fn read_names(
 /// After an error the feed answers it for good.
 pub fn read_assign(alloc: Global, feed: &mut Feed, ins: &[Name]) -> Result<Vec<Name>, ReadFault>
     requires { feed.old.closed ≡ true }
-    ensures reads { Reads (assign_grammar ins.now) (λ names. assign_value names.items) feed.old feed.new result }
+    ensures reads { Reads (assign_grammar ins.now) (λ names. assign_value names.items) feed.old
+        feed.new result }
 {
     let Ok(known) = index_of(alloc, ins) else {
         return Err(feed.starve());

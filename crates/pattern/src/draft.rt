@@ -93,7 +93,8 @@ impl Draft {
         ensures cells { IfOk result (λ cells. cells.items ≡ cells_of part.now) }
         ensures inside { OnOk result (is_inside self.now.size part.now ≡ true) }
         ensures free { OnOk result (cell_fault self.now.size (parts_of self.now) part.now ≡ None) }
-        ensures fault { IfErr result (λ e. FaultIs e (cell_fault self.now.size (parts_of self.now) part.now)) }
+        ensures fault { IfErr result (λ e. FaultIs e
+            (cell_fault self.now.size (parts_of self.now) part.now)) }
     {
         let size = self.layout.size();
         if !part.is_inside(size) {
@@ -116,7 +117,8 @@ impl Draft {
         ensures size { self.new.size ≡ self.old.size }
         ensures parts { OnOk result (parts_of self.new ≡ parts_of self.old ++ part ∷ []) }
         ensures err { OnErr result (self.new ≡ self.old) }
-        ensures fault { IfErr result (λ e. FaultIs e (cell_fault self.old.size (parts_of self.old) part)) }
+        ensures fault { IfErr result (λ e. FaultIs e
+            (cell_fault self.old.size (parts_of self.old) part)) }
     {
         let cells = self.free_cells(alloc, &part)?;
         let begins = part.begins();

@@ -11,7 +11,8 @@ use std::alloc::{AllocError, Global};
 /// Adds a name, if it is not there.
 #[tactic(auto, using(crate::proofs::NameSets::has_push, crate::proofs::NameSets::has_again))]
 pub(crate) fn add_name(index: &mut IndexSet<Name, Seed>, name: Name) -> Result<(), AllocError>
-    ensures ok { OnOk result ((n : List ℕ) → has index.new.keys n ≡ (has index.old.keys n || bytes_eq n name)) }
+    ensures ok { OnOk result ((n : List ℕ) →
+        has index.new.keys n ≡ (has index.old.keys n || bytes_eq n name)) }
     ensures err { OnErr result (index.new.keys ≡ index.old.keys) }
 {
     match index.insert(name) {

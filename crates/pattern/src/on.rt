@@ -12,7 +12,8 @@ fn push_bits(
     names: &[Name],
     on: &IndexSet<Name, Seed>,
 ) -> Result<(), AllocError>
-    ensures { OnOk result (bits.new.items ≡ bits.old.items ++ map (λ n. has on.now.keys n) names.now) }
+    ensures { OnOk result (bits.new.items
+        ≡ bits.old.items ++ map (λ n. has on.now.keys n) names.now) }
 {
     for name in names {
         bits.push(on.contains(name))?;

@@ -79,7 +79,8 @@ impl Extent {
         }
     }
 
-    /// Whether the cell lies in the rectangle of this size at the origin: its column is 0 to `w` - 1, its row 0 to `h` - 1.
+    /// Whether the cell lies in the rectangle of this size at the origin: its column is 0 to `w` - 1, its row 0 to `h`
+    /// - 1.
     #[tactic(auto, unfolding(bbm_rule::specs::Spans::in_span))]
     pub fn holds(self, cell: Cell) -> bool
         ensures { result ≡ in_layout self cell.x cell.y }

@@ -29,7 +29,8 @@ pub fn print_cell(out: &mut Vec<u8>, cell: Cell) -> Result<(), AllocError>
 }
 
 fn print_size(out: &mut Vec<u8>, size: Extent) -> Result<(), AllocError>
-    ensures { OnOk result (out.new.items ≡ out.old.items ++ line_text (codes "layout") (size_words size)) }
+    ensures { OnOk result (out.new.items
+        ≡ out.old.items ++ line_text (codes "layout") (size_words size)) }
 {
     out.extend_from_slice(b"layout")?;
     print_number(out, size.w)?;
@@ -40,7 +41,8 @@ fn print_size(out: &mut Vec<u8>, size: Extent) -> Result<(), AllocError>
 }
 
 fn print_mirror(out: &mut Vec<u8>, r: Rectangle) -> Result<(), AllocError>
-    ensures { OnOk result (out.new.items ≡ out.old.items ++ line_text (codes "mirror") (rectangle_words r)) }
+    ensures { OnOk result (out.new.items
+        ≡ out.old.items ++ line_text (codes "mirror") (rectangle_words r)) }
 {
     out.extend_from_slice(b"mirror")?;
     print_number(out, r.x)?;
@@ -52,7 +54,9 @@ fn print_mirror(out: &mut Vec<u8>, r: Rectangle) -> Result<(), AllocError>
 }
 
 fn print_mirrors(out: &mut Vec<u8>, mirrors: &[Rectangle]) -> Result<(), AllocError>
-    ensures { OnOk result (out.new.items ≡ out.old.items ++ flat_map (λ r. line_text (codes "mirror") (rectangle_words r)) mirrors.now) }
+    ensures { OnOk result (out.new.items
+        ≡ out.old.items ++ flat_map (λ r. line_text (codes "mirror") (rectangle_words r))
+        mirrors.now) }
 {
     for mirror in mirrors {
         print_mirror(out, *mirror)?;
@@ -70,7 +74,8 @@ fn print_lone_cell(out: &mut Vec<u8>, word: &[u8], cell: Cell) -> Result<(), All
 }
 
 fn print_cells(out: &mut Vec<u8>, word: &[u8], cells: &[Cell]) -> Result<(), AllocError>
-    ensures { OnOk result (out.new.items ≡ out.old.items ++ flat_map (λ c. line_text word.now (cell_words c)) cells.now) }
+    ensures { OnOk result (out.new.items
+        ≡ out.old.items ++ flat_map (λ c. line_text word.now (cell_words c)) cells.now) }
 {
     for cell in cells {
         print_lone_cell(out, word, *cell)?;
@@ -79,7 +84,8 @@ fn print_cells(out: &mut Vec<u8>, word: &[u8], cells: &[Cell]) -> Result<(), All
 }
 
 fn print_port(out: &mut Vec<u8>, word: &[u8], port: &Port) -> Result<(), AllocError>
-    ensures { OnOk result (out.new.items ≡ out.old.items ++ line_text word.now (port_words port.now)) }
+    ensures { OnOk result (out.new.items
+        ≡ out.old.items ++ line_text word.now (port_words port.now)) }
 {
     out.extend_from_slice(word)?;
     print_word(out, port.name.bytes())?;
@@ -89,7 +95,8 @@ fn print_port(out: &mut Vec<u8>, word: &[u8], port: &Port) -> Result<(), AllocEr
 }
 
 fn print_ports(out: &mut Vec<u8>, word: &[u8], ports: &[Port]) -> Result<(), AllocError>
-    ensures { OnOk result (out.new.items ≡ out.old.items ++ flat_map (λ p. line_text word.now (port_words p)) ports.now) }
+    ensures { OnOk result (out.new.items
+        ≡ out.old.items ++ flat_map (λ p. line_text word.now (port_words p)) ports.now) }
 {
     for port in ports {
         print_port(out, word, port)?;
@@ -97,8 +104,8 @@ fn print_ports(out: &mut Vec<u8>, word: &[u8], ports: &[Port]) -> Result<(), All
     Ok(())
 }
 
-/// The text of a layout, from its size line to its `end` line. It is the text that the layout was read from, and is read as
-/// the same layout (see the laws of this crate). The error is want of memory.
+/// The text of a layout, from its size line to its `end` line. It is the text that the layout was read from, and is
+/// read as the same layout (see the laws of this crate). The error is want of memory.
 pub fn print_layout(alloc: Global, layout: &Layout) -> Result<Vec<u8>, AllocError>
     ensures { IfOk result (λ text. text.items ≡ layout_text layout.now) }
 {

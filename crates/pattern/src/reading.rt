@@ -169,8 +169,12 @@ fn known_names(
     alloc: Global,
     ports: &PortNames,
 ) -> Result<(IndexSet<Name, Seed>, IndexSet<Name, Seed>), AllocError>
-    ensures ins { IfOk result (λ known. (n : List ℕ) → is_in_name (named_ports ports.now) n ≡ (is_any (named_ports ports.now) || has known.0.keys n)) }
-    ensures outs { IfOk result (λ known. (n : List ℕ) → is_out_name (named_ports ports.now) n ≡ (is_any (named_ports ports.now) || has known.1.keys n)) }
+    ensures ins { IfOk result (λ known. (n : List ℕ) →
+        is_in_name (named_ports ports.now) n
+        ≡ (is_any (named_ports ports.now) || has known.0.keys n)) }
+    ensures outs { IfOk result (λ known. (n : List ℕ) →
+        is_out_name (named_ports ports.now) n
+        ≡ (is_any (named_ports ports.now) || has known.1.keys n)) }
 {
     match ports {
         PortNames::Any => Ok((index_of(alloc, &[])?, index_of(alloc, &[])?)),
@@ -253,7 +257,8 @@ impl<'a> Section for Reading<'a> {
 /// After an error the feed answers it for good.
 pub fn read_layout(alloc: Global, feed: &mut Feed, ports: &PortNames) -> Result<Layout, ReadFault>
     requires { feed.old.closed ≡ true }
-    ensures reads { Reads (layout_grammar (named_ports ports.now)) layout_value feed.old feed.new result }
+    ensures reads { Reads (layout_grammar (named_ports ports.now)) layout_value feed.old feed.new
+        result }
     ensures names { IfOk result (λ l. AreNamed (named_ports ports.now) (parts_of l)) }
 {
     let Ok(mut reading) = Reading::new(alloc, ports) else {

@@ -40,7 +40,8 @@ fn push_ports_in(
     ports: &[Port],
     on: &IndexSet<Name, Seed>,
 ) -> Result<(), AllocError>
-    ensures { OnOk result (out.new.items ≡ out.old.items ++ map (λ q. q.cell) (filter (λ q. has on.now.keys q.name) ports.now)) }
+    ensures { OnOk result (out.new.items
+        ≡ out.old.items ++ map (λ q. q.cell) (filter (λ q. has on.now.keys q.name) ports.now)) }
 {
     for port in ports {
         if on.contains(&port.name) {
@@ -57,7 +58,8 @@ fn push_ports_on(
     ports: &[Port],
     on: &[Name],
 ) -> Result<(), AllocError>
-    ensures { OnOk result (out.new.items ≡ out.old.items ++ map (λ q. q.cell) (filter (λ q. has on.now q.name) ports.now)) }
+    ensures { OnOk result (out.new.items
+        ≡ out.old.items ++ map (λ q. q.cell) (filter (λ q. has on.now q.name) ports.now)) }
 {
     let on = index_of(alloc, on)?;
     push_ports_in(out, ports, &on)
@@ -67,7 +69,8 @@ fn push_ports_on(
 /// the input cells whose name is on. The error is want of memory.
 pub fn start_cells(alloc: Global, layout: &Layout, on: &[Name]) -> Result<Vec<Cell>, AllocError>
     ensures order { IfOk result (λ cells. cells.items ≡ start_list layout.now (λ n. has on.now n)) }
-    ensures cells { IfOk result (λ cells. (x y : ℤ) → in_cells cells.items x y ≡ start layout.now (has on.now) x y) }
+    ensures cells { IfOk result (λ cells. (x y : ℤ) →
+        in_cells cells.items x y ≡ start layout.now (has on.now) x y) }
 {
     let mut cells = Vec::new(alloc);
     push_mirrors(&mut cells, layout.mirrors.as_slice())?;
@@ -78,7 +81,8 @@ pub fn start_cells(alloc: Global, layout: &Layout, on: &[Name]) -> Result<Vec<Ce
 
 // A grid of the layout's size with the cells of the start.
 fn start_grid(alloc: Global, layout: &Layout, on: &[Name]) -> Result<Grid, AllocError>
-    ensures size { IfOk result (λ g. (g.width ≡ layout.now.size.w) × (g.height ≡ layout.now.size.h)) }
+    ensures size { IfOk result (λ g. (g.width ≡ layout.now.size.w)
+        × (g.height ≡ layout.now.size.h)) }
     ensures cells { IfOk result (λ g. (x y : ℤ) → live g x y ≡ start layout.now (has on.now) x y) }
 {
     let cells = start_cells(alloc, layout, on)?;
@@ -90,7 +94,8 @@ fn start_grid(alloc: Global, layout: &Layout, on: &[Name]) -> Result<Grid, Alloc
 // Makes every step, or all before the first that leaves the layout, and answers the number of that one.
 fn run_all(grid: &mut Grid, size: Extent) -> Option<u32>
     requires { (grid.old.width ≡ size.w) × (grid.old.height ≡ size.h) }
-    ensures run { MatchOption result (RunsInside size (live grid.old) (live grid.new)) (λ k. RunLeaves size (live grid.old) k) }
+    ensures run { MatchOption result (RunsInside size (live grid.old) (live grid.new))
+        (λ k. RunLeaves size (live grid.old) k) }
     ensures size { HasSameSize grid.old grid.new }
 {
     for t in 0..size.steps {
@@ -105,7 +110,8 @@ fn run_all(grid: &mut Grid, size: Extent) -> Option<u32>
 fn push_live_row(out: &mut Vec<Cell>, grid: &Grid, w: u32, y: u32) -> Result<(), AllocError>
     requires columns { (w ≤ grid.now.width) × (w ≤ 512) }
     requires row { (y < grid.now.height) × (y < 512) }
-    ensures { OnOk result (out.new.items ≡ out.old.items ++ filter (λ c. live grid.now c.x c.y) (row_cells 0 w y)) }
+    ensures { OnOk result (out.new.items
+        ≡ out.old.items ++ filter (λ c. live grid.now c.x c.y) (row_cells 0 w y)) }
 {
     for x in 0..w {
         let cell = Cell {

@@ -34,7 +34,9 @@ pub fn make_live(grid: &mut Grid, cells: &[Cell])
 pub(crate) fn meets_in(first: bool, one: &Grid, other: &Grid, cells: &[Cell]) -> bool
     requires one { All (λ c. is_inside one.now c.x c.y ≡ true) cells.now }
     requires other { All (λ c. is_inside other.now c.x c.y ≡ true) cells.now }
-    ensures { result ≡ (if first then list_any (λ c. live one.now c.x c.y) cells.now else list_any (λ c. live other.now c.x c.y) cells.now) }
+    ensures { result
+        ≡ (if first then list_any (λ c. live one.now c.x c.y) cells.now else list_any
+        (λ c. live other.now c.x c.y) cells.now) }
 {
     if first {
         is_any_live(one, cells)
@@ -46,7 +48,8 @@ pub(crate) fn meets_in(first: bool, one: &Grid, other: &Grid, cells: &[Cell]) ->
 /// Takes the cells where `takes` is true.
 pub(crate) fn take_where(takes: bool, grid: &mut Grid, cells: &[Cell])
     requires { All (λ c. is_inside grid.old c.x c.y ≡ true) cells.now }
-    ensures taken { (x y : ℤ) → live grid.new x y ≡ (live grid.old x y || (takes && in_cells cells.now x y)) }
+    ensures taken { (x y : ℤ) →
+        live grid.new x y ≡ (live grid.old x y || (takes && in_cells cells.now x y)) }
     ensures size { HasSameSize grid.old grid.new }
 {
     if takes {

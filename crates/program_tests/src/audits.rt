@@ -47,13 +47,14 @@ fn writes_the_same_for_each_number_of_workers(rt: HostRuntime) {
 }
 
 /// What is held back, from how many workers.
-const HOLDS: [(Hold, usize); 6] = [
+const HOLDS: [(Hold, usize); 7] = [
     (Hold::Reverse, 4),
     (Hold::FirstTwo, 2),
     (Hold::UntilOthers(0), 2),
     (Hold::UntilOthers(1), 2),
     (Hold::UntilOthers(2), 2),
     (Hold::UntilOthers(3), 2),
+    (Hold::FirstAlone, 2),
 ];
 
 #[test]
@@ -122,6 +123,8 @@ fn end_of(hold: Hold) -> &'static [usize] {
         Hold::UntilOthers(1) => &[1, 4],
         Hold::UntilOthers(2) => &[2, 4],
         Hold::UntilOthers(_) => &[3, 4],
+        // A worker tells the gate of an end when it has filed, so the first finding comes first.
+        Hold::FirstAlone => &[0, 1, 2, 3, 4],
     }
 }
 

@@ -131,7 +131,8 @@ fn filed_by_all<
     gather(book, shares).ok()
 }
 
-/// Whether it is the entry of a finding whose job is the book's, and that was accepted, or answered `Double` with its number.
+/// Whether it is the entry of a finding whose job is the book's, and that was accepted, or answered `Double` with its
+/// number.
 fn is_own(entry: &Entry) -> bool {
     match entry {
         Entry::Filed(filing) => {

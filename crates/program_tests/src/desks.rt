@@ -146,8 +146,8 @@ fn desk_of_two(rt: &impl Abort, alloc: Global) -> (Desk, Vec<DeskSeat>)
     }
 }
 
-/// Made to be run with each growth of memory refused in turn: a desk opens whole or not at all, and closes later where there
-/// was no memory for it.
+/// Made to be run with each growth of memory refused in turn: a desk opens whole or not at all, and closes later where
+/// there was no memory for it.
 #[test]
 fn a_desk_opens_and_closes_at_the_second_try(rt: HostRuntime) {
     let (desk, mut seats) = desk_of_two(&rt, rt.alloc());

@@ -40,7 +40,7 @@ fn is_counted(counts: &Counts, number: usize) -> bool {
     }
 }
 
-/// For what a number is held back before its job is run.
+/// For what a number is held back, before its job is run or at its end.
 #[derive(Clone, Copy)]
 pub(crate) enum Hold {
     /// The first two numbers, each until the other has begun.
@@ -49,6 +49,9 @@ pub(crate) enum Hold {
     Reverse,
     /// This number, until the three others have ended.
     UntilOthers(usize),
+    /// Each number but the first, until the first has ended; and the first at its end, until the three others have
+    /// ended.
+    FirstAlone,
 }
 
 /// Counts what it is told of each of four numbers, and holds numbers back.
@@ -88,6 +91,15 @@ impl Holding {
                 number != held
                     || (0..4).all(|other| other == held || is_counted(&self.ended, other))
             }
+            Hold::FirstAlone => number == 0 || is_counted(&self.ended, 0),
+        }
+    }
+
+    /// Whether the number may go on from its end.
+    fn lets_end(&self, number: usize) -> bool {
+        match self.hold {
+            Hold::FirstAlone => number != 0 || (1..4).all(|other| is_counted(&self.ended, other)),
+            _ => true,
         }
     }
 
@@ -111,6 +123,13 @@ impl Gate for Holding {
 
     fn after(&self, number: usize) {
         count_one(&self.ended, number);
+        for _ in 0..MOST_TURNS {
+            if self.lets_end(number) {
+                return;
+            }
+            thread::yield_now();
+        }
+        self.late.store(true, Ordering::SeqCst);
     }
 }
 

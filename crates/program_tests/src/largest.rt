@@ -1,5 +1,5 @@
-//! Bundles at the limits: many modules for many workers, and a module with as many border lines as it may have. What is expected was
-//! worked out by hand from the format, and the digests with `sha256sum`.
+//! Bundles at the limits: many modules for many workers, and a module with as many border lines as it may have. What is
+//! expected was worked out by hand from the format, and the digests with `sha256sum`.
 
 use crate::audits::audited;
 use crate::gates::Crowd;
@@ -18,7 +18,8 @@ enum Mark {
     Waste,
 }
 
-/// What a module of this number has on one of its four cells: its output on one, and on the others a choice that no other has.
+/// What a module of this number has on one of its four cells: its output on one, and on the others a choice that no
+/// other has.
 fn mark_of(module: u32, cell: u32) -> Mark {
     let (output, choice) = (module / 27, module % 27);
     let others = if cell < output {
@@ -73,7 +74,8 @@ fn many_modules(alloc: Global) -> Result<String, AllocError> {
     Ok(text)
 }
 
-/// Each module's fault is at its output cell: the first of its cells, from module 27 on the second, from module 54 on the third.
+/// Each module's fault is at its output cell: the first of its cells, from module 27 on the second, from module 54 on
+/// the third.
 fn many_faults(alloc: Global) -> Result<String, AllocError> {
     let mut report = format!(in alloc;
         "bbmcheck 1\ncertificate d703d23eb6b93c49bd0027729197bf8cc495c873ff97d62e612cde71b6dfc028\nmodules 64\nverdict no\n"
@@ -134,7 +136,8 @@ fn an_audit_of_64_modules(rt: HostRuntime) {
     assert!(rt; state.accepted() == 64 && state.history().len() == 65);
 }
 
-/// A module with an edge line for 32 cells at each odd time below 4096, so 65,536 in all, then this line, and another module.
+/// A module with an edge line for 32 cells at each odd time below 4096, so 65,536 in all, then this line, and another
+/// module.
 fn borders(alloc: Global, line: &str) -> Result<String, AllocError> {
     let mut text = format!(in alloc;
         "circuit\nend\nlayout 66 64 4096\nend\ncertificate 1\nmodule 0 0 64 64\n"

@@ -1,5 +1,5 @@
-//! Every front of a bundle, in pieces of several lengths. What is expected follows from the format: the line behind the whole ones is not
-//! ended.
+//! Every front of a bundle, in pieces of several lengths. What is expected follows from the format: the line behind the
+//! whole ones is not ended.
 
 use crate::devices::{FailingReader, FailingWriter, Seen, call};
 use std::alloc::Global;

@@ -121,8 +121,9 @@ fn says_that_a_read_failed(rt: HostRuntime) {
     }
 }
 
-/// How many letters a text has, in pieces of how many, the status and what is written and said: for ever, one more than a text may
-/// have and as many as it may, which are one line that is not ended. In 4096 pieces of 4096 bytes there are just as many.
+/// How many letters a text has, in pieces of how many, the status and what is written and said: for ever, one more than
+/// a text may have and as many as it may, which are one line that is not ended. In 4096 pieces of 4096 bytes there are
+/// just as many.
 const LONG_TEXTS: [(usize, usize, u8, &str, &str); 3] = [
     (usize::MAX, 65_536, 4, "", "bbmcheck: text too long\n"),
     (16_777_217, 4096, 4, "", "bbmcheck: text too long\n"),

@@ -89,8 +89,8 @@ fn a_read_that_fails_once_ends_it(rt: HostRuntime) {
     }
 }
 
-/// How `check` ends over the refused bundle where a write fails after so many of seven bytes, or takes none, what was written, and
-/// whether the fault stays.
+/// How `check` ends over the refused bundle where a write fails after so many of seven bytes, or takes none, what was
+/// written, and whether the fault stays.
 fn written_with<T: Threads + Wait + Sync>(
     rt: &T,
     alloc: Global,

@@ -18,8 +18,8 @@ use local_run::{Fault, KeepFault, Kind};
 use section_text::Refusal;
 use std::alloc::{AllocError, Global};
 
-/// The line for a refusal: `refused`, the number of the refused line and the code, each behind a space, and a line feed.
-/// `AllocError` is want of memory.
+/// The line for a refusal: `refused`, the number of the refused line and the code, each behind a space, and a line
+/// feed. `AllocError` is want of memory.
 pub fn refusal_text(alloc: Global, refusal: Refusal) -> Result<Vec<u8>, AllocError>
     ensures { IfOk result (λ text. text.items ≡ refusal_line refusal) }
 {
@@ -27,9 +27,9 @@ pub fn refusal_text(alloc: Global, refusal: Refusal) -> Result<Vec<u8>, AllocErr
     Ok(line.into_bytes())
 }
 
-/// The report on a certificate with this verdict: the version of reports, the certificate's SHA-256 as 64 digits in lower case,
-/// how many modules it has, the verdict, and then after a no the verdict's lines in their order, after a yes what the certificate's
-/// stops say of delays and meetings. `AllocError` is want of memory.
+/// The report on a certificate with this verdict: the version of reports, the certificate's SHA-256 as 64 digits in
+/// lower case, how many modules it has, the verdict, and then after a no the verdict's lines in their order, after a
+/// yes what the certificate's stops say of delays and meetings. `AllocError` is want of memory.
 pub fn report_text(alloc: Global, cert: &Cert<'_>, verdict: &Verdict) -> Result<Vec<u8>, AllocError>
     ensures { IfOk result (λ text. text.items ≡ report_lines cert.now verdict.now) }
 {
@@ -68,7 +68,9 @@ fn print_verdict(
     cert: &Cert<'_>,
     verdict: &Verdict,
 ) -> Result<(), AllocError>
-    ensures { OnOk result (text.new.items ≡ text.old.items ++ verdict_lines (time_lines (circuit_of cert.now.circuit) (modules_in cert.now)) verdict.now) }
+    ensures { OnOk result (text.new.items
+        ≡ text.old.items ++ verdict_lines
+        (time_lines (circuit_of cert.now.circuit) (modules_in cert.now)) verdict.now) }
 {
     match verdict {
         Verdict::Yes => {
@@ -93,7 +95,8 @@ fn print_lines(alloc: Global, text: &mut Vec<u8>, lines: &[ReportLine]) -> Resul
 }
 
 fn print_times(alloc: Global, text: &mut Vec<u8>, times: &[TimeLine]) -> Result<(), AllocError>
-    ensures { OnOk result (text.new.items ≡ text.old.items ++ flat_map (λ t. fault_line (timing t)) times.now) }
+    ensures { OnOk result (text.new.items
+        ≡ text.old.items ++ flat_map (λ t. fault_line (timing t)) times.now) }
 {
     for line in times {
         print_time(alloc, text, *line)?;

@@ -253,9 +253,11 @@ impl Feed {
     /// text would pass 16,777,216 bytes, and `Memory` where there is no memory for it. Both change nothing.
     pub fn push(&mut self, piece: &[u8]) -> Result<(), PushFault>
         requires { self.old.closed ≡ false }
-        ensures ok { OnOk result (self.new ≡ record self.old { text = self.old.text ++ piece.now }) }
+        ensures ok { OnOk result (self.new
+            ≡ record self.old { text = self.old.text ++ piece.now }) }
         ensures err { OnErr result (self.new ≡ self.old) }
-        ensures too_long { (result ≡ Err PushFault.TooLong) ↔ (text_limit < length self.old.text + length piece.now) }
+        ensures too_long { (result ≡ Err PushFault.TooLong)
+            ↔ (text_limit < length self.old.text + length piece.now) }
         ensures within { length self.new.text ≤ text_limit }
     {
         if piece.len() > LONGEST - self.bytes.len() {
@@ -290,8 +292,8 @@ impl Feed {
 
     /// Returns the seed for tables of a circuit's names, if the text begins with the circuit.
     ///
-    /// It is the seed of the text's first section, of at most 1,048,576 bytes. A longer circuit section has a line that is
-    /// refused, by the limits on wires and gates.
+    /// It is the seed of the text's first section, of at most 1,048,576 bytes. A longer circuit section has a line that
+    /// is refused, by the limits on wires and gates.
     pub fn seed(&self) -> Seed
         ensures { result ≡ seed_of (take 1048576 (first_section self.now.text)) }
     {
@@ -302,7 +304,8 @@ impl Feed {
     /// feed that has a fault answers that.
     pub fn take(&mut self) -> Result<Line, ReadFault>
         requires { self.old.closed ≡ true }
-        ensures stopped { ForSome self.old.stop (λ fault. (result ≡ Err fault) × (self.new ≡ self.old)) }
+        ensures stopped { ForSome self.old.stop
+            (λ fault. (result ≡ Err fault) × (self.new ≡ self.old)) }
         ensures next { self.old.stop ≡ None → IfOk result (TakesLine self.old self.new) }
         ensures none { self.old.stop ≡ None → IfErr result (RunsOut self.old self.new) }
     {
@@ -482,10 +485,15 @@ impl Feed {
     /// at the line after those taken, for good. A feed that has a fault answers that.
     pub fn finish(&mut self) -> Result<(), ReadFault>
         requires { self.old.closed ≡ true }
-        ensures stopped { ForSome self.old.stop (λ fault. (result ≡ Err fault) × (self.new ≡ self.old)) }
-        ensures ok { self.old.stop ≡ None → OnOk result ((ahead self.old ≡ []) × (rest_of self.old.text ≡ []) × (self.new ≡ self.old)) }
-        ensures more { self.old.stop ≡ None → OnErr result (ahead self.old ≡ [] → rest_of self.old.text ≢ []) }
-        ensures fault { self.old.stop ≡ None → IfErr result (λ fault. (fault ≡ refusal (self.old.taken + 1) text_cut)
+        ensures stopped { ForSome self.old.stop
+            (λ fault. (result ≡ Err fault) × (self.new ≡ self.old)) }
+        ensures ok { self.old.stop ≡ None →
+            OnOk result ((ahead self.old ≡ []) × (rest_of self.old.text ≡ [])
+            × (self.new ≡ self.old)) }
+        ensures more { self.old.stop ≡ None →
+            OnErr result (ahead self.old ≡ [] → rest_of self.old.text ≢ []) }
+        ensures fault { self.old.stop ≡ None →
+            IfErr result (λ fault. (fault ≡ refusal (self.old.taken + 1) text_cut)
             × (self.new ≡ record self.old { stop = Some fault })) }
     {
         if let Some(first) = self.stop {

@@ -6,8 +6,8 @@ use crate::name::Name;
 use sha2::{Digest, Sha256};
 use std::hash::{BuildHasher, DefaultHasher, Hasher};
 
-/// How a table hashes: by SipHash behind the SHA-256 digest of all that the table may hold. So nobody can choose names that
-/// fall together in it, since with each other choice the hashes are others.
+/// How a table hashes: by SipHash behind the SHA-256 digest of all that the table may hold. So nobody can choose names
+/// that fall together in it, since with each other choice the hashes are others.
 #[derive(Clone, Copy)]
 pub struct Seed {
     initial: DefaultHasher,

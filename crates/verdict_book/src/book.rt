@@ -15,8 +15,9 @@ use std::marker::Model;
 use std::sync::ledger::{Blank, Ledger};
 use std::sync::{Mutex, Wait};
 
-/// A book that threads share, over a ledger `F` of filings and a ledger `A` of acceptances. Its shares name both, so a share of
-/// another book does not fit. `F` has the digest and the jobs of the book. Contracts see it as the number of its shares.
+/// A book that threads share, over a ledger `F` of filings and a ledger `A` of acceptances. Its shares name both, so a
+/// share of another book does not fit. `F` has the digest and the jobs of the book. Contracts see it as the number of
+/// its shares.
 #[derive(Drop)]
 pub struct Book<F: Filings, A: Ledger> {
     pub(crate) kept: Mutex<Kept<F, A>>,
@@ -33,8 +34,9 @@ impl<F: Filings, A: Ledger> Model for Book<F, A> {
 }
 
 impl<F: Filings, A: Ledger> Book<F, A> {
-    /// Puts a state without history under a lock, with 1 to 64 shares, of which none has counted anything. Each blank is its
-    /// ledger's, and has as many parts; the digest and the jobs are those that `F` names. `AllocError` is want of memory: all that was given is dropped.
+    /// Puts a state without history under a lock, with 1 to 64 shares, of which none has counted anything. Each blank
+    /// is its ledger's, and has as many parts; the digest and the jobs are those that `F` names. `AllocError` is want
+    /// of memory: all that was given is dropped.
     pub fn open(
         alloc: Global,
         f: Blank,
@@ -74,8 +76,9 @@ impl<F: Filings, A: Ledger> Book<F, A> {
         self.digest
     }
 
-    /// Files a finding, in one turn under the lock, for which it may wait. The reply is what the finding's digest, number and job
-    /// say beside those of the book: where all agree, `Accepted` or `Double` of its number. The share counts it.
+    /// Files a finding, in one turn under the lock, for which it may wait. The reply is what the finding's digest,
+    /// number and job say beside those of the book: where all agree, `Accepted` or `Double` of its number. The share
+    /// counts it.
     ///
     /// `NotFiled` is want of memory: the finding comes back, and the share is as before.
     pub fn file<R: Wait>(
@@ -84,7 +87,8 @@ impl<F: Filings, A: Ledger> Book<F, A> {
         mine: &mut Share<F, A>,
         finding: Finding,
     ) -> Result<Reply, NotFiled>
-        ensures reply { IfOk result (IsReplyOf F.digest F.jobs (digest_of finding) (number_of finding) (job_of finding)) }
+        ensures reply { IfOk result (IsReplyOf F.digest F.jobs (digest_of finding)
+            (number_of finding) (job_of finding)) }
         ensures not_closed { IfOk result (λ r. r ≢ Closed) }
         ensures counted { IfOk result (λ r. mine.new ≡ counted mine.old r) }
         ensures unchanged { OnErr result (mine.new ≡ mine.old) }

@@ -28,7 +28,8 @@ pub struct NotAll<F: Filings, A: Ledger> {
 
 /// Takes a book out of its lock, and adds up what all its shares counted.
 ///
-/// `NotAll` says that a share is missing: it is tested before any is joined, and all that was given comes back. Takes no memory.
+/// `NotAll` says that a share is missing: it is tested before any is joined, and all that was given comes back. Takes
+/// no memory.
 pub fn gather<F: Filings, A: Ledger>(
     book: Book<F, A>,
     shares: Vec<Share<F, A>>,

@@ -12,10 +12,11 @@ use local_run::Finding;
 use std::sync::ledger;
 use std::sync::ledger::Ledger;
 
-/// An open book, and the two ledgers: one has the length of its history for its total, the other how many findings it holds.
+/// An open book, and the two ledgers: one has the length of its history for its total, the other how many findings it
+/// holds.
 ///
-/// By the type of the book its history replays to it, and each finding that it holds is honest. By this type the history has no
-/// closing entry.
+/// By the type of the book its history replays to it, and each finding that it holds is honest. By this type the
+/// history has no closing entry.
 #[derive(Drop)]
 pub struct Kept<F: Filings, A: Ledger> {
     pub(crate) state: BookState,
@@ -61,10 +62,12 @@ impl<F: Filings, A: Ledger> Kept<F, A> {
     ) -> Result<Reply, NotFiled>
         ensures reply { IfOk result (λ r. r ≡ reply_to self.old.state finding) }
         ensures after { OnOk result (self.new.state ≡ after_filing self.old.state finding) }
-        ensures of_book { IfOk result (IsReplyOf F.digest F.jobs (digest_of finding) (number_of finding) (job_of finding)) }
+        ensures of_book { IfOk result (IsReplyOf F.digest F.jobs (digest_of finding)
+            (number_of finding) (job_of finding)) }
         ensures not_closed { IfOk result (λ r. r ≢ Closed) }
         ensures counted { IfOk result (λ r. mine.new ≡ counted mine.old r) }
-        ensures unchanged { OnErr result ((self.new.state ≡ self.old.state) × (mine.new ≡ mine.old)) }
+        ensures unchanged { OnErr result ((self.new.state ≡ self.old.state)
+            × (mine.new ≡ mine.old)) }
         ensures returned { IfErr result (λ e. e.finding ≡ finding) }
     {
         let Kept {

@@ -6,8 +6,8 @@ use std::marker::Model;
 use std::sync::ledger;
 use std::sync::ledger::Ledger;
 
-/// One part of a book's two ledgers. It counts the replies to what was filed by it, and those of them that were `Accepted`.
-/// Contracts see it as these `Counts`.
+/// One part of a book's two ledgers. It counts the replies to what was filed by it, and those of them that were
+/// `Accepted`. Contracts see it as these `Counts`.
 #[derive(Drop)]
 pub struct Share<F: Ledger, A: Ledger> {
     pub(crate) filed: u64,

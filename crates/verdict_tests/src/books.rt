@@ -1,7 +1,8 @@
-//! Findings of worked bundles, filed in turn in a book with its history. The replies and the entries were worked out by hand.
+//! Findings of worked bundles, filed in turn in a book with its history. The replies and the entries were worked out by
+//! hand.
 //!
-//! What finds no memory is tried once more: so each growth can be refused in turn (`rt try --test --fail-alloc N`), and the
-//! sequences are still to end as they should.
+//! What finds no memory is tried once more: so each growth can be refused in turn (`rt try --test --fail-alloc N`), and
+//! the sequences are still to end as they should.
 
 use audit_core::*;
 use certificate::Job;
@@ -11,8 +12,8 @@ use std::process::Abort;
 use std::sync::Arc;
 use test_support::{ALONE, GOOD, Work, work_of};
 
-/// The finding of the job at a place of the list, under a digest and a number: that of the second run, if no memory was found for
-/// the first.
+/// The finding of the job at a place of the list, under a digest and a number: that of the second run, if no memory was
+/// found for the first.
 pub(crate) fn finding(
     rt: &impl Abort,
     alloc: Global,
@@ -86,8 +87,8 @@ impl Works {
     }
 }
 
-/// Digest and number of a finding, the place of its job, whether that is the book's job of the number, the reply, and how many
-/// are held then.
+/// Digest and number of a finding, the place of its job, whether that is the book's job of the number, the reply, and
+/// how many are held then.
 type Turn = ((Of, usize), (Of, usize), bool, Reply, usize);
 
 const TURNS: [Turn; 15] = [

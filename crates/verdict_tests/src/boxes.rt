@@ -16,8 +16,8 @@ fn sign(area: Box2, cell: Cell) -> u8 {
     }
 }
 
-// A box, and the cells from three before the plane's quarter on. All cells of the least box are in its ring, and its halo goes round
-// the corner of the quarter.
+// A box, and the cells from three before the plane's quarter on. All cells of the least box are in its ring, and its
+// halo goes round the corner of the quarter.
 const PICTURES: [(Box2, [&[u8; 11]; 12]); 2] = [
     (
         Box2 {

@@ -1,5 +1,5 @@
-//! A circuit that is printed and asked for its gates and ports, and a draft that is finished too early. What is expected was worked out
-//! by hand from the format.
+//! A circuit that is printed and asked for its gates and ports, and a draft that is finished too early. What is
+//! expected was worked out by hand from the format.
 
 use circuit::*;
 use section_text::{LineFault, Name, PortNames};

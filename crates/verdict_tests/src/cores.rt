@@ -1,7 +1,7 @@
 //! A worked sequence of the core. The answers and the entries were worked out by hand.
 //!
-//! What finds no memory is tried once more: so each growth can be refused in turn (`rt try --test --fail-alloc N`), and the
-//! sequence is still to end as it should.
+//! What finds no memory is tried once more: so each growth can be refused in turn (`rt try --test --fail-alloc N`), and
+//! the sequence is still to end as it should.
 
 use crate::books::finding;
 use crate::verdicts::is_missing;

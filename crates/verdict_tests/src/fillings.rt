@@ -1,7 +1,7 @@
 //! Books that are filled up. The entries were worked out by hand.
 //!
-//! What finds no memory is tried once more: so each growth can be refused in turn (`rt try --test --fail-alloc N`), and the books
-//! are still to be full in the end.
+//! What finds no memory is tried once more: so each growth can be refused in turn (`rt try --test --fail-alloc N`), and
+//! the books are still to be full in the end.
 
 use crate::verdicts::{book_of, is_yes};
 use audit_core::*;
@@ -9,8 +9,8 @@ use std::alloc::Global;
 use std::process::Abort;
 use test_support::{ALONE, GOOD, Work, work_of};
 
-/// Fills a book up: at the second time, if no memory was found at the first. Then no entry is lost of a book that is not replaced,
-/// which has so many.
+/// Fills a book up: at the second time, if no memory was found at the first. Then no entry is lost of a book that is
+/// not replaced, which has so many.
 fn fill_up(rt: &impl Abort, alloc: Global, book: &mut BookState, work: &Work, entries: usize) {
     if fill(alloc, book, work.digest, &work.jobs).is_ok() {
         return;

@@ -9,8 +9,8 @@ use std::alloc::{AllocError, Global};
 use std::sync::Arc;
 use test_support::{GOOD, work_of};
 
-/// The corner of a module's box, the cell of its ports, what is there at the start and to be there at the end, and what the cells
-/// (3, 3) and (4, 4) carry at time 1, as edge and as halo.
+/// The corner of a module's box, the cell of its ports, what is there at the start and to be there at the end, and what
+/// the cells (3, 3) and (4, 4) carry at time 1, as edge and as halo.
 type Quarter = (
     (u32, u32),
     (i32, i32),
@@ -20,8 +20,8 @@ type Quarter = (
     [Signal; 2],
 );
 
-/// Each module knows p, q, a, b, c and d by the numbers 0 to 5. The inputs are at (2, 2) and (5, 5), the outputs a at (5, 2), b at
-/// (2, 2), c at (5, 5) and d at (2, 5). At time 1 the first ball is at (3, 3), and the second at (4, 4).
+/// Each module knows p, q, a, b, c and d by the numbers 0 to 5. The inputs are at (2, 2) and (5, 5), the outputs a at
+/// (5, 2), b at (2, 2), c at (5, 5) and d at (2, 5). At time 1 the first ball is at (3, 3), and the second at (4, 4).
 const MODULES: [Quarter; 4] = [
     ((0, 0), (2, 2), P, Demand::Wire(3), [P, ZERO], [ZERO, Q]),
     ((4, 0), (5, 2), ZERO, Demand::Wire(2), [ZERO, ZERO], [P, Q]),
@@ -109,7 +109,8 @@ fn jobs_of_four_modules(rt: HostRuntime) {
 const MIRROR: &str =
     "circuit\ninput a\noutput a\nend\nlayout 8 4 2\nmirror 3 1 2 1\nball 1 2\nin a 6 2\nout a 6 2\nwaste 1 2\nend\ncertificate 1\nmodule 0 0 4 4\nedge * 3 1 1\nhalo * 4 1 1\nmodule 4 0 4 4\ncut a\nhalo * 3 1 1\nend\n";
 
-/// The module, a cell, what is there at the start and to be there at the end, and what it carries at time 1 as edge and as halo.
+/// The module, a cell, what is there at the start and to be there at the end, and what it carries at time 1 as edge and
+/// as halo.
 const MIRROR_CELLS: [(usize, (i32, i32), Signal, Demand, Signal, Signal); 6] = [
     (0, (3, 1), Signal::One, Demand::Live, Signal::One, ZERO),
     (0, (1, 2), Signal::One, Demand::Any, ZERO, ZERO),

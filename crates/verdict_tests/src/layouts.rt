@@ -42,7 +42,8 @@ fn prints_what_was_read(rt: HostRuntime) {
     assert!(rt; is_reprinted(&rt, rt.alloc(), &text));
 }
 
-/// A layout, the names that are on, whether or not it has them, and its cells at the start: those of mirrors row by row, balls, inputs.
+/// A layout, the names that are on, whether or not it has them, and its cells at the start: those of mirrors row by
+/// row, balls, inputs.
 const STARTS: [(&str, &[&[u8]], &[(i32, i32)]); 4] = [
     (
         "layout 8 8 4\nin p 2 2\nin q 5 5\nout a 5 2\nend\n",

@@ -173,8 +173,8 @@ fn modules_without_cuts(rt: HostRuntime) {
 const BACK: &str =
     "circuit\ninput c\ninput y\ninput z\ninput e\nunswitch c y z -> d x\nsource 0 -> s\nuninteract d x e s -> p q\noutput p\noutput q\nend\nlayout 2 2 0\nin c 0 0\nin y 1 0\nin z 0 1\nin e 1 1\nout p 0 0\nout q 1 0\nend\ncertificate 1\nmodule 0 0 2 2\ncut c\ncut y\ncut z\ncut e\nuse 0\nuse 1\nuse 2\nkeep 2\nend\n";
 
-// The wires are c, y, z, e, d, x, s, p and q. The first gate has no row where c and z, or y without c; the other where d, and
-// where x and e.
+// The wires are c, y, z, e, d, x, s, p and q. The first gate has no row where c and z, or y without c; the other where
+// d, and where x and e.
 const BACK_TABLE: [(u32, &str); 4] = [
     (0, "000000000"),
     (4, "001001001"),
@@ -214,7 +214,8 @@ fn where_a_gate_has_no_row(rt: HostRuntime) {
 fn numbers_of_gates(rt: HostRuntime) {
     let job = only_job(&rt, rt.alloc(), NO_CUTS);
     let numbers = job.wiring().numbers(rt.alloc()).expect(&rt, "numbers");
-    // no cut and three gates: a source of 1 that defines wire 0, a delay of 3 from there to wire 1, a source of 0 that defines wire 2
+    // no cut and three gates: a source of 1 that defines wire 0, a delay of 3 from there to wire 1, a source of 0 that
+    // defines wire 2
     let wanted = [0, 3, 0, 1, 0, 1, 0, 5, 3, 1, 0, 1, 1, 0, 0, 0, 1, 2];
     assert!(rt; numbers.as_slice() == wanted.as_slice());
 }

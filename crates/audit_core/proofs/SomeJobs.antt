@@ -1,0 +1,320 @@
+-- A module has a job
+use Rattle.std.proofs.Common.{◌≡◌, ◌≤◌, ◌<◌, ◌+◌, ◌++◌, ◌∷◌, ◌∙◌, [], ℕ, zero, suc, Bool, true, false, List, Option}
+use Rattle.std.proofs.Common.{Some, None, refl, sym, ap, ap₂, subst, map, length, get_or, arith}
+use Rattle.std.specs.Prelude.{ℤ, IsTrue, IfSome, slice_get, slice_index, if◌then◌else◌, ◌||◌}
+use Rattle.std.specs.List.{All, range_with_len}
+use Rattle.std.proofs.lemmas.List.{take_all}
+use Rattle.std.proofs.lemmas.List.Elements.{All-nil, All-cons, All-head, All-tail}
+use Rattle.bbm_rule.specs.declared.block.Cell.{Cell}
+use Rattle.circuit.specs.Bridge.{circuit_of, netlist_of}
+use Rattle.circuit.specs.Gates.{defines}
+use Rattle.circuit.specs.Meaning.{AreOrdered, Circuit, Gate, Netlist, wire_of, wires}
+use Rattle.circuit.specs.declared.entry.Entry.{Entry}
+use Rattle.pattern.specs.Layout.{Pattern, in_cells, in_rectangles}
+use Rattle.module_box.specs.Boxes.{in_box}
+use Rattle.module_box.specs.Locals.{AreLocalLines, AreLocalsOf, LocalNet, is_among, local_wires}
+use Rattle.module_box.specs.declared.schedules.Signal.{Signal}
+use Rattle.module_box.specs.declared.schedules.Signal.TheVariants.{Zero, One}
+use Rattle.module_box.proofs.LocalNets.{IsOver, IsPart, next_known, part_all, part_more, part_none}
+use Rattle.certificate_lines.specs.Entries.{ModuleLines, cut_wires, edges, gates, halos, keeps, known, stops}
+use Rattle.certificate_lines.specs.Modules.{HasPorts, IsModule}
+use Rattle.certificate_lines.specs.PortTables.{port_at}
+use Rattle.certificate_lines.specs.Rules.{box_cells, is_local, is_local_wire}
+use Rattle.certificate_lines.specs.Settings.{setting_of}
+use Rattle.certificate_lines.specs.declared.entry.StopLine.{StopLine}
+use Rattle.certificate_lines.proofs.BoxPlaces.{cells_inside, found_at, same_count}
+use Rattle.certificate_lines.proofs.Pairs.{Each, each_of_all}
+use Rattle.module_job.specs.Jobs.{JobState}
+use Rattle.module_job.specs.Signals.{IsBelow, IsDemandBelow, renumber_demand, renumber_signal, renumber_stop}
+use Rattle.module_job.specs.declared.job.Demand.{Demand}
+use Rattle.module_job.specs.declared.job.Demand.TheVariants as Demanded
+use Rattle.module_job.specs.declared.job.Stop as listed
+use Rattle.certificate.specs.Jobs.{IsJobOf, demand_elsewhere, demand_of, end_demand, line_signals, line_stops, named_wire, numbered_stop, signal_of, start_signal}
+use Rattle.certificate.proofs.FullModules.{all_of_each}
+use Rattle.certificate.proofs.JobPlaces.{demand_found, start_found}
+use Rattle.certificate.proofs.PlanLemmas.{cells_have_ports}
+use Rattle.audit_core.specs.ModuleLaws.{ModuleHasSomeJob}
+use Rattle.audit_core.proofs.NumberedSignals.{IsBack, IsNamed, IsNumbered, is_place, lines_back, numbered}
+use Rattle.audit_core.proofs.NumberedSignals.{numbered_signals, place_among, wire_numbered}
+
+-- ---- the places of wires
+
+places : List ℕ → List ℕ → List ℕ
+places ws xs = map (place_among ws) xs
+
+-- the wires at the places of some wires are these wires
+record ArePlaces (ws xs : List ℕ) : Type 0 where
+  pub there : map (slice_index ws) (places ws xs) ≡ xs
+  pub below : All (λ i. i < length ws) (places ws xs)
+
+are_places : (ws xs : List ℕ) → All (λ w. IsTrue (is_among ws w)) xs → ArePlaces ws xs
+unfolding places
+are_places ws [] h = record { there = refl; below = All-nil (λ i. i < length ws) }
+are_places ws (x ∷ xs) h =
+    let p = is_place ws x (All-head (λ w. IsTrue (is_among ws w)) x xs h) in
+    let more = are_places ws xs (All-tail (λ w. IsTrue (is_among ws w)) x xs h) in
+    record {
+      there = ap₂ (λ a l. a ∷ l) p.there more.there;
+      below = All-cons (λ i. i < length ws) (place_among ws x) (places ws xs) p.below more.below;
+    }
+
+-- ---- the wires and gates of a module
+
+module _ (n : Netlist) (cuts gates : List ℕ) (ordered : AreOrdered n.given n.gates) (lines : AreLocalLines n cuts gates) where
+  -- the first i gates by other numbers
+  Renumbered : ℕ → Type 0
+  Renumbered i = (keys : List ℕ) × (done : List Gate) × IsPart n cuts gates i keys done
+
+  one_more : (i : ℕ) → i < length gates → Renumbered i → Renumbered (i + 1)
+  unfolding Renumbered places
+  one_more i within (keys, done, part) =
+      let k : ℕ = get_or gates i 0 in
+      let own : k ≡ get_or gates i k = same_default gates i within in
+      let is = next_known n cuts gates i k keys done lines part within own in
+      let ins = are_places keys is.gate.ins is.ins in
+      let new : Gate = record {
+        kind = is.gate.kind;
+        ins = places keys is.gate.ins;
+        outs = range_with_len (length keys) (defines is.gate.kind);
+      } in
+      let over : IsOver keys is.gate new = record { kind = refl; within = ins.below; ins = ins.there; outs = refl } in (
+        keys ++ is.gate.outs,
+        done ++ new ∷ [],
+        part_more n cuts gates i k keys (keys ++ is.gate.outs) done is.gate new ordered part within own is.numbered over refl,
+      )
+    where
+      same_default : (gates : List ℕ) (i : ℕ) → i < length gates → get_or gates i 0 ≡ get_or gates i (get_or gates i 0)
+      same_default [] i lt = absurd (omega (arith, lt))
+      same_default (g ∷ gs) zero lt = refl
+      same_default (g ∷ gs) (suc i) lt = same_default gs i (omega (arith, lt))
+
+  renumbered : (i : ℕ) → i ≤ length gates → Renumbered i
+  unfolding Renumbered
+  renumbered zero le = (cuts, [], part_none n cuts gates cuts lines refl)
+  renumbered (suc i) le =
+      let e : i + 1 ≡ suc i = omega arith in
+      subst Renumbered e (one_more i (omega (arith, le)) (renumbered i (omega (arith, le))))
+
+  record HasLocals (gates' : List Gate) : Type 0 where
+    pub are : AreLocalsOf n (record {
+      netlist = record { given = length cuts; gates = gates' };
+      circuit_wires = local_wires n cuts gates;
+      circuit_gates = gates;
+    })
+    pub count : length gates' ≡ length gates
+
+  has_locals : (gates' : List Gate) × HasLocals gates'
+  unfolding Renumbered
+  has_locals = by (renumbered (length gates) (omega arith))
+    where
+      by : Renumbered (length gates) → (gates' : List Gate) × HasLocals gates'
+      by (keys, done, part) =
+          let same : local_wires n cuts gates ≡ keys = sym (part.known ∙ ap (local_wires n cuts) (take_all (length gates) gates (omega arith))) in (
+            done,
+            record {
+              are = part_all n cuts gates keys (local_wires n cuts gates) gates (length gates) done lines part refl same refl;
+              count = part.count;
+            },
+          )
+
+-- ---- what the cells of the box carry
+
+module _ (ws : List ℕ) where
+  record CellsBack (f : Cell → Signal) (cells : List Cell) : Type 0 where
+    pub back : map (renumber_signal (slice_index ws)) (map (λ d. numbered ws (f d)) cells) ≡ map f cells
+    pub below : All (IsBelow (length ws)) (map (λ d. numbered ws (f d)) cells)
+
+  cells_back : (f : Cell → Signal) (cells : List Cell) → Each (λ d. IsNumbered ws (f d)) cells → CellsBack f cells
+  unfolding Each
+  cells_back f [] h = record { back = refl; below = All-nil (IsBelow (length ws)) }
+  cells_back f (d ∷ cells) h =
+      let more = cells_back f cells h.1 in
+      record {
+        back = ap₂ (λ s l. s ∷ l) h.0.back more.back;
+        below = All-cons (IsBelow (length ws)) (numbered ws (f d)) (map (λ d. numbered ws (f d)) cells) h.0.below more.below;
+      }
+
+  demanded : Demand → Demand
+  demanded Demanded.Dead = Demanded.Dead
+  demanded Demanded.Live = Demanded.Live
+  demanded (Demanded.Wire w) = Demanded.Wire (place_among ws w)
+  demanded Demanded.Any = Demanded.Any
+
+  record IsDemanded (d : Demand) : Type 0 where
+    pub back : renumber_demand (slice_index ws) (demanded d) ≡ d
+    pub below : IsDemandBelow (length ws) (demanded d)
+
+  record DemandsBack (f : Cell → Demand) (cells : List Cell) : Type 0 where
+    pub back : map (renumber_demand (slice_index ws)) (map (λ d. demanded (f d)) cells) ≡ map f cells
+    pub below : All (IsDemandBelow (length ws)) (map (λ d. demanded (f d)) cells)
+
+  demands_back : (f : Cell → Demand) (cells : List Cell) → Each (λ d. IsDemanded (f d)) cells → DemandsBack f cells
+  unfolding Each
+  demands_back f [] h = record { back = refl; below = All-nil (IsDemandBelow (length ws)) }
+  demands_back f (d ∷ cells) h =
+      let more = demands_back f cells h.1 in
+      record {
+        back = ap₂ (λ s l. s ∷ l) h.0.back more.back;
+        below = All-cons (IsDemandBelow (length ws)) (demanded (f d)) (map (λ d. demanded (f d)) cells) h.0.below more.below;
+      }
+
+  demand_numbered : (o : Option ℕ) → is_local_wire ws o ≡ true → IsDemanded (demand_of o)
+  unfolding demanded
+  demand_numbered None h = absurd cc
+  demand_numbered (Some w) h = let p = is_place ws w h in record { back = ap (λ v. Demanded.Wire v) p.there; below = p.below }
+
+  -- ---- its stops
+
+  placed_stop : listed.Stop → listed.Stop
+  placed_stop s = record s { wire = place_among ws s.wire }
+
+  record StopsBack (ss : List listed.Stop) : Type 0 where
+    pub back : map (renumber_stop (slice_index ws)) (map placed_stop ss) ≡ ss
+    pub below : All (λ s. s.wire < length ws) (map placed_stop ss)
+
+  one_stop : (s : StopLine) (o : Option ℕ) (ss : List listed.Stop) → is_local_wire ws o ≡ true → StopsBack ss → StopsBack (numbered_stop s o ++ ss)
+  unfolding placed_stop
+  one_stop s None ss h more = absurd cc
+  one_stop s (Some w) ss h more =
+      let p = is_place ws w h in
+      record {
+        back = ap₂ (λ v l. record { at = record { time = s.time; cell = s.cell }; wire = v } ∷ l) p.there more.back;
+        below = All-cons (λ (s : listed.Stop). s.wire < length ws) _ (map placed_stop ss) p.below more.below;
+      }
+
+  stops_back : (c : Circuit) (ss : List StopLine) → Each (λ s. is_local c ws s.wire ≡ true) ss → StopsBack (line_stops c ss)
+  unfolding Each
+  stops_back c [] h = record { back = refl; below = All-nil (λ (s : listed.Stop). s.wire < length ws) }
+  stops_back c (s ∷ ss) h = one_stop s (wire_of c s.wire) (line_stops c ss) h.0 (stops_back c ss h.1)
+
+each_at_place : {A : Type 0} (P : A → Type 0) (xs : List A) → ((k : ℕ) (x : A) → slice_get xs k ≡ Some x → P x) → Each P xs
+unfolding Each
+each_at_place P [] h = tt
+each_at_place P (x ∷ xs) h = (h 0 x refl, each_at_place P xs (λ k. h (suc k)))
+
+-- ---- the job
+
+module _ (lines : List Entry) (p : Pattern) (m : ModuleLines) (ordered : AreOrdered (netlist_of lines).given (netlist_of lines).gates)
+    (is : IsModule (setting_of lines p) m) (ports : HasPorts (setting_of lines p) m) where
+  abbrev c : Circuit
+  c = circuit_of lines
+
+  abbrev ws : List ℕ
+  ws = known c m
+
+  own_locals : (gates' : List Gate) × HasLocals c.netlist (cut_wires c m) (gates m) ordered is.local gates'
+  own_locals = has_locals c.netlist (cut_wires c m) (gates m) ordered is.local
+
+  abbrev net : LocalNet
+  net = record {
+    netlist = record { given = length (cut_wires c m); gates = own_locals.0 };
+    circuit_wires = ws;
+    circuit_gates = gates m;
+  }
+
+  sized : length ws ≡ wires net.netlist
+  sized = own_locals.1.are.sized
+
+  -- the cells of the box
+
+  abbrev starts : Cell → Signal
+  starts d = start_signal c p d.x d.y
+
+  abbrev demands : Cell → Demand
+  demands d = end_demand c p d.x d.y
+
+  start_by : (b : Bool) (o : Option (List ℕ)) → IfSome o (λ name. IsTrue (is_local c ws name)) → IsNumbered ws (if b then One else signal_of (named_wire c o))
+  unfolding numbered
+  start_by true o h = record { back = refl; below = tt }
+  start_by false None h = record { back = refl; below = tt }
+  start_by false (Some name) h = wire_numbered c ws (wire_of c name) h
+
+  start_numbered : (x y : ℤ) → in_box m.area x y ≡ true → IsNumbered ws (start_signal c p x y)
+  unfolding start_signal
+  start_numbered x y h = start_by (in_rectangles p.mirrors x y || in_cells p.balls x y) (port_at p.ins x y) ((cells_have_ports lines p m ports).0 x y h)
+
+  elsewhere : (o : Option (List ℕ)) (waste : Bool) → IfSome o (λ name. IsTrue (is_local c ws name)) → IsDemanded ws (demand_elsewhere c o waste)
+  unfolding demanded
+  elsewhere None true h = record { back = refl; below = tt }
+  elsewhere None false h = record { back = refl; below = tt }
+  elsewhere (Some name) waste h = demand_numbered ws (wire_of c name) h
+
+  end_by : (b : Bool) (o : Option (List ℕ)) (waste : Bool) → IfSome o (λ name. IsTrue (is_local c ws name)) → IsDemanded ws (if b then Demanded.Live else demand_elsewhere c o waste)
+  unfolding demanded
+  end_by true o waste h = record { back = refl; below = tt }
+  end_by false o waste h = elsewhere o waste h
+
+  demand_is_numbered : (x y : ℤ) → in_box m.area x y ≡ true → IsDemanded ws (end_demand c p x y)
+  unfolding end_demand
+  demand_is_numbered x y h = end_by (in_rectangles p.mirrors x y) (port_at p.outs x y) (in_cells p.wastes x y) ((cells_have_ports lines p m ports).1 x y h)
+
+  starts_back : CellsBack ws starts (box_cells m.area)
+  starts_back = cells_back ws starts (box_cells m.area) (each_at_place (λ d. IsNumbered ws (starts d)) (box_cells m.area)
+      (λ k d at. start_numbered d.x d.y (cells_inside m.area k d at)))
+
+  ends_back : DemandsBack ws demands (box_cells m.area)
+  ends_back = demands_back ws demands (box_cells m.area) (each_at_place (λ d. IsDemanded ws (demands d)) (box_cells m.area)
+      (λ k d at. demand_is_numbered d.x d.y (cells_inside m.area k d at)))
+
+  -- its lines
+
+  edges_back : IsBack c ws (line_signals c (edges m)).held (line_signals c (edges m)).events
+  edges_back = lines_back c ws (edges m) (each_of_all (IsNamed c ws) (edges m) (λ k d lt. (is.edge_lines k d lt).border.signal))
+
+  halos_back : IsBack c ws (line_signals c (halos m)).held (line_signals c (halos m)).events
+  halos_back = lines_back c ws (halos m) (each_of_all (IsNamed c ws) (halos m) (λ k d lt. (is.halo_lines k d lt).border.signal))
+
+  own_stops : StopsBack ws (line_stops c (stops m))
+  own_stops = stops_back ws c (stops m) (each_of_all (λ s. is_local c ws s.wire ≡ true) (stops m) (λ k d lt. (is.stop_lines k d lt).wire))
+
+  own_keeps : ArePlaces (gates m) (keeps m)
+  own_keeps = are_places (gates m) (keeps m) (λ k d lt. (is.keep_lines k d lt).among)
+
+  abbrev job : JobState
+  job = record {
+    area = m.area;
+    steps = p.size.steps;
+    locals = net;
+    starts = map (λ d. numbered ws (starts d)) (box_cells m.area);
+    demands = map (λ d. demanded ws (demands d)) (box_cells m.area);
+    edges = numbered_signals c ws (line_signals c (edges m));
+    halos = numbered_signals c ws (line_signals c (halos m));
+    stops = map (placed_stop ws) (line_stops c (stops m));
+    kept = places (gates m) (keeps m);
+  }
+
+  signals_below : {X : Type 0} (signal : X → Signal) (xs : List X) → Each (λ x. IsBelow (length ws) (signal x)) xs → All (λ x. IsBelow (wires net.netlist) (signal x)) xs
+  signals_below signal xs h = all_of_each _ xs (subst (λ n. Each (λ x. IsBelow n (signal x)) xs) sized h)
+
+  is_job_of : IsJobOf c p m job
+  unfolding numbered_signals places
+  is_job_of = record {
+    area = refl;
+    steps = refl;
+    locals = own_locals.1.are;
+    cut = is.named;
+    wires = refl;
+    used = refl;
+    start_count = same_count (renumber_signal (slice_index ws)) starts m.area job.starts starts_back.back;
+    demand_count = same_count (renumber_demand (slice_index ws)) demands m.area job.demands ends_back.back;
+    start = start_found c p m.area job refl (found_at (renumber_signal (slice_index ws)) starts m.area job.starts Zero starts_back.back);
+    demand = demand_found c p m.area job refl (found_at (renumber_demand (slice_index ws)) demands m.area job.demands Demanded.Dead ends_back.back);
+    edges = ap₂ (λ a b. record { held = a; events = b }) edges_back.held edges_back.events;
+    halos = ap₂ (λ a b. record { held = a; events = b }) halos_back.held halos_back.events;
+    stops = own_stops.back;
+    own = record {
+      starts = subst (λ n. All (IsBelow n) job.starts) sized starts_back.below;
+      demands = subst (λ n. All (IsDemandBelow n) job.demands) sized ends_back.below;
+      edge_held = signals_below _ _ edges_back.held_below;
+      edge_events = signals_below _ _ edges_back.events_below;
+      halo_held = signals_below _ _ halos_back.held_below;
+      halo_events = signals_below _ _ halos_back.events_below;
+      stops = subst (λ n. All (λ (s : listed.Stop). s.wire < n) job.stops) sized own_stops.below;
+    };
+    kept = own_keeps.there;
+    kept_are_used = subst (λ n. All (λ k. k < n) job.kept) (sym own_locals.1.count) own_keeps.below;
+  }
+
+-- a module has a job
+pub some_job : ModuleHasSomeJob
+some_job lines p m ordered is ports = (job lines p m ordered is ports, is_job_of lines p m ordered is ports)

@@ -1,0 +1,84 @@
+-- `modules`, `migrate` and `value` have an answer to each text
+use Rattle.std.proofs.Common.{◌≡◌, ◌⊎◌, ◌++◌, ◌∷◌, [], ℕ, List, Result, Ok, Err}
+use Rattle.std.proofs.Common.{refl, inl, inr, subst}
+use Rattle.std.specs.Prelude.{codes}
+use Rattle.std.specs.Fmt.{decimal}
+use Rattle.section_text.specs.Spelling.{line_text}
+use Rattle.section_text.specs.Words.{lines_of}
+use Rattle.section_text.specs.Section.{section_of}
+use Rattle.section_text.specs.declared.fault.Refusal.{Refusal}
+use Rattle.circuit.specs.Bridge.{netlist_of}
+use Rattle.circuit.specs.Entries.{defined}
+use Rattle.circuit.specs.Grammars.{circuit_grammar}
+use Rattle.circuit.specs.Meaning.{AreOrdered}
+use Rattle.circuit.specs.Text.{value_lines}
+use Rattle.circuit.specs.declared.entry.Entry.{Entry}
+use Rattle.circuit.proofs.Bridging.{gates_are_ordered}
+use Rattle.audit_core.proofs.SomeValues.{HasStop, HasValues, values_or_stop}
+use Rattle.report.specs.ReportText.{refusal_line}
+use Rattle.answers.specs.Answers.{Answered, with_value}
+use Rattle.answers.specs.BundleText.{bundle_of}
+use Rattle.answers.specs.MigrateText.{IsMigrationOf, SaysMigration}
+use Rattle.answers.specs.ModulesText.{IsModulesOf, SaysModules}
+use Rattle.answers.specs.ValueText.{IsValueOf, SaysValues, ValueAsked, inputs_asked, value_asked}
+use Rattle.answers.specs.declared.outcome.Outcome.{Outcome}
+use Rattle.answers.specs.declared.outcome.Outcome.TheVariants.{Yes, No, Refused}
+use Rattle.headline.specs.Laws.{HasAnAnswer}
+use Rattle.headline.proofs.YesIsRight.{circuit_good, went_on}
+
+-- some output and some way to end
+pub record SaysSomething {A : Type 0} (says : A → List ℕ → Outcome → Type 0) (asked : A) : Type 0 where
+  pub output : List ℕ
+  pub outcome : Outcome
+  pub is : says asked output outcome
+
+-- a command that answers all that is read answers each text
+pub answered_always : {A : Type 0} (says : A → List ℕ → Outcome → Type 0) (read : Result A Refusal)
+    → ((asked : A) → read ≡ Ok asked → SaysSomething says asked)
+    → (output : List ℕ) × (outcome : Outcome) × Answered says read output outcome
+answered_always says (Ok asked) each = let s = each asked refl in (s.output, s.outcome, s.is)
+answered_always says (Err refusal) each = (refusal_line refusal, Refused, (refl, refl))
+
+pub some_list : HasAnAnswer IsModulesOf
+some_list text = answered_always SaysModules (bundle_of text)
+    (λ bundle e. record { output = _; outcome = Yes; is = record { says = refl; ends = refl } })
+
+pub some_migration : HasAnAnswer IsMigrationOf
+some_migration text = answered_always SaysMigration (bundle_of text)
+    (λ bundle e. record { output = _; outcome = Yes; is = record { says = refl; ends = refl } })
+
+-- ---- the values of a circuit
+
+says_values : (asked : ValueAsked) (ordered : AreOrdered (netlist_of asked.0).given (netlist_of asked.0).gates)
+    → HasValues (netlist_of asked.0) (inputs_asked asked) ordered ⊎ HasStop (netlist_of asked.0) (inputs_asked asked) ordered
+    → SaysSomething SaysValues asked
+says_values asked ordered (inl v) = record {
+  output = value_lines (defined asked.0) v.0;
+  outcome = Yes;
+  is = record { ordered = ordered; says = inl (record { values = v.0; are = v.1; says = refl; ends = refl }) };
+}
+says_values asked ordered (inr s) = record {
+  output = value_lines (defined asked.0) s.1 ++ line_text (codes "undefined") (decimal s.0 ∷ []);
+  outcome = No;
+  is = record { ordered = ordered; says = inr (record { gate = s.0; values = s.1; stops = s.2; says = refl; ends = refl }) };
+}
+
+-- what is asked has the lines of a circuit that was read
+asked_first : (entries : List Entry) (read : Result (List (List ℕ)) Refusal) (asked : ValueAsked)
+    → with_value entries read ≡ Ok asked → entries ≡ asked.0
+asked_first entries (Ok on) asked e = cc
+asked_first entries (Err refusal) asked e = absurd cc
+
+asked_ordered : (text : List ℕ) (asked : ValueAsked) → value_asked text ≡ Ok asked
+    → AreOrdered (netlist_of asked.0).given (netlist_of asked.0).gates
+unfolding value_asked
+asked_ordered text asked e =
+    let c = went_on (section_of circuit_grammar 0 (lines_of text)) _ asked e in
+    let same : c.items ≡ asked.0 = asked_first c.items _ asked c.then in
+    subst (λ es. AreOrdered (netlist_of es).given (netlist_of es).gates) same
+    (gates_are_ordered c.items (circuit_good 0 (lines_of text) c.header c.items c.was))
+
+pub some_values : HasAnAnswer IsValueOf
+some_values text = answered_always SaysValues (value_asked text) (λ asked e.
+    let ordered = asked_ordered text asked e in
+    says_values asked ordered (values_or_stop (netlist_of asked.0) (inputs_asked asked) ordered))

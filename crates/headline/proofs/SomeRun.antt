@@ -1,0 +1,203 @@
+-- `run` has an answer to each text
+use Rattle.std.proofs.Common.{◌≡◌, ◌⊎◌, ◌≤◌, ◌<◌, ◌*◌, ◌^◌, ◌∷◌, ◌∙◌, [], ℕ, zero, suc, Bool, true, false, List}
+use Rattle.std.proofs.Common.{None, Result, Ok, Err, refl, sym, subst, length, cond, inl, inr, arith}
+use Rattle.std.specs.Prelude.{ℤ}
+use Rattle.std.specs.List.{filter, flat_map}
+use Rattle.std.proofs.Math.Nat.{mul-le-mul_right}
+use Rattle.std.proofs.lemmas.Bool.{cases_Bool, cases_lt, true≢false}
+use Rattle.section_text.specs.Words.{has, lines_of}
+use Rattle.section_text.specs.Section.{section_of}
+use Rattle.section_text.specs.declared.fault.Refusal.{Refusal}
+use Rattle.section_text.proofs.Good.{IsFaultless, read_faultless}
+use Rattle.bbm_rule.specs.Plane.{State, partner, run, step}
+use Rattle.bbm_rule.specs.declared.block.Cell.{Cell}
+use Rattle.bbm_rule.proofs.PlaneLemmas.{partner_twice}
+use Rattle.bbm_rule.proofs.Steps.{step_dead}
+use Rattle.pattern.specs.Grammars.{layout_grammar}
+use Rattle.pattern.specs.Layout.{Pattern, StaysInside, in_layout, parts_of, plane_at, start}
+use Rattle.pattern.specs.Lines.{size_fault}
+use Rattle.pattern.specs.Run.{GoesOutside, IsRunEnd, RunLeaves, live_cells}
+use Rattle.pattern.specs.declared.parts.Extent.{Extent}
+use Rattle.pattern.specs.declared.parts.Part.{Part}
+use Rattle.pattern.specs.declared.run.RunEnd.{RunEnd}
+use Rattle.pattern.specs.declared.run.RunEnd.TheVariants.{Cells, LeftAt}
+use Rattle.pattern.proofs.InsideLemmas.{begins_inside, size_sides, start_inside}
+use Rattle.module_box.specs.Boxes.{in_box}
+use Rattle.certificate_lines.specs.Rules.{box_cells, whole}
+use Rattle.certificate_lines.proofs.BoxPlaces.{box_length, box_place}
+use Rattle.certificate_lines.proofs.LineOrder.{In, flat_in}
+use Rattle.certificate_lines.proofs.InList.{placed}
+use Rattle.certificate.proofs.FullModules.{stands}
+use Rattle.audit_core.proofs.SomeLeast.{Decided, HasOne, both_decided, bools_decided, some_decided, true_decided}
+use Rattle.audit_core.proofs.SomeVerdict.{vec_of}
+use Rattle.answers.specs.Answers.{with_value}
+use Rattle.answers.specs.RunText.{IsRunOf, RunAsked, SaysRunEnd, end_outcome, end_text, run_asked}
+use Rattle.headline.specs.Laws.{HasAnAnswer}
+use Rattle.headline.proofs.SomeAnswer.{SaysSomething, answered_always}
+use Rattle.headline.proofs.SomeReport.{some_layout}
+use Rattle.headline.proofs.YesIsRight.{laid_out, went_on}
+
+-- ---- whether a step leaves the layout
+
+module _ (s : Extent) where
+  in_whole : (x y : ℤ) → in_layout s x y ≡ true → In (record { x = x; y = y }) (box_cells (whole s))
+  unfolding in_box
+  in_whole x y h = stands (box_cells (whole s)) _ (record { x = x; y = y }) (box_place (whole s) x y h)
+
+  module _ (t : ℕ) (state : State) (stays : StaysInside s state) where
+    -- the other cells of the block of a cell
+    abbrev block_cells : Cell → List Cell
+    block_cells d = record { x = partner t d.x; y = partner t d.y } ∷ record { x = partner t d.x; y = d.y } ∷ record { x = d.x; y = partner t d.y } ∷ []
+
+    -- all cells outside that may become live
+    abbrev near_cells : List Cell
+    near_cells = flat_map block_cells (box_cells (whole s))
+
+    abbrev IsOut : Cell → Type 0
+    IsOut d = (step t state d.x d.y ≡ true) × (in_layout s d.x d.y ≡ false)
+
+    out_decided : (d : Cell) → Decided (IsOut d)
+    out_decided d = both_decided (true_decided (step t state d.x d.y)) (λ _. bools_decided (in_layout s d.x d.y) false)
+
+    by_opposite : (x y : ℤ) → state (partner t x) (partner t y) ≡ true → In (record { x = x; y = y }) near_cells
+    unfolding In
+    by_opposite x y live =
+        flat_in block_cells (record { x = x; y = y }) (box_cells (whole s)) (record { x = partner t x; y = partner t y }) (in_whole _ _ (stays _ _ live))
+        (inl (λ i. record { x = partner_twice t x i; y = partner_twice t y i }))
+
+    by_column : (x y : ℤ) → state (partner t x) y ≡ true → In (record { x = x; y = y }) near_cells
+    unfolding In
+    by_column x y live =
+        flat_in block_cells (record { x = x; y = y }) (box_cells (whole s)) (record { x = partner t x; y = y }) (in_whole _ _ (stays _ _ live))
+        (inr (inl (λ i. record { x = partner_twice t x i; y = y })))
+
+    by_row : (x y : ℤ) → state x (partner t y) ≡ true → In (record { x = x; y = y }) near_cells
+    unfolding In
+    by_row x y live =
+        flat_in block_cells (record { x = x; y = y }) (box_cells (whole s)) (record { x = x; y = partner t y }) (in_whole _ _ (stays _ _ live))
+        (inr (inr (inl (λ i. record { x = x; y = partner_twice t y i }))))
+
+    own_dead : (x y : ℤ) → in_layout s x y ≡ false → (b : Bool) → state x y ≡ b → state x y ≡ false
+    own_dead x y out true e = absurd (true≢false (sym (stays x y e) ∙ out))
+    own_dead x y out false e = e
+
+    near : (x y : ℤ) → step t state x y ≡ true → in_layout s x y ≡ false → In (record { x = x; y = y }) near_cells
+    near x y live out = elim (cases_Bool (state (partner t x) (partner t y))) [
+      | inl a ↦ by_opposite x y a
+      | inr a ↦ elim (cases_Bool (state (partner t x) y)) [
+        | inl b ↦ by_column x y b
+        | inr b ↦ elim (cases_Bool (state x (partner t y))) [
+          | inl c ↦ by_row x y c
+          | inr c ↦ absurd (true≢false (sym live ∙ step_dead t state x y (own_dead x y out (state x y) refl) a b c))
+        ]
+      ]
+    ]
+
+    none_out : ¬ HasOne IsOut near_cells → StaysInside s (step t state)
+    none_out none x y live = elim (cases_Bool (in_layout s x y)) [
+      | inl inside ↦ inside
+      | inr out ↦
+          let at = placed (record { x = x; y = y }) near_cells (near x y live out) in
+          absurd (none (record { number = at.0; one = record { x = x; y = y }; at = at.1; holds = (live, out) }))
+    ]
+
+    step_decided : StaysInside s (step t state) ⊎ GoesOutside s (step t state)
+    step_decided = elim (some_decided IsOut out_decided near_cells) [
+      | inl h ↦ inr (record { x = h.one.x; y = h.one.y; lives = h.holds.0; outside = h.holds.1 })
+      | inr none ↦ inl (none_out none)
+    ]
+
+  -- ---- the whole run
+
+  abbrev StaysUpTo : State → ℕ → Type 0
+  StaysUpTo first n = (k : ℕ) → k ≤ n → StaysInside s (run first k)
+
+  abbrev Leaves : State → Type 0
+  Leaves first = (k : ℕ) × RunLeaves s first k
+
+  run_to : (first : State) → StaysInside s first → (n : ℕ) → n ≤ s.steps → StaysUpTo first n ⊎ Leaves first
+  unfolding run
+  run_to first inside zero le = inl (λ k low. let e : zero ≡ k = omega (arith, low) in subst (λ k. StaysInside s (run first k)) e inside)
+  run_to first inside (suc n) le = next (run_to first inside n (omega (arith, le)))
+    where
+      last : StaysUpTo first n → StaysInside s (run first (suc n)) → StaysUpTo first (suc n)
+      last stays now k low = elim (cases_lt k (suc n)) [
+        | inl lt ↦ stays k (omega (arith, lt))
+        | inr ge ↦ let e : suc n ≡ k = omega (arith, low, ge) in subst (λ k. StaysInside s (run first k)) e now
+      ]
+
+      next : StaysUpTo first n ⊎ Leaves first → StaysUpTo first (suc n) ⊎ Leaves first
+      next (inr left) = inr left
+      next (inl stays) = elim (step_decided n (run first n) (stays n (omega arith))) [
+        | inl now ↦ inl (last stays now)
+        | inr out ↦ inr (suc n, record { within = le; stays = λ j lt. stays j (omega (arith, lt)); leaves = out })
+      ]
+
+-- ---- how it ends
+
+filter_few : {A : Type 0} (test : A → Bool) (xs : List A) → length (filter test xs) ≤ length xs
+filter_few test [] = omega arith
+filter_few test (x ∷ xs) = one (test x) (filter_few test xs)
+  where
+    one : (b : Bool) → length (filter test xs) ≤ length xs → length (cond b (x ∷ filter test xs) (filter test xs)) ≤ suc (length xs)
+    one true h = omega (arith, h)
+    one false h = omega (arith, h)
+
+few_cells : (s : Extent) (state : State) → size_fault s ≡ None → length (live_cells s state) < 2 ^ 63
+unfolding live_cells
+few_cells s state limits =
+    let sides = size_sides s limits in
+    let wide = sides.0.most in
+    let high = sides.1.most in
+    let area : s.w * s.h ≤ 512 * s.h = mul-le-mul_right s.h wide in
+    let all = filter_few (λ (c : Cell). state c.x c.y) (box_cells (whole s)) in
+    let count = box_length (whole s) in
+    omega (arith, all, count, area, high)
+
+some_end : (p : Pattern) (on : List ℕ → Bool) → size_fault p.size ≡ None → StaysInside p.size (start p on) → (end : RunEnd) × IsRunEnd p on end
+some_end p on limits inside = elim (run_to p.size (start p on) inside p.size.steps (omega arith)) [
+  | inl stays ↦
+      let v = vec_of (live_cells p.size (plane_at p on p.size.steps)) (few_cells p.size (plane_at p on p.size.steps) limits) in
+      (Cells v.vec, record { stays = stays; cells = v.items })
+  | inr left ↦ (LeftAt left.0, left.1)
+]
+
+-- ---- the answer
+
+-- what is asked has the lines of a layout that was read
+record IsAskedLayout (asked : RunAsked) : Type 0 where
+  pub size : Extent
+  pub parts : List Part
+  pub good : IsFaultless (layout_grammar None) size parts
+  pub same : (size, parts) ≡ asked.0
+
+asked_first : (lines : Extent × List Part) (read : Result (List (List ℕ)) Refusal) (asked : RunAsked) → with_value lines read ≡ Ok asked → lines ≡ asked.0
+asked_first lines (Ok on) asked e = cc
+asked_first lines (Err refusal) asked e = absurd cc
+
+asked_layout : (text : List ℕ) (asked : RunAsked) → run_asked text ≡ Ok asked → IsAskedLayout asked
+unfolding run_asked
+asked_layout text asked e =
+    let l = went_on (section_of (layout_grammar None) 0 (lines_of text)) _ asked e in
+    record {
+      size = l.header;
+      parts = l.items;
+      good = read_faultless (layout_grammar None) 0 (lines_of text) l.header l.items l.was;
+      same = asked_first (l.header, l.items) _ asked l.then;
+    }
+
+says_end : (asked : RunAsked) → IsAskedLayout asked → SaysSomething SaysRunEnd asked
+says_end asked a =
+    let p = some_layout None a.size a.parts a.good in
+    let whole : IsFaultless (layout_grammar None) p.0.size (parts_of p.0) =
+    subst (λ (q : Extent × List Part). IsFaultless (layout_grammar None) q.0 q.1) (sym p.1) a.good in
+    let begins = begins_inside p.0 (laid_out None p.0.size [] (parts_of p.0) whole.each) in
+    let end = some_end p.0 (has asked.1) whole.header (start_inside p.0 (has asked.1) begins) in
+    record {
+      output = end_text end.0;
+      outcome = end_outcome end.0;
+      is = record { layout = p.0; end = end.0; lines = p.1 ∙ a.same; run = end.1; says = refl; ends = refl };
+    }
+
+pub some_run : HasAnAnswer IsRunOf
+some_run text = answered_always SaysRunEnd (run_asked text) (λ asked e. says_end asked (asked_layout text asked e))
