@@ -50,6 +50,7 @@ def check_file(program: str, file: str, timeout: float | None) -> Result:
     started = time.monotonic()
 
     def result(word: str, detail: str = "", modules: int = 0, output: str = "") -> Result:
+        """Returns the result of a file."""
         return Result(file, word, detail, round(time.monotonic() - started, 3), modules, output)
 
     try:

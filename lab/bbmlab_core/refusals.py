@@ -43,6 +43,7 @@ TELLERS: dict[str, Teller] = {}
 def tells(cause: str) -> Callable[[Teller], Teller]:
     """Registers the function that explains a cause."""
     def register(teller: Teller) -> Teller:
+        """Notes the function as the one that explains these causes."""
         TELLERS[cause] = teller
         return teller
     return register
@@ -74,6 +75,7 @@ def box_words(box: Any) -> str:
 
 @tells("text_ended")
 def _text_ended(facts: Facts) -> Explained:
+    """Explains a text that ends before its last section does."""
     section = facts["section"]
     return Explained([f"The text ends before the {section} section is complete: no line is left."],
                      [f"Write the {section} section up to its line `end`. The file may have been cut off."])
@@ -81,12 +83,14 @@ def _text_ended(facts: Facts) -> Explained:
 
 @tells("line_not_ended")
 def _line_not_ended(facts: Facts) -> Explained:
+    """Explains a last line without a line feed."""
     return Explained([f"The last line, `{facts['rest'][:60]}`, does not end with a line feed."],
                      ["Add a line feed at the end of the file. `bbmlab fmt` does."])
 
 
 @tells("text_goes_on")
 def _text_goes_on(facts: Facts) -> Explained:
+    """Explains lines after the last section."""
     rest = facts["rest"]
     shown = f"`{rest[:60]}`" if rest else "an empty line"
     return Explained([f"The text goes on after the {facts['section']} section, which is the last: {shown}."],
@@ -97,6 +101,7 @@ def _text_goes_on(facts: Facts) -> Explained:
 
 @tells("first_not_header")
 def _first_not_header(facts: Facts) -> Explained:
+    """Explains a section that does not begin with its header."""
     header = {"layout": "layout W H STEPS", "certificate": "certificate 2"}.get(facts["section"], facts["section"])
     return Explained([f"The {facts['section']} section begins here with a line `{facts['keyword']}` and not with its header."],
                      [f"Write the header `{header}` first."])
@@ -104,12 +109,14 @@ def _first_not_header(facts: Facts) -> Explained:
 
 @tells("second_header")
 def _second_header(facts: Facts) -> Explained:
+    """Explains a second header in a section."""
     return Explained([f"The {facts['section']} section has a second header; the first is line {facts['first']}."],
                      ["Remove this header, or write `end` before it."], lines=[facts["first"]])
 
 
 @tells("kind_after_later_kind")
 def _kind_after_later_kind(facts: Facts) -> Explained:
+    """Explains a kind of line that comes too late in its section or module."""
     kind, other = ("gate" if facts[name] == "gate" else f"`{facts[name]}`" for name in ("kind", "later"))
     return Explained([f"This {kind} line comes after the {other} line {facts['at']}; it belongs before all {other} lines."],
                      ["Move the line up. `bbmlab fmt` sorts the kinds."], lines=[facts["at"]])
@@ -117,12 +124,14 @@ def _kind_after_later_kind(facts: Facts) -> Explained:
 
 @tells("before_first_module")
 def _before_first_module(facts: Facts) -> Explained:
+    """Explains a line before the first `module` line."""
     return Explained([f"This `{facts['kind']}` line comes before the first `module` line, so it belongs to no module."],
                      ["Write a line `module X Y W H` before it."])
 
 
 @tells("gate_not_rising")
 def _gate_not_rising(facts: Facts) -> Explained:
+    """Explains a `use` or `keep` line whose gate number does not rise."""
     kind, number, last = facts["kind"], facts["number"], facts["last"]
     how = "the same number as" if number == last else "a lower number than"
     return Explained([f"`{kind} {number}` has {how} `{kind} {last}` on line {facts['at']}; the gate numbers of a module rise."],
@@ -131,6 +140,7 @@ def _gate_not_rising(facts: Facts) -> Explained:
 
 @tells("border_not_rising")
 def _border_not_rising(facts: Facts) -> Explained:
+    """Explains an `edge`, `halo` or `stop` line that is out of order."""
     new, last = facts["new"], facts["last"]
     if new.place == last.place:
         what, cure = "names the same time and cell as", "Keep one of the two lines."
@@ -146,6 +156,7 @@ def _border_not_rising(facts: Facts) -> Explained:
 
 @tells("wire_not_consumed")
 def _wire_not_consumed(facts: Facts) -> Explained:
+    """Explains wires that nothing consumes at the end of a circuit."""
     names = facts["names"]
     lines = [facts["defined"][name] for name in names]
     where = ", ".join(f"`{name}` (line {line})" for name, line in list(zip(names, lines))[:8])
@@ -156,6 +167,7 @@ def _wire_not_consumed(facts: Facts) -> Explained:
 
 @tells("port_without_cell")
 def _port_without_cell(facts: Facts) -> Explained:
+    """Explains inputs or outputs without a cell at the end of a layout."""
     what, cures = [], []
     for kind, side in (("in", "inputs"), ("out", "outputs")):
         names = facts[side]
@@ -167,6 +179,7 @@ def _port_without_cell(facts: Facts) -> Explained:
 
 @tells("port_not_local")
 def _port_not_local(facts: Facts) -> Explained:
+    """Explains a port in a box whose wire the module does not know."""
     what = [f"Module {facts['module']} (line {facts['at']}) has the cell of `{port.kind} {port.name} {port.x} {port.y}` (line {port.line}) "
             f"in its box, and does not know the wire `{port.name}`." for port in facts["ports"][:8]]
     cures = [make_local(port.name, facts["makers"][port.name]) for port in facts["ports"][:8]]
@@ -186,6 +199,7 @@ def make_local(name: str, gate: Any) -> str:
 
 @tells("no_module")
 def _no_module(facts: Facts) -> Explained:
+    """Explains a certificate without modules."""
     width, height = facts["size"]
     return Explained(["The certificate has no module."],
                      [f"Add modules that cover the rectangle of {width} by {height} cells, such as `module 0 0 {min(width, 64)} {min(height, 64)}`."])
@@ -193,6 +207,7 @@ def _no_module(facts: Facts) -> Explained:
 
 @tells("gap")
 def _gap(facts: Facts) -> Explained:
+    """Explains cells that are in no box."""
     gaps = facts["gaps"]
     shown = "; ".join(box_words(gap) for gap in gaps[:4]) + (f"; and {len(gaps) - 4} more" if len(gaps) > 4 else "")
     return Explained([f"The boxes of the {facts['modules']} modules leave a gap: {shown} are in no box."],
@@ -202,6 +217,7 @@ def _gap(facts: Facts) -> Explained:
 
 @tells("heard_not_local")
 def _heard_not_local(facts: Facts) -> Explained:
+    """Explains an edge line beside a module that does not know its wire."""
     missing = facts["missing"]
     what = [f"Module {module} does not know the wire `{line.signal}`: line {line.line} (`{line}`, of module {other}) speaks of a cell "
             f"beside its box." for module, line, other in missing[:4]]
@@ -220,6 +236,7 @@ def limit(what: str, cure: str) -> Explained:
 
 @tells("layout_side")
 def _layout_side(facts: Facts) -> Explained:
+    """Explains a side of a layout that is odd or outside its limits."""
     number = facts["number"]
     why = "outside 2 to 512" if not 2 <= number <= 512 else "odd"
     return limit(f"The {facts['what']} of the layout is {number}, which is {why}.",
@@ -228,37 +245,44 @@ def _layout_side(facts: Facts) -> Explained:
 
 @tells("layout_steps")
 def _layout_steps(facts: Facts) -> Explained:
+    """Explains too many steps."""
     return limit(f"The layout runs {facts['number']} steps; 65536 is the most.", "Take fewer steps.")
 
 
 @tells("mirror_side")
 def _mirror_side(facts: Facts) -> Explained:
+    """Explains a side of a mirror outside its limits."""
     return limit(f"The {facts['what']} of the mirror is {facts['number']}; it is 1 to 512.",
                  "A `mirror` line is `mirror X Y W H`: the cell, then width and height.")
 
 
 @tells("delay_limit")
 def _delay_limit(facts: Facts) -> Explained:
+    """Explains the number of a delay outside its limits."""
     return limit(f"The delay has {facts['number']} steps; it has 1 to 4096.", "Take a number from 1 to 4096, or several delays in a row.")
 
 
 @tells("wire_count")
 def _wire_count(_facts: Facts) -> Explained:
+    """Explains the line that makes too many wires."""
     return limit("With this line the circuit has more than 4096 wires.", "Split the design into smaller circuits.")
 
 
 @tells("gate_count")
 def _gate_count(_facts: Facts) -> Explained:
+    """Explains the line that makes too many gates."""
     return limit("With this line the circuit has more than 1024 gates, sources among them.", "Split the design into smaller circuits.")
 
 
 @tells("certificate_version")
 def _certificate_version(facts: Facts) -> Explained:
+    """Explains an unknown version."""
     return limit(f"There is no certificate version {facts['number']}.", "Write `certificate 2`, or `certificate 1` with `halo` lines.")
 
 
 @tells("box_side")
 def _box_side(facts: Facts) -> Explained:
+    """Explains a side of a box that is odd or outside its limits."""
     number = facts["number"]
     why = "outside 2 to 64" if not 2 <= number <= 64 else "odd"
     return limit(f"The {facts['what']} of the box is {number}, which is {why}.", f"Take an even {facts['what']} from 2 to 64.")
@@ -266,22 +290,26 @@ def _box_side(facts: Facts) -> Explained:
 
 @tells("module_count")
 def _module_count(_facts: Facts) -> Explained:
+    """Explains one module too many."""
     return limit("This is module 1024 from 0; a certificate has at most 1024 modules.", "Take larger boxes.")
 
 
 @tells("cut_count")
 def _cut_count(facts: Facts) -> Explained:
+    """Explains one `cut` line too many."""
     return limit(f"Module {facts['module']} has 12 `cut` lines already; `{facts['name']}` would be the thirteenth.",
                  "Use gates in place of cutting their outputs, or take a smaller box.")
 
 
 @tells("use_count")
 def _use_count(facts: Facts) -> Explained:
+    """Explains one `use` line too many."""
     return limit(f"Module {facts['module']} has 64 `use` lines already.", "Cut a wire in place of using the gates before it, or take a smaller box.")
 
 
 @tells("border_count")
 def _border_count(facts: Facts) -> Explained:
+    """Explains one edge, halo or stop line too many."""
     return limit(f"Module {facts['module']} has 65536 `edge`, `halo` and `stop` lines already.", "Take a smaller box, or a border that fewer balls cross.")
 
 
@@ -289,6 +317,7 @@ def _border_count(facts: Facts) -> Explained:
 
 @tells("wire_not_defined")
 def _wire_not_defined(facts: Facts) -> Explained:
+    """Explains a wire that no line before defines."""
     name = facts["name"]
     return Explained([f"The wire `{name}` is not defined before this line.{near(name, facts['known'])}"],
                      [f"Define `{name}` first, by an `input` or behind the arrow of an earlier gate. A circuit has no loops."], names=[name])
@@ -296,6 +325,7 @@ def _wire_not_defined(facts: Facts) -> Explained:
 
 @tells("wire_unknown")
 def _wire_unknown(facts: Facts) -> Explained:
+    """Explains a name in a certificate that is no wire."""
     name = facts["name"]
     return Explained([f"The circuit has no wire `{name}`.{near(name, facts['known'])}"],
                      ["Write the name as the circuit has it."], names=[name])
@@ -303,6 +333,7 @@ def _wire_unknown(facts: Facts) -> Explained:
 
 @tells("gate_unknown")
 def _gate_unknown(facts: Facts) -> Explained:
+    """Explains a number that no gate has."""
     count = facts["count"]
     has = f"gates 0 to {count - 1}" if count > 1 else "gate 0 alone" if count else "no gate"
     return Explained([f"There is no gate {facts['number']}: the circuit has {has}."],
@@ -311,6 +342,7 @@ def _gate_unknown(facts: Facts) -> Explained:
 
 @tells("keep_not_inverse")
 def _keep_not_inverse(facts: Facts) -> Explained:
+    """Explains a `keep` line for a gate that is no inverse gate."""
     gate, inverse = facts["gate"], facts["inverse"]
     has = f"Its inverse gates are {', '.join(map(str, inverse))}." if inverse else "The circuit has no inverse gate."
     return Explained([f"Gate {facts['number']} is `{gate.word}` (line {gate.line}), which is no inverse gate. {has}"],
@@ -319,6 +351,7 @@ def _keep_not_inverse(facts: Facts) -> Explained:
 
 @tells("port_unknown")
 def _port_unknown(facts: Facts) -> Explained:
+    """Explains a port whose name is no input or output of the circuit."""
     kind, name = facts["kind"], facts["name"]
     side = "input" if kind == "in" else "output"
     extra = f" It is a wire, and no {side}." if facts["is_wire"] else near(name, facts["known"])
@@ -328,6 +361,7 @@ def _port_unknown(facts: Facts) -> Explained:
 
 @tells("on_unknown")
 def _on_unknown(facts: Facts) -> Explained:
+    """Explains an `on` line whose name is no input."""
     name, known = facts["name"], facts["known"]
     what = "no `in` line of the layout has that name" if facts["command"] == "run" else "the circuit has no such input"
     return Explained([f"`{name}` can't be turned on: {what}.{near(name, known)}"],
@@ -336,30 +370,35 @@ def _on_unknown(facts: Facts) -> Explained:
 
 @tells("on_twice")
 def _on_twice(facts: Facts) -> Explained:
+    """Explains an `on` line whose name is on already."""
     return Explained([f"`{facts['name']}` is on already (line {facts['at']})."], ["Remove one of the two lines."],
                      names=[facts["name"]], lines=[facts["at"]])
 
 
 @tells("wire_defined")
 def _wire_defined(facts: Facts) -> Explained:
+    """Explains a wire that is defined already."""
     return Explained([f"The wire `{facts['name']}` is defined already ({earlier(facts)})."], ["Give one of the two another name."],
                      names=[facts["name"]], lines=[facts["at"]])
 
 
 @tells("wire_consumed")
 def _wire_consumed(facts: Facts) -> Explained:
+    """Explains a wire that is consumed already."""
     return Explained([f"The wire `{facts['name']}` is consumed already ({earlier(facts)}): no wire branches."],
                      ["Use another wire, or copy the value by a gate, such as a `switch` with a source."], names=[facts["name"]], lines=[facts["at"]])
 
 
 @tells("cut_twice")
 def _cut_twice(facts: Facts) -> Explained:
+    """Explains a wire that is cut already."""
     return Explained([f"Module {facts['module']} cuts `{facts['name']}` already (line {facts['at']})."], ["Remove one of the two lines."],
                      names=[facts["name"]], lines=[facts["at"]])
 
 
 @tells("use_output_local")
 def _use_output_local(facts: Facts) -> Explained:
+    """Explains a gate whose output is local already."""
     gate, names = facts["gate"], facts["names"]
     return Explained([f"Gate {gate.number} (`{gate.word}`, line {gate.line}) makes {listed(names)}, which module {facts['module']} "
                       f"cuts already (line {facts['at'][0]})."],
@@ -370,6 +409,7 @@ def _use_output_local(facts: Facts) -> Explained:
 
 @tells("cell_outside")
 def _cell_outside(facts: Facts) -> Explained:
+    """Explains a cell outside the rectangle."""
     x, y, width, height = facts["box"]
     size = f"{facts['size'][0]} by {facts['size'][1]}"
     shown = f"({x}, {y})" if width == height == 1 else f"({x}, {y}) to ({x + width - 1}, {y + height - 1})"
@@ -380,6 +420,7 @@ def _cell_outside(facts: Facts) -> Explained:
 
 @tells("cell_taken")
 def _cell_taken(facts: Facts) -> Explained:
+    """Explains a cell that is taken already."""
     x, y = facts["cell"]
     other = f"`{facts['other']} {facts['other_name']}`" if facts["other_name"] else f"a `{facts['other']}`"
     return Explained([f"The cell ({x}, {y}) is taken by {other} already (line {facts['at']})."],
@@ -388,6 +429,7 @@ def _cell_taken(facts: Facts) -> Explained:
 
 @tells("box_odd")
 def _box_odd(facts: Facts) -> Explained:
+    """Explains a box with an odd corner."""
     box = facts["box"]
     odd = " and ".join(f"{name} {value}" for name, value in (("x", box.x), ("y", box.y)) if value % 2)
     return Explained([f"The corner of the box is odd: {odd}."], ["Move the box so that X and Y are even."])
@@ -395,12 +437,14 @@ def _box_odd(facts: Facts) -> Explained:
 
 @tells("box_outside")
 def _box_outside(facts: Facts) -> Explained:
+    """Explains a box outside the rectangle."""
     return Explained([f"The box ({box_words(facts['box'])}) is not inside the rectangle of {facts['size'][0]} by {facts['size'][1]} cells."],
                      ["Make the box smaller, or move it."])
 
 
 @tells("box_overlap")
 def _box_overlap(facts: Facts) -> Explained:
+    """Explains a box over an earlier one."""
     x, y = facts["cell"]
     return Explained([f"The box ({box_words(facts['box'])}) overlaps that of module {facts['other']} ({box_words(facts['other_box'])}, "
                       f"line {facts['at']}): the cell ({x}, {y}) is in both."],
@@ -411,6 +455,7 @@ def _box_overlap(facts: Facts) -> Explained:
 
 @tells("use_input_not_local")
 def _use_input_not_local(facts: Facts) -> Explained:
+    """Explains a gate whose input is not local."""
     gate, names = facts["gate"], facts["names"]
     is_are = "are" if len(names) > 1 else "is"
     return Explained([f"Gate {gate.number} (`{gate.word}`, line {gate.line}) uses {listed(names)}, which {is_are} not local in module "
@@ -420,6 +465,7 @@ def _use_input_not_local(facts: Facts) -> Explained:
 
 @tells("wire_not_local")
 def _wire_not_local(facts: Facts) -> Explained:
+    """Explains a wire of a line that is not local."""
     name = facts["name"]
     local = f"Local there: {listed(facts['local'])}." if facts["local"] else "No wire is local there."
     return Explained([f"The wire `{name}` is not local in module {facts['module']}. {local}"], [make_local(name, facts["gate"])], names=[name])
@@ -427,6 +473,7 @@ def _wire_not_local(facts: Facts) -> Explained:
 
 @tells("keep_not_used")
 def _keep_not_used(facts: Facts) -> Explained:
+    """Explains a `keep` line for a gate that the module does not use."""
     gate = facts["gate"]
     return Explained([f"Module {facts['module']} keeps gate {gate.number} (`{gate.word}`, line {gate.line}) and does not use it."],
                      [f"Add `use {gate.number}` before it, with the wires {listed(gate.ins)} local."], names=[str(gate.number)], lines=[gate.line])
@@ -464,6 +511,7 @@ def place_words(fault: str, facts: Facts) -> tuple[str, str]:
 
 @tells("border_place")
 def _border_place(facts: Facts) -> Explained:
+    """Explains a time or a cell at which no line may be."""
     told = [place_words(fault, facts) for fault in facts["faults"]]
     star = [facts["star"]] if facts["star"] else []
     return Explained([what for what, _ in told], [cure for _, cure in told], lines=star)

@@ -56,6 +56,7 @@ def line_key(words: Words) -> tuple[int, ...]:
 def by_kind(lines: list[Words], order: list[str]) -> list[Words]:
     """Sorts lines by their kinds, and within a kind by its order. Unknown kinds come last."""
     def rank(words: Words) -> int:
+        """Returns the place of a line among the lines of its section or module."""
         kind = "gate" if words[0] in GATE_SIZES and "gate" in order else words[0]
         return order.index(kind) if kind in order else len(order)
 
