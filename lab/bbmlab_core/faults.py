@@ -223,10 +223,10 @@ def add_line_cure(diagnosis: Diagnosis, finding: Finding, cell: Cell, entry: Ent
 def mirror_note(diagnosis: Diagnosis, cell: Cell) -> list[str]:
     """Returns a note where the cell is of a mirror that need not stay as it is."""
     part = diagnosis.layout.part_at(cell, ("mirror",))
-    if part is None or not (part.width % 2 or part.height % 2 or part.x % 2 or part.y % 2 == 0):
+    if part is None or not (part.width % 2 or part.height % 2 or part.x % 2 == part.y % 2):
         return []
     return [f"The cell is of the mirror of line {part.line} (`{diagnosis.document.line(part.line)}`). A mirror is sure to stay if its width and "
-            "height are even, X is even and Y is odd; this one is not of that form."]
+            "height are even, and exactly one of X and Y is odd; this one is not of that form."]
 
 
 def add_stop_cure(diagnosis: Diagnosis, cell: Cell, time: int, signal: str | None, entry: Entry) -> None:
