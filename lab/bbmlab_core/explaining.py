@@ -78,10 +78,8 @@ def explain_meet(diagnosis: Diagnosis, finding: Finding) -> Entry:
     if not finding.is_against:
         entry.what.append(f"So they meet at time {finding.values['found']}.")
         return entry
-    late = max(seen, key=lambda pair: pair[1].time)
     entry.what.append("So they do not meet at one time.")
-    entry.cures += [f"Add one more stop of `{wire}` at time {late[1].time}, where the balls of the gate meet; or leave only one input with stops."
-                    for wire, stop in seen if stop.time < late[1].time]
+    entry.cures.append("Give each of these inputs its last stop at the time at which the balls of the gate meet; or leave only one input with stops.")
     return entry
 
 
@@ -115,20 +113,28 @@ def explain_report(document: Document, report: Report, file: str) -> Explanation
         headline = [f"The verdict is no, for {count} reason{'s' if count != 1 else ''}."]
         if len(faults) > 1:
             headline.append(f"Begin with `{faults[0].text}`, which has the least time: others may come of it.")
-        headline += whole_run_words(diagnosis, any(finding.word in ("local", "border") for finding in report.faults))
+        headline += whole_run_words(diagnosis, report.faults)
     headline.append(f"The certificate has {report.modules} module{'s' if report.modules != 1 else ''}; its digest is {report.digest[:16]}..")
     return Explanation(file, "check", headline, report.verdict, entries)
 
 
-def whole_run_words(diagnosis: Diagnosis, has_fault: bool) -> list[str]:
+def is_on_rim(diagnosis: Diagnosis, finding: Finding) -> bool:
+    """Whether a finding is an edge fault at a cell of the rim."""
+    return finding.word == "local" and finding.values["kind"] == "edge" and diagnosis.layout.is_rim((finding.number("x"), finding.number("y")))
+
+
+def whole_run_words(diagnosis: Diagnosis, faults: list[Finding]) -> list[str]:
     """Returns whether the whole run ends as the layout asks, under all inputs, where that can be tried."""
     if not diagnosis.can_run_whole():
         return ["The whole run was not tried here: too many inputs or steps."]
     fault = diagnosis.whole_fault
     if fault:
         return [f"The layout itself does not do what the circuit asks: {fault}. No certificate mends that: mend the layout, or the circuit, first."]
-    so = ", so the certificate is to be mended" if has_fault else ""
-    return [f"The whole run was tried here under all inputs: it ends as the layout asks{so}."]
+    tried = "The whole run was tried here under all inputs: it ends as the layout asks"
+    if any(is_on_rim(diagnosis, finding) for finding in faults):
+        return [f"{tried}, but a cell of its rim may be live at an odd time. No certificate mends that: make the layout larger."]
+    is_certificate = any(finding.word in ("local", "border") for finding in faults)
+    return [f"{tried}, so mend the certificate." if is_certificate else f"{tried}."]
 
 
 def explain_refused(document: Document, line: int, code: int, file: str) -> Explanation:
