@@ -102,7 +102,7 @@ pub runs_step : (g : List ℕ) (n before r r' : ℕ) → r ≤ before + firsts g
 runs_step g n before r r' so_far none one =
     let e : suc n ≡ n + 1 = omega arith in
     subst (λ k. r' ≤ before + firsts g k) e
-        (step_by (slice_index g n == n) (slice_index g n) n before r r' (firsts g n) refl so_far none one)
+    (step_by (slice_index g n == n) (slice_index g n) n before r r' (firsts g n) refl so_far none one)
 
 -- after some numbers, which are no more than there are jobs
 pub runs_end : {shapes : List ShapeState} (g : List ℕ) (n before r : ℕ) → AreGroups shapes g → n ≤ length shapes →

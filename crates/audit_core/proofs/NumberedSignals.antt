@@ -34,8 +34,11 @@ place_step : (v w : ℕ) (ws : List ℕ) (b : Bool) → (v == w) ≡ b → (b ||
     (is_among ws w ≡ true → IsPlace ws w (place_among ws w))
     → IsPlace (v ∷ ws) w (if b then 0 else suc (place_among ws w))
 place_step v w ws true same e more = record { below = omega arith; there = same_number v w same }
-place_step v w ws false other e more = let p = more e in record { below = let b = p.below in omega
-    (arith, b); there = p.there }
+place_step v w ws false other e more = let p = more e in record {
+  below = let b = p.below in omega
+      (arith, b);
+  there = p.there;
+}
 
 pub is_place : (ws : List ℕ) (w : ℕ) → is_among ws w ≡ true → IsPlace ws w (place_among ws w)
 unfolding place_among

@@ -85,7 +85,7 @@ module _ (j : JobState) (u : Valuation) (t : ℕ) (x y : ℤ) where
       both_decided (numbers_decided s.at.time t) (λ _.
       both_decided (integers_decided s.at.cell.x x) (λ _.
       both_decided (integers_decided s.at.cell.y y)
-          (λ _. not_decided (bools_decided (local_run j u t x y) (u s.wire)))))
+      (λ _. not_decided (bools_decided (local_run j u t x y) (u s.wire)))))
 
   under_decided : (kind : Kind) → Decided (IsFaultUnder j u t kind x y)
   under_decided Edge = decided_by
@@ -163,12 +163,12 @@ module _ (j : JobState) (is : IsJob j) (ordered : AreOrdered j.locals.netlist.gi
   in_places : (f : Fault) → Bounded f → f.assignment < assignments j → In f places_of
   in_places f b small =
       flat_in (λ t. flat_map (places_at t) kinds) f (range_with_len 0 (j.steps + 1)) f.time
-          (in_range (j.steps + 1) f.time b.0)
+      (in_range (j.steps + 1) f.time b.0)
       (flat_in (places_at f.time) f kinds f.kind (in_kinds f.kind)
       (flat_in (λ d. map (fault_at f.time f.kind d) (range_with_len 0 (assignments j))) f (box_cells j.area) f.cell
-          (in_cells_of_box j.area f.cell b.1)
+      (in_cells_of_box j.area f.cell b.1)
       (in_map (fault_at f.time f.kind f.cell) f.assignment (range_with_len 0 (assignments j))
-          (in_range (assignments j) f.assignment small))))
+      (in_range (assignments j) f.assignment small))))
 
   values_of : (a : ℕ) → HasValues j.locals.netlist (bit a) ordered ⊎ HasStop j.locals.netlist (bit a) ordered
   values_of a = values_or_stop j.locals.netlist (bit a) ordered
@@ -221,7 +221,7 @@ module _ (j : JobState) (is : IsJob j) (ordered : AreOrdered j.locals.netlist.gi
       })
       | inr other ↦ inr (λ h. ∥∥₁_elim h.shown (λ x y. absurd x)
           (λ r. other (undefined_is_one j.locals.netlist (bit f.assignment) s.0 f.gate ordered
-              (undefined_at f.assignment s) r)))
+          (undefined_at f.assignment s) r)))
     ]
   ]
 
@@ -243,9 +243,9 @@ module _ (j : JobState) (is : IsJob j) (ordered : AreOrdered j.locals.netlist.gi
   keep_placed : (f : KeepFault) → IsKeepFault j f → In f keeps_of
   keep_placed f h =
       flat_in (λ k. map (keep_of k) (range_with_len 0 (assignments j))) f j.kept f.gate
-          (among_in j.kept f.gate h.is_kept)
+      (among_in j.kept f.gate h.is_kept)
       (in_map (keep_of f.gate) f.assignment (range_with_len 0 (assignments j))
-          (in_range (assignments j) f.assignment h.in_range))
+      (in_range (assignments j) f.assignment h.in_range))
 
   keep_everywhere : (o : Option KeepFault) → IsLeastIn keep_cmp keep_total (IsKeepFault j) keep_decided keeps_of o →
       IsLeastKeepFault j o
@@ -332,7 +332,7 @@ module _ (g : Setting) (ms : List ModuleLines) (i : ℕ) where
       none m at = cc
   border_decided (Some m) e f = decided_by (to_fault m f e)
       (λ h. subst (λ n. IsBorderFaultOf n f) (same_module m h.lines e h.numbered) (of_fault f h))
-          (of_module_decided m f)
+      (of_module_decided m f)
 
   abbrev border_at : ℕ → Cell → BorderFault
   border_at t d = record { time = t; cell = d }
@@ -343,7 +343,7 @@ module _ (g : Setting) (ms : List ModuleLines) (i : ℕ) where
   border_placed : (f : BorderFault) → IsBorderFault g ms i f → In f borders_of
   border_placed f h =
       flat_in (λ t. map (border_at t) (box_cells (whole g.size))) f (range_with_len 0 g.size.steps) f.time
-          (in_range g.size.steps f.time h.early)
+      (in_range g.size.steps f.time h.early)
       (in_map (border_at f.time) f.cell (box_cells (whole g.size)) (in_cells_of_box (whole g.size) f.cell h.inside))
 
   border_everywhere : (o : Option BorderFault) →
@@ -355,5 +355,5 @@ module _ (g : Setting) (ms : List ModuleLines) (i : ℕ) where
   pub least_border_fault : (o : Option BorderFault) × IsLeastBorderFault g ms i o
   least_border_fault =
       let l = least_in border_cmp border_total (IsBorderFault g ms i)
-          (border_decided (slice_get ms i) refl) borders_of in
+      (border_decided (slice_get ms i) refl) borders_of in
       (l.least, border_everywhere l.least l.is)

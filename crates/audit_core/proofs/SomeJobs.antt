@@ -113,7 +113,7 @@ module _ (n : Netlist) (cuts gates : List ℕ) (ordered : AreOrdered n.given n.g
       by : Renumbered (length gates) → (gates' : List Gate) × HasLocals gates'
       by (keys, done, part) =
           let same : local_wires n cuts gates ≡ keys = sym
-              (part.known ∙ ap (local_wires n cuts) (take_all (length gates) gates (omega arith))) in (
+          (part.known ∙ ap (local_wires n cuts) (take_all (length gates) gates (omega arith))) in (
             done,
             record {
               are = part_all n cuts gates keys (local_wires n cuts gates) gates
@@ -168,8 +168,11 @@ module _ (ws : List ℕ) where
   demand_numbered : (o : Option ℕ) → is_local_wire ws o ≡ true → IsDemanded (demand_of o)
   unfolding demanded
   demand_numbered None h = absurd cc
-  demand_numbered (Some w) h = let p = is_place ws w h in record { back = ap
-      (λ v. Demanded.Wire v) p.there; below = p.below }
+  demand_numbered (Some w) h = let p = is_place ws w h in record {
+    back = ap
+        (λ v. Demanded.Wire v) p.there;
+    below = p.below;
+  }
 
   -- ---- its stops
 

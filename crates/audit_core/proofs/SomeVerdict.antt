@@ -70,10 +70,10 @@ three_each n (f ∷ fs) (b ∷ bs) =
     let k = few_of (keep_line n f.keep) in
     let c = few_of (border_line n b) in
     let sum = length-append
-        (option_to_list (local_line n f.fault) ++ option_to_list (keep_line n f.keep) ++ option_to_list
-        (border_line n b)) (lines_from (n + 1) fs bs) in
+    (option_to_list (local_line n f.fault) ++ option_to_list (keep_line n f.keep) ++ option_to_list
+    (border_line n b)) (lines_from (n + 1) fs bs) in
     let two = length-append (option_to_list (local_line n f.fault) ++ option_to_list (keep_line n f.keep))
-        (option_to_list (border_line n b)) in
+    (option_to_list (border_line n b)) in
     let one = length-append (option_to_list (local_line n f.fault)) (option_to_list (keep_line n f.keep)) in
     omega (arith, more, a, k, c, sum, two, one)
 
@@ -121,7 +121,7 @@ few_meetings k ts = by (nat_le 2 (length ts)) (agreed ts)
 two_each : (first last : ℕ → Option ℕ) (gs : List Gate) → length (lines_by first last gs) ≤ 2 * length gs
 two_each first last gs =
     let a = line_each (delay_line first last)
-        (λ k g. few_delays k g.kind (gap_between (of_wire last g.ins) (of_wire first g.outs))) 0 gs in
+    (λ k g. few_delays k g.kind (gap_between (of_wire last g.ins) (of_wire first g.outs))) 0 gs in
     let b = line_each (meet_line last) (λ k g. few_meetings k (last_times last g.ins)) 0 gs in
     let sum = length-append (numbered (delay_line first last) 0 gs) (numbered (meet_line last) 0 gs) in
     omega (arith, a, b, sum)
@@ -150,15 +150,15 @@ gates_below before [] good h = subst (λ l. gate_count l ≤ 1024) (sym (append-
 gates_below before (r ∷ rest) good h =
     let passes = no_code (passes_limit before r) _ (first_none _ _ good.0.adds) in
     let last = last_false (is_wrong_delay r.kind) (nat_lt 4096 (length (defined before) + length r.outs))
-        (is_gate r.kind && nat_le 1024 (gate_count before)) passes in
+    (is_gate r.kind && nat_le 1024 (gate_count before)) passes in
     let count : gate_count (before ++ r ∷ []) ≡ gate_count before + cond (is_gate r.kind) 1 0 =
     count_append (λ (r : Entry). is_gate r.kind) before (r ∷ []) ∙ omega arith in
     let turned : gate_count before + cond (is_gate r.kind) 1 0 ≡ cond
-        (is_gate r.kind) 1 0 + gate_count before = omega arith in
+    (is_gate r.kind) 1 0 + gate_count before = omega arith in
     let more : gate_count (before ++ r ∷ []) ≤ 1024 =
     subst (λ n. n ≤ 1024) (sym (count ∙ turned)) (one_gate_more (is_gate r.kind) (gate_count before) last h) in
     subst (λ l. gate_count l ≤ 1024) (append_assoc before (r ∷ []) rest)
-        (gates_below (before ++ r ∷ []) rest good.1 more)
+    (gates_below (before ++ r ∷ []) rest good.1 more)
 
 few_gates : (lines : List Entry) → AreGood lines → length (netlist_of lines).gates ≤ 1024
 few_gates lines good =
@@ -193,7 +193,7 @@ nothing k a at = cc
 all_jobs : (lines : List Entry) (p : Pattern) (ms : List ModuleLines) →
     AreOrdered (netlist_of lines).given (netlist_of lines).gates →
     ((k : ℕ) (m : ModuleLines) → slice_get ms k ≡ Some m →
-        IsModule (setting_of lines p) m × HasPorts (setting_of lines p) m) →
+    IsModule (setting_of lines p) m × HasPorts (setting_of lines p) m) →
     (js : List JobState) × AreJobsOf (circuit_of lines) p ms js
 all_jobs lines p [] ordered each = ([], record { count = refl; each = λ k m j at. absurd (nothing k m at) })
 all_jobs lines p (m ∷ ms) ordered each =
@@ -205,7 +205,7 @@ all_jobs lines p (m ∷ ms) ordered each =
     at_each : (j : JobState) → IsJobOf (circuit_of lines) p m j → (js : List JobState) →
         AreJobsOf (circuit_of lines) p ms js →
         (k : ℕ) (n : ModuleLines) (i : JobState) → slice_get (m ∷ ms) k ≡ Some n → slice_get (j ∷ js) k ≡ Some i →
-            IsJobOf (circuit_of lines) p n i
+        IsJobOf (circuit_of lines) p n i
     at_each j is js are zero n i at there =
         let same : m ≡ n = cc in
         let alike : j ≡ i = cc in
@@ -228,7 +228,7 @@ all_reasons (j ∷ js) each =
   where
     at_each : (r : Reasons) → IsToldOf j r → (fs : List Reasons) → AreLeastFaults js fs →
         (k : ℕ) (i : JobState) (f : Reasons) → slice_get (j ∷ js) k ≡ Some i → slice_get (r ∷ fs) k ≡ Some f →
-            IsToldOf i f
+        IsToldOf i f
     at_each r is fs are zero i f at there =
         let same : j ≡ i = cc in
         let alike : r ≡ f = cc in
@@ -277,10 +277,10 @@ job_good lines p m j limits own is =
       stops = λ k d lt. record {
         time = stops_stand (λ q. q.time ≤ j.steps) c j.locals (stops m) j.stops said
             (λ i r below. subst (λ n. (get_or (stops m) i r).time ≤ n) (sym is.steps)
-                (own.stop_lines i r below).time) k d lt;
+            (own.stop_lines i r below).time) k d lt;
         inside = stops_stand (λ q. in_box j.area q.cell.x q.cell.y ≡ true) c j.locals (stops m) j.stops said
             (λ i r below. subst (λ (b : Box2). in_box b (get_or (stops m) i r).cell.x
-                (get_or (stops m) i r).cell.y ≡ true) area (own.stop_lines i r below).inside) k d lt;
+            (get_or (stops m) i r).cell.y ≡ true) area (own.stop_lines i r below).inside) k d lt;
       };
       stops_rise = stops_rise c j.locals m.lines j.stops own.order said;
     }
@@ -367,16 +367,16 @@ module _ (lines : List Entry) (p : Pattern) (ms : List ModuleLines) (good : AreG
   unfolding IsVerdict
   verdict = elim (both_decided (empty_decided (lines_from 0 fs bs ++ unkept_lines g ms))
       (λ _. true_decided (are_all_kept (time_lines g.circuit ms)))) [
-    | inl h ↦ (Yes, accepted g ms js fs bs reasons.1 are_borders same_count h.0 h.1)
-    | inr not_so ↦
-        let v = vec_of all_lines few_lines in (
-          No v.vec,
-          (
-            (λ is. not_so (accepted-no_lines g ms js fs bs reasons.1 are_borders is, is.on_time)),
-            record { faults = fs; are_least = reasons.1; borders = bs; are_border_faults = are_borders; lines_are = v.items },
-          ),
-        )
-  ]
+        | inl h ↦ (Yes, accepted g ms js fs bs reasons.1 are_borders same_count h.0 h.1)
+        | inr not_so ↦
+            let v = vec_of all_lines few_lines in (
+              No v.vec,
+              (
+                (λ is. not_so (accepted-no_lines g ms js fs bs reasons.1 are_borders is, is.on_time)),
+                record { faults = fs; are_least = reasons.1; borders = bs; are_border_faults = are_borders; lines_are = v.items },
+              ),
+            )
+      ]
 
 pub some_verdict : ModulesHaveVerdict
 some_verdict lines p ms good limits are =

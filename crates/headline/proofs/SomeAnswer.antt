@@ -51,7 +51,7 @@ some_migration text = answered_always SaysMigration (bundle_of text)
 
 says_values : (asked : ValueAsked) (ordered : AreOrdered (netlist_of asked.0).given (netlist_of asked.0).gates)
     → HasValues (netlist_of asked.0) (inputs_asked asked) ordered ⊎ HasStop (netlist_of asked.0)
-        (inputs_asked asked) ordered
+    (inputs_asked asked) ordered
     → SaysSomething SaysValues asked
 says_values asked ordered (inl v) = record {
   output = value_lines (defined asked.0) v.0;
@@ -61,8 +61,11 @@ says_values asked ordered (inl v) = record {
 says_values asked ordered (inr s) = record {
   output = value_lines (defined asked.0) s.1 ++ line_text (codes "undefined") (decimal s.0 ∷ []);
   outcome = No;
-  is = record { ordered = ordered; says = inr
-      (record { gate = s.0; values = s.1; stops = s.2; says = refl; ends = refl }) };
+  is = record {
+    ordered = ordered;
+    says = inr
+        (record { gate = s.0; values = s.1; stops = s.2; says = refl; ends = refl });
+  };
 }
 
 -- what is asked has the lines of a circuit that was read

@@ -78,12 +78,16 @@ more_parts : (ports : Option Named) (s : Extent) (before parts : List Part) → 
 more_parts ports s before [] has good = subst (HasLines s) (sym (append-nil before)) has
 more_parts ports s before (part ∷ parts) has good =
     let one = with_part has.layout part
-        (subst (λ l. order_fault l part ≡ None) (sym has.are) (follows ports s before part good.0)) in
+    (subst (λ l. order_fault l part ≡ None) (sym has.are) (follows ports s before part good.0)) in
     let more : HasLines s
-        (before ++ part ∷ []) = record { layout = one.layout; size = one.size ∙ has.size; are = one.are
-        ∙ ap (λ l. l ++ part ∷ []) has.are } in
+    (before ++ part ∷ []) = record {
+      layout = one.layout;
+      size = one.size ∙ has.size;
+      are = one.are
+          ∙ ap (λ l. l ++ part ∷ []) has.are;
+    } in
     subst (HasLines s) (append_assoc before (part ∷ []) parts)
-        (more_parts ports s (before ++ part ∷ []) parts more good.1)
+    (more_parts ports s (before ++ part ∷ []) parts more good.1)
 
 pub some_layout : (ports : Option Named) (s : Extent) (parts : List Part) → IsFaultless (layout_grammar ports) s parts →
     (p : Pattern) × (layout_value p ≡ (s, parts))

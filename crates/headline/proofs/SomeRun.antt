@@ -63,21 +63,21 @@ module _ (s : Extent) where
     unfolding In
     by_opposite x y live =
         flat_in block_cells (record { x = x; y = y }) (box_cells (whole s))
-            (record { x = partner t x; y = partner t y }) (in_whole _ _ (stays _ _ live))
+        (record { x = partner t x; y = partner t y }) (in_whole _ _ (stays _ _ live))
         (inl (λ i. record { x = partner_twice t x i; y = partner_twice t y i }))
 
     by_column : (x y : ℤ) → state (partner t x) y ≡ true → In (record { x = x; y = y }) near_cells
     unfolding In
     by_column x y live =
         flat_in block_cells (record { x = x; y = y }) (box_cells (whole s)) (record { x = partner t x; y = y })
-            (in_whole _ _ (stays _ _ live))
+        (in_whole _ _ (stays _ _ live))
         (inr (inl (λ i. record { x = partner_twice t x i; y = y })))
 
     by_row : (x y : ℤ) → state x (partner t y) ≡ true → In (record { x = x; y = y }) near_cells
     unfolding In
     by_row x y live =
         flat_in block_cells (record { x = x; y = y }) (box_cells (whole s)) (record { x = x; y = partner t y })
-            (in_whole _ _ (stays _ _ live))
+        (in_whole _ _ (stays _ _ live))
         (inr (inr (inl (λ i. record { x = x; y = partner_twice t y i }))))
 
     own_dead : (x y : ℤ) → in_layout s x y ≡ false → (b : Bool) → state x y ≡ b → state x y ≡ false
@@ -164,7 +164,7 @@ some_end : (p : Pattern) (on : List ℕ → Bool) → size_fault p.size ≡ None
 some_end p on limits inside = elim (run_to p.size (start p on) inside p.size.steps (omega arith)) [
   | inl stays ↦
       let v = vec_of (live_cells p.size (plane_at p on p.size.steps))
-          (few_cells p.size (plane_at p on p.size.steps) limits) in
+      (few_cells p.size (plane_at p on p.size.steps) limits) in
       (Cells v.vec, record { stays = stays; cells = v.items })
   | inr left ↦ (LeftAt left.0, left.1)
 ]

@@ -14,13 +14,13 @@ use Rattle.audit_core.proofs.filling.fill_open.Goals as goal
 pub returns-then-is_full-clause-full : goal.returns-then-is_full-clause-full
 returns-then-is_full-clause-full c =
     is-full c.args.digest
-        (map arc_value c.args.jobs.now) c.args.state.now c.requires.own c.history-history.ensures.replays c.if-is_full.ensures.book (c.if-is_full.ensures.full refl)
+    (map arc_value c.args.jobs.now) c.args.state.now c.requires.own c.history-history.ensures.replays c.if-is_full.ensures.book (c.if-is_full.ensures.full refl)
 
 pub fill_number-requires-clause-job : goal.fill_number-requires-clause-job
 fill_number-requires-clause-job c =
     let at = job-at arc_value c.args.jobs.now c.numbers.number c.index-jobs-number.result c.numbers-test.true c.index-jobs-number.is in
     let own = open-stays c.args.digest
-        (map arc_value c.args.jobs.now) c.args.state.now c.numbers.state c.numbers.number c.requires.own c.numbers.invariant.0.filled in
+    (map arc_value c.args.jobs.now) c.args.state.now c.numbers.state c.numbers.number c.requires.own c.numbers.invariant.0.filled in
     ap (λ js. slice_get js c.numbers.number) own.jobs_are ∙ at
 
 -- each job has a group
@@ -40,7 +40,7 @@ fill_number-requires-clause-alike c = λ other.
     let at = job-at arc_value c.args.jobs.now n c.index-jobs-number.result c.numbers-test.true c.index-jobs-number.is in
     let own = open-stays c.args.digest jobs c.args.state.now c.numbers.state n c.requires.own c.numbers.invariant.0.filled in
     let first = first-read g n c.index.result.now
-        (within arc_value c.args.jobs.now g n c.in_ok-groups.ensures c.numbers-test.true) c.index.ensures in
+    (within arc_value c.args.jobs.now g n c.in_ok-groups.ensures c.numbers-test.true) c.index.ensures in
     let are = subst (λ js. AreGroups (shapes_of js) g) (sym own.jobs_are) c.in_ok-groups.ensures in
     let many = ap (λ js. length (shapes_of js)) own.jobs_are in
     let all = length-map jobs shape_of in
@@ -49,7 +49,7 @@ fill_number-requires-clause-alike c = λ other.
     let here = ap (λ js. slice_get js n) own.jobs_are ∙ at in
     subst (λ k. HoldsAlike c.numbers.state k (arc_value c.index-jobs-number.result)) first
     (holds_alike c.args.state.now c.numbers.state g n
-        (arc_value c.index-jobs-number.result) c.numbers.invariant.0 are below here (λ e. other (sym first ∙ e)))
+    (arc_value c.index-jobs-number.result) c.numbers.invariant.0 are below here (λ e. other (sym first ∙ e)))
 
 pub numbers-preserved : goal.numbers-preserved
 numbers-preserved c =
@@ -67,7 +67,7 @@ returns-in_err-fill_number-clause-one_run_a_shape c =
     let all = length-map (map arc_value c.args.jobs.now) shape_of in
     let same = length-map c.args.jobs.now arc_value in
     runs_end c.in_ok-groups.groups.items
-        (c.numbers.number + 1) c.args.runs.now c.fill_number.new.runs c.in_ok-groups.ensures
+    (c.numbers.number + 1) c.args.runs.now c.fill_number.new.runs c.in_ok-groups.ensures
     (omega (arith, all, same, c.numbers-test.true))
     (runs_step c.in_ok-groups.groups.items c.numbers.number c.args.runs.now c.numbers.runs c.fill_number.new.runs c.numbers.invariant.1
     (λ other. c.fill_number.ensures.no_run (λ e. other (first ∙ e))) c.fill_number.ensures.one_run)
@@ -80,6 +80,6 @@ returns-clause-full c =
     let past : length b.jobs ≤ c.numbers.number = omega (arith, all, own, c.numbers-test.false) in
     is-full c.args.digest (map arc_value c.args.jobs.now) c.numbers.state
     (open-stays c.args.digest
-        (map arc_value c.args.jobs.now) b c.numbers.state c.numbers.number c.requires.own c.numbers.invariant.0.filled)
+    (map arc_value c.args.jobs.now) b c.numbers.state c.numbers.number c.requires.own c.numbers.invariant.0.filled)
     c.history-history-2.ensures.replays c.numbers.invariant.0.book
-        (filled-all b c.numbers.state c.numbers.number past c.numbers.invariant.0)
+    (filled-all b c.numbers.state c.numbers.number past c.numbers.invariant.0)
