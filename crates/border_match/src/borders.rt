@@ -174,20 +174,73 @@ impl<'a> Borders<'a> {
         requires number { number < length self.now.jobs.now }
         ensures { IsBetter (Faults self.now) (IsEdgeNamedAt number self.now) best result }
     {
-        if !self.job.area().is_near(self.boxes[number]) {
-            return best;
-        }
         self.with_edge_events(best, &self.jobs[number])
     }
 
-    // The least of the candidate and the faults that the edges of the modules name.
-    fn with_edges(&self, best: Option<BorderFault>) -> Option<BorderFault>
+    // Adds the number of the module that has the cell, if the cell is in the module's halo and the number is new.
+    fn note_owner(&self, near: &mut Vec<usize>, cell: Cell) -> Result<(), AllocError>
+        requires ready { IsReady self.now }
+        requires below { AreNumbers self.now near.old.items }
+        ensures noted { OnOk result (IsNoted self.now near.new.items cell.x cell.y) }
+        ensures kept { OnOk result (KeepsNumbers near.old.items near.new.items) }
+        ensures below { OnOk result (AreNumbers self.now near.new.items) }
+    {
+        if !self.reaches(cell) {
+            return Ok(());
+        }
+        let number = self.owners.owner(cell);
+        if near.contains(&number) {
+            return Ok(());
+        }
+        near.push(number)?;
+        Ok(())
+    }
+
+    // Adds the numbers of the modules that have cells of the module's halo in a row.
+    fn note_row(&self, near: &mut Vec<usize>, y: u32) -> Result<(), AllocError>
+        requires ready { IsReady self.now }
+        requires below { AreNumbers self.now near.old.items }
+        requires row { y < 1024 }
+        ensures noted { OnOk result (IsRowNoted self.now near.new.items y) }
+        ensures kept { OnOk result (KeepsNumbers near.old.items near.new.items) }
+        ensures below { OnOk result (AreNumbers self.now near.new.items) }
+    {
+        let area = self.job.area();
+        'columns: for x in area.x.saturating_sub(1)..area.x + area.w + 1 {
+            let cell = Cell {
+                x: x as i32,
+                y: y as i32,
+            };
+            self.note_owner(near, cell)?;
+        }
+        Ok(())
+    }
+
+    // The numbers of the modules that have cells of the module's halo.
+    fn near_modules(&self, alloc: Global) -> Result<Vec<usize>, AllocError>
         requires { IsReady self.now }
+        ensures noted { IfOk result (λ near. AreOwnersNoted self.now near.items) }
+        ensures below { IfOk result (λ near. AreNumbers self.now near.items) }
+    {
+        let area = self.job.area();
+        let mut near = Vec::new(alloc);
+        'rows: for y in area.y.saturating_sub(1)..area.y + area.h + 1 {
+            self.note_row(&mut near, y)?;
+        }
+        Ok(near)
+    }
+
+    // The least of the candidate and the faults that the edges of the modules name, where these are the numbers of the
+    // modules that have cells of the module's halo.
+    fn with_edges(&self, best: Option<BorderFault>, near: &[usize]) -> Option<BorderFault>
+        requires ready { IsReady self.now }
+        requires noted { AreOwnersNoted self.now near.now }
+        requires below { AreNumbers self.now near.now }
         ensures { IsBetter (Faults self.now) (IsEdgeNamed self.now) best result }
     {
         let mut least = best;
-        'modules: for number in 0..self.jobs.len() {
-            least = self.with_edges_of(least, number);
+        'modules: for number in near {
+            least = self.with_edges_of(least, *number);
         }
         least
     }
@@ -254,12 +307,13 @@ impl<'a> Borders<'a> {
     }
 
     // The module's least border fault.
-    pub(crate) fn least_fault(&self) -> Option<BorderFault>
+    pub(crate) fn least_fault(&self, alloc: Global) -> Result<Option<BorderFault>, AllocError>
         requires { IsReady self.now }
-        ensures { IsLeast (Faults self.now) result }
+        ensures { IfOk result (IsLeast (Faults self.now)) }
     {
+        let near = self.near_modules(alloc)?;
         let by_halo = self.with_halo_events(None);
-        let by_edges = self.with_edges(by_halo);
-        self.with_halo(by_edges)
+        let by_edges = self.with_edges(by_halo, &near);
+        Ok(self.with_halo(by_edges))
     }
 }

@@ -1,8 +1,11 @@
 -- The indexes of a layout's cells, and the ports in a module's box.
-use Rattle.std.proofs.Common.{◌≡◌, ℕ, ◌+◌, ℤ, Bool, true, false, ◌||◌, List, [], ◌∷◌, ◌<◌, ◌≤◌, get_or, length, Option, Some, None, refl, sym, ap, subst, ◌∙◌, arith}
+use Rattle.std.proofs.Common.{◌≡◌, ℕ, ◌+◌, ℤ, Bool, true, false, ◌||◌, if◌then◌else◌, List, [], ◌∷◌, map, ◌<◌, ◌≤◌, get_or, length, Option, Some, None, refl, sym, ap, subst, ◌∙◌, arith}
 use Rattle.std.specs.Prelude.{slice_get, IsTrue, IfSome}
 use Rattle.std.specs.List.{flat_map}
+use Rattle.std.specs.Prelude.{option_map}
+use Rattle.std.proofs.lemmas.List.{length-map}
 use Rattle.std.proofs.lemmas.List.Folds.{list_any-append}
+use Rattle.std.proofs.lemmas.Option.{slice_get-get_or, slice_get-map}
 use Rattle.bbm_rule.specs.Plane.{is_at}
 use Rattle.bbm_rule.specs.declared.block.Cell.{Cell}
 use Rattle.circuit.specs.Bridge.{circuit_of}
@@ -19,14 +22,14 @@ use Rattle.pattern.proofs.RectangleLemmas.{in_rectangle_cells}
 use Rattle.module_box.specs.Boxes.{in_box}
 use Rattle.module_box.specs.Tiling.{IsInside}
 use Rattle.module_box.specs.declared.boxes.Box2.{Box2}
-use Rattle.module_box.specs.declared.schedules.Signal.TheVariants.{One}
+use Rattle.module_box.specs.declared.schedules.Signal.TheVariants.{One, Zero}
 use Rattle.certificate_lines.specs.Entries.{ModuleLines, known}
 use Rattle.certificate_lines.specs.Settings.{setting_of}
-use Rattle.certificate_lines.specs.PortTables.{port_at}
+use Rattle.certificate_lines.specs.PortTables.{AreOnBoard, port_at}
 use Rattle.certificate.specs.Jobs.{named_wire, signal_of, start_signal, demand_elsewhere, end_demand}
 use Rattle.module_job.specs.declared.job.Demand.TheVariants as Demanded
 use Rattle.certificate_lines.specs.Modules.{HasPorts}
-use Rattle.certificate.specs.PlanView.{KnowsPorts}
+use Rattle.certificate.specs.PlanView.{HasMirrorOrNothing, KnowsPorts}
 use Rattle.certificate_lines.specs.Rules.{is_local}
 use Rattle.certificate_lines.proofs.BoxPlaces.{skipped}
 use Rattle.certificate_lines.proofs.Lists.{kept}
@@ -80,6 +83,40 @@ end_live c p x y a mirror h = rw (sym mirror, h) refl
 pub end_port : (c : Circuit) (p : Pattern) (x y : ℤ) (a : Bool) → a ≡ in_rectangles p.mirrors x y → a ≡ false → (o : Option (List ℕ)) → o ≡ port_at p.outs x y → demand_elsewhere c o (in_cells p.wastes x y) ≡ end_demand c p x y
 unfolding end_demand
 end_port c p x y a mirror h o port = rw (sym mirror, h, sym port) refl
+
+-- ---- a cell without ball, waste cell or port
+
+pub start_nothing : (c : Circuit) (p : Pattern) (x y : ℤ) → in_rectangles p.mirrors x y ≡ false → HasMirrorOrNothing p x y → Zero ≡ start_signal c p x y
+start_nothing c p x y mirror h = start_port c p x y false false (sym mirror) (sym h.balls) refl None (sym h.ins)
+
+pub end_nothing : (c : Circuit) (p : Pattern) (x y : ℤ) → in_rectangles p.mirrors x y ≡ false → HasMirrorOrNothing p x y → Demanded.Dead ≡ end_demand c p x y
+end_nothing c p x y mirror h = ap (demand_elsewhere c None) (sym h.wastes) ∙ end_port c p x y false (sym mirror) refl None (sym h.outs)
+
+pub start_mirror : (c : Circuit) (p : Pattern) (x y : ℤ) → in_rectangles p.mirrors x y ≡ true → One ≡ start_signal c p x y
+start_mirror c p x y mirror = start_one c p x y true (in_cells p.balls x y) (sym mirror) refl refl
+
+-- ---- the cells of ports
+
+no_port_here : (b rest : Bool) (name : List ℕ) (o : Option (List ℕ)) → (b || rest) ≡ false → (rest ≡ false → o ≡ None) → (if b then Some name else o) ≡ None
+no_port_here true rest name o e later = absurd cc
+no_port_here false rest name o e later = later e
+
+pub no_port : (ports : List Port) (x y : ℤ) → in_cells (map (λ (q : Port). q.cell) ports) x y ≡ false → port_at ports x y ≡ None
+unfolding port_at
+no_port [] x y e = refl
+no_port (q ∷ ports) x y e = no_port_here (is_at q.cell x y) (in_cells (map (λ (q : Port). q.cell) ports) x y) q.name (port_at ports x y) e (no_port ports x y)
+
+pub cells_in_layout : (s : Extent) (ports : List Port) → AreOnBoard s ports → AllInLayout s (map (λ (q : Port). q.cell) ports)
+cells_in_layout s ports on k d lt =
+    let cell : Port → Cell = λ q. q.cell in
+    let count = length-map cell ports in
+    let at : slice_get (map cell ports) k ≡ Some (get_or (map cell ports) k d) = slice_get-get_or (map cell ports) k d lt in
+    let there = some_mapped (slice_get ports k) cell (get_or (map cell ports) k d) (sym (slice_get-map cell ports k) ∙ at) in
+    ap (λ (c : Cell). in_layout s c.x c.y) (sym there.2) ∙ on k there.0 there.1
+  where
+    some_mapped : (o : Option Port) (f : Port → Cell) (c : Cell) → option_map f o ≡ Some c → (q : Port) × (o ≡ Some q) × (f q ≡ c)
+    some_mapped None f c e = absurd cc
+    some_mapped (Some q) f c e = (q, refl, cc)
 
 -- ---- the mirrors of a layout
 

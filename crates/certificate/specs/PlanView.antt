@@ -1,5 +1,5 @@
 -- A circuit and a layout with tables of the layout's cells, and what contracts see of them
-use Rattle.std.specs.Prelude.{◌≡◌, ℕ, ℤ, List, IsTrue, IfSome}
+use Rattle.std.specs.Prelude.{◌≡◌, ℕ, ℤ, List, None, false, IsTrue, IfSome}
 use Rattle.bbm_rule.specs.Board.{live}
 use Rattle.circuit.specs.Meaning.{Circuit}
 use Rattle.circuit.specs.declared.entry.Entry.{Entry as CircuitLine}
@@ -19,11 +19,20 @@ pub record PlanState : Type 0 where
 abbrev pub plan_state : Inside → PlanState
 plan_state a = record { circuit = a.circuit.now; layout = a.layout.now }
 
--- the live cells of each grid are those of the mirrors, balls or wastes, and each table is of the layout's ports
+-- the layout has no ball, waste cell or port at the cell (x, y)
+pub record HasMirrorOrNothing (p : Pattern) (x y : ℤ) : Type 0 where
+  pub balls : in_cells p.balls x y ≡ false
+  pub wastes : in_cells p.wastes x y ≡ false
+  pub ins : port_at p.ins x y ≡ None
+  pub outs : port_at p.outs x y ≡ None
+
+-- The live cells of each grid are those of the mirrors, balls or wastes, where `others` is dead nothing but mirrors stands, and
+-- each table is of the layout's ports
 pub record IsPlan (a : Inside) : Type 0 where
   pub mirrors : (x y : ℤ) → live a.mirrors x y ≡ in_rectangles a.layout.now.mirrors x y
   pub balls : (x y : ℤ) → live a.balls x y ≡ in_cells a.layout.now.balls x y
   pub wastes : (x y : ℤ) → live a.wastes x y ≡ in_cells a.layout.now.wastes x y
+  pub others : (x y : ℤ) → live a.others x y ≡ false → HasMirrorOrNothing a.layout.now x y
   pub ins : a.ins ≡ a.layout.now.ins
   pub outs : a.outs ≡ a.layout.now.outs
 

@@ -1,5 +1,5 @@
 //! What the cells of a module carry at time 0, and what they are to be at the last time.
-ghost use Rattle.std.specs.Prelude.{◌≡◌, ◌+◌, ◌*◌, ◌<◌, ◌≤◌, ℤ, true, None, Some, All, length, unwrap_or, slice_get, IsTrue, IfOk};
+ghost use Rattle.std.specs.Prelude.{◌≡◌, ◌+◌, ◌*◌, ◌<◌, ◌≤◌, ℤ, false, true, None, Some, All, length, map, unwrap_or, slice_get, IsTrue, IfOk};
 ghost use Rattle.std.specs.List.{flat_map};
 ghost use Rattle.bbm_rule.specs.Board.{live};
 ghost use Rattle.circuit.specs.Bridge.{circuit_of};
@@ -10,7 +10,7 @@ ghost use Rattle.module_box.specs.Boxes.{in_box};
 ghost use Rattle.module_box.specs.Locals.{circuit_wire, is_among};
 ghost use Rattle.certificate.specs.Jobs.{end_demand, start_signal};
 ghost use Rattle.module_box.specs.Places.{place_in};
-ghost use Rattle.certificate.specs.PlanView.{KnowsPort, KnowsPorts};
+ghost use Rattle.certificate.specs.PlanView.{HasMirrorOrNothing, KnowsPort, KnowsPorts};
 ghost use Rattle.certificate_lines.specs.Rules.{is_local};
 ghost use Rattle.module_job.specs.Signals.{IsBelow, IsDemandBelow, renumber_demand, renumber_signal};
 
@@ -19,14 +19,15 @@ use certificate_lines::{PortTable, cells_of_box, is_live, port_tables};
 use circuit::{Circuit, WireNo};
 use module_box::{Box2, Locals, Signal};
 use module_job::Demand;
-use pattern::{Extent, Layout, Rectangle, make_live, push_rectangle};
+use pattern::{Extent, Layout, Port, Rectangle, make_live, push_rectangle};
 use section_text::Name;
 use std::alloc::{AllocError, Global};
 use std::marker::Model;
 
 /// A circuit and a layout, with tables by which each cell of the layout is looked up in constant time. Contracts see
 /// the circuit and the layout, as a `PlanState`.
-// The mirrors' cells, the balls and the wastes are the live cells of grids.
+// The mirrors' cells, the balls and the waste cells are the live cells of grids. `others` has the cells of all that is
+// no mirror: most cells are dead in it, and need no other look.
 #[derive(Drop)]
 pub(crate) struct Plan<'a> {
     circuit: &'a Circuit,
@@ -34,6 +35,7 @@ pub(crate) struct Plan<'a> {
     mirrors: Grid,
     balls: Grid,
     wastes: Grid,
+    others: Grid,
     ins: PortTable<'a>,
     outs: PortTable<'a>,
 }
@@ -71,6 +73,32 @@ fn cells_of_mirrors(alloc: Global, mirrors: &[Rectangle]) -> Result<Vec<Cell>, A
         push_rectangle(&mut cells, *mirror)?;
     }
     Ok(cells)
+}
+
+// The cells of ports.
+fn port_cells(alloc: Global, ports: &[Port]) -> Result<Vec<Cell>, AllocError>
+    ensures { IfOk result (λ cells. cells.items ≡ map (λ p. p.cell) ports.now) }
+{
+    let mut cells = Vec::with_capacity(alloc, ports.len())?;
+    for port in ports {
+        cells.push(port.cell)?;
+    }
+    Ok(cells)
+}
+
+// A grid on which the cells of balls, waste cells and ports are live.
+fn others_of(alloc: Global, layout: &Layout) -> Result<Grid, AllocError>
+    ensures { IfOk result (λ grid. (x y : ℤ) →
+        live grid x y ≡ false → HasMirrorOrNothing layout.now x y) }
+{
+    let size = layout.size();
+    let ins = port_cells(alloc, layout.ins())?;
+    let outs = port_cells(alloc, layout.outs())?;
+    let mut grid = grid_of(alloc, size, layout.balls())?;
+    make_live(&mut grid, layout.wastes());
+    make_live(&mut grid, &ins);
+    make_live(&mut grid, &outs);
+    Ok(grid)
 }
 
 // The grids of a layout's mirrors, of its balls and of its wastes.
@@ -131,12 +159,14 @@ impl<'a> Plan<'a> {
     {
         let (ins, outs) = port_tables(alloc, layout)?;
         let (mirrors, balls, wastes) = grids_of(alloc, layout)?;
+        let others = others_of(alloc, layout)?;
         Ok(Plan {
             circuit,
             layout,
             mirrors,
             balls,
             wastes,
+            others,
             ins,
             outs,
         })
@@ -198,6 +228,29 @@ impl<'a> Plan<'a> {
         }
     }
 
+    // What a cell carries at time 0, and what it is to be at the last time, where the module knows the wires of ports
+    // there.
+    fn cell_at(&self, locals: &Locals, cell: Cell) -> (Signal, Demand)
+        requires ins { KnowsPort (circuit_of self.now.circuit) locals.now.circuit_wires
+            self.now.layout.ins cell.x cell.y }
+        requires outs { KnowsPort (circuit_of self.now.circuit) locals.now.circuit_wires
+            self.now.layout.outs cell.x cell.y }
+        ensures start { renumber_signal (circuit_wire locals.now) result.0
+            ≡ start_signal (circuit_of self.now.circuit) self.now.layout cell.x cell.y }
+        ensures start_below { IsBelow (wires locals.now.netlist) result.0 }
+        ensures demand { renumber_demand (circuit_wire locals.now) result.1
+            ≡ end_demand (circuit_of self.now.circuit) self.now.layout cell.x cell.y }
+        ensures demand_below { IsDemandBelow (wires locals.now.netlist) result.1 }
+    {
+        if is_live(&self.mirrors, cell) {
+            return (Signal::One, Demand::Live);
+        }
+        if !is_live(&self.others, cell) {
+            return (Signal::Zero, Demand::Dead);
+        }
+        (self.start_at(locals, cell), self.demand_at(locals, cell))
+    }
+
     /// What the cells of a box carry at time 0, and what they are to be at the last time, row by row, where the module
     /// knows the wires of the ports there.
     pub(crate) fn cell_lists(
@@ -228,11 +281,12 @@ impl<'a> Plan<'a> {
             ≡ end_demand (circuit_of self.now.circuit) self.now.layout x y) }
     {
         let cells = cells_of_box(alloc, area)?;
-        let mut starts = Vec::new(alloc);
-        let mut demands = Vec::new(alloc);
+        let mut starts = Vec::with_capacity(alloc, cells.len())?;
+        let mut demands = Vec::with_capacity(alloc, cells.len())?;
         for cell in cells.as_slice() {
-            starts.push(self.start_at(locals, *cell))?;
-            demands.push(self.demand_at(locals, *cell))?;
+            let (start, demand) = self.cell_at(locals, *cell);
+            starts.push(start)?;
+            demands.push(demand)?;
         }
         Ok((starts, demands))
     }

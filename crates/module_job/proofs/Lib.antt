@@ -1,3 +1,4 @@
+pub mod CellEntries
 pub mod EqualJobs
 pub mod FirstKeys
 pub mod FirstShapes

@@ -12,7 +12,8 @@ use Rattle.module_box.specs.Numbers.{AreTelling, counted, netlist_numbers}
 use Rattle.module_box.specs.declared.schedules.Signal.{Signal}
 use Rattle.module_box.specs.declared.schedules.Signal.TheVariants.{Zero, One, Wire}
 use Rattle.module_box.proofs.Telling.{counted_tell, listed, lists_tell, netlists_tell, same_head, same_length, same_tail}
-use Rattle.module_job.specs.Keys.{BytesTellNumbers, NumbersTellShapes, cell_numbers, demand_number, demand_numbers, event_numbers, held_numbers, integer_number, number_bytes, shape_numbers, signal_number, signal_numbers, signals_numbers, stop_numbers}
+use Rattle.module_job.specs.Keys.{BytesTellNumbers, NumbersTellShapes, cell_numbers, cells_numbers, demand_number, event_numbers, held_numbers, integer_number, number_bytes, shape_numbers, signal_number, signal_numbers, signals_numbers, stop_numbers}
+use Rattle.module_job.proofs.CellEntries.{cells_tell_all}
 use Rattle.module_job.specs.Shapes.{ShapeState}
 use Rattle.module_job.specs.declared.job.Demand.{Demand}
 use Rattle.module_job.specs.declared.job.Demand.TheVariants as Demanded
@@ -102,10 +103,10 @@ abbrev sides : ShapeState → List ℕ
 sides s = s.width ∷ s.height ∷ s.steps ∷ []
 
 abbrev starts : ShapeState → List ℕ
-starts s = counted signal_numbers s.starts
+starts s = cells_numbers signal_number s.starts
 
 abbrev demands : ShapeState → List ℕ
-demands s = counted demand_numbers s.demands
+demands s = cells_numbers demand_number s.demands
 
 abbrev stops : ShapeState → List ℕ
 stops s = counted stop_numbers s.stops
@@ -117,8 +118,8 @@ shapes_tell a b r s e =
     let apart' = in_turn (netlist_numbers b.netlist) (sides b) (starts b) (demands b) (signals_numbers b.edges) (signals_numbers b.halos) (stops b) (listed b.kept) s in
     let net = netlists_tell a.netlist b.netlist _ _ (sym apart ∙ e ∙ apart') in
     let three = same_length (sides a) (sides b) _ _ refl net.1 in
-    let start = counted_tell signal_numbers (one_tells signal_number signal_told) a.starts b.starts _ _ three.1 in
-    let demand = counted_tell demand_numbers (one_tells demand_number demand_told) a.demands b.demands _ _ start.1 in
+    let start = cells_tell_all signal_number signal_told a.starts b.starts _ _ three.1 in
+    let demand = cells_tell_all demand_number demand_told a.demands b.demands _ _ start.1 in
     let edges = signals_tell a.edges b.edges _ _ demand.1 in
     let halos = signals_tell a.halos b.halos _ _ edges.1 in
     let stop = counted_tell stop_numbers stops_tell a.stops b.stops _ _ halos.1 in

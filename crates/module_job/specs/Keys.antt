@@ -1,5 +1,5 @@
 -- The numbers of a shape, which tell it, and its key
-use Rattle.std.specs.Prelude.{◌≡◌, ℕ, ℤ, pos, negsuc, ◌+◌, ◌*◌, ◌^◌, ◌<◌, nat_lt, if◌then◌else◌, List, [], ◌∷◌, ◌++◌, length}
+use Rattle.std.specs.Prelude.{◌≡◌, ℕ, ℤ, pos, negsuc, ◌+◌, ◌*◌, ◌^◌, ◌<◌, nat_eq, nat_lt, if◌then◌else◌, List, [], ◌∷◌, ◌++◌, length, map}
 use Rattle.std.specs.List.{All, flat_map}
 use Rattle.std.specs.Int.{to_le_bytes, w16, w64}
 use Rattle.sha2.specs.Sha256.{sha256}
@@ -29,8 +29,18 @@ demand_number (Demanded.Wire w) = w + 3
 abbrev pub signal_numbers : Signal → List ℕ
 signal_numbers s = signal_number s ∷ []
 
-abbrev pub demand_numbers : Demand → List ℕ
-demand_numbers d = demand_number d ∷ []
+-- nothing for a cell with the number 0; for any other one its place plus one, and then the number
+abbrev pub cell_entry : ℕ → ℕ → List ℕ
+cell_entry place n = if nat_eq n 0 then [] else ((place + 1) ∷ n ∷ [])
+
+-- the entries of cells with these numbers, where the first cell has this place
+unfoldable pub entries_from : ℕ → List ℕ → List ℕ
+entries_from place [] = []
+entries_from place (n ∷ ns) = cell_entry place n ++ entries_from (place + 1) ns
+
+-- how many cells there are, their entries, and a 0
+abbrev pub cells_numbers : {A : Type 0} → (A → ℕ) → List A → List ℕ
+cells_numbers number cells = length cells ∷ entries_from 0 (map number cells) ++ 0 ∷ []
 
 -- 0, -1, 1, -2 and so on, counted from 0
 abbrev pub integer_number : ℤ → ℕ
@@ -52,11 +62,12 @@ stop_numbers s = (s.at.time ∷ cell_numbers s.at.cell) ++ s.wire ∷ []
 abbrev pub signals_numbers : Signals → List ℕ
 signals_numbers s = counted held_numbers s.held ++ counted event_numbers s.events
 
--- gates, sides and steps, starts, demands, edges, halos, stops and kept gates: all of the shape
+-- Gates, sides and steps, starts, demands, edges, halos, stops and kept gates: all of the shape. Most cells are dead at
+-- the start and to be dead at the end, so starts and demands have entries for the other cells alone.
 unfoldable pub shape_numbers : ShapeState → List ℕ
 shape_numbers s =
     netlist_numbers s.netlist ++ (s.width ∷ s.height ∷ s.steps ∷ [])
-    ++ counted signal_numbers s.starts ++ counted demand_numbers s.demands
+    ++ cells_numbers signal_number s.starts ++ cells_numbers demand_number s.demands
     ++ signals_numbers s.edges ++ signals_numbers s.halos ++ counted stop_numbers s.stops ++ (length s.kept ∷ s.kept)
 
 -- A number below 2 ^ 64: one byte, or two or eight behind a byte that says so

@@ -1,8 +1,8 @@
 //! The numbers of shapes, which tell them, and their keys.
-ghost use Rattle.std.specs.Prelude.{◌≡◌, ◌^◌, ◌<◌, ◌++◌, [], ◌∷◌, length, IfOk, OnOk};
+ghost use Rattle.std.specs.Prelude.{◌≡◌, ◌+◌, ◌^◌, ◌<◌, ◌++◌, [], ◌∷◌, length, IfOk, OnOk};
 ghost use Rattle.std.specs.List.{All, flat_map};
 ghost use Rattle.module_box.specs.Numbers.{counted};
-ghost use Rattle.module_job.specs.Keys.{cell_numbers, demand_number, demand_numbers, event_numbers, held_numbers, integer_number, number_bytes, shape_key, shape_numbers, signal_number, signal_numbers, signals_numbers, stop_numbers};
+ghost use Rattle.module_job.specs.Keys.{cell_entry, cell_numbers, cells_numbers, demand_number, event_numbers, held_numbers, integer_number, number_bytes, shape_key, shape_numbers, signal_number, signal_numbers, signals_numbers, stop_numbers};
 
 use crate::job::{Demand, Stop};
 use crate::shape::Shape;
@@ -76,23 +76,42 @@ fn push_stop(numbers: &mut Vec<u64>, stop: Stop) -> Result<(), AllocError>
     Ok(())
 }
 
-fn push_starts(numbers: &mut Vec<u64>, starts: &[Signal]) -> Result<(), AllocError>
-    ensures { OnOk result (numbers.new.items
-        ≡ numbers.old.items ++ flat_map signal_numbers starts.now) }
+// Adds the entry of a cell.
+fn push_entry(numbers: &mut Vec<u64>, place: usize, number: u64) -> Result<(), AllocError>
+    requires { place + 1 < 2 ^ 64 }
+    ensures { OnOk result (numbers.new.items ≡ numbers.old.items ++ cell_entry place number) }
 {
-    for start in starts {
-        numbers.push(signal_number(*start))?;
+    if number == 0 {
+        return Ok(());
     }
+    numbers.push(place as u64 + 1)?;
+    numbers.push(number)?;
     Ok(())
 }
 
+// Adds how many cells there are, the entries of what they carry at time 0, and a 0.
+fn push_starts(numbers: &mut Vec<u64>, starts: &[Signal]) -> Result<(), AllocError>
+    ensures { OnOk result (numbers.new.items
+        ≡ numbers.old.items ++ cells_numbers signal_number starts.now) }
+{
+    numbers.push(starts.len() as u64)?;
+    'cells: for (place, start) in starts.iter().enumerate() {
+        push_entry(numbers, place, signal_number(*start))?;
+    }
+    numbers.push(0)?;
+    Ok(())
+}
+
+// Adds how many cells there are, the entries of what they are to be, and a 0.
 fn push_demands(numbers: &mut Vec<u64>, demands: &[Demand]) -> Result<(), AllocError>
     ensures { OnOk result (numbers.new.items
-        ≡ numbers.old.items ++ flat_map demand_numbers demands.now) }
+        ≡ numbers.old.items ++ cells_numbers demand_number demands.now) }
 {
-    for demand in demands {
-        numbers.push(demand_number(*demand))?;
+    numbers.push(demands.len() as u64)?;
+    'cells: for (place, demand) in demands.iter().enumerate() {
+        push_entry(numbers, place, demand_number(*demand))?;
     }
+    numbers.push(0)?;
     Ok(())
 }
 
@@ -149,14 +168,13 @@ fn push_schedule(numbers: &mut Vec<u64>, schedule: &Schedule) -> Result<(), Allo
 fn push_cells(numbers: &mut Vec<u64>, shape: &Shape) -> Result<(), AllocError>
     ensures { OnOk result (numbers.new.items
         ≡ numbers.old.items ++ (shape.now.width ∷ shape.now.height ∷ shape.now.steps ∷ [])
-        ++ counted signal_numbers shape.now.starts ++ counted demand_numbers shape.now.demands) }
+        ++ cells_numbers signal_number shape.now.starts
+        ++ cells_numbers demand_number shape.now.demands) }
 {
     numbers.push(shape.width as u64)?;
     numbers.push(shape.height as u64)?;
     numbers.push(shape.steps as u64)?;
-    numbers.push(shape.starts.len() as u64)?;
     push_starts(numbers, &shape.starts)?;
-    numbers.push(shape.demands.len() as u64)?;
     push_demands(numbers, &shape.demands)
 }
 

@@ -1,7 +1,7 @@
-use Rattle.std.proofs.Common.{◌≡◌, ◌++◌, take}
-use Rattle.std.specs.List.{flat_map}
-use Rattle.module_job.specs.Keys.{demand_numbers}
+-- The entries of the cells so far are there.
+use Rattle.module_job.specs.Keys.{demand_number}
+use Rattle.module_job.proofs.CellEntries.{AreEntered}
 use Rattle.module_job.proofs.keys.push_demands.Given as goal
 
-abbrev pub invariant-loop-demand : goal.invariant-loop-demand
-invariant-loop-demand l = l.numbers.items ≡ l.initial.numbers.items ++ flat_map demand_numbers (take l.demand-index l.demands)
+abbrev pub invariant-cells : goal.invariant-cells
+invariant-cells l = AreEntered demand_number l.demands l.place l.fn.numbers.items l.numbers.items

@@ -1,7 +1,7 @@
-use Rattle.std.proofs.Common.{◌≡◌, ◌++◌, take}
-use Rattle.std.specs.List.{flat_map}
-use Rattle.module_job.specs.Keys.{signal_numbers}
+-- The entries of the cells so far are there.
+use Rattle.module_job.specs.Keys.{signal_number}
+use Rattle.module_job.proofs.CellEntries.{AreEntered}
 use Rattle.module_job.proofs.keys.push_starts.Given as goal
 
-abbrev pub invariant-loop-start : goal.invariant-loop-start
-invariant-loop-start l = l.numbers.items ≡ l.initial.numbers.items ++ flat_map signal_numbers (take l.start-index l.starts)
+abbrev pub invariant-cells : goal.invariant-cells
+invariant-cells l = AreEntered signal_number l.starts l.place l.fn.numbers.items l.numbers.items

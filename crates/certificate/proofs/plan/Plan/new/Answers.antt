@@ -6,6 +6,7 @@ invariant_of-result c =
       mirrors = c.in_ok-mirrors.ensures.mirrors;
       balls = c.in_ok-mirrors.ensures.balls;
       wastes = c.in_ok-mirrors.ensures.wastes;
+      others = c.in_ok-others.ensures;
       ins = c.in_ok-ins.ensures.ins;
       outs = c.in_ok-ins.ensures.outs;
     }
