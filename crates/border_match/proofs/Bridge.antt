@@ -21,7 +21,7 @@ use Rattle.certificate_lines.specs.Rules.{whole}
 use Rattle.module_job.specs.Signals.{renumber_signals}
 use Rattle.certificate_lines.specs.declared.entry.Border.{Border}
 use Rattle.border_match.specs.BorderFaults.{halo_signal, edge_signal, IsBorderFault, IsLeastBorderFault}
-use Rattle.border_match.specs.Boards.{job_halo, job_edge, IsJobFault, IsQuiet, IsBoard, AreBoxesOf}
+use Rattle.border_match.specs.Boards.{job_halo, job_edge, IsJobFault, IsQuiet, IsBoard}
 use Rattle.border_match.specs.Candidates.{IsLeast}
 use Rattle.border_match.specs.declared.fault.BorderFault.{BorderFault}
 use Rattle.border_match.proofs.Modules.{there, value_of, area_at}
@@ -72,11 +72,6 @@ module _ (cs : List CircuitLine) (p : Pattern) where
 
     pub quiet_job : (k : ℕ) (j : JobState) → slice_get js k ≡ Some j → IsQuiet j
     quiet_job k j e = let m = lines_of k j e in quiet m.0 j (good.each k m.0 m.1) (made.each k m.0 j m.1 e)
-
-    pub boxes : AreBoxesOf js (areas ms)
-    boxes k j e =
-        let m = lines_of k j e in
-        area_at ms k m.0 m.1 ∙ ap Some (sym (made.each k m.0 j m.1 e).area)
 
     pub board : IsBoard (whole p.size) o js
     board = record {

@@ -23,12 +23,6 @@ use Rattle.border_match.specs.declared.fault.BorderFault.{BorderFault}
 pub job_at : {A : Type 0} (v : A → JobState) (xs : List A) (k : ℕ) (d : A) (j : JobState) → k < length xs → j ≡ v (get_or xs k d) → slice_get (map v xs) k ≡ Some j
 job_at v xs k d j lt same = slice_get-map v xs k ∙ ap (option_map v) (slice_get-get_or xs k d lt) ∙ ap Some (sym same)
 
--- a number below that of the jobs is that of a job, and of its box
-pub numbered : (b : Borders) (k : ℕ) → IsReady b → k < length b.jobs.now → (j : JobState) × (slice_get (jobs_of b) k ≡ Some j) × (slice_get b.boxes.now k ≡ Some j.area)
-numbered b k ready lt =
-    let j = there (jobs_of b) k (subst (λ n. k < n) (sym (length-map b.jobs.now arc_value)) lt) in
-    (j.0, j.1, ready.2 k j.0 j.1)
-
 pub owner_within : (b : Borders) (x y : ℤ) → IsReady b → in_box b.whole x y ≡ true → owner_of b.owners.now x y < length b.jobs.now
 owner_within b x y ready h =
     let m = ready.0.holder x y h in
@@ -63,23 +57,27 @@ near_nat f n x k e h =
     let at = in_span_nat f n y.0 y.2 in
     near_bounds f n k at.0 x y.0 e at.1 y.1 at.2 at.3
 
--- where a fault is, counted from the rectangle's corner
-pub record IsPlaced (b : Borders) (f : BorderFault) : Type 0 where
+-- where a cell of the rectangle and the halo is, counted from the rectangle's corner
+pub record IsPlaced (b : Borders) (x y : ℤ) : Type 0 where
   pub column : ℕ
-  pub x : f.cell.x ≡ pos column
+  pub x : x ≡ pos column
   pub left : b.job.now.area.x - 1 ≤ column
   pub right : column < b.job.now.area.x + b.job.now.area.w + 1
   pub row : ℕ
-  pub y : f.cell.y ≡ pos row
+  pub y : y ≡ pos row
   pub top : b.job.now.area.y - 1 ≤ row
   pub bottom : row < b.job.now.area.y + b.job.now.area.h + 1
 
-pub placed : (b : Borders) (f : BorderFault) → Faults b f → IsPlaced b f
-placed b f g =
+pub cell_placed : (b : Borders) (x y : ℤ) → in_box b.whole x y ≡ true → in_halo b.job.now.area x y ≡ true → IsPlaced b x y
+cell_placed b x y inside halo =
     let area = b.job.now.area in
-    let near = near_parts area f.cell.x f.cell.y g.halo in
-    let at = in_box_nats b.whole f.cell.x f.cell.y g.inside in
+    let near = near_parts area x y halo in
+    let at = in_box_nats b.whole x y inside in
     let ax = at.0 in let ay = at.1 in
-    let sx = near_nat area.x area.w f.cell.x ax.0 ax.1 near.0 in
-    let sy = near_nat area.y area.h f.cell.y ay.0 ay.1 near.1 in
+    let sx = near_nat area.x area.w x ax.0 ax.1 near.0 in
+    let sy = near_nat area.y area.h y ay.0 ay.1 near.1 in
     record { column = ax.0; x = ax.1; left = sx.0; right = sx.1; row = ay.0; y = ay.1; top = sy.0; bottom = sy.1 }
+
+-- where a fault is
+pub placed : (b : Borders) (f : BorderFault) → Faults b f → IsPlaced b f.cell.x f.cell.y
+placed b f g = cell_placed b f.cell.x f.cell.y g.inside g.halo

@@ -1,3 +1,4 @@
+pub mod NearModules
 pub mod FaultOrder
 pub mod Least
 pub mod OwnSignals

@@ -1,16 +1,16 @@
 -- One more event, module, time, column or row
-use Rattle.std.proofs.Common.{◌≡◌, ℕ, suc, ◌+◌, ◌-◌, ◌<◌, ◌≤◌, List, [], ◌∷◌, length, Bool, true, false, Some, None, Less, Equal, Greater, refl, sym, ap, ap₂, subst, ◌∙◌, inl, inr, ◌⊎◌, arith}
+use Rattle.std.proofs.Common.{◌≡◌, ℕ, suc, ◌+◌, ◌-◌, ◌<◌, ◌≤◌, List, [], ◌∷◌, ◌++◌, length, take, get_or, Bool, true, false, Some, None, Less, Equal, Greater, refl, sym, ap, ap₂, subst, ◌∙◌, inl, inr, ◌⊎◌, arith}
 use Rattle.std.specs.Prelude.{ℤ, pos, ◌≢◌, slice_get, unwrap_or}
 use Rattle.std.specs.Arc.{arc_value}
 use Rattle.std.specs.Ordering.{nat_cmp}
-use Rattle.std.proofs.lemmas.List.{length-map}
+use Rattle.std.proofs.lemmas.List.{take_all, take_more}
 use Rattle.std.proofs.lemmas.Option.{slice_get_within}
 use Rattle.std.proofs.lemmas.Bool.{cond-false, false≢true, cases_Bool}
 use Rattle.std.proofs.lemmas.Bool.Decides.{nat_tests}
 use Rattle.std.proofs.lemmas.Cmp.{tied_itself}
 use Rattle.bbm_rule.specs.declared.block.Cell.{Cell}
 use Rattle.module_box.specs.Boxes.{in_box, is_near}
-use Rattle.module_box.specs.Locals.{circuit_wire}
+use Rattle.module_box.specs.Locals.{circuit_wire, is_among}
 use Rattle.module_box.specs.Schedules.{Signals, held_at, event_at, signal_at, is_then}
 use Rattle.module_box.specs.Tiling.{owner_of}
 use Rattle.module_box.specs.declared.schedules.Event.{Event}
@@ -22,11 +22,12 @@ use Rattle.module_box.proofs.Rising.{then_moment}
 use Rattle.module_job.specs.Jobs.{JobState}
 use Rattle.module_job.specs.Signals.{renumber_signal}
 use Rattle.border_match.specs.BorderFaults.{border_cmp}
-use Rattle.border_match.specs.Boards.{jobs_of, IsReady, Faults, IsNamed, IsNamedBelow, IsEdgeNamed, IsEdgeNamedBelow, IsEdgeNamedAt, DiffersAlways, DiffersAlwaysAt, DiffersAlwaysInRow, DiffersAlwaysBefore, DiffersAlwaysAbove}
+use Rattle.border_match.specs.Boards.{AreOwnersNoted, jobs_of, IsReady, Faults, IsNamed, IsNamedBelow, IsEdgeNamed, IsEdgeNamedAmong, IsEdgeNamedAt, DiffersAlways, DiffersAlwaysAt, DiffersAlwaysInRow, DiffersAlwaysBefore, DiffersAlwaysAbove}
 use Rattle.border_match.specs.declared.borders.Borders.{Borders}
 use Rattle.border_match.specs.declared.fault.BorderFault.{BorderFault}
 use Rattle.border_match.proofs.FaultOrder.{border_total}
-use Rattle.border_match.proofs.Cells.{placed}
+use Rattle.border_match.proofs.Cells.{placed, reached}
+use Rattle.border_match.proofs.NearModules.{among_more}
 
 lower_or_same : (i m : ℕ) → i < m + 1 → (i < m) ⊎ (i ≡ m)
 lower_or_same i m h = grind arith
@@ -52,17 +53,17 @@ named_all events k f le h =
 
 -- ---- modules
 
-pub edges_step : (b : Borders) (k : ℕ) (f : BorderFault) → IsEdgeNamedBelow (k + 1) b f → IsEdgeNamedBelow k b f ⊎ IsEdgeNamedAt k b f
-edges_step b k f h = elim (lower_or_same (owner_of b.owners.now f.cell.x f.cell.y) k h.1) [
-  | inl lt ↦ inl (h.0, lt)
-  | inr same ↦ inr (h.0, same)
-]
+pub edges_step : (b : Borders) (ks : List ℕ) (i k : ℕ) (d : ℕ) (f : BorderFault) → i < length ks → k ≡ get_or ks i d → IsEdgeNamedAmong (take (i + 1) ks) b f → IsEdgeNamedAmong (take i ks) b f ⊎ IsEdgeNamedAt k b f
+edges_step b ks i k d f lt is h =
+    let own = owner_of b.owners.now f.cell.x f.cell.y in
+    elim (among_more (take i ks) k own (ap (λ l. is_among l own) (ap (λ x. take i ks ++ x ∷ []) is ∙ sym (take_more ks i d lt)) ∙ h.1)) [
+      | inl before ↦ inl (h.0, before)
+      | inr same ↦ inr (h.0, same)
+    ]
 
-pub edges_all : (b : Borders) (k : ℕ) (f : BorderFault) → length b.jobs.now ≤ k → IsEdgeNamed b f → IsEdgeNamedBelow k b f
-edges_all b k f le h =
-    let within : owner_of b.owners.now f.cell.x f.cell.y < length b.jobs.now =
-    subst (λ n. owner_of b.owners.now f.cell.x f.cell.y < n) (length-map b.jobs.now arc_value) (slice_get_within (jobs_of b) _ h.owner h.numbered) in
-    (h, omega (arith, within))
+pub edges_all : (b : Borders) (ks : List ℕ) (i : ℕ) (f : BorderFault) → length ks ≤ i → AreOwnersNoted b ks → Faults b f → IsEdgeNamed b f → IsEdgeNamedAmong (take i ks) b f
+edges_all b ks i f le noted g h =
+    (h, ap (λ l. is_among l (owner_of b.owners.now f.cell.x f.cell.y)) (take_all i ks le) ∙ noted f.cell.x f.cell.y (reached b f g))
 
 other_is : (b : Borders) (k : ℕ) (other : JobState) (f : BorderFault) → slice_get (jobs_of b) k ≡ Some other → (h : IsEdgeNamedAt k b f) → h.0.owner ≡ other
 other_is b k other f e h = same_some (slice_get (jobs_of b) k) h.0.owner other (ap (slice_get (jobs_of b)) (sym h.1) ∙ h.0.numbered) e
@@ -71,13 +72,6 @@ pub edges_named : (b : Borders) (k : ℕ) (other : JobState) (f : BorderFault) �
 edges_named b k other f e h =
     let P : JobState → Type 0 = λ j. IsNamed j.edges.events f in
     subst P (other_is b k other f e h) h.0.named
-
-pub near_needed : (b : Borders) (k : ℕ) (other : JobState) (f : BorderFault) → IsReady b → slice_get (jobs_of b) k ≡ Some other → Faults b f → IsEdgeNamedAt k b f →
-    is_near b.job.now.area other.area ≡ true
-near_needed b k other f ready e g h =
-    let m = ready.0.holder f.cell.x f.cell.y g.inside in
-    let same : m.0 ≡ other = same_some (slice_get (jobs_of b) k) m.0 other (ap (slice_get (jobs_of b)) (sym h.1) ∙ m.1) e in
-    near_boxes b.job.now.area other.area f.cell.x f.cell.y g.halo (ap (λ (j : JobState). in_box j.area f.cell.x f.cell.y) (sym same) ∙ m.2)
 
 -- ---- times
 

@@ -1,9 +1,10 @@
 -- Border faults by the jobs of the modules, and the parts of a search for them
-use Rattle.std.specs.Prelude.{◌≡◌, ◌≢◌, ℕ, ℤ, pos, ◌<◌, ◌%◌, List, map, Some, None, slice_get, IsTrue}
+use Rattle.std.specs.Prelude.{◌≡◌, ◌≢◌, ℕ, ℤ, pos, ◌<◌, ◌%◌, ◌&&◌, true, List, length, map, Some, None, slice_get, IsTrue}
+use Rattle.std.specs.List.{All}
 use Rattle.std.specs.Arc.{arc_value}
 use Rattle.bbm_rule.specs.declared.block.Cell.{Cell}
 use Rattle.module_box.specs.Boxes.{in_box, in_halo}
-use Rattle.module_box.specs.Locals.{circuit_wire}
+use Rattle.module_box.specs.Locals.{circuit_wire, is_among}
 use Rattle.module_box.specs.Schedules.{event_at, signal_at}
 use Rattle.module_box.specs.Tiling.{Owning, rectangle, owner_of}
 use Rattle.module_box.specs.declared.boxes.Box2.{Box2}
@@ -49,17 +50,13 @@ pub record IsBoard (w : Box2) (o : Owning) (jobs : List JobState) : Type 0 where
   pub holder : (x y : ℤ) → IsTrue (in_box w x y) → (j : JobState) × (slice_get jobs (owner_of o x y) ≡ Some j) × IsTrue (in_box j.area x y)
   pub quiet : (k : ℕ) (j : JobState) → slice_get jobs k ≡ Some j → IsQuiet j
 
--- the box of each job stands at the job's number
-abbrev pub AreBoxesOf : List JobState → List Box2 → Type 0
-AreBoxesOf jobs boxes = (k : ℕ) (j : JobState) → slice_get jobs k ≡ Some j → slice_get boxes k ≡ Some j.area
-
 -- ---- the same of a module among its neighbours
 
 abbrev pub jobs_of : Borders → List JobState
 jobs_of b = map arc_value b.jobs.now
 
 abbrev pub IsReady : Borders → Type 0
-IsReady b = IsBoard b.whole b.owners.now (jobs_of b) × IsQuiet b.job.now × AreBoxesOf (jobs_of b) b.boxes.now
+IsReady b = IsBoard b.whole b.owners.now (jobs_of b) × IsQuiet b.job.now
 
 abbrev pub Faults : Borders → BorderFault → Type 0
 Faults b f = IsJobFault b.whole b.owners.now (jobs_of b) b.job.now f
@@ -88,9 +85,9 @@ pub record IsEdgeNamed (b : Borders) (f : BorderFault) : Type 0 where
   pub numbered : slice_get (jobs_of b) (owner_of b.owners.now f.cell.x f.cell.y) ≡ Some owner
   pub named : IsNamed owner.edges.events f
 
--- the same, and that module is one of the first k
-abbrev pub IsEdgeNamedBelow : ℕ → Borders → BorderFault → Type 0
-IsEdgeNamedBelow k b f = IsEdgeNamed b f × (owner_of b.owners.now f.cell.x f.cell.y < k)
+-- the same, and that module's number is one of these
+abbrev pub IsEdgeNamedAmong : List ℕ → Borders → BorderFault → Type 0
+IsEdgeNamedAmong ks b f = IsEdgeNamed b f × IsTrue (is_among ks (owner_of b.owners.now f.cell.x f.cell.y))
 
 -- the same, and that module has the number k
 abbrev pub IsEdgeNamedAt : ℕ → Borders → BorderFault → Type 0
@@ -121,3 +118,33 @@ pub record DiffersAlwaysAbove (b : Borders) (y : ℕ) (f : BorderFault) : Type 0
   pub at : ℕ
   pub row : f.cell.y ≡ pos at
   pub above : at < y
+
+-- ---- the modules that have cells of a module's halo
+
+-- these are numbers of modules
+abbrev pub AreNumbers : Borders → List ℕ → Type 0
+AreNumbers b ks = All (λ k. k < length b.jobs.now) ks
+
+-- none is lost
+abbrev pub KeepsNumbers : List ℕ → List ℕ → Type 0
+KeepsNumbers old new = (k : ℕ) → IsTrue (is_among old k) → IsTrue (is_among new k)
+
+-- if the cell (x, y) is in the rectangle and in the halo, the number of the module that has it is one of these
+abbrev pub IsNoted : Borders → List ℕ → ℤ → ℤ → Type 0
+IsNoted b ks x y = (in_box b.whole x y && in_halo b.job.now.area x y) ≡ true → IsTrue (is_among ks (owner_of b.owners.now x y))
+
+-- the same of all cells
+abbrev pub AreOwnersNoted : Borders → List ℕ → Type 0
+AreOwnersNoted b ks = (x y : ℤ) → IsNoted b ks x y
+
+-- the same of the cells of row y
+abbrev pub IsRowNoted : Borders → List ℕ → ℕ → Type 0
+IsRowNoted b ks y = (x : ℤ) → IsNoted b ks x (pos y)
+
+-- the same of those before column x
+abbrev pub IsRowNotedBefore : Borders → List ℕ → ℕ → ℕ → Type 0
+IsRowNotedBefore b ks y x = (c : ℕ) → c < x → IsNoted b ks (pos c) (pos y)
+
+-- the same of the rows above row y
+abbrev pub AreRowsNotedAbove : Borders → List ℕ → ℕ → Type 0
+AreRowsNotedAbove b ks y = (r : ℕ) → r < y → IsRowNoted b ks r

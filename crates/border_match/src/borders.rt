@@ -1,5 +1,5 @@
 //! The borders of one module.
-ghost use Rattle.std.specs.Prelude.{◌≡◌, ◌≢◌, ◌<◌, ◌↔◌, ◌&&◌, List, length, map, slice_get, IsTrue, Some};
+ghost use Rattle.std.specs.Prelude.{◌≡◌, ◌≢◌, ◌<◌, ◌↔◌, ◌&&◌, List, length, map, slice_get, IsTrue, Some, IfOk, OnOk};
 ghost use Rattle.std.specs.Arc.{arc_value};
 ghost use Rattle.circuit.specs.Meaning.{wires};
 ghost use Rattle.module_box.specs.Boxes.{in_box, in_halo};
@@ -7,7 +7,7 @@ ghost use Rattle.module_box.specs.Locals.{circuit_wire};
 ghost use Rattle.module_box.specs.Moves.{IsNear};
 ghost use Rattle.module_box.specs.Tiling.{owner_of};
 ghost use Rattle.module_job.specs.Signals.{IsBelow, renumber_signal};
-ghost use Rattle.border_match.specs.Boards.{Differ, Faults, IsEdgeNamed, IsEdgeNamedAt, DiffersAlways, DiffersAlwaysAt, DiffersAlwaysInRow, IsNamed, IsReady, job_edge, job_halo, jobs_of};
+ghost use Rattle.border_match.specs.Boards.{AreNumbers, AreOwnersNoted, Differ, Faults, IsEdgeNamed, IsEdgeNamedAt, DiffersAlways, DiffersAlwaysAt, DiffersAlwaysInRow, IsNamed, IsNoted, IsReady, IsRowNoted, KeepsNumbers, job_edge, job_halo, jobs_of};
 ghost use Rattle.border_match.specs.Candidates.{IsBetter, IsLeast};
 ghost use Rattle.border_match.specs.declared.fault.BorderFault.{BorderFault};
 
@@ -16,16 +16,16 @@ use bbm_rule::Cell;
 use certificate::Job;
 use module_box::{Box2, Event, Owners, Signal};
 use module_job::Shape;
+use std::alloc::{AllocError, Global};
 use std::sync::Arc;
 
 /// The borders of a module: the layout's rectangle, the number of the module that has each cell of it, the jobs of all
-/// modules and their boxes, and the job of this one.
+/// modules, and the job of this one.
 #[derive(Clone, Copy)]
 pub(crate) struct Borders<'a> {
     pub(crate) whole: Box2,
     pub(crate) owners: &'a Owners,
     pub(crate) jobs: &'a [Arc<Job>],
-    pub(crate) boxes: &'a [Box2],
     pub(crate) job: &'a Job,
 }
 

@@ -60,7 +60,7 @@ fn no_faults(alloc: Global, count: usize) -> Result<Vec<Option<BorderFault>>, Al
 /// The jobs are the certificate's, as [`Cert::jobs`](certificate::Cert::jobs) makes them.
 ///
 /// `AllocError` is want of memory, which is taken for the modules' boxes, a table of the rectangle's blocks of two by
-/// two cells, and the answer.
+/// two cells, the numbers of the modules near one, and the answer.
 pub fn match_borders(
     alloc: Global,
     cert: &Cert,
@@ -90,10 +90,9 @@ pub fn match_borders(
             whole,
             owners: &owners,
             jobs,
-            boxes: &boxes,
             job,
         };
-        faults.push(borders.least_fault())?;
+        faults.push(borders.least_fault(alloc)?)?;
     }
     Ok(faults)
 }

@@ -1,10 +1,12 @@
 -- The indexes of a layout's cells, and the ports in a module's box.
-use Rattle.std.proofs.Common.{◌≡◌, ℕ, ◌+◌, ℤ, Bool, true, false, ◌||◌, if◌then◌else◌, List, [], ◌∷◌, map, ◌<◌, ◌≤◌, get_or, length, Option, Some, None, refl, sym, ap, subst, ◌∙◌, arith}
+use Rattle.std.proofs.Common.{◌≡◌, ℕ, ◌+◌, ℤ, Bool, true, false, ◌||◌, if◌then◌else◌, List, [], ◌∷◌, ◌++◌, map, ◌<◌, ◌≤◌, get_or, length, take, Option, Some, None, refl, sym, ap, ap₂, subst, ◌∙◌, arith}
 use Rattle.std.specs.Prelude.{slice_get, IsTrue, IfSome}
 use Rattle.std.specs.List.{flat_map}
 use Rattle.std.specs.Prelude.{option_map}
-use Rattle.std.proofs.lemmas.List.{length-map}
 use Rattle.std.proofs.lemmas.List.Folds.{list_any-append}
+use Rattle.std.specs.List.{All}
+use Rattle.std.proofs.lemmas.List.{map-append, take_more}
+use Rattle.std.proofs.lemmas.List.Elements.{All-append, All-push}
 use Rattle.std.proofs.lemmas.Option.{slice_get-get_or, slice_get-map}
 use Rattle.bbm_rule.specs.Plane.{is_at}
 use Rattle.bbm_rule.specs.declared.block.Cell.{Cell}
@@ -29,12 +31,12 @@ use Rattle.certificate_lines.specs.PortTables.{AreOnBoard, port_at}
 use Rattle.certificate.specs.Jobs.{named_wire, signal_of, start_signal, demand_elsewhere, end_demand}
 use Rattle.module_job.specs.declared.job.Demand.TheVariants as Demanded
 use Rattle.certificate_lines.specs.Modules.{HasPorts}
-use Rattle.certificate.specs.PlanView.{HasMirrorOrNothing, KnowsPorts}
+use Rattle.certificate.specs.PlanView.{HasMirrorOrNothing, KnowsPorts, cells_of_others}
 use Rattle.certificate_lines.specs.Rules.{is_local}
 use Rattle.certificate_lines.proofs.BoxPlaces.{skipped}
 use Rattle.certificate_lines.proofs.Lists.{kept}
 use Rattle.bbm_rule.proofs.SameCells.{cell_same}
-use Rattle.certificate_lines.proofs.LayoutPorts.{port_stands, AllInLayout}
+use Rattle.certificate_lines.proofs.LayoutPorts.{AllInLayout, balls_on_layout, port_stands, ports_on_layout, wastes_on_layout}
 
 -- ---- the cells of mirrors
 
@@ -84,6 +86,17 @@ pub end_port : (c : Circuit) (p : Pattern) (x y : ℤ) (a : Bool) → a ≡ in_r
 unfolding end_demand
 end_port c p x y a mirror h o port = rw (sym mirror, h, sym port) refl
 
+-- ---- one cell more
+
+pub pushed_cell : {A B : Type 0} (g : A → B) (f : Cell → B) (old new : List A) (a : A) (cells : List Cell) (i : ℕ) (d : Cell) → i < length cells → new ≡ old ++ a ∷ [] →
+    map g old ≡ map f (take i cells) → g a ≡ f (get_or cells i d) → map g new ≡ map f (take (i + 1) cells)
+pushed_cell g f old new a cells i d lt pushed before here =
+    ap (map g) pushed ∙ map-append g old (a ∷ []) ∙ ap₂ (λ xs x. xs ++ x ∷ []) before here
+    ∙ sym (map-append f (take i cells) (get_or cells i d ∷ [])) ∙ ap (map f) (sym (take_more cells i d lt))
+
+pub pushed_all : {A : Type 0} (P : A → Type 0) (old new : List A) (a : A) → new ≡ old ++ a ∷ [] → All P old → P a → All P new
+pushed_all P old new a pushed before here = subst (All P) (sym pushed) (All-push P old a before here)
+
 -- ---- a cell without ball, waste cell or port
 
 pub start_nothing : (c : Circuit) (p : Pattern) (x y : ℤ) → in_rectangles p.mirrors x y ≡ false → HasMirrorOrNothing p x y → Zero ≡ start_signal c p x y
@@ -106,10 +119,9 @@ unfolding port_at
 no_port [] x y e = refl
 no_port (q ∷ ports) x y e = no_port_here (is_at q.cell x y) (in_cells (map (λ (q : Port). q.cell) ports) x y) q.name (port_at ports x y) e (no_port ports x y)
 
-pub cells_in_layout : (s : Extent) (ports : List Port) → AreOnBoard s ports → AllInLayout s (map (λ (q : Port). q.cell) ports)
-cells_in_layout s ports on k d lt =
+port_cells_inside : (s : Extent) (ports : List Port) → AreOnBoard s ports → AllInLayout s (map (λ (q : Port). q.cell) ports)
+port_cells_inside s ports on k d lt =
     let cell : Port → Cell = λ q. q.cell in
-    let count = length-map cell ports in
     let at : slice_get (map cell ports) k ≡ Some (get_or (map cell ports) k d) = slice_get-get_or (map cell ports) k d lt in
     let there = some_mapped (slice_get ports k) cell (get_or (map cell ports) k d) (sym (slice_get-map cell ports k) ∙ at) in
     ap (λ (c : Cell). in_layout s c.x c.y) (sym there.2) ∙ on k there.0 there.1
@@ -117,6 +129,33 @@ cells_in_layout s ports on k d lt =
     some_mapped : (o : Option Port) (f : Port → Cell) (c : Cell) → option_map f o ≡ Some c → (q : Port) × (o ≡ Some q) × (f q ≡ c)
     some_mapped None f c e = absurd cc
     some_mapped (Some q) f c e = (q, refl, cc)
+
+abbrev IsInLayout : Extent → Cell → Type 0
+IsInLayout s c = in_layout s c.x c.y ≡ true
+
+pub others_inside : (p : Pattern) (s : Extent) → s ≡ p.size → AreGoodAfter s [] (parts_of p) → (cells : List Cell) → cells ≡ cells_of_others p → AllInLayout s cells
+others_inside p s is good cells are =
+    let ports = ports_on_layout p s is good in
+    subst (AllInLayout s) (sym are)
+    (All-append (IsInLayout s) ((p.balls ++ p.wastes) ++ map (λ (q : Port). q.cell) p.ins) (map (λ (q : Port). q.cell) p.outs)
+      (All-append (IsInLayout s) (p.balls ++ p.wastes) (map (λ (q : Port). q.cell) p.ins)
+        (All-append (IsInLayout s) p.balls p.wastes (balls_on_layout p s is good) (wastes_on_layout p s is good))
+        (port_cells_inside s p.ins ports.0))
+      (port_cells_inside s p.outs ports.1))
+
+neither : (a b : Bool) → (a || b) ≡ false → (a ≡ false) × (b ≡ false)
+neither true b e = absurd cc
+neither false b e = (refl, e)
+
+apart : (xs ys : List Cell) (x y : ℤ) → in_cells (xs ++ ys) x y ≡ false → (in_cells xs x y ≡ false) × (in_cells ys x y ≡ false)
+apart xs ys x y e = neither (in_cells xs x y) (in_cells ys x y) (sym (list_any-append (λ (c : Cell). is_at c x y) xs ys) ∙ e)
+
+pub no_others : (p : Pattern) (x y : ℤ) → in_cells (cells_of_others p) x y ≡ false → HasMirrorOrNothing p x y
+no_others p x y e =
+    let outs = apart ((p.balls ++ p.wastes) ++ map (λ (q : Port). q.cell) p.ins) (map (λ (q : Port). q.cell) p.outs) x y e in
+    let ins = apart (p.balls ++ p.wastes) (map (λ (q : Port). q.cell) p.ins) x y outs.0 in
+    let both = apart p.balls p.wastes x y ins.0 in
+    record { balls = both.0; wastes = both.1; ins = no_port p.ins x y ins.1; outs = no_port p.outs x y outs.1 }
 
 -- ---- the mirrors of a layout
 

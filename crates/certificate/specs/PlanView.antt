@@ -1,6 +1,7 @@
 -- A circuit and a layout with tables of the layout's cells, and what contracts see of them
-use Rattle.std.specs.Prelude.{◌≡◌, ℕ, ℤ, List, None, false, IsTrue, IfSome}
+use Rattle.std.specs.Prelude.{◌≡◌, ◌++◌, ℕ, ℤ, List, None, false, map, IsTrue, IfSome}
 use Rattle.bbm_rule.specs.Board.{live}
+use Rattle.bbm_rule.specs.declared.block.Cell.{Cell}
 use Rattle.circuit.specs.Meaning.{Circuit}
 use Rattle.circuit.specs.declared.entry.Entry.{Entry as CircuitLine}
 use Rattle.pattern.specs.Layout.{Pattern, in_cells, in_rectangles}
@@ -18,6 +19,10 @@ pub record PlanState : Type 0 where
 
 abbrev pub plan_state : Inside → PlanState
 plan_state a = record { circuit = a.circuit.now; layout = a.layout.now }
+
+-- the cells of balls, the waste cells and the cells of ports
+abbrev pub cells_of_others : Pattern → List Cell
+cells_of_others p = ((p.balls ++ p.wastes) ++ map (λ q. q.cell) p.ins) ++ map (λ q. q.cell) p.outs
 
 -- the layout has no ball, waste cell or port at the cell (x, y)
 pub record HasMirrorOrNothing (p : Pattern) (x y : ℤ) : Type 0 where

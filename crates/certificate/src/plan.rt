@@ -1,5 +1,5 @@
 //! What the cells of a module carry at time 0, and what they are to be at the last time.
-ghost use Rattle.std.specs.Prelude.{◌≡◌, ◌+◌, ◌*◌, ◌<◌, ◌≤◌, ℤ, false, true, None, Some, All, length, map, unwrap_or, slice_get, IsTrue, IfOk};
+ghost use Rattle.std.specs.Prelude.{◌≡◌, ◌+◌, ◌*◌, ◌<◌, ◌≤◌, ◌++◌, ℤ, false, true, None, Some, All, length, map, unwrap_or, slice_get, IsTrue, IfOk, OnOk};
 ghost use Rattle.std.specs.List.{flat_map};
 ghost use Rattle.bbm_rule.specs.Board.{live};
 ghost use Rattle.circuit.specs.Bridge.{circuit_of};
@@ -10,7 +10,7 @@ ghost use Rattle.module_box.specs.Boxes.{in_box};
 ghost use Rattle.module_box.specs.Locals.{circuit_wire, is_among};
 ghost use Rattle.certificate.specs.Jobs.{end_demand, start_signal};
 ghost use Rattle.module_box.specs.Places.{place_in};
-ghost use Rattle.certificate.specs.PlanView.{HasMirrorOrNothing, KnowsPort, KnowsPorts};
+ghost use Rattle.certificate.specs.PlanView.{HasMirrorOrNothing, KnowsPort, KnowsPorts, cells_of_others};
 ghost use Rattle.certificate_lines.specs.Rules.{is_local};
 ghost use Rattle.module_job.specs.Signals.{IsBelow, IsDemandBelow, renumber_demand, renumber_signal};
 
@@ -75,14 +75,25 @@ fn cells_of_mirrors(alloc: Global, mirrors: &[Rectangle]) -> Result<Vec<Cell>, A
     Ok(cells)
 }
 
-// The cells of ports.
-fn port_cells(alloc: Global, ports: &[Port]) -> Result<Vec<Cell>, AllocError>
-    ensures { IfOk result (λ cells. cells.items ≡ map (λ p. p.cell) ports.now) }
+// Adds the cells of ports.
+fn push_port_cells(cells: &mut Vec<Cell>, ports: &[Port]) -> Result<(), AllocError>
+    ensures { OnOk result (cells.new.items ≡ cells.old.items ++ map (λ p. p.cell) ports.now) }
 {
-    let mut cells = Vec::with_capacity(alloc, ports.len())?;
     for port in ports {
         cells.push(port.cell)?;
     }
+    Ok(())
+}
+
+// The cells of balls, the waste cells and the cells of ports.
+fn other_cells(alloc: Global, layout: &Layout) -> Result<Vec<Cell>, AllocError>
+    ensures { IfOk result (λ cells. cells.items ≡ cells_of_others layout.now) }
+{
+    let mut cells = Vec::new(alloc);
+    cells.extend_from_slice(layout.balls())?;
+    cells.extend_from_slice(layout.wastes())?;
+    push_port_cells(&mut cells, layout.ins())?;
+    push_port_cells(&mut cells, layout.outs())?;
     Ok(cells)
 }
 
@@ -92,12 +103,8 @@ fn others_of(alloc: Global, layout: &Layout) -> Result<Grid, AllocError>
         live grid x y ≡ false → HasMirrorOrNothing layout.now x y) }
 {
     let size = layout.size();
-    let ins = port_cells(alloc, layout.ins())?;
-    let outs = port_cells(alloc, layout.outs())?;
-    let mut grid = grid_of(alloc, size, layout.balls())?;
-    make_live(&mut grid, layout.wastes());
-    make_live(&mut grid, &ins);
-    make_live(&mut grid, &outs);
+    let cells = other_cells(alloc, layout)?;
+    let grid = grid_of(alloc, size, &cells)?;
     Ok(grid)
 }
 

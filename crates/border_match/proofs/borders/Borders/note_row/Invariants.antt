@@ -1,0 +1,10 @@
+-- The cells of the row so far are noted.
+use Rattle.border_match.specs.Boards.{AreNumbers, IsRowNotedBefore, KeepsNumbers}
+use Rattle.border_match.proofs.borders.Borders.note_row.Given as goal
+
+abbrev pub invariant-columns : goal.invariant-columns
+invariant-columns l = record {
+  noted : IsRowNotedBefore l.self l.near.items l.y l.x;
+  kept : KeepsNumbers l.fn.near.items l.near.items;
+  below : AreNumbers l.self l.near.items;
+}
