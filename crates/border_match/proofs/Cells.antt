@@ -58,13 +58,13 @@ near_nat f n x k e h =
     near_bounds f n k at.0 x y.0 e at.1 y.1 at.2 at.3
 
 -- where a cell of the rectangle and the halo is, counted from the rectangle's corner
-pub record IsPlaced (b : Borders) (x y : ℤ) : Type 0 where
+pub record IsPlaced (b : Borders) (cx cy : ℤ) : Type 0 where
   pub column : ℕ
-  pub x : x ≡ pos column
+  pub x : cx ≡ pos column
   pub left : b.job.now.area.x - 1 ≤ column
   pub right : column < b.job.now.area.x + b.job.now.area.w + 1
   pub row : ℕ
-  pub y : y ≡ pos row
+  pub y : cy ≡ pos row
   pub top : b.job.now.area.y - 1 ≤ row
   pub bottom : row < b.job.now.area.y + b.job.now.area.h + 1
 

@@ -18,10 +18,13 @@ either : (a b : Bool) → (a || b) ≡ true → (a ≡ true) ⊎ (b ≡ true)
 either true b e = inl refl
 either false b e = inr e
 
+abbrev is_it : ℕ → ℕ → Bool
+is_it w v = v == w
+
 pub among_more : (ks : List ℕ) (k w : ℕ) → is_among (ks ++ k ∷ []) w ≡ true → (is_among ks w ≡ true) ⊎ (w ≡ k)
-among_more ks k w h = elim (either _ _ (sym (list_any-append (λ v. v == w) ks (k ∷ [])) ∙ h)) [
+among_more ks k w h = elim (either (is_among ks w) (is_among (k ∷ []) w) (sym (list_any-append (is_it w) ks (k ∷ [])) ∙ h)) [
   | inl before ↦ inl before
-  | inr last ↦ elim (either _ _ last) [
+  | inr last ↦ elim (either (is_it w k) false last) [
     | inl same ↦ inr (grind (arith, nat_tests, same))
     | inr none ↦ absurd (false≢true none)
   ]
@@ -36,10 +39,10 @@ or_right true b e = refl
 or_right false b e = e
 
 pub keeps_more : (ks : List ℕ) (k : ℕ) → KeepsNumbers ks (ks ++ k ∷ [])
-keeps_more ks k w h = list_any-append (λ v. v == w) ks (k ∷ []) ∙ or_left _ _ h
+keeps_more ks k w h = list_any-append (is_it w) ks (k ∷ []) ∙ or_left (is_among ks w) (is_among (k ∷ []) w) h
 
 pub last_among : (ks : List ℕ) (k : ℕ) → is_among (ks ++ k ∷ []) k ≡ true
-last_among ks k = list_any-append (λ v. v == k) ks (k ∷ []) ∙ or_right (is_among ks k) _ (or_left (k == k) false (grind (arith, nat_tests)))
+last_among ks k = list_any-append (is_it k) ks (k ∷ []) ∙ or_right (is_among ks k) (is_among (k ∷ []) k) (or_left (is_it k k) false (grind (arith, nat_tests)))
 
 -- ---- columns of a row, and rows
 
@@ -60,10 +63,10 @@ no_column b ks y x from c lt there =
     pos_same : (i k : ℕ) → pos i ≡ pos k → i ≡ k
     pos_same i k e = cc
 
-pub column_more : (b : Borders) (old new : List ℕ) (y x : ℕ) → IsRowNotedBefore b old y x → KeepsNumbers old new → IsNoted b new (pos x) (pos y) → IsRowNotedBefore b new y (x + 1)
-column_more b old new y x before keeps here c lt = elim (lower_or_same c x lt) [
+pub column_more : (b : Borders) (old new : List ℕ) (y x : ℕ) (cx cy : ℤ) → cx ≡ pos x → cy ≡ pos y → IsRowNotedBefore b old y x → KeepsNumbers old new → IsNoted b new cx cy → IsRowNotedBefore b new y (x + 1)
+column_more b old new y x cx cy ex ey before keeps here c lt = elim (lower_or_same c x lt) [
   | inl l ↦ noted_still b old new (pos c) (pos y) keeps (before c l)
-  | inr same ↦ subst (λ (n : ℕ). IsNoted b new (pos n) (pos y)) (sym same) here
+  | inr same ↦ subst (λ (n : ℕ). IsNoted b new (pos n) (pos y)) (sym same) (subst (λ (z : ℤ). IsNoted b new (pos x) z) ey (subst (λ (z : ℤ). IsNoted b new z cy) ex here))
 ]
 
 pub all_columns : (b : Borders) (ks : List ℕ) (y x : ℕ) → b.job.now.area.x + b.job.now.area.w + 1 ≤ x → IsRowNotedBefore b ks y x → IsRowNoted b ks y
