@@ -35,10 +35,22 @@ fn hash_lines(hasher: &mut Sha256, line: &mut Vec<u8>, entries: &[Entry]) -> Res
 
 impl<'a> Cert<'a> {
     /// The SHA-256 digest of the certificate's text: of the bytes of its section, from its header line to its `end`
-    /// line with the line feed. It is hashed line by line, so it takes no memory for the whole text. The error is want
-    /// of memory.
-    #[tactic(auto, unfolding(crate::specs::Text::certificate_text))]
+    /// line with the line feed. It takes no memory for the whole text. The error is want of memory.
+    ///
+    /// It is there already if [`read_certificate_with_digest`](crate::read_certificate_with_digest) made the
+    /// certificate. Otherwise the lines are printed and hashed one by one.
     pub fn digest(&self, alloc: Global) -> Result<[u8; 32], AllocError>
+        ensures { IfOk result (λ digest. digest ≡ sha256 (certificate_text self.now)) }
+    {
+        match self.digest {
+            Some(digest) => Ok(digest),
+            None => self.printed_digest(alloc),
+        }
+    }
+
+    // The same, from the lines.
+    #[tactic(auto, unfolding(crate::specs::Text::certificate_text))]
+    fn printed_digest(&self, alloc: Global) -> Result<[u8; 32], AllocError>
         ensures { IfOk result (λ digest. digest ≡ sha256 (certificate_text self.now)) }
     {
         let mut hasher = Sha256::new();

@@ -23,5 +23,5 @@ pub use cert::Cert;
 pub use certificate_lines::{Border, Counts, Entry, StopLine};
 pub use module_job::{Demand, Job, Shape, Stop, job_groups, shape_groups};
 pub use printing::{print_certificate, print_migrated};
-pub use reading::read_certificate;
+pub use reading::{read_certificate, read_certificate_with_digest};
 pub use times::{Gap, TimeLine};

@@ -4,7 +4,7 @@ ghost use Rattle.answers.specs.CheckText.{IsReportOf};
 
 use crate::check::report_on;
 use answers::{Answered, refused};
-use certificate::read_certificate;
+use certificate::read_certificate_with_digest;
 use circuit::{port_names, read_circuit};
 use job_pool::Gate;
 use pattern::read_layout;
@@ -39,7 +39,7 @@ pub(crate) fn report_of_text<G: Gate + Sync, R: Threads + Wait + Sync>(
         Err(fault) => return refused(alloc, fault),
         Ok(layout) => layout,
     };
-    let cert = match read_certificate(alloc, &mut feed, &circuit, &layout) {
+    let cert = match read_certificate_with_digest(alloc, &mut feed, &circuit, &layout) {
         Err(fault) => return refused(alloc, fault),
         Ok(cert) => cert,
     };

@@ -1,12 +1,13 @@
 //! A text in pieces, taken line by line.
 ghost use Rattle.std.specs.Prelude.{drop, take, ◌≡◌, ℕ, ◌+◌, ◌-◌, ◌^◌, ◌<◌, ◌≤◌, ◌↔◌, true, false, List, [], ◌∷◌, ◌++◌, length, Option, Some, None, Ok, Err, IsTrue, IsOk, IfOk, IfErr, ◌≢◌, OnOk, OnErr, IfSome, MatchOption, unwrap_or, slice_get, slice_range, option_and_then, map};
 ghost use Rattle.std.specs.Option.{option_copied, option_map, ForSome};
-ghost use Rattle.std.specs.List.{position, list_all};
+ghost use Rattle.std.specs.List.{flat_map, position, list_all};
 ghost use Rattle.section_text.specs.Codes.{text_cut};
-ghost use Rattle.section_text.specs.Words.{is_digit, is_number, read_on, is_word_at, is_line_feed, is_space, rest_of, words_of, number_of, number_at, name_at, names_at, lone, lone_number, lone_name, four, five};
+ghost use Rattle.section_text.specs.Words.{lines_of, is_digit, is_number, read_on, is_word_at, is_line_feed, is_space, rest_of, words_of, number_of, number_at, name_at, names_at, lone, lone_number, lone_name, four, five};
 ghost use Rattle.section_text.specs.declared.fault.ReadFault.TheVariants.{Memory};
 ghost use Rattle.section_text.specs.Listed.{four_listed, listed};
 ghost use Rattle.section_text.specs.Faults.{refusal};
+ghost use Rattle.section_text.specs.Section.{ended_line};
 ghost use Rattle.section_text.specs.Seeding.{first_section, seed_of};
 ghost use Rattle.section_text.specs.FeedState.{FeedState, ahead, after_lines, IsLine, line_bytes, text_limit, TakesLine, RunsOut};
 
@@ -332,6 +333,14 @@ impl Feed {
                 Err(fault)
             }
         }
+    }
+
+    /// Returns the lines that were taken, each with its line feed.
+    pub fn taken_text(&self) -> &[u8]
+        ensures { result.now
+            ≡ flat_map ended_line (take self.now.taken (lines_of self.now.text)) }
+    {
+        &self.bytes[..self.at]
     }
 
     // The bytes of a line.

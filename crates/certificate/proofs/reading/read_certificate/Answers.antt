@@ -21,4 +21,5 @@ invariant_of-result c =
       known = read_version c.in-Ok.reading.builder.setting _ _ faultless;
       complete = subst (λ (es : List Entry). (is_haloless c.read_section-read.new.section.version && lacks_wire (setting_of c.args.circuit.now c.args.layout.now) (modules_of es)) ≡ false) (sym c.into_parts-entries.ensures.entries)
           (subst (λ (g : Setting). (is_haloless c.read_section-read.new.section.version && lacks_wire g (modules_of c.read_section-read.new.section.builder.entries)) ≡ false) c.in-Ok.ensures.setting (read_complete c.in-Ok.reading.builder.setting _ _ faultless));
+      hashed = tt;
     }
