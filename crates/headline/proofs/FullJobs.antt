@@ -1,4 +1,4 @@
--- The modules without halo lines have jobs: those of the modules with them, with the halos that the edge lines beside them stand for.
+-- The modules without halo lines have the jobs of the modules whose halos are the edge lines beside them
 use Rattle.std.proofs.Common.{◌≡◌, ℕ, zero, suc, false, List, [], ◌∷◌, map, length, Some, refl, sym, ap, ap₂, subst, ◌∙◌, arith}
 use Rattle.std.specs.Prelude.{slice_get}
 use Rattle.std.proofs.lemmas.List.{length-map}

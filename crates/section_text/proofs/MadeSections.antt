@@ -1,4 +1,4 @@
--- Lines that are a section by their forms, and have no fault, are read as that section; and their text is that of their forms.
+-- Lines with the forms of a section and without a fault are read as that section, and their text is that of the forms
 use Rattle.std.proofs.Common.{◌≡◌, ℕ, ◌+◌, List, [], ◌∷◌, ◌++◌, map, Option, Some, None, Ok, refl, sym, ap, ap₂, subst, ◌∙◌, append_assoc}
 use Rattle.std.specs.List.{flat_map}
 use Rattle.std.proofs.lemmas.List.{append-nil, append_cancel_left}
