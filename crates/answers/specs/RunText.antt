@@ -36,7 +36,8 @@ RunAsked = (Extent × List Part) × List (List ℕ)
 -- a layout section, an assign section in which the names of its input cells may be on, and nothing more
 unfoldable pub run_asked : List ℕ → Result RunAsked Refusal
 run_asked text =
-    section_then (layout_grammar None) 0 (lines_of text) (λ size parts n ahead. names_asked text (size, parts) (flat_map in_name parts) n ahead)
+    section_then (layout_grammar None) 0 (lines_of text)
+    (λ size parts n ahead. names_asked text (size, parts) (flat_map in_name parts) n ahead)
 
 -- ---- what is written
 

@@ -23,7 +23,8 @@ ValueAsked = List Entry × List (List ℕ)
 -- a circuit section, an assign section in which its inputs may be on, and nothing more
 unfoldable pub value_asked : List ℕ → Result ValueAsked Refusal
 value_asked text =
-    section_then circuit_grammar 0 (lines_of text) (λ _ entries n ahead. names_asked text entries (input_names entries) n ahead)
+    section_then circuit_grammar 0 (lines_of text)
+    (λ _ entries n ahead. names_asked text entries (input_names entries) n ahead)
 
 -- an input is true exactly where its name is on
 abbrev pub inputs_asked : ValueAsked → Valuation

@@ -5,7 +5,13 @@ use Rattle.audit_core.specs.Book.{BookView, IsBook, IsReplayed, accepted_in}
 use Rattle.audit_core.specs.declared.book.BookState.TheInside.{Inside}
 
 abbrev pub book_view : Inside → BookView
-book_view a = record { digest = a.digest; jobs = map arc_value a.jobs.items; held = a.found.items; closed = a.closed; history = a.history.items }
+book_view a = record {
+  digest = a.digest;
+  jobs = map arc_value a.jobs.items;
+  held = a.found.items;
+  closed = a.closed;
+  history = a.history.items;
+}
 
 pub record IsKeptBook (a : Inside) : Type 0 where
   pub book : IsBook (book_view a)

@@ -1,5 +1,6 @@
 -- The core: the numbers that seats drew, and a book. What each event makes of it, and the answer to it
-use Rattle.std.specs.Prelude.{ℕ, ◌+◌, ◌<◌, ◌≤◌, List, [], ◌∷◌, length, replicate, slice_index_or, slice_set, if◌then◌else◌, ⊤}
+use Rattle.std.specs.Prelude.{ℕ, ◌+◌, ◌<◌, ◌≤◌, List, [], ◌∷◌, length, replicate, slice_index_or, slice_set}
+use Rattle.std.specs.Prelude.{if◌then◌else◌, ⊤}
 use Rattle.module_job.specs.Jobs.{JobState}
 use Rattle.audit_core.specs.Draws.{IsDrawn, total}
 use Rattle.audit_core.specs.Claims.{claim_answer, claim_draws, claim_next, has_ended}
@@ -74,8 +75,8 @@ IsSeated seats (Events.Lose number) = ⊤
 abbrev pub ended : ℕ → List ℕ → ℕ
 ended n draws = if has_ended n draws then 1 else 0
 
--- Each number below the next was drawn, once. No more numbers were drawn than there are, but for one of each seat that has ended.
--- The book is one, and its history replays to it
+-- Each number below the next was drawn, once. No more numbers were drawn than there are, but for one of each seat that
+-- has ended. The book is one, and its history replays to it
 pub record IsCore (c : CoreView) : Type 0 where
   pub drawn : IsDrawn c.next c.draws
   pub few : c.next ≤ numbers_in c + total (ended (numbers_in c)) c.draws

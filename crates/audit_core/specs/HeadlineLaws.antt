@@ -25,9 +25,10 @@ use Rattle.audit_core.specs.Implements.{IsCorrect, IsNamed, LooksAsAsked, run_un
 use Rattle.audit_core.specs.OnTime.{IsOnTime}
 use Rattle.audit_core.specs.Verdicts.{Accepts}
 
--- What is known of a bundle that was read: the lines of its circuit, its layout, its modules and their jobs. `Circuit::gates`,
--- `Layout::size`, `Cert::modules` and `Cert::jobs` say it.
-pub record BelongTogether (lines : List Entry) (p : Pattern) (ms : List ModuleLines) (jobs : List JobState) : Type 0 where
+-- What is known of a bundle that was read: the lines of its circuit, its layout, its modules and their jobs.
+-- `Circuit::gates`, `Layout::size`, `Cert::modules` and `Cert::jobs` say it.
+pub record BelongTogether (lines : List Entry) (p : Pattern) (ms : List ModuleLines)
+    (jobs : List JobState) : Type 0 where
   pub ordered : AreOrdered (netlist_of lines).given (netlist_of lines).gates
   pub limits : size_fault p.size ≡ None
   pub laid_out : AreGoodAfter p.size [] (parts_of p)
@@ -35,7 +36,8 @@ pub record BelongTogether (lines : List Entry) (p : Pattern) (ms : List ModuleLi
   pub are_jobs : AreJobsOf (circuit_of lines) p ms jobs
 
 -- such a bundle, in which neither a job nor a border has a fault, and the rules on delays and meetings are kept
-pub record IsAcceptedBundle (lines : List Entry) (p : Pattern) (ms : List ModuleLines) (jobs : List JobState) : Type 0 where
+pub record IsAcceptedBundle (lines : List Entry) (p : Pattern) (ms : List ModuleLines)
+    (jobs : List JobState) : Type 0 where
   pub bundle : BelongTogether lines p ms jobs
   pub accepted : Accepts (setting_of lines p) ms jobs
 
@@ -46,10 +48,11 @@ pub record HasNoFault (lines : List Entry) (p : Pattern) (ms : List ModuleLines)
 
 -- no job has a fault of the kind `End`
 abbrev pub HasNoEndFault : List JobState → Type 0
-HasNoEndFault jobs = (number : ℕ) (j : JobState) (f : Fault) → slice_get jobs number ≡ Some j → f.kind ≡ End → ¬ IsFault j f
+HasNoEndFault jobs = (number : ℕ) (j : JobState) (f : Fault) → slice_get jobs number ≡ Some j → f.kind ≡ End →
+    ¬ IsFault j f
 
--- At time t no cell outside the rectangle is live, and in the box of each job the plane is the job's run by itself, where the
--- job's wires have the values that they have in the circuit.
+-- At time t no cell outside the rectangle is live, and in the box of each job the plane is the job's run by itself,
+-- where the job's wires have the values that they have in the circuit.
 pub record IsRunOfJobs (lines : List Entry) (p : Pattern) (jobs : List JobState) (v : Valuation) (t : ℕ) : Type 0 where
   pub outside : (x y : ℤ) → IsFalse (in_box (whole p.size) x y) → IsFalse (run_under (circuit_of lines) p v t x y)
   pub inside : (i : ℕ) (j : JobState) → slice_get jobs i ≡ Some j → (x y : ℤ) → IsTrue (in_box j.area x y) →
@@ -62,8 +65,10 @@ StartsAsJobs = (lines : List Entry) (p : Pattern) (ms : List ModuleLines) (jobs 
 
 -- where it is so before a step, and neither a job nor a border has a fault, it is so after the step
 abbrev pub StepsAsJobs : Type 0
-StepsAsJobs = (lines : List Entry) (p : Pattern) (ms : List ModuleLines) (jobs : List JobState) (inputs v : Valuation) (t : ℕ) →
-    BelongTogether lines p ms jobs → HasNoFault lines p ms jobs → Satisfies (netlist_of lines) inputs v → t < p.size.steps →
+StepsAsJobs = (lines : List Entry) (p : Pattern) (ms : List ModuleLines) (jobs : List JobState) (inputs v : Valuation)
+    (t : ℕ) →
+    BelongTogether lines p ms jobs → HasNoFault lines p ms jobs → Satisfies (netlist_of lines) inputs v →
+    t < p.size.steps →
     IsRunOfJobs lines p jobs v t → IsRunOfJobs lines p jobs v (suc t)
 
 -- where it is so after the last step, and no job has a fault, the plane looks as the layout asks
@@ -77,12 +82,14 @@ EndsAsAsked = (lines : List Entry) (p : Pattern) (ms : List ModuleLines) (jobs :
 
 -- no gate of what is accepted is the first that has no row: some module keeps it, and would have a keep fault
 abbrev pub NoneIsUndefined : Type 0
-NoneIsUndefined = (lines : List Entry) (p : Pattern) (ms : List ModuleLines) (jobs : List JobState) (inputs : Valuation) (k : ℕ) →
+NoneIsUndefined = (lines : List Entry) (p : Pattern) (ms : List ModuleLines) (jobs : List JobState) (inputs : Valuation)
+    (k : ℕ) →
     IsAcceptedBundle lines p ms jobs → ¬ IsUndefined (netlist_of lines) inputs k
 
 -- so the circuit has a valuation, whatever its inputs are
 abbrev pub AcceptedHasValuation : Type 0
-AcceptedHasValuation = (lines : List Entry) (p : Pattern) (ms : List ModuleLines) (jobs : List JobState) (inputs : Valuation) →
+AcceptedHasValuation = (lines : List Entry) (p : Pattern) (ms : List ModuleLines) (jobs : List JobState)
+    (inputs : Valuation) →
     IsAcceptedBundle lines p ms jobs → (v : Valuation) × Satisfies (netlist_of lines) inputs v
 
 -- ---- the run by the inputs alone
@@ -97,10 +104,11 @@ pub record IsInputName (lines : List Entry) (name : List ℕ) : Type 0 where
 abbrev pub HasInputNames : List Entry → Pattern → Type 0
 HasInputNames lines p = (i : ℕ) (q : Port) → slice_get p.ins i ≡ Some q → IsInputName lines q.name
 
--- It is so in a layout that was read with the names of the circuit's ports. `Circuit::inputs`, `port_names` and `read_layout` say what
--- is asked here.
+-- It is so in a layout that was read with the names of the circuit's ports. `Circuit::inputs`, `port_names` and
+-- `read_layout` say what is asked here.
 abbrev pub ReadLayoutHasInputNames : Type 0
-ReadLayoutHasInputNames = (lines : List Entry) (p : Pattern) → take (netlist_of lines).given (defined lines) ≡ input_names lines →
+ReadLayoutHasInputNames = (lines : List Entry) (p : Pattern) →
+    take (netlist_of lines).given (defined lines) ≡ input_names lines →
     AreNamed (Some (record { ins = input_names lines; outs = output_names lines })) (parts_of p) → HasInputNames lines p
 
 -- All its ports are named as the inputs and outputs then.
@@ -108,10 +116,13 @@ abbrev pub ReadLayoutIsNamed : Type 0
 ReadLayoutIsNamed = (lines : List Entry) (p : Pattern) →
     AreNamed (Some (record { ins = input_names lines; outs = output_names lines })) (parts_of p) → IsNamed lines p
 
--- Where input cells have the names of inputs, the run depends on the values of the inputs alone: it is that in which just the input cells begin whose input is true.
+-- Where input cells have the names of inputs, the run depends on the values of the inputs alone: it is that in which
+-- just the input cells begin whose input is true.
 abbrev pub InputsDecideTheRun : Type 0
-InputsDecideTheRun = (lines : List Entry) (p : Pattern) (inputs v : Valuation) (t : ℕ) (x y : ℤ) → HasInputNames lines p →
-    Satisfies (netlist_of lines) inputs v → run_under (circuit_of lines) p v t x y ≡ run_under (circuit_of lines) p inputs t x y
+InputsDecideTheRun = (lines : List Entry) (p : Pattern) (inputs v : Valuation) (t : ℕ) (x y : ℤ) →
+    HasInputNames lines p →
+    Satisfies (netlist_of lines) inputs v →
+    run_under (circuit_of lines) p v t x y ≡ run_under (circuit_of lines) p inputs t x y
 
 -- ---- the whole
 

@@ -11,7 +11,8 @@ use Rattle.audit_core.specs.Implements.{run_under}
 
 -- for all values of the inputs, the cell of the stop is live at its time exactly where its wire is true
 abbrev pub StopHolds : Circuit → Pattern → StopLine → Type 0
-StopHolds c p s = (inputs v : Valuation) → Satisfies c.netlist inputs v → run_under c p inputs s.time s.cell.x s.cell.y ≡ values_by_name c v s.wire
+StopHolds c p s = (inputs v : Valuation) → Satisfies c.netlist inputs v →
+    run_under c p inputs s.time s.cell.x s.cell.y ≡ values_by_name c v s.wire
 
 -- all stops of modules do, each delay takes as many steps as it says, and the inputs of each gate meet
 pub record IsOnTime (c : Circuit) (p : Pattern) (ms : List ModuleLines) : Type 0 where

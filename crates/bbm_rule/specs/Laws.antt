@@ -42,7 +42,8 @@ abbrev pub live_cells : State → List ℕ → List ℕ → List (ℕ × ℕ)
 live_cells s xs [] = []
 live_cells s xs (y ∷ ys) = live_in_row s y xs ++ live_cells s xs ys
 
--- Balls at (2, 2) and (5, 5) collide. At time 3 the live cells among those with coordinates below 8 are (5, 2) and (2, 5)
+-- Balls at (2, 2) and (5, 5) collide. At time 3 the live cells among those with coordinates below 8 are (5, 2) and (2,
+-- 5)
 abbrev pub TwoBallsCollide : Type 0
 TwoBallsCollide =
     live_cells (run two_balls 3) (range_with_len 0 8) (range_with_len 0 8) ≡ (5, 2) ∷ (2, 5) ∷ []

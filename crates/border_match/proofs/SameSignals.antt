@@ -21,7 +21,8 @@ not_different a b h = elim (cases_Bool (same_signal a b)) [
 ]
 
 -- a fault at that time is enough
-pub same_at : (g : Setting) (ms : List ModuleLines) (i k : ℕ) (m owner : ModuleLines) (t : ℕ) (x y : ℤ) (v : Valuation) →
+pub same_at : (g : Setting) (ms : List ModuleLines) (i k : ℕ) (m owner : ModuleLines) (t : ℕ) (x y : ℤ)
+    (v : Valuation) →
     ((f : BorderFault) → f.time ≡ t → ¬ IsBorderFault g ms i f) → AreBeside g ms i k m owner t x y →
     is_live v (halo_signal g.circuit m t x y) ≡ is_live v (edge_signal g.circuit owner t x y)
 same_at g ms i k m owner t x y v none beside =

@@ -18,5 +18,6 @@ pub record IsCert (a : Inside) : Type 0 where
   pub good : AreModules (setting_of a.circuit.now a.layout.now) (modules_of a.entries.items)
   pub few_lines : All HasFewLines (modules_of a.entries.items)
   pub known : (1 ≤ a.version) × (a.version ≤ 2)
-  pub complete : (is_haloless a.version && lacks_wire (setting_of a.circuit.now a.layout.now) (modules_of a.entries.items)) ≡ false
+  pub complete : (is_haloless a.version
+      && lacks_wire (setting_of a.circuit.now a.layout.now) (modules_of a.entries.items)) ≡ false
   pub hashed : IfSome a.digest (λ digest. digest ≡ sha256 (certificate_text (cert_state a)))

@@ -1,5 +1,6 @@
 -- The job of a module: all that its run by itself needs
-use Rattle.std.specs.Prelude.{◌≡◌, ℕ, ℤ, ◌*◌, ◌<◌, ◌||◌, Bool, true, false, if◌then◌else◌, List, [], ◌∷◌, length, map, Option, Some, None, slice_get, IsTrue}
+use Rattle.std.specs.Prelude.{◌≡◌, ℕ, ℤ, ◌*◌, ◌<◌, ◌||◌, Bool, true, false, if◌then◌else◌, List, [], ◌∷◌, length, map}
+use Rattle.std.specs.Prelude.{Option, Some, None, slice_get, IsTrue}
 use Rattle.std.specs.List.{All, flat_map}
 use Rattle.circuit.specs.Meaning.{Circuit, wire_of}
 use Rattle.pattern.specs.Layout.{Pattern, in_cells, in_rectangles}
@@ -47,7 +48,8 @@ demand_elsewhere c None false = Demanded.Dead
 -- mirrors are to be `Live`, output cells as their wire, waste cells `Any`, all other cells `Dead`
 unfoldable pub end_demand : Circuit → Pattern → ℤ → ℤ → Demand
 end_demand c p x y =
-    if in_rectangles p.mirrors x y then Demanded.Live else demand_elsewhere c (port_at p.outs x y) (in_cells p.wastes x y)
+    if in_rectangles p.mirrors x y then Demanded.Live else demand_elsewhere c (port_at p.outs x y)
+    (in_cells p.wastes x y)
 
 -- the signal of an edge or halo line: a wire's, or the constant `1`
 abbrev pub line_signal : Circuit → Option (List ℕ) → Signal
@@ -91,8 +93,10 @@ pub record IsJobOf (c : Circuit) (p : Pattern) (m : ModuleLines) (j : JobState) 
   -- one signal and one demand for each cell of the box
   pub start_count : length j.starts ≡ m.area.w * m.area.h
   pub demand_count : length j.demands ≡ m.area.w * m.area.h
-  pub start : (x y : ℤ) → IsTrue (in_box m.area x y) → renumber_signal (circuit_wire j.locals) (job_start j x y) ≡ start_signal c p x y
-  pub demand : (x y : ℤ) → IsTrue (in_box m.area x y) → renumber_demand (circuit_wire j.locals) (job_demand j x y) ≡ end_demand c p x y
+  pub start : (x y : ℤ) → IsTrue (in_box m.area x y) →
+      renumber_signal (circuit_wire j.locals) (job_start j x y) ≡ start_signal c p x y
+  pub demand : (x y : ℤ) → IsTrue (in_box m.area x y) →
+      renumber_demand (circuit_wire j.locals) (job_demand j x y) ≡ end_demand c p x y
   pub edges : renumber_signals (circuit_wire j.locals) j.edges ≡ line_signals c (edges m)
   pub halos : renumber_signals (circuit_wire j.locals) j.halos ≡ line_signals c (halos m)
   pub stops : map (renumber_stop (circuit_wire j.locals)) j.stops ≡ line_stops c (stops m)
@@ -104,4 +108,5 @@ pub record IsJobOf (c : Circuit) (p : Pattern) (m : ModuleLines) (j : JobState) 
 -- the jobs of modules, one for each
 pub record AreJobsOf (c : Circuit) (p : Pattern) (ms : List ModuleLines) (js : List JobState) : Type 0 where
   pub count : length js ≡ length ms
-  pub each : (k : ℕ) (m : ModuleLines) (j : JobState) → slice_get ms k ≡ Some m → slice_get js k ≡ Some j → IsJobOf c p m j
+  pub each : (k : ℕ) (m : ModuleLines) (j : JobState) → slice_get ms k ≡ Some m → slice_get js k ≡ Some j →
+      IsJobOf c p m j

@@ -31,8 +31,8 @@ pub record HasMirrorOrNothing (p : Pattern) (x y : ℤ) : Type 0 where
   pub ins : port_at p.ins x y ≡ None
   pub outs : port_at p.outs x y ≡ None
 
--- The live cells of each grid are those of the mirrors, balls or wastes, where `others` is dead nothing but mirrors stands, and
--- each table is of the layout's ports
+-- The live cells of each grid are those of the mirrors, balls or wastes, where `others` is dead nothing but mirrors
+-- stands, and each table is of the layout's ports
 pub record IsPlan (a : Inside) : Type 0 where
   pub mirrors : (x y : ℤ) → live a.mirrors x y ≡ in_rectangles a.layout.now.mirrors x y
   pub balls : (x y : ℤ) → live a.balls x y ≡ in_cells a.layout.now.balls x y

@@ -48,4 +48,5 @@ form_text (Item entry) = entry_text entry
 form_text End = line_text (codes "end") []
 
 unfoldable pub certificate_text : CertState → List ℕ
-certificate_text c = line_text (codes "certificate") (decimal c.version ∷ []) ++ flat_map entry_text c.entries ++ line_text (codes "end") []
+certificate_text c = line_text (codes "certificate") (decimal c.version ∷ []) ++ flat_map entry_text c.entries
+    ++ line_text (codes "end") []

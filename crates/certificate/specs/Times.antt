@@ -1,5 +1,6 @@
 -- When wires are seen by stops, and what that says of delays and of gates whose inputs are to meet
-use Rattle.std.specs.Prelude.{ℕ, ◌+◌, ◌-◌, ◌==◌, Bool, true, false, if◌then◌else◌, List, [], ◌∷◌, ◌++◌, length, Option, Some, None, nat_lt, nat_le, min, max, nat_eq}
+use Rattle.std.specs.Prelude.{ℕ, ◌+◌, ◌-◌, ◌==◌, Bool, true, false, if◌then◌else◌, List, [], ◌∷◌, ◌++◌, length, Option}
+use Rattle.std.specs.Prelude.{Some, None, nat_lt, nat_le, min, max, nat_eq}
 use Rattle.std.specs.List.{fold, flat_map, list_all}
 use Rattle.std.specs.Option.{option_to_list, option_eq}
 use Rattle.circuit.specs.Gates.{Rule, Source, Fredkin, Cswap, Interact, Switch, Delay, Unswitch, Uninteract}
@@ -82,7 +83,8 @@ agreed (t ∷ ts) = if list_all (λ u. u == t) ts then Some t else None
 abbrev pub meet_by : ℕ → List ℕ → List TimeLine
 meet_by k ts = if nat_le 2 (length ts) then line.Meet k (agreed ts) ∷ [] else []
 
--- of gate k, if two of the wires that it uses have a last time, or more: the one time at which all of these are seen last
+-- of gate k, if two of the wires that it uses have a last time, or more: the one time at which all of these are seen
+-- last
 abbrev pub meet_line : (ℕ → Option ℕ) → ℕ → Gate → List TimeLine
 meet_line last k g = meet_by k (last_times last g.ins)
 

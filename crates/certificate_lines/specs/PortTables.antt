@@ -1,5 +1,6 @@
 -- Tables of the ports of a layout by their cells, and what contracts see of them
-use Rattle.std.specs.Prelude.{◌≡◌, ℕ, zero, suc, ℤ, ◌*◌, ◌≤◌, true, false, if◌then◌else◌, List, [], ◌∷◌, length, get_or, Some, None, slice_get, Option}
+use Rattle.std.specs.Prelude.{◌≡◌, ℕ, zero, suc, ℤ, ◌*◌, ◌≤◌, true, false, if◌then◌else◌, List, [], ◌∷◌, length, get_or}
+use Rattle.std.specs.Prelude.{Some, None, slice_get, Option}
 use Rattle.bbm_rule.specs.Plane.{is_at}
 use Rattle.pattern.specs.Layout.{in_layout}
 use Rattle.pattern.specs.declared.parts.Extent.{Extent}
@@ -33,5 +34,6 @@ table_ports a = a.ports.now
 pub record IsPortTable (a : Inside) : Type 0 where
   pub small : (a.area.w ≤ 512) × (a.area.h ≤ 512)
   pub sized : length a.numbers.items ≡ a.area.w * a.area.h
-  pub numbered : (x y : ℤ) → in_box a.area x y ≡ true → get_or a.numbers.items (place_in a.area x y) 0 ≡ number_at a.ports.now x y
+  pub numbered : (x y : ℤ) → in_box a.area x y ≡ true →
+      get_or a.numbers.items (place_in a.area x y) 0 ≡ number_at a.ports.now x y
   pub elsewhere : (x y : ℤ) → in_box a.area x y ≡ false → port_at a.ports.now x y ≡ None

@@ -1,10 +1,12 @@
 -- Which line of a certificate is good after which lines. All that is asked is read from the lines themselves
-use Rattle.std.specs.Prelude.{ℕ, ◌+◌, ◌%◌, ◌==◌, ◌&&◌, ◌||◌, Bool, true, false, not, List, [], ◌∷◌, ◌++◌, length, slice_get, Option, Some, None, nat_lt, nat_le}
+use Rattle.std.specs.Prelude.{ℕ, ◌+◌, ◌%◌, ◌==◌, ◌&&◌, ◌||◌, Bool, true, false, not, List, [], ◌∷◌, ◌++◌, length}
+use Rattle.std.specs.Prelude.{slice_get, Option, Some, None, nat_lt, nat_le}
 use Rattle.std.specs.List.{list_any, list_all}
 use Rattle.std.specs.Ordering.{int_eq}
 use Rattle.bbm_rule.specs.Plane.{State}
 use Rattle.bbm_rule.specs.declared.block.Cell.{Cell}
-use Rattle.section_text.specs.Codes.{code_where, defined_twice, misplaced_box, no_place, not_local, or_else, out_of_order, past_limit, something_missing, unknown_name}
+use Rattle.section_text.specs.Codes.{code_where, defined_twice, misplaced_box, no_place, not_local, or_else}
+use Rattle.section_text.specs.Codes.{out_of_order, past_limit, something_missing, unknown_name}
 use Rattle.circuit.specs.Gates.{is_inverse}
 use Rattle.circuit.specs.Meaning.{Circuit, Gate, wire_of}
 use Rattle.pattern.specs.Layout.{rectangle_cells}
@@ -17,7 +19,8 @@ use Rattle.certificate_lines.specs.declared.entry.Border.{Border}
 use Rattle.certificate_lines.specs.declared.entry.Entry.{Entry}
 use Rattle.certificate_lines.specs.declared.entry.StopLine.{StopLine}
 use Rattle.certificate_lines.specs.declared.entry.Entry.TheVariants.{Module, Cut, Use, Keep, Edge, Halo, Stop}
-use Rattle.certificate_lines.specs.Entries.{Setting, ModuleLines, modules_of, present, areas, cuts, gates, edges, halos, stops, known}
+use Rattle.certificate_lines.specs.Entries.{Setting, ModuleLines, modules_of, present, areas, cuts, gates, edges, halos}
+use Rattle.certificate_lines.specs.Entries.{stops, known}
 use Rattle.certificate_lines.specs.Orders.{may_follow}
 
 -- the whole rectangle of the layout
@@ -36,7 +39,8 @@ is_local c local name = is_local_wire local (wire_of c name)
 
 -- some port in the module's box has a wire that is not local
 unfoldable pub lacks_port : Setting → ModuleLines → Bool
-lacks_port g m = list_any (λ p. in_box m.area p.cell.x p.cell.y && not (is_local g.circuit (known g.circuit m) p.name)) g.ports
+lacks_port g m = list_any (λ p. in_box m.area p.cell.x p.cell.y && not (is_local g.circuit (known g.circuit m) p.name))
+    g.ports
 
 abbrev pub is_incomplete : Setting → Option ModuleLines → Bool
 is_incomplete g None = false
@@ -75,7 +79,8 @@ box_fault g count before b =
     (code_where (is_misplaced g.size b) misplaced_box))
 
 unfoldable pub module_fault : Setting → List ModuleLines → Option ModuleLines → Box2 → Option ℕ
-module_fault g ms before b = or_else (box_fault g (length ms) before b) (code_where (overlaps (areas ms) b) misplaced_box)
+module_fault g ms before b = or_else (box_fault g (length ms) before b)
+    (code_where (overlaps (areas ms) b) misplaced_box)
 
 -- ---- a cut, where so many wires are cut and these are local: 2, 3, 4
 
@@ -84,7 +89,8 @@ cut_wire_fault local None = Some unknown_name
 cut_wire_fault local (Some w) = code_where (is_among local w) defined_twice
 
 unfoldable pub cut_fault : Circuit → ℕ → List ℕ → List ℕ → Option ℕ
-cut_fault c count local name = or_else (code_where (nat_le cut_limit count) past_limit) (cut_wire_fault local (wire_of c name))
+cut_fault c count local name =
+    or_else (code_where (nat_le cut_limit count) past_limit) (cut_wire_fault local (wire_of c name))
 
 -- ---- a used gate, where so many gates are used and these wires are local: 2, 3, 9, 4
 
@@ -96,10 +102,12 @@ are_new local (w ∷ ws) = not (is_among local w) && are_new (local ++ w ∷ [])
 unfoldable pub gate_fault : List ℕ → Option Gate → Option ℕ
 gate_fault local None = Some unknown_name
 gate_fault local (Some gate) =
-    or_else (code_where (not (list_all (is_among local) gate.ins)) not_local) (code_where (not (are_new local gate.outs)) defined_twice)
+    or_else (code_where (not (list_all (is_among local) gate.ins)) not_local)
+    (code_where (not (are_new local gate.outs)) defined_twice)
 
 unfoldable pub use_fault : Circuit → ℕ → List ℕ → ℕ → Option ℕ
-use_fault c count local k = or_else (code_where (nat_le use_limit count) past_limit) (gate_fault local (slice_get c.netlist.gates k))
+use_fault c count local k = or_else (code_where (nat_le use_limit count) past_limit)
+    (gate_fault local (slice_get c.netlist.gates k))
 
 -- ---- a kept gate, where these gates are used: 3, 9
 
@@ -110,7 +118,8 @@ is_inverse_gate (Some gate) = is_inverse gate.kind
 -- it is the number of an inverse gate, and the module uses that gate
 unfoldable pub keep_fault : Circuit → List ℕ → ℕ → Option ℕ
 keep_fault c used k =
-    or_else (code_where (not (is_inverse_gate (slice_get c.netlist.gates k))) unknown_name) (code_where (not (is_among used k)) not_local)
+    or_else (code_where (not (is_inverse_gate (slice_get c.netlist.gates k))) unknown_name)
+    (code_where (not (is_among used k)) not_local)
 
 -- ---- an edge, halo or stop line: 2, 10, 3, 9
 
@@ -132,11 +141,13 @@ is_time steps starred (Some t) = is_odd t && nat_lt t steps && not starred
 
 -- an edge stands in the box's ring, and not on the rim of the rectangle, which is the rectangle's ring
 unfoldable pub is_edge_place : Extent → Box2 → Bool → Border → Bool
-is_edge_place s area starred e = in_ring area e.cell.x e.cell.y && not (in_ring (whole s) e.cell.x e.cell.y) && is_time s.steps starred e.time
+is_edge_place s area starred e =
+    in_ring area e.cell.x e.cell.y && not (in_ring (whole s) e.cell.x e.cell.y) && is_time s.steps starred e.time
 
 -- a halo line stands in the box's halo, and inside the rectangle
 unfoldable pub is_halo_place : Extent → Box2 → Bool → Border → Bool
-is_halo_place s area starred e = in_halo area e.cell.x e.cell.y && in_box (whole s) e.cell.x e.cell.y && is_time s.steps starred e.time
+is_halo_place s area starred e =
+    in_halo area e.cell.x e.cell.y && in_box (whole s) e.cell.x e.cell.y && is_time s.steps starred e.time
 
 -- a stop stands in the box, at a time up to the last one
 unfoldable pub is_stop_place : Extent → Box2 → StopLine → Bool
@@ -158,7 +169,8 @@ border_limit = 65536
 -- so many of these lines come before it; `placed` says whether it may stand at its cell and time
 unfoldable pub border_fault : Circuit → ℕ → List ℕ → Bool → Option (List ℕ) → Option ℕ
 border_fault c count local placed signal =
-    or_else (code_where (nat_le border_limit count) past_limit) (or_else (code_where (not placed) no_place) (signal_fault c local signal))
+    or_else (code_where (nat_le border_limit count) past_limit)
+    (or_else (code_where (not placed) no_place) (signal_fault c local signal))
 
 -- ---- a line after the lines before it
 
@@ -166,13 +178,16 @@ abbrev pub border_count : ModuleLines → ℕ
 border_count m = length (edges m) + length (halos m) + length (stops m)
 
 abbrev pub edge_fault : Setting → ModuleLines → Border → Option ℕ
-edge_fault g m e = border_fault g.circuit (border_count m) (known g.circuit m) (is_edge_place g.size m.area (list_any (is_starred e.cell) (edges m)) e) e.signal
+edge_fault g m e = border_fault g.circuit (border_count m) (known g.circuit m)
+    (is_edge_place g.size m.area (list_any (is_starred e.cell) (edges m)) e) e.signal
 
 abbrev pub halo_fault : Setting → ModuleLines → Border → Option ℕ
-halo_fault g m e = border_fault g.circuit (border_count m) (known g.circuit m) (is_halo_place g.size m.area (list_any (is_starred e.cell) (halos m)) e) e.signal
+halo_fault g m e = border_fault g.circuit (border_count m) (known g.circuit m)
+    (is_halo_place g.size m.area (list_any (is_starred e.cell) (halos m)) e) e.signal
 
 abbrev pub stop_fault : Setting → ModuleLines → StopLine → Option ℕ
-stop_fault g m s = border_fault g.circuit (border_count m) (known g.circuit m) (is_stop_place g.size m.area s) (Some s.wire)
+stop_fault g m s = border_fault g.circuit (border_count m) (known g.circuit m) (is_stop_place g.size m.area s)
+    (Some s.wire)
 
 abbrev pub words_fault : Setting → ModuleLines → Entry → Option ℕ
 words_fault g m (Module b) = None
@@ -210,4 +225,5 @@ leaves_gap s boxes = not (list_all (λ c. in_boxes boxes c.x c.y) (box_cells (wh
 
 -- the ports of the last module are local, and the boxes leave no gap
 unfoldable pub end_fault : Setting → List Entry → Option ℕ
-end_fault g entries = code_where (is_incomplete g (present entries) || leaves_gap g.size (areas (modules_of entries))) something_missing
+end_fault g entries = code_where
+    (is_incomplete g (present entries) || leaves_gap g.size (areas (modules_of entries))) something_missing

@@ -1,5 +1,6 @@
 -- From the lines of a circuit, by names, to its gates, by the numbers of wires.
-use Rattle.std.specs.Prelude.{◌≡◌, ℕ, ◌<◌, Bool, true, false, if◌then◌else◌, List, [], ◌∷◌, ◌++◌, map, length, None, Some, ⊤, slice_get, slice_index_or}
+use Rattle.std.specs.Prelude.{◌≡◌, ℕ, ◌<◌, Bool, true, false, if◌then◌else◌, List, [], ◌∷◌, ◌++◌, map, length, None}
+use Rattle.std.specs.Prelude.{Some, ⊤, slice_get, slice_index_or}
 use Rattle.std.specs.List.{flat_map, count_by}
 use Rattle.circuit.specs.Entries.{defined}
 use Rattle.circuit.specs.declared.entry.Kind.{Kind}
@@ -24,7 +25,8 @@ input_count entries = count_by (λ r. is_input r.kind) entries
 -- the gate of a line, where the wires have these names
 abbrev pub gate_in : List (List ℕ) → List (List ℕ) → List (List ℕ) → Kind → List Gate
 gate_in names ins outs Input = []
-gate_in names ins outs (GateLine k) = record { kind = rule_of k; ins = map (number names) ins; outs = map (number names) outs } ∷ []
+gate_in names ins outs (GateLine k) =
+    record { kind = rule_of k; ins = map (number names) ins; outs = map (number names) outs } ∷ []
 gate_in names ins outs Output = []
 gate_in names ins outs Spill = []
 
@@ -98,7 +100,8 @@ pub record AreValues (n : Netlist) (a : Valuation) (vs : List Bool) : Type 0 whe
   pub satisfies : Satisfies n a (read vs)
   pub only : (v : Valuation) → Satisfies n a v → (w : ℕ) → w < length vs → v w ≡ read vs w
 
--- Where the given wires have the values a, gate k has no row. vs lists the values of the wires that are defined before it.
+-- Where the given wires have the values a, gate k has no row. vs lists the values of the wires that are defined before
+-- it.
 pub record StopsAt (n : Netlist) (a : Valuation) (k : ℕ) (vs : List Bool) : Type 0 where
   pub gate : Gate
   pub numbered : slice_get n.gates k ≡ Some gate

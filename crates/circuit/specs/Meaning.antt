@@ -1,5 +1,6 @@
 -- Circuits of conservative logic (Fredkin and Toffoli 1982) by the numbers of their wires, and what they mean.
-use Rattle.std.specs.Prelude.{◌≡◌, ℕ, ◌+◌, ◌<◌, Bool, false, if◌then◌else◌, List, [], ◌∷◌, map, take, length, Option, Some, None, ⊤, slice_get}
+use Rattle.std.specs.Prelude.{◌≡◌, ℕ, ◌+◌, ◌<◌, Bool, false, if◌then◌else◌, List, [], ◌∷◌, map, take, length, Option}
+use Rattle.std.specs.Prelude.{Some, None, ⊤, slice_get}
 use Rattle.std.specs.List.{All, range_with_len}
 use Rattle.std.specs.Str.{bytes_eq}
 use Rattle.section_text.specs.Words.{has}
@@ -62,14 +63,15 @@ values_by_name c v n = wire_value (wire_of c n) v
 unfoldable pub AreOrdered : ℕ → List Gate → Type 0
 AreOrdered n [] = ⊤
 AreOrdered n (g ∷ gs) =
-    All (λ w. w < n) g.ins × (length g.ins ≡ uses g.kind) × (g.outs ≡ range_with_len n (defines g.kind)) × AreOrdered (n + defines g.kind) gs
+    All (λ w. w < n) g.ins × (length g.ins ≡ uses g.kind) × (g.outs ≡ range_with_len n (defines g.kind))
+    × AreOrdered (n + defines g.kind) gs
 
 -- none of the gates is an inverse gate
 abbrev pub AreForward : List Gate → Type 0
 AreForward gates = All (λ g. is_inverse g.kind ≡ false) gates
 
--- Where the given wires have the values a, gate k has no row, and it is the first: the gates before it have theirs under some
--- values of the wires, and it has none there.
+-- Where the given wires have the values a, gate k has no row, and it is the first: the gates before it have theirs
+-- under some values of the wires, and it has none there.
 pub record IsUndefined (n : Netlist) (a : Valuation) (k : ℕ) : Type 0 where
   pub gate : Gate
   pub numbered : slice_get n.gates k ≡ Some gate

@@ -1,12 +1,15 @@
 -- Which line is good after which lines. What was defined and consumed is read from the lines themselves.
-use Rattle.std.specs.Prelude.{ℕ, ◌+◌, Bool, true, false, ◌&&◌, ◌||◌, List, [], ◌∷◌, ◌++◌, length, Option, Some, None, nat_lt, nat_le, ◌==◌, if◌then◌else◌}
+use Rattle.std.specs.Prelude.{ℕ, ◌+◌, Bool, true, false, ◌&&◌, ◌||◌, List, [], ◌∷◌, ◌++◌, length, Option, Some, None}
+use Rattle.std.specs.Prelude.{nat_lt, nat_le, ◌==◌, if◌then◌else◌}
 use Rattle.std.specs.List.{flat_map, count_by}
-use Rattle.circuit.specs.declared.entry.GateKind.TheVariants.{Source, Fredkin, Cswap, Interact, Switch, Delay, Unswitch, Uninteract}
+use Rattle.circuit.specs.declared.entry.GateKind.TheVariants.{Source, Fredkin, Cswap, Interact, Switch, Delay, Unswitch}
+use Rattle.circuit.specs.declared.entry.GateKind.TheVariants.{Uninteract}
 use Rattle.circuit.specs.declared.entry.Kind.{Kind}
 use Rattle.circuit.specs.declared.entry.Kind.TheVariants.{Input, Gate, Output, Spill}
 use Rattle.circuit.specs.declared.entry.Entry.{Entry}
 use Rattle.section_text.specs.Words.{has}
-use Rattle.section_text.specs.Codes.{code_where, consumed_twice, defined_twice, or_else, out_of_order, past_limit, unknown_name}
+use Rattle.section_text.specs.Codes.{code_where, consumed_twice, defined_twice, or_else, out_of_order, past_limit}
+use Rattle.section_text.specs.Codes.{unknown_name}
 use Rattle.circuit.specs.Entries.{defined, rank_of}
 
 -- the wires that lines consume, in order
@@ -27,7 +30,8 @@ gate_count entries = count_by (λ r. is_gate r.kind) entries
 -- the names are consumed one after the other, where d was defined and c was consumed
 abbrev pub consume : List (List ℕ) → List (List ℕ) → List (List ℕ) → Option ℕ
 consume d c [] = None
-consume d c (n ∷ ns) = if has d n then (if has c n then Some consumed_twice else consume d (c ++ n ∷ []) ns) else Some unknown_name
+consume d c (n ∷ ns) = if has d n then
+    (if has c n then Some consumed_twice else consume d (c ++ n ∷ []) ns) else Some unknown_name
 
 -- the names are defined one after the other, where d was defined
 abbrev pub define : List (List ℕ) → List (List ℕ) → Option ℕ
@@ -53,7 +57,8 @@ is_wrong_delay Output = false
 is_wrong_delay Spill = false
 
 abbrev pub passes_limit : List Entry → Entry → Bool
-passes_limit entries r = is_wrong_delay r.kind || (nat_lt 4096 (length (defined entries) + length r.outs) || (is_gate r.kind && nat_le 1024 (gate_count entries)))
+passes_limit entries r = is_wrong_delay r.kind
+    || (nat_lt 4096 (length (defined entries) + length r.outs) || (is_gate r.kind && nat_le 1024 (gate_count entries)))
 
 abbrev pub limit_fault : List Entry → Entry → Option ℕ
 limit_fault entries r = code_where (passes_limit entries r) past_limit

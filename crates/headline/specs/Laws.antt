@@ -19,7 +19,8 @@ use Rattle.headline.specs.Stops.{HasRightStops, SaysBundle}
 
 -- a command has at most one answer to each text
 abbrev pub HasOneAnswer : (List ℕ → List ℕ → Outcome → Type 0) → Type 0
-HasOneAnswer R = (text output output' : List ℕ) (outcome outcome' : Outcome) → R text output outcome → R text output' outcome' → (output ≡ output') × (outcome ≡ outcome')
+HasOneAnswer R = (text output output' : List ℕ) (outcome outcome' : Outcome) → R text output outcome →
+    R text output' outcome' → (output ≡ output') × (outcome ≡ outcome')
 
 -- a command has an answer to each text; with the law above, its answer is a function of the text
 abbrev pub HasAnAnswer : (List ℕ → List ℕ → Outcome → Type 0) → Type 0
@@ -42,20 +43,24 @@ YesHasOneValuation = (text output : List ℕ) (circuit : List Entry) (layout : P
 
 -- a report says yes in its fourth line just where that is the outcome
 abbrev pub FourthLineTells : Type 0
-FourthLineTells = (text output : List ℕ) (outcome : Outcome) → IsReportOf text output outcome → (SaysYes output → outcome ≡ Yes) × (outcome ≡ Yes → SaysYes output)
+FourthLineTells = (text output : List ℕ) (outcome : Outcome) → IsReportOf text output outcome →
+    (SaysYes output → outcome ≡ Yes) × (outcome ≡ Yes → SaysYes output)
 
 -- a text says one circuit and one layout at most
 abbrev pub SaysOneDesign : Type 0
-SaysOneDesign = (text : List ℕ) (circuit circuit' : List Entry) (layout layout' : Pattern) → SaysDesign text circuit layout → SaysDesign text circuit' layout' →
+SaysOneDesign = (text : List ℕ) (circuit circuit' : List Entry) (layout layout' : Pattern) →
+    SaysDesign text circuit layout → SaysDesign text circuit' layout' →
     (circuit ≡ circuit') × (layout ≡ layout')
 
 -- and the lines of one certificate
 abbrev pub SaysOneCertificate : Type 0
-SaysOneCertificate = (text : List ℕ) (circuit circuit' : List Entry) (layout layout' : Pattern) (certificate certificate' : List CertificateLine) →
-    SaysBundle text circuit layout certificate → SaysBundle text circuit' layout' certificate' → certificate ≡ certificate'
+SaysOneCertificate = (text : List ℕ) (circuit circuit' : List Entry) (layout layout' : Pattern)
+    (certificate certificate' : List CertificateLine) →
+    SaysBundle text circuit layout certificate → SaysBundle text circuit' layout' certificate' →
+    certificate ≡ certificate'
 
--- Where a text is not refused, the design that it says is good: each of its lines is good after those before it, by names, limits and
--- cells, and the text begins with the lines of both sections in their one spelling.
+-- Where a text is not refused, the design that it says is good: each of its lines is good after those before it, by
+-- names, limits and cells, and the text begins with the lines of both sections in their one spelling.
 pub record IsGoodDesign (text : List ℕ) (circuit : List Entry) (layout : Pattern) : Type 0 where
   pub circuit_lines : AreGood circuit
   pub size : size_fault layout.size ≡ None
@@ -64,7 +69,8 @@ pub record IsGoodDesign (text : List ℕ) (circuit : List Entry) (layout : Patte
   pub begins : text ≡ circuit_text circuit ++ (layout_text layout ++ rest)
 
 abbrev pub ReportsOnGoodDesigns : Type 0
-ReportsOnGoodDesigns = (text output : List ℕ) (outcome : Outcome) (circuit : List Entry) (layout : Pattern) → IsReportOf text output outcome → outcome ≢ Refused →
+ReportsOnGoodDesigns = (text output : List ℕ) (outcome : Outcome) (circuit : List Entry) (layout : Pattern) →
+    IsReportOf text output outcome → outcome ≢ Refused →
     SaysDesign text circuit layout → IsGoodDesign text circuit layout
 
 -- Something is reported with the outcome yes, so the laws are not about nothing: this text.

@@ -1,4 +1,5 @@
--- The text of a bundle without steps: a switch, and its inverse gate, which the one module keeps. It is `examples/there_and_back.txt`.
+-- The text of a bundle without steps: a switch, and its inverse gate, which the one module keeps. It is
+-- `examples/there_and_back.txt`.
 use Rattle.std.specs.Prelude.{ℕ, List, ◌++◌, codes}
 
 unfoldable pub there_and_back : List ℕ

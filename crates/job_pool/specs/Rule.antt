@@ -1,5 +1,5 @@
--- The desk rule: what holds of the desk's word and of the views of all its seats, whoever draws; and what each step on the word
--- tells
+-- The desk rule: what holds of the desk's word and of the views of all its seats, whoever draws; and what each step on
+-- the word tells
 use Rattle.std.specs.Prelude.{◌≡◌, ℕ, ◌+◌, ◌-◌, ◌≤◌, max, List, [], ◌∷◌, ◌++◌, map, length, slice_index}
 use mathlib.Core.Option.{some}
 use lib.ListN.{get_elem?}
@@ -11,9 +11,9 @@ use Rattle.job_pool.specs.declared.rule.View.{View}
 
 -- ---- the rule
 
--- One view, where there are n numbers and as many were drawn as the word says: it has at most as many draws of n or more as it
--- has places, in a view with one place only the last draw is one, and what it has seen is above each of its draws and at most
--- the word. A view with no place has nothing
+-- One view, where there are n numbers and as many were drawn as the word says: it has at most as many draws of n or
+-- more as it has places, in a view with one place only the last draw is one, and what it has seen is above each of its
+-- draws and at most the word. A view with no place has nothing
 pub record Fits (n word : ℕ) (v : View) : Type 0 where
   pub late_within : late n v.draws ≤ v.places
   pub only_last : v.places ≡ 1 → late n (front v.draws) ≡ 0

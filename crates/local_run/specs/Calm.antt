@@ -17,7 +17,9 @@ EvenCalm marks p = (u : ℕ) → u + p.stride + 1 < p.stride * p.rows → IsUnma
 
 -- the cells with a number are dead under each assignment, one in each plane
 abbrev pub IsDeadAt : ℕ → Planes → Type 0
-IsDeadAt u p = (k : ℕ) → k < p.words → (slice_index p.odd.items (p.words * u + k) ≡ 0) × (slice_index p.right.items (p.words * u + k) ≡ 0) × (slice_index p.down.items (p.words * u + k) ≡ 0) × (slice_index p.even.items (p.words * u + k) ≡ 0)
+IsDeadAt u p = (k : ℕ) → k < p.words →
+    (slice_index p.odd.items (p.words * u + k) ≡ 0) × (slice_index p.right.items (p.words * u + k) ≡ 0)
+    × (slice_index p.down.items (p.words * u + k) ≡ 0) × (slice_index p.even.items (p.words * u + k) ≡ 0)
 
 -- so are those of all numbers, but for those with a mark
 abbrev pub AllDead : List ℕ → Planes → Type 0
@@ -33,10 +35,14 @@ EvenCalm-prop marks p = Prim.hlevel props
 pub AllDead-prop : (marks : List ℕ) (p : Planes) → IsProp (AllDead marks p)
 AllDead-prop marks p = Prim.hlevel props
 
--- Of each plane the words of one cell may change, and no others: cells are numbered row by row. Those of the planes odd and even may
--- change only where `main`, those of the other two only where `anti`
+-- Of each plane the words of one cell may change, and no others: cells are numbered row by row. Those of the planes odd
+-- and even may change only where `main`, those of the other two only where `anti`
 pub record ChangesCells (main anti : Bool) (odd right down even : ℕ) (p q : Planes) : Type 0 where
-  pub odd_same : (u k : ℕ) → k < p.words → (main ≡ true → u ≢ odd) → slice_index q.odd.items (p.words * u + k) ≡ slice_index p.odd.items (p.words * u + k)
-  pub right_same : (u k : ℕ) → k < p.words → (anti ≡ true → u ≢ right) → slice_index q.right.items (p.words * u + k) ≡ slice_index p.right.items (p.words * u + k)
-  pub down_same : (u k : ℕ) → k < p.words → (anti ≡ true → u ≢ down) → slice_index q.down.items (p.words * u + k) ≡ slice_index p.down.items (p.words * u + k)
-  pub even_same : (u k : ℕ) → k < p.words → (main ≡ true → u ≢ even) → slice_index q.even.items (p.words * u + k) ≡ slice_index p.even.items (p.words * u + k)
+  pub odd_same : (u k : ℕ) → k < p.words → (main ≡ true → u ≢ odd) →
+      slice_index q.odd.items (p.words * u + k) ≡ slice_index p.odd.items (p.words * u + k)
+  pub right_same : (u k : ℕ) → k < p.words → (anti ≡ true → u ≢ right) →
+      slice_index q.right.items (p.words * u + k) ≡ slice_index p.right.items (p.words * u + k)
+  pub down_same : (u k : ℕ) → k < p.words → (anti ≡ true → u ≢ down) →
+      slice_index q.down.items (p.words * u + k) ≡ slice_index p.down.items (p.words * u + k)
+  pub even_same : (u k : ℕ) → k < p.words → (main ≡ true → u ≢ even) →
+      slice_index q.even.items (p.words * u + k) ≡ slice_index p.even.items (p.words * u + k)

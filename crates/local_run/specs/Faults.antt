@@ -72,8 +72,8 @@ IsLeastFault-prop j (Some f) = Prim.hlevel props
 
 -- ---- gates that have no row
 
--- Under the assignment the gate at this place among the used ones is the first that has no row, and the module keeps it. The assignment
--- is any at all: also one under which the run looks for no faults.
+-- Under the assignment the gate at this place among the used ones is the first that has no row, and the module keeps
+-- it. The assignment is any at all: also one under which the run looks for no faults.
 pub record IsKeepFault (j : JobState) (f : KeepFault) : Type 0 where
   pub in_range : f.assignment < assignments j
   pub is_kept : IsTrue (is_among j.kept f.gate)

@@ -1,4 +1,5 @@
--- Whether two values are the same in all that contracts see of them: `equality_is_of_content` is the law that the tests answer this
+-- Whether two values are the same in all that contracts see of them: `equality_is_of_content` is the law that the tests
+-- answer this
 use Rattle.std.specs.Prelude.{ℕ, Bool, true, false, Option, Some, None, nat_eq}
 use Rattle.std.specs.Bool.{beq}
 use Rattle.std.specs.Ordering.{int_eq, on, eq_of_both}
@@ -36,7 +37,8 @@ abbrev pub same_held : Held → Held → Bool
 same_held = eq_of_both (on (λ h. h.cell) same_cell) (on (λ h. h.signal) same_signal)
 
 abbrev pub same_event : Event → Event → Bool
-same_event = eq_of_both (on (λ e. e.at.time) nat_eq) (eq_of_both (on (λ e. e.at.cell) same_cell) (on (λ e. e.signal) same_signal))
+same_event = eq_of_both (on (λ e. e.at.time) nat_eq)
+    (eq_of_both (on (λ e. e.at.cell) same_cell) (on (λ e. e.signal) same_signal))
 
 abbrev pub same_signals : Signals → Signals → Bool
 same_signals = eq_of_both (on (λ s. s.held) (pointwise same_held)) (on (λ s. s.events) (pointwise same_event))
@@ -52,10 +54,12 @@ held_equivalence : IsEquivalence same_held
 held_equivalence = and_equiv (on_equiv (λ h. h.cell) cell_equivalence) (on_equiv (λ h. h.signal) signal_equivalence)
 
 event_equivalence : IsEquivalence same_event
-event_equivalence = and_equiv (on_equiv (λ e. e.at.time) nat_eq_equiv) (and_equiv (on_equiv (λ e. e.at.cell) cell_equivalence) (on_equiv (λ e. e.signal) signal_equivalence))
+event_equivalence = and_equiv (on_equiv (λ e. e.at.time) nat_eq_equiv)
+    (and_equiv (on_equiv (λ e. e.at.cell) cell_equivalence) (on_equiv (λ e. e.signal) signal_equivalence))
 
 pub signals_equivalence : IsEquivalence same_signals
-signals_equivalence = and_equiv (on_equiv (λ s. s.held) (lists_equiv held_equivalence)) (on_equiv (λ s. s.events) (lists_equiv event_equivalence))
+signals_equivalence = and_equiv (on_equiv (λ s. s.held) (lists_equiv held_equivalence))
+    (on_equiv (λ s. s.events) (lists_equiv event_equivalence))
 
 -- ---- the wires and gates of modules
 abbrev pub rule_place : Rule → ℕ
@@ -89,30 +93,38 @@ delay_number Unswitch = None
 delay_number Uninteract = None
 
 abbrev pub same_rule : Rule → Rule → Bool
-same_rule = eq_of_both (on rule_place nat_eq) (eq_of_both (on source_bit (option_eq beq)) (on delay_number (option_eq nat_eq)))
+same_rule = eq_of_both (on rule_place nat_eq)
+    (eq_of_both (on source_bit (option_eq beq)) (on delay_number (option_eq nat_eq)))
 
 abbrev pub same_gate : Gate → Gate → Bool
-same_gate = eq_of_both (on (λ g. g.kind) same_rule) (eq_of_both (on (λ g. g.ins) (pointwise nat_eq)) (on (λ g. g.outs) (pointwise nat_eq)))
+same_gate = eq_of_both (on (λ g. g.kind) same_rule)
+    (eq_of_both (on (λ g. g.ins) (pointwise nat_eq)) (on (λ g. g.outs) (pointwise nat_eq)))
 
 abbrev pub same_netlist : Netlist → Netlist → Bool
 same_netlist = eq_of_both (on (λ n. n.given) nat_eq) (on (λ n. n.gates) (pointwise same_gate))
 
 abbrev pub same_locals : LocalNet → LocalNet → Bool
 same_locals =
-    eq_of_both (eq_of_both (eq_of_both (on (λ l. l.netlist.given) nat_eq) (on (λ l. l.netlist.gates) (pointwise same_gate))) (on (λ l. l.circuit_wires) (pointwise nat_eq)))
+    eq_of_both (eq_of_both (eq_of_both (on (λ l. l.netlist.given) nat_eq)
+    (on (λ l. l.netlist.gates) (pointwise same_gate))) (on (λ l. l.circuit_wires) (pointwise nat_eq)))
     (on (λ l. l.circuit_gates) (pointwise nat_eq))
 
 -- these tests are equivalences
 rule_equivalence : IsEquivalence same_rule
-rule_equivalence = and_equiv (on_equiv rule_place nat_eq_equiv) (and_equiv (on_equiv source_bit (options_equiv bool_eq_equiv)) (on_equiv delay_number (options_equiv nat_eq_equiv)))
+rule_equivalence = and_equiv (on_equiv rule_place nat_eq_equiv)
+    (and_equiv (on_equiv source_bit (options_equiv bool_eq_equiv)) (on_equiv delay_number (options_equiv nat_eq_equiv)))
 
 pub gate_equivalence : IsEquivalence same_gate
-gate_equivalence = and_equiv (on_equiv (λ g. g.kind) rule_equivalence) (and_equiv (on_equiv (λ g. g.ins) (lists_equiv nat_eq_equiv)) (on_equiv (λ g. g.outs) (lists_equiv nat_eq_equiv)))
+gate_equivalence = and_equiv (on_equiv (λ g. g.kind) rule_equivalence)
+    (and_equiv (on_equiv (λ g. g.ins) (lists_equiv nat_eq_equiv)) (on_equiv (λ g. g.outs) (lists_equiv nat_eq_equiv)))
 
 pub netlist_equivalence : IsEquivalence same_netlist
-netlist_equivalence = and_equiv (on_equiv (λ n. n.given) nat_eq_equiv) (on_equiv (λ n. n.gates) (lists_equiv gate_equivalence))
+netlist_equivalence = and_equiv (on_equiv (λ n. n.given) nat_eq_equiv)
+    (on_equiv (λ n. n.gates) (lists_equiv gate_equivalence))
 
 pub locals_equivalence : IsEquivalence same_locals
 locals_equivalence =
-    and_equiv (and_equiv (and_equiv (on_equiv (λ l. l.netlist.given) nat_eq_equiv) (on_equiv (λ l. l.netlist.gates) (lists_equiv gate_equivalence))) (on_equiv (λ l. l.circuit_wires) (lists_equiv nat_eq_equiv)))
+    and_equiv (and_equiv (and_equiv (on_equiv (λ l. l.netlist.given) nat_eq_equiv)
+    (on_equiv (λ l. l.netlist.gates) (lists_equiv gate_equivalence)))
+    (on_equiv (λ l. l.circuit_wires) (lists_equiv nat_eq_equiv)))
     (on_equiv (λ l. l.circuit_gates) (lists_equiv nat_eq_equiv))

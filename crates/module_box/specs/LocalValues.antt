@@ -1,8 +1,10 @@
 -- The values of the wires that a module knows
-use Rattle.std.specs.Prelude.{◌≡◌, ◌==◌, ◌<◌, ◌↔◌, ℕ, ◌+◌, ◌*◌, ◌/◌, ◌%◌, Bool, true, false, List, [], ◌∷◌, map, length, Option, Some, None, slice_index, slice_index_or, bit_and, bit_or, bit_xor}
+use Rattle.std.specs.Prelude.{◌≡◌, ◌==◌, ◌<◌, ◌↔◌, ℕ, ◌+◌, ◌*◌, ◌/◌, ◌%◌, Bool, true, false, List, [], ◌∷◌, map, length}
+use Rattle.std.specs.Prelude.{Option, Some, None, slice_index, slice_index_or, bit_and, bit_or, bit_xor}
 use Rattle.bbm_rule.specs.Bits.{bit}
 use Rattle.circuit.specs.declared.entry.GateKind.{GateKind}
-use Rattle.circuit.specs.declared.entry.GateKind.TheVariants.{Source, Fredkin, Cswap, Interact, Switch, Delay, Unswitch, Uninteract}
+use Rattle.circuit.specs.declared.entry.GateKind.TheVariants.{Source, Fredkin, Cswap, Interact, Switch, Delay, Unswitch}
+use Rattle.circuit.specs.declared.entry.GateKind.TheVariants.{Uninteract}
 use Rattle.circuit.specs.Gates.{row, defines}
 use Rattle.circuit.specs.Meaning.{Gate, Netlist, Valuation, Satisfies, IsUndefined, wires}
 use Rattle.circuit.specs.Bridge.{AreValues, read}
@@ -12,7 +14,8 @@ use Rattle.module_box.specs.declared.values.LocalFault.TheVariants.{NoRow, Memor
 use Rattle.module_box.specs.declared.values.ValueRows.{ValueRows}
 use Rattle.module_box.specs.Locals.{LocalNet, circuit_wire}
 
--- the local valuations of a module under an assignment: cut i has the value of bit i, and the outputs of the gates follow by their rows
+-- the local valuations of a module under an assignment: cut i has the value of bit i, and the outputs of the gates
+-- follow by their rows
 abbrev pub IsLocalValuation : LocalNet → ℕ → Valuation → Type 0
 IsLocalValuation l cut_bits v = Satisfies l.netlist (bit cut_bits) v
 
@@ -41,8 +44,8 @@ value_of words rows a w = bit (slice_index rows (words * w + a / 64)) (a % 64)
 unfoldable pub bit_of_row : List ℕ → ℕ → Bool
 bit_of_row row a = bit (slice_index row (a / 64)) (a % 64)
 
--- Where the bit of an assignment is set, the values are a local valuation. Else some gate is the first that has no row, and its row
--- of words tells it.
+-- Where the bit of an assignment is set, the values are a local valuation. Else some gate is the first that has no row,
+-- and its row of words tells it.
 pub record AreRowsAt (n : Netlist) (words a : ℕ) (values lacking whole : List ℕ) : Type 0 where
   pub local : bit_of_row whole a ≡ true → Satisfies n (bit a) (value_of words values a)
   pub undefined : (k : ℕ) → k < length n.gates → (value_of words lacking a k ≡ true) ↔ IsUndefined n (bit a) k
@@ -60,7 +63,8 @@ pub record AreValueRows (n : Netlist) (words : ℕ) (rows : ValueRows) : Type 0 
 abbrev pub lane : ℕ → List ℕ → List Bool
 lane b ws = map (λ word. bit word b) ws
 
--- The words of the wires that a gate defines, from the words of those that it uses. At bits where it has no row they say nothing.
+-- The words of the wires that a gate defines, from the words of those that it uses. At bits where it has no row they
+-- say nothing.
 abbrev pub word_row : GateKind → ℕ → ℕ → ℕ → ℕ → List ℕ
 word_row (Source true) a b c d = 18446744073709551615 ∷ []
 word_row (Source false) a b c d = 0 ∷ []
@@ -109,12 +113,13 @@ abbrev pub is_gate : Option ℕ → ℕ → Bool
 is_gate None k = false
 is_gate (Some m) k = m == k
 
--- What words say of the gates at bit b, where the given wires have the words `given`: the values, where all gates have a row; whether
--- they do; and for each gate whether it is the first that has none.
+-- What words say of the gates at bit b, where the given wires have the words `given`: the values, where all gates have
+-- a row; whether they do; and for each gate whether it is the first that has none.
 pub record SaysColumn (given : List ℕ) (gs : List Gate) (words lacking : List ℕ) (whole b : ℕ) : Type 0 where
   pub values : bit whole b ≡ true → evaluate (lane b given) gs ≡ Some (lane b words)
   pub defined : bit whole b ≡ is_none (first_undefined (lane b given) gs)
-  pub undefined : (k : ℕ) → k < length gs → bit (slice_index lacking k) b ≡ is_gate (first_undefined (lane b given) gs) k
+  pub undefined : (k : ℕ) → k < length gs →
+      bit (slice_index lacking k) b ≡ is_gate (first_undefined (lane b given) gs) k
 
 -- the same of a module under an assignment
 pub record IsColumnAt (n : Netlist) (a : ℕ) (words lacking : List ℕ) (whole b : ℕ) : Type 0 where

@@ -49,4 +49,5 @@ BoxesMoveAlong = (dx dy : ℤ) (b b' : Box2) → IsMovedBox dx dy b b' → BoxMo
 
 -- a cell that is moved carries in moved signals what it carried before
 abbrev pub SignalsMoveAlong : Type 0
-SignalsMoveAlong = (dx dy : ℤ) (s : Signals) (t : ℕ) (x y : ℤ) → signal_at (moved_signals dx dy s) t (x +ℤ dx) (y +ℤ dy) ≡ signal_at s t x y
+SignalsMoveAlong = (dx dy : ℤ) (s : Signals) (t : ℕ) (x y : ℤ) →
+    signal_at (moved_signals dx dy s) t (x +ℤ dx) (y +ℤ dy) ≡ signal_at s t x y

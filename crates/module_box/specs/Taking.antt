@@ -4,7 +4,8 @@ use Rattle.module_box.specs.Boxes.{in_box}
 use Rattle.module_box.specs.Tiling.{corner_x, corner_y}
 use Rattle.module_box.specs.declared.boxes.Box2.{Box2}
 
--- the places from `from` to before `stop` were free and have the number now, the others are as before; a `stop` before the end is not free
+-- the places from `from` to before `stop` were free and have the number now, the others are as before; a `stop` before
+-- the end is not free
 pub record TakesRow (free number from end stop : ℕ) (old new : List ℕ) : Type 0 where
   pub sized : length new ≡ length old
   pub from_on : from ≤ stop
@@ -18,8 +19,8 @@ pub record TakesRow (free number from end stop : ℕ) (old new : List ℕ) : Typ
 abbrev pub HasBlock : Box2 → ℕ → ℕ → Type 0
 HasBlock b columns k = IsTrue (in_box b (corner_x columns k) (corner_y columns k))
 
--- before `stop`, the places of the box's blocks were free and have the number now, and the others are as before; a `stop` before the end of
--- the table is the place of a block of the box and is not free
+-- before `stop`, the places of the box's blocks were free and have the number now, and the others are as before; a
+-- `stop` before the end of the table is the place of a block of the box and is not free
 pub record TakesBox (columns : ℕ) (b : Box2) (free number stop : ℕ) (old new : List ℕ) : Type 0 where
   pub sized : length new ≡ length old
   pub within : stop ≤ length old

@@ -1,5 +1,6 @@
 -- The numbers of a shape, which tell it, and its key
-use Rattle.std.specs.Prelude.{◌≡◌, ℕ, ℤ, pos, negsuc, ◌+◌, ◌*◌, ◌^◌, ◌<◌, nat_eq, nat_lt, if◌then◌else◌, List, [], ◌∷◌, ◌++◌, length, map}
+use Rattle.std.specs.Prelude.{◌≡◌, ℕ, ℤ, pos, negsuc, ◌+◌, ◌*◌, ◌^◌, ◌<◌, nat_eq, nat_lt, if◌then◌else◌, List, [], ◌∷◌}
+use Rattle.std.specs.Prelude.{◌++◌, length, map}
 use Rattle.std.specs.List.{All, flat_map}
 use Rattle.std.specs.Int.{to_le_bytes, w16, w64}
 use Rattle.sha2.specs.Sha256.{sha256}
@@ -72,7 +73,8 @@ shape_numbers s =
 
 -- A number below 2 ^ 64: one byte, or two or eight behind a byte that says so
 abbrev pub number_bytes : ℕ → List ℕ
-number_bytes n = if nat_lt n 254 then n ∷ [] else (if nat_lt n 65536 then 254 ∷ to_le_bytes w16 n else 255 ∷ to_le_bytes w64 n)
+number_bytes n = if nat_lt n 254 then n
+    ∷ [] else (if nat_lt n 65536 then 254 ∷ to_le_bytes w16 n else 255 ∷ to_le_bytes w64 n)
 
 -- the key of a shape
 abbrev pub shape_key : ShapeState → List ℕ
@@ -83,4 +85,5 @@ abbrev pub NumbersTellShapes : Type 0
 NumbersTellShapes = AreTelling shape_numbers
 
 abbrev pub BytesTellNumbers : Type 0
-BytesTellNumbers = (ns ms : List ℕ) → All (λ n. n < 2 ^ 64) ns → All (λ n. n < 2 ^ 64) ms → flat_map number_bytes ns ≡ flat_map number_bytes ms → ns ≡ ms
+BytesTellNumbers = (ns ms : List ℕ) → All (λ n. n < 2 ^ 64) ns → All (λ n. n < 2 ^ 64) ms →
+    flat_map number_bytes ns ≡ flat_map number_bytes ms → ns ≡ ms

@@ -9,9 +9,10 @@ use Rattle.module_job.specs.Jobs.{JobState}
 use Rattle.module_job.specs.declared.job.Demand.{Demand}
 use Rattle.module_job.specs.declared.job.Stop.{Stop}
 
--- All of a job but where its box lies and which wires and gates of the circuit its own are: the box's sides, the steps, the gates
--- over wires of its own, what its cells carry at time 0 and are to be at the last time, row by row, and what the cells of ring and
--- halo carry, its stops, and the gates that it keeps by their places, where the box's corner is at (0, 0)
+-- All of a job but where its box lies and which wires and gates of the circuit its own are: the box's sides, the steps,
+-- the gates over wires of its own, what its cells carry at time 0 and are to be at the last time, row by row, and what
+-- the cells of ring and halo carry, its stops, and the gates that it keeps by their places, where the box's corner is
+-- at (0, 0)
 pub record ShapeState : Type 0 where
   pub width : ℕ
   pub height : ℕ

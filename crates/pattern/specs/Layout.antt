@@ -43,7 +43,8 @@ in_ports_on on ports x y = list_any (λ p. on p.name && is_at p.cell x y) ports
 
 -- no two ports stand at one cell
 abbrev pub HaveOwnCells : List Port → Type 0
-HaveOwnCells ports = (i j : ℕ) (p q : Port) → slice_get ports i ≡ Some p → slice_get ports j ≡ Some q → p.cell ≡ q.cell → i ≡ j
+HaveOwnCells ports = (i j : ℕ) (p q : Port) → slice_get ports i ≡ Some p → slice_get ports j ≡ Some q →
+    p.cell ≡ q.cell → i ≡ j
 
 -- ---- the run
 

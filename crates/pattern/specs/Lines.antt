@@ -1,11 +1,13 @@
 -- The lines of a layout, and which line is good after which lines. What stands where is read from the lines themselves.
-use Rattle.std.specs.Prelude.{◌≡◌, ℕ, ◌+◌, ◌%◌, ◌==◌, ◌&&◌, ◌||◌, Bool, not, true, false, List, [], ◌∷◌, ◌++◌, nat_lt, nat_le, Option, Some, None, if◌then◌else◌}
+use Rattle.std.specs.Prelude.{◌≡◌, ℕ, ◌+◌, ◌%◌, ◌==◌, ◌&&◌, ◌||◌, Bool, not, true, false, List, [], ◌∷◌, ◌++◌, nat_lt}
+use Rattle.std.specs.Prelude.{nat_le, Option, Some, None, if◌then◌else◌}
 use Rattle.std.specs.List.{All, list_any, list_all}
 use Rattle.std.specs.Str.{bytes_eq}
 use Rattle.bbm_rule.specs.Plane.{State, is_at}
 use Rattle.bbm_rule.specs.declared.block.Cell.{Cell}
 use Rattle.section_text.specs.Words.{has}
-use Rattle.section_text.specs.Codes.{code_where, or_else, out_of_order, past_limit, something_missing, taken_cell, unknown_name}
+use Rattle.section_text.specs.Codes.{code_where, or_else, out_of_order, past_limit, something_missing, taken_cell}
+use Rattle.section_text.specs.Codes.{unknown_name}
 use Rattle.section_text.specs.Ports.{Named}
 use Rattle.pattern.specs.declared.parts.Extent.{Extent}
 use Rattle.pattern.specs.declared.parts.Part.{Part}
@@ -150,7 +152,8 @@ is_out n (Waste c) = false
 unfoldable pub missing_fault : Option Named → List Part → Option ℕ
 missing_fault None parts = None
 missing_fault (Some names) parts =
-    code_where (not (list_all (λ n. list_any (is_in n) parts) names.ins && list_all (λ n. list_any (is_out n) parts) names.outs)) something_missing
+    code_where (not (list_all (λ n. list_any (is_in n) parts) names.ins
+    && list_all (λ n. list_any (is_out n) parts) names.outs)) something_missing
 
 -- the names of the ports are good, and each input and each output that is asked for has a cell
 pub record AreNamed (ports : Option Named) (parts : List Part) : Type 0 where
@@ -160,4 +163,5 @@ pub record AreNamed (ports : Option Named) (parts : List Part) : Type 0 where
 -- each line keeps the limits, and its cells are inside and free after the lines before it
 abbrev pub AreGoodAfter : Extent → List Part → List Part → Type 0
 AreGoodAfter s before [] = Unit {0}
-AreGoodAfter s before (part ∷ parts) = (limit_fault part ≡ None) × (cell_fault s before part ≡ None) × AreGoodAfter s (before ++ part ∷ []) parts
+AreGoodAfter s before (part ∷ parts) =
+    (limit_fault part ≡ None) × (cell_fault s before part ≡ None) × AreGoodAfter s (before ++ part ∷ []) parts

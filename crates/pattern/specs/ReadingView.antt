@@ -12,7 +12,11 @@ abbrev pub reading_state : Inside → ReadingState
 reading_state a = record { ports = named_ports a.ports.now; layout = a.draft }
 
 pub record IsReading (a : Inside) : Type 0 where
-  pub known_ins : (n : List ℕ) → is_in_name (named_ports a.ports.now) n ≡ (is_any (named_ports a.ports.now) || has a.known_ins.keys n)
-  pub known_outs : (n : List ℕ) → is_out_name (named_ports a.ports.now) n ≡ (is_any (named_ports a.ports.now) || has a.known_outs.keys n)
-  pub seen_ins : is_any (named_ports a.ports.now) ≡ false → (n : List ℕ) → has a.seen_ins.keys n ≡ list_any (is_in n) (parts_of a.draft)
-  pub seen_outs : is_any (named_ports a.ports.now) ≡ false → (n : List ℕ) → has a.seen_outs.keys n ≡ list_any (is_out n) (parts_of a.draft)
+  pub known_ins : (n : List ℕ) →
+      is_in_name (named_ports a.ports.now) n ≡ (is_any (named_ports a.ports.now) || has a.known_ins.keys n)
+  pub known_outs : (n : List ℕ) →
+      is_out_name (named_ports a.ports.now) n ≡ (is_any (named_ports a.ports.now) || has a.known_outs.keys n)
+  pub seen_ins : is_any (named_ports a.ports.now) ≡ false → (n : List ℕ) →
+      has a.seen_ins.keys n ≡ list_any (is_in n) (parts_of a.draft)
+  pub seen_outs : is_any (named_ports a.ports.now) ≡ false → (n : List ℕ) →
+      has a.seen_outs.keys n ≡ list_any (is_out n) (parts_of a.draft)

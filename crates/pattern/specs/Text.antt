@@ -44,4 +44,5 @@ form_text (Item part) = part_text part
 form_text End = line_text (codes "end") []
 
 unfoldable pub layout_text : Pattern → List ℕ
-layout_text p = line_text (codes "layout") (size_words p.size) ++ flat_map part_text (parts_of p) ++ line_text (codes "end") []
+layout_text p = line_text (codes "layout") (size_words p.size) ++ flat_map part_text (parts_of p)
+    ++ line_text (codes "end") []

@@ -24,5 +24,6 @@ NoByteIsLost = (text : List ℕ) → flat_map ended_line (lines_of text) ++ rest
 -- What a section gives is given by its own lines: its header, its items and its end, wherever they stand, and
 -- whatever lines follow them.
 abbrev pub IsReadFromItsOwnLines : {H I : Type 0} → Grammar H I → Type 0
-IsReadFromItsOwnLines {H} {I} g = (n m : ℕ) (ls others : List (List ℕ)) (header : H) (items : List I) → section_of g n ls ≡ Ok (header, items)
+IsReadFromItsOwnLines {H} {I} g =
+    (n m : ℕ) (ls others : List (List ℕ)) (header : H) (items : List I) → section_of g n ls ≡ Ok (header, items)
     → section_of g m (take (length items + 2) ls ++ others) ≡ Ok (header, items)
