@@ -1,4 +1,4 @@
--- What comes of reading a bundle.
+-- The results of reading a bundle.
 use Rattle.std.specs.Prelude.{◌≡◌, ℕ, List}
 use Rattle.pattern.specs.Layout.{parts_of}
 use Rattle.section_text.specs.declared.fault.ReadFault.{ReadFault}

@@ -1,4 +1,4 @@
--- What `migrate` answers to a text: its bundle with a certificate of version 2, or the refusal of the text.
+-- The answer of `migrate` to a text: its bundle with a certificate of version 2, or the refusal of the text.
 use Rattle.std.specs.Prelude.{◌≡◌, ℕ, List, [], ◌∷◌, ◌++◌, codes}
 use Rattle.std.specs.List.{flat_map}
 use Rattle.std.specs.Fmt.{decimal}

@@ -1,4 +1,4 @@
--- A book: which reply a finding gets, and what filing and closing make of the book
+-- A book: the reply to a finding, and the book after a filing or a closing
 use Rattle.std.specs.Prelude.{◌≡◌, ℕ, ◌+◌, Bool, true, false, List, [], ◌∷◌, ◌++◌, length, replicate, Option, Some}
 use Rattle.std.specs.Prelude.{None, is_some, slice_get, slice_index_or, slice_set}
 use Rattle.std.specs.List.{count_by}
@@ -14,8 +14,9 @@ use Rattle.audit_core.specs.declared.entry.Filing.{Filing}
 use Rattle.audit_core.specs.declared.reply.Reply.{Reply}
 use Rattle.audit_core.specs.declared.reply.Reply.TheVariants.{Closed, Stranger, Double, Accepted}
 
--- A book as contracts see it: the digest of its certificate, the jobs, for each of their numbers the finding that is
--- held for it, or `None`, whether it is closed, and an entry for each filing and each closing so far
+-- A book as contracts see it: the digest of its certificate, its jobs, and for each of their numbers the finding that
+-- is held for it, or `None`. It also says whether the book is closed, and has an entry for each filing and each closing
+-- so far.
 pub record BookView : Type 0 where
   pub digest : List ℕ
   pub jobs : List JobState
@@ -36,7 +37,7 @@ found_in b number = slice_index_or b.held number None
 abbrev pub accepted_in : BookView → ℕ
 accepted_in b = count_by is_some b.held
 
--- whether this is the whole job of that number
+-- whether this is the job of that number
 unfoldable pub is_job_of : List JobState → ℕ → JobState → Bool
 is_job_of jobs number job = option_eq same_job (slice_get jobs number) (Some job)
 
@@ -62,7 +63,7 @@ held_after held f Closed = held
 held_after held f (Stranger mismatch) = held
 held_after held f (Double number) = held
 
--- for how many numbers a finding is held after a reply, where one was held for so many
+-- for how many numbers a finding is held after a reply, if one was held for n
 abbrev pub count_after : ℕ → Reply → ℕ
 count_after count Accepted = count + 1
 count_after count Closed = count
@@ -78,7 +79,7 @@ after_filing b f =
 abbrev pub after_closing : BookView → BookView
 after_closing b = record b { closed = true; history = b.history ++ Closing ∷ [] }
 
--- the finding is for the book's digest, for this number and for the book's whole job of it
+-- the finding is for the book's digest, for this number and for the book's job of it
 pub record IsOwn (b : BookView) (number : ℕ) (f : Finding) : Type 0 where
   pub digest : digest_of f ≡ b.digest
   pub number_is : number_of f ≡ number
@@ -89,8 +90,8 @@ pub record IsBook (b : BookView) : Type 0 where
   pub places : length b.held ≡ length b.jobs
   pub own : (number : ℕ) (f : Finding) → found_in b number ≡ Some f → IsOwn b number f
 
--- The history replays to what the book is: each stored reply is the one that the rule gives there, the numbers that
--- were accepted are those for which a finding is held, and as many, and the book is closed where the history says so
+-- The history replays to what the book is. Each stored reply is the one that the rule gives there. The numbers that
+-- were accepted are those for which a finding is held, and as many. The book is closed where the history says so.
 pub record IsReplayed (b : BookView) : Type 0 where
   pub due : AreDue b.digest (length b.jobs) beginning b.history
   pub accepted : (number : ℕ) → has_number (replay b.history).accepted number ≡ is_some (found_in b number)

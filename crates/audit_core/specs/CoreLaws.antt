@@ -24,17 +24,17 @@ core_after digest jobs seats events = after_events (new_core digest jobs seats) 
 
 -- ---- draws
 
--- each number below the next stands in one seat's list, once, and no other stands in any
+-- each number below the next is in one seat's list, once, and no other is in any
 abbrev pub DrawsEachOnce : Type 0
 DrawsEachOnce = (digest : List ℕ) (jobs : List JobState) (seats : ℕ) (events : List Event) →
     All (IsSeated seats) events →
     IsDrawn (core_after digest jobs seats events).next (core_after digest jobs seats events).draws
 
--- each of the numbers stands in one seat's list, once
+-- each of the numbers is in one seat's list, once
 abbrev pub AreAllDrawn : CoreView → Type 0
 AreAllDrawn c = (number : ℕ) → number < numbers_in c → total (times number) c.draws ≡ 1
 
--- a claim answers `Empty` only where all numbers were drawn
+-- a claim answers `Empty` only if all numbers were drawn
 abbrev pub EmptyWhereAllAreDrawn : Type 0
 EmptyWhereAllAreDrawn = (digest : List ℕ) (jobs : List JobState) (seats : ℕ) (events : List Event) (seat : ℕ) →
     All (IsSeated seats) events → seat < seats →
@@ -43,13 +43,14 @@ EmptyWhereAllAreDrawn = (digest : List ℕ) (jobs : List JobState) (seats : ℕ)
 
 -- ---- findings
 
--- the finding, where the reply to it is `Accepted`
+-- the finding, if the reply to it is `Accepted`
 abbrev pub accepted_of : Finding → Reply → List Finding
 accepted_of f Accepted = f ∷ []
 accepted_of f Closed = []
 accepted_of f (Stranger mismatch) = []
 accepted_of f (Double number) = []
 
+-- the finding that an event has accepted, if it does
 abbrev pub accepted_by : CoreView → Event → List Finding
 accepted_by c (Events.Claim seat) = []
 accepted_by c (Events.File f) = accepted_of f (reply_to c.book f)
@@ -72,7 +73,7 @@ abbrev pub AcceptsOneForEach : Type 0
 AcceptsOneForEach = (digest : List ℕ) (jobs : List JobState) (seats : ℕ) (events : List Event) (number : ℕ) →
     count_by (λ f. number_of f == number) (accepted_among (new_core digest jobs seats) events) ≤ 1
 
--- each is of the book's whole job of its number, and has the least fault of that job
+-- each is of the book's job of its number, and has the least fault of that job
 abbrev pub HoldsHonestOwn : Type 0
 HoldsHonestOwn = (digest : List ℕ) (jobs : List JobState) (seats : ℕ) (events : List Event) (number : ℕ) (f : Finding) →
     found_in (core_after digest jobs seats events).book number ≡ Some f →

@@ -18,8 +18,8 @@ pub record IsOpenFor (digest : List ℕ) (jobs : List JobState) (b : BookView) :
   pub digest_is : b.digest ≡ digest
   pub jobs_are : b.jobs ≡ jobs
 
--- such a book, to which its history replays, and which holds a finding of each whole job: as many were accepted as
--- there are jobs
+-- such a book, to which its history replays, and which holds a finding of each job: as many were accepted as there are
+-- jobs
 pub record IsFull (digest : List ℕ) (jobs : List JobState) (b : BookView) : Type 0 where
   pub is_open : IsOpenFor digest jobs b
   pub replays : IsReplayed b
@@ -66,6 +66,7 @@ IsHeldOrFiled b c number = ((is_some (found_in b number) ≡ true) × (c ≡ b))
 
 -- ---- how many jobs are run
 
+-- the shapes of jobs
 abbrev pub shapes_of : List JobState → List ShapeState
 shapes_of jobs = map shape_of jobs
 

@@ -1,4 +1,4 @@
--- Why a yes means the whole pattern, step by step
+-- The reason why a yes is right for the whole layout, step by step
 use Rattle.std.specs.Prelude.{◌≡◌, ℕ, suc, ℤ, ◌<◌, ◌≤◌, List, None, [], Some, slice_get, take, IsTrue, IsFalse}
 use Rattle.circuit.specs.Entries.{defined}
 use Rattle.circuit.specs.Bridge.{circuit_of, input_names, netlist_of, output_names}
@@ -25,8 +25,8 @@ use Rattle.audit_core.specs.Implements.{IsCorrect, IsNamed, LooksAsAsked, run_un
 use Rattle.audit_core.specs.OnTime.{IsOnTime}
 use Rattle.audit_core.specs.Verdicts.{Accepts}
 
--- What is known of a bundle that was read: the lines of its circuit, its layout, its modules and their jobs.
--- `Circuit::gates`, `Layout::size`, `Cert::modules` and `Cert::jobs` say it.
+-- The lines of the circuit, the layout, the modules and the jobs are those of a bundle that was read. `Circuit::gates`,
+-- `Layout::size`, `Cert::modules` and `Cert::jobs` state these facts.
 pub record BelongTogether (lines : List Entry) (p : Pattern) (ms : List ModuleLines)
     (jobs : List JobState) : Type 0 where
   pub ordered : AreOrdered (netlist_of lines).given (netlist_of lines).gates
@@ -51,8 +51,8 @@ abbrev pub HasNoEndFault : List JobState → Type 0
 HasNoEndFault jobs = (number : ℕ) (j : JobState) (f : Fault) → slice_get jobs number ≡ Some j → f.kind ≡ End →
     ¬ IsFault j f
 
--- At time t no cell outside the rectangle is live, and in the box of each job the plane is the job's run by itself,
--- where the job's wires have the values that they have in the circuit.
+-- At time t no cell outside the rectangle is live. In the box of each job the plane is the job's run by itself, if the
+-- job's wires have the values that they have in the circuit.
 pub record IsRunOfJobs (lines : List Entry) (p : Pattern) (jobs : List JobState) (v : Valuation) (t : ℕ) : Type 0 where
   pub outside : (x y : ℤ) → IsFalse (in_box (whole p.size) x y) → IsFalse (run_under (circuit_of lines) p v t x y)
   pub inside : (i : ℕ) (j : JobState) → slice_get jobs i ≡ Some j → (x y : ℤ) → IsTrue (in_box j.area x y) →
@@ -63,7 +63,7 @@ abbrev pub StartsAsJobs : Type 0
 StartsAsJobs = (lines : List Entry) (p : Pattern) (ms : List ModuleLines) (jobs : List JobState) (v : Valuation) →
     BelongTogether lines p ms jobs → IsRunOfJobs lines p jobs v 0
 
--- where it is so before a step, and neither a job nor a border has a fault, it is so after the step
+-- if it is so before a step, and neither a job nor a border has a fault, it is so after the step
 abbrev pub StepsAsJobs : Type 0
 StepsAsJobs = (lines : List Entry) (p : Pattern) (ms : List ModuleLines) (jobs : List JobState) (inputs v : Valuation)
     (t : ℕ) →
@@ -71,7 +71,7 @@ StepsAsJobs = (lines : List Entry) (p : Pattern) (ms : List ModuleLines) (jobs :
     t < p.size.steps →
     IsRunOfJobs lines p jobs v t → IsRunOfJobs lines p jobs v (suc t)
 
--- where it is so after the last step, and no job has a fault, the plane looks as the layout asks
+-- if it is so after the last step, and no job has a fault, the plane looks as the layout asks
 abbrev pub EndsAsAsked : Type 0
 EndsAsAsked = (lines : List Entry) (p : Pattern) (ms : List ModuleLines) (jobs : List JobState) (inputs v : Valuation) →
     BelongTogether lines p ms jobs → HasNoEndFault jobs → Satisfies (netlist_of lines) inputs v →
@@ -116,8 +116,8 @@ abbrev pub ReadLayoutIsNamed : Type 0
 ReadLayoutIsNamed = (lines : List Entry) (p : Pattern) →
     AreNamed (Some (record { ins = input_names lines; outs = output_names lines })) (parts_of p) → IsNamed lines p
 
--- Where input cells have the names of inputs, the run depends on the values of the inputs alone: it is that in which
--- just the input cells begin whose input is true.
+-- If input cells have the names of inputs, the run depends on the values of the inputs alone: it is that in which just
+-- the input cells begin whose input is true.
 abbrev pub InputsDecideTheRun : Type 0
 InputsDecideTheRun = (lines : List Entry) (p : Pattern) (inputs v : Valuation) (t : ℕ) (x y : ℤ) →
     HasInputNames lines p →
@@ -126,7 +126,7 @@ InputsDecideTheRun = (lines : List Entry) (p : Pattern) (inputs v : Valuation) (
 
 -- ---- the whole
 
--- so what is accepted is correct, where the ports have the names of inputs and outputs
+-- so what is accepted is correct, if the ports have the names of inputs and outputs
 abbrev pub AcceptedIsCorrect : Type 0
 AcceptedIsCorrect = (lines : List Entry) (p : Pattern) (ms : List ModuleLines) (jobs : List JobState) →
     HasInputNames lines p → IsNamed lines p → IsAcceptedBundle lines p ms jobs → IsCorrect lines p
@@ -138,6 +138,7 @@ AcceptedIsOnTime = (lines : List Entry) (p : Pattern) (ms : List ModuleLines) (j
 
 -- ---- some bundle with an odd time is accepted, so the laws are not about nothing
 
+-- some bundle with an odd time is accepted
 pub record Example : Type 0 where
   pub lines : List Entry
   pub layout : Pattern
@@ -148,6 +149,7 @@ pub record Example : Type 0 where
 
 -- ---- and some layout is not correct, though its ports are named as the circuit's
 
+-- some layout whose ports are named as the circuit's is not correct
 pub record WrongExample : Type 0 where
   pub lines : List Entry
   pub layout : Pattern

@@ -1,4 +1,4 @@
--- What a yes promises: the layout computes the circuit.
+-- The meaning of a yes: the layout computes the circuit.
 --
 -- Read first, in this order: names among names (`has`, section_text/specs/Words.antt); the plane, a step and a run, and
 -- cells of a rectangle (bbm_rule/specs/{Plane,Spans}.antt); what a layout says, and the plane at time 0 and at time t
@@ -32,8 +32,8 @@ pub record IsNamed (lines : List Entry) (p : Pattern) : Type 0 where
 abbrev pub in_ports : List Port → State
 in_ports ports x y = list_any (λ q. is_at q.cell x y) ports
 
--- How the plane is to look after the last step, where `value` gives each wire its truth value: mirrors are live, an
--- output cell is live exactly where its wire is true, and every other cell is dead. Of waste cells nothing is asked.
+-- The plane after the last step is as asked, if `value` gives each wire its truth value. Mirrors are live, an output
+-- cell is live exactly if its wire is true, and every other cell is dead. A waste cell may be live or dead.
 pub record LooksAsAsked (p : Pattern) (value : List ℕ → Bool) (state : State) : Type 0 where
   pub mirrors : (x y : ℤ) → IsTrue (in_rectangles p.mirrors x y) → IsTrue (state x y)
   pub outputs : (i : ℕ) (q : Port) → slice_get p.outs i ≡ Some q → state q.cell.x q.cell.y ≡ value q.name
@@ -59,8 +59,8 @@ pub record Computes (c : Circuit) (p : Pattern) (inputs : Valuation) : Type 0 wh
 abbrev pub Implements : Circuit → Pattern → Type 0
 Implements c p = (inputs : Valuation) → Computes c p inputs
 
--- The layout computes the circuit of these lines: its ports are named as the inputs and outputs, it computes the
--- circuit for all values of the inputs, and at no time up to the last step there is a live cell outside the rectangle.
+-- The layout computes the circuit of these lines. Its ports are named as the inputs and outputs, and it computes the
+-- circuit for all values of the inputs. At no time up to the last step there is a live cell outside the rectangle.
 pub record IsCorrect (lines : List Entry) (p : Pattern) : Type 0 where
   pub named : IsNamed lines p
   pub implements : Implements (circuit_of lines) p

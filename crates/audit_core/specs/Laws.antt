@@ -38,7 +38,7 @@ abbrev pub KeepsWhatIsHeld : Type 0
 KeepsWhatIsHeld = (b : BookView) (f g : Finding) (number : ℕ) → found_in b number ≡ Some g →
     found_in (after_filing b f) number ≡ Some g
 
--- where a finding is not accepted, what is held stays
+-- if a finding is not accepted, what is held stays
 abbrev pub HoldsNothingElse : Type 0
 HoldsNothingElse = (b : BookView) (f : Finding) → reply_to b f ≢ Accepted → (after_filing b f).held ≡ b.held
 
@@ -51,7 +51,7 @@ abbrev pub StaysReplayed : Type 0
 StaysReplayed = (b : BookView) → IsBook b → IsReplayed b →
     ((f : Finding) → IsReplayed (after_filing b f)) × IsReplayed (after_closing b)
 
--- a book to which its history replays is closed where the history has a closing entry, and nowhere else
+-- a book to which its history replays is closed exactly if the history has a closing entry
 abbrev pub ClosedByItsHistory : Type 0
 ClosedByItsHistory = (b : BookView) → IsReplayed b → b.closed ≡ has_closing b.history
 
@@ -60,6 +60,6 @@ abbrev pub BooksAgree : Type 0
 BooksAgree = (b c : BookView) (number : ℕ) (f g : Finding) → IsBook b → IsBook c → b.jobs ≡ c.jobs →
     found_in b number ≡ Some f → found_in c number ≡ Some g → (fault_of f ≡ fault_of g) × (keep_of f ≡ keep_of g)
 
--- a book with a finding for each of its jobs holds one for each whole job
+-- a book that accepted as many findings as it has jobs holds one for each job
 abbrev pub FullBookHoldsAll : Type 0
 FullBookHoldsAll = (b : BookView) → IsBook b → accepted_in b ≡ length b.jobs → AreHeldBelow b b.jobs (length b.jobs)

@@ -118,7 +118,7 @@ impl BookState {
         }
     }
 
-    // Whether this is the whole job of that number.
+    // Whether this is the job of that number.
     fn has_job(&self, number: usize, job: &Job) -> bool
         ensures { result ≡ is_job_of self.now.jobs number job.now }
     {
@@ -197,7 +197,7 @@ impl BookState {
         }
     }
 
-    // The finding that is held for a number, where it is of this whole job.
+    // The finding that is held for a number, if it is of this job.
     pub(crate) fn found_for(&self, number: usize, job: &Job) -> Option<&Finding>
         ensures held { IfSome result (λ f. (found_in self.now number ≡ Some f.now)
             × (job_of f.now ≡ job.now)) }

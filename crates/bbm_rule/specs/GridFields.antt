@@ -1,4 +1,4 @@
--- What the fields of a grid stand for
+-- The fields of a grid, and its view
 use Rattle.std.specs.Prelude.{◌≡◌, false, ℕ, ◌+◌, ◌*◌, ◌/◌, ◌%◌, ◌<◌, ◌≤◌, List, length, map}
 use Rattle.std.specs.List.{range_with_len}
 use Rattle.bbm_rule.specs.declared.grid.Grid.TheInside.{Inside}

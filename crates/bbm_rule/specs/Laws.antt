@@ -1,4 +1,4 @@
--- What the laws of this crate say
+-- The statements of this crate's laws
 use Rattle.std.specs.Ordering.{int_eq}
 use Rattle.std.specs.List.{range_with_len}
 use Rattle.std.specs.Prelude.{true, false, pos, ◌&&◌, ◌||◌, if◌then◌else◌, [], ◌∷◌, ◌++◌, ◌≡◌, ℕ, ℤ, List, map}
@@ -48,5 +48,6 @@ abbrev pub TwoBallsCollide : Type 0
 TwoBallsCollide =
     live_cells (run two_balls 3) (range_with_len 0 8) (range_with_len 0 8) ≡ (5, 2) ∷ (2, 5) ∷ []
 
+-- a second step at one time gives the state before the first
 abbrev pub StepUndoesItself : Type 0
 StepUndoesItself = (t : ℕ) (s : State) (x y : ℤ) → step t (step t s) x y ≡ s x y

@@ -16,8 +16,8 @@ turn_of n =
     + 4 * one_if (turned ll ur lr ul)
     + 8 * one_if (turned lr ul ll ur)
 
--- The bits at one place of four words are a block: of ul its upper left cell, of ur upper right, of ll lower left, of
--- lr lower right. At each place the four new words, with a mark, have what the block becomes
+-- The bits at one place of four words are a block: that of ul is its upper left cell, of ur upper right, of ll lower
+-- left, of lr lower right. At each place the four new words, with a mark, have what the block becomes
 pub record AreTurned (ul ur ll lr ul' ur' ll' lr' : ℕ) : Type 0 where
   pub upper_left : (j : ℕ) → bit ul' j ≡ turned (bit ul j) (bit lr j) (bit ur j) (bit ll j)
   pub upper_right : (j : ℕ) → bit ur' j ≡ turned (bit ur j) (bit ll j) (bit ul j) (bit lr j)

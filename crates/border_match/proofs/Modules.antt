@@ -38,7 +38,7 @@ pub value_of : {A B : Type 0} (v : A → B) (xs : List A) (k : ℕ) (b : B) → 
     (a : A) × (slice_get xs k ≡ Some a) × (v a ≡ b)
 value_of v xs k b e = some_value v (slice_get xs k) b (sym (slice_get-map v xs k) ∙ e)
 
--- where boxes tile the rectangle, want of memory is all that keeps a table of owners from being made
+-- if boxes tile the rectangle, a table of owners fails only out of memory
 pub only_memory : (w h : ℕ) (boxes : List Box2) (fault : TileFault) → IsTask w h boxes → IsTileFault w h boxes fault →
     Tile (rectangle_of w h) boxes → fault ≡ Memory
 only_memory w h boxes (Outside n) task is tile = absurd (no_tiling w h boxes (Outside n) task is other tile)

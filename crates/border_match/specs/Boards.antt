@@ -54,15 +54,19 @@ pub record IsBoard (w : Box2) (o : Owning) (jobs : List JobState) : Type 0 where
 
 -- ---- the same of a module among its neighbours
 
+-- the jobs of the modules
 abbrev pub jobs_of : Borders → List JobState
 jobs_of b = map arc_value b.jobs.now
 
+-- the owner of each cell is a job whose box has it, and no job has an event at time 0
 abbrev pub IsReady : Borders → Type 0
 IsReady b = IsBoard b.whole b.owners.now (jobs_of b) × IsQuiet b.job.now
 
+-- a border fault of the job that is searched
 abbrev pub Faults : Borders → BorderFault → Type 0
 Faults b f = IsJobFault b.whole b.owners.now (jobs_of b) b.job.now f
 
+-- the job that is searched and the module that has the cell say different things of it at the time
 abbrev pub Differ : Borders → ℕ → ℤ → ℤ → Type 0
 Differ b t x y = AreDifferent b.owners.now (jobs_of b) b.job.now t x y
 

@@ -1,4 +1,4 @@
--- What the laws of this crate say
+-- The statements of this crate's laws
 use Rattle.std.specs.Prelude.{◌≡◌, ℕ, ℤ, ◌<◌, ◌%◌, List, map, Option, Some, None, slice_get, IsTrue}
 use Rattle.circuit.specs.Meaning.{Valuation}
 use Rattle.module_box.specs.Boxes.{in_box, in_halo, Tile}
@@ -26,7 +26,7 @@ pub record AreBeside (g : Setting) (ms : List ModuleLines) (i k : ℕ) (m owner 
   pub halo : IsTrue (in_halo m.area x y)
   pub owned : IsTrue (in_box owner.area x y)
 
--- where module i has no border fault, its halo signal and the owner's edge signal are true under the same valuations
+-- if module i has no border fault, its halo signal and the owner's edge signal are true under the same valuations
 abbrev pub NoFaultMeansSameSignals : Type 0
 NoFaultMeansSameSignals = (g : Setting) (ms : List ModuleLines) (i k : ℕ) (m owner : ModuleLines) (t : ℕ) (x y : ℤ)
     (v : Valuation) →

@@ -1,4 +1,4 @@
--- What delays and meetings mean, gate by gate
+-- The meaning of delays and meetings, gate by gate
 use Rattle.std.specs.Prelude.{◌≡◌, ℕ, ◌+◌, ◌<◌, ◌≤◌, List, [], ◌∷◌, Option, Some, None, slice_get, Contains}
 use Rattle.std.specs.List.{All}
 use Rattle.circuit.specs.Gates.{Delay}
@@ -20,7 +20,7 @@ pub record IsLastTime (c : Circuit) (ss : List StopLine) (w t : ℕ) : Type 0 wh
   pub seen : Contains (times_of c ss w) t
   pub greatest : All (λ u. u ≤ t) (times_of c ss w)
 
--- from the last time of wire a to the first time of wire b it is so many steps
+-- from the last time of wire a to the first time of wire b there are this many steps
 pub record TakesSteps (c : Circuit) (ss : List StopLine) (steps a b : ℕ) : Type 0 where
   pub leaves : ℕ
   pub last : IsLastTime c ss a leaves
@@ -51,7 +51,7 @@ abbrev pub TellsOfMeeting : Circuit → List StopLine → Option ℕ → List �
 TellsOfMeeting c ss (Some t) ws = MeetAt c ss ws t
 TellsOfMeeting c ss None ws = (t : ℕ) → ¬ MeetAt c ss ws t
 
--- a line names a gate of the circuit, and tells of it
+-- a line names a gate of the circuit, and is right about it
 abbrev pub Tells : Circuit → List StopLine → TimeLine → Type 0
 Tells c ss (line.Delay k n gap) =
     (g : Gate) × (slice_get c.netlist.gates k ≡ Some g) × (g.kind ≡ Delay n)

@@ -36,7 +36,7 @@ pub record CertState : Type 0 where
 abbrev pub certificate_value : CertState → ℕ × List Entry
 certificate_value c = (c.version, c.entries)
 
--- the modules of a certificate, with the halo lines that it has or that its edge lines stand for
+-- the modules of a certificate, with the halo lines that it has or that its edge lines mean
 abbrev pub modules_in : CertState → List ModuleLines
 modules_in c = meant c.version (setting_of c.circuit c.layout) (modules_of c.entries)
 

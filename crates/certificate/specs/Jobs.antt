@@ -1,4 +1,4 @@
--- The job of a module: all that its run by itself needs
+-- The job of a module: the data that its run by itself needs
 use Rattle.std.specs.Prelude.{◌≡◌, ℕ, ℤ, ◌*◌, ◌<◌, ◌||◌, Bool, true, false, if◌then◌else◌, List, [], ◌∷◌, length, map}
 use Rattle.std.specs.Prelude.{Option, Some, None, slice_get, IsTrue}
 use Rattle.std.specs.List.{All, flat_map}
@@ -23,10 +23,12 @@ use Rattle.certificate_lines.specs.PortTables.{port_at}
 
 -- ---- what a layout and the lines of a module ask for, by the wires of the circuit
 
+-- the wire of a name, if there is a name
 abbrev pub named_wire : Circuit → Option (List ℕ) → Option ℕ
 named_wire c None = None
 named_wire c (Some n) = wire_of c n
 
+-- the signal of a wire: without a wire the cell is dead
 abbrev pub signal_of : Option ℕ → Signal
 signal_of None = Zero
 signal_of (Some w) = Wire w
@@ -36,10 +38,12 @@ unfoldable pub start_signal : Circuit → Pattern → ℤ → ℤ → Signal
 start_signal c p x y =
     if in_rectangles p.mirrors x y || in_cells p.balls x y then One else signal_of (named_wire c (port_at p.ins x y))
 
+-- the demand of a wire: without a wire the cell must be dead
 abbrev pub demand_of : Option ℕ → Demand
 demand_of None = Demanded.Dead
 demand_of (Some w) = Demanded.Wire w
 
+-- the demand on a cell that is in no mirror, by the output at it and by whether it is a waste cell
 abbrev pub demand_elsewhere : Circuit → Option (List ℕ) → Bool → Demand
 demand_elsewhere c (Some n) waste = demand_of (wire_of c n)
 demand_elsewhere c None true = Demanded.Any
@@ -73,7 +77,7 @@ line_signals c es = record {
   events = flat_map (λ e. event_by e e.time (line_signal c e.signal)) es;
 }
 
--- a stop line, where its wire has this number
+-- a stop line, if its wire has this number
 abbrev pub numbered_stop : StopLine → Option ℕ → List Stop
 numbered_stop s None = []
 numbered_stop s (Some w) = record { at = record { time = s.time; cell = s.cell }; wire = w } ∷ []
@@ -83,6 +87,8 @@ abbrev pub line_stops : Circuit → List StopLine → List Stop
 line_stops c ss = flat_map (λ s. numbered_stop s (wire_of c s.wire)) ss
 
 -- ---- the job of a module of a circuit and a layout, by the lines of the module
+-- the job of a module: its box, the layout's steps, and the wires and gates that the module knows, with what its lines,
+-- the circuit and the layout say of its cells
 pub record IsJobOf (c : Circuit) (p : Pattern) (m : ModuleLines) (j : JobState) : Type 0 where
   pub area : j.area ≡ m.area
   pub steps : j.steps ≡ p.size.steps

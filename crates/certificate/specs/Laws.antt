@@ -25,7 +25,7 @@ PrintsWhatIsRead = (g : Setting) (n : ℕ) (ls : List (List ℕ)) (c : CertState
     section_of (certificate_grammar g) n ls ≡ Ok (certificate_value c) →
     flat_map ended_line (take (length c.entries + 2) ls) ≡ certificate_text c
 
--- and it is read as the same certificate again, wherever it stands
+-- and it is read as the same certificate again, wherever it is
 abbrev pub ReadsWhatIsPrinted : Type 0
 ReadsWhatIsPrinted = (g : Setting) (text : List ℕ) (from n m : ℕ) (c : CertState) →
     section_of (certificate_grammar g) n (drop from (lines_of text)) ≡ Ok (certificate_value c) →
@@ -41,17 +41,17 @@ abbrev pub LastIsGreatest : Type 0
 LastIsGreatest = (c : Circuit) (ss : List StopLine) (w t : ℕ) → last_seen c ss w ≡ Some t →
     Contains (times_of c ss w) t × All (λ u. u ≤ t) (times_of c ss w)
 
--- what each line tells of its gate
+-- what each line says of its gate is right
 abbrev pub LinesTell : Type 0
 LinesTell = (c : Circuit) (ms : List ModuleLines) → All (Tells c (all_stops ms)) (time_lines c ms)
 
--- where all rules are kept, each delay takes as many steps as it says, and for each gate there is a time at which its
+-- if all rules are kept, each delay takes as many steps as it says, and for each gate there is a time at which its
 -- inputs meet
 abbrev pub KeptIsOnTime : Type 0
 KeptIsOnTime = (c : Circuit) (ms : List ModuleLines) → IsTrue (are_all_kept (time_lines c ms)) →
     AreOnTime c (all_stops ms)
 
--- where no edge line names a wire that a module beside it lacks, the modules of either version are modules of version 1
+-- if no edge line names a wire that a module beside it lacks, the modules of either version are modules of version 1
 abbrev pub MeantAreModules : Type 0
 MeantAreModules = (version : ℕ) (g : Setting) (ms : List ModuleLines) → AreModules g ms →
     (is_haloless version && lacks_wire g ms) ≡ false → AreModules g (meant version g ms)
@@ -87,8 +87,8 @@ pub record IsSectionOf (g : Setting) (version : ℕ) (es : List Entry) : Type 0 
   pub lines : AreFaultlessLines g version [] es
   pub end : (certificate_grammar g).end_fault version es ≡ None
 
--- So the lines of a section of version 1 are without the halo lines those of a section of version 2, where each module
--- knows the wires of the edge lines beside it.
+-- So a section of version 1 is one of version 2 without its halo lines, if each module knows the wires of the edge
+-- lines beside it.
 abbrev pub SectionWithoutHalos : Type 0
 SectionWithoutHalos = (g : Setting) (es : List Entry) → IsSectionOf g 1 es → lacks_wire g (modules_of es) ≡ false →
     IsSectionOf g 2 (without_halos es)

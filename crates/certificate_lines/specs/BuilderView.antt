@@ -1,4 +1,4 @@
--- The fields of a certificate that is being read, and what contracts see of them
+-- The fields of a certificate that is being read, and its view
 use Rattle.std.specs.Prelude.{◌≡◌, ℕ, ◌+◌, ◌<◌, ◌≤◌, ℤ, ◌&&◌, Bool, false, List, [], ◌∷◌, ◌++◌, map, length, Option}
 use Rattle.std.specs.Prelude.{Some, None, slice_get, IsTrue}
 use Rattle.std.specs.Option.{option_to_list}
@@ -24,6 +24,7 @@ pub record BuilderState : Type 0 where
   pub setting : Setting
   pub entries : List Entry
 
+-- the view of a builder, from its fields
 abbrev pub builder_state : Inside → BuilderState
 builder_state a = record { setting = a.site; entries = a.entries.items }
 
@@ -43,7 +44,7 @@ pub record AreApart (boxes : List Box2) : Type 0 where
   pub once : (x y : ℤ) (i j : ℕ) (b b' : Box2) → slice_get boxes i ≡ Some b → slice_get boxes j ≡ Some b' →
       IsTrue (in_box b x y) → IsTrue (in_box b' x y) → i ≡ j
 
--- a good module, with at most so many edge and halo lines of its own
+-- a good module within the limit on its edge, halo and stop lines
 pub record IsWritten (g : Setting) (m : ModuleLines) : Type 0 where
   pub good : IsModule g m
   pub few_borders : HasFewLines m
@@ -53,7 +54,7 @@ pub record AreSound (g : Setting) (ms : List ModuleLines) : Type 0 where
   pub few : length ms ≤ 1024
   pub each : (k : ℕ) (m : ModuleLines) → slice_get ms k ≡ Some m → IsWritten g m
   pub apart : AreApart (areas ms)
-  -- of all but the last, the ports' wires are local
+  -- the ports' wires are local in all modules but the last
   pub ported : (i : ℕ) (m : ModuleLines) → i + 1 < length ms → slice_get ms i ≡ Some m → lacks_port g m ≡ false
 
 -- the modules so far, and what is kept of all of them
@@ -86,12 +87,14 @@ pub record IsKeptWith (g : Setting) (es : List Entry) (covered : Board) (counts 
   pub kept : IsKept g es covered counts last names local e h
   pub wires : AreWires g.circuit (modules_of es) earlier local
 
+-- the fields of every builder: its tables are those of its lines
 abbrev pub IsBuilder : Inside → Type 0
 IsBuilder a = IsKeptWith a.site a.entries.items a.covered a.modules.items a.last a.names.items
     (map (λ s. s.keys) a.earlier.items) a.known.keys a.edges.keys a.halos.keys
 
 -- ---- the counts of a module with one more line
 
+-- the counts of a module with one line more
 unfoldable pub counted : Entry → Counts → Counts
 counted (Module b) k = k
 counted (Cut n) k = record k { cuts = k.cuts + 1 }
@@ -119,6 +122,7 @@ IsInner (Stop s) = Unit {0}
 
 -- ---- what a line of a module makes local
 
+-- the wires that a gate defines, if there is a gate
 abbrev pub outs_at : Option Gate → List ℕ
 outs_at None = []
 outs_at (Some gate) = gate.outs

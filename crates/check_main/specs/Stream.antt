@@ -1,4 +1,4 @@
--- Reading a text to its end, and writing what is answered.
+-- Reading a text to its end, and writing the answer.
 use Rattle.std.specs.Prelude.{◌≡◌, ◌≢◌, ◌<◌, ◌≤◌, ◌++◌, ℕ, Bool, true, false, List, None, Result, IfErr, IfOk, IsErrOf}
 use Rattle.std.specs.Prelude.{OnOk, length}
 use Rattle.std.specs.declared.option.Option.{Option}
@@ -52,8 +52,8 @@ pub record BreaksOff (R : List ℕ → List ℕ → Outcome → Type 0) (left le
   pub right : R text output outcome
   pub written : TakesPrefix held held' output
 
--- What a call of the command `R` did with a reader and a writer that had not failed, and how it ended. `left` is what a
--- reader has still to give and `held` what a writer took, where it is known.
+-- The effect of a call of the command `R` on a reader and a writer that had not failed, and its end. `left` is what a
+-- reader has still to give and `held` what a writer took, if it is known.
 pub record Serves {X Y : Type 0} (R : List ℕ → List ℕ → Outcome → Type 0) (left : X → Option (List ℕ))
     (reader_failed : X → Bool) (reader reader' : X)
     (held : Y → Option (List ℕ)) (writer_failed : Y → Bool) (writer writer' : Y)

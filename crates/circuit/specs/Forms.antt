@@ -30,7 +30,7 @@ gate_kind ws =
     else if is_word_at ws 0 (codes "uninteract") then Some Uninteract
     else None
 
--- how many words stand before the names
+-- how many words are before the names
 abbrev pub words_before : GateKind → ℕ
 words_before (Source b) = 2
 words_before Fredkin = 1
@@ -41,6 +41,7 @@ words_before (Delay n) = 2
 words_before Unswitch = 1
 words_before Uninteract = 1
 
+-- the gate line of this kind by its words
 unfoldable pub gate_names : List (List ℕ) → GateKind → Option Entry
 gate_names ws kind = do
   ins ← names_at ws (words_before kind) (uses (rule_of kind))
@@ -55,9 +56,11 @@ gate_entry ws = do
       (if is_word_at ws (words_before kind + uses (rule_of kind)) (codes "->") then gate_names ws kind else None) else
       None
 
+-- a line of the circuit section: its header has no content
 abbrev pub Line : Type 0
 Line = Form (Unit {0}) Entry
 
+-- the form of a line by its words, if it has one
 unfoldable pub form_of : List (List ℕ) → Option Line
 form_of ws =
     if is_word_at ws 0 (codes "circuit") then lone ws (Header tt)

@@ -18,7 +18,7 @@ PrintsWhatIsRead = (n : ℕ) (ls : List (List ℕ)) (entries : List Entry) →
     section_of circuit_grammar n ls ≡ Ok (tt, entries) →
     flat_map ended_line (take (length entries + 2) ls) ≡ circuit_text entries
 
--- and is read as the same circuit again, wherever it stands
+-- and it is read as the same circuit again, wherever it is
 abbrev pub ReadsWhatIsPrinted : Type 0
 ReadsWhatIsPrinted = (text : List ℕ) (from n m : ℕ) (entries : List Entry) →
     section_of circuit_grammar n (drop from (lines_of text)) ≡ Ok (tt, entries) →
@@ -29,7 +29,7 @@ abbrev pub GatesAreOrdered : Type 0
 GatesAreOrdered = (entries : List Entry) → AreGood entries →
     AreOrdered (input_count entries) (gates_of (defined entries) entries)
 
--- ordered gates have a valuation where none of them is undefined
+-- ordered gates have a valuation if none of them is undefined
 abbrev pub HasValuation : Type 0
 HasValuation = (n : Netlist) (a : Valuation) → AreOrdered n.given n.gates → ((k : ℕ) → ¬ IsUndefined n a k) →
     (v : Valuation) × Satisfies n a v
@@ -98,6 +98,7 @@ pub record Undoes (gate inverse : Rule) : Type 0 where
   pub undone : (ins outs : List Bool) → row gate ins ≡ Some outs → row inverse outs ≡ Some ins
   pub only : (ins outs : List Bool) → row inverse ins ≡ Some outs → row gate outs ≡ Some ins
 
+-- `unswitch` undoes `switch`, and `uninteract` undoes `interact`
 pub record InverseGatesUndo : Type 0 where
   pub switch : Undoes Switch Unswitch
   pub interact : Undoes Interact Uninteract

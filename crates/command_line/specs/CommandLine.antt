@@ -13,7 +13,7 @@ use Rattle.clap.specs.declared.error.kind.ErrorKind.TheVariants as kind
 use Rattle.command_line.specs.declared.Request.{Request}
 use Rattle.command_line.specs.declared.Request.TheVariants.{Check, Run, Value, Modules, Migrate}
 
--- `--workers N`, a whole number of 1 to 64, and 1 where it is left out
+-- `--workers N`, a whole number of 1 to 64, and 1 if it is left out
 abbrev pub workers_rule : Rule
 workers_rule = record (new_rule (codes "workers")) {
   long = Some (codes "workers");
@@ -22,6 +22,7 @@ workers_rule = record (new_rule (codes "workers")) {
   defaults = codes "1" ∷ [];
 }
 
+-- the command `check`, with the rule on `--workers`
 abbrev pub check_app : App
 check_app = with_rule (new_app (codes "check")) workers_rule
 
@@ -37,6 +38,7 @@ bbmcheck =
     check_app.top) (new_app (codes "run")).top) (new_app (codes "value")).top) (new_app (codes "modules")).top)
     (new_app (codes "migrate")).top
 
+-- the command of a name, and every other name is `run`
 abbrev pub request_named : Text → Request
 request_named name =
     if bytes_eq name (codes "check") then Check else if bytes_eq name (codes "value") then Value else if bytes_eq name
@@ -52,6 +54,7 @@ asked_by words = option_map_or (λ p. request_named p.0) (subcommand_of bbmcheck
 abbrev pub workers_of : Text × List Row → Option Text
 workers_of command = if bytes_eq command.0 (codes "check") then one_of (codes "workers") command.1 else None
 
+-- the text for `--workers` of the command that the words name
 abbrev pub workers_text : List Text → Option Text
 workers_text words = option_and_then workers_of (subcommand_of bbmcheck words)
 

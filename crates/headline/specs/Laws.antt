@@ -41,7 +41,7 @@ YesHasOneValuation = (text output : List ℕ) (circuit : List Entry) (layout : P
     Satisfies (netlist_of circuit) inputs u → Satisfies (netlist_of circuit) inputs v →
     (w : ℕ) → w < wires (netlist_of circuit) → u w ≡ v w
 
--- a report says yes in its fourth line just where that is the outcome
+-- a report says yes in its fourth line exactly if that is the outcome
 abbrev pub FourthLineTells : Type 0
 FourthLineTells = (text output : List ℕ) (outcome : Outcome) → IsReportOf text output outcome →
     (SaysYes output → outcome ≡ Yes) × (outcome ≡ Yes → SaysYes output)
@@ -59,8 +59,8 @@ SaysOneCertificate = (text : List ℕ) (circuit circuit' : List Entry) (layout l
     SaysBundle text circuit layout certificate → SaysBundle text circuit' layout' certificate' →
     certificate ≡ certificate'
 
--- Where a text is not refused, the design that it says is good: each of its lines is good after those before it, by
--- names, limits and cells, and the text begins with the lines of both sections in their one spelling.
+-- The design of a text that is not refused is good: each of its lines is good after those before it, by names, limits
+-- and cells. The text begins with the lines of both sections in their one spelling.
 pub record IsGoodDesign (text : List ℕ) (circuit : List Entry) (layout : Pattern) : Type 0 where
   pub circuit_lines : AreGood circuit
   pub size : size_fault layout.size ≡ None
@@ -68,6 +68,8 @@ pub record IsGoodDesign (text : List ℕ) (circuit : List Entry) (layout : Patte
   pub rest : List ℕ
   pub begins : text ≡ circuit_text circuit ++ (layout_text layout ++ rest)
 
+-- In a text that is not refused, each line of the circuit and of the layout is good after those before it, and has its
+-- one spelling.
 abbrev pub ReportsOnGoodDesigns : Type 0
 ReportsOnGoodDesigns = (text output : List ℕ) (outcome : Outcome) (circuit : List Entry) (layout : Pattern) →
     IsReportOf text output outcome → outcome ≢ Refused →

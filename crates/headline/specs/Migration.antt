@@ -1,4 +1,4 @@
--- What `migrate` keeps, of texts alone.
+-- The facts that `migrate` keeps, of texts alone.
 use Rattle.std.specs.Prelude.{◌≡◌, ℕ, List}
 use Rattle.circuit.specs.declared.entry.Entry.{Entry as CircuitLine}
 use Rattle.pattern.specs.Layout.{Pattern}
@@ -21,15 +21,15 @@ abbrev pub KeepsVersionTwo : Type 0
 KeepsVersionTwo = (text output : List ℕ) (circuit : List CircuitLine) (layout : Pattern) (certificate : List Entry) →
     IsMigrationOf text output Yes → SaysInVersion 2 text circuit layout certificate → output ≡ text
 
--- What is written is of version 2. It says the circuit and the layout that were read, and the lines of the certificate
--- other than its halo lines.
+-- The text that `migrate` writes is of version 2. It says the circuit and the layout that were read, and the lines of
+-- the certificate other than its halo lines.
 abbrev pub MigrationSaysTheSame : Type 0
 MigrationSaysTheSame = (text output : List ℕ) (circuit : List CircuitLine) (layout : Pattern)
     (certificate : List Entry) →
     IsMigrationOf text output Yes → SaysBundle text circuit layout certificate →
     SaysInVersion 2 output circuit layout (without_halos certificate)
 
--- what is written is migrated to itself, where it is not refused
+-- what is written is migrated to itself, if it is not refused
 abbrev pub MigratesOnce : Type 0
 MigratesOnce = (text output again : List ℕ) → IsMigrationOf text output Yes → IsMigrationOf output again Yes →
     again ≡ output

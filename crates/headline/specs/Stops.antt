@@ -1,5 +1,5 @@
--- What a yes of `check` means of stops, delays and meetings, of texts and bytes alone. Who writes no `stop` lines need
--- not read this.
+-- The meaning of a yes of `check` for stops, delays and meetings, of texts and bytes alone. Texts without `stop` lines
+-- do not need this file.
 --
 -- Read before: all that Headline.antt names; certificate_lines/specs/Entries.antt up to `stop_in` and Forms.antt (what
 -- a line of a certificate says); certificate/specs/Times.antt up to `times_of` and Arrivals.antt up to `AreOnTime`

@@ -2,6 +2,7 @@
 -- its own. Stops show when they begin, and when the third arrives. It is `examples/timed_modules.txt`.
 use Rattle.std.specs.Prelude.{ℕ, List, ◌++◌, codes}
 
+-- the bytes of the text
 unfoldable pub timed_modules : List ℕ
 timed_modules =
     codes

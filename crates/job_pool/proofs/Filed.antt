@@ -82,7 +82,7 @@ module _ {F A : Type 0} (desk : Desk) (groups : List ℕ) where
     pub all_seats : All (IsSeatOf desk) (seats_of after)
     all_seats = All-map (IsSeatOf desk) (λ (w : Worker F A). w.seat) after (λ i d below. (each i d (omega arith)).seat)
 
-    -- where no worker stopped for want of memory, the finding of each number was filed
+    -- if no worker stopped out of memory, the finding of each number was filed
     pub every_number_was_filed : (counter : ℕ) (lists : List (List ℕ)) → 0 < length before →
         All (λ (w : Worker F A). w.starved ≡ false) after → lists ≡ map drawn_by (seats_of after) →
         IsDrawn counter lists → All (λ g. g < desk.numbers) groups

@@ -178,7 +178,7 @@ fn run_all<F: Filings + Sync, A: Ledger + Sync, G: Gate + Sync, R: Threads + Wai
     );
 }
 
-// The seats and the shares, whether a worker stopped for want of memory, and how many jobs were run.
+// The seats and the shares, whether a worker stopped out of memory, and how many jobs were run.
 fn dismiss<F: Filings, A: Ledger>(
     workers: Vec<Worker<F, A>>,
     mut seats: Vec<DeskSeat>,

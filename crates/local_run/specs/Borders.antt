@@ -5,7 +5,7 @@ use Rattle.bbm_rule.specs.Marks.{IsUnmarked}
 use Rattle.local_run.specs.Calm.{IsDeadAt}
 use Rattle.local_run.specs.declared.planes.Planes.{Planes}
 
--- the cells in this column and row of planes of so many are neither in the ring nor in the halo
+-- the cells in this column and row of planes of this many columns and rows are neither in the ring nor in the halo
 abbrev pub IsInner : ℕ → ℕ → ℕ → ℕ → Type 0
 IsInner stride rows column row = (0 < column) × (column + 1 < stride) × (0 < row) × (row + 1 < rows)
 

@@ -1,4 +1,4 @@
--- What is known of the blocks of four planes that have no mark
+-- The blocks of four planes that have no mark
 use Rattle.std.specs.Prelude.{◌≡◌, ◌≢◌, Bool, true, ℕ, ◌+◌, ◌*◌, ◌<◌, List, slice_index}
 use Rattle.std.proofs.Props.{props}
 use Rattle.bbm_rule.specs.Marks.{IsUnmarked}
@@ -29,14 +29,16 @@ AllDead marks p = (u : ℕ) → u < p.stride * p.rows → IsUnmarked marks u →
 pub OddCalm-prop : (marks : List ℕ) (p : Planes) → IsProp (OddCalm marks p)
 OddCalm-prop marks p = Prim.hlevel props
 
+-- any two proofs that the blocks of the even partition are calm are equal, as a ghost field needs
 pub EvenCalm-prop : (marks : List ℕ) (p : Planes) → IsProp (EvenCalm marks p)
 EvenCalm-prop marks p = Prim.hlevel props
 
+-- any two proofs that cells are dead are equal, as a ghost field needs
 pub AllDead-prop : (marks : List ℕ) (p : Planes) → IsProp (AllDead marks p)
 AllDead-prop marks p = Prim.hlevel props
 
--- Of each plane the words of one cell may change, and no others: cells are numbered row by row. Those of the planes odd
--- and even may change only where `main`, those of the other two only where `anti`
+-- In each plane the words of one cell may change, and no others. Cells are numbered row by row. Those of the planes odd
+-- and even may change only if `main`, those of the other two only if `anti`
 pub record ChangesCells (main anti : Bool) (odd right down even : ℕ) (p q : Planes) : Type 0 where
   pub odd_same : (u k : ℕ) → k < p.words → (main ≡ true → u ≢ odd) →
       slice_index q.odd.items (p.words * u + k) ≡ slice_index p.odd.items (p.words * u + k)

@@ -1,4 +1,4 @@
--- What the laws of this crate say
+-- The statements of this crate's laws
 use Rattle.std.specs.Prelude.{◌≡◌, ℕ, ℤ, ◌+◌, ◌<◌, ◌≤◌, ◌%◌, ◌↔◌, Option, None, IsTrue}
 use Rattle.std.specs.List.{All}
 use Rattle.circuit.specs.Meaning.{Valuation, AreOrdered}
@@ -36,7 +36,7 @@ NoneMeansNoKeepFault = (f : Finding) (x : KeepFault) → keep_of f ≡ None → 
 abbrev pub LeastKeepFaultIsUnique : Type 0
 LeastKeepFaultIsUnique = (j : JobState) (f g : Option KeepFault) → IsLeastKeepFault j f → IsLeastKeepFault j g → f ≡ g
 
--- where some used gate has no row under an assignment, the job has no fault under it
+-- if some used gate has no row under an assignment, the job has no fault under it
 abbrev pub UndefinedHasNoFault : Type 0
 UndefinedHasNoFault = (j : JobState) (f : Fault) (k : ℕ) → AreOrdered j.locals.netlist.given j.locals.netlist.gates →
     IsLocallyUndefined j.locals f.assignment k → ¬ IsFault j f
@@ -45,8 +45,8 @@ UndefinedHasNoFault = (j : JobState) (f : Fault) (k : ℕ) → AreOrdered j.loca
 abbrev pub LeastFaultIsUnique : Type 0
 LeastFaultIsUnique = (j : JobState) (f g : Option Fault) → IsLeastFault j f → IsLeastFault j g → f ≡ g
 
--- Where no gate uses a wire before it is defined, any one local valuation under an assignment tells whether the job has
--- a fault under it
+-- If no gate uses a wire before it is defined, any one local valuation under an assignment decides whether the job has
+-- a fault under it.
 abbrev pub FaultsAreDecided : Type 0
 FaultsAreDecided = (j : JobState) (f : Fault) (u : Valuation) → IsJob j →
     AreOrdered j.locals.netlist.given j.locals.netlist.gates →
@@ -58,7 +58,7 @@ abbrev pub SayTheSame : JobState → Signals → Type 0
 SayTheSame j halos = (t : ℕ) (x y : ℤ) → t % 2 ≡ 1 → t < j.steps → IsTrue (in_halo j.area x y) →
     signal_at j.halos t x y ≡ signal_at halos t x y
 
--- so the job has the same faults where they are its halos, if its stops are at times up to the last one
+-- so the job has the same faults if they are its halos, if its stops are at times up to the last one
 abbrev pub JobsWithSameHalosAgree : Type 0
 JobsWithSameHalosAgree = (j : JobState) (halos : Signals) (f : Fault) → All (λ s. s.at.time ≤ j.steps) j.stops →
     SayTheSame j halos → IsFault j f → IsFault (record j { halos = halos }) f
@@ -67,13 +67,13 @@ JobsWithSameHalosAgree = (j : JobState) (halos : Signals) (f : Fault) → All (�
 abbrev pub StaysInBox : Type 0
 StaysInBox = (j : JobState) (u : Valuation) (t : ℕ) → IsJob j → LiesInBox j.area (local_run j u t)
 
--- A run that does not change in two steps does not change until time n, where the signals of the halo do not either
+-- A run that does not change in two steps does not change until time n, if the signals of the halo do not either
 abbrev pub QuietRunsStay : Type 0
 QuietRunsStay = (j : JobState) (u : Valuation) (t o n : ℕ) → IsOddOf t o → StaysUpTo j u t (t + 2) →
     IsSteady j.halos o n → StaysUpTo j u t n
 
--- Where the signals of the ring do not change either, an edge fault before time n was there at the odd one of the two
--- times
+-- If the signals of the ring do not change either, an edge fault before time n was there at the odd one of the two
+-- times.
 abbrev pub NoNewEdgeFaults : Type 0
 NoNewEdgeFaults = (j : JobState) (u : Valuation) (t o n k : ℕ) (x y : ℤ) → IsOddOf t o → StaysUpTo j u t (t + 2) →
     IsSteady j.halos o n → IsSteady j.edges o n →

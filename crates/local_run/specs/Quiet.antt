@@ -20,7 +20,7 @@ abbrev pub HasRoom : Box2 → List ℕ → Type 0
 HasRoom b marks = (b.x ≤ 512) × (b.y ≤ 512) × (b.w ≤ 64) × (b.h ≤ 64) × (b.w % 2 ≡ 0) × (b.h % 2 ≡ 0)
     × ((b.w / 2 + 1) * (b.h / 2 + 1) ≤ 64 * length marks)
 
--- the cell has a mark, where it is in the box or its halo
+-- the cell has a mark, if it is in the box or its halo
 abbrev pub IsCellMarked : Box2 → Cell → List ℕ → Type 0
 IsCellMarked b c marks = (x y : ℕ) → x < b.w + 2 → y < b.h + 2 → c.x ≡ outer b.x x → c.y ≡ outer b.y y →
     IsUnmarked marks (number_at b x y) → ⊥

@@ -35,7 +35,7 @@ valuation vs a = value_of vs.words vs.rows.values.items a
 abbrev pub is_defined : Values → ℕ → Bool
 is_defined vs a = bit_of_row vs.rows.defined.items a
 
--- where each used gate has a row, the values of the wires stay: in rows of words, with the row of the assignments that
+-- if each used gate has a row, the values of the wires stay: in rows of words, with the row of the assignments that
 -- are so
 abbrev pub KeepsDefined : List ℕ → List ℕ → List ℕ → Type 0
 KeepsDefined defined old new =
@@ -87,6 +87,7 @@ pub record HasBothEnds (kind : Kind) (w h y stride : ℕ) : Type 0 where
   pub between : (1 ≤ y) × (y + 1 < h)
   pub ends : stride + 1 ≡ w
 
+-- a distance at which a scan of row y looks at each cell that can have a fault of the kind
 abbrev pub IsStride : Kind → ℕ → ℕ → ℕ → ℕ → Type 0
 IsStride kind w h y stride = (1 ≤ stride) × (stride ≤ 64) × ((stride ≡ 1) ⊎ HasBothEnds kind w h y stride)
 
@@ -104,7 +105,7 @@ pub record IsFirst (j : JobState) (vs : Values) (t : ℕ) (kind : Kind) (f : Fau
 abbrev pub IsFree : JobState → Values → ℕ → Kind → Type 0
 IsFree j vs t kind = (x y : ℤ) (a : ℕ) → a < assignments j → ¬ IsFound j vs a t kind x y
 
--- a cell, counted from the halo, is what the signal says under the assignments of so many words
+-- a cell, counted from the halo, is what the signal says under the assignments of this many words
 abbrev pub IsShown : Values → Planes → ℕ → ℕ → Signal → ℕ → Type 0
 IsShown vs p x y signal words = (a : ℕ) → a < 64 * words → lane p a x y ≡ is_live (valuation vs a) signal
 

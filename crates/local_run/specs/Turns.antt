@@ -19,7 +19,7 @@ MainStays w a b c d ul ur ll lr =
     (k : ℕ) → k < w → DiagonalStays (slice_index ul (w * a + k)) (slice_index lr (w * d + k))
     (slice_index ur (w * b + k)) (slice_index ll (w * c + k))
 
--- of one whose other diagonal stays
+-- the same of a block whose other diagonal stays
 abbrev pub AntiStays : ℕ → ℕ → ℕ → ℕ → ℕ → List ℕ → List ℕ → List ℕ → List ℕ → Type 0
 AntiStays w a b c d ul ur ll lr =
     (k : ℕ) → k < w → DiagonalStays (slice_index ur (w * b + k)) (slice_index ll (w * c + k))
@@ -45,8 +45,8 @@ pub record TurnsPart (a b c d long : ℕ) (ul ur ll lr ul' ur' ll' lr' : List �
   pub lower_left : SameBeside c long ll ll'
   pub lower_right : SameBeside d long lr lr'
 
--- marks are made at the blocks of the even partition that share with block `at` of the odd partition a cell of its main
--- diagonal, where that changes, or of the other one, where that does
+-- marks are made at blocks of the even partition that share a cell with block `at` of the odd partition: a cell of its
+-- main diagonal if that changes, and one of the other diagonal if that does
 abbrev pub MarksAround : Bool → Bool → ℕ → ℕ → List ℕ → List ℕ → Type 0
 MarksAround main anti stride at old new =
     (u : ℕ) → IsUnmarked new u → IsUnmarked old u × (main ≡ true → (u ≢ at) × (u + stride + 1 ≢ at))

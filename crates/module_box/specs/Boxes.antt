@@ -24,7 +24,7 @@ in_ring b x y = in_box b x y && some_neighbour (λ x' y'. not (in_box b x' y')) 
 unfoldable pub in_halo : Box2 → State
 in_halo b x y = not (in_box b x y) && some_neighbour (in_box b) x y
 
--- the halo of the first box may have a cell in the second, as far as their corners and sides tell
+-- the halo of the first box may have a cell in the second, to judge by their corners and sides
 abbrev pub is_near : Box2 → Box2 → Bool
 is_near a b = nat_lt b.x (a.x + a.w + 1) && nat_lt a.x (b.x + b.w + 1) && nat_lt b.y (a.y + a.h + 1)
     && nat_lt a.y (b.y + b.h + 1)

@@ -31,7 +31,7 @@ seen_by l v i = v (circuit_wire l i)
 abbrev pub AreLocalValues : LocalNet → ℕ → List Bool → Type 0
 AreLocalValues l cut_bits vs = AreValues l.netlist (bit cut_bits) vs
 
--- why there are no local values: a gate without a row, or want of memory, of which nothing is said
+-- the reason why there are no local values: a gate without a row, or out of memory, about which it says no more
 abbrev pub IsLocalFault : Netlist → ℕ → LocalFault → Type 0
 IsLocalFault n cut_bits (NoRow k) = IsUndefined n (bit cut_bits) k
 IsLocalFault n cut_bits Memory = Unit {0}
@@ -44,13 +44,14 @@ value_of words rows a w = bit (slice_index rows (words * w + a / 64)) (a % 64)
 unfoldable pub bit_of_row : List ℕ → ℕ → Bool
 bit_of_row row a = bit (slice_index row (a / 64)) (a % 64)
 
--- Where the bit of an assignment is set, the values are a local valuation. Else some gate is the first that has no row,
--- and its row of words tells it.
+-- If the bit of an assignment is set, the values are a local valuation. Else some gate is the first that has no row,
+-- and its row of words has the bit.
 pub record AreRowsAt (n : Netlist) (words a : ℕ) (values lacking whole : List ℕ) : Type 0 where
   pub local : bit_of_row whole a ≡ true → Satisfies n (bit a) (value_of words values a)
   pub undefined : (k : ℕ) → k < length n.gates → (value_of words lacking a k ≡ true) ↔ IsUndefined n (bit a) k
   pub none : bit_of_row whole a ≡ false → (k : ℕ) × IsUndefined n (bit a) k
 
+-- the values of all wires under 64 times `words` assignments, and the gates without a row, in rows of `words` words
 pub record AreValueRows (n : Netlist) (words : ℕ) (rows : ValueRows) : Type 0 where
   pub long : length rows.values.items ≡ words * wires n
   pub tall : length rows.undefined.items ≡ words * length n.gates
@@ -92,7 +93,7 @@ abbrev pub row_unless : Bool → List Bool → Option (List Bool)
 row_unless true r = None
 row_unless false r = Some r
 
--- the word of the wire that stands at a place of ins
+-- the word of the wire at a place of ins
 abbrev pub wire_word : List ℕ → List ℕ → ℕ → ℕ
 wire_word words ins place = slice_index_or words (slice_index_or ins place 0) 0
 
@@ -104,6 +105,7 @@ pub record AddsRow (g : Gate) (old new : List ℕ) (none : ℕ) : Type 0 where
 
 -- ---- gate after gate, at one bit
 
+-- whether there is no number
 abbrev pub is_none : Option ℕ → Bool
 is_none None = true
 is_none (Some m) = false
@@ -113,7 +115,7 @@ abbrev pub is_gate : Option ℕ → ℕ → Bool
 is_gate None k = false
 is_gate (Some m) k = m == k
 
--- What words say of the gates at bit b, where the given wires have the words `given`: the values, where all gates have
+-- The meaning of words for the gates at bit b, if the given wires have the words `given`: the values, if all gates have
 -- a row; whether they do; and for each gate whether it is the first that has none.
 pub record SaysColumn (given : List ℕ) (gs : List Gate) (words lacking : List ℕ) (whole b : ℕ) : Type 0 where
   pub values : bit whole b ≡ true → evaluate (lane b given) gs ≡ Some (lane b words)

@@ -19,7 +19,7 @@ local_wires n cuts gates = cuts ++ flat_map (outs_of n) gates
 abbrev pub is_among : List ℕ → ℕ → Bool
 is_among ws w = list_any (λ v. v == w) ws
 
--- no wire stands twice
+-- no wire is in the list twice
 abbrev pub AreDifferent : List ℕ → Type 0
 AreDifferent ws = (i j w : ℕ) → slice_get ws i ≡ Some w → slice_get ws j ≡ Some w → i ≡ j
 
@@ -33,6 +33,7 @@ pub record IsKnown (n : Netlist) (known : List ℕ) (k : ℕ) : Type 0 where
 abbrev pub cut_limit : ℕ
 cut_limit = 12
 
+-- the most gates that a module may use
 abbrev pub use_limit : ℕ
 use_limit = 64
 
@@ -54,9 +55,11 @@ pub record LocalNet : Type 0 where
   pub circuit_wires : List ℕ
   pub circuit_gates : List ℕ
 
+-- the wire of the circuit that has number i in the module
 abbrev pub circuit_wire : LocalNet → ℕ → ℕ
 circuit_wire l i = slice_index l.circuit_wires i
 
+-- the gate of the circuit that has place k among the used ones
 abbrev pub circuit_gate : LocalNet → ℕ → ℕ
 circuit_gate l k = slice_index l.circuit_gates k
 

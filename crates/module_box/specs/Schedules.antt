@@ -39,8 +39,10 @@ pub record IsRising {A K : Type 0} (cmp : K → K → Ordering) (key : A → K) 
   pub rises : (i j : ℕ) (a b : A) → i < j → slice_get xs i ≡ Some a → slice_get xs j ≡ Some b →
       cmp (key a) (key b) ≡ Less
 
+-- the cell of a signal at all times
 abbrev pub cell_of : Held → Cell
 cell_of h = h.cell
 
+-- the time and the cell of an event
 abbrev pub moment_of : Event → Moment
 moment_of e = e.at

@@ -15,7 +15,7 @@ pub record TakesRow (free number from end stop : ℕ) (old new : List ℕ) : Typ
   pub after : (k : ℕ) → stop ≤ k → slice_index new k ≡ slice_index old k
   pub ends : stop < end → ¬ (slice_index old stop ≡ free)
 
--- the block at a place, where the blocks are counted row by row, lies in the box
+-- the block at a place, by blocks counted row by row, lies in the box
 abbrev pub HasBlock : Box2 → ℕ → ℕ → Type 0
 HasBlock b columns k = IsTrue (in_box b (corner_x columns k) (corner_y columns k))
 
@@ -28,7 +28,7 @@ pub record TakesBox (columns : ℕ) (b : Box2) (free number stop : ℕ) (old new
   pub others : (k : ℕ) → k < stop → ¬ HasBlock b columns k → slice_index new k ≡ slice_index old k
   pub ends : stop < length old → HasBlock b columns stop × ¬ (slice_index old stop ≡ free)
 
--- the box lies in a rectangle so many blocks wide, which is at most 256 blocks wide and high
+-- the box lies in a rectangle that is `columns` blocks wide, and at most 256 blocks wide and high
 pub record FitsTable (columns : ℕ) (b : Box2) : Type 0 where
   pub some : 0 < columns
   pub most : columns ≤ 256

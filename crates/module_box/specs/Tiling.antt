@@ -8,10 +8,11 @@ use Rattle.bbm_rule.specs.declared.block.Cell.{Cell}
 use Rattle.module_box.specs.declared.tile.TileFault.{TileFault}
 use Rattle.module_box.specs.declared.tile.TileFault.TheVariants.{Outside, Overlap, Gap, Memory}
 
--- the corner of the block at a place, where the blocks are counted row by row
+-- the corner of the block at a place, by blocks counted row by row
 abbrev pub corner_x : ℕ → ℕ → ℤ
 corner_x columns place = pos (2 * (place % columns))
 
+-- the row of the upper left cell of the block at a place
 abbrev pub corner_y : ℕ → ℕ → ℤ
 corner_y columns place = pos (2 * (place / columns))
 

@@ -1,4 +1,4 @@
--- A job: all that the run of a module by itself needs
+-- A job: the data that the run of a module by itself needs
 use Rattle.std.specs.Prelude.{ℕ, ℤ, ◌+◌, ◌<◌, ◌≤◌, if◌then◌else◌, List, unwrap_or, slice_get, IsTrue}
 use Rattle.std.specs.List.{All}
 use Rattle.circuit.specs.Meaning.{wires}
@@ -30,7 +30,7 @@ pub record JobState : Type 0 where
   pub stops : List Stop
   pub kept : List ℕ
 
--- what the cell (x, y) carries at time 0, where a cell outside the box is dead
+-- what the cell (x, y) carries at time 0, and a cell outside the box is dead
 unfoldable pub job_start : JobState → ℤ → ℤ → Signal
 job_start j x y = if in_box j.area x y then unwrap_or (slice_get j.starts (place_in j.area x y)) Zero else Zero
 
@@ -54,6 +54,7 @@ pub record IsStopOf (j : JobState) (s : Stop) : Type 0 where
   pub time : s.at.time ≤ j.steps
   pub inside : IsTrue (in_box j.area s.at.cell.x s.at.cell.y)
 
+-- the time and the cell of a stop
 abbrev pub stop_moment : Stop → Moment
 stop_moment s = s.at
 

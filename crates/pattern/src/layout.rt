@@ -77,7 +77,7 @@ impl Layout {
         if self.has_later(part) { Some(6) } else { None }
     }
 
-    // Adds a line that is good after the others. Want of memory changes nothing.
+    // Adds a line that is good after the others. Without memory for it nothing changes.
     pub(crate) fn add(&mut self, part: Part) -> Result<(), AllocError>
         requires order { order_fault (parts_of self.old) part ≡ None }
         requires limit { limit_fault part ≡ None }

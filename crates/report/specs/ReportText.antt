@@ -1,4 +1,4 @@
--- What is written of a bundle: the line for its refusal, or the report on its certificate
+-- The output for a bundle: the line for its refusal, or the report on its certificate
 use Rattle.std.specs.Prelude.{ℕ, List, [], ◌∷◌, ◌++◌, length, codes, Option, Some, None}
 use Rattle.std.specs.Fmt.{decimal, signed_decimal}
 use Rattle.std.specs.List.{flat_map}

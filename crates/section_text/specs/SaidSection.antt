@@ -1,4 +1,4 @@
--- Which lines are a section.
+-- The lines that are a section.
 use Rattle.std.specs.Prelude.{◌≡◌, List, [], ◌∷◌, ◌++◌, map, Option, Some, ℕ}
 use Rattle.section_text.specs.Words.{words_of}
 use Rattle.section_text.specs.declared.section.Form.{Form}
