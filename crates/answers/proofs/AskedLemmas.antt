@@ -1,4 +1,4 @@
--- What is read of a text of two sections.
+-- The result of reading a text of two sections.
 use Rattle.std.proofs.Common.{◌≡◌, ℕ, ◌+◌, List, [], drop, None, Result, Ok, Err, sym, ap, subst, ◌∙◌}
 use Rattle.std.specs.Prelude.{◌≢◌}
 use Rattle.section_text.specs.Words.{lines_of, rest_of}

@@ -1,4 +1,4 @@
--- What each event keeps of a core
+-- The parts of a core that each event keeps
 use Rattle.std.proofs.Common.{◌≡◌, ◌∙◌, ◌+◌, ◌<◌, ◌≤◌, ◌++◌, ◌∷◌, ℕ, suc, zero, List, [], Bool, true, false, length}
 use Rattle.std.proofs.Common.{map, refl, sym, ap, subst, arith, get_or, set, All}
 use Rattle.std.specs.Prelude.{if◌then◌else◌, nat_lt}

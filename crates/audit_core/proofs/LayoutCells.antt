@@ -1,4 +1,4 @@
--- What a layout says of cells: the ports that stand there, the start, and what the end is to be
+-- The cells of a layout: their ports, the start, and the demand at the end
 use Rattle.std.proofs.Common.{◌≡◌, ℕ, zero, suc, Bool, true, false, not, ◌&&◌, ◌||◌, List, [], ◌∷◌, ◌++◌, map, Option}
 use Rattle.std.proofs.Common.{Some, None, refl, sym, ap, subst, ◌∙◌, append_assoc, append-nil}
 use Rattle.std.specs.Prelude.{ℤ, slice_get, option_map, if◌then◌else◌}

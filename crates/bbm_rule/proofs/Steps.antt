@@ -1,4 +1,4 @@
--- What a step makes of the four cells of a block
+-- The four cells of a block after a step
 use Rattle.std.proofs.Common.{◌≡◌, ℕ, false, refl, ◌∙◌}
 use Rattle.std.specs.Prelude.{ℤ}
 use Rattle.bbm_rule.specs.Plane.{State, partner, turned, step}

@@ -1,4 +1,4 @@
--- Where a module has no border fault, halo and edge signals are the same
+-- Halo and edge signals are the same if a module has no border fault
 use Rattle.std.proofs.Common.{◌≡◌, ℕ, List, refl, sym, ap, ◌∙◌, inl, inr}
 use Rattle.std.specs.Prelude.{◌≢◌, ℤ}
 use Rattle.std.proofs.lemmas.Bool.{cases_Bool, false≢true}

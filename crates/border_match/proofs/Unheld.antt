@@ -1,4 +1,4 @@
--- Where no line with a star speaks of all times
+-- Modules in which no line with a star is for all times
 use Rattle.std.proofs.Common.{◌≡◌, Bool, true, ◌==◌, List, [], map, length, Some, None, sym, ap, ap₂, ◌∙◌, arith}
 use Rattle.std.proofs.lemmas.Bool.Decides.{nat_tests}
 use Rattle.std.proofs.lemmas.List.{length-map, nil_from_length}

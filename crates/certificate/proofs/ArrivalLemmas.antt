@@ -1,4 +1,4 @@
--- What the lines on delays and meetings tell of their gates.
+-- The lines on delays and meetings are right about their gates.
 use Rattle.std.proofs.Common.{◌≡◌, ℕ, zero, suc, ◌+◌, ◌-◌, ◌<◌, ◌≤◌, Bool, true, false, if◌then◌else◌, List, [], ◌∷◌}
 use Rattle.std.proofs.Common.{length, Option, Some, None, refl, sym, ap, subst, ◌∙◌, arith}
 use Rattle.std.specs.Prelude.{slice_get, Contains, nat_lt, nat_le, ◌==◌, min, max}

@@ -1,4 +1,4 @@
--- What the edge lines beside a module say of the cells of its halo
+-- The signals of a halo's cells by the edge lines beside a module
 use Rattle.std.proofs.Common.{◌≡◌, ◌⊎◌, ℕ, zero, suc, ◌+◌, ◌<◌, ◌%◌, ◌==◌, ℤ, Bool, true, false, ◌&&◌, if◌then◌else◌}
 use Rattle.std.proofs.Common.{List, [], ◌∷◌, ◌++◌, map, Option, Some, None, Less, refl, sym, ap, ap₂, subst, ◌∙◌, inl}
 use Rattle.std.proofs.Common.{inr, arith}

@@ -1,4 +1,4 @@
--- What a line adds to the signals of a module.
+-- The signals of a module after one more line.
 use Rattle.std.proofs.Common.{◌≡◌, ℕ, ◌<◌, List, [], ◌∷◌, ◌++◌, ◌+◌, ◌≤◌, length, Option, Some, None, take, get_or}
 use Rattle.std.proofs.Common.{refl, sym, ap, subst, ◌∙◌, map}
 use Rattle.std.specs.List.{All, flat_map}

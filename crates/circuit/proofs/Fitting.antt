@@ -1,4 +1,4 @@
--- What is read from a line has as many names as its kind.
+-- A line that is read has as many names as its kind.
 use Rattle.std.proofs.Common.{◌≡◌, ℕ, zero, suc, ◌+◌, ◌≤◌, true, cond, eqb, List, [], ◌∷◌, length, Some, None, refl}
 use Rattle.std.proofs.Common.{sym, ap, subst, ◌∙◌, arith, inl, inr}
 use Rattle.std.specs.Prelude.{codes}

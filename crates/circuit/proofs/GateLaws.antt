@@ -1,4 +1,4 @@
--- What gates keep, and which gates undo which.
+-- Gates keep the number of ones, and inverse gates undo others.
 use Rattle.std.proofs.Common.{◌≡◌, ℕ, Bool, true, false, List, [], ◌∷◌, Option, Some, None, refl, sym, ap, subst}
 use Rattle.circuit.specs.Gates.{Source, Fredkin, Cswap, Interact, Switch, Delay, Unswitch, Uninteract, row}
 use Rattle.circuit.specs.Laws.{ones, GatesKeepOnes, InverseGatesUndo}

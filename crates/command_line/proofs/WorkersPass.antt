@@ -1,4 +1,4 @@
--- Where clap finds no fault, the text of `--workers` is a whole number of 1 to 64.
+-- The text of `--workers` is a whole number of 1 to 64 if clap finds no fault.
 use Rattle.std.proofs.Common.{◌≡◌, ◌∙◌, ◌++◌, Bool, cond, true, false, refl, sym, ap, subst, List, [], ◌∷◌, Option}
 use Rattle.std.proofs.Common.{Some, None, length, codes, true≢false}
 use Rattle.std.specs.Prelude.{⊤, find, option_map, option_and_then, slice_get}

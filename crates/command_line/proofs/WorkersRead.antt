@@ -1,4 +1,4 @@
--- What `get_one` reads of `--workers` is the number that the words ask for.
+-- The number that `get_one` reads of `--workers` is the one that the words ask for.
 use Rattle.std.proofs.Common.{◌≡◌, ◌∙◌, ◌≤◌, ℕ, Bool, cond, true, false, refl, sym, ap, List, [], Option, Some, None}
 use Rattle.std.proofs.Common.{codes, arith}
 use Rattle.std.specs.Prelude.{Err, Ok, Result, option_and_then, option_map, unwrap_or}

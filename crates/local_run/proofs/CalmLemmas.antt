@@ -1,4 +1,4 @@
--- Which blocks are still known to stay, after cells or marks changed
+-- The blocks that are still known to stay, after cells or marks changed
 use Rattle.std.proofs.Common.{◌≡◌, ◌≢◌, ℕ, Bool, true, false, ◌<◌, ◌≤◌, ◌+◌, ◌*◌, arith, refl, sym, ◌∙◌, subst, List}
 use Rattle.std.proofs.Common.{get_or, inl, inr}
 use Rattle.std.proofs.lemmas.Bool.{cases_Bool}

@@ -1,4 +1,4 @@
--- What a job names is one of its own wires, at each cell and time
+-- Each wire that a job names is one of its own, at each cell and time
 use Rattle.std.proofs.Common.{◌≡◌, ℕ, zero, suc, Bool, true, false, List, [], ◌∷◌, arith, inl, inr}
 use Rattle.std.specs.Prelude.{ℤ, slice_get, unwrap_or, if◌then◌else◌}
 use Rattle.std.specs.List.{All}

@@ -1,4 +1,4 @@
--- What a step makes in a box
+-- The cells of a box after a step
 use Rattle.std.proofs.Common.{◌≡◌, ℕ, ◌%◌, ◌&&◌, ap, ap₂, ◌∙◌}
 use Rattle.std.specs.Prelude.{ℤ}
 use Rattle.bbm_rule.specs.Plane.{State, partner, step}

@@ -1,4 +1,4 @@
--- What is known of a rising list by comparing its keys with a key
+-- Facts about a rising list by comparing its keys with a key
 use Rattle.std.proofs.Common.{◌≡◌, ℕ, zero, suc, ◌+◌, ◌<◌, ◌≤◌, List, [], ◌∷◌, ◌++◌, length, true, Option, Some, None}
 use Rattle.std.proofs.Common.{Ordering, Less, Equal, Greater, refl, sym, ap, subst, ◌∙◌, inl, inr, ◌⊎◌, arith, rules}
 use Rattle.std.proofs.Common.{eqb}

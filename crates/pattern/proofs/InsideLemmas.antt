@@ -1,4 +1,4 @@
--- What begins in a good layout lies inside it.
+-- The cells that are live at the start of a good layout lie inside it.
 use Rattle.std.proofs.Common.{◌≡◌, ℕ, zero, suc, ◌+◌, ◌≤◌, ◌<◌, ◌%◌, ℤ, pos, negsuc, Bool, true, false, not, ◌&&◌, ◌||◌}
 use Rattle.std.proofs.Common.{None, List, [], ◌∷◌, ◌++◌, map, length, get_or, refl, arith, ap, ◌∙◌, sym}
 use Rattle.std.specs.List.{list_any, list_all}

@@ -1,4 +1,4 @@
--- What a reader of layouts knows of the lines so far.
+-- The tables of a reader of layouts, for the lines so far.
 use Rattle.std.proofs.Common.{◌≡◌, ℕ, ◌&&◌, Bool, not, List, [], ◌∷◌, Option, None, Some, Vec, refl, sym, ap, ◌∙◌}
 use Rattle.std.specs.List.{list_all, list_any}
 use Rattle.std.specs.Global.{Global}

@@ -1,4 +1,4 @@
--- Which places the cells of a rectangle are.
+-- The places of the cells of a rectangle.
 use Rattle.std.proofs.Common.{◌≡◌, ℕ, zero, suc, ◌+◌, ℤ, pos, negsuc, false, ◌&&◌, ◌||◌, refl, arith, ◌∙◌}
 use Rattle.std.specs.List.{flat_map, range_with_len}
 use Rattle.std.specs.Ordering.{int_eq}

@@ -1,4 +1,4 @@
--- What was read is good: neither the header, nor an item after those before it, nor the end had a fault.
+-- A section that was read is good: neither its header, nor an item after those before it, nor its end had a fault.
 use Rattle.std.proofs.Common.{◌≡◌, ℕ, ◌+◌, List, [], ◌∷◌, ◌++◌, Option, Some, None, Result, Ok, refl, sym, ap, subst}
 use Rattle.std.proofs.Common.{◌∙◌, append_assoc}
 use Rattle.std.proofs.lemmas.List.{append-nil}

@@ -1,4 +1,4 @@
--- What a section says, by the forms of its lines.
+-- The content of a section, by the forms of its lines.
 use Rattle.std.proofs.Common.{◌≡◌, ℕ, suc, ◌+◌, List, [], ◌∷◌, ◌++◌, length, map, take, drop, Option, Some, None}
 use Rattle.std.proofs.Common.{Result, Ok, refl, sym, ap, ap₂, ◌∙◌, append_assoc, arith}
 use Rattle.std.proofs.lemmas.List.{append-nil, length-map, map-append}

@@ -1,4 +1,4 @@
--- What the words of a line are, from the tests that the line passes.
+-- The words of a line, from the tests that the line passes.
 use Rattle.std.proofs.Common.{◌≡◌, ◌⊎◌, ℕ, Bool, true, false, cond, List, [], ◌∷◌, length, Option, Some, None, refl, ap}
 use Rattle.std.proofs.Common.{◌∙◌, arith, inl, inr}
 use Rattle.std.specs.Prelude.{slice_get}
