@@ -2,7 +2,7 @@
 """make_gates.py grid | channel: writes a bundle of 512 by 512 cells in 1024 modules of 16 by 16 cells, which gets a yes. It is the same
 bundle each time.
 
-grid: 256 collisions of two balls, each where four modules meet, 15 steps. channel: 16 channels of two long mirrors, in each of which
+grid: 256 collisions of two balls, each in the corner of four modules, 15 steps. channel: 16 channels of two long mirrors, in each of which
 three balls of two cells run to the right over the borders of modules, 440 steps.
 """
 import sys

@@ -23,7 +23,7 @@ def is_about_texts(case):
 
 
 def cases_of_file(path):
-    """The cases of a file in the form that crates/case_text/src/lib.rt tells."""
+    """The cases of a file in the form that crates/case_text/src/lib.rt describes."""
     found, part = [], None
     for line in path.read_bytes().split(b"\n"):
         word, _, rest = line.partition(b" ")

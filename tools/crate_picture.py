@@ -1,8 +1,8 @@
 #!/usr/bin/env python3
 """tools/crate_picture.py [--check PAGE]: the picture of the crates in docs/ARCHITECTURE.md, as a Mermaid block, from crates.txt.
 
-An arrow goes from a crate to one that it stands on, without those that follow from others; arrows of crates that the program does not
-stand on, those of tests, are dotted. Crates of the kit are left out. With --check the status is 1 where the page has another block.
+An arrow goes from a crate to one that it uses, without those that follow from others. Arrows of crates that the program does not
+use, those of tests, are dotted. Crates of the kit are left out. With --check the status is 1 if the page has another block.
 """
 import argparse
 import sys

@@ -8,16 +8,16 @@ were.
 A command is a line of a fenced block, or a piece of code in a sentence, that begins with ./bbmcheck or with a script of examples/,
 conformance/ or tools/ and has words behind it. What a page shows of its output is
 
-- in a block, what stands below a line that begins with `$ `;
+- in a block, the lines below a line that begins with `$ `;
 - for a paragraph with a command that ends in a colon, the block below it;
 - for a paragraph with one command, pieces of code right behind the word "prints": they are lines of the output;
 - for a row of a table whose first piece of code is a text, the pieces of code in its last column: they are lines of what the command
   that the page named last writes of that text. Of `check` they are all lines after the third.
 
-What ./bbmcheck writes of a text is compared with the plain programs of tools/ as well, whatever the page shows, and its exit status too.
-Other commands are to end with status 0, but where the page says another one beside them. A block that begins with a section's header
-stands in a text of examples/. Words in capitals stand for others: such a command is a form, and not run. What ELSEWHERE fits is run by
-another part of the gate; so are commands of the kit (`rt`) and .ci/run, which comes here. --list prints the commands and runs none.
+The output and the exit status of ./bbmcheck on a text are compared with the plain programs of tools/ too, whatever the page shows. Other
+commands must end with status 0, unless the page gives another one beside them. A block that begins with a section's header must be in a
+text of examples/. A command with a word in capitals is a form, and is not run. Another part of the gate runs the commands of ELSEWHERE,
+those of the kit (`rt`) and .ci/run, which calls this tool. --list prints the commands and runs none.
 """
 import argparse
 import os
@@ -150,7 +150,7 @@ def make_room(room, program):
 
 
 def of_the_reference(command, room):
-    """The status and the output by the plain programs, where ./bbmcheck reads one text."""
+    """Returns the status and the output by the plain programs, if ./bbmcheck reads one text."""
     found = OVER_A_TEXT.fullmatch(command)
     if not found:
         return None
@@ -211,7 +211,7 @@ def main():
     for place, section in sections:
         if not any(("\n" + section) in ("\n" + text) for text in texts):
             wrong += 1
-            print(f"{place}: this stands in no text of examples/")
+            print(f"{place}: no text of examples/ has this block")
     with tempfile.TemporaryDirectory() as room:
         make_room(Path(room), (options.program or Path(program())).resolve())
         for one in shown:

@@ -3,18 +3,18 @@
     [--runs BYTES]]
     > crates/worked_rows/data/cases.txt
 
-Writes case folders as one file of cases, in the form that crates/case_text/src/lib.rt tells.
+Writes case folders as one file of cases, in the form that crates/case_text/src/lib.rt describes.
 
 A case folder has args (one line of words), stdin or stdin_repeat (`COUNT UNIT`), stdout (left out: any
 output), status (left out: 0) and stderr (left out: any). A folder with a file until is of a program that knew
-less of the formats, and is left out. A case is taken where the first of its words is one of the commands or
+less of the formats, and is left out. A case is taken if the first of its words is one of the commands or
 it is about words alone: status 2, or help. --also takes a case of that name in any case.
---largest leaves out cases whose stdin has more bytes; a stdin_repeat is short however much it stands for.
+--largest leaves out cases whose stdin has more bytes; a stdin_repeat is short whatever its text has.
 --bundles adds a case of `check` for each NAME_v1.txt and NAME_v2.txt of a folder, whose report is NAME_v1.report or NAME_v2.report, but for the
-bundles that have a line which begins with one of the words of --without; and where there are both, of at most --largest bytes, a case
+bundles that have a line which begins with one of the words of --without. If there are both, of at most --largest bytes, it adds a case
 of `migrate` from the first to the second.
---runs adds for each NAME_v1.txt that has at most so many bytes, at most four inputs and no waste cell, a case of `run` for each
-assignment of its inputs; what is to be listed is made from the circuit alone (tools/meaning.py).
+--runs adds for each NAME_v1.txt that has at most BYTES bytes, at most four inputs and no waste cell, a case of `run` for each
+assignment of its inputs; the expected list is made from the circuit alone (tools/meaning.py).
 
 The repository's file is made with `--commands run,value,modules,check,migrate --largest 200000`, and with all bundles and
 `--runs 3000`. That leaves out the cases with as many edge and halo lines as a module may have, or one

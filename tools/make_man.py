@@ -150,7 +150,7 @@ def bash_completions(top, pages):
         yield f'            {name}) words="{" ".join(flags(pages[name]) if name in pages else pages)}" ;;'
     yield from ("        esac", "    fi", '    case ${COMP_WORDS[COMP_CWORD - 1]} in')
     yield from ("        # A number follows, and no file.", f'        {" | ".join(flags_with_values(pages))}) words=; compopt +o default 2>/dev/null ;;')
-    yield from ("        # A file follows: bash completes it where nothing is offered.", "        *'<' | *'>') words= ;;", "    esac")
+    yield from ("        # A file follows: bash completes it if nothing is offered.", "        *'<' | *'>') words= ;;", "    esac")
     yield from ('    mapfile -t COMPREPLY < <(compgen -W "$words" -- "${COMP_WORDS[COMP_CWORD]}")', "}", "complete -o default -F _bbmcheck bbmcheck")
 
 

@@ -1,8 +1,8 @@
 #!/usr/bin/env python3
 """make_reports.py COUNT DENSE SECOND SEED > crates/worked_rows/data/reports.txt
 
-Writes cases of `check`, in the form that crates/case_text/src/lib.rt tells: so many bundles of tools/meant_bundle.py, and then so many with
-many balls and so many in version 2, each with the report of tools/reference_reports.py. The repository's file is made with `100 25 25 1`.
+Writes cases of `check`, in the form that crates/case_text/src/lib.rt describes: COUNT bundles of tools/meant_bundle.py, then DENSE ones with
+many balls and SECOND ones in version 2, each with the report of tools/reference_reports.py. The repository's file is made with `100 25 25 1`.
 """
 import random
 import sys

@@ -41,7 +41,7 @@ def gates_of(rng, inputs, count):
 
 
 def locals_of(rng, asked, wires, gates, least):
-    """At least so many wires to cut, those asked for among them, and gates to use, in order."""
+    """Returns at least this many wires to cut, those asked for among them, and gates to use, in order."""
     cuts, used, local = list(asked), [], set(asked)
     most_cuts, most_used = rng.randint(max(least, len(cuts)), 10), rng.choice([1, 4, 16, 64])
     first = rng.randrange(len(gates)) if gates else 0

@@ -1,11 +1,11 @@
 #!/usr/bin/env python3
-"""Prints what has to be read to believe a statement: the files of specs/ that a file brings in, directly or by others, with their lines,
+"""Prints what a reader must read to believe a statement: the files of specs/ that a file brings in, directly or by others, with their lines,
 and how many of these are definitions that the statement reaches. A file comes after those that it brings in.
 
 usage: tools/reading_list.py [--definitions] [--check PAGE] [FILE]
 
-FILE is headline/specs/Headline.antt where it is left out. --definitions names the definitions that are reached. --check looks whether the
-table of a text says the same: each of its rows that begins with the path of a file is compared with that file's count.
+FILE is headline/specs/Headline.antt if it is left out. --definitions names the definitions that are reached. --check compares the table of a
+page: each of its rows that begins with the path of a file must have that file's count.
 """
 import re
 import sys

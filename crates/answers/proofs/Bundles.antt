@@ -1,5 +1,6 @@
--- What is read of a bundle, and what answers it.
-use Rattle.std.proofs.Common.{◌≡◌, ℕ, ◌+◌, List, [], ◌∷◌, ◌++◌, map, drop, Option, Some, None, Result, Ok, Err, refl, sym, ap, ap₂, subst, ◌∙◌, append-nil}
+-- The result of reading a bundle, and the answer to it.
+use Rattle.std.proofs.Common.{◌≡◌, ℕ, ◌+◌, List, [], ◌∷◌, ◌++◌, map, drop, Option, Some, None, Result, Ok, Err, refl}
+use Rattle.std.proofs.Common.{sym, ap, ap₂, subst, ◌∙◌, append-nil}
 use Rattle.std.specs.Prelude.{◌≢◌}
 use Rattle.std.specs.List.{flat_map}
 use Rattle.std.proofs.lemmas.Grind.{flat_map-append}
@@ -12,7 +13,8 @@ use Rattle.section_text.specs.Sections.{section_then, finished}
 use Rattle.section_text.specs.declared.fault.Refusal.{Refusal}
 use Rattle.section_text.specs.declared.fault.ReadFault.{ReadFault}
 use Rattle.section_text.specs.declared.fault.ReadFault.TheVariants.{Refused}
-use Rattle.section_text.proofs.Joined.{section_read, section_failed, same_text, still_going, fails_along, at_the_end, more_fails}
+use Rattle.section_text.proofs.Joined.{section_read, section_failed, same_text, still_going, fails_along, at_the_end}
+use Rattle.section_text.proofs.Joined.{more_fails}
 use Rattle.circuit.specs.Bridge.{circuit_of}
 use Rattle.circuit.specs.Grammars.{circuit_grammar, circuit_value}
 use Rattle.circuit.specs.declared.entry.Entry.{Entry as CircuitLine}
@@ -35,28 +37,50 @@ use Rattle.answers.specs.declared.outcome.Outcome.{Outcome}
 
 -- ---- the ports of a layout, by its lines
 
-none_of : {X : Type 0} (f : Part → List Port) (make : X → Part) → ((x : X) → f (make x) ≡ []) → (xs : List X) → flat_map f (map make xs) ≡ []
+none_of : {X : Type 0} (f : Part → List Port) (make : X → Part) → ((x : X) → f (make x) ≡ []) → (xs : List X) →
+    flat_map f (map make xs) ≡ []
 none_of f make none [] = refl
 none_of f make none (x ∷ xs) = rw (none x, none_of f make none xs) refl
 
-all_of : (f : Part → List Port) (make : Port → Part) → ((p : Port) → f (make p) ≡ p ∷ []) → (ports : List Port) → flat_map f (map make ports) ≡ ports
+all_of : (f : Part → List Port) (make : Port → Part) → ((p : Port) → f (make p) ≡ p ∷ []) → (ports : List Port) →
+    flat_map f (map make ports) ≡ ports
 all_of f make same [] = refl
 all_of f make same (p ∷ ports) = rw (same p, all_of f make same ports) refl
 
-split_five : (f : Part → List Port) (a b c d e : List Part) → flat_map f (a ++ (b ++ (c ++ (d ++ e)))) ≡ flat_map f a ++ (flat_map f b ++ (flat_map f c ++ (flat_map f d ++ flat_map f e)))
-split_five f a b c d e = rw (flat_map-append f a (b ++ (c ++ (d ++ e))), flat_map-append f b (c ++ (d ++ e)), flat_map-append f c (d ++ e), flat_map-append f d e) refl
+split_five : (f : Part → List Port) (a b c d e : List Part) →
+    flat_map f (a ++ (b ++ (c ++ (d ++ e))))
+    ≡ flat_map f a ++ (flat_map f b ++ (flat_map f c ++ (flat_map f d ++ flat_map f e)))
+split_five f a b c d e = rw (
+  flat_map-append f a (b ++ (c ++ (d ++ e))),
+  flat_map-append f b (c ++ (d ++ e)),
+  flat_map-append f c (d ++ e),
+  flat_map-append f d e,
+) refl
 
 in_ports_are : (p : Pattern) → flat_map input_in (parts_of p) ≡ p.ins
 in_ports_are p =
     split_five input_in (map Mirror p.mirrors) (map Ball p.balls) (map In p.ins) (map Out p.outs) (map Waste p.wastes)
-    ∙ rw (none_of input_in Mirror (λ r. refl) p.mirrors, none_of input_in Ball (λ c. refl) p.balls, all_of input_in In (λ q. refl) p.ins, none_of input_in Out (λ q. refl) p.outs, none_of input_in Waste (λ c. refl) p.wastes) (append-nil p.ins)
+    ∙ rw (
+      none_of input_in Mirror (λ r. refl) p.mirrors,
+      none_of input_in Ball (λ c. refl) p.balls,
+      all_of input_in In (λ q. refl) p.ins,
+      none_of input_in Out (λ q. refl) p.outs,
+      none_of input_in Waste (λ c. refl) p.wastes,
+    ) (append-nil p.ins)
 
 out_ports_are : (p : Pattern) → flat_map output_in (parts_of p) ≡ p.outs
 out_ports_are p =
     split_five output_in (map Mirror p.mirrors) (map Ball p.balls) (map In p.ins) (map Out p.outs) (map Waste p.wastes)
-    ∙ rw (none_of output_in Mirror (λ r. refl) p.mirrors, none_of output_in Ball (λ c. refl) p.balls, none_of output_in In (λ q. refl) p.ins, all_of output_in Out (λ q. refl) p.outs, none_of output_in Waste (λ c. refl) p.wastes) (append-nil p.outs)
+    ∙ rw (
+      none_of output_in Mirror (λ r. refl) p.mirrors,
+      none_of output_in Ball (λ c. refl) p.balls,
+      none_of output_in In (λ q. refl) p.ins,
+      all_of output_in Out (λ q. refl) p.outs,
+      none_of output_in Waste (λ c. refl) p.wastes,
+    ) (append-nil p.outs)
 
-pub same_setting : (circuit : List CircuitLine) (p : Pattern) → setting_of circuit (layout_of p.size (parts_of p)) ≡ setting_of circuit p
+pub same_setting : (circuit : List CircuitLine) (p : Pattern) →
+    setting_of circuit (layout_of p.size (parts_of p)) ≡ setting_of circuit p
 same_setting circuit p =
     let ports = ap₂ (λ a b. a ++ b) (in_ports_are p) (out_ports_are p) in
     let at : List Port → Setting = λ l. record { circuit = circuit_of circuit; size = p.size; ports = l } in
@@ -66,28 +90,35 @@ same_setting circuit p =
 
 module _ (text : List ℕ) where
   whole : List CircuitLine → Extent → List Part → ℕ → List Entry → Bundle
-  whole circuit size parts version entries = record { circuit = circuit; size = size; parts = parts; version = version; entries = entries }
+  whole circuit size parts version entries =
+      record { circuit = circuit; size = size; parts = parts; version = version; entries = entries }
 
   ended : List CircuitLine → Extent → List Part → ℕ → List Entry → ℕ → List (List ℕ) → Result Bundle Refusal
-  ended circuit size parts version entries k last = finished k last (rest_of text) (whole circuit size parts version entries)
+  ended circuit size parts version entries k last =
+      finished k last (rest_of text) (whole circuit size parts version entries)
 
   after_layout : List CircuitLine → Extent → List Part → ℕ → List (List ℕ) → Result Bundle Refusal
-  after_layout circuit size parts m later = section_then (certificate_grammar (setting_of circuit (layout_of size parts))) m later (ended circuit size parts)
+  after_layout circuit size parts m later =
+      section_then (certificate_grammar (setting_of circuit (layout_of size parts))) m later (ended circuit size parts)
 
   after_circuit : Unit {0} → List CircuitLine → ℕ → List (List ℕ) → Result Bundle Refusal
-  after_circuit _ circuit n ahead = section_then (layout_grammar (Some (port_names_of circuit))) n ahead (after_layout circuit)
+  after_circuit _ circuit n ahead =
+      section_then (layout_grammar (Some (port_names_of circuit))) n ahead (after_layout circuit)
 
 module _ (f0 f1 : FeedState) (unread : f0.taken ≡ 0) (going : f0.stop ≡ None) where
   from_start : section_then circuit_grammar f0.taken (ahead f0) (after_circuit f0.text) ≡ bundle_of f0.text
   unfolding bundle_of after_circuit after_layout ended whole
   from_start = ap (λ n. section_then circuit_grammar n (drop n (lines_of f0.text)) (after_circuit f0.text)) unread
 
-  pub circuit_failed : (fault : ReadFault) → Reads {A = List CircuitLine} circuit_grammar circuit_value f0 f1 (Err fault) → Fails fault (bundle_of f0.text)
-  circuit_failed fault reads = subst (Fails fault) from_start (section_failed circuit_grammar circuit_value f0 f1 going (after_circuit f0.text) fault reads)
+  pub circuit_failed : (fault : ReadFault) →
+      Reads {A = List CircuitLine} circuit_grammar circuit_value f0 f1 (Err fault) → Fails fault (bundle_of f0.text)
+  circuit_failed fault reads = subst (Fails fault) from_start
+      (section_failed circuit_grammar circuit_value f0 f1 going (after_circuit f0.text) fault reads)
 
   module _ (circuit : List CircuitLine) (read : Reads circuit_grammar circuit_value f0 f1 (Ok circuit)) where
     circuit_read : bundle_of f0.text ≡ after_circuit f0.text tt circuit f1.taken (ahead f1)
-    circuit_read = sym from_start ∙ section_read circuit_grammar circuit_value f0 f1 going (after_circuit f0.text) circuit read
+    circuit_read = sym from_start
+        ∙ section_read circuit_grammar circuit_value f0 f1 going (after_circuit f0.text) circuit read
 
     going_1 : f1.stop ≡ None
     going_1 = still_going circuit_grammar circuit_value f0 f1 going (after_circuit f0.text) circuit read
@@ -96,11 +127,15 @@ module _ (f0 f1 : FeedState) (unread : f0.taken ≡ 0) (going : f0.stop ≡ None
     text_1 = same_text circuit_grammar circuit_value f0 f1 going (after_circuit f0.text) circuit read
 
     module _ (named : Option Named) (f2 : FeedState) (are : named ≡ Some (port_names_of circuit)) where
-      pub layout_failed : (fault : ReadFault) → Reads {A = Pattern} (layout_grammar named) layout_value f1 f2 (Err fault) → Fails fault (bundle_of f0.text)
+      pub layout_failed : (fault : ReadFault) →
+          Reads {A = Pattern} (layout_grammar named) layout_value f1 f2 (Err fault) → Fails fault (bundle_of f0.text)
       unfolding after_circuit
       layout_failed fault reads =
-          let here : Reads {A = Pattern} (layout_grammar (Some (port_names_of circuit))) layout_value f1 f2 (Err fault) = subst (λ n. Reads {A = Pattern} (layout_grammar n) layout_value f1 f2 (Err fault)) are reads in
-          fails_along fault (bundle_of f0.text) _ circuit_read (section_failed (layout_grammar (Some (port_names_of circuit))) layout_value f1 f2 going_1 (after_layout f0.text circuit) fault here)
+          let here : Reads {A = Pattern} (layout_grammar (Some (port_names_of circuit))) layout_value f1 f2
+          (Err fault) = subst (λ n. Reads {A = Pattern} (layout_grammar n) layout_value f1 f2 (Err fault)) are reads in
+          fails_along fault (bundle_of f0.text) _ circuit_read
+          (section_failed (layout_grammar (Some (port_names_of circuit))) layout_value f1 f2 going_1
+          (after_layout f0.text circuit) fault here)
 
       module _ (layout : Pattern) (read_2 : Reads (layout_grammar named) layout_value f1 f2 (Ok layout)) where
         here : Reads (layout_grammar (Some (port_names_of circuit))) layout_value f1 f2 (Ok layout)
@@ -108,58 +143,87 @@ module _ (f0 f1 : FeedState) (unread : f0.taken ≡ 0) (going : f0.stop ≡ None
 
         layout_read : bundle_of f0.text ≡ after_layout f0.text circuit layout.size (parts_of layout) f2.taken (ahead f2)
         unfolding after_circuit
-        layout_read = circuit_read ∙ section_read (layout_grammar (Some (port_names_of circuit))) layout_value f1 f2 going_1 (after_layout f0.text circuit) layout here
+        layout_read = circuit_read ∙ section_read
+            (layout_grammar (Some (port_names_of circuit))) layout_value f1 f2 going_1
+            (after_layout f0.text circuit) layout here
 
         going_2 : f2.stop ≡ None
-        going_2 = still_going (layout_grammar (Some (port_names_of circuit))) layout_value f1 f2 going_1 (after_layout f0.text circuit) layout here
+        going_2 = still_going (layout_grammar (Some (port_names_of circuit))) layout_value f1 f2 going_1
+            (after_layout f0.text circuit) layout here
 
         text_2 : f2.text ≡ f0.text
-        text_2 = same_text (layout_grammar (Some (port_names_of circuit))) layout_value f1 f2 going_1 (after_layout f0.text circuit) layout here ∙ text_1
+        text_2 = same_text (layout_grammar (Some (port_names_of circuit))) layout_value f1 f2 going_1
+            (after_layout f0.text circuit) layout here ∙ text_1
 
         setting : Setting
         setting = setting_of circuit (layout_of layout.size (parts_of layout))
 
         module _ (f3 : FeedState) where
-          pub certificate_failed : (fault : ReadFault) → Reads {A = CertState} (certificate_grammar (setting_of circuit layout)) certificate_value f2 f3 (Err fault) → Fails fault (bundle_of f0.text)
+          pub certificate_failed : (fault : ReadFault) →
+              Reads {A = CertState} (certificate_grammar (setting_of circuit layout)) certificate_value f2 f3
+              (Err fault) → Fails fault (bundle_of f0.text)
           unfolding after_layout setting
           certificate_failed fault reads =
-              let right : Reads {A = CertState} (certificate_grammar setting) certificate_value f2 f3 (Err fault) = subst (λ g. Reads {A = CertState} (certificate_grammar g) certificate_value f2 f3 (Err fault)) (sym (same_setting circuit layout)) reads in
-              fails_along fault (bundle_of f0.text) _ layout_read (section_failed (certificate_grammar setting) certificate_value f2 f3 going_2 (ended f0.text circuit layout.size (parts_of layout)) fault right)
+              let right : Reads {A = CertState} (certificate_grammar setting) certificate_value f2 f3 (Err fault) =
+              subst (λ g. Reads {A = CertState} (certificate_grammar g) certificate_value f2 f3 (Err fault))
+              (sym (same_setting circuit layout)) reads in
+              fails_along fault (bundle_of f0.text) _ layout_read
+              (section_failed (certificate_grammar setting) certificate_value f2 f3 going_2
+              (ended f0.text circuit layout.size (parts_of layout)) fault right)
 
-          module _ (cert : CertState) (read_3 : Reads (certificate_grammar (setting_of circuit layout)) certificate_value f2 f3 (Ok cert)) where
+          module _ (cert : CertState) (read_3 : Reads
+              (certificate_grammar (setting_of circuit layout)) certificate_value f2 f3 (Ok cert)) where
             right : Reads (certificate_grammar setting) certificate_value f2 f3 (Ok cert)
             unfolding setting
-            right = subst (λ g. Reads (certificate_grammar g) certificate_value f2 f3 (Ok cert)) (sym (same_setting circuit layout)) read_3
+            right = subst (λ g. Reads (certificate_grammar g) certificate_value f2 f3 (Ok cert))
+                (sym (same_setting circuit layout)) read_3
 
-            certificate_read : bundle_of f0.text ≡ ended f0.text circuit layout.size (parts_of layout) cert.version cert.entries f3.taken (ahead f3)
+            certificate_read : bundle_of f0.text
+                ≡ ended f0.text circuit layout.size (parts_of layout) cert.version cert.entries f3.taken (ahead f3)
             unfolding after_layout setting
-            certificate_read = layout_read ∙ section_read (certificate_grammar setting) certificate_value f2 f3 going_2 (ended f0.text circuit layout.size (parts_of layout)) cert right
+            certificate_read = layout_read
+                ∙ section_read (certificate_grammar setting) certificate_value f2 f3 going_2
+                (ended f0.text circuit layout.size (parts_of layout)) cert right
 
             pub going_3 : f3.stop ≡ None
-            going_3 = still_going (certificate_grammar setting) certificate_value f2 f3 going_2 (ended f0.text circuit layout.size (parts_of layout)) cert right
+            going_3 = still_going (certificate_grammar setting) certificate_value f2 f3 going_2
+                (ended f0.text circuit layout.size (parts_of layout)) cert right
 
             text_3 : f3.text ≡ f0.text
-            text_3 = same_text (certificate_grammar setting) certificate_value f2 f3 going_2 (ended f0.text circuit layout.size (parts_of layout)) cert right ∙ text_2
+            text_3 = same_text (certificate_grammar setting) certificate_value f2 f3 going_2
+                (ended f0.text circuit layout.size (parts_of layout)) cert right ∙ text_2
 
-            pub bundle_read : cert.circuit ≡ circuit → cert.layout ≡ layout → ahead f3 ≡ [] → rest_of f3.text ≡ [] → bundle_of f0.text ≡ Ok (bundle_by cert)
+            pub bundle_read : cert.circuit ≡ circuit → cert.layout ≡ layout → ahead f3 ≡ [] → rest_of f3.text ≡ [] →
+                bundle_of f0.text ≡ Ok (bundle_by cert)
             unfolding ended whole
             bundle_read same_circuit same_layout none over =
-                certificate_read ∙ at_the_end f3.taken (ahead f3) (rest_of f0.text) (whole f0.text circuit layout.size (parts_of layout) cert.version cert.entries) none (ap rest_of (sym text_3) ∙ over)
-                ∙ ap₂ (λ cs p. Ok (whole f0.text cs p.size (parts_of p) cert.version cert.entries)) (sym same_circuit) (sym same_layout)
+                certificate_read ∙ at_the_end f3.taken (ahead f3) (rest_of f0.text)
+                (whole f0.text circuit layout.size (parts_of layout) cert.version cert.entries) none
+                (ap rest_of (sym text_3) ∙ over)
+                ∙ ap₂ (λ cs p. Ok (whole f0.text cs p.size (parts_of p) cert.version cert.entries)) (sym same_circuit)
+                (sym same_layout)
 
-            pub bundle_goes_on : (fault : ReadFault) → (ahead f3 ≡ [] → rest_of f3.text ≢ []) → fault ≡ refusal (f3.taken + 1) 12 → Fails fault (bundle_of f0.text)
+            pub bundle_goes_on : (fault : ReadFault) → (ahead f3 ≡ [] → rest_of f3.text ≢ []) →
+                fault ≡ refusal (f3.taken + 1) 12 → Fails fault (bundle_of f0.text)
             unfolding ended
             bundle_goes_on fault more is =
                 fails_along fault (bundle_of f0.text) _ certificate_read
-                (more_fails f3.taken (ahead f3) (rest_of f0.text) (whole f0.text circuit layout.size (parts_of layout) cert.version cert.entries) fault (λ none over. more none (ap rest_of text_3 ∙ over)) is)
+                (more_fails f3.taken (ahead f3) (rest_of f0.text)
+                (whole f0.text circuit layout.size (parts_of layout) cert.version cert.entries) fault
+                (λ none over. more none (ap rest_of text_3 ∙ over)) is)
 
 -- ---- answers
 
 -- the line of a refusal is the answer to what fails so
-pub refusal_answers : {A : Type 0} (says : A → List ℕ → Outcome → Type 0) (read : Result A Refusal) (fault : ReadFault) (output : List ℕ) (outcome : Outcome) → Fails fault read → TellsRefusal fault output outcome → Answered says read output outcome
+pub refusal_answers : {A : Type 0} (says : A → List ℕ → Outcome → Type 0) (read : Result A Refusal) (fault : ReadFault)
+    (output : List ℕ) (outcome : Outcome) → Fails fault read → TellsRefusal fault output outcome →
+    Answered says read output outcome
 refusal_answers says read fault output outcome fails told =
     let fails' : Fails (Refused told.refusal) read = subst (λ f. Fails f read) told.refused fails in
     subst (λ r. Answered says r output outcome) (sym fails') (told.says, told.ends)
 
-pub bundle_answers : (says : Bundle → List ℕ → Outcome → Type 0) (read : Result Bundle Refusal) (cert : CertState) (output : List ℕ) (outcome : Outcome) → read ≡ Ok (bundle_by cert) → says (bundle_by cert) output outcome → Answered says read output outcome
-bundle_answers says read cert output outcome was_read said = subst (λ r. Answered says r output outcome) (sym was_read) said
+pub bundle_answers : (says : Bundle → List ℕ → Outcome → Type 0) (read : Result Bundle Refusal) (cert : CertState)
+    (output : List ℕ) (outcome : Outcome) → read ≡ Ok (bundle_by cert) → says (bundle_by cert) output outcome →
+    Answered says read output outcome
+bundle_answers says read cert output outcome was_read said =
+    subst (λ r. Answered says r output outcome) (sym was_read) said

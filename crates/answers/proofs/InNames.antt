@@ -8,7 +8,8 @@ use Rattle.pattern.specs.declared.parts.Port.{Port}
 use Rattle.pattern.specs.Layout.{Pattern, parts_of}
 use Rattle.answers.specs.RunText.{in_name}
 
-none_of : {X : Type 0} (f : X → Part) → ((x : X) → in_name (f x) ≡ []) → (xs : List X) → flat_map in_name (map f xs) ≡ []
+none_of : {X : Type 0} (f : X → Part) → ((x : X) → in_name (f x) ≡ []) → (xs : List X) →
+    flat_map in_name (map f xs) ≡ []
 none_of f none [] = refl
 none_of f none (x ∷ xs) = rw (none x, none_of f none xs) refl
 
@@ -19,7 +20,8 @@ names_of (p ∷ ports) = ap (λ ns. p.name ∷ ns) (names_of ports)
 pub in_names_are : (p : Pattern) → flat_map in_name (parts_of p) ≡ map (λ q. q.name) p.ins
 in_names_are p =
     rw (
-      flat_map-append in_name (map Mirror p.mirrors) (map Ball p.balls ++ (map In p.ins ++ (map Out p.outs ++ map Waste p.wastes))),
+      flat_map-append in_name (map Mirror p.mirrors)
+          (map Ball p.balls ++ (map In p.ins ++ (map Out p.outs ++ map Waste p.wastes))),
       flat_map-append in_name (map Ball p.balls) (map In p.ins ++ (map Out p.outs ++ map Waste p.wastes)),
       flat_map-append in_name (map In p.ins) (map Out p.outs ++ map Waste p.wastes),
       flat_map-append in_name (map Out p.outs) (map Waste p.wastes),

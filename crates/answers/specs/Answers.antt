@@ -1,4 +1,4 @@
--- What is common to the answers of all commands.
+-- The part that the answers of all commands have in common.
 use Rattle.std.specs.Prelude.{◌≡◌, ℕ, List, Result, Ok, Err}
 use Rattle.section_text.specs.Words.{rest_of}
 use Rattle.section_text.specs.Sections.{section_then, finished}
@@ -8,19 +8,23 @@ use Rattle.report.specs.ReportText.{refusal_line}
 use Rattle.answers.specs.declared.outcome.Outcome.{Outcome}
 use Rattle.answers.specs.declared.outcome.Outcome.TheVariants.{Refused}
 
--- What is asked is answered as the command says, and a refusal by its line.
+-- A text that is read gets the answer of its command, and a refused one the line of its refusal.
 abbrev pub Answered : {A : Type 0} → (A → List ℕ → Outcome → Type 0) → Result A Refusal → List ℕ → Outcome → Type 0
 Answered says (Ok asked) output outcome = says asked output outcome
 Answered says (Err refusal) output outcome = (output ≡ refusal_line refusal) × (outcome ≡ Refused)
 
--- After a first section: an assign section in which these names may be on, and nothing more. It gives the names that are on.
+-- After a first section: an assign section in which these names may be on, and nothing more. It gives the names that
+-- are on.
 abbrev pub names_read : List ℕ → List (List ℕ) → ℕ → List (List ℕ) → Result (List (List ℕ)) Refusal
-names_read text names n ahead = section_then (assign_grammar names) n ahead (λ _ on m rest. finished m rest (rest_of text) on)
+names_read text names n ahead =
+    section_then (assign_grammar names) n ahead (λ _ on m rest. finished m rest (rest_of text) on)
 
+-- a value before those that are read after it, or the refusal of what is read after it
 abbrev pub with_value : {A B : Type 0} → A → Result B Refusal → Result (A × B) Refusal
 with_value value (Ok more) = Ok (value, more)
 with_value value (Err refusal) = Err refusal
 
 -- the same, with the value of the first section
-abbrev pub names_asked : {A : Type 0} → List ℕ → A → List (List ℕ) → ℕ → List (List ℕ) → Result (A × List (List ℕ)) Refusal
+abbrev pub names_asked : {A : Type 0} → List ℕ → A → List (List ℕ) → ℕ → List (List ℕ) →
+    Result (A × List (List ℕ)) Refusal
 names_asked text value names n ahead = with_value value (names_read text names n ahead)

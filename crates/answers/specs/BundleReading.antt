@@ -1,4 +1,4 @@
--- What comes of reading a bundle.
+-- The results of reading a bundle.
 use Rattle.std.specs.Prelude.{◌≡◌, ℕ, List}
 use Rattle.pattern.specs.Layout.{parts_of}
 use Rattle.section_text.specs.declared.fault.ReadFault.{ReadFault}
@@ -12,7 +12,14 @@ use Rattle.answers.specs.BundleText.{Bundle}
 
 -- the bundle of a certificate, its circuit and its layout
 abbrev pub bundle_by : CertState → Bundle
-bundle_by c = record { circuit = c.circuit; size = c.layout.size; parts = parts_of c.layout; version = c.version; entries = c.entries }
+bundle_by c =
+    record {
+      circuit = c.circuit;
+      size = c.layout.size;
+      parts = parts_of c.layout;
+      version = c.version;
+      entries = c.entries;
+    }
 
 -- the answer is the line for this refusal
 pub record TellsRefusal (fault : ReadFault) (output : List ℕ) (outcome : Outcome) : Type 0 where

@@ -22,11 +22,12 @@ pub record Bundle : Type 0 where
   pub version : ℕ
   pub entries : List Entry
 
--- A circuit section, a layout section whose ports are named as its inputs and outputs, a certificate section for both, and
--- nothing more.
+-- A circuit section, a layout section whose ports are named as its inputs and outputs, a certificate section for both,
+-- and nothing more.
 unfoldable pub bundle_of : List ℕ → Result Bundle Refusal
 bundle_of text =
     section_then circuit_grammar 0 (lines_of text) (λ _ circuit n ahead.
     section_then (layout_grammar (Some (port_names_of circuit))) n ahead (λ size parts m later.
     section_then (certificate_grammar (setting_of circuit (layout_of size parts))) m later (λ version entries k last.
-    finished k last (rest_of text) (record { circuit = circuit; size = size; parts = parts; version = version; entries = entries }))))
+    finished k last (rest_of text)
+    (record { circuit = circuit; size = size; parts = parts; version = version; entries = entries }))))

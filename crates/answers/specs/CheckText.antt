@@ -1,4 +1,4 @@
--- What `check` answers to a text: the report on a bundle's certificate, or the refusal of the text.
+-- The answer of `check` to a text: the report on a bundle's certificate, or the refusal of the text.
 use Rattle.std.specs.Prelude.{◌≡◌, ℕ, List}
 use Rattle.circuit.specs.Bridge.{circuit_of}
 use Rattle.pattern.specs.Grammars.{layout_value}
@@ -30,6 +30,7 @@ pub record IsVerdictOn (c : CertState) (v : Verdict) : Type 0 where
   pub are_jobs : AreJobsOf (circuit_of c.circuit) c.layout (modules_in c) jobs
   pub judged : IsVerdict (setting_of c.circuit c.layout) (modules_in c) jobs v
 
+-- the outcome for a verdict
 abbrev pub verdict_outcome : Verdict → Outcome
 verdict_outcome verdict.Yes = Yes
 verdict_outcome (verdict.No lines) = No

@@ -1,4 +1,4 @@
--- What `migrate` answers to a text: its bundle with a certificate of version 2, or the refusal of the text.
+-- The answer of `migrate` to a text: its bundle with a certificate of version 2, or the refusal of the text.
 use Rattle.std.specs.Prelude.{◌≡◌, ℕ, List, [], ◌∷◌, ◌++◌, codes}
 use Rattle.std.specs.List.{flat_map}
 use Rattle.std.specs.Fmt.{decimal}
@@ -17,15 +17,18 @@ use Rattle.answers.specs.BundleText.{Bundle, bundle_of}
 
 -- a layout section of this size and these parts
 unfoldable pub layout_lines : Extent → List Part → List ℕ
-layout_lines size parts = line_text (codes "layout") (size_words size) ++ flat_map part_text parts ++ line_text (codes "end") []
+layout_lines size parts = line_text (codes "layout") (size_words size) ++ flat_map part_text parts
+    ++ line_text (codes "end") []
 
 -- a certificate section of this version and these lines
 unfoldable pub certificate_lines : ℕ → List Entry → List ℕ
-certificate_lines version entries = line_text (codes "certificate") (decimal version ∷ []) ++ flat_map entry_text entries ++ line_text (codes "end") []
+certificate_lines version entries =
+    line_text (codes "certificate") (decimal version ∷ []) ++ flat_map entry_text entries ++ line_text (codes "end") []
 
 -- the text of a bundle: its three sections, with each line spelled in the one way
 unfoldable pub bundle_text : Bundle → List ℕ
-bundle_text bundle = circuit_text bundle.circuit ++ layout_lines bundle.size bundle.parts ++ certificate_lines bundle.version bundle.entries
+bundle_text bundle = circuit_text bundle.circuit ++ layout_lines bundle.size bundle.parts
+    ++ certificate_lines bundle.version bundle.entries
 
 -- a bundle with a certificate of version 2, which has no halo lines
 abbrev pub in_version_two : Bundle → Bundle

@@ -1,4 +1,4 @@
--- What answers a question about a bundle.
+-- The answers to a question about a bundle.
 use Rattle.std.specs.Prelude.{ℕ, List}
 use Rattle.answers.specs.declared.bundle.Question.{Question}
 use Rattle.answers.specs.declared.bundle.Question.TheVariants.{Modules, Migration}
@@ -7,6 +7,7 @@ use Rattle.answers.specs.BundleText.{Bundle}
 use Rattle.answers.specs.MigrateText.{SaysMigration}
 use Rattle.answers.specs.ModulesText.{SaysModules}
 
+-- the output and the outcome are the answer to the question about a bundle that was read
 abbrev pub says_of : Question → Bundle → List ℕ → Outcome → Type 0
 says_of Modules bundle output outcome = SaysModules bundle output outcome
 says_of Migration bundle output outcome = SaysMigration bundle output outcome

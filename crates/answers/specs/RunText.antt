@@ -1,4 +1,4 @@
--- What `run` answers to a text: the whole run of a layout from the names that are on, or the refusal of the text.
+-- The answer of `run` to a text: the whole run of a layout from the names that are on, or the refusal of the text.
 use Rattle.std.specs.Prelude.{◌≡◌, ℕ, List, [], ◌∷◌, ◌++◌, length, None, Result, codes}
 use Rattle.std.specs.List.{flat_map}
 use Rattle.std.specs.Fmt.{decimal, signed_decimal}
@@ -36,17 +36,21 @@ RunAsked = (Extent × List Part) × List (List ℕ)
 -- a layout section, an assign section in which the names of its input cells may be on, and nothing more
 unfoldable pub run_asked : List ℕ → Result RunAsked Refusal
 run_asked text =
-    section_then (layout_grammar None) 0 (lines_of text) (λ size parts n ahead. names_asked text (size, parts) (flat_map in_name parts) n ahead)
+    section_then (layout_grammar None) 0 (lines_of text)
+    (λ size parts n ahead. names_asked text (size, parts) (flat_map in_name parts) n ahead)
 
 -- ---- what is written
 
+-- the line for a live cell
 abbrev pub cell_line : Cell → List ℕ
 cell_line c = line_text (signed_decimal c.x) (signed_decimal c.y ∷ [])
 
+-- the lines for the end of a run: its live cells, or the time at which a ball left the rectangle
 abbrev pub end_text : RunEnd → List ℕ
 end_text (Cells cells) = line_text (codes "cells") (decimal (length cells.items) ∷ []) ++ flat_map cell_line cells.items
 end_text (LeftAt k) = line_text (codes "left") (decimal k ∷ [])
 
+-- the outcome for the end of a run: no if a ball left the rectangle
 abbrev pub end_outcome : RunEnd → Outcome
 end_outcome (Cells cells) = Yes
 end_outcome (LeftAt k) = No

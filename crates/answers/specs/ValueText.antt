@@ -1,4 +1,4 @@
--- What `value` answers to a text: each wire's value under an assignment of the inputs, or the refusal of the text.
+-- The answer of `value` to a text: each wire's value under an assignment of the inputs, or the refusal of the text.
 use Rattle.std.specs.Prelude.{◌≡◌, ◌⊎◌, ℕ, ◌++◌, ◌∷◌, [], Bool, List, codes, map, Result}
 use Rattle.std.specs.Fmt.{decimal}
 use Rattle.section_text.specs.Spelling.{line_text}
@@ -23,20 +23,21 @@ ValueAsked = List Entry × List (List ℕ)
 -- a circuit section, an assign section in which its inputs may be on, and nothing more
 unfoldable pub value_asked : List ℕ → Result ValueAsked Refusal
 value_asked text =
-    section_then circuit_grammar 0 (lines_of text) (λ _ entries n ahead. names_asked text entries (input_names entries) n ahead)
+    section_then circuit_grammar 0 (lines_of text)
+    (λ _ entries n ahead. names_asked text entries (input_names entries) n ahead)
 
--- an input is true exactly where its name is on
+-- an input is true exactly if its name is on
 abbrev pub inputs_asked : ValueAsked → Valuation
 inputs_asked asked = read (map (λ n. has asked.1 n) (input_names asked.0))
 
--- where the circuit has a valuation: a line for each wire, in order of definition
+-- if the circuit has a valuation: a line for each wire, in order of definition
 pub record SaysAll (asked : ValueAsked) (output : List ℕ) (outcome : Outcome) : Type 0 where
   pub values : List Bool
   pub are : AreValues (netlist_of asked.0) (inputs_asked asked) values
   pub says : output ≡ value_lines (defined asked.0) values
   pub ends : outcome ≡ Yes
 
--- where a gate has no row: a line for each wire that is defined before the first such gate, and then the gate's number
+-- if a gate has no row: a line for each wire that is defined before the first such gate, and then the gate's number
 pub record SaysSome (asked : ValueAsked) (output : List ℕ) (outcome : Outcome) : Type 0 where
   pub gate : ℕ
   pub values : List Bool

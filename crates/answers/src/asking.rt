@@ -1,4 +1,4 @@
-//! What the commands over two sections have in common.
+//! The part that the commands over two sections have in common.
 ghost use Rattle.std.specs.Prelude.{◌≡◌, true, None};
 ghost use Rattle.section_text.specs.FeedState.{ahead};
 ghost use Rattle.section_text.specs.Section.{Gives};

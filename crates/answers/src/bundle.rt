@@ -17,16 +17,16 @@ use pattern::read_layout;
 use section_text::Feed;
 use std::alloc::{AllocError, Global};
 
-/// What is asked of a bundle.
+/// A question about a bundle.
 #[derive(Clone, Copy)]
 pub(crate) enum Question {
-    /// Which modules its certificate has.
+    /// The modules of its certificate.
     Modules,
     /// The bundle in certificate version 2.
     Migration,
 }
 
-/// The modules of a text that is read whole: reads a bundle up to the end of the text, and lists them.
+/// Reads a bundle up to the end of the text, and lists its modules. The text is read whole.
 pub fn modules_text(alloc: Global, text: &mut Feed) -> Result<Answered, AllocError>
     requires closed { text.old.closed ≡ true }
     requires unread { text.old.taken ≡ 0 }
@@ -37,8 +37,8 @@ pub fn modules_text(alloc: Global, text: &mut Feed) -> Result<Answered, AllocErr
     answer_of_text(alloc, text, Question::Modules)
 }
 
-/// A text that is read whole, in certificate version 2: reads a bundle up to the end of the text, and writes it with
-/// that version and without halo lines.
+/// Reads a bundle up to the end of the text, and writes it in certificate version 2, without halo lines. The text is
+/// read whole.
 pub fn migrate_text(alloc: Global, text: &mut Feed) -> Result<Answered, AllocError>
     requires closed { text.old.closed ≡ true }
     requires unread { text.old.taken ≡ 0 }

@@ -1,4 +1,4 @@
-//! What each command answers to a text that was read whole.
+//! The answer of each command to a text that was read whole.
 #![tactic(auto)]
 
 mod asking;

@@ -1,4 +1,4 @@
-//! What is answered to a text that is refused.
+//! The answer to a text that is refused.
 ghost use Rattle.std.specs.Prelude.{IfOk};
 ghost use Rattle.answers.specs.BundleReading.{TellsRefusal};
 
@@ -7,7 +7,11 @@ use report::refusal_text;
 use section_text::ReadFault;
 use std::alloc::{AllocError, Global};
 
-/// The line for a refusal, or want of memory.
+/// Returns the line for a refusal.
+///
+/// # Errors
+///
+/// Out of memory, also if that is the fault.
 pub fn refused(alloc: Global, fault: ReadFault) -> Result<Answered, AllocError>
     ensures told { IfOk result (λ answered. TellsRefusal fault answered.output.items
         answered.outcome) }

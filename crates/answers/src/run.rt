@@ -113,7 +113,7 @@ fn answer(alloc: Global, layout: &Layout, on: &[Name]) -> Result<Answered, Alloc
     Ok(Answered { outcome, output })
 }
 
-/// Answers a text that is read whole.
+/// Runs the layout of a text under its assignment, and answers as `run` does. The text is read whole.
 pub fn run_text(alloc: Global, feed: &mut Feed) -> Result<Answered, AllocError>
     requires closed { feed.old.closed ≡ true }
     requires unread { feed.old.taken ≡ 0 }

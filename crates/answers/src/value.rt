@@ -94,7 +94,7 @@ fn answer(alloc: Global, circuit: &Circuit, on: &[Name]) -> Result<Answered, All
     }
 }
 
-/// Answers a text that is read whole.
+/// Evaluates the circuit of a text under its assignment, and answers as `value` does. The text is read whole.
 pub fn value_text(alloc: Global, feed: &mut Feed) -> Result<Answered, AllocError>
     requires closed { feed.old.closed ≡ true }
     requires unread { feed.old.taken ≡ 0 }

@@ -1,5 +1,6 @@
 -- Lists with one element for each cell of a box are the same where they say the same of each cell
-use Rattle.std.proofs.Common.{◌≡◌, ℕ, zero, suc, ◌+◌, ◌-◌, ◌*◌, ◌/◌, ◌<◌, ◌≤◌, true, List, length, refl, sym, ap₂, subst, ◌∙◌, arith}
+use Rattle.std.proofs.Common.{◌≡◌, ℕ, zero, suc, ◌+◌, ◌-◌, ◌*◌, ◌/◌, ◌<◌, ◌≤◌, true, List, length, refl, sym, ap₂}
+use Rattle.std.proofs.Common.{subst, ◌∙◌, arith}
 use Rattle.std.specs.Prelude.{ℤ, pos, slice_get, unwrap_or}
 use Rattle.std.proofs.lemmas.List.{get_or_default, same_lists}
 use Rattle.std.proofs.lemmas.Option.{unwrap_or-slice_get}
@@ -38,7 +39,8 @@ cell_at b k lt =
     record {
       x = pos (b.x + (k - row * b.w));
       y = pos (b.y + row);
-      inside = both b _ _ (span_from b.x b.w _ (omega arith) (omega (arith, near))) (span_from b.y b.h _ (omega arith) (omega (arith, low)));
+      inside = both b _ _ (span_from b.x b.w _ (omega arith) (omega (arith, near)))
+          (span_from b.y b.h _ (omega arith) (omega (arith, low)));
       place = ap₂ (λ r c. r * b.w + c) (sum_less b.y row) (sum_less b.x (k - row * b.w)) ∙ omega (arith, before);
     }
   where
@@ -46,10 +48,12 @@ cell_at b k lt =
     sum_less a c = omega arith
 
 pub same_over_box : {A : Type 0} (b : Box2) (xs ys : List A) (d : A) → length xs ≡ b.w * b.h → length ys ≡ b.w * b.h
-    → ((x y : ℤ) → in_box b x y ≡ true → unwrap_or (slice_get xs (place_in b x y)) d ≡ unwrap_or (slice_get ys (place_in b x y)) d) → xs ≡ ys
+    → ((x y : ℤ) → in_box b x y ≡ true →
+    unwrap_or (slice_get xs (place_in b x y)) d ≡ unwrap_or (slice_get ys (place_in b x y)) d) → xs ≡ ys
 same_over_box b xs ys d many as_many each = same_lists xs ys (many ∙ sym as_many) (λ k e h.
     let c = cell_at b k (subst (λ n. k < n) many h) in
     let there = subst (λ n. k < n) (many ∙ sym as_many) h in
-    let one = subst (λ n. unwrap_or (slice_get xs n) d ≡ unwrap_or (slice_get ys n) d) c.place (each c.x c.y c.inside) in
+    let one = subst (λ n. unwrap_or (slice_get xs n) d ≡ unwrap_or (slice_get ys n) d) c.place
+    (each c.x c.y c.inside) in
     sym (get_or_default xs k d e h) ∙ sym (unwrap_or-slice_get xs k d) ∙ one
     ∙ unwrap_or-slice_get ys k d ∙ get_or_default ys k d e there)

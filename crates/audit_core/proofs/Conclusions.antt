@@ -17,22 +17,32 @@ is_empty_list [] e = refl
 is_empty_list (x ∷ xs) e = absurd (omega (arith, e))
 
 -- all that was found out: the jobs, their least faults, and those of the borders
-pub record AreAllFaults (s : CertState) (jobs : List JobState) (fs : List Reasons) (bs : List (Option BorderFault)) : Type 0 where
+pub record AreAllFaults (s : CertState) (jobs : List JobState) (fs : List Reasons)
+    (bs : List (Option BorderFault)) : Type 0 where
   pub own : AreOwnJobs s jobs
   pub least : AreLeastFaults jobs fs
   pub borders : AreBorderFaultsOf (setting s) (modules s) bs
 
-pub same-count : (s : CertState) (jobs : List JobState) (fs : List Reasons) (bs : List (Option BorderFault)) → AreAllFaults s jobs fs bs → length fs ≡ length bs
+pub same-count : (s : CertState) (jobs : List JobState) (fs : List Reasons) (bs : List (Option BorderFault)) →
+    AreAllFaults s jobs fs bs → length fs ≡ length bs
 same-count s jobs fs bs all = all.least.count ∙ all.own.count ∙ sym all.borders.count
 
-pub verdict-yes : (s : CertState) (jobs : List JobState) (fs : List Reasons) (bs : List (Option BorderFault)) → AreAllFaults s jobs fs bs → lines_from 0 fs bs ++ unkept_lines (setting s) (modules s) ≡ [] → are_all_kept (time_lines (setting s).circuit (modules s)) ≡ true →
+pub verdict-yes : (s : CertState) (jobs : List JobState) (fs : List Reasons) (bs : List (Option BorderFault)) →
+    AreAllFaults s jobs fs bs → lines_from 0 fs bs ++ unkept_lines (setting s) (modules s) ≡ [] →
+    are_all_kept (time_lines (setting s).circuit (modules s)) ≡ true →
     IsVerdict (setting s) (modules s) jobs Yes
 unfolding IsVerdict
-verdict-yes s jobs fs bs all none kept = accepted (setting s) (modules s) jobs fs bs all.least all.borders (same-count s jobs fs bs all) none kept
+verdict-yes s jobs fs bs all none kept =
+    accepted (setting s) (modules s) jobs fs bs all.least all.borders (same-count s jobs fs bs all) none kept
 
 -- some line on a module or a gate that is not kept, or a rule that is broken
-pub verdict-no : (s : CertState) (jobs : List JobState) (fs : List Reasons) (bs : List (Option BorderFault)) (lines : Vec ReportLine Global) → AreAllFaults s jobs fs bs →
-    lines.items ≡ lines_from 0 fs bs ++ unkept_lines (setting s) (modules s) ++ map timing (time_lines (setting s).circuit (modules s)) → ¬ ((lines_from 0 fs bs ++ unkept_lines (setting s) (modules s) ≡ []) × (are_all_kept (time_lines (setting s).circuit (modules s)) ≡ true)) → IsVerdict (setting s) (modules s) jobs (No lines)
+pub verdict-no : (s : CertState) (jobs : List JobState) (fs : List Reasons) (bs : List (Option BorderFault))
+    (lines : Vec ReportLine Global) → AreAllFaults s jobs fs bs →
+    lines.items ≡ lines_from 0 fs bs ++ unkept_lines (setting s) (modules s)
+    ++ map timing (time_lines (setting s).circuit (modules s)) →
+    ¬ ((lines_from 0 fs bs ++ unkept_lines (setting s) (modules s) ≡ [])
+    × (are_all_kept (time_lines (setting s).circuit (modules s)) ≡ true)) →
+    IsVerdict (setting s) (modules s) jobs (No lines)
 unfolding IsVerdict
 verdict-no s jobs fs bs lines all lines_are some = (
   (λ is. some (accepted-no_lines (setting s) (modules s) jobs fs bs all.least all.borders is, is.on_time)),

@@ -1,5 +1,6 @@
 -- Sums over lists, and lists of numbers that were drawn
-use Rattle.std.proofs.Common.{◌≡◌, ◌+◌, ◌-◌, ◌<◌, ◌≤◌, ◌++◌, ◌∷◌, ℕ, suc, zero, List, [], true, length, refl, ap, arith, get_or, set, length-append}
+use Rattle.std.proofs.Common.{◌≡◌, ◌+◌, ◌-◌, ◌<◌, ◌≤◌, ◌++◌, ◌∷◌, ℕ, suc, zero, List, [], true, length, refl, ap, arith}
+use Rattle.std.proofs.Common.{get_or, set, length-append}
 use Rattle.std.specs.Prelude.{nat_le, nat_lt, replicate, slice_get, Some}
 use Rattle.std.proofs.lemmas.Option.{same_Some}
 use Rattle.std.proofs.lemmas.Bool.Decides.{nat_tests}
@@ -8,7 +9,8 @@ use Rattle.audit_core.specs.Claims.{has_ended}
 
 -- ---- sums
 
-pub total-set : {X : Type 0} (f : X → ℕ) (xs : List X) (i : ℕ) (y d : X) → i < length xs → total f (set xs i y) + f (get_or xs i d) ≡ total f xs + f y
+pub total-set : {X : Type 0} (f : X → ℕ) (xs : List X) (i : ℕ) (y d : X) → i < length xs →
+    total f (set xs i y) + f (get_or xs i d) ≡ total f xs + f y
 total-set f [] i y d inside = absurd (omega (arith, inside))
 total-set f (x ∷ xs) zero y d inside = omega arith
 total-set f (x ∷ xs) (suc i) y d inside = let rest = total-set f xs i y d (omega (arith, inside)) in omega (arith, rest)
@@ -21,7 +23,8 @@ pub total-le : {X : Type 0} (f : X → ℕ) (xs : List X) → ((x : X) → f x �
 total-le f [] most = omega arith
 total-le f (x ∷ xs) most = omega (arith, most x, total-le f xs most)
 
-pub at-le-total : {X : Type 0} (f : X → ℕ) (xs : List X) (i : ℕ) (d : X) → i < length xs → f (get_or xs i d) ≤ total f xs
+pub at-le-total : {X : Type 0} (f : X → ℕ) (xs : List X) (i : ℕ) (d : X) → i < length xs →
+    f (get_or xs i d) ≤ total f xs
 at-le-total f [] i d inside = absurd (omega (arith, inside))
 at-le-total f (x ∷ xs) zero d inside = omega arith
 at-le-total f (x ∷ xs) (suc i) d inside = omega (arith, at-le-total f xs i d (omega (arith, inside)))
@@ -40,7 +43,8 @@ end_of-push (y ∷ z ∷ zs) x = end_of-push (z ∷ zs) x
 pub has_ended-push : (n : ℕ) (xs : List ℕ) (x : ℕ) → has_ended n (xs ++ x ∷ []) ≡ nat_lt n (x + 1)
 has_ended-push n xs x = ap (nat_lt n) (end_of-push xs x)
 
-pub drawn-push : (counter : ℕ) (lists : List (List ℕ)) (seat : ℕ) → seat < length lists → IsDrawn counter lists → IsDrawn (counter + 1) (set lists seat (get_or lists seat [] ++ counter ∷ []))
+pub drawn-push : (counter : ℕ) (lists : List (List ℕ)) (seat : ℕ) → seat < length lists → IsDrawn counter lists →
+    IsDrawn (counter + 1) (set lists seat (get_or lists seat [] ++ counter ∷ []))
 drawn-push counter lists seat inside is =
     let xs : List ℕ = get_or lists seat [] in
     let ys : List ℕ = xs ++ counter ∷ [] in
@@ -70,7 +74,8 @@ end-stands (y ∷ z ∷ zs) n below =
     (more.0, more.1, omega (arith, more.2))
 
 -- where a seat has ended, all numbers were drawn
-pub ended-all : (n counter : ℕ) (lists : List (List ℕ)) (seat : ℕ) → seat < length lists → has_ended n (get_or lists seat []) ≡ true → IsDrawn counter lists → n < counter
+pub ended-all : (n counter : ℕ) (lists : List (List ℕ)) (seat : ℕ) → seat < length lists →
+    has_ended n (get_or lists seat []) ≡ true → IsDrawn counter lists → n < counter
 ended-all n counter lists seat inside has is =
     let below : n < end_of (get_or lists seat []) = grind (arith, nat_tests) in
     let there = end-stands (get_or lists seat []) n below in

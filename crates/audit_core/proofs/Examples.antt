@@ -1,5 +1,6 @@
 -- A ball that goes two steps along a diagonal, in a rectangle that is one module
-use Rattle.std.proofs.Common.{◌≡◌, ℕ, zero, suc, ◌<◌, ◌%◌, Bool, true, false, not, ◌&&◌, ◌||◌, List, [], ◌∷◌, Some, None, refl, sym, ap, subst, ◌∙◌, inl, inr, arith}
+use Rattle.std.proofs.Common.{◌≡◌, ℕ, zero, suc, ◌<◌, ◌%◌, Bool, true, false, not, ◌&&◌, ◌||◌, List, [], ◌∷◌, Some}
+use Rattle.std.proofs.Common.{None, refl, sym, ap, subst, ◌∙◌, inl, inr, arith}
 use Rattle.std.specs.Prelude.{ℤ, pos, slice_get}
 use Rattle.std.proofs.Math.Logic.{∥∥₁_elim}
 use Rattle.std.proofs.lemmas.Bool.{and_parts, false≢true, true≢false}
@@ -12,7 +13,8 @@ use Rattle.circuit.specs.Meaning.{Gate, Valuation, AreOrdered, place_of, wires_a
 use Rattle.circuit.specs.declared.entry.Entry.{Entry}
 use Rattle.circuit.specs.declared.entry.Kind.TheVariants.{Input, Output}
 use Rattle.pattern.specs.Layout.{Pattern}
-use Rattle.pattern.specs.Lines.{size_fault, limit_fault, cell_fault, is_inside, is_taken, begins, ends, cells_of, begun, ended}
+use Rattle.pattern.specs.Lines.{size_fault, limit_fault, cell_fault, is_inside, is_taken, begins, ends, cells_of, begun}
+use Rattle.pattern.specs.Lines.{ended}
 use Rattle.pattern.specs.declared.parts.Port.{Port}
 use Rattle.module_box.specs.Boxes.{in_box, some_neighbour, in_ring, in_halo, Tile}
 use Rattle.module_box.specs.Locals.{AreLocalLines, AreLocalsOf, circuit_wire, is_among}
@@ -51,13 +53,21 @@ name_p = 112 ∷ []
 
 -- the wire `p` is an input and an output
 abbrev lines : List Entry
-lines = record { kind = Input; ins = []; outs = name_p ∷ [] } ∷ record { kind = Output; ins = name_p ∷ []; outs = [] } ∷ []
+lines = record { kind = Input; ins = []; outs = name_p ∷ [] } ∷ record { kind = Output; ins = name_p ∷ []; outs = [] }
+    ∷ []
 
 abbrev port : ℕ → ℕ → Port
 port x y = record { name = name_p; cell = record { x = pos x; y = pos y } }
 
 abbrev layout : Pattern
-layout = record { size = record { w = 4; h = 4; steps = 2 }; mirrors = []; balls = []; ins = port 0 0 ∷ []; outs = port 2 2 ∷ []; wastes = [] }
+layout = record {
+  size = record { w = 4; h = 4; steps = 2 };
+  mirrors = [];
+  balls = [];
+  ins = port 0 0 ∷ [];
+  outs = port 2 2 ∷ [];
+  wastes = [];
+}
 
 abbrev area : Box2
 area = record { x = 0; y = 0; w = 4; h = 4 }
@@ -97,8 +107,10 @@ in_four P a b c d z h =
     subst P (sym n.1) (below_four (λ k. P (pos k)) a b c d n.0 below)
 
 cell_by_cell : (P : ℤ → ℤ → Type 0) →
-    P (pos 0) (pos 0) → P (pos 0) (pos 1) → P (pos 0) (pos 2) → P (pos 0) (pos 3) → P (pos 1) (pos 0) → P (pos 1) (pos 1) → P (pos 1) (pos 2) → P (pos 1) (pos 3) →
-    P (pos 2) (pos 0) → P (pos 2) (pos 1) → P (pos 2) (pos 2) → P (pos 2) (pos 3) → P (pos 3) (pos 0) → P (pos 3) (pos 1) → P (pos 3) (pos 2) → P (pos 3) (pos 3) →
+    P (pos 0) (pos 0) → P (pos 0) (pos 1) → P (pos 0) (pos 2) → P (pos 0) (pos 3) → P (pos 1) (pos 0) →
+    P (pos 1) (pos 1) → P (pos 1) (pos 2) → P (pos 1) (pos 3) →
+    P (pos 2) (pos 0) → P (pos 2) (pos 1) → P (pos 2) (pos 2) → P (pos 2) (pos 3) → P (pos 3) (pos 0) →
+    P (pos 3) (pos 1) → P (pos 3) (pos 2) → P (pos 3) (pos 3) →
     (x y : ℤ) → in_box area x y ≡ true → P x y
 unfolding in_box
 cell_by_cell P a b c d e f g h i j k l m n o q x y inside =
@@ -136,7 +148,8 @@ same_start : (u : Valuation) (x y : ℤ) → is_live u (job_start job x y) ≡ i
 unfolding wires_after
 same_start u x y = live_below u (job_start job x y) (start_below job x y own_wires)
 
-same_halo : (u : Valuation) (t : ℕ) (s s' : State) (x y : ℤ) → s x y ≡ s' x y → with_halo job u t s x y ≡ with_halo job (all (u 0)) t s' x y
+same_halo : (u : Valuation) (t : ℕ) (s s' : State) (x y : ℤ) → s x y ≡ s' x y →
+    with_halo job u t s x y ≡ with_halo job (all (u 0)) t s' x y
 unfolding with_halo signal_at held_at event_at
 same_halo u t s s' x y e = ap (λ b. b || (in_halo area x y && false)) e
 
@@ -145,9 +158,11 @@ unfolding local_run
 same_run u zero x y = same_start u x y
 same_run u (suc t) x y =
     let before : (x y : ℤ) → local_run job u t x y ≡ local_run job (all (u 0)) t x y = same_run u t in
-    let halo : (x y : ℤ) → with_halo job u t (local_run job u t) x y ≡ with_halo job (all (u 0)) t (local_run job (all (u 0)) t) x y = λ x y. same_halo u t _ _ x y (before x y) in
+    let halo : (x y : ℤ) → with_halo job u t (local_run job u t) x y
+    ≡ with_halo job (all (u 0)) t (local_run job (all (u 0)) t) x y = λ x y. same_halo u t _ _ x y (before x y) in
     elim (even_or_odd t) [
-      | inl e ↦ local_even job u t _ x y e ∙ step_same t _ _ x y (before _ _) (before _ _) (before _ _) (before _ _) ∙ sym (local_even job (all (u 0)) t _ x y e)
+      | inl e ↦ local_even job u t _ x y e ∙ step_same t _ _ x y (before _ _) (before _ _) (before _ _) (before _ _)
+          ∙ sym (local_even job (all (u 0)) t _ x y e)
       | inr o ↦ local_odd job u t _ x y o
           ∙ ap (λ b. in_box area x y && b) (step_same t _ _ x y (halo _ _) (halo _ _) (halo _ _) (halo _ _))
           ∙ sym (local_odd job (all (u 0)) t _ x y o)
@@ -159,17 +174,22 @@ ring_test b x y = not (in_ring area x y && local_run job (all b) 1 x y)
 
 ring_dead : (b : Bool) (x y : ℤ) → in_box area x y ≡ true → ring_test b x y ≡ true
 unfolding ring_test in_ring in_box some_neighbour in_span local_run local_step step partner turned job_start
-ring_dead true = cell_by_cell (λ x y. ring_test true x y ≡ true) refl refl refl refl refl refl refl refl refl refl refl refl refl refl refl refl
-ring_dead false = cell_by_cell (λ x y. ring_test false x y ≡ true) refl refl refl refl refl refl refl refl refl refl refl refl refl refl refl refl
+ring_dead true = cell_by_cell
+    (λ x y. ring_test true x y ≡ true) refl refl refl refl refl refl refl refl refl refl refl refl refl refl refl refl
+ring_dead false = cell_by_cell
+    (λ x y. ring_test false x y ≡ true) refl refl refl refl refl refl refl refl refl refl refl refl refl refl refl refl
 
 -- at time 2 each cell meets its demand
 abbrev MetAtEnd : Bool → ℤ → ℤ → Type 0
 MetAtEnd b x y = Meets (all b) (job_demand job x y) (local_run job (all b) 2 x y)
 
 all_met : (b : Bool) (x y : ℤ) → in_box area x y ≡ true → MetAtEnd b x y
-unfolding in_box some_neighbour in_span in_halo local_run local_step with_halo step partner turned job_start job_demand signal_at held_at event_at
-all_met true = cell_by_cell (MetAtEnd true) refl refl refl refl refl refl refl refl refl refl refl refl refl refl refl refl
-all_met false = cell_by_cell (MetAtEnd false) refl refl refl refl refl refl refl refl refl refl refl refl refl refl refl refl
+unfolding in_box some_neighbour in_span in_halo local_run local_step with_halo step partner turned job_start job_demand
+    signal_at held_at event_at
+all_met true = cell_by_cell (MetAtEnd true) refl refl refl refl refl refl refl refl refl refl refl refl refl refl refl
+    refl
+all_met false = cell_by_cell (MetAtEnd false) refl refl refl refl refl refl refl refl refl refl refl refl refl refl refl
+    refl
 
 -- ---- no fault
 
@@ -188,7 +208,8 @@ not_both false b h e = absurd (false≢true h)
 
 edge_met : (u : Valuation) (x y : ℤ) → in_ring area x y ≡ true → local_run job u 1 x y ≡ false
 unfolding ring_test
-edge_met u x y h = same_run u 1 x y ∙ not_both (in_ring area x y) (local_run job (all (u 0)) 1 x y) h (ring_dead (u 0) x y (ring_inside x y h))
+edge_met u x y h = same_run u 1 x y
+    ∙ not_both (in_ring area x y) (local_run job (all (u 0)) 1 x y) h (ring_dead (u 0) x y (ring_inside x y h))
 
 only_time : (t : ℕ) → t % 2 ≡ 1 → t < 2 → t ≡ 1
 only_time t odd early = omega arith
@@ -199,7 +220,8 @@ meets_below u Demanded.Live live h m = m
 meets_below u (Demanded.Wire w) live h m = let first : 0 ≡ w = omega (arith, h) in m ∙ ap u first
 meets_below u Demanded.Any live h m = m
 
-meets_all : (u : Valuation) (x y : ℤ) (live : Bool) → Meets (all (u 0)) (job_demand job x y) live → Meets u (job_demand job x y) live
+meets_all : (u : Valuation) (x y : ℤ) (live : Bool) → Meets (all (u 0)) (job_demand job x y) live →
+    Meets u (job_demand job x y) live
 unfolding wires_after
 meets_all u x y live m = meets_below u (job_demand job x y) live (demand_below job x y own_wires) m
 
@@ -287,7 +309,10 @@ one_port (suc (suc i)) q e = absurd (none_some q e)
 
 one_ports : HasPorts (setting_of lines layout) one
 unfolding place_of number
-one_ports = record { local = λ i q e h. ap (λ n. is_local (circuit_of lines) (known (circuit_of lines) one) n) (one_port i q e) }
+one_ports =
+    record {
+      local = λ i q e h. ap (λ n. is_local (circuit_of lines) (known (circuit_of lines) one) n) (one_port i q e);
+    }
 
 one_tile : Tile (whole layout.size) (areas (one ∷ []))
 one_tile = record {
@@ -306,19 +331,29 @@ are_modules = record {
 
 no_gate_local : AreLocalsOf (netlist_of lines) job.locals
 unfolding AreOrdered wires_after
-no_gate_local = record { used = λ k g e. absurd (no_gate k g e); rising = λ k m lt l. absurd (omega arith); ordered = tt; sized = refl }
+no_gate_local =
+    record {
+      used = λ k g e. absurd (no_gate k g e);
+      rising = λ k m lt l. absurd (omega arith);
+      ordered = tt;
+      sized = refl;
+    }
   where
     no_gate : (k : ℕ) (g : Gate) → slice_get [] k ≡ Some g → ⊥
     no_gate k g e = cc
 
-job_starts : (x y : ℤ) → in_box area x y ≡ true → renumber_signal (circuit_wire job.locals) (job_start job x y) ≡ start_signal (circuit_of lines) layout x y
+job_starts : (x y : ℤ) → in_box area x y ≡ true →
+    renumber_signal (circuit_wire job.locals) (job_start job x y) ≡ start_signal (circuit_of lines) layout x y
 unfolding job_start start_signal port_at place_of number in_box in_span
-job_starts = cell_by_cell (λ x y. renumber_signal (circuit_wire job.locals) (job_start job x y) ≡ start_signal (circuit_of lines) layout x y)
+job_starts = cell_by_cell (λ x y.
+    renumber_signal (circuit_wire job.locals) (job_start job x y) ≡ start_signal (circuit_of lines) layout x y)
     refl refl refl refl refl refl refl refl refl refl refl refl refl refl refl refl
 
-job_demands : (x y : ℤ) → in_box area x y ≡ true → renumber_demand (circuit_wire job.locals) (job_demand job x y) ≡ end_demand (circuit_of lines) layout x y
+job_demands : (x y : ℤ) → in_box area x y ≡ true →
+    renumber_demand (circuit_wire job.locals) (job_demand job x y) ≡ end_demand (circuit_of lines) layout x y
 unfolding job_demand end_demand port_at place_of number in_box in_span
-job_demands = cell_by_cell (λ x y. renumber_demand (circuit_wire job.locals) (job_demand job x y) ≡ end_demand (circuit_of lines) layout x y)
+job_demands = cell_by_cell (λ x y.
+    renumber_demand (circuit_wire job.locals) (job_demand job x y) ≡ end_demand (circuit_of lines) layout x y)
     refl refl refl refl refl refl refl refl refl refl refl refl refl refl refl refl
 
 is_job : IsJobOf (circuit_of lines) layout one job
@@ -351,7 +386,8 @@ is_bundle = record {
   are_modules = are_modules;
   are_jobs = record {
     count = refl;
-    each = λ k m j e f. subst (λ m. IsJobOf (circuit_of lines) layout m j) (only_module k m e) (subst (IsJobOf (circuit_of lines) layout one) (only_job k j f) is_job);
+    each = λ k m j e f. subst (λ m. IsJobOf (circuit_of lines) layout m j) (only_module k m e)
+        (subst (IsJobOf (circuit_of lines) layout one) (only_job k j f) is_job);
   };
 }
 
@@ -381,7 +417,9 @@ example = record {
       no_fault = λ number j f e. subst (λ j. ¬ IsFault j f) (only_job number j e) (no_fault f);
       no_border_fault = no_border;
       on_time = times_kept;
-      no_keep_fault = λ number j f e is. absurd (true≢false (sym (subst (λ (j : JobState). is_among j.kept f.gate ≡ true) (sym (only_job number j e)) is.is_kept)));
+      no_keep_fault = λ number j f e is.
+          absurd (true≢false (sym (subst (λ (j : JobState). is_among j.kept f.gate ≡ true)
+          (sym (only_job number j e)) is.is_kept)));
       kept = λ number gate e inverse. absurd (no_gate_at number gate e);
     };
   };

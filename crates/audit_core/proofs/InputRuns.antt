@@ -1,5 +1,7 @@
 -- The run by the values of the inputs
-use Rattle.std.proofs.Common.{◌≡◌, ℕ, zero, suc, ◌+◌, ◌<◌, ◌&&◌, ◌||◌, Bool, true, false, cond, not, List, [], ◌∷◌, ◌++◌, map, take, length, Option, Some, None, refl, sym, ap, ap₂, subst, ◌∙◌, arith, inl, inr}
+use Rattle.std.proofs.Common.{◌≡◌, ℕ, zero, suc, ◌+◌, ◌<◌, ◌&&◌, ◌||◌, Bool, true, false, cond, not, List, [], ◌∷◌}
+use Rattle.std.proofs.Common.{◌++◌, map, take, length, Option, Some, None, refl, sym, ap, ap₂, subst, ◌∙◌, arith, inl}
+use Rattle.std.proofs.Common.{inr}
 use Rattle.std.specs.Prelude.{ℤ, slice_get, option_map}
 use Rattle.std.specs.List.{All}
 use Rattle.std.specs.Str.{bytes_eq}
@@ -38,7 +40,8 @@ later_place : (b : Bool) (k p : ℕ) → cond b (Some k) None ≡ Some p → con
 later_place true k p is = ap (option_map (λ i. i + 1)) is
 later_place false k p is = absurd cc
 
-next_place : (name m : List ℕ) (names : List (List ℕ)) (p : ℕ) → bytes_eq name m ≡ false → place_of name names ≡ Some p → place_of name (m ∷ names) ≡ Some (p + 1)
+next_place : (name m : List ℕ) (names : List (List ℕ)) (p : ℕ) → bytes_eq name m ≡ false →
+    place_of name names ≡ Some p → place_of name (m ∷ names) ≡ Some (p + 1)
 unfolding place_of number
 next_place name m names p e is = rw e (later_place (has names name) (number names name) p is)
 
@@ -50,23 +53,32 @@ placed name (m ∷ names) (suc k) h = elim (cases_Bool (bytes_eq name m)) [
   | inr e ↦
       let later : IsPlaced name names k = placed name names k (sym (ap (λ b. b || has (take k names) name) e) ∙ h) in
       let early = later.early in
-      record { place = later.place + 1; is = next_place name m names later.place e later.is; early = omega (arith, early) }
+      record {
+        place = later.place + 1;
+        is = next_place name m names later.place e later.is;
+        early = omega (arith, early);
+      }
 ]
 
 no_code : (b : Bool) → code_where (not b) 3 ≡ None → b ≡ true
 no_code true e = refl
 no_code false e = absurd cc
 
-pub in_known : (ins outs : List (List ℕ)) (q : Port) → name_fault (Some (record { ins = ins; outs = outs })) (In q) ≡ None → has ins q.name ≡ true
+pub in_known : (ins outs : List (List ℕ)) (q : Port) →
+    name_fault (Some (record { ins = ins; outs = outs })) (In q) ≡ None → has ins q.name ≡ true
 unfolding name_fault
 in_known ins outs q e = no_code (has ins q.name) e
 
 -- an input cell among the lines of a layout
-pub in_stands : (p : Pattern) (i : ℕ) (q : Port) → slice_get p.ins i ≡ Some q → slice_get (parts_of p) (length (map Mirror p.mirrors) + (length (map Ball p.balls) + i)) ≡ Some (In q)
+pub in_stands : (p : Pattern) (i : ℕ) (q : Port) → slice_get p.ins i ≡ Some q →
+    slice_get (parts_of p) (length (map Mirror p.mirrors) + (length (map Ball p.balls) + i)) ≡ Some (In q)
 in_stands p i q e =
-    skipped (map Mirror p.mirrors) (map Ball p.balls ++ (map In p.ins ++ (map Out p.outs ++ map Waste p.wastes))) (length (map Mirror p.mirrors)) (length (map Ball p.balls) + i) refl
-    ∙ skipped (map Ball p.balls) (map In p.ins ++ (map Out p.outs ++ map Waste p.wastes)) (length (map Ball p.balls)) i refl
-    ∙ kept (map In p.ins) (map Out p.outs ++ map Waste p.wastes) i (In q) (slice_get-map In p.ins i ∙ ap (option_map In) e)
+    skipped (map Mirror p.mirrors) (map Ball p.balls ++ (map In p.ins ++ (map Out p.outs ++ map Waste p.wastes)))
+    (length (map Mirror p.mirrors)) (length (map Ball p.balls) + i) refl
+    ∙ skipped (map Ball p.balls) (map In p.ins ++ (map Out p.outs ++ map Waste p.wastes))
+    (length (map Ball p.balls)) i refl
+    ∙ kept (map In p.ins) (map Out p.outs ++ map Waste p.wastes) i (In q)
+    (slice_get-map In p.ins i ∙ ap (option_map In) e)
 
 pub at_place : {A : Type 0} (P : A → Type 0) (xs : List A) (k : ℕ) (a : A) → All P xs → slice_get xs k ≡ Some a → P a
 at_place P xs k a all e = subst P (get_or_from_slice_get xs k a a e) (all k a (slice_get_within xs k a e))
@@ -74,8 +86,11 @@ at_place P xs k a all e = subst P (get_or_from_slice_get xs k a a e) (all k a (s
 pub read_layout-names : ReadLayoutHasInputNames
 read_layout-names lines p first named i q e =
     let names : Named = record { ins = input_names lines; outs = output_names lines } in
-    let known = in_known (input_names lines) (output_names lines) q (at_place (λ (part : Part). name_fault (Some names) part ≡ None) (parts_of p) _ (In q) named.good (in_stands p i q e)) in
-    let is : IsPlaced q.name (defined lines) (netlist_of lines).given = placed q.name (defined lines) _ (ap (λ (ns : List (List ℕ)). has ns q.name) first ∙ known) in
+    let known = in_known (input_names lines) (output_names lines) q
+    (at_place (λ (part : Part). name_fault (Some names) part ≡ None) (parts_of p) _ (In q) named.good
+    (in_stands p i q e)) in
+    let is : IsPlaced q.name (defined lines) (netlist_of lines).given =
+    placed q.name (defined lines) _ (ap (λ (ns : List (List ℕ)). has ns q.name) first ∙ known) in
     record { wire = is.place; named = is.is; is_given = is.early }
 
 -- ---- the run by the inputs alone
@@ -83,7 +98,8 @@ read_layout-names lines p first named i q e =
 same_value : (o : Option ℕ) (w : ℕ) (u v : Valuation) → o ≡ Some w → v w ≡ u w → wire_value o v ≡ wire_value o u
 same_value o w u v e h = ap (λ (o : Option ℕ). wire_value o v) e ∙ h ∙ sym (ap (λ (o : Option ℕ). wire_value o u) e)
 
-same_ports : (f g : List ℕ → Bool) (ports : List Port) (x y : ℤ) → ((i : ℕ) (q : Port) → slice_get ports i ≡ Some q → f q.name ≡ g q.name) →
+same_ports : (f g : List ℕ → Bool) (ports : List Port) (x y : ℤ) →
+    ((i : ℕ) (q : Port) → slice_get ports i ≡ Some q → f q.name ≡ g q.name) →
     in_ports_on f ports x y ≡ in_ports_on g ports x y
 same_ports f g [] x y same = refl
 same_ports f g (q ∷ ports) x y same =
@@ -93,7 +109,8 @@ pub inputs_decide : InputsDecideTheRun
 unfolding run start
 inputs_decide lines p inputs v zero x y named s =
     ap (λ b. in_rectangles p.mirrors x y || in_cells p.balls x y || b)
-    (same_ports _ _ p.ins x y (λ i q e. let is : IsInputName lines q.name = named i q e in same_value (wire_of (circuit_of lines) q.name) is.wire inputs v is.named (s.given is.wire is.is_given)))
+    (same_ports _ _ p.ins x y (λ i q e. let is : IsInputName lines q.name = named i q e in
+    same_value (wire_of (circuit_of lines) q.name) is.wire inputs v is.named (s.given is.wire is.is_given)))
 inputs_decide lines p inputs v (suc t) x y named s =
     step_same t _ _ x y (inputs_decide lines p inputs v t _ _ named s) (inputs_decide lines p inputs v t _ _ named s)
     (inputs_decide lines p inputs v t _ _ named s) (inputs_decide lines p inputs v t _ _ named s)

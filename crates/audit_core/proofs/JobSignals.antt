@@ -1,5 +1,6 @@
 -- The jobs of modules: which one has a cell, and what their signals say by the wires of the circuit
-use Rattle.std.proofs.Common.{◌≡◌, ℕ, ◌==◌, ◌++◌, ◌&&◌, Bool, true, false, List, [], ◌∷◌, Option, Some, None, refl, sym, ap, subst, ◌∙◌, arith, inl, inr}
+use Rattle.std.proofs.Common.{◌≡◌, ℕ, ◌==◌, ◌++◌, ◌&&◌, Bool, true, false, List, [], ◌∷◌, Option, Some, None, refl, sym}
+use Rattle.std.proofs.Common.{ap, subst, ◌∙◌, arith, inl, inr}
 use Rattle.std.specs.Prelude.{ℤ, slice_get, unwrap_or}
 use Rattle.std.specs.List.{All, flat_map}
 use Rattle.std.proofs.lemmas.Bool.{cases_Bool, cond-false, true≢false}
@@ -38,18 +39,21 @@ use Rattle.audit_core.specs.HeadlineLaws.{BelongTogether}
 
 -- ---- signals by the wires of the circuit
 
-live_seen : (l : LocalNet) (v : Valuation) (s : Signal) → is_live (seen_by l v) s ≡ is_live v (renumber_signal (circuit_wire l) s)
+live_seen : (l : LocalNet) (v : Valuation) (s : Signal) →
+    is_live (seen_by l v) s ≡ is_live v (renumber_signal (circuit_wire l) s)
 live_seen l v Zero = refl
 live_seen l v One = refl
 live_seen l v (Wire w) = refl
 
-pub meets_seen : (l : LocalNet) (v : Valuation) (d : Demand) (live : Bool) → Meets (seen_by l v) d live → Meets v (renumber_demand (circuit_wire l) d) live
+pub meets_seen : (l : LocalNet) (v : Valuation) (d : Demand) (live : Bool) → Meets (seen_by l v) d live →
+    Meets v (renumber_demand (circuit_wire l) d) live
 meets_seen l v Demanded.Dead live h = h
 meets_seen l v Demanded.Live live h = h
 meets_seen l v (Demanded.Wire w) live h = h
 meets_seen l v Demanded.Any live h = h
 
-pub live_renumbered : (l : LocalNet) (v : Valuation) (s r : Signal) → renumber_signal (circuit_wire l) s ≡ r → is_live (seen_by l v) s ≡ is_live v r
+pub live_renumbered : (l : LocalNet) (v : Valuation) (s r : Signal) → renumber_signal (circuit_wire l) s ≡ r →
+    is_live (seen_by l v) s ≡ is_live v r
 live_renumbered l v s r e = live_seen l v s ∙ ap (is_live v) e
 
 -- ---- the job of a module
@@ -61,29 +65,34 @@ pub record Known (lines : List Entry) (p : Pattern) (ms : List ModuleLines) (i :
   pub is_job : IsJobOf (circuit_of lines) p of j
   pub good : IsModule (setting_of lines p) of
 
-pub known_job : (lines : List Entry) (p : Pattern) (ms : List ModuleLines) (jobs : List JobState) (i : ℕ) (j : JobState) →
+pub known_job : (lines : List Entry) (p : Pattern) (ms : List ModuleLines) (jobs : List JobState) (i : ℕ)
+    (j : JobState) →
     BelongTogether lines p ms jobs → slice_get jobs i ≡ Some j → Known lines p ms i j
 known_job lines p ms jobs i j b e =
     let m = there ms i (let lt = slice_get_within jobs i j e in let n = b.are_jobs.count in omega (arith, lt, n)) in
     record { of = m.0; numbered = m.1; is_job = b.are_jobs.each i m.0 j m.1 e; good = b.are_modules.each i m.0 m.1 }
 
-pub job_even : (lines : List Entry) (p : Pattern) (ms : List ModuleLines) (i : ℕ) (j : JobState) → Known lines p ms i j → IsEven j.area
+pub job_even : (lines : List Entry) (p : Pattern) (ms : List ModuleLines) (i : ℕ) (j : JobState) →
+    Known lines p ms i j → IsEven j.area
 job_even lines p ms i j k = subst IsEven (sym k.is_job.area) k.good.even
 
 -- which job has a cell of the rectangle
-pub record Owner (lines : List Entry) (p : Pattern) (ms : List ModuleLines) (jobs : List JobState) (x y : ℤ) : Type 0 where
+pub record Owner (lines : List Entry) (p : Pattern) (ms : List ModuleLines) (jobs : List JobState)
+    (x y : ℤ) : Type 0 where
   pub number : ℕ
   pub job : JobState
   pub numbered : slice_get jobs number ≡ Some job
   pub known : Known lines p ms number job
   pub owned : in_box job.area x y ≡ true
 
-pub owner_of : (lines : List Entry) (p : Pattern) (ms : List ModuleLines) (jobs : List JobState) (x y : ℤ) → BelongTogether lines p ms jobs →
+pub owner_of : (lines : List Entry) (p : Pattern) (ms : List ModuleLines) (jobs : List JobState) (x y : ℤ) →
+    BelongTogether lines p ms jobs →
     in_box (whole p.size) x y ≡ true → Owner lines p ms jobs x y
 owner_of lines p ms jobs x y b h =
     let c = b.are_modules.tile.covered x y h in
     let m = value_of (λ (m : ModuleLines). m.area) ms c.0 c.1 c.2 in
-    let j = there jobs c.0 (let lt = slice_get_within ms c.0 m.0 m.1 in let n = b.are_jobs.count in omega (arith, lt, n)) in
+    let j = there jobs c.0 (let lt = slice_get_within ms c.0 m.0 m.1 in let n = b.are_jobs.count in
+    omega (arith, lt, n)) in
     let k = known_job lines p ms jobs c.0 j.0 b j.1 in
     record {
       number = c.0;
@@ -99,13 +108,15 @@ and-false : (a : Bool) → (a && false) ≡ false
 and-false true = refl
 and-false false = refl
 
-one_held : (e : Border) (time : Option ℕ) (s : Signal) (rest : List Held) (x y : ℤ) → is_at e.cell x y ≡ false → held_at rest x y ≡ None →
+one_held : (e : Border) (time : Option ℕ) (s : Signal) (rest : List Held) (x y : ℤ) → is_at e.cell x y ≡ false →
+    held_at rest x y ≡ None →
     held_at (held_by e time s ++ rest) x y ≡ None
 unfolding held_at
 one_held e None s rest x y h r = cond-false _ _ _ h ∙ r
 one_held e (Some t) s rest x y h r = r
 
-one_event : (e : Border) (time : Option ℕ) (s : Signal) (rest : List Event) (t : ℕ) (x y : ℤ) → is_at e.cell x y ≡ false → event_at rest t x y ≡ None →
+one_event : (e : Border) (time : Option ℕ) (s : Signal) (rest : List Event) (t : ℕ) (x y : ℤ) →
+    is_at e.cell x y ≡ false → event_at rest t x y ≡ None →
     event_at (event_by e time s ++ rest) t x y ≡ None
 unfolding event_at
 one_event e None s rest t x y h r = r
@@ -114,22 +125,28 @@ one_event e (Some u) s rest t x y h r = cond-false _ _ _ (ap (λ b. (u == t) && 
 abbrev NamesNot : ℤ → ℤ → Border → Type 0
 NamesNot x y e = is_at e.cell x y ≡ false
 
-no_held : (c : Circuit) (es : List Border) (x y : ℤ) → All (NamesNot x y) es → held_at (flat_map (λ e. held_by e e.time (line_signal c e.signal)) es) x y ≡ None
+no_held : (c : Circuit) (es : List Border) (x y : ℤ) → All (NamesNot x y) es →
+    held_at (flat_map (λ e. held_by e e.time (line_signal c e.signal)) es) x y ≡ None
 unfolding held_at
 no_held c [] x y all = refl
 no_held c (e ∷ es) x y all =
-    one_held e e.time (line_signal c e.signal) _ x y (All-head (NamesNot x y) e es all) (no_held c es x y (All-tail (NamesNot x y) e es all))
+    one_held e e.time (line_signal c e.signal) _ x y (All-head (NamesNot x y) e es all)
+    (no_held c es x y (All-tail (NamesNot x y) e es all))
 
-no_event : (c : Circuit) (es : List Border) (t : ℕ) (x y : ℤ) → All (NamesNot x y) es → event_at (flat_map (λ e. event_by e e.time (line_signal c e.signal)) es) t x y ≡ None
+no_event : (c : Circuit) (es : List Border) (t : ℕ) (x y : ℤ) → All (NamesNot x y) es →
+    event_at (flat_map (λ e. event_by e e.time (line_signal c e.signal)) es) t x y ≡ None
 unfolding event_at
 no_event c [] t x y all = refl
 no_event c (e ∷ es) t x y all =
-    one_event e e.time (line_signal c e.signal) _ t x y (All-head (NamesNot x y) e es all) (no_event c es t x y (All-tail (NamesNot x y) e es all))
+    one_event e e.time (line_signal c e.signal) _ t x y (All-head (NamesNot x y) e es all)
+    (no_event c es t x y (All-tail (NamesNot x y) e es all))
 
-pub no_signal : (c : Circuit) (es : List Border) (t : ℕ) (x y : ℤ) → All (NamesNot x y) es → signal_at (line_signals c es) t x y ≡ Zero
+pub no_signal : (c : Circuit) (es : List Border) (t : ℕ) (x y : ℤ) → All (NamesNot x y) es →
+    signal_at (line_signals c es) t x y ≡ Zero
 unfolding signal_at
 no_signal c es t x y all =
-    ap (λ (o : Option Signal). unwrap_or o (unwrap_or (event_at (line_signals c es).events t x y) Zero)) (no_held c es x y all)
+    ap (λ (o : Option Signal). unwrap_or o (unwrap_or (event_at (line_signals c es).events t x y) Zero))
+    (no_held c es x y all)
     ∙ ap (λ (o : Option Signal). unwrap_or o Zero) (no_event c es t x y all)
 
 pub other_cell : (c : Cell) (x y : ℤ) → (c ≡ record { x = x; y = y } → ⊥) → is_at c x y ≡ false
@@ -139,25 +156,38 @@ other_cell c x y f = elim (cases_Bool (is_at c x y)) [
 ]
 
 -- no edge is on the rim of the rectangle
-pub rim_edge_dead : (lines : List Entry) (p : Pattern) (ms : List ModuleLines) (i : ℕ) (j : JobState) (v : Valuation) (t : ℕ) (x y : ℤ) →
-    Known lines p ms i j → in_ring (whole p.size) x y ≡ true → is_live (seen_by j.locals v) (signal_at j.edges t x y) ≡ false
+pub rim_edge_dead : (lines : List Entry) (p : Pattern) (ms : List ModuleLines) (i : ℕ) (j : JobState) (v : Valuation)
+    (t : ℕ) (x y : ℤ) →
+    Known lines p ms i j → in_ring (whole p.size) x y ≡ true →
+    is_live (seen_by j.locals v) (signal_at j.edges t x y) ≡ false
 rim_edge_dead lines p ms i j v t x y k rim =
     live_renumbered j.locals v (signal_at j.edges t x y) Zero
     (edge_same lines p k.of j t x y k.is_job
-    ∙ no_signal (circuit_of lines) (edges k.of) t x y (λ n d lt. other_cell _ x y (λ same. true≢false (sym rim ∙ ap (λ (c : Cell). in_ring (whole p.size) c.x c.y) (sym same) ∙ (k.good.edge_lines n d lt).rim))))
+    ∙ no_signal (circuit_of lines) (edges k.of) t x y
+    (λ n d lt. other_cell _ x y (λ same.
+    true≢false (sym rim ∙ ap (λ (c : Cell). in_ring (whole p.size) c.x c.y) (sym same)
+    ∙ (k.good.edge_lines n d lt).rim))))
 
 -- no halo line is outside the rectangle
-pub outer_halo_dead : (lines : List Entry) (p : Pattern) (ms : List ModuleLines) (i : ℕ) (j : JobState) (v : Valuation) (t : ℕ) (x y : ℤ) →
-    Known lines p ms i j → in_box (whole p.size) x y ≡ false → is_live (seen_by j.locals v) (signal_at j.halos t x y) ≡ false
+pub outer_halo_dead : (lines : List Entry) (p : Pattern) (ms : List ModuleLines) (i : ℕ) (j : JobState) (v : Valuation)
+    (t : ℕ) (x y : ℤ) →
+    Known lines p ms i j → in_box (whole p.size) x y ≡ false →
+    is_live (seen_by j.locals v) (signal_at j.halos t x y) ≡ false
 outer_halo_dead lines p ms i j v t x y k out =
     live_renumbered j.locals v (signal_at j.halos t x y) Zero
     (halo_same lines p k.of j t x y k.is_job
-    ∙ no_signal (circuit_of lines) (halos k.of) t x y (λ n d lt. other_cell _ x y (λ same. true≢false (sym (k.good.halo_lines n d lt).inside ∙ ap (λ (c : Cell). in_box (whole p.size) c.x c.y) same ∙ out))))
+    ∙ no_signal (circuit_of lines) (halos k.of) t x y
+    (λ n d lt. other_cell _ x y (λ same.
+    true≢false (sym (k.good.halo_lines n d lt).inside ∙ ap (λ (c : Cell). in_box (whole p.size) c.x c.y) same ∙ out))))
 
-pub edge_by_circuit : (lines : List Entry) (p : Pattern) (ms : List ModuleLines) (i : ℕ) (j : JobState) (v : Valuation) (t : ℕ) (x y : ℤ) → (k : Known lines p ms i j) →
+pub edge_by_circuit : (lines : List Entry) (p : Pattern) (ms : List ModuleLines) (i : ℕ) (j : JobState) (v : Valuation)
+    (t : ℕ) (x y : ℤ) → (k : Known lines p ms i j) →
     is_live (seen_by j.locals v) (signal_at j.edges t x y) ≡ is_live v (edge_signal (circuit_of lines) k.of t x y)
-edge_by_circuit lines p ms i j v t x y k = live_renumbered j.locals v (signal_at j.edges t x y) _ (edge_same lines p k.of j t x y k.is_job)
+edge_by_circuit lines p ms i j v t x y k =
+    live_renumbered j.locals v (signal_at j.edges t x y) _ (edge_same lines p k.of j t x y k.is_job)
 
-pub halo_by_circuit : (lines : List Entry) (p : Pattern) (ms : List ModuleLines) (i : ℕ) (j : JobState) (v : Valuation) (t : ℕ) (x y : ℤ) → (k : Known lines p ms i j) →
+pub halo_by_circuit : (lines : List Entry) (p : Pattern) (ms : List ModuleLines) (i : ℕ) (j : JobState) (v : Valuation)
+    (t : ℕ) (x y : ℤ) → (k : Known lines p ms i j) →
     is_live (seen_by j.locals v) (signal_at j.halos t x y) ≡ is_live v (halo_signal (circuit_of lines) k.of t x y)
-halo_by_circuit lines p ms i j v t x y k = live_renumbered j.locals v (signal_at j.halos t x y) _ (halo_same lines p k.of j t x y k.is_job)
+halo_by_circuit lines p ms i j v t x y k =
+    live_renumbered j.locals v (signal_at j.halos t x y) _ (halo_same lines p k.of j t x y k.is_job)

@@ -1,5 +1,6 @@
 -- No gate of what is accepted is undefined
-use Rattle.std.proofs.Common.{◌≡◌, ℕ, suc, ◌<◌, eqb, true, List, [], ◌∷◌, map, length, Some, refl, sym, ap, ◌∙◌, arith, inl, inr}
+use Rattle.std.proofs.Common.{◌≡◌, ℕ, suc, ◌<◌, eqb, true, List, [], ◌∷◌, map, length, Some, refl, sym, ap, ◌∙◌, arith}
+use Rattle.std.proofs.Common.{inl, inr}
 use Rattle.std.specs.Prelude.{slice_get}
 use Rattle.std.specs.List.{All}
 use Rattle.std.proofs.lemmas.Bool.{cases_Bool, eq-eqb, eqb-true, true≢false}
@@ -49,31 +50,48 @@ listed_later p q places e = elim (cases_Bool (eqb p q)) [
   | inr other ↦ rw other e
 ]
 
-pub place_of : (f : ℕ → ℕ) (places : List ℕ) (count n : ℕ) → All (λ k. k < count) places → is_among (map f places) n ≡ true → PlaceOf f places count n
+pub place_of : (f : ℕ → ℕ) (places : List ℕ) (count n : ℕ) → All (λ k. k < count) places →
+    is_among (map f places) n ≡ true → PlaceOf f places count n
 place_of f [] count n all e = absurd (true≢false (sym e))
 place_of f (p ∷ places) count n all e = elim (cases_Bool (eqb (f p) n)) [
-  | inl here ↦ record { place = p; listed = listed_first p places; below = All-head (λ k. k < count) p places all; same = eqb-true (f p) n here }
+  | inl here ↦ record {
+    place = p;
+    listed = listed_first p places;
+    below = All-head (λ k. k < count) p places all;
+    same = eqb-true (f p) n here;
+  }
   | inr other ↦
-      let rest : PlaceOf f places count n = place_of f places count n (All-tail (λ k. k < count) p places all) (rw other at e) in
-      record { place = rest.place; listed = listed_later p rest.place places rest.listed; below = rest.below; same = rest.same }
+      let rest : PlaceOf f places count n =
+      place_of f places count n (All-tail (λ k. k < count) p places all) (rw other at e) in
+      record {
+        place = rest.place;
+        listed = listed_later p rest.place places rest.listed;
+        below = rest.below;
+        same = rest.same;
+      }
 ]
 
 pub none_is_undefined : NoneIsUndefined
 none_is_undefined lines p ms jobs inputs k all u =
     let b : BelongTogether lines p ms jobs = all.bundle in
-    let kept : is_kept ms k ≡ true = all.accepted.kept k u.gate u.numbered (only_inverse (netlist_of lines) inputs k b.ordered u) in
+    let kept : is_kept ms k ≡ true =
+    all.accepted.kept k u.gate u.numbered (only_inverse (netlist_of lines) inputs k b.ordered u) in
     let by : Keeper ms k = keeper ms k kept in
-    let j = there jobs by.number (let lt = slice_get_within ms by.number by.lines by.numbered in let n = b.are_jobs.count in omega (arith, lt, n)) in
+    let j = there jobs by.number (let lt = slice_get_within ms by.number by.lines by.numbered in let n =
+    b.are_jobs.count in omega (arith, lt, n)) in
     let job : JobState = j.0 in
     let is_job : IsJobOf (circuit_of lines) p by.lines job = b.are_jobs.each by.number by.lines job by.numbered j.1 in
     let at : PlaceOf (circuit_gate job.locals) job.kept (length job.locals.netlist.gates) k =
-    place_of (circuit_gate job.locals) job.kept (length job.locals.netlist.gates) k is_job.kept_are_used (ap (λ (l : List ℕ). is_among l k) is_job.kept ∙ by.keeps_it) in
+    place_of (circuit_gate job.locals) job.kept (length job.locals.netlist.gates) k is_job.kept_are_used
+    (ap (λ (l : List ℕ). is_among l k) is_job.kept ∙ by.keeps_it) in
     let a = choices_are_assignments job.locals.netlist.given (seen_by job.locals u.values) in
     all.accepted.no_keep_fault by.number job (record { gate = at.place; assignment = a.0 }) j.1 (record {
       in_range = a.1;
       is_kept = at.listed;
-      shown = ∣ undefined_is_seen (netlist_of lines) job.locals inputs k at.place a.0 is_job.locals u at.below at.same a.2 ∣₁;
+      shown = ∣ undefined_is_seen (netlist_of lines) job.locals inputs k at.place a.0 is_job.locals u at.below at.same
+          a.2 ∣₁;
     })
 
 pub accepted_has_valuation : AcceptedHasValuation
-accepted_has_valuation lines p ms jobs inputs all = has_valuation (netlist_of lines) inputs all.bundle.ordered (λ k. none_is_undefined lines p ms jobs inputs k all)
+accepted_has_valuation lines p ms jobs inputs all =
+    has_valuation (netlist_of lines) inputs all.bundle.ordered (λ k. none_is_undefined lines p ms jobs inputs k all)

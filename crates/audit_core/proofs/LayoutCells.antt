@@ -1,5 +1,6 @@
--- What a layout says of cells: the ports that stand there, the start, and what the end is to be
-use Rattle.std.proofs.Common.{◌≡◌, ℕ, zero, suc, Bool, true, false, not, ◌&&◌, ◌||◌, List, [], ◌∷◌, ◌++◌, map, Option, Some, None, refl, sym, ap, subst, ◌∙◌, append_assoc, append-nil}
+-- The cells of a layout: their ports, the start, and the demand at the end
+use Rattle.std.proofs.Common.{◌≡◌, ℕ, zero, suc, Bool, true, false, not, ◌&&◌, ◌||◌, List, [], ◌∷◌, ◌++◌, map, Option}
+use Rattle.std.proofs.Common.{Some, None, refl, sym, ap, subst, ◌∙◌, append_assoc, append-nil}
 use Rattle.std.specs.Prelude.{ℤ, slice_get, option_map, if◌then◌else◌}
 use Rattle.std.proofs.lemmas.Bool.{false≢true, true≢false, and_parts, and_from}
 use Rattle.std.proofs.lemmas.Option.{same_Some, slice_get-map}
@@ -7,8 +8,10 @@ use Rattle.bbm_rule.specs.Plane.{is_at}
 use Rattle.bbm_rule.specs.declared.block.Cell.{Cell}
 use Rattle.section_text.specs.Codes.{code_where}
 use Rattle.circuit.specs.Meaning.{Circuit, Valuation, wire_of, wire_value, values_by_name}
-use Rattle.pattern.specs.Layout.{Pattern, HaveOwnCells, in_cells, in_layout, in_rectangle, in_rectangles, in_ports_on, start, parts_of}
-use Rattle.pattern.specs.Lines.{AreGoodAfter, begins, cell_fault, cells_of, ended, ends, holds, is_inside, is_taken, size_fault}
+use Rattle.pattern.specs.Layout.{Pattern, HaveOwnCells, in_cells, in_layout, in_rectangle, in_rectangles, in_ports_on}
+use Rattle.pattern.specs.Layout.{start, parts_of}
+use Rattle.pattern.specs.Lines.{AreGoodAfter, begins, cell_fault, cells_of, ended, ends, holds, is_inside, is_taken}
+use Rattle.pattern.specs.Lines.{size_fault}
 use Rattle.pattern.specs.declared.parts.Part.{Part}
 use Rattle.pattern.specs.declared.parts.Part.TheVariants.{Mirror, Ball, In, Out, Waste}
 use Rattle.pattern.specs.declared.parts.Port.{Port}
@@ -44,20 +47,23 @@ only_port : (ports : List Port) (x y : ℤ) (name : List ℕ) → HaveOwnCells p
 only_port ports x y name own e i q at h =
     let s = port_stands ports x y name e in
     let same : i ≡ s.number = own i s.number q s.port at s.numbered (same_cells q.cell s.port.cell x y h s.stands) in
-    ap (λ (r : Port). r.name) (same_some (slice_get ports i) q s.port at (ap (slice_get ports) same ∙ s.numbered)) ∙ s.named
+    ap (λ (r : Port). r.name) (same_some (slice_get ports i) q s.port at (ap (slice_get ports) same ∙ s.numbered))
+    ∙ s.named
 
 -- the value of the port that is found
 abbrev is_on : (List ℕ → Bool) → Option (List ℕ) → Bool
 is_on on None = false
 is_on on (Some n) = on n
 
-on_by : (on : List ℕ → Bool) (ports : List Port) (x y : ℤ) (o : Option (List ℕ)) → HaveOwnCells ports → port_at ports x y ≡ o → in_ports_on on ports x y ≡ is_on on o
+on_by : (on : List ℕ → Bool) (ports : List Port) (x y : ℤ) (o : Option (List ℕ)) → HaveOwnCells ports →
+    port_at ports x y ≡ o → in_ports_on on ports x y ≡ is_on on o
 on_by on ports x y None own e =
     let test : Port → Bool = λ q. on q.name && is_at q.cell x y in
     same_truth _ _
     (λ h.
     let s = passed test ports h in
-    absurd (none_stands ports x y e s.place s.element s.stands (and_parts (on s.element.name) (is_at s.element.cell x y) s.passes).1))
+    absurd (none_stands ports x y e s.place s.element s.stands
+    (and_parts (on s.element.name) (is_at s.element.cell x y) s.passes).1))
     (λ h. absurd (false≢true h))
 on_by on ports x y (Some n) own e =
     let test : Port → Bool = λ q. on q.name && is_at q.cell x y in
@@ -68,14 +74,18 @@ on_by on ports x y (Some n) own e =
     ap on (sym (only_port ports x y n own e s.place s.element s.stands both.1)) ∙ both.0)
     (λ h.
     let s = port_stands ports x y n e in
-    any_at test ports s.number s.port s.numbered (and_from (on s.port.name) (is_at s.port.cell x y) (ap on s.named ∙ h) s.stands))
+    any_at test ports s.number s.port s.numbered
+    (and_from (on s.port.name) (is_at s.port.cell x y) (ap on s.named ∙ h) s.stands))
 
-port_is : (ports : List Port) (q : Port) (i : ℕ) (o : Option (List ℕ)) → HaveOwnCells ports → slice_get ports i ≡ Some q →
+port_is : (ports : List Port) (q : Port) (i : ℕ) (o : Option (List ℕ)) → HaveOwnCells ports →
+    slice_get ports i ≡ Some q →
     port_at ports q.cell.x q.cell.y ≡ o → o ≡ Some q.name
 port_is ports q i None own at e = absurd (none_stands ports q.cell.x q.cell.y e i q at (cell_itself q.cell))
-port_is ports q i (Some n) own at e = ap (λ (m : List ℕ). Some m) (sym (only_port ports q.cell.x q.cell.y n own e i q at (cell_itself q.cell)))
+port_is ports q i (Some n) own at e =
+    ap (λ (m : List ℕ). Some m) (sym (only_port ports q.cell.x q.cell.y n own e i q at (cell_itself q.cell)))
 
-no_port : (ports : List Port) (x y : ℤ) (o : Option (List ℕ)) → in_ports ports x y ≡ false → port_at ports x y ≡ o → o ≡ None
+no_port : (ports : List Port) (x y : ℤ) (o : Option (List ℕ)) → in_ports ports x y ≡ false → port_at ports x y ≡ o →
+    o ≡ None
 no_port ports x y None none e = refl
 no_port ports x y (Some n) none e =
     let s = port_stands ports x y n e in
@@ -100,37 +110,45 @@ pub live_start : (c : Circuit) (p : Pattern) (v : Valuation) (x y : ℤ) → Are
 unfolding start_signal start
 live_start c p v x y good =
     start_cases c v (in_rectangles p.mirrors x y) (in_cells p.balls x y) (port_at p.ins x y)
-    ∙ ap (λ b. in_rectangles p.mirrors x y || in_cells p.balls x y || b) (sym (on_by (values_by_name c v) p.ins x y _ (ins_apart p good) refl))
+    ∙ ap (λ b. in_rectangles p.mirrors x y || in_cells p.balls x y || b)
+    (sym (on_by (values_by_name c v) p.ins x y _ (ins_apart p good) refl))
 
 pub whole_inside : (s : Extent) (x y : ℤ) → in_box (whole s) x y ≡ in_layout s x y
 unfolding in_box
 whole_inside s x y = refl
 
 pub whole_even : (s : Extent) → size_fault s ≡ None → IsEven (whole s)
-whole_even s limits = let sized = is_sized s limits in record { x = refl; y = refl; w = sized.width.2; h = sized.height.2 }
+whole_even s limits = let sized = is_sized s limits in
+    record { x = refl; y = refl; w = sized.width.2; h = sized.height.2 }
 
 absent : (a b : Bool) → (a ≡ true → b ≡ true) → b ≡ false → a ≡ false
 absent true b f e = absurd (false≢true (sym e ∙ f refl))
 absent false b f e = refl
 
 -- nothing begins outside the rectangle
-pub start_outside : (p : Pattern) (on : List ℕ → Bool) (x y : ℤ) → AreGoodAfter p.size [] (parts_of p) → in_box (whole p.size) x y ≡ false → start p on x y ≡ false
-start_outside p on x y good out = absent _ _ (start_inside p on (begins_inside p good) x y) (sym (whole_inside p.size x y) ∙ out)
+pub start_outside : (p : Pattern) (on : List ℕ → Bool) (x y : ℤ) → AreGoodAfter p.size [] (parts_of p) →
+    in_box (whole p.size) x y ≡ false → start p on x y ≡ false
+start_outside p on x y good out =
+    absent _ _ (start_inside p on (begins_inside p good) x y) (sym (whole_inside p.size x y) ∙ out)
 
 mirror_starts : (p : Pattern) (x y : ℤ) → in_rectangles p.mirrors x y ≡ true → start p (λ n. false) x y ≡ true
 unfolding start
 mirror_starts p x y h = ap (λ b. b || in_cells p.balls x y || in_ports_on (λ n. false) p.ins x y) h
 
 -- mirrors are inside
-pub mirror_inside : (p : Pattern) (x y : ℤ) → AreGoodAfter p.size [] (parts_of p) → in_rectangles p.mirrors x y ≡ true → in_box (whole p.size) x y ≡ true
-mirror_inside p x y good h = whole_inside p.size x y ∙ start_inside p (λ n. false) (begins_inside p good) x y (mirror_starts p x y h)
+pub mirror_inside : (p : Pattern) (x y : ℤ) → AreGoodAfter p.size [] (parts_of p) → in_rectangles p.mirrors x y ≡ true →
+    in_box (whole p.size) x y ≡ true
+mirror_inside p x y good h = whole_inside p.size x y
+    ∙ start_inside p (λ n. false) (begins_inside p good) x y (mirror_starts p x y h)
 
 -- ---- output cells are inside, and no mirror has them
 
-good_behind : (s : Extent) (before front back : List Part) → AreGoodAfter s before (front ++ back) → AreGoodAfter s (before ++ front) back
+good_behind : (s : Extent) (before front back : List Part) → AreGoodAfter s before (front ++ back) →
+    AreGoodAfter s (before ++ front) back
 good_behind s before [] back good = subst (λ (l : List Part). AreGoodAfter s l back) (sym (append-nil before)) good
 good_behind s before (part ∷ front) back good =
-    subst (λ (l : List Part). AreGoodAfter s l back) (append_assoc before (part ∷ []) front) (good_behind s (before ++ part ∷ []) front back good.2)
+    subst (λ (l : List Part). AreGoodAfter s l back) (append_assoc before (part ∷ []) front)
+    (good_behind s (before ++ part ∷ []) front back good.2)
 
 record IsFree (s : Extent) (before : List Part) (q : Port) : Type 0 where
   inside : in_layout s q.cell.x q.cell.y ≡ true
@@ -151,24 +169,31 @@ or_left : (a b : Bool) → (a || b) ≡ false → a ≡ false
 or_left true b e = e
 or_left false b e = refl
 
-all_free : (s : Extent) (before : List Part) (ports : List Port) (rest : List Part) → AreGoodAfter s before (map Out ports ++ rest) →
+all_free : (s : Extent) (before : List Part) (ports : List Port) (rest : List Part) →
+    AreGoodAfter s before (map Out ports ++ rest) →
     (i : ℕ) (q : Port) → slice_get ports i ≡ Some q → IsFree s before q
 all_free s before [] rest good i q e = absurd cc
-all_free s before (p ∷ ports) rest good zero q e = subst (IsFree s before) (same_Some p q e) (free_here s before p good.1)
+all_free s before (p ∷ ports) rest good zero q e =
+    subst (IsFree s before) (same_Some p q e) (free_here s before p good.1)
 all_free s before (p ∷ ports) rest good (suc i) q e =
     let later = all_free s (before ++ Out p ∷ []) ports rest good.2 i q e in
-    record { inside = later.inside; free = or_left _ _ (sym (ended_push before (Out p) q.cell.x q.cell.y) ∙ later.free) }
+    record {
+      inside = later.inside;
+      free = or_left _ _ (sym (ended_push before (Out p) q.cell.x q.cell.y) ∙ later.free);
+    }
 
 before_outs : Pattern → List Part
 before_outs p = (map Mirror p.mirrors ++ map Ball p.balls) ++ map In p.ins
 
-output_free : (p : Pattern) → AreGoodAfter p.size [] (parts_of p) → (i : ℕ) (q : Port) → slice_get p.outs i ≡ Some q → IsFree p.size (before_outs p) q
+output_free : (p : Pattern) → AreGoodAfter p.size [] (parts_of p) → (i : ℕ) (q : Port) → slice_get p.outs i ≡ Some q →
+    IsFree p.size (before_outs p) q
 unfolding before_outs
 output_free p good i q e =
     let outs : List Part = map Out p.outs ++ map Waste p.wastes in
     let balls = good_behind p.size [] (map Mirror p.mirrors) (map Ball p.balls ++ (map In p.ins ++ outs)) good in
     let ins = good_behind p.size (map Mirror p.mirrors) (map Ball p.balls) (map In p.ins ++ outs) balls in
-    all_free p.size _ p.outs (map Waste p.wastes) (good_behind p.size (map Mirror p.mirrors ++ map Ball p.balls) (map In p.ins) outs ins) i q e
+    all_free p.size _ p.outs (map Waste p.wastes)
+    (good_behind p.size (map Mirror p.mirrors ++ map Ball p.balls) (map In p.ins) outs ins) i q e
 
 mirror_ends : (r : Rectangle) (x y : ℤ) → in_rectangle r x y ≡ true → (ends (Mirror r) && holds (Mirror r) x y) ≡ true
 unfolding ends cells_of
@@ -178,9 +203,11 @@ mirror_ended : (p : Pattern) (x y : ℤ) → in_rectangles p.mirrors x y ≡ tru
 unfolding before_outs ended
 mirror_ended p x y h =
     let s = passed (λ (r : Rectangle). in_rectangle r x y) p.mirrors h in
-    let at : slice_get (map Mirror p.mirrors) s.place ≡ Some (Mirror s.element) = slice_get-map Mirror p.mirrors s.place ∙ ap (option_map Mirror) s.stands in
+    let at : slice_get (map Mirror p.mirrors) s.place ≡ Some (Mirror s.element) =
+    slice_get-map Mirror p.mirrors s.place ∙ ap (option_map Mirror) s.stands in
     any_at (λ (b : Part). ends b && holds b x y) _ s.place (Mirror s.element)
-    (kept (map Mirror p.mirrors ++ map Ball p.balls) (map In p.ins) s.place (Mirror s.element) (kept (map Mirror p.mirrors) (map Ball p.balls) s.place (Mirror s.element) at))
+    (kept (map Mirror p.mirrors ++ map Ball p.balls) (map In p.ins) s.place (Mirror s.element)
+    (kept (map Mirror p.mirrors) (map Ball p.balls) s.place (Mirror s.element) at))
     (mirror_ends s.element x y s.passes)
 
 -- an output cell is inside, no mirror has it, and it is the output's own
@@ -189,7 +216,8 @@ pub record IsOutput (p : Pattern) (q : Port) : Type 0 where
   pub no_mirror : in_rectangles p.mirrors q.cell.x q.cell.y ≡ false
   pub port : port_at p.outs q.cell.x q.cell.y ≡ Some q.name
 
-pub is_output : (p : Pattern) → AreGoodAfter p.size [] (parts_of p) → (i : ℕ) (q : Port) → slice_get p.outs i ≡ Some q → IsOutput p q
+pub is_output : (p : Pattern) → AreGoodAfter p.size [] (parts_of p) → (i : ℕ) (q : Port) → slice_get p.outs i ≡ Some q →
+    IsOutput p q
 is_output p good i q e =
     let f = output_free p good i q e in
     record {
@@ -200,30 +228,36 @@ is_output p good i q e =
 
 -- ---- the end
 
-pub met_mirror : (c : Circuit) (p : Pattern) (v : Valuation) (x y : ℤ) (live : Bool) → in_rectangles p.mirrors x y ≡ true →
+pub met_mirror : (c : Circuit) (p : Pattern) (v : Valuation) (x y : ℤ) (live : Bool) →
+    in_rectangles p.mirrors x y ≡ true →
     Meets v (end_demand c p x y) live → live ≡ true
 unfolding end_demand
 met_mirror c p v x y live e h =
-    let P : Bool → Type 0 = λ b. Meets v (if b then Demanded.Live else demand_elsewhere c (port_at p.outs x y) (in_cells p.wastes x y)) live in
+    let P : Bool → Type 0 = λ b. Meets v
+    (if b then Demanded.Live else demand_elsewhere c (port_at p.outs x y) (in_cells p.wastes x y)) live in
     subst P e h
 
 by_wire : (v : Valuation) (o : Option ℕ) (live : Bool) → Meets v (demand_of o) live → live ≡ wire_value o v
 by_wire v None live h = h
 by_wire v (Some w) live h = h
 
-pub met_output : (c : Circuit) (p : Pattern) (v : Valuation) (x y : ℤ) (n : List ℕ) (live : Bool) → in_rectangles p.mirrors x y ≡ false →
+pub met_output : (c : Circuit) (p : Pattern) (v : Valuation) (x y : ℤ) (n : List ℕ) (live : Bool) →
+    in_rectangles p.mirrors x y ≡ false →
     port_at p.outs x y ≡ Some n → Meets v (end_demand c p x y) live → live ≡ values_by_name c v n
 unfolding end_demand
 met_output c p v x y n live e port h =
-    let P : Bool → Type 0 = λ b. Meets v (if b then Demanded.Live else demand_elsewhere c (port_at p.outs x y) (in_cells p.wastes x y)) live in
+    let P : Bool → Type 0 = λ b. Meets v
+    (if b then Demanded.Live else demand_elsewhere c (port_at p.outs x y) (in_cells p.wastes x y)) live in
     let Q : Option (List ℕ) → Type 0 = λ o. Meets v (demand_elsewhere c o (in_cells p.wastes x y)) live in
     by_wire v (wire_of c n) live (subst Q port (subst P e h))
 
-pub met_other : (c : Circuit) (p : Pattern) (v : Valuation) (x y : ℤ) (live : Bool) → in_rectangles p.mirrors x y ≡ false →
+pub met_other : (c : Circuit) (p : Pattern) (v : Valuation) (x y : ℤ) (live : Bool) →
+    in_rectangles p.mirrors x y ≡ false →
     in_ports p.outs x y ≡ false → in_cells p.wastes x y ≡ false → Meets v (end_demand c p x y) live → live ≡ false
 unfolding end_demand
 met_other c p v x y live e none waste h =
-    let P : Bool → Type 0 = λ b. Meets v (if b then Demanded.Live else demand_elsewhere c (port_at p.outs x y) (in_cells p.wastes x y)) live in
+    let P : Bool → Type 0 = λ b. Meets v
+    (if b then Demanded.Live else demand_elsewhere c (port_at p.outs x y) (in_cells p.wastes x y)) live in
     let Q : Option (List ℕ) → Type 0 = λ o. Meets v (demand_elsewhere c o (in_cells p.wastes x y)) live in
     let R : Bool → Type 0 = λ b. Meets v (demand_elsewhere c None b) live in
     subst R waste (subst Q (no_port p.outs x y _ none refl) (subst P e h))

@@ -1,5 +1,6 @@
 -- The ports of a layout that was read have the names that were given, and each of these has a port
-use Rattle.std.proofs.Common.{◌≡◌, ℕ, suc, ◌||◌, Bool, true, false, not, List, [], ◌∷◌, ◌++◌, ◌+◌, length, map, Some, None, refl, sym, ap, ap₂, subst, ◌∙◌, inl, inr}
+use Rattle.std.proofs.Common.{◌≡◌, ℕ, suc, ◌||◌, Bool, true, false, not, List, [], ◌∷◌, ◌++◌, ◌+◌, length, map, Some}
+use Rattle.std.proofs.Common.{None, refl, sym, ap, ap₂, subst, ◌∙◌, inl, inr}
 use Rattle.std.specs.Prelude.{slice_get, option_map}
 use Rattle.std.specs.List.{list_any, list_all}
 use Rattle.std.specs.Str.{bytes_eq}
@@ -32,7 +33,8 @@ no_code false code e = absurd cc
 
 -- ---- what all names have
 
-all_have : (P : List ℕ → Bool) (names : List (List ℕ)) (n : List ℕ) → list_all P names ≡ true → has names n ≡ true → P n ≡ true
+all_have : (P : List ℕ → Bool) (names : List (List ℕ)) (n : List ℕ) → list_all P names ≡ true → has names n ≡ true →
+    P n ≡ true
 all_have P [] n all h = absurd (false≢true h)
 all_have P (m ∷ names) n all h =
     let both = and_parts (P m) (list_all P names) all in
@@ -42,29 +44,36 @@ all_have P (m ∷ names) n all h =
     ]
 
 -- where each port has one of the names, so has what names a port
-ports_known : (names : List (List ℕ)) (ports : List Port) (n : List ℕ) → ((i : ℕ) (q : Port) → slice_get ports i ≡ Some q → has names q.name ≡ true) →
+ports_known : (names : List (List ℕ)) (ports : List Port) (n : List ℕ) →
+    ((i : ℕ) (q : Port) → slice_get ports i ≡ Some q → has names q.name ≡ true) →
     has (map (λ q. q.name) ports) n ≡ true → has names n ≡ true
 ports_known names [] n all h = absurd (false≢true h)
 ports_known names (q ∷ ports) n all h = elim (cases_Bool (bytes_eq n q.name)) [
   | inl e ↦ subst (λ k. has names k ≡ true) (sym ((bytes_eq-Decides n q.name).0 e)) (all 0 q refl)
-  | inr e ↦ ports_known names ports n (λ i r at. all (suc i) r at) (sym (ap (λ b. b || has (map (λ q. q.name) ports) n) e) ∙ h)
+  | inr e ↦ ports_known names ports n (λ i r at. all (suc i) r at)
+      (sym (ap (λ b. b || has (map (λ q. q.name) ports) n) e) ∙ h)
 ]
 
 -- ---- the lines that have a name
 
-none_in : {X : Type 0} (f : Part → Bool) (make : X → Part) → ((x : X) → f (make x) ≡ false) → (xs : List X) → list_any f (map make xs) ≡ false
+none_in : {X : Type 0} (f : Part → Bool) (make : X → Part) → ((x : X) → f (make x) ≡ false) → (xs : List X) →
+    list_any f (map make xs) ≡ false
 none_in f make never [] = refl
 none_in f make never (x ∷ xs) = ap₂ (λ a b. a || b) (never x) (none_in f make never xs)
 
-all_in : (f : Part → Bool) (make : Port → Part) (n : List ℕ) → ((q : Port) → f (make q) ≡ bytes_eq n q.name) → (ports : List Port) →
+all_in : (f : Part → Bool) (make : Port → Part) (n : List ℕ) → ((q : Port) → f (make q) ≡ bytes_eq n q.name) →
+    (ports : List Port) →
     list_any f (map make ports) ≡ has (map (λ q. q.name) ports) n
 all_in f make n same [] = refl
 all_in f make n same (q ∷ ports) = ap₂ (λ a b. a || b) (same q) (all_in f make n same ports)
 
-five_parts : (f : Part → Bool) (a b c d e : List Part) → list_any f (a ++ (b ++ (c ++ (d ++ e)))) ≡ (list_any f a || (list_any f b || (list_any f c || (list_any f d || list_any f e))))
+five_parts : (f : Part → Bool) (a b c d e : List Part) →
+    list_any f (a ++ (b ++ (c ++ (d ++ e))))
+    ≡ (list_any f a || (list_any f b || (list_any f c || (list_any f d || list_any f e))))
 five_parts f a b c d e =
     list_any-append f a _ ∙ ap (λ r. list_any f a || r)
-    (list_any-append f b _ ∙ ap (λ r. list_any f b || r) (list_any-append f c _ ∙ ap (λ r. list_any f c || r) (list_any-append f d e)))
+    (list_any-append f b _ ∙ ap (λ r. list_any f b || r)
+    (list_any-append f c _ ∙ ap (λ r. list_any f c || r) (list_any-append f d e)))
 
 or-false : (b : Bool) → (b || false) ≡ b
 or-false true = refl
@@ -98,20 +107,25 @@ out_known names q e = no_code (has names.outs q.name) 3 e
 abbrev out_place : Pattern → ℕ → ℕ
 out_place p i = length (map Mirror p.mirrors) + (length (map Ball p.balls) + (length (map In p.ins) + i))
 
-out_stands : (p : Pattern) (i : ℕ) (q : Port) → slice_get p.outs i ≡ Some q → slice_get (parts_of p) (out_place p i) ≡ Some (Out q)
+out_stands : (p : Pattern) (i : ℕ) (q : Port) → slice_get p.outs i ≡ Some q →
+    slice_get (parts_of p) (out_place p i) ≡ Some (Out q)
 out_stands p i q e =
-    skipped (map Mirror p.mirrors) (map Ball p.balls ++ (map In p.ins ++ (map Out p.outs ++ map Waste p.wastes))) (length (map Mirror p.mirrors)) (length (map Ball p.balls) + (length (map In p.ins) + i)) refl
-    ∙ skipped (map Ball p.balls) (map In p.ins ++ (map Out p.outs ++ map Waste p.wastes)) (length (map Ball p.balls)) (length (map In p.ins) + i) refl
+    skipped (map Mirror p.mirrors) (map Ball p.balls ++ (map In p.ins ++ (map Out p.outs ++ map Waste p.wastes)))
+    (length (map Mirror p.mirrors)) (length (map Ball p.balls) + (length (map In p.ins) + i)) refl
+    ∙ skipped (map Ball p.balls) (map In p.ins ++ (map Out p.outs ++ map Waste p.wastes)) (length (map Ball p.balls))
+    (length (map In p.ins) + i) refl
     ∙ skipped (map In p.ins) (map Out p.outs ++ map Waste p.wastes) (length (map In p.ins)) i refl
     ∙ kept (map Out p.outs) (map Waste p.wastes) i (Out q) (slice_get-map Out p.outs i ∙ ap (option_map Out) e)
 
 -- ---- the whole
 
 all_stand : (names : Named) (parts : List Part) → missing_fault (Some names) parts ≡ None →
-    (list_all (λ n. list_any (is_in n) parts) names.ins ≡ true) × (list_all (λ n. list_any (is_out n) parts) names.outs ≡ true)
+    (list_all (λ n. list_any (is_in n) parts) names.ins ≡ true)
+    × (list_all (λ n. list_any (is_out n) parts) names.outs ≡ true)
 unfolding missing_fault
 all_stand names parts e =
-    and_parts (list_all (λ n. list_any (is_in n) parts) names.ins) (list_all (λ n. list_any (is_out n) parts) names.outs) (no_code _ 11 e)
+    and_parts (list_all (λ n. list_any (is_in n) parts) names.ins)
+    (list_all (λ n. list_any (is_out n) parts) names.outs) (no_code _ 11 e)
 
 pub read_layout-is_named : ReadLayoutIsNamed
 read_layout-is_named lines p named =
@@ -119,9 +133,14 @@ read_layout-is_named lines p named =
     let all = all_stand names (parts_of p) named.whole in
     record {
       ins = λ n. same_bool _ _
-          (ports_known names.ins p.ins n (λ i q e. in_known names.ins names.outs q (at_place (λ (part : Part). name_fault (Some names) part ≡ None) (parts_of p) _ (In q) named.good (in_stands p i q e))))
+          (ports_known names.ins p.ins n
+          (λ i q e. in_known names.ins names.outs q
+          (at_place (λ (part : Part). name_fault (Some names) part ≡ None) (parts_of p) _ (In q) named.good
+          (in_stands p i q e))))
           (λ h. sym (in_lines p n) ∙ all_have (λ n. list_any (is_in n) (parts_of p)) names.ins n all.0 h);
       outs = λ n. same_bool _ _
-          (ports_known names.outs p.outs n (λ i q e. out_known names q (at_place (λ (part : Part). name_fault (Some names) part ≡ None) (parts_of p) (out_place p i) (Out q) named.good (out_stands p i q e))))
+          (ports_known names.outs p.outs n
+          (λ i q e. out_known names q (at_place (λ (part : Part). name_fault (Some names) part ≡ None) (parts_of p)
+          (out_place p i) (Out q) named.good (out_stands p i q e))))
           (λ h. sym (out_lines p n) ∙ all_have (λ n. list_any (is_out n) (parts_of p)) names.outs n all.1 h);
     }

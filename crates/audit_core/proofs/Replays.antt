@@ -1,5 +1,6 @@
 -- The history of a book replays to it
-use Rattle.std.proofs.Common.{◌≡◌, ◌∙◌, ◌+◌, ◌<◌, ◌++◌, ◌∷◌, ℕ, suc, zero, Bool, inl, inr, List, [], length, Option, None, Some, refl, sym, ap, arith, nat_eq, get_or, set, length-append, true, false}
+use Rattle.std.proofs.Common.{◌≡◌, ◌∙◌, ◌+◌, ◌<◌, ◌++◌, ◌∷◌, ℕ, suc, zero, Bool, inl, inr, List, [], length, Option}
+use Rattle.std.proofs.Common.{None, Some, refl, sym, ap, arith, nat_eq, get_or, set, length-append, true, false}
 use Rattle.std.specs.Prelude.{if◌then◌else◌, is_some, replicate}
 use Rattle.std.proofs.lemmas.Bool.Decides.{eqb_tells}
 use Rattle.std.proofs.lemmas.Grind.{common_steps}
@@ -9,71 +10,90 @@ use Rattle.std.specs.List.{count_by}
 use Rattle.module_job.specs.Jobs.{JobState}
 use Rattle.local_run.specs.Shown.{digest_of, number_of, job_of}
 use Rattle.local_run.specs.declared.finding.Finding.{Finding}
-use Rattle.audit_core.specs.Replay.{Replayed, AreDue, IsDue, accepted_after, after_entry, beginning, has_closing, has_number, replay, replay_from, rule}
-use Rattle.audit_core.specs.Book.{BookView, IsBook, IsReplayed, accepted_in, after_closing, after_filing, filing_of, held_after, is_job_of, new_book, reply_to, found_in}
+use Rattle.audit_core.specs.Replay.{Replayed, AreDue, IsDue, accepted_after, after_entry, beginning, has_closing}
+use Rattle.audit_core.specs.Replay.{has_number, replay, replay_from, rule}
+use Rattle.audit_core.specs.Book.{BookView, IsBook, IsReplayed, accepted_in, after_closing, after_filing, filing_of}
+use Rattle.audit_core.specs.Book.{held_after, is_job_of, new_book, reply_to, found_in}
 use Rattle.audit_core.specs.declared.entry.Entry.{Entry}
 use Rattle.audit_core.specs.declared.entry.Entry.TheVariants.{Filed, Closing}
 use Rattle.audit_core.specs.declared.entry.Filing.{Filing}
 use Rattle.audit_core.specs.declared.reply.Reply.{Reply}
 use Rattle.audit_core.specs.declared.reply.Reply.TheVariants.{Closed, Stranger, Double, Accepted}
-use Rattle.audit_core.proofs.Filings.{accepted-inside, accepted_in-accepted, accepted_in-other, held_after-accepted, held_after-other}
+use Rattle.audit_core.proofs.Filings.{accepted-inside, accepted_in-accepted, accepted_in-other, held_after-accepted}
+use Rattle.audit_core.proofs.Filings.{held_after-other}
 
 -- ---- one entry more
 
-replay_from-push : (p : Replayed) (es : List Entry) (e : Entry) → replay_from p (es ++ e ∷ []) ≡ after_entry (replay_from p es) e
+replay_from-push : (p : Replayed) (es : List Entry) (e : Entry) →
+    replay_from p (es ++ e ∷ []) ≡ after_entry (replay_from p es) e
 replay_from-push p [] e = refl
 replay_from-push p (x ∷ es) e = replay_from-push (after_entry p x) es e
 
-AreDue-push : (own : List ℕ) (count : ℕ) (p : Replayed) (es : List Entry) (e : Entry) → AreDue own count p es → IsDue own count (replay_from p es) e → AreDue own count p (es ++ e ∷ [])
+AreDue-push : (own : List ℕ) (count : ℕ) (p : Replayed) (es : List Entry) (e : Entry) → AreDue own count p es →
+    IsDue own count (replay_from p es) e → AreDue own count p (es ++ e ∷ [])
 AreDue-push own count p [] e h due = (due, tt)
 AreDue-push own count p (x ∷ es) e h due = (h.0, AreDue-push own count (after_entry p x) es e h.1 due)
 
 -- the reply that is stored is the one that the rule gives there
-due-filing : (b : BookView) (f : Finding) → IsReplayed b → IsDue b.digest (length b.jobs) (replay b.history) (Filed (filing_of b f))
+due-filing : (b : BookView) (f : Finding) → IsReplayed b →
+    IsDue b.digest (length b.jobs) (replay b.history) (Filed (filing_of b f))
 unfolding reply_to
-due-filing b f is = (λ i. rule b.digest (length b.jobs) (sym is.closed_is i) (sym (is.accepted (number_of f)) i) (digest_of f) (number_of f) (is_job_of b.jobs (number_of f) (job_of f)))
+due-filing b f is = (λ i. rule b.digest (length b.jobs) (sym is.closed_is i) (sym (is.accepted (number_of f)) i)
+    (digest_of f) (number_of f) (is_job_of b.jobs (number_of f) (job_of f)))
 
 -- ---- which numbers
 
-number-more : (ks : List ℕ) (held : List (Option Finding)) (n : ℕ) (f : Finding) → n < length held → ((k : ℕ) → has_number ks k ≡ is_some (get_or held k None)) → (k : ℕ) → has_number (ks ++ n ∷ []) k ≡ is_some (get_or (set held n (Some f)) k None)
+number-more : (ks : List ℕ) (held : List (Option Finding)) (n : ℕ) (f : Finding) → n < length held →
+    ((k : ℕ) → has_number ks k ≡ is_some (get_or held k None)) → (k : ℕ) →
+    has_number (ks ++ n ∷ []) k ≡ is_some (get_or (set held n (Some f)) k None)
 number-more ks held n f inside h k =
     let e = list_any-append (λ (x : ℕ). nat_eq x k) ks (n ∷ []) in
     elim (eqb_tells n k) [
       | inl p ↦
-          let there : get_or (set held n (Some f)) k None ≡ Some f = ap (λ (j : ℕ). get_or (set held n (Some f)) j None) (sym p.1) ∙ get_or-set_same held n (Some f) None inside in
+          let there : get_or (set held n (Some f)) k None ≡ Some f =
+          ap (λ (j : ℕ). get_or (set held n (Some f)) j None) (sym p.1) ∙ get_or-set_same held n (Some f) None inside in
           e ∙ grind (arith, common_steps, p.0, ap is_some there)
       | inr q ↦
-          let there : get_or (set held n (Some f)) k None ≡ get_or held k None = get_or-set_other held n k (Some f) None (λ s. q.1 (sym s)) in
+          let there : get_or (set held n (Some f)) k None ≡ get_or held k None =
+          get_or-set_other held n k (Some f) None (λ s. q.1 (sym s)) in
           e ∙ grind (arith, common_steps, q.0, ap is_some there, h k)
     ]
 
 -- the book after a filing, by the numbers that were accepted then and what is held then
 by-reply : (b : BookView) (f : Finding) (ks : List ℕ) (held : List (Option Finding)) → IsReplayed b →
-    accepted_after (replay b.history).accepted (number_of f) (reply_to b f) ≡ ks → held_after b.held f (reply_to b f) ≡ held →
-    length ks ≡ accepted_in (after_filing b f) → ((k : ℕ) → has_number ks k ≡ is_some (get_or held k None)) → IsReplayed (after_filing b f)
+    accepted_after (replay b.history).accepted (number_of f) (reply_to b f) ≡ ks →
+    held_after b.held f (reply_to b f) ≡ held →
+    length ks ≡ accepted_in (after_filing b f) → ((k : ℕ) → has_number ks k ≡ is_some (get_or held k None)) →
+    IsReplayed (after_filing b f)
 by-reply b f ks held is numbers same count each =
     let e : Entry = Filed (filing_of b f) in
     let push = replay_from-push beginning b.history e in
     let now : (replay (b.history ++ e ∷ [])).accepted ≡ ks = ap (λ (p : Replayed). p.accepted) push ∙ numbers in
     record {
       due = AreDue-push b.digest (length b.jobs) beginning b.history e is.due (due-filing b f is);
-      accepted = λ k. ap (λ (xs : List ℕ). has_number xs k) now ∙ each k ∙ ap (λ (xs : List (Option Finding)). is_some (get_or xs k None)) (sym same);
+      accepted = λ k. ap (λ (xs : List ℕ). has_number xs k) now ∙ each k
+          ∙ ap (λ (xs : List (Option Finding)). is_some (get_or xs k None)) (sym same);
       count = ap length now ∙ count;
       closed_is = ap (λ (p : Replayed). p.closed) push ∙ is.closed_is;
     }
 
-filed-by : (b : BookView) (f : Finding) (r : Reply) → reply_to b f ≡ r → IsBook b → IsReplayed b → IsReplayed (after_filing b f)
+filed-by : (b : BookView) (f : Finding) (r : Reply) → reply_to b f ≡ r → IsBook b → IsReplayed b →
+    IsReplayed (after_filing b f)
 filed-by b f Accepted e book is =
     let ks = (replay b.history).accepted in
-    by-reply b f (ks ++ number_of f ∷ []) (set b.held (number_of f) (Some f)) is (ap (accepted_after ks (number_of f)) e) (held_after-accepted b f e)
+    by-reply b f (ks ++ number_of f ∷ []) (set b.held (number_of f) (Some f)) is
+    (ap (accepted_after ks (number_of f)) e) (held_after-accepted b f e)
     (length-append ks (number_of f ∷ []) ∙ ap (λ (n : ℕ). n + 1) is.count ∙ sym (accepted_in-accepted b f book e))
     (number-more ks b.held (number_of f) f (accepted-inside b f book e) is.accepted)
 filed-by b f Closed e book is =
-    by-reply b f _ b.held is (ap (accepted_after (replay b.history).accepted (number_of f)) e) (held_after-other b.held f _ (λ s. cc)) (is.count ∙ sym (accepted_in-other b f (λ s. cc))) is.accepted
+    by-reply b f _ b.held is (ap (accepted_after (replay b.history).accepted (number_of f)) e)
+    (held_after-other b.held f _ (λ s. cc)) (is.count ∙ sym (accepted_in-other b f (λ s. cc))) is.accepted
 filed-by b f (Stranger mismatch) e book is =
-    by-reply b f _ b.held is (ap (accepted_after (replay b.history).accepted (number_of f)) e) (held_after-other b.held f _ (λ s. cc)) (is.count ∙ sym (accepted_in-other b f (λ s. cc))) is.accepted
+    by-reply b f _ b.held is (ap (accepted_after (replay b.history).accepted (number_of f)) e)
+    (held_after-other b.held f _ (λ s. cc)) (is.count ∙ sym (accepted_in-other b f (λ s. cc))) is.accepted
 filed-by b f (Double number) e book is =
-    by-reply b f _ b.held is (ap (accepted_after (replay b.history).accepted (number_of f)) e) (held_after-other b.held f _ (λ s. cc)) (is.count ∙ sym (accepted_in-other b f (λ s. cc))) is.accepted
+    by-reply b f _ b.held is (ap (accepted_after (replay b.history).accepted (number_of f)) e)
+    (held_after-other b.held f _ (λ s. cc)) (is.count ∙ sym (accepted_in-other b f (λ s. cc))) is.accepted
 
 pub IsReplayed-filed : (b : BookView) (f : Finding) → IsBook b → IsReplayed b → IsReplayed (after_filing b f)
 IsReplayed-filed b f book is = filed-by b f (reply_to b f) refl book is
@@ -81,7 +101,8 @@ IsReplayed-filed b f book is = filed-by b f (reply_to b f) refl book is
 pub IsReplayed-closed : (b : BookView) → IsReplayed b → IsReplayed (after_closing b)
 IsReplayed-closed b is =
     let push = replay_from-push beginning b.history Closing in
-    let same : (replay (b.history ++ Closing ∷ [])).accepted ≡ (replay b.history).accepted = ap (λ (p : Replayed). p.accepted) push in
+    let same : (replay (b.history ++ Closing ∷ [])).accepted ≡ (replay b.history).accepted =
+    ap (λ (p : Replayed). p.accepted) push in
     record {
       due = AreDue-push b.digest (length b.jobs) beginning b.history Closing is.due tt;
       accepted = λ k. ap (λ (xs : List ℕ). has_number xs k) same ∙ is.accepted k;
@@ -105,7 +126,8 @@ none-counted (suc n) = none-counted n
 
 pub IsReplayed-new : (digest : List ℕ) (jobs : List JobState) → IsReplayed (new_book digest jobs)
 unfolding new_book
-IsReplayed-new digest jobs = record { due = tt; accepted = none-there (length jobs); count = none-counted (length jobs); closed_is = refl }
+IsReplayed-new digest jobs =
+    record { due = tt; accepted = none-there (length jobs); count = none-counted (length jobs); closed_is = refl }
 
 none-found : (n k : ℕ) (f : Finding) → get_or (nothing n) k None ≡ Some f → ⊥
 none-found zero k f e = cc
@@ -114,7 +136,8 @@ none-found (suc n) (suc k) f e = none-found n k f e
 
 pub IsBook-new : (digest : List ℕ) (jobs : List JobState) → IsBook (new_book digest jobs)
 unfolding new_book
-IsBook-new digest jobs = record { places = length-replicate (length jobs) None; own = λ k f e. absurd (none-found (length jobs) k f e) }
+IsBook-new digest jobs =
+    record { places = length-replicate (length jobs) None; own = λ k f e. absurd (none-found (length jobs) k f e) }
 
 -- ---- closing entries
 

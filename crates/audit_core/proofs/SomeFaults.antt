@@ -98,7 +98,11 @@ module _ (j : JobState) (u : Valuation) (t : ℕ) (x y : ℤ) where
   under_decided Stop = decided_by
       (λ (h : HasOne IsMissed j.stops). record {
         stop = h.one;
-        is_listed = (h.number, slice_get_within j.stops h.number h.one h.at, get_or_from_slice_get j.stops h.number h.one h.one h.at);
+        is_listed = (
+          h.number,
+          slice_get_within j.stops h.number h.one h.at,
+          get_or_from_slice_get j.stops h.number h.one h.one h.at,
+        );
         time = h.holds.0;
         column = h.holds.1.0;
         row = h.holds.1.1.0;

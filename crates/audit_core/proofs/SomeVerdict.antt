@@ -373,7 +373,13 @@ module _ (lines : List Entry) (p : Pattern) (ms : List ModuleLines) (good : AreG
               No v.vec,
               (
                 (λ is. not_so (accepted-no_lines g ms js fs bs reasons.1 are_borders is, is.on_time)),
-                record { faults = fs; are_least = reasons.1; borders = bs; are_border_faults = are_borders; lines_are = v.items },
+                record {
+                  faults = fs;
+                  are_least = reasons.1;
+                  borders = bs;
+                  are_border_faults = are_borders;
+                  lines_are = v.items;
+                },
               ),
             )
       ]

@@ -1,4 +1,4 @@
--- What holds of all stops of jobs holds of all stop lines.
+-- A property of all stops of jobs is one of all stop lines.
 use Rattle.std.proofs.Common.{◌≡◌, ℕ, zero, suc, true, List, [], ◌∷◌, map, Option, Some, None, refl, subst}
 use Rattle.std.specs.Prelude.{slice_get}
 use Rattle.std.specs.List.{All, flat_map}
@@ -11,9 +11,11 @@ use Rattle.module_job.specs.declared.job.Stop as listed
 
 pub all_map : {X Y : Type 0} (P : Y → Type 0) (f : X → Y) (xs : List X) → All (λ x. P (f x)) xs → All P (map f xs)
 all_map P f [] h = All-nil P
-all_map P f (x ∷ xs) h = All-cons P (f x) (map f xs) (All-head (λ z. P (f z)) x xs h) (all_map P f xs (All-tail (λ z. P (f z)) x xs h))
+all_map P f (x ∷ xs) h = All-cons P (f x) (map f xs) (All-head (λ z. P (f z)) x xs h)
+    (all_map P f xs (All-tail (λ z. P (f z)) x xs h))
 
-pub all_flat : {X A : Type 0} (P : A → Type 0) (f : X → List A) (xs : List X) → ((k : ℕ) (x : X) → slice_get xs k ≡ Some x → All P (f x)) → All P (flat_map f xs)
+pub all_flat : {X A : Type 0} (P : A → Type 0) (f : X → List A) (xs : List X) →
+    ((k : ℕ) (x : X) → slice_get xs k ≡ Some x → All P (f x)) → All P (flat_map f xs)
 all_flat P f [] h = All-nil P
 all_flat P f (x ∷ xs) h = All-append P (f x) (flat_map f xs) (h zero x refl) (all_flat P f xs (λ k. h (suc k)))
 
@@ -22,7 +24,8 @@ pub local_wire_is : (local : List ℕ) (o : Option ℕ) → is_local_wire local 
 local_wire_is local None e = absurd cc
 local_wire_is local (Some w) e = (w, refl)
 
-pub one_said : (P : listed.Stop → Type 0) (s : StopLine) (w : ℕ) (o : Option ℕ) → o ≡ Some w → All P (numbered_stop s o) → P (record { at = record { time = s.time; cell = s.cell }; wire = w })
+pub one_said : (P : listed.Stop → Type 0) (s : StopLine) (w : ℕ) (o : Option ℕ) → o ≡ Some w →
+    All P (numbered_stop s o) → P (record { at = record { time = s.time; cell = s.cell }; wire = w })
 one_said P s w None e h = absurd cc
 one_said P s w (Some u) e h =
     subst (λ n. P (record { at = record { time = s.time; cell = s.cell }; wire = n })) (same_Some u w e)

@@ -16,13 +16,21 @@ abbrev name_a : List ℕ
 name_a = 97 ∷ []
 
 abbrev lines : List Entry
-lines = record { kind = Input; ins = []; outs = name_a ∷ [] } ∷ record { kind = Output; ins = name_a ∷ []; outs = [] } ∷ []
+lines = record { kind = Input; ins = []; outs = name_a ∷ [] } ∷ record { kind = Output; ins = name_a ∷ []; outs = [] }
+    ∷ []
 
 abbrev port : ℕ → Port
 port n = record { name = name_a; cell = record { x = pos n; y = pos n } }
 
 abbrev layout : Pattern
-layout = record { size = record { w = 2; h = 2; steps = 0 }; mirrors = []; balls = []; ins = port 0 ∷ []; outs = port 1 ∷ []; wastes = [] }
+layout = record {
+  size = record { w = 2; h = 2; steps = 0 };
+  mirrors = [];
+  balls = [];
+  ins = port 0 ∷ [];
+  outs = port 1 ∷ [];
+  wastes = [];
+}
 
 abbrev on : Valuation
 on w = true
@@ -33,7 +41,8 @@ unfolding run start place_of number
 not_correct is =
     let ran = is.implements on in
     let looks = ran.looks ran.values ran.satisfied in
-    let shown : run_under (circuit_of lines) layout on 0 (pos 1) (pos 1) ≡ values_by_name (circuit_of lines) ran.values name_a = looks.outputs 0 (port 1) refl in
+    let shown : run_under (circuit_of lines) layout on 0 (pos 1) (pos 1)
+    ≡ values_by_name (circuit_of lines) ran.values name_a = looks.outputs 0 (port 1) refl in
     let live : ran.values 0 ≡ true = ran.satisfied.given 0 (omega arith) in
     false≢true (shown ∙ live)
 

@@ -30,7 +30,8 @@ pub record IsRead (s : CertState) (size : Extent) : Type 0 where
   pub named : AreNamed (Some (port_names_of s.circuit)) (parts_of s.layout)
 
 -- it belongs together with the jobs of its modules
-pub bundle_read : (s : CertState) (size : Extent) (jobs : List JobState) → IsRead s size → AreOwnJobs s jobs → BelongTogether s.circuit s.layout (modules s) jobs
+pub bundle_read : (s : CertState) (size : Extent) (jobs : List JobState) → IsRead s size → AreOwnJobs s jobs →
+    BelongTogether s.circuit s.layout (modules s) jobs
 bundle_read s size jobs is own = record {
   ordered = is.ordered;
   limits = subst (λ (z : Extent). size_fault z ≡ None) is.same is.limits;
@@ -39,16 +40,22 @@ bundle_read s size jobs is own = record {
   are_jobs = own;
 }
 
-accepted_bundle : (s : CertState) (size : Extent) (jobs : List JobState) → IsRead s size → AreOwnJobs s jobs → IsVerdict (setting s) (modules s) jobs Yes →
+accepted_bundle : (s : CertState) (size : Extent) (jobs : List JobState) → IsRead s size → AreOwnJobs s jobs →
+    IsVerdict (setting s) (modules s) jobs Yes →
     IsAcceptedBundle s.circuit s.layout (modules s) jobs
 unfolding IsVerdict
 accepted_bundle s size jobs is own accepted = record { bundle = bundle_read s size jobs is own; accepted = accepted }
 
-pub yes_means-correct : (s : CertState) (size : Extent) (jobs : List JobState) → IsRead s size → AreOwnJobs s jobs → IsVerdict (setting s) (modules s) jobs Yes →
+pub yes_means-correct : (s : CertState) (size : Extent) (jobs : List JobState) → IsRead s size → AreOwnJobs s jobs →
+    IsVerdict (setting s) (modules s) jobs Yes →
     IsCorrect s.circuit s.layout
 yes_means-correct s size jobs is own judged =
-    correct s.circuit s.layout (modules s) jobs (read_layout-names s.circuit s.layout is.inputs is.named) (read_layout-is_named s.circuit s.layout is.named) (accepted_bundle s size jobs is own judged)
+    correct s.circuit s.layout (modules s) jobs (read_layout-names s.circuit s.layout is.inputs is.named)
+    (read_layout-is_named s.circuit s.layout is.named) (accepted_bundle s size jobs is own judged)
 
-pub yes_means-on_time : (s : CertState) (size : Extent) (jobs : List JobState) → IsRead s size → AreOwnJobs s jobs → IsVerdict (setting s) (modules s) jobs Yes →
+pub yes_means-on_time : (s : CertState) (size : Extent) (jobs : List JobState) → IsRead s size → AreOwnJobs s jobs →
+    IsVerdict (setting s) (modules s) jobs Yes →
     IsOnTime (circuit_of s.circuit) s.layout (modules s)
-yes_means-on_time s size jobs is own judged = on_time s.circuit s.layout (modules s) jobs (read_layout-names s.circuit s.layout is.inputs is.named) (accepted_bundle s size jobs is own judged)
+yes_means-on_time s size jobs is own judged =
+    on_time s.circuit s.layout (modules s) jobs (read_layout-names s.circuit s.layout is.inputs is.named)
+    (accepted_bundle s size jobs is own judged)

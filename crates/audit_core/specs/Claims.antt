@@ -12,7 +12,7 @@ has_ended n draws = nat_lt n (end_of draws)
 abbrev pub claim_of_draw : ℕ → ℕ → Claim
 claim_of_draw n draw = if nat_lt draw n then Number draw else Empty
 
--- what a claim answers, where there are n numbers, the seat drew these, and the next number is `next`
+-- what a claim answers, if there are n numbers, the seat drew these, and the next number is `next`
 abbrev pub claim_answer : ℕ → List ℕ → ℕ → Claim
 claim_answer n draws next = if has_ended n draws then Empty else claim_of_draw n next
 

@@ -1,4 +1,4 @@
--- What is concluded of a certificate and a book
+-- The conclusion on a certificate, from a book
 use Rattle.std.specs.Prelude.{List}
 use Rattle.section_text.specs.Ports.{Named}
 use Rattle.circuit.specs.Bridge.{circuit_of, input_names, output_names}
@@ -9,10 +9,11 @@ use Rattle.certificate_lines.specs.Settings.{setting_of}
 use Rattle.module_job.specs.Jobs.{JobState}
 use Rattle.certificate.specs.Jobs.{AreJobsOf}
 
+-- the circuit and the layout that a certificate is for
 abbrev pub setting : CertState → Setting
 setting s = setting_of s.circuit s.layout
 
--- with the halo lines that they have, or that the edge lines stand for
+-- the modules with the halo lines that they have, or that the edge lines mean
 abbrev pub modules : CertState → List ModuleLines
 modules s = modules_in s
 

@@ -1,5 +1,6 @@
--- The core: the numbers that seats drew, and a book. What each event makes of it, and the answer to it
-use Rattle.std.specs.Prelude.{ℕ, ◌+◌, ◌<◌, ◌≤◌, List, [], ◌∷◌, length, replicate, slice_index_or, slice_set, if◌then◌else◌, ⊤}
+-- The core: the numbers that seats drew, and a book. The state after each event, and the answer to it
+use Rattle.std.specs.Prelude.{ℕ, ◌+◌, ◌<◌, ◌≤◌, List, [], ◌∷◌, length, replicate, slice_index_or, slice_set}
+use Rattle.std.specs.Prelude.{if◌then◌else◌, ⊤}
 use Rattle.module_job.specs.Jobs.{JobState}
 use Rattle.audit_core.specs.Draws.{IsDrawn, total}
 use Rattle.audit_core.specs.Claims.{claim_answer, claim_draws, claim_next, has_ended}
@@ -31,15 +32,18 @@ draws_of c seat = slice_index_or c.draws seat []
 
 -- ---- a claim of a seat
 
+-- the answer to a claim of a seat
 abbrev pub claim_of : CoreView → ℕ → Claim
 claim_of c seat = claim_answer (numbers_in c) (draws_of c seat) c.next
 
+-- the core after a claim of a seat
 abbrev pub after_claim : CoreView → ℕ → CoreView
 after_claim c seat = record c {
   next = claim_next (numbers_in c) (draws_of c seat) c.next;
   draws = slice_set c.draws seat (claim_draws (numbers_in c) (draws_of c seat) c.next);
 }
 
+-- the answer to an event that is a claim
 abbrev pub answer_of_claim : Claim → Answer
 answer_of_claim (Claimed.Number number) = Answered.Number number
 answer_of_claim Claimed.Empty = Answered.Empty
@@ -52,6 +56,7 @@ after_event c (Events.Claim seat) = after_claim c seat
 after_event c (Events.File f) = record c { book = after_filing c.book f }
 after_event c (Events.Lose number) = c
 
+-- the answer to an event
 abbrev pub answer_to : CoreView → Event → Answer
 answer_to c (Events.Claim seat) = answer_of_claim (claim_of c seat)
 answer_to c (Events.File f) = Answered.Reply (reply_to c.book f)
@@ -74,8 +79,8 @@ IsSeated seats (Events.Lose number) = ⊤
 abbrev pub ended : ℕ → List ℕ → ℕ
 ended n draws = if has_ended n draws then 1 else 0
 
--- Each number below the next was drawn, once. No more numbers were drawn than there are, but for one of each seat that has ended.
--- The book is one, and its history replays to it
+-- Each number below the next was drawn, once. No more numbers were drawn than there are, but for one of each seat that
+-- has ended. The book is one, and its history replays to it
 pub record IsCore (c : CoreView) : Type 0 where
   pub drawn : IsDrawn c.next c.draws
   pub few : c.next ≤ numbers_in c + total (ended (numbers_in c)) c.draws

@@ -6,7 +6,7 @@ abbrev pub total : {X : Type 0} → (X → ℕ) → List X → ℕ
 total f [] = 0
 total f (x ∷ xs) = f x + total f xs
 
--- how often x stands in a list
+-- how often x is in a list
 abbrev pub times : ℕ → List ℕ → ℕ
 times x [] = 0
 times x (y ∷ ys) = (if y == x then 1 else 0) + times x ys
@@ -21,7 +21,8 @@ end_of [] = 0
 end_of (y ∷ []) = y + 1
 end_of (y ∷ z ∷ zs) = end_of (z ∷ zs)
 
--- As many numbers stand in the lists as the counter says: each number below it in one list, once, and no other in any
+-- The lists have as many numbers as the counter says: each number below it is in one list, once, and no other is in
+-- any.
 pub record IsDrawn (counter : ℕ) (lists : List (List ℕ)) : Type 0 where
   pub whole : total length lists ≡ counter
   pub once : (x : ℕ) → total (times x) lists ≡ once_below x counter

@@ -18,7 +18,8 @@ pub record IsOpenFor (digest : List ℕ) (jobs : List JobState) (b : BookView) :
   pub digest_is : b.digest ≡ digest
   pub jobs_are : b.jobs ≡ jobs
 
--- such a book, to which its history replays, and which holds a finding of each whole job: as many were accepted as there are jobs
+-- such a book, to which its history replays, and which holds a finding of each job: as many were accepted as there are
+-- jobs
 pub record IsFull (digest : List ℕ) (jobs : List JobState) (b : BookView) : Type 0 where
   pub is_open : IsOpenFor digest jobs b
   pub replays : IsReplayed b
@@ -34,8 +35,8 @@ lacking b (suc n) = lacking b n ++ (if is_some (found_in b n) then [] else n ∷
 abbrev pub accepted_entry : List ℕ → ℕ → Entry
 accepted_entry digest number = Filed (record { digest = digest; number = number; same = true; reply = Accepted })
 
--- The second book is the first one after a finding was filed for each number below this one that lacked one, in order, and each
--- was accepted: nothing else was filed, and what was held is held still.
+-- The second book is the first one after a finding was filed for each number below this one that lacked one, in order,
+-- and each was accepted: nothing else was filed, and what was held is held still.
 pub record IsFilledTo (b c : BookView) (below : ℕ) : Type 0 where
   pub digest_stays : c.digest ≡ b.digest
   pub jobs_stay : c.jobs ≡ b.jobs
@@ -65,6 +66,7 @@ IsHeldOrFiled b c number = ((is_some (found_in b number) ≡ true) × (c ≡ b))
 
 -- ---- how many jobs are run
 
+-- the shapes of jobs
 abbrev pub shapes_of : List JobState → List ShapeState
 shapes_of jobs = map shape_of jobs
 

@@ -1,4 +1,4 @@
--- What the first fault means: the whole run has it too. The jobs run as the plane does while no border has a fault.
+-- The meaning of the first fault: the whole run has it too. The jobs run as the plane does while no border has a fault.
 --
 -- Read before: Implements.antt; certificate_lines/specs/Entries.antt up to `stop_in` (the lines of a module).
 use Rattle.std.specs.Prelude.{◌≡◌, ℕ, suc, ℤ, ◌<◌, ◌≤◌, List, Some, Contains, slice_get}
@@ -62,7 +62,7 @@ IsAsCertified c p m v t Stop x y = (s : StopLine) → Contains (stops m) s → s
     run_under c p v t x y ≡ values_by_name c v s.wire
 IsAsCertified c p m v t End x y = Meets v (end_demand c p x y) (run_under c p v t x y)
 
--- A fault of module i under the assignment that v gives its cuts, where the borders are good at all times before it
+-- A fault of module i under the assignment that v gives its cuts, if the borders are good at all times before it
 pub record IsFirstFault (lines : List Entry) (p : Pattern) (ms : List ModuleLines) (jobs : List JobState)
     (inputs v : Valuation) (i : ℕ) (m : ModuleLines) (f : Fault) : Type 0 where
   pub bundle : BelongTogether lines p ms jobs
@@ -109,10 +109,9 @@ EarliestLineIsFirst = (lines : List Entry) (p : Pattern) (ms : List ModuleLines)
 abbrev pub HasAssignment : Circuit → ModuleLines → Valuation → ℕ → Type 0
 HasAssignment c m v a = (k : ℕ) (name : List ℕ) → slice_get (cuts m) k ≡ Some name → values_by_name c v name ≡ bit a k
 
--- The fault of module m is one of the whole plane, where the inputs have these values and the wires the values v: there
+-- The fault of module m is one of the whole plane, if the inputs have these values and the wires the values v: there
 -- the cell is not as certified. If it is a fault at the end, the plane does not look as asked after the last step, so
--- the
--- layout does not compute the circuit.
+-- the layout does not compute the circuit.
 pub record IsReal (lines : List Entry) (p : Pattern) (m : ModuleLines) (inputs v : Valuation) (f : Fault) : Type 0 where
   pub differs : ¬ IsAsCertified (circuit_of lines) p m v f.time f.kind f.cell.x f.cell.y
   pub not_asked : f.kind ≡ End →

@@ -1,4 +1,4 @@
--- Why a yes means the whole pattern, step by step
+-- The reason why a yes is right for the whole layout, step by step
 use Rattle.std.specs.Prelude.{◌≡◌, ℕ, suc, ℤ, ◌<◌, ◌≤◌, List, None, [], Some, slice_get, take, IsTrue, IsFalse}
 use Rattle.circuit.specs.Entries.{defined}
 use Rattle.circuit.specs.Bridge.{circuit_of, input_names, netlist_of, output_names}
@@ -25,9 +25,10 @@ use Rattle.audit_core.specs.Implements.{IsCorrect, IsNamed, LooksAsAsked, run_un
 use Rattle.audit_core.specs.OnTime.{IsOnTime}
 use Rattle.audit_core.specs.Verdicts.{Accepts}
 
--- What is known of a bundle that was read: the lines of its circuit, its layout, its modules and their jobs. `Circuit::gates`,
--- `Layout::size`, `Cert::modules` and `Cert::jobs` say it.
-pub record BelongTogether (lines : List Entry) (p : Pattern) (ms : List ModuleLines) (jobs : List JobState) : Type 0 where
+-- The lines of the circuit, the layout, the modules and the jobs are those of a bundle that was read. `Circuit::gates`,
+-- `Layout::size`, `Cert::modules` and `Cert::jobs` state these facts.
+pub record BelongTogether (lines : List Entry) (p : Pattern) (ms : List ModuleLines)
+    (jobs : List JobState) : Type 0 where
   pub ordered : AreOrdered (netlist_of lines).given (netlist_of lines).gates
   pub limits : size_fault p.size ≡ None
   pub laid_out : AreGoodAfter p.size [] (parts_of p)
@@ -35,7 +36,8 @@ pub record BelongTogether (lines : List Entry) (p : Pattern) (ms : List ModuleLi
   pub are_jobs : AreJobsOf (circuit_of lines) p ms jobs
 
 -- such a bundle, in which neither a job nor a border has a fault, and the rules on delays and meetings are kept
-pub record IsAcceptedBundle (lines : List Entry) (p : Pattern) (ms : List ModuleLines) (jobs : List JobState) : Type 0 where
+pub record IsAcceptedBundle (lines : List Entry) (p : Pattern) (ms : List ModuleLines)
+    (jobs : List JobState) : Type 0 where
   pub bundle : BelongTogether lines p ms jobs
   pub accepted : Accepts (setting_of lines p) ms jobs
 
@@ -46,9 +48,10 @@ pub record HasNoFault (lines : List Entry) (p : Pattern) (ms : List ModuleLines)
 
 -- no job has a fault of the kind `End`
 abbrev pub HasNoEndFault : List JobState → Type 0
-HasNoEndFault jobs = (number : ℕ) (j : JobState) (f : Fault) → slice_get jobs number ≡ Some j → f.kind ≡ End → ¬ IsFault j f
+HasNoEndFault jobs = (number : ℕ) (j : JobState) (f : Fault) → slice_get jobs number ≡ Some j → f.kind ≡ End →
+    ¬ IsFault j f
 
--- At time t no cell outside the rectangle is live, and in the box of each job the plane is the job's run by itself, where the
+-- At time t no cell outside the rectangle is live. In the box of each job the plane is the job's run by itself, if the
 -- job's wires have the values that they have in the circuit.
 pub record IsRunOfJobs (lines : List Entry) (p : Pattern) (jobs : List JobState) (v : Valuation) (t : ℕ) : Type 0 where
   pub outside : (x y : ℤ) → IsFalse (in_box (whole p.size) x y) → IsFalse (run_under (circuit_of lines) p v t x y)
@@ -60,13 +63,15 @@ abbrev pub StartsAsJobs : Type 0
 StartsAsJobs = (lines : List Entry) (p : Pattern) (ms : List ModuleLines) (jobs : List JobState) (v : Valuation) →
     BelongTogether lines p ms jobs → IsRunOfJobs lines p jobs v 0
 
--- where it is so before a step, and neither a job nor a border has a fault, it is so after the step
+-- if it is so before a step, and neither a job nor a border has a fault, it is so after the step
 abbrev pub StepsAsJobs : Type 0
-StepsAsJobs = (lines : List Entry) (p : Pattern) (ms : List ModuleLines) (jobs : List JobState) (inputs v : Valuation) (t : ℕ) →
-    BelongTogether lines p ms jobs → HasNoFault lines p ms jobs → Satisfies (netlist_of lines) inputs v → t < p.size.steps →
+StepsAsJobs = (lines : List Entry) (p : Pattern) (ms : List ModuleLines) (jobs : List JobState) (inputs v : Valuation)
+    (t : ℕ) →
+    BelongTogether lines p ms jobs → HasNoFault lines p ms jobs → Satisfies (netlist_of lines) inputs v →
+    t < p.size.steps →
     IsRunOfJobs lines p jobs v t → IsRunOfJobs lines p jobs v (suc t)
 
--- where it is so after the last step, and no job has a fault, the plane looks as the layout asks
+-- if it is so after the last step, and no job has a fault, the plane looks as the layout asks
 abbrev pub EndsAsAsked : Type 0
 EndsAsAsked = (lines : List Entry) (p : Pattern) (ms : List ModuleLines) (jobs : List JobState) (inputs v : Valuation) →
     BelongTogether lines p ms jobs → HasNoEndFault jobs → Satisfies (netlist_of lines) inputs v →
@@ -77,12 +82,14 @@ EndsAsAsked = (lines : List Entry) (p : Pattern) (ms : List ModuleLines) (jobs :
 
 -- no gate of what is accepted is the first that has no row: some module keeps it, and would have a keep fault
 abbrev pub NoneIsUndefined : Type 0
-NoneIsUndefined = (lines : List Entry) (p : Pattern) (ms : List ModuleLines) (jobs : List JobState) (inputs : Valuation) (k : ℕ) →
+NoneIsUndefined = (lines : List Entry) (p : Pattern) (ms : List ModuleLines) (jobs : List JobState) (inputs : Valuation)
+    (k : ℕ) →
     IsAcceptedBundle lines p ms jobs → ¬ IsUndefined (netlist_of lines) inputs k
 
 -- so the circuit has a valuation, whatever its inputs are
 abbrev pub AcceptedHasValuation : Type 0
-AcceptedHasValuation = (lines : List Entry) (p : Pattern) (ms : List ModuleLines) (jobs : List JobState) (inputs : Valuation) →
+AcceptedHasValuation = (lines : List Entry) (p : Pattern) (ms : List ModuleLines) (jobs : List JobState)
+    (inputs : Valuation) →
     IsAcceptedBundle lines p ms jobs → (v : Valuation) × Satisfies (netlist_of lines) inputs v
 
 -- ---- the run by the inputs alone
@@ -97,10 +104,11 @@ pub record IsInputName (lines : List Entry) (name : List ℕ) : Type 0 where
 abbrev pub HasInputNames : List Entry → Pattern → Type 0
 HasInputNames lines p = (i : ℕ) (q : Port) → slice_get p.ins i ≡ Some q → IsInputName lines q.name
 
--- It is so in a layout that was read with the names of the circuit's ports. `Circuit::inputs`, `port_names` and `read_layout` say what
--- is asked here.
+-- It is so in a layout that was read with the names of the circuit's ports. `Circuit::inputs`, `port_names` and
+-- `read_layout` say what is asked here.
 abbrev pub ReadLayoutHasInputNames : Type 0
-ReadLayoutHasInputNames = (lines : List Entry) (p : Pattern) → take (netlist_of lines).given (defined lines) ≡ input_names lines →
+ReadLayoutHasInputNames = (lines : List Entry) (p : Pattern) →
+    take (netlist_of lines).given (defined lines) ≡ input_names lines →
     AreNamed (Some (record { ins = input_names lines; outs = output_names lines })) (parts_of p) → HasInputNames lines p
 
 -- All its ports are named as the inputs and outputs then.
@@ -108,14 +116,17 @@ abbrev pub ReadLayoutIsNamed : Type 0
 ReadLayoutIsNamed = (lines : List Entry) (p : Pattern) →
     AreNamed (Some (record { ins = input_names lines; outs = output_names lines })) (parts_of p) → IsNamed lines p
 
--- Where input cells have the names of inputs, the run depends on the values of the inputs alone: it is that in which just the input cells begin whose input is true.
+-- If input cells have the names of inputs, the run depends on the values of the inputs alone: it is that in which just
+-- the input cells begin whose input is true.
 abbrev pub InputsDecideTheRun : Type 0
-InputsDecideTheRun = (lines : List Entry) (p : Pattern) (inputs v : Valuation) (t : ℕ) (x y : ℤ) → HasInputNames lines p →
-    Satisfies (netlist_of lines) inputs v → run_under (circuit_of lines) p v t x y ≡ run_under (circuit_of lines) p inputs t x y
+InputsDecideTheRun = (lines : List Entry) (p : Pattern) (inputs v : Valuation) (t : ℕ) (x y : ℤ) →
+    HasInputNames lines p →
+    Satisfies (netlist_of lines) inputs v →
+    run_under (circuit_of lines) p v t x y ≡ run_under (circuit_of lines) p inputs t x y
 
 -- ---- the whole
 
--- so what is accepted is correct, where the ports have the names of inputs and outputs
+-- so what is accepted is correct, if the ports have the names of inputs and outputs
 abbrev pub AcceptedIsCorrect : Type 0
 AcceptedIsCorrect = (lines : List Entry) (p : Pattern) (ms : List ModuleLines) (jobs : List JobState) →
     HasInputNames lines p → IsNamed lines p → IsAcceptedBundle lines p ms jobs → IsCorrect lines p
@@ -127,6 +138,7 @@ AcceptedIsOnTime = (lines : List Entry) (p : Pattern) (ms : List ModuleLines) (j
 
 -- ---- some bundle with an odd time is accepted, so the laws are not about nothing
 
+-- some bundle with an odd time is accepted
 pub record Example : Type 0 where
   pub lines : List Entry
   pub layout : Pattern
@@ -137,6 +149,7 @@ pub record Example : Type 0 where
 
 -- ---- and some layout is not correct, though its ports are named as the circuit's
 
+-- some layout whose ports are named as the circuit's is not correct
 pub record WrongExample : Type 0 where
   pub lines : List Entry
   pub layout : Pattern

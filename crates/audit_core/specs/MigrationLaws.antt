@@ -1,4 +1,4 @@
--- What is accepted with its halo lines is accepted without them
+-- The law that modules that are accepted with their halo lines are accepted without them
 use Rattle.std.specs.Prelude.{◌≡◌, false, List, map}
 use Rattle.circuit.specs.Bridge.{circuit_of}
 use Rattle.circuit.specs.declared.entry.Entry.{Entry}
@@ -14,15 +14,18 @@ use Rattle.certificate_lines.specs.Versions.{lacks_wire, with_halos}
 use Rattle.audit_core.specs.Concluding.{AreOwnJobs, modules, setting}
 use Rattle.audit_core.specs.Verdicts.{Accepts}
 
--- The modules and their jobs are accepted. Then no edge line names a wire that a module beside it lacks, and with the edge lines beside
--- them in the place of their own halo lines the modules are accepted too.
+-- The modules and their jobs are accepted. Then no edge line names a wire that a module beside it lacks. With the edge
+-- lines beside them in place of their own halo lines the modules are accepted too.
 pub record IsAcceptedWithout (lines : List Entry) (p : Pattern) (ms : List ModuleLines) : Type 0 where
   pub complete : lacks_wire (setting_of lines p) ms ≡ false
-  pub accepted : (jobs : List JobState) → AreJobsOf (circuit_of lines) p (map (with_halos (setting_of lines p) ms) ms) jobs →
+  pub accepted : (jobs : List JobState) →
+      AreJobsOf (circuit_of lines) p (map (with_halos (setting_of lines p) ms) ms) jobs →
       Accepts (setting_of lines p) (map (with_halos (setting_of lines p) ms) ms) jobs
 
+-- Modules that are accepted with their halo lines are accepted with the edge lines beside them in place of these.
 abbrev pub AcceptedWithoutHalos : Type 0
-AcceptedWithoutHalos = (lines : List Entry) (p : Pattern) (ms : List ModuleLines) (jobs : List JobState) → AreModules (setting_of lines p) ms →
+AcceptedWithoutHalos = (lines : List Entry) (p : Pattern) (ms : List ModuleLines) (jobs : List JobState) →
+    AreModules (setting_of lines p) ms →
     AreJobsOf (circuit_of lines) p ms jobs → Accepts (setting_of lines p) ms jobs → IsAcceptedWithout lines p ms
 
 -- ---- certificates
@@ -34,4 +37,5 @@ pub record IsAcceptedMigration (c : CertState) : Type 0 where
 
 -- what version 1 accepts, its migration accepts
 abbrev pub MigrationIsAccepted : Type 0
-MigrationIsAccepted = (c : CertState) (jobs : List JobState) → c.version ≡ 1 → IsSectionOf (setting c) 1 c.entries → AreOwnJobs c jobs → Accepts (setting c) (modules c) jobs → IsAcceptedMigration c
+MigrationIsAccepted = (c : CertState) (jobs : List JobState) → c.version ≡ 1 → IsSectionOf (setting c) 1 c.entries →
+    AreOwnJobs c jobs → Accepts (setting c) (modules c) jobs → IsAcceptedMigration c

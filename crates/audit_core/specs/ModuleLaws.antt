@@ -19,7 +19,7 @@ abbrev pub ModuleHasOneJob : Type 0
 ModuleHasOneJob = (c : Circuit) (p : Pattern) (m : ModuleLines) (j k : JobState) → AreDifferent (known c m) →
     IsJobOf c p m j → IsJobOf c p m k → j ≡ k
 
--- a module that is as the grammar asks has a job, where the gates of the circuit are ordered
+-- a module that is as the grammar asks has a job, if the gates of the circuit are ordered
 abbrev pub ModuleHasSomeJob : Type 0
 ModuleHasSomeJob = (lines : List Entry) (p : Pattern) (m : ModuleLines) →
     AreOrdered (netlist_of lines).given (netlist_of lines).gates → IsModule (setting_of lines p) m →
@@ -32,7 +32,7 @@ pub record HasVerdict (lines : List Entry) (p : Pattern) (ms : List ModuleLines)
   pub verdict : Verdict
   pub judged : IsVerdict (setting_of lines p) ms jobs verdict
 
--- the modules of a certificate have a verdict, where circuit, layout and modules are as the grammars ask
+-- the modules of a certificate have a verdict, if circuit, layout and modules are as the grammars ask
 abbrev pub ModulesHaveVerdict : Type 0
 ModulesHaveVerdict = (lines : List Entry) (p : Pattern) (ms : List ModuleLines) → AreGood lines →
     size_fault p.size ≡ None →

@@ -1,4 +1,4 @@
--- What a yes promises of stops, delays and meetings.
+-- The meaning of a yes for stops, delays and meetings.
 use Rattle.std.specs.Prelude.{◌≡◌, List}
 use Rattle.std.specs.List.{All}
 use Rattle.circuit.specs.Meaning.{Circuit, Valuation, Satisfies, values_by_name}
@@ -9,9 +9,10 @@ use Rattle.certificate.specs.Times.{all_stops}
 use Rattle.certificate_lines.specs.declared.entry.StopLine.{StopLine}
 use Rattle.audit_core.specs.Implements.{run_under}
 
--- for all values of the inputs, the cell of the stop is live at its time exactly where its wire is true
+-- for all values of the inputs, the cell of the stop is live at its time exactly if its wire is true
 abbrev pub StopHolds : Circuit → Pattern → StopLine → Type 0
-StopHolds c p s = (inputs v : Valuation) → Satisfies c.netlist inputs v → run_under c p inputs s.time s.cell.x s.cell.y ≡ values_by_name c v s.wire
+StopHolds c p s = (inputs v : Valuation) → Satisfies c.netlist inputs v →
+    run_under c p inputs s.time s.cell.x s.cell.y ≡ values_by_name c v s.wire
 
 -- all stops of modules do, each delay takes as many steps as it says, and the inputs of each gate meet
 pub record IsOnTime (c : Circuit) (p : Pattern) (ms : List ModuleLines) : Type 0 where

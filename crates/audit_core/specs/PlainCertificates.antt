@@ -1,4 +1,4 @@
--- What a no means under a plain certificate, of one module that is the whole rectangle: `check` decides the layout.
+-- The meaning of a no under a plain certificate, of one module that is the whole rectangle: `check` decides the layout.
 --
 -- Read before: Implements.antt, OnTime.antt, FirstFaults.antt.
 use Rattle.std.specs.Prelude.{◌≡◌, ◌≢◌, ℕ, ℤ, ◌<◌, ◌%◌, ◌↔◌, ◌⊎◌, List, [], ◌∷◌, Some, None, slice_get, IsTrue}
@@ -42,8 +42,7 @@ pub record IsPlain (lines : List Entry) (p : Pattern) (m : ModuleLines) : Type 0
   pub no_edge : edges m ≡ []
 
 -- The inputs have these values. Then the cell (x, y) of the rim is live at this odd time below the steps. The rim is
--- the
--- outermost cells of the rectangle.
+-- the outermost cells of the rectangle.
 pub record IsLiveOnRim (lines : List Entry) (p : Pattern) (inputs : Valuation) (time : ℕ) (x y : ℤ) : Type 0 where
   pub odd : time % 2 ≡ 1
   pub early : time < p.size.steps
@@ -71,7 +70,7 @@ PlainCertificateDecides = (lines : List Entry) (p : Pattern) (m : ModuleLines) (
     Accepts (setting_of lines p) (m ∷ []) jobs ↔ (IsCorrect lines p × IsOnTime (circuit_of lines) p
     (m ∷ []) × ¬ TouchesRim lines p)
 
--- what is wrong where the verdict is no: the layout, the stops, or the rim
+-- what is wrong if the verdict is no: the layout, the stops, or the rim
 abbrev pub IsWrongDesign : List Entry → Pattern → ModuleLines → Type 0
 IsWrongDesign lines p m = (¬ IsCorrect lines p) ⊎ ((¬ IsOnTime (circuit_of lines) p (m ∷ [])) ⊎ TouchesRim lines p)
 
@@ -85,11 +84,9 @@ PlainNoMeansWrong = (lines : List Entry) (p : Pattern) (m : ModuleLines) (jobs :
 
 -- ---- what each line means under a plain certificate
 
--- What a `local` line shows: inputs that have its assignment, and values of the wires for these, under which its fault
--- is
--- real. If it is an edge line, its cell of the rim is live at its time. If it is a stop line, some stop is wrong. If it
--- is
--- an end line, the layout does not compute the circuit (`IsReal`).
+-- The meaning of a `local` line: there are inputs that have its assignment, and values of the wires for these, under
+-- which its fault is real. If it is an edge line, its cell of the rim is live at its time. If it is a stop line, some
+-- stop is wrong. If it is an end line, the layout does not compute the circuit (`IsReal`).
 pub record Shows (lines : List Entry) (p : Pattern) (m : ModuleLines) (f : Fault) : Type 0 where
   pub inputs : Valuation
   pub under : HasAssignment (circuit_of lines) m inputs f.assignment
@@ -99,18 +96,16 @@ pub record Shows (lines : List Entry) (p : Pattern) (m : ModuleLines) (f : Fault
   pub on_rim : f.kind ≡ Edge → IsLiveOnRim lines p inputs f.time f.cell.x f.cell.y
   pub wrong_stop : f.kind ≡ Stop → ¬ All (StopHolds (circuit_of lines) p) (stops m)
 
--- What a `keep` line shows: inputs that have its assignment, for which the circuit has no values. So the layout does
--- not
--- compute it.
+-- The meaning of a `keep` line: there are inputs that have its assignment, for which the circuit has no values. So the
+-- layout does not compute it.
 pub record LacksValues (lines : List Entry) (p : Pattern) (m : ModuleLines) (assignment : ℕ) : Type 0 where
   pub inputs : Valuation
   pub under : HasAssignment (circuit_of lines) m inputs assignment
   pub lacks : (v : Valuation) → ¬ Satisfies (netlist_of lines) inputs v
   pub incorrect : ¬ IsCorrect lines p
 
--- What each line of a report means. No `border` and no `unkept` line occurs. A `delay` line that tells another number
--- of
--- steps than it wants, and a `meet` line without a time, say that the stops are not on time.
+-- The meaning of each line of a report. No `border` and no `unkept` line occurs. If a `delay` line has another number
+-- of steps than it must have, or a `meet` line has no time, the stops are not on time.
 abbrev pub LineMeans : List Entry → Pattern → ModuleLines → ReportLine → Type 0
 LineMeans lines p m (Local i f) = Shows lines p m f
 LineMeans lines p m (Keep i f) = LacksValues lines p m f.assignment
@@ -127,7 +122,7 @@ PlainLinesMean = (lines : List Entry) (p : Pattern) (m : ModuleLines) (jobs : Li
     IsPlain lines p m →
     IsVerdict (setting_of lines p) (m ∷ []) jobs (No report) → All (LineMeans lines p m) report.items
 
--- where the module has no stop and the circuit no delay, nothing is asked of times
+-- if the module has no stop and the circuit no delay, nothing is asked of times
 abbrev pub UntimedIsOnTime : Type 0
 UntimedIsOnTime = (lines : List Entry) (p : Pattern) (m : ModuleLines) →
     stops m ≡ [] → All (λ g. (n : ℕ) → ¬ (g.kind ≡ Delay n)) (netlist_of lines).gates → IsOnTime (circuit_of lines) p

@@ -8,8 +8,9 @@ use Rattle.audit_core.specs.declared.reply.Mismatch.TheVariants.{Digest, Number,
 use Rattle.audit_core.specs.declared.reply.Reply.{Reply}
 use Rattle.audit_core.specs.declared.reply.Reply.TheVariants.{Closed, Stranger, Double, Accepted}
 
--- The reply of a book with this digest and as many jobs, which is closed or not, to a finding of another digest and number: the
--- first that applies. `same`: the finding's job is the book's of that number. `taken`: one is held for that number.
+-- The reply of a book with this digest and as many jobs, which is closed or not, to a finding of another digest and
+-- number: the first that applies. `same`: the finding's job is the book's of that number. `taken`: one is held for that
+-- number.
 abbrev pub rule : List ℕ → ℕ → Bool → Bool → List ℕ → ℕ → Bool → Reply
 rule own count closed taken digest number same =
     if closed then Closed
@@ -61,7 +62,8 @@ has_closing (Closing ∷ es) = true
 
 -- the stored reply is the one that the rule gives there
 abbrev pub IsDue : List ℕ → ℕ → Replayed → Entry → Type 0
-IsDue own count p (Filed f) = f.reply ≡ rule own count p.closed (has_number p.accepted f.number) f.digest f.number f.same
+IsDue own count p (Filed f) =
+    f.reply ≡ rule own count p.closed (has_number p.accepted f.number) f.digest f.number f.same
 IsDue own count p Closing = ⊤
 
 -- so is each of these, entry after entry

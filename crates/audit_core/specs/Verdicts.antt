@@ -26,13 +26,14 @@ use Rattle.audit_core.specs.declared.verdict.Verdict.TheVariants.{Yes, No}
 
 -- ---- what is accepted
 
--- no job has a fault, no module has a border fault, no job has a keep fault, each inverse gate is kept by some module, and the rules on
--- delays and meetings are kept
+-- No job has a fault, and no module has a border fault. No job has a keep fault, and some module keeps each inverse
+-- gate. The rules on delays and meetings are kept.
 pub record Accepts (g : Setting) (ms : List ModuleLines) (jobs : List JobState) : Type 0 where
   pub no_fault : (number : ℕ) (j : JobState) (f : Fault) → slice_get jobs number ≡ Some j → ¬ IsFault j f
   pub no_border_fault : (number : ℕ) (f : BorderFault) → ¬ IsBorderFault g ms number f
   pub no_keep_fault : (number : ℕ) (j : JobState) (f : KeepFault) → slice_get jobs number ≡ Some j → ¬ IsKeepFault j f
-  pub kept : (number : ℕ) (gate : Gate) → slice_get g.circuit.netlist.gates number ≡ Some gate → IsTrue (is_inverse gate.kind) → IsTrue (is_kept ms number)
+  pub kept : (number : ℕ) (gate : Gate) → slice_get g.circuit.netlist.gates number ≡ Some gate →
+      IsTrue (is_inverse gate.kind) → IsTrue (is_kept ms number)
   pub on_time : IsTrue (are_all_kept (time_lines g.circuit ms))
 
 -- ---- the lines of a report
@@ -41,7 +42,8 @@ pub record Accepts (g : Setting) (ms : List ModuleLines) (jobs : List JobState) 
 abbrev pub renumber_keep : JobState → KeepFault → KeepFault
 renumber_keep j f = record f { gate = circuit_gate j.locals f.gate }
 
--- what is told of a job: its least fault, if there is one, and its least keep fault, by the number of the gate in the circuit
+-- what is told of a job: its least fault, if there is one, and its least keep fault, by the number of the gate in the
+-- circuit
 pub record IsToldOf (j : JobState) (r : Reasons) : Type 0 where
   pub fault : IsLeastFault j r.fault
   pub keep : Option KeepFault
@@ -51,23 +53,28 @@ pub record IsToldOf (j : JobState) (r : Reasons) : Type 0 where
 -- it is told of each of the jobs
 pub record AreLeastFaults (jobs : List JobState) (fs : List Reasons) : Type 0 where
   pub count : length fs ≡ length jobs
-  pub each : (number : ℕ) (j : JobState) (f : Reasons) → slice_get jobs number ≡ Some j → slice_get fs number ≡ Some f → IsToldOf j f
+  pub each : (number : ℕ) (j : JobState) (f : Reasons) → slice_get jobs number ≡ Some j → slice_get fs number ≡ Some f →
+      IsToldOf j f
 
+-- the line for the least fault of a module's job, if it has one
 abbrev pub local_line : ℕ → Option Fault → Option ReportLine
 local_line number f = option_map (λ f. Local number f) f
 
+-- the line for the least keep fault of a module's job, if it has one
 abbrev pub keep_line : ℕ → Option KeepFault → Option ReportLine
 keep_line number f = option_map (λ f. Keep number f) f
 
+-- the line for the least border fault of a module, if it has one
 abbrev pub border_line : ℕ → Option BorderFault → Option ReportLine
 border_line number f = option_map (λ f. Border number f) f
 
--- of each module, from this number on: its least fault, its least keep fault, and then its least border fault
+-- the lines of each module, from this number on: its least fault, its least keep fault, and then its least border fault
 unfoldable pub lines_from : ℕ → List Reasons → List (Option BorderFault) → List ReportLine
 lines_from number [] borders = []
 lines_from number (f ∷ faults) [] = []
 lines_from number (f ∷ faults) (b ∷ borders) =
-    option_to_list (local_line number f.fault) ++ option_to_list (keep_line number f.keep) ++ option_to_list (border_line number b) ++ lines_from (number + 1) faults borders
+    option_to_list (local_line number f.fault) ++ option_to_list (keep_line number f.keep)
+    ++ option_to_list (border_line number b) ++ lines_from (number + 1) faults borders
 
 -- then the inverse gates that no module keeps
 abbrev pub unkept_lines : Setting → List ModuleLines → List ReportLine
@@ -79,7 +86,8 @@ timing (times.Delay gate wanted gap) = Delay gate wanted gap
 timing (times.Meet gate at) = Meet gate at
 
 -- all lines on modules of these jobs
-pub record AreReportLines (g : Setting) (ms : List ModuleLines) (jobs : List JobState) (lines : List ReportLine) : Type 0 where
+pub record AreReportLines (g : Setting) (ms : List ModuleLines) (jobs : List JobState)
+    (lines : List ReportLine) : Type 0 where
   pub faults : List Reasons
   pub are_least : AreLeastFaults jobs faults
   pub borders : List (Option BorderFault)
@@ -87,14 +95,14 @@ pub record AreReportLines (g : Setting) (ms : List ModuleLines) (jobs : List Job
   -- then the inverse gates that no module keeps, and then a line for each delay and each meeting
   pub lines_are : lines ≡ lines_from 0 faults borders ++ unkept_lines g ms ++ map timing (time_lines g.circuit ms)
 
--- `Yes` where the modules are accepted, and else `No` with all lines
+-- `Yes` if the modules are accepted, and else `No` with all lines
 unfoldable pub IsVerdict : Setting → List ModuleLines → List JobState → Verdict → Type 0
 IsVerdict g ms jobs Yes = Accepts g ms jobs
 IsVerdict g ms jobs (No lines) = (¬ Accepts g ms jobs) × AreReportLines g ms jobs lines.items
 
 -- ---- which findings a verdict needs
 
--- the book holds a finding for this number, and it is of this whole job
+-- the book holds a finding for this number, and it is of this job
 pub record IsHeld (b : BookView) (number : ℕ) (j : JobState) : Type 0 where
   pub finding : Finding
   pub held : found_in b number ≡ Some finding
@@ -102,7 +110,8 @@ pub record IsHeld (b : BookView) (number : ℕ) (j : JobState) : Type 0 where
 
 -- it does for each of the jobs below this number
 abbrev pub AreHeldBelow : BookView → List JobState → ℕ → Type 0
-AreHeldBelow b jobs count = (number : ℕ) (j : JobState) → number < count → slice_get jobs number ≡ Some j → IsHeld b number j
+AreHeldBelow b jobs count = (number : ℕ) (j : JobState) → number < count → slice_get jobs number ≡ Some j →
+    IsHeld b number j
 
 -- the first of the jobs for which it does not
 pub record IsFirstMissing (b : BookView) (jobs : List JobState) (number : ℕ) : Type 0 where

@@ -10,11 +10,13 @@ use std::alloc::{AllocError, Global};
 use std::marker::Model;
 use std::sync::Arc;
 
-/// The jobs of a certificate, under its digest, and for each of their numbers the finding that is held for it, if there
-/// is one; and an entry for each filing so far. Contracts see it as a `BookView`.
+/// A book: the jobs of a certificate, under its digest, the findings that it holds, and their history. Contracts see it
+/// as a `BookView`.
+///
+/// It holds at most one finding for each number of a job. The history has an entry for each filing so far.
 ///
 /// By its type each finding that is held was made for the book's digest, for the number that it is held for, and for
-/// the book's whole job of that number; and the history replays to what the book holds and to whether it is closed.
+/// the book's job of that number. The history replays to what the book holds and to whether it is closed.
 #[derive(Drop)]
 pub struct BookState {
     digest: [u8; 32],
@@ -42,7 +44,7 @@ impl Model for BookState {
     ghost invariant = { IsKeptBook };
 }
 
-/// The finding that could not be filed for want of memory.
+/// The finding that could not be filed, since the book was out of memory.
 #[derive(Drop)]
 pub struct NotFiled {
     pub finding: Finding,
@@ -53,8 +55,7 @@ impl BookState {
     ghost use Rattle.audit_core.specs.Verdicts.{IsHeld};
     ghost use Rattle.audit_core.specs.Book.{IsBook, IsOwn, IsReplayed, accepted_in, after_closing, after_filing, count_after, filing_of, found_in, is_job_of, new_book, reply_to};
 
-    /// An open book of these jobs, numbered from 0 in their order, in which nothing is held, without history.
-    /// `AllocError` is want of memory.
+    /// Creates an open book of these jobs, numbered from 0 in their order, without findings and without history.
     pub fn new(
         alloc: Global,
         digest: [u8; 32],
@@ -73,10 +74,14 @@ impl BookState {
         })
     }
 
-    /// Files a finding. It is held from now on where the reply is `Accepted`; otherwise it is dropped, and what is held
-    /// stays. The history gets an entry whatever the reply is.
+    /// Files a finding.
     ///
-    /// `NotFiled` is want of memory: then the book is as before, and the finding comes back.
+    /// If the reply is `Accepted`, the book holds the finding from now on. Otherwise it drops the finding and keeps
+    /// what it holds. The history gets an entry whatever the reply is.
+    ///
+    /// # Errors
+    ///
+    /// `NotFiled` if the book is out of memory. The book is then as before, and the finding comes back.
     pub fn file(&mut self, finding: Finding) -> Result<Reply, NotFiled>
         ensures reply { IfOk result (λ r. r ≡ reply_to self.old finding) }
         ensures after { IfOk result (λ _. self.new ≡ after_filing self.old finding) }
@@ -113,7 +118,7 @@ impl BookState {
         }
     }
 
-    // Whether this is the whole job of that number.
+    // Whether this is the job of that number.
     fn has_job(&self, number: usize, job: &Job) -> bool
         ensures { result ≡ is_job_of self.now.jobs number job.now }
     {
@@ -147,8 +152,11 @@ impl BookState {
         }
     }
 
-    /// Closes the book, with an entry that says so: from now on each finding is answered `Closed`. `AllocError` is want
-    /// of memory: then the book is as before.
+    /// Closes the book, with an entry that says so: from now on it answers `Closed` to each finding.
+    ///
+    /// # Errors
+    ///
+    /// Out of memory. The book is then as before.
     pub fn close(&mut self) -> Result<(), AllocError>
         ensures after { OnOk result (self.new ≡ after_closing self.old) }
         ensures unchanged { OnErr result (self.new ≡ self.old) }
@@ -158,15 +166,16 @@ impl BookState {
         Ok(())
     }
 
-    /// Whether the book is closed.
+    /// Returns whether the book is closed.
     pub fn is_closed(&self) -> bool
         ensures { result ≡ self.now.closed }
     {
         self.closed
     }
 
-    /// What was filed and when the book was closed, in this order. It replays to what the book holds and to whether it
-    /// is closed.
+    /// Returns the filings and closings so far, in this order.
+    ///
+    /// They replay to what the book holds and to whether it is closed.
     pub fn history(&self) -> &[Entry]
         ensures entries { result.now ≡ self.now.history }
         ensures replays { IsReplayed self.now }
@@ -175,8 +184,9 @@ impl BookState {
         history.as_slice()
     }
 
-    /// The finding that is held for a number. It was made for the book's digest, for this number and for the book's
-    /// whole job of it. `None` where none is held, as for a number past the last job.
+    /// Returns the finding that is held for a number, or `None` if none is held, as for a number past the last job.
+    ///
+    /// It was made for the book's digest, for this number and for the book's job of it.
     pub fn found(&self, number: usize) -> Option<&Finding>
         ensures held { option_copied result ≡ found_in self.now number }
         ensures own { IfSome result (λ f. IsOwn self.now number f.now) }
@@ -187,7 +197,7 @@ impl BookState {
         }
     }
 
-    // The finding that is held for a number, where it is of this whole job.
+    // The finding that is held for a number, if it is of this job.
     pub(crate) fn found_for(&self, number: usize, job: &Job) -> Option<&Finding>
         ensures held { IfSome result (λ f. (found_in self.now number ≡ Some f.now)
             × (job_of f.now ≡ job.now)) }
@@ -204,7 +214,7 @@ impl BookState {
         }
     }
 
-    /// For how many numbers a finding is held: at most as many as there are jobs.
+    /// Returns for how many numbers a finding is held: at most as many as there are jobs.
     pub fn accepted(&self) -> usize
         ensures count { result ≡ accepted_in self.now }
         ensures at_most { result ≤ length self.now.jobs }
@@ -220,14 +230,14 @@ impl BookState {
         self.accepted == self.jobs.len()
     }
 
-    /// The digest of the certificate that the book is for.
+    /// Returns the digest of the certificate that the book is for.
     pub fn digest(&self) -> [u8; 32]
         ensures { result ≡ self.now.digest }
     {
         self.digest
     }
 
-    /// The jobs, in the order of their numbers.
+    /// Returns the jobs, in the order of their numbers.
     pub fn jobs(&self) -> &[Arc<Job>]
         ensures { map arc_value result.now ≡ self.now.jobs }
     {

@@ -1,4 +1,4 @@
-//! What a claim gives.
+//! The answers to claims.
 
 /// The answer to a claim.
 #[derive(Clone, Copy, Debug, PartialEq, Eq)]

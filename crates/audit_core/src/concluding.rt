@@ -24,15 +24,22 @@ use local_run::{Fault, Finding, KeepFault};
 use std::alloc::{AllocError, Global};
 use std::sync::Arc;
 
-/// The verdict on a certificate for its circuit and its layout: from its jobs, the least border fault of each of its
-/// modules, and what a book holds.
+/// Concludes the verdict on a certificate for its circuit and its layout.
 ///
-/// Where it is `Yes`, and the layout was read with the names of the circuit's ports, the whole pattern computes the
-/// circuit, for all values of the inputs, and nothing leaves its rectangle; and each stop holds on the whole pattern,
-/// and the rules on delays and meetings are kept: `specs/Implements.antt` and `specs/OnTime.antt` say what that is.
+/// It uses the certificate's jobs, the least border fault of each of its modules, and what a book holds.
 ///
-/// `Missing` names the first module for whose whole job the book holds no finding, whatever the book's own digest and
-/// jobs are. `Memory` is want of memory.
+/// If the verdict is `Yes`, and the layout was read with the names of the circuit's ports,
+///
+/// - the whole layout computes the circuit, for all values of the inputs,
+/// - nothing leaves its rectangle,
+/// - each stop holds on the whole layout, and the rules on delays and meetings are kept.
+///
+/// `specs/Implements.antt` and `specs/OnTime.antt` define this.
+///
+/// # Errors
+///
+/// `Missing` names the first module for whose job the book holds no finding, whatever the book's own digest and jobs
+/// are. `Memory` is out of memory.
 pub fn conclude(
     alloc: Global,
     cert: &Cert<'_>,

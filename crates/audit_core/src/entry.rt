@@ -2,14 +2,14 @@
 
 use crate::reply::Reply;
 
-/// A filing, as the history tells it.
+/// A filing in the history.
 #[derive(Clone, Copy, Debug, PartialEq, Eq)]
 pub struct Filing {
     /// The digest that the finding was made for.
     pub digest: [u8; 32],
     /// The number that it was made for.
     pub number: usize,
-    /// Whether its job is the book's whole job of that number.
+    /// Whether its job is the book's job of that number.
     pub same: bool,
     /// The answer to it.
     pub reply: Reply,

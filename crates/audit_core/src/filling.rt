@@ -11,12 +11,14 @@ use local_run::{Finding, run_job};
 use std::alloc::{AllocError, Global};
 use std::sync::Arc;
 
-/// Has a state hold a finding for each of these jobs. A state that is closed, or of another digest or of other jobs, is
-/// first replaced by a new book of these. Then each number without a finding gets one, in order, which is accepted. Of
-/// the jobs of one shape at most one is run.
+/// Makes a state hold a finding for each of these jobs.
 ///
-/// `AllocError` is want of memory: where there was none for the new book, the state is unchanged; else what was
-/// accepted stays.
+/// If the state is closed, or of another digest or of other jobs, a new book of these jobs replaces it first. Then each
+/// number without a finding gets one, in order, which is accepted. At most one of the jobs of one shape is run.
+///
+/// # Errors
+///
+/// Out of memory. If there was none for the new book, the state is unchanged. Else what was accepted stays.
 pub fn fill(
     alloc: Global,
     state: &mut BookState,

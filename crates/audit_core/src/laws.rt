@@ -7,15 +7,17 @@ ghost use Rattle.audit_core.specs.MigrationLaws.{AcceptedWithoutHalos, Migration
 ghost use Rattle.audit_core.specs.CoreLaws.{AcceptsOneForEach, DrawsEachOnce, EmptyWhereAllAreDrawn, EventsKeepWhatIsHeld, EventsReplay, HoldsHonestOwn, HoldsWhatWasAccepted, OnlyAcceptedChangesWhatIsHeld, VerdictIsOne};
 ghost use Rattle.audit_core.specs.Laws.{AcceptsItsOwn, BooksAgree, ClosedAnswersClosed, ClosedByItsHistory, DoublesWhatIsHeld, FullBookHoldsAll, HoldsWhatIsAccepted, HoldsNothingElse, KeepsWhatIsHeld, KnowsItsOwn, StaysBook, StaysReplayed};
 
-/// Whatever happens to a new core: each number below the next was drawn by one seat, once, and no other by any; and a
-/// claim answers `Empty` only where all numbers were drawn.
+/// States that, after any events, a new core has given each number below the next to one seat, once.
+///
+/// No other number was drawn. A claim answers `Empty` only if all numbers were drawn.
 pub fn core_draws_each_once()
     ensures once { DrawsEachOnce }
     ensures empty { EmptyWhereAllAreDrawn }
 {}
 
-/// Whatever happens to a new core: the findings held are those that were answered `Accepted`, one for each number, each
-/// honest and of the book's whole job; and the history replays to the book.
+/// States that, after any events, a new core holds the findings that were answered `Accepted`, one for each number.
+///
+/// Each is honest and of the book's job. The history replays to the book.
 pub fn core_holds_what_was_accepted()
     ensures accepted { HoldsWhatWasAccepted }
     ensures one { AcceptsOneForEach }
@@ -23,42 +25,50 @@ pub fn core_holds_what_was_accepted()
     ensures replays { EventsReplay }
 {}
 
-/// No event changes a finding that is held. No claim, no loss and no filing that is not answered `Accepted` changes
-/// what is held.
+/// States that no event changes a finding that is held.
+///
+/// No claim, no loss and no filing that is not answered `Accepted` changes what is held.
 pub fn events_keep_what_is_held()
     ensures kept { EventsKeepWhatIsHeld }
     ensures only { OnlyAcceptedChangesWhatIsHeld }
 {}
 
-/// The modules of a certificate have exactly one verdict: two books from which it is concluded give the same.
+/// States that the modules of a certificate have exactly one verdict: two books from which it is concluded give the
+/// same.
 pub fn verdict_is_one()
     ensures one { VerdictIsOne }
     ensures some { ModulesHaveVerdict }
 {}
 
-/// A closed book answers `Closed` to every finding, and no other book does.
+/// States that a closed book answers `Closed` to every finding, and that no other book does.
 pub fn closed_book_answers_closed()
     ensures { ClosedAnswersClosed }
 {}
 
-/// Where a book's history replays to it, it does so after each filing and after a closing; and the book is closed where
-/// the history has a closing entry, and nowhere else.
+/// States that a book whose history replays to it keeps this after each filing and after a closing.
+///
+/// The book is closed exactly if the history has a closing entry.
 pub fn history_replays()
     ensures stays { StaysReplayed }
     ensures closed { ClosedByItsHistory }
 {}
 
-/// A finding that is accepted is the book's own, by digest, number and whole job, and none is held for its number. One
-/// that is answered `Double` is the book's own, and one is held for its number. One that is the book's own is no
-/// stranger.
+/// States what replies say of a finding.
+///
+/// - A finding that is accepted is the book's own, by digest, number and job, and none is held for its number.
+/// - One that is answered `Double` is the book's own, and one is held for its number.
+/// - One that is the book's own is no stranger.
 pub fn replies_tell_whose_a_finding_is()
     ensures accepted { AcceptsItsOwn }
     ensures double { DoublesWhatIsHeld }
     ensures own { KnowsItsOwn }
 {}
 
-/// After a filing the finding is held where it was accepted; no finding that was held is lost or changed, and else
-/// nothing new is held; and each finding that is held is still the book's own.
+/// States what a book holds after a filing.
+///
+/// - The finding is held if it was accepted.
+/// - No finding that was held is lost or changed, and else nothing new is held.
+/// - Each finding that is held is still the book's own.
 pub fn filing_holds_what_is_accepted()
     ensures accepted { HoldsWhatIsAccepted }
     ensures kept { KeepsWhatIsHeld }
@@ -66,31 +76,37 @@ pub fn filing_holds_what_is_accepted()
     ensures book { StaysBook }
 {}
 
-/// What two books of the same jobs hold for one number has the same fault, in whatever order they were filled.
+/// States that two books of the same jobs hold findings with the same fault for one number, whatever the order of
+/// filings.
 pub fn books_agree()
     ensures { BooksAgree }
 {}
 
-/// A book that accepted as many findings as it has jobs holds a finding for each of them, of that whole job.
+/// States that a book that accepted as many findings as it has jobs holds a finding for each of them, of that job.
 pub fn full_book_holds_all()
     ensures { FullBookHoldsAll }
 {}
 
-/// At the start the plane is every job's own run in its box, and dead outside the rectangle.
+/// States that the plane at the start is every job's own run in its box, and dead outside the rectangle.
 pub fn starts_as_jobs()
     ensures { StartsAsJobs }
 {}
 
-/// Where that is so before a step, and neither a job nor a border has a fault, it is so after the step. It is enough
-/// that the edges and the borders have no fault at the time of the step, under the assignments of the circuit's values.
+/// States that the plane is so after a step if it was so before, and if no job and no border has a fault.
+///
+/// It is enough that the edges and the borders have no fault at the time of the step, under the assignments of the
+/// circuit's values.
 pub fn steps_as_jobs()
     ensures no_fault { StepsAsJobs }
     ensures good_borders { StepsWithGoodBorders }
 {}
 
-/// The first fault under the circuit's values is one of the whole plane: there the cell is not as its module certifies.
-/// A first fault at the end means that the layout does not compute the circuit. If the earliest line of a report is a
-/// `local` line, its fault is the first one under each valuation that has its assignment.
+/// States that the first fault under the circuit's values is one of the whole plane.
+///
+/// - The faulty cell is not as its module certifies.
+/// - A first fault at the end means that the layout does not compute the circuit.
+/// - If the earliest line of a report is a `local` line, its fault is the first one under each valuation that has its
+///   assignment.
 pub fn first_fault_is_real()
     ensures real { FirstFaultIsReal }
     ensures incorrect { EndFaultMeansIncorrect }
@@ -98,9 +114,11 @@ pub fn first_fault_is_real()
     ensures earliest { EarliestLineIsReal }
 {}
 
-/// A plain certificate, of one module that is the whole rectangle, is accepted exactly if the layout computes the
-/// circuit, no run touches the rim at an odd time, and the stops, delays and meetings are right. So a no on it says
-/// that one of these is wrong, and each line of its report says which, and for which inputs.
+/// States that a plain certificate, of one module that is the whole rectangle, decides.
+///
+/// It is accepted exactly if the layout computes the circuit, no run touches the rim at an odd time, and the stops,
+/// delays and meetings are right. So a no on it says that one of these is wrong. Each line of its report says which,
+/// and for which inputs.
 pub fn plain_certificate_decides()
     ensures off_rim { AcceptedKeepsOffRim }
     ensures decides { PlainCertificateDecides }
@@ -109,55 +127,62 @@ pub fn plain_certificate_decides()
     ensures untimed { UntimedIsOnTime }
 {}
 
-/// Where that is so after the last step, and no job has a fault, the plane looks as the layout asks.
+/// States that the plane looks as the layout asks after the last step, if it is as the jobs say and no job has a fault.
 pub fn ends_as_asked()
     ensures { EndsAsAsked }
 {}
 
-/// No gate of what is accepted is the first that has no row, so the circuit has a valuation whatever its inputs are.
+/// States that no gate of an accepted bundle is the first one without a row.
+///
+/// So the circuit has a valuation whatever its inputs are.
 pub fn no_gate_is_undefined()
     ensures none { NoneIsUndefined }
     ensures valuation { AcceptedHasValuation }
 {}
 
-/// A layout that is accepted computes its circuit, and nothing ever leaves its rectangle.
+/// States that a layout that is accepted computes its circuit, and that nothing ever leaves its rectangle.
 pub fn accepted_is_correct()
     ensures { AcceptedIsCorrect }
 {}
 
-/// Where a layout is accepted, each stop holds on the whole plane: for all values of the inputs its cell is live at its
-/// time exactly where its wire is true. The rules on delays and meetings are kept.
+/// States that each stop of an accepted layout holds on the whole plane, and that the rules on delays and meetings are
+/// kept.
+///
+/// For all values of the inputs the cell of a stop is live at its time exactly if its wire is true.
 pub fn accepted_is_on_time()
     ensures { AcceptedIsOnTime }
 {}
 
-/// In a layout that was read with the names of the circuit's ports input cells have the names of inputs, and each input
-/// and each output has a cell. Then the run depends on the values of the inputs alone.
+/// States that the run depends on the values of the inputs alone, in a layout that was read with the names of the
+/// circuit's ports.
+///
+/// Its input cells have the names of inputs, and each input and each output has a cell.
 pub fn inputs_decide_the_run()
     ensures named { ReadLayoutHasInputNames }
     ensures all { ReadLayoutIsNamed }
     ensures decided { InputsDecideTheRun }
 {}
 
-/// Some bundle with an odd time is accepted.
+/// States that some bundle with an odd time is accepted.
 pub fn something_is_accepted()
     ensures { Example }
 {}
 
-/// Some layout whose ports are named as the circuit's does not compute it.
+/// States that some layout whose ports are named as the circuit's does not compute it.
 pub fn something_is_wrong()
     ensures { WrongExample }
 {}
 
-/// Modules that are accepted with their halo lines are accepted with the edge lines beside them in the place of these.
+/// States that modules that are accepted with their halo lines are accepted with the edge lines beside them in place of
+/// these.
 ///
-/// So what version 1 accepts, its migration to version 2 accepts.
+/// So if version 1 is accepted, its migration to version 2 is accepted.
 pub fn accepted_without_halos()
     ensures modules { AcceptedWithoutHalos }
     ensures migration { MigrationIsAccepted }
 {}
 
-/// A module that is as the grammar asks has exactly one job.
+/// States that a module that is as the grammar asks has exactly one job.
 pub fn module_has_one_job()
     ensures one { ModuleHasOneJob }
     ensures some { ModuleHasSomeJob }

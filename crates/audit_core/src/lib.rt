@@ -1,16 +1,21 @@
-//! The book of a certificate, which holds for each module what its run found, and the verdict on the certificate.
+//! The book of a certificate, which holds for each module the finding of its run, and the verdict on the certificate.
 //!
-//! A finding is held only where it is for the book's certificate, for one of its numbers and for the book's whole job
-//! of that number, and where nothing is held for that number yet. `specs/Book.antt` says what a book is, which reply a
-//! finding gets and what filing makes of a book. Its history replays to it, by `specs/Replay.antt`.
+//! A book holds a finding only if the finding is for the book's certificate, for one of its numbers and for the book's
+//! job of that number. It holds at most one finding for a number. `specs/Book.antt` defines books, the reply to a
+//! finding, and the book after a filing. The history replays to the book, by `specs/Replay.antt`.
 //!
 //! The core is the machine of one thread whose steps the threads of a check make: seats claim numbers, findings are
-//! filed, and numbers are lost. `specs/Core.antt` has its steps, and `specs/Claims.antt` what a claim gives.
+//! filed, and numbers are lost. `specs/Core.antt` has its steps, and `specs/Claims.antt` the answers to claims.
 //!
-//! There is a verdict only where a finding is held for each module's own whole job. It is yes where no job has a fault
-//! or a keep fault, no border has a fault, each inverse gate is kept by a module, and the rules on delays and meetings
-//! are kept. Else it is no, with the least faults in the order of the modules, the inverse gates that no module keeps,
-//! and all delays and meetings. `specs/Verdicts.antt` has the definitions.
+//! There is a verdict only if a finding is held for each module's own job. It is yes if
+//!
+//! - no job has a fault or a keep fault,
+//! - no border has a fault,
+//! - a module keeps each inverse gate,
+//! - and the rules on delays and meetings are kept.
+//!
+//! Else it is no, with the least faults in the order of the modules, the inverse gates that no module keeps, and all
+//! delays and meetings. `specs/Verdicts.antt` has the definitions.
 #![tactic(auto)]
 
 mod book;

@@ -13,7 +13,7 @@ use std::alloc::{AllocError, Global};
 use std::marker::Model;
 use std::sync::Arc;
 
-/// What happens to the core.
+/// An event of the core.
 #[derive(Drop)]
 pub enum Event {
     /// The seat of this number claims the next number.
@@ -37,7 +37,7 @@ pub enum Answer {
     Lost,
 }
 
-/// The event that could not be applied for want of memory.
+/// The event that could not be applied, since the core was out of memory.
 #[derive(Drop)]
 pub struct NotApplied {
     pub event: Event,
@@ -74,8 +74,9 @@ impl Core {
     ghost use Rattle.audit_core.specs.Draws.{IsDrawn};
     ghost use Rattle.audit_core.specs.Core.{IsSeated, after_claim, after_event, answer_to, claim_of, draws_of, new_core};
 
-    /// A core of these jobs, numbered from 0 in their order, and of as many seats, of which none has drawn. At most
-    /// 1024 jobs, and 1 to 64 seats. `AllocError` is want of memory.
+    /// Creates a core of these jobs, numbered from 0 in their order, and of seats that have drawn nothing.
+    ///
+    /// There are at most 1024 jobs, and 1 to 64 seats.
     pub fn new(
         alloc: Global,
         digest: [u8; 32],
@@ -95,9 +96,11 @@ impl Core {
         })
     }
 
-    /// Applies an event, whose seat, where it is a claim, is one of the core's.
+    /// Applies an event. The seat of a claim is one of the core's.
     ///
-    /// `NotApplied` is want of memory: then the core is as before, and the event comes back.
+    /// # Errors
+    ///
+    /// `NotApplied` if the core is out of memory. The core is then as before, and the event comes back.
     pub fn apply(&mut self, event: Event) -> Result<Answer, NotApplied>
         requires { IsSeated (length self.old.draws) event }
         ensures answer { IfOk result (λ a. a ≡ answer_to self.old event) }
@@ -150,7 +153,7 @@ impl Core {
         Ok(reply)
     }
 
-    /// The next number: at most 1088.
+    /// Returns the next number: at most 1088.
     pub fn next(&self) -> usize
         ensures value { result ≡ self.now.next }
         ensures at_most { result ≤ 1088 }
@@ -158,14 +161,16 @@ impl Core {
         self.next
     }
 
-    /// How many seats there are.
+    /// Returns how many seats there are.
     pub fn seats(&self) -> usize
         ensures { result ≡ length self.now.draws }
     {
         self.draws.len()
     }
 
-    /// The numbers that a seat drew, in their order. Over all seats these are the numbers below the next, each once.
+    /// Returns the numbers that a seat drew, in their order.
+    ///
+    /// Over all seats these are the numbers below the next, each once.
     pub fn draws(&self, seat: usize) -> &[usize]
         requires { seat < length self.now.draws }
         ensures value { result.now ≡ draws_of self.now seat }
@@ -175,7 +180,7 @@ impl Core {
         draws[seat].as_slice()
     }
 
-    /// The book.
+    /// Returns the book.
     pub fn book(&self) -> &BookState
         ensures { result.now ≡ self.now.book }
     {

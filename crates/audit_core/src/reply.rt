@@ -1,13 +1,13 @@
 //! Replies to findings.
 
-/// What of a finding is not the book's.
+/// The part of a finding that does not match the book.
 #[derive(Clone, Copy, Debug, PartialEq, Eq)]
 pub enum Mismatch {
     /// It is for another certificate's digest.
     Digest,
     /// The book has no job of its number.
     Number,
-    /// Its job is not the book's whole job of its number.
+    /// Its job is not the book's job of its number.
     Content,
 }
 

@@ -5,8 +5,9 @@ use certificate::Gap;
 use local_run::{Fault, KeepFault};
 use std::alloc::{AllocError, AllocFailed};
 
-/// A line of a report: a fault of a module, a gate that no module keeps, or what stops say of a gate. Modules and gates
-/// are numbered from 0.
+/// A line of a report: a fault of a module, a gate that no module keeps, or what stops say of a gate.
+///
+/// Modules and gates are numbered from 0.
 #[derive(Clone, Copy, Debug, PartialEq, Eq)]
 pub enum ReportLine {
     /// The least fault of the module's job.
@@ -17,21 +18,24 @@ pub enum ReportLine {
     Border { module: usize, fault: BorderFault },
     /// An inverse gate of the circuit that no module keeps, by its number.
     Unkept { gate: usize },
-    /// How many steps a delay takes, which is to be so many.
+    /// How many steps a delay takes, and how many it must take.
     Delay { gate: usize, wanted: u32, gap: Gap },
-    /// The time at which inputs of a gate meet, or None where they do not.
+    /// The time at which inputs of a gate meet, or `None` if they do not.
     Meet { gate: usize, at: Option<u32> },
 }
 
-/// What a finding tells of a job: its least fault, and its least keep fault by the number of the gate in the circuit.
+/// The part of a job's finding that a verdict uses: its least fault, and its least keep fault by the number of the gate
+/// in the circuit.
 #[derive(Clone, Copy, Debug, PartialEq, Eq)]
 pub struct Reasons {
     pub fault: Option<Fault>,
     pub keep: Option<KeepFault>,
 }
 
-/// Whether the modules of a certificate have no fault and keep all inverse gates, and its stops keep the rules on
-/// delays and meetings.
+/// The verdict on a certificate.
+///
+/// It is a yes if the modules have no fault and keep all inverse gates, and if the stops keep the rules on delays and
+/// meetings.
 #[derive(Debug, Drop, PartialEq, Eq)]
 pub enum Verdict {
     /// No module has a fault, each inverse gate is kept, and the rules are kept.
@@ -43,12 +47,12 @@ pub enum Verdict {
     No(Vec<ReportLine>),
 }
 
-/// Why there is no verdict.
+/// The reason why there is no verdict.
 #[derive(Clone, Copy, Debug, PartialEq, Eq)]
 pub enum Unfinished {
-    /// The first module for whose whole job the book holds no finding.
+    /// The first module for whose job the book holds no finding.
     Missing(usize),
-    /// Want of memory.
+    /// There is no memory.
     Memory,
 }
 

@@ -1,5 +1,6 @@
 -- Pairs of rows that stay, while others are turned
-use Rattle.std.proofs.Common.{◌≡◌, ◌≢◌, ℕ, Bool, true, false, ◌||◌, not, nat_eq, ◌<◌, ◌≤◌, ◌+◌, ◌-◌, ◌*◌, ◌/◌, ◌%◌, zero, suc, refl, arith, ◌∙◌, sym, ap, List, length, length-set, get_or, set, bit_or}
+use Rattle.std.proofs.Common.{◌≡◌, ◌≢◌, ℕ, Bool, true, false, ◌||◌, not, nat_eq, ◌<◌, ◌≤◌, ◌+◌, ◌-◌, ◌*◌, ◌/◌, ◌%◌}
+use Rattle.std.proofs.Common.{zero, suc, refl, arith, ◌∙◌, sym, ap, List, length, length-set, get_or, set, bit_or}
 use Rattle.std.proofs.lemmas.Bool.Decides.{nat_tests}
 use Rattle.std.proofs.Math.Nat.{mul-le-mul_right}
 use Rattle.bbm_rule.specs.Bits.{bit, AreSameBits, IsBlank}
@@ -25,17 +26,22 @@ noted_bits : (changed told j : ℕ) → bit (bit_or changed told) j ≡ false �
 noted_bits changed told j h = or_none (bit changed j) _ (sym (bit-or changed told j) ∙ h)
 
 -- a window that gets the cells that it has
-window_same : (p a v : ℕ) (old new : List ℕ) → AreSameBits v a → HasWindow old p v → SetsWindow p a old new → AreSameCells old new
+window_same : (p a v : ℕ) (old new : List ℕ) → AreSameBits v a → HasWindow old p v → SetsWindow p a old new →
+    AreSameCells old new
 window_same p a v old new same has sets q = by_lt_or_le q p (sets.before q)
     (λ le. by_lt_or_le q (p + 64)
-    (λ l. let e : p + (q - p) ≡ q = omega arith in rw e at (sets.cells (q - p) (omega arith) ∙ same (q - p) (omega arith) ∙ has.cells (q - p) (omega arith)))
+    (λ l. let e : p + (q - p) ≡ q = omega arith in
+    rw e at (sets.cells (q - p) (omega arith) ∙ same (q - p) (omega arith) ∙ has.cells (q - p) (omega arith)))
     (λ past. sets.after q past))
 
 has_same : (p v : ℕ) (old new : List ℕ) → AreSameCells old new → HasWindow old p v → HasWindow new p v
 has_same p v old new same has = record { cells = λ j l. has.cells j l ∙ sym (same (p + j)) }
 
 -- where nothing is noted, no cell changed, also in two more windows
-pub windows_same : (p r changed told a above b below : ℕ) (first second mid third : List ℕ) → (IsBlank changed → AreSameCells first second) → (IsBlank told → AreSameBits above a × AreSameBits below b) → HasWindow second p above → HasWindow second r below → SetsWindow p a second mid → SetsWindow r b mid third → IsBlank (bit_or changed told) → AreSameCells first third
+pub windows_same : (p r changed told a above b below : ℕ) (first second mid third : List ℕ) →
+    (IsBlank changed → AreSameCells first second) → (IsBlank told → AreSameBits above a × AreSameBits below b) →
+    HasWindow second p above → HasWindow second r below → SetsWindow p a second mid → SetsWindow r b mid third →
+    IsBlank (bit_or changed told) → AreSameCells first third
 windows_same p r changed told a above b below first second mid third so_far stays has_a has_b set_a set_b none =
     let same = stays (λ j. (noted_bits changed told j (none j)).1) in
     let one = window_same p a above second mid same.0 has_a set_a in
@@ -43,26 +49,43 @@ windows_same p r changed told a above b below first second mid third so_far stay
     λ q. two q ∙ one q ∙ so_far (λ j. (noted_bits changed told j (none j)).0) q
 
 -- nor in two more words
-pub words_same : (i k changed told a b : ℕ) (first second : List ℕ) → i < length second → k < length second → (IsBlank changed → AreSameCells first second) → (IsBlank told → AreSameBits (get_or second i 0) a × AreSameBits (get_or second k 0) b) → IsBlank (bit_or changed told) → AreSameCells first (set (set second i a) k b)
+pub words_same : (i k changed told a b : ℕ) (first second : List ℕ) → i < length second → k < length second →
+    (IsBlank changed → AreSameCells first second) →
+    (IsBlank told → AreSameBits (get_or second i 0) a × AreSameBits (get_or second k 0) b) →
+    IsBlank (bit_or changed told) → AreSameCells first (set (set second i a) k b)
 words_same i k changed told a b first second room room' so_far stays none =
-    windows_same (64 * i) (64 * k) changed told a (get_or second i 0) b (get_or second k 0) first second (set second i a) _ so_far stays
-    (word_is_window second i) (word_is_window second k) (word_set second i a room) (word_set (set second i a) k b (omega (arith, length-set {A = ℕ}))) none
+    windows_same (64 * i) (64 * k) changed told a (get_or second i 0) b (get_or second k 0) first second
+    (set second i a) _ so_far stays
+    (word_is_window second i) (word_is_window second k) (word_set second i a room)
+    (word_set (set second i a) k b (omega (arith, length-set {A = ℕ}))) none
 
 -- ---- pairs that stay
 -- a pair stays where its cells are as they were
-pub pair_kept : (p s : ℕ) (old new : List ℕ) → s % 2 ≡ 0 → ((q : ℕ) → p ≤ q → q < p + 2 * s → cell_at new q ≡ cell_at old q) → TurnsRun p s s old old → TurnsRun p s s new new
+pub pair_kept : (p s : ℕ) (old new : List ℕ) → s % 2 ≡ 0 →
+    ((q : ℕ) → p ≤ q → q < p + 2 * s → cell_at new q ≡ cell_at old q) → TurnsRun p s s old old → TurnsRun p s s new new
 pair_kept p s old new whole same run = record {
   upper = λ j l. let m = mate_lt j s whole l in
-      rw (same (p + j) (omega arith) (omega arith), same (p + s + mate j) (omega arith) (omega arith), same (p + mate j) (omega arith) (omega arith), same (p + s + j) (omega arith) (omega arith)) (run.upper j l);
+      rw (
+        same (p + j) (omega arith) (omega arith),
+        same (p + s + mate j) (omega arith) (omega arith),
+        same (p + mate j) (omega arith) (omega arith),
+        same (p + s + j) (omega arith) (omega arith),
+      ) (run.upper j l);
   lower = λ j l. let m = mate_lt j s whole l in
-      rw (same (p + j) (omega arith) (omega arith), same (p + s + mate j) (omega arith) (omega arith), same (p + mate j) (omega arith) (omega arith), same (p + s + j) (omega arith) (omega arith)) (run.lower j l);
+      rw (
+        same (p + j) (omega arith) (omega arith),
+        same (p + s + mate j) (omega arith) (omega arith),
+        same (p + mate j) (omega arith) (omega arith),
+        same (p + s + j) (omega arith) (omega arith),
+      ) (run.lower j l);
   before = λ q l. refl;
   between = λ q low high. refl;
   after = λ q l. refl;
 }
 
 -- a pair stays where no cell of it changed when it was turned
-pub pair_settled : (p s : ℕ) (old new : List ℕ) → s % 2 ≡ 0 → TurnsRun p s s old new → AreSameCells old new → TurnsRun p s s new new
+pub pair_settled : (p s : ℕ) (old new : List ℕ) → s % 2 ≡ 0 → TurnsRun p s s old new → AreSameCells old new →
+    TurnsRun p s s new new
 pair_settled p s old new whole run same = pair_kept p s old new whole (λ q l h. same q) (record {
   upper = λ j l. sym (same (p + j)) ∙ run.upper j l;
   lower = λ j l. sym (same (p + s + j)) ∙ run.lower j l;
@@ -75,8 +98,10 @@ after_pair : (k i s : ℕ) → k < i → 2 * (k * s) + 2 * s ≤ 2 * (i * s)
 after_pair k i s l = let h : (k + 1) * s ≤ i * s = mul-le-mul_right s (omega arith) in omega arith
 
 -- the other pairs of a partition stay while pair k is turned
-pub others_kept : (p s r k : ℕ) (marks old new : List ℕ) → s % 2 ≡ 0 → TurnsRun (p + 2 * (k * s)) s s old new → AreCalm p s r marks old → (i : ℕ) → i < r → i ≢ k → IsUnmarked marks i → TurnsRun (p + 2 * (i * s)) s s new new
-others_kept p s r k marks old new whole run calm i l other free = pair_kept (p + 2 * (i * s)) s old new whole same (calm i l free)
+pub others_kept : (p s r k : ℕ) (marks old new : List ℕ) → s % 2 ≡ 0 → TurnsRun (p + 2 * (k * s)) s s old new →
+    AreCalm p s r marks old → (i : ℕ) → i < r → i ≢ k → IsUnmarked marks i → TurnsRun (p + 2 * (i * s)) s s new new
+others_kept p s r k marks old new whole run calm i l other free =
+    pair_kept (p + 2 * (i * s)) s old new whole same (calm i l free)
   where
     same : (q : ℕ) → p + 2 * (i * s) ≤ q → q < p + 2 * (i * s) + 2 * s → cell_at new q ≡ cell_at old q
     same q low high = by_lt_or_le i k
@@ -84,59 +109,78 @@ others_kept p s r k marks old new whole run calm i l other free = pair_kept (p +
         (λ le. let h = after_pair k i s (omega (arith, other)) in run.after q (omega arith))
 
 -- all of them but pair k, which gets a mark
-pub calm_marked : (p s r k : ℕ) (marks marks' old new : List ℕ) → s % 2 ≡ 0 → TurnsRun (p + 2 * (k * s)) s s old new → MarksOne k marks marks' → AreCalm p s r marks old → AreCalm p s r marks' new
+pub calm_marked : (p s r k : ℕ) (marks marks' old new : List ℕ) → s % 2 ≡ 0 → TurnsRun (p + 2 * (k * s)) s s old new →
+    MarksOne k marks marks' → AreCalm p s r marks old → AreCalm p s r marks' new
 calm_marked p s r k marks marks' old new whole run marked calm i l free =
     let was = marked i free in others_kept p s r k marks old new whole run calm i l was.1 was.0
 
 -- and pair k too, where no cell of it changed
-pub calm_settled : (p s r k : ℕ) (marks marks' old new : List ℕ) → s % 2 ≡ 0 → TurnsRun (p + 2 * (k * s)) s s old new → AreSameCells old new → SetsPlace k false marks marks' → AreCalm p s r marks old → AreCalm p s r marks' new
+pub calm_settled : (p s r k : ℕ) (marks marks' old new : List ℕ) → s % 2 ≡ 0 → TurnsRun (p + 2 * (k * s)) s s old new →
+    AreSameCells old new → SetsPlace k false marks marks' → AreCalm p s r marks old → AreCalm p s r marks' new
 calm_settled p s r k marks marks' old new whole run same sets calm i l free = by_eq_or_not i k
     (λ e. rw e (pair_settled (p + 2 * (k * s)) s old new whole run same))
     (λ other. others_kept p s r k marks old new whole run calm i l other (sym (sets.elsewhere i other) ∙ free))
 
 -- pairs stay where no cell changed
-pub calm_same : (p s r : ℕ) (marks old new : List ℕ) → s % 2 ≡ 0 → AreSameCells old new → AreCalm p s r marks old → AreCalm p s r marks new
-calm_same p s r marks old new whole same calm i l free = pair_kept (p + 2 * (i * s)) s old new whole (λ q low high. same q) (calm i l free)
+pub calm_same : (p s r : ℕ) (marks old new : List ℕ) → s % 2 ≡ 0 → AreSameCells old new → AreCalm p s r marks old →
+    AreCalm p s r marks new
+calm_same p s r marks old new whole same calm i l free =
+    pair_kept (p + 2 * (i * s)) s old new whole (λ q low high. same q) (calm i l free)
 
--- the pairs of the odd partition stay, while pair k of the even partition is turned, but for the two that share its rows
-pub odd_kept : (s r k : ℕ) (first second third old new : List ℕ) → s % 2 ≡ 0 → 0 < s → TurnsRun (s + 1 + 2 * (k * s)) s s old new → MarksOne k first second → MarksOne (k + 1) second third → AreCalm 0 s r first old → AreCalm 0 s r third new
+-- the pairs of the odd partition stay, while pair k of the even partition is turned, but for the two that share its
+-- rows
+pub odd_kept : (s r k : ℕ) (first second third old new : List ℕ) → s % 2 ≡ 0 → 0 < s →
+    TurnsRun (s + 1 + 2 * (k * s)) s s old new → MarksOne k first second → MarksOne (k + 1) second third →
+    AreCalm 0 s r first old → AreCalm 0 s r third new
 odd_kept s r k first second third old new whole positive run one two calm i l free =
     let later = two i free in
     let was = one i later.0 in
     pair_kept (0 + 2 * (i * s)) s old new whole (same later.1 was.1) (calm i l was.0)
   where
-    same : i ≢ k + 1 → i ≢ k → (q : ℕ) → 0 + 2 * (i * s) ≤ q → q < 0 + 2 * (i * s) + 2 * s → cell_at new q ≡ cell_at old q
+    same : i ≢ k + 1 → i ≢ k → (q : ℕ) → 0 + 2 * (i * s) ≤ q → q < 0 + 2 * (i * s) + 2 * s →
+        cell_at new q ≡ cell_at old q
     same next own q low high = by_lt_or_le i k
         (λ before. let h = after_pair i k s before in run.before q (omega arith))
         (λ le. let h = after_pair (k + 1) i s (omega (arith, next, own)) in run.after q (omega arith))
 
 -- and those of the even partition, while pair k of the odd partition is turned
-pub even_kept : (s r k : ℕ) (first second third old new : List ℕ) → s % 2 ≡ 0 → 0 < s → TurnsRun (0 + 2 * (k * s)) s s old new → MarksOne k first second → ((i : ℕ) → IsUnmarked third i → IsUnmarked second i × (i + 1 ≢ k)) → AreCalm (s + 1) s r first old → AreCalm (s + 1) s r third new
+pub even_kept : (s r k : ℕ) (first second third old new : List ℕ) → s % 2 ≡ 0 → 0 < s →
+    TurnsRun (0 + 2 * (k * s)) s s old new → MarksOne k first second →
+    ((i : ℕ) → IsUnmarked third i → IsUnmarked second i × (i + 1 ≢ k)) → AreCalm (s + 1) s r first old →
+    AreCalm (s + 1) s r third new
 even_kept s r k first second third old new whole positive run one two calm i l free =
     let later = two i free in
     let was = one i later.0 in
     pair_kept (s + 1 + 2 * (i * s)) s old new whole (same later.1 was.1) (calm i l was.0)
   where
-    same : i + 1 ≢ k → i ≢ k → (q : ℕ) → s + 1 + 2 * (i * s) ≤ q → q < s + 1 + 2 * (i * s) + 2 * s → cell_at new q ≡ cell_at old q
+    same : i + 1 ≢ k → i ≢ k → (q : ℕ) → s + 1 + 2 * (i * s) ≤ q → q < s + 1 + 2 * (i * s) + 2 * s →
+        cell_at new q ≡ cell_at old q
     same next own q low high = by_lt_or_le i k
         (λ before. let h = after_pair (i + 1) k s (omega (arith, next)) in run.before q (omega arith))
         (λ le. let h = after_pair k i s (omega (arith, own)) in run.after q (omega arith))
 
 -- pairs that stay may be passed over
-pub rows_passed : (p s a d : ℕ) (old new : List ℕ) → s % 2 ≡ 0 → TurnsRows p s a old new → ((i : ℕ) → a ≤ i → i < a + d → TurnsRun (p + 2 * (i * s)) s s new new) → TurnsRows p s (a + d) old new
+pub rows_passed : (p s a d : ℕ) (old new : List ℕ) → s % 2 ≡ 0 → TurnsRows p s a old new →
+    ((i : ℕ) → a ≤ i → i < a + d → TurnsRun (p + 2 * (i * s)) s s new new) → TurnsRows p s (a + d) old new
 rows_passed p s a zero old new whole rows calm = let e : a + 0 ≡ a = omega arith in rw e rows
 rows_passed p s a (suc d) old new whole rows calm =
     let e : a + suc d ≡ a + d + 1 = omega arith in
-    rw e (rows_join p s (a + d) old new new whole (rows_passed p s a d old new whole rows (λ i low high. calm i low (omega arith))) (calm (a + d) (omega arith) (omega arith)))
+    rw e (rows_join p s (a + d) old new new whole
+    (rows_passed p s a d old new whole rows (λ i low high. calm i low (omega arith)))
+    (calm (a + d) (omega arith) (omega arith)))
 
 -- up to the next pair that may have a mark
-pub rows_until : (p s r a b : ℕ) (marks old new : List ℕ) → s % 2 ≡ 0 → a ≤ b → b ≤ r → TurnsRows p s a old new → AreCalm p s r marks new → ((u : ℕ) → a ≤ u → u < b → IsUnmarked marks u) → TurnsRows p s b old new
+pub rows_until : (p s r a b : ℕ) (marks old new : List ℕ) → s % 2 ≡ 0 → a ≤ b → b ≤ r → TurnsRows p s a old new →
+    AreCalm p s r marks new → ((u : ℕ) → a ≤ u → u < b → IsUnmarked marks u) → TurnsRows p s b old new
 rows_until p s r a b marks old new whole le within rows calm free =
     let e : a + (b - a) ≡ b = omega arith in
-    rw e at (rows_passed p s a (b - a) old new whole rows (λ i low high. calm i (omega arith) (free i low (omega arith))))
+    rw e at (rows_passed p s a (b - a) old new whole rows
+    (λ i low high. calm i (omega arith) (free i low (omega arith))))
 
 -- a pair that stays now did not change when all were turned
-pub pair_same : (p s r i : ℕ) (old new : List ℕ) → s % 2 ≡ 0 → i < r → TurnsRows p s r old new → TurnsRun (p + 2 * (i * s)) s s new new → (q : ℕ) → p + 2 * (i * s) ≤ q → q < p + 2 * (i * s) + 2 * s → cell_at new q ≡ cell_at old q
+pub pair_same : (p s r i : ℕ) (old new : List ℕ) → s % 2 ≡ 0 → i < r → TurnsRows p s r old new →
+    TurnsRun (p + 2 * (i * s)) s s new new → (q : ℕ) → p + 2 * (i * s) ≤ q → q < p + 2 * (i * s) + 2 * s →
+    cell_at new q ≡ cell_at old q
 pair_same p s r i old new whole within rows calm q low high = by_lt_or_le q (at + s)
     (λ l. let e : at + (q - at) ≡ q = omega arith in rw e at (upper (q - at) (omega arith)))
     (λ le. let e : at + s + (q - (at + s)) ≡ q = omega arith in rw e at (lower (q - (at + s)) (omega arith)))
@@ -174,10 +218,13 @@ place_before : (s i v : ℕ) → v ≤ 2 * i → v * s ≤ 2 * (i * s)
 place_before s i v l = let h : v * s ≤ 2 * i * s = mul-le-mul_right s l in omega arith
 
 -- the pairs of the even partition stay, but for that of the cell's row
-pub even_set : (s r u v : ℕ) (value : Bool) (first second old new : List ℕ) → s % 2 ≡ 0 → u + 1 < s → SetsPlace (s * (v + 1) + (u + 1)) value old new → MarksOne (v / 2) first second → AreCalm (s + 1) s r first old → AreCalm (s + 1) s r second new
+pub even_set : (s r u v : ℕ) (value : Bool) (first second old new : List ℕ) → s % 2 ≡ 0 → u + 1 < s →
+    SetsPlace (s * (v + 1) + (u + 1)) value old new → MarksOne (v / 2) first second → AreCalm (s + 1) s r first old →
+    AreCalm (s + 1) s r second new
 even_set s r u v value first second old new whole wide sets marked calm i l free =
     let was = marked i free in
-    pair_kept (s + 1 + 2 * (i * s)) s old new whole (λ q low high. sets.elsewhere q (apart was.1 q low high)) (calm i l was.0)
+    pair_kept (s + 1 + 2 * (i * s)) s old new whole (λ q low high. sets.elsewhere q (apart was.1 q low high))
+    (calm i l was.0)
   where
     apart : i ≢ v / 2 → (q : ℕ) → s + 1 + 2 * (i * s) ≤ q → q < s + 1 + 2 * (i * s) + 2 * s → q ≢ s * (v + 1) + (u + 1)
     apart other q low high e = by_lt_or_le i (v / 2)
@@ -185,10 +232,13 @@ even_set s r u v value first second old new whole wide sets marked calm i l free
         (λ le. let h = place_before s i (v + 1) (omega (arith, other)) in absurd (omega arith))
 
 -- and so do those of the odd partition
-pub odd_set : (s r u v : ℕ) (value : Bool) (first second old new : List ℕ) → s % 2 ≡ 0 → u + 1 < s → SetsPlace (s * (v + 1) + (u + 1)) value old new → MarksOne ((v + 1) / 2) first second → AreCalm 0 s r first old → AreCalm 0 s r second new
+pub odd_set : (s r u v : ℕ) (value : Bool) (first second old new : List ℕ) → s % 2 ≡ 0 → u + 1 < s →
+    SetsPlace (s * (v + 1) + (u + 1)) value old new → MarksOne ((v + 1) / 2) first second → AreCalm 0 s r first old →
+    AreCalm 0 s r second new
 odd_set s r u v value first second old new whole wide sets marked calm i l free =
     let was = marked i free in
-    pair_kept (0 + 2 * (i * s)) s old new whole (λ q low high. sets.elsewhere q (apart was.1 q low high)) (calm i l was.0)
+    pair_kept (0 + 2 * (i * s)) s old new whole (λ q low high. sets.elsewhere q (apart was.1 q low high))
+    (calm i l was.0)
   where
     apart : i ≢ (v + 1) / 2 → (q : ℕ) → 0 + 2 * (i * s) ≤ q → q < 0 + 2 * (i * s) + 2 * s → q ≢ s * (v + 1) + (u + 1)
     apart other q low high e = by_lt_or_le i ((v + 1) / 2)

@@ -1,10 +1,12 @@
 -- Bits of numbers as tests.
-use Rattle.std.proofs.Common.{◌≡◌, ◌≢◌, ℕ, Bool, true, false, ◌&&◌, ◌||◌, ◌<◌, ◌≤◌, ◌+◌, ◌-◌, ◌*◌, ◌/◌, ◌^◌, ◌%◌, zero, suc, refl, arith, ◌⊎◌, inl, inr, bit_and, bit_or, nat_eq, ◌∙◌, sym, ap}
+use Rattle.std.proofs.Common.{◌≡◌, ◌≢◌, ℕ, Bool, true, false, ◌&&◌, ◌||◌, ◌<◌, ◌≤◌, ◌+◌, ◌-◌, ◌*◌, ◌/◌, ◌^◌, ◌%◌, zero}
+use Rattle.std.proofs.Common.{suc, refl, arith, ◌⊎◌, inl, inr, bit_and, bit_or, nat_eq, ◌∙◌, sym, ap}
 use Rattle.std.specs.Prelude.{bit_xor}
 use Rattle.std.specs.Int.{bit_at}
 use Rattle.std.proofs.lemmas.Bool.Decides.{leb_tells, eqb_tells}
 use Rattle.std.proofs.lemmas.Nat.{shr-shr, shr_split}
-use Rattle.std.proofs.lemmas.Nat.Bits.{bit_at_and, bit_at_or, bit_at_xor, bit_at-lt, bit_at_cat_low, bit_at_cat_high, bit_at-zero, bit_at_above}
+use Rattle.std.proofs.lemmas.Nat.Bits.{bit_at_and, bit_at_or, bit_at_xor, bit_at-lt, bit_at_cat_low, bit_at_cat_high}
+use Rattle.std.proofs.lemmas.Nat.Bits.{bit_at-zero, bit_at_above}
 use Rattle.bbm_rule.specs.Bits.{bit}
 
 pub by_lt_or_le : {P : Type 0} (a b : ℕ) → (a < b → P) → (b ≤ a → P) → P
@@ -29,7 +31,8 @@ and_right false b h = cc
 pub below_from_test : (p : ℕ → Bool) (n : ℕ) → holds_below p n ≡ true → (k : ℕ) → k < n → p k ≡ true
 below_from_test p zero h k l = absurd (omega arith)
 below_from_test p (suc n) h k l =
-    by_eq_or_not k n (λ e. rw e (and_left (p n) (holds_below p n) h)) (λ other. below_from_test p n (and_right (p n) (holds_below p n) h) k (smaller k n other l))
+    by_eq_or_not k n (λ e. rw e (and_left (p n) (holds_below p n) h))
+    (λ other. below_from_test p n (and_right (p n) (holds_below p n) h) k (smaller k n other l))
   where
     smaller : (k n : ℕ) → k ≢ n → k < suc n → k < n
     smaller k n other l = omega arith
@@ -83,12 +86,14 @@ bit-shr n k j = rw (bit-is (n / 2 ^ k) j, bit-is n (k + j), shr-shr n k j) refl
 
 pub bit-mod : (n w j : ℕ) → j < w → bit (n % 2 ^ w) j ≡ bit n j
 bit-mod n w j l =
-    let e : bit_at n j ≡ bit_at (n % 2 ^ w) j = ap (λ m. bit_at m j) (sym (shr_split n w)) ∙ bit_at_cat_low (n / 2 ^ w) w (n % 2 ^ w) j l in
+    let e : bit_at n j ≡ bit_at (n % 2 ^ w) j =
+    ap (λ m. bit_at m j) (sym (shr_split n w)) ∙ bit_at_cat_low (n / 2 ^ w) w (n % 2 ^ w) j l in
     rw (bit-is (n % 2 ^ w) j, bit-is n j, e) refl
 
 pub bit-shl_low : (n k j : ℕ) → j < k → bit (n * 2 ^ k) j ≡ false
 bit-shl_low n k j l =
-    let e : bit_at (n * 2 ^ k) j ≡ 0 = ap (λ m. bit_at m j) (plus_none (n * 2 ^ k)) ∙ (bit_at_cat_low n k 0 j l ∙ bit_at-zero j) in
+    let e : bit_at (n * 2 ^ k) j ≡ 0 =
+    ap (λ m. bit_at m j) (plus_none (n * 2 ^ k)) ∙ (bit_at_cat_low n k 0 j l ∙ bit_at-zero j) in
     rw (bit-is (n * 2 ^ k) j, e) refl
   where
     plus_none : (m : ℕ) → m ≡ m + 0
@@ -96,7 +101,9 @@ bit-shl_low n k j l =
 
 pub bit-shl_high : (n k j : ℕ) → 0 < 2 ^ k → bit (n * 2 ^ k) (k + j) ≡ bit n j
 bit-shl_high n k j positive =
-    let e : bit_at (n * 2 ^ k) (k + j) ≡ bit_at n j = ap (λ m. bit_at m (k + j)) (plus_none (n * 2 ^ k)) ∙ (bit_at_cat_high n k 0 (k + j) positive (omega arith) ∙ ap (bit_at n) (minus k j)) in
+    let e : bit_at (n * 2 ^ k) (k + j) ≡ bit_at n j =
+    ap (λ m. bit_at m (k + j)) (plus_none (n * 2 ^ k))
+    ∙ (bit_at_cat_high n k 0 (k + j) positive (omega arith) ∙ ap (bit_at n) (minus k j)) in
     rw (bit-is (n * 2 ^ k) (k + j), bit-is n j, e) refl
   where
     plus_none : (m : ℕ) → m ≡ m + 0

@@ -1,5 +1,6 @@
 -- The board that the rows of a grid stand for.
-use Rattle.std.proofs.Common.{◌≡◌, ℕ, Bool, true, false, ◌&&◌, ◌<◌, ◌≤◌, ◌+◌, ◌-◌, ◌*◌, ◌/◌, ◌%◌, zero, suc, refl, arith, ◌∙◌, sym, ap, List, [], ◌∷◌, inl, inr, map}
+use Rattle.std.proofs.Common.{◌≡◌, ℕ, Bool, true, false, ◌&&◌, ◌<◌, ◌≤◌, ◌+◌, ◌-◌, ◌*◌, ◌/◌, ◌%◌, zero, suc, refl}
+use Rattle.std.proofs.Common.{arith, ◌∙◌, sym, ap, List, [], ◌∷◌, inl, inr, map}
 use Rattle.std.specs.Prelude.{pos, nat_lt, nat_le}
 use Rattle.std.specs.List.{range_with_len}
 use Rattle.std.proofs.lemmas.Bool.Decides.{nat_tests}
@@ -13,7 +14,8 @@ use Rattle.bbm_rule.specs.GridFields.{board}
 use Rattle.bbm_rule.proofs.BitLemmas.{by_lt_or_le, by_eq_or_not}
 use Rattle.bbm_rule.proofs.PairLemmas.{mate_even, mate_odd}
 use Rattle.bbm_rule.proofs.RunLemmas.{mate_lt}
-use Rattle.bbm_rule.proofs.PlaneLemmas.{ext, partner-even_pos, partner-odd_ext, far_column, far_row, even_cases, odd_cases, turned_twice, mate_twice, mate_ge, column_dead, row_dead, dead_block}
+use Rattle.bbm_rule.proofs.PlaneLemmas.{ext, partner-even_pos, partner-odd_ext, far_column, far_row, even_cases}
+use Rattle.bbm_rule.proofs.PlaneLemmas.{odd_cases, turned_twice, mate_twice, mate_ge, column_dead, row_dead, dead_block}
 
 -- what the fields of a grid keep, where rows are of s cells
 pub record IsPlane (w h s : ℕ) (words : List ℕ) : Type 0 where
@@ -54,30 +56,39 @@ not_inner_first_row w h x = ends (nat_le 1 x) (nat_le x w)
     ends false true = refl
     ends false false = refl
 
-pub live_inner : (w h s : ℕ) (words : List ℕ) (x y : ℕ) → x < w → y < h → live (board w h s words) (pos x) (pos y) ≡ cell_at words (s * (y + 1) + (x + 1))
+pub live_inner : (w h s : ℕ) (words : List ℕ) (x y : ℕ) → x < w → y < h →
+    live (board w h s words) (pos x) (pos y) ≡ cell_at words (s * (y + 1) + (x + 1))
 live_inner w h s words x y lx ly =
     let within : y * w + x < w * h = below w h x y lx ly in
-    let read = get_or-map-range_with_len (λ n. cell_at words (s * (n / w + 1) + (n % w + 1))) 0 (w * h) (y * w + x) (y * w + x) false within (omega arith) in
+    let read = get_or-map-range_with_len (λ n. cell_at words (s * (n / w + 1) + (n % w + 1))) 0 (w * h) (y * w + x)
+    (y * w + x) false within (omega arith) in
     rw (lt_test x w lx, lt_test y h ly) (read ∙ rw (div-mul-add y w x lx, mod-mul-add y w x lx) refl)
   where
     below : (w h x y : ℕ) → x < w → y < h → y * w + x < w * h
     below w h x y lx ly = let more : (y + 1) * w ≤ h * w = mul-le-mul_right w (omega arith) in omega arith
 
-pub live_ext : (w h s : ℕ) (words : List ℕ) → IsPlane w h s words → (x y : ℕ) → x < s → live (board w h s words) (ext x) (ext y) ≡ cell_at words (s * y + x)
+pub live_ext : (w h s : ℕ) (words : List ℕ) → IsPlane w h s words → (x y : ℕ) → x < s →
+    live (board w h s words) (ext x) (ext y) ≡ cell_at words (s * y + x)
 live_ext w h s words plane zero y l = sym (plane.margin zero y l refl)
 live_ext w h s words plane (suc x) zero l = sym (plane.margin (suc x) zero l (not_inner_first_row w h (suc x)))
 live_ext w h s words plane (suc x) (suc y) l =
     by_lt_or_le x w
     (λ lx. by_lt_or_le y h
-    (λ ly. let place : s * (suc y) + suc x ≡ s * (y + 1) + (x + 1) = omega arith in rw place (live_inner w h s words x y lx ly))
-    (λ gy. row_dead (board w h s words) (pos x) (pos y) (rw (not_lt_test y h gy) refl) ∙ sym (plane.margin (suc x) (suc y) l (not_inner_row w h (suc x) (suc y) (omega arith)))))
-    (λ gx. column_dead (board w h s words) (pos x) (pos y) (rw (not_lt_test x w gx) refl) ∙ sym (plane.margin (suc x) (suc y) l (not_inner_column w h (suc x) (suc y) (omega arith))))
+    (λ ly. let place : s * (suc y) + suc x ≡ s * (y + 1) + (x + 1) = omega arith in
+    rw place (live_inner w h s words x y lx ly))
+    (λ gy. row_dead (board w h s words) (pos x) (pos y) (rw (not_lt_test y h gy) refl)
+    ∙ sym (plane.margin (suc x) (suc y) l (not_inner_row w h (suc x) (suc y) (omega arith)))))
+    (λ gx. column_dead (board w h s words) (pos x) (pos y) (rw (not_lt_test x w gx) refl)
+    ∙ sym (plane.margin (suc x) (suc y) l (not_inner_column w h (suc x) (suc y) (omega arith))))
 
 -- ---- the odd step
 -- one cell of the rows after the blocks from the first place on are turned
-aligned_cell : (s r : ℕ) (old new : List ℕ) → TurnsRows 0 s r old new → (x y : ℕ) → x < s → y < 2 * r → cell_at new (s * y + x) ≡ turned (cell_at old (s * y + x)) (cell_at old (s * mate y + mate x)) (cell_at old (s * y + mate x)) (cell_at old (s * mate y + x))
+aligned_cell : (s r : ℕ) (old new : List ℕ) → TurnsRows 0 s r old new → (x y : ℕ) → x < s → y < 2 * r →
+    cell_at new (s * y + x) ≡ turned (cell_at old (s * y + x)) (cell_at old (s * mate y + mate x))
+    (cell_at old (s * y + mate x)) (cell_at old (s * mate y + x))
 aligned_cell s r old new rows x y lx ly =
-    by_eq_or_not (y % 2) 0 (λ even. at_even (y / 2) (omega arith) (omega arith)) (λ odd. at_odd (y / 2) (omega arith) (omega arith))
+    by_eq_or_not (y % 2) 0 (λ even. at_even (y / 2) (omega arith) (omega arith))
+    (λ odd. at_odd (y / 2) (omega arith) (omega arith))
   where
     first : (i j : ℕ) → s * (2 * i) + j ≡ 0 + 2 * (i * s) + j
     first i j = omega arith
@@ -85,21 +96,38 @@ aligned_cell s r old new rows x y lx ly =
     second : (i j : ℕ) → s * (1 + 2 * i) + j ≡ 0 + 2 * (i * s) + s + j
     second i j = omega arith
 
-    at_even : (i : ℕ) → y ≡ 2 * i → i < r → cell_at new (s * y + x) ≡ turned (cell_at old (s * y + x)) (cell_at old (s * mate y + mate x)) (cell_at old (s * y + mate x)) (cell_at old (s * mate y + x))
-    at_even i e l = rw (e, mate_even (2 * i) (omega arith), first i x, first i (mate x), second i x, second i (mate x)) (rows.upper i x l lx)
+    at_even : (i : ℕ) → y ≡ 2 * i → i < r →
+        cell_at new (s * y + x) ≡ turned (cell_at old (s * y + x)) (cell_at old (s * mate y + mate x))
+        (cell_at old (s * y + mate x)) (cell_at old (s * mate y + x))
+    at_even i e l = rw (e, mate_even (2 * i) (omega arith), first i x, first i (mate x), second i x, second i (mate x))
+        (rows.upper i x l lx)
 
-    at_odd : (i : ℕ) → y ≡ 1 + 2 * i → i < r → cell_at new (s * y + x) ≡ turned (cell_at old (s * y + x)) (cell_at old (s * mate y + mate x)) (cell_at old (s * y + mate x)) (cell_at old (s * mate y + x))
-    at_odd i e l = rw (e, mate_odd (2 * i) (omega arith), first i x, first i (mate x), second i x, second i (mate x)) (rows.lower i x l lx)
+    at_odd : (i : ℕ) → y ≡ 1 + 2 * i → i < r →
+        cell_at new (s * y + x) ≡ turned (cell_at old (s * y + x)) (cell_at old (s * mate y + mate x))
+        (cell_at old (s * y + mate x)) (cell_at old (s * mate y + x))
+    at_odd i e l = rw (e, mate_odd (2 * i) (omega arith), first i x, first i (mate x), second i x, second i (mate x))
+        (rows.lower i x l lx)
 
-pub odd_cell : (t w h s r : ℕ) (old new : List ℕ) → t % 2 ≡ 1 → IsPlane w h s old → TurnsRows 0 s r old new → 2 * r ≡ h + 2 → (x y : ℕ) → x < w + 2 → y < h + 2 → step t (live (board w h s old)) (ext x) (ext y) ≡ cell_at new (s * y + x)
+pub odd_cell : (t w h s r : ℕ) (old new : List ℕ) → t % 2 ≡ 1 → IsPlane w h s old → TurnsRows 0 s r old new →
+    2 * r ≡ h + 2 → (x y : ℕ) → x < w + 2 → y < h + 2 →
+    step t (live (board w h s old)) (ext x) (ext y) ≡ cell_at new (s * y + x)
 unfolding step
 odd_cell t w h s r old new at_odd plane rows e x y lx ly =
     let wide : x < s = omega (arith, plane.room) in
     let mx : mate x < s = mate_lt x s plane.row wide in
-    rw (partner-odd_ext t x at_odd, partner-odd_ext t y at_odd, live_ext w h s old plane x y wide, live_ext w h s old plane (mate x) y mx, live_ext w h s old plane x (mate y) wide, live_ext w h s old plane (mate x) (mate y) mx) (sym (aligned_cell s r old new rows x y wide (omega arith)))
+    rw (
+      partner-odd_ext t x at_odd,
+      partner-odd_ext t y at_odd,
+      live_ext w h s old plane x y wide,
+      live_ext w h s old plane (mate x) y mx,
+      live_ext w h s old plane x (mate y) wide,
+      live_ext w h s old plane (mate x) (mate y) mx,
+    ) (sym (aligned_cell s r old new rows x y wide (omega arith)))
 
-pub odd_plane : (w h s r : ℕ) (old new : List ℕ) → IsPlane w h s old → TurnsRows 0 s r old new → 2 * r ≡ h + 2 → HasDeadMargin w h s new → IsPlane w h s new
-odd_plane w h s r old new plane rows e dead = record { width = plane.width; height = plane.height; row = plane.row; room = plane.room; margin = margin }
+pub odd_plane : (w h s r : ℕ) (old new : List ℕ) → IsPlane w h s old → TurnsRows 0 s r old new → 2 * r ≡ h + 2 →
+    HasDeadMargin w h s new → IsPlane w h s new
+odd_plane w h s r old new plane rows e dead =
+    record { width = plane.width; height = plane.height; row = plane.row; room = plane.room; margin = margin }
   where
     beyond : (x y : ℕ) → x < s → h + 2 ≤ y → is_inner w h x y ≡ false → cell_at new (s * y + x) ≡ false
     beyond x y l le outer =
@@ -110,26 +138,38 @@ odd_plane w h s r old new plane rows e dead = record { width = plane.width; heig
     right x y l le ly =
         let ge : w + 2 ≤ mate x = mate_ge x (w + 2) (omega (arith, plane.width)) le in
         let mx : mate x < s = mate_lt x s plane.row l in
-        let none : (y : ℕ) → cell_at old (s * y + x) ≡ false = λ y. plane.margin x y l (not_inner_column w h x y (omega arith)) in
-        let none' : (y : ℕ) → cell_at old (s * y + mate x) ≡ false = λ y. plane.margin (mate x) y mx (not_inner_column w h (mate x) y (omega arith)) in
-        aligned_cell s r old new rows x y l (omega arith) ∙ rw (none y, none' y, none (mate y), none' (mate y)) dead_block
+        let none : (y : ℕ) → cell_at old (s * y + x) ≡ false =
+        λ y. plane.margin x y l (not_inner_column w h x y (omega arith)) in
+        let none' : (y : ℕ) → cell_at old (s * y + mate x) ≡ false =
+        λ y. plane.margin (mate x) y mx (not_inner_column w h (mate x) y (omega arith)) in
+        aligned_cell s r old new rows x y l (omega arith)
+        ∙ rw (none y, none' y, none (mate y), none' (mate y)) dead_block
 
     margin : (x y : ℕ) → x < s → is_inner w h x y ≡ false → cell_at new (s * y + x) ≡ false
     margin x y l outer =
-        by_lt_or_le y (h + 2) (λ ly. by_lt_or_le x (w + 2) (λ lx. dead x y lx ly outer) (λ gx. right x y l gx ly)) (λ gy. beyond x y l gy outer)
+        by_lt_or_le y (h + 2) (λ ly. by_lt_or_le x (w + 2) (λ lx. dead x y lx ly outer) (λ gx. right x y l gx ly))
+        (λ gy. beyond x y l gy outer)
 
-pub odd_step : (t w h s r : ℕ) (old new : List ℕ) → t % 2 ≡ 1 → IsPlane w h s old → IsPlane w h s new → TurnsRows 0 s r old new → 2 * r ≡ h + 2 → IsStep t (board w h s old) (board w h s new)
+pub odd_step : (t w h s r : ℕ) (old new : List ℕ) → t % 2 ≡ 1 → IsPlane w h s old → IsPlane w h s new →
+    TurnsRows 0 s r old new → 2 * r ≡ h + 2 → IsStep t (board w h s old) (board w h s new)
 odd_step t w h s r old new at_odd plane plane' rows e u v =
     elim (odd_cases t w u at_odd plane.width) [
       | inr far ↦ column_dead (board w h s new) u v far.own ∙ sym (far_column t (board w h s old) u v far)
       | inl near ↦ elim (odd_cases t h v at_odd plane.height) [
         | inr far ↦ row_dead (board w h s new) u v far.own ∙ sym (far_row t (board w h s old) u v far)
-        | inl near' ↦ rw (near.1, near'.1) (live_ext w h s new plane' near.0 near'.0 (omega (arith, near.2, plane.room)) ∙ sym (odd_cell t w h s r old new at_odd plane rows e near.0 near'.0 near.2 near'.2))
+        | inl near' ↦ rw (near.1, near'.1)
+            (live_ext w h s new plane' near.0 near'.0 (omega (arith, near.2, plane.room))
+            ∙ sym (odd_cell t w h s r old new at_odd plane rows e near.0 near'.0 near.2 near'.2))
       ]
     ]
 
 inner_test : (w h x y : ℕ) → x < w → y < h → is_inner w h (suc x) (suc y) ≡ true
-inner_test w h x y lx ly = rw (le_test 1 (suc x) (omega arith), le_test (suc x) w (omega arith), le_test 1 (suc y) (omega arith), le_test (suc y) h (omega arith)) refl
+inner_test w h x y lx ly = rw (
+  le_test 1 (suc x) (omega arith),
+  le_test (suc x) w (omega arith),
+  le_test 1 (suc y) (omega arith),
+  le_test (suc y) h (omega arith),
+) refl
 
 inside_ext : (b : Board) (x y : ℕ) → is_inner b.width b.height x y ≡ false → is_inside b (ext x) (ext y) ≡ false
 inside_ext b zero y outer = refl
@@ -141,7 +181,8 @@ inside_ext b (suc x) (suc y) outer =
     (λ gy. rw (not_lt_test y b.height gy) (and_false (nat_lt x b.width))))
     (λ gx. rw (not_lt_test x b.width gx) refl)
 
-pub odd_leaves : (t w h s r : ℕ) (old new : List ℕ) → t % 2 ≡ 1 → IsPlane w h s old → TurnsRows 0 s r old new → 2 * r ≡ h + 2 → HasLiveMargin w h s new → Leaves t (board w h s old)
+pub odd_leaves : (t w h s r : ℕ) (old new : List ℕ) → t % 2 ≡ 1 → IsPlane w h s old → TurnsRows 0 s r old new →
+    2 * r ≡ h + 2 → HasLiveMargin w h s new → Leaves t (board w h s old)
 odd_leaves t w h s r old new at_odd plane rows e m = record {
   x = ext m.x;
   y = ext m.y;
@@ -150,7 +191,8 @@ odd_leaves t w h s r old new at_odd plane rows e m = record {
 }
 
 -- the second turn undoes the first
-pub undone : (s r : ℕ) (first second third : List ℕ) → s % 2 ≡ 0 → 0 < s → TurnsRows 0 s r first second → TurnsRows 0 s r second third → (p : ℕ) → cell_at third p ≡ cell_at first p
+pub undone : (s r : ℕ) (first second third : List ℕ) → s % 2 ≡ 0 → 0 < s → TurnsRows 0 s r first second →
+    TurnsRows 0 s r second third → (p : ℕ) → cell_at third p ≡ cell_at first p
 undone s r first second third whole positive one two p =
     by_lt_or_le p (2 * (r * s)) (λ l. inside p l) (λ le. two.after p (omega arith) ∙ one.after p (omega arith))
   where
@@ -165,7 +207,10 @@ undone s r first second third whole positive one two p =
         let across = rw (mate_twice x) at across in
         let down = rw (mate_twice y) at down in
         let opposite = rw (mate_twice x, mate_twice y) at opposite in
-        aligned_cell s r second third two x y lx ly ∙ rw (own, across, down, opposite) (turned_twice (cell_at first (s * y + x)) (cell_at first (s * y + mate x)) (cell_at first (s * mate y + x)) (cell_at first (s * mate y + mate x)))
+        aligned_cell s r second third two x y lx ly
+        ∙ rw (own, across, down, opposite)
+        (turned_twice (cell_at first (s * y + x)) (cell_at first (s * y + mate x)) (cell_at first (s * mate y + x))
+        (cell_at first (s * mate y + mate x)))
 
     inside : (p : ℕ) → p < 2 * (r * s) → cell_at third p ≡ cell_at first p
     inside p l =
@@ -178,18 +223,32 @@ map_same : {A B : Type 0} (f g : A → B) → ((a : A) → f a ≡ g a) → (xs 
 map_same f g same [] = refl
 map_same f g same (x ∷ xs) = rw (same x, map_same f g same xs) refl
 
-pub board_same : (w h s : ℕ) (old new : List ℕ) → ((p : ℕ) → cell_at new p ≡ cell_at old p) → board w h s new ≡ board w h s old
+pub board_same : (w h s : ℕ) (old new : List ℕ) → ((p : ℕ) → cell_at new p ≡ cell_at old p) →
+    board w h s new ≡ board w h s old
 board_same w h s old new same =
-    let cells = map_same (λ (n : ℕ). cell_at new (s * (n / w + 1) + (n % w + 1))) (λ (n : ℕ). cell_at old (s * (n / w + 1) + (n % w + 1))) (λ n. same (s * (n / w + 1) + (n % w + 1))) (range_with_len 0 (w * h)) in
+    let cells = map_same (λ (n : ℕ). cell_at new (s * (n / w + 1) + (n % w + 1)))
+    (λ (n : ℕ). cell_at old (s * (n / w + 1) + (n % w + 1))) (λ n. same (s * (n / w + 1) + (n % w + 1)))
+    (range_with_len 0 (w * h)) in
     rw cells refl
 
-pub plane_same : (w h s : ℕ) (old new : List ℕ) → ((p : ℕ) → cell_at new p ≡ cell_at old p) → IsPlane w h s old → IsPlane w h s new
-plane_same w h s old new same plane = record { width = plane.width; height = plane.height; row = plane.row; room = plane.room; margin = λ x y l outer. same (s * y + x) ∙ plane.margin x y l outer }
+pub plane_same : (w h s : ℕ) (old new : List ℕ) → ((p : ℕ) → cell_at new p ≡ cell_at old p) → IsPlane w h s old →
+    IsPlane w h s new
+plane_same w h s old new same plane = record {
+  width = plane.width;
+  height = plane.height;
+  row = plane.row;
+  room = plane.room;
+  margin = λ x y l outer. same (s * y + x) ∙ plane.margin x y l outer;
+}
 
 -- ---- the even step
-shifted_cell : (s r : ℕ) (old new : List ℕ) → TurnsRows (s + 1) s r old new → (x y : ℕ) → x < s → y < 2 * r → cell_at new (s * (y + 1) + (x + 1)) ≡ turned (cell_at old (s * (y + 1) + (x + 1))) (cell_at old (s * (mate y + 1) + (mate x + 1))) (cell_at old (s * (y + 1) + (mate x + 1))) (cell_at old (s * (mate y + 1) + (x + 1)))
+shifted_cell : (s r : ℕ) (old new : List ℕ) → TurnsRows (s + 1) s r old new → (x y : ℕ) → x < s → y < 2 * r →
+    cell_at new (s * (y + 1) + (x + 1))
+    ≡ turned (cell_at old (s * (y + 1) + (x + 1))) (cell_at old (s * (mate y + 1) + (mate x + 1)))
+    (cell_at old (s * (y + 1) + (mate x + 1))) (cell_at old (s * (mate y + 1) + (x + 1)))
 shifted_cell s r old new rows x y lx ly =
-    by_eq_or_not (y % 2) 0 (λ even. at_even (y / 2) (omega arith) (omega arith)) (λ odd. at_odd (y / 2) (omega arith) (omega arith))
+    by_eq_or_not (y % 2) 0 (λ even. at_even (y / 2) (omega arith) (omega arith))
+    (λ odd. at_odd (y / 2) (omega arith) (omega arith))
   where
     first : (i j : ℕ) → s * (2 * i + 1) + (j + 1) ≡ s + 1 + 2 * (i * s) + j
     first i j = omega arith
@@ -197,21 +256,40 @@ shifted_cell s r old new rows x y lx ly =
     second : (i j : ℕ) → s * (1 + 2 * i + 1) + (j + 1) ≡ s + 1 + 2 * (i * s) + s + j
     second i j = omega arith
 
-    at_even : (i : ℕ) → y ≡ 2 * i → i < r → cell_at new (s * (y + 1) + (x + 1)) ≡ turned (cell_at old (s * (y + 1) + (x + 1))) (cell_at old (s * (mate y + 1) + (mate x + 1))) (cell_at old (s * (y + 1) + (mate x + 1))) (cell_at old (s * (mate y + 1) + (x + 1)))
-    at_even i e l = rw (e, mate_even (2 * i) (omega arith), first i x, first i (mate x), second i x, second i (mate x)) (rows.upper i x l lx)
+    at_even : (i : ℕ) → y ≡ 2 * i → i < r →
+        cell_at new (s * (y + 1) + (x + 1))
+        ≡ turned (cell_at old (s * (y + 1) + (x + 1))) (cell_at old (s * (mate y + 1) + (mate x + 1)))
+        (cell_at old (s * (y + 1) + (mate x + 1))) (cell_at old (s * (mate y + 1) + (x + 1)))
+    at_even i e l = rw (e, mate_even (2 * i) (omega arith), first i x, first i (mate x), second i x, second i (mate x))
+        (rows.upper i x l lx)
 
-    at_odd : (i : ℕ) → y ≡ 1 + 2 * i → i < r → cell_at new (s * (y + 1) + (x + 1)) ≡ turned (cell_at old (s * (y + 1) + (x + 1))) (cell_at old (s * (mate y + 1) + (mate x + 1))) (cell_at old (s * (y + 1) + (mate x + 1))) (cell_at old (s * (mate y + 1) + (x + 1)))
-    at_odd i e l = rw (e, mate_odd (2 * i) (omega arith), first i x, first i (mate x), second i x, second i (mate x)) (rows.lower i x l lx)
+    at_odd : (i : ℕ) → y ≡ 1 + 2 * i → i < r →
+        cell_at new (s * (y + 1) + (x + 1))
+        ≡ turned (cell_at old (s * (y + 1) + (x + 1))) (cell_at old (s * (mate y + 1) + (mate x + 1)))
+        (cell_at old (s * (y + 1) + (mate x + 1))) (cell_at old (s * (mate y + 1) + (x + 1)))
+    at_odd i e l = rw (e, mate_odd (2 * i) (omega arith), first i x, first i (mate x), second i x, second i (mate x))
+        (rows.lower i x l lx)
 
-even_cell : (t w h s r : ℕ) (old new : List ℕ) → t % 2 ≡ 0 → IsPlane w h s old → TurnsRows (s + 1) s r old new → 2 * r ≡ h → (x y : ℕ) → x < w → y < h → step t (live (board w h s old)) (pos x) (pos y) ≡ cell_at new (s * (y + 1) + (x + 1))
+even_cell : (t w h s r : ℕ) (old new : List ℕ) → t % 2 ≡ 0 → IsPlane w h s old → TurnsRows (s + 1) s r old new →
+    2 * r ≡ h → (x y : ℕ) → x < w → y < h →
+    step t (live (board w h s old)) (pos x) (pos y) ≡ cell_at new (s * (y + 1) + (x + 1))
 unfolding step
 even_cell t w h s r old new at_even plane rows e x y lx ly =
     let mx : mate x < w = mate_lt x w plane.width lx in
     let my : mate y < h = mate_lt y h plane.height ly in
-    rw (partner-even_pos t x at_even, partner-even_pos t y at_even, live_inner w h s old x y lx ly, live_inner w h s old (mate x) y mx ly, live_inner w h s old x (mate y) lx my, live_inner w h s old (mate x) (mate y) mx my) (sym (shifted_cell s r old new rows x y (omega (arith, plane.room)) (omega arith)))
+    rw (
+      partner-even_pos t x at_even,
+      partner-even_pos t y at_even,
+      live_inner w h s old x y lx ly,
+      live_inner w h s old (mate x) y mx ly,
+      live_inner w h s old x (mate y) lx my,
+      live_inner w h s old (mate x) (mate y) mx my,
+    ) (sym (shifted_cell s r old new rows x y (omega (arith, plane.room)) (omega arith)))
 
-pub even_plane : (w h s r : ℕ) (old new : List ℕ) → IsPlane w h s old → TurnsRows (s + 1) s r old new → 2 * r ≡ h → IsPlane w h s new
-even_plane w h s r old new plane rows e = record { width = plane.width; height = plane.height; row = plane.row; room = plane.room; margin = margin }
+pub even_plane : (w h s r : ℕ) (old new : List ℕ) → IsPlane w h s old → TurnsRows (s + 1) s r old new → 2 * r ≡ h →
+    IsPlane w h s new
+even_plane w h s r old new plane rows e =
+    record { width = plane.width; height = plane.height; row = plane.row; room = plane.room; margin = margin }
   where
     -- the columns beyond the board, the last of which is the first of the next row
     dead_from : (j y : ℕ) → w ≤ j → j < s → cell_at old (s * (y + 1) + (j + 1)) ≡ false
@@ -226,13 +304,20 @@ even_plane w h s r old new plane rows e = record { width = plane.width; height =
     still_dead j y le l ly =
         let ge : w ≤ mate j = mate_ge j w plane.width le in
         let mj : mate j < s = mate_lt j s plane.row l in
-        shifted_cell s r old new rows j y l (omega arith) ∙ rw (dead_from j y le l, dead_from (mate j) y ge mj, dead_from j (mate y) le l, dead_from (mate j) (mate y) ge mj) dead_block
+        shifted_cell s r old new rows j y l (omega arith)
+        ∙ rw (
+          dead_from j y le l,
+          dead_from (mate j) y ge mj,
+          dead_from j (mate y) le l,
+          dead_from (mate j) (mate y) ge mj,
+        ) dead_block
 
     before : (x y : ℕ) → x < s → is_inner w h x y ≡ false → s * y + x < s + 1 → cell_at new (s * y + x) ≡ false
     before x y l outer low = rows.before (s * y + x) low ∙ plane.margin x y l outer
 
     after : (x y : ℕ) → x < s → is_inner w h x y ≡ false → s * (h + 1) + 1 ≤ s * y + x → cell_at new (s * y + x) ≡ false
-    after x y l outer high = let size : s * (h + 1) ≡ s * (2 * r + 1) = ap (λ n. s * (n + 1)) (sym e) in rows.after (s * y + x) (omega arith) ∙ plane.margin x y l outer
+    after x y l outer high = let size : s * (h + 1) ≡ s * (2 * r + 1) = ap (λ n. s * (n + 1)) (sym e) in
+        rows.after (s * y + x) (omega arith) ∙ plane.margin x y l outer
 
     higher : (a b : ℕ) → a ≤ b → s * a ≤ s * b
     higher a b le = mul-le-mul_left s le
@@ -246,7 +331,8 @@ even_plane w h s r old new plane rows e = record { width = plane.width; height =
         let j : ℕ = s - 1 in
         let place : s * suc (suc y) + 0 ≡ s * (y + 1) + (j + 1) = omega (arith, plane.room) in
         rw place (still_dead j y (omega (arith, plane.room)) (omega (arith, plane.room)) ly))
-        (λ gy. after zero (suc (suc y)) (omega (arith, plane.room)) refl (let more = higher (h + 2) (suc (suc y)) (omega arith) in omega (arith, plane.room)))
+        (λ gy. after zero (suc (suc y)) (omega (arith, plane.room)) refl
+        (let more = higher (h + 2) (suc (suc y)) (omega arith) in omega (arith, plane.room)))
 
     margin : (x y : ℕ) → x < s → is_inner w h x y ≡ false → cell_at new (s * y + x) ≡ false
     margin zero y l outer = first_column y
@@ -260,12 +346,15 @@ even_plane w h s r old new plane rows e = record { width = plane.width; height =
         rw place (still_dead x y gx (omega arith) ly)))
         (λ gy. after (suc x) (suc y) l outer (let more = higher (h + 1) (suc y) (omega arith) in omega arith))
 
-pub even_step : (t w h s r : ℕ) (old new : List ℕ) → t % 2 ≡ 0 → IsPlane w h s old → TurnsRows (s + 1) s r old new → 2 * r ≡ h → IsStep t (board w h s old) (board w h s new)
+pub even_step : (t w h s r : ℕ) (old new : List ℕ) → t % 2 ≡ 0 → IsPlane w h s old → TurnsRows (s + 1) s r old new →
+    2 * r ≡ h → IsStep t (board w h s old) (board w h s new)
 even_step t w h s r old new at_even plane rows e u v =
     elim (even_cases t w u at_even plane.width) [
       | inr far ↦ column_dead (board w h s new) u v far.own ∙ sym (far_column t (board w h s old) u v far)
       | inl near ↦ elim (even_cases t h v at_even plane.height) [
         | inr far ↦ row_dead (board w h s new) u v far.own ∙ sym (far_row t (board w h s old) u v far)
-        | inl near' ↦ rw (near.1, near'.1) (live_inner w h s new near.0 near'.0 near.2 near'.2 ∙ sym (even_cell t w h s r old new at_even plane rows e near.0 near'.0 near.2 near'.2))
+        | inl near' ↦ rw (near.1, near'.1)
+            (live_inner w h s new near.0 near'.0 near.2 near'.2
+            ∙ sym (even_cell t w h s r old new at_even plane rows e near.0 near'.0 near.2 near'.2))
       ]
     ]

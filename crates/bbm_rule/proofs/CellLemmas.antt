@@ -1,7 +1,9 @@
 -- Single cells.
-use Rattle.std.proofs.Common.{◌≡◌, ◌≢◌, ℕ, Bool, true, false, ◌<◌, ◌-◌, ◌*◌, ◌/◌, ◌^◌, ◌%◌, refl, arith, List, length, get_or, set, bit_and, bit_or, w64, nat_eq, sym}
+use Rattle.std.proofs.Common.{◌≡◌, ◌≢◌, ℕ, Bool, true, false, ◌<◌, ◌-◌, ◌*◌, ◌/◌, ◌^◌, ◌%◌, refl, arith, List, length}
+use Rattle.std.proofs.Common.{get_or, set, bit_and, bit_or, w64, nat_eq, sym}
 use Rattle.std.proofs.lemmas.List.{get_or-set_same, get_or-set_other}
-use Rattle.std.proofs.lemmas.Nat.Bits.{shr_and_one, bit_at_set_same, bit_at_set_other, bit_at_clear_same, bit_at_clear_other}
+use Rattle.std.proofs.lemmas.Nat.Bits.{shr_and_one, bit_at_set_same, bit_at_set_other, bit_at_clear_same}
+use Rattle.std.proofs.lemmas.Nat.Bits.{bit_at_clear_other}
 use Rattle.bbm_rule.specs.Bits.{bit}
 use Rattle.bbm_rule.specs.Rows.{cell_at, SetsPlace}
 use Rattle.bbm_rule.proofs.BitLemmas.{by_eq_or_not, bit-is}
@@ -10,22 +12,39 @@ pub cell_is : (words : List ℕ) (p : ℕ) → nat_eq (bit_and (get_or words (p 
 unfolding cell_at
 cell_is words p = rw (shr_and_one (get_or words (p / 64) 0) (p % 64)) (sym (bit-is (get_or words (p / 64) 0) (p % 64)))
 
-word_changed : (words : List ℕ) (p v : ℕ) (value : Bool) → p / 64 < length words → bit v (p % 64) ≡ value → ((j : ℕ) → j < 64 → j ≢ p % 64 → bit v j ≡ bit (get_or words (p / 64) 0) j) → SetsPlace p value words (set words (p / 64) v)
+word_changed : (words : List ℕ) (p v : ℕ) (value : Bool) → p / 64 < length words → bit v (p % 64) ≡ value →
+    ((j : ℕ) → j < 64 → j ≢ p % 64 → bit v j ≡ bit (get_or words (p / 64) 0) j) →
+    SetsPlace p value words (set words (p / 64) v)
 unfolding cell_at
 word_changed words p v value room own others = record {
   there = rw (get_or-set_same words (p / 64) v 0 room) own;
   elsewhere = λ q other.
       by_eq_or_not (q / 64) (p / 64)
-      (λ same. rw (same, get_or-set_same words (p / 64) v 0 room) (others (q % 64) (omega arith) (λ e. other (omega arith))))
+      (λ same. rw (same, get_or-set_same words (p / 64) v 0 room)
+      (others (q % 64) (omega arith) (λ e. other (omega arith))))
       (λ differs. rw (get_or-set_other words (p / 64) (q / 64) v 0 differs) refl);
 }
 
-pub cell_set : (words : List ℕ) (p : ℕ) → p / 64 < length words → SetsPlace p true words (set words (p / 64) (bit_or (get_or words (p / 64) 0) (1 * 2 ^ (p % 64) % 18446744073709551616)))
+pub cell_set : (words : List ℕ) (p : ℕ) → p / 64 < length words →
+    SetsPlace p true words (set words (p / 64)
+    (bit_or (get_or words (p / 64) 0) (1 * 2 ^ (p % 64) % 18446744073709551616)))
 cell_set words p room =
     let within : p % 64 < 64 = omega arith in
-    word_changed words p _ true room (rw (bit-is _ (p % 64), bit_at_set_same w64 (get_or words (p / 64) 0) (p % 64) within) refl) (λ j l other. rw (bit-is (get_or words (p / 64) 0) j, bit-is _ j, bit_at_set_other w64 (get_or words (p / 64) 0) (p % 64) within j other) refl)
+    word_changed words p _ true room
+    (rw (bit-is _ (p % 64), bit_at_set_same w64 (get_or words (p / 64) 0) (p % 64) within) refl) (λ j l other. rw (
+      bit-is (get_or words (p / 64) 0) j,
+      bit-is _ j,
+      bit_at_set_other w64 (get_or words (p / 64) 0) (p % 64) within j other,
+    ) refl)
 
-pub cell_cleared : (words : List ℕ) (p : ℕ) → p / 64 < length words → SetsPlace p false words (set words (p / 64) (bit_and (get_or words (p / 64) 0) (18446744073709551615 - 1 * 2 ^ (p % 64) % 18446744073709551616)))
+pub cell_cleared : (words : List ℕ) (p : ℕ) → p / 64 < length words →
+    SetsPlace p false words (set words (p / 64)
+    (bit_and (get_or words (p / 64) 0) (18446744073709551615 - 1 * 2 ^ (p % 64) % 18446744073709551616)))
 cell_cleared words p room =
     let within : p % 64 < 64 = omega arith in
-    word_changed words p _ false room (rw (bit-is _ (p % 64), bit_at_clear_same w64 (get_or words (p / 64) 0) (p % 64) within) refl) (λ j l other. rw (bit-is (get_or words (p / 64) 0) j, bit-is _ j, bit_at_clear_other w64 (get_or words (p / 64) 0) (p % 64) within j l other) refl)
+    word_changed words p _ false room
+    (rw (bit-is _ (p % 64), bit_at_clear_same w64 (get_or words (p / 64) 0) (p % 64) within) refl) (λ j l other. rw (
+      bit-is (get_or words (p / 64) 0) j,
+      bit-is _ j,
+      bit_at_clear_other w64 (get_or words (p / 64) 0) (p % 64) within j l other,
+    ) refl)

@@ -3,7 +3,8 @@ use Rattle.std.proofs.Common.{◌-◌, ◌≡◌, ℕ, ◌<◌, ◌≤◌, ◌+�
 use Rattle.std.specs.Prelude.{bit_xor}
 use Rattle.std.specs.Simd.Lanes.{zip2, chunk, put_chunk}
 use Rattle.bbm_rule.proofs.BitLemmas.{by_lt_or_le}
-use Rattle.std.proofs.lemmas.Simd.{length-zip2, get_or-zip2, get_or-chunk, get_or-put_chunk_below, get_or-put_chunk_at, get_or-put_chunk_above}
+use Rattle.std.proofs.lemmas.Simd.{length-zip2, get_or-zip2, get_or-chunk, get_or-put_chunk_below, get_or-put_chunk_at}
+use Rattle.std.proofs.lemmas.Simd.{get_or-put_chunk_above}
 use Rattle.bbm_rule.specs.Words.{AreTurnedAt, TurnsBetween}
 use Rattle.bbm_rule.proofs.Turning.{words_turned}
 
@@ -15,10 +16,12 @@ pub record HasLanes (v : List ℕ) (f : ℕ → ℕ) : Type 0 where
 own_lanes : (v : List ℕ) → length v ≡ 4 → HasLanes v (λ k. get_or v k 0)
 own_lanes v long = record { long = long; each = λ k l. refl }
 
-zip_lanes : (op : ℕ → ℕ → ℕ) (v w : List ℕ) (f g : ℕ → ℕ) → HasLanes v f → HasLanes w g → HasLanes (zip2 op v w) (λ k. op (f k) (g k))
+zip_lanes : (op : ℕ → ℕ → ℕ) (v w : List ℕ) (f g : ℕ → ℕ) → HasLanes v f → HasLanes w g →
+    HasLanes (zip2 op v w) (λ k. op (f k) (g k))
 zip_lanes op v w f g hv hw = record {
   long = length-zip2 op v w (omega (arith, hv.long, hw.long)) ∙ hv.long;
-  each = λ k l. get_or-zip2 op v w k 0 0 0 (omega (arith, hv.long)) (omega (arith, hw.long)) ∙ (rw (hv.each k l, hw.each k l) refl);
+  each = λ k l. get_or-zip2 op v w k 0 0 0 (omega (arith, hv.long)) (omega (arith, hw.long))
+      ∙ (rw (hv.each k l, hw.each k l) refl);
 }
 
 abbrev xor_l : List ℕ → List ℕ → List ℕ
@@ -39,9 +42,12 @@ flip_main_l ul ur ll lr = xor_l (changed_l ul ur ll lr) (and_l (changed_l ul ur 
 abbrev pub flip_anti_l : List ℕ → List ℕ → List ℕ → List ℕ → List ℕ
 flip_anti_l ul ur ll lr = xor_l (changed_l ul ur ll lr) (and_l (changed_l ul ur ll lr) (xor_l ul lr))
 
-pub vectors_turned : (ul ur ll lr : List ℕ) → length ul ≡ 4 → length ur ≡ 4 → length ll ≡ 4 → length lr ≡ 4 → (k : ℕ) → k < 4 → AreTurnedAt k ul ur ll lr (xor_l ul (flip_main_l ul ur ll lr)) (xor_l ur (flip_anti_l ul ur ll lr)) (xor_l ll (flip_anti_l ul ur ll lr)) (xor_l lr (flip_main_l ul ur ll lr))
+pub vectors_turned : (ul ur ll lr : List ℕ) → length ul ≡ 4 → length ur ≡ 4 → length ll ≡ 4 → length lr ≡ 4 → (k : ℕ) →
+    k < 4 → AreTurnedAt k ul ur ll lr (xor_l ul (flip_main_l ul ur ll lr)) (xor_l ur (flip_anti_l ul ur ll lr))
+    (xor_l ll (flip_anti_l ul ur ll lr)) (xor_l lr (flip_main_l ul ur ll lr))
 vectors_turned ul ur ll lr lul lur ldl ldr k l =
-    let hul = own_lanes ul lul in let hur = own_lanes ur lur in let hdl = own_lanes ll ldl in let hdr = own_lanes lr ldr in
+    let hul = own_lanes ul lul in let hur = own_lanes ur lur in let hdl = own_lanes ll ldl in let hdr =
+    own_lanes lr ldr in
     let main = zip_lanes bit_xor _ _ _ _ hul hdr in
     let anti = zip_lanes bit_xor _ _ _ _ hur hdl in
     let changed = zip_lanes bit_xor _ _ _ _ (zip_lanes bit_or _ _ _ _ hul hdr) (zip_lanes bit_or _ _ _ _ hur hdl) in
@@ -51,20 +57,31 @@ vectors_turned ul ur ll lr lul lur ldl ldr k l =
     let b = (zip_lanes bit_xor _ _ _ _ hur flip_anti) in
     let c = (zip_lanes bit_xor _ _ _ _ hdl flip_anti) in
     let d = (zip_lanes bit_xor _ _ _ _ hdr flip_main) in
-    rw (a.each k l, b.each k l, c.each k l, d.each k l) (words_turned (get_or ul k 0) (get_or ur k 0) (get_or ll k 0) (get_or lr k 0))
+    rw (a.each k l, b.each k l, c.each k l, d.each k l)
+    (words_turned (get_or ul k 0) (get_or ur k 0) (get_or ll k 0) (get_or lr k 0))
 
-pub vectors_long : (ul ur ll lr : List ℕ) → length ul ≡ 4 → length ur ≡ 4 → length ll ≡ 4 → length lr ≡ 4 → (length (xor_l ul (flip_main_l ul ur ll lr)) ≡ 4) × (length (xor_l ur (flip_anti_l ul ur ll lr)) ≡ 4) × (length (xor_l ll (flip_anti_l ul ur ll lr)) ≡ 4) × (length (xor_l lr (flip_main_l ul ur ll lr)) ≡ 4)
+pub vectors_long : (ul ur ll lr : List ℕ) → length ul ≡ 4 → length ur ≡ 4 → length ll ≡ 4 → length lr ≡ 4 →
+    (length (xor_l ul (flip_main_l ul ur ll lr)) ≡ 4) × (length (xor_l ur (flip_anti_l ul ur ll lr)) ≡ 4)
+    × (length (xor_l ll (flip_anti_l ul ur ll lr)) ≡ 4) × (length (xor_l lr (flip_main_l ul ur ll lr)) ≡ 4)
 vectors_long ul ur ll lr lul lur ldl ldr =
-    let long : (v w : List ℕ) (op : ℕ → ℕ → ℕ) → length v ≡ 4 → length w ≡ 4 → length (zip2 op v w) ≡ 4 = λ v w op p q. length-zip2 op v w (omega (arith, p, q)) ∙ p in
+    let long : (v w : List ℕ) (op : ℕ → ℕ → ℕ) → length v ≡ 4 → length w ≡ 4 → length (zip2 op v w) ≡ 4 =
+    λ v w op p q. length-zip2 op v w (omega (arith, p, q)) ∙ p in
     let main = long ul lr bit_xor lul ldr in
     let anti = long ur ll bit_xor lur ldl in
     let changed = long _ _ bit_xor (long ul lr bit_or lul ldr) (long ur ll bit_or lur ldl) in
     let flip_main = long _ _ bit_xor changed (long _ _ bit_and changed anti) in
-    let flip_anti = long _ _ bit_xor changed (long _ _ bit_and changed main) in
-    (long _ _ bit_xor lul flip_main, long _ _ bit_xor lur flip_anti, long _ _ bit_xor ldl flip_anti, long _ _ bit_xor ldr flip_main)
+    let flip_anti = long _ _ bit_xor changed (long _ _ bit_and changed main) in (
+      long _ _ bit_xor lul flip_main,
+      long _ _ bit_xor lur flip_anti,
+      long _ _ bit_xor ldl flip_anti,
+      long _ _ bit_xor ldr flip_main,
+    )
 
 -- a chunk that is loaded, turned and stored
-pub chunk_turned : (at : ℕ) (ul ur ll lr a b c d : List ℕ) → at + 4 ≤ length ul → at + 4 ≤ length ur → at + 4 ≤ length ll → at + 4 ≤ length lr → length a ≡ 4 → length b ≡ 4 → length c ≡ 4 → length d ≡ 4 → ((k : ℕ) → k < 4 → AreTurnedAt k (chunk at 4 ul) (chunk at 4 ur) (chunk at 4 ll) (chunk at 4 lr) a b c d) → TurnsBetween at (at + 4) ul ur ll lr (put_chunk at ul a) (put_chunk at ur b) (put_chunk at ll c) (put_chunk at lr d)
+pub chunk_turned : (at : ℕ) (ul ur ll lr a b c d : List ℕ) → at + 4 ≤ length ul → at + 4 ≤ length ur →
+    at + 4 ≤ length ll → at + 4 ≤ length lr → length a ≡ 4 → length b ≡ 4 → length c ≡ 4 → length d ≡ 4 →
+    ((k : ℕ) → k < 4 → AreTurnedAt k (chunk at 4 ul) (chunk at 4 ur) (chunk at 4 ll) (chunk at 4 lr) a b c d) →
+    TurnsBetween at (at + 4) ul ur ll lr (put_chunk at ul a) (put_chunk at ur b) (put_chunk at ll c) (put_chunk at lr d)
 chunk_turned at ul ur ll lr a b c d wul wur wdl wdr la lb lc ld turned = record {
   inside = λ k low high. inside_at k (k - at) (omega arith) (omega arith);
   below = λ k l. record {
@@ -81,13 +98,21 @@ chunk_turned at ul ur ll lr a b c d wul wur wdl wdr la lb lc ld turned = record 
   };
 }
   where
-    stored : (xs v : List ℕ) (j : ℕ) → at + 4 ≤ length xs → length v ≡ 4 → j < 4 → get_or (put_chunk at xs v) (at + j) 0 ≡ get_or v j 0
+    stored : (xs v : List ℕ) (j : ℕ) → at + 4 ≤ length xs → length v ≡ 4 → j < 4 →
+        get_or (put_chunk at xs v) (at + j) 0 ≡ get_or v j 0
     stored xs v j w l h = get_or-put_chunk_at at xs v j 0 (omega arith) (omega arith)
 
-    inside_at : (k j : ℕ) → k ≡ at + j → j < 4 → AreTurnedAt k ul ur ll lr (put_chunk at ul a) (put_chunk at ur b) (put_chunk at ll c) (put_chunk at lr d)
+    inside_at : (k j : ℕ) → k ≡ at + j → j < 4 →
+        AreTurnedAt k ul ur ll lr (put_chunk at ul a) (put_chunk at ur b) (put_chunk at ll c) (put_chunk at lr d)
     inside_at k j e l =
         let h = turned j l in
-        let h = rw (get_or-chunk at 4 ul j 0 l, get_or-chunk at 4 ur j 0 l, get_or-chunk at 4 ll j 0 l, get_or-chunk at 4 lr j 0 l) at h in
+        let h =
+        rw (
+          get_or-chunk at 4 ul j 0 l,
+          get_or-chunk at 4 ur j 0 l,
+          get_or-chunk at 4 ll j 0 l,
+          get_or-chunk at 4 lr j 0 l,
+        ) at h in
         rw (e, stored ul a j wul la l, stored ur b j wur lb l, stored ll c j wdl lc l, stored lr d j wdr ld l) h
 
 pub no_turns : (ul ur ll lr : List ℕ) → TurnsBetween 0 0 ul ur ll lr ul ur ll lr
@@ -97,9 +122,15 @@ no_turns ul ur ll lr = record {
   above = λ k l. record { upper_left = refl; upper_right = refl; lower_left = refl; lower_right = refl };
 }
 
-pub turns_join : (m n : ℕ) (ul ur ll lr ul' ur' ll' lr' ul'' ur'' ll'' lr'' : List ℕ) → m ≤ n → TurnsBetween 0 m ul ur ll lr ul' ur' ll' lr' → TurnsBetween m n ul' ur' ll' lr' ul'' ur'' ll'' lr'' → TurnsBetween 0 n ul ur ll lr ul'' ur'' ll'' lr''
+pub turns_join : (m n : ℕ) (ul ur ll lr ul' ur' ll' lr' ul'' ur'' ll'' lr'' : List ℕ) → m ≤ n →
+    TurnsBetween 0 m ul ur ll lr ul' ur' ll' lr' → TurnsBetween m n ul' ur' ll' lr' ul'' ur'' ll'' lr'' →
+    TurnsBetween 0 n ul ur ll lr ul'' ur'' ll'' lr''
 turns_join m n ul ur ll lr ul' ur' ll' lr' ul'' ur'' ll'' lr'' le first second = record {
-  inside = λ k low high. by_lt_or_le k m (λ l. let s = second.below k l in rw (s.upper_left, s.upper_right, s.lower_left, s.lower_right) (first.inside k low l)) (λ l. let s = first.above k l in let h = second.inside k l high in rw (s.upper_left, s.upper_right, s.lower_left, s.lower_right) at h);
+  inside = λ k low high. by_lt_or_le k m
+      (λ l. let s = second.below k l in
+      rw (s.upper_left, s.upper_right, s.lower_left, s.lower_right) (first.inside k low l))
+      (λ l. let s = first.above k l in let h = second.inside k l high in
+      rw (s.upper_left, s.upper_right, s.lower_left, s.lower_right) at h);
   below = λ k l. absurd (omega arith);
   above = λ k l.
       let s = first.above k (omega arith) in let t = second.above k l in

@@ -1,5 +1,6 @@
 -- Marks, and the next one
-use Rattle.std.proofs.Common.{◌≡◌, ◌≢◌, ℕ, true, false, ◌<◌, ◌≤◌, ◌+◌, ◌-◌, ◌*◌, ◌/◌, ◌%◌, ◌^◌, refl, arith, sym, ◌∙◌, ap, List, get_or, w64}
+use Rattle.std.proofs.Common.{◌≡◌, ◌≢◌, ℕ, true, false, ◌<◌, ◌≤◌, ◌+◌, ◌-◌, ◌*◌, ◌/◌, ◌%◌, ◌^◌, refl, arith, sym, ◌∙◌}
+use Rattle.std.proofs.Common.{ap, List, get_or, w64}
 use Rattle.std.specs.Int.{bit_at, trailing_zeros}
 use Rattle.std.proofs.lemmas.Bool.{false≢true}
 use Rattle.std.proofs.Math.Nat.{div-le_self}
@@ -26,22 +27,27 @@ cell_in marks q r u l e =
     rw (eq, er) refl
 
 -- a number that is at or after `at` in the same word
-rest_bit : (marks : List ℕ) (at u : ℕ) → at ≤ u → u < 64 * (at / 64 + 1) → cell_at marks u ≡ bit (get_or marks (at / 64) 0 / 2 ^ (at % 64)) (u - at)
+rest_bit : (marks : List ℕ) (at u : ℕ) → at ≤ u → u < 64 * (at / 64 + 1) →
+    cell_at marks u ≡ bit (get_or marks (at / 64) 0 / 2 ^ (at % 64)) (u - at)
 rest_bit marks at u l h =
     let e : at % 64 + (u - at) ≡ u % 64 = omega arith in
-    cell_in marks (at / 64) (u % 64) u (omega arith) (omega arith) ∙ sym (bit-shr (get_or marks (at / 64) 0) (at % 64) (u - at) ∙ ap (bit (get_or marks (at / 64) 0)) e)
+    cell_in marks (at / 64) (u % 64) u (omega arith) (omega arith)
+    ∙ sym (bit-shr (get_or marks (at / 64) 0) (at % 64) (u - at) ∙ ap (bit (get_or marks (at / 64) 0)) e)
 
 -- none is marked in the rest of a word that is zero
-pub none_in_word : (marks : List ℕ) (at u : ℕ) → get_or marks (at / 64) 0 / 2 ^ (at % 64) ≡ 0 → at ≤ u → u < 64 * (at / 64 + 1) → IsUnmarked marks u
+pub none_in_word : (marks : List ℕ) (at u : ℕ) → get_or marks (at / 64) 0 / 2 ^ (at % 64) ≡ 0 → at ≤ u →
+    u < 64 * (at / 64 + 1) → IsUnmarked marks u
 none_in_word marks at u e l h = rest_bit marks at u l h ∙ ap (λ n. bit n (u - at)) e ∙ bit-zero (u - at)
 
 bit_one : (n j : ℕ) → bit_at n j ≡ 1 → bit n j ≡ true
 bit_one n j e = rw (bit-is n j, e) refl
 
 -- nor before the first set bit of one that is not
-pub none_before : (marks : List ℕ) (at u : ℕ) → get_or marks (at / 64) 0 / 2 ^ (at % 64) ≢ 0 → get_or marks (at / 64) 0 < 2 ^ 64 →
+pub none_before : (marks : List ℕ) (at u : ℕ) → get_or marks (at / 64) 0 / 2 ^ (at % 64) ≢ 0 →
+    get_or marks (at / 64) 0 < 2 ^ 64 →
     at ≤ u → u < at + trailing_zeros w64 (get_or marks (at / 64) 0 / 2 ^ (at % 64)) → IsUnmarked marks u
-none_before marks at u some small l h = rest_bit marks at u l within ∙ bit_none _ (u - at) (found.2 (u - at) (omega arith))
+none_before marks at u some small l h =
+    rest_bit marks at u l within ∙ bit_none _ (u - at) (found.2 (u - at) (omega arith))
   where
     word : ℕ
     word = get_or marks (at / 64) 0
@@ -52,12 +58,14 @@ none_before marks at u some small l h = rest_bit marks at u l within ∙ bit_non
     le_lt : {a b c : ℕ} → a ≤ b → b < c → a < c
     le_lt p q = omega arith
 
-    found : (trailing_zeros w64 rest < 64) × (bit_at rest (trailing_zeros w64 rest) ≡ 1) × ((j : ℕ) → j < trailing_zeros w64 rest → bit_at rest j ≡ 0)
+    found : (trailing_zeros w64 rest < 64) × (bit_at rest (trailing_zeros w64 rest) ≡ 1)
+        × ((j : ℕ) → j < trailing_zeros w64 rest → bit_at rest j ≡ 0)
     found = bit_at-trailing_zeros w64 rest (omega arith) (le_lt (div-le_self word (2 ^ (at % 64))) small)
 
     in_word : at % 64 + trailing_zeros w64 rest < 64
     in_word = by_lt_or_le (at % 64 + trailing_zeros w64 rest) 64 (λ y. y)
-        (λ past. absurd (false≢true (sym (bit_above word 64 _ small past) ∙ (sym (bit-shr word (at % 64) (trailing_zeros w64 rest)) ∙ bit_one rest _ found.1))))
+        (λ past. absurd (false≢true (sym (bit_above word 64 _ small past)
+        ∙ (sym (bit-shr word (at % 64) (trailing_zeros w64 rest)) ∙ bit_one rest _ found.1))))
 
     within : u < 64 * (at / 64 + 1)
     within = omega (arith, in_word)

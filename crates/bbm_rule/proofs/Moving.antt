@@ -57,7 +57,8 @@ down_moved x d = omega (arith, ints)
 pub partner_moved : (t : ℕ) (x d : ℤ) → parity d ≡ 0 → partner t (x +ℤ d) ≡ partner t x +ℤ d
 unfolding partner
 partner_moved t x d even =
-    let same : eqb (parity (x +ℤ d)) (t % 2) ≡ eqb (parity x) (t % 2) = ap (λ p. eqb p (t % 2)) (parity_moved x d even) in
+    let same : eqb (parity (x +ℤ d)) (t % 2) ≡ eqb (parity x) (t % 2) =
+    ap (λ p. eqb p (t % 2)) (parity_moved x d even) in
     elim (cases_Bool (eqb (parity x) (t % 2))) [
       | inl up ↦ cond-true _ _ _ (same ∙ up) ∙ up_moved x d ∙ ap (λ z. z +ℤ d) (sym (cond-true _ _ _ up))
       | inr down ↦ cond-false _ _ _ (same ∙ down) ∙ down_moved x d ∙ ap (λ z. z +ℤ d) (sym (cond-false _ _ _ down))

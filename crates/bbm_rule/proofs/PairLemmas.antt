@@ -1,5 +1,6 @@
 -- Two words one above the other, and windows of 64 cells.
-use Rattle.std.proofs.Common.{◌≡◌, ◌≢◌, ℕ, Bool, true, false, ◌&&◌, ◌||◌, nat_eq, ◌<◌, ◌≤◌, ◌+◌, ◌-◌, ◌*◌, ◌/◌, ◌^◌, ◌%◌, zero, suc, refl, arith, bit_and, bit_or, ◌∙◌, List, length, get_or, set, min}
+use Rattle.std.proofs.Common.{◌≡◌, ◌≢◌, ℕ, Bool, true, false, ◌&&◌, ◌||◌, nat_eq, ◌<◌, ◌≤◌, ◌+◌, ◌-◌, ◌*◌, ◌/◌, ◌^◌}
+use Rattle.std.proofs.Common.{◌%◌, zero, suc, refl, arith, bit_and, bit_or, ◌∙◌, List, length, get_or, set, min}
 use Rattle.std.proofs.lemmas.List.{length-set}
 use Rattle.std.proofs.lemmas.Bool.Decides.{nat_tests}
 use Rattle.std.proofs.lemmas.List.{get_or-set_same, get_or-set_other}
@@ -10,7 +11,8 @@ use Rattle.bbm_rule.specs.Plane.{turned}
 use Rattle.bbm_rule.specs.Words.{AreTurned}
 use Rattle.bbm_rule.specs.Bits.{bit, AreSameBits}
 use Rattle.bbm_rule.specs.Rows.{cell_at, mate, ArePairsTurned, HasWindow, SetsWindow}
-use Rattle.bbm_rule.proofs.BitLemmas.{by_lt_or_le, by_eq_or_not, holds_below, below_from_test, bit-and, bit-or, bit-shr, bit-mod, bit-shl_low, bit-shl_high, bit_above}
+use Rattle.bbm_rule.proofs.BitLemmas.{by_lt_or_le, by_eq_or_not, holds_below, below_from_test, bit-and, bit-or, bit-shr}
+use Rattle.bbm_rule.proofs.BitLemmas.{bit-mod, bit-shl_low, bit-shl_high, bit_above}
 
 -- ---- a pair
 abbrev pub first_mask : ℕ
@@ -34,7 +36,8 @@ unfolding bit same_bool
 mask_tested = refl
 
 bit_mask : (j : ℕ) → j < 64 → bit first_mask j ≡ nat_eq (j % 2) 0
-bit_mask j l = same_bool-true _ _ (below_from_test (λ j. same_bool (bit first_mask j) (nat_eq (j % 2) 0)) 64 mask_tested j l)
+bit_mask j l = same_bool-true _ _
+    (below_from_test (λ j. same_bool (bit first_mask j) (nat_eq (j % 2) 0)) 64 mask_tested j l)
 
 all_dead : turned false false false false ≡ false
 unfolding turned
@@ -56,11 +59,15 @@ kept_second n j l odd = rw (bit-and n first_mask j, bit_mask j l, odd) (and_fals
     and_false false = refl
 
 -- a word that is joined from first and second cells of pairs
-joined_first : (f s j : ℕ) → j < 63 → bit f (1 + j) ≡ false → bit (bit_or f (s * 2 % 18446744073709551616)) (1 + j) ≡ bit s j
-joined_first f s j l none = rw (bit-or f (s * 2 % 2 ^ 64) (1 + j), none, bit-mod (s * 2 ^ 1) 64 (1 + j) (omega arith)) (bit-shl_high s 1 j (omega arith))
+joined_first : (f s j : ℕ) → j < 63 → bit f (1 + j) ≡ false →
+    bit (bit_or f (s * 2 % 18446744073709551616)) (1 + j) ≡ bit s j
+joined_first f s j l none = rw (bit-or f (s * 2 % 2 ^ 64) (1 + j), none, bit-mod (s * 2 ^ 1) 64 (1 + j) (omega arith))
+    (bit-shl_high s 1 j (omega arith))
 
 joined_zero : (f s : ℕ) → bit (bit_or f (s * 2 % 18446744073709551616)) 0 ≡ bit f 0
-joined_zero f s = rw (bit-or f (s * 2 % 2 ^ 64) 0, bit-mod (s * 2 ^ 1) 64 0 (omega arith), bit-shl_low s 1 0 (omega arith)) (or_false (bit f 0))
+joined_zero f s =
+    rw (bit-or f (s * 2 % 2 ^ 64) 0, bit-mod (s * 2 ^ 1) 64 0 (omega arith), bit-shl_low s 1 0 (omega arith))
+    (or_false (bit f 0))
   where
     or_false : (b : Bool) → (b || false) ≡ b
     or_false true = refl
@@ -77,23 +84,47 @@ mate_odd i even =
     rw odd (omega arith)
 
 -- one of the two words, from the answers for the first and the second cells of its pairs
-side_turned : (a b u v : ℕ) → ((j : ℕ) → bit u j ≡ turned (bit (bit_and a first_mask) j) (bit (bit_and (b / 2) first_mask) j) (bit (bit_and (a / 2) first_mask) j) (bit (bit_and b first_mask) j)) → ((j : ℕ) → bit v j ≡ turned (bit (bit_and (a / 2) first_mask) j) (bit (bit_and b first_mask) j) (bit (bit_and a first_mask) j) (bit (bit_and (b / 2) first_mask) j)) → (j : ℕ) → j < 64 → bit (bit_or u (v * 2 % 18446744073709551616)) j ≡ turned (bit a j) (bit b (mate j)) (bit a (mate j)) (bit b j)
+side_turned : (a b u v : ℕ) →
+    ((j : ℕ) → bit u j ≡ turned (bit (bit_and a first_mask) j) (bit (bit_and (b / 2) first_mask) j)
+    (bit (bit_and (a / 2) first_mask) j) (bit (bit_and b first_mask) j)) →
+    ((j : ℕ) → bit v j ≡ turned (bit (bit_and (a / 2) first_mask) j) (bit (bit_and b first_mask) j)
+    (bit (bit_and a first_mask) j) (bit (bit_and (b / 2) first_mask) j)) → (j : ℕ) → j < 64 →
+    bit (bit_or u (v * 2 % 18446744073709551616)) j ≡ turned (bit a j) (bit b (mate j)) (bit a (mate j)) (bit b j)
 side_turned a b u v first second j l = at_parity j l
   where
     half : (n j : ℕ) → bit (n / 2) j ≡ bit n (1 + j)
     half n j = bit-shr n 1 j
 
     first_at : (j : ℕ) → j < 64 → j % 2 ≡ 0 → bit u j ≡ turned (bit a j) (bit b (1 + j)) (bit a (1 + j)) (bit b j)
-    first_at j l even = first j ∙ rw (kept_first a j l even, kept_first (a / 2) j l even, kept_first b j l even, kept_first (b / 2) j l even, half a j, half b j) refl
+    first_at j l even = first j ∙ rw (
+      kept_first a j l even,
+      kept_first (a / 2) j l even,
+      kept_first b j l even,
+      kept_first (b / 2) j l even,
+      half a j,
+      half b j,
+    ) refl
 
     second_at : (j : ℕ) → j < 64 → j % 2 ≡ 0 → bit v j ≡ turned (bit a (1 + j)) (bit b j) (bit a j) (bit b (1 + j))
-    second_at j l even = second j ∙ rw (kept_first a j l even, kept_first (a / 2) j l even, kept_first b j l even, kept_first (b / 2) j l even, half a j, half b j) refl
+    second_at j l even = second j ∙ rw (
+      kept_first a j l even,
+      kept_first (a / 2) j l even,
+      kept_first b j l even,
+      kept_first (b / 2) j l even,
+      half a j,
+      half b j,
+    ) refl
 
     first_none : (j : ℕ) → j < 64 → j % 2 ≡ 1 → bit u j ≡ false
-    first_none j l odd = first j ∙ (rw (kept_second a j l odd, kept_second (a / 2) j l odd, kept_second b j l odd, kept_second (b / 2) j l odd) all_dead)
+    first_none j l odd =
+        first j
+        ∙ (rw (kept_second a j l odd, kept_second (a / 2) j l odd, kept_second b j l odd, kept_second (b / 2) j l odd)
+        all_dead)
 
     second_none : (j : ℕ) → j < 64 → j % 2 ≡ 1 → bit v j ≡ false
-    second_none j l odd = second j ∙ (rw (kept_second a j l odd, kept_second (a / 2) j l odd, kept_second b j l odd, kept_second (b / 2) j l odd) all_dead)
+    second_none j l odd = second j
+        ∙ (rw (kept_second a j l odd, kept_second (a / 2) j l odd, kept_second b j l odd, kept_second (b / 2) j l odd)
+        all_dead)
 
     or_false : (x : Bool) → (x || false) ≡ x
     or_false true = refl
@@ -104,12 +135,19 @@ side_turned a b u v first second j l = at_parity j l
     at_even (suc i) l even =
         let e : suc i ≡ 1 + i = omega arith in
         let none : bit v i ≡ false = second_none i (omega arith) (omega arith) in
-        rw (bit-or u (v * 2 % 2 ^ 64) (suc i), e, bit-mod (v * 2 ^ 1) 64 (1 + i) (omega arith), bit-shl_high v 1 i (omega arith), none) (or_false (bit u (1 + i)))
+        rw (
+          bit-or u (v * 2 % 2 ^ 64) (suc i),
+          e,
+          bit-mod (v * 2 ^ 1) 64 (1 + i) (omega arith),
+          bit-shl_high v 1 i (omega arith),
+          none,
+        ) (or_false (bit u (1 + i)))
 
     at_odd : (i : ℕ) → i < 63 → i % 2 ≡ 0 → bit (bit_or u (v * 2 % 18446744073709551616)) (1 + i) ≡ bit v i
     at_odd i l even = joined_first u v i l (first_none (1 + i) (omega arith) (omega arith))
 
-    at_parity : (j : ℕ) → j < 64 → bit (bit_or u (v * 2 % 18446744073709551616)) j ≡ turned (bit a j) (bit b (mate j)) (bit a (mate j)) (bit b j)
+    at_parity : (j : ℕ) → j < 64 →
+        bit (bit_or u (v * 2 % 18446744073709551616)) j ≡ turned (bit a j) (bit b (mate j)) (bit a (mate j)) (bit b j)
     at_parity j l =
         by_eq_or_not (j % 2) 0
         (λ even. at_even j l even ∙ (first_at j l even ∙ rw (mate_even j even) refl))
@@ -119,14 +157,18 @@ side_turned a b u v first second j l = at_parity j l
         let even : i % 2 ≡ 0 = omega arith in
         rw e (at_odd i (omega arith) even ∙ (second_at i (omega arith) even ∙ rw (mate_odd i even) refl)))
 
-pub pairs_turned : (a b ul ur ll lr : ℕ) → AreTurned (bit_and a first_mask) (bit_and (a / 2) first_mask) (bit_and b first_mask) (bit_and (b / 2) first_mask) ul ur ll lr → ArePairsTurned a b (bit_or ul (ur * 2 % 18446744073709551616)) (bit_or ll (lr * 2 % 18446744073709551616))
+pub pairs_turned : (a b ul ur ll lr : ℕ) →
+    AreTurned (bit_and a first_mask) (bit_and (a / 2) first_mask) (bit_and b first_mask)
+    (bit_and (b / 2) first_mask) ul ur ll lr →
+    ArePairsTurned a b (bit_or ul (ur * 2 % 18446744073709551616)) (bit_or ll (lr * 2 % 18446744073709551616))
 pairs_turned a b ul ur ll lr t = record {
   upper = side_turned a b ul ur t.upper_left t.upper_right;
   lower = side_turned b a ll lr t.lower_left t.lower_right;
 }
 
 -- a word that is joined again from its first and its second cells
-pub joined_same : (a u v : ℕ) → AreSameBits (bit_and a first_mask) u → AreSameBits (bit_and (a / 2) first_mask) v → AreSameBits a (bit_or u (v * 2 % 18446744073709551616))
+pub joined_same : (a u v : ℕ) → AreSameBits (bit_and a first_mask) u → AreSameBits (bit_and (a / 2) first_mask) v →
+    AreSameBits a (bit_or u (v * 2 % 18446744073709551616))
 joined_same a u v first second j l = by_eq_or_not (j % 2) 0
     (λ even. at_even j l even)
     (λ odd.
@@ -145,10 +187,18 @@ joined_same a u v first second j l = by_eq_or_not (j % 2) 0
         at_later : (i : ℕ) → i < 63 → i % 2 ≡ 1 → bit (bit_or u (v * 2 % 18446744073709551616)) (1 + i) ≡ bit a (1 + i)
         at_later i l odd =
             let none : bit v i ≡ false = second i (omega arith) ∙ kept_second (a / 2) i (omega arith) odd in
-            rw (bit-or u (v * 2 % 2 ^ 64) (1 + i), bit-mod (v * 2 ^ 1) 64 (1 + i) (omega arith), bit-shl_high v 1 i (omega arith), none) (or_false (bit u (1 + i))) ∙ first (1 + i) (omega arith) ∙ kept_first a (1 + i) (omega arith) (omega arith)
+            rw (
+              bit-or u (v * 2 % 2 ^ 64) (1 + i),
+              bit-mod (v * 2 ^ 1) 64 (1 + i) (omega arith),
+              bit-shl_high v 1 i (omega arith),
+              none,
+            ) (or_false (bit u (1 + i))) ∙ first (1 + i) (omega arith)
+            ∙ kept_first a (1 + i) (omega arith) (omega arith)
 
     at_odd : (i : ℕ) → i < 63 → i % 2 ≡ 0 → bit (bit_or u (v * 2 % 18446744073709551616)) (1 + i) ≡ bit a (1 + i)
-    at_odd i l even = joined_first u v i l (first (1 + i) (omega arith) ∙ kept_second a (1 + i) (omega arith) (omega arith)) ∙ second i (omega arith) ∙ kept_first (a / 2) i (omega arith) even ∙ bit-shr a 1 i
+    at_odd i l even = joined_first u v i l
+        (first (1 + i) (omega arith) ∙ kept_second a (1 + i) (omega arith) (omega arith)) ∙ second i (omega arith)
+        ∙ kept_first (a / 2) i (omega arith) even ∙ bit-shr a 1 i
 
 -- ---- windows
 pub cell_in_word : (words : List ℕ) (i b : ℕ) → b < 64 → cell_at words (64 * i + b) ≡ bit (get_or words i 0) b
@@ -157,8 +207,11 @@ cell_in_word words i b l =
     let e : 64 * i ≡ i * 64 = omega arith in
     rw (e, div-mul-add i 64 b l, mod-mul-add i 64 b l) refl
 
-pub window_is : (words : List ℕ) (i : ℕ) → get_or words i 0 < 2 ^ 64 → HasWindow words (64 * i + 1) (bit_or (get_or words i 0 / 2) (get_or words (i + 1) 0 * 9223372036854775808 % 18446744073709551616))
-window_is words i small = record { cells = λ j l. by_lt_or_le j 63 (λ low. at_low j low) (λ high. at_high j (omega arith)) }
+pub window_is : (words : List ℕ) (i : ℕ) → get_or words i 0 < 2 ^ 64 →
+    HasWindow words (64 * i + 1) (bit_or (get_or words i 0 / 2)
+    (get_or words (i + 1) 0 * 9223372036854775808 % 18446744073709551616))
+window_is words i small =
+    record { cells = λ j l. by_lt_or_le j 63 (λ low. at_low j low) (λ high. at_high j (omega arith)) }
   where
     or_false : (x : Bool) → (x || false) ≡ x
     or_false true = refl
@@ -170,15 +223,35 @@ window_is words i small = record { cells = λ j l. by_lt_or_le j 63 (λ low. at_
     b : ℕ
     b = get_or words (i + 1) 0
 
-    at_low : (j : ℕ) → j < 63 → bit (bit_or (get_or words i 0 / 2) (get_or words (i + 1) 0 * 9223372036854775808 % 18446744073709551616)) j ≡ cell_at words (64 * i + 1 + j)
+    at_low : (j : ℕ) → j < 63 → bit
+        (bit_or (get_or words i 0 / 2) (get_or words (i + 1) 0 * 9223372036854775808 % 18446744073709551616)) j
+        ≡ cell_at words (64 * i + 1 + j)
     at_low j l =
         let e : 64 * i + 1 + j ≡ 64 * i + (1 + j) = omega arith in
-        rw (e, cell_in_word words i (1 + j) (omega arith), bit-or (get_or words i 0 / 2) (get_or words (i + 1) 0 * 9223372036854775808 % 18446744073709551616) j, bit-shr (get_or words i 0) 1 j, bit-mod (get_or words (i + 1) 0 * 2 ^ 63) 64 j (omega arith), bit-shl_low (get_or words (i + 1) 0) 63 j l) (or_false (bit (get_or words i 0) (1 + j)))
+        rw (
+          e,
+          cell_in_word words i (1 + j) (omega arith),
+          bit-or (get_or words i 0 / 2) (get_or words (i + 1) 0 * 9223372036854775808 % 18446744073709551616) j,
+          bit-shr (get_or words i 0) 1 j,
+          bit-mod (get_or words (i + 1) 0 * 2 ^ 63) 64 j (omega arith),
+          bit-shl_low (get_or words (i + 1) 0) 63 j l,
+        ) (or_false (bit (get_or words i 0) (1 + j)))
 
-    at_high : (j : ℕ) → j ≡ 63 → bit (bit_or (get_or words i 0 / 2) (get_or words (i + 1) 0 * 9223372036854775808 % 18446744073709551616)) j ≡ cell_at words (64 * i + 1 + j)
+    at_high : (j : ℕ) → j ≡ 63 → bit
+        (bit_or (get_or words i 0 / 2) (get_or words (i + 1) 0 * 9223372036854775808 % 18446744073709551616)) j
+        ≡ cell_at words (64 * i + 1 + j)
     at_high j e =
         let place : 64 * i + 1 + 63 ≡ 64 * (i + 1) + 0 = omega arith in
-        rw (e, place, cell_in_word words (i + 1) 0 (omega arith), bit-or (get_or words i 0 / 2) (get_or words (i + 1) 0 * 9223372036854775808 % 18446744073709551616) 63, bit-shr (get_or words i 0) 1 63, bit_above (get_or words i 0) 64 64 small (omega arith), bit-mod (get_or words (i + 1) 0 * 2 ^ 63) 64 63 (omega arith), bit-shl_high (get_or words (i + 1) 0) 63 0 (omega arith)) refl
+        rw (
+          e,
+          place,
+          cell_in_word words (i + 1) 0 (omega arith),
+          bit-or (get_or words i 0 / 2) (get_or words (i + 1) 0 * 9223372036854775808 % 18446744073709551616) 63,
+          bit-shr (get_or words i 0) 1 63,
+          bit_above (get_or words i 0) 64 64 small (omega arith),
+          bit-mod (get_or words (i + 1) 0 * 2 ^ 63) 64 63 (omega arith),
+          bit-shl_high (get_or words (i + 1) 0) 63 0 (omega arith),
+        ) refl
 
 pub by_place : (P : ℕ → Type 0) → ((k b : ℕ) → b < 64 → P (64 * k + b)) → (q : ℕ) → P q
 by_place P f q =
@@ -198,7 +271,8 @@ unfolding bit same_bool
 rest_tested = refl
 
 bit_rest : (j : ℕ) → j < 64 → bit 18446744073709551614 j ≡ nat_eq (min j 1) 1
-bit_rest j l = same_bool-true _ _ (below_from_test (λ j. same_bool (bit 18446744073709551614 j) (nat_eq (min j 1) 1)) 64 rest_tested j l)
+bit_rest j l = same_bool-true _ _
+    (below_from_test (λ j. same_bool (bit 18446744073709551614 j) (nat_eq (min j 1) 1)) 64 rest_tested j l)
 
 and_true : (b : Bool) → (b && true) ≡ b
 and_true true = refl
@@ -214,7 +288,8 @@ or_false false = refl
 
 -- the word that keeps its first cell, and that which keeps all but the first
 low_joined : (w v j : ℕ) → j < 63 → bit (bit_or (bit_and w 1) (v * 2 % 18446744073709551616)) (1 + j) ≡ bit v j
-low_joined w v j l = joined_first (bit_and w 1) v j l (rw (bit-and w 1 (1 + j), bit_one (1 + j) (omega arith), not_first j) (and_false (bit w (1 + j))))
+low_joined w v j l = joined_first (bit_and w 1) v j l
+    (rw (bit-and w 1 (1 + j), bit_one (1 + j) (omega arith), not_first j) (and_false (bit w (1 + j))))
   where
     not_first : (j : ℕ) → nat_eq (1 + j) 0 ≡ false
     not_first j = grind (arith, nat_tests)
@@ -223,23 +298,40 @@ low_kept : (w v : ℕ) → bit (bit_or (bit_and w 1) (v * 2 % 184467440737095516
 low_kept w v = joined_zero (bit_and w 1) v ∙ (rw (bit-and w 1 0, bit_one 0 (omega arith)) (and_true (bit w 0)))
 
 high_joined : (w v : ℕ) → bit (bit_or (bit_and w 18446744073709551614) (v / 9223372036854775808)) 0 ≡ bit v 63
-high_joined w v = rw (bit-or (bit_and w 18446744073709551614) (v / 9223372036854775808) 0, bit-and w 18446744073709551614 0, bit_rest 0 (omega arith), bit-shr v 63 0, and_false (bit w 0)) refl
+high_joined w v = rw (
+  bit-or (bit_and w 18446744073709551614) (v / 9223372036854775808) 0,
+  bit-and w 18446744073709551614 0,
+  bit_rest 0 (omega arith),
+  bit-shr v 63 0,
+  and_false (bit w 0),
+) refl
 
-high_kept : (w v j : ℕ) → v < 2 ^ 64 → 0 < j → j < 64 → bit (bit_or (bit_and w 18446744073709551614) (v / 9223372036854775808)) j ≡ bit w j
+high_kept : (w v j : ℕ) → v < 2 ^ 64 → 0 < j → j < 64 →
+    bit (bit_or (bit_and w 18446744073709551614) (v / 9223372036854775808)) j ≡ bit w j
 high_kept w v j small positive l =
     let one : min j 1 ≡ 1 = omega arith in
-    rw (bit-or (bit_and w 18446744073709551614) (v / 9223372036854775808) j, bit-and w 18446744073709551614 j, bit_rest j l, one, bit-shr v 63 j, bit_above v 64 (63 + j) small (omega arith), or_false (bit w j && true)) (and_true (bit w j))
+    rw (
+      bit-or (bit_and w 18446744073709551614) (v / 9223372036854775808) j,
+      bit-and w 18446744073709551614 j,
+      bit_rest j l,
+      one,
+      bit-shr v 63 j,
+      bit_above v 64 (63 + j) small (omega arith),
+      or_false (bit w j && true),
+    ) (and_true (bit w j))
 
 abbrev low : List ℕ → ℕ → ℕ → ℕ
 low words i v = bit_or (bit_and (get_or words i 0) 1) (v * 2 % 18446744073709551616)
 
 abbrev high : List ℕ → ℕ → ℕ → ℕ
-high words i v = bit_or (bit_and (get_or (set words i (low words i v)) (i + 1) 0) 18446744073709551614) (v / 9223372036854775808)
+high words i v = bit_or (bit_and (get_or (set words i (low words i v)) (i + 1) 0) 18446744073709551614)
+    (v / 9223372036854775808)
 
 abbrev new : List ℕ → ℕ → ℕ → List ℕ
 new words i v = set (set words i (low words i v)) (i + 1) (high words i v)
 
-pub window_set : (words : List ℕ) (i v : ℕ) → i + 1 < length words → v < 2 ^ 64 → SetsWindow (64 * i + 1) v words (new words i v)
+pub window_set : (words : List ℕ) (i v : ℕ) → i + 1 < length words → v < 2 ^ 64 →
+    SetsWindow (64 * i + 1) v words (new words i v)
 window_set words i v room small = record {
   cells = λ j l. by_lt_or_le j 63 (λ under. at_low j under) (λ over. at_high j (omega arith));
   before = by_place (λ q. q < 64 * i + 1 → cell_at (new words i v) q ≡ cell_at words q) before_at;
@@ -247,13 +339,17 @@ window_set words i v room small = record {
 }
   where
     get_low : get_or (new words i v) i 0 ≡ (low words i v)
-    get_low = get_or-set_other (set words i (low words i v)) (i + 1) i (high words i v) 0 (λ e. absurd (omega arith)) ∙ get_or-set_same words i (low words i v) 0 (omega arith)
+    get_low = get_or-set_other (set words i (low words i v)) (i + 1) i (high words i v) 0 (λ e. absurd (omega arith))
+        ∙ get_or-set_same words i (low words i v) 0 (omega arith)
 
     get_high : get_or (new words i v) (i + 1) 0 ≡ (high words i v)
-    get_high = get_or-set_same (set words i (low words i v)) (i + 1) (high words i v) 0 (omega (arith, length-set {A = ℕ}))
+    get_high = get_or-set_same (set words i (low words i v)) (i + 1) (high words i v) 0
+        (omega (arith, length-set {A = ℕ}))
 
     get_rest : (k : ℕ) → k ≢ i → k ≢ i + 1 → get_or (new words i v) k 0 ≡ get_or words k 0
-    get_rest k not_low not_high = get_or-set_other (set words i (low words i v)) (i + 1) k (high words i v) 0 not_high ∙ get_or-set_other words i k (low words i v) 0 not_low
+    get_rest k not_low not_high =
+        get_or-set_other (set words i (low words i v)) (i + 1) k (high words i v) 0 not_high
+        ∙ get_or-set_other words i k (low words i v) 0 not_low
 
     get_next : get_or (set words i (low words i v)) (i + 1) 0 ≡ get_or words (i + 1) 0
     get_next = get_or-set_other words i (i + 1) (low words i v) 0 (λ e. absurd (omega arith))
@@ -266,21 +362,28 @@ window_set words i v room small = record {
     at_high : (j : ℕ) → j ≡ 63 → cell_at (new words i v) (64 * i + 1 + j) ≡ bit v j
     at_high j e =
         let place : 64 * i + 1 + 63 ≡ 64 * (i + 1) + 0 = omega arith in
-        rw (e, place, cell_in_word (new words i v) (i + 1) 0 (omega arith), get_high) (high_joined (get_or (set words i (low words i v)) (i + 1) 0) v)
+        rw (e, place, cell_in_word (new words i v) (i + 1) 0 (omega arith), get_high)
+        (high_joined (get_or (set words i (low words i v)) (i + 1) 0) v)
 
-    elsewhere : (k b : ℕ) → b < 64 → k ≢ i → k ≢ i + 1 → cell_at (new words i v) (64 * k + b) ≡ cell_at words (64 * k + b)
-    elsewhere k b l not_low not_high = rw (cell_in_word (new words i v) k b l, cell_in_word words k b l, get_rest k not_low not_high) refl
+    elsewhere : (k b : ℕ) → b < 64 → k ≢ i → k ≢ i + 1 →
+        cell_at (new words i v) (64 * k + b) ≡ cell_at words (64 * k + b)
+    elsewhere k b l not_low not_high =
+        rw (cell_in_word (new words i v) k b l, cell_in_word words k b l, get_rest k not_low not_high) refl
 
-    before_at : (k b : ℕ) → b < 64 → 64 * k + b < 64 * i + 1 → cell_at (new words i v) (64 * k + b) ≡ cell_at words (64 * k + b)
+    before_at : (k b : ℕ) → b < 64 → 64 * k + b < 64 * i + 1 →
+        cell_at (new words i v) (64 * k + b) ≡ cell_at words (64 * k + b)
     before_at k b l under =
         by_eq_or_not k i
         (λ same.
         let none : b ≡ 0 = omega arith in
-        rw (same, none, cell_in_word (new words i v) i 0 (omega arith), cell_in_word words i 0 (omega arith), get_low) (low_kept (get_or words i 0) v))
+        rw (same, none, cell_in_word (new words i v) i 0 (omega arith), cell_in_word words i 0 (omega arith), get_low)
+        (low_kept (get_or words i 0) v))
         (λ other. elsewhere k b l other (λ e. absurd (omega arith)))
 
-    after_at : (k b : ℕ) → b < 64 → 64 * i + 1 + 64 ≤ 64 * k + b → cell_at (new words i v) (64 * k + b) ≡ cell_at words (64 * k + b)
+    after_at : (k b : ℕ) → b < 64 → 64 * i + 1 + 64 ≤ 64 * k + b →
+        cell_at (new words i v) (64 * k + b) ≡ cell_at words (64 * k + b)
     after_at k b l over =
         by_eq_or_not k (i + 1)
-        (λ same. rw (same, cell_in_word (new words i v) (i + 1) b l, cell_in_word words (i + 1) b l, get_high, get_next) (high_kept (get_or words (i + 1) 0) v b small (omega arith) l))
+        (λ same. rw (same, cell_in_word (new words i v) (i + 1) b l, cell_in_word words (i + 1) b l, get_high, get_next)
+        (high_kept (get_or words (i + 1) 0) v b small (omega arith) l))
         (λ other. elsewhere k b l (λ e. absurd (omega arith)) other)

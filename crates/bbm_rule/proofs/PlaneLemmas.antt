@@ -1,5 +1,6 @@
 -- Blocks on the plane
-use Rattle.std.proofs.Common.{◌≡◌, ℕ, Bool, true, false, ◌&&◌, not, ◌<◌, ◌≤◌, ◌+◌, ◌-◌, ◌%◌, zero, suc, refl, arith, ◌⊎◌, inl, inr}
+use Rattle.std.proofs.Common.{◌≡◌, ℕ, Bool, true, false, ◌&&◌, not, ◌<◌, ◌≤◌, ◌+◌, ◌-◌, ◌%◌, zero, suc, refl, arith}
+use Rattle.std.proofs.Common.{◌⊎◌, inl, inr}
 use Rattle.std.specs.Prelude.{ℤ, pos, negsuc, ◌+ℤ◌, ◌-ℤ◌, nat_lt}
 use Rattle.std.proofs.lemmas.Int.{ints}
 use Rattle.std.proofs.lemmas.Bool.Decides.{nat_tests}
@@ -130,7 +131,8 @@ partner_twice t u = by_eq_or_not (t % 2) 0 (λ even. at_even u even) (λ odd. at
 -- a step undoes itself
 pub step_twice : (t : ℕ) (s : State) (x y : ℤ) → step t (step t s) x y ≡ s x y
 unfolding step
-step_twice t s x y = rw (partner_twice t x, partner_twice t y) (turned_twice (s x y) (s (partner t x) y) (s x (partner t y)) (s (partner t x) (partner t y)))
+step_twice t s x y = rw (partner_twice t x, partner_twice t y)
+    (turned_twice (s x y) (s (partner t x) y) (s x (partner t y)) (s (partner t x) (partner t y)))
 
 -- ---- outside a board
 abbrev pub is_out : ℕ → ℤ → Bool
@@ -165,10 +167,14 @@ pub record IsFar (t : ℕ) (n : ℕ) (u : ℤ) : Type 0 where
   pub other : is_out n (partner t u) ≡ true
 
 pub far_column : (t : ℕ) (b : Board) (u v : ℤ) → IsFar t b.width u → step t (live b) u v ≡ false
-far_column t b u v far = step_dead t (live b) u v (column_dead b u v far.own) (column_dead b (partner t u) (partner t v) far.other) (column_dead b (partner t u) v far.other) (column_dead b u (partner t v) far.own)
+far_column t b u v far = step_dead t (live b) u v (column_dead b u v far.own)
+    (column_dead b (partner t u) (partner t v) far.other) (column_dead b (partner t u) v far.other)
+    (column_dead b u (partner t v) far.own)
 
 pub far_row : (t : ℕ) (b : Board) (u v : ℤ) → IsFar t b.height v → step t (live b) u v ≡ false
-far_row t b u v far = step_dead t (live b) u v (row_dead b u v far.own) (row_dead b (partner t u) (partner t v) far.other) (row_dead b (partner t u) v far.own) (row_dead b u (partner t v) far.other)
+far_row t b u v far = step_dead t (live b) u v (row_dead b u v far.own)
+    (row_dead b (partner t u) (partner t v) far.other) (row_dead b (partner t u) v far.own)
+    (row_dead b u (partner t v) far.other)
 
 out_pos : (n x : ℕ) → n ≤ x → is_out n (pos x) ≡ true
 out_pos n x le = let e : nat_lt x n ≡ false = grind (arith, nat_tests) in rw e refl
@@ -190,12 +196,21 @@ IsNearExt n u = (x : ℕ) × (u ≡ ext x) × (x < n + 2)
 
 pub even_cases : (t n : ℕ) (u : ℤ) → t % 2 ≡ 0 → n % 2 ≡ 0 → IsNear n u ⊎ IsFar t n u
 even_cases t n (pos x) at_even whole =
-    by_lt_or_le x n (λ l. inl (x, refl, l)) (λ le. inr (record { own = out_pos n x le; other = rw (partner-even_pos t x at_even) (out_pos n (mate x) (mate_ge x n whole le)) }))
+    by_lt_or_le x n (λ l. inl (x, refl, l))
+    (λ le.
+    inr
+    (record {
+      own = out_pos n x le;
+      other = rw (partner-even_pos t x at_even) (out_pos n (mate x) (mate_ge x n whole le));
+    }))
 even_cases t n (negsuc x) at_even whole = inr (record { own = refl; other = rw (partner-even_neg t x at_even) refl })
 
 pub odd_cases : (t n : ℕ) (u : ℤ) → t % 2 ≡ 1 → n % 2 ≡ 0 → IsNearExt n u ⊎ IsFar t n u
 odd_cases t n (pos x) at_odd whole =
-    by_lt_or_le (suc x) (n + 2) (λ l. inl (suc x, refl, l)) (λ le. inr (record { own = out_pos n x (omega arith); other = rw (partner-odd_ext t (suc x) at_odd) (out_ext (mate (suc x)) (mate_ge (suc x) (n + 2) (omega arith) le)) }))
+    by_lt_or_le (suc x) (n + 2) (λ l. inl (suc x, refl, l)) (λ le. inr (record {
+      own = out_pos n x (omega arith);
+      other = rw (partner-odd_ext t (suc x) at_odd) (out_ext (mate (suc x)) (mate_ge (suc x) (n + 2) (omega arith) le));
+    }))
   where
     out_ext : (y : ℕ) → n + 2 ≤ y → is_out n (ext y) ≡ true
     out_ext zero le = absurd (omega arith)

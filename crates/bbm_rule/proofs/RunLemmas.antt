@@ -1,5 +1,6 @@
 -- Runs of blocks along two rows, and rows of runs.
-use Rattle.std.proofs.Common.{◌≡◌, ◌≢◌, ℕ, ◌<◌, ◌≤◌, ◌+◌, ◌-◌, ◌*◌, ◌%◌, refl, arith, ◌∙◌, sym, ap, List, length, get_or, set}
+use Rattle.std.proofs.Common.{◌≡◌, ◌≢◌, ℕ, ◌<◌, ◌≤◌, ◌+◌, ◌-◌, ◌*◌, ◌%◌, refl, arith, ◌∙◌, sym, ap, List, length}
+use Rattle.std.proofs.Common.{get_or, set}
 use Rattle.std.proofs.lemmas.List.{get_or-set_same, get_or-set_other, length-set}
 use Rattle.std.proofs.Math.Nat.{mul-le-mul_right}
 use Rattle.bbm_rule.specs.Plane.{turned}
@@ -33,21 +34,39 @@ word_is_window words i = record { cells = λ j l. sym (cell_in_word words i j l)
 pub word_set : (words : List ℕ) (i v : ℕ) → i < length words → SetsWindow (64 * i) v words (set words i v)
 word_set words i v room = record {
   cells = λ j l. rw (cell_in_word (set words i v) i j l, get_or-set_same words i v 0 room) refl;
-  before = by_place (λ q. q < 64 * i → cell_at (set words i v) q ≡ cell_at words q) (λ k b l under. elsewhere k b l (λ e. absurd (omega arith)));
-  after = by_place (λ q. 64 * i + 64 ≤ q → cell_at (set words i v) q ≡ cell_at words q) (λ k b l over. elsewhere k b l (λ e. absurd (omega arith)));
+  before = by_place (λ q. q < 64 * i → cell_at (set words i v) q ≡ cell_at words q)
+      (λ k b l under. elsewhere k b l (λ e. absurd (omega arith)));
+  after = by_place (λ q. 64 * i + 64 ≤ q → cell_at (set words i v) q ≡ cell_at words q)
+      (λ k b l over. elsewhere k b l (λ e. absurd (omega arith)));
 }
   where
     elsewhere : (k b : ℕ) → b < 64 → k ≢ i → cell_at (set words i v) (64 * k + b) ≡ cell_at words (64 * k + b)
-    elsewhere k b l other = rw (cell_in_word (set words i v) k b l, cell_in_word words k b l, get_or-set_other words i k v 0 other) refl
+    elsewhere k b l other =
+        rw (cell_in_word (set words i v) k b l, cell_in_word words k b l, get_or-set_other words i k v 0 other) refl
 
-pub windows_turned : (p s : ℕ) (va vb a b : ℕ) (old mid new : List ℕ) → 64 ≤ s → HasWindow old p va → HasWindow old (p + s) vb → ArePairsTurned va vb a b → SetsWindow p a old mid → SetsWindow (p + s) b mid new → TurnsRun p 64 s old new
+pub windows_turned : (p s : ℕ) (va vb a b : ℕ) (old mid new : List ℕ) → 64 ≤ s → HasWindow old p va →
+    HasWindow old (p + s) vb → ArePairsTurned va vb a b → SetsWindow p a old mid → SetsWindow (p + s) b mid new →
+    TurnsRun p 64 s old new
 windows_turned p s va vb a b old mid new wide has_a has_b pairs set_a set_b = record {
   upper = λ j l.
       let m = mate_lt j 64 refl l in
-      rw (set_b.before (p + j) (omega arith), set_a.cells j l, sym (has_a.cells j l), sym (has_a.cells (mate j) m), sym (has_b.cells j l), sym (has_b.cells (mate j) m)) (pairs.upper j l);
+      rw (
+        set_b.before (p + j) (omega arith),
+        set_a.cells j l,
+        sym (has_a.cells j l),
+        sym (has_a.cells (mate j) m),
+        sym (has_b.cells j l),
+        sym (has_b.cells (mate j) m),
+      ) (pairs.upper j l);
   lower = λ j l.
       let m = mate_lt j 64 refl l in
-      rw (set_b.cells j l, sym (has_a.cells j l), sym (has_a.cells (mate j) m), sym (has_b.cells j l), sym (has_b.cells (mate j) m)) (pairs.lower j l);
+      rw (
+        set_b.cells j l,
+        sym (has_a.cells j l),
+        sym (has_a.cells (mate j) m),
+        sym (has_b.cells j l),
+        sym (has_b.cells (mate j) m),
+      ) (pairs.lower j l);
   before = λ q l. set_b.before q (omega arith) ∙ set_a.before q l;
   between = λ q low high. set_b.before q high ∙ set_a.after q low;
   after = λ q l. set_b.after q l ∙ set_a.after q (omega arith);
@@ -62,10 +81,13 @@ no_run p s words = record {
   after = λ q l. refl;
 }
 
-pub run_join : (p n s : ℕ) (first second third : List ℕ) → n % 2 ≡ 0 → n + 64 ≤ s → TurnsRun p n s first second → TurnsRun (p + n) 64 s second third → TurnsRun p (n + 64) s first third
+pub run_join : (p n s : ℕ) (first second third : List ℕ) → n % 2 ≡ 0 → n + 64 ≤ s → TurnsRun p n s first second →
+    TurnsRun (p + n) 64 s second third → TurnsRun p (n + 64) s first third
 run_join p n s first second third whole within one two = record {
-  upper = λ j l. by_lt_or_le j n (λ low. two.before (p + j) (omega arith) ∙ one.upper j low) (λ high. upper_at (j - n) j (omega arith) (omega arith));
-  lower = λ j l. by_lt_or_le j n (λ low. two.between (p + s + j) (omega arith) (omega arith) ∙ one.lower j low) (λ high. lower_at (j - n) j (omega arith) (omega arith));
+  upper = λ j l. by_lt_or_le j n (λ low. two.before (p + j) (omega arith) ∙ one.upper j low)
+      (λ high. upper_at (j - n) j (omega arith) (omega arith));
+  lower = λ j l. by_lt_or_le j n (λ low. two.between (p + s + j) (omega arith) (omega arith) ∙ one.lower j low)
+      (λ high. lower_at (j - n) j (omega arith) (omega arith));
   before = λ q l. two.before q (omega arith) ∙ one.before q l;
   between = λ q low high. two.between q (omega arith) (omega arith) ∙ one.between q (omega arith) high;
   after = λ q l. two.after q (omega arith) ∙ one.after q (omega arith);
@@ -77,17 +99,37 @@ run_join p n s first second third whole within one two = record {
     lower_kept : (i : ℕ) → i < 64 → cell_at second (p + n + s + i) ≡ cell_at first (p + s + (n + i))
     lower_kept i l = one.after (p + n + s + i) (omega arith) ∙ ap (cell_at first) (omega arith)
 
-    upper_at : (i j : ℕ) → j ≡ n + i → i < 64 → cell_at third (p + j) ≡ turned (cell_at first (p + j)) (cell_at first (p + s + mate j)) (cell_at first (p + mate j)) (cell_at first (p + s + j))
+    upper_at : (i j : ℕ) → j ≡ n + i → i < 64 →
+        cell_at third (p + j) ≡ turned (cell_at first (p + j)) (cell_at first (p + s + mate j))
+        (cell_at first (p + mate j)) (cell_at first (p + s + j))
     upper_at i j e l =
         let m = mate_lt i 64 refl l in
         let place : p + (n + i) ≡ p + n + i = omega arith in
-        rw (e, mate_add n i whole, sym (upper_kept i l), sym (upper_kept (mate i) m), sym (lower_kept i l), sym (lower_kept (mate i) m), place) (two.upper i l)
+        rw (
+          e,
+          mate_add n i whole,
+          sym (upper_kept i l),
+          sym (upper_kept (mate i) m),
+          sym (lower_kept i l),
+          sym (lower_kept (mate i) m),
+          place,
+        ) (two.upper i l)
 
-    lower_at : (i j : ℕ) → j ≡ n + i → i < 64 → cell_at third (p + s + j) ≡ turned (cell_at first (p + s + j)) (cell_at first (p + mate j)) (cell_at first (p + s + mate j)) (cell_at first (p + j))
+    lower_at : (i j : ℕ) → j ≡ n + i → i < 64 →
+        cell_at third (p + s + j) ≡ turned (cell_at first (p + s + j)) (cell_at first (p + mate j))
+        (cell_at first (p + s + mate j)) (cell_at first (p + j))
     lower_at i j e l =
         let m = mate_lt i 64 refl l in
         let place : p + s + (n + i) ≡ p + n + s + i = omega arith in
-        rw (e, mate_add n i whole, sym (upper_kept i l), sym (upper_kept (mate i) m), sym (lower_kept i l), sym (lower_kept (mate i) m), place) (two.lower i l)
+        rw (
+          e,
+          mate_add n i whole,
+          sym (upper_kept i l),
+          sym (upper_kept (mate i) m),
+          sym (lower_kept i l),
+          sym (lower_kept (mate i) m),
+          place,
+        ) (two.lower i l)
 
 -- ---- rows
 pub no_rows : (p s : ℕ) (words : List ℕ) → TurnsRows p s 0 words words
@@ -98,10 +140,15 @@ no_rows p s words = record {
   after = λ q l. refl;
 }
 
-pub rows_join : (p s r : ℕ) (first second third : List ℕ) → s % 2 ≡ 0 → TurnsRows p s r first second → TurnsRun (p + 2 * (r * s)) s s second third → TurnsRows p s (r + 1) first third
+pub rows_join : (p s r : ℕ) (first second third : List ℕ) → s % 2 ≡ 0 → TurnsRows p s r first second →
+    TurnsRun (p + 2 * (r * s)) s s second third → TurnsRows p s (r + 1) first third
 rows_join p s r first second third whole rows run = record {
-  upper = λ i j l m. by_lt_or_le i r (λ low. let h = earlier i low in run.before (p + 2 * (i * s) + j) (omega arith) ∙ rows.upper i j low m) (λ high. upper_at i j (omega arith) m);
-  lower = λ i j l m. by_lt_or_le i r (λ low. let h = earlier i low in run.before (p + 2 * (i * s) + s + j) (omega arith) ∙ rows.lower i j low m) (λ high. lower_at i j (omega arith) m);
+  upper = λ i j l m. by_lt_or_le i r
+      (λ low. let h = earlier i low in run.before (p + 2 * (i * s) + j) (omega arith) ∙ rows.upper i j low m)
+      (λ high. upper_at i j (omega arith) m);
+  lower = λ i j l m. by_lt_or_le i r
+      (λ low. let h = earlier i low in run.before (p + 2 * (i * s) + s + j) (omega arith) ∙ rows.lower i j low m)
+      (λ high. lower_at i j (omega arith) m);
   before = λ q l. run.before q (omega arith) ∙ rows.before q l;
   after = λ q l. run.after q (omega arith) ∙ rows.after q (omega arith);
 }
@@ -112,14 +159,36 @@ rows_join p s r first second third whole rows run = record {
     kept : (q : ℕ) → p + 2 * (r * s) ≤ q → cell_at second q ≡ cell_at first q
     kept = rows.after
 
-    upper_at : (i j : ℕ) → i ≡ r → j < s → cell_at third (p + 2 * (i * s) + j) ≡ turned (cell_at first (p + 2 * (i * s) + j)) (cell_at first (p + 2 * (i * s) + s + mate j)) (cell_at first (p + 2 * (i * s) + mate j)) (cell_at first (p + 2 * (i * s) + s + j))
-    upper_at i j e m = rw (e, sym (kept (p + 2 * (r * s) + j) (omega arith)), sym (kept (p + 2 * (r * s) + mate j) (omega arith)), sym (kept (p + 2 * (r * s) + s + j) (omega arith)), sym (kept (p + 2 * (r * s) + s + mate j) (omega arith))) (run.upper j m)
+    upper_at : (i j : ℕ) → i ≡ r → j < s →
+        cell_at third (p + 2 * (i * s) + j)
+        ≡ turned (cell_at first (p + 2 * (i * s) + j)) (cell_at first (p + 2 * (i * s) + s + mate j))
+        (cell_at first (p + 2 * (i * s) + mate j)) (cell_at first (p + 2 * (i * s) + s + j))
+    upper_at i j e m = rw (
+      e,
+      sym (kept (p + 2 * (r * s) + j) (omega arith)),
+      sym (kept (p + 2 * (r * s) + mate j) (omega arith)),
+      sym (kept (p + 2 * (r * s) + s + j) (omega arith)),
+      sym (kept (p + 2 * (r * s) + s + mate j) (omega arith)),
+    ) (run.upper j m)
 
-    lower_at : (i j : ℕ) → i ≡ r → j < s → cell_at third (p + 2 * (i * s) + s + j) ≡ turned (cell_at first (p + 2 * (i * s) + s + j)) (cell_at first (p + 2 * (i * s) + mate j)) (cell_at first (p + 2 * (i * s) + s + mate j)) (cell_at first (p + 2 * (i * s) + j))
-    lower_at i j e m = rw (e, sym (kept (p + 2 * (r * s) + j) (omega arith)), sym (kept (p + 2 * (r * s) + mate j) (omega arith)), sym (kept (p + 2 * (r * s) + s + j) (omega arith)), sym (kept (p + 2 * (r * s) + s + mate j) (omega arith))) (run.lower j m)
+    lower_at : (i j : ℕ) → i ≡ r → j < s →
+        cell_at third (p + 2 * (i * s) + s + j)
+        ≡ turned (cell_at first (p + 2 * (i * s) + s + j)) (cell_at first (p + 2 * (i * s) + mate j))
+        (cell_at first (p + 2 * (i * s) + s + mate j)) (cell_at first (p + 2 * (i * s) + j))
+    lower_at i j e m = rw (
+      e,
+      sym (kept (p + 2 * (r * s) + j) (omega arith)),
+      sym (kept (p + 2 * (r * s) + mate j) (omega arith)),
+      sym (kept (p + 2 * (r * s) + s + j) (omega arith)),
+      sym (kept (p + 2 * (r * s) + s + mate j) (omega arith)),
+    ) (run.lower j m)
 
 -- ---- the steps of the loops
-pub shifted_step : (upper k stride : ℕ) (first second mid third : List ℕ) (va vb a b : ℕ) → k < stride → TurnsRun (64 * upper + 1) (64 * k) (64 * stride) first second → HasWindow second (64 * (upper + k) + 1) va → HasWindow second (64 * (upper + k + stride) + 1) vb → ArePairsTurned va vb a b → SetsWindow (64 * (upper + k) + 1) a second mid → SetsWindow (64 * (upper + k + stride) + 1) b mid third → TurnsRun (64 * upper + 1) (64 * (k + 1)) (64 * stride) first third
+pub shifted_step : (upper k stride : ℕ) (first second mid third : List ℕ) (va vb a b : ℕ) → k < stride →
+    TurnsRun (64 * upper + 1) (64 * k) (64 * stride) first second → HasWindow second (64 * (upper + k) + 1) va →
+    HasWindow second (64 * (upper + k + stride) + 1) vb → ArePairsTurned va vb a b →
+    SetsWindow (64 * (upper + k) + 1) a second mid → SetsWindow (64 * (upper + k + stride) + 1) b mid third →
+    TurnsRun (64 * upper + 1) (64 * (k + 1)) (64 * stride) first third
 shifted_step upper k stride first second mid third va vb a b l run has_a has_b pairs set_a set_b =
     let place : 64 * (upper + k) + 1 ≡ 64 * upper + 1 + 64 * k = omega arith in
     let below : 64 * (upper + k + stride) + 1 ≡ 64 * upper + 1 + 64 * k + 64 * stride = omega arith in
@@ -128,9 +197,14 @@ shifted_step upper k stride first second mid third va vb a b l run has_a has_b p
     let set_a = rw place at set_a in
     let has_b = rw below at has_b in
     let set_b = rw below at set_b in
-    rw more (run_join (64 * upper + 1) (64 * k) (64 * stride) first second third (omega arith) (omega arith) run (windows_turned (64 * upper + 1 + 64 * k) (64 * stride) va vb a b second mid third (omega arith) has_a has_b pairs set_a set_b))
+    rw more (run_join (64 * upper + 1) (64 * k) (64 * stride) first second third (omega arith) (omega arith) run
+    (windows_turned (64 * upper + 1 + 64 * k) (64 * stride) va vb a b second mid third
+    (omega arith) has_a has_b pairs set_a set_b))
 
-pub aligned_step : (upper k stride : ℕ) (first second : List ℕ) (a b : ℕ) → k < stride → upper + stride + stride ≤ length second → TurnsRun (64 * upper) (64 * k) (64 * stride) first second → ArePairsTurned (get_or second (upper + k) 0) (get_or second (upper + k + stride) 0) a b → TurnsRun (64 * upper) (64 * (k + 1)) (64 * stride) first (set (set second (upper + k) a) (upper + k + stride) b)
+pub aligned_step : (upper k stride : ℕ) (first second : List ℕ) (a b : ℕ) → k < stride →
+    upper + stride + stride ≤ length second → TurnsRun (64 * upper) (64 * k) (64 * stride) first second →
+    ArePairsTurned (get_or second (upper + k) 0) (get_or second (upper + k + stride) 0) a b →
+    TurnsRun (64 * upper) (64 * (k + 1)) (64 * stride) first (set (set second (upper + k) a) (upper + k + stride) b)
 aligned_step upper k stride first second a b l room run pairs =
     let place : 64 * (upper + k) ≡ 64 * upper + 64 * k = omega arith in
     let below : 64 * (upper + k + stride) ≡ 64 * upper + 64 * k + 64 * stride = omega arith in
@@ -138,8 +212,11 @@ aligned_step upper k stride first second a b l room run pairs =
     let has_a = rw place at (word_is_window second (upper + k)) in
     let set_a = rw place at (word_set second (upper + k) a (omega arith)) in
     let has_b = rw below at (word_is_window second (upper + k + stride)) in
-    let set_b = rw below at (word_set (set second (upper + k) a) (upper + k + stride) b (omega (arith, length-set {A = ℕ}))) in
-    rw more (run_join (64 * upper) (64 * k) (64 * stride) first second _ (omega arith) (omega arith) run (windows_turned (64 * upper + 64 * k) (64 * stride) _ _ a b second _ _ (omega arith) has_a has_b pairs set_a set_b))
+    let set_b = rw below at (word_set (set second (upper + k) a) (upper + k + stride) b
+    (omega (arith, length-set {A = ℕ}))) in
+    rw more (run_join (64 * upper) (64 * k) (64 * stride) first second _ (omega arith) (omega arith) run
+    (windows_turned (64 * upper + 64 * k) (64 * stride) _ _ a b second _ _ (omega arith) has_a has_b pairs set_a set_b))
 
 pub rows_room : (r pairs stride : ℕ) → r < pairs → 2 * (r * stride) + stride + stride ≤ 2 * (pairs * stride)
-rows_room r pairs stride l = let h : (r + 1) * stride ≤ pairs * stride = mul-le-mul_right stride (omega arith) in omega arith
+rows_room r pairs stride l = let h : (r + 1) * stride ≤ pairs * stride = mul-le-mul_right stride (omega arith) in
+    omega arith

@@ -1,7 +1,9 @@
 -- Numbers in a span, and the two coordinates of a block
-use Rattle.std.proofs.Common.{◌≡◌, ℕ, zero, suc, ◌+◌, ◌%◌, ◌<◌, ◌≤◌, true, false, ◌&&◌, eqb, ltb, leb, refl, sym, ap, ◌∙◌, arith, inl, inr, ◌⊎◌, add-one}
+use Rattle.std.proofs.Common.{◌≡◌, ℕ, zero, suc, ◌+◌, ◌%◌, ◌<◌, ◌≤◌, true, false, ◌&&◌, eqb, ltb, leb, refl, sym, ap}
+use Rattle.std.proofs.Common.{◌∙◌, arith, inl, inr, ◌⊎◌, add-one}
 use Rattle.std.specs.Prelude.{ℤ, pos, negsuc, ◌+ℤ◌, ◌-ℤ◌}
-use Rattle.std.proofs.lemmas.Bool.{and_parts, and_from, ne_eqb, cases_Bool, cond-true, cond-false, eqb-true, eqb-false, leb-true, ltb-true, le-leb, lt-ltb}
+use Rattle.std.proofs.lemmas.Bool.{and_parts, and_from, ne_eqb, cases_Bool, cond-true, cond-false, eqb-true, eqb-false}
+use Rattle.std.proofs.lemmas.Bool.{leb-true, ltb-true, le-leb, lt-ltb}
 use Rattle.std.proofs.lemmas.Int.{ints}
 use Rattle.std.proofs.lemmas.Bool.Decides.{nat_tests}
 use Rattle.bbm_rule.specs.Plane.{parity, partner}
@@ -55,7 +57,8 @@ more_one_negative k = omega (arith, ints)
 
 up_even : (f n k : ℕ) → f % 2 ≡ 0 → n % 2 ≡ 0 → k % 2 ≡ 0 → in_span f n (pos (k + 1)) ≡ in_span f n (pos k)
 unfolding in_span
-up_even f n k pf pn pk = same_tests f n (k + 1) k (λ h. omega arith) (λ h. omega arith) (λ h. omega arith) (λ h. omega arith)
+up_even f n k pf pn pk = same_tests f n (k + 1) k (λ h. omega arith) (λ h. omega arith) (λ h. omega arith)
+    (λ h. omega arith)
 
 even_up : (f n t k : ℕ) → f % 2 ≡ 0 → n % 2 ≡ 0 → t % 2 ≡ 0 → eqb (k % 2) (t % 2) ≡ true →
     in_span f n (partner t (pos k)) ≡ in_span f n (pos k)
@@ -68,14 +71,17 @@ even_down f n t zero pf pn pt e = absurd (eqb-false 0 (t % 2) e (sym pt))
 even_down f n t (suc m) pf pn pt e =
     let odd : suc m % 2 ≡ t % 2 → ⊥ = eqb-false (suc m % 2) (t % 2) e in
     let even : m % 2 ≡ 0 = omega (arith, odd) in
-    ap (in_span f n) (partner_down t (pos (suc m)) e ∙ less_one m) ∙ sym (up_even f n m pf pn even) ∙ ap (λ k. in_span f n (pos k)) (add-one m)
+    ap (in_span f n) (partner_down t (pos (suc m)) e ∙ less_one m) ∙ sym (up_even f n m pf pn even)
+    ∙ ap (λ k. in_span f n (pos k)) (add-one m)
 
 negative_partner : (f n t k : ℕ) → t % 2 ≡ 0 → in_span f n (partner t (negsuc k)) ≡ false
 negative_partner f n t zero pt =
-    ap (in_span f n) (partner_down t (negsuc 0) (ne_eqb 1 (t % 2) (λ h. omega arith)) ∙ less_one_negative 0) ∙ in_span-negsuc f n 1
+    ap (in_span f n) (partner_down t (negsuc 0) (ne_eqb 1 (t % 2) (λ h. omega arith)) ∙ less_one_negative 0)
+    ∙ in_span-negsuc f n 1
 negative_partner f n t (suc k) pt = elim (cases_Bool (eqb (parity (negsuc (suc k))) (t % 2))) [
   | inl e ↦ ap (in_span f n) (partner_up t (negsuc (suc k)) e ∙ more_one_negative k) ∙ in_span-negsuc f n k
-  | inr e ↦ ap (in_span f n) (partner_down t (negsuc (suc k)) e ∙ less_one_negative (suc k)) ∙ in_span-negsuc f n (suc (suc k))
+  | inr e ↦ ap (in_span f n) (partner_down t (negsuc (suc k)) e ∙ less_one_negative (suc k))
+      ∙ in_span-negsuc f n (suc (suc k))
 ]
 
 -- an even step keeps a coordinate in an even span, or outside it

@@ -1,10 +1,11 @@
--- What a step makes of the four cells of a block
+-- The four cells of a block after a step
 use Rattle.std.proofs.Common.{◌≡◌, ℕ, false, refl, ◌∙◌}
 use Rattle.std.specs.Prelude.{ℤ}
 use Rattle.bbm_rule.specs.Plane.{State, partner, turned, step}
 
 -- the same four cells make the same cell
-pub step_same : (t : ℕ) (s s' : State) (x y : ℤ) → s x y ≡ s' x y → s (partner t x) (partner t y) ≡ s' (partner t x) (partner t y) →
+pub step_same : (t : ℕ) (s s' : State) (x y : ℤ) → s x y ≡ s' x y →
+    s (partner t x) (partner t y) ≡ s' (partner t x) (partner t y) →
     s (partner t x) y ≡ s' (partner t x) y → s x (partner t y) ≡ s' x (partner t y) → step t s x y ≡ step t s' x y
 unfolding step
 step_same t s s' x y a b c d = cc

@@ -1,5 +1,6 @@
 -- The bitwise formula of a turn.
-use Rattle.std.proofs.Common.{◌≡◌, ℕ, Bool, true, false, ◌&&◌, ◌||◌, refl, bit_and, bit_or, ◌<◌, List, [], ◌∷◌, get_or, nat_eq}
+use Rattle.std.proofs.Common.{◌≡◌, ℕ, Bool, true, false, ◌&&◌, ◌||◌, refl, bit_and, bit_or, ◌<◌, List, [], ◌∷◌, get_or}
+use Rattle.std.proofs.Common.{nat_eq}
 use Rattle.std.proofs.lemmas.Bool.{eqb-true}
 use Rattle.std.specs.Prelude.{bit_xor}
 use Rattle.bbm_rule.specs.Plane.{turned}
@@ -96,7 +97,9 @@ by_cases_lr false false true false = refl
 by_cases_lr false false false true = refl
 by_cases_lr false false false false = refl
 
-pub words_turned : (ul ur ll lr : ℕ) → AreTurned ul ur ll lr (bit_xor ul (flip_main_of ul ur ll lr)) (bit_xor ur (flip_anti_of ul ur ll lr)) (bit_xor ll (flip_anti_of ul ur ll lr)) (bit_xor lr (flip_main_of ul ur ll lr))
+pub words_turned : (ul ur ll lr : ℕ) →
+    AreTurned ul ur ll lr (bit_xor ul (flip_main_of ul ur ll lr)) (bit_xor ur (flip_anti_of ul ur ll lr))
+    (bit_xor ll (flip_anti_of ul ur ll lr)) (bit_xor lr (flip_main_of ul ur ll lr))
 words_turned ul ur ll lr = record {
   upper_left = λ j. simp (bit-xor, bit-or, bit-and) (by_cases_ul (bit ul j) (bit ur j) (bit ll j) (bit lr j));
   upper_right = λ j. simp (bit-xor, bit-or, bit-and) (by_cases_ur (bit ul j) (bit ur j) (bit ll j) (bit lr j));
@@ -105,14 +108,18 @@ words_turned ul ur ll lr = record {
 }
 
 -- a bit stays where no block changes
-flip_none : (n changed other j : ℕ) → bit changed j ≡ false → bit (bit_xor n (bit_xor changed (bit_and changed other))) j ≡ bit n j
-flip_none n changed other j none = rw (bit-xor n _ j, bit-xor changed _ j, bit-and changed other j, none) (xor_false (bit n j))
+flip_none : (n changed other j : ℕ) → bit changed j ≡ false →
+    bit (bit_xor n (bit_xor changed (bit_and changed other))) j ≡ bit n j
+flip_none n changed other j none =
+    rw (bit-xor n _ j, bit-xor changed _ j, bit-and changed other j, none) (xor_false (bit n j))
   where
     xor_false : (a : Bool) → xor a false ≡ a
     xor_false true = refl
     xor_false false = refl
 
-pub words_stay : (ul ur ll lr : ℕ) → IsBlank (changed_of ul ur ll lr) → AreSameBits ul (bit_xor ul (flip_main_of ul ur ll lr)) × AreSameBits ur (bit_xor ur (flip_anti_of ul ur ll lr)) × AreSameBits ll (bit_xor ll (flip_anti_of ul ur ll lr)) × AreSameBits lr (bit_xor lr (flip_main_of ul ur ll lr))
+pub words_stay : (ul ur ll lr : ℕ) → IsBlank (changed_of ul ur ll lr) →
+    AreSameBits ul (bit_xor ul (flip_main_of ul ur ll lr)) × AreSameBits ur (bit_xor ur (flip_anti_of ul ur ll lr))
+    × AreSameBits ll (bit_xor ll (flip_anti_of ul ur ll lr)) × AreSameBits lr (bit_xor lr (flip_main_of ul ur ll lr))
 words_stay ul ur ll lr none = (
   λ j l. flip_none ul _ _ j (none j),
   λ j l. flip_none ur _ _ j (none j),

@@ -1,4 +1,5 @@
--- A rectangle of cells of the plane, whose upper left corner is the cell (0, 0), and what the functions of a grid do to it
+-- A rectangle of cells of the plane, whose upper left corner is the cell (0, 0), and what the functions of a grid do to
+-- it
 use Rattle.std.specs.Prelude.{◌≡◌, ◌&&◌, Bool, true, false, ℕ, ◌+◌, ◌*◌, nat_lt, List, ℤ, pos, negsuc}
 use Rattle.std.specs.List.{slice_index_or}
 use Rattle.bbm_rule.specs.Plane.{State, step}

@@ -1,4 +1,4 @@
--- What the fields of a grid stand for
+-- The fields of a grid, and its view
 use Rattle.std.specs.Prelude.{◌≡◌, false, ℕ, ◌+◌, ◌*◌, ◌/◌, ◌%◌, ◌<◌, ◌≤◌, List, length, map}
 use Rattle.std.specs.List.{range_with_len}
 use Rattle.bbm_rule.specs.declared.grid.Grid.TheInside.{Inside}
@@ -18,13 +18,15 @@ board w h s words = record {
 abbrev pub board_of : Inside → Board
 board_of g = board g.width g.height (64 * g.stride) g.words.items
 
--- what the fields of every grid meet: the margin, and the bits of a row beyond it, are dead, and pairs of rows without a mark stay
+-- what the fields of every grid meet: the margin, and the bits of a row beyond it, are dead, and pairs of rows without
+-- a mark stay
 pub record IsGrid (g : Inside) : Type 0 where
   pub width : (2 ≤ g.width) × (g.width ≤ 1024) × (g.width % 2 ≡ 0)
   pub height : (2 ≤ g.height) × (g.height ≤ 1024) × (g.height % 2 ≡ 0)
   pub stride : g.stride ≡ g.width / 64 + 1
   pub words : length g.words.items ≡ g.stride * (g.height + 2)
-  pub margin : (x y : ℕ) → x < 64 * g.stride → is_inner g.width g.height x y ≡ false → cell_at g.words.items (64 * g.stride * y + x) ≡ false
+  pub margin : (x y : ℕ) → x < 64 * g.stride → is_inner g.width g.height x y ≡ false →
+      cell_at g.words.items (64 * g.stride * y + x) ≡ false
   pub even_room : g.height / 2 + 1 ≤ 64 * length g.even_marks.items
   pub odd_room : g.height / 2 + 1 ≤ 64 * length g.odd_marks.items
   pub even_calm : AreCalm (64 * g.stride + 1) (64 * g.stride) (g.height / 2) g.even_marks.items g.words.items

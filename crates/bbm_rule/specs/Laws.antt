@@ -1,4 +1,4 @@
--- What the laws of this crate say
+-- The statements of this crate's laws
 use Rattle.std.specs.Ordering.{int_eq}
 use Rattle.std.specs.List.{range_with_len}
 use Rattle.std.specs.Prelude.{true, false, pos, ◌&&◌, ◌||◌, if◌then◌else◌, [], ◌∷◌, ◌++◌, ◌≡◌, ℕ, ℤ, List, map}
@@ -42,10 +42,12 @@ abbrev pub live_cells : State → List ℕ → List ℕ → List (ℕ × ℕ)
 live_cells s xs [] = []
 live_cells s xs (y ∷ ys) = live_in_row s y xs ++ live_cells s xs ys
 
--- Balls at (2, 2) and (5, 5) collide. At time 3 the live cells among those with coordinates below 8 are (5, 2) and (2, 5)
+-- Balls at (2, 2) and (5, 5) collide. At time 3 the live cells among those with coordinates below 8 are (5, 2) and (2,
+-- 5)
 abbrev pub TwoBallsCollide : Type 0
 TwoBallsCollide =
     live_cells (run two_balls 3) (range_with_len 0 8) (range_with_len 0 8) ≡ (5, 2) ∷ (2, 5) ∷ []
 
+-- a second step at one time gives the state before the first
 abbrev pub StepUndoesItself : Type 0
 StepUndoesItself = (t : ℕ) (s : State) (x y : ℤ) → step t (step t s) x y ≡ s x y

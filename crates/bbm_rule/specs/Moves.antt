@@ -1,4 +1,4 @@
--- States of the plane that are the same but for where they lie
+-- States of the plane that differ only in their place
 use Rattle.std.specs.Prelude.{◌≡◌, ℕ, ℤ, ◌+ℤ◌}
 use Rattle.bbm_rule.specs.Plane.{State, parity, step}
 
@@ -6,6 +6,7 @@ use Rattle.bbm_rule.specs.Plane.{State, parity, step}
 abbrev pub IsMoved : ℤ → ℤ → State → State → Type 0
 IsMoved dx dy s s' = (x y : ℤ) → s' (x +ℤ dx) (y +ℤ dy) ≡ s x y
 
--- Where both numbers are even, the blocks of each time move onto blocks of the same time, so a step moves along
+-- If both numbers are even, the blocks of each time move onto blocks of the same time, so a step moves along.
 abbrev pub StepMovesAlong : Type 0
-StepMovesAlong = (t : ℕ) (dx dy : ℤ) (s s' : State) → parity dx ≡ 0 → parity dy ≡ 0 → IsMoved dx dy s s' → IsMoved dx dy (step t s) (step t s')
+StepMovesAlong = (t : ℕ) (dx dy : ℤ) (s s' : State) → parity dx ≡ 0 → parity dy ≡ 0 → IsMoved dx dy s s' →
+    IsMoved dx dy (step t s) (step t s')

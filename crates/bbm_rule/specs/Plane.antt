@@ -1,5 +1,6 @@
 -- The billiard ball model on the unbounded plane: its blocks (the Margolus neighbourhood), one step, a run
-use Rattle.std.specs.Prelude.{ℕ, zero, suc, ℤ, pos, negsuc, ◌+ℤ◌, ◌-ℤ◌, ◌+◌, ◌%◌, ◌==◌, ◌&&◌, ◌||◌, Bool, not, if◌then◌else◌}
+use Rattle.std.specs.Prelude.{ℕ, zero, suc, ℤ, pos, negsuc, ◌+ℤ◌, ◌-ℤ◌, ◌+◌, ◌%◌, ◌==◌, ◌&&◌, ◌||◌, Bool, not}
+use Rattle.std.specs.Prelude.{if◌then◌else◌}
 use Rattle.std.specs.Ordering.{int_eq}
 use Rattle.bbm_rule.specs.declared.block.Cell.{Cell}
 
@@ -16,9 +17,9 @@ abbrev pub parity : ℤ → ℕ
 parity (pos n) = n % 2
 parity (negsuc n) = (n + 1) % 2
 
--- The step at time t cuts the plane into blocks of two by two cells. Where t is even, both coordinates of a block's
--- upper left corner are even; where t is odd, both are odd. So a coordinate that is even or odd as t is, is the lesser
--- one of its block's two. This gives the other one
+-- The step at time t cuts the plane into blocks of two by two cells. If t is even, both coordinates of a block's upper
+-- left corner are even. If t is odd, both are odd. So a coordinate that is even or odd as t is, is the lesser one of
+-- its block's two. This gives the other one
 unfoldable pub partner : ℕ → ℤ → ℤ
 partner t x = if parity x == t % 2 then x +ℤ pos 1 else x -ℤ pos 1
 

@@ -1,5 +1,6 @@
 -- A plane of bits in words, for this crate's own functions: the cell at place p is bit p % 64 of word p / 64
-use Rattle.std.specs.Prelude.{◌≡◌, ◌==◌, ◌&&◌, Bool, true, false, if◌then◌else◌, ℕ, ◌+◌, ◌-◌, ◌*◌, ◌/◌, ◌%◌, ◌<◌, ◌≤◌, List, slice_index, ◌≢◌, nat_le, ℤ, pos, negsuc}
+use Rattle.std.specs.Prelude.{◌≡◌, ◌==◌, ◌&&◌, Bool, true, false, if◌then◌else◌, ℕ, ◌+◌, ◌-◌, ◌*◌, ◌/◌, ◌%◌, ◌<◌, ◌≤◌}
+use Rattle.std.specs.Prelude.{List, slice_index, ◌≢◌, nat_le, ℤ, pos, negsuc}
 use Rattle.bbm_rule.specs.Plane.{turned}
 use Rattle.bbm_rule.specs.Bits.{bit}
 
@@ -26,18 +27,27 @@ pub record SetsWindow (p v : ℕ) (old new : List ℕ) : Type 0 where
   pub before : (q : ℕ) → q < p → cell_at new q ≡ cell_at old q
   pub after : (q : ℕ) → p + 64 ≤ q → cell_at new q ≡ cell_at old q
 
--- The blocks of the n cells from place p on and the n cells a row of s cells below are turned, and no other cell changes.
+-- The blocks of the n cells from place p on and the n cells a row of s cells below are turned, and no other cell
+-- changes.
 pub record TurnsRun (p n s : ℕ) (old new : List ℕ) : Type 0 where
-  pub upper : (j : ℕ) → j < n → cell_at new (p + j) ≡ turned (cell_at old (p + j)) (cell_at old (p + s + mate j)) (cell_at old (p + mate j)) (cell_at old (p + s + j))
-  pub lower : (j : ℕ) → j < n → cell_at new (p + s + j) ≡ turned (cell_at old (p + s + j)) (cell_at old (p + mate j)) (cell_at old (p + s + mate j)) (cell_at old (p + j))
+  pub upper : (j : ℕ) → j < n →
+      cell_at new (p + j) ≡ turned (cell_at old (p + j)) (cell_at old (p + s + mate j)) (cell_at old (p + mate j))
+      (cell_at old (p + s + j))
+  pub lower : (j : ℕ) → j < n →
+      cell_at new (p + s + j) ≡ turned (cell_at old (p + s + j)) (cell_at old (p + mate j))
+      (cell_at old (p + s + mate j)) (cell_at old (p + j))
   pub before : (q : ℕ) → q < p → cell_at new q ≡ cell_at old q
   pub between : (q : ℕ) → p + n ≤ q → q < p + s → cell_at new q ≡ cell_at old q
   pub after : (q : ℕ) → p + s + n ≤ q → cell_at new q ≡ cell_at old q
 
 -- The blocks of r pairs of rows of s cells are turned, the first at place p, and no other cell changes.
 pub record TurnsRows (p s r : ℕ) (old new : List ℕ) : Type 0 where
-  pub upper : (i j : ℕ) → i < r → j < s → let q = p + 2 * (i * s) in cell_at new (q + j) ≡ turned (cell_at old (q + j)) (cell_at old (q + s + mate j)) (cell_at old (q + mate j)) (cell_at old (q + s + j))
-  pub lower : (i j : ℕ) → i < r → j < s → let q = p + 2 * (i * s) in cell_at new (q + s + j) ≡ turned (cell_at old (q + s + j)) (cell_at old (q + mate j)) (cell_at old (q + s + mate j)) (cell_at old (q + j))
+  pub upper : (i j : ℕ) → i < r → j < s → let q = p + 2 * (i * s) in
+      cell_at new (q + j) ≡ turned (cell_at old (q + j)) (cell_at old (q + s + mate j)) (cell_at old (q + mate j))
+      (cell_at old (q + s + j))
+  pub lower : (i j : ℕ) → i < r → j < s → let q = p + 2 * (i * s) in
+      cell_at new (q + s + j) ≡ turned (cell_at old (q + s + j)) (cell_at old (q + mate j))
+      (cell_at old (q + s + mate j)) (cell_at old (q + j))
   pub before : (q : ℕ) → q < p → cell_at new q ≡ cell_at old q
   pub after : (q : ℕ) → p + 2 * (r * s) ≤ q → cell_at new q ≡ cell_at old q
 
@@ -71,7 +81,8 @@ pub record HasLiveMargin (w h s : ℕ) (words : List ℕ) : Type 0 where
 
 -- no cell of it is
 abbrev pub HasDeadMargin : ℕ → ℕ → ℕ → List ℕ → Type 0
-HasDeadMargin w h s words = (x y : ℕ) → x < w + 2 → y < h + 2 → is_inner w h x y ≡ false → cell_at words (s * y + x) ≡ false
+HasDeadMargin w h s words = (x y : ℕ) → x < w + 2 → y < h + 2 → is_inner w h x y ≡ false →
+    cell_at words (s * y + x) ≡ false
 
 -- none of it in row y is
 abbrev pub IsDeadMarginIn : ℕ → ℕ → ℕ → ℕ → List ℕ → Type 0

@@ -3,8 +3,8 @@ use Rattle.std.specs.Prelude.{◌≡◌, ℕ, ◌+◌, ◌*◌, ◌<◌, ◌≤�
 use Rattle.bbm_rule.specs.Plane.{turned, one_if}
 use Rattle.bbm_rule.specs.Bits.{bit}
 
--- A block as a number: bit 0 is its upper left cell, bit 1 upper right, bit 2 lower left, bit 3 lower right. This is what
--- the block becomes
+-- A block as a number: bit 0 is its upper left cell, bit 1 upper right, bit 2 lower left, bit 3 lower right. This is
+-- what the block becomes
 unfoldable pub turn_of : ℕ → ℕ
 turn_of n =
     let ul = bit n 0 in
@@ -16,8 +16,8 @@ turn_of n =
     + 4 * one_if (turned ll ur lr ul)
     + 8 * one_if (turned lr ul ll ur)
 
--- The bits at one place of four words are a block: of ul its upper left cell, of ur upper right, of ll lower left, of lr
--- lower right. At each place the four new words, with a mark, have what the block becomes
+-- The bits at one place of four words are a block: that of ul is its upper left cell, of ur upper right, of ll lower
+-- left, of lr lower right. At each place the four new words, with a mark, have what the block becomes
 pub record AreTurned (ul ur ll lr ul' ur' ll' lr' : ℕ) : Type 0 where
   pub upper_left : (j : ℕ) → bit ul' j ≡ turned (bit ul j) (bit lr j) (bit ur j) (bit ll j)
   pub upper_right : (j : ℕ) → bit ur' j ≡ turned (bit ur j) (bit ll j) (bit ul j) (bit lr j)
@@ -27,7 +27,8 @@ pub record AreTurned (ul ur ll lr ul' ur' ll' lr' : ℕ) : Type 0 where
 -- the same for the words at place k of four lists
 abbrev pub AreTurnedAt : ℕ → List ℕ → List ℕ → List ℕ → List ℕ → List ℕ → List ℕ → List ℕ → List ℕ → Type 0
 AreTurnedAt k ul ur ll lr ul' ur' ll' lr' =
-    AreTurned (slice_index ul k) (slice_index ur k) (slice_index ll k) (slice_index lr k) (slice_index ul' k) (slice_index ur' k) (slice_index ll' k) (slice_index lr' k)
+    AreTurned (slice_index ul k) (slice_index ur k) (slice_index ll k) (slice_index lr k) (slice_index ul' k)
+    (slice_index ur' k) (slice_index ll' k) (slice_index lr' k)
 
 -- the words at place k are as before (for this crate's own functions, as is what follows)
 pub record AreSameAt (k : ℕ) (ul ur ll lr ul' ur' ll' lr' : List ℕ) : Type 0 where

@@ -13,10 +13,10 @@ pub struct Cell {
 // what the blocks 0 to 15 become
 const TURNS: [u8; 16] = [0, 8, 4, 3, 2, 5, 9, 7, 1, 6, 10, 11, 12, 13, 14, 15];
 
-/// What a block becomes, by the rule of Margolus's billiard ball model.
+/// Returns what a block becomes (Margolus 1984, billiard ball model).
 ///
-/// `bits`, below 16, has a set bit for each live cell: 1 stands for the upper left cell, 2 for the upper right, 4 for
-/// the lower left and 8 for the lower right one. So does the result.
+/// A set bit is a live cell, in `bits` and in the result. 1 is the upper left cell, 2 the upper right, 4 the lower left
+/// and 8 the lower right one.
 pub fn turn(bits: u8) -> u8
     requires { bits < 16 }
     ensures { result ≡ turn_of bits }

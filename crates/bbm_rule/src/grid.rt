@@ -13,12 +13,14 @@ use crate::rows::{turn_all_aligned, turn_all_shifted};
 use std::alloc::{AllocError, Global};
 use std::marker::Model;
 
-/// What [`Grid::step`] answers where a cell outside the grid would become live.
+/// The error of [`Grid::step`]: a cell outside the grid would become live.
 #[derive(Clone, Copy, Debug, PartialEq, Eq)]
 pub struct Left;
 
-/// A rectangle of cells of the plane, each live or dead. Its upper left corner is the cell (0, 0), and the cells
-/// outside it are dead. Width and height are even, from 2 to 1024.
+/// A rectangle of cells of the plane, each live or dead.
+///
+/// Its upper left corner is the cell (0, 0), and the cells outside it are dead. Width and height are even, from 2 to
+/// 1024.
 // A row is `stride` words of bits, and a margin of one cell is kept around the rectangle: the cell (x, y) is bit x + 1
 // of row y + 1, counted from the first bit of the row. So no block of either partition is cut by the border.
 #[derive(Drop)]
@@ -46,9 +48,9 @@ impl Model for Grid {
 }
 
 impl Grid {
-    /// A grid of the width and the height, with no live cell. Both are even, from 2 to 1024.
+    /// Creates a grid without a live cell.
     ///
-    /// The error is want of memory. No other function of a grid takes memory.
+    /// No other function of a grid takes memory.
     pub fn new(alloc: Global, width: u32, height: u32) -> Result<Grid, AllocError>
         requires width { (2 ≤ width) × (width ≤ 1024) × (width % 2 ≡ 0) }
         requires height { (2 ≤ height) × (height ≤ 1024) × (height % 2 ≡ 0) }
@@ -71,7 +73,9 @@ impl Grid {
         })
     }
 
-    /// Whether the cell is inside the grid: its column from 0 to below the width, its row from 0 to below the height.
+    /// Returns whether `cell` is inside the grid.
+    ///
+    /// Columns run from 0 to below the width, and rows from 0 to below the height.
     pub fn holds(&self, cell: Cell) -> bool
         ensures { result ≡ is_inside self.now cell.x cell.y }
     {
@@ -81,7 +85,7 @@ impl Grid {
             && (cell.y as usize) < self.height
     }
 
-    /// Whether the cell, which is inside the grid, is live.
+    /// Returns whether `cell` is live. It must be inside the grid.
     pub fn get(&self, cell: Cell) -> bool
         requires { IsTrue (is_inside self.now cell.x cell.y) }
         ensures { result ≡ live self.now cell.x cell.y }
@@ -89,7 +93,7 @@ impl Grid {
         cell_bit(&self.words, place(self.stride, cell))
     }
 
-    /// Makes the cell, which is inside the grid, live where `value` is true and dead where it is not.
+    /// Makes `cell` live if `value` is true, and dead if not. It must be inside the grid.
     pub fn set(&mut self, cell: Cell, value: bool)
         requires { IsTrue (is_inside self.old cell.x cell.y) }
         ensures cells { SetsCell cell.x cell.y value self.old self.new }
@@ -102,10 +106,12 @@ impl Grid {
         mark(&mut self.odd_marks, (row + 1) / 2);
     }
 
-    /// The step at time `t`: every block of that time's partition turns, those that lie across the border too.
+    /// Makes the step at time `t`: every block of that time's partition turns, also those that lie across the border.
     ///
-    /// The error is [`Left`], and comes exactly where a cell outside the grid would become live. The grid is then
-    /// unchanged. At an even time no block lies across the border, so nothing leaves.
+    /// # Errors
+    ///
+    /// [`Left`] if a cell outside the grid would become live. The grid is then unchanged. No block lies across the
+    /// border at an even time, so a step at an even time makes no error.
     pub fn step(&mut self, t: u32) -> Result<(), Left>
         ensures stepped { OnOk result (IsStep t self.old self.new) }
         ensures left { OnErr result (Leaves t self.old) }

@@ -4,7 +4,7 @@ ghost use Rattle.std.specs.Prelude.{ℕ, ◌≡◌, ◌≢◌, ◌+◌, ◌*◌,
 ghost use Rattle.bbm_rule.specs.Marks.{IsUnmarked, MarksOne};
 ghost use Rattle.bbm_rule.specs.Rows.{cell_at, SetsPlace};
 
-/// The next number from `from` on that may have a mark, or `end` where there is none below it.
+/// Returns the next number from `from` on that may have a mark, or `end` if there is none below it.
 pub fn next_marked(marks: &[u64], from: usize, end: usize) -> usize
     requires within { (from ≤ end) × (end ≤ 64 * length marks.now) × (end < 2 ^ 32) }
     ensures range { (from ≤ result) × (result ≤ end) }
@@ -40,7 +40,7 @@ pub fn unmark(marks: &mut [u64], at: usize)
     marks[at / 64] &= !(1u64 << (at % 64));
 }
 
-/// Marks the number that is less than `at` by the distance, where there is one.
+/// Marks the number that is less than `at` by the distance, if there is one.
 #[inline(always)]
 pub fn mark_before(marks: &mut [u64], at: usize, distance: usize)
     requires { at / 64 < length marks.old }

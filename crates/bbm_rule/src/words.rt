@@ -22,7 +22,7 @@ pub fn turn_words(
     (a, b, c, d)
 }
 
-/// The same, and a fifth word with a bit for each block that changes.
+/// Turns the blocks as `turn_words` does, and returns a fifth word with a bit for each block that changes.
 #[inline(always)]
 pub(crate) fn turn_words_told(
     upper_left: u64,

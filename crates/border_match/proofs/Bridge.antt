@@ -28,26 +28,34 @@ use Rattle.border_match.proofs.Modules.{there, value_of, area_at}
 use Rattle.border_match.proofs.Renumbered.{signal_renumbered, no_event_back, lines_quiet}
 
 module _ (cs : List CircuitLine) (p : Pattern) where
-  pub halo_same : (m : ModuleLines) (j : JobState) (t : ℕ) (x y : ℤ) → IsJobOf (circuit_of cs) p m j → job_halo j t x y ≡ halo_signal (circuit_of cs) m t x y
-  halo_same m j t x y is = signal_renumbered (circuit_wire j.locals) j.halos t x y ∙ ap (λ (s : Signals). signal_at s t x y) is.halos
+  pub halo_same : (m : ModuleLines) (j : JobState) (t : ℕ) (x y : ℤ) → IsJobOf (circuit_of cs) p m j →
+      job_halo j t x y ≡ halo_signal (circuit_of cs) m t x y
+  halo_same m j t x y is = signal_renumbered (circuit_wire j.locals) j.halos t x y
+      ∙ ap (λ (s : Signals). signal_at s t x y) is.halos
 
-  pub edge_same : (m : ModuleLines) (j : JobState) (t : ℕ) (x y : ℤ) → IsJobOf (circuit_of cs) p m j → job_edge j t x y ≡ edge_signal (circuit_of cs) m t x y
-  edge_same m j t x y is = signal_renumbered (circuit_wire j.locals) j.edges t x y ∙ ap (λ (s : Signals). signal_at s t x y) is.edges
+  pub edge_same : (m : ModuleLines) (j : JobState) (t : ℕ) (x y : ℤ) → IsJobOf (circuit_of cs) p m j →
+      job_edge j t x y ≡ edge_signal (circuit_of cs) m t x y
+  edge_same m j t x y is = signal_renumbered (circuit_wire j.locals) j.edges t x y
+      ∙ ap (λ (s : Signals). signal_at s t x y) is.edges
 
   -- no line names the time 0
-  signals_quiet : (j : JobState) (s : Signals) (es : List Border) (x y : ℤ) → renumber_signals (circuit_wire j.locals) s ≡ line_signals (circuit_of cs) es →
+  signals_quiet : (j : JobState) (s : Signals) (es : List Border) (x y : ℤ) →
+      renumber_signals (circuit_wire j.locals) s ≡ line_signals (circuit_of cs) es →
       All (λ e. IfSome e.time (λ t. (t % 2 ≡ 1) × (t < p.size.steps))) es → event_at s.events 0 x y ≡ None
   signals_quiet j s es x y same odd =
       no_event_back (circuit_wire j.locals) s.events 0 x y
-      (ap (λ (s : Signals). event_at s.events 0 x y) same ∙ lines_quiet p.size.steps (λ e. line_signal (circuit_of cs) e.signal) es x y odd)
+      (ap (λ (s : Signals). event_at s.events 0 x y) same
+      ∙ lines_quiet p.size.steps (λ e. line_signal (circuit_of cs) e.signal) es x y odd)
 
-  pub quiet : (m : ModuleLines) (j : JobState) → IsModule (setting_of cs p) m → IsJobOf (circuit_of cs) p m j → IsQuiet j
+  pub quiet : (m : ModuleLines) (j : JobState) → IsModule (setting_of cs p) m → IsJobOf (circuit_of cs) p m j →
+      IsQuiet j
   quiet m j good is = record {
     halos = λ x y. signals_quiet j j.halos (halos m) x y is.halos (λ k d lt. (good.halo_lines k d lt).border.time);
     edges = λ x y. signals_quiet j j.edges (edges m) x y is.edges (λ k d lt. (good.edge_lines k d lt).border.time);
   }
 
-  module _ (ms : List ModuleLines) (js : List JobState) (o : Owning) (good : AreModules (setting_of cs p) ms) (made : AreJobsOf (circuit_of cs) p ms js) (owners : AreOwners o (areas ms))
+  module _ (ms : List ModuleLines) (js : List JobState) (o : Owning) (good : AreModules (setting_of cs p) ms)
+      (made : AreJobsOf (circuit_of cs) p ms js) (owners : AreOwners o (areas ms))
       (w : o.width ≡ p.size.w) (h : o.height ≡ p.size.h) where
     same_rectangle : whole p.size ≡ rectangle o
     same_rectangle = ap₂ rectangle_of (sym w) (sym h)
@@ -85,7 +93,8 @@ module _ (cs : List CircuitLine) (p : Pattern) where
 
     -- ---- border faults by jobs are border faults
 
-    fault_by_lines : (i : ℕ) (j : JobState) (f : BorderFault) → slice_get js i ≡ Some j → IsJobFault (whole p.size) o js j f → IsBorderFault (setting_of cs p) ms i f
+    fault_by_lines : (i : ℕ) (j : JobState) (f : BorderFault) → slice_get js i ≡ Some j →
+        IsJobFault (whole p.size) o js j f → IsBorderFault (setting_of cs p) ms i f
     fault_by_lines i j f e g =
         let x = f.cell.x in let y = f.cell.y in
         let m = lines_of i j e in
@@ -104,19 +113,24 @@ module _ (cs : List CircuitLine) (p : Pattern) where
           owner = n.lines;
           owner_numbered = n.numbered;
           owned = n.has;
-          differ = λ alike. d.differ (halo_same m.0 j f.time x y is ∙ alike ∙ sym (edge_same n.lines d.owner f.time x y by));
+          differ = λ alike. d.differ (halo_same m.0 j f.time x y is ∙ alike
+              ∙ sym (edge_same n.lines d.owner f.time x y by));
         }
 
-    fault_by_jobs : (i : ℕ) (j : JobState) (f : BorderFault) → slice_get js i ≡ Some j → IsBorderFault (setting_of cs p) ms i f → IsJobFault (whole p.size) o js j f
+    fault_by_jobs : (i : ℕ) (j : JobState) (f : BorderFault) → slice_get js i ≡ Some j →
+        IsBorderFault (setting_of cs p) ms i f → IsJobFault (whole p.size) o js j f
     fault_by_jobs i j f e g =
         let x = f.cell.x in let y = f.cell.y in
         let is = made.each i g.lines j g.numbered e in
         let n = holder x y g.inside in
         let k = owner_of o x y in
-        let number : k ≡ g.owner_number = owners.tile.once x y k g.owner_number n.lines.area g.owner.area (area_at ms k n.lines n.numbered) (area_at ms g.owner_number g.owner g.owner_numbered) n.has g.owned in
+        let number : k ≡ g.owner_number =
+        owners.tile.once x y k g.owner_number n.lines.area g.owner.area (area_at ms k n.lines n.numbered)
+        (area_at ms g.owner_number g.owner g.owner_numbered) n.has g.owned in
         let own = job_of k n.lines n.numbered in
         let by = made.each k n.lines own.0 n.numbered own.1 in
-        let same : n.lines ≡ g.owner = same_some (slice_get ms k) n.lines g.owner n.numbered (ap (slice_get ms) number ∙ g.owner_numbered) in
+        let same : n.lines ≡ g.owner =
+        same_some (slice_get ms k) n.lines g.owner n.numbered (ap (slice_get ms) number ∙ g.owner_numbered) in
         record {
           odd = g.odd;
           early = subst (λ s. f.time < s) (sym is.steps) g.early;
@@ -126,10 +140,13 @@ module _ (cs : List CircuitLine) (p : Pattern) where
             owner = own.0;
             numbered = own.1;
             differ = λ alike. g.differ (
-                sym (halo_same g.lines j f.time x y is) ∙ alike ∙ edge_same n.lines own.0 f.time x y by ∙ ap (λ (m : ModuleLines). edge_signal (circuit_of cs) m f.time x y) same);
+                sym (halo_same g.lines j f.time x y is) ∙ alike ∙ edge_same n.lines own.0 f.time x y by
+                ∙ ap (λ (m : ModuleLines). edge_signal (circuit_of cs) m f.time x y) same);
           };
         }
 
-    pub least_by_lines : (i : ℕ) (j : JobState) (r : Option BorderFault) → slice_get js i ≡ Some j → IsLeast (IsJobFault (whole p.size) o js j) r → IsLeastBorderFault (setting_of cs p) ms i r
+    pub least_by_lines : (i : ℕ) (j : JobState) (r : Option BorderFault) → slice_get js i ≡ Some j →
+        IsLeast (IsJobFault (whole p.size) o js j) r → IsLeastBorderFault (setting_of cs p) ms i r
     least_by_lines i j None e least = λ f g. least.least f (fault_by_jobs i j f e g)
-    least_by_lines i j (Some m) e least = (fault_by_lines i j m e least.sound, λ f g. least.least f (fault_by_jobs i j f e g))
+    least_by_lines i j (Some m) e least =
+        (fault_by_lines i j m e least.sound, λ f g. least.least f (fault_by_jobs i j f e g))

@@ -1,5 +1,6 @@
 -- Cells of a halo, and the modules that have them
-use Rattle.std.proofs.Common.{◌≡◌, ℕ, ◌+◌, ◌-◌, ◌<◌, ◌≤◌, ◌%◌, List, map, length, Bool, true, ◌||◌, ◌&&◌, Some, sym, ap, subst, ◌∙◌, inl, inr, ◌⊎◌, arith, get_or}
+use Rattle.std.proofs.Common.{◌≡◌, ℕ, ◌+◌, ◌-◌, ◌<◌, ◌≤◌, ◌%◌, List, map, length, Bool, true, ◌||◌, ◌&&◌, Some, sym, ap}
+use Rattle.std.proofs.Common.{subst, ◌∙◌, inl, inr, ◌⊎◌, arith, get_or}
 use Rattle.std.specs.Prelude.{ℤ, pos, ◌+ℤ◌, ◌-ℤ◌, ◌≢◌, ◌↔◌, IsTrue, slice_get, option_map}
 use Rattle.std.specs.Arc.{arc_value}
 use Rattle.std.proofs.lemmas.List.{length-map}
@@ -20,38 +21,50 @@ use Rattle.border_match.specs.declared.fault.BorderFault.{BorderFault}
 
 -- ---- jobs and owners
 
-pub job_at : {A : Type 0} (v : A → JobState) (xs : List A) (k : ℕ) (d : A) (j : JobState) → k < length xs → j ≡ v (get_or xs k d) → slice_get (map v xs) k ≡ Some j
+pub job_at : {A : Type 0} (v : A → JobState) (xs : List A) (k : ℕ) (d : A) (j : JobState) → k < length xs →
+    j ≡ v (get_or xs k d) → slice_get (map v xs) k ≡ Some j
 job_at v xs k d j lt same = slice_get-map v xs k ∙ ap (option_map v) (slice_get-get_or xs k d lt) ∙ ap Some (sym same)
 
-pub owner_within : (b : Borders) (x y : ℤ) → IsReady b → in_box b.whole x y ≡ true → owner_of b.owners.now x y < length b.jobs.now
+pub owner_within : (b : Borders) (x y : ℤ) → IsReady b → in_box b.whole x y ≡ true →
+    owner_of b.owners.now x y < length b.jobs.now
 owner_within b x y ready h =
     let m = ready.0.holder x y h in
-    subst (λ n. owner_of b.owners.now x y < n) (length-map b.jobs.now arc_value) (slice_get_within (jobs_of b) (owner_of b.owners.now x y) m.0 m.1)
+    subst (λ n. owner_of b.owners.now x y < n) (length-map b.jobs.now arc_value)
+    (slice_get_within (jobs_of b) (owner_of b.owners.now x y) m.0 m.1)
 
-pub differ_is : (b : Borders) (t : ℕ) (x y : ℤ) (owner : JobState) (halo edge : Signal) (r : Bool) → slice_get (jobs_of b) (owner_of b.owners.now x y) ≡ Some owner →
+pub differ_is : (b : Borders) (t : ℕ) (x y : ℤ) (owner : JobState) (halo edge : Signal) (r : Bool) →
+    slice_get (jobs_of b) (owner_of b.owners.now x y) ≡ Some owner →
     halo ≡ job_halo b.job.now t x y → edge ≡ job_edge owner t x y → IsTrue r ↔ (halo ≢ edge) → IsTrue r ↔ Differ b t x y
 differ_is b t x y owner halo edge r numbered e f h = (
   λ yes. record { owner = owner; numbered = numbered; differ = λ same. h.0 yes (e ∙ same ∙ sym f) },
-  λ d. h.1 (λ same. d.differ (sym e ∙ same ∙ f ∙ ap (λ (z : JobState). job_edge z t x y) (same_some (slice_get (jobs_of b) (owner_of b.owners.now x y)) owner d.owner numbered d.numbered))),
+  λ d. h.1 (λ same. d.differ (sym e ∙ same ∙ f
+      ∙ ap (λ (z : JobState). job_edge z t x y)
+      (same_some (slice_get (jobs_of b) (owner_of b.owners.now x y)) owner d.owner numbered d.numbered))),
 )
 
-pub fault_is : (b : Borders) (f : BorderFault) (r : Bool) → f.time % 2 ≡ 1 → f.time < b.job.now.steps → (in_box b.whole f.cell.x f.cell.y && in_halo b.job.now.area f.cell.x f.cell.y) ≡ true →
+pub fault_is : (b : Borders) (f : BorderFault) (r : Bool) → f.time % 2 ≡ 1 → f.time < b.job.now.steps →
+    (in_box b.whole f.cell.x f.cell.y && in_halo b.job.now.area f.cell.x f.cell.y) ≡ true →
     IsTrue r ↔ Differ b f.time f.cell.x f.cell.y → IsTrue r ↔ Faults b f
 fault_is b f r odd early reached h =
-    let both = and_parts (in_box b.whole f.cell.x f.cell.y) (in_halo b.job.now.area f.cell.x f.cell.y) reached in
-    (λ yes. record { odd = odd; early = early; inside = both.0; halo = both.1; different = h.0 yes }, λ g. h.1 g.different)
+    let both = and_parts (in_box b.whole f.cell.x f.cell.y) (in_halo b.job.now.area f.cell.x f.cell.y) reached in (
+      λ yes. record { odd = odd; early = early; inside = both.0; halo = both.1; different = h.0 yes },
+      λ g. h.1 g.different,
+    )
 
-pub reached : (b : Borders) (f : BorderFault) → Faults b f → (in_box b.whole f.cell.x f.cell.y && in_halo b.job.now.area f.cell.x f.cell.y) ≡ true
+pub reached : (b : Borders) (f : BorderFault) → Faults b f →
+    (in_box b.whole f.cell.x f.cell.y && in_halo b.job.now.area f.cell.x f.cell.y) ≡ true
 reached b f g = and_from _ _ g.inside g.halo
 
 -- ---- columns and rows of a halo
 
-near_bounds : (f n k j : ℕ) (x y : ℤ) → x ≡ pos k → y ≡ pos j → (y ≡ x -ℤ pos 1) ⊎ ((y ≡ x) ⊎ (y ≡ x +ℤ pos 1)) → f ≤ j → j < f + n → (f - 1 ≤ k) × (k < f + n + 1)
+near_bounds : (f n k j : ℕ) (x y : ℤ) → x ≡ pos k → y ≡ pos j → (y ≡ x -ℤ pos 1) ⊎ ((y ≡ x) ⊎ (y ≡ x +ℤ pos 1)) →
+    f ≤ j → j < f + n → (f - 1 ≤ k) × (k < f + n + 1)
 near_bounds f n k j x y p q (inl e) c d = (omega (arith, ints), omega (arith, ints))
 near_bounds f n k j x y p q (inr (inl e)) c d = (omega (arith, ints), omega (arith, ints))
 near_bounds f n k j x y p q (inr (inr e)) c d = (omega (arith, ints), omega (arith, ints))
 
-near_nat : (f n : ℕ) (x : ℤ) (k : ℕ) → x ≡ pos k → (in_span f n (x -ℤ pos 1) || in_span f n x || in_span f n (x +ℤ pos 1)) ≡ true → (f - 1 ≤ k) × (k < f + n + 1)
+near_nat : (f n : ℕ) (x : ℤ) (k : ℕ) → x ≡ pos k →
+    (in_span f n (x -ℤ pos 1) || in_span f n x || in_span f n (x +ℤ pos 1)) ≡ true → (f - 1 ≤ k) × (k < f + n + 1)
 near_nat f n x k e h =
     let y = near_one f n x h in
     let at = in_span_nat f n y.0 y.2 in
@@ -68,7 +81,8 @@ pub record IsPlaced (b : Borders) (cx cy : ℤ) : Type 0 where
   pub top : b.job.now.area.y - 1 ≤ row
   pub bottom : row < b.job.now.area.y + b.job.now.area.h + 1
 
-pub cell_placed : (b : Borders) (x y : ℤ) → in_box b.whole x y ≡ true → in_halo b.job.now.area x y ≡ true → IsPlaced b x y
+pub cell_placed : (b : Borders) (x y : ℤ) → in_box b.whole x y ≡ true → in_halo b.job.now.area x y ≡ true →
+    IsPlaced b x y
 cell_placed b x y inside halo =
     let area = b.job.now.area in
     let near = near_parts area x y halo in

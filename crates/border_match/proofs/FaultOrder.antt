@@ -12,7 +12,8 @@ use Rattle.border_match.specs.declared.fault.BorderFault.{BorderFault}
 
 pub border_total : IsTotalOrder border_cmp
 unfolding border_cmp
-border_total = then_total (on_total (λ (f : BorderFault). f.time) nat_cmp_total) (on_total (λ (f : BorderFault). f.cell) cell_total)
+border_total = then_total (on_total (λ (f : BorderFault). f.time) nat_cmp_total)
+    (on_total (λ (f : BorderFault). f.cell) cell_total)
 
 abbrev key : BorderFault → ℕ × (ℤ × ℤ)
 key f = (f.time, (f.cell.y, f.cell.x))
@@ -21,4 +22,5 @@ pub border_exact : CmpEqualImpliesEq border_cmp
 unfolding border_cmp cell_cmp
 border_exact a b e =
     let unkey : ℕ × (ℤ × ℤ) → BorderFault = λ k. record { time = k.0; cell = record { x = k.1.1; y = k.1.0 } } in
-    ap unkey (exact_pairs nat_cmp _ exact_unsigned (exact_pairs int_cmp int_cmp exact_signed exact_signed) (key a) (key b) e)
+    ap unkey (exact_pairs nat_cmp _ exact_unsigned (exact_pairs int_cmp int_cmp exact_signed exact_signed) (key a)
+    (key b) e)

@@ -20,8 +20,12 @@ haloless_match g ms good i f is =
     let x = f.cell.x in let y = f.cell.y in
     let m = mapped_from (with_halos g ms) ms i is.lines is.numbered in
     let n = mapped_from (with_halos g ms) ms is.owner_number is.owner is.owner_numbered in
-    let halo : IsTrue (in_halo m.0.area x y) = subst (λ (b : Box2). IsTrue (in_halo b x y)) (ap (λ (l : ModuleLines). l.area) (sym m.2) ∙ full_area g ms good m.0) is.halo in
-    let owned : IsTrue (in_box n.0.area x y) = subst (λ (b : Box2). IsTrue (in_box b x y)) (ap (λ (l : ModuleLines). l.area) (sym n.2) ∙ full_area g ms good n.0) is.owned in
+    let halo : IsTrue (in_halo m.0.area x y) =
+    subst (λ (b : Box2). IsTrue (in_halo b x y))
+    (ap (λ (l : ModuleLines). l.area) (sym m.2) ∙ full_area g ms good m.0) is.halo in
+    let owned : IsTrue (in_box n.0.area x y) =
+    subst (λ (b : Box2). IsTrue (in_box b x y))
+    (ap (λ (l : ModuleLines). l.area) (sym n.2) ∙ full_area g ms good n.0) is.owned in
     is.differ (
     ap (λ (l : ModuleLines). halo_signal g.circuit l f.time x y) (sym m.2)
     ∙ halo_is_edge_beside g ms good i is.owner_number m.0 n.0 f.time x y m.1 n.1 is.odd is.early halo owned
@@ -34,8 +38,10 @@ none_at zero i f e = cc
 none_at (suc n) zero f e = cc
 none_at (suc n) (suc i) f e = none_at n i f e
 
-pub none_for_each : (g : Setting) (ms : List ModuleLines) → AreModules g ms → AreBorderFaultsOf g (map (with_halos g ms) ms) (replicate (length ms) None)
+pub none_for_each : (g : Setting) (ms : List ModuleLines) → AreModules g ms →
+    AreBorderFaultsOf g (map (with_halos g ms) ms) (replicate (length ms) None)
 none_for_each g ms good = record {
   count = length-replicate (length ms) None ∙ sym (length-map ms (with_halos g ms));
-  each = λ i f e. subst (IsLeastBorderFault g (map (with_halos g ms) ms) i) (none_at (length ms) i f e) (haloless_match g ms good i);
+  each = λ i f e. subst (IsLeastBorderFault g (map (with_halos g ms) ms) i) (none_at (length ms) i f e)
+      (haloless_match g ms good i);
 }

@@ -1,5 +1,6 @@
 -- Candidates for a least border fault
-use Rattle.std.proofs.Common.{◌≡◌, true, false, Option, Some, None, Ordering, Less, Equal, Greater, refl, sym, ap, subst, ◌∙◌, inl, inr, ◌⊎◌}
+use Rattle.std.proofs.Common.{◌≡◌, true, false, Option, Some, None, Ordering, Less, Equal, Greater, refl, sym, ap}
+use Rattle.std.proofs.Common.{subst, ◌∙◌, inl, inr, ◌⊎◌}
 use Rattle.std.specs.Prelude.{◌≢◌}
 use Rattle.std.specs.Ordering.{is_gt, ordering_reverse}
 use Rattle.std.proofs.lemmas.Cmp.{tied_itself, upto}
@@ -30,7 +31,8 @@ at_most_itself a g = clash (sym (tied_itself border_total a) ∙ g)
     clash : Equal ≡ Greater → ⊥
     clash e = cc
 
-pub lesser_kept : (o m : BorderFault) (best : Option BorderFault) → best ≡ Some o → Greater ≡ border_cmp o m → (h : BorderFault) → Covers best h → border_cmp m h ≢ Greater
+pub lesser_kept : (o m : BorderFault) (best : Option BorderFault) → best ≡ Some o → Greater ≡ border_cmp o m →
+    (h : BorderFault) → Covers best h → border_cmp m h ≢ Greater
 lesser_kept o m best is greater h c =
     let less : border_cmp m o ≡ Less = border_total.antisymm m o ∙ ap ordering_reverse (sym greater) in
     at_most_trans m o h (λ g. less_greater (sym less ∙ g)) (subst (λ b. Covers b h) is c)
@@ -42,11 +44,13 @@ lesser_kept o m best is greater h c =
 
 module _ (F : BorderFault → Type 0) where
   -- none of F has P
-  pub better_same : (P : BorderFault → Type 0) (o : Option BorderFault) → ((h : BorderFault) → F h → P h → ⊥) → IsBetter F P o o
+  pub better_same : (P : BorderFault → Type 0) (o : Option BorderFault) → ((h : BorderFault) → F h → P h → ⊥) →
+      IsBetter F P o o
   better_same P o none = record { sound = λ s. s; kept = λ h c. c; covers = λ h f p. absurd (none h f p) }
 
   -- the new candidate is at most m, which is one of F and at most each of F with P
-  pub better_with : (P : BorderFault → Type 0) (o o' : Option BorderFault) (m : BorderFault) → F m → ((h : BorderFault) → F h → P h → border_cmp m h ≢ Greater) →
+  pub better_with : (P : BorderFault → Type 0) (o o' : Option BorderFault) (m : BorderFault) → F m →
+      ((h : BorderFault) → F h → P h → border_cmp m h ≢ Greater) →
       ((h : BorderFault) → Covers o h → Covers o' h) → (o' ≡ o) ⊎ (o' ≡ Some m) → Covers o' m → IsBetter F P o o'
   better_with P o o' m f least kept one covered = record {
     sound = λ s. elim one [
@@ -61,7 +65,8 @@ module _ (F : BorderFault → Type 0) where
       further None h c l = c
       further (Some b) h c l = at_most_trans b m h c l
 
-  pub better_then : (P Q R : BorderFault → Type 0) (a b c : Option BorderFault) → IsBetter F P a b → IsBetter F Q b c → ((h : BorderFault) → F h → R h → P h ⊎ Q h) → IsBetter F R a c
+  pub better_then : (P Q R : BorderFault → Type 0) (a b c : Option BorderFault) → IsBetter F P a b → IsBetter F Q b c →
+      ((h : BorderFault) → F h → R h → P h ⊎ Q h) → IsBetter F R a c
   better_then P Q R a b c p q split = record {
     sound = λ s. q.sound (p.sound s);
     kept = λ h k. q.kept h (p.kept h k);
@@ -71,10 +76,13 @@ module _ (F : BorderFault → Type 0) where
     ];
   }
 
-  pub better_for : (P Q : BorderFault → Type 0) (a b : Option BorderFault) → IsBetter F P a b → ((h : BorderFault) → F h → Q h → P h) → IsBetter F Q a b
-  better_for P Q a b better weaker = record { sound = better.sound; kept = better.kept; covers = λ h f q. better.covers h f (weaker h f q) }
+  pub better_for : (P Q : BorderFault → Type 0) (a b : Option BorderFault) → IsBetter F P a b →
+      ((h : BorderFault) → F h → Q h → P h) → IsBetter F Q a b
+  better_for P Q a b better weaker =
+      record { sound = better.sound; kept = better.kept; covers = λ h f q. better.covers h f (weaker h f q) }
 
-  pub least_by_three : (P Q R : BorderFault → Type 0) (a b c : Option BorderFault) → IsBetter F P None a → IsBetter F Q a b → IsBetter F R b c →
+  pub least_by_three : (P Q R : BorderFault → Type 0) (a b c : Option BorderFault) → IsBetter F P None a →
+      IsBetter F Q a b → IsBetter F R b c →
       ((h : BorderFault) → F h → P h ⊎ (Q h ⊎ R h)) → IsLeast F c
   least_by_three P Q R a b c p q r all = record {
     sound = r.sound (q.sound (p.sound tt));

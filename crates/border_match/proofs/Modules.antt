@@ -1,5 +1,6 @@
 -- The boxes of the modules of a certificate
-use Rattle.std.proofs.Common.{◌≡◌, ℕ, zero, suc, ◌+◌, ◌<◌, ◌≤◌, List, [], ◌∷◌, ◌++◌, take, map, length, Option, Some, None, refl, sym, ap, subst, ◌∙◌, arith, inl, inr}
+use Rattle.std.proofs.Common.{◌≡◌, ℕ, zero, suc, ◌+◌, ◌<◌, ◌≤◌, List, [], ◌∷◌, ◌++◌, take, map, length, Option, Some}
+use Rattle.std.proofs.Common.{None, refl, sym, ap, subst, ◌∙◌, arith, inl, inr}
 use Rattle.std.specs.Prelude.{slice_get, option_map}
 use Rattle.std.proofs.lemmas.Option.{slice_get-map, slice_get_within, get_or_from_slice_get}
 use Rattle.std.proofs.lemmas.List.{take_more}
@@ -24,7 +25,8 @@ there [] k lt = absurd (omega arith)
 there (x ∷ xs) zero lt = (x, refl)
 there (x ∷ xs) (suc k) lt = there xs k (omega arith)
 
-some_value : {A B : Type 0} (v : A → B) (o : Option A) (b : B) → option_map v o ≡ Some b → (a : A) × (o ≡ Some a) × (v a ≡ b)
+some_value : {A B : Type 0} (v : A → B) (o : Option A) (b : B) → option_map v o ≡ Some b →
+    (a : A) × (o ≡ Some a) × (v a ≡ b)
 some_value v None b e = absurd (none_some e)
   where
     none_some : {B : Type 0} {b : B} → None ≡ Some b → ⊥
@@ -32,11 +34,13 @@ some_value v None b e = absurd (none_some e)
 some_value v (Some a) b e = (a, refl, same_some (Some (v a)) (v a) b refl e)
 
 -- what gives an element of a list of values
-pub value_of : {A B : Type 0} (v : A → B) (xs : List A) (k : ℕ) (b : B) → slice_get (map v xs) k ≡ Some b → (a : A) × (slice_get xs k ≡ Some a) × (v a ≡ b)
+pub value_of : {A B : Type 0} (v : A → B) (xs : List A) (k : ℕ) (b : B) → slice_get (map v xs) k ≡ Some b →
+    (a : A) × (slice_get xs k ≡ Some a) × (v a ≡ b)
 value_of v xs k b e = some_value v (slice_get xs k) b (sym (slice_get-map v xs k) ∙ e)
 
--- where boxes tile the rectangle, want of memory is all that keeps a table of owners from being made
-pub only_memory : (w h : ℕ) (boxes : List Box2) (fault : TileFault) → IsTask w h boxes → IsTileFault w h boxes fault → Tile (rectangle_of w h) boxes → fault ≡ Memory
+-- if boxes tile the rectangle, a table of owners fails only out of memory
+pub only_memory : (w h : ℕ) (boxes : List Box2) (fault : TileFault) → IsTask w h boxes → IsTileFault w h boxes fault →
+    Tile (rectangle_of w h) boxes → fault ≡ Memory
 only_memory w h boxes (Outside n) task is tile = absurd (no_tiling w h boxes (Outside n) task is other tile)
   where
     other : Outside n ≡ Memory → ⊥
@@ -51,22 +55,28 @@ only_memory w h boxes (Gap c) task is tile = absurd (no_tiling w h boxes (Gap c)
     other e = cc
 only_memory w h boxes Memory task is tile = refl
 
-pub area_at : (ms : List ModuleLines) (k : ℕ) (m : ModuleLines) → slice_get ms k ≡ Some m → slice_get (areas ms) k ≡ Some m.area
+pub area_at : (ms : List ModuleLines) (k : ℕ) (m : ModuleLines) → slice_get ms k ≡ Some m →
+    slice_get (areas ms) k ≡ Some m.area
 area_at ms k m e = slice_get-map (λ (m : ModuleLines). m.area) ms k ∙ ap (option_map (λ (m : ModuleLines). m.area)) e
 
-pub counted_area : (ms : List ModuleLines) (k : ℕ) (c : Counts) → slice_get (map counts_of ms) k ≡ Some c → slice_get (areas ms) k ≡ Some c.area
+pub counted_area : (ms : List ModuleLines) (k : ℕ) (c : Counts) → slice_get (map counts_of ms) k ≡ Some c →
+    slice_get (areas ms) k ≡ Some c.area
 counted_area ms k c e =
     let m = value_of counts_of ms k c e in
     area_at ms k m.0 m.1 ∙ ap (λ (c : Counts). Some c.area) m.2
 
-pub areas_more : (ms : List ModuleLines) (k : ℕ) (c : Counts) (some more : List Box2) → slice_get (map counts_of ms) k ≡ Some c → some ≡ take k (areas ms) → more ≡ some ++ c.area ∷ [] →
+pub areas_more : (ms : List ModuleLines) (k : ℕ) (c : Counts) (some more : List Box2) →
+    slice_get (map counts_of ms) k ≡ Some c → some ≡ take k (areas ms) → more ≡ some ++ c.area ∷ [] →
     more ≡ take (k + 1) (areas ms)
 areas_more ms k c some more e before now =
     let got = counted_area ms k c e in
     let lt = slice_get_within (areas ms) k c.area got in
-    now ∙ ap (λ bs. bs ++ c.area ∷ []) before ∙ ap (λ b. take k (areas ms) ++ b ∷ []) (sym (get_or_from_slice_get (areas ms) k c.area c.area got)) ∙ sym (take_more (areas ms) k c.area lt)
+    now ∙ ap (λ bs. bs ++ c.area ∷ []) before
+    ∙ ap (λ b. take k (areas ms) ++ b ∷ []) (sym (get_or_from_slice_get (areas ms) k c.area c.area got))
+    ∙ sym (take_more (areas ms) k c.area lt)
 
-pub is_task : (g : Setting) (ms : List ModuleLines) (s : Extent) (boxes : List Box2) → s ≡ g.size → size_fault s ≡ None → AreModules g ms → boxes ≡ areas ms → IsTask s.w s.h boxes
+pub is_task : (g : Setting) (ms : List ModuleLines) (s : Extent) (boxes : List Box2) → s ≡ g.size →
+    size_fault s ≡ None → AreModules g ms → boxes ≡ areas ms → IsTask s.w s.h boxes
 is_task g ms s boxes same limits good are =
     let sized = is_sized s limits in
     subst (λ bs. IsTask s.w s.h bs) (sym are) (record {
@@ -85,7 +95,8 @@ is_task g ms s boxes same limits good are =
     })
 
 -- what holds of each element by its number holds with one more
-pub pushed_more : {A : Type 0} (P : ℕ → A → Type 0) (xs ys : List A) (k : ℕ) (x : A) → length xs ≡ k → ys ≡ xs ++ x ∷ [] → ((i : ℕ) (a : A) → slice_get xs i ≡ Some a → P i a) → P k x →
+pub pushed_more : {A : Type 0} (P : ℕ → A → Type 0) (xs ys : List A) (k : ℕ) (x : A) → length xs ≡ k →
+    ys ≡ xs ++ x ∷ [] → ((i : ℕ) (a : A) → slice_get xs i ≡ Some a → P i a) → P k x →
     (i : ℕ) (a : A) → slice_get ys i ≡ Some a → P i a
 pushed_more P xs ys k x len grown before here i a e =
     elim (pushed xs x i a (ap (λ zs. slice_get zs i) (sym grown) ∙ e)) [

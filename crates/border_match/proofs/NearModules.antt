@@ -1,5 +1,6 @@
 -- The numbers of the modules that have cells of a module's halo, noted one by one.
-use Rattle.std.proofs.Common.{◌≡◌, ℕ, ◌+◌, ◌-◌, ◌<◌, ◌≤◌, List, [], ◌∷◌, ◌++◌, length, Bool, true, false, ◌||◌, ◌&&◌, nat_eq, refl, sym, ap, subst, ◌∙◌, inl, inr, ◌⊎◌, arith}
+use Rattle.std.proofs.Common.{◌≡◌, ℕ, ◌+◌, ◌-◌, ◌<◌, ◌≤◌, List, [], ◌∷◌, ◌++◌, length, Bool, true, false, ◌||◌, ◌&&◌}
+use Rattle.std.proofs.Common.{nat_eq, refl, sym, ap, subst, ◌∙◌, inl, inr, ◌⊎◌, arith}
 use Rattle.std.specs.Prelude.{ℤ, pos, ◌==◌, IsTrue}
 use Rattle.std.specs.List.{list_any}
 use Rattle.std.proofs.lemmas.Bool.{and_parts, cases_Bool, false≢true}
@@ -9,7 +10,8 @@ use Rattle.module_box.specs.Boxes.{in_box, in_halo}
 use Rattle.module_box.specs.Locals.{is_among}
 use Rattle.module_box.specs.Tiling.{owner_of}
 use Rattle.border_match.proofs.Cells.{cell_placed}
-use Rattle.border_match.specs.Boards.{AreOwnersNoted, AreRowsNotedAbove, IsNoted, IsRowNoted, IsRowNotedBefore, KeepsNumbers}
+use Rattle.border_match.specs.Boards.{AreOwnersNoted, AreRowsNotedAbove, IsNoted, IsRowNoted, IsRowNotedBefore}
+use Rattle.border_match.specs.Boards.{KeepsNumbers}
 use Rattle.border_match.specs.declared.borders.Borders.{Borders}
 
 -- ---- one number more
@@ -22,13 +24,14 @@ abbrev is_it : ℕ → ℕ → Bool
 is_it w v = v == w
 
 pub among_more : (ks : List ℕ) (k w : ℕ) → is_among (ks ++ k ∷ []) w ≡ true → (is_among ks w ≡ true) ⊎ (w ≡ k)
-among_more ks k w h = elim (either (is_among ks w) (is_among (k ∷ []) w) (sym (list_any-append (is_it w) ks (k ∷ [])) ∙ h)) [
-  | inl before ↦ inl before
-  | inr last ↦ elim (either (is_it w k) false last) [
-    | inl same ↦ inr (grind (arith, nat_tests, same))
-    | inr none ↦ absurd (false≢true none)
-  ]
-]
+among_more ks k w h = elim (either (is_among ks w) (is_among (k ∷ []) w)
+    (sym (list_any-append (is_it w) ks (k ∷ [])) ∙ h)) [
+      | inl before ↦ inl before
+      | inr last ↦ elim (either (is_it w k) false last) [
+        | inl same ↦ inr (grind (arith, nat_tests, same))
+        | inr none ↦ absurd (false≢true none)
+      ]
+    ]
 
 or_left : (a b : Bool) → a ≡ true → (a || b) ≡ true
 or_left true b e = refl
@@ -42,11 +45,13 @@ pub keeps_more : (ks : List ℕ) (k : ℕ) → KeepsNumbers ks (ks ++ k ∷ [])
 keeps_more ks k w h = list_any-append (is_it w) ks (k ∷ []) ∙ or_left (is_among ks w) (is_among (k ∷ []) w) h
 
 pub last_among : (ks : List ℕ) (k : ℕ) → is_among (ks ++ k ∷ []) k ≡ true
-last_among ks k = list_any-append (is_it k) ks (k ∷ []) ∙ or_right (is_among ks k) (is_among (k ∷ []) k) (or_left (is_it k k) false (grind (arith, nat_tests)))
+last_among ks k = list_any-append (is_it k) ks (k ∷ [])
+    ∙ or_right (is_among ks k) (is_among (k ∷ []) k) (or_left (is_it k k) false (grind (arith, nat_tests)))
 
 -- ---- columns of a row, and rows
 
-pub noted_still : (b : Borders) (old new : List ℕ) (x y : ℤ) → KeepsNumbers old new → IsNoted b old x y → IsNoted b new x y
+pub noted_still : (b : Borders) (old new : List ℕ) (x y : ℤ) → KeepsNumbers old new → IsNoted b old x y →
+    IsNoted b new x y
 noted_still b old new x y keeps noted there = keeps _ (noted there)
 
 lower_or_same : (i m : ℕ) → i < m + 1 → (i < m) ⊎ (i ≡ m)
@@ -63,13 +68,16 @@ no_column b ks y x from c lt there =
     pos_same : (i k : ℕ) → pos i ≡ pos k → i ≡ k
     pos_same i k e = cc
 
-pub column_more : (b : Borders) (old new : List ℕ) (y x : ℕ) (cx cy : ℤ) → cx ≡ pos x → cy ≡ pos y → IsRowNotedBefore b old y x → KeepsNumbers old new → IsNoted b new cx cy → IsRowNotedBefore b new y (x + 1)
+pub column_more : (b : Borders) (old new : List ℕ) (y x : ℕ) (cx cy : ℤ) → cx ≡ pos x → cy ≡ pos y →
+    IsRowNotedBefore b old y x → KeepsNumbers old new → IsNoted b new cx cy → IsRowNotedBefore b new y (x + 1)
 column_more b old new y x cx cy ex ey before keeps here c lt = elim (lower_or_same c x lt) [
   | inl l ↦ noted_still b old new (pos c) (pos y) keeps (before c l)
-  | inr same ↦ subst (λ (n : ℕ). IsNoted b new (pos n) (pos y)) (sym same) (subst (λ (z : ℤ). IsNoted b new (pos x) z) ey (subst (λ (z : ℤ). IsNoted b new z cy) ex here))
+  | inr same ↦ subst (λ (n : ℕ). IsNoted b new (pos n) (pos y)) (sym same)
+      (subst (λ (z : ℤ). IsNoted b new (pos x) z) ey (subst (λ (z : ℤ). IsNoted b new z cy) ex here))
 ]
 
-pub all_columns : (b : Borders) (ks : List ℕ) (y x : ℕ) → b.job.now.area.x + b.job.now.area.w + 1 ≤ x → IsRowNotedBefore b ks y x → IsRowNoted b ks y
+pub all_columns : (b : Borders) (ks : List ℕ) (y x : ℕ) → b.job.now.area.x + b.job.now.area.w + 1 ≤ x →
+    IsRowNotedBefore b ks y x → IsRowNoted b ks y
 all_columns b ks y x end before z there =
     let both = and_parts (in_box b.whole z (pos y)) (in_halo b.job.now.area z (pos y)) there in
     let p = cell_placed b z (pos y) both.0 both.1 in
@@ -87,13 +95,15 @@ no_row b ks y from r lt x there =
     pos_same : (i k : ℕ) → pos i ≡ pos k → i ≡ k
     pos_same i k e = cc
 
-pub row_more : (b : Borders) (old new : List ℕ) (y : ℕ) → AreRowsNotedAbove b old y → KeepsNumbers old new → IsRowNoted b new y → AreRowsNotedAbove b new (y + 1)
+pub row_more : (b : Borders) (old new : List ℕ) (y : ℕ) → AreRowsNotedAbove b old y → KeepsNumbers old new →
+    IsRowNoted b new y → AreRowsNotedAbove b new (y + 1)
 row_more b old new y above keeps here r lt = elim (lower_or_same r y lt) [
   | inl l ↦ λ x. noted_still b old new x (pos r) keeps (above r l x)
   | inr same ↦ subst (IsRowNoted b new) (sym same) here
 ]
 
-pub all_rows : (b : Borders) (ks : List ℕ) (y : ℕ) → b.job.now.area.y + b.job.now.area.h + 1 ≤ y → AreRowsNotedAbove b ks y → AreOwnersNoted b ks
+pub all_rows : (b : Borders) (ks : List ℕ) (y : ℕ) → b.job.now.area.y + b.job.now.area.h + 1 ≤ y →
+    AreRowsNotedAbove b ks y → AreOwnersNoted b ks
 all_rows b ks y end above x z there =
     let both = and_parts (in_box b.whole x z) (in_halo b.job.now.area x z) there in
     let p = cell_placed b x z both.0 both.1 in

@@ -1,5 +1,6 @@
 -- Signals by other numbers of their wires, and times without an event
-use Rattle.std.proofs.Common.{◌≡◌, ℕ, suc, ◌<◌, ◌%◌, ◌++◌, List, [], ◌∷◌, map, Bool, false, ◌&&◌, ◌==◌, Option, Some, None, refl, sym, ap, ap₂, ◌∙◌, arith, inl, inr}
+use Rattle.std.proofs.Common.{◌≡◌, ℕ, suc, ◌<◌, ◌%◌, ◌++◌, List, [], ◌∷◌, map, Bool, false, ◌&&◌, ◌==◌, Option, Some}
+use Rattle.std.proofs.Common.{None, refl, sym, ap, ap₂, ◌∙◌, arith, inl, inr}
 use Rattle.std.specs.Prelude.{ℤ, unwrap_or, option_map, IfSome}
 use Rattle.std.specs.List.{All, flat_map}
 use Rattle.std.proofs.lemmas.Bool.{cases_Bool, cond-true, cond-false}
@@ -15,38 +16,47 @@ use Rattle.module_job.specs.Signals.{renumber_signal, renumber_held, renumber_ev
 use Rattle.certificate_lines.specs.declared.entry.Border.{Border}
 
 module _ (f : ℕ → ℕ) where
-  held_renumbered : (hs : List Held) (x y : ℤ) → held_at (map (renumber_held f) hs) x y ≡ option_map (renumber_signal f) (held_at hs x y)
+  held_renumbered : (hs : List Held) (x y : ℤ) →
+      held_at (map (renumber_held f) hs) x y ≡ option_map (renumber_signal f) (held_at hs x y)
   unfolding held_at
   held_renumbered [] x y = refl
   held_renumbered (h ∷ hs) x y = elim (cases_Bool (is_at h.cell x y)) [
     | inl e ↦ cond-true _ _ _ e ∙ ap (option_map (renumber_signal f)) (sym (cond-true _ _ _ e))
-    | inr e ↦ cond-false _ _ _ e ∙ held_renumbered hs x y ∙ ap (option_map (renumber_signal f)) (sym (cond-false _ _ _ e))
+    | inr e ↦ cond-false _ _ _ e ∙ held_renumbered hs x y
+        ∙ ap (option_map (renumber_signal f)) (sym (cond-false _ _ _ e))
   ]
 
-  event_renumbered : (es : List Event) (t : ℕ) (x y : ℤ) → event_at (map (renumber_event f) es) t x y ≡ option_map (renumber_signal f) (event_at es t x y)
+  event_renumbered : (es : List Event) (t : ℕ) (x y : ℤ) →
+      event_at (map (renumber_event f) es) t x y ≡ option_map (renumber_signal f) (event_at es t x y)
   unfolding event_at
   event_renumbered [] t x y = refl
   event_renumbered (e ∷ es) t x y = elim (cases_Bool (is_then e.at t x y)) [
     | inl h ↦ cond-true _ _ _ h ∙ ap (option_map (renumber_signal f)) (sym (cond-true _ _ _ h))
-    | inr h ↦ cond-false _ _ _ h ∙ event_renumbered es t x y ∙ ap (option_map (renumber_signal f)) (sym (cond-false _ _ _ h))
+    | inr h ↦ cond-false _ _ _ h ∙ event_renumbered es t x y
+        ∙ ap (option_map (renumber_signal f)) (sym (cond-false _ _ _ h))
   ]
 
-  either : (a b : Option Signal) → unwrap_or (option_map (renumber_signal f) a) (unwrap_or (option_map (renumber_signal f) b) Zero) ≡ renumber_signal f (unwrap_or a (unwrap_or b Zero))
+  either : (a b : Option Signal) →
+      unwrap_or (option_map (renumber_signal f) a) (unwrap_or (option_map (renumber_signal f) b) Zero)
+      ≡ renumber_signal f (unwrap_or a (unwrap_or b Zero))
   either (Some s) b = refl
   either None (Some s) = refl
   either None None = refl
 
-  pub signal_renumbered : (s : Signals) (t : ℕ) (x y : ℤ) → renumber_signal f (signal_at s t x y) ≡ signal_at (renumber_signals f s) t x y
+  pub signal_renumbered : (s : Signals) (t : ℕ) (x y : ℤ) →
+      renumber_signal f (signal_at s t x y) ≡ signal_at (renumber_signals f s) t x y
   unfolding signal_at
   signal_renumbered s t x y =
       sym (either (held_at s.held x y) (event_at s.events t x y)) ∙
-      ap₂ (λ a b. unwrap_or a (unwrap_or b Zero)) (sym (held_renumbered s.held x y)) (sym (event_renumbered s.events t x y))
+      ap₂ (λ a b. unwrap_or a (unwrap_or b Zero)) (sym (held_renumbered s.held x y))
+      (sym (event_renumbered s.events t x y))
 
   none_back : (o : Option Signal) → option_map (renumber_signal f) o ≡ None → o ≡ None
   none_back None e = refl
   none_back (Some s) e = cc
 
-  pub no_event_back : (es : List Event) (t : ℕ) (x y : ℤ) → event_at (map (renumber_event f) es) t x y ≡ None → event_at es t x y ≡ None
+  pub no_event_back : (es : List Event) (t : ℕ) (x y : ℤ) → event_at (map (renumber_event f) es) t x y ≡ None →
+      event_at es t x y ≡ None
   no_event_back es t x y e = none_back (event_at es t x y) (sym (event_renumbered es t x y) ∙ e)
 
 -- ---- no line names the time 0
@@ -57,7 +67,8 @@ not_zero t h = grind (arith, nat_tests)
 not_then : (t : ℕ) (b : Bool) → t % 2 ≡ 1 → ((t == 0) && b) ≡ false
 not_then t b h = ap (λ a. a && b) (not_zero t h)
 
-one_quiet : (n : ℕ) (e : Border) (t : Option ℕ) (s : Signal) (rest : List Event) (x y : ℤ) → IfSome t (λ t. (t % 2 ≡ 1) × (t < n)) → event_at rest 0 x y ≡ None →
+one_quiet : (n : ℕ) (e : Border) (t : Option ℕ) (s : Signal) (rest : List Event) (x y : ℤ) →
+    IfSome t (λ t. (t % 2 ≡ 1) × (t < n)) → event_at rest 0 x y ≡ None →
     event_at (event_by e t s ++ rest) 0 x y ≡ None
 unfolding event_at
 one_quiet n e None s rest x y h r = r
@@ -69,7 +80,8 @@ all_tail P x xs all = λ k d h. all (suc k) d (omega arith)
 all_head : {A : Type 0} (P : A → Type 0) (x : A) (xs : List A) → All P (x ∷ xs) → P x
 all_head P x xs all = all 0 x (omega arith)
 
-pub lines_quiet : (n : ℕ) (signal : Border → Signal) (es : List Border) (x y : ℤ) → All (λ e. IfSome e.time (λ t. (t % 2 ≡ 1) × (t < n))) es →
+pub lines_quiet : (n : ℕ) (signal : Border → Signal) (es : List Border) (x y : ℤ) →
+    All (λ e. IfSome e.time (λ t. (t % 2 ≡ 1) × (t < n))) es →
     event_at (flat_map (λ e. event_by e e.time (signal e)) es) 0 x y ≡ None
 unfolding event_at
 lines_quiet n signal [] x y all = refl

@@ -1,4 +1,4 @@
--- Where a module has no border fault, halo and edge signals are the same
+-- Halo and edge signals are the same if a module has no border fault
 use Rattle.std.proofs.Common.{◌≡◌, ℕ, List, refl, sym, ap, ◌∙◌, inl, inr}
 use Rattle.std.specs.Prelude.{◌≢◌, ℤ}
 use Rattle.std.proofs.lemmas.Bool.{cases_Bool, false≢true}
@@ -21,7 +21,8 @@ not_different a b h = elim (cases_Bool (same_signal a b)) [
 ]
 
 -- a fault at that time is enough
-pub same_at : (g : Setting) (ms : List ModuleLines) (i k : ℕ) (m owner : ModuleLines) (t : ℕ) (x y : ℤ) (v : Valuation) →
+pub same_at : (g : Setting) (ms : List ModuleLines) (i k : ℕ) (m owner : ModuleLines) (t : ℕ) (x y : ℤ)
+    (v : Valuation) →
     ((f : BorderFault) → f.time ≡ t → ¬ IsBorderFault g ms i f) → AreBeside g ms i k m owner t x y →
     is_live v (halo_signal g.circuit m t x y) ≡ is_live v (edge_signal g.circuit owner t x y)
 same_at g ms i k m owner t x y v none beside =

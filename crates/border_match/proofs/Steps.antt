@@ -1,5 +1,7 @@
 -- One more event, module, time, column or row
-use Rattle.std.proofs.Common.{◌≡◌, ℕ, suc, ◌+◌, ◌-◌, ◌<◌, ◌≤◌, List, [], ◌∷◌, ◌++◌, length, take, get_or, Bool, true, false, Some, None, Less, Equal, Greater, refl, sym, ap, ap₂, subst, ◌∙◌, inl, inr, ◌⊎◌, arith}
+use Rattle.std.proofs.Common.{◌≡◌, ℕ, suc, ◌+◌, ◌-◌, ◌<◌, ◌≤◌, List, [], ◌∷◌, ◌++◌, length, take, get_or, Bool, true}
+use Rattle.std.proofs.Common.{false, Some, None, Less, Equal, Greater, refl, sym, ap, ap₂, subst, ◌∙◌, inl, inr, ◌⊎◌}
+use Rattle.std.proofs.Common.{arith}
 use Rattle.std.specs.Prelude.{ℤ, pos, ◌≢◌, slice_get, unwrap_or}
 use Rattle.std.specs.Arc.{arc_value}
 use Rattle.std.specs.Ordering.{nat_cmp}
@@ -22,7 +24,9 @@ use Rattle.module_box.proofs.Rising.{then_moment}
 use Rattle.module_job.specs.Jobs.{JobState}
 use Rattle.module_job.specs.Signals.{renumber_signal}
 use Rattle.border_match.specs.BorderFaults.{border_cmp}
-use Rattle.border_match.specs.Boards.{AreOwnersNoted, jobs_of, IsReady, Faults, IsNamed, IsNamedBelow, IsEdgeNamed, IsEdgeNamedAmong, IsEdgeNamedAt, DiffersAlways, DiffersAlwaysAt, DiffersAlwaysInRow, DiffersAlwaysBefore, DiffersAlwaysAbove}
+use Rattle.border_match.specs.Boards.{AreOwnersNoted, jobs_of, IsReady, Faults, IsNamed, IsNamedBelow, IsEdgeNamed}
+use Rattle.border_match.specs.Boards.{IsEdgeNamedAmong, IsEdgeNamedAt, DiffersAlways, DiffersAlwaysAt}
+use Rattle.border_match.specs.Boards.{DiffersAlwaysInRow, DiffersAlwaysBefore, DiffersAlwaysAbove}
 use Rattle.border_match.specs.declared.borders.Borders.{Borders}
 use Rattle.border_match.specs.declared.fault.BorderFault.{BorderFault}
 use Rattle.border_match.proofs.FaultOrder.{border_total}
@@ -32,43 +36,56 @@ use Rattle.border_match.proofs.NearModules.{among_more}
 lower_or_same : (i m : ℕ) → i < m + 1 → (i < m) ⊎ (i ≡ m)
 lower_or_same i m h = grind arith
 
-same_fault : (time : ℕ) (cell : Cell) (f : BorderFault) → f.time ≡ time → f.cell ≡ cell → f ≡ record { time = time; cell = cell }
+same_fault : (time : ℕ) (cell : Cell) (f : BorderFault) → f.time ≡ time → f.cell ≡ cell →
+    f ≡ record { time = time; cell = cell }
 same_fault time cell f p q = let mk : ℕ → Cell → BorderFault = λ t c. record { time = t; cell = c } in ap₂ mk p q
 
 -- ---- events
 
-pub named_step : (events : List Event) (i : ℕ) (e : Event) (f : BorderFault) → slice_get events i ≡ Some e → IsNamedBelow (i + 1) events f →
+pub named_step : (events : List Event) (i : ℕ) (e : Event) (f : BorderFault) → slice_get events i ≡ Some e →
+    IsNamedBelow (i + 1) events f →
     IsNamedBelow i events f ⊎ (f ≡ record { time = e.at.time; cell = e.at.cell })
 named_step events i e f got h = elim (lower_or_same h.named.place i h.below) [
   | inl lt ↦ inl (record { named = h.named; below = lt })
   | inr same ↦ inr (
       let is = same_some (slice_get events i) h.named.event e (ap (slice_get events) (sym same) ∙ h.named.got) got in
-      same_fault e.at.time e.at.cell f (sym h.named.time ∙ ap (λ (z : Event). z.at.time) is) (sym h.named.cell ∙ ap (λ (z : Event). z.at.cell) is))
+      same_fault e.at.time e.at.cell f (sym h.named.time ∙ ap (λ (z : Event). z.at.time) is)
+      (sym h.named.cell ∙ ap (λ (z : Event). z.at.cell) is))
 ]
 
-pub named_all : (events : List Event) (k : ℕ) (f : BorderFault) → length events ≤ k → IsNamed events f → IsNamedBelow k events f
+pub named_all : (events : List Event) (k : ℕ) (f : BorderFault) → length events ≤ k → IsNamed events f →
+    IsNamedBelow k events f
 named_all events k f le h =
     let within = slice_get_within events h.place h.event h.got in
     record { named = h; below = omega (arith, within) }
 
 -- ---- modules
 
-pub edges_step : (b : Borders) (ks : List ℕ) (i k : ℕ) (d : ℕ) (f : BorderFault) → i < length ks → k ≡ get_or ks i d → IsEdgeNamedAmong (take (i + 1) ks) b f → IsEdgeNamedAmong (take i ks) b f ⊎ IsEdgeNamedAt k b f
+pub edges_step : (b : Borders) (ks : List ℕ) (i k : ℕ) (d : ℕ) (f : BorderFault) → i < length ks → k ≡ get_or ks i d →
+    IsEdgeNamedAmong (take (i + 1) ks) b f → IsEdgeNamedAmong (take i ks) b f ⊎ IsEdgeNamedAt k b f
 edges_step b ks i k d f lt is h =
     let own = owner_of b.owners.now f.cell.x f.cell.y in
-    elim (among_more (take i ks) k own (ap (λ l. is_among l own) (ap (λ x. take i ks ++ x ∷ []) is ∙ sym (take_more ks i d lt)) ∙ h.1)) [
+    elim (among_more (take i ks) k own
+    (ap (λ l. is_among l own) (ap (λ x. take i ks ++ x ∷ []) is ∙ sym (take_more ks i d lt)) ∙ h.1)) [
       | inl before ↦ inl (h.0, before)
       | inr same ↦ inr (h.0, same)
     ]
 
-pub edges_all : (b : Borders) (ks : List ℕ) (i : ℕ) (f : BorderFault) → length ks ≤ i → AreOwnersNoted b ks → Faults b f → IsEdgeNamed b f → IsEdgeNamedAmong (take i ks) b f
-edges_all b ks i f le noted g h =
-    (h, ap (λ l. is_among l (owner_of b.owners.now f.cell.x f.cell.y)) (take_all i ks le) ∙ noted f.cell.x f.cell.y (reached b f g))
+pub edges_all : (b : Borders) (ks : List ℕ) (i : ℕ) (f : BorderFault) → length ks ≤ i → AreOwnersNoted b ks →
+    Faults b f → IsEdgeNamed b f → IsEdgeNamedAmong (take i ks) b f
+edges_all b ks i f le noted g h = (
+  h,
+  ap (λ l. is_among l (owner_of b.owners.now f.cell.x f.cell.y)) (take_all i ks le)
+      ∙ noted f.cell.x f.cell.y (reached b f g),
+)
 
-other_is : (b : Borders) (k : ℕ) (other : JobState) (f : BorderFault) → slice_get (jobs_of b) k ≡ Some other → (h : IsEdgeNamedAt k b f) → h.0.owner ≡ other
-other_is b k other f e h = same_some (slice_get (jobs_of b) k) h.0.owner other (ap (slice_get (jobs_of b)) (sym h.1) ∙ h.0.numbered) e
+other_is : (b : Borders) (k : ℕ) (other : JobState) (f : BorderFault) → slice_get (jobs_of b) k ≡ Some other →
+    (h : IsEdgeNamedAt k b f) → h.0.owner ≡ other
+other_is b k other f e h = same_some (slice_get (jobs_of b) k) h.0.owner other
+    (ap (slice_get (jobs_of b)) (sym h.1) ∙ h.0.numbered) e
 
-pub edges_named : (b : Borders) (k : ℕ) (other : JobState) (f : BorderFault) → slice_get (jobs_of b) k ≡ Some other → IsEdgeNamedAt k b f → IsNamed other.edges.events f
+pub edges_named : (b : Borders) (k : ℕ) (other : JobState) (f : BorderFault) → slice_get (jobs_of b) k ≡ Some other →
+    IsEdgeNamedAt k b f → IsNamed other.edges.events f
 edges_named b k other f e h =
     let P : JobState → Type 0 = λ j. IsNamed j.edges.events f in
     subst P (other_is b k other f e h) h.0.named
@@ -85,12 +102,14 @@ time_less : (m n : BorderFault) → m.time < n.time → border_cmp m n ≡ Less
 unfolding border_cmp
 time_less m n h = rw (nat_less m.time n.time h)
 
-pub first_is_least : (time : ℕ) (cell : Cell) (f : BorderFault) → time ≤ f.time → f.cell ≡ cell → border_cmp (record { time = time; cell = cell }) f ≢ Greater
+pub first_is_least : (time : ℕ) (cell : Cell) (f : BorderFault) → time ≤ f.time → f.cell ≡ cell →
+    border_cmp (record { time = time; cell = cell }) f ≢ Greater
 first_is_least time cell f le same g =
     let m : BorderFault = record { time = time; cell = cell } in
     elim (lower_or_eq time f.time le) [
       | inl lt ↦ less_greater (sym (time_less m f lt) ∙ g)
-      | inr e ↦ equal_greater (sym (tied_itself border_total m) ∙ ap (λ z. border_cmp m z) (sym (same_fault time cell f (sym e) same)) ∙ g)
+      | inr e ↦ equal_greater (sym (tied_itself border_total m)
+          ∙ ap (λ z. border_cmp m z) (sym (same_fault time cell f (sym e) same)) ∙ g)
     ]
   where
     less_greater : Less ≡ Greater → ⊥
@@ -99,7 +118,8 @@ first_is_least time cell f le same g =
     equal_greater : Equal ≡ Greater → ⊥
     equal_greater e = cc
 
-pub no_fault_step : (F : BorderFault → Type 0) (cell : Cell) (time : ℕ) → ((f : BorderFault) → F f → f.cell ≡ cell → f.time < time → ⊥) → (F (record { time = time; cell = cell }) → ⊥) →
+pub no_fault_step : (F : BorderFault → Type 0) (cell : Cell) (time : ℕ) →
+    ((f : BorderFault) → F f → f.cell ≡ cell → f.time < time → ⊥) → (F (record { time = time; cell = cell }) → ⊥) →
     (f : BorderFault) → F f → f.cell ≡ cell → f.time < time + 1 → ⊥
 no_fault_step F cell time before here f g same lt = elim (lower_or_same f.time time lt) [
   | inl l ↦ before f g same l
@@ -121,7 +141,13 @@ event_named (e ∷ es) f = elim (cases_Bool (is_then e.at f.time f.cell.x f.cell
   | inl t ↦
       let here : Moment = record { time = f.time; cell = f.cell } in
       let same : e.at ≡ here = then_moment e.at here t in
-      inr (record { place = 0; event = e; got = refl; time = ap (λ (m : Moment). m.time) same; cell = ap (λ (m : Moment). m.cell) same })
+      inr (record {
+        place = 0;
+        event = e;
+        got = refl;
+        time = ap (λ (m : Moment). m.time) same;
+        cell = ap (λ (m : Moment). m.cell) same;
+      })
   | inr differs ↦ elim (event_named es f) [
     | inl none ↦ inl (cond-false _ _ _ differs ∙ none)
     | inr h ↦ inr (record { place = suc h.place; event = h.event; got = h.got; time = h.time; cell = h.cell })
@@ -129,11 +155,13 @@ event_named (e ∷ es) f = elim (cases_Bool (is_then e.at f.time f.cell.x f.cell
 ]
 
 -- at two times without an event the signals are the same
-same_without : (s : Signals) (t t' : ℕ) (x y : ℤ) → event_at s.events t x y ≡ None → event_at s.events t' x y ≡ None → signal_at s t x y ≡ signal_at s t' x y
+same_without : (s : Signals) (t t' : ℕ) (x y : ℤ) → event_at s.events t x y ≡ None → event_at s.events t' x y ≡ None →
+    signal_at s t x y ≡ signal_at s t' x y
 unfolding signal_at
 same_without s t t' x y e e' = ap (λ z. unwrap_or (held_at s.held x y) (unwrap_or z Zero)) (e ∙ sym e')
 
-pub fault_covered : (b : Borders) (f : BorderFault) → IsReady b → Faults b f → IsNamed b.job.now.halos.events f ⊎ (IsEdgeNamed b f ⊎ DiffersAlways b f)
+pub fault_covered : (b : Borders) (f : BorderFault) → IsReady b → Faults b f →
+    IsNamed b.job.now.halos.events f ⊎ (IsEdgeNamed b f ⊎ DiffersAlways b f)
 fault_covered b f ready g =
     let x = f.cell.x in
     let y = f.cell.y in
@@ -146,15 +174,18 @@ fault_covered b f ready g =
           owner = d.owner;
           numbered = d.numbered;
           differ = λ alike. d.differ (
-              ap (renumber_signal (circuit_wire b.job.now.locals)) (same_without b.job.now.halos f.time 0 x y none (ready.1.halos x y)) ∙ alike
-              ∙ ap (renumber_signal (circuit_wire d.owner.locals)) (same_without d.owner.edges 0 f.time x y ((ready.0.quiet _ d.owner d.numbered).edges x y) none'));
+              ap (renumber_signal (circuit_wire b.job.now.locals))
+              (same_without b.job.now.halos f.time 0 x y none (ready.1.halos x y)) ∙ alike
+              ∙ ap (renumber_signal (circuit_wire d.owner.locals))
+              (same_without d.owner.edges 0 f.time x y ((ready.0.quiet _ d.owner d.numbered).edges x y) none'));
         }))
       ]
     ]
 
 -- ---- columns and rows
 
-pub no_column : (b : Borders) (y x : ℕ) (f : BorderFault) → x ≡ b.job.now.area.x - 1 → Faults b f → DiffersAlwaysBefore b y x f → ⊥
+pub no_column : (b : Borders) (y x : ℕ) (f : BorderFault) → x ≡ b.job.now.area.x - 1 → Faults b f →
+    DiffersAlwaysBefore b y x f → ⊥
 no_column b y x f e g h =
     let p = placed b f g in
     let same = pos_same h.at p.column (sym h.column ∙ p.x) in
@@ -164,7 +195,8 @@ no_column b y x f e g h =
     pos_same : (i k : ℕ) → pos i ≡ pos k → i ≡ k
     pos_same i k e = cc
 
-pub column_step : (b : Borders) (y x : ℕ) (c : Cell) (f : BorderFault) → c.x ≡ pos x → c.y ≡ pos y → DiffersAlwaysBefore b y (x + 1) f → DiffersAlwaysBefore b y x f ⊎ DiffersAlwaysAt b c f
+pub column_step : (b : Borders) (y x : ℕ) (c : Cell) (f : BorderFault) → c.x ≡ pos x → c.y ≡ pos y →
+    DiffersAlwaysBefore b y (x + 1) f → DiffersAlwaysBefore b y x f ⊎ DiffersAlwaysAt b c f
 column_step b y x c f ex ey h =
     let mk : ℤ → ℤ → Cell = λ x y. record { x = x; y = y } in
     elim (lower_or_same h.at x h.before) [
@@ -172,13 +204,15 @@ column_step b y x c f ex ey h =
       | inr same ↦ inr (h.differs.0, ap₂ mk (h.column ∙ ap pos same ∙ sym ex) (h.differs.1 ∙ sym ey))
     ]
 
-pub all_columns : (b : Borders) (y x : ℕ) (f : BorderFault) → b.job.now.area.x + b.job.now.area.w + 1 ≤ x → Faults b f → DiffersAlwaysInRow b y f → DiffersAlwaysBefore b y x f
+pub all_columns : (b : Borders) (y x : ℕ) (f : BorderFault) → b.job.now.area.x + b.job.now.area.w + 1 ≤ x → Faults b f →
+    DiffersAlwaysInRow b y f → DiffersAlwaysBefore b y x f
 all_columns b y x f le g h =
     let p = placed b f g in
     let right = p.right in
     record { differs = h; at = p.column; column = p.x; before = omega (arith, right, le) }
 
-pub no_row : (b : Borders) (y : ℕ) (f : BorderFault) → y ≡ b.job.now.area.y - 1 → Faults b f → DiffersAlwaysAbove b y f → ⊥
+pub no_row : (b : Borders) (y : ℕ) (f : BorderFault) → y ≡ b.job.now.area.y - 1 → Faults b f →
+    DiffersAlwaysAbove b y f → ⊥
 no_row b y f e g h =
     let p = placed b f g in
     let same = pos_same h.at p.row (sym h.row ∙ p.y) in
@@ -188,13 +222,15 @@ no_row b y f e g h =
     pos_same : (i k : ℕ) → pos i ≡ pos k → i ≡ k
     pos_same i k e = cc
 
-pub row_step : (b : Borders) (y : ℕ) (f : BorderFault) → DiffersAlwaysAbove b (y + 1) f → DiffersAlwaysAbove b y f ⊎ DiffersAlwaysInRow b y f
+pub row_step : (b : Borders) (y : ℕ) (f : BorderFault) → DiffersAlwaysAbove b (y + 1) f →
+    DiffersAlwaysAbove b y f ⊎ DiffersAlwaysInRow b y f
 row_step b y f h = elim (lower_or_same h.at y h.above) [
   | inl lt ↦ inl (record { differs = h.differs; at = h.at; row = h.row; above = lt })
   | inr same ↦ inr (h.differs, h.row ∙ ap pos same)
 ]
 
-pub all_rows : (b : Borders) (y : ℕ) (f : BorderFault) → b.job.now.area.y + b.job.now.area.h + 1 ≤ y → Faults b f → DiffersAlways b f → DiffersAlwaysAbove b y f
+pub all_rows : (b : Borders) (y : ℕ) (f : BorderFault) → b.job.now.area.y + b.job.now.area.h + 1 ≤ y → Faults b f →
+    DiffersAlways b f → DiffersAlwaysAbove b y f
 all_rows b y f le g h =
     let p = placed b f g in
     let bottom = p.bottom in

@@ -1,4 +1,4 @@
--- Where no line with a star speaks of all times
+-- Modules in which no line with a star is for all times
 use Rattle.std.proofs.Common.{◌≡◌, Bool, true, ◌==◌, List, [], map, length, Some, None, sym, ap, ap₂, ◌∙◌, arith}
 use Rattle.std.proofs.lemmas.Bool.Decides.{nat_tests}
 use Rattle.std.proofs.lemmas.List.{length-map, nil_from_length}
@@ -22,15 +22,20 @@ none_mapped f xs e = nil_from_length xs (sym (length-map xs f) ∙ ap length e)
 
 -- where a schedule that was moved has no held signals, it had none
 pub unheld_unmoved : (dx dy : ℤ) (s moved : Signals) → moved ≡ moved_signals dx dy s → moved.held ≡ [] → s.held ≡ []
-unheld_unmoved dx dy s moved is none = none_mapped (moved_held dx dy) s.held (sym (ap (λ (m : Signals). m.held) is) ∙ none)
+unheld_unmoved dx dy s moved is none =
+    none_mapped (moved_held dx dy) s.held (sym (ap (λ (m : Signals). m.held) is) ∙ none)
 
 unheld_signal : (s : Signals) (x y : ℤ) → s.held ≡ [] → event_at s.events 0 x y ≡ None → signal_at s 0 x y ≡ Zero
 unfolding signal_at held_at
 unheld_signal s x y none quiet = ap₂ (λ h z. unwrap_or (held_at h x y) (unwrap_or z Zero)) none quiet
 
-pub unheld : (b : Borders) (x y : ℤ) (owner : JobState) → IsReady b → slice_get (jobs_of b) (owner_of b.owners.now x y) ≡ Some owner → b.job.now.halos.held ≡ [] → owner.edges.held ≡ [] →
+pub unheld : (b : Borders) (x y : ℤ) (owner : JobState) → IsReady b →
+    slice_get (jobs_of b) (owner_of b.owners.now x y) ≡ Some owner → b.job.now.halos.held ≡ [] → owner.edges.held ≡ [] →
     Differ b 0 x y → ⊥
 unheld b x y owner ready got halo edge d =
     let same = same_some (slice_get (jobs_of b) (owner_of b.owners.now x y)) d.owner owner d.numbered got in
-    d.differ (ap (renumber_signal (circuit_wire b.job.now.locals)) (unheld_signal b.job.now.halos x y halo (ready.1.halos x y))
-    ∙ sym (ap (λ (j : JobState). job_edge j 0 x y) same ∙ ap (renumber_signal (circuit_wire owner.locals)) (unheld_signal owner.edges x y edge ((ready.0.quiet _ owner got).edges x y))))
+    d.differ (ap (renumber_signal (circuit_wire b.job.now.locals))
+    (unheld_signal b.job.now.halos x y halo (ready.1.halos x y))
+    ∙ sym (ap (λ (j : JobState). job_edge j 0 x y) same
+    ∙ ap (renumber_signal (circuit_wire owner.locals))
+    (unheld_signal owner.edges x y edge ((ready.0.quiet _ owner got).edges x y))))

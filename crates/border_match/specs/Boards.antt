@@ -1,5 +1,6 @@
 -- Border faults by the jobs of the modules, and the parts of a search for them
-use Rattle.std.specs.Prelude.{◌≡◌, ◌≢◌, ℕ, ℤ, pos, ◌<◌, ◌%◌, ◌&&◌, true, List, length, map, Some, None, slice_get, IsTrue}
+use Rattle.std.specs.Prelude.{◌≡◌, ◌≢◌, ℕ, ℤ, pos, ◌<◌, ◌%◌, ◌&&◌, true, List, length, map, Some, None, slice_get}
+use Rattle.std.specs.Prelude.{IsTrue}
 use Rattle.std.specs.List.{All}
 use Rattle.std.specs.Arc.{arc_value}
 use Rattle.bbm_rule.specs.declared.block.Cell.{Cell}
@@ -47,20 +48,25 @@ pub record IsQuiet (j : JobState) : Type 0 where
 -- the owner of each cell of the rectangle is the number of a job whose box has the cell
 pub record IsBoard (w : Box2) (o : Owning) (jobs : List JobState) : Type 0 where
   pub same : w ≡ rectangle o
-  pub holder : (x y : ℤ) → IsTrue (in_box w x y) → (j : JobState) × (slice_get jobs (owner_of o x y) ≡ Some j) × IsTrue (in_box j.area x y)
+  pub holder : (x y : ℤ) → IsTrue (in_box w x y) →
+      (j : JobState) × (slice_get jobs (owner_of o x y) ≡ Some j) × IsTrue (in_box j.area x y)
   pub quiet : (k : ℕ) (j : JobState) → slice_get jobs k ≡ Some j → IsQuiet j
 
 -- ---- the same of a module among its neighbours
 
+-- the jobs of the modules
 abbrev pub jobs_of : Borders → List JobState
 jobs_of b = map arc_value b.jobs.now
 
+-- the owner of each cell is a job whose box has it, and no job has an event at time 0
 abbrev pub IsReady : Borders → Type 0
 IsReady b = IsBoard b.whole b.owners.now (jobs_of b) × IsQuiet b.job.now
 
+-- a border fault of the job that is searched
 abbrev pub Faults : Borders → BorderFault → Type 0
 Faults b f = IsJobFault b.whole b.owners.now (jobs_of b) b.job.now f
 
+-- the job that is searched and the module that has the cell say different things of it at the time
 abbrev pub Differ : Borders → ℕ → ℤ → ℤ → Type 0
 Differ b t x y = AreDifferent b.owners.now (jobs_of b) b.job.now t x y
 
@@ -131,7 +137,8 @@ KeepsNumbers old new = (k : ℕ) → IsTrue (is_among old k) → IsTrue (is_amon
 
 -- if the cell (x, y) is in the rectangle and in the halo, the number of the module that has it is one of these
 abbrev pub IsNoted : Borders → List ℕ → ℤ → ℤ → Type 0
-IsNoted b ks x y = (in_box b.whole x y && in_halo b.job.now.area x y) ≡ true → IsTrue (is_among ks (owner_of b.owners.now x y))
+IsNoted b ks x y = (in_box b.whole x y && in_halo b.job.now.area x y) ≡ true →
+    IsTrue (is_among ks (owner_of b.owners.now x y))
 
 -- the same of all cells
 abbrev pub AreOwnersNoted : Borders → List ℕ → Type 0

@@ -14,7 +14,7 @@ abbrev pub Covers : Option BorderFault → BorderFault → Type 0
 Covers None h = ⊥
 Covers (Some f) h = border_cmp f h ≢ Greater
 
--- the least of F, or `None` where F is empty
+-- the least of F, or `None` if F is empty
 pub record IsLeast (F : BorderFault → Type 0) (o : Option BorderFault) : Type 0 where
   pub sound : IsSound F o
   pub least : (h : BorderFault) → F h → Covers o h

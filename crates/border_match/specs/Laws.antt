@@ -1,4 +1,4 @@
--- What the laws of this crate say
+-- The statements of this crate's laws
 use Rattle.std.specs.Prelude.{◌≡◌, ℕ, ℤ, ◌<◌, ◌%◌, List, map, Option, Some, None, slice_get, IsTrue}
 use Rattle.circuit.specs.Meaning.{Valuation}
 use Rattle.module_box.specs.Boxes.{in_box, in_halo, Tile}
@@ -16,7 +16,8 @@ LeastBorderFaultIsUnique = (g : Setting) (ms : List ModuleLines) (i : ℕ) (f h 
     IsLeastBorderFault g ms i f → IsLeastBorderFault g ms i h → f ≡ h
 
 -- (t, x, y) is an odd time below the steps and a cell of the halo of module i, and module k has the cell
-pub record AreBeside (g : Setting) (ms : List ModuleLines) (i k : ℕ) (m owner : ModuleLines) (t : ℕ) (x y : ℤ) : Type 0 where
+pub record AreBeside (g : Setting) (ms : List ModuleLines) (i k : ℕ) (m owner : ModuleLines) (t : ℕ)
+    (x y : ℤ) : Type 0 where
   pub tile : Tile (whole g.size) (areas ms)
   pub numbered : slice_get ms i ≡ Some m
   pub owner_numbered : slice_get ms k ≡ Some owner
@@ -25,12 +26,14 @@ pub record AreBeside (g : Setting) (ms : List ModuleLines) (i k : ℕ) (m owner 
   pub halo : IsTrue (in_halo m.area x y)
   pub owned : IsTrue (in_box owner.area x y)
 
--- where module i has no border fault, its halo signal and the owner's edge signal are true under the same valuations
+-- if module i has no border fault, its halo signal and the owner's edge signal are true under the same valuations
 abbrev pub NoFaultMeansSameSignals : Type 0
-NoFaultMeansSameSignals = (g : Setting) (ms : List ModuleLines) (i k : ℕ) (m owner : ModuleLines) (t : ℕ) (x y : ℤ) (v : Valuation) →
+NoFaultMeansSameSignals = (g : Setting) (ms : List ModuleLines) (i k : ℕ) (m owner : ModuleLines) (t : ℕ) (x y : ℤ)
+    (v : Valuation) →
     IsLeastBorderFault g ms i None → AreBeside g ms i k m owner t x y →
     is_live v (halo_signal g.circuit m t x y) ≡ is_live v (edge_signal g.circuit owner t x y)
 
 -- a module of version 2 has no border fault
 abbrev pub HalolessBordersMatch : Type 0
-HalolessBordersMatch = (g : Setting) (ms : List ModuleLines) → AreModules g ms → (i : ℕ) (f : BorderFault) → ¬ IsBorderFault g (map (with_halos g ms) ms) i f
+HalolessBordersMatch = (g : Setting) (ms : List ModuleLines) → AreModules g ms → (i : ℕ) (f : BorderFault) →
+    ¬ IsBorderFault g (map (with_halos g ms) ms) i f

@@ -8,8 +8,10 @@ use bbm_rule::Cell;
 use module_box::compare_cells;
 use std::cmp::Ordering;
 
-/// A time and a cell at which a module does not say the same as the module that has the cell: the halo signal of the
-/// one and the edge signal of the other are neither the same constant nor the same wire of the circuit.
+/// A time and a cell at which a module does not say the same as the module that has the cell.
+///
+/// The halo signal of the one and the edge signal of the other are neither the same constant nor the same wire of the
+/// circuit.
 #[derive(Clone, Copy, Debug, PartialEq, Eq)]
 pub struct BorderFault {
     /// Odd, and below the layout's steps.
@@ -19,7 +21,7 @@ pub struct BorderFault {
 }
 
 impl BorderFault {
-    /// The order of border faults: by time, y and x.
+    /// Compares border faults by time, y and x.
     #[tactic(auto, unfolding(crate::specs::BorderFaults::border_cmp))]
     pub fn compare(self, other: BorderFault) -> Ordering
         ensures { result ≡ border_cmp self other }

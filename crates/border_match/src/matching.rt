@@ -53,14 +53,13 @@ fn no_faults(alloc: Global, count: usize) -> Result<Vec<Option<BorderFault>>, Al
     vec![in alloc; None; count]
 }
 
-/// The least border fault of each module of the certificate, by time, then y, then x, or `None` where the module has
-/// none; one for each module, in their order. `specs/BorderFaults.antt` says what a border fault is. In version 2 no
-/// module has one.
+/// Returns the least border fault of each module of the certificate, by time, then y, then x, or `None` if it has none.
 ///
-/// The jobs are the certificate's, as [`Cert::jobs`](certificate::Cert::jobs) makes them.
+/// There is one entry for each module, in their order. `specs/BorderFaults.antt` defines border faults. In version 2 no
+/// module has one. The jobs are the certificate's, as [`Cert::jobs`](certificate::Cert::jobs) makes them.
 ///
-/// `AllocError` is want of memory, which is taken for the modules' boxes, a table of the rectangle's blocks of two by
-/// two cells, the numbers of the modules near one, and the answer.
+/// It takes memory for the modules' boxes, a table of the rectangle's blocks of two by two cells, the numbers of the
+/// modules near one, and the answer.
 pub fn match_borders(
     alloc: Global,
     cert: &Cert,

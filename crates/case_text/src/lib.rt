@@ -15,16 +15,16 @@
 //! status 3
 //! ```
 //!
-//! The words are parted by single spaces. The lines below `input`, `output` and `errors` are one text: of
-//! standard input, output and error. A bar alone is an empty line. A part without lines is the empty text.
-//! Where `input` is left out it is empty, where `status` is left out it is 0, and where `output` or `errors`
-//! is left out anything may be written there.
+//! The words are parted by single spaces. The lines below `input`, `output` and `errors` are one text: of standard
+//! input, output and error. A bar alone is an empty line. A part without lines is the empty text. If `input` is left
+//! out it is empty, and if `status` is left out it is 0. If `output` or `errors` is left out, anything may be written
+//! there.
 #![tactic(auto)]
 
 use std::alloc::{AllocError, AllocFailed, Global};
 use thiserror::Error;
 
-/// A case. What is `None` is not compared.
+/// A case. A part that is `None` is not compared.
 #[derive(Drop)]
 pub struct Case<'a> {
     pub name: &'a str,
@@ -35,7 +35,7 @@ pub struct Case<'a> {
     pub status: u8,
 }
 
-/// Why a file of cases is not read.
+/// The reason why a file of cases is not read.
 #[derive(Clone, Copy, Debug, Drop, Error)]
 pub enum CaseFault {
     #[error("after {0} lines there is none that a file of cases may have")]

@@ -1,18 +1,22 @@
--- What the lines on delays and meetings tell of their gates.
-use Rattle.std.proofs.Common.{◌≡◌, ℕ, zero, suc, ◌+◌, ◌-◌, ◌<◌, ◌≤◌, Bool, true, false, if◌then◌else◌, List, [], ◌∷◌, length, Option, Some, None, refl, sym, ap, subst, ◌∙◌, arith}
+-- The lines on delays and meetings are right about their gates.
+use Rattle.std.proofs.Common.{◌≡◌, ℕ, zero, suc, ◌+◌, ◌-◌, ◌<◌, ◌≤◌, Bool, true, false, if◌then◌else◌, List, [], ◌∷◌}
+use Rattle.std.proofs.Common.{length, Option, Some, None, refl, sym, ap, subst, ◌∙◌, arith}
 use Rattle.std.specs.Prelude.{slice_get, Contains, nat_lt, nat_le, ◌==◌, min, max}
 use Rattle.std.specs.List.{All, fold, list_all}
 use Rattle.std.specs.Option.{option_to_list}
 use Rattle.std.proofs.lemmas.Bool.{and_parts, eqb-true}
 use Rattle.std.proofs.lemmas.Bool.Decides.{nat_tests}
-use Rattle.std.proofs.lemmas.List.Elements.{All-nil, All-cons, All-head, All-tail, All-append, All-contains, Contains-append_left, Contains-append_right}
+use Rattle.std.proofs.lemmas.List.Elements.{All-nil, All-cons, All-head, All-tail, All-append, All-contains}
+use Rattle.std.proofs.lemmas.List.Elements.{Contains-append_left, Contains-append_right}
 use Rattle.std.proofs.lemmas.List.Folds.{list_all-append}
 use Rattle.std.proofs.lemmas.Option.{same_Some}
 use Rattle.circuit.specs.Gates.{Rule, Source, Fredkin, Cswap, Interact, Switch, Delay, Unswitch, Uninteract}
 use Rattle.circuit.specs.Meaning.{Circuit, Gate}
-use Rattle.certificate.specs.Arrivals.{AreOnTime, IsFirstTime, IsLastTime, MeetAt, TakesSteps, Tells, TellsOfDelay, TellsOfMeeting}
+use Rattle.certificate.specs.Arrivals.{AreOnTime, IsFirstTime, IsLastTime, MeetAt, TakesSteps, Tells, TellsOfDelay}
+use Rattle.certificate.specs.Arrivals.{TellsOfMeeting}
 use Rattle.certificate.specs.Laws.{KeptIsOnTime, LinesTell}
-use Rattle.certificate.specs.Times.{agreed, all_stops, delay_by, delay_line, earlier, first_seen, gap_between, is_kept, last_seen, last_times, later, meet_by, meet_line, numbered, of_wire, times_of}
+use Rattle.certificate.specs.Times.{agreed, all_stops, delay_by, delay_line, earlier, first_seen, gap_between, is_kept}
+use Rattle.certificate.specs.Times.{last_seen, last_times, later, meet_by, meet_line, numbered, of_wire, times_of}
 use Rattle.certificate_lines.specs.declared.entry.StopLine.{StopLine}
 use Rattle.certificate.specs.declared.times.Gap.{Gap}
 use Rattle.certificate.specs.declared.times.Gap.TheVariants.{Steps, Missing, Before}
@@ -74,10 +78,12 @@ later_by : (l f m : ℕ) → nat_lt f l ≡ false → f - l ≡ m → f ≡ l + 
 later_by l f m no_less e = grind (arith, nat_tests)
 
 -- from the last time of one wire to the first time of another
-gap_steps : (last first : Option ℕ) (m : ℕ) → gap_between last first ≡ Steps m → (l : ℕ) × (last ≡ Some l) × (first ≡ Some (l + m))
+gap_steps : (last first : Option ℕ) (m : ℕ) → gap_between last first ≡ Steps m →
+    (l : ℕ) × (last ≡ Some l) × (first ≡ Some (l + m))
 gap_steps None first m e = absurd cc
 gap_steps (Some l) None m e = absurd cc
-gap_steps (Some l) (Some f) m e = let parts = if_before (nat_lt f l) (f - l) m e in (l, refl, ap Some (later_by l f m parts.0 parts.1))
+gap_steps (Some l) (Some f) m e = let parts = if_before (nat_lt f l) (f - l) m e in
+    (l, refl, ap Some (later_by l f m parts.0 parts.1))
 
 gap_missing : (last first : Option ℕ) (l f : ℕ) → gap_between last first ≡ Missing → last ≡ Some l → first ≡ Some f → ⊥
 gap_missing None first l f e p q = absurd cc
@@ -88,7 +94,8 @@ gap_missing (Some k) (Some g) l f e p q = by_case (nat_lt g k) e
     by_case true e = cc
     by_case false e = cc
 
-gap_before : (last first : Option ℕ) → gap_between last first ≡ Before → (l : ℕ) × (f : ℕ) × (last ≡ Some l) × (first ≡ Some f) × (f < l)
+gap_before : (last first : Option ℕ) → gap_between last first ≡ Before →
+    (l : ℕ) × (f : ℕ) × (last ≡ Some l) × (first ≡ Some f) × (f < l)
 gap_before None first e = absurd cc
 gap_before (Some k) None e = absurd cc
 gap_before (Some k) (Some g) e = by_case (nat_lt g k) refl e
@@ -96,22 +103,27 @@ gap_before (Some k) (Some g) e = by_case (nat_lt g k) refl e
     less_than : (g k : ℕ) → nat_lt g k ≡ true → g < k
     less_than g k less = grind (arith, nat_tests)
 
-    by_case : (b : Bool) → nat_lt g k ≡ b → (if b then Before else Steps (g - k)) ≡ Before → (l : ℕ) × (f : ℕ) × (Some k ≡ Some l) × (Some g ≡ Some f) × (f < l)
+    by_case : (b : Bool) → nat_lt g k ≡ b → (if b then Before else Steps (g - k)) ≡ Before →
+        (l : ℕ) × (f : ℕ) × (Some k ≡ Some l) × (Some g ≡ Some f) × (f < l)
     by_case true less e = (k, g, refl, refl, less_than g k less)
     by_case false less e = absurd cc
 
 -- the gap of a gate with one wire on each side
-own_gap : (c : Circuit) (ss : List StopLine) (ins outs : List ℕ) (a b : ℕ) (gap : Gap) → gap_between (of_wire (last_seen c ss) ins) (of_wire (first_seen c ss) outs) ≡ gap →
+own_gap : (c : Circuit) (ss : List StopLine) (ins outs : List ℕ) (a b : ℕ) (gap : Gap) →
+    gap_between (of_wire (last_seen c ss) ins) (of_wire (first_seen c ss) outs) ≡ gap →
     ins ≡ a ∷ [] → outs ≡ b ∷ [] → gap_between (last_seen c ss a) (first_seen c ss b) ≡ gap
 own_gap c ss ins outs a b gap e one_in one_out =
-    sym (ap (λ (ws : List ℕ). gap_between (of_wire (last_seen c ss) ws) (of_wire (first_seen c ss) outs)) one_in ∙ ap (λ (ws : List ℕ). gap_between (last_seen c ss a) (of_wire (first_seen c ss) ws)) one_out) ∙ e
+    sym (ap (λ (ws : List ℕ). gap_between (of_wire (last_seen c ss) ws) (of_wire (first_seen c ss) outs)) one_in
+    ∙ ap (λ (ws : List ℕ). gap_between (last_seen c ss a) (of_wire (first_seen c ss) ws)) one_out) ∙ e
 
-takes : (c : Circuit) (ss : List StopLine) (m a b : ℕ) → gap_between (last_seen c ss a) (first_seen c ss b) ≡ Steps m → TakesSteps c ss m a b
+takes : (c : Circuit) (ss : List StopLine) (m a b : ℕ) → gap_between (last_seen c ss a) (first_seen c ss b) ≡ Steps m →
+    TakesSteps c ss m a b
 takes c ss m a b e =
     let h = gap_steps (last_seen c ss a) (first_seen c ss b) m e in
     record { leaves = h.0; last = is_last c ss a h.0 h.1; first = is_first c ss b (h.0 + m) h.2 }
 
-gap_tells : (c : Circuit) (ss : List StopLine) (a b : ℕ) (gap : Gap) → gap_between (last_seen c ss a) (first_seen c ss b) ≡ gap → TellsOfDelay c ss gap a b
+gap_tells : (c : Circuit) (ss : List StopLine) (a b : ℕ) (gap : Gap) →
+    gap_between (last_seen c ss a) (first_seen c ss b) ≡ gap → TellsOfDelay c ss gap a b
 gap_tells c ss a b (Steps m) e = takes c ss m a b e
 gap_tells c ss a b Missing e = λ s t last first. gap_missing _ _ s t e (last_is c ss a s last) (first_is c ss b t first)
 gap_tells c ss a b Before e =
@@ -125,14 +137,19 @@ time_there None s e = absurd cc
 time_there (Some t) s e = (zero, omega arith, same_Some t s e)
 
 -- the last time of a wire is among the last times
-listed : (last : ℕ → Option ℕ) (ws : List ℕ) (w s : ℕ) → Contains ws w → last w ≡ Some s → Contains (last_times last ws) s
+listed : (last : ℕ → Option ℕ) (ws : List ℕ) (w s : ℕ) → Contains ws w → last w ≡ Some s →
+    Contains (last_times last ws) s
 listed last [] w s h e = absurd (nothing_there w h)
-listed last (v ∷ ws) w s (zero, lt, is) e = Contains-append_left (option_to_list (last v)) (last_times last ws) s (time_there (last v) s (ap last is ∙ e))
-listed last (v ∷ ws) w s (suc k, lt, is) e = Contains-append_right (option_to_list (last v)) (last_times last ws) s (listed last ws w s (k, (omega (arith, lt)), is) e)
+listed last (v ∷ ws) w s (zero, lt, is) e =
+    Contains-append_left (option_to_list (last v)) (last_times last ws) s (time_there (last v) s (ap last is ∙ e))
+listed last (v ∷ ws) w s (suc k, lt, is) e =
+    Contains-append_right (option_to_list (last v)) (last_times last ws) s
+    (listed last ws w s (k, (omega (arith, lt)), is) e)
 
 all_equal : (t : ℕ) (ts : List ℕ) → list_all (λ u. u == t) ts ≡ true → All (λ u. u ≡ t) ts
 all_equal t [] e = All-nil (λ u. u ≡ t)
-all_equal t (u ∷ ts) e = let p = and_parts (u == t) (list_all (λ v. v == t) ts) e in All-cons (λ v. v ≡ t) u ts (eqb-true u t p.0) (all_equal t ts p.1)
+all_equal t (u ∷ ts) e = let p = and_parts (u == t) (list_all (λ v. v == t) ts) e in
+    All-cons (λ v. v ≡ t) u ts (eqb-true u t p.0) (all_equal t ts p.1)
 
 is_equal : (u t : ℕ) → u ≡ t → (u == t) ≡ true
 is_equal u t e = grind (arith, nat_tests)
@@ -147,8 +164,10 @@ agreed_all : (ts : List ℕ) (t : ℕ) → agreed ts ≡ Some t → All (λ u. u
 agreed_all [] t e = absurd cc
 agreed_all (a ∷ ts) t e = by_case (list_all (λ u. u == a) ts) refl e
   where
-    by_case : (b : Bool) → list_all (λ u. u == a) ts ≡ b → (if b then Some a else None) ≡ Some t → All (λ u. u ≡ t) (a ∷ ts)
-    by_case true all e = let same = same_Some a t e in All-cons (λ u. u ≡ t) a ts same (subst (λ (r : ℕ). All (λ u. u ≡ r) ts) same (all_equal a ts all))
+    by_case : (b : Bool) → list_all (λ u. u == a) ts ≡ b → (if b then Some a else None) ≡ Some t →
+        All (λ u. u ≡ t) (a ∷ ts)
+    by_case true all e = let same = same_Some a t e in
+        All-cons (λ u. u ≡ t) a ts same (subst (λ (r : ℕ). All (λ u. u ≡ r) ts) same (all_equal a ts all))
     by_case false all e = absurd cc
 
 none_agreed : (ts : List ℕ) (t : ℕ) → 0 < length ts → agreed ts ≡ None → All (λ u. u ≡ t) ts → ⊥
@@ -166,10 +185,12 @@ each_time : (P : ℕ → Type 0) (o : Option ℕ) → ((s : ℕ) → o ≡ Some 
 each_time P None h = All-nil P
 each_time P (Some s) h = All-cons P s [] (h s refl) (All-nil P)
 
-all_times : (P : ℕ → Type 0) (last : ℕ → Option ℕ) (ws : List ℕ) → ((w s : ℕ) → Contains ws w → last w ≡ Some s → P s) → All P (last_times last ws)
+all_times : (P : ℕ → Type 0) (last : ℕ → Option ℕ) (ws : List ℕ) → ((w s : ℕ) → Contains ws w → last w ≡ Some s → P s) →
+    All P (last_times last ws)
 all_times P last [] h = All-nil P
 all_times P last (v ∷ ws) h =
-    All-append P (option_to_list (last v)) (last_times last ws) (each_time P (last v) (λ s e. h v s zero_there e)) (all_times P last ws (λ w s there e. h w s (later_there w there) e))
+    All-append P (option_to_list (last v)) (last_times last ws) (each_time P (last v) (λ s e. h v s zero_there e))
+    (all_times P last ws (λ w s there e. h w s (later_there w there) e))
   where
     zero_there : Contains (v ∷ ws) v
     zero_there = (zero, omega arith, refl)
@@ -177,19 +198,25 @@ all_times P last (v ∷ ws) h =
     later_there : (w : ℕ) → Contains ws w → Contains (v ∷ ws) w
     later_there w there = (suc there.0, (let lt = there.1 in omega (arith, lt)), there.2)
 
-meet_at : (c : Circuit) (ss : List StopLine) (ws : List ℕ) (t : ℕ) → All (λ u. u ≡ t) (last_times (last_seen c ss) ws) → MeetAt c ss ws t
-meet_at c ss ws t h w s there last = All-contains (λ u. u ≡ t) (last_times (last_seen c ss) ws) s h (listed (last_seen c ss) ws w s there (last_is c ss w s last))
+meet_at : (c : Circuit) (ss : List StopLine) (ws : List ℕ) (t : ℕ) → All (λ u. u ≡ t) (last_times (last_seen c ss) ws) →
+    MeetAt c ss ws t
+meet_at c ss ws t h w s there last =
+    All-contains (λ u. u ≡ t) (last_times (last_seen c ss) ws) s h
+    (listed (last_seen c ss) ws w s there (last_is c ss w s last))
 
-all_meet : (c : Circuit) (ss : List StopLine) (ws : List ℕ) (t : ℕ) → MeetAt c ss ws t → All (λ u. u ≡ t) (last_times (last_seen c ss) ws)
+all_meet : (c : Circuit) (ss : List StopLine) (ws : List ℕ) (t : ℕ) → MeetAt c ss ws t →
+    All (λ u. u ≡ t) (last_times (last_seen c ss) ws)
 all_meet c ss ws t h = all_times (λ u. u ≡ t) (last_seen c ss) ws (λ w s there e. h w s there (is_last c ss w s e))
 
-meet_tells : (c : Circuit) (ss : List StopLine) (ws : List ℕ) (o : Option ℕ) → 0 < length (last_times (last_seen c ss) ws) → agreed (last_times (last_seen c ss) ws) ≡ o → TellsOfMeeting c ss o ws
+meet_tells : (c : Circuit) (ss : List StopLine) (ws : List ℕ) (o : Option ℕ) →
+    0 < length (last_times (last_seen c ss) ws) → agreed (last_times (last_seen c ss) ws) ≡ o → TellsOfMeeting c ss o ws
 meet_tells c ss ws (Some t) some e = meet_at c ss ws t (agreed_all _ t e)
 meet_tells c ss ws None some e = λ t meet. none_agreed _ t some e (all_meet c ss ws t meet)
 
 -- ---- the lines of all gates
 
-delay_lines_tell : (c : Circuit) (ss : List StopLine) (k : ℕ) (r : Rule) (g : Gate) → slice_get c.netlist.gates k ≡ Some g → g.kind ≡ r →
+delay_lines_tell : (c : Circuit) (ss : List StopLine) (k : ℕ) (r : Rule) (g : Gate) →
+    slice_get c.netlist.gates k ≡ Some g → g.kind ≡ r →
     All (Tells c ss) (delay_by k r (gap_between (of_wire (last_seen c ss) g.ins) (of_wire (first_seen c ss) g.outs)))
 delay_lines_tell c ss k (Source b) g at is = All-nil (Tells c ss)
 delay_lines_tell c ss k Fredkin g at is = All-nil (Tells c ss)
@@ -197,11 +224,14 @@ delay_lines_tell c ss k Cswap g at is = All-nil (Tells c ss)
 delay_lines_tell c ss k Interact g at is = All-nil (Tells c ss)
 delay_lines_tell c ss k Switch g at is = All-nil (Tells c ss)
 delay_lines_tell c ss k (Delay n) g at is =
-    All-cons (Tells c ss) _ [] (g, at, is, λ a b one_in one_out. gap_tells c ss a b _ (own_gap c ss g.ins g.outs a b _ refl one_in one_out)) (All-nil (Tells c ss))
+    All-cons (Tells c ss) _ []
+    (g, at, is, λ a b one_in one_out. gap_tells c ss a b _ (own_gap c ss g.ins g.outs a b _ refl one_in one_out))
+    (All-nil (Tells c ss))
 delay_lines_tell c ss k Unswitch g at is = All-nil (Tells c ss)
 delay_lines_tell c ss k Uninteract g at is = All-nil (Tells c ss)
 
-meet_lines_tell : (c : Circuit) (ss : List StopLine) (k : ℕ) (g : Gate) → slice_get c.netlist.gates k ≡ Some g → All (Tells c ss) (meet_line (last_seen c ss) k g)
+meet_lines_tell : (c : Circuit) (ss : List StopLine) (k : ℕ) (g : Gate) → slice_get c.netlist.gates k ≡ Some g →
+    All (Tells c ss) (meet_line (last_seen c ss) k g)
 meet_lines_tell c ss k g at = by_case (nat_le 2 (length ts)) refl
   where
     ts : List ℕ
@@ -214,7 +244,8 @@ meet_lines_tell c ss k g at = by_case (nat_le 2 (length ts)) refl
     by_case true e = All-cons (Tells c ss) _ [] (g, at, meet_tells c ss g.ins _ (two e) refl) (All-nil (Tells c ss))
     by_case false e = All-nil (Tells c ss)
 
-all_numbered : (P : TimeLine → Type 0) (f : ℕ → Gate → List TimeLine) (all : List Gate) → ((k : ℕ) (g : Gate) → slice_get all k ≡ Some g → All P (f k g)) →
+all_numbered : (P : TimeLine → Type 0) (f : ℕ → Gate → List TimeLine) (all : List Gate) →
+    ((k : ℕ) (g : Gate) → slice_get all k ≡ Some g → All P (f k g)) →
     (j : ℕ) (gates : List Gate) → ((i : ℕ) → slice_get gates i ≡ slice_get all (j + i)) → All P (numbered f j gates)
 unfolding numbered
 all_numbered P f all each j [] at = All-nil P
@@ -230,20 +261,26 @@ pub lines_tell : LinesTell
 lines_tell c ms =
     let ss = all_stops ms in
     All-append (Tells c ss) _ _
-    (all_numbered (Tells c ss) (delay_line (first_seen c ss) (last_seen c ss)) c.netlist.gates (λ k g at. delay_lines_tell c ss k g.kind g at refl) 0 c.netlist.gates (from_none c.netlist.gates))
-    (all_numbered (Tells c ss) (meet_line (last_seen c ss)) c.netlist.gates (meet_lines_tell c ss) 0 c.netlist.gates (from_none c.netlist.gates))
+    (all_numbered (Tells c ss) (delay_line (first_seen c ss) (last_seen c ss)) c.netlist.gates
+    (λ k g at. delay_lines_tell c ss k g.kind g at refl) 0 c.netlist.gates (from_none c.netlist.gates))
+    (all_numbered (Tells c ss) (meet_line (last_seen c ss)) c.netlist.gates (meet_lines_tell c ss) 0 c.netlist.gates
+    (from_none c.netlist.gates))
 
 -- ---- where all are kept
 
-kept_at : (f : ℕ → Gate → List TimeLine) (j : ℕ) (gates : List Gate) (i : ℕ) (g : Gate) → list_all is_kept (numbered f j gates) ≡ true → slice_get gates i ≡ Some g → list_all is_kept (f (j + i) g) ≡ true
+kept_at : (f : ℕ → Gate → List TimeLine) (j : ℕ) (gates : List Gate) (i : ℕ) (g : Gate) →
+    list_all is_kept (numbered f j gates) ≡ true → slice_get gates i ≡ Some g → list_all is_kept (f (j + i) g) ≡ true
 unfolding numbered
 kept_at f j [] i g e at = absurd cc
 kept_at f j (h ∷ gates) zero g e at =
-    let p = and_parts (list_all is_kept (f j h)) (list_all is_kept (numbered f (j + 1) gates)) (sym (list_all-append is_kept (f j h) (numbered f (j + 1) gates)) ∙ e) in
+    let p = and_parts (list_all is_kept (f j h)) (list_all is_kept (numbered f (j + 1) gates))
+    (sym (list_all-append is_kept (f j h) (numbered f (j + 1) gates)) ∙ e) in
     let same : h ≡ g = same_Some h g at in
-    subst (λ (r : Gate). list_all is_kept (f (j + 0) r) ≡ true) same (subst (λ n. list_all is_kept (f n h) ≡ true) (omega arith) p.0)
+    subst (λ (r : Gate). list_all is_kept (f (j + 0) r) ≡ true) same
+    (subst (λ n. list_all is_kept (f n h) ≡ true) (omega arith) p.0)
 kept_at f j (h ∷ gates) (suc i) g e at =
-    let p = and_parts (list_all is_kept (f j h)) (list_all is_kept (numbered f (j + 1) gates)) (sym (list_all-append is_kept (f j h) (numbered f (j + 1) gates)) ∙ e) in
+    let p = and_parts (list_all is_kept (f j h)) (list_all is_kept (numbered f (j + 1) gates))
+    (sym (list_all-append is_kept (f j h) (numbered f (j + 1) gates)) ∙ e) in
     subst (λ n. list_all is_kept (f n g) ≡ true) (omega arith) (kept_at f (j + 1) gates i g p.1 at)
 
 kept_gap : (k n : ℕ) (gap : Gap) → list_all is_kept (line.Delay k n gap ∷ []) ≡ true → gap ≡ Steps n
@@ -254,12 +291,15 @@ kept_gap k n Before e = absurd cc
 meeting_of : (k : ℕ) (ts : List ℕ) → list_all is_kept (meet_by k ts) ≡ true → (t : ℕ) × All (λ u. u ≡ t) ts
 meeting_of k [] e = (0, All-nil (λ u. u ≡ 0))
 meeting_of k (a ∷ []) e = (a, All-cons (λ u. u ≡ a) a [] refl (All-nil (λ u. u ≡ a)))
-meeting_of k (a ∷ b ∷ ts) e = by_case (agreed (a ∷ b ∷ ts)) refl (sym (ap (λ (two : Bool). list_all is_kept (if two then line.Meet k (agreed (a ∷ b ∷ ts)) ∷ [] else [])) two) ∙ e)
+meeting_of k (a ∷ b ∷ ts) e =
+    by_case (agreed (a ∷ b ∷ ts)) refl
+    (sym (ap (λ (two : Bool). list_all is_kept (if two then line.Meet k (agreed (a ∷ b ∷ ts)) ∷ [] else [])) two) ∙ e)
   where
     two : nat_le 2 (length (a ∷ b ∷ ts)) ≡ true
     two = grind (arith, nat_tests)
 
-    by_case : (o : Option ℕ) → agreed (a ∷ b ∷ ts) ≡ o → list_all is_kept (line.Meet k o ∷ []) ≡ true → (t : ℕ) × All (λ u. u ≡ t) (a ∷ b ∷ ts)
+    by_case : (o : Option ℕ) → agreed (a ∷ b ∷ ts) ≡ o → list_all is_kept (line.Meet k o ∷ []) ≡ true →
+        (t : ℕ) × All (λ u. u ≡ t) (a ∷ b ∷ ts)
     by_case (Some t) is kept = (t, agreed_all (a ∷ b ∷ ts) t is)
     by_case None is kept = absurd cc
 
@@ -268,10 +308,13 @@ kept_is_on_time c ms kept =
     let ss = all_stops ms in
     let delays = numbered (delay_line (first_seen c ss) (last_seen c ss)) 0 c.netlist.gates in
     let meetings = numbered (meet_line (last_seen c ss)) 0 c.netlist.gates in
-    let p = and_parts (list_all is_kept delays) (list_all is_kept meetings) (sym (list_all-append is_kept delays meetings) ∙ kept) in
+    let p = and_parts (list_all is_kept delays) (list_all is_kept meetings)
+    (sym (list_all-append is_kept delays meetings) ∙ kept) in
     record {
-      delays = λ k n a b is. takes c ss n a b (kept_gap (0 + k) n _ (kept_at (delay_line (first_seen c ss) (last_seen c ss)) 0 c.netlist.gates k _ p.0 is));
+      delays = λ k n a b is. takes c ss n a b
+          (kept_gap (0 + k) n _ (kept_at (delay_line (first_seen c ss) (last_seen c ss)) 0 c.netlist.gates k _ p.0 is));
       meetings = λ k g at.
-          let m = meeting_of (0 + k) (last_times (last_seen c ss) g.ins) (kept_at (meet_line (last_seen c ss)) 0 c.netlist.gates k g p.1 at) in
+          let m = meeting_of (0 + k) (last_times (last_seen c ss) g.ins)
+          (kept_at (meet_line (last_seen c ss)) 0 c.netlist.gates k g p.1 at) in
           (m.0, meet_at c ss g.ins m.0 m.1);
     }

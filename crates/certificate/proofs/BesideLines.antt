@@ -1,5 +1,6 @@
 -- The lines beside a module, one after the other
-use Rattle.std.proofs.Common.{◌≡◌, ℕ, ◌+◌, ◌<◌, ◌≤◌, Bool, true, false, if◌then◌else◌, List, [], ◌∷◌, ◌++◌, drop, length, map, take, get_or, Some, inl, inr, refl, sym, ap, subst, ◌∙◌, arith, append_assoc}
+use Rattle.std.proofs.Common.{◌≡◌, ℕ, ◌+◌, ◌<◌, ◌≤◌, Bool, true, false, if◌then◌else◌, List, [], ◌∷◌, ◌++◌, drop}
+use Rattle.std.proofs.Common.{length, map, take, get_or, Some, inl, inr, refl, sym, ap, subst, ◌∙◌, arith, append_assoc}
 use Rattle.std.specs.Prelude.{slice_get}
 use Rattle.std.specs.List.{filter, flat_map}
 use Rattle.std.proofs.lemmas.List.{append-nil, drop_all, length-map, length_push, map-append, take_all}
@@ -23,22 +24,31 @@ use Rattle.certificate_lines.proofs.ModuleSplit.{split_module, split_other}
 use Rattle.certificate.proofs.TimetableLemmas.{next_line}
 use Rattle.certificate_lines.proofs.LinesLeft.{line_here, nothing_left}
 
-cond_append : {A : Type 0} (b : Bool) (x : A) (xs ys : List A) → (if b then x ∷ (xs ++ ys) else xs ++ ys) ≡ (if b then x ∷ xs else xs) ++ ys
+cond_append : {A : Type 0} (b : Bool) (x : A) (xs ys : List A) →
+    (if b then x ∷ (xs ++ ys) else xs ++ ys) ≡ (if b then x ∷ xs else xs) ++ ys
 cond_append true x xs ys = refl
 cond_append false x xs ys = refl
 
-pub filter-append : {A : Type 0} (test : A → Bool) (xs ys : List A) → filter test (xs ++ ys) ≡ filter test xs ++ filter test ys
+pub filter-append : {A : Type 0} (test : A → Bool) (xs ys : List A) →
+    filter test (xs ++ ys) ≡ filter test xs ++ filter test ys
 filter-append test [] ys = refl
-filter-append test (x ∷ xs) ys = ap (λ l. if test x then x ∷ l else l) (filter-append test xs ys) ∙ cond_append (test x) x (filter test xs) (filter test ys)
+filter-append test (x ∷ xs) ys =
+    ap (λ l. if test x then x ∷ l else l) (filter-append test xs ys)
+    ∙ cond_append (test x) x (filter test xs) (filter test ys)
 
 -- what passes of one line more
-pub next_passed : {A X : Type 0} (test : A → Bool) (f : X → List A) (xs : List X) (i : ℕ) (x : X) (old now next : List A) → i < length xs → x ≡ get_or xs i x →
-    now ≡ old ++ filter test (flat_map f (take i xs)) → next ≡ now ++ filter test (f x) → next ≡ old ++ filter test (flat_map f (take (i + 1) xs))
+pub next_passed : {A X : Type 0} (test : A → Bool) (f : X → List A) (xs : List X) (i : ℕ) (x : X)
+    (old now next : List A) → i < length xs → x ≡ get_or xs i x →
+    now ≡ old ++ filter test (flat_map f (take i xs)) → next ≡ now ++ filter test (f x) →
+    next ≡ old ++ filter test (flat_map f (take (i + 1) xs))
 next_passed test f xs i x old now next lt e before after =
-    after ∙ ap (λ l. l ++ filter test (f x)) before ∙ append_assoc old (filter test (flat_map f (take i xs))) (filter test (f x))
-    ∙ ap (λ l. old ++ l) (sym (filter-append test (flat_map f (take i xs)) (f x)) ∙ ap (filter test) (next_line f xs i x lt e))
+    after ∙ ap (λ l. l ++ filter test (f x)) before
+    ∙ append_assoc old (filter test (flat_map f (take i xs))) (filter test (f x))
+    ∙ ap (λ l. old ++ l) (sym (filter-append test (flat_map f (take i xs)) (f x))
+    ∙ ap (filter test) (next_line f xs i x lt e))
 
-pub all_passed : {A X : Type 0} (test : A → Bool) (f : X → List A) (xs : List X) (i : ℕ) (old now : List A) → length xs ≤ i →
+pub all_passed : {A X : Type 0} (test : A → Bool) (f : X → List A) (xs : List X) (i : ℕ) (old now : List A) →
+    length xs ≤ i →
     now ≡ old ++ filter test (flat_map f (take i xs)) → now ≡ old ++ filter test (flat_map f xs)
 all_passed test f xs i old now le h = h ∙ ap (λ l. old ++ filter test (flat_map f l)) (take_all i xs le)
 
@@ -47,40 +57,52 @@ all_passed test f xs i old now le h = h ∙ ap (λ l. old ++ filter test (flat_m
 pub no_parts : (es : List Entry) → map part_lines [] ++ modules_of (drop 0 es) ≡ modules_of es
 no_parts es = refl
 
-pub other_line_on : (es : List Entry) (place : ℕ) (e : Entry) (ps : List Part) → place < length es → e ≡ get_or es place e → is_module e ≡ false →
-    map part_lines ps ++ modules_of (drop place es) ≡ modules_of es → map part_lines ps ++ modules_of (drop (place + 1) es) ≡ modules_of es
+pub other_line_on : (es : List Entry) (place : ℕ) (e : Entry) (ps : List Part) → place < length es →
+    e ≡ get_or es place e → is_module e ≡ false →
+    map part_lines ps ++ modules_of (drop place es) ≡ modules_of es →
+    map part_lines ps ++ modules_of (drop (place + 1) es) ≡ modules_of es
 other_line_on es place e ps lt at other h =
-    ap (λ ms. map part_lines ps ++ ms) (sym (split_other e (drop (place + 1) es) other) ∙ sym (ap modules_of (line_here es place e lt at))) ∙ h
+    ap (λ ms. map part_lines ps ++ ms)
+    (sym (split_other e (drop (place + 1) es) other) ∙ sym (ap modules_of (line_here es place e lt at))) ∙ h
 
-pub one_part : (es : List Entry) (place : ℕ) (area : Box2) (part : Part) (ps qs : List Part) → place < length es → Module area ≡ get_or es place (Module area) →
+pub one_part : (es : List Entry) (place : ℕ) (area : Box2) (part : Part) (ps qs : List Part) → place < length es →
+    Module area ≡ get_or es place (Module area) →
     part_lines part ≡ record { area = area; lines = inner (drop (place + 1) es) } → qs ≡ ps ++ part ∷ [] →
-    map part_lines ps ++ modules_of (drop place es) ≡ modules_of es → map part_lines qs ++ modules_of (drop (place + 1) es) ≡ modules_of es
+    map part_lines ps ++ modules_of (drop place es) ≡ modules_of es →
+    map part_lines qs ++ modules_of (drop (place + 1) es) ≡ modules_of es
 one_part es place area part ps qs lt at is grown h =
     ap (λ l. map part_lines l ++ modules_of (drop (place + 1) es)) grown
     ∙ ap (λ l. l ++ modules_of (drop (place + 1) es)) (map-append part_lines ps (part ∷ []))
     ∙ append_assoc (map part_lines ps) (part_lines part ∷ []) (modules_of (drop (place + 1) es))
     ∙ ap (λ m. map part_lines ps ++ m ∷ modules_of (drop (place + 1) es)) is
-    ∙ ap (λ ms. map part_lines ps ++ ms) (sym (split_module area (drop (place + 1) es)) ∙ sym (ap modules_of (line_here es place (Module area) lt at)))
+    ∙ ap (λ ms. map part_lines ps ++ ms)
+    (sym (split_module area (drop (place + 1) es)) ∙ sym (ap modules_of (line_here es place (Module area) lt at)))
     ∙ h
 
-pub all_parts : (es : List Entry) (place : ℕ) (ps : List Part) → length es ≤ place → map part_lines ps ++ modules_of (drop place es) ≡ modules_of es → map part_lines ps ≡ modules_of es
-all_parts es place ps le h = sym (append-nil (map part_lines ps)) ∙ ap (λ ms. map part_lines ps ++ ms) (sym (ap modules_of (drop_all place es le) ∙ nothing_left)) ∙ h
+pub all_parts : (es : List Entry) (place : ℕ) (ps : List Part) → length es ≤ place →
+    map part_lines ps ++ modules_of (drop place es) ≡ modules_of es → map part_lines ps ≡ modules_of es
+all_parts es place ps le h = sym (append-nil (map part_lines ps))
+    ∙ ap (λ ms. map part_lines ps ++ ms) (sym (ap modules_of (drop_all place es le) ∙ nothing_left)) ∙ h
 
 -- ---- the jobs of the modules before a module
 
-pub part_at : (parts : List Part) (i : ℕ) (part : Part) → i < length parts → part ≡ get_or parts i part → slice_get (map part_lines parts) i ≡ Some (part_lines part)
+pub part_at : (parts : List Part) (i : ℕ) (part : Part) → i < length parts → part ≡ get_or parts i part →
+    slice_get (map part_lines parts) i ≡ Some (part_lines part)
 part_at parts i part lt is = mapped_at part_lines parts i part (slice_get_read parts (length parts) i part refl lt is)
 
-pub record PartJobs (c : Circuit) (p : Pattern) (g : Setting) (ms : List ModuleLines) (done : ℕ) (js : List JobState) : Type 0 where
+pub record PartJobs (c : Circuit) (p : Pattern) (g : Setting) (ms : List ModuleLines) (done : ℕ)
+    (js : List JobState) : Type 0 where
   pub count : length js ≡ done
   pub few : done ≤ length ms
-  pub each : (i : ℕ) (m : ModuleLines) (j : JobState) → slice_get ms i ≡ Some m → slice_get js i ≡ Some j → IsJobOf c p (with_halos g ms m) j
+  pub each : (i : ℕ) (m : ModuleLines) (j : JobState) → slice_get ms i ≡ Some m → slice_get js i ≡ Some j →
+      IsJobOf c p (with_halos g ms m) j
 
 module _ (c : Circuit) (p : Pattern) (g : Setting) (ms : List ModuleLines) where
   pub no_part_jobs : PartJobs c p g ms 0 []
   no_part_jobs = record { count = refl; few = omega arith; each = λ i m j a b. absurd cc }
 
-  pub one_part_more : (done : ℕ) (js : List JobState) (m : ModuleLines) (j : JobState) → slice_get ms done ≡ Some m → IsJobOf c p (with_halos g ms m) j → PartJobs c p g ms done js →
+  pub one_part_more : (done : ℕ) (js : List JobState) (m : ModuleLines) (j : JobState) → slice_get ms done ≡ Some m →
+      IsJobOf c p (with_halos g ms m) j → PartJobs c p g ms done js →
       PartJobs c p g ms (done + 1) (js ++ j ∷ [])
   one_part_more done js m j at is h = record {
     count = length_push js j ∙ ap (λ n. n + 1) h.count;
@@ -93,8 +115,10 @@ module _ (c : Circuit) (p : Pattern) (g : Setting) (ms : List ModuleLines) where
     ];
   }
 
-  pub parts_done : (done : ℕ) (js : List JobState) → length ms ≤ done → PartJobs c p g ms done js → AreJobsOf c p (map (with_halos g ms) ms) js
+  pub parts_done : (done : ℕ) (js : List JobState) → length ms ≤ done → PartJobs c p g ms done js →
+      AreJobsOf c p (map (with_halos g ms) ms) js
   parts_done done js le h = record {
     count = let a = h.count in let f = h.few in let l = length-map ms (with_halos g ms) in omega (arith, a, f, l, le);
-    each = λ k m j a e. let n = mapped_from (with_halos g ms) ms k m a in subst (λ x. IsJobOf c p x j) n.2 (h.each k n.0 j n.1 e);
+    each = λ k m j a e. let n = mapped_from (with_halos g ms) ms k m a in
+        subst (λ x. IsJobOf c p x j) n.2 (h.each k n.0 j n.1 e);
   }

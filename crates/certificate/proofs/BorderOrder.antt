@@ -1,5 +1,6 @@
 -- The edge and halo lines of a module rise, those with a `*` by their cells, the others by time and cell.
-use Rattle.std.proofs.Common.{◌≡◌, ℕ, ◌+◌, Bool, true, false, ◌||◌, List, [], ◌∷◌, Option, Some, None, Ordering, Less, Equal, Greater, refl, ap, subst, ◌∙◌, arith, map}
+use Rattle.std.proofs.Common.{◌≡◌, ℕ, ◌+◌, Bool, true, false, ◌||◌, List, [], ◌∷◌, Option, Some, None, Ordering, Less}
+use Rattle.std.proofs.Common.{Equal, Greater, refl, ap, subst, ◌∙◌, arith, map}
 use Rattle.std.specs.List.{flat_map, list_all}
 use Rattle.std.specs.Ordering.{nat_cmp, is_lt, ordering_then}
 use Rattle.std.proofs.lemmas.Bool.{and_parts}
@@ -10,7 +11,8 @@ use Rattle.module_box.specs.declared.schedules.Held.{Held}
 use Rattle.module_box.specs.declared.schedules.Signal.{Signal}
 use Rattle.certificate_lines.specs.Entries.{edge_in, halo_in}
 use Rattle.certificate.specs.Jobs.{held_by, event_by}
-use Rattle.certificate_lines.specs.Orders.{AreInOrder, rank_of, number_of, cell_of, line_cmp, is_cut, may_precede, time_rank}
+use Rattle.certificate_lines.specs.Orders.{AreInOrder, rank_of, number_of, cell_of, line_cmp, is_cut, may_precede}
+use Rattle.certificate_lines.specs.Orders.{time_rank}
 use Rattle.module_job.specs.Signals.{renumber_held, renumber_event}
 use Rattle.certificate_lines.specs.declared.entry.Border.{Border}
 use Rattle.certificate_lines.specs.declared.entry.Entry.{Entry}
@@ -108,10 +110,12 @@ halo_alone (Halo e) = (tt, tt)
 halo_alone (Stop s) = tt
 
 pub edges_rise : (lines : List Entry) → AreInOrder lines → Pairs Before (flat_map edge_in lines)
-edges_rise lines o = pairs_flat (λ i j. may_precede i j ≡ true) Before edge_in edges_between edge_alone lines (pairs_of_order lines o)
+edges_rise lines o = pairs_flat (λ i j. may_precede i j ≡ true) Before edge_in edges_between edge_alone lines
+    (pairs_of_order lines o)
 
 pub halos_rise : (lines : List Entry) → AreInOrder lines → Pairs Before (flat_map halo_in lines)
-halos_rise lines o = pairs_flat (λ i j. may_precede i j ≡ true) Before halo_in halos_between halo_alone lines (pairs_of_order lines o)
+halos_rise lines o = pairs_flat (λ i j. may_precede i j ≡ true) Before halo_in halos_between halo_alone lines
+    (pairs_of_order lines o)
 
 -- ---- what the lines say
 
@@ -121,7 +125,8 @@ HeldBefore a b = cell_cmp a.cell b.cell ≡ Less
 abbrev EventBefore : Event → Event → Type 0
 EventBefore a b = moment_cmp a.at b.at ≡ Less
 
-both_starred : (a b : Option ℕ) (c : Ordering) → a ≡ None → b ≡ None → ordering_then (nat_cmp (time_rank a) (time_rank b)) c ≡ Less → c ≡ Less
+both_starred : (a b : Option ℕ) (c : Ordering) → a ≡ None → b ≡ None →
+    ordering_then (nat_cmp (time_rank a) (time_rank b)) c ≡ Less → c ≡ Less
 both_starred None None c s u h = h
 both_starred None (Some v) c s u h = absurd cc
 both_starred (Some t) b c s u h = absurd cc
@@ -131,10 +136,12 @@ earlier_later a b Less h = grind arith
 earlier_later a b Equal h = grind arith
 earlier_later a b Greater h = grind arith
 
-both_timed : (a b : Option ℕ) (t v : ℕ) (c : Ordering) → a ≡ Some t → b ≡ Some v → ordering_then (nat_cmp (time_rank a) (time_rank b)) c ≡ Less → ordering_then (nat_cmp t v) c ≡ Less
+both_timed : (a b : Option ℕ) (t v : ℕ) (c : Ordering) → a ≡ Some t → b ≡ Some v →
+    ordering_then (nat_cmp (time_rank a) (time_rank b)) c ≡ Less → ordering_then (nat_cmp t v) c ≡ Less
 both_timed (Some a) (Some b) t v c s u h =
     let e : nat_cmp a b ≡ nat_cmp (a + 1) (b + 1) = earlier_later a b _ refl in
-    subst (λ x. ordering_then (nat_cmp x v) c ≡ Less) (some_is a t s) (subst (λ y. ordering_then (nat_cmp a y) c ≡ Less) (some_is b v u) (ap (λ o. ordering_then o c) e ∙ h))
+    subst (λ x. ordering_then (nat_cmp x v) c ≡ Less) (some_is a t s)
+    (subst (λ y. ordering_then (nat_cmp a y) c ≡ Less) (some_is b v u) (ap (λ o. ordering_then o c) e ∙ h))
 both_timed None b t v c s u h = absurd cc
 both_timed (Some a) None t v c s u h = absurd cc
 
@@ -153,12 +160,14 @@ module _ (σ : Border → Signal) where
   event_first d (Some t) s e None u h = (tt, tt)
   event_first d (Some t) s e (Some v) u h = ((both_timed d.time e.time t v (cell_cmp d.cell e.cell) s u h, tt), tt)
 
-  held_by_time : (d : Border) (t : Option ℕ) → d.time ≡ t → Each (λ a. (e : Border) → Before d e → Each (HeldBefore a) (held_by e e.time (σ e))) (held_by d t (σ d))
+  held_by_time : (d : Border) (t : Option ℕ) → d.time ≡ t →
+      Each (λ a. (e : Border) → Before d e → Each (HeldBefore a) (held_by e e.time (σ e))) (held_by d t (σ d))
   unfolding Each
   held_by_time d None s = ((λ e h. (held_first d None s e e.time refl h).0), tt)
   held_by_time d (Some t) s = tt
 
-  event_by_time : (d : Border) (t : Option ℕ) → d.time ≡ t → Each (λ a. (e : Border) → Before d e → Each (EventBefore a) (event_by e e.time (σ e))) (event_by d t (σ d))
+  event_by_time : (d : Border) (t : Option ℕ) → d.time ≡ t →
+      Each (λ a. (e : Border) → Before d e → Each (EventBefore a) (event_by e e.time (σ e))) (event_by d t (σ d))
   unfolding Each
   event_by_time d None s = tt
   event_by_time d (Some t) s = ((λ e h. (event_first d (Some t) s e e.time refl h).0), tt)
@@ -174,16 +183,20 @@ module _ (σ : Border → Signal) where
   event_alone d (Some t) = (tt, tt)
 
   held_pairs : (es : List Border) → Pairs Before es → Pairs HeldBefore (flat_map (λ e. held_by e e.time (σ e)) es)
-  held_pairs es p = pairs_flat Before HeldBefore (λ e. held_by e e.time (σ e)) (λ d. held_by_time d d.time refl) (λ d. held_alone d d.time) es p
+  held_pairs es p = pairs_flat Before HeldBefore (λ e. held_by e e.time (σ e)) (λ d. held_by_time d d.time refl)
+      (λ d. held_alone d d.time) es p
 
   event_pairs : (es : List Border) → Pairs Before es → Pairs EventBefore (flat_map (λ e. event_by e e.time (σ e)) es)
-  event_pairs es p = pairs_flat Before EventBefore (λ e. event_by e e.time (σ e)) (λ d. event_by_time d d.time refl) (λ d. event_alone d d.time) es p
+  event_pairs es p = pairs_flat Before EventBefore (λ e. event_by e e.time (σ e)) (λ d. event_by_time d d.time refl)
+      (λ d. event_alone d d.time) es p
 
   -- also by other numbers of the wires
-  pub held_rises : (f : ℕ → ℕ) (es : List Border) → Pairs Before es → (hs : List Held) → map (renumber_held f) hs ≡ flat_map (λ e. held_by e e.time (σ e)) es →
+  pub held_rises : (f : ℕ → ℕ) (es : List Border) → Pairs Before es → (hs : List Held) →
+      map (renumber_held f) hs ≡ flat_map (λ e. held_by e e.time (σ e)) es →
       IsRising cell_cmp held_cell hs
   held_rises f es p hs e = rising_of cell_cmp held_cell (renumber_held f) (λ a. refl) hs _ e (held_pairs es p)
 
-  pub events_rise : (f : ℕ → ℕ) (es : List Border) → Pairs Before es → (hs : List Event) → map (renumber_event f) hs ≡ flat_map (λ e. event_by e e.time (σ e)) es →
+  pub events_rise : (f : ℕ → ℕ) (es : List Border) → Pairs Before es → (hs : List Event) →
+      map (renumber_event f) hs ≡ flat_map (λ e. event_by e e.time (σ e)) es →
       IsRising moment_cmp moment_of hs
   events_rise f es p hs e = rising_of moment_cmp moment_of (renumber_event f) (λ a. refl) hs _ e (event_pairs es p)

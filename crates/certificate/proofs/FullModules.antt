@@ -1,5 +1,7 @@
 -- The modules of version 2 as modules of version 1
-use Rattle.std.proofs.Common.{◌≡◌, ℕ, zero, suc, ◌<◌, ◌≤◌, ℤ, Bool, true, false, not, ◌&&◌, ◌||◌, List, [], ◌∷◌, ◌++◌, map, length, Option, Some, None, Ordering, Less, Equal, Greater, option_map, refl, sym, ap, ap₂, subst, ◌∙◌, inl, inr, arith}
+use Rattle.std.proofs.Common.{◌≡◌, ℕ, zero, suc, ◌<◌, ◌≤◌, ℤ, Bool, true, false, not, ◌&&◌, ◌||◌, List, [], ◌∷◌, ◌++◌}
+use Rattle.std.proofs.Common.{map, length, Option, Some, None, Ordering, Less, Equal, Greater, option_map, refl, sym}
+use Rattle.std.proofs.Common.{ap, ap₂, subst, ◌∙◌, inl, inr, arith}
 use Rattle.std.specs.Prelude.{◌≢◌, slice_get, nat_lt, IfSome, IsTrue}
 use Rattle.std.specs.List.{All, filter, flat_map, list_all, list_any}
 use Rattle.std.specs.Option.{option_to_list}
@@ -16,17 +18,21 @@ use Rattle.module_box.specs.Locals.{AreLocalLines, local_wires}
 use Rattle.module_box.specs.Moments.{cell_cmp}
 use Rattle.module_box.specs.declared.boxes.Box2.{Box2}
 use Rattle.module_box.proofs.Rising.{cell_exact}
-use Rattle.certificate_lines.specs.Entries.{Setting, ModuleLines, areas, cut_in, use_in, keep_in, edge_in, halo_in, stop_in, cuts, gates, keeps, edges, halos, stops, known, cut_wires}
-use Rattle.certificate_lines.specs.Modules.{AreModules, AreUnstarred, HasPorts, IsEdge, IsHalo, IsKeep, IsModule, IsStop}
+use Rattle.certificate_lines.specs.Entries.{Setting, ModuleLines, areas, cut_in, use_in, keep_in, edge_in, halo_in}
+use Rattle.certificate_lines.specs.Entries.{stop_in, cuts, gates, keeps, edges, halos, stops, known, cut_wires}
+use Rattle.certificate_lines.specs.Modules.{AreModules, AreUnstarred, HasPorts, IsEdge, IsHalo, IsKeep, IsModule}
+use Rattle.certificate_lines.specs.Modules.{IsStop}
 use Rattle.certificate_lines.specs.Orders.{AreInOrder, cell_of, line_cmp, may_precede, number_of, rank_of, time_rank}
 use Rattle.certificate_lines.specs.Rules.{is_local, whole}
-use Rattle.certificate_lines.specs.Versions.{beside, in_order, is_early, is_halo, is_haloless, is_strange, lacks_wire, line_order, meant, with_halos, without_halos}
+use Rattle.certificate_lines.specs.Versions.{beside, in_order, is_early, is_halo, is_haloless, is_strange, lacks_wire}
+use Rattle.certificate_lines.specs.Versions.{line_order, meant, with_halos, without_halos}
 use Rattle.certificate_lines.specs.declared.entry.Border.{Border}
 use Rattle.certificate_lines.specs.declared.entry.Entry.{Entry}
 use Rattle.certificate_lines.specs.declared.entry.StopLine.{StopLine}
 use Rattle.certificate_lines.specs.declared.entry.Entry.TheVariants.{Module, Cut, Use, Keep, Edge, Halo, Stop}
 use Rattle.certificate.proofs.BorderOrder.{Before, edges_rise, pairs_of_order}
-use Rattle.certificate_lines.proofs.LineOrder.{AreDistinct, In, Rises, each_in, filter_in, in_each, in_filter, in_flat, in_ordered, ordered_rises, pairs_filter, pairs_each, rising_distinct}
+use Rattle.certificate_lines.proofs.LineOrder.{AreDistinct, In, Rises, each_in, filter_in, in_each, in_filter, in_flat}
+use Rattle.certificate_lines.proofs.LineOrder.{in_ordered, ordered_rises, pairs_filter, pairs_each, rising_distinct}
 use Rattle.certificate_lines.proofs.Lists.{any_at, some_is}
 use Rattle.certificate_lines.proofs.Pairs.{Each, Pairs, each_append, pairs_append}
 use Rattle.certificate_lines.proofs.InList.{all_in, placed}
@@ -57,21 +63,25 @@ pairs_by_place R (x ∷ xs) h = (
   pairs_by_place R xs (λ i j a b lt e f. h (suc i) (suc j) a b (omega (arith, lt)) e f),
 )
 
-from_some : {X Y : Type 0} (f : X → Y) (o : Option X) (y : Y) → option_map f o ≡ Some y → (x : X) × (o ≡ Some x) × (f x ≡ y)
+from_some : {X Y : Type 0} (f : X → Y) (o : Option X) (y : Y) → option_map f o ≡ Some y →
+    (x : X) × (o ≡ Some x) × (f x ≡ y)
 from_some f None y e = absurd cc
 from_some f (Some x) y e = (x, refl, some_is (f x) y e)
 
 -- what an element of a mapped list was
-pub mapped_from : {X Y : Type 0} (f : X → Y) (xs : List X) (k : ℕ) (y : Y) → slice_get (map f xs) k ≡ Some y → (x : X) × (slice_get xs k ≡ Some x) × (f x ≡ y)
+pub mapped_from : {X Y : Type 0} (f : X → Y) (xs : List X) (k : ℕ) (y : Y) → slice_get (map f xs) k ≡ Some y →
+    (x : X) × (slice_get xs k ≡ Some x) × (f x ≡ y)
 mapped_from f xs k y e = from_some f (slice_get xs k) y (sym (slice_get-map f xs k) ∙ e)
 
-pub mapped_at : {X Y : Type 0} (f : X → Y) (xs : List X) (k : ℕ) (x : X) → slice_get xs k ≡ Some x → slice_get (map f xs) k ≡ Some (f x)
+pub mapped_at : {X Y : Type 0} (f : X → Y) (xs : List X) (k : ℕ) (x : X) → slice_get xs k ≡ Some x →
+    slice_get (map f xs) k ≡ Some (f x)
 mapped_at f xs k x e = slice_get-map f xs k ∙ ap (option_map f) e
 
 -- ---- the lines of a module with other halo lines
 
 -- what lines other than halo lines say is said without these
-pub without_same : {X : Type 0} (f : Entry → List X) → ((e : Border) → f (Halo e) ≡ []) → (lines : List Entry) → flat_map f (without_halos lines) ≡ flat_map f lines
+pub without_same : {X : Type 0} (f : Entry → List X) → ((e : Border) → f (Halo e) ≡ []) → (lines : List Entry) →
+    flat_map f (without_halos lines) ≡ flat_map f lines
 unfolding without_halos is_halo
 without_same f none [] = refl
 without_same f none (Module b ∷ lines) = ap (λ xs. f (Module b) ++ xs) (without_same f none lines)
@@ -99,7 +109,8 @@ pub record IsOfEarly {X : Type 0} (f : Entry → List X) : Type 0 where
   pub stop : (s : StopLine) → f (Stop s) ≡ []
 
 -- finds all that it finds in the early lines
-early_same : {X : Type 0} (f : Entry → List X) → IsOfEarly f → (lines : List Entry) → flat_map f (filter is_early lines) ≡ flat_map f lines
+early_same : {X : Type 0} (f : Entry → List X) → IsOfEarly f → (lines : List Entry) →
+    flat_map f (filter is_early lines) ≡ flat_map f lines
 unfolding is_early
 early_same f none [] = refl
 early_same f none (Module b ∷ lines) = ap (λ xs. f (Module b) ++ xs) (early_same f none lines)
@@ -133,11 +144,13 @@ early_stops (Edge e ∷ lines) = early_stops lines
 early_stops (Halo e ∷ lines) = early_stops lines
 early_stops (Stop s ∷ lines) = early_stops lines
 
-nothing_in : {X Z Y : Type 0} (f : Y → List Z) (to : X → Y) → ((x : X) → f (to x) ≡ []) → (xs : List X) → flat_map f (map to xs) ≡ []
+nothing_in : {X Z Y : Type 0} (f : Y → List Z) (to : X → Y) → ((x : X) → f (to x) ≡ []) → (xs : List X) →
+    flat_map f (map to xs) ≡ []
 nothing_in f to none [] = refl
 nothing_in f to none (x ∷ xs) = ap (λ l. l ++ flat_map f (map to xs)) (none x) ∙ nothing_in f to none xs
 
-one_each : {X Y : Type 0} (f : Y → List X) (to : X → Y) → ((x : X) → f (to x) ≡ x ∷ []) → (xs : List X) → flat_map f (map to xs) ≡ xs
+one_each : {X Y : Type 0} (f : Y → List X) (to : X → Y) → ((x : X) → f (to x) ≡ x ∷ []) → (xs : List X) →
+    flat_map f (map to xs) ≡ xs
 one_each f to one [] = refl
 one_each f to one (x ∷ xs) = ap (λ l. l ++ flat_map f (map to xs)) (one x) ∙ ap (λ l. x ∷ l) (one_each f to one xs)
 
@@ -150,27 +163,35 @@ abbrev pub full_lines : List Entry → List Border → List Entry
 full_lines lines hs = filter is_early lines ++ map Halo hs ++ map Stop (flat_map stop_in lines)
 
 full_parts : {X : Type 0} (f : Entry → List X) (lines : List Entry) (hs : List Border) →
-    flat_map f (full_lines lines hs) ≡ flat_map f (filter is_early lines) ++ flat_map f (map Halo hs) ++ flat_map f (map Stop (flat_map stop_in lines))
+    flat_map f (full_lines lines hs)
+    ≡ flat_map f (filter is_early lines) ++ flat_map f (map Halo hs) ++ flat_map f (map Stop (flat_map stop_in lines))
 full_parts f lines hs =
     flat_map-append f (filter is_early lines ++ map Halo hs) (map Stop (flat_map stop_in lines))
-    ∙ ap (λ l. l ++ flat_map f (map Stop (flat_map stop_in lines))) (flat_map-append f (filter is_early lines) (map Halo hs))
+    ∙ ap (λ l. l ++ flat_map f (map Stop (flat_map stop_in lines)))
+    (flat_map-append f (filter is_early lines) (map Halo hs))
 
-pub other_lines : {X : Type 0} (f : Entry → List X) → IsOfEarly f → (lines : List Entry) (hs : List Border) → flat_map f (full_lines lines hs) ≡ flat_map f lines
+pub other_lines : {X : Type 0} (f : Entry → List X) → IsOfEarly f → (lines : List Entry) (hs : List Border) →
+    flat_map f (full_lines lines hs) ≡ flat_map f lines
 other_lines f none lines hs =
     full_parts f lines hs
-    ∙ ap₂ (λ xs ys. flat_map f (filter is_early lines) ++ xs ++ ys) (nothing_in f Halo none.halo hs) (nothing_in f Stop none.stop (flat_map stop_in lines))
-    ∙ append_none (flat_map f (filter is_early lines) ++ []) ∙ append_none (flat_map f (filter is_early lines)) ∙ early_same f none lines
+    ∙ ap₂ (λ xs ys. flat_map f (filter is_early lines) ++ xs ++ ys) (nothing_in f Halo none.halo hs)
+    (nothing_in f Stop none.stop (flat_map stop_in lines))
+    ∙ append_none (flat_map f (filter is_early lines) ++ []) ∙ append_none (flat_map f (filter is_early lines))
+    ∙ early_same f none lines
 
 pub halo_lines : (lines : List Entry) (hs : List Border) → flat_map halo_in (full_lines lines hs) ≡ hs
 halo_lines lines hs =
     full_parts halo_in lines hs
-    ∙ ap₂ (λ xs ys. xs ++ flat_map halo_in (map Halo hs) ++ ys) (early_halos lines) (nothing_in halo_in Stop (λ s. refl) (flat_map stop_in lines))
+    ∙ ap₂ (λ xs ys. xs ++ flat_map halo_in (map Halo hs) ++ ys) (early_halos lines)
+    (nothing_in halo_in Stop (λ s. refl) (flat_map stop_in lines))
     ∙ append_none (flat_map halo_in (map Halo hs)) ∙ one_each halo_in Halo (λ e. refl) hs
 
-pub stop_lines : (lines : List Entry) (hs : List Border) → flat_map stop_in (full_lines lines hs) ≡ flat_map stop_in lines
+pub stop_lines : (lines : List Entry) (hs : List Border) →
+    flat_map stop_in (full_lines lines hs) ≡ flat_map stop_in lines
 stop_lines lines hs =
     full_parts stop_in lines hs
-    ∙ ap₂ (λ xs ys. xs ++ ys ++ flat_map stop_in (map Stop (flat_map stop_in lines))) (early_stops lines) (nothing_in stop_in Halo (λ e. refl) hs)
+    ∙ ap₂ (λ xs ys. xs ++ ys ++ flat_map stop_in (map Stop (flat_map stop_in lines))) (early_stops lines)
+    (nothing_in stop_in Halo (λ e. refl) hs)
     ∙ one_each stop_in Stop (λ s. refl) (flat_map stop_in lines)
 
 -- ---- their order
@@ -218,7 +239,8 @@ halo_before_stop : (e : Border) (s : StopLine) → may_precede (Halo e) (Stop s)
 unfolding may_precede line_cmp rank_of
 halo_before_stop e s = refl
 
-each_mapped : {X : Type 0} (P : Entry → Type 0) (to : X → Entry) (xs : List X) → ((x : X) → In x xs → P (to x)) → Each P (map to xs)
+each_mapped : {X : Type 0} (P : Entry → Type 0) (to : X → Entry) (xs : List X) → ((x : X) → In x xs → P (to x)) →
+    Each P (map to xs)
 unfolding Each In
 each_mapped P to [] h = tt
 each_mapped P to (x ∷ xs) h = (h x (inl refl), each_mapped P to xs (λ y i. h y (inr i)))
@@ -227,7 +249,8 @@ halo_pairs : (hs : List Border) → Rises hs → Pairs (λ i j. may_precede i j 
 unfolding Pairs
 halo_pairs [] p = tt
 halo_pairs (d ∷ hs) p = (
-  each_mapped (λ j. may_precede (Halo d) j ≡ true) Halo hs (λ e i. halos_follow d e (each_in (λ x. line_order d x ≡ Less) hs p.0 e i)),
+  each_mapped (λ j. may_precede (Halo d) j ≡ true) Halo hs
+      (λ e i. halos_follow d e (each_in (λ x. line_order d x ≡ Less) hs p.0 e i)),
   halo_pairs hs p.1,
 )
 
@@ -252,7 +275,8 @@ stops_among (Edge e ∷ lines) = stops_among lines
 stops_among (Halo e ∷ lines) = stops_among lines
 stops_among (Stop s ∷ lines) = ap (λ l. Stop s ∷ l) (stops_among lines)
 
-pub full_order : (lines : List Entry) (hs : List Border) → AreInOrder lines → Rises hs → AreInOrder (full_lines lines hs)
+pub full_order : (lines : List Entry) (hs : List Border) → AreInOrder lines → Rises hs →
+    AreInOrder (full_lines lines hs)
 full_order lines hs o p =
     let may = λ (i j : Entry). may_precede i j ≡ true in
     let early = filter is_early lines in
@@ -264,11 +288,14 @@ full_order lines hs o p =
     (pairs_append may early (map Halo hs)
     (pairs_filter may is_early lines pairs)
     (halo_pairs hs p)
-    (in_each (λ i. Each (may i) (map Halo hs)) early (λ i at. each_mapped (may i) Halo hs (λ e k. before_halo i e (is_early_one i at)))))
+    (in_each (λ i. Each (may i) (map Halo hs)) early
+    (λ i at. each_mapped (may i) Halo hs (λ e k. before_halo i e (is_early_one i at)))))
     (subst (Pairs may) (stops_among lines) (pairs_filter may is_stop lines pairs))
     (each_append (λ i. Each (may i) (map Stop ss)) early (map Halo hs)
-    (in_each (λ i. Each (may i) (map Stop ss)) early (λ i at. each_mapped (may i) Stop ss (λ s k. before_stop i s (is_early_one i at))))
-    (each_mapped (λ i. Each (may i) (map Stop ss)) Halo hs (λ e at. each_mapped (may (Halo e)) Stop ss (λ s k. halo_before_stop e s)))))
+    (in_each (λ i. Each (may i) (map Stop ss)) early
+    (λ i at. each_mapped (may i) Stop ss (λ s k. before_stop i s (is_early_one i at))))
+    (each_mapped (λ i. Each (may i) (map Stop ss)) Halo hs
+    (λ e at. each_mapped (may (Halo e)) Stop ss (λ s k. halo_before_stop e s)))))
 
 -- ---- edge lines of several modules
 
@@ -286,12 +313,14 @@ equal_parts Greater b h = absurd cc
 
 same_place : (d e : Border) → line_order d e ≡ Equal → d.cell ≡ e.cell
 unfolding line_order
-same_place d e h = cell_exact d.cell e.cell (equal_parts (nat_cmp (time_rank d.time) (time_rank e.time)) (cell_cmp d.cell e.cell) h)
+same_place d e h = cell_exact d.cell e.cell
+    (equal_parts (nat_cmp (time_rank d.time) (time_rank e.time)) (cell_cmp d.cell e.cell) h)
 
 -- the edge lines of a module, as its lines are in order
 pub edges_rising : (lines : List Entry) → AreInOrder lines → Rises (flat_map edge_in lines)
 unfolding line_order
-edges_rising lines o = pairs_each Before (λ d e. line_order d e ≡ Less) (λ d e h. h) (flat_map edge_in lines) (edges_rise lines o)
+edges_rising lines o = pairs_each Before (λ d e. line_order d e ≡ Less) (λ d e h. h) (flat_map edge_in lines)
+    (edges_rise lines o)
 
 ring_inside : (b : Box2) (x y : ℤ) → in_ring b x y ≡ true → in_box b x y ≡ true
 unfolding in_ring
@@ -309,9 +338,11 @@ module _ (g : Setting) (ms : List ModuleLines) (good : AreModules g ms) where
 
   all_apart : Pairs Apart ms
   all_apart = pairs_by_place Apart ms (λ i j m n lt e f x y h k.
-      lower_not i j lt (good.tile.once x y i j m.area n.area (mapped_at (λ (m : ModuleLines). m.area) ms i m e) (mapped_at (λ (m : ModuleLines). m.area) ms j n f) h k))
+      lower_not i j lt (good.tile.once x y i j m.area n.area (mapped_at (λ (m : ModuleLines). m.area) ms i m e)
+      (mapped_at (λ (m : ModuleLines). m.area) ms j n f) h k))
 
-  distinct_over : (ns : List ModuleLines) → Pairs Apart ns → ((n : ModuleLines) → In n ns → In n ms) → AreDistinct (flat_map edges ns)
+  distinct_over : (ns : List ModuleLines) → Pairs Apart ns → ((n : ModuleLines) → In n ns → In n ms) →
+      AreDistinct (flat_map edges ns)
   unfolding Pairs In
   distinct_over [] p some = tt
   distinct_over (m ∷ ns) p some =
@@ -330,21 +361,27 @@ module _ (g : Setting) (ms : List ModuleLines) (good : AreModules g ms) where
   all_distinct : AreDistinct (flat_map edges ms)
   all_distinct = distinct_over ms all_apart (λ n i. i)
 
-  pub in_beside : (area : Box2) (e : Border) → In e (beside g ms area) → (nat_lt 1 g.size.steps ≡ true) × (in_halo area e.cell.x e.cell.y ≡ true) × In e (flat_map edges ms)
+  pub in_beside : (area : Box2) (e : Border) → In e (beside g ms area) →
+      (nat_lt 1 g.size.steps ≡ true) × (in_halo area e.cell.x e.cell.y ≡ true) × In e (flat_map edges ms)
   unfolding beside In
   in_beside area e i = elim (cases_Bool (nat_lt 1 g.size.steps)) [
-    | inl long ↦ let r = in_filter (λ (e : Border). in_halo area e.cell.x e.cell.y) e (flat_map edges ms) (subst (In e) (cond-true _ _ _ long) i) in (long, r.1, r.0)
+    | inl long ↦ let r = in_filter (λ (e : Border). in_halo area e.cell.x e.cell.y) e (flat_map edges ms)
+        (subst (In e) (cond-true _ _ _ long) i) in (long, r.1, r.0)
     | inr short ↦ absurd (subst (In e) (cond-false _ _ _ short) i)
   ]
 
-  pub beside_in : (area : Box2) (e : Border) → nat_lt 1 g.size.steps ≡ true → in_halo area e.cell.x e.cell.y ≡ true → In e (flat_map edges ms) → In e (beside g ms area)
+  pub beside_in : (area : Box2) (e : Border) → nat_lt 1 g.size.steps ≡ true → in_halo area e.cell.x e.cell.y ≡ true →
+      In e (flat_map edges ms) → In e (beside g ms area)
   unfolding beside
-  beside_in area e long h i = subst (In e) (sym (cond-true _ _ _ long)) (filter_in (λ (e : Border). in_halo area e.cell.x e.cell.y) e (flat_map edges ms) i h)
+  beside_in area e long h i = subst (In e) (sym (cond-true _ _ _ long))
+      (filter_in (λ (e : Border). in_halo area e.cell.x e.cell.y) e (flat_map edges ms) i h)
 
   pub distinct_beside : (area : Box2) → AreDistinct (beside g ms area)
   unfolding beside Pairs
   distinct_beside area = elim (cases_Bool (nat_lt 1 g.size.steps)) [
-    | inl long ↦ subst AreDistinct (sym (cond-true _ _ _ long)) (pairs_filter (λ d e. line_order d e ≢ Equal) (λ (e : Border). in_halo area e.cell.x e.cell.y) (flat_map edges ms) all_distinct)
+    | inl long ↦ subst AreDistinct (sym (cond-true _ _ _ long))
+        (pairs_filter (λ d e. line_order d e ≢ Equal) (λ (e : Border). in_halo area e.cell.x e.cell.y)
+        (flat_map edges ms) all_distinct)
     | inr short ↦ subst AreDistinct (sym (cond-false _ _ _ short)) tt
   ]
 
@@ -363,15 +400,18 @@ module _ (g : Setting) (ms : List ModuleLines) (good : AreModules g ms) where
 
     pub full_cuts : cuts full ≡ cuts m
     unfolding with_halos
-    full_cuts = other_lines cut_in (record { halo = λ e. refl; stop = λ s. refl }) m.lines (in_order (beside g ms m.area))
+    full_cuts = other_lines cut_in (record { halo = λ e. refl; stop = λ s. refl }) m.lines
+        (in_order (beside g ms m.area))
 
     pub full_gates : gates full ≡ gates m
     unfolding with_halos
-    full_gates = other_lines use_in (record { halo = λ e. refl; stop = λ s. refl }) m.lines (in_order (beside g ms m.area))
+    full_gates = other_lines use_in (record { halo = λ e. refl; stop = λ s. refl }) m.lines
+        (in_order (beside g ms m.area))
 
     pub full_edges : edges full ≡ edges m
     unfolding with_halos
-    full_edges = other_lines edge_in (record { halo = λ e. refl; stop = λ s. refl }) m.lines (in_order (beside g ms m.area))
+    full_edges = other_lines edge_in (record { halo = λ e. refl; stop = λ s. refl }) m.lines
+        (in_order (beside g ms m.area))
 
     pub full_halos : halos full ≡ in_order (beside g ms m.area)
     unfolding with_halos
@@ -379,7 +419,8 @@ module _ (g : Setting) (ms : List ModuleLines) (good : AreModules g ms) where
 
     pub full_keeps : keeps full ≡ keeps m
     unfolding with_halos
-    full_keeps = other_lines keep_in (record { halo = λ e. refl; stop = λ s. refl }) m.lines (in_order (beside g ms m.area))
+    full_keeps = other_lines keep_in (record { halo = λ e. refl; stop = λ s. refl }) m.lines
+        (in_order (beside g ms m.area))
 
     pub full_stops : stops full ≡ stops m
     unfolding with_halos
@@ -391,7 +432,8 @@ module _ (g : Setting) (ms : List ModuleLines) (good : AreModules g ms) where
     pub full_known : known g.circuit full ≡ known g.circuit m
     full_known = ap₂ (λ cs gs. local_wires g.circuit.netlist cs gs) full_wires full_gates
 
-    local_signal : (s : Option (List ℕ)) → is_strange g.circuit (known g.circuit m) s ≡ false → IfSome s (λ name. IsTrue (is_local g.circuit (known g.circuit m) name))
+    local_signal : (s : Option (List ℕ)) → is_strange g.circuit (known g.circuit m) s ≡ false →
+        IfSome s (λ name. IsTrue (is_local g.circuit (known g.circuit m) name))
     local_signal None h = tt
     local_signal (Some name) h = not_not (is_local g.circuit (known g.circuit m) name) h
       where
@@ -400,7 +442,8 @@ module _ (g : Setting) (ms : List ModuleLines) (good : AreModules g ms) where
         not_not false h = sym h
 
     -- the edge lines beside it may be its halo lines
-    halo_here : (e : Border) → In e (beside g ms m.area) → is_strange g.circuit (known g.circuit m) e.signal ≡ false → IsHalo g m.area (known g.circuit m) e
+    halo_here : (e : Border) → In e (beside g ms m.area) → is_strange g.circuit (known g.circuit m) e.signal ≡ false →
+        IsHalo g m.area (known g.circuit m) e
     halo_here e i known_there =
         let b = in_beside m.area e i in
         let n = in_flat edges e ms b.2 in
@@ -408,11 +451,13 @@ module _ (g : Setting) (ms : List ModuleLines) (good : AreModules g ms) where
         let p = placed n.0 ms n.1 in
         record {
           halo = b.1;
-          inside = good.tile.inside e.cell.x e.cell.y p.0 n.0.area (mapped_at (λ (m : ModuleLines). m.area) ms p.0 n.0 p.1) (edge_cell n.0 e n.1 n.2);
+          inside = good.tile.inside e.cell.x e.cell.y p.0 n.0.area
+              (mapped_at (λ (m : ModuleLines). m.area) ms p.0 n.0 p.1) (edge_cell n.0 e n.1 n.2);
           border = record { time = is.border.time; signal = local_signal e.signal known_there };
         }
 
-    pub full_good : In m ms → ((e : Border) → In e (beside g ms m.area) → is_strange g.circuit (known g.circuit m) e.signal ≡ false) → IsModule g full
+    pub full_good : In m ms → ((e : Border) → In e (beside g ms m.area) →
+        is_strange g.circuit (known g.circuit m) e.signal ≡ false) → IsModule g full
     unfolding with_halos
     full_good at known_there =
         let is = module_of m at in
@@ -422,19 +467,28 @@ module _ (g : Setting) (ms : List ModuleLines) (good : AreModules g ms) where
           high = is.high;
           inside = is.inside;
           named = ap length full_wires ∙ is.named ∙ ap length (sym full_cuts);
-          local = subst (λ cs. AreLocalLines g.circuit.netlist cs (gates full)) (sym full_wires) (subst (AreLocalLines g.circuit.netlist (cut_wires g.circuit m)) (sym full_gates) is.local);
+          local = subst (λ cs. AreLocalLines g.circuit.netlist cs (gates full)) (sym full_wires)
+              (subst (AreLocalLines g.circuit.netlist (cut_wires g.circuit m)) (sym full_gates) is.local);
           order = full_order m.lines (in_order (beside g ms m.area)) is.order (full_rises m.area);
-          keep_lines = subst (λ gs. All (IsKeep g gs) (keeps full)) (sym full_gates) (subst (All (IsKeep g (gates m))) (sym full_keeps) is.keep_lines);
+          keep_lines = subst (λ gs. All (IsKeep g gs) (keeps full)) (sym full_gates)
+              (subst (All (IsKeep g (gates m))) (sym full_keeps) is.keep_lines);
           unstarred = subst AreUnstarred (sym full_edges) is.unstarred;
-          edge_lines = subst (λ ws. All (IsEdge g m.area ws) (edges full)) (sym full_known) (subst (All (IsEdge g m.area (known g.circuit m))) (sym full_edges) is.edge_lines);
-          halo_lines = subst (λ ws. All (IsHalo g m.area ws) (halos full)) (sym full_known) (subst (All (IsHalo g m.area (known g.circuit m))) (sym full_halos)
-              (in_all (IsHalo g m.area (known g.circuit m)) (in_order (beside g ms m.area)) (λ e i. let j = in_ordered e (beside g ms m.area) i in halo_here e j (known_there e j))));
-          stop_lines = subst (λ ws. All (IsStop g m.area ws) (stops full)) (sym full_known) (subst (All (IsStop g m.area (known g.circuit m))) (sym full_stops) is.stop_lines);
+          edge_lines = subst (λ ws. All (IsEdge g m.area ws) (edges full)) (sym full_known)
+              (subst (All (IsEdge g m.area (known g.circuit m))) (sym full_edges) is.edge_lines);
+          halo_lines = subst (λ ws. All (IsHalo g m.area ws) (halos full)) (sym full_known)
+              (subst (All (IsHalo g m.area (known g.circuit m))) (sym full_halos)
+              (in_all (IsHalo g m.area (known g.circuit m)) (in_order (beside g ms m.area))
+              (λ e i. let j = in_ordered e (beside g ms m.area) i in halo_here e j (known_there e j))));
+          stop_lines = subst (λ ws. All (IsStop g m.area ws) (stops full)) (sym full_known)
+              (subst (All (IsStop g m.area (known g.circuit m))) (sym full_stops) is.stop_lines);
         }
 
     pub full_ports : HasPorts g m → HasPorts g full
     unfolding with_halos
-    full_ports h = record { local = λ i p at inside. subst (λ ws. IsTrue (is_local g.circuit ws p.name)) (sym full_known) (h.local i p at inside) }
+    full_ports h = record {
+      local = λ i p at inside. subst (λ ws. IsTrue (is_local g.circuit ws p.name)) (sym full_known)
+          (h.local i p at inside);
+    }
 
   -- ---- all modules
 
@@ -446,17 +500,20 @@ module _ (g : Setting) (ms : List ModuleLines) (good : AreModules g ms) where
   pub full_areas : areas (map (with_halos g ms) ms) ≡ areas ms
   full_areas = full_areas_of ms
 
-  none_passes : {A : Type 0} (test : A → Bool) (xs : List A) → list_any test xs ≡ false → (x : A) → In x xs → test x ≡ false
+  none_passes : {A : Type 0} (test : A → Bool) (xs : List A) → list_any test xs ≡ false → (x : A) → In x xs →
+      test x ≡ false
   none_passes test xs none x i = elim (cases_Bool (test x)) [
     | inl holds ↦ absurd (let p = placed x xs i in true≢false (sym (any_at test xs p.0 x p.1 holds) ∙ none))
     | inr fails ↦ fails
   ]
 
-  none_strange : lacks_wire g ms ≡ false → (m : ModuleLines) → In m ms → (e : Border) → In e (beside g ms m.area) → is_strange g.circuit (known g.circuit m) e.signal ≡ false
+  none_strange : lacks_wire g ms ≡ false → (m : ModuleLines) → In m ms → (e : Border) → In e (beside g ms m.area) →
+      is_strange g.circuit (known g.circuit m) e.signal ≡ false
   unfolding lacks_wire
   none_strange none m at e i =
       none_passes (λ (e : Border). is_strange g.circuit (known g.circuit m) e.signal) (beside g ms m.area)
-      (none_passes (λ (m : ModuleLines). list_any (λ e. is_strange g.circuit (known g.circuit m) e.signal) (beside g ms m.area)) ms none m at) e i
+      (none_passes (λ (m : ModuleLines).
+      list_any (λ e. is_strange g.circuit (known g.circuit m) e.signal) (beside g ms m.area)) ms none m at) e i
 
   pub full_modules : lacks_wire g ms ≡ false → AreModules g (map (with_halos g ms) ms)
   full_modules none = record {
@@ -492,17 +549,21 @@ meant_count version g ms = elim (cases_Bool (is_haloless version)) [
   | inr old ↦ ap length (cond-false _ _ _ old)
 ]
 
-pub meant_old : (version : ℕ) (g : Setting) (ms : List ModuleLines) → is_haloless version ≡ false → meant version g ms ≡ ms
+pub meant_old : (version : ℕ) (g : Setting) (ms : List ModuleLines) → is_haloless version ≡ false →
+    meant version g ms ≡ ms
 unfolding meant
 meant_old version g ms e = cond-false _ _ _ e
 
-pub meant_new : (version : ℕ) (g : Setting) (ms : List ModuleLines) → is_haloless version ≡ true → meant version g ms ≡ map (with_halos g ms) ms
+pub meant_new : (version : ℕ) (g : Setting) (ms : List ModuleLines) → is_haloless version ≡ true →
+    meant version g ms ≡ map (with_halos g ms) ms
 unfolding meant
 meant_new version g ms e = cond-true _ _ _ e
 
-pub meant_modules : (version : ℕ) (g : Setting) (ms : List ModuleLines) → AreModules g ms → (is_haloless version && lacks_wire g ms) ≡ false → AreModules g (meant version g ms)
+pub meant_modules : (version : ℕ) (g : Setting) (ms : List ModuleLines) → AreModules g ms →
+    (is_haloless version && lacks_wire g ms) ≡ false → AreModules g (meant version g ms)
 unfolding meant
 meant_modules version g ms good none = elim (cases_Bool (is_haloless version)) [
-  | inl new ↦ subst (AreModules g) (sym (cond-true _ _ _ new)) (full_modules g ms good (ap (λ b. b && lacks_wire g ms) (sym new) ∙ none))
+  | inl new ↦ subst (AreModules g) (sym (cond-true _ _ _ new))
+      (full_modules g ms good (ap (λ b. b && lacks_wire g ms) (sym new) ∙ none))
   | inr old ↦ subst (AreModules g) (sym (cond-false _ _ _ old)) good
 ]

@@ -1,5 +1,7 @@
--- What the edge lines beside a module say of the cells of its halo
-use Rattle.std.proofs.Common.{◌≡◌, ◌⊎◌, ℕ, zero, suc, ◌+◌, ◌<◌, ◌%◌, ◌==◌, ℤ, Bool, true, false, ◌&&◌, if◌then◌else◌, List, [], ◌∷◌, ◌++◌, map, Option, Some, None, Less, refl, sym, ap, ap₂, subst, ◌∙◌, inl, inr, arith}
+-- The signals of a halo's cells by the edge lines beside a module
+use Rattle.std.proofs.Common.{◌≡◌, ◌⊎◌, ℕ, zero, suc, ◌+◌, ◌<◌, ◌%◌, ◌==◌, ℤ, Bool, true, false, ◌&&◌, if◌then◌else◌}
+use Rattle.std.proofs.Common.{List, [], ◌∷◌, ◌++◌, map, Option, Some, None, Less, refl, sym, ap, ap₂, subst, ◌∙◌, inl}
+use Rattle.std.proofs.Common.{inr, arith}
 use Rattle.std.specs.Prelude.{slice_get, nat_lt, unwrap_or}
 use Rattle.std.specs.List.{filter, flat_map}
 use Rattle.std.proofs.lemmas.Bool.{cases_Bool, cond-true, cond-false}
@@ -20,9 +22,11 @@ use Rattle.certificate.specs.Laws.{HaloIsEdgeBeside}
 use Rattle.certificate_lines.specs.Modules.{AreModules}
 use Rattle.certificate_lines.specs.Versions.{beside, in_order, line_order, with_halos}
 use Rattle.certificate_lines.specs.declared.entry.Border.{Border}
-use Rattle.certificate.proofs.FullModules.{beside_in, edge_cell, edges_rising, full_halos, full_rises, in_beside, mapped_at, stands}
+use Rattle.certificate.proofs.FullModules.{beside_in, edge_cell, edges_rising, full_halos, full_rises, in_beside}
+use Rattle.certificate.proofs.FullModules.{mapped_at, stands}
 use Rattle.certificate_lines.proofs.InList.{placed}
-use Rattle.certificate_lines.proofs.LineOrder.{In, Rises, filter_in, flat_in, in_filter, in_flat, in_ordered, ordered_in, pairs_filter, rising_same}
+use Rattle.certificate_lines.proofs.LineOrder.{In, Rises, filter_in, flat_in, in_filter, in_flat, in_ordered}
+use Rattle.certificate_lines.proofs.LineOrder.{ordered_in, pairs_filter, rising_same}
 use Rattle.certificate_lines.proofs.Lists.{some_is}
 use Rattle.bbm_rule.proofs.SameCells.{cell_same}
 
@@ -35,27 +39,32 @@ both_false : (b : Bool) → (b && false) ≡ false
 both_false true = refl
 both_false false = refl
 
-pub held_past : (e : Border) (time : Option ℕ) (s : Signal) (rest : List Held) (x y : ℤ) → is_at e.cell x y ≡ false → held_at (held_by e time s ++ rest) x y ≡ held_at rest x y
+pub held_past : (e : Border) (time : Option ℕ) (s : Signal) (rest : List Held) (x y : ℤ) → is_at e.cell x y ≡ false →
+    held_at (held_by e time s ++ rest) x y ≡ held_at rest x y
 unfolding held_at
 held_past e None s rest x y h = cond-false _ _ _ h
 held_past e (Some t) s rest x y h = refl
 
-pub event_past : (e : Border) (time : Option ℕ) (s : Signal) (rest : List Event) (t : ℕ) (x y : ℤ) → is_at e.cell x y ≡ false → event_at (event_by e time s ++ rest) t x y ≡ event_at rest t x y
+pub event_past : (e : Border) (time : Option ℕ) (s : Signal) (rest : List Event) (t : ℕ) (x y : ℤ) →
+    is_at e.cell x y ≡ false → event_at (event_by e time s ++ rest) t x y ≡ event_at rest t x y
 unfolding event_at
 event_past e None s rest t x y h = refl
 event_past e (Some u) s rest t x y h = cond-false _ _ _ (ap (λ b. (u == t) && b) h ∙ both_false (u == t))
 
-held_on : (e : Border) (time : Option ℕ) (s : Signal) (rest other : List Held) (x y : ℤ) → held_at rest x y ≡ held_at other x y →
+held_on : (e : Border) (time : Option ℕ) (s : Signal) (rest other : List Held) (x y : ℤ) →
+    held_at rest x y ≡ held_at other x y →
     held_at (held_by e time s ++ rest) x y ≡ held_at (held_by e time s ++ other) x y
 unfolding held_at
 held_on e None s rest other x y h = ap (λ o. if is_at e.cell x y then Some s else o) h
 held_on e (Some t) s rest other x y h = h
 
-event_on : (e : Border) (time : Option ℕ) (s : Signal) (rest other : List Event) (t : ℕ) (x y : ℤ) → event_at rest t x y ≡ event_at other t x y →
+event_on : (e : Border) (time : Option ℕ) (s : Signal) (rest other : List Event) (t : ℕ) (x y : ℤ) →
+    event_at rest t x y ≡ event_at other t x y →
     event_at (event_by e time s ++ rest) t x y ≡ event_at (event_by e time s ++ other) t x y
 unfolding event_at
 event_on e None s rest other t x y h = h
-event_on e (Some u) s rest other t x y h = ap (λ o. if is_then (record { time = u; cell = e.cell }) t x y then Some s else o) h
+event_on e (Some u) s rest other t x y h =
+    ap (λ o. if is_then (record { time = u; cell = e.cell }) t x y then Some s else o) h
 
 module _ (c : Circuit) (x y : ℤ) where
   abbrev held_of : List Border → List Held
@@ -76,7 +85,8 @@ module _ (c : Circuit) (x y : ℤ) where
         ∙ ap (λ ds. held_at (held_of ds) x y) (sym (cond-false _ (e ∷ at_cell x y es) (at_cell x y es) other))
   ]
 
-  events_there : (t : ℕ) (es : List Border) → event_at (events_of es) t x y ≡ event_at (events_of (at_cell x y es)) t x y
+  events_there : (t : ℕ) (es : List Border) →
+      event_at (events_of es) t x y ≡ event_at (events_of (at_cell x y es)) t x y
   unfolding at_cell
   events_there t [] = refl
   events_there t (e ∷ es) = elim (cases_Bool (is_at e.cell x y)) [
@@ -88,11 +98,13 @@ module _ (c : Circuit) (x y : ℤ) where
         ∙ ap (λ ds. event_at (events_of ds) t x y) (sym (cond-false _ (e ∷ at_cell x y es) (at_cell x y es) other))
   ]
 
-  signal_there : (t : ℕ) (es : List Border) → signal_at (line_signals c es) t x y ≡ signal_at (line_signals c (at_cell x y es)) t x y
+  signal_there : (t : ℕ) (es : List Border) →
+      signal_at (line_signals c es) t x y ≡ signal_at (line_signals c (at_cell x y es)) t x y
   unfolding signal_at
   signal_there t es = ap₂ (λ h e. unwrap_or h (unwrap_or e Zero)) (held_there es) (events_there t es)
 
-  same_there : (t : ℕ) (es ds : List Border) → at_cell x y es ≡ at_cell x y ds → signal_at (line_signals c es) t x y ≡ signal_at (line_signals c ds) t x y
+  same_there : (t : ℕ) (es ds : List Border) → at_cell x y es ≡ at_cell x y ds →
+      signal_at (line_signals c es) t x y ≡ signal_at (line_signals c ds) t x y
   same_there t es ds h = signal_there t es ∙ ap (λ l. signal_at (line_signals c l) t x y) h ∙ sym (signal_there t ds)
 
 -- ---- the lines for a cell of the halo are the owner's
@@ -100,7 +112,8 @@ module _ (c : Circuit) (x y : ℤ) where
 one_below : (t n : ℕ) → t % 2 ≡ 1 → t < n → nat_lt 1 n ≡ true
 one_below t n odd lt = grind (arith, nat_tests)
 
-module _ (g : Setting) (ms : List ModuleLines) (good : AreModules g ms) (k : ℕ) (owner : ModuleLines) (numbered : slice_get ms k ≡ Some owner) (area : Box2) (x y : ℤ)
+module _ (g : Setting) (ms : List ModuleLines) (good : AreModules g ms) (k : ℕ) (owner : ModuleLines)
+    (numbered : slice_get ms k ≡ Some owner) (area : Box2) (x y : ℤ)
     (long : nat_lt 1 g.size.steps ≡ true) (halo : in_halo area x y ≡ true) (owned : in_box owner.area x y ≡ true) where
   abbrev here : Cell
   here = record { x = x; y = y }
@@ -112,8 +125,11 @@ module _ (g : Setting) (ms : List ModuleLines) (good : AreModules g ms) (k : ℕ
   owns : (e : Border) (n : ModuleLines) → In n ms → In e (edges n) → is_at e.cell x y ≡ true → n ≡ owner
   owns e n i j at =
       let p = placed n ms i in
-      let inside : in_box n.area x y ≡ true = subst (λ (c : Cell). in_box n.area c.x c.y ≡ true) (at_here e at) (edge_cell g ms good n e i j) in
-      let same : p.0 ≡ k = good.tile.once x y p.0 k n.area owner.area (mapped_at (λ (m : ModuleLines). m.area) ms p.0 n p.1) (mapped_at (λ (m : ModuleLines). m.area) ms k owner numbered) inside owned in
+      let inside : in_box n.area x y ≡ true =
+      subst (λ (c : Cell). in_box n.area c.x c.y ≡ true) (at_here e at) (edge_cell g ms good n e i j) in
+      let same : p.0 ≡ k = good.tile.once x y p.0 k n.area owner.area
+      (mapped_at (λ (m : ModuleLines). m.area) ms p.0 n p.1)
+      (mapped_at (λ (m : ModuleLines). m.area) ms k owner numbered) inside owned in
       some_is n owner (sym p.1 ∙ ap (slice_get ms) same ∙ numbered)
 
   of_owner : (e : Border) → In e (at_cell x y (in_order (beside g ms area))) → In e (at_cell x y (edges owner))
@@ -122,22 +138,27 @@ module _ (g : Setting) (ms : List ModuleLines) (good : AreModules g ms) (k : ℕ
       let r = in_filter (λ (e : Border). is_at e.cell x y) e (in_order (beside g ms area)) i in
       let b = in_beside g ms good area e (in_ordered e (beside g ms area) r.0) in
       let n = in_flat edges e ms b.2 in
-      filter_in (λ (e : Border). is_at e.cell x y) e (edges owner) (subst (λ (m : ModuleLines). In e (edges m)) (owns e n.0 n.1 n.2 r.1) n.2) r.1
+      filter_in (λ (e : Border). is_at e.cell x y) e (edges owner)
+      (subst (λ (m : ModuleLines). In e (edges m)) (owns e n.0 n.1 n.2 r.1) n.2) r.1
 
   of_halo : (e : Border) → In e (at_cell x y (edges owner)) → In e (at_cell x y (in_order (beside g ms area)))
   unfolding at_cell
   of_halo e i =
       let r = in_filter (λ (e : Border). is_at e.cell x y) e (edges owner) i in
-      let inside : in_halo area e.cell.x e.cell.y ≡ true = subst (λ (c : Cell). in_halo area c.x c.y ≡ true) (sym (at_here e r.1)) halo in
+      let inside : in_halo area e.cell.x e.cell.y ≡ true =
+      subst (λ (c : Cell). in_halo area c.x c.y ≡ true) (sym (at_here e r.1)) halo in
       filter_in (λ (e : Border). is_at e.cell x y) e (in_order (beside g ms area))
-      (ordered_in e (beside g ms area) (beside_in g ms good area e long inside (flat_in edges e ms owner (stands ms k owner numbered) r.0))) r.1
+      (ordered_in e (beside g ms area)
+      (beside_in g ms good area e long inside (flat_in edges e ms owner (stands ms k owner numbered) r.0))) r.1
 
   pub lines_there : at_cell x y (in_order (beside g ms area)) ≡ at_cell x y (edges owner)
   unfolding at_cell
   lines_there =
       rising_same _ _
-      (pairs_filter (λ d e. line_order d e ≡ Less) (λ (e : Border). is_at e.cell x y) (in_order (beside g ms area)) (full_rises g ms good area))
-      (pairs_filter (λ d e. line_order d e ≡ Less) (λ (e : Border). is_at e.cell x y) (edges owner) (edges_rising owner.lines (good.each k owner numbered).order))
+      (pairs_filter (λ d e. line_order d e ≡ Less) (λ (e : Border). is_at e.cell x y) (in_order (beside g ms area))
+      (full_rises g ms good area))
+      (pairs_filter (λ d e. line_order d e ≡ Less) (λ (e : Border). is_at e.cell x y) (edges owner)
+      (edges_rising owner.lines (good.each k owner numbered).order))
       of_owner of_halo
 
 pub halo_is_edge_beside : HaloIsEdgeBeside

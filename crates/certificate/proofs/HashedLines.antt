@@ -1,5 +1,6 @@
 -- Lines that are hashed one after the other
-use Rattle.std.proofs.Common.{◌≡◌, ℕ, ◌+◌, ◌<◌, ◌≤◌, List, [], ◌∷◌, ◌++◌, length, take, get_or, sym, ap, ◌∙◌, append_assoc, append-nil, refl, subst, codes, decimal}
+use Rattle.std.proofs.Common.{◌≡◌, ℕ, ◌+◌, ◌<◌, ◌≤◌, List, [], ◌∷◌, ◌++◌, length, take, get_or, sym, ap, ◌∙◌}
+use Rattle.std.proofs.Common.{append_assoc, append-nil, refl, subst, codes, decimal}
 use Rattle.std.specs.List.{flat_map}
 use Rattle.std.proofs.lemmas.Grind.{flat_map-append}
 use Rattle.std.proofs.lemmas.List.{take_all, take_more}
@@ -13,8 +14,10 @@ use Rattle.certificate_lines.specs.declared.entry.Entry.{Entry}
 pub none_hashed : (h : Sha256) (m : List ℕ) → Holds256 h m → Holds256 h (m ++ flat_map entry_text [])
 none_hashed h m holds = subst (Holds256 h) (sym (append-nil m)) holds
 
-pub one_more_hashed : (es : List Entry) (i : ℕ) (e : Entry) (h : Sha256) (m : List ℕ) → i < length es → e ≡ get_or es i e →
-    Holds256 h ((m ++ flat_map entry_text (take i es)) ++ entry_text e) → Holds256 h (m ++ flat_map entry_text (take (i + 1) es))
+pub one_more_hashed : (es : List Entry) (i : ℕ) (e : Entry) (h : Sha256) (m : List ℕ) → i < length es →
+    e ≡ get_or es i e →
+    Holds256 h ((m ++ flat_map entry_text (take i es)) ++ entry_text e) →
+    Holds256 h (m ++ flat_map entry_text (take (i + 1) es))
 one_more_hashed es i e h m lt is holds =
     let grown : take (i + 1) es ≡ take i es ++ e ∷ [] = take_more es i e lt ∙ ap (λ x. take i es ++ x ∷ []) (sym is) in
     subst (Holds256 h)
@@ -23,11 +26,13 @@ one_more_hashed es i e h m lt is holds =
     ∙ ap (λ l. m ++ l) (sym (flat_map-append entry_text (take i es) (e ∷ [])))
     ∙ ap (λ l. m ++ flat_map entry_text l) (sym grown)) holds
 
-pub all_hashed : (es : List Entry) (i : ℕ) (h : Sha256) (m : List ℕ) → length es ≤ i → Holds256 h (m ++ flat_map entry_text (take i es)) → Holds256 h (m ++ flat_map entry_text es)
+pub all_hashed : (es : List Entry) (i : ℕ) (h : Sha256) (m : List ℕ) → length es ≤ i →
+    Holds256 h (m ++ flat_map entry_text (take i es)) → Holds256 h (m ++ flat_map entry_text es)
 all_hashed es i h m le holds = subst (λ l. Holds256 h (m ++ flat_map entry_text l)) (take_all i es le) holds
 
 -- the header, the lines and the end are the text
-pub text_told : (c : CertState) (s : List ℕ) (es : List Entry) (n : ℕ) → s ≡ line_text (codes "certificate") (decimal n ∷ []) → n ≡ c.version → es ≡ c.entries →
+pub text_told : (c : CertState) (s : List ℕ) (es : List Entry) (n : ℕ) →
+    s ≡ line_text (codes "certificate") (decimal n ∷ []) → n ≡ c.version → es ≡ c.entries →
     (s ++ flat_map entry_text es) ++ line_text (codes "end") [] ≡ certificate_text c
 unfolding certificate_text
 text_told c s es n header version lines = rw (header, version, lines) refl

@@ -1,4 +1,4 @@
--- What a module's lines give to its job.
+-- The parts of a job by its module's lines.
 use Rattle.std.proofs.Common.{◌≡◌, ℕ, ◌+◌, ◌<◌, ◌≤◌, ◌^◌, length, List, None, sym, ap, subst, ◌∙◌, arith, get_or}
 use Rattle.std.specs.Prelude.{IsTrue}
 use Rattle.std.specs.List.{All}
@@ -17,17 +17,20 @@ use Rattle.certificate_lines.specs.Modules.{IsModule}
 use Rattle.certificate.specs.Timetables.{IsNamedLocal}
 
 -- the numbers of gates are small
-pub small_gates : (n : Netlist) (cw gs : List ℕ) → AreLocalLines n cw gs → length n.gates ≤ 1024 → All (λ k. k < 2 ^ 16) gs
+pub small_gates : (n : Netlist) (cw gs : List ℕ) → AreLocalLines n cw gs → length n.gates ≤ 1024 →
+    All (λ k. k < 2 ^ 16) gs
 small_gates n cw gs h few k d lt =
     let is = h.known k (get_or gs k d) (slice_get-get_or gs k d lt) in
     let within = slice_get_within n.gates (get_or gs k d) is.gate is.numbered in
     omega (arith, within, few)
 
 -- a box inside a layout lies within 512 cells, and a layout has at most 65,536 steps
-pub within_512 : (g : Setting) (m : ModuleLines) (s : Extent) → s ≡ g.size → size_fault s ≡ None → IsModule g m → (m.area.x + m.area.w ≤ 512) × (m.area.y + m.area.h ≤ 512) × (s.steps ≤ 65536)
+pub within_512 : (g : Setting) (m : ModuleLines) (s : Extent) → s ≡ g.size → size_fault s ≡ None → IsModule g m →
+    (m.area.x + m.area.w ≤ 512) × (m.area.y + m.area.h ≤ 512) × (s.steps ≤ 65536)
 within_512 g m s is limits h =
     let sized = is_sized s limits in
-    let inside = subst (λ (t : Extent). (m.area.x + m.area.w ≤ t.w) × (m.area.y + m.area.h ≤ t.h)) (sym is) (h.inside.right, h.inside.bottom) in
+    let inside = subst (λ (t : Extent). (m.area.x + m.area.w ≤ t.w) × (m.area.y + m.area.h ≤ t.h)) (sym is)
+    (h.inside.right, h.inside.bottom) in
     let wide = sized.width.1 in
     let high = sized.height.1 in
     let right = inside.0 in
@@ -35,35 +38,50 @@ within_512 g m s is limits h =
     (omega (arith, wide, right), omega (arith, high, bottom), sized.steps)
 
 -- the wires that edge and halo lines name are the module's
-pub edges_named : (g : Setting) (m : ModuleLines) (l : LocalNet) → l.circuit_wires ≡ known g.circuit m → IsModule g m → All (IsNamedLocal g.circuit l) (edges m)
-edges_named g m l is h k d lt = subst (λ ws. IsNamedLocal g.circuit (record l { circuit_wires = ws }) (get_or (edges m) k d)) (sym is) (h.edge_lines k d lt).border.signal
+pub edges_named : (g : Setting) (m : ModuleLines) (l : LocalNet) → l.circuit_wires ≡ known g.circuit m → IsModule g m →
+    All (IsNamedLocal g.circuit l) (edges m)
+edges_named g m l is h k d lt =
+    subst (λ ws. IsNamedLocal g.circuit (record l { circuit_wires = ws }) (get_or (edges m) k d)) (sym is)
+    (h.edge_lines k d lt).border.signal
 
-pub halos_named : (g : Setting) (m : ModuleLines) (l : LocalNet) → l.circuit_wires ≡ known g.circuit m → IsModule g m → All (IsNamedLocal g.circuit l) (halos m)
-halos_named g m l is h k d lt = subst (λ ws. IsNamedLocal g.circuit (record l { circuit_wires = ws }) (get_or (halos m) k d)) (sym is) (h.halo_lines k d lt).border.signal
+pub halos_named : (g : Setting) (m : ModuleLines) (l : LocalNet) → l.circuit_wires ≡ known g.circuit m → IsModule g m →
+    All (IsNamedLocal g.circuit l) (halos m)
+halos_named g m l is h k d lt =
+    subst (λ ws. IsNamedLocal g.circuit (record l { circuit_wires = ws }) (get_or (halos m) k d)) (sym is)
+    (h.halo_lines k d lt).border.signal
 
 -- ---- what was made of the lines, where ls are the lines of the circuit cs
 
-pub few_gates : (ls cs : List CircuitLine) (n : ℕ) → ls ≡ cs → n ≡ length (netlist_of ls).gates → n ≤ 1024 → length (netlist_of cs).gates ≤ 1024
+pub few_gates : (ls cs : List CircuitLine) (n : ℕ) → ls ≡ cs → n ≡ length (netlist_of ls).gates → n ≤ 1024 →
+    length (netlist_of cs).gates ≤ 1024
 few_gates ls cs n e count few = subst (λ k. k ≤ 1024) (count ∙ ap (λ l. length (netlist_of l).gates) e) few
 
-pub lists_local : (ls cs : List CircuitLine) (p : Pattern) (m : ModuleLines) (cw gs : List ℕ) → ls ≡ cs → cw ≡ cut_wires (circuit_of ls) m → gs ≡ gates m →
+pub lists_local : (ls cs : List CircuitLine) (p : Pattern) (m : ModuleLines) (cw gs : List ℕ) → ls ≡ cs →
+    cw ≡ cut_wires (circuit_of ls) m → gs ≡ gates m →
     IsModule (setting_of cs p) m → AreLocalLines (netlist_of ls) cw gs
 lists_local ls cs p m cw gs e ce ge h =
-    let of_lines : AreLocalLines (netlist_of ls) (cut_wires (circuit_of ls) m) (gates m) = subst (λ l. AreLocalLines (netlist_of l) (cut_wires (circuit_of l) m) (gates m)) (sym e) h.local in
-    subst (λ c. AreLocalLines (netlist_of ls) c gs) (sym ce) (subst (AreLocalLines (netlist_of ls) (cut_wires (circuit_of ls) m)) (sym ge) of_lines)
+    let of_lines : AreLocalLines (netlist_of ls) (cut_wires (circuit_of ls) m) (gates m) =
+    subst (λ l. AreLocalLines (netlist_of l) (cut_wires (circuit_of l) m) (gates m)) (sym e) h.local in
+    subst (λ c. AreLocalLines (netlist_of ls) c gs) (sym ce)
+    (subst (AreLocalLines (netlist_of ls) (cut_wires (circuit_of ls) m)) (sym ge) of_lines)
 
-pub wires_known : (ls cs : List CircuitLine) (m : ModuleLines) (cw gs ws : List ℕ) → ls ≡ cs → cw ≡ cut_wires (circuit_of ls) m → gs ≡ gates m →
+pub wires_known : (ls cs : List CircuitLine) (m : ModuleLines) (cw gs ws : List ℕ) → ls ≡ cs →
+    cw ≡ cut_wires (circuit_of ls) m → gs ≡ gates m →
     ws ≡ local_wires (netlist_of ls) cw gs → ws ≡ known (circuit_of cs) m
 wires_known ls cs m cw gs ws e ce ge we =
-    we ∙ ap (λ c. local_wires (netlist_of ls) c gs) ce ∙ ap (local_wires (netlist_of ls) (cut_wires (circuit_of ls) m)) ge ∙ ap (λ l. known (circuit_of l) m) e
+    we ∙ ap (λ c. local_wires (netlist_of ls) c gs) ce
+    ∙ ap (local_wires (netlist_of ls) (cut_wires (circuit_of ls) m)) ge ∙ ap (λ l. known (circuit_of l) m) e
 
-pub cut_count : (ls cs : List CircuitLine) (p : Pattern) (m : ModuleLines) (cw : List ℕ) (n : ℕ) → ls ≡ cs → cw ≡ cut_wires (circuit_of ls) m → n ≡ length cw →
+pub cut_count : (ls cs : List CircuitLine) (p : Pattern) (m : ModuleLines) (cw : List ℕ) (n : ℕ) → ls ≡ cs →
+    cw ≡ cut_wires (circuit_of ls) m → n ≡ length cw →
     IsModule (setting_of cs p) m → n ≡ length (cuts m)
 cut_count ls cs p m cw n e ce ne h = ne ∙ ap length ce ∙ ap (λ l. length (cut_wires (circuit_of l) m)) e ∙ h.named
 
 -- the gates that a module keeps are used
-pub keeps_used : (g : Setting) (m : ModuleLines) (gs : List ℕ) → gs ≡ gates m → IsModule g m → All (λ k. IsTrue (is_among gs k)) (keeps m)
-keeps_used g m gs is h k d lt = subst (λ us. IsTrue (is_among us (get_or (keeps m) k d))) (sym is) (h.keep_lines k d lt).among
+pub keeps_used : (g : Setting) (m : ModuleLines) (gs : List ℕ) → gs ≡ gates m → IsModule g m →
+    All (λ k. IsTrue (is_among gs k)) (keeps m)
+keeps_used g m gs is h k d lt =
+    subst (λ us. IsTrue (is_among us (get_or (keeps m) k d))) (sym is) (h.keep_lines k d lt).among
 
 pub few_used : (g : Setting) (m : ModuleLines) (gs : List ℕ) → gs ≡ gates m → IsModule g m → length gs ≤ 64
 few_used g m gs is h = subst (λ us. length us ≤ 64) (sym is) h.local.few_gates

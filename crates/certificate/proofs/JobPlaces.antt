@@ -18,17 +18,27 @@ if_true true u v h = refl
 if_true false u v h = absurd cc
 
 pub start_found : (c : Circuit) (p : Pattern) (b : Box2) (j : JobState) → j.area ≡ b
-    → ((x y : ℤ) → IsTrue (in_box b x y) → renumber_signal (circuit_wire j.locals) (unwrap_or (slice_get j.starts (place_in b x y)) Zero) ≡ start_signal c p x y)
-    → (x y : ℤ) → IsTrue (in_box b x y) → renumber_signal (circuit_wire j.locals) (job_start j x y) ≡ start_signal c p x y
+    → ((x y : ℤ) → IsTrue (in_box b x y) →
+    renumber_signal (circuit_wire j.locals) (unwrap_or (slice_get j.starts (place_in b x y)) Zero)
+    ≡ start_signal c p x y)
+    → (x y : ℤ) → IsTrue (in_box b x y) →
+    renumber_signal (circuit_wire j.locals) (job_start j x y) ≡ start_signal c p x y
 unfolding job_start
 start_found c p b j is each x y h =
     let inside : in_box j.area x y ≡ true = ap (λ (a : Box2). in_box a x y) is ∙ h in
-    ap (renumber_signal (circuit_wire j.locals)) (if_true (in_box j.area x y) _ Zero inside ∙ ap (λ (a : Box2). unwrap_or (slice_get j.starts (place_in a x y)) Zero) is) ∙ each x y h
+    ap (renumber_signal (circuit_wire j.locals))
+    (if_true (in_box j.area x y) _ Zero inside
+    ∙ ap (λ (a : Box2). unwrap_or (slice_get j.starts (place_in a x y)) Zero) is) ∙ each x y h
 
 pub demand_found : (c : Circuit) (p : Pattern) (b : Box2) (j : JobState) → j.area ≡ b
-    → ((x y : ℤ) → IsTrue (in_box b x y) → renumber_demand (circuit_wire j.locals) (unwrap_or (slice_get j.demands (place_in b x y)) Demanded.Dead) ≡ end_demand c p x y)
-    → (x y : ℤ) → IsTrue (in_box b x y) → renumber_demand (circuit_wire j.locals) (job_demand j x y) ≡ end_demand c p x y
+    → ((x y : ℤ) → IsTrue (in_box b x y) →
+    renumber_demand (circuit_wire j.locals) (unwrap_or (slice_get j.demands (place_in b x y)) Demanded.Dead)
+    ≡ end_demand c p x y)
+    → (x y : ℤ) → IsTrue (in_box b x y) →
+    renumber_demand (circuit_wire j.locals) (job_demand j x y) ≡ end_demand c p x y
 unfolding job_demand
 demand_found c p b j is each x y h =
     let inside : in_box j.area x y ≡ true = ap (λ (a : Box2). in_box a x y) is ∙ h in
-    ap (renumber_demand (circuit_wire j.locals)) (if_true (in_box j.area x y) _ Demanded.Dead inside ∙ ap (λ (a : Box2). unwrap_or (slice_get j.demands (place_in a x y)) Demanded.Dead) is) ∙ each x y h
+    ap (renumber_demand (circuit_wire j.locals))
+    (if_true (in_box j.area x y) _ Demanded.Dead inside
+    ∙ ap (λ (a : Box2). unwrap_or (slice_get j.demands (place_in a x y)) Demanded.Dead) is) ∙ each x y h

@@ -1,5 +1,7 @@
--- What one line says of its cell at its time
-use Rattle.std.proofs.Common.{◌≡◌, ◌⊎◌, ℕ, zero, suc, ◌+◌, ◌<◌, ◌==◌, ℤ, Bool, true, false, not, ◌&&◌, ◌||◌, if◌then◌else◌, List, [], ◌∷◌, ◌++◌, Option, Some, None, Ordering, Less, Equal, Greater, refl, sym, ap, ap₂, subst, ◌∙◌, inl, inr, arith}
+-- The signal of one line for its cell at its time
+use Rattle.std.proofs.Common.{◌≡◌, ◌⊎◌, ℕ, zero, suc, ◌+◌, ◌<◌, ◌==◌, ℤ, Bool, true, false, not, ◌&&◌, ◌||◌}
+use Rattle.std.proofs.Common.{if◌then◌else◌, List, [], ◌∷◌, ◌++◌, Option, Some, None, Ordering, Less, Equal, Greater}
+use Rattle.std.proofs.Common.{refl, sym, ap, ap₂, subst, ◌∙◌, inl, inr, arith}
 use Rattle.std.specs.Prelude.{unwrap_or}
 use Rattle.std.specs.List.{flat_map, list_all}
 use Rattle.std.specs.Ordering.{nat_cmp, int_eq, ordering_then}
@@ -35,7 +37,8 @@ SaysAt t (Some u) = u ≡ t
 same_key : (d e : Border) → d.time ≡ e.time → d.cell ≡ e.cell → line_order d e ≡ Less → ⊥
 unfolding line_order
 same_key d e time cell less =
-    not_itself e (ap₂ (λ t c. ordering_then (nat_cmp (time_rank t) (time_rank e.time)) (cell_cmp c e.cell)) (sym time) (sym cell) ∙ less)
+    not_itself e (ap₂ (λ t c. ordering_then (nat_cmp (time_rank t) (time_rank e.time)) (cell_cmp c e.cell)) (sym time)
+    (sym cell) ∙ less)
 
 other_cell : (d e : Border) → d.time ≡ e.time → line_order d e ≡ Less → is_at d.cell e.cell.x e.cell.y ≡ false
 other_cell d e time less = elim (cases_Bool (is_at d.cell e.cell.x e.cell.y)) [
@@ -45,12 +48,14 @@ other_cell d e time less = elim (cases_Bool (is_at d.cell e.cell.x e.cell.y)) [
 
 -- a line with a `*` is not after one with a time
 ranked : (a : ℕ) (o : Ordering) → ordering_then (nat_cmp (a + 1) 0) o ≡ Less → ⊥
-ranked a o h = let z : nat_cmp (a + 1) 0 ≡ Greater = grind arith in absurd (let k : ordering_then Greater o ≡ Less = ap (λ c. ordering_then c o) (sym z) ∙ h in cc)
+ranked a o h = let z : nat_cmp (a + 1) 0 ≡ Greater = grind arith in
+    absurd (let k : ordering_then Greater o ≡ Less = ap (λ c. ordering_then c o) (sym z) ∙ h in cc)
 
 timed_first : (d e : Border) (t : ℕ) → d.time ≡ Some t → e.time ≡ None → line_order d e ≡ Less → ⊥
 unfolding line_order
 timed_first d e t dt et less =
-    ranked t (cell_cmp d.cell e.cell) (ap₂ (λ a b. ordering_then (nat_cmp (time_rank a) (time_rank b)) (cell_cmp d.cell e.cell)) (sym dt) (sym et) ∙ less)
+    ranked t (cell_cmp d.cell e.cell)
+    (ap₂ (λ a b. ordering_then (nat_cmp (time_rank a) (time_rank b)) (cell_cmp d.cell e.cell)) (sym dt) (sym et) ∙ less)
 
 module _ (c : Circuit) where
   abbrev held_of : List Border → List Held
@@ -61,30 +66,38 @@ module _ (c : Circuit) where
 
   -- ---- a line with a `*`
 
-  held_first : (e : Border) (time : Option ℕ) (s : Signal) (rest : List Held) → time ≡ None → held_at (held_by e time s ++ rest) e.cell.x e.cell.y ≡ Some s
+  held_first : (e : Border) (time : Option ℕ) (s : Signal) (rest : List Held) → time ≡ None →
+      held_at (held_by e time s ++ rest) e.cell.x e.cell.y ≡ Some s
   unfolding held_at
   held_first e None s rest none = cond-true _ _ _ (cell_itself e.cell)
   held_first e (Some t) s rest none = absurd cc
 
-  held_skips : (d e : Border) (time : Option ℕ) → d.time ≡ time → e.time ≡ None → line_order d e ≡ Less → (s : Signal) (rest : List Held) →
+  held_skips : (d e : Border) (time : Option ℕ) → d.time ≡ time → e.time ≡ None → line_order d e ≡ Less →
+      (s : Signal) (rest : List Held) →
       held_at (held_by d time s ++ rest) e.cell.x e.cell.y ≡ held_at rest e.cell.x e.cell.y
   held_skips d e None dt et less s rest = held_past d None s rest e.cell.x e.cell.y (other_cell d e (dt ∙ sym et) less)
   held_skips d e (Some t) dt et less s rest = refl
 
-  held_there : (e : Border) (es : List Border) → Rises es → In e es → e.time ≡ None → held_at (held_of es) e.cell.x e.cell.y ≡ Some (line_signal c e.signal)
+  held_there : (e : Border) (es : List Border) → Rises es → In e es → e.time ≡ None →
+      held_at (held_of es) e.cell.x e.cell.y ≡ Some (line_signal c e.signal)
   unfolding Pairs In
   held_there e [] r i none = absurd i
   held_there e (d ∷ es) r (inl same) none =
-      subst (λ x. held_at (held_by x x.time (line_signal c x.signal) ++ held_of es) e.cell.x e.cell.y ≡ Some (line_signal c e.signal)) (sym same)
+      subst (λ x. held_at (held_by x x.time (line_signal c x.signal) ++ held_of es) e.cell.x e.cell.y
+      ≡ Some (line_signal c e.signal)) (sym same)
       (held_first e e.time (line_signal c e.signal) (held_of es) none)
   held_there e (d ∷ es) r (inr later) none =
-      held_skips d e d.time refl none (each_in (λ x. line_order d x ≡ Less) es r.0 e later) (line_signal c d.signal) (held_of es) ∙ held_there e es r.1 later none
+      held_skips d e d.time refl none (each_in (λ x. line_order d x ≡ Less) es r.0 e later) (line_signal c d.signal)
+      (held_of es) ∙ held_there e es r.1 later none
 
   -- ---- a line with a time
 
-  not_starred : (e d : Border) (time : Option ℕ) → d.time ≡ time → is_starred e.cell d ≡ false → (s : Signal) (rest : List Held) →
+  not_starred : (e d : Border) (time : Option ℕ) → d.time ≡ time → is_starred e.cell d ≡ false →
+      (s : Signal) (rest : List Held) →
       held_at (held_by d time s ++ rest) e.cell.x e.cell.y ≡ held_at rest e.cell.x e.cell.y
-  not_starred e d None dt other s rest = held_past d None s rest e.cell.x e.cell.y (sym (turned_cell d.cell e.cell) ∙ ap (λ t. is_star t && same_cell e.cell d.cell) (sym dt) ∙ other)
+  not_starred e d None dt other s rest =
+      held_past d None s rest e.cell.x e.cell.y
+      (sym (turned_cell d.cell e.cell) ∙ ap (λ t. is_star t && same_cell e.cell d.cell) (sym dt) ∙ other)
     where
       turned_cell : (a b : Cell) → same_cell b a ≡ is_at a b.x b.y
       turned_cell a b = elim (cases_Bool (same_cell b a)) [
@@ -104,7 +117,8 @@ module _ (c : Circuit) where
   star_of None u e = absurd cc
   star_of (Some v) u e = refl
 
-  all_test : (test : Border → Bool) (es : List Border) → list_all test es ≡ true → (e : Border) → In e es → test e ≡ true
+  all_test : (test : Border → Bool) (es : List Border) → list_all test es ≡ true → (e : Border) → In e es →
+      test e ≡ true
   unfolding In
   all_test test [] h e i = absurd i
   all_test test (d ∷ es) h e (inl same) = subst (λ x. test x ≡ true) same (and_parts (test d) (list_all test es) h).0
@@ -120,25 +134,34 @@ module _ (c : Circuit) where
   timed_itself : (e : Border) (t : ℕ) → e.time ≡ Some t → is_starred e.cell e ≡ false
   timed_itself e t et = ap (λ x. is_star x && same_cell e.cell e.cell) et
 
-  none_after : (e : Border) (t : ℕ) (es : List Border) → e.time ≡ Some t → Each (λ d. line_order e d ≡ Less) es → held_at (held_of es) e.cell.x e.cell.y ≡ None
+  none_after : (e : Border) (t : ℕ) (es : List Border) → e.time ≡ Some t → Each (λ d. line_order e d ≡ Less) es →
+      held_at (held_of es) e.cell.x e.cell.y ≡ None
   unfolding Each held_at
   none_after e t [] et a = refl
-  none_after e t (d ∷ es) et a = not_starred e d d.time refl (after_timed e d t et a.0) (line_signal c d.signal) (held_of es) ∙ none_after e t es et a.1
+  none_after e t (d ∷ es) et a =
+      not_starred e d d.time refl (after_timed e d t et a.0) (line_signal c d.signal) (held_of es)
+      ∙ none_after e t es et a.1
 
-  none_held : (e : Border) (t : ℕ) (es : List Border) → e.time ≡ Some t → Rises es → AreUnstarred es → In e es → held_at (held_of es) e.cell.x e.cell.y ≡ None
+  none_held : (e : Border) (t : ℕ) (es : List Border) → e.time ≡ Some t → Rises es → AreUnstarred es → In e es →
+      held_at (held_of es) e.cell.x e.cell.y ≡ None
   unfolding Pairs In AreUnstarred
   none_held e t [] et r u i = absurd i
   none_held e t (d ∷ es) et r u (inl same) =
-      not_starred e d d.time refl (subst (λ x. is_starred e.cell x ≡ false) (sym same) (timed_itself e t et)) (line_signal c d.signal) (held_of es)
+      not_starred e d d.time refl (subst (λ x. is_starred e.cell x ≡ false) (sym same) (timed_itself e t et))
+      (line_signal c d.signal) (held_of es)
       ∙ none_after e t es et (subst (λ x. Each (λ f. line_order x f ≡ Less) es) same r.0)
   none_held e t (d ∷ es) et r u (inr later) =
-      not_starred e d d.time refl (free_head (is_star e.time) (is_starred e.cell d) (star_of e.time t et) (all_test (λ e. is_star e.time || not (is_starred e.cell d)) es u.0 e later)) (line_signal c d.signal) (held_of es)
+      not_starred e d d.time refl (free_head (is_star e.time) (is_starred e.cell d) (star_of e.time t et)
+      (all_test (λ e. is_star e.time || not (is_starred e.cell d)) es u.0 e later)) (line_signal c d.signal)
+      (held_of es)
       ∙ none_held e t es et r.1 u.1 later
 
-  event_first : (e : Border) (time : Option ℕ) (t : ℕ) (s : Signal) (rest : List Event) → time ≡ Some t → event_at (event_by e time s ++ rest) t e.cell.x e.cell.y ≡ Some s
+  event_first : (e : Border) (time : Option ℕ) (t : ℕ) (s : Signal) (rest : List Event) → time ≡ Some t →
+      event_at (event_by e time s ++ rest) t e.cell.x e.cell.y ≡ Some s
   unfolding event_at
   event_first e None t s rest et = absurd cc
-  event_first e (Some u) t s rest et = cond-true _ _ _ (ap₂ (λ a b. a && b) (same_time u t (some_same et)) (cell_itself e.cell))
+  event_first e (Some u) t s rest et =
+      cond-true _ _ _ (ap₂ (λ a b. a && b) (same_time u t (some_same et)) (cell_itself e.cell))
     where
       some_same : {a b : ℕ} → ◌≡◌ {A = Option ℕ} (Some a) (Some b) → a ≡ b
       some_same e = cc
@@ -146,35 +169,43 @@ module _ (c : Circuit) where
       same_time : (a b : ℕ) → a ≡ b → (a == b) ≡ true
       same_time a b e = grind arith
 
-  event_skips : (d e : Border) (time : Option ℕ) (t : ℕ) → d.time ≡ time → e.time ≡ Some t → line_order d e ≡ Less → (s : Signal) (rest : List Event) →
+  event_skips : (d e : Border) (time : Option ℕ) (t : ℕ) → d.time ≡ time → e.time ≡ Some t → line_order d e ≡ Less →
+      (s : Signal) (rest : List Event) →
       event_at (event_by d time s ++ rest) t e.cell.x e.cell.y ≡ event_at rest t e.cell.x e.cell.y
   unfolding event_at
   event_skips d e None t dt et less s rest = refl
   event_skips d e (Some u) t dt et less s rest = elim (cases_Bool (u == t)) [
-    | inl same ↦ event_past d (Some u) s rest t e.cell.x e.cell.y (other_cell d e (dt ∙ ap Some (eqb-true u t same) ∙ sym et) less)
+    | inl same ↦ event_past d (Some u) s rest t e.cell.x e.cell.y
+        (other_cell d e (dt ∙ ap Some (eqb-true u t same) ∙ sym et) less)
     | inr other ↦ cond-false _ _ _ (ap (λ b. b && is_at d.cell e.cell.x e.cell.y) other)
   ]
 
-  event_there : (e : Border) (t : ℕ) (es : List Border) → Rises es → In e es → e.time ≡ Some t → event_at (events_of es) t e.cell.x e.cell.y ≡ Some (line_signal c e.signal)
+  event_there : (e : Border) (t : ℕ) (es : List Border) → Rises es → In e es → e.time ≡ Some t →
+      event_at (events_of es) t e.cell.x e.cell.y ≡ Some (line_signal c e.signal)
   unfolding Pairs In
   event_there e t [] r i et = absurd i
   event_there e t (d ∷ es) r (inl same) et =
-      subst (λ x. event_at (event_by x x.time (line_signal c x.signal) ++ events_of es) t e.cell.x e.cell.y ≡ Some (line_signal c e.signal)) (sym same)
+      subst (λ x. event_at (event_by x x.time (line_signal c x.signal) ++ events_of es) t e.cell.x e.cell.y
+      ≡ Some (line_signal c e.signal)) (sym same)
       (event_first e e.time t (line_signal c e.signal) (events_of es) et)
   event_there e t (d ∷ es) r (inr later) et =
-      event_skips d e d.time t refl et (each_in (λ x. line_order d x ≡ Less) es r.0 e later) (line_signal c d.signal) (events_of es) ∙ event_there e t es r.1 later et
+      event_skips d e d.time t refl et (each_in (λ x. line_order d x ≡ Less) es r.0 e later) (line_signal c d.signal)
+      (events_of es) ∙ event_there e t es r.1 later et
 
   -- ---- either
 
-  said_by : (e : Border) (time : Option ℕ) (t : ℕ) (es : List Border) → e.time ≡ time → SaysAt t time → Rises es → AreUnstarred es → In e es →
+  said_by : (e : Border) (time : Option ℕ) (t : ℕ) (es : List Border) → e.time ≡ time → SaysAt t time → Rises es →
+      AreUnstarred es → In e es →
       signal_at (line_signals c es) t e.cell.x e.cell.y ≡ line_signal c e.signal
   unfolding signal_at
-  said_by e None t es et says r u i = ap (λ o. unwrap_or o (unwrap_or (event_at (events_of es) t e.cell.x e.cell.y) Zero)) (held_there e es r i et)
+  said_by e None t es et says r u i =
+      ap (λ o. unwrap_or o (unwrap_or (event_at (events_of es) t e.cell.x e.cell.y) Zero)) (held_there e es r i et)
   said_by e (Some v) t es et says r u i =
       let time : e.time ≡ Some t = et ∙ ap Some says in
       ap (λ o. unwrap_or o (unwrap_or (event_at (events_of es) t e.cell.x e.cell.y) Zero)) (none_held e t es time r u i)
       ∙ ap (λ (o : Option Signal). unwrap_or o Zero) (event_there e t es r i time)
 
   -- a line of lines in order says the signal of its cell
-  pub line_said : (e : Border) (t : ℕ) (es : List Border) → SaysAt t e.time → Rises es → AreUnstarred es → In e es → signal_at (line_signals c es) t e.cell.x e.cell.y ≡ line_signal c e.signal
+  pub line_said : (e : Border) (t : ℕ) (es : List Border) → SaysAt t e.time → Rises es → AreUnstarred es → In e es →
+      signal_at (line_signals c es) t e.cell.x e.cell.y ≡ line_signal c e.signal
   line_said e t es says r u i = said_by e e.time t es refl says r u i

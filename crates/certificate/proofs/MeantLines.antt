@@ -1,5 +1,6 @@
 -- The stops and kept gates of the modules that lines mean are those of the lines
-use Rattle.std.proofs.Common.{◌≡◌, ℕ, ◌+◌, ◌&&◌, ◌||◌, Bool, not, if◌then◌else◌, List, [], ◌∷◌, ◌++◌, map, refl, sym, ap, ap₂, ◌∙◌, inl, inr}
+use Rattle.std.proofs.Common.{◌≡◌, ℕ, ◌+◌, ◌&&◌, ◌||◌, Bool, not, if◌then◌else◌, List, [], ◌∷◌, ◌++◌, map, refl, sym}
+use Rattle.std.proofs.Common.{ap, ap₂, ◌∙◌, inl, inr}
 use Rattle.std.specs.List.{flat_map, list_any}
 use Rattle.std.proofs.lemmas.Bool.{cases_Bool}
 use Rattle.circuit.specs.Gates.{is_inverse}
@@ -18,7 +19,8 @@ module _ (g : Setting) (ms : List ModuleLines) where
 
   keeps_full : (m : ModuleLines) → keeps (with_halos g ms m) ≡ keeps m
   unfolding with_halos
-  keeps_full m = other_lines keep_in (record { halo = λ e. refl; stop = λ s. refl }) m.lines (in_order (beside g ms m.area))
+  keeps_full m = other_lines keep_in (record { halo = λ e. refl; stop = λ s. refl }) m.lines
+      (in_order (beside g ms m.area))
 
   pub stops_of_all : (ns : List ModuleLines) → all_stops (map (with_halos g ms) ns) ≡ all_stops ns
   stops_of_all [] = refl
@@ -34,19 +36,25 @@ stops_meant version g ms = elim (cases_Bool (is_haloless version)) [
   | inr old ↦ ap all_stops (meant_old version g ms old)
 ]
 
-pub times_meant : (version : ℕ) (g : Setting) (c : Circuit) (ms : List ModuleLines) → time_lines c (meant version g ms) ≡ time_lines c ms
-times_meant version g c ms = ap (λ ss. lines_by (first_seen c ss) (last_seen c ss) c.netlist.gates) (stops_meant version g ms)
+pub times_meant : (version : ℕ) (g : Setting) (c : Circuit) (ms : List ModuleLines) →
+    time_lines c (meant version g ms) ≡ time_lines c ms
+times_meant version g c ms = ap (λ ss. lines_by (first_seen c ss) (last_seen c ss) c.netlist.gates)
+    (stops_meant version g ms)
 
-pub kept_meant : (version : ℕ) (g : Setting) (ms : List ModuleLines) (k : ℕ) → is_kept (meant version g ms) k ≡ is_kept ms k
+pub kept_meant : (version : ℕ) (g : Setting) (ms : List ModuleLines) (k : ℕ) →
+    is_kept (meant version g ms) k ≡ is_kept ms k
 kept_meant version g ms k = elim (cases_Bool (is_haloless version)) [
   | inl new ↦ ap (λ ns. is_kept ns k) (meant_new version g ms new) ∙ kept_of_all g ms ms k
   | inr old ↦ ap (λ ns. is_kept ns k) (meant_old version g ms old)
 ]
 
-unkept_same : (ms ns : List ModuleLines) → ((k : ℕ) → is_kept ms k ≡ is_kept ns k) → (n : ℕ) (gs : List Gate) → unkept_from ms n gs ≡ unkept_from ns n gs
+unkept_same : (ms ns : List ModuleLines) → ((k : ℕ) → is_kept ms k ≡ is_kept ns k) → (n : ℕ) (gs : List Gate) →
+    unkept_from ms n gs ≡ unkept_from ns n gs
 unfolding unkept_from
 unkept_same ms ns same n [] = refl
-unkept_same ms ns same n (g ∷ gs) = ap₂ (λ (b : Bool) (rest : List ℕ). (if is_inverse g.kind && not b then n ∷ [] else []) ++ rest) (same n) (unkept_same ms ns same (n + 1) gs)
+unkept_same ms ns same n (g ∷ gs) =
+    ap₂ (λ (b : Bool) (rest : List ℕ). (if is_inverse g.kind && not b then n ∷ [] else []) ++ rest) (same n)
+    (unkept_same ms ns same (n + 1) gs)
 
 pub unkept_meant : (version : ℕ) (g : Setting) (ms : List ModuleLines) → unkept g (meant version g ms) ≡ unkept g ms
 unkept_meant version g ms = unkept_same (meant version g ms) ms (kept_meant version g ms) 0 g.circuit.netlist.gates

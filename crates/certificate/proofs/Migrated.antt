@@ -1,5 +1,7 @@
 -- Lines that are good are good without the halo lines
-use Rattle.std.proofs.Common.{◌≡◌, ℕ, ◌+◌, ◌<◌, ◌≤◌, Bool, true, false, not, ◌&&◌, ◌||◌, if◌then◌else◌, List, [], ◌∷◌, ◌++◌, map, length, Option, Some, None, option_map, refl, sym, ap, ap₂, subst, ◌∙◌, arith, append_assoc}
+use Rattle.std.proofs.Common.{◌≡◌, ℕ, ◌+◌, ◌<◌, ◌≤◌, Bool, true, false, not, ◌&&◌, ◌||◌, if◌then◌else◌, List, [], ◌∷◌}
+use Rattle.std.proofs.Common.{◌++◌, map, length, Option, Some, None, option_map, refl, sym, ap, ap₂, subst, ◌∙◌, arith}
+use Rattle.std.proofs.Common.{append_assoc}
 use Rattle.std.specs.Prelude.{nat_le, nat_lt}
 use Rattle.std.specs.List.{filter, flat_map, fold, list_all, list_any}
 use Rattle.std.specs.Option.{option_to_list}
@@ -11,13 +13,19 @@ use Rattle.circuit.specs.Meaning.{Circuit, wire_of}
 use Rattle.module_box.specs.Boxes.{in_box, in_halo}
 use Rattle.module_box.specs.Locals.{local_wires}
 use Rattle.module_box.specs.declared.boxes.Box2.{Box2}
-use Rattle.certificate_lines.specs.Entries.{Setting, ModuleLines, add_line, areas, change_last, cut_in, cut_wires, cuts, edge_in, edges, gates, halo_in, halos, known, last_of, modules_of, present, stop_in, stops, use_in, with_line}
+use Rattle.certificate_lines.specs.Entries.{Setting, ModuleLines, add_line, areas, change_last, cut_in, cut_wires, cuts}
+use Rattle.certificate_lines.specs.Entries.{edge_in, edges, gates, halo_in, halos, known, last_of, modules_of, present}
+use Rattle.certificate_lines.specs.Entries.{stop_in, stops, use_in, with_line}
 use Rattle.certificate.specs.Laws.{AreFaultlessLines, GoodWithoutHalos, IsSectionOf, SectionWithoutHalos}
 use Rattle.certificate.specs.Grammars.{certificate_grammar}
 use Rattle.certificate_lines.specs.Modules.{AreModules}
 use Rattle.certificate_lines.specs.Orders.{may_follow, may_precede}
-use Rattle.certificate_lines.specs.Rules.{cut_fault, is_edge_place, is_starred, use_fault, keep_fault, is_stop_place, border_count, border_fault, border_limit, end_fault, entry_fault, inner_fault, is_incomplete, is_local, lacks_port, leaves_gap, line_fault, module_fault, box_fault, is_misplaced, is_wrong_side, overlaps, words_fault}
-use Rattle.certificate_lines.specs.Versions.{AreGoodLines, beside, in_order, is_early, is_halo, is_haloless, is_strange, lacks_wire, meant, stripped, with_halos, without_halos}
+use Rattle.certificate_lines.specs.Rules.{cut_fault, is_edge_place, is_starred, use_fault, keep_fault, is_stop_place}
+use Rattle.certificate_lines.specs.Rules.{border_count, border_fault, border_limit, end_fault, entry_fault, inner_fault}
+use Rattle.certificate_lines.specs.Rules.{is_incomplete, is_local, lacks_port, leaves_gap, line_fault, module_fault}
+use Rattle.certificate_lines.specs.Rules.{box_fault, is_misplaced, is_wrong_side, overlaps, words_fault}
+use Rattle.certificate_lines.specs.Versions.{AreGoodLines, beside, in_order, is_early, is_halo, is_haloless, is_strange}
+use Rattle.certificate_lines.specs.Versions.{lacks_wire, meant, stripped, with_halos, without_halos}
 use Rattle.certificate_lines.specs.declared.entry.Border.{Border}
 use Rattle.certificate_lines.specs.declared.entry.Entry.{Entry}
 use Rattle.certificate_lines.specs.declared.entry.Entry.TheVariants.{Module, Cut, Use, Keep, Edge, Halo, Stop}
@@ -52,32 +60,49 @@ alone (Stop s) o = refl
 
 kept_line : (i : Entry) → is_halo i ≡ false → (m : ModuleLines) → stripped (with_line i m) ≡ with_line i (stripped m)
 unfolding stripped without_halos is_halo
-kept_line i other m = ap (λ l. record m { lines = l }) (without_append m.lines (i ∷ []) ∙ ap (λ l. without_halos m.lines ++ l) (alone i other))
+kept_line i other m = ap (λ l. record m { lines = l })
+    (without_append m.lines (i ∷ []) ∙ ap (λ l. without_halos m.lines ++ l) (alone i other))
 
 dropped_line : (e : Border) (m : ModuleLines) → stripped (with_line (Halo e) m) ≡ stripped m
 unfolding stripped without_halos is_halo
-dropped_line e m = ap (λ l. record m { lines = l }) (without_append m.lines (Halo e ∷ []) ∙ append-nil (without_halos m.lines))
+dropped_line e m = ap (λ l. record m { lines = l })
+    (without_append m.lines (Halo e ∷ []) ∙ append-nil (without_halos m.lines))
 
-inner_step : (i : Entry) → is_halo i ≡ false → (ms : List ModuleLines) → map stripped (change_last (with_line i) ms) ≡ change_last (with_line i) (map stripped ms)
+inner_step : (i : Entry) → is_halo i ≡ false → (ms : List ModuleLines) →
+    map stripped (change_last (with_line i) ms) ≡ change_last (with_line i) (map stripped ms)
 inner_step i other ms = map_changed stripped (with_line i) (with_line i) (kept_line i other) ms
 
 halo_step : (e : Border) (ms : List ModuleLines) → map stripped (change_last (with_line (Halo e)) ms) ≡ map stripped ms
 halo_step e ms = map_changed stripped (with_line (Halo e)) (λ m. m) (dropped_line e) ms ∙ unchanged (map stripped ms)
 
-module_step : (b : Box2) (ms : List ModuleLines) → map stripped (ms ++ record { area = b; lines = [] } ∷ []) ≡ map stripped ms ++ record { area = b; lines = [] } ∷ []
+module_step : (b : Box2) (ms : List ModuleLines) →
+    map stripped (ms ++ record { area = b; lines = [] } ∷ []) ≡ map stripped ms ++ record { area = b; lines = [] } ∷ []
 unfolding stripped without_halos
 module_step b ms = map-append stripped ms (record { area = b; lines = [] } ∷ [])
 
-modules_on : (es : List Entry) (ms : List ModuleLines) → fold add_line (map stripped ms) (without_halos es) ≡ map stripped (fold add_line ms es)
+modules_on : (es : List Entry) (ms : List ModuleLines) →
+    fold add_line (map stripped ms) (without_halos es) ≡ map stripped (fold add_line ms es)
 unfolding without_halos is_halo add_line
 modules_on [] ms = refl
-modules_on (Module b ∷ es) ms = ap (λ l. fold add_line l (without_halos es)) (sym (module_step b ms)) ∙ modules_on es (ms ++ record { area = b; lines = [] } ∷ [])
-modules_on (Cut n ∷ es) ms = ap (λ l. fold add_line l (without_halos es)) (sym (inner_step (Cut n) refl ms)) ∙ modules_on es (change_last (with_line (Cut n)) ms)
-modules_on (Use k ∷ es) ms = ap (λ l. fold add_line l (without_halos es)) (sym (inner_step (Use k) refl ms)) ∙ modules_on es (change_last (with_line (Use k)) ms)
-modules_on (Keep k ∷ es) ms = ap (λ l. fold add_line l (without_halos es)) (sym (inner_step (Keep k) refl ms)) ∙ modules_on es (change_last (with_line (Keep k)) ms)
-modules_on (Edge e ∷ es) ms = ap (λ l. fold add_line l (without_halos es)) (sym (inner_step (Edge e) refl ms)) ∙ modules_on es (change_last (with_line (Edge e)) ms)
-modules_on (Halo e ∷ es) ms = ap (λ l. fold add_line l (without_halos es)) (sym (halo_step e ms)) ∙ modules_on es (change_last (with_line (Halo e)) ms)
-modules_on (Stop s ∷ es) ms = ap (λ l. fold add_line l (without_halos es)) (sym (inner_step (Stop s) refl ms)) ∙ modules_on es (change_last (with_line (Stop s)) ms)
+modules_on (Module b ∷ es) ms =
+    ap (λ l. fold add_line l (without_halos es)) (sym (module_step b ms))
+    ∙ modules_on es (ms ++ record { area = b; lines = [] } ∷ [])
+modules_on (Cut n ∷ es) ms = ap (λ l. fold add_line l (without_halos es)) (sym (inner_step (Cut n) refl ms))
+    ∙ modules_on es (change_last (with_line (Cut n)) ms)
+modules_on (Use k ∷ es) ms = ap (λ l. fold add_line l (without_halos es)) (sym (inner_step (Use k) refl ms))
+    ∙ modules_on es (change_last (with_line (Use k)) ms)
+modules_on (Keep k ∷ es) ms =
+    ap (λ l. fold add_line l (without_halos es)) (sym (inner_step (Keep k) refl ms))
+    ∙ modules_on es (change_last (with_line (Keep k)) ms)
+modules_on (Edge e ∷ es) ms =
+    ap (λ l. fold add_line l (without_halos es)) (sym (inner_step (Edge e) refl ms))
+    ∙ modules_on es (change_last (with_line (Edge e)) ms)
+modules_on (Halo e ∷ es) ms =
+    ap (λ l. fold add_line l (without_halos es)) (sym (halo_step e ms))
+    ∙ modules_on es (change_last (with_line (Halo e)) ms)
+modules_on (Stop s ∷ es) ms =
+    ap (λ l. fold add_line l (without_halos es)) (sym (inner_step (Stop s) refl ms))
+    ∙ modules_on es (change_last (with_line (Stop s)) ms)
 
 pub modules_without : (es : List Entry) → modules_of (without_halos es) ≡ map stripped (modules_of es)
 unfolding modules_of
@@ -114,11 +139,13 @@ module _ (g : Setting) (m : ModuleLines) where
   stops_kept = without_same stop_in (λ e. refl) m.lines
 
   pub known_kept : known g.circuit (stripped m) ≡ known g.circuit m
-  known_kept = ap₂ (λ cs gs. local_wires g.circuit.netlist (flat_map (λ n. option_to_list (wire_of g.circuit n)) cs) gs) cuts_kept gates_kept
+  known_kept = ap₂ (λ cs gs. local_wires g.circuit.netlist (flat_map (λ n. option_to_list (wire_of g.circuit n)) cs) gs)
+      cuts_kept gates_kept
 
   lacks_kept : lacks_port g (stripped m) ≡ lacks_port g m
   unfolding lacks_port stripped
-  lacks_kept = ap (λ ws. list_any (λ p. in_box m.area p.cell.x p.cell.y && not (is_local g.circuit ws p.name)) g.ports) known_kept
+  lacks_kept = ap (λ ws. list_any (λ p. in_box m.area p.cell.x p.cell.y && not (is_local g.circuit ws p.name)) g.ports)
+      known_kept
 
   fewer_halos : length (halos (stripped m)) ≡ 0
   unfolding stripped
@@ -140,13 +167,26 @@ incomplete_kept g (Some m) = lacks_kept g m
 follow_less : (lines : List Entry) (i : Entry) → may_follow lines i ≡ true → may_follow (without_halos lines) i ≡ true
 unfolding may_follow without_halos is_halo
 follow_less [] i h = refl
-follow_less (Module b ∷ lines) i h = let both = and_parts (may_precede (Module b) i) (list_all (λ j. may_precede j i) lines) h in rw (both.0, follow_less lines i both.1) refl
-follow_less (Cut n ∷ lines) i h = let both = and_parts (may_precede (Cut n) i) (list_all (λ j. may_precede j i) lines) h in rw (both.0, follow_less lines i both.1) refl
-follow_less (Use k ∷ lines) i h = let both = and_parts (may_precede (Use k) i) (list_all (λ j. may_precede j i) lines) h in rw (both.0, follow_less lines i both.1) refl
-follow_less (Keep k ∷ lines) i h = let both = and_parts (may_precede (Keep k) i) (list_all (λ j. may_precede j i) lines) h in rw (both.0, follow_less lines i both.1) refl
-follow_less (Edge e ∷ lines) i h = let both = and_parts (may_precede (Edge e) i) (list_all (λ j. may_precede j i) lines) h in rw (both.0, follow_less lines i both.1) refl
-follow_less (Halo e ∷ lines) i h = follow_less lines i (and_parts (may_precede (Halo e) i) (list_all (λ j. may_precede j i) lines) h).1
-follow_less (Stop s ∷ lines) i h = let both = and_parts (may_precede (Stop s) i) (list_all (λ j. may_precede j i) lines) h in rw (both.0, follow_less lines i both.1) refl
+follow_less (Module b ∷ lines) i h = let both =
+    and_parts (may_precede (Module b) i) (list_all (λ j. may_precede j i) lines) h in
+    rw (both.0, follow_less lines i both.1) refl
+follow_less (Cut n ∷ lines) i h = let both =
+    and_parts (may_precede (Cut n) i) (list_all (λ j. may_precede j i) lines) h in
+    rw (both.0, follow_less lines i both.1) refl
+follow_less (Use k ∷ lines) i h = let both =
+    and_parts (may_precede (Use k) i) (list_all (λ j. may_precede j i) lines) h in
+    rw (both.0, follow_less lines i both.1) refl
+follow_less (Keep k ∷ lines) i h = let both =
+    and_parts (may_precede (Keep k) i) (list_all (λ j. may_precede j i) lines) h in
+    rw (both.0, follow_less lines i both.1) refl
+follow_less (Edge e ∷ lines) i h = let both =
+    and_parts (may_precede (Edge e) i) (list_all (λ j. may_precede j i) lines) h in
+    rw (both.0, follow_less lines i both.1) refl
+follow_less (Halo e ∷ lines) i h =
+    follow_less lines i (and_parts (may_precede (Halo e) i) (list_all (λ j. may_precede j i) lines) h).1
+follow_less (Stop s ∷ lines) i h = let both =
+    and_parts (may_precede (Stop s) i) (list_all (λ j. may_precede j i) lines) h in
+    rw (both.0, follow_less lines i both.1) refl
 
 true_of : (b : Bool) → not b ≡ false → b ≡ true
 true_of true h = refl
@@ -163,33 +203,43 @@ coded false code h = refl
 smaller : (limit n k : ℕ) → n ≤ k → nat_le limit k ≡ false → nat_le limit n ≡ false
 smaller limit n k le h = grind (arith, nat_tests)
 
-border_less : (c : Circuit) (n k : ℕ) (local : List ℕ) (placed : Bool) (s : Option (List ℕ)) → n ≤ k → border_fault c k local placed s ≡ None → border_fault c n local placed s ≡ None
+border_less : (c : Circuit) (n k : ℕ) (local : List ℕ) (placed : Bool) (s : Option (List ℕ)) → n ≤ k →
+    border_fault c k local placed s ≡ None → border_fault c n local placed s ≡ None
 unfolding border_fault
 border_less c n k local placed s le h =
     let parts = both_none _ _ h in
     none_both _ _ (coded _ 2 (smaller border_limit n k le (no_code _ 2 parts.0))) parts.1
 
-words_kept : (g : Setting) (m : ModuleLines) (i : Entry) → is_halo i ≡ false → words_fault g m i ≡ None → words_fault g (stripped m) i ≡ None
+words_kept : (g : Setting) (m : ModuleLines) (i : Entry) → is_halo i ≡ false → words_fault g m i ≡ None →
+    words_fault g (stripped m) i ≡ None
 unfolding is_halo stripped
 words_kept g m (Module b) o h = refl
 words_kept g m (Cut n) o h = ap₂ (λ cs ws. cut_fault g.circuit (length cs) ws n) (cuts_kept g m) (known_kept g m) ∙ h
 words_kept g m (Use k) o h = ap₂ (λ gs ws. use_fault g.circuit (length gs) ws k) (gates_kept g m) (known_kept g m) ∙ h
 words_kept g m (Keep k) o h = ap (λ gs. keep_fault g.circuit gs k) (gates_kept g m) ∙ h
 words_kept g m (Edge e) o h =
-    border_less g.circuit (border_count (stripped m)) (border_count m) (known g.circuit (stripped m)) _ e.signal (fewer g m)
-    (ap₂ (λ es ws. border_fault g.circuit (border_count m) ws (is_edge_place g.size m.area (list_any (is_starred e.cell) es) e) e.signal) (edges_kept g m) (known_kept g m) ∙ h)
+    border_less g.circuit (border_count (stripped m)) (border_count m) (known g.circuit (stripped m)) _ e.signal
+    (fewer g m)
+    (ap₂ (λ es ws. border_fault g.circuit (border_count m) ws
+    (is_edge_place g.size m.area (list_any (is_starred e.cell) es) e) e.signal) (edges_kept g m) (known_kept g m) ∙ h)
 words_kept g m (Halo e) o h = absurd cc
 words_kept g m (Stop s) o h =
-    border_less g.circuit (border_count (stripped m)) (border_count m) (known g.circuit (stripped m)) _ (Some s.wire) (fewer g m)
-    (ap (λ ws. border_fault g.circuit (border_count m) ws (is_stop_place g.size m.area s) (Some s.wire)) (known_kept g m) ∙ h)
+    border_less g.circuit (border_count (stripped m)) (border_count m) (known g.circuit (stripped m)) _ (Some s.wire)
+    (fewer g m)
+    (ap (λ ws. border_fault g.circuit (border_count m) ws (is_stop_place g.size m.area s) (Some s.wire))
+    (known_kept g m) ∙ h)
 
-line_kept : (g : Setting) (m : ModuleLines) (i : Entry) → is_halo i ≡ false → line_fault g m i ≡ None → line_fault g (stripped m) i ≡ None
+line_kept : (g : Setting) (m : ModuleLines) (i : Entry) → is_halo i ≡ false → line_fault g m i ≡ None →
+    line_fault g (stripped m) i ≡ None
 unfolding stripped
 line_kept g m i o h =
     let parts = both_none _ (words_fault g m i) h in
-    none_both _ (words_fault g (stripped m) i) (ap (λ b. code_where (not b) 6) (follow_less m.lines i (true_of _ (no_code _ 6 parts.0)))) (words_kept g m i o parts.1)
+    none_both _ (words_fault g (stripped m) i)
+    (ap (λ b. code_where (not b) 6) (follow_less m.lines i (true_of _ (no_code _ 6 parts.0))))
+    (words_kept g m i o parts.1)
 
-inner_kept : (g : Setting) (p : Option ModuleLines) (i : Entry) → is_halo i ≡ false → inner_fault g p i ≡ None → inner_fault g (option_map stripped p) i ≡ None
+inner_kept : (g : Setting) (p : Option ModuleLines) (i : Entry) → is_halo i ≡ false → inner_fault g p i ≡ None →
+    inner_fault g (option_map stripped p) i ≡ None
 inner_kept g None i o h = absurd cc
 inner_kept g (Some m) i o h = line_kept g m i o h
 
@@ -197,19 +247,28 @@ module _ (g : Setting) (before : List Entry) where
   present_without : present (without_halos before) ≡ option_map stripped (present before)
   present_without = ap last_of (modules_without before) ∙ last_stripped (modules_of before)
 
-  module_kept : (b : Box2) → module_fault g (modules_of before) (present before) b ≡ None → module_fault g (modules_of (without_halos before)) (present (without_halos before)) b ≡ None
+  module_kept : (b : Box2) → module_fault g (modules_of before) (present before) b ≡ None →
+      module_fault g (modules_of (without_halos before)) (present (without_halos before)) b ≡ None
   unfolding module_fault box_fault
   module_kept b h =
-      ap (λ a. or_else (or_else (code_where a 11) (or_else (code_where (is_wrong_side b.w || is_wrong_side b.h || nat_le 1024 (length (modules_of (without_halos before)))) 2) (code_where (is_misplaced g.size b) 8))) (code_where (overlaps (areas (modules_of (without_halos before))) b) 8))
+      ap (λ a. or_else (or_else (code_where a 11)
+      (or_else (code_where (is_wrong_side b.w || is_wrong_side b.h
+      || nat_le 1024 (length (modules_of (without_halos before)))) 2) (code_where (is_misplaced g.size b) 8)))
+      (code_where (overlaps (areas (modules_of (without_halos before))) b) 8))
       (ap (is_incomplete g) present_without ∙ incomplete_kept g (present before))
-      ∙ ap₂ (λ n bs. or_else (or_else (code_where (is_incomplete g (present before)) 11) (or_else (code_where (is_wrong_side b.w || is_wrong_side b.h || nat_le 1024 n) 2) (code_where (is_misplaced g.size b) 8))) (code_where (overlaps bs b) 8))
-      (ap length (modules_without before) ∙ length-map (modules_of before) stripped) (ap areas (modules_without before) ∙ areas_stripped (modules_of before))
+      ∙ ap₂ (λ n bs. or_else (or_else (code_where (is_incomplete g (present before)) 11)
+      (or_else (code_where (is_wrong_side b.w || is_wrong_side b.h || nat_le 1024 n) 2)
+      (code_where (is_misplaced g.size b) 8))) (code_where (overlaps bs b) 8))
+      (ap length (modules_without before) ∙ length-map (modules_of before) stripped)
+      (ap areas (modules_without before) ∙ areas_stripped (modules_of before))
       ∙ h
 
-  inner_line : (i : Entry) → is_halo i ≡ false → inner_fault g (present before) i ≡ None → inner_fault g (present (without_halos before)) i ≡ None
+  inner_line : (i : Entry) → is_halo i ≡ false → inner_fault g (present before) i ≡ None →
+      inner_fault g (present (without_halos before)) i ≡ None
   inner_line i o h = ap (λ p. inner_fault g p i) present_without ∙ inner_kept g (present before) i o h
 
-  entry_kept : (i : Entry) → is_halo i ≡ false → entry_fault g before i ≡ None → entry_fault g (without_halos before) i ≡ None
+  entry_kept : (i : Entry) → is_halo i ≡ false → entry_fault g before i ≡ None →
+      entry_fault g (without_halos before) i ≡ None
   unfolding entry_fault is_halo
   entry_kept (Module b) o h = module_kept b h
   entry_kept (Cut n) o h = inner_line (Cut n) refl h
@@ -222,11 +281,14 @@ module _ (g : Setting) (before : List Entry) where
   pub end_kept : end_fault g before ≡ None → end_fault g (without_halos before) ≡ None
   unfolding end_fault
   end_kept h =
-      ap₂ (λ a bs. code_where (a || leaves_gap g.size bs) 11) (ap (is_incomplete g) present_without ∙ incomplete_kept g (present before)) (ap areas (modules_without before) ∙ areas_stripped (modules_of before)) ∙ h
+      ap₂ (λ a bs. code_where (a || leaves_gap g.size bs) 11)
+      (ap (is_incomplete g) present_without ∙ incomplete_kept g (present before))
+      (ap areas (modules_without before) ∙ areas_stripped (modules_of before)) ∙ h
 
 -- ---- all lines
 
-without_one : (before : List Entry) (i : Entry) → is_halo i ≡ false → without_halos (before ++ i ∷ []) ≡ without_halos before ++ i ∷ []
+without_one : (before : List Entry) (i : Entry) → is_halo i ≡ false →
+    without_halos (before ++ i ∷ []) ≡ without_halos before ++ i ∷ []
 unfolding is_halo without_halos
 without_one before (Module b) o = without_append before (Module b ∷ [])
 without_one before (Cut n) o = without_append before (Cut n ∷ [])
@@ -240,20 +302,31 @@ without_last : (before : List Entry) (e : Border) → without_halos (before ++ H
 unfolding is_halo without_halos
 without_last before e = without_append before (Halo e ∷ []) ∙ append-nil (without_halos before)
 
-good_more : (g : Setting) (i : Entry) (es before : List Entry) → is_halo i ≡ false → entry_fault g before i ≡ None → AreGoodLines g (without_halos (before ++ i ∷ [])) (without_halos es) →
+good_more : (g : Setting) (i : Entry) (es before : List Entry) → is_halo i ≡ false → entry_fault g before i ≡ None →
+    AreGoodLines g (without_halos (before ++ i ∷ [])) (without_halos es) →
     AreGoodLines g (without_halos before) (i ∷ without_halos es)
-good_more g i es before o good later = (entry_kept g before i o good, subst (λ bs. AreGoodLines g bs (without_halos es)) (without_one before i o) later)
+good_more g i es before o good later =
+    (entry_kept g before i o good, subst (λ bs. AreGoodLines g bs (without_halos es)) (without_one before i o) later)
 
-pub good_on : (g : Setting) (es before : List Entry) → AreGoodLines g before es → AreGoodLines g (without_halos before) (without_halos es)
+pub good_on : (g : Setting) (es before : List Entry) → AreGoodLines g before es →
+    AreGoodLines g (without_halos before) (without_halos es)
 unfolding without_halos is_halo
 good_on g [] before good = tt
-good_on g (Module b ∷ es) before good = good_more g (Module b) es before refl good.0 (good_on g es (before ++ Module b ∷ []) good.1)
-good_on g (Cut n ∷ es) before good = good_more g (Cut n) es before refl good.0 (good_on g es (before ++ Cut n ∷ []) good.1)
-good_on g (Use k ∷ es) before good = good_more g (Use k) es before refl good.0 (good_on g es (before ++ Use k ∷ []) good.1)
-good_on g (Keep k ∷ es) before good = good_more g (Keep k) es before refl good.0 (good_on g es (before ++ Keep k ∷ []) good.1)
-good_on g (Edge e ∷ es) before good = good_more g (Edge e) es before refl good.0 (good_on g es (before ++ Edge e ∷ []) good.1)
-good_on g (Halo e ∷ es) before good = subst (λ bs. AreGoodLines g bs (without_halos es)) (without_last before e) (good_on g es (before ++ Halo e ∷ []) good.1)
-good_on g (Stop s ∷ es) before good = good_more g (Stop s) es before refl good.0 (good_on g es (before ++ Stop s ∷ []) good.1)
+good_on g (Module b ∷ es) before good =
+    good_more g (Module b) es before refl good.0 (good_on g es (before ++ Module b ∷ []) good.1)
+good_on g (Cut n ∷ es) before good =
+    good_more g (Cut n) es before refl good.0 (good_on g es (before ++ Cut n ∷ []) good.1)
+good_on g (Use k ∷ es) before good =
+    good_more g (Use k) es before refl good.0 (good_on g es (before ++ Use k ∷ []) good.1)
+good_on g (Keep k ∷ es) before good =
+    good_more g (Keep k) es before refl good.0 (good_on g es (before ++ Keep k ∷ []) good.1)
+good_on g (Edge e ∷ es) before good =
+    good_more g (Edge e) es before refl good.0 (good_on g es (before ++ Edge e ∷ []) good.1)
+good_on g (Halo e ∷ es) before good =
+    subst (λ bs. AreGoodLines g bs (without_halos es)) (without_last before e)
+    (good_on g es (before ++ Halo e ∷ []) good.1)
+good_on g (Stop s ∷ es) before good =
+    good_more g (Stop s) es before refl good.0 (good_on g es (before ++ Stop s ∷ []) good.1)
 
 pub good_without_halos : GoodWithoutHalos
 unfolding without_halos
@@ -268,9 +341,12 @@ edges_stripped : (g : Setting) (ms : List ModuleLines) → flat_map edges (map s
 edges_stripped g [] = refl
 edges_stripped g (m ∷ ms) = ap₂ (λ xs ys. xs ++ ys) (edges_kept g m) (edges_stripped g ms)
 
-beside_stripped : (g : Setting) (ms : List ModuleLines) (area : Box2) → beside g (map stripped ms) area ≡ beside g ms area
+beside_stripped : (g : Setting) (ms : List ModuleLines) (area : Box2) →
+    beside g (map stripped ms) area ≡ beside g ms area
 unfolding beside
-beside_stripped g ms area = ap (λ es. if nat_lt 1 g.size.steps then filter (λ (e : Border). in_halo area e.cell.x e.cell.y) es else []) (edges_stripped g ms)
+beside_stripped g ms area = ap
+    (λ es. if nat_lt 1 g.size.steps then filter (λ (e : Border). in_halo area e.cell.x e.cell.y) es else [])
+    (edges_stripped g ms)
 
 early_without : (lines : List Entry) → filter is_early (without_halos lines) ≡ filter is_early lines
 unfolding without_halos is_halo is_early
@@ -283,29 +359,43 @@ early_without (Edge e ∷ lines) = ap (λ l. Edge e ∷ l) (early_without lines)
 early_without (Halo e ∷ lines) = early_without lines
 early_without (Stop s ∷ lines) = early_without lines
 
-full_same : (g : Setting) (ms : List ModuleLines) (m : ModuleLines) → with_halos g (map stripped ms) (stripped m) ≡ with_halos g ms m
+full_same : (g : Setting) (ms : List ModuleLines) (m : ModuleLines) →
+    with_halos g (map stripped ms) (stripped m) ≡ with_halos g ms m
 unfolding with_halos stripped
 full_same g ms m =
-    ap₂ (λ (lines : List Entry) (hs : List Border). record m { lines = lines ++ map Halo (in_order hs) ++ map Stop (stops (stripped m)) }) (early_without m.lines) (beside_stripped g ms m.area)
-    ∙ ap (λ ss. record m { lines = filter is_early m.lines ++ map Halo (in_order (beside g ms m.area)) ++ map Stop ss }) (stops_kept g m)
+    ap₂ (λ (lines : List Entry) (hs : List Border).
+    record m { lines = lines ++ map Halo (in_order hs) ++ map Stop (stops (stripped m)) }) (early_without m.lines)
+    (beside_stripped g ms m.area)
+    ∙ ap (λ ss. record m { lines = filter is_early m.lines ++ map Halo (in_order (beside g ms m.area)) ++ map Stop ss })
+    (stops_kept g m)
 
-fulls_same : (g : Setting) (ms ns : List ModuleLines) → map (with_halos g (map stripped ms)) (map stripped ns) ≡ map (with_halos g ms) ns
+fulls_same : (g : Setting) (ms ns : List ModuleLines) →
+    map (with_halos g (map stripped ms)) (map stripped ns) ≡ map (with_halos g ms) ns
 fulls_same g ms [] = refl
 fulls_same g ms (n ∷ ns) = ap₂ (λ x xs. x ∷ xs) (full_same g ms n) (fulls_same g ms ns)
 
-pub migrated_modules : (g : Setting) (es : List Entry) → meant 2 g (modules_of (without_halos es)) ≡ map (with_halos g (modules_of es)) (modules_of es)
-migrated_modules g es = meant_new 2 g (modules_of (without_halos es)) refl ∙ ap (λ ms. map (with_halos g ms) ms) (modules_without es) ∙ fulls_same g (modules_of es) (modules_of es)
+pub migrated_modules : (g : Setting) (es : List Entry) →
+    meant 2 g (modules_of (without_halos es)) ≡ map (with_halos g (modules_of es)) (modules_of es)
+migrated_modules g es = meant_new 2 g (modules_of (without_halos es)) refl
+    ∙ ap (λ ms. map (with_halos g ms) ms) (modules_without es) ∙ fulls_same g (modules_of es) (modules_of es)
 
-lacks_one : (g : Setting) (ms : List ModuleLines) (m : ModuleLines) → list_any (λ e. is_strange g.circuit (known g.circuit (stripped m)) e.signal) (beside g (map stripped ms) (stripped m).area) ≡ list_any (λ e. is_strange g.circuit (known g.circuit m) e.signal) (beside g ms m.area)
+lacks_one : (g : Setting) (ms : List ModuleLines) (m : ModuleLines) →
+    list_any (λ e. is_strange g.circuit (known g.circuit (stripped m)) e.signal)
+    (beside g (map stripped ms) (stripped m).area)
+    ≡ list_any (λ e. is_strange g.circuit (known g.circuit m) e.signal) (beside g ms m.area)
 lacks_one g ms m =
-    ap₂ (λ ws es. list_any (λ (e : Border). is_strange g.circuit ws e.signal) es) (known_kept g m) (ap (beside g (map stripped ms)) (area_kept g m) ∙ beside_stripped g ms m.area)
+    ap₂ (λ ws es. list_any (λ (e : Border). is_strange g.circuit ws e.signal) es) (known_kept g m)
+    (ap (beside g (map stripped ms)) (area_kept g m) ∙ beside_stripped g ms m.area)
 
-lacks_all : (g : Setting) (ms ns : List ModuleLines) → list_any (λ m. list_any (λ e. is_strange g.circuit (known g.circuit m) e.signal) (beside g (map stripped ms) m.area)) (map stripped ns)
+lacks_all : (g : Setting) (ms ns : List ModuleLines) →
+    list_any (λ m. list_any (λ e. is_strange g.circuit (known g.circuit m) e.signal)
+    (beside g (map stripped ms) m.area)) (map stripped ns)
     ≡ list_any (λ m. list_any (λ e. is_strange g.circuit (known g.circuit m) e.signal) (beside g ms m.area)) ns
 lacks_all g ms [] = refl
 lacks_all g ms (n ∷ ns) = ap₂ (λ a b. a || b) (lacks_one g ms n) (lacks_all g ms ns)
 
-pub migrated_lacks : (g : Setting) (es : List Entry) → lacks_wire g (modules_of (without_halos es)) ≡ lacks_wire g (modules_of es)
+pub migrated_lacks : (g : Setting) (es : List Entry) →
+    lacks_wire g (modules_of (without_halos es)) ≡ lacks_wire g (modules_of es)
 unfolding lacks_wire
 migrated_lacks g es = ap (lacks_wire g) (modules_without es) ∙ lacks_all g (modules_of es) (modules_of es)
 
@@ -313,9 +403,13 @@ migrated_lacks g es = ap (lacks_wire g) (modules_without es) ∙ lacks_all g (mo
 
 good_of : (g : Setting) (es before : List Entry) → AreFaultlessLines g 1 before es → AreGoodLines g before es
 good_of g [] before h = tt
-good_of g (i ∷ es) before h = ((both_none (code_where (is_haloless 1 && is_halo i) 1) (entry_fault g before i) h.0).1, good_of g es (before ++ i ∷ []) h.1)
+good_of g (i ∷ es) before h = (
+  (both_none (code_where (is_haloless 1 && is_halo i) 1) (entry_fault g before i) h.0).1,
+  good_of g es (before ++ i ∷ []) h.1,
+)
 
-faultless_two : (g : Setting) (es before : List Entry) → AreGoodLines g before (without_halos es) → AreFaultlessLines g 2 before (without_halos es)
+faultless_two : (g : Setting) (es before : List Entry) → AreGoodLines g before (without_halos es) →
+    AreFaultlessLines g 2 before (without_halos es)
 unfolding without_halos is_halo
 faultless_two g [] before h = tt
 faultless_two g (Module b ∷ es) before h = (h.0, faultless_two g es (before ++ Module b ∷ []) h.1)
@@ -328,16 +422,23 @@ faultless_two g (Stop s ∷ es) before h = (h.0, faultless_two g es (before ++ S
 
 pub section_without_halos : SectionWithoutHalos
 section_without_halos g es is knows =
-    let good = good_without_halos g es (record { lines = good_of g es [] is.lines; end = (both_none (end_fault g es) (code_where (is_haloless 1 && lacks_wire g (modules_of es)) 11) is.end).0 }) in
+    let good = good_without_halos g es (record {
+      lines = good_of g es [] is.lines;
+      end = (both_none (end_fault g es) (code_where (is_haloless 1 && lacks_wire g (modules_of es)) 11) is.end).0;
+    }) in
     record {
       header = refl;
       lines = faultless_two g es [] good.lines;
-      end = none_both (end_fault g (without_halos es)) (code_where (is_haloless 2 && lacks_wire g (modules_of (without_halos es))) 11) good.end (coded _ 11 (migrated_lacks g es ∙ knows));
+      end = none_both (end_fault g (without_halos es))
+          (code_where (is_haloless 2 && lacks_wire g (modules_of (without_halos es))) 11) good.end
+          (coded _ 11 (migrated_lacks g es ∙ knows));
     }
 
-faultless_lines : (g : Setting) (v : ℕ) (es before : List Entry) → AreFaultlessLines g v before es → AreFaultless (certificate_grammar g) v before es
+faultless_lines : (g : Setting) (v : ℕ) (es before : List Entry) → AreFaultlessLines g v before es →
+    AreFaultless (certificate_grammar g) v before es
 faultless_lines g v [] before h = tt
 faultless_lines g v (i ∷ es) before h = (h.0, faultless_lines g v es (before ++ i ∷ []) h.1)
 
 pub section_modules : (g : Setting) (v : ℕ) (es : List Entry) → IsSectionOf g v es → AreModules g (modules_of es)
-section_modules g v es is = faultless_modules g v es (record { header = is.header; each = faultless_lines g v es [] is.lines; end = is.end })
+section_modules g v es is = faultless_modules g v es
+    (record { header = is.header; each = faultless_lines g v es [] is.lines; end = is.end })

@@ -1,5 +1,6 @@
 -- The cells of a module's edge and halo lines lie within 512 columns and rows.
-use Rattle.std.proofs.Common.{◌≡◌, ℕ, ◌+◌, ◌<◌, ◌≤◌, List, [], ◌∷◌, map, true, Option, Some, None, sym, ap, subst, ◌∙◌, arith, get_or}
+use Rattle.std.proofs.Common.{◌≡◌, ℕ, ◌+◌, ◌<◌, ◌≤◌, List, [], ◌∷◌, map, true, Option, Some, None, sym, ap, subst, ◌∙◌}
+use Rattle.std.proofs.Common.{arith, get_or}
 use Rattle.std.specs.Prelude.{ℤ, pos, ◌+ℤ◌, ◌≤ℤ◌}
 use Rattle.std.specs.List.{All, flat_map}
 use Rattle.std.proofs.lemmas.Bool.{and_parts}
@@ -47,54 +48,66 @@ ring_inside : (b : Box2) (x y : ℤ) → in_ring b x y ≡ true → in_box b x y
 unfolding in_ring
 ring_inside b x y h = (and_parts _ _ h).0
 
-pub low_edges : (g : Setting) (m : ModuleLines) (s : Extent) → s ≡ g.size → size_fault s ≡ None → IsModule g m → All (λ e. IsLow e.cell) (edges m)
+pub low_edges : (g : Setting) (m : ModuleLines) (s : Extent) → s ≡ g.size → size_fault s ≡ None → IsModule g m →
+    All (λ e. IsLow e.cell) (edges m)
 low_edges g m s is limits h k d lt =
     let w = within_512 g m s is limits h in
     let e = get_or (edges m) k d in
     low_in_box m.area e.cell w.0 w.1 (ring_inside m.area e.cell.x e.cell.y (h.edge_lines k d lt).ring)
 
-pub low_halos : (g : Setting) (m : ModuleLines) (s : Extent) → s ≡ g.size → size_fault s ≡ None → IsModule g m → All (λ e. IsLow e.cell) (halos m)
+pub low_halos : (g : Setting) (m : ModuleLines) (s : Extent) → s ≡ g.size → size_fault s ≡ None → IsModule g m →
+    All (λ e. IsLow e.cell) (halos m)
 low_halos g m s is limits h k d lt =
     let sized = is_sized s limits in
     let wide = sized.width.1 in
     let high = sized.height.1 in
     let e = get_or (halos m) k d in
-    low_in_box (whole s) e.cell (omega (arith, wide)) (omega (arith, high)) (ap (λ (t : Extent). in_box (whole t) e.cell.x e.cell.y) is ∙ (h.halo_lines k d lt).inside)
+    low_in_box (whole s) e.cell (omega (arith, wide)) (omega (arith, high))
+    (ap (λ (t : Extent). in_box (whole t) e.cell.x e.cell.y) is ∙ (h.halo_lines k d lt).inside)
 
-pub low_stops : (g : Setting) (m : ModuleLines) (s : Extent) → s ≡ g.size → size_fault s ≡ None → IsModule g m → All (λ e. IsLow e.cell) (stops m)
+pub low_stops : (g : Setting) (m : ModuleLines) (s : Extent) → s ≡ g.size → size_fault s ≡ None → IsModule g m →
+    All (λ e. IsLow e.cell) (stops m)
 low_stops g m s is limits h k d lt =
     let w = within_512 g m s is limits h in
     let e = get_or (stops m) k d in
     low_in_box m.area e.cell w.0 w.1 (h.stop_lines k d lt).inside
 
 -- ---- what holds of the cells of lines holds of those of their signals
-flat_all : {X A : Type 0} (P : A → Type 0) (f : X → List A) (Q : X → Type 0) → ((x : X) → Q x → All P (f x)) → (xs : List X) → All Q xs → All P (flat_map f xs)
+flat_all : {X A : Type 0} (P : A → Type 0) (f : X → List A) (Q : X → Type 0) → ((x : X) → Q x → All P (f x)) →
+    (xs : List X) → All Q xs → All P (flat_map f xs)
 flat_all P f Q each [] all = All-nil P
-flat_all P f Q each (x ∷ xs) all = All-append P (f x) (flat_map f xs) (each x (All-head Q x xs all)) (flat_all P f Q each xs (All-tail Q x xs all))
+flat_all P f Q each (x ∷ xs) all =
+    All-append P (f x) (flat_map f xs) (each x (All-head Q x xs all)) (flat_all P f Q each xs (All-tail Q x xs all))
 
 unmapped : {X A : Type 0} (P : A → Type 0) (f : X → A) (xs : List X) → All P (map f xs) → All (λ x. P (f x)) xs
 unmapped P f [] all = All-nil (λ x. P (f x))
-unmapped P f (x ∷ xs) all = All-cons (λ x. P (f x)) x xs (All-head P (f x) (map f xs) all) (unmapped P f xs (All-tail P (f x) (map f xs) all))
+unmapped P f (x ∷ xs) all = All-cons (λ x. P (f x)) x xs (All-head P (f x) (map f xs) all)
+    (unmapped P f xs (All-tail P (f x) (map f xs) all))
 
 held_low : (e : Border) (t : Option ℕ) (s : Signal) → IsLow e.cell → All (λ (h : Held). IsLow h.cell) (held_by e t s)
 held_low e None s low = All-cons (λ (h : Held). IsLow h.cell) _ [] low (All-nil _)
 held_low e (Some t) s low = All-nil _
 
-event_low : (e : Border) (t : Option ℕ) (s : Signal) → IsLow e.cell → All (λ (h : Event). IsLow h.at.cell) (event_by e t s)
+event_low : (e : Border) (t : Option ℕ) (s : Signal) → IsLow e.cell →
+    All (λ (h : Event). IsLow h.at.cell) (event_by e t s)
 event_low e None s low = All-nil _
 event_low e (Some t) s low = All-cons (λ (h : Event). IsLow h.at.cell) _ [] low (All-nil _)
 
-pub low_held : (f : ℕ → ℕ) (c : Circuit) (es : List Border) (s : Signals) → renumber_signals f s ≡ line_signals c es → All (λ e. IsLow e.cell) es → All (λ (h : Held). IsLow h.cell) s.held
+pub low_held : (f : ℕ → ℕ) (c : Circuit) (es : List Border) (s : Signals) → renumber_signals f s ≡ line_signals c es →
+    All (λ e. IsLow e.cell) es → All (λ (h : Held). IsLow h.cell) s.held
 low_held f c es s same all =
     unmapped (λ (h : Held). IsLow h.cell) (renumber_held f) s.held
     (subst (λ (hs : List Held). All (λ (h : Held). IsLow h.cell) hs) (sym (ap (λ (r : Signals). r.held) same))
-    (flat_all (λ (h : Held). IsLow h.cell) (λ e. held_by e e.time (line_signal c e.signal)) (λ e. IsLow e.cell) (λ e low. held_low e e.time (line_signal c e.signal) low) es all))
+    (flat_all (λ (h : Held). IsLow h.cell) (λ e. held_by e e.time (line_signal c e.signal)) (λ e. IsLow e.cell)
+    (λ e low. held_low e e.time (line_signal c e.signal) low) es all))
 
-pub low_events : (f : ℕ → ℕ) (c : Circuit) (es : List Border) (s : Signals) → renumber_signals f s ≡ line_signals c es → All (λ e. IsLow e.cell) es → All (λ (h : Event). IsLow h.at.cell) s.events
+pub low_events : (f : ℕ → ℕ) (c : Circuit) (es : List Border) (s : Signals) → renumber_signals f s ≡ line_signals c es →
+    All (λ e. IsLow e.cell) es → All (λ (h : Event). IsLow h.at.cell) s.events
 low_events f c es s same all =
     unmapped (λ (h : Event). IsLow h.at.cell) (renumber_event f) s.events
     (subst (λ (hs : List Event). All (λ (h : Event). IsLow h.at.cell) hs) (sym (ap (λ (r : Signals). r.events) same))
-    (flat_all (λ (h : Event). IsLow h.at.cell) (λ e. event_by e e.time (line_signal c e.signal)) (λ e. IsLow e.cell) (λ e low. event_low e e.time (line_signal c e.signal) low) es all))
+    (flat_all (λ (h : Event). IsLow h.at.cell) (λ e. event_by e e.time (line_signal c e.signal)) (λ e. IsLow e.cell)
+    (λ e low. event_low e e.time (line_signal c e.signal) low) es all))
 
 -- ---- low cells are near, also where a box moves to the corner
 small_low : (z : ℤ) → (pos 0 ≤ℤ z) → (z ≤ℤ pos 511) → IsSmall z
@@ -112,15 +125,21 @@ near_held hs all = All-weaker _ _ (λ (h : Held) l. near_low h.cell l) hs all
 pub near_events : (es : List Event) → All (λ (e : Event). IsLow e.at.cell) es → All (λ (e : Event). IsNear e.at.cell) es
 near_events es all = All-weaker _ _ (λ (e : Event) l. near_low e.at.cell l) es all
 
-pub near_moved : (x y : ℕ) (es : List Event) → x ≤ 512 → y ≤ 512 → All (λ (e : Event). IsLow e.at.cell) es → All (λ (e : Event). IsNear e.at.cell) (map (moved_event (back x) (back y)) es)
+pub near_moved : (x y : ℕ) (es : List Event) → x ≤ 512 → y ≤ 512 → All (λ (e : Event). IsLow e.at.cell) es →
+    All (λ (e : Event). IsNear e.at.cell) (map (moved_event (back x) (back y)) es)
 near_moved x y es few low all =
     All-map (λ (e : Event). IsNear e.at.cell) (moved_event (back x) (back y)) es
-    (All-weaker (λ (e : Event). IsLow e.at.cell) (λ (e : Event). IsNear (moved_event (back x) (back y) e).at.cell) (λ (e : Event) l. (small_back e.at.cell.x x few l.column.0 l.column.1, small_back e.at.cell.y y low l.row.0 l.row.1)) es all)
+    (All-weaker (λ (e : Event). IsLow e.at.cell) (λ (e : Event). IsNear (moved_event (back x) (back y) e).at.cell)
+    (λ (e : Event) l.
+    (small_back e.at.cell.x x few l.column.0 l.column.1, small_back e.at.cell.y y low l.row.0 l.row.1)) es all)
 
 pub near_stops : (ss : List Stop) → All (λ (s : Stop). IsLow s.at.cell) ss → All (λ (s : Stop). IsNear s.at.cell) ss
 near_stops ss all = All-weaker _ _ (λ (s : Stop) l. near_low s.at.cell l) ss all
 
-pub near_moved_stops : (x y : ℕ) (ss : List Stop) → x ≤ 512 → y ≤ 512 → All (λ (s : Stop). IsLow s.at.cell) ss → All (λ (s : Stop). IsNear s.at.cell) (map (moved_stop (back x) (back y)) ss)
+pub near_moved_stops : (x y : ℕ) (ss : List Stop) → x ≤ 512 → y ≤ 512 → All (λ (s : Stop). IsLow s.at.cell) ss →
+    All (λ (s : Stop). IsNear s.at.cell) (map (moved_stop (back x) (back y)) ss)
 near_moved_stops x y ss few low all =
     All-map (λ (s : Stop). IsNear s.at.cell) (moved_stop (back x) (back y)) ss
-    (All-weaker (λ (s : Stop). IsLow s.at.cell) (λ (s : Stop). IsNear (moved_stop (back x) (back y) s).at.cell) (λ (s : Stop) l. (small_back s.at.cell.x x few l.column.0 l.column.1, small_back s.at.cell.y y low l.row.0 l.row.1)) ss all)
+    (All-weaker (λ (s : Stop). IsLow s.at.cell) (λ (s : Stop). IsNear (moved_stop (back x) (back y) s).at.cell)
+    (λ (s : Stop) l. (small_back s.at.cell.x x few l.column.0 l.column.1, small_back s.at.cell.y y low l.row.0 l.row.1))
+    ss all)

@@ -1,5 +1,6 @@
 -- Lines that are printed without halo lines
-use Rattle.std.proofs.Common.{◌≡◌, ℕ, ◌+◌, ◌<◌, ◌≤◌, List, [], ◌∷◌, ◌++◌, length, take, get_or, sym, ap, ◌∙◌, append_assoc, append-nil}
+use Rattle.std.proofs.Common.{◌≡◌, ℕ, ◌+◌, ◌<◌, ◌≤◌, List, [], ◌∷◌, ◌++◌, length, take, get_or, sym, ap, ◌∙◌}
+use Rattle.std.proofs.Common.{append_assoc, append-nil}
 use Rattle.std.specs.List.{flat_map}
 use Rattle.std.proofs.lemmas.Grind.{flat_map-append}
 use Rattle.std.proofs.lemmas.List.{take_all, take_more}
@@ -12,8 +13,10 @@ pub none_printed : (old : List ℕ) → old ≡ old ++ flat_map entry_text (with
 unfolding without_halos
 none_printed old = sym (append-nil old)
 
-pub one_more_printed : (es : List Entry) (i : ℕ) (e : Entry) (old now next : List ℕ) → i < length es → e ≡ get_or es i e →
-    now ≡ old ++ flat_map entry_text (without_halos (take i es)) → next ≡ now ++ flat_map entry_text (without_halos (e ∷ [])) →
+pub one_more_printed : (es : List Entry) (i : ℕ) (e : Entry) (old now next : List ℕ) → i < length es →
+    e ≡ get_or es i e →
+    now ≡ old ++ flat_map entry_text (without_halos (take i es)) →
+    next ≡ now ++ flat_map entry_text (without_halos (e ∷ [])) →
     next ≡ old ++ flat_map entry_text (without_halos (take (i + 1) es))
 one_more_printed es i e old now next lt is before after =
     let grown : take (i + 1) es ≡ take i es ++ e ∷ [] = take_more es i e lt ∙ ap (λ x. take i es ++ x ∷ []) (sym is) in
@@ -23,5 +26,6 @@ one_more_printed es i e old now next lt is before after =
     ∙ ap (λ l. old ++ flat_map entry_text l) (sym (without_append (take i es) (e ∷ [])))
     ∙ ap (λ l. old ++ flat_map entry_text (without_halos l)) (sym grown)
 
-pub all_printed : (es : List Entry) (i : ℕ) (old now : List ℕ) → length es ≤ i → now ≡ old ++ flat_map entry_text (without_halos (take i es)) → now ≡ old ++ flat_map entry_text (without_halos es)
+pub all_printed : (es : List Entry) (i : ℕ) (old now : List ℕ) → length es ≤ i →
+    now ≡ old ++ flat_map entry_text (without_halos (take i es)) → now ≡ old ++ flat_map entry_text (without_halos es)
 all_printed es i old now le h = h ∙ ap (λ l. old ++ flat_map entry_text (without_halos l)) (take_all i es le)

@@ -1,5 +1,6 @@
 -- The bytes that a reader of the section took are the text of the certificate that it gave.
-use Rattle.std.proofs.Common.{◌≡◌, ℕ, ◌+◌, ◌≤◌, List, ◌++◌, length, take, drop, Option, None, Some, Result, Ok, refl, sym, ap, subst, ◌∙◌, arith}
+use Rattle.std.proofs.Common.{◌≡◌, ℕ, ◌+◌, ◌≤◌, List, ◌++◌, length, take, drop, Option, None, Some, Result, Ok, refl}
+use Rattle.std.proofs.Common.{sym, ap, subst, ◌∙◌, arith}
 use Rattle.std.specs.List.{flat_map}
 use Rattle.std.proofs.Math.Seq.{drop-append_seam, take-add}
 use Rattle.std.proofs.lemmas.Grind.{flat_map-append}
@@ -18,12 +19,15 @@ abbrev pub taken : FeedState → List ℕ
 taken f = flat_map ended_line (take f.taken (lines_of f.text))
 
 -- a feed that has a fault gives no certificate, so this one has read the section
-section_read : (g : Setting) (old new : FeedState) (c : CertState) (o : Option ReadFault) → old.stop ≡ o → Reads (certificate_grammar g) (λ (d : CertState). certificate_value d) old new (Ok c) →
+section_read : (g : Setting) (old new : FeedState) (c : CertState) (o : Option ReadFault) → old.stop ≡ o →
+    Reads (certificate_grammar g) (λ (d : CertState). certificate_value d) old new (Ok c) →
     ReadsSection (certificate_grammar g) (λ (d : CertState). certificate_value d) old new (Ok c)
 section_read g old new c None e r = r.reads e
 section_read g old new c (Some fault) e r = absurd ((r.stopped fault e).0)
 
-pub text_taken : (g : Setting) (old new : FeedState) (c : CertState) → Reads (certificate_grammar g) (λ (d : CertState). certificate_value d) old new (Ok c) → taken new ≡ taken old ++ certificate_text c
+pub text_taken : (g : Setting) (old new : FeedState) (c : CertState) →
+    Reads (certificate_grammar g) (λ (d : CertState). certificate_value d) old new (Ok c) →
+    taken new ≡ taken old ++ certificate_text c
 text_taken g old new c r =
     let s = section_read g old new c old.stop refl r in
     let ls = lines_of old.text in
@@ -34,7 +38,8 @@ text_taken g old new c r =
     ∙ ap (λ (t : List ℕ). taken old ++ t) (prints_what_is_read g old.taken (drop old.taken ls) c s.gives)
 
 -- so the bytes behind those before are the certificate's text
-pub section_bytes : (before after text : List ℕ) → after ≡ before ++ text → (length before ≤ length after) × (drop (length before) after ≡ text)
+pub section_bytes : (before after text : List ℕ) → after ≡ before ++ text →
+    (length before ≤ length after) × (drop (length before) after ≡ text)
 section_bytes before after text e =
     let longer = ap length e ∙ length-append before text in
     (omega (arith, longer), ap (drop (length before)) e ∙ drop-append_seam before text)

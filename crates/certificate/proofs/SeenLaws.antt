@@ -22,13 +22,15 @@ min_cases : (a u : ℕ) → (min a u ≡ a) ⊎ (min a u ≡ u)
 min_cases a u = grind arith
 
 least_with : (a : ℕ) (ts : List ℕ) (t : ℕ) → fold earlier (Some a) ts ≡ Some t → IsLeastWith a ts t
-least_with a [] t e = (let same = same_Some a t e in record { among = inl (sym same); first = omega (arith, same); rest = All-nil (λ u. t ≤ u) })
+least_with a [] t e = (let same = same_Some a t e in
+    record { among = inl (sym same); first = omega (arith, same); rest = All-nil (λ u. t ≤ u) })
 least_with a (u ∷ us) t e =
     let h = least_with (min a u) us t e in
     let below = h.first in
     record {
       among = elim h.among [
-        | inl is ↦ elim (min_cases a u) [ inl left ↦ inl (is ∙ left) | inr right ↦ inr (here u us t (sym (is ∙ right))) ]
+        | inl is ↦
+            elim (min_cases a u) [ inl left ↦ inl (is ∙ left) | inr right ↦ inr (here u us t (sym (is ∙ right))) ]
         | inr found ↦ inr (there u us t found)
       ];
       first = omega (arith, below);
@@ -38,8 +40,10 @@ least_with a (u ∷ us) t e =
 least_of : (ts : List ℕ) (t : ℕ) → fold earlier None ts ≡ Some t → Contains ts t × All (λ u. t ≤ u) ts
 least_of [] t e = absurd cc
 least_of (a ∷ ts) t e =
-    let h = least_with a ts t e in
-    (elim h.among [ inl is ↦ here a ts t (sym is) | inr found ↦ there a ts t found ], All-cons (λ u. t ≤ u) a ts h.first h.rest)
+    let h = least_with a ts t e in (
+      elim h.among [ inl is ↦ here a ts t (sym is) | inr found ↦ there a ts t found ],
+      All-cons (λ u. t ≤ u) a ts h.first h.rest,
+    )
 
 pub first_is_least : FirstIsLeast
 first_is_least c ss w t e = least_of (times_of c ss w) t e
@@ -53,13 +57,15 @@ max_cases : (a u : ℕ) → (max a u ≡ a) ⊎ (max a u ≡ u)
 max_cases a u = grind arith
 
 greatest_with : (a : ℕ) (ts : List ℕ) (t : ℕ) → fold later (Some a) ts ≡ Some t → IsGreatestWith a ts t
-greatest_with a [] t e = (let same = same_Some a t e in record { among = inl (sym same); first = omega (arith, same); rest = All-nil (λ u. u ≤ t) })
+greatest_with a [] t e = (let same = same_Some a t e in
+    record { among = inl (sym same); first = omega (arith, same); rest = All-nil (λ u. u ≤ t) })
 greatest_with a (u ∷ us) t e =
     let h = greatest_with (max a u) us t e in
     let above = h.first in
     record {
       among = elim h.among [
-        | inl is ↦ elim (max_cases a u) [ inl left ↦ inl (is ∙ left) | inr right ↦ inr (here u us t (sym (is ∙ right))) ]
+        | inl is ↦
+            elim (max_cases a u) [ inl left ↦ inl (is ∙ left) | inr right ↦ inr (here u us t (sym (is ∙ right))) ]
         | inr found ↦ inr (there u us t found)
       ];
       first = omega (arith, above);
@@ -69,8 +75,10 @@ greatest_with a (u ∷ us) t e =
 greatest_of : (ts : List ℕ) (t : ℕ) → fold later None ts ≡ Some t → Contains ts t × All (λ u. u ≤ t) ts
 greatest_of [] t e = absurd cc
 greatest_of (a ∷ ts) t e =
-    let h = greatest_with a ts t e in
-    (elim h.among [ inl is ↦ here a ts t (sym is) | inr found ↦ there a ts t found ], All-cons (λ u. u ≤ t) a ts h.first h.rest)
+    let h = greatest_with a ts t e in (
+      elim h.among [ inl is ↦ here a ts t (sym is) | inr found ↦ there a ts t found ],
+      All-cons (λ u. u ≤ t) a ts h.first h.rest,
+    )
 
 pub last_is_greatest : LastIsGreatest
 last_is_greatest c ss w t e = greatest_of (times_of c ss w) t e

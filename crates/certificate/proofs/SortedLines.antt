@@ -1,18 +1,21 @@
 -- Lines that are sorted are in order
-use Rattle.std.proofs.Common.{◌≡◌, ℕ, zero, suc, ◌+◌, ◌<◌, ◌≤◌, Bool, true, false, if◌then◌else◌, List, [], ◌∷◌, length, get_or, Some, Ordering, Less, Equal, Greater, refl, sym, ap, subst, ◌∙◌, arith, inl, inr}
+use Rattle.std.proofs.Common.{◌≡◌, ℕ, zero, suc, ◌+◌, ◌<◌, ◌≤◌, Bool, true, false, if◌then◌else◌, List, [], ◌∷◌, length}
+use Rattle.std.proofs.Common.{get_or, Some, Ordering, Less, Equal, Greater, refl, sym, ap, subst, ◌∙◌, arith, inl, inr}
 use Rattle.std.specs.Prelude.{◌≢◌, slice_get, Contains}
 use Rattle.std.specs.Cmp.{IsStrictWeakOrder}
 use Rattle.std.specs.List.{sum_by}
 use Rattle.std.specs.List.Sorted.{IsPermutation, IsSortedBy}
 use Rattle.std.specs.Ordering.{is_eq, is_lt, ordering_reverse}
-use Rattle.std.proofs.lemmas.List.Sorted.{IsPermutation-sym, All-permutation, ranks_by, sorted_far, sum_by-IsPermutation}
+use Rattle.std.proofs.lemmas.List.Sorted.{IsPermutation-sym, All-permutation, ranks_by, sorted_far}
+use Rattle.std.proofs.lemmas.List.Sorted.{sum_by-IsPermutation}
 use Rattle.std.proofs.lemmas.List.Sums.{sum_by-cons}
 use Rattle.std.proofs.lemmas.Option.{get_or_from_slice_get, slice_get_within}
 use Rattle.certificate_lines.specs.Versions.{in_order, line_order}
 use Rattle.certificate_lines.specs.declared.entry.Border.{Border}
 use Rattle.certificate_lines.proofs.InList.{all_in}
 use Rattle.certificate.proofs.FullModules.{in_all, pairs_by_place}
-use Rattle.certificate_lines.proofs.LineOrder.{AreDistinct, In, Rises, in_each, each_in, in_ordered, line_total, ordered_in, ordered_rises, rising_same}
+use Rattle.certificate_lines.proofs.LineOrder.{AreDistinct, In, Rises, in_each, each_in, in_ordered, line_total}
+use Rattle.certificate_lines.proofs.LineOrder.{ordered_in, ordered_rises, rising_same}
 use Rattle.certificate_lines.proofs.Pairs.{Each, Pairs, pairs_at}
 
 -- how many lines stand nowhere apart from the line
@@ -49,15 +52,20 @@ beat_one e y h = beat_of e y Equal h
 none_at : (e : Border) (ys : List Border) → Each (λ y. line_order e y ≢ Equal) ys → count_at e ys ≡ 0
 unfolding Each
 none_at e [] h = refl
-none_at e (y ∷ ys) h = let c = cons_at e y ys in let n = beat_none e y h.0 in let m = none_at e ys h.1 in omega (arith, c, n, m)
+none_at e (y ∷ ys) h = let c = cons_at e y ys in let n = beat_none e y h.0 in let m = none_at e ys h.1 in
+    omega (arith, c, n, m)
 
-first_or_later : (e y : Border) (ys : List Border) → Each (λ z. line_order y z ≢ Equal) ys → count_at e ys ≤ 1 → (o : Ordering) → line_order e y ≡ o → count_at e (y ∷ ys) ≤ 1
-first_or_later e y ys d later Less h = let c = cons_at e y ys in let n = beat_of e y Less h in omega (arith, c, n, later)
-first_or_later e y ys d later Greater h = let c = cons_at e y ys in let n = beat_of e y Greater h in omega (arith, c, n, later)
+first_or_later : (e y : Border) (ys : List Border) → Each (λ z. line_order y z ≢ Equal) ys → count_at e ys ≤ 1 →
+    (o : Ordering) → line_order e y ≡ o → count_at e (y ∷ ys) ≤ 1
+first_or_later e y ys d later Less h = let c = cons_at e y ys in let n = beat_of e y Less h in
+    omega (arith, c, n, later)
+first_or_later e y ys d later Greater h = let c = cons_at e y ys in let n = beat_of e y Greater h in
+    omega (arith, c, n, later)
 first_or_later e y ys d later Equal h =
     let c = cons_at e y ys in
     let n = beat_one e y h in
-    let m = none_at e ys (in_each (λ z. line_order e z ≢ Equal) ys (λ z i eq. each_in (λ z. line_order y z ≢ Equal) ys d z i (sym (line_total.congr e y z h) ∙ eq))) in
+    let m = none_at e ys (in_each (λ z. line_order e z ≢ Equal) ys
+    (λ z i eq. each_in (λ z. line_order y z ≢ Equal) ys d z i (sym (line_total.congr e y z h) ∙ eq))) in
     omega (arith, c, n, m)
 
 one_at : (e : Border) (ys : List Border) → AreDistinct ys → count_at e ys ≤ 1
@@ -86,15 +94,18 @@ distinct_by : (ys : List Border) → ((e : Border) → count_at e ys ≤ 1) → 
 unfolding Pairs
 distinct_by [] h = tt
 distinct_by (y ∷ ys) h = (
-  all_other y ys (let at = h y in let c = cons_at y y ys in let one = beat_one y y (itself y) in omega (arith, at, c, one)),
+  all_other y ys (let at = h y in let c = cons_at y y ys in let one = beat_one y y (itself y) in
+      omega (arith, at, c, one)),
   distinct_by ys (λ e. let n = h e in let c = cons_at e y ys in omega (arith, n, c)),
 )
 
 kept_distinct : (xs ys : List Border) → IsPermutation xs ys → AreDistinct xs → AreDistinct ys
-kept_distinct xs ys p d = distinct_by ys (λ e. let same = sum_by-IsPermutation (beat e) xs ys p in let one = one_at e xs d in omega (arith, same, one))
+kept_distinct xs ys p d = distinct_by ys
+    (λ e. let same = sum_by-IsPermutation (beat e) xs ys p in let one = one_at e xs d in omega (arith, same, one))
 
 kept_in : (xs ys : List Border) → IsPermutation xs ys → (x : Border) → In x ys → In x xs
-kept_in xs ys p x i = all_in (λ y. In y xs) ys (All-permutation (λ y. In y xs) xs ys p (in_all (λ y. In y xs) xs (λ y j. j))) x i
+kept_in xs ys p x i = all_in (λ y. In y xs) ys
+    (All-permutation (λ y. In y xs) xs ys p (in_all (λ y. In y xs) xs (λ y j. j))) x i
 
 less_of : (a b : Border) → is_lt (line_order b a) ≡ false → line_order a b ≢ Equal → line_order a b ≡ Less
 less_of a b h n = by (line_order a b) refl
@@ -102,17 +113,21 @@ less_of a b h n = by (line_order a b) refl
     by : (o : Ordering) → line_order a b ≡ o → line_order a b ≡ Less
     by Less e = e
     by Equal e = absurd (n e)
-    by Greater e = absurd (let t : line_order b a ≡ Less = line_total.antisymm b a ∙ ap ordering_reverse e in let k = sym h ∙ ap is_lt t in cc)
+    by Greater e = absurd (let t : line_order b a ≡ Less = line_total.antisymm b a ∙ ap ordering_reverse e in let k =
+        sym h ∙ ap is_lt t in cc)
 
 sorted_rises : (ys : List Border) → IsSortedBy (λ a b. is_lt (line_order a b)) ys → AreDistinct ys → Rises ys
 sorted_rises ys up d = pairs_by_place (λ a b. line_order a b ≡ Less) ys (λ i j a b lt ea eb.
     let la = slice_get_within ys i a ea in let lb = slice_get_within ys j b eb in
-    let far = sorted_far (λ a b. is_lt (line_order a b)) (ranks_by line_total (λ e. e)) ys up i j a (omega (arith, lt)) lb in
+    let far = sorted_far (λ a b. is_lt (line_order a b)) (ranks_by line_total (λ e. e)) ys up i j a
+    (omega (arith, lt)) lb in
     let ga : get_or ys i a ≡ a = get_or_from_slice_get ys i a a ea in
     let gb : get_or ys j a ≡ b = get_or_from_slice_get ys j b a eb in
-    less_of a b (ap (λ x. is_lt (line_order x a)) (sym gb) ∙ ap (λ x. is_lt (line_order (get_or ys j a) x)) (sym ga) ∙ far) (pairs_at (λ a b. line_order a b ≢ Equal) ys d i j a b lt ea eb))
+    less_of a b (ap (λ x. is_lt (line_order x a)) (sym gb) ∙ ap (λ x. is_lt (line_order (get_or ys j a) x)) (sym ga)
+    ∙ far) (pairs_at (λ a b. line_order a b ≢ Equal) ys d i j a b lt ea eb))
 
-pub sorted_lines : (xs ys : List Border) → AreDistinct xs → IsPermutation xs ys → IsSortedBy (λ a b. is_lt (line_order a b)) ys → ys ≡ in_order xs
+pub sorted_lines : (xs ys : List Border) → AreDistinct xs → IsPermutation xs ys →
+    IsSortedBy (λ a b. is_lt (line_order a b)) ys → ys ≡ in_order xs
 sorted_lines xs ys d p up =
     rising_same ys (in_order xs) (sorted_rises ys up (kept_distinct xs ys p d)) (ordered_rises xs d)
     (λ x i. ordered_in x xs (kept_in xs ys p x i))

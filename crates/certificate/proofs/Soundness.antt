@@ -1,5 +1,7 @@
 -- Lines that are good one after the other make good modules.
-use Rattle.std.proofs.Common.{◌≡◌, ◌⊎◌, ℕ, zero, suc, ◌+◌, ◌<◌, ◌≤◌, ℤ, Bool, true, false, not, ◌&&◌, ◌||◌, ◌==◌, List, [], ◌∷◌, ◌++◌, length, Some, None, refl, sym, ap, subst, ◌∙◌, inl, inr, arith, pos, negsuc, append-nil, append_assoc}
+use Rattle.std.proofs.Common.{◌≡◌, ◌⊎◌, ℕ, zero, suc, ◌+◌, ◌<◌, ◌≤◌, ℤ, Bool, true, false, not, ◌&&◌, ◌||◌, ◌==◌, List}
+use Rattle.std.proofs.Common.{[], ◌∷◌, ◌++◌, length, Some, None, refl, sym, ap, subst, ◌∙◌, inl, inr, arith, pos}
+use Rattle.std.proofs.Common.{negsuc, append-nil, append_assoc}
 use Rattle.std.specs.Prelude.{slice_get}
 use Rattle.std.specs.List.{All, list_all}
 use Rattle.std.proofs.lemmas.Bool.{and_parts, eqb-true, true≢false}
@@ -15,8 +17,10 @@ use Rattle.section_text.proofs.Good.{AreFaultless, IsFaultless}
 use Rattle.module_box.specs.Boxes.{in_box, Tile}
 use Rattle.module_box.specs.Tiling.{IsInside}
 use Rattle.module_box.specs.declared.boxes.Box2.{Box2}
-use Rattle.certificate_lines.specs.Entries.{Setting, ModuleLines, with_line, change_last, last_of, add_line, modules_of, present, areas, known}
-use Rattle.certificate_lines.specs.Rules.{whole, box_cells, in_boxes, is_local, is_incomplete, lacks_port, leaves_gap, entry_fault, end_fault}
+use Rattle.certificate_lines.specs.Entries.{Setting, ModuleLines, with_line, change_last, last_of, add_line, modules_of}
+use Rattle.certificate_lines.specs.Entries.{present, areas, known}
+use Rattle.certificate_lines.specs.Rules.{whole, box_cells, in_boxes, is_local, is_incomplete, lacks_port, leaves_gap}
+use Rattle.certificate_lines.specs.Rules.{entry_fault, end_fault}
 use Rattle.certificate.specs.Grammars.{certificate_grammar}
 use Rattle.certificate_lines.specs.Versions.{is_haloless, lacks_wire}
 use Rattle.certificate_lines.specs.Modules.{HasFewLines, HasPorts, AreModules}
@@ -27,25 +31,32 @@ use Rattle.certificate_lines.proofs.BuiltLemmas.{good_module, line_sound, module
 use Rattle.certificate_lines.proofs.Growing.{modules_push}
 use Rattle.certificate_lines.proofs.Keeping.{good_line, IsGoodLine}
 use Rattle.certificate_lines.proofs.Lists.{any_at, or_parts, passed, some_is}
-use Rattle.certificate_lines.proofs.ModulePushes.{both_none, no_code, new_wire, good_use, cut_pushed, use_pushed, keep_pushed, edge_pushed, halo_pushed, stop_pushed}
+use Rattle.certificate_lines.proofs.ModulePushes.{both_none, no_code, new_wire, good_use, cut_pushed, use_pushed}
+use Rattle.certificate_lines.proofs.ModulePushes.{keep_pushed, edge_pushed, halo_pushed, stop_pushed}
 use Rattle.bbm_rule.proofs.SameCells.{cell_same}
 use Rattle.certificate_lines.proofs.PortLemmas.{in_box_cells}
 
 module _ (g : Setting) (es : List Entry) (sound : AreSound g (modules_of es)) where
   -- one more line of the last module
-  inner_sound : (i : Entry) → add_line (modules_of es) i ≡ change_last (with_line i) (modules_of es) → (good : IsGoodLine g es i) → (IsWritten g good.module_lines → IsWritten g (with_line i good.module_lines)) → AreSound g (modules_of (es ++ i ∷ []))
+  inner_sound : (i : Entry) → add_line (modules_of es) i ≡ change_last (with_line i) (modules_of es) →
+      (good : IsGoodLine g es i) → (IsWritten g good.module_lines → IsWritten g (with_line i good.module_lines)) →
+      AreSound g (modules_of (es ++ i ∷ []))
   inner_sound i step good grows =
       subst (AreSound g) (sym (modules_push es i ∙ step))
-      (line_sound g (modules_of es) i sound (λ m some. subst (λ k. IsWritten g k → IsWritten g (with_line i k)) (some_is good.module_lines m (sym good.last ∙ some)) grows))
+      (line_sound g (modules_of es) i sound
+      (λ m some. subst (λ k. IsWritten g k → IsWritten g (with_line i k))
+      (some_is good.module_lines m (sym good.last ∙ some)) grows))
 
   sound_push : (i : Entry) → entry_fault g es i ≡ None → AreSound g (modules_of (es ++ i ∷ []))
   unfolding entry_fault add_line
   sound_push (Module b) e =
-      subst (AreSound g) (sym (modules_push es (Module b))) (module_sound g (modules_of es) b sound (good_module g (modules_of es) (present es) b e))
+      subst (AreSound g) (sym (modules_push es (Module b)))
+      (module_sound g (modules_of es) b sound (good_module g (modules_of es) (present es) b e))
   sound_push (Cut n) e =
       let good = good_line g es (Cut n) e in
       let words = new_wire g.circuit _ _ n good.words in
-      inner_sound (Cut n) refl good (λ is. cut_pushed g good.module_lines is.good n good.follows words.1.wire words.1.named words.0 words.1.new)
+      inner_sound (Cut n) refl good
+      (λ is. cut_pushed g good.module_lines is.good n good.follows words.1.wire words.1.named words.0 words.1.new)
   sound_push (Use k) e =
       let good = good_line g es (Use k) e in
       let words = good_use g.circuit _ _ k good.words in
@@ -63,10 +74,13 @@ module _ (g : Setting) (es : List Entry) (sound : AreSound g (modules_of es)) wh
       let good = good_line g es (Stop s) e in
       inner_sound (Stop s) refl good (λ is. stop_pushed g good.module_lines is.good s good.follows good.words)
 
-sound_all : (g : Setting) (v : ℕ) (more before : List Entry) → AreSound g (modules_of before) → AreFaultless (certificate_grammar g) v before more → AreSound g (modules_of (before ++ more))
+sound_all : (g : Setting) (v : ℕ) (more before : List Entry) → AreSound g (modules_of before) →
+    AreFaultless (certificate_grammar g) v before more → AreSound g (modules_of (before ++ more))
 sound_all g v [] before sound good = subst (λ l. AreSound g (modules_of l)) (sym (append-nil before)) sound
 sound_all g v (i ∷ more) before sound good =
-    subst (λ l. AreSound g (modules_of l)) (append_assoc before (i ∷ []) more) (sound_all g v more (before ++ i ∷ []) (sound_push g before sound i (both_none _ (entry_fault g before i) good.0).1) good.1)
+    subst (λ l. AreSound g (modules_of l)) (append_assoc before (i ∷ []) more)
+    (sound_all g v more (before ++ i ∷ [])
+    (sound_push g before sound i (both_none _ (entry_fault g before i) good.0).1) good.1)
 
 none_sound : (g : Setting) → AreSound g (modules_of [])
 unfolding modules_of
@@ -79,7 +93,8 @@ not_false true h = refl
 not_false false h = sym h
 
 -- a test that all cells of a list pass
-cell_passes : (test : Cell → Bool) (cells : List Cell) (d : Cell) → list_all test cells ≡ true → in_cells cells d.x d.y ≡ true → test d ≡ true
+cell_passes : (test : Cell → Bool) (cells : List Cell) (d : Cell) → list_all test cells ≡ true →
+    in_cells cells d.x d.y ≡ true → test d ≡ true
 cell_passes test [] d all there = absurd cc
 cell_passes test (c ∷ cells) d all there =
     let both = and_parts (test c) (list_all test cells) all in
@@ -99,7 +114,8 @@ box_inside s b x y fits h =
     let both = and_parts (in_span b.x b.w x) (in_span b.y b.h y) h in
     rw (span_inside b.x b.w s.w x fits.right both.0, span_inside b.y b.h s.h y fits.bottom both.1) refl
 
-area_at : (ms : List ModuleLines) (i : ℕ) (b : Box2) → slice_get (areas ms) i ≡ Some b → (m : ModuleLines) × (slice_get ms i ≡ Some m) × (m.area ≡ b)
+area_at : (ms : List ModuleLines) (i : ℕ) (b : Box2) → slice_get (areas ms) i ≡ Some b →
+    (m : ModuleLines) × (slice_get ms i ≡ Some m) × (m.area ≡ b)
 area_at [] i b e = absurd cc
 area_at (m ∷ ms) zero b e = (m, refl, some_is m.area b e)
 area_at (m ∷ ms) (suc i) b e = area_at ms i b e
@@ -112,7 +128,9 @@ module _ (g : Setting) (ms : List ModuleLines) (sound : AreSound g ms) where
   unfolding at_cell
   tiles full = record {
     covered = λ x y h.
-        let there : in_boxes (areas ms) x y ≡ true = cell_passes (λ c. in_boxes (areas ms) c.x c.y) (box_cells (whole g.size)) (at_cell x y) (not_false _ full) (in_box_cells (whole g.size) x y ∙ h) in
+        let there : in_boxes (areas ms) x y ≡ true =
+        cell_passes (λ c. in_boxes (areas ms) c.x c.y) (box_cells (whole g.size)) (at_cell x y) (not_false _ full)
+        (in_box_cells (whole g.size) x y ∙ h) in
         let p = passed (λ (b : Box2). in_box b x y) (areas ms) there in
         (p.place, p.element, p.stands, p.passes);
     once = sound.apart.once;
@@ -125,7 +143,9 @@ module _ (g : Setting) (ms : List ModuleLines) (sound : AreSound g ms) where
   unfolding lacks_port
   has_ports m none = record {
     local = λ i p at inside. known_by (is_local g.circuit (known g.circuit m) p.name)
-        (λ unknown. true≢false (sym (any_at (λ (q : Port). in_box m.area q.cell.x q.cell.y && not (is_local g.circuit (known g.circuit m) q.name)) g.ports i p at (rw (inside, unknown) refl)) ∙ none));
+        (λ unknown. true≢false (sym (any_at
+        (λ (q : Port). in_box m.area q.cell.x q.cell.y && not (is_local g.circuit (known g.circuit m) q.name)) g.ports i
+        p at (rw (inside, unknown) refl)) ∙ none));
   }
     where
       known_by : (b : Bool) → (b ≡ false → ⊥) → b ≡ true
@@ -135,7 +155,8 @@ module _ (g : Setting) (ms : List ModuleLines) (sound : AreSound g ms) where
   here_or_before : (i n : ℕ) → i < n → (i + 1 < n) ⊎ (i + 1 ≡ n)
   here_or_before i n h = grind arith
 
-  all_ported : is_incomplete g (last_of ms) ≡ false → (k : ℕ) (m : ModuleLines) → slice_get ms k ≡ Some m → lacks_port g m ≡ false
+  all_ported : is_incomplete g (last_of ms) ≡ false → (k : ℕ) (m : ModuleLines) → slice_get ms k ≡ Some m →
+      lacks_port g m ≡ false
   all_ported whole k m e = elim (here_or_before k (length ms) (slice_get_within ms k m e)) [
     | inl lt ↦ sound.ported k m lt e
     | inr at ↦ ap (is_incomplete g) (sym (last_is ms k m at e)) ∙ whole
@@ -156,22 +177,27 @@ one_or_two v e = elim (or_parts (v == 1) (v == 2) e) [
 ]
 
 -- the version of what was read
-pub read_version : (g : Setting) (v : ℕ) (es : List Entry) → IsFaultless (certificate_grammar g) v es → (1 ≤ v) × (v ≤ 2)
+pub read_version : (g : Setting) (v : ℕ) (es : List Entry) → IsFaultless (certificate_grammar g) v es →
+    (1 ≤ v) × (v ≤ 2)
 read_version g v es good = one_or_two v (not_false _ (no_code _ 2 good.header))
 
 -- and in version 2 each module knows the wires of the edge lines beside it
-pub read_complete : (g : Setting) (v : ℕ) (es : List Entry) → IsFaultless (certificate_grammar g) v es → (is_haloless v && lacks_wire g (modules_of es)) ≡ false
+pub read_complete : (g : Setting) (v : ℕ) (es : List Entry) → IsFaultless (certificate_grammar g) v es →
+    (is_haloless v && lacks_wire g (modules_of es)) ≡ false
 read_complete g v es good = no_code _ 11 (both_none (end_fault g es) _ good.end).1
 
-pub faultless_modules : (g : Setting) (v : ℕ) (es : List Entry) → IsFaultless (certificate_grammar g) v es → AreModules g (modules_of es)
+pub faultless_modules : (g : Setting) (v : ℕ) (es : List Entry) → IsFaultless (certificate_grammar g) v es →
+    AreModules g (modules_of es)
 unfolding end_fault
 faultless_modules g v es good =
     let sound = sound_all g v es [] (none_sound g) good.each in
-    let parts = or_false (is_incomplete g (present es)) (leaves_gap g.size (areas (modules_of es))) (no_code _ 11 (both_none (end_fault g es) _ good.end).0) in
+    let parts = or_false (is_incomplete g (present es)) (leaves_gap g.size (areas (modules_of es)))
+    (no_code _ 11 (both_none (end_fault g es) _ good.end).0) in
     good_modules g (modules_of es) sound parts.0 parts.1
 
 -- and each has few lines
-pub faultless_lines : (g : Setting) (v : ℕ) (es : List Entry) → IsFaultless (certificate_grammar g) v es → All HasFewLines (modules_of es)
+pub faultless_lines : (g : Setting) (v : ℕ) (es : List Entry) → IsFaultless (certificate_grammar g) v es →
+    All HasFewLines (modules_of es)
 faultless_lines g v es good =
     let sound = sound_all g v es [] (none_sound g) good.each in
     λ k d lt. (sound.each k _ (slice_get-get_or (modules_of es) k d lt)).few_borders

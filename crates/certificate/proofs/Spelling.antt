@@ -17,7 +17,8 @@ use Rattle.pattern.specs.Text.{coordinate}
 use Rattle.certificate_lines.specs.declared.entry.Border.{Border}
 use Rattle.certificate_lines.specs.declared.entry.StopLine.{StopLine}
 use Rattle.certificate_lines.specs.declared.entry.Entry.TheVariants.{Module, Cut, Use, Keep, Edge, Halo, Stop}
-use Rattle.certificate_lines.specs.Forms.{Line, corner_and_sides, area_of, time_at, signal_at, timed_cell, border_of, timed_wire, stop_of, form_of}
+use Rattle.certificate_lines.specs.Forms.{Line, corner_and_sides, area_of, time_at, signal_at, timed_cell, border_of}
+use Rattle.certificate_lines.specs.Forms.{timed_wire, stop_of, form_of}
 use Rattle.certificate.specs.Text.{area_words, time_word, signal_word, border_words, stop_words, form_text}
 
 -- two words are a cell
@@ -30,62 +31,86 @@ unfolding cell_from
 cell_spelled ws i c e =
     option_and_then_some (λ x. number_at ws (i + 1) >>= λ y. Some (cell x y)) (number_at ws i) c e (λ x first rest.
     option_and_then_some (λ y. Some (cell x y)) (number_at ws (i + 1)) c rest (λ y second made.
-    subst (CellAt ws i (i + 1)) (same_Some (cell x y) c made) (record { column = number_at_spelled ws i x first; row = number_at_spelled ws (i + 1) y second })))
+    subst (CellAt ws i (i + 1)) (same_Some (cell x y) c made)
+    (record { column = number_at_spelled ws i x first; row = number_at_spelled ws (i + 1) y second })))
 
 time_spelled : (ws : List (List ℕ)) (i : ℕ) (t : Option ℕ) → time_at ws i ≡ Some t → slice_get ws i ≡ Some (time_word t)
 unfolding time_at
 time_spelled ws i t e =
     elim (chosen (is_word_at ws i (codes "*")) _ _ (Some t) e) [
-      | inl p ↦ subst (λ (s : Option ℕ). slice_get ws i ≡ Some (time_word s)) (same_Some None t p.1) (is_at_is ws i (codes "*") p.0)
+      | inl p ↦ subst (λ (s : Option ℕ). slice_get ws i ≡ Some (time_word s)) (same_Some None t p.1)
+          (is_at_is ws i (codes "*") p.0)
       | inr p ↦
           option_and_then_some (λ n. Some (Some n)) (number_at ws i) t p.1 (λ n found made.
-          subst (λ (s : Option ℕ). slice_get ws i ≡ Some (time_word s)) (same_Some (Some n) t made) (number_at_spelled ws i n found))
+          subst (λ (s : Option ℕ). slice_get ws i ≡ Some (time_word s)) (same_Some (Some n) t made)
+          (number_at_spelled ws i n found))
     ]
 
-signal_spelled : (ws : List (List ℕ)) (i : ℕ) (s : Option (List ℕ)) → signal_at ws i ≡ Some s → slice_get ws i ≡ Some (signal_word s)
+signal_spelled : (ws : List (List ℕ)) (i : ℕ) (s : Option (List ℕ)) → signal_at ws i ≡ Some s →
+    slice_get ws i ≡ Some (signal_word s)
 unfolding signal_at
 signal_spelled ws i s e =
     elim (chosen (is_word_at ws i (codes "1")) _ _ (Some s) e) [
-      | inl p ↦ subst (λ (r : Option (List ℕ)). slice_get ws i ≡ Some (signal_word r)) (same_Some None s p.1) (is_at_is ws i (codes "1") p.0)
+      | inl p ↦ subst (λ (r : Option (List ℕ)). slice_get ws i ≡ Some (signal_word r)) (same_Some None s p.1)
+          (is_at_is ws i (codes "1") p.0)
       | inr p ↦
           option_and_then_some (λ n. Some (Some n)) (name_at ws i) s p.1 (λ n found made.
-          subst (λ (r : Option (List ℕ)). slice_get ws i ≡ Some (signal_word r)) (same_Some (Some n) s made) (name_at_is ws i n found))
+          subst (λ (r : Option (List ℕ)). slice_get ws i ≡ Some (signal_word r)) (same_Some (Some n) s made)
+          (name_at_is ws i n found))
     ]
 
-area_spelled : (ws : List (List ℕ)) (v : List ℕ) (b : Box2) → is_word_at ws 0 v ≡ true → area_of ws ≡ Some b → ws ≡ v ∷ area_words b
+area_spelled : (ws : List (List ℕ)) (v : List ℕ) (b : Box2) → is_word_at ws 0 v ≡ true → area_of ws ≡ Some b →
+    ws ≡ v ∷ area_words b
 unfolding area_of corner_and_sides
 area_spelled ws v b at e =
     let found = passed (eqb (length ws) 5) (corner_and_sides ws) b e in
-    option_and_then_some (λ x. number_at ws 2 >>= λ y. number_at ws 3 >>= λ w. number_at ws 4 >>= λ h. Some (record { x = x; y = y; w = w; h = h })) (number_at ws 1) b found.1 (λ x ex rx.
-    option_and_then_some (λ y. number_at ws 3 >>= λ w. number_at ws 4 >>= λ h. Some (record { x = x; y = y; w = w; h = h })) (number_at ws 2) b rx (λ y ey ry.
-    option_and_then_some (λ w. number_at ws 4 >>= λ h. Some (record { x = x; y = y; w = w; h = h })) (number_at ws 3) b ry (λ w ew rw'.
+    option_and_then_some (λ x. number_at ws 2 >>= λ y. number_at ws 3 >>= λ w. number_at ws 4 >>= λ h.
+    Some (record { x = x; y = y; w = w; h = h })) (number_at ws 1) b found.1 (λ x ex rx.
+    option_and_then_some (λ y. number_at ws 3 >>= λ w. number_at ws 4 >>= λ h.
+    Some (record { x = x; y = y; w = w; h = h })) (number_at ws 2) b rx (λ y ey ry.
+    option_and_then_some (λ w. number_at ws 4 >>= λ h. Some (record { x = x; y = y; w = w; h = h }))
+    (number_at ws 3) b ry (λ w ew rw'.
     option_and_then_some (λ h. Some (record { x = x; y = y; w = w; h = h })) (number_at ws 4) b rw' (λ h eh made.
     subst (λ (q : Box2). ws ≡ v ∷ area_words q) (same_Some (record { x = x; y = y; w = w; h = h }) b made)
-    (five_words ws v (decimal x) (decimal y) (decimal w) (decimal h) (eqb-true _ _ found.0) (is_at_is ws 0 v at) (number_at_spelled ws 1 x ex) (number_at_spelled ws 2 y ey) (number_at_spelled ws 3 w ew) (number_at_spelled ws 4 h eh))))))
+    (five_words ws v (decimal x) (decimal y) (decimal w) (decimal h) (eqb-true _ _ found.0) (is_at_is ws 0 v at)
+    (number_at_spelled ws 1 x ex) (number_at_spelled ws 2 y ey) (number_at_spelled ws 3 w ew)
+    (number_at_spelled ws 4 h eh))))))
 
-border_spelled : (ws : List (List ℕ)) (v : List ℕ) (b : Border) → is_word_at ws 0 v ≡ true → border_of ws ≡ Some b → ws ≡ v ∷ border_words b
+border_spelled : (ws : List (List ℕ)) (v : List ℕ) (b : Border) → is_word_at ws 0 v ≡ true → border_of ws ≡ Some b →
+    ws ≡ v ∷ border_words b
 unfolding border_of timed_cell
 border_spelled ws v b at e =
     let found = passed (eqb (length ws) 5) (timed_cell ws) b e in
-    option_and_then_some (λ t. cell_from ws 2 >>= λ c. signal_at ws 4 >>= λ s. Some (record { time = t; cell = c; signal = s })) (time_at ws 1) b found.1 (λ t timed rest.
-    option_and_then_some (λ c. signal_at ws 4 >>= λ s. Some (record { time = t; cell = c; signal = s })) (cell_from ws 2) b rest (λ c at_cell last.
-    option_and_then_some (λ s. Some (record { time = t; cell = c; signal = s })) (signal_at ws 4) b last (λ s signalled made.
+    option_and_then_some (λ t. cell_from ws 2 >>= λ c. signal_at ws 4 >>= λ s.
+    Some (record { time = t; cell = c; signal = s })) (time_at ws 1) b found.1 (λ t timed rest.
+    option_and_then_some (λ c. signal_at ws 4 >>= λ s. Some (record { time = t; cell = c; signal = s }))
+    (cell_from ws 2) b rest (λ c at_cell last.
+    option_and_then_some (λ s. Some (record { time = t; cell = c; signal = s })) (signal_at ws 4) b last
+    (λ s signalled made.
     let place = cell_spelled ws 2 c at_cell in
     subst (λ (q : Border). ws ≡ v ∷ border_words q) (same_Some (record { time = t; cell = c; signal = s }) b made)
-    (five_words ws v (time_word t) (decimal (coordinate c.x)) (decimal (coordinate c.y)) (signal_word s) (eqb-true _ _ found.0) (is_at_is ws 0 v at) (time_spelled ws 1 t timed) place.column place.row (signal_spelled ws 4 s signalled)))))
+    (five_words ws v (time_word t) (decimal (coordinate c.x)) (decimal (coordinate c.y)) (signal_word s)
+    (eqb-true _ _ found.0) (is_at_is ws 0 v at) (time_spelled ws 1 t timed) place.column place.row
+    (signal_spelled ws 4 s signalled)))))
 
-stop_spelled : (ws : List (List ℕ)) (v : List ℕ) (s : StopLine) → is_word_at ws 0 v ≡ true → stop_of ws ≡ Some s → ws ≡ v ∷ stop_words s
+stop_spelled : (ws : List (List ℕ)) (v : List ℕ) (s : StopLine) → is_word_at ws 0 v ≡ true → stop_of ws ≡ Some s →
+    ws ≡ v ∷ stop_words s
 unfolding stop_of timed_wire
 stop_spelled ws v s at e =
     let found = passed (eqb (length ws) 5) (timed_wire ws) s e in
-    option_and_then_some (λ t. name_at ws 2 >>= λ n. cell_from ws 3 >>= λ c. Some (record { time = t; wire = n; cell = c })) (number_at ws 1) s found.1 (λ t timed rest.
-    option_and_then_some (λ n. cell_from ws 3 >>= λ c. Some (record { time = t; wire = n; cell = c })) (name_at ws 2) s rest (λ n named last.
-    option_and_then_some (λ c. Some (record { time = t; wire = n; cell = c })) (cell_from ws 3) s last (λ c at_cell made.
+    option_and_then_some (λ t. name_at ws 2 >>= λ n. cell_from ws 3 >>= λ c.
+    Some (record { time = t; wire = n; cell = c })) (number_at ws 1) s found.1 (λ t timed rest.
+    option_and_then_some (λ n. cell_from ws 3 >>= λ c. Some (record { time = t; wire = n; cell = c }))
+    (name_at ws 2) s rest (λ n named last.
+    option_and_then_some (λ c. Some (record { time = t; wire = n; cell = c })) (cell_from ws 3) s last
+    (λ c at_cell made.
     let place = cell_spelled ws 3 c at_cell in
     subst (λ (q : StopLine). ws ≡ v ∷ stop_words q) (same_Some (record { time = t; wire = n; cell = c }) s made)
-    (five_words ws v (decimal t) n (decimal (coordinate c.x)) (decimal (coordinate c.y)) (eqb-true _ _ found.0) (is_at_is ws 0 v at) (number_at_spelled ws 1 t timed) (name_at_is ws 2 n named) place.column place.row))))
+    (five_words ws v (decimal t) n (decimal (coordinate c.x)) (decimal (coordinate c.y)) (eqb-true _ _ found.0)
+    (is_at_is ws 0 v at) (number_at_spelled ws 1 t timed) (name_at_is ws 2 n named) place.column place.row))))
 
-number_spelled : (ws : List (List ℕ)) (v : List ℕ) (n : ℕ) → is_word_at ws 0 v ≡ true → lone_number ws ≡ Some n → ws ≡ v ∷ decimal n ∷ []
+number_spelled : (ws : List (List ℕ)) (v : List ℕ) (n : ℕ) → is_word_at ws 0 v ≡ true → lone_number ws ≡ Some n →
+    ws ≡ v ∷ decimal n ∷ []
 unfolding lone_number
 number_spelled ws v n at e =
     let found = passed (eqb (length ws) 2) (number_at ws 1) n e in
@@ -127,25 +152,42 @@ form_words : (ws : List (List ℕ)) (f : Line) → form_of ws ≡ Some f → Spe
 unfolding form_of lone first_of others_of
 form_words ws f e =
     elim (chosen (is_word_at ws 0 (codes "edge")) _ _ (Some f) e) [
-      | inl p ↦ option_and_then_some (λ b. Some (Item (Edge b))) (border_of ws) f p.1 (λ b found made. subst (SpelledAs ws) (same_Some (Item (Edge b)) f made) (border_spelled ws (codes "edge") b p.0 found))
+      | inl p ↦ option_and_then_some (λ b. Some (Item (Edge b))) (border_of ws) f p.1
+          (λ b found made. subst (SpelledAs ws) (same_Some (Item (Edge b)) f made)
+          (border_spelled ws (codes "edge") b p.0 found))
       | inr p ↦ elim (chosen (is_word_at ws 0 (codes "halo")) _ _ (Some f) p.1) [
-        | inl q ↦ option_and_then_some (λ b. Some (Item (Halo b))) (border_of ws) f q.1 (λ b found made. subst (SpelledAs ws) (same_Some (Item (Halo b)) f made) (border_spelled ws (codes "halo") b q.0 found))
+        | inl q ↦ option_and_then_some (λ b. Some (Item (Halo b))) (border_of ws) f q.1
+            (λ b found made. subst (SpelledAs ws) (same_Some (Item (Halo b)) f made)
+            (border_spelled ws (codes "halo") b q.0 found))
         | inr q ↦ elim (chosen (is_word_at ws 0 (codes "stop")) _ _ (Some f) q.1) [
-          | inl z ↦ option_and_then_some (λ b. Some (Item (Stop b))) (stop_of ws) f z.1 (λ b found made. subst (SpelledAs ws) (same_Some (Item (Stop b)) f made) (stop_spelled ws (codes "stop") b z.0 found))
+          | inl z ↦ option_and_then_some (λ b. Some (Item (Stop b))) (stop_of ws) f z.1
+              (λ b found made. subst (SpelledAs ws) (same_Some (Item (Stop b)) f made)
+              (stop_spelled ws (codes "stop") b z.0 found))
           | inr z ↦ elim (chosen (is_word_at ws 0 (codes "cut")) _ _ (Some f) z.1) [
-            | inl r ↦ option_and_then_some (λ n. Some (Item (Cut n))) (lone_name ws) f r.1 (λ n found made. subst (SpelledAs ws) (same_Some (Item (Cut n)) f made) (name_spelled ws (codes "cut") n r.0 found))
+            | inl r ↦ option_and_then_some (λ n. Some (Item (Cut n))) (lone_name ws) f r.1
+                (λ n found made. subst (SpelledAs ws) (same_Some (Item (Cut n)) f made)
+                (name_spelled ws (codes "cut") n r.0 found))
             | inr r ↦ elim (chosen (is_word_at ws 0 (codes "use")) _ _ (Some f) r.1) [
-              | inl s ↦ option_and_then_some (λ k. Some (Item (Use k))) (lone_number ws) f s.1 (λ k found made. subst (SpelledAs ws) (same_Some (Item (Use k)) f made) (number_spelled ws (codes "use") k s.0 found))
+              | inl s ↦ option_and_then_some (λ k. Some (Item (Use k))) (lone_number ws) f s.1
+                  (λ k found made. subst (SpelledAs ws) (same_Some (Item (Use k)) f made)
+                  (number_spelled ws (codes "use") k s.0 found))
               | inr s ↦ elim (chosen (is_word_at ws 0 (codes "keep")) _ _ (Some f) s.1) [
-                | inl k ↦ option_and_then_some (λ n. Some (Item (Keep n))) (lone_number ws) f k.1 (λ n found made. subst (SpelledAs ws) (same_Some (Item (Keep n)) f made) (number_spelled ws (codes "keep") n k.0 found))
+                | inl k ↦ option_and_then_some (λ n. Some (Item (Keep n))) (lone_number ws) f k.1
+                    (λ n found made. subst (SpelledAs ws) (same_Some (Item (Keep n)) f made)
+                    (number_spelled ws (codes "keep") n k.0 found))
                 | inr k ↦ elim (chosen (is_word_at ws 0 (codes "module")) _ _ (Some f) k.1) [
-                  | inl t ↦ option_and_then_some (λ b. Some (Item (Module b))) (area_of ws) f t.1 (λ b found made. subst (SpelledAs ws) (same_Some (Item (Module b)) f made) (area_spelled ws (codes "module") b t.0 found))
+                  | inl t ↦ option_and_then_some (λ b. Some (Item (Module b))) (area_of ws) f t.1
+                      (λ b found made. subst (SpelledAs ws) (same_Some (Item (Module b)) f made)
+                      (area_spelled ws (codes "module") b t.0 found))
                   | inr t ↦ elim (chosen (is_word_at ws 0 (codes "certificate")) _ _ (Some f) t.1) [
-                    | inl u ↦ option_and_then_some (λ v. Some (Header v)) (lone_number ws) f u.1 (λ v found made. subst (SpelledAs ws) (same_Some (Header v) f made) (number_spelled ws (codes "certificate") v u.0 found))
+                    | inl u ↦ option_and_then_some (λ v. Some (Header v)) (lone_number ws) f u.1
+                        (λ v found made. subst (SpelledAs ws) (same_Some (Header v) f made)
+                        (number_spelled ws (codes "certificate") v u.0 found))
                     | inr u ↦
                         let at_end = passed (is_word_at ws 0 (codes "end")) (lone ws End) f u.1 in
                         let alone = passed (eqb (length ws) 1) (Some End) f at_end.1 in
-                        subst (SpelledAs ws) (same_Some End f alone.1) (one_word ws (codes "end") (eqb-true _ _ alone.0) (is_at_is ws 0 (codes "end") at_end.0))
+                        subst (SpelledAs ws) (same_Some End f alone.1)
+                        (one_word ws (codes "end") (eqb-true _ _ alone.0) (is_at_is ws 0 (codes "end") at_end.0))
                   ]
                 ]
               ]
@@ -157,12 +199,20 @@ form_words ws f e =
 
 pub form_line : (l : List ℕ) (f : Line) → form_of (words_of l) ≡ Some f → ended_line l ≡ form_text f
 unfolding first_of others_of
-form_line l (Header v) e = ap ended_line (line_from_words l (codes "certificate") (decimal v ∷ []) (form_words (words_of l) (Header v) e))
-form_line l (Item (Module b)) e = ap ended_line (line_from_words l (codes "module") (area_words b) (form_words (words_of l) (Item (Module b)) e))
-form_line l (Item (Cut n)) e = ap ended_line (line_from_words l (codes "cut") (n ∷ []) (form_words (words_of l) (Item (Cut n)) e))
-form_line l (Item (Use k)) e = ap ended_line (line_from_words l (codes "use") (decimal k ∷ []) (form_words (words_of l) (Item (Use k)) e))
-form_line l (Item (Keep k)) e = ap ended_line (line_from_words l (codes "keep") (decimal k ∷ []) (form_words (words_of l) (Item (Keep k)) e))
-form_line l (Item (Edge b)) e = ap ended_line (line_from_words l (codes "edge") (border_words b) (form_words (words_of l) (Item (Edge b)) e))
-form_line l (Item (Halo b)) e = ap ended_line (line_from_words l (codes "halo") (border_words b) (form_words (words_of l) (Item (Halo b)) e))
-form_line l (Item (Stop s)) e = ap ended_line (line_from_words l (codes "stop") (stop_words s) (form_words (words_of l) (Item (Stop s)) e))
+form_line l (Header v) e = ap ended_line
+    (line_from_words l (codes "certificate") (decimal v ∷ []) (form_words (words_of l) (Header v) e))
+form_line l (Item (Module b)) e =
+    ap ended_line (line_from_words l (codes "module") (area_words b) (form_words (words_of l) (Item (Module b)) e))
+form_line l (Item (Cut n)) e =
+    ap ended_line (line_from_words l (codes "cut") (n ∷ []) (form_words (words_of l) (Item (Cut n)) e))
+form_line l (Item (Use k)) e =
+    ap ended_line (line_from_words l (codes "use") (decimal k ∷ []) (form_words (words_of l) (Item (Use k)) e))
+form_line l (Item (Keep k)) e =
+    ap ended_line (line_from_words l (codes "keep") (decimal k ∷ []) (form_words (words_of l) (Item (Keep k)) e))
+form_line l (Item (Edge b)) e =
+    ap ended_line (line_from_words l (codes "edge") (border_words b) (form_words (words_of l) (Item (Edge b)) e))
+form_line l (Item (Halo b)) e =
+    ap ended_line (line_from_words l (codes "halo") (border_words b) (form_words (words_of l) (Item (Halo b)) e))
+form_line l (Item (Stop s)) e =
+    ap ended_line (line_from_words l (codes "stop") (stop_words s) (form_words (words_of l) (Item (Stop s)) e))
 form_line l End e = ap ended_line (line_from_words l (codes "end") [] (form_words (words_of l) End e))

@@ -1,5 +1,6 @@
 -- The stops of a module: what its lines give, and their order.
-use Rattle.std.proofs.Common.{◌≡◌, ℕ, ◌+◌, ◌<◌, ◌≤◌, List, [], ◌∷◌, ◌++◌, length, Option, Some, None, Less, take, get_or, map, false, true, refl, sym, ap, subst, ◌∙◌}
+use Rattle.std.proofs.Common.{◌≡◌, ℕ, ◌+◌, ◌<◌, ◌≤◌, List, [], ◌∷◌, ◌++◌, length, Option, Some, None, Less, take}
+use Rattle.std.proofs.Common.{get_or, map, false, true, refl, sym, ap, subst, ◌∙◌}
 use Rattle.std.specs.List.{All, flat_map}
 use Rattle.std.specs.Ordering.{nat_cmp, ordering_then}
 use Rattle.std.proofs.lemmas.Grind.{flat_map-append}
@@ -34,24 +35,33 @@ none_said c l ss e = record {
   own = subst (All (λ s. s.wire < wires l.netlist)) (sym e) (All-nil (λ s. s.wire < wires l.netlist));
 }
 
-pub with_stop : (c : Circuit) (l : LocalNet) (lines : List StopLine) (line : StopLine) (old new : List listed.Stop) (s : listed.Stop) → renumber_stop (circuit_wire l) s ∷ [] ≡ line_stops c (line ∷ []) →
+pub with_stop : (c : Circuit) (l : LocalNet) (lines : List StopLine) (line : StopLine) (old new : List listed.Stop)
+    (s : listed.Stop) → renumber_stop (circuit_wire l) s ∷ [] ≡ line_stops c (line ∷ []) →
     s.wire < wires l.netlist → new ≡ old ++ s ∷ [] → AreStops c l lines old → AreStops c l (lines ++ line ∷ []) new
 with_stop c l lines line old new s same own grown are =
     let by : StopLine → List listed.Stop = λ r. numbered_stop r (wire_of c r.wire) in
     record {
-      same = ap (map (renumber_stop (circuit_wire l))) grown ∙ map-append (renumber_stop (circuit_wire l)) old (s ∷ []) ∙ ap (λ xs. xs ++ renumber_stop (circuit_wire l) s ∷ []) are.same
+      same = ap (map (renumber_stop (circuit_wire l))) grown ∙ map-append (renumber_stop (circuit_wire l)) old (s ∷ [])
+          ∙ ap (λ xs. xs ++ renumber_stop (circuit_wire l) s ∷ []) are.same
           ∙ ap (λ xs. line_stops c lines ++ xs) same ∙ sym (flat_map-append by lines (line ∷ []));
-      own = subst (All (λ r. r.wire < wires l.netlist)) (sym grown) (All-append (λ r. r.wire < wires l.netlist) old (s ∷ []) are.own (All-cons (λ r. r.wire < wires l.netlist) s [] own (All-nil (λ r. r.wire < wires l.netlist))));
+      own = subst (All (λ r. r.wire < wires l.netlist)) (sym grown)
+          (All-append (λ r. r.wire < wires l.netlist) old (s ∷ []) are.own
+          (All-cons (λ r. r.wire < wires l.netlist) s [] own (All-nil (λ r. r.wire < wires l.netlist))));
     }
 
-pub without_stop : (c : Circuit) (l : LocalNet) (lines : List StopLine) (old new : List listed.Stop) → new ≡ old → AreStops c l lines old → AreStops c l (lines ++ []) new
-without_stop c l lines old new same are = subst (λ xs. AreStops c l xs new) (sym (append-nil lines)) (subst (AreStops c l lines) (sym same) are)
+pub without_stop : (c : Circuit) (l : LocalNet) (lines : List StopLine) (old new : List listed.Stop) → new ≡ old →
+    AreStops c l lines old → AreStops c l (lines ++ []) new
+without_stop c l lines old new same are =
+    subst (λ xs. AreStops c l xs new) (sym (append-nil lines)) (subst (AreStops c l lines) (sym same) are)
 
-pub next_stops : (c : Circuit) (l : LocalNet) (lines : List Entry) (i : ℕ) (line : Entry) (ss : List listed.Stop) → i < length lines → line ≡ get_or lines i line →
-    AreStops c l (flat_map stop_in (take i lines) ++ stop_in line) ss → AreStops c l (flat_map stop_in (take (i + 1) lines)) ss
+pub next_stops : (c : Circuit) (l : LocalNet) (lines : List Entry) (i : ℕ) (line : Entry) (ss : List listed.Stop) →
+    i < length lines → line ≡ get_or lines i line →
+    AreStops c l (flat_map stop_in (take i lines) ++ stop_in line) ss →
+    AreStops c l (flat_map stop_in (take (i + 1) lines)) ss
 next_stops c l lines i line ss lt e h = subst (λ xs. AreStops c l xs ss) (next_line stop_in lines i line lt e) h
 
-pub all_stops_said : (c : Circuit) (l : LocalNet) (lines : List Entry) (i : ℕ) (ss : List listed.Stop) → length lines ≤ i → AreStops c l (flat_map stop_in (take i lines)) ss → AreStops c l (flat_map stop_in lines) ss
+pub all_stops_said : (c : Circuit) (l : LocalNet) (lines : List Entry) (i : ℕ) (ss : List listed.Stop) →
+    length lines ≤ i → AreStops c l (flat_map stop_in (take i lines)) ss → AreStops c l (flat_map stop_in lines) ss
 all_stops_said c l lines i ss le h = subst (λ xs. AreStops c l (flat_map stop_in xs) ss) (take_all i lines le) h
 
 -- ---- they rise
@@ -73,7 +83,8 @@ stop_first s (Edge e) h = tt
 stop_first s (Halo e) h = tt
 stop_first s (Stop t) h = (stop_before s t h, tt)
 
-stops_between : (i : Entry) → Each (λ s. (j : Entry) → may_precede i j ≡ true → Each (StopBefore s) (stop_in j)) (stop_in i)
+stops_between : (i : Entry) →
+    Each (λ s. (j : Entry) → may_precede i j ≡ true → Each (StopBefore s) (stop_in j)) (stop_in i)
 unfolding Each
 stops_between (Module b) = tt
 stops_between (Cut n) = tt
@@ -94,17 +105,21 @@ stop_alone (Halo e) = tt
 stop_alone (Stop s) = (tt, tt)
 
 stop_lines_rise : (lines : List Entry) → AreInOrder lines → Pairs StopBefore (flat_map stop_in lines)
-stop_lines_rise lines o = pairs_flat (λ i j. may_precede i j ≡ true) StopBefore stop_in stops_between stop_alone lines (pairs_of_order lines o)
+stop_lines_rise lines o = pairs_flat (λ i j. may_precede i j ≡ true) StopBefore stop_in stops_between stop_alone lines
+    (pairs_of_order lines o)
 
 abbrev MomentBefore : listed.Stop → listed.Stop → Type 0
 MomentBefore a b = moment_cmp (stop_moment a) (stop_moment b) ≡ Less
 
-numbered_first : (s : StopLine) (w : ℕ) (t : StopLine) (o : Option ℕ) → StopBefore s t → Each (λ b. moment_cmp (record { time = s.time; cell = s.cell }) b.at ≡ Less) (numbered_stop t o)
+numbered_first : (s : StopLine) (w : ℕ) (t : StopLine) (o : Option ℕ) → StopBefore s t →
+    Each (λ b. moment_cmp (record { time = s.time; cell = s.cell }) b.at ≡ Less) (numbered_stop t o)
 unfolding Each moment_cmp
 numbered_first s w t None h = tt
 numbered_first s w t (Some v) h = (h, tt)
 
-numbered_between : (c : Circuit) (s : StopLine) (o : Option ℕ) → Each (λ a. (t : StopLine) → StopBefore s t → Each (MomentBefore a) (numbered_stop t (wire_of c t.wire))) (numbered_stop s o)
+numbered_between : (c : Circuit) (s : StopLine) (o : Option ℕ) →
+    Each (λ a. (t : StopLine) → StopBefore s t → Each (MomentBefore a) (numbered_stop t (wire_of c t.wire)))
+    (numbered_stop s o)
 unfolding Each
 numbered_between c s None = tt
 numbered_between c s (Some w) = ((λ t h. numbered_first s w t (wire_of c t.wire) h), tt)
@@ -114,31 +129,44 @@ unfolding Each Pairs
 numbered_alone s None = tt
 numbered_alone s (Some w) = (tt, tt)
 
-pub stops_rise : (c : Circuit) (l : LocalNet) (lines : List Entry) (ss : List listed.Stop) → AreInOrder lines → AreStops c l (flat_map stop_in lines) ss → IsRising moment_cmp stop_moment ss
+pub stops_rise : (c : Circuit) (l : LocalNet) (lines : List Entry) (ss : List listed.Stop) → AreInOrder lines →
+    AreStops c l (flat_map stop_in lines) ss → IsRising moment_cmp stop_moment ss
 stops_rise c l lines ss o are =
     rising_of moment_cmp stop_moment (renumber_stop (circuit_wire l)) (λ a. refl) ss _ are.same
-    (pairs_flat StopBefore MomentBefore (λ s. numbered_stop s (wire_of c s.wire)) (λ s. numbered_between c s (wire_of c s.wire)) (λ s. numbered_alone s (wire_of c s.wire)) (flat_map stop_in lines) (stop_lines_rise lines o))
+    (pairs_flat StopBefore MomentBefore (λ s. numbered_stop s (wire_of c s.wire))
+    (λ s. numbered_between c s (wire_of c s.wire)) (λ s. numbered_alone s (wire_of c s.wire)) (flat_map stop_in lines)
+    (stop_lines_rise lines o))
 
 -- ---- where they stand
 
-all_numbered : (P : Moment → Type 0) (s : StopLine) (o : Option ℕ) → P (record { time = s.time; cell = s.cell }) → All (λ r. P r.at) (numbered_stop s o)
+all_numbered : (P : Moment → Type 0) (s : StopLine) (o : Option ℕ) → P (record { time = s.time; cell = s.cell }) →
+    All (λ r. P r.at) (numbered_stop s o)
 all_numbered P s None h = All-nil (λ r. P r.at)
 all_numbered P s (Some w) h = All-cons (λ r. P r.at) _ [] h (All-nil (λ r. P r.at))
 
-all_said : (P : Moment → Type 0) (c : Circuit) (lines : List StopLine) → All (λ s. P (record { time = s.time; cell = s.cell })) lines → All (λ r. P r.at) (line_stops c lines)
+all_said : (P : Moment → Type 0) (c : Circuit) (lines : List StopLine) →
+    All (λ s. P (record { time = s.time; cell = s.cell })) lines → All (λ r. P r.at) (line_stops c lines)
 all_said P c [] h = All-nil (λ r. P r.at)
 all_said P c (s ∷ lines) h =
     All-append (λ r. P r.at) (numbered_stop s (wire_of c s.wire)) (line_stops c lines)
-    (all_numbered P s (wire_of c s.wire) (All-head (λ (q : StopLine). P (record { time = q.time; cell = q.cell })) s lines h))
+    (all_numbered P s (wire_of c s.wire)
+    (All-head (λ (q : StopLine). P (record { time = q.time; cell = q.cell })) s lines h))
     (all_said P c lines (All-tail (λ (q : StopLine). P (record { time = q.time; cell = q.cell })) s lines h))
 
-all_renumbered : (P : Moment → Type 0) (f : ℕ → ℕ) (ss : List listed.Stop) → All (λ r. P r.at) (map (renumber_stop f) ss) → All (λ r. P r.at) ss
+all_renumbered : (P : Moment → Type 0) (f : ℕ → ℕ) (ss : List listed.Stop) →
+    All (λ r. P r.at) (map (renumber_stop f) ss) → All (λ r. P r.at) ss
 all_renumbered P f [] h = All-nil (λ r. P r.at)
-all_renumbered P f (s ∷ ss) h = All-cons (λ r. P r.at) s ss (All-head (λ r. P r.at) (renumber_stop f s) (map (renumber_stop f) ss) h) (all_renumbered P f ss (All-tail (λ r. P r.at) (renumber_stop f s) (map (renumber_stop f) ss) h))
+all_renumbered P f (s ∷ ss) h =
+    All-cons (λ r. P r.at) s ss (All-head (λ r. P r.at) (renumber_stop f s) (map (renumber_stop f) ss) h)
+    (all_renumbered P f ss (All-tail (λ r. P r.at) (renumber_stop f s) (map (renumber_stop f) ss) h))
 
-pub stops_stand : (P : Moment → Type 0) (c : Circuit) (l : LocalNet) (lines : List StopLine) (ss : List listed.Stop) → AreStops c l lines ss → All (λ s. P (record { time = s.time; cell = s.cell })) lines → All (λ r. P r.at) ss
-stops_stand P c l lines ss are h = all_renumbered P (circuit_wire l) ss (subst (All (λ r. P r.at)) (sym are.same) (all_said P c lines h))
+pub stops_stand : (P : Moment → Type 0) (c : Circuit) (l : LocalNet) (lines : List StopLine) (ss : List listed.Stop) →
+    AreStops c l lines ss → All (λ s. P (record { time = s.time; cell = s.cell })) lines → All (λ r. P r.at) ss
+stops_stand P c l lines ss are h =
+    all_renumbered P (circuit_wire l) ss (subst (All (λ r. P r.at)) (sym are.same) (all_said P c lines h))
 
 -- the wires that stops name are the module's
-pub stops_named : (g : Setting) (m : ModuleLines) (l : LocalNet) → l.circuit_wires ≡ known g.circuit m → IsModule g m → All (λ s. is_local g.circuit l.circuit_wires s.wire ≡ true) (stops m)
-stops_named g m l is h k d lt = subst (λ ws. is_local g.circuit ws (get_or (stops m) k d).wire ≡ true) (sym is) (h.stop_lines k d lt).wire
+pub stops_named : (g : Setting) (m : ModuleLines) (l : LocalNet) → l.circuit_wires ≡ known g.circuit m → IsModule g m →
+    All (λ s. is_local g.circuit l.circuit_wires s.wire ≡ true) (stops m)
+stops_named g m l is h k d lt =
+    subst (λ ws. is_local g.circuit ws (get_or (stops m) k d).wire ≡ true) (sym is) (h.stop_lines k d lt).wire

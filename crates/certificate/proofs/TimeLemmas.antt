@@ -1,5 +1,7 @@
 -- Tables of times, line by line, and the lines of gates one after the other.
-use Rattle.std.proofs.Common.{◌≡◌, ℕ, suc, ◌+◌, ◌<◌, ◌≤◌, false, List, [], ◌∷◌, ◌++◌, length, drop, get_or, Option, Some, refl, sym, ap, ap₂, ◌∙◌, arith, drop-cons, add-one, append_assoc, append-nil, length-drop, take, ◌-◌}
+use Rattle.std.proofs.Common.{◌≡◌, ℕ, suc, ◌+◌, ◌<◌, ◌≤◌, false, List, [], ◌∷◌, ◌++◌, length, drop, get_or, Option}
+use Rattle.std.proofs.Common.{Some, refl, sym, ap, ap₂, ◌∙◌, arith, drop-cons, add-one, append_assoc, append-nil}
+use Rattle.std.proofs.Common.{length-drop, take, ◌-◌}
 use Rattle.std.specs.Prelude.{slice_get}
 use Rattle.std.specs.List.{flat_map}
 use Rattle.std.proofs.lemmas.List.{drop_all, take_all}
@@ -29,12 +31,14 @@ Splits es = flat_map stop_in es ≡ flat_map stop_in (inner es) ++ all_stops (mo
 
 splits_other : (e : Entry) (es : List Entry) → is_module e ≡ false → Splits es → Splits (e ∷ es)
 splits_other e es o h =
-    ap (λ xs. stop_in e ++ xs) h ∙ sym (append_assoc (stop_in e) (flat_map stop_in (inner es)) (all_stops (modules_of es)))
+    ap (λ xs. stop_in e ++ xs) h ∙ sym
+    (append_assoc (stop_in e) (flat_map stop_in (inner es)) (all_stops (modules_of es)))
     ∙ ap₂ (λ xs ms. flat_map stop_in xs ++ all_stops ms) (sym (inner_other e es o)) (sym (split_other e es o))
 
 splits_step : (e : Entry) (es : List Entry) → Splits es → Splits (e ∷ es)
 splits_step (Module b) es h =
-    h ∙ ap all_stops (sym (split_module b es)) ∙ ap (λ xs. flat_map stop_in xs ++ all_stops (modules_of (Module b ∷ es))) (sym (inner_module (Module b) es refl))
+    h ∙ ap all_stops (sym (split_module b es))
+    ∙ ap (λ xs. flat_map stop_in xs ++ all_stops (modules_of (Module b ∷ es))) (sym (inner_module (Module b) es refl))
 splits_step (Cut n) es h = splits_other (Cut n) es refl h
 splits_step (Use k) es h = splits_other (Use k) es refl h
 splits_step (Keep k) es h = splits_other (Keep k) es refl h
@@ -51,29 +55,38 @@ splits [] = splits_none
 splits (e ∷ es) = splits_step e es (splits es)
 
 -- and where the lines were read, they are those of all lines: the first is a module line
-starts_with_module : (g : Setting) (v : ℕ) (es : List Entry) → AreFaultless (certificate_grammar g) v [] es → inner es ≡ []
+starts_with_module : (g : Setting) (v : ℕ) (es : List Entry) → AreFaultless (certificate_grammar g) v [] es →
+    inner es ≡ []
 unfolding inner entry_fault modules_of last_of
 starts_with_module g v [] good = refl
 starts_with_module g v (Module b ∷ es) good = refl
 starts_with_module g v (Cut n ∷ es) good = absurd (let first = (both_none _ (entry_fault g [] (Cut n)) good.0).1 in cc)
 starts_with_module g v (Use k ∷ es) good = absurd (let first = (both_none _ (entry_fault g [] (Use k)) good.0).1 in cc)
-starts_with_module g v (Keep k ∷ es) good = absurd (let first = (both_none _ (entry_fault g [] (Keep k)) good.0).1 in cc)
-starts_with_module g v (Edge e ∷ es) good = absurd (let first = (both_none _ (entry_fault g [] (Edge e)) good.0).1 in cc)
-starts_with_module g v (Halo e ∷ es) good = absurd (let first = (both_none _ (entry_fault g [] (Halo e)) good.0).1 in cc)
-starts_with_module g v (Stop s ∷ es) good = absurd (let first = (both_none _ (entry_fault g [] (Stop s)) good.0).1 in cc)
+starts_with_module g v (Keep k ∷ es) good =
+    absurd (let first = (both_none _ (entry_fault g [] (Keep k)) good.0).1 in cc)
+starts_with_module g v (Edge e ∷ es) good =
+    absurd (let first = (both_none _ (entry_fault g [] (Edge e)) good.0).1 in cc)
+starts_with_module g v (Halo e ∷ es) good =
+    absurd (let first = (both_none _ (entry_fault g [] (Halo e)) good.0).1 in cc)
+starts_with_module g v (Stop s ∷ es) good =
+    absurd (let first = (both_none _ (entry_fault g [] (Stop s)) good.0).1 in cc)
 
-pub all_in_modules : (g : Setting) (v : ℕ) (es : List Entry) → IsFaultless (certificate_grammar g) v es → all_stops (modules_of es) ≡ flat_map stop_in es
-all_in_modules g v es good = sym (splits es ∙ ap (λ xs. flat_map stop_in xs ++ all_stops (modules_of es)) (starts_with_module g v es good.each))
+pub all_in_modules : (g : Setting) (v : ℕ) (es : List Entry) → IsFaultless (certificate_grammar g) v es →
+    all_stops (modules_of es) ≡ flat_map stop_in es
+all_in_modules g v es good = sym
+    (splits es ∙ ap (λ xs. flat_map stop_in xs ++ all_stops (modules_of es)) (starts_with_module g v es good.each))
 
 abbrev Begins : List Entry → Type 0
 Begins es = flat_map stop_in (drop (length (inner es)) es) ≡ all_stops (modules_of es)
 
 begins_other : (e : Entry) (es : List Entry) → is_module e ≡ false → Begins es → Begins (e ∷ es)
-begins_other e es o h = ap (λ xs. flat_map stop_in (drop (length xs) (e ∷ es))) (inner_other e es o) ∙ h ∙ ap all_stops (sym (split_other e es o))
+begins_other e es o h = ap (λ xs. flat_map stop_in (drop (length xs) (e ∷ es))) (inner_other e es o) ∙ h
+    ∙ ap all_stops (sym (split_other e es o))
 
 begins_step : (e : Entry) (es : List Entry) → Begins es → Begins (e ∷ es)
 begins_step (Module b) es h =
-    ap (λ xs. flat_map stop_in (drop (length xs) (Module b ∷ es))) (inner_module (Module b) es refl) ∙ splits (Module b ∷ es)
+    ap (λ xs. flat_map stop_in (drop (length xs) (Module b ∷ es))) (inner_module (Module b) es refl)
+    ∙ splits (Module b ∷ es)
     ∙ ap (λ xs. flat_map stop_in xs ++ all_stops (modules_of (Module b ∷ es))) (inner_module (Module b) es refl)
 begins_step (Cut n) es h = begins_other (Cut n) es refl h
 begins_step (Use k) es h = begins_other (Use k) es refl h
@@ -92,28 +105,37 @@ from_module (e ∷ es) = begins_step e es (from_module es)
 
 -- ---- the lines of gates, one after the other
 
-numbered_step : (f : ℕ → Gate → List TimeLine) (n : ℕ) (gates : List Gate) (g : Gate) → slice_get gates n ≡ Some g → numbered f n (drop n gates) ≡ f n g ++ numbered f (n + 1) (drop (n + 1) gates)
+numbered_step : (f : ℕ → Gate → List TimeLine) (n : ℕ) (gates : List Gate) (g : Gate) → slice_get gates n ≡ Some g →
+    numbered f n (drop n gates) ≡ f n g ++ numbered f (n + 1) (drop (n + 1) gates)
 unfolding numbered
 numbered_step f n gates g at =
     let inside : n < length gates = slice_get_within gates n g at in
     let here : get_or gates n g ≡ g = same_Some _ _ (sym (slice_get-get_or gates n g inside) ∙ at) in
-    ap (numbered f n) (drop-cons gates n g inside ∙ ap (λ x. x ∷ drop (suc n) gates) here ∙ ap (λ k. g ∷ drop k gates) (sym (add-one n)))
+    ap (numbered f n) (drop-cons gates n g inside ∙ ap (λ x. x ∷ drop (suc n) gates) here
+    ∙ ap (λ k. g ∷ drop k gates) (sym (add-one n)))
 
-pub one_gate_more : (f : ℕ → Gate → List TimeLine) (all lines more : List TimeLine) (n : ℕ) (gates : List Gate) (g : Gate) → slice_get gates n ≡ Some g → more ≡ lines ++ f n g →
+pub one_gate_more : (f : ℕ → Gate → List TimeLine) (all lines more : List TimeLine) (n : ℕ) (gates : List Gate)
+    (g : Gate) → slice_get gates n ≡ Some g → more ≡ lines ++ f n g →
     lines ++ numbered f n (drop n gates) ≡ all → more ++ numbered f (n + 1) (drop (n + 1) gates) ≡ all
 one_gate_more f all lines more n gates g at grown so_far =
-    ap (λ xs. xs ++ numbered f (n + 1) (drop (n + 1) gates)) grown ∙ append_assoc lines (f n g) (numbered f (n + 1) (drop (n + 1) gates)) ∙ ap (λ xs. lines ++ xs) (sym (numbered_step f n gates g at)) ∙ so_far
+    ap (λ xs. xs ++ numbered f (n + 1) (drop (n + 1) gates)) grown
+    ∙ append_assoc lines (f n g) (numbered f (n + 1) (drop (n + 1) gates))
+    ∙ ap (λ xs. lines ++ xs) (sym (numbered_step f n gates g at)) ∙ so_far
 
 numbered_none : (f : ℕ → Gate → List TimeLine) (n : ℕ) → numbered f n [] ≡ []
 unfolding numbered
 numbered_none f n = refl
 
-pub all_gates : (f : ℕ → Gate → List TimeLine) (all lines : List TimeLine) (n : ℕ) (gates : List Gate) → length gates ≤ n → lines ++ numbered f n (drop n gates) ≡ all → lines ≡ all
-all_gates f all lines n gates past so_far = sym (append-nil lines) ∙ ap (λ xs. lines ++ xs) (sym (ap (numbered f n) (drop_all n gates past) ∙ numbered_none f n)) ∙ so_far
+pub all_gates : (f : ℕ → Gate → List TimeLine) (all lines : List TimeLine) (n : ℕ) (gates : List Gate) →
+    length gates ≤ n → lines ++ numbered f n (drop n gates) ≡ all → lines ≡ all
+all_gates f all lines n gates past so_far =
+    sym (append-nil lines) ∙ ap (λ xs. lines ++ xs)
+    (sym (ap (numbered f n) (drop_all n gates past) ∙ numbered_none f n)) ∙ so_far
 
 -- ---- the first lines are not too many
 
-length_other : (e : Entry) (es : List Entry) → is_module e ≡ false → length (inner es) ≤ length es → length (inner (e ∷ es)) ≤ length (e ∷ es)
+length_other : (e : Entry) (es : List Entry) → is_module e ≡ false → length (inner es) ≤ length es →
+    length (inner (e ∷ es)) ≤ length (e ∷ es)
 length_other e es o h = let n = ap length (inner_other e es o) in omega (arith, n, h)
 
 length_step : (e : Entry) (es : List Entry) → length (inner es) ≤ length es → length (inner (e ∷ es)) ≤ length (e ∷ es)
@@ -133,17 +155,22 @@ pub inner_within : (es : List Entry) → length (inner es) ≤ length es
 inner_within [] = within_none
 inner_within (e ∷ es) = length_step e es (inner_within es)
 
-pub stops_from : (es before : List Entry) → before ≡ inner es → flat_map stop_in (take (length es - length before) (drop (length before) es)) ≡ all_stops (modules_of es)
+pub stops_from : (es before : List Entry) → before ≡ inner es →
+    flat_map stop_in (take (length es - length before) (drop (length before) es)) ≡ all_stops (modules_of es)
 stops_from es before e =
-    ap (flat_map stop_in) (take_all (length es - length before) (drop (length before) es) (let n = length-drop (length before) es in omega (arith, n)))
+    ap (flat_map stop_in) (take_all (length es - length before) (drop (length before) es)
+    (let n = length-drop (length before) es in omega (arith, n)))
     ∙ ap (λ xs. flat_map stop_in (drop (length xs) es)) e ∙ from_module es
 
 -- ---- tables
 
-told : (choice : Choice) (c : Circuit) (ss all : List StopLine) (table items : List (Option ℕ)) → table ≡ items → ss ≡ all → IsTable choice c ss items → told_by table ≡ seen choice c all
+told : (choice : Choice) (c : Circuit) (ss all : List StopLine) (table items : List (Option ℕ)) → table ≡ items →
+    ss ≡ all → IsTable choice c ss items → told_by table ≡ seen choice c all
 told choice c ss all table items e s h i = λ w. (ap (λ t. told_by t w) e ∙ h w ∙ ap (λ r. seen choice c r w) s) i
 
-pub lines_told : (c : Circuit) (ms : List ModuleLines) (ss : List StopLine) (firsts lasts f l : List (Option ℕ)) → f ≡ firsts → l ≡ lasts → ss ≡ all_stops ms → IsTable First c ss firsts → IsTable Last c ss lasts →
+pub lines_told : (c : Circuit) (ms : List ModuleLines) (ss : List StopLine) (firsts lasts f l : List (Option ℕ)) →
+    f ≡ firsts → l ≡ lasts → ss ≡ all_stops ms → IsTable First c ss firsts → IsTable Last c ss lasts →
     lines_by (told_by f) (told_by l) c.netlist.gates ≡ time_lines c ms
 lines_told c ms ss firsts lasts f l ef el es hf hl i =
-    lines_by (told First c ss (all_stops ms) f firsts ef es hf i) (told Last c ss (all_stops ms) l lasts el es hl i) c.netlist.gates
+    lines_by (told First c ss (all_stops ms) f firsts ef es hf i)
+    (told Last c ss (all_stops ms) l lasts el es hl i) c.netlist.gates

@@ -1,5 +1,6 @@
--- What a line adds to the signals of a module.
-use Rattle.std.proofs.Common.{◌≡◌, ℕ, ◌<◌, List, [], ◌∷◌, ◌++◌, ◌+◌, ◌≤◌, length, Option, Some, None, take, get_or, refl, sym, ap, subst, ◌∙◌, map}
+-- The signals of a module after one more line.
+use Rattle.std.proofs.Common.{◌≡◌, ℕ, ◌<◌, List, [], ◌∷◌, ◌++◌, ◌+◌, ◌≤◌, length, Option, Some, None, take, get_or}
+use Rattle.std.proofs.Common.{refl, sym, ap, subst, ◌∙◌, map}
 use Rattle.std.specs.List.{All, flat_map}
 use Rattle.std.specs.Result.{OnOk}
 use Rattle.std.specs.declared.result.Result.{Result}
@@ -35,82 +36,115 @@ one_flat f x = append-nil (f x)
 
 -- ---- one line
 
-renumbered_held : (f : ℕ → ℕ) (e : Border) (t : Option ℕ) (s : Signal) → map (renumber_held f) (held_by e t s) ≡ held_by e t (renumber_signal f s)
+renumbered_held : (f : ℕ → ℕ) (e : Border) (t : Option ℕ) (s : Signal) →
+    map (renumber_held f) (held_by e t s) ≡ held_by e t (renumber_signal f s)
 renumbered_held f e None s = refl
 renumbered_held f e (Some t) s = refl
 
-renumbered_event : (f : ℕ → ℕ) (e : Border) (t : Option ℕ) (s : Signal) → map (renumber_event f) (event_by e t s) ≡ event_by e t (renumber_signal f s)
+renumbered_event : (f : ℕ → ℕ) (e : Border) (t : Option ℕ) (s : Signal) →
+    map (renumber_event f) (event_by e t s) ≡ event_by e t (renumber_signal f s)
 renumbered_event f e None s = refl
 renumbered_event f e (Some t) s = refl
 
-own_held : (n : ℕ) (e : Border) (t : Option ℕ) (s : Signal) → IsBelow n s → All (λ h. IsBelow n h.signal) (held_by e t s)
+own_held : (n : ℕ) (e : Border) (t : Option ℕ) (s : Signal) → IsBelow n s →
+    All (λ h. IsBelow n h.signal) (held_by e t s)
 own_held n e None s b = All-cons (λ h. IsBelow n h.signal) _ [] b (All-nil (λ h. IsBelow n h.signal))
 own_held n e (Some t) s b = All-nil (λ h. IsBelow n h.signal)
 
-own_event : (n : ℕ) (e : Border) (t : Option ℕ) (s : Signal) → IsBelow n s → All (λ h. IsBelow n h.signal) (event_by e t s)
+own_event : (n : ℕ) (e : Border) (t : Option ℕ) (s : Signal) → IsBelow n s →
+    All (λ h. IsBelow n h.signal) (event_by e t s)
 own_event n e None s b = All-nil (λ h. IsBelow n h.signal)
 own_event n e (Some t) s b = All-cons (λ h. IsBelow n h.signal) _ [] b (All-nil (λ h. IsBelow n h.signal))
 
-pub next_line : {A X : Type 0} (f : X → List A) (xs : List X) (i : ℕ) (x : X) → i < length xs → x ≡ get_or xs i x → flat_map f (take i xs) ++ f x ≡ flat_map f (take (i + 1) xs)
-next_line f xs i x lt e = flat_map_more f [] (take i xs) x ∙ ap (flat_map f) (sym (take_more xs i x lt ∙ ap (λ y. take i xs ++ y ∷ []) (sym e)))
+pub next_line : {A X : Type 0} (f : X → List A) (xs : List X) (i : ℕ) (x : X) → i < length xs → x ≡ get_or xs i x →
+    flat_map f (take i xs) ++ f x ≡ flat_map f (take (i + 1) xs)
+next_line f xs i x lt e = flat_map_more f [] (take i xs) x
+    ∙ ap (flat_map f) (sym (take_more xs i x lt ∙ ap (λ y. take i xs ++ y ∷ []) (sym e)))
 
 module _ (c : Circuit) (l : LocalNet) where
-  more_held : (es : List Border) (e : Border) (s : Signal) (hs ns : List Held) → renumber_signal (circuit_wire l) s ≡ line_signal c e.signal → ns ≡ hs ++ held_by e e.time s →
+  more_held : (es : List Border) (e : Border) (s : Signal) (hs ns : List Held) →
+      renumber_signal (circuit_wire l) s ≡ line_signal c e.signal → ns ≡ hs ++ held_by e e.time s →
       map (renumber_held (circuit_wire l)) hs ≡ flat_map (λ d. held_by d d.time (line_signal c d.signal)) es →
       map (renumber_held (circuit_wire l)) ns ≡ flat_map (λ d. held_by d d.time (line_signal c d.signal)) (es ++ e ∷ [])
   more_held es e s hs ns same grown h =
       let by : Border → List Held = λ d. held_by d d.time (line_signal c d.signal) in
-      ap (map (renumber_held (circuit_wire l))) grown ∙ map-append (renumber_held (circuit_wire l)) hs (held_by e e.time s) ∙
+      ap (map (renumber_held (circuit_wire l))) grown
+      ∙ map-append (renumber_held (circuit_wire l)) hs (held_by e e.time s) ∙
       ap (λ xs. xs ++ map (renumber_held (circuit_wire l)) (held_by e e.time s)) h ∙
-      ap (λ xs. flat_map by es ++ xs) (renumbered_held (circuit_wire l) e e.time s ∙ ap (held_by e e.time) same ∙ sym (one_flat by e)) ∙
+      ap (λ xs. flat_map by es ++ xs)
+      (renumbered_held (circuit_wire l) e e.time s ∙ ap (held_by e e.time) same ∙ sym (one_flat by e)) ∙
       sym (flat_map-append by es (e ∷ []))
 
-  more_events : (es : List Border) (e : Border) (s : Signal) (hs ns : List Event) → renumber_signal (circuit_wire l) s ≡ line_signal c e.signal → ns ≡ hs ++ event_by e e.time s →
+  more_events : (es : List Border) (e : Border) (s : Signal) (hs ns : List Event) →
+      renumber_signal (circuit_wire l) s ≡ line_signal c e.signal → ns ≡ hs ++ event_by e e.time s →
       map (renumber_event (circuit_wire l)) hs ≡ flat_map (λ d. event_by d d.time (line_signal c d.signal)) es →
-      map (renumber_event (circuit_wire l)) ns ≡ flat_map (λ d. event_by d d.time (line_signal c d.signal)) (es ++ e ∷ [])
+      map (renumber_event (circuit_wire l)) ns
+      ≡ flat_map (λ d. event_by d d.time (line_signal c d.signal)) (es ++ e ∷ [])
   more_events es e s hs ns same grown h =
       let by : Border → List Event = λ d. event_by d d.time (line_signal c d.signal) in
-      ap (map (renumber_event (circuit_wire l))) grown ∙ map-append (renumber_event (circuit_wire l)) hs (event_by e e.time s) ∙
+      ap (map (renumber_event (circuit_wire l))) grown
+      ∙ map-append (renumber_event (circuit_wire l)) hs (event_by e e.time s) ∙
       ap (λ xs. xs ++ map (renumber_event (circuit_wire l)) (event_by e e.time s)) h ∙
-      ap (λ xs. flat_map by es ++ xs) (renumbered_event (circuit_wire l) e e.time s ∙ ap (event_by e e.time) same ∙ sym (one_flat by e)) ∙
+      ap (λ xs. flat_map by es ++ xs)
+      (renumbered_event (circuit_wire l) e e.time s ∙ ap (event_by e e.time) same ∙ sym (one_flat by e)) ∙
       sym (flat_map-append by es (e ∷ []))
 
-  pub with_border : (es : List Border) (e : Border) (s : Signal) (old new : Timetable) → renumber_signal (circuit_wire l) s ≡ line_signal c e.signal → IsBelow (wires l.netlist) s →
-      new.held.items ≡ old.held.items ++ held_by e e.time s → new.events.items ≡ old.events.items ++ event_by e e.time s →
+  pub with_border : (es : List Border) (e : Border) (s : Signal) (old new : Timetable) →
+      renumber_signal (circuit_wire l) s ≡ line_signal c e.signal → IsBelow (wires l.netlist) s →
+      new.held.items ≡ old.held.items ++ held_by e e.time s →
+      new.events.items ≡ old.events.items ++ event_by e e.time s →
       IsTimetable c l es old → IsTimetable c l (es ++ e ∷ []) new
   with_border es e s old new same own held events t = record {
     held = more_held es e s old.held.items new.held.items same held t.held;
     events = more_events es e s old.events.items new.events.items same events t.events;
-    own_held = subst (All (λ h. IsBelow (wires l.netlist) h.signal)) (sym held) (All-append (λ h. IsBelow (wires l.netlist) h.signal) old.held.items _ t.own_held (own_held (wires l.netlist) e e.time s own));
-    own_events = subst (All (λ h. IsBelow (wires l.netlist) h.signal)) (sym events) (All-append (λ h. IsBelow (wires l.netlist) h.signal) old.events.items _ t.own_events (own_event (wires l.netlist) e e.time s own));
+    own_held = subst (All (λ h. IsBelow (wires l.netlist) h.signal)) (sym held)
+        (All-append (λ h. IsBelow (wires l.netlist) h.signal) old.held.items _ t.own_held
+        (own_held (wires l.netlist) e e.time s own));
+    own_events = subst (All (λ h. IsBelow (wires l.netlist) h.signal)) (sym events)
+        (All-append (λ h. IsBelow (wires l.netlist) h.signal) old.events.items _ t.own_events
+        (own_event (wires l.netlist) e e.time s own));
   }
 
   pub no_lines : (t : Timetable) → t.held.items ≡ [] → t.events.items ≡ [] → IsTimetable c l [] t
   no_lines t h e = record {
     held = ap (map (renumber_held (circuit_wire l))) h;
     events = ap (map (renumber_event (circuit_wire l))) e;
-    own_held = subst (All (λ h. IsBelow (wires l.netlist) h.signal)) (sym h) (All-nil (λ h. IsBelow (wires l.netlist) h.signal));
-    own_events = subst (All (λ h. IsBelow (wires l.netlist) h.signal)) (sym e) (All-nil (λ h. IsBelow (wires l.netlist) h.signal));
+    own_held = subst (All (λ h. IsBelow (wires l.netlist) h.signal)) (sym h)
+        (All-nil (λ h. IsBelow (wires l.netlist) h.signal));
+    own_events = subst (All (λ h. IsBelow (wires l.netlist) h.signal)) (sym e)
+        (All-nil (λ h. IsBelow (wires l.netlist) h.signal));
   }
 
-  pub next_table : (side : Side) (lines : List Entry) (i : ℕ) (line : Entry) (t : Timetable) → i < length lines → line ≡ get_or lines i line →
-      IsTimetable c l (flat_map (borders_in side) (take i lines) ++ borders_in side line) t → IsTimetable c l (flat_map (borders_in side) (take (i + 1) lines)) t
-  next_table side lines i line t lt e h = subst (λ es. IsTimetable c l es t) (next_line (borders_in side) lines i line lt e) h
+  pub next_table : (side : Side) (lines : List Entry) (i : ℕ) (line : Entry) (t : Timetable) → i < length lines →
+      line ≡ get_or lines i line →
+      IsTimetable c l (flat_map (borders_in side) (take i lines) ++ borders_in side line) t →
+      IsTimetable c l (flat_map (borders_in side) (take (i + 1) lines)) t
+  next_table side lines i line t lt e h =
+      subst (λ es. IsTimetable c l es t) (next_line (borders_in side) lines i line lt e) h
 
   pub all_lines : (side : Side) (lines : List Entry) (i : ℕ) (t : Timetable) → length lines ≤ i →
-      IsTimetable c l (flat_map (borders_in side) (take i lines)) t → IsTimetable c l (flat_map (borders_in side) lines) t
-  all_lines side lines i t le h = subst (λ xs. IsTimetable c l (flat_map (borders_in side) xs) t) (take_all i lines le) h
+      IsTimetable c l (flat_map (borders_in side) (take i lines)) t →
+      IsTimetable c l (flat_map (borders_in side) lines) t
+  all_lines side lines i t le h =
+      subst (λ xs. IsTimetable c l (flat_map (borders_in side) xs) t) (take_all i lines le) h
 
 -- ---- all lines
 
-pub borders_rise : (side : Side) (lines : List Entry) → AreInOrder lines → Pairs Before (flat_map (borders_in side) lines)
+pub borders_rise : (side : Side) (lines : List Entry) → AreInOrder lines →
+    Pairs Before (flat_map (borders_in side) lines)
 borders_rise Ring lines o = edges_rise lines o
 borders_rise Halo lines o = halos_rise lines o
 
-pub table_held_rises : (c : Circuit) (l : LocalNet) (side : Side) (lines : List Entry) (t : Timetable) → AreInOrder lines → IsTimetable c l (flat_map (borders_in side) lines) t →
+pub table_held_rises : (c : Circuit) (l : LocalNet) (side : Side) (lines : List Entry) (t : Timetable) →
+    AreInOrder lines → IsTimetable c l (flat_map (borders_in side) lines) t →
     IsRising cell_cmp cell_of t.held.items
-table_held_rises c l side lines t o h = held_rises (λ e. line_signal c e.signal) (circuit_wire l) (flat_map (borders_in side) lines) (borders_rise side lines o) t.held.items h.held
+table_held_rises c l side lines t o h =
+    held_rises (λ e. line_signal c e.signal) (circuit_wire l) (flat_map (borders_in side) lines)
+    (borders_rise side lines o) t.held.items h.held
 
-pub table_events_rise : (c : Circuit) (l : LocalNet) (side : Side) (lines : List Entry) (t : Timetable) → AreInOrder lines → IsTimetable c l (flat_map (borders_in side) lines) t →
+pub table_events_rise : (c : Circuit) (l : LocalNet) (side : Side) (lines : List Entry) (t : Timetable) →
+    AreInOrder lines → IsTimetable c l (flat_map (borders_in side) lines) t →
     IsRising moment_cmp moment_of t.events.items
-table_events_rise c l side lines t o h = events_rise (λ e. line_signal c e.signal) (circuit_wire l) (flat_map (borders_in side) lines) (borders_rise side lines o) t.events.items h.events
+table_events_rise c l side lines t o h =
+    events_rise (λ e. line_signal c e.signal) (circuit_wire l) (flat_map (borders_in side) lines)
+    (borders_rise side lines o) t.events.items h.events

@@ -1,4 +1,4 @@
--- What delays and meetings mean, gate by gate
+-- The meaning of delays and meetings, gate by gate
 use Rattle.std.specs.Prelude.{◌≡◌, ℕ, ◌+◌, ◌<◌, ◌≤◌, List, [], ◌∷◌, Option, Some, None, slice_get, Contains}
 use Rattle.std.specs.List.{All}
 use Rattle.circuit.specs.Gates.{Delay}
@@ -20,7 +20,7 @@ pub record IsLastTime (c : Circuit) (ss : List StopLine) (w t : ℕ) : Type 0 wh
   pub seen : Contains (times_of c ss w) t
   pub greatest : All (λ u. u ≤ t) (times_of c ss w)
 
--- from the last time of wire a to the first time of wire b it is so many steps
+-- from the last time of wire a to the first time of wire b there are this many steps
 pub record TakesSteps (c : Circuit) (ss : List StopLine) (steps a b : ℕ) : Type 0 where
   pub leaves : ℕ
   pub last : IsLastTime c ss a leaves
@@ -39,8 +39,8 @@ pub record AreOnTime (c : Circuit) (ss : List StopLine) : Type 0 where
   pub delays : (k n a b : ℕ) → IsDelay c k n a b → TakesSteps c ss n a b
   pub meetings : (k : ℕ) (g : Gate) → slice_get c.netlist.gates k ≡ Some g → (t : ℕ) × MeetAt c ss g.ins t
 
--- what is told of a delay by its two wires, the one that it uses and the one that it defines: how many steps it takes, that one of them has no
--- stop, or that the first time of the second comes before the last of the first
+-- what is told of a delay by its two wires, the one that it uses and the one that it defines: how many steps it takes,
+-- that one of them has no stop, or that the first time of the second comes before the last of the first
 abbrev pub TellsOfDelay : Circuit → List StopLine → Gap → (a b : ℕ) → Type 0
 TellsOfDelay c ss (Steps m) a b = TakesSteps c ss m a b
 TellsOfDelay c ss Missing a b = (s t : ℕ) → IsLastTime c ss a s → ¬ IsFirstTime c ss b t
@@ -51,7 +51,9 @@ abbrev pub TellsOfMeeting : Circuit → List StopLine → Option ℕ → List �
 TellsOfMeeting c ss (Some t) ws = MeetAt c ss ws t
 TellsOfMeeting c ss None ws = (t : ℕ) → ¬ MeetAt c ss ws t
 
--- a line names a gate of the circuit, and tells of it
+-- a line names a gate of the circuit, and is right about it
 abbrev pub Tells : Circuit → List StopLine → TimeLine → Type 0
-Tells c ss (line.Delay k n gap) = (g : Gate) × (slice_get c.netlist.gates k ≡ Some g) × (g.kind ≡ Delay n) × ((a b : ℕ) → g.ins ≡ a ∷ [] → g.outs ≡ b ∷ [] → TellsOfDelay c ss gap a b)
+Tells c ss (line.Delay k n gap) =
+    (g : Gate) × (slice_get c.netlist.gates k ≡ Some g) × (g.kind ≡ Delay n)
+    × ((a b : ℕ) → g.ins ≡ a ∷ [] → g.outs ≡ b ∷ [] → TellsOfDelay c ss gap a b)
 Tells c ss (line.Meet k at) = (g : Gate) × (slice_get c.netlist.gates k ≡ Some g) × TellsOfMeeting c ss at g.ins

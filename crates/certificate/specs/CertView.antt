@@ -1,4 +1,4 @@
--- The fields of a certificate, and what contracts see of them
+-- The fields of a certificate, and its view
 use Rattle.std.specs.Prelude.{◌≡◌, ◌≤◌, ◌&&◌, false, map, IfSome}
 use Rattle.std.specs.List.{All}
 use Rattle.sha2.specs.Sha256.{sha256}
@@ -10,13 +10,16 @@ use Rattle.certificate_lines.specs.Versions.{is_haloless, lacks_wire}
 use Rattle.certificate.specs.Text.{certificate_text}
 use Rattle.certificate.specs.declared.cert.Cert.TheInside.{Inside}
 
+-- the view of a certificate, from its fields
 abbrev pub cert_state : Inside → CertState
 cert_state a = record { circuit = a.circuit.now; layout = a.layout.now; version = a.version; entries = a.entries.items }
 
+-- the fields of every certificate: its modules are counted and good, and its version is 1 or 2
 pub record IsCert (a : Inside) : Type 0 where
   pub counted : a.modules.items ≡ map counts_of (modules_of a.entries.items)
   pub good : AreModules (setting_of a.circuit.now a.layout.now) (modules_of a.entries.items)
   pub few_lines : All HasFewLines (modules_of a.entries.items)
   pub known : (1 ≤ a.version) × (a.version ≤ 2)
-  pub complete : (is_haloless a.version && lacks_wire (setting_of a.circuit.now a.layout.now) (modules_of a.entries.items)) ≡ false
+  pub complete : (is_haloless a.version
+      && lacks_wire (setting_of a.circuit.now a.layout.now) (modules_of a.entries.items)) ≡ false
   pub hashed : IfSome a.digest (λ digest. digest ≡ sha256 (certificate_text (cert_state a)))

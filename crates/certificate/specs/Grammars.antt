@@ -11,18 +11,21 @@ use Rattle.certificate_lines.specs.declared.entry.Entry.{Entry}
 use Rattle.circuit.specs.declared.entry.Entry.{Entry as CircuitLine}
 use Rattle.certificate_lines.specs.Settings.{setting_of}
 
--- The section, for a circuit and a layout. The version is 1 or 2. In version 2 a halo line has no form of the section, and at the
--- end each module knows the wires of the edge lines beside it.
+-- The section, for a circuit and a layout. The version is 1 or 2. In version 2 a halo line has no form of the section,
+-- and at the end each module knows the wires of the edge lines beside it.
 abbrev pub certificate_grammar : Setting → Grammar ℕ Entry
 certificate_grammar g = record {
   form = form_of;
   header_fault = λ version. code_where (not (version == 1 || version == 2)) past_limit;
-  item_fault = λ version before i. or_else (code_where (is_haloless version && is_halo i) no_form) (entry_fault g before i);
-  end_fault = λ version entries. or_else (end_fault g entries) (code_where (is_haloless version && lacks_wire g (modules_of entries)) something_missing);
+  item_fault = λ version before i.
+      or_else (code_where (is_haloless version && is_halo i) no_form) (entry_fault g before i);
+  end_fault = λ version entries.
+      or_else (end_fault g entries)
+      (code_where (is_haloless version && lacks_wire g (modules_of entries)) something_missing);
 }
 
--- a certificate as contracts see it: the lines of its circuit, its layout, its version, and its lines between the header and
--- the end
+-- a certificate as contracts see it: the lines of its circuit, its layout, its version, and its lines between the
+-- header and the end
 pub record CertState : Type 0 where
   pub circuit : List CircuitLine
   pub layout : Pattern
@@ -33,7 +36,7 @@ pub record CertState : Type 0 where
 abbrev pub certificate_value : CertState → ℕ × List Entry
 certificate_value c = (c.version, c.entries)
 
--- the modules of a certificate, with the halo lines that it has or that its edge lines stand for
+-- the modules of a certificate, with the halo lines that it has or that its edge lines mean
 abbrev pub modules_in : CertState → List ModuleLines
 modules_in c = meant c.version (setting_of c.circuit c.layout) (modules_of c.entries)
 

@@ -1,5 +1,6 @@
--- The job of a module: all that its run by itself needs
-use Rattle.std.specs.Prelude.{◌≡◌, ℕ, ℤ, ◌*◌, ◌<◌, ◌||◌, Bool, true, false, if◌then◌else◌, List, [], ◌∷◌, length, map, Option, Some, None, slice_get, IsTrue}
+-- The job of a module: the data that its run by itself needs
+use Rattle.std.specs.Prelude.{◌≡◌, ℕ, ℤ, ◌*◌, ◌<◌, ◌||◌, Bool, true, false, if◌then◌else◌, List, [], ◌∷◌, length, map}
+use Rattle.std.specs.Prelude.{Option, Some, None, slice_get, IsTrue}
 use Rattle.std.specs.List.{All, flat_map}
 use Rattle.circuit.specs.Meaning.{Circuit, wire_of}
 use Rattle.pattern.specs.Layout.{Pattern, in_cells, in_rectangles}
@@ -22,10 +23,12 @@ use Rattle.certificate_lines.specs.PortTables.{port_at}
 
 -- ---- what a layout and the lines of a module ask for, by the wires of the circuit
 
+-- the wire of a name, if there is a name
 abbrev pub named_wire : Circuit → Option (List ℕ) → Option ℕ
 named_wire c None = None
 named_wire c (Some n) = wire_of c n
 
+-- the signal of a wire: without a wire the cell is dead
 abbrev pub signal_of : Option ℕ → Signal
 signal_of None = Zero
 signal_of (Some w) = Wire w
@@ -35,10 +38,12 @@ unfoldable pub start_signal : Circuit → Pattern → ℤ → ℤ → Signal
 start_signal c p x y =
     if in_rectangles p.mirrors x y || in_cells p.balls x y then One else signal_of (named_wire c (port_at p.ins x y))
 
+-- the demand of a wire: without a wire the cell must be dead
 abbrev pub demand_of : Option ℕ → Demand
 demand_of None = Demanded.Dead
 demand_of (Some w) = Demanded.Wire w
 
+-- the demand on a cell that is in no mirror, by the output at it and by whether it is a waste cell
 abbrev pub demand_elsewhere : Circuit → Option (List ℕ) → Bool → Demand
 demand_elsewhere c (Some n) waste = demand_of (wire_of c n)
 demand_elsewhere c None true = Demanded.Any
@@ -47,7 +52,8 @@ demand_elsewhere c None false = Demanded.Dead
 -- mirrors are to be `Live`, output cells as their wire, waste cells `Any`, all other cells `Dead`
 unfoldable pub end_demand : Circuit → Pattern → ℤ → ℤ → Demand
 end_demand c p x y =
-    if in_rectangles p.mirrors x y then Demanded.Live else demand_elsewhere c (port_at p.outs x y) (in_cells p.wastes x y)
+    if in_rectangles p.mirrors x y then Demanded.Live else demand_elsewhere c (port_at p.outs x y)
+    (in_cells p.wastes x y)
 
 -- the signal of an edge or halo line: a wire's, or the constant `1`
 abbrev pub line_signal : Circuit → Option (List ℕ) → Signal
@@ -71,7 +77,7 @@ line_signals c es = record {
   events = flat_map (λ e. event_by e e.time (line_signal c e.signal)) es;
 }
 
--- a stop line, where its wire has this number
+-- a stop line, if its wire has this number
 abbrev pub numbered_stop : StopLine → Option ℕ → List Stop
 numbered_stop s None = []
 numbered_stop s (Some w) = record { at = record { time = s.time; cell = s.cell }; wire = w } ∷ []
@@ -81,6 +87,8 @@ abbrev pub line_stops : Circuit → List StopLine → List Stop
 line_stops c ss = flat_map (λ s. numbered_stop s (wire_of c s.wire)) ss
 
 -- ---- the job of a module of a circuit and a layout, by the lines of the module
+-- the job of a module: its box, the layout's steps, and the wires and gates that the module knows, with what its lines,
+-- the circuit and the layout say of its cells
 pub record IsJobOf (c : Circuit) (p : Pattern) (m : ModuleLines) (j : JobState) : Type 0 where
   pub area : j.area ≡ m.area
   pub steps : j.steps ≡ p.size.steps
@@ -91,8 +99,10 @@ pub record IsJobOf (c : Circuit) (p : Pattern) (m : ModuleLines) (j : JobState) 
   -- one signal and one demand for each cell of the box
   pub start_count : length j.starts ≡ m.area.w * m.area.h
   pub demand_count : length j.demands ≡ m.area.w * m.area.h
-  pub start : (x y : ℤ) → IsTrue (in_box m.area x y) → renumber_signal (circuit_wire j.locals) (job_start j x y) ≡ start_signal c p x y
-  pub demand : (x y : ℤ) → IsTrue (in_box m.area x y) → renumber_demand (circuit_wire j.locals) (job_demand j x y) ≡ end_demand c p x y
+  pub start : (x y : ℤ) → IsTrue (in_box m.area x y) →
+      renumber_signal (circuit_wire j.locals) (job_start j x y) ≡ start_signal c p x y
+  pub demand : (x y : ℤ) → IsTrue (in_box m.area x y) →
+      renumber_demand (circuit_wire j.locals) (job_demand j x y) ≡ end_demand c p x y
   pub edges : renumber_signals (circuit_wire j.locals) j.edges ≡ line_signals c (edges m)
   pub halos : renumber_signals (circuit_wire j.locals) j.halos ≡ line_signals c (halos m)
   pub stops : map (renumber_stop (circuit_wire j.locals)) j.stops ≡ line_stops c (stops m)
@@ -104,4 +114,5 @@ pub record IsJobOf (c : Circuit) (p : Pattern) (m : ModuleLines) (j : JobState) 
 -- the jobs of modules, one for each
 pub record AreJobsOf (c : Circuit) (p : Pattern) (ms : List ModuleLines) (js : List JobState) : Type 0 where
   pub count : length js ≡ length ms
-  pub each : (k : ℕ) (m : ModuleLines) (j : JobState) → slice_get ms k ≡ Some m → slice_get js k ≡ Some j → IsJobOf c p m j
+  pub each : (k : ℕ) (m : ModuleLines) (j : JobState) → slice_get ms k ≡ Some m → slice_get js k ≡ Some j →
+      IsJobOf c p m j

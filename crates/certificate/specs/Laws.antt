@@ -1,5 +1,6 @@
 -- Laws of the certificate section, and of jobs
-use Rattle.std.specs.Prelude.{◌≡◌, ℕ, ℤ, ◌+◌, ◌<◌, ◌≤◌, ◌%◌, ◌&&◌, false, Contains, IsTrue, List, [], ◌∷◌, ◌++◌, None, Some, length, slice_get, take, drop, Ok}
+use Rattle.std.specs.Prelude.{◌≡◌, ℕ, ℤ, ◌+◌, ◌<◌, ◌≤◌, ◌%◌, ◌&&◌, false, Contains, IsTrue, List, [], ◌∷◌, ◌++◌, None}
+use Rattle.std.specs.Prelude.{Some, length, slice_get, take, drop, Ok}
 use Rattle.std.specs.List.{All, flat_map}
 use Rattle.section_text.specs.Words.{lines_of}
 use Rattle.section_text.specs.Section.{section_of, ended_line}
@@ -24,7 +25,7 @@ PrintsWhatIsRead = (g : Setting) (n : ℕ) (ls : List (List ℕ)) (c : CertState
     section_of (certificate_grammar g) n ls ≡ Ok (certificate_value c) →
     flat_map ended_line (take (length c.entries + 2) ls) ≡ certificate_text c
 
--- and it is read as the same certificate again, wherever it stands
+-- and it is read as the same certificate again, wherever it is
 abbrev pub ReadsWhatIsPrinted : Type 0
 ReadsWhatIsPrinted = (g : Setting) (text : List ℕ) (from n m : ℕ) (c : CertState) →
     section_of (certificate_grammar g) n (drop from (lines_of text)) ≡ Ok (certificate_value c) →
@@ -32,30 +33,38 @@ ReadsWhatIsPrinted = (g : Setting) (text : List ℕ) (from n m : ℕ) (c : CertS
 
 -- the first time of a wire is the least of the times of its stops
 abbrev pub FirstIsLeast : Type 0
-FirstIsLeast = (c : Circuit) (ss : List StopLine) (w t : ℕ) → first_seen c ss w ≡ Some t → Contains (times_of c ss w) t × All (λ u. t ≤ u) (times_of c ss w)
+FirstIsLeast = (c : Circuit) (ss : List StopLine) (w t : ℕ) → first_seen c ss w ≡ Some t →
+    Contains (times_of c ss w) t × All (λ u. t ≤ u) (times_of c ss w)
 
 -- the last one is the greatest
 abbrev pub LastIsGreatest : Type 0
-LastIsGreatest = (c : Circuit) (ss : List StopLine) (w t : ℕ) → last_seen c ss w ≡ Some t → Contains (times_of c ss w) t × All (λ u. u ≤ t) (times_of c ss w)
+LastIsGreatest = (c : Circuit) (ss : List StopLine) (w t : ℕ) → last_seen c ss w ≡ Some t →
+    Contains (times_of c ss w) t × All (λ u. u ≤ t) (times_of c ss w)
 
--- what each line tells of its gate
+-- what each line says of its gate is right
 abbrev pub LinesTell : Type 0
 LinesTell = (c : Circuit) (ms : List ModuleLines) → All (Tells c (all_stops ms)) (time_lines c ms)
 
--- where all rules are kept, each delay takes as many steps as it says, and for each gate there is a time at which its inputs meet
+-- if all rules are kept, each delay takes as many steps as it says, and for each gate there is a time at which its
+-- inputs meet
 abbrev pub KeptIsOnTime : Type 0
-KeptIsOnTime = (c : Circuit) (ms : List ModuleLines) → IsTrue (are_all_kept (time_lines c ms)) → AreOnTime c (all_stops ms)
+KeptIsOnTime = (c : Circuit) (ms : List ModuleLines) → IsTrue (are_all_kept (time_lines c ms)) →
+    AreOnTime c (all_stops ms)
 
--- where no edge line names a wire that a module beside it lacks, the modules of either version are modules of version 1
+-- if no edge line names a wire that a module beside it lacks, the modules of either version are modules of version 1
 abbrev pub MeantAreModules : Type 0
-MeantAreModules = (version : ℕ) (g : Setting) (ms : List ModuleLines) → AreModules g ms → (is_haloless version && lacks_wire g ms) ≡ false → AreModules g (meant version g ms)
+MeantAreModules = (version : ℕ) (g : Setting) (ms : List ModuleLines) → AreModules g ms →
+    (is_haloless version && lacks_wire g ms) ≡ false → AreModules g (meant version g ms)
 
--- There, at an odd time below the steps, a cell of the halo of a module carries what the edge lines of the module that has it say.
+-- There, at an odd time below the steps, a cell of the halo of a module carries what the edge lines of the module that
+-- has it say.
 abbrev pub HaloIsEdgeBeside : Type 0
 HaloIsEdgeBeside = (g : Setting) (ms : List ModuleLines) → AreModules g ms →
-    (i k : ℕ) (m owner : ModuleLines) (t : ℕ) (x y : ℤ) → slice_get ms i ≡ Some m → slice_get ms k ≡ Some owner → t % 2 ≡ 1 → t < g.size.steps →
+    (i k : ℕ) (m owner : ModuleLines) (t : ℕ) (x y : ℤ) → slice_get ms i ≡ Some m → slice_get ms k ≡ Some owner →
+    t % 2 ≡ 1 → t < g.size.steps →
     IsTrue (in_halo m.area x y) → IsTrue (in_box owner.area x y) →
-    signal_at (line_signals g.circuit (halos (with_halos g ms m))) t x y ≡ signal_at (line_signals g.circuit (edges owner)) t x y
+    signal_at (line_signals g.circuit (halos (with_halos g ms m))) t x y
+    ≡ signal_at (line_signals g.circuit (edges owner)) t x y
 
 -- the lines between a header and an end are good, and the end after them
 pub record IsGoodText (g : Setting) (es : List Entry) : Type 0 where
@@ -69,7 +78,8 @@ GoodWithoutHalos = (g : Setting) (es : List Entry) → IsGoodText g es → IsGoo
 -- each line passes the tests of a section of this version after those before it
 abbrev pub AreFaultlessLines : Setting → ℕ → List Entry → List Entry → Type 0
 AreFaultlessLines g version before [] = Unit {0}
-AreFaultlessLines g version before (i ∷ es) = ((certificate_grammar g).item_fault version before i ≡ None) × AreFaultlessLines g version (before ++ i ∷ []) es
+AreFaultlessLines g version before (i ∷ es) =
+    ((certificate_grammar g).item_fault version before i ≡ None) × AreFaultlessLines g version (before ++ i ∷ []) es
 
 -- the lines are what a section of this version has between its header and its end
 pub record IsSectionOf (g : Setting) (version : ℕ) (es : List Entry) : Type 0 where
@@ -77,7 +87,8 @@ pub record IsSectionOf (g : Setting) (version : ℕ) (es : List Entry) : Type 0 
   pub lines : AreFaultlessLines g version [] es
   pub end : (certificate_grammar g).end_fault version es ≡ None
 
--- So the lines of a section of version 1 are without the halo lines those of a section of version 2, where each module knows the wires
--- of the edge lines beside it.
+-- So a section of version 1 is one of version 2 without its halo lines, if each module knows the wires of the edge
+-- lines beside it.
 abbrev pub SectionWithoutHalos : Type 0
-SectionWithoutHalos = (g : Setting) (es : List Entry) → IsSectionOf g 1 es → lacks_wire g (modules_of es) ≡ false → IsSectionOf g 2 (without_halos es)
+SectionWithoutHalos = (g : Setting) (es : List Entry) → IsSectionOf g 1 es → lacks_wire g (modules_of es) ≡ false →
+    IsSectionOf g 2 (without_halos es)

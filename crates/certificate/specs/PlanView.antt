@@ -1,4 +1,4 @@
--- A circuit and a layout with tables of the layout's cells, and what contracts see of them
+-- A circuit and a layout with tables of the layout's cells, and their view
 use Rattle.std.specs.Prelude.{◌≡◌, ◌++◌, ℕ, ℤ, List, None, false, map, IsTrue, IfSome}
 use Rattle.bbm_rule.specs.Board.{live}
 use Rattle.bbm_rule.specs.declared.block.Cell.{Cell}
@@ -17,6 +17,7 @@ pub record PlanState : Type 0 where
   pub circuit : List CircuitLine
   pub layout : Pattern
 
+-- the circuit and the layout, from the fields
 abbrev pub plan_state : Inside → PlanState
 plan_state a = record { circuit = a.circuit.now; layout = a.layout.now }
 
@@ -31,8 +32,8 @@ pub record HasMirrorOrNothing (p : Pattern) (x y : ℤ) : Type 0 where
   pub ins : port_at p.ins x y ≡ None
   pub outs : port_at p.outs x y ≡ None
 
--- The live cells of each grid are those of the mirrors, balls or wastes, where `others` is dead nothing but mirrors stands, and
--- each table is of the layout's ports
+-- The live cells of each grid are those of the mirrors, balls or wastes. If `others` is dead at a cell, the cell has
+-- nothing but mirrors. Each table is of the layout's ports.
 pub record IsPlan (a : Inside) : Type 0 where
   pub mirrors : (x y : ℤ) → live a.mirrors x y ≡ in_rectangles a.layout.now.mirrors x y
   pub balls : (x y : ℤ) → live a.balls x y ≡ in_cells a.layout.now.balls x y
@@ -41,7 +42,7 @@ pub record IsPlan (a : Inside) : Type 0 where
   pub ins : a.ins ≡ a.layout.now.ins
   pub outs : a.outs ≡ a.layout.now.outs
 
--- where these wires are local, so is the wire of the port at the cell (x, y), if there is one
+-- if these wires are local, so is the wire of the port at the cell (x, y), if there is one
 abbrev pub KnowsPort : Circuit → List ℕ → List Port → ℤ → ℤ → Type 0
 KnowsPort c local ports x y = IfSome (port_at ports x y) (λ name. IsTrue (is_local c local name))
 

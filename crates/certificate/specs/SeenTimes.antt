@@ -7,6 +7,7 @@ use Rattle.certificate_lines.specs.declared.entry.StopLine.{StopLine}
 use Rattle.certificate.specs.declared.times.Choice.{Choice}
 use Rattle.certificate.specs.declared.times.Choice.TheVariants.{First, Last}
 
+-- the time that is kept: the earlier one for first stops, the later one for last stops
 abbrev pub chosen : Choice → Option ℕ → ℕ → Option ℕ
 chosen First before t = earlier before t
 chosen Last before t = later before t

@@ -13,6 +13,7 @@ use Rattle.certificate_lines.specs.declared.entry.Entry.TheVariants.{Module, Cut
 use Rattle.certificate_lines.specs.Forms.{Line}
 use Rattle.certificate.specs.Grammars.{CertState}
 
+-- the words of a box: its corner and its sides
 abbrev pub area_words : Box2 → List (List ℕ)
 area_words b = decimal b.x ∷ decimal b.y ∷ decimal b.w ∷ decimal b.h ∷ []
 
@@ -26,12 +27,15 @@ abbrev pub signal_word : Option (List ℕ) → List ℕ
 signal_word None = codes "1"
 signal_word (Some name) = name
 
+-- the words of an edge or halo line behind the keyword
 abbrev pub border_words : Border → List (List ℕ)
 border_words e = time_word e.time ∷ (cell_words e.cell ++ signal_word e.signal ∷ [])
 
+-- the words of a stop behind the keyword
 abbrev pub stop_words : StopLine → List (List ℕ)
 stop_words s = decimal s.time ∷ s.wire ∷ cell_words s.cell
 
+-- the line of an entry
 abbrev pub entry_text : Entry → List ℕ
 entry_text (Module b) = line_text (codes "module") (area_words b)
 entry_text (Cut name) = line_text (codes "cut") (name ∷ [])
@@ -47,5 +51,7 @@ form_text (Header version) = line_text (codes "certificate") (decimal version �
 form_text (Item entry) = entry_text entry
 form_text End = line_text (codes "end") []
 
+-- the text of a certificate, from its header line to its `end` line
 unfoldable pub certificate_text : CertState → List ℕ
-certificate_text c = line_text (codes "certificate") (decimal c.version ∷ []) ++ flat_map entry_text c.entries ++ line_text (codes "end") []
+certificate_text c = line_text (codes "certificate") (decimal c.version ∷ []) ++ flat_map entry_text c.entries
+    ++ line_text (codes "end") []

@@ -1,5 +1,6 @@
--- When wires are seen by stops, and what that says of delays and of gates whose inputs are to meet
-use Rattle.std.specs.Prelude.{ℕ, ◌+◌, ◌-◌, ◌==◌, Bool, true, false, if◌then◌else◌, List, [], ◌∷◌, ◌++◌, length, Option, Some, None, nat_lt, nat_le, min, max, nat_eq}
+-- The times at which stops see wires, and what they say of delays and of gates whose inputs must meet
+use Rattle.std.specs.Prelude.{ℕ, ◌+◌, ◌-◌, ◌==◌, Bool, true, false, if◌then◌else◌, List, [], ◌∷◌, ◌++◌, length, Option}
+use Rattle.std.specs.Prelude.{Some, None, nat_lt, nat_le, min, max, nat_eq}
 use Rattle.std.specs.List.{fold, flat_map, list_all}
 use Rattle.std.specs.Option.{option_to_list, option_eq}
 use Rattle.circuit.specs.Gates.{Rule, Source, Fredkin, Cswap, Interact, Switch, Delay, Unswitch, Uninteract}
@@ -30,6 +31,7 @@ abbrev pub earlier : Option ℕ → ℕ → Option ℕ
 earlier None t = Some t
 earlier (Some s) t = Some (min s t)
 
+-- the later of two times, of which the first may be missing
 abbrev pub later : Option ℕ → ℕ → Option ℕ
 later None t = Some t
 later (Some s) t = Some (max s t)
@@ -38,6 +40,7 @@ later (Some s) t = Some (max s t)
 abbrev pub first_seen : Circuit → List StopLine → ℕ → Option ℕ
 first_seen c ss w = fold earlier None (times_of c ss w)
 
+-- the last time at which stops see a wire, if one does
 abbrev pub last_seen : Circuit → List StopLine → ℕ → Option ℕ
 last_seen c ss w = fold later None (times_of c ss w)
 
@@ -54,6 +57,7 @@ abbrev pub of_wire : (ℕ → Option ℕ) → List ℕ → Option ℕ
 of_wire seen [] = None
 of_wire seen (w ∷ ws) = seen w
 
+-- the line for a gate that is a delay, and none for another gate
 abbrev pub delay_by : ℕ → Rule → Gap → List TimeLine
 delay_by k (Source b) gap = []
 delay_by k Fredkin gap = []
@@ -64,7 +68,8 @@ delay_by k (Delay n) gap = line.Delay k n gap ∷ []
 delay_by k Unswitch gap = []
 delay_by k Uninteract gap = []
 
--- of gate k, if it is a delay: from the last time of the wire that it uses to the first time of the one that it defines
+-- the line of gate k, if it is a delay: from the last time of the wire that it uses to the first time of the one that
+-- it defines
 abbrev pub delay_line : (first last : ℕ → Option ℕ) → ℕ → Gate → List TimeLine
 delay_line first last k g = delay_by k g.kind (gap_between (of_wire last g.ins) (of_wire first g.outs))
 
@@ -79,10 +84,12 @@ abbrev pub agreed : List ℕ → Option ℕ
 agreed [] = None
 agreed (t ∷ ts) = if list_all (λ u. u == t) ts then Some t else None
 
+-- the line for a gate of which two inputs or more have stops, by their last times
 abbrev pub meet_by : ℕ → List ℕ → List TimeLine
 meet_by k ts = if nat_le 2 (length ts) then line.Meet k (agreed ts) ∷ [] else []
 
--- of gate k, if two of the wires that it uses have a last time, or more: the one time at which all of these are seen last
+-- the line of gate k, if two of the wires that it uses have a last time, or more: the one time at which all of these
+-- are seen last
 abbrev pub meet_line : (ℕ → Option ℕ) → ℕ → Gate → List TimeLine
 meet_line last k g = meet_by k (last_times last g.ins)
 

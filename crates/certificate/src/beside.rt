@@ -1,4 +1,4 @@
-//! The halo lines that the edge lines of version 2 stand for.
+//! The halo lines that the edge lines of version 2 mean.
 ghost use Rattle.std.specs.Prelude.{◌≡◌, ◌++◌, ◌∷◌, [], map, if◌then◌else◌, nat_lt, IfOk, OnOk};
 ghost use Rattle.std.specs.List.{All, filter, flat_map};
 ghost use Rattle.module_box.specs.Boxes.{in_halo};
@@ -22,7 +22,7 @@ pub(crate) struct Part<'a> {
     pub(crate) lines: &'a [Entry],
 }
 
-/// The modules of lines.
+/// Returns the modules of lines.
 pub(crate) fn parts_of(alloc: Global, entries: &[Entry]) -> Result<Vec<Part>, AllocError>
     ensures { IfOk result (λ parts. map part_lines parts.items ≡ modules_of entries.now) }
 {
@@ -131,7 +131,7 @@ fn halos_beside(
     Ok(halos)
 }
 
-/// Whether a line is a halo line.
+/// Returns whether a line is a halo line.
 #[tactic(auto, unfolding(certificate_lines::specs::Versions::is_halo))]
 pub(crate) fn is_halo(line: &Entry) -> bool
     ensures { result ≡ is_halo line.now }
@@ -205,7 +205,7 @@ fn push_stops(full: &mut Vec<Entry>, lines: &[Entry]) -> Result<(), AllocError>
     Ok(())
 }
 
-/// The lines of a module with the halo lines that the edge lines beside it stand for.
+/// Returns the lines of a module with the halo lines that the edge lines beside it mean.
 #[tactic(auto, unfolding(certificate_lines::specs::Versions::with_halos))]
 pub(crate) fn full_lines(
     alloc: Global,

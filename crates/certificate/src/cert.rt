@@ -16,8 +16,9 @@ use circuit::Circuit;
 use pattern::{Extent, Layout};
 use std::marker::Model;
 
-/// A certificate, which cuts a layout of a circuit into modules. Contracts see what it is for, its version and its
-/// lines, as a `CertState`.
+/// A certificate, which cuts a layout of a circuit into modules.
+///
+/// Contracts see what it is for, its version and its lines, as a `CertState`.
 #[derive(Drop)]
 pub struct Cert<'a> {
     pub(crate) circuit: &'a Circuit,
@@ -42,7 +43,7 @@ impl<'a> Model for Cert<'a> {
 }
 
 impl<'a> Cert<'a> {
-    /// The version that the header names, 1 or 2. In version 2 no module has halo lines of its own.
+    /// Returns the version that the header names, 1 or 2. In version 2 no module has halo lines of its own.
     pub fn version(&self) -> u8
         ensures version { result ≡ self.now.version }
         ensures known { (1 ≤ result) × (result ≤ 2) }
@@ -50,14 +51,14 @@ impl<'a> Cert<'a> {
         self.version as u8
     }
 
-    /// The circuit that it is for.
+    /// Returns the circuit that the certificate is for.
     pub fn circuit(&self) -> &Circuit
         ensures { result.now ≡ self.now.circuit }
     {
         self.circuit
     }
 
-    /// The layout that it cuts.
+    /// Returns the layout that the certificate cuts.
     pub fn layout(&self) -> &Layout
         ensures { result.now ≡ self.now.layout }
     {
@@ -71,8 +72,9 @@ impl<'a> Cert<'a> {
         self.entries.as_slice()
     }
 
-    /// The width, the height and the steps of the layout: even sides of 2 to 512, and at most 65,536 steps. All that
-    /// stands in the layout is inside, and no cell is taken twice at the start, or twice at the end.
+    /// Returns the width, the height and the steps of the layout: even sides of 2 to 512, and at most 65,536 steps.
+    ///
+    /// The whole contents of the layout are inside. No cell is taken twice at the start, or twice at the end.
     pub fn size(&self) -> Extent
         ensures size { result ≡ self.now.layout.size }
         ensures limits { size_fault result ≡ None }
@@ -81,15 +83,19 @@ impl<'a> Cert<'a> {
         self.layout.size()
     }
 
-    /// How many modules the certificate has, at most 1024. They are numbered from 0 in the order of their lines.
+    /// Returns how many modules the certificate has, at most 1024. They are numbered from 0 in the order of their
+    /// lines.
     ///
-    /// Of its own lines of edges, halos and stops each has at most 65,536. Their boxes tile the layout's rectangle.
-    /// Each box has an even corner and even sides of 2 to 64. The used gates of a module rise, and what they use is
-    /// local before them. Its edge lines are in its ring and not on the rectangle's rim, its halo lines in its halo and
-    /// inside the rectangle; their times are odd and below the steps, their wires are local, and they are in order. So
-    /// are the wires of the ports in its box. Each gate of the circuit uses wires that are defined before it; the
-    /// inputs are the circuit's first wires. All this holds of the modules as they were written, and in version 2 also
-    /// with the halo lines that the edge lines beside them stand for.
+    /// - Each module has at most 65,536 edge, halo and stop lines of its own.
+    /// - The boxes tile the layout's rectangle. Each has an even corner and even sides of 2 to 64.
+    /// - The used gates of a module rise, and the wires that they use are local before them.
+    /// - The edge lines of a module are in its ring and not on the rectangle's rim. Its halo lines are in its halo and
+    ///   inside the rectangle. Their times are odd and below the steps, their wires are local, and they are in order.
+    /// - The wires of the ports in its box are local too.
+    /// - Each gate of the circuit uses wires that are defined before it, and the inputs are the circuit's first wires.
+    ///
+    /// All this holds of the modules as they were written. In version 2 it also holds with the halo lines that the edge
+    /// lines beside them mean.
     pub fn modules(&self) -> usize
         ensures count { result ≡ length (modules_of self.now.entries) }
         ensures good { AreModules (setting_of self.now.circuit self.now.layout)
@@ -107,7 +113,7 @@ impl<'a> Cert<'a> {
         self.modules.len()
     }
 
-    /// The box of a module, and how many lines of each kind it has, for a number below `modules()`.
+    /// Returns the box of a module, and how many lines of each kind it has, for a number below `modules()`.
     pub fn counts(&self, number: usize) -> Counts
         requires { number < length (modules_of self.now.entries) }
         ensures { slice_get (map counts_of (modules_of self.now.entries)) number ≡ Some result }

@@ -34,11 +34,11 @@ fn hash_lines(hasher: &mut Sha256, line: &mut Vec<u8>, entries: &[Entry]) -> Res
 }
 
 impl<'a> Cert<'a> {
-    /// The SHA-256 digest of the certificate's text: of the bytes of its section, from its header line to its `end`
-    /// line with the line feed. It takes no memory for the whole text. The error is want of memory.
+    /// Returns the SHA-256 digest of the certificate's text. It takes no memory for the whole text.
     ///
-    /// It is there already if [`read_certificate_with_digest`](crate::read_certificate_with_digest) made the
-    /// certificate. Otherwise the lines are printed and hashed one by one.
+    /// The text is the bytes of its section, from its header line to its `end` line with the line feed. The digest is
+    /// there already if [`read_certificate_with_digest`](crate::read_certificate_with_digest) made the certificate.
+    /// Otherwise the lines are printed and hashed one by one.
     pub fn digest(&self, alloc: Global) -> Result<[u8; 32], AllocError>
         ensures { IfOk result (λ digest. digest ≡ sha256 (certificate_text self.now)) }
     {

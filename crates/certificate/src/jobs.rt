@@ -251,8 +251,10 @@ fn jobs_of_version(
 }
 
 impl<'a> Cert<'a> {
-    /// The jobs of the modules, in their order: for each module all that its run by itself needs, by its lines and by
-    /// what the circuit and the layout say of its cells. `AllocError` is want of memory.
+    /// Returns the jobs of the modules, in their order.
+    ///
+    /// A job is all that the module's run by itself needs, from its lines and from what the circuit and the layout say
+    /// of its cells.
     pub fn jobs(&self, alloc: Global) -> Result<Vec<Arc<Job>>, AllocError>
         ensures { IfOk result (λ js. AreJobsOf (circuit_of self.now.circuit) self.now.layout
             (modules_in self.now) (map arc_value js.items)) }

@@ -76,7 +76,7 @@ fn push_unkept(
 }
 
 impl<'a> Cert<'a> {
-    /// The numbers of the inverse gates that no module keeps, in order. `AllocError` is want of memory.
+    /// Returns the numbers of the inverse gates that no module keeps, in order.
     pub fn unkept(&self, alloc: Global) -> Result<Vec<usize>, AllocError>
         ensures { IfOk result (λ gates. gates.items
             ≡ unkept (setting_of self.now.circuit self.now.layout) (modules_in self.now)) }

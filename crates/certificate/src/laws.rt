@@ -3,29 +3,37 @@ ghost use Rattle.certificate.specs.Laws.{FirstIsLeast, GoodWithoutHalos, HaloIsE
 
 pub use module_job::laws::{equality_is_of_content, keys_tell_shapes, shapes_are_parts};
 
-/// The text of a certificate that is read is the text of the lines that it is read from, and it is read as the same
+/// States that a certificate has one text.
+///
+/// The text of a certificate that is read is the text of the lines that it is read from. It is read as the same
 /// certificate again.
 pub fn one_text()
     ensures printed { PrintsWhatIsRead }
     ensures read_again { ReadsWhatIsPrinted }
 {}
 
-/// The first time at which stops see a wire is the least of their times, and the last one the greatest.
+/// States that the first time at which stops see a wire is the least of their times, and the last one the greatest.
 pub fn seen_first_and_last()
     ensures first { FirstIsLeast }
     ensures last { LastIsGreatest }
 {}
 
-/// What stops tell of gates. Each line of [`Cert::times`](crate::Cert::times) tells of its gate what
-/// `specs/Arrivals.antt` says: a delay line of N steps, that the first stop of the wire that the delay defines comes N
-/// steps after the last one of the wire that it uses; a meeting at T, that the last stops of those inputs that have any
-/// are at T. So where all rules are kept, each delay takes as many steps as it says, and inputs meet.
+/// States what stops say of gates.
+///
+/// Each line of [`Cert::times`](crate::Cert::times) says of its gate what `specs/Arrivals.antt` defines:
+///
+/// - A delay line of N steps: the first stop of the wire that the delay defines comes N steps after the last one of the
+///   wire that it uses.
+/// - A meeting at T: the last stops of those inputs that have any are at T.
+///
+/// So if all rules are kept, each delay takes as many steps as it says, and inputs meet.
 pub fn lines_tell_of_gates()
     ensures each { LinesTell }
     ensures kept { KeptIsOnTime }
 {}
 
-/// The modules of a certificate of version 2 are modules of version 1, whose halo lines are the edge lines beside them.
+/// States that the modules of a certificate of version 2 are modules of version 1, whose halo lines are the edge lines
+/// beside them.
 pub fn versions_have_modules()
     ensures modules { MeantAreModules }
     ensures halos { HaloIsEdgeBeside }

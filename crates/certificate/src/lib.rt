@@ -1,9 +1,9 @@
 //! Certificates, which cut a layout of a circuit into modules: their text, their modules, and their digest.
 //!
-//! A module has a box of cells, wires that are cut in it, gates of the circuit that it uses, and lines that say what
-//! the cells of the box's ring and halo carry at odd times. `certificate_lines/specs/Rules.antt` says which line is
-//! good after which, and `certificate_lines/specs/Modules.antt` what is known of the modules of a certificate that was
-//! read. What a job is by itself stands in `module_job`.
+//! A module has a box of cells, wires that are cut in it, and gates of the circuit that it uses. Its lines say what the
+//! cells of the box's ring and halo carry at odd times. `certificate_lines/specs/Rules.antt` says which line is good
+//! after which. `certificate_lines/specs/Modules.antt` says what is known of the modules of a certificate that was
+//! read. `module_job` defines jobs.
 #![tactic(auto)]
 
 mod beside;

@@ -1,4 +1,4 @@
-//! What the cells of a module carry at time 0, and what they are to be at the last time.
+//! The cells of a module: what they carry at time 0, and what they must be at the last time.
 ghost use Rattle.std.specs.Prelude.{◌≡◌, ◌+◌, ◌*◌, ◌<◌, ◌≤◌, ◌++◌, ℤ, false, true, None, Some, All, length, map, unwrap_or, slice_get, IsTrue, IfOk, OnOk};
 ghost use Rattle.std.specs.List.{flat_map};
 ghost use Rattle.bbm_rule.specs.Board.{live};
@@ -125,7 +125,7 @@ fn grids_of(alloc: Global, layout: &Layout) -> Result<(Grid, Grid, Grid), AllocE
     Ok((mirrors, balls, wastes))
 }
 
-/// The number among a module's wires of a wire of the circuit that the module knows.
+/// Returns the number among a module's wires of a wire of the circuit that the module knows.
 pub(crate) fn local_wire(locals: &Locals, wire: WireNo) -> u16
     requires { IsTrue (is_among locals.now.circuit_wires wire) }
     ensures same { circuit_wire locals.now result ≡ wire }
@@ -141,7 +141,7 @@ pub(crate) fn local_wire(locals: &Locals, wire: WireNo) -> u16
     }
 }
 
-/// The number among a module's wires of the wire of this name, which the module knows.
+/// Returns the number among a module's wires of the wire of this name, which the module knows.
 pub(crate) fn local_name(circuit: &Circuit, locals: &Locals, name: &Name) -> u16
     requires { IsTrue (is_local (circuit_of circuit.now) locals.now.circuit_wires name.now) }
     ensures same { wire_of (circuit_of circuit.now) name.now
@@ -155,7 +155,7 @@ pub(crate) fn local_name(circuit: &Circuit, locals: &Locals, name: &Name) -> u16
 }
 
 impl<'a> Plan<'a> {
-    /// The tables are made once for a circuit and a layout. `AllocError` is want of memory.
+    /// Creates the tables, once for a circuit and a layout.
     pub(crate) fn new(
         alloc: Global,
         circuit: &'a Circuit,
@@ -179,14 +179,14 @@ impl<'a> Plan<'a> {
         })
     }
 
-    /// The circuit.
+    /// Returns the circuit.
     pub(crate) fn circuit(&self) -> &Circuit
         ensures { result.now ≡ self.now.circuit }
     {
         self.circuit
     }
 
-    /// The layout.
+    /// Returns the layout.
     pub(crate) fn layout(&self) -> &Layout
         ensures { result.now ≡ self.now.layout }
     {
@@ -258,8 +258,9 @@ impl<'a> Plan<'a> {
         (self.start_at(locals, cell), self.demand_at(locals, cell))
     }
 
-    /// What the cells of a box carry at time 0, and what they are to be at the last time, row by row, where the module
-    /// knows the wires of the ports there.
+    /// Returns what the cells of a box carry at time 0, and what they must be at the last time, row by row.
+    ///
+    /// The module knows the wires of the ports there.
     pub(crate) fn cell_lists(
         &self,
         alloc: Global,

@@ -159,9 +159,10 @@ fn print_without_halos(out: &mut Vec<u8>, entries: &[Entry]) -> Result<(), Alloc
     Ok(())
 }
 
-/// The text of a certificate: the bytes of its section, from its header line to its `end` line with the line feed. It
-/// is the text that the certificate was read from, and is read as the same certificate (see the laws of this crate).
-/// The error is want of memory.
+/// Returns the text of a certificate: the bytes of its section, from its header line to its `end` line with the line
+/// feed.
+///
+/// It is the text that the certificate was read from, and is read as the same certificate (see the laws of this crate).
 #[tactic(auto, unfolding(crate::specs::Text::certificate_text))]
 pub fn print_certificate(alloc: Global, cert: &Cert) -> Result<Vec<u8>, AllocError>
     ensures { IfOk result (λ text. text.items ≡ certificate_text cert.now) }
@@ -174,7 +175,9 @@ pub fn print_certificate(alloc: Global, cert: &Cert) -> Result<Vec<u8>, AllocErr
 }
 
 /// Prints the text of a certificate as one of version 2: with that version in its header line, and without its halo
-/// lines. It is the text of the certificate itself where that is of version 2. The error is want of memory.
+/// lines.
+///
+/// If the certificate is of version 2, it is the text of the certificate itself.
 #[tactic(auto, unfolding(crate::specs::Text::certificate_text))]
 pub fn print_migrated(out: &mut Vec<u8>, cert: &Cert) -> Result<(), AllocError>
     ensures { OnOk result (out.new.items ≡ out.old.items ++ certificate_text (migrated cert.now)) }

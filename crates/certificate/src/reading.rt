@@ -86,25 +86,25 @@ fn begin_reading<'a>(
 
 /// Reads a certificate section for a circuit and a layout.
 ///
-/// The error is want of memory, or the first line that is refused, counted from 1 over the whole feed, with the code of
-/// the first test that it fails:
+/// # Errors
+///
+/// Out of memory, or the first line that is refused, counted from 1 over the whole feed. The feed keeps its fault. The
+/// code is that of the first test that the line fails:
 ///
 /// - 12: it is not there or not ended;
 /// - 1: it has none of the forms of this section, or it is a halo line in version 2;
 /// - 6: it is out of its place, or its list does not rise;
-/// - 11: it is `module` or `end`, and a port in the box of the module before it has a wire that is not local there; or
-///   it is `end`, and some cell of the rectangle lies in no box, or, in version 2, a module does not know the wire of
-///   an edge line for a cell of its halo;
-/// - 2: the version is not 1 or 2, a side of a box is odd or not 2 to 64, or there are more than 1024 modules, twelve
-///   cuts, 64 used gates, or 65,536 edge, halo and stop lines of a module;
+/// - 11: it is `module` or `end`, and a port in the box of the module before it has a wire that is not local there;
+/// - 11: it is `end`, and some cell of the rectangle lies in no box;
+/// - 11: it is `end` in version 2, and a module does not know the wire of an edge line for a cell of its halo;
+/// - 2: the version is not 1 or 2, or a side of a box is odd or not 2 to 64;
+/// - 2: there are more than 1024 modules, or more than twelve cuts, 64 used gates, or 65,536 edge, halo and stop lines
+///   of a module;
 /// - 8: a box has an odd corner, or a cell outside the rectangle or in an earlier box;
-/// - 10: an edge, halo or stop line may not stand at its cell or time;
+/// - 10: an edge, halo or stop line may not have its cell or time;
 /// - 3: there is no wire of this name, no gate of this number, or, at `keep`, no inverse gate of this number;
-/// - 9: the wire of a signal or a stop, or an input of a gate that is used, is not local, or a gate that is kept is not
-///   used;
-/// - 4: a wire that is cut, or an output of a gate that is used, is local already.
-///
-/// After an error the feed answers it for good.
+/// - 9: the wire of a signal or a stop, or an input of a used gate, is not local, or a gate that is kept is not used;
+/// - 4: a wire that is cut, or an output of a used gate, is local already.
 pub fn read_certificate<'a>(
     alloc: Global,
     feed: &mut Feed,

@@ -52,7 +52,7 @@ fn push_stop(
     Ok(())
 }
 
-/// The stops of a module's lines.
+/// Returns the stops of a module's lines.
 pub(crate) fn stops_of(
     alloc: Global,
     circuit: &Circuit,

@@ -15,10 +15,10 @@ use certificate_lines::{Entry, StopLine, inner_lines};
 use circuit::{Circuit, GateKind, GateNo, GateWires, WireNo};
 use std::alloc::{AllocError, Global};
 
-/// From the last stop of the wire that a delay uses to the first stop of the one that it defines.
+/// The time from the last stop of the wire that a delay uses to the first stop of the one that it defines.
 #[derive(Clone, Copy, Debug, PartialEq, Eq)]
 pub enum Gap {
-    /// So many steps.
+    /// The number of steps.
     Steps(u32),
     /// One of the two wires has no stop.
     Missing,
@@ -26,18 +26,18 @@ pub enum Gap {
     Before,
 }
 
-/// What stops say of a gate.
+/// A line on what stops say of a gate.
 #[derive(Clone, Copy, Debug, PartialEq, Eq)]
 pub enum TimeLine {
-    /// Of a delay of so many steps.
+    /// The time that a delay takes, and the steps that it must take.
     Delay { gate: usize, wanted: u32, gap: Gap },
-    /// Of a gate of which two inputs or more have stops: the time at which all of these are seen last, or None where
-    /// they differ.
+    /// The time at which all inputs of a gate that have stops are seen last, or `None` if these times differ. Two
+    /// inputs or more have stops.
     Meet { gate: usize, at: Option<u32> },
 }
 
 impl TimeLine {
-    /// Whether the delay takes as many steps as it says, or the inputs meet.
+    /// Returns whether the delay takes as many steps as it says, or the inputs meet.
     pub fn is_kept(&self) -> bool
         ensures { result ≡ is_kept self.now }
     {
@@ -265,8 +265,10 @@ fn lines_of(
 }
 
 impl<'a> Cert<'a> {
-    /// What the stops of all modules say of the circuit's gates: a line for each delay, in order of gates, and then a
-    /// line for each gate of which two inputs or more have stops. `AllocError` is want of memory.
+    /// Returns what the stops of all modules say of the circuit's gates.
+    ///
+    /// There is a line for each delay, in order of gates, and then a line for each gate of which two inputs or more
+    /// have stops.
     pub fn times(&self, alloc: Global) -> Result<Vec<TimeLine>, AllocError>
         ensures { IfOk result (λ lines. lines.items
             ≡ time_lines (circuit_of self.now.circuit) (modules_in self.now)) }

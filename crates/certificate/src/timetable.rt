@@ -97,7 +97,7 @@ impl Timetable {
     }
 }
 
-/// The signals of a module's lines about cells of its ring or of its halo.
+/// Returns the signals of a module's lines about cells of its ring or of its halo.
 pub(crate) fn signals_of(
     alloc: Global,
     circuit: &Circuit,

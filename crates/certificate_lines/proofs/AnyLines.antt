@@ -1,5 +1,6 @@
 -- Whether some line of some module passes a test
-use Rattle.std.proofs.Common.{◌≡◌, ℕ, ◌+◌, ◌<◌, ◌≤◌, Bool, true, false, ◌&&◌, ◌||◌, if◌then◌else◌, List, [], ◌∷◌, ◌++◌, drop, length, get_or, refl, sym, ap, ◌∙◌}
+use Rattle.std.proofs.Common.{◌≡◌, ℕ, ◌+◌, ◌<◌, ◌≤◌, Bool, true, false, ◌&&◌, ◌||◌, if◌then◌else◌, List, [], ◌∷◌, ◌++◌}
+use Rattle.std.proofs.Common.{drop, length, get_or, refl, sym, ap, ◌∙◌}
 use Rattle.std.specs.List.{filter, flat_map, list_any}
 use Rattle.std.proofs.lemmas.List.Folds.{list_any-append, list_any_at}
 use Rattle.std.proofs.lemmas.List.{drop_all}
@@ -11,41 +12,56 @@ use Rattle.certificate_lines.specs.declared.entry.Entry.TheVariants.{Module}
 use Rattle.certificate_lines.proofs.LinesLeft.{line_here, nothing_left}
 use Rattle.certificate_lines.proofs.ModuleSplit.{split_module, split_other}
 
-passes_if : {A : Type 0} (test : A → Bool) (b : Bool) (x : A) (xs : List A) (more : Bool) → list_any test xs ≡ more → list_any test (if b then x ∷ xs else xs) ≡ ((b && test x) || more)
+passes_if : {A : Type 0} (test : A → Bool) (b : Bool) (x : A) (xs : List A) (more : Bool) → list_any test xs ≡ more →
+    list_any test (if b then x ∷ xs else xs) ≡ ((b && test x) || more)
 passes_if test true x xs more h = ap (λ m. test x || m) h
 passes_if test false x xs more h = h
 
-pub any_filter : {A : Type 0} (keep test : A → Bool) (xs : List A) → list_any test (filter keep xs) ≡ list_any (λ x. keep x && test x) xs
+pub any_filter : {A : Type 0} (keep test : A → Bool) (xs : List A) →
+    list_any test (filter keep xs) ≡ list_any (λ x. keep x && test x) xs
 any_filter keep test [] = refl
-any_filter keep test (x ∷ xs) = passes_if test (keep x) x (filter keep xs) (list_any (λ y. keep y && test y) xs) (any_filter keep test xs)
+any_filter keep test (x ∷ xs) =
+    passes_if test (keep x) x (filter keep xs) (list_any (λ y. keep y && test y) xs) (any_filter keep test xs)
 
 module _ {A X : Type 0} (test : A → Bool) (f : X → List A) where
   pub any_flat : (xs : List X) → list_any test (flat_map f xs) ≡ list_any (λ x. list_any test (f x)) xs
   any_flat [] = refl
   any_flat (x ∷ xs) = list_any-append test (f x) (flat_map f xs) ∙ ap (λ b. list_any test (f x) || b) (any_flat xs)
 
-  pub any_here : (xs : List X) (i : ℕ) (x : X) → i < length xs → x ≡ get_or xs i x → list_any test (f x) ≡ true → list_any test (flat_map f xs) ≡ true
-  any_here xs i x lt is h = any_flat xs ∙ list_any_at (λ y. list_any test (f y)) xs i x lt (sym (ap (λ y. list_any test (f y)) is) ∙ h)
+  pub any_here : (xs : List X) (i : ℕ) (x : X) → i < length xs → x ≡ get_or xs i x → list_any test (f x) ≡ true →
+      list_any test (flat_map f xs) ≡ true
+  any_here xs i x lt is h = any_flat xs
+      ∙ list_any_at (λ y. list_any test (f y)) xs i x lt (sym (ap (λ y. list_any test (f y)) is) ∙ h)
 
 -- the same of two functions, one after the other
-pub any_twice : {A Y X : Type 0} (test : A → Bool) (g : Y → List A) (f : X → List Y) (xs : List X) (i : ℕ) (x : X) → i < length xs → x ≡ get_or xs i x →
+pub any_twice : {A Y X : Type 0} (test : A → Bool) (g : Y → List A) (f : X → List Y) (xs : List X) (i : ℕ) (x : X) →
+    i < length xs → x ≡ get_or xs i x →
     list_any test (flat_map g (f x)) ≡ true → list_any test (flat_map g (flat_map f xs)) ≡ true
-any_twice test g f xs i x lt is h = any_flat test g (flat_map f xs) ∙ any_here (λ y. list_any test (g y)) f xs i x lt is (sym (any_flat test g (f x)) ∙ h)
+any_twice test g f xs i x lt is h =
+    any_flat test g (flat_map f xs)
+    ∙ any_here (λ y. list_any test (g y)) f xs i x lt is (sym (any_flat test g (f x)) ∙ h)
 
-pub any_kept : {A X : Type 0} (keep test : A → Bool) (f : X → List A) (xs : List X) (i : ℕ) (x : X) → i < length xs → x ≡ get_or xs i x →
+pub any_kept : {A X : Type 0} (keep test : A → Bool) (f : X → List A) (xs : List X) (i : ℕ) (x : X) → i < length xs →
+    x ≡ get_or xs i x →
     list_any test (filter keep (f x)) ≡ true → list_any test (filter keep (flat_map f xs)) ≡ true
 any_kept keep test f xs i x lt is h =
-    any_filter keep test (flat_map f xs) ∙ any_here (λ y. keep y && test y) f xs i x lt is (sym (any_filter keep test (f x)) ∙ h)
+    any_filter keep test (flat_map f xs)
+    ∙ any_here (λ y. keep y && test y) f xs i x lt is (sym (any_filter keep test (f x)) ∙ h)
 
 -- ---- of the modules of lines
 
 module _ (test : ModuleLines → Bool) (es : List Entry) (place : ℕ) where
-  pub any_other : (e : Entry) → place < length es → e ≡ get_or es place e → is_module e ≡ false → list_any test (modules_of (drop place es)) ≡ list_any test (modules_of (drop (place + 1) es))
-  any_other e lt at other = ap (list_any test) (ap modules_of (line_here es place e lt at) ∙ split_other e (drop (place + 1) es) other)
+  pub any_other : (e : Entry) → place < length es → e ≡ get_or es place e → is_module e ≡ false →
+      list_any test (modules_of (drop place es)) ≡ list_any test (modules_of (drop (place + 1) es))
+  any_other e lt at other = ap (list_any test)
+      (ap modules_of (line_here es place e lt at) ∙ split_other e (drop (place + 1) es) other)
 
   pub any_module : (area : Box2) → place < length es → Module area ≡ get_or es place (Module area) →
-      list_any test (modules_of (drop place es)) ≡ (test (record { area = area; lines = inner (drop (place + 1) es) }) || list_any test (modules_of (drop (place + 1) es)))
-  any_module area lt at = ap (list_any test) (ap modules_of (line_here es place (Module area) lt at) ∙ split_module area (drop (place + 1) es))
+      list_any test (modules_of (drop place es))
+      ≡ (test (record { area = area; lines = inner (drop (place + 1) es) })
+      || list_any test (modules_of (drop (place + 1) es)))
+  any_module area lt at = ap (list_any test)
+      (ap modules_of (line_here es place (Module area) lt at) ∙ split_module area (drop (place + 1) es))
 
   pub any_end : length es ≤ place → list_any test (modules_of (drop place es)) ≡ false
   any_end le = ap (list_any test) (ap modules_of (drop_all place es le) ∙ nothing_left)

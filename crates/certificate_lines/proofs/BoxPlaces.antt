@@ -1,5 +1,6 @@
 -- The places of the cells of a box, row by row
-use Rattle.std.proofs.Common.{◌≡◌, ℕ, zero, suc, ◌+◌, ◌-◌, ◌*◌, ◌<◌, ◌≤◌, true, List, [], ◌∷◌, ◌++◌, get_or, map, take, length, Some, refl, sym, ap, ap₂, subst, ◌∙◌, arith}
+use Rattle.std.proofs.Common.{◌≡◌, ℕ, zero, suc, ◌+◌, ◌-◌, ◌*◌, ◌<◌, ◌≤◌, true, List, [], ◌∷◌, ◌++◌, get_or, map, take}
+use Rattle.std.proofs.Common.{length, Some, refl, sym, ap, ap₂, subst, ◌∙◌, arith}
 use Rattle.std.specs.Prelude.{ℤ, pos, slice_get, unwrap_or}
 use Rattle.std.specs.List.{flat_map, range_with_len}
 use Rattle.std.proofs.Math.Seq.{take-length}
@@ -53,15 +54,19 @@ first_row w k = omega arith
 rows_length : (x w y h : ℕ) → length (flat_map (row_cells x w) (range_with_len y h)) ≡ h * w
 rows_length x w y zero = omega arith
 rows_length x w y (suc h) =
-    length-append (row_cells x w y) (flat_map (row_cells x w) (range_with_len (y + 1) h)) ∙ ap₂ (λ a b. a + b) (row_length x w y) (rows_length x w (y + 1) h) ∙ omega arith
+    length-append (row_cells x w y) (flat_map (row_cells x w) (range_with_len (y + 1) h))
+    ∙ ap₂ (λ a b. a + b) (row_length x w y) (rows_length x w (y + 1) h) ∙ omega arith
 
-rows_place : (x w y h r k : ℕ) → r < h → k < w → slice_get (flat_map (row_cells x w) (range_with_len y h)) (r * w + k) ≡ Some (cell (x + k) (y + r))
+rows_place : (x w y h r k : ℕ) → r < h → k < w →
+    slice_get (flat_map (row_cells x w) (range_with_len y h)) (r * w + k) ≡ Some (cell (x + k) (y + r))
 rows_place x w y zero r k low near = absurd (omega arith)
 rows_place x w y (suc h) zero k low near =
     ap (λ (i : ℕ). slice_get (row_cells x w y ++ flat_map (row_cells x w) (range_with_len (y + 1) h)) i) (first_row w k)
-    ∙ kept (row_cells x w y) (flat_map (row_cells x w) (range_with_len (y + 1) h)) k (cell (x + k) y) (row_place x w y k near) ∙ same_place (x + k) _ (x + k) _ refl (omega arith)
+    ∙ kept (row_cells x w y) (flat_map (row_cells x w) (range_with_len (y + 1) h)) k (cell (x + k) y)
+    (row_place x w y k near) ∙ same_place (x + k) _ (x + k) _ refl (omega arith)
 rows_place x w y (suc h) (suc r) k low near =
-    ap (λ (i : ℕ). slice_get (row_cells x w y ++ flat_map (row_cells x w) (range_with_len (y + 1) h)) i) (next_row r w k)
+    ap (λ (i : ℕ). slice_get (row_cells x w y ++ flat_map (row_cells x w) (range_with_len (y + 1) h)) i)
+    (next_row r w k)
     ∙ skipped (row_cells x w y) (flat_map (row_cells x w) (range_with_len (y + 1) h)) w (r * w + k) (row_length x w y)
     ∙ rows_place x w (y + 1) h r k (omega arith) near
     ∙ same_place (x + k) _ (x + k) _ refl (omega arith)
@@ -72,48 +77,62 @@ unfolding rectangle_cells
 box_length b = rows_length b.x b.w b.y b.h ∙ omega arith
 
 -- the place of a cell of a box is where it stands in the list of them
-nat_place : (b : Box2) (x y : ℕ) → b.x ≤ x → x < b.x + b.w → b.y ≤ y → y < b.y + b.h → slice_get (box_cells b) (place_in b (pos x) (pos y)) ≡ Some (cell x y)
+nat_place : (b : Box2) (x y : ℕ) → b.x ≤ x → x < b.x + b.w → b.y ≤ y → y < b.y + b.h →
+    slice_get (box_cells b) (place_in b (pos x) (pos y)) ≡ Some (cell x y)
 unfolding rectangle_cells
 nat_place b x y left right top bottom =
     let low : y - b.y < b.h = omega arith in
     let near : x - b.x < b.w = omega arith in
     rows_place b.x b.w b.y b.h (y - b.y) (x - b.x) low near ∙ same_place _ _ x y (omega arith) (omega arith)
 
-pub box_place : (b : Box2) (x y : ℤ) → in_box b x y ≡ true → slice_get (box_cells b) (place_in b x y) ≡ Some (record { x = x; y = y })
+pub box_place : (b : Box2) (x y : ℤ) → in_box b x y ≡ true →
+    slice_get (box_cells b) (place_in b x y) ≡ Some (record { x = x; y = y })
 box_place b x y h =
     let p = in_box_nats b x y h in
     let px = p.0 in let py = p.1 in
     let stands : ℤ → ℤ → Type 0 = λ u v. slice_get (box_cells b) (place_in b u v) ≡ Some (record { x = u; y = v }) in
-    subst (λ (u : ℤ). stands u y) (sym px.1) (subst (λ (v : ℤ). stands (pos px.0) v) (sym py.1) (nat_place b px.0 py.0 px.2 px.3 py.2 py.3))
+    subst (λ (u : ℤ). stands u y) (sym px.1)
+    (subst (λ (v : ℤ). stands (pos px.0) v) (sym py.1) (nat_place b px.0 py.0 px.2 px.3 py.2 py.3))
 
 -- the cells of a box are in it
 pub cells_inside : (b : Box2) (k : ℕ) (c : Cell) → slice_get (box_cells b) k ≡ Some c → in_box b c.x c.y ≡ true
-cells_inside b k c e = sym (in_box_cells b c.x c.y) ∙ any_at (λ (d : Cell). is_at d c.x c.y) (box_cells b) k c e (cell_itself c)
+cells_inside b k c e = sym (in_box_cells b c.x c.y)
+    ∙ any_at (λ (d : Cell). is_at d c.x c.y) (box_cells b) k c e (cell_itself c)
 
-pub item_inside : (b : Box2) (cells : List Cell) (k : ℕ) (d : Cell) → cells ≡ box_cells b → k < length cells → in_box b (get_or cells k d).x (get_or cells k d).y ≡ true
-item_inside b cells k d are within = cells_inside b k (get_or cells k d) (ap (λ (l : List Cell). slice_get l k) (sym are) ∙ slice_get-get_or cells k d within)
+pub item_inside : (b : Box2) (cells : List Cell) (k : ℕ) (d : Cell) → cells ≡ box_cells b → k < length cells →
+    in_box b (get_or cells k d).x (get_or cells k d).y ≡ true
+item_inside b cells k d are within =
+    cells_inside b k (get_or cells k d)
+    (ap (λ (l : List Cell). slice_get l k) (sym are) ∙ slice_get-get_or cells k d within)
 
 -- ---- a list with an element for each cell of a box
 
 -- after the last cell of the list
-pub all_cells : {A B : Type 0} (g : A → B) (f : Cell → B) (b : Box2) (xs : List A) (cells : List Cell) (n : ℕ) → n ≡ length cells → cells ≡ box_cells b → map g xs ≡ map f (take n cells) → map g xs ≡ map f (box_cells b)
+pub all_cells : {A B : Type 0} (g : A → B) (f : Cell → B) (b : Box2) (xs : List A) (cells : List Cell) (n : ℕ) →
+    n ≡ length cells → cells ≡ box_cells b → map g xs ≡ map f (take n cells) → map g xs ≡ map f (box_cells b)
 all_cells g f b xs cells n all are e = e ∙ ap (map f) (ap (λ (k : ℕ). take k cells) all ∙ take-length cells ∙ are)
 
-mapped_at : {A B : Type 0} (f : A → B) (xs : List A) (i : ℕ) (a : A) → slice_get xs i ≡ Some a → slice_get (map f xs) i ≡ Some (f a)
+mapped_at : {A B : Type 0} (f : A → B) (xs : List A) (i : ℕ) (a : A) → slice_get xs i ≡ Some a →
+    slice_get (map f xs) i ≡ Some (f a)
 mapped_at f [] i a e = absurd cc
 mapped_at f (x ∷ xs) zero a e = ap (λ (b : _). Some (f b)) (some_is x a e)
 mapped_at f (x ∷ xs) (suc i) a e = mapped_at f xs i a e
 
-mapped_from : {A B : Type 0} (g : A → B) (xs : List A) (i : ℕ) (b : B) (other : A) → slice_get (map g xs) i ≡ Some b → g (unwrap_or (slice_get xs i) other) ≡ b
+mapped_from : {A B : Type 0} (g : A → B) (xs : List A) (i : ℕ) (b : B) (other : A) → slice_get (map g xs) i ≡ Some b →
+    g (unwrap_or (slice_get xs i) other) ≡ b
 mapped_from g [] i b other e = absurd cc
 mapped_from g (x ∷ xs) zero b other e = some_is (g x) b e
 mapped_from g (x ∷ xs) (suc i) b other e = mapped_from g xs i b other e
 
-pub same_count : {A B : Type 0} (g : A → B) (f : Cell → B) (b : Box2) (xs : List A) → map g xs ≡ map f (box_cells b) → length xs ≡ b.w * b.h
+pub same_count : {A B : Type 0} (g : A → B) (f : Cell → B) (b : Box2) (xs : List A) → map g xs ≡ map f (box_cells b) →
+    length xs ≡ b.w * b.h
 same_count g f b xs e = sym (length-map xs g) ∙ ap length e ∙ length-map (box_cells b) f ∙ box_length b
 
-pub found_at : {A B : Type 0} (g : A → B) (f : Cell → B) (b : Box2) (xs : List A) (other : A) → map g xs ≡ map f (box_cells b)
-    → (x y : ℤ) → in_box b x y ≡ true → g (unwrap_or (slice_get xs (place_in b x y)) other) ≡ f (record { x = x; y = y })
+pub found_at : {A B : Type 0} (g : A → B) (f : Cell → B) (b : Box2) (xs : List A) (other : A) →
+    map g xs ≡ map f (box_cells b)
+    → (x y : ℤ) → in_box b x y ≡ true →
+    g (unwrap_or (slice_get xs (place_in b x y)) other) ≡ f (record { x = x; y = y })
 found_at g f b xs other e x y h =
     mapped_from g xs (place_in b x y) (f (record { x = x; y = y })) other
-    (ap (λ (l : List _). slice_get l (place_in b x y)) e ∙ mapped_at f (box_cells b) (place_in b x y) (record { x = x; y = y }) (box_place b x y h))
+    (ap (λ (l : List _). slice_get l (place_in b x y)) e
+    ∙ mapped_at f (box_cells b) (place_in b x y) (record { x = x; y = y }) (box_place b x y h))

@@ -1,5 +1,6 @@
 -- The modules so far, after one more module and after one more line.
-use Rattle.std.proofs.Common.{◌≡◌, ◌⊎◌, ℕ, ◌+◌, ◌-◌, ◌%◌, ◌<◌, ◌≤◌, ℤ, Bool, true, false, not, ◌&&◌, ◌||◌, List, [], ◌∷◌, ◌++◌, length, Option, Some, None, refl, sym, ap, ap₂, subst, ◌∙◌, inl, inr, arith}
+use Rattle.std.proofs.Common.{◌≡◌, ◌⊎◌, ℕ, ◌+◌, ◌-◌, ◌%◌, ◌<◌, ◌≤◌, ℤ, Bool, true, false, not, ◌&&◌, ◌||◌, List, []}
+use Rattle.std.proofs.Common.{◌∷◌, ◌++◌, length, Option, Some, None, refl, sym, ap, ap₂, subst, ◌∙◌, inl, inr, arith}
 use Rattle.std.specs.Prelude.{slice_get, nat_le, nat_lt}
 use Rattle.std.specs.List.{All, list_any, list_all}
 use Rattle.std.proofs.lemmas.Bool.{true≢false}
@@ -21,14 +22,17 @@ use Rattle.module_box.specs.Boxes.{in_box, IsEven}
 use Rattle.module_box.specs.Tiling.{IsInside}
 use Rattle.module_box.specs.declared.boxes.Box2.{Box2}
 use Rattle.module_box.proofs.Rising.{pushed}
-use Rattle.certificate_lines.specs.Entries.{Setting, ModuleLines, with_line, change_last, last_of, modules_of, areas, counts_of}
+use Rattle.certificate_lines.specs.Entries.{Setting, ModuleLines, with_line, change_last, last_of, modules_of, areas}
+use Rattle.certificate_lines.specs.Entries.{counts_of}
 use Rattle.certificate_lines.specs.Orders.{AreInOrder}
-use Rattle.certificate_lines.specs.Rules.{is_odd, is_wrong_side, is_misplaced, is_incomplete, lacks_port, box_fault, module_fault, end_fault, leaves_gap, overlaps, in_boxes, box_cells, whole}
+use Rattle.certificate_lines.specs.Rules.{is_odd, is_wrong_side, is_misplaced, is_incomplete, lacks_port, box_fault}
+use Rattle.certificate_lines.specs.Rules.{module_fault, end_fault, leaves_gap, overlaps, in_boxes, box_cells, whole}
 use Rattle.certificate_lines.specs.Modules.{AreUnstarred, IsModule}
 use Rattle.certificate_lines.specs.BuilderView.{AreApart, AreBuilt, AreSound, IsWritten}
 use Rattle.certificate_lines.specs.declared.entry.Counts.{Counts}
 use Rattle.certificate_lines.specs.declared.entry.Entry.{Entry}
-use Rattle.certificate_lines.proofs.Growing.{areas_changed, length_changed, changed_at, last_at, last_by_place, map_changed}
+use Rattle.certificate_lines.proofs.Growing.{areas_changed, length_changed, changed_at, last_at, last_by_place}
+use Rattle.certificate_lines.proofs.Growing.{map_changed}
 use Rattle.certificate_lines.proofs.Lists.{any_at}
 use Rattle.certificate_lines.proofs.ModulePushes.{no_code, both_none, less}
 use Rattle.certificate_lines.proofs.PortLemmas.{has_cell, in_box_cells}
@@ -54,7 +58,8 @@ even_by n e = grind (arith, nat_tests)
 at_most : (a b : ℕ) → nat_lt a b ≡ false → b ≤ a
 at_most a b e = grind (arith, nat_tests)
 
-box_good : (s : Extent) (b : Box2) → is_wrong_side b.w ≡ false → is_wrong_side b.h ≡ false → is_misplaced s b ≡ false → IsGoodBox s b
+box_good : (s : Extent) (b : Box2) → is_wrong_side b.w ≡ false → is_wrong_side b.h ≡ false → is_misplaced s b ≡ false →
+    IsGoodBox s b
 box_good s b wide high placed =
     let w = side b.w wide in
     let h = side b.h high in
@@ -81,7 +86,8 @@ record PassesAlone (g : Setting) (count : ℕ) (before : Option ModuleLines) (b 
   few : count < 1024
   box : IsGoodBox g.size b
 
-passes_alone : (g : Setting) (count : ℕ) (before : Option ModuleLines) (b : Box2) → box_fault g count before b ≡ None → PassesAlone g count before b
+passes_alone : (g : Setting) (count : ℕ) (before : Option ModuleLines) (b : Box2) → box_fault g count before b ≡ None →
+    PassesAlone g count before b
 unfolding box_fault
 passes_alone g count before b e =
     let one = both_none _ _ e in
@@ -94,7 +100,8 @@ passes_alone g count before b e =
       box = box_good g.size b sides.0 sides.1 (no_code _ 8 two.1);
     }
 
-pub good_module : (g : Setting) (ms : List ModuleLines) (before : Option ModuleLines) (b : Box2) → module_fault g ms before b ≡ None → IsGoodModule g ms before b
+pub good_module : (g : Setting) (ms : List ModuleLines) (before : Option ModuleLines) (b : Box2) →
+    module_fault g ms before b ≡ None → IsGoodModule g ms before b
 unfolding module_fault
 good_module g ms before b e =
     let parts = both_none _ _ e in
@@ -111,51 +118,69 @@ pub record IsNear (s : Extent) (b : Box2) : Type 0 where
   pub right : b.x + b.w ≤ 512
   pub bottom : b.y + b.h ≤ 512
 
-pub box_near : (g : Setting) (count : ℕ) (before : Option ModuleLines) (b : Box2) → size_fault g.size ≡ None → box_fault g count before b ≡ None → IsNear g.size b
+pub box_near : (g : Setting) (count : ℕ) (before : Option ModuleLines) (b : Box2) → size_fault g.size ≡ None →
+    box_fault g count before b ≡ None → IsNear g.size b
 box_near g count before b sized e =
     let s = size_sides g.size sized in
     let at = (passes_alone g count before b e).box.inside in
-    record { right = let w = s.0.most in let r = at.right in omega (arith, w, r); bottom = let h = s.1.most in let r = at.bottom in omega (arith, h, r) }
+    record {
+      right = let w = s.0.most in let r = at.right in omega (arith, w, r);
+      bottom = let h = s.1.most in let r = at.bottom in omega (arith, h, r);
+    }
 
-pub box_on_board : (g : Setting) (count : ℕ) (before : Option ModuleLines) (b : Box2) (covered : Board) (cells : List Cell) → box_fault g count before b ≡ None → covered.width ≡ g.size.w → covered.height ≡ g.size.h → cells ≡ box_cells b
+pub box_on_board : (g : Setting) (count : ℕ) (before : Option ModuleLines) (b : Box2) (covered : Board)
+    (cells : List Cell) → box_fault g count before b ≡ None → covered.width ≡ g.size.w → covered.height ≡ g.size.h →
+    cells ≡ box_cells b
     → All (λ c. is_on_board covered c.x c.y ≡ true) cells
 unfolding cells_of is_inside
 box_on_board g count before b covered cells e w h are =
     let at = (passes_alone g count before b e).box.inside in
-    cells_on_board covered g.size w h (Mirror (record { x = b.x; y = b.y; w = b.w; h = b.h })) cells are (inside_both (b.x + b.w) g.size.w (b.y + b.h) g.size.h at.right at.bottom)
+    cells_on_board covered g.size w h (Mirror (record { x = b.x; y = b.y; w = b.w; h = b.h })) cells are
+    (inside_both (b.x + b.w) g.size.w (b.y + b.h) g.size.h at.right at.bottom)
 
 any_same : (p q : Cell → Bool) → ((c : Cell) → p c ≡ q c) → (cells : List Cell) → list_any p cells ≡ list_any q cells
 any_same p q same [] = refl
 any_same p q same (c ∷ cells) = ap₂ (λ a b. a || b) (same c) (any_same p q same cells)
 
-pub live_overlaps : (boxes : List Box2) (b : Box2) (covered : Board) (cells : List Cell) → cells ≡ box_cells b → ((x y : ℤ) → live covered x y ≡ in_boxes boxes x y) → list_any (λ c. live covered c.x c.y) cells ≡ overlaps boxes b
-live_overlaps boxes b covered cells are same = ap (list_any (λ c. live covered c.x c.y)) are ∙ any_same _ _ (λ c. same c.x c.y) (box_cells b)
+pub live_overlaps : (boxes : List Box2) (b : Box2) (covered : Board) (cells : List Cell) → cells ≡ box_cells b →
+    ((x y : ℤ) → live covered x y ≡ in_boxes boxes x y) → list_any (λ c. live covered c.x c.y) cells ≡ overlaps boxes b
+live_overlaps boxes b covered cells are same =
+    ap (list_any (λ c. live covered c.x c.y)) are ∙ any_same _ _ (λ c. same c.x c.y) (box_cells b)
 
 all_same : (p q : Cell → Bool) → ((c : Cell) → p c ≡ q c) → (cells : List Cell) → list_all p cells ≡ list_all q cells
 all_same p q same [] = refl
 all_same p q same (c ∷ cells) = ap₂ (λ a b. a && b) (same c) (all_same p q same cells)
 
-pub live_gap : (s : Extent) (boxes : List Box2) (covered : Board) → ((x y : ℤ) → live covered x y ≡ in_boxes boxes x y) → not (list_all (λ c. live covered c.x c.y) (box_cells (whole s))) ≡ leaves_gap s boxes
+pub live_gap : (s : Extent) (boxes : List Box2) (covered : Board) →
+    ((x y : ℤ) → live covered x y ≡ in_boxes boxes x y) →
+    not (list_all (λ c. live covered c.x c.y) (box_cells (whole s))) ≡ leaves_gap s boxes
 live_gap s boxes covered same = ap not (all_same _ _ (λ c. same c.x c.y) (box_cells (whole s)))
 
 -- the fault of a `module` line, from that of its box and the overlap
-pub overlap_fault : (g : Setting) (ms : List ModuleLines) (before : Option ModuleLines) (b : Box2) → box_fault g (length ms) before b ≡ None → overlaps (areas ms) b ≡ true → module_fault g ms before b ≡ Some 8
+pub overlap_fault : (g : Setting) (ms : List ModuleLines) (before : Option ModuleLines) (b : Box2) →
+    box_fault g (length ms) before b ≡ None → overlaps (areas ms) b ≡ true → module_fault g ms before b ≡ Some 8
 unfolding module_fault
 overlap_fault g ms before b e over = rw (e, over) refl
 
-pub no_fault : (g : Setting) (ms : List ModuleLines) (before : Option ModuleLines) (b : Box2) → box_fault g (length ms) before b ≡ None → overlaps (areas ms) b ≡ false → module_fault g ms before b ≡ None
+pub no_fault : (g : Setting) (ms : List ModuleLines) (before : Option ModuleLines) (b : Box2) →
+    box_fault g (length ms) before b ≡ None → overlaps (areas ms) b ≡ false → module_fault g ms before b ≡ None
 unfolding module_fault
 no_fault g ms before b e over = rw (e, over) refl
 
-pub early_fault : (g : Setting) (ms : List ModuleLines) (before : Option ModuleLines) (b : Box2) (code : ℕ) → box_fault g (length ms) before b ≡ Some code → module_fault g ms before b ≡ Some code
+pub early_fault : (g : Setting) (ms : List ModuleLines) (before : Option ModuleLines) (b : Box2) (code : ℕ) →
+    box_fault g (length ms) before b ≡ Some code → module_fault g ms before b ≡ Some code
 unfolding module_fault
 early_fault g ms before b code e = rw e refl
 
-pub missing_some : (g : Setting) (entries : List Entry) (lacks full : Bool) → lacks ≡ is_incomplete g (last_of (modules_of entries)) → not full ≡ leaves_gap g.size (areas (modules_of entries)) → (lacks || not full) ≡ true → Some 11 ≡ end_fault g entries
+pub missing_some : (g : Setting) (entries : List Entry) (lacks full : Bool) →
+    lacks ≡ is_incomplete g (last_of (modules_of entries)) → not full ≡ leaves_gap g.size (areas (modules_of entries)) →
+    (lacks || not full) ≡ true → Some 11 ≡ end_fault g entries
 unfolding end_fault
 missing_some g entries lacks full p q h = ap (λ b. code_where b 11) (sym h ∙ ap₂ (λ a b. a || b) p q)
 
-pub missing_none : (g : Setting) (entries : List Entry) (lacks full : Bool) → lacks ≡ is_incomplete g (last_of (modules_of entries)) → not full ≡ leaves_gap g.size (areas (modules_of entries)) → (lacks || not full) ≡ false → None ≡ end_fault g entries
+pub missing_none : (g : Setting) (entries : List Entry) (lacks full : Bool) →
+    lacks ≡ is_incomplete g (last_of (modules_of entries)) → not full ≡ leaves_gap g.size (areas (modules_of entries)) →
+    (lacks || not full) ≡ false → None ≡ end_fault g entries
 unfolding end_fault
 missing_none g entries lacks full p q h = ap (λ b. code_where b 11) (sym h ∙ ap₂ (λ a b. a || b) p q)
 
@@ -199,35 +224,43 @@ or_swap true b = refl
 or_swap false true = refl
 or_swap false false = refl
 
-cells_pushed : (boxes : List Box2) (b : Box2) (x y : ℤ) → in_boxes (boxes ++ b ∷ []) x y ≡ (in_boxes boxes x y || in_box b x y)
-cells_pushed boxes b x y = list_any-append (λ (d : Box2). in_box d x y) boxes (b ∷ []) ∙ sym (or_swap (in_boxes boxes x y) (in_box b x y))
+cells_pushed : (boxes : List Box2) (b : Box2) (x y : ℤ) →
+    in_boxes (boxes ++ b ∷ []) x y ≡ (in_boxes boxes x y || in_box b x y)
+cells_pushed boxes b x y = list_any-append (λ (d : Box2). in_box d x y) boxes (b ∷ [])
+    ∙ sym (or_swap (in_boxes boxes x y) (in_box b x y))
 
 at_cell : ℤ → ℤ → Cell
 at_cell x y = record { x = x; y = y }
 
 -- a cell of a box that is free lies in no earlier box
-free_cell : (boxes : List Box2) (b : Box2) → overlaps boxes b ≡ false → (x y : ℤ) (i : ℕ) (d : Box2) → slice_get boxes i ≡ Some d → in_box d x y ≡ true → in_box b x y ≡ true → ⊥
+free_cell : (boxes : List Box2) (b : Box2) → overlaps boxes b ≡ false → (x y : ℤ) (i : ℕ) (d : Box2) →
+    slice_get boxes i ≡ Some d → in_box d x y ≡ true → in_box b x y ≡ true → ⊥
 unfolding at_cell
 free_cell boxes b free x y i d e here inside =
     let among : in_boxes boxes x y ≡ true = any_at (λ (k : Box2). in_box k x y) boxes i d e here in
-    true≢false (sym (has_cell (λ c. in_boxes boxes c.x c.y) (box_cells b) (at_cell x y) (in_box_cells b x y ∙ inside) among) ∙ free)
+    true≢false (sym (has_cell (λ c. in_boxes boxes c.x c.y) (box_cells b) (at_cell x y)
+    (in_box_cells b x y ∙ inside) among) ∙ free)
 
 apart_push : (boxes : List Box2) (b : Box2) → AreApart boxes → overlaps boxes b ≡ false → AreApart (boxes ++ b ∷ [])
 apart_push boxes b apart free = record {
   once = λ x y i j d d' e f h k. elim (pushed boxes b i d e) [
     | inl old ↦ elim (pushed boxes b j d' f) [
       | inl old' ↦ apart.once x y i j d d' old old' h k
-      | inr new' ↦ absurd (free_cell boxes b free x y i d old h (subst (λ (z : Box2). in_box z x y ≡ true) (sym new'.1) k))
+      | inr new' ↦ absurd (free_cell boxes b free x y i d old h
+          (subst (λ (z : Box2). in_box z x y ≡ true) (sym new'.1) k))
     ]
     | inr new ↦ elim (pushed boxes b j d' f) [
-      | inl old' ↦ absurd (free_cell boxes b free x y j d' old' k (subst (λ (z : Box2). in_box z x y ≡ true) (sym new.1) h))
+      | inl old' ↦ absurd (free_cell boxes b free x y j d' old' k
+          (subst (λ (z : Box2). in_box z x y ≡ true) (sym new.1) h))
       | inr new' ↦ new.0 ∙ sym new'.0
     ]
   ];
 }
 
-pub last_is : (ms : List ModuleLines) (i : ℕ) (m : ModuleLines) → i + 1 ≡ length ms → slice_get ms i ≡ Some m → last_of ms ≡ Some m
-last_is ms i m at e = sym (last_by_place ms) ∙ ap (slice_get ms) (let p : length ms - 1 ≡ i = omega (arith, at) in p) ∙ e
+pub last_is : (ms : List ModuleLines) (i : ℕ) (m : ModuleLines) → i + 1 ≡ length ms → slice_get ms i ≡ Some m →
+    last_of ms ≡ Some m
+last_is ms i m at e = sym (last_by_place ms) ∙ ap (slice_get ms) (let p : length ms - 1 ≡ i = omega (arith, at) in p)
+    ∙ e
 
 -- the modules so far
 module _ (g : Setting) (ms : List ModuleLines) where
@@ -239,14 +272,17 @@ module _ (g : Setting) (ms : List ModuleLines) where
     ported = λ i m lt e. absurd (none_at i m e);
   }
 
-  pub built_none : (covered : Board) → covered.width ≡ g.size.w → covered.height ≡ g.size.h → ((x y : ℤ) → live covered x y ≡ false) → AreBuilt g [] covered []
+  pub built_none : (covered : Board) → covered.width ≡ g.size.w → covered.height ≡ g.size.h →
+      ((x y : ℤ) → live covered x y ≡ false) → AreBuilt g [] covered []
   built_none covered w h dead = record { sound = sound_none; width = w; height = h; cells = dead; counted = refl }
 
   abbrev new_module : Box2 → ModuleLines
   new_module b = record { area = b; lines = [] }
 
-  ported_push : (b : Box2) → ((i : ℕ) (m : ModuleLines) → i + 1 < length ms → slice_get ms i ≡ Some m → lacks_port g m ≡ false) → is_incomplete g (last_of ms) ≡ false
-      → (i : ℕ) (m : ModuleLines) → i + 1 < length (ms ++ new_module b ∷ []) → slice_get (ms ++ new_module b ∷ []) i ≡ Some m → lacks_port g m ≡ false
+  ported_push : (b : Box2) → ((i : ℕ) (m : ModuleLines) → i + 1 < length ms → slice_get ms i ≡ Some m →
+      lacks_port g m ≡ false) → is_incomplete g (last_of ms) ≡ false
+      → (i : ℕ) (m : ModuleLines) → i + 1 < length (ms ++ new_module b ∷ []) →
+      slice_get (ms ++ new_module b ∷ []) i ≡ Some m → lacks_port g m ≡ false
   ported_push b before complete i m lt e = elim (pushed ms (new_module b) i m e) [
     | inl old ↦ ported_by i m old (here_or_before i (slice_get_within ms i m old))
     | inr new ↦ absurd (let n = length_push ms (new_module b) in let at = new.0 in omega (arith, lt, n, at))
@@ -255,11 +291,13 @@ module _ (g : Setting) (ms : List ModuleLines) where
       here_or_before : (i : ℕ) → i < length ms → (i + 1 < length ms) ⊎ (i + 1 ≡ length ms)
       here_or_before i h = grind arith
 
-      ported_by : (i : ℕ) (m : ModuleLines) → slice_get ms i ≡ Some m → (i + 1 < length ms) ⊎ (i + 1 ≡ length ms) → lacks_port g m ≡ false
+      ported_by : (i : ℕ) (m : ModuleLines) → slice_get ms i ≡ Some m → (i + 1 < length ms) ⊎ (i + 1 ≡ length ms) →
+          lacks_port g m ≡ false
       ported_by i m e (inl lt) = before i m lt e
       ported_by i m e (inr at) = ap (is_incomplete g) (sym (last_is ms i m at e)) ∙ complete
 
-  pub module_sound : (b : Box2) → AreSound g ms → IsGoodModule g ms (last_of ms) b → AreSound g (ms ++ new_module b ∷ [])
+  pub module_sound : (b : Box2) → AreSound g ms → IsGoodModule g ms (last_of ms) b →
+      AreSound g (ms ++ new_module b ∷ [])
   module_sound b sound good = record {
     few = let n = length_push ms (new_module b) in let f = good.few in omega (arith, n, f);
     each = λ k m e. elim (pushed ms (new_module b) k m e) [
@@ -270,8 +308,10 @@ module _ (g : Setting) (ms : List ModuleLines) where
     ported = ported_push b sound.ported good.complete;
   }
 
-  pub module_built : (b : Box2) (old new : Board) (counts : List Counts) (cells : List Cell) → AreBuilt g ms old counts → IsGoodModule g ms (last_of ms) b → cells ≡ box_cells b
-      → ((x y : ℤ) → live new x y ≡ (live old x y || in_cells cells x y)) → HasSameSize old new → AreBuilt g (ms ++ new_module b ∷ []) new (counts ++ counts_of (new_module b) ∷ [])
+  pub module_built : (b : Box2) (old new : Board) (counts : List Counts) (cells : List Cell) →
+      AreBuilt g ms old counts → IsGoodModule g ms (last_of ms) b → cells ≡ box_cells b
+      → ((x y : ℤ) → live new x y ≡ (live old x y || in_cells cells x y)) → HasSameSize old new →
+      AreBuilt g (ms ++ new_module b ∷ []) new (counts ++ counts_of (new_module b) ∷ [])
   module_built b old new counts cells built good are after size = record {
     sound = module_sound b built.sound good;
     width = size.0 ∙ built.width;
@@ -279,16 +319,20 @@ module _ (g : Setting) (ms : List ModuleLines) where
     cells = λ x y.
         after x y ∙ ap₂ (λ p q. p || q) (built.cells x y) (ap (λ l. in_cells l x y) are ∙ in_box_cells b x y)
         ∙ sym (cells_pushed (areas ms) b x y) ∙ ap (λ l. in_boxes l x y) (sym (areas_push ms (new_module b)));
-    counted = ap (λ l. l ++ counts_of (new_module b) ∷ []) built.counted ∙ sym (map-append counts_of ms (new_module b ∷ []));
+    counted = ap (λ l. l ++ counts_of (new_module b) ∷ []) built.counted
+        ∙ sym (map-append counts_of ms (new_module b ∷ []));
   }
 
   -- one more line of the last module
-  pub line_sound : (i : Entry) → AreSound g ms → ((m : ModuleLines) → last_of ms ≡ Some m → IsWritten g m → IsWritten g (with_line i m)) → AreSound g (change_last (with_line i) ms)
+  pub line_sound : (i : Entry) → AreSound g ms →
+      ((m : ModuleLines) → last_of ms ≡ Some m → IsWritten g m → IsWritten g (with_line i m)) →
+      AreSound g (change_last (with_line i) ms)
   line_sound i sound grows = record {
     few = let n = length_changed (with_line i) ms in let f = sound.few in omega (arith, n, f);
     each = λ k m e. elim (changed_at (with_line i) ms k m e) [
       | inl old ↦ sound.each k m old.1
-      | inr new ↦ subst (IsWritten g) (sym new.3) (grows new.0 new.2 (let at = last_at ms new.0 new.2 in sound.each at.0 new.0 at.2))
+      | inr new ↦ subst (IsWritten g) (sym new.3)
+          (grows new.0 new.2 (let at = last_at ms new.0 new.2 in sound.each at.0 new.0 at.2))
     ];
     apart = subst AreApart (sym (areas_changed i ms)) sound.apart;
     ported = λ k m lt e. elim (changed_at (with_line i) ms k m e) [
@@ -297,8 +341,11 @@ module _ (g : Setting) (ms : List ModuleLines) where
     ];
   }
 
-  pub line_built : (i : Entry) (covered : Board) (counts more : List Counts) (count : Counts → Counts) → AreBuilt g ms covered counts → ((m : ModuleLines) → last_of ms ≡ Some m → IsWritten g m → IsWritten g (with_line i m))
-      → ((m : ModuleLines) → counts_of (with_line i m) ≡ count (counts_of m)) → more ≡ change_last count counts → AreBuilt g (change_last (with_line i) ms) covered more
+  pub line_built : (i : Entry) (covered : Board) (counts more : List Counts) (count : Counts → Counts) →
+      AreBuilt g ms covered counts →
+      ((m : ModuleLines) → last_of ms ≡ Some m → IsWritten g m → IsWritten g (with_line i m))
+      → ((m : ModuleLines) → counts_of (with_line i m) ≡ count (counts_of m)) → more ≡ change_last count counts →
+      AreBuilt g (change_last (with_line i) ms) covered more
   line_built i covered counts more count built grows counted now = record {
     sound = line_sound i built.sound grows;
     width = built.width;

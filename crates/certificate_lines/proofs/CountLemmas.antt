@@ -16,17 +16,23 @@ last_is_get xs d some = sym (last_by_place xs) ∙ slice_get-get_or xs (length x
 place_of_last : (n : ℕ) → suc (suc n) - 1 ≡ suc (suc n - 1)
 place_of_last n = omega arith
 
-pub set_last : {X : Type 0} (f : X → X) (xs : List X) (d y : X) → 0 < length xs → y ≡ f (get_or xs (length xs - 1) d) → slice_set xs (length xs - 1) y ≡ change_last f xs
+pub set_last : {X : Type 0} (f : X → X) (xs : List X) (d y : X) → 0 < length xs → y ≡ f (get_or xs (length xs - 1) d) →
+    slice_set xs (length xs - 1) y ≡ change_last f xs
 unfolding change_last
 set_last f [] d y some is = absurd (omega arith)
 set_last f (x ∷ []) d y some is = ap (λ z. z ∷ []) is
 set_last f (x ∷ z ∷ xs) d y some is =
     let at : length (x ∷ z ∷ xs) - 1 ≡ suc (length (z ∷ xs) - 1) = place_of_last (length xs) in
-    ap (λ i. slice_set (x ∷ z ∷ xs) i y) at ∙ ap (λ l. x ∷ l) (set_last f (z ∷ xs) d y (omega arith) (is ∙ ap (λ i. f (get_or (x ∷ z ∷ xs) i d)) at))
+    ap (λ i. slice_set (x ∷ z ∷ xs) i y) at
+    ∙ ap (λ l. x ∷ l) (set_last f (z ∷ xs) d y (omega arith) (is ∙ ap (λ i. f (get_or (x ∷ z ∷ xs) i d)) at))
 
 -- the same by a place and the element that was read there
-pub last_is_at : {X : Type 0} (xs : List X) (i : ℕ) (x : X) → i ≡ length xs - 1 → 0 < length xs → x ≡ get_or xs i x → last_of xs ≡ Some x
-last_is_at xs i x at some is = last_is_get xs x some ∙ ap (λ k. Some (get_or xs k x)) (sym at) ∙ ap (λ z. Some z) (sym is)
+pub last_is_at : {X : Type 0} (xs : List X) (i : ℕ) (x : X) → i ≡ length xs - 1 → 0 < length xs → x ≡ get_or xs i x →
+    last_of xs ≡ Some x
+last_is_at xs i x at some is =
+    last_is_get xs x some ∙ ap (λ k. Some (get_or xs k x)) (sym at) ∙ ap (λ z. Some z) (sym is)
 
-pub set_at : {X : Type 0} (f : X → X) (xs : List X) (i : ℕ) (x y : X) → i ≡ length xs - 1 → 0 < length xs → x ≡ get_or xs i x → y ≡ f x → slice_set xs i y ≡ change_last f xs
-set_at f xs i x y at some is now = ap (λ k. slice_set xs k y) at ∙ set_last f xs x y some (now ∙ ap f (is ∙ ap (λ k. get_or xs k x) at))
+pub set_at : {X : Type 0} (f : X → X) (xs : List X) (i : ℕ) (x y : X) → i ≡ length xs - 1 → 0 < length xs →
+    x ≡ get_or xs i x → y ≡ f x → slice_set xs i y ≡ change_last f xs
+set_at f xs i x y at some is now =
+    ap (λ k. slice_set xs k y) at ∙ set_last f xs x y some (now ∙ ap f (is ∙ ap (λ k. get_or xs k x) at))

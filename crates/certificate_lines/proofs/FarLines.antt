@@ -1,5 +1,6 @@
 -- Edge lines of a box that a halo does not reach
-use Rattle.std.proofs.Common.{◌≡◌, Bool, true, false, if◌then◌else◌, List, [], ◌∷◌, refl, sym, ap, subst, ◌∙◌, inl, inr, get_or}
+use Rattle.std.proofs.Common.{◌≡◌, Bool, true, false, if◌then◌else◌, List, [], ◌∷◌, refl, sym, ap, subst, ◌∙◌, inl, inr}
+use Rattle.std.proofs.Common.{get_or}
 use Rattle.std.specs.List.{All, filter}
 use Rattle.std.proofs.lemmas.Bool.{and_parts, cases_Bool, false≢true}
 use Rattle.module_box.specs.Boxes.{in_box, in_halo, in_ring, is_near}
@@ -19,18 +20,23 @@ drop_if false x xs e = refl
 none_passes : {A : Type 0} (test : A → Bool) (xs : List A) → ((x : A) → In x xs → test x ≡ false) → filter test xs ≡ []
 unfolding In
 none_passes test [] h = refl
-none_passes test (x ∷ xs) h = drop_if (test x) x (filter test xs) (h x (inl refl)) ∙ none_passes test xs (λ y i. h y (inr i))
+none_passes test (x ∷ xs) h =
+    drop_if (test x) x (filter test xs) (h x (inl refl)) ∙ none_passes test xs (λ y i. h y (inr i))
 
-far_line : (a b : Box2) (e : Border) → is_near a b ≡ false → in_box b e.cell.x e.cell.y ≡ true → in_halo a e.cell.x e.cell.y ≡ false
+far_line : (a b : Box2) (e : Border) → is_near a b ≡ false → in_box b e.cell.x e.cell.y ≡ true →
+    in_halo a e.cell.x e.cell.y ≡ false
 far_line a b e far own = elim (cases_Bool (in_halo a e.cell.x e.cell.y)) [
   | inl reached ↦ absurd (false≢true (sym far ∙ near_boxes a b e.cell.x e.cell.y reached own))
   | inr not ↦ not
 ]
 
-pub far_lines : (a b : Box2) (es : List Border) → is_near a b ≡ false → AreInBox b es → filter (λ e. in_halo a e.cell.x e.cell.y) es ≡ []
-far_lines a b es far own = none_passes (λ e. in_halo a e.cell.x e.cell.y) es (λ e i. far_line a b e far (all_in (λ (d : Border). in_box b d.cell.x d.cell.y ≡ true) es own e i))
+pub far_lines : (a b : Box2) (es : List Border) → is_near a b ≡ false → AreInBox b es →
+    filter (λ e. in_halo a e.cell.x e.cell.y) es ≡ []
+far_lines a b es far own = none_passes (λ e. in_halo a e.cell.x e.cell.y) es
+    (λ e i. far_line a b e far (all_in (λ (d : Border). in_box b d.cell.x d.cell.y ≡ true) es own e i))
 
 -- the edge lines of a module are for cells of its box
 pub own_lines : (g : Setting) (m : ModuleLines) → IsModule g m → AreInBox m.area (edges m)
 unfolding in_ring
-own_lines g m good k d lt = let e = get_or (edges m) k d in (and_parts (in_box m.area e.cell.x e.cell.y) _ (good.edge_lines k d lt).ring).0
+own_lines g m good k d lt = let e = get_or (edges m) k d in
+    (and_parts (in_box m.area e.cell.x e.cell.y) _ (good.edge_lines k d lt).ring).0

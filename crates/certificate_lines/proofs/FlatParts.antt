@@ -1,5 +1,6 @@
--- What holds of all of a list that is made element by element.
-use Rattle.std.proofs.Common.{◌≡◌, ℕ, zero, suc, ◌+◌, ◌<◌, List, [], ◌∷◌, ◌++◌, length, Some, sym, ap, subst, ◌∙◌, get_or, take}
+-- A property of all parts is one of a list that is made element by element.
+use Rattle.std.proofs.Common.{◌≡◌, ℕ, zero, suc, ◌+◌, ◌<◌, List, [], ◌∷◌, ◌++◌, length, Some, sym, ap, subst, ◌∙◌}
+use Rattle.std.proofs.Common.{get_or, take}
 use Rattle.std.specs.Prelude.{slice_get}
 use Rattle.std.specs.List.{All, flat_map}
 use Rattle.std.proofs.lemmas.List.{append-nil, take_more}
@@ -16,15 +17,19 @@ pub all_right : {A : Type 0} (P : A → Type 0) (xs ys : List A) → All P (xs +
 all_right P [] ys h = h
 all_right P (x ∷ xs) ys h = all_right P xs ys (All-tail P x (xs ++ ys) h)
 
-pub flat_part : {X A : Type 0} (P : A → Type 0) (f : X → List A) (xs : List X) → All P (flat_map f xs) → (i : ℕ) (x : X) → slice_get xs i ≡ Some x → All P (f x)
+pub flat_part : {X A : Type 0} (P : A → Type 0) (f : X → List A) (xs : List X) → All P (flat_map f xs) →
+    (i : ℕ) (x : X) → slice_get xs i ≡ Some x → All P (f x)
 flat_part P f [] h i x e = absurd cc
 flat_part P f (y ∷ xs) h zero x e = subst (λ z. All P (f z)) (some_is y x e) (all_left P (f y) (flat_map f xs) h)
 flat_part P f (y ∷ xs) h (suc i) x e = flat_part P f xs (all_right P (f y) (flat_map f xs) h) i x e
 
-pub flat_at : {X A : Type 0} (P : A → Type 0) (f : X → List A) (xs : List X) → All P (flat_map f xs) → (i : ℕ) (x : X) → i < length xs → x ≡ get_or xs i x → All P (f x)
+pub flat_at : {X A : Type 0} (P : A → Type 0) (f : X → List A) (xs : List X) → All P (flat_map f xs) → (i : ℕ) (x : X) →
+    i < length xs → x ≡ get_or xs i x → All P (f x)
 flat_at P f xs h i x lt e = flat_part P f xs h i x (slice_get-get_or xs i x lt ∙ sym (ap Some e))
 
 -- what the first i elements make, and the next one
-pub flat_more : {X Y : Type 0} (f : X → List Y) (xs : List X) (i : ℕ) (x : X) → i < length xs → x ≡ get_or xs i x → flat_map f (take (i + 1) xs) ≡ flat_map f (take i xs) ++ f x
+pub flat_more : {X Y : Type 0} (f : X → List Y) (xs : List X) (i : ℕ) (x : X) → i < length xs → x ≡ get_or xs i x →
+    flat_map f (take (i + 1) xs) ≡ flat_map f (take i xs) ++ f x
 flat_more f xs i x within is =
-    ap (flat_map f) (take_more xs i x within ∙ ap (λ y. take i xs ++ y ∷ []) (sym is)) ∙ flat_map-append f (take i xs) (x ∷ []) ∙ ap (λ l. flat_map f (take i xs) ++ l) (append-nil (f x))
+    ap (flat_map f) (take_more xs i x within ∙ ap (λ y. take i xs ++ y ∷ []) (sym is))
+    ∙ flat_map-append f (take i xs) (x ∷ []) ∙ ap (λ l. flat_map f (take i xs) ++ l) (append-nil (f x))

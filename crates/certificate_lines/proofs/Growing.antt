@@ -1,5 +1,6 @@
 -- The modules of lines after one more line.
-use Rattle.std.proofs.Common.{◌≡◌, ◌⊎◌, ℕ, zero, suc, ◌+◌, ◌<◌, List, [], ◌∷◌, ◌++◌, map, length, ◌-◌, Some, option_map, refl, sym, ap, ◌∙◌, inl, inr, arith, append-nil}
+use Rattle.std.proofs.Common.{◌≡◌, ◌⊎◌, ℕ, zero, suc, ◌+◌, ◌<◌, List, [], ◌∷◌, ◌++◌, map, length, ◌-◌, Some, option_map}
+use Rattle.std.proofs.Common.{refl, sym, ap, ◌∙◌, inl, inr, arith, append-nil}
 use Rattle.std.specs.Prelude.{slice_get}
 use Rattle.std.specs.List.{flat_map}
 use Rattle.std.proofs.lemmas.List.Sums.{fold_push}
@@ -15,7 +16,8 @@ modules_push es i = fold_push add_line [] es i
 pub flat_push : {X A : Type 0} (f : X → List A) (xs : List X) (x : X) → flat_map f (xs ++ x ∷ []) ≡ flat_map f xs ++ f x
 flat_push f xs x = flat_map-append f xs (x ∷ []) ∙ ap (λ l. flat_map f xs ++ l) (append-nil (f x))
 
-pub flat_same : {X A : Type 0} (f : X → List A) (xs : List X) (x : X) → f x ≡ [] → flat_map f (xs ++ x ∷ []) ≡ flat_map f xs
+pub flat_same : {X A : Type 0} (f : X → List A) (xs : List X) (x : X) → f x ≡ [] →
+    flat_map f (xs ++ x ∷ []) ≡ flat_map f xs
 flat_same f xs x none = flat_push f xs x ∙ ap (λ l. flat_map f xs ++ l) none ∙ append-nil (flat_map f xs)
 
 pub last_pushed : {X : Type 0} (xs : List X) (x : X) → last_of (xs ++ x ∷ []) ≡ Some x
@@ -31,7 +33,8 @@ last_changed f (x ∷ []) = refl
 last_changed f (x ∷ y ∷ []) = refl
 last_changed f (x ∷ y ∷ z ∷ xs) = last_changed f (y ∷ z ∷ xs)
 
-pub map_changed : {X Y : Type 0} (h : X → Y) (f : X → X) (g : Y → Y) → ((x : X) → h (f x) ≡ g (h x)) → (xs : List X) → map h (change_last f xs) ≡ change_last g (map h xs)
+pub map_changed : {X Y : Type 0} (h : X → Y) (f : X → X) (g : Y → Y) → ((x : X) → h (f x) ≡ g (h x)) → (xs : List X) →
+    map h (change_last f xs) ≡ change_last g (map h xs)
 unfolding change_last
 map_changed h f g same [] = refl
 map_changed h f g same (x ∷ []) = ap (λ y. y ∷ []) (same x)
@@ -45,7 +48,8 @@ unchanged (x ∷ y ∷ xs) = ap (λ l. x ∷ l) (unchanged (y ∷ xs))
 
 -- a line more leaves the boxes
 pub areas_changed : (i : Entry) (ms : List ModuleLines) → areas (change_last (with_line i) ms) ≡ areas ms
-areas_changed i ms = map_changed (λ (m : ModuleLines). m.area) (with_line i) (λ b. b) (λ m. refl) ms ∙ unchanged (areas ms)
+areas_changed i ms = map_changed (λ (m : ModuleLines). m.area) (with_line i) (λ b. b) (λ m. refl) ms
+    ∙ unchanged (areas ms)
 
 pub length_changed : {X : Type 0} (f : X → X) (xs : List X) → length (change_last f xs) ≡ length xs
 unfolding change_last
@@ -54,14 +58,17 @@ length_changed f (x ∷ []) = refl
 length_changed f (x ∷ y ∷ xs) = ap suc (length_changed f (y ∷ xs))
 
 -- where the last element stands
-pub last_at : {X : Type 0} (xs : List X) (x : X) → last_of xs ≡ Some x → (i : ℕ) × (i + 1 ≡ length xs) × (slice_get xs i ≡ Some x)
+pub last_at : {X : Type 0} (xs : List X) (x : X) → last_of xs ≡ Some x →
+    (i : ℕ) × (i + 1 ≡ length xs) × (slice_get xs i ≡ Some x)
 unfolding last_of
 last_at [] x e = absurd cc
 last_at (y ∷ []) x e = (0, refl, e)
 last_at (y ∷ z ∷ xs) x e = let r = last_at (z ∷ xs) x e in (suc r.0, omega (arith, r.1), r.2)
 
 -- an element after the last was changed: one of those before it, or the last one
-pub changed_at : {X : Type 0} (f : X → X) (xs : List X) (i : ℕ) (y : X) → slice_get (change_last f xs) i ≡ Some y → ((i + 1 < length xs) × (slice_get xs i ≡ Some y)) ⊎ ((x : X) × (i + 1 ≡ length xs) × (last_of xs ≡ Some x) × (y ≡ f x))
+pub changed_at : {X : Type 0} (f : X → X) (xs : List X) (i : ℕ) (y : X) → slice_get (change_last f xs) i ≡ Some y →
+    ((i + 1 < length xs) × (slice_get xs i ≡ Some y))
+    ⊎ ((x : X) × (i + 1 ≡ length xs) × (last_of xs ≡ Some x) × (y ≡ f x))
 unfolding change_last last_of
 changed_at f [] i y e = absurd cc
 changed_at f (x ∷ []) zero y e = inr (x, refl, refl, sym (some_is (f x) y e))

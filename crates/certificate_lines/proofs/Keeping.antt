@@ -1,5 +1,6 @@
--- What is kept of the lines, after one more line.
-use Rattle.std.proofs.Common.{◌≡◌, ℕ, ◌+◌, ◌≤◌, ℤ, Bool, true, false, not, ◌&&◌, ◌||◌, List, [], ◌∷◌, ◌++◌, length, Option, Some, None, option_map, refl, sym, ap, subst, ◌∙◌, arith, append-nil}
+-- The tables of the lines after one more line.
+use Rattle.std.proofs.Common.{◌≡◌, ℕ, ◌+◌, ◌≤◌, ℤ, Bool, true, false, not, ◌&&◌, ◌||◌, List, [], ◌∷◌, ◌++◌, length}
+use Rattle.std.proofs.Common.{Option, Some, None, option_map, refl, sym, ap, subst, ◌∙◌, arith, append-nil}
 use Rattle.std.specs.List.{list_any, flat_map}
 use Rattle.std.specs.Option.{option_to_list}
 use Rattle.std.proofs.lemmas.List.Folds.{list_any-append}
@@ -11,27 +12,37 @@ use Rattle.module_box.specs.Boxes.{in_box}
 use Rattle.module_box.specs.Locals.{is_among}
 use Rattle.module_box.specs.declared.boxes.Box2.{Box2}
 use Rattle.pattern.specs.Layout.{in_cells}
-use Rattle.certificate_lines.specs.Entries.{Setting, ModuleLines, with_line, change_last, last_of, add_line, modules_of, present, counts_of, cut_in, use_in, edge_in, halo_in, stop_in, cuts, gates, edges, halos, stops, known}
+use Rattle.certificate_lines.specs.Entries.{Setting, ModuleLines, with_line, change_last, last_of, add_line, modules_of}
+use Rattle.certificate_lines.specs.Entries.{present, counts_of, cut_in, use_in, edge_in, halo_in, stop_in, cuts, gates}
+use Rattle.certificate_lines.specs.Entries.{edges, halos, stops, known}
 use Rattle.certificate_lines.specs.Orders.{AreInOrder, may_follow}
-use Rattle.certificate_lines.specs.Rules.{same_cell, is_starred, are_new, box_cells, is_incomplete, is_local, lacks_port, words_fault, line_fault, inner_fault, module_fault}
+use Rattle.certificate_lines.specs.Rules.{same_cell, is_starred, are_new, box_cells, is_incomplete, is_local}
+use Rattle.certificate_lines.specs.Rules.{lacks_port, words_fault, line_fault, inner_fault, module_fault}
 use Rattle.certificate_lines.specs.Modules.{IsModule}
-use Rattle.certificate_lines.specs.BuilderView.{AreBuilt, AreWires, IsInner, IsPresent, IsKept, IsKeptWith, IsWritten, counted, IsSmall, outs_at, wires_in}
+use Rattle.certificate_lines.specs.BuilderView.{AreBuilt, AreWires, IsInner, IsPresent, IsKept, IsKeptWith, IsWritten}
+use Rattle.certificate_lines.specs.BuilderView.{counted, IsSmall, outs_at, wires_in}
 use Rattle.certificate_lines.specs.declared.entry.Border.{Border}
 use Rattle.certificate_lines.specs.declared.entry.Counts.{Counts}
 use Rattle.certificate_lines.specs.declared.entry.Entry.{Entry}
 use Rattle.certificate_lines.specs.declared.entry.StopLine.{StopLine}
 use Rattle.certificate_lines.specs.declared.entry.Entry.TheVariants.{Module, Cut, Use, Keep, Edge, Halo, Stop}
 use Rattle.certificate_lines.proofs.BuiltLemmas.{built_none, module_built, line_built, good_module}
-use Rattle.certificate_lines.proofs.Growing.{modules_push, flat_push, flat_same, last_at, last_pushed, last_changed, last_mapped}
+use Rattle.certificate_lines.proofs.Growing.{modules_push, flat_push, flat_same, last_at, last_pushed, last_changed}
+use Rattle.certificate_lines.proofs.Growing.{last_mapped}
 use Rattle.certificate_lines.proofs.Lists.{some_is}
 use Rattle.certificate_lines.proofs.KnownLemmas.{none_new}
 use Rattle.certificate_lines.proofs.LackedWires.{wires_begun, wires_more}
-use Rattle.certificate_lines.proofs.ModulePushes.{no_code, both_none, not_false, new_wire, good_use, cuts_cut, gates_use, edges_edge, halos_halo, stops_stop, known_cut, known_use, known_same, cut_pushed, use_pushed, keep_pushed, edge_pushed, halo_pushed, stop_pushed}
+use Rattle.certificate_lines.proofs.ModulePushes.{no_code, both_none, not_false, new_wire, good_use, cuts_cut}
+use Rattle.certificate_lines.proofs.ModulePushes.{gates_use, edges_edge, halos_halo, stops_stop, known_cut, known_use}
+use Rattle.certificate_lines.proofs.ModulePushes.{known_same, cut_pushed, use_pushed, keep_pushed, edge_pushed}
+use Rattle.certificate_lines.proofs.ModulePushes.{halo_pushed, stop_pushed}
 
 no_last : {X : Type 0} (x : X) → None ≡ Some x → ⊥
 no_last x e = cc
 
-pub kept_none : (g : Setting) (covered : Board) → covered.width ≡ g.size.w → covered.height ≡ g.size.h → ((x y : ℤ) → live covered x y ≡ false) → (local : List ℕ) (e h : List Cell) → IsKept g [] covered [] None [] local e h
+pub kept_none : (g : Setting) (covered : Board) → covered.width ≡ g.size.w → covered.height ≡ g.size.h →
+    ((x y : ℤ) → live covered x y ≡ false) → (local : List ℕ) (e h : List Cell) →
+    IsKept g [] covered [] None [] local e h
 unfolding modules_of last_of
 kept_none g covered w h dead local e f = record {
   built = built_none g [] covered w h dead;
@@ -54,7 +65,8 @@ mapped_none : {X Y : Type 0} (f : X → Y) (o : Option X) → option_map f o ≡
 mapped_none f None e = refl
 mapped_none f (Some x) e = absurd cc
 
-pub mapped_some : {X Y : Type 0} (f : X → Y) (o : Option X) (y : Y) → option_map f o ≡ Some y → (x : X) × (o ≡ Some x) × (y ≡ f x)
+pub mapped_some : {X Y : Type 0} (f : X → Y) (o : Option X) (y : Y) → option_map f o ≡ Some y →
+    (x : X) × (o ≡ Some x) × (y ≡ f x)
 mapped_some f None y e = absurd cc
 mapped_some f (Some x) y e = (x, refl, sym (some_is (f x) y e))
 
@@ -64,7 +76,9 @@ pub record IsLast (ms : List ModuleLines) (k : Counts) : Type 0 where
   pub last : last_of ms ≡ Some module_lines
   pub counted : k ≡ counts_of module_lines
 
-module _ (g : Setting) (es : List Entry) (covered : Board) (counts : List Counts) (last : Option Entry) (names : List (List ℕ)) (local : List ℕ) (e h : List Cell) (kept : IsKept g es covered counts last names local e h) where
+module _ (g : Setting) (es : List Entry) (covered : Board) (counts : List Counts) (last : Option Entry)
+    (names : List (List ℕ)) (local : List ℕ) (e h : List Cell)
+    (kept : IsKept g es covered counts last names local e h) where
   counts_last : last_of counts ≡ option_map counts_of (present es)
   counts_last = ap last_of kept.built.counted ∙ last_mapped counts_of (modules_of es)
 
@@ -90,11 +104,18 @@ module _ (g : Setting) (es : List Entry) (covered : Board) (counts : List Counts
       let l = the_last k some in
       let written = last_written l.module_lines l.last in
       let is = written.good in
-      subst IsSmall (sym l.counted) (record { few_cuts = few_lines l.module_lines is; few_gates = is.local.few_gates; few_borders = written.few_borders })
+      subst IsSmall (sym l.counted)
+      (record {
+        few_cuts = few_lines l.module_lines is;
+        few_gates = is.local.few_gates;
+        few_borders = written.few_borders;
+      })
 
-  lacks_by : (o : Option ModuleLines) → present es ≡ o → list_any (λ n. not (is_local g.circuit local n)) names ≡ is_incomplete g o
+  lacks_by : (o : Option ModuleLines) → present es ≡ o →
+      list_any (λ n. not (is_local g.circuit local n)) names ≡ is_incomplete g o
   unfolding lacks_port
-  lacks_by None none = ap (list_any (λ n. not (is_local g.circuit local n))) (kept.none (last_none (modules_of es) none))
+  lacks_by None none = ap (list_any (λ n. not (is_local g.circuit local n)))
+      (kept.none (last_none (modules_of es) none))
   lacks_by (Some m) some =
       let p = kept.present m some in
       p.ports (λ n. not (is_local g.circuit local n))
@@ -103,26 +124,33 @@ module _ (g : Setting) (es : List Entry) (covered : Board) (counts : List Counts
   pub lacks : list_any (λ n. not (is_local g.circuit local n)) names ≡ is_incomplete g (present es)
   lacks = lacks_by (present es) refl
 
-  follows_by : (m : ModuleLines) (i : Entry) (b : Bool) → present es ≡ Some m → ((lines : List Entry) → AreInOrder lines → last_of lines ≡ last → b ≡ may_follow lines i) → b ≡ may_follow m.lines i
+  follows_by : (m : ModuleLines) (i : Entry) (b : Bool) → present es ≡ Some m →
+      ((lines : List Entry) → AreInOrder lines → last_of lines ≡ last → b ≡ may_follow lines i) →
+      b ≡ may_follow m.lines i
   follows_by m i b some f = f m.lines (last_good m some).order (kept.present m some).final
 
   inner_is : (m : ModuleLines) (i : Entry) → present es ≡ Some m → line_fault g m i ≡ inner_fault g (present es) i
   inner_is m i some = ap (λ o. inner_fault g o i) (sym some)
 
-  pub too_late : (k : Counts) (i : Entry) (b : Bool) → last_of counts ≡ Some k → ((lines : List Entry) → AreInOrder lines → last_of lines ≡ last → b ≡ may_follow lines i) → b ≡ false → Some 6 ≡ inner_fault g (present es) i
+  pub too_late : (k : Counts) (i : Entry) (b : Bool) → last_of counts ≡ Some k →
+      ((lines : List Entry) → AreInOrder lines → last_of lines ≡ last → b ≡ may_follow lines i) → b ≡ false →
+      Some 6 ≡ inner_fault g (present es) i
   too_late k i b some f late =
       let l = the_last k some in
       let m = l.module_lines in
       let not_after : may_follow m.lines i ≡ false = sym (follows_by m i b l.last f) ∙ late in
       ap (λ a. or_else (code_where (not a) 6) (words_fault g m i)) (sym not_after) ∙ inner_is m i l.last
 
-  pub in_place : (k : Counts) (i : Entry) (b : Bool) (code : Option ℕ) → last_of counts ≡ Some k → ((lines : List Entry) → AreInOrder lines → last_of lines ≡ last → b ≡ may_follow lines i) → b ≡ true
-      → ((m : ModuleLines) → present es ≡ Some m → k ≡ counts_of m → code ≡ words_fault g m i) → code ≡ inner_fault g (present es) i
+  pub in_place : (k : Counts) (i : Entry) (b : Bool) (code : Option ℕ) → last_of counts ≡ Some k →
+      ((lines : List Entry) → AreInOrder lines → last_of lines ≡ last → b ≡ may_follow lines i) → b ≡ true
+      → ((m : ModuleLines) → present es ≡ Some m → k ≡ counts_of m → code ≡ words_fault g m i) →
+      code ≡ inner_fault g (present es) i
   in_place k i b code some f good words =
       let l = the_last k some in
       let m = l.module_lines in
       let after : may_follow m.lines i ≡ true = sym (follows_by m i b l.last f) ∙ good in
-      words m l.last l.counted ∙ ap (λ a. or_else (code_where (not a) 6) (words_fault g m i)) (sym after) ∙ inner_is m i l.last
+      words m l.last l.counted ∙ ap (λ a. or_else (code_where (not a) 6) (words_fault g m i)) (sym after)
+      ∙ inner_is m i l.last
 
 -- ---- one more line of the last module
 
@@ -133,7 +161,8 @@ pub record IsGoodLine (g : Setting) (es : List Entry) (i : Entry) : Type 0 where
   pub follows : may_follow module_lines.lines i ≡ true
   pub words : words_fault g module_lines i ≡ None
 
-good_by : (g : Setting) (es : List Entry) (i : Entry) (o : Option ModuleLines) → present es ≡ o → inner_fault g o i ≡ None → IsGoodLine g es i
+good_by : (g : Setting) (es : List Entry) (i : Entry) (o : Option ModuleLines) → present es ≡ o →
+    inner_fault g o i ≡ None → IsGoodLine g es i
 good_by g es i None is e = absurd cc
 good_by g es i (Some m) is e =
     let parts = both_none _ (words_fault g m i) e in
@@ -143,35 +172,49 @@ pub good_line : (g : Setting) (es : List Entry) (i : Entry) → inner_fault g (p
 good_line g es i e = good_by g es i (present es) refl e
 
 same_counts : (area : Box2) (c c' u u' e e' h h' s s' : ℕ) → c ≡ c' → u ≡ u' → e ≡ e' → h ≡ h' → s ≡ s'
-    → ◌≡◌ {A = Counts} (record { area = area; cuts = c; gates = u; edges = e; halos = h; stops = s }) (record { area = area; cuts = c'; gates = u'; edges = e'; halos = h'; stops = s' })
-same_counts area c c' u u' e e' h h' s s' p q r t v = λ j. record { area = area; cuts = p j; gates = q j; edges = r j; halos = t j; stops = v j }
+    → ◌≡◌ {A = Counts} (record { area = area; cuts = c; gates = u; edges = e; halos = h; stops = s })
+    (record { area = area; cuts = c'; gates = u'; edges = e'; halos = h'; stops = s' })
+same_counts area c c' u u' e e' h h' s s' p q r t v =
+    λ j. record { area = area; cuts = p j; gates = q j; edges = r j; halos = t j; stops = v j }
 
 one_longer : {X : Type 0} (xs ys : List X) (x : X) → ys ≡ xs ++ x ∷ [] → length ys ≡ length xs + 1
 one_longer xs ys x e = ap length e ∙ length_push xs x
 
 pub counted_cut : (n : List ℕ) (m : ModuleLines) → counts_of (with_line (Cut n) m) ≡ counted (Cut n) (counts_of m)
 unfolding counted
-counted_cut n m = same_counts m.area _ _ _ _ _ _ _ _ _ _ (one_longer (cuts m) _ n (cuts_cut m n)) (ap length (flat_same use_in m.lines (Cut n) refl)) (ap length (flat_same edge_in m.lines (Cut n) refl)) (ap length (flat_same halo_in m.lines (Cut n) refl)) (ap length (flat_same stop_in m.lines (Cut n) refl))
+counted_cut n m = same_counts m.area _ _ _ _ _ _ _ _ _ _ (one_longer (cuts m) _ n (cuts_cut m n))
+    (ap length (flat_same use_in m.lines (Cut n) refl)) (ap length (flat_same edge_in m.lines (Cut n) refl))
+    (ap length (flat_same halo_in m.lines (Cut n) refl)) (ap length (flat_same stop_in m.lines (Cut n) refl))
 
 pub counted_use : (k : ℕ) (m : ModuleLines) → counts_of (with_line (Use k) m) ≡ counted (Use k) (counts_of m)
 unfolding counted
-counted_use k m = same_counts m.area _ _ _ _ _ _ _ _ _ _ (ap length (flat_same cut_in m.lines (Use k) refl)) (one_longer (gates m) _ k (gates_use m k)) (ap length (flat_same edge_in m.lines (Use k) refl)) (ap length (flat_same halo_in m.lines (Use k) refl)) (ap length (flat_same stop_in m.lines (Use k) refl))
+counted_use k m = same_counts m.area _ _ _ _ _ _ _ _ _ _ (ap length (flat_same cut_in m.lines (Use k) refl))
+    (one_longer (gates m) _ k (gates_use m k)) (ap length (flat_same edge_in m.lines (Use k) refl))
+    (ap length (flat_same halo_in m.lines (Use k) refl)) (ap length (flat_same stop_in m.lines (Use k) refl))
 
 pub counted_keep : (k : ℕ) (m : ModuleLines) → counts_of (with_line (Keep k) m) ≡ counted (Keep k) (counts_of m)
 unfolding counted
-counted_keep k m = same_counts m.area _ _ _ _ _ _ _ _ _ _ (ap length (flat_same cut_in m.lines (Keep k) refl)) (ap length (flat_same use_in m.lines (Keep k) refl)) (ap length (flat_same edge_in m.lines (Keep k) refl)) (ap length (flat_same halo_in m.lines (Keep k) refl)) (ap length (flat_same stop_in m.lines (Keep k) refl))
+counted_keep k m = same_counts m.area _ _ _ _ _ _ _ _ _ _ (ap length (flat_same cut_in m.lines (Keep k) refl))
+    (ap length (flat_same use_in m.lines (Keep k) refl)) (ap length (flat_same edge_in m.lines (Keep k) refl))
+    (ap length (flat_same halo_in m.lines (Keep k) refl)) (ap length (flat_same stop_in m.lines (Keep k) refl))
 
 pub counted_edge : (d : Border) (m : ModuleLines) → counts_of (with_line (Edge d) m) ≡ counted (Edge d) (counts_of m)
 unfolding counted
-counted_edge d m = same_counts m.area _ _ _ _ _ _ _ _ _ _ (ap length (flat_same cut_in m.lines (Edge d) refl)) (ap length (flat_same use_in m.lines (Edge d) refl)) (one_longer (edges m) _ d (edges_edge m d)) (ap length (flat_same halo_in m.lines (Edge d) refl)) (ap length (flat_same stop_in m.lines (Edge d) refl))
+counted_edge d m = same_counts m.area _ _ _ _ _ _ _ _ _ _ (ap length (flat_same cut_in m.lines (Edge d) refl))
+    (ap length (flat_same use_in m.lines (Edge d) refl)) (one_longer (edges m) _ d (edges_edge m d))
+    (ap length (flat_same halo_in m.lines (Edge d) refl)) (ap length (flat_same stop_in m.lines (Edge d) refl))
 
 pub counted_halo : (d : Border) (m : ModuleLines) → counts_of (with_line (Halo d) m) ≡ counted (Halo d) (counts_of m)
 unfolding counted
-counted_halo d m = same_counts m.area _ _ _ _ _ _ _ _ _ _ (ap length (flat_same cut_in m.lines (Halo d) refl)) (ap length (flat_same use_in m.lines (Halo d) refl)) (ap length (flat_same edge_in m.lines (Halo d) refl)) (one_longer (halos m) _ d (halos_halo m d)) (ap length (flat_same stop_in m.lines (Halo d) refl))
+counted_halo d m = same_counts m.area _ _ _ _ _ _ _ _ _ _ (ap length (flat_same cut_in m.lines (Halo d) refl))
+    (ap length (flat_same use_in m.lines (Halo d) refl)) (ap length (flat_same edge_in m.lines (Halo d) refl))
+    (one_longer (halos m) _ d (halos_halo m d)) (ap length (flat_same stop_in m.lines (Halo d) refl))
 
 pub counted_stop : (s : StopLine) (m : ModuleLines) → counts_of (with_line (Stop s) m) ≡ counted (Stop s) (counts_of m)
 unfolding counted
-counted_stop s m = same_counts m.area _ _ _ _ _ _ _ _ _ _ (ap length (flat_same cut_in m.lines (Stop s) refl)) (ap length (flat_same use_in m.lines (Stop s) refl)) (ap length (flat_same edge_in m.lines (Stop s) refl)) (ap length (flat_same halo_in m.lines (Stop s) refl)) (one_longer (stops m) _ s (stops_stop m s))
+counted_stop s m = same_counts m.area _ _ _ _ _ _ _ _ _ _ (ap length (flat_same cut_in m.lines (Stop s) refl))
+    (ap length (flat_same use_in m.lines (Stop s) refl)) (ap length (flat_same edge_in m.lines (Stop s) refl))
+    (ap length (flat_same halo_in m.lines (Stop s) refl)) (one_longer (stops m) _ s (stops_stop m s))
 
 some_gone : {X : Type 0} (f : X → X) (xs : List X) → change_last f xs ≡ [] → xs ≡ []
 unfolding change_last
@@ -185,36 +228,51 @@ some_gone f (x ∷ y ∷ xs) e = absurd (filled' e)
     filled' : {A : Type 0} {y : A} {ys : List A} → y ∷ ys ≡ [] → ⊥
     filled' e = cc
 
-module _ (g : Setting) (es : List Entry) (covered : Board) (counts : List Counts) (last : Option Entry) (names : List (List ℕ)) (local : List ℕ) (e h : List Cell) (kept : IsKept g es covered counts last names local e h) (i : Entry) (good : IsGoodLine g es i)
-    (step : add_line (modules_of es) i ≡ change_last (with_line i) (modules_of es)) (are : (m : ModuleLines) → counts_of (with_line i m) ≡ counted i (counts_of m)) (after : List Counts) (now : after ≡ change_last (counted i) counts) where
+module _ (g : Setting) (es : List Entry) (covered : Board) (counts : List Counts) (last : Option Entry)
+    (names : List (List ℕ)) (local : List ℕ) (e h : List Cell) (kept : IsKept g es covered counts last names local e h)
+    (i : Entry) (good : IsGoodLine g es i)
+    (step : add_line (modules_of es) i ≡ change_last (with_line i) (modules_of es))
+    (are : (m : ModuleLines) → counts_of (with_line i m) ≡ counted i (counts_of m)) (after : List Counts)
+    (now : after ≡ change_last (counted i) counts) where
   after_line : modules_of (es ++ i ∷ []) ≡ change_last (with_line i) (modules_of es)
   after_line = modules_push es i ∙ step
 
   the_same : (m : ModuleLines) → present es ≡ Some m → good.module_lines ≡ m
   the_same m some = some_is good.module_lines m (sym good.last ∙ some)
 
-  pub kept_line : (IsWritten g good.module_lines → IsWritten g (with_line i good.module_lines)) → (local' : List ℕ) (e' h' : List Cell)
-      → (IsPresent g good.module_lines last names local e h → IsPresent g (with_line i good.module_lines) (Some i) names local' e' h') → IsKept g (es ++ i ∷ []) covered after (Some i) names local' e' h'
+  pub kept_line : (IsWritten g good.module_lines → IsWritten g (with_line i good.module_lines)) →
+      (local' : List ℕ) (e' h' : List Cell)
+      → (IsPresent g good.module_lines last names local e h →
+      IsPresent g (with_line i good.module_lines) (Some i) names local' e' h') →
+      IsKept g (es ++ i ∷ []) covered after (Some i) names local' e' h'
   kept_line grows local' e' h' shows = record {
     built = subst (λ ms. AreBuilt g ms covered after) (sym after_line)
         (line_built g (modules_of es) i covered counts after (counted i) kept.built
         (λ m some. subst (λ k. IsWritten g k → IsWritten g (with_line i k)) (the_same m some) grows) are now);
     none = λ gone. kept.none (some_gone (with_line i) (modules_of es) (sym after_line ∙ gone));
     present = λ m' some.
-        let r = mapped_some (with_line i) (present es) m' (sym (ap last_of after_line ∙ last_changed (with_line i) (modules_of es)) ∙ some) in
+        let r = mapped_some (with_line i) (present es) m'
+        (sym (ap last_of after_line ∙ last_changed (with_line i) (modules_of es)) ∙ some) in
         subst (λ k. IsPresent g k (Some i) names local' e' h') (sym r.2)
-        (subst (λ k. IsPresent g (with_line i k) (Some i) names local' e' h') (the_same r.0 r.1) (shows (kept.present good.module_lines good.last)));
+        (subst (λ k. IsPresent g (with_line i k) (Some i) names local' e' h') (the_same r.0 r.1)
+        (shows (kept.present good.module_lines good.last)));
   }
 
 -- ---- what is kept of the last module after one more line
 
-module _ (g : Setting) (m : ModuleLines) (last : Option Entry) (names : List (List ℕ)) (local : List ℕ) (e h : List Cell) (p : IsPresent g m last names local e h) where
-  more_stars : (c : Cell) (f : Entry → List Border) (i : Entry) (old new : List Cell) → list_any (same_cell c) old ≡ list_any (is_starred c) (flat_map f m.lines)
-      → list_any (same_cell c) new ≡ (list_any (same_cell c) old || list_any (is_starred c) (f i)) → list_any (same_cell c) new ≡ list_any (is_starred c) (flat_map f (m.lines ++ i ∷ []))
+module _ (g : Setting) (m : ModuleLines) (last : Option Entry) (names : List (List ℕ)) (local : List ℕ)
+    (e h : List Cell) (p : IsPresent g m last names local e h) where
+  more_stars : (c : Cell) (f : Entry → List Border) (i : Entry) (old new : List Cell) →
+      list_any (same_cell c) old ≡ list_any (is_starred c) (flat_map f m.lines)
+      → list_any (same_cell c) new ≡ (list_any (same_cell c) old || list_any (is_starred c) (f i)) →
+      list_any (same_cell c) new ≡ list_any (is_starred c) (flat_map f (m.lines ++ i ∷ []))
   more_stars c f i old new before after =
-      after ∙ ap (λ b. b || list_any (is_starred c) (f i)) before ∙ sym (list_any-append (is_starred c) (flat_map f m.lines) (f i)) ∙ ap (list_any (is_starred c)) (sym (flat_push f m.lines i))
+      after ∙ ap (λ b. b || list_any (is_starred c) (f i)) before
+      ∙ sym (list_any-append (is_starred c) (flat_map f m.lines) (f i))
+      ∙ ap (list_any (is_starred c)) (sym (flat_push f m.lines i))
 
-  pub present_line : (i : Entry) → known g.circuit (with_line i m) ≡ known g.circuit m ++ wires_in g.circuit i → (e' h' : List Cell)
+  pub present_line : (i : Entry) → known g.circuit (with_line i m) ≡ known g.circuit m ++ wires_in g.circuit i →
+      (e' h' : List Cell)
       → ((c : Cell) → list_any (same_cell c) e' ≡ (list_any (same_cell c) e || list_any (is_starred c) (edge_in i)))
       → ((c : Cell) → list_any (same_cell c) h' ≡ (list_any (same_cell c) h || list_any (is_starred c) (halo_in i)))
       → IsPresent g (with_line i m) (Some i) names (local ++ wires_in g.circuit i) e' h'
@@ -236,14 +294,16 @@ pub record DoesLine (g : Setting) (es : List Entry) (i : Entry) (m : ModuleLines
   pub wires : known g.circuit (with_line i m) ≡ known g.circuit m ++ wires_in g.circuit i
   pub new : are_new (known g.circuit m) (wires_in g.circuit i) ≡ true
 
-no_wires : (g : Setting) (m : ModuleLines) (i : Entry) → cut_in i ≡ [] → use_in i ≡ [] → known g.circuit (with_line i m) ≡ known g.circuit m ++ []
+no_wires : (g : Setting) (m : ModuleLines) (i : Entry) → cut_in i ≡ [] → use_in i ≡ [] →
+    known g.circuit (with_line i m) ≡ known g.circuit m ++ []
 no_wires g m i no_cut no_use = known_same g m i no_cut no_use ∙ sym (append-nil (known g.circuit m))
 
 cut_is_new : (local : List ℕ) (w : ℕ) → is_among local w ≡ false → are_new local (w ∷ []) ≡ true
 unfolding are_new
 cut_is_new local w new = rw new refl
 
-pub does_line : (g : Setting) (es : List Entry) (i : Entry) → IsInner i → (good : IsGoodLine g es i) → IsModule g good.module_lines → DoesLine g es i good.module_lines
+pub does_line : (g : Setting) (es : List Entry) (i : Entry) → IsInner i → (good : IsGoodLine g es i) →
+    IsModule g good.module_lines → DoesLine g es i good.module_lines
 unfolding add_line
 does_line g es (Module b) inner good is = absurd inner
 does_line g es (Cut n) inner good is =
@@ -297,20 +357,25 @@ does_line g es (Stop s) inner good is = record {
   new = none_new (known g.circuit good.module_lines);
 }
 
-module _ (g : Setting) (es : List Entry) (covered : Board) (counts : List Counts) (last : Option Entry) (names : List (List ℕ)) (local : List ℕ) (e h : List Cell) (kept : IsKept g es covered counts last names local e h) (i : Entry) (inner : IsInner i) (good : IsGoodLine g es i) where
+module _ (g : Setting) (es : List Entry) (covered : Board) (counts : List Counts) (last : Option Entry)
+    (names : List (List ℕ)) (local : List ℕ) (e h : List Cell) (kept : IsKept g es covered counts last names local e h)
+    (i : Entry) (inner : IsInner i) (good : IsGoodLine g es i) where
   the_line : DoesLine g es i good.module_lines
-  the_line = does_line g es i inner good (last_good g es covered counts last names local e h kept good.module_lines good.last)
+  the_line = does_line g es i inner good
+      (last_good g es covered counts last names local e h kept good.module_lines good.last)
 
   -- the wires that the line makes local are not local before it
   pub inner_new : are_new local (wires_in g.circuit i) ≡ true
-  inner_new = ap (λ l. are_new l (wires_in g.circuit i)) ((kept.present good.module_lines good.last).wires) ∙ the_line.new
+  inner_new = ap (λ l. are_new l (wires_in g.circuit i)) ((kept.present good.module_lines good.last).wires)
+      ∙ the_line.new
 
   pub kept_inner : (after : List Counts) → after ≡ change_last (counted i) counts → (e' h' : List Cell)
       → ((c : Cell) → list_any (same_cell c) e' ≡ (list_any (same_cell c) e || list_any (is_starred c) (edge_in i)))
       → ((c : Cell) → list_any (same_cell c) h' ≡ (list_any (same_cell c) h || list_any (is_starred c) (halo_in i)))
       → IsKept g (es ++ i ∷ []) covered after (Some i) names (local ++ wires_in g.circuit i) e' h'
   kept_inner after now e' h' stars halo_stars =
-      kept_line g es covered counts last names local e h kept i good the_line.line the_line.counts after now the_line.grows (local ++ wires_in g.circuit i) e' h'
+      kept_line g es covered counts last names local e h kept i good the_line.line the_line.counts after now
+      the_line.grows (local ++ wires_in g.circuit i) e' h'
       (λ p. present_line g good.module_lines last names local e h p i the_line.wires e' h' stars halo_stars)
 
 -- ---- one more module
@@ -319,12 +384,16 @@ pushed_some : {X : Type 0} (xs : List X) (x : X) → xs ++ x ∷ [] ≡ [] → �
 pushed_some [] x e = cc
 pushed_some (y ∷ xs) x e = cc
 
-module _ (g : Setting) (es : List Entry) (covered new_covered : Board) (counts : List Counts) (last : Option Entry) (names new_names : List (List ℕ)) (local : List ℕ) (e h : List Cell) (kept : IsKept g es covered counts last names local e h)
+module _ (g : Setting) (es : List Entry) (covered new_covered : Board) (counts : List Counts) (last : Option Entry)
+    (names new_names : List (List ℕ)) (local : List ℕ) (e h : List Cell)
+    (kept : IsKept g es covered counts last names local e h)
     (b : Box2) (cells : List Cell) (are : cells ≡ box_cells b) where
   begun_lines : ModuleLines
   begun_lines = record { area = b; lines = [] }
 
-  begun_present : ((f : List ℕ → Bool) → list_any f new_names ≡ list_any (λ p. in_box b p.cell.x p.cell.y && f p.name) g.ports) → IsPresent g begun_lines None new_names [] [] []
+  begun_present : ((f : List ℕ → Bool) →
+      list_any f new_names ≡ list_any (λ p. in_box b p.cell.x p.cell.y && f p.name) g.ports) →
+      IsPresent g begun_lines None new_names [] [] []
   unfolding begun_lines last_of
   begun_present ports = record {
     final = refl;
@@ -334,45 +403,62 @@ module _ (g : Setting) (es : List Entry) (covered new_covered : Board) (counts :
     halo_stars = λ c. refl;
   }
 
-  pub kept_module : module_fault g (modules_of es) (present es) b ≡ None → ((x y : ℤ) → live new_covered x y ≡ (live covered x y || in_cells cells x y)) → HasSameSize covered new_covered
+  pub kept_module : module_fault g (modules_of es) (present es) b ≡ None →
+      ((x y : ℤ) → live new_covered x y ≡ (live covered x y || in_cells cells x y)) → HasSameSize covered new_covered
       → ((f : List ℕ → Bool) → list_any f new_names ≡ list_any (λ p. in_box b p.cell.x p.cell.y && f p.name) g.ports)
-      → IsKept g (es ++ Module b ∷ []) new_covered (counts ++ record { area = b; cuts = 0; gates = 0; edges = 0; halos = 0; stops = 0 } ∷ []) None new_names [] [] []
+      → IsKept g (es ++ Module b ∷ []) new_covered
+      (counts ++ record { area = b; cuts = 0; gates = 0; edges = 0; halos = 0; stops = 0 } ∷ []) None new_names [] [] []
   unfolding begun_lines add_line
   kept_module good after size ports =
       let more : modules_of (es ++ Module b ∷ []) ≡ modules_of es ++ begun_lines ∷ [] = modules_push es (Module b) in
       record {
         built = subst (λ ms. AreBuilt g ms new_covered (counts ++ counts_of begun_lines ∷ [])) (sym more)
-            (module_built g (modules_of es) b covered new_covered counts cells kept.built (good_module g (modules_of es) (present es) b good) are after size);
+            (module_built g (modules_of es) b covered new_covered counts cells kept.built
+            (good_module g (modules_of es) (present es) b good) are after size);
         none = λ gone. absurd (pushed_some (modules_of es) begun_lines (sym more ∙ gone));
-        present = λ m some. subst (λ k. IsPresent g k None new_names [] [] []) (some_is begun_lines m (sym (ap last_of more ∙ last_pushed (modules_of es) begun_lines) ∙ some)) (begun_present ports);
+        present = λ m some. subst (λ k. IsPresent g k None new_names [] [] [])
+            (some_is begun_lines m (sym (ap last_of more ∙ last_pushed (modules_of es) begun_lines) ∙ some))
+            (begun_present ports);
       }
 
 -- ---- with the wires of all modules
 
-pub with_none : (g : Setting) (covered : Board) → covered.width ≡ g.size.w → covered.height ≡ g.size.h → ((x y : ℤ) → live covered x y ≡ false) → (e h : List Cell) → IsKeptWith g [] covered [] None [] [] [] e h
+pub with_none : (g : Setting) (covered : Board) → covered.width ≡ g.size.w → covered.height ≡ g.size.h →
+    ((x y : ℤ) → live covered x y ≡ false) → (e h : List Cell) → IsKeptWith g [] covered [] None [] [] [] e h
 unfolding modules_of
 with_none g covered w high dead e h = record { kept = kept_none g covered w high dead [] e h; wires = refl }
 
-module _ (g : Setting) (es : List Entry) (covered : Board) (counts : List Counts) (last : Option Entry) (names : List (List ℕ)) (earlier : List (List ℕ)) (local : List ℕ) (e h : List Cell) (was : IsKeptWith g es covered counts last names earlier local e h) where
-  pub with_inner : (i : Entry) → IsInner i → (good : IsGoodLine g es i) → (after : List Counts) → after ≡ change_last (counted i) counts → (e' h' : List Cell)
+module _ (g : Setting) (es : List Entry) (covered : Board) (counts : List Counts) (last : Option Entry)
+    (names : List (List ℕ)) (earlier : List (List ℕ)) (local : List ℕ) (e h : List Cell)
+    (was : IsKeptWith g es covered counts last names earlier local e h) where
+  pub with_inner : (i : Entry) → IsInner i → (good : IsGoodLine g es i) → (after : List Counts) →
+      after ≡ change_last (counted i) counts → (e' h' : List Cell)
       → ((c : Cell) → list_any (same_cell c) e' ≡ (list_any (same_cell c) e || list_any (is_starred c) (edge_in i)))
       → ((c : Cell) → list_any (same_cell c) h' ≡ (list_any (same_cell c) h || list_any (is_starred c) (halo_in i)))
       → IsKeptWith g (es ++ i ∷ []) covered after (Some i) names earlier (local ++ wires_in g.circuit i) e' h'
   with_inner i inner good after now e' h' stars halo_stars =
-      let line = does_line g es i inner good (last_good g es covered counts last names local e h was.kept good.module_lines good.last) in
+      let line = does_line g es i inner good
+      (last_good g es covered counts last names local e h was.kept good.module_lines good.last) in
       record {
-        kept = kept_inner g es covered counts last names local e h was.kept i inner good after now e' h' stars halo_stars;
-        wires = subst (λ ms. AreWires g.circuit ms earlier (local ++ wires_in g.circuit i)) (sym (modules_push es i ∙ line.line))
-            (wires_more g.circuit (with_line i) (modules_of es) good.module_lines earlier local (wires_in g.circuit i) good.last line.wires was.wires);
+        kept = kept_inner g es covered counts last names local e h was.kept i inner good after now e' h' stars
+            halo_stars;
+        wires = subst (λ ms. AreWires g.circuit ms earlier (local ++ wires_in g.circuit i))
+            (sym (modules_push es i ∙ line.line))
+            (wires_more g.circuit (with_line i) (modules_of es) good.module_lines earlier local
+            (wires_in g.circuit i) good.last line.wires was.wires);
       }
 
-  pub with_module : (new_covered : Board) (new_names : List (List ℕ)) (b : Box2) (cells : List Cell) → cells ≡ box_cells b → module_fault g (modules_of es) (present es) b ≡ None →
+  pub with_module : (new_covered : Board) (new_names : List (List ℕ)) (b : Box2) (cells : List Cell) →
+      cells ≡ box_cells b → module_fault g (modules_of es) (present es) b ≡ None →
       ((x y : ℤ) → live new_covered x y ≡ (live covered x y || in_cells cells x y)) → HasSameSize covered new_covered
       → ((f : List ℕ → Bool) → list_any f new_names ≡ list_any (λ p. in_box b p.cell.x p.cell.y && f p.name) g.ports)
-      → IsKeptWith g (es ++ Module b ∷ []) new_covered (counts ++ record { area = b; cuts = 0; gates = 0; edges = 0; halos = 0; stops = 0 } ∷ []) None new_names (earlier ++ local ∷ []) [] [] []
+      → IsKeptWith g (es ++ Module b ∷ []) new_covered
+      (counts ++ record { area = b; cuts = 0; gates = 0; edges = 0; halos = 0; stops = 0 } ∷ []) None new_names
+      (earlier ++ local ∷ []) [] [] []
   unfolding add_line
   with_module new_covered new_names b cells are good after size ports = record {
-    kept = kept_module g es covered new_covered counts last names new_names local e h was.kept b cells are good after size ports;
+    kept = kept_module g es covered new_covered counts last names new_names local e h was.kept b cells are good after
+        size ports;
     wires = subst (λ ms. AreWires g.circuit ms (earlier ++ local ∷ []) []) (sym (modules_push es (Module b)))
         (wires_begun g.circuit (modules_of es) (record { area = b; lines = [] }) earlier local refl was.wires);
   }

@@ -1,5 +1,7 @@
 -- Wires that are local, and wires that become local.
-use Rattle.std.proofs.Common.{◌≡◌, ℕ, zero, suc, ◌+◌, ◌<◌, ◌==◌, if◌then◌else◌, Bool, true, false, not, ◌&&◌, ◌||◌, List, [], ◌∷◌, ◌++◌, take, drop, get_or, length, Option, Some, None, nat_eq, append-nil, append_assoc, take-append-drop, refl, sym, ap, ap₂, ◌∙◌, arith}
+use Rattle.std.proofs.Common.{◌≡◌, ℕ, zero, suc, ◌+◌, ◌<◌, ◌==◌, if◌then◌else◌, Bool, true, false, not, ◌&&◌, ◌||◌}
+use Rattle.std.proofs.Common.{List, [], ◌∷◌, ◌++◌, take, drop, get_or, length, Option, Some, None, nat_eq, append-nil}
+use Rattle.std.proofs.Common.{append_assoc, take-append-drop, refl, sym, ap, ap₂, ◌∙◌, arith}
 use Rattle.std.specs.List.{list_any}
 use Rattle.std.proofs.Math.Seq.{take-suc}
 use Rattle.std.proofs.lemmas.Bool.{and_parts}
@@ -34,11 +36,14 @@ new_append : (local xs ys : List ℕ) → are_new local (xs ++ ys) ≡ (are_new 
 unfolding are_new
 new_append local [] ys = ap (λ (l : List ℕ). are_new l ys) (sym (append-nil local))
 new_append local (x ∷ xs) ys =
-    ap (λ (b : Bool). not (is_among local x) && b) (new_append (local ++ x ∷ []) xs ys ∙ ap (λ (l : List ℕ). are_new (local ++ x ∷ []) xs && are_new l ys) (append_assoc local (x ∷ []) xs))
+    ap (λ (b : Bool). not (is_among local x) && b)
+    (new_append (local ++ x ∷ []) xs ys
+    ∙ ap (λ (l : List ℕ). are_new (local ++ x ∷ []) xs && are_new l ys) (append_assoc local (x ∷ []) xs))
     ∙ and_again (not (is_among local x)) (are_new (local ++ x ∷ []) xs) (are_new (local ++ x ∷ xs) ys)
 
 -- the wires from one on
-first_new : (local xs ys : List ℕ) (w : ℕ) → are_new local xs ≡ true → are_new local (xs ++ w ∷ ys) ≡ (not (is_among (local ++ xs) w) && are_new ((local ++ xs) ++ w ∷ []) ys)
+first_new : (local xs ys : List ℕ) (w : ℕ) → are_new local xs ≡ true →
+    are_new local (xs ++ w ∷ ys) ≡ (not (is_among (local ++ xs) w) && are_new ((local ++ xs) ++ w ∷ []) ys)
 unfolding are_new
 first_new local xs ys w h = new_append local xs (w ∷ ys) ∙ ap (λ (b : Bool). b && are_new (local ++ xs) (w ∷ ys)) h
 
@@ -50,40 +55,51 @@ split_at (x ∷ xs) (suc i) w h e = ap (λ (l : List ℕ). x ∷ l) (split_at xs
 false_and : (b : Bool) → (not true && b) ≡ false
 false_and b = refl
 
-module _ (local xs : List ℕ) (i w : ℕ) (within : i < length xs) (is : w ≡ get_or xs i w) (so_far : are_new local (take i xs) ≡ true) where
-  whole : are_new local xs ≡ (not (is_among (local ++ take i xs) w) && are_new ((local ++ take i xs) ++ w ∷ []) (drop (suc i) xs))
+module _ (local xs : List ℕ) (i w : ℕ) (within : i < length xs) (is : w ≡ get_or xs i w)
+    (so_far : are_new local (take i xs) ≡ true) where
+  whole : are_new local xs ≡ (not (is_among (local ++ take i xs) w)
+      && are_new ((local ++ take i xs) ++ w ∷ []) (drop (suc i) xs))
   whole = ap (are_new local) (split_at xs i w within is) ∙ first_new local (take i xs) (drop (suc i) xs) w so_far
 
   pub old_wire : (is_among local w || is_among (take i xs) w) ≡ true → false ≡ are_new local xs
-  old_wire h = sym (whole ∙ ap (λ (b : Bool). not b && are_new ((local ++ take i xs) ++ w ∷ []) (drop (suc i) xs)) (among_append local (take i xs) w ∙ h))
+  old_wire h = sym (whole ∙ ap (λ (b : Bool). not b && are_new ((local ++ take i xs) ++ w ∷ []) (drop (suc i) xs))
+      (among_append local (take i xs) w ∙ h))
 
   pub new_wire : (is_among local w || is_among (take i xs) w) ≡ false → are_new local (take (i + 1) xs) ≡ true
   unfolding are_new
   new_wire h =
-      ap (are_new local) (ap (λ (j : ℕ). take j xs) (one_more i) ∙ take-suc xs i w within ∙ ap (λ (v : ℕ). take i xs ++ v ∷ []) (sym is))
+      ap (are_new local) (ap (λ (j : ℕ). take j xs) (one_more i) ∙ take-suc xs i w within
+      ∙ ap (λ (v : ℕ). take i xs ++ v ∷ []) (sym is))
       ∙ first_new local (take i xs) [] w so_far
       ∙ ap (λ (b : Bool). not b && true) (among_append local (take i xs) w ∙ h)
 
   pub not_among : are_new local xs ≡ true → is_among (local ++ take i xs) w ≡ false
   not_among h = not_true (is_among (local ++ take i xs) w) _ (sym whole ∙ h)
 
-pub pushed_take : (local xs : List ℕ) (i w : ℕ) → i < length xs → w ≡ get_or xs i w → (local ++ take i xs) ++ w ∷ [] ≡ local ++ take (i + 1) xs
+pub pushed_take : (local xs : List ℕ) (i w : ℕ) → i < length xs → w ≡ get_or xs i w →
+    (local ++ take i xs) ++ w ∷ [] ≡ local ++ take (i + 1) xs
 pushed_take local xs i w within is =
-    append_assoc local (take i xs) (w ∷ []) ∙ ap (λ (l : List ℕ). local ++ l) (sym (ap (λ (j : ℕ). take j xs) (one_more i) ∙ take-suc xs i w within ∙ ap (λ (v : ℕ). take i xs ++ v ∷ []) (sym is)))
+    append_assoc local (take i xs) (w ∷ [])
+    ∙ ap (λ (l : List ℕ). local ++ l)
+    (sym (ap (λ (j : ℕ). take j xs) (one_more i) ∙ take-suc xs i w within
+    ∙ ap (λ (v : ℕ). take i xs ++ v ∷ []) (sym is)))
 
 -- a prefix of new wires is new
 pub new_prefix : (local xs : List ℕ) (i : ℕ) → are_new local xs ≡ true → are_new local (take i xs) ≡ true
-new_prefix local xs i h = (and_parts (are_new local (take i xs)) _ (sym (new_append local (take i xs) (drop i xs)) ∙ ap (are_new local) (take-append-drop i xs) ∙ h)).0
+new_prefix local xs i h = (and_parts (are_new local (take i xs)) _
+    (sym (new_append local (take i xs) (drop i xs)) ∙ ap (are_new local) (take-append-drop i xs) ∙ h)).0
 
 pub none_new : (local : List ℕ) → are_new local [] ≡ true
 unfolding are_new
 none_new local = refl
 
-pub learnt : (keys new : List ℕ) (w : ℕ) → is_among keys w ≡ false → new ≡ (if list_any (nat_eq w) keys then keys else keys ++ w ∷ []) → new ≡ keys ++ w ∷ []
+pub learnt : (keys new : List ℕ) (w : ℕ) → is_among keys w ≡ false →
+    new ≡ (if list_any (nat_eq w) keys then keys else keys ++ w ∷ []) → new ≡ keys ++ w ∷ []
 learnt keys new w fresh is = is ∙ rw (among keys w, fresh) refl
 
 -- the wire that is cut is new
-pub cut_new : (local : List ℕ) (o : Option ℕ) (w : ℕ) → o ≡ Some w → are_new local (option_to_list o) ≡ true → is_among local w ≡ false
+pub cut_new : (local : List ℕ) (o : Option ℕ) (w : ℕ) → o ≡ Some w → are_new local (option_to_list o) ≡ true →
+    is_among local w ≡ false
 unfolding are_new
 cut_new local None w is h = absurd cc
 cut_new local (Some v) w is h = ap (is_among local) (sym (some_is v w is)) ∙ not_true (is_among local v) true h

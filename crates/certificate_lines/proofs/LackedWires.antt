@@ -1,5 +1,7 @@
 -- The wires that modules lack of the edge lines beside them, and the local wires of each module
-use Rattle.std.proofs.Common.{◌≡◌, ℕ, zero, suc, ◌+◌, ◌<◌, ◌≤◌, Bool, true, false, ◌&&◌, ◌||◌, List, [], ◌∷◌, ◌++◌, length, map, drop, inl, inr, Some, get_or, option_map, refl, sym, ap, ap₂, subst, ◌∙◌, arith}
+use Rattle.std.proofs.Common.{◌≡◌, ℕ, zero, suc, ◌+◌, ◌<◌, ◌≤◌, Bool, true, false, ◌&&◌, ◌||◌, List, [], ◌∷◌, ◌++◌}
+use Rattle.std.proofs.Common.{length, map, drop, inl, inr, Some, get_or, option_map, refl, sym, ap, ap₂, subst, ◌∙◌}
+use Rattle.std.proofs.Common.{arith}
 use Rattle.std.specs.Prelude.{nat_lt, slice_get}
 use Rattle.std.specs.List.{filter, flat_map, list_any}
 use Rattle.std.proofs.lemmas.Bool.{cond-true, cond-false}
@@ -10,7 +12,8 @@ use Rattle.circuit.specs.Meaning.{Circuit}
 use Rattle.module_box.specs.Boxes.{in_halo}
 use Rattle.module_box.specs.declared.boxes.Box2.{Box2}
 use Rattle.certificate_lines.specs.BuilderView.{AreSound, AreWires, lacks_edge}
-use Rattle.certificate_lines.specs.Entries.{ModuleLines, Setting, change_last, counts_of, edge_in, edges, known, last_of, modules_of}
+use Rattle.certificate_lines.specs.Entries.{ModuleLines, Setting, change_last, counts_of, edge_in, edges, known}
+use Rattle.certificate_lines.specs.Entries.{last_of, modules_of}
 use Rattle.certificate_lines.specs.ModuleParts.{AreInBox, inner}
 use Rattle.certificate_lines.specs.Versions.{beside, is_strange, lacks_wire}
 use Rattle.certificate_lines.specs.declared.entry.Border.{Border}
@@ -37,7 +40,8 @@ or_exchange false false false d = refl
 module _ {X : Type 0} where
   any_either : (f g : X → Bool) (xs : List X) → list_any (λ x. f x || g x) xs ≡ (list_any f xs || list_any g xs)
   any_either f g [] = refl
-  any_either f g (x ∷ xs) = ap (λ b. (f x || g x) || b) (any_either f g xs) ∙ or_exchange (f x) (g x) (list_any f xs) (list_any g xs)
+  any_either f g (x ∷ xs) = ap (λ b. (f x || g x) || b) (any_either f g xs)
+      ∙ or_exchange (f x) (g x) (list_any f xs) (list_any g xs)
 
   none_any : (xs : List X) → list_any (λ x. false) xs ≡ false
   none_any [] = refl
@@ -47,19 +51,24 @@ module _ {X : Type 0} where
   any_same f g [] h = refl
   any_same f g (x ∷ xs) h = ap₂ (λ a b. a || b) (h x) (any_same f g xs h)
 
-any_swap : {X Y : Type 0} (f : X → Y → Bool) (xs : List X) (ys : List Y) → list_any (λ x. list_any (λ y. f x y) ys) xs ≡ list_any (λ y. list_any (λ x. f x y) xs) ys
+any_swap : {X Y : Type 0} (f : X → Y → Bool) (xs : List X) (ys : List Y) →
+    list_any (λ x. list_any (λ y. f x y) ys) xs ≡ list_any (λ y. list_any (λ x. f x y) xs) ys
 any_swap f [] ys = sym (none_any ys)
-any_swap f (x ∷ xs) ys = ap (λ b. list_any (λ y. f x y) ys || b) (any_swap f xs ys) ∙ sym (any_either (λ y. f x y) (λ y. list_any (λ z. f z y) xs) ys)
+any_swap f (x ∷ xs) ys = ap (λ b. list_any (λ y. f x y) ys || b) (any_swap f xs ys)
+    ∙ sym (any_either (λ y. f x y) (λ y. list_any (λ z. f z y) xs) ys)
 
-any_of_flat : {A X : Type 0} (keep test : A → Bool) (f : X → List A) (xs : List X) → list_any (λ x. list_any test (filter keep (f x))) xs ≡ list_any test (filter keep (flat_map f xs))
+any_of_flat : {A X : Type 0} (keep test : A → Bool) (f : X → List A) (xs : List X) →
+    list_any (λ x. list_any test (filter keep (f x))) xs ≡ list_any test (filter keep (flat_map f xs))
 any_of_flat keep test f xs =
-    any_same (λ x. list_any test (filter keep (f x))) (λ x. list_any (λ a. keep a && test a) (f x)) xs (λ x. any_filter keep test (f x))
+    any_same (λ x. list_any test (filter keep (f x))) (λ x. list_any (λ a. keep a && test a) (f x)) xs
+    (λ x. any_filter keep test (f x))
     ∙ sym (any_filter keep test (flat_map f xs) ∙ any_flat (λ a. keep a && test a) f xs)
 
 -- ---- some module lacks a wire
 
 module _ (g : Setting) (ms : List ModuleLines) where
-  long_beside : (area : Box2) → nat_lt 1 g.size.steps ≡ true → filter (λ (e : Border). in_halo area e.cell.x e.cell.y) (flat_map edges ms) ≡ beside g ms area
+  long_beside : (area : Box2) → nat_lt 1 g.size.steps ≡ true →
+      filter (λ (e : Border). in_halo area e.cell.x e.cell.y) (flat_map edges ms) ≡ beside g ms area
   unfolding beside
   long_beside area long = sym (cond-true _ _ _ long)
 
@@ -67,18 +76,22 @@ module _ (g : Setting) (ms : List ModuleLines) where
   unfolding beside
   short_beside area short = cond-false _ _ _ short
 
-  pub lacked : nat_lt 1 g.size.steps ≡ true → list_any (λ n. list_any (lacks_edge g.circuit (edges n)) ms) ms ≡ lacks_wire g ms
+  pub lacked : nat_lt 1 g.size.steps ≡ true →
+      list_any (λ n. list_any (lacks_edge g.circuit (edges n)) ms) ms ≡ lacks_wire g ms
   unfolding lacks_wire
   lacked long =
       any_swap (λ n m. lacks_edge g.circuit (edges n) m) ms ms
-      ∙ any_same (λ m. list_any (λ n. lacks_edge g.circuit (edges n) m) ms) (λ m. list_any (λ e. is_strange g.circuit (known g.circuit m) e.signal) (beside g ms m.area)) ms (λ m.
-      any_of_flat (λ e. in_halo m.area e.cell.x e.cell.y) (λ e. is_strange g.circuit (known g.circuit m) e.signal) edges ms
+      ∙ any_same (λ m. list_any (λ n. lacks_edge g.circuit (edges n) m) ms)
+      (λ m. list_any (λ e. is_strange g.circuit (known g.circuit m) e.signal) (beside g ms m.area)) ms (λ m.
+      any_of_flat (λ e. in_halo m.area e.cell.x e.cell.y)
+      (λ e. is_strange g.circuit (known g.circuit m) e.signal) edges ms
       ∙ ap (list_any (λ e. is_strange g.circuit (known g.circuit m) e.signal)) (long_beside m.area long))
 
   pub none_lacked : nat_lt 1 g.size.steps ≡ false → false ≡ lacks_wire g ms
   unfolding lacks_wire
   none_lacked short =
-      sym (any_same (λ m. list_any (λ e. is_strange g.circuit (known g.circuit m) e.signal) (beside g ms m.area)) (λ m. false) ms (λ m.
+      sym (any_same (λ m. list_any (λ e. is_strange g.circuit (known g.circuit m) e.signal) (beside g ms m.area))
+      (λ m. false) ms (λ m.
       ap (list_any (λ e. is_strange g.circuit (known g.circuit m) e.signal)) (short_beside m.area short)) ∙ none_any ms)
 
 -- ---- the local wires of each module
@@ -92,21 +105,27 @@ record Split {X : Type 0} (f : X → X) (xs : List X) (x : X) : Type 0 where
 split_last : {X : Type 0} (f : X → X) (xs : List X) (x : X) → last_of xs ≡ Some x → Split f xs x
 unfolding last_of change_last
 split_last f [] x e = absurd cc
-split_last f (y ∷ []) x e = record { start = []; was = ap (λ z. z ∷ []) (some_is y x e); now = ap (λ z. f z ∷ []) (some_is y x e) }
+split_last f (y ∷ []) x e =
+    record { start = []; was = ap (λ z. z ∷ []) (some_is y x e); now = ap (λ z. f z ∷ []) (some_is y x e) }
 split_last f (y ∷ z ∷ xs) x e =
     let rest = split_last f (z ∷ xs) x e in
     record { start = y ∷ rest.start; was = ap (λ l. y ∷ l) rest.was; now = ap (λ l. y ∷ l) rest.now }
 
-pub wires_begun : (c : Circuit) (ms : List ModuleLines) (m : ModuleLines) (earlier : List (List ℕ)) (local : List ℕ) → known c m ≡ [] → AreWires c ms earlier local → AreWires c (ms ++ m ∷ []) (earlier ++ local ∷ []) []
+pub wires_begun : (c : Circuit) (ms : List ModuleLines) (m : ModuleLines) (earlier : List (List ℕ)) (local : List ℕ) →
+    known c m ≡ [] → AreWires c ms earlier local → AreWires c (ms ++ m ∷ []) (earlier ++ local ∷ []) []
 wires_begun c ms m earlier local none h =
-    ap (λ l. l ++ [] ∷ []) h ∙ ap (λ w. [] ∷ (map (known c) ms ++ w ∷ [])) (sym none) ∙ ap (λ l. [] ∷ l) (sym (map-append (known c) ms (m ∷ [])))
+    ap (λ l. l ++ [] ∷ []) h ∙ ap (λ w. [] ∷ (map (known c) ms ++ w ∷ [])) (sym none)
+    ∙ ap (λ l. [] ∷ l) (sym (map-append (known c) ms (m ∷ [])))
 
-pub wires_more : (c : Circuit) (f : ModuleLines → ModuleLines) (ms : List ModuleLines) (m : ModuleLines) (earlier : List (List ℕ)) (local more : List ℕ) → last_of ms ≡ Some m → known c (f m) ≡ known c m ++ more →
+pub wires_more : (c : Circuit) (f : ModuleLines → ModuleLines) (ms : List ModuleLines) (m : ModuleLines)
+    (earlier : List (List ℕ)) (local more : List ℕ) → last_of ms ≡ Some m → known c (f m) ≡ known c m ++ more →
     AreWires c ms earlier local → AreWires c (change_last f ms) earlier (local ++ more)
 wires_more c f ms m earlier local more last is h =
     let s = split_last f ms m last in
-    let parts = same_from_push earlier ([] ∷ map (known c) s.start) local (known c m) (h ∙ ap (λ l. [] ∷ map (known c) l) s.was ∙ ap (λ l. [] ∷ l) (map-append (known c) s.start (m ∷ []))) in
-    ap₂ (λ a b. a ++ b ∷ []) parts.0 (ap (λ l. l ++ more) parts.1 ∙ sym is) ∙ ap (λ l. [] ∷ l) (sym (map-append (known c) s.start (f m ∷ []))) ∙ ap (λ l. [] ∷ map (known c) l) (sym s.now)
+    let parts = same_from_push earlier ([] ∷ map (known c) s.start) local (known c m)
+    (h ∙ ap (λ l. [] ∷ map (known c) l) s.was ∙ ap (λ l. [] ∷ l) (map-append (known c) s.start (m ∷ []))) in
+    ap₂ (λ a b. a ++ b ∷ []) parts.0 (ap (λ l. l ++ more) parts.1 ∙ sym is)
+    ∙ ap (λ l. [] ∷ l) (sym (map-append (known c) s.start (f m ∷ []))) ∙ ap (λ l. [] ∷ map (known c) l) (sym s.now)
 
 left : {X : Type 0} (xs ys : List X) (k : ℕ) → k < length xs → slice_get (xs ++ ys) k ≡ slice_get xs k
 left [] ys k lt = absurd (omega (arith, lt))
@@ -117,9 +136,11 @@ at_end : {X : Type 0} (xs : List X) (y : X) → slice_get (xs ++ y ∷ []) (leng
 at_end [] y = refl
 at_end (x ∷ xs) y = at_end xs y
 
-module _ (c : Circuit) (ms : List ModuleLines) (earlier : List (List ℕ)) (local : List ℕ) (h : AreWires c ms earlier local) (k : ℕ) where
+module _ (c : Circuit) (ms : List ModuleLines) (earlier : List (List ℕ)) (local : List ℕ)
+    (h : AreWires c ms earlier local) (k : ℕ) where
   wires_at : slice_get (map (known c) ms) k ≡ slice_get (earlier ++ local ∷ []) (k + 1)
-  wires_at = let n : suc k ≡ k + 1 = omega arith in ap (λ l. slice_get l (suc k)) (sym h) ∙ ap (slice_get (earlier ++ local ∷ [])) n
+  wires_at = let n : suc k ≡ k + 1 = omega arith in
+      ap (λ l. slice_get l (suc k)) (sym h) ∙ ap (slice_get (earlier ++ local ∷ [])) n
 
   pub earlier_wires : k + 1 < length earlier → slice_get (map (known c) ms) k ≡ slice_get earlier (k + 1)
   earlier_wires lt = wires_at ∙ left earlier (local ∷ []) (k + 1) lt
@@ -133,10 +154,13 @@ module _ (c : Circuit) (ms : List ModuleLines) (earlier : List (List ℕ)) (loca
       wires_at ∙ ap (slice_get (earlier ++ local ∷ [])) n ∙ at_end earlier local
 
 -- the box of a module, by its counts
-pub area_counted : (ms : List ModuleLines) (counts : List Counts) (k : ℕ) (m : ModuleLines) (of : Counts) → counts ≡ map counts_of ms → slice_get ms k ≡ Some m → of ≡ get_or counts k of → of.area ≡ m.area
+pub area_counted : (ms : List ModuleLines) (counts : List Counts) (k : ℕ) (m : ModuleLines) (of : Counts) →
+    counts ≡ map counts_of ms → slice_get ms k ≡ Some m → of ≡ get_or counts k of → of.area ≡ m.area
 area_counted ms counts k m of are at is =
-    let there : slice_get (map counts_of ms) k ≡ Some (counts_of m) = slice_get-map counts_of ms k ∙ ap (option_map counts_of) at in
-    ap (λ (n : Counts). n.area) (is ∙ ap (λ l. get_or l k of) are ∙ get_or_from_slice_get (map counts_of ms) k (counts_of m) of there)
+    let there : slice_get (map counts_of ms) k ≡ Some (counts_of m) =
+    slice_get-map counts_of ms k ∙ ap (option_map counts_of) at in
+    ap (λ (n : Counts). n.area) (is ∙ ap (λ l. get_or l k of) are
+    ∙ get_or_from_slice_get (map counts_of ms) k (counts_of m) of there)
 
 -- ---- a module that is read
 
@@ -153,11 +177,14 @@ in_rest (Halo e ∷ es) (suc n) m i = subst (In m) (sym (split_other (Halo e) es
 in_rest (Stop s ∷ es) (suc n) m i = subst (In m) (sym (split_other (Stop s) es refl)) (in_rest es n m i)
 
 -- its edge lines are for cells of its box
-pub lines_inside : (g : Setting) (es : List Entry) (place : ℕ) (area : Box2) → AreSound g (modules_of es) → place < length es → Module area ≡ get_or es place (Module area) →
+pub lines_inside : (g : Setting) (es : List Entry) (place : ℕ) (area : Box2) → AreSound g (modules_of es) →
+    place < length es → Module area ≡ get_or es place (Module area) →
     AreInBox area (flat_map edge_in (inner (drop (place + 1) es)))
 unfolding In
 lines_inside g es place area sound lt at =
     let m : ModuleLines = record { area = area; lines = inner (drop (place + 1) es) } in
-    let here : In m (modules_of (drop place es)) = subst (In m) (sym (ap modules_of (line_here es place (Module area) lt at) ∙ split_module area (drop (place + 1) es))) (inl refl) in
+    let here : In m (modules_of (drop place es)) =
+    subst (In m) (sym (ap modules_of (line_here es place (Module area) lt at)
+    ∙ split_module area (drop (place + 1) es))) (inl refl) in
     let p = placed m (modules_of es) (in_rest es place m here) in
     own_lines g m (sound.each p.0 m p.1).good

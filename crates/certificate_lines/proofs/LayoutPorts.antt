@@ -1,5 +1,6 @@
 -- The ports of a layout by their cells, and its parts, which lie inside it
-use Rattle.std.proofs.Common.{◌≡◌, ℕ, zero, suc, ℤ, Bool, true, false, not, ◌||◌, if◌then◌else◌, List, [], ◌∷◌, ◌++◌, map, ◌<◌, get_or, length, Option, Some, None, refl, sym, ap, subst, ◌∙◌, arith}
+use Rattle.std.proofs.Common.{◌≡◌, ℕ, zero, suc, ℤ, Bool, true, false, not, ◌||◌, if◌then◌else◌, List, [], ◌∷◌, ◌++◌}
+use Rattle.std.proofs.Common.{map, ◌<◌, get_or, length, Option, Some, None, refl, sym, ap, subst, ◌∙◌, arith}
 use Rattle.std.specs.Prelude.{slice_get}
 use Rattle.std.specs.List.{list_all}
 use Rattle.std.proofs.lemmas.List.Folds.{list_all-append, list_all-map}
@@ -26,28 +27,36 @@ pub record StandsAt (ports : List Port) (x y : ℤ) (name : List ℕ) : Type 0 w
   pub stands : is_at port.cell x y ≡ true
   pub named : port.name ≡ name
 
-stands_later : (p : Port) (ports : List Port) (x y : ℤ) (name : List ℕ) → StandsAt ports x y name → StandsAt (p ∷ ports) x y name
-stands_later p ports x y name s = record { number = suc s.number; port = s.port; numbered = s.numbered; stands = s.stands; named = s.named }
+stands_later : (p : Port) (ports : List Port) (x y : ℤ) (name : List ℕ) → StandsAt ports x y name →
+    StandsAt (p ∷ ports) x y name
+stands_later p ports x y name s =
+    record { number = suc s.number; port = s.port; numbered = s.numbered; stands = s.stands; named = s.named }
 
 some_name : (a b : List ℕ) → ◌≡◌ {A = Option (List ℕ)} (Some a) (Some b) → a ≡ b
 some_name a b e = cc
 
-first_stands : (b : Bool) (p : Port) (ports : List Port) (x y : ℤ) (name : List ℕ) → is_at p.cell x y ≡ b → (port_at ports x y ≡ Some name → StandsAt ports x y name)
+first_stands : (b : Bool) (p : Port) (ports : List Port) (x y : ℤ) (name : List ℕ) → is_at p.cell x y ≡ b →
+    (port_at ports x y ≡ Some name → StandsAt ports x y name)
     → (if b then Some p.name else port_at ports x y) ≡ Some name → StandsAt (p ∷ ports) x y name
-first_stands true p ports x y name h more e = record { number = 0; port = p; numbered = refl; stands = h; named = some_name p.name name e }
+first_stands true p ports x y name h more e =
+    record { number = 0; port = p; numbered = refl; stands = h; named = some_name p.name name e }
 first_stands false p ports x y name h more e = stands_later p ports x y name (more e)
 
-pub port_stands : (ports : List Port) (x y : ℤ) (name : List ℕ) → port_at ports x y ≡ Some name → StandsAt ports x y name
+pub port_stands : (ports : List Port) (x y : ℤ) (name : List ℕ) → port_at ports x y ≡ Some name →
+    StandsAt ports x y name
 unfolding port_at
 port_stands [] x y name e = absurd cc
-port_stands (p ∷ ports) x y name e = first_stands (is_at p.cell x y) p ports x y name refl (port_stands ports x y name) e
+port_stands (p ∷ ports) x y name e =
+    first_stands (is_at p.cell x y) p ports x y name refl (port_stands ports x y name) e
 
-absent_here : (b : Bool) (n : List ℕ) (o : Option (List ℕ)) → (if b then Some n else o) ≡ None → (b ≡ false) × (o ≡ None)
+absent_here : (b : Bool) (n : List ℕ) (o : Option (List ℕ)) → (if b then Some n else o) ≡ None →
+    (b ≡ false) × (o ≡ None)
 absent_here true n o e = absurd cc
 absent_here false n o e = (refl, e)
 
 -- where no port is found, none stands
-pub none_stands : (ports : List Port) (x y : ℤ) → port_at ports x y ≡ None → (i : ℕ) (p : Port) → slice_get ports i ≡ Some p → is_at p.cell x y ≡ true → ⊥
+pub none_stands : (ports : List Port) (x y : ℤ) → port_at ports x y ≡ None → (i : ℕ) (p : Port) →
+    slice_get ports i ≡ Some p → is_at p.cell x y ≡ true → ⊥
 unfolding port_at
 none_stands [] x y e i p at h = cc
 none_stands (q ∷ ports) x y e zero p at h =
@@ -56,19 +65,23 @@ none_stands (q ∷ ports) x y e zero p at h =
     let there : is_at q.cell x y ≡ true = ap (λ (s : Port). is_at s.cell x y) same ∙ h in
     let not_there : is_at q.cell x y ≡ false = r.0 in
     cc (there, not_there)
-none_stands (q ∷ ports) x y e (suc i) p at h = none_stands ports x y (absent_here (is_at q.cell x y) q.name (port_at ports x y) e).1 i p at h
+none_stands (q ∷ ports) x y e (suc i) p at h =
+    none_stands ports x y (absent_here (is_at q.cell x y) q.name (port_at ports x y) e).1 i p at h
 
 no_code : (a b : Bool) → code_where (not a || b) 7 ≡ None → a ≡ true
 no_code true b e = refl
 no_code false b e = cc
 
-part_inside : (s : Extent) (before : List Part) (part : Part) → cell_fault s before part ≡ None → is_inside s part ≡ true
+part_inside : (s : Extent) (before : List Part) (part : Part) → cell_fault s before part ≡ None →
+    is_inside s part ≡ true
 unfolding cell_fault
 part_inside s before part e = no_code (is_inside s part) (is_taken before part) e
 
-parts_inside : (s : Extent) (before parts : List Part) → AreGoodAfter s before parts → list_all (is_inside s) parts ≡ true
+parts_inside : (s : Extent) (before parts : List Part) → AreGoodAfter s before parts →
+    list_all (is_inside s) parts ≡ true
 parts_inside s before [] h = refl
-parts_inside s before (part ∷ parts) h = rw (part_inside s before part h.1, parts_inside s (before ++ part ∷ []) parts h.2) refl
+parts_inside s before (part ∷ parts) h =
+    rw (part_inside s before part h.1, parts_inside s (before ++ part ∷ []) parts h.2) refl
 
 -- those that are not rectangles
 pub record LieInside (p : Pattern) : Type 0 where
@@ -81,7 +94,8 @@ pub lie_inside : (p : Pattern) → AreGoodAfter p.size [] (parts_of p) → LieIn
 unfolding is_inside
 lie_inside p h =
     let test : Part → Bool = is_inside p.size in
-    let one = and_parts _ _ (sym (list_all-append test (map Mirror p.mirrors) _) ∙ parts_inside p.size [] (parts_of p) h) in
+    let one = and_parts _ _ (sym (list_all-append test (map Mirror p.mirrors) _)
+    ∙ parts_inside p.size [] (parts_of p) h) in
     let two = and_parts _ _ (sym (list_all-append test (map Ball p.balls) _) ∙ one.1) in
     let three = and_parts _ _ (sym (list_all-append test (map In p.ins) _) ∙ two.1) in
     let four = and_parts _ _ (sym (list_all-append test (map Out p.outs) _) ∙ three.1) in
@@ -92,15 +106,19 @@ lie_inside p h =
       wastes = sym (list_all-map test Waste p.wastes) ∙ four.1;
     }
 
-ports_on_board : (s : Extent) (ports : List Port) → list_all (λ q. in_layout s q.cell.x q.cell.y) ports ≡ true → AreOnBoard s ports
+ports_on_board : (s : Extent) (ports : List Port) → list_all (λ q. in_layout s q.cell.x q.cell.y) ports ≡ true →
+    AreOnBoard s ports
 ports_on_board s [] h i p e = absurd cc
-ports_on_board s (q ∷ ports) h zero p e = ap (λ (r : Port). in_layout s r.cell.x r.cell.y) (sym (some_is q p e)) ∙ (and_parts _ _ h).0
+ports_on_board s (q ∷ ports) h zero p e =
+    ap (λ (r : Port). in_layout s r.cell.x r.cell.y) (sym (some_is q p e)) ∙ (and_parts _ _ h).0
 ports_on_board s (q ∷ ports) h (suc i) p e = ports_on_board s ports (and_parts _ _ h).1 i p e
 
 abbrev pub AllInLayout : Extent → List Cell → Type 0
-AllInLayout s cells = (k : ℕ) (d : Cell) → k < length cells → in_layout s (get_or cells k d).x (get_or cells k d).y ≡ true
+AllInLayout s cells = (k : ℕ) (d : Cell) → k < length cells →
+    in_layout s (get_or cells k d).x (get_or cells k d).y ≡ true
 
-cells_on_board : (s : Extent) (cells : List Cell) → list_all (λ c. in_layout s c.x c.y) cells ≡ true → AllInLayout s cells
+cells_on_board : (s : Extent) (cells : List Cell) → list_all (λ c. in_layout s c.x c.y) cells ≡ true →
+    AllInLayout s cells
 cells_on_board s [] h k d lt = absurd (omega arith)
 cells_on_board s (c ∷ cells) h zero d lt = (and_parts _ _ h).0
 cells_on_board s (c ∷ cells) h (suc k) d lt = cells_on_board s cells (and_parts _ _ h).1 k d (omega arith)
@@ -110,10 +128,13 @@ module _ (p : Pattern) (s : Extent) (is : s ≡ p.size) (good : AreGoodAfter s [
   all_inside = lie_inside p (subst (λ (t : Extent). AreGoodAfter t [] (parts_of p)) is good)
 
   pub ports_on_layout : AreOnBoard s p.ins × AreOnBoard s p.outs
-  ports_on_layout = subst (λ (t : Extent). AreOnBoard t p.ins × AreOnBoard t p.outs) (sym is) (ports_on_board p.size p.ins all_inside.ins, ports_on_board p.size p.outs all_inside.outs)
+  ports_on_layout = subst (λ (t : Extent). AreOnBoard t p.ins × AreOnBoard t p.outs) (sym is)
+      (ports_on_board p.size p.ins all_inside.ins, ports_on_board p.size p.outs all_inside.outs)
 
   pub balls_on_layout : AllInLayout s p.balls
-  balls_on_layout = subst (λ (t : Extent). AllInLayout t p.balls) (sym is) (cells_on_board p.size p.balls all_inside.balls)
+  balls_on_layout = subst (λ (t : Extent). AllInLayout t p.balls) (sym is)
+      (cells_on_board p.size p.balls all_inside.balls)
 
   pub wastes_on_layout : AllInLayout s p.wastes
-  wastes_on_layout = subst (λ (t : Extent). AllInLayout t p.wastes) (sym is) (cells_on_board p.size p.wastes all_inside.wastes)
+  wastes_on_layout = subst (λ (t : Extent). AllInLayout t p.wastes) (sym is)
+      (cells_on_board p.size p.wastes all_inside.wastes)

@@ -1,5 +1,6 @@
 -- Lines in their order
-use Rattle.std.proofs.Common.{◌≡◌, ◌⊎◌, ℕ, Bool, true, false, if◌then◌else◌, List, [], ◌∷◌, ◌++◌, Option, Some, None, Ordering, Less, Equal, Greater, refl, sym, ap, ap₂, subst, ◌∙◌, inl, inr, arith}
+use Rattle.std.proofs.Common.{◌≡◌, ◌⊎◌, ℕ, Bool, true, false, if◌then◌else◌, List, [], ◌∷◌, ◌++◌, Option, Some, None}
+use Rattle.std.proofs.Common.{Ordering, Less, Equal, Greater, refl, sym, ap, ap₂, subst, ◌∙◌, inl, inr, arith}
 use Rattle.std.specs.Prelude.{◌≢◌}
 use Rattle.std.specs.List.{filter, flat_map}
 use Rattle.std.specs.Ordering.{nat_cmp, is_lt, ordering_reverse}
@@ -50,7 +51,8 @@ in_append x (y ∷ xs) ys (inr later) = elim (in_append x xs ys later) [
 ]
 
 -- an element of a list that a function makes of each element
-pub in_flat : {A B : Type 0} (f : A → List B) (b : B) (xs : List A) → In b (flat_map f xs) → (a : A) × In a xs × In b (f a)
+pub in_flat : {A B : Type 0} (f : A → List B) (b : B) (xs : List A) → In b (flat_map f xs) →
+    (a : A) × In a xs × In b (f a)
 unfolding In
 in_flat f b [] i = absurd i
 in_flat f b (x ∷ xs) i = elim (in_append b (f x) (flat_map f xs) i) [
@@ -58,7 +60,8 @@ in_flat f b (x ∷ xs) i = elim (in_append b (f x) (flat_map f xs) i) [
   | inr second ↦ let r = in_flat f b xs second in (r.0, inr r.1, r.2)
 ]
 
-pub flat_in : {A B : Type 0} (f : A → List B) (b : B) (xs : List A) (a : A) → In a xs → In b (f a) → In b (flat_map f xs)
+pub flat_in : {A B : Type 0} (f : A → List B) (b : B) (xs : List A) (a : A) → In a xs → In b (f a) →
+    In b (flat_map f xs)
 unfolding In
 flat_in f b [] a i j = absurd i
 flat_in f b (x ∷ xs) a (inl same) j = in_left b (f x) (flat_map f xs) (subst (λ y. In b (f y)) (sym same) j)
@@ -70,10 +73,12 @@ head_or_later x y ys i = i
 
 -- ---- the elements that pass a test
 
-filter_yes : {A : Type 0} (test : A → Bool) (y : A) (ys : List A) → test y ≡ true → filter test (y ∷ ys) ≡ y ∷ filter test ys
+filter_yes : {A : Type 0} (test : A → Bool) (y : A) (ys : List A) → test y ≡ true →
+    filter test (y ∷ ys) ≡ y ∷ filter test ys
 filter_yes test y ys h = cond-true _ _ _ h
 
-filter_no : {A : Type 0} (test : A → Bool) (y : A) (ys : List A) → test y ≡ false → filter test (y ∷ ys) ≡ filter test ys
+filter_no : {A : Type 0} (test : A → Bool) (y : A) (ys : List A) → test y ≡ false →
+    filter test (y ∷ ys) ≡ filter test ys
 filter_no test y ys h = cond-false _ _ _ h
 
 pub in_filter : {A : Type 0} (test : A → Bool) (x : A) (xs : List A) → In x (filter test xs) → In x xs × (test x ≡ true)
@@ -99,11 +104,13 @@ filter_in test x (y ∷ ys) (inr later) h = elim (cases_Bool (test y)) [
 pub each_filter : {A : Type 0} (P : A → Type 0) (test : A → Bool) (xs : List A) → Each P xs → Each P (filter test xs)
 each_filter P test xs e = in_each P (filter test xs) (λ x i. each_in P xs e x (in_filter test x xs i).0)
 
-pub pairs_filter : {A : Type 0} (R : A → A → Type 0) (test : A → Bool) (xs : List A) → Pairs R xs → Pairs R (filter test xs)
+pub pairs_filter : {A : Type 0} (R : A → A → Type 0) (test : A → Bool) (xs : List A) → Pairs R xs →
+    Pairs R (filter test xs)
 unfolding Pairs
 pairs_filter R test [] p = p
 pairs_filter R test (x ∷ xs) p = elim (cases_Bool (test x)) [
-  | inl holds ↦ subst (Pairs R) (sym (filter_yes test x xs holds)) (each_filter (R x) test xs p.0, pairs_filter R test xs p.1)
+  | inl holds ↦ subst (Pairs R) (sym (filter_yes test x xs holds))
+      (each_filter (R x) test xs p.0, pairs_filter R test xs p.1)
   | inr fails ↦ subst (Pairs R) (sym (filter_no test x xs fails)) (pairs_filter R test xs p.1)
 ]
 
@@ -111,7 +118,8 @@ pairs_filter R test (x ∷ xs) p = elim (cases_Bool (test x)) [
 
 pub line_total : IsTotalOrder line_order
 unfolding line_order
-line_total = then_total (on_total (λ (e : Border). time_rank e.time) nat_cmp_total) (on_total (λ (e : Border). e.cell) cell_total)
+line_total = then_total (on_total (λ (e : Border). time_rank e.time) nat_cmp_total)
+    (on_total (λ (e : Border). e.cell) cell_total)
 
 abbrev pub Rises : List Border → Type 0
 Rises = Pairs (λ d e. line_order d e ≡ Less)
@@ -124,13 +132,15 @@ less_apart Less e h = cc
 less_apart Equal e h = cc
 less_apart Greater e h = cc
 
-pub pairs_each : {A : Type 0} (R S : A → A → Type 0) → ((a b : A) → R a b → S a b) → (xs : List A) → Pairs R xs → Pairs S xs
+pub pairs_each : {A : Type 0} (R S : A → A → Type 0) → ((a b : A) → R a b → S a b) → (xs : List A) → Pairs R xs →
+    Pairs S xs
 unfolding Pairs
 pairs_each R S h [] p = p
 pairs_each R S h (x ∷ xs) p = (each_map (R x) (S x) (h x) xs p.0, pairs_each R S h xs p.1)
 
 pub rising_distinct : (es : List Border) → Rises es → AreDistinct es
-rising_distinct es p = pairs_each (λ d e. line_order d e ≡ Less) (λ d e. line_order d e ≢ Equal) (λ d e. less_apart (line_order d e)) es p
+rising_distinct es p = pairs_each (λ d e. line_order d e ≡ Less) (λ d e. line_order d e ≢ Equal)
+    (λ d e. less_apart (line_order d e)) es p
 
 -- ---- a line more
 
@@ -147,7 +157,8 @@ is_before Greater h = absurd cc
 turned : (d e : Border) → line_order d e ≡ Greater → line_order e d ≡ Less
 turned d e h = line_total.antisymm e d ∙ ap ordering_reverse h
 
-put_parts : (x d e : Border) (es : List Border) (b : Bool) → (In x (put_line d es) → (d ≡ x) ⊎ In x es) → In x (if b then d ∷ e ∷ es else e ∷ put_line d es) → (d ≡ x) ⊎ In x (e ∷ es)
+put_parts : (x d e : Border) (es : List Border) (b : Bool) → (In x (put_line d es) → (d ≡ x) ⊎ In x es) →
+    In x (if b then d ∷ e ∷ es else e ∷ put_line d es) → (d ≡ x) ⊎ In x (e ∷ es)
 unfolding In
 put_parts x d e es true h i = i
 put_parts x d e es false h (inl same) = inr (inl same)
@@ -156,7 +167,8 @@ put_parts x d e es false h (inr later) = elim (h later) [
   | inr more ↦ inr (inr more)
 ]
 
-put_back : (x d e : Border) (es : List Border) (b : Bool) → ((d ≡ x) ⊎ In x es → In x (put_line d es)) → (d ≡ x) ⊎ In x (e ∷ es) → In x (if b then d ∷ e ∷ es else e ∷ put_line d es)
+put_back : (x d e : Border) (es : List Border) (b : Bool) → ((d ≡ x) ⊎ In x es → In x (put_line d es)) →
+    (d ≡ x) ⊎ In x (e ∷ es) → In x (if b then d ∷ e ∷ es else e ∷ put_line d es)
 unfolding In
 put_back x d e es true h i = i
 put_back x d e es false h (inl same) = inr (h (inl same))
@@ -173,13 +185,21 @@ unfolding put_line In
 put_in x d [] i = i
 put_in x d (e ∷ es) i = put_back x d e es (is_lt (line_order d e)) (put_in x d es) i
 
-pub put_rises : (d : Border) (es : List Border) → Rises es → Each (λ e. line_order d e ≢ Equal) es → Rises (put_line d es)
+pub put_rises : (d : Border) (es : List Border) → Rises es → Each (λ e. line_order d e ≢ Equal) es →
+    Rises (put_line d es)
 unfolding put_line Each Pairs
 put_rises d [] p n = (tt, tt)
 put_rises d (e ∷ es) p n = elim (cases_Bool (is_lt (line_order d e))) [
   | inl holds ↦
       let less = is_before (line_order d e) holds in
-      subst Rises (sym (cond-true _ _ _ holds)) ((less, each_map (λ f. line_order e f ≡ Less) (λ f. line_order d f ≡ Less) (λ f h. line_total.trans d e f less h) es p.0), p)
+      subst Rises (sym (cond-true _ _ _ holds)) (
+        (
+          less,
+          each_map (λ f. line_order e f ≡ Less) (λ f. line_order d f ≡ Less)
+              (λ f h. line_total.trans d e f less h) es p.0,
+        ),
+        p,
+      )
   | inr fails ↦
       let less = turned d e (after_line (line_order d e) n.0 fails) in
       subst Rises (sym (cond-false _ _ _ fails)) (
@@ -211,7 +231,9 @@ pub ordered_rises : (ds : List Border) → AreDistinct ds → Rises (in_order ds
 unfolding in_order Pairs
 ordered_rises [] p = tt
 ordered_rises (d ∷ ds) p =
-    put_rises d (in_order ds) (ordered_rises ds p.1) (in_each (λ e. line_order d e ≢ Equal) (in_order ds) (λ e i. each_in (λ e. line_order d e ≢ Equal) ds p.0 e (in_ordered e ds i)))
+    put_rises d (in_order ds) (ordered_rises ds p.1)
+    (in_each (λ e. line_order d e ≢ Equal) (in_order ds)
+    (λ e i. each_in (λ e. line_order d e ≢ Equal) ds p.0 e (in_ordered e ds i)))
 
 -- ---- lists that rise and have the same elements are the same
 
@@ -224,20 +246,23 @@ not_itself d h = never_before d d h h
 abbrev Among : List Border → List Border → Type 0
 Among xs ys = (x : Border) → In x xs → In x ys
 
-first_same : (d e : Border) (ds es : List Border) → Rises (d ∷ ds) → Rises (e ∷ es) → Among (d ∷ ds) (e ∷ es) → Among (e ∷ es) (d ∷ ds) → d ≡ e
+first_same : (d e : Border) (ds es : List Border) → Rises (d ∷ ds) → Rises (e ∷ es) → Among (d ∷ ds) (e ∷ es) →
+    Among (e ∷ es) (d ∷ ds) → d ≡ e
 unfolding Pairs In
 first_same d e ds es p q f g = elim (f d (inl refl)) [
   | inl same ↦ sym same
   | inr later ↦ elim (g e (inl refl)) [
     | inl same ↦ same
-    | inr last ↦ absurd (never_before d e (each_in (λ x. line_order d x ≡ Less) ds p.0 e last) (each_in (λ x. line_order e x ≡ Less) es q.0 d later))
+    | inr last ↦ absurd (never_before d e (each_in (λ x. line_order d x ≡ Less) ds p.0 e last)
+        (each_in (λ x. line_order e x ≡ Less) es q.0 d later))
   ]
 ]
 
 rest_among : (d : Border) (ds es : List Border) → Rises (d ∷ ds) → Among (d ∷ ds) (d ∷ es) → Among ds es
 unfolding Pairs In
 rest_among d ds es p f x i = elim (f x (inr i)) [
-  | inl same ↦ absurd (not_itself d (subst (λ y. line_order d y ≡ Less) (sym same) (each_in (λ y. line_order d y ≡ Less) ds p.0 x i)))
+  | inl same ↦ absurd (not_itself d
+      (subst (λ y. line_order d y ≡ Less) (sym same) (each_in (λ y. line_order d y ≡ Less) ds p.0 x i)))
   | inr later ↦ later
 ]
 

@@ -1,5 +1,6 @@
 -- The lines from a place on
-use Rattle.std.proofs.Common.{◌≡◌, ℕ, suc, ◌+◌, ◌<◌, List, [], ◌∷◌, drop, length, get_or, refl, sym, ap, ◌∙◌, arith, ◌-◌, take}
+use Rattle.std.proofs.Common.{◌≡◌, ℕ, suc, ◌+◌, ◌<◌, List, [], ◌∷◌, drop, length, get_or, refl, sym, ap, ◌∙◌, arith}
+use Rattle.std.proofs.Common.{◌-◌, take}
 use Rattle.std.proofs.Math.Seq.{drop-cons}
 use Rattle.certificate_lines.specs.Entries.{modules_of}
 use Rattle.certificate_lines.specs.declared.entry.Entry.{Entry}
@@ -11,7 +12,8 @@ rest_of_lines xs n =
     let h = length-drop n xs in
     take_all (length xs - n) (drop n xs) (omega (arith, h))
 
-pub line_here : (es : List Entry) (place : ℕ) (e : Entry) → place < length es → e ≡ get_or es place e → drop place es ≡ e ∷ drop (place + 1) es
+pub line_here : (es : List Entry) (place : ℕ) (e : Entry) → place < length es → e ≡ get_or es place e →
+    drop place es ≡ e ∷ drop (place + 1) es
 line_here es place e lt g =
     let n : place + 1 ≡ suc place = omega arith in
     drop-cons es place e lt ∙ ap (λ x. x ∷ drop (suc place) es) (sym g) ∙ ap (λ k. e ∷ drop k es) (sym n)

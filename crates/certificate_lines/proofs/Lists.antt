@@ -1,5 +1,6 @@
 -- Elements of lists, by their places.
-use Rattle.std.proofs.Common.{◌≡◌, ◌⊎◌, ℕ, zero, suc, Bool, true, false, ◌||◌, List, [], ◌∷◌, ◌++◌, Option, Some, refl, sym, inl, inr}
+use Rattle.std.proofs.Common.{◌≡◌, ◌⊎◌, ℕ, zero, suc, Bool, true, false, ◌||◌, List, [], ◌∷◌, ◌++◌, Option, Some, refl}
+use Rattle.std.proofs.Common.{sym, inl, inr}
 use Rattle.std.specs.Prelude.{slice_get}
 use Rattle.std.specs.List.{list_any}
 
@@ -41,7 +42,8 @@ passed test (x ∷ xs) h = elim (or_parts (test x) (list_any test xs) h) [
   | inr later ↦ one_later test x xs (passed test xs later)
 ]
 
-pub any_at : {A : Type 0} (test : A → Bool) (xs : List A) (i : ℕ) (a : A) → slice_get xs i ≡ Some a → test a ≡ true → list_any test xs ≡ true
+pub any_at : {A : Type 0} (test : A → Bool) (xs : List A) (i : ℕ) (a : A) → slice_get xs i ≡ Some a → test a ≡ true →
+    list_any test xs ≡ true
 any_at test [] i a e h = absurd cc
 any_at test (x ∷ xs) zero a e h = rw (some_is x a e, h) refl
 any_at test (x ∷ xs) (suc i) a e h = or_right (test x) (list_any test xs) (any_at test xs i a e h)

@@ -1,5 +1,6 @@
 -- The lines of local wires after one more cut, and after one more used gate.
-use Rattle.std.proofs.Common.{◌≡◌, ℕ, zero, suc, ◌<◌, ◌==◌, Bool, true, false, not, List, [], ◌∷◌, ◌++◌, take, length, Option, Some, refl, sym, ap, subst, ◌∙◌, inl, inr, arith, rules, append-nil, append_assoc}
+use Rattle.std.proofs.Common.{◌≡◌, ℕ, zero, suc, ◌<◌, ◌==◌, Bool, true, false, not, List, [], ◌∷◌, ◌++◌, take, length}
+use Rattle.std.proofs.Common.{Option, Some, refl, sym, ap, subst, ◌∙◌, inl, inr, arith, rules, append-nil, append_assoc}
 use Rattle.std.specs.Prelude.{slice_get}
 use Rattle.std.specs.List.{All, flat_map, list_all}
 use Rattle.std.specs.Option.{option_map_or}
@@ -48,20 +49,24 @@ unfolding are_new
 different_append [] xs different new = subst AreDifferent (sym (append-nil xs)) different
 different_append (y ∷ ys) xs different new =
     let both = and_parts (not (is_among xs y)) (are_new (xs ++ y ∷ []) ys) new in
-    subst AreDifferent (append_assoc xs (y ∷ []) ys) (different_append ys (xs ++ y ∷ []) (different_push xs y different (not_true (is_among xs y) both.0)) both.1)
+    subst AreDifferent (append_assoc xs (y ∷ []) ys)
+    (different_append ys (xs ++ y ∷ []) (different_push xs y different (not_true (is_among xs y) both.0)) both.1)
 
 -- ---- cuts
 
 none_at : {A : Type 0} (i : ℕ) (a : A) → slice_get [] i ≡ Some a → ⊥
 none_at i a e = cc
 
-pub local_cut : (n : Netlist) (cw : List ℕ) (w : ℕ) → AreLocalLines n cw [] → length cw < 12 → is_among (local_wires n cw []) w ≡ false → AreLocalLines n (cw ++ w ∷ []) []
+pub local_cut : (n : Netlist) (cw : List ℕ) (w : ℕ) → AreLocalLines n cw [] → length cw < 12 →
+    is_among (local_wires n cw []) w ≡ false → AreLocalLines n (cw ++ w ∷ []) []
 local_cut n cw w l few fresh = record {
   few_cuts = let e = length_push cw w in omega (arith, e);
   few_gates = l.few_gates;
   rising = λ i j k m lt e f. absurd (none_at i k e);
   known = λ i k e. absurd (none_at i k e);
-  different = subst AreDifferent (sym (append-nil (cw ++ w ∷ []))) (different_push cw w (subst AreDifferent (append-nil cw) l.different) (ap (λ (ws : List ℕ). is_among ws w) (sym (append-nil cw)) ∙ fresh));
+  different = subst AreDifferent (sym (append-nil (cw ++ w ∷ [])))
+      (different_push cw w (subst AreDifferent (append-nil cw) l.different)
+      (ap (λ (ws : List ℕ). is_among ws w) (sym (append-nil cw)) ∙ fresh));
 }
 
 -- ---- used gates
@@ -69,9 +74,12 @@ local_cut n cw w l few fresh = record {
 pub outs_is : (n : Netlist) (k : ℕ) (g : Gate) → slice_get n.gates k ≡ Some g → outs_of n k ≡ g.outs
 outs_is n k g e = ap (λ (o : Option Gate). option_map_or (λ x. x.outs) o []) e
 
-pub local_more : (n : Netlist) (cw gs : List ℕ) (k : ℕ) (g : Gate) → slice_get n.gates k ≡ Some g → local_wires n cw (gs ++ k ∷ []) ≡ local_wires n cw gs ++ g.outs
+pub local_more : (n : Netlist) (cw gs : List ℕ) (k : ℕ) (g : Gate) → slice_get n.gates k ≡ Some g →
+    local_wires n cw (gs ++ k ∷ []) ≡ local_wires n cw gs ++ g.outs
 local_more n cw gs k g e =
-    ap (λ (l : List ℕ). cw ++ l) (flat_push (outs_of n) gs k ∙ ap (λ (l : List ℕ). flat_map (outs_of n) gs ++ l) (outs_is n k g e)) ∙ sym (append_assoc cw (flat_map (outs_of n) gs) g.outs)
+    ap (λ (l : List ℕ). cw ++ l) (flat_push (outs_of n) gs k
+    ∙ ap (λ (l : List ℕ). flat_map (outs_of n) gs ++ l) (outs_is n k g e))
+    ∙ sym (append_assoc cw (flat_map (outs_of n) gs) g.outs)
 
 take_within : (xs ys : List ℕ) (i : ℕ) → i < length xs → take i (xs ++ ys) ≡ take i xs
 take_within [] ys i h = absurd (omega arith)
@@ -81,8 +89,10 @@ take_within (x ∷ xs) ys (suc i) h = ap (λ (l : List ℕ). x ∷ l) (take_with
 at_all : (P : ℕ → Type 0) (xs : List ℕ) (i x : ℕ) → All P xs → slice_get xs i ≡ Some x → P x
 at_all P xs i x all e = subst P (get_or_from_slice_get xs i x x e) (All-get_or P xs i x (slice_get_within xs i x e) all)
 
-module _ (n : Netlist) (cw gs : List ℕ) (k : ℕ) (g : Gate) (l : AreLocalLines n cw gs) (at : slice_get n.gates k ≡ Some g) (lower : All (λ j. j < k) gs)
-    (ins : list_all (is_among (local_wires n cw gs)) g.ins ≡ true) (new : are_new (local_wires n cw gs) g.outs ≡ true) where
+module _ (n : Netlist) (cw gs : List ℕ) (k : ℕ) (g : Gate) (l : AreLocalLines n cw gs)
+    (at : slice_get n.gates k ≡ Some g) (lower : All (λ j. j < k) gs)
+    (ins : list_all (is_among (local_wires n cw gs)) g.ins ≡ true)
+    (new : are_new (local_wires n cw gs) g.outs ≡ true) where
   rises : (i j a b : ℕ) → i < j → slice_get (gs ++ k ∷ []) i ≡ Some a → slice_get (gs ++ k ∷ []) j ≡ Some b → a < b
   rises i j a b lt e f = elim (pushed gs k j b f) [
     | inl old' ↦ elim (pushed gs k i a e) [
@@ -96,14 +106,18 @@ module _ (n : Netlist) (cw gs : List ℕ) (k : ℕ) (g : Gate) (l : AreLocalLine
   ]
 
   last_known : IsKnown n (local_wires n cw gs) k
-  last_known = record { gate = g; numbered = at; ins = AllPass-from_list_all (is_among (local_wires n cw gs)) g.ins ins }
+  last_known =
+      record { gate = g; numbered = at; ins = AllPass-from_list_all (is_among (local_wires n cw gs)) g.ins ins }
 
   knows : (i a : ℕ) → slice_get (gs ++ k ∷ []) i ≡ Some a → IsKnown n (local_wires n cw (take i (gs ++ k ∷ []))) a
   knows i a e = elim (pushed gs k i a e) [
-    | inl old ↦ subst (λ (t : List ℕ). IsKnown n (local_wires n cw t) a) (sym (take_within gs (k ∷ []) i (slice_get_within gs i a old))) (l.known i a old)
+    | inl old ↦ subst (λ (t : List ℕ). IsKnown n (local_wires n cw t) a)
+        (sym (take_within gs (k ∷ []) i (slice_get_within gs i a old))) (l.known i a old)
     | inr last ↦
-        let all : take i (gs ++ k ∷ []) ≡ gs = ap (λ (j : ℕ). take j (gs ++ k ∷ [])) last.0 ∙ take-append_seam gs (k ∷ []) in
-        subst (λ (t : List ℕ). IsKnown n (local_wires n cw t) a) (sym all) (subst (λ (x : ℕ). IsKnown n (local_wires n cw gs) x) last.1 last_known)
+        let all : take i (gs ++ k ∷ []) ≡ gs =
+        ap (λ (j : ℕ). take j (gs ++ k ∷ [])) last.0 ∙ take-append_seam gs (k ∷ []) in
+        subst (λ (t : List ℕ). IsKnown n (local_wires n cw t) a) (sym all)
+        (subst (λ (x : ℕ). IsKnown n (local_wires n cw gs) x) last.1 last_known)
   ]
 
   pub local_use : length gs < 64 → AreLocalLines n cw (gs ++ k ∷ [])
@@ -112,5 +126,6 @@ module _ (n : Netlist) (cw gs : List ℕ) (k : ℕ) (g : Gate) (l : AreLocalLine
     few_gates = let e = length_push gs k in omega (arith, e);
     rising = rises;
     known = knows;
-    different = subst AreDifferent (sym (local_more n cw gs k g at)) (different_append g.outs (local_wires n cw gs) l.different new);
+    different = subst AreDifferent (sym (local_more n cw gs k g at))
+        (different_append g.outs (local_wires n cw gs) l.different new);
   }

@@ -1,5 +1,6 @@
 -- A module after one more line.
-use Rattle.std.proofs.Common.{◌≡◌, ℕ, ◌<◌, Bool, true, false, ◌&&◌, ◌||◌, List, [], ◌∷◌, ◌++◌, Ordering, Less, Equal, Greater, refl, ap₂, ◌∙◌, arith}
+use Rattle.std.proofs.Common.{◌≡◌, ℕ, ◌<◌, Bool, true, false, ◌&&◌, ◌||◌, List, [], ◌∷◌, ◌++◌, Ordering, Less, Equal}
+use Rattle.std.proofs.Common.{Greater, refl, ap₂, ◌∙◌, arith}
 use Rattle.std.specs.List.{All, flat_map, list_all}
 use Rattle.std.specs.Ordering.{nat_cmp, is_lt, ordering_then}
 use Rattle.std.proofs.lemmas.Bool.{and_parts}
@@ -7,7 +8,8 @@ use Rattle.std.proofs.lemmas.List.Elements.{All-nil, All-push, All-append}
 use Rattle.std.proofs.lemmas.List.Folds.{list_all-append}
 use Rattle.module_box.specs.Moments.{cell_cmp}
 use Rattle.certificate_lines.specs.Entries.{use_in, keep_in, edge_in, halo_in, stop_in}
-use Rattle.certificate_lines.specs.Orders.{AreInOrder, rank_of, number_of, cell_of, line_cmp, is_cut, may_precede, may_follow}
+use Rattle.certificate_lines.specs.Orders.{AreInOrder, rank_of, number_of, cell_of, line_cmp, is_cut, may_precede}
+use Rattle.certificate_lines.specs.Orders.{may_follow}
 use Rattle.certificate_lines.specs.declared.entry.Border.{Border}
 use Rattle.certificate_lines.specs.declared.entry.Entry.{Entry}
 use Rattle.certificate_lines.specs.declared.entry.StopLine.{StopLine}
@@ -17,14 +19,16 @@ use Rattle.certificate_lines.specs.declared.entry.Entry.TheVariants.{Module, Cut
 
 module _ {A : Type 0} (f : Entry → List A) (k : Entry) where
   -- where no line that may precede k has any, lines that k may follow have none
-  pub none_before : ((j : Entry) → may_precede j k ≡ true → f j ≡ []) → (lines : List Entry) → may_follow lines k ≡ true → flat_map f lines ≡ []
+  pub none_before : ((j : Entry) → may_precede j k ≡ true → f j ≡ []) → (lines : List Entry) →
+      may_follow lines k ≡ true → flat_map f lines ≡ []
   unfolding may_follow
   none_before none [] h = refl
   none_before none (j ∷ lines) h =
       let both = and_parts (may_precede j k) (list_all (λ i. may_precede i k) lines) h in
       ap₂ (λ xs ys. xs ++ ys) (none j both.0) (none_before none lines both.1)
 
-  pub all_before : (P : A → Type 0) → ((j : Entry) → may_precede j k ≡ true → All P (f j)) → (lines : List Entry) → may_follow lines k ≡ true → All P (flat_map f lines)
+  pub all_before : (P : A → Type 0) → ((j : Entry) → may_precede j k ≡ true → All P (f j)) → (lines : List Entry) →
+      may_follow lines k ≡ true → All P (flat_map f lines)
   unfolding may_follow
   all_before P each [] h = All-nil P
   all_before P each (j ∷ lines) h =
@@ -202,10 +206,12 @@ lower_uses k (Stop s) h = All-nil (λ (g : ℕ). g < k)
 
 -- ---- order
 
-list_all_push : (i j : Entry) (lines : List Entry) → list_all (may_precede i) lines ≡ true → may_precede i j ≡ true → list_all (may_precede i) (lines ++ j ∷ []) ≡ true
+list_all_push : (i j : Entry) (lines : List Entry) → list_all (may_precede i) lines ≡ true → may_precede i j ≡ true →
+    list_all (may_precede i) (lines ++ j ∷ []) ≡ true
 list_all_push i j lines h k = list_all-append (may_precede i) lines (j ∷ []) ∙ rw (h, k) refl
 
-pub order_push : (lines : List Entry) (j : Entry) → AreInOrder lines → may_follow lines j ≡ true → AreInOrder (lines ++ j ∷ [])
+pub order_push : (lines : List Entry) (j : Entry) → AreInOrder lines → may_follow lines j ≡ true →
+    AreInOrder (lines ++ j ∷ [])
 unfolding AreInOrder may_follow
 order_push [] j order h = (refl, tt)
 order_push (i ∷ lines) j order h =

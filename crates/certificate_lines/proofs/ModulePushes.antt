@@ -1,5 +1,6 @@
 -- A module that is good stays so after one more line that is good.
-use Rattle.std.proofs.Common.{◌≡◌, ℕ, ◌+◌, ◌%◌, ◌<◌, ◌≤◌, Bool, true, false, not, ◌&&◌, ◌||◌, List, [], ◌∷◌, ◌++◌, length, Option, Some, None, refl, sym, ap, ap₂, subst, ◌∙◌, arith, append-nil}
+use Rattle.std.proofs.Common.{◌≡◌, ℕ, ◌+◌, ◌%◌, ◌<◌, ◌≤◌, Bool, true, false, not, ◌&&◌, ◌||◌, List, [], ◌∷◌, ◌++◌}
+use Rattle.std.proofs.Common.{length, Option, Some, None, refl, sym, ap, ap₂, subst, ◌∙◌, arith, append-nil}
 use Rattle.std.specs.Prelude.{slice_get, nat_le, nat_lt, IfSome, IsTrue}
 use Rattle.std.specs.List.{All, flat_map, list_any, list_all}
 use Rattle.std.specs.Option.{option_to_list}
@@ -12,9 +13,13 @@ use Rattle.circuit.specs.Meaning.{Circuit, Gate, wire_of}
 use Rattle.module_box.specs.Boxes.{in_box, in_ring, in_halo}
 use Rattle.module_box.specs.Locals.{AreLocalLines, is_among, local_wires}
 use Rattle.module_box.specs.declared.boxes.Box2.{Box2}
-use Rattle.certificate_lines.specs.Entries.{Setting, ModuleLines, with_line, cut_in, use_in, keep_in, edge_in, halo_in, stop_in, cuts, gates, keeps, edges, halos, stops, cut_wires, known}
+use Rattle.certificate_lines.specs.Entries.{Setting, ModuleLines, with_line, cut_in, use_in, keep_in, edge_in, halo_in}
+use Rattle.certificate_lines.specs.Entries.{stop_in, cuts, gates, keeps, edges, halos, stops, cut_wires, known}
 use Rattle.certificate_lines.specs.Orders.{may_follow}
-use Rattle.certificate_lines.specs.Rules.{is_odd, is_local, is_star, are_new, cut_fault, cut_wire_fault, gate_fault, use_fault, keep_fault, is_starred, is_time, is_edge_place, is_halo_place, is_stop_place, signal_fault, wire_fault, border_fault, border_count, border_limit, edge_fault, halo_fault, stop_fault}
+use Rattle.certificate_lines.specs.Rules.{is_odd, is_local, is_star, are_new, cut_fault, cut_wire_fault, gate_fault}
+use Rattle.certificate_lines.specs.Rules.{use_fault, keep_fault, is_starred, is_time, is_edge_place, is_halo_place}
+use Rattle.certificate_lines.specs.Rules.{is_stop_place, signal_fault, wire_fault, border_fault, border_count}
+use Rattle.certificate_lines.specs.Rules.{border_limit, edge_fault, halo_fault, stop_fault}
 use Rattle.certificate_lines.specs.Modules.{AreUnstarred, IsEdge, IsHalo, IsKeep, IsModule, IsStop}
 use Rattle.certificate_lines.specs.BuilderView.{IsWritten}
 use Rattle.certificate_lines.specs.declared.entry.Border.{Border}
@@ -22,7 +27,10 @@ use Rattle.certificate_lines.specs.declared.entry.Entry.{Entry}
 use Rattle.certificate_lines.specs.declared.entry.StopLine.{StopLine}
 use Rattle.certificate_lines.specs.declared.entry.Entry.TheVariants.{Cut, Use, Keep, Edge, Halo, Stop}
 use Rattle.certificate_lines.proofs.Growing.{flat_push, flat_same}
-use Rattle.certificate_lines.proofs.ModuleLemmas.{none_before, all_before, no_use_before_cut, no_keep_before_cut, no_keep_before_use, no_edge_before_cut, no_halo_before_cut, no_stop_before_cut, no_edge_before_use, no_halo_before_use, no_stop_before_use, no_halo_before_edge, lower_uses, order_push}
+use Rattle.certificate_lines.proofs.ModuleLemmas.{none_before, all_before, no_use_before_cut, no_keep_before_cut}
+use Rattle.certificate_lines.proofs.ModuleLemmas.{no_keep_before_use, no_edge_before_cut, no_halo_before_cut}
+use Rattle.certificate_lines.proofs.ModuleLemmas.{no_stop_before_cut, no_edge_before_use, no_halo_before_use}
+use Rattle.certificate_lines.proofs.ModuleLemmas.{no_stop_before_use, no_halo_before_edge, lower_uses, order_push}
 use Rattle.certificate_lines.proofs.LocalLemmas.{local_cut, local_use, local_more}
 
 -- ---- tests that a line passed
@@ -57,11 +65,13 @@ pub record IsNewWire (c : Circuit) (local : List ℕ) (name : List ℕ) : Type 0
   pub named : wire_of c name ≡ Some wire
   pub new : is_among local wire ≡ false
 
-new_by : (local : List ℕ) (o : Option ℕ) → cut_wire_fault local o ≡ None → (w : ℕ) × (o ≡ Some w) × (is_among local w ≡ false)
+new_by : (local : List ℕ) (o : Option ℕ) → cut_wire_fault local o ≡ None →
+    (w : ℕ) × (o ≡ Some w) × (is_among local w ≡ false)
 new_by local None e = absurd cc
 new_by local (Some w) e = (w, refl, no_code (is_among local w) 4 e)
 
-pub new_wire : (c : Circuit) (count : ℕ) (local : List ℕ) (name : List ℕ) → cut_fault c count local name ≡ None → (count < 12) × IsNewWire c local name
+pub new_wire : (c : Circuit) (count : ℕ) (local : List ℕ) (name : List ℕ) → cut_fault c count local name ≡ None →
+    (count < 12) × IsNewWire c local name
 unfolding cut_fault
 new_wire c count local name e =
     let parts = both_none _ _ e in
@@ -71,7 +81,8 @@ new_wire c count local name e =
 pub cuts_cut : (m : ModuleLines) (n : List ℕ) → cuts (with_line (Cut n) m) ≡ cuts m ++ n ∷ []
 cuts_cut m n = flat_push cut_in m.lines (Cut n)
 
-pub cut_wires_cut : (c : Circuit) (m : ModuleLines) (n : List ℕ) (w : ℕ) → wire_of c n ≡ Some w → cut_wires c (with_line (Cut n) m) ≡ cut_wires c m ++ w ∷ []
+pub cut_wires_cut : (c : Circuit) (m : ModuleLines) (n : List ℕ) (w : ℕ) → wire_of c n ≡ Some w →
+    cut_wires c (with_line (Cut n) m) ≡ cut_wires c m ++ w ∷ []
 cut_wires_cut c m n w e =
     let f : List ℕ → List ℕ = λ x. option_to_list (wire_of c x) in
     ap (flat_map f) (cuts_cut m n) ∙ flat_push f (cuts m) n ∙ ap (λ o. cut_wires c m ++ option_to_list o) e
@@ -93,30 +104,37 @@ first_free true here more h = refl
 first_free false true more h = absurd cc
 first_free false false more h = refl
 
-all_pushed : (test : Border → Bool) (es : List Border) (e : Border) → list_all test es ≡ true → test e ≡ true → list_all test (es ++ e ∷ []) ≡ true
+all_pushed : (test : Border → Bool) (es : List Border) (e : Border) → list_all test es ≡ true → test e ≡ true →
+    list_all test (es ++ e ∷ []) ≡ true
 all_pushed test [] e h k = rw k refl
 all_pushed test (d ∷ es) e h k =
     let both = and_parts (test d) (list_all test es) h in
     rw (both.0, all_pushed test es e both.1 k) refl
 
-unstarred_push : (es : List Border) (e : Border) → AreUnstarred es → (is_star e.time || not (list_any (is_starred e.cell) es)) ≡ true → AreUnstarred (es ++ e ∷ [])
+unstarred_push : (es : List Border) (e : Border) → AreUnstarred es →
+    (is_star e.time || not (list_any (is_starred e.cell) es)) ≡ true → AreUnstarred (es ++ e ∷ [])
 unfolding AreUnstarred
 unstarred_push [] e u h = (refl, tt)
 unstarred_push (d ∷ es) e u h = (
-  all_pushed (λ e. is_star e.time || not (is_starred e.cell d)) es e u.0 (first_free (is_star e.time) (is_starred e.cell d) (list_any (is_starred e.cell) es) h),
+  all_pushed (λ e. is_star e.time || not (is_starred e.cell d)) es e u.0
+      (first_free (is_star e.time) (is_starred e.cell d) (list_any (is_starred e.cell) es) h),
   unstarred_push es e u.1 (kept_free (is_star e.time) (is_starred e.cell d) (list_any (is_starred e.cell) es) h),
 )
 
-free_time : (steps : ℕ) (starred : Bool) (t : Option ℕ) → is_time steps starred t ≡ true → (is_star t || not starred) ≡ true
+free_time : (steps : ℕ) (starred : Bool) (t : Option ℕ) → is_time steps starred t ≡ true →
+    (is_star t || not starred) ≡ true
 unfolding is_time
 free_time steps starred None e = refl
 free_time steps starred (Some t) e = (and_parts (is_odd t && nat_lt t steps) (not starred) e).1
 
-free_of_star : (g : Setting) (area : Box2) (starred : Bool) (e : Border) → is_edge_place g.size area starred e ≡ true → (is_star e.time || not starred) ≡ true
+free_of_star : (g : Setting) (area : Box2) (starred : Bool) (e : Border) → is_edge_place g.size area starred e ≡ true →
+    (is_star e.time || not starred) ≡ true
 unfolding is_edge_place
-free_of_star g area starred e place = free_time g.size.steps starred e.time (and_parts _ (is_time g.size.steps starred e.time) place).1
+free_of_star g area starred e place =
+    free_time g.size.steps starred e.time (and_parts _ (is_time g.size.steps starred e.time) place).1
 
-module _ (g : Setting) (m : ModuleLines) (is : IsModule g m) (n : List ℕ) (follows : may_follow m.lines (Cut n) ≡ true) where
+module _ (g : Setting) (m : ModuleLines) (is : IsModule g m) (n : List ℕ)
+    (follows : may_follow m.lines (Cut n) ≡ true) where
   no_gates : gates m ≡ []
   no_gates = none_before use_in (Cut n) (no_use_before_cut n) m.lines follows
 
@@ -163,9 +181,11 @@ module _ (g : Setting) (m : ModuleLines) (is : IsModule g m) (n : List ℕ) (fol
 
     pub cut_pushed : length (cuts m) < 12 → is_among (known g.circuit m) w ≡ false → IsWritten g more
     cut_pushed few new =
-        let before : AreLocalLines g.circuit.netlist (cut_wires g.circuit m) [] = subst (AreLocalLines g.circuit.netlist (cut_wires g.circuit m)) no_gates is.local in
+        let before : AreLocalLines g.circuit.netlist (cut_wires g.circuit m) [] =
+        subst (AreLocalLines g.circuit.netlist (cut_wires g.circuit m)) no_gates is.local in
         let room : length (cut_wires g.circuit m) < 12 = let e = is.named in omega (arith, e) in
-        let fresh : is_among (local_wires g.circuit.netlist (cut_wires g.circuit m) []) w ≡ false = ap (λ l. is_among l w) (sym known_none) ∙ new in
+        let fresh : is_among (local_wires g.circuit.netlist (cut_wires g.circuit m) []) w ≡ false =
+        ap (λ l. is_among l w) (sym known_none) ∙ new in
         let after = local_cut g.circuit.netlist (cut_wires g.circuit m) w before room fresh in
         record {
           good = record {
@@ -173,8 +193,10 @@ module _ (g : Setting) (m : ModuleLines) (is : IsModule g m) (n : List ℕ) (fol
             wide = is.wide;
             high = is.high;
             inside = is.inside;
-            named = ap length (cut_wires_cut g.circuit m n w named) ∙ length_push (cut_wires g.circuit m) w ∙ ap (λ k. k + 1) is.named ∙ sym (ap length (cuts_cut m n) ∙ length_push (cuts m) n);
-            local = subst (λ gs. AreLocalLines g.circuit.netlist (cut_wires g.circuit more) gs) (sym gates_are) (subst (λ cs. AreLocalLines g.circuit.netlist cs []) (sym (cut_wires_cut g.circuit m n w named)) after);
+            named = ap length (cut_wires_cut g.circuit m n w named) ∙ length_push (cut_wires g.circuit m) w
+                ∙ ap (λ k. k + 1) is.named ∙ sym (ap length (cuts_cut m n) ∙ length_push (cuts m) n);
+            local = subst (λ gs. AreLocalLines g.circuit.netlist (cut_wires g.circuit more) gs) (sym gates_are)
+                (subst (λ cs. AreLocalLines g.circuit.netlist cs []) (sym (cut_wires_cut g.circuit m n w named)) after);
             order = order_push m.lines (Cut n) is.order follows;
             keep_lines = at_nil (IsKeep g (gates more)) (keeps more) keeps_are;
             unstarred = unstarred_nil (edges more) edges_are;
@@ -182,7 +204,8 @@ module _ (g : Setting) (m : ModuleLines) (is : IsModule g m) (n : List ℕ) (fol
             halo_lines = at_nil (IsHalo g m.area (known g.circuit more)) (halos more) halos_are;
             stop_lines = at_nil (IsStop g m.area (known g.circuit more)) (stops more) stops_are;
           };
-          few_borders = let e = ap length edges_are in let h = ap length halos_are in let s = ap length stops_are in omega (arith, e, h, s);
+          few_borders = let e = ap length edges_are in let h = ap length halos_are in let s = ap length stops_are in
+              omega (arith, e, h, s);
         }
 
 -- ---- a used gate
@@ -194,14 +217,16 @@ pub record IsGoodUse (c : Circuit) (local : List ℕ) (k : ℕ) : Type 0 where
   pub ins : list_all (is_among local) gate.ins ≡ true
   pub outs : are_new local gate.outs ≡ true
 
-gate_by : (local : List ℕ) (o : Option Gate) → gate_fault local o ≡ None → (g : Gate) × (o ≡ Some g) × (list_all (is_among local) g.ins ≡ true) × (are_new local g.outs ≡ true)
+gate_by : (local : List ℕ) (o : Option Gate) → gate_fault local o ≡ None →
+    (g : Gate) × (o ≡ Some g) × (list_all (is_among local) g.ins ≡ true) × (are_new local g.outs ≡ true)
 unfolding gate_fault
 gate_by local None e = absurd cc
 gate_by local (Some g) e =
     let parts = both_none _ _ e in
     (g, refl, not_false _ (no_code _ 9 parts.0), not_false _ (no_code _ 4 parts.1))
 
-pub good_use : (c : Circuit) (count : ℕ) (local : List ℕ) (k : ℕ) → use_fault c count local k ≡ None → (count < 64) × IsGoodUse c local k
+pub good_use : (c : Circuit) (count : ℕ) (local : List ℕ) (k : ℕ) → use_fault c count local k ≡ None →
+    (count < 64) × IsGoodUse c local k
 unfolding use_fault
 good_use c count local k e =
     let parts = both_none _ _ e in
@@ -218,19 +243,26 @@ module _ (g : Setting) (m : ModuleLines) (k : ℕ) where
   cut_wires_use : cut_wires g.circuit used ≡ cut_wires g.circuit m
   cut_wires_use = ap (flat_map (λ n. option_to_list (wire_of g.circuit n))) (flat_same cut_in m.lines (Use k) refl)
 
-  pub known_use : (gate : Gate) → slice_get g.circuit.netlist.gates k ≡ Some gate → known g.circuit used ≡ known g.circuit m ++ gate.outs
+  pub known_use : (gate : Gate) → slice_get g.circuit.netlist.gates k ≡ Some gate →
+      known g.circuit used ≡ known g.circuit m ++ gate.outs
   known_use gate at =
       ap₂ (λ cs gs. local_wires g.circuit.netlist cs gs) cut_wires_use (gates_use m k)
       ∙ local_more g.circuit.netlist (cut_wires g.circuit m) (gates m) k gate at
 
-  pub use_pushed : IsModule g m → may_follow m.lines (Use k) ≡ true → length (gates m) < 64 → IsGoodUse g.circuit (known g.circuit m) k → IsWritten g used
+  pub use_pushed : IsModule g m → may_follow m.lines (Use k) ≡ true → length (gates m) < 64 →
+      IsGoodUse g.circuit (known g.circuit m) k → IsWritten g used
   use_pushed is follows few good =
-      let edges_are : edges used ≡ [] = flat_same edge_in m.lines (Use k) refl ∙ none_before edge_in (Use k) (no_edge_before_use k) m.lines follows in
-      let halos_are : halos used ≡ [] = flat_same halo_in m.lines (Use k) refl ∙ none_before halo_in (Use k) (no_halo_before_use k) m.lines follows in
-      let stops_are : stops used ≡ [] = flat_same stop_in m.lines (Use k) refl ∙ none_before stop_in (Use k) (no_stop_before_use k) m.lines follows in
-      let keeps_are : keeps used ≡ [] = flat_same keep_in m.lines (Use k) refl ∙ none_before keep_in (Use k) (no_keep_before_use k) m.lines follows in
+      let edges_are : edges used ≡ [] =
+      flat_same edge_in m.lines (Use k) refl ∙ none_before edge_in (Use k) (no_edge_before_use k) m.lines follows in
+      let halos_are : halos used ≡ [] =
+      flat_same halo_in m.lines (Use k) refl ∙ none_before halo_in (Use k) (no_halo_before_use k) m.lines follows in
+      let stops_are : stops used ≡ [] =
+      flat_same stop_in m.lines (Use k) refl ∙ none_before stop_in (Use k) (no_stop_before_use k) m.lines follows in
+      let keeps_are : keeps used ≡ [] =
+      flat_same keep_in m.lines (Use k) refl ∙ none_before keep_in (Use k) (no_keep_before_use k) m.lines follows in
       let lower = all_before use_in (Use k) (λ j. j < k) (lower_uses k) m.lines follows in
-      let after = local_use g.circuit.netlist (cut_wires g.circuit m) (gates m) k good.gate is.local good.numbered lower good.ins good.outs few in
+      let after = local_use g.circuit.netlist (cut_wires g.circuit m)
+      (gates m) k good.gate is.local good.numbered lower good.ins good.outs few in
       record {
         good = record {
           even = is.even;
@@ -238,7 +270,8 @@ module _ (g : Setting) (m : ModuleLines) (k : ℕ) where
           high = is.high;
           inside = is.inside;
           named = ap length cut_wires_use ∙ is.named ∙ sym (ap length (flat_same cut_in m.lines (Use k) refl));
-          local = subst (λ cs. AreLocalLines g.circuit.netlist cs (gates used)) (sym cut_wires_use) (subst (λ gs. AreLocalLines g.circuit.netlist (cut_wires g.circuit m) gs) (sym (gates_use m k)) after);
+          local = subst (λ cs. AreLocalLines g.circuit.netlist cs (gates used)) (sym cut_wires_use)
+              (subst (λ gs. AreLocalLines g.circuit.netlist (cut_wires g.circuit m) gs) (sym (gates_use m k)) after);
           order = order_push m.lines (Use k) is.order follows;
           keep_lines = at_nil (IsKeep g (gates used)) (keeps used) keeps_are;
           unstarred = unstarred_nil (edges used) edges_are;
@@ -246,7 +279,8 @@ module _ (g : Setting) (m : ModuleLines) (k : ℕ) where
           halo_lines = at_nil (IsHalo g m.area (known g.circuit used)) (halos used) halos_are;
           stop_lines = at_nil (IsStop g m.area (known g.circuit used)) (stops used) stops_are;
         };
-        few_borders = let e = ap length edges_are in let h = ap length halos_are in let s = ap length stops_are in omega (arith, e, h, s);
+        few_borders = let e = ap length edges_are in let h = ap length halos_are in let s = ap length stops_are in
+            omega (arith, e, h, s);
       }
 
 -- ---- edge and halo lines
@@ -257,7 +291,8 @@ odd t e = eqb-true (t % 2) 1 e
 below : (t n : ℕ) → nat_lt t n ≡ true → t < n
 below t n e = grind (arith, nat_tests)
 
-time_good : (steps : ℕ) (starred : Bool) (t : Option ℕ) → is_time steps starred t ≡ true → IfSome t (λ t. (t % 2 ≡ 1) × (t < steps))
+time_good : (steps : ℕ) (starred : Bool) (t : Option ℕ) → is_time steps starred t ≡ true →
+    IfSome t (λ t. (t % 2 ≡ 1) × (t < steps))
 unfolding is_time
 time_good steps starred None e = tt
 time_good steps starred (Some t) e =
@@ -265,29 +300,38 @@ time_good steps starred (Some t) e =
     let both = and_parts (is_odd t) (nat_lt t steps) parts.0 in
     (odd t both.0, below t steps both.1)
 
-local_by : (c : Circuit) (local : List ℕ) (name : List ℕ) (o : Option ℕ) → wire_of c name ≡ o → wire_fault local o ≡ None → IsTrue (is_local c local name)
+local_by : (c : Circuit) (local : List ℕ) (name : List ℕ) (o : Option ℕ) → wire_of c name ≡ o →
+    wire_fault local o ≡ None → IsTrue (is_local c local name)
 local_by c local name None is e = absurd cc
 local_by c local name (Some w) is e = rw is (not_false _ (no_code _ 9 e))
 
-signal_good : (c : Circuit) (local : List ℕ) (s : Option (List ℕ)) → signal_fault c local s ≡ None → IfSome s (λ name. IsTrue (is_local c local name))
+signal_good : (c : Circuit) (local : List ℕ) (s : Option (List ℕ)) → signal_fault c local s ≡ None →
+    IfSome s (λ name. IsTrue (is_local c local name))
 unfolding signal_fault
 signal_good c local None e = tt
 signal_good c local (Some name) e = local_by c local name (wire_of c name) refl e
 
 -- what the tests of an edge or halo line say
-pub record IsGoodBorder (c : Circuit) (count : ℕ) (local : List ℕ) (placed : Bool) (signal : Option (List ℕ)) : Type 0 where
+pub record IsGoodBorder (c : Circuit) (count : ℕ) (local : List ℕ) (placed : Bool)
+    (signal : Option (List ℕ)) : Type 0 where
   pub few : count < border_limit
   pub place : placed ≡ true
   pub names : signal_fault c local signal ≡ None
 
-pub good_border : (c : Circuit) (count : ℕ) (local : List ℕ) (placed : Bool) (signal : Option (List ℕ)) → border_fault c count local placed signal ≡ None → IsGoodBorder c count local placed signal
+pub good_border : (c : Circuit) (count : ℕ) (local : List ℕ) (placed : Bool) (signal : Option (List ℕ)) →
+    border_fault c count local placed signal ≡ None → IsGoodBorder c count local placed signal
 unfolding border_fault
 good_border c count local placed signal e =
     let parts = both_none _ _ e in
     let rest = both_none _ _ parts.1 in
-    record { few = less border_limit count (no_code _ 2 parts.0); place = not_false placed (no_code _ 10 rest.0); names = rest.1 }
+    record {
+      few = less border_limit count (no_code _ 2 parts.0);
+      place = not_false placed (no_code _ 10 rest.0);
+      names = rest.1;
+    }
 
-edge_good : (g : Setting) (area : Box2) (local : List ℕ) (count : ℕ) (starred : Bool) (e : Border) → IsGoodBorder g.circuit count local (is_edge_place g.size area starred e) e.signal → IsEdge g area local e
+edge_good : (g : Setting) (area : Box2) (local : List ℕ) (count : ℕ) (starred : Bool) (e : Border) →
+    IsGoodBorder g.circuit count local (is_edge_place g.size area starred e) e.signal → IsEdge g area local e
 unfolding is_edge_place
 edge_good g area local count starred e good =
     let parts = and_parts _ (is_time g.size.steps starred e.time) good.place in
@@ -295,10 +339,14 @@ edge_good g area local count starred e good =
     record {
       ring = both.0;
       rim = not_true _ both.1;
-      border = record { time = time_good g.size.steps starred e.time parts.1; signal = signal_good g.circuit local e.signal good.names };
+      border = record {
+        time = time_good g.size.steps starred e.time parts.1;
+        signal = signal_good g.circuit local e.signal good.names;
+      };
     }
 
-halo_good : (g : Setting) (area : Box2) (local : List ℕ) (count : ℕ) (starred : Bool) (e : Border) → IsGoodBorder g.circuit count local (is_halo_place g.size area starred e) e.signal → IsHalo g area local e
+halo_good : (g : Setting) (area : Box2) (local : List ℕ) (count : ℕ) (starred : Bool) (e : Border) →
+    IsGoodBorder g.circuit count local (is_halo_place g.size area starred e) e.signal → IsHalo g area local e
 unfolding is_halo_place
 halo_good g area local count starred e good =
     let parts = and_parts _ (is_time g.size.steps starred e.time) good.place in
@@ -306,17 +354,25 @@ halo_good g area local count starred e good =
     record {
       halo = both.0;
       inside = both.1;
-      border = record { time = time_good g.size.steps starred e.time parts.1; signal = signal_good g.circuit local e.signal good.names };
+      border = record {
+        time = time_good g.size.steps starred e.time parts.1;
+        signal = signal_good g.circuit local e.signal good.names;
+      };
     }
 
 at_most : (t n : ℕ) → nat_le t n ≡ true → t ≤ n
 at_most t n e = grind (arith, nat_tests)
 
-stop_good : (g : Setting) (area : Box2) (local : List ℕ) (count : ℕ) (s : StopLine) → IsGoodBorder g.circuit count local (is_stop_place g.size area s) (Some s.wire) → IsStop g area local s
+stop_good : (g : Setting) (area : Box2) (local : List ℕ) (count : ℕ) (s : StopLine) →
+    IsGoodBorder g.circuit count local (is_stop_place g.size area s) (Some s.wire) → IsStop g area local s
 unfolding is_stop_place
 stop_good g area local count s good =
     let parts = and_parts (in_box area s.cell.x s.cell.y) (nat_le s.time g.size.steps) good.place in
-    record { time = at_most s.time g.size.steps parts.1; inside = parts.0; wire = signal_good g.circuit local (Some s.wire) good.names }
+    record {
+      time = at_most s.time g.size.steps parts.1;
+      inside = parts.0;
+      wire = signal_good g.circuit local (Some s.wire) good.names;
+    }
 
 pub edges_edge : (m : ModuleLines) (e : Border) → edges (with_line (Edge e) m) ≡ edges m ++ e ∷ []
 edges_edge m e = flat_push edge_in m.lines (Edge e)
@@ -341,12 +397,16 @@ module _ (g : Setting) (m : ModuleLines) (i : Entry) (no_cut : cut_in i ≡ []) 
   pub known_same : known g.circuit (with_line i m) ≡ known g.circuit m
   known_same = ap₂ (λ cs gs. local_wires g.circuit.netlist cs gs) cut_wires_same gates_same
 
-  local_same : AreLocalLines g.circuit.netlist (cut_wires g.circuit m) (gates m) → AreLocalLines g.circuit.netlist (cut_wires g.circuit (with_line i m)) (gates (with_line i m))
-  local_same l = subst (λ cs. AreLocalLines g.circuit.netlist cs (gates (with_line i m))) (sym cut_wires_same) (subst (λ gs. AreLocalLines g.circuit.netlist (cut_wires g.circuit m) gs) (sym gates_same) l)
+  local_same : AreLocalLines g.circuit.netlist (cut_wires g.circuit m) (gates m) →
+      AreLocalLines g.circuit.netlist (cut_wires g.circuit (with_line i m)) (gates (with_line i m))
+  local_same l = subst (λ cs. AreLocalLines g.circuit.netlist cs (gates (with_line i m))) (sym cut_wires_same)
+      (subst (λ gs. AreLocalLines g.circuit.netlist (cut_wires g.circuit m) gs) (sym gates_same) l)
 
   -- and the kept gates, where it keeps nothing
-  keeps_same : keep_in i ≡ [] → All (IsKeep g (gates m)) (keeps m) → All (IsKeep g (gates (with_line i m))) (keeps (with_line i m))
-  keeps_same no_keep all = subst (All (IsKeep g (gates (with_line i m)))) (sym (flat_same keep_in m.lines i no_keep)) (subst (λ gs. All (IsKeep g gs) (keeps m)) (sym gates_same) all)
+  keeps_same : keep_in i ≡ [] → All (IsKeep g (gates m)) (keeps m) →
+      All (IsKeep g (gates (with_line i m))) (keeps (with_line i m))
+  keeps_same no_keep all = subst (All (IsKeep g (gates (with_line i m)))) (sym (flat_same keep_in m.lines i no_keep))
+      (subst (λ gs. All (IsKeep g gs) (keeps m)) (sym gates_same) all)
 
 -- ---- a kept gate
 
@@ -359,7 +419,8 @@ keep_good g mine k e =
 keeps_keep : (m : ModuleLines) (k : ℕ) → keeps (with_line (Keep k) m) ≡ keeps m ++ k ∷ []
 keeps_keep m k = flat_push keep_in m.lines (Keep k)
 
-pub keep_pushed : (g : Setting) (m : ModuleLines) → IsWritten g m → (k : ℕ) → may_follow m.lines (Keep k) ≡ true → keep_fault g.circuit (gates m) k ≡ None → IsWritten g (with_line (Keep k) m)
+pub keep_pushed : (g : Setting) (m : ModuleLines) → IsWritten g m → (k : ℕ) → may_follow m.lines (Keep k) ≡ true →
+    keep_fault g.circuit (gates m) k ≡ None → IsWritten g (with_line (Keep k) m)
 keep_pushed g m written k follows good =
     let is = written.good in
     let more = with_line (Keep k) m in
@@ -374,25 +435,35 @@ keep_pushed g m written k follows good =
         wide = is.wide;
         high = is.high;
         inside = is.inside;
-        named = ap length (cut_wires_same g m (Keep k) refl refl) ∙ is.named ∙ sym (ap length (cuts_same g m (Keep k) refl refl));
+        named = ap length (cut_wires_same g m (Keep k) refl refl) ∙ is.named
+            ∙ sym (ap length (cuts_same g m (Keep k) refl refl));
         local = local_same g m (Keep k) refl refl is.local;
         order = order_push m.lines (Keep k) is.order follows;
-        keep_lines = subst (λ gs. All (IsKeep g gs) (keeps more)) (sym (gates_same g m (Keep k) refl refl)) (subst (All (IsKeep g (gates m))) (sym (keeps_keep m k)) (All-push (IsKeep g (gates m)) (keeps m) k is.keep_lines here));
+        keep_lines = subst (λ gs. All (IsKeep g gs) (keeps more)) (sym (gates_same g m (Keep k) refl refl))
+            (subst (All (IsKeep g (gates m))) (sym (keeps_keep m k))
+            (All-push (IsKeep g (gates m)) (keeps m) k is.keep_lines here));
         unstarred = subst AreUnstarred (sym edges_are) is.unstarred;
-        edge_lines = subst (λ l. All (IsEdge g m.area (known g.circuit more)) l) (sym edges_are) (subst (λ l. All (IsEdge g m.area l) (edges m)) (sym same) is.edge_lines);
-        halo_lines = subst (λ l. All (IsHalo g m.area (known g.circuit more)) l) (sym halos_are) (subst (λ l. All (IsHalo g m.area l) (halos m)) (sym same) is.halo_lines);
-        stop_lines = subst (λ l. All (IsStop g m.area (known g.circuit more)) l) (sym stops_are) (subst (λ l. All (IsStop g m.area l) (stops m)) (sym same) is.stop_lines);
+        edge_lines = subst (λ l. All (IsEdge g m.area (known g.circuit more)) l) (sym edges_are)
+            (subst (λ l. All (IsEdge g m.area l) (edges m)) (sym same) is.edge_lines);
+        halo_lines = subst (λ l. All (IsHalo g m.area (known g.circuit more)) l) (sym halos_are)
+            (subst (λ l. All (IsHalo g m.area l) (halos m)) (sym same) is.halo_lines);
+        stop_lines = subst (λ l. All (IsStop g m.area (known g.circuit more)) l) (sym stops_are)
+            (subst (λ l. All (IsStop g m.area l) (stops m)) (sym same) is.stop_lines);
       };
-      few_borders = let n = ap length edges_are in let l = ap length halos_are in let s = ap length stops_are in let f = written.few_borders in omega (arith, n, l, s, f);
+      few_borders = let n = ap length edges_are in let l = ap length halos_are in let s = ap length stops_are in let f =
+          written.few_borders in omega (arith, n, l, s, f);
     }
 
 module _ (g : Setting) (m : ModuleLines) (is : IsModule g m) (e : Border) where
   pub edge_pushed : may_follow m.lines (Edge e) ≡ true → edge_fault g m e ≡ None → IsWritten g (with_line (Edge e) m)
   edge_pushed follows good =
       let more = with_line (Edge e) m in
-      let b = good_border g.circuit (border_count m) (known g.circuit m) (is_edge_place g.size m.area (list_any (is_starred e.cell) (edges m)) e) e.signal good in
-      let here : IsEdge g m.area (known g.circuit m) e = edge_good g m.area (known g.circuit m) (border_count m) (list_any (is_starred e.cell) (edges m)) e b in
-      let halos_are : halos more ≡ [] = flat_same halo_in m.lines (Edge e) refl ∙ none_before halo_in (Edge e) (no_halo_before_edge e) m.lines follows in
+      let b = good_border g.circuit (border_count m) (known g.circuit m)
+      (is_edge_place g.size m.area (list_any (is_starred e.cell) (edges m)) e) e.signal good in
+      let here : IsEdge g m.area (known g.circuit m) e =
+      edge_good g m.area (known g.circuit m) (border_count m) (list_any (is_starred e.cell) (edges m)) e b in
+      let halos_are : halos more ≡ [] =
+      flat_same halo_in m.lines (Edge e) refl ∙ none_before halo_in (Edge e) (no_halo_before_edge e) m.lines follows in
       let same = known_same g m (Edge e) refl refl in
       let n = ap length (edges_edge m e) ∙ length_push (edges m) e in
       let k = ap length halos_are in
@@ -404,14 +475,20 @@ module _ (g : Setting) (m : ModuleLines) (is : IsModule g m) (e : Border) where
           wide = is.wide;
           high = is.high;
           inside = is.inside;
-          named = ap length (cut_wires_same g m (Edge e) refl refl) ∙ is.named ∙ sym (ap length (cuts_same g m (Edge e) refl refl));
+          named = ap length (cut_wires_same g m (Edge e) refl refl) ∙ is.named
+              ∙ sym (ap length (cuts_same g m (Edge e) refl refl));
           local = local_same g m (Edge e) refl refl is.local;
           order = order_push m.lines (Edge e) is.order follows;
           keep_lines = keeps_same g m (Edge e) refl refl refl is.keep_lines;
-          unstarred = subst AreUnstarred (sym (edges_edge m e)) (unstarred_push (edges m) e is.unstarred (free_of_star g m.area (list_any (is_starred e.cell) (edges m)) e b.place));
-          edge_lines = subst (λ l. All (IsEdge g m.area (known g.circuit more)) l) (sym (edges_edge m e)) (subst (λ l. All (IsEdge g m.area l) (edges m ++ e ∷ [])) (sym same) (All-push (IsEdge g m.area (known g.circuit m)) (edges m) e is.edge_lines here));
+          unstarred = subst AreUnstarred (sym (edges_edge m e))
+              (unstarred_push (edges m) e is.unstarred
+              (free_of_star g m.area (list_any (is_starred e.cell) (edges m)) e b.place));
+          edge_lines = subst (λ l. All (IsEdge g m.area (known g.circuit more)) l) (sym (edges_edge m e))
+              (subst (λ l. All (IsEdge g m.area l) (edges m ++ e ∷ [])) (sym same)
+              (All-push (IsEdge g m.area (known g.circuit m)) (edges m) e is.edge_lines here));
           halo_lines = at_nil (IsHalo g m.area (known g.circuit more)) (halos more) halos_are;
-          stop_lines = subst (λ l. All (IsStop g m.area (known g.circuit more)) l) (sym stops_are) (subst (λ l. All (IsStop g m.area l) (stops m)) (sym same) is.stop_lines);
+          stop_lines = subst (λ l. All (IsStop g m.area (known g.circuit more)) l) (sym stops_are)
+              (subst (λ l. All (IsStop g m.area l) (stops m)) (sym same) is.stop_lines);
         };
         few_borders = let f = b.few in omega (arith, n, k, q, f);
       }
@@ -419,8 +496,10 @@ module _ (g : Setting) (m : ModuleLines) (is : IsModule g m) (e : Border) where
   pub halo_pushed : may_follow m.lines (Halo e) ≡ true → halo_fault g m e ≡ None → IsWritten g (with_line (Halo e) m)
   halo_pushed follows good =
       let more = with_line (Halo e) m in
-      let b = good_border g.circuit (border_count m) (known g.circuit m) (is_halo_place g.size m.area (list_any (is_starred e.cell) (halos m)) e) e.signal good in
-      let here : IsHalo g m.area (known g.circuit m) e = halo_good g m.area (known g.circuit m) (border_count m) (list_any (is_starred e.cell) (halos m)) e b in
+      let b = good_border g.circuit (border_count m) (known g.circuit m)
+      (is_halo_place g.size m.area (list_any (is_starred e.cell) (halos m)) e) e.signal good in
+      let here : IsHalo g m.area (known g.circuit m) e =
+      halo_good g m.area (known g.circuit m) (border_count m) (list_any (is_starred e.cell) (halos m)) e b in
       let edges_are : edges more ≡ edges m = flat_same edge_in m.lines (Halo e) refl in
       let same = known_same g m (Halo e) refl refl in
       let n = ap length (halos_halo m e) ∙ length_push (halos m) e in
@@ -433,14 +512,19 @@ module _ (g : Setting) (m : ModuleLines) (is : IsModule g m) (e : Border) where
           wide = is.wide;
           high = is.high;
           inside = is.inside;
-          named = ap length (cut_wires_same g m (Halo e) refl refl) ∙ is.named ∙ sym (ap length (cuts_same g m (Halo e) refl refl));
+          named = ap length (cut_wires_same g m (Halo e) refl refl) ∙ is.named
+              ∙ sym (ap length (cuts_same g m (Halo e) refl refl));
           local = local_same g m (Halo e) refl refl is.local;
           order = order_push m.lines (Halo e) is.order follows;
           keep_lines = keeps_same g m (Halo e) refl refl refl is.keep_lines;
           unstarred = subst AreUnstarred (sym edges_are) is.unstarred;
-          edge_lines = subst (λ l. All (IsEdge g m.area (known g.circuit more)) l) (sym edges_are) (subst (λ l. All (IsEdge g m.area l) (edges m)) (sym same) is.edge_lines);
-          halo_lines = subst (λ l. All (IsHalo g m.area (known g.circuit more)) l) (sym (halos_halo m e)) (subst (λ l. All (IsHalo g m.area l) (halos m ++ e ∷ [])) (sym same) (All-push (IsHalo g m.area (known g.circuit m)) (halos m) e is.halo_lines here));
-          stop_lines = subst (λ l. All (IsStop g m.area (known g.circuit more)) l) (sym stops_are) (subst (λ l. All (IsStop g m.area l) (stops m)) (sym same) is.stop_lines);
+          edge_lines = subst (λ l. All (IsEdge g m.area (known g.circuit more)) l) (sym edges_are)
+              (subst (λ l. All (IsEdge g m.area l) (edges m)) (sym same) is.edge_lines);
+          halo_lines = subst (λ l. All (IsHalo g m.area (known g.circuit more)) l) (sym (halos_halo m e))
+              (subst (λ l. All (IsHalo g m.area l) (halos m ++ e ∷ [])) (sym same)
+              (All-push (IsHalo g m.area (known g.circuit m)) (halos m) e is.halo_lines here));
+          stop_lines = subst (λ l. All (IsStop g m.area (known g.circuit more)) l) (sym stops_are)
+              (subst (λ l. All (IsStop g m.area l) (stops m)) (sym same) is.stop_lines);
         };
         few_borders = let f = b.few in omega (arith, n, k, q, f);
       }
@@ -449,7 +533,8 @@ module _ (g : Setting) (m : ModuleLines) (is : IsModule g m) (s : StopLine) wher
   pub stop_pushed : may_follow m.lines (Stop s) ≡ true → stop_fault g m s ≡ None → IsWritten g (with_line (Stop s) m)
   stop_pushed follows good =
       let more = with_line (Stop s) m in
-      let b = good_border g.circuit (border_count m) (known g.circuit m) (is_stop_place g.size m.area s) (Some s.wire) good in
+      let b = good_border g.circuit (border_count m) (known g.circuit m) (is_stop_place g.size m.area s)
+      (Some s.wire) good in
       let here : IsStop g m.area (known g.circuit m) s = stop_good g m.area (known g.circuit m) (border_count m) s b in
       let edges_are : edges more ≡ edges m = flat_same edge_in m.lines (Stop s) refl in
       let halos_are : halos more ≡ halos m = flat_same halo_in m.lines (Stop s) refl in
@@ -463,14 +548,19 @@ module _ (g : Setting) (m : ModuleLines) (is : IsModule g m) (s : StopLine) wher
           wide = is.wide;
           high = is.high;
           inside = is.inside;
-          named = ap length (cut_wires_same g m (Stop s) refl refl) ∙ is.named ∙ sym (ap length (cuts_same g m (Stop s) refl refl));
+          named = ap length (cut_wires_same g m (Stop s) refl refl) ∙ is.named
+              ∙ sym (ap length (cuts_same g m (Stop s) refl refl));
           local = local_same g m (Stop s) refl refl is.local;
           order = order_push m.lines (Stop s) is.order follows;
           keep_lines = keeps_same g m (Stop s) refl refl refl is.keep_lines;
           unstarred = subst AreUnstarred (sym edges_are) is.unstarred;
-          edge_lines = subst (λ l. All (IsEdge g m.area (known g.circuit more)) l) (sym edges_are) (subst (λ l. All (IsEdge g m.area l) (edges m)) (sym same) is.edge_lines);
-          halo_lines = subst (λ l. All (IsHalo g m.area (known g.circuit more)) l) (sym halos_are) (subst (λ l. All (IsHalo g m.area l) (halos m)) (sym same) is.halo_lines);
-          stop_lines = subst (λ l. All (IsStop g m.area (known g.circuit more)) l) (sym (stops_stop m s)) (subst (λ l. All (IsStop g m.area l) (stops m ++ s ∷ [])) (sym same) (All-push (IsStop g m.area (known g.circuit m)) (stops m) s is.stop_lines here));
+          edge_lines = subst (λ l. All (IsEdge g m.area (known g.circuit more)) l) (sym edges_are)
+              (subst (λ l. All (IsEdge g m.area l) (edges m)) (sym same) is.edge_lines);
+          halo_lines = subst (λ l. All (IsHalo g m.area (known g.circuit more)) l) (sym halos_are)
+              (subst (λ l. All (IsHalo g m.area l) (halos m)) (sym same) is.halo_lines);
+          stop_lines = subst (λ l. All (IsStop g m.area (known g.circuit more)) l) (sym (stops_stop m s))
+              (subst (λ l. All (IsStop g m.area l) (stops m ++ s ∷ [])) (sym same)
+              (All-push (IsStop g m.area (known g.circuit m)) (stops m) s is.stop_lines here));
         };
         few_borders = let f = b.few in omega (arith, n, k, q, f);
       }

@@ -20,7 +20,8 @@ last_changed f (y ∷ []) x = refl
 last_changed f (y ∷ z ∷ xs) x = ap (λ ys. y ∷ ys) (last_changed f (z ∷ xs) x)
 
 -- a line leaves all modules but the last as they are
-before_last : (ms : List ModuleLines) (m : ModuleLines) (e : Entry) → add_line (ms ++ m ∷ []) e ≡ ms ++ add_line (m ∷ []) e
+before_last : (ms : List ModuleLines) (m : ModuleLines) (e : Entry) →
+    add_line (ms ++ m ∷ []) e ≡ ms ++ add_line (m ∷ []) e
 unfolding add_line change_last
 before_last ms m (Module b) = append_assoc ms (m ∷ []) (record { area = b; lines = [] } ∷ [])
 before_last ms m (Cut n) = last_changed (with_line (Cut n)) ms m
@@ -34,7 +35,8 @@ before_last ms m (Stop s) = last_changed (with_line (Stop s)) ms m
 abbrev Apart : List Entry → Type 0
 Apart es = (ms : List ModuleLines) (m : ModuleLines) → onward (ms ++ m ∷ []) es ≡ ms ++ onward (m ∷ []) es
 
-apart_after : (e : Entry) (es : List Entry) → Apart es → (ms : List ModuleLines) (m : ModuleLines) → onward (ms ++ add_line (m ∷ []) e) es ≡ ms ++ onward (add_line (m ∷ []) e) es
+apart_after : (e : Entry) (es : List Entry) → Apart es → (ms : List ModuleLines) (m : ModuleLines) →
+    onward (ms ++ add_line (m ∷ []) e) es ≡ ms ++ onward (add_line (m ∷ []) e) es
 unfolding add_line change_last
 apart_after (Module b) es h ms m =
     ap (λ ns. onward ns es) (sym (append_assoc ms (m ∷ []) (record { area = b; lines = [] } ∷ []))) ∙
@@ -48,7 +50,8 @@ apart_after (Edge b) es h ms m = h ms (with_line (Edge b) m)
 apart_after (Halo b) es h ms m = h ms (with_line (Halo b) m)
 apart_after (Stop s) es h ms m = h ms (with_line (Stop s) m)
 
-pub apart : (es : List Entry) (ms : List ModuleLines) (m : ModuleLines) → onward (ms ++ m ∷ []) es ≡ ms ++ onward (m ∷ []) es
+pub apart : (es : List Entry) (ms : List ModuleLines) (m : ModuleLines) →
+    onward (ms ++ m ∷ []) es ≡ ms ++ onward (m ∷ []) es
 apart [] ms m = refl
 apart (e ∷ es) ms m = ap (λ ns. onward ns es) (before_last ms m e) ∙ apart_after e es (apart es) ms m
 
@@ -67,7 +70,8 @@ other_first (Edge b) es h = refl
 other_first (Halo b) es h = refl
 other_first (Stop s) es h = refl
 
-module_first : (b : Box2) (es : List Entry) → modules_of (Module b ∷ es) ≡ onward (record { area = b; lines = [] } ∷ []) es
+module_first : (b : Box2) (es : List Entry) →
+    modules_of (Module b ∷ es) ≡ onward (record { area = b; lines = [] } ∷ []) es
 unfolding modules_of add_line
 module_first b es = refl
 
@@ -78,19 +82,22 @@ extends_more : (m : ModuleLines) (e : Entry) (es : List Entry) → is_module e �
     onward (with_line e m ∷ []) es ≡ extended m (inner (e ∷ es)) ∷ modules_of (e ∷ es)
 extends_more m e es o h =
     h (with_line e m) ∙
-    ap (λ xs. record m { lines = xs } ∷ modules_of es) (append_assoc m.lines (e ∷ []) (inner es) ∙ ap (λ xs. m.lines ++ xs) (sym (inner_other e es o))) ∙
+    ap (λ xs. record m { lines = xs } ∷ modules_of es)
+    (append_assoc m.lines (e ∷ []) (inner es) ∙ ap (λ xs. m.lines ++ xs) (sym (inner_other e es o))) ∙
     ap (λ ns. extended m (inner (e ∷ es)) ∷ ns) (sym (other_first e es o))
 
 extends_none : Extends []
 unfolding inner modules_of
 extends_none m = ap (λ xs. record m { lines = xs } ∷ []) (sym (append-nil m.lines))
 
-extends_step : (e : Entry) (es : List Entry) → Extends es → (m : ModuleLines) → onward (add_line (m ∷ []) e) es ≡ extended m (inner (e ∷ es)) ∷ modules_of (e ∷ es)
+extends_step : (e : Entry) (es : List Entry) → Extends es → (m : ModuleLines) →
+    onward (add_line (m ∷ []) e) es ≡ extended m (inner (e ∷ es)) ∷ modules_of (e ∷ es)
 unfolding add_line change_last
 extends_step (Module b) es h m =
     apart es (m ∷ []) (record { area = b; lines = [] }) ∙
     ap (λ ns. m ∷ ns) (sym (module_first b es)) ∙
-    ap (λ xs. record m { lines = xs } ∷ modules_of (Module b ∷ es)) (sym (ap (λ xs. m.lines ++ xs) (inner_module (Module b) es refl) ∙ append-nil m.lines))
+    ap (λ xs. record m { lines = xs } ∷ modules_of (Module b ∷ es))
+    (sym (ap (λ xs. m.lines ++ xs) (inner_module (Module b) es refl) ∙ append-nil m.lines))
 extends_step (Cut n) es h m = extends_more m (Cut n) es refl h
 extends_step (Use k) es h m = extends_more m (Use k) es refl h
 extends_step (Keep k) es h m = extends_more m (Keep k) es refl h
@@ -104,7 +111,8 @@ extends [] m = extends_none m
 extends (e ∷ es) m = extends_step e es (extends es) m
 
 -- the modules of lines from a module line on
-pub split_module : (b : Box2) (es : List Entry) → modules_of (Module b ∷ es) ≡ record { area = b; lines = inner es } ∷ modules_of es
+pub split_module : (b : Box2) (es : List Entry) →
+    modules_of (Module b ∷ es) ≡ record { area = b; lines = inner es } ∷ modules_of es
 split_module b es = module_first b es ∙ extends es (record { area = b; lines = [] })
 
 pub split_other : (e : Entry) (es : List Entry) → is_module e ≡ false → modules_of (e ∷ es) ≡ modules_of es

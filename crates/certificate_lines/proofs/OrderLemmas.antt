@@ -1,5 +1,6 @@
 -- Lines in order: what comes after the last comes after all.
-use Rattle.std.proofs.Common.{◌≡◌, ◌⊎◌, ℕ, Bool, true, false, ◌&&◌, List, [], ◌∷◌, Some, None, Less, Equal, Greater, Ordering, refl, sym, ap, ◌∙◌, inl, inr}
+use Rattle.std.proofs.Common.{◌≡◌, ◌⊎◌, ℕ, Bool, true, false, ◌&&◌, List, [], ◌∷◌, Some, None, Less, Equal, Greater}
+use Rattle.std.proofs.Common.{Ordering, refl, sym, ap, ◌∙◌, inl, inr}
 use Rattle.std.specs.List.{list_all}
 use Rattle.std.specs.Cmp.{IsTotalOrder}
 use Rattle.std.specs.Ordering.{is_lt}
@@ -9,12 +10,14 @@ use Rattle.module_box.proofs.Rising.{cell_total}
 use Rattle.certificate_lines.specs.declared.entry.Entry.{Entry}
 use Rattle.certificate_lines.specs.declared.entry.Entry.TheVariants.{Module, Cut, Use, Keep, Edge, Halo, Stop}
 use Rattle.certificate_lines.specs.Entries.{last_of}
-use Rattle.certificate_lines.specs.Orders.{AreInOrder, rank_of, number_of, cell_of, line_cmp, is_cut, may_precede, may_follow}
+use Rattle.certificate_lines.specs.Orders.{AreInOrder, rank_of, number_of, cell_of, line_cmp, is_cut, may_precede}
+use Rattle.certificate_lines.specs.Orders.{may_follow}
 use Rattle.certificate_lines.proofs.Lists.{or_parts, or_right}
 
 line_total : IsTotalOrder line_cmp
 unfolding line_cmp
-line_total = then_total (on_total rank_of nat_cmp_total) (then_total (on_total number_of nat_cmp_total) (on_total cell_of cell_total))
+line_total = then_total (on_total rank_of nat_cmp_total)
+    (then_total (on_total number_of nat_cmp_total) (on_total cell_of cell_total))
 
 is_less : (o : Ordering) → is_lt o ≡ true → o ≡ Less
 is_less Less h = refl
@@ -71,7 +74,8 @@ cut_then_less : (i j k : Entry) → line_cmp j k ≡ Less → is_cut i ≡ true 
 cut_then_less i j k less ci cj =
     let p = cut_is i ci in
     let q = cut_is j cj in
-    ap (λ (z : Entry). line_cmp z k) p.same ∙ after_cut p.name q.name k ∙ ap (λ (z : Entry). line_cmp z k) (sym q.same) ∙ less
+    ap (λ (z : Entry). line_cmp z k) p.same ∙ after_cut p.name q.name k ∙ ap (λ (z : Entry). line_cmp z k) (sym q.same)
+    ∙ less
 
 precede_trans : (i j k : Entry) → may_precede i j ≡ true → may_precede j k ≡ true → may_precede i k ≡ true
 precede_trans i j k h h' = elim (precede_parts i j h) [
@@ -85,7 +89,8 @@ precede_trans i j k h h' = elim (precede_parts i j h) [
   ]
 ]
 
-last_passes : (p : Entry → Bool) (i : Entry) (lines : List Entry) (l : Entry) → list_all p (i ∷ lines) ≡ true → last_of (i ∷ lines) ≡ Some l → p l ≡ true
+last_passes : (p : Entry → Bool) (i : Entry) (lines : List Entry) (l : Entry) → list_all p (i ∷ lines) ≡ true →
+    last_of (i ∷ lines) ≡ Some l → p l ≡ true
 unfolding last_of
 last_passes p i [] l all last =
     let same : i ≡ l = cc in
@@ -101,7 +106,8 @@ and_same a true h = rw (h refl) refl
 and_same true false h = refl
 and_same false false h = refl
 
-follows : (x : Entry) (lines : List Entry) (l i : Entry) → AreInOrder (x ∷ lines) → last_of (x ∷ lines) ≡ Some l → may_follow (x ∷ lines) i ≡ may_precede l i
+follows : (x : Entry) (lines : List Entry) (l i : Entry) → AreInOrder (x ∷ lines) → last_of (x ∷ lines) ≡ Some l →
+    may_follow (x ∷ lines) i ≡ may_precede l i
 unfolding AreInOrder may_follow last_of
 follows x [] l i order last =
     let same : x ≡ l = cc in
@@ -109,9 +115,11 @@ follows x [] l i order last =
 follows x (y ∷ lines) l i order last =
     let rest : may_follow (y ∷ lines) i ≡ may_precede l i = follows y lines l i order.1 last in
     let first : may_precede x l ≡ true = last_passes (may_precede x) y lines l order.0 last in
-    ap (λ (b : Bool). may_precede x i && b) rest ∙ and_same (may_precede x i) (may_precede l i) (precede_trans x l i first)
+    ap (λ (b : Bool). may_precede x i && b) rest
+    ∙ and_same (may_precede x i) (may_precede l i) (precede_trans x l i first)
 
-pub follows_last : (lines : List Entry) (l i : Entry) → AreInOrder lines → last_of lines ≡ Some l → may_precede l i ≡ may_follow lines i
+pub follows_last : (lines : List Entry) (l i : Entry) → AreInOrder lines → last_of lines ≡ Some l →
+    may_precede l i ≡ may_follow lines i
 unfolding last_of
 follows_last [] l i order last = absurd cc
 follows_last (x ∷ lines) l i order last = sym (follows x lines l i order last)

@@ -39,7 +39,8 @@ each_at P [] e i a s = absurd cc
 each_at P (x ∷ xs) e zero a s = subst P (some_is x a s) e.0
 each_at P (x ∷ xs) e (suc i) a s = each_at P xs e.1 i a s
 
-pub pairs_append : {A : Type 0} (R : A → A → Type 0) (xs ys : List A) → Pairs R xs → Pairs R ys → Each (λ x. Each (R x) ys) xs → Pairs R (xs ++ ys)
+pub pairs_append : {A : Type 0} (R : A → A → Type 0) (xs ys : List A) → Pairs R xs → Pairs R ys →
+    Each (λ x. Each (R x) ys) xs → Pairs R (xs ++ ys)
 unfolding Each Pairs
 pairs_append R [] ys p q h = q
 pairs_append R (x ∷ xs) ys p q h = (each_append (R x) xs ys p.0 h.0, pairs_append R xs ys p.1 q h.1)
@@ -51,9 +52,11 @@ unfolding Pairs
 pairs_flat R S f between alone [] p = p
 pairs_flat R S f between alone (x ∷ xs) p =
     pairs_append S (f x) (flat_map f xs) (alone x) (pairs_flat R S f between alone xs p.1)
-    (each_map (λ b. (y : _) → R x y → Each (S b) (f y)) (λ b. Each (S b) (flat_map f xs)) (λ b h. each_flat (R x) (S b) f h xs p.0) (f x) (between x))
+    (each_map (λ b. (y : _) → R x y → Each (S b) (f y)) (λ b. Each (S b) (flat_map f xs))
+    (λ b h. each_flat (R x) (S b) f h xs p.0) (f x) (between x))
 
-pub pairs_at : {A : Type 0} (R : A → A → Type 0) (xs : List A) → Pairs R xs → (i j : ℕ) (a b : A) → i < j → slice_get xs i ≡ Some a → slice_get xs j ≡ Some b → R a b
+pub pairs_at : {A : Type 0} (R : A → A → Type 0) (xs : List A) → Pairs R xs → (i j : ℕ) (a b : A) → i < j →
+    slice_get xs i ≡ Some a → slice_get xs j ≡ Some b → R a b
 unfolding Pairs
 pairs_at R [] p i j a b lt ea eb = absurd cc
 pairs_at R (x ∷ xs) p zero zero a b lt ea eb = absurd (omega (arith, lt))
@@ -66,9 +69,13 @@ pub rising_of : {A K : Type 0} (cmp : K → K → Ordering) (key : A → K) (g :
     (xs ys : List A) → map g xs ≡ ys → Pairs (λ a b. cmp (key a) (key b) ≡ Less) ys → IsRising cmp key xs
 rising_of cmp key g same xs ys e p = record {
   rises = λ i j a b lt ea eb.
-      let fa : slice_get ys i ≡ Some (g a) = subst (λ zs. slice_get zs i ≡ Some (g a)) e (slice_get-map g xs i ∙ ap (option_map g) ea) in
-      let fb : slice_get ys j ≡ Some (g b) = subst (λ zs. slice_get zs j ≡ Some (g b)) e (slice_get-map g xs j ∙ ap (option_map g) eb) in
-      subst (λ k. cmp k (key b) ≡ Less) (same a) (subst (λ k. cmp (key (g a)) k ≡ Less) (same b) (pairs_at (λ a b. cmp (key a) (key b) ≡ Less) ys p i j (g a) (g b) lt fa fb));
+      let fa : slice_get ys i ≡ Some (g a) =
+      subst (λ zs. slice_get zs i ≡ Some (g a)) e (slice_get-map g xs i ∙ ap (option_map g) ea) in
+      let fb : slice_get ys j ≡ Some (g b) =
+      subst (λ zs. slice_get zs j ≡ Some (g b)) e (slice_get-map g xs j ∙ ap (option_map g) eb) in
+      subst (λ k. cmp k (key b) ≡ Less) (same a)
+      (subst (λ k. cmp (key (g a)) k ≡ Less) (same b)
+      (pairs_at (λ a b. cmp (key a) (key b) ≡ Less) ys p i j (g a) (g b) lt fa fb));
 }
 
 -- ---- facts of all elements

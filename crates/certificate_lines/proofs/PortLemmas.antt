@@ -14,14 +14,16 @@ use Rattle.certificate_lines.proofs.Lists.{or_parts, or_left, or_right}
 -- ---- the cells of a box
 
 -- a cell of a list that passes a test, and is one of the list's cells
-pub cell_passed : (test : Cell → Bool) (cells : List Cell) → list_any test cells ≡ true → (c : Cell) × (in_cells cells c.x c.y ≡ true) × (test c ≡ true)
+pub cell_passed : (test : Cell → Bool) (cells : List Cell) → list_any test cells ≡ true →
+    (c : Cell) × (in_cells cells c.x c.y ≡ true) × (test c ≡ true)
 cell_passed test [] h = absurd cc
 cell_passed test (c ∷ cells) h = elim (or_parts (test c) (list_any test cells) h) [
   | inl here ↦ (c, or_left (is_at c c.x c.y) _ (cell_itself c), here)
   | inr more ↦ let r = cell_passed test cells more in (r.0, or_right (is_at c r.0.x r.0.y) _ r.1, r.2)
 ]
 
-pub has_cell : (test : Cell → Bool) (cells : List Cell) (d : Cell) → in_cells cells d.x d.y ≡ true → test d ≡ true → list_any test cells ≡ true
+pub has_cell : (test : Cell → Bool) (cells : List Cell) (d : Cell) → in_cells cells d.x d.y ≡ true → test d ≡ true →
+    list_any test cells ≡ true
 has_cell test [] d h t = absurd cc
 has_cell test (c ∷ cells) d h t = elim (or_parts (is_at c d.x d.y) (in_cells cells d.x d.y) h) [
   | inl here ↦ or_left (test c) _ (ap test (cell_same c d here) ∙ t)

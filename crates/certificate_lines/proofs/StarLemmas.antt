@@ -1,5 +1,6 @@
 -- The cells of lines with a star.
-use Rattle.std.proofs.Common.{◌≡◌, Bool, true, false, ◌&&◌, ◌||◌, if◌then◌else◌, List, [], ◌∷◌, ◌++◌, Option, Some, None, refl, sym, ap, ◌∙◌, is_some}
+use Rattle.std.proofs.Common.{◌≡◌, Bool, true, false, ◌&&◌, ◌||◌, if◌then◌else◌, List, [], ◌∷◌, ◌++◌, Option, Some}
+use Rattle.std.proofs.Common.{None, refl, sym, ap, ◌∙◌, is_some}
 use Rattle.std.specs.Prelude.{ℕ}
 use Rattle.std.specs.List.{list_any}
 use Rattle.std.proofs.lemmas.List.Folds.{list_any-append}
@@ -25,17 +26,27 @@ timed None b h = absurd cc
 timed (Some t) b h = refl
 
 -- one that is there already
-again : (keys : List Cell) (c d : Cell) (s : Bool) → same_cell c d ≡ s → list_any (same_cell d) keys ≡ true → list_any (same_cell c) keys ≡ (list_any (same_cell c) keys || s)
-again keys c d true same there = by_true (list_any (same_cell c) keys) (ap (λ (x : Cell). list_any (same_cell x) keys) (cell_same c d same) ∙ there)
+again : (keys : List Cell) (c d : Cell) (s : Bool) → same_cell c d ≡ s → list_any (same_cell d) keys ≡ true →
+    list_any (same_cell c) keys ≡ (list_any (same_cell c) keys || s)
+again keys c d true same there =
+    by_true (list_any (same_cell c) keys) (ap (λ (x : Cell). list_any (same_cell x) keys) (cell_same c d same) ∙ there)
 again keys c d false same there = sym (or_none _)
 
-inserted_by : (b : Bool) (keys : List Cell) (c d : Cell) → list_any (same_cell d) keys ≡ b → list_any (same_cell c) (if b then keys else keys ++ d ∷ []) ≡ (list_any (same_cell c) keys || same_cell c d)
+inserted_by : (b : Bool) (keys : List Cell) (c d : Cell) → list_any (same_cell d) keys ≡ b →
+    list_any (same_cell c) (if b then keys else keys ++ d ∷ []) ≡ (list_any (same_cell c) keys || same_cell c d)
 inserted_by true keys c d h = again keys c d (same_cell c d) refl h
-inserted_by false keys c d h = list_any-append (same_cell c) keys (d ∷ []) ∙ ap (λ (b : Bool). list_any (same_cell c) keys || b) (or_none (same_cell c d))
+inserted_by false keys c d h =
+    list_any-append (same_cell c) keys (d ∷ [])
+    ∙ ap (λ (b : Bool). list_any (same_cell c) keys || b) (or_none (same_cell c d))
 
-pub star_noted : (keys new : List Cell) (e : Border) → is_some e.time ≡ false → new ≡ (if list_any (same_cell e.cell) keys then keys else keys ++ e.cell ∷ []) → (c : Cell) → list_any (same_cell c) new ≡ (list_any (same_cell c) keys || is_starred c e)
+pub star_noted : (keys new : List Cell) (e : Border) → is_some e.time ≡ false →
+    new ≡ (if list_any (same_cell e.cell) keys then keys else keys ++ e.cell ∷ []) → (c : Cell) →
+    list_any (same_cell c) new ≡ (list_any (same_cell c) keys || is_starred c e)
 star_noted keys new e none is c =
-    ap (list_any (same_cell c)) is ∙ inserted_by _ keys c e.cell refl ∙ ap (λ (b : Bool). list_any (same_cell c) keys || b) (starred e.time (same_cell c e.cell) none)
+    ap (list_any (same_cell c)) is ∙ inserted_by _ keys c e.cell refl
+    ∙ ap (λ (b : Bool). list_any (same_cell c) keys || b) (starred e.time (same_cell c e.cell) none)
 
-pub no_star : (keys : List Cell) (e : Border) → is_some e.time ≡ true → (c : Cell) → list_any (same_cell c) keys ≡ (list_any (same_cell c) keys || is_starred c e)
-no_star keys e some c = sym (ap (λ (b : Bool). list_any (same_cell c) keys || b) (timed e.time (same_cell c e.cell) some) ∙ or_none _)
+pub no_star : (keys : List Cell) (e : Border) → is_some e.time ≡ true → (c : Cell) →
+    list_any (same_cell c) keys ≡ (list_any (same_cell c) keys || is_starred c e)
+no_star keys e some c = sym (ap (λ (b : Bool). list_any (same_cell c) keys || b)
+    (timed e.time (same_cell c e.cell) some) ∙ or_none _)

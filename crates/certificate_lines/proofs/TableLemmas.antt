@@ -1,5 +1,7 @@
 -- The tables of ports, and the ports in a box.
-use Rattle.std.proofs.Common.{◌≡◌, ℕ, zero, suc, ◌+◌, ◌*◌, ◌<◌, ◌≤◌, ℤ, Bool, true, false, ◌&&◌, ◌||◌, if◌then◌else◌, List, [], ◌∷◌, ◌++◌, ◌-◌, set, take, length, length-take-le, get_or, replicate, Option, Some, None, refl, sym, ap, ap₂, subst, ◌∙◌, arith}
+use Rattle.std.proofs.Common.{◌≡◌, ℕ, zero, suc, ◌+◌, ◌*◌, ◌<◌, ◌≤◌, ℤ, Bool, true, false, ◌&&◌, ◌||◌, if◌then◌else◌}
+use Rattle.std.proofs.Common.{List, [], ◌∷◌, ◌++◌, ◌-◌, set, take, length, length-take-le, get_or, replicate, Option}
+use Rattle.std.proofs.Common.{Some, None, refl, sym, ap, ap₂, subst, ◌∙◌, arith}
 use Rattle.std.specs.Prelude.{slice_get}
 use Rattle.std.specs.List.{list_any}
 use Rattle.std.specs.Option.{option_map_or}
@@ -27,7 +29,8 @@ use Rattle.certificate_lines.proofs.PortLemmas.{cell_passed, has_cell, in_box_ce
 
 -- ---- the ports in a box
 
-port_by : (ports : List Port) → HaveOwnCells ports → (i : ℕ) (p : Port) → slice_get ports i ≡ Some p → (o : Option (List ℕ)) → port_at ports p.cell.x p.cell.y ≡ o → o ≡ Some p.name
+port_by : (ports : List Port) → HaveOwnCells ports → (i : ℕ) (p : Port) → slice_get ports i ≡ Some p →
+    (o : Option (List ℕ)) → port_at ports p.cell.x p.cell.y ≡ o → o ≡ Some p.name
 port_by ports apart i p at None e = absurd (none_stands ports p.cell.x p.cell.y e i p at (cell_itself p.cell))
 port_by ports apart i p at (Some name) e =
     let s = port_stands ports p.cell.x p.cell.y name e in
@@ -36,11 +39,13 @@ port_by ports apart i p at (Some name) e =
     ap (λ (n : List ℕ). Some n) (sym s.named ∙ ap (λ (q : Port). q.name) here)
 
 -- where no two ports stand at one cell, each is the port at its cell
-pub port_there : (ports : List Port) → HaveOwnCells ports → (i : ℕ) (p : Port) → slice_get ports i ≡ Some p → port_at ports p.cell.x p.cell.y ≡ Some p.name
+pub port_there : (ports : List Port) → HaveOwnCells ports → (i : ℕ) (p : Port) → slice_get ports i ≡ Some p →
+    port_at ports p.cell.x p.cell.y ≡ Some p.name
 port_there ports apart i p at = port_by ports apart i p at _ refl
 
 -- what a name of an option passes
-passed_name : (f : List ℕ → Bool) (o : Option (List ℕ)) → option_map_or f o false ≡ true → (name : List ℕ) × (o ≡ Some name) × (f name ≡ true)
+passed_name : (f : List ℕ → Bool) (o : Option (List ℕ)) → option_map_or f o false ≡ true →
+    (name : List ℕ) × (o ≡ Some name) × (f name ≡ true)
 passed_name f None h = absurd cc
 passed_name f (Some name) h = (name, refl, h)
 
@@ -56,7 +61,9 @@ module _ (ports : List Port) (apart : HaveOwnCells ports) (b : Box2) (f : List �
       let r = cell_passed by_cell (box_cells b) h in
       let n = passed_name f (port_at ports r.0.x r.0.y) r.2 in
       let p = port_stands ports r.0.x r.0.y n.0 n.1 in
-      let inside : in_box b p.port.cell.x p.port.cell.y ≡ true = ap (λ (c : Cell). in_box b c.x c.y) (cell_same p.port.cell r.0 p.stands) ∙ sym (in_box_cells b r.0.x r.0.y) ∙ r.1 in
+      let inside : in_box b p.port.cell.x p.port.cell.y ≡ true =
+      ap (λ (c : Cell). in_box b c.x c.y) (cell_same p.port.cell r.0 p.stands) ∙ sym (in_box_cells b r.0.x r.0.y)
+      ∙ r.1 in
       let named : f p.port.name ≡ true = ap f p.named ∙ n.2 in
       any_at by_port ports p.number p.port p.numbered (rw (inside, named) refl)
 
@@ -65,7 +72,8 @@ module _ (ports : List Port) (apart : HaveOwnCells ports) (b : Box2) (f : List �
       let r = passed by_port ports h in
       let both = and_parts (in_box b r.element.cell.x r.element.cell.y) (f r.element.name) r.passes in
       let there = port_there ports apart r.place r.element r.stands in
-      has_cell by_cell (box_cells b) r.element.cell (in_box_cells b r.element.cell.x r.element.cell.y ∙ both.0) (ap (λ (o : Option (List ℕ)). option_map_or f o false) there ∙ both.1)
+      has_cell by_cell (box_cells b) r.element.cell (in_box_cells b r.element.cell.x r.element.cell.y ∙ both.0)
+      (ap (λ (o : Option (List ℕ)). option_map_or f o false) there ∙ both.1)
 
   pub ports_in_box : list_any by_cell (box_cells b) ≡ list_any by_port ports
   ports_in_box = same_truth _ _ from_cells from_ports
@@ -75,7 +83,8 @@ or_again true b c = refl
 or_again false b c = refl
 
 -- the ports of both kinds
-pub ports_pushed : (p q : List Port) → HaveOwnCells p → HaveOwnCells q → (b : Box2) (cells : List Cell) → cells ≡ box_cells b
+pub ports_pushed : (p q : List Port) → HaveOwnCells p → HaveOwnCells q → (b : Box2) (cells : List Cell) →
+    cells ≡ box_cells b
     → (old mid new : List (List ℕ)) (f : List ℕ → Bool)
     → list_any f mid ≡ (list_any f old || list_any (λ c. option_map_or f (port_at p c.x c.y) false) cells)
     → list_any f new ≡ (list_any f mid || list_any (λ c. option_map_or f (port_at q c.x c.y) false) cells)
@@ -84,7 +93,9 @@ ports_pushed p q apart apart' b cells are old mid new f first second =
     let one = ap (list_any (λ c. option_map_or f (port_at p c.x c.y) false)) are ∙ ports_in_box p apart b f in
     let two = ap (list_any (λ c. option_map_or f (port_at q c.x c.y) false)) are ∙ ports_in_box q apart' b f in
     let test : Port → Bool = λ r. in_box b r.cell.x r.cell.y && f r.name in
-    second ∙ ap₂ (λ x y. x || y) (first ∙ ap (λ x. list_any f old || x) one) two ∙ or_again (list_any f old) (list_any test p) (list_any test q) ∙ ap (λ x. list_any f old || x) (sym (list_any-append test p q))
+    second ∙ ap₂ (λ x y. x || y) (first ∙ ap (λ x. list_any f old || x) one) two
+    ∙ or_again (list_any f old) (list_any test p) (list_any test q)
+    ∙ ap (λ x. list_any f old || x) (sym (list_any-append test p q))
 
 -- ---- the number of the port at a cell
 
@@ -106,7 +117,8 @@ pub record IsNumbered (ports : List Port) (k : ℕ) (x y : ℤ) : Type 0 where
   pub within : k < length ports
   pub named : (d : Port) → Some (get_or ports k d).name ≡ port_at ports x y
 
-numbered_by : (b : Bool) (n k : ℕ) (p : Port) (ports : List Port) (x y : ℤ) → is_at p.cell x y ≡ b → ((j : ℕ) → n ≡ suc j → IsNumbered ports j x y)
+numbered_by : (b : Bool) (n k : ℕ) (p : Port) (ports : List Port) (x y : ℤ) → is_at p.cell x y ≡ b →
+    ((j : ℕ) → n ≡ suc j → IsNumbered ports j x y)
     → (if b then 1 else one_later n) ≡ suc k → IsNumbered (p ∷ ports) k x y
 unfolding port_at
 numbered_by true n zero p ports x y here more e = record { within = omega arith; named = λ d. rw here refl }
@@ -121,27 +133,33 @@ numbered_by false (suc n) (suc k) p ports x y here more e =
 pub numbered : (ports : List Port) (k : ℕ) (x y : ℤ) → number_at ports x y ≡ suc k → IsNumbered ports k x y
 unfolding number_at
 numbered [] k x y e = absurd cc
-numbered (p ∷ ports) k x y e = numbered_by (is_at p.cell x y) (number_at ports x y) k p ports x y refl (λ j is. numbered ports j x y is) e
+numbered (p ∷ ports) k x y e =
+    numbered_by (is_at p.cell x y) (number_at ports x y) k p ports x y refl (λ j is. numbered ports j x y is) e
 
-pub numbered_below : (ports : List Port) (n : ℕ) (x y : ℤ) → n ≡ number_at ports x y → 0 < n → IsNumbered ports (n - 1) x y
+pub numbered_below : (ports : List Port) (n : ℕ) (x y : ℤ) → n ≡ number_at ports x y → 0 < n →
+    IsNumbered ports (n - 1) x y
 numbered_below ports zero x y e some = absurd (omega arith)
-numbered_below ports (suc k) x y e some = subst (λ (j : ℕ). IsNumbered ports j x y) (omega arith) (numbered ports k x y (sym e))
+numbered_below ports (suc k) x y e some =
+    subst (λ (j : ℕ). IsNumbered ports j x y) (omega arith) (numbered ports k x y (sym e))
 
 -- ---- one more port
 
-push_elsewhere : (ports : List Port) (p : Port) (x y : ℤ) → is_at p.cell x y ≡ false → number_at (ports ++ p ∷ []) x y ≡ number_at ports x y
+push_elsewhere : (ports : List Port) (p : Port) (x y : ℤ) → is_at p.cell x y ≡ false →
+    number_at (ports ++ p ∷ []) x y ≡ number_at ports x y
 unfolding number_at
 push_elsewhere [] p x y off = rw off refl
 push_elsewhere (q ∷ ports) p x y off = rw (push_elsewhere ports p x y off) refl
 
-push_here : (ports : List Port) (p : Port) (x y : ℤ) → is_at p.cell x y ≡ true → number_at ports x y ≡ 0 → number_at (ports ++ p ∷ []) x y ≡ suc (length ports)
+push_here : (ports : List Port) (p : Port) (x y : ℤ) → is_at p.cell x y ≡ true → number_at ports x y ≡ 0 →
+    number_at (ports ++ p ∷ []) x y ≡ suc (length ports)
 unfolding number_at
 push_here [] p x y on none = rw on refl
 push_here (q ∷ ports) p x y on none =
     let r = no_number (is_at q.cell x y) (number_at ports x y) none in
     rw (r.0, push_here ports p x y on r.1) refl
 
-none_there : (ports : List Port) (x y : ℤ) → ((i : ℕ) (q : Port) → slice_get ports i ≡ Some q → is_at q.cell x y ≡ true → ⊥) → number_at ports x y ≡ 0
+none_there : (ports : List Port) (x y : ℤ) →
+    ((i : ℕ) (q : Port) → slice_get ports i ≡ Some q → is_at q.cell x y ≡ true → ⊥) → number_at ports x y ≡ 0
 unfolding number_at
 none_there [] x y none = refl
 none_there (q ∷ ports) x y none =
@@ -152,7 +170,8 @@ none_there (q ∷ ports) x y none =
     not_true true h = absurd (h refl)
     not_true false h = refl
 
-within_take : (xs : List Port) (k i : ℕ) (q : Port) → slice_get (take k xs) i ≡ Some q → (i < k) × (slice_get xs i ≡ Some q)
+within_take : (xs : List Port) (k i : ℕ) (q : Port) → slice_get (take k xs) i ≡ Some q →
+    (i < k) × (slice_get xs i ≡ Some q)
 within_take [] zero i q e = absurd cc
 within_take [] (suc k) i q e = absurd cc
 within_take (x ∷ xs) zero i q e = absurd cc
@@ -171,7 +190,8 @@ unfolding filled
 filled_none zero = refl
 filled_none (suc n) = filled_none n
 
-filled_more : (xs : List ℕ) (i d v : ℕ) → i < length xs → get_or xs i d ≡ 0 → filled (set xs i (suc v)) ≡ suc (filled xs)
+filled_more : (xs : List ℕ) (i d v : ℕ) → i < length xs → get_or xs i d ≡ 0 →
+    filled (set xs i (suc v)) ≡ suc (filled xs)
 unfolding filled
 filled_more [] i d v lt e = absurd (omega arith)
 filled_more (zero ∷ xs) zero d v lt e = refl
@@ -200,7 +220,8 @@ place_within b x y h =
     let lt = slice_get_within (box_cells b) (place_in b x y) (record { x = x; y = y }) (box_place b x y h) in
     omega (arith, lt, box_length b)
 
-place_own : (b : Box2) (c d : Cell) → in_box b c.x c.y ≡ true → in_box b d.x d.y ≡ true → place_in b c.x c.y ≡ place_in b d.x d.y → c ≡ d
+place_own : (b : Box2) (c d : Cell) → in_box b c.x c.y ≡ true → in_box b d.x d.y ≡ true →
+    place_in b c.x c.y ≡ place_in b d.x d.y → c ≡ d
 place_own b c d h k same =
     some_is c d (sym (box_place b c.x c.y h) ∙ ap (λ (i : ℕ). slice_get (box_cells b) i) same ∙ box_place b d.x d.y k)
 
@@ -209,7 +230,8 @@ few_places w h p q =
     let m : w * h ≤ 512 * h = mul-le-mul_right h p in
     omega (arith, m, q)
 
-pub entry_is : (numbers : List ℕ) (place n : ℕ) → n ≡ get_or numbers place n → place < length numbers → n ≡ get_or numbers place 0
+pub entry_is : (numbers : List ℕ) (place n : ℕ) → n ≡ get_or numbers place n → place < length numbers →
+    n ≡ get_or numbers place 0
 entry_is numbers place n is lt = is ∙ get_or_default numbers place n 0 lt
 
 -- ---- a table of the ports so far
@@ -243,7 +265,8 @@ pub in_whole : (s : Extent) (b : Box2) → b ≡ whole s → (ports : List Port)
 unfolding in_box
 in_whole s b is ports on_board i p at = ap (λ (a : Box2). in_box a p.cell.x p.cell.y) is ∙ on_board i p at
 
-module _ (b : Box2) (ports : List Port) (apart : HaveOwnCells ports) (inside : AreInBox b ports) (k : ℕ) (p : Port) (at : slice_get ports k ≡ Some p) (numbers : List ℕ) (so_far : IsFilling b ports k numbers) where
+module _ (b : Box2) (ports : List Port) (apart : HaveOwnCells ports) (inside : AreInBox b ports) (k : ℕ) (p : Port)
+    (at : slice_get ports k ≡ Some p) (numbers : List ℕ) (so_far : IsFilling b ports k numbers) where
   here_inside : in_box b p.cell.x p.cell.y ≡ true
   here_inside = inside k p at
 
@@ -263,7 +286,8 @@ module _ (b : Box2) (ports : List Port) (apart : HaveOwnCells ports) (inside : A
   entry_there = let lt = place_within b p.cell.x p.cell.y here_inside in omega (arith, lt, so_far.sized)
 
   pub number_small : k < b.w * b.h
-  number_small = let lt = filled_less numbers (place_in b p.cell.x p.cell.y) 0 entry_there entry_free in omega (arith, lt, so_far.sized, so_far.count)
+  number_small = let lt = filled_less numbers (place_in b p.cell.x p.cell.y) 0 entry_there entry_free in
+      omega (arith, lt, so_far.sized, so_far.count)
 
   within : k < length ports
   within = slice_get_within ports k p at
@@ -274,18 +298,22 @@ module _ (b : Box2) (ports : List Port) (apart : HaveOwnCells ports) (inside : A
   longer : take (k + 1) ports ≡ take k ports ++ p ∷ []
   longer =
       ap (λ (j : ℕ). take j ports) suc_is ∙ take-suc ports k p within
-      ∙ ap (λ (q : Port). take k ports ++ q ∷ []) (some_is (get_or ports k p) p (sym (slice_get-get_or ports k p within) ∙ at))
+      ∙ ap (λ (q : Port). take k ports ++ q ∷ [])
+      (some_is (get_or ports k p) p (sym (slice_get-get_or ports k p within) ∙ at))
 
   so_many : length (take k ports) ≡ k
   so_many = length-take-le k ports (omega (arith, within))
 
   numbered_after : (c : Cell) → in_box b c.x c.y ≡ true → (on : Bool) → is_at p.cell c.x c.y ≡ on
-      → get_or (set numbers (place_in b p.cell.x p.cell.y) (k + 1)) (place_in b c.x c.y) 0 ≡ number_at (take k ports ++ p ∷ []) c.x c.y
+      → get_or (set numbers (place_in b p.cell.x p.cell.y) (k + 1)) (place_in b c.x c.y) 0
+      ≡ number_at (take k ports ++ p ∷ []) c.x c.y
   numbered_after c h true on =
       let same : p.cell ≡ c = cell_same p.cell c on in
-      subst (λ (d : Cell). get_or (set numbers (place_in b p.cell.x p.cell.y) (k + 1)) (place_in b d.x d.y) 0 ≡ number_at (take k ports ++ p ∷ []) d.x d.y) same
+      subst (λ (d : Cell). get_or (set numbers (place_in b p.cell.x p.cell.y) (k + 1)) (place_in b d.x d.y) 0
+      ≡ number_at (take k ports ++ p ∷ []) d.x d.y) same
       (get_or-set_same numbers (place_in b p.cell.x p.cell.y) (k + 1) 0 entry_there
-      ∙ suc_is ∙ ap suc (sym so_many) ∙ sym (push_here (take k ports) p p.cell.x p.cell.y (cell_itself p.cell) unnumbered_so_far))
+      ∙ suc_is ∙ ap suc (sym so_many)
+      ∙ sym (push_here (take k ports) p p.cell.x p.cell.y (cell_itself p.cell) unnumbered_so_far))
   numbered_after c h false off =
       get_or-set_other numbers (place_in b p.cell.x p.cell.y) (place_in b c.x c.y) (k + 1) 0
       (λ same. clash (ap (λ (d : Cell). is_at p.cell d.x d.y) (place_own b c p.cell h here_inside same)))
@@ -294,11 +322,15 @@ module _ (b : Box2) (ports : List Port) (apart : HaveOwnCells ports) (inside : A
       clash : is_at p.cell c.x c.y ≡ is_at p.cell p.cell.x p.cell.y → ⊥
       clash e = cc (e, off, cell_itself p.cell)
 
-  pub one_more : (place number : ℕ) → place ≡ place_in b p.cell.x p.cell.y → number ≡ k + 1 → IsFilling b ports (k + 1) (set numbers place number)
+  pub one_more : (place number : ℕ) → place ≡ place_in b p.cell.x p.cell.y → number ≡ k + 1 →
+      IsFilling b ports (k + 1) (set numbers place number)
   one_more place number is also = rw (is, also) (record {
     sized = length-set numbers (place_in b p.cell.x p.cell.y) (k + 1) ∙ so_far.sized;
-    numbered = λ x y h. numbered_after (record { x = x; y = y }) h _ refl ∙ ap (λ (ps : List Port). number_at ps x y) (sym longer);
-    count = ap (λ (n : ℕ). filled (set numbers (place_in b p.cell.x p.cell.y) n)) suc_is ∙ filled_more numbers (place_in b p.cell.x p.cell.y) 0 k entry_there entry_free ∙ ap suc so_far.count ∙ sym suc_is;
+    numbered = λ x y h. numbered_after (record { x = x; y = y }) h _ refl
+        ∙ ap (λ (ps : List Port). number_at ps x y) (sym longer);
+    count = ap (λ (n : ℕ). filled (set numbers (place_in b p.cell.x p.cell.y) n)) suc_is
+        ∙ filled_more numbers (place_in b p.cell.x p.cell.y) 0 k entry_there entry_free ∙ ap suc so_far.count
+        ∙ sym suc_is;
   })
 
 -- ---- outside
@@ -308,10 +340,13 @@ not_inside b c x y out inside here =
     let same : c ≡ record { x = x; y = y } = cell_same c (record { x = x; y = y }) here in
     cc (ap (λ (d : Cell). in_box b d.x d.y) same, inside, out)
 
-no_name : (ports : List Port) (x y : ℤ) → ((name : List ℕ) → port_at ports x y ≡ Some name → ⊥) → (o : Option (List ℕ)) → port_at ports x y ≡ o → o ≡ None
+no_name : (ports : List Port) (x y : ℤ) → ((name : List ℕ) → port_at ports x y ≡ Some name → ⊥) →
+    (o : Option (List ℕ)) → port_at ports x y ≡ o → o ≡ None
 no_name ports x y none None e = refl
 no_name ports x y none (Some name) e = absurd (none name e)
 
-pub none_outside : (b : Box2) (ports : List Port) → AreInBox b ports → (x y : ℤ) → in_box b x y ≡ false → port_at ports x y ≡ None
+pub none_outside : (b : Box2) (ports : List Port) → AreInBox b ports → (x y : ℤ) → in_box b x y ≡ false →
+    port_at ports x y ≡ None
 none_outside b ports inside x y out =
-    no_name ports x y (λ name e. let r = port_stands ports x y name e in not_inside b r.port.cell x y out (inside r.number r.port r.numbered) r.stands) _ refl
+    no_name ports x y (λ name e. let r = port_stands ports x y name e in
+    not_inside b r.port.cell x y out (inside r.number r.port r.numbered) r.stands) _ refl

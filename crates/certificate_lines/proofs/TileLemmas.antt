@@ -1,5 +1,6 @@
 -- Cells that are all live.
-use Rattle.std.proofs.Common.{◌≡◌, ℕ, ◌+◌, ◌<◌, Bool, true, false, ◌&&◌, [], ◌∷◌, refl, sym, ap, ap₂, ◌∙◌, arith, to_z, w32}
+use Rattle.std.proofs.Common.{◌≡◌, ℕ, ◌+◌, ◌<◌, Bool, true, false, ◌&&◌, [], ◌∷◌, refl, sym, ap, ap₂, ◌∙◌, arith, to_z}
+use Rattle.std.proofs.Common.{w32}
 use Rattle.std.specs.List.{list_all, flat_map, range_with_len}
 use Rattle.std.proofs.lemmas.List.Folds.{list_all-append}
 use Rattle.bbm_rule.specs.declared.block.Cell.{Cell}
@@ -10,13 +11,17 @@ and_true : (a : Bool) → (a && true) ≡ a
 and_true true = refl
 and_true false = refl
 
-pub row_longer : (test : Cell → Bool) (x y : ℕ) (full here : Bool) → x < 512 → y < 512 → full ≡ list_all test (row_cells 0 x y) → here ≡ test (record { x = to_z w32 x; y = to_z w32 y }) → (full && here) ≡ list_all test (row_cells 0 (x + 1) y)
+pub row_longer : (test : Cell → Bool) (x y : ℕ) (full here : Bool) → x < 512 → y < 512 →
+    full ≡ list_all test (row_cells 0 x y) → here ≡ test (record { x = to_z w32 x; y = to_z w32 y }) →
+    (full && here) ≡ list_all test (row_cells 0 (x + 1) y)
 row_longer test x y full here low row before now =
     ap₂ (λ a b. a && b) before (now ∙ ap test (cast_cell x y low row) ∙ sym (and_true _))
     ∙ sym (list_all-append test (row_cells 0 x y) (cell x y ∷ []))
     ∙ ap (list_all test) (sym (row_more 0 x y x (omega arith)))
 
-pub rows_longer : (test : Cell → Bool) (w y : ℕ) (full here : Bool) → full ≡ list_all test (flat_map (row_cells 0 w) (range_with_len 0 y)) → here ≡ list_all test (row_cells 0 w y) → (full && here) ≡ list_all test (flat_map (row_cells 0 w) (range_with_len 0 (y + 1)))
+pub rows_longer : (test : Cell → Bool) (w y : ℕ) (full here : Bool) →
+    full ≡ list_all test (flat_map (row_cells 0 w) (range_with_len 0 y)) → here ≡ list_all test (row_cells 0 w y) →
+    (full && here) ≡ list_all test (flat_map (row_cells 0 w) (range_with_len 0 (y + 1)))
 rows_longer test w y full here before now =
     ap₂ (λ a b. a && b) before now
     ∙ sym (list_all-append test (flat_map (row_cells 0 w) (range_with_len 0 y)) (row_cells 0 w y))

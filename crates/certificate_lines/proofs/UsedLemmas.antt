@@ -1,9 +1,11 @@
--- What the last module uses, found from its last line on.
-use Rattle.std.proofs.Common.{◌≡◌, ℕ, ◌+◌, ◌-◌, ◌<◌, ◌≤◌, ◌==◌, Bool, true, false, ◌||◌, List, [], ◌∷◌, ◌++◌, length, take, get_or, Some, refl, sym, ap, subst, ◌∙◌, arith}
+-- The gates that the last module uses, found from its last line on.
+use Rattle.std.proofs.Common.{◌≡◌, ℕ, ◌+◌, ◌-◌, ◌<◌, ◌≤◌, ◌==◌, Bool, true, false, ◌||◌, List, [], ◌∷◌, ◌++◌, length}
+use Rattle.std.proofs.Common.{take, get_or, Some, refl, sym, ap, subst, ◌∙◌, arith}
 use Rattle.std.proofs.lemmas.List.{take_all, take_more}
 use Rattle.std.proofs.lemmas.List.Folds.{list_any-append}
 use Rattle.module_box.specs.Locals.{is_among}
-use Rattle.certificate_lines.specs.Entries.{ModuleLines, with_line, add_line, last_of, modules_of, present, gates, use_in}
+use Rattle.certificate_lines.specs.Entries.{ModuleLines, with_line, add_line, last_of, modules_of, present, gates}
+use Rattle.certificate_lines.specs.Entries.{use_in}
 use Rattle.certificate_lines.specs.ModuleParts.{is_module}
 use Rattle.certificate_lines.specs.declared.entry.Entry.{Entry}
 use Rattle.certificate_lines.specs.declared.entry.Entry.TheVariants.{Module, Cut, Use, Keep, Edge, Halo, Stop}
@@ -20,15 +22,28 @@ unfolding modules_of last_of
 none_told k b m e = absurd cc
 
 -- a line that begins no module
-other_line : (es : List Entry) (i : Entry) → is_module i ≡ false → (m : ModuleLines) → present (es ++ i ∷ []) ≡ Some m → (l : ModuleLines) × (present es ≡ Some l) × (m ≡ with_line i l)
+other_line : (es : List Entry) (i : Entry) → is_module i ≡ false → (m : ModuleLines) → present (es ++ i ∷ []) ≡ Some m →
+    (l : ModuleLines) × (present es ≡ Some l) × (m ≡ with_line i l)
 unfolding add_line
 other_line es (Module b) other m e = absurd cc
-other_line es (Cut n) other m e = mapped_some (with_line (Cut n)) (present es) m (sym (ap last_of (modules_push es (Cut n)) ∙ last_changed (with_line (Cut n)) (modules_of es)) ∙ e)
-other_line es (Use n) other m e = mapped_some (with_line (Use n)) (present es) m (sym (ap last_of (modules_push es (Use n)) ∙ last_changed (with_line (Use n)) (modules_of es)) ∙ e)
-other_line es (Keep n) other m e = mapped_some (with_line (Keep n)) (present es) m (sym (ap last_of (modules_push es (Keep n)) ∙ last_changed (with_line (Keep n)) (modules_of es)) ∙ e)
-other_line es (Edge n) other m e = mapped_some (with_line (Edge n)) (present es) m (sym (ap last_of (modules_push es (Edge n)) ∙ last_changed (with_line (Edge n)) (modules_of es)) ∙ e)
-other_line es (Halo n) other m e = mapped_some (with_line (Halo n)) (present es) m (sym (ap last_of (modules_push es (Halo n)) ∙ last_changed (with_line (Halo n)) (modules_of es)) ∙ e)
-other_line es (Stop n) other m e = mapped_some (with_line (Stop n)) (present es) m (sym (ap last_of (modules_push es (Stop n)) ∙ last_changed (with_line (Stop n)) (modules_of es)) ∙ e)
+other_line es (Cut n) other m e =
+    mapped_some (with_line (Cut n)) (present es) m
+    (sym (ap last_of (modules_push es (Cut n)) ∙ last_changed (with_line (Cut n)) (modules_of es)) ∙ e)
+other_line es (Use n) other m e =
+    mapped_some (with_line (Use n)) (present es) m
+    (sym (ap last_of (modules_push es (Use n)) ∙ last_changed (with_line (Use n)) (modules_of es)) ∙ e)
+other_line es (Keep n) other m e =
+    mapped_some (with_line (Keep n)) (present es) m
+    (sym (ap last_of (modules_push es (Keep n)) ∙ last_changed (with_line (Keep n)) (modules_of es)) ∙ e)
+other_line es (Edge n) other m e =
+    mapped_some (with_line (Edge n)) (present es) m
+    (sym (ap last_of (modules_push es (Edge n)) ∙ last_changed (with_line (Edge n)) (modules_of es)) ∙ e)
+other_line es (Halo n) other m e =
+    mapped_some (with_line (Halo n)) (present es) m
+    (sym (ap last_of (modules_push es (Halo n)) ∙ last_changed (with_line (Halo n)) (modules_of es)) ∙ e)
+other_line es (Stop n) other m e =
+    mapped_some (with_line (Stop n)) (present es) m
+    (sym (ap last_of (modules_push es (Stop n)) ∙ last_changed (with_line (Stop n)) (modules_of es)) ∙ e)
 
 or_true : (a : Bool) → true ≡ (a || true)
 or_true true = refl
@@ -39,24 +54,31 @@ or_none true = refl
 or_none false = refl
 
 -- the gates with one more line
-one_line : (m : ModuleLines) (i : Entry) (k : ℕ) → is_among (gates (with_line i m)) k ≡ (is_among (gates m) k || is_among (use_in i) k)
-one_line m i k = ap (λ gs. is_among gs k) (flat_push use_in m.lines i) ∙ list_any-append (λ v. v == k) (gates m) (use_in i)
+one_line : (m : ModuleLines) (i : Entry) (k : ℕ) →
+    is_among (gates (with_line i m)) k ≡ (is_among (gates m) k || is_among (use_in i) k)
+one_line m i k = ap (λ gs. is_among gs k) (flat_push use_in m.lines i)
+    ∙ list_any-append (λ v. v == k) (gates m) (use_in i)
 
-told_more : (es : List Entry) (i : Entry) (k : ℕ) (b : Bool) → is_module i ≡ false → is_among (use_in i) k ≡ false → Tells es k b → Tells (es ++ i ∷ []) k b
+told_more : (es : List Entry) (i : Entry) (k : ℕ) (b : Bool) → is_module i ≡ false → is_among (use_in i) k ≡ false →
+    Tells es k b → Tells (es ++ i ∷ []) k b
 told_more es i k b other unused h m e =
     let p = other_line es i other m e in
-    h p.0 p.1 ∙ or_none _ ∙ sym (ap (λ (l : ModuleLines). is_among (gates l) k) p.2 ∙ one_line p.0 i k ∙ ap (λ (u : Bool). is_among (gates p.0) k || u) unused)
+    h p.0 p.1 ∙ or_none _ ∙ sym (ap (λ (l : ModuleLines). is_among (gates l) k) p.2 ∙ one_line p.0 i k
+    ∙ ap (λ (u : Bool). is_among (gates p.0) k || u) unused)
 
-told_used : (es : List Entry) (i : Entry) (k : ℕ) → is_module i ≡ false → is_among (use_in i) k ≡ true → Tells (es ++ i ∷ []) k true
+told_used : (es : List Entry) (i : Entry) (k : ℕ) → is_module i ≡ false → is_among (use_in i) k ≡ true →
+    Tells (es ++ i ∷ []) k true
 told_used es i k other used m e =
     let p = other_line es i other m e in
-    or_true _ ∙ sym (ap (λ (l : ModuleLines). is_among (gates l) k) p.2 ∙ one_line p.0 i k ∙ ap (λ (u : Bool). is_among (gates p.0) k || u) used)
+    or_true _ ∙ sym (ap (λ (l : ModuleLines). is_among (gates l) k) p.2 ∙ one_line p.0 i k
+    ∙ ap (λ (u : Bool). is_among (gates p.0) k || u) used)
 
 told_module : (es : List Entry) (i : Entry) (k : ℕ) → is_module i ≡ true → Tells (es ++ i ∷ []) k false
 unfolding add_line
 told_module es (Module b) k is m e =
     let begun : ModuleLines = record { area = b; lines = [] } in
-    ap (λ (l : ModuleLines). is_among (gates l) k) (some_is begun m (sym (ap last_of (modules_push es (Module b)) ∙ last_pushed (modules_of es) begun) ∙ e))
+    ap (λ (l : ModuleLines). is_among (gates l) k)
+    (some_is begun m (sym (ap last_of (modules_push es (Module b)) ∙ last_pushed (modules_of es) begun) ∙ e))
 told_module es (Cut n) k is m e = absurd cc
 told_module es (Use n) k is m e = absurd cc
 told_module es (Keep n) k is m e = absurd cc
@@ -73,7 +95,8 @@ IsToldBefore es k back = (b : Bool) → Tells (take (length es - back) es) k b �
 pub told_by_all : (es : List Entry) (k : ℕ) → IsToldBefore es k 0
 told_by_all es k b h = subst (λ l. Tells l k b) (take_all (length es - 0) es (omega arith)) h
 
-module _ (es : List Entry) (k back : ℕ) (i : Entry) (within : back < length es) (is : i ≡ get_or es (length es - 1 - back) i) (so_far : IsToldBefore es k back) where
+module _ (es : List Entry) (k back : ℕ) (i : Entry) (within : back < length es)
+    (is : i ≡ get_or es (length es - 1 - back) i) (so_far : IsToldBefore es k back) where
   place : ℕ
   place = length es - 1 - back
 
@@ -90,13 +113,16 @@ module _ (es : List Entry) (k back : ℕ) (i : Entry) (within : back < length es
 
   pub told_before : is_module i ≡ false → is_among (use_in i) k ≡ false → IsToldBefore es k (back + 1)
   told_before other unused b h =
-      so_far b (subst (λ l. Tells l k b) (sym one_less) (told_more (take place es) i k b other unused (subst (λ n. Tells (take n es) k b) next_back h)))
+      so_far b (subst (λ l. Tells l k b) (sym one_less)
+      (told_more (take place es) i k b other unused (subst (λ n. Tells (take n es) k b) next_back h)))
 
   pub told_true : is_module i ≡ false → is_among (use_in i) k ≡ true → Tells es k true
-  told_true other used = so_far true (subst (λ l. Tells l k true) (sym one_less) (told_used (take place es) i k other used))
+  told_true other used = so_far true
+      (subst (λ l. Tells l k true) (sym one_less) (told_used (take place es) i k other used))
 
   pub told_false : is_module i ≡ true → Tells es k false
-  told_false begins = so_far false (subst (λ l. Tells l k false) (sym one_less) (told_module (take place es) i k begins))
+  told_false begins = so_far false
+      (subst (λ l. Tells l k false) (sym one_less) (told_module (take place es) i k begins))
 
 pub told_all : (es : List Entry) (k back : ℕ) → length es ≤ back → IsToldBefore es k back → Tells es k false
 told_all es k back past so_far =

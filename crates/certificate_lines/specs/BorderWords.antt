@@ -1,4 +1,4 @@
--- What the words behind the keyword of an edge, halo or stop line say
+-- The meaning of the words behind the keyword of an edge, halo or stop line
 use Rattle.std.specs.Prelude.{ℕ, List, codes, Option, Some, None, if◌then◌else◌}
 use Rattle.std.specs.Str.{bytes_eq}
 use Rattle.section_text.specs.Words.{number_of, name_of, ◌>>=◌}
@@ -6,12 +6,15 @@ use Rattle.pattern.specs.PortWords.{cell_by}
 use Rattle.certificate_lines.specs.declared.entry.Border.{Border}
 use Rattle.certificate_lines.specs.declared.entry.StopLine.{StopLine}
 
+-- the time that a word is, with `*` for every odd time
 unfoldable pub time_by : List ℕ → Option (Option ℕ)
 time_by w = if bytes_eq w (codes "*") then Some None else (number_of w >>= λ t. Some (Some t))
 
+-- the signal that a word is: `1`, or a name
 unfoldable pub signal_by : List ℕ → Option (Option (List ℕ))
 signal_by w = if bytes_eq w (codes "1") then Some None else (name_of w >>= λ n. Some (Some n))
 
+-- the edge or halo line of four words
 unfoldable pub border_by : List ℕ → List ℕ → List ℕ → List ℕ → Option Border
 border_by time column row signal = do
   t ← time_by time
@@ -19,6 +22,7 @@ border_by time column row signal = do
   s ← signal_by signal
   Some (record { time = t; cell = c; signal = s })
 
+-- the stop of four words
 unfoldable pub stop_by : List ℕ → List ℕ → List ℕ → List ℕ → Option StopLine
 stop_by time wire column row = do
   t ← number_of time

@@ -1,5 +1,6 @@
--- The fields of a certificate that is being read, and what contracts see of them
-use Rattle.std.specs.Prelude.{◌≡◌, ℕ, ◌+◌, ◌<◌, ◌≤◌, ℤ, ◌&&◌, Bool, false, List, [], ◌∷◌, ◌++◌, map, length, Option, Some, None, slice_get, IsTrue}
+-- The fields of a certificate that is being read, and its view
+use Rattle.std.specs.Prelude.{◌≡◌, ℕ, ◌+◌, ◌<◌, ◌≤◌, ℤ, ◌&&◌, Bool, false, List, [], ◌∷◌, ◌++◌, map, length, Option}
+use Rattle.std.specs.Prelude.{Some, None, slice_get, IsTrue}
 use Rattle.std.specs.Option.{option_to_list}
 use Rattle.circuit.specs.Meaning.{Circuit, Gate, wire_of}
 use Rattle.std.specs.List.{filter, list_any}
@@ -7,7 +8,8 @@ use Rattle.bbm_rule.specs.Board.{Board, live}
 use Rattle.bbm_rule.specs.declared.block.Cell.{Cell}
 use Rattle.module_box.specs.Boxes.{in_box, in_halo}
 use Rattle.module_box.specs.declared.boxes.Box2.{Box2}
-use Rattle.certificate_lines.specs.Entries.{Setting, ModuleLines, modules_of, last_of, areas, counts_of, known, edges, halos}
+use Rattle.certificate_lines.specs.Entries.{Setting, ModuleLines, modules_of, last_of, areas, counts_of, known, edges}
+use Rattle.certificate_lines.specs.Entries.{halos}
 use Rattle.certificate_lines.specs.Rules.{in_boxes, is_starred, same_cell, lacks_port}
 use Rattle.certificate_lines.specs.Modules.{HasFewLines, IsModule}
 use Rattle.certificate_lines.specs.Versions.{is_strange}
@@ -22,13 +24,16 @@ pub record BuilderState : Type 0 where
   pub setting : Setting
   pub entries : List Entry
 
+-- the view of a builder, from its fields
 abbrev pub builder_state : Inside → BuilderState
 builder_state a = record { setting = a.site; entries = a.entries.items }
 
 -- what is kept of the last module is what its lines say
-pub record IsPresent (g : Setting) (m : ModuleLines) (last : Option Entry) (names : List (List ℕ)) (local : List ℕ) (e h : List Cell) : Type 0 where
+pub record IsPresent (g : Setting) (m : ModuleLines) (last : Option Entry) (names : List (List ℕ)) (local : List ℕ)
+    (e h : List Cell) : Type 0 where
   pub final : last_of m.lines ≡ last
-  pub ports : (f : List ℕ → Bool) → list_any f names ≡ list_any (λ p. in_box m.area p.cell.x p.cell.y && f p.name) g.ports
+  pub ports : (f : List ℕ → Bool) →
+      list_any f names ≡ list_any (λ p. in_box m.area p.cell.x p.cell.y && f p.name) g.ports
   pub wires : local ≡ known g.circuit m
   -- the same cells, whatever their order
   pub stars : (c : Cell) → list_any (same_cell c) e ≡ list_any (is_starred c) (edges m)
@@ -39,7 +44,7 @@ pub record AreApart (boxes : List Box2) : Type 0 where
   pub once : (x y : ℤ) (i j : ℕ) (b b' : Box2) → slice_get boxes i ≡ Some b → slice_get boxes j ≡ Some b' →
       IsTrue (in_box b x y) → IsTrue (in_box b' x y) → i ≡ j
 
--- a good module, with at most so many edge and halo lines of its own
+-- a good module within the limit on its edge, halo and stop lines
 pub record IsWritten (g : Setting) (m : ModuleLines) : Type 0 where
   pub good : IsModule g m
   pub few_borders : HasFewLines m
@@ -49,7 +54,7 @@ pub record AreSound (g : Setting) (ms : List ModuleLines) : Type 0 where
   pub few : length ms ≤ 1024
   pub each : (k : ℕ) (m : ModuleLines) → slice_get ms k ≡ Some m → IsWritten g m
   pub apart : AreApart (areas ms)
-  -- of all but the last, the ports' wires are local
+  -- the ports' wires are local in all modules but the last
   pub ported : (i : ℕ) (m : ModuleLines) → i + 1 < length ms → slice_get ms i ≡ Some m → lacks_port g m ≡ false
 
 -- the modules so far, and what is kept of all of them
@@ -61,29 +66,35 @@ pub record AreBuilt (g : Setting) (ms : List ModuleLines) (covered : Board) (cou
   pub counted : counts ≡ map counts_of ms
 
 -- what is kept of the lines is what they say
-pub record IsKept (g : Setting) (es : List Entry) (covered : Board) (counts : List Counts) (last : Option Entry) (names : List (List ℕ)) (local : List ℕ) (e h : List Cell) : Type 0 where
+pub record IsKept (g : Setting) (es : List Entry) (covered : Board) (counts : List Counts) (last : Option Entry)
+    (names : List (List ℕ)) (local : List ℕ) (e h : List Cell) : Type 0 where
   pub built : AreBuilt g (modules_of es) covered counts
   pub none : modules_of es ≡ [] → names ≡ []
   pub present : (m : ModuleLines) → last_of (modules_of es) ≡ Some m → IsPresent g m last names local e h
 
 -- one of these edge lines is for a cell in the halo of the module, and names a wire that is not local there
 abbrev pub lacks_edge : Circuit → List Border → ModuleLines → Bool
-lacks_edge c es m = list_any (λ e. is_strange c (known c m) e.signal) (filter (λ e. in_halo m.area e.cell.x e.cell.y) es)
+lacks_edge c es m = list_any (λ e. is_strange c (known c m) e.signal)
+    (filter (λ e. in_halo m.area e.cell.x e.cell.y) es)
 
 -- The local wires of each module, behind none: `earlier` has those of all modules but the last, and `local` has its.
 abbrev pub AreWires : Circuit → List ModuleLines → List (List ℕ) → List ℕ → Type 0
 AreWires c ms earlier local = earlier ++ local ∷ [] ≡ [] ∷ map (known c) ms
 
 -- what is kept of the lines, and of the wires of all modules
-pub record IsKeptWith (g : Setting) (es : List Entry) (covered : Board) (counts : List Counts) (last : Option Entry) (names : List (List ℕ)) (earlier : List (List ℕ)) (local : List ℕ) (e h : List Cell) : Type 0 where
+pub record IsKeptWith (g : Setting) (es : List Entry) (covered : Board) (counts : List Counts) (last : Option Entry)
+    (names : List (List ℕ)) (earlier : List (List ℕ)) (local : List ℕ) (e h : List Cell) : Type 0 where
   pub kept : IsKept g es covered counts last names local e h
   pub wires : AreWires g.circuit (modules_of es) earlier local
 
+-- the fields of every builder: its tables are those of its lines
 abbrev pub IsBuilder : Inside → Type 0
-IsBuilder a = IsKeptWith a.site a.entries.items a.covered a.modules.items a.last a.names.items (map (λ s. s.keys) a.earlier.items) a.known.keys a.edges.keys a.halos.keys
+IsBuilder a = IsKeptWith a.site a.entries.items a.covered a.modules.items a.last a.names.items
+    (map (λ s. s.keys) a.earlier.items) a.known.keys a.edges.keys a.halos.keys
 
 -- ---- the counts of a module with one more line
 
+-- the counts of a module with one line more
 unfoldable pub counted : Entry → Counts → Counts
 counted (Module b) k = k
 counted (Cut n) k = record k { cuts = k.cuts + 1 }
@@ -111,6 +122,7 @@ IsInner (Stop s) = Unit {0}
 
 -- ---- what a line of a module makes local
 
+-- the wires that a gate defines, if there is a gate
 abbrev pub outs_at : Option Gate → List ℕ
 outs_at None = []
 outs_at (Some gate) = gate.outs

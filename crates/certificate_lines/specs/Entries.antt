@@ -26,14 +26,17 @@ pub record ModuleLines : Type 0 where
   pub area : Box2
   pub lines : List Entry
 
+-- a module with one line more
 abbrev pub with_line : Entry → ModuleLines → ModuleLines
 with_line i m = record m { lines = m.lines ++ i ∷ [] }
 
+-- a list with its last element changed
 unfoldable pub change_last : {X : Type 0} → (X → X) → List X → List X
 change_last f [] = []
 change_last f (x ∷ []) = f x ∷ []
 change_last f (x ∷ y ∷ xs) = x ∷ change_last f (y ∷ xs)
 
+-- the last element of a list, if it has one
 unfoldable pub last_of : {X : Type 0} → List X → Option X
 last_of [] = None
 last_of (x ∷ []) = Some x
@@ -57,11 +60,13 @@ modules_of entries = fold add_line [] entries
 abbrev pub present : List Entry → Option ModuleLines
 present entries = last_of (modules_of entries)
 
+-- the boxes of modules
 abbrev pub areas : List ModuleLines → List Box2
 areas ms = map (λ m. m.area) ms
 
 -- ---- the lines of a module by their kinds
 
+-- the name that a line cuts, if it is a cut line
 abbrev pub cut_in : Entry → List (List ℕ)
 cut_in (Module b) = []
 cut_in (Cut n) = n ∷ []
@@ -71,6 +76,7 @@ cut_in (Edge e) = []
 cut_in (Halo e) = []
 cut_in (Stop s) = []
 
+-- the gate that a line uses, if it is a use line
 abbrev pub use_in : Entry → List ℕ
 use_in (Module b) = []
 use_in (Cut n) = []
@@ -80,6 +86,7 @@ use_in (Edge e) = []
 use_in (Halo e) = []
 use_in (Stop s) = []
 
+-- an edge line, and no other line
 abbrev pub edge_in : Entry → List Border
 edge_in (Module b) = []
 edge_in (Cut n) = []
@@ -89,6 +96,7 @@ edge_in (Edge e) = e ∷ []
 edge_in (Halo e) = []
 edge_in (Stop s) = []
 
+-- a halo line, and no other line
 abbrev pub halo_in : Entry → List Border
 halo_in (Module b) = []
 halo_in (Cut n) = []
@@ -98,6 +106,7 @@ halo_in (Edge e) = []
 halo_in (Halo e) = e ∷ []
 halo_in (Stop s) = []
 
+-- a stop line, and no other line
 abbrev pub stop_in : Entry → List StopLine
 stop_in (Module b) = []
 stop_in (Cut n) = []
@@ -107,6 +116,7 @@ stop_in (Edge e) = []
 stop_in (Halo e) = []
 stop_in (Stop s) = s ∷ []
 
+-- the gate that a line keeps, if it is a keep line
 abbrev pub keep_in : Entry → List ℕ
 keep_in (Module b) = []
 keep_in (Cut n) = []
@@ -128,12 +138,15 @@ gates m = flat_map use_in m.lines
 abbrev pub keeps : ModuleLines → List ℕ
 keeps m = flat_map keep_in m.lines
 
+-- the edge lines of a module
 abbrev pub edges : ModuleLines → List Border
 edges m = flat_map edge_in m.lines
 
+-- the halo lines of a module
 abbrev pub halos : ModuleLines → List Border
 halos m = flat_map halo_in m.lines
 
+-- the stops of a module
 abbrev pub stops : ModuleLines → List StopLine
 stops m = flat_map stop_in m.lines
 

@@ -1,4 +1,4 @@
--- The line forms of the certificate section: what the words of a line say
+-- The line forms of the certificate section: the meaning of the words of a line
 use Rattle.std.specs.Prelude.{ℕ, List, length, codes, Option, Some, None, ◌==◌, if◌then◌else◌}
 use Rattle.section_text.specs.Words.{number_at, name_at, is_word_at, lone, lone_number, lone_name, ◌>>=◌}
 use Rattle.section_text.specs.declared.section.Form.{Form}
@@ -23,6 +23,7 @@ corner_and_sides ws = do
   h ← number_at ws 4
   Some (record { x = x; y = y; w = w; h = h })
 
+-- the box of a `module` line
 unfoldable pub area_of : List (List ℕ) → Option Box2
 area_of ws = if length ws == 5 then corner_and_sides ws else None
 
@@ -42,6 +43,7 @@ timed_cell ws = do
   s ← signal_at ws 4
   Some (record { time = t; cell = c; signal = s })
 
+-- the content of an edge or halo line
 unfoldable pub border_of : List (List ℕ) → Option Border
 border_of ws = if length ws == 5 then timed_cell ws else None
 
@@ -53,9 +55,11 @@ timed_wire ws = do
   c ← cell_from ws 3
   Some (record { time = t; wire = n; cell = c })
 
+-- the content of a stop line
 unfoldable pub stop_of : List (List ℕ) → Option StopLine
 stop_of ws = if length ws == 5 then timed_wire ws else None
 
+-- the form of a line by its words, if it has one
 unfoldable pub form_of : List (List ℕ) → Option Line
 form_of ws =
     if is_word_at ws 0 (codes "edge") then (border_of ws >>= λ e. Some (Item (Edge e)))

@@ -7,6 +7,7 @@ use Rattle.certificate_lines.specs.declared.entry.Border.{Border}
 use Rattle.certificate_lines.specs.declared.entry.Entry.{Entry}
 use Rattle.certificate_lines.specs.declared.entry.Entry.TheVariants.{Module, Cut, Use, Keep, Edge, Halo, Stop}
 
+-- whether the line begins a module
 abbrev pub is_module : Entry → Bool
 is_module (Module b) = true
 is_module (Cut n) = false

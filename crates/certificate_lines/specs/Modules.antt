@@ -1,14 +1,17 @@
--- What the modules of a certificate are that was read
-use Rattle.std.specs.Prelude.{◌≡◌, ℕ, ◌<◌, ◌≤◌, ◌%◌, ◌||◌, not, true, List, [], ◌∷◌, length, Some, slice_get, IsTrue, IsFalse, IfSome}
+-- The properties of the modules of a certificate that was read
+use Rattle.std.specs.Prelude.{◌≡◌, ℕ, ◌<◌, ◌≤◌, ◌%◌, ◌||◌, not, true, List, [], ◌∷◌, length, Some, slice_get, IsTrue}
+use Rattle.std.specs.Prelude.{IsFalse, IfSome}
 use Rattle.std.specs.List.{All, list_all}
 use Rattle.module_box.specs.Boxes.{in_box, in_ring, in_halo, IsEven, Tile}
 use Rattle.module_box.specs.Locals.{AreLocalLines, is_among}
 use Rattle.module_box.specs.Tiling.{IsInside}
 use Rattle.module_box.specs.declared.boxes.Box2.{Box2}
 use Rattle.pattern.specs.declared.parts.Port.{Port}
-use Rattle.certificate_lines.specs.Entries.{Setting, ModuleLines, areas, cuts, gates, keeps, edges, halos, stops, cut_wires, known}
+use Rattle.certificate_lines.specs.Entries.{Setting, ModuleLines, areas, cuts, gates, keeps, edges, halos, stops}
+use Rattle.certificate_lines.specs.Entries.{cut_wires, known}
 use Rattle.certificate_lines.specs.Orders.{AreInOrder}
-use Rattle.certificate_lines.specs.Rules.{whole, is_local, is_inverse_gate, is_star, is_starred, border_count, border_limit}
+use Rattle.certificate_lines.specs.Rules.{whole, is_local, is_inverse_gate, is_star, is_starred, border_count}
+use Rattle.certificate_lines.specs.Rules.{border_limit}
 use Rattle.certificate_lines.specs.declared.entry.Border.{Border}
 use Rattle.certificate_lines.specs.declared.entry.StopLine.{StopLine}
 
@@ -40,14 +43,15 @@ pub record IsKeep (g : Setting) (used : List ℕ) (k : ℕ) : Type 0 where
   pub inverse : IsTrue (is_inverse_gate (slice_get g.circuit.netlist.gates k))
   pub among : IsTrue (is_among used k)
 
--- where a line with a `*` stands before one with a time, they are for different cells
+-- a line with a `*` and a later one with a time are for different cells
 unfoldable pub AreUnstarred : List Border → Type 0
 AreUnstarred [] = Unit {0}
 AreUnstarred (d ∷ es) = (list_all (λ e. is_star e.time || not (is_starred e.cell d)) es ≡ true) × AreUnstarred es
 
--- A module: its box is even, has sides of 2 to 64 and lies inside the rectangle. Its cuts and used gates make wires local one
--- after the other. Its lines are in order, it keeps inverse gates that it uses, and its edge, halo and stop lines stand where they may and
--- name local wires. No edge line has a time for a cell that one has a `*` for.
+-- A module: its box is even, has sides of 2 to 64 and lies inside the rectangle. Its cuts and used gates make wires
+-- local one after the other. Its lines are in order, and it keeps inverse gates that it uses. Its edge, halo and stop
+-- lines have places that they may have, and name local wires. No edge line has a time for a cell that one has a `*`
+-- for.
 pub record IsModule (g : Setting) (m : ModuleLines) : Type 0 where
   pub even : IsEven m.area
   pub wide : (2 ≤ m.area.w) × (m.area.w ≤ 64)
@@ -65,7 +69,8 @@ pub record IsModule (g : Setting) (m : ModuleLines) : Type 0 where
 
 -- the wires of the ports in the module's box are local
 pub record HasPorts (g : Setting) (m : ModuleLines) : Type 0 where
-  pub local : (i : ℕ) (p : Port) → slice_get g.ports i ≡ Some p → IsTrue (in_box m.area p.cell.x p.cell.y) → IsTrue (is_local g.circuit (known g.circuit m) p.name)
+  pub local : (i : ℕ) (p : Port) → slice_get g.ports i ≡ Some p → IsTrue (in_box m.area p.cell.x p.cell.y) →
+      IsTrue (is_local g.circuit (known g.circuit m) p.name)
 
 -- the modules of a certificate: their boxes tile the rectangle
 pub record AreModules (g : Setting) (ms : List ModuleLines) : Type 0 where

@@ -33,6 +33,7 @@ number_of (Edge e) = time_rank e.time
 number_of (Halo e) = time_rank e.time
 number_of (Stop s) = s.time
 
+-- the cell of a line that names none
 abbrev pub origin : Cell
 origin = record { x = pos 0; y = pos 0 }
 
@@ -52,6 +53,7 @@ line_cmp i j =
     ordering_then (nat_cmp (rank_of i) (rank_of j))
     (ordering_then (nat_cmp (number_of i) (number_of j)) (cell_cmp (cell_of i) (cell_of j)))
 
+-- whether the line is a cut line
 unfoldable pub is_cut : Entry → Bool
 is_cut (Module b) = false
 is_cut (Cut n) = true
@@ -61,15 +63,15 @@ is_cut (Edge e) = false
 is_cut (Halo e) = false
 is_cut (Stop s) = false
 
--- whether the first line may stand before the second in a module: the cuts come in any order
+-- whether the first line may come before the second in a module: the cuts come in any order
 unfoldable pub may_precede : Entry → Entry → Bool
 may_precede i j = is_lt (line_cmp i j) || (is_cut i && is_cut j)
 
--- whether all these lines may stand before the line
+-- whether all these lines may come before the line
 unfoldable pub may_follow : List Entry → Entry → Bool
 may_follow lines j = list_all (λ i. may_precede i j) lines
 
--- each line may stand before all later ones
+-- each line may come before all later ones
 unfoldable pub AreInOrder : List Entry → Type 0
 AreInOrder [] = Unit {0}
 AreInOrder (i ∷ lines) = (list_all (may_precede i) lines ≡ true) × AreInOrder lines

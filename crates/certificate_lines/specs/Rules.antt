@@ -1,10 +1,12 @@
--- Which line of a certificate is good after which lines. All that is asked is read from the lines themselves
-use Rattle.std.specs.Prelude.{ℕ, ◌+◌, ◌%◌, ◌==◌, ◌&&◌, ◌||◌, Bool, true, false, not, List, [], ◌∷◌, ◌++◌, length, slice_get, Option, Some, None, nat_lt, nat_le}
+-- The rules on which line of a certificate is good after which lines. They read everything from the lines themselves
+use Rattle.std.specs.Prelude.{ℕ, ◌+◌, ◌%◌, ◌==◌, ◌&&◌, ◌||◌, Bool, true, false, not, List, [], ◌∷◌, ◌++◌, length}
+use Rattle.std.specs.Prelude.{slice_get, Option, Some, None, nat_lt, nat_le}
 use Rattle.std.specs.List.{list_any, list_all}
 use Rattle.std.specs.Ordering.{int_eq}
 use Rattle.bbm_rule.specs.Plane.{State}
 use Rattle.bbm_rule.specs.declared.block.Cell.{Cell}
-use Rattle.section_text.specs.Codes.{code_where, defined_twice, misplaced_box, no_place, not_local, or_else, out_of_order, past_limit, something_missing, unknown_name}
+use Rattle.section_text.specs.Codes.{code_where, defined_twice, misplaced_box, no_place, not_local, or_else}
+use Rattle.section_text.specs.Codes.{out_of_order, past_limit, something_missing, unknown_name}
 use Rattle.circuit.specs.Gates.{is_inverse}
 use Rattle.circuit.specs.Meaning.{Circuit, Gate, wire_of}
 use Rattle.pattern.specs.Layout.{rectangle_cells}
@@ -17,7 +19,8 @@ use Rattle.certificate_lines.specs.declared.entry.Border.{Border}
 use Rattle.certificate_lines.specs.declared.entry.Entry.{Entry}
 use Rattle.certificate_lines.specs.declared.entry.StopLine.{StopLine}
 use Rattle.certificate_lines.specs.declared.entry.Entry.TheVariants.{Module, Cut, Use, Keep, Edge, Halo, Stop}
-use Rattle.certificate_lines.specs.Entries.{Setting, ModuleLines, modules_of, present, areas, cuts, gates, edges, halos, stops, known}
+use Rattle.certificate_lines.specs.Entries.{Setting, ModuleLines, modules_of, present, areas, cuts, gates, edges, halos}
+use Rattle.certificate_lines.specs.Entries.{stops, known}
 use Rattle.certificate_lines.specs.Orders.{may_follow}
 
 -- the whole rectangle of the layout
@@ -26,24 +29,28 @@ whole s = rectangle_of s.w s.h
 
 -- ---- local wires
 
+-- whether there is a wire, and it is local
 abbrev pub is_local_wire : List ℕ → Option ℕ → Bool
 is_local_wire local None = false
 is_local_wire local (Some w) = is_among local w
 
--- whether the name is that of a wire that is local, where these wires are
+-- whether the name is that of a wire that is local, if these wires are
 abbrev pub is_local : Circuit → List ℕ → List ℕ → Bool
 is_local c local name = is_local_wire local (wire_of c name)
 
 -- some port in the module's box has a wire that is not local
 unfoldable pub lacks_port : Setting → ModuleLines → Bool
-lacks_port g m = list_any (λ p. in_box m.area p.cell.x p.cell.y && not (is_local g.circuit (known g.circuit m) p.name)) g.ports
+lacks_port g m = list_any (λ p. in_box m.area p.cell.x p.cell.y && not (is_local g.circuit (known g.circuit m) p.name))
+    g.ports
 
+-- whether the last module, if there is one, lacks the wire of a port in its box
 abbrev pub is_incomplete : Setting → Option ModuleLines → Bool
 is_incomplete g None = false
 is_incomplete g (Some m) = lacks_port g m
 
 -- ---- a module line: 11, 2, 8
 
+-- whether a number is odd
 abbrev pub is_odd : ℕ → Bool
 is_odd n = n % 2 == 1
 
@@ -67,42 +74,52 @@ box_cells b = rectangle_cells (record { x = b.x; y = b.y; w = b.w; h = b.h })
 abbrev pub overlaps : List Box2 → Box2 → Bool
 overlaps boxes b = list_any (λ c. in_boxes boxes c.x c.y) (box_cells b)
 
--- the tests of a box by itself, where so many modules come before it, the last of them `before`
+-- the tests of a box by itself, after `count` modules, the last of them `before`
 unfoldable pub box_fault : Setting → ℕ → Option ModuleLines → Box2 → Option ℕ
 box_fault g count before b =
     or_else (code_where (is_incomplete g before) something_missing)
     (or_else (code_where (is_wrong_side b.w || is_wrong_side b.h || nat_le 1024 count) past_limit)
     (code_where (is_misplaced g.size b) misplaced_box))
 
+-- the code of a `module` line after these modules
 unfoldable pub module_fault : Setting → List ModuleLines → Option ModuleLines → Box2 → Option ℕ
-module_fault g ms before b = or_else (box_fault g (length ms) before b) (code_where (overlaps (areas ms) b) misplaced_box)
+module_fault g ms before b = or_else (box_fault g (length ms) before b)
+    (code_where (overlaps (areas ms) b) misplaced_box)
 
--- ---- a cut, where so many wires are cut and these are local: 2, 3, 4
+-- ---- a cut, after `count` cuts, if these wires are local: 2, 3, 4
 
+-- the code of a cut of a wire
 abbrev pub cut_wire_fault : List ℕ → Option ℕ → Option ℕ
 cut_wire_fault local None = Some unknown_name
 cut_wire_fault local (Some w) = code_where (is_among local w) defined_twice
 
+-- the code of a cut line after this many cuts
 unfoldable pub cut_fault : Circuit → ℕ → List ℕ → List ℕ → Option ℕ
-cut_fault c count local name = or_else (code_where (nat_le cut_limit count) past_limit) (cut_wire_fault local (wire_of c name))
+cut_fault c count local name =
+    or_else (code_where (nat_le cut_limit count) past_limit) (cut_wire_fault local (wire_of c name))
 
--- ---- a used gate, where so many gates are used and these wires are local: 2, 3, 9, 4
+-- ---- a used gate, after `count` used gates, if these wires are local: 2, 3, 9, 4
 
 -- the wires become local one after the other, and none is local already
 unfoldable pub are_new : List ℕ → List ℕ → Bool
 are_new local [] = true
 are_new local (w ∷ ws) = not (is_among local w) && are_new (local ++ w ∷ []) ws
 
+-- the code of a used gate by its wires
 unfoldable pub gate_fault : List ℕ → Option Gate → Option ℕ
 gate_fault local None = Some unknown_name
 gate_fault local (Some gate) =
-    or_else (code_where (not (list_all (is_among local) gate.ins)) not_local) (code_where (not (are_new local gate.outs)) defined_twice)
+    or_else (code_where (not (list_all (is_among local) gate.ins)) not_local)
+    (code_where (not (are_new local gate.outs)) defined_twice)
 
+-- the code of a use line after `count` used gates
 unfoldable pub use_fault : Circuit → ℕ → List ℕ → ℕ → Option ℕ
-use_fault c count local k = or_else (code_where (nat_le use_limit count) past_limit) (gate_fault local (slice_get c.netlist.gates k))
+use_fault c count local k = or_else (code_where (nat_le use_limit count) past_limit)
+    (gate_fault local (slice_get c.netlist.gates k))
 
--- ---- a kept gate, where these gates are used: 3, 9
+-- ---- a kept gate, if these gates are used: 3, 9
 
+-- whether there is a gate, and it is an inverse one
 abbrev pub is_inverse_gate : Option Gate → Bool
 is_inverse_gate None = false
 is_inverse_gate (Some gate) = is_inverse gate.kind
@@ -110,14 +127,17 @@ is_inverse_gate (Some gate) = is_inverse gate.kind
 -- it is the number of an inverse gate, and the module uses that gate
 unfoldable pub keep_fault : Circuit → List ℕ → ℕ → Option ℕ
 keep_fault c used k =
-    or_else (code_where (not (is_inverse_gate (slice_get c.netlist.gates k))) unknown_name) (code_where (not (is_among used k)) not_local)
+    or_else (code_where (not (is_inverse_gate (slice_get c.netlist.gates k))) unknown_name)
+    (code_where (not (is_among used k)) not_local)
 
 -- ---- an edge, halo or stop line: 2, 10, 3, 9
 
+-- whether the line has a `*`, for every odd time
 abbrev pub is_star : Option ℕ → Bool
 is_star None = true
 is_star (Some t) = false
 
+-- whether two cells are the same
 abbrev pub same_cell : Cell → Cell → Bool
 same_cell c d = int_eq c.x d.x && int_eq c.y d.y
 
@@ -130,15 +150,17 @@ unfoldable pub is_time : ℕ → Bool → Option ℕ → Bool
 is_time steps starred None = true
 is_time steps starred (Some t) = is_odd t && nat_lt t steps && not starred
 
--- an edge stands in the box's ring, and not on the rim of the rectangle, which is the rectangle's ring
+-- an edge is in the box's ring, and not on the rim of the rectangle, which is the rectangle's ring
 unfoldable pub is_edge_place : Extent → Box2 → Bool → Border → Bool
-is_edge_place s area starred e = in_ring area e.cell.x e.cell.y && not (in_ring (whole s) e.cell.x e.cell.y) && is_time s.steps starred e.time
+is_edge_place s area starred e =
+    in_ring area e.cell.x e.cell.y && not (in_ring (whole s) e.cell.x e.cell.y) && is_time s.steps starred e.time
 
--- a halo line stands in the box's halo, and inside the rectangle
+-- a halo line is in the box's halo, and inside the rectangle
 unfoldable pub is_halo_place : Extent → Box2 → Bool → Border → Bool
-is_halo_place s area starred e = in_halo area e.cell.x e.cell.y && in_box (whole s) e.cell.x e.cell.y && is_time s.steps starred e.time
+is_halo_place s area starred e =
+    in_halo area e.cell.x e.cell.y && in_box (whole s) e.cell.x e.cell.y && is_time s.steps starred e.time
 
--- a stop stands in the box, at a time up to the last one
+-- a stop is in the box, at a time up to the last one
 unfoldable pub is_stop_place : Extent → Box2 → StopLine → Bool
 is_stop_place size area s = in_box area s.cell.x s.cell.y && nat_le s.time size.steps
 
@@ -147,6 +169,7 @@ abbrev pub wire_fault : List ℕ → Option ℕ → Option ℕ
 wire_fault local None = Some unknown_name
 wire_fault local (Some w) = code_where (not (is_among local w)) not_local
 
+-- the code of a signal: its wire must be local
 unfoldable pub signal_fault : Circuit → List ℕ → Option (List ℕ) → Option ℕ
 signal_fault c local None = None
 signal_fault c local (Some name) = wire_fault local (wire_of c name)
@@ -155,25 +178,34 @@ signal_fault c local (Some name) = wire_fault local (wire_of c name)
 abbrev pub border_limit : ℕ
 border_limit = 65536
 
--- so many of these lines come before it; `placed` says whether it may stand at its cell and time
+-- the code of such a line after `count` of these lines; `placed` says whether it may have its cell and time
 unfoldable pub border_fault : Circuit → ℕ → List ℕ → Bool → Option (List ℕ) → Option ℕ
 border_fault c count local placed signal =
-    or_else (code_where (nat_le border_limit count) past_limit) (or_else (code_where (not placed) no_place) (signal_fault c local signal))
+    or_else (code_where (nat_le border_limit count) past_limit)
+    (or_else (code_where (not placed) no_place) (signal_fault c local signal))
 
 -- ---- a line after the lines before it
 
+-- how many edge, halo and stop lines a module has
 abbrev pub border_count : ModuleLines → ℕ
 border_count m = length (edges m) + length (halos m) + length (stops m)
 
+-- the code of an edge line of a module
 abbrev pub edge_fault : Setting → ModuleLines → Border → Option ℕ
-edge_fault g m e = border_fault g.circuit (border_count m) (known g.circuit m) (is_edge_place g.size m.area (list_any (is_starred e.cell) (edges m)) e) e.signal
+edge_fault g m e = border_fault g.circuit (border_count m) (known g.circuit m)
+    (is_edge_place g.size m.area (list_any (is_starred e.cell) (edges m)) e) e.signal
 
+-- the code of a halo line of a module
 abbrev pub halo_fault : Setting → ModuleLines → Border → Option ℕ
-halo_fault g m e = border_fault g.circuit (border_count m) (known g.circuit m) (is_halo_place g.size m.area (list_any (is_starred e.cell) (halos m)) e) e.signal
+halo_fault g m e = border_fault g.circuit (border_count m) (known g.circuit m)
+    (is_halo_place g.size m.area (list_any (is_starred e.cell) (halos m)) e) e.signal
 
+-- the code of a stop line of a module
 abbrev pub stop_fault : Setting → ModuleLines → StopLine → Option ℕ
-stop_fault g m s = border_fault g.circuit (border_count m) (known g.circuit m) (is_stop_place g.size m.area s) (Some s.wire)
+stop_fault g m s = border_fault g.circuit (border_count m) (known g.circuit m) (is_stop_place g.size m.area s)
+    (Some s.wire)
 
+-- the code of a line of a module, but for its order
 abbrev pub words_fault : Setting → ModuleLines → Entry → Option ℕ
 words_fault g m (Module b) = None
 words_fault g m (Cut n) = cut_fault g.circuit (length (cuts m)) (known g.circuit m) n
@@ -210,4 +242,5 @@ leaves_gap s boxes = not (list_all (λ c. in_boxes boxes c.x c.y) (box_cells (wh
 
 -- the ports of the last module are local, and the boxes leave no gap
 unfoldable pub end_fault : Setting → List Entry → Option ℕ
-end_fault g entries = code_where (is_incomplete g (present entries) || leaves_gap g.size (areas (modules_of entries))) something_missing
+end_fault g entries = code_where
+    (is_incomplete g (present entries) || leaves_gap g.size (areas (modules_of entries))) something_missing

@@ -1,4 +1,4 @@
--- What a certificate is for
+-- The circuit and the layout that a certificate is for
 use Rattle.std.specs.Prelude.{◌++◌, List}
 use Rattle.circuit.specs.Bridge.{circuit_of}
 use Rattle.pattern.specs.Layout.{Pattern}

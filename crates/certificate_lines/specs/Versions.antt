@@ -1,8 +1,9 @@
--- What the modules of a certificate are, by its version
+-- The modules of a certificate, by its version
 --
--- In version 1 a module says in halo lines what the cells of its halo carry. Version 2 has no halo lines. There each edge line of
--- another module for a cell of its halo stands for the halo line that says the same.
-use Rattle.std.specs.Prelude.{◌≡◌, ℕ, ◌==◌, ◌&&◌, Bool, true, false, not, if◌then◌else◌, List, [], ◌∷◌, ◌++◌, map, Option, Some, None, nat_lt}
+-- In version 1 a module says in halo lines what the cells of its halo carry. Version 2 has no halo lines. There each
+-- edge line of another module for a cell of its halo is a halo line that says the same.
+use Rattle.std.specs.Prelude.{◌≡◌, ℕ, ◌==◌, ◌&&◌, Bool, true, false, not, if◌then◌else◌, List, [], ◌∷◌, ◌++◌, map}
+use Rattle.std.specs.Prelude.{Option, Some, None, nat_lt}
 use Rattle.std.specs.List.{filter, flat_map, list_any}
 use Rattle.std.specs.declared.cmp.Ordering.{Ordering}
 use Rattle.std.specs.Ordering.{nat_cmp, ordering_then, is_lt}
@@ -35,9 +36,10 @@ in_order (d ∷ ds) = put_line d (in_order ds)
 
 -- ---- halos
 
--- The edge lines of the modules for the cells in the halo of a box. Where no odd time is below the steps, they say nothing.
+-- The edge lines of the modules for the cells in the halo of a box. If no odd time is below the steps, there are none.
 unfoldable pub beside : Setting → List ModuleLines → Box2 → List Border
-beside g ms area = if nat_lt 1 g.size.steps then filter (λ e. in_halo area e.cell.x e.cell.y) (flat_map edges ms) else []
+beside g ms area = if nat_lt 1 g.size.steps then filter (λ e. in_halo area e.cell.x e.cell.y)
+    (flat_map edges ms) else []
 
 -- whether a line is a halo line
 unfoldable pub is_halo : Entry → Bool
@@ -57,7 +59,7 @@ without_halos lines = filter (λ i. not (is_halo i)) lines
 unfoldable pub stripped : ModuleLines → ModuleLines
 stripped m = record m { lines = without_halos m.lines }
 
--- whether a line stands before the halo lines of its module
+-- whether a line is before the halo lines of its module
 unfoldable pub is_early : Entry → Bool
 is_early (Module b) = true
 is_early (Cut n) = true
@@ -67,9 +69,10 @@ is_early (Edge e) = true
 is_early (Halo e) = false
 is_early (Stop s) = false
 
--- a module of version 2 as one of version 1, where these are all modules; its stops come after the halo lines
+-- a module of version 2 as one of version 1, if these are all modules; its stops come after the halo lines
 unfoldable pub with_halos : Setting → List ModuleLines → ModuleLines → ModuleLines
-with_halos g ms m = record m { lines = filter is_early m.lines ++ map Halo (in_order (beside g ms m.area)) ++ map Stop (stops m) }
+with_halos g ms m =
+    record m { lines = filter is_early m.lines ++ map Halo (in_order (beside g ms m.area)) ++ map Stop (stops m) }
 
 -- the version whose certificates have no halo lines
 abbrev pub is_haloless : ℕ → Bool
@@ -88,7 +91,8 @@ is_strange c local (Some name) = not (is_local c local name)
 
 -- an edge line for a cell in the halo of another module names a wire that is not local there
 unfoldable pub lacks_wire : Setting → List ModuleLines → Bool
-lacks_wire g ms = list_any (λ m. list_any (λ e. is_strange g.circuit (known g.circuit m) e.signal) (beside g ms m.area)) ms
+lacks_wire g ms = list_any (λ m. list_any (λ e. is_strange g.circuit (known g.circuit m) e.signal) (beside g ms m.area))
+    ms
 
 -- ---- good lines
 

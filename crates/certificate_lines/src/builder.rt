@@ -35,7 +35,10 @@ use std::marker::Model;
 // The most modules.
 const MODULES: usize = 1024;
 
-/// What a certificate is for, the lines so far, and what they say of the modules and of the last one.
+/// A certificate to which lines are added.
+///
+/// It has the circuit and the layout that the certificate is for, the lines so far, and what they say of the modules
+/// and of the last one.
 #[derive(Drop)]
 pub struct Builder<'a> {
     site: Site<'a>,
@@ -73,7 +76,7 @@ fn lacks_some(site: &Site, known: &IndexSet<u16>, names: &[Name]) -> bool
 }
 
 impl<'a> Builder<'a> {
-    /// No lines.
+    /// Creates a builder without lines.
     pub fn new(alloc: Global, site: Site<'a>) -> Result<Builder<'a>, AllocError>
         ensures { IfOk result (λ b. b ≡ record { setting = site.entry; entries = [] }) }
     {
@@ -263,7 +266,11 @@ impl<'a> Builder<'a> {
         Ok(())
     }
 
-    /// Adds a line, or answers the code of the first test that it fails.
+    /// Adds a line.
+    ///
+    /// # Errors
+    ///
+    /// Out of memory, or the code of the first test that the line fails.
     #[tactic(auto, unfolding(crate::specs::Rules::entry_fault))]
     pub fn add(&mut self, alloc: Global, entry: Entry) -> Result<(), LineFault>
         ensures ok { OnOk result ((entry_fault self.old.setting self.old.entries entry ≡ None)
@@ -277,7 +284,7 @@ impl<'a> Builder<'a> {
         }
     }
 
-    /// Code 11 where a port of the last module has a wire that is not local, or the boxes leave a gap.
+    /// Returns code 11 if a port of the last module has a wire that is not local, or if the boxes leave a gap.
     pub fn missing(&self) -> Option<u8>
         ensures { result ≡ end_fault self.now.setting self.now.entries }
     {
@@ -287,7 +294,7 @@ impl<'a> Builder<'a> {
         if lacks | !full { Some(11) } else { None }
     }
 
-    /// The lines, and the counts of the modules.
+    /// Returns the lines, and the counts of the modules.
     pub fn into_parts(self) -> (Vec<Entry>, Vec<Counts>)
         ensures entries { result.0.items ≡ self.entry.entries }
         ensures counts { result.1.items ≡ map counts_of (modules_of self.entry.entries) }
@@ -353,7 +360,7 @@ impl<'a> Builder<'a> {
         false
     }
 
-    /// Whether some module lacks the wire of an edge line beside it. It takes no memory.
+    /// Returns whether some module lacks the wire of an edge line beside it. It takes no memory.
     pub fn lacks_wire(&self) -> bool
         ensures { result ≡ lacks_wire self.now.setting (modules_of self.now.entries) }
     {

@@ -29,7 +29,7 @@ fn count_line(counts: Counts, entry: &Entry) -> Counts
     counts
 }
 
-/// The counts of the last module.
+/// Returns the counts of the last module.
 pub(crate) fn last_counts(modules: &[Counts]) -> Option<Counts>
     ensures { result ≡ last_of modules.now }
 {
@@ -68,7 +68,7 @@ fn signal_of(border: Option<Border>) -> Option<Name> {
     border?.signal
 }
 
-/// One more line at the end.
+/// Adds a line at the end.
 pub fn push_entry(entries: &mut Vec<Entry>, entry: Entry) -> Result<(), LineFault>
     ensures ok { OnOk result (entries.new.items ≡ entries.old.items ++ entry ∷ []) }
     ensures err { OnErr result (entries.new.items ≡ entries.old.items) }

@@ -5,8 +5,10 @@ use bbm_rule::Cell;
 use module_box::Box2;
 use section_text::Name;
 
-/// An edge or halo line: its time, or None where it stands for every odd time below the steps (a `*`); its cell; and
-/// its signal, which is a wire's name, or None for the constant `1`.
+/// An edge or halo line: its time, its cell and its signal.
+///
+/// The time is `None` if the line has a `*`, for every odd time below the steps. The signal is a wire's name, or `None`
+/// for the constant `1`.
 #[derive(Clone, Copy)]
 pub struct Border {
     pub time: Option<u32>,
@@ -14,7 +16,7 @@ pub struct Border {
     pub signal: Option<Name>,
 }
 
-/// A stop: a time, and a cell that is live then exactly where the wire of this name is true.
+/// A stop: a time, and a cell that is live then exactly if the wire of this name is true.
 #[derive(Clone, Copy)]
 pub struct StopLine {
     pub time: u32,
@@ -22,26 +24,26 @@ pub struct StopLine {
     pub cell: Cell,
 }
 
-/// A line between the header and the end.
+/// A line of a certificate between the header and the end.
 #[derive(Clone, Copy)]
 pub enum Entry {
-    /// Begins a module, with its box.
+    /// The beginning of a module: its box.
     Module(Box2),
-    /// A wire whose value the module is given.
+    /// A wire that the module cuts: its run tries both values.
     Cut(Name),
-    /// The number of a gate whose outputs the module works out.
+    /// The number of a gate that the module uses: its run computes the outputs.
     Use(u32),
-    /// The number of an inverse gate whose domain the module answers for.
+    /// The number of an inverse gate that the module answers for: a keep fault is an assignment without a row.
     Keep(u32),
-    /// What a cell of the box's ring carries.
+    /// The signal of a cell of the box's ring.
     Edge(Border),
-    /// What a cell of the box's halo carries.
+    /// The signal of a cell of the box's halo.
     Halo(Border),
-    /// When a cell of the box is as a wire.
+    /// A time at which a cell of the box is live exactly if a wire is true.
     Stop(StopLine),
 }
 
-/// A module's box, and how many lines of each kind the module has. Those that keep gates are not counted.
+/// A module's box, and how many lines of each kind the module has. Keep lines are not counted.
 #[derive(Clone, Copy, Debug, PartialEq, Eq)]
 pub struct Counts {
     pub area: Box2,

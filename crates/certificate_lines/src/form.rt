@@ -109,7 +109,7 @@ fn end_in(feed: &Feed, line: &Line) -> Option<Form<u32, Entry>>
     }
 }
 
-/// The form of a line, if it has one.
+/// Returns the form of a line, if it has one.
 #[tactic(auto, unfolding(crate::specs::Forms::form_of))]
 pub fn line_form(feed: &Feed, line: &Line) -> Option<Form<u32, Entry>>
     requires { IsLine feed.now line.now }

@@ -13,7 +13,7 @@ use indexmap::IndexSet;
 use std::alloc::{AllocError, Global};
 use std::mem::swap;
 
-/// Whether the wire is local.
+/// Returns whether the wire is local.
 #[tactic(auto, using(crate::proofs::KnownLemmas::among))]
 pub(crate) fn knows(known: &IndexSet<u16>, wire: u16) -> bool
     ensures { result ≡ is_among known.now.keys wire }
@@ -21,7 +21,7 @@ pub(crate) fn knows(known: &IndexSet<u16>, wire: u16) -> bool
     known.contains(&wire)
 }
 
-/// Whether all these wires are local.
+/// Returns whether all these wires are local.
 pub(crate) fn knows_all(known: &IndexSet<u16>, wires: &[WireNo]) -> bool
     ensures { result ≡ list_all (is_among known.now.keys) wires.now }
 {
@@ -39,7 +39,7 @@ fn stands_before(wires: &[WireNo], wire: WireNo) -> bool
     wires.iter().any(|w| w.number() == wire.number())
 }
 
-/// Whether none of these wires is local, and none stands twice.
+/// Returns whether none of these wires is local, and none is in the list twice.
 pub(crate) fn are_all_new(known: &IndexSet<u16>, wires: &[WireNo]) -> bool
     ensures { result ≡ are_new known.now.keys wires.now }
 {
@@ -97,7 +97,7 @@ pub(crate) fn make_room_for_wires(
     }
 }
 
-/// Makes these wires local, which are not, where there is room for them.
+/// Makes these wires local, which are not, if there is room for them.
 pub(crate) fn learn_line(known: &mut IndexSet<u16>, site: &Site, entry: &Entry)
     requires room { length (wires_in site.now.circuit entry.now) ≤ spare known.old }
     requires new { are_new known.old.keys (wires_in site.now.circuit entry.now) ≡ true }

@@ -36,7 +36,7 @@ fn is_unknown_line(site: &Site, known: &IndexSet<u16>, area: Box2, line: &Entry)
     }
 }
 
-/// Whether one of these lines is an edge line for a cell in the halo of the box, of a wire that is not local.
+/// Returns whether one of these lines is an edge line for a cell in the halo of the box, of a wire that is not local.
 pub(crate) fn has_unknown(site: &Site, known: &IndexSet<u16>, area: Box2, lines: &[Entry]) -> bool
     ensures { result
         ≡ list_any (λ e. is_strange site.now.circuit known.now.keys e.signal)

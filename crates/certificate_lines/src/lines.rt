@@ -12,7 +12,7 @@ use crate::entry::Entry;
 use circuit::{Circuit, GateNo, WireNo};
 use std::alloc::{AllocError, Global};
 
-/// Whether the line begins a module.
+/// Returns whether the line begins a module.
 pub fn is_module(entry: &Entry) -> bool
     ensures { result ≡ is_module entry.now }
 {
@@ -22,7 +22,7 @@ pub fn is_module(entry: &Entry) -> bool
     }
 }
 
-/// The lines before the next `module` line.
+/// Returns the lines before the next `module` line.
 pub fn inner_lines(entries: &[Entry]) -> &[Entry]
     ensures { result.now ≡ inner entries.now }
 {
@@ -44,8 +44,8 @@ fn uses(entry: &Entry, number: u32) -> bool
     }
 }
 
-/// Whether the last module of the lines uses the gate of this number. It looks back as far as that module's `module`
-/// line.
+/// Returns whether the last module of the lines uses the gate of this number. It looks back as far as that module's
+/// `module` line.
 pub(crate) fn is_used(entries: &[Entry], number: u32) -> bool
     ensures { (m : ModuleLines) → present entries.now ≡ Some m →
         result ≡ is_among (gates m) number }
@@ -87,7 +87,7 @@ fn push_cuts(wires: &mut Vec<WireNo>, circuit: &Circuit, lines: &[Entry]) -> Res
     Ok(())
 }
 
-/// The wires that the lines cut.
+/// Returns the wires that the lines cut.
 pub fn cut_list(
     alloc: Global,
     circuit: &Circuit,
@@ -112,7 +112,7 @@ fn push_use(gates: &mut Vec<GateNo>, line: &Entry) -> Result<(), AllocError>
     Ok(())
 }
 
-/// The gates that the lines use.
+/// Returns the gates that the lines use.
 pub fn used_gates(alloc: Global, lines: &[Entry]) -> Result<Vec<GateNo>, AllocError>
     requires { All (λ k. k < 2 ^ 16) (flat_map use_in lines.now) }
     ensures { IfOk result (λ gates. gates.items ≡ flat_map use_in lines.now) }
@@ -153,7 +153,7 @@ fn push_keep(places: &mut Vec<u16>, gates: &[GateNo], line: &Entry) -> Result<()
     Ok(())
 }
 
-/// The gates that the lines keep, by their places among the used ones.
+/// Returns the gates that the lines keep, by their places among the used ones.
 pub fn kept_places(alloc: Global, gates: &[GateNo], lines: &[Entry]) -> Result<Vec<u16>, AllocError>
     requires few { length gates.now ≤ 64 }
     requires used { All (λ k. IsTrue (is_among gates.now k)) (flat_map keep_in lines.now) }

@@ -95,7 +95,7 @@ fn does_precede(first: &Entry, second: &Entry) -> bool
     compare(first, second).is_lt() | (is_cut_line(first) & is_cut_line(second))
 }
 
-/// Whether a line may stand after the lines of a module, of which this is the last.
+/// Returns whether a line may follow the lines of a module, of which this is the last.
 pub(crate) fn does_follow(last: &Option<Entry>, entry: &Entry) -> bool
     ensures { (lines : List Entry) → AreInOrder lines → last_of lines ≡ last.now →
         result ≡ may_follow lines entry.now }
@@ -106,7 +106,7 @@ pub(crate) fn does_follow(last: &Option<Entry>, entry: &Entry) -> bool
     }
 }
 
-/// The order of two edge lines, or of two halo lines.
+/// Compares two edge lines, or two halo lines.
 #[tactic(auto, unfolding(crate::specs::Versions::line_order))]
 pub fn compare_borders(first: &Border, second: &Border) -> Ordering
     ensures { result ≡ line_order first.now second.now }

@@ -12,7 +12,7 @@ use section_text::Name;
 use std::alloc::{AllocError, Global};
 use std::marker::Model;
 
-/// The inputs or the outputs of a layout, with a table by which the one at a cell is looked up. Contracts see the
+/// The inputs or the outputs of a layout, with a table by which the port at a cell is looked up. Contracts see the
 /// ports.
 #[derive(Drop)]
 pub struct PortTable<'a> {
@@ -60,7 +60,7 @@ fn index_ports<'a>(
     })
 }
 
-/// The inputs and the outputs of a layout by their cells.
+/// Creates the tables of the inputs and of the outputs of a layout, by their cells.
 pub fn port_tables<'a>(
     alloc: Global,
     layout: &'a Layout,
@@ -77,7 +77,7 @@ pub fn port_tables<'a>(
 }
 
 impl<'a> PortTable<'a> {
-    /// The name of the port at the cell.
+    /// Returns the name of the port at the cell, if there is one.
     pub fn get(&self, cell: Cell) -> Option<Name>
         ensures { result ≡ port_at self.now cell.x cell.y }
     {

@@ -30,14 +30,14 @@ fn is_odd_number(n: u32) -> bool
     n % 2 == 1
 }
 
-/// Whether a box's side is odd, too small or too large.
+/// Returns whether a box's side is odd, too small or too large.
 pub(crate) fn is_bad_side(n: u32) -> bool
     ensures { result ≡ is_wrong_side n }
 {
     is_odd_number(n) || n < 2 || n > 64
 }
 
-/// Whether a box has an odd corner, or a cell outside the rectangle.
+/// Returns whether a box has an odd corner, or a cell outside the rectangle.
 pub(crate) fn is_bad_place(size: Extent, area: Box2) -> bool
     ensures { result ≡ is_misplaced size area }
 {
@@ -49,7 +49,7 @@ pub(crate) fn is_bad_place(size: Extent, area: Box2) -> bool
         || bottom > u64::from(size.h)
 }
 
-/// Whether the name is that of a wire that is local.
+/// Returns whether the name is that of a wire that is local.
 pub(crate) fn is_local_name(site: &Site, known: &IndexSet<u16>, name: &Name) -> bool
     ensures { result ≡ is_local site.now.circuit known.now.keys name.now }
 {
@@ -59,7 +59,7 @@ pub(crate) fn is_local_name(site: &Site, known: &IndexSet<u16>, name: &Name) -> 
     }
 }
 
-/// The code of a cut, where so many wires are cut already.
+/// Returns the code of a cut, if `count` wires are cut already.
 #[tactic(auto, unfolding(crate::specs::Rules::cut_fault))]
 pub(crate) fn cut_code(site: &Site, count: usize, known: &IndexSet<u16>, name: &Name) -> Option<u8>
     ensures { result ≡ cut_fault site.now.circuit count known.now.keys name.now }
@@ -74,7 +74,7 @@ pub(crate) fn cut_code(site: &Site, count: usize, known: &IndexSet<u16>, name: &
     }
 }
 
-/// The code of a used gate, where so many gates are used already.
+/// Returns the code of a used gate, if `count` gates are used already.
 #[tactic(auto, unfolding(crate::specs::Rules::use_fault, crate::specs::Rules::gate_fault))]
 pub(crate) fn use_code(site: &Site, count: usize, known: &IndexSet<u16>, number: u32) -> Option<u8>
     ensures { result ≡ use_fault site.now.circuit count known.now.keys number }
@@ -94,7 +94,7 @@ pub(crate) fn use_code(site: &Site, count: usize, known: &IndexSet<u16>, number:
     None
 }
 
-/// The code of a kept gate, where these are the lines before it.
+/// Returns the code of a kept gate. `lines` are the lines before it.
 #[tactic(auto, unfolding(crate::specs::Rules::keep_fault))]
 pub(crate) fn keep_code(site: &Site, entries: &[Entry], number: u32) -> Option<u8>
     ensures { (m : ModuleLines) → present entries.now ≡ Some m →
@@ -121,8 +121,9 @@ fn signal_code(site: &Site, known: &IndexSet<u16>, signal: Option<Name>) -> Opti
     }
 }
 
-/// The code of an edge, halo or stop line, where so many stand before it, and `placed` says whether it may stand at its
-/// cell and time.
+/// Returns the code of an edge, halo or stop line, if `count` of them are before it.
+///
+/// `placed` says whether the line may have its cell and time.
 #[tactic(auto, unfolding(crate::specs::Rules::border_fault))]
 pub(crate) fn border_code(
     site: &Site,
@@ -153,7 +154,7 @@ fn is_good_time(steps: u32, starred: bool, time: Option<u32>) -> bool
     }
 }
 
-/// Whether an edge may stand at its cell and time.
+/// Returns whether an edge line may have its cell and time.
 #[tactic(auto, unfolding(crate::specs::Rules::is_edge_place))]
 pub(crate) fn may_be_edge(size: Extent, area: Box2, starred: bool, border: &Border) -> bool
     ensures { result ≡ is_edge_place size area starred border.now }
@@ -164,7 +165,7 @@ pub(crate) fn may_be_edge(size: Extent, area: Box2, starred: bool, border: &Bord
     in_ring & !on_rim & timed
 }
 
-/// Whether a halo line may stand at its cell and time.
+/// Returns whether a halo line may have its cell and time.
 #[tactic(auto, unfolding(crate::specs::Rules::is_halo_place))]
 pub(crate) fn may_be_halo(size: Extent, area: Box2, starred: bool, border: &Border) -> bool
     ensures { result ≡ is_halo_place size area starred border.now }
@@ -175,7 +176,7 @@ pub(crate) fn may_be_halo(size: Extent, area: Box2, starred: bool, border: &Bord
     in_halo & inside & timed
 }
 
-/// Whether a stop may stand at its cell and time.
+/// Returns whether a stop may have its cell and time.
 #[tactic(auto, unfolding(crate::specs::Rules::is_stop_place))]
 pub(crate) fn may_be_stop(size: Extent, area: Box2, stop: &StopLine) -> bool
     ensures { result ≡ is_stop_place size area stop.now }

@@ -1,4 +1,4 @@
-//! What a certificate is for: a circuit and a layout, with tables of the layout's ports by their cells.
+//! The circuit and the layout that a certificate is for, with tables of the layout's ports by their cells.
 ghost use Rattle.std.specs.Prelude.{◌≡◌, ◌||◌, ◌&&◌, Bool, ℕ, List, false, None, slice_get, OnOk, IfOk};
 ghost use Rattle.std.specs.List.{list_any};
 ghost use Rattle.std.specs.Option.{option_map, option_map_or};
@@ -65,7 +65,7 @@ fn push_names(names: &mut Vec<Name>, ports: &PortTable, cells: &[Cell]) -> Resul
 }
 
 impl<'a> Site<'a> {
-    /// The tables of the layout's ports are made. `AllocError` is want of memory.
+    /// Creates the tables of the layout's ports.
     pub fn new(
         alloc: Global,
         circuit: &'a Circuit,
@@ -82,7 +82,7 @@ impl<'a> Site<'a> {
         })
     }
 
-    /// The width, the height and the steps of the layout.
+    /// Returns the width, the height and the steps of the layout.
     pub(crate) fn size(&self) -> Extent
         ensures size { result ≡ self.now.size }
         ensures limits { size_fault result ≡ None }
@@ -90,7 +90,7 @@ impl<'a> Site<'a> {
         self.layout.size()
     }
 
-    /// The number of the circuit's wire of this name.
+    /// Returns the number of the circuit's wire of this name.
     pub(crate) fn wire(&self, name: &Name) -> Option<u16>
         ensures { result ≡ wire_of self.now.circuit name.now }
     {
@@ -98,7 +98,7 @@ impl<'a> Site<'a> {
         Some(wire.number())
     }
 
-    /// The circuit's gate of this number.
+    /// Returns the circuit's gate of this number.
     pub(crate) fn gate(&self, number: u32) -> Option<GateWires>
         ensures { option_map gate_of result ≡ slice_get self.now.circuit.netlist.gates number }
     {
@@ -108,7 +108,7 @@ impl<'a> Site<'a> {
         Some(self.circuit.gate(GateNo::of(number as u16)))
     }
 
-    /// Whether the number is that of an inverse gate of the circuit.
+    /// Returns whether the number is that of an inverse gate of the circuit.
     pub(crate) fn is_inverse(&self, number: u32) -> bool
         ensures { result ≡ is_inverse_gate (slice_get self.now.circuit.netlist.gates number) }
     {
@@ -118,7 +118,7 @@ impl<'a> Site<'a> {
         }
     }
 
-    /// Puts the names of the ports in a box behind the others, where these are the cells of the box.
+    /// Appends the names of the ports in a box. `cells` are the cells of the box.
     pub(crate) fn push_ports(
         &self,
         names: &mut Vec<Name>,

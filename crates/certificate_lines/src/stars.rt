@@ -11,7 +11,7 @@ use bbm_rule::Cell;
 use indexmap::IndexSet;
 use std::alloc::AllocError;
 
-/// Whether a line with a `*` is for the cell.
+/// Returns whether a line with a `*` is for the cell.
 pub(crate) fn has_star(stars: &IndexSet<Cell>, cell: Cell) -> bool
     ensures { result ≡ list_any (same_cell cell) stars.now.keys }
 {
@@ -53,7 +53,7 @@ pub(crate) fn make_room_for_stars(
     }
 }
 
-/// Notes the cell of an edge or halo line that has a `*`, where there is room.
+/// Notes the cell of an edge or halo line that has a `*`, if there is room.
 pub(crate) fn note_stars(edges: &mut IndexSet<Cell>, halos: &mut IndexSet<Cell>, entry: &Entry)
     requires edges { length (edge_in entry.now) ≤ spare edges.old }
     requires halos { length (halo_in entry.now) ≤ spare halos.old }

@@ -11,7 +11,7 @@ use module_box::Box2;
 use pattern::{Extent, Rectangle, push_rectangle};
 use std::alloc::{AllocError, Global};
 
-/// The whole rectangle of a layout.
+/// Returns the whole rectangle of a layout.
 pub(crate) fn whole_of(size: Extent) -> Box2
     ensures { result ≡ whole size }
 {
@@ -23,7 +23,7 @@ pub(crate) fn whole_of(size: Extent) -> Box2
     }
 }
 
-/// The cells of a box, whose columns and rows are below 512.
+/// Returns the cells of a box, whose columns and rows are below 512.
 pub fn cells_of_box(alloc: Global, area: Box2) -> Result<Vec<Cell>, AllocError>
     requires columns { area.x + area.w ≤ 512 }
     requires rows { area.y + area.h ≤ 512 }
@@ -35,7 +35,7 @@ pub fn cells_of_box(alloc: Global, area: Box2) -> Result<Vec<Cell>, AllocError>
     Ok(cells)
 }
 
-/// Whether a cell is on the grid and live.
+/// Returns whether a cell is on the grid and live.
 pub fn is_live(grid: &Grid, cell: Cell) -> bool
     ensures { result ≡ live grid.now cell.x cell.y }
 {
@@ -59,7 +59,7 @@ fn is_row_full(grid: &Grid, w: u32, y: u32) -> bool
     full
 }
 
-/// Whether all cells of a rectangle from the cell (0, 0) on, as wide and as high as the grid, are live.
+/// Returns whether all cells of a rectangle from the cell (0, 0) on, as wide and as high as the grid, are live.
 pub(crate) fn is_full(grid: &Grid, w: u32, h: u32) -> bool
     requires same { (grid.now.width ≡ w) × (grid.now.height ≡ h) }
     requires small { (w ≤ 512) × (h ≤ 512) }

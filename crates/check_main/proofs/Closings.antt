@@ -1,5 +1,6 @@
 -- The book of an audit.
-use Rattle.std.proofs.Common.{◌≡◌, ◌∙◌, ◌+◌, ◌≤◌, ℕ, suc, zero, List, [], ◌∷◌, ◌++◌, length, map, false, refl, sym, ap, arith, subst, length-append}
+use Rattle.std.proofs.Common.{◌≡◌, ◌∙◌, ◌+◌, ◌≤◌, ℕ, suc, zero, List, [], ◌∷◌, ◌++◌, length, map, false, refl, sym, ap}
+use Rattle.std.proofs.Common.{arith, subst, length-append}
 use Rattle.std.proofs.lemmas.Option.{slice_get_within}
 use Rattle.std.specs.Prelude.{replicate}
 use Rattle.sha2.specs.Sha256.{sha256}
@@ -43,20 +44,25 @@ filings_closed (Filed f ∷ es) = ap (λ l. f ∷ l) (filings_closed es)
 filings_closed (Closing ∷ es) = filings_closed es
 
 -- a book that is closed after filings alone
-closed_once : (old new : BookView) → has_closing old.history ≡ false → new ≡ after_closing old → IsClosedOnce new.history
+closed_once : (old new : BookView) → has_closing old.history ≡ false → new ≡ after_closing old →
+    IsClosedOnce new.history
 closed_once old new still is =
     let same : new.history ≡ old.history ++ Closing ∷ [] = ap (λ (v : BookView). v.history) is in
-    same ∙ ap (λ l. l ++ Closing ∷ []) (all_filings old.history still ∙ ap (map Filed) (sym (filings_closed old.history) ∙ ap filings_in (sym same)))
+    same ∙ ap (λ l. l ++ Closing ∷ [])
+    (all_filings old.history still ∙ ap (map Filed) (sym (filings_closed old.history) ∙ ap filings_in (sym same)))
 
-pub completed_closed : (digest : List ℕ) (jobs : List JobState) (b c : BookView) → IsCompleted digest jobs b c → IsClosedOnce c.history
+pub completed_closed : (digest : List ℕ) (jobs : List JobState) (b c : BookView) → IsCompleted digest jobs b c →
+    IsClosedOnce c.history
 completed_closed digest jobs b c is =
-    let still : has_closing is.full.history ≡ false = sym (closed-by_its_history is.full is.is_full.replays) ∙ is.is_full.is_open.still_open in
+    let still : has_closing is.full.history ≡ false =
+    sym (closed-by_its_history is.full is.is_full.replays) ∙ is.is_full.is_open.still_open in
     closed_once is.full c still is.closed
 
 -- ---- a full book that is closed
 
 -- at least as many filings as numbers that were accepted
-accepted_filed : (p : Replayed) (es : List Entry) → length (replay_from p es).accepted ≤ length p.accepted + length (filings_in es)
+accepted_filed : (p : Replayed) (es : List Entry) →
+    length (replay_from p es).accepted ≤ length p.accepted + length (filings_in es)
 accepted_filed p [] = omega arith
 accepted_filed p (Closing ∷ es) = accepted_filed (after_entry p Closing) es
 accepted_filed p (Filed f ∷ es) =
@@ -76,25 +82,30 @@ many_filings b is =
     let most = accepted_filed beginning b.history in
     omega (arith, count, most)
 
-held_closed : (b : BookView) (jobs : List JobState) (n : ℕ) → AreHeldBelow b jobs n → AreHeldBelow (after_closing b) jobs n
+held_closed : (b : BookView) (jobs : List JobState) (n : ℕ) → AreHeldBelow b jobs n →
+    AreHeldBelow (after_closing b) jobs n
 held_closed b jobs n held k j below at =
     let h = held k j below at in
     record { finding = h.finding; held = h.held; whole = h.whole }
 
-pub audit_of : (s : CertState) (digest : List ℕ) (jobs : List JobState) (b c : BookView) → digest ≡ sha256 (certificate_text s) → AreOwnJobs s jobs → IsCompleted digest jobs b c → IsAuditOf s c
+pub audit_of : (s : CertState) (digest : List ℕ) (jobs : List JobState) (b c : BookView) →
+    digest ≡ sha256 (certificate_text s) → AreOwnJobs s jobs → IsCompleted digest jobs b c → IsAuditOf s c
 audit_of s digest jobs b c of_text own is =
     let full = is.is_full in
     let same : jobs ≡ is.full.jobs = sym full.is_open.jobs_are in
     subst (IsAuditOf s) (sym is.closed) (record {
       digest_is = full.is_open.digest_is ∙ of_text;
       jobs_are = subst (AreOwnJobs s) same own;
-      all_held = held_closed is.full is.full.jobs (length is.full.jobs) (subst (λ (js : List JobState). AreHeldBelow is.full js (length js)) same full.all_held);
+      all_held = held_closed is.full is.full.jobs (length is.full.jobs)
+          (subst (λ (js : List JobState). AreHeldBelow is.full js (length js)) same full.all_held);
       all_accepted = full.all_accepted ∙ ap length same;
     })
 
 -- no number is missing
-pub none_missing : (b : BookView) (jobs : List JobState) (n : ℕ) → AreHeldBelow b jobs (length jobs) → IsFirstMissing b jobs n → ⊥
-none_missing b jobs n held first = first.missing (held n first.job (slice_get_within jobs n first.job first.numbered) first.numbered)
+pub none_missing : (b : BookView) (jobs : List JobState) (n : ℕ) → AreHeldBelow b jobs (length jobs) →
+    IsFirstMissing b jobs n → ⊥
+none_missing b jobs n held first =
+    first.missing (held n first.job (slice_get_within jobs n first.job first.numbered) first.numbered)
 
 -- new shares have filed nothing
 pub none_filed : (n : ℕ) → filed_by (replicate n no_counts) ≡ 0

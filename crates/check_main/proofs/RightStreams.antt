@@ -1,5 +1,6 @@
--- What was read and written, and what was right of it.
-use Rattle.std.proofs.Common.{◌≡◌, ℕ, List, [], ◌++◌, Option, Some, None, Result, Ok, Err, sym, ap, subst, ◌∙◌, append-nil}
+-- The text of a report with a yes has the property that the yes promises.
+use Rattle.std.proofs.Common.{◌≡◌, ℕ, List, [], ◌++◌, Option, Some, None, Result, Ok, Err, sym, ap, subst, ◌∙◌}
+use Rattle.std.proofs.Common.{append-nil}
 use Rattle.std.proofs.lemmas.List.{append_cancel_left}
 use Rattle.std.specs.Prelude.{IfErr, IfOk, OnOk}
 use Rattle.std.specs.Io.KnownBytes.{Appends, Consumes, IsAtEnd}
@@ -13,7 +14,8 @@ use Rattle.headline.proofs.FourthLines.{says_on}
 use Rattle.headline.proofs.YesIsRight.{by_line}
 use Rattle.check_main.specs.Stream.{ReadsAll, TakesPrefix}
 
-all_read : (left left' : Option (List ℕ)) (text known : List ℕ) → left ≡ Some known → Consumes left left' text → IsAtEnd left' → text ≡ known
+all_read : (left left' : Option (List ℕ)) (text known : List ℕ) → left ≡ Some known → Consumes left left' text →
+    IsAtEnd left' → text ≡ known
 all_read None left' text known e given ended = absurd cc
 all_read (Some xs) None text known e given ended = absurd given
 all_read (Some xs) (Some ys) text known e given ended =
@@ -24,10 +26,12 @@ all_read (Some xs) (Some ys) text known e given ended =
 abbrev Holds : (List ℕ → Type 0) → Type 0
 Holds P = (text output : List ℕ) → IsReportOf text output Yes → P text
 
-given : (P : List ℕ → Type 0) (left left' : Option (List ℕ)) (text : List ℕ) → ReadsAll left left' text → P text → Gives P left
+given : (P : List ℕ → Type 0) (left left' : Option (List ℕ)) (text : List ℕ) → ReadsAll left left' text → P text →
+    Gives P left
 given P left left' text read right known e = subst P (all_read left left' text known e read.given read.ended) right
 
-taken_is : (held held' : Option (List ℕ)) (before more taken : List ℕ) → held ≡ Some before → held' ≡ Some (before ++ more) → Appends held held' taken → more ≡ taken
+taken_is : (held held' : Option (List ℕ)) (before more taken : List ℕ) → held ≡ Some before →
+    held' ≡ Some (before ++ more) → Appends held held' taken → more ≡ taken
 taken_is None held' before more taken e f appended = absurd cc
 taken_is (Some xs) None before more taken e f appended = absurd appended
 taken_is (Some xs) (Some ys) before more taken e f appended =
@@ -36,14 +40,20 @@ taken_is (Some xs) (Some ys) before more taken e f appended =
     append_cancel_left before more taken (sym now ∙ appended ∙ ap (λ t. t ++ taken) own)
 
 -- the first bytes of a report were written, or all of them
-said_right : (P : List ℕ → Type 0) → Holds P → (left left' held held' : Option (List ℕ)) (text output taken rest : List ℕ) (outcome : Outcome) → ReadsAll left left' text → IsReportOf text output outcome
+said_right : (P : List ℕ → Type 0) → Holds P →
+    (left left' held held' : Option (List ℕ)) (text output taken rest : List ℕ) (outcome : Outcome) →
+    ReadsAll left left' text → IsReportOf text output outcome
     → output ≡ taken ++ rest → Appends held held' taken → YesMeans P left held held'
-said_right P holds left left' held held' text output taken rest outcome read says whole appended known before more e f g line =
+said_right P holds left left' held held' text output taken rest outcome read says whole appended known before more e f g
+    line =
     let is = taken_is held held' before more taken f g appended in
-    given P left left' text read (holds text output (by_line text output outcome says (subst SaysYes (sym whole) (says_on taken rest (subst SaysYes is line))))) known e
+    given P left left' text read (holds text output
+    (by_line text output outcome says (subst SaysYes (sym whole) (says_on taken rest (subst SaysYes is line))))) known e
 
 -- all of it was
-all_said_right : (P : List ℕ → Type 0) → Holds P → (left left' held held' : Option (List ℕ)) (text output : List ℕ) (outcome : Outcome) → ReadsAll left left' text → IsReportOf text output outcome → Appends held held' output → YesMeans P left held held'
+all_said_right : (P : List ℕ → Type 0) → Holds P →
+    (left left' held held' : Option (List ℕ)) (text output : List ℕ) (outcome : Outcome) → ReadsAll left left' text →
+    IsReportOf text output outcome → Appends held held' output → YesMeans P left held held'
 all_said_right P holds left left' held held' text output outcome read says appended =
     said_right P holds left left' held held' text output output [] outcome read says (sym (append-nil output)) appended
 
@@ -59,22 +69,34 @@ nothing_said P left held held' same text before more e f g line =
     absurd (nothing_says (subst SaysYes (append_cancel_left before more [] (own ∙ sym (append-nil before))) line))
 
 -- a writer was told the report, or its first bytes
-pub written_right : {E : Type 0} (P : List ℕ → Type 0) → Holds P → (left left' held held' : Option (List ℕ)) (text output : List ℕ) (outcome : Outcome) → ReadsAll left left' text → IsReportOf text output outcome →
-    (result : Result Outcome E) → OnOk result (Appends held held' output) → IfErr result (λ e. TakesPrefix held held' output) → YesMeans P left held held'
-written_right P holds left left' held held' text output outcome read says (Ok o) all front = all_said_right P holds left left' held held' text output outcome read says all
-written_right P holds left left' held held' text output outcome read says (Err e) all front = said_right P holds left left' held held' text output front.taken front.rest outcome read says front.whole front.appended
+pub written_right : {E : Type 0} (P : List ℕ → Type 0) → Holds P →
+    (left left' held held' : Option (List ℕ)) (text output : List ℕ) (outcome : Outcome) → ReadsAll left left' text →
+    IsReportOf text output outcome →
+    (result : Result Outcome E) → OnOk result (Appends held held' output) →
+    IfErr result (λ e. TakesPrefix held held' output) → YesMeans P left held held'
+written_right P holds left left' held held' text output outcome read says (Ok o) all front =
+    all_said_right P holds left left' held held' text output outcome read says all
+written_right P holds left left' held held' text output outcome read says (Err e) all front =
+    said_right P holds left left' held held' text output front.taken front.rest outcome read says front.whole
+    front.appended
 
 -- and it ended as the report does, of which P is known
-pub outcome_means : {E : Type 0} (P : List ℕ → Type 0) (wanted : Outcome) → ((text output : List ℕ) → IsReportOf text output wanted → P text) → (left left' : Option (List ℕ)) (text output : List ℕ) (outcome : Outcome) →
-    ReadsAll left left' text → IsReportOf text output outcome → (result : Result Outcome E) → result ≡ Ok wanted → IfOk result (λ o. o ≡ outcome) → Gives P left
+pub outcome_means : {E : Type 0} (P : List ℕ → Type 0) (wanted : Outcome) →
+    ((text output : List ℕ) → IsReportOf text output wanted → P text) →
+    (left left' : Option (List ℕ)) (text output : List ℕ) (outcome : Outcome) →
+    ReadsAll left left' text → IsReportOf text output outcome → (result : Result Outcome E) → result ≡ Ok wanted →
+    IfOk result (λ o. o ≡ outcome) → Gives P left
 outcome_means P wanted holds left left' text output outcome read says (Ok o) is same =
     let wanted_is : o ≡ wanted = cc in
     given P left left' text read (holds text output (subst (λ o. IsReportOf text output o) (sym same ∙ wanted_is) says))
 outcome_means P wanted holds left left' text output outcome read says (Err e) is same = absurd cc
 
-pub outcome_right : {E : Type 0} (P : List ℕ → Type 0) → Holds P → (left left' : Option (List ℕ)) (text output : List ℕ) (outcome : Outcome) → ReadsAll left left' text → IsReportOf text output outcome →
+pub outcome_right : {E : Type 0} (P : List ℕ → Type 0) → Holds P →
+    (left left' : Option (List ℕ)) (text output : List ℕ) (outcome : Outcome) → ReadsAll left left' text →
+    IsReportOf text output outcome →
     (result : Result Outcome E) → result ≡ Ok Yes → IfOk result (λ o. o ≡ outcome) → Gives P left
-outcome_right P holds left left' text output outcome read says result is same = outcome_means P Yes holds left left' text output outcome read says result is same
+outcome_right P holds left left' text output outcome read says result is same =
+    outcome_means P Yes holds left left' text output outcome read says result is same
 
 -- and all of the report was written, which P relates to the text
 pub outcome_tells : {E : Type 0} (P : List ℕ → List ℕ → Type 0) (wanted : Outcome) →

@@ -1,4 +1,4 @@
--- What one word asks for.
+-- The command that one word asks for.
 use Rattle.std.proofs.Common.{◌≡◌, [], ◌∷◌, refl}
 use Rattle.std.specs.Prelude.{codes}
 use Rattle.clap.specs.Faults.{defaults_fault, flags_fault, walk_fault}

@@ -1,4 +1,4 @@
--- What the book of an audit holds, and what its history shows.
+-- The book of an audit, and its history.
 use Rattle.std.specs.Prelude.{◌≡◌, ℕ, List, [], ◌∷◌, ◌++◌, length, map}
 use Rattle.sha2.specs.Sha256.{sha256}
 use Rattle.certificate.specs.Grammars.{CertState}
@@ -22,7 +22,7 @@ filings_in (Closing ∷ es) = filings_in es
 abbrev pub IsClosedOnce : List Entry → Type 0
 IsClosedOnce history = history ≡ map Filed (filings_in history) ++ Closing ∷ []
 
--- the book is of the certificate's digest and jobs, and a finding of each whole job was accepted
+-- the book is of the certificate's digest and jobs, and a finding of each job was accepted
 pub record IsAuditOf (c : CertState) (b : BookView) : Type 0 where
   pub digest_is : b.digest ≡ sha256 (certificate_text c)
   pub jobs_are : AreOwnJobs c b.jobs

@@ -1,4 +1,4 @@
--- What each command answers.
+-- The answer of each command.
 use Rattle.std.specs.Prelude.{ℕ, List}
 use Rattle.command_line.specs.declared.Request.{Request}
 use Rattle.command_line.specs.declared.Request.TheVariants.{Check, Run, Value, Modules, Migrate}

@@ -1,4 +1,4 @@
--- The exit status for how a command ended, and the line for a fault.
+-- The exit status for the end of a command, and the line for a fault.
 use Rattle.std.specs.Prelude.{◌≡◌, ◌++◌, ℕ, Bool, false, List, Option, Ok, Err, Result, codes}
 use Rattle.std.specs.Io.KnownBytes.{Appends}
 use Rattle.answers.specs.declared.outcome.Outcome.{Outcome}
@@ -6,6 +6,7 @@ use Rattle.answers.specs.declared.outcome.Outcome.TheVariants.{Yes, No, Refused}
 use Rattle.check_main.specs.declared.fault.CheckFault.{CheckFault}
 use Rattle.check_main.specs.declared.fault.CheckFault.TheVariants.{Read, Write, TooLong, Memory}
 
+-- the exit status for the end of a command
 abbrev pub status_for : Result Outcome CheckFault → ℕ
 status_for (Ok Yes) = 0
 status_for (Ok No) = 1
@@ -15,12 +16,14 @@ status_for (Err Write) = 4
 status_for (Err TooLong) = 4
 status_for (Err Memory) = 5
 
+-- the words for a fault
 abbrev pub text_of : CheckFault → List ℕ
 text_of Read = codes "read fault"
 text_of Write = codes "write fault"
 text_of TooLong = codes "text too long"
 text_of Memory = codes "out of memory"
 
+-- the line for a fault on standard error
 unfoldable pub line_for : CheckFault → List ℕ
 line_for fault = codes "bbmcheck: " ++ text_of fault ++ codes "\n"
 

@@ -1,5 +1,6 @@
--- Reading a text to its end, and writing what is answered.
-use Rattle.std.specs.Prelude.{◌≡◌, ◌≢◌, ◌<◌, ◌≤◌, ◌++◌, ℕ, Bool, true, false, List, None, Result, IfErr, IfOk, IsErrOf, OnOk, length}
+-- Reading a text to its end, and writing the answer.
+use Rattle.std.specs.Prelude.{◌≡◌, ◌≢◌, ◌<◌, ◌≤◌, ◌++◌, ℕ, Bool, true, false, List, None, Result, IfErr, IfOk, IsErrOf}
+use Rattle.std.specs.Prelude.{OnOk, length}
 use Rattle.std.specs.declared.option.Option.{Option}
 use Rattle.std.specs.Io.KnownBytes.{Consumes, IsAtEnd, Appends}
 use Rattle.section_text.specs.FeedState.{FeedState, text_limit}
@@ -34,7 +35,8 @@ pub record TakesPrefix (old new : Option (List ℕ)) (output : List ℕ) : Type 
 -- A command is a relation: which output, with which outcome, is right for a text.
 
 -- a text was read whole, and an output that is right for it was written, with its outcome
-pub record Answers (R : List ℕ → List ℕ → Outcome → Type 0) (left left' held held' : Option (List ℕ)) (outcome : Outcome) : Type 0 where
+pub record Answers (R : List ℕ → List ℕ → Outcome → Type 0) (left left' held held' : Option (List ℕ))
+    (outcome : Outcome) : Type 0 where
   pub text : List ℕ
   pub output : List ℕ
   pub read : ReadsAll left left' text
@@ -50,10 +52,12 @@ pub record BreaksOff (R : List ℕ → List ℕ → Outcome → Type 0) (left le
   pub right : R text output outcome
   pub written : TakesPrefix held held' output
 
--- What a call of the command `R` did with a reader and a writer that had not failed, and how it ended. `left` is what a reader has
--- still to give and `held` what a writer took, where it is known.
-pub record Serves {X Y : Type 0} (R : List ℕ → List ℕ → Outcome → Type 0) (left : X → Option (List ℕ)) (reader_failed : X → Bool) (reader reader' : X)
-    (held : Y → Option (List ℕ)) (writer_failed : Y → Bool) (writer writer' : Y) (result : Result Outcome CheckFault) : Type 0 where
+-- The effect of a call of the command `R` on a reader and a writer that had not failed, and its end. `left` is what a
+-- reader has still to give and `held` what a writer took, if it is known.
+pub record Serves {X Y : Type 0} (R : List ℕ → List ℕ → Outcome → Type 0) (left : X → Option (List ℕ))
+    (reader_failed : X → Bool) (reader reader' : X)
+    (held : Y → Option (List ℕ)) (writer_failed : Y → Bool) (writer writer' : Y)
+    (result : Result Outcome CheckFault) : Type 0 where
   pub answered : IfOk result (Answers R (left reader) (left reader') (held writer) (held writer'))
   pub works : OnOk result ((reader_failed reader' ≡ false) × (writer_failed writer' ≡ false))
   pub read : IsErrOf result Read → reader_failed reader' ≡ true

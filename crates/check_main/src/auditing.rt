@@ -19,7 +19,7 @@ use std::sync::{Arc, Wait};
 use std::thread::Threads;
 use verdict_book::{Book, Filings, Share, gather};
 
-/// What was found of all modules.
+/// The findings of all modules.
 #[derive(Drop)]
 pub struct Audited {
     /// The book, which is closed, and holds a finding of each module's job.
@@ -28,13 +28,19 @@ pub struct Audited {
     pub memory: bool,
 }
 
-/// Runs the modules of a certificate by 1 to 64 workers, which file what they find into one book of its jobs, under its
-/// digest, files what they left, and closes the book.
+/// Runs the modules of a certificate by 1 to 64 workers, into one book of its jobs under its digest.
 ///
-/// A worker draws the number of a module, and where that is the first of its shape, runs its job and files the findings
-/// of all modules of that shape, in a thread of its own where one can be made, until no number is left. The gate is
-/// told of each number that a worker draws. All workers have ended when it returns. `AllocError` is want of memory
-/// before the workers began, for what they left, or for the closing entry: that a worker lacked memory is no fault.
+/// The workers file their findings. Then `audit` files the findings that the workers left, and closes the book. All
+/// workers have ended when it returns.
+///
+/// A worker draws numbers of modules until no number is left, in a thread of its own if one can be made. If a module is
+/// the first of its shape, the worker runs its job and files the findings of all modules of that shape. The gate hears
+/// of each number that a worker draws.
+///
+/// # Errors
+///
+/// Out of memory before the workers began, for the findings that they left, or for the closing entry. It is no error
+/// that a worker lacked memory.
 pub fn audit<G: Gate + Sync, R: Threads + Wait + Sync>(
     rt: &R,
     alloc: Global,

@@ -13,8 +13,9 @@ use std::alloc::{AllocError, Global};
 use std::sync::Wait;
 use std::thread::Threads;
 
-/// The report on a text that is read whole: reads a bundle up to the end of the text, lets the text go, and has the
-/// modules run by so many workers.
+/// Returns the report on a text that is read whole.
+///
+/// It reads a bundle up to the end of the text, drops the text, and has `workers` workers run the modules.
 pub(crate) fn report_of_text<G: Gate + Sync, R: Threads + Wait + Sync>(
     rt: &R,
     alloc: Global,

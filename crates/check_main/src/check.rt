@@ -17,7 +17,7 @@ use std::alloc::{AllocError, Global};
 use std::sync::Wait;
 use std::thread::Threads;
 
-/// The report on a certificate, whose modules so many workers run.
+/// Returns the report on a certificate, whose modules `workers` workers run.
 pub(crate) fn report_on<G: Gate + Sync, R: Threads + Wait + Sync>(
     rt: &R,
     alloc: Global,

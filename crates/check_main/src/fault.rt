@@ -3,7 +3,7 @@
 use std::alloc::AllocError;
 use thiserror::Error;
 
-/// It is shown as what the program says of it.
+/// The fault of a command that did not end. `Display` shows it as the program's message.
 #[derive(Clone, Copy, Debug, PartialEq, Eq, Drop, Error)]
 #[error("{}", self.text())]
 pub enum CheckFault {

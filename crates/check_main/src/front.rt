@@ -30,7 +30,7 @@ const DONE: u8 = 0;
 
 const NO: u8 = 1;
 
-/// The words were refused.
+/// The exit status of words that are refused.
 pub const WORDS_REFUSED: u8 = 2;
 
 const TEXT_REFUSED: u8 = 3;
@@ -39,28 +39,28 @@ const DEVICE_FAULT: u8 = 4;
 
 const NOT_DECIDED: u8 = 5;
 
-/// What a command reads from and writes to.
+/// The streams that a command reads from and writes to.
 #[derive(Drop)]
 pub struct Streams<R, W, E> {
-    /// Gives the text.
+    /// The source of the text.
     pub reader: R,
-    /// Takes the answer.
+    /// The sink of the answer.
     pub writer: W,
-    /// Is told what is wrong with the words, and a line for a status of 4 or 5.
+    /// The sink of what is wrong with the words, and of a line for a status of 4 or 5.
     pub errors: E,
 }
 
-/// Does what the words ask for and gives the exit status. The words have no program's name.
+/// Runs the command that the words ask for, and returns the exit status. The words have no program's name.
 ///
 /// - 0: the command is done, or help or the version was asked for and written
-/// - 1: the verdict is no, a ball left the rectangle, or a gate has no row for what it is fed
+/// - 1: the verdict is no, a ball left the rectangle, or a gate has no row for its inputs
 /// - 2: the words were refused
-/// - 3: the text was refused, and `writer` was told the line and why
+/// - 3: the text was refused, and `writer` has the line and the code
 /// - 4: `reader` or `writer` failed, or the text is longer than 16 MiB
 /// - 5: memory ran out
 ///
-/// What is wrong with the words, and a line for a status of 4 or 5, is said to `errors`, and that a write to it fails
-/// changes nothing. The workers of `check` tell the gate of each module that they draw; the program's is `OpenGate`.
+/// `errors` gets what is wrong with the words, and a line for a status of 4 or 5. A write to it that fails changes
+/// nothing. The workers of `check` report each module that they draw to the gate. The program's gate is `OpenGate`.
 pub fn program<'a, T, R, W, E, G>(
     rt: &T,
     alloc: Global,
@@ -209,7 +209,7 @@ fn serve<T: Threads + Wait + Sync, R: Source, W: Sink, G: Gate + Sync>(
     }
 }
 
-/// The status for how a command ended, whose fault is said to `errors`.
+/// Returns the status for the end of a command, and writes its fault to `errors`.
 pub fn status_of<E: Sink>(ended: Result<Outcome, CheckFault>, errors: &mut E) -> u8
     ensures status { result ≡ status_for ended }
     ensures quiet { OnOk ended (errors.new ≡ errors.old) }

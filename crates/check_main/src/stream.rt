@@ -26,17 +26,21 @@ use std::thread::Threads;
 // What one read asks for, in bytes.
 const BLOCK: usize = 65_536;
 
-/// Checks a bundle: reads the whole text, at most 16 MiB, has the modules of its certificate run by 1 to 64 workers,
-/// and writes the report once it is complete. `Yes` and `No` are the verdict. What is written is the same for every
-/// number of workers, every gate and every order in which they end.
+/// Checks a bundle.
 ///
-/// Where it is `Yes`, or `verdict yes` is the fourth line of what was written, the text begins with a circuit and a
-/// layout, and the whole pattern of the layout computes the circuit: `headline/specs/Headline.antt` says what that is.
-/// Then it goes on with a certificate whose stops hold on the whole pattern: `headline/specs/Stops.antt`.
+/// It reads the whole text, at most 16 MiB. 1 to 64 workers run the modules of its certificate. It writes the report
+/// once it is complete. `Yes` and `No` are the verdict. The output is the same for every number of workers, every gate
+/// and every order in which they end.
 ///
-/// If it is `No`, and the certificate is one plain module, the whole rectangle, the text is wrong:
-/// `headline/specs/Plain.antt`. What the lines of the report mean is in `headline/specs/ReportLines.antt`. The plain
-/// text of a small design is never `Refused`: `headline/specs/SmallDesigns.antt`.
+/// If the verdict is `Yes`, or `verdict yes` is the fourth line of the output,
+///
+/// - the text begins with a circuit and a layout, and the whole layout computes the circuit
+///   (`headline/specs/Headline.antt`);
+/// - it goes on with a certificate whose stops hold on the whole layout (`headline/specs/Stops.antt`).
+///
+/// If it is `No`, and the certificate is one plain module, the whole rectangle, the text is wrong
+/// (`headline/specs/Plain.antt`). `headline/specs/ReportLines.antt` says what the lines of the report mean. The plain
+/// text of a small design is never `Refused` (`headline/specs/SmallDesigns.antt`).
 pub fn check_stream<T, R, W, G>(
     rt: &T,
     alloc: Global,
@@ -71,8 +75,10 @@ where
     write_answer(writer, &answered)
 }
 
-/// Runs a layout under an assignment: reads the whole text, at most 16 MiB, and writes the answer once it is
-/// complete. `No` is a ball that leaves the rectangle.
+/// Runs a layout under an assignment.
+///
+/// It reads the whole text, at most 16 MiB, and writes the answer once it is complete. `No` is a ball that leaves the
+/// rectangle.
 pub fn run_stream<R: Source, W: Sink>(
     alloc: Global,
     reader: &mut R,
@@ -88,8 +94,10 @@ pub fn run_stream<R: Source, W: Sink>(
     write_answer(writer, &answered)
 }
 
-/// Evaluates a circuit under an assignment: reads the whole text, at most 16 MiB, and writes the answer once it is
-/// complete. `No` is a gate that has no row for what it is fed.
+/// Evaluates a circuit under an assignment.
+///
+/// It reads the whole text, at most 16 MiB, and writes the answer once it is complete. `No` is a gate that has no row
+/// for its inputs.
 pub fn value_stream<R: Source, W: Sink>(
     alloc: Global,
     reader: &mut R,
@@ -105,8 +113,10 @@ pub fn value_stream<R: Source, W: Sink>(
     write_answer(writer, &answered)
 }
 
-/// Lists the modules of a bundle's certificate: reads the whole text, at most 16 MiB, and writes the answer once it is
-/// complete. The outcome is `Yes` or `Refused`.
+/// Lists the modules of a bundle's certificate.
+///
+/// It reads the whole text, at most 16 MiB, and writes the answer once it is complete. The outcome is `Yes` or
+/// `Refused`.
 pub fn modules_stream<R: Source, W: Sink>(
     alloc: Global,
     reader: &mut R,
@@ -122,9 +132,11 @@ pub fn modules_stream<R: Source, W: Sink>(
     write_answer(writer, &answered)
 }
 
-/// Writes a bundle in certificate version 2, without halo lines: reads the whole text, at most 16 MiB, and writes the
-/// answer once it is complete. The outcome is `Yes` or `Refused`. A bundle of version 2 is written as it is, and what
-/// `check` accepts it accepts afterwards: `headline/specs/Migration.antt`.
+/// Writes a bundle in certificate version 2, without halo lines.
+///
+/// It reads the whole text, at most 16 MiB, and writes the answer once it is complete. The outcome is `Yes` or
+/// `Refused`. A bundle of version 2 is written as it is. If `check` accepts a bundle, it accepts the migrated one
+/// (`headline/specs/Migration.antt`).
 pub fn migrate_stream<R: Source, W: Sink>(
     alloc: Global,
     reader: &mut R,
@@ -210,7 +222,7 @@ fn write_answer<W: Sink>(writer: &mut W, answered: &Answered) -> Result<Outcome,
     }
 }
 
-/// Writes all of `bytes`, or answers false where the writer failed.
+/// Writes all of `bytes`, or returns false if the writer failed.
 pub(crate) fn write_whole<W: Sink>(writer: &mut W, bytes: &[u8]) -> bool
     ensures all { result ≡ true → Appends (W.held writer.old) (W.held writer.new) bytes.now }
     ensures works { result ≡ true → W.has_failed writer.new ≡ W.has_failed writer.old }

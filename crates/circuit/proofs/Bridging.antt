@@ -1,5 +1,6 @@
 -- The gates of good lines are ordered.
-use Rattle.std.proofs.Common.{◌≡◌, ℕ, ◌+◌, ◌<◌, Bool, false, cond, List, [], ◌∷◌, ◌++◌, map, length, take, Option, Some, None, refl, sym, ap, ap₂, subst, ◌∙◌, arith, inl, inr, append_assoc, length-append}
+use Rattle.std.proofs.Common.{◌≡◌, ℕ, ◌+◌, ◌<◌, Bool, false, cond, List, [], ◌∷◌, ◌++◌, map, length, take, Option, Some}
+use Rattle.std.proofs.Common.{None, refl, sym, ap, ap₂, subst, ◌∙◌, arith, inl, inr, append_assoc, length-append}
 use Rattle.std.specs.List.{All, range_with_len, count_by}
 use Rattle.std.proofs.lemmas.List.{append-nil, length-map}
 use Rattle.std.proofs.lemmas.Grind.{flat_map-append}
@@ -29,12 +30,14 @@ or_else_none (Some c) b e = absurd (clash c e)
     clash : (c : ℕ) → ◌≡◌ {A = Option ℕ} (Some c) None → ⊥
     clash c e = cc
 
-pub names_pass : (before : List Entry) (r : Entry) → add_fault before r ≡ None → (consume (defined before) (consumed before) r.ins ≡ None) × (define (defined before) r.outs ≡ None)
+pub names_pass : (before : List Entry) (r : Entry) → add_fault before r ≡ None →
+    (consume (defined before) (consumed before) r.ins ≡ None) × (define (defined before) r.outs ≡ None)
 unfolding add_fault
 names_pass before r e = or_else_none _ _ (or_else_none (limit_fault before r) (name_fault before r) e).1
 
 -- ---- names that are newly defined
-pub define_first : (d : List (List ℕ)) (n : List ℕ) (ns : List (List ℕ)) → define d (n ∷ ns) ≡ None → (has d n ≡ false) × (define (d ++ n ∷ []) ns ≡ None)
+pub define_first : (d : List (List ℕ)) (n : List ℕ) (ns : List (List ℕ)) → define d (n ∷ ns) ≡ None →
+    (has d n ≡ false) × (define (d ++ n ∷ []) ns ≡ None)
 define_first d n ns e = elim (cases_Bool (has d n)) [
   | inl h ↦ absurd (clash (rw h at e))
   | inr h ↦ (h, rw h at e)
@@ -43,20 +46,24 @@ define_first d n ns e = elim (cases_Bool (has d n)) [
     clash : ◌≡◌ {A = Option ℕ} (Some 4) None → ⊥
     clash e = cc
 
-pub numbers_new : (d ns e : List (List ℕ)) → define d ns ≡ None → map (number (d ++ (ns ++ e))) ns ≡ range_with_len (length d) (length ns)
+pub numbers_new : (d ns e : List (List ℕ)) → define d ns ≡ None →
+    map (number (d ++ (ns ++ e))) ns ≡ range_with_len (length d) (length ns)
 numbers_new d [] e h = refl
 numbers_new d (n ∷ ns) e h =
     let first = define_first d n ns h in
     let rest = numbers_new (d ++ n ∷ []) ns e first.1 in
     let same : (d ++ n ∷ []) ++ (ns ++ e) ≡ d ++ (n ∷ (ns ++ e)) = append_assoc d (n ∷ []) (ns ++ e) in
     ap₂ (λ x xs. x ∷ xs) (number_new d (ns ++ e) n first.0 (bytes_same n)) (
-    ap (λ (names : List (List ℕ)). map (number names) ns) (sym same) ∙ rest ∙ ap (λ k. range_with_len k (length ns)) (length-append d (n ∷ [])))
+    ap (λ (names : List (List ℕ)). map (number names) ns) (sym same) ∙ rest
+    ∙ ap (λ k. range_with_len k (length ns)) (length-append d (n ∷ [])))
 
 -- ---- defined, counts, one line at a time
 pub defined_push : (before : List Entry) (r : Entry) → defined (before ++ r ∷ []) ≡ defined before ++ r.outs
-defined_push before r = flat_map-append (λ (r : Entry). r.outs) before (r ∷ []) ∙ ap (λ l. defined before ++ l) (append-nil r.outs)
+defined_push before r = flat_map-append (λ (r : Entry). r.outs) before (r ∷ [])
+    ∙ ap (λ l. defined before ++ l) (append-nil r.outs)
 
-defined_cons : (before : List Entry) (r : Entry) (rest : List Entry) → defined (before ++ r ∷ rest) ≡ defined before ++ (r.outs ++ defined rest)
+defined_cons : (before : List Entry) (r : Entry) (rest : List Entry) →
+    defined (before ++ r ∷ rest) ≡ defined before ++ (r.outs ++ defined rest)
 defined_cons before r rest = flat_map-append (λ (r : Entry). r.outs) before (r ∷ rest)
 
 pub push_cons : (before : List Entry) (r : Entry) (rest : List Entry) → (before ++ r ∷ []) ++ rest ≡ before ++ r ∷ rest
@@ -65,7 +72,8 @@ push_cons before r rest = append_assoc before (r ∷ []) rest
 pub count_append : {X : Type 0} (p : X → Bool) (xs ys : List X) → count_by p (xs ++ ys) ≡ count_by p xs + count_by p ys
 count_append p xs ys = sum_by-append (λ x. cond (p x) 1 0) xs ys
 
-pub input_cons : (r : Entry) (rest : List Entry) → input_count (r ∷ rest) ≡ cond (is_input r.kind) 1 0 + input_count rest
+pub input_cons : (r : Entry) (rest : List Entry) →
+    input_count (r ∷ rest) ≡ cond (is_input r.kind) 1 0 + input_count rest
 input_cons r rest = sum_by-cons (λ (r : Entry). cond (is_input r.kind) 1 0) r rest
 
 -- a line's kind, its ins and its outs, taken apart
@@ -78,7 +86,8 @@ pub no_inputs : (before rest : List Entry) → AreGoodAfter before rest → 0 < 
 unfolding AreGoodAfter
 no_inputs before [] good some = refl
 no_inputs before (r ∷ rest) good some =
-    let more : gate_count (before ++ r ∷ []) ≡ gate_count before + gate_count (r ∷ []) = count_append (λ (r : Entry). is_gate r.kind) before (r ∷ []) in
+    let more : gate_count (before ++ r ∷ []) ≡ gate_count before + gate_count (r ∷ []) =
+    count_append (λ (r : Entry). is_gate r.kind) before (r ∷ []) in
     let later = no_inputs (before ++ r ∷ []) rest good.1 (omega arith) in
     elim (cases_Bool (is_input r.kind)) [
       | inl e ↦ absurd (omega (arith, good.0.inputs_first e))
@@ -86,7 +95,8 @@ no_inputs before (r ∷ rest) good some =
     ]
 
 -- lines without inputs
-ordered_line : (names : List (List ℕ)) (before rest : List Entry) (kind : Kind) (ins outs : List (List ℕ)) → IsGoodAfter before (record { kind = kind; ins = ins; outs = outs }) →
+ordered_line : (names : List (List ℕ)) (before rest : List Entry) (kind : Kind) (ins outs : List (List ℕ)) →
+    IsGoodAfter before (record { kind = kind; ins = ins; outs = outs }) →
     AreOrdered (length (defined before ++ outs)) (gates_of names rest) →
     names ≡ defined before ++ (outs ++ defined rest) → is_input kind ≡ false →
     AreOrdered (length (defined before)) (gate_in names ins outs kind ++ gates_of names rest)
@@ -96,30 +106,39 @@ ordered_line names before rest (GateLine k) ins outs good later e f =
     let pass = names_pass before _ good.adds in
     let have : Have (defined before) ins = consume_have (defined before) (consumed before) ins pass.0 in
     let numbers : map (number names) ins ≡ map (number (defined before)) ins =
-    ap (λ (names : List (List ℕ)). map (number names) ins) e ∙ numbers_left (defined before) (outs ++ defined rest) ins have in (
+    ap (λ (names : List (List ℕ)). map (number names) ins) e
+    ∙ numbers_left (defined before) (outs ++ defined rest) ins have in (
       subst (λ ws. All (λ w. w < length (defined before)) ws) (sym numbers) (numbers_below (defined before) ins have),
       length-map ins (number names) ∙ good.fits.0,
-      ap (λ (names : List (List ℕ)). map (number names) outs) e ∙ numbers_new (defined before) outs (defined rest) pass.1 ∙ ap (range_with_len (length (defined before))) good.fits.1,
-      subst (λ m. AreOrdered m (gates_of names rest)) (length-append (defined before) outs ∙ ap (λ k. length (defined before) + k) good.fits.1) later,
+      ap (λ (names : List (List ℕ)). map (number names) outs) e
+          ∙ numbers_new (defined before) outs (defined rest) pass.1
+          ∙ ap (range_with_len (length (defined before))) good.fits.1,
+      subst (λ m. AreOrdered m (gates_of names rest))
+          (length-append (defined before) outs ∙ ap (λ k. length (defined before) + k) good.fits.1) later,
     )
 ordered_line names before rest Output ins outs good later e f =
-    subst (λ m. AreOrdered m (gates_of names rest)) (length-append (defined before) outs ∙ omega (arith, good.fits.1)) later
+    subst (λ m. AreOrdered m (gates_of names rest))
+    (length-append (defined before) outs ∙ omega (arith, good.fits.1)) later
 ordered_line names before rest Spill ins outs good later e f =
-    subst (λ m. AreOrdered m (gates_of names rest)) (length-append (defined before) outs ∙ omega (arith, good.fits.1)) later
+    subst (λ m. AreOrdered m (gates_of names rest))
+    (length-append (defined before) outs ∙ omega (arith, good.fits.1)) later
 
-not_input : (r : Entry) (rest : List Entry) → input_count (r ∷ rest) ≡ 0 → (is_input r.kind ≡ false) × (input_count rest ≡ 0)
+not_input : (r : Entry) (rest : List Entry) → input_count (r ∷ rest) ≡ 0 →
+    (is_input r.kind ≡ false) × (input_count rest ≡ 0)
 not_input r rest e = elim (cases_Bool (is_input r.kind)) [
   | inl i ↦ absurd (omega (arith, sym (input_cons r rest) ∙ e, ap {B = ℕ} (λ b. cond b 1 0) i))
   | inr i ↦ (i, omega (arith, sym (input_cons r rest) ∙ e))
 ]
 
-ordered_gates : (names : List (List ℕ)) (before rest : List Entry) → AreGoodAfter before rest → names ≡ defined (before ++ rest) → input_count rest ≡ 0 →
+ordered_gates : (names : List (List ℕ)) (before rest : List Entry) → AreGoodAfter before rest →
+    names ≡ defined (before ++ rest) → input_count rest ≡ 0 →
     AreOrdered (length (defined before)) (gates_of names rest)
 unfolding AreOrdered AreGoodAfter
 ordered_gates names before [] good e none = tt
 ordered_gates names before (r ∷ rest) good e none =
     let n = not_input r rest none in
-    let later = ordered_gates names (before ++ r ∷ []) rest good.1 (e ∙ ap defined (sym (push_cons before r rest))) n.1 in
+    let later = ordered_gates names (before ++ r ∷ []) rest good.1
+    (e ∙ ap defined (sym (push_cons before r rest))) n.1 in
     ordered_line names before rest r.kind r.ins r.outs good.0
     (subst (λ (d : List (List ℕ)). AreOrdered (length d) (gates_of names rest)) (defined_push before r) later)
     (e ∙ defined_cons before r rest) n.0
@@ -130,61 +149,85 @@ record Far (names : List (List ℕ)) (before : List Entry) (rest : List Entry) :
   no_gate : gate_count before ≡ 0
   only_inputs : length (defined before) ≡ input_count before
 
-far_next : (names : List (List ℕ)) (before rest : List Entry) (kind : Kind) (ins outs : List (List ℕ)) → Far names before (record { kind = kind; ins = ins; outs = outs } ∷ rest) → length outs ≡ cond (is_input kind) 1 0 → is_gate kind ≡ false →
+far_next : (names : List (List ℕ)) (before rest : List Entry) (kind : Kind) (ins outs : List (List ℕ)) →
+    Far names before (record { kind = kind; ins = ins; outs = outs } ∷ rest) → length outs ≡ cond (is_input kind) 1 0 →
+    is_gate kind ≡ false →
     Far names (before ++ record { kind = kind; ins = ins; outs = outs } ∷ []) rest
 far_next names before rest kind ins outs far e f =
     let r : Entry = record { kind = kind; ins = ins; outs = outs } in
     record {
       all = far.all ∙ ap defined (sym (push_cons before r rest));
-      no_gate = count_append (λ (r : Entry). is_gate r.kind) before (r ∷ []) ∙ omega (arith, far.no_gate, ap {B = ℕ} (λ b. cond b 1 0) f);
-      only_inputs = ap length (defined_push before r) ∙ length-append (defined before) outs ∙ omega (arith, far.only_inputs, e) ∙ sym (count_append (λ (r : Entry). is_input r.kind) before (r ∷ []));
+      no_gate = count_append (λ (r : Entry). is_gate r.kind) before (r ∷ [])
+          ∙ omega (arith, far.no_gate, ap {B = ℕ} (λ b. cond b 1 0) f);
+      only_inputs = ap length (defined_push before r) ∙ length-append (defined before) outs
+          ∙ omega (arith, far.only_inputs, e) ∙ sym (count_append (λ (r : Entry). is_input r.kind) before (r ∷ []));
     }
 
 gate_first : (names : List (List ℕ)) (before rest : List Entry) (k : GateKind) (ins outs : List (List ℕ)) →
-    AreGoodAfter before (record { kind = GateLine k; ins = ins; outs = outs } ∷ rest) → Far names before (record { kind = GateLine k; ins = ins; outs = outs } ∷ rest) →
-    AreOrdered (input_count (before ++ record { kind = GateLine k; ins = ins; outs = outs } ∷ rest)) (gates_of names (record { kind = GateLine k; ins = ins; outs = outs } ∷ rest))
+    AreGoodAfter before (record { kind = GateLine k; ins = ins; outs = outs } ∷ rest) →
+    Far names before (record { kind = GateLine k; ins = ins; outs = outs } ∷ rest) →
+    AreOrdered (input_count (before ++ record { kind = GateLine k; ins = ins; outs = outs } ∷ rest))
+    (gates_of names (record { kind = GateLine k; ins = ins; outs = outs } ∷ rest))
 unfolding AreGoodAfter
 gate_first names before rest k ins outs good far =
     let r : Entry = record { kind = GateLine k; ins = ins; outs = outs } in
-    let here : gate_count (before ++ r ∷ []) ≡ gate_count before + 1 = count_append (λ (r : Entry). is_gate r.kind) before (r ∷ []) in
+    let here : gate_count (before ++ r ∷ []) ≡ gate_count before + 1 =
+    count_append (λ (r : Entry). is_gate r.kind) before (r ∷ []) in
     let none = no_inputs (before ++ r ∷ []) rest good.1 (omega arith) in
     let zero_inputs : input_count (r ∷ rest) ≡ 0 = input_cons r rest ∙ omega (arith, none) in
-    let same : length (defined before) ≡ input_count (before ++ r ∷ rest) = far.only_inputs ∙ omega (arith, zero_inputs, count_append (λ (r : Entry). is_input r.kind) before (r ∷ rest)) in
-    subst (λ m. AreOrdered m (gates_of names (r ∷ rest))) same (ordered_gates names before (r ∷ rest) good far.all zero_inputs)
+    let same : length (defined before) ≡ input_count (before ++ r ∷ rest) =
+    far.only_inputs ∙ omega (arith, zero_inputs, count_append (λ (r : Entry). is_input r.kind) before (r ∷ rest)) in
+    subst (λ m. AreOrdered m (gates_of names (r ∷ rest))) same
+    (ordered_gates names before (r ∷ rest) good far.all zero_inputs)
 
 ordered_rest : (names : List (List ℕ)) (before rest : List Entry) (kind : Kind) (ins outs : List (List ℕ)) →
-    AreGoodAfter before (record { kind = kind; ins = ins; outs = outs } ∷ rest) → Far names before (record { kind = kind; ins = ins; outs = outs } ∷ rest) →
-    (AreGoodAfter (before ++ record { kind = kind; ins = ins; outs = outs } ∷ []) rest → Far names (before ++ record { kind = kind; ins = ins; outs = outs } ∷ []) rest →
-    AreOrdered (input_count ((before ++ record { kind = kind; ins = ins; outs = outs } ∷ []) ++ rest)) (gates_of names rest)) →
-    AreOrdered (input_count (before ++ record { kind = kind; ins = ins; outs = outs } ∷ rest)) (gates_of names (record { kind = kind; ins = ins; outs = outs } ∷ rest))
+    AreGoodAfter before (record { kind = kind; ins = ins; outs = outs } ∷ rest) →
+    Far names before (record { kind = kind; ins = ins; outs = outs } ∷ rest) →
+    (AreGoodAfter (before ++ record { kind = kind; ins = ins; outs = outs } ∷ []) rest →
+    Far names (before ++ record { kind = kind; ins = ins; outs = outs } ∷ []) rest →
+    AreOrdered (input_count ((before ++ record { kind = kind; ins = ins; outs = outs } ∷ []) ++ rest))
+    (gates_of names rest)) →
+    AreOrdered (input_count (before ++ record { kind = kind; ins = ins; outs = outs } ∷ rest))
+    (gates_of names (record { kind = kind; ins = ins; outs = outs } ∷ rest))
 unfolding AreGoodAfter
 ordered_rest names before rest Input ins outs good far later =
-    subst (λ (l : List Entry). AreOrdered (input_count l) (gates_of names rest)) (push_cons before _ rest) (later good.1 (far_next names before rest Input ins outs far good.0.fits.1 refl))
+    subst (λ (l : List Entry). AreOrdered (input_count l) (gates_of names rest)) (push_cons before _ rest)
+    (later good.1 (far_next names before rest Input ins outs far good.0.fits.1 refl))
 ordered_rest names before rest (GateLine k) ins outs good far later = gate_first names before rest k ins outs good far
 ordered_rest names before rest Output ins outs good far later =
-    subst (λ (l : List Entry). AreOrdered (input_count l) (gates_of names rest)) (push_cons before _ rest) (later good.1 (far_next names before rest Output ins outs far good.0.fits.1 refl))
+    subst (λ (l : List Entry). AreOrdered (input_count l) (gates_of names rest)) (push_cons before _ rest)
+    (later good.1 (far_next names before rest Output ins outs far good.0.fits.1 refl))
 ordered_rest names before rest Spill ins outs good far later =
-    subst (λ (l : List Entry). AreOrdered (input_count l) (gates_of names rest)) (push_cons before _ rest) (later good.1 (far_next names before rest Spill ins outs far good.0.fits.1 refl))
+    subst (λ (l : List Entry). AreOrdered (input_count l) (gates_of names rest)) (push_cons before _ rest)
+    (later good.1 (far_next names before rest Spill ins outs far good.0.fits.1 refl))
 
-ordered_lines : (names : List (List ℕ)) (before rest : List Entry) → AreGoodAfter before rest → Far names before rest → AreOrdered (input_count (before ++ rest)) (gates_of names rest)
+ordered_lines : (names : List (List ℕ)) (before rest : List Entry) → AreGoodAfter before rest → Far names before rest →
+    AreOrdered (input_count (before ++ rest)) (gates_of names rest)
 unfolding AreOrdered
 ordered_lines names before [] good far = tt
 ordered_lines names before (r ∷ rest) good far =
     ordered_rest names before rest r.kind r.ins r.outs good far (ordered_lines names (before ++ r ∷ []) rest)
 
 pub gates_are_ordered : GatesAreOrdered
-gates_are_ordered entries good = ordered_lines (defined entries) [] entries good (record { all = refl; no_gate = refl; only_inputs = refl })
+gates_are_ordered entries good =
+    ordered_lines (defined entries) [] entries good (record { all = refl; no_gate = refl; only_inputs = refl })
 
 -- ---- one more line
-pub good_push : (before rest : List Entry) (r : Entry) → AreGoodAfter before rest → IsGoodAfter (before ++ rest) r → AreGoodAfter before (rest ++ r ∷ [])
+pub good_push : (before rest : List Entry) (r : Entry) → AreGoodAfter before rest → IsGoodAfter (before ++ rest) r →
+    AreGoodAfter before (rest ++ r ∷ [])
 unfolding AreGoodAfter
 good_push before [] r good next = (subst (λ (l : List Entry). IsGoodAfter l r) (append-nil before) next, tt)
-good_push before (a ∷ rest) r good next =
-    (good.0, good_push (before ++ a ∷ []) rest r good.1 (subst (λ (l : List Entry). IsGoodAfter l r) (sym (push_cons before a rest)) next))
+good_push before (a ∷ rest) r good next = (
+  good.0,
+  good_push (before ++ a ∷ []) rest r good.1
+      (subst (λ (l : List Entry). IsGoodAfter l r) (sym (push_cons before a rest)) next),
+)
 
 -- more names leave the gates as they are
-line_keeps : (before rest : List Entry) (e : List (List ℕ)) (kind : Kind) (ins outs : List (List ℕ)) → IsGoodAfter before (record { kind = kind; ins = ins; outs = outs }) →
-    gate_in ((defined before ++ (outs ++ defined rest)) ++ e) ins outs kind ≡ gate_in (defined before ++ (outs ++ defined rest)) ins outs kind
+line_keeps : (before rest : List Entry) (e : List (List ℕ)) (kind : Kind) (ins outs : List (List ℕ)) →
+    IsGoodAfter before (record { kind = kind; ins = ins; outs = outs }) →
+    gate_in ((defined before ++ (outs ++ defined rest)) ++ e) ins outs kind
+    ≡ gate_in (defined before ++ (outs ++ defined rest)) ins outs kind
 line_keeps before rest e Input ins outs good = refl
 line_keeps before rest e Output ins outs good = refl
 line_keeps before rest e Spill ins outs good = refl
@@ -194,24 +237,31 @@ line_keeps before rest e (GateLine k) ins outs good =
     let d : List (List ℕ) = defined before in
     let later : List (List ℕ) = outs ++ defined rest in
     let long : (d ++ later) ++ e ≡ d ++ (later ++ e) = append_assoc d later e in
-    let longer : (d ++ later) ++ e ≡ d ++ (outs ++ (defined rest ++ e)) = long ∙ ap (λ (l : List (List ℕ)). d ++ l) (append_assoc outs (defined rest) e) in
+    let longer : (d ++ later) ++ e ≡ d ++ (outs ++ (defined rest ++ e)) =
+    long ∙ ap (λ (l : List (List ℕ)). d ++ l) (append_assoc outs (defined rest) e) in
     let ins_same : map (number ((d ++ later) ++ e)) ins ≡ map (number (d ++ later)) ins =
-    ap (λ (l : List (List ℕ)). map (number l) ins) long ∙ numbers_left d (later ++ e) ins have ∙ sym (numbers_left d later ins have) in
+    ap (λ (l : List (List ℕ)). map (number l) ins) long ∙ numbers_left d (later ++ e) ins have
+    ∙ sym (numbers_left d later ins have) in
     let outs_same : map (number ((d ++ later) ++ e)) outs ≡ map (number (d ++ later)) outs =
-    ap (λ (l : List (List ℕ)). map (number l) outs) longer ∙ numbers_new d outs (defined rest ++ e) pass.1 ∙ sym (numbers_new d outs (defined rest) pass.1) in
+    ap (λ (l : List (List ℕ)). map (number l) outs) longer ∙ numbers_new d outs (defined rest ++ e) pass.1
+    ∙ sym (numbers_new d outs (defined rest) pass.1) in
     ap₂ (λ (i o : List ℕ). record { kind = rule_of k; ins = i; outs = o } ∷ []) ins_same outs_same
 
-gates_keep : (names e : List (List ℕ)) (before rest : List Entry) → AreGoodAfter before rest → names ≡ defined (before ++ rest) → gates_of (names ++ e) rest ≡ gates_of names rest
+gates_keep : (names e : List (List ℕ)) (before rest : List Entry) → AreGoodAfter before rest →
+    names ≡ defined (before ++ rest) → gates_of (names ++ e) rest ≡ gates_of names rest
 unfolding AreGoodAfter
 gates_keep names e before [] good is = refl
 gates_keep names e before (r ∷ rest) good is =
     let all : names ≡ defined before ++ (r.outs ++ defined rest) = is ∙ defined_cons before r rest in
     let line : gate_in (names ++ e) r.ins r.outs r.kind ≡ gate_in names r.ins r.outs r.kind =
-    subst (λ (l : List (List ℕ)). gate_in (l ++ e) r.ins r.outs r.kind ≡ gate_in l r.ins r.outs r.kind) (sym all) (line_keeps before rest e r.kind r.ins r.outs good.0) in
-    ap₂ (λ (g gs : List Gate). g ++ gs) line (gates_keep names e (before ++ r ∷ []) rest good.1 (is ∙ ap defined (sym (push_cons before r rest))))
+    subst (λ (l : List (List ℕ)). gate_in (l ++ e) r.ins r.outs r.kind ≡ gate_in l r.ins r.outs r.kind) (sym all)
+    (line_keeps before rest e r.kind r.ins r.outs good.0) in
+    ap₂ (λ (g gs : List Gate). g ++ gs) line
+    (gates_keep names e (before ++ r ∷ []) rest good.1 (is ∙ ap defined (sym (push_cons before r rest))))
 
 -- the gate that is added
-line_added : (entries : List Entry) (numbers : List ℕ) (kind : Kind) (ins outs : List (List ℕ)) → IsGoodAfter entries (record { kind = kind; ins = ins; outs = outs }) →
+line_added : (entries : List Entry) (numbers : List ℕ) (kind : Kind) (ins outs : List (List ℕ)) →
+    IsGoodAfter entries (record { kind = kind; ins = ins; outs = outs }) →
     take (length ins) numbers ≡ map (number (defined entries)) ins →
     gate_in (defined entries ++ outs) ins outs kind ≡ gate_at kind numbers (length (defined entries))
 line_added entries numbers Input ins outs good same = refl
@@ -222,11 +272,15 @@ line_added entries numbers (GateLine k) ins outs good same =
     let have : Have (defined entries) ins = consume_have (defined entries) (consumed entries) ins pass.0 in
     ap₂ (λ (i o : List ℕ). record { kind = rule_of k; ins = i; outs = o } ∷ [])
     (numbers_left (defined entries) outs ins have ∙ sym same ∙ ap (λ (n : ℕ). take n numbers) good.fits.0)
-    (ap (λ (l : List (List ℕ)). map (number (defined entries ++ l)) outs) (sym (append-nil outs)) ∙ numbers_new (defined entries) outs [] pass.1 ∙ ap (range_with_len (length (defined entries))) good.fits.1)
+    (ap (λ (l : List (List ℕ)). map (number (defined entries ++ l)) outs) (sym (append-nil outs))
+    ∙ numbers_new (defined entries) outs [] pass.1 ∙ ap (range_with_len (length (defined entries))) good.fits.1)
 
-pub gates_push : (entries : List Entry) (r : Entry) (numbers : List ℕ) → AreGood entries → IsGoodAfter entries r → take (length r.ins) numbers ≡ map (number (defined entries)) r.ins →
-    gates_of (defined (entries ++ r ∷ [])) (entries ++ r ∷ []) ≡ gates_of (defined entries) entries ++ gate_at r.kind numbers (length (defined entries))
+pub gates_push : (entries : List Entry) (r : Entry) (numbers : List ℕ) → AreGood entries → IsGoodAfter entries r →
+    take (length r.ins) numbers ≡ map (number (defined entries)) r.ins →
+    gates_of (defined (entries ++ r ∷ [])) (entries ++ r ∷ [])
+    ≡ gates_of (defined entries) entries ++ gate_at r.kind numbers (length (defined entries))
 gates_push entries r numbers good next same =
     ap (λ (l : List (List ℕ)). gates_of l (entries ++ r ∷ [])) (defined_push entries r)
     ∙ flat_map-append (λ (s : Entry). gate_in (defined entries ++ r.outs) s.ins s.outs s.kind) entries (r ∷ [])
-    ∙ ap₂ (λ (a b : List Gate). a ++ b) (gates_keep (defined entries) r.outs [] entries good refl) (append-nil _ ∙ line_added entries numbers r.kind r.ins r.outs next same)
+    ∙ ap₂ (λ (a b : List Gate). a ++ b) (gates_keep (defined entries) r.outs [] entries good refl)
+    (append-nil _ ∙ line_added entries numbers r.kind r.ins r.outs next same)

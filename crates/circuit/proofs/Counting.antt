@@ -7,7 +7,8 @@ use Rattle.circuit.specs.declared.entry.Kind.TheVariants.{Gate as GateLine}
 use Rattle.circuit.specs.Bridge.{AreGood, AreGoodAfter, FitsKind, is_input, input_count, input_names}
 use Rattle.circuit.proofs.Bridging.{input_cons}
 
-line_counted : (kind : Kind) (ins outs : List (List ℕ)) → FitsKind (record { kind = kind; ins = ins; outs = outs }) → length (cond (is_input kind) outs []) ≡ cond (is_input kind) 1 0
+line_counted : (kind : Kind) (ins outs : List (List ℕ)) → FitsKind (record { kind = kind; ins = ins; outs = outs }) →
+    length (cond (is_input kind) outs []) ≡ cond (is_input kind) 1 0
 line_counted Input ins outs fits = fits.1
 line_counted (GateLine k) ins outs fits = refl
 line_counted Output ins outs fits = refl
@@ -19,7 +20,8 @@ counted before [] good = refl
 counted before (r ∷ rest) good =
     let here = line_counted r.kind r.ins r.outs good.0.fits in
     let more = counted (before ++ r ∷ []) rest good.1 in
-    length-append (cond (is_input r.kind) r.outs []) (input_names rest) ∙ omega (arith, here, more) ∙ sym (input_cons r rest)
+    length-append (cond (is_input r.kind) r.outs []) (input_names rest) ∙ omega (arith, here, more)
+    ∙ sym (input_cons r rest)
 
 pub inputs_counted : (entries : List Entry) → AreGood entries → length (input_names entries) ≡ input_count entries
 inputs_counted entries good = counted [] entries good

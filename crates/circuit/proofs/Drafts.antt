@@ -1,5 +1,6 @@
 -- A draft with one more line.
-use Rattle.std.proofs.Common.{◌≡◌, ℕ, ◌+◌, ◌≤◌, ◌||◌, ◌&&◌, Bool, true, false, cond, List, [], ◌∷◌, ◌++◌, map, length, take, None, refl, sym, ap, ap₂, subst, ◌∙◌, arith, length-append}
+use Rattle.std.proofs.Common.{◌≡◌, ℕ, ◌+◌, ◌≤◌, ◌||◌, ◌&&◌, Bool, true, false, cond, List, [], ◌∷◌, ◌++◌, map, length}
+use Rattle.std.proofs.Common.{take, None, refl, sym, ap, ap₂, subst, ◌∙◌, arith, length-append}
 use Rattle.std.specs.Prelude.{nat_lt, nat_le}
 use Rattle.std.proofs.lemmas.List.{append-nil}
 use Rattle.std.proofs.lemmas.Grind.{flat_map-append}
@@ -18,7 +19,9 @@ or_false : (a b : Bool) → (a || b) ≡ false → (a ≡ false) × (b ≡ false
 or_false true b e = absurd (true≢false e)
 or_false false b e = (refl, e)
 
-no_fault : (entries : List Entry) (r : Entry) → passes_limit entries r ≡ false → consume (defined entries) (consumed entries) r.ins ≡ None → define (defined entries) r.outs ≡ None → add_fault entries r ≡ None
+no_fault : (entries : List Entry) (r : Entry) → passes_limit entries r ≡ false →
+    consume (defined entries) (consumed entries) r.ins ≡ None → define (defined entries) r.outs ≡ None →
+    add_fault entries r ≡ None
 unfolding add_fault
 no_fault entries r limit ins outs = rw (limit, ins) outs
 
@@ -36,7 +39,8 @@ pub record Added (a b : Inside) (r : Entry) (numbers : List ℕ) : Type 0 where
   pub wired : map gate_of b.wired.items ≡ map gate_of a.wired.items ++ gate_at r.kind numbers (length a.wires.keys)
   pub gates : b.gates ≡ a.gates + cond (is_gate r.kind) 1 0
 
-few : (entries : List Entry) (r : Entry) → passes_limit entries r ≡ false → (length (defined entries) + length r.outs ≤ 4096) × ((is_gate r.kind && nat_le 1024 (gate_count entries)) ≡ false)
+few : (entries : List Entry) (r : Entry) → passes_limit entries r ≡ false →
+    (length (defined entries) + length r.outs ≤ 4096) × ((is_gate r.kind && nat_le 1024 (gate_count entries)) ≡ false)
 few entries r e =
     let limits = (or_false (is_wrong_delay r.kind) _ e).1 in
     let two = or_false (nat_lt 4096 (length (defined entries) + length r.outs)) _ limits in
@@ -50,23 +54,37 @@ pub added : (a b : Inside) (r : Entry) (numbers : List ℕ) → IsDraft a → Ad
 added a b r numbers is new =
     let entries : List Entry = a.entries.items in
     let faultless : add_fault entries r ≡ None = no_fault entries r new.limit
-    (ap₂ (λ (d c : List (List ℕ)). consume d c r.ins) (sym is.wires) (sym is.consumed) ∙ new.ins_pass) (ap (λ (d : List (List ℕ)). define d r.outs) (sym is.wires) ∙ new.outs_pass) in
+    (ap₂ (λ (d c : List (List ℕ)). consume d c r.ins) (sym is.wires) (sym is.consumed) ∙ new.ins_pass)
+    (ap (λ (d : List (List ℕ)). define d r.outs) (sym is.wires) ∙ new.outs_pass) in
     let good : IsGoodAfter entries r = record { adds = faultless; fits = new.fits; inputs_first = new.inputs_first } in
     let here = few entries r new.limit in
-    let count : gate_count (entries ++ r ∷ []) ≡ gate_count entries + cond (is_gate r.kind) 1 0 = count_append (λ (r : Entry). is_gate r.kind) entries (r ∷ []) ∙ omega arith in
-    let gates : b.gates ≡ gate_count (entries ++ r ∷ []) = new.gates ∙ ap (λ (n : ℕ). n + cond (is_gate r.kind) 1 0) is.gates ∙ sym count in
-    let longer : length (defined (entries ++ r ∷ [])) ≡ length (defined entries) + length r.outs = ap length (defined_push entries r) ∙ length-append (defined entries) r.outs in
+    let count : gate_count (entries ++ r ∷ []) ≡ gate_count entries + cond (is_gate r.kind) 1 0 =
+    count_append (λ (r : Entry). is_gate r.kind) entries (r ∷ []) ∙ omega arith in
+    let gates : b.gates ≡ gate_count (entries ++ r ∷ []) =
+    new.gates ∙ ap (λ (n : ℕ). n + cond (is_gate r.kind) 1 0) is.gates ∙ sym count in
+    let longer : length (defined (entries ++ r ∷ [])) ≡ length (defined entries) + length r.outs =
+    ap length (defined_push entries r) ∙ length-append (defined entries) r.outs in
     record {
-      wires = new.wires ∙ ap (λ (l : List (List ℕ)). l ++ r.outs) is.wires ∙ sym (defined_push entries r) ∙ ap defined (sym new.entries);
-      consumed = new.used ∙ ap (λ (l : List (List ℕ)). l ++ r.ins) is.consumed ∙ sym (consumed_push entries r) ∙ ap consumed (sym new.entries);
+      wires = new.wires ∙ ap (λ (l : List (List ℕ)). l ++ r.outs) is.wires ∙ sym (defined_push entries r)
+          ∙ ap defined (sym new.entries);
+      consumed = new.used ∙ ap (λ (l : List (List ℕ)). l ++ r.ins) is.consumed ∙ sym (consumed_push entries r)
+          ∙ ap consumed (sym new.entries);
       gates = gates ∙ ap gate_count (sym new.entries);
-      few_gates = omega (arith, gates, count, few_more (is_gate r.kind) (gate_count entries) here.1 (omega (arith, is.few_gates, is.gates)));
+      few_gates = omega (
+        arith,
+        gates,
+        count,
+        few_more (is_gate r.kind) (gate_count entries) here.1 (omega (arith, is.few_gates, is.gates)),
+      );
       few_wires = omega (arith, longer, here.0, ap (λ (l : List Entry). length (defined l)) new.entries);
       good = subst AreGood (sym new.entries) (good_push [] entries r is.good good);
-      wired = new.wired ∙ ap₂ (λ (x y : List Gate). x ++ y) is.wired (ap (λ (d : List (List ℕ)). gate_at r.kind numbers (length d)) is.wires)
-          ∙ sym (gates_push entries r numbers is.good good (new.numbered ∙ ap (λ (d : List (List ℕ)). map (number d) r.ins) is.wires))
+      wired = new.wired ∙ ap₂ (λ (x y : List Gate). x ++ y) is.wired
+          (ap (λ (d : List (List ℕ)). gate_at r.kind numbers (length d)) is.wires)
+          ∙ sym (gates_push entries r numbers is.good good
+          (new.numbered ∙ ap (λ (d : List (List ℕ)). map (number d) r.ins) is.wires))
           ∙ ap (λ (l : List Entry). gates_of (defined l) l) (sym new.entries);
     }
   where
     consumed_push : (before : List Entry) (r : Entry) → consumed (before ++ r ∷ []) ≡ consumed before ++ r.ins
-    consumed_push before r = flat_map-append (λ (r : Entry). r.ins) before (r ∷ []) ∙ ap (λ l. consumed before ++ l) (append-nil r.ins)
+    consumed_push before r = flat_map-append (λ (r : Entry). r.ins) before (r ∷ [])
+        ∙ ap (λ l. consumed before ++ l) (append-nil r.ins)

@@ -1,5 +1,6 @@
--- What is read from a line has as many names as its kind.
-use Rattle.std.proofs.Common.{◌≡◌, ℕ, zero, suc, ◌+◌, ◌≤◌, true, cond, eqb, List, [], ◌∷◌, length, Some, None, refl, sym, ap, subst, ◌∙◌, arith, inl, inr}
+-- A line that is read has as many names as its kind.
+use Rattle.std.proofs.Common.{◌≡◌, ℕ, zero, suc, ◌+◌, ◌≤◌, true, cond, eqb, List, [], ◌∷◌, length, Some, None, refl}
+use Rattle.std.proofs.Common.{sym, ap, subst, ◌∙◌, arith, inl, inr}
 use Rattle.std.specs.Prelude.{codes}
 use Rattle.std.proofs.lemmas.Option.{cond_some, option_and_then_some, same_Some}
 use Rattle.section_text.specs.Words.{◌>>=◌, is_word_at, name_at, names_at, lone, lone_name}
@@ -19,19 +20,31 @@ names_length : (ws : List (List ℕ)) (i n : ℕ) (ns : List (List ℕ)) → nam
 unfolding names_at
 names_length ws i zero ns e = ap length (sym (same_Some [] ns e))
 names_length ws i (suc n) ns e =
-    option_and_then_some (λ first. names_at ws (i + 1) n >>= λ others. Some (first ∷ others)) (name_at ws i) ns e (λ first named rest.
+    option_and_then_some (λ first. names_at ws (i + 1) n >>= λ others. Some (first ∷ others)) (name_at ws i) ns e
+    (λ first named rest.
     option_and_then_some (λ others. Some (first ∷ others)) (names_at ws (i + 1) n) ns rest (λ others more made.
-    let l = names_length ws (i + 1) n others more in ap length (sym (same_Some (first ∷ others) ns made)) ∙ omega (arith, l)))
+    let l = names_length ws (i + 1) n others more in
+    ap length (sym (same_Some (first ∷ others) ns made)) ∙ omega (arith, l)))
 
 gate_fits : (ws : List (List ℕ)) (r : Entry) → gate_entry ws ≡ Some r → FitsKind r
 unfolding gate_entry gate_names
 gate_fits ws r e =
-    option_and_then_some (λ kind. cond (eqb (length ws) (words_before kind + uses (rule_of kind) + 1 + defines (rule_of kind))) (cond (is_word_at ws (words_before kind + uses (rule_of kind)) (codes "->")) (gate_names ws kind) None) None) (gate_kind ws) r e (λ kind known rest.
-    let count = passed (eqb (length ws) (words_before kind + uses (rule_of kind) + 1 + defines (rule_of kind))) (cond (is_word_at ws (words_before kind + uses (rule_of kind)) (codes "->")) (gate_names ws kind) None) r rest in
-    let arrow = passed (is_word_at ws (words_before kind + uses (rule_of kind)) (codes "->")) (gate_names ws kind) r count.1 in
-    option_and_then_some (λ ins. names_at ws (words_before kind + uses (rule_of kind) + 1) (defines (rule_of kind)) >>= λ outs. Some (entry (Gate kind) ins outs)) (names_at ws (words_before kind) (uses (rule_of kind))) r arrow.1 (λ ins some_ins rest_ins.
-    option_and_then_some (λ outs. Some (entry (Gate kind) ins outs)) (names_at ws (words_before kind + uses (rule_of kind) + 1) (defines (rule_of kind))) r rest_ins (λ outs some_outs made.
-    subst FitsKind (same_Some (entry (Gate kind) ins outs) r made) (names_length ws _ _ ins some_ins, names_length ws _ _ outs some_outs))))
+    option_and_then_some (λ kind.
+    cond (eqb (length ws) (words_before kind + uses (rule_of kind) + 1 + defines (rule_of kind)))
+    (cond (is_word_at ws (words_before kind + uses (rule_of kind)) (codes "->")) (gate_names ws kind) None) None)
+    (gate_kind ws) r e (λ kind known rest.
+    let count = passed (eqb (length ws) (words_before kind + uses (rule_of kind) + 1 + defines (rule_of kind)))
+    (cond (is_word_at ws (words_before kind + uses (rule_of kind)) (codes "->")) (gate_names ws kind) None) r rest in
+    let arrow = passed (is_word_at ws (words_before kind + uses (rule_of kind)) (codes "->"))
+    (gate_names ws kind) r count.1 in
+    option_and_then_some (λ ins. names_at ws (words_before kind + uses (rule_of kind) + 1)
+    (defines (rule_of kind)) >>= λ outs. Some (entry (Gate kind) ins outs))
+    (names_at ws (words_before kind) (uses (rule_of kind))) r arrow.1 (λ ins some_ins rest_ins.
+    option_and_then_some (λ outs. Some (entry (Gate kind) ins outs))
+    (names_at ws (words_before kind + uses (rule_of kind) + 1) (defines (rule_of kind))) r rest_ins
+    (λ outs some_outs made.
+    subst FitsKind (same_Some (entry (Gate kind) ins outs) r made)
+    (names_length ws _ _ ins some_ins, names_length ws _ _ outs some_outs))))
 
 -- what a form says of its entry
 OfForm : Line → Type 0
@@ -51,12 +64,16 @@ form_fits ws f e =
       | inr p ↦ elim (chosen (is_word_at ws 0 (codes "end")) _ _ (Some f) p.1) [
         | inl q ↦ lone_fits ws End f tt q.1
         | inr q ↦ elim (chosen (is_word_at ws 0 (codes "input")) _ _ (Some f) q.1) [
-          | inl r ↦ option_and_then_some (λ n. Some (Item (entry Input [] (n ∷ [])))) (lone_name ws) f r.1 (λ n named made. subst OfForm (same_Some (Item (entry Input [] (n ∷ []))) f made) (refl, refl))
+          | inl r ↦ option_and_then_some (λ n. Some (Item (entry Input [] (n ∷ [])))) (lone_name ws) f r.1
+              (λ n named made. subst OfForm (same_Some (Item (entry Input [] (n ∷ []))) f made) (refl, refl))
           | inr r ↦ elim (chosen (is_word_at ws 0 (codes "output")) _ _ (Some f) r.1) [
-            | inl s ↦ option_and_then_some (λ n. Some (Item (entry Output (n ∷ []) []))) (lone_name ws) f s.1 (λ n named made. subst OfForm (same_Some (Item (entry Output (n ∷ []) [])) f made) (refl, refl))
+            | inl s ↦ option_and_then_some (λ n. Some (Item (entry Output (n ∷ []) []))) (lone_name ws) f s.1
+                (λ n named made. subst OfForm (same_Some (Item (entry Output (n ∷ []) [])) f made) (refl, refl))
             | inr s ↦ elim (chosen (is_word_at ws 0 (codes "spill")) _ _ (Some f) s.1) [
-              | inl t ↦ option_and_then_some (λ n. Some (Item (entry Spill (n ∷ []) []))) (lone_name ws) f t.1 (λ n named made. subst OfForm (same_Some (Item (entry Spill (n ∷ []) [])) f made) (refl, refl))
-              | inr t ↦ option_and_then_some (λ r. Some (Item r)) (gate_entry ws) f t.1 (λ r known made. subst OfForm (same_Some (Item r) f made) (gate_fits ws r known))
+              | inl t ↦ option_and_then_some (λ n. Some (Item (entry Spill (n ∷ []) []))) (lone_name ws) f t.1
+                  (λ n named made. subst OfForm (same_Some (Item (entry Spill (n ∷ []) [])) f made) (refl, refl))
+              | inr t ↦ option_and_then_some (λ r. Some (Item r)) (gate_entry ws) f t.1
+                  (λ r known made. subst OfForm (same_Some (Item r) f made) (gate_fits ws r known))
             ]
           ]
         ]
@@ -75,7 +92,8 @@ no_gate_yet (Gate k) rank g h e i = absurd (true≢false (sym i))
 no_gate_yet Output rank g h e i = absurd (true≢false (sym i))
 no_gate_yet Spill rank g h e i = absurd (true≢false (sym i))
 
-pub no_gate_still : (k : Kind) (rank g : ℕ) → rank ≤ rank_of k → cond (eqb rank 0) g 0 ≡ 0 → cond (eqb (rank_of k) 0) (g + cond (is_gate k) 1 0) 0 ≡ 0
+pub no_gate_still : (k : Kind) (rank g : ℕ) → rank ≤ rank_of k → cond (eqb rank 0) g 0 ≡ 0 →
+    cond (eqb (rank_of k) 0) (g + cond (is_gate k) 1 0) 0 ≡ 0
 no_gate_still Input zero g h e = omega (arith, e)
 no_gate_still Input (suc n) g h e = absurd (omega arith)
 no_gate_still (Gate k) rank g h e = refl

@@ -1,4 +1,4 @@
--- What gates keep, and which gates undo which.
+-- Gates keep the number of ones, and inverse gates undo others.
 use Rattle.std.proofs.Common.{◌≡◌, ℕ, Bool, true, false, List, [], ◌∷◌, Option, Some, None, refl, sym, ap, subst}
 use Rattle.circuit.specs.Gates.{Source, Fredkin, Cswap, Interact, Switch, Delay, Unswitch, Uninteract, row}
 use Rattle.circuit.specs.Laws.{ones, GatesKeepOnes, InverseGatesUndo}
@@ -13,10 +13,17 @@ switch_undone : (ins outs : List Bool) → row Switch ins ≡ Some outs → row 
 unfolding row
 switch_undone ([]) outs e = absurd (none e)
 switch_undone (b0 ∷ []) outs e = absurd (none e)
-switch_undone (false ∷ false ∷ []) outs e = subst (λ (o : List Bool). row Unswitch o ≡ Some (false ∷ false ∷ [])) (list_is (false ∷ false ∷ false ∷ []) outs e) refl
-switch_undone (false ∷ true ∷ []) outs e = subst (λ (o : List Bool). row Unswitch o ≡ Some (false ∷ true ∷ [])) (list_is (false ∷ false ∷ true ∷ []) outs e) refl
-switch_undone (true ∷ false ∷ []) outs e = subst (λ (o : List Bool). row Unswitch o ≡ Some (true ∷ false ∷ [])) (list_is (true ∷ false ∷ false ∷ []) outs e) refl
-switch_undone (true ∷ true ∷ []) outs e = subst (λ (o : List Bool). row Unswitch o ≡ Some (true ∷ true ∷ [])) (list_is (true ∷ true ∷ false ∷ []) outs e) refl
+switch_undone (false ∷ false ∷ []) outs e =
+    subst (λ (o : List Bool). row Unswitch o ≡ Some (false ∷ false ∷ []))
+    (list_is (false ∷ false ∷ false ∷ []) outs e) refl
+switch_undone (false ∷ true ∷ []) outs e =
+    subst (λ (o : List Bool). row Unswitch o ≡ Some (false ∷ true ∷ []))
+    (list_is (false ∷ false ∷ true ∷ []) outs e) refl
+switch_undone (true ∷ false ∷ []) outs e =
+    subst (λ (o : List Bool). row Unswitch o ≡ Some (true ∷ false ∷ []))
+    (list_is (true ∷ false ∷ false ∷ []) outs e) refl
+switch_undone (true ∷ true ∷ []) outs e =
+    subst (λ (o : List Bool). row Unswitch o ≡ Some (true ∷ true ∷ [])) (list_is (true ∷ true ∷ false ∷ []) outs e) refl
 switch_undone (b0 ∷ b1 ∷ b ∷ bs) outs e = absurd (none e)
 
 unswitch_undone : (ins outs : List Bool) → row Unswitch ins ≡ Some outs → row Switch outs ≡ Some ins
@@ -24,13 +31,18 @@ unfolding row
 unswitch_undone ([]) outs e = absurd (none e)
 unswitch_undone (b0 ∷ []) outs e = absurd (none e)
 unswitch_undone (b0 ∷ b1 ∷ []) outs e = absurd (none e)
-unswitch_undone (false ∷ false ∷ false ∷ []) outs e = subst (λ (o : List Bool). row Switch o ≡ Some (false ∷ false ∷ false ∷ [])) (list_is (false ∷ false ∷ []) outs e) refl
-unswitch_undone (false ∷ false ∷ true ∷ []) outs e = subst (λ (o : List Bool). row Switch o ≡ Some (false ∷ false ∷ true ∷ [])) (list_is (false ∷ true ∷ []) outs e) refl
+unswitch_undone (false ∷ false ∷ false ∷ []) outs e =
+    subst (λ (o : List Bool). row Switch o ≡ Some (false ∷ false ∷ false ∷ []))
+    (list_is (false ∷ false ∷ []) outs e) refl
+unswitch_undone (false ∷ false ∷ true ∷ []) outs e =
+    subst (λ (o : List Bool). row Switch o ≡ Some (false ∷ false ∷ true ∷ [])) (list_is (false ∷ true ∷ []) outs e) refl
 unswitch_undone (false ∷ true ∷ false ∷ []) outs e = absurd (none e)
 unswitch_undone (false ∷ true ∷ true ∷ []) outs e = absurd (none e)
-unswitch_undone (true ∷ false ∷ false ∷ []) outs e = subst (λ (o : List Bool). row Switch o ≡ Some (true ∷ false ∷ false ∷ [])) (list_is (true ∷ false ∷ []) outs e) refl
+unswitch_undone (true ∷ false ∷ false ∷ []) outs e =
+    subst (λ (o : List Bool). row Switch o ≡ Some (true ∷ false ∷ false ∷ [])) (list_is (true ∷ false ∷ []) outs e) refl
 unswitch_undone (true ∷ false ∷ true ∷ []) outs e = absurd (none e)
-unswitch_undone (true ∷ true ∷ false ∷ []) outs e = subst (λ (o : List Bool). row Switch o ≡ Some (true ∷ true ∷ false ∷ [])) (list_is (true ∷ true ∷ []) outs e) refl
+unswitch_undone (true ∷ true ∷ false ∷ []) outs e =
+    subst (λ (o : List Bool). row Switch o ≡ Some (true ∷ true ∷ false ∷ [])) (list_is (true ∷ true ∷ []) outs e) refl
 unswitch_undone (true ∷ true ∷ true ∷ []) outs e = absurd (none e)
 unswitch_undone (b0 ∷ b1 ∷ b2 ∷ b ∷ bs) outs e = absurd (none e)
 
@@ -38,10 +50,18 @@ interact_undone : (ins outs : List Bool) → row Interact ins ≡ Some outs → 
 unfolding row
 interact_undone ([]) outs e = absurd (none e)
 interact_undone (b0 ∷ []) outs e = absurd (none e)
-interact_undone (false ∷ false ∷ []) outs e = subst (λ (o : List Bool). row Uninteract o ≡ Some (false ∷ false ∷ [])) (list_is (false ∷ false ∷ false ∷ false ∷ []) outs e) refl
-interact_undone (false ∷ true ∷ []) outs e = subst (λ (o : List Bool). row Uninteract o ≡ Some (false ∷ true ∷ [])) (list_is (false ∷ true ∷ false ∷ false ∷ []) outs e) refl
-interact_undone (true ∷ false ∷ []) outs e = subst (λ (o : List Bool). row Uninteract o ≡ Some (true ∷ false ∷ [])) (list_is (false ∷ false ∷ true ∷ false ∷ []) outs e) refl
-interact_undone (true ∷ true ∷ []) outs e = subst (λ (o : List Bool). row Uninteract o ≡ Some (true ∷ true ∷ [])) (list_is (true ∷ false ∷ false ∷ true ∷ []) outs e) refl
+interact_undone (false ∷ false ∷ []) outs e =
+    subst (λ (o : List Bool). row Uninteract o ≡ Some (false ∷ false ∷ []))
+    (list_is (false ∷ false ∷ false ∷ false ∷ []) outs e) refl
+interact_undone (false ∷ true ∷ []) outs e =
+    subst (λ (o : List Bool). row Uninteract o ≡ Some (false ∷ true ∷ []))
+    (list_is (false ∷ true ∷ false ∷ false ∷ []) outs e) refl
+interact_undone (true ∷ false ∷ []) outs e =
+    subst (λ (o : List Bool). row Uninteract o ≡ Some (true ∷ false ∷ []))
+    (list_is (false ∷ false ∷ true ∷ false ∷ []) outs e) refl
+interact_undone (true ∷ true ∷ []) outs e =
+    subst (λ (o : List Bool). row Uninteract o ≡ Some (true ∷ true ∷ []))
+    (list_is (true ∷ false ∷ false ∷ true ∷ []) outs e) refl
 interact_undone (b0 ∷ b1 ∷ b ∷ bs) outs e = absurd (none e)
 
 uninteract_undone : (ins outs : List Bool) → row Uninteract ins ≡ Some outs → row Interact outs ≡ Some ins
@@ -61,16 +81,24 @@ uninteract_undone (true ∷ false ∷ false ∷ []) outs e = absurd (none e)
 uninteract_undone (true ∷ false ∷ true ∷ []) outs e = absurd (none e)
 uninteract_undone (true ∷ true ∷ false ∷ []) outs e = absurd (none e)
 uninteract_undone (true ∷ true ∷ true ∷ []) outs e = absurd (none e)
-uninteract_undone (false ∷ false ∷ false ∷ false ∷ []) outs e = subst (λ (o : List Bool). row Interact o ≡ Some (false ∷ false ∷ false ∷ false ∷ [])) (list_is (false ∷ false ∷ []) outs e) refl
+uninteract_undone (false ∷ false ∷ false ∷ false ∷ []) outs e =
+    subst (λ (o : List Bool). row Interact o ≡ Some (false ∷ false ∷ false ∷ false ∷ []))
+    (list_is (false ∷ false ∷ []) outs e) refl
 uninteract_undone (false ∷ false ∷ false ∷ true ∷ []) outs e = absurd (none e)
-uninteract_undone (false ∷ false ∷ true ∷ false ∷ []) outs e = subst (λ (o : List Bool). row Interact o ≡ Some (false ∷ false ∷ true ∷ false ∷ [])) (list_is (true ∷ false ∷ []) outs e) refl
+uninteract_undone (false ∷ false ∷ true ∷ false ∷ []) outs e =
+    subst (λ (o : List Bool). row Interact o ≡ Some (false ∷ false ∷ true ∷ false ∷ []))
+    (list_is (true ∷ false ∷ []) outs e) refl
 uninteract_undone (false ∷ false ∷ true ∷ true ∷ []) outs e = absurd (none e)
-uninteract_undone (false ∷ true ∷ false ∷ false ∷ []) outs e = subst (λ (o : List Bool). row Interact o ≡ Some (false ∷ true ∷ false ∷ false ∷ [])) (list_is (false ∷ true ∷ []) outs e) refl
+uninteract_undone (false ∷ true ∷ false ∷ false ∷ []) outs e =
+    subst (λ (o : List Bool). row Interact o ≡ Some (false ∷ true ∷ false ∷ false ∷ []))
+    (list_is (false ∷ true ∷ []) outs e) refl
 uninteract_undone (false ∷ true ∷ false ∷ true ∷ []) outs e = absurd (none e)
 uninteract_undone (false ∷ true ∷ true ∷ false ∷ []) outs e = absurd (none e)
 uninteract_undone (false ∷ true ∷ true ∷ true ∷ []) outs e = absurd (none e)
 uninteract_undone (true ∷ false ∷ false ∷ false ∷ []) outs e = absurd (none e)
-uninteract_undone (true ∷ false ∷ false ∷ true ∷ []) outs e = subst (λ (o : List Bool). row Interact o ≡ Some (true ∷ false ∷ false ∷ true ∷ [])) (list_is (true ∷ true ∷ []) outs e) refl
+uninteract_undone (true ∷ false ∷ false ∷ true ∷ []) outs e =
+    subst (λ (o : List Bool). row Interact o ≡ Some (true ∷ false ∷ false ∷ true ∷ []))
+    (list_is (true ∷ true ∷ []) outs e) refl
 uninteract_undone (true ∷ false ∷ true ∷ false ∷ []) outs e = absurd (none e)
 uninteract_undone (true ∷ false ∷ true ∷ true ∷ []) outs e = absurd (none e)
 uninteract_undone (true ∷ true ∷ false ∷ false ∷ []) outs e = absurd (none e)

@@ -1,5 +1,7 @@
 -- The names of wires.
-use Rattle.std.proofs.Common.{◌≡◌, ℕ, zero, suc, ◌+◌, ◌<◌, ◌≤◌, ◌||◌, Bool, true, false, cond, List, [], ◌∷◌, ◌++◌, length, take, Option, Some, None, refl, sym, ap, subst, ◌∙◌, arith, inl, inr, append_assoc, length-append}
+use Rattle.std.proofs.Common.{◌≡◌, ℕ, zero, suc, ◌+◌, ◌<◌, ◌≤◌, ◌||◌, Bool, true, false, cond, List, [], ◌∷◌, ◌++◌}
+use Rattle.std.proofs.Common.{length, take, Option, Some, None, refl, sym, ap, subst, ◌∙◌, arith, inl, inr}
+use Rattle.std.proofs.Common.{append_assoc, length-append}
 use Rattle.std.specs.Prelude.{slice_get}
 use Rattle.std.specs.List.{position}
 use Rattle.std.specs.Str.{bytes_eq}
@@ -19,7 +21,8 @@ use Rattle.circuit.specs.Meaning.{Gate, place_of, wires_after, number}
 use Rattle.circuit.specs.Bridge.{is_input, input_count, input_names, gate_in, gates_of, FitsKind, AreGoodAfter}
 use Rattle.circuit.specs.Laws.{WiresAreNamed, NamesAreOwn, InputsAreFirst}
 use Rattle.circuit.proofs.Places.{has_front, has_left, number_left, number_new, bytes_same, position_number, look_up}
-use Rattle.circuit.proofs.Bridging.{names_pass, define_first, defined_push, push_cons, input_cons, count_append, no_inputs}
+use Rattle.circuit.proofs.Bridging.{names_pass, define_first, defined_push, push_cons, input_cons, count_append}
+use Rattle.circuit.proofs.Bridging.{no_inputs}
 
 -- ---- the place of a name, and its number
 
@@ -47,41 +50,73 @@ place_position d n = elim (cases_Bool (has d n)) [
 
 -- ---- each wire has a name
 
-wires_line : (names : List (List ℕ)) (n : ℕ) (kind : Kind) (ins outs : List (List ℕ)) (rest : List Entry) → FitsKind (record { kind = kind; ins = ins; outs = outs }) →
+wires_line : (names : List (List ℕ)) (n : ℕ) (kind : Kind) (ins outs : List (List ℕ)) (rest : List Entry) →
+    FitsKind (record { kind = kind; ins = ins; outs = outs }) →
     ((m : ℕ) → wires_after m (gates_of names rest) + input_count rest ≡ m + length (defined rest)) →
-    wires_after n (gate_in names ins outs kind ++ gates_of names rest) + input_count (record { kind = kind; ins = ins; outs = outs } ∷ rest) ≡ n + length (outs ++ defined rest)
+    wires_after n (gate_in names ins outs kind ++ gates_of names rest) + input_count
+    (record { kind = kind; ins = ins; outs = outs } ∷ rest) ≡ n + length (outs ++ defined rest)
 unfolding wires_after
 wires_line names n Input ins outs rest fits more =
-    omega (arith, input_cons (record { kind = Input; ins = ins; outs = outs }) rest, length-append outs (defined rest), fits.1, more n)
+    omega (
+      arith,
+      input_cons (record { kind = Input; ins = ins; outs = outs }) rest,
+      length-append outs (defined rest),
+      fits.1,
+      more n,
+    )
 wires_line names n (GateLine k) ins outs rest fits more =
-    omega (arith, input_cons (record { kind = GateLine k; ins = ins; outs = outs }) rest, length-append outs (defined rest), fits.1, more (n + defines (rule_of k)))
+    omega (
+      arith,
+      input_cons (record { kind = GateLine k; ins = ins; outs = outs }) rest,
+      length-append outs (defined rest),
+      fits.1,
+      more (n + defines (rule_of k)),
+    )
 wires_line names n Output ins outs rest fits more =
-    omega (arith, input_cons (record { kind = Output; ins = ins; outs = outs }) rest, length-append outs (defined rest), fits.1, more n)
+    omega (
+      arith,
+      input_cons (record { kind = Output; ins = ins; outs = outs }) rest,
+      length-append outs (defined rest),
+      fits.1,
+      more n,
+    )
 wires_line names n Spill ins outs rest fits more =
-    omega (arith, input_cons (record { kind = Spill; ins = ins; outs = outs }) rest, length-append outs (defined rest), fits.1, more n)
+    omega (
+      arith,
+      input_cons (record { kind = Spill; ins = ins; outs = outs }) rest,
+      length-append outs (defined rest),
+      fits.1,
+      more n,
+    )
 
-wires_more : (names : List (List ℕ)) (n : ℕ) (before rest : List Entry) → AreGoodAfter before rest → wires_after n (gates_of names rest) + input_count rest ≡ n + length (defined rest)
+wires_more : (names : List (List ℕ)) (n : ℕ) (before rest : List Entry) → AreGoodAfter before rest →
+    wires_after n (gates_of names rest) + input_count rest ≡ n + length (defined rest)
 unfolding AreGoodAfter wires_after
 wires_more names n before [] good = refl
 wires_more names n before (r ∷ rest) good =
     wires_line names n r.kind r.ins r.outs rest good.0.fits (λ m. wires_more names m (before ++ r ∷ []) rest good.1)
 
 pub wires_are_named : WiresAreNamed
-wires_are_named entries good = let all = wires_more (defined entries) (input_count entries) [] entries good in omega (arith, all)
+wires_are_named entries good = let all = wires_more (defined entries) (input_count entries) [] entries good in
+    omega (arith, all)
 
 -- ---- each gate's line has a gate
 
-counted_line : (names : List (List ℕ)) (kind : Kind) (ins outs : List (List ℕ)) (gates : List Gate) → length (gate_in names ins outs kind ++ gates) ≡ cond (is_gate kind) 1 0 + length gates
+counted_line : (names : List (List ℕ)) (kind : Kind) (ins outs : List (List ℕ)) (gates : List Gate) →
+    length (gate_in names ins outs kind ++ gates) ≡ cond (is_gate kind) 1 0 + length gates
 counted_line names Input ins outs gates = omega arith
 counted_line names (GateLine k) ins outs gates = omega arith
 counted_line names Output ins outs gates = omega arith
 counted_line names Spill ins outs gates = omega arith
 
-pub gates_counted : (names : List (List ℕ)) (entries : List Entry) → length (gates_of names entries) ≡ gate_count entries
+pub gates_counted : (names : List (List ℕ)) (entries : List Entry) →
+    length (gates_of names entries) ≡ gate_count entries
 gates_counted names [] = refl
 gates_counted names (r ∷ entries) =
-    let more : gate_count (r ∷ entries) ≡ cond (is_gate r.kind) 1 0 + gate_count entries = sum_by-cons (λ (r : Entry). cond (is_gate r.kind) 1 0) r entries in
-    counted_line names r.kind r.ins r.outs (gates_of names entries) ∙ ap (λ n. cond (is_gate r.kind) 1 0 + n) (gates_counted names entries) ∙ sym more
+    let more : gate_count (r ∷ entries) ≡ cond (is_gate r.kind) 1 0 + gate_count entries =
+    sum_by-cons (λ (r : Entry). cond (is_gate r.kind) 1 0) r entries in
+    counted_line names r.kind r.ins r.outs (gates_of names entries)
+    ∙ ap (λ n. cond (is_gate r.kind) 1 0 + n) (gates_counted names entries) ∙ sym more
 
 -- ---- the inputs are the first wires
 
@@ -89,37 +124,46 @@ no_names : (rest : List Entry) → input_count rest ≡ 0 → input_names rest �
 no_names [] e = refl
 no_names (r ∷ rest) e = elim (cases_Bool (is_input r.kind)) [
   | inl i ↦ absurd (omega (arith, sym (input_cons r rest) ∙ e, ap {B = ℕ} (λ b. cond b 1 0) i))
-  | inr i ↦ ap (λ b. cond b r.outs [] ++ input_names rest) i ∙ no_names rest (omega (arith, sym (input_cons r rest) ∙ e))
+  | inr i ↦ ap (λ b. cond b r.outs [] ++ input_names rest) i
+      ∙ no_names rest (omega (arith, sym (input_cons r rest) ∙ e))
 ]
 
-inputs_line : (before rest : List Entry) (kind : Kind) (ins outs : List (List ℕ)) → AreGoodAfter before (record { kind = kind; ins = ins; outs = outs } ∷ rest) →
+inputs_line : (before rest : List Entry) (kind : Kind) (ins outs : List (List ℕ)) →
+    AreGoodAfter before (record { kind = kind; ins = ins; outs = outs } ∷ rest) →
     take (input_count rest) (defined rest) ≡ input_names rest →
-    take (input_count (record { kind = kind; ins = ins; outs = outs } ∷ rest)) (outs ++ defined rest) ≡ cond (is_input kind) outs [] ++ input_names rest
+    take (input_count (record { kind = kind; ins = ins; outs = outs } ∷ rest)) (outs ++ defined rest)
+    ≡ cond (is_input kind) outs [] ++ input_names rest
 unfolding AreGoodAfter
 inputs_line before rest Input ins [] good same = absurd (omega (arith, good.0.fits.1))
 inputs_line before rest Input ins (n ∷ []) good same =
-    let more : input_count (record { kind = Input; ins = ins; outs = n ∷ [] } ∷ rest) ≡ suc (input_count rest) = input_cons (record { kind = Input; ins = ins; outs = n ∷ [] }) rest ∙ omega arith in
+    let more : input_count (record { kind = Input; ins = ins; outs = n ∷ [] } ∷ rest) ≡ suc (input_count rest) =
+    input_cons (record { kind = Input; ins = ins; outs = n ∷ [] }) rest ∙ omega arith in
     ap (λ k. take k (n ∷ defined rest)) more ∙ ap (λ (l : List (List ℕ)). n ∷ l) same
 inputs_line before rest Input ins (n ∷ m ∷ outs) good same = absurd (omega (arith, good.0.fits.1))
 inputs_line before rest (GateLine k) ins outs good same =
     let r : Entry = record { kind = GateLine k; ins = ins; outs = outs } in
-    let here : gate_count (before ++ r ∷ []) ≡ gate_count before + 1 = count_append (λ (r : Entry). is_gate r.kind) before (r ∷ []) in
+    let here : gate_count (before ++ r ∷ []) ≡ gate_count before + 1 =
+    count_append (λ (r : Entry). is_gate r.kind) before (r ∷ []) in
     let none = no_inputs (before ++ r ∷ []) rest good.1 (omega (arith, here)) in
     let zero_inputs : input_count (r ∷ rest) ≡ 0 = input_cons r rest ∙ omega (arith, none) in
     ap (λ k. take k (outs ++ defined rest)) zero_inputs ∙ sym (no_names rest none)
 inputs_line before rest Output ins [] good same =
-    let less : input_count (record { kind = Output; ins = ins; outs = [] } ∷ rest) ≡ input_count rest = input_cons (record { kind = Output; ins = ins; outs = [] }) rest ∙ omega arith in
+    let less : input_count (record { kind = Output; ins = ins; outs = [] } ∷ rest) ≡ input_count rest =
+    input_cons (record { kind = Output; ins = ins; outs = [] }) rest ∙ omega arith in
     ap (λ k. take k (defined rest)) less ∙ same
 inputs_line before rest Output ins (n ∷ outs) good same = absurd (omega (arith, good.0.fits.1))
 inputs_line before rest Spill ins [] good same =
-    let less : input_count (record { kind = Spill; ins = ins; outs = [] } ∷ rest) ≡ input_count rest = input_cons (record { kind = Spill; ins = ins; outs = [] }) rest ∙ omega arith in
+    let less : input_count (record { kind = Spill; ins = ins; outs = [] } ∷ rest) ≡ input_count rest =
+    input_cons (record { kind = Spill; ins = ins; outs = [] }) rest ∙ omega arith in
     ap (λ k. take k (defined rest)) less ∙ same
 inputs_line before rest Spill ins (n ∷ outs) good same = absurd (omega (arith, good.0.fits.1))
 
-inputs_lead : (before rest : List Entry) → AreGoodAfter before rest → take (input_count rest) (defined rest) ≡ input_names rest
+inputs_lead : (before rest : List Entry) → AreGoodAfter before rest →
+    take (input_count rest) (defined rest) ≡ input_names rest
 unfolding AreGoodAfter
 inputs_lead before [] good = refl
-inputs_lead before (r ∷ rest) good = inputs_line before rest r.kind r.ins r.outs good (inputs_lead (before ++ r ∷ []) rest good.1)
+inputs_lead before (r ∷ rest) good =
+    inputs_line before rest r.kind r.ins r.outs good (inputs_lead (before ++ r ∷ []) rest good.1)
 
 pub inputs_are_first : InputsAreFirst
 inputs_are_first entries good = inputs_lead [] entries good
@@ -134,7 +178,8 @@ slice_left [] e w h = absurd (omega arith)
 slice_left (m ∷ d) e zero h = refl
 slice_left (m ∷ d) e (suc w) h = slice_left d e w (omega arith)
 
-slice_last : (d : List (List ℕ)) (n m : List ℕ) (w : ℕ) → length d ≤ w → slice_get (d ++ n ∷ []) w ≡ Some m → (n ≡ m) × (length d ≡ w)
+slice_last : (d : List (List ℕ)) (n m : List ℕ) (w : ℕ) → length d ≤ w → slice_get (d ++ n ∷ []) w ≡ Some m →
+    (n ≡ m) × (length d ≡ w)
 slice_last [] n m zero h at = (is n m at, refl)
   where
     is : (x y : List ℕ) → ◌≡◌ {A = Option (List ℕ)} (Some x) (Some y) → x ≡ y
@@ -150,8 +195,10 @@ own_push d n own new w m at = elim (cases_lt w (length d)) [
       (number_left d (n ∷ []) m o.1 ∙ o.0, has_left d (n ∷ []) m o.1)
   | inr large ↦
       let last = slice_last d n m w large at in
-      subst (λ (k : List ℕ). (number (d ++ n ∷ []) k ≡ w) × (has (d ++ n ∷ []) k ≡ true)) last.0
-      (number_new d [] n new (bytes_same n) ∙ last.1, rw (list_any-append (bytes_eq n) d (n ∷ []), bytes_same n) (or_true (has d n)))
+      subst (λ (k : List ℕ). (number (d ++ n ∷ []) k ≡ w) × (has (d ++ n ∷ []) k ≡ true)) last.0 (
+        number_new d [] n new (bytes_same n) ∙ last.1,
+        rw (list_any-append (bytes_eq n) d (n ∷ []), bytes_same n) (or_true (has d n)),
+      )
 ]
   where
     or_true : (b : Bool) → (b || true) ≡ true
@@ -164,15 +211,19 @@ own_all d (n ∷ ns) own h =
     let first = define_first d n ns h in
     subst AreOwn (append_assoc d (n ∷ []) ns) (own_all (d ++ n ∷ []) ns (own_push d n own first.0) first.1)
 
-own_good : (before rest : List Entry) → AreGoodAfter before rest → AreOwn (defined before) → AreOwn (defined (before ++ rest))
+own_good : (before rest : List Entry) → AreGoodAfter before rest → AreOwn (defined before) →
+    AreOwn (defined (before ++ rest))
 unfolding AreGoodAfter
 own_good before [] good own = subst (λ (l : List Entry). AreOwn (defined l)) (sym (append-nil before)) own
 own_good before (r ∷ rest) good own =
     let pass = names_pass before r good.0.adds in
-    let here : AreOwn (defined (before ++ r ∷ [])) = subst AreOwn (sym (defined_push before r)) (own_all (defined before) r.outs own pass.1) in
-    subst (λ (l : List Entry). AreOwn (defined l)) (push_cons before r rest) (own_good (before ++ r ∷ []) rest good.1 here)
+    let here : AreOwn (defined (before ++ r ∷ [])) =
+    subst AreOwn (sym (defined_push before r)) (own_all (defined before) r.outs own pass.1) in
+    subst (λ (l : List Entry). AreOwn (defined l)) (push_cons before r rest)
+    (own_good (before ++ r ∷ []) rest good.1 here)
 
 pub names_are_own : NamesAreOwn
 names_are_own entries w name good at =
     let own = own_good [] entries good (λ w n at. absurd cc) w name at in
-    place_number (defined entries) name ∙ ap (λ b. cond b (Some (number (defined entries) name)) None) own.1 ∙ ap (λ (k : ℕ). Some k) own.0
+    place_number (defined entries) name ∙ ap (λ b. cond b (Some (number (defined entries) name)) None) own.1
+    ∙ ap (λ (k : ℕ). Some k) own.0

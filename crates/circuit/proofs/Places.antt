@@ -1,5 +1,6 @@
 -- The places of names.
-use Rattle.std.proofs.Common.{◌≡◌, ℕ, zero, suc, ◌+◌, ◌<◌, ◌≤◌, Bool, true, false, cond, List, [], ◌∷◌, ◌++◌, map, length, Option, Some, None, refl, sym, ap, ap₂, ◌∙◌, arith, inl, inr}
+use Rattle.std.proofs.Common.{◌≡◌, ℕ, zero, suc, ◌+◌, ◌<◌, ◌≤◌, Bool, true, false, cond, List, [], ◌∷◌, ◌++◌, map}
+use Rattle.std.proofs.Common.{length, Option, Some, None, refl, sym, ap, ap₂, ◌∙◌, arith, inl, inr}
 use Rattle.std.specs.List.{All, position, position_or_len}
 use Rattle.std.specs.Str.{bytes_eq}
 use Rattle.std.proofs.lemmas.Bool.{cond-true, cases_Bool, true≢false, lt-ltb, ltb-false}
@@ -35,7 +36,8 @@ number_left (m ∷ ms) e n h = elim (cases_Bool (bytes_eq n m)) [
   | inr q ↦ rw q (ap (λ k. k + 1) (number_left ms e n (sym (has_front m n ms q) ∙ h)))
 ]
 
-pub number_new : (d e : List (List ℕ)) (n : List ℕ) → has d n ≡ false → bytes_eq n n ≡ true → number (d ++ n ∷ e) n ≡ length d
+pub number_new : (d e : List (List ℕ)) (n : List ℕ) → has d n ≡ false → bytes_eq n n ≡ true →
+    number (d ++ n ∷ e) n ≡ length d
 unfolding number
 number_new [] e n h q = rw q refl
 number_new (m ∷ ms) e n h q = elim (cases_Bool (bytes_eq n m)) [
@@ -54,7 +56,8 @@ number_position d n = is_position_or_len (λ d. number d n) (bytes_eq n) (at_non
     at_none : (n : List ℕ) → number [] n ≡ 0
     at_none n = refl
 
-    at_next : (m : List ℕ) (ms : List (List ℕ)) (n : List ℕ) → number (m ∷ ms) n ≡ cond (bytes_eq n m) 0 (1 + number ms n)
+    at_next : (m : List ℕ) (ms : List (List ℕ)) (n : List ℕ) →
+        number (m ∷ ms) n ≡ cond (bytes_eq n m) 0 (1 + number ms n)
     at_next m ms n = ap (λ k. cond (bytes_eq n m) 0 k) (omega arith)
 
 pub bytes_same : (n : List ℕ) → bytes_eq n n ≡ true
@@ -67,7 +70,8 @@ bytes_same n = decided (bytes_eq n n) (bytes_eq-Decides n n)
 pub position_number : (d : List (List ℕ)) (n : List ℕ) → has d n ≡ true → position (bytes_eq n) d ≡ Some (number d n)
 position_number d n h =
     let same = number_position d n in
-    ap (λ k. cond (nat_lt k (length d)) (Some k) None) (sym same) ∙ cond-true _ _ _ (lt-ltb (number d n) (length d) (number_below d n h))
+    ap (λ k. cond (nat_lt k (length d)) (Some k) None) (sym same)
+    ∙ cond-true _ _ _ (lt-ltb (number d n) (length d) (number_below d n h))
 
 -- ---- names that are there
 abbrev pub Have : List (List ℕ) → List (List ℕ) → Type 0
@@ -88,7 +92,8 @@ all_cons P x xs p all (suc k) d h = all k d (omega arith)
 
 pub numbers_below : (d ns : List (List ℕ)) → Have d ns → All (λ w. w < length d) (map (number d) ns)
 numbers_below d [] h = λ k e l. absurd (omega arith)
-numbers_below d (n ∷ ns) h = all_cons (λ w. w < length d) (number d n) (map (number d) ns) (number_below d n h.0) (numbers_below d ns h.1)
+numbers_below d (n ∷ ns) h = all_cons (λ w. w < length d) (number d n) (map (number d) ns) (number_below d n h.0)
+    (numbers_below d ns h.1)
 
 pub consume_have : (d c ns : List (List ℕ)) → consume d c ns ≡ None → Have d ns
 consume_have d c [] e = tt
@@ -115,7 +120,8 @@ number_at_most (m ∷ ms) n = elim (cases_Bool (bytes_eq n m)) [
   | inr e ↦ let i = number_at_most ms n in rw e (omega arith)
 ]
 
-pub look_up : (d : List (List ℕ)) (n : List ℕ) → position (bytes_eq n) d ≡ cond (nat_lt (number d n) (length d)) (Some (number d n)) None
+pub look_up : (d : List (List ℕ)) (n : List ℕ) →
+    position (bytes_eq n) d ≡ cond (nat_lt (number d n) (length d)) (Some (number d n)) None
 look_up d n = ap (λ k. cond (nat_lt k (length d)) (Some k) None) (sym (number_position d n))
 
 pub found_number : (d : List (List ℕ)) (n : List ℕ) (i : ℕ) → Some i ≡ position (bytes_eq n) d → i ≡ number d n
@@ -125,10 +131,12 @@ found_number d n i e = found (nat_lt (number d n) (length d)) (number d n) i (e 
     found true k i e = cc
     found false k i e = absurd cc
 
-pub absent_number : (d : List (List ℕ)) (n : List ℕ) → ◌≡◌ {A = Option ℕ} None (position (bytes_eq n) d) → length d ≡ number d n
+pub absent_number : (d : List (List ℕ)) (n : List ℕ) → ◌≡◌ {A = Option ℕ} None (position (bytes_eq n) d) →
+    length d ≡ number d n
 absent_number d n e =
     let most = number_at_most d n in
-    let least = ltb-false (number d n) (length d) (absent (nat_lt (number d n) (length d)) (number d n) (e ∙ look_up d n)) in
+    let least = ltb-false (number d n) (length d)
+    (absent (nat_lt (number d n) (length d)) (number d n) (e ∙ look_up d n)) in
     omega arith
   where
     absent : (b : Bool) (k : ℕ) → None ≡ cond b (Some k) None → b ≡ false

@@ -1,5 +1,6 @@
 -- Each line of the circuit section is the spelling of its form.
-use Rattle.std.proofs.Common.{◌≡◌, ℕ, ◌+◌, Bool, true, false, cond, eqb, List, [], ◌∷◌, length, take, Option, Some, None, ap, subst, ◌∙◌, inl, inr}
+use Rattle.std.proofs.Common.{◌≡◌, ℕ, ◌+◌, Bool, true, false, cond, eqb, List, [], ◌∷◌, length, take, Option, Some}
+use Rattle.std.proofs.Common.{None, ap, subst, ◌∙◌, inl, inr}
 use Rattle.std.specs.Prelude.{slice_get, codes}
 use Rattle.std.specs.Fmt.{decimal}
 use Rattle.std.proofs.lemmas.Bool.{eqb-true}
@@ -9,14 +10,16 @@ use Rattle.section_text.specs.Section.{ended_line}
 use Rattle.section_text.specs.declared.section.Form.TheVariants.{Header, Item, End}
 use Rattle.section_text.proofs.WordPlaces.{is_at_is, name_at_is, names_at_are, assembled, line_from_words}
 use Rattle.circuit.specs.declared.entry.GateKind.{GateKind}
-use Rattle.circuit.specs.declared.entry.GateKind.TheVariants.{Source, Fredkin, Cswap, Interact, Switch, Delay, Unswitch, Uninteract}
+use Rattle.circuit.specs.declared.entry.GateKind.TheVariants.{Source, Fredkin, Cswap, Interact, Switch, Delay, Unswitch}
+use Rattle.circuit.specs.declared.entry.GateKind.TheVariants.{Uninteract}
 use Rattle.circuit.specs.declared.entry.Kind.TheVariants.{Input, Gate, Output, Spill}
 use Rattle.circuit.specs.declared.entry.Entry.{Entry}
 use Rattle.circuit.specs.Entries.{entry}
 use Rattle.circuit.specs.Gates.{rule_of, uses, defines}
 use Rattle.section_text.proofs.Spellings.{chosen, passed, one_word, two_words, number_at_spelled}
 use Rattle.circuit.specs.Forms.{Line, bit_at, gate_kind, words_before, gate_names, gate_entry, form_of}
-use Rattle.circuit.specs.Text.{bit_word, gate_word, gate_number, first_word, words_by, more_words, entry_text, form_text}
+use Rattle.circuit.specs.Text.{bit_word, gate_word, gate_number, first_word, words_by, more_words, entry_text}
+use Rattle.circuit.specs.Text.{form_text}
 
 -- the first word of a form, and the others
 first_of : Line → List ℕ
@@ -33,7 +36,8 @@ take_one : (ws : List (List ℕ)) (w : List ℕ) → slice_get ws 0 ≡ Some w �
 take_one [] w e = absurd cc
 take_one (a ∷ ws) w e = cc
 
-take_two : (ws : List (List ℕ)) (v w : List ℕ) → slice_get ws 0 ≡ Some v → slice_get ws 1 ≡ Some w → take 2 ws ≡ v ∷ w ∷ []
+take_two : (ws : List (List ℕ)) (v w : List ℕ) → slice_get ws 0 ≡ Some v → slice_get ws 1 ≡ Some w →
+    take 2 ws ≡ v ∷ w ∷ []
 take_two [] v w e f = absurd cc
 take_two (a ∷ []) v w e f = absurd cc
 take_two (a ∷ b ∷ ws) v w e f = cc
@@ -42,49 +46,64 @@ take_two (a ∷ b ∷ ws) v w e f = cc
 record Spells (ws : List (List ℕ)) (f : Line) : Type 0 where
   words : ws ≡ first_of f ∷ others_of f
 
-lone_spelled : (ws : List (List ℕ)) (w : List ℕ) (f g : Line) → is_word_at ws 0 w ≡ true → lone ws f ≡ Some g → (ws ≡ w ∷ []) × (f ≡ g)
+lone_spelled : (ws : List (List ℕ)) (w : List ℕ) (f g : Line) → is_word_at ws 0 w ≡ true → lone ws f ≡ Some g →
+    (ws ≡ w ∷ []) × (f ≡ g)
 unfolding lone
-lone_spelled ws w f g at e = let found = cond_some (eqb (length ws) 1) f g e in (one_word ws w (eqb-true _ _ found.0) (is_at_is ws 0 w at), found.1)
+lone_spelled ws w f g at e = let found = cond_some (eqb (length ws) 1) f g e in
+    (one_word ws w (eqb-true _ _ found.0) (is_at_is ws 0 w at), found.1)
 
 named_spelled : (ws : List (List ℕ)) (w n : List ℕ) → is_word_at ws 0 w ≡ true → lone_name ws ≡ Some n → ws ≡ w ∷ n ∷ []
 unfolding lone_name
-named_spelled ws w n at e = let found = passed (eqb (length ws) 2) (name_at ws 1) n e in two_words ws w n (eqb-true _ _ found.0) (is_at_is ws 0 w at) (name_at_is ws 1 n found.1)
+named_spelled ws w n at e = let found = passed (eqb (length ws) 2) (name_at ws 1) n e in
+    two_words ws w n (eqb-true _ _ found.0) (is_at_is ws 0 w at) (name_at_is ws 1 n found.1)
 
 bit_spelled : (ws : List (List ℕ)) (i : ℕ) (b : Bool) → bit_at ws i ≡ Some b → slice_get ws i ≡ Some (bit_word b)
 unfolding bit_at
 bit_spelled ws i b e =
-    elim (chosen (is_word_at ws i (codes "0")) (Some false) (cond (is_word_at ws i (codes "1")) (Some true) None) (Some b) e) [
+    elim (chosen (is_word_at ws i (codes "0")) (Some false) (cond (is_word_at ws i (codes "1")) (Some true) None)
+    (Some b) e) [
       | inl p ↦ is_at_is ws i (codes "0") p.0 ∙ ap (λ (x : Bool). Some (bit_word x)) (same_Some false b p.1)
-      | inr p ↦ let found = cond_some (is_word_at ws i (codes "1")) true b p.1 in is_at_is ws i (codes "1") found.0 ∙ ap (λ (x : Bool). Some (bit_word x)) found.1
+      | inr p ↦ let found = cond_some (is_word_at ws i (codes "1")) true b p.1 in
+          is_at_is ws i (codes "1") found.0 ∙ ap (λ (x : Bool). Some (bit_word x)) found.1
     ]
 
 -- the head of a gate line
 abbrev HeadIs : List (List ℕ) → GateKind → Type 0
 HeadIs ws kind = take (words_before kind) ws ≡ gate_word kind ∷ gate_number kind
 
-plain_head : (ws : List (List ℕ)) (x kind : GateKind) → ◌≡◌ {A = Option GateKind} (Some x) (Some kind) → HeadIs ws x → HeadIs ws kind
+plain_head : (ws : List (List ℕ)) (x kind : GateKind) → ◌≡◌ {A = Option GateKind} (Some x) (Some kind) → HeadIs ws x →
+    HeadIs ws kind
 plain_head ws x kind e h = subst (HeadIs ws) (same_Some x kind e) h
 
 head_spelled : (ws : List (List ℕ)) (kind : GateKind) → gate_kind ws ≡ Some kind → HeadIs ws kind
 unfolding gate_kind
 head_spelled ws kind e =
     elim (chosen (is_word_at ws 0 (codes "source")) _ _ (Some kind) e) [
-      | inl p ↦ option_and_then_some (λ b. Some (Source b)) (bit_at ws 1) kind p.1 (λ b bit made. plain_head ws (Source b) kind made (take_two ws (codes "source") (bit_word b) (is_at_is ws 0 (codes "source") p.0) (bit_spelled ws 1 b bit)))
+      | inl p ↦ option_and_then_some (λ b. Some (Source b)) (bit_at ws 1) kind p.1
+          (λ b bit made. plain_head ws (Source b) kind made
+          (take_two ws (codes "source") (bit_word b) (is_at_is ws 0 (codes "source") p.0) (bit_spelled ws 1 b bit)))
       | inr p ↦ elim (chosen (is_word_at ws 0 (codes "fredkin")) _ _ (Some kind) p.1) [
         | inl q ↦ plain_head ws Fredkin kind q.1 (take_one ws (codes "fredkin") (is_at_is ws 0 (codes "fredkin") q.0))
         | inr q ↦ elim (chosen (is_word_at ws 0 (codes "cswap")) _ _ (Some kind) q.1) [
           | inl r ↦ plain_head ws Cswap kind r.1 (take_one ws (codes "cswap") (is_at_is ws 0 (codes "cswap") r.0))
           | inr r ↦ elim (chosen (is_word_at ws 0 (codes "interact")) _ _ (Some kind) r.1) [
-            | inl s ↦ plain_head ws Interact kind s.1 (take_one ws (codes "interact") (is_at_is ws 0 (codes "interact") s.0))
+            | inl s ↦ plain_head ws Interact kind s.1
+                (take_one ws (codes "interact") (is_at_is ws 0 (codes "interact") s.0))
             | inr s ↦ elim (chosen (is_word_at ws 0 (codes "switch")) _ _ (Some kind) s.1) [
-              | inl t ↦ plain_head ws Switch kind t.1 (take_one ws (codes "switch") (is_at_is ws 0 (codes "switch") t.0))
+              | inl t ↦ plain_head ws Switch kind t.1
+                  (take_one ws (codes "switch") (is_at_is ws 0 (codes "switch") t.0))
               | inr t ↦ elim (chosen (is_word_at ws 0 (codes "delay")) _ _ (Some kind) t.1) [
-                | inl u ↦ option_and_then_some (λ n. Some (Delay n)) (number_at ws 1) kind u.1 (λ n number made. plain_head ws (Delay n) kind made (take_two ws (codes "delay") (decimal n) (is_at_is ws 0 (codes "delay") u.0) (number_at_spelled ws 1 n number)))
+                | inl u ↦ option_and_then_some (λ n. Some (Delay n)) (number_at ws 1) kind u.1
+                    (λ n number made. plain_head ws (Delay n) kind made
+                    (take_two ws (codes "delay") (decimal n) (is_at_is ws 0 (codes "delay") u.0)
+                    (number_at_spelled ws 1 n number)))
                 | inr u ↦ elim (chosen (is_word_at ws 0 (codes "unswitch")) _ _ (Some kind) u.1) [
-                  | inl v ↦ plain_head ws Unswitch kind v.1 (take_one ws (codes "unswitch") (is_at_is ws 0 (codes "unswitch") v.0))
+                  | inl v ↦ plain_head ws Unswitch kind v.1
+                      (take_one ws (codes "unswitch") (is_at_is ws 0 (codes "unswitch") v.0))
                   | inr v ↦
                       let found = passed (is_word_at ws 0 (codes "uninteract")) (Some Uninteract) kind v.1 in
-                      plain_head ws Uninteract kind found.1 (take_one ws (codes "uninteract") (is_at_is ws 0 (codes "uninteract") found.0))
+                      plain_head ws Uninteract kind found.1
+                      (take_one ws (codes "uninteract") (is_at_is ws 0 (codes "uninteract") found.0))
                 ]
               ]
             ]
@@ -97,13 +116,25 @@ head_spelled ws kind e =
 gate_spelled : (ws : List (List ℕ)) (r : Entry) → gate_entry ws ≡ Some r → ws ≡ first_word r.kind ∷ more_words r
 unfolding gate_entry gate_names first_word more_words
 gate_spelled ws r e =
-    option_and_then_some (λ kind. cond (eqb (length ws) (words_before kind + uses (rule_of kind) + 1 + defines (rule_of kind))) (cond (is_word_at ws (words_before kind + uses (rule_of kind)) (codes "->")) (gate_names ws kind) None) None) (gate_kind ws) r e (λ kind known rest.
-    let count = passed (eqb (length ws) (words_before kind + uses (rule_of kind) + 1 + defines (rule_of kind))) (cond (is_word_at ws (words_before kind + uses (rule_of kind)) (codes "->")) (gate_names ws kind) None) r rest in
-    let arrow = passed (is_word_at ws (words_before kind + uses (rule_of kind)) (codes "->")) (gate_names ws kind) r count.1 in
-    option_and_then_some (λ ins. names_at ws (words_before kind + uses (rule_of kind) + 1) (defines (rule_of kind)) >>= λ outs. Some (entry (Gate kind) ins outs)) (names_at ws (words_before kind) (uses (rule_of kind))) r arrow.1 (λ ins some_ins rest_ins.
-    option_and_then_some (λ outs. Some (entry (Gate kind) ins outs)) (names_at ws (words_before kind + uses (rule_of kind) + 1) (defines (rule_of kind))) r rest_ins (λ outs some_outs made.
-    let whole = assembled ws (gate_word kind ∷ gate_number kind) ins outs (codes "->") (words_before kind) (uses (rule_of kind)) (defines (rule_of kind)) (head_spelled ws kind known) (names_at_are ws _ _ ins some_ins) (is_at_is ws _ (codes "->") arrow.0) (names_at_are ws _ _ outs some_outs) (eqb-true _ _ count.0) in
-    subst (λ (x : Entry). ws ≡ first_word x.kind ∷ words_by x.ins x.outs x.kind) (same_Some (entry (Gate kind) ins outs) r made) whole)))
+    option_and_then_some (λ kind.
+    cond (eqb (length ws) (words_before kind + uses (rule_of kind) + 1 + defines (rule_of kind)))
+    (cond (is_word_at ws (words_before kind + uses (rule_of kind)) (codes "->")) (gate_names ws kind) None) None)
+    (gate_kind ws) r e (λ kind known rest.
+    let count = passed (eqb (length ws) (words_before kind + uses (rule_of kind) + 1 + defines (rule_of kind)))
+    (cond (is_word_at ws (words_before kind + uses (rule_of kind)) (codes "->")) (gate_names ws kind) None) r rest in
+    let arrow = passed (is_word_at ws (words_before kind + uses (rule_of kind)) (codes "->"))
+    (gate_names ws kind) r count.1 in
+    option_and_then_some (λ ins. names_at ws (words_before kind + uses (rule_of kind) + 1)
+    (defines (rule_of kind)) >>= λ outs. Some (entry (Gate kind) ins outs))
+    (names_at ws (words_before kind) (uses (rule_of kind))) r arrow.1 (λ ins some_ins rest_ins.
+    option_and_then_some (λ outs. Some (entry (Gate kind) ins outs))
+    (names_at ws (words_before kind + uses (rule_of kind) + 1) (defines (rule_of kind))) r rest_ins
+    (λ outs some_outs made.
+    let whole = assembled ws (gate_word kind ∷ gate_number kind) ins outs (codes "->") (words_before kind)
+    (uses (rule_of kind)) (defines (rule_of kind)) (head_spelled ws kind known) (names_at_are ws _ _ ins some_ins)
+    (is_at_is ws _ (codes "->") arrow.0) (names_at_are ws _ _ outs some_outs) (eqb-true _ _ count.0) in
+    subst (λ (x : Entry). ws ≡ first_word x.kind ∷ words_by x.ins x.outs x.kind)
+    (same_Some (entry (Gate kind) ins outs) r made) whole)))
 
 abbrev SpelledAs : List (List ℕ) → Line → Type 0
 SpelledAs ws f = ws ≡ first_of f ∷ others_of f
@@ -116,12 +147,19 @@ form_words ws f e =
       | inr p ↦ elim (chosen (is_word_at ws 0 (codes "end")) _ _ (Some f) p.1) [
         | inl q ↦ let a = lone_spelled ws (codes "end") End f q.0 q.1 in subst (SpelledAs ws) a.1 a.0
         | inr q ↦ elim (chosen (is_word_at ws 0 (codes "input")) _ _ (Some f) q.1) [
-          | inl r ↦ option_and_then_some (λ n. Some (Item (entry Input [] (n ∷ [])))) (lone_name ws) f r.1 (λ n named made. subst (SpelledAs ws) (same_Some (Item (entry Input [] (n ∷ []))) f made) (named_spelled ws (codes "input") n r.0 named))
+          | inl r ↦ option_and_then_some (λ n. Some (Item (entry Input [] (n ∷ [])))) (lone_name ws) f r.1
+              (λ n named made. subst (SpelledAs ws) (same_Some (Item (entry Input [] (n ∷ []))) f made)
+              (named_spelled ws (codes "input") n r.0 named))
           | inr r ↦ elim (chosen (is_word_at ws 0 (codes "output")) _ _ (Some f) r.1) [
-            | inl s ↦ option_and_then_some (λ n. Some (Item (entry Output (n ∷ []) []))) (lone_name ws) f s.1 (λ n named made. subst (SpelledAs ws) (same_Some (Item (entry Output (n ∷ []) [])) f made) (named_spelled ws (codes "output") n s.0 named))
+            | inl s ↦ option_and_then_some (λ n. Some (Item (entry Output (n ∷ []) []))) (lone_name ws) f s.1
+                (λ n named made. subst (SpelledAs ws) (same_Some (Item (entry Output (n ∷ []) [])) f made)
+                (named_spelled ws (codes "output") n s.0 named))
             | inr s ↦ elim (chosen (is_word_at ws 0 (codes "spill")) _ _ (Some f) s.1) [
-              | inl t ↦ option_and_then_some (λ n. Some (Item (entry Spill (n ∷ []) []))) (lone_name ws) f t.1 (λ n named made. subst (SpelledAs ws) (same_Some (Item (entry Spill (n ∷ []) [])) f made) (named_spelled ws (codes "spill") n t.0 named))
-              | inr t ↦ option_and_then_some (λ r. Some (Item r)) (gate_entry ws) f t.1 (λ r known made. subst (SpelledAs ws) (same_Some (Item r) f made) (gate_spelled ws r known))
+              | inl t ↦ option_and_then_some (λ n. Some (Item (entry Spill (n ∷ []) []))) (lone_name ws) f t.1
+                  (λ n named made. subst (SpelledAs ws) (same_Some (Item (entry Spill (n ∷ []) [])) f made)
+                  (named_spelled ws (codes "spill") n t.0 named))
+              | inr t ↦ option_and_then_some (λ r. Some (Item r)) (gate_entry ws) f t.1
+                  (λ r known made. subst (SpelledAs ws) (same_Some (Item r) f made) (gate_spelled ws r known))
             ]
           ]
         ]
@@ -131,5 +169,6 @@ form_words ws f e =
 pub form_line : (l : List ℕ) (f : Line) → form_of (words_of l) ≡ Some f → ended_line l ≡ form_text f
 unfolding first_of others_of entry_text
 form_line l (Header h) e = ap ended_line (line_from_words l (codes "circuit") [] (form_words (words_of l) (Header h) e))
-form_line l (Item r) e = ap ended_line (line_from_words l (first_word r.kind) (more_words r) (form_words (words_of l) (Item r) e))
+form_line l (Item r) e = ap ended_line
+    (line_from_words l (first_word r.kind) (more_words r) (form_words (words_of l) (Item r) e))
 form_line l End e = ap ended_line (line_from_words l (codes "end") [] (form_words (words_of l) End e))

@@ -1,5 +1,7 @@
 -- The first gate that has no row, if there is one; else the gates have a valuation
-use Rattle.std.proofs.Common.{◌≡◌, ℕ, zero, suc, ◌+◌, ◌-◌, ◌<◌, ◌≤◌, Bool, true, false, List, [], ◌∷◌, ◌++◌, map, get_or, length, take, slice_get, Option, Some, None, refl, sym, ap, subst, ◌∙◌, arith, inl, inr, length-append, get_or-append-add}
+use Rattle.std.proofs.Common.{◌≡◌, ℕ, zero, suc, ◌+◌, ◌-◌, ◌<◌, ◌≤◌, Bool, true, false, List, [], ◌∷◌, ◌++◌, map}
+use Rattle.std.proofs.Common.{get_or, length, take, slice_get, Option, Some, None, refl, sym, ap, subst, ◌∙◌, arith}
+use Rattle.std.proofs.Common.{inl, inr, length-append, get_or-append-add}
 use Rattle.std.specs.Prelude.{option_and_then, option_map}
 use Rattle.std.specs.List.{All, range_with_len}
 use Rattle.std.proofs.lemmas.Bool.{cases_lt, cases_Bool}
@@ -9,10 +11,12 @@ use Rattle.std.proofs.lemmas.Option.{slice_get_within, get_or_from_slice_get, sa
 use Rattle.circuit.specs.declared.netlist.ValuesFault.{ValuesFault}
 use Rattle.circuit.specs.declared.netlist.ValuesFault.TheVariants.{OutOfDomain, Memory}
 use Rattle.circuit.specs.Gates.{row, uses, defines, is_inverse}
-use Rattle.circuit.specs.Meaning.{Gate, Netlist, Valuation, HasRow, RowsBelow, Satisfies, AreOrdered, AreForward, IsUndefined, first_gates, wires, wires_after}
+use Rattle.circuit.specs.Meaning.{Gate, Netlist, Valuation, HasRow, RowsBelow, Satisfies, AreOrdered, AreForward}
+use Rattle.circuit.specs.Meaning.{IsUndefined, first_gates, wires, wires_after}
 use Rattle.circuit.specs.Bridge.{read, StopsAt, IsValuesFault}
 use Rattle.circuit.specs.Evaluate.{evaluate, first_undefined, undefined_or, EvaluatesUpTo, IsEvaluateFault}
-use Rattle.circuit.specs.Laws.{HasValuation, UndefinedHasNoValuation, OnlyInverseGatesAreUndefined, UndefinedIsOne, StoppedIsUndefined}
+use Rattle.circuit.specs.Laws.{HasValuation, UndefinedHasNoValuation, OnlyInverseGatesAreUndefined, UndefinedIsOne}
+use Rattle.circuit.specs.Laws.{StoppedIsUndefined}
 use Rattle.circuit.proofs.Valuations.{row_of, row_cases, map_below, all_head, all_tail, evaluated}
 
 -- ---- what `first_undefined` answers
@@ -31,25 +35,31 @@ total : (vs r : List Bool) (d : ℕ) → length r ≡ d → length vs + d ≡ le
 total vs r d e = sym (length-append vs r ∙ ap (λ n. length vs + n) e)
 
 -- no gate: all gates were evaluated
-pub all_evaluated : (vs : List Bool) (gs : List Gate) → AreOrdered (length vs) gs → first_undefined vs gs ≡ None → (out : List Bool) × (evaluate vs gs ≡ Some out)
+pub all_evaluated : (vs : List Bool) (gs : List Gate) → AreOrdered (length vs) gs → first_undefined vs gs ≡ None →
+    (out : List Bool) × (evaluate vs gs ≡ Some out)
 unfolding evaluate first_undefined AreOrdered
 all_evaluated vs [] ordered e = (vs, refl)
-all_evaluated vs (g ∷ gs) ordered e = elim (row_cases g.kind (map (read vs) g.ins) (length-map g.ins (read vs) ∙ ordered.1)) [
-  | inl none ↦ absurd (clash 0 (sym e ∙ ap (undefined_or (λ r. first_undefined (vs ++ r) gs)) none))
-  | inr s ↦
-      let rest = all_evaluated (vs ++ s.0) gs (subst (λ n. AreOrdered n gs) (total vs s.0 _ s.2) ordered.3)
-      (undefined_or-none _ (sym (ap (undefined_or (λ r. first_undefined (vs ++ r) gs)) s.1) ∙ e)) in
-      (rest.0, ap (option_and_then (λ r. evaluate (vs ++ r) gs)) s.1 ∙ rest.1)
-]
+all_evaluated vs (g ∷ gs) ordered e =
+    elim (row_cases g.kind (map (read vs) g.ins) (length-map g.ins (read vs) ∙ ordered.1)) [
+      | inl none ↦ absurd (clash 0 (sym e ∙ ap (undefined_or (λ r. first_undefined (vs ++ r) gs)) none))
+      | inr s ↦
+          let rest = all_evaluated (vs ++ s.0) gs (subst (λ n. AreOrdered n gs) (total vs s.0 _ s.2) ordered.3)
+          (undefined_or-none _ (sym (ap (undefined_or (λ r. first_undefined (vs ++ r) gs)) s.1) ∙ e)) in
+          (rest.0, ap (option_and_then (λ r. evaluate (vs ++ r) gs)) s.1 ∙ rest.1)
+    ]
 
 -- some gate: those before it were evaluated, and it has no row
-pub up_to : (vs : List Bool) (gs : List Gate) (k : ℕ) → AreOrdered (length vs) gs → first_undefined vs gs ≡ Some k → (before : List Bool) × EvaluatesUpTo vs gs k before
+pub up_to : (vs : List Bool) (gs : List Gate) (k : ℕ) → AreOrdered (length vs) gs → first_undefined vs gs ≡ Some k →
+    (before : List Bool) × EvaluatesUpTo vs gs k before
 unfolding evaluate first_undefined AreOrdered
 up_to vs [] k ordered e = absurd (clash k e)
 up_to vs (g ∷ gs) k ordered e = elim (row_cases g.kind (map (read vs) g.ins) (length-map g.ins (read vs) ∙ ordered.1)) [
   | inl none ↦
-      let at : 0 ≡ k = same_Some 0 k (sym (ap (undefined_or (λ r. first_undefined (vs ++ r) gs)) none) ∙ e) in
-      (vs, subst (λ k. EvaluatesUpTo vs (g ∷ gs) k vs) at (record { gate = g; numbered = refl; before = refl; none = none }))
+      let at : 0 ≡ k = same_Some 0 k (sym (ap (undefined_or (λ r. first_undefined (vs ++ r) gs)) none) ∙ e) in (
+        vs,
+        subst (λ k. EvaluatesUpTo vs (g ∷ gs) k vs) at
+            (record { gate = g; numbered = refl; before = refl; none = none }),
+      )
   | inr s ↦
       let later = undefined_or-cases _ k (sym (ap (undefined_or (λ r. first_undefined (vs ++ r) gs)) s.1) ∙ e) in
       let m : ℕ = later.0 in
@@ -57,7 +67,12 @@ up_to vs (g ∷ gs) k ordered e = elim (row_cases g.kind (map (read vs) g.ins) (
       let is : EvaluatesUpTo (vs ++ s.0) gs m rest.0 = rest.1 in (
         rest.0,
         subst (λ k. EvaluatesUpTo vs (g ∷ gs) k rest.0) (sym later.2)
-            (record { gate = is.gate; numbered = is.numbered; before = ap (option_and_then (λ r. evaluate (vs ++ r) (take m gs))) s.1 ∙ is.before; none = is.none }),
+            (record {
+              gate = is.gate;
+              numbered = is.numbered;
+              before = ap (option_and_then (λ r. evaluate (vs ++ r) (take m gs))) s.1 ∙ is.before;
+              none = is.none;
+            }),
       )
 ]
 
@@ -68,12 +83,14 @@ record IsNext (vs : List Bool) (g : Gate) (v : Valuation) : Type 0 where
   long : length vs + defines g.kind ≡ length (vs ++ map v g.outs)
   agree : (w : ℕ) → w < length (vs ++ map v g.outs) → v w ≡ read (vs ++ map v g.outs) w
 
-next : (vs : List Bool) (g : Gate) (gs : List Gate) (v : Valuation) → AreOrdered (length vs) (g ∷ gs) → ((w : ℕ) → w < length vs → v w ≡ read vs w) → HasRow v g → IsNext vs g v
+next : (vs : List Bool) (g : Gate) (gs : List Gate) (v : Valuation) → AreOrdered (length vs) (g ∷ gs) →
+    ((w : ℕ) → w < length vs → v w ≡ read vs w) → HasRow v g → IsNext vs g v
 unfolding AreOrdered
 next vs g gs v ordered agree here =
     let r : List Bool = map v g.outs in
     let outs : r ≡ map v (range_with_len (length vs) (defines g.kind)) = ap (map v) ordered.2 in
-    let many : length r ≡ defines g.kind = length-map g.outs v ∙ ap length ordered.2 ∙ length-range_with_len (length vs) (defines g.kind) in
+    let many : length r ≡ defines g.kind =
+    length-map g.outs v ∙ ap length ordered.2 ∙ length-range_with_len (length vs) (defines g.kind) in
     let long = total vs r (defines g.kind) many in
     record {
       is = ap (row g.kind) (sym (map_below (length vs) v (read vs) g.ins ordered.0 agree)) ∙ here;
@@ -82,35 +99,44 @@ next vs g gs v ordered agree here =
         | inl small ↦ agree w small ∙ sym (get_or_append_left vs r false w small)
         | inr large ↦
             let at : length vs + (w - length vs) ≡ w = omega arith in
-            sym (ap (read (vs ++ r)) (sym at) ∙ get_or-append-add vs r (w - length vs) false ∙ ap (λ (bs : List Bool). get_or bs (w - length vs) false) outs
-            ∙ get_or-map-range_with_len v (length vs) (defines g.kind) (w - length vs) w false (omega (arith, long)) (omega arith))
+            sym (ap (read (vs ++ r)) (sym at) ∙ get_or-append-add vs r (w - length vs) false
+            ∙ ap (λ (bs : List Bool). get_or bs (w - length vs) false) outs
+            ∙ get_or-map-range_with_len v (length vs) (defines g.kind) (w - length vs) w false (omega (arith, long))
+            (omega arith))
       ];
     }
 
 -- where they do up to a gate that has none, that is the first one
-pub undefined_from : (vs : List Bool) (gs : List Gate) (v : Valuation) (k : ℕ) (g : Gate) → AreOrdered (length vs) gs → ((w : ℕ) → w < length vs → v w ≡ read vs w) → RowsBelow k gs v →
+pub undefined_from : (vs : List Bool) (gs : List Gate) (v : Valuation) (k : ℕ) (g : Gate) → AreOrdered (length vs) gs →
+    ((w : ℕ) → w < length vs → v w ≡ read vs w) → RowsBelow k gs v →
     slice_get gs k ≡ Some g → row g.kind (map v g.ins) ≡ None → first_undefined vs gs ≡ Some k
 unfolding first_undefined AreOrdered
 undefined_from vs [] v k g ordered agree rows at none = absurd (clash g at)
 undefined_from vs (h ∷ gs) v zero g ordered agree rows at none =
     let same : h ≡ g = same_Some h g at in
-    let here : row h.kind (map v h.ins) ≡ None = subst (λ (f : Gate). row f.kind (map v f.ins) ≡ None) (sym same) none in
-    ap (undefined_or (λ r. first_undefined (vs ++ r) gs)) (ap (row h.kind) (sym (map_below (length vs) v (read vs) h.ins ordered.0 agree)) ∙ here)
+    let here : row h.kind (map v h.ins) ≡ None =
+    subst (λ (f : Gate). row f.kind (map v f.ins) ≡ None) (sym same) none in
+    ap (undefined_or (λ r. first_undefined (vs ++ r) gs))
+    (ap (row h.kind) (sym (map_below (length vs) v (read vs) h.ins ordered.0 agree)) ∙ here)
 undefined_from vs (h ∷ gs) v (suc k) g ordered agree rows at none =
     let n : IsNext vs h v = next vs h gs v ordered agree (rows 0 h (omega arith) refl) in
-    let rest = undefined_from (vs ++ map v h.outs) gs v k g (subst (λ n. AreOrdered n gs) n.long ordered.3) n.agree (λ j f l e. rows (suc j) f (omega arith) e) at none in
-    ap (undefined_or (λ r. first_undefined (vs ++ r) gs)) n.is ∙ ap (option_map (λ k. k + 1)) rest ∙ ap Some (plus_one k)
+    let rest = undefined_from (vs ++ map v h.outs) gs v k g (subst (λ n. AreOrdered n gs) n.long ordered.3) n.agree
+    (λ j f l e. rows (suc j) f (omega arith) e) at none in
+    ap (undefined_or (λ r. first_undefined (vs ++ r) gs)) n.is ∙ ap (option_map (λ k. k + 1)) rest
+    ∙ ap Some (plus_one k)
   where
     plus_one : (k : ℕ) → k + 1 ≡ suc k
     plus_one k = omega arith
 
 -- where they all do, there is none
-pub defined_from : (vs : List Bool) (gs : List Gate) (v : Valuation) → AreOrdered (length vs) gs → ((w : ℕ) → w < length vs → v w ≡ read vs w) → All (HasRow v) gs → first_undefined vs gs ≡ None
+pub defined_from : (vs : List Bool) (gs : List Gate) (v : Valuation) → AreOrdered (length vs) gs →
+    ((w : ℕ) → w < length vs → v w ≡ read vs w) → All (HasRow v) gs → first_undefined vs gs ≡ None
 unfolding first_undefined AreOrdered
 defined_from vs [] v ordered agree rows = refl
 defined_from vs (h ∷ gs) v ordered agree rows =
     let n : IsNext vs h v = next vs h gs v ordered agree (all_head (HasRow v) h gs rows) in
-    let rest = defined_from (vs ++ map v h.outs) gs v (subst (λ n. AreOrdered n gs) n.long ordered.3) n.agree (all_tail (HasRow v) h gs rows) in
+    let rest = defined_from (vs ++ map v h.outs) gs v (subst (λ n. AreOrdered n gs) n.long ordered.3) n.agree
+    (all_tail (HasRow v) h gs rows) in
     ap (undefined_or (λ r. first_undefined (vs ++ r) gs)) n.is ∙ ap (option_map (λ k. k + 1)) rest
 
 -- ---- a netlist
@@ -125,25 +151,31 @@ given_of n a = record {
   same = λ i h. get_or-map-range_with_len a 0 n.given i i false h (omega arith);
 }
 
-ordered_given : (n : Netlist) (given : List Bool) → length given ≡ n.given → AreOrdered n.given n.gates → AreOrdered (length given) n.gates
+ordered_given : (n : Netlist) (given : List Bool) → length given ≡ n.given → AreOrdered n.given n.gates →
+    AreOrdered (length given) n.gates
 ordered_given n given long ordered = subst (λ m. AreOrdered m n.gates) (sym long) ordered
 
-pub undefined_at : (n : Netlist) (a : Valuation) (given : List Bool) (k : ℕ) → AreOrdered n.given n.gates → length given ≡ n.given → ((i : ℕ) → i < n.given → read given i ≡ a i) → IsUndefined n a k →
+pub undefined_at : (n : Netlist) (a : Valuation) (given : List Bool) (k : ℕ) → AreOrdered n.given n.gates →
+    length given ≡ n.given → ((i : ℕ) → i < n.given → read given i ≡ a i) → IsUndefined n a k →
     first_undefined given n.gates ≡ Some k
 undefined_at n a given k ordered long same u =
-    undefined_from given n.gates u.values k u.gate (ordered_given n given long ordered) (λ w h. u.given w (omega (arith, long)) ∙ sym (same w (omega (arith, long)))) u.before u.numbered u.none
+    undefined_from given n.gates u.values k u.gate (ordered_given n given long ordered)
+    (λ w h. u.given w (omega (arith, long)) ∙ sym (same w (omega (arith, long)))) u.before u.numbered u.none
 
-pub defined_at : (n : Netlist) (a v : Valuation) (given : List Bool) → AreOrdered n.given n.gates → length given ≡ n.given → ((i : ℕ) → i < n.given → read given i ≡ a i) → Satisfies n a v →
+pub defined_at : (n : Netlist) (a v : Valuation) (given : List Bool) → AreOrdered n.given n.gates →
+    length given ≡ n.given → ((i : ℕ) → i < n.given → read given i ≡ a i) → Satisfies n a v →
     first_undefined given n.gates ≡ None
 defined_at n a v given ordered long same s =
-    defined_from given n.gates v (ordered_given n given long ordered) (λ w h. s.given w (omega (arith, long)) ∙ sym (same w (omega (arith, long)))) s.rows
+    defined_from given n.gates v (ordered_given n given long ordered)
+    (λ w h. s.given w (omega (arith, long)) ∙ sym (same w (omega (arith, long)))) s.rows
 
 ordered_take : (m : ℕ) (gs : List Gate) (k : ℕ) → AreOrdered m gs → AreOrdered m (take k gs)
 unfolding AreOrdered
 ordered_take m [] zero ordered = tt
 ordered_take m [] (suc k) ordered = tt
 ordered_take m (g ∷ gs) zero ordered = tt
-ordered_take m (g ∷ gs) (suc k) ordered = (ordered.0, ordered.1, ordered.2, ordered_take (m + defines g.kind) gs k ordered.3)
+ordered_take m (g ∷ gs) (suc k) ordered =
+    (ordered.0, ordered.1, ordered.2, ordered_take (m + defines g.kind) gs k ordered.3)
 
 slice_get_take : (gs : List Gate) (k j : ℕ) → j < k → slice_get (take k gs) j ≡ slice_get gs j
 slice_get_take gs zero j h = absurd (omega arith)
@@ -151,8 +183,10 @@ slice_get_take [] (suc k) j h = refl
 slice_get_take (g ∷ gs) (suc k) zero h = refl
 slice_get_take (g ∷ gs) (suc k) (suc j) h = slice_get_take gs k j (omega arith)
 
-row_at : (v : Valuation) (gates : List Gate) (k : ℕ) (g : Gate) → All (HasRow v) gates → slice_get gates k ≡ Some g → HasRow v g
-row_at v gates k g all e = subst (HasRow v) (get_or_from_slice_get gates k g g e) (all k g (slice_get_within gates k g e))
+row_at : (v : Valuation) (gates : List Gate) (k : ℕ) (g : Gate) → All (HasRow v) gates → slice_get gates k ≡ Some g →
+    HasRow v g
+row_at v gates k g all e = subst (HasRow v) (get_or_from_slice_get gates k g g e)
+    (all k g (slice_get_within gates k g e))
 
 pub stopped : StoppedIsUndefined
 stopped n a k vs s = record {
@@ -164,7 +198,8 @@ stopped n a k vs s = record {
   none = s.none;
 }
 
-pub stops : (n : Netlist) (a : Valuation) (given : List Bool) (k : ℕ) (vs : List Bool) → AreOrdered n.given n.gates → length given ≡ n.given → ((i : ℕ) → i < n.given → read given i ≡ a i) →
+pub stops : (n : Netlist) (a : Valuation) (given : List Bool) (k : ℕ) (vs : List Bool) → AreOrdered n.given n.gates →
+    length given ≡ n.given → ((i : ℕ) → i < n.given → read given i ≡ a i) →
     EvaluatesUpTo given n.gates k vs → StopsAt n a k vs
 stops n a given k vs ordered long same e = record {
   gate = e.gate;
@@ -173,18 +208,21 @@ stops n a given k vs ordered long same e = record {
   none = e.none;
 }
 
-pub fault_stops : (n : Netlist) (a : Valuation) (given : List Bool) (e : ValuesFault) → AreOrdered n.given n.gates → length given ≡ n.given → ((i : ℕ) → i < n.given → read given i ≡ a i) →
+pub fault_stops : (n : Netlist) (a : Valuation) (given : List Bool) (e : ValuesFault) → AreOrdered n.given n.gates →
+    length given ≡ n.given → ((i : ℕ) → i < n.given → read given i ≡ a i) →
     IsEvaluateFault given n.gates e → IsValuesFault n a e
 fault_stops n a given (OutOfDomain k vs) ordered long same e = stops n a given k vs.items ordered long same e
 fault_stops n a given Memory ordered long same e = tt
 
-pub undefined_is : (n : Netlist) (a : Valuation) (given : List Bool) (k : ℕ) → AreOrdered n.given n.gates → length given ≡ n.given → ((i : ℕ) → i < n.given → read given i ≡ a i) →
+pub undefined_is : (n : Netlist) (a : Valuation) (given : List Bool) (k : ℕ) → AreOrdered n.given n.gates →
+    length given ≡ n.given → ((i : ℕ) → i < n.given → read given i ≡ a i) →
     first_undefined given n.gates ≡ Some k → IsUndefined n a k
 undefined_is n a given k ordered long same e =
     let found = up_to given n.gates k (ordered_given n given long ordered) e in
     stopped n a k found.0 (stops n a given k found.0 ordered long same found.1)
 
-by_answer : (n : Netlist) (a : Valuation) (given : List Bool) (o : Option ℕ) → first_undefined given n.gates ≡ o → AreOrdered n.given n.gates → IsGiven n a given → ((k : ℕ) → ¬ IsUndefined n a k) →
+by_answer : (n : Netlist) (a : Valuation) (given : List Bool) (o : Option ℕ) → first_undefined given n.gates ≡ o →
+    AreOrdered n.given n.gates → IsGiven n a given → ((k : ℕ) → ¬ IsUndefined n a k) →
     (v : Valuation) × Satisfies n a v
 by_answer n a given None e ordered is none =
     let found = all_evaluated given n.gates (ordered_given n given is.long ordered) e in
@@ -202,9 +240,11 @@ undefined_has_none n a v k ordered u s =
 pub undefined_is_one : UndefinedIsOne
 undefined_is_one n a k m ordered u w =
     let is = given_of n a in
-    same_Some k m (sym (undefined_at n a _ k ordered is.long is.same u) ∙ undefined_at n a _ m ordered is.long is.same w)
+    same_Some k m (sym (undefined_at n a _ k ordered is.long is.same u)
+    ∙ undefined_at n a _ m ordered is.long is.same w)
 
-uses_as_many : (n : ℕ) (gs : List Gate) (k : ℕ) (g : Gate) → AreOrdered n gs → slice_get gs k ≡ Some g → length g.ins ≡ uses g.kind
+uses_as_many : (n : ℕ) (gs : List Gate) (k : ℕ) (g : Gate) → AreOrdered n gs → slice_get gs k ≡ Some g →
+    length g.ins ≡ uses g.kind
 unfolding AreOrdered
 uses_as_many n [] k g ordered e = absurd (clash g e)
 uses_as_many n (f ∷ gs) zero g ordered e = subst (λ (g : Gate). length g.ins ≡ uses g.kind) (same_Some f g e) ordered.1
@@ -214,17 +254,20 @@ pub only_inverse : OnlyInverseGatesAreUndefined
 only_inverse n a k ordered u = elim (cases_Bool (is_inverse u.gate.kind)) [
   | inl inverse ↦ inverse
   | inr forward ↦
-      let r = row_of u.gate.kind (map u.values u.gate.ins) forward (length-map u.gate.ins u.values ∙ uses_as_many n.given n.gates k u.gate ordered u.numbered) in
+      let r = row_of u.gate.kind (map u.values u.gate.ins) forward
+      (length-map u.gate.ins u.values ∙ uses_as_many n.given n.gates k u.gate ordered u.numbered) in
       absurd (clash r.0 (sym u.none ∙ r.1))
 ]
 
 -- gates without inverse gates have a valuation
-pub forward_valuation : (n : Netlist) (a : Valuation) → AreOrdered n.given n.gates → AreForward n.gates → (v : Valuation) × Satisfies n a v
+pub forward_valuation : (n : Netlist) (a : Valuation) → AreOrdered n.given n.gates → AreForward n.gates →
+    (v : Valuation) × Satisfies n a v
 forward_valuation n a ordered forward =
     has_valuation n a ordered (λ k u. elim (cases_Bool (is_inverse u.gate.kind)) [
       | inl inverse ↦
           let is_not : is_inverse u.gate.kind ≡ false =
-          subst (λ (g : Gate). is_inverse g.kind ≡ false) (get_or_from_slice_get n.gates k u.gate u.gate u.numbered) (forward k u.gate (slice_get_within n.gates k u.gate u.numbered)) in
+          subst (λ (g : Gate). is_inverse g.kind ≡ false) (get_or_from_slice_get n.gates k u.gate u.gate u.numbered)
+          (forward k u.gate (slice_get_within n.gates k u.gate u.numbered)) in
           differ _ inverse is_not
       | inr is_not ↦ differ _ (only_inverse n a k ordered u) is_not
     ])

@@ -1,11 +1,14 @@
 -- Gates that are ordered have at most one valuation, and what `evaluate` finds is one.
-use Rattle.std.proofs.Common.{◌≡◌, ℕ, zero, suc, ◌+◌, ◌-◌, ◌<◌, ◌≤◌, Bool, true, false, List, [], ◌∷◌, ◌++◌, map, get_or, length, Option, Some, None, refl, sym, ap, ap₂, subst, ◌∙◌, arith, inl, inr, ◌⊎◌, length-append, get_or-append-add}
+use Rattle.std.proofs.Common.{◌≡◌, ℕ, zero, suc, ◌+◌, ◌-◌, ◌<◌, ◌≤◌, Bool, true, false, List, [], ◌∷◌, ◌++◌, map}
+use Rattle.std.proofs.Common.{get_or, length, Option, Some, None, refl, sym, ap, ap₂, subst, ◌∙◌, arith, inl, inr, ◌⊎◌}
+use Rattle.std.proofs.Common.{length-append, get_or-append-add}
 use Rattle.std.specs.Prelude.{option_and_then}
 use Rattle.std.specs.List.{All, range_with_len}
 use Rattle.std.proofs.lemmas.List.{length-map, get_or_append_left}
 use Rattle.std.proofs.lemmas.List.FromFn.{get_or-map-range_with_len}
 use Rattle.std.proofs.lemmas.Bool.{cases_lt, true≢false}
-use Rattle.circuit.specs.Gates.{Rule, Source, Fredkin, Cswap, Interact, Switch, Delay, Unswitch, Uninteract, row, uses, defines, is_inverse}
+use Rattle.circuit.specs.Gates.{Rule, Source, Fredkin, Cswap, Interact, Switch, Delay, Unswitch, Uninteract, row, uses}
+use Rattle.circuit.specs.Gates.{defines, is_inverse}
 use Rattle.circuit.specs.Meaning.{Gate, Netlist, Valuation, HasRow, Satisfies, AreOrdered, wires_after, wires}
 use Rattle.circuit.specs.Bridge.{read, AreValues}
 use Rattle.circuit.specs.Evaluate.{evaluate}
@@ -58,7 +61,8 @@ unswitch_cases false true false = inl refl
 unswitch_cases false false true = inr (_, refl, refl)
 unswitch_cases false false false = inr (_, refl, refl)
 
-uninteract_cases : (a b c d : Bool) → (row Uninteract (a ∷ b ∷ c ∷ d ∷ []) ≡ None) ⊎ RowOf Uninteract (a ∷ b ∷ c ∷ d ∷ [])
+uninteract_cases : (a b c d : Bool) →
+    (row Uninteract (a ∷ b ∷ c ∷ d ∷ []) ≡ None) ⊎ RowOf Uninteract (a ∷ b ∷ c ∷ d ∷ [])
 unfolding row
 uninteract_cases false false false false = inr (_, refl, refl)
 uninteract_cases false true false false = inr (_, refl, refl)
@@ -93,12 +97,15 @@ all_tail P x xs all = λ k d h. all (suc k) d (omega arith)
 pub all_head : {A : Type 0} (P : A → Type 0) (x : A) (xs : List A) → All P (x ∷ xs) → P x
 all_head P x xs all = all 0 x (omega arith)
 
-pub map_below : (n : ℕ) (f g : Valuation) (ws : List ℕ) → All (λ w. w < n) ws → ((w : ℕ) → w < n → f w ≡ g w) → map f ws ≡ map g ws
+pub map_below : (n : ℕ) (f g : Valuation) (ws : List ℕ) → All (λ w. w < n) ws → ((w : ℕ) → w < n → f w ≡ g w) →
+    map f ws ≡ map g ws
 map_below n f g [] all same = refl
 map_below n f g (w ∷ ws) all same =
-    ap₂ (λ b bs. b ∷ bs) (same w (all_head (λ w. w < n) w ws all)) (map_below n f g ws (all_tail (λ w. w < n) w ws all) same)
+    ap₂ (λ b bs. b ∷ bs) (same w (all_head (λ w. w < n) w ws all))
+    (map_below n f g ws (all_tail (λ w. w < n) w ws all) same)
 
-pub map_range : (r : List Bool) (n k : ℕ) (f : Valuation) → length r ≡ k → ((i : ℕ) → i < k → f (n + i) ≡ get_or r i false) → map f (range_with_len n k) ≡ r
+pub map_range : (r : List Bool) (n k : ℕ) (f : Valuation) → length r ≡ k →
+    ((i : ℕ) → i < k → f (n + i) ≡ get_or r i false) → map f (range_with_len n k) ≡ r
 map_range [] n zero f e h = refl
 map_range [] n (suc k) f e h = absurd (omega arith)
 map_range (b ∷ r) n zero f e h = absurd (omega arith)
@@ -121,13 +128,16 @@ record Found (vs : List Bool) (gs : List Gate) (out : List Bool) : Type 0 where
   rows : All (HasRow (read out)) gs
 
 -- one gate more in front
-found_more : (vs out r : List Bool) (g : Gate) (gs : List Gate) → AreOrdered (length vs) (g ∷ gs) → row g.kind (map (read vs) g.ins) ≡ Some r → length r ≡ defines g.kind → Found (vs ++ r) gs out → Found vs (g ∷ gs) out
+found_more : (vs out r : List Bool) (g : Gate) (gs : List Gate) → AreOrdered (length vs) (g ∷ gs) →
+    row g.kind (map (read vs) g.ins) ≡ Some r → length r ≡ defines g.kind → Found (vs ++ r) gs out →
+    Found vs (g ∷ gs) out
 unfolding AreOrdered wires_after
 found_more vs out r g gs ordered is many rest =
     let total : length (vs ++ r) ≡ length vs + defines g.kind = length-append vs r ∙ ap (λ n. length vs + n) many in
     let below : (w : ℕ) → w < length vs → read out w ≡ read vs w =
     λ w h. rest.same w (omega (arith, total)) ∙ get_or_append_left vs r false w h in
-    let here : HasRow (read out) g = ap (row g.kind) (map_below (length vs) (read out) (read vs) g.ins ordered.0 below) ∙ is
+    let here : HasRow (read out) g =
+    ap (row g.kind) (map_below (length vs) (read out) (read vs) g.ins ordered.0 below) ∙ is
     ∙ ap Some (sym (ap (map (read out)) ordered.2 ∙ map_range r (length vs) (defines g.kind) (read out) many
     (λ i h. rest.same (length vs + i) (omega (arith, total)) ∙ get_or-append-add vs r i false))) in
     record {
@@ -144,17 +154,22 @@ none_some : (x : List Bool) (o : Option (List Bool)) → o ≡ None → o ≡ So
 none_some x o e f = cc
 
 -- what is evaluated was found gate after gate
-found_from : (vs : List Bool) (gs : List Gate) (out : List Bool) → AreOrdered (length vs) gs → evaluate vs gs ≡ Some out → Found vs gs out
+found_from : (vs : List Bool) (gs : List Gate) (out : List Bool) → AreOrdered (length vs) gs →
+    evaluate vs gs ≡ Some out → Found vs gs out
 unfolding evaluate AreOrdered wires_after
 found_from vs [] out ordered e =
-    subst (λ (o : List Bool). Found vs [] o) (some_is vs out e) (record { all = refl; longer = omega arith; same = λ w h. refl; rows = λ k d h. absurd (omega arith) })
-found_from vs (g ∷ gs) out ordered e = elim (row_cases g.kind (map (read vs) g.ins) (length-map g.ins (read vs) ∙ ordered.1)) [
-  | inl none ↦ absurd (none_some out _ (ap (option_and_then (λ r. evaluate (vs ++ r) gs)) none) e)
-  | inr s ↦
-      let total : length (vs ++ s.0) ≡ length vs + defines g.kind = length-append vs s.0 ∙ ap (λ n. length vs + n) s.2 in
-      found_more vs out s.0 g gs ordered s.1 s.2
-      (found_from (vs ++ s.0) gs out (subst (λ n. AreOrdered n gs) (sym total) ordered.3) (sym (ap (option_and_then (λ r. evaluate (vs ++ r) gs)) s.1) ∙ e))
-]
+    subst (λ (o : List Bool). Found vs [] o) (some_is vs out e)
+    (record { all = refl; longer = omega arith; same = λ w h. refl; rows = λ k d h. absurd (omega arith) })
+found_from vs (g ∷ gs) out ordered e =
+    elim (row_cases g.kind (map (read vs) g.ins) (length-map g.ins (read vs) ∙ ordered.1)) [
+      | inl none ↦ absurd (none_some out _ (ap (option_and_then (λ r. evaluate (vs ++ r) gs)) none) e)
+      | inr s ↦
+          let total : length (vs ++ s.0) ≡ length vs + defines g.kind =
+          length-append vs s.0 ∙ ap (λ n. length vs + n) s.2 in
+          found_more vs out s.0 g gs ordered s.1 s.2
+          (found_from (vs ++ s.0) gs out (subst (λ n. AreOrdered n gs) (sym total) ordered.3)
+          (sym (ap (option_and_then (λ r. evaluate (vs ++ r) gs)) s.1) ∙ e))
+    ]
 
 -- ---- only one
 unique_after : (n : ℕ) (gs : List Gate) (v v' : Valuation) → AreOrdered n gs → All (HasRow v) gs → All (HasRow v') gs →
@@ -164,10 +179,12 @@ unique_after n [] v v' ordered rows rows' same w h = same w h
 unique_after n (g ∷ gs) v v' ordered rows rows' same w h =
     let ins : map v g.ins ≡ map v' g.ins = map_below n v v' g.ins ordered.0 same in
     let outs : map v g.outs ≡ map v' g.outs =
-    some_same _ _ (row g.kind (map v g.ins)) (all_head (HasRow v) g gs rows) (ap (row g.kind) ins ∙ all_head (HasRow v') g gs rows') in
+    some_same _ _ (row g.kind (map v g.ins)) (all_head (HasRow v) g gs rows)
+    (ap (row g.kind) ins ∙ all_head (HasRow v') g gs rows') in
     let range : map v (range_with_len n (defines g.kind)) ≡ map v' (range_with_len n (defines g.kind)) =
     ap (map v) (sym ordered.2) ∙ outs ∙ ap (map v') ordered.2 in
-    unique_after (n + defines g.kind) gs v v' ordered.3 (all_tail (HasRow v) g gs rows) (all_tail (HasRow v') g gs rows')
+    unique_after (n + defines g.kind) gs v v' ordered.3 (all_tail (HasRow v) g gs rows)
+    (all_tail (HasRow v') g gs rows')
     (λ w l. elim (cases_lt w n) [
       | inl small ↦ same w small
       | inr large ↦
@@ -182,10 +199,17 @@ at_most_one n a v v' ordered s s' w h =
     unique_after n.given n.gates v v' ordered s.rows s'.rows (λ i l. s.given i l ∙ sym (s'.given i l)) w h
 
 -- what is evaluated are the values
-pub evaluated : (n : Netlist) (a : Valuation) (given vs : List Bool) → AreOrdered n.given n.gates → length given ≡ n.given → ((i : ℕ) → i < n.given → read given i ≡ a i) →
+pub evaluated : (n : Netlist) (a : Valuation) (given vs : List Bool) → AreOrdered n.given n.gates →
+    length given ≡ n.given → ((i : ℕ) → i < n.given → read given i ≡ a i) →
     evaluate given n.gates ≡ Some vs → AreValues n a vs
 evaluated n a given vs ordered len same e =
-    let f : Found given n.gates vs = found_from given n.gates vs (subst (λ m. AreOrdered m n.gates) (sym len) ordered) e in
+    let f : Found given n.gates vs =
+    found_from given n.gates vs (subst (λ m. AreOrdered m n.gates) (sym len) ordered) e in
     let all : length vs ≡ wires n = f.all ∙ ap (λ m. wires_after m n.gates) len in
-    let s : Satisfies n a (read vs) = record { given = λ i h. f.same i (omega (arith, len)) ∙ same i h; rows = f.rows } in
-    record { all = all; satisfies = s; only = λ v t w h. at_most_one n a v (read vs) ordered t s w (omega (arith, all)) }
+    let s : Satisfies n a (read vs) =
+    record { given = λ i h. f.same i (omega (arith, len)) ∙ same i h; rows = f.rows } in
+    record {
+      all = all;
+      satisfies = s;
+      only = λ v t w h. at_most_one n a v (read vs) ordered t s w (omega (arith, all));
+    }

@@ -1,5 +1,6 @@
 -- From the lines of a circuit, by names, to its gates, by the numbers of wires.
-use Rattle.std.specs.Prelude.{◌≡◌, ℕ, ◌<◌, Bool, true, false, if◌then◌else◌, List, [], ◌∷◌, ◌++◌, map, length, None, Some, ⊤, slice_get, slice_index_or}
+use Rattle.std.specs.Prelude.{◌≡◌, ℕ, ◌<◌, Bool, true, false, if◌then◌else◌, List, [], ◌∷◌, ◌++◌, map, length, None}
+use Rattle.std.specs.Prelude.{Some, ⊤, slice_get, slice_index_or}
 use Rattle.std.specs.List.{flat_map, count_by}
 use Rattle.circuit.specs.Entries.{defined}
 use Rattle.circuit.specs.declared.entry.Kind.{Kind}
@@ -12,22 +13,26 @@ use Rattle.circuit.specs.Gates.{row, rule_of, uses, defines}
 use Rattle.circuit.specs.Rules.{gate_count, add_fault}
 use Rattle.circuit.specs.Meaning.{Gate, Netlist, Circuit, Valuation, Satisfies, first_gates, number, wires}
 
+-- whether the line is an input
 abbrev pub is_input : Kind → Bool
 is_input Input = true
 is_input (GateLine k) = false
 is_input Output = false
 is_input Spill = false
 
+-- how many inputs there are
 abbrev pub input_count : List Entry → ℕ
 input_count entries = count_by (λ r. is_input r.kind) entries
 
--- the gate of a line, where the wires have these names
+-- the gate of a line, if the wires have these names
 abbrev pub gate_in : List (List ℕ) → List (List ℕ) → List (List ℕ) → Kind → List Gate
 gate_in names ins outs Input = []
-gate_in names ins outs (GateLine k) = record { kind = rule_of k; ins = map (number names) ins; outs = map (number names) outs } ∷ []
+gate_in names ins outs (GateLine k) =
+    record { kind = rule_of k; ins = map (number names) ins; outs = map (number names) outs } ∷ []
 gate_in names ins outs Output = []
 gate_in names ins outs Spill = []
 
+-- the gates of lines, over the numbers of names
 abbrev pub gates_of : List (List ℕ) → List Entry → List Gate
 gates_of names entries = flat_map (λ r. gate_in names r.ins r.outs r.kind) entries
 
@@ -50,16 +55,19 @@ is_output (GateLine k) = false
 is_output Output = true
 is_output Spill = false
 
+-- the names of the outputs, in the order of their lines
 abbrev pub output_names : List Entry → List (List ℕ)
 output_names entries = flat_map (λ r. if is_output r.kind then r.ins else []) entries
 
 -- ---- which lines make a circuit
+-- how many wires a line of a kind consumes
 abbrev pub kind_ins : Kind → ℕ
 kind_ins Input = 0
 kind_ins (GateLine k) = uses (rule_of k)
 kind_ins Output = 1
 kind_ins Spill = 1
 
+-- how many wires a line of a kind defines
 abbrev pub kind_outs : Kind → ℕ
 kind_outs Input = 1
 kind_outs (GateLine k) = defines (rule_of k)
@@ -85,6 +93,7 @@ unfoldable pub AreGoodAfter : List Entry → List Entry → Type 0
 AreGoodAfter before [] = ⊤
 AreGoodAfter before (r ∷ rest) = IsGoodAfter before r × AreGoodAfter (before ++ r ∷ []) rest
 
+-- each line is good after those before it
 abbrev pub AreGood : List Entry → Type 0
 AreGood entries = AreGoodAfter [] entries
 
@@ -92,20 +101,20 @@ AreGood entries = AreGoodAfter [] entries
 abbrev pub read : List Bool → Valuation
 read vs w = slice_index_or vs w false
 
--- vs lists each wire's value in the one valuation that satisfies the netlist where the given wires have the values a
+-- vs lists each wire's value in the one valuation that satisfies the netlist if the given wires have the values a
 pub record AreValues (n : Netlist) (a : Valuation) (vs : List Bool) : Type 0 where
   pub all : length vs ≡ wires n
   pub satisfies : Satisfies n a (read vs)
   pub only : (v : Valuation) → Satisfies n a v → (w : ℕ) → w < length vs → v w ≡ read vs w
 
--- Where the given wires have the values a, gate k has no row. vs lists the values of the wires that are defined before it.
+-- Gate k has no row if the given wires have the values a. vs lists the values of the wires that are defined before it.
 pub record StopsAt (n : Netlist) (a : Valuation) (k : ℕ) (vs : List Bool) : Type 0 where
   pub gate : Gate
   pub numbered : slice_get n.gates k ≡ Some gate
   pub before : AreValues (first_gates k n) a vs
   pub none : row gate.kind (map (read vs) gate.ins) ≡ None
 
--- why there are no values: a gate without a row, or want of memory, of which nothing is said
+-- the reason why there are no values: a gate without a row, or out of memory, about which it says no more
 abbrev pub IsValuesFault : Netlist → Valuation → ValuesFault → Type 0
 IsValuesFault n a (OutOfDomain k vs) = StopsAt n a k vs.items
 IsValuesFault n a Memory = Unit {0}

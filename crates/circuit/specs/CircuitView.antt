@@ -1,4 +1,4 @@
--- The fields of a circuit, and what contracts see of them: the lines.
+-- The fields of a circuit, and its view: the lines.
 use Rattle.std.specs.Prelude.{◌≡◌, ◌≤◌, List, None, length, map}
 use Rattle.circuit.specs.Entries.{defined}
 use Rattle.circuit.specs.declared.entry.Entry.{Entry}
@@ -7,9 +7,11 @@ use Rattle.circuit.specs.Rules.{consumed, gate_count, unused}
 use Rattle.circuit.specs.Bridge.{AreGood, gates_of}
 use Rattle.circuit.specs.Wiring.{gate_of}
 
+-- the lines of a circuit, from its fields
 abbrev pub circuit_entries : Inside → List Entry
 circuit_entries a = a.entries.items
 
+-- the fields of every circuit: good lines, of which each wire is consumed, within the limits
 pub record IsCircuit (a : Inside) : Type 0 where
   pub wires : a.wires.keys ≡ defined a.entries.items
   pub all_used : unused (consumed a.entries.items) (defined a.entries.items) ≡ None

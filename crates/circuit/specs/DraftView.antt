@@ -1,4 +1,4 @@
--- The fields of a draft and of a circuit, and what contracts see of them: the lines.
+-- The fields of a draft, and its view: the lines.
 use Rattle.std.specs.Prelude.{◌≡◌, ◌≤◌, List, length, map}
 use Rattle.circuit.specs.Entries.{defined}
 use Rattle.circuit.specs.declared.entry.Entry.{Entry}
@@ -7,9 +7,11 @@ use Rattle.circuit.specs.Rules.{consumed, gate_count}
 use Rattle.circuit.specs.Bridge.{AreGood, gates_of}
 use Rattle.circuit.specs.Wiring.{gate_of}
 
+-- the lines of a draft, from its fields
 abbrev pub draft_entries : Inside → List Entry
 draft_entries a = a.entries.items
 
+-- the fields of every draft: good lines within the limits, with the names that they define and consume
 pub record IsDraft (a : Inside) : Type 0 where
   pub wires : a.wires.keys ≡ defined a.entries.items
   pub consumed : a.consumed.keys ≡ consumed a.entries.items

@@ -12,6 +12,7 @@ rank_of (Gate k) = 1
 rank_of Output = 2
 rank_of Spill = 3
 
+-- a line of this kind, with the wires that it consumes and those that it defines
 abbrev pub entry : Kind → List (List ℕ) → List (List ℕ) → Entry
 entry kind ins outs = record { kind = kind; ins = ins; outs = outs }
 

@@ -1,16 +1,18 @@
 -- The values of wires, gate after gate
-use Rattle.std.specs.Prelude.{◌≡◌, ℕ, ◌+◌, Bool, List, [], ◌∷◌, ◌++◌, map, take, Option, Some, None, option_and_then, option_map, slice_get}
+use Rattle.std.specs.Prelude.{◌≡◌, ℕ, ◌+◌, Bool, List, [], ◌∷◌, ◌++◌, map, take, Option, Some, None, option_and_then}
+use Rattle.std.specs.Prelude.{option_map, slice_get}
 use Rattle.circuit.specs.declared.netlist.ValuesFault.{ValuesFault}
 use Rattle.circuit.specs.declared.netlist.ValuesFault.TheVariants.{OutOfDomain, Memory}
 use Rattle.circuit.specs.Gates.{row}
 use Rattle.circuit.specs.Meaning.{Gate}
 use Rattle.circuit.specs.Bridge.{read}
 
+-- the values of all wires after these gates, or none if a gate has no row
 unfoldable pub evaluate : List Bool → List Gate → Option (List Bool)
 evaluate vs [] = Some vs
 evaluate vs (g ∷ gs) = option_and_then (λ r. evaluate (vs ++ r) gs) (row g.kind (map (read vs) g.ins))
 
--- the number of a gate, where this one has these outputs or no row
+-- the number of a gate, if this one has these outputs or no row
 abbrev pub undefined_or : (List Bool → Option ℕ) → Option (List Bool) → Option ℕ
 undefined_or later None = Some 0
 undefined_or later (Some r) = option_map (λ k. k + 1) (later r)
@@ -27,6 +29,7 @@ pub record EvaluatesUpTo (given : List Bool) (gs : List Gate) (k : ℕ) (vs : Li
   pub before : evaluate given (take k gs) ≡ Some vs
   pub none : row gate.kind (map (read vs) gate.ins) ≡ None
 
+-- the reason why gates have no values: the first gate without a row, or out of memory
 abbrev pub IsEvaluateFault : List Bool → List Gate → ValuesFault → Type 0
 IsEvaluateFault given gs (OutOfDomain k vs) = EvaluatesUpTo given gs k vs.items
 IsEvaluateFault given gs Memory = Unit {0}

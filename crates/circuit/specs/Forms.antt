@@ -1,10 +1,12 @@
 -- The line forms of the circuit section.
-use Rattle.std.specs.Prelude.{ℕ, ◌+◌, Bool, true, false, List, [], ◌∷◌, length, Option, Some, None, codes, ◌==◌, if◌then◌else◌}
+use Rattle.std.specs.Prelude.{ℕ, ◌+◌, Bool, true, false, List, [], ◌∷◌, length, Option, Some, None, codes, ◌==◌}
+use Rattle.std.specs.Prelude.{if◌then◌else◌}
 use Rattle.section_text.specs.Words.{◌>>=◌, is_word_at, names_at, number_at, lone, lone_name}
 use Rattle.section_text.specs.declared.section.Form.{Form}
 use Rattle.section_text.specs.declared.section.Form.TheVariants.{Header, Item, End}
 use Rattle.circuit.specs.declared.entry.GateKind.{GateKind}
-use Rattle.circuit.specs.declared.entry.GateKind.TheVariants.{Source, Fredkin, Cswap, Interact, Switch, Delay, Unswitch, Uninteract}
+use Rattle.circuit.specs.declared.entry.GateKind.TheVariants.{Source, Fredkin, Cswap, Interact, Switch, Delay, Unswitch}
+use Rattle.circuit.specs.declared.entry.GateKind.TheVariants.{Uninteract}
 use Rattle.circuit.specs.declared.entry.Kind.TheVariants.{Input, Gate, Output, Spill}
 use Rattle.circuit.specs.declared.entry.Entry.{Entry}
 use Rattle.circuit.specs.Entries.{entry}
@@ -12,7 +14,8 @@ use Rattle.circuit.specs.Gates.{rule_of, uses, defines}
 
 -- a word that is a bit
 unfoldable pub bit_at : List (List ℕ) → ℕ → Option Bool
-bit_at ws i = if is_word_at ws i (codes "0") then Some false else (if is_word_at ws i (codes "1") then Some true else None)
+bit_at ws i = if is_word_at ws i (codes "0") then Some false else
+    (if is_word_at ws i (codes "1") then Some true else None)
 
 -- the kind that a gate's line begins with
 unfoldable pub gate_kind : List (List ℕ) → Option GateKind
@@ -27,7 +30,7 @@ gate_kind ws =
     else if is_word_at ws 0 (codes "uninteract") then Some Uninteract
     else None
 
--- how many words stand before the names
+-- how many words are before the names
 abbrev pub words_before : GateKind → ℕ
 words_before (Source b) = 2
 words_before Fredkin = 1
@@ -38,6 +41,7 @@ words_before (Delay n) = 2
 words_before Unswitch = 1
 words_before Uninteract = 1
 
+-- the gate line of this kind by its words
 unfoldable pub gate_names : List (List ℕ) → GateKind → Option Entry
 gate_names ws kind = do
   ins ← names_at ws (words_before kind) (uses (rule_of kind))
@@ -48,11 +52,15 @@ gate_names ws kind = do
 unfoldable pub gate_entry : List (List ℕ) → Option Entry
 gate_entry ws = do
   kind ← gate_kind ws
-  if length ws == words_before kind + uses (rule_of kind) + 1 + defines (rule_of kind) then (if is_word_at ws (words_before kind + uses (rule_of kind)) (codes "->") then gate_names ws kind else None) else None
+  if length ws == words_before kind + uses (rule_of kind) + 1 + defines (rule_of kind) then
+      (if is_word_at ws (words_before kind + uses (rule_of kind)) (codes "->") then gate_names ws kind else None) else
+      None
 
+-- a line of the circuit section: its header has no content
 abbrev pub Line : Type 0
 Line = Form (Unit {0}) Entry
 
+-- the form of a line by its words, if it has one
 unfoldable pub form_of : List (List ℕ) → Option Line
 form_of ws =
     if is_word_at ws 0 (codes "circuit") then lone ws (Header tt)

@@ -7,10 +7,12 @@ use Rattle.section_text.specs.Codes.{or_else, something_missing}
 use Rattle.circuit.specs.Forms.{form_of}
 use Rattle.circuit.specs.Rules.{order_fault, add_fault, unused, consumed}
 
+-- the code of a wire that no line consumes, if there is one
 abbrev pub missing_code : Option (List ℕ) → Option ℕ
 missing_code None = None
 missing_code (Some n) = Some something_missing
 
+-- the grammar of the circuit section
 abbrev pub circuit_grammar : Grammar (Unit {0}) Entry
 circuit_grammar = record {
   form = form_of;

@@ -9,35 +9,46 @@ use Rattle.circuit.specs.declared.entry.Entry.{Entry}
 use Rattle.circuit.specs.Grammars.{circuit_grammar}
 use Rattle.circuit.specs.Text.{circuit_text}
 use Rattle.circuit.specs.Meaning.{Netlist, Valuation, Satisfies, AreOrdered, AreForward, IsUndefined, wires, wire_of}
-use Rattle.circuit.specs.Bridge.{AreGood, AreValues, StopsAt, input_count, input_names, gates_of, netlist_of, circuit_of}
+use Rattle.circuit.specs.Bridge.{AreGood, AreValues, StopsAt, input_count, input_names, gates_of, netlist_of}
+use Rattle.circuit.specs.Bridge.{circuit_of}
 
 -- the text of a circuit that is read is the text of the lines that it is read from
 abbrev pub PrintsWhatIsRead : Type 0
-PrintsWhatIsRead = (n : ℕ) (ls : List (List ℕ)) (entries : List Entry) → section_of circuit_grammar n ls ≡ Ok (tt, entries) → flat_map ended_line (take (length entries + 2) ls) ≡ circuit_text entries
+PrintsWhatIsRead = (n : ℕ) (ls : List (List ℕ)) (entries : List Entry) →
+    section_of circuit_grammar n ls ≡ Ok (tt, entries) →
+    flat_map ended_line (take (length entries + 2) ls) ≡ circuit_text entries
 
--- and is read as the same circuit again, wherever it stands
+-- and it is read as the same circuit again, wherever it is
 abbrev pub ReadsWhatIsPrinted : Type 0
-ReadsWhatIsPrinted = (text : List ℕ) (from n m : ℕ) (entries : List Entry) → section_of circuit_grammar n (drop from (lines_of text)) ≡ Ok (tt, entries) → section_of circuit_grammar m (lines_of (circuit_text entries)) ≡ Ok (tt, entries)
+ReadsWhatIsPrinted = (text : List ℕ) (from n m : ℕ) (entries : List Entry) →
+    section_of circuit_grammar n (drop from (lines_of text)) ≡ Ok (tt, entries) →
+    section_of circuit_grammar m (lines_of (circuit_text entries)) ≡ Ok (tt, entries)
 
 -- the gates of a good list of lines are ordered
 abbrev pub GatesAreOrdered : Type 0
-GatesAreOrdered = (entries : List Entry) → AreGood entries → AreOrdered (input_count entries) (gates_of (defined entries) entries)
+GatesAreOrdered = (entries : List Entry) → AreGood entries →
+    AreOrdered (input_count entries) (gates_of (defined entries) entries)
 
--- ordered gates have a valuation where none of them is undefined
+-- ordered gates have a valuation if none of them is undefined
 abbrev pub HasValuation : Type 0
-HasValuation = (n : Netlist) (a : Valuation) → AreOrdered n.given n.gates → ((k : ℕ) → ¬ IsUndefined n a k) → (v : Valuation) × Satisfies n a v
+HasValuation = (n : Netlist) (a : Valuation) → AreOrdered n.given n.gates → ((k : ℕ) → ¬ IsUndefined n a k) →
+    (v : Valuation) × Satisfies n a v
 
 -- and only there
 abbrev pub UndefinedHasNoValuation : Type 0
-UndefinedHasNoValuation = (n : Netlist) (a v : Valuation) (k : ℕ) → AreOrdered n.given n.gates → IsUndefined n a k → ¬ Satisfies n a v
+UndefinedHasNoValuation = (n : Netlist) (a v : Valuation) (k : ℕ) → AreOrdered n.given n.gates → IsUndefined n a k →
+    ¬ Satisfies n a v
 
 -- only an inverse gate is undefined
 abbrev pub OnlyInverseGatesAreUndefined : Type 0
-OnlyInverseGatesAreUndefined = (n : Netlist) (a : Valuation) (k : ℕ) → AreOrdered n.given n.gates → (u : IsUndefined n a k) → IsTrue (is_inverse u.gate.kind)
+OnlyInverseGatesAreUndefined =
+    (n : Netlist) (a : Valuation) (k : ℕ) → AreOrdered n.given n.gates → (u : IsUndefined n a k) →
+    IsTrue (is_inverse u.gate.kind)
 
 -- at most one gate is
 abbrev pub UndefinedIsOne : Type 0
-UndefinedIsOne = (n : Netlist) (a : Valuation) (k m : ℕ) → AreOrdered n.given n.gates → IsUndefined n a k → IsUndefined n a m → k ≡ m
+UndefinedIsOne = (n : Netlist) (a : Valuation) (k m : ℕ) → AreOrdered n.given n.gates → IsUndefined n a k →
+    IsUndefined n a m → k ≡ m
 
 -- a gate at which the values stop is undefined
 abbrev pub StoppedIsUndefined : Type 0
@@ -45,20 +56,24 @@ StoppedIsUndefined = (n : Netlist) (a : Valuation) (k : ℕ) (vs : List Bool) �
 
 -- ordered gates have at most one, with inverse gates too
 abbrev pub HasAtMostOneValuation : Type 0
-HasAtMostOneValuation = (n : Netlist) (a u v : Valuation) → AreOrdered n.given n.gates → Satisfies n a u → Satisfies n a v → (w : ℕ) → w < wires n → u w ≡ v w
+HasAtMostOneValuation = (n : Netlist) (a u v : Valuation) → AreOrdered n.given n.gates → Satisfies n a u →
+    Satisfies n a v → (w : ℕ) → w < wires n → u w ≡ v w
 
 -- a circuit of good lines without inverse gates has one valuation, whatever its inputs are
 abbrev pub HasOneValuation : Type 0
 HasOneValuation = (entries : List Entry) (a : Valuation) → AreGood entries → AreForward (netlist_of entries).gates →
-    (v : Valuation) × Satisfies (netlist_of entries) a v × ((u : Valuation) → Satisfies (netlist_of entries) a u → (w : ℕ) → w < wires (netlist_of entries) → u w ≡ v w)
+    (v : Valuation) × Satisfies (netlist_of entries) a v
+    × ((u : Valuation) → Satisfies (netlist_of entries) a u → (w : ℕ) → w < wires (netlist_of entries) → u w ≡ v w)
 
 -- what lists the values lists them of every valuation that satisfies the netlist
 abbrev pub ListsValues : Type 0
-ListsValues = (n : Netlist) (a v : Valuation) (vs : List Bool) → AreValues n a vs → Satisfies n a v → map v (range_with_len 0 (wires n)) ≡ vs
+ListsValues = (n : Netlist) (a v : Valuation) (vs : List Bool) → AreValues n a vs → Satisfies n a v →
+    map v (range_with_len 0 (wires n)) ≡ vs
 
 -- the wires of a circuit have names of their own: the wire of the name of a wire is that wire
 abbrev pub NamesAreOwn : Type 0
-NamesAreOwn = (entries : List Entry) (w : ℕ) (name : List ℕ) → AreGood entries → slice_get (defined entries) w ≡ Some name → wire_of (circuit_of entries) name ≡ Some w
+NamesAreOwn = (entries : List Entry) (w : ℕ) (name : List ℕ) → AreGood entries →
+    slice_get (defined entries) w ≡ Some name → wire_of (circuit_of entries) name ≡ Some w
 
 -- each wire has a name
 abbrev pub WiresAreNamed : Type 0
@@ -66,7 +81,8 @@ WiresAreNamed = (entries : List Entry) → AreGood entries → length (defined e
 
 -- the inputs are the first wires
 abbrev pub InputsAreFirst : Type 0
-InputsAreFirst = (entries : List Entry) → AreGood entries → take (input_count entries) (defined entries) ≡ input_names entries
+InputsAreFirst = (entries : List Entry) → AreGood entries →
+    take (input_count entries) (defined entries) ≡ input_names entries
 
 -- how many of the bits are true
 abbrev pub ones : List Bool → ℕ
@@ -74,13 +90,15 @@ ones bits = count_by (λ b. b) bits
 
 -- conservative logic: every gate but a source keeps the number of ones
 abbrev pub GatesKeepOnes : Type 0
-GatesKeepOnes = (rule : Rule) (ins outs : List Bool) → ((b : Bool) → rule ≡ Source b → ⊥) → row rule ins ≡ Some outs → ones outs ≡ ones ins
+GatesKeepOnes = (rule : Rule) (ins outs : List Bool) → ((b : Bool) → rule ≡ Source b → ⊥) → row rule ins ≡ Some outs →
+    ones outs ≡ ones ins
 
 -- one gate turns back what another does, and has no row but for that
 pub record Undoes (gate inverse : Rule) : Type 0 where
   pub undone : (ins outs : List Bool) → row gate ins ≡ Some outs → row inverse outs ≡ Some ins
   pub only : (ins outs : List Bool) → row inverse ins ≡ Some outs → row gate outs ≡ Some ins
 
+-- `unswitch` undoes `switch`, and `uninteract` undoes `interact`
 pub record InverseGatesUndo : Type 0 where
   pub switch : Undoes Switch Unswitch
   pub interact : Undoes Interact Uninteract

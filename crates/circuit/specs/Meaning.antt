@@ -1,5 +1,6 @@
--- Circuits of conservative logic (Fredkin and Toffoli 1982) by the numbers of their wires, and what they mean.
-use Rattle.std.specs.Prelude.{◌≡◌, ℕ, ◌+◌, ◌<◌, Bool, false, if◌then◌else◌, List, [], ◌∷◌, map, take, length, Option, Some, None, ⊤, slice_get}
+-- Circuits of conservative logic (Fredkin and Toffoli 1982) by the numbers of their wires, and their meaning.
+use Rattle.std.specs.Prelude.{◌≡◌, ℕ, ◌+◌, ◌<◌, Bool, false, if◌then◌else◌, List, [], ◌∷◌, map, take, length, Option}
+use Rattle.std.specs.Prelude.{Some, None, ⊤, slice_get}
 use Rattle.std.specs.List.{All, range_with_len}
 use Rattle.std.specs.Str.{bytes_eq}
 use Rattle.section_text.specs.Words.{has}
@@ -21,12 +22,12 @@ pub record Circuit : Type 0 where
   pub netlist : Netlist
   pub names : List (List ℕ)
 
--- how many names stand before a name
+-- how many names are before a name
 unfoldable pub number : List (List ℕ) → List ℕ → ℕ
 number [] n = 0
 number (m ∷ ms) n = if bytes_eq n m then 0 else (number ms n + 1)
 
--- the same, where the name is one of them
+-- the same, if the name is one of them
 unfoldable pub place_of : List ℕ → List (List ℕ) → Option ℕ
 place_of n names = if has names n then Some (number names n) else None
 
@@ -38,6 +39,7 @@ wire_of c n = place_of n c.names
 abbrev pub Valuation : Type 0
 Valuation = ℕ → Bool
 
+-- the gate has a row at the values of its inputs, and its outputs have the values of that row
 abbrev pub HasRow : Valuation → Gate → Type 0
 HasRow v g = row g.kind (map v g.ins) ≡ Some (map v g.outs)
 
@@ -45,7 +47,7 @@ HasRow v g = row g.kind (map v g.ins) ≡ Some (map v g.outs)
 abbrev pub RowsBelow : ℕ → List Gate → Valuation → Type 0
 RowsBelow n gates v = (k : ℕ) (g : Gate) → k < n → slice_get gates k ≡ Some g → HasRow v g
 
--- v satisfies the gates where the given wires have the values a
+-- v satisfies the gates if the given wires have the values a
 pub record Satisfies (n : Netlist) (a v : Valuation) : Type 0 where
   pub given : (i : ℕ) → i < n.given → v i ≡ a i
   pub rows : All (HasRow v) n.gates
@@ -55,6 +57,7 @@ abbrev pub wire_value : Option ℕ → Valuation → Bool
 wire_value None v = false
 wire_value (Some w) v = v w
 
+-- the values of wires by their names, and a name without a wire is false
 abbrev pub values_by_name : Circuit → Valuation → List ℕ → Bool
 values_by_name c v n = wire_value (wire_of c n) v
 
@@ -62,14 +65,15 @@ values_by_name c v n = wire_value (wire_of c n) v
 unfoldable pub AreOrdered : ℕ → List Gate → Type 0
 AreOrdered n [] = ⊤
 AreOrdered n (g ∷ gs) =
-    All (λ w. w < n) g.ins × (length g.ins ≡ uses g.kind) × (g.outs ≡ range_with_len n (defines g.kind)) × AreOrdered (n + defines g.kind) gs
+    All (λ w. w < n) g.ins × (length g.ins ≡ uses g.kind) × (g.outs ≡ range_with_len n (defines g.kind))
+    × AreOrdered (n + defines g.kind) gs
 
 -- none of the gates is an inverse gate
 abbrev pub AreForward : List Gate → Type 0
 AreForward gates = All (λ g. is_inverse g.kind ≡ false) gates
 
--- Where the given wires have the values a, gate k has no row, and it is the first: the gates before it have theirs under some
--- values of the wires, and it has none there.
+-- Gate k has no row if the given wires have the values a, and it is the first: the gates before it have theirs under
+-- some values of the wires, and it has none there.
 pub record IsUndefined (n : Netlist) (a : Valuation) (k : ℕ) : Type 0 where
   pub gate : Gate
   pub numbered : slice_get n.gates k ≡ Some gate
@@ -87,5 +91,6 @@ unfoldable pub wires_after : ℕ → List Gate → ℕ
 wires_after n [] = n
 wires_after n (g ∷ gs) = wires_after (n + defines g.kind) gs
 
+-- how many wires there are
 abbrev pub wires : Netlist → ℕ
 wires n = wires_after n.given n.gates

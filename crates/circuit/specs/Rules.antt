@@ -1,44 +1,52 @@
--- Which line is good after which lines. What was defined and consumed is read from the lines themselves.
-use Rattle.std.specs.Prelude.{ℕ, ◌+◌, Bool, true, false, ◌&&◌, ◌||◌, List, [], ◌∷◌, ◌++◌, length, Option, Some, None, nat_lt, nat_le, ◌==◌, if◌then◌else◌}
+-- The rules on which line is good after which lines. They read from the lines themselves what is defined and consumed.
+use Rattle.std.specs.Prelude.{ℕ, ◌+◌, Bool, true, false, ◌&&◌, ◌||◌, List, [], ◌∷◌, ◌++◌, length, Option, Some, None}
+use Rattle.std.specs.Prelude.{nat_lt, nat_le, ◌==◌, if◌then◌else◌}
 use Rattle.std.specs.List.{flat_map, count_by}
-use Rattle.circuit.specs.declared.entry.GateKind.TheVariants.{Source, Fredkin, Cswap, Interact, Switch, Delay, Unswitch, Uninteract}
+use Rattle.circuit.specs.declared.entry.GateKind.TheVariants.{Source, Fredkin, Cswap, Interact, Switch, Delay, Unswitch}
+use Rattle.circuit.specs.declared.entry.GateKind.TheVariants.{Uninteract}
 use Rattle.circuit.specs.declared.entry.Kind.{Kind}
 use Rattle.circuit.specs.declared.entry.Kind.TheVariants.{Input, Gate, Output, Spill}
 use Rattle.circuit.specs.declared.entry.Entry.{Entry}
 use Rattle.section_text.specs.Words.{has}
-use Rattle.section_text.specs.Codes.{code_where, consumed_twice, defined_twice, or_else, out_of_order, past_limit, unknown_name}
+use Rattle.section_text.specs.Codes.{code_where, consumed_twice, defined_twice, or_else, out_of_order, past_limit}
+use Rattle.section_text.specs.Codes.{unknown_name}
 use Rattle.circuit.specs.Entries.{defined, rank_of}
 
 -- the wires that lines consume, in order
 abbrev pub consumed : List Entry → List (List ℕ)
 consumed entries = flat_map (λ r. r.ins) entries
 
+-- whether the line is a gate
 abbrev pub is_gate : Kind → Bool
 is_gate Input = false
 is_gate (Gate k) = true
 is_gate Output = false
 is_gate Spill = false
 
+-- how many gates there are, sources among them
 abbrev pub gate_count : List Entry → ℕ
 gate_count entries = count_by (λ r. is_gate r.kind) entries
 
 -- ---- codes 3, 4 and 5, from left to right; a line's own names count as they are passed
 
--- the names are consumed one after the other, where d was defined and c was consumed
+-- the names are consumed one after the other, with d defined and c consumed before
 abbrev pub consume : List (List ℕ) → List (List ℕ) → List (List ℕ) → Option ℕ
 consume d c [] = None
-consume d c (n ∷ ns) = if has d n then (if has c n then Some consumed_twice else consume d (c ++ n ∷ []) ns) else Some unknown_name
+consume d c (n ∷ ns) = if has d n then
+    (if has c n then Some consumed_twice else consume d (c ++ n ∷ []) ns) else Some unknown_name
 
--- the names are defined one after the other, where d was defined
+-- the names are defined one after the other, with d defined before
 abbrev pub define : List (List ℕ) → List (List ℕ) → Option ℕ
 define d [] = None
 define d (n ∷ ns) = if has d n then Some defined_twice else define (d ++ n ∷ []) ns
 
+-- the code of the first wire that the line may not consume, else of the first that it may not define
 abbrev pub name_fault : List Entry → Entry → Option ℕ
 name_fault entries r = or_else (consume (defined entries) (consumed entries) r.ins) (define (defined entries) r.outs)
 
 -- ---- code 2
 
+-- whether the line is a delay of no steps or of more than 4096
 abbrev pub is_wrong_delay : Kind → Bool
 is_wrong_delay Input = false
 is_wrong_delay (Gate (Source b)) = false
@@ -52,9 +60,12 @@ is_wrong_delay (Gate Uninteract) = false
 is_wrong_delay Output = false
 is_wrong_delay Spill = false
 
+-- whether a delay, the count of wires or the count of gates is outside its limits
 abbrev pub passes_limit : List Entry → Entry → Bool
-passes_limit entries r = is_wrong_delay r.kind || (nat_lt 4096 (length (defined entries) + length r.outs) || (is_gate r.kind && nat_le 1024 (gate_count entries)))
+passes_limit entries r = is_wrong_delay r.kind
+    || (nat_lt 4096 (length (defined entries) + length r.outs) || (is_gate r.kind && nat_le 1024 (gate_count entries)))
 
+-- the code of a line outside the limits
 abbrev pub limit_fault : List Entry → Entry → Option ℕ
 limit_fault entries r = code_where (passes_limit entries r) past_limit
 
@@ -70,6 +81,7 @@ last_rank [] = 0
 last_rank (r ∷ []) = rank_of r.kind
 last_rank (r ∷ s ∷ entries) = last_rank (s ∷ entries)
 
+-- the code of a line of an earlier kind than the last one
 abbrev pub order_fault : List Entry → Entry → Option ℕ
 order_fault entries r = code_where (nat_lt (rank_of r.kind) (last_rank entries)) out_of_order
 

@@ -3,7 +3,8 @@ use Rattle.std.specs.Prelude.{ℕ, Bool, true, false, List, [], ◌∷◌, ◌++
 use Rattle.std.specs.List.{flat_map}
 use Rattle.std.specs.Fmt.{decimal}
 use Rattle.circuit.specs.declared.entry.GateKind.{GateKind}
-use Rattle.circuit.specs.declared.entry.GateKind.TheVariants.{Source, Fredkin, Cswap, Interact, Switch, Delay, Unswitch, Uninteract}
+use Rattle.circuit.specs.declared.entry.GateKind.TheVariants.{Source, Fredkin, Cswap, Interact, Switch, Delay, Unswitch}
+use Rattle.circuit.specs.declared.entry.GateKind.TheVariants.{Uninteract}
 use Rattle.circuit.specs.declared.entry.Kind.{Kind}
 use Rattle.circuit.specs.declared.entry.Kind.TheVariants.{Input, Gate, Output, Spill}
 use Rattle.circuit.specs.declared.entry.Entry.{Entry}
@@ -11,6 +12,7 @@ use Rattle.section_text.specs.declared.section.Form.TheVariants.{Header, Item, E
 use Rattle.section_text.specs.Spelling.{line_text}
 use Rattle.circuit.specs.Forms.{Line}
 
+-- the word for a bit
 abbrev pub bit_word : Bool → List ℕ
 bit_word true = codes "1"
 bit_word false = codes "0"
@@ -26,7 +28,7 @@ gate_word (Delay n) = codes "delay"
 gate_word Unswitch = codes "unswitch"
 gate_word Uninteract = codes "uninteract"
 
--- what stands between the keyword of a gate and its names
+-- the words between the keyword of a gate and its names
 abbrev pub gate_number : GateKind → List (List ℕ)
 gate_number (Source b) = bit_word b ∷ []
 gate_number Fredkin = []
@@ -44,18 +46,22 @@ first_word (Gate k) = gate_word k
 first_word Output = codes "output"
 first_word Spill = codes "spill"
 
+-- the words of a line behind the first, by its kind
 abbrev pub words_by : List (List ℕ) → List (List ℕ) → Kind → List (List ℕ)
 words_by ins outs Input = outs
 words_by ins outs (Gate k) = gate_number k ++ (ins ++ codes "->" ∷ outs)
 words_by ins outs Output = ins
 words_by ins outs Spill = ins
 
+-- the words of a line behind the first
 unfoldable pub more_words : Entry → List (List ℕ)
 more_words r = words_by r.ins r.outs r.kind
 
+-- the line of an entry
 unfoldable pub entry_text : Entry → List ℕ
 entry_text r = line_text (first_word r.kind) (more_words r)
 
+-- the text of a circuit, from its header line to its `end` line
 unfoldable pub circuit_text : List Entry → List ℕ
 circuit_text entries = line_text (codes "circuit") [] ++ flat_map entry_text entries ++ line_text (codes "end") []
 

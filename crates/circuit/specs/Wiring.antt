@@ -10,11 +10,18 @@ use Rattle.circuit.specs.Meaning.{Gate}
 
 -- the gate that is kept
 abbrev pub gate_of : GateWires → Gate
-gate_of g = record { kind = rule_of g.kind; ins = take (uses (rule_of g.kind)) g.ins; outs = take (defines (rule_of g.kind)) g.outs }
+gate_of g =
+    record {
+      kind = rule_of g.kind;
+      ins = take (uses (rule_of g.kind)) g.ins;
+      outs = take (defines (rule_of g.kind)) g.outs;
+    }
 
 -- the gate of a line of this kind, if it is a gate's line
 abbrev pub gate_at : Kind → List ℕ → ℕ → List Gate
 gate_at Input ins first = []
-gate_at (GateLine k) ins first = record { kind = rule_of k; ins = take (uses (rule_of k)) ins; outs = range_with_len first (defines (rule_of k)) } ∷ []
+gate_at (GateLine k) ins first =
+    record { kind = rule_of k; ins = take (uses (rule_of k)) ins; outs = range_with_len first (defines (rule_of k)) }
+    ∷ []
 gate_at Output ins first = []
 gate_at Spill ins first = []

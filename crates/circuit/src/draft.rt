@@ -49,7 +49,7 @@ impl Model for Draft {
     ghost invariant = { IsDraft };
 }
 
-/// A draft that is no circuit, and its first wire, in order of definition, that nobody consumes.
+/// A draft that is no circuit, and its first wire, in order of definition, that no line consumes.
 #[derive(Drop)]
 pub struct Unused {
     pub draft: Draft,
@@ -136,14 +136,14 @@ fn keep_line(
 }
 
 impl Draft {
-    /// No lines. Who takes names that another chose, makes it by `seeded`.
+    /// Creates a draft without lines. For names that another person chose, use `seeded`.
     pub fn new(alloc: Global) -> Draft
         ensures { result ≡ [] }
     {
         Draft::seeded(alloc, Seed::of(&[]))
     }
 
-    /// No lines. The names are looked up in tables that hash by the seed, which changes no result.
+    /// Creates a draft without lines whose tables of names hash by the seed. The seed changes no result.
     pub fn seeded(alloc: Global, seed: Seed) -> Draft
         ensures { result ≡ [] }
     {
@@ -194,15 +194,21 @@ impl Draft {
         Ok(())
     }
 
-    /// Whether inputs may still be added: no gate, and no source, was added yet.
+    /// Returns whether inputs may still be added: no gate, and no source, was added yet.
     pub fn takes_inputs(&self) -> bool
         ensures { result ≡ (gate_count self.now == 0) }
     {
         self.gates == 0
     }
 
-    /// Adds an input, which defines a wire, where `takes_inputs()`. The code is 2 where the wire would be the 4097th,
-    /// 4 where the name is defined already. A fault changes nothing.
+    /// Adds an input, which defines a wire, if `takes_inputs()`.
+    ///
+    /// # Errors
+    ///
+    /// An error changes nothing. The code is
+    ///
+    /// - 2 if the wire would be the 4097th,
+    /// - 4 if the name is defined already.
     pub fn add_input(&mut self, name: Name) -> Result<(), LineFault>
         requires { gate_count self.old ≡ 0 }
         ensures ok { OnOk result ((add_fault self.old (entry Input [] (name ∷ [])) ≡ None)
@@ -214,8 +220,14 @@ impl Draft {
         self.add(Entry::input(name))
     }
 
-    /// Adds a source, a gate without inputs whose wire has the value `bit`. The code is 2 where the wire would be the
-    /// 4097th or the gate the 1025th, 4 where the name is defined already. A fault changes nothing.
+    /// Adds a source, a gate without inputs whose wire has the value `bit`.
+    ///
+    /// # Errors
+    ///
+    /// An error changes nothing. The code is
+    ///
+    /// - 2 if the wire would be the 4097th or the gate the 1025th,
+    /// - 4 if the name is defined already.
     pub fn add_source(&mut self, bit: bool, name: Name) -> Result<(), LineFault>
         ensures ok { OnOk result ((add_fault self.old (entry (Gate (Source bit)) [] (name ∷ []))
             ≡ None) × (self.new ≡ self.old ++ entry (Gate (Source bit)) [] (name ∷ []) ∷ [])) }
@@ -226,10 +238,15 @@ impl Draft {
         self.add(Entry::source(bit, name))
     }
 
-    /// Adds a gate, which consumes the wires `ins` and defines the wires `outs`, as many as its kind has. The code is
-    /// that of the first test that fails: 2 where a delay is not 1..4096, or there would be more than 4096 wires or
-    /// 1024 gates; then, from left to right, 3 where a name of `ins` is not defined, 5 where it is consumed already,
-    /// and 4 where a name of `outs` is defined already. A fault changes nothing.
+    /// Adds a gate, which consumes the wires `ins` and defines the wires `outs`, as many as its kind has.
+    ///
+    /// # Errors
+    ///
+    /// An error changes nothing. The code is that of the first test that fails:
+    ///
+    /// - 2: a delay is not 1 to 4096, or there would be more than 4096 wires or 1024 gates;
+    /// - then, from left to right, 3: a name of `ins` is not defined, and 5: it is consumed already;
+    /// - 4: a name of `outs` is defined already.
     pub fn add_gate(&mut self, kind: GateKind, ins: &[Name], outs: &[Name]) -> Result<(), LineFault>
         requires ins { length ins.now ≡ uses (rule_of kind) }
         requires outs { length outs.now ≡ defines (rule_of kind) }
@@ -249,8 +266,14 @@ impl Draft {
         })
     }
 
-    /// Adds an output, which consumes a wire. The code is 3 where the name is not defined, 5 where the wire is consumed
-    /// already. A fault changes nothing.
+    /// Adds an output, which consumes a wire.
+    ///
+    /// # Errors
+    ///
+    /// An error changes nothing. The code is
+    ///
+    /// - 3 if the name is not defined,
+    /// - 5 if the wire is consumed already.
     pub fn add_output(&mut self, name: Name) -> Result<(), LineFault>
         ensures ok { OnOk result ((add_fault self.old (entry Output (name ∷ []) []) ≡ None)
             × (self.new ≡ self.old ++ entry Output (name ∷ []) [] ∷ [])) }
@@ -261,8 +284,14 @@ impl Draft {
         self.add(Entry::output(name))
     }
 
-    /// Adds a spill, which consumes a wire that is no output. The code is 3 where the name is not defined, 5 where the
-    /// wire is consumed already. A fault changes nothing.
+    /// Adds a spill, which consumes a wire that is no output.
+    ///
+    /// # Errors
+    ///
+    /// An error changes nothing. The code is
+    ///
+    /// - 3 if the name is not defined,
+    /// - 5 if the wire is consumed already.
     pub fn add_spill(&mut self, name: Name) -> Result<(), LineFault>
         ensures ok { OnOk result ((add_fault self.old (entry Spill (name ∷ []) []) ≡ None)
             × (self.new ≡ self.old ++ entry Spill (name ∷ []) [] ∷ [])) }
@@ -280,7 +309,11 @@ impl Draft {
         first_unused(self.wires.as_slice(), &self.consumed)
     }
 
-    /// The circuit of these lines, if each wire is consumed. Takes no memory.
+    /// Makes the circuit of these lines. It takes no memory.
+    ///
+    /// # Errors
+    ///
+    /// The first wire that no line consumes, if there is one, with the draft.
     pub fn finish(self) -> Result<Circuit, Unused>
         ensures ok { IfOk result (λ c. (c ≡ self)
             × (unused (consumed self) (defined self) ≡ None)) }

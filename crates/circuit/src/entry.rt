@@ -7,30 +7,32 @@ ghost use Rattle.circuit.specs.declared.entry.GateKind.TheVariants.{Source};
 
 use section_text::{Name, Names};
 
-/// The kinds of gate (Fredkin and Toffoli 1982), with the order of their wires. A source has no input, and all others
-/// keep the number of ones. The last two are inverse gates: they have no row at some inputs.
+/// The kind of a gate (Fredkin and Toffoli 1982), with the order of its wires.
+///
+/// A source has no input, and all others keep the number of ones. The last two are inverse gates: they have no row at
+/// some inputs.
 #[derive(Clone, Copy, Debug, PartialEq, Eq)]
 pub enum GateKind {
     /// One wire, which has this value.
     Source(bool),
-    /// `c x y -> d u v`: d is c; where c is true u is x and v is y, else u is y and v is x.
+    /// `c x y -> d u v`: d is c; if c is true u is x and v is y, else u is y and v is x.
     Fredkin,
-    /// `c x y -> d u v`: d is c; where c is true u is y and v is x, else u is x and v is y.
+    /// `c x y -> d u v`: d is c; if c is true u is y and v is x, else u is x and v is y.
     Cswap,
     /// `p q -> a b c d`: a and d are p and q; b is q without p; c is p without q.
     Interact,
-    /// `c x -> d y z`: d is c; y is x where c is true, z is x where it is false; the other one is false.
+    /// `c x -> d y z`: d is c; y is x if c is true, z is x if it is false; the other one is false.
     Switch,
     /// `a -> b`: b is a. The number, 1..4096, is the delay in steps.
     Delay(u32),
-    /// `c y z -> d x`: turns back `switch`. d is c, and x is y where c is true, z where it is false. There is no row
-    /// where the other one of y and z is true.
+    /// `c y z -> d x`: undoes `switch`. d is c, and x is y if c is true, z if it is false. There is no row if the other
+    /// one of y and z is true.
     Unswitch,
-    /// `a b c d -> p q`: turns back `interact`. There is no row at inputs that `interact` never gives.
+    /// `a b c d -> p q`: undoes `interact`. There is no row at inputs that `interact` never gives.
     Uninteract,
 }
 
-/// The kinds of line.
+/// The kind of a circuit's line.
 #[derive(Clone, Copy, Debug, PartialEq, Eq)]
 pub enum Kind {
     Input,
@@ -48,7 +50,7 @@ pub struct Entry {
 }
 
 impl GateKind {
-    /// How many wires a gate of this kind consumes.
+    /// Returns how many wires a gate of this kind consumes.
     pub fn ins(self) -> usize
         ensures count { result ≡ uses (rule_of self) }
         ensures few { result ≤ 4 }
@@ -65,7 +67,7 @@ impl GateKind {
         }
     }
 
-    /// Whether a gate of this kind has no row at some inputs.
+    /// Returns whether a gate of this kind has no row at some inputs.
     pub fn is_inverse(self) -> bool
         ensures { result ≡ is_inverse (rule_of self) }
     {
@@ -76,7 +78,7 @@ impl GateKind {
         }
     }
 
-    /// How many wires a gate of this kind defines.
+    /// Returns how many wires a gate of this kind defines.
     pub fn outs(self) -> usize
         ensures count { result ≡ defines (rule_of self) }
         ensures few { result ≤ 4 }
@@ -95,7 +97,7 @@ impl GateKind {
 }
 
 impl Kind {
-    /// The place of the kind in the order of a circuit's lines.
+    /// Returns the place of the kind in the order of a circuit's lines.
     pub fn rank(self) -> u8
         ensures rank { result ≡ rank_of self }
     {
@@ -117,7 +119,7 @@ fn one(name: Name) -> Names
 }
 
 impl Entry {
-    /// An input, which defines a wire.
+    /// Creates the line of an input, which defines a wire.
     pub fn input(name: Name) -> Entry
         ensures { result ≡ entry Input [] (name ∷ []) }
     {
@@ -128,7 +130,7 @@ impl Entry {
         }
     }
 
-    /// A source, which defines a wire.
+    /// Creates the line of a source, which defines a wire.
     pub fn source(bit: bool, name: Name) -> Entry
         ensures { result ≡ entry (Gate (Source bit)) [] (name ∷ []) }
     {
@@ -139,7 +141,7 @@ impl Entry {
         }
     }
 
-    /// An output, which consumes a wire.
+    /// Creates the line of an output, which consumes a wire.
     pub fn output(name: Name) -> Entry
         ensures { result ≡ entry Output (name ∷ []) [] }
     {
@@ -150,7 +152,7 @@ impl Entry {
         }
     }
 
-    /// A spill, which consumes a wire.
+    /// Creates the line of a spill, which consumes a wire.
     pub fn spill(name: Name) -> Entry
         ensures { result ≡ entry Spill (name ∷ []) [] }
     {

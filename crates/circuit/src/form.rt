@@ -95,7 +95,7 @@ fn gate_entry_of(feed: &Feed, line: &Line) -> Option<Entry>
     gate_names_of(feed, line, kind)
 }
 
-/// The form of a line, if it has one.
+/// Returns the form of a line, if it has one.
 #[tactic(auto, unfolding(crate::specs::Forms::form_of))]
 pub fn line_form(feed: &Feed, line: &Line) -> Option<Form<(), Entry>>
     requires { IsLine feed.now line.now }

@@ -21,6 +21,7 @@ pub use number::{GateNo, WireNo};
 pub use ports::port_names;
 pub use printing::{print_circuit, print_values};
 pub use reading::read_circuit;
-/// Why a draft does not take a line: the code, 2 to 5, of the first test that the line fails, or want of memory.
+/// The reason why a draft does not take a line: out of memory, or the code, 2 to 5, of the first test that the line
+/// fails.
 pub use section_text::LineFault as CircuitFault;
 pub use wiring::GateWires;

@@ -13,8 +13,10 @@ use section_text::{Name, Seed};
 use std::alloc::{AllocError, Global};
 use std::marker::Model;
 
-/// A circuit of conservative logic (Fredkin and Toffoli 1982): each wire is defined once and consumed once, and a gate
-/// uses wires that were defined before it. It has at most 4096 wires and 1024 gates. Contracts see its lines.
+/// A circuit of conservative logic (Fredkin and Toffoli 1982). Contracts see its lines.
+///
+/// Each wire is defined once and consumed once, and a gate uses wires that were defined before it. It has at most 4096
+/// wires and 1024 gates.
 #[derive(Drop)]
 pub struct Circuit {
     pub(crate) wires: IndexSet<Name, Seed>,
@@ -35,12 +37,12 @@ impl Model for Circuit {
     ghost invariant = { IsCircuit };
 }
 
-/// Why a circuit has no values.
+/// The reason why a circuit has no values.
 #[derive(Debug, Drop, PartialEq, Eq)]
 pub enum ValuesFault {
     /// The gate of this number is the first that has no row. The values are those of the wires defined before it.
     OutOfDomain { gate: usize, before: Vec<bool> },
-    /// Want of memory.
+    /// There is no memory.
     Memory,
 }
 
@@ -89,7 +91,7 @@ impl Circuit {
         self.wires.as_slice()
     }
 
-    /// How many inputs the circuit has. They are its first wires, in the order of their lines.
+    /// Returns how many inputs the circuit has. They are its first wires, in the order of their lines.
     pub fn inputs(&self) -> usize
         ensures count { result ≡ (netlist_of self.now).given }
         ensures first { take result (defined self.now) ≡ input_names self.now }
@@ -98,7 +100,7 @@ impl Circuit {
         count_inputs(self.entries.as_slice())
     }
 
-    /// How many wires the circuit has, at most 4096. They are numbered from 0 in order of definition.
+    /// Returns how many wires the circuit has, at most 4096. They are numbered from 0 in order of definition.
     pub fn wires(&self) -> usize
         ensures count { result ≡ wires (netlist_of self.now) }
         ensures named { result ≡ length (defined self.now) }
@@ -107,7 +109,7 @@ impl Circuit {
         self.wires.len()
     }
 
-    /// The wire of this name, if there is one. Its number is below `wires()`.
+    /// Returns the wire of this name, if there is one. Its number is below `wires()`.
     pub fn wire(&self, name: &Name) -> Option<WireNo>
         ensures wire { result ≡ wire_of (circuit_of self.now) name.now }
         ensures below { IfSome result (λ w. w < wires (netlist_of self.now)) }
@@ -116,7 +118,7 @@ impl Circuit {
         Some(WireNo::of(index as u16))
     }
 
-    /// The name of a wire, for a number below `wires()`.
+    /// Returns the name of a wire, for a number below `wires()`.
     pub fn name(&self, wire: WireNo) -> Name
         requires { wire < length (defined self.now) }
         ensures name { slice_get (defined self.now) wire ≡ Some result }
@@ -125,8 +127,10 @@ impl Circuit {
         self.wires.as_slice()[wire.number() as usize]
     }
 
-    /// How many gates the circuit has, at most 1024, sources among them. They are numbered from 0 in the order of
-    /// their lines. Each of them uses wires that inputs and earlier gates define.
+    /// Returns how many gates the circuit has, at most 1024, sources among them.
+    ///
+    /// They are numbered from 0 in the order of their lines. Each of them uses wires that inputs and earlier gates
+    /// define.
     pub fn gates(&self) -> usize
         ensures count { result ≡ length (netlist_of self.now).gates }
         ensures few { result ≤ 1024 }
@@ -135,7 +139,7 @@ impl Circuit {
         self.wired.len()
     }
 
-    /// A gate, for a number below `gates()`: its kind, and the wires that it uses and defines.
+    /// Returns a gate, for a number below `gates()`: its kind, and the wires that it uses and defines.
     pub fn gate(&self, gate: GateNo) -> GateWires
         requires { gate < length (netlist_of self.now).gates }
         ensures { slice_get (netlist_of self.now).gates gate ≡ Some (gate_of result) }
@@ -143,9 +147,13 @@ impl Circuit {
         self.wired.as_slice()[gate.number() as usize]
     }
 
-    /// Each wire's value, by its number, in the one valuation in which the inputs have these values, one for each
-    /// input. Where there is none, the first gate that has no row, and the values of the wires that are defined before
-    /// it.
+    /// Returns each wire's value, by its number, in the one valuation in which the inputs have these values.
+    ///
+    /// `inputs` has one value for each input.
+    ///
+    /// # Errors
+    ///
+    /// If there is no valuation, the first gate without a row, and the values of the wires that are defined before it.
     pub fn values(&self, alloc: Global, inputs: &[bool]) -> Result<Vec<bool>, ValuesFault>
         requires { length inputs.now ≡ (netlist_of self.now).given }
         ensures values { IfOk result (λ vs. AreValues (netlist_of self.now) (read inputs.now)

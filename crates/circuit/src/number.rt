@@ -3,7 +3,9 @@ ghost use Rattle.std.specs.Prelude.{◌≡◌};
 
 use std::marker::Model;
 
-/// The number of a wire. The wires of a circuit are numbered from 0 in order of definition. Contracts see the number.
+/// The number of a wire. Contracts see the number.
+///
+/// The wires of a circuit are numbered from 0 in order of definition.
 #[derive(Clone, Copy, Debug, PartialEq, Eq)]
 pub struct WireNo {
     number: u16,
@@ -20,14 +22,14 @@ impl Model for WireNo {
 }
 
 impl WireNo {
-    /// The wire of this number.
+    /// Returns the wire of this number.
     pub fn of(number: u16) -> WireNo
         ensures { result ≡ number }
     {
         WireNo { number }
     }
 
-    /// The number.
+    /// Returns the number.
     pub fn number(self) -> u16
         ensures { result ≡ self }
     {
@@ -35,8 +37,9 @@ impl WireNo {
     }
 }
 
-/// The number of a gate. The gates of a circuit, sources among them, are numbered from 0 in the order of their lines.
-/// Contracts see the number.
+/// The number of a gate. Contracts see the number.
+///
+/// The gates of a circuit, sources among them, are numbered from 0 in the order of their lines.
 #[derive(Clone, Copy, Debug, PartialEq, Eq)]
 pub struct GateNo {
     number: u16,
@@ -53,14 +56,14 @@ impl Model for GateNo {
 }
 
 impl GateNo {
-    /// The gate of this number.
+    /// Returns the gate of this number.
     pub fn of(number: u16) -> GateNo
         ensures { result ≡ number }
     {
         GateNo { number }
     }
 
-    /// The number.
+    /// Returns the number.
     pub fn number(self) -> u16
         ensures { result ≡ self }
     {

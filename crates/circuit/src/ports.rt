@@ -37,7 +37,7 @@ fn ports_of(ins: &mut Vec<Name>, outs: &mut Vec<Name>, entries: &[Entry]) -> Res
     Ok(())
 }
 
-/// The names of the inputs and of the outputs, each in the order of their lines. A spill is no output.
+/// Returns the names of the inputs and of the outputs, each in the order of their lines. A spill is no output.
 pub fn port_names(alloc: Global, circuit: &Circuit) -> Result<PortNames, AllocError>
     ensures ports { IfOk result (λ names. named_ports names
         ≡ Some (record { ins = input_names circuit.now; outs = output_names circuit.now })) }

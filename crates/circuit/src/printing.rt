@@ -79,7 +79,7 @@ fn print_entries(out: &mut Vec<u8>, entries: &[Entry]) -> Result<(), AllocError>
     Ok(())
 }
 
-/// The text of the circuit section.
+/// Returns the text of the circuit section.
 #[tactic(auto, unfolding(crate::specs::Text::circuit_text))]
 pub fn print_circuit(alloc: Global, circuit: &Circuit) -> Result<Vec<u8>, AllocError>
     ensures { IfOk result (λ text. text.items ≡ circuit_text circuit.now) }
@@ -113,7 +113,7 @@ fn print_each(out: &mut Vec<u8>, names: &[Name], values: &[bool]) -> Result<(), 
     Ok(())
 }
 
-/// A line `NAME 0` or `NAME 1` for each wire, in order of definition, as far as there are values.
+/// Returns a line `NAME 0` or `NAME 1` for each wire that has a value, in order of definition.
 pub fn print_values(
     alloc: Global,
     circuit: &Circuit,

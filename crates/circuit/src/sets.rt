@@ -42,7 +42,7 @@ fn define_one(wires: &mut IndexSet<Name, Seed>, name: Name) -> Result<(), LineFa
     }
 }
 
-/// Consumes names from left to right. A fault changes nothing.
+/// Consumes names from left to right. An error changes nothing.
 pub fn consume_all(
     wires: &IndexSet<Name, Seed>,
     consumed: &mut IndexSet<Name, Seed>,
@@ -64,7 +64,7 @@ pub fn consume_all(
     Ok(())
 }
 
-/// Defines names from left to right. A fault changes nothing.
+/// Defines names from left to right. An error changes nothing.
 pub fn define_all(wires: &mut IndexSet<Name, Seed>, names: &[Name]) -> Result<(), LineFault>
     ensures ok { OnOk result ((define wires.old.keys names.now ≡ None)
         × (wires.new.keys ≡ wires.old.keys ++ names.now)) }

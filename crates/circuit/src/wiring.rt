@@ -23,7 +23,7 @@ pub struct GateWires {
 }
 
 impl GateWires {
-    /// The kind of the gate.
+    /// Returns the kind of the gate.
     pub fn kind(&self) -> GateKind
         ensures kind { result ≡ self.now.kind }
         ensures rule { rule_of result ≡ (gate_of self.now).kind }
@@ -31,14 +31,14 @@ impl GateWires {
         self.kind
     }
 
-    /// The wires that the gate uses, in the order of its line.
+    /// Returns the wires that the gate uses, in the order of its line.
     pub fn ins(&self) -> &[WireNo]
         ensures { result.now ≡ (gate_of self.now).ins }
     {
         &self.ins[..self.kind.ins()]
     }
 
-    /// The wires that the gate defines, in the order of its line.
+    /// Returns the wires that the gate defines, in the order of its line.
     pub fn outs(&self) -> &[WireNo]
         ensures { result.now ≡ (gate_of self.now).outs }
     {
@@ -56,7 +56,7 @@ fn wire_number(wires: &IndexSet<Name, Seed>, name: Name) -> WireNo
     }
 }
 
-/// The numbers of wires that are named.
+/// Returns the numbers of wires that are named.
 pub(crate) fn wire_numbers(wires: &IndexSet<Name, Seed>, names: &[Name]) -> [WireNo; 4]
     requires few { length names.now ≤ 4 }
     requires fits { length wires.now.keys ≤ 4096 }
@@ -174,8 +174,9 @@ fn push_outs(values: &mut Vec<bool>, gate: GateWires) -> Result<bool, AllocError
     Ok(true)
 }
 
-/// The values of all wires, those that are given first. Where a gate has no row, those of the wires that are defined
-/// before it.
+/// Returns the values of all wires, those that are given first.
+///
+/// If a gate has no row, it returns those of the wires that are defined before it.
 pub(crate) fn values_of(
     alloc: Global,
     given: &[bool],

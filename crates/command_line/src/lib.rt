@@ -1,4 +1,4 @@
-//! What the words of a command line ask for.
+//! The request that the words of a command line make.
 #![tactic(auto)]
 
 mod texts;
@@ -13,7 +13,7 @@ use clap::{Arg, Command, Error, value_parser};
 use std::alloc::{AllocError, Global};
 use texts::Help;
 
-/// A command.
+/// A command of the program.
 #[derive(Clone, Copy, Debug, PartialEq, Eq)]
 pub enum Request {
     /// Checks a bundle: a circuit, a layout and a certificate.
@@ -35,9 +35,13 @@ pub struct Asked {
     pub workers: usize,
 }
 
-/// Reads the words after the program's name, of which the first is the command. `check` may have `--workers` with a
-/// whole number of 1 to 64; without it there is one worker. The error is `clap`'s: it says what is wrong with the
-/// words, or has the text of the help that they ask for.
+/// Reads the words after the program's name, of which the first is the command.
+///
+/// `check` may have `--workers` with a whole number of 1 to 64. Without it there is one worker.
+///
+/// # Errors
+///
+/// The error is `clap`'s. It says what is wrong with the words, or has the text of the help that they ask for.
 pub fn read_words<'a>(alloc: Global, words: &'a [&'a str]) -> Result<Asked, Error>
     ensures request { IfOk result (λ asked. asked.request
         ≡ asked_by (map (λ s. s.now) words.entry.now)) }

@@ -3,7 +3,7 @@
 /// The help of a command.
 #[derive(Clone, Copy)]
 pub struct Help {
-    /// What the command does, for the list of commands.
+    /// The purpose of the command, for the list of commands.
     pub about: &'static str,
     /// The words of a call.
     pub usage: &'static str,
@@ -51,18 +51,21 @@ macro_rules! help {
     };
 }
 
-/// What `--version` prints after the program's name: its number, the sections that it reads by their headers, and the
-/// kit that proved it, as `rt version` says.
+/// The text that `--version` prints after the program's name.
+///
+/// It has the program's number, the sections that it reads by their headers, and the kit that proved it, as `rt
+/// version` prints it.
 pub const VERSION: &str = concat!(
     "1.0.0\n",
     "reads circuit, layout, assign, certificate 1, certificate 2\n",
     "proved by rattle-kit-13f logic dac8208d650f15bf",
 );
 
-/// Says which numbers of workers there are.
+/// The message on numbers of workers that are not accepted.
 pub const WORKERS: &str =
     "'--workers <N>' takes a whole number from 1 to 64, for example '--workers 4'";
 
+/// The help of the program.
 pub const ALL: Help = help!(
     "Checks billiard ball patterns, over standard input and output",
     "bbmcheck <COMMAND> < TEXT",
@@ -88,6 +91,7 @@ pub const ALL: Help = help!(
     "bbmcheck check < bundle.txt"
 );
 
+/// The help of `check`.
 pub const CHECK: Help = help!(
     "Checks a layout against its circuit by a certificate",
     "bbmcheck check [--workers N] < BUNDLE",
@@ -102,6 +106,7 @@ pub const CHECK: Help = help!(
     "bbmcheck check < bundle.txt"
 );
 
+/// The help of `run`.
 pub const RUN: Help = help!(
     "Runs a layout under an assignment",
     "bbmcheck run < LAYOUT_AND_ASSIGN",
@@ -113,6 +118,7 @@ pub const RUN: Help = help!(
     "bbmcheck run < layout_and_assign.txt"
 );
 
+/// The help of `value`.
 pub const VALUE: Help = help!(
     "Evaluates a circuit under an assignment",
     "bbmcheck value < CIRCUIT_AND_ASSIGN",
@@ -127,6 +133,7 @@ pub const VALUE: Help = help!(
     "bbmcheck value < circuit_and_assign.txt"
 );
 
+/// The help of `modules`.
 pub const MODULES: Help = help!(
     "Lists the modules of a certificate",
     "bbmcheck modules < BUNDLE",
@@ -138,6 +145,7 @@ pub const MODULES: Help = help!(
     "bbmcheck modules < bundle.txt"
 );
 
+/// The help of `migrate`.
 pub const MIGRATE: Help = help!(
     "Writes a bundle in certificate version 2",
     "bbmcheck migrate < BUNDLE > BUNDLE_OF_VERSION_2",

@@ -1,4 +1,4 @@
--- What an `Awaited` has inside.
+-- The reader inside an `Awaited`.
 use Rattle.device.specs.declared.awaited.Awaited.{Awaited}
 
 -- the reader that is wrapped

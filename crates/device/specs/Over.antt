@@ -1,4 +1,4 @@
--- What an `Over` has inside.
+-- The reader or writer inside an `Over`.
 use Rattle.std.specs.Prelude.{Bool}
 use Rattle.device.specs.declared.over.Over.{Over}
 

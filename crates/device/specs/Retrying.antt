@@ -1,4 +1,4 @@
--- What a `Retrying` has inside.
+-- The reader or writer inside a `Retrying`.
 use Rattle.device.specs.declared.retrying.Retrying.{Retrying}
 
 -- the reader or writer that is wrapped

@@ -6,8 +6,10 @@ use std::io::{IsTerminal, Read, Write};
 
 const AWAITED: &[u8] = b"bbmcheck: the text is awaited on this terminal, and ends with Ctrl-D\n";
 
-/// A reader, as standard input. If it is a terminal, `errors` is told so before the first read. A read gives what the
-/// reader gives: an error stays an error, and is never the end of the text.
+/// A reader, as standard input, with a message before the first read if it is a terminal.
+///
+/// The message goes to `errors`. A read gives what the reader gives: an error stays an error, and is never the end of
+/// the text.
 #[derive(Drop)]
 pub struct Awaited<R, W> {
     input: R,

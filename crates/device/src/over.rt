@@ -5,7 +5,7 @@ use crate::{Sink, Source};
 use std::io;
 use std::io::{Read, Write};
 
-/// One of std's readers or writers, with the fact whether it has failed.
+/// A reader or writer of std, with the fact whether it has failed.
 #[derive(Drop)]
 pub struct Over<T> {
     inner: T,
@@ -26,7 +26,7 @@ impl<T> Over<T> {
         }
     }
 
-    /// The reader or writer inside.
+    /// Returns the reader or writer inside.
     pub fn get_ref(&self) -> &T
         ensures { result.now ≡ inner_of self.now }
     {

@@ -7,8 +7,10 @@ use std::io::{ErrorKind, Read, Write};
 /// The most calls in a row that are made again after an interruption.
 const MAX_TRIES: u32 = 1_000_000;
 
-/// One of std's readers or writers. A call that a signal interrupted is made again, as `cat` and Python do, so an
-/// interruption is no fault. After a million interruptions in a row the error is returned.
+/// A reader or writer of std that makes a call again if a signal interrupted it.
+///
+/// `cat` and Python do so too: an interruption is no fault. After a million interruptions in a row it returns the
+/// error.
 #[derive(Drop)]
 pub struct Retrying<T> {
     inner: T,

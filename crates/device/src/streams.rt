@@ -1,4 +1,4 @@
-//! What gives the bytes of a text, and what takes those of an answer.
+//! The source of a text's bytes, and the sink of an answer's.
 ghost use Rattle.std.specs.Prelude.{◌≡◌, ◌||◌, ℕ, Bool, List, Option, is_err, false};
 ghost use Rattle.std.specs.Io.{ReadsAtMost, WritesAtMost};
 ghost use Rattle.std.specs.Io.KnownBytes.{ReadConsumes, WriteAppends};
@@ -6,7 +6,7 @@ ghost use Rattle.device.specs.Device.{write_fails};
 
 use std::io;
 
-/// What gives the bytes of a text.
+/// The source of a text's bytes.
 pub trait Source {
     // The bytes that reads will give from here on, where they are known.
     ghost left: { Self → Option (List ℕ) };
@@ -20,12 +20,12 @@ pub trait Source {
         ensures bytes { ReadConsumes (left self.old) (left self.new) result buf.new }
         ensures failure { has_failed self.new ≡ (has_failed self.old || is_err result) };
 
-    /// Whether a read has failed.
+    /// Returns whether a read has failed.
     fn failed(&self) -> bool
         ensures { result ≡ has_failed self.now };
 }
 
-/// What takes the bytes of an answer.
+/// The sink of an answer's bytes.
 pub trait Sink {
     // The bytes that the writer holds, where they are known.
     ghost held: { Self → Option (List ℕ) };
@@ -40,7 +40,7 @@ pub trait Sink {
         ensures failure { has_failed self.new
             ≡ (has_failed self.old || write_fails result piece.now) };
 
-    /// Whether a write has failed.
+    /// Returns whether a write has failed.
     fn failed(&self) -> bool
         ensures { result ≡ has_failed self.now };
 }

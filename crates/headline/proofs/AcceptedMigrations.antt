@@ -1,5 +1,6 @@
--- What is reported with a yes is so too after it is migrated.
-use Rattle.std.proofs.Common.{◌≡◌, ◌≤◌, ◌==◌, ℕ, Bool, true, false, List, [], ◌∷◌, ◌++◌, Result, Ok, refl, sym, ap, subst, ◌∙◌, arith}
+-- A text that is reported with a yes is so too after it is migrated.
+use Rattle.std.proofs.Common.{◌≡◌, ◌≤◌, ◌==◌, ℕ, Bool, true, false, List, [], ◌∷◌, ◌++◌, Result, Ok, refl, sym, ap}
+use Rattle.std.proofs.Common.{subst, ◌∙◌, arith}
 use Rattle.std.proofs.lemmas.Bool.Decides.{nat_tests}
 use Rattle.section_text.specs.declared.fault.Refusal.{Refusal}
 use Rattle.section_text.proofs.Good.{AreFaultless, IsFaultless}
@@ -33,32 +34,38 @@ use Rattle.answers.specs.declared.outcome.Outcome.TheVariants.{Yes}
 use Rattle.answers.proofs.Bundles.{same_setting}
 use Rattle.headline.specs.Migration.{MigrationIsAccepted}
 use Rattle.headline.proofs.FullJobs.{full_jobs}
-use Rattle.headline.proofs.Migrations.{HasSections, IsGoodBundle, IsMigrated, bundle_made, good_read, migrated_sections, says_design, sections_read, unchanged, was_migrated}
+use Rattle.headline.proofs.Migrations.{HasSections, IsGoodBundle, IsMigrated, bundle_made, good_read, migrated_sections}
+use Rattle.headline.proofs.Migrations.{says_design, sections_read, unchanged, was_migrated}
 use Rattle.headline.proofs.YesIsRight.{by_outcome}
 
 -- ---- two words for good lines
 
-as_lines : (g : Setting) (v : ℕ) (es before : List Entry) → AreFaultless (certificate_grammar g) v before es → AreFaultlessLines g v before es
+as_lines : (g : Setting) (v : ℕ) (es before : List Entry) → AreFaultless (certificate_grammar g) v before es →
+    AreFaultlessLines g v before es
 as_lines g v [] before h = tt
 as_lines g v (i ∷ es) before h = (h.0, as_lines g v es (before ++ i ∷ []) h.1)
 
-from_lines : (g : Setting) (v : ℕ) (es before : List Entry) → AreFaultlessLines g v before es → AreFaultless (certificate_grammar g) v before es
+from_lines : (g : Setting) (v : ℕ) (es before : List Entry) → AreFaultlessLines g v before es →
+    AreFaultless (certificate_grammar g) v before es
 from_lines g v [] before h = tt
 from_lines g v (i ∷ es) before h = (h.0, from_lines g v es (before ++ i ∷ []) h.1)
 
 -- ---- the certificate of a report
 
 -- a bundle by its sizes and parts has the setting of its layout
-own_setting : (b : Bundle) (circuit : List CircuitLine) (p : Pattern) → circuit ≡ b.circuit → layout_value p ≡ (b.size, b.parts) → setting_of b.circuit (layout_of b.size b.parts) ≡ setting_of circuit p
+own_setting : (b : Bundle) (circuit : List CircuitLine) (p : Pattern) → circuit ≡ b.circuit →
+    layout_value p ≡ (b.size, b.parts) → setting_of b.circuit (layout_of b.size b.parts) ≡ setting_of circuit p
 own_setting b circuit p lines same =
-    ap (λ (q : Extent × List Part). setting_of b.circuit (layout_of q.0 q.1)) (sym same) ∙ same_setting b.circuit p ∙ ap (λ cs. setting_of cs p) (sym lines)
+    ap (λ (q : Extent × List Part). setting_of b.circuit (layout_of q.0 q.1)) (sym same) ∙ same_setting b.circuit p
+    ∙ ap (λ cs. setting_of cs p) (sym lines)
 
 -- what is reported of the migrated text
 record IsReportedYes (output : List ℕ) : Type 0 where
   pub report : List ℕ
   pub reported : IsReportOf output report Yes
 
-module _ (text report output : List ℕ) (b : Bundle) (read : bundle_of text ≡ Ok b) (says : SaysReport b report Yes) (is : says.verdict ≡ verdict.Yes) (one : b.version ≡ 1) (written : output ≡ migrate_of b) where
+module _ (text report output : List ℕ) (b : Bundle) (read : bundle_of text ≡ Ok b) (says : SaysReport b report Yes)
+    (is : says.verdict ≡ verdict.Yes) (one : b.version ≡ 1) (written : output ≡ migrate_of b) where
   abbrev c : CertState
   c = says.certificate
 
@@ -96,18 +103,25 @@ module _ (text report output : List ℕ) (b : Bundle) (read : bundle_of text ≡
 
   -- and without halo lines a section of version 2
   faultless_two : IsFaultless (certificate_grammar g) 2 (without_halos c.entries)
-  faultless_two = record { header = accepted.section.header; each = from_lines g 2 (without_halos c.entries) [] accepted.section.lines; end = accepted.section.end }
+  faultless_two = record {
+    header = accepted.section.header;
+    each = from_lines g 2 (without_halos c.entries) [] accepted.section.lines;
+    end = accepted.section.end;
+  }
 
   good_two : IsGoodBundle (in_version_two b)
   good_two = record {
     circuit = good.circuit;
     layout = good.layout;
-    certificate = subst (λ es. IsFaultless (certificate_grammar (setting_of b.circuit (layout_of b.size b.parts))) 2 (without_halos es)) says.its_own.entries
+    certificate = subst (λ es. IsFaultless (certificate_grammar (setting_of b.circuit (layout_of b.size b.parts))) 2
+        (without_halos es)) says.its_own.entries
         (subst (λ h. IsFaultless (certificate_grammar h) 2 (without_halos c.entries)) (sym own) faultless_two);
   }
 
   read_two : bundle_of output ≡ Ok (in_version_two b)
-  read_two = bundle_made output (in_version_two b) (subst (λ t. HasSections t (in_version_two b)) (sym written) (migrated_sections text b (sections_read text b read))) good_two
+  read_two = bundle_made output (in_version_two b)
+      (subst (λ t. HasSections t (in_version_two b)) (sym written)
+      (migrated_sections text b (sections_read text b read))) good_two
 
   complete : lacks_wire g ms ≡ false
   complete = sym (migrated_lacks g c.entries) ∙ read_complete g 2 (without_halos c.entries) faultless_two
@@ -118,12 +132,16 @@ module _ (text report output : List ℕ) (b : Bundle) (read : bundle_of text ≡
   verdict_two : IsVerdictOn (migrated c) verdict.Yes
   unfolding IsVerdict
   verdict_two =
-      let jobs = full_jobs c.circuit c.layout ms (faultless_modules g 1 c.entries faultless) complete says.is_verdict.jobs
-      (subst (λ ns. AreJobsOf (circuit_of c.circuit) c.layout ns says.is_verdict.jobs) same_modules says.is_verdict.are_jobs) in
+      let jobs = full_jobs c.circuit c.layout ms
+      (faultless_modules g 1 c.entries faultless) complete says.is_verdict.jobs
+      (subst (λ ns. AreJobsOf (circuit_of c.circuit) c.layout ns says.is_verdict.jobs) same_modules
+      says.is_verdict.are_jobs) in
       let are : AreJobsOf (circuit_of c.circuit) c.layout (modules_in (migrated c)) jobs.0 =
       subst (λ ns. AreJobsOf (circuit_of c.circuit) c.layout ns jobs.0) (sym (migrated_modules g c.entries)) jobs.1 in
       record {
-        good = meant_modules 2 g (modules_of (without_halos c.entries)) (faultless_modules g 2 (without_halos c.entries) faultless_two) (read_complete g 2 (without_halos c.entries) faultless_two);
+        good = meant_modules 2 g (modules_of (without_halos c.entries))
+            (faultless_modules g 2 (without_halos c.entries) faultless_two)
+            (read_complete g 2 (without_halos c.entries) faultless_two);
         jobs = jobs.0;
         are_jobs = are;
         judged = accepted.accepted jobs.0 are;
@@ -132,7 +150,12 @@ module _ (text report output : List ℕ) (b : Bundle) (read : bundle_of text ≡
   reported : SaysReport (in_version_two b) (report_lines (migrated c) verdict.Yes) Yes
   reported = record {
     certificate = migrated c;
-    its_own = record { circuit = says.its_own.circuit; layout = says.its_own.layout; version = refl; entries = ap without_halos says.its_own.entries };
+    its_own = record {
+      circuit = says.its_own.circuit;
+      layout = says.its_own.layout;
+      version = refl;
+      entries = ap without_halos says.its_own.entries;
+    };
     verdict = verdict.Yes;
     is_verdict = verdict_two;
     says = refl;
@@ -156,7 +179,8 @@ is_two v same = grind (arith, nat_tests)
 same_bundle : (b d : Bundle) → ◌≡◌ {A = Result Bundle Refusal} (Ok b) (Ok d) → b ≡ d
 same_bundle b d e = cc
 
-of_bundle : (text report output : List ℕ) (m : IsMigrated text output) → IsReportOf text report Yes → (b : Bundle) → bundle_of text ≡ Ok b → (says : SaysReport b report Yes) → says.verdict ≡ verdict.Yes → IsReportedYes output
+of_bundle : (text report output : List ℕ) (m : IsMigrated text output) → IsReportOf text report Yes → (b : Bundle) →
+    bundle_of text ≡ Ok b → (says : SaysReport b report Yes) → says.verdict ≡ verdict.Yes → IsReportedYes output
 of_bundle text report output m reports b read says is = by (b.version == 2) refl
   where
     same : m.bundle ≡ b
@@ -164,14 +188,22 @@ of_bundle text report output m reports b read says is = by (b.version == 2) refl
 
     by : (t : Bool) → (b.version == 2) ≡ t → IsReportedYes output
     by true two =
-        let unmoved : output ≡ text = unchanged text output m (ap (λ (d : Bundle). d.version) same ∙ is_two b.version two) in
+        let unmoved : output ≡ text =
+        unchanged text output m (ap (λ (d : Bundle). d.version) same ∙ is_two b.version two) in
         record { report = report; reported = subst (λ t. IsReportOf t report Yes) (sym unmoved) reports }
     by false other =
-        let v = read_version (setting_of b.circuit (layout_of b.size b.parts)) b.version b.entries ((good_read text b read).certificate) in
-        reported_yes text report output b read says is (which_version b.version v.0 v.1 other) (m.says ∙ ap migrate_of same)
+        let v = read_version (setting_of b.circuit (layout_of b.size b.parts)) b.version b.entries
+        ((good_read text b read).certificate) in
+        reported_yes text report output b read says is (which_version b.version v.0 v.1 other)
+        (m.says ∙ ap migrate_of same)
 
 pub migration_is-accepted : MigrationIsAccepted
 migration_is-accepted text report output reports migrates =
     let m = was_migrated text output migrates in
-    let r = by_outcome (IsReportedYes output) text report (of_bundle text report output m reports) (bundle_of text) refl reports in
-    record { report = r.report; reported = r.reported; design = λ circuit layout says. says_design text output circuit layout m says }
+    let r = by_outcome (IsReportedYes output) text report (of_bundle text report output m reports)
+    (bundle_of text) refl reports in
+    record {
+      report = r.report;
+      reported = r.reported;
+      design = λ circuit layout says. says_design text output circuit layout m says;
+    }

@@ -1,5 +1,6 @@
 -- The design that a text says.
-use Rattle.std.proofs.Common.{◌≡◌, ℕ, ◌+◌, List, ◌++◌, length, take, drop, Option, Ok, sym, ap, ap₂, ◌∙◌, take-append-drop}
+use Rattle.std.proofs.Common.{◌≡◌, ℕ, ◌+◌, List, ◌++◌, length, take, drop, Option, Ok, sym, ap, ap₂, ◌∙◌}
+use Rattle.std.proofs.Common.{take-append-drop}
 use Rattle.section_text.specs.Words.{lines_of}
 use Rattle.section_text.specs.Section.{section_of}
 use Rattle.section_text.specs.Ports.{Named}
@@ -33,16 +34,19 @@ design_said text circuit named n layout first second =
       first = take k (lines_of text);
       second = take m later;
       others = drop m later;
-      lines = sym (ap (λ ls. take k (lines_of text) ++ ls) (take-append-drop m later) ∙ take-append-drop k (lines_of text));
+      lines = sym (ap (λ ls. take k (lines_of text) ++ ls) (take-append-drop m later)
+          ∙ take-append-drop k (lines_of text));
       circuit_is = section_said circuit_grammar 0 (lines_of text) tt circuit first;
       layout_is = section_said (layout_grammar named) n later layout.size (layout_value layout).1 second;
     }
 
 -- and the section after them
-pub bundle_said : (text : List ℕ) (circuit : List Entry) (named : Option Named) (n : ℕ) (layout : Pattern) (g : Setting) (m version : ℕ) (lines : List CertificateLine)
+pub bundle_said : (text : List ℕ) (circuit : List Entry) (named : Option Named) (n : ℕ) (layout : Pattern) (g : Setting)
+    (m version : ℕ) (lines : List CertificateLine)
     → section_of circuit_grammar 0 (lines_of text) ≡ Ok (tt, circuit)
     → section_of (layout_grammar named) n (drop (length circuit + 2) (lines_of text)) ≡ Ok (layout_value layout)
-    → section_of (certificate_grammar g) m (drop (length (layout_value layout).1 + 2) (drop (length circuit + 2) (lines_of text))) ≡ Ok (version, lines)
+    → section_of (certificate_grammar g) m
+    (drop (length (layout_value layout).1 + 2) (drop (length circuit + 2) (lines_of text))) ≡ Ok (version, lines)
     → SaysBundle text circuit layout lines
 unfolding design_said
 bundle_said text circuit named n layout g m version lines first second third =
@@ -61,14 +65,20 @@ bundle_said text circuit named n layout g m version lines first second third =
 
 pub one_design : SaysOneDesign
 one_design text circuit circuit' layout layout' says says' =
-    let first = one_section circuit_form says.first says'.first (says.second ++ says.others) (says'.second ++ says'.others) tt tt circuit circuit' (sym says.lines ∙ says'.lines) says.circuit_is says'.circuit_is in
-    let second = one_section layout_form says.second says'.second says.others says'.others layout.size layout'.size (parts_of layout) (parts_of layout') first.others says.layout_is says'.layout_is in
+    let first = one_section circuit_form says.first says'.first (says.second ++ says.others)
+    (says'.second ++ says'.others) tt tt circuit circuit'
+    (sym says.lines ∙ says'.lines) says.circuit_is says'.circuit_is in
+    let second = one_section layout_form says.second says'.second says.others says'.others layout.size layout'.size
+    (parts_of layout) (parts_of layout') first.others says.layout_is says'.layout_is in
     (first.items, one_layout layout layout' (ap₂ (λ s ps. (s, ps)) second.header second.items))
 
 pub one_certificate : SaysOneCertificate
 one_certificate text circuit circuit' layout layout' lines lines' says says' =
     let d = says.design in
     let d' = says'.design in
-    let first = one_section circuit_form d.first d'.first (d.second ++ d.others) (d'.second ++ d'.others) tt tt circuit circuit' (sym d.lines ∙ d'.lines) d.circuit_is d'.circuit_is in
-    let second = one_section layout_form d.second d'.second d.others d'.others layout.size layout'.size (parts_of layout) (parts_of layout') first.others d.layout_is d'.layout_is in
-    (one_section certificate_form says.third says'.third says.rest says'.rest says.version says'.version lines lines' (sym says.lines ∙ second.others ∙ says'.lines) says.certificate_is says'.certificate_is).items
+    let first = one_section circuit_form d.first d'.first (d.second ++ d.others)
+    (d'.second ++ d'.others) tt tt circuit circuit' (sym d.lines ∙ d'.lines) d.circuit_is d'.circuit_is in
+    let second = one_section layout_form d.second d'.second d.others d'.others layout.size layout'.size
+    (parts_of layout) (parts_of layout') first.others d.layout_is d'.layout_is in
+    (one_section certificate_form says.third says'.third says.rest says'.rest says.version says'.version lines lines'
+    (sym says.lines ∙ second.others ∙ says'.lines) says.certificate_is says'.certificate_is).items

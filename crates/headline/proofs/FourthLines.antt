@@ -1,5 +1,7 @@
 -- The fourth line of a report.
-use Rattle.std.proofs.Common.{◌≡◌, ℕ, zero, suc, ◌+◌, ◌/◌, ◌%◌, ◌<◌, Bool, true, false, cond, eqb, not, ◌&&◌, List, [], ◌∷◌, ◌++◌, length, get_or, Option, Some, refl, sym, ap, ap₂, ◌∙◌, append_assoc, append-nil, arith}
+use Rattle.std.proofs.Common.{◌≡◌, ℕ, zero, suc, ◌+◌, ◌/◌, ◌%◌, ◌<◌, Bool, true, false, cond, eqb, not, ◌&&◌, List, []}
+use Rattle.std.proofs.Common.{◌∷◌, ◌++◌, length, get_or, Option, Some, refl, sym, ap, ap₂, ◌∙◌, append_assoc}
+use Rattle.std.proofs.Common.{append-nil, arith}
 use Rattle.std.specs.Prelude.{slice_get, codes, nat_lt}
 use Rattle.std.specs.Fmt.{decimal, digit_glyph, digits, digits_onto}
 use Rattle.std.specs.List.{flat_map, list_all, slice_split, onto_first}
@@ -50,7 +52,8 @@ clean_hex : (bytes : List ℕ) → is_clean (encode_lower bytes) ≡ true
 unfolding encode_with
 clean_hex [] = refl
 clean_hex (b ∷ bytes) =
-    ap₂ (λ p q. p && q) (clean_index lower_digits (b / 16) refl) (ap₂ (λ p q. p && q) (clean_index lower_digits (b % 16) refl) (clean_hex bytes))
+    ap₂ (λ p q. p && q) (clean_index lower_digits (b / 16) refl)
+    (ap₂ (λ p q. p && q) (clean_index lower_digits (b % 16) refl) (clean_hex bytes))
 
 clean_glyph : (d : ℕ) → not (is_line_feed (digit_glyph false d)) ≡ true
 clean_glyph d = by_size (nat_lt d 10)
@@ -70,7 +73,8 @@ clean_digits : (k n : ℕ) (acc : List ℕ) → is_clean acc ≡ true → is_cle
 clean_digits zero n acc e = e
 clean_digits (suc k) n acc e =
     let more = ap₂ (λ p q. p && q) (clean_glyph (n % 10)) e in
-    clean_choice (eqb (n / 10) 0) (digit_glyph false (n % 10) ∷ acc) (digits_onto k 10 false (n / 10) (digit_glyph false (n % 10) ∷ acc)) more
+    clean_choice (eqb (n / 10) 0) (digit_glyph false (n % 10) ∷ acc)
+    (digits_onto k 10 false (n / 10) (digit_glyph false (n % 10) ∷ acc)) more
     (clean_digits k (n / 10) (digit_glyph false (n % 10) ∷ acc) more)
 
 clean_decimal : (n : ℕ) → is_clean (decimal n) ≡ true
@@ -82,7 +86,8 @@ clean_decimal n = clean_digits 64 n [] refl
 line_ahead : (l c : List ℕ) → is_clean l ≡ true → lines_of (l ++ 10 ∷ c) ≡ l ∷ lines_of c
 unfolding lines_of
 line_ahead l c clean =
-    ap ended (slice_split_at is_line_feed l 10 c (All-from_recursion (λ b. is_line_feed b ≡ false) l (one_line l clean)) refl)
+    ap ended (slice_split_at is_line_feed l 10 c
+    (All-from_recursion (λ b. is_line_feed b ≡ false) l (one_line l clean)) refl)
     ∙ ended-cons l (slice_split is_line_feed c) (some_part c)
 
 -- a line, and what follows it
@@ -90,10 +95,12 @@ text_ahead : (l c : List ℕ) → is_clean l ≡ true → lines_of ((l ++ 10 ∷
 text_ahead l c clean = ap lines_of (append_assoc l (10 ∷ []) c) ∙ line_ahead l c clean
 
 four_lines : (a b d e rest : List ℕ) → is_clean a ≡ true → is_clean b ≡ true → is_clean d ≡ true → is_clean e ≡ true →
-    lines_of ((((a ++ 10 ∷ []) ++ (b ++ 10 ∷ [])) ++ (d ++ 10 ∷ [])) ++ ((e ++ 10 ∷ []) ++ rest)) ≡ a ∷ b ∷ d ∷ e ∷ lines_of rest
+    lines_of ((((a ++ 10 ∷ []) ++ (b ++ 10 ∷ [])) ++ (d ++ 10 ∷ [])) ++ ((e ++ 10 ∷ []) ++ rest))
+    ≡ a ∷ b ∷ d ∷ e ∷ lines_of rest
 four_lines a b d e rest p q r s =
     let last : List ℕ = (e ++ 10 ∷ []) ++ rest in
-    ap lines_of (append_assoc ((a ++ 10 ∷ []) ++ (b ++ 10 ∷ [])) (d ++ 10 ∷ []) last ∙ append_assoc (a ++ 10 ∷ []) (b ++ 10 ∷ []) ((d ++ 10 ∷ []) ++ last))
+    ap lines_of (append_assoc ((a ++ 10 ∷ []) ++ (b ++ 10 ∷ [])) (d ++ 10 ∷ []) last
+    ∙ append_assoc (a ++ 10 ∷ []) (b ++ 10 ∷ []) ((d ++ 10 ∷ []) ++ last))
     ∙ text_ahead a _ p
     ∙ ap (λ t. a ∷ t) (text_ahead b _ q ∙ ap (λ t. b ∷ t) (text_ahead d _ r ∙ ap (λ t. d ∷ t) (text_ahead e rest s)))
 
@@ -105,19 +112,27 @@ verdict_word (verdict.No lines) = codes "verdict no"
 
 -- the opening lines, for a digest that is spelled so
 abbrev line_opening : List ℕ → ℕ → List ℕ
-line_opening digest count = (line_text (codes "bbmcheck") (codes "1" ∷ []) ++ line_text (codes "certificate") (digest ∷ [])) ++ line_text (codes "modules") (decimal count ∷ [])
+line_opening digest count = (line_text (codes "bbmcheck") (codes "1" ∷ [])
+    ++ line_text (codes "certificate") (digest ∷ [])) ++ line_text (codes "modules") (decimal count ∷ [])
 
-fourth_by : (digest : List ℕ) (count : ℕ) (times : List TimeLine) (v : Verdict) → is_clean digest ≡ true → slice_get (lines_of (line_opening digest count ++ verdict_lines times v)) 3 ≡ Some (verdict_word v)
+fourth_by : (digest : List ℕ) (count : ℕ) (times : List TimeLine) (v : Verdict) → is_clean digest ≡ true →
+    slice_get (lines_of (line_opening digest count ++ verdict_lines times v)) 3 ≡ Some (verdict_word v)
 fourth_by digest count times verdict.Yes clean = ap (λ ls. slice_get ls 3)
-    (four_lines (codes "bbmcheck 1") (codes "certificate" ++ flat_map spaced (digest ∷ [])) (codes "modules" ++ flat_map spaced (decimal count ∷ [])) (codes "verdict yes") (flat_map (λ t. fault_line (timing t)) times)
-    refl (ap is_clean (append-nil digest) ∙ clean) (ap is_clean (append-nil (decimal count)) ∙ clean_decimal count) refl)
+    (four_lines (codes "bbmcheck 1") (codes "certificate" ++ flat_map spaced (digest ∷ []))
+    (codes "modules" ++ flat_map spaced (decimal count ∷ [])) (codes "verdict yes")
+    (flat_map (λ t. fault_line (timing t)) times)
+    refl (ap is_clean (append-nil digest) ∙ clean)
+    (ap is_clean (append-nil (decimal count)) ∙ clean_decimal count) refl)
 fourth_by digest count times (verdict.No lines) clean = ap (λ ls. slice_get ls 3)
-    (four_lines (codes "bbmcheck 1") (codes "certificate" ++ flat_map spaced (digest ∷ [])) (codes "modules" ++ flat_map spaced (decimal count ∷ [])) (codes "verdict no") (flat_map fault_line lines.items)
-    refl (ap is_clean (append-nil digest) ∙ clean) (ap is_clean (append-nil (decimal count)) ∙ clean_decimal count) refl)
+    (four_lines (codes "bbmcheck 1") (codes "certificate" ++ flat_map spaced (digest ∷ []))
+    (codes "modules" ++ flat_map spaced (decimal count ∷ [])) (codes "verdict no") (flat_map fault_line lines.items)
+    refl (ap is_clean (append-nil digest) ∙ clean)
+    (ap is_clean (append-nil (decimal count)) ∙ clean_decimal count) refl)
 
 pub fourth_line : (c : CertState) (v : Verdict) → slice_get (lines_of (report_lines c v)) 3 ≡ Some (verdict_word v)
 unfolding report_lines
-fourth_line c v = fourth_by (encode_lower (sha256 (certificate_text c))) (length (modules_of c.entries)) _ v (clean_hex (sha256 (certificate_text c)))
+fourth_line c v = fourth_by (encode_lower (sha256 (certificate_text c))) (length (modules_of c.entries)) _ v
+    (clean_hex (sha256 (certificate_text c)))
 
 yes_is_not_no : ◌≡◌ {A = Option (List ℕ)} (Some (codes "verdict no")) (Some (codes "verdict yes")) → ⊥
 yes_is_not_no e = cc
@@ -144,7 +159,8 @@ unfolding lines_of
 none_is_no_yes l e = cc
 
 pub refusal_says_none : (r : Refusal) → SaysYes (refusal_line r) → ⊥
-refusal_says_none r e = none_is_no_yes (refused r) (sym (ap (λ ls. slice_get ls 3) (line_ahead (refused r) [] (clean_refused r))) ∙ e)
+refusal_says_none r e = none_is_no_yes (refused r)
+    (sym (ap (λ ls. slice_get ls 3) (line_ahead (refused r) [] (clean_refused r))) ∙ e)
 
 -- ---- the front of a text
 
@@ -152,7 +168,8 @@ record Grown (parts more : List (List ℕ)) : Type 0 where
   pub others : List (List ℕ)
   pub are : ended more ≡ ended parts ++ others
 
-grow : (x : ℕ) (parts more : List (List ℕ)) → 0 < length parts → Grown parts more → Grown (onto_first x parts) (onto_first x more)
+grow : (x : ℕ) (parts more : List (List ℕ)) → 0 < length parts → Grown parts more →
+    Grown (onto_first x parts) (onto_first x more)
 grow x [] more h g = absurd (omega (arith, h))
 grow x (p ∷ []) more h g = record { others = ended (onto_first x more); are = refl }
 grow x (p ∷ p' ∷ parts) [] h g = absurd (let e = g.are in cc)
@@ -168,13 +185,17 @@ grown [] rest = record { others = ended (slice_split is_line_feed rest); are = r
 grown (x ∷ front) rest = by_feed (is_line_feed x) (grown front rest)
   where
     by_feed : (t : Bool) → Grown (slice_split is_line_feed front) (slice_split is_line_feed (front ++ rest)) →
-        Grown (cond t ([] ∷ slice_split is_line_feed front) (onto_first x (slice_split is_line_feed front))) (cond t ([] ∷ slice_split is_line_feed (front ++ rest)) (onto_first x (slice_split is_line_feed (front ++ rest))))
+        Grown (cond t ([] ∷ slice_split is_line_feed front) (onto_first x (slice_split is_line_feed front)))
+        (cond t ([] ∷ slice_split is_line_feed (front ++ rest))
+        (onto_first x (slice_split is_line_feed (front ++ rest))))
     by_feed true g = record {
       others = g.others;
-      are = ended-cons [] (slice_split is_line_feed (front ++ rest)) (some_part (front ++ rest)) ∙ ap (λ t. [] ∷ t) g.are
+      are = ended-cons [] (slice_split is_line_feed (front ++ rest)) (some_part (front ++ rest))
+          ∙ ap (λ t. [] ∷ t) g.are
           ∙ sym (ap (λ t. t ++ g.others) (ended-cons [] (slice_split is_line_feed front) (some_part front)));
     }
-    by_feed false g = grow x (slice_split is_line_feed front) (slice_split is_line_feed (front ++ rest)) (some_part front) g
+    by_feed false g = grow x (slice_split is_line_feed front) (slice_split is_line_feed (front ++ rest))
+        (some_part front) g
 
 -- what says yes, says it whatever follows
 pub says_on : (front rest : List ℕ) → SaysYes front → SaysYes (front ++ rest)

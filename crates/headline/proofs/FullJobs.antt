@@ -1,5 +1,6 @@
--- The modules without halo lines have jobs: those of the modules with them, with the halos that the edge lines beside them stand for.
-use Rattle.std.proofs.Common.{◌≡◌, ℕ, zero, suc, false, List, [], ◌∷◌, map, length, Some, refl, sym, ap, ap₂, subst, ◌∙◌, arith}
+-- The modules without halo lines have the jobs of the modules whose halos are the edge lines beside them
+use Rattle.std.proofs.Common.{◌≡◌, ℕ, zero, suc, false, List, [], ◌∷◌, map, length, Some, refl, sym, ap, ap₂, subst}
+use Rattle.std.proofs.Common.{◌∙◌, arith}
 use Rattle.std.specs.Prelude.{slice_get}
 use Rattle.std.proofs.lemmas.List.{length-map}
 use Rattle.circuit.specs.Bridge.{circuit_of}
@@ -14,7 +15,8 @@ use Rattle.certificate_lines.specs.Modules.{AreModules, IsHalo}
 use Rattle.module_job.specs.Signals.{IsBelow}
 use Rattle.certificate_lines.specs.Versions.{lacks_wire, with_halos}
 use Rattle.certificate_lines.proofs.InList.{all_in}
-use Rattle.certificate.proofs.FullModules.{all_of_each, full_cuts, full_edges, full_gates, full_keeps, full_known, full_modules, full_stops, mapped_at, mapped_from}
+use Rattle.certificate.proofs.FullModules.{all_of_each, full_cuts, full_edges, full_gates, full_keeps, full_known}
+use Rattle.certificate.proofs.FullModules.{full_modules, full_stops, mapped_at, mapped_from}
 use Rattle.certificate_lines.proofs.LineOrder.{in_each}
 use Rattle.audit_core.proofs.NumberedSignals.{IsNamed, lines_back, numbered_event, numbered_held, numbered_signals}
 use Rattle.certificate_lines.proofs.Pairs.{Each}
@@ -22,16 +24,19 @@ use Rattle.certificate_lines.proofs.Pairs.{Each}
 -- ---- the job of a module with the edge lines beside it
 
 new_job : Circuit → Setting → List ModuleLines → ModuleLines → JobState → JobState
-new_job c g ms m j = record j { halos = numbered_signals c j.locals.circuit_wires (line_signals c (halos (with_halos g ms m))) }
+new_job c g ms m j = record j
+    { halos = numbered_signals c j.locals.circuit_wires (line_signals c (halos (with_halos g ms m))) }
 
-module _ (lines : List Entry) (p : Pattern) (ms : List ModuleLines) (good : AreModules (setting_of lines p) ms) (complete : lacks_wire (setting_of lines p) ms ≡ false) where
+module _ (lines : List Entry) (p : Pattern) (ms : List ModuleLines) (good : AreModules (setting_of lines p) ms)
+    (complete : lacks_wire (setting_of lines p) ms ≡ false) where
   abbrev g : Setting
   g = setting_of lines p
 
   abbrev c : Circuit
   c = circuit_of lines
 
-  new_is : (k : ℕ) (m : ModuleLines) (j : JobState) → slice_get ms k ≡ Some m → IsJobOf c p m j → IsJobOf c p (with_halos g ms m) (new_job c g ms m j)
+  new_is : (k : ℕ) (m : ModuleLines) (j : JobState) → slice_get ms k ≡ Some m → IsJobOf c p m j →
+      IsJobOf c p (with_halos g ms m) (new_job c g ms m j)
   unfolding with_halos job_start job_demand new_job numbered_signals
   new_is k m j at is =
       let full = with_halos g ms m in
@@ -39,7 +44,9 @@ module _ (lines : List Entry) (p : Pattern) (ms : List ModuleLines) (good : AreM
       let ws = j.locals.circuit_wires in
       let same : known c full ≡ ws = full_known g ms good m ∙ sym is.wires in
       let named : Each (IsNamed c ws) (halos full) =
-      in_each (IsNamed c ws) (halos full) (λ e i. subst (λ vs. IsNamed c vs e) same (all_in (IsHalo g full.area (known c full)) (halos full) module_is.halo_lines e i).border.signal) in
+      in_each (IsNamed c ws) (halos full)
+      (λ e i. subst (λ vs. IsNamed c vs e) same
+      (all_in (IsHalo g full.area (known c full)) (halos full) module_is.halo_lines e i).border.signal) in
       let back = lines_back c ws (halos full) named in
       record {
         area = is.area;
@@ -59,8 +66,12 @@ module _ (lines : List Entry) (p : Pattern) (ms : List ModuleLines) (good : AreM
           demands = is.own.demands;
           edge_held = is.own.edge_held;
           edge_events = is.own.edge_events;
-          halo_held = all_of_each _ _ (subst (λ n. Each (λ h. IsBelow n h.signal) (map (numbered_held c ws) (line_signals c (halos full)).held)) is.locals.sized back.held_below);
-          halo_events = all_of_each _ _ (subst (λ n. Each (λ e. IsBelow n e.signal) (map (numbered_event c ws) (line_signals c (halos full)).events)) is.locals.sized back.events_below);
+          halo_held = all_of_each _ _ (subst
+              (λ n. Each (λ h. IsBelow n h.signal) (map (numbered_held c ws) (line_signals c (halos full)).held))
+              is.locals.sized back.held_below);
+          halo_events = all_of_each _ _
+              (subst (λ n. Each (λ e. IsBelow n e.signal)
+              (map (numbered_event c ws) (line_signals c (halos full)).events)) is.locals.sized back.events_below);
           stops = is.own.stops;
         };
         stops = is.stops ∙ ap (line_stops c) (sym (full_stops g ms good m));
@@ -86,7 +97,8 @@ module _ (lines : List Entry) (p : Pattern) (ms : List ModuleLines) (good : AreM
     pub at : slice_get js k ≡ Some job
     pub is : new_job c g ms m job ≡ new
 
-  new_at : (ns : List ModuleLines) (js : List JobState) (k : ℕ) (m : ModuleLines) (new : JobState) → slice_get ns k ≡ Some m → slice_get (new_jobs ns js) k ≡ Some new → IsNew ns js k m new
+  new_at : (ns : List ModuleLines) (js : List JobState) (k : ℕ) (m : ModuleLines) (new : JobState) →
+      slice_get ns k ≡ Some m → slice_get (new_jobs ns js) k ≡ Some new → IsNew ns js k m new
   unfolding new_jobs
   new_at [] js k m new at e = absurd cc
   new_at (n ∷ ns) [] k m new at e = absurd cc
@@ -98,7 +110,8 @@ module _ (lines : List Entry) (p : Pattern) (ms : List ModuleLines) (good : AreM
       let t = new_at ns js k m new at e in
       record { job = t.job; at = t.at; is = t.is }
 
-  pub full_jobs : (js : List JobState) → AreJobsOf c p ms js → (others : List JobState) × AreJobsOf c p (map (with_halos g ms) ms) others
+  pub full_jobs : (js : List JobState) → AreJobsOf c p ms js →
+      (others : List JobState) × AreJobsOf c p (map (with_halos g ms) ms) others
   full_jobs js own = (
     new_jobs ms js,
     record {
@@ -106,6 +119,8 @@ module _ (lines : List Entry) (p : Pattern) (ms : List ModuleLines) (good : AreM
       each = λ k n new at e.
           let m = mapped_from (with_halos g ms) ms k n at in
           let t = new_at ms js k m.0 new m.1 e in
-          subst (λ o. IsJobOf c p o new) m.2 (subst (λ j. IsJobOf c p (with_halos g ms m.0) j) t.is (new_is k m.0 t.job m.1 (own.each k m.0 t.job m.1 t.at)));
+          subst (λ o. IsJobOf c p o new) m.2
+          (subst (λ j. IsJobOf c p (with_halos g ms m.0) j) t.is
+          (new_is k m.0 t.job m.1 (own.each k m.0 t.job m.1 t.at)));
     },
   )

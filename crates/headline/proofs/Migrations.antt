@@ -1,5 +1,7 @@
--- What is written by `migrate` says what was read, in version 2.
-use Rattle.std.proofs.Common.{◌≡◌, ℕ, ◌+◌, Bool, true, false, not, if◌then◌else◌, List, [], ◌∷◌, ◌++◌, length, map, take, drop, Option, Some, None, Result, Ok, Err, refl, sym, ap, ap₂, subst, ◌∙◌, append_assoc, take-append-drop, arith}
+-- The output of `migrate` says what was read, in version 2.
+use Rattle.std.proofs.Common.{◌≡◌, ℕ, ◌+◌, Bool, true, false, not, if◌then◌else◌, List, [], ◌∷◌, ◌++◌, length, map}
+use Rattle.std.proofs.Common.{take, drop, Option, Some, None, Result, Ok, Err, refl, sym, ap, ap₂, subst, ◌∙◌}
+use Rattle.std.proofs.Common.{append_assoc, take-append-drop, arith}
 use Rattle.std.specs.Prelude.{◌&&◌, codes}
 use Rattle.std.specs.List.{flat_map}
 use Rattle.std.proofs.lemmas.Grind.{flat_map-append}
@@ -17,7 +19,8 @@ use Rattle.section_text.proofs.Again.{AreLines, lines_again, lines_clean}
 use Rattle.section_text.proofs.Good.{AreFaultless, IsFaultless, read_faultless}
 use Rattle.section_text.proofs.Joined.{at_the_end}
 use Rattle.section_text.proofs.Lines.{whole_text}
-use Rattle.section_text.proofs.MadeSections.{clean_both, clean_left, clean_right, forms, items_said, nothing_follows, one_line, section_made, text_said}
+use Rattle.section_text.proofs.MadeSections.{clean_both, clean_left, clean_right, forms, items_said, nothing_follows}
+use Rattle.section_text.proofs.MadeSections.{one_line, section_made, text_said}
 use Rattle.section_text.proofs.SaidSections.{one_section, section_said}
 use Rattle.circuit.specs.Forms.{form_of as circuit_form}
 use Rattle.circuit.specs.Grammars.{circuit_grammar}
@@ -43,7 +46,8 @@ use Rattle.certificate.proofs.Spelling.{form_line as certificate_spelled}
 use Rattle.audit_core.specs.Concluding.{port_names_of}
 use Rattle.answers.specs.Answers.{Answered}
 use Rattle.answers.specs.BundleText.{Bundle, bundle_of}
-use Rattle.answers.specs.MigrateText.{IsMigrationOf, SaysMigration, bundle_text, certificate_lines, in_version_two, layout_lines, migrate_of}
+use Rattle.answers.specs.MigrateText.{IsMigrationOf, SaysMigration, bundle_text, certificate_lines, in_version_two}
+use Rattle.answers.specs.MigrateText.{layout_lines, migrate_of}
 use Rattle.answers.specs.declared.outcome.Outcome.TheVariants.{Yes, Refused}
 use Rattle.headline.specs.Migration.{KeepsVersionTwo, MigratesOnce, MigrationSaysTheSame}
 use Rattle.headline.specs.Design.{SaysDesign}
@@ -67,9 +71,11 @@ pub record HasSections (text : List ℕ) (b : Bundle) : Type 0 where
 pub record IsGoodBundle (b : Bundle) : Type 0 where
   pub circuit : IsFaultless circuit_grammar tt b.circuit
   pub layout : IsFaultless (layout_grammar (Some (port_names_of b.circuit))) b.size b.parts
-  pub certificate : IsFaultless (certificate_grammar (setting_of b.circuit (layout_of b.size b.parts))) b.version b.entries
+  pub certificate : IsFaultless
+      (certificate_grammar (setting_of b.circuit (layout_of b.size b.parts))) b.version b.entries
 
-over : {B : Type 0} (n : ℕ) (ls : List (List ℕ)) (rest : List ℕ) (value b : B) → finished n ls rest value ≡ Ok b → (ls ≡ []) × (rest ≡ []) × (value ≡ b)
+over : {B : Type 0} (n : ℕ) (ls : List (List ℕ)) (rest : List ℕ) (value b : B) → finished n ls rest value ≡ Ok b →
+    (ls ≡ []) × (rest ≡ []) × (value ≡ b)
 over n [] [] value b e = (refl, refl, cc)
 over n [] (c ∷ rest) value b e = absurd cc
 over n (l ∷ ls) rest value b e = absurd cc
@@ -79,23 +85,27 @@ unfolding bundle_of
 sections_read text b e =
     let c = went_on (section_of circuit_grammar 0 (lines_of text)) _ b e in
     let l = went_on (section_of (layout_grammar (Some (port_names_of c.items))) _ _) _ b c.then in
-    let k = went_on (section_of (certificate_grammar (setting_of c.items (layout_of l.header l.items))) _ _) _ b l.then in
+    let k = went_on (section_of (certificate_grammar (setting_of c.items (layout_of l.header l.items))) _ _) _ b
+    l.then in
     let done = over _ _ _ _ b k.then in
     let i = length c.items + 2 in
     let j = length l.items + 2 in
     let n = length k.items + 2 in
     let later = drop i (lines_of text) in
     let last = drop j later in
-    let whole : take n last ≡ last = sym (append-nil (take n last)) ∙ ap (λ ls. take n last ++ ls) (sym done.0) ∙ take-append-drop n last in
+    let whole : take n last ≡ last =
+    sym (append-nil (take n last)) ∙ ap (λ ls. take n last ++ ls) (sym done.0) ∙ take-append-drop n last in
     subst (HasSections text) done.2 (record {
       first = take i (lines_of text);
       second = take j later;
       third = take n last;
-      lines = sym (ap (λ ls. take i (lines_of text) ++ (take j later ++ ls)) whole ∙ ap (λ ls. take i (lines_of text) ++ ls) (take-append-drop j later) ∙ take-append-drop i (lines_of text));
+      lines = sym (ap (λ ls. take i (lines_of text) ++ (take j later ++ ls)) whole
+          ∙ ap (λ ls. take i (lines_of text) ++ ls) (take-append-drop j later) ∙ take-append-drop i (lines_of text));
       rest = done.1;
       circuit_is = section_said circuit_grammar 0 (lines_of text) tt c.items c.was;
       layout_is = section_said (layout_grammar (Some (port_names_of c.items))) _ later l.header l.items l.was;
-      certificate_is = section_said (certificate_grammar (setting_of c.items (layout_of l.header l.items))) _ last k.header k.items k.was;
+      certificate_is = section_said
+          (certificate_grammar (setting_of c.items (layout_of l.header l.items))) _ last k.header k.items k.was;
     })
 
 pub good_read : (text : List ℕ) (b : Bundle) → bundle_of text ≡ Ok b → IsGoodBundle b
@@ -103,16 +113,19 @@ unfolding bundle_of
 good_read text b e =
     let c = went_on (section_of circuit_grammar 0 (lines_of text)) _ b e in
     let l = went_on (section_of (layout_grammar (Some (port_names_of c.items))) _ _) _ b c.then in
-    let k = went_on (section_of (certificate_grammar (setting_of c.items (layout_of l.header l.items))) _ _) _ b l.then in
+    let k = went_on (section_of (certificate_grammar (setting_of c.items (layout_of l.header l.items))) _ _) _ b
+    l.then in
     subst IsGoodBundle ((over _ _ _ _ b k.then).2) (record {
       circuit = read_faultless circuit_grammar 0 (lines_of text) tt c.items c.was;
       layout = read_faultless (layout_grammar (Some (port_names_of c.items))) _ _ l.header l.items l.was;
-      certificate = read_faultless (certificate_grammar (setting_of c.items (layout_of l.header l.items))) _ _ k.header k.items k.was;
+      certificate = read_faultless (certificate_grammar (setting_of c.items (layout_of l.header l.items))) _ _ k.header
+          k.items k.was;
     })
 
 -- ---- and such a text is read
 
-section_length : {H I : Type 0} (g : Grammar H I) (ls : List (List ℕ)) (h : H) (items : List I) → IsSection g.form ls h items → length ls ≡ length items + 2
+section_length : {H I : Type 0} (g : Grammar H I) (ls : List (List ℕ)) (h : H) (items : List I) →
+    IsSection g.form ls h items → length ls ≡ length items + 2
 section_length {H = H} {I = I} g ls h items e =
     let make : I → Option (Form H I) = λ i. Some (Item i) in
     let same = sym (length-map ls (λ l. g.form (words_of l))) ∙ ap length e in
@@ -120,22 +133,30 @@ section_length {H = H} {I = I} g ls h items e =
     let one = length-map items make in
     omega (arith, same, two, one)
 
-then_made : {H I B : Type 0} (g : Grammar H I) (n : ℕ) (ls others lines : List (List ℕ)) (h : H) (items : List I) (next : H → List I → ℕ → List (List ℕ) → Result B Refusal) → lines ≡ ls ++ others
-    → IsSection g.form ls h items → IsFaultless g h items → section_then g n lines next ≡ next h items (n + (length items + 2)) others
+then_made : {H I B : Type 0} (g : Grammar H I) (n : ℕ) (ls others lines : List (List ℕ)) (h : H) (items : List I)
+    (next : H → List I → ℕ → List (List ℕ) → Result B Refusal) → lines ≡ ls ++ others
+    → IsSection g.form ls h items → IsFaultless g h items →
+    section_then g n lines next ≡ next h items (n + (length items + 2)) others
 then_made g n ls others lines h items next e is good =
     ap (λ k. section_then g n k next) e
-    ∙ ap (λ r. go_on r (λ h items. next h items (n + (length items + 2)) (drop (length items + 2) (ls ++ others)))) (section_made g n ls others h items is good)
-    ∙ ap (next h items (n + (length items + 2))) (ap (λ k. drop k (ls ++ others)) (sym (section_length g ls h items is)) ∙ drop-append_seam ls others)
+    ∙ ap (λ r. go_on r (λ h items. next h items (n + (length items + 2)) (drop (length items + 2) (ls ++ others))))
+    (section_made g n ls others h items is good)
+    ∙ ap (next h items (n + (length items + 2)))
+    (ap (λ k. drop k (ls ++ others)) (sym (section_length g ls h items is)) ∙ drop-append_seam ls others)
 
 module _ (text : List ℕ) where
   abbrev ended : List CircuitLine → Extent → List Part → ℕ → List Entry → ℕ → List (List ℕ) → Result Bundle Refusal
-  ended circuit size parts version entries k last = finished k last (rest_of text) (record { circuit = circuit; size = size; parts = parts; version = version; entries = entries })
+  ended circuit size parts version entries k last =
+      finished k last (rest_of text)
+      (record { circuit = circuit; size = size; parts = parts; version = version; entries = entries })
 
   abbrev after_layout : List CircuitLine → Extent → List Part → ℕ → List (List ℕ) → Result Bundle Refusal
-  after_layout circuit size parts m later = section_then (certificate_grammar (setting_of circuit (layout_of size parts))) m later (ended circuit size parts)
+  after_layout circuit size parts m later =
+      section_then (certificate_grammar (setting_of circuit (layout_of size parts))) m later (ended circuit size parts)
 
   abbrev after_circuit : Unit {0} → List CircuitLine → ℕ → List (List ℕ) → Result Bundle Refusal
-  after_circuit _ circuit n ahead = section_then (layout_grammar (Some (port_names_of circuit))) n ahead (after_layout circuit)
+  after_circuit _ circuit n ahead =
+      section_then (layout_grammar (Some (port_names_of circuit))) n ahead (after_layout circuit)
 
 pub bundle_made : (text : List ℕ) (b : Bundle) → HasSections text b → IsGoodBundle b → bundle_of text ≡ Ok b
 unfolding bundle_of
@@ -143,18 +164,25 @@ bundle_made text b s good =
     let i = length b.circuit + 2 in
     let j = length b.parts + 2 in
     let n = length b.entries + 2 in
-    then_made circuit_grammar 0 s.first (s.second ++ s.third) (lines_of text) tt b.circuit (after_circuit text) s.lines s.circuit_is good.circuit
-    ∙ then_made (layout_grammar (Some (port_names_of b.circuit))) (0 + i) s.second s.third (s.second ++ s.third) b.size b.parts (after_layout text b.circuit) refl s.layout_is good.layout
-    ∙ then_made (certificate_grammar (setting_of b.circuit (layout_of b.size b.parts))) (0 + i + j) s.third [] s.third b.version b.entries (ended text b.circuit b.size b.parts) (sym (append-nil s.third)) s.certificate_is good.certificate
+    then_made circuit_grammar 0 s.first (s.second ++ s.third) (lines_of text) tt b.circuit
+    (after_circuit text) s.lines s.circuit_is good.circuit
+    ∙ then_made (layout_grammar (Some (port_names_of b.circuit))) (0 + i) s.second s.third
+    (s.second ++ s.third) b.size b.parts (after_layout text b.circuit) refl s.layout_is good.layout
+    ∙ then_made (certificate_grammar (setting_of b.circuit (layout_of b.size b.parts)))
+    (0 + i + j) s.third [] s.third b.version b.entries (ended text b.circuit b.size b.parts)
+    (sym (append-nil s.third)) s.certificate_is good.certificate
     ∙ at_the_end (0 + i + j + n) [] (rest_of text) b refl s.rest
 
 -- ---- they are those of one bundle
 
 pub one_bundle : (text : List ℕ) (b d : Bundle) → HasSections text b → HasSections text d → b ≡ d
 one_bundle text b d s t =
-    let first = one_section circuit_form s.first t.first (s.second ++ s.third) (t.second ++ t.third) tt tt b.circuit d.circuit (sym s.lines ∙ t.lines) s.circuit_is t.circuit_is in
-    let second = one_section layout_form s.second t.second s.third t.third b.size d.size b.parts d.parts first.others s.layout_is t.layout_is in
-    let third = one_section certificate_form s.third t.third [] [] b.version d.version b.entries d.entries (ap (λ ls. ls ++ []) second.others) s.certificate_is t.certificate_is in
+    let first = one_section circuit_form s.first t.first (s.second ++ s.third)
+    (t.second ++ t.third) tt tt b.circuit d.circuit (sym s.lines ∙ t.lines) s.circuit_is t.circuit_is in
+    let second = one_section layout_form s.second t.second s.third t.third b.size d.size b.parts d.parts first.others
+    s.layout_is t.layout_is in
+    let third = one_section certificate_form s.third t.third [] [] b.version d.version b.entries d.entries
+    (ap (λ ls. ls ++ []) second.others) s.certificate_is t.certificate_is in
     let circuit = first.items in
     let size = second.header in
     let parts = second.items in
@@ -163,40 +191,60 @@ one_bundle text b d s t =
     λ k. record { circuit = circuit k; size = size k; parts = parts k; version = version k; entries = entries k }
 
 -- what the text of a bundle says is what the bundle has
-pub record IsSaid (b : Bundle) (circuit : List CircuitLine) (layout : Pattern) (version : ℕ) (certificate : List Entry) : Type 0 where
+pub record IsSaid (b : Bundle) (circuit : List CircuitLine) (layout : Pattern) (version : ℕ)
+    (certificate : List Entry) : Type 0 where
   pub circuit_is : b.circuit ≡ circuit
   pub size_is : b.size ≡ layout.size
   pub parts_are : b.parts ≡ parts_of layout
   pub version_is : b.version ≡ version
   pub entries_are : b.entries ≡ certificate
 
-pub said_so : (text : List ℕ) (b : Bundle) (circuit : List CircuitLine) (layout : Pattern) (certificate : List Entry) → HasSections text b → (says : SaysBundle text circuit layout certificate) → IsSaid b circuit layout says.version certificate
+pub said_so : (text : List ℕ) (b : Bundle) (circuit : List CircuitLine) (layout : Pattern) (certificate : List Entry) →
+    HasSections text b → (says : SaysBundle text circuit layout certificate) →
+    IsSaid b circuit layout says.version certificate
 said_so text b circuit layout certificate s says =
     let d = says.design in
-    let first = one_section circuit_form s.first d.first (s.second ++ s.third) (d.second ++ d.others) tt tt b.circuit circuit (sym s.lines ∙ d.lines) s.circuit_is d.circuit_is in
-    let second = one_section layout_form s.second d.second s.third d.others b.size layout.size b.parts (parts_of layout) first.others s.layout_is d.layout_is in
-    let third = one_section certificate_form s.third says.third [] says.rest b.version says.version b.entries certificate (append-nil s.third ∙ second.others ∙ says.lines) s.certificate_is says.certificate_is in
-    record { circuit_is = first.items; size_is = second.header; parts_are = second.items; version_is = third.header; entries_are = third.items }
+    let first = one_section circuit_form s.first d.first (s.second ++ s.third)
+    (d.second ++ d.others) tt tt b.circuit circuit (sym s.lines ∙ d.lines) s.circuit_is d.circuit_is in
+    let second = one_section layout_form s.second d.second s.third d.others b.size layout.size b.parts
+    (parts_of layout) first.others s.layout_is d.layout_is in
+    let third = one_section certificate_form s.third says.third [] says.rest b.version says.version b.entries
+    certificate (append-nil s.third ∙ second.others ∙ says.lines) s.certificate_is says.certificate_is in
+    record {
+      circuit_is = first.items;
+      size_is = second.header;
+      parts_are = second.items;
+      version_is = third.header;
+      entries_are = third.items;
+    }
 
 -- ---- the text of sections
 
-sections_text : (b : Bundle) (first second third : List (List ℕ)) → IsSection circuit_form first tt b.circuit → IsSection layout_form second b.size b.parts → IsSection certificate_form third b.version b.entries
+sections_text : (b : Bundle) (first second third : List (List ℕ)) → IsSection circuit_form first tt b.circuit →
+    IsSection layout_form second b.size b.parts → IsSection certificate_form third b.version b.entries
     → flat_map ended_line (first ++ (second ++ third)) ≡ bundle_text b
 unfolding bundle_text layout_lines certificate_lines circuit_text
 sections_text b first second third c l k =
     let setting : Setting = setting_of b.circuit (layout_of b.size b.parts) in
-    let one = text_said circuit_grammar circuit_line circuit_spelled first tt b.circuit c ∙ sym (append_assoc (circuit_line (Header tt)) (flat_map (λ i. circuit_line (Item i)) b.circuit) (circuit_line End)) in
-    let two = text_said (layout_grammar None) layout_line layout_spelled second b.size b.parts l ∙ sym (append_assoc (layout_line (Header b.size)) (flat_map (λ i. layout_line (Item i)) b.parts) (layout_line End)) in
+    let one = text_said circuit_grammar circuit_line circuit_spelled first tt b.circuit c
+    ∙ sym (append_assoc (circuit_line (Header tt)) (flat_map (λ i. circuit_line (Item i)) b.circuit)
+    (circuit_line End)) in
+    let two = text_said (layout_grammar None) layout_line layout_spelled second b.size b.parts l
+    ∙ sym (append_assoc (layout_line (Header b.size)) (flat_map (λ i. layout_line (Item i)) b.parts)
+    (layout_line End)) in
     let three = text_said (certificate_grammar setting) certificate_line certificate_spelled third b.version b.entries k
-    ∙ sym (append_assoc (certificate_line (Header b.version)) (flat_map (λ i. certificate_line (Item i)) b.entries) (certificate_line End)) in
-    flat_map-append ended_line first (second ++ third) ∙ ap (λ t. flat_map ended_line first ++ t) (flat_map-append ended_line second third)
+    ∙ sym (append_assoc (certificate_line (Header b.version)) (flat_map (λ i. certificate_line (Item i)) b.entries)
+    (certificate_line End)) in
+    flat_map-append ended_line first (second ++ third)
+    ∙ ap (λ t. flat_map ended_line first ++ t) (flat_map-append ended_line second third)
     ∙ sym (append_assoc (flat_map ended_line first) (flat_map ended_line second) (flat_map ended_line third))
     ∙ ap₂ (λ a t. a ++ t) (ap₂ (λ a t. a ++ t) one two) three
 
 -- a text that has only these sections is spelled in the one way
 pub text_is : (text : List ℕ) (b : Bundle) → HasSections text b → text ≡ bundle_text b
 text_is text b s =
-    sym (whole_text text) ∙ ap₂ (λ ls r. flat_map ended_line ls ++ r) s.lines s.rest ∙ append-nil (flat_map ended_line (s.first ++ (s.second ++ s.third)))
+    sym (whole_text text) ∙ ap₂ (λ ls r. flat_map ended_line ls ++ r) s.lines s.rest
+    ∙ append-nil (flat_map ended_line (s.first ++ (s.second ++ s.third)))
     ∙ sections_text b s.first s.second s.third s.circuit_is s.layout_is s.certificate_is
 
 -- ---- the lines of a certificate other than its halo lines
@@ -214,16 +262,22 @@ with_other : (i : Entry) (items : List Entry) → is_halo i ≡ false → withou
 unfolding without_halos
 with_other i items e = ap (λ b. if not b then i ∷ without_halos items else without_halos items) e
 
-keep : (i : Entry) (items : List Entry) (line : List ℕ) (b : Bool) → is_halo i ≡ b → certificate_form (words_of line) ≡ Some (Item i) → AreLines (line ∷ []) → Kept items → Kept (i ∷ items)
+keep : (i : Entry) (items : List Entry) (line : List ℕ) (b : Bool) → is_halo i ≡ b →
+    certificate_form (words_of line) ≡ Some (Item i) → AreLines (line ∷ []) → Kept items → Kept (i ∷ items)
 keep i items line true e is clean more =
-    record { lines = more.lines; said = more.said ∙ ap (items_said certificate_form) (sym (without_halo i items e)); clean = more.clean }
+    record {
+      lines = more.lines;
+      said = more.said ∙ ap (items_said certificate_form) (sym (without_halo i items e));
+      clean = more.clean;
+    }
 keep i items line false e is clean more = record {
   lines = line ∷ more.lines;
   said = ap₂ (λ a t. a ∷ t) is more.said ∙ ap (items_said certificate_form) (sym (with_other i items e));
   clean = (clean.0, more.clean);
 }
 
-kept : (items : List Entry) (ls : List (List ℕ)) → forms certificate_form ls ≡ items_said certificate_form items → AreLines ls → Kept items
+kept : (items : List Entry) (ls : List (List ℕ)) → forms certificate_form ls ≡ items_said certificate_form items →
+    AreLines ls → Kept items
 unfolding without_halos
 kept [] ls e clean = record { lines = ls; said = e; clean = clean }
 kept (i ∷ items) ls e clean =
@@ -241,23 +295,29 @@ header_said = refl
 
 header_clean : AreLines (header ∷ [])
 unfolding header
-header_clean = ((refl, (refl, (refl, (refl, (refl, (refl, (refl, (refl, (refl, (refl, (refl, (refl, (refl, tt))))))))))))), tt)
+header_clean =
+    ((refl, (refl, (refl, (refl, (refl, (refl, (refl, (refl, (refl, (refl, (refl, (refl, (refl, tt))))))))))))), tt)
 
 -- ---- the text that is written has sections
 
-pub migrated_sections : (text : List ℕ) (b : Bundle) → HasSections text b → HasSections (migrate_of b) (in_version_two b)
+pub migrated_sections : (text : List ℕ) (b : Bundle) → HasSections text b →
+    HasSections (migrate_of b) (in_version_two b)
 migrated_sections text b s =
     let clean : AreLines (s.first ++ (s.second ++ s.third)) = subst AreLines s.lines (lines_clean text) in
     let later = clean_right s.first (s.second ++ s.third) clean in
-    let one = one_line certificate_form (Some (Header b.version)) (items_said certificate_form b.entries) s.third s.certificate_is in
+    let one = one_line certificate_form (Some (Header b.version))
+    (items_said certificate_form b.entries) s.third s.certificate_is in
     let own : AreLines (one.line ∷ one.rest) = subst AreLines one.lines (clean_right s.second s.third later) in
     let k = kept b.entries one.rest one.other_forms own.1 in
     let third = header ∷ k.lines in
-    let certificate_is : IsSection certificate_form third 2 (without_halos b.entries) = ap₂ (λ a t. a ∷ t) header_said k.said in
+    let certificate_is : IsSection certificate_form third 2 (without_halos b.entries) =
+    ap₂ (λ a t. a ∷ t) header_said k.said in
     let all = s.first ++ (s.second ++ third) in
-    let all_clean : AreLines all = clean_both s.first (s.second ++ third) (clean_left s.first (s.second ++ s.third) clean)
+    let all_clean : AreLines all =
+    clean_both s.first (s.second ++ third) (clean_left s.first (s.second ++ s.third) clean)
     (clean_both s.second third (clean_left s.second s.third later) (header_clean.0, k.clean)) in
-    let is : migrate_of b ≡ flat_map ended_line all = sym (sections_text (in_version_two b) s.first s.second third s.circuit_is s.layout_is certificate_is) in
+    let is : migrate_of b ≡ flat_map ended_line all =
+    sym (sections_text (in_version_two b) s.first s.second third s.circuit_is s.layout_is certificate_is) in
     record {
       first = s.first;
       second = s.second;
@@ -282,13 +342,17 @@ not_refused e = cc
 pub was_migrated : (text output : List ℕ) → IsMigrationOf text output Yes → IsMigrated text output
 was_migrated text output says = by (bundle_of text) refl says
   where
-    by : (read : Result Bundle Refusal) → bundle_of text ≡ read → Answered SaysMigration read output Yes → IsMigrated text output
+    by : (read : Result Bundle Refusal) → bundle_of text ≡ read → Answered SaysMigration read output Yes →
+        IsMigrated text output
     by (Ok b) e says = record { bundle = b; read = e; says = says.says }
     by (Err refusal) e told = absurd (not_refused told.1)
 
-twice_on : (i : Entry) (es : List Entry) (b : Bool) → is_halo i ≡ b → without_halos (without_halos es) ≡ without_halos es → without_halos (without_halos (i ∷ es)) ≡ without_halos (i ∷ es)
+twice_on : (i : Entry) (es : List Entry) (b : Bool) → is_halo i ≡ b →
+    without_halos (without_halos es) ≡ without_halos es →
+    without_halos (without_halos (i ∷ es)) ≡ without_halos (i ∷ es)
 twice_on i es true e more = ap without_halos (without_halo i es e) ∙ more ∙ sym (without_halo i es e)
-twice_on i es false e more = ap without_halos (with_other i es e) ∙ with_other i (without_halos es) e ∙ ap (λ l. i ∷ l) more ∙ sym (with_other i es e)
+twice_on i es false e more = ap without_halos (with_other i es e) ∙ with_other i (without_halos es) e
+    ∙ ap (λ l. i ∷ l) more ∙ sym (with_other i es e)
 
 without_twice : (es : List Entry) → without_halos (without_halos es) ≡ without_halos es
 unfolding without_halos
@@ -300,8 +364,11 @@ migrates_once text output again first second =
     let a = was_migrated text output first in
     let b = was_migrated output again second in
     let made = migrated_sections text a.bundle (sections_read text a.bundle a.read) in
-    let same : b.bundle ≡ in_version_two a.bundle = one_bundle output b.bundle (in_version_two a.bundle) (sections_read output b.bundle b.read) (subst (λ t. HasSections t (in_version_two a.bundle)) (sym a.says) made) in
-    b.says ∙ ap migrate_of same ∙ ap (λ es. bundle_text (record a.bundle { version = 2; entries = es })) (without_twice a.bundle.entries) ∙ sym a.says
+    let same : b.bundle ≡ in_version_two a.bundle =
+    one_bundle output b.bundle (in_version_two a.bundle) (sections_read output b.bundle b.read)
+    (subst (λ t. HasSections t (in_version_two a.bundle)) (sym a.says) made) in
+    b.says ∙ ap migrate_of same ∙ ap (λ es. bundle_text (record a.bundle { version = 2; entries = es }))
+    (without_twice a.bundle.entries) ∙ sym a.says
 
 -- ---- version 2 has no halo lines
 
@@ -309,10 +376,13 @@ no_code : (b : Bool) (code : ℕ) (more : Option ℕ) → or_else (code_where b 
 no_code true code more e = absurd cc
 no_code false code more e = refl
 
-no_halos : (g : Setting) (before es : List Entry) → AreFaultless (certificate_grammar g) 2 before es → without_halos es ≡ es
+no_halos : (g : Setting) (before es : List Entry) → AreFaultless (certificate_grammar g) 2 before es →
+    without_halos es ≡ es
 unfolding without_halos
 no_halos g before [] good = refl
-no_halos g before (i ∷ es) good = with_other i es (no_code (is_haloless 2 && is_halo i) no_form _ good.0) ∙ ap (λ l. i ∷ l) (no_halos g (before ++ i ∷ []) es good.1)
+no_halos g before (i ∷ es) good =
+    with_other i es (no_code (is_haloless 2 && is_halo i) no_form _ good.0)
+    ∙ ap (λ l. i ∷ l) (no_halos g (before ++ i ∷ []) es good.1)
 
 -- a bundle of version 2 is its own migration
 pub in_place : (b : Bundle) → IsGoodBundle b → b.version ≡ 2 → in_version_two b ≡ b
@@ -323,29 +393,35 @@ in_place b good two =
 
 pub unchanged : (text output : List ℕ) (m : IsMigrated text output) → m.bundle.version ≡ 2 → output ≡ text
 unchanged text output m two =
-    m.says ∙ ap bundle_text (in_place m.bundle (good_read text m.bundle m.read) two) ∙ sym (text_is text m.bundle (sections_read text m.bundle m.read))
+    m.says ∙ ap bundle_text (in_place m.bundle (good_read text m.bundle m.read) two)
+    ∙ sym (text_is text m.bundle (sections_read text m.bundle m.read))
 
 pub keeps_version_two : KeepsVersionTwo
 keeps_version_two text output circuit layout certificate migrates says =
     let m = was_migrated text output migrates in
-    unchanged text output m ((said_so text m.bundle circuit layout certificate (sections_read text m.bundle m.read) says.says).version_is ∙ says.of_version)
+    unchanged text output m ((said_so text m.bundle circuit layout certificate
+    (sections_read text m.bundle m.read) says.says).version_is ∙ says.of_version)
 
 -- ---- what is written says the same
 
-pub says_design : (text output : List ℕ) (circuit : List CircuitLine) (layout : Pattern) → IsMigrated text output → SaysDesign text circuit layout → SaysDesign output circuit layout
+pub says_design : (text output : List ℕ) (circuit : List CircuitLine) (layout : Pattern) → IsMigrated text output →
+    SaysDesign text circuit layout → SaysDesign output circuit layout
 says_design text output circuit layout m d =
     let b = m.bundle in
     let read = sections_read text b m.read in
     let s = migrated_sections text b read in
-    let first = one_section circuit_form read.first d.first (read.second ++ read.third) (d.second ++ d.others) tt tt b.circuit circuit (sym read.lines ∙ d.lines) read.circuit_is d.circuit_is in
-    let second = one_section layout_form read.second d.second read.third d.others b.size layout.size b.parts (parts_of layout) first.others read.layout_is d.layout_is in
+    let first = one_section circuit_form read.first d.first (read.second ++ read.third)
+    (d.second ++ d.others) tt tt b.circuit circuit (sym read.lines ∙ d.lines) read.circuit_is d.circuit_is in
+    let second = one_section layout_form read.second d.second read.third d.others b.size layout.size b.parts
+    (parts_of layout) first.others read.layout_is d.layout_is in
     record {
       first = s.first;
       second = s.second;
       others = s.third;
       lines = ap lines_of m.says ∙ s.lines;
       circuit_is = subst (IsSection circuit_form s.first tt) first.items s.circuit_is;
-      layout_is = subst (IsSection layout_form s.second layout.size) second.items (subst (λ size. IsSection layout_form s.second size b.parts) second.header s.layout_is);
+      layout_is = subst (IsSection layout_form s.second layout.size) second.items
+          (subst (λ size. IsSection layout_form s.second size b.parts) second.header s.layout_is);
     }
 
 pub says_the_same : MigrationSaysTheSame
@@ -362,6 +438,7 @@ says_the_same text output circuit layout certificate migrates says =
       third = s.third;
       rest = [];
       lines = sym (append-nil s.third);
-      certificate_is = subst (λ es. IsSection certificate_form s.third 2 (without_halos es)) is.entries_are s.certificate_is;
+      certificate_is = subst (λ es. IsSection certificate_form s.third 2 (without_halos es)) is.entries_are
+          s.certificate_is;
     } in
     record { says = bundle; of_version = refl }

@@ -1,5 +1,6 @@
 -- A text has one answer.
-use Rattle.std.proofs.Common.{◌≡◌, ℕ, List, [], ◌∷◌, ◌++◌, map, length, Bool, Option, Some, None, Result, Ok, Err, refl, sym, ap, subst, ◌∙◌, inl, inr, append-nil}
+use Rattle.std.proofs.Common.{◌≡◌, ℕ, List, [], ◌∷◌, ◌++◌, map, length, Bool, Option, Some, None, Result, Ok, Err, refl}
+use Rattle.std.proofs.Common.{sym, ap, subst, ◌∙◌, inl, inr, append-nil}
 use Rattle.std.specs.Prelude.{codes}
 use Rattle.std.specs.Fmt.{decimal}
 use Rattle.std.specs.List.{flat_map, filter_map}
@@ -28,17 +29,26 @@ use Rattle.headline.specs.Laws.{HasOneAnswer}
 -- ---- a layout from its lines
 
 module _ {X : Type 0} (pick : Part → Option X) where
-  picks_all : {Y : Type 0} (f : Y → Part) (g : Y → X) → ((y : Y) → pick (f y) ≡ Some (g y)) → (ys : List Y) → filter_map pick (map f ys) ≡ map g ys
+  picks_all : {Y : Type 0} (f : Y → Part) (g : Y → X) → ((y : Y) → pick (f y) ≡ Some (g y)) → (ys : List Y) →
+      filter_map pick (map f ys) ≡ map g ys
   picks_all f g same [] = refl
   picks_all f g same (y ∷ ys) = rw (same y, picks_all f g same ys) refl
 
-  picks_none : {Y : Type 0} (f : Y → Part) → ((y : Y) → pick (f y) ≡ None) → (ys : List Y) → filter_map pick (map f ys) ≡ []
+  picks_none : {Y : Type 0} (f : Y → Part) → ((y : Y) → pick (f y) ≡ None) → (ys : List Y) →
+      filter_map pick (map f ys) ≡ []
   picks_none f none [] = refl
   picks_none f none (y ∷ ys) = rw (none y, picks_none f none ys) refl
 
-  split_five : (a b c d e : List Part) → filter_map pick (a ++ (b ++ (c ++ (d ++ e)))) ≡ filter_map pick a ++ (filter_map pick b ++ (filter_map pick c ++ (filter_map pick d ++ filter_map pick e)))
+  split_five : (a b c d e : List Part) →
+      filter_map pick (a ++ (b ++ (c ++ (d ++ e))))
+      ≡ filter_map pick a ++ (filter_map pick b ++ (filter_map pick c ++ (filter_map pick d ++ filter_map pick e)))
   split_five a b c d e =
-      rw (filter_map-append pick a (b ++ (c ++ (d ++ e))), filter_map-append pick b (c ++ (d ++ e)), filter_map-append pick c (d ++ e), filter_map-append pick d e) refl
+      rw (
+        filter_map-append pick a (b ++ (c ++ (d ++ e))),
+        filter_map-append pick b (c ++ (d ++ e)),
+        filter_map-append pick c (d ++ e),
+        filter_map-append pick d e,
+      ) refl
 
 map_same : {X : Type 0} (xs : List X) → map (λ x. x) xs ≡ xs
 map_same [] = refl
@@ -82,28 +92,68 @@ waste_of (Waste c) = Some c
 module _ (p : Pattern) where
   mirrors_are : filter_map mirror_of (parts_of p) ≡ p.mirrors
   unfolding mirror_of
-  mirrors_are = split_five mirror_of (map Mirror p.mirrors) (map Ball p.balls) (map In p.ins) (map Out p.outs) (map Waste p.wastes)
-      ∙ rw (picks_all mirror_of Mirror (λ r. r) (λ r. refl) p.mirrors, picks_none mirror_of Ball (λ c. refl) p.balls, picks_none mirror_of In (λ q. refl) p.ins, picks_none mirror_of Out (λ q. refl) p.outs, picks_none mirror_of Waste (λ c. refl) p.wastes, map_same p.mirrors) (append-nil p.mirrors)
+  mirrors_are = split_five mirror_of (map Mirror p.mirrors) (map Ball p.balls) (map In p.ins) (map Out p.outs)
+      (map Waste p.wastes)
+      ∙ rw (
+        picks_all mirror_of Mirror (λ r. r) (λ r. refl) p.mirrors,
+        picks_none mirror_of Ball (λ c. refl) p.balls,
+        picks_none mirror_of In (λ q. refl) p.ins,
+        picks_none mirror_of Out (λ q. refl) p.outs,
+        picks_none mirror_of Waste (λ c. refl) p.wastes,
+        map_same p.mirrors,
+      ) (append-nil p.mirrors)
 
   balls_are : filter_map ball_of (parts_of p) ≡ p.balls
   unfolding ball_of
-  balls_are = split_five ball_of (map Mirror p.mirrors) (map Ball p.balls) (map In p.ins) (map Out p.outs) (map Waste p.wastes)
-      ∙ rw (picks_none ball_of Mirror (λ r. refl) p.mirrors, picks_all ball_of Ball (λ c. c) (λ c. refl) p.balls, picks_none ball_of In (λ q. refl) p.ins, picks_none ball_of Out (λ q. refl) p.outs, picks_none ball_of Waste (λ c. refl) p.wastes, map_same p.balls) (append-nil p.balls)
+  balls_are = split_five ball_of (map Mirror p.mirrors) (map Ball p.balls) (map In p.ins) (map Out p.outs)
+      (map Waste p.wastes)
+      ∙ rw (
+        picks_none ball_of Mirror (λ r. refl) p.mirrors,
+        picks_all ball_of Ball (λ c. c) (λ c. refl) p.balls,
+        picks_none ball_of In (λ q. refl) p.ins,
+        picks_none ball_of Out (λ q. refl) p.outs,
+        picks_none ball_of Waste (λ c. refl) p.wastes,
+        map_same p.balls,
+      ) (append-nil p.balls)
 
   ins_are : filter_map in_of (parts_of p) ≡ p.ins
   unfolding in_of
-  ins_are = split_five in_of (map Mirror p.mirrors) (map Ball p.balls) (map In p.ins) (map Out p.outs) (map Waste p.wastes)
-      ∙ rw (picks_none in_of Mirror (λ r. refl) p.mirrors, picks_none in_of Ball (λ c. refl) p.balls, picks_all in_of In (λ q. q) (λ q. refl) p.ins, picks_none in_of Out (λ q. refl) p.outs, picks_none in_of Waste (λ c. refl) p.wastes, map_same p.ins) (append-nil p.ins)
+  ins_are = split_five in_of (map Mirror p.mirrors) (map Ball p.balls) (map In p.ins) (map Out p.outs)
+      (map Waste p.wastes)
+      ∙ rw (
+        picks_none in_of Mirror (λ r. refl) p.mirrors,
+        picks_none in_of Ball (λ c. refl) p.balls,
+        picks_all in_of In (λ q. q) (λ q. refl) p.ins,
+        picks_none in_of Out (λ q. refl) p.outs,
+        picks_none in_of Waste (λ c. refl) p.wastes,
+        map_same p.ins,
+      ) (append-nil p.ins)
 
   outs_are : filter_map out_of (parts_of p) ≡ p.outs
   unfolding out_of
-  outs_are = split_five out_of (map Mirror p.mirrors) (map Ball p.balls) (map In p.ins) (map Out p.outs) (map Waste p.wastes)
-      ∙ rw (picks_none out_of Mirror (λ r. refl) p.mirrors, picks_none out_of Ball (λ c. refl) p.balls, picks_none out_of In (λ q. refl) p.ins, picks_all out_of Out (λ q. q) (λ q. refl) p.outs, picks_none out_of Waste (λ c. refl) p.wastes, map_same p.outs) (append-nil p.outs)
+  outs_are = split_five out_of (map Mirror p.mirrors) (map Ball p.balls) (map In p.ins) (map Out p.outs)
+      (map Waste p.wastes)
+      ∙ rw (
+        picks_none out_of Mirror (λ r. refl) p.mirrors,
+        picks_none out_of Ball (λ c. refl) p.balls,
+        picks_none out_of In (λ q. refl) p.ins,
+        picks_all out_of Out (λ q. q) (λ q. refl) p.outs,
+        picks_none out_of Waste (λ c. refl) p.wastes,
+        map_same p.outs,
+      ) (append-nil p.outs)
 
   wastes_are : filter_map waste_of (parts_of p) ≡ p.wastes
   unfolding waste_of
-  wastes_are = split_five waste_of (map Mirror p.mirrors) (map Ball p.balls) (map In p.ins) (map Out p.outs) (map Waste p.wastes)
-      ∙ rw (picks_none waste_of Mirror (λ r. refl) p.mirrors, picks_none waste_of Ball (λ c. refl) p.balls, picks_none waste_of In (λ q. refl) p.ins, picks_none waste_of Out (λ q. refl) p.outs, picks_all waste_of Waste (λ c. c) (λ c. refl) p.wastes, map_same p.wastes) refl
+  wastes_are = split_five waste_of (map Mirror p.mirrors) (map Ball p.balls) (map In p.ins) (map Out p.outs)
+      (map Waste p.wastes)
+      ∙ rw (
+        picks_none waste_of Mirror (λ r. refl) p.mirrors,
+        picks_none waste_of Ball (λ c. refl) p.balls,
+        picks_none waste_of In (λ q. refl) p.ins,
+        picks_none waste_of Out (λ q. refl) p.outs,
+        picks_all waste_of Waste (λ c. c) (λ c. refl) p.wastes,
+        map_same p.wastes,
+      ) refl
 
 pub one_layout : (p q : Pattern) → layout_value p ≡ layout_value q → p ≡ q
 one_layout p q e =
@@ -138,17 +188,24 @@ one_end p on (LeftAt k) (LeftAt j) h h' = elim (cases_order k j) [
   ]
 ]
 
-one_run : (asked : RunAsked) (output output' : List ℕ) (outcome outcome' : Outcome) → SaysRunEnd asked output outcome → SaysRunEnd asked output' outcome' → (output ≡ output') × (outcome ≡ outcome')
+one_run : (asked : RunAsked) (output output' : List ℕ) (outcome outcome' : Outcome) → SaysRunEnd asked output outcome →
+    SaysRunEnd asked output' outcome' → (output ≡ output') × (outcome ≡ outcome')
 one_run asked output output' outcome outcome' h h' =
     let same : h'.layout ≡ h.layout = one_layout h'.layout h.layout (h'.lines ∙ sym h.lines) in
-    let ends = one_end h.layout (has asked.1) h.end h'.end h.run (subst (λ (p : Pattern). IsRunEnd p (has asked.1) h'.end) same h'.run) in
+    let ends = one_end h.layout (has asked.1) h.end h'.end h.run
+    (subst (λ (p : Pattern). IsRunEnd p (has asked.1) h'.end) same h'.run) in
     (h.says ∙ ends.0 ∙ sym h'.says, h.ends ∙ ends.1 ∙ sym h'.ends)
 
 -- a command that has one answer to what is asked has one to each text
-pub answered_once : {A : Type 0} (says : A → List ℕ → Outcome → Type 0) → ((asked : A) (output output' : List ℕ) (outcome outcome' : Outcome) → says asked output outcome → says asked output' outcome' → (output ≡ output') × (outcome ≡ outcome'))
-    → (read : Result A Refusal) (output output' : List ℕ) (outcome outcome' : Outcome) → Answered says read output outcome → Answered says read output' outcome' → (output ≡ output') × (outcome ≡ outcome')
-answered_once says once (Ok asked) output output' outcome outcome' h h' = once asked output output' outcome outcome' h h'
+pub answered_once : {A : Type 0} (says : A → List ℕ → Outcome → Type 0) →
+    ((asked : A) (output output' : List ℕ) (outcome outcome' : Outcome) → says asked output outcome →
+    says asked output' outcome' → (output ≡ output') × (outcome ≡ outcome'))
+    → (read : Result A Refusal) (output output' : List ℕ) (outcome outcome' : Outcome) →
+    Answered says read output outcome → Answered says read output' outcome' → (output ≡ output') × (outcome ≡ outcome')
+answered_once says once (Ok asked) output output' outcome outcome' h h' =
+    once asked output output' outcome outcome' h h'
 answered_once says once (Err refusal) output output' outcome outcome' h h' = (h.0 ∙ sym h'.0, h.1 ∙ sym h'.1)
 
 pub one_answer : HasOneAnswer IsRunOf
-one_answer text output output' outcome outcome' h h' = answered_once SaysRunEnd one_run (run_asked text) output output' outcome outcome' h h'
+one_answer text output output' outcome outcome' h h' =
+    answered_once SaysRunEnd one_run (run_asked text) output output' outcome outcome' h h'

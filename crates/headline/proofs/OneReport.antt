@@ -1,5 +1,6 @@
 -- A text has one report.
-use Rattle.std.proofs.Common.{◌≡◌, ◌∙◌, ◌<◌, ◌++◌, ◌∷◌, ℕ, List, [], length, Option, Some, None, refl, sym, ap, subst, arith}
+use Rattle.std.proofs.Common.{◌≡◌, ◌∙◌, ◌<◌, ◌++◌, ◌∷◌, ℕ, List, [], length, Option, Some, None, refl, sym, ap, subst}
+use Rattle.std.proofs.Common.{arith}
 use Rattle.std.specs.Prelude.{slice_get, codes}
 use Rattle.std.specs.List.{flat_map}
 use Rattle.std.proofs.lemmas.Option.{slice_get_within}
@@ -32,7 +33,8 @@ module _ (c : CertState) (good : AreModules (setting_of c.circuit c.layout) (mod
   abbrev AreOwn : List JobState → Type 0
   AreOwn js = AreJobsOf (circuit_of c.circuit) c.layout (modules_in c) js
 
-  same_job_at : (js ks : List JobState) → AreOwn js → AreOwn ks → (k : ℕ) (j i : JobState) → slice_get js k ≡ Some j → slice_get ks k ≡ Some i → j ≡ i
+  same_job_at : (js ks : List JobState) → AreOwn js → AreOwn ks → (k : ℕ) (j i : JobState) → slice_get js k ≡ Some j →
+      slice_get ks k ≡ Some i → j ≡ i
   same_job_at js ks own_j own_k k j i at_j at_k = by_module (slice_get (modules_in c) k) refl
     where
       by_module : (o : Option ModuleLines) → slice_get (modules_in c) k ≡ o → j ≡ i
@@ -41,17 +43,24 @@ module _ (c : CertState) (good : AreModules (setting_of c.circuit c.layout) (mod
           let below : k < length js = slice_get_within js k j at_j in
           absurd (omega (arith, past, below, own_j.count))
       by_module (Some m) e =
-          one_job (circuit_of c.circuit) c.layout m j i (good.each k m e).local.different (own_j.each k m j e at_j) (own_k.each k m i e at_k)
+          one_job (circuit_of c.circuit) c.layout m j i (good.each k m e).local.different (own_j.each k m j e at_j)
+          (own_k.each k m i e at_k)
 
   one_list_of_jobs : (js ks : List JobState) → AreOwn js → AreOwn ks → js ≡ ks
-  one_list_of_jobs js ks own_j own_k = same-elements js ks (own_j.count ∙ sym own_k.count) (same_job_at js ks own_j own_k)
+  one_list_of_jobs js ks own_j own_k =
+      same-elements js ks (own_j.count ∙ sym own_k.count) (same_job_at js ks own_j own_k)
 
-  verdict_over : (js ks : List JobState) (v : Verdict) → AreOwn js → AreOwn ks → IsVerdict (setting_of c.circuit c.layout) (modules_in c) js v → IsVerdict (setting_of c.circuit c.layout) (modules_in c) ks v
-  verdict_over js ks v own_j own_k is = subst (λ (l : List JobState). IsVerdict (setting_of c.circuit c.layout) (modules_in c) l v) (one_list_of_jobs js ks own_j own_k) is
+  verdict_over : (js ks : List JobState) (v : Verdict) → AreOwn js → AreOwn ks →
+      IsVerdict (setting_of c.circuit c.layout) (modules_in c) js v →
+      IsVerdict (setting_of c.circuit c.layout) (modules_in c) ks v
+  verdict_over js ks v own_j own_k is =
+      subst (λ (l : List JobState). IsVerdict (setting_of c.circuit c.layout) (modules_in c) l v)
+      (one_list_of_jobs js ks own_j own_k) is
 
 pub one_verdict : (c : CertState) (v w : Verdict) → IsVerdictOn c v → IsVerdictOn c w → SaysTheSame v w
 one_verdict c v w a b =
-    verdict-is-one (setting_of c.circuit c.layout) (modules_in c) a.jobs v w a.judged (verdict_over c a.good b.jobs a.jobs w b.are_jobs a.are_jobs b.judged)
+    verdict-is-one (setting_of c.circuit c.layout) (modules_in c) a.jobs v w a.judged
+    (verdict_over c a.good b.jobs a.jobs w b.are_jobs a.are_jobs b.judged)
 
 -- ---- what is written of it
 
@@ -60,7 +69,9 @@ unfolding report_lines
 same_lines c verdict.Yes verdict.Yes same = refl
 same_lines c verdict.Yes (verdict.No lines) same = absurd same
 same_lines c (verdict.No lines) verdict.Yes same = absurd same
-same_lines c (verdict.No lines) (verdict.No others) same = ap (λ ls. opening_lines (sha256 (certificate_text c)) (length (modules_of c.entries)) ++ (line_text (codes "verdict") (codes "no" ∷ []) ++ flat_map fault_line ls)) same
+same_lines c (verdict.No lines) (verdict.No others) same =
+    ap (λ ls. opening_lines (sha256 (certificate_text c)) (length (modules_of c.entries))
+    ++ (line_text (codes "verdict") (codes "no" ∷ []) ++ flat_map fault_line ls)) same
 
 same_outcome : (v w : Verdict) → SaysTheSame v w → verdict_outcome v ≡ verdict_outcome w
 same_outcome verdict.Yes verdict.Yes same = refl
@@ -76,13 +87,19 @@ same_certificate bundle c d a b =
     let entries = a.entries ∙ sym b.entries in
     λ i. record { circuit = circuit i; layout = layout i; version = version i; entries = entries i }
 
-one_said : (bundle : Bundle) (output output' : List ℕ) (outcome outcome' : Outcome) → SaysReport bundle output outcome → SaysReport bundle output' outcome' → (output ≡ output') × (outcome ≡ outcome')
+one_said : (bundle : Bundle) (output output' : List ℕ) (outcome outcome' : Outcome) → SaysReport bundle output outcome →
+    SaysReport bundle output' outcome' → (output ≡ output') × (outcome ≡ outcome')
 one_said bundle output output' outcome outcome' h h' =
-    let same : h.certificate ≡ h'.certificate = same_certificate bundle h.certificate h'.certificate h.its_own h'.its_own in
-    let said : SaysTheSame h.verdict h'.verdict = one_verdict h.certificate h.verdict h'.verdict h.is_verdict (subst (λ c. IsVerdictOn c h'.verdict) (sym same) h'.is_verdict) in (
-      h.says ∙ same_lines h.certificate h.verdict h'.verdict said ∙ ap (λ c. report_lines c h'.verdict) same ∙ sym h'.says,
+    let same : h.certificate ≡ h'.certificate =
+    same_certificate bundle h.certificate h'.certificate h.its_own h'.its_own in
+    let said : SaysTheSame h.verdict h'.verdict =
+    one_verdict h.certificate h.verdict h'.verdict h.is_verdict
+    (subst (λ c. IsVerdictOn c h'.verdict) (sym same) h'.is_verdict) in (
+      h.says ∙ same_lines h.certificate h.verdict h'.verdict said ∙ ap (λ c. report_lines c h'.verdict) same
+          ∙ sym h'.says,
       h.ends ∙ same_outcome h.verdict h'.verdict said ∙ sym h'.ends,
     )
 
 pub one_report : HasOneAnswer IsReportOf
-one_report text output output' outcome outcome' h h' = answered_once SaysReport one_said (bundle_of text) output output' outcome outcome' h h'
+one_report text output output' outcome outcome' h h' =
+    answered_once SaysReport one_said (bundle_of text) output output' outcome outcome' h h'

@@ -1,5 +1,6 @@
 -- A circuit has one answer.
-use Rattle.std.proofs.Common.{◌≡◌, ◌⊎◌, ℕ, zero, suc, ◌<◌, Bool, false, List, [], ◌∷◌, ◌++◌, inl, inr, subst, length, refl, sym, ap, ap₂, ◌∙◌, arith}
+use Rattle.std.proofs.Common.{◌≡◌, ◌⊎◌, ℕ, zero, suc, ◌<◌, Bool, false, List, [], ◌∷◌, ◌++◌, inl, inr, subst, length}
+use Rattle.std.proofs.Common.{refl, sym, ap, ap₂, ◌∙◌, arith}
 use Rattle.std.specs.List.{slice_index_or}
 use Rattle.circuit.specs.Entries.{defined}
 use Rattle.circuit.specs.Bridge.{AreValues, StopsAt, netlist_of, read}
@@ -15,38 +16,53 @@ use Rattle.answers.specs.ValueText.{IsValueOf, ValueAsked, SaysValues, value_ask
 use Rattle.headline.specs.Laws.{HasOneAnswer}
 use Rattle.headline.proofs.OneAnswer.{answered_once}
 
-same_bits : (xs ys : List Bool) → length xs ≡ length ys → ((w : ℕ) → w < length xs → slice_index_or xs w false ≡ slice_index_or ys w false) → xs ≡ ys
+same_bits : (xs ys : List Bool) → length xs ≡ length ys →
+    ((w : ℕ) → w < length xs → slice_index_or xs w false ≡ slice_index_or ys w false) → xs ≡ ys
 same_bits [] [] e same = refl
 same_bits [] (y ∷ ys) e same = absurd (omega arith)
 same_bits (x ∷ xs) [] e same = absurd (omega arith)
-same_bits (x ∷ xs) (y ∷ ys) e same = ap₂ (λ b bs. b ∷ bs) (same zero (omega arith)) (same_bits xs ys (omega arith) (λ w h. same (suc w) (omega arith)))
+same_bits (x ∷ xs) (y ∷ ys) e same =
+    ap₂ (λ b bs. b ∷ bs) (same zero (omega arith)) (same_bits xs ys (omega arith) (λ w h. same (suc w) (omega arith)))
 
 one_list : (n : Netlist) (a : Valuation) (vs us : List Bool) → AreValues n a vs → AreValues n a us → vs ≡ us
 one_list n a vs us h h' = same_bits vs us (h.all ∙ sym h'.all) (λ w below. sym (h.only (read us) h'.satisfies w below))
 
 -- values and a gate without a row exclude each other, and there is one such gate
-never_both : (n : Netlist) (a : Valuation) (k : ℕ) (vs us : List Bool) → AreOrdered n.given n.gates → AreValues n a vs → StopsAt n a k us → ⊥
+never_both : (n : Netlist) (a : Valuation) (k : ℕ) (vs us : List Bool) → AreOrdered n.given n.gates → AreValues n a vs →
+    StopsAt n a k us → ⊥
 never_both n a k vs us ordered v s = undefined_has_none n a (read vs) k ordered (stopped n a k us s) v.satisfies
 
-one_stop : (n : Netlist) (a : Valuation) (k m : ℕ) (vs us : List Bool) → AreOrdered n.given n.gates → StopsAt n a k vs → StopsAt n a m us → (k ≡ m) × (vs ≡ us)
+one_stop : (n : Netlist) (a : Valuation) (k m : ℕ) (vs us : List Bool) → AreOrdered n.given n.gates → StopsAt n a k vs →
+    StopsAt n a m us → (k ≡ m) × (vs ≡ us)
 one_stop n a k m vs us ordered s t =
     let same : k ≡ m = undefined_is_one n a k m ordered (stopped n a k vs s) (stopped n a m us t) in
     let before : AreValues (first_gates k n) a us = subst (λ j. AreValues (first_gates j n) a us) (sym same) t.before in
     (same, one_list (first_gates k n) a vs us s.before before)
 
-one_of : (asked : ValueAsked) (output output' : List ℕ) (outcome outcome' : Outcome) → AreOrdered (netlist_of asked.0).given (netlist_of asked.0).gates → SaysAll asked output outcome ⊎ SaysSome asked output outcome →
+one_of : (asked : ValueAsked) (output output' : List ℕ) (outcome outcome' : Outcome) →
+    AreOrdered (netlist_of asked.0).given (netlist_of asked.0).gates →
+    SaysAll asked output outcome ⊎ SaysSome asked output outcome →
     SaysAll asked output' outcome' ⊎ SaysSome asked output' outcome' → (output ≡ output') × (outcome ≡ outcome')
 one_of asked output output' outcome outcome' ordered (inl h) (inl h') =
     let same = one_list (netlist_of asked.0) _ h.values h'.values h.are h'.are in
     (h.says ∙ ap (value_lines (defined asked.0)) same ∙ sym h'.says, h.ends ∙ sym h'.ends)
-one_of asked output output' outcome outcome' ordered (inl h) (inr h') = absurd (never_both (netlist_of asked.0) _ h'.gate h.values h'.values ordered h.are h'.stops)
-one_of asked output output' outcome outcome' ordered (inr h) (inl h') = absurd (never_both (netlist_of asked.0) _ h.gate h'.values h.values ordered h'.are h.stops)
+one_of asked output output' outcome outcome' ordered (inl h) (inr h') =
+    absurd (never_both (netlist_of asked.0) _ h'.gate h.values h'.values ordered h.are h'.stops)
+one_of asked output output' outcome outcome' ordered (inr h) (inl h') =
+    absurd (never_both (netlist_of asked.0) _ h.gate h'.values h.values ordered h'.are h.stops)
 one_of asked output output' outcome outcome' ordered (inr h) (inr h') =
-    let same = one_stop (netlist_of asked.0) _ h.gate h'.gate h.values h'.values ordered h.stops h'.stops in
-    (h.says ∙ ap₂ (λ (vs : List Bool) k. value_lines (defined asked.0) vs ++ line_text (codes "undefined") (decimal k ∷ [])) same.1 same.0 ∙ sym h'.says, h.ends ∙ sym h'.ends)
+    let same = one_stop (netlist_of asked.0) _ h.gate h'.gate h.values h'.values ordered h.stops h'.stops in (
+      h.says ∙ ap₂ (λ (vs : List Bool) k.
+          value_lines (defined asked.0) vs ++ line_text (codes "undefined") (decimal k ∷ [])) same.1 same.0
+          ∙ sym h'.says,
+      h.ends ∙ sym h'.ends,
+    )
 
-one_evaluation : (asked : ValueAsked) (output output' : List ℕ) (outcome outcome' : Outcome) → SaysValues asked output outcome → SaysValues asked output' outcome' → (output ≡ output') × (outcome ≡ outcome')
-one_evaluation asked output output' outcome outcome' h h' = one_of asked output output' outcome outcome' h.ordered h.says h'.says
+one_evaluation : (asked : ValueAsked) (output output' : List ℕ) (outcome outcome' : Outcome) →
+    SaysValues asked output outcome → SaysValues asked output' outcome' → (output ≡ output') × (outcome ≡ outcome')
+one_evaluation asked output output' outcome outcome' h h' =
+    one_of asked output output' outcome outcome' h.ordered h.says h'.says
 
 pub one_value : HasOneAnswer IsValueOf
-one_value text output output' outcome outcome' h h' = answered_once SaysValues one_evaluation (value_asked text) output output' outcome outcome' h h'
+one_value text output output' outcome outcome' h h' =
+    answered_once SaysValues one_evaluation (value_asked text) output output' outcome outcome' h h'

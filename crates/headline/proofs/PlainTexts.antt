@@ -1,4 +1,4 @@
--- What is reported on a plain text
+-- The report on a plain text
 use Rattle.std.proofs.Common.{◌≡◌, ℕ, List, [], ◌∷◌, map, Result, Ok, Err, Vec, Global, refl, sym, ap, subst, ◌∙◌, inl}
 use Rattle.std.proofs.Common.{inr, ℤ, length, Some, None, option_map}
 use Rattle.std.specs.List.{All, flat_map}

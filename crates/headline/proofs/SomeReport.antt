@@ -130,7 +130,8 @@ module _ (text : List ℕ) (b : Bundle) (e : bundle_of text ≡ Ok b) where
       certificate = c;
       its_own = record { circuit = refl; layout = own_layout.1; version = refl; entries = refl };
       verdict = judged.verdict;
-      is_verdict = record { good = modules_good; jobs = judged.jobs; are_jobs = judged.are_jobs; judged = judged.judged };
+      is_verdict =
+          record { good = modules_good; jobs = judged.jobs; are_jobs = judged.are_jobs; judged = judged.judged };
       says = refl;
       ends = refl;
     };

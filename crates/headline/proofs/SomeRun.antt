@@ -47,7 +47,8 @@ module _ (s : Extent) where
   module _ (t : ℕ) (state : State) (stays : StaysInside s state) where
     -- the other cells of the block of a cell
     abbrev block_cells : Cell → List Cell
-    block_cells d = record { x = partner t d.x; y = partner t d.y } ∷ record { x = partner t d.x; y = d.y } ∷ record { x = d.x; y = partner t d.y } ∷ []
+    block_cells d = record { x = partner t d.x; y = partner t d.y } ∷ record { x = partner t d.x; y = d.y }
+        ∷ record { x = d.x; y = partner t d.y } ∷ []
 
     -- all cells outside that may become live
     abbrev near_cells : List Cell

@@ -1,5 +1,6 @@
 -- The text of a switch and its inverse gate is accepted: it is read, and tried, by computation.
-use Rattle.std.proofs.Common.{◌≡◌, ℕ, zero, suc, ◌<◌, true, false, List, [], ◌∷◌, Option, Some, Result, Ok, refl, sym, subst, arith, ◌∙◌}
+use Rattle.std.proofs.Common.{◌≡◌, ℕ, zero, suc, ◌<◌, true, false, List, [], ◌∷◌, Option, Some, Result, Ok, refl, sym}
+use Rattle.std.proofs.Common.{subst, arith, ◌∙◌}
 use Rattle.std.specs.Prelude.{pos, codes, slice_get, IsTrue}
 use Rattle.std.proofs.Math.Logic.{∥∥₁_elim}
 use Rattle.std.proofs.lemmas.Bool.{true≢false}
@@ -68,7 +69,8 @@ use Rattle.answers.specs.CheckText.{IsVerdictOn, SaysReport}
 use Rattle.answers.specs.declared.outcome.Outcome.TheVariants.{Yes}
 use Rattle.headline.specs.ThereAndBack.{there_and_back}
 use Rattle.headline.specs.Laws.{ThereAndBackIsAccepted}
-use Rattle.headline.proofs.Trials.{at_every, end_test, every_cell, faultless, no_border_fault, same_demand, same_demand_is, same_signal, same_signal_is}
+use Rattle.headline.proofs.Trials.{at_every, end_test, every_cell, faultless, no_border_fault, same_demand}
+use Rattle.headline.proofs.Trials.{same_demand_is, same_signal, same_signal_is}
 use Rattle.headline.specs.PlainLaws.{ThereAndBackIsPlain, ThereAndBackIsSmall}
 use Rattle.audit_core.specs.HeadlineLaws.{IsInputName}
 use Rattle.headline.proofs.YesIsRight.{bundle_good, certificate_faultless}
@@ -113,7 +115,22 @@ abbrev bundle : Bundle
 bundle = record { circuit = circuit; size = size; parts = parts; version = 1; entries = Module only.area ∷ only.lines }
 
 reads : bundle_of there_and_back ≡ Ok bundle
-unfolding there_and_back bundle_of words.lines_of words.rest_of words.number_of words.name_of words.number_at words.name_at words.names_at words.is_word_at words.lone words.lone_number words.lone_name section.section_of section.body_of circuit_forms.form_of circuit_forms.gate_entry circuit_forms.gate_names circuit_forms.gate_kind circuit_forms.bit_at circuit_rules.add_fault meaning.number meaning.place_of layout_forms.form_of layout_forms.cell_from layout_forms.lone_cell layout_forms.named_cell layout_forms.port_of layout_forms.size_of layout_forms.sides_and_steps layout_rules.size_fault layout_rules.limit_fault layout_rules.rank_of layout_rules.is_late layout_rules.order_fault layout_rules.name_fault layout_rules.cells_of layout_rules.is_inside layout_rules.begins layout_rules.ends layout_rules.begun layout_rules.ended layout_rules.is_taken layout_rules.cell_fault layout_rules.line_fault layout_rules.part_fault layout_rules.missing_fault layouts.rectangle_cells in_span boxes.in_box boxes.some_neighbour boxes.in_ring boxes.in_halo entries.change_last entries.last_of entries.add_line entries.modules_of forms.corner_and_sides forms.area_of forms.time_at forms.signal_at forms.timed_cell forms.border_of forms.timed_wire forms.stop_of forms.form_of orders.rank_of orders.number_of orders.cell_of orders.line_cmp orders.is_cut orders.may_precede orders.may_follow rules.lacks_port rules.box_fault rules.module_fault rules.cut_fault rules.are_new rules.gate_fault rules.use_fault rules.keep_fault rules.is_time rules.is_edge_place rules.is_halo_place rules.is_stop_place rules.signal_fault rules.border_fault rules.entry_fault rules.end_fault cell_cmp
+unfolding there_and_back bundle_of words.lines_of words.rest_of words.number_of words.name_of words.number_at
+    words.name_at words.names_at words.is_word_at words.lone words.lone_number words.lone_name section.section_of
+    section.body_of circuit_forms.form_of circuit_forms.gate_entry circuit_forms.gate_names circuit_forms.gate_kind
+    circuit_forms.bit_at circuit_rules.add_fault meaning.number meaning.place_of layout_forms.form_of
+    layout_forms.cell_from layout_forms.lone_cell layout_forms.named_cell layout_forms.port_of layout_forms.size_of
+    layout_forms.sides_and_steps layout_rules.size_fault layout_rules.limit_fault layout_rules.rank_of
+    layout_rules.is_late layout_rules.order_fault layout_rules.name_fault layout_rules.cells_of layout_rules.is_inside
+    layout_rules.begins layout_rules.ends layout_rules.begun layout_rules.ended layout_rules.is_taken
+    layout_rules.cell_fault layout_rules.line_fault layout_rules.part_fault layout_rules.missing_fault
+    layouts.rectangle_cells in_span boxes.in_box boxes.some_neighbour boxes.in_ring boxes.in_halo entries.change_last
+    entries.last_of entries.add_line entries.modules_of forms.corner_and_sides forms.area_of forms.time_at
+    forms.signal_at forms.timed_cell forms.border_of forms.timed_wire forms.stop_of forms.form_of orders.rank_of
+    orders.number_of orders.cell_of orders.line_cmp orders.is_cut orders.may_precede orders.may_follow rules.lacks_port
+    rules.box_fault rules.module_fault rules.cut_fault rules.are_new rules.gate_fault rules.use_fault rules.keep_fault
+    rules.is_time rules.is_edge_place rules.is_halo_place rules.is_stop_place rules.signal_fault rules.border_fault
+    rules.entry_fault rules.end_fault cell_cmp
 reads = refl
 
 -- ---- the job
@@ -125,7 +142,11 @@ abbrev unswitch : NetGate
 unswitch = record { kind = Unswitches; ins = 2 ∷ 3 ∷ 4 ∷ []; outs = 5 ∷ 6 ∷ [] }
 
 abbrev net : LocalNet
-net = record { netlist = record { given = 2; gates = switch ∷ unswitch ∷ [] }; circuit_wires = 0 ∷ 1 ∷ 2 ∷ 3 ∷ 4 ∷ 5 ∷ 6 ∷ []; circuit_gates = 0 ∷ 1 ∷ [] }
+net = record {
+  netlist = record { given = 2; gates = switch ∷ unswitch ∷ [] };
+  circuit_wires = 0 ∷ 1 ∷ 2 ∷ 3 ∷ 4 ∷ 5 ∷ 6 ∷ [];
+  circuit_gates = 0 ∷ 1 ∷ [];
+}
 
 abbrev job : JobState
 job = record {
@@ -141,7 +162,15 @@ job = record {
 }
 
 abbrev layout : Pattern
-layout = record { size = size; mirrors = []; balls = []; ins = port_c ∷ port_x ∷ []; outs = port_e ∷ port_w ∷ []; wastes = [] }
+layout =
+    record {
+      size = size;
+      mirrors = [];
+      balls = [];
+      ins = port_c ∷ port_x ∷ [];
+      outs = port_e ∷ port_w ∷ [];
+      wastes = [];
+    }
 
 -- ---- the values of the wires
 
@@ -167,10 +196,22 @@ values (suc (suc (suc n))) = read (true ∷ true ∷ true ∷ true ∷ false ∷
 are_local : (a : ℕ) → a < 4 → IsLocalValuation net a (values a)
 unfolding values bit row
 are_local = below_four (λ a. IsLocalValuation net a (values a))
-    (record { given = below_two (λ i. values 0 i ≡ bit 0 i) refl refl; rows = All-from_recursion (HasRow (values 0)) (switch ∷ unswitch ∷ []) (refl, (refl, tt)) })
-    (record { given = below_two (λ i. values 1 i ≡ bit 1 i) refl refl; rows = All-from_recursion (HasRow (values 1)) (switch ∷ unswitch ∷ []) (refl, (refl, tt)) })
-    (record { given = below_two (λ i. values 2 i ≡ bit 2 i) refl refl; rows = All-from_recursion (HasRow (values 2)) (switch ∷ unswitch ∷ []) (refl, (refl, tt)) })
-    (record { given = below_two (λ i. values 3 i ≡ bit 3 i) refl refl; rows = All-from_recursion (HasRow (values 3)) (switch ∷ unswitch ∷ []) (refl, (refl, tt)) })
+    (record {
+      given = below_two (λ i. values 0 i ≡ bit 0 i) refl refl;
+      rows = All-from_recursion (HasRow (values 0)) (switch ∷ unswitch ∷ []) (refl, (refl, tt));
+    })
+    (record {
+      given = below_two (λ i. values 1 i ≡ bit 1 i) refl refl;
+      rows = All-from_recursion (HasRow (values 1)) (switch ∷ unswitch ∷ []) (refl, (refl, tt));
+    })
+    (record {
+      given = below_two (λ i. values 2 i ≡ bit 2 i) refl refl;
+      rows = All-from_recursion (HasRow (values 2)) (switch ∷ unswitch ∷ []) (refl, (refl, tt));
+    })
+    (record {
+      given = below_two (λ i. values 3 i ≡ bit 3 i) refl refl;
+      rows = All-from_recursion (HasRow (values 3)) (switch ∷ unswitch ∷ []) (refl, (refl, tt));
+    })
 
 is_ordered : AreOrdered 2 (switch ∷ unswitch ∷ [])
 unfolding AreOrdered
@@ -181,10 +222,13 @@ is_ordered = (
   (All-from_recursion (λ w. w < 5) (2 ∷ 3 ∷ 4 ∷ []) (omega arith, (omega arith, (omega arith, tt))), refl, refl, tt),
 )
 
-both_gates : (k : ℕ) (g : NetGate) → slice_get (switch ∷ unswitch ∷ []) k ≡ Some g → slice_get (netlist_of circuit).gates (circuit_gate net k) ≡ Some (renumber_gate (circuit_wire net) g)
+both_gates : (k : ℕ) (g : NetGate) → slice_get (switch ∷ unswitch ∷ []) k ≡ Some g →
+    slice_get (netlist_of circuit).gates (circuit_gate net k) ≡ Some (renumber_gate (circuit_wire net) g)
 unfolding number
-both_gates zero g e = let own : switch ≡ g = cc in subst (λ (h : NetGate). slice_get (netlist_of circuit).gates 0 ≡ Some (renumber_gate (circuit_wire net) h)) own refl
-both_gates (suc zero) g e = let own : unswitch ≡ g = cc in subst (λ (h : NetGate). slice_get (netlist_of circuit).gates 1 ≡ Some (renumber_gate (circuit_wire net) h)) own refl
+both_gates zero g e = let own : switch ≡ g = cc in
+    subst (λ (h : NetGate). slice_get (netlist_of circuit).gates 0 ≡ Some (renumber_gate (circuit_wire net) h)) own refl
+both_gates (suc zero) g e = let own : unswitch ≡ g = cc in
+    subst (λ (h : NetGate). slice_get (netlist_of circuit).gates 1 ≡ Some (renumber_gate (circuit_wire net) h)) own refl
 both_gates (suc (suc k)) g e = absurd (no_gate k g e)
   where
     no_gate : (k : ℕ) (g : NetGate) → slice_get [] k ≡ Some g → ⊥
@@ -219,11 +263,15 @@ own = record {
   stops = λ k d lt. absurd (omega arith);
 }
 
-starts : every_cell only.area (λ x y. same_signal (renumber_signal (circuit_wire net) (job_start job x y)) (start_signal (circuit_of circuit) layout x y)) ≡ true
+starts : every_cell only.area
+    (λ x y. same_signal (renumber_signal (circuit_wire net) (job_start job x y))
+    (start_signal (circuit_of circuit) layout x y)) ≡ true
 unfolding rectangle_cells job_start start_signal port_at place_of number in_box in_span
 starts = refl
 
-demands : every_cell only.area (λ x y. same_demand (renumber_demand (circuit_wire net) (job_demand job x y)) (end_demand (circuit_of circuit) layout x y)) ≡ true
+demands : every_cell only.area
+    (λ x y. same_demand (renumber_demand (circuit_wire net) (job_demand job x y))
+    (end_demand (circuit_of circuit) layout x y)) ≡ true
 unfolding rectangle_cells job_demand end_demand port_at place_of number in_box in_span
 demands = refl
 
@@ -238,8 +286,12 @@ is_job_of = record {
   used = refl;
   start_count = refl;
   demand_count = refl;
-  start = λ x y h. same_signal_is _ _ (at_every only.area (λ x y. same_signal (renumber_signal (circuit_wire net) (job_start job x y)) (start_signal (circuit_of circuit) layout x y)) starts x y h);
-  demand = λ x y h. same_demand_is _ _ (at_every only.area (λ x y. same_demand (renumber_demand (circuit_wire net) (job_demand job x y)) (end_demand (circuit_of circuit) layout x y)) demands x y h);
+  start = λ x y h. same_signal_is _ _
+      (at_every only.area (λ x y. same_signal (renumber_signal (circuit_wire net) (job_start job x y))
+      (start_signal (circuit_of circuit) layout x y)) starts x y h);
+  demand = λ x y h. same_demand_is _ _
+      (at_every only.area (λ x y. same_demand (renumber_demand (circuit_wire net) (job_demand job x y))
+      (end_demand (circuit_of circuit) layout x y)) demands x y h);
   edges = refl;
   halos = refl;
   own = own;
@@ -249,7 +301,8 @@ is_job_of = record {
 }
 
 no_stops_rise : IsRising moment_cmp stop_moment []
-no_stops_rise = record { rises = λ i j a b lt e f. absurd (let none : ◌≡◌ {A = Option Stop} (slice_get [] i) (Some a) = e in cc) }
+no_stops_rise =
+    record { rises = λ i j a b lt e f. absurd (let none : ◌≡◌ {A = Option Stop} (slice_get [] i) (Some a) = e in cc) }
 
 whole : IsJob job
 unfolding in_box in_span
@@ -268,10 +321,13 @@ unfolding values rectangle_cells job_start job_demand in_box in_span local_run
 ends = below_four (λ a. end_test job (values a) ≡ true) refl refl refl refl
 
 no_fault : (f : Fault) → ¬ IsFault job f
-no_fault = faultless job values whole is_ordered are_local (λ a h. record { edges = λ t odd early. absurd (no_time t early); stops = refl; end = ends a h })
+no_fault = faultless job values whole is_ordered are_local
+    (λ a h. record { edges = λ t odd early. absurd (no_time t early); stops = refl; end = ends a h })
 
 no_keep_fault : (f : KeepFault) → ¬ IsKeepFault job f
-no_keep_fault f is = ∥∥₁_elim is.shown (λ x y. absurd x) (λ u. undefined_has_none net.netlist (bit f.assignment) (values f.assignment) f.gate is_ordered u (are_local f.assignment is.in_range))
+no_keep_fault f is = ∥∥₁_elim is.shown (λ x y. absurd x)
+    (λ u. undefined_has_none net.netlist (bit f.assignment) (values f.assignment) f.gate is_ordered u
+    (are_local f.assignment is.in_range))
 
 -- ---- all of it
 
@@ -288,10 +344,12 @@ times_kept = refl
 no_more : (i : ℕ) (j : JobState) → slice_get [] i ≡ Some j → ⊥
 no_more i j e = cc
 
-each_job : (k : ℕ) (m : ModuleLines) (j : JobState) → slice_get modules k ≡ Some m → slice_get jobs k ≡ Some j → IsJobOf (circuit_of circuit) layout m j
+each_job : (k : ℕ) (m : ModuleLines) (j : JobState) → slice_get modules k ≡ Some m → slice_get jobs k ≡ Some j →
+    IsJobOf (circuit_of circuit) layout m j
 each_job zero m j e f =
     subst (λ (j : JobState). IsJobOf (circuit_of circuit) layout m j) (same_some (Some job) job j refl f)
-    (subst (λ (m : ModuleLines). IsJobOf (circuit_of circuit) layout m job) (same_some (Some only) only m refl e) is_job_of)
+    (subst (λ (m : ModuleLines). IsJobOf (circuit_of circuit) layout m job)
+    (same_some (Some only) only m refl e) is_job_of)
 each_job (suc k) m j e f = absurd (no_more k j f)
 
 each_faultless : (k : ℕ) (j : JobState) (f : Fault) → slice_get jobs k ≡ Some j → ¬ IsFault j f
@@ -299,13 +357,17 @@ each_faultless zero j f e = subst (λ (j : JobState). ¬ IsFault j f) (same_some
 each_faultless (suc k) j f e = absurd (no_more k j e)
 
 each_in_domain : (k : ℕ) (j : JobState) (f : KeepFault) → slice_get jobs k ≡ Some j → ¬ IsKeepFault j f
-each_in_domain zero j f e = subst (λ (j : JobState). ¬ IsKeepFault j f) (same_some (Some job) job j refl e) (no_keep_fault f)
+each_in_domain zero j f e = subst (λ (j : JobState). ¬ IsKeepFault j f) (same_some (Some job) job j refl e)
+    (no_keep_fault f)
 each_in_domain (suc k) j f e = absurd (no_more k j e)
 
 -- the first gate is no inverse one, the second is kept
-are_kept : (k : ℕ) (g : NetGate) → slice_get (netlist_of circuit).gates k ≡ Some g → IsTrue (is_inverse g.kind) → IsTrue (is_kept modules k)
+are_kept : (k : ℕ) (g : NetGate) → slice_get (netlist_of circuit).gates k ≡ Some g → IsTrue (is_inverse g.kind) →
+    IsTrue (is_kept modules k)
 unfolding number
-are_kept zero g e inverse = absurd (true≢false (sym inverse ∙ subst (λ (g : NetGate). is_inverse g.kind ≡ false) (same_some (slice_get (netlist_of circuit).gates 0) _ g refl e) refl))
+are_kept zero g e inverse = absurd
+    (true≢false (sym inverse ∙ subst (λ (g : NetGate). is_inverse g.kind ≡ false)
+    (same_some (slice_get (netlist_of circuit).gates 0) _ g refl e) refl))
 are_kept (suc zero) g e inverse = refl
 are_kept (suc (suc k)) g e inverse = absurd (let none : ◌≡◌ {A = Option NetGate} (slice_get [] k) (Some g) = e in cc)
 
@@ -332,13 +394,18 @@ meant_are = meant_old 1 (setting_of circuit layout) (modules_of bundle.entries) 
 is_verdict : IsVerdictOn certificate verdict.Yes
 unfolding IsVerdict
 is_verdict = record {
-  good = subst (AreModules (setting_of circuit layout)) (sym meant_are) (faultless_modules (setting_of circuit layout) 1 bundle.entries (certificate_faultless there_and_back bundle layout reads refl));
+  good = subst (AreModules (setting_of circuit layout)) (sym meant_are)
+      (faultless_modules (setting_of circuit layout) 1 bundle.entries
+      (certificate_faultless there_and_back bundle layout reads refl));
   jobs = jobs;
-  are_jobs = subst (λ ms. AreJobsOf (circuit_of circuit) layout ms jobs) (sym (meant_are ∙ modules_are)) (record { count = refl; each = each_job });
-  judged = subst (λ ms. IsVerdict (setting_of circuit layout) ms jobs verdict.Yes) (sym (meant_are ∙ modules_are)) accepts;
+  are_jobs = subst (λ ms. AreJobsOf (circuit_of circuit) layout ms jobs) (sym (meant_are ∙ modules_are))
+      (record { count = refl; each = each_job });
+  judged = subst (λ ms. IsVerdict (setting_of circuit layout) ms jobs verdict.Yes)
+      (sym (meant_are ∙ modules_are)) accepts;
 }
 
-answered : (read : Result Bundle Refusal) → Ok bundle ≡ read → Answered SaysReport read (report_lines certificate verdict.Yes) Yes
+answered : (read : Result Bundle Refusal) → Ok bundle ≡ read →
+    Answered SaysReport read (report_lines certificate verdict.Yes) Yes
 answered read e = subst (λ r. Answered SaysReport r (report_lines certificate verdict.Yes) Yes) e (record {
   certificate = certificate;
   its_own = record { circuit = refl; layout = refl; version = refl; entries = refl };
@@ -361,11 +428,16 @@ input_x : IsInputName circuit (codes "x")
 unfolding number place_of
 input_x = record { wire = 1; named = refl; is_given = omega arith }
 
-inverse_kept : (k : ℕ) (g : NetGate) → slice_get (netlist_of circuit).gates k ≡ Some g → IsTrue (is_inverse g.kind) → IsTrue (is_among (keeps only) k)
+inverse_kept : (k : ℕ) (g : NetGate) → slice_get (netlist_of circuit).gates k ≡ Some g → IsTrue (is_inverse g.kind) →
+    IsTrue (is_among (keeps only) k)
 unfolding number
-inverse_kept zero g e inverse = absurd (true≢false (sym inverse ∙ subst (λ (g : NetGate). is_inverse g.kind ≡ false) (same_some (slice_get (netlist_of circuit).gates 0) _ g refl e) refl))
+inverse_kept zero g e inverse =
+    absurd (true≢false (sym inverse
+    ∙ subst (λ (g : NetGate). is_inverse g.kind ≡ false)
+    (same_some (slice_get (netlist_of circuit).gates 0) _ g refl e) refl))
 inverse_kept (suc zero) g e inverse = refl
-inverse_kept (suc (suc k)) g e inverse = absurd (let none : ◌≡◌ {A = Option NetGate} (slice_get [] k) (Some g) = e in cc)
+inverse_kept (suc (suc k)) g e inverse =
+    absurd (let none : ◌≡◌ {A = Option NetGate} (slice_get [] k) (Some g) = e in cc)
 
 pub plain : ThereAndBackIsPlain
 plain = record {
@@ -377,7 +449,8 @@ plain = record {
   modules = modules_are;
   plain = record {
     box = refl;
-    inputs = All-cons (IsInputName circuit) (codes "c") (codes "x" ∷ []) input_c (All-cons (IsInputName circuit) (codes "x") [] input_x (All-nil (IsInputName circuit)));
+    inputs = All-cons (IsInputName circuit) (codes "c") (codes "x" ∷ []) input_c
+        (All-cons (IsInputName circuit) (codes "x") [] input_x (All-nil (IsInputName circuit)));
     inverses = inverse_kept;
     no_edge = refl;
   };
@@ -386,7 +459,22 @@ plain = record {
 -- ---- it is the plain text of a small design
 
 pub small : ThereAndBackIsSmall
-unfolding there_and_back words.lines_of words.rest_of words.number_of words.name_of words.number_at words.name_at words.names_at words.is_word_at words.lone words.lone_number words.lone_name section.section_of section.body_of circuit_forms.form_of circuit_forms.gate_entry circuit_forms.gate_names circuit_forms.gate_kind circuit_forms.bit_at circuit_rules.add_fault meaning.number meaning.place_of layout_forms.form_of layout_forms.cell_from layout_forms.lone_cell layout_forms.named_cell layout_forms.port_of layout_forms.size_of layout_forms.sides_and_steps layout_rules.size_fault layout_rules.limit_fault layout_rules.rank_of layout_rules.is_late layout_rules.order_fault layout_rules.name_fault layout_rules.cells_of layout_rules.is_inside layout_rules.begins layout_rules.ends layout_rules.begun layout_rules.ended layout_rules.is_taken layout_rules.cell_fault layout_rules.line_fault layout_rules.part_fault layout_rules.missing_fault layouts.rectangle_cells in_span boxes.in_box boxes.some_neighbour boxes.in_ring boxes.in_halo entries.change_last entries.last_of entries.add_line entries.modules_of forms.corner_and_sides forms.area_of forms.time_at forms.signal_at forms.timed_cell forms.border_of forms.timed_wire forms.stop_of forms.form_of orders.rank_of orders.number_of orders.cell_of orders.line_cmp orders.is_cut orders.may_precede orders.may_follow rules.lacks_port rules.box_fault rules.module_fault rules.cut_fault rules.are_new rules.gate_fault rules.use_fault rules.keep_fault rules.is_time rules.is_edge_place rules.is_halo_place rules.is_stop_place rules.signal_fault rules.border_fault rules.entry_fault rules.end_fault cell_cmp
+unfolding there_and_back words.lines_of words.rest_of words.number_of words.name_of words.number_at words.name_at
+    words.names_at words.is_word_at words.lone words.lone_number words.lone_name section.section_of section.body_of
+    circuit_forms.form_of circuit_forms.gate_entry circuit_forms.gate_names circuit_forms.gate_kind circuit_forms.bit_at
+    circuit_rules.add_fault meaning.number meaning.place_of layout_forms.form_of layout_forms.cell_from
+    layout_forms.lone_cell layout_forms.named_cell layout_forms.port_of layout_forms.size_of
+    layout_forms.sides_and_steps layout_rules.size_fault layout_rules.limit_fault layout_rules.rank_of
+    layout_rules.is_late layout_rules.order_fault layout_rules.name_fault layout_rules.cells_of layout_rules.is_inside
+    layout_rules.begins layout_rules.ends layout_rules.begun layout_rules.ended layout_rules.is_taken
+    layout_rules.cell_fault layout_rules.line_fault layout_rules.part_fault layout_rules.missing_fault
+    layouts.rectangle_cells in_span boxes.in_box boxes.some_neighbour boxes.in_ring boxes.in_halo entries.change_last
+    entries.last_of entries.add_line entries.modules_of forms.corner_and_sides forms.area_of forms.time_at
+    forms.signal_at forms.timed_cell forms.border_of forms.timed_wire forms.stop_of forms.form_of orders.rank_of
+    orders.number_of orders.cell_of orders.line_cmp orders.is_cut orders.may_precede orders.may_follow rules.lacks_port
+    rules.box_fault rules.module_fault rules.cut_fault rules.are_new rules.gate_fault rules.use_fault rules.keep_fault
+    rules.is_time rules.is_edge_place rules.is_halo_place rules.is_stop_place rules.signal_fault rules.border_fault
+    rules.entry_fault rules.end_fault cell_cmp
 small = record {
   circuit = circuit;
   layout = layout;

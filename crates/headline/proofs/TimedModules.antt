@@ -1,5 +1,6 @@
 -- The text of four modules around a gate, with stops and a delay, is accepted: it is read, and tried, by computation.
-use Rattle.std.proofs.Common.{◌≡◌, ℕ, zero, suc, ◌<◌, ◌%◌, true, false, List, [], ◌∷◌, ◌++◌, Option, Some, Result, Ok, refl, sym, subst, arith, Less, ◌∙◌}
+use Rattle.std.proofs.Common.{◌≡◌, ℕ, zero, suc, ◌<◌, ◌%◌, true, false, List, [], ◌∷◌, ◌++◌, Option, Some, Result, Ok}
+use Rattle.std.proofs.Common.{refl, sym, subst, arith, Less, ◌∙◌}
 use Rattle.std.specs.Prelude.{pos, codes, slice_get}
 use Rattle.std.proofs.lemmas.Bool.{true≢false}
 use Rattle.std.proofs.lemmas.List.Elements.{All-from_recursion}
@@ -70,7 +71,8 @@ use Rattle.answers.specs.CheckText.{IsVerdictOn, SaysReport}
 use Rattle.headline.specs.TimedModules.{timed_modules}
 use Rattle.headline.specs.Laws.{TimedModulesAreAccepted}
 use Rattle.answers.specs.declared.outcome.Outcome.TheVariants.{Yes}
-use Rattle.headline.proofs.Trials.{at_every, border_test, edge_test, end_test, stop_test, every_cell, faultless, no_border_fault, same_demand, same_demand_is, same_signal, same_signal_is}
+use Rattle.headline.proofs.Trials.{at_every, border_test, edge_test, end_test, stop_test, every_cell, faultless}
+use Rattle.headline.proofs.Trials.{no_border_fault, same_demand, same_demand_is, same_signal, same_signal_is}
 use Rattle.headline.proofs.YesIsRight.{certificate_faultless}
 
 abbrev at : ℕ → ℕ → Cell
@@ -87,7 +89,11 @@ circuit =
     record { kind = Input; ins = []; outs = codes "p" ∷ [] }
     ∷ record { kind = Input; ins = []; outs = codes "q" ∷ [] }
     ∷ record { kind = Input; ins = []; outs = codes "r" ∷ [] }
-    ∷ record { kind = Gate Interact; ins = codes "p" ∷ codes "q" ∷ []; outs = codes "a" ∷ codes "b" ∷ codes "c" ∷ codes "d" ∷ [] }
+    ∷ record {
+      kind = Gate Interact;
+      ins = codes "p" ∷ codes "q" ∷ [];
+      outs = codes "a" ∷ codes "b" ∷ codes "c" ∷ codes "d" ∷ [];
+    }
     ∷ record { kind = Gate (Delay 3); ins = codes "r" ∷ []; outs = codes "s" ∷ [] }
     ∷ record { kind = Output; ins = codes "a" ∷ []; outs = [] }
     ∷ record { kind = Output; ins = codes "b" ∷ []; outs = [] }
@@ -136,35 +142,60 @@ parts =
 abbrev pub first : ModuleLines
 first = record {
   area = record { x = 0; y = 0; w = 4; h = 4 };
-  lines = Cut (codes "p") ∷ Cut (codes "q") ∷ Use 0 ∷ Edge (border 1 3 3 (codes "p")) ∷ Halo (border 1 4 4 (codes "q")) ∷ AtStop (stop 0 (codes "p") 2 2) ∷ [];
+  lines = Cut (codes "p") ∷ Cut (codes "q") ∷ Use 0 ∷ Edge (border 1 3 3 (codes "p")) ∷ Halo (border 1 4 4 (codes "q"))
+      ∷ AtStop (stop 0 (codes "p") 2 2) ∷ [];
 }
 
 abbrev pub second : ModuleLines
 second = record {
   area = record { x = 4; y = 0; w = 4; h = 4 };
-  lines = Cut (codes "p") ∷ Cut (codes "q") ∷ Use 0 ∷ Halo (border 1 3 3 (codes "p")) ∷ Halo (border 1 4 4 (codes "q")) ∷ [];
+  lines = Cut (codes "p") ∷ Cut (codes "q") ∷ Use 0 ∷ Halo (border 1 3 3 (codes "p")) ∷ Halo (border 1 4 4 (codes "q"))
+      ∷ [];
 }
 
 abbrev pub third : ModuleLines
 third = record {
   area = record { x = 0; y = 4; w = 4; h = 4 };
-  lines = Cut (codes "p") ∷ Cut (codes "q") ∷ Cut (codes "r") ∷ Use 0 ∷ Use 1 ∷ Halo (border 1 3 3 (codes "p")) ∷ Halo (border 1 4 4 (codes "q")) ∷ AtStop (stop 0 (codes "r") 0 4) ∷ AtStop (stop 3 (codes "s") 3 7) ∷ [];
+  lines = Cut (codes "p") ∷ Cut (codes "q") ∷ Cut (codes "r") ∷ Use 0 ∷ Use 1 ∷ Halo (border 1 3 3 (codes "p"))
+      ∷ Halo (border 1 4 4 (codes "q")) ∷ AtStop (stop 0 (codes "r") 0 4) ∷ AtStop (stop 3 (codes "s") 3 7) ∷ [];
 }
 
 abbrev pub fourth : ModuleLines
 fourth = record {
   area = record { x = 4; y = 4; w = 4; h = 4 };
-  lines = Cut (codes "p") ∷ Cut (codes "q") ∷ Use 0 ∷ Edge (border 1 4 4 (codes "q")) ∷ Halo (border 1 3 3 (codes "p")) ∷ AtStop (stop 0 (codes "q") 5 5) ∷ [];
+  lines = Cut (codes "p") ∷ Cut (codes "q") ∷ Use 0 ∷ Edge (border 1 4 4 (codes "q")) ∷ Halo (border 1 3 3 (codes "p"))
+      ∷ AtStop (stop 0 (codes "q") 5 5) ∷ [];
 }
 
 abbrev lines_in : ModuleLines → List Entry
 lines_in m = Module m.area ∷ m.lines
 
 abbrev pub bundle : Bundle
-bundle = record { circuit = circuit; size = size; parts = parts; version = 1; entries = lines_in first ++ (lines_in second ++ (lines_in third ++ lines_in fourth)) }
+bundle = record {
+  circuit = circuit;
+  size = size;
+  parts = parts;
+  version = 1;
+  entries = lines_in first ++ (lines_in second ++ (lines_in third ++ lines_in fourth));
+}
 
 pub reads : bundle_of timed_modules ≡ Ok bundle
-unfolding timed_modules bundle_of words.lines_of words.rest_of words.number_of words.name_of words.number_at words.name_at words.names_at words.is_word_at words.lone words.lone_number words.lone_name section.section_of section.body_of circuit_forms.form_of circuit_forms.gate_entry circuit_forms.gate_names circuit_forms.gate_kind circuit_forms.bit_at circuit_rules.add_fault meaning.number meaning.place_of layout_forms.form_of layout_forms.cell_from layout_forms.lone_cell layout_forms.named_cell layout_forms.port_of layout_forms.size_of layout_forms.sides_and_steps layout_rules.size_fault layout_rules.limit_fault layout_rules.rank_of layout_rules.is_late layout_rules.order_fault layout_rules.name_fault layout_rules.cells_of layout_rules.is_inside layout_rules.begins layout_rules.ends layout_rules.begun layout_rules.ended layout_rules.is_taken layout_rules.cell_fault layout_rules.line_fault layout_rules.part_fault layout_rules.missing_fault layouts.rectangle_cells in_span boxes.in_box boxes.some_neighbour boxes.in_ring boxes.in_halo entries.change_last entries.last_of entries.add_line entries.modules_of forms.corner_and_sides forms.area_of forms.time_at forms.signal_at forms.timed_cell forms.border_of forms.timed_wire forms.stop_of forms.form_of orders.rank_of orders.number_of orders.cell_of orders.line_cmp orders.is_cut orders.may_precede orders.may_follow rules.lacks_port rules.box_fault rules.module_fault rules.cut_fault rules.are_new rules.gate_fault rules.use_fault rules.is_time rules.is_edge_place rules.is_halo_place rules.is_stop_place rules.signal_fault rules.border_fault rules.entry_fault rules.end_fault cell_cmp
+unfolding timed_modules bundle_of words.lines_of words.rest_of words.number_of words.name_of words.number_at
+    words.name_at words.names_at words.is_word_at words.lone words.lone_number words.lone_name section.section_of
+    section.body_of circuit_forms.form_of circuit_forms.gate_entry circuit_forms.gate_names circuit_forms.gate_kind
+    circuit_forms.bit_at circuit_rules.add_fault meaning.number meaning.place_of layout_forms.form_of
+    layout_forms.cell_from layout_forms.lone_cell layout_forms.named_cell layout_forms.port_of layout_forms.size_of
+    layout_forms.sides_and_steps layout_rules.size_fault layout_rules.limit_fault layout_rules.rank_of
+    layout_rules.is_late layout_rules.order_fault layout_rules.name_fault layout_rules.cells_of layout_rules.is_inside
+    layout_rules.begins layout_rules.ends layout_rules.begun layout_rules.ended layout_rules.is_taken
+    layout_rules.cell_fault layout_rules.line_fault layout_rules.part_fault layout_rules.missing_fault
+    layouts.rectangle_cells in_span boxes.in_box boxes.some_neighbour boxes.in_ring boxes.in_halo entries.change_last
+    entries.last_of entries.add_line entries.modules_of forms.corner_and_sides forms.area_of forms.time_at
+    forms.signal_at forms.timed_cell forms.border_of forms.timed_wire forms.stop_of forms.form_of orders.rank_of
+    orders.number_of orders.cell_of orders.line_cmp orders.is_cut orders.may_precede orders.may_follow rules.lacks_port
+    rules.box_fault rules.module_fault rules.cut_fault rules.are_new rules.gate_fault rules.use_fault rules.is_time
+    rules.is_edge_place rules.is_halo_place rules.is_stop_place rules.signal_fault rules.border_fault rules.entry_fault
+    rules.end_fault cell_cmp
 reads = refl
 
 -- ---- the jobs
@@ -178,7 +209,11 @@ abbrev gate : NetGate
 gate = record { kind = Interacts; ins = 0 ∷ 1 ∷ []; outs = 2 ∷ 3 ∷ 4 ∷ 5 ∷ [] }
 
 abbrev net : LocalNet
-net = record { netlist = record { given = 2; gates = gate ∷ [] }; circuit_wires = 0 ∷ 1 ∷ 3 ∷ 4 ∷ 5 ∷ 6 ∷ []; circuit_gates = 0 ∷ [] }
+net = record {
+  netlist = record { given = 2; gates = gate ∷ [] };
+  circuit_wires = 0 ∷ 1 ∷ 3 ∷ 4 ∷ 5 ∷ 6 ∷ [];
+  circuit_gates = 0 ∷ [];
+}
 
 -- the third one cuts r too, and uses the delay
 abbrev third_gate : NetGate
@@ -188,7 +223,11 @@ abbrev delay : NetGate
 delay = record { kind = Delays 3; ins = 2 ∷ []; outs = 7 ∷ [] }
 
 abbrev third_net : LocalNet
-third_net = record { netlist = record { given = 3; gates = third_gate ∷ delay ∷ [] }; circuit_wires = 0 ∷ 1 ∷ 2 ∷ 3 ∷ 4 ∷ 5 ∷ 6 ∷ 7 ∷ []; circuit_gates = 0 ∷ 1 ∷ [] }
+third_net = record {
+  netlist = record { given = 3; gates = third_gate ∷ delay ∷ [] };
+  circuit_wires = 0 ∷ 1 ∷ 2 ∷ 3 ∷ 4 ∷ 5 ∷ 6 ∷ 7 ∷ [];
+  circuit_gates = 0 ∷ 1 ∷ [];
+}
 
 abbrev stands : ℕ → ℕ → ℕ → ℕ → Stop
 stands t x y w = record { at = record { time = t; cell = at x y }; wire = w }
@@ -264,7 +303,14 @@ abbrev jobs : List JobState
 jobs = first_job ∷ second_job ∷ third_job ∷ fourth_job ∷ []
 
 abbrev pub layout : Pattern
-layout = record { size = size; mirrors = []; balls = []; ins = port_p ∷ port_q ∷ port_r ∷ []; outs = port_a ∷ port_b ∷ port_c ∷ port_d ∷ port_s ∷ []; wastes = [] }
+layout = record {
+  size = size;
+  mirrors = [];
+  balls = [];
+  ins = port_p ∷ port_q ∷ port_r ∷ [];
+  outs = port_a ∷ port_b ∷ port_c ∷ port_d ∷ port_s ∷ [];
+  wastes = [];
+}
 
 -- ---- the values of the wires
 
@@ -307,10 +353,22 @@ values (suc (suc (suc n))) = read (true ∷ true ∷ true ∷ false ∷ false �
 are_local : (a : ℕ) → a < 4 → IsLocalValuation net a (values a)
 unfolding values bit row
 are_local = below_four (λ a. IsLocalValuation net a (values a))
-    (record { given = below_two (λ i. values 0 i ≡ bit 0 i) refl refl; rows = All-from_recursion (HasRow (values 0)) (gate ∷ []) (refl, tt) })
-    (record { given = below_two (λ i. values 1 i ≡ bit 1 i) refl refl; rows = All-from_recursion (HasRow (values 1)) (gate ∷ []) (refl, tt) })
-    (record { given = below_two (λ i. values 2 i ≡ bit 2 i) refl refl; rows = All-from_recursion (HasRow (values 2)) (gate ∷ []) (refl, tt) })
-    (record { given = below_two (λ i. values 3 i ≡ bit 3 i) refl refl; rows = All-from_recursion (HasRow (values 3)) (gate ∷ []) (refl, tt) })
+    (record {
+      given = below_two (λ i. values 0 i ≡ bit 0 i) refl refl;
+      rows = All-from_recursion (HasRow (values 0)) (gate ∷ []) (refl, tt);
+    })
+    (record {
+      given = below_two (λ i. values 1 i ≡ bit 1 i) refl refl;
+      rows = All-from_recursion (HasRow (values 1)) (gate ∷ []) (refl, tt);
+    })
+    (record {
+      given = below_two (λ i. values 2 i ≡ bit 2 i) refl refl;
+      rows = All-from_recursion (HasRow (values 2)) (gate ∷ []) (refl, tt);
+    })
+    (record {
+      given = below_two (λ i. values 3 i ≡ bit 3 i) refl refl;
+      rows = All-from_recursion (HasRow (values 3)) (gate ∷ []) (refl, tt);
+    })
 
 -- and of p, q and r
 third_values : ℕ → Valuation
@@ -320,20 +378,46 @@ third_values (suc (suc zero)) = read (false ∷ true ∷ false ∷ false ∷ tru
 third_values (suc (suc (suc zero))) = read (true ∷ true ∷ false ∷ true ∷ false ∷ false ∷ true ∷ false ∷ [])
 third_values (suc (suc (suc (suc zero)))) = read (false ∷ false ∷ true ∷ false ∷ false ∷ false ∷ false ∷ true ∷ [])
 third_values (suc (suc (suc (suc (suc zero))))) = read (true ∷ false ∷ true ∷ false ∷ false ∷ true ∷ false ∷ true ∷ [])
-third_values (suc (suc (suc (suc (suc (suc zero)))))) = read (false ∷ true ∷ true ∷ false ∷ true ∷ false ∷ false ∷ true ∷ [])
-third_values (suc (suc (suc (suc (suc (suc (suc n))))))) = read (true ∷ true ∷ true ∷ true ∷ false ∷ false ∷ true ∷ true ∷ [])
+third_values (suc (suc (suc (suc (suc (suc zero)))))) =
+    read (false ∷ true ∷ true ∷ false ∷ true ∷ false ∷ false ∷ true ∷ [])
+third_values (suc (suc (suc (suc (suc (suc (suc n))))))) =
+    read (true ∷ true ∷ true ∷ true ∷ false ∷ false ∷ true ∷ true ∷ [])
 
 third_are_local : (a : ℕ) → a < 8 → IsLocalValuation third_net a (third_values a)
 unfolding third_values bit row
 third_are_local = below_eight (λ a. IsLocalValuation third_net a (third_values a))
-    (record { given = below_three (λ i. third_values 0 i ≡ bit 0 i) refl refl refl; rows = All-from_recursion (HasRow (third_values 0)) (third_gate ∷ delay ∷ []) (refl, (refl, tt)) })
-    (record { given = below_three (λ i. third_values 1 i ≡ bit 1 i) refl refl refl; rows = All-from_recursion (HasRow (third_values 1)) (third_gate ∷ delay ∷ []) (refl, (refl, tt)) })
-    (record { given = below_three (λ i. third_values 2 i ≡ bit 2 i) refl refl refl; rows = All-from_recursion (HasRow (third_values 2)) (third_gate ∷ delay ∷ []) (refl, (refl, tt)) })
-    (record { given = below_three (λ i. third_values 3 i ≡ bit 3 i) refl refl refl; rows = All-from_recursion (HasRow (third_values 3)) (third_gate ∷ delay ∷ []) (refl, (refl, tt)) })
-    (record { given = below_three (λ i. third_values 4 i ≡ bit 4 i) refl refl refl; rows = All-from_recursion (HasRow (third_values 4)) (third_gate ∷ delay ∷ []) (refl, (refl, tt)) })
-    (record { given = below_three (λ i. third_values 5 i ≡ bit 5 i) refl refl refl; rows = All-from_recursion (HasRow (third_values 5)) (third_gate ∷ delay ∷ []) (refl, (refl, tt)) })
-    (record { given = below_three (λ i. third_values 6 i ≡ bit 6 i) refl refl refl; rows = All-from_recursion (HasRow (third_values 6)) (third_gate ∷ delay ∷ []) (refl, (refl, tt)) })
-    (record { given = below_three (λ i. third_values 7 i ≡ bit 7 i) refl refl refl; rows = All-from_recursion (HasRow (third_values 7)) (third_gate ∷ delay ∷ []) (refl, (refl, tt)) })
+    (record {
+      given = below_three (λ i. third_values 0 i ≡ bit 0 i) refl refl refl;
+      rows = All-from_recursion (HasRow (third_values 0)) (third_gate ∷ delay ∷ []) (refl, (refl, tt));
+    })
+    (record {
+      given = below_three (λ i. third_values 1 i ≡ bit 1 i) refl refl refl;
+      rows = All-from_recursion (HasRow (third_values 1)) (third_gate ∷ delay ∷ []) (refl, (refl, tt));
+    })
+    (record {
+      given = below_three (λ i. third_values 2 i ≡ bit 2 i) refl refl refl;
+      rows = All-from_recursion (HasRow (third_values 2)) (third_gate ∷ delay ∷ []) (refl, (refl, tt));
+    })
+    (record {
+      given = below_three (λ i. third_values 3 i ≡ bit 3 i) refl refl refl;
+      rows = All-from_recursion (HasRow (third_values 3)) (third_gate ∷ delay ∷ []) (refl, (refl, tt));
+    })
+    (record {
+      given = below_three (λ i. third_values 4 i ≡ bit 4 i) refl refl refl;
+      rows = All-from_recursion (HasRow (third_values 4)) (third_gate ∷ delay ∷ []) (refl, (refl, tt));
+    })
+    (record {
+      given = below_three (λ i. third_values 5 i ≡ bit 5 i) refl refl refl;
+      rows = All-from_recursion (HasRow (third_values 5)) (third_gate ∷ delay ∷ []) (refl, (refl, tt));
+    })
+    (record {
+      given = below_three (λ i. third_values 6 i ≡ bit 6 i) refl refl refl;
+      rows = All-from_recursion (HasRow (third_values 6)) (third_gate ∷ delay ∷ []) (refl, (refl, tt));
+    })
+    (record {
+      given = below_three (λ i. third_values 7 i ≡ bit 7 i) refl refl refl;
+      rows = All-from_recursion (HasRow (third_values 7)) (third_gate ∷ delay ∷ []) (refl, (refl, tt));
+    })
 
 is_ordered : AreOrdered 2 (gate ∷ [])
 unfolding AreOrdered
@@ -348,9 +432,11 @@ third_is_ordered = (
   (All-from_recursion (λ w. w < 7) (2 ∷ []) (omega arith, tt), refl, refl, tt),
 )
 
-only_gate : (k : ℕ) (g : NetGate) → slice_get (gate ∷ []) k ≡ Some g → slice_get (netlist_of circuit).gates (circuit_gate net k) ≡ Some (renumber_gate (circuit_wire net) g)
+only_gate : (k : ℕ) (g : NetGate) → slice_get (gate ∷ []) k ≡ Some g →
+    slice_get (netlist_of circuit).gates (circuit_gate net k) ≡ Some (renumber_gate (circuit_wire net) g)
 unfolding number
-only_gate zero g e = let own : gate ≡ g = cc in subst (λ (h : NetGate). slice_get (netlist_of circuit).gates 0 ≡ Some (renumber_gate (circuit_wire net) h)) own refl
+only_gate zero g e = let own : gate ≡ g = cc in
+    subst (λ (h : NetGate). slice_get (netlist_of circuit).gates 0 ≡ Some (renumber_gate (circuit_wire net) h)) own refl
 only_gate (suc k) g e = absurd (no_gate k g e)
   where
     no_gate : (k : ℕ) (g : NetGate) → slice_get [] k ≡ Some g → ⊥
@@ -358,12 +444,18 @@ only_gate (suc k) g e = absurd (no_gate k g e)
 
 are_locals : AreLocalsOf (netlist_of circuit) net
 unfolding wires_after
-are_locals = record { used = only_gate; rising = λ k m lt l. absurd (omega (arith, lt, l)); ordered = is_ordered; sized = refl }
+are_locals =
+    record { used = only_gate; rising = λ k m lt l. absurd (omega (arith, lt, l)); ordered = is_ordered; sized = refl }
 
-both_gates : (k : ℕ) (g : NetGate) → slice_get (third_gate ∷ delay ∷ []) k ≡ Some g → slice_get (netlist_of circuit).gates (circuit_gate third_net k) ≡ Some (renumber_gate (circuit_wire third_net) g)
+both_gates : (k : ℕ) (g : NetGate) → slice_get (third_gate ∷ delay ∷ []) k ≡ Some g →
+    slice_get (netlist_of circuit).gates (circuit_gate third_net k) ≡ Some (renumber_gate (circuit_wire third_net) g)
 unfolding number
-both_gates zero g e = let own : third_gate ≡ g = cc in subst (λ (h : NetGate). slice_get (netlist_of circuit).gates 0 ≡ Some (renumber_gate (circuit_wire third_net) h)) own refl
-both_gates (suc zero) g e = let own : delay ≡ g = cc in subst (λ (h : NetGate). slice_get (netlist_of circuit).gates 1 ≡ Some (renumber_gate (circuit_wire third_net) h)) own refl
+both_gates zero g e = let own : third_gate ≡ g = cc in
+    subst (λ (h : NetGate). slice_get (netlist_of circuit).gates 0 ≡ Some (renumber_gate (circuit_wire third_net) h))
+    own refl
+both_gates (suc zero) g e = let own : delay ≡ g = cc in
+    subst (λ (h : NetGate). slice_get (netlist_of circuit).gates 1 ≡ Some (renumber_gate (circuit_wire third_net) h))
+    own refl
 both_gates (suc (suc k)) g e = absurd (no_gate k g e)
   where
     no_gate : (k : ℕ) (g : NetGate) → slice_get [] k ≡ Some g → ⊥
@@ -381,16 +473,24 @@ third_are_locals = record { used = both_gates; rising = gates_rise; ordered = th
 
 -- stops that rise
 one_rises : (s : Stop) → IsRising moment_cmp stop_moment (s ∷ [])
-one_rises s = record { rises = λ i j a b lt e f. absurd (let within = slice_get_within (s ∷ []) j b f in omega (arith, lt, within)) }
+one_rises s =
+    record {
+      rises = λ i j a b lt e f. absurd (let within = slice_get_within (s ∷ []) j b f in omega (arith, lt, within));
+    }
 
-two_rise : (s t : Stop) → moment_cmp (stop_moment s) (stop_moment t) ≡ Less → IsRising moment_cmp stop_moment (s ∷ t ∷ [])
+two_rise : (s t : Stop) → moment_cmp (stop_moment s) (stop_moment t) ≡ Less →
+    IsRising moment_cmp stop_moment (s ∷ t ∷ [])
 two_rise s t less = record { rises = at_places }
   where
-    at_places : (i j : ℕ) (a b : Stop) → i < j → slice_get (s ∷ t ∷ []) i ≡ Some a → slice_get (s ∷ t ∷ []) j ≡ Some b → moment_cmp (stop_moment a) (stop_moment b) ≡ Less
+    at_places : (i j : ℕ) (a b : Stop) → i < j → slice_get (s ∷ t ∷ []) i ≡ Some a → slice_get (s ∷ t ∷ []) j ≡ Some b →
+        moment_cmp (stop_moment a) (stop_moment b) ≡ Less
     at_places zero zero a b lt e f = absurd (omega (arith, lt))
-    at_places zero (suc zero) a b lt e f = let p = same_some (Some s) s a refl e in let q = same_some (Some t) t b refl f in sym (λ i. moment_cmp (stop_moment (p i)) (stop_moment (q i))) ∙ less
-    at_places zero (suc (suc j)) a b lt e f = absurd (let within = slice_get_within (s ∷ t ∷ []) (suc (suc j)) b f in omega (arith, within))
-    at_places (suc i) j a b lt e f = absurd (let within = slice_get_within (s ∷ t ∷ []) j b f in omega (arith, lt, within))
+    at_places zero (suc zero) a b lt e f = let p = same_some (Some s) s a refl e in let q =
+        same_some (Some t) t b refl f in sym (λ i. moment_cmp (stop_moment (p i)) (stop_moment (q i))) ∙ less
+    at_places zero (suc (suc j)) a b lt e f =
+        absurd (let within = slice_get_within (s ∷ t ∷ []) (suc (suc j)) b f in omega (arith, within))
+    at_places (suc i) j a b lt e f =
+        absurd (let within = slice_get_within (s ∷ t ∷ []) j b f in omega (arith, lt, within))
 
 only_time : (P : ℕ → Type 0) → P 1 → (t : ℕ) → t % 2 ≡ 1 → t < 3 → P t
 only_time P one t odd early = let is : 1 ≡ t = omega (arith, odd, early) in subst P is one
@@ -411,11 +511,15 @@ first_own = record {
   stops = All-from_recursion (λ (s : Stop). s.wire < 6) first_job.stops (omega arith, tt);
 }
 
-first_starts : every_cell first.area (λ x y. same_signal (renumber_signal (circuit_wire net) (job_start first_job x y)) (start_signal (circuit_of circuit) layout x y)) ≡ true
+first_starts : every_cell first.area
+    (λ x y. same_signal (renumber_signal (circuit_wire net) (job_start first_job x y))
+    (start_signal (circuit_of circuit) layout x y)) ≡ true
 unfolding rectangle_cells job_start start_signal port_at place_of number in_box in_span
 first_starts = refl
 
-first_demands : every_cell first.area (λ x y. same_demand (renumber_demand (circuit_wire net) (job_demand first_job x y)) (end_demand (circuit_of circuit) layout x y)) ≡ true
+first_demands : every_cell first.area
+    (λ x y. same_demand (renumber_demand (circuit_wire net) (job_demand first_job x y))
+    (end_demand (circuit_of circuit) layout x y)) ≡ true
 unfolding rectangle_cells job_demand end_demand port_at place_of number in_box in_span
 first_demands = refl
 
@@ -430,8 +534,12 @@ first_is = record {
   used = refl;
   start_count = refl;
   demand_count = refl;
-  start = λ x y h. same_signal_is _ _ (at_every first.area (λ x y. same_signal (renumber_signal (circuit_wire net) (job_start first_job x y)) (start_signal (circuit_of circuit) layout x y)) first_starts x y h);
-  demand = λ x y h. same_demand_is _ _ (at_every first.area (λ x y. same_demand (renumber_demand (circuit_wire net) (job_demand first_job x y)) (end_demand (circuit_of circuit) layout x y)) first_demands x y h);
+  start = λ x y h. same_signal_is _ _
+      (at_every first.area (λ x y. same_signal (renumber_signal (circuit_wire net) (job_start first_job x y))
+      (start_signal (circuit_of circuit) layout x y)) first_starts x y h);
+  demand = λ x y h. same_demand_is _ _
+      (at_every first.area (λ x y. same_demand (renumber_demand (circuit_wire net) (job_demand first_job x y))
+      (end_demand (circuit_of circuit) layout x y)) first_demands x y h);
   edges = refl;
   halos = refl;
   own = first_own;
@@ -453,19 +561,26 @@ first_whole = record {
 }
 
 first_edges : (a : ℕ) → a < 4 → edge_test first_job (values a) 1 ≡ true
-unfolding values rectangle_cells job_start in_ring in_halo some_neighbour in_box in_span local_run local_step with_halo step partner turned signal_at held_at event_at
+unfolding values rectangle_cells job_start in_ring in_halo some_neighbour in_box in_span local_run local_step with_halo
+    step partner turned signal_at held_at event_at
 first_edges = below_four (λ a. edge_test first_job (values a) 1 ≡ true) refl refl refl refl
 
 first_ends : (a : ℕ) → a < 4 → end_test first_job (values a) ≡ true
-unfolding values rectangle_cells job_start job_demand in_ring in_halo some_neighbour in_box in_span local_run local_step with_halo step partner turned signal_at held_at event_at
+unfolding values rectangle_cells job_start job_demand in_ring in_halo some_neighbour in_box in_span local_run local_step
+    with_halo step partner turned signal_at held_at event_at
 first_ends = below_four (λ a. end_test first_job (values a) ≡ true) refl refl refl refl
 
 first_stops : (a : ℕ) → a < 4 → stop_test first_job (values a) ≡ true
-unfolding values rectangle_cells job_start in_ring in_halo some_neighbour in_box in_span local_run local_step with_halo step partner turned signal_at held_at event_at
+unfolding values rectangle_cells job_start in_ring in_halo some_neighbour in_box in_span local_run local_step with_halo
+    step partner turned signal_at held_at event_at
 first_stops = below_four (λ a. stop_test first_job (values a) ≡ true) refl refl refl refl
 
 first_faultless : (f : Fault) → ¬ IsFault first_job f
-first_faultless = faultless first_job values first_whole is_ordered are_local (λ a h. record { edges = only_time (λ t. edge_test first_job (values a) t ≡ true) (first_edges a h); stops = first_stops a h; end = first_ends a h })
+first_faultless = faultless first_job values first_whole is_ordered are_local (λ a h. record {
+  edges = only_time (λ t. edge_test first_job (values a) t ≡ true) (first_edges a h);
+  stops = first_stops a h;
+  end = first_ends a h;
+})
 
 no_stop : (j : ℕ) (b : Stop) → slice_get [] j ≡ Some b → ⊥
 no_stop j b e = cc
@@ -482,15 +597,20 @@ second_own = record {
   edge_held = λ k d lt. absurd (omega arith);
   edge_events = All-from_recursion (λ (e : Event). IsBelow 6 e.signal) second_job.edges.events tt;
   halo_held = λ k d lt. absurd (omega arith);
-  halo_events = All-from_recursion (λ (e : Event). IsBelow 6 e.signal) second_job.halos.events (omega arith, (omega arith, tt));
+  halo_events = All-from_recursion (λ (e : Event). IsBelow 6 e.signal) second_job.halos.events
+      (omega arith, (omega arith, tt));
   stops = λ k d lt. absurd (omega arith);
 }
 
-second_starts : every_cell second.area (λ x y. same_signal (renumber_signal (circuit_wire net) (job_start second_job x y)) (start_signal (circuit_of circuit) layout x y)) ≡ true
+second_starts : every_cell second.area
+    (λ x y. same_signal (renumber_signal (circuit_wire net) (job_start second_job x y))
+    (start_signal (circuit_of circuit) layout x y)) ≡ true
 unfolding rectangle_cells job_start start_signal port_at place_of number in_box in_span
 second_starts = refl
 
-second_demands : every_cell second.area (λ x y. same_demand (renumber_demand (circuit_wire net) (job_demand second_job x y)) (end_demand (circuit_of circuit) layout x y)) ≡ true
+second_demands : every_cell second.area
+    (λ x y. same_demand (renumber_demand (circuit_wire net) (job_demand second_job x y))
+    (end_demand (circuit_of circuit) layout x y)) ≡ true
 unfolding rectangle_cells job_demand end_demand port_at place_of number in_box in_span
 second_demands = refl
 
@@ -505,8 +625,14 @@ second_is = record {
   used = refl;
   start_count = refl;
   demand_count = refl;
-  start = λ x y h. same_signal_is _ _ (at_every second.area (λ x y. same_signal (renumber_signal (circuit_wire net) (job_start second_job x y)) (start_signal (circuit_of circuit) layout x y)) second_starts x y h);
-  demand = λ x y h. same_demand_is _ _ (at_every second.area (λ x y. same_demand (renumber_demand (circuit_wire net) (job_demand second_job x y)) (end_demand (circuit_of circuit) layout x y)) second_demands x y h);
+  start = λ x y h. same_signal_is _ _
+      (at_every second.area (λ x y.
+      same_signal (renumber_signal (circuit_wire net) (job_start second_job x y))
+      (start_signal (circuit_of circuit) layout x y)) second_starts x y h);
+  demand = λ x y h. same_demand_is _ _
+      (at_every second.area (λ x y.
+      same_demand (renumber_demand (circuit_wire net) (job_demand second_job x y))
+      (end_demand (circuit_of circuit) layout x y)) second_demands x y h);
   edges = refl;
   halos = refl;
   own = second_own;
@@ -527,19 +653,26 @@ second_whole = record {
 }
 
 second_edges : (a : ℕ) → a < 4 → edge_test second_job (values a) 1 ≡ true
-unfolding values rectangle_cells job_start in_ring in_halo some_neighbour in_box in_span local_run local_step with_halo step partner turned signal_at held_at event_at
+unfolding values rectangle_cells job_start in_ring in_halo some_neighbour in_box in_span local_run local_step with_halo
+    step partner turned signal_at held_at event_at
 second_edges = below_four (λ a. edge_test second_job (values a) 1 ≡ true) refl refl refl refl
 
 second_ends : (a : ℕ) → a < 4 → end_test second_job (values a) ≡ true
-unfolding values rectangle_cells job_start job_demand in_ring in_halo some_neighbour in_box in_span local_run local_step with_halo step partner turned signal_at held_at event_at
+unfolding values rectangle_cells job_start job_demand in_ring in_halo some_neighbour in_box in_span local_run local_step
+    with_halo step partner turned signal_at held_at event_at
 second_ends = below_four (λ a. end_test second_job (values a) ≡ true) refl refl refl refl
 
 second_stops : (a : ℕ) → a < 4 → stop_test second_job (values a) ≡ true
-unfolding values rectangle_cells job_start in_ring in_halo some_neighbour in_box in_span local_run local_step with_halo step partner turned signal_at held_at event_at
+unfolding values rectangle_cells job_start in_ring in_halo some_neighbour in_box in_span local_run local_step with_halo
+    step partner turned signal_at held_at event_at
 second_stops = below_four (λ a. stop_test second_job (values a) ≡ true) refl refl refl refl
 
 second_faultless : (f : Fault) → ¬ IsFault second_job f
-second_faultless = faultless second_job values second_whole is_ordered are_local (λ a h. record { edges = only_time (λ t. edge_test second_job (values a) t ≡ true) (second_edges a h); stops = second_stops a h; end = second_ends a h })
+second_faultless = faultless second_job values second_whole is_ordered are_local (λ a h. record {
+  edges = only_time (λ t. edge_test second_job (values a) t ≡ true) (second_edges a h);
+  stops = second_stops a h;
+  end = second_ends a h;
+})
 
 -- ---- the third job
 
@@ -548,20 +681,27 @@ unfolding wires_after
 third_own = record {
   starts = All-from_recursion (IsBelow 8) third_job.starts
       (omega arith, (tt, (tt, (tt, (tt, (tt, (tt, (tt, (tt, (tt, (tt, (tt, (tt, (tt, (tt, (tt, tt))))))))))))))));
-  demands = All-from_recursion (IsDemandBelow 8) third_job.demands
-      (tt, (tt, (tt, (tt, (tt, (tt, (omega arith, (tt, (tt, (tt, (tt, (tt, (tt, (tt, (tt, (omega arith, tt))))))))))))))));
+  demands = All-from_recursion (IsDemandBelow 8) third_job.demands (
+    tt,
+    (tt, (tt, (tt, (tt, (tt, (omega arith, (tt, (tt, (tt, (tt, (tt, (tt, (tt, (tt, (omega arith, tt))))))))))))))),
+  );
   edge_held = λ k d lt. absurd (omega arith);
   edge_events = All-from_recursion (λ (e : Event). IsBelow 8 e.signal) third_job.edges.events tt;
   halo_held = λ k d lt. absurd (omega arith);
-  halo_events = All-from_recursion (λ (e : Event). IsBelow 8 e.signal) third_job.halos.events (omega arith, (omega arith, tt));
+  halo_events = All-from_recursion (λ (e : Event). IsBelow 8 e.signal) third_job.halos.events
+      (omega arith, (omega arith, tt));
   stops = All-from_recursion (λ (s : Stop). s.wire < 8) third_job.stops (omega arith, (omega arith, tt));
 }
 
-third_starts : every_cell third.area (λ x y. same_signal (renumber_signal (circuit_wire third_net) (job_start third_job x y)) (start_signal (circuit_of circuit) layout x y)) ≡ true
+third_starts : every_cell third.area
+    (λ x y. same_signal (renumber_signal (circuit_wire third_net) (job_start third_job x y))
+    (start_signal (circuit_of circuit) layout x y)) ≡ true
 unfolding rectangle_cells job_start start_signal port_at place_of number in_box in_span
 third_starts = refl
 
-third_demands : every_cell third.area (λ x y. same_demand (renumber_demand (circuit_wire third_net) (job_demand third_job x y)) (end_demand (circuit_of circuit) layout x y)) ≡ true
+third_demands : every_cell third.area
+    (λ x y. same_demand (renumber_demand (circuit_wire third_net) (job_demand third_job x y))
+    (end_demand (circuit_of circuit) layout x y)) ≡ true
 unfolding rectangle_cells job_demand end_demand port_at place_of number in_box in_span
 third_demands = refl
 
@@ -576,8 +716,12 @@ third_is = record {
   used = refl;
   start_count = refl;
   demand_count = refl;
-  start = λ x y h. same_signal_is _ _ (at_every third.area (λ x y. same_signal (renumber_signal (circuit_wire third_net) (job_start third_job x y)) (start_signal (circuit_of circuit) layout x y)) third_starts x y h);
-  demand = λ x y h. same_demand_is _ _ (at_every third.area (λ x y. same_demand (renumber_demand (circuit_wire third_net) (job_demand third_job x y)) (end_demand (circuit_of circuit) layout x y)) third_demands x y h);
+  start = λ x y h. same_signal_is _ _
+      (at_every third.area (λ x y. same_signal (renumber_signal (circuit_wire third_net) (job_start third_job x y))
+      (start_signal (circuit_of circuit) layout x y)) third_starts x y h);
+  demand = λ x y h. same_demand_is _ _
+      (at_every third.area (λ x y. same_demand (renumber_demand (circuit_wire third_net) (job_demand third_job x y))
+      (end_demand (circuit_of circuit) layout x y)) third_demands x y h);
   edges = refl;
   halos = refl;
   own = third_own;
@@ -594,24 +738,32 @@ third_whole = record {
   height = (omega arith, omega arith, omega arith);
   steps = omega arith;
   own = third_own;
-  stops = All-from_recursion (IsStopOf third_job) third_job.stops (record { time = omega arith; inside = refl }, (record { time = omega arith; inside = refl }, tt));
+  stops = All-from_recursion (IsStopOf third_job) third_job.stops
+      (record { time = omega arith; inside = refl }, (record { time = omega arith; inside = refl }, tt));
   stops_rise = two_rise (stands 0 0 4 2) (stands 3 3 7 7) refl;
 }
 
 third_edges : (a : ℕ) → a < 8 → edge_test third_job (third_values a) 1 ≡ true
-unfolding third_values rectangle_cells job_start in_ring in_halo some_neighbour in_box in_span local_run local_step with_halo step partner turned signal_at held_at event_at
+unfolding third_values rectangle_cells job_start in_ring in_halo some_neighbour in_box in_span local_run local_step
+    with_halo step partner turned signal_at held_at event_at
 third_edges = below_eight (λ a. edge_test third_job (third_values a) 1 ≡ true) refl refl refl refl refl refl refl refl
 
 third_ends : (a : ℕ) → a < 8 → end_test third_job (third_values a) ≡ true
-unfolding third_values rectangle_cells job_start job_demand in_ring in_halo some_neighbour in_box in_span local_run local_step with_halo step partner turned signal_at held_at event_at
+unfolding third_values rectangle_cells job_start job_demand in_ring in_halo some_neighbour in_box in_span local_run
+    local_step with_halo step partner turned signal_at held_at event_at
 third_ends = below_eight (λ a. end_test third_job (third_values a) ≡ true) refl refl refl refl refl refl refl refl
 
 third_stops : (a : ℕ) → a < 8 → stop_test third_job (third_values a) ≡ true
-unfolding third_values rectangle_cells job_start in_ring in_halo some_neighbour in_box in_span local_run local_step with_halo step partner turned signal_at held_at event_at
+unfolding third_values rectangle_cells job_start in_ring in_halo some_neighbour in_box in_span local_run local_step
+    with_halo step partner turned signal_at held_at event_at
 third_stops = below_eight (λ a. stop_test third_job (third_values a) ≡ true) refl refl refl refl refl refl refl refl
 
 third_faultless : (f : Fault) → ¬ IsFault third_job f
-third_faultless = faultless third_job third_values third_whole third_is_ordered third_are_local (λ a h. record { edges = only_time (λ t. edge_test third_job (third_values a) t ≡ true) (third_edges a h); stops = third_stops a h; end = third_ends a h })
+third_faultless = faultless third_job third_values third_whole third_is_ordered third_are_local (λ a h. record {
+  edges = only_time (λ t. edge_test third_job (third_values a) t ≡ true) (third_edges a h);
+  stops = third_stops a h;
+  end = third_ends a h;
+})
 
 -- ---- the fourth job
 
@@ -629,11 +781,15 @@ fourth_own = record {
   stops = All-from_recursion (λ (s : Stop). s.wire < 6) fourth_job.stops (omega arith, tt);
 }
 
-fourth_starts : every_cell fourth.area (λ x y. same_signal (renumber_signal (circuit_wire net) (job_start fourth_job x y)) (start_signal (circuit_of circuit) layout x y)) ≡ true
+fourth_starts : every_cell fourth.area
+    (λ x y. same_signal (renumber_signal (circuit_wire net) (job_start fourth_job x y))
+    (start_signal (circuit_of circuit) layout x y)) ≡ true
 unfolding rectangle_cells job_start start_signal port_at place_of number in_box in_span
 fourth_starts = refl
 
-fourth_demands : every_cell fourth.area (λ x y. same_demand (renumber_demand (circuit_wire net) (job_demand fourth_job x y)) (end_demand (circuit_of circuit) layout x y)) ≡ true
+fourth_demands : every_cell fourth.area
+    (λ x y. same_demand (renumber_demand (circuit_wire net) (job_demand fourth_job x y))
+    (end_demand (circuit_of circuit) layout x y)) ≡ true
 unfolding rectangle_cells job_demand end_demand port_at place_of number in_box in_span
 fourth_demands = refl
 
@@ -648,8 +804,14 @@ fourth_is = record {
   used = refl;
   start_count = refl;
   demand_count = refl;
-  start = λ x y h. same_signal_is _ _ (at_every fourth.area (λ x y. same_signal (renumber_signal (circuit_wire net) (job_start fourth_job x y)) (start_signal (circuit_of circuit) layout x y)) fourth_starts x y h);
-  demand = λ x y h. same_demand_is _ _ (at_every fourth.area (λ x y. same_demand (renumber_demand (circuit_wire net) (job_demand fourth_job x y)) (end_demand (circuit_of circuit) layout x y)) fourth_demands x y h);
+  start = λ x y h. same_signal_is _ _
+      (at_every fourth.area (λ x y.
+      same_signal (renumber_signal (circuit_wire net) (job_start fourth_job x y))
+      (start_signal (circuit_of circuit) layout x y)) fourth_starts x y h);
+  demand = λ x y h. same_demand_is _ _
+      (at_every fourth.area (λ x y.
+      same_demand (renumber_demand (circuit_wire net) (job_demand fourth_job x y))
+      (end_demand (circuit_of circuit) layout x y)) fourth_demands x y h);
   edges = refl;
   halos = refl;
   own = fourth_own;
@@ -671,19 +833,26 @@ fourth_whole = record {
 }
 
 fourth_edges : (a : ℕ) → a < 4 → edge_test fourth_job (values a) 1 ≡ true
-unfolding values rectangle_cells job_start in_ring in_halo some_neighbour in_box in_span local_run local_step with_halo step partner turned signal_at held_at event_at
+unfolding values rectangle_cells job_start in_ring in_halo some_neighbour in_box in_span local_run local_step with_halo
+    step partner turned signal_at held_at event_at
 fourth_edges = below_four (λ a. edge_test fourth_job (values a) 1 ≡ true) refl refl refl refl
 
 fourth_ends : (a : ℕ) → a < 4 → end_test fourth_job (values a) ≡ true
-unfolding values rectangle_cells job_start job_demand in_ring in_halo some_neighbour in_box in_span local_run local_step with_halo step partner turned signal_at held_at event_at
+unfolding values rectangle_cells job_start job_demand in_ring in_halo some_neighbour in_box in_span local_run local_step
+    with_halo step partner turned signal_at held_at event_at
 fourth_ends = below_four (λ a. end_test fourth_job (values a) ≡ true) refl refl refl refl
 
 fourth_stops : (a : ℕ) → a < 4 → stop_test fourth_job (values a) ≡ true
-unfolding values rectangle_cells job_start in_ring in_halo some_neighbour in_box in_span local_run local_step with_halo step partner turned signal_at held_at event_at
+unfolding values rectangle_cells job_start in_ring in_halo some_neighbour in_box in_span local_run local_step with_halo
+    step partner turned signal_at held_at event_at
 fourth_stops = below_four (λ a. stop_test fourth_job (values a) ≡ true) refl refl refl refl
 
 fourth_faultless : (f : Fault) → ¬ IsFault fourth_job f
-fourth_faultless = faultless fourth_job values fourth_whole is_ordered are_local (λ a h. record { edges = only_time (λ t. edge_test fourth_job (values a) t ≡ true) (fourth_edges a h); stops = fourth_stops a h; end = fourth_ends a h })
+fourth_faultless = faultless fourth_job values fourth_whole is_ordered are_local (λ a h. record {
+  edges = only_time (λ t. edge_test fourth_job (values a) t ≡ true) (fourth_edges a h);
+  stops = fourth_stops a h;
+  end = fourth_ends a h;
+})
 
 -- ---- all of it
 
@@ -698,11 +867,15 @@ times_kept = refl
 no_more : (i : ℕ) (j : JobState) → slice_get [] i ≡ Some j → ⊥
 no_more i j e = cc
 
-own_job : (m : ModuleLines) (j : JobState) (n : ModuleLines) (l : JobState) → ◌≡◌ {A = Option ModuleLines} (Some m) (Some n) → ◌≡◌ {A = Option JobState} (Some j) (Some l) →
+own_job : (m : ModuleLines) (j : JobState) (n : ModuleLines) (l : JobState) →
+    ◌≡◌ {A = Option ModuleLines} (Some m) (Some n) → ◌≡◌ {A = Option JobState} (Some j) (Some l) →
     IsJobOf (circuit_of circuit) layout m j → IsJobOf (circuit_of circuit) layout n l
-own_job m j n l e f is = subst (λ (k : JobState). IsJobOf (circuit_of circuit) layout n k) (same_some (Some j) j l refl f) (subst (λ (k : ModuleLines). IsJobOf (circuit_of circuit) layout k j) (same_some (Some m) m n refl e) is)
+own_job m j n l e f is = subst (λ (k : JobState). IsJobOf (circuit_of circuit) layout n k)
+    (same_some (Some j) j l refl f)
+    (subst (λ (k : ModuleLines). IsJobOf (circuit_of circuit) layout k j) (same_some (Some m) m n refl e) is)
 
-each_job : (k : ℕ) (m : ModuleLines) (j : JobState) → slice_get modules k ≡ Some m → slice_get jobs k ≡ Some j → IsJobOf (circuit_of circuit) layout m j
+each_job : (k : ℕ) (m : ModuleLines) (j : JobState) → slice_get modules k ≡ Some m → slice_get jobs k ≡ Some j →
+    IsJobOf (circuit_of circuit) layout m j
 each_job zero m j e f = own_job first first_job m j e f first_is
 each_job (suc zero) m j e f = own_job second second_job m j e f second_is
 each_job (suc (suc zero)) m j e f = own_job third third_job m j e f third_is
@@ -710,24 +883,34 @@ each_job (suc (suc (suc zero))) m j e f = own_job fourth fourth_job m j e f four
 each_job (suc (suc (suc (suc k)))) m j e f = absurd (no_more k j f)
 
 each_faultless : (k : ℕ) (j : JobState) (f : Fault) → slice_get jobs k ≡ Some j → ¬ IsFault j f
-each_faultless zero j f e = subst (λ (j : JobState). ¬ IsFault j f) (same_some (Some first_job) first_job j refl e) (first_faultless f)
-each_faultless (suc zero) j f e = subst (λ (j : JobState). ¬ IsFault j f) (same_some (Some second_job) second_job j refl e) (second_faultless f)
-each_faultless (suc (suc zero)) j f e = subst (λ (j : JobState). ¬ IsFault j f) (same_some (Some third_job) third_job j refl e) (third_faultless f)
-each_faultless (suc (suc (suc zero))) j f e = subst (λ (j : JobState). ¬ IsFault j f) (same_some (Some fourth_job) fourth_job j refl e) (fourth_faultless f)
+each_faultless zero j f e = subst (λ (j : JobState). ¬ IsFault j f) (same_some (Some first_job) first_job j refl e)
+    (first_faultless f)
+each_faultless (suc zero) j f e =
+    subst (λ (j : JobState). ¬ IsFault j f) (same_some (Some second_job) second_job j refl e) (second_faultless f)
+each_faultless (suc (suc zero)) j f e =
+    subst (λ (j : JobState). ¬ IsFault j f) (same_some (Some third_job) third_job j refl e) (third_faultless f)
+each_faultless (suc (suc (suc zero))) j f e =
+    subst (λ (j : JobState). ¬ IsFault j f) (same_some (Some fourth_job) fourth_job j refl e) (fourth_faultless f)
 each_faultless (suc (suc (suc (suc k)))) j f e = absurd (no_more k j e)
 
 keeps_none : (k g : ℕ) (j : JobState) → slice_get jobs k ≡ Some j → is_among j.kept g ≡ false
-keeps_none zero g j e = subst (λ (j : JobState). is_among j.kept g ≡ false) (same_some (Some first_job) first_job j refl e) refl
-keeps_none (suc zero) g j e = subst (λ (j : JobState). is_among j.kept g ≡ false) (same_some (Some second_job) second_job j refl e) refl
-keeps_none (suc (suc zero)) g j e = subst (λ (j : JobState). is_among j.kept g ≡ false) (same_some (Some third_job) third_job j refl e) refl
-keeps_none (suc (suc (suc zero))) g j e = subst (λ (j : JobState). is_among j.kept g ≡ false) (same_some (Some fourth_job) fourth_job j refl e) refl
+keeps_none zero g j e = subst (λ (j : JobState). is_among j.kept g ≡ false)
+    (same_some (Some first_job) first_job j refl e) refl
+keeps_none (suc zero) g j e =
+    subst (λ (j : JobState). is_among j.kept g ≡ false) (same_some (Some second_job) second_job j refl e) refl
+keeps_none (suc (suc zero)) g j e =
+    subst (λ (j : JobState). is_among j.kept g ≡ false) (same_some (Some third_job) third_job j refl e) refl
+keeps_none (suc (suc (suc zero))) g j e =
+    subst (λ (j : JobState). is_among j.kept g ≡ false) (same_some (Some fourth_job) fourth_job j refl e) refl
 keeps_none (suc (suc (suc (suc k)))) g j e = absurd (no_more k j e)
 
 -- neither gate is an inverse one
 is_forward : (k : ℕ) (g : NetGate) → slice_get (netlist_of circuit).gates k ≡ Some g → is_inverse g.kind ≡ false
 unfolding number
-is_forward zero g e = subst (λ (g : NetGate). is_inverse g.kind ≡ false) (same_some (slice_get (netlist_of circuit).gates 0) _ g refl e) refl
-is_forward (suc zero) g e = subst (λ (g : NetGate). is_inverse g.kind ≡ false) (same_some (slice_get (netlist_of circuit).gates 1) _ g refl e) refl
+is_forward zero g e = subst (λ (g : NetGate). is_inverse g.kind ≡ false)
+    (same_some (slice_get (netlist_of circuit).gates 0) _ g refl e) refl
+is_forward (suc zero) g e = subst (λ (g : NetGate). is_inverse g.kind ≡ false)
+    (same_some (slice_get (netlist_of circuit).gates 1) _ g refl e) refl
 is_forward (suc (suc k)) g e = absurd (let none : ◌≡◌ {A = Option NetGate} (slice_get [] k) (Some g) = e in cc)
 
 accepts : Accepts (setting_of circuit layout) modules jobs
@@ -735,7 +918,8 @@ accepts = record {
   no_fault = each_faultless;
   no_keep_fault = λ k j f e is. absurd (true≢false (sym is.is_kept ∙ keeps_none k f.gate j e));
   kept = λ k g e inverse. absurd (true≢false (sym inverse ∙ is_forward k g e));
-  no_border_fault = no_border_fault (setting_of circuit layout) modules (only_time (λ t. border_test (setting_of circuit layout) modules t ≡ true) borders);
+  no_border_fault = no_border_fault (setting_of circuit layout) modules
+      (only_time (λ t. border_test (setting_of circuit layout) modules t ≡ true) borders);
   on_time = times_kept;
 }
 
@@ -753,13 +937,18 @@ meant_are = meant_old 1 (setting_of circuit layout) (modules_of bundle.entries) 
 is_verdict : IsVerdictOn certificate verdict.Yes
 unfolding IsVerdict
 is_verdict = record {
-  good = subst (AreModules (setting_of circuit layout)) (sym meant_are) (faultless_modules (setting_of circuit layout) 1 bundle.entries (certificate_faultless timed_modules bundle layout reads refl));
+  good = subst (AreModules (setting_of circuit layout)) (sym meant_are)
+      (faultless_modules (setting_of circuit layout) 1 bundle.entries
+      (certificate_faultless timed_modules bundle layout reads refl));
   jobs = jobs;
-  are_jobs = subst (λ ms. AreJobsOf (circuit_of circuit) layout ms jobs) (sym (meant_are ∙ modules_are)) (record { count = refl; each = each_job });
-  judged = subst (λ ms. IsVerdict (setting_of circuit layout) ms jobs verdict.Yes) (sym (meant_are ∙ modules_are)) accepts;
+  are_jobs = subst (λ ms. AreJobsOf (circuit_of circuit) layout ms jobs) (sym (meant_are ∙ modules_are))
+      (record { count = refl; each = each_job });
+  judged = subst (λ ms. IsVerdict (setting_of circuit layout) ms jobs verdict.Yes)
+      (sym (meant_are ∙ modules_are)) accepts;
 }
 
-answered : (read : Result Bundle Refusal) → Ok bundle ≡ read → Answered SaysReport read (report_lines certificate verdict.Yes) Yes
+answered : (read : Result Bundle Refusal) → Ok bundle ≡ read →
+    Answered SaysReport read (report_lines certificate verdict.Yes) Yes
 answered read e = subst (λ r. Answered SaysReport r (report_lines certificate verdict.Yes) Yes) e (record {
   certificate = certificate;
   its_own = record { circuit = refl; layout = refl; version = refl; entries = refl };

@@ -1,5 +1,6 @@
 -- A bundle is accepted where its cells pass tests, one after the other. A proof by computation can run them.
-use Rattle.std.proofs.Common.{◌≡◌, ℕ, zero, suc, ◌<◌, ◌%◌, eqb, Bool, true, false, not, ◌||◌, List, [], ◌∷◌, Some, refl, sym, ap, subst, ◌∙◌, inl, inr}
+use Rattle.std.proofs.Common.{◌≡◌, ℕ, zero, suc, ◌<◌, ◌%◌, eqb, Bool, true, false, not, ◌||◌, List, [], ◌∷◌, Some, refl}
+use Rattle.std.proofs.Common.{sym, ap, subst, ◌∙◌, inl, inr}
 use Rattle.std.specs.Prelude.{ℤ, slice_get}
 use Rattle.std.specs.List.{list_all}
 use Rattle.std.proofs.lemmas.Bool.{and_parts, eqb-true, false≢true}
@@ -109,9 +110,11 @@ implied : (a b : Bool) → (not a || b) ≡ true → a ≡ true → b ≡ true
 implied true b e h = e
 implied false b e h = absurd (false≢true h)
 
-all_at : {A : Type 0} (test : A → Bool) (xs : List A) (i : ℕ) (a : A) → list_all test xs ≡ true → slice_get xs i ≡ Some a → test a ≡ true
+all_at : {A : Type 0} (test : A → Bool) (xs : List A) (i : ℕ) (a : A) → list_all test xs ≡ true →
+    slice_get xs i ≡ Some a → test a ≡ true
 all_at test [] i a all e = absurd cc
-all_at test (x ∷ xs) zero a all e = let own : x ≡ a = cc in subst (λ x. test x ≡ true) own (and_parts (test x) (list_all test xs) all).0
+all_at test (x ∷ xs) zero a all e = let own : x ≡ a = cc in
+    subst (λ x. test x ≡ true) own (and_parts (test x) (list_all test xs) all).0
 all_at test (x ∷ xs) (suc i) a all e = all_at test xs i a (and_parts (test x) (list_all test xs) all).1 e
 
 -- ---- the cells of a box
@@ -119,7 +122,8 @@ all_at test (x ∷ xs) (suc i) a all e = all_at test xs i a (and_parts (test x) 
 abbrev pub every_cell : Box2 → (ℤ → ℤ → Bool) → Bool
 every_cell b test = list_all (λ c. test c.x c.y) (box_cells b)
 
-cell_passes : (test : Cell → Bool) (cells : List Cell) (d : Cell) → list_all test cells ≡ true → in_cells cells d.x d.y ≡ true → test d ≡ true
+cell_passes : (test : Cell → Bool) (cells : List Cell) (d : Cell) → list_all test cells ≡ true →
+    in_cells cells d.x d.y ≡ true → test d ≡ true
 cell_passes test [] d all there = absurd cc
 cell_passes test (c ∷ cells) d all there =
     let both = and_parts (test c) (list_all test cells) all in
@@ -128,13 +132,16 @@ cell_passes test (c ∷ cells) d all there =
       | inr more ↦ cell_passes test cells d both.1 more
     ]
 
-pub at_every : (b : Box2) (test : ℤ → ℤ → Bool) → every_cell b test ≡ true → (x y : ℤ) → in_box b x y ≡ true → test x y ≡ true
-at_every b test all x y h = cell_passes (λ c. test c.x c.y) (box_cells b) (record { x = x; y = y }) all (in_box_cells b x y ∙ h)
+pub at_every : (b : Box2) (test : ℤ → ℤ → Bool) → every_cell b test ≡ true → (x y : ℤ) → in_box b x y ≡ true →
+    test x y ≡ true
+at_every b test all x y h = cell_passes (λ c. test c.x c.y) (box_cells b) (record { x = x; y = y }) all
+    (in_box_cells b x y ∙ h)
 
 -- ---- the faults of a job
 
 abbrev pub edge_test : JobState → Valuation → ℕ → Bool
-edge_test j u t = every_cell j.area (λ x y. not (in_ring j.area x y) || agree (local_run j u t x y) (is_live u (signal_at j.edges t x y)))
+edge_test j u t = every_cell j.area
+    (λ x y. not (in_ring j.area x y) || agree (local_run j u t x y) (is_live u (signal_at j.edges t x y)))
 
 abbrev pub end_test : JobState → Valuation → Bool
 end_test j u = every_cell j.area (λ x y. meets u (job_demand j x y) (local_run j u j.steps x y))
@@ -152,18 +159,25 @@ pub record Passes (j : JobState) (u : Valuation) : Type 0 where
   pub stops : stop_test j u ≡ true
   pub end : end_test j u ≡ true
 
-no_fault_under : (j : JobState) (u : Valuation) (t : ℕ) (kind : Kind) (x y : ℤ) → IsJob j → Passes j u → IsFaultUnder j u t kind x y → ⊥
+no_fault_under : (j : JobState) (u : Valuation) (t : ℕ) (kind : Kind) (x y : ℤ) → IsJob j → Passes j u →
+    IsFaultUnder j u t kind x y → ⊥
 no_fault_under j u t Edge x y is p f =
-    f.differs (agree_is _ _ (implied (in_ring j.area x y) _ (at_every j.area _ (p.edges t f.odd f.early) x y (ring_inside j.area x y f.ring)) f.ring))
+    f.differs (agree_is _ _ (implied (in_ring j.area x y) _
+    (at_every j.area _ (p.edges t f.odd f.early) x y (ring_inside j.area x y f.ring)) f.ring))
 no_fault_under j u t Stop x y is p f =
     let listed = slice_get-get_or j.stops f.is_listed.0 f.stop f.is_listed.1 ∙ ap Some f.is_listed.2 in
-    let own = agree_is _ _ (all_at (λ s. agree (local_run j u s.at.time s.at.cell.x s.at.cell.y) (u s.wire)) j.stops f.is_listed.0 f.stop p.stops listed) in
+    let own = agree_is _ _ (all_at
+    (λ s. agree (local_run j u s.at.time s.at.cell.x s.at.cell.y) (u s.wire)) j.stops f.is_listed.0 f.stop p.stops
+    listed) in
     f.differs (sym (λ i. local_run j u (f.time i) (f.column i) (f.row i)) ∙ own)
 no_fault_under j u t End x y is p f =
-    f.differs (subst (λ n. Meets u (job_demand j x y) (local_run j u n x y)) (sym f.last) (meets_is u _ _ (at_every j.area _ p.end x y f.inside)))
+    f.differs (subst (λ n. Meets u (job_demand j x y) (local_run j u n x y)) (sym f.last)
+    (meets_is u _ _ (at_every j.area _ p.end x y f.inside)))
 
-pub faultless : (j : JobState) (u : ℕ → Valuation) → IsJob j → AreOrdered j.locals.netlist.given j.locals.netlist.gates →
-    ((a : ℕ) → a < assignments j → IsLocalValuation j.locals a (u a)) → ((a : ℕ) → a < assignments j → Passes j (u a)) → (f : Fault) → ¬ IsFault j f
+pub faultless : (j : JobState) (u : ℕ → Valuation) → IsJob j →
+    AreOrdered j.locals.netlist.given j.locals.netlist.gates →
+    ((a : ℕ) → a < assignments j → IsLocalValuation j.locals a (u a)) → ((a : ℕ) → a < assignments j → Passes j (u a)) →
+    (f : Fault) → ¬ IsFault j f
 faultless j u is ordered local passes f fault =
     no_fault_under j (u f.assignment) f.time f.kind f.cell.x f.cell.y is (passes f.assignment fault.in_range)
     ((decided j f (u f.assignment) is ordered fault.in_range (local f.assignment fault.in_range)).0 fault)
@@ -172,12 +186,21 @@ faultless j u is ordered local passes f fault =
 
 abbrev pub border_test : Setting → List ModuleLines → ℕ → Bool
 border_test g ms t = list_all (λ (m : ModuleLines). every_cell (whole g.size) (λ x y. not (in_halo m.area x y)
-    || list_all (λ (o : ModuleLines). not (in_box o.area x y) || same_signal (halo_signal g.circuit m t x y) (edge_signal g.circuit o t x y)) ms)) ms
+    || list_all (λ (o : ModuleLines).
+    not (in_box o.area x y) || same_signal (halo_signal g.circuit m t x y) (edge_signal g.circuit o t x y)) ms)) ms
 
-pub no_border_fault : (g : Setting) (ms : List ModuleLines) → ((t : ℕ) → t % 2 ≡ 1 → t < g.size.steps → border_test g ms t ≡ true) → (i : ℕ) (f : BorderFault) → ¬ IsBorderFault g ms i f
+pub no_border_fault : (g : Setting) (ms : List ModuleLines) →
+    ((t : ℕ) → t % 2 ≡ 1 → t < g.size.steps → border_test g ms t ≡ true) → (i : ℕ) (f : BorderFault) →
+    ¬ IsBorderFault g ms i f
 no_border_fault g ms passes i f is =
     let own = all_at (λ (m : ModuleLines). every_cell (whole g.size) (λ x y. not (in_halo m.area x y)
-    || list_all (λ (o : ModuleLines). not (in_box o.area x y) || same_signal (halo_signal g.circuit m f.time x y) (edge_signal g.circuit o f.time x y)) ms)) ms i is.lines (passes f.time is.odd is.early) is.numbered in
-    let here = implied (in_halo is.lines.area f.cell.x f.cell.y) _ (at_every (whole g.size) _ own f.cell.x f.cell.y is.inside) is.halo in
-    let there = all_at (λ (o : ModuleLines). not (in_box o.area f.cell.x f.cell.y) || same_signal (halo_signal g.circuit is.lines f.time f.cell.x f.cell.y) (edge_signal g.circuit o f.time f.cell.x f.cell.y)) ms is.owner_number is.owner here is.owner_numbered in
+    || list_all (λ (o : ModuleLines).
+    not (in_box o.area x y) || same_signal (halo_signal g.circuit m f.time x y) (edge_signal g.circuit o f.time x y))
+    ms)) ms i is.lines (passes f.time is.odd is.early) is.numbered in
+    let here = implied (in_halo is.lines.area f.cell.x f.cell.y) _
+    (at_every (whole g.size) _ own f.cell.x f.cell.y is.inside) is.halo in
+    let there = all_at (λ (o : ModuleLines).
+    not (in_box o.area f.cell.x f.cell.y)
+    || same_signal (halo_signal g.circuit is.lines f.time f.cell.x f.cell.y)
+    (edge_signal g.circuit o f.time f.cell.x f.cell.y)) ms is.owner_number is.owner here is.owner_numbered in
     is.differ (same_signal_is _ _ (implied (in_box is.owner.area f.cell.x f.cell.y) _ there is.owned))

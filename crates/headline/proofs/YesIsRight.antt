@@ -1,5 +1,7 @@
--- What is reported with a yes is right.
-use Rattle.std.proofs.Common.{◌≡◌, ◌≤◌, ℕ, ◌+◌, Bool, true, false, cond, eqb, List, [], ◌∷◌, ◌++◌, length, take, drop, Option, Some, None, Result, Ok, Err, refl, sym, ap, ap₂, subst, ◌∙◌, append_assoc, take-append-drop, arith}
+-- A text that is reported with a yes is right.
+use Rattle.std.proofs.Common.{◌≡◌, ◌≤◌, ℕ, ◌+◌, Bool, true, false, cond, eqb, List, [], ◌∷◌, ◌++◌, length, take, drop}
+use Rattle.std.proofs.Common.{Option, Some, None, Result, Ok, Err, refl, sym, ap, ap₂, subst, ◌∙◌, append_assoc}
+use Rattle.std.proofs.Common.{take-append-drop, arith}
 use Rattle.std.specs.Prelude.{nat_lt, ◌≢◌}
 use Rattle.std.specs.List.{All, flat_map}
 use Rattle.std.proofs.lemmas.Grind.{flat_map-append}
@@ -58,7 +60,8 @@ use Rattle.answers.specs.BundleText.{Bundle, bundle_of}
 use Rattle.answers.specs.CheckText.{IsReportOf, SaysReport, verdict_outcome}
 use Rattle.headline.specs.Design.{SaysDesign}
 use Rattle.headline.specs.Headline.{IsRight, SaysYes}
-use Rattle.headline.specs.Laws.{FourthLineTells, IsGoodDesign, ReportsOnGoodDesigns, YesHasOneValuation, YesMeansRight, YesMeansRightStops}
+use Rattle.headline.specs.Laws.{FourthLineTells, IsGoodDesign, ReportsOnGoodDesigns, YesHasOneValuation, YesMeansRight}
+use Rattle.headline.specs.Laws.{YesMeansRightStops}
 use Rattle.answers.proofs.Bundles.{same_setting}
 use Rattle.headline.proofs.Designs.{bundle_said, design_said, one_design}
 use Rattle.headline.specs.Stops.{HasRightStops, SaysBundle}
@@ -85,68 +88,101 @@ record MoreGood (before rows : List CircuitLine) : Type 0 where
   pub rows_are : rows ≡ before ++ more
   pub good : AreGoodAfter before more
 
-still : (before : List CircuitLine) (r : CircuitLine) → last_rank before ≤ rank_of r.kind → HasNoGateYet before → HasNoGateYet (before ++ r ∷ [])
+still : (before : List CircuitLine) (r : CircuitLine) → last_rank before ≤ rank_of r.kind → HasNoGateYet before →
+    HasNoGateYet (before ++ r ∷ [])
 still before r h e =
     let plus : ℕ = gate_count before + cond (is_gate r.kind) 1 0 in
-    let more : gate_count (before ++ r ∷ []) ≡ plus = count_append (λ (r : CircuitLine). is_gate r.kind) before (r ∷ []) ∙ omega arith in
+    let more : gate_count (before ++ r ∷ []) ≡ plus =
+    count_append (λ (r : CircuitLine). is_gate r.kind) before (r ∷ []) ∙ omega arith in
     ap (λ (k : ℕ). cond (eqb k 0) (gate_count (before ++ r ∷ [])) 0) (last_rank_push before r)
     ∙ ap (λ (n : ℕ). cond (eqb (rank_of r.kind) 0) n 0) more
     ∙ no_gate_still r.kind (last_rank before) (gate_count before) h e
 
-ok_of : (x y : Unit {0} × List CircuitLine) → ◌≡◌ {A = Result (Unit {0} × List CircuitLine) Refusal} (Ok x) (Ok y) → x ≡ y
+ok_of : (x y : Unit {0} × List CircuitLine) → ◌≡◌ {A = Result (Unit {0} × List CircuitLine) Refusal} (Ok x) (Ok y) →
+    x ≡ y
 ok_of x y e = cc
 
-unless_ok : (n : ℕ) (o : Option ℕ) (r : Result (Unit {0} × List CircuitLine) Refusal) (y : Unit {0} × List CircuitLine) → unless n o r ≡ Ok y → (o ≡ None) × (r ≡ Ok y)
+unless_ok : (n : ℕ) (o : Option ℕ) (r : Result (Unit {0} × List CircuitLine) Refusal)
+    (y : Unit {0} × List CircuitLine) → unless n o r ≡ Ok y → (o ≡ None) × (r ≡ Ok y)
 unless_ok n None r y e = (refl, e)
 unless_ok n (Some code) r y e = absurd cc
 
-line_good : (words : List (List ℕ)) (ls : List (List ℕ)) (before : List CircuitLine) (n : ℕ) (rows : List CircuitLine) (o : Option Line) → form_of words ≡ o → HasNoGateYet before
-    → line_after circuit_grammar tt before n (λ i. body_of circuit_grammar tt (before ++ i ∷ []) (n + 1) ls) o ≡ Ok (tt, rows)
-    → ((i : CircuitLine) → HasNoGateYet (before ++ i ∷ []) → body_of circuit_grammar tt (before ++ i ∷ []) (n + 1) ls ≡ Ok (tt, rows) → MoreGood (before ++ i ∷ []) rows) → MoreGood before rows
+line_good : (words : List (List ℕ)) (ls : List (List ℕ)) (before : List CircuitLine) (n : ℕ) (rows : List CircuitLine)
+    (o : Option Line) → form_of words ≡ o → HasNoGateYet before
+    → line_after circuit_grammar tt before n (λ i. body_of circuit_grammar tt (before ++ i ∷ []) (n + 1) ls) o
+    ≡ Ok (tt, rows)
+    → ((i : CircuitLine) → HasNoGateYet (before ++ i ∷ []) →
+    body_of circuit_grammar tt (before ++ i ∷ []) (n + 1) ls ≡ Ok (tt, rows) → MoreGood (before ++ i ∷ []) rows) →
+    MoreGood before rows
 unfolding AreGoodAfter
 line_good words ls before n rows None f none e rec = absurd cc
 line_good words ls before n rows (Some (Header k)) f none e rec = absurd cc
 line_good words ls before n rows (Some (Item r)) f none e rec =
-    let passed = unless_ok n (or_else (order_fault before r) (add_fault before r)) (body_of circuit_grammar tt (before ++ r ∷ []) (n + 1) ls) (tt, rows) e in
+    let passed = unless_ok n (or_else (order_fault before r) (add_fault before r))
+    (body_of circuit_grammar tt (before ++ r ∷ []) (n + 1) ls) (tt, rows) e in
     let codes = first_none (order_fault before r) (add_fault before r) passed.0 in
-    let h : last_rank before ≤ rank_of r.kind = ltb-false (rank_of r.kind) (last_rank before) (no_code (nat_lt (rank_of r.kind) (last_rank before)) 6 codes.0) in
+    let h : last_rank before ≤ rank_of r.kind =
+    ltb-false (rank_of r.kind) (last_rank before) (no_code (nat_lt (rank_of r.kind) (last_rank before)) 6 codes.0) in
     let t = rec r (still before r h none) passed.1 in
     record {
       more = r ∷ t.more;
       rows_are = t.rows_are ∙ append_assoc before (r ∷ []) t.more;
-      good = (record { adds = codes.1; fits = entry_fits words r f; inputs_first = no_gate_yet r.kind (last_rank before) (gate_count before) h none }, t.good);
+      good = (
+        record {
+          adds = codes.1;
+          fits = entry_fits words r f;
+          inputs_first = no_gate_yet r.kind (last_rank before) (gate_count before) h none;
+        },
+        t.good,
+      );
     }
 line_good words ls before n rows (Some End) f none e rec =
     let passed = unless_ok n (circuit_grammar.end_fault tt before) (Ok (tt, before)) (tt, rows) e in
-    record { more = []; rows_are = sym (ap (λ (p : Unit {0} × List CircuitLine). p.1) (ok_of (tt, before) (tt, rows) passed.1)) ∙ sym (append-nil before); good = tt }
+    record {
+      more = [];
+      rows_are = sym (ap (λ (p : Unit {0} × List CircuitLine). p.1) (ok_of (tt, before) (tt, rows) passed.1))
+          ∙ sym (append-nil before);
+      good = tt;
+    }
 
-body_good : (ls : List (List ℕ)) (before : List CircuitLine) (n : ℕ) (rows : List CircuitLine) → HasNoGateYet before → body_of circuit_grammar tt before n ls ≡ Ok (tt, rows) → MoreGood before rows
+body_good : (ls : List (List ℕ)) (before : List CircuitLine) (n : ℕ) (rows : List CircuitLine) → HasNoGateYet before →
+    body_of circuit_grammar tt before n ls ≡ Ok (tt, rows) → MoreGood before rows
 unfolding body_of
 body_good [] before n rows none e = absurd cc
-body_good (l ∷ ls) before n rows none e = line_good (words_of l) ls before n rows (form_of (words_of l)) refl none e (λ i still e. body_good ls (before ++ i ∷ []) (n + 1) rows still e)
+body_good (l ∷ ls) before n rows none e =
+    line_good (words_of l) ls before n rows (form_of (words_of l)) refl none e
+    (λ i still e. body_good ls (before ++ i ∷ []) (n + 1) rows still e)
 
-header_good : (ls : List (List ℕ)) (n : ℕ) (rows : List CircuitLine) (o : Option Line) → header_line circuit_grammar n (λ k. body_of circuit_grammar k [] (n + 1) ls) o ≡ Ok (tt, rows) → AreGood rows
+header_good : (ls : List (List ℕ)) (n : ℕ) (rows : List CircuitLine) (o : Option Line) →
+    header_line circuit_grammar n (λ k. body_of circuit_grammar k [] (n + 1) ls) o ≡ Ok (tt, rows) → AreGood rows
 header_good ls n rows None e = absurd cc
 header_good ls n rows (Some (Item i)) e = absurd cc
 header_good ls n rows (Some End) e = absurd cc
 header_good ls n rows (Some (Header k)) e =
-    let t = body_good ls [] (n + 1) rows refl (unless_ok n None (body_of circuit_grammar tt [] (n + 1) ls) (tt, rows) e).1 in
+    let t = body_good ls [] (n + 1) rows refl
+    (unless_ok n None (body_of circuit_grammar tt [] (n + 1) ls) (tt, rows) e).1 in
     subst (AreGoodAfter []) (sym t.rows_are) t.good
 
-pub circuit_good : (n : ℕ) (ls : List (List ℕ)) (h : Unit {0}) (rows : List CircuitLine) → section_of circuit_grammar n ls ≡ Ok (h, rows) → AreGood rows
+pub circuit_good : (n : ℕ) (ls : List (List ℕ)) (h : Unit {0}) (rows : List CircuitLine) →
+    section_of circuit_grammar n ls ≡ Ok (h, rows) → AreGood rows
 unfolding section_of
 circuit_good n [] h rows e = absurd cc
 circuit_good n (l ∷ ls) h rows e = header_good ls n rows (form_of (words_of l)) e
 
 -- ---- and so are those of a layout
 
-pub laid_out : (ports : Option Named) (s : Extent) (before parts : List Part) → AreFaultless (layout_grammar ports) s before parts → lines.AreGoodAfter s before parts
+pub laid_out : (ports : Option Named) (s : Extent) (before parts : List Part) →
+    AreFaultless (layout_grammar ports) s before parts → lines.AreGoodAfter s before parts
 unfolding lines.part_fault lines.line_fault
 laid_out ports s before [] good = tt
 laid_out ports s before (part ∷ parts) good =
     let codes = first_none (lines.line_fault ports before part) (lines.cell_fault s before part) good.0 in
-    let rest = first_none (lines.order_fault before part) (or_else (lines.limit_fault part) (lines.name_fault ports part)) codes.0 in
-    ((first_none (lines.limit_fault part) (lines.name_fault ports part) rest.1).0, codes.1, laid_out ports s (before ++ part ∷ []) parts good.1)
+    let rest = first_none (lines.order_fault before part)
+    (or_else (lines.limit_fault part) (lines.name_fault ports part)) codes.0 in (
+      (first_none (lines.limit_fault part) (lines.name_fault ports part) rest.1).0,
+      codes.1,
+      laid_out ports s (before ++ part ∷ []) parts good.1,
+    )
 
 -- ---- the sections of a bundle
 
@@ -155,21 +191,27 @@ pub record BeginsWith (text : List ℕ) (circuit : List CircuitLine) (p : Patter
   pub rest : List ℕ
   pub begins : text ≡ circuit_text circuit ++ (layout_text p ++ rest)
 
-spelled : (text : List ℕ) (circuit : List CircuitLine) (ports : Option Named) (n : ℕ) (p : Pattern) → section_of circuit_grammar 0 (lines_of text) ≡ Ok (tt, circuit)
-    → section_of (layout_grammar ports) n (drop (length circuit + 2) (lines_of text)) ≡ Ok (layout_value p) → BeginsWith text circuit p
+spelled : (text : List ℕ) (circuit : List CircuitLine) (ports : Option Named) (n : ℕ) (p : Pattern) →
+    section_of circuit_grammar 0 (lines_of text) ≡ Ok (tt, circuit)
+    → section_of (layout_grammar ports) n (drop (length circuit + 2) (lines_of text)) ≡ Ok (layout_value p) →
+    BeginsWith text circuit p
 spelled text circuit ports n p first second =
     let k = length circuit + 2 in
     let later = drop k (lines_of text) in
     let m = length (parts_of p) + 2 in
     let after : List ℕ = flat_map ended_line (drop m later) in
     let split : flat_map ended_line (lines_of text) ≡ circuit_text circuit ++ (layout_text p ++ after) =
-    ap (flat_map ended_line) (sym (take-append-drop k (lines_of text))) ∙ flat_map-append ended_line (take k (lines_of text)) later
+    ap (flat_map ended_line) (sym (take-append-drop k (lines_of text)))
+    ∙ flat_map-append ended_line (take k (lines_of text)) later
     ∙ ap₂ (λ a b. a ++ b) (circuit_printed 0 (lines_of text) circuit first)
-    (ap (flat_map ended_line) (sym (take-append-drop m later)) ∙ flat_map-append ended_line (take m later) (drop m later) ∙ ap (λ a. a ++ after) (layout_printed ports n later p second)) in
+    (ap (flat_map ended_line) (sym (take-append-drop m later))
+    ∙ flat_map-append ended_line (take m later) (drop m later)
+    ∙ ap (λ a. a ++ after) (layout_printed ports n later p second)) in
     record {
       rest = after ++ rest_of text;
       begins = sym (no_byte_lost text) ∙ ap (λ a. a ++ rest_of text) split
-          ∙ append_assoc (circuit_text circuit) (layout_text p ++ after) (rest_of text) ∙ ap (λ a. circuit_text circuit ++ a) (append_assoc (layout_text p) after (rest_of text));
+          ∙ append_assoc (circuit_text circuit) (layout_text p ++ after) (rest_of text)
+          ∙ ap (λ a. circuit_text circuit ++ a) (append_assoc (layout_text p) after (rest_of text));
     }
 
 pub record IsReadBundle (text : List ℕ) (b : Bundle) : Type 0 where
@@ -180,17 +222,20 @@ pub record IsReadBundle (text : List ℕ) (b : Bundle) : Type 0 where
   pub says_all : (p : Pattern) → layout_value p ≡ (b.size, b.parts) → SaysBundle text b.circuit p b.entries
 
 -- what goes on with a value that was read, was read
-pub record WentOn {H I : Type 0} {B : Type 0} (read : Result (H × List I) Refusal) (next : H → List I → Result B Refusal) (b : B) : Type 0 where
+pub record WentOn {H I : Type 0} {B : Type 0} (read : Result (H × List I) Refusal)
+    (next : H → List I → Result B Refusal) (b : B) : Type 0 where
   pub header : H
   pub items : List I
   pub was : read ≡ Ok (header, items)
   pub then : next header items ≡ Ok b
 
-pub went_on : {H I : Type 0} {B : Type 0} (read : Result (H × List I) Refusal) (next : H → List I → Result B Refusal) (b : B) → go_on read next ≡ Ok b → WentOn read next b
+pub went_on : {H I : Type 0} {B : Type 0} (read : Result (H × List I) Refusal) (next : H → List I → Result B Refusal)
+    (b : B) → go_on read next ≡ Ok b → WentOn read next b
 went_on (Ok read) next b e = record { header = read.0; items = read.1; was = refl; then = e }
 went_on (Err refusal) next b e = absurd cc
 
-is_finished : {B : Type 0} (n : ℕ) (ls : List (List ℕ)) (rest : List ℕ) (value b : B) → finished n ls rest value ≡ Ok b → value ≡ b
+is_finished : {B : Type 0} (n : ℕ) (ls : List (List ℕ)) (rest : List ℕ) (value b : B) →
+    finished n ls rest value ≡ Ok b → value ≡ b
 is_finished n [] [] value b e = cc
 is_finished n [] (c ∷ rest) value b e = absurd cc
 is_finished n (l ∷ ls) rest value b e = absurd cc
@@ -200,34 +245,47 @@ unfolding bundle_of
 bundle_good text b e =
     let c = went_on (section_of circuit_grammar 0 (lines_of text)) _ b e in
     let l = went_on (section_of (layout_grammar (Some (port_names_of c.items))) _ _) _ b c.then in
-    let k = went_on (section_of (certificate_grammar (setting_of c.items (layout_of l.header l.items))) _ _) _ b l.then in
+    let k = went_on (section_of (certificate_grammar (setting_of c.items (layout_of l.header l.items))) _ _) _ b
+    l.then in
     let m : ℕ = 0 + (length c.items + 2) + (length l.items + 2) in
     subst (IsReadBundle text) (is_finished _ _ _ _ b k.then) (record {
       circuit = circuit_good 0 (lines_of text) c.header c.items c.was;
       layout = read_faultless (layout_grammar (Some (port_names_of c.items))) _ _ l.header l.items l.was;
       says = λ p same. design_said text c.items (Some (port_names_of c.items)) _ p c.was (l.was ∙ ap Ok (sym same));
       begins = λ p same. spelled text c.items (Some (port_names_of c.items)) _ p c.was (l.was ∙ ap Ok (sym same));
-      says_all = λ p same. bundle_said text c.items (Some (port_names_of c.items)) _ p (setting_of c.items (layout_of l.header l.items)) m k.header k.items c.was (l.was ∙ ap Ok (sym same))
-          (subst (λ (q : Extent × List Part). section_of (certificate_grammar (setting_of c.items (layout_of l.header l.items))) m (drop (length q.1 + 2) (drop (length c.items + 2) (lines_of text))) ≡ Ok (k.header, k.items)) (sym same) k.was);
+      says_all = λ p same. bundle_said text c.items (Some (port_names_of c.items)) _ p
+          (setting_of c.items (layout_of l.header l.items)) m k.header k.items c.was (l.was ∙ ap Ok (sym same))
+          (subst (λ (q : Extent × List Part).
+          section_of (certificate_grammar (setting_of c.items (layout_of l.header l.items))) m
+          (drop (length q.1 + 2) (drop (length c.items + 2) (lines_of text))) ≡ Ok (k.header, k.items))
+          (sym same) k.was);
     })
 
 -- and those of its certificate are good
-pub certificate_faultless : (text : List ℕ) (b : Bundle) (p : Pattern) → bundle_of text ≡ Ok b → layout_value p ≡ (b.size, b.parts) → IsFaultless (certificate_grammar (setting_of b.circuit p)) b.version b.entries
+pub certificate_faultless : (text : List ℕ) (b : Bundle) (p : Pattern) → bundle_of text ≡ Ok b →
+    layout_value p ≡ (b.size, b.parts) → IsFaultless (certificate_grammar (setting_of b.circuit p)) b.version b.entries
 unfolding bundle_of
 certificate_faultless text b p e same =
     let c = went_on (section_of circuit_grammar 0 (lines_of text)) _ b e in
     let l = went_on (section_of (layout_grammar (Some (port_names_of c.items))) _ _) _ b c.then in
-    let k = went_on (section_of (certificate_grammar (setting_of c.items (layout_of l.header l.items))) _ _) _ b l.then in
+    let k = went_on (section_of (certificate_grammar (setting_of c.items (layout_of l.header l.items))) _ _) _ b
+    l.then in
     let whole = is_finished _ _ _ _ b k.then in
-    let P : Bundle → Type 0 = λ b. IsFaultless (certificate_grammar (setting_of b.circuit (layout_of b.size b.parts))) b.version b.entries in
-    let good : P b = subst P whole (read_faultless (certificate_grammar (setting_of c.items (layout_of l.header l.items))) _ _ k.header k.items k.was) in
-    let Q : Extent × List Part → Type 0 = λ q. IsFaultless (certificate_grammar (setting_of b.circuit (layout_of q.0 q.1))) b.version b.entries in
-    subst (λ g. IsFaultless (certificate_grammar g) b.version b.entries) (same_setting b.circuit p) (subst Q (sym same) good)
+    let P : Bundle → Type 0 = λ b.
+    IsFaultless (certificate_grammar (setting_of b.circuit (layout_of b.size b.parts))) b.version b.entries in
+    let good : P b = subst P whole
+    (read_faultless (certificate_grammar (setting_of c.items (layout_of l.header l.items))) _ _ k.header k.items
+    k.was) in
+    let Q : Extent × List Part → Type 0 =
+    λ q. IsFaultless (certificate_grammar (setting_of b.circuit (layout_of q.0 q.1))) b.version b.entries in
+    subst (λ g. IsFaultless (certificate_grammar g) b.version b.entries) (same_setting b.circuit p)
+    (subst Q (sym same) good)
 
 -- ---- the design of a text that is not refused
 
 -- the one of a report is the one that the text says
-own_design : (text : List ℕ) (b : Bundle) (output : List ℕ) (outcome : Outcome) (circuit : List CircuitLine) (layout : Pattern) → bundle_of text ≡ Ok b → SaysReport b output outcome →
+own_design : (text : List ℕ) (b : Bundle) (output : List ℕ) (outcome : Outcome) (circuit : List CircuitLine)
+    (layout : Pattern) → bundle_of text ≡ Ok b → SaysReport b output outcome →
     SaysDesign text circuit layout → IsGoodDesign text circuit layout
 own_design text b output outcome circuit layout reads says said =
     let good = bundle_good text b reads in
@@ -235,10 +293,12 @@ own_design text b output outcome circuit layout reads says said =
     let p : Pattern = c.layout in
     let same = says.its_own in
     let whole : IsFaultless (layout_grammar (Some (port_names_of b.circuit))) p.size (parts_of p) =
-    subst (λ (q : Extent × List Part). IsFaultless (layout_grammar (Some (port_names_of b.circuit))) q.0 q.1) (sym same.layout) good.layout in
+    subst (λ (q : Extent × List Part). IsFaultless (layout_grammar (Some (port_names_of b.circuit))) q.0 q.1)
+    (sym same.layout) good.layout in
     let begins = good.begins p same.layout in
     let one = one_design text b.circuit circuit p layout (good.says p same.layout) said in
-    subst (λ (cs : List CircuitLine). IsGoodDesign text cs layout) one.0 (subst (IsGoodDesign text b.circuit) one.1 (record {
+    subst (λ (cs : List CircuitLine). IsGoodDesign text cs layout) one.0
+    (subst (IsGoodDesign text b.circuit) one.1 (record {
       circuit_lines = good.circuit;
       size = whole.header;
       layout_lines = laid_out (Some (port_names_of b.circuit)) p.size [] (parts_of p) whole.each;
@@ -246,13 +306,17 @@ own_design text b output outcome circuit layout reads says said =
       begins = begins.begins;
     }))
 
-by_read : (text output : List ℕ) (outcome : Outcome) (circuit : List CircuitLine) (layout : Pattern) (read : Result Bundle Refusal) → bundle_of text ≡ read → Answered SaysReport read output outcome → outcome ≢ Refused →
+by_read : (text output : List ℕ) (outcome : Outcome) (circuit : List CircuitLine) (layout : Pattern)
+    (read : Result Bundle Refusal) → bundle_of text ≡ read → Answered SaysReport read output outcome →
+    outcome ≢ Refused →
     SaysDesign text circuit layout → IsGoodDesign text circuit layout
-by_read text output outcome circuit layout (Ok b) e says some said = own_design text b output outcome circuit layout e says said
+by_read text output outcome circuit layout (Ok b) e says some said =
+    own_design text b output outcome circuit layout e says said
 by_read text output outcome circuit layout (Err refusal) e told some said = absurd (some told.1)
 
 pub good_designs : ReportsOnGoodDesigns
-good_designs text output outcome circuit layout says some said = by_read text output outcome circuit layout (bundle_of text) refl says some said
+good_designs text output outcome circuit layout says some said =
+    by_read text output outcome circuit layout (bundle_of text) refl says some said
 
 -- ---- a yes
 
@@ -261,15 +325,18 @@ is_yes verdict.Yes e = refl
 is_yes (verdict.No lines) e = absurd cc
 
 -- what is known of the certificate of a report
-pub known : (text : List ℕ) (b : Bundle) (output : List ℕ) (outcome : Outcome) → bundle_of text ≡ Ok b → (says : SaysReport b output outcome) → IsRead says.certificate says.certificate.layout.size
+pub known : (text : List ℕ) (b : Bundle) (output : List ℕ) (outcome : Outcome) → bundle_of text ≡ Ok b →
+    (says : SaysReport b output outcome) → IsRead says.certificate says.certificate.layout.size
 known text b output outcome reads says =
     let good = bundle_good text b reads in
     let c : CertState = says.certificate in
     let same = says.its_own in
     let circuit : AreGood c.circuit = subst AreGood (sym same.circuit) good.circuit in
     let whole : IsFaultless (layout_grammar (Some (port_names_of c.circuit))) c.layout.size (parts_of c.layout) =
-    subst (λ (q : Extent × List Part). IsFaultless (layout_grammar (Some (port_names_of c.circuit))) q.0 q.1) (sym same.layout)
-    (subst (λ (cs : List CircuitLine). IsFaultless (layout_grammar (Some (port_names_of cs))) b.size b.parts) (sym same.circuit) good.layout) in
+    subst (λ (q : Extent × List Part). IsFaultless (layout_grammar (Some (port_names_of c.circuit))) q.0 q.1)
+    (sym same.layout)
+    (subst (λ (cs : List CircuitLine). IsFaultless (layout_grammar (Some (port_names_of cs))) b.size b.parts)
+    (sym same.circuit) good.layout) in
     record {
       ordered = gates_are_ordered c.circuit circuit;
       same = refl;
@@ -281,31 +348,44 @@ known text b output outcome reads says =
     }
 
 -- what was judged so is right
-judged_yes : (text : List ℕ) (b : Bundle) (output : List ℕ) (outcome : Outcome) → bundle_of text ≡ Ok b → (says : SaysReport b output outcome) → says.verdict ≡ verdict.Yes → IsRight text
+judged_yes : (text : List ℕ) (b : Bundle) (output : List ℕ) (outcome : Outcome) → bundle_of text ≡ Ok b →
+    (says : SaysReport b output outcome) → says.verdict ≡ verdict.Yes → IsRight text
 judged_yes text b output outcome reads says is =
     let c : CertState = says.certificate in
     let same = says.its_own in
     let v = says.is_verdict in
-    let judged = subst (λ (w : Verdict). IsVerdict (setting_of c.circuit c.layout) (modules_in c) v.jobs w) is v.judged in
+    let judged = subst (λ (w : Verdict). IsVerdict (setting_of c.circuit c.layout) (modules_in c) v.jobs w) is
+    v.judged in
     let correct = yes_means-correct c c.layout.size v.jobs (known text b output outcome reads says) v.are_jobs judged in
-    record { circuit = b.circuit; layout = c.layout; says = (bundle_good text b reads).says c.layout same.layout; correct = subst (λ (cs : List CircuitLine). IsCorrect cs c.layout) same.circuit correct }
+    record {
+      circuit = b.circuit;
+      layout = c.layout;
+      says = (bundle_good text b reads).says c.layout same.layout;
+      correct = subst (λ (cs : List CircuitLine). IsCorrect cs c.layout) same.circuit correct;
+    }
 
 -- and so are its stops
-judged_stops : (text : List ℕ) (b : Bundle) (output : List ℕ) (outcome : Outcome) → bundle_of text ≡ Ok b → (says : SaysReport b output outcome) → says.verdict ≡ verdict.Yes → HasRightStops text
+judged_stops : (text : List ℕ) (b : Bundle) (output : List ℕ) (outcome : Outcome) → bundle_of text ≡ Ok b →
+    (says : SaysReport b output outcome) → says.verdict ≡ verdict.Yes → HasRightStops text
 judged_stops text b output outcome reads says is =
     let c : CertState = says.certificate in
     let same = says.its_own in
     let v = says.is_verdict in
-    let judged = subst (λ (w : Verdict). IsVerdict (setting_of c.circuit c.layout) (modules_in c) v.jobs w) is v.judged in
+    let judged = subst (λ (w : Verdict). IsVerdict (setting_of c.circuit c.layout) (modules_in c) v.jobs w) is
+    v.judged in
     let right = yes_means-on_time c c.layout.size v.jobs (known text b output outcome reads says) v.are_jobs judged in
     let own : all_stops (modules_in c) ≡ flat_map stop_in b.entries =
-    stops_meant c.version (setting_of c.circuit c.layout) (modules_of c.entries) ∙ ap (λ (es : List Entry). all_stops (modules_of es)) same.entries ∙ all_in_modules (setting_of b.circuit c.layout) b.version b.entries (certificate_faultless text b c.layout reads same.layout) in
+    stops_meant c.version (setting_of c.circuit c.layout) (modules_of c.entries)
+    ∙ ap (λ (es : List Entry). all_stops (modules_of es)) same.entries
+    ∙ all_in_modules (setting_of b.circuit c.layout) b.version b.entries
+    (certificate_faultless text b c.layout reads same.layout) in
     record {
       circuit = b.circuit;
       layout = c.layout;
       certificate = b.entries;
       says = (bundle_good text b reads).says_all c.layout same.layout;
-      stops = subst (λ (cs : List CircuitLine). All (StopHolds (circuit_of cs) c.layout) (flat_map stop_in b.entries)) same.circuit (subst (All (StopHolds (circuit_of c.circuit) c.layout)) own right.stops);
+      stops = subst (λ (cs : List CircuitLine). All (StopHolds (circuit_of cs) c.layout) (flat_map stop_in b.entries))
+          same.circuit (subst (All (StopHolds (circuit_of c.circuit) c.layout)) own right.stops);
       on_time = subst (λ (cs : List CircuitLine). AreOnTime (circuit_of cs) (flat_map stop_in b.entries)) same.circuit
           (subst (λ (ss : List StopLine). AreOnTime (circuit_of c.circuit) ss) own right.times);
     }
@@ -313,25 +393,32 @@ judged_stops text b output outcome reads says is =
 not_refused : Yes ≡ Refused → ⊥
 not_refused e = cc
 
-pub by_outcome : (P : Type 0) (text output : List ℕ) → ((b : Bundle) → bundle_of text ≡ Ok b → (says : SaysReport b output Yes) → says.verdict ≡ verdict.Yes → P) →
+pub by_outcome : (P : Type 0) (text output : List ℕ) →
+    ((b : Bundle) → bundle_of text ≡ Ok b → (says : SaysReport b output Yes) → says.verdict ≡ verdict.Yes → P) →
     (read : Result Bundle Refusal) → bundle_of text ≡ read → Answered SaysReport read output Yes → P
 by_outcome P text output judged (Ok b) e says = judged b e says (is_yes says.verdict says.ends)
 by_outcome P text output judged (Err refusal) e told = absurd (not_refused told.1)
 
 pub yes_is_right : YesMeansRight
-yes_is_right text output says = by_outcome (IsRight text) text output (λ b e says is. judged_yes text b output Yes e says is) (bundle_of text) refl says
+yes_is_right text output says =
+    by_outcome (IsRight text) text output (λ b e says is. judged_yes text b output Yes e says is)
+    (bundle_of text) refl says
 
 pub yes_has_right_stops : YesMeansRightStops
-yes_has_right_stops text output says = by_outcome (HasRightStops text) text output (λ b e says is. judged_stops text b output Yes e says is) (bundle_of text) refl says
+yes_has_right_stops text output says =
+    by_outcome (HasRightStops text) text output (λ b e says is. judged_stops text b output Yes e says is)
+    (bundle_of text) refl says
 
 -- ---- the fourth line
 
-line_tells : (output : List ℕ) (outcome : Outcome) (read : Result Bundle Refusal) → Answered SaysReport read output outcome → (SaysYes output → outcome ≡ Yes) × (outcome ≡ Yes → SaysYes output)
+line_tells : (output : List ℕ) (outcome : Outcome) (read : Result Bundle Refusal) →
+    Answered SaysReport read output outcome → (SaysYes output → outcome ≡ Yes) × (outcome ≡ Yes → SaysYes output)
 line_tells output outcome (Ok b) says = (
   λ line. says.ends ∙ ap verdict_outcome (says_yes says.certificate says.verdict (subst SaysYes says.says line)),
   λ is.
       let v : says.verdict ≡ verdict.Yes = is_yes says.verdict (sym is ∙ says.ends) in
-      subst SaysYes (sym says.says) (subst (λ (w : Verdict). SaysYes (report_lines says.certificate w)) (sym v) (yes_says says.certificate)),
+      subst SaysYes (sym says.says)
+      (subst (λ (w : Verdict). SaysYes (report_lines says.certificate w)) (sym v) (yes_says says.certificate)),
 )
 line_tells output outcome (Err refusal) told = (
   λ line. absurd (refusal_says_none refusal (subst SaysYes told.0 line)),
@@ -341,8 +428,10 @@ line_tells output outcome (Err refusal) told = (
 pub fourth_line-tells : FourthLineTells
 fourth_line-tells text output outcome says = line_tells output outcome (bundle_of text) says
 
-pub by_line : (text output : List ℕ) (outcome : Outcome) → IsReportOf text output outcome → SaysYes output → IsReportOf text output Yes
-by_line text output outcome says line = subst (λ o. IsReportOf text output o) ((fourth_line-tells text output outcome says).0 line) says
+pub by_line : (text output : List ℕ) (outcome : Outcome) → IsReportOf text output outcome → SaysYes output →
+    IsReportOf text output Yes
+by_line text output outcome says line =
+    subst (λ o. IsReportOf text output o) ((fourth_line-tells text output outcome says).0 line) says
 
 -- ---- there is one valuation
 

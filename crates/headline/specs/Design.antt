@@ -1,4 +1,4 @@
--- What a text says first: a circuit, and then a layout. Of what follows nothing is said.
+-- The design with which a text begins: a circuit, and then a layout. The text may go on in any way.
 use Rattle.std.specs.Prelude.{◌≡◌, ℕ, List, ◌++◌}
 use Rattle.section_text.specs.Words.{lines_of}
 use Rattle.section_text.specs.SaidSection.{IsSection}

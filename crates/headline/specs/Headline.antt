@@ -1,11 +1,12 @@
--- What a yes of `check` means, of texts and bytes alone.
+-- The meaning of a yes of `check`, of texts and bytes alone.
 --
--- Read before, in this order: section_text/specs/Words.antt (lines and words of bytes); bbm_rule/specs/{Plane,Spans}.antt (a step, a run, a
--- rectangle); pattern/specs/Layout.antt (a layout, and its plane); circuit/specs/{Entries,Gates,Meaning,Bridge}.antt (the lines of a circuit, its
--- gates, valuations); audit_core/specs/Implements.antt (a layout computes a circuit); section_text/specs/SaidSection.antt, circuit/specs/Forms.antt
--- and pattern/specs/Forms.antt (a section, and what its lines say); Design.antt (what a text says). The types that they name stand in
--- circuit/src/entry.rt, bbm_rule/src/block.rt, pattern/src/parts.rt and section_text/src/section.rt. `tools/reading_list.py --definitions`
--- prints which definitions of them are meant.
+-- Read before, in this order: section_text/specs/Words.antt (lines and words of bytes);
+-- bbm_rule/specs/{Plane,Spans}.antt (a step, a run, a rectangle); pattern/specs/Layout.antt (a layout, and its plane);
+-- circuit/specs/{Entries,Gates,Meaning,Bridge}.antt (the lines of a circuit, its gates, valuations);
+-- audit_core/specs/Implements.antt (a layout computes a circuit); section_text/specs/SaidSection.antt,
+-- circuit/specs/Forms.antt and pattern/specs/Forms.antt (a section, and what its lines say); Design.antt (what a text
+-- says). The types that they name are in circuit/src/entry.rt, bbm_rule/src/block.rt, pattern/src/parts.rt and
+-- section_text/src/section.rt. `tools/reading_list.py --definitions` prints which definitions of them are meant.
 use Rattle.std.specs.Prelude.{◌≡◌, ℕ, List, ◌++◌, Option, Some, slice_get, codes}
 use Rattle.section_text.specs.Words.{lines_of}
 use Rattle.circuit.specs.declared.entry.Entry.{Entry}
@@ -24,11 +25,12 @@ pub record IsRight (text : List ℕ) : Type 0 where
 abbrev pub SaysYes : List ℕ → Type 0
 SaysYes output = slice_get (lines_of output) 3 ≡ Some (codes "verdict yes")
 
--- The bytes of a reader are known, and so are those of a writer before and after: where what was written says yes, P holds of what there
--- was to read.
+-- The bytes of a reader are known, and so are those of a writer before and after: if the output says yes, P
+-- holds of what there was to read.
 abbrev pub YesMeans : (List ℕ → Type 0) → Option (List ℕ) → Option (List ℕ) → Option (List ℕ) → Type 0
-YesMeans P left held held' = (text before output : List ℕ) → left ≡ Some text → held ≡ Some before → held' ≡ Some (before ++ output) → SaysYes output → P text
+YesMeans P left held held' = (text before output : List ℕ) → left ≡ Some text → held ≡ Some before →
+    held' ≡ Some (before ++ output) → SaysYes output → P text
 
--- P holds of what there is to read, where that is known
+-- P holds of what there is to read, if that is known
 abbrev pub Gives : (List ℕ → Type 0) → Option (List ℕ) → Type 0
 Gives P left = (text : List ℕ) → left ≡ Some text → P text

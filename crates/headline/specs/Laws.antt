@@ -19,7 +19,8 @@ use Rattle.headline.specs.Stops.{HasRightStops, SaysBundle}
 
 -- a command has at most one answer to each text
 abbrev pub HasOneAnswer : (List ℕ → List ℕ → Outcome → Type 0) → Type 0
-HasOneAnswer R = (text output output' : List ℕ) (outcome outcome' : Outcome) → R text output outcome → R text output' outcome' → (output ≡ output') × (outcome ≡ outcome')
+HasOneAnswer R = (text output output' : List ℕ) (outcome outcome' : Outcome) → R text output outcome →
+    R text output' outcome' → (output ≡ output') × (outcome ≡ outcome')
 
 -- a command has an answer to each text; with the law above, its answer is a function of the text
 abbrev pub HasAnAnswer : (List ℕ → List ℕ → Outcome → Type 0) → Type 0
@@ -40,22 +41,26 @@ YesHasOneValuation = (text output : List ℕ) (circuit : List Entry) (layout : P
     Satisfies (netlist_of circuit) inputs u → Satisfies (netlist_of circuit) inputs v →
     (w : ℕ) → w < wires (netlist_of circuit) → u w ≡ v w
 
--- a report says yes in its fourth line just where that is the outcome
+-- a report says yes in its fourth line exactly if that is the outcome
 abbrev pub FourthLineTells : Type 0
-FourthLineTells = (text output : List ℕ) (outcome : Outcome) → IsReportOf text output outcome → (SaysYes output → outcome ≡ Yes) × (outcome ≡ Yes → SaysYes output)
+FourthLineTells = (text output : List ℕ) (outcome : Outcome) → IsReportOf text output outcome →
+    (SaysYes output → outcome ≡ Yes) × (outcome ≡ Yes → SaysYes output)
 
 -- a text says one circuit and one layout at most
 abbrev pub SaysOneDesign : Type 0
-SaysOneDesign = (text : List ℕ) (circuit circuit' : List Entry) (layout layout' : Pattern) → SaysDesign text circuit layout → SaysDesign text circuit' layout' →
+SaysOneDesign = (text : List ℕ) (circuit circuit' : List Entry) (layout layout' : Pattern) →
+    SaysDesign text circuit layout → SaysDesign text circuit' layout' →
     (circuit ≡ circuit') × (layout ≡ layout')
 
 -- and the lines of one certificate
 abbrev pub SaysOneCertificate : Type 0
-SaysOneCertificate = (text : List ℕ) (circuit circuit' : List Entry) (layout layout' : Pattern) (certificate certificate' : List CertificateLine) →
-    SaysBundle text circuit layout certificate → SaysBundle text circuit' layout' certificate' → certificate ≡ certificate'
+SaysOneCertificate = (text : List ℕ) (circuit circuit' : List Entry) (layout layout' : Pattern)
+    (certificate certificate' : List CertificateLine) →
+    SaysBundle text circuit layout certificate → SaysBundle text circuit' layout' certificate' →
+    certificate ≡ certificate'
 
--- Where a text is not refused, the design that it says is good: each of its lines is good after those before it, by names, limits and
--- cells, and the text begins with the lines of both sections in their one spelling.
+-- The design of a text that is not refused is good: each of its lines is good after those before it, by names, limits
+-- and cells. The text begins with the lines of both sections in their one spelling.
 pub record IsGoodDesign (text : List ℕ) (circuit : List Entry) (layout : Pattern) : Type 0 where
   pub circuit_lines : AreGood circuit
   pub size : size_fault layout.size ≡ None
@@ -63,8 +68,11 @@ pub record IsGoodDesign (text : List ℕ) (circuit : List Entry) (layout : Patte
   pub rest : List ℕ
   pub begins : text ≡ circuit_text circuit ++ (layout_text layout ++ rest)
 
+-- In a text that is not refused, each line of the circuit and of the layout is good after those before it, and has its
+-- one spelling.
 abbrev pub ReportsOnGoodDesigns : Type 0
-ReportsOnGoodDesigns = (text output : List ℕ) (outcome : Outcome) (circuit : List Entry) (layout : Pattern) → IsReportOf text output outcome → outcome ≢ Refused →
+ReportsOnGoodDesigns = (text output : List ℕ) (outcome : Outcome) (circuit : List Entry) (layout : Pattern) →
+    IsReportOf text output outcome → outcome ≢ Refused →
     SaysDesign text circuit layout → IsGoodDesign text circuit layout
 
 -- Something is reported with the outcome yes, so the laws are not about nothing: this text.

@@ -1,4 +1,4 @@
--- What `migrate` keeps, of texts alone.
+-- The facts that `migrate` keeps, of texts alone.
 use Rattle.std.specs.Prelude.{◌≡◌, ℕ, List}
 use Rattle.circuit.specs.declared.entry.Entry.{Entry as CircuitLine}
 use Rattle.pattern.specs.Layout.{Pattern}
@@ -11,7 +11,8 @@ use Rattle.headline.specs.Design.{SaysDesign}
 use Rattle.headline.specs.Stops.{SaysBundle}
 
 -- the text says this circuit, this layout and these lines of a certificate of this version
-pub record SaysInVersion (version : ℕ) (text : List ℕ) (circuit : List CircuitLine) (layout : Pattern) (certificate : List Entry) : Type 0 where
+pub record SaysInVersion (version : ℕ) (text : List ℕ) (circuit : List CircuitLine) (layout : Pattern)
+    (certificate : List Entry) : Type 0 where
   pub says : SaysBundle text circuit layout certificate
   pub of_version : says.version ≡ version
 
@@ -20,22 +21,27 @@ abbrev pub KeepsVersionTwo : Type 0
 KeepsVersionTwo = (text output : List ℕ) (circuit : List CircuitLine) (layout : Pattern) (certificate : List Entry) →
     IsMigrationOf text output Yes → SaysInVersion 2 text circuit layout certificate → output ≡ text
 
--- What is written is of version 2. It says the circuit and the layout that were read, and the lines of the certificate other than its halo
--- lines.
+-- The text that `migrate` writes is of version 2. It says the circuit and the layout that were read, and the lines of
+-- the certificate other than its halo lines.
 abbrev pub MigrationSaysTheSame : Type 0
-MigrationSaysTheSame = (text output : List ℕ) (circuit : List CircuitLine) (layout : Pattern) (certificate : List Entry) →
-    IsMigrationOf text output Yes → SaysBundle text circuit layout certificate → SaysInVersion 2 output circuit layout (without_halos certificate)
+MigrationSaysTheSame = (text output : List ℕ) (circuit : List CircuitLine) (layout : Pattern)
+    (certificate : List Entry) →
+    IsMigrationOf text output Yes → SaysBundle text circuit layout certificate →
+    SaysInVersion 2 output circuit layout (without_halos certificate)
 
--- what is written is migrated to itself, where it is not refused
+-- what is written is migrated to itself, if it is not refused
 abbrev pub MigratesOnce : Type 0
-MigratesOnce = (text output again : List ℕ) → IsMigrationOf text output Yes → IsMigrationOf output again Yes → again ≡ output
+MigratesOnce = (text output again : List ℕ) → IsMigrationOf text output Yes → IsMigrationOf output again Yes →
+    again ≡ output
 
 -- The output is reported with the outcome yes, and says each circuit and layout that the text says.
 pub record IsAcceptedAlike (text output : List ℕ) : Type 0 where
   pub report : List ℕ
   pub reported : IsReportOf output report Yes
-  pub design : (circuit : List CircuitLine) (layout : Pattern) → SaysDesign text circuit layout → SaysDesign output circuit layout
+  pub design : (circuit : List CircuitLine) (layout : Pattern) → SaysDesign text circuit layout →
+      SaysDesign output circuit layout
 
 -- what is reported with the outcome yes is so too after it is migrated
 abbrev pub MigrationIsAccepted : Type 0
-MigrationIsAccepted = (text report output : List ℕ) → IsReportOf text report Yes → IsMigrationOf text output Yes → IsAcceptedAlike text output
+MigrationIsAccepted = (text report output : List ℕ) → IsReportOf text report Yes → IsMigrationOf text output Yes →
+    IsAcceptedAlike text output

@@ -1,4 +1,4 @@
--- What a no of `check` means if the certificate is plain: one module that is the whole rectangle.
+-- The meaning of a no of `check` if the certificate is plain: one module that is the whole rectangle.
 --
 -- Read before: all that Headline.antt and Stops.antt name; certificate_lines/specs/Entries.antt up to `keep_in` (the
 -- lines of a module); audit_core/specs/PlainCertificates.antt from `IsPlain` to `TouchesRim`.

@@ -53,6 +53,6 @@ pub record ThereAndBackIsSmall : Type 0 where
   pub plain : IsPlainText there_and_back circuit layout
   pub small : IsSmall circuit layout
 
--- the lines of a report with the outcome no tell so
+-- the lines of a report with the outcome no have the meaning of `LinesTell`
 abbrev pub NoLinesTell : Type 0
 NoLinesTell = (text output : List ℕ) → IsReportOf text output No → LinesTell text output

@@ -1,9 +1,8 @@
--- What the lines of a report mean if it says no, of texts and bytes.
+-- The meaning of the lines of a report that says no, of texts and bytes.
 --
 -- Read before: Plain.antt; report/specs/ReportText.antt up to `opening_lines` (how a line is spelled);
 -- audit_core/specs/FirstFaults.antt from `IsAsCertified` on, without the laws; audit_core/specs/PlainCertificates.antt
--- from
--- `Shows` to `LineMeans`.
+-- from `Shows` to `LineMeans`.
 use Rattle.std.specs.Prelude.{◌≡◌, ℕ, List, [], ◌∷◌, ◌++◌, slice_get, Some, Option, codes}
 use Rattle.std.specs.List.{All, flat_map}
 use Rattle.circuit.specs.Bridge.{netlist_of, circuit_of}
@@ -28,10 +27,9 @@ pub record SaysNoWith (output : List ℕ) (lines : List ReportLine) : Type 0 whe
   pub spelled : output ≡ opening_lines digest modules
       ++ (line_text (codes "verdict") (codes "no" ∷ []) ++ flat_map fault_line lines)
 
--- The text says a circuit, a layout and a certificate. Then the earliest of these lines is real: whatever the inputs
--- and
--- the values v of the wires for them, if v gives the module of the line the line's assignment, its fault is one of the
--- whole plane.
+-- The text says a circuit, a layout and a certificate. Then the earliest of these lines is real, whatever the inputs
+-- and the values v of the wires for them. If v gives the module of the line the line's assignment, its fault is one of
+-- the whole plane.
 abbrev pub EarliestIsReal : List ℕ → List ReportLine → Type 0
 EarliestIsReal text lines = (circuit : List CircuitLine) (layout : Pattern) (certificate : List Entry) →
     SaysBundle text circuit layout certificate →
@@ -43,8 +41,7 @@ EarliestIsReal text lines = (circuit : List CircuitLine) (layout : Pattern) (cer
 abbrev pub LinesMeanIfPlain : List ℕ → List ReportLine → Type 0
 LinesMeanIfPlain text lines = (said : SaysPlain text) → All (LineMeans said.circuit said.layout said.one) lines
 
--- What an output of no tells of a text: the lines after its fourth, of which the earliest is real. If the text is
--- plain,
+-- The meaning of an output of no for a text: the earliest of the lines after its fourth is real. If the text is plain,
 -- each of them means something.
 pub record LinesTell (text output : List ℕ) : Type 0 where
   pub lines : List ReportLine

@@ -1,8 +1,9 @@
--- What a yes of `check` means of stops, delays and meetings, of texts and bytes alone. Who writes no `stop` lines need not read this.
+-- The meaning of a yes of `check` for stops, delays and meetings, of texts and bytes alone. Texts without `stop` lines
+-- do not need this file.
 --
--- Read before: all that Headline.antt names; certificate_lines/specs/Entries.antt up to `stop_in` and Forms.antt (what a line of a certificate
--- says); certificate/specs/Times.antt up to `times_of` and Arrivals.antt up to `AreOnTime` (delays and meetings); audit_core/specs/OnTime.antt
--- (`StopHolds`).
+-- Read before: all that Headline.antt names; certificate_lines/specs/Entries.antt up to `stop_in` and Forms.antt (what
+-- a line of a certificate says); certificate/specs/Times.antt up to `times_of` and Arrivals.antt up to `AreOnTime`
+-- (delays and meetings); audit_core/specs/OnTime.antt (`StopHolds`).
 use Rattle.std.specs.Prelude.{◌≡◌, ℕ, List, ◌++◌}
 use Rattle.std.specs.List.{All, flat_map}
 use Rattle.section_text.specs.SaidSection.{IsSection}
@@ -17,7 +18,8 @@ use Rattle.audit_core.specs.OnTime.{StopHolds}
 use Rattle.headline.specs.Design.{SaysDesign}
 
 -- The text says this circuit and this layout, and goes on with the lines of this certificate.
-pub record SaysBundle (text : List ℕ) (circuit : List CircuitLine) (layout : Pattern) (certificate : List Entry) : Type 0 where
+pub record SaysBundle (text : List ℕ) (circuit : List CircuitLine) (layout : Pattern)
+    (certificate : List Entry) : Type 0 where
   pub design : SaysDesign text circuit layout
   pub version : ℕ
   pub third : List (List ℕ)
@@ -25,8 +27,9 @@ pub record SaysBundle (text : List ℕ) (circuit : List CircuitLine) (layout : P
   pub lines : design.others ≡ third ++ rest
   pub certificate_is : IsSection certificate_form third version certificate
 
--- Each stop of the text's certificate holds on the whole plane, for all values of the inputs; and by its stops each delay takes as many steps as
--- it says, and the inputs of each gate meet. The circuit and the layout are those of `IsRight`, since a text says one of each (`SaysOneDesign`).
+-- Each stop of the text's certificate holds on the whole plane, for all values of the inputs; and by its stops each
+-- delay takes as many steps as it says, and the inputs of each gate meet. The circuit and the layout are those of
+-- `IsRight`, since a text says one of each (`SaysOneDesign`).
 pub record HasRightStops (text : List ℕ) : Type 0 where
   pub circuit : List CircuitLine
   pub layout : Pattern

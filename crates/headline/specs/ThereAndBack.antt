@@ -1,6 +1,8 @@
--- The text of a bundle without steps: a switch, and its inverse gate, which the one module keeps. It is `examples/there_and_back.txt`.
+-- The text of a bundle without steps: a switch, and its inverse gate, which the one module keeps. It is
+-- `examples/there_and_back.txt`.
 use Rattle.std.specs.Prelude.{ℕ, List, ◌++◌, codes}
 
+-- the bytes of the text
 unfoldable pub there_and_back : List ℕ
 there_and_back =
     codes "circuit\ninput c\ninput x\nswitch c x -> d y z\nunswitch d y z -> e w\noutput e\noutput w\nend\n"

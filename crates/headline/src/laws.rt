@@ -8,39 +8,43 @@ ghost use Rattle.answers.specs.ModulesText.{IsModulesOf};
 ghost use Rattle.answers.specs.RunText.{IsRunOf};
 ghost use Rattle.answers.specs.ValueText.{IsValueOf};
 
-/// What `check` writes for a text, and how it ends, is a function of the text.
+/// States that what `check` writes for a text, and its outcome, is a function of the text.
 pub fn check_has_one_answer()
     ensures one { HasOneAnswer IsReportOf }
     ensures some { HasAnAnswer IsReportOf }
 {}
 
-/// What `run` writes for a text, and how it ends, is a function of the text.
+/// States that what `run` writes for a text, and its outcome, is a function of the text.
 pub fn run_has_one_answer()
     ensures one { HasOneAnswer IsRunOf }
     ensures some { HasAnAnswer IsRunOf }
 {}
 
-/// What `value` writes for a text, and how it ends, is a function of the text.
+/// States that what `value` writes for a text, and its outcome, is a function of the text.
 pub fn value_has_one_answer()
     ensures one { HasOneAnswer IsValueOf }
     ensures some { HasAnAnswer IsValueOf }
 {}
 
-/// What `modules` writes for a text, and how it ends, is a function of the text.
+/// States that what `modules` writes for a text, and its outcome, is a function of the text.
 pub fn modules_has_one_answer()
     ensures one { HasOneAnswer IsModulesOf }
     ensures some { HasAnAnswer IsModulesOf }
 {}
 
-/// What `migrate` writes for a text, and how it ends, is a function of the text.
+/// States that what `migrate` writes for a text, and its outcome, is a function of the text.
 pub fn migrate_has_one_answer()
     ensures one { HasOneAnswer IsMigrationOf }
     ensures some { HasAnAnswer IsMigrationOf }
 {}
 
-/// What `migrate` writes for a text says the same circuit and layout, and in version 2 the same lines of the
-/// certificate other than its halo lines. A text of version 2 is written as it is, byte for byte, so what is written
-/// and not refused is migrated to itself. What is reported with a yes is reported so too after it is migrated.
+/// States that `migrate` keeps what is said and what is accepted.
+///
+/// - The text that it writes says the same circuit and layout, and in version 2 the same lines of the certificate other
+///   than its halo lines.
+/// - A text of version 2 is written as it is, byte for byte. So a text that it wrote, and that is not a refusal, is
+///   migrated to itself.
+/// - A text that is reported with a yes is reported so too after it is migrated.
 pub fn migration_keeps_what_is_accepted()
     ensures unchanged { KeepsVersionTwo }
     ensures same { MigrationSaysTheSame }
@@ -48,9 +52,11 @@ pub fn migration_keeps_what_is_accepted()
     ensures accepted { MigrationIsAccepted }
 {}
 
+/// States what a yes means.
+///
 /// A text for which the report says yes begins with a circuit and a layout that computes it, and goes on with a
 /// certificate whose stops hold. The circuit has exactly one valuation for each choice of values of its inputs. The
-/// fourth line of a report is `verdict yes` just where it says yes.
+/// fourth line of a report is `verdict yes` exactly if the verdict is yes.
 pub fn yes_means_right()
     ensures right { YesMeansRight }
     ensures stops { YesMeansRightStops }
@@ -58,9 +64,10 @@ pub fn yes_means_right()
     ensures told { FourthLineTells }
 {}
 
-/// A text whose certificate is one plain module, the whole rectangle, and for which the report says no is wrong: the
-/// layout does not compute the circuit, or the stops are not right, or the layout touches its rim. No text with a yes
-/// touches its rim. So of plain texts that are not refused `check` decides it.
+/// States what a no means for a text whose certificate is one plain module, the whole rectangle.
+///
+/// The text is wrong: the layout does not compute the circuit, or the stops are not right, or the layout touches its
+/// rim. No text with a yes touches its rim. So `check` decides plain texts that are not refused.
 pub fn no_means_wrong()
     ensures no { PlainNoMeansWrong }
     ensures off_rim { YesKeepsOffRim }
@@ -68,33 +75,46 @@ pub fn no_means_wrong()
     ensures lines { PlainLinesDecide }
 {}
 
+/// States that `check` decides small designs.
+///
 /// A text that says a design of at most 64 by 64 cells, 12 inputs and 64 gates, and then `plain_lines`, is not refused.
 /// `check` says yes to it exactly if the layout computes the circuit, the stops are right, and the layout keeps off its
-/// rim. That each such design has a text is not proved.
+/// rim. It is not proved that each such design has a text.
 pub fn small_designs_are_decided()
     ensures decided { SmallDesignIsDecided }
     ensures refused { RefusedIsNoSmallDesign }
 {}
 
-/// If the earliest line of a no is a `local` line, its fault is one of the whole plane, for each valuation that gives
-/// the module the assignment of the line. If no valuation of the circuit does, the law says nothing of the line. If the
-/// certificate is plain, each line of a no means something: `edge`, the layout touches its rim; `stop`, a stop is
-/// wrong; `end` and `keep`, the layout does not compute the circuit, for the inputs in the line; `delay` and `meet`,
-/// the times are wrong.
+/// States what the lines of a no mean.
+///
+/// If the earliest line of a no is a `local` line, its fault is one of the whole plane. It is so for each valuation
+/// that gives the module the assignment of the line. If no valuation of the circuit does, the law does not say what the
+/// line means.
+///
+/// If the certificate is plain, each line of a no has a meaning:
+///
+/// - `edge`: the layout touches its rim;
+/// - `stop`: a stop is wrong;
+/// - `end` and `keep`: the layout does not compute the circuit, for the inputs in the line;
+/// - `delay` and `meet`: the times are wrong.
 pub fn lines_of_a_no_tell()
     ensures { NoLinesTell }
 {}
 
-/// A text begins with one circuit, one layout and one certificate at most. Where it is not refused, each line of the
-/// circuit and of the layout is good after those before it, by names, limits and cells, and is spelled in the one way.
+/// States that a text begins with one circuit, one layout and one certificate at most.
+///
+/// If it is not refused, each line of the circuit and of the layout is good after those before it, by names, limits and
+/// cells. Each has its one spelling.
 pub fn says_one_design()
     ensures one { SaysOneDesign }
     ensures certificate { SaysOneCertificate }
     ensures good { ReportsOnGoodDesigns }
 {}
 
-/// Something is reported with a yes: the text of four modules with a gate, a delay and stops, and that of a switch and
-/// its inverse gate, whose certificate is plain.
+/// States that two texts are reported with a yes, so the theorems are not vacuous.
+///
+/// One is of four modules with a gate, a delay and stops. The other is of a switch and its inverse gate, and its
+/// certificate is plain.
 pub fn something_is_accepted()
     ensures timed { TimedModulesAreAccepted }
     ensures inverse { ThereAndBackIsAccepted }

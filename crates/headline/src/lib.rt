@@ -1,4 +1,4 @@
-//! What a yes of `check` means, of texts and bytes alone: `specs/Headline.antt` has the statement.
+//! The meaning of a yes of `check`, of texts and bytes alone: `specs/Headline.antt` has the statement.
 #![tactic(auto)]
 
 pub mod laws;

@@ -1,5 +1,6 @@
 -- Facts on lists, for the end of a desk.
-use Rattle.std.proofs.Common.{◌≡◌, ℕ, zero, suc, ◌+◌, ◌-◌, ◌<◌, ◌≤◌, List, [], ◌∷◌, ◌++◌, map, length, All, sym, ap, ◌∙◌, subst, arith, append_assoc}
+use Rattle.std.proofs.Common.{◌≡◌, ℕ, zero, suc, ◌+◌, ◌-◌, ◌<◌, ◌≤◌, List, [], ◌∷◌, ◌++◌, map, length, All, sym, ap}
+use Rattle.std.proofs.Common.{◌∙◌, subst, arith, append_assoc}
 use Rattle.std.proofs.lemmas.Bool.Decides.{nat_tests}
 use Rattle.std.proofs.lemmas.List.{map-append}
 use Rattle.std.specs.Prelude.{Any}
@@ -38,8 +39,10 @@ module _ {X : Type 0} (P : X → Type 0) where
       both (w ∷ ws) g (suc k) d l = both ws (λ i e m. g (suc i) e (omega arith)) k d (omega arith)
 
 -- one element moves from the front of one list to the end of another, which is seen by f there and by g here
-pub moved : {X Y Z : Type 0} (f : X → Z) (g : Y → Z) (done now : List X) (x : X) (rest : List Y) (y : Y) (left : List Y) (all : List Z)
-    → now ≡ done ++ x ∷ [] → rest ≡ y ∷ left → g y ≡ f x → map f done ++ map g rest ≡ all → map f now ++ map g left ≡ all
+pub moved : {X Y Z : Type 0} (f : X → Z) (g : Y → Z) (done now : List X) (x : X) (rest : List Y) (y : Y) (left : List Y)
+    (all : List Z)
+    → now ≡ done ++ x ∷ [] → rest ≡ y ∷ left → g y ≡ f x → map f done ++ map g rest ≡ all →
+    map f now ++ map g left ≡ all
 moved f g done now x rest y left all is was same h =
     ap (λ l. map f l ++ map g left) is
     ∙ (ap (λ l. l ++ map g left) (map-append f done (x ∷ []))
@@ -47,7 +50,9 @@ moved f g done now x rest y left all is was same h =
     ∙ (ap (λ z. map f done ++ (z ∷ map g left)) (sym same)
     ∙ (ap (λ l. map f done ++ map g l) (sym was) ∙ h))))
 
-pub shares : (n seats counter : ℕ) (lists : List (List ℕ)) (v : View) → IsWhole n seats counter v → v.draws ≡ joined lists → length lists ≡ seats → All (λ xs. top (front xs) ≤ n) lists → AreAllDraws n seats counter lists
+pub shares : (n seats counter : ℕ) (lists : List (List ℕ)) (v : View) → IsWhole n seats counter v →
+    v.draws ≡ joined lists → length lists ≡ seats → All (λ xs. top (front xs) ≤ n) lists →
+    AreAllDraws n seats counter lists
 shares n seats counter lists v w is count last = record {
   count = count;
   drawn = joined_drawn counter lists (subst (λ l. IsDrawn counter (l ∷ [])) is w.drawn);
@@ -56,7 +61,8 @@ shares n seats counter lists v w is count last = record {
 }
 
 -- the same where the second list holds what f sees
-pub passed : {X Z : Type 0} (f : X → Z) (done now : List X) (x : X) (rest left all : List Z) → now ≡ done ++ x ∷ [] → rest ≡ f x ∷ left → map f done ++ rest ≡ all → map f now ++ left ≡ all
+pub passed : {X Z : Type 0} (f : X → Z) (done now : List X) (x : X) (rest left all : List Z) → now ≡ done ++ x ∷ [] →
+    rest ≡ f x ∷ left → map f done ++ rest ≡ all → map f now ++ left ≡ all
 passed f done now x rest left all is was h =
     ap (λ l. map f l ++ left) is
     ∙ (ap (λ l. l ++ left) (map-append f done (x ∷ []))
@@ -64,7 +70,8 @@ passed f done now x rest left all is was h =
     ∙ (ap (λ l. map f done ++ l) (sym was) ∙ h)))
 
 -- the same where the first list holds what g sees
-pub taken : {Y Z : Type 0} (g : Y → Z) (done now : List Z) (rest : List Y) (y : Y) (left : List Y) (all : List Z) → now ≡ done ++ g y ∷ [] → rest ≡ y ∷ left → done ++ map g rest ≡ all → now ++ map g left ≡ all
+pub taken : {Y Z : Type 0} (g : Y → Z) (done now : List Z) (rest : List Y) (y : Y) (left : List Y) (all : List Z) →
+    now ≡ done ++ g y ∷ [] → rest ≡ y ∷ left → done ++ map g rest ≡ all → now ++ map g left ≡ all
 taken g done now rest y left all is was h =
     ap (λ l. l ++ map g left) is
     ∙ (append_assoc done (g y ∷ []) (map g left)
@@ -76,7 +83,8 @@ last_stands (y ∷ []) m e = let same : y ≡ m = omega arith in grind (arith, n
 last_stands (y ∷ z ∷ zs) m e = let h = last_stands (z ∷ zs) m e in omega arith
 
 -- the last draw of a list was counted
-pub end_counted : (counter n i : ℕ) (lists : List (List ℕ)) (xs : List ℕ) → IsDrawn counter lists → get_elem? lists i ≡ some xs → n < end_of xs → n < counter
+pub end_counted : (counter n i : ℕ) (lists : List (List ℕ)) (xs : List ℕ) → IsDrawn counter lists →
+    get_elem? lists i ≡ some xs → n < end_of xs → n < counter
 end_counted counter n i lists xs r at ends =
     let m : ℕ = end_of xs - 1 in
     let stands = last_stands xs m (omega arith) in
@@ -85,5 +93,8 @@ end_counted counter n i lists xs r at ends =
     let below : m < counter = grind (arith, nat_tests) in
     omega arith
 
-pub any_ended : {X : Type 0} (f : X → List ℕ) (xs : List X) (counter n : ℕ) (lists : List (List ℕ)) → lists ≡ map f xs → IsDrawn counter lists → Any (λ x. n < end_of (f x)) xs → n < counter
-any_ended f xs counter n lists is r (k, x, below, at, ends) = end_counted counter n k lists (f x) r (subst (λ l. get_elem? l k ≡ some (f x)) (sym is) (at_map f xs k x (at_index xs k x below (sym at)))) ends
+pub any_ended : {X : Type 0} (f : X → List ℕ) (xs : List X) (counter n : ℕ) (lists : List (List ℕ)) → lists ≡ map f xs →
+    IsDrawn counter lists → Any (λ x. n < end_of (f x)) xs → n < counter
+any_ended f xs counter n lists is r (k, x, below, at, ends) =
+    end_counted counter n k lists (f x) r
+    (subst (λ l. get_elem? l k ≡ some (f x)) (sym is) (at_map f xs k x (at_index xs k x below (sym at)))) ends

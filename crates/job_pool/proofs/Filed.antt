@@ -1,5 +1,6 @@
--- What the draws of workers add up to.
-use Rattle.std.proofs.Common.{◌≡◌, ℕ, suc, ◌+◌, ◌<◌, ◌≤◌, Bool, true, false, List, [], ◌∷◌, ◌++◌, length, map, get_or, All, refl, ap, ◌∙◌, subst, arith}
+-- The findings that are due from the draws of all workers.
+use Rattle.std.proofs.Common.{◌≡◌, ℕ, suc, ◌+◌, ◌<◌, ◌≤◌, Bool, true, false, List, [], ◌∷◌, ◌++◌, length, map, get_or}
+use Rattle.std.proofs.Common.{All, refl, ap, ◌∙◌, subst, arith}
 use Rattle.std.specs.Prelude.{nat_lt, if◌then◌else◌}
 use Rattle.std.proofs.Common.{take, drop}
 use Rattle.std.proofs.lemmas.Bool.Decides.{nat_tests}
@@ -18,7 +19,9 @@ use Rattle.job_pool.specs.Work.{HasWorked, due, filed_by, shares_of, seats_of}
 use Rattle.job_pool.proofs.Ends.{end_counted}
 use Rattle.job_pool.proofs.Members.{due_in_all, due_more, none_beyond}
 
-by_cases : (b d : Bool) (groups : List ℕ) (n next : ℕ) (before : List ℕ) → All (λ g. g < n) groups → nat_lt next n ≡ d → Empty ≡ (if b then Empty else if d then Number next else Empty) → due groups (if b then before else before ++ next ∷ []) ≡ due groups before
+by_cases : (b d : Bool) (groups : List ℕ) (n next : ℕ) (before : List ℕ) → All (λ g. g < n) groups → nat_lt next n ≡ d →
+    Empty ≡ (if b then Empty else if d then Number next else Empty) →
+    due groups (if b then before else before ++ next ∷ []) ≡ due groups before
 by_cases true d groups n next before below t e = refl
 by_cases false true groups n next before below t e = absurd (cc)
 by_cases false false groups n next before below t e =
@@ -28,17 +31,22 @@ by_cases false false groups n next before below t e =
     omega (arith, a, z)
 
 -- for a claim that is answered Empty nothing more is due
-pub empty_adds_none : (groups : List ℕ) (n next : ℕ) (before after : List ℕ) → All (λ g. g < n) groups → Empty ≡ claim_answer n before next → after ≡ claim_draws n before next → due groups after ≡ due groups before
-empty_adds_none groups n next before after below e is = ap (due groups) is ∙ by_cases (has_ended n before) (nat_lt next n) groups n next before below refl e
+pub empty_adds_none : (groups : List ℕ) (n next : ℕ) (before after : List ℕ) → All (λ g. g < n) groups →
+    Empty ≡ claim_answer n before next → after ≡ claim_draws n before next → due groups after ≡ due groups before
+empty_adds_none groups n next before after below e is =
+    ap (due groups) is ∙ by_cases (has_ended n before) (nat_lt next n) groups n next before below refl e
 
--- where a list ends with a draw of n or more, all numbers below n were drawn, and so the findings of all members are due
-all_are_due : (counter n i : ℕ) (lists : List (List ℕ)) (xs groups : List ℕ) → IsDrawn counter lists → get_elem? lists i ≡ some xs → n < end_of xs → All (λ g. g < n) groups → total (due groups) lists ≡ length groups
+-- where a list ends with a draw of n or more, all numbers below n were drawn, and so the findings of all members are
+-- due
+all_are_due : (counter n i : ℕ) (lists : List (List ℕ)) (xs groups : List ℕ) → IsDrawn counter lists →
+    get_elem? lists i ≡ some xs → n < end_of xs → All (λ g. g < n) groups → total (due groups) lists ≡ length groups
 all_are_due counter n i lists xs groups r at ends below =
     let counted = end_counted counter n i lists xs r at ends in
     due_in_all counter n lists r (omega (arith, counted)) groups below
 
 -- a `Vec` whose whole slice was written
-pub whole : {X : Type 0} (n : ℕ) (xs ys : List X) → length xs ≡ length ys → n ≡ length ys → take n (xs ++ drop (length xs) ys) ≡ xs
+pub whole : {X : Type 0} (n : ℕ) (xs ys : List X) → length xs ≡ length ys → n ≡ length ys →
+    take n (xs ++ drop (length xs) ys) ≡ xs
 whole n xs ys e is =
     let none : drop (length xs) ys ≡ [] = drop_all (length xs) ys (omega arith) in
     ap (λ zs. take n (xs ++ zs)) none ∙ ap (take n) (append-nil xs) ∙ take_all n xs (omega arith)
@@ -46,7 +54,8 @@ whole n xs ys e is =
 module _ {F A : Type 0} (desk : Desk) (groups : List ℕ) where
   -- what each worker filed, added up
   all_filed : (before after : List (Worker F A)) → length after ≡ length before
-      → ((i : ℕ) (d : Worker F A) → i < length before → (get_or after i d).share.filed ≡ (get_or before i d).share.filed + due groups (drawn_by (get_or after i d).seat))
+      → ((i : ℕ) (d : Worker F A) → i < length before →
+      (get_or after i d).share.filed ≡ (get_or before i d).share.filed + due groups (drawn_by (get_or after i d).seat))
       → filed_by (shares_of after) ≡ filed_by (shares_of before) + total (due groups) (map drawn_by (seats_of after))
   all_filed [] [] len each = refl
   all_filed [] (y ∷ ys) len each = absurd (omega arith)
@@ -54,23 +63,36 @@ module _ {F A : Type 0} (desk : Desk) (groups : List ℕ) where
   all_filed (x ∷ xs) (y ∷ ys) len each =
       let h = all_filed xs ys (omega arith) (λ i d below. each (suc i) d (omega arith)) in
       let e = each 0 x (omega arith) in
-      omega (arith, h, e, sum_by-cons (λ s. s.filed) x.share (shares_of xs), sum_by-cons (λ s. s.filed) y.share (shares_of ys))
+      omega (
+        arith,
+        h,
+        e,
+        sum_by-cons (λ s. s.filed) x.share (shares_of xs),
+        sum_by-cons (λ s. s.filed) y.share (shares_of ys),
+      )
 
-  first_of : (ws : List (Worker F A)) → 0 < length ws → (w : Worker F A) × (get_elem? (map drawn_by (seats_of ws)) 0 ≡ some (drawn_by w.seat)) × (get_or ws 0 w ≡ w)
+  first_of : (ws : List (Worker F A)) → 0 < length ws →
+      (w : Worker F A) × (get_elem? (map drawn_by (seats_of ws)) 0 ≡ some (drawn_by w.seat)) × (get_or ws 0 w ≡ w)
   first_of [] some_worker = absurd (omega arith)
   first_of (w ∷ ws) some_worker = (w, refl, refl)
 
-  module _ (before after : List (Worker F A)) (len : length after ≡ length before) (each : (i : ℕ) (d : Worker F A) → i < length before → HasWorked desk groups (get_or before i d) (get_or after i d)) where
+  module _ (before after : List (Worker F A)) (len : length after ≡ length before)
+      (each : (i : ℕ) (d : Worker F A) → i < length before →
+      HasWorked desk groups (get_or before i d) (get_or after i d)) where
     pub all_seats : All (IsSeatOf desk) (seats_of after)
     all_seats = All-map (IsSeatOf desk) (λ (w : Worker F A). w.seat) after (λ i d below. (each i d (omega arith)).seat)
 
-    -- where no worker stopped for want of memory, the finding of each number was filed
-    pub every_number_was_filed : (counter : ℕ) (lists : List (List ℕ)) → 0 < length before → All (λ (w : Worker F A). w.starved ≡ false) after → lists ≡ map drawn_by (seats_of after) → IsDrawn counter lists → All (λ g. g < desk.numbers) groups
+    -- if no worker stopped out of memory, the finding of each number was filed
+    pub every_number_was_filed : (counter : ℕ) (lists : List (List ℕ)) → 0 < length before →
+        All (λ (w : Worker F A). w.starved ≡ false) after → lists ≡ map drawn_by (seats_of after) →
+        IsDrawn counter lists → All (λ g. g < desk.numbers) groups
         → filed_by (shares_of after) ≡ filed_by (shares_of before) + length groups
     every_number_was_filed counter lists some_worker fed is r below =
         let sum = all_filed before after len (λ i d below. (each i d below).filed (fed i d (omega arith))) in
         let first = first_of after (omega arith) in
         let ends = (each 0 first.0 some_worker).ended (fed 0 first.0 (omega arith)) in
-        let ended : desk.numbers < end_of (drawn_by first.0.seat) = subst (λ (w : Worker F A). desk.numbers < end_of (drawn_by w.seat)) first.2 ends in
-        let all = all_are_due counter desk.numbers 0 (map drawn_by (seats_of after)) (drawn_by first.0.seat) groups (subst (IsDrawn counter) is r) first.1 ended below in
+        let ended : desk.numbers < end_of (drawn_by first.0.seat) =
+        subst (λ (w : Worker F A). desk.numbers < end_of (drawn_by w.seat)) first.2 ends in
+        let all = all_are_due counter desk.numbers 0 (map drawn_by (seats_of after)) (drawn_by first.0.seat) groups
+        (subst (IsDrawn counter) is r) first.1 ended below in
         omega (arith, sum, all)

@@ -1,5 +1,6 @@
 -- Groups of jobs, and the findings that are due for draws.
-use Rattle.std.proofs.Common.{◌≡◌, ℕ, zero, suc, ◌+◌, ◌<◌, ◌≤◌, List, [], ◌∷◌, ◌++◌, All, map, take, length, get_or, Some, refl, sym, ap, ◌∙◌, subst, arith, inl, inr}
+use Rattle.std.proofs.Common.{◌≡◌, ℕ, zero, suc, ◌+◌, ◌<◌, ◌≤◌, List, [], ◌∷◌, ◌++◌, All, map, take, length, get_or}
+use Rattle.std.proofs.Common.{Some, refl, sym, ap, ◌∙◌, subst, arith, inl, inr}
 use Rattle.std.specs.Prelude.{◌≢◌, ◌==◌, if◌then◌else◌, slice_get, slice_index}
 use Rattle.std.specs.Option.{option_map}
 use Rattle.std.proofs.lemmas.Bool.{cases_lt}
@@ -26,18 +27,22 @@ read_any [] k d lt = absurd (omega (arith, lt))
 read_any (x ∷ xs) zero d lt = refl
 read_any (x ∷ xs) (suc k) d lt = read_any xs k d (omega (arith, lt))
 
-first_below : (shapes : List ShapeState) (groups : List ℕ) → AreGroups shapes groups → (k : ℕ) → k < length shapes → slice_index groups k < length shapes
+first_below : (shapes : List ShapeState) (groups : List ℕ) → AreGroups shapes groups → (k : ℕ) → k < length shapes →
+    slice_index groups k < length shapes
 first_below shapes groups h k lt =
     let x = some_at shapes k lt in
     slice_get_within shapes (slice_index groups k) x.0 ((h.each k lt).same ∙ x.1)
 
-pub groups_below : (shapes : List ShapeState) (groups : List ℕ) → AreGroups shapes groups → All (λ g. g < length shapes) groups
+pub groups_below : (shapes : List ShapeState) (groups : List ℕ) → AreGroups shapes groups →
+    All (λ g. g < length shapes) groups
 groups_below shapes groups h k d lt =
     let count = h.count in
-    subst (λ g. g < length shapes) (sym (read_any groups k d lt)) (first_below shapes groups h k (omega (arith, lt, count)))
+    subst (λ g. g < length shapes) (sym (read_any groups k d lt))
+    (first_below shapes groups h k (omega (arith, lt, count)))
 
 -- the first of a group is in its own group
-own_first : (shapes : List ShapeState) (groups : List ℕ) → AreGroups shapes groups → (k g : ℕ) → k < length shapes → slice_index groups k ≡ g → slice_index groups g ≡ g
+own_first : (shapes : List ShapeState) (groups : List ℕ) → AreGroups shapes groups → (k g : ℕ) → k < length shapes →
+    slice_index groups k ≡ g → slice_index groups g ≡ g
 own_first shapes groups h k g lt is =
     let hk : IsFirstLike shapes k g = subst (IsFirstLike shapes k) is (h.each k lt) in
     let below : g < length shapes = subst (λ n. n < length shapes) is (first_below shapes groups h k lt) in
@@ -52,25 +57,32 @@ own_first shapes groups h k g lt is =
 
 times_absent : (x : ℕ) (gs : List ℕ) → All (λ g. g ≢ x) gs → times x gs ≡ 0
 times_absent x [] all = refl
-times_absent x (g ∷ gs) all = let h = times_absent x gs (All-tail (λ g. g ≢ x) g gs all) in let ne = All-head (λ g. g ≢ x) g gs all in grind (arith, nat_tests)
+times_absent x (g ∷ gs) all = let h = times_absent x gs (All-tail (λ g. g ≢ x) g gs all) in let ne =
+    All-head (λ g. g ≢ x) g gs all in grind (arith, nat_tests)
 
 -- who is not the first of a group has no members
-pub not_first : (shapes : List ShapeState) (groups : List ℕ) (number : ℕ) → AreGroups shapes groups → slice_index groups number ≢ number → times number groups ≡ 0
+pub not_first : (shapes : List ShapeState) (groups : List ℕ) (number : ℕ) → AreGroups shapes groups →
+    slice_index groups number ≢ number → times number groups ≡ 0
 not_first shapes groups number h other = times_absent number groups (λ k d lt is.
     let count = h.count in
     other (own_first shapes groups h k number (omega (arith, lt, count)) (sym (read_any groups k d lt) ∙ is)))
 
 -- a member has the shape of the first
-pub member_shape : (jobs : List JobState) (groups : List ℕ) (number member : ℕ) (j k : JobState) → AreGroups (shapes_of jobs) groups → member < length (shapes_of jobs) → slice_get jobs number ≡ Some j → slice_get jobs member ≡ Some k →
+pub member_shape : (jobs : List JobState) (groups : List ℕ) (number member : ℕ) (j k : JobState) →
+    AreGroups (shapes_of jobs) groups → member < length (shapes_of jobs) → slice_get jobs number ≡ Some j →
+    slice_get jobs member ≡ Some k →
     slice_index groups member ≡ number → shape_of j ≡ shape_of k
 member_shape jobs groups number member j k h lt first own is =
-    let same : slice_get (map shape_of jobs) number ≡ slice_get (map shape_of jobs) member = ap (slice_get (map shape_of jobs)) (sym is) ∙ (h.each member lt).same in
-    one _ _ _ _ (slice_get-map shape_of jobs number ∙ ap (option_map shape_of) first) (slice_get-map shape_of jobs member ∙ ap (option_map shape_of) own) same
+    let same : slice_get (map shape_of jobs) number ≡ slice_get (map shape_of jobs) member =
+    ap (slice_get (map shape_of jobs)) (sym is) ∙ (h.each member lt).same in
+    one _ _ _ _ (slice_get-map shape_of jobs number ∙ ap (option_map shape_of) first)
+    (slice_get-map shape_of jobs member ∙ ap (option_map shape_of) own) same
   where
     one : {A : Type 0} (o p : _) (a b : A) → o ≡ Some a → p ≡ Some b → o ≡ p → a ≡ b
     one o p a b e f g = cc
 
-pub times_step : (x : ℕ) (gs : List ℕ) (i d : ℕ) → i < length gs → times x (take (i + 1) gs) ≡ times x (take i gs) + (if get_or gs i d == x then 1 else 0)
+pub times_step : (x : ℕ) (gs : List ℕ) (i d : ℕ) → i < length gs →
+    times x (take (i + 1) gs) ≡ times x (take i gs) + (if get_or gs i d == x then 1 else 0)
 times_step x gs i d lt =
     let more = ap (times x) (take_more gs i d lt) in
     let sum = times-append x (take i gs) (get_or gs i d ∷ []) in
@@ -100,7 +112,8 @@ nothing [] = refl
 nothing (y ∷ ys) = let h = nothing ys in omega (arith, h)
 
 -- where all numbers of groups were drawn, each member's finding was due once
-pub due_in_all : (counter n : ℕ) (lists : List (List ℕ)) → IsDrawn counter lists → n ≤ counter → (gs : List ℕ) → All (λ g. g < n) gs → total (due gs) lists ≡ length gs
+pub due_in_all : (counter n : ℕ) (lists : List (List ℕ)) → IsDrawn counter lists → n ≤ counter → (gs : List ℕ) →
+    All (λ g. g < n) gs → total (due gs) lists ≡ length gs
 due_in_all counter n lists r le [] all = total_same (due []) (λ _. 0) lists due_none ∙ nothing lists
 due_in_all counter n lists r le (g ∷ gs) all =
     let h = due_in_all counter n lists r le gs (All-tail (λ g. g < n) g gs all) in
@@ -112,4 +125,5 @@ due_in_all counter n lists r le (g ∷ gs) all =
 
 -- no member's group has a number that is too large
 pub none_beyond : (n x : ℕ) (gs : List ℕ) → All (λ g. g < n) gs → n ≤ x → times x gs ≡ 0
-none_beyond n x gs all le = times_absent x gs (λ k d lt is. let below = all k d lt in absurd (omega (arith, below, is, le)))
+none_beyond n x gs all le = times_absent x gs
+    (λ k d lt is. let below = all k d lt in absurd (omega (arith, below, is, le)))

@@ -1,5 +1,6 @@
 -- Each step keeps the rule.
-use Rattle.std.proofs.Common.{◌≡◌, ◌≢◌, ℕ, suc, ◌+◌, ◌-◌, ◌%◌, ◌^◌, ◌<◌, ◌≤◌, List, [], ◌∷◌, ◌++◌, length, get_or, set, refl, sym, ap, ◌∙◌, subst, ⊎_elim, arith, get_or-set_same}
+use Rattle.std.proofs.Common.{◌≡◌, ◌≢◌, ℕ, suc, ◌+◌, ◌-◌, ◌%◌, ◌^◌, ◌<◌, ◌≤◌, List, [], ◌∷◌, ◌++◌, length, get_or, set}
+use Rattle.std.proofs.Common.{refl, sym, ap, ◌∙◌, subst, ⊎_elim, arith, get_or-set_same}
 use Rattle.std.proofs.Math.ListN.{length-set}
 use Rattle.std.proofs.lemmas.List.{map-set, map-append}
 use Rattle.std.proofs.Math.Nat.{mod-eq_of_lt}
@@ -12,8 +13,10 @@ use Rattle.job_pool.specs.declared.rule.View.{View}
 use Rattle.job_pool.specs.declared.rule.Size.{Size}
 use Rattle.audit_core.specs.Draws.{total, times, IsDrawn}
 use Rattle.job_pool.specs.Lists.{late}
-use Rattle.job_pool.specs.Rule.{Fits, IsDealt, IsKept, lists_of, view, drew, saw, Drew, Saw, fewer, one_place, both, spent, IsWhole}
-use Rattle.job_pool.proofs.Sums.{total_set, total_snoc, total-map, total_le, at_le, late-append, top-append, front-snoc, late_in_all, draw_keeps, merge_keeps, empty_keeps}
+use Rattle.job_pool.specs.Rule.{Fits, IsDealt, IsKept, lists_of, view, drew, saw, Drew, Saw, fewer, one_place, both}
+use Rattle.job_pool.specs.Rule.{spent, IsWhole}
+use Rattle.job_pool.proofs.Sums.{total_set, total_snoc, total-map, total_le, at_le, late-append, top-append, front-snoc}
+use Rattle.job_pool.proofs.Sums.{late_in_all, draw_keeps, merge_keeps, empty_keeps}
 
 -- the word is at most the numbers and the seats together
 pub bound : (n seats word : ℕ) (views : List View) → IsDealt n seats word views → word ≤ n + seats
@@ -25,14 +28,23 @@ bound n seats word views r =
     omega arith
 
 -- one view changed: the others still fit, since the word never falls
-fits_set : (n word now id : ℕ) (views : List View) (w : View) → word ≤ now → ((j : ℕ) (v : View) → get_elem? views j ≡ some v → Fits n word v) → Fits n now w → (j : ℕ) (v : View) → get_elem? (set views id w) j ≡ some v → Fits n now v
+fits_set : (n word now id : ℕ) (views : List View) (w : View) → word ≤ now →
+    ((j : ℕ) (v : View) → get_elem? views j ≡ some v → Fits n word v) → Fits n now w → (j : ℕ) (v : View) →
+    get_elem? (set views id w) j ≡ some v → Fits n now v
 fits_set n word now id views w le others mine j v at =
     ⊎_elim
     (λ (x : (j ≡ id) × (w ≡ v)). subst (Fits n now) x.1 mine)
-    (λ (x : (j ≢ id) × (get_elem? views j ≡ some v)). let f = others j v x.1 in let s = f.seen_within in record { late_within = f.late_within; only_last = f.only_last; seen_within = omega arith; seen_above = f.seen_above; spent = f.spent })
+    (λ (x : (j ≢ id) × (get_elem? views j ≡ some v)). let f = others j v x.1 in let s = f.seen_within in record {
+      late_within = f.late_within;
+      only_last = f.only_last;
+      seen_within = omega arith;
+      seen_above = f.seen_above;
+      spent = f.spent;
+    })
     (at_set views id j w v at)
 
-fits_drew : (n word : ℕ) (v : View) → v.places ≡ 1 → late n v.draws ≡ 0 → Fits n word v → Fits n (suc word) (drew v word)
+fits_drew : (n word : ℕ) (v : View) → v.places ≡ 1 → late n v.draws ≡ 0 → Fits n word v →
+    Fits n (suc word) (drew v word)
 fits_drew n word v one clear f = record {
   late_within = let a = late-append n v.draws (word ∷ []) in grind (arith, nat_tests);
   only_last = λ _. ap (late n) (front-snoc v.draws word) ∙ clear;
@@ -45,22 +57,29 @@ fits_drew n word v one clear f = record {
 lists_set : (views : List View) (id : ℕ) (w : View) → lists_of (set views id w) ≡ set (lists_of views) id w.draws
 lists_set views id w = map-set (λ (v : View). v.draws) views id w
 
-at_lists : (views : List View) (id : ℕ) (v : View) → get_elem? views id ≡ some v → get_elem? (lists_of views) id ≡ some v.draws
+at_lists : (views : List View) (id : ℕ) (v : View) → get_elem? views id ≡ some v →
+    get_elem? (lists_of views) id ≡ some v.draws
 at_lists views id v at = at_map (λ (v : View). v.draws) views id v at
 
 -- a change that leaves the seat's list
-same_lists : (views : List View) (id : ℕ) (v w : View) → get_elem? views id ≡ some v → w.draws ≡ v.draws → lists_of (set views id w) ≡ lists_of views
-same_lists views id v w at same = lists_set views id w ∙ (ap (set (lists_of views) id) same ∙ set_again (lists_of views) id v.draws (at_lists views id v at))
+same_lists : (views : List View) (id : ℕ) (v w : View) → get_elem? views id ≡ some v → w.draws ≡ v.draws →
+    lists_of (set views id w) ≡ lists_of views
+same_lists views id v w at same =
+    lists_set views id w ∙ (ap (set (lists_of views) id) same
+    ∙ set_again (lists_of views) id v.draws (at_lists views id v at))
 
-pub claim_keeps : (n seats word id : ℕ) (views : List View) (v : View) → get_elem? views id ≡ some v → v.places ≡ 1 → late n v.draws ≡ 0 → IsDealt n seats word views → IsDealt n seats (suc word) (set views id (drew v word))
+pub claim_keeps : (n seats word id : ℕ) (views : List View) (v : View) → get_elem? views id ≡ some v → v.places ≡ 1 →
+    late n v.draws ≡ 0 → IsDealt n seats word views → IsDealt n seats (suc word) (set views id (drew v word))
 claim_keeps n seats word id views v at one clear r = let w = drew v word in record {
-  drawn = subst (IsDrawn (suc word)) (sym (lists_set views id w)) (draw_keeps word (lists_of views) id v.draws (at_lists views id v at) r.drawn);
+  drawn = subst (IsDrawn (suc word)) (sym (lists_set views id w))
+      (draw_keeps word (lists_of views) id v.draws (at_lists views id v at) r.drawn);
   places = let t = total_set (λ (u : View). u.places) views id v w at in let p = r.places in omega arith;
   each = fits_set n word (suc word) id views w (omega arith) r.each (fits_drew n word v one clear (r.each id v at));
 }
 
 module _ {S : Type 0} where
-  pub claims : (size : Size) (slots id : ℕ) (me : Me S View) → size.numbers + size.seats < 2 ^ 63 → me.0.places ≡ 1 → late size.numbers me.0.draws ≡ 0
+  pub claims : (size : Size) (slots id : ℕ) (me : Me S View) → size.numbers + size.seats < 2 ^ 63 → me.0.places ≡ 1 →
+      late size.numbers me.0.draws ≡ 0
       → Allows {S = S} (IsKept size) slots id me 0 (λ n. (n + 1) % 2 ^ 64) (Drew (step slots 0 1 0 none) me)
   claims size slots id me small one clear s r wide at fits =
       let word : ℕ = get_or s.words 0 0 in
@@ -69,21 +88,27 @@ module _ {S : Type 0} where
       let b = bound size.numbers size.seats word s.views r.1 in
       let next : (word + 1) % 2 ^ 64 ≡ suc word = mod-eq_of_lt (omega arith) ∙ omega arith in
       let long = r.0 in
-      let here : get_or (set s.words 0 ((word + 1) % 2 ^ 64)) 0 0 ≡ suc word = get_or-set_same s.words 0 ((word + 1) % 2 ^ 64) 0 (omega arith) ∙ next in (
+      let here : get_or (set s.words 0 ((word + 1) % 2 ^ 64)) 0 0 ≡ suc word =
+      get_or-set_same s.words 0 ((word + 1) % 2 ^ 64) 0 (omega arith) ∙ next in (
         w,
         keeps,
         tt,
         (
           length-set s.words 0 ((word + 1) % 2 ^ 64) ∙ r.0,
-          subst (λ k. IsDealt size.numbers size.seats k (set s.views id w)) (sym here) (claim_keeps size.numbers size.seats word id s.views me.0 at one clear r.1),
+          subst (λ k. IsDealt size.numbers size.seats k (set s.views id w)) (sym here)
+              (claim_keeps size.numbers size.seats word id s.views me.0 at one clear r.1),
         ),
         (f, refl, refl),
       )
 
-  unmoved : (size : Size) (s : State S View) (views : List View) → IsKept size s → ((word : ℕ) → word ≡ get_or s.words 0 0 → IsDealt size.numbers size.seats word s.views → IsDealt size.numbers size.seats word views) → (length s.words ≡ 1) × IsDealt size.numbers size.seats (get_or s.words 0 0) views
+  unmoved : (size : Size) (s : State S View) (views : List View) → IsKept size s →
+      ((word : ℕ) → word ≡ get_or s.words 0 0 → IsDealt size.numbers size.seats word s.views →
+      IsDealt size.numbers size.seats word views) →
+      (length s.words ≡ 1) × IsDealt size.numbers size.seats (get_or s.words 0 0) views
   unmoved size s views r step = (r.0, step (get_or s.words 0 0) refl r.1)
 
-  pub looks : (size : Size) (slots id : ℕ) (me : Me S View) → me.0.places ≡ 1 → Allows {S = S} (IsKept size) slots id me 0 (λ n. n) (Saw (step slots 0 0 0 none) me)
+  pub looks : (size : Size) (slots id : ℕ) (me : Me S View) → me.0.places ≡ 1 →
+      Allows {S = S} (IsKept size) slots id me 0 (λ n. n) (Saw (step slots 0 0 0 none) me)
   looks size slots id me one s r wide at fits =
       let word : ℕ = get_or s.words 0 0 in
       let w : View = saw me.0 word in
@@ -95,7 +120,8 @@ module _ {S : Type 0} where
         tt,
         (
           length-set s.words 0 word ∙ r.0,
-          subst (λ k. IsDealt size.numbers size.seats k (set s.views id w)) (sym here) (look_keeps size.numbers size.seats word id s.views me.0 at one r.1),
+          subst (λ k. IsDealt size.numbers size.seats k (set s.views id w)) (sym here)
+              (look_keeps size.numbers size.seats word id s.views me.0 at one r.1),
         ),
         (f, refl, refl),
       )
@@ -109,7 +135,8 @@ module _ {S : Type 0} where
         spent = λ z. absurd (omega arith);
       }
 
-      look_keeps : (n seats word id : ℕ) (views : List View) (v : View) → get_elem? views id ≡ some v → v.places ≡ 1 → IsDealt n seats word views → IsDealt n seats word (set views id (saw v word))
+      look_keeps : (n seats word id : ℕ) (views : List View) (v : View) → get_elem? views id ≡ some v → v.places ≡ 1 →
+          IsDealt n seats word views → IsDealt n seats word (set views id (saw v word))
       look_keeps n seats word id views v at one r = let w = saw v word in record {
         drawn = subst (IsDrawn word) (sym (same_lists views id v w at refl)) r.drawn;
         places = let t = total_set (λ (u : View). u.places) views id v w at in let p = r.places in omega arith;
@@ -125,20 +152,30 @@ fits_new n word places = record {
   spent = λ _. (refl, refl);
 }
 
-fits_more : (n word : ℕ) (views : List View) (w : View) → ((j : ℕ) (v : View) → get_elem? views j ≡ some v → Fits n word v) → Fits n word w → (j : ℕ) (v : View) → get_elem? (views ++ w ∷ []) j ≡ some v → Fits n word v
-fits_more n word views w others mine j v at = ⊎_elim (λ (x : get_elem? views j ≡ some v). others j v x) (λ (x : w ≡ v). subst (Fits n word) x mine) (at_snoc views w v j at)
+fits_more : (n word : ℕ) (views : List View) (w : View) →
+    ((j : ℕ) (v : View) → get_elem? views j ≡ some v → Fits n word v) → Fits n word w → (j : ℕ) (v : View) →
+    get_elem? (views ++ w ∷ []) j ≡ some v → Fits n word v
+fits_more n word views w others mine j v at =
+    ⊎_elim (λ (x : get_elem? views j ≡ some v). others j v x) (λ (x : w ≡ v). subst (Fits n word) x mine)
+    (at_snoc views w v j at)
 
-split_keeps : (n seats word id p : ℕ) (views : List View) → get_elem? views id ≡ some (view [] 0 p) → 0 < p → IsDealt n seats word views → IsDealt n seats word (set views id (view [] 0 (p - 1)) ++ view [] 0 1 ∷ [])
+split_keeps : (n seats word id p : ℕ) (views : List View) → get_elem? views id ≡ some (view [] 0 p) → 0 < p →
+    IsDealt n seats word views → IsDealt n seats word (set views id (view [] 0 (p - 1)) ++ view [] 0 1 ∷ [])
 split_keeps n seats word id p views at some_place r =
     let v = view [] 0 p in
     let w = view [] 0 (p - 1) in
     let u = view [] 0 1 in record {
-      drawn = subst (IsDrawn word) (sym (map-append (λ (v : View). v.draws) (set views id w) (u ∷ []) ∙ ap (λ l. l ++ [] ∷ []) (same_lists views id v w at refl))) (empty_keeps word (lists_of views) r.drawn);
-      places = let t = total_set (λ (u : View). u.places) views id v w at in let a = total_snoc (λ (u : View). u.places) (set views id w) u in let p = r.places in omega arith;
-      each = fits_more n word (set views id w) u (fits_set n word word id views w (omega arith) r.each (fits_new n word (p - 1))) (fits_new n word 1);
+      drawn = subst (IsDrawn word) (sym
+          (map-append (λ (v : View). v.draws) (set views id w) (u ∷ [])
+          ∙ ap (λ l. l ++ [] ∷ []) (same_lists views id v w at refl))) (empty_keeps word (lists_of views) r.drawn);
+      places = let t = total_set (λ (u : View). u.places) views id v w at in let a =
+          total_snoc (λ (u : View). u.places) (set views id w) u in let p = r.places in omega arith;
+      each = fits_more n word (set views id w) u
+          (fits_set n word word id views w (omega arith) r.each (fits_new n word (p - 1))) (fits_new n word 1);
     }
 
-fits_both : (n word : ℕ) (v w : View) → 0 < v.places → 0 < w.places → Fits n word v → Fits n word w → Fits n word (both v w)
+fits_both : (n word : ℕ) (v w : View) → 0 < v.places → 0 < w.places → Fits n word v → Fits n word w →
+    Fits n word (both v w)
 fits_both n word v w some_place other_place f g = record {
   late_within = let a = late-append n v.draws w.draws in let x = f.late_within in let y = g.late_within in omega arith;
   only_last = λ one. absurd (omega arith);
@@ -147,34 +184,53 @@ fits_both n word v w some_place other_place f g = record {
   spent = λ z. absurd (omega arith);
 }
 
-join_keeps : (n seats word id other : ℕ) (views : List View) (v w : View) → get_elem? views id ≡ some v → ¬ (other ≡ id) → get_elem? (set views id (both v w)) other ≡ some w → 0 < v.places → 0 < w.places → IsDealt n seats word views
+join_keeps : (n seats word id other : ℕ) (views : List View) (v w : View) → get_elem? views id ≡ some v →
+    ¬ (other ≡ id) → get_elem? (set views id (both v w)) other ≡ some w → 0 < v.places → 0 < w.places →
+    IsDealt n seats word views
     → IsDealt n seats word (set (set views id (both v w)) other spent)
 join_keeps n seats word id other views v w at apart there some_place other_place r =
     let b = both v w in
     let vs = set views id b in
     let at' : get_elem? views other ≡ some w = sym (set_else views id other b apart) ∙ there in record {
       drawn = subst (IsDrawn word) (sym (lists_set vs other spent ∙ ap (λ l. set l other []) (lists_set views id b)))
-          (merge_keeps word (lists_of views) id other v.draws w.draws (at_lists views id v at) (subst (λ l. get_elem? l other ≡ some w.draws) (lists_set views id b) (at_lists vs other w there)) r.drawn);
-      places = let t = total_set (λ (u : View). u.places) views id v b at in let a = total_set (λ (u : View). u.places) vs other w spent there in let p = r.places in omega arith;
-      each = fits_set n word word other vs spent (omega arith) (fits_set n word word id views b (omega arith) r.each (fits_both n word v w some_place other_place (r.each id v at) (r.each other w at'))) (fits_new n word 0);
+          (merge_keeps word (lists_of views) id other v.draws w.draws (at_lists views id v at)
+          (subst (λ l. get_elem? l other ≡ some w.draws) (lists_set views id b) (at_lists vs other w there)) r.drawn);
+      places = let t = total_set (λ (u : View). u.places) views id v b at in let a =
+          total_set (λ (u : View). u.places) vs other w spent there in let p = r.places in omega arith;
+      each = fits_set n word word other vs spent (omega arith)
+          (fits_set n word word id views b (omega arith) r.each
+          (fits_both n word v w some_place other_place (r.each id v at) (r.each other w at'))) (fits_new n word 0);
     }
 
 module _ {S : Type 0} where
-  pub splits : (size : Size) (id p : ℕ) → 0 < p → Splits {S = S} (IsKept size) id (view [] 0 p) (fewer (view [] 0 p)) (one_place (view [] 0 p))
-  splits size id p some_place s r at = (r.0, split_keeps size.numbers size.seats (get_or s.words 0 0) id p s.views at some_place r.1)
+  pub splits : (size : Size) (id p : ℕ) → 0 < p →
+      Splits {S = S} (IsKept size) id (view [] 0 p) (fewer (view [] 0 p)) (one_place (view [] 0 p))
+  splits size id p some_place s r at =
+      (r.0, split_keeps size.numbers size.seats (get_or s.words 0 0) id p s.views at some_place r.1)
 
-  pub splits_as : (size : Size) (id p : ℕ) (v : View) → v ≡ view [] 0 p → 0 < p → Splits {S = S} (IsKept size) id v (fewer v) (one_place v)
-  splits_as size id p v is some_place = subst (λ u. Splits {S = S} (IsKept size) id u (fewer u) (one_place u)) (sym is) (splits size id p some_place)
+  pub splits_as : (size : Size) (id p : ℕ) (v : View) → v ≡ view [] 0 p → 0 < p →
+      Splits {S = S} (IsKept size) id v (fewer v) (one_place v)
+  splits_as size id p v is some_place =
+      subst (λ u. Splits {S = S} (IsKept size) id u (fewer u) (one_place u)) (sym is) (splits size id p some_place)
 
-  pub joins : (size : Size) (id : ℕ) (v : View) (other : ℕ) (w : View) → 0 < v.places → 0 < w.places → Joins {S = S} (IsKept size) id v other w (both v w) spent
-  joins size id v other w some_place other_place s r at apart there = (r.0, join_keeps size.numbers size.seats (get_or s.words 0 0) id other s.views v w at apart there some_place other_place r.1)
+  pub joins : (size : Size) (id : ℕ) (v : View) (other : ℕ) (w : View) → 0 < v.places → 0 < w.places →
+      Joins {S = S} (IsKept size) id v other w (both v w) spent
+  joins size id v other w some_place other_place s r at apart there = (
+    r.0,
+    join_keeps size.numbers size.seats
+        (get_or s.words 0 0) id other s.views v w at apart there some_place other_place r.1,
+  )
 
 -- where one view has all places, the others have drawn nothing
-nobody_else : (f g : View → ℕ) (views : List View) → ((i : ℕ) (v : View) → get_elem? views i ≡ some v → g v ≡ 0 → f v ≡ 0) → total g views ≡ 0 → total f views ≡ 0
+nobody_else : (f g : View → ℕ) (views : List View) →
+    ((i : ℕ) (v : View) → get_elem? views i ≡ some v → g v ≡ 0 → f v ≡ 0) → total g views ≡ 0 → total f views ≡ 0
 nobody_else f g [] each z = refl
-nobody_else f g (v ∷ vs) each z = let h = nobody_else f g vs (λ i u e. each (suc i) u e) (omega arith) in let e = each 0 v refl (omega arith) in omega arith
+nobody_else f g (v ∷ vs) each z = let h = nobody_else f g vs (λ i u e. each (suc i) u e) (omega arith) in let e =
+    each 0 v refl (omega arith) in omega arith
 
-only_one : (f : View → ℕ) (views : List View) (id : ℕ) (v : View) → get_elem? views id ≡ some v → f spent ≡ 0 → ((i : ℕ) (u : View) → get_elem? views i ≡ some u → u.places ≡ 0 → f u ≡ 0) → total (λ u. u.places) views ≡ v.places → total f views ≡ f v
+only_one : (f : View → ℕ) (views : List View) (id : ℕ) (v : View) → get_elem? views id ≡ some v → f spent ≡ 0 →
+    ((i : ℕ) (u : View) → get_elem? views i ≡ some u → u.places ≡ 0 → f u ≡ 0) →
+    total (λ u. u.places) views ≡ v.places → total f views ≡ f v
 only_one f views id v at z each all =
     let t = total_set f views id v spent at in
     let p = total_set (λ (u : View). u.places) views id v spent at in
@@ -182,9 +238,11 @@ only_one f views id v at z each all =
     omega arith
   where
     still : (i : ℕ) (u : View) → get_elem? (set views id spent) i ≡ some u → u.places ≡ 0 → f u ≡ 0
-    still i u e p = ⊎_elim (λ (x : (i ≡ id) × (spent ≡ u)). ap f (sym x.1) ∙ z) (λ (x : (i ≢ id) × (get_elem? views i ≡ some u)). each i u x.1 p) (at_set views id i spent u e)
+    still i u e p = ⊎_elim (λ (x : (i ≡ id) × (spent ≡ u)). ap f (sym x.1) ∙ z)
+        (λ (x : (i ≢ id) × (get_elem? views i ≡ some u)). each i u x.1 p) (at_set views id i spent u e)
 
-pub ends : (n seats word id : ℕ) (views : List View) (v : View) → IsDealt n seats word views → get_elem? views id ≡ some v → seats ≤ v.places → IsWhole n seats word v
+pub ends : (n seats word id : ℕ) (views : List View) (v : View) → IsDealt n seats word views →
+    get_elem? views id ≡ some v → seats ≤ v.places → IsWhole n seats word v
 ends n seats word id views v r at enough =
     let p = r.places in
     let q = at_le (λ (u : View). u.places) views id v at in
@@ -192,8 +250,12 @@ ends n seats word id views v r at enough =
     record {
       places = omega arith;
       drawn = record {
-        whole = let o = only_one (λ u. length u.draws) views id v at refl (λ i u e z. ap length ((r.each i u e).spent z).0) all in let m = total-map length (λ (u : View). u.draws) views in let w = r.drawn.whole in omega arith;
-        once = λ x. let o = only_one (λ u. times x u.draws) views id v at refl (λ i u e z. ap (times x) ((r.each i u e).spent z).0) all in let m = total-map (times x) (λ (u : View). u.draws) views in let w = r.drawn.once x in omega arith;
+        whole = let o = only_one (λ u. length u.draws) views id v at refl
+            (λ i u e z. ap length ((r.each i u e).spent z).0) all in let m =
+            total-map length (λ (u : View). u.draws) views in let w = r.drawn.whole in omega arith;
+        once = λ x. let o = only_one (λ u. times x u.draws) views id v at refl
+            (λ i u e z. ap (times x) ((r.each i u e).spent z).0) all in let m =
+            total-map (times x) (λ (u : View). u.draws) views in let w = r.drawn.once x in omega arith;
       };
       bounded = bound n seats word views r;
     }

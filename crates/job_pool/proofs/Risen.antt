@@ -1,5 +1,6 @@
 -- Shares count more and more.
-use Rattle.std.proofs.Common.{◌≡◌, ℕ, zero, suc, ◌<◌, ◌≤◌, ◌++◌, List, [], ◌∷◌, length, take, drop, get_or, ap, sym, ◌∙◌, subst, arith}
+use Rattle.std.proofs.Common.{◌≡◌, ℕ, zero, suc, ◌<◌, ◌≤◌, ◌++◌, List, [], ◌∷◌, length, take, drop, get_or, ap, sym}
+use Rattle.std.proofs.Common.{◌∙◌, subst, arith}
 use Rattle.std.proofs.lemmas.List.{length-map}
 use Rattle.audit_core.specs.Book.{count_after}
 use Rattle.audit_core.specs.declared.reply.Reply.{Reply}
@@ -40,20 +41,27 @@ risen_on a b c first then = record {
 module _ {F A : Type 0} (desk : Desk) (groups : List ℕ) where
   each_has : (before after : List (Worker F A)) → length after ≡ length before
       → ((i : ℕ) (d : Worker F A) → i < length before → HasWorked desk groups (get_or before i d) (get_or after i d))
-      → (i : ℕ) (d : Counts) → i < length (shares_of before) → HasRisen (get_or (shares_of before) i d) (get_or (shares_of after) i d)
+      → (i : ℕ) (d : Counts) → i < length (shares_of before) →
+      HasRisen (get_or (shares_of before) i d) (get_or (shares_of after) i d)
   each_has [] after len worked i d below = absurd (omega arith)
   each_has (x ∷ xs) [] len worked i d below = absurd (omega arith)
   each_has (x ∷ xs) (y ∷ ys) len worked zero d below = (worked 0 x (omega arith)).risen
-  each_has (x ∷ xs) (y ∷ ys) len worked (suc i) d below = each_has xs ys (omega arith) (λ k e under. worked (suc k) e (omega arith)) i d (omega arith)
+  each_has (x ∷ xs) (y ∷ ys) len worked (suc i) d below =
+      each_has xs ys (omega arith) (λ k e under. worked (suc k) e (omega arith)) i d (omega arith)
 
   -- so have the shares that come back in a `Vec` whose whole slice the workers wrote
-  pub all_have : (n : ℕ) (workers before now : List (Worker F A)) (given back : List Counts) → n ≡ length workers → before ≡ workers → length now ≡ length before
+  pub all_have : (n : ℕ) (workers before now : List (Worker F A)) (given back : List Counts) → n ≡ length workers →
+      before ≡ workers → length now ≡ length before
       → shares_of workers ≡ given → back ≡ shares_of (take n (now ++ drop (length now) workers))
-      → ((i : ℕ) (d : Worker F A) → i < length before → HasWorked desk groups (get_or before i d) (get_or now i d)) → HaveRisen given back
+      → ((i : ℕ) (d : Worker F A) → i < length before → HasWorked desk groups (get_or before i d) (get_or now i d)) →
+      HaveRisen given back
   all_have n workers before now given back sized lent kept hired returned worked =
       let from : given ≡ shares_of before = sym hired ∙ ap shares_of (sym lent) in
       let to : back ≡ shares_of now = returned ∙ ap shares_of (whole n now workers (kept ∙ ap length lent) sized) in
       record {
-        count = ap length to ∙ length-map now (λ (w : Worker F A). w.share) ∙ kept ∙ sym (length-map before (λ (w : Worker F A). w.share)) ∙ ap length (sym from);
-        each = λ i d below. subst (λ l. HasRisen (get_or l i d) (get_or back i d)) (sym from) (subst (λ l. HasRisen (get_or (shares_of before) i d) (get_or l i d)) (sym to) (each_has before now kept worked i d (subst (λ l. i < length l) from below)));
+        count = ap length to ∙ length-map now (λ (w : Worker F A). w.share) ∙ kept
+            ∙ sym (length-map before (λ (w : Worker F A). w.share)) ∙ ap length (sym from);
+        each = λ i d below. subst (λ l. HasRisen (get_or l i d) (get_or back i d)) (sym from)
+            (subst (λ l. HasRisen (get_or (shares_of before) i d) (get_or l i d)) (sym to)
+            (each_has before now kept worked i d (subst (λ l. i < length l) from below)));
       }

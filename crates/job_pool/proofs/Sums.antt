@@ -1,5 +1,6 @@
 -- Sums over lists, and lists of numbers that were drawn.
-use Rattle.std.proofs.Common.{◌≡◌, ℕ, zero, suc, ◌+◌, ◌-◌, ◌<◌, ◌≤◌, max, min, List, [], ◌∷◌, ◌++◌, map, length, get_or, set, refl, sym, ap, ◌∙◌, subst, arith, length-append, append_assoc}
+use Rattle.std.proofs.Common.{◌≡◌, ℕ, zero, suc, ◌+◌, ◌-◌, ◌<◌, ◌≤◌, max, min, List, [], ◌∷◌, ◌++◌, map, length, get_or}
+use Rattle.std.proofs.Common.{set, refl, sym, ap, ◌∙◌, subst, arith, length-append, append_assoc}
 use Rattle.std.proofs.lemmas.List.{append-nil}
 use mathlib.Core.Option.{some, some-injective, some-ne-none}
 use lib.ListN.{get_elem?}
@@ -8,7 +9,8 @@ use Rattle.audit_core.specs.Draws.{total, times, end_of, IsDrawn}
 use Rattle.job_pool.specs.Lists.{late, early, top, front, joined}
 
 module _ {X : Type 0} where
-  pub total_set : (f : X → ℕ) (xs : List X) (i : ℕ) (v w : X) → get_elem? xs i ≡ some v → total f (set xs i w) + f v ≡ total f xs + f w
+  pub total_set : (f : X → ℕ) (xs : List X) (i : ℕ) (v w : X) → get_elem? xs i ≡ some v →
+      total f (set xs i w) + f v ≡ total f xs + f w
   total_set f [] i v w e = absurd (some-ne-none v (sym e))
   total_set f (x ∷ xs) zero v w e = let h : f x ≡ f v = ap f (some-injective x v e) in omega arith
   total_set f (x ∷ xs) (suc i) v w e = let h = total_set f xs i v w e in omega arith
@@ -29,9 +31,11 @@ module _ {X : Type 0} where
   total_same f g [] same = refl
   total_same f g (x ∷ xs) same = let h = total_same f g xs same in let e = same x in omega arith
 
-  pub total_le : (f g : X → ℕ) (xs : List X) → ((i : ℕ) (x : X) → get_elem? xs i ≡ some x → f x ≤ g x) → total f xs ≤ total g xs
+  pub total_le : (f g : X → ℕ) (xs : List X) → ((i : ℕ) (x : X) → get_elem? xs i ≡ some x → f x ≤ g x) →
+      total f xs ≤ total g xs
   total_le f g [] each = omega arith
-  total_le f g (x ∷ xs) each = let h = total_le f g xs (λ i y e. each (suc i) y e) in let e = each 0 x refl in omega arith
+  total_le f g (x ∷ xs) each = let h = total_le f g xs (λ i y e. each (suc i) y e) in let e = each 0 x refl in
+      omega arith
 
   pub at_le : (f : X → ℕ) (xs : List X) (i : ℕ) (v : X) → get_elem? xs i ≡ some v → f v ≤ total f xs
   at_le f [] i v e = absurd (some-ne-none v (sym e))
@@ -75,7 +79,8 @@ pushed xs ys x n is above rising below =
     let l = length-append xs (x ∷ []) in
     let e = end_of-snoc xs x in
     let f = ap top (front-snoc xs x) in
-    subst (λ (zs : List ℕ). (top zs ≡ x + 1) × (length zs ≤ top zs) × (top zs ≡ end_of zs) × (top (front zs) ≤ n)) (sym is) (t, omega arith, omega arith, omega arith)
+    subst (λ (zs : List ℕ). (top zs ≡ x + 1) × (length zs ≤ top zs) × (top zs ≡ end_of zs) × (top (front zs) ≤ n))
+    (sym is) (t, omega arith, omega arith, omega arith)
 
 pub none_late : (n : ℕ) (xs : List ℕ) → top xs ≤ n → late n xs ≡ 0
 none_late n [] h = refl
@@ -98,7 +103,8 @@ nothing [] = refl
 nothing (y ∷ ys) = let h = nothing ys in omega arith
 
 -- as many numbers below n were drawn as n and the counter allow
-pub early_in_all : (counter : ℕ) (lists : List (List ℕ)) → IsDrawn counter lists → (n : ℕ) → total (early n) lists ≡ min n counter
+pub early_in_all : (counter : ℕ) (lists : List (List ℕ)) → IsDrawn counter lists → (n : ℕ) →
+    total (early n) lists ≡ min n counter
 early_in_all counter lists r zero = total_same (early 0) (λ _. 0) lists early_zero ∙ (nothing lists ∙ omega arith)
 early_in_all counter lists r (suc k) =
     let h = early_in_all counter lists r k in
@@ -107,7 +113,8 @@ early_in_all counter lists r (suc k) =
     let o = r.once k in
     grind (arith, nat_tests)
 
-pub late_in_all : (counter : ℕ) (lists : List (List ℕ)) → IsDrawn counter lists → (n : ℕ) → total (late n) lists ≡ counter - n
+pub late_in_all : (counter : ℕ) (lists : List (List ℕ)) → IsDrawn counter lists → (n : ℕ) →
+    total (late n) lists ≡ counter - n
 late_in_all counter lists r n =
     let e = early_in_all counter lists r n in
     let s = total_same (λ xs. early n xs + late n xs) length lists (early_or_late n) in
@@ -116,17 +123,25 @@ late_in_all counter lists r n =
     omega arith
 
 -- the seat at i draws the next number
-pub draw_keeps : (counter : ℕ) (lists : List (List ℕ)) (i : ℕ) (xs : List ℕ) → get_elem? lists i ≡ some xs → IsDrawn counter lists → IsDrawn (suc counter) (set lists i (xs ++ counter ∷ []))
+pub draw_keeps : (counter : ℕ) (lists : List (List ℕ)) (i : ℕ) (xs : List ℕ) → get_elem? lists i ≡ some xs →
+    IsDrawn counter lists → IsDrawn (suc counter) (set lists i (xs ++ counter ∷ []))
 draw_keeps counter lists i xs at r = let ys : List ℕ = xs ++ counter ∷ [] in record {
-  whole = let t = total_set length lists i xs ys at in let a = length-append xs (counter ∷ []) in let w = r.whole in omega arith;
-  once = λ x. let t = total_set (times x) lists i xs ys at in let a = times-append x xs (counter ∷ []) in let o = r.once x in grind (arith, nat_tests);
+  whole = let t = total_set length lists i xs ys at in let a = length-append xs (counter ∷ []) in let w = r.whole in
+      omega arith;
+  once = λ x. let t = total_set (times x) lists i xs ys at in let a = times-append x xs (counter ∷ []) in let o =
+      r.once x in grind (arith, nat_tests);
 }
 
 -- a list gets another appended, which is emptied
-pub merge_keeps : (counter : ℕ) (lists : List (List ℕ)) (i j : ℕ) (xs ys : List ℕ) → get_elem? lists i ≡ some xs → get_elem? (set lists i (xs ++ ys)) j ≡ some ys → IsDrawn counter lists → IsDrawn counter (set (set lists i (xs ++ ys)) j [])
+pub merge_keeps : (counter : ℕ) (lists : List (List ℕ)) (i j : ℕ) (xs ys : List ℕ) → get_elem? lists i ≡ some xs →
+    get_elem? (set lists i (xs ++ ys)) j ≡ some ys → IsDrawn counter lists →
+    IsDrawn counter (set (set lists i (xs ++ ys)) j [])
 merge_keeps counter lists i j xs ys at there r = let zs : List ℕ = xs ++ ys in record {
-  whole = let t = total_set length lists i xs zs at in let u = total_set length (set lists i zs) j ys [] there in let a = length-append xs ys in let w = r.whole in omega arith;
-  once = λ x. let t = total_set (times x) lists i xs zs at in let u = total_set (times x) (set lists i zs) j ys [] there in let a = times-append x xs ys in let o = r.once x in omega arith;
+  whole = let t = total_set length lists i xs zs at in let u = total_set length (set lists i zs) j ys [] there in
+      let a = length-append xs ys in let w = r.whole in omega arith;
+  once = λ x. let t = total_set (times x) lists i xs zs at in let u =
+      total_set (times x) (set lists i zs) j ys [] there in let a = times-append x xs ys in let o = r.once x in
+      omega arith;
 }
 
 -- an empty list more
@@ -164,4 +179,5 @@ early-append n [] ys = omega arith
 early-append n (y ∷ xs) ys = let h = early-append n xs ys in omega arith
 
 pub early_more : (n i : ℕ) (xs ys : List ℕ) → ys ≡ xs ++ i ∷ [] → i < n → early n ys ≡ early n xs + 1
-early_more n i xs ys is below = let e = ap (early n) is in let a = early-append n xs (i ∷ []) in grind (arith, nat_tests)
+early_more n i xs ys is below = let e = ap (early n) is in let a = early-append n xs (i ∷ []) in
+    grind (arith, nat_tests)

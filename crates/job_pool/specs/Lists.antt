@@ -28,7 +28,7 @@ abbrev pub joined : List (List ℕ) → List ℕ
 joined [] = []
 joined (xs ∷ xss) = xs ++ joined xss
 
--- What the seats of a closed desk drew, a list for each: of each, only the last may be n or more
+-- the draws of the seats of a closed desk, a list for each, of which only the last draw may be n or more
 pub record AreAllDraws (n seats counter : ℕ) (lists : List (List ℕ)) : Type 0 where
   pub count : length lists ≡ seats
   pub drawn : IsDrawn counter lists

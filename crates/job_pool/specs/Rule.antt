@@ -1,5 +1,5 @@
--- The desk rule: what holds of the desk's word and of the views of all its seats, whoever draws; and what each step on the word
--- tells
+-- The desk rule: the invariant of the desk's word and of the views of all its seats, whoever draws; and the effect of
+-- each step on the word
 use Rattle.std.specs.Prelude.{◌≡◌, ℕ, ◌+◌, ◌-◌, ◌≤◌, max, List, [], ◌∷◌, ◌++◌, map, length, slice_index}
 use mathlib.Core.Option.{some}
 use lib.ListN.{get_elem?}
@@ -11,9 +11,9 @@ use Rattle.job_pool.specs.declared.rule.View.{View}
 
 -- ---- the rule
 
--- One view, where there are n numbers and as many were drawn as the word says: it has at most as many draws of n or more as it
--- has places, in a view with one place only the last draw is one, and what it has seen is above each of its draws and at most
--- the word. A view with no place has nothing
+-- One view, if there are n numbers and as many were drawn as the word says. It has at most as many draws of n or more
+-- as it has places. In a view with one place only the last draw is such a draw. The count that it has seen is above
+-- each of its draws and at most the word. A view with no place has nothing
 pub record Fits (n word : ℕ) (v : View) : Type 0 where
   pub late_within : late n v.draws ≤ v.places
   pub only_last : v.places ≡ 1 → late n (front v.draws) ≡ 0
@@ -21,6 +21,7 @@ pub record Fits (n word : ℕ) (v : View) : Type 0 where
   pub seen_above : top v.draws ≤ v.seen
   pub spent : v.places ≡ 0 → (v.draws ≡ []) × (v.seen ≡ 0)
 
+-- the draws of each view
 abbrev pub lists_of : List View → List (List ℕ)
 lists_of = map (λ v. v.draws)
 
@@ -36,6 +37,7 @@ IsKept size s = (length s.words ≡ 1) × IsDealt size.numbers size.seats (slice
 
 -- ---- views
 
+-- the view of a seat that drew these numbers, saw the word reach this count, and has this many places
 abbrev pub view : List ℕ → ℕ → ℕ → View
 view draws seen places = record { draws = draws; seen = seen; places = places }
 
@@ -57,6 +59,7 @@ saw v found = view v.draws found v.places
 abbrev pub Drew : {S : Type 0} → Step S → Me S View → ℕ → Me S View → Type 0
 Drew step before found after = (before.0.seen ≤ found) × (after.0 ≡ drew before.0 found) × (after.1 ≡ before.1)
 
+-- a look finds at least what was seen
 abbrev pub Saw : {S : Type 0} → Step S → Me S View → ℕ → Me S View → Type 0
 Saw step before found after = (before.0.seen ≤ found) × (after.0 ≡ saw before.0 found) × (after.1 ≡ before.1)
 
@@ -64,6 +67,7 @@ Saw step before found after = (before.0.seen ≤ found) × (after.0 ≡ saw befo
 abbrev pub fewer : View → View
 fewer v = view v.draws v.seen (v.places - 1)
 
+-- a view of no draws with the place that is given away
 abbrev pub one_place : View → View
 one_place v = view [] 0 1
 
@@ -71,6 +75,7 @@ one_place v = view [] 0 1
 abbrev pub both : View → View → View
 both v w = view (v.draws ++ w.draws) (max v.seen w.seen) (v.places + w.places)
 
+-- the view without draws and places
 abbrev pub spent : View
 spent = view [] 0 0
 

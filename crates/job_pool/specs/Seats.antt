@@ -38,8 +38,9 @@ pub record IsClaim (n : ℕ) (before after : DeskSeat) (answer : Claim) : Type 0
   pub answers : answer ≡ claim_answer n (drawn_by before) next
   pub draws : drawn_by after ≡ claim_draws n (drawn_by before) next
 
--- A number is below n, it is none that the seat had seen to be drawn, and it is the draw that the seat got by the claim. Where
--- there is none, the seat's draws end with one of n or more, and it has seen that all numbers were drawn
+-- A number is below n, it is none that the seat had seen to be drawn, and it is the draw that the seat got by the
+-- claim. If the answer has no number, the seat's draws end with one of n or more, and it has seen that all numbers were
+-- drawn
 abbrev pub Tells : ℕ → DeskSeat → DeskSeat → Claim → Type 0
 Tells n before after (Number i) = (i < n) × (seen_by before ≤ i) × (drawn_by after ≡ drawn_by before ++ i ∷ [])
 Tells n before after Empty = (n < end_of (drawn_by after)) × (n < seen_by after)

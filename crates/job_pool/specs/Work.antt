@@ -1,5 +1,6 @@
--- What workers did
-use Rattle.std.specs.Prelude.{◌≡◌, ℕ, ◌+◌, ◌-◌, ◌^◌, ◌<◌, ◌≤◌, false, List, [], ◌∷◌, map, slice_index_or, sum_by, length}
+-- The results of workers
+use Rattle.std.specs.Prelude.{◌≡◌, ℕ, ◌+◌, ◌-◌, ◌^◌, ◌<◌, ◌≤◌, false, List, [], ◌∷◌, map, slice_index_or, sum_by}
+use Rattle.std.specs.Prelude.{length}
 use Rattle.audit_core.specs.Draws.{end_of, times}
 use Rattle.verdict_book.specs.Counts.{Counts}
 use Rattle.job_pool.specs.Seats.{IsSeatOf, IsNewSeatOf, drawn_by, numbers_of}
@@ -21,8 +22,8 @@ pub record HaveRisen (before after : List Counts) : Type 0 where
   pub count : length after ≡ length before
   pub each : (i : ℕ) (d : Counts) → i < length before → HasRisen (slice_index_or before i d) (slice_index_or after i d)
 
--- For each job `groups` has the number of the first of its shape. So many findings are due from who drew these numbers: those of all
--- members of the groups whose first numbers they are
+-- For each job `groups` has the number of the first of its shape. This many findings are due from the seat that drew
+-- these numbers: those of all members of the groups whose first numbers they are
 abbrev pub due : List ℕ → List ℕ → ℕ
 due groups [] = 0
 due groups (y ∷ ys) = times y groups + due groups ys
@@ -32,7 +33,7 @@ module _ {F A : Type 0} where
   abbrev pub IsReady : Desk → Worker F A → Type 0
   IsReady desk w = IsNewSeatOf desk w.seat × (w.starved ≡ false)
 
-  -- A worker that did not stop for want of memory filed as many findings as were due from it, and drew on to the end
+  -- A worker that did not stop out of memory filed as many findings as were due from it, and drew on to the end
   pub record HasWorked (desk : Desk) (groups : List ℕ) (before after : Worker F A) : Type 0 where
     pub seat : IsSeatOf desk after.seat
     pub risen : HasRisen before.share after.share

@@ -9,7 +9,7 @@ use crate::rule::{Places, View};
 use atomic_table::Seat;
 use std::alloc::Global;
 
-/// What was drawn at a desk.
+/// The numbers that were drawn at a desk.
 #[derive(Drop)]
 pub struct Closed {
     /// The draws of each seat in their order, the seats in the order in which they were handed in.
@@ -31,7 +31,7 @@ impl Desk {
     ghost use Rattle.job_pool.specs.Closings.{draws_of};
     ghost use Rattle.job_pool.specs.Rule.{IsWhole};
 
-    /// Ends the desk, for all its seats. Whether a seat is missing is tested first.
+    /// Ends the desk, for all its seats. It tests first whether a seat is missing.
     pub fn close(self, alloc: Global, seats: Vec<DeskSeat>) -> Result<Closed, CloseFault>
         requires { All (IsSeatOf self) seats.items }
         ensures draws { IfOk result (λ c. draws_of c ≡ map drawn_by seats.items) }

@@ -8,11 +8,12 @@ use atomic_table::{Seat, Table};
 use audit_core::Claim;
 use std::alloc::{AllocError, Global};
 
-/// Hands out the numbers below a count of at most 1024, each once, to 1 to 64 seats that were opened with it.
+/// A desk that hands out the numbers below a count, each once, to the seats that were opened with it.
 ///
-/// It is one word, the next number, and it keeps the desk rule at each moment, whoever draws: each number below the
-/// word was drawn by one seat, once. A claim adds 1 to the word, in one atomic step; a look at the word, and the splits
-/// and joins of seats by `open` and `close`, add nothing. There is no other step.
+/// The count is at most 1024, and the seats are 1 to 64. The desk is one word, the next number. It keeps the desk rule
+/// at each moment, whoever draws: each number below the word was drawn by one seat, once. A claim adds 1 to the word,
+/// in one atomic step. A look at the word, and the splits and joins of seats by `open` and `close`, add nothing. There
+/// is no other step.
 #[derive(Drop)]
 pub struct Desk {
     pub(crate) table: Table<(), View, Size, Numbered, Global>,
@@ -23,8 +24,7 @@ pub struct Desk {
     ghost small: { (numbers ≤ 1024) × (0 < seats) × (seats ≤ 64) },
 }
 
-/// One of the seats that were opened with a desk, with the numbers that it drew. It is drawn with by one thread at a
-/// time.
+/// A seat that was opened with a desk, with the numbers that it drew. One thread at a time draws with it.
 ///
 /// A seat that is dropped is missing when its desk is closed.
 #[derive(Drop)]
@@ -58,8 +58,7 @@ impl Desk {
     ghost use Rattle.job_pool.specs.Rule.{view};
     ghost use Rattle.job_pool.specs.Seats.{IsClaim, IsNewSeatOf, IsSeatOf, Tells, drawn_by, numbers_of, seats_opened, seen_by};
 
-    /// A desk for the numbers below `numbers`, and its seats. All memory that they need is found here. `AllocError` is
-    /// want of memory.
+    /// Opens a desk for the numbers below `numbers`, and its seats. It takes all memory that they need.
     pub fn open(
         alloc: Global,
         numbers: usize,
@@ -111,7 +110,7 @@ impl Desk {
 
     /// Draws the next number for a seat, by one atomic step, which neither waits nor takes memory.
     ///
-    /// `Empty` is the answer where all numbers were drawn, by whatever seats. A seat that met it draws no more.
+    /// It answers `Empty` if all numbers were drawn, by whatever seats. A seat that met `Empty` draws no more.
     pub fn claim(&self, seat: &mut DeskSeat) -> Claim
         requires { IsSeatOf self.now seat.old }
         ensures seat { IsSeatOf self.now seat.new }
@@ -131,8 +130,9 @@ impl Desk {
         }
     }
 
-    /// How many numbers are left, by one look at the word, which neither waits nor takes memory. A later answer to the
-    /// same seat is never greater.
+    /// Returns how many numbers are left, by one look at the word, which neither waits nor takes memory.
+    ///
+    /// A later answer to the same seat is never greater.
     pub fn left(&self, seat: &mut DeskSeat) -> usize
         requires { IsSeatOf self.now seat.old }
         ensures seat { IsSeatOf self.now seat.new }

@@ -1,20 +1,22 @@
-//! What is told of each number.
+//! The gate that hears of each number.
 
-/// Is told of each number that a worker draws, before and after what it does for it. Where the number is the first of a
-/// group of jobs of the same shape, that is to run its job and file the findings of all members of the group; for
-/// another number there is nothing to do, and its finding may be filed by another worker, before or later. Nothing is
-/// told after a number for which there was no memory.
+/// A gate that hears of each number that a worker draws, before and after the worker's work for it.
 ///
-/// All workers share it, and each tells it of its own numbers.
+/// If the number is the first of a group of jobs of the same shape, the worker runs its job and files the findings of
+/// all members of the group. For another number there is nothing to do, and another worker may file its finding, before
+/// or later. The gate hears nothing after a number for which there was no memory.
+///
+/// All workers share it, and each reports its own numbers.
 pub trait Gate {
-    /// This number was drawn, and nothing was done for it yet.
+    /// Hears that this number was drawn. Nothing was done for it yet.
     fn before(&self, number: usize);
 
-    /// All was done for this number: where it is the first of its group, the findings of all members were filed.
+    /// Hears that all was done for this number. If it is the first of its group, the findings of all members were
+    /// filed.
     fn after(&self, number: usize);
 }
 
-/// Does nothing.
+/// A gate that does nothing.
 #[derive(Clone, Copy, Debug)]
 pub struct OpenGate;
 

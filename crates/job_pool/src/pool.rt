@@ -17,7 +17,7 @@ use std::thread;
 use std::thread::Threads;
 use verdict_book::{Book, Filings, Share};
 
-/// What is left where all workers have ended.
+/// The rest after all workers have ended.
 #[derive(Drop)]
 pub struct WorkEnd<F: Filings, A: Ledger> {
     /// The shares that were passed in: as many, and none of them counts less than before.
@@ -36,13 +36,16 @@ struct Rooms<F: Filings, A: Ledger> {
     shares: Vec<Share<F, A>>,
 }
 
-/// Files the findings of all jobs under the book's digest, by one worker a share. Each worker draws numbers at a desk,
-/// in a thread of its own where one can be made, until no number is left. Who draws the first number of a group of jobs
-/// of the same shape runs its job and files the findings of all members; who draws another number files nothing for it.
+/// Files the findings of all jobs under the book's digest, by one worker a share. All workers have ended when it
+/// returns.
 ///
-/// There are at most 1024 jobs, numbered from 0 in their order, for each of them the number of the first of its shape
-/// in `groups`, and 1 to 64 shares of the book. All workers have ended when it returns. A worker that finds no memory
-/// stops, and leaves the numbers that are left to the others. No share counts less than before.
+/// There are at most 1024 jobs, numbered from 0 in their order, and 1 to 64 shares of the book. `groups` has for each
+/// job the number of the first of its shape.
+///
+/// Each worker draws numbers at a desk, in a thread of its own if one can be made, until no number is left. The worker
+/// that draws the first number of a group of jobs of the same shape runs its job and files the findings of all members.
+/// A worker that draws another number files nothing for it. A worker that is out of memory stops, and leaves the
+/// remaining numbers to the others. No share counts less than before.
 pub fn work<F: Filings + Sync, A: Ledger + Sync, G: Gate + Sync, R: Threads + Wait + Sync>(
     rt: &R,
     alloc: Global,
@@ -175,7 +178,7 @@ fn run_all<F: Filings + Sync, A: Ledger + Sync, G: Gate + Sync, R: Threads + Wai
     );
 }
 
-// The seats and the shares, whether a worker stopped for want of memory, and how many jobs were run.
+// The seats and the shares, whether a worker stopped out of memory, and how many jobs were run.
 fn dismiss<F: Filings, A: Ledger>(
     workers: Vec<Worker<F, A>>,
     mut seats: Vec<DeskSeat>,

@@ -2,15 +2,17 @@
 use atomic_table::{Join, Play, Split, TableRule};
 use std::collections::LinkedList;
 
-/// What a seat knows: the numbers that it drew, a count that the word has reached, and of how many seats it has the
-/// place. No value of it is made.
+/// The knowledge of a seat: the numbers that it drew, a count that the word has reached, and of how many seats it has
+/// the place.
+///
+/// No value of this type is made.
 pub struct View {
     pub draws: LinkedList<u64>,
     pub seen: u64,
     pub places: u64,
 }
 
-/// How many numbers a desk hands out, and to how many seats.
+/// The size of a desk: how many numbers it hands out, and to how many seats.
 #[derive(Drop)]
 pub struct Size {
     pub numbers: u64,
@@ -28,7 +30,7 @@ impl<S> TableRule<S, View, Size> for Numbered {
     ghost first = { opener };
 }
 
-/// A claim adds 1 to the word, and the seat draws what it found.
+/// The step of a claim: it adds 1 to the word, and the seat draws what it found.
 pub struct Claims;
 
 impl<S> Play<S, View> for Claims {
@@ -37,7 +39,7 @@ impl<S> Play<S, View> for Claims {
     ghost then = { Drew };
 }
 
-/// A look leaves the word, and the seat has seen what it found.
+/// The step of a look: it leaves the word, and the seat has seen what it found.
 pub struct Looks;
 
 impl<S> Play<S, View> for Looks {
@@ -46,7 +48,8 @@ impl<S> Play<S, View> for Looks {
     ghost then = { Saw };
 }
 
-/// A split gives a new seat one place. A join gives one seat the places and the draws of another.
+/// The step of a split or a join: a split gives a new seat one place, and a join gives one seat the places and the
+/// draws of another.
 pub struct Places;
 
 impl Split<View> for Places {

@@ -21,7 +21,7 @@ use std::sync::ledger::Ledger;
 use std::sync::{Arc, Wait};
 use verdict_book::{Book, Filings, Share};
 
-/// What all workers share.
+/// The state that all workers share.
 #[derive(Drop)]
 pub struct Site<'a, F: Filings, A: Ledger, G> {
     pub(crate) gate: &'a G,
@@ -32,8 +32,8 @@ pub struct Site<'a, F: Filings, A: Ledger, G> {
     pub(crate) book: &'a Book<F, A>,
 }
 
-/// A seat to draw with, a share to file through, whether the worker stopped for want of memory, and how many jobs it
-/// ran.
+/// A seat to draw with, a share to file through, whether the worker stopped since it was out of memory, and how many
+/// jobs it ran.
 #[derive(Drop)]
 pub struct Worker<F: Filings, A: Ledger> {
     pub(crate) seat: DeskSeat,
@@ -43,8 +43,9 @@ pub struct Worker<F: Filings, A: Ledger> {
 }
 
 impl<F: Filings, A: Ledger> Worker<F, A> {
-    /// Draws numbers, runs the jobs of those that are the first of their groups and files the findings of all members,
-    /// until no number is left or there is no memory.
+    /// Draws numbers until none is left or there is no memory.
+    ///
+    /// If a number is the first of its group, it runs the job and files the findings of all members.
     pub(crate) fn run<G: Gate, R: Wait>(&mut self, rt: &R, alloc: Global, site: &Site<'_, F, A, G>)
         requires ready { IsReady site.now.desk.now self.old }
         requires all { numbers_of site.now.desk.now ≡ length site.now.jobs.now }

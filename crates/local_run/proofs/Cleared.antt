@@ -1,5 +1,6 @@
 -- Values that are cleared under the assignments under which some used gate lacks a row
-use Rattle.std.proofs.Common.{◌≡◌, ℕ, Bool, true, false, ◌<◌, ◌≤◌, ◌+◌, ◌*◌, ◌/◌, ◌%◌, refl, arith, sym, ◌∙◌, ap, subst, List, ◌&&◌, length, bit_and}
+use Rattle.std.proofs.Common.{◌≡◌, ℕ, Bool, true, false, ◌<◌, ◌≤◌, ◌+◌, ◌*◌, ◌/◌, ◌%◌, refl, arith, sym, ◌∙◌, ap, subst}
+use Rattle.std.proofs.Common.{List, ◌&&◌, length, bit_and}
 use Rattle.std.specs.Prelude.{slice_index}
 use Rattle.std.proofs.Math.Nat.{mul_comm}
 use Rattle.std.proofs.lemmas.Nat.{mod-mul-add}
@@ -13,7 +14,8 @@ use Rattle.local_run.specs.Scans.{KeepsDefined}
 -- the words below a place are cleared, and the others are the old ones
 pub record AreCleared (defined : List ℕ) (place : ℕ) (old new : List ℕ) : Type 0 where
   pub long : length new ≡ length old
-  pub below : (k : ℕ) → k < place → slice_index new k ≡ bit_and (slice_index old k) (slice_index defined (k % length defined))
+  pub below : (k : ℕ) → k < place →
+      slice_index new k ≡ bit_and (slice_index old k) (slice_index defined (k % length defined))
   pub above : (k : ℕ) → place ≤ k → slice_index new k ≡ slice_index old k
 
 and_true : (b : Bool) → (b && true) ≡ b
@@ -25,19 +27,24 @@ pub cleared_keeps : (defined : List ℕ) (place : ℕ) (old new : List ℕ) → 
     KeepsDefined defined old new
 unfolding value_of bit_of_row
 cleared_keeps defined place old new c a w small is = by_lt_or_le at place
-    (λ l. ap (λ n. bit n (a % 64)) (c.below at l ∙ ap (λ k. bit_and (slice_index old at) (slice_index defined k)) column)
-    ∙ bit-and (slice_index old at) (slice_index defined (a / 64)) (a % 64) ∙ ap (λ b. bit (slice_index old at) (a % 64) && b) is ∙ and_true _)
+    (λ l. ap (λ n. bit n (a % 64))
+    (c.below at l ∙ ap (λ k. bit_and (slice_index old at) (slice_index defined k)) column)
+    ∙ bit-and (slice_index old at) (slice_index defined (a / 64)) (a % 64)
+    ∙ ap (λ b. bit (slice_index old at) (a % 64) && b) is ∙ and_true _)
     (λ g. ap (λ n. bit n (a % 64)) (c.above at g))
   where
     at : ℕ
     at = length defined * w + a / 64
 
     column : at % length defined ≡ a / 64
-    column = ap (λ n. (n + a / 64) % length defined) (mul_comm (length defined) w) ∙ mod-mul-add w (length defined) (a / 64) (omega (arith, small))
+    column = ap (λ n. (n + a / 64) % length defined) (mul_comm (length defined) w)
+        ∙ mod-mul-add w (length defined) (a / 64) (omega (arith, small))
 
 -- so the rows of words stay what they are to be
-pub rows_kept : (n : Netlist) (words : ℕ) (old new : ValueRows) → new.defined ≡ old.defined → new.undefined ≡ old.undefined → length new.values.items ≡ length old.values.items →
-    KeepsDefined old.defined.items old.values.items new.values.items → AreValueRows n words old → AreValueRows n words new
+pub rows_kept : (n : Netlist) (words : ℕ) (old new : ValueRows) → new.defined ≡ old.defined →
+    new.undefined ≡ old.undefined → length new.values.items ≡ length old.values.items →
+    KeepsDefined old.defined.items old.values.items new.values.items → AreValueRows n words old →
+    AreValueRows n words new
 rows_kept n words old new whole lacking long keeps rows = record {
   long = long ∙ rows.long;
   tall = ap (λ v. length v.items) lacking ∙ rows.tall;
@@ -46,12 +53,14 @@ rows_kept n words old new whole lacking long keeps rows = record {
 }
   where
     Stay : ℕ → Type 0
-    Stay n = (a w : ℕ) → a < 64 * n → bit_of_row old.defined.items a ≡ true → value_of n new.values.items a w ≡ value_of n old.values.items a w
+    Stay n = (a w : ℕ) → a < 64 * n → bit_of_row old.defined.items a ≡ true →
+        value_of n new.values.items a w ≡ value_of n old.values.items a w
 
     stay : Stay words
     stay = subst Stay rows.wide keeps
 
-    at : (a : ℕ) → a < 64 * words → AreRowsAt n words a old.values.items old.undefined.items old.defined.items → AreRowsAt n words a new.values.items new.undefined.items new.defined.items
+    at : (a : ℕ) → a < 64 * words → AreRowsAt n words a old.values.items old.undefined.items old.defined.items →
+        AreRowsAt n words a new.values.items new.undefined.items new.defined.items
     at a small h = rw (whole, lacking) (record {
       local = λ e. subst (λ (v : Valuation). Satisfies n (bit a) v) (sym (λ i w. stay a w small e i)) (h.local e);
       undefined = h.undefined;

@@ -1,5 +1,6 @@
 -- Whether a job has a fault does not depend on the local valuation that is taken
-use Rattle.std.proofs.Common.{◌≡◌, ◌≢◌, ℕ, zero, suc, ◌<◌, Bool, true, false, List, [], ◌∷◌, Some, refl, sym, ap, subst, ◌∙◌, arith, eqb, eq-eqb, ◌⊎◌, inl, inr}
+use Rattle.std.proofs.Common.{◌≡◌, ◌≢◌, ℕ, zero, suc, ◌<◌, Bool, true, false, List, [], ◌∷◌, Some, refl, sym, ap, subst}
+use Rattle.std.proofs.Common.{◌∙◌, arith, eqb, eq-eqb, ◌⊎◌, inl, inr}
 use Rattle.std.specs.Prelude.{ℤ, Contains, slice_get}
 use Rattle.std.proofs.Props.{props}
 use Rattle.std.proofs.lemmas.Bool.{and_from, and_parts, cases_Bool, eqb-true, true≢false}
@@ -30,7 +31,8 @@ use Rattle.local_run.proofs.OwnWires.{edge_below, demand_below}
 use Rattle.local_run.proofs.Numbers.{three_ways}
 
 -- ---- the same fault under valuations that agree
-meets_same : (n : ℕ) (u u' : Valuation) (d : Demand) (b : Bool) → AgreeBelow n u u' → IsDemandBelow n d → Meets u d b → Meets u' d b
+meets_same : (n : ℕ) (u u' : Valuation) (d : Demand) (b : Bool) → AgreeBelow n u u' → IsDemandBelow n d → Meets u d b →
+    Meets u' d b
 meets_same n u u' Demanded.Dead b same below h = h
 meets_same n u u' Demanded.Live b same below h = h
 meets_same n u u' (Demanded.Wire w) b same below h = h ∙ same w below
@@ -39,13 +41,15 @@ meets_same n u u' Demanded.Any b same below h = tt
 own_stop : (j : JobState) (s : listed.Stop) → NamesOwnWires j → Contains j.stops s → s.wire < wires j.locals.netlist
 own_stop j s own h = subst (λ (r : listed.Stop). r.wire < wires j.locals.netlist) h.2 (own.stops h.0 s h.1)
 
-pub fault_same : (j : JobState) (u u' : Valuation) (t : ℕ) (kind : Kind) (x y : ℤ) → NamesOwnWires j → AgreeBelow (wires j.locals.netlist) u u' →
+pub fault_same : (j : JobState) (u u' : Valuation) (t : ℕ) (kind : Kind) (x y : ℤ) → NamesOwnWires j →
+    AgreeBelow (wires j.locals.netlist) u u' →
     IsFaultUnder j u t kind x y → IsFaultUnder j u' t kind x y
 fault_same j u u' t Edge x y own same f = record {
   odd = f.odd;
   early = f.early;
   ring = f.ring;
-  differs = λ e. f.differs (run_same j u u' t own same x y ∙ e ∙ sym (live_same (wires j.locals.netlist) u u' _ same (edge_below j t x y own)));
+  differs = λ e. f.differs (run_same j u u' t own same x y ∙ e
+      ∙ sym (live_same (wires j.locals.netlist) u u' _ same (edge_below j t x y own)));
 }
 fault_same j u u' t Stop x y own same f = record {
   stop = f.stop;
@@ -53,12 +57,14 @@ fault_same j u u' t Stop x y own same f = record {
   time = f.time;
   column = f.column;
   row = f.row;
-  differs = λ e. f.differs (run_same j u u' t own same x y ∙ e ∙ sym (same f.stop.wire (own_stop j f.stop own f.is_listed)));
+  differs = λ e. f.differs (run_same j u u' t own same x y ∙ e
+      ∙ sym (same f.stop.wire (own_stop j f.stop own f.is_listed)));
 }
 fault_same j u u' t End x y own same f = record {
   last = f.last;
   inside = f.inside;
-  differs = λ m. f.differs (meets_same (wires j.locals.netlist) u' u (job_demand j x y) _ (λ w l. sym (same w l)) (demand_below j x y own)
+  differs = λ m. f.differs (meets_same (wires j.locals.netlist) u' u (job_demand j x y) _ (λ w l. sym (same w l))
+      (demand_below j x y own)
       (subst (Meets u' (job_demand j x y)) (sym (run_same j u u' t own same x y)) m));
 }
 
@@ -70,7 +76,9 @@ nothing_prop : IsProp ⊥
 nothing_prop = Prim.hlevel props
 
 -- a stop at the moment, or none
-found_stop : (stops : List listed.Stop) (t : ℕ) (x y : ℤ) → ((s : listed.Stop) × Contains stops s × (is_then s.at t x y ≡ true)) ⊎ ((s : listed.Stop) → Contains stops s → ¬ (is_then s.at t x y ≡ true))
+found_stop : (stops : List listed.Stop) (t : ℕ) (x y : ℤ) →
+    ((s : listed.Stop) × Contains stops s × (is_then s.at t x y ≡ true))
+    ⊎ ((s : listed.Stop) → Contains stops s → ¬ (is_then s.at t x y ≡ true))
 found_stop [] t x y = inr (λ s h e. let lt = h.1 in absurd (omega (arith, lt)))
 found_stop (r ∷ stops) t x y = elim (cases_Bool (is_then r.at t x y)) [
   | inl e ↦ inl (r, (zero, omega arith, refl), e)
@@ -80,7 +88,8 @@ found_stop (r ∷ stops) t x y = elim (cases_Bool (is_then r.at t x y)) [
   ]
 ]
   where
-    later : (s : listed.Stop) → Contains (r ∷ stops) s → is_then s.at t x y ≡ true → is_then r.at t x y ≡ false → ((q : listed.Stop) → Contains stops q → ¬ (is_then q.at t x y ≡ true)) → ⊥
+    later : (s : listed.Stop) → Contains (r ∷ stops) s → is_then s.at t x y ≡ true → is_then r.at t x y ≡ false →
+        ((q : listed.Stop) → Contains stops q → ¬ (is_then q.at t x y ≡ true)) → ⊥
     later s (zero, lt, is) e n none = true≢false (sym e ∙ ap (λ (q : listed.Stop). is_then q.at t x y) (sym is) ∙ n)
     later s (suc k, lt, is) e n none = none s (k, omega (arith, lt), is) e
 
@@ -92,24 +101,29 @@ one_stop j r s is hr hs same =
     elim (three_ways hr.0 hs.0) [
       | inl lt ↦ absurd (is_first moment_cmp stop_moment j.stops hs.0 s moment_total is.stops_rise es hr.0 r lt er same)
       | inr (inl e) ↦ same_Some _ _ (sym er ∙ ap (slice_get j.stops) e ∙ es)
-      | inr (inr gt) ↦ absurd (is_first moment_cmp stop_moment j.stops hr.0 r moment_total is.stops_rise er hs.0 s gt es (sym same))
+      | inr (inr gt) ↦ absurd (is_first moment_cmp stop_moment j.stops hr.0 r moment_total is.stops_rise er hs.0 s gt es
+          (sym same))
     ]
 
-is_moment : (m : Moment) (t : ℕ) (x y : ℤ) → is_then m t x y ≡ true → m ≡ record { time = t; cell = record { x = x; y = y } }
+is_moment : (m : Moment) (t : ℕ) (x y : ℤ) → is_then m t x y ≡ true →
+    m ≡ record { time = t; cell = record { x = x; y = y } }
 is_moment m t x y h =
     let p = and_parts (eqb m.time t) (is_at m.cell x y) h in
     let time : m.time ≡ t = eqb-true m.time t p.0 in
     let cell = cell_same m.cell (record { x = x; y = y }) p.1 in
     λ i. record { time = time i; cell = cell i }
 
-then_moment : (j : JobState) (u : Valuation) (t : ℕ) (x y : ℤ) (f : IsStopFault j u t x y) → f.stop.at ≡ record { time = t; cell = record { x = x; y = y } }
+then_moment : (j : JobState) (u : Valuation) (t : ℕ) (x y : ℤ) (f : IsStopFault j u t x y) →
+    f.stop.at ≡ record { time = t; cell = record { x = x; y = y } }
 then_moment j u t x y f i = record { time = f.time i; cell = record { x = f.column i; y = f.row i } }
 
 its_then : (j : JobState) (u : Valuation) (t : ℕ) (x y : ℤ) (f : IsStopFault j u t x y) → is_then f.stop.at t x y ≡ true
-its_then j u t x y f = ap (λ m. is_then m t x y) (then_moment j u t x y f) ∙ and_from _ _ (eq-eqb t t refl) (cell_itself (record { x = x; y = y }))
+its_then j u t x y f = ap (λ m. is_then m t x y) (then_moment j u t x y f)
+    ∙ and_from _ _ (eq-eqb t t refl) (cell_itself (record { x = x; y = y }))
 
 -- so a fault of a stop that there is can be found
-stop_told : (j : JobState) (u : Valuation) (t : ℕ) (x y : ℤ) → IsJob j → ∥ IsStopFault j u t x y ∥₁ → IsStopFault j u t x y
+stop_told : (j : JobState) (u : Valuation) (t : ℕ) (x y : ℤ) → IsJob j → ∥ IsStopFault j u t x y ∥₁ →
+    IsStopFault j u t x y
 stop_told j u t x y is some = elim (found_stop j.stops t x y) [
   | inl f ↦
       let m = is_moment f.0.at t x y f.2 in
@@ -120,20 +134,24 @@ stop_told j u t x y is some = elim (found_stop j.stops t x y) [
         column = ap (λ (n : Moment). n.cell.x) m;
         row = ap (λ (n : Moment). n.cell.y) m;
         differs = ∥∥₁_elim some (not_prop j u t f.0.wire x y) (λ g.
-            subst (λ (s : listed.Stop). local_run j u t x y ≢ u s.wire) (one_stop j g.stop f.0 is g.is_listed f.1 (then_moment j u t x y g ∙ sym m)) g.differs);
+            subst (λ (s : listed.Stop). local_run j u t x y ≢ u s.wire)
+            (one_stop j g.stop f.0 is g.is_listed f.1 (then_moment j u t x y g ∙ sym m)) g.differs);
       }
   | inr none ↦ absurd (∥∥₁_elim some nothing_prop (λ g. none g.stop g.is_listed (its_then j u t x y g)))
 ]
 
-told : (j : JobState) (u : Valuation) (t : ℕ) (kind : Kind) (x y : ℤ) → IsJob j → ∥ IsFaultUnder j u t kind x y ∥₁ → IsFaultUnder j u t kind x y
+told : (j : JobState) (u : Valuation) (t : ℕ) (kind : Kind) (x y : ℤ) → IsJob j → ∥ IsFaultUnder j u t kind x y ∥₁ →
+    IsFaultUnder j u t kind x y
 told j u t Edge x y is some = ∥∥₁_elim some (Prim.hlevel props) (λ f. f)
 told j u t Stop x y is some = stop_told j u t x y is some
 told j u t End x y is some = ∥∥₁_elim some (Prim.hlevel props) (λ f. f)
 
-moved : (j : JobState) (f : Fault) (u : Valuation) → IsJob j → AreOrdered j.locals.netlist.given j.locals.netlist.gates → IsLocalValuation j.locals f.assignment u →
+moved : (j : JobState) (f : Fault) (u : Valuation) → IsJob j →
+    AreOrdered j.locals.netlist.given j.locals.netlist.gates → IsLocalValuation j.locals f.assignment u →
     HasFault j f → IsFaultUnder j u f.time f.kind f.cell.x f.cell.y
 moved j f u is ordered local h =
-    fault_same j h.values u f.time f.kind f.cell.x f.cell.y is.own (λ w l. at_most_one j.locals.netlist _ h.values u ordered h.local local w l) h.differs
+    fault_same j h.values u f.time f.kind f.cell.x f.cell.y is.own
+    (λ w l. at_most_one j.locals.netlist _ h.values u ordered h.local local w l) h.differs
 
 pub decided : FaultsAreDecided
 decided j f u is ordered small local = (

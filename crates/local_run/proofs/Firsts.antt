@@ -1,5 +1,6 @@
 -- From the cells that were looked at, in order, to the first fault
-use Rattle.std.proofs.Common.{◌≡◌, ◌≢◌, ℕ, Bool, true, false, not, ◌&&◌, ◌⊎◌, inl, inr, ◌<◌, ◌≤◌, ◌+◌, ◌-◌, refl, arith, sym, ◌∙◌, ap, subst, Option, Some, None}
+use Rattle.std.proofs.Common.{◌≡◌, ◌≢◌, ℕ, Bool, true, false, not, ◌&&◌, ◌⊎◌, inl, inr, ◌<◌, ◌≤◌, ◌+◌, ◌-◌, refl, arith}
+use Rattle.std.proofs.Common.{sym, ◌∙◌, ap, subst, Option, Some, None}
 use Rattle.std.specs.Prelude.{ℤ, pos, negsuc, ◌+ℤ◌, ◌-ℤ◌, ◌<ℤ◌}
 use Rattle.std.proofs.lemmas.Bool.{and_parts, and_from, false≢true}
 use Rattle.std.proofs.lemmas.Int.{ints}
@@ -48,20 +49,26 @@ unfolding inner
 inner_less c k m h = omega (arith, ints, h)
 
 -- ---- the least number
-pub least_map : (n : ℕ) (P Q : ℕ → Type 0) → ((a : ℕ) → a < n → P a → Q a) → ((a : ℕ) → a < n → Q a → P a) → (r : Option ℕ) → IsLeastBelow n P r → IsLeastBelow n Q r
+pub least_map : (n : ℕ) (P Q : ℕ → Type 0) → ((a : ℕ) → a < n → P a → Q a) → ((a : ℕ) → a < n → Q a → P a) →
+    (r : Option ℕ) → IsLeastBelow n P r → IsLeastBelow n Q r
 least_map n P Q f g None h = λ a l q. h a l (g a l q)
 least_map n P Q f g (Some a) h = (h.0, f a h.0 h.1, λ b l q. h.2 b l (g b (omega (arith, l, h.0)) q))
 
 -- no cell but those of the ring has a fault of its edge
-pub edge_none : (j : JobState) (n : ℕ) (u : ℕ → Valuation) (t : ℕ) (k : Kind) (x y : ℤ) → Edge ≡ k → in_ring j.area x y ≡ false →
+pub edge_none : (j : JobState) (n : ℕ) (u : ℕ → Valuation) (t : ℕ) (k : Kind) (x y : ℤ) → Edge ≡ k →
+    in_ring j.area x y ≡ false →
     IsLeastBelow n (λ a. IsFaultUnder j (u a) t k x y) None
 edge_none j n u t k x y e out a l f =
     let g : IsEdgeFault j (u a) t x y = subst (λ (k' : Kind). IsFaultUnder j (u a) t k' x y) (sym e) f in
     false≢true (sym out ∙ g.ring)
 
-pub end_least : (j : JobState) (vs : Values) (n : ℕ) (f : ℕ → Bool) (s : Signal) (d : Demand) (t : ℕ) (k : Kind) (x y : ℤ) (r : Option ℕ) → End ≡ k → IsSought j t k →
-    in_box j.area x y ≡ true → job_demand j x y ≡ d → ((v : Valuation) (b : Bool) → Meets v d b → b ≡ is_live v s) → ((v : Valuation) (b : Bool) → b ≡ is_live v s → Meets v d b) →
-    ((a : ℕ) → a < n → f a ≡ local_run j (valuation vs a) t x y) → IsLeastBelow n (λ a. (is_defined vs a ≡ true) × (f a ≢ is_live (valuation vs a) s)) r → IsLeastBelow n (λ a. IsFound j vs a t k x y) r
+pub end_least : (j : JobState) (vs : Values) (n : ℕ) (f : ℕ → Bool) (s : Signal) (d : Demand) (t : ℕ) (k : Kind)
+    (x y : ℤ) (r : Option ℕ) → End ≡ k → IsSought j t k →
+    in_box j.area x y ≡ true → job_demand j x y ≡ d → ((v : Valuation) (b : Bool) → Meets v d b → b ≡ is_live v s) →
+    ((v : Valuation) (b : Bool) → b ≡ is_live v s → Meets v d b) →
+    ((a : ℕ) → a < n → f a ≡ local_run j (valuation vs a) t x y) →
+    IsLeastBelow n (λ a. (is_defined vs a ≡ true) × (f a ≢ is_live (valuation vs a) s)) r →
+    IsLeastBelow n (λ a. IsFound j vs a t k x y) r
 end_least j vs n f s d t k x y r e sought inside ed to from same h =
     subst (λ (k' : Kind). IsLeastBelow n (λ a. IsFound j vs a t k' x y) r) e
     (least_map n (λ a. (is_defined vs a ≡ true) × (f a ≢ is_live (valuation vs a) s)) (λ a. IsFound j vs a t End x y)
@@ -70,17 +77,25 @@ end_least j vs n f s d t k x y r e sought inside ed to from same h =
       record {
         last = at_end;
         inside = inside;
-        differs = λ meets. ne.1 (same a l ∙ to (valuation vs a) _ (subst (λ (d' : Demand). Meets (valuation vs a) d' (local_run j (valuation vs a) t x y)) ed meets));
+        differs = λ meets. ne.1 (same a l
+            ∙ to (valuation vs a) _ (subst
+            (λ (d' : Demand). Meets (valuation vs a) d' (local_run j (valuation vs a) t x y)) ed meets));
       },
     ))
-    (λ a l fault. (fault.0, (λ is. fault.1.differs (subst (λ (d' : Demand). Meets (valuation vs a) d' (local_run j (valuation vs a) t x y)) (sym ed) (from (valuation vs a) _ (sym (same a l) ∙ is))))))
+    (λ a l fault. (
+      fault.0,
+      (λ is. fault.1.differs (subst (λ (d' : Demand). Meets (valuation vs a) d' (local_run j (valuation vs a) t x y))
+          (sym ed) (from (valuation vs a) _ (sym (same a l) ∙ is)))),
+    ))
     r h)
   where
     at_end : t ≡ j.steps
     at_end = subst (λ (k' : Kind). IsSought j t k') (sym e) sought
 
-pub edge_least : (j : JobState) (vs : Values) (n : ℕ) (f : ℕ → Bool) (s : Signal) (t : ℕ) (k : Kind) (x y : ℤ) (r : Option ℕ) → Edge ≡ k → IsSought j t k → in_ring j.area x y ≡ true →
-    s ≡ signal_at j.edges t x y → ((a : ℕ) → a < n → f a ≡ local_run j (valuation vs a) t x y) → IsLeastBelow n (λ a. (is_defined vs a ≡ true) × (f a ≢ is_live (valuation vs a) s)) r →
+pub edge_least : (j : JobState) (vs : Values) (n : ℕ) (f : ℕ → Bool) (s : Signal) (t : ℕ) (k : Kind) (x y : ℤ)
+    (r : Option ℕ) → Edge ≡ k → IsSought j t k → in_ring j.area x y ≡ true →
+    s ≡ signal_at j.edges t x y → ((a : ℕ) → a < n → f a ≡ local_run j (valuation vs a) t x y) →
+    IsLeastBelow n (λ a. (is_defined vs a ≡ true) × (f a ≢ is_live (valuation vs a) s)) r →
     IsLeastBelow n (λ a. IsFound j vs a t k x y) r
 edge_least j vs n f s t k x y r e sought ring es same h =
     subst (λ (k' : Kind). IsLeastBelow n (λ a. IsFound j vs a t k' x y) r) e
@@ -101,11 +116,13 @@ edge_least j vs n f s t k x y r e sought ring es same h =
     at = subst (λ (k' : Kind). IsSought j t k') (sym e) sought
 
 -- no cell but those of the ring is found
-pub edge_not_found : (j : JobState) (vs : Values) (n t : ℕ) (k : Kind) (x y : ℤ) → Edge ≡ k → in_ring j.area x y ≡ false → IsLeastBelow n (λ a. IsFound j vs a t k x y) None
+pub edge_not_found : (j : JobState) (vs : Values) (n t : ℕ) (k : Kind) (x y : ℤ) → Edge ≡ k →
+    in_ring j.area x y ≡ false → IsLeastBelow n (λ a. IsFound j vs a t k x y) None
 edge_not_found j vs n t k x y e out a l f = edge_none j n (λ a. valuation vs a) t k x y e out a l f.1
 
 -- ---- cells in order
-fault_in_box : (j : JobState) (v : Valuation) (t : ℕ) (kind : Kind) (x y : ℤ) → IsSought j t kind → IsFaultUnder j v t kind x y → in_box j.area x y ≡ true
+fault_in_box : (j : JobState) (v : Valuation) (t : ℕ) (kind : Kind) (x y : ℤ) → IsSought j t kind →
+    IsFaultUnder j v t kind x y → in_box j.area x y ≡ true
 unfolding in_ring
 fault_in_box j v t Edge x y s f = (and_parts _ _ f.ring).0
 fault_in_box j v t Stop x y s f = absurd s
@@ -125,7 +142,8 @@ free_from j vs t kind s free x y a l f =
     (subst (λ (z : ℤ). IsFound j vs a t kind z (inner j.area.y py.number)) px.is
     (subst (λ (z : ℤ). IsFound j vs a t kind x z) py.is f))
 
-pub first_from : (j : JobState) (vs : Values) (t : ℕ) (kind : Kind) (x y a : ℕ) (cx cy : ℤ) → IsSought j t kind → cx ≡ inner j.area.x x → cy ≡ inner j.area.y y →
+pub first_from : (j : JobState) (vs : Values) (t : ℕ) (kind : Kind) (x y a : ℕ) (cx cy : ℤ) → IsSought j t kind →
+    cx ≡ inner j.area.x x → cy ≡ inner j.area.y y →
     x < j.area.w → y < j.area.h →
     ((x' y' a' : ℕ) → x' < j.area.w → y' < y → a' < assignments j → FreeAt j vs t kind x' y' a') →
     ((x' a' : ℕ) → x' < x → a' < assignments j → FreeAt j vs t kind x' y a') →
@@ -141,7 +159,8 @@ first_from j vs t kind x y a cx cy s ex ey lx ly rows cells least = rw (ex, ey) 
       let h = and_parts _ _ (fault_in_box j _ t kind x' y' s f.1) in
       let px = span_at j.area.x j.area.w x' h.0 in
       let py = span_at j.area.y j.area.h y' h.1 in
-      rows px.number py.number a' px.below (inner_less j.area.y py.number y (subst (λ (z : ℤ). z <ℤ inner j.area.y y) py.is less)) l
+      rows px.number py.number a' px.below
+      (inner_less j.area.y py.number y (subst (λ (z : ℤ). z <ℤ inner j.area.y y) py.is less)) l
       (subst (λ (z : ℤ). IsFound j vs a' t kind z (inner j.area.y py.number)) px.is
       (subst (λ (z : ℤ). IsFound j vs a' t kind x' z) py.is f));
   column = λ x' a' l less f.
@@ -168,21 +187,25 @@ one_more : (c k : ℕ) → inner c k +ℤ pos 1 ≡ pos (c + (k + 1))
 unfolding inner
 one_more c k = omega (arith, ints)
 
-both_beside : (c n k : ℕ) → 1 ≤ k → k + 1 < n → (in_span c n (inner c k -ℤ pos 1) && in_span c n (inner c k +ℤ pos 1)) ≡ true
+both_beside : (c n k : ℕ) → 1 ≤ k → k + 1 < n →
+    (in_span c n (inner c k -ℤ pos 1) && in_span c n (inner c k +ℤ pos 1)) ≡ true
 both_beside c n k l h = and_from _ _
     (ap (in_span c n) (one_less c k l) ∙ span_from c n (c + (k - 1)) (omega arith) (omega arith))
     (ap (in_span c n) (one_more c k) ∙ span_from c n (c + (k + 1)) (omega arith) (omega arith))
 
 -- a cell between the first and the last one of a row between the first and the last one is not in the ring
-pub not_in_ring : (b : Box2) (x y : ℕ) → 1 ≤ x → x + 1 < b.w → 1 ≤ y → y + 1 < b.h → in_ring b (inner b.x x) (inner b.y y) ≡ false
+pub not_in_ring : (b : Box2) (x y : ℕ) → 1 ≤ x → x + 1 < b.w → 1 ≤ y → y + 1 < b.h →
+    in_ring b (inner b.x x) (inner b.y y) ≡ false
 not_in_ring b x y lx hx ly hy =
-    sym (ring_read b (inner b.x x) (inner b.y y) _ true true refl (sym (both_beside b.x b.w x lx hx)) (sym (both_beside b.y b.h y ly hy))) ∙ none_of _
+    sym (ring_read b (inner b.x x) (inner b.y y) _ true true refl (sym (both_beside b.x b.w x lx hx))
+    (sym (both_beside b.y b.h y ly hy))) ∙ none_of _
 
 -- where a row is passed over, it is so from its first cell to its last one
 abbrev pub IsAtEnd : ℕ → ℕ → ℕ → Type 0
 IsAtEnd w x stride = (stride ≡ 1) ⊎ ((x ≡ 0) ⊎ (w ≤ x + 1))
 
-pub still_at_end : (kind : Kind) (w h y x stride : ℕ) → IsStride kind w h y stride → IsAtEnd w x stride → IsAtEnd w (x + stride) stride
+pub still_at_end : (kind : Kind) (w h y x stride : ℕ) → IsStride kind w h y stride → IsAtEnd w x stride →
+    IsAtEnd w (x + stride) stride
 still_at_end kind w h y x stride s at = elim s.2 [
   | inl one ↦ inl one
   | inr both ↦ let e = both.ends in elim at [
@@ -191,13 +214,15 @@ still_at_end kind w h y x stride s at = elim s.2 [
   ]
 ]
 
-pub passed_over : (j : JobState) (u : Valuation) (t : ℕ) (kind : Kind) (x x' y stride : ℕ) → IsStride kind j.area.w j.area.h y stride → IsAtEnd j.area.w x stride →
+pub passed_over : (j : JobState) (u : Valuation) (t : ℕ) (kind : Kind) (x x' y stride : ℕ) →
+    IsStride kind j.area.w j.area.h y stride → IsAtEnd j.area.w x stride →
     x < x' → x' < x + stride → x' < j.area.w → ¬ IsFaultUnder j u t kind (inner j.area.x x') (inner j.area.y y)
 passed_over j u t kind x x' y stride s at after before within f = elim s.2 [
   | inl one ↦ omega arith
   | inr both ↦ let e = both.ends in elim at [
     | inl one ↦ omega arith
-    | inr (inl start) ↦ edge_none j 1 (λ a. u) t kind _ _ both.edge (not_in_ring j.area x' y (omega arith) (omega arith) both.between.0 both.between.1) 0 (omega arith) f
+    | inr (inl start) ↦ edge_none j 1 (λ a. u) t kind _ _ both.edge
+        (not_in_ring j.area x' y (omega arith) (omega arith) both.between.0 both.between.1) 0 (omega arith) f
     | inr (inr last) ↦ omega arith
   ]
 ]

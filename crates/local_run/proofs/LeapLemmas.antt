@@ -1,5 +1,6 @@
 -- Runs that stay as they are, and times that can be leapt over
-use Rattle.std.proofs.Common.{◌≡◌, ◌≢◌, ℕ, zero, suc, ◌<◌, ◌≤◌, ◌+◌, ◌-◌, ◌%◌, ◌&&◌, ◌||◌, List, length, Option, Some, None, Less, Greater, refl, arith, sym, ◌∙◌, ap, ap₂, inl, inr, subst}
+use Rattle.std.proofs.Common.{◌≡◌, ◌≢◌, ℕ, zero, suc, ◌<◌, ◌≤◌, ◌+◌, ◌-◌, ◌%◌, ◌&&◌, ◌||◌, List, length, Option, Some}
+use Rattle.std.proofs.Common.{None, Less, Greater, refl, arith, sym, ◌∙◌, ap, ap₂, inl, inr, subst}
 use Rattle.std.specs.Prelude.{ℤ, ◌+ℤ◌, slice_get, unwrap_or}
 use Rattle.std.proofs.lemmas.Option.{slice_get_within}
 use Rattle.std.specs.Ordering.{nat_cmp, ordering_then}
@@ -29,24 +30,33 @@ partner_alike k m x e = rw e refl
 
 step_alike : (k m : ℕ) (s : State) (x y : ℤ) → k % 2 ≡ m % 2 → step k s x y ≡ step m s x y
 unfolding step
-step_alike k m s x y e = ap₂ (λ px py. turned (s x y) (s px py) (s px y) (s x py)) (partner_alike k m x e) (partner_alike k m y e)
+step_alike k m s x y e = ap₂ (λ px py. turned (s x y) (s px py) (s px y) (s x py)) (partner_alike k m x e)
+    (partner_alike k m y e)
 
-with_halo_alike : (j : JobState) (u : Valuation) (k m : ℕ) (s s' : State) (x y : ℤ) → s x y ≡ s' x y → signal_at j.halos k x y ≡ signal_at j.halos m x y →
+with_halo_alike : (j : JobState) (u : Valuation) (k m : ℕ) (s s' : State) (x y : ℤ) → s x y ≡ s' x y →
+    signal_at j.halos k x y ≡ signal_at j.halos m x y →
     with_halo j u k s x y ≡ with_halo j u m s' x y
 unfolding with_halo
 with_halo_alike j u k m s s' x y e h = ap₂ (λ p q. p || (in_halo j.area x y && is_live u q)) e h
 
 -- ---- one more time
-even_next : (j : JobState) (u : Valuation) (k m : ℕ) (x y : ℤ) → k % 2 ≡ 0 → m % 2 ≡ 0 → ((x' y' : ℤ) → local_run j u k x' y' ≡ local_run j u m x' y') →
+even_next : (j : JobState) (u : Valuation) (k m : ℕ) (x y : ℤ) → k % 2 ≡ 0 → m % 2 ≡ 0 →
+    ((x' y' : ℤ) → local_run j u k x' y' ≡ local_run j u m x' y') →
     local_run j u (suc k) x y ≡ local_run j u (suc m) x y
 unfolding local_run
-even_next j u k m x y ek em same = local_even j u k _ x y ek ∙ step_alike k m _ x y (ek ∙ sym em) ∙ step_all_same m _ _ x y same ∙ sym (local_even j u m _ x y em)
+even_next j u k m x y ek em same =
+    local_even j u k _ x y ek ∙ step_alike k m _ x y (ek ∙ sym em) ∙ step_all_same m _ _ x y same
+    ∙ sym (local_even j u m _ x y em)
 
-odd_next : (j : JobState) (u : Valuation) (k m : ℕ) (x y : ℤ) → k % 2 ≡ 1 → m % 2 ≡ 1 → ((x' y' : ℤ) → local_run j u k x' y' ≡ local_run j u m x' y') →
-    ((x' y' : ℤ) → signal_at j.halos k x' y' ≡ signal_at j.halos m x' y') → local_run j u (suc k) x y ≡ local_run j u (suc m) x y
+odd_next : (j : JobState) (u : Valuation) (k m : ℕ) (x y : ℤ) → k % 2 ≡ 1 → m % 2 ≡ 1 →
+    ((x' y' : ℤ) → local_run j u k x' y' ≡ local_run j u m x' y') →
+    ((x' y' : ℤ) → signal_at j.halos k x' y' ≡ signal_at j.halos m x' y') →
+    local_run j u (suc k) x y ≡ local_run j u (suc m) x y
 unfolding local_run
 odd_next j u k m x y ok om same halo = local_odd j u k _ x y ok
-    ∙ ap (λ p. in_box j.area x y && p) (step_alike k m _ x y (ok ∙ sym om) ∙ step_all_same m _ _ x y (λ x' y'. with_halo_alike j u k m _ _ x' y' (same x' y') (halo x' y')))
+    ∙ ap (λ p. in_box j.area x y && p)
+    (step_alike k m _ x y (ok ∙ sym om)
+    ∙ step_all_same m _ _ x y (λ x' y'. with_halo_alike j u k m _ _ x' y' (same x' y') (halo x' y')))
     ∙ sym (local_odd j u m _ x y om)
 
 -- the even one of two times that follow one another
@@ -56,8 +66,10 @@ even_of t = elim (even_or_odd t) [
   | inr h ↦ (t + 1, omega arith, omega arith, omega arith)
 ]
 
-after_same : (j : JobState) (u : Valuation) (t o n k : ℕ) → IsOddOf t o → StaysUpTo j u t (t + 2) → IsSteady j.halos o n → t ≤ k → k < n →
-    ((x y : ℤ) → local_run j u k x y ≡ local_run j u t x y) → (x y : ℤ) → local_run j u (suc k) x y ≡ local_run j u t x y
+after_same : (j : JobState) (u : Valuation) (t o n k : ℕ) → IsOddOf t o → StaysUpTo j u t (t + 2) →
+    IsSteady j.halos o n → t ≤ k → k < n →
+    ((x y : ℤ) → local_run j u k x y ≡ local_run j u t x y) → (x y : ℤ) →
+    local_run j u (suc k) x y ≡ local_run j u t x y
 after_same j u t o n k of stays steady from l same x y =
     let odd = of.odd in
     let low = of.from in
@@ -66,18 +78,22 @@ after_same j u t o n k of stays steady from l same x y =
       | inl ek ↦ let e = even_of t in
           let le = e.2 in
           let he = e.3 in
-          even_next j u k e.0 x y ek e.1 (λ x' y'. same x' y' ∙ sym (stays e.0 x' y' le (omega arith))) ∙ stays (suc e.0) x y (omega arith) (omega arith)
-      | inr ok ↦ odd_next j u k o x y ok odd (λ x' y'. same x' y' ∙ sym (stays o x' y' low (omega arith))) (λ x' y'. steady k x' y' (omega arith) l ok) ∙ stays (suc o) x y (omega arith) (omega arith)
+          even_next j u k e.0 x y ek e.1 (λ x' y'. same x' y' ∙ sym (stays e.0 x' y' le (omega arith)))
+          ∙ stays (suc e.0) x y (omega arith) (omega arith)
+      | inr ok ↦ odd_next j u k o x y ok odd (λ x' y'. same x' y' ∙ sym (stays o x' y' low (omega arith)))
+          (λ x' y'. steady k x' y' (omega arith) l ok) ∙ stays (suc o) x y (omega arith) (omega arith)
     ]
 
 -- ---- and so on
-stays_by : (j : JobState) (u : Valuation) (t o n d : ℕ) → IsOddOf t o → StaysUpTo j u t (t + 2) → IsSteady j.halos o n → t + d ≤ n →
+stays_by : (j : JobState) (u : Valuation) (t o n d : ℕ) → IsOddOf t o → StaysUpTo j u t (t + 2) → IsSteady j.halos o n →
+    t + d ≤ n →
     (x y : ℤ) → local_run j u (t + d) x y ≡ local_run j u t x y
 stays_by j u t o n zero of stays steady l x y = let e : t + 0 ≡ t = omega arith in ap (λ k. local_run j u k x y) e
 stays_by j u t o n (suc d) of stays steady l x y =
     let e : t + suc d ≡ suc (t + d) = omega arith in
     ap (λ k. local_run j u k x y) e
-    ∙ after_same j u t o n (t + d) of stays steady (omega arith) (omega arith) (stays_by j u t o n d of stays steady (omega arith)) x y
+    ∙ after_same j u t o n (t + d) of stays steady (omega arith) (omega arith)
+    (stays_by j u t o n d of stays steady (omega arith)) x y
 
 pub quiet_runs : QuietRunsStay
 quiet_runs j u t o n of stays steady k x y from to =
@@ -91,7 +107,8 @@ no_new_faults j u t o n k x y of stays halos edges from l f =
     let high = of.next in
     let fk = f.odd in
     let early = f.early in
-    let same : local_run j u k x y ≡ local_run j u o x y = quiet_runs j u t o n of stays halos k x y from (omega arith) ∙ sym (stays o x y low (omega arith)) in
+    let same : local_run j u k x y ≡ local_run j u o x y =
+    quiet_runs j u t o n of stays halos k x y from (omega arith) ∙ sym (stays o x y low (omega arith)) in
     let signal : signal_at j.edges k x y ≡ signal_at j.edges o x y = edges k x y (omega arith) l fk in
     record {
       odd = odd;
@@ -122,9 +139,11 @@ less_greater e = cc
 
 moment_less : (m n : Moment) → moment_cmp m n ≡ Less → m.time ≤ n.time
 unfolding moment_cmp
-moment_less m n h = nat_less m.time n.time (λ e. less_greater (sym h ∙ ap (λ o. ordering_then o (cell_cmp m.cell n.cell)) e))
+moment_less m n h = nat_less m.time n.time
+    (λ e. less_greater (sym h ∙ ap (λ o. ordering_then o (cell_cmp m.cell n.cell)) e))
 
-later : (es : List Event) (i j : ℕ) (a b : Event) → IsRising moment_cmp moment_of es → i ≤ j → slice_get es i ≡ Some a → slice_get es j ≡ Some b → a.at.time ≤ b.at.time
+later : (es : List Event) (i j : ℕ) (a b : Event) → IsRising moment_cmp moment_of es → i ≤ j → slice_get es i ≡ Some a →
+    slice_get es j ≡ Some b → a.at.time ≤ b.at.time
 later es i j a b rising le ea eb = by_lt_or_le i j
     (λ l. moment_less a.at b.at (rising.rises i j a b l ea eb))
     (λ ge. let e : i ≡ j = omega arith in same_event (slice_get es j) a b (sym (ap (slice_get es) e) ∙ ea) eb)
@@ -132,38 +151,46 @@ later es i j a b rising le ea eb = by_lt_or_le i j
     same_event : (o : Option Event) (a b : Event) → o ≡ Some a → o ≡ Some b → a.at.time ≤ b.at.time
     same_event o a b ea eb = let e : a.at.time ≡ b.at.time = cc in omega arith
 
-pub raise_time : (es : List Event) (t low high m : ℕ) (a : Event) → IsRising moment_cmp moment_of es → IsTimeBetween es t low high → slice_get es m ≡ Some a → a.at.time < t → IsTimeBetween es t (m + 1) high
+pub raise_time : (es : List Event) (t low high m : ℕ) (a : Event) → IsRising moment_cmp moment_of es →
+    IsTimeBetween es t low high → slice_get es m ≡ Some a → a.at.time < t → IsTimeBetween es t (m + 1) high
 raise_time es t low high m a rising b at less = record {
   below = λ i e l ei. let h = later es i m e a rising (omega arith) ei at in omega arith;
   above = b.above;
 }
 
-pub sure : (es : List Event) (t place : ℕ) (a : Event) → IsRising moment_cmp moment_of es → 0 < place → slice_get es (place - 1) ≡ Some a → a.at.time < t → IsTimeBetween es t place (length es)
+pub sure : (es : List Event) (t place : ℕ) (a : Event) → IsRising moment_cmp moment_of es → 0 < place →
+    slice_get es (place - 1) ≡ Some a → a.at.time < t → IsTimeBetween es t place (length es)
 sure es t place a rising some at less =
     let e : place - 1 + 1 ≡ place = omega arith in
-    subst (λ n. IsTimeBetween es t n (length es)) e (raise_time es t 0 (length es) (place - 1) a rising (any_place es t) at less)
+    subst (λ n. IsTimeBetween es t n (length es)) e
+    (raise_time es t 0 (length es) (place - 1) a rising (any_place es t) at less)
 
-pub drop_time : (es : List Event) (t low high m : ℕ) (a : Event) → IsRising moment_cmp moment_of es → IsTimeBetween es t low high → slice_get es m ≡ Some a → t ≤ a.at.time → IsTimeBetween es t low m
+pub drop_time : (es : List Event) (t low high m : ℕ) (a : Event) → IsRising moment_cmp moment_of es →
+    IsTimeBetween es t low high → slice_get es m ≡ Some a → t ≤ a.at.time → IsTimeBetween es t low m
 drop_time es t low high m a rising b at le = record {
   below = b.below;
   above = λ i e l ei. let h = later es m i a e rising l at ei in omega arith;
 }
 
 -- the bounds have met at an event: there is none between t and its time
-pub none_until : (es : List Event) (t low high n : ℕ) (a : Event) → IsRising moment_cmp moment_of es → IsTimeBetween es t low high → high ≤ low → slice_get es low ≡ Some a → n ≤ a.at.time → HasNoEvents es t n
+pub none_until : (es : List Event) (t low high n : ℕ) (a : Event) → IsRising moment_cmp moment_of es →
+    IsTimeBetween es t low high → high ≤ low → slice_get es low ≡ Some a → n ≤ a.at.time → HasNoEvents es t n
 none_until es t low high n a rising b met at le i e ei from to = by_lt_or_le i low
     (λ l. let h = b.below i e l ei in omega arith)
     (λ ge. let h = later es low i a e rising ge at ei in omega arith)
 
-pub none_before : (es : List Event) (t low high : ℕ) (a : Event) → IsRising moment_cmp moment_of es → IsTimeBetween es t low high → high ≤ low → slice_get es low ≡ Some a → HasNoEvents es t a.at.time
+pub none_before : (es : List Event) (t low high : ℕ) (a : Event) → IsRising moment_cmp moment_of es →
+    IsTimeBetween es t low high → high ≤ low → slice_get es low ≡ Some a → HasNoEvents es t a.at.time
 none_before es t low high a rising b met at = none_until es t low high a.at.time a rising b met at (omega arith)
 
 -- that time is not before t
-pub above_at : (es : List Event) (t low high : ℕ) (a : Event) → IsTimeBetween es t low high → high ≤ low → slice_get es low ≡ Some a → t ≤ a.at.time
+pub above_at : (es : List Event) (t low high : ℕ) (a : Event) → IsTimeBetween es t low high → high ≤ low →
+    slice_get es low ≡ Some a → t ≤ a.at.time
 above_at es t low high a b met at = b.above low a met at
 
 -- or at the end
-pub none_at_all : (es : List Event) (t low high n : ℕ) → IsTimeBetween es t low high → length es ≤ low → HasNoEvents es t n
+pub none_at_all : (es : List Event) (t low high n : ℕ) → IsTimeBetween es t low high → length es ≤ low →
+    HasNoEvents es t n
 none_at_all es t low high n b met i e ei from to = by_lt_or_le i low
     (λ l. let h = b.below i e l ei in omega arith)
     (λ ge. none_there i e (omega arith) ei)
@@ -175,7 +202,8 @@ none_at_all es t low high n b met i e ei from to = by_lt_or_le i low
 pub steady : (s : Signals) (t n : ℕ) → HasNoEvents s.events t n → IsSteady s t n
 unfolding signal_at
 steady s t n none k x y from to odd =
-    let at : (m : ℕ) → t ≤ m → m < n → event_at s.events m x y ≡ None = λ m h l. event_none s.events (record { time = m; cell = record { x = x; y = y } }) (λ i e ei same.
+    let at : (m : ℕ) → t ≤ m → m < n → event_at s.events m x y ≡ None =
+    λ m h l. event_none s.events (record { time = m; cell = record { x = x; y = y } }) (λ i e ei same.
     let et : e.at.time ≡ m = ap (λ w. w.time) same in none i e ei (omega arith) (omega arith)) in
     ap (λ o. unwrap_or (held_at s.held x y) (unwrap_or o Zero)) (at k from to ∙ sym (at t (omega arith) (omega arith)))
 
@@ -184,4 +212,5 @@ less_steady s t n m l h k x y from to odd = h k x y from (omega arith) odd
 
 -- signals that are moved are steady where they were
 pub steady_moved : (s : Signals) (dx dy : ℤ) (t n : ℕ) → IsSteady (moved_signals dx dy s) t n → IsSteady s t n
-steady_moved s dx dy t n h k x y from to odd = sym (signals_moved dx dy s k x y) ∙ h k (x +ℤ dx) (y +ℤ dy) from to odd ∙ signals_moved dx dy s t x y
+steady_moved s dx dy t n h k x y from to odd =
+    sym (signals_moved dx dy s k x y) ∙ h k (x +ℤ dx) (y +ℤ dy) from to odd ∙ signals_moved dx dy s t x y

@@ -1,5 +1,6 @@
 -- Runs under all assignments that leap over times
-use Rattle.std.proofs.Common.{◌≡◌, ℕ, Bool, true, false, ◌||◌, ◌<◌, ◌≤◌, ◌+◌, ◌-◌, ◌%◌, refl, arith, sym, ◌∙◌, ap, subst, inl, inr, ◌⊎◌}
+use Rattle.std.proofs.Common.{◌≡◌, ℕ, Bool, true, false, ◌||◌, ◌<◌, ◌≤◌, ◌+◌, ◌-◌, ◌%◌, refl, arith, sym, ◌∙◌, ap}
+use Rattle.std.proofs.Common.{subst, inl, inr, ◌⊎◌}
 use Rattle.std.specs.Prelude.{ℤ}
 use Rattle.std.proofs.lemmas.Bool.{and_parts, cases_Bool, false≢true}
 use Rattle.bbm_rule.specs.Spans.{in_span}
@@ -21,10 +22,12 @@ use Rattle.local_run.proofs.StopScans.{none_between}
 
 -- the runs at two times are the same, under each assignment
 abbrev pub SameRuns : JobState → Values → ℕ → ℕ → Type 0
-SameRuns j vs k m = (a : ℕ) → a < assignments j → (x y : ℤ) → local_run j (valuation vs a) k x y ≡ local_run j (valuation vs a) m x y
+SameRuns j vs k m = (a : ℕ) → a < assignments j → (x y : ℤ) →
+    local_run j (valuation vs a) k x y ≡ local_run j (valuation vs a) m x y
 
 -- planes that show both show it
-same_runs : (j : JobState) (vs : Values) (k m : ℕ) (p : Planes) → IsJob j → Shows j vs k p → Shows j vs m p → SameRuns j vs k m
+same_runs : (j : JobState) (vs : Values) (k m : ℕ) (p : Planes) → IsJob j → Shows j vs k p → Shows j vs m p →
+    SameRuns j vs k m
 unfolding in_box
 same_runs j vs k m p is sk sm a la x y = elim (cases_Bool (in_box j.area x y)) [
   | inr out ↦ stays j (valuation vs a) k is x y out ∙ sym (stays j (valuation vs a) m is x y out)
@@ -33,7 +36,8 @@ same_runs j vs k m p is sk sm a la x y = elim (cases_Bool (in_box j.area x y)) [
       let px = span_at j.area.x j.area.w x h.0 in
       let py = span_at j.area.y j.area.h y h.1 in
       subst (λ (z : ℤ). local_run j (valuation vs a) k z y ≡ local_run j (valuation vs a) m z y) (sym px.is)
-      (subst (λ (z : ℤ). local_run j (valuation vs a) k (inner j.area.x px.number) z ≡ local_run j (valuation vs a) m (inner j.area.x px.number) z) (sym py.is)
+      (subst (λ (z : ℤ). local_run j (valuation vs a) k (inner j.area.x px.number) z
+      ≡ local_run j (valuation vs a) m (inner j.area.x px.number) z) (sym py.is)
       (sym (sk.cells a px.number py.number la px.below py.below) ∙ sm.cells a px.number py.number la px.below py.below))
 ]
 
@@ -44,12 +48,14 @@ shows_same j vs k m p shows same = record {
 }
 
 -- a run that did not change at the odd time o and at the even time after it
-stays_both : (j : JobState) (vs : Values) (o a : ℕ) → a < assignments j → SameRuns j vs (o + 1) o → SameRuns j vs (o + 2) (o + 1) → StaysUpTo j (valuation vs a) o (o + 2)
+stays_both : (j : JobState) (vs : Values) (o a : ℕ) → a < assignments j → SameRuns j vs (o + 1) o →
+    SameRuns j vs (o + 2) (o + 1) → StaysUpTo j (valuation vs a) o (o + 2)
 stays_both j vs o a la first second k x y from to = by_eq_or_not k o
     (λ e. ap (λ m. local_run j (valuation vs a) m x y) e)
     (λ n. by_eq_or_not k (o + 1)
     (λ e. ap (λ m. local_run j (valuation vs a) m x y) e ∙ first a la x y)
-    (λ n'. let e : k ≡ o + 2 = omega (arith, n, n', from, to) in ap (λ m. local_run j (valuation vs a) m x y) e ∙ second a la x y ∙ first a la x y))
+    (λ n'. let e : k ≡ o + 2 = omega (arith, n, n', from, to) in
+    ap (λ m. local_run j (valuation vs a) m x y) e ∙ second a la x y ∙ first a la x y))
 
 is_odd_of : (o : ℕ) → o % 2 ≡ 1 → IsOddOf o o
 is_odd_of o odd = record {
@@ -59,8 +65,8 @@ is_odd_of o odd = record {
 }
 
 -- ---- where a run has come to
--- No time before has a fault, the planes show time t, and the place is that of the next stop. Unless something changed, the time
--- before was the same
+-- No time before has a fault, the planes show time t, and the place is that of the next stop. Unless something changed,
+-- the time before was the same
 pub record InRun (j : JobState) (vs : Values) (t place : ℕ) (p : Planes) (changed : Bool) : Type 0 where
   pub shows : Shows j vs t p
   pub early : t ≤ j.steps
@@ -68,7 +74,8 @@ pub record InRun (j : JobState) (vs : Values) (t place : ℕ) (p : Planes) (chan
   pub free : AreFreeBefore j vs t
   pub still : changed ≡ false → (1 ≤ t) × SameRuns j vs t (t - 1)
 
-one_next : (j : JobState) (vs : Values) (t old place : ℕ) (p q : Planes) (before changed : Bool) → IsReady j vs → InRun j vs t old p before → t < j.steps → IsPassed j vs t place →
+one_next : (j : JobState) (vs : Values) (t old place : ℕ) (p q : Planes) (before changed : Bool) → IsReady j vs →
+    InRun j vs t old p before → t < j.steps → IsPassed j vs t place →
     Shows j vs (t + 1) q → (changed ≡ false → Shows j vs t q) → InRun j vs (t + 1) place q changed
 one_next j vs t old place p q before changed ready run l passed next same = record {
   shows = next;
@@ -79,22 +86,32 @@ one_next j vs t old place p q before changed ready run l passed next same = reco
 }
   where
     same_as_before : changed ≡ false → SameRuns j vs (t + 1) (t + 1 - 1)
-    same_as_before e = let back : t ≡ t + 1 - 1 = omega arith in subst (SameRuns j vs (t + 1)) back (same_runs j vs (t + 1) t q ready.job next (same e))
+    same_as_before e = let back : t ≡ t + 1 - 1 = omega arith in
+        subst (SameRuns j vs (t + 1)) back (same_runs j vs (t + 1) t q ready.job next (same e))
 
 -- a leap from the odd time o, where the two steps from it on changed nothing
-leap_next : (j : JobState) (vs : Values) (o n place : ℕ) (q : Planes) (changed : Bool) → o % 2 ≡ 1 → SameRuns j vs (o + 1) o → SameRuns j vs (o + 2) (o + 1) →
-    AreFreeBefore j vs (o + 2) → Shows j vs (o + 2) q → IsNextStop j (o + 2) place → IsNextStop j n place → IsSteady j.edges o n → IsSteady j.halos o n → o + 1 < n → n ≤ j.steps → InRun j vs n place q changed
+leap_next : (j : JobState) (vs : Values) (o n place : ℕ) (q : Planes) (changed : Bool) → o % 2 ≡ 1 →
+    SameRuns j vs (o + 1) o → SameRuns j vs (o + 2) (o + 1) →
+    AreFreeBefore j vs (o + 2) → Shows j vs (o + 2) q → IsNextStop j (o + 2) place → IsNextStop j n place →
+    IsSteady j.edges o n → IsSteady j.halos o n → o + 1 < n → n ≤ j.steps → InRun j vs n place q changed
 leap_next j vs o n place q changed odd first second free next low high edges halos l last = record {
-  shows = shows_same j vs n (o + 2) q next (λ a la x y. all a la n x y (omega arith) (omega arith) ∙ sym (both a la (o + 2) x y (omega arith) (omega arith)));
+  shows = shows_same j vs n (o + 2) q next
+      (λ a la x y. all a la n x y (omega arith) (omega arith)
+      ∙ sym (both a la (o + 2) x y (omega arith) (omega arith)));
   early = last;
   next = high;
   free = record {
     edges = λ k lk ok. by_lt_or_le k o
         (λ h. free.edges k (omega arith) ok)
-        (λ h x y a la f. free.edges o (omega arith) odd x y a la (f.0, no_new_faults j (valuation vs a) o o n k x y (is_odd_of o odd) (both a la) halos edges h lk f.1));
-    stops = λ k lk. by_lt_or_le k (o + 2) (λ h. free.stops k h) (λ h. none_between j vs (o + 2) n place k low high h lk);
+        (λ h x y a la f. free.edges o (omega arith) odd x y a la
+        (f.0, no_new_faults j (valuation vs a) o o n k x y (is_odd_of o odd) (both a la) halos edges h lk f.1));
+    stops = λ k lk. by_lt_or_le k (o + 2) (λ h. free.stops k h)
+        (λ h. none_between j vs (o + 2) n place k low high h lk);
   };
-  still = λ e. (omega arith, λ a la x y. all a la n x y (omega arith) (omega arith) ∙ sym (all a la (n - 1) x y (omega arith) (omega arith)));
+  still = λ e. (
+    omega arith,
+    λ a la x y. all a la n x y (omega arith) (omega arith) ∙ sym (all a la (n - 1) x y (omega arith) (omega arith)),
+  );
 }
   where
     both : (a : ℕ) → a < assignments j → StaysUpTo j (valuation vs a) o (o + 2)
@@ -107,10 +124,13 @@ none_or : (a b : Bool) → (a || b) ≡ false → (a ≡ false) × (b ≡ false)
 none_or true b e = absurd (false≢true (sym e))
 none_or false b e = (refl, e)
 
-pub next_run : (j : JobState) (vs : Values) (t n old place : ℕ) (p q : Planes) (before changed : Bool) → IsReady j vs → InRun j vs t old p before → t < j.steps → IsPassed j vs t place →
-    Shows j vs (t + 1) q → (changed ≡ false → Shows j vs t q) → (t < n) × (n ≤ j.steps) → (n ≡ t + 1) ⊎ IsLeap j t (before || changed) n → IsNextStop j n place → InRun j vs n place q changed
+pub next_run : (j : JobState) (vs : Values) (t n old place : ℕ) (p q : Planes) (before changed : Bool) → IsReady j vs →
+    InRun j vs t old p before → t < j.steps → IsPassed j vs t place →
+    Shows j vs (t + 1) q → (changed ≡ false → Shows j vs t q) → (t < n) × (n ≤ j.steps) →
+    (n ≡ t + 1) ⊎ IsLeap j t (before || changed) n → IsNextStop j n place → InRun j vs n place q changed
 next_run j vs t n old place p q before changed ready run l passed next same range way high = elim way [
-  | inl e ↦ subst (λ (m : ℕ). InRun j vs m place q changed) (sym e) (one_next j vs t old place p q before changed ready run l passed next same)
+  | inl e ↦ subst (λ (m : ℕ). InRun j vs m place q changed) (sym e)
+      (one_next j vs t old place p q before changed ready run l passed next same)
   | inr leap ↦
       let none = none_or before changed leap.unchanged in
       let even = leap.even in
@@ -120,7 +140,8 @@ next_run j vs t n old place p q before changed ready run l passed next same rang
       let c : t ≡ t - 1 + 1 = omega arith in
       leap_next j vs (t - 1) n place q changed (omega arith)
       (subst (λ (m : ℕ). SameRuns j vs m (t - 1)) c (run.still none.0).1)
-      (subst (λ (m : ℕ). SameRuns j vs m (t - 1 + 1)) b (subst (SameRuns j vs (t + 1)) (back ∙ c) (after.still none.1).1))
+      (subst (λ (m : ℕ). SameRuns j vs m (t - 1 + 1)) b
+      (subst (SameRuns j vs (t + 1)) (back ∙ c) (after.still none.1).1))
       (subst (AreFreeBefore j vs) b after.free)
       (subst (λ (m : ℕ). Shows j vs m q) b next)
       (subst (λ (m : ℕ). IsNextStop j m place) b passed.next) high

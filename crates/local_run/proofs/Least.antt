@@ -20,7 +20,8 @@ cell_total = then_total (on_total (λ (c : Cell). c.y) int_cmp_total) (on_total 
 
 fault_total : IsTotalOrder fault_cmp
 unfolding fault_cmp
-fault_total = then_total (on_total (λ (f : Fault). f.time) nat_cmp_total) (then_total (on_total (λ (f : Fault). kind_number f.kind) nat_cmp_total)
+fault_total = then_total (on_total (λ (f : Fault). f.time) nat_cmp_total)
+    (then_total (on_total (λ (f : Fault). kind_number f.kind) nat_cmp_total)
     (then_total (on_total (λ (f : Fault). f.cell) cell_total) (on_total (λ (f : Fault). f.assignment) nat_cmp_total)))
 
 kind_of : ℕ → Kind
@@ -41,7 +42,8 @@ abbrev key : Fault → Key
 key f = (f.time, (kind_number f.kind, ((f.cell.y, f.cell.x), f.assignment)))
 
 abbrev unkey : Key → Fault
-unkey k = record { time = k.0; kind = kind_of k.1.0; cell = record { x = k.1.1.0.1; y = k.1.1.0.0 }; assignment = k.1.1.1 }
+unkey k =
+    record { time = k.0; kind = kind_of k.1.0; cell = record { x = k.1.1.0.1; y = k.1.1.0.0 }; assignment = k.1.1.1 }
 
 unkey-key : (f : Fault) → unkey (key f) ≡ f
 unkey-key f = ap (λ k. record { time = f.time; kind = k; cell = f.cell; assignment = f.assignment }) (kind_back f.kind)
@@ -49,7 +51,10 @@ unkey-key f = ap (λ k. record { time = f.time; kind = k; cell = f.cell; assignm
 fault_exact : CmpEqualImpliesEq fault_cmp
 unfolding fault_cmp cell_cmp
 fault_exact a b e =
-    sym (unkey-key a) ∙ ap unkey (exact_pairs nat_cmp _ exact_unsigned (exact_pairs nat_cmp _ exact_unsigned (exact_pairs _ nat_cmp (exact_pairs int_cmp int_cmp exact_signed exact_signed) exact_unsigned)) (key a) (key b) e) ∙ unkey-key b
+    sym (unkey-key a) ∙ ap unkey (exact_pairs nat_cmp _ exact_unsigned
+    (exact_pairs nat_cmp _ exact_unsigned
+    (exact_pairs _ nat_cmp (exact_pairs int_cmp int_cmp exact_signed exact_signed) exact_unsigned)) (key a) (key b) e)
+    ∙ unkey-key b
 
 both_ways : (o p : Ordering) → o ≡ ordering_reverse p → o ≢ Greater → p ≢ Greater → o ≡ Equal
 both_ways Less Less e n m = absurd (elim_less e)
@@ -66,15 +71,18 @@ least_unique j None None f g = refl
 least_unique j None (Some b) f g = absurd (f b g.0)
 least_unique j (Some a) None f g = absurd (g a f.0)
 least_unique j (Some a) (Some b) f g =
-    ap Some (fault_exact a b (both_ways (fault_cmp a b) (fault_cmp b a) (fault_total.antisymm a b) (f.1 b g.0) (g.1 a f.0)))
+    ap Some (fault_exact a b (both_ways (fault_cmp a b) (fault_cmp b a) (fault_total.antisymm a b) (f.1 b g.0)
+    (g.1 a f.0)))
 
 keep_total : IsTotalOrder keep_cmp
 unfolding keep_cmp
-keep_total = then_total (on_total (λ (f : KeepFault). f.gate) nat_cmp_total) (on_total (λ (f : KeepFault). f.assignment) nat_cmp_total)
+keep_total = then_total (on_total (λ (f : KeepFault). f.gate) nat_cmp_total)
+    (on_total (λ (f : KeepFault). f.assignment) nat_cmp_total)
 
 keep_exact : CmpEqualImpliesEq keep_cmp
 unfolding keep_cmp
-keep_exact a b e = ap (λ (k : ℕ × ℕ). record { gate = k.0; assignment = k.1 }) (exact_pairs nat_cmp nat_cmp exact_unsigned exact_unsigned (a.gate, a.assignment) (b.gate, b.assignment) e)
+keep_exact a b e = ap (λ (k : ℕ × ℕ). record { gate = k.0; assignment = k.1 })
+    (exact_pairs nat_cmp nat_cmp exact_unsigned exact_unsigned (a.gate, a.assignment) (b.gate, b.assignment) e)
 
 pub least_keep_unique : LeastKeepFaultIsUnique
 least_keep_unique j None None f g = refl

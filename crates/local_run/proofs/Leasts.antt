@@ -1,5 +1,6 @@
 -- From the first fault of a time and a kind to the least fault of the job
-use Rattle.std.proofs.Common.{◌≡◌, ◌≢◌, ℕ, ◌+◌, true, false, length, ◌<◌, ◌≤◌, ◌%◌, refl, arith, sym, ◌∙◌, subst, Option, Some, None, Ordering, Less, Equal, Greater, ◌⊎◌, inl, inr}
+use Rattle.std.proofs.Common.{◌≡◌, ◌≢◌, ℕ, ◌+◌, true, false, length, ◌<◌, ◌≤◌, ◌%◌, refl, arith, sym, ◌∙◌, subst}
+use Rattle.std.proofs.Common.{Option, Some, None, Ordering, Less, Equal, Greater, ◌⊎◌, inl, inr}
 use Rattle.std.specs.Prelude.{ℤ, ◌<ℤ◌, ◌↔◌, MatchOption, IsTrue}
 use Rattle.std.proofs.Props.{props}
 use Rattle.std.proofs.lemmas.Option.{slice_get_within}
@@ -24,7 +25,8 @@ use Rattle.local_run.specs.declared.fault.Kind.{Kind}
 use Rattle.local_run.specs.declared.fault.Kind.TheVariants.{Edge, Stop, End}
 use Rattle.local_run.proofs.Decided.{decided}
 use Rattle.local_run.specs.Laws.{UndefinedHasNoFault}
-use Rattle.local_run.specs.Scans.{HasNoEdgeFault, IsReady, IsFirst, IsFirstAt, IsFound, IsFree, IsLeastBelow, is_defined, valuation}
+use Rattle.local_run.specs.Scans.{HasNoEdgeFault, IsReady, IsFirst, IsFirstAt, IsFound, IsFree, IsLeastBelow}
+use Rattle.local_run.specs.Scans.{is_defined, valuation}
 use Rattle.local_run.specs.declared.values.Values.{Values}
 
 nat_greater : (a b : ℕ) → nat_cmp a b ≡ Greater → b < a
@@ -51,10 +53,12 @@ then_equal Equal p h = (refl, h)
 then_equal Greater p h = absurd cc
 
 -- no fault comes before f
-pub not_greater : (f g : Fault) → ¬ (g.time < f.time) → (f.time ≡ g.time → ¬ (kind_number g.kind < kind_number f.kind)) →
+pub not_greater : (f g : Fault) → ¬ (g.time < f.time) →
+    (f.time ≡ g.time → ¬ (kind_number g.kind < kind_number f.kind)) →
     (f.time ≡ g.time → kind_number f.kind ≡ kind_number g.kind → ¬ (g.cell.y <ℤ f.cell.y)) →
     (f.time ≡ g.time → kind_number f.kind ≡ kind_number g.kind → f.cell.y ≡ g.cell.y → ¬ (g.cell.x <ℤ f.cell.x)) →
-    (f.time ≡ g.time → kind_number f.kind ≡ kind_number g.kind → f.cell.y ≡ g.cell.y → f.cell.x ≡ g.cell.x → ¬ (g.assignment < f.assignment)) → fault_cmp f g ≢ Greater
+    (f.time ≡ g.time → kind_number f.kind ≡ kind_number g.kind → f.cell.y ≡ g.cell.y → f.cell.x ≡ g.cell.x →
+    ¬ (g.assignment < f.assignment)) → fault_cmp f g ≢ Greater
 unfolding fault_cmp cell_cmp
 not_greater f g t k y x a h = elim (then_greater _ _ h) [
   | inl e ↦ t (nat_greater _ _ e)
@@ -84,13 +88,18 @@ kind_same End End e = refl
 
 -- where a used gate has no row there is no fault
 pub undefined_no_fault : UndefinedHasNoFault
-undefined_no_fault j f k ordered u h = ∥∥₁_elim h.shown (λ x y. absurd x) (λ s. undefined_has_none j.locals.netlist (bit f.assignment) s.values k ordered u s.local)
+undefined_no_fault j f k ordered u h =
+    ∥∥₁_elim h.shown (λ x y. absurd x)
+    (λ s. undefined_has_none j.locals.netlist (bit f.assignment) s.values k ordered u s.local)
 
-rows_at : (j : JobState) (vs : Values) (a : ℕ) → IsReady j vs → a < assignments j → AreRowsAt j.locals.netlist vs.words a vs.rows.values.items vs.rows.undefined.items vs.rows.defined.items
-rows_at j vs a ready small = ready.rows.each a (let count = ready.count in let room = ready.room in omega (arith, small, count, room))
+rows_at : (j : JobState) (vs : Values) (a : ℕ) → IsReady j vs → a < assignments j →
+    AreRowsAt j.locals.netlist vs.words a vs.rows.values.items vs.rows.undefined.items vs.rows.defined.items
+rows_at j vs a ready small = ready.rows.each a
+    (let count = ready.count in let room = ready.room in omega (arith, small, count, room))
 
 -- what a fault is under the values that are given
-pub under : (j : JobState) (vs : Values) (f : Fault) → IsReady j vs → IsFault j f → IsFound j vs f.assignment f.time f.kind f.cell.x f.cell.y
+pub under : (j : JobState) (vs : Values) (f : Fault) → IsReady j vs → IsFault j f →
+    IsFound j vs f.assignment f.time f.kind f.cell.x f.cell.y
 under j vs f ready h =
     let rows = rows_at j vs f.assignment ready h.in_range in
     elim (cases_Bool (is_defined vs f.assignment)) [
@@ -99,22 +108,28 @@ under j vs f ready h =
     ]
 
 -- and from them
-shown : (j : JobState) (vs : Values) (f : Fault) → IsReady j vs → f.assignment < assignments j → IsFound j vs f.assignment f.time f.kind f.cell.x f.cell.y → IsFault j f
-shown j vs f ready small h = (decided j f (valuation vs f.assignment) ready.job ready.ordered small ((rows_at j vs f.assignment ready small).local h.0)).1 h.1
+shown : (j : JobState) (vs : Values) (f : Fault) → IsReady j vs → f.assignment < assignments j →
+    IsFound j vs f.assignment f.time f.kind f.cell.x f.cell.y → IsFault j f
+shown j vs f ready small h = (decided j f (valuation vs f.assignment) ready.job ready.ordered small
+    ((rows_at j vs f.assignment ready small).local h.0)).1 h.1
 
 first_least : (j : JobState) (vs : Values) (f : Fault) → IsReady j vs → IsFirst j vs f.time f.kind f →
-    ((g : Fault) → IsFault j g → ¬ (g.time < f.time)) → ((g : Fault) → IsFault j g → f.time ≡ g.time → ¬ (kind_number g.kind < kind_number f.kind)) → IsLeastFault j (Some f)
+    ((g : Fault) → IsFault j g → ¬ (g.time < f.time)) →
+    ((g : Fault) → IsFault j g → f.time ≡ g.time → ¬ (kind_number g.kind < kind_number f.kind)) →
+    IsLeastFault j (Some f)
 first_least j vs f ready first earlier lower = (
   shown j vs f ready first.small first.fault,
   (λ g h. not_greater f g (earlier g h) (lower g h)
       (λ et ek l. first.row g.cell.x g.cell.y g.assignment h.in_range l (moved g h et ek))
-      (λ et ek ey l. first.column g.cell.x g.assignment h.in_range l (subst (λ (z : ℤ). IsFound j vs g.assignment f.time f.kind g.cell.x z) (sym ey) (moved g h et ek)))
+      (λ et ek ey l. first.column g.cell.x g.assignment h.in_range l
+      (subst (λ (z : ℤ). IsFound j vs g.assignment f.time f.kind g.cell.x z) (sym ey) (moved g h et ek)))
       (λ et ek ey ex l. first.assignment g.assignment l
       (subst (λ (z : ℤ). IsFound j vs g.assignment f.time f.kind z f.cell.y) (sym ex)
       (subst (λ (z : ℤ). IsFound j vs g.assignment f.time f.kind g.cell.x z) (sym ey) (moved g h et ek))))),
 )
   where
-    moved : (g : Fault) → IsFault j g → f.time ≡ g.time → kind_number f.kind ≡ kind_number g.kind → IsFound j vs g.assignment f.time f.kind g.cell.x g.cell.y
+    moved : (g : Fault) → IsFault j g → f.time ≡ g.time → kind_number f.kind ≡ kind_number g.kind →
+        IsFound j vs g.assignment f.time f.kind g.cell.x g.cell.y
     moved g h et ek =
         subst (λ (t : ℕ). IsFound j vs g.assignment t f.kind g.cell.x g.cell.y) (sym et)
         (subst (λ (k : Kind). IsFound j vs g.assignment g.time k g.cell.x g.cell.y) (sym (kind_same _ _ ek))
@@ -125,11 +140,14 @@ pub record AreFreeBefore (j : JobState) (vs : Values) (t : ℕ) : Type 0 where
   pub edges : (s : ℕ) → s < t → s % 2 ≡ 1 → IsFree j vs s Edge
   pub stops : (s : ℕ) → s < t → IsFree j vs s Stop
 
-pub free_more : (j : JobState) (vs : Values) (t : ℕ) → AreFreeBefore j vs t → HasNoEdgeFault j vs t → IsFree j vs t Stop → AreFreeBefore j vs (t + 1)
+pub free_more : (j : JobState) (vs : Values) (t : ℕ) → AreFreeBefore j vs t → HasNoEdgeFault j vs t →
+    IsFree j vs t Stop → AreFreeBefore j vs (t + 1)
 free_more j vs t free edges stops = record {
   edges = λ s l odd. by_lt_or_le s t (λ h. free.edges s h odd)
-      (λ h. let e : t ≡ s = omega (arith, l, h) in subst (λ (n : ℕ). IsFree j vs n Edge) e (edges (subst (λ (n : ℕ). n % 2 ≡ 1) (sym e) odd)));
-  stops = λ s l. by_lt_or_le s t (λ h. free.stops s h) (λ h. let e : t ≡ s = omega (arith, l, h) in subst (λ (n : ℕ). IsFree j vs n Stop) e stops);
+      (λ h. let e : t ≡ s = omega (arith, l, h) in
+      subst (λ (n : ℕ). IsFree j vs n Edge) e (edges (subst (λ (n : ℕ). n % 2 ≡ 1) (sym e) odd)));
+  stops = λ s l. by_lt_or_le s t (λ h. free.stops s h)
+      (λ h. let e : t ≡ s = omega (arith, l, h) in subst (λ (n : ℕ). IsFree j vs n Stop) e stops);
 }
 
 -- then there is no fault before t, where the last time is not before
@@ -139,26 +157,35 @@ before_free j vs t early free s Edge x y a small d l = free.edges s l d.1.odd x 
 before_free j vs t early free s Stop x y a small d l = free.stops s l x y a small d
 before_free j vs t early free s End x y a small d l = let e = d.1.last in omega arith
 
-none_before : (j : JobState) (vs : Values) (t : ℕ) → IsReady j vs → t ≤ j.steps → AreFreeBefore j vs t → (f : Fault) → IsFault j f → ¬ (f.time < t)
-none_before j vs t ready early free f h l = before_free j vs t early free f.time f.kind f.cell.x f.cell.y f.assignment h.in_range (under j vs f ready h) l
+none_before : (j : JobState) (vs : Values) (t : ℕ) → IsReady j vs → t ≤ j.steps → AreFreeBefore j vs t → (f : Fault) →
+    IsFault j f → ¬ (f.time < t)
+none_before j vs t ready early free f h l =
+    before_free j vs t early free f.time f.kind f.cell.x f.cell.y f.assignment h.in_range (under j vs f ready h) l
 
-is_first : (j : JobState) (vs : Values) (t : ℕ) (k : Kind) (f : Fault) → IsFirst j vs t k f → IsFirst j vs f.time f.kind f
+is_first : (j : JobState) (vs : Values) (t : ℕ) (k : Kind) (f : Fault) → IsFirst j vs t k f →
+    IsFirst j vs f.time f.kind f
 is_first j vs t k f first =
-    subst (λ (t' : ℕ). IsFirst j vs t' f.kind f) (sym first.at_time) (subst (λ (k' : Kind). IsFirst j vs t k' f) (sym first.same_kind) first)
+    subst (λ (t' : ℕ). IsFirst j vs t' f.kind f) (sym first.at_time)
+    (subst (λ (k' : Kind). IsFirst j vs t k' f) (sym first.same_kind) first)
 
 -- from the first fault of a kind at a time, where the kinds before it have no fault at the time
-least_at : (j : JobState) (vs : Values) (t : ℕ) (k : Kind) (f : Fault) → IsReady j vs → t ≤ j.steps → AreFreeBefore j vs t → IsFirst j vs t k f →
-    ((l : Kind) (x y : ℤ) (a : ℕ) → a < assignments j → IsFound j vs a t l x y → ¬ (kind_number l < kind_number k)) → IsLeastFault j (Some f)
+least_at : (j : JobState) (vs : Values) (t : ℕ) (k : Kind) (f : Fault) → IsReady j vs → t ≤ j.steps →
+    AreFreeBefore j vs t → IsFirst j vs t k f →
+    ((l : Kind) (x y : ℤ) (a : ℕ) → a < assignments j → IsFound j vs a t l x y → ¬ (kind_number l < kind_number k)) →
+    IsLeastFault j (Some f)
 least_at j vs t k f ready early free first lower = first_least j vs f ready (is_first j vs t k f first)
     (λ g h l. none_before j vs t ready early free g h (subst (λ (n : ℕ). g.time < n) first.at_time l))
     (λ g h e l. lower g.kind g.cell.x g.cell.y g.assignment h.in_range
-    (subst (λ (n : ℕ). IsFound j vs g.assignment n g.kind g.cell.x g.cell.y) (sym e ∙ first.at_time) (under j vs g ready h))
+    (subst (λ (n : ℕ). IsFound j vs g.assignment n g.kind g.cell.x g.cell.y) (sym e ∙ first.at_time)
+    (under j vs g ready h))
     (subst (λ (q : Kind). kind_number g.kind < kind_number q) first.same_kind l))
 
-none_below_edge : (j : JobState) (vs : Values) (t : ℕ) (l : Kind) (x y : ℤ) (a : ℕ) → a < assignments j → IsFound j vs a t l x y → ¬ (kind_number l < 0)
+none_below_edge : (j : JobState) (vs : Values) (t : ℕ) (l : Kind) (x y : ℤ) (a : ℕ) → a < assignments j →
+    IsFound j vs a t l x y → ¬ (kind_number l < 0)
 none_below_edge j vs t l x y a small d h = omega (arith, h)
 
-none_below_stop : (j : JobState) (vs : Values) (t : ℕ) → HasNoEdgeFault j vs t → (l : Kind) (x y : ℤ) (a : ℕ) → a < assignments j → IsFound j vs a t l x y → ¬ (kind_number l < 1)
+none_below_stop : (j : JobState) (vs : Values) (t : ℕ) → HasNoEdgeFault j vs t → (l : Kind) (x y : ℤ) (a : ℕ) →
+    a < assignments j → IsFound j vs a t l x y → ¬ (kind_number l < 1)
 none_below_stop j vs t edges Edge x y a small d h = edges d.1.odd x y a small d
 none_below_stop j vs t edges Stop x y a small d h = omega (arith, h)
 none_below_stop j vs t edges End x y a small d h = omega (arith, h)
@@ -167,56 +194,79 @@ none_below_stop j vs t edges End x y a small d h = omega (arith, h)
 no_last_edge : (j : JobState) (vs : Values) → HasNoEdgeFault j vs j.steps
 no_last_edge j vs odd x y a small d = let e = d.1.early in omega (arith, e)
 
-none_below_end : (j : JobState) (vs : Values) → IsFree j vs j.steps Stop → (l : Kind) (x y : ℤ) (a : ℕ) → a < assignments j → IsFound j vs a j.steps l x y → ¬ (kind_number l < 2)
+none_below_end : (j : JobState) (vs : Values) → IsFree j vs j.steps Stop → (l : Kind) (x y : ℤ) (a : ℕ) →
+    a < assignments j → IsFound j vs a j.steps l x y → ¬ (kind_number l < 2)
 none_below_end j vs stops Edge x y a small d h = no_last_edge j vs d.1.odd x y a small d
 none_below_end j vs stops Stop x y a small d h = stops x y a small d
 none_below_end j vs stops End x y a small d h = omega (arith, h)
 
 -- the first fault at a time before the last
-pub early_least : (j : JobState) (vs : Values) (t : ℕ) (f : Fault) → IsReady j vs → t < j.steps → AreFreeBefore j vs t → IsFirstAt j vs t f → IsLeastFault j (Some f)
-early_least j vs t f ready early free (inl edge) = least_at j vs t Edge f ready (omega (arith, early)) free edge.1 (none_below_edge j vs t)
-early_least j vs t f ready early free (inr stop) = least_at j vs t Stop f ready (omega (arith, early)) free stop.1 (none_below_stop j vs t stop.0)
+pub early_least : (j : JobState) (vs : Values) (t : ℕ) (f : Fault) → IsReady j vs → t < j.steps → AreFreeBefore j vs t →
+    IsFirstAt j vs t f → IsLeastFault j (Some f)
+early_least j vs t f ready early free (inl edge) =
+    least_at j vs t Edge f ready (omega (arith, early)) free edge.1 (none_below_edge j vs t)
+early_least j vs t f ready early free (inr stop) =
+    least_at j vs t Stop f ready (omega (arith, early)) free stop.1 (none_below_stop j vs t stop.0)
 
 -- the first fault of a stop at the last time
-pub last_stop_least : (j : JobState) (vs : Values) (f : Fault) → IsReady j vs → AreFreeBefore j vs j.steps → IsFirst j vs j.steps Stop f → IsLeastFault j (Some f)
-last_stop_least j vs f ready free first = least_at j vs j.steps Stop f ready (omega arith) free first (none_below_stop j vs j.steps (no_last_edge j vs))
+pub last_stop_least : (j : JobState) (vs : Values) (f : Fault) → IsReady j vs → AreFreeBefore j vs j.steps →
+    IsFirst j vs j.steps Stop f → IsLeastFault j (Some f)
+last_stop_least j vs f ready free first =
+    least_at j vs j.steps Stop f ready (omega arith) free first (none_below_stop j vs j.steps (no_last_edge j vs))
 
 -- no fault at all
-none_left : (j : JobState) (vs : Values) → AreFreeBefore j vs j.steps → IsFree j vs j.steps Stop → IsFree j vs j.steps End → All (λ s. s.at.time ≤ j.steps) j.stops →
+none_left : (j : JobState) (vs : Values) → AreFreeBefore j vs j.steps → IsFree j vs j.steps Stop →
+    IsFree j vs j.steps End → All (λ s. s.at.time ≤ j.steps) j.stops →
     (t : ℕ) (k : Kind) (x y : ℤ) (a : ℕ) → a < assignments j → ¬ IsFound j vs a t k x y
 none_left j vs free stops ends timed t Edge x y a small d = free.edges t d.1.early d.1.odd x y a small d
 none_left j vs free stops ends timed t Stop x y a small d =
     by_lt_or_le t j.steps (λ h. free.stops t h x y a small d)
     (λ h.
-    let here : d.1.stop.at.time ≤ j.steps = subst (λ (s : listed.Stop). s.at.time ≤ j.steps) d.1.is_listed.2 (timed d.1.is_listed.0 d.1.stop d.1.is_listed.1) in
+    let here : d.1.stop.at.time ≤ j.steps =
+    subst (λ (s : listed.Stop). s.at.time ≤ j.steps) d.1.is_listed.2 (timed d.1.is_listed.0 d.1.stop d.1.is_listed.1) in
     let time = d.1.time in
     let e : t ≡ j.steps = omega (arith, here, time, h) in
     stops x y a small (subst (λ (n : ℕ). IsFound j vs a n Stop x y) e d))
-none_left j vs free stops ends timed t End x y a small d = ends x y a small (subst (λ (n : ℕ). IsFound j vs a n End x y) d.1.last d)
+none_left j vs free stops ends timed t End x y a small d =
+    ends x y a small (subst (λ (n : ℕ). IsFound j vs a n End x y) d.1.last d)
 
 -- the first fault of a demand, or none
-pub end_least_fault : (j : JobState) (vs : Values) (o : Option Fault) → IsReady j vs → AreFreeBefore j vs j.steps → IsFree j vs j.steps Stop →
+pub end_least_fault : (j : JobState) (vs : Values) (o : Option Fault) → IsReady j vs → AreFreeBefore j vs j.steps →
+    IsFree j vs j.steps Stop →
     MatchOption o (IsFree j vs j.steps End) (λ f. IsFirst j vs j.steps End f) → IsLeastFault j o
-end_least_fault j vs (Some f) ready free stops first = least_at j vs j.steps End f ready (omega arith) free first (none_below_end j vs stops)
+end_least_fault j vs (Some f) ready free stops first =
+    least_at j vs j.steps End f ready (omega arith) free first (none_below_end j vs stops)
 end_least_fault j vs None ready free stops ends = λ g h.
-    none_left j vs free stops ends (λ k s l. (ready.job.stops k s l).time) g.time g.kind g.cell.x g.cell.y g.assignment h.in_range (under j vs g ready h)
+    none_left j vs free stops ends
+    (λ k s l. (ready.job.stops k s l).time) g.time g.kind g.cell.x g.cell.y g.assignment h.in_range
+    (under j vs g ready h)
 
 -- where each assignment lacks the row of a used gate, there is no fault
-pub none_undefined : (j : JobState) (vs : Values) → IsReady j vs → ((a : ℕ) → a < vs.count → is_defined vs a ≡ false) → IsLeastFault j None
+pub none_undefined : (j : JobState) (vs : Values) → IsReady j vs → ((a : ℕ) → a < vs.count → is_defined vs a ≡ false) →
+    IsLeastFault j None
 none_undefined j vs ready none f h =
-    true≢false (sym (under j vs f ready h).0 ∙ none f.assignment (let count = ready.count in let small = h.in_range in omega (arith, count, small)))
+    true≢false (sym (under j vs f ready h).0
+    ∙ none f.assignment (let count = ready.count in let small = h.in_range in omega (arith, count, small)))
 
 -- ---- keep faults
 -- a gate's row tells its keep faults
-keep_tells : (j : JobState) (vs : Values) (a gate : ℕ) → IsReady j vs → a < assignments j → gate < length j.locals.netlist.gates → IsTrue (is_among j.kept gate) →
+keep_tells : (j : JobState) (vs : Values) (a gate : ℕ) → IsReady j vs → a < assignments j →
+    gate < length j.locals.netlist.gates → IsTrue (is_among j.kept gate) →
     value_of vs.words vs.rows.undefined.items a gate ≡ true ↔ IsKeepFault j (record { gate = gate; assignment = a })
 keep_tells j vs a gate ready small below kept = (
-  (λ e. record { in_range = small; is_kept = kept; shown = ∣ ((rows_at j vs a ready small).undefined gate below).0 e ∣₁ }),
+  (λ e.
+      record {
+        in_range = small;
+        is_kept = kept;
+        shown = ∣ ((rows_at j vs a ready small).undefined gate below).0 e ∣₁;
+      }),
   (λ h. ∥∥₁_elim h.shown (Prim.hlevel props) (λ u. ((rows_at j vs a ready small).undefined gate below).1 u)),
 )
 
 keep_below : (j : JobState) (f : KeepFault) → IsKeepFault j f → f.gate < length j.locals.netlist.gates
-keep_below j f h = ∥∥₁_elim h.shown (Prim.hlevel props) (λ (u : IsUndefined j.locals.netlist (bit f.assignment) f.gate). slice_get_within j.locals.netlist.gates f.gate u.gate u.numbered)
+keep_below j f h = ∥∥₁_elim h.shown (Prim.hlevel props)
+    (λ (u : IsUndefined j.locals.netlist (bit f.assignment) f.gate).
+    slice_get_within j.locals.netlist.gates f.gate u.gate u.numbered)
 
 -- no gate before this one has a keep fault
 abbrev pub IsKeepFree : JobState → ℕ → Type 0
@@ -225,7 +275,8 @@ IsKeepFree j gates = (f : KeepFault) → f.gate < gates → ¬ IsKeepFault j f
 abbrev pub IsLeastRow : JobState → Values → ℕ → Option ℕ → Type 0
 IsLeastRow j vs gate r = IsLeastBelow vs.count (λ a. value_of vs.words vs.rows.undefined.items a gate ≡ true) r
 
-pub keep_found : (j : JobState) (vs : Values) (gate a : ℕ) → IsReady j vs → gate < length j.locals.netlist.gates → IsTrue (is_among j.kept gate) → IsKeepFree j gate → IsLeastRow j vs gate (Some a) →
+pub keep_found : (j : JobState) (vs : Values) (gate a : ℕ) → IsReady j vs → gate < length j.locals.netlist.gates →
+    IsTrue (is_among j.kept gate) → IsKeepFree j gate → IsLeastRow j vs gate (Some a) →
     IsLeastKeepFault j (Some (record { gate = gate; assignment = a }))
 unfolding keep_cmp
 keep_found j vs gate a ready below kept free least =
@@ -235,21 +286,27 @@ keep_found j vs gate a ready below kept free least =
         | inl e ↦ free g (nat_greater gate g.gate e) h
         | inr p ↦
             let same : gate ≡ g.gate = nat_equal gate g.gate p.0 in
-            let moved : IsKeepFault j (record { gate = gate; assignment = g.assignment }) = subst (λ n. IsKeepFault j (record { gate = n; assignment = g.assignment })) (sym same) h in
-            least.2 g.assignment (nat_greater a g.assignment p.1) ((keep_tells j vs g.assignment gate ready h.in_range below kept).1 moved)
+            let moved : IsKeepFault j (record { gate = gate; assignment = g.assignment }) =
+            subst (λ n. IsKeepFault j (record { gate = n; assignment = g.assignment })) (sym same) h in
+            least.2 g.assignment (nat_greater a g.assignment p.1)
+            ((keep_tells j vs g.assignment gate ready h.in_range below kept).1 moved)
       ]),
     )
 
-pub keep_free_more : (j : JobState) (vs : Values) (gate : ℕ) → IsReady j vs → gate < length j.locals.netlist.gates → IsKeepFree j gate → (IsTrue (is_among j.kept gate) → IsLeastRow j vs gate None) →
+pub keep_free_more : (j : JobState) (vs : Values) (gate : ℕ) → IsReady j vs → gate < length j.locals.netlist.gates →
+    IsKeepFree j gate → (IsTrue (is_among j.kept gate) → IsLeastRow j vs gate None) →
     IsKeepFree j (gate + 1)
 keep_free_more j vs gate ready below free none f h is = elim (cases_lt f.gate gate) [
   | inl less ↦ free f less is
   | inr large ↦
       let same : f.gate ≡ gate = omega arith in
-      let moved : IsKeepFault j (record { gate = gate; assignment = f.assignment }) = subst (λ n. IsKeepFault j (record { gate = n; assignment = f.assignment })) same is in
+      let moved : IsKeepFault j (record { gate = gate; assignment = f.assignment }) =
+      subst (λ n. IsKeepFault j (record { gate = n; assignment = f.assignment })) same is in
       let kept : IsTrue (is_among j.kept gate) = moved.is_kept in
-      none kept f.assignment (let count = ready.count in let small = is.in_range in omega (arith, count, small)) ((keep_tells j vs f.assignment gate ready is.in_range below kept).1 moved)
+      none kept f.assignment (let count = ready.count in let small = is.in_range in omega (arith, count, small))
+      ((keep_tells j vs f.assignment gate ready is.in_range below kept).1 moved)
 ]
 
-pub keep_none : (j : JobState) (gates : ℕ) → length j.locals.netlist.gates ≤ gates → IsKeepFree j gates → IsLeastKeepFault j None
+pub keep_none : (j : JobState) (gates : ℕ) → length j.locals.netlist.gates ≤ gates → IsKeepFree j gates →
+    IsLeastKeepFault j None
 keep_none j gates all free f h = free f (let below = keep_below j f h in omega (arith, below, all)) h

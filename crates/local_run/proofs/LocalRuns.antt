@@ -1,5 +1,6 @@
 -- The run of a module: its two steps, that it stays in its box, and which wires it reads
-use Rattle.std.proofs.Common.{◌≡◌, ℕ, zero, suc, ◌<◌, ◌%◌, ◌&&◌, ◌||◌, refl, sym, ap, ap₂, ◌∙◌, inl, inr, ◌⊎◌, arith, eq-eqb, ne_eqb}
+use Rattle.std.proofs.Common.{◌≡◌, ℕ, zero, suc, ◌<◌, ◌%◌, ◌&&◌, ◌||◌, refl, sym, ap, ap₂, ◌∙◌, inl, inr, ◌⊎◌, arith}
+use Rattle.std.proofs.Common.{eq-eqb, ne_eqb}
 use Rattle.std.specs.Prelude.{ℤ}
 use Rattle.std.proofs.lemmas.Bool.{cases_eq, cond-true, cond-false}
 use Rattle.bbm_rule.specs.Plane.{State, step}
@@ -19,11 +20,13 @@ use Rattle.local_run.proofs.OwnWires.{start_below, halo_below, start_outside}
 pub even_or_odd : (t : ℕ) → (t % 2 ≡ 0) ⊎ (t % 2 ≡ 1)
 even_or_odd t = elim (cases_eq (t % 2) 0) [ inl e ↦ inl e | inr n ↦ inr (omega arith) ]
 
-pub local_even : (j : JobState) (u : Valuation) (t : ℕ) (s : State) (x y : ℤ) → t % 2 ≡ 0 → local_step j u t s x y ≡ step t s x y
+pub local_even : (j : JobState) (u : Valuation) (t : ℕ) (s : State) (x y : ℤ) → t % 2 ≡ 0 →
+    local_step j u t s x y ≡ step t s x y
 unfolding local_step
 local_even j u t s x y e = cond-true _ _ _ (eq-eqb (t % 2) 0 e)
 
-pub local_odd : (j : JobState) (u : Valuation) (t : ℕ) (s : State) (x y : ℤ) → t % 2 ≡ 1 → local_step j u t s x y ≡ (in_box j.area x y && step t (with_halo j u t s) x y)
+pub local_odd : (j : JobState) (u : Valuation) (t : ℕ) (s : State) (x y : ℤ) → t % 2 ≡ 1 →
+    local_step j u t s x y ≡ (in_box j.area x y && step t (with_halo j u t s) x y)
 unfolding local_step
 local_odd j u t s x y e = cond-false _ _ _ (ne_eqb (t % 2) 0 (λ h. omega arith))
 
@@ -50,7 +53,8 @@ live_same n u u' (Wire w) same b = same w b
 pub step_all_same : (t : ℕ) (s s' : State) (x y : ℤ) → ((x' y' : ℤ) → s x' y' ≡ s' x' y') → step t s x y ≡ step t s' x y
 step_all_same t s s' x y same = step_same t s s' x y (same _ _) (same _ _) (same _ _) (same _ _)
 
-with_halo_same : (j : JobState) (n : ℕ) (u u' : Valuation) (t : ℕ) (s s' : State) (x y : ℤ) → AgreeBelow n u u' → IsBelow n (signal_at j.halos t x y) →
+with_halo_same : (j : JobState) (n : ℕ) (u u' : Valuation) (t : ℕ) (s s' : State) (x y : ℤ) → AgreeBelow n u u' →
+    IsBelow n (signal_at j.halos t x y) →
     s x y ≡ s' x y → with_halo j u t s x y ≡ with_halo j u' t s' x y
 unfolding with_halo
 with_halo_same j n u u' t s s' x y same b e = ap₂ (λ p q. p || (in_halo j.area x y && q)) e (live_same n u u' _ same b)
@@ -64,6 +68,8 @@ run_same j u u' (suc t) own same x y =
     elim (even_or_odd t) [
       | inl e ↦ local_even j u t _ x y e ∙ step_all_same t _ _ x y before ∙ sym (local_even j u' t _ x y e)
       | inr o ↦ local_odd j u t _ x y o
-          ∙ ap (λ p. in_box j.area x y && p) (step_all_same t _ _ x y (λ x' y'. with_halo_same j (wires j.locals.netlist) u u' t _ _ x' y' same (halo_below j t x' y' own) (before x' y')))
+          ∙ ap (λ p. in_box j.area x y && p)
+          (step_all_same t _ _ x y (λ x' y'.
+          with_halo_same j (wires j.locals.netlist) u u' t _ _ x' y' same (halo_below j t x' y' own) (before x' y')))
           ∙ sym (local_odd j u' t _ x y o)
     ]

@@ -1,5 +1,6 @@
 -- Jobs of the same shape have the same faults but for where they lie
-use Rattle.std.proofs.Common.{◌≡◌, ℕ, zero, suc, ◌+◌, ◌-◌, ◌*◌, ◌<◌, ◌≤◌, ◌%◌, ◌^◌, ◌&&◌, ◌||◌, Bool, true, false, List, [], ◌∷◌, map, length, get_or, Some, None, refl, sym, ap, ap₂, subst, ◌∙◌, arith, inl, inr}
+use Rattle.std.proofs.Common.{◌≡◌, ℕ, zero, suc, ◌+◌, ◌-◌, ◌*◌, ◌<◌, ◌≤◌, ◌%◌, ◌^◌, ◌&&◌, ◌||◌, Bool, true, false, List}
+use Rattle.std.proofs.Common.{[], ◌∷◌, map, length, get_or, Some, None, refl, sym, ap, ap₂, subst, ◌∙◌, arith, inl, inr}
 use Rattle.std.specs.Prelude.{ℤ, pos, ◌+ℤ◌, ◌-ℤ◌, Contains, if◌then◌else◌, slice_get, unwrap_or, unsigned_abs}
 use Rattle.std.specs.Ordering.{nat_cmp, ordering_then}
 use Rattle.std.proofs.Props.{props}
@@ -27,7 +28,8 @@ use Rattle.module_job.specs.declared.job.Demand.TheVariants as Demanded
 use Rattle.module_job.specs.declared.job.Stop as listed
 use Rattle.module_job.proofs.ShapeParts.{back_forth, stops_back}
 use Rattle.local_run.specs.Faults.{HasFault, IsFault, IsFaultUnder, IsKeepFault}
-use Rattle.local_run.specs.Moves.{FaultsMoveAlong, LeastFaultMovesAlong, LeastKeepFaultStays, columns_between, fault_on, rows_between}
+use Rattle.local_run.specs.Moves.{FaultsMoveAlong, LeastFaultMovesAlong, LeastKeepFaultStays, columns_between, fault_on}
+use Rattle.local_run.specs.Moves.{rows_between}
 use Rattle.local_run.specs.Order.{fault_cmp, kind_number}
 use Rattle.local_run.specs.Runs.{local_run, with_halo}
 use Rattle.local_run.specs.declared.fault.Fault.{Fault}
@@ -49,19 +51,23 @@ record AreAlike (dx dy : ℤ) (j k : JobState) : Type 0 where
   halos : (t : ℕ) (x y : ℤ) → signal_at k.halos t (x +ℤ dx) (y +ℤ dy) ≡ signal_at j.halos t x y
   stops : k.stops ≡ map (moved_stop dx dy) j.stops
 
-halo_alike : (dx dy : ℤ) (j k : JobState) → AreAlike dx dy j k → (u : Valuation) (t : ℕ) (s s' : State) → IsMoved dx dy s s' → IsMoved dx dy (with_halo j u t s) (with_halo k u t s')
+halo_alike : (dx dy : ℤ) (j k : JobState) → AreAlike dx dy j k → (u : Valuation) (t : ℕ) (s s' : State) →
+    IsMoved dx dy s s' → IsMoved dx dy (with_halo j u t s) (with_halo k u t s')
 unfolding with_halo
 halo_alike dx dy j k a u t s s' m x y = λ i. m x y i || (a.area.halo x y i && is_live u (a.halos t x y i))
 
-run_alike : (dx dy : ℤ) (j k : JobState) → AreAlike dx dy j k → (u : Valuation) (t : ℕ) → IsMoved dx dy (local_run j u t) (local_run k u t)
+run_alike : (dx dy : ℤ) (j k : JobState) → AreAlike dx dy j k → (u : Valuation) (t : ℕ) →
+    IsMoved dx dy (local_run j u t) (local_run k u t)
 unfolding local_run
 run_alike dx dy j k a u zero x y = ap (is_live u) (a.start x y)
 run_alike dx dy j k a u (suc t) x y =
     let before : IsMoved dx dy (local_run j u t) (local_run k u t) = run_alike dx dy j k a u t in
     elim (even_or_odd t) [
-      | inl e ↦ local_even k u t _ (x +ℤ dx) (y +ℤ dy) e ∙ step_moved t dx dy _ _ a.even_x a.even_y before x y ∙ sym (local_even j u t _ x y e)
+      | inl e ↦ local_even k u t _ (x +ℤ dx) (y +ℤ dy) e ∙ step_moved t dx dy _ _ a.even_x a.even_y before x y
+          ∙ sym (local_even j u t _ x y e)
       | inr o ↦ local_odd k u t _ (x +ℤ dx) (y +ℤ dy) o
-          ∙ ap₂ (λ p q. p && q) (a.area.box x y) (step_moved t dx dy _ _ a.even_x a.even_y (halo_alike dx dy j k a u t _ _ before) x y)
+          ∙ ap₂ (λ p q. p && q) (a.area.box x y)
+          (step_moved t dx dy _ _ a.even_x a.even_y (halo_alike dx dy j k a u t _ _ before) x y)
           ∙ sym (local_odd j u t _ x y o)
     ]
 
@@ -78,7 +84,8 @@ contains_mapped f xs x h = (h.0, here xs h.0 h.1, there xs h.0 h.1 ∙ ap f h.2)
     there (z ∷ zs) zero lt = refl
     there (z ∷ zs) (suc k) lt = there zs k (omega (arith, lt))
 
-under_alike : (dx dy : ℤ) (j k : JobState) → AreAlike dx dy j k → (u : Valuation) (t : ℕ) (kind : Kind) (x y : ℤ) → IsFaultUnder j u t kind x y → IsFaultUnder k u t kind (x +ℤ dx) (y +ℤ dy)
+under_alike : (dx dy : ℤ) (j k : JobState) → AreAlike dx dy j k → (u : Valuation) (t : ℕ) (kind : Kind) (x y : ℤ) →
+    IsFaultUnder j u t kind x y → IsFaultUnder k u t kind (x +ℤ dx) (y +ℤ dy)
 under_alike dx dy j k a u t Edge x y f = record {
   odd = f.odd;
   early = subst (λ s. t < s) a.steps f.early;
@@ -87,7 +94,8 @@ under_alike dx dy j k a u t Edge x y f = record {
 }
 under_alike dx dy j k a u t Stop x y f = record {
   stop = moved_stop dx dy f.stop;
-  is_listed = subst (λ (l : List listed.Stop). Contains l (moved_stop dx dy f.stop)) (sym a.stops) (contains_mapped (moved_stop dx dy) j.stops f.stop f.is_listed);
+  is_listed = subst (λ (l : List listed.Stop). Contains l (moved_stop dx dy f.stop)) (sym a.stops)
+      (contains_mapped (moved_stop dx dy) j.stops f.stop f.is_listed);
   time = f.time;
   column = ap (λ z. z +ℤ dx) f.column;
   row = ap (λ z. z +ℤ dy) f.row;
@@ -96,13 +104,15 @@ under_alike dx dy j k a u t Stop x y f = record {
 under_alike dx dy j k a u t End x y f = record {
   last = f.last ∙ a.steps;
   inside = a.area.box x y ∙ f.inside;
-  differs = λ m. f.differs (subst (λ d. Meets u d (local_run j u t x y)) (a.demand x y) (subst (Meets u (job_demand k (x +ℤ dx) (y +ℤ dy))) (run_alike dx dy j k a u t x y) m));
+  differs = λ m. f.differs (subst (λ d. Meets u d (local_run j u t x y)) (a.demand x y)
+      (subst (Meets u (job_demand k (x +ℤ dx) (y +ℤ dy))) (run_alike dx dy j k a u t x y) m));
 }
 
 moved_fault : ℤ → ℤ → Fault → Fault
 moved_fault dx dy f = record { time = f.time; kind = f.kind; cell = moved_cell dx dy f.cell; assignment = f.assignment }
 
-fault_alike : (dx dy : ℤ) (j k : JobState) → AreAlike dx dy j k → (f : Fault) → IsFault j f → IsFault k (moved_fault dx dy f)
+fault_alike : (dx dy : ℤ) (j k : JobState) → AreAlike dx dy j k → (f : Fault) → IsFault j f →
+    IsFault k (moved_fault dx dy f)
 unfolding moved_fault
 fault_alike dx dy j k a f is = record {
   in_range = subst (λ (n : Netlist). f.assignment < 2 ^ n.given) a.netlist is.in_range;
@@ -132,29 +142,35 @@ same_way z a b = omega (arith, ints)
 twice : (z : ℤ) (a b : ℕ) → (z +ℤ back a) +ℤ pos b ≡ z +ℤ (pos b -ℤ pos a)
 twice z a b = omega (arith, ints)
 
-place_number : (f f' n m : ℕ) (z d : ℤ) → pos f' ≡ pos f +ℤ d → z ≡ pos n → z +ℤ d ≡ pos m → f ≤ n → f' ≤ m → m - f' ≡ n - f
+place_number : (f f' n m : ℕ) (z d : ℤ) → pos f' ≡ pos f +ℤ d → z ≡ pos n → z +ℤ d ≡ pos m → f ≤ n → f' ≤ m →
+    m - f' ≡ n - f
 place_number f f' n m z d e p q l l' = omega (arith, ints, e, p, q, l, l')
 
-place_moved : (dx dy : ℤ) (b b' : Box2) (x y : ℤ) → IsMovedBox dx dy b b' → in_box b x y ≡ true → in_box b' (x +ℤ dx) (y +ℤ dy) ≡ true → place_in b' (x +ℤ dx) (y +ℤ dy) ≡ place_in b x y
+place_moved : (dx dy : ℤ) (b b' : Box2) (x y : ℤ) → IsMovedBox dx dy b b' → in_box b x y ≡ true →
+    in_box b' (x +ℤ dx) (y +ℤ dy) ≡ true → place_in b' (x +ℤ dx) (y +ℤ dy) ≡ place_in b x y
 place_moved dx dy b b' x y m h h' =
     let p = in_box_nats b x y h in
     let q = in_box_nats b' (x +ℤ dx) (y +ℤ dy) h' in
     let px = p.0 in let py = p.1 in
     let qx = q.0 in let qy = q.1 in
     let column : unsigned_abs (x +ℤ dx) - b'.x ≡ unsigned_abs x - b.x =
-    ap (λ z. unsigned_abs z - b'.x) qx.1 ∙ place_number b.x b'.x px.0 qx.0 x dx m.x px.1 qx.1 px.2 qx.2 ∙ sym (ap (λ z. unsigned_abs z - b.x) px.1) in
+    ap (λ z. unsigned_abs z - b'.x) qx.1 ∙ place_number b.x b'.x px.0 qx.0 x dx m.x px.1 qx.1 px.2 qx.2
+    ∙ sym (ap (λ z. unsigned_abs z - b.x) px.1) in
     let row : unsigned_abs (y +ℤ dy) - b'.y ≡ unsigned_abs y - b.y =
-    ap (λ z. unsigned_abs z - b'.y) qy.1 ∙ place_number b.y b'.y py.0 qy.0 y dy m.y py.1 qy.1 py.2 qy.2 ∙ sym (ap (λ z. unsigned_abs z - b.y) py.1) in
+    ap (λ z. unsigned_abs z - b'.y) qy.1 ∙ place_number b.y b'.y py.0 qy.0 y dy m.y py.1 qy.1 py.2 qy.2
+    ∙ sym (ap (λ z. unsigned_abs z - b.y) py.1) in
     λ i. row i * m.w i + column i
 
 -- what a list has for the cells of a box
-looked_up : {A : Type 0} (dx dy : ℤ) (b b' : Box2) (other : A) (xs xs' : List A) → IsMovedBox dx dy b b' → BoxMovesAlong dx dy b b' → xs' ≡ xs → (x y : ℤ) →
+looked_up : {A : Type 0} (dx dy : ℤ) (b b' : Box2) (other : A) (xs xs' : List A) → IsMovedBox dx dy b b' →
+    BoxMovesAlong dx dy b b' → xs' ≡ xs → (x y : ℤ) →
     (if in_box b' (x +ℤ dx) (y +ℤ dy) then unwrap_or (slice_get xs' (place_in b' (x +ℤ dx) (y +ℤ dy))) other else other)
     ≡ (if in_box b x y then unwrap_or (slice_get xs (place_in b x y)) other else other)
 looked_up dx dy b b' other xs xs' m along same x y = elim (cases_Bool (in_box b x y)) [
   | inl h ↦
       let h' : in_box b' (x +ℤ dx) (y +ℤ dy) ≡ true = along.box x y ∙ h in
-      if_so _ _ _ h' ∙ (λ i. unwrap_or (slice_get (same i) (place_moved dx dy b b' x y m h h' i)) other) ∙ sym (if_so _ _ _ h)
+      if_so _ _ _ h' ∙ (λ i. unwrap_or (slice_get (same i) (place_moved dx dy b b' x y m h h' i)) other)
+      ∙ sym (if_so _ _ _ h)
   | inr h ↦ if_not _ _ _ (along.box x y ∙ h) ∙ sym (if_not _ _ _ h)
 ]
   where
@@ -166,7 +182,8 @@ looked_up dx dy b b' other xs xs' m along same x y = elim (cases_Bool (in_box b 
     if_not false u v h = refl
     if_not true u v h = absurd cc
 
-carried_on : (a b c d : ℕ) (s s' : Signals) → moved_signals (back a) (back c) s ≡ moved_signals (back b) (back d) s' → (t : ℕ) (x y : ℤ) →
+carried_on : (a b c d : ℕ) (s s' : Signals) → moved_signals (back a) (back c) s ≡ moved_signals (back b) (back d) s' →
+    (t : ℕ) (x y : ℤ) →
     signal_at s' t (x +ℤ (pos b -ℤ pos a)) (y +ℤ (pos d -ℤ pos c)) ≡ signal_at s t x y
 carried_on a b c d s s' e t x y =
     sym (signals_moved (back b) (back d) s' t (x +ℤ (pos b -ℤ pos a)) (y +ℤ (pos d -ℤ pos c)))
@@ -174,14 +191,21 @@ carried_on a b c d s s' e t x y =
     ∙ ap (λ r. signal_at r t (x +ℤ back a) (y +ℤ back c)) (sym e)
     ∙ signals_moved (back a) (back c) s t x y
 
-stops_twice : (a b c d : ℕ) (ss : List listed.Stop) → map (moved_stop (pos b) (pos d)) (map (moved_stop (back a) (back c)) ss) ≡ map (moved_stop (pos b -ℤ pos a) (pos d -ℤ pos c)) ss
+stops_twice : (a b c d : ℕ) (ss : List listed.Stop) →
+    map (moved_stop (pos b) (pos d)) (map (moved_stop (back a) (back c)) ss)
+    ≡ map (moved_stop (pos b -ℤ pos a) (pos d -ℤ pos c)) ss
 stops_twice a b c d [] = refl
 stops_twice a b c d (s ∷ ss) =
-    let here : moved_stop (pos b) (pos d) (moved_stop (back a) (back c) s) ≡ moved_stop (pos b -ℤ pos a) (pos d -ℤ pos c) s =
-    λ i. record { at = record { time = s.at.time; cell = record { x = twice s.at.cell.x a b i; y = twice s.at.cell.y c d i } }; wire = s.wire } in
+    let here : moved_stop (pos b) (pos d) (moved_stop (back a) (back c) s)
+    ≡ moved_stop (pos b -ℤ pos a) (pos d -ℤ pos c) s =
+    λ i. record {
+      at = record { time = s.at.time; cell = record { x = twice s.at.cell.x a b i; y = twice s.at.cell.y c d i } };
+      wire = s.wire;
+    } in
     ap₂ (λ z zs. z ∷ zs) here (stops_twice a b c d ss)
 
-alike : (j k : JobState) → IsEven j.area → IsEven k.area → shape_of j ≡ shape_of k → AreAlike (columns_between j k) (rows_between j k) j k
+alike : (j k : JobState) → IsEven j.area → IsEven k.area → shape_of j ≡ shape_of k →
+    AreAlike (columns_between j k) (rows_between j k) j k
 unfolding job_start job_demand
 alike j k ej ek same =
     let dx : ℤ = columns_between j k in
@@ -199,19 +223,23 @@ alike j k ej ek same =
       area = along;
       steps = ap (λ (s : ShapeState). s.steps) same;
       netlist = ap (λ (s : ShapeState). s.netlist) same;
-      start = looked_up dx dy j.area k.area Zero j.starts k.starts box along (ap (λ (s : ShapeState). s.starts) (sym same));
-      demand = looked_up dx dy j.area k.area Demanded.Dead j.demands k.demands box along (ap (λ (s : ShapeState). s.demands) (sym same));
+      start = looked_up dx dy j.area k.area Zero j.starts k.starts box along
+          (ap (λ (s : ShapeState). s.starts) (sym same));
+      demand = looked_up dx dy j.area k.area Demanded.Dead j.demands k.demands box along
+          (ap (λ (s : ShapeState). s.demands) (sym same));
       edges = carried_on j.area.x k.area.x j.area.y k.area.y j.edges k.edges (ap (λ (s : ShapeState). s.edges) same);
       halos = carried_on j.area.x k.area.x j.area.y k.area.y j.halos k.halos (ap (λ (s : ShapeState). s.halos) same);
       stops =
-          sym (stops_back (back k.area.x) (back k.area.y) (pos k.area.x) (pos k.area.y) k.stops (back_forth k.area.x) (back_forth k.area.y))
+          sym (stops_back (back k.area.x) (back k.area.y) (pos k.area.x) (pos k.area.y) k.stops (back_forth k.area.x)
+          (back_forth k.area.y))
           ∙ ap (map (moved_stop (pos k.area.x) (pos k.area.y))) (ap (λ (s : ShapeState). s.stops) (sym same))
           ∙ stops_twice j.area.x k.area.x j.area.y k.area.y j.stops;
     }
 
 pub faults_moved : FaultsMoveAlong
 unfolding moved_fault
-faults_moved j k f is_j is_k same is = fault_alike (columns_between j k) (rows_between j k) j k (alike j k is_j.even is_k.even same) f is
+faults_moved j k f is_j is_k same is =
+    fault_alike (columns_between j k) (rows_between j k) j k (alike j k is_j.even is_k.even same) f is
 
 -- ---- the least fault
 there_and_back : (a b : ℕ) → (pos b -ℤ pos a) +ℤ (pos a -ℤ pos b) ≡ pos 0
@@ -221,7 +249,8 @@ fault_back : (j k : JobState) (f : Fault) → fault_on j k (fault_on k j f) ≡ 
 fault_back j k f = λ i. record {
   time = f.time;
   kind = f.kind;
-  cell = cell_back (columns_between k j) (rows_between k j) (columns_between j k) (rows_between j k) f.cell (there_and_back k.area.x j.area.x) (there_and_back k.area.y j.area.y) i;
+  cell = cell_back (columns_between k j) (rows_between k j) (columns_between j k) (rows_between j k) f.cell
+      (there_and_back k.area.x j.area.x) (there_and_back k.area.y j.area.y) i;
   assignment = f.assignment;
 }
 
@@ -229,7 +258,8 @@ cmp_on : (j k : JobState) (f g : Fault) → fault_cmp (fault_on j k f) (fault_on
 unfolding fault_cmp
 cmp_on j k f g = λ i.
     ordering_then (nat_cmp f.time g.time) (ordering_then (nat_cmp (kind_number f.kind) (kind_number g.kind))
-    (ordering_then (cell_cmp_moved (columns_between j k) (rows_between j k) f.cell g.cell i) (nat_cmp f.assignment g.assignment)))
+    (ordering_then (cell_cmp_moved (columns_between j k) (rows_between j k) f.cell g.cell i)
+    (nat_cmp f.assignment g.assignment)))
 
 pub least_moved : LeastFaultMovesAlong
 least_moved j k None is_j is_k same least = λ f is. least (fault_on k j f) (faults_moved k j f is_k is_j (sym same) is)
@@ -252,19 +282,24 @@ keep_stays j k f same is =
 
 pub least_keep_stays : LeastKeepFaultStays
 least_keep_stays j k None same least = λ f is. least f (keep_stays k j f (sym same) is)
-least_keep_stays j k (Some f) same least = (keep_stays j k f same least.0, λ g is. least.1 g (keep_stays k j g (sym same) is))
+least_keep_stays j k (Some f) same least =
+    (keep_stays j k f same least.0, λ g is. least.1 g (keep_stays k j g (sym same) is))
 
 -- ---- the cell of a fault is in the box, and so near
-under_inside : (j : JobState) (u : Valuation) (t : ℕ) (kind : Kind) (x y : ℤ) → IsJob j → IsFaultUnder j u t kind x y → in_box j.area x y ≡ true
+under_inside : (j : JobState) (u : Valuation) (t : ℕ) (kind : Kind) (x y : ℤ) → IsJob j → IsFaultUnder j u t kind x y →
+    in_box j.area x y ≡ true
 unfolding in_ring
 under_inside j u t Edge x y is f = (and_parts _ _ f.ring).0
 under_inside j u t Stop x y is f =
-    let here : in_box j.area f.stop.at.cell.x f.stop.at.cell.y ≡ true = subst (λ (s : listed.Stop). in_box j.area s.at.cell.x s.at.cell.y ≡ true) f.is_listed.2 (is.stops f.is_listed.0 f.stop f.is_listed.1).inside in
+    let here : in_box j.area f.stop.at.cell.x f.stop.at.cell.y ≡ true =
+    subst (λ (s : listed.Stop). in_box j.area s.at.cell.x s.at.cell.y ≡ true) f.is_listed.2
+    (is.stops f.is_listed.0 f.stop f.is_listed.1).inside in
     ap₂ (in_box j.area) (sym f.column) (sym f.row) ∙ here
 under_inside j u t End x y is f = f.inside
 
 fault_inside : (j : JobState) (f : Fault) → IsJob j → IsFault j f → in_box j.area f.cell.x f.cell.y ≡ true
-fault_inside j f is fault = ∥∥₁_elim fault.shown (Prim.hlevel props) (λ h. under_inside j h.values f.time f.kind f.cell.x f.cell.y is h.differs)
+fault_inside j f is fault = ∥∥₁_elim fault.shown (Prim.hlevel props)
+    (λ h. under_inside j h.values f.time f.kind f.cell.x f.cell.y is h.differs)
 
 small_number : (z : ℤ) (n m w : ℕ) → z ≡ pos n → n < m + w → m + w ≤ 512 → IsSmall z
 small_number z n m w e lt few = (omega (arith, ints, e), omega (arith, ints, e, lt, few))
@@ -272,5 +307,7 @@ small_number z n m w e lt few = (omega (arith, ints, e), omega (arith, ints, e, 
 pub fault_near : (j : JobState) (f : Fault) → IsJob j → IsFault j f → IsNear f.cell
 fault_near j f is fault =
     let p = in_box_nats j.area f.cell.x f.cell.y (fault_inside j f is fault) in
-    let px = p.0 in let py = p.1 in
-    (small_number f.cell.x px.0 j.area.x j.area.w px.1 px.3 is.width.2, small_number f.cell.y py.0 j.area.y j.area.h py.1 py.3 is.height.2)
+    let px = p.0 in let py = p.1 in (
+      small_number f.cell.x px.0 j.area.x j.area.w px.1 px.3 is.width.2,
+      small_number f.cell.y py.0 j.area.y j.area.h py.1 py.3 is.height.2,
+    )

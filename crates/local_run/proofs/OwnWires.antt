@@ -1,4 +1,4 @@
--- What a job names is one of its own wires, at each cell and time
+-- Each wire that a job names is one of its own, at each cell and time
 use Rattle.std.proofs.Common.{◌≡◌, ℕ, zero, suc, Bool, true, false, List, [], ◌∷◌, arith, inl, inr}
 use Rattle.std.specs.Prelude.{ℤ, slice_get, unwrap_or, if◌then◌else◌}
 use Rattle.std.specs.List.{All}
@@ -33,7 +33,8 @@ chosen : {A : Type 0} (P : A → Type 0) (b : Bool) (x y : A) → P x → P y �
 chosen P true x y h k = h
 chosen P false x y h k = k
 
-held : (n : ℕ) (hs : List Held) (x y : ℤ) (d : Signal) → All (λ h. IsBelow n h.signal) hs → IsBelow n d → IsBelow n (unwrap_or (held_at hs x y) d)
+held : (n : ℕ) (hs : List Held) (x y : ℤ) (d : Signal) → All (λ h. IsBelow n h.signal) hs → IsBelow n d →
+    IsBelow n (unwrap_or (held_at hs x y) d)
 unfolding held_at
 held n [] x y d all b = b
 held n (h ∷ hs) x y d all b = elim (cases_Bool (is_at h.cell x y)) [
@@ -41,7 +42,8 @@ held n (h ∷ hs) x y d all b = elim (cases_Bool (is_at h.cell x y)) [
   | inr e ↦ rw e (held n hs x y d (all_tail (λ (g : Held). IsBelow n g.signal) h hs all) b)
 ]
 
-event : (n : ℕ) (es : List Event) (t : ℕ) (x y : ℤ) (d : Signal) → All (λ e. IsBelow n e.signal) es → IsBelow n d → IsBelow n (unwrap_or (event_at es t x y) d)
+event : (n : ℕ) (es : List Event) (t : ℕ) (x y : ℤ) (d : Signal) → All (λ e. IsBelow n e.signal) es → IsBelow n d →
+    IsBelow n (unwrap_or (event_at es t x y) d)
 unfolding event_at
 event n [] t x y d all b = b
 event n (e ∷ es) t x y d all b = elim (cases_Bool (is_then e.at t x y)) [
@@ -49,22 +51,29 @@ event n (e ∷ es) t x y d all b = elim (cases_Bool (is_then e.at t x y)) [
   | inr h ↦ rw h (event n es t x y d (all_tail (λ (g : Event). IsBelow n g.signal) e es all) b)
 ]
 
-scheduled : (n : ℕ) (s : Signals) (t : ℕ) (x y : ℤ) → All (λ h. IsBelow n h.signal) s.held → All (λ e. IsBelow n e.signal) s.events → IsBelow n (signal_at s t x y)
+scheduled : (n : ℕ) (s : Signals) (t : ℕ) (x y : ℤ) → All (λ h. IsBelow n h.signal) s.held →
+    All (λ e. IsBelow n e.signal) s.events → IsBelow n (signal_at s t x y)
 unfolding signal_at
-scheduled n s t x y hs es = held n s.held x y (unwrap_or (event_at s.events t x y) Zero) hs (event n s.events t x y Zero es tt)
+scheduled n s t x y hs es = held n s.held x y (unwrap_or (event_at s.events t x y) Zero) hs
+    (event n s.events t x y Zero es tt)
 
 pub start_below : (j : JobState) (x y : ℤ) → NamesOwnWires j → IsBelow (wires j.locals.netlist) (job_start j x y)
 unfolding job_start
-start_below j x y own = chosen (IsBelow (wires j.locals.netlist)) (in_box j.area x y) _ Zero (item (IsBelow (wires j.locals.netlist)) j.starts (place_in j.area x y) Zero own.starts tt) tt
+start_below j x y own = chosen (IsBelow (wires j.locals.netlist)) (in_box j.area x y) _ Zero
+    (item (IsBelow (wires j.locals.netlist)) j.starts (place_in j.area x y) Zero own.starts tt) tt
 
-pub demand_below : (j : JobState) (x y : ℤ) → NamesOwnWires j → IsDemandBelow (wires j.locals.netlist) (job_demand j x y)
+pub demand_below : (j : JobState) (x y : ℤ) → NamesOwnWires j →
+    IsDemandBelow (wires j.locals.netlist) (job_demand j x y)
 unfolding job_demand
-demand_below j x y own = chosen (IsDemandBelow (wires j.locals.netlist)) (in_box j.area x y) _ Demanded.Dead (item (IsDemandBelow (wires j.locals.netlist)) j.demands (place_in j.area x y) Demanded.Dead own.demands tt) tt
+demand_below j x y own = chosen (IsDemandBelow (wires j.locals.netlist)) (in_box j.area x y) _ Demanded.Dead
+    (item (IsDemandBelow (wires j.locals.netlist)) j.demands (place_in j.area x y) Demanded.Dead own.demands tt) tt
 
-pub edge_below : (j : JobState) (t : ℕ) (x y : ℤ) → NamesOwnWires j → IsBelow (wires j.locals.netlist) (signal_at j.edges t x y)
+pub edge_below : (j : JobState) (t : ℕ) (x y : ℤ) → NamesOwnWires j →
+    IsBelow (wires j.locals.netlist) (signal_at j.edges t x y)
 edge_below j t x y own = scheduled (wires j.locals.netlist) j.edges t x y own.edge_held own.edge_events
 
-pub halo_below : (j : JobState) (t : ℕ) (x y : ℤ) → NamesOwnWires j → IsBelow (wires j.locals.netlist) (signal_at j.halos t x y)
+pub halo_below : (j : JobState) (t : ℕ) (x y : ℤ) → NamesOwnWires j →
+    IsBelow (wires j.locals.netlist) (signal_at j.halos t x y)
 halo_below j t x y own = scheduled (wires j.locals.netlist) j.halos t x y own.halo_held own.halo_events
 
 -- a cell outside the box is dead at time 0

@@ -23,45 +23,58 @@ pub outer_same : (c a b : ℕ) → outer c a ≡ outer c b → a ≡ b
 unfolding outer
 outer_same c a b e = omega (arith, ints, e)
 
-pub number_below : (b : Box2) (x y : ℕ) → b.w % 2 ≡ 0 → b.h % 2 ≡ 0 → x < b.w + 2 → y < b.h + 2 → number_at b x y < (b.w / 2 + 1) * (b.h / 2 + 1)
+pub number_below : (b : Box2) (x y : ℕ) → b.w % 2 ≡ 0 → b.h % 2 ≡ 0 → x < b.w + 2 → y < b.h + 2 →
+    number_at b x y < (b.w / 2 + 1) * (b.h / 2 + 1)
 number_below b x y ew eh lx ly =
-    let h = place_below 1 (b.w / 2 + 1) (b.h / 2 + 1) (x / 2) (y / 2) 0 (omega arith) (omega arith) (omega arith) in omega arith
+    let h = place_below 1 (b.w / 2 + 1) (b.h / 2 + 1) (x / 2) (y / 2) 0 (omega arith) (omega arith) (omega arith) in
+    omega arith
 
-pub cell_marked : (b : Box2) (c : Cell) (x y : ℕ) (old new : List ℕ) → c.x ≡ outer b.x x → c.y ≡ outer b.y y → MarksOne (number_at b x y) old new → IsCellMarked b c new
+pub cell_marked : (b : Box2) (c : Cell) (x y : ℕ) (old new : List ℕ) → c.x ≡ outer b.x x → c.y ≡ outer b.y y →
+    MarksOne (number_at b x y) old new → IsCellMarked b c new
 cell_marked b c x y old new ex ey one x' y' lx ly ex' ey' free =
     let hx : x' ≡ x = outer_same b.x x' x (sym ex' ∙ ex) in
     let hy : y' ≡ y = outer_same b.y y' y (sym ey' ∙ ey) in
     (one (number_at b x' y') free).1 (ap₂ (number_at b) hx hy)
 
-pub still_marked : (b : Box2) (c : Cell) (old new : List ℕ) → KeepsMarks old new → IsCellMarked b c old → IsCellMarked b c new
+pub still_marked : (b : Box2) (c : Cell) (old new : List ℕ) → KeepsMarks old new → IsCellMarked b c old →
+    IsCellMarked b c new
 still_marked b c old new keeps marked x y lx ly ex ey free = marked x y lx ly ex ey (keeps (number_at b x y) free)
 
 -- where no line names the cell at the time, its signal is `Zero`
-pub zero_signal : (s : Signals) (t : ℕ) (x y : ℤ) → ((i : ℕ) (h : Held) → slice_get s.held i ≡ Some h → (h.cell.x ≡ x) × (h.cell.y ≡ y) → ⊥) →
-    ((i : ℕ) (e : Event) → slice_get s.events i ≡ Some e → e.at.time ≡ t → (e.at.cell.x ≡ x) × (e.at.cell.y ≡ y) → ⊥) → signal_at s t x y ≡ Zero
+pub zero_signal : (s : Signals) (t : ℕ) (x y : ℤ) →
+    ((i : ℕ) (h : Held) → slice_get s.held i ≡ Some h → (h.cell.x ≡ x) × (h.cell.y ≡ y) → ⊥) →
+    ((i : ℕ) (e : Event) → slice_get s.events i ≡ Some e → e.at.time ≡ t → (e.at.cell.x ≡ x) × (e.at.cell.y ≡ y) → ⊥) →
+    signal_at s t x y ≡ Zero
 unfolding signal_at
 zero_signal s t x y held events =
-    let h = held_none s.held (record { x = x; y = y }) (λ i h at e. held i h at (ap (λ (c : Cell). c.x) e, ap (λ (c : Cell). c.y) e)) in
-    let v = event_none s.events (record { time = t; cell = record { x = x; y = y } }) (λ i e at same. events i e at (ap (λ m. m.time) same) (ap (λ m. m.cell.x) same, ap (λ m. m.cell.y) same)) in
+    let h = held_none s.held (record { x = x; y = y })
+    (λ i h at e. held i h at (ap (λ (c : Cell). c.x) e, ap (λ (c : Cell). c.y) e)) in
+    let v = event_none s.events (record { time = t; cell = record { x = x; y = y } })
+    (λ i e at same. events i e at (ap (λ m. m.time) same) (ap (λ m. m.cell.x) same, ap (λ m. m.cell.y) same)) in
     rw (h, v) refl'
   where
     refl' : Zero ≡ Zero
     refl' = cc
 
-pub still_held : (s : Signals) (b : Box2) (old new : List ℕ) → KeepsMarks old new → AreHeldMarked s b old → AreHeldMarked s b new
+pub still_held : (s : Signals) (b : Box2) (old new : List ℕ) → KeepsMarks old new → AreHeldMarked s b old →
+    AreHeldMarked s b new
 still_held s b old new keeps held i h at = still_marked b h.cell old new keeps (held i h at)
 
 pub quiet_in : (s : Signals) (b : Box2) (t : ℕ) (marks : List ℕ) → AreHeldMarked s b marks →
-    ((i : ℕ) (e : Event) → slice_get s.events i ≡ Some e → e.at.time ≡ t → IsCellMarked b e.at.cell marks) → IsQuietIn s b t marks
+    ((i : ℕ) (e : Event) → slice_get s.events i ≡ Some e → e.at.time ≡ t → IsCellMarked b e.at.cell marks) →
+    IsQuietIn s b t marks
 quiet_in s b t marks held events x y lx ly free = zero_signal s t (outer b.x x) (outer b.y y)
     (λ i h at e. held i h at x y lx ly e.0 e.1 free) (λ i v at same e. events i v at same x y lx ly e.0 e.1 free)
 
-pub still_quiet : (s : Signals) (b : Box2) (t : ℕ) (old new : List ℕ) → KeepsMarks old new → IsQuietIn s b t old → IsQuietIn s b t new
+pub still_quiet : (s : Signals) (b : Box2) (t : ℕ) (old new : List ℕ) → KeepsMarks old new → IsQuietIn s b t old →
+    IsQuietIn s b t new
 still_quiet s b t old new keeps quiet x y lx ly free = quiet x y lx ly (keeps (number_at b x y) free)
 
 -- the events from the first one of a time up to the first one of the next
-pub events_between : (es : List Event) (t m n : ℕ) (P : Event → Type 0) → IsTimeBetween es t m m → IsTimeBetween es (t + 1) n n →
-    ((i : ℕ) (e : Event) → m ≤ i → i < n → slice_get es i ≡ Some e → P e) → (i : ℕ) (e : Event) → slice_get es i ≡ Some e → e.at.time ≡ t → P e
+pub events_between : (es : List Event) (t m n : ℕ) (P : Event → Type 0) → IsTimeBetween es t m m →
+    IsTimeBetween es (t + 1) n n →
+    ((i : ℕ) (e : Event) → m ≤ i → i < n → slice_get es i ≡ Some e → P e) → (i : ℕ) (e : Event) →
+    slice_get es i ≡ Some e → e.at.time ≡ t → P e
 events_between es t m n P from to have i e at same =
     by_lt_or_le i m (λ l. let h = from.below i e l at in absurd (omega arith)) (λ after.
     by_lt_or_le i n (λ l. have i e after l at) (λ past. let h = to.above i e past at in absurd (omega arith)))
@@ -71,7 +84,9 @@ outer_back : (c k : ℕ) → outer c k +ℤ back c ≡ outer 0 k
 unfolding outer
 outer_back c k = omega (arith, ints)
 
-pub quiet_moved : (s : Signals) (b : Box2) (t : ℕ) (marks : List ℕ) → IsQuietIn (moved_signals (back b.x) (back b.y) s) (record { x = 0; y = 0; w = b.w; h = b.h }) t marks → IsQuietIn s b t marks
+pub quiet_moved : (s : Signals) (b : Box2) (t : ℕ) (marks : List ℕ) →
+    IsQuietIn (moved_signals (back b.x) (back b.y) s) (record { x = 0; y = 0; w = b.w; h = b.h }) t marks →
+    IsQuietIn s b t marks
 quiet_moved s b t marks quiet x y lx ly free =
     sym (signals_moved (back b.x) (back b.y) s t (outer b.x x) (outer b.y y))
     ∙ ap₂ (signal_at (moved_signals (back b.x) (back b.y) s) t) (outer_back b.x x) (outer_back b.y y)

@@ -1,5 +1,6 @@
 -- Jobs whose halos say the same at each odd time have the same faults
-use Rattle.std.proofs.Common.{◌≡◌, ℕ, zero, suc, ◌<◌, ◌≤◌, ◌%◌, ◌&&◌, ◌||◌, List, refl, sym, ap, ap₂, subst, ◌∙◌, arith, inl, inr}
+use Rattle.std.proofs.Common.{◌≡◌, ℕ, zero, suc, ◌<◌, ◌≤◌, ◌%◌, ◌&&◌, ◌||◌, List, refl, sym, ap, ap₂, subst, ◌∙◌, arith}
+use Rattle.std.proofs.Common.{inl, inr}
 use Rattle.std.specs.Prelude.{ℤ, Contains}
 use Rattle.std.specs.List.{All}
 use Rattle.std.proofs.lemmas.Bool.{cases_Bool}
@@ -19,14 +20,16 @@ use Rattle.local_run.specs.declared.fault.Kind.TheVariants.{Edge, Stop, End}
 use Rattle.local_run.proofs.LocalRuns.{even_or_odd, local_even, local_odd, step_all_same}
 
 -- a stop that is listed is at a time up to the last one
-stop_time : (j : JobState) (ss : List listed.Stop) (s : listed.Stop) → All (λ s. s.at.time ≤ j.steps) ss → Contains ss s → s.at.time ≤ j.steps
+stop_time : (j : JobState) (ss : List listed.Stop) (s : listed.Stop) → All (λ s. s.at.time ≤ j.steps) ss →
+    Contains ss s → s.at.time ≤ j.steps
 stop_time j ss s all (k, lt, is) = subst (λ (x : listed.Stop). x.at.time ≤ j.steps) is (all k s lt)
 
 module _ (j : JobState) (halos : Signals) (same : SayTheSame j halos) where
   abbrev k : JobState
   k = record j { halos = halos }
 
-  halo_same : (u : Valuation) (t : ℕ) (s s' : State) (x y : ℤ) → t % 2 ≡ 1 → t < j.steps → s x y ≡ s' x y → with_halo j u t s x y ≡ with_halo k u t s' x y
+  halo_same : (u : Valuation) (t : ℕ) (s s' : State) (x y : ℤ) → t % 2 ≡ 1 → t < j.steps → s x y ≡ s' x y →
+      with_halo j u t s x y ≡ with_halo k u t s' x y
   unfolding with_halo
   halo_same u t s s' x y odd early e = elim (cases_Bool (in_halo j.area x y)) [
     | inl here ↦ λ i. e i || (in_halo j.area x y && is_live u (same t x y odd early here i))
@@ -43,7 +46,8 @@ module _ (j : JobState) (halos : Signals) (same : SayTheSame j halos) where
       elim (even_or_odd t) [
         | inl e ↦ local_even j u t _ x y e ∙ step_all_same t _ _ x y before ∙ sym (local_even k u t _ x y e)
         | inr o ↦ local_odd j u t _ x y o
-            ∙ ap (λ p. in_box j.area x y && p) (step_all_same t _ _ x y (λ x' y'. halo_same u t _ _ x' y' o (omega (arith, le)) (before x' y')))
+            ∙ ap (λ p. in_box j.area x y && p)
+            (step_all_same t _ _ x y (λ x' y'. halo_same u t _ _ x' y' o (omega (arith, le)) (before x' y')))
             ∙ sym (local_odd k u t _ x y o)
       ]
 
@@ -53,7 +57,8 @@ module _ (j : JobState) (halos : Signals) (same : SayTheSame j halos) where
   last_is : (t n : ℕ) → t ≡ n → t ≤ n
   last_is t n e = omega (arith, e)
 
-  under_same : (u : Valuation) (t : ℕ) (kind : Kind) (x y : ℤ) → All (λ s. s.at.time ≤ j.steps) j.stops → IsFaultUnder j u t kind x y → IsFaultUnder k u t kind x y
+  under_same : (u : Valuation) (t : ℕ) (kind : Kind) (x y : ℤ) → All (λ s. s.at.time ≤ j.steps) j.stops →
+      IsFaultUnder j u t kind x y → IsFaultUnder k u t kind x y
   unfolding job_demand
   under_same u t Edge x y early f = record {
     odd = f.odd;
@@ -67,7 +72,8 @@ module _ (j : JobState) (halos : Signals) (same : SayTheSame j halos) where
     time = f.time;
     column = f.column;
     row = f.row;
-    differs = λ e. f.differs (run_same u t (subst (λ n. n ≤ j.steps) f.time (stop_time j j.stops f.stop early f.is_listed)) x y ∙ e);
+    differs = λ e. f.differs (run_same u t
+        (subst (λ n. n ≤ j.steps) f.time (stop_time j j.stops f.stop early f.is_listed)) x y ∙ e);
   }
   under_same u t End x y early f = record {
     last = f.last;

@@ -1,5 +1,7 @@
 -- Words of assignments, and the first that differs
-use Rattle.std.proofs.Common.{◌≡◌, ◌≢◌, ℕ, Bool, true, false, ◌<◌, ◌≤◌, ◌+◌, ◌-◌, ◌*◌, ◌/◌, ◌%◌, ◌^◌, refl, arith, sym, ◌∙◌, ap, ap₂, subst, List, [], ◌∷◌, ◌&&◌, zero, suc, length, get_or, set, get_or-set_same, get_or-set_other, w64, bit_and}
+use Rattle.std.proofs.Common.{◌≡◌, ◌≢◌, ℕ, Bool, true, false, ◌<◌, ◌≤◌, ◌+◌, ◌-◌, ◌*◌, ◌/◌, ◌%◌, ◌^◌, refl, arith, sym}
+use Rattle.std.proofs.Common.{◌∙◌, ap, ap₂, subst, List, [], ◌∷◌, ◌&&◌, zero, suc, length, get_or, set, get_or-set_same}
+use Rattle.std.proofs.Common.{get_or-set_other, w64, bit_and}
 use Rattle.std.specs.Prelude.{bit_xor}
 use Rattle.std.specs.Int.{bit_at, trailing_zeros}
 use Rattle.std.proofs.lemmas.Nat.Bits.{bit_at-trailing_zeros}
@@ -45,7 +47,8 @@ quotient k b l = omega arith
 pub remainder : (k b : ℕ) → b < 64 → (64 * k + b) % 64 ≡ b
 remainder k b l = omega arith
 
-value_in_word : (words k b w : ℕ) (values : List ℕ) → b < 64 → bit (get_or values (words * w + k) 0) b ≡ value_of words values (64 * k + b) w
+value_in_word : (words k b w : ℕ) (values : List ℕ) → b < 64 →
+    bit (get_or values (words * w + k) 0) b ≡ value_of words values (64 * k + b) w
 unfolding value_of
 value_in_word words k b w values l = rw (quotient k b l, remainder k b l) refl
 
@@ -54,13 +57,17 @@ get_or_any [] i d e l = absurd (omega arith)
 get_or_any (x ∷ s) zero d e l = refl
 get_or_any (x ∷ s) (suc i) d e l = get_or_any s i d e (omega arith)
 
-pub row_in_word : (words k b w v d : ℕ) (rows : List ℕ) → b < 64 → words * w + k < length rows → v ≡ get_or rows (words * w + k) d → bit v b ≡ value_of words rows (64 * k + b) w
-row_in_word words k b w v d rows l room e = ap (λ n. bit n b) (e ∙ get_or_any rows _ d 0 room) ∙ value_in_word words k b w rows l
+pub row_in_word : (words k b w v d : ℕ) (rows : List ℕ) → b < 64 → words * w + k < length rows →
+    v ≡ get_or rows (words * w + k) d → bit v b ≡ value_of words rows (64 * k + b) w
+row_in_word words k b w v d rows l room e =
+    ap (λ n. bit n b) (e ∙ get_or_any rows _ d 0 room) ∙ value_in_word words k b w rows l
 
-pub lane_in_word : (p : Planes) (s : List ℕ) (x y k b v d : ℕ) → b < 64 → plane_of p x y ≡ s → p.words * (p.stride * (y / 2) + x / 2) + k < length s →
+pub lane_in_word : (p : Planes) (s : List ℕ) (x y k b v d : ℕ) → b < 64 → plane_of p x y ≡ s →
+    p.words * (p.stride * (y / 2) + x / 2) + k < length s →
     v ≡ get_or s (p.words * (p.stride * (y / 2) + x / 2) + k) d → bit v b ≡ lane p (64 * k + b) x y
 unfolding lane
-lane_in_word p s x y k b v d l es room e = rw (quotient k b l, remainder k b l, es) (ap (λ n. bit n b) (e ∙ get_or_any s _ d 0 room))
+lane_in_word p s x y k b v d l es room e =
+    rw (quotient k b l, remainder k b l, es) (ap (λ n. bit n b) (e ∙ get_or_any s _ d 0 room))
 
 pub plane_odd : (p : Planes) (x y : ℕ) → x % 2 ≡ 0 → y % 2 ≡ 0 → plane_of p x y ≡ p.odd.items
 unfolding plane_of
@@ -83,14 +90,16 @@ split_place : (a k : ℕ) → 64 * k ≤ a → a < 64 * (k + 1) → a ≡ 64 * k
 split_place a k l h = omega arith
 
 -- a word without bits: none of 64 more assignments
-pub block_clear : (f : ℕ → Bool) (k w : ℕ) → ((b : ℕ) → b < 64 → bit w b ≡ f (64 * k + b)) → ((a : ℕ) → a < 64 * k → f a ≡ false) → w ≡ 0 → (a : ℕ) → a < 64 * (k + 1) → f a ≡ false
+pub block_clear : (f : ℕ → Bool) (k w : ℕ) → ((b : ℕ) → b < 64 → bit w b ≡ f (64 * k + b)) →
+    ((a : ℕ) → a < 64 * k → f a ≡ false) → w ≡ 0 → (a : ℕ) → a < 64 * (k + 1) → f a ≡ false
 block_clear f k w fw before e a l = by_lt_or_le a (64 * k) (before a) (λ h.
     let at : a ≡ 64 * k + (a % 64) = split_place a k h l in
     let small : a % 64 < 64 = omega arith in
     ap f at ∙ sym (fw (a % 64) small) ∙ ap (λ n. bit n (a % 64)) e ∙ bit-zero (a % 64))
 
 -- else the lowest bit is the first
-pub block_first : (f : ℕ → Bool) (k w : ℕ) → w < 2 ^ 64 → ((b : ℕ) → b < 64 → bit w b ≡ f (64 * k + b)) → ((a : ℕ) → a < 64 * k → f a ≡ false) → w ≢ 0 →
+pub block_first : (f : ℕ → Bool) (k w : ℕ) → w < 2 ^ 64 → ((b : ℕ) → b < 64 → bit w b ≡ f (64 * k + b)) →
+    ((a : ℕ) → a < 64 * k → f a ≡ false) → w ≢ 0 →
     let z = 64 * k + trailing_zeros w64 w in (f z ≡ true) × ((a : ℕ) → a < z → f a ≡ false)
 block_first f k w small fw before e =
     let found = bit_at-trailing_zeros w64 w (omega arith) small in
@@ -108,54 +117,75 @@ block_first f k w small fw before e =
 abbrev pub differs : Values → Planes → ℕ → ℕ → Signal → ℕ → Bool
 differs vs p x y s a = xor (lane p a x y) (is_live (valuation vs a) s) && is_defined vs a
 
-pub differs_bits : (vs : Values) (p : Planes) (x y k : ℕ) (s : Signal) (cells wanted defined d : ℕ) → ((b : ℕ) → b < 64 → bit cells b ≡ lane p (64 * k + b) x y) → ((b : ℕ) → b < 64 → bit wanted b ≡ is_live (valuation vs (64 * k + b)) s) →
-    k < length vs.rows.defined.items → defined ≡ get_or vs.rows.defined.items k d → (b : ℕ) → b < 64 → bit (bit_and (bit_xor cells wanted) defined) b ≡ differs vs p x y s (64 * k + b)
+pub differs_bits : (vs : Values) (p : Planes) (x y k : ℕ) (s : Signal) (cells wanted defined d : ℕ) →
+    ((b : ℕ) → b < 64 → bit cells b ≡ lane p (64 * k + b) x y) →
+    ((b : ℕ) → b < 64 → bit wanted b ≡ is_live (valuation vs (64 * k + b)) s) →
+    k < length vs.rows.defined.items → defined ≡ get_or vs.rows.defined.items k d → (b : ℕ) → b < 64 →
+    bit (bit_and (bit_xor cells wanted) defined) b ≡ differs vs p x y s (64 * k + b)
 unfolding bit_of_row
 differs_bits vs p x y k s cells wanted defined d are should room is b l =
     let whole : bit defined b ≡ is_defined vs (64 * k + b) =
-    ap (λ n. bit n b) (is ∙ get_or_any vs.rows.defined.items k d 0 room) ∙ ap₂ (λ i j. bit (get_or vs.rows.defined.items i 0) j) (sym (quotient k b l)) (sym (remainder k b l)) in
-    bit-and (bit_xor cells wanted) defined b ∙ ap₂ (λ (u v : Bool). u && v) (bit-xor cells wanted b ∙ ap₂ xor (are b l) (should b l)) whole
+    ap (λ n. bit n b) (is ∙ get_or_any vs.rows.defined.items k d 0 room)
+    ∙ ap₂ (λ i j. bit (get_or vs.rows.defined.items i 0) j) (sym (quotient k b l)) (sym (remainder k b l)) in
+    bit-and (bit_xor cells wanted) defined b
+    ∙ ap₂ (λ (u v : Bool). u && v) (bit-xor cells wanted b ∙ ap₂ xor (are b l) (should b l)) whole
 
 -- where all cells are as they should be, none differs
-pub same_clear : (vs : Values) (p : Planes) (x y k : ℕ) (s : Signal) (cells wanted : ℕ) → ((b : ℕ) → b < 64 → bit cells b ≡ lane p (64 * k + b) x y) → ((b : ℕ) → b < 64 → bit wanted b ≡ is_live (valuation vs (64 * k + b)) s) →
-    k < length vs.rows.defined.items → cells ≡ wanted → ((a : ℕ) → a < 64 * k → differs vs p x y s a ≡ false) → (a : ℕ) → a < 64 * (k + 1) → differs vs p x y s a ≡ false
+pub same_clear : (vs : Values) (p : Planes) (x y k : ℕ) (s : Signal) (cells wanted : ℕ) →
+    ((b : ℕ) → b < 64 → bit cells b ≡ lane p (64 * k + b) x y) →
+    ((b : ℕ) → b < 64 → bit wanted b ≡ is_live (valuation vs (64 * k + b)) s) →
+    k < length vs.rows.defined.items → cells ≡ wanted → ((a : ℕ) → a < 64 * k → differs vs p x y s a ≡ false) →
+    (a : ℕ) → a < 64 * (k + 1) → differs vs p x y s a ≡ false
 same_clear vs p x y k s cells wanted are should room same before =
     let defined = get_or vs.rows.defined.items k 0 in
-    block_clear (differs vs p x y s) k (bit_and (bit_xor cells wanted) defined) (differs_bits vs p x y k s cells wanted defined 0 are should room refl) before
+    block_clear (differs vs p x y s) k (bit_and (bit_xor cells wanted) defined)
+    (differs_bits vs p x y k s cells wanted defined 0 are should room refl) before
     (ap (λ (n : ℕ). bit_and n defined) (ap (λ (n : ℕ). bit_xor n wanted) same ∙ xor_self wanted) ∙ and_zero_l defined)
 
 -- one more word is as the signal says
-pub shown_more : (vs : Values) (p : Planes) (x y k : ℕ) (s : Signal) (cells wanted : ℕ) → ((b : ℕ) → b < 64 → bit cells b ≡ lane p (64 * k + b) x y) → ((b : ℕ) → b < 64 → bit wanted b ≡ is_live (valuation vs (64 * k + b)) s) →
+pub shown_more : (vs : Values) (p : Planes) (x y k : ℕ) (s : Signal) (cells wanted : ℕ) →
+    ((b : ℕ) → b < 64 → bit cells b ≡ lane p (64 * k + b) x y) →
+    ((b : ℕ) → b < 64 → bit wanted b ≡ is_live (valuation vs (64 * k + b)) s) →
     cells ≡ wanted → IsShown vs p x y s k → IsShown vs p x y s (k + 1)
 shown_more vs p x y k s cells wanted are should same before a l = by_lt_or_le a (64 * k)
     (λ h. before a h)
     (λ g. let e : 64 * k + (a - 64 * k) ≡ a = omega arith in
-    subst (λ (n : ℕ). lane p n x y ≡ is_live (valuation vs n) s) e (sym (are (a - 64 * k) (omega arith)) ∙ ap (λ (n : ℕ). bit n (a - 64 * k)) same ∙ should (a - 64 * k) (omega arith)))
+    subst (λ (n : ℕ). lane p n x y ≡ is_live (valuation vs n) s) e
+    (sym (are (a - 64 * k) (omega arith)) ∙ ap (λ (n : ℕ). bit n (a - 64 * k)) same
+    ∙ should (a - 64 * k) (omega arith)))
 
 -- bit b of word k of the defined row
-pub defined_in_word : (vs : Values) (k b v d : ℕ) → b < 64 → k < length vs.rows.defined.items → v ≡ get_or vs.rows.defined.items k d → bit v b ≡ is_defined vs (64 * k + b)
+pub defined_in_word : (vs : Values) (k b v d : ℕ) → b < 64 → k < length vs.rows.defined.items →
+    v ≡ get_or vs.rows.defined.items k d → bit v b ≡ is_defined vs (64 * k + b)
 unfolding bit_of_row
 defined_in_word vs k b v d l room is =
-    ap (λ n. bit n b) (is ∙ get_or_any vs.rows.defined.items k d 0 room) ∙ ap₂ (λ i j. bit (get_or vs.rows.defined.items i 0) j) (sym (quotient k b l)) (sym (remainder k b l))
+    ap (λ n. bit n b) (is ∙ get_or_any vs.rows.defined.items k d 0 room)
+    ∙ ap₂ (λ i j. bit (get_or vs.rows.defined.items i 0) j) (sym (quotient k b l)) (sym (remainder k b l))
 
 pub difference_small : (v w d : ℕ) → v < 2 ^ 64 → w < 2 ^ 64 → d < 2 ^ 64 → bit_and (bit_xor v w) d < 2 ^ 64
 difference_small v w d sv sw sd = and_lt 64 (bit_xor v w) d (xor_lt 64 v w sv sw) sd
 
-pub differs_is : (vs : Values) (p : Planes) (x y : ℕ) (s : Signal) (a : ℕ) → differs vs p x y s a ≡ true → (is_defined vs a ≡ true) × (lane p a x y ≢ is_live (valuation vs a) s)
+pub differs_is : (vs : Values) (p : Planes) (x y : ℕ) (s : Signal) (a : ℕ) → differs vs p x y s a ≡ true →
+    (is_defined vs a ≡ true) × (lane p a x y ≢ is_live (valuation vs a) s)
 differs_is vs p x y s a e = let parts = and_parts _ _ e in (parts.1, xor_differ _ _ parts.0)
 
-pub differs_not : (vs : Values) (p : Planes) (x y : ℕ) (s : Signal) (a : ℕ) → differs vs p x y s a ≡ false → ¬ ((is_defined vs a ≡ true) × (lane p a x y ≢ is_live (valuation vs a) s))
-differs_not vs p x y s a e h = h.1 (xor_same _ _ (sym (and_true _) ∙ ap (λ (v : Bool). xor (lane p a x y) (is_live (valuation vs a) s) && v) (sym h.0) ∙ e))
+pub differs_not : (vs : Values) (p : Planes) (x y : ℕ) (s : Signal) (a : ℕ) → differs vs p x y s a ≡ false →
+    ¬ ((is_defined vs a ≡ true) × (lane p a x y ≢ is_live (valuation vs a) s))
+differs_not vs p x y s a e h =
+    h.1 (xor_same _ _ (sym (and_true _)
+    ∙ ap (λ (v : Bool). xor (lane p a x y) (is_live (valuation vs a) s) && v) (sym h.0) ∙ e))
   where
     and_true : (b : Bool) → (b && true) ≡ b
     and_true true = refl
     and_true false = refl
 
 -- ---- the row of a signal
-pub row_from : (vs : Values) (n : ℕ) (s : Signal) → IsBelow n s → vs.words * n ≤ length vs.rows.values.items → HasRow vs s
+pub row_from : (vs : Values) (n : ℕ) (s : Signal) → IsBelow n s → vs.words * n ≤ length vs.rows.values.items →
+    HasRow vs s
 row_from vs n Zero b l = tt
 row_from vs n One b l = tt
-row_from vs n (Wire w) b l = let m : vs.words * (w + 1) ≤ vs.words * n = mul-le-mul_left vs.words (omega arith) in omega arith
+row_from vs n (Wire w) b l = let m : vs.words * (w + 1) ≤ vs.words * n = mul-le-mul_left vs.words (omega arith) in
+    omega arith
 
 -- ---- a word that is set
 pub unique_place : (w c c' r r' : ℕ) → r < w → r' < w → w * c + r ≡ w * c' + r' → (c ≡ c') × (r ≡ r')
@@ -169,20 +199,26 @@ unique_place w c c' r r' l l' e = by_lt_or_le c c'
     by_sum q = let m : w * c ≡ w * c' = ap (λ n. w * n) q in omega arith
 
 -- the words of another cell are as before
-pub other_word : (w u k v l word : ℕ) (xs : List ℕ) → k < w → l < w → v ≢ u → get_or (set xs (w * u + k) word) (w * v + l) 0 ≡ get_or xs (w * v + l) 0
-other_word w u k v l word xs lk ll ne = get_or-set_other xs (w * u + k) (w * v + l) word 0 (λ e. ne (unique_place w v u l k ll lk e).0)
+pub other_word : (w u k v l word : ℕ) (xs : List ℕ) → k < w → l < w → v ≢ u →
+    get_or (set xs (w * u + k) word) (w * v + l) 0 ≡ get_or xs (w * v + l) 0
+other_word w u k v l word xs lk ll ne =
+    get_or-set_other xs (w * u + k) (w * v + l) word 0 (λ e. ne (unique_place w v u l k ll lk e).0)
 
-lane_at : (q : Planes) (a x y w st : ℕ) (s : List ℕ) → q.words ≡ w → q.stride ≡ st → plane_of q x y ≡ s → lane q a x y ≡ bit (get_or s (w * (st * (y / 2) + x / 2) + a / 64) 0) (a % 64)
+lane_at : (q : Planes) (a x y w st : ℕ) (s : List ℕ) → q.words ≡ w → q.stride ≡ st → plane_of q x y ≡ s →
+    lane q a x y ≡ bit (get_or s (w * (st * (y / 2) + x / 2) + a / 64) 0) (a % 64)
 unfolding lane
 lane_at q a x y w st s ew es e =
     ap₂ (λ v r. bit (get_or (plane_of q x y) (v * (r * (y / 2) + x / 2) + a / 64) 0) (a % 64)) ew es
     ∙ ap (λ z. bit (get_or z (w * (st * (y / 2) + x / 2) + a / 64) 0) (a % 64)) e
 
-pub sets_word : (p q : Planes) (x y k word : ℕ) → q.words ≡ p.words → q.stride ≡ p.stride → x / 2 < p.stride → k < p.words →
+pub sets_word : (p q : Planes) (x y k word : ℕ) → q.words ≡ p.words → q.stride ≡ p.stride → x / 2 < p.stride →
+    k < p.words →
     p.words * (p.stride * (y / 2) + x / 2) + k < length (plane_of p x y) →
-    ((x' y' : ℕ) → x' % 2 ≡ x % 2 → y' % 2 ≡ y % 2 → plane_of q x' y' ≡ set (plane_of p x y) (p.words * (p.stride * (y / 2) + x / 2) + k) word) →
+    ((x' y' : ℕ) → x' % 2 ≡ x % 2 → y' % 2 ≡ y % 2 →
+    plane_of q x' y' ≡ set (plane_of p x y) (p.words * (p.stride * (y / 2) + x / 2) + k) word) →
     ((x' y' : ℕ) → x' % 2 ≡ x % 2 → y' % 2 ≡ y % 2 → plane_of p x' y' ≡ plane_of p x y) →
-    ((x' y' : ℕ) → ((x' % 2 ≡ x % 2) × (y' % 2 ≡ y % 2) → ⊥) → plane_of q x' y' ≡ plane_of p x' y') → SetsWord x y k word p q
+    ((x' y' : ℕ) → ((x' % 2 ≡ x % 2) × (y' % 2 ≡ y % 2) → ⊥) → plane_of q x' y' ≡ plane_of p x' y') →
+    SetsWord x y k word p q
 unfolding lane
 sets_word p q x y k word ew es lx lk room same old other = record {
   there = λ b l.
@@ -193,10 +229,13 @@ sets_word p q x y k word ew es lx lk room same old other = record {
   rest = λ a x' y' la lx' differ. by_eq_or_not (x' % 2) (x % 2)
       (λ ex. by_eq_or_not (y' % 2) (y % 2)
       (λ ey. lane_at q a x' y' p.words p.stride _ ew es (same x' y' ex ey)
-      ∙ ap (λ v. bit v (a % 64)) (get_or-set_other (plane_of p x y) n (place_at a x' y') word 0 (apart a x' y' la lx' differ ex ey))
+      ∙ ap (λ v. bit v (a % 64)) (get_or-set_other (plane_of p x y) n (place_at a x' y') word 0
+      (apart a x' y' la lx' differ ex ey))
       ∙ sym (lane_at p a x' y' p.words p.stride _ refl refl (old x' y' ex ey)))
-      (λ ny. lane_at q a x' y' p.words p.stride _ ew es (other x' y' (λ h. ny h.1)) ∙ sym (lane_at p a x' y' p.words p.stride _ refl refl refl)))
-      (λ nx. lane_at q a x' y' p.words p.stride _ ew es (other x' y' (λ h. nx h.0)) ∙ sym (lane_at p a x' y' p.words p.stride _ refl refl refl));
+      (λ ny. lane_at q a x' y' p.words p.stride _ ew es (other x' y' (λ h. ny h.1))
+      ∙ sym (lane_at p a x' y' p.words p.stride _ refl refl refl)))
+      (λ nx. lane_at q a x' y' p.words p.stride _ ew es (other x' y' (λ h. nx h.0))
+      ∙ sym (lane_at p a x' y' p.words p.stride _ refl refl refl));
 }
   where
     n : ℕ
@@ -205,66 +244,95 @@ sets_word p q x y k word ew es lx lk room same old other = record {
     place_at : ℕ → ℕ → ℕ → ℕ
     place_at a x' y' = p.words * (p.stride * (y' / 2) + x' / 2) + a / 64
 
-    apart : (a x' y' : ℕ) → a < 64 * p.words → x' / 2 < p.stride → ((x' ≡ x) × (y' ≡ y) × (a / 64 ≡ k) → ⊥) → x' % 2 ≡ x % 2 → y' % 2 ≡ y % 2 → place_at a x' y' ≢ n
+    apart : (a x' y' : ℕ) → a < 64 * p.words → x' / 2 < p.stride → ((x' ≡ x) × (y' ≡ y) × (a / 64 ≡ k) → ⊥) →
+        x' % 2 ≡ x % 2 → y' % 2 ≡ y % 2 → place_at a x' y' ≢ n
     apart a x' y' la lx' differ ex ey e =
-        let first = unique_place p.words (p.stride * (y' / 2) + x' / 2) (p.stride * (y / 2) + x / 2) (a / 64) k (omega arith) lk e in
+        let first = unique_place p.words (p.stride * (y' / 2) + x' / 2) (p.stride * (y / 2) + x / 2) (a / 64) k
+        (omega arith) lk e in
         let second = unique_place p.stride (y' / 2) (y / 2) (x' / 2) (x / 2) lx' lx first.0 in
         let h0 : x' / 2 ≡ x / 2 = second.1 in
         let h1 : y' / 2 ≡ y / 2 = second.0 in
         differ (omega arith, omega arith, first.1)
 
-pub sets_odd : (p q : Planes) (x y k word : ℕ) → q.words ≡ p.words → q.stride ≡ p.stride → x / 2 < p.stride → k < p.words → p.words * (p.stride * (y / 2) + x / 2) + k < length p.odd.items →
-    x % 2 ≡ 0 → y % 2 ≡ 0 → q.odd.items ≡ set p.odd.items (p.words * (p.stride * (y / 2) + x / 2) + k) word → q.right.items ≡ p.right.items → q.down.items ≡ p.down.items → q.even.items ≡ p.even.items → SetsWord x y k word p q
+pub sets_odd : (p q : Planes) (x y k word : ℕ) → q.words ≡ p.words → q.stride ≡ p.stride → x / 2 < p.stride →
+    k < p.words → p.words * (p.stride * (y / 2) + x / 2) + k < length p.odd.items →
+    x % 2 ≡ 0 → y % 2 ≡ 0 → q.odd.items ≡ set p.odd.items (p.words * (p.stride * (y / 2) + x / 2) + k) word →
+    q.right.items ≡ p.right.items → q.down.items ≡ p.down.items → q.even.items ≡ p.even.items → SetsWord x y k word p q
 sets_odd p q x y k word ew es lx lk room px py e_odd e_right e_down e_even =
-    sets_word p q x y k word ew es lx lk (subst (λ (z : List ℕ). p.words * (p.stride * (y / 2) + x / 2) + k < length z) (sym (plane_odd p x y px py)) room)
-    (λ x' y' ex ey. plane_odd q x' y' (ex ∙ px) (ey ∙ py) ∙ e_odd ∙ ap (λ z. set z (p.words * (p.stride * (y / 2) + x / 2) + k) word) (sym (plane_odd p x y px py)))
+    sets_word p q x y k word ew es lx lk
+    (subst (λ (z : List ℕ). p.words * (p.stride * (y / 2) + x / 2) + k < length z) (sym (plane_odd p x y px py)) room)
+    (λ x' y' ex ey. plane_odd q x' y' (ex ∙ px) (ey ∙ py) ∙ e_odd
+    ∙ ap (λ z. set z (p.words * (p.stride * (y / 2) + x / 2) + k) word) (sym (plane_odd p x y px py)))
     (λ x' y' ex ey. plane_odd p x' y' (ex ∙ px) (ey ∙ py) ∙ sym (plane_odd p x y px py))
     (λ x' y' differ. by_eq_or_not (x' % 2) 0
     (λ ex. by_eq_or_not (y' % 2) 0
     (λ ey. absurd (differ (omega arith, omega arith)))
-    (λ oy. plane_down q x' y' (omega arith) (omega arith) ∙ e_down ∙ sym (plane_down p x' y' (omega arith) (omega arith))))
+    (λ oy. plane_down q x' y' (omega arith) (omega arith) ∙ e_down
+    ∙ sym (plane_down p x' y' (omega arith) (omega arith))))
     (λ ox. by_eq_or_not (y' % 2) 0
-    (λ ey. plane_right q x' y' (omega arith) (omega arith) ∙ e_right ∙ sym (plane_right p x' y' (omega arith) (omega arith)))
-    (λ oy. plane_even q x' y' (omega arith) (omega arith) ∙ e_even ∙ sym (plane_even p x' y' (omega arith) (omega arith)))))
+    (λ ey. plane_right q x' y' (omega arith) (omega arith) ∙ e_right
+    ∙ sym (plane_right p x' y' (omega arith) (omega arith)))
+    (λ oy. plane_even q x' y' (omega arith) (omega arith) ∙ e_even
+    ∙ sym (plane_even p x' y' (omega arith) (omega arith)))))
 
-pub sets_down : (p q : Planes) (x y k word : ℕ) → q.words ≡ p.words → q.stride ≡ p.stride → x / 2 < p.stride → k < p.words → p.words * (p.stride * (y / 2) + x / 2) + k < length p.down.items →
-    x % 2 ≡ 0 → y % 2 ≡ 1 → q.odd.items ≡ p.odd.items → q.right.items ≡ p.right.items → q.down.items ≡ set p.down.items (p.words * (p.stride * (y / 2) + x / 2) + k) word → q.even.items ≡ p.even.items → SetsWord x y k word p q
+pub sets_down : (p q : Planes) (x y k word : ℕ) → q.words ≡ p.words → q.stride ≡ p.stride → x / 2 < p.stride →
+    k < p.words → p.words * (p.stride * (y / 2) + x / 2) + k < length p.down.items →
+    x % 2 ≡ 0 → y % 2 ≡ 1 → q.odd.items ≡ p.odd.items → q.right.items ≡ p.right.items →
+    q.down.items ≡ set p.down.items (p.words * (p.stride * (y / 2) + x / 2) + k) word → q.even.items ≡ p.even.items →
+    SetsWord x y k word p q
 sets_down p q x y k word ew es lx lk room px py e_odd e_right e_down e_even =
-    sets_word p q x y k word ew es lx lk (subst (λ (z : List ℕ). p.words * (p.stride * (y / 2) + x / 2) + k < length z) (sym (plane_down p x y px py)) room)
-    (λ x' y' ex ey. plane_down q x' y' (ex ∙ px) (ey ∙ py) ∙ e_down ∙ ap (λ z. set z (p.words * (p.stride * (y / 2) + x / 2) + k) word) (sym (plane_down p x y px py)))
+    sets_word p q x y k word ew es lx lk
+    (subst (λ (z : List ℕ). p.words * (p.stride * (y / 2) + x / 2) + k < length z) (sym (plane_down p x y px py)) room)
+    (λ x' y' ex ey. plane_down q x' y' (ex ∙ px) (ey ∙ py) ∙ e_down
+    ∙ ap (λ z. set z (p.words * (p.stride * (y / 2) + x / 2) + k) word) (sym (plane_down p x y px py)))
     (λ x' y' ex ey. plane_down p x' y' (ex ∙ px) (ey ∙ py) ∙ sym (plane_down p x y px py))
     (λ x' y' differ. by_eq_or_not (x' % 2) 0
     (λ ex. by_eq_or_not (y' % 2) 0
     (λ ey. plane_odd q x' y' (omega arith) (omega arith) ∙ e_odd ∙ sym (plane_odd p x' y' (omega arith) (omega arith)))
     (λ oy. absurd (differ (omega arith, omega arith))))
     (λ ox. by_eq_or_not (y' % 2) 0
-    (λ ey. plane_right q x' y' (omega arith) (omega arith) ∙ e_right ∙ sym (plane_right p x' y' (omega arith) (omega arith)))
-    (λ oy. plane_even q x' y' (omega arith) (omega arith) ∙ e_even ∙ sym (plane_even p x' y' (omega arith) (omega arith)))))
+    (λ ey. plane_right q x' y' (omega arith) (omega arith) ∙ e_right
+    ∙ sym (plane_right p x' y' (omega arith) (omega arith)))
+    (λ oy. plane_even q x' y' (omega arith) (omega arith) ∙ e_even
+    ∙ sym (plane_even p x' y' (omega arith) (omega arith)))))
 
-pub sets_right : (p q : Planes) (x y k word : ℕ) → q.words ≡ p.words → q.stride ≡ p.stride → x / 2 < p.stride → k < p.words → p.words * (p.stride * (y / 2) + x / 2) + k < length p.right.items →
-    x % 2 ≡ 1 → y % 2 ≡ 0 → q.odd.items ≡ p.odd.items → q.right.items ≡ set p.right.items (p.words * (p.stride * (y / 2) + x / 2) + k) word → q.down.items ≡ p.down.items → q.even.items ≡ p.even.items → SetsWord x y k word p q
+pub sets_right : (p q : Planes) (x y k word : ℕ) → q.words ≡ p.words → q.stride ≡ p.stride → x / 2 < p.stride →
+    k < p.words → p.words * (p.stride * (y / 2) + x / 2) + k < length p.right.items →
+    x % 2 ≡ 1 → y % 2 ≡ 0 → q.odd.items ≡ p.odd.items →
+    q.right.items ≡ set p.right.items (p.words * (p.stride * (y / 2) + x / 2) + k) word → q.down.items ≡ p.down.items →
+    q.even.items ≡ p.even.items → SetsWord x y k word p q
 sets_right p q x y k word ew es lx lk room px py e_odd e_right e_down e_even =
-    sets_word p q x y k word ew es lx lk (subst (λ (z : List ℕ). p.words * (p.stride * (y / 2) + x / 2) + k < length z) (sym (plane_right p x y px py)) room)
-    (λ x' y' ex ey. plane_right q x' y' (ex ∙ px) (ey ∙ py) ∙ e_right ∙ ap (λ z. set z (p.words * (p.stride * (y / 2) + x / 2) + k) word) (sym (plane_right p x y px py)))
+    sets_word p q x y k word ew es lx lk
+    (subst (λ (z : List ℕ). p.words * (p.stride * (y / 2) + x / 2) + k < length z) (sym (plane_right p x y px py)) room)
+    (λ x' y' ex ey. plane_right q x' y' (ex ∙ px) (ey ∙ py) ∙ e_right
+    ∙ ap (λ z. set z (p.words * (p.stride * (y / 2) + x / 2) + k) word) (sym (plane_right p x y px py)))
     (λ x' y' ex ey. plane_right p x' y' (ex ∙ px) (ey ∙ py) ∙ sym (plane_right p x y px py))
     (λ x' y' differ. by_eq_or_not (x' % 2) 0
     (λ ex. by_eq_or_not (y' % 2) 0
     (λ ey. plane_odd q x' y' (omega arith) (omega arith) ∙ e_odd ∙ sym (plane_odd p x' y' (omega arith) (omega arith)))
-    (λ oy. plane_down q x' y' (omega arith) (omega arith) ∙ e_down ∙ sym (plane_down p x' y' (omega arith) (omega arith))))
+    (λ oy. plane_down q x' y' (omega arith) (omega arith) ∙ e_down
+    ∙ sym (plane_down p x' y' (omega arith) (omega arith))))
     (λ ox. by_eq_or_not (y' % 2) 0
     (λ ey. absurd (differ (omega arith, omega arith)))
-    (λ oy. plane_even q x' y' (omega arith) (omega arith) ∙ e_even ∙ sym (plane_even p x' y' (omega arith) (omega arith)))))
+    (λ oy. plane_even q x' y' (omega arith) (omega arith) ∙ e_even
+    ∙ sym (plane_even p x' y' (omega arith) (omega arith)))))
 
-pub sets_even : (p q : Planes) (x y k word : ℕ) → q.words ≡ p.words → q.stride ≡ p.stride → x / 2 < p.stride → k < p.words → p.words * (p.stride * (y / 2) + x / 2) + k < length p.even.items →
-    x % 2 ≡ 1 → y % 2 ≡ 1 → q.odd.items ≡ p.odd.items → q.right.items ≡ p.right.items → q.down.items ≡ p.down.items → q.even.items ≡ set p.even.items (p.words * (p.stride * (y / 2) + x / 2) + k) word → SetsWord x y k word p q
+pub sets_even : (p q : Planes) (x y k word : ℕ) → q.words ≡ p.words → q.stride ≡ p.stride → x / 2 < p.stride →
+    k < p.words → p.words * (p.stride * (y / 2) + x / 2) + k < length p.even.items →
+    x % 2 ≡ 1 → y % 2 ≡ 1 → q.odd.items ≡ p.odd.items → q.right.items ≡ p.right.items → q.down.items ≡ p.down.items →
+    q.even.items ≡ set p.even.items (p.words * (p.stride * (y / 2) + x / 2) + k) word → SetsWord x y k word p q
 sets_even p q x y k word ew es lx lk room px py e_odd e_right e_down e_even =
-    sets_word p q x y k word ew es lx lk (subst (λ (z : List ℕ). p.words * (p.stride * (y / 2) + x / 2) + k < length z) (sym (plane_even p x y px py)) room)
-    (λ x' y' ex ey. plane_even q x' y' (ex ∙ px) (ey ∙ py) ∙ e_even ∙ ap (λ z. set z (p.words * (p.stride * (y / 2) + x / 2) + k) word) (sym (plane_even p x y px py)))
+    sets_word p q x y k word ew es lx lk
+    (subst (λ (z : List ℕ). p.words * (p.stride * (y / 2) + x / 2) + k < length z) (sym (plane_even p x y px py)) room)
+    (λ x' y' ex ey. plane_even q x' y' (ex ∙ px) (ey ∙ py) ∙ e_even
+    ∙ ap (λ z. set z (p.words * (p.stride * (y / 2) + x / 2) + k) word) (sym (plane_even p x y px py)))
     (λ x' y' ex ey. plane_even p x' y' (ex ∙ px) (ey ∙ py) ∙ sym (plane_even p x y px py))
     (λ x' y' differ. by_eq_or_not (x' % 2) 0
     (λ ex. by_eq_or_not (y' % 2) 0
     (λ ey. plane_odd q x' y' (omega arith) (omega arith) ∙ e_odd ∙ sym (plane_odd p x' y' (omega arith) (omega arith)))
-    (λ oy. plane_down q x' y' (omega arith) (omega arith) ∙ e_down ∙ sym (plane_down p x' y' (omega arith) (omega arith))))
+    (λ oy. plane_down q x' y' (omega arith) (omega arith) ∙ e_down
+    ∙ sym (plane_down p x' y' (omega arith) (omega arith))))
     (λ ox. by_eq_or_not (y' % 2) 0
-    (λ ey. plane_right q x' y' (omega arith) (omega arith) ∙ e_right ∙ sym (plane_right p x' y' (omega arith) (omega arith)))
+    (λ ey. plane_right q x' y' (omega arith) (omega arith) ∙ e_right
+    ∙ sym (plane_right p x' y' (omega arith) (omega arith)))
     (λ oy. absurd (differ (omega arith, omega arith)))))

@@ -1,5 +1,6 @@
 -- Cells that are known to be dead and have no line
-use Rattle.std.proofs.Common.{◌≡◌, ℕ, true, false, ◌<◌, ◌≤◌, ◌+◌, ◌-◌, ◌*◌, ◌/◌, ◌%◌, arith, sym, ◌∙◌, ap, ap₂, subst, refl, inl, inr, List, None}
+use Rattle.std.proofs.Common.{◌≡◌, ℕ, true, false, ◌<◌, ◌≤◌, ◌+◌, ◌-◌, ◌*◌, ◌/◌, ◌%◌, arith, sym, ◌∙◌, ap, ap₂, subst}
+use Rattle.std.proofs.Common.{refl, inl, inr, List, None}
 use Rattle.std.specs.Prelude.{ℤ}
 use Rattle.std.proofs.lemmas.Bool.{and_parts, false≢true}
 use Rattle.bbm_rule.specs.Spans.{in_span}
@@ -18,7 +19,8 @@ use Rattle.local_run.specs.Lanes.{lane}
 use Rattle.local_run.specs.Places.{inner, outer}
 use Rattle.bbm_rule.specs.Marks.{IsUnmarked}
 use Rattle.local_run.specs.Quiet.{AreLines, number_at}
-use Rattle.local_run.specs.Scans.{HasEdgeAt, HasEdgesIn, HasHaloAt, HasHaloIn, IsFound, IsLeastBelow, IsOuter, IsReady, IsShown, IsSilent, Shows, valuation}
+use Rattle.local_run.specs.Scans.{HasEdgeAt, HasEdgesIn, HasHaloAt, HasHaloIn, IsFound, IsLeastBelow, IsOuter, IsReady}
+use Rattle.local_run.specs.Scans.{IsShown, IsSilent, Shows, valuation}
 use Rattle.local_run.specs.declared.fault.Kind.TheVariants.{Edge}
 use Rattle.local_run.specs.declared.planes.Planes.{Planes}
 use Rattle.local_run.specs.declared.values.Values.{Values}
@@ -28,7 +30,8 @@ use Rattle.local_run.proofs.InsideLemmas.{in_row}
 use Rattle.local_run.proofs.QuietLemmas.{outer_same}
 use Rattle.local_run.proofs.Stepping.{box_out, outer_inner}
 
-pub dead_lane : (p : Planes) (x y a : ℕ) → IsDeadAt (p.stride * (y / 2) + x / 2) p → a < 64 * p.words → lane p a x y ≡ false
+pub dead_lane : (p : Planes) (x y a : ℕ) → IsDeadAt (p.stride * (y / 2) + x / 2) p → a < 64 * p.words →
+    lane p a x y ≡ false
 unfolding lane
 dead_lane p x y a dead l =
     let d = dead (a / 64) (omega arith) in
@@ -41,45 +44,57 @@ dead_lane p x y a dead l =
     (λ oy. rw (plane_even p x y (omega arith) (omega arith), d.3) (bit-zero (a % 64))))
 
 -- a cell of the box is in the planes as in the run
-shown_at : (j : JobState) (vs : Values) (p : Planes) (t x y a : ℕ) → Shows j vs t p → a < assignments j → in_box j.area (outer j.area.x x) (outer j.area.y y) ≡ true →
+shown_at : (j : JobState) (vs : Values) (p : Planes) (t x y a : ℕ) → Shows j vs t p → a < assignments j →
+    in_box j.area (outer j.area.x x) (outer j.area.y y) ≡ true →
     lane p a x y ≡ local_run j (valuation vs a) t (outer j.area.x x) (outer j.area.y y)
 unfolding in_box
 shown_at j vs p t x y a shows la inside =
-    let h = and_parts (in_span j.area.x j.area.w (outer j.area.x x)) (in_span j.area.y j.area.h (outer j.area.y y)) inside in
+    let h = and_parts (in_span j.area.x j.area.w (outer j.area.x x))
+    (in_span j.area.y j.area.h (outer j.area.y y)) inside in
     let px = span_at j.area.x j.area.w (outer j.area.x x) h.0 in
     let py = span_at j.area.y j.area.h (outer j.area.y y) h.1 in
     let ex : x ≡ 1 + px.number = outer_same j.area.x x (1 + px.number) (px.is ∙ sym (outer_inner j.area.x px.number)) in
     let ey : y ≡ 1 + py.number = outer_same j.area.y y (1 + py.number) (py.is ∙ sym (outer_inner j.area.y py.number)) in
     subst (λ (m : ℕ). lane p a m y ≡ local_run j (valuation vs a) t (outer j.area.x m) (outer j.area.y y)) (sym ex)
-    (subst (λ (m : ℕ). lane p a (1 + px.number) m ≡ local_run j (valuation vs a) t (outer j.area.x (1 + px.number)) (outer j.area.y m)) (sym ey)
-    (shows.cells a px.number py.number la px.below py.below ∙ ap₂ (local_run j (valuation vs a) t) (sym (outer_inner j.area.x px.number)) (sym (outer_inner j.area.y py.number))))
+    (subst (λ (m : ℕ). lane p a (1 + px.number) m
+    ≡ local_run j (valuation vs a) t (outer j.area.x (1 + px.number)) (outer j.area.y m)) (sym ey)
+    (shows.cells a px.number py.number la px.below py.below
+    ∙ ap₂ (local_run j (valuation vs a) t) (sym (outer_inner j.area.x px.number))
+    (sym (outer_inner j.area.y py.number))))
 
 ring_in_box : (b : Box2) (x y : ℤ) → in_ring b x y ≡ true → in_box b x y ≡ true
 unfolding in_ring
 ring_in_box b x y h = (and_parts _ _ h).0
 
 -- silent cells have no edge fault
-pub silent_edges : (j : JobState) (vs : Values) (p : Planes) (t column row : ℕ) → IsReady j vs → Shows j vs t p → column < p.stride → IsSilent j t p (p.stride * row + column) → HasEdgesIn j vs t column row
+pub silent_edges : (j : JobState) (vs : Values) (p : Planes) (t column row : ℕ) → IsReady j vs → Shows j vs t p →
+    column < p.stride → IsSilent j t p (p.stride * row + column) → HasEdgesIn j vs t column row
 silent_edges j vs p t column row ready shows lc silent x y lx ly ex ey a l f =
     let room = ready.room in
     let count = ready.count in
     let s0 = shows.size.0 in
-    let number : number_at j.area x y ≡ p.stride * row + column = ap₂ (λ r c. (j.area.w / 2 + 1) * r + c) ey ex ∙ ap (λ s. s * row + column) (sym shows.size.1) in
+    let number : number_at j.area x y ≡ p.stride * row + column =
+    ap₂ (λ r c. (j.area.w / 2 + 1) * r + c) ey ex ∙ ap (λ s. s * row + column) (sym shows.size.1) in
     let inside = ring_in_box j.area _ _ f.1.ring in
-    f.1.differs (sym (shown_at j vs p t x y a shows l inside) ∙ silent.dead a x y (omega arith) lx ly number ∙ sym (ap (is_live (valuation vs a)) (silent.edge x y lx ly number)))
+    f.1.differs (sym (shown_at j vs p t x y a shows l inside) ∙ silent.dead a x y (omega arith) lx ly number
+    ∙ sym (ap (is_live (valuation vs a)) (silent.edge x y lx ly number)))
 
 -- and what their signals say comes to those of them in the halo
-pub silent_halo : (j : JobState) (vs : Values) (p : Planes) (t column row : ℕ) → IsReady j vs → Shows j vs t p → IsSilent j t p (p.stride * row + column) → HasHaloIn j vs t p column row
+pub silent_halo : (j : JobState) (vs : Values) (p : Planes) (t column row : ℕ) → IsReady j vs → Shows j vs t p →
+    IsSilent j t p (p.stride * row + column) → HasHaloIn j vs t p column row
 silent_halo j vs p t column row ready shows silent x y lx ly ex ey a l outside =
     let room = ready.room in
     let count = ready.count in
     let s0 = shows.size.0 in
-    let number : number_at j.area x y ≡ p.stride * row + column = ap₂ (λ r c. (j.area.w / 2 + 1) * r + c) ey ex ∙ ap (λ s. s * row + column) (sym shows.size.1) in
+    let number : number_at j.area x y ≡ p.stride * row + column =
+    ap₂ (λ r c. (j.area.w / 2 + 1) * r + c) ey ex ∙ ap (λ s. s * row + column) (sym shows.size.1) in
     silent.dead a x y (omega arith) lx ly number ∙ sym (ap (is_live (valuation vs a)) (silent.halo x y lx ly number))
 
-pub silent_from : (j : JobState) (p : Planes) (t u : ℕ) (marks : List ℕ) → p.stride ≡ j.area.w / 2 + 1 → IsDeadAt u p → AreLines j t marks → IsUnmarked marks u → IsSilent j t p u
+pub silent_from : (j : JobState) (p : Planes) (t u : ℕ) (marks : List ℕ) → p.stride ≡ j.area.w / 2 + 1 → IsDeadAt u p →
+    AreLines j t marks → IsUnmarked marks u → IsSilent j t p u
 silent_from j p t u marks es dead lines free = record {
-  dead = λ a x y l lx ly e. dead_lane p x y a (subst (λ n. IsDeadAt n p) (sym e ∙ ap (λ s. s * (y / 2) + x / 2) (sym es)) dead) l;
+  dead = λ a x y l lx ly e. dead_lane p x y a
+      (subst (λ n. IsDeadAt n p) (sym e ∙ ap (λ s. s * (y / 2) + x / 2) (sym es)) dead) l;
   edge = λ x y lx ly e. lines.edges x y lx ly (subst (IsUnmarked marks) (sym e) free);
   halo = λ x y lx ly e. lines.halos x y lx ly (subst (IsUnmarked marks) (sym e) free);
 }
@@ -88,27 +103,35 @@ silent_from j p t u marks es dead lines free = record {
 pub outer_edge : (j : JobState) (vs : Values) (t x y : ℕ) → IsOuter j.area x y → HasEdgeAt j vs t x y
 outer_edge j vs t x y out a l f = false≢true (sym (box_out j.area x y out) ∙ ring_in_box j.area _ _ f.1.ring)
 
-pub inner_edge : (j : JobState) (vs : Values) (t x y : ℕ) → 1 ≤ x → 1 ≤ y → IsLeastBelow (assignments j) (λ a. IsFound j vs a t Edge (inner j.area.x (x - 1)) (inner j.area.y (y - 1))) None → HasEdgeAt j vs t x y
+pub inner_edge : (j : JobState) (vs : Values) (t x y : ℕ) → 1 ≤ x → 1 ≤ y →
+    IsLeastBelow (assignments j) (λ a. IsFound j vs a t Edge (inner j.area.x (x - 1)) (inner j.area.y (y - 1))) None →
+    HasEdgeAt j vs t x y
 inner_edge j vs t x y lx ly none a l f =
-    let ex : outer j.area.x x ≡ inner j.area.x (x - 1) = ap (outer j.area.x) (next x lx) ∙ outer_inner j.area.x (x - 1) in
-    let ey : outer j.area.y y ≡ inner j.area.y (y - 1) = ap (outer j.area.y) (next y ly) ∙ outer_inner j.area.y (y - 1) in
-    none a l (subst (λ (z : ℤ). IsFound j vs a t Edge z (inner j.area.y (y - 1))) ex (subst (λ (z : ℤ). IsFound j vs a t Edge (outer j.area.x x) z) ey f))
+    let ex : outer j.area.x x ≡ inner j.area.x (x - 1) =
+    ap (outer j.area.x) (next x lx) ∙ outer_inner j.area.x (x - 1) in
+    let ey : outer j.area.y y ≡ inner j.area.y (y - 1) =
+    ap (outer j.area.y) (next y ly) ∙ outer_inner j.area.y (y - 1) in
+    none a l (subst (λ (z : ℤ). IsFound j vs a t Edge z (inner j.area.y (y - 1))) ex
+    (subst (λ (z : ℤ). IsFound j vs a t Edge (outer j.area.x x) z) ey f))
   where
     next : (k : ℕ) → 1 ≤ k → k ≡ 1 + (k - 1)
     next k l = omega arith
 
 -- nor does a dead cell of which no line says something
-pub unsaid_edge : (j : JobState) (vs : Values) (p : Planes) (t x y : ℕ) (marks : List ℕ) → IsReady j vs → Shows j vs t p → AreLines j t marks → x < j.area.w + 2 → y < j.area.h + 2 →
+pub unsaid_edge : (j : JobState) (vs : Values) (p : Planes) (t x y : ℕ) (marks : List ℕ) → IsReady j vs →
+    Shows j vs t p → AreLines j t marks → x < j.area.w + 2 → y < j.area.h + 2 →
     IsUnmarked marks (p.stride * (y / 2) + x / 2) → IsShown vs p x y Zero vs.words → HasEdgeAt j vs t x y
 unsaid_edge j vs p t x y marks ready shows lines lx ly free dead a l f =
     let room = ready.room in
     let count = ready.count in
     let free = rw shows.size.1 at free in
     let inside = ring_in_box j.area _ _ f.1.ring in
-    f.1.differs (sym (shown_at j vs p t x y a shows l inside) ∙ dead a (omega arith) ∙ sym (ap (is_live (valuation vs a)) (lines.edges x y lx ly free)))
+    f.1.differs (sym (shown_at j vs p t x y a shows l inside) ∙ dead a (omega arith)
+    ∙ sym (ap (is_live (valuation vs a)) (lines.edges x y lx ly free)))
 
 -- the four cells in a column and row of the planes
-pub four_cells : (c r : ℕ) (P : ℕ → ℕ → Type 0) → P (2 * c) (2 * r) → P (2 * c + 1) (2 * r) → P (2 * c) (2 * r + 1) → P (2 * c + 1) (2 * r + 1) → (x y : ℕ) → x / 2 ≡ c → y / 2 ≡ r → P x y
+pub four_cells : (c r : ℕ) (P : ℕ → ℕ → Type 0) → P (2 * c) (2 * r) → P (2 * c + 1) (2 * r) → P (2 * c) (2 * r + 1) →
+    P (2 * c + 1) (2 * r + 1) → (x y : ℕ) → x / 2 ≡ c → y / 2 ≡ r → P x y
 four_cells c r P first second third fourth x y ex ey = by_eq_or_not x (2 * c)
     (λ e. by_eq_or_not y (2 * r)
     (λ f. subst (λ m. P m y) (sym e) (subst (P (2 * c)) (sym f) first))
@@ -118,20 +141,26 @@ four_cells c r P first second third fourth x y ex ey = by_eq_or_not x (2 * c)
     (λ m. let f : y ≡ 2 * r + 1 = omega arith in subst (λ m. P m y) (sym e) (subst (P (2 * c + 1)) (sym f) fourth)))
 
 -- nor have cells between the ring's columns and rows
-pub between_edges : (j : JobState) (vs : Values) (t x y : ℕ) → 2 ≤ x → x < j.area.w → 2 ≤ y → y < j.area.h → HasEdgeAt j vs t x y
+pub between_edges : (j : JobState) (vs : Values) (t x y : ℕ) → 2 ≤ x → x < j.area.w → 2 ≤ y → y < j.area.h →
+    HasEdgeAt j vs t x y
 between_edges j vs t x y lx hx ly hy a l f =
-    let ex : outer j.area.x x ≡ inner j.area.x (x - 1) = ap (outer j.area.x) (next x (omega arith)) ∙ outer_inner j.area.x (x - 1) in
-    let ey : outer j.area.y y ≡ inner j.area.y (y - 1) = ap (outer j.area.y) (next y (omega arith)) ∙ outer_inner j.area.y (y - 1) in
-    false≢true (sym (not_in_ring j.area (x - 1) (y - 1) (omega arith) (omega arith) (omega arith) (omega arith)) ∙ sym (ap₂ (in_ring j.area) ex ey) ∙ f.1.ring)
+    let ex : outer j.area.x x ≡ inner j.area.x (x - 1) =
+    ap (outer j.area.x) (next x (omega arith)) ∙ outer_inner j.area.x (x - 1) in
+    let ey : outer j.area.y y ≡ inner j.area.y (y - 1) =
+    ap (outer j.area.y) (next y (omega arith)) ∙ outer_inner j.area.y (y - 1) in
+    false≢true (sym (not_in_ring j.area (x - 1) (y - 1) (omega arith) (omega arith) (omega arith) (omega arith))
+    ∙ sym (ap₂ (in_ring j.area) ex ey) ∙ f.1.ring)
   where
     next : (k : ℕ) → 1 ≤ k → k ≡ 1 + (k - 1)
     next k l = omega arith
 
 -- ---- the numbers that a look at ring and halo passes
-number_in : (j : JobState) (vs : Values) (t : ℕ) (p : Planes) (x y : ℕ) → Shows j vs t p → number_at j.area x y ≡ p.stride * (y / 2) + x / 2
+number_in : (j : JobState) (vs : Values) (t : ℕ) (p : Planes) (x y : ℕ) → Shows j vs t p →
+    number_at j.area x y ≡ p.stride * (y / 2) + x / 2
 number_in j vs t p x y shows = ap (λ s. s * (y / 2) + x / 2) (sym shows.size.1)
 
-pub passed_edges : (j : JobState) (vs : Values) (p : Planes) (t from to x y : ℕ) (marks : List ℕ) → IsReady j vs → Shows j vs t p → AreLines j t marks → ArePassed from to marks p →
+pub passed_edges : (j : JobState) (vs : Values) (p : Planes) (t from to x y : ℕ) (marks : List ℕ) → IsReady j vs →
+    Shows j vs t p → AreLines j t marks → ArePassed from to marks p →
     x < j.area.w + 2 → y < j.area.h + 2 → from ≤ number_at j.area x y → number_at j.area x y < to → HasEdgeAt j vs t x y
 passed_edges j vs p t from to x y marks ready shows lines passed lx ly after before =
     let s1 = shows.size.1 in
@@ -140,12 +169,16 @@ passed_edges j vs p t from to x y marks ready shows lines passed lx ly after bef
     let even_h = ready.job.even.h in
     let e = number_in j vs t p x y shows in
     elim (passed (x / 2) (y / 2) (omega arith) (omega arith) (omega (arith, e, after)) (omega (arith, e, before))) [
-      | inl inner ↦ let i0 = inner.0 in let i1 = inner.1 in let i2 = inner.2 in let i3 = inner.3 in between_edges j vs t x y (omega arith) (omega arith) (omega arith) (omega arith)
-      | inr silent ↦ silent_edges j vs p t (x / 2) (y / 2) ready shows (omega arith) (silent_from j p t (p.stride * (y / 2) + x / 2) marks s1 silent.0 lines silent.1) x y lx ly refl refl
+      | inl inner ↦ let i0 = inner.0 in let i1 = inner.1 in let i2 = inner.2 in let i3 = inner.3 in
+          between_edges j vs t x y (omega arith) (omega arith) (omega arith) (omega arith)
+      | inr silent ↦ silent_edges j vs p t (x / 2) (y / 2) ready shows (omega arith)
+          (silent_from j p t (p.stride * (y / 2) + x / 2) marks s1 silent.0 lines silent.1) x y lx ly refl refl
     ]
 
-pub passed_halo : (j : JobState) (vs : Values) (p : Planes) (t from to x y : ℕ) (marks : List ℕ) → IsReady j vs → Shows j vs t p → AreLines j t marks → ArePassed from to marks p →
-    x < j.area.w + 2 → y < j.area.h + 2 → from ≤ number_at j.area x y → number_at j.area x y < to → HasHaloAt j vs t p x y
+pub passed_halo : (j : JobState) (vs : Values) (p : Planes) (t from to x y : ℕ) (marks : List ℕ) → IsReady j vs →
+    Shows j vs t p → AreLines j t marks → ArePassed from to marks p →
+    x < j.area.w + 2 → y < j.area.h + 2 → from ≤ number_at j.area x y → number_at j.area x y < to →
+    HasHaloAt j vs t p x y
 passed_halo j vs p t from to x y marks ready shows lines passed lx ly after before =
     let s1 = shows.size.1 in
     let s2 = shows.size.2 in
@@ -153,12 +186,15 @@ passed_halo j vs p t from to x y marks ready shows lines passed lx ly after befo
     let even_h = ready.job.even.h in
     let e = number_in j vs t p x y shows in
     elim (passed (x / 2) (y / 2) (omega arith) (omega arith) (omega (arith, e, after)) (omega (arith, e, before))) [
-      | inl inner ↦ let i0 = inner.0 in let i1 = inner.1 in let i2 = inner.2 in let i3 = inner.3 in λ a l out. absurd (out (omega arith, omega arith, omega arith, omega arith))
-      | inr silent ↦ silent_halo j vs p t (x / 2) (y / 2) ready shows (silent_from j p t (p.stride * (y / 2) + x / 2) marks s1 silent.0 lines silent.1) x y lx ly refl refl
+      | inl inner ↦ let i0 = inner.0 in let i1 = inner.1 in let i2 = inner.2 in let i3 = inner.3 in
+          λ a l out. absurd (out (omega arith, omega arith, omega arith, omega arith))
+      | inr silent ↦ silent_halo j vs p t (x / 2) (y / 2) ready shows
+          (silent_from j p t (p.stride * (y / 2) + x / 2) marks s1 silent.0 lines silent.1) x y lx ly refl refl
     ]
 
 -- the cells with a number are those in one column and row
-pub same_place : (s column row x y : ℕ) → column < s → x / 2 < s → s * row + column ≡ s * (y / 2) + x / 2 → (x / 2 ≡ column) × (y / 2 ≡ row)
+pub same_place : (s column row x y : ℕ) → column < s → x / 2 < s → s * row + column ≡ s * (y / 2) + x / 2 →
+    (x / 2 ≡ column) × (y / 2 ≡ row)
 same_place s column row x y lc lx e =
     let ex : x / 2 ≡ column = sym (in_row s (y / 2) (x / 2) lx) ∙ sym (ap (λ n. n % s) e) ∙ in_row s row column lc in
     (ex, by_rows (y / 2) row (omega arith))
@@ -166,4 +202,5 @@ same_place s column row x y lc lx e =
     by_rows : (r r' : ℕ) → s * r ≡ s * r' → r ≡ r'
     by_rows r r' h = by_lt_or_le r r'
         (λ l. let m : s * (r + 1) ≤ s * r' = mul-le-mul_left s (omega arith) in absurd (omega arith))
-        (λ l. by_eq_or_not r r' (λ same. same) (λ ne. let m : s * (r' + 1) ≤ s * r = mul-le-mul_left s (omega arith) in absurd (omega arith)))
+        (λ l. by_eq_or_not r r' (λ same. same)
+        (λ ne. let m : s * (r' + 1) ≤ s * r = mul-le-mul_left s (omega arith) in absurd (omega arith)))

@@ -1,5 +1,6 @@
 -- The steps of the planes are those of the definition
-use Rattle.std.proofs.Common.{◌≡◌, ◌≢◌, ℕ, zero, suc, Bool, true, false, not, ◌&&◌, ◌||◌, ◌<◌, ◌≤◌, ◌+◌, ◌-◌, ◌*◌, ◌/◌, ◌%◌, refl, arith, sym, ◌∙◌, ap, ap₂, subst, eq-eqb, ne_eqb, add-one, inl, inr}
+use Rattle.std.proofs.Common.{◌≡◌, ◌≢◌, ℕ, zero, suc, Bool, true, false, not, ◌&&◌, ◌||◌, ◌<◌, ◌≤◌, ◌+◌, ◌-◌, ◌*◌, ◌/◌}
+use Rattle.std.proofs.Common.{◌%◌, refl, arith, sym, ◌∙◌, ap, ap₂, subst, eq-eqb, ne_eqb, add-one, inl, inr}
 use Rattle.std.specs.Prelude.{ℤ, pos, negsuc, ◌+ℤ◌, ◌-ℤ◌}
 use Rattle.std.proofs.lemmas.Bool.{and_parts, and_from, cases_Bool, false≢true, cond-true, cond-false, not_from_false}
 use Rattle.std.proofs.lemmas.Int.{ints}
@@ -27,7 +28,8 @@ use Rattle.local_run.specs.declared.planes.Planes.{Planes}
 use Rattle.local_run.proofs.Firsts.{inner_in_box}
 
 -- ---- one block
-block : (t : ℕ) (s : State) (x y x' y' : ℤ) (a b c d : Bool) → partner t x ≡ x' → partner t y ≡ y' → a ≡ s x y → b ≡ s x' y' → c ≡ s x' y → d ≡ s x y' →
+block : (t : ℕ) (s : State) (x y x' y' : ℤ) (a b c d : Bool) → partner t x ≡ x' → partner t y ≡ y' → a ≡ s x y →
+    b ≡ s x' y' → c ≡ s x' y → d ≡ s x y' →
     turned a b c d ≡ step t s x y
 unfolding step
 block t s x y x' y' a b c d ex ey ea eb ec ed = rw (ex, ey, ea, eb, ec, ed) refl
@@ -35,7 +37,8 @@ block t s x y x' y' a b c d ex ey ea eb ec ed = rw (ex, ey, ea, eb, ec, ed) refl
 mate_below : (n x : ℕ) → n % 2 ≡ 0 → x < n → mate x < n
 mate_below n x even l = by_eq_or_not (x % 2) 0
     (λ e. let m : mate x ≡ 1 + x = mate_even x e in omega arith)
-    (λ o. let p : 1 + (x - 1) ≡ x = omega arith in let m : mate x ≡ x - 1 = ap mate (sym p) ∙ mate_odd (x - 1) (omega arith) in omega arith)
+    (λ o. let p : 1 + (x - 1) ≡ x = omega arith in let m : mate x ≡ x - 1 =
+    ap mate (sym p) ∙ mate_odd (x - 1) (omega arith) in omega arith)
 
 up_pos : (t n : ℕ) → n % 2 ≡ t % 2 → partner t (pos n) ≡ pos (1 + n)
 unfolding partner
@@ -58,7 +61,8 @@ less_none = omega (arith, ints)
 partner_inner : (c t x : ℕ) → c % 2 ≡ 0 → t % 2 ≡ 0 → partner t (inner c x) ≡ inner c (mate x)
 unfolding inner
 partner_inner c t x ec et = by_eq_or_not (x % 2) 0
-    (λ e. let m : c + mate x ≡ 1 + (c + x) = omega (arith, mate_even x e) in up_pos t (c + x) (omega arith) ∙ ap pos (sym m))
+    (λ e. let m : c + mate x ≡ 1 + (c + x) = omega (arith, mate_even x e) in
+    up_pos t (c + x) (omega arith) ∙ ap pos (sym m))
     (λ o. let p : 1 + (x - 1) ≡ x = omega arith in
     let m : mate x ≡ x - 1 = ap mate (sym p) ∙ mate_odd (x - 1) (omega arith) in
     let q : c + x ≡ 1 + (c + mate x) = omega arith in
@@ -66,7 +70,8 @@ partner_inner c t x ec et = by_eq_or_not (x % 2) 0
 
 outer_up : (t n : ℕ) → t % 2 ≡ 1 → n % 2 ≡ 0 → partner t (pos n -ℤ pos 1) ≡ pos (1 + n) -ℤ pos 1
 outer_up t zero et en = ap (partner t) less_none ∙ up_last t et ∙ sym (less_plus 0)
-outer_up t (suc m) et en = ap (partner t) (less_one m) ∙ up_pos t m (omega arith) ∙ ap pos (omega arith) ∙ sym (less_plus (suc m))
+outer_up t (suc m) et en = ap (partner t) (less_one m) ∙ up_pos t m (omega arith) ∙ ap pos (omega arith)
+    ∙ sym (less_plus (suc m))
 
 outer_down : (t n : ℕ) → t % 2 ≡ 1 → n % 2 ≡ 0 → partner t (pos (1 + n) -ℤ pos 1) ≡ pos n -ℤ pos 1
 outer_down t n et en = ap (partner t) (less_plus n) ∙ down_pos t n (omega arith)
@@ -74,7 +79,8 @@ outer_down t n et en = ap (partner t) (less_plus n) ∙ down_pos t n (omega arit
 partner_outer : (c t x : ℕ) → c % 2 ≡ 0 → t % 2 ≡ 1 → partner t (outer c x) ≡ outer c (mate x)
 unfolding outer
 partner_outer c t x ec et = by_eq_or_not (x % 2) 0
-    (λ e. let m : 1 + (c + x) ≡ c + mate x = omega (arith, mate_even x e) in outer_up t (c + x) et (omega arith) ∙ ap (λ n. pos n -ℤ pos 1) m)
+    (λ e. let m : 1 + (c + x) ≡ c + mate x = omega (arith, mate_even x e) in
+    outer_up t (c + x) et (omega arith) ∙ ap (λ n. pos n -ℤ pos 1) m)
     (λ o. let p : 1 + (x - 1) ≡ x = omega arith in
     let m : mate x ≡ x - 1 = ap mate (sym p) ∙ mate_odd (x - 1) (omega arith) in
     let q : c + x ≡ 1 + (c + mate x) = omega arith in
@@ -85,18 +91,23 @@ unfolding outer inner
 outer_inner c x = omega (arith, ints)
 
 -- ---- the run of the definition
-run_even : (j : JobState) (u : Valuation) (t : ℕ) (x y : ℤ) → t % 2 ≡ 0 → local_run j u (t + 1) x y ≡ step t (local_run j u t) x y
+run_even : (j : JobState) (u : Valuation) (t : ℕ) (x y : ℤ) → t % 2 ≡ 0 →
+    local_run j u (t + 1) x y ≡ step t (local_run j u t) x y
 unfolding local_run
 run_even j u t x y e = ap (λ n. local_run j u n x y) (add-one t) ∙ local_even j u t _ x y e
 
-run_odd : (j : JobState) (u : Valuation) (t : ℕ) (x y : ℤ) → t % 2 ≡ 1 → in_box j.area x y ≡ true → local_run j u (t + 1) x y ≡ step t (with_halo j u t (local_run j u t)) x y
+run_odd : (j : JobState) (u : Valuation) (t : ℕ) (x y : ℤ) → t % 2 ≡ 1 → in_box j.area x y ≡ true →
+    local_run j u (t + 1) x y ≡ step t (with_halo j u t (local_run j u t)) x y
 unfolding local_run
-run_odd j u t x y e h = ap (λ n. local_run j u n x y) (add-one t) ∙ local_odd j u t _ x y e ∙ ap (λ p. p && step t (with_halo j u t (local_run j u t)) x y) h
+run_odd j u t x y e h = ap (λ n. local_run j u n x y) (add-one t) ∙ local_odd j u t _ x y e
+    ∙ ap (λ p. p && step t (with_halo j u t (local_run j u t)) x y) h
 
 -- ---- an even step
-pub even_shows : (j : JobState) (vs : Values) (t : ℕ) (p q : Planes) → IsReady j vs → t % 2 ≡ 0 → Shows j vs t p → HasSize p.words p.stride p.rows q →
+pub even_shows : (j : JobState) (vs : Values) (t : ℕ) (p q : Planes) → IsReady j vs → t % 2 ≡ 0 → Shows j vs t p →
+    HasSize p.words p.stride p.rows q →
     ((a x y : ℕ) → a < 64 * p.words → x + 2 < 2 * p.stride → y + 2 < 2 * p.rows →
-    lane q a (1 + x) (1 + y) ≡ turned (lane p a (1 + x) (1 + y)) (lane p a (1 + mate x) (1 + mate y)) (lane p a (1 + mate x) (1 + y)) (lane p a (1 + x) (1 + mate y))) →
+    lane q a (1 + x) (1 + y) ≡ turned (lane p a (1 + x) (1 + y)) (lane p a (1 + mate x) (1 + mate y))
+    (lane p a (1 + mate x) (1 + y)) (lane p a (1 + x) (1 + mate y))) →
     Shows j vs (t + 1) q
 even_shows j vs t p q ready even shows size turns = record {
   size = (size.0 ∙ shows.size.0, size.1 ∙ shows.size.1, size.2 ∙ shows.size.2);
@@ -112,14 +123,17 @@ even_shows j vs t p q ready even shows size turns = record {
       let mx : mate x < j.area.w = mate_below j.area.w x ew lx in
       let my : mate y < j.area.h = mate_below j.area.h y eh ly in
       turns a x y (omega arith) (omega arith) (omega arith)
-      ∙ block t (local_run j u t) (inner j.area.x x) (inner j.area.y y) (inner j.area.x (mate x)) (inner j.area.y (mate y)) _ _ _ _
+      ∙ block t (local_run j u t) (inner j.area.x x) (inner j.area.y y) (inner j.area.x (mate x))
+      (inner j.area.y (mate y)) _ _ _ _
       (partner_inner j.area.x t x ready.job.even.x even) (partner_inner j.area.y t y ready.job.even.y even)
-      (shows.cells a x y la lx ly) (shows.cells a (mate x) (mate y) la mx my) (shows.cells a (mate x) y la mx ly) (shows.cells a x (mate y) la lx my)
+      (shows.cells a x y la lx ly) (shows.cells a (mate x) (mate y) la mx my) (shows.cells a (mate x) y la mx ly)
+      (shows.cells a x (mate y) la lx my)
       ∙ sym (run_even j u t _ _ even);
 }
 
 -- the cells of the box stayed
-pub inside_shows : (j : JobState) (vs : Values) (t : ℕ) (p q : Planes) → IsReady j vs → Shows j vs t p → HasSize p.words p.stride p.rows q → SameInside p q → Shows j vs t q
+pub inside_shows : (j : JobState) (vs : Values) (t : ℕ) (p q : Planes) → IsReady j vs → Shows j vs t p →
+    HasSize p.words p.stride p.rows q → SameInside p q → Shows j vs t q
 inside_shows j vs t p q ready shows size same = record {
   size = (size.0 ∙ shows.size.0, size.1 ∙ shows.size.1, size.2 ∙ shows.size.2);
   cells = λ a x y la lx ly.
@@ -134,9 +148,11 @@ inside_shows j vs t p q ready shows size same = record {
 }
 
 -- ---- an odd step
-pub odd_shows : (j : JobState) (vs : Values) (t : ℕ) (p q : Planes) → IsReady j vs → t % 2 ≡ 1 → HasSize vs.words (j.area.w / 2 + 1) (j.area.h / 2 + 1) p →
+pub odd_shows : (j : JobState) (vs : Values) (t : ℕ) (p q : Planes) → IsReady j vs → t % 2 ≡ 1 →
+    HasSize vs.words (j.area.w / 2 + 1) (j.area.h / 2 + 1) p →
     ((a x y : ℕ) → a < assignments j → x < j.area.w + 2 → y < j.area.h + 2 →
-    lane p a x y ≡ with_halo j (valuation vs a) t (local_run j (valuation vs a) t) (outer j.area.x x) (outer j.area.y y)) →
+    lane p a x y ≡ with_halo j (valuation vs a) t (local_run j (valuation vs a) t) (outer j.area.x x)
+    (outer j.area.y y)) →
     HasSize p.words p.stride p.rows q →
     ((a x y : ℕ) → a < 64 * p.words → x < 2 * p.stride → y < 2 * p.rows →
     lane q a x y ≡ turned (lane p a x y) (lane p a (mate x) (mate y)) (lane p a (mate x) y) (lane p a x (mate y))) →
@@ -158,9 +174,11 @@ odd_shows j vs t p q ready odd sized halo size turns = record {
       let mx : mate (1 + x) < j.area.w + 2 = mate_below (j.area.w + 2) (1 + x) (omega arith) bx in
       let my : mate (1 + y) < j.area.h + 2 = mate_below (j.area.h + 2) (1 + y) (omega arith) by in
       turns a (1 + x) (1 + y) (omega arith) (omega arith) (omega arith)
-      ∙ block t s (outer j.area.x (1 + x)) (outer j.area.y (1 + y)) (outer j.area.x (mate (1 + x))) (outer j.area.y (mate (1 + y))) _ _ _ _
+      ∙ block t s (outer j.area.x (1 + x)) (outer j.area.y (1 + y)) (outer j.area.x (mate (1 + x)))
+      (outer j.area.y (mate (1 + y))) _ _ _ _
       (partner_outer j.area.x t (1 + x) ready.job.even.x odd) (partner_outer j.area.y t (1 + y) ready.job.even.y odd)
-      (halo a (1 + x) (1 + y) la bx by) (halo a (mate (1 + x)) (mate (1 + y)) la mx my) (halo a (mate (1 + x)) (1 + y) la mx by) (halo a (1 + x) (mate (1 + y)) la bx my)
+      (halo a (1 + x) (1 + y) la bx by) (halo a (mate (1 + x)) (mate (1 + y)) la mx my)
+      (halo a (mate (1 + x)) (1 + y) la mx by) (halo a (1 + x) (mate (1 + y)) la bx my)
       ∙ ap₂ (step t s) (outer_inner j.area.x x) (outer_inner j.area.y y)
       ∙ sym (run_odd j u t _ _ odd (inner_in_box j.area x y lx ly));
 }
@@ -172,7 +190,8 @@ span_outer_parts c n x h = outer_case (c + x) refl h
   where
     outer_case : (m : ℕ) → c + x ≡ m → in_span c n (pos m -ℤ pos 1) ≡ true → (1 ≤ x) × (x ≤ n)
     outer_case zero e k = absurd (false≢true (sym (ap (in_span c n) less_none ∙ in_span-negsuc c n 0) ∙ k))
-    outer_case (suc m) e k = let p = span_parts c n m (sym (ap (in_span c n) (less_one m)) ∙ k) in (omega arith, omega arith)
+    outer_case (suc m) e k = let p = span_parts c n m (sym (ap (in_span c n) (less_one m)) ∙ k) in
+        (omega arith, omega arith)
 
 pub box_out : (b : Box2) (x y : ℕ) → IsOuter b x y → in_box b (outer b.x x) (outer b.y y) ≡ false
 unfolding in_box
@@ -200,30 +219,45 @@ less_two n = omega (arith, ints)
 less_more : (n : ℕ) → pos n -ℤ pos 1 +ℤ pos 1 ≡ pos n
 less_more n = omega (arith, ints)
 
-near_span : (c n x : ℕ) → x < n + 2 → 2 ≤ n → (in_span c n (outer c x -ℤ pos 1) || in_span c n (outer c x) || in_span c n (outer c x +ℤ pos 1)) ≡ true
+near_span : (c n x : ℕ) → x < n + 2 → 2 ≤ n →
+    (in_span c n (outer c x -ℤ pos 1) || in_span c n (outer c x) || in_span c n (outer c x +ℤ pos 1)) ≡ true
 unfolding outer
 near_span c n x l two = by_lt_or_le n x
     (λ above. let e : c + x ≡ 2 + (c + (n - 1)) = omega arith in
-    or_first (in_span c n (pos (c + x) -ℤ pos 1 -ℤ pos 1)) (in_span c n (pos (c + x) -ℤ pos 1)) (in_span c n (pos (c + x) -ℤ pos 1 +ℤ pos 1)) (ap (λ m. in_span c n (pos m -ℤ pos 1 -ℤ pos 1)) e ∙ ap (in_span c n) (less_two (c + (n - 1))) ∙ span_from c n (c + (n - 1)) (omega arith) (omega arith)))
+    or_first (in_span c n (pos (c + x) -ℤ pos 1 -ℤ pos 1)) (in_span c n (pos (c + x) -ℤ pos 1))
+    (in_span c n (pos (c + x) -ℤ pos 1 +ℤ pos 1))
+    (ap (λ m. in_span c n (pos m -ℤ pos 1 -ℤ pos 1)) e ∙ ap (in_span c n) (less_two (c + (n - 1)))
+    ∙ span_from c n (c + (n - 1)) (omega arith) (omega arith)))
     (λ under. by_eq_or_not x 0
-    (λ e. or_third (in_span c n (pos (c + x) -ℤ pos 1 -ℤ pos 1)) (in_span c n (pos (c + x) -ℤ pos 1)) (in_span c n (pos (c + x) -ℤ pos 1 +ℤ pos 1)) (ap (in_span c n) (less_more (c + x)) ∙ span_from c n (c + x) (omega arith) (omega arith)))
+    (λ e. or_third (in_span c n (pos (c + x) -ℤ pos 1 -ℤ pos 1)) (in_span c n (pos (c + x) -ℤ pos 1))
+    (in_span c n (pos (c + x) -ℤ pos 1 +ℤ pos 1))
+    (ap (in_span c n) (less_more (c + x)) ∙ span_from c n (c + x) (omega arith) (omega arith)))
     (λ ne. let e : c + x ≡ 1 + (c + (x - 1)) = omega arith in
-    or_second (in_span c n (pos (c + x) -ℤ pos 1 -ℤ pos 1)) (in_span c n (pos (c + x) -ℤ pos 1)) (in_span c n (pos (c + x) -ℤ pos 1 +ℤ pos 1)) (ap (λ m. in_span c n (pos m -ℤ pos 1)) e ∙ ap (in_span c n) (less_plus (c + (x - 1))) ∙ span_from c n (c + (x - 1)) (omega arith) (omega arith))))
+    or_second (in_span c n (pos (c + x) -ℤ pos 1 -ℤ pos 1)) (in_span c n (pos (c + x) -ℤ pos 1))
+    (in_span c n (pos (c + x) -ℤ pos 1 +ℤ pos 1))
+    (ap (λ m. in_span c n (pos m -ℤ pos 1)) e ∙ ap (in_span c n) (less_plus (c + (x - 1)))
+    ∙ span_from c n (c + (x - 1)) (omega arith) (omega arith))))
 
-margin_halo : (b : Box2) (x y : ℕ) → 2 ≤ b.w → 2 ≤ b.h → x < b.w + 2 → y < b.h + 2 → IsOuter b x y → in_halo b (outer b.x x) (outer b.y y) ≡ true
+margin_halo : (b : Box2) (x y : ℕ) → 2 ≤ b.w → 2 ≤ b.h → x < b.w + 2 → y < b.h + 2 → IsOuter b x y →
+    in_halo b (outer b.x x) (outer b.y y) ≡ true
 margin_halo b x y tw th lx ly m =
-    sym (halo_read b (outer b.x x) (outer b.y y) _ _ _ refl refl refl) ∙ and_from _ _ (not_from_false _ (box_out b x y m)) (and_from _ _ (near_span b.x b.w x lx tw) (near_span b.y b.h y ly th))
+    sym (halo_read b (outer b.x x) (outer b.y y) _ _ _ refl refl refl)
+    ∙ and_from _ _ (not_from_false _ (box_out b x y m))
+    (and_from _ _ (near_span b.x b.w x lx tw) (near_span b.y b.h y ly th))
 
 or-false : (b : Bool) → (b || false) ≡ b
 or-false true = refl
 or-false false = refl
 
-with_halo_inside : (j : JobState) (u : Valuation) (t : ℕ) (s : State) (x y : ℤ) → in_box j.area x y ≡ true → with_halo j u t s x y ≡ s x y
+with_halo_inside : (j : JobState) (u : Valuation) (t : ℕ) (s : State) (x y : ℤ) → in_box j.area x y ≡ true →
+    with_halo j u t s x y ≡ s x y
 unfolding with_halo in_halo
 with_halo_inside j u t s x y h =
-    ap (λ p. s x y || ((not p && some_neighbour (in_box j.area) x y) && is_live u (signal_at j.halos t x y))) h ∙ or-false (s x y)
+    ap (λ p. s x y || ((not p && some_neighbour (in_box j.area) x y) && is_live u (signal_at j.halos t x y))) h
+    ∙ or-false (s x y)
 
-with_halo_outside : (j : JobState) (u : Valuation) (t : ℕ) (s : State) (x y : ℤ) → s x y ≡ false → in_halo j.area x y ≡ true → with_halo j u t s x y ≡ is_live u (signal_at j.halos t x y)
+with_halo_outside : (j : JobState) (u : Valuation) (t : ℕ) (s : State) (x y : ℤ) → s x y ≡ false →
+    in_halo j.area x y ≡ true → with_halo j u t s x y ≡ is_live u (signal_at j.halos t x y)
 unfolding with_halo
 with_halo_outside j u t s x y dead h =
     ap₂ (λ p q. p || (q && is_live u (signal_at j.halos t x y))) dead h
@@ -239,7 +273,8 @@ halo_cells j vs t p ready shows halo a x y la lx ly =
     let ex : 1 + (x - 1) ≡ x = omega arith in
     let ey : 1 + (y - 1) ≡ y = omega arith in
     subst (λ (m : ℕ). lane p a m y ≡ s (outer j.area.x m) (outer j.area.y y)) ex
-    (subst (λ (m : ℕ). lane p a (1 + (x - 1)) m ≡ s (outer j.area.x (1 + (x - 1))) (outer j.area.y m)) ey (inside (x - 1) (y - 1) (omega arith) (omega arith)))))))
+    (subst (λ (m : ℕ). lane p a (1 + (x - 1)) m ≡ s (outer j.area.x (1 + (x - 1))) (outer j.area.y m)) ey
+    (inside (x - 1) (y - 1) (omega arith) (omega arith)))))))
   where
     u : Valuation
     u = valuation vs a
@@ -251,9 +286,12 @@ halo_cells j vs t p ready shows halo a x y la lx ly =
     no_less l h = omega arith
 
     margin : IsOuter j.area x y → lane p a x y ≡ s (outer j.area.x x) (outer j.area.y y)
-    margin m = halo x y lx ly a la m ∙ sym (with_halo_outside j u t (local_run j u t) _ _ (stays j u t ready.job _ _ (box_out j.area x y m)) (margin_halo j.area x y ready.job.width.0 ready.job.height.0 lx ly m))
+    margin m = halo x y lx ly a la m
+        ∙ sym (with_halo_outside j u t (local_run j u t) _ _ (stays j u t ready.job _ _ (box_out j.area x y m))
+        (margin_halo j.area x y ready.job.width.0 ready.job.height.0 lx ly m))
 
-    inside : (x0 y0 : ℕ) → x0 < j.area.w → y0 < j.area.h → lane p a (1 + x0) (1 + y0) ≡ s (outer j.area.x (1 + x0)) (outer j.area.y (1 + y0))
+    inside : (x0 y0 : ℕ) → x0 < j.area.w → y0 < j.area.h →
+        lane p a (1 + x0) (1 + y0) ≡ s (outer j.area.x (1 + x0)) (outer j.area.y (1 + y0))
     inside x0 y0 l0 l1 = shows.cells a x0 y0 la l0 l1
         ∙ sym (with_halo_inside j u t (local_run j u t) _ _ (inner_in_box j.area x0 y0 l0 l1))
         ∙ sym (ap₂ s (outer_inner j.area.x x0) (outer_inner j.area.y y0))

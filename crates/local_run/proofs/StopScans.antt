@@ -1,5 +1,6 @@
 -- Stops in their order, and the first of them that has a fault
-use Rattle.std.proofs.Common.{◌≡◌, ◌≢◌, ℕ, ◌<◌, ◌≤◌, ◌+◌, length, get_or, Some, None, true, Ordering, Less, Equal, Greater, ◌⊎◌, inl, inr, refl, arith, sym, ◌∙◌, ap, subst}
+use Rattle.std.proofs.Common.{◌≡◌, ◌≢◌, ℕ, ◌<◌, ◌≤◌, ◌+◌, length, get_or, Some, None, true, Ordering, Less, Equal}
+use Rattle.std.proofs.Common.{Greater, ◌⊎◌, inl, inr, refl, arith, sym, ◌∙◌, ap, subst}
 use Rattle.std.specs.Prelude.{ℤ, ◌<ℤ◌, slice_get}
 use Rattle.std.specs.Ordering.{nat_cmp, int_cmp, ordering_then}
 use Rattle.std.proofs.lemmas.Bool.{cases_lt}
@@ -40,7 +41,8 @@ then_less Greater p h = absurd cc
 abbrev pub IsLater : ℤ → ℤ → ℤ → ℤ → Type 0
 IsLater x y x' y' = (y <ℤ y') ⊎ ((y ≡ y') × (x <ℤ x'))
 
-later_moment : (m n : Moment) → moment_cmp m n ≡ Less → (m.time < n.time) ⊎ ((m.time ≡ n.time) × IsLater m.cell.x m.cell.y n.cell.x n.cell.y)
+later_moment : (m n : Moment) → moment_cmp m n ≡ Less →
+    (m.time < n.time) ⊎ ((m.time ≡ n.time) × IsLater m.cell.x m.cell.y n.cell.x n.cell.y)
 unfolding moment_cmp cell_cmp
 later_moment m n h = elim (then_less _ _ h) [
   | inl e ↦ inl (nat_less m.time n.time e)
@@ -60,7 +62,8 @@ pub record AreTried (j : JobState) (vs : Values) (t place : ℕ) : Type 0 where
   pub within : place ≤ length j.stops
   pub before : (k : ℕ) (s : listed.Stop) → k < place → slice_get j.stops k ≡ Some s → s.at.time ≤ t
   pub from : (k : ℕ) (s : listed.Stop) → place ≤ k → slice_get j.stops k ≡ Some s → t ≤ s.at.time
-  pub free : (k : ℕ) (s : listed.Stop) (a : ℕ) → k < place → slice_get j.stops k ≡ Some s → s.at.time ≡ t → a < assignments j →
+  pub free : (k : ℕ) (s : listed.Stop) (a : ℕ) → k < place → slice_get j.stops k ≡ Some s → s.at.time ≡ t →
+      a < assignments j →
       ¬ IsMissed j vs a s
 
 pub none_tried : (j : JobState) (vs : Values) (t place : ℕ) → IsNextStop j t place → AreTried j vs t place
@@ -75,13 +78,15 @@ below_or_there : (k n : ℕ) → k < n + 1 → (k < n) ⊎ (k ≡ n)
 below_or_there k n l = grind arith
 
 -- a stop more
-pub one_more : (j : JobState) (vs : Values) (t place : ℕ) (s : listed.Stop) → AreTried j vs t place → slice_get j.stops place ≡ Some s → s.at.time ≡ t →
+pub one_more : (j : JobState) (vs : Values) (t place : ℕ) (s : listed.Stop) → AreTried j vs t place →
+    slice_get j.stops place ≡ Some s → s.at.time ≡ t →
     IsLeastBelow (assignments j) (λ b. IsMissed j vs b s) None → AreTried j vs t (place + 1)
 one_more j vs t place s tried e at none = record {
   within = (let lt = slice_get_within j.stops place s e in omega (arith, lt));
   before = λ k r l h. elim (below_or_there k place l) [
     | inl lt ↦ tried.before k r lt h
-    | inr same ↦ (let is : r ≡ s = same_Some _ _ (sym h ∙ ap (slice_get j.stops) same ∙ e) in let time = ap (λ (x : listed.Stop). x.at.time) is in omega (arith, time, at))
+    | inr same ↦ (let is : r ≡ s = same_Some _ _ (sym h ∙ ap (slice_get j.stops) same ∙ e) in let time =
+        ap (λ (x : listed.Stop). x.at.time) is in omega (arith, time, at))
   ];
   from = λ k r l h. tried.from k r (omega (arith, l)) h;
   free = λ k r a l h time la. elim (below_or_there k place l) [
@@ -93,24 +98,30 @@ one_more j vs t place s tried e at none = record {
 }
 
 -- the stop of a fault stands in the list
-stop_at : (j : JobState) (u : Valuation) (t : ℕ) (x y : ℤ) (f : IsStopFault j u t x y) → slice_get j.stops f.is_listed.0 ≡ Some f.stop
+stop_at : (j : JobState) (u : Valuation) (t : ℕ) (x y : ℤ) (f : IsStopFault j u t x y) →
+    slice_get j.stops f.is_listed.0 ≡ Some f.stop
 stop_at j u t x y f = slice_get-get_or j.stops f.is_listed.0 f.stop f.is_listed.1 ∙ ap Some f.is_listed.2
 
 -- where no stop before this place has a fault, one that has stands at it or later, and then so does its cell
-where_it_is : (j : JobState) (vs : Values) (t place a : ℕ) (s : listed.Stop) (x y : ℤ) → IsRising moment_cmp stop_moment j.stops → AreTried j vs t place → slice_get j.stops place ≡ Some s →
-    s.at.time ≡ t → a < assignments j → is_defined vs a ≡ true → (f : IsStopFault j (valuation vs a) t x y) → (f.stop ≡ s) ⊎ IsLater s.at.cell.x s.at.cell.y x y
+where_it_is : (j : JobState) (vs : Values) (t place a : ℕ) (s : listed.Stop) (x y : ℤ) →
+    IsRising moment_cmp stop_moment j.stops → AreTried j vs t place → slice_get j.stops place ≡ Some s →
+    s.at.time ≡ t → a < assignments j → is_defined vs a ≡ true → (f : IsStopFault j (valuation vs a) t x y) →
+    (f.stop ≡ s) ⊎ IsLater s.at.cell.x s.at.cell.y x y
 where_it_is j vs t place a s x y rising tried e at la whole f =
     let h : slice_get j.stops f.is_listed.0 ≡ Some f.stop = stop_at j (valuation vs a) t x y f in
     elim (three_ways f.is_listed.0 place) [
-      | inl lt ↦ absurd (tried.free f.is_listed.0 f.stop a lt h f.time la (whole, (λ is. f.differs (sym place_is ∙ is))))
+      | inl lt ↦ absurd (tried.free f.is_listed.0 f.stop a lt h f.time la
+          (whole, (λ is. f.differs (sym place_is ∙ is))))
       | inr (inl same) ↦ inl (same_Some _ _ (sym h ∙ ap (slice_get j.stops) same ∙ e))
       | inr (inr gt) ↦ elim (later_moment s.at f.stop.at (rising.rises place f.is_listed.0 s f.stop gt e h)) [
         | inl early ↦ absurd (let time = f.time in omega (arith, early, time, at))
-        | inr p ↦ inr (subst (λ (z : ℤ). IsLater s.at.cell.x s.at.cell.y z y) f.column (subst (λ (z : ℤ). IsLater s.at.cell.x s.at.cell.y f.stop.at.cell.x z) f.row p.1))
+        | inr p ↦ inr (subst (λ (z : ℤ). IsLater s.at.cell.x s.at.cell.y z y) f.column
+            (subst (λ (z : ℤ). IsLater s.at.cell.x s.at.cell.y f.stop.at.cell.x z) f.row p.1))
       ]
     ]
   where
-    place_is : local_run j (valuation vs a) f.stop.at.time f.stop.at.cell.x f.stop.at.cell.y ≡ local_run j (valuation vs a) t x y
+    place_is : local_run j (valuation vs a) f.stop.at.time f.stop.at.cell.x f.stop.at.cell.y
+        ≡ local_run j (valuation vs a) t x y
     place_is = λ i. local_run j (valuation vs a) (f.time i) (f.column i) (f.row i)
 
 less_itself : (z : ℤ) → ¬ (z <ℤ z)
@@ -131,7 +142,8 @@ not_itself : (x y : ℤ) → ¬ IsLater x y x y
 not_itself x y (inl l) = less_itself y l
 not_itself x y (inr p) = less_itself x p.1
 
-pub stop_first : (j : JobState) (vs : Values) (t place a : ℕ) (s : listed.Stop) → IsRising moment_cmp stop_moment j.stops → AreTried j vs t place → slice_get j.stops place ≡ Some s →
+pub stop_first : (j : JobState) (vs : Values) (t place a : ℕ) (s : listed.Stop) →
+    IsRising moment_cmp stop_moment j.stops → AreTried j vs t place → slice_get j.stops place ≡ Some s →
     s.at.time ≡ t → IsLeastBelow (assignments j) (λ b. IsMissed j vs b s) (Some a) →
     IsFirst j vs t Stop (record { time = t; kind = Stop; cell = s.at.cell; assignment = a })
 stop_first j vs t place a s rising tried e at least = record {
@@ -146,20 +158,27 @@ stop_first j vs t place a s rising tried e at least = record {
       time = at;
       column = refl;
       row = refl;
-      differs = subst (λ (n : ℕ). local_run j (valuation vs a) n s.at.cell.x s.at.cell.y ≢ valuation vs a s.wire) at least.1.1;
+      differs = subst (λ (n : ℕ). local_run j (valuation vs a) n s.at.cell.x s.at.cell.y ≢ valuation vs a s.wire) at
+          least.1.1;
     },
   );
   row = λ x y b lb less f. elim (where_it_is j vs t place b s x y rising tried e at lb f.0 f.1) [
-    | inl same ↦ less_itself s.at.cell.y (subst (λ (z : ℤ). z <ℤ s.at.cell.y) (sym f.1.row ∙ ap (λ (r : listed.Stop). r.at.cell.y) same) less)
+    | inl same ↦ less_itself s.at.cell.y
+        (subst (λ (z : ℤ). z <ℤ s.at.cell.y) (sym f.1.row ∙ ap (λ (r : listed.Stop). r.at.cell.y) same) less)
     | inr later ↦ not_before s.at.cell.x s.at.cell.y x y later less
   ];
   column = λ x b lb less f. elim (where_it_is j vs t place b s x s.at.cell.y rising tried e at lb f.0 f.1) [
-    | inl same ↦ less_itself s.at.cell.x (subst (λ (z : ℤ). z <ℤ s.at.cell.x) (sym f.1.column ∙ ap (λ (r : listed.Stop). r.at.cell.x) same) less)
+    | inl same ↦ less_itself s.at.cell.x
+        (subst (λ (z : ℤ). z <ℤ s.at.cell.x) (sym f.1.column ∙ ap (λ (r : listed.Stop). r.at.cell.x) same) less)
     | inr later ↦ not_left s.at.cell.x s.at.cell.y x later less
   ];
   assignment = λ b less f. (let lb : b < assignments j = (let la = least.0 in omega (arith, la, less)) in
       elim (where_it_is j vs t place b s s.at.cell.x s.at.cell.y rising tried e at lb f.0 f.1) [
-        | inl same ↦ least.2 b less (f.0, λ is. f.1.differs (ap (λ (n : ℕ). local_run j (valuation vs b) n s.at.cell.x s.at.cell.y) (sym at) ∙ is ∙ ap (λ (r : listed.Stop). valuation vs b r.wire) (sym same)))
+        | inl same ↦ least.2 b less (
+          f.0,
+          λ is. f.1.differs (ap (λ (n : ℕ). local_run j (valuation vs b) n s.at.cell.x s.at.cell.y) (sym at) ∙ is
+              ∙ ap (λ (r : listed.Stop). valuation vs b r.wire) (sym same)),
+        )
         | inr later ↦ not_itself s.at.cell.x s.at.cell.y later
       ]);
 }
@@ -175,7 +194,8 @@ NoneLeft j t place = (k : ℕ) (s : listed.Stop) → place ≤ k → slice_get j
 at_end : (j : JobState) (t place : ℕ) → length j.stops ≤ place → NoneLeft j t place
 at_end j t place past k s l e = absurd (let lt = slice_get_within j.stops k s e in omega (arith, lt, past, l))
 
-before_later : (j : JobState) (vs : Values) (t place : ℕ) (s : listed.Stop) → IsRising moment_cmp stop_moment j.stops → AreTried j vs t place → slice_get j.stops place ≡ Some s → s.at.time ≢ t → NoneLeft j t place
+before_later : (j : JobState) (vs : Values) (t place : ℕ) (s : listed.Stop) → IsRising moment_cmp stop_moment j.stops →
+    AreTried j vs t place → slice_get j.stops place ≡ Some s → s.at.time ≢ t → NoneLeft j t place
 before_later j vs t place s rising tried e other k r l h = elim (three_ways k place) [
   | inl lt ↦ absurd (omega (arith, lt, l))
   | inr (inl same) ↦
@@ -195,7 +215,8 @@ pub record AreAllTried (j : JobState) (vs : Values) (t place : ℕ) : Type 0 whe
   pub free : IsFree j vs t Stop
   pub next : IsNextStop j (t + 1) place
 
-all_tried : (j : JobState) (vs : Values) (t place : ℕ) → AreTried j vs t place → NoneLeft j t place → AreAllTried j vs t place
+all_tried : (j : JobState) (vs : Values) (t place : ℕ) → AreTried j vs t place → NoneLeft j t place →
+    AreAllTried j vs t place
 all_tried j vs t place tried left = record {
   free = λ x y a la found. let f : IsStopFault j (valuation vs a) t x y = found.1 in
       tried.free f.is_listed.0 f.stop a (soon x y a f) (stop_at j (valuation vs a) t x y f) f.time la
@@ -215,17 +236,23 @@ all_tried j vs t place tried left = record {
     ]
       where
         late : (x y : ℤ) (a : ℕ) (f : IsStopFault j (valuation vs a) t x y) → ¬ (place ≤ f.is_listed.0)
-        late x y a f ge = (let lt = left f.is_listed.0 f.stop ge (stop_at j (valuation vs a) t x y f) in let time = f.time in omega (arith, lt, time))
+        late x y a f ge = (let lt = left f.is_listed.0 f.stop ge (stop_at j (valuation vs a) t x y f) in let time =
+            f.time in omega (arith, lt, time))
 
-pub past_all : (j : JobState) (vs : Values) (t place : ℕ) → AreTried j vs t place → length j.stops ≤ place → AreAllTried j vs t place
+pub past_all : (j : JobState) (vs : Values) (t place : ℕ) → AreTried j vs t place → length j.stops ≤ place →
+    AreAllTried j vs t place
 past_all j vs t place tried past = all_tried j vs t place tried (at_end j t place past)
 
-pub past_these : (j : JobState) (vs : Values) (t place : ℕ) (s : listed.Stop) → IsRising moment_cmp stop_moment j.stops → AreTried j vs t place → slice_get j.stops place ≡ Some s → s.at.time ≢ t → AreAllTried j vs t place
-past_these j vs t place s rising tried e other = all_tried j vs t place tried (before_later j vs t place s rising tried e other)
+pub past_these : (j : JobState) (vs : Values) (t place : ℕ) (s : listed.Stop) →
+    IsRising moment_cmp stop_moment j.stops → AreTried j vs t place → slice_get j.stops place ≡ Some s → s.at.time ≢ t →
+    AreAllTried j vs t place
+past_these j vs t place s rising tried e other =
+    all_tried j vs t place tried (before_later j vs t place s rising tried e other)
 
 -- ---- times without stops
 -- where a place is that of the next stop at two times there is none between them
-pub none_between : (j : JobState) (vs : Values) (t n place k : ℕ) → IsNextStop j t place → IsNextStop j n place → t ≤ k → k < n → IsFree j vs k Stop
+pub none_between : (j : JobState) (vs : Values) (t n place k : ℕ) → IsNextStop j t place → IsNextStop j n place →
+    t ≤ k → k < n → IsFree j vs k Stop
 none_between j vs t n place k low high from to x y a la found =
     let f : IsStopFault j (valuation vs a) k x y = found.1 in
     let at : slice_get j.stops f.is_listed.0 ≡ Some f.stop = stop_at j (valuation vs a) k x y f in
@@ -235,7 +262,8 @@ none_between j vs t n place k low high from to x y a la found =
       | inr g ↦ let h = high.from f.is_listed.0 f.stop g at in omega (arith, h, time, to)
     ]
 
-later_stop : (j : JobState) (i k : ℕ) (s r : listed.Stop) → IsRising moment_cmp stop_moment j.stops → i ≤ k → slice_get j.stops i ≡ Some s → slice_get j.stops k ≡ Some r → s.at.time ≤ r.at.time
+later_stop : (j : JobState) (i k : ℕ) (s r : listed.Stop) → IsRising moment_cmp stop_moment j.stops → i ≤ k →
+    slice_get j.stops i ≡ Some s → slice_get j.stops k ≡ Some r → s.at.time ≤ r.at.time
 later_stop j i k s r rising le e h = elim (three_ways k i) [
   | inl lt ↦ absurd (omega (arith, lt, le))
   | inr (inl same) ↦
@@ -249,14 +277,16 @@ later_stop j i k s r rising le e h = elim (three_ways k i) [
 ]
 
 -- a place is that of the next stop also at later times, up to that of the stop
-pub next_later : (j : JobState) (t n place : ℕ) (s : listed.Stop) → IsRising moment_cmp stop_moment j.stops → IsNextStop j t place → slice_get j.stops place ≡ Some s → t ≤ n → n ≤ s.at.time → IsNextStop j n place
+pub next_later : (j : JobState) (t n place : ℕ) (s : listed.Stop) → IsRising moment_cmp stop_moment j.stops →
+    IsNextStop j t place → slice_get j.stops place ≡ Some s → t ≤ n → n ≤ s.at.time → IsNextStop j n place
 next_later j t n place s rising next e from to = record {
   within = next.within;
   before = λ k r l h. (let lt = next.before k r l h in omega (arith, lt, from));
   from = λ k r ge h. (let le = later_stop j place k s r rising ge e h in omega (arith, le, to));
 }
 
-pub next_at_end : (j : JobState) (t n place : ℕ) → IsNextStop j t place → length j.stops ≤ place → t ≤ n → IsNextStop j n place
+pub next_at_end : (j : JobState) (t n place : ℕ) → IsNextStop j t place → length j.stops ≤ place → t ≤ n →
+    IsNextStop j n place
 next_at_end j t n place next past from = record {
   within = next.within;
   before = λ k r l h. (let lt = next.before k r l h in omega (arith, lt, from));

@@ -1,5 +1,6 @@
 -- Parts of lists whose blocks are turned, and blocks that stay
-use Rattle.std.proofs.Common.{◌≡◌, ℕ, Bool, true, false, ◌<◌, ◌≤◌, ◌+◌, ◌-◌, ◌*◌, ◌/◌, ◌%◌, refl, arith, sym, ◌∙◌, ap, List, length, get_or, inl, inr, nat_eq}
+use Rattle.std.proofs.Common.{◌≡◌, ℕ, Bool, true, false, ◌<◌, ◌≤◌, ◌+◌, ◌-◌, ◌*◌, ◌/◌, ◌%◌, refl, arith, sym, ◌∙◌, ap}
+use Rattle.std.proofs.Common.{List, length, get_or, inl, inr, nat_eq}
 use Rattle.std.specs.Int.{bit_at}
 use Rattle.std.specs.Prelude.{bit_xor}
 use Rattle.std.proofs.lemmas.Bool.{false≢true}
@@ -16,24 +17,38 @@ use Rattle.local_run.specs.Turns.{DiagonalStays, IsCalmBlock, SameBeside, TurnsP
 use Rattle.local_run.proofs.LaneLemmas.{part_read, part_written}
 
 -- ---- what is turned in parts of slices
-beside : (a k long : ℕ) (xs ys : List ℕ) → k ≡ long → a + long ≤ length xs → length ys ≡ long → SameBeside a long xs (put_mid a k xs ys)
+beside : (a k long : ℕ) (xs ys : List ℕ) → k ≡ long → a + long ≤ length xs → length ys ≡ long →
+    SameBeside a long xs (put_mid a k xs ys)
 beside a k long xs ys e room l = record {
-  below = λ n h. sym (get_or-take a (put_mid a k xs ys) n 0 h) ∙ ap (λ zs. get_or zs n 0) (take-put_mid_below a k xs ys a (omega arith) (omega arith)) ∙ get_or-take a xs n 0 h;
+  below = λ n h. sym (get_or-take a (put_mid a k xs ys) n 0 h)
+      ∙ ap (λ zs. get_or zs n 0) (take-put_mid_below a k xs ys a (omega arith) (omega arith)) ∙ get_or-take a xs n 0 h;
   above = λ n h. let z : n + 0 ≡ n = omega arith in
       ap (λ m. get_or (put_mid a k xs ys) m 0) (sym z) ∙ sym (get_or-drop n (put_mid a k xs ys) 0 0)
       ∙ ap (λ zs. get_or zs 0 0) (drop-put_mid a k xs ys n (omega arith) (omega arith) (omega arith))
       ∙ get_or-drop n xs 0 0 ∙ ap (λ m. get_or xs m 0) z;
 }
 
-pub part_turned : (a b c d ka kb kc kd long : ℕ) (ul ur ll lr p q r s : List ℕ) → ka ≡ long → kb ≡ long → kc ≡ long → kd ≡ long →
-    a + long ≤ length ul → b + long ≤ length ur → c + long ≤ length ll → d + long ≤ length lr → length p ≡ long → length q ≡ long → length r ≡ long → length s ≡ long →
+pub part_turned : (a b c d ka kb kc kd long : ℕ) (ul ur ll lr p q r s : List ℕ) → ka ≡ long → kb ≡ long → kc ≡ long →
+    kd ≡ long →
+    a + long ≤ length ul → b + long ≤ length ur → c + long ≤ length ll → d + long ≤ length lr → length p ≡ long →
+    length q ≡ long → length r ≡ long → length s ≡ long →
     ((k : ℕ) → k < long → AreTurnedAt k (mid_of a ka ul) (mid_of b kb ur) (mid_of c kc ll) (mid_of d kd lr) p q r s) →
     TurnsPart a b c d long ul ur ll lr (put_mid a ka ul p) (put_mid b kb ur q) (put_mid c kc ll r) (put_mid d kd lr s)
 part_turned a b c d ka kb kc kd long ul ur ll lr p q r s ea eb ec ed ra rb rc rd lp lq lr' ls turns = record {
   turned = λ k l.
       let h = turns k l in
-      let h = rw (part_read a ka k ul (omega arith), part_read b kb k ur (omega arith), part_read c kc k ll (omega arith), part_read d kd k lr (omega arith)) at h in
-      rw (part_written a ka k ul p (omega arith) (omega arith), part_written b kb k ur q (omega arith) (omega arith), part_written c kc k ll r (omega arith) (omega arith), part_written d kd k lr s (omega arith) (omega arith)) h;
+      let h = rw (
+        part_read a ka k ul (omega arith),
+        part_read b kb k ur (omega arith),
+        part_read c kc k ll (omega arith),
+        part_read d kd k lr (omega arith),
+      ) at h in
+      rw (
+        part_written a ka k ul p (omega arith) (omega arith),
+        part_written b kb k ur q (omega arith) (omega arith),
+        part_written c kc k ll r (omega arith) (omega arith),
+        part_written d kd k lr s (omega arith) (omega arith),
+      ) h;
   upper_left = beside a ka long ul p ea ra lp;
   upper_right = beside b kb long ur q eb rb lq;
   lower_left = beside c kc long ll r ec rc lr';
@@ -41,17 +56,25 @@ part_turned a b c d ka kb kc kd long ul ur ll lr p q r s ea eb ec ed ra rb rc rd
 }
 
 -- one part after another
-join_beside : (a n m : ℕ) (xs ys zs : List ℕ) → SameBeside a n xs ys → SameBeside (a + n) m ys zs → SameBeside a (n + m) xs zs
+join_beside : (a n m : ℕ) (xs ys zs : List ℕ) → SameBeside a n xs ys → SameBeside (a + n) m ys zs →
+    SameBeside a (n + m) xs zs
 join_beside a n m xs ys zs f g = record {
   below = λ k l. g.below k (omega arith) ∙ f.below k l;
   above = λ k l. g.above k (omega arith) ∙ f.above k (omega arith);
 }
 
-parts_join : (a b c d n m : ℕ) (ul ur ll lr ul' ur' ll' lr' ul'' ur'' ll'' lr'' : List ℕ) → TurnsPart a b c d n ul ur ll lr ul' ur' ll' lr' →
-    TurnsPart (a + n) (b + n) (c + n) (d + n) m ul' ur' ll' lr' ul'' ur'' ll'' lr'' → TurnsPart a b c d (n + m) ul ur ll lr ul'' ur'' ll'' lr''
+parts_join : (a b c d n m : ℕ) (ul ur ll lr ul' ur' ll' lr' ul'' ur'' ll'' lr'' : List ℕ) →
+    TurnsPart a b c d n ul ur ll lr ul' ur' ll' lr' →
+    TurnsPart (a + n) (b + n) (c + n) (d + n) m ul' ur' ll' lr' ul'' ur'' ll'' lr'' →
+    TurnsPart a b c d (n + m) ul ur ll lr ul'' ur'' ll'' lr''
 parts_join a b c d n m ul ur ll lr ul' ur' ll' lr' ul'' ur'' ll'' lr'' f g = record {
   turned = λ k l. by_lt_or_le k n
-      (λ h. rw (g.upper_left.below (a + k) (omega arith), g.upper_right.below (b + k) (omega arith), g.lower_left.below (c + k) (omega arith), g.lower_right.below (d + k) (omega arith)) (f.turned k h))
+      (λ h. rw (
+        g.upper_left.below (a + k) (omega arith),
+        g.upper_right.below (b + k) (omega arith),
+        g.lower_left.below (c + k) (omega arith),
+        g.lower_right.below (d + k) (omega arith),
+      ) (f.turned k h))
       (λ h.
       let ea : a + n + (k - n) ≡ a + k = omega arith in
       let eb : b + n + (k - n) ≡ b + k = omega arith in
@@ -59,15 +82,22 @@ parts_join a b c d n m ul ur ll lr ul' ur' ll' lr' ul'' ur'' ll'' lr'' f g = rec
       let ed : d + n + (k - n) ≡ d + k = omega arith in
       let t = g.turned (k - n) (omega arith) in
       let t = rw (ea, eb, ec, ed) at t in
-      rw (f.upper_left.above (a + k) (omega arith), f.upper_right.above (b + k) (omega arith), f.lower_left.above (c + k) (omega arith), f.lower_right.above (d + k) (omega arith)) at t);
+      rw (
+        f.upper_left.above (a + k) (omega arith),
+        f.upper_right.above (b + k) (omega arith),
+        f.lower_left.above (c + k) (omega arith),
+        f.lower_right.above (d + k) (omega arith),
+      ) at t);
   upper_left = join_beside a n m ul ul' ul'' f.upper_left g.upper_left;
   upper_right = join_beside b n m ur ur' ur'' f.upper_right g.upper_right;
   lower_left = join_beside c n m ll ll' ll'' f.lower_left g.lower_left;
   lower_right = join_beside d n m lr lr' lr'' f.lower_right g.lower_right;
 }
 
-pub part_after : (a b c d n m t a' b' c' d' : ℕ) (ul ur ll lr ul' ur' ll' lr' ul'' ur'' ll'' lr'' : List ℕ) → a' ≡ a + n → b' ≡ b + n → c' ≡ c + n → d' ≡ d + n → t ≡ n + m →
-    TurnsPart a b c d n ul ur ll lr ul' ur' ll' lr' → TurnsPart a' b' c' d' m ul' ur' ll' lr' ul'' ur'' ll'' lr'' → TurnsPart a b c d t ul ur ll lr ul'' ur'' ll'' lr''
+pub part_after : (a b c d n m t a' b' c' d' : ℕ) (ul ur ll lr ul' ur' ll' lr' ul'' ur'' ll'' lr'' : List ℕ) →
+    a' ≡ a + n → b' ≡ b + n → c' ≡ c + n → d' ≡ d + n → t ≡ n + m →
+    TurnsPart a b c d n ul ur ll lr ul' ur' ll' lr' → TurnsPart a' b' c' d' m ul' ur' ll' lr' ul'' ur'' ll'' lr'' →
+    TurnsPart a b c d t ul ur ll lr ul'' ur'' ll'' lr''
 part_after a b c d n m t a' b' c' d' ul ur ll lr ul' ur' ll' lr' ul'' ur'' ll'' lr'' ea eb ec ed et f g =
     rw et (parts_join a b c d n m ul ur ll lr ul' ur' ll' lr' ul'' ur'' ll'' lr'' f (rw (ea, eb, ec, ed) at g))
 
@@ -93,15 +123,20 @@ flips_none a f j e = rw (e, bit-xor a 0 j, bit-zero j) (xor_false (bit a j))
 
 pub main_stays : (ul ur ll lr : ℕ) → flip_main_of ul ur ll lr ≡ 0 → DiagonalStays ul lr ur ll
 main_stays ul ur ll lr e j =
-    let t = words_turned ul ur ll lr in
-    (sym (t.upper_left j) ∙ flips_none ul (flip_main_of ul ur ll lr) j e, sym (t.lower_right j) ∙ flips_none lr (flip_main_of ul ur ll lr) j e)
+    let t = words_turned ul ur ll lr in (
+      sym (t.upper_left j) ∙ flips_none ul (flip_main_of ul ur ll lr) j e,
+      sym (t.lower_right j) ∙ flips_none lr (flip_main_of ul ur ll lr) j e,
+    )
 
 pub anti_stays : (ul ur ll lr : ℕ) → flip_anti_of ul ur ll lr ≡ 0 → DiagonalStays ur ll ul lr
 anti_stays ul ur ll lr e j =
-    let t = words_turned ul ur ll lr in
-    (sym (t.upper_right j) ∙ flips_none ur (flip_anti_of ul ur ll lr) j e, sym (t.lower_left j) ∙ flips_none ll (flip_anti_of ul ur ll lr) j e)
+    let t = words_turned ul ur ll lr in (
+      sym (t.upper_right j) ∙ flips_none ur (flip_anti_of ul ur ll lr) j e,
+      sym (t.lower_left j) ∙ flips_none ll (flip_anti_of ul ur ll lr) j e,
+    )
 
-pub calm_turned : (ul ur ll lr : ℕ) → DiagonalStays ul lr ur ll → DiagonalStays ur ll ul lr → AreTurned ul ur ll lr ul ur ll lr
+pub calm_turned : (ul ur ll lr : ℕ) → DiagonalStays ul lr ur ll → DiagonalStays ur ll ul lr →
+    AreTurned ul ur ll lr ul ur ll lr
 calm_turned ul ur ll lr main anti = record {
   upper_left = λ j. sym (main j).0;
   upper_right = λ j. sym (anti j).0;
@@ -118,16 +153,24 @@ word_of_bits a b same = same_from_bits a b (λ j. at_place j (same j))
 
     at_place : (j : ℕ) → bit a j ≡ bit b j → bit_at a j ≡ bit_at b j
     at_place j e = elim (zero_or_one (bit_at a j) (bit_at-lt a j)) [
-      | inl p ↦ elim (zero_or_one (bit_at b j) (bit_at-lt b j)) [ inl q ↦ p ∙ sym q | inr q ↦ absurd (false≢true (sym (set_at a j 0 p) ∙ e ∙ set_at b j 1 q)) ]
-      | inr p ↦ elim (zero_or_one (bit_at b j) (bit_at-lt b j)) [ inl q ↦ absurd (false≢true (sym (set_at b j 0 q) ∙ sym e ∙ set_at a j 1 p)) | inr q ↦ p ∙ sym q ]
+      | inl p ↦ elim (zero_or_one (bit_at b j)
+          (bit_at-lt b
+          j)) [ inl q ↦ p ∙ sym q | inr q ↦ absurd (false≢true (sym (set_at a j 0 p) ∙ e ∙ set_at b j 1 q)) ]
+      | inr p ↦ elim (zero_or_one (bit_at b j)
+          (bit_at-lt b
+          j)) [ inl q ↦ absurd (false≢true (sym (set_at b j 0 q) ∙ sym e ∙ set_at a j 1 p)) | inr q ↦ p ∙ sym q ]
     ]
 
 -- the words of a diagonal that stays are as they were
-pub main_words : (ul ur ll lr ul' ur' ll' lr' : ℕ) → DiagonalStays ul lr ur ll → AreTurned ul ur ll lr ul' ur' ll' lr' → (ul' ≡ ul) × (lr' ≡ lr)
-main_words ul ur ll lr ul' ur' ll' lr' stays t = (word_of_bits ul' ul (λ j. t.upper_left j ∙ (stays j).0), word_of_bits lr' lr (λ j. t.lower_right j ∙ (stays j).1))
+pub main_words : (ul ur ll lr ul' ur' ll' lr' : ℕ) → DiagonalStays ul lr ur ll → AreTurned ul ur ll lr ul' ur' ll' lr' →
+    (ul' ≡ ul) × (lr' ≡ lr)
+main_words ul ur ll lr ul' ur' ll' lr' stays t =
+    (word_of_bits ul' ul (λ j. t.upper_left j ∙ (stays j).0), word_of_bits lr' lr (λ j. t.lower_right j ∙ (stays j).1))
 
-pub anti_words : (ul ur ll lr ul' ur' ll' lr' : ℕ) → DiagonalStays ur ll ul lr → AreTurned ul ur ll lr ul' ur' ll' lr' → (ur' ≡ ur) × (ll' ≡ ll)
-anti_words ul ur ll lr ul' ur' ll' lr' stays t = (word_of_bits ur' ur (λ j. t.upper_right j ∙ (stays j).0), word_of_bits ll' ll (λ j. t.lower_left j ∙ (stays j).1))
+pub anti_words : (ul ur ll lr ul' ur' ll' lr' : ℕ) → DiagonalStays ur ll ul lr → AreTurned ul ur ll lr ul' ur' ll' lr' →
+    (ur' ≡ ur) × (ll' ≡ ll)
+anti_words ul ur ll lr ul' ur' ll' lr' stays t =
+    (word_of_bits ur' ur (λ j. t.upper_right j ∙ (stays j).0), word_of_bits ll' ll (λ j. t.lower_left j ∙ (stays j).1))
 
 -- the blocks from number u to below v stay
 pub calm_part : (w a b c d u v long : ℕ) (ul ur ll lr : List ℕ) → 0 < w → long ≡ w * (v - u) → u ≤ v →
@@ -146,7 +189,10 @@ calm_part w a b c d u v long ul ur ll lr some e le calm = record {
         let m : w * (v - u) ≤ w * (k / w) = mul-le-mul_left w h in
         let whole : w * (k / w) + k % w ≡ k = div-add-mod k w in absurd (omega arith))
 
-    at_place : (k q r : ℕ) → k ≡ w * q + r → q < v - u → r < w → AreTurned (get_or ul (w * (u + a) + k) 0) (get_or ur (w * (u + b) + k) 0) (get_or ll (w * (u + c) + k) 0) (get_or lr (w * (u + d) + k) 0) (get_or ul (w * (u + a) + k) 0) (get_or ur (w * (u + b) + k) 0) (get_or ll (w * (u + c) + k) 0) (get_or lr (w * (u + d) + k) 0)
+    at_place : (k q r : ℕ) → k ≡ w * q + r → q < v - u → r < w →
+        AreTurned (get_or ul (w * (u + a) + k) 0) (get_or ur (w * (u + b) + k) 0) (get_or ll (w * (u + c) + k) 0)
+        (get_or lr (w * (u + d) + k) 0) (get_or ul (w * (u + a) + k) 0) (get_or ur (w * (u + b) + k) 0)
+        (get_or ll (w * (u + c) + k) 0) (get_or lr (w * (u + d) + k) 0)
     at_place k q r whole lq lr' =
         let ea : w * (u + a) + k ≡ w * (u + q + a) + r = omega arith in
         let eb : w * (u + b) + k ≡ w * (u + q + b) + r = omega arith in
@@ -156,7 +202,8 @@ calm_part w a b c d u v long ul ur ll lr some e le calm = record {
         rw (ea, eb, ec, ed) (calm_turned _ _ _ _ (h.0 r lr') (h.1 r lr'))
 
 -- one block that stays
-pub calm_block : (w a b c d : ℕ) (ul ur ll lr : List ℕ) → IsCalmBlock w a b c d ul ur ll lr → TurnsPart (w * a) (w * b) (w * c) (w * d) w ul ur ll lr ul ur ll lr
+pub calm_block : (w a b c d : ℕ) (ul ur ll lr : List ℕ) → IsCalmBlock w a b c d ul ur ll lr →
+    TurnsPart (w * a) (w * b) (w * c) (w * d) w ul ur ll lr ul ur ll lr
 calm_block w a b c d ul ur ll lr calm = record {
   turned = λ k l. calm_turned _ _ _ _ (calm.0 k l) (calm.1 k l);
   upper_left = same_beside _ w ul;

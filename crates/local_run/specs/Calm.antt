@@ -1,4 +1,4 @@
--- What is known of the blocks of four planes that have no mark
+-- The blocks of four planes that have no mark
 use Rattle.std.specs.Prelude.{◌≡◌, ◌≢◌, Bool, true, ℕ, ◌+◌, ◌*◌, ◌<◌, List, slice_index}
 use Rattle.std.proofs.Props.{props}
 use Rattle.bbm_rule.specs.Marks.{IsUnmarked}
@@ -17,7 +17,9 @@ EvenCalm marks p = (u : ℕ) → u + p.stride + 1 < p.stride * p.rows → IsUnma
 
 -- the cells with a number are dead under each assignment, one in each plane
 abbrev pub IsDeadAt : ℕ → Planes → Type 0
-IsDeadAt u p = (k : ℕ) → k < p.words → (slice_index p.odd.items (p.words * u + k) ≡ 0) × (slice_index p.right.items (p.words * u + k) ≡ 0) × (slice_index p.down.items (p.words * u + k) ≡ 0) × (slice_index p.even.items (p.words * u + k) ≡ 0)
+IsDeadAt u p = (k : ℕ) → k < p.words →
+    (slice_index p.odd.items (p.words * u + k) ≡ 0) × (slice_index p.right.items (p.words * u + k) ≡ 0)
+    × (slice_index p.down.items (p.words * u + k) ≡ 0) × (slice_index p.even.items (p.words * u + k) ≡ 0)
 
 -- so are those of all numbers, but for those with a mark
 abbrev pub AllDead : List ℕ → Planes → Type 0
@@ -27,16 +29,22 @@ AllDead marks p = (u : ℕ) → u < p.stride * p.rows → IsUnmarked marks u →
 pub OddCalm-prop : (marks : List ℕ) (p : Planes) → IsProp (OddCalm marks p)
 OddCalm-prop marks p = Prim.hlevel props
 
+-- any two proofs that the blocks of the even partition are calm are equal, as a ghost field needs
 pub EvenCalm-prop : (marks : List ℕ) (p : Planes) → IsProp (EvenCalm marks p)
 EvenCalm-prop marks p = Prim.hlevel props
 
+-- any two proofs that cells are dead are equal, as a ghost field needs
 pub AllDead-prop : (marks : List ℕ) (p : Planes) → IsProp (AllDead marks p)
 AllDead-prop marks p = Prim.hlevel props
 
--- Of each plane the words of one cell may change, and no others: cells are numbered row by row. Those of the planes odd and even may
--- change only where `main`, those of the other two only where `anti`
+-- In each plane the words of one cell may change, and no others. Cells are numbered row by row. Those of the planes odd
+-- and even may change only if `main`, those of the other two only if `anti`
 pub record ChangesCells (main anti : Bool) (odd right down even : ℕ) (p q : Planes) : Type 0 where
-  pub odd_same : (u k : ℕ) → k < p.words → (main ≡ true → u ≢ odd) → slice_index q.odd.items (p.words * u + k) ≡ slice_index p.odd.items (p.words * u + k)
-  pub right_same : (u k : ℕ) → k < p.words → (anti ≡ true → u ≢ right) → slice_index q.right.items (p.words * u + k) ≡ slice_index p.right.items (p.words * u + k)
-  pub down_same : (u k : ℕ) → k < p.words → (anti ≡ true → u ≢ down) → slice_index q.down.items (p.words * u + k) ≡ slice_index p.down.items (p.words * u + k)
-  pub even_same : (u k : ℕ) → k < p.words → (main ≡ true → u ≢ even) → slice_index q.even.items (p.words * u + k) ≡ slice_index p.even.items (p.words * u + k)
+  pub odd_same : (u k : ℕ) → k < p.words → (main ≡ true → u ≢ odd) →
+      slice_index q.odd.items (p.words * u + k) ≡ slice_index p.odd.items (p.words * u + k)
+  pub right_same : (u k : ℕ) → k < p.words → (anti ≡ true → u ≢ right) →
+      slice_index q.right.items (p.words * u + k) ≡ slice_index p.right.items (p.words * u + k)
+  pub down_same : (u k : ℕ) → k < p.words → (anti ≡ true → u ≢ down) →
+      slice_index q.down.items (p.words * u + k) ≡ slice_index p.down.items (p.words * u + k)
+  pub even_same : (u k : ℕ) → k < p.words → (main ≡ true → u ≢ even) →
+      slice_index q.even.items (p.words * u + k) ≡ slice_index p.even.items (p.words * u + k)

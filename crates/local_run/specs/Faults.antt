@@ -39,7 +39,7 @@ pub record IsEndFault (j : JobState) (u : Valuation) (t : ℕ) (x y : ℤ) : Typ
   pub inside : IsTrue (in_box j.area x y)
   pub differs : ¬ Meets u (job_demand j x y) (local_run j u t x y)
 
--- the cell (x, y) has a fault of the kind at time t, where the wires have these values
+-- the cell (x, y) has a fault of the kind at time t, if the wires have these values
 abbrev pub IsFaultUnder : JobState → Valuation → ℕ → Kind → ℤ → ℤ → Type 0
 IsFaultUnder j u t Edge x y = IsEdgeFault j u t x y
 IsFaultUnder j u t Stop x y = IsStopFault j u t x y
@@ -60,7 +60,7 @@ pub record IsFault (j : JobState) (f : Fault) : Type 0 where
   pub in_range : f.assignment < assignments j
   pub shown : ∥ HasFault j f ∥₁
 
--- the job's least fault, or `None` where it has no fault
+-- the job's least fault, or `None` if it has no fault
 abbrev pub IsLeastFault : JobState → Option Fault → Type 0
 IsLeastFault j None = (f : Fault) → ¬ IsFault j f
 IsLeastFault j (Some f) = IsFault j f × ((g : Fault) → IsFault j g → fault_cmp f g ≢ Greater)
@@ -72,14 +72,14 @@ IsLeastFault-prop j (Some f) = Prim.hlevel props
 
 -- ---- gates that have no row
 
--- Under the assignment the gate at this place among the used ones is the first that has no row, and the module keeps it. The assignment
--- is any at all: also one under which the run looks for no faults.
+-- Under the assignment the gate at this place among the used ones is the first that has no row, and the module keeps
+-- it. The assignment is any at all: also one under which the run looks for no faults.
 pub record IsKeepFault (j : JobState) (f : KeepFault) : Type 0 where
   pub in_range : f.assignment < assignments j
   pub is_kept : IsTrue (is_among j.kept f.gate)
   pub shown : ∥ IsLocallyUndefined j.locals f.assignment f.gate ∥₁
 
--- the job's least keep fault, or `None` where it has none
+-- the job's least keep fault, or `None` if it has none
 abbrev pub IsLeastKeepFault : JobState → Option KeepFault → Type 0
 IsLeastKeepFault j None = (f : KeepFault) → ¬ IsKeepFault j f
 IsLeastKeepFault j (Some f) = IsKeepFault j f × ((g : KeepFault) → IsKeepFault j g → keep_cmp f g ≢ Greater)

@@ -1,4 +1,4 @@
--- What four planes of words stand for: for each cell a bit under each assignment
+-- The meaning of four planes of words: for each cell a bit under each assignment
 use Rattle.std.specs.Prelude.{◌≡◌, ◌==◌, if◌then◌else◌, Bool, ℕ, ◌+◌, ◌*◌, ◌/◌, ◌%◌, List, slice_index, ◌<◌}
 use Rattle.bbm_rule.specs.Bits.{bit}
 use Rattle.local_run.specs.declared.planes.Planes.{Planes}
@@ -20,8 +20,10 @@ lane p a x y = bit (slice_index (plane_of p x y) (p.words * (p.stride * (y / 2) 
 -- only the word k of the cell changes
 pub record SetsWord (x y k word : ℕ) (p q : Planes) : Type 0 where
   pub there : (b : ℕ) → b < 64 → lane q (64 * k + b) x y ≡ bit word b
-  pub rest : (a x' y' : ℕ) → a < 64 * p.words → x' / 2 < p.stride → ((x' ≡ x) × (y' ≡ y) × (a / 64 ≡ k) → ⊥) → lane q a x' y' ≡ lane p a x' y'
+  pub rest : (a x' y' : ℕ) → a < 64 * p.words → x' / 2 < p.stride → ((x' ≡ x) × (y' ≡ y) × (a / 64 ≡ k) → ⊥) →
+      lane q a x' y' ≡ lane p a x' y'
 
--- the cells of the box do not change, where the planes have one more cell on each side
+-- the cells of the box do not change, if the planes have one more cell on each side
 abbrev pub SameInside : Planes → Planes → Type 0
-SameInside p q = (a x y : ℕ) → a < 64 * p.words → x + 2 < 2 * p.stride → y + 2 < 2 * p.rows → lane q a (1 + x) (1 + y) ≡ lane p a (1 + x) (1 + y)
+SameInside p q = (a x y : ℕ) → a < 64 * p.words → x + 2 < 2 * p.stride → y + 2 < 2 * p.rows →
+    lane q a (1 + x) (1 + y) ≡ lane p a (1 + x) (1 + y)

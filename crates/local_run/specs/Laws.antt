@@ -1,4 +1,4 @@
--- What the laws of this crate say
+-- The statements of this crate's laws
 use Rattle.std.specs.Prelude.{◌≡◌, ℕ, ℤ, ◌+◌, ◌<◌, ◌≤◌, ◌%◌, ◌↔◌, Option, None, IsTrue}
 use Rattle.std.specs.List.{All}
 use Rattle.circuit.specs.Meaning.{Valuation, AreOrdered}
@@ -7,7 +7,8 @@ use Rattle.module_box.specs.Laws.{LiesInBox}
 use Rattle.module_box.specs.Boxes.{in_halo}
 use Rattle.module_box.specs.Schedules.{Signals, signal_at}
 use Rattle.module_job.specs.Jobs.{JobState, IsJob}
-use Rattle.local_run.specs.Faults.{IsEdgeFault, IsFault, IsFaultUnder, IsKeepFault, IsLeastFault, IsLeastKeepFault, assignments}
+use Rattle.local_run.specs.Faults.{IsEdgeFault, IsFault, IsFaultUnder, IsKeepFault, IsLeastFault, IsLeastKeepFault}
+use Rattle.local_run.specs.Faults.{assignments}
 use Rattle.local_run.specs.Leaps.{IsOddOf, IsSteady, StaysUpTo}
 use Rattle.local_run.specs.Runs.{local_run}
 use Rattle.local_run.specs.Shown.{job_of, fault_of, keep_of}
@@ -35,38 +36,45 @@ NoneMeansNoKeepFault = (f : Finding) (x : KeepFault) → keep_of f ≡ None → 
 abbrev pub LeastKeepFaultIsUnique : Type 0
 LeastKeepFaultIsUnique = (j : JobState) (f g : Option KeepFault) → IsLeastKeepFault j f → IsLeastKeepFault j g → f ≡ g
 
--- where some used gate has no row under an assignment, the job has no fault under it
+-- if some used gate has no row under an assignment, the job has no fault under it
 abbrev pub UndefinedHasNoFault : Type 0
-UndefinedHasNoFault = (j : JobState) (f : Fault) (k : ℕ) → AreOrdered j.locals.netlist.given j.locals.netlist.gates → IsLocallyUndefined j.locals f.assignment k → ¬ IsFault j f
+UndefinedHasNoFault = (j : JobState) (f : Fault) (k : ℕ) → AreOrdered j.locals.netlist.given j.locals.netlist.gates →
+    IsLocallyUndefined j.locals f.assignment k → ¬ IsFault j f
 
 -- a job has one least fault, or none
 abbrev pub LeastFaultIsUnique : Type 0
 LeastFaultIsUnique = (j : JobState) (f g : Option Fault) → IsLeastFault j f → IsLeastFault j g → f ≡ g
 
--- Where no gate uses a wire before it is defined, any one local valuation under an assignment tells whether the job has a fault
--- under it
+-- If no gate uses a wire before it is defined, any one local valuation under an assignment decides whether the job has
+-- a fault under it.
 abbrev pub FaultsAreDecided : Type 0
-FaultsAreDecided = (j : JobState) (f : Fault) (u : Valuation) → IsJob j → AreOrdered j.locals.netlist.given j.locals.netlist.gates →
+FaultsAreDecided = (j : JobState) (f : Fault) (u : Valuation) → IsJob j →
+    AreOrdered j.locals.netlist.given j.locals.netlist.gates →
     f.assignment < assignments j → IsLocalValuation j.locals f.assignment u →
     IsFault j f ↔ IsFaultUnder j u f.time f.kind f.cell.x f.cell.y
 
 -- at each odd time below the steps these say the same of each cell of the halo as the job
 abbrev pub SayTheSame : JobState → Signals → Type 0
-SayTheSame j halos = (t : ℕ) (x y : ℤ) → t % 2 ≡ 1 → t < j.steps → IsTrue (in_halo j.area x y) → signal_at j.halos t x y ≡ signal_at halos t x y
+SayTheSame j halos = (t : ℕ) (x y : ℤ) → t % 2 ≡ 1 → t < j.steps → IsTrue (in_halo j.area x y) →
+    signal_at j.halos t x y ≡ signal_at halos t x y
 
--- so the job has the same faults where they are its halos, if its stops are at times up to the last one
+-- so the job has the same faults if they are its halos, if its stops are at times up to the last one
 abbrev pub JobsWithSameHalosAgree : Type 0
-JobsWithSameHalosAgree = (j : JobState) (halos : Signals) (f : Fault) → All (λ s. s.at.time ≤ j.steps) j.stops → SayTheSame j halos → IsFault j f → IsFault (record j { halos = halos }) f
+JobsWithSameHalosAgree = (j : JobState) (halos : Signals) (f : Fault) → All (λ s. s.at.time ≤ j.steps) j.stops →
+    SayTheSame j halos → IsFault j f → IsFault (record j { halos = halos }) f
 
 -- no cell outside the box is ever live
 abbrev pub StaysInBox : Type 0
 StaysInBox = (j : JobState) (u : Valuation) (t : ℕ) → IsJob j → LiesInBox j.area (local_run j u t)
 
--- A run that does not change in two steps does not change until time n, where the signals of the halo do not either
+-- A run that does not change in two steps does not change until time n, if the signals of the halo do not either
 abbrev pub QuietRunsStay : Type 0
-QuietRunsStay = (j : JobState) (u : Valuation) (t o n : ℕ) → IsOddOf t o → StaysUpTo j u t (t + 2) → IsSteady j.halos o n → StaysUpTo j u t n
+QuietRunsStay = (j : JobState) (u : Valuation) (t o n : ℕ) → IsOddOf t o → StaysUpTo j u t (t + 2) →
+    IsSteady j.halos o n → StaysUpTo j u t n
 
--- Where the signals of the ring do not change either, an edge fault before time n was there at the odd one of the two times
+-- If the signals of the ring do not change either, an edge fault before time n was there at the odd one of the two
+-- times.
 abbrev pub NoNewEdgeFaults : Type 0
-NoNewEdgeFaults = (j : JobState) (u : Valuation) (t o n k : ℕ) (x y : ℤ) → IsOddOf t o → StaysUpTo j u t (t + 2) → IsSteady j.halos o n → IsSteady j.edges o n →
+NoNewEdgeFaults = (j : JobState) (u : Valuation) (t o n k : ℕ) (x y : ℤ) → IsOddOf t o → StaysUpTo j u t (t + 2) →
+    IsSteady j.halos o n → IsSteady j.edges o n →
     t ≤ k → k < n → IsEdgeFault j u k x y → IsEdgeFault j u o x y

@@ -25,12 +25,12 @@ pub record IsTimeBetween (es : List Event) (t low high : ℕ) : Type 0 where
   pub below : (i : ℕ) (e : Event) → i < low → slice_get es i ≡ Some e → e.at.time < t
   pub above : (i : ℕ) (e : Event) → high ≤ i → slice_get es i ≡ Some e → t ≤ e.at.time
 
--- none of the events stands at a time from t on, before n
+-- none of the events is at a time from t on, before n
 abbrev pub HasNoEvents : List Event → ℕ → ℕ → Type 0
 HasNoEvents events t n = (i : ℕ) (e : Event) → slice_get events i ≡ Some e → t ≤ e.at.time → e.at.time < n → ⊥
 
--- Nothing changed at the even time t and at the odd one before, and the signals of ring and halo stay as they were at the odd one
--- until time n
+-- Nothing changed at the even time t and at the odd one before. The signals of ring and halo stay as they were at the
+-- odd one until time n
 pub record IsLeap (j : JobState) (t : ℕ) (changed : Bool) (n : ℕ) : Type 0 where
   pub unchanged : changed ≡ false
   pub even : t % 2 ≡ 0

@@ -8,6 +8,7 @@ use Rattle.local_run.specs.declared.fault.KeepFault.{KeepFault}
 use Rattle.local_run.specs.declared.fault.Kind.{Kind}
 use Rattle.local_run.specs.declared.fault.Kind.TheVariants.{Edge, Stop, End}
 
+-- the place of a kind of fault in the order
 abbrev pub kind_number : Kind → ℕ
 kind_number Edge = 0
 kind_number Stop = 1
@@ -19,6 +20,6 @@ fault_cmp a b =
     ordering_then (nat_cmp a.time b.time) (ordering_then (nat_cmp (kind_number a.kind) (kind_number b.kind))
     (ordering_then (cell_cmp a.cell b.cell) (nat_cmp a.assignment b.assignment)))
 
--- of keep faults: by gate and assignment
+-- the order of keep faults: by gate and assignment
 unfoldable pub keep_cmp : KeepFault → KeepFault → Ordering
 keep_cmp a b = ordering_then (nat_cmp a.gate b.gate) (nat_cmp a.assignment b.assignment)

@@ -6,7 +6,7 @@ use Rattle.module_box.specs.declared.boxes.Box2.{Box2}
 unfoldable pub inner : ℕ → ℕ → ℤ
 inner c k = pos (c + k)
 
--- the same, where the one before the first has number 0
+-- the same, if the one before the first has number 0
 unfoldable pub outer : ℕ → ℕ → ℤ
 outer c k = pos (c + k) -ℤ pos 1
 

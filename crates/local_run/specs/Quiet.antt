@@ -17,11 +17,13 @@ number_at b x y = (b.w / 2 + 1) * (y / 2) + x / 2
 
 -- there is room for the numbers of all cells of a box and its halo
 abbrev pub HasRoom : Box2 → List ℕ → Type 0
-HasRoom b marks = (b.x ≤ 512) × (b.y ≤ 512) × (b.w ≤ 64) × (b.h ≤ 64) × (b.w % 2 ≡ 0) × (b.h % 2 ≡ 0) × ((b.w / 2 + 1) * (b.h / 2 + 1) ≤ 64 * length marks)
+HasRoom b marks = (b.x ≤ 512) × (b.y ≤ 512) × (b.w ≤ 64) × (b.h ≤ 64) × (b.w % 2 ≡ 0) × (b.h % 2 ≡ 0)
+    × ((b.w / 2 + 1) * (b.h / 2 + 1) ≤ 64 * length marks)
 
--- the cell has a mark, where it is in the box or its halo
+-- the cell has a mark, if it is in the box or its halo
 abbrev pub IsCellMarked : Box2 → Cell → List ℕ → Type 0
-IsCellMarked b c marks = (x y : ℕ) → x < b.w + 2 → y < b.h + 2 → c.x ≡ outer b.x x → c.y ≡ outer b.y y → IsUnmarked marks (number_at b x y) → ⊥
+IsCellMarked b c marks = (x y : ℕ) → x < b.w + 2 → y < b.h + 2 → c.x ≡ outer b.x x → c.y ≡ outer b.y y →
+    IsUnmarked marks (number_at b x y) → ⊥
 
 -- no mark is taken off
 abbrev pub KeepsMarks : List ℕ → List ℕ → Type 0
@@ -44,7 +46,8 @@ pub record AreHeld (s : ShapeState) (marks : List ℕ) : Type 0 where
 
 -- at cells without a mark the signal of a schedule at time t is `Zero`
 abbrev pub IsQuietIn : Signals → Box2 → ℕ → List ℕ → Type 0
-IsQuietIn s b t marks = (x y : ℕ) → x < b.w + 2 → y < b.h + 2 → IsUnmarked marks (number_at b x y) → signal_at s t (outer b.x x) (outer b.y y) ≡ Zero
+IsQuietIn s b t marks = (x y : ℕ) → x < b.w + 2 → y < b.h + 2 → IsUnmarked marks (number_at b x y) →
+    signal_at s t (outer b.x x) (outer b.y y) ≡ Zero
 
 -- marks that leave no cell out of which an edge or halo line of a job says something at time t
 pub record AreLines (j : JobState) (t : ℕ) (marks : List ℕ) : Type 0 where

@@ -17,7 +17,7 @@ local_step j u t s x y =
     if t % 2 == 0 then step t s x y
     else in_box j.area x y && step t (with_halo j u t s) x y
 
--- the module at time t, where its wires have these values
+-- the module at time t, if its wires have these values
 unfoldable pub local_run : JobState → Valuation → ℕ → State
 local_run j u zero = λ x y. is_live u (job_start j x y)
 local_run j u (suc t) = local_step j u t (local_run j u t)

@@ -1,5 +1,6 @@
 -- The run of a job under all assignments, and the first of its faults
-use Rattle.std.specs.Prelude.{◌≡◌, ◌≢◌, Bool, true, false, ℕ, ℤ, ◌+◌, ◌*◌, ◌/◌, ◌%◌, ◌<◌, ◌≤◌, ◌<ℤ◌, List, length, slice_get, Option, Some, None, ◌⊎◌}
+use Rattle.std.specs.Prelude.{◌≡◌, ◌≢◌, Bool, true, false, ℕ, ℤ, ◌+◌, ◌*◌, ◌/◌, ◌%◌, ◌<◌, ◌≤◌, ◌<ℤ◌, List, length}
+use Rattle.std.specs.Prelude.{slice_get, Option, Some, None, ◌⊎◌}
 use Rattle.circuit.specs.Meaning.{Valuation, AreOrdered, wires}
 use Rattle.module_box.specs.LocalValues.{AreValueRows, bit_of_row, value_of}
 use Rattle.module_box.specs.Schedules.{signal_at}
@@ -34,9 +35,12 @@ valuation vs a = value_of vs.words vs.rows.values.items a
 abbrev pub is_defined : Values → ℕ → Bool
 is_defined vs a = bit_of_row vs.rows.defined.items a
 
--- where each used gate has a row, the values of the wires stay: in rows of words, with the row of the assignments that are so
+-- if each used gate has a row, the values of the wires stay: in rows of words, with the row of the assignments that
+-- are so
 abbrev pub KeepsDefined : List ℕ → List ℕ → List ℕ → Type 0
-KeepsDefined defined old new = (a w : ℕ) → a < 64 * length defined → bit_of_row defined a ≡ true → value_of (length defined) new a w ≡ value_of (length defined) old a w
+KeepsDefined defined old new =
+    (a w : ℕ) → a < 64 * length defined → bit_of_row defined a ≡ true →
+    value_of (length defined) new a w ≡ value_of (length defined) old a w
 
 -- each used gate has a row under assignment a, and the job has the fault
 abbrev pub IsFound : JobState → Values → ℕ → ℕ → Kind → ℤ → ℤ → Type 0
@@ -44,7 +48,8 @@ IsFound j vs a t kind x y = (is_defined vs a ≡ true) × IsFaultUnder j (valuat
 
 -- each used gate has a row under assignment a, and at the stop's time its cell is not as its wire
 abbrev pub IsMissed : JobState → Values → ℕ → listed.Stop → Type 0
-IsMissed j vs a s = (is_defined vs a ≡ true) × (local_run j (valuation vs a) s.at.time s.at.cell.x s.at.cell.y ≢ valuation vs a s.wire)
+IsMissed j vs a s = (is_defined vs a ≡ true)
+    × (local_run j (valuation vs a) s.at.time s.at.cell.x s.at.cell.y ≢ valuation vs a s.wire)
 
 -- there is a row for the wire that it names
 abbrev pub HasRow : Values → Signal → Type 0
@@ -75,12 +80,14 @@ IsSought j t Edge = (t % 2 ≡ 1) × (t < j.steps)
 IsSought j t Stop = ⊥
 IsSought j t End = t ≡ j.steps
 
--- How far apart the cells of row y of a box are that can have a fault of the kind: next to each other, or the first and the last
+-- How far apart the cells of row y of a box are that can have a fault of the kind: next to each other, or the first and
+-- the last
 pub record HasBothEnds (kind : Kind) (w h y stride : ℕ) : Type 0 where
   pub edge : Edge ≡ kind
   pub between : (1 ≤ y) × (y + 1 < h)
   pub ends : stride + 1 ≡ w
 
+-- a distance at which a scan of row y looks at each cell that can have a fault of the kind
 abbrev pub IsStride : Kind → ℕ → ℕ → ℕ → ℕ → Type 0
 IsStride kind w h y stride = (1 ≤ stride) × (stride ≤ 64) × ((stride ≡ 1) ⊎ HasBothEnds kind w h y stride)
 
@@ -98,7 +105,7 @@ pub record IsFirst (j : JobState) (vs : Values) (t : ℕ) (kind : Kind) (f : Fau
 abbrev pub IsFree : JobState → Values → ℕ → Kind → Type 0
 IsFree j vs t kind = (x y : ℤ) (a : ℕ) → a < assignments j → ¬ IsFound j vs a t kind x y
 
--- a cell, counted from the halo, is what the signal says under the assignments of so many words
+-- a cell, counted from the halo, is what the signal says under the assignments of this many words
 abbrev pub IsShown : Values → Planes → ℕ → ℕ → Signal → ℕ → Type 0
 IsShown vs p x y signal words = (a : ℕ) → a < 64 * words → lane p a x y ≡ is_live (valuation vs a) signal
 
@@ -106,7 +113,8 @@ IsShown vs p x y signal words = (a : ℕ) → a < 64 * words → lane p a x y �
 pub record PutsCell (vs : Values) (x y : ℕ) (signal : Signal) (p q : Planes) : Type 0 where
   pub size : HasSize p.words p.stride p.rows q
   pub there : (a : ℕ) → a < 64 * vs.words → lane q a x y ≡ is_live (valuation vs a) signal
-  pub rest : (a x' y' : ℕ) → a < 64 * vs.words → x' / 2 < p.stride → ((x' ≡ x) × (y' ≡ y) → ⊥) → lane q a x' y' ≡ lane p a x' y'
+  pub rest : (a x' y' : ℕ) → a < 64 * vs.words → x' / 2 < p.stride → ((x' ≡ x) × (y' ≡ y) → ⊥) →
+      lane q a x' y' ≡ lane p a x' y'
 
 -- whether a cell, counted from the halo, is outside the box
 abbrev pub IsOuter : Box2 → ℕ → ℕ → Type 0
@@ -123,7 +131,8 @@ HasHalo j vs t p = (x y : ℕ) → x < j.area.w + 2 → y < j.area.h + 2 → Has
 
 -- no cell changes but the one at (x, y), counted from the halo
 abbrev pub SameElsewhere : JobState → Planes → Planes → ℕ → ℕ → Type 0
-SameElsewhere j p q x y = (a x' y' : ℕ) → a < assignments j → x' < j.area.w + 2 → ((x' ≡ x) × (y' ≡ y) → ⊥) → lane q a x' y' ≡ lane p a x' y'
+SameElsewhere j p q x y = (a x' y' : ℕ) → a < assignments j → x' < j.area.w + 2 → ((x' ≡ x) × (y' ≡ y) → ⊥) →
+    lane q a x' y' ≡ lane p a x' y'
 
 -- the stops before this place are at earlier times than t, and all others are not
 pub record IsNextStop (j : JobState) (t place : ℕ) : Type 0 where
@@ -145,20 +154,25 @@ pub record IsPassed (j : JobState) (vs : Values) (t place : ℕ) : Type 0 where
   pub edges : HasNoEdgeFault j vs t
   pub stops : IsFree j vs t Stop
 
--- The cells of box and halo with this number, one in each plane, are dead under each assignment, and their signals at time t are
--- `Zero`
+-- The cells of box and halo with this number, one in each plane, are dead under each assignment, and their signals at
+-- time t are `Zero`
 pub record IsSilent (j : JobState) (t : ℕ) (p : Planes) (u : ℕ) : Type 0 where
-  pub dead : (a x y : ℕ) → a < 64 * p.words → x < j.area.w + 2 → y < j.area.h + 2 → number_at j.area x y ≡ u → lane p a x y ≡ false
-  pub edge : (x y : ℕ) → x < j.area.w + 2 → y < j.area.h + 2 → number_at j.area x y ≡ u → signal_at j.edges t (outer j.area.x x) (outer j.area.y y) ≡ Zero
-  pub halo : (x y : ℕ) → x < j.area.w + 2 → y < j.area.h + 2 → number_at j.area x y ≡ u → signal_at j.halos t (outer j.area.x x) (outer j.area.y y) ≡ Zero
+  pub dead : (a x y : ℕ) → a < 64 * p.words → x < j.area.w + 2 → y < j.area.h + 2 → number_at j.area x y ≡ u →
+      lane p a x y ≡ false
+  pub edge : (x y : ℕ) → x < j.area.w + 2 → y < j.area.h + 2 → number_at j.area x y ≡ u →
+      signal_at j.edges t (outer j.area.x x) (outer j.area.y y) ≡ Zero
+  pub halo : (x y : ℕ) → x < j.area.w + 2 → y < j.area.h + 2 → number_at j.area x y ≡ u →
+      signal_at j.halos t (outer j.area.x x) (outer j.area.y y) ≡ Zero
 
 -- the cells of the halo in this column and row of the planes are what their signals say
 abbrev pub HasHaloIn : JobState → Values → ℕ → Planes → ℕ → ℕ → Type 0
-HasHaloIn j vs t p column row = (x y : ℕ) → x < j.area.w + 2 → y < j.area.h + 2 → x / 2 ≡ column → y / 2 ≡ row → HasHaloAt j vs t p x y
+HasHaloIn j vs t p column row =
+    (x y : ℕ) → x < j.area.w + 2 → y < j.area.h + 2 → x / 2 ≡ column → y / 2 ≡ row → HasHaloAt j vs t p x y
 
 -- no cell changes but those in this column and row of the planes
 abbrev pub SameButIn : JobState → Planes → Planes → ℕ → ℕ → Type 0
-SameButIn j p q column row = (a x y : ℕ) → a < assignments j → x < j.area.w + 2 → ((x / 2 ≡ column) × (y / 2 ≡ row) → ⊥) → lane q a x y ≡ lane p a x y
+SameButIn j p q column row = (a x y : ℕ) → a < assignments j → x < j.area.w + 2 →
+    ((x / 2 ≡ column) × (y / 2 ≡ row) → ⊥) → lane q a x y ≡ lane p a x y
 
 -- a cell, counted from the halo, is outside the ring or carries what its signal says, wherever each used gate has a row
 abbrev pub HasEdgeAt : JobState → Values → ℕ → ℕ → ℕ → Type 0
@@ -166,4 +180,5 @@ HasEdgeAt j vs t x y = (a : ℕ) → a < assignments j → ¬ IsFound j vs a t E
 
 -- so do the cells in this column and row of the planes
 abbrev pub HasEdgesIn : JobState → Values → ℕ → ℕ → ℕ → Type 0
-HasEdgesIn j vs t column row = (x y : ℕ) → x < j.area.w + 2 → y < j.area.h + 2 → x / 2 ≡ column → y / 2 ≡ row → HasEdgeAt j vs t x y
+HasEdgesIn j vs t column row =
+    (x y : ℕ) → x < j.area.w + 2 → y < j.area.h + 2 → x / 2 ≡ column → y / 2 ≡ row → HasEdgeAt j vs t x y

@@ -5,20 +5,25 @@ use Rattle.bbm_rule.specs.Marks.{IsUnmarked}
 use Rattle.bbm_rule.specs.Plane.{turned}
 use Rattle.bbm_rule.specs.Words.{AreTurned}
 
--- A block has two diagonals: its upper left and lower right cells, and the other two. For the first cells of a diagonal and their
--- others, then those of the other diagonal: under no assignment does a turn change a cell of the diagonal
+-- A block has two diagonals: its upper left and lower right cells, and the other two. For the first cells of a diagonal
+-- and their others, then those of the other diagonal: under no assignment does a turn change a cell of the diagonal
 abbrev pub DiagonalStays : ℕ → ℕ → ℕ → ℕ → Type 0
-DiagonalStays first last a b = (j : ℕ) → (turned (bit first j) (bit last j) (bit a j) (bit b j) ≡ bit first j) × (turned (bit last j) (bit first j) (bit b j) (bit a j) ≡ bit last j)
+DiagonalStays first last a b =
+    (j : ℕ) → (turned (bit first j) (bit last j) (bit a j) (bit b j) ≡ bit first j)
+    × (turned (bit last j) (bit first j) (bit b j) (bit a j) ≡ bit last j)
 
--- The words of four cells, w of each, which have these numbers in their lists, are the corners of a block whose main diagonal stays
+-- The words of four cells, w of each, which have these numbers in their lists, are the corners of a block whose main
+-- diagonal stays
 abbrev pub MainStays : ℕ → ℕ → ℕ → ℕ → ℕ → List ℕ → List ℕ → List ℕ → List ℕ → Type 0
 MainStays w a b c d ul ur ll lr =
-    (k : ℕ) → k < w → DiagonalStays (slice_index ul (w * a + k)) (slice_index lr (w * d + k)) (slice_index ur (w * b + k)) (slice_index ll (w * c + k))
+    (k : ℕ) → k < w → DiagonalStays (slice_index ul (w * a + k)) (slice_index lr (w * d + k))
+    (slice_index ur (w * b + k)) (slice_index ll (w * c + k))
 
--- of one whose other diagonal stays
+-- the same of a block whose other diagonal stays
 abbrev pub AntiStays : ℕ → ℕ → ℕ → ℕ → ℕ → List ℕ → List ℕ → List ℕ → List ℕ → Type 0
 AntiStays w a b c d ul ur ll lr =
-    (k : ℕ) → k < w → DiagonalStays (slice_index ur (w * b + k)) (slice_index ll (w * c + k)) (slice_index ul (w * a + k)) (slice_index lr (w * d + k))
+    (k : ℕ) → k < w → DiagonalStays (slice_index ur (w * b + k)) (slice_index ll (w * c + k))
+    (slice_index ul (w * a + k)) (slice_index lr (w * d + k))
 
 -- and of one that stays
 abbrev pub IsCalmBlock : ℕ → ℕ → ℕ → ℕ → ℕ → List ℕ → List ℕ → List ℕ → List ℕ → Type 0
@@ -29,21 +34,26 @@ pub record SameBeside (a long : ℕ) (old new : List ℕ) : Type 0 where
   pub below : (n : ℕ) → n < a → slice_index new n ≡ slice_index old n
   pub above : (n : ℕ) → a + long ≤ n → slice_index new n ≡ slice_index old n
 
--- the words of four lists, as many as `long` from a place on in each, are the corners of blocks that are turned, and no others change
+-- the words of four lists, as many as `long` from a place on in each, are the corners of blocks that are turned, and no
+-- others change
 pub record TurnsPart (a b c d long : ℕ) (ul ur ll lr ul' ur' ll' lr' : List ℕ) : Type 0 where
-  pub turned : (k : ℕ) → k < long → AreTurned (slice_index ul (a + k)) (slice_index ur (b + k)) (slice_index ll (c + k)) (slice_index lr (d + k)) (slice_index ul' (a + k)) (slice_index ur' (b + k)) (slice_index ll' (c + k)) (slice_index lr' (d + k))
+  pub turned : (k : ℕ) → k < long →
+      AreTurned (slice_index ul (a + k)) (slice_index ur (b + k)) (slice_index ll (c + k)) (slice_index lr (d + k))
+      (slice_index ul' (a + k)) (slice_index ur' (b + k)) (slice_index ll' (c + k)) (slice_index lr' (d + k))
   pub upper_left : SameBeside a long ul ul'
   pub upper_right : SameBeside b long ur ur'
   pub lower_left : SameBeside c long ll ll'
   pub lower_right : SameBeside d long lr lr'
 
--- marks are made at the blocks of the even partition that share with block `at` of the odd partition a cell of its main diagonal,
--- where that changes, or of the other one, where that does
+-- marks are made at blocks of the even partition that share a cell with block `at` of the odd partition: a cell of its
+-- main diagonal if that changes, and one of the other diagonal if that does
 abbrev pub MarksAround : Bool → Bool → ℕ → ℕ → List ℕ → List ℕ → Type 0
 MarksAround main anti stride at old new =
-    (u : ℕ) → IsUnmarked new u → IsUnmarked old u × (main ≡ true → (u ≢ at) × (u + stride + 1 ≢ at)) × (anti ≡ true → (u + 1 ≢ at) × (u + stride ≢ at))
+    (u : ℕ) → IsUnmarked new u → IsUnmarked old u × (main ≡ true → (u ≢ at) × (u + stride + 1 ≢ at))
+    × (anti ≡ true → (u + 1 ≢ at) × (u + stride ≢ at))
 
 -- so they are at the blocks of the odd partition that share such a cell with block `at` of the even partition
 abbrev pub MarksCorners : Bool → Bool → ℕ → ℕ → List ℕ → List ℕ → Type 0
 MarksCorners main anti stride at old new =
-    (u : ℕ) → IsUnmarked new u → IsUnmarked old u × (main ≡ true → (u ≢ at) × (u ≢ at + stride + 1)) × (anti ≡ true → (u ≢ at + 1) × (u ≢ at + stride))
+    (u : ℕ) → IsUnmarked new u → IsUnmarked old u × (main ≡ true → (u ≢ at) × (u ≢ at + stride + 1))
+    × (anti ≡ true → (u ≢ at + 1) × (u ≢ at + stride))

@@ -6,7 +6,7 @@ use bbm_rule::Cell;
 use module_box::compare_cells;
 use std::cmp::Ordering;
 
-/// What a cell is compared with.
+/// The kind of a fault: what the cell is compared with.
 #[derive(Clone, Copy, Debug, PartialEq, Eq)]
 pub enum Kind {
     /// At an odd time, a cell of the ring with its edge signal.
@@ -17,8 +17,9 @@ pub enum Kind {
     End,
 }
 
-/// A cell of a module's box that is not as the module says, at a time and under an assignment: bit i of the assignment
-/// is the value of cut i.
+/// A cell of a module's box that is not as the module says, at a time and under an assignment.
+///
+/// Bit i of the assignment is the value of cut i.
 #[derive(Clone, Copy, Debug, PartialEq, Eq)]
 pub struct Fault {
     pub time: u32,
@@ -27,8 +28,9 @@ pub struct Fault {
     pub assignment: u32,
 }
 
-/// A gate that a module keeps, by its place among those that it uses, and an assignment under which it is the first of
-/// them that has no row. Keep faults are ordered by gate and assignment.
+/// A kept gate, and an assignment under which it is the first used gate without a row.
+///
+/// The gate has its place among those that the module uses. Keep faults are ordered by gate and assignment.
 #[derive(Clone, Copy, Debug, PartialEq, Eq)]
 pub struct KeepFault {
     pub gate: usize,
@@ -47,7 +49,7 @@ fn number_of(kind: Kind) -> u8
 }
 
 impl Fault {
-    /// The order of faults: by time, kind (`Edge`, `Stop`, `End`), y, x and assignment.
+    /// Compares faults by time, kind (`Edge`, `Stop`, `End`), y, x and assignment.
     #[tactic(auto, unfolding(crate::specs::Order::fault_cmp, module_box::specs::Moments::cell_cmp))]
     pub fn compare(self, other: Fault) -> Ordering
         ensures { result ≡ fault_cmp self other }

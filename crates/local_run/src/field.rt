@@ -1,8 +1,8 @@
 //! Planes whose steps pass over the blocks that are known to stay.
 //!
-//! A block stays where under no assignment exactly one of its diagonals has a live cell: an empty one, one in a mirror,
-//! one with two balls side by side. Once it was seen to stay it does so until one of its cells changes, so only the
-//! blocks near cells that changed are looked at. A step in which many blocks change is followed by some that turn whole
+//! A block stays if under no assignment exactly one of its diagonals has a live cell: an empty one, one in a mirror,
+//! one with two balls side by side. A block that was seen to stay does so until one of its cells changes, so a step
+//! looks only at the blocks near cells that changed. After a step in which many blocks change, some steps turn whole
 //! planes.
 
 ghost use Rattle.bbm_rule.specs.Plane.{turned};
@@ -21,7 +21,7 @@ use module_box::Signal;
 use module_job::Job;
 use std::alloc::{AllocError, Global};
 
-/// Planes with marks on the blocks that a turn may change.
+/// The planes of a run, with marks on the blocks that a turn may change.
 #[derive(Drop)]
 pub struct Field {
     planes: Planes,
@@ -69,7 +69,7 @@ impl Field {
     ghost use Rattle.local_run.specs.Scans.{IsReady};
     ghost use Rattle.local_run.specs.Lanes.{HasSize, SameInside, lane};
 
-    /// Planes of whose blocks nothing is known.
+    /// Creates a field of planes. Each block has a mark, since nothing is known of it.
     pub fn new(alloc: Global, planes: Planes) -> Result<Field, AllocError>
         ensures { IfOk result (λ f. f.planes ≡ planes) }
     {
@@ -95,14 +95,14 @@ impl Field {
         })
     }
 
-    /// The planes.
+    /// Returns the planes.
     pub fn planes(&self) -> &Planes
         ensures { result.now ≡ self.now.planes }
     {
         &self.planes
     }
 
-    /// Looks at the edge and halo lines of a job at a time: the cells of which one says something get a mark.
+    /// Marks the cells of which an edge or halo line of the job says something at a time.
     pub fn look_at(&mut self, values: &Values, job: &Job, time: u32)
         requires ready { IsReady job.now values.now }
         requires size { HasSize values.now.words (job.now.area.w / 2 + 1) (job.now.area.h / 2 + 1)
@@ -115,9 +115,12 @@ impl Field {
         mark_lines(&mut self.line_marks, &mut self.line_places, job, time);
     }
 
-    /// The next number from `from` on that has cells of ring or halo which may be live, or of which a line says
-    /// something at the time that was looked at; or how many numbers there are. The cells of the numbers that are
-    /// passed are neither in the ring nor in the halo, or dead under each assignment and without a line.
+    /// Returns the next number from `from` on whose cells of ring and halo must be looked at, or how many numbers there
+    /// are.
+    ///
+    /// Such a cell may be live, or a line says something of it at the time that was looked at. The function passes a
+    /// number only if its cells are neither in the ring nor in the halo, or dead under each assignment and without a
+    /// line.
     pub fn next_border(&self, from: usize) -> usize
         requires { from ≤ self.now.planes.stride * self.now.planes.rows }
         ensures range { (from ≤ result) × (result ≤ self.now.planes.stride * self.now.planes.rows) }
@@ -132,8 +135,8 @@ impl Field {
         )
     }
 
-    /// Whether an edge or halo line may say something, at the time that was looked at, of a cell, counted from the
-    /// halo.
+    /// Returns whether an edge or halo line may say something of a cell, counted from the halo, at the time that was
+    /// looked at.
     pub fn has_line(&self, x: usize, y: usize) -> bool
         requires { (x / 2 < self.now.planes.stride) × (y / 2 < self.now.planes.rows) }
         ensures { result ≡ false →
@@ -206,7 +209,8 @@ impl Field {
         (u + 1) % stride != 0
     }
 
-    /// Turns the blocks whose upper left corner is odd: they fill box and halo. Tells whether a block may have changed.
+    /// Turns the blocks whose upper left corner is odd, which fill box and halo. Returns whether a block may have
+    /// changed.
     pub fn odd_step(&mut self) -> bool
         ensures turned { (a x y : ℕ) → a < 64 * self.old.planes.words →
             x < 2 * self.old.planes.stride → y < 2 * self.old.planes.rows →
@@ -241,8 +245,9 @@ impl Field {
         changed > 0
     }
 
-    /// Turns the blocks of the box whose upper left corner is even. The cells of the halo are not read. Tells whether a
-    /// cell of the box may have changed.
+    /// Turns the blocks of the box whose upper left corner is even. Returns whether a cell of the box may have changed.
+    ///
+    /// It does not read the cells of the halo.
     pub fn even_step(&mut self) -> bool
         ensures turned { (a x y : ℕ) → a < 64 * self.old.planes.words →
             x + 2 < 2 * self.old.planes.stride → y + 2 < 2 * self.old.planes.rows →
@@ -283,7 +288,7 @@ impl Field {
 impl Field {
     ghost use Rattle.local_run.specs.Scans.{HasRow, PutsCell};
 
-    /// A cell, counted from the halo, becomes what the signal says.
+    /// Sets a cell, counted from the halo, to what the signal says.
     pub fn put(&mut self, values: &Values, x: usize, y: usize, signal: Signal)
         requires place { (x / 2 < self.old.planes.stride) × (y / 2 < self.old.planes.rows) }
         requires words { (values.now.words ≡ self.old.planes.words) × (values.now.words ≤ 64) }

@@ -1,4 +1,4 @@
-//! What was found of a job.
+//! The result of a job's run.
 ghost use Rattle.std.specs.Prelude.{◌≡◌, ◌≢◌, Some, IfNone, IfSome};
 ghost use Rattle.std.specs.Arc.{arc_value};
 ghost use Rattle.std.specs.Option.{option_map};
@@ -12,10 +12,10 @@ use module_box::moved_cell;
 use module_job::Job;
 use std::sync::Arc;
 
-/// What was found of a job, with the digest of the certificate and the number of the module that it was made for.
+/// The result of a job's run, with the digest of the certificate and the number of the module that it was made for.
 ///
-/// Each finding is honest, by its type: its fault is the least fault of its own job, or `None` where that job has no
-/// fault, and so is its keep fault.
+/// Each finding is honest, by its type. Its fault is the least fault of its own job, or `None` if that job has no
+/// fault. Its keep fault is the least one too.
 #[derive(Drop)]
 pub struct Finding {
     digest: [u8; 32],
@@ -84,28 +84,28 @@ impl Finding {
         }
     }
 
-    /// The digest that it was made for.
+    /// Returns the digest that the finding was made for.
     pub fn digest(&self) -> [u8; 32]
         ensures { result ≡ digest_of self.now }
     {
         self.digest
     }
 
-    /// The number of the module that it was made for.
+    /// Returns the number of the module that the finding was made for.
     pub fn number(&self) -> usize
         ensures { result ≡ number_of self.now }
     {
         self.number
     }
 
-    /// The job.
+    /// Returns the job.
     pub fn job(&self) -> &Arc<Job>
         ensures { arc_value result.now ≡ job_of self.now }
     {
         &self.job
     }
 
-    /// The least fault of the job, or `None` where it has no fault.
+    /// Returns the least fault of the job, or `None` if it has no fault.
     pub fn fault(&self) -> Option<Fault>
         ensures value { result ≡ fault_of self.now }
         ensures honest { IsLeastFault (job_of self.now) result }
@@ -113,7 +113,7 @@ impl Finding {
         self.fault
     }
 
-    /// The least keep fault of the job, or `None` where it has none.
+    /// Returns the least keep fault of the job, or `None` if it has none.
     pub fn keep(&self) -> Option<KeepFault>
         ensures value { result ≡ keep_of self.now }
         ensures honest { IsLeastKeepFault (job_of self.now) result }
@@ -121,9 +121,10 @@ impl Finding {
         self.keep
     }
 
-    /// The finding of another job of the same shape, for a module of this number of the certificate with the same
-    /// digest, without another run: its fault is that of this finding, where the job lies, and its keep fault is the
-    /// same. `None` where the job has another shape. It takes no memory.
+    /// Makes the finding of another job of the same shape without another run, or `None` if the job has another shape.
+    ///
+    /// It is for a module of this number of the certificate with the same digest. Its fault is that of this finding,
+    /// moved to where the job lies, and its keep fault is the same. It takes no memory.
     pub fn for_job(&self, number: usize, job: Arc<Job>) -> Option<Finding>
         ensures shapes { IfSome result (λ _. shape_of (job_of self.now)
             ≡ shape_of (arc_value job)) }

@@ -6,8 +6,9 @@ use crate::fault::KeepFault;
 use crate::values::Values;
 use module_job::Job;
 
-/// The least keep fault of a job, by gate and assignment. Each assignment counts, also one under which an earlier run
-/// looks for no faults.
+/// Returns the least keep fault of a job, by gate and assignment, if there is one.
+///
+/// Each assignment counts, also one under which an earlier gate has no row and the run looks for no faults.
 pub fn least_keep(values: &Values, job: &Job) -> Option<KeepFault>
     requires { IsReady job.now values.now }
     ensures { IsLeastKeepFault job.now result }

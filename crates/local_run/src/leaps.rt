@@ -9,7 +9,7 @@ ghost use Rattle.local_run.specs.Scans.{IsNextStop};
 use module_box::{Event, Schedule};
 use module_job::{Job, Shape};
 
-/// The place of the first event at the time or after it, or how many there are.
+/// Returns the place of the first event at the time or after it, or how many events there are.
 pub fn first_event(events: &[Event], time: u32) -> usize
     requires rising { IsRising moment_cmp moment_of events.now }
     ensures range { result ≤ length events.now }
@@ -43,7 +43,7 @@ fn sure_place(events: &[Event], place: usize, time: u32) -> usize
     0
 }
 
-/// The same as [`first_event`], by a search from a place on: where the event is near it, a few looks are enough.
+/// Returns the same as [`first_event`], by a search from a place on. If the event is near it, a few looks are enough.
 pub fn first_event_from(events: &[Event], place: usize, time: u32) -> usize
     requires rising { IsRising moment_cmp moment_of events.now }
     ensures range { result ≤ length events.now }
@@ -117,9 +117,11 @@ fn stop_until(job: &Job, next: usize, time: u32, end: u32) -> u32
     end
 }
 
-/// The time that comes next in a run, where `next` is the place of the first stop after `time`. It is the one after
-/// `time`, but where an odd step and the even one at `time` changed nothing it is a time, `steps` at most and no later
-/// than that stop, before which the signals of ring and halo at odd times stay as they were at the odd one.
+/// Returns the time that comes next in a run. `next` is the place of the first stop after `time`.
+///
+/// It is the time after `time`, unless an odd step and the even one at `time` changed nothing. It is then a later time,
+/// `steps` at most and no later than that stop. Before it the signals of ring and halo at odd times stay as they were
+/// at the odd step.
 pub fn next_time(job: &Job, time: u32, steps: u32, changed: bool, next: usize) -> u32
     requires range { (time < steps) × (steps ≤ 65536) }
     requires next { IsNextStop job.now (time + 1) next }

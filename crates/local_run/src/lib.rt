@@ -1,4 +1,4 @@
-//! Runs of modules by themselves, under all assignments of their cuts, and what they find.
+//! Runs of modules by themselves, under all assignments of their cuts, and their findings.
 //!
 //! A module's run begins with the cells of its box that are live at time 0. An even step is made inside the box. An odd
 //! step is made on the box together with the live cells of its halo, and cut back to the box. A fault is a cell that is
@@ -7,11 +7,15 @@
 //! and valuations.
 //!
 //! All assignments are run at once: each cell has a bit for each of them, and the cells lie in planes whose words are
-//! turned together. Faults are looked for in their order, so the first one that is found is the least.
+//! turned together. The search goes through faults in their order, so the first one that it finds is the least.
 //!
-//! What stays is passed over: a block until one of its cells changes, a cell of ring and halo that is dead and has no
-//! line, and the times up to the next line or stop where two steps changed nothing. Where many blocks change, whole
-//! planes are turned.
+//! The run passes over
+//!
+//! - a block until one of its cells changes,
+//! - a cell of ring and halo that is dead and has no line,
+//! - and the times up to the next line or stop if two steps changed nothing.
+//!
+//! If many blocks change, it turns whole planes.
 //!
 //! The step is that of Norman Margolus's billiard ball model (Physics-like Models of Computation, 1984).
 #![tactic(auto)]

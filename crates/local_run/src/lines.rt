@@ -115,8 +115,9 @@ fn box_of(shape: &Shape) -> Box2
     }
 }
 
-/// The places of edge and halo lines of a job at which a search for those of a time begins: it may be any, and takes
-/// the fewest looks from the first line after an earlier time.
+/// The places of edge and halo lines of a job at which a search for those of a time begins.
+///
+/// They may be any. The search takes the fewest looks from the first line after an earlier time.
 #[derive(Clone, Copy)]
 pub struct LinePlaces {
     edges: usize,
@@ -124,14 +125,15 @@ pub struct LinePlaces {
 }
 
 impl LinePlaces {
-    /// Those of the first lines.
+    /// Returns the places of the first lines.
     pub fn first() -> LinePlaces {
         LinePlaces { edges: 0, halos: 0 }
     }
 }
 
-/// Marks the cells of which an edge or halo line says something at the time, where those of which one does at all times
-/// have marks.
+/// Marks the cells of which an edge or halo line says something at the time.
+///
+/// Those of which a line says something at all times have marks before.
 pub fn mark_lines(marks: &mut [u64], places: &mut LinePlaces, job: &Job, time: u32)
     requires held { AreHeld (shape_of job.now) marks.old }
     requires range { time < 65536 }
@@ -155,7 +157,7 @@ fn mark_all_held(marks: &mut [u64], shape: &Shape)
     mark_held(marks, area, shape.halos().held());
 }
 
-/// Marks on the numbers of cells, one in each plane, of which an edge or halo line says something at all times.
+/// Marks the numbers of cells, one in each plane, of which an edge or halo line says something at all times.
 pub fn held_cells(alloc: Global, job: &Job) -> Result<Vec<u64>, AllocError>
     requires { IsJob job.now }
     ensures { IfOk result (λ m. AreHeld (shape_of job.now) m.items) }

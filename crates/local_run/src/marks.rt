@@ -9,7 +9,7 @@ ghost use Rattle.std.specs.Prelude.{ℕ, ◌≡◌, ◌≢◌, ◌+◌, ◌*◌,
 use crate::planes::Changes;
 use bbm_rule::marks::{mark, mark_before};
 
-/// Whether a number has a mark.
+/// Returns whether a number has a mark.
 #[inline(always)]
 pub fn is_marked(marks: &[u64], at: usize) -> bool
     requires { at / 64 < length marks.now }
@@ -18,8 +18,7 @@ pub fn is_marked(marks: &[u64], at: usize) -> bool
     (marks[at / 64] >> (at % 64)) & 1 == 1
 }
 
-/// Marks the blocks of the even partition that share with block `at` of the odd partition a cell of a diagonal that
-/// changes.
+/// Marks the blocks of the even partition that share a cell of a changed diagonal with block `at` of the odd partition.
 pub fn mark_around(marks: &mut [u64], at: usize, stride: usize, changes: Changes)
     requires { (at / 64 < length marks.old) × (stride ≤ 64) }
     ensures { MarksAround changes.main changes.anti stride at marks.old marks.new }
@@ -34,8 +33,7 @@ pub fn mark_around(marks: &mut [u64], at: usize, stride: usize, changes: Changes
     }
 }
 
-/// Marks the blocks of the odd partition that share with block `at` of the even partition a cell of a diagonal that
-/// changes.
+/// Marks the blocks of the odd partition that share a cell of a changed diagonal with block `at` of the even partition.
 pub fn mark_corners(marks: &mut [u64], at: usize, stride: usize, changes: Changes)
     requires { ((at + stride + 1) / 64 < length marks.old) × (at + stride + 1 < 2 ^ 32) }
     ensures { MarksCorners changes.main changes.anti stride at marks.old marks.new }
@@ -50,7 +48,7 @@ pub fn mark_corners(marks: &mut [u64], at: usize, stride: usize, changes: Change
     }
 }
 
-/// Marks the numbers of the cells of ring and halo, for planes of so many columns and rows.
+/// Marks the numbers of the cells of ring and halo, for planes of this many columns and rows.
 pub fn mark_border(marks: &mut [u64], stride: usize, rows: usize)
     requires room { stride * rows ≤ 64 * length marks.old }
     requires size { (2 ≤ stride) × (stride ≤ 64) × (2 ≤ rows) × (rows ≤ 64) }
@@ -66,8 +64,9 @@ pub fn mark_border(marks: &mut [u64], stride: usize, rows: usize)
     }
 }
 
-/// The next number from `from` on that may have a mark among the first, and one among the second or the third; or `end`
-/// where there is none below it.
+/// Returns the next number from `from` on that may have a mark in the first list, and one in the second or the third.
+///
+/// If there is none below `end`, it returns `end`.
 pub fn next_marked_in(
     first: &[u64],
     second: &[u64],

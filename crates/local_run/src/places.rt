@@ -11,8 +11,9 @@ use bbm_rule::Cell;
 use module_box::{Box2, Signal};
 use module_job::{Demand, Job};
 
-/// The cell at a column and row of the box, for columns and rows below 67 of a box whose corner has coordinates of at
-/// most 512.
+/// Returns the cell at a column and row of the box.
+///
+/// Columns and rows are below 67, and the box's corner has coordinates of at most 512.
 #[tactic(auto, unfolding(crate::specs::Places::inner))]
 pub fn inner_cell(area: Box2, x: usize, y: usize) -> Cell
     requires { IsSmall area x y }
@@ -25,7 +26,7 @@ pub fn inner_cell(area: Box2, x: usize, y: usize) -> Cell
     }
 }
 
-/// The same, where columns and rows are counted from the halo.
+/// Returns the cell at a column and row that are counted from the halo.
 #[tactic(auto, unfolding(crate::specs::Places::outer))]
 pub fn outer_cell(area: Box2, x: usize, y: usize) -> Cell
     requires { IsSmall area x y }
@@ -38,7 +39,7 @@ pub fn outer_cell(area: Box2, x: usize, y: usize) -> Cell
     }
 }
 
-/// What the cell at a column and row of the box carries at time 0.
+/// Returns what the cell at a column and row of the box carries at time 0.
 pub fn start_at(job: &Job, x: usize, y: usize) -> Signal
     requires { (x < job.now.area.w) × (y < job.now.area.h) }
     ensures is { result ≡ job_start job.now (inner job.now.area.x x) (inner job.now.area.y y) }
@@ -47,7 +48,7 @@ pub fn start_at(job: &Job, x: usize, y: usize) -> Signal
     job.start(inner_cell(job.area(), x, y))
 }
 
-/// What it is to be at the last time.
+/// Returns what the cell at a column and row of the box must be at the last time.
 pub fn demand_at(job: &Job, x: usize, y: usize) -> Demand
     requires { (x < job.now.area.w) × (y < job.now.area.h) }
     ensures is { result ≡ job_demand job.now (inner job.now.area.x x) (inner job.now.area.y y) }
@@ -56,7 +57,7 @@ pub fn demand_at(job: &Job, x: usize, y: usize) -> Demand
     job.demand(inner_cell(job.area(), x, y))
 }
 
-/// What it carries at an odd time, if it is in the ring.
+/// Returns what the cell at a column and row of the box carries at an odd time, if it is in the ring.
 pub fn edge_at(job: &Job, time: u32, x: usize, y: usize) -> Signal
     requires { (x < job.now.area.w) × (y < job.now.area.h) }
     ensures is { result
@@ -66,7 +67,7 @@ pub fn edge_at(job: &Job, time: u32, x: usize, y: usize) -> Signal
     job.edge(time, inner_cell(job.area(), x, y))
 }
 
-/// What the cell at a column and row, counted from the halo, carries at an odd time, if it is in the halo.
+/// Returns what the cell at a column and row, counted from the halo, carries at an odd time, if it is in the halo.
 pub fn halo_at(job: &Job, time: u32, x: usize, y: usize) -> Signal
     requires { (x < job.now.area.w + 2) × (y < job.now.area.h + 2) }
     ensures is { result
@@ -76,7 +77,7 @@ pub fn halo_at(job: &Job, time: u32, x: usize, y: usize) -> Signal
     job.halo(time, outer_cell(job.area(), x, y))
 }
 
-/// Whether the cell at a column and row of the box is in its ring.
+/// Returns whether the cell at a column and row of the box is in its ring.
 pub fn is_ring(job: &Job, x: usize, y: usize) -> bool
     requires { (x < job.now.area.w) × (y < job.now.area.h) }
     ensures { result ≡ in_ring job.now.area (inner job.now.area.x x) (inner job.now.area.y y) }
@@ -85,7 +86,7 @@ pub fn is_ring(job: &Job, x: usize, y: usize) -> bool
     area.in_ring(inner_cell(area, x, y))
 }
 
-/// The column and row of a cell of the box.
+/// Returns the column and row of a cell of the box.
 pub fn place_of(job: &Job, cell: Cell) -> (usize, usize)
     requires { IsTrue (in_box job.now.area cell.x cell.y) }
     ensures column { (result.0 < job.now.area.w) × (cell.x ≡ inner job.now.area.x result.0) }

@@ -15,7 +15,7 @@ use std::alloc::{AllocError, Global};
 /// The cells of a box and of its halo, under 64 assignments in each word of a cell: bit b of word k is assignment 64 k
 /// + b.
 ///
-/// Columns and rows are counted from the halo: the cell at column x and row y of the box stands at (x + 1, y + 1).
+/// Columns and rows are counted from the halo: the cell at column x and row y of the box has the place (x + 1, y + 1).
 #[derive(Drop)]
 pub struct Planes {
     // the words of a cell
@@ -39,7 +39,7 @@ pub struct Planes {
 impl Planes {
     ghost use Rattle.local_run.specs.Lanes.{HasSize, lane};
 
-    /// All dead, for a box of `width` by `height` cells.
+    /// Creates planes of dead cells, for a box of `width` by `height` cells.
     pub fn new(
         alloc: Global,
         width: usize,
@@ -65,7 +65,7 @@ impl Planes {
         })
     }
 
-    /// Turns the blocks whose upper left corner is odd: they fill box and halo.
+    /// Turns the blocks whose upper left corner is odd, which fill box and halo.
     pub fn odd_step(&mut self)
         ensures turned { (a x y : ℕ) → a < 64 * self.old.words → x < 2 * self.old.stride →
             y < 2 * self.old.rows →
@@ -81,7 +81,7 @@ impl Planes {
         );
     }
 
-    /// Turns the blocks of the box whose upper left corner is even. The cells of the halo are not read.
+    /// Turns the blocks of the box whose upper left corner is even. It does not read the cells of the halo.
     pub fn even_step(&mut self)
         ensures turned { (a x y : ℕ) → a < 64 * self.old.words → x + 2 < 2 * self.old.stride →
             y + 2 < 2 * self.old.rows →
@@ -166,17 +166,17 @@ fn flips_of(upper_left: u64, upper_right: u64, lower_left: u64, lower_right: u64
     )
 }
 
-/// Which diagonals of a block a turn changes: that of its upper left and lower right cells, and the other one.
+/// The diagonals of a block that a turn changes: that of its upper left and lower right cells, and the other one.
 #[derive(Clone, Copy)]
 pub struct Changes {
     /// The cells of the main diagonal.
     pub main: bool,
-    /// Those of the other one.
+    /// The cells of the other diagonal.
     pub anti: bool,
 }
 
 impl Changes {
-    /// Whether it changes none, so that the block stays.
+    /// Returns whether the turn changes no diagonal, so that the block stays.
     pub fn is_none(self) -> bool
         ensures main { result ≡ true → self.main ≡ false }
         ensures anti { result ≡ true → self.anti ≡ false }
@@ -231,7 +231,8 @@ impl Planes {
     ghost use Rattle.local_run.specs.Calm.{IsDeadAt};
     ghost use Rattle.local_run.specs.Lanes.{HasSize};
 
-    /// How many cells a plane has. A block of the odd partition has the number of its cells, counted row by row.
+    /// Returns how many cells a plane has. A block of the odd partition has the number of its cells, counted row by
+    /// row.
     pub fn cells(&self) -> usize
         ensures is { result ≡ self.now.stride * self.now.rows }
         ensures few { (4 ≤ result) × (result ≤ 4096)
@@ -240,7 +241,7 @@ impl Planes {
         self.stride * self.rows
     }
 
-    /// How many words a cell has.
+    /// Returns how many words a cell has.
     pub fn words(&self) -> usize
         ensures is { result ≡ self.now.words }
         ensures few { (0 < result) × (result ≤ 64) }
@@ -248,7 +249,7 @@ impl Planes {
         self.words
     }
 
-    /// How many cells a row of a plane has.
+    /// Returns how many cells a row of a plane has.
     pub fn stride(&self) -> usize
         ensures is { result ≡ self.now.stride }
         ensures few { (2 ≤ result) × (result ≤ 64) }
@@ -256,7 +257,7 @@ impl Planes {
         self.stride
     }
 
-    /// Which diagonals of block u of the odd partition a turn changes under some assignment.
+    /// Returns which diagonals of block u of the odd partition a turn may change under some assignment.
     pub fn odd_changes(&self, u: usize) -> Changes
         requires { u < self.now.stride * self.now.rows }
         ensures main { result.main ≡ false →
@@ -280,7 +281,7 @@ impl Planes {
         )
     }
 
-    /// How many rows a plane has.
+    /// Returns how many rows a plane has.
     pub fn rows(&self) -> usize
         ensures is { result ≡ self.now.rows }
         ensures few { (2 ≤ result) × (result ≤ 64) }
@@ -288,7 +289,7 @@ impl Planes {
         self.rows
     }
 
-    /// The column and row of the cells with number u.
+    /// Returns the column and row of the cells with number u.
     pub fn place(&self, u: usize) -> (usize, usize)
         requires { u < self.now.stride * self.now.rows }
         ensures column { result.0 < self.now.stride }
@@ -298,7 +299,7 @@ impl Planes {
         (u % self.stride, u / self.stride)
     }
 
-    /// The number of a cell, counted from the halo.
+    /// Returns the number of a cell, counted from the halo.
     pub fn number(&self, x: usize, y: usize) -> usize
         requires { (x / 2 < self.now.stride) × (y / 2 < self.now.rows) }
         ensures is { result ≡ self.now.stride * (y / 2) + x / 2 }
@@ -307,7 +308,7 @@ impl Planes {
         self.stride * (y / 2) + x / 2
     }
 
-    /// Whether the cells with number u are dead under each assignment.
+    /// Returns whether the cells with number u are dead under each assignment. Only `true` is proved to be right.
     pub fn is_dead(&self, u: usize) -> bool
         requires { u < self.now.stride * self.now.rows }
         ensures { result ≡ true → IsDeadAt u self.now }
@@ -347,8 +348,9 @@ impl Planes {
         );
     }
 
-    /// Which diagonals of block u of the even partition a turn changes under some assignment: it has the number of its
-    /// upper left cell.
+    /// Returns which diagonals of block u of the even partition a turn may change under some assignment.
+    ///
+    /// The block has the number of its upper left cell.
     pub fn even_changes(&self, u: usize) -> Changes
         requires { u + self.now.stride + 1 < self.now.stride * self.now.rows }
         ensures main { result.main ≡ false →
@@ -403,7 +405,7 @@ impl Planes {
     ghost use Rattle.local_run.specs.Calm.{ChangesCells};
     ghost use Rattle.local_run.specs.Lanes.{HasSize, lane, SetsWord};
 
-    /// Word k of a cell, counted from the halo.
+    /// Returns word k of a cell, counted from the halo.
     pub fn word(&self, x: usize, y: usize, k: usize) -> u64
         requires { (x / 2 < self.now.stride) × (y / 2 < self.now.rows) × (k < self.now.words) }
         ensures { (b : ℕ) → b < 64 → bit result b ≡ lane self.now (64 * k + b) x y }

@@ -119,9 +119,13 @@ fn least_faults(alloc: Global, job: &Job) -> Result<(Option<Fault>, Option<KeepF
     Ok((fault, keep))
 }
 
-/// Runs a job under all assignments of its cuts, for a module of this number of the certificate with this digest. This
-/// and [`Finding::for_job`] are the only makers of findings. `AllocError` is want of memory, and nothing else keeps it
-/// from a finding.
+/// Runs a job under all assignments of its cuts, for a module of this number of the certificate with this digest.
+///
+/// This function and [`Finding::for_job`] are the only makers of findings.
+///
+/// # Errors
+///
+/// Out of memory. Nothing else prevents a finding.
 pub fn run_job(
     alloc: Global,
     digest: [u8; 32],

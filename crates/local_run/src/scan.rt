@@ -64,7 +64,7 @@ fn stride_of(kind: Kind, width: usize, height: usize, y: usize) -> usize
     }
 }
 
-/// The first fault of the kind at the time, by row, column and assignment.
+/// Returns the first fault of the kind at the time, by row, column and assignment, if there is one.
 pub fn first_fault(
     field: &Field,
     values: &Values,
@@ -165,7 +165,7 @@ fn are_edges_right_in(
         && are_both_right(field, values, job, time, column, 2 * row + 1)
 }
 
-/// Whether the cells of the ring carry what their edge signals say.
+/// Returns whether the cells of the ring carry what their edge signals say. Only `true` is proved to be right.
 pub fn are_edges_right(field: &Field, values: &Values, job: &Job, time: u32) -> bool
     requires ready { IsReady job.now values.now }
     requires shows { Shows job.now values.now time field.now.planes }
@@ -199,8 +199,10 @@ fn stop_fault(field: &Field, values: &Values, job: &Job, stop: Stop) -> Option<u
     values.first_difference(field.planes(), 1 + x, 1 + y, Signal::Wire(stop.wire))
 }
 
-/// The first fault of a stop at the time, where `next` is the place of the first stop that is not earlier. Where there
-/// is none, `next` is then the place of the first later stop.
+/// Returns the first fault of a stop at the time, if there is one.
+///
+/// `next` is the place of the first stop that is not earlier. If there is no fault, `next` is then the place of the
+/// first later stop.
 pub fn first_stop_fault(
     field: &Field,
     values: &Values,

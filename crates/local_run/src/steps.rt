@@ -16,7 +16,7 @@ use crate::values::Values;
 use module_box::Signal;
 use module_job::Job;
 
-/// The cells of the box become those of time 0.
+/// Sets the cells of the box to those of time 0.
 #[tactic(auto, using(crate::proofs::Scans::row_from))]
 pub fn put_start(planes: &mut Planes, values: &Values, job: &Job)
     requires ready { IsReady job.now values.now }
@@ -110,7 +110,8 @@ fn put_halo(field: &mut Field, values: &Values, job: &Job, time: u32)
     }
 }
 
-/// An odd step: on the box together with the live cells of its halo. Tells whether a cell of the box may have changed.
+/// Makes an odd step, on the box together with the live cells of its halo. Returns whether a cell of the box may have
+/// changed.
 pub fn odd_time(field: &mut Field, values: &Values, job: &Job, time: u32) -> bool
     requires ready { IsReady job.now values.now }
     requires odd { time % 2 ≡ 1 }
@@ -123,7 +124,7 @@ pub fn odd_time(field: &mut Field, values: &Values, job: &Job, time: u32) -> boo
     field.odd_step()
 }
 
-/// An even step: inside the box. Tells whether a cell of the box may have changed.
+/// Makes an even step, inside the box. Returns whether a cell of the box may have changed.
 pub fn even_time(field: &mut Field, values: &Values, job: &Job, time: u32) -> bool
     requires ready { IsReady job.now values.now }
     requires even { time % 2 ≡ 0 }

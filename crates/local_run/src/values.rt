@@ -52,8 +52,11 @@ fn clear_undefined(values: &mut [u64], defined: &[u64])
     }
 }
 
-/// For each wire of a job a row of words: bit b of word k is its value under assignment 64 k + b. With them the
-/// assignments under which each used gate has a row, and for each gate those under which it is the first that has none.
+/// The values of a job's wires: for each wire a row of words, in which bit b of word k is its value under assignment 64
+/// k + b.
+///
+/// It also has the assignments under which each used gate has a row, and for each gate those under which it is the
+/// first without one.
 #[derive(Drop)]
 pub struct Values {
     // the words of a wire
@@ -66,7 +69,7 @@ pub struct Values {
 }
 
 impl Values {
-    /// The values of the wires of a job under all assignments of its cuts. `AllocError` is want of memory.
+    /// Computes the values of the wires of a job under all assignments of its cuts.
     pub fn of(alloc: Global, job: &Job) -> Result<Values, AllocError>
         requires { IsJob job.now }
         ensures { IfOk result (λ vs. IsReady job.now vs) }
@@ -84,21 +87,21 @@ impl Values {
         })
     }
 
-    /// Marks on the numbers of cells of which an edge or halo line says something at all times.
+    /// Returns marks on the numbers of cells of which an edge or halo line says something at all times.
     pub fn held(&self) -> &[u64]
         ensures { result.now ≡ self.now.held.items }
     {
         &self.held
     }
 
-    /// How many words a wire has.
+    /// Returns how many words a wire has.
     pub fn words(&self) -> usize
         ensures { result ≡ self.now.words }
     {
         self.words
     }
 
-    /// Word k of a signal: bit b is whether it is true under assignment 64 k + b.
+    /// Returns word k of a signal: bit b is whether it is true under assignment 64 k + b.
     pub fn word(&self, signal: Signal, k: usize) -> u64
         requires { (k < self.now.words) × HasRow self.now signal }
         ensures { (b : ℕ) → b < 64 →
@@ -111,8 +114,9 @@ impl Values {
         }
     }
 
-    /// The least assignment at which each used gate has a row and a cell, counted from the halo, is not as the signal
-    /// says.
+    /// Returns the least assignment at which each used gate has a row and a cell is not as the signal says.
+    ///
+    /// The cell is counted from the halo.
     pub fn first_difference(
         &self,
         planes: &Planes,
@@ -148,8 +152,9 @@ impl Values {
         None
     }
 
-    /// Whether a cell, counted from the halo, is not as the signal says under some assignment, whatever rows the gates
-    /// have.
+    /// Returns whether a cell is not as the signal says under some assignment, whatever rows the gates have.
+    ///
+    /// The cell is counted from the halo. Only `false` is proved to be right.
     pub fn is_different(&self, planes: &Planes, x: usize, y: usize, signal: Signal) -> bool
         requires place { (x / 2 < planes.now.stride) × (y / 2 < planes.now.rows) }
         requires words { (self.now.words ≡ planes.now.words) × (self.now.words ≤ 64) }
@@ -164,7 +169,7 @@ impl Values {
         false
     }
 
-    /// Returns whether each used gate has a row under some assignment.
+    /// Returns whether each used gate has a row under some assignment. Only `false` is proved to be right.
     pub fn is_some_defined(&self) -> bool
         requires defined { self.now.words ≤ length self.now.rows.defined.items }
         requires room { self.now.count ≤ 64 * self.now.words }
@@ -178,7 +183,7 @@ impl Values {
         false
     }
 
-    /// The least assignment under which a used gate is the first that has no row.
+    /// Returns the least assignment under which a used gate is the first without a row, if there is one.
     pub fn first_undefined(&self, gate: usize) -> Option<u32>
         requires words { self.now.words ≤ 64 }
         requires few { gate < 64 }
@@ -201,7 +206,7 @@ impl Values {
         None
     }
 
-    /// A cell, counted from the halo, becomes what the signal says.
+    /// Sets a cell, counted from the halo, to what the signal says.
     pub fn put(&self, planes: &mut Planes, x: usize, y: usize, signal: Signal)
         requires place { (x / 2 < planes.old.stride) × (y / 2 < planes.old.rows) }
         requires words { (self.now.words ≡ planes.old.words) × (self.now.words ≤ 64) }

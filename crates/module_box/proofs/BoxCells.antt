@@ -1,5 +1,6 @@
 -- The cells of a box, and the place of a cell's block in a table of owners
-use Rattle.std.proofs.Common.{◌≡◌, ℕ, ◌+◌, ◌*◌, ◌/◌, ◌%◌, ◌<◌, ◌≤◌, length, true, Option, Some, refl, sym, ap, ap₂, subst, ◌∙◌, arith, get_or}
+use Rattle.std.proofs.Common.{◌≡◌, ℕ, ◌+◌, ◌*◌, ◌/◌, ◌%◌, ◌<◌, ◌≤◌, length, true, Option, Some, refl, sym, ap, ap₂}
+use Rattle.std.proofs.Common.{subst, ◌∙◌, arith, get_or}
 use Rattle.std.specs.Prelude.{ℤ, pos, negsuc}
 use Rattle.std.specs.Int.RustNames.{unsigned_abs}
 use Rattle.std.proofs.Math.Nat.{mul-le-mul_right}
@@ -22,7 +23,8 @@ in_box_nats b x y h =
     let p = and_parts (in_span b.x b.w x) (in_span b.y b.h y) h in
     (in_span_nat b.x b.w x p.0, in_span_nat b.y b.h y p.1)
 
-pub abs_within : (b : Box2) (x y : ℤ) → in_box b x y ≡ true → (unsigned_abs x < b.x + b.w) × (unsigned_abs y < b.y + b.h)
+pub abs_within : (b : Box2) (x y : ℤ) → in_box b x y ≡ true →
+    (unsigned_abs x < b.x + b.w) × (unsigned_abs y < b.y + b.h)
 abs_within b x y h =
     let p = in_box_nats b x y h in
     let px = p.0 in let py = p.1 in
@@ -41,17 +43,21 @@ same_some o a b e f = cc
 halves : (a b : ℕ) → a < b → b % 2 ≡ 0 → a / 2 < b / 2
 halves a b p q = omega arith
 
-pub owner_index : (o : Owning) (x y : ℤ) → IsTable o → in_box (rectangle o) x y ≡ true → (unsigned_abs y / 2) * (o.width / 2) + unsigned_abs x / 2 < (o.height / 2) * (o.width / 2)
+pub owner_index : (o : Owning) (x y : ℤ) → IsTable o → in_box (rectangle o) x y ≡ true →
+    (unsigned_abs y / 2) * (o.width / 2) + unsigned_abs x / 2 < (o.height / 2) * (o.width / 2)
 owner_index o x y t h =
     let p = abs_within (rectangle o) x y h in
     in_table (unsigned_abs y / 2) (o.height / 2) (unsigned_abs x / 2) (o.width / 2)
     (halves _ _ (let q : unsigned_abs y < o.height = omega (arith, p.1) in q) t.height.2)
     (halves _ _ (let q : unsigned_abs x < o.width = omega (arith, p.0) in q) t.width.2)
 
-pub owner_in_table : (o : Owning) (x y : ℤ) → IsTable o → in_box (rectangle o) x y ≡ true → (unsigned_abs y / 2) * (o.width / 2) + unsigned_abs x / 2 < length o.numbers
-owner_in_table o x y t h = subst (λ z. (unsigned_abs y / 2) * (o.width / 2) + unsigned_abs x / 2 < z) (sym t.sized) (owner_index o x y t h)
+pub owner_in_table : (o : Owning) (x y : ℤ) → IsTable o → in_box (rectangle o) x y ≡ true →
+    (unsigned_abs y / 2) * (o.width / 2) + unsigned_abs x / 2 < length o.numbers
+owner_in_table o x y t h = subst (λ z. (unsigned_abs y / 2) * (o.width / 2) + unsigned_abs x / 2 < z) (sym t.sized)
+    (owner_index o x y t h)
 
-pub owner_read : (o : Owning) (x y : ℤ) (a b r : ℕ) → IsTable o → in_box (rectangle o) x y ≡ true → a ≡ unsigned_abs y → b ≡ unsigned_abs x →
+pub owner_read : (o : Owning) (x y : ℤ) (a b r : ℕ) → IsTable o → in_box (rectangle o) x y ≡ true → a ≡ unsigned_abs y →
+    b ≡ unsigned_abs x →
     r ≡ get_or o.numbers ((a / 2) * (o.width / 2) + b / 2) r → r ≡ owner_of o x y
 unfolding owner_of
 owner_read o x y a b r t h ea eb e =

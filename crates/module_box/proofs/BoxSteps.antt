@@ -1,4 +1,4 @@
--- What a step makes in a box
+-- The cells of a box after a step
 use Rattle.std.proofs.Common.{◌≡◌, ℕ, ◌%◌, ◌&&◌, ap, ap₂, ◌∙◌}
 use Rattle.std.specs.Prelude.{ℤ}
 use Rattle.bbm_rule.specs.Plane.{State, partner, step}
@@ -10,7 +10,8 @@ use Rattle.bbm_rule.proofs.Spans.{even_span}
 use Rattle.bbm_rule.proofs.Steps.{step_same, step_dead}
 
 -- in an even step the cells of a block lie together in an even box, or outside it
-pub even_both : (b : Box2) (t : ℕ) (x y : ℤ) → IsEven b → t % 2 ≡ 0 → in_box b (partner t x) (partner t y) ≡ in_box b x y
+pub even_both : (b : Box2) (t : ℕ) (x y : ℤ) → IsEven b → t % 2 ≡ 0 →
+    in_box b (partner t x) (partner t y) ≡ in_box b x y
 unfolding in_box
 even_both b t x y e pt = ap₂ ◌&&◌ (even_span b.x b.w t x e.x e.w pt) (even_span b.y b.h t y e.y e.h pt)
 
@@ -24,11 +25,14 @@ even_y b t x y e pt = ap (λ p. in_span b.x b.w x && p) (even_span b.y b.h t y e
 
 pub even_stays : (b : Box2) (t : ℕ) (s : State) → IsEven b → t % 2 ≡ 0 → LiesInBox b s → LiesInBox b (step t s)
 even_stays b t s e pt lies x y out = step_dead t s x y
-    (lies _ _ out) (lies _ _ (even_both b t x y e pt ∙ out)) (lies _ _ (even_x b t x y e pt ∙ out)) (lies _ _ (even_y b t x y e pt ∙ out))
+    (lies _ _ out) (lies _ _ (even_both b t x y e pt ∙ out)) (lies _ _ (even_x b t x y e pt ∙ out))
+    (lies _ _ (even_y b t x y e pt ∙ out))
 
-pub even_local : (b : Box2) (t : ℕ) (s s' : State) → IsEven b → t % 2 ≡ 0 → SameInBox b s s' → SameInBox b (step t s) (step t s')
+pub even_local : (b : Box2) (t : ℕ) (s s' : State) → IsEven b → t % 2 ≡ 0 → SameInBox b s s' →
+    SameInBox b (step t s) (step t s')
 even_local b t s s' e pt same x y h = step_same t s s' x y
-    (same _ _ h) (same _ _ (even_both b t x y e pt ∙ h)) (same _ _ (even_x b t x y e pt ∙ h)) (same _ _ (even_y b t x y e pt ∙ h))
+    (same _ _ h) (same _ _ (even_both b t x y e pt ∙ h)) (same _ _ (even_x b t x y e pt ∙ h))
+    (same _ _ (even_y b t x y e pt ∙ h))
 
 pub even_step : (b : Box2) (t : ℕ) → IsEven b → t % 2 ≡ 0 → EvenStep b t
 even_step b t e pt = record { stays = λ s. even_stays b t s e pt; local = λ s s'. even_local b t s s' e pt }

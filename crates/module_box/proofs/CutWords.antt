@@ -1,5 +1,6 @@
 -- The words of cuts: the bits of a counter, 64 values of the counter at once
-use Rattle.std.proofs.Common.{◌≡◌, ℕ, ◌<◌, ◌≤◌, ◌+◌, ◌-◌, ◌*◌, Bool, true, false, List, [], ◌∷◌, ◌++◌, length, get_or, sym, refl, ap, ◌∙◌, arith, inl, inr, get_or-append-add}
+use Rattle.std.proofs.Common.{◌≡◌, ℕ, ◌<◌, ◌≤◌, ◌+◌, ◌-◌, ◌*◌, Bool, true, false, List, [], ◌∷◌, ◌++◌, length, get_or}
+use Rattle.std.proofs.Common.{sym, refl, ap, ◌∙◌, arith, inl, inr, get_or-append-add}
 use Rattle.std.specs.Prelude.{slice_index_or}
 use Rattle.std.proofs.lemmas.Bool.{cases_lt}
 use Rattle.std.proofs.lemmas.List.{get_or_append_left}
@@ -34,8 +35,11 @@ unfolding bit
 high_bit j b i small h = rw (swap j b, bit_at_cat_high j 6 b i small h) refl
 
 -- the word of one of the first six cuts does not depend on the chunk
-pub low_word : (w i cut j b : ℕ) → holds_below (λ b. same (bit w b) (bit b i)) 64 ≡ true → i < 6 → i ≡ cut → b < 64 → bit w b ≡ bit (64 * j + b) cut
-low_word w i cut j b test h is small = same_is _ _ (below_from_test (λ b. same (bit w b) (bit b i)) 64 test b small) ∙ sym (low_bit j b i h) ∙ ap (bit (64 * j + b)) is
+pub low_word : (w i cut j b : ℕ) → holds_below (λ b. same (bit w b) (bit b i)) 64 ≡ true → i < 6 → i ≡ cut → b < 64 →
+    bit w b ≡ bit (64 * j + b) cut
+low_word w i cut j b test h is small =
+    same_is _ _ (below_from_test (λ b. same (bit w b) (bit b i)) 64 test b small) ∙ sym (low_bit j b i h)
+    ∙ ap (bit (64 * j + b)) is
 
 -- that of a later cut is that of the chunk
 pub high_ones : (i j b : ℕ) → bit j (i - 6) ≡ true → 6 ≤ i → b < 64 → bit 18446744073709551615 b ≡ bit (64 * j + b) i
@@ -69,13 +73,17 @@ unfolding bit
 mask_5 = refl
 
 -- one word more
-pub words_more : (ws new : List ℕ) (w j n : ℕ) → length ws ≡ n → new ≡ ws ++ w ∷ [] → ((b : ℕ) → b < 64 → bit w b ≡ bit (64 * j + b) n) →
+pub words_more : (ws new : List ℕ) (w j n : ℕ) → length ws ≡ n → new ≡ ws ++ w ∷ [] →
+    ((b : ℕ) → b < 64 → bit w b ≡ bit (64 * j + b) n) →
     ((i : ℕ) → i < n → (b : ℕ) → b < 64 → bit (slice_index_or ws i 0) b ≡ bit (64 * j + b) i) →
     (i : ℕ) → i < n + 1 → (b : ℕ) → b < 64 → bit (slice_index_or new i 0) b ≡ bit (64 * j + b) i
 words_more ws new w j n len more here before i h b small = elim (cases_lt i n) [
-  | inl less ↦ ap (λ k. bit k b) (ap (λ (l : List ℕ). get_or l i 0) more ∙ get_or_append_left ws (w ∷ []) 0 i (omega arith)) ∙ before i less b small
+  | inl less ↦ ap (λ k. bit k b)
+      (ap (λ (l : List ℕ). get_or l i 0) more ∙ get_or_append_left ws (w ∷ []) 0 i (omega arith))
+      ∙ before i less b small
   | inr large ↦
       let is : n ≡ i = omega arith in
       let at : length ws + 0 ≡ i = omega arith in
-      ap (λ k. bit k b) (ap (λ (l : List ℕ). get_or l i 0) more ∙ ap (λ k. get_or (ws ++ w ∷ []) k 0) (sym at) ∙ get_or-append-add ws (w ∷ []) 0 0) ∙ here b small ∙ ap (bit (64 * j + b)) is
+      ap (λ k. bit k b) (ap (λ (l : List ℕ). get_or l i 0) more ∙ ap (λ k. get_or (ws ++ w ∷ []) k 0) (sym at)
+      ∙ get_or-append-add ws (w ∷ []) 0 0) ∙ here b small ∙ ap (bit (64 * j + b)) is
 ]

@@ -1,5 +1,6 @@
 -- The tests of equality answer whether two values are equal
-use Rattle.std.proofs.Common.{◌≡◌, ℕ, Bool, true, false, ◌&&◌, List, [], ◌∷◌, get_or, map, Option, Some, None, refl, sym, ap, ap₂, ◌∙◌}
+use Rattle.std.proofs.Common.{◌≡◌, ℕ, Bool, true, false, ◌&&◌, List, [], ◌∷◌, get_or, map, Option, Some, None, refl}
+use Rattle.std.proofs.Common.{sym, ap, ap₂, ◌∙◌}
 use Rattle.std.specs.Bool.{Decides, beq}
 use Rattle.std.specs.Prelude.{nat_eq}
 use Rattle.std.specs.Cmp.{signed_Decides, booleans_Decides}
@@ -19,20 +20,24 @@ use Rattle.std.specs.Ordering.{on}
 use Rattle.module_box.specs.declared.locals.LocalGate.{LocalGate}
 use Rattle.module_box.specs.LocalGates.{kept_gate}
 use Rattle.module_box.specs.Laws.{LocalsEqualityDecides, ScheduleEqualityDecides}
-use Rattle.module_box.specs.Equality.{is_one, wire_named, same_signal, same_cell, same_held, same_event, rule_place, source_bit, delay_number, same_rule, same_gate, same_netlist}
+use Rattle.module_box.specs.Equality.{is_one, wire_named, same_signal, same_cell, same_held, same_event, rule_place}
+use Rattle.module_box.specs.Equality.{source_bit, delay_number, same_rule, same_gate, same_netlist}
 
 -- two tests, of two parts
-pub both : {P Q R : Type 0} (r s : Bool) → Decides r P → Decides s Q → (P → Q → R) → (R → P) → (R → Q) → Decides (r && s) R
+pub both : {P Q R : Type 0} (r s : Bool) → Decides r P → Decides s Q → (P → Q → R) → (R → P) → (R → Q) →
+    Decides (r && s) R
 both r s d e join left right =
     (λ h. let parts = and_parts r s h in join (d.0 parts.0) (e.0 parts.1), λ h. two r s (d.1 (left h)) (e.1 (right h)))
   where
     two : (r s : Bool) → r ≡ true → s ≡ true → (r && s) ≡ true
     two r s h k = λ i. h i && k i
 
-pub lists : {A : Type 0} (E : A → A → Bool) → ((x y : A) → Decides (E x y) (x ≡ y)) → (xs ys : List A) → Decides (pointwise E xs ys) (xs ≡ ys)
+pub lists : {A : Type 0} (E : A → A → Bool) → ((x y : A) → Decides (E x y) (x ≡ y)) → (xs ys : List A) →
+    Decides (pointwise E xs ys) (xs ≡ ys)
 lists E d xs ys = slice_eq-Decides d xs ys (pointwise E xs ys) refl
 
-pub options : {A : Type 0} (E : A → A → Bool) → ((x y : A) → Decides (E x y) (x ≡ y)) → (p q : Option A) → Decides (option_eq E p q) (p ≡ q)
+pub options : {A : Type 0} (E : A → A → Bool) → ((x y : A) → Decides (E x y) (x ≡ y)) → (p q : Option A) →
+    Decides (option_eq E p q) (p ≡ q)
 options E d None None = (λ e. refl, λ e. refl)
 options E d None (Some y) = (λ e. absurd cc, λ e. absurd cc)
 options E d (Some x) None = (λ e. absurd cc, λ e. absurd cc)
@@ -59,16 +64,19 @@ signal_decides a b =
     (λ one wire. sym (signal_back a) ∙ ap₂ signal_of one wire ∙ signal_back b) (λ e. ap is_one e) (λ e. ap wire_named e)
 
 pub cell_decides : (a b : Cell) → Decides (same_cell a b) (a ≡ b)
-cell_decides a b = both _ _ (signed_Decides a.x b.x) (signed_Decides a.y b.y) (λ x y i. record { x = x i; y = y i }) (λ e. ap (λ c. c.x) e) (λ e. ap (λ c. c.y) e)
+cell_decides a b = both _ _ (signed_Decides a.x b.x) (signed_Decides a.y b.y) (λ x y i. record { x = x i; y = y i })
+    (λ e. ap (λ c. c.x) e) (λ e. ap (λ c. c.y) e)
 
 pub held_decides : (a b : Held) → Decides (same_held a b) (a ≡ b)
 held_decides a b =
-    both _ _ (cell_decides a.cell b.cell) (signal_decides a.signal b.signal) (λ cell signal i. record { cell = cell i; signal = signal i }) (λ e. ap (λ h. h.cell) e) (λ e. ap (λ h. h.signal) e)
+    both _ _ (cell_decides a.cell b.cell) (signal_decides a.signal b.signal)
+    (λ cell signal i. record { cell = cell i; signal = signal i }) (λ e. ap (λ h. h.cell) e) (λ e. ap (λ h. h.signal) e)
 
 pub event_decides : (a b : Event) → Decides (same_event a b) (a ≡ b)
 event_decides a b =
     both _ _ (Decides-eqb a.at.time b.at.time)
-    (both {R = (a.at.cell ≡ b.at.cell) × (a.signal ≡ b.signal)} _ _ (cell_decides a.at.cell b.at.cell) (signal_decides a.signal b.signal) (λ cell signal. (cell, signal)) (λ p. p.0) (λ p. p.1))
+    (both {R = (a.at.cell ≡ b.at.cell) × (a.signal ≡ b.signal)} _ _ (cell_decides a.at.cell b.at.cell)
+    (signal_decides a.signal b.signal) (λ cell signal. (cell, signal)) (λ p. p.0) (λ p. p.1))
     (λ time rest i. record { at = record { time = time i; cell = rest.0 i }; signal = rest.1 i })
     (λ e. ap (λ h. h.at.time) e) (λ e. (ap (λ h. h.at.cell) e, ap (λ h. h.signal) e))
 
@@ -87,7 +95,8 @@ delay_of None = Fredkin
 delay_of (Some n) = Delay n
 
 rule_from : ℕ → Option Bool → Option ℕ → Rule
-rule_from place source delay = get_or (source_of source ∷ Fredkin ∷ Cswap ∷ Interact ∷ Switch ∷ delay_of delay ∷ Unswitch ∷ []) place Uninteract
+rule_from place source delay =
+    get_or (source_of source ∷ Fredkin ∷ Cswap ∷ Interact ∷ Switch ∷ delay_of delay ∷ Unswitch ∷ []) place Uninteract
 
 rule_back : (r : Rule) → rule_from (rule_place r) (source_bit r) (delay_number r) ≡ r
 unfolding rule_from source_of delay_of
@@ -103,26 +112,33 @@ rule_back Uninteract = refl
 rule_decides : (a b : Rule) → Decides (same_rule a b) (a ≡ b)
 rule_decides a b =
     both _ _ (Decides-eqb (rule_place a) (rule_place b))
-    (both {R = (source_bit a ≡ source_bit b) × (delay_number a ≡ delay_number b)} _ _ (options beq booleans_Decides (source_bit a) (source_bit b)) (options nat_eq Decides-eqb (delay_number a) (delay_number b)) (λ s d. (s, d)) (λ p. p.0) (λ p. p.1))
+    (both {R = (source_bit a ≡ source_bit b) × (delay_number a ≡ delay_number b)} _ _
+    (options beq booleans_Decides (source_bit a) (source_bit b))
+    (options nat_eq Decides-eqb (delay_number a) (delay_number b)) (λ s d. (s, d)) (λ p. p.0) (λ p. p.1))
     (λ place rest. sym (rule_back a) ∙ (λ i. rule_from (place i) (rest.0 i) (rest.1 i)) ∙ rule_back b)
     (λ e. ap rule_place e) (λ e. (ap source_bit e, ap delay_number e))
 
 pub gate_decides : (g h : Gate) → Decides (same_gate g h) (g ≡ h)
 gate_decides g h =
     both _ _ (rule_decides g.kind h.kind)
-    (both {R = (g.ins ≡ h.ins) × (g.outs ≡ h.outs)} _ _ (lists nat_eq Decides-eqb g.ins h.ins) (lists nat_eq Decides-eqb g.outs h.outs) (λ ins outs. (ins, outs)) (λ p. p.0) (λ p. p.1))
-    (λ kind rest i. record { kind = kind i; ins = rest.0 i; outs = rest.1 i }) (λ e. ap (λ g. g.kind) e) (λ e. (ap (λ g. g.ins) e, ap (λ g. g.outs) e))
+    (both {R = (g.ins ≡ h.ins) × (g.outs ≡ h.outs)} _ _ (lists nat_eq Decides-eqb g.ins h.ins)
+    (lists nat_eq Decides-eqb g.outs h.outs) (λ ins outs. (ins, outs)) (λ p. p.0) (λ p. p.1))
+    (λ kind rest i. record { kind = kind i; ins = rest.0 i; outs = rest.1 i }) (λ e. ap (λ g. g.kind) e)
+    (λ e. (ap (λ g. g.ins) e, ap (λ g. g.outs) e))
 
 -- ---- the wires and gates of modules
 pub netlists_decide : (l m : Netlist) → Decides (same_netlist l m) (l ≡ m)
 netlists_decide l m =
-    both _ _ (Decides-eqb l.given m.given) (lists same_gate gate_decides l.gates m.gates) (λ given gates i. record { given = given i; gates = gates i }) (λ e. ap (λ n. n.given) e) (λ e. ap (λ n. n.gates) e)
+    both _ _ (Decides-eqb l.given m.given) (lists same_gate gate_decides l.gates m.gates)
+    (λ given gates i. record { given = given i; gates = gates i }) (λ e. ap (λ n. n.given) e) (λ e. ap (λ n. n.gates) e)
 
 pub locals_decides : LocalsEqualityDecides
 locals_decides l m =
     both _ _
     (both {R = (l.netlist ≡ m.netlist) × (l.circuit_wires ≡ m.circuit_wires)} _ _
-    (both {R = l.netlist ≡ m.netlist} _ _ (Decides-eqb l.netlist.given m.netlist.given) (lists same_gate gate_decides l.netlist.gates m.netlist.gates) (λ given gates i. record { given = given i; gates = gates i })
+    (both {R = l.netlist ≡ m.netlist} _ _ (Decides-eqb l.netlist.given m.netlist.given)
+    (lists same_gate gate_decides l.netlist.gates m.netlist.gates)
+    (λ given gates i. record { given = given i; gates = gates i })
     (λ e. ap (λ n. n.given) e) (λ e. ap (λ n. n.gates) e))
     (lists nat_eq Decides-eqb l.circuit_wires m.circuit_wires) (λ net wires. (net, wires)) (λ p. p.0) (λ p. p.1))
     (lists nat_eq Decides-eqb l.circuit_gates m.circuit_gates)
@@ -130,7 +146,8 @@ locals_decides l m =
     (λ e. (ap (λ l. l.netlist) e, ap (λ l. l.circuit_wires) e)) (λ e. ap (λ l. l.circuit_gates) e)
 
 -- gates that are kept are compared by the gates that they stand for
-pub same_gates : (gs hs : List LocalGate) → pointwise (on kept_gate same_gate) gs hs ≡ pointwise same_gate (map kept_gate gs) (map kept_gate hs)
+pub same_gates : (gs hs : List LocalGate) →
+    pointwise (on kept_gate same_gate) gs hs ≡ pointwise same_gate (map kept_gate gs) (map kept_gate hs)
 same_gates [] [] = refl
 same_gates [] (h ∷ hs) = refl
 same_gates (g ∷ gs) [] = refl

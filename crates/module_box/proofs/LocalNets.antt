@@ -1,26 +1,33 @@
 -- The wires and gates of a module, gate after gate
-use Rattle.std.proofs.Common.{◌≡◌, ℕ, zero, suc, ◌+◌, ◌*◌, ◌<◌, ◌≤◌, List, [], ◌∷◌, ◌++◌, map, length, take, drop, get_or, slice_get, Option, Some, refl, sym, ap, ap₂, subst, ◌∙◌, ◌⊎◌, arith, inl, inr, append_assoc, length-append, take-append-drop}
+use Rattle.std.proofs.Common.{◌≡◌, ℕ, zero, suc, ◌+◌, ◌*◌, ◌<◌, ◌≤◌, List, [], ◌∷◌, ◌++◌, map, length, take, drop}
+use Rattle.std.proofs.Common.{get_or, slice_get, Option, Some, refl, sym, ap, ap₂, subst, ◌∙◌, ◌⊎◌, arith, inl, inr}
+use Rattle.std.proofs.Common.{append_assoc, length-append, take-append-drop}
 use Rattle.std.specs.Prelude.{slice_index, IsTrue}
 use Rattle.std.specs.List.{All, flat_map, range_with_len}
 use Rattle.std.specs.Option.{option_map_or}
-use Rattle.std.proofs.lemmas.List.{append-nil, take_more, take_all, get_or_at, get_or_append_left, get_or_default, length_push, length-map}
+use Rattle.std.proofs.lemmas.List.{append-nil, take_more, take_all, get_or_at, get_or_append_left, get_or_default}
+use Rattle.std.proofs.lemmas.List.{length_push, length-map}
 use Rattle.std.proofs.lemmas.List.Elements.{All-head, All-tail}
 use Rattle.std.proofs.lemmas.List.FromFn.{length-range_with_len}
 use Rattle.std.proofs.lemmas.Grind.{flat_map-append}
 use Rattle.std.proofs.lemmas.Option.{same_Some, slice_get-get_or, slice_get_read}
-use Rattle.circuit.specs.Gates.{Rule, Source, Fredkin, Cswap, Interact, Switch, Delay, Unswitch, Uninteract, uses, defines}
+use Rattle.circuit.specs.Gates.{Rule, Source, Fredkin, Cswap, Interact, Switch, Delay, Unswitch, Uninteract, uses}
+use Rattle.circuit.specs.Gates.{defines}
 use Rattle.circuit.specs.Meaning.{Gate, Netlist, AreOrdered, wires_after}
-use Rattle.module_box.specs.Locals.{outs_of, local_wires, is_among, AreDifferent, IsKnown, AreLocalLines, renumber_gate, AreLocalsOf}
+use Rattle.module_box.specs.Locals.{outs_of, local_wires, is_among, AreDifferent, IsKnown, AreLocalLines, renumber_gate}
+use Rattle.module_box.specs.Locals.{AreLocalsOf}
 use Rattle.module_box.proofs.WireLists.{different_front}
 
 -- ---- gates in order
 -- a gate uses and defines as many wires as its kind says
-pub ordered_fits : (n : ℕ) (gs : List Gate) (k : ℕ) (g : Gate) → AreOrdered n gs → slice_get gs k ≡ Some g → (length g.ins ≡ uses g.kind) × (length g.outs ≡ defines g.kind)
+pub ordered_fits : (n : ℕ) (gs : List Gate) (k : ℕ) (g : Gate) → AreOrdered n gs → slice_get gs k ≡ Some g →
+    (length g.ins ≡ uses g.kind) × (length g.outs ≡ defines g.kind)
 unfolding AreOrdered
 ordered_fits n [] k g ordered at = absurd cc
 ordered_fits n (h ∷ gs) zero g ordered at =
     let is : h ≡ g = same_Some h g at in
-    subst (λ (g : Gate). (length g.ins ≡ uses g.kind) × (length g.outs ≡ defines g.kind)) is (ordered.1, ap length ordered.2 ∙ length-range_with_len n (defines h.kind))
+    subst (λ (g : Gate). (length g.ins ≡ uses g.kind) × (length g.outs ≡ defines g.kind)) is
+    (ordered.1, ap length ordered.2 ∙ length-range_with_len n (defines h.kind))
 ordered_fits n (h ∷ gs) (suc k) g ordered at = ordered_fits (n + defines h.kind) gs k g ordered.3 at
 
 -- no gate defines more than four wires
@@ -40,43 +47,59 @@ unfolding wires_after
 wires_push n [] g = refl
 wires_push n (h ∷ gs) g = wires_push (n + defines h.kind) gs g
 
-ordered_push : (n : ℕ) (gs : List Gate) (g : Gate) → AreOrdered n gs → All (λ w. w < wires_after n gs) g.ins → length g.ins ≡ uses g.kind → g.outs ≡ range_with_len (wires_after n gs) (defines g.kind) →
+ordered_push : (n : ℕ) (gs : List Gate) (g : Gate) → AreOrdered n gs → All (λ w. w < wires_after n gs) g.ins →
+    length g.ins ≡ uses g.kind → g.outs ≡ range_with_len (wires_after n gs) (defines g.kind) →
     AreOrdered n (gs ++ g ∷ [])
 unfolding AreOrdered wires_after
 ordered_push n [] g ordered ins many outs = (ins, many, outs, tt)
-ordered_push n (h ∷ gs) g ordered ins many outs = (ordered.0, ordered.1, ordered.2, ordered_push (n + defines h.kind) gs g ordered.3 ins many outs)
+ordered_push n (h ∷ gs) g ordered ins many outs =
+    (ordered.0, ordered.1, ordered.2, ordered_push (n + defines h.kind) gs g ordered.3 ins many outs)
 
 -- ---- wires by their numbers in a longer list
 -- those that stand at its front
-same_front : (keys rest : List ℕ) (ws : List ℕ) → All (λ w. w < length keys) ws → map (slice_index (keys ++ rest)) ws ≡ map (slice_index keys) ws
+same_front : (keys rest : List ℕ) (ws : List ℕ) → All (λ w. w < length keys) ws →
+    map (slice_index (keys ++ rest)) ws ≡ map (slice_index keys) ws
 same_front keys rest [] below = refl
 same_front keys rest (w ∷ ws) below =
-    ap₂ (λ x xs. x ∷ xs) (get_or_append_left keys rest 0 w (All-head (λ w. w < length keys) w ws below)) (same_front keys rest ws (All-tail (λ w. w < length keys) w ws below))
+    ap₂ (λ x xs. x ∷ xs) (get_or_append_left keys rest 0 w (All-head (λ w. w < length keys) w ws below))
+    (same_front keys rest ws (All-tail (λ w. w < length keys) w ws below))
 
 -- and those that come next
-next_wires : (keys outs rest : List ℕ) → map (slice_index (keys ++ (outs ++ rest))) (range_with_len (length keys) (length outs)) ≡ outs
+next_wires : (keys outs rest : List ℕ) →
+    map (slice_index (keys ++ (outs ++ rest))) (range_with_len (length keys) (length outs)) ≡ outs
 next_wires keys [] rest = refl
 next_wires keys (w ∷ outs) rest =
     let longer : List ℕ = keys ++ w ∷ [] in
-    let more : map (slice_index (longer ++ (outs ++ rest))) (range_with_len (length longer) (length outs)) ≡ outs = next_wires longer outs rest in
+    let more : map (slice_index (longer ++ (outs ++ rest))) (range_with_len (length longer) (length outs)) ≡ outs =
+    next_wires longer outs rest in
     ap₂ (λ x xs. x ∷ xs) (get_or_at keys w (outs ++ rest) 0 (length keys) refl)
-    (ap₂ (λ (l : List ℕ) m. map (slice_index l) (range_with_len m (length outs))) (sym (append_assoc keys (w ∷ []) (outs ++ rest))) (sym (length_push keys w)) ∙ more)
+    (ap₂ (λ (l : List ℕ) m. map (slice_index l) (range_with_len m (length outs)))
+    (sym (append_assoc keys (w ∷ []) (outs ++ rest))) (sym (length_push keys w)) ∙ more)
 
 -- ---- what is known after i gates, and what comes later
-known_rest : (n : Netlist) (cuts gates : List ℕ) (i : ℕ) → local_wires n cuts gates ≡ local_wires n cuts (take i gates) ++ flat_map (outs_of n) (drop i gates)
+known_rest : (n : Netlist) (cuts gates : List ℕ) (i : ℕ) →
+    local_wires n cuts gates ≡ local_wires n cuts (take i gates) ++ flat_map (outs_of n) (drop i gates)
 known_rest n cuts gates i =
-    ap (λ (l : List ℕ). cuts ++ flat_map (outs_of n) l) (sym (take-append-drop i gates)) ∙ ap (λ (l : List ℕ). cuts ++ l) (flat_map-append (outs_of n) (take i gates) (drop i gates))
+    ap (λ (l : List ℕ). cuts ++ flat_map (outs_of n) l) (sym (take-append-drop i gates))
+    ∙ ap (λ (l : List ℕ). cuts ++ l) (flat_map-append (outs_of n) (take i gates) (drop i gates))
     ∙ sym (append_assoc cuts (flat_map (outs_of n) (take i gates)) (flat_map (outs_of n) (drop i gates)))
 
-known_more : (n : Netlist) (cuts gates : List ℕ) (i k : ℕ) (g : Gate) → i < length gates → k ≡ get_or gates i k → slice_get n.gates k ≡ Some g →
+known_more : (n : Netlist) (cuts gates : List ℕ) (i k : ℕ) (g : Gate) → i < length gates → k ≡ get_or gates i k →
+    slice_get n.gates k ≡ Some g →
     local_wires n cuts (take (i + 1) gates) ≡ local_wires n cuts (take i gates) ++ g.outs
 known_more n cuts gates i k g within is at =
-    let more : take (i + 1) gates ≡ take i gates ++ k ∷ [] = take_more gates i k within ∙ ap (λ x. take i gates ++ x ∷ []) (sym is) in
-    let here : flat_map (outs_of n) (k ∷ []) ≡ g.outs = append-nil (outs_of n k) ∙ ap (λ (o : Option Gate). option_map_or (λ (g : Gate). g.outs) o []) at in
-    ap (λ (l : List ℕ). cuts ++ flat_map (outs_of n) l) more ∙ ap (λ (l : List ℕ). cuts ++ l) (flat_map-append (outs_of n) (take i gates) (k ∷ []) ∙ ap (λ (l : List ℕ). flat_map (outs_of n) (take i gates) ++ l) here)
+    let more : take (i + 1) gates ≡ take i gates ++ k ∷ [] =
+    take_more gates i k within ∙ ap (λ x. take i gates ++ x ∷ []) (sym is) in
+    let here : flat_map (outs_of n) (k ∷ []) ≡ g.outs =
+    append-nil (outs_of n k) ∙ ap (λ (o : Option Gate). option_map_or (λ (g : Gate). g.outs) o []) at in
+    ap (λ (l : List ℕ). cuts ++ flat_map (outs_of n) l) more
+    ∙ ap (λ (l : List ℕ). cuts ++ l)
+    (flat_map-append (outs_of n) (take i gates) (k ∷ [])
+    ∙ ap (λ (l : List ℕ). flat_map (outs_of n) (take i gates) ++ l) here)
     ∙ sym (append_assoc cuts (flat_map (outs_of n) (take i gates)) g.outs)
 
--- the gate g over other numbers: the wires that it uses stand at its ins in the list, and those that it defines come next
+-- the gate g over other numbers: the wires that it uses stand at its ins in the list, and those that it defines come
+-- next
 pub record IsOver (keys : List ℕ) (g h : Gate) : Type 0 where
   pub kind : h.kind ≡ g.kind
   pub within : All (λ w. w < length keys) h.ins
@@ -84,18 +107,22 @@ pub record IsOver (keys : List ℕ) (g h : Gate) : Type 0 where
   pub outs : h.outs ≡ range_with_len (length keys) (defines h.kind)
 
 -- it is that gate by the wires that stand at its numbers, however many come later
-renumbered : (keys all rest : List ℕ) (g h : Gate) → all ≡ keys ++ (g.outs ++ rest) → length g.outs ≡ defines g.kind → IsOver keys g h → g ≡ renumber_gate (slice_index all) h
+renumbered : (keys all rest : List ℕ) (g h : Gate) → all ≡ keys ++ (g.outs ++ rest) → length g.outs ≡ defines g.kind →
+    IsOver keys g h → g ≡ renumber_gate (slice_index all) h
 renumbered keys all rest g h whole many over =
     let ins : g.ins ≡ map (slice_index all) h.ins =
-    sym (ap (λ (l : List ℕ). map (slice_index l) h.ins) whole ∙ same_front keys (g.outs ++ rest) h.ins over.within ∙ over.ins) in
+    sym (ap (λ (l : List ℕ). map (slice_index l) h.ins) whole ∙ same_front keys (g.outs ++ rest) h.ins over.within
+    ∙ over.ins) in
     let count : defines h.kind ≡ length g.outs = ap defines over.kind ∙ sym many in
     let outs : g.outs ≡ map (slice_index all) h.outs =
-    sym (ap₂ (λ (l ws : List ℕ). map (slice_index l) ws) whole (over.outs ∙ ap (range_with_len (length keys)) count) ∙ next_wires keys g.outs rest) in
+    sym (ap₂ (λ (l ws : List ℕ). map (slice_index l) ws) whole (over.outs ∙ ap (range_with_len (length keys)) count)
+    ∙ next_wires keys g.outs rest) in
     let kind : g.kind ≡ h.kind = sym over.kind in
     λ i. record { kind = kind i; ins = ins i; outs = outs i }
 
 -- an element of a list with one more at its end
-push_cases : (gs : List Gate) (h : Gate) (j : ℕ) (f : Gate) → slice_get (gs ++ h ∷ []) j ≡ Some f → (slice_get gs j ≡ Some f) ⊎ ((j ≡ length gs) × (h ≡ f))
+push_cases : (gs : List Gate) (h : Gate) (j : ℕ) (f : Gate) → slice_get (gs ++ h ∷ []) j ≡ Some f →
+    (slice_get gs j ≡ Some f) ⊎ ((j ≡ length gs) × (h ≡ f))
 push_cases [] h zero f at = inr (refl, same_Some h f at)
 push_cases [] h (suc j) f at = absurd cc
 push_cases (g ∷ gs) h zero f at = inl at
@@ -112,13 +139,15 @@ number_is gates i k within is = get_or_default gates i 0 k within ∙ sym is
 pub record IsPart (n : Netlist) (cuts gates : List ℕ) (i : ℕ) (keys : List ℕ) (done : List Gate) : Type 0 where
   pub known : keys ≡ local_wires n cuts (take i gates)
   pub count : length done ≡ i
-  pub used : (k : ℕ) (g : Gate) → slice_get done k ≡ Some g → slice_get n.gates (slice_index gates k) ≡ Some (renumber_gate (slice_index (local_wires n cuts gates)) g)
+  pub used : (k : ℕ) (g : Gate) → slice_get done k ≡ Some g →
+      slice_get n.gates (slice_index gates k) ≡ Some (renumber_gate (slice_index (local_wires n cuts gates)) g)
   pub ordered : AreOrdered (length cuts) done
   pub sized : wires_after (length cuts) done ≡ length keys
   pub few : length keys ≤ 12 + 4 * i
 
 -- no gate is done: only the cuts are known
-pub part_none : (n : Netlist) (cuts gates keys : List ℕ) → AreLocalLines n cuts gates → keys ≡ cuts → IsPart n cuts gates 0 keys []
+pub part_none : (n : Netlist) (cuts gates keys : List ℕ) → AreLocalLines n cuts gates → keys ≡ cuts →
+    IsPart n cuts gates 0 keys []
 unfolding AreOrdered wires_after
 part_none n cuts gates keys lines is = record {
   known = is ∙ sym (append-nil cuts);
@@ -131,48 +160,63 @@ part_none n cuts gates keys lines is = record {
 
 -- ---- the next gate
 -- the wires that it uses are known
-pub next_known : (n : Netlist) (cuts gates : List ℕ) (i k : ℕ) (keys : List ℕ) (done : List Gate) → AreLocalLines n cuts gates → IsPart n cuts gates i keys done → i < length gates → k ≡ get_or gates i k →
+pub next_known : (n : Netlist) (cuts gates : List ℕ) (i k : ℕ) (keys : List ℕ) (done : List Gate) →
+    AreLocalLines n cuts gates → IsPart n cuts gates i keys done → i < length gates → k ≡ get_or gates i k →
     IsKnown n keys k
 next_known n cuts gates i k keys done lines part within is =
-    subst (λ (known : List ℕ). IsKnown n known k) (sym part.known) (lines.known i k (slice_get_read gates (length gates) i k refl within is))
+    subst (λ (known : List ℕ). IsKnown n known k) (sym part.known)
+    (lines.known i k (slice_get_read gates (length gates) i k refl within is))
 
 -- and so for the gate that the circuit has there
-pub known_ins : (n : Netlist) (keys : List ℕ) (k : ℕ) (g : Gate) → IsKnown n keys k → slice_get n.gates k ≡ Some g → All (λ w. IsTrue (is_among keys w)) g.ins
+pub known_ins : (n : Netlist) (keys : List ℕ) (k : ℕ) (g : Gate) → IsKnown n keys k → slice_get n.gates k ≡ Some g →
+    All (λ w. IsTrue (is_among keys w)) g.ins
 known_ins n keys k g known at =
     let same : known.gate ≡ g = same_Some known.gate g (sym known.numbered ∙ at) in
     subst (λ (g : Gate). All (λ w. IsTrue (is_among keys w)) g.ins) same known.ins
 
 -- those that it defines are not
-pub next_new : (n : Netlist) (cuts gates : List ℕ) (i k : ℕ) (keys : List ℕ) (done : List Gate) (g : Gate) → AreLocalLines n cuts gates → IsPart n cuts gates i keys done → i < length gates → k ≡ get_or gates i k →
+pub next_new : (n : Netlist) (cuts gates : List ℕ) (i k : ℕ) (keys : List ℕ) (done : List Gate) (g : Gate) →
+    AreLocalLines n cuts gates → IsPart n cuts gates i keys done → i < length gates → k ≡ get_or gates i k →
     slice_get n.gates k ≡ Some g → AreDifferent (keys ++ g.outs)
 next_new n cuts gates i k keys done g lines part within is at =
-    let more : local_wires n cuts (take (i + 1) gates) ≡ keys ++ g.outs = known_more n cuts gates i k g within is at ∙ ap (λ (l : List ℕ). l ++ g.outs) (sym part.known) in
+    let more : local_wires n cuts (take (i + 1) gates) ≡ keys ++ g.outs =
+    known_more n cuts gates i k g within is at ∙ ap (λ (l : List ℕ). l ++ g.outs) (sym part.known) in
     let whole : local_wires n cuts gates ≡ (keys ++ g.outs) ++ flat_map (outs_of n) (drop (i + 1) gates) =
     known_rest n cuts gates (i + 1) ∙ ap (λ (l : List ℕ). l ++ flat_map (outs_of n) (drop (i + 1) gates)) more in
-    different_front (keys ++ g.outs) (flat_map (outs_of n) (drop (i + 1) gates)) (subst AreDifferent whole lines.different)
+    different_front (keys ++ g.outs) (flat_map (outs_of n) (drop (i + 1) gates))
+    (subst AreDifferent whole lines.different)
 
 -- it is done
-pub part_more : (n : Netlist) (cuts gates : List ℕ) (i k : ℕ) (keys new : List ℕ) (done : List Gate) (g h : Gate) → AreOrdered n.given n.gates →
-    IsPart n cuts gates i keys done → i < length gates → k ≡ get_or gates i k → slice_get n.gates k ≡ Some g → IsOver keys g h → new ≡ keys ++ g.outs →
+pub part_more : (n : Netlist) (cuts gates : List ℕ) (i k : ℕ) (keys new : List ℕ) (done : List Gate) (g h : Gate) →
+    AreOrdered n.given n.gates →
+    IsPart n cuts gates i keys done → i < length gates → k ≡ get_or gates i k → slice_get n.gates k ≡ Some g →
+    IsOver keys g h → new ≡ keys ++ g.outs →
     IsPart n cuts gates (i + 1) new (done ++ h ∷ [])
 part_more n cuts gates i k keys new done g h ordered part within is at over added =
     let all : List ℕ = local_wires n cuts gates in
     let fits = ordered_fits n.given n.gates k g ordered at in
-    let more : new ≡ local_wires n cuts (take (i + 1) gates) = added ∙ ap (λ (l : List ℕ). l ++ g.outs) part.known ∙ sym (known_more n cuts gates i k g within is at) in
+    let more : new ≡ local_wires n cuts (take (i + 1) gates) =
+    added ∙ ap (λ (l : List ℕ). l ++ g.outs) part.known ∙ sym (known_more n cuts gates i k g within is at) in
     let rest : List ℕ = flat_map (outs_of n) (drop (i + 1) gates) in
-    let whole : all ≡ keys ++ (g.outs ++ rest) = known_rest n cuts gates (i + 1) ∙ ap (λ (l : List ℕ). l ++ rest) (sym more ∙ added) ∙ append_assoc keys g.outs rest in
+    let whole : all ≡ keys ++ (g.outs ++ rest) =
+    known_rest n cuts gates (i + 1) ∙ ap (λ (l : List ℕ). l ++ rest) (sym more ∙ added)
+    ∙ append_assoc keys g.outs rest in
     let here : slice_get n.gates (slice_index gates (length done)) ≡ Some (renumber_gate (slice_index all) h) =
-    ap (slice_get n.gates) (ap (slice_index gates) part.count ∙ number_is gates i k within is) ∙ at ∙ ap Some (renumbered keys all rest g h whole fits.1 over) in
+    ap (slice_get n.gates) (ap (slice_index gates) part.count ∙ number_is gates i k within is) ∙ at
+    ∙ ap Some (renumbered keys all rest g h whole fits.1 over) in
     let long : length new ≡ length keys + length g.outs = ap length added ∙ length-append keys g.outs in
     record {
       known = more;
       count = length_push done h ∙ ap (λ m. m + 1) part.count;
       used = λ j f there. elim (push_cases done h j f there) [
         | inl before ↦ part.used j f before
-        | inr last ↦ subst (λ (f : Gate). slice_get n.gates (slice_index gates j) ≡ Some (renumber_gate (slice_index all) f)) last.1
-            (subst (λ j. slice_get n.gates (slice_index gates j) ≡ Some (renumber_gate (slice_index all) h)) (sym last.0) here)
+        | inr last ↦ subst (λ (f : Gate).
+            slice_get n.gates (slice_index gates j) ≡ Some (renumber_gate (slice_index all) f)) last.1
+            (subst (λ j. slice_get n.gates (slice_index gates j) ≡ Some (renumber_gate (slice_index all) h))
+            (sym last.0) here)
       ];
-      ordered = ordered_push (length cuts) done h part.ordered (subst (λ m. All (λ w. w < m) h.ins) (sym part.sized) over.within)
+      ordered = ordered_push (length cuts) done h part.ordered
+          (subst (λ m. All (λ w. w < m) h.ins) (sym part.sized) over.within)
           (sym (length-map h.ins (slice_index keys)) ∙ ap length over.ins ∙ fits.0 ∙ ap uses (sym over.kind))
           (over.outs ∙ ap (λ m. range_with_len m (defines h.kind)) (sym part.sized));
       sized = wires_push (length cuts) done h ∙ omega (arith, part.sized, long, fits.1, ap defines over.kind);
@@ -180,14 +224,20 @@ part_more n cuts gates i k keys new done g h ordered part within is at over adde
     }
 
 -- all gates are done
-pub part_all : (n : Netlist) (cuts gates keys keys' gates' : List ℕ) (i : ℕ) (done : List Gate) → AreLocalLines n cuts gates → IsPart n cuts gates i keys done → i ≡ length gates → keys' ≡ keys → gates' ≡ gates →
-    AreLocalsOf n (record { netlist = record { given = length cuts; gates = done }; circuit_wires = keys'; circuit_gates = gates' })
+pub part_all : (n : Netlist) (cuts gates keys keys' gates' : List ℕ) (i : ℕ) (done : List Gate) →
+    AreLocalLines n cuts gates → IsPart n cuts gates i keys done → i ≡ length gates → keys' ≡ keys → gates' ≡ gates →
+    AreLocalsOf n
+    (record { netlist = record { given = length cuts; gates = done }; circuit_wires = keys'; circuit_gates = gates' })
 part_all n cuts gates keys keys' gates' i done lines part all same_keys same_gates =
-    let known : keys' ≡ local_wires n cuts gates = same_keys ∙ part.known ∙ ap (local_wires n cuts) (take_all i gates (omega (arith, all))) in
-    let number = λ (k : ℕ) (below : k < length gates). slice_get-get_or gates k 0 below ∙ ap (λ (l : List ℕ). Some (slice_index l k)) (sym same_gates) in
+    let known : keys' ≡ local_wires n cuts gates =
+    same_keys ∙ part.known ∙ ap (local_wires n cuts) (take_all i gates (omega (arith, all))) in
+    let number = λ (k : ℕ) (below : k < length gates). slice_get-get_or gates k 0 below
+    ∙ ap (λ (l : List ℕ). Some (slice_index l k)) (sym same_gates) in
     record {
-      used = λ k g at. ap (λ (l : List ℕ). slice_get n.gates (slice_index l k)) same_gates ∙ part.used k g at ∙ ap (λ (l : List ℕ). Some (renumber_gate (slice_index l) g)) (sym known);
-      rising = λ k m lt below. lines.rising k m (slice_index gates' k) (slice_index gates' m) lt (number k (omega (arith, part.count))) (number m (omega (arith, part.count)));
+      used = λ k g at. ap (λ (l : List ℕ). slice_get n.gates (slice_index l k)) same_gates ∙ part.used k g at
+          ∙ ap (λ (l : List ℕ). Some (renumber_gate (slice_index l) g)) (sym known);
+      rising = λ k m lt below. lines.rising k m (slice_index gates' k) (slice_index gates' m) lt
+          (number k (omega (arith, part.count))) (number m (omega (arith, part.count)));
       ordered = part.ordered;
       sized = ap length same_keys ∙ sym part.sized;
     }

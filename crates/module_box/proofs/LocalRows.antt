@@ -1,20 +1,25 @@
 -- The values of all wires of a module, and its gates without a row: one assignment, and rows of assignments
-use Rattle.std.proofs.Common.{◌≡◌, ◌≢◌, ℕ, ◌+◌, ◌*◌, ◌/◌, ◌%◌, ◌<◌, ◌≤◌, Bool, true, false, List, [], ◌∷◌, ◌++◌, map, set, length, get_or, Option, Some, None, refl, sym, ap, subst, ◌∙◌, arith, inl, inr, get_or-append-add}
+use Rattle.std.proofs.Common.{◌≡◌, ◌≢◌, ℕ, ◌+◌, ◌*◌, ◌/◌, ◌%◌, ◌<◌, ◌≤◌, Bool, true, false, List, [], ◌∷◌, ◌++◌, map}
+use Rattle.std.proofs.Common.{set, length, get_or, Option, Some, None, refl, sym, ap, subst, ◌∙◌, arith, inl, inr}
+use Rattle.std.proofs.Common.{get_or-append-add}
 use Rattle.std.specs.Prelude.{slice_index, slice_index_or}
 use Rattle.std.specs.List.{All, range_with_len}
 use Rattle.std.proofs.Math.Nat.{mul-le-mul_left}
 use Rattle.std.proofs.lemmas.Bool.{cases_lt, cases_Bool, true≢false, eqb-true, eq-eqb}
-use Rattle.std.proofs.lemmas.List.{length-set, length-map, length_push, get_or-set_same, get_or-set_other, get_or_append_left, get_or_default}
+use Rattle.std.proofs.lemmas.List.{length-set, length-map, length_push, get_or-set_same, get_or-set_other}
+use Rattle.std.proofs.lemmas.List.{get_or_append_left, get_or_default}
 use Rattle.std.proofs.lemmas.List.Elements.{All-nil, All-cons, All-head, All-tail}
 use Rattle.std.proofs.lemmas.List.FromFn.{get_or-range_with_len, length-range_with_len}
 use Rattle.std.proofs.lemmas.Option.{slice_get_within}
 use Rattle.bbm_rule.specs.Bits.{bit}
 use Rattle.circuit.specs.Gates.{row, defines}
-use Rattle.circuit.specs.Meaning.{Gate, Netlist, Valuation, HasRow, Satisfies, AreOrdered, IsUndefined, wires, wires_after}
+use Rattle.circuit.specs.Meaning.{Gate, Netlist, Valuation, HasRow, Satisfies, AreOrdered, IsUndefined, wires}
+use Rattle.circuit.specs.Meaning.{wires_after}
 use Rattle.circuit.specs.Bridge.{read}
 use Rattle.circuit.proofs.Undefined.{undefined_at, undefined_is}
 use Rattle.circuit.proofs.Valuations.{evaluated, map_below}
-use Rattle.module_box.specs.LocalValues.{AreRowsAt, IsColumnAt, SaysColumn, bit_of_row, is_gate, is_none, value_of, lane}
+use Rattle.module_box.specs.LocalValues.{AreRowsAt, IsColumnAt, SaysColumn, bit_of_row, is_gate, is_none, value_of}
+use Rattle.module_box.specs.LocalValues.{lane}
 use Rattle.module_box.proofs.WordRows.{read_lane}
 
 -- ---- what satisfies a netlist does so by its values of the netlist's wires
@@ -31,22 +36,29 @@ range_below n k m h = λ i d l.
 all_below : (n m : ℕ) (ws : List ℕ) → n ≤ m → All (λ w. w < n) ws → All (λ w. w < m) ws
 all_below n m ws h all = λ i d l. let small = all i d l in omega (arith, small)
 
-rows_same : (n : ℕ) (gs : List Gate) (u v : Valuation) → AreOrdered n gs → ((w : ℕ) → w < wires_after n gs → u w ≡ v w) → All (HasRow u) gs → All (HasRow v) gs
+rows_same : (n : ℕ) (gs : List Gate) (u v : Valuation) → AreOrdered n gs →
+    ((w : ℕ) → w < wires_after n gs → u w ≡ v w) → All (HasRow u) gs → All (HasRow v) gs
 unfolding AreOrdered wires_after
 rows_same n [] u v ordered same rows = All-nil (HasRow v)
 rows_same n (g ∷ gs) u v ordered same rows =
     let all : ℕ = wires_after (n + defines g.kind) gs in
     let grow : n + defines g.kind ≤ all = wires_grow (n + defines g.kind) gs in
-    let ins : map u g.ins ≡ map v g.ins = map_below all u v g.ins (all_below n all g.ins (omega (arith, grow)) ordered.0) same in
-    let below : All (λ w. w < all) g.outs = subst (λ (ws : List ℕ). All (λ w. w < all) ws) (sym ordered.2) (range_below n (defines g.kind) all grow) in
+    let ins : map u g.ins ≡ map v g.ins =
+    map_below all u v g.ins (all_below n all g.ins (omega (arith, grow)) ordered.0) same in
+    let below : All (λ w. w < all) g.outs =
+    subst (λ (ws : List ℕ). All (λ w. w < all) ws) (sym ordered.2) (range_below n (defines g.kind) all grow) in
     let outs : map u g.outs ≡ map v g.outs = map_below all u v g.outs below same in
     All-cons (HasRow v) g gs (ap (row g.kind) (sym ins) ∙ All-head (HasRow u) g gs rows ∙ ap Some outs)
     (rows_same (n + defines g.kind) gs u v ordered.3 same (All-tail (HasRow u) g gs rows))
 
-pub satisfies_same : (n : Netlist) (a u v : Valuation) → AreOrdered n.given n.gates → ((w : ℕ) → w < wires n → u w ≡ v w) → Satisfies n a u → Satisfies n a v
+pub satisfies_same : (n : Netlist) (a u v : Valuation) → AreOrdered n.given n.gates →
+    ((w : ℕ) → w < wires n → u w ≡ v w) → Satisfies n a u → Satisfies n a v
 satisfies_same n a u v ordered same s =
     let grow : n.given ≤ wires n = wires_grow n.given n.gates in
-    record { given = λ i h. sym (same i (omega (arith, grow))) ∙ s.given i h; rows = rows_same n.given n.gates u v ordered same s.rows }
+    record {
+      given = λ i h. sym (same i (omega (arith, grow))) ∙ s.given i h;
+      rows = rows_same n.given n.gates u v ordered same s.rows;
+    }
 
 -- ---- places in rows
 next_row : (m v w : ℕ) → v < w → m * v + m ≤ m * w
@@ -82,36 +94,45 @@ pub record IsPut (words place n : ℕ) (column old new : List ℕ) : Type 0 wher
   pub put : (w : ℕ) → w < n → slice_index new (words * w + place) ≡ slice_index column w
   pub kept : (w k : ℕ) → k < words → k ≢ place → slice_index new (words * w + k) ≡ slice_index old (words * w + k)
 
-pub put_more : (words place n : ℕ) (column old new : List ℕ) → IsPut words place n column old new → place < words → n < length column → length old ≡ words * length column →
+pub put_more : (words place n : ℕ) (column old new : List ℕ) → IsPut words place n column old new → place < words →
+    n < length column → length old ≡ words * length column →
     IsPut words place (n + 1) column old (set new (words * n + place) (get_or column n 0))
 put_more words place n column old new is within below long =
     let here : ℕ = words * n + place in
     let word : ℕ = get_or column n 0 in
-    let room : here < length new = (let fits = place_within words (length column) n place below within in omega (arith, fits, long, is.long)) in
+    let room : here < length new =
+    (let fits = place_within words (length column) n place below within in omega (arith, fits, long, is.long)) in
     record {
       long = length-set new here word ∙ is.long;
       put = λ w h. elim (cases_lt w n) [
-        | inl less ↦ get_or-set_other new here (words * w + place) word 0 (rows_apart words w n place less within) ∙ is.put w less
+        | inl less ↦ get_or-set_other new here (words * w + place) word 0 (rows_apart words w n place less within)
+            ∙ is.put w less
         | inr large ↦
             let same : n ≡ w = omega arith in
-            subst (λ w. slice_index (set new here word) (words * w + place) ≡ slice_index column w) same (get_or-set_same new here word 0 room)
+            subst (λ w. slice_index (set new here word) (words * w + place) ≡ slice_index column w) same
+            (get_or-set_same new here word 0 room)
       ];
-      kept = λ w k l other. get_or-set_other new here (words * w + k) word 0 (columns_apart words w n k place l within other) ∙ is.kept w k l other;
+      kept = λ w k l other. get_or-set_other new here (words * w + k) word 0
+          (columns_apart words w n k place l within other) ∙ is.kept w k l other;
     }
 
 -- ---- a column more: 64 assignments more
 -- a column is written into rows, and nothing else is changed
 pub record IsWritten (words place n : ℕ) (column old new : List ℕ) : Type 0 where
   pub put : (w : ℕ) → w < n → slice_index new (words * w + place) ≡ slice_index column w
-  pub kept : (w k : ℕ) → w < n → k < words → k ≢ place → slice_index new (words * w + k) ≡ slice_index old (words * w + k)
+  pub kept : (w k : ℕ) → w < n → k < words → k ≢ place →
+      slice_index new (words * w + k) ≡ slice_index old (words * w + k)
 
-value_kept : (words place n : ℕ) (column old new : List ℕ) (a w : ℕ) → IsWritten words place n column old new → a < 64 * place → place < words → w < n → value_of words new a w ≡ value_of words old a w
+value_kept : (words place n : ℕ) (column old new : List ℕ) (a w : ℕ) → IsWritten words place n column old new →
+    a < 64 * place → place < words → w < n → value_of words new a w ≡ value_of words old a w
 unfolding value_of
 value_kept words place n column old new a w is less within below =
     let earlier : a / 64 < place = omega arith in
-    ap (λ k. bit k (a % 64)) (is.kept w (a / 64) below (omega (arith, earlier)) (λ e. absurd (omega (arith, earlier, e))))
+    ap (λ k. bit k (a % 64)) (is.kept w (a / 64) below (omega (arith, earlier))
+    (λ e. absurd (omega (arith, earlier, e))))
 
-value_put : (words place n : ℕ) (column old new : List ℕ) (a w : ℕ) → IsWritten words place n column old new → a / 64 ≡ place → w < n → value_of words new a w ≡ bit (slice_index column w) (a % 64)
+value_put : (words place n : ℕ) (column old new : List ℕ) (a w : ℕ) → IsWritten words place n column old new →
+    a / 64 ≡ place → w < n → value_of words new a w ≡ bit (slice_index column w) (a % 64)
 unfolding value_of
 value_put words place n column old new a w is at below =
     ap (λ k. bit k (a % 64)) (ap (λ k. slice_index new (words * w + k)) at ∙ is.put w below)
@@ -123,61 +144,79 @@ pub record AreRowsBelow (l : Netlist) (words chunk : ℕ) (values undefined defi
   pub count : length defined ≡ chunk
   pub each : (a : ℕ) → a < 64 * chunk → AreRowsAt l words a values undefined defined
 
-pub rows_none : (l : Netlist) (words : ℕ) (values undefined defined : List ℕ) → length values ≡ words * wires l → length undefined ≡ words * length l.gates → defined ≡ [] → AreRowsBelow l words 0 values undefined defined
-rows_none l words values undefined defined long tall none = record { long = long; tall = tall; count = ap length none; each = λ a h. absurd (omega arith) }
+pub rows_none : (l : Netlist) (words : ℕ) (values undefined defined : List ℕ) → length values ≡ words * wires l →
+    length undefined ≡ words * length l.gates → defined ≡ [] → AreRowsBelow l words 0 values undefined defined
+rows_none l words values undefined defined long tall none =
+    record { long = long; tall = tall; count = ap length none; each = λ a h. absurd (omega arith) }
 
 true_from : (x y : Bool) → x ≡ y → x ≡ true → y ≡ true
 true_from x y e h = sym e ∙ h
 
-pub rows_more : (l : Netlist) (words chunk word : ℕ) (column gaps values values' undefined undefined' defined defined' : List ℕ) → AreOrdered l.given l.gates → chunk < words →
-    IsWritten words chunk (wires l) column values values' → IsWritten words chunk (length l.gates) gaps undefined undefined' → length values' ≡ length values → length undefined' ≡ length undefined →
-    defined' ≡ defined ++ word ∷ [] → ((b : ℕ) → b < 64 → IsColumnAt l (64 * chunk + b) column gaps word b) → AreRowsBelow l words chunk values undefined defined →
+pub rows_more : (l : Netlist) (words chunk word : ℕ)
+    (column gaps values values' undefined undefined' defined defined' : List ℕ) → AreOrdered l.given l.gates →
+    chunk < words →
+    IsWritten words chunk (wires l) column values values' →
+    IsWritten words chunk (length l.gates) gaps undefined undefined' → length values' ≡ length values →
+    length undefined' ≡ length undefined →
+    defined' ≡ defined ++ word ∷ [] → ((b : ℕ) → b < 64 → IsColumnAt l (64 * chunk + b) column gaps word b) →
+    AreRowsBelow l words chunk values undefined defined →
     AreRowsBelow l words (chunk + 1) values' undefined' defined'
 unfolding bit_of_row
-rows_more l words chunk word column gaps values values' undefined undefined' defined defined' ordered within written gaps_written long tall pushed columns before = record {
-  long = long ∙ before.long;
-  tall = tall ∙ before.tall;
-  count = ap length pushed ∙ length_push defined word ∙ ap (λ n. n + 1) before.count;
-  each = λ a h. elim (cases_lt a (64 * chunk)) [
-    | inl less ↦
-        let was : AreRowsAt l words a values undefined defined = before.each a less in
-        let place : a / 64 < length defined = (let count = before.count in omega (arith, count)) in
-        let same : bit_of_row defined' a ≡ bit_of_row defined a =
-        ap (λ k. bit k (a % 64)) (ap (λ (ws : List ℕ). slice_index ws (a / 64)) pushed ∙ get_or_append_left defined (word ∷ []) 0 (a / 64) place) in
-        record {
-          local = λ e. satisfies_same l (bit a) (value_of words values a) (value_of words values' a) ordered
-              (λ w below. sym (value_kept words chunk (wires l) column values values' a w written less within below)) (was.local (sym same ∙ e));
-          undefined = λ k below.
-              let kept = value_kept words chunk (length l.gates) gaps undefined undefined' a k gaps_written less within below in
-              ((λ e. (was.undefined k below).0 (sym kept ∙ e)), (λ u. kept ∙ (was.undefined k below).1 u));
-          none = λ e. was.none (sym same ∙ e);
-        }
-    | inr large ↦
-        let at : a / 64 ≡ chunk = omega arith in
-        let b : ℕ = a % 64 in
-        let sum : 64 * chunk + b ≡ a = omega arith in
-        let is : IsColumnAt l a column gaps word b = subst (λ x. IsColumnAt l x column gaps word b) sum (columns b (omega arith)) in
-        let place : length defined + 0 ≡ a / 64 = (let count = before.count in omega (arith, count, at)) in
-        let same : bit_of_row defined' a ≡ bit word b =
-        ap (λ k. bit k b) (ap (λ (ws : List ℕ). slice_index ws (a / 64)) pushed ∙ ap (λ n. slice_index (defined ++ word ∷ []) n) (sym place) ∙ get_or-append-add defined (word ∷ []) 0 0) in
-        record {
-          local = λ e. satisfies_same l (bit a) (read (lane b column)) (value_of words values' a) ordered
-              (λ w below. read_lane column b w ∙ sym (value_put words chunk (wires l) column values values' a w written at below))
-              (is.values (sym same ∙ e)).satisfies;
-          undefined = λ k below.
-              let put = value_put words chunk (length l.gates) gaps undefined undefined' a k gaps_written at below in
-              ((λ e. (is.undefined k below).0 (sym put ∙ e)), (λ u. put ∙ (is.undefined k below).1 u));
-          none = λ e. is.none (sym same ∙ e);
-        }
-  ];
-}
+rows_more l words chunk word column gaps values values' undefined undefined' defined defined' ordered within written
+    gaps_written long tall pushed columns before = record {
+      long = long ∙ before.long;
+      tall = tall ∙ before.tall;
+      count = ap length pushed ∙ length_push defined word ∙ ap (λ n. n + 1) before.count;
+      each = λ a h. elim (cases_lt a (64 * chunk)) [
+        | inl less ↦
+            let was : AreRowsAt l words a values undefined defined = before.each a less in
+            let place : a / 64 < length defined = (let count = before.count in omega (arith, count)) in
+            let same : bit_of_row defined' a ≡ bit_of_row defined a =
+            ap (λ k. bit k (a % 64)) (ap (λ (ws : List ℕ). slice_index ws (a / 64)) pushed
+            ∙ get_or_append_left defined (word ∷ []) 0 (a / 64) place) in
+            record {
+              local = λ e. satisfies_same l (bit a) (value_of words values a) (value_of words values' a) ordered
+                  (λ w below. sym (value_kept words chunk
+                  (wires l) column values values' a w written less within below)) (was.local (sym same ∙ e));
+              undefined = λ k below.
+                  let kept = value_kept words chunk
+                  (length l.gates) gaps undefined undefined' a k gaps_written less within below in
+                  ((λ e. (was.undefined k below).0 (sym kept ∙ e)), (λ u. kept ∙ (was.undefined k below).1 u));
+              none = λ e. was.none (sym same ∙ e);
+            }
+        | inr large ↦
+            let at : a / 64 ≡ chunk = omega arith in
+            let b : ℕ = a % 64 in
+            let sum : 64 * chunk + b ≡ a = omega arith in
+            let is : IsColumnAt l a column gaps word b =
+            subst (λ x. IsColumnAt l x column gaps word b) sum (columns b (omega arith)) in
+            let place : length defined + 0 ≡ a / 64 = (let count = before.count in omega (arith, count, at)) in
+            let same : bit_of_row defined' a ≡ bit word b =
+            ap (λ k. bit k b) (ap (λ (ws : List ℕ). slice_index ws (a / 64)) pushed
+            ∙ ap (λ n. slice_index (defined ++ word ∷ []) n) (sym place) ∙ get_or-append-add defined (word ∷ []) 0 0) in
+            record {
+              local = λ e. satisfies_same l (bit a) (read (lane b column)) (value_of words values' a) ordered
+                  (λ w below. read_lane column b w
+                  ∙ sym (value_put words chunk (wires l) column values values' a w written at below))
+                  (is.values (sym same ∙ e)).satisfies;
+              undefined = λ k below.
+                  let put = value_put words chunk
+                  (length l.gates) gaps undefined undefined' a k gaps_written at below in
+                  ((λ e. (is.undefined k below).0 (sym put ∙ e)), (λ u. put ∙ (is.undefined k below).1 u));
+              none = λ e. is.none (sym same ∙ e);
+            }
+      ];
+    }
 
-pub written : (words place n : ℕ) (column old new column' old' : List ℕ) → column' ≡ column → old' ≡ old → length column ≡ n →
+pub written : (words place n : ℕ) (column old new column' old' : List ℕ) → column' ≡ column → old' ≡ old →
+    length column ≡ n →
     ((w : ℕ) → w < length column' → slice_index new (words * w + place) ≡ slice_index column' w) →
-    ((w k : ℕ) → w < length column' → k < words → k ≢ place → slice_index new (words * w + k) ≡ slice_index old' (words * w + k)) → IsWritten words place n column old new
+    ((w k : ℕ) → w < length column' → k < words → k ≢ place →
+    slice_index new (words * w + k) ≡ slice_index old' (words * w + k)) → IsWritten words place n column old new
 written words place n column old new column' old' same_column same_old long put kept = record {
   put = λ w h. put w (omega (arith, h, long, ap length same_column)) ∙ ap (λ (l : List ℕ). slice_index l w) same_column;
-  kept = λ w k h below other. kept w k (omega (arith, h, long, ap length same_column)) below other ∙ ap (λ (l : List ℕ). slice_index l (words * w + k)) same_old;
+  kept = λ w k h below other. kept w k (omega (arith, h, long, ap length same_column)) below other
+      ∙ ap (λ (l : List ℕ). slice_index l (words * w + k)) same_old;
 }
 
 -- ---- a column of a module
@@ -196,8 +235,10 @@ gate_is (Some m) k e = ap Some (eqb-true m k e)
 is_gate_at : (o : Option ℕ) (k : ℕ) → o ≡ Some k → is_gate o k ≡ true
 is_gate_at o k e = ap (λ (o : Option ℕ). is_gate o k) e ∙ eq-eqb k k refl
 
-pub column_at : (l : Netlist) (given words undefined : List ℕ) (defined a b : ℕ) → AreOrdered l.given l.gates → length given ≡ l.given →
-    ((i : ℕ) → i < l.given → bit (slice_index_or given i 0) b ≡ bit a i) → SaysColumn given l.gates words undefined defined b → IsColumnAt l a words undefined defined b
+pub column_at : (l : Netlist) (given words undefined : List ℕ) (defined a b : ℕ) → AreOrdered l.given l.gates →
+    length given ≡ l.given →
+    ((i : ℕ) → i < l.given → bit (slice_index_or given i 0) b ≡ bit a i) →
+    SaysColumn given l.gates words undefined defined b → IsColumnAt l a words undefined defined b
 column_at l given words undefined defined a b ordered long bits says =
     let vs : List Bool = lane b given in
     let len : length vs ≡ l.given = length-map given (λ x. bit x b) ∙ long in
@@ -208,11 +249,14 @@ column_at l given words undefined defined a b ordered long bits says =
         (λ e. undefined_is l (bit a) vs k ordered len same (gate_is _ k (sym (says.undefined k below) ∙ e))),
         (λ u. says.undefined k below ∙ is_gate_at _ k (undefined_at l (bit a) vs k ordered len same u)),
       );
-      none = λ e. let found = some_is _ _ says.defined e in (found.0, undefined_is l (bit a) vs found.0 ordered len same found.1);
+      none = λ e. let found = some_is _ _ says.defined e in
+          (found.0, undefined_is l (bit a) vs found.0 ordered len same found.1);
     }
 
 -- where no gate of a column is undefined, the values are there
-pub column_defined : (l : Netlist) (a b defined : ℕ) (words undefined : List ℕ) → IsColumnAt l a words undefined defined b → ((k : ℕ) → k < length l.gates → bit (slice_index undefined k) b ≡ false) →
+pub column_defined : (l : Netlist) (a b defined : ℕ) (words undefined : List ℕ) →
+    IsColumnAt l a words undefined defined b →
+    ((k : ℕ) → k < length l.gates → bit (slice_index undefined k) b ≡ false) →
     bit defined b ≡ true
 column_defined l a b defined words undefined is clear = elim (cases_Bool (bit defined b)) [
   | inl h ↦ h
@@ -224,10 +268,12 @@ column_defined l a b defined words undefined is clear = elim (cases_Bool (bit de
 ]
 
 -- the word that is read at an index
-pub word_is : (words : List ℕ) (k word b : ℕ) (v : Bool) → k < length words → word ≡ get_or words k word → bit word b ≡ v → bit (slice_index words k) b ≡ v
+pub word_is : (words : List ℕ) (k word b : ℕ) (v : Bool) → k < length words → word ≡ get_or words k word →
+    bit word b ≡ v → bit (slice_index words k) b ≡ v
 word_is words k word b v within is here = ap (λ n. bit n b) (get_or_default words k 0 word within ∙ sym is) ∙ here
 
-pub clear_more : (words : List ℕ) (k b : ℕ) → ((j : ℕ) → j < k → bit (slice_index words j) b ≡ false) → bit (slice_index words k) b ≡ false → (j : ℕ) → j < k + 1 → bit (slice_index words j) b ≡ false
+pub clear_more : (words : List ℕ) (k b : ℕ) → ((j : ℕ) → j < k → bit (slice_index words j) b ≡ false) →
+    bit (slice_index words k) b ≡ false → (j : ℕ) → j < k + 1 → bit (slice_index words j) b ≡ false
 clear_more words k b before here j h = elim (cases_lt j k) [
   | inl less ↦ before j less
   | inr large ↦ let same : k ≡ j = omega arith in subst (λ j. bit (slice_index words j) b ≡ false) same here

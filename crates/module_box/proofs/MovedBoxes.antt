@@ -1,5 +1,6 @@
 -- Boxes and signals that are moved
-use Rattle.std.proofs.Common.{◌≡◌, ℕ, zero, suc, ◌+◌, List, [], ◌∷◌, map, ◌&&◌, ◌||◌, not, Some, Ordering, Less, Equal, Greater, refl, sym, ap, ap₂, ◌∙◌, arith}
+use Rattle.std.proofs.Common.{◌≡◌, ℕ, zero, suc, ◌+◌, List, [], ◌∷◌, map, ◌&&◌, ◌||◌, not, Some, Ordering, Less, Equal}
+use Rattle.std.proofs.Common.{Greater, refl, sym, ap, ap₂, ◌∙◌, arith}
 use Rattle.std.specs.Prelude.{ℤ, pos, ◌+ℤ◌, ◌-ℤ◌, int_le, int_lt, slice_get, unwrap_or, if◌then◌else◌, nat_eq}
 use Rattle.std.specs.Ordering.{int_eq, int_cmp, nat_cmp, ordering_then}
 use Rattle.std.proofs.lemmas.Int.{ints}
@@ -9,7 +10,8 @@ use Rattle.bbm_rule.specs.Spans.{in_span}
 use Rattle.bbm_rule.specs.declared.block.Cell.{Cell}
 use Rattle.module_box.specs.Boxes.{in_box, in_ring, in_halo, some_neighbour}
 use Rattle.module_box.specs.Moments.{cell_cmp, moment_cmp}
-use Rattle.module_box.specs.Moves.{moved_cell, moved_held, moved_event, moved_signals, IsMovedBox, BoxesMoveAlong, SignalsMoveAlong}
+use Rattle.module_box.specs.Moves.{moved_cell, moved_held, moved_event, moved_signals, IsMovedBox, BoxesMoveAlong}
+use Rattle.module_box.specs.Moves.{SignalsMoveAlong}
 use Rattle.module_box.specs.Schedules.{IsRising, Signals, cell_of, moment_of, held_at, event_at, signal_at}
 use Rattle.module_box.specs.declared.boxes.Box2.{Box2}
 use Rattle.module_box.specs.declared.schedules.Event.{Event}
@@ -42,7 +44,8 @@ span_moved f f' n n' d x e same =
 
 pub box_moved : (dx dy : ℤ) (b b' : Box2) → IsMovedBox dx dy b b' → IsMoved dx dy (in_box b) (in_box b')
 unfolding in_box
-box_moved dx dy b b' m x y = ap₂ (λ p q. p && q) (span_moved b.x b'.x b.w b'.w dx x m.x m.w) (span_moved b.y b'.y b.h b'.h dy y m.y m.h)
+box_moved dx dy b b' m x y = ap₂ (λ p q. p && q) (span_moved b.x b'.x b.w b'.w dx x m.x m.w)
+    (span_moved b.y b'.y b.h b'.h dy y m.y m.h)
 
 up_moved : (x d : ℤ) → (x +ℤ d) +ℤ pos 1 ≡ (x +ℤ pos 1) +ℤ d
 up_moved x d = omega (arith, ints)
@@ -59,7 +62,8 @@ some_moved dx dy s s' m x y =
     let u = down_moved y dy in
     let d = up_moved y dy in
     let at : (a b : ℤ) (p q : ℤ) → p ≡ a +ℤ dx → q ≡ b +ℤ dy → s' p q ≡ s a b = λ a b p q e f. ap₂ s' e f ∙ m a b in
-    λ i. at _ _ _ _ l u i || at x _ _ _ refl u i || at _ _ _ _ r u i || at _ y _ _ l refl i || at _ y _ _ r refl i || at _ _ _ _ l d i || at x _ _ _ refl d i || at _ _ _ _ r d i
+    λ i. at _ _ _ _ l u i || at x _ _ _ refl u i || at _ _ _ _ r u i || at _ y _ _ l refl i || at _ y _ _ r refl i
+    || at _ _ _ _ l d i || at x _ _ _ refl d i || at _ _ _ _ r d i
 
 pub boxes_moved : BoxesMoveAlong
 unfolding in_ring in_halo
@@ -67,7 +71,9 @@ boxes_moved dx dy b b' m =
     let inside = box_moved dx dy b b' m in
     record {
       box = inside;
-      ring = λ x y. ap₂ (λ p q. p && q) (inside x y) (some_moved dx dy (λ x' y'. not (in_box b x' y')) (λ x' y'. not (in_box b' x' y')) (λ x' y'. ap not (inside x' y')) x y);
+      ring = λ x y. ap₂ (λ p q. p && q) (inside x y)
+          (some_moved dx dy (λ x' y'. not (in_box b x' y')) (λ x' y'. not (in_box b' x' y'))
+          (λ x' y'. ap not (inside x' y')) x y);
       halo = λ x y. ap₂ (λ p q. not p && q) (inside x y) (some_moved dx dy (in_box b) (in_box b') inside x y);
     }
 
@@ -75,35 +81,45 @@ boxes_moved dx dy b b' m =
 at_moved : (dx dy : ℤ) (c : Cell) (x y : ℤ) → is_at (moved_cell dx dy c) (x +ℤ dx) (y +ℤ dy) ≡ is_at c x y
 at_moved dx dy c x y = ap₂ (λ p q. p && q) (eq_moved c.x x dx) (eq_moved c.y y dy)
 
-held_moved : (dx dy : ℤ) (hs : List Held) (x y : ℤ) → held_at (map (moved_held dx dy) hs) (x +ℤ dx) (y +ℤ dy) ≡ held_at hs x y
+held_moved : (dx dy : ℤ) (hs : List Held) (x y : ℤ) →
+    held_at (map (moved_held dx dy) hs) (x +ℤ dx) (y +ℤ dy) ≡ held_at hs x y
 unfolding held_at
 held_moved dx dy [] x y = refl
 held_moved dx dy (h ∷ hs) x y = λ i. if at_moved dx dy h.cell x y i then Some h.signal else held_moved dx dy hs x y i
 
-event_moved : (dx dy : ℤ) (es : List Event) (t : ℕ) (x y : ℤ) → event_at (map (moved_event dx dy) es) t (x +ℤ dx) (y +ℤ dy) ≡ event_at es t x y
+event_moved : (dx dy : ℤ) (es : List Event) (t : ℕ) (x y : ℤ) →
+    event_at (map (moved_event dx dy) es) t (x +ℤ dx) (y +ℤ dy) ≡ event_at es t x y
 unfolding event_at
 event_moved dx dy [] t x y = refl
-event_moved dx dy (e ∷ es) t x y = λ i. if nat_eq e.at.time t && at_moved dx dy e.at.cell x y i then Some e.signal else event_moved dx dy es t x y i
+event_moved dx dy (e ∷ es) t x y =
+    λ i. if nat_eq e.at.time t && at_moved dx dy e.at.cell x y i then Some e.signal else event_moved dx dy es t x y i
 
 pub signals_moved : SignalsMoveAlong
 unfolding signal_at
-signals_moved dx dy s t x y = λ i. unwrap_or (held_moved dx dy s.held x y i) (unwrap_or (event_moved dx dy s.events t x y i) Zero)
+signals_moved dx dy s t x y =
+    λ i. unwrap_or (held_moved dx dy s.held x y i) (unwrap_or (event_moved dx dy s.events t x y i) Zero)
 
 -- ---- moved back
 sum_back : (a d e : ℤ) → d +ℤ e ≡ pos 0 → (a +ℤ d) +ℤ e ≡ a
 sum_back a d e none = omega (arith, ints, none)
 
-pub cell_back : (dx dy ex ey : ℤ) (c : Cell) → dx +ℤ ex ≡ pos 0 → dy +ℤ ey ≡ pos 0 → moved_cell ex ey (moved_cell dx dy c) ≡ c
+pub cell_back : (dx dy ex ey : ℤ) (c : Cell) → dx +ℤ ex ≡ pos 0 → dy +ℤ ey ≡ pos 0 →
+    moved_cell ex ey (moved_cell dx dy c) ≡ c
 cell_back dx dy ex ey c p q = λ i. record { x = sum_back c.x dx ex p i; y = sum_back c.y dy ey q i }
 
 map_back : {A : Type 0} (f g : A → A) → ((a : A) → g (f a) ≡ a) → (xs : List A) → map g (map f xs) ≡ xs
 map_back f g back [] = refl
 map_back f g back (x ∷ xs) = ap₂ (λ y ys. y ∷ ys) (back x) (map_back f g back xs)
 
-pub signals_back : (dx dy ex ey : ℤ) (s : Signals) → dx +ℤ ex ≡ pos 0 → dy +ℤ ey ≡ pos 0 → moved_signals ex ey (moved_signals dx dy s) ≡ s
+pub signals_back : (dx dy ex ey : ℤ) (s : Signals) → dx +ℤ ex ≡ pos 0 → dy +ℤ ey ≡ pos 0 →
+    moved_signals ex ey (moved_signals dx dy s) ≡ s
 signals_back dx dy ex ey s p q =
-    let held = map_back (moved_held dx dy) (moved_held ex ey) (λ h i. record { cell = cell_back dx dy ex ey h.cell p q i; signal = h.signal }) s.held in
-    let events = map_back (moved_event dx dy) (moved_event ex ey) (λ e i. record { at = record { time = e.at.time; cell = cell_back dx dy ex ey e.at.cell p q i }; signal = e.signal }) s.events in
+    let held = map_back (moved_held dx dy) (moved_held ex ey)
+    (λ h i. record { cell = cell_back dx dy ex ey h.cell p q i; signal = h.signal }) s.held in
+    let events = map_back (moved_event dx dy) (moved_event ex ey)
+    (λ e i.
+    record { at = record { time = e.at.time; cell = cell_back dx dy ex ey e.at.cell p q i }; signal = e.signal })
+    s.events in
     λ i. record { held = held i; events = events i }
 
 -- ---- the order of cells and moments
@@ -111,26 +127,35 @@ pub cell_cmp_moved : (dx dy : ℤ) (a b : Cell) → cell_cmp (moved_cell dx dy a
 unfolding cell_cmp
 cell_cmp_moved dx dy a b = ap₂ ordering_then (cmp_moved a.y b.y dy) (cmp_moved a.x b.x dx)
 
-moment_cmp_moved : (dx dy : ℤ) (d e : Event) → moment_cmp (moved_event dx dy d).at (moved_event dx dy e).at ≡ moment_cmp d.at e.at
+moment_cmp_moved : (dx dy : ℤ) (d e : Event) →
+    moment_cmp (moved_event dx dy d).at (moved_event dx dy e).at ≡ moment_cmp d.at e.at
 unfolding moment_cmp
 moment_cmp_moved dx dy d e = ap (ordering_then (nat_cmp d.at.time e.at.time)) (cell_cmp_moved dx dy d.at.cell e.at.cell)
 
 -- an element of a mapped list comes from one of the list
-from_map : {A B : Type 0} (f : A → B) (xs : List A) (i : ℕ) (b : B) → slice_get (map f xs) i ≡ Some b → (a : A) × (slice_get xs i ≡ Some a) × (f a ≡ b)
+from_map : {A B : Type 0} (f : A → B) (xs : List A) (i : ℕ) (b : B) → slice_get (map f xs) i ≡ Some b →
+    (a : A) × (slice_get xs i ≡ Some a) × (f a ≡ b)
 from_map f [] i b e = absurd cc
 from_map f (x ∷ xs) zero b e = (x, refl, cc)
 from_map f (x ∷ xs) (suc i) b e = from_map f xs i b e
 
-rising_mapped : {A K : Type 0} (cmp : K → K → Ordering) (key : A → K) (f : A → A) → ((a b : A) → cmp (key (f a)) (key (f b)) ≡ cmp (key a) (key b)) → (xs : List A) → IsRising cmp key xs → IsRising cmp key (map f xs)
+rising_mapped : {A K : Type 0} (cmp : K → K → Ordering) (key : A → K) (f : A → A) →
+    ((a b : A) → cmp (key (f a)) (key (f b)) ≡ cmp (key a) (key b)) → (xs : List A) → IsRising cmp key xs →
+    IsRising cmp key (map f xs)
 rising_mapped cmp key f same xs rising = record {
   rises = λ i j a b lt at there.
       let from = from_map f xs i a at in
       let to = from_map f xs j b there in
-      ap₂ (λ p q. cmp (key p) (key q)) (sym from.2) (sym to.2) ∙ same from.0 to.0 ∙ rising.rises i j from.0 to.0 lt from.1 to.1;
+      ap₂ (λ p q. cmp (key p) (key q)) (sym from.2) (sym to.2) ∙ same from.0 to.0
+      ∙ rising.rises i j from.0 to.0 lt from.1 to.1;
 }
 
-pub held_rising : (dx dy : ℤ) (hs : List Held) → IsRising cell_cmp cell_of hs → IsRising cell_cmp cell_of (map (moved_held dx dy) hs)
-held_rising dx dy hs rising = rising_mapped cell_cmp cell_of (moved_held dx dy) (λ a b. cell_cmp_moved dx dy a.cell b.cell) hs rising
+pub held_rising : (dx dy : ℤ) (hs : List Held) → IsRising cell_cmp cell_of hs →
+    IsRising cell_cmp cell_of (map (moved_held dx dy) hs)
+held_rising dx dy hs rising =
+    rising_mapped cell_cmp cell_of (moved_held dx dy) (λ a b. cell_cmp_moved dx dy a.cell b.cell) hs rising
 
-pub events_rising : (dx dy : ℤ) (es : List Event) → IsRising moment_cmp moment_of es → IsRising moment_cmp moment_of (map (moved_event dx dy) es)
-events_rising dx dy es rising = rising_mapped moment_cmp moment_of (moved_event dx dy) (λ a b. moment_cmp_moved dx dy a b) es rising
+pub events_rising : (dx dy : ℤ) (es : List Event) → IsRising moment_cmp moment_of es →
+    IsRising moment_cmp moment_of (map (moved_event dx dy) es)
+events_rising dx dy es rising =
+    rising_mapped moment_cmp moment_of (moved_event dx dy) (λ a b. moment_cmp_moved dx dy a b) es rising

@@ -11,7 +11,8 @@ use Rattle.module_box.proofs.RingTests.{halo_read}
 
 -- a cell of a halo is beside a column and a row of the box
 pub near_parts : (b : Box2) (x y : ℤ) → in_halo b x y ≡ true →
-    ((in_span b.x b.w (x -ℤ pos 1) || in_span b.x b.w x || in_span b.x b.w (x +ℤ pos 1)) ≡ true) × ((in_span b.y b.h (y -ℤ pos 1) || in_span b.y b.h y || in_span b.y b.h (y +ℤ pos 1)) ≡ true)
+    ((in_span b.x b.w (x -ℤ pos 1) || in_span b.x b.w x || in_span b.x b.w (x +ℤ pos 1)) ≡ true)
+    × ((in_span b.y b.h (y -ℤ pos 1) || in_span b.y b.h y || in_span b.y b.h (y +ℤ pos 1)) ≡ true)
 near_parts b x y h = and_parts _ _ (and_parts _ _ (halo_read b x y _ _ _ refl refl refl ∙ h)).1
 
 -- one of the three next to x is in the span
@@ -25,12 +26,14 @@ near_one f n x h = elim (or_cases _ _ h) [
   | inr p ↦ (x +ℤ pos 1, inr (inr refl), p)
 ]
 
-beside_bounds : (f n g m i j : ℕ) (x y : ℤ) → x ≡ pos i → y ≡ pos j → (y ≡ x -ℤ pos 1) ⊎ ((y ≡ x) ⊎ (y ≡ x +ℤ pos 1)) → g ≤ i → i < g + m → f ≤ j → j < f + n → (g < f + n + 1) × (f < g + m + 1)
+beside_bounds : (f n g m i j : ℕ) (x y : ℤ) → x ≡ pos i → y ≡ pos j → (y ≡ x -ℤ pos 1) ⊎ ((y ≡ x) ⊎ (y ≡ x +ℤ pos 1)) →
+    g ≤ i → i < g + m → f ≤ j → j < f + n → (g < f + n + 1) × (f < g + m + 1)
 beside_bounds f n g m i j x y p q (inl e) a b c d = (omega (arith, ints), omega (arith, ints))
 beside_bounds f n g m i j x y p q (inr (inl e)) a b c d = (omega (arith, ints), omega (arith, ints))
 beside_bounds f n g m i j x y p q (inr (inr e)) a b c d = (omega (arith, ints), omega (arith, ints))
 
-near_span : (f n g m : ℕ) (x : ℤ) → (in_span f n (x -ℤ pos 1) || in_span f n x || in_span f n (x +ℤ pos 1)) ≡ true → in_span g m x ≡ true → (g < f + n + 1) × (f < g + m + 1)
+near_span : (f n g m : ℕ) (x : ℤ) → (in_span f n (x -ℤ pos 1) || in_span f n x || in_span f n (x +ℤ pos 1)) ≡ true →
+    in_span g m x ≡ true → (g < f + n + 1) × (f < g + m + 1)
 near_span f n g m x h k =
     let y = near_one f n x h in
     let at = in_span_nat f n y.0 y.2 in

@@ -1,8 +1,10 @@
 -- The eight neighbours of a cell, rings and halos
-use Rattle.std.proofs.Common.{◌≡◌, ℕ, Bool, true, false, not, ◌||◌, refl, sym, ap, ap₂, ◌∙◌, inl, inr, ◌⊎◌, arith, List, Some}
+use Rattle.std.proofs.Common.{◌≡◌, ℕ, Bool, true, false, not, ◌||◌, refl, sym, ap, ap₂, ◌∙◌, inl, inr, ◌⊎◌, arith, List}
+use Rattle.std.proofs.Common.{Some}
 use Rattle.std.specs.Prelude.{ℤ, pos, ◌+ℤ◌, ◌-ℤ◌, slice_get}
 use Rattle.std.proofs.lemmas.Int.{ints}
-use Rattle.std.proofs.lemmas.Bool.{and_parts, and_from, or_left, or_right, or_cases, not_from_false, not-true, cases_Bool, false≢true}
+use Rattle.std.proofs.lemmas.Bool.{and_parts, and_from, or_left, or_right, or_cases, not_from_false, not-true}
+use Rattle.std.proofs.lemmas.Bool.{cases_Bool, false≢true}
 use Rattle.bbm_rule.specs.Plane.{State, partner, step}
 use Rattle.module_box.specs.Boxes.{in_box, some_neighbour, in_ring, in_halo}
 use Rattle.module_box.specs.Laws.{SameInBox, SameInHalo, HaloCellIsRingCellOfOwner}
@@ -17,21 +19,25 @@ pub some_neighbour_more : (p q : State) (x y : ℤ) → ((x' y' : ℤ) → p x' 
     some_neighbour p x y ≡ true → some_neighbour q x y ≡ true
 unfolding some_neighbour
 some_neighbour_more p q x y f =
-    or_more _ _ _ _ (or_more _ _ _ _ (or_more _ _ _ _ (or_more _ _ _ _ (or_more _ _ _ _ (or_more _ _ _ _ (or_more _ _ _ _
+    or_more _ _ _ _ (or_more _ _ _ _
+    (or_more _ _ _ _ (or_more _ _ _ _ (or_more _ _ _ _ (or_more _ _ _ _ (or_more _ _ _ _
     (f _ _) (f _ _)) (f _ _)) (f _ _)) (f _ _)) (f _ _)) (f _ _)) (f _ _)
 
 -- the cell x y is one of the neighbours of a b
 at_0 : (p : State) (a b x y : ℤ) → p x y ≡ true → a -ℤ pos 1 ≡ x → b -ℤ pos 1 ≡ y → some_neighbour p a b ≡ true
 unfolding some_neighbour
-at_0 p a b x y h e f = or_left _ _ (or_left _ _ (or_left _ _ (or_left _ _ (or_left _ _ (or_left _ _ (or_left _ _ (ap₂ p e f ∙ h)))))))
+at_0 p a b x y h e f = or_left _ _
+    (or_left _ _ (or_left _ _ (or_left _ _ (or_left _ _ (or_left _ _ (or_left _ _ (ap₂ p e f ∙ h)))))))
 
 at_1 : (p : State) (a b x y : ℤ) → p x y ≡ true → a ≡ x → b -ℤ pos 1 ≡ y → some_neighbour p a b ≡ true
 unfolding some_neighbour
-at_1 p a b x y h e f = or_left _ _ (or_left _ _ (or_left _ _ (or_left _ _ (or_left _ _ (or_left _ _ (or_right _ _ (ap₂ p e f ∙ h)))))))
+at_1 p a b x y h e f = or_left _ _
+    (or_left _ _ (or_left _ _ (or_left _ _ (or_left _ _ (or_left _ _ (or_right _ _ (ap₂ p e f ∙ h)))))))
 
 at_2 : (p : State) (a b x y : ℤ) → p x y ≡ true → a +ℤ pos 1 ≡ x → b -ℤ pos 1 ≡ y → some_neighbour p a b ≡ true
 unfolding some_neighbour
-at_2 p a b x y h e f = or_left _ _ (or_left _ _ (or_left _ _ (or_left _ _ (or_left _ _ (or_right _ _ (ap₂ p e f ∙ h))))))
+at_2 p a b x y h e f = or_left _ _
+    (or_left _ _ (or_left _ _ (or_left _ _ (or_left _ _ (or_right _ _ (ap₂ p e f ∙ h))))))
 
 at_3 : (p : State) (a b x y : ℤ) → p x y ≡ true → a -ℤ pos 1 ≡ x → b ≡ y → some_neighbour p a b ≡ true
 unfolding some_neighbour
@@ -92,26 +98,31 @@ block_both p t x y h = elim (partner_beside t x) [
   | inr e ↦ elim (partner_beside t y) [ inl f ↦ at_2 p _ _ x y h e f | inr f ↦ at_7 p _ _ x y h e f ]
 ]
 
-pub halo_from : (b : Box2) (x y : ℤ) → in_box b x y ≡ false → some_neighbour (in_box b) x y ≡ true → in_halo b x y ≡ true
+pub halo_from : (b : Box2) (x y : ℤ) → in_box b x y ≡ false → some_neighbour (in_box b) x y ≡ true →
+    in_halo b x y ≡ true
 unfolding in_halo
 halo_from b x y out near = and_from _ _ (not_from_false _ out) near
 
-pub halo_parts : (b : Box2) (x y : ℤ) → in_halo b x y ≡ true → (in_box b x y ≡ false) × (some_neighbour (in_box b) x y ≡ true)
+pub halo_parts : (b : Box2) (x y : ℤ) → in_halo b x y ≡ true →
+    (in_box b x y ≡ false) × (some_neighbour (in_box b) x y ≡ true)
 unfolding in_halo
 halo_parts b x y h = let p = and_parts (not (in_box b x y)) (some_neighbour (in_box b) x y) h in (not-true _ p.0, p.1)
 
-pub ring_from : (b : Box2) (x y : ℤ) → in_box b x y ≡ true → some_neighbour (λ x' y'. not (in_box b x' y')) x y ≡ true → in_ring b x y ≡ true
+pub ring_from : (b : Box2) (x y : ℤ) → in_box b x y ≡ true → some_neighbour (λ x' y'. not (in_box b x' y')) x y ≡ true →
+    in_ring b x y ≡ true
 unfolding in_ring
 ring_from b x y h near = and_from _ _ h near
 
 -- a cell of the box, or one of the halo
-same_near : (b : Box2) (s s' : State) (x y : ℤ) → SameInBox b s s' → SameInHalo b s s' → some_neighbour (in_box b) x y ≡ true → s x y ≡ s' x y
+same_near : (b : Box2) (s s' : State) (x y : ℤ) → SameInBox b s s' → SameInHalo b s s' →
+    some_neighbour (in_box b) x y ≡ true → s x y ≡ s' x y
 same_near b s s' x y box halo near = elim (cases_Bool (in_box b x y)) [
   | inl h ↦ box x y h
   | inr h ↦ halo x y (halo_from b x y h near)
 ]
 
-pub near_step : (b : Box2) (t : ℕ) (s s' : State) → SameInBox b s s' → SameInHalo b s s' → SameInBox b (step t s) (step t s')
+pub near_step : (b : Box2) (t : ℕ) (s s' : State) → SameInBox b s s' → SameInHalo b s s' →
+    SameInBox b (step t s) (step t s')
 near_step b t s s' box halo x y h = step_same t s s' x y (box x y h)
     (same_near b s s' _ _ box halo (block_both (in_box b) t x y h))
     (same_near b s s' _ _ box halo (block_x (in_box b) t x y h))
@@ -120,12 +131,15 @@ near_step b t s s' box halo x y h = step_same t s s' x y (box x y h)
 not_in : (b : Box2) (x y : ℤ) → (in_box b x y ≡ true → ⊥) → not (in_box b x y) ≡ true
 not_in b x y f = elim (cases_Bool (in_box b x y)) [ inl h ↦ absurd (f h) | inr h ↦ not_from_false _ h ]
 
-same_number : (boxes : List Box2) (i j : ℕ) (b b' : Box2) → slice_get boxes i ≡ Some b → slice_get boxes j ≡ Some b' → i ≡ j → b ≡ b'
+same_number : (boxes : List Box2) (i j : ℕ) (b b' : Box2) → slice_get boxes i ≡ Some b → slice_get boxes j ≡ Some b' →
+    i ≡ j → b ≡ b'
 same_number boxes i j b b' e f h = cc
 
 pub halo_in_ring : HaloCellIsRingCellOfOwner
 halo_in_ring rectangle boxes tile i j b b' x y e f h g =
     let p = halo_parts b x y h in
     let apart : (x' y' : ℤ) → in_box b x' y' ≡ true → in_box b' x' y' ≡ true → ⊥ =
-    λ x' y' m m'. false≢true (sym p.0 ∙ ap (λ c. in_box c x y) (same_number boxes i j b b' e f (tile.once x' y' i j b b' e f m m')) ∙ g) in
-    ring_from b' x y g (some_neighbour_more (in_box b) (λ x' y'. not (in_box b' x' y')) x y (λ x' y' m. not_in b' x' y' (apart x' y' m)) p.1)
+    λ x' y' m m'. false≢true (sym p.0
+    ∙ ap (λ c. in_box c x y) (same_number boxes i j b b' e f (tile.once x' y' i j b b' e f m m')) ∙ g) in
+    ring_from b' x y g (some_neighbour_more (in_box b) (λ x' y'. not (in_box b' x' y')) x y
+    (λ x' y' m. not_in b' x' y' (apart x' y' m)) p.1)

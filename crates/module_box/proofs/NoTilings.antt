@@ -14,7 +14,8 @@ use Rattle.module_box.proofs.Tilings.{div_small}
 -- the lower right cell of a box is in it
 last_cell : (b : Box2) → 2 ≤ b.w → 2 ≤ b.h → in_box b (pos (b.x + b.w - 1)) (pos (b.y + b.h - 1)) ≡ true
 unfolding in_box
-last_cell b p q = and_from _ _ (span_from b.x b.w (b.x + b.w - 1) (omega arith) (omega arith)) (span_from b.y b.h (b.y + b.h - 1) (omega arith) (omega arith))
+last_cell b p q = and_from _ _ (span_from b.x b.w (b.x + b.w - 1) (omega arith) (omega arith))
+    (span_from b.y b.h (b.y + b.h - 1) (omega arith) (omega arith))
 
 below_sides : (w h i k : ℕ) → in_box (rectangle_of w h) (pos i) (pos k) ≡ true → (i < w) × (k < h)
 unfolding in_box
@@ -26,7 +27,8 @@ below_sides w h i k e =
 
 from_sides : (w h i k : ℕ) → i < w → k < h → in_box (rectangle_of w h) (pos i) (pos k) ≡ true
 unfolding in_box
-from_sides w h i k p q = and_from _ _ (span_from 0 w i (omega arith) (omega arith)) (span_from 0 h k (omega arith) (omega arith))
+from_sides w h i k p q = and_from _ _ (span_from 0 w i (omega arith) (omega arith))
+    (span_from 0 h k (omega arith) (omega arith))
 
 corner_column : (w n : ℕ) → 2 ≤ w → w % 2 ≡ 0 → 2 * (n % (w / 2)) < w
 corner_column w n a e =
@@ -45,13 +47,15 @@ no_tiling w h boxes (Outside n) task f m tile =
     f.1.2 (record { right = omega (arith, p.0, s.0); bottom = omega (arith, p.1, s.1) })
 no_tiling w h boxes (Overlap c) task f m tile =
     let t = f.1 in
-    let same = tile.once c.x c.y t.one t.other t.first.area t.second.area t.first.numbered t.second.numbered t.first.has t.second.has in
+    let same = tile.once c.x c.y t.one t.other t.first.area t.second.area t.first.numbered t.second.numbered t.first.has
+    t.second.has in
     omega (arith, same, t.apart)
 no_tiling w h boxes (Gap c) task f m tile =
     let bad = f.0 in
     let inside : in_box (rectangle_of w h) c.x c.y ≡ true =
     ap₂ (in_box (rectangle_of w h)) bad.x bad.y
-    ∙ from_sides w h (2 * (bad.place % (w / 2))) (2 * (bad.place / (w / 2))) (corner_column w bad.place task.width.0 task.width.2) (corner_row w h bad.place bad.within) in
+    ∙ from_sides w h (2 * (bad.place % (w / 2))) (2 * (bad.place / (w / 2)))
+    (corner_column w bad.place task.width.0 task.width.2) (corner_row w h bad.place bad.within) in
     let g = tile.covered c.x c.y inside in
     f.1 g.0 (record { area = g.1; numbered = g.2; has = g.3 })
 no_tiling w h boxes Memory task f m tile = m refl

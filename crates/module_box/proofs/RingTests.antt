@@ -6,7 +6,8 @@ use Rattle.module_box.specs.Boxes.{in_box, some_neighbour, in_ring, in_halo}
 use Rattle.module_box.specs.declared.boxes.Box2.{Box2}
 
 ring_bits : (a b c d e f : Bool) →
-    ((b && e) && (not (a && d) || not (b && d) || not (c && d) || not (a && e) || not (c && e) || not (a && f) || not (b && f) || not (c && f)))
+    ((b && e) && (not (a && d) || not (b && d) || not (c && d) || not (a && e) || not (c && e) || not (a && f)
+    || not (b && f) || not (c && f)))
     ≡ ((b && e) && not ((a && c) && (d && f)))
 ring_bits a b c d e f = grind arith
 
@@ -16,14 +17,18 @@ halo_bits : (a b c d e f : Bool) →
 halo_bits a b c d e f = grind arith
 
 ring_is : (b : Box2) (x y : ℤ) → in_ring b x y ≡ (in_box b x y && not
-    ((in_span b.x b.w (x -ℤ pos 1) && in_span b.x b.w (x +ℤ pos 1)) && (in_span b.y b.h (y -ℤ pos 1) && in_span b.y b.h (y +ℤ pos 1))))
+    ((in_span b.x b.w (x -ℤ pos 1) && in_span b.x b.w (x +ℤ pos 1))
+    && (in_span b.y b.h (y -ℤ pos 1) && in_span b.y b.h (y +ℤ pos 1))))
 unfolding in_ring some_neighbour in_box
-ring_is b x y = ring_bits (in_span b.x b.w (x -ℤ pos 1)) (in_span b.x b.w x) (in_span b.x b.w (x +ℤ pos 1)) (in_span b.y b.h (y -ℤ pos 1)) (in_span b.y b.h y) (in_span b.y b.h (y +ℤ pos 1))
+ring_is b x y = ring_bits (in_span b.x b.w (x -ℤ pos 1)) (in_span b.x b.w x) (in_span b.x b.w (x +ℤ pos 1))
+    (in_span b.y b.h (y -ℤ pos 1)) (in_span b.y b.h y) (in_span b.y b.h (y +ℤ pos 1))
 
 halo_is : (b : Box2) (x y : ℤ) → in_halo b x y ≡ (not (in_box b x y) &&
-    ((in_span b.x b.w (x -ℤ pos 1) || in_span b.x b.w x || in_span b.x b.w (x +ℤ pos 1)) && (in_span b.y b.h (y -ℤ pos 1) || in_span b.y b.h y || in_span b.y b.h (y +ℤ pos 1))))
+    ((in_span b.x b.w (x -ℤ pos 1) || in_span b.x b.w x || in_span b.x b.w (x +ℤ pos 1))
+    && (in_span b.y b.h (y -ℤ pos 1) || in_span b.y b.h y || in_span b.y b.h (y +ℤ pos 1))))
 unfolding in_halo some_neighbour in_box
-halo_is b x y = halo_bits (in_span b.x b.w (x -ℤ pos 1)) (in_span b.x b.w x) (in_span b.x b.w (x +ℤ pos 1)) (in_span b.y b.h (y -ℤ pos 1)) (in_span b.y b.h y) (in_span b.y b.h (y +ℤ pos 1))
+halo_is b x y = halo_bits (in_span b.x b.w (x -ℤ pos 1)) (in_span b.x b.w x) (in_span b.x b.w (x +ℤ pos 1))
+    (in_span b.y b.h (y -ℤ pos 1)) (in_span b.y b.h y) (in_span b.y b.h (y +ℤ pos 1))
 
 -- what the tests answer, from what they test
 pub ring_read : (b : Box2) (x y : ℤ) (inside inner_x inner_y : Bool) → inside ≡ in_box b x y →

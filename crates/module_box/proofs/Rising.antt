@@ -1,5 +1,7 @@
--- What is known of a rising list by comparing its keys with a key
-use Rattle.std.proofs.Common.{◌≡◌, ℕ, zero, suc, ◌+◌, ◌<◌, ◌≤◌, List, [], ◌∷◌, ◌++◌, length, true, Option, Some, None, Ordering, Less, Equal, Greater, refl, sym, ap, subst, ◌∙◌, inl, inr, ◌⊎◌, arith, rules, eqb}
+-- Facts about a rising list by comparing its keys with a key
+use Rattle.std.proofs.Common.{◌≡◌, ℕ, zero, suc, ◌+◌, ◌<◌, ◌≤◌, List, [], ◌∷◌, ◌++◌, length, true, Option, Some, None}
+use Rattle.std.proofs.Common.{Ordering, Less, Equal, Greater, refl, sym, ap, subst, ◌∙◌, inl, inr, ◌⊎◌, arith, rules}
+use Rattle.std.proofs.Common.{eqb}
 use Rattle.std.specs.Prelude.{ℤ, ◌≢◌, slice_get, if◌then◌else◌}
 use Rattle.std.specs.Ordering.{nat_cmp, int_cmp, ordering_reverse, int_eq}
 use Rattle.std.specs.Cmp.{IsTotalOrder}
@@ -21,7 +23,8 @@ cell_total = then_total (on_total (λ (c : Cell). c.y) int_cmp_total) (on_total 
 
 pub moment_total : IsTotalOrder moment_cmp
 unfolding moment_cmp
-moment_total = then_total (on_total (λ (m : Moment). m.time) nat_cmp_total) (on_total (λ (m : Moment). m.cell) cell_total)
+moment_total = then_total (on_total (λ (m : Moment). m.time) nat_cmp_total)
+    (on_total (λ (m : Moment). m.cell) cell_total)
 
 abbrev cell_key : Cell → ℤ × ℤ
 cell_key c = (c.y, c.x)
@@ -39,11 +42,13 @@ pub moment_exact : CmpEqualImpliesEq moment_cmp
 unfolding moment_cmp cell_cmp
 moment_exact a b e =
     let unkey : ℕ × (ℤ × ℤ) → Moment = λ k. record { time = k.0; cell = record { x = k.1.1; y = k.1.0 } } in
-    ap unkey (exact_pairs nat_cmp _ exact_unsigned (exact_pairs int_cmp int_cmp exact_signed exact_signed) (moment_key a) (moment_key b) e)
+    ap unkey (exact_pairs nat_cmp _ exact_unsigned (exact_pairs int_cmp int_cmp exact_signed exact_signed)
+    (moment_key a) (moment_key b) e)
 
 -- ---- bounds of a search
 -- the keys before `low` are less than k, and those from `high` on are greater
-pub record IsBetween {A K : Type 0} (cmp : K → K → Ordering) (key : A → K) (xs : List A) (k : K) (low high : ℕ) : Type 0 where
+pub record IsBetween {A K : Type 0} (cmp : K → K → Ordering) (key : A → K) (xs : List A) (k : K)
+    (low high : ℕ) : Type 0 where
   pub below : (i : ℕ) (a : A) → i < low → slice_get xs i ≡ Some a → cmp (key a) k ≡ Less
   pub above : (i : ℕ) (a : A) → high ≤ i → slice_get xs i ≡ Some a → cmp k (key a) ≡ Less
 
@@ -56,8 +61,10 @@ same_or_higher i m h = grind arith
 same_some : {A : Type 0} (o : Option A) (a b : A) → o ≡ Some a → o ≡ Some b → a ≡ b
 same_some o a b e f = cc
 
-pub raise_low : {A K : Type 0} (cmp : K → K → Ordering) (key : A → K) (xs : List A) (k : K) (low high m : ℕ) (a : A) → IsTotalOrder cmp → IsRising cmp key xs →
-    IsBetween cmp key xs k low high → slice_get xs m ≡ Some a → cmp (key a) k ≡ Less → IsBetween cmp key xs k (m + 1) high
+pub raise_low : {A K : Type 0} (cmp : K → K → Ordering) (key : A → K) (xs : List A) (k : K) (low high m : ℕ) (a : A) →
+    IsTotalOrder cmp → IsRising cmp key xs →
+    IsBetween cmp key xs k low high → slice_get xs m ≡ Some a → cmp (key a) k ≡ Less →
+    IsBetween cmp key xs k (m + 1) high
 raise_low cmp key xs k low high m a total rising b at less = record {
   below = λ i a' h e. elim (lower_or_same i m h) [
     | inl lt ↦ total.trans (key a') (key a) k (rising.rises i m a' a lt e at) less
@@ -66,7 +73,8 @@ raise_low cmp key xs k low high m a total rising b at less = record {
   above = b.above;
 }
 
-pub drop_high : {A K : Type 0} (cmp : K → K → Ordering) (key : A → K) (xs : List A) (k : K) (low high m : ℕ) (a : A) → IsTotalOrder cmp → IsRising cmp key xs →
+pub drop_high : {A K : Type 0} (cmp : K → K → Ordering) (key : A → K) (xs : List A) (k : K) (low high m : ℕ) (a : A) →
+    IsTotalOrder cmp → IsRising cmp key xs →
     IsBetween cmp key xs k low high → slice_get xs m ≡ Some a → cmp (key a) k ≡ Greater → IsBetween cmp key xs k low m
 drop_high cmp key xs k low high m a total rising b at greater = record {
   below = b.below;
@@ -85,7 +93,8 @@ below_or_from : (i m : ℕ) → (i < m) ⊎ (m ≤ i)
 below_or_from i m = grind arith
 
 -- the bounds have met: the key is not there
-pub is_absent : {A K : Type 0} (cmp : K → K → Ordering) (key : A → K) (xs : List A) (k : K) (low high : ℕ) → IsTotalOrder cmp → IsBetween cmp key xs k low high → high ≤ low →
+pub is_absent : {A K : Type 0} (cmp : K → K → Ordering) (key : A → K) (xs : List A) (k : K) (low high : ℕ) →
+    IsTotalOrder cmp → IsBetween cmp key xs k low high → high ≤ low →
     (i : ℕ) (a : A) → slice_get xs i ≡ Some a → key a ≢ k
 is_absent cmp key xs k low high total b met i a e same =
     let tied : cmp (key a) k ≡ Equal = ap (λ z. cmp z k) same ∙ tied_itself total k in
@@ -96,7 +105,8 @@ is_absent cmp key xs k low high total b met i a e same =
     ]
 
 -- an earlier element has another key
-pub is_first : {A K : Type 0} (cmp : K → K → Ordering) (key : A → K) (xs : List A) (m : ℕ) (a : A) → IsTotalOrder cmp → IsRising cmp key xs → slice_get xs m ≡ Some a →
+pub is_first : {A K : Type 0} (cmp : K → K → Ordering) (key : A → K) (xs : List A) (m : ℕ) (a : A) → IsTotalOrder cmp →
+    IsRising cmp key xs → slice_get xs m ≡ Some a →
     (i : ℕ) (b : A) → i < m → slice_get xs i ≡ Some b → key b ≢ key a
 is_first cmp key xs m a total rising at i b lt e same =
     less_equal (sym (rising.rises i m b a lt e at) ∙ ap (λ z. cmp z (key a)) same ∙ tied_itself total (key a))
@@ -129,7 +139,8 @@ then_moment m n h =
 then_own_moment : (m : Moment) → is_then m m.time m.cell.x m.cell.y ≡ true
 then_own_moment m = rw (eqb_itself m.time, at_own_cell m.cell)
 
-pub held_none : (hs : List Held) (c : Cell) → ((i : ℕ) (h : Held) → slice_get hs i ≡ Some h → h.cell ≢ c) → held_at hs c.x c.y ≡ None
+pub held_none : (hs : List Held) (c : Cell) → ((i : ℕ) (h : Held) → slice_get hs i ≡ Some h → h.cell ≢ c) →
+    held_at hs c.x c.y ≡ None
 unfolding held_at
 held_none [] c f = refl
 held_none (h ∷ hs) c f = elim (cases_Bool (is_at h.cell c.x c.y)) [
@@ -137,7 +148,8 @@ held_none (h ∷ hs) c f = elim (cases_Bool (is_at h.cell c.x c.y)) [
   | inr e ↦ cond-false _ _ _ e ∙ held_none hs c (λ i h'. f (suc i) h')
 ]
 
-pub held_some : (hs : List Held) (i : ℕ) (h : Held) → slice_get hs i ≡ Some h → ((j : ℕ) (h' : Held) → j < i → slice_get hs j ≡ Some h' → h'.cell ≢ h.cell) →
+pub held_some : (hs : List Held) (i : ℕ) (h : Held) → slice_get hs i ≡ Some h →
+    ((j : ℕ) (h' : Held) → j < i → slice_get hs j ≡ Some h' → h'.cell ≢ h.cell) →
     held_at hs h.cell.x h.cell.y ≡ Some h.signal
 unfolding held_at
 held_some [] i h e f = absurd (none_some e)
@@ -146,13 +158,15 @@ held_some [] i h e f = absurd (none_some e)
     none_some e = cc
 held_some (g ∷ hs) zero h e f =
     let same : g ≡ h = same_some (Some g) g h refl e in
-    subst (λ h. (if is_at g.cell h.cell.x h.cell.y then Some g.signal else held_at hs h.cell.x h.cell.y) ≡ Some h.signal) same (cond-true _ _ _ (at_own_cell g.cell))
+    subst (λ h. (if is_at g.cell h.cell.x h.cell.y then Some g.signal else held_at hs h.cell.x h.cell.y)
+    ≡ Some h.signal) same (cond-true _ _ _ (at_own_cell g.cell))
 held_some (g ∷ hs) (suc i) h e f = elim (cases_Bool (is_at g.cell h.cell.x h.cell.y)) [
   | inl t ↦ absurd (f 0 g (omega arith) refl (at_cell g.cell h.cell t))
   | inr n ↦ cond-false _ _ _ n ∙ held_some hs i h e (λ j h' lt. f (suc j) h' (omega arith))
 ]
 
-pub event_none : (es : List Event) (m : Moment) → ((i : ℕ) (e : Event) → slice_get es i ≡ Some e → e.at ≢ m) → event_at es m.time m.cell.x m.cell.y ≡ None
+pub event_none : (es : List Event) (m : Moment) → ((i : ℕ) (e : Event) → slice_get es i ≡ Some e → e.at ≢ m) →
+    event_at es m.time m.cell.x m.cell.y ≡ None
 unfolding event_at
 event_none [] m f = refl
 event_none (h ∷ hs) m f = elim (cases_Bool (is_then h.at m.time m.cell.x m.cell.y)) [
@@ -160,7 +174,8 @@ event_none (h ∷ hs) m f = elim (cases_Bool (is_then h.at m.time m.cell.x m.cel
   | inr e ↦ cond-false _ _ _ e ∙ event_none hs m (λ i h'. f (suc i) h')
 ]
 
-pub event_some : (es : List Event) (i : ℕ) (h : Event) → slice_get es i ≡ Some h → ((j : ℕ) (h' : Event) → j < i → slice_get es j ≡ Some h' → h'.at ≢ h.at) →
+pub event_some : (es : List Event) (i : ℕ) (h : Event) → slice_get es i ≡ Some h →
+    ((j : ℕ) (h' : Event) → j < i → slice_get es j ≡ Some h' → h'.at ≢ h.at) →
     event_at es h.at.time h.at.cell.x h.at.cell.y ≡ Some h.signal
 unfolding event_at
 event_some [] i h e f = absurd (none_some e)
@@ -169,22 +184,27 @@ event_some [] i h e f = absurd (none_some e)
     none_some e = cc
 event_some (g ∷ hs) zero h e f =
     let same : g ≡ h = same_some (Some g) g h refl e in
-    subst (λ h. (if is_then g.at h.at.time h.at.cell.x h.at.cell.y then Some g.signal else event_at hs h.at.time h.at.cell.x h.at.cell.y) ≡ Some h.signal) same (cond-true _ _ _ (then_own_moment g.at))
+    subst (λ h. (if is_then g.at h.at.time h.at.cell.x h.at.cell.y then Some g.signal else event_at hs h.at.time
+    h.at.cell.x h.at.cell.y) ≡ Some h.signal) same (cond-true _ _ _ (then_own_moment g.at))
 event_some (g ∷ hs) (suc i) h e f = elim (cases_Bool (is_then g.at h.at.time h.at.cell.x h.at.cell.y)) [
   | inl t ↦ absurd (f 0 g (omega arith) refl (then_moment g.at h.at t))
   | inr n ↦ cond-false _ _ _ n ∙ event_some hs i h e (λ j h' lt. f (suc j) h' (omega arith))
 ]
 
-pub held_found : (hs : List Held) (i : ℕ) (h : Held) (c : Cell) → h.cell ≡ c → slice_get hs i ≡ Some h → ((j : ℕ) (h' : Held) → j < i → slice_get hs j ≡ Some h' → h'.cell ≢ h.cell) →
+pub held_found : (hs : List Held) (i : ℕ) (h : Held) (c : Cell) → h.cell ≡ c → slice_get hs i ≡ Some h →
+    ((j : ℕ) (h' : Held) → j < i → slice_get hs j ≡ Some h' → h'.cell ≢ h.cell) →
     held_at hs c.x c.y ≡ Some h.signal
 held_found hs i h c same e f = subst (λ (c : Cell). held_at hs c.x c.y ≡ Some h.signal) same (held_some hs i h e f)
 
-pub event_found : (es : List Event) (i : ℕ) (h : Event) (m : Moment) → h.at ≡ m → slice_get es i ≡ Some h → ((j : ℕ) (h' : Event) → j < i → slice_get es j ≡ Some h' → h'.at ≢ h.at) →
+pub event_found : (es : List Event) (i : ℕ) (h : Event) (m : Moment) → h.at ≡ m → slice_get es i ≡ Some h →
+    ((j : ℕ) (h' : Event) → j < i → slice_get es j ≡ Some h' → h'.at ≢ h.at) →
     event_at es m.time m.cell.x m.cell.y ≡ Some h.signal
-event_found es i h m same e f = subst (λ (m : Moment). event_at es m.time m.cell.x m.cell.y ≡ Some h.signal) same (event_some es i h e f)
+event_found es i h m same e f =
+    subst (λ (m : Moment). event_at es m.time m.cell.x m.cell.y ≡ Some h.signal) same (event_some es i h e f)
 
 -- ---- rising lists that grow
-pub pushed : {A : Type 0} (xs : List A) (x : A) (i : ℕ) (a : A) → slice_get (xs ++ x ∷ []) i ≡ Some a → (slice_get xs i ≡ Some a) ⊎ ((i ≡ length xs) × (x ≡ a))
+pub pushed : {A : Type 0} (xs : List A) (x : A) (i : ℕ) (a : A) → slice_get (xs ++ x ∷ []) i ≡ Some a →
+    (slice_get xs i ≡ Some a) ⊎ ((i ≡ length xs) × (x ≡ a))
 pushed [] x zero a e = inr (refl, cc)
 pushed [] x (suc i) a e = inl e
 pushed (y ∷ xs) x zero a e = inl e

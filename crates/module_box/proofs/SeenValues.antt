@@ -1,5 +1,6 @@
 -- The values of a circuit's wires, as a module sees them
-use Rattle.std.proofs.Common.{◌≡◌, ℕ, zero, suc, ◌+◌, ◌*◌, ◌/◌, ◌%◌, ◌<◌, ◌^◌, Bool, true, false, eqb, get_or, List, Option, Some, map, refl, sym, ap, subst, ◌∙◌, arith}
+use Rattle.std.proofs.Common.{◌≡◌, ℕ, zero, suc, ◌+◌, ◌*◌, ◌/◌, ◌%◌, ◌<◌, ◌^◌, Bool, true, false, eqb, get_or, List}
+use Rattle.std.proofs.Common.{Option, Some, map, refl, sym, ap, subst, ◌∙◌, arith}
 use Rattle.std.specs.Prelude.{slice_get}
 use Rattle.std.specs.List.{All}
 use Rattle.std.proofs.lemmas.Simd.{map-map}
@@ -65,20 +66,26 @@ choices_are_assignments n f = (from_bits n f, from_bits_below n f, bit-from_bits
 row_seen : (f : ℕ → ℕ) (v : Valuation) (g : Gate) → HasRow v (renumber_gate f g) → HasRow (λ i. v (f i)) g
 row_seen f v g h = ap (row g.kind) (sym (map-map v f g.ins)) ∙ h ∙ ap Some (map-map v f g.outs)
 
-row_at : (v : Valuation) (gates : List Gate) (k : ℕ) (g : Gate) → All (HasRow v) gates → slice_get gates k ≡ Some g → HasRow v g
-row_at v gates k g all e = subst (HasRow v) (get_or_from_slice_get gates k g g e) (all k g (slice_get_within gates k g e))
+row_at : (v : Valuation) (gates : List Gate) (k : ℕ) (g : Gate) → All (HasRow v) gates → slice_get gates k ≡ Some g →
+    HasRow v g
+row_at v gates k g all e = subst (HasRow v) (get_or_from_slice_get gates k g g e)
+    (all k g (slice_get_within gates k g e))
 
 seen_valuation : (n : Netlist) (l : LocalNet) (inputs v : Valuation) (a : ℕ) → AreLocalsOf n l → Satisfies n inputs v →
     ((i : ℕ) → i < l.netlist.given → bit a i ≡ seen_by l v i) → IsLocalValuation l a (seen_by l v)
 seen_valuation n l inputs v a are s bits = record {
   given = λ i h. sym (bits i h);
-  rows = λ k d h. row_seen (circuit_wire l) v (get_or l.netlist.gates k d) (row_at v n.gates _ _ s.rows (are.used k _ (slice_get-get_or l.netlist.gates k d h)));
+  rows = λ k d h. row_seen (circuit_wire l) v (get_or l.netlist.gates k d)
+      (row_at v n.gates _ _ s.rows (are.used k _ (slice_get-get_or l.netlist.gates k d h)));
 }
 
 pub local_values_agree : LocalValuesAgree
 local_values_agree n l inputs v a are s bits =
     let seen = seen_valuation n l inputs v a are s bits in
-    record { is_local = seen; only = λ u local i h. at_most_one l.netlist (bit a) u (seen_by l v) are.ordered local seen i h }
+    record {
+      is_local = seen;
+      only = λ u local i h. at_most_one l.netlist (bit a) u (seen_by l v) are.ordered local seen i h;
+    }
 
 -- ---- a gate that has no row
 same_gate : (o : Option Gate) (g h : Gate) → o ≡ Some g → o ≡ Some h → g ≡ h
@@ -88,13 +95,16 @@ pub undefined_is_seen : UndefinedIsSeen
 undefined_is_seen n l inputs k place a are u below same bits =
     let h : Gate = get_or l.netlist.gates place u.gate in
     let at : slice_get l.netlist.gates place ≡ Some h = slice_get-get_or l.netlist.gates place u.gate below in
-    let is : renumber_gate (circuit_wire l) h ≡ u.gate = same_gate (slice_get n.gates k) _ u.gate (ap (slice_get n.gates) (sym same) ∙ are.used place h at) u.numbered in
+    let is : renumber_gate (circuit_wire l) h ≡ u.gate =
+    same_gate (slice_get n.gates k) _ u.gate (ap (slice_get n.gates) (sym same) ∙ are.used place h at) u.numbered in
     record {
       gate = h;
       numbered = at;
       values = seen_by l u.values;
       given = λ i lt. sym (bits i lt);
       before = λ m f lt there. row_seen (circuit_wire l) u.values f
-          (u.before (circuit_gate l m) _ (subst (λ b. circuit_gate l m < b) same (are.rising m place lt below)) (are.used m f there));
-      none = ap (row h.kind) (sym (map-map u.values (circuit_wire l) h.ins)) ∙ ap (λ (g : Gate). row g.kind (map u.values g.ins)) is ∙ u.none;
+          (u.before (circuit_gate l m) _ (subst (λ b. circuit_gate l m < b) same (are.rising m place lt below))
+          (are.used m f there));
+      none = ap (row h.kind) (sym (map-map u.values (circuit_wire l) h.ins))
+          ∙ ap (λ (g : Gate). row g.kind (map u.values g.ins)) is ∙ u.none;
     }

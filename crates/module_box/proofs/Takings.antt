@@ -1,5 +1,6 @@
 -- Boxes that take the places of their blocks, row by row
-use Rattle.std.proofs.Common.{◌≡◌, ℕ, ◌+◌, ◌-◌, ◌*◌, ◌/◌, ◌%◌, ◌<◌, ◌≤◌, min, List, length, refl, sym, ap, subst, ◌∙◌, inl, inr, ◌⊎◌, arith}
+use Rattle.std.proofs.Common.{◌≡◌, ℕ, ◌+◌, ◌-◌, ◌*◌, ◌/◌, ◌%◌, ◌<◌, ◌≤◌, min, List, length, refl, sym, ap, subst, ◌∙◌}
+use Rattle.std.proofs.Common.{inl, inr, ◌⊎◌, arith}
 use Rattle.std.specs.Prelude.{slice_index}
 use Rattle.std.proofs.lemmas.Nat.{mod-mul-add, div-mul-add, div-add-mod'}
 use Rattle.std.proofs.lemmas.Bool.{and_from, and_parts}
@@ -27,7 +28,12 @@ among_from b columns k even h =
     let p = and_parts (in_span b.x b.w (corner_x columns k)) (in_span b.y b.h (corner_y columns k)) h in
     let x = span_parts b.x b.w (2 * (k % columns)) p.0 in
     let y = span_parts b.y b.h (2 * (k / columns)) p.1 in
-    record { top = omega (arith, y.0, y.1, even.y, even.h); bottom = omega (arith, y.0, y.1, even.y, even.h); left = omega (arith, x.0, x.1, even.x, even.w); right = omega (arith, x.0, x.1, even.x, even.w) }
+    record {
+      top = omega (arith, y.0, y.1, even.y, even.h);
+      bottom = omega (arith, y.0, y.1, even.y, even.h);
+      left = omega (arith, x.0, x.1, even.x, even.w);
+      right = omega (arith, x.0, x.1, even.x, even.w);
+    }
 
 block_from : (b : Box2) (columns k : ℕ) → IsEven b → IsAmong b (k / columns) (k % columns) → HasBlock b columns k
 unfolding in_box
@@ -52,14 +58,16 @@ in_row columns row k p q =
 -- of the places before `upto`, those of the box's blocks were free and have the number now; all others are as before
 pub record TakesRows (columns : ℕ) (b : Box2) (free number upto : ℕ) (old new : List ℕ) : Type 0 where
   pub sized : length new ≡ length old
-  pub taken : (k : ℕ) → k < length old → k < upto → HasBlock b columns k → (slice_index old k ≡ free) × (slice_index new k ≡ number)
+  pub taken : (k : ℕ) → k < length old → k < upto → HasBlock b columns k →
+      (slice_index old k ≡ free) × (slice_index new k ≡ number)
   pub others : (k : ℕ) → k < length old → k < upto → ¬ HasBlock b columns k → slice_index new k ≡ slice_index old k
   pub after : (k : ℕ) → upto ≤ k → slice_index new k ≡ slice_index old k
 
 row_of : (columns row k : ℕ) → 0 < columns → k < row * columns → k / columns < row
 row_of columns row k some p = elim (below_or_from (k / columns) row) [
   | inl l ↦ l
-  | inr g ↦ absurd (let m : row * columns ≤ k / columns * columns = mul-le-mul_right columns g in let e = div-add-mod' k columns in omega (arith, m, e, p))
+  | inr g ↦ absurd (let m : row * columns ≤ k / columns * columns = mul-le-mul_right columns g in let e =
+      div-add-mod' k columns in omega (arith, m, e, p))
 ]
 
 row_from : (columns row k : ℕ) → 0 < columns → row * columns ≤ k → row ≤ k / columns
@@ -72,16 +80,19 @@ row_from columns row k some p = elim (below_or_from (k / columns) row) [
   | inr g ↦ g
 ]
 
-pub rows_begun : (columns : ℕ) (b : Box2) (free number : ℕ) (xs : List ℕ) → IsEven b → FitsTable columns b → TakesRows columns b free number (b.y / 2 * columns) xs xs
+pub rows_begun : (columns : ℕ) (b : Box2) (free number : ℕ) (xs : List ℕ) → IsEven b → FitsTable columns b →
+    TakesRows columns b free number (b.y / 2 * columns) xs xs
 rows_begun columns b free number xs even fits = record {
   sized = refl;
-  taken = λ k l p h. absurd (let a = among_from b columns k even h in let r = row_of columns (b.y / 2) k fits.some p in omega (arith, a.top, r));
+  taken = λ k l p h. absurd (let a = among_from b columns k even h in let r = row_of columns (b.y / 2) k fits.some p in
+      omega (arith, a.top, r));
   others = λ k l p h. refl;
   after = λ k p. refl;
 }
 
 -- no block of the box has a place from `upto` on
-rows_done : (columns : ℕ) (b : Box2) (free number upto : ℕ) (old new : List ℕ) → TakesRows columns b free number upto old new → ((k : ℕ) → upto ≤ k → k < length old → ¬ HasBlock b columns k) →
+rows_done : (columns : ℕ) (b : Box2) (free number upto : ℕ) (old new : List ℕ) →
+    TakesRows columns b free number upto old new → ((k : ℕ) → upto ≤ k → k < length old → ¬ HasBlock b columns k) →
     TakesBox columns b free number (length old) old new
 rows_done columns b free number upto old new t past = record {
   sized = t.sized;
@@ -98,14 +109,17 @@ rows_done columns b free number upto old new t past = record {
 }
 
 -- all rows of the box were taken
-pub rows_all : (columns : ℕ) (b : Box2) (free number row : ℕ) (old new : List ℕ) → IsEven b → FitsTable columns b → b.y / 2 + b.h / 2 ≤ row →
+pub rows_all : (columns : ℕ) (b : Box2) (free number row : ℕ) (old new : List ℕ) → IsEven b → FitsTable columns b →
+    b.y / 2 + b.h / 2 ≤ row →
     TakesRows columns b free number (row * columns) old new → TakesBox columns b free number (length old) old new
 rows_all columns b free number row old new even fits le t =
     rows_done columns b free number (row * columns) old new t
-    (λ k p l h. let a = among_from b columns k even h in let r = row_from columns row k fits.some p in omega (arith, a.bottom, r, le))
+    (λ k p l h. let a = among_from b columns k even h in let r = row_from columns row k fits.some p in
+    omega (arith, a.bottom, r, le))
 
 -- the table ends before the box's blocks of a row
-pub rows_cut : (columns : ℕ) (b : Box2) (free number row : ℕ) (old new : List ℕ) → IsEven b → FitsTable columns b → length new ≤ row * columns + b.x / 2 →
+pub rows_cut : (columns : ℕ) (b : Box2) (free number row : ℕ) (old new : List ℕ) → IsEven b → FitsTable columns b →
+    length new ≤ row * columns + b.x / 2 →
     TakesRows columns b free number (row * columns) old new → TakesBox columns b free number (length old) old new
 rows_cut columns b free number row old new even fits le t =
     rows_done columns b free number (row * columns) old new t
@@ -124,10 +138,12 @@ record IsRowTaken (columns : ℕ) (b : Box2) (free number row stop : ℕ) (old m
   pub rows : TakesRows columns b free number (row * columns) old mid
   pub past_left : row * columns + b.x / 2 ≤ stop
   pub to_right : stop ≤ row * columns + b.x / 2 + b.w / 2
-  pub taken : (k : ℕ) → row * columns + b.x / 2 ≤ k → k < stop → (slice_index mid k ≡ free) × (slice_index new k ≡ number)
+  pub taken : (k : ℕ) → row * columns + b.x / 2 ≤ k → k < stop →
+      (slice_index mid k ≡ free) × (slice_index new k ≡ number)
   pub before : (k : ℕ) → k < row * columns + b.x / 2 → slice_index new k ≡ slice_index mid k
 
-in_its_row : (columns : ℕ) (b : Box2) (free number row stop k : ℕ) (old mid new : List ℕ) → IsRowTaken columns b free number row stop old mid new → row * columns + b.x / 2 ≤ k →
+in_its_row : (columns : ℕ) (b : Box2) (free number row stop k : ℕ) (old mid new : List ℕ) →
+    IsRowTaken columns b free number row stop old mid new → row * columns + b.x / 2 ≤ k →
     k < row * columns + b.x / 2 + b.w / 2 → HasBlock b columns k
 in_its_row columns b free number row stop k old mid new t p q =
     let r = in_row columns row k (omega arith) (let s = t.fits.right in omega (arith, s, p, q)) in
@@ -135,9 +151,15 @@ in_its_row columns b free number row stop k old mid new t p q =
     let c = r.column in
     let top = t.top in
     let bottom = t.bottom in
-    block_from b columns k t.even (record { top = omega (arith, e, top); bottom = omega (arith, e, bottom); left = omega (arith, c, p); right = omega (arith, c, q) })
+    block_from b columns k t.even (record {
+      top = omega (arith, e, top);
+      bottom = omega (arith, e, bottom);
+      left = omega (arith, c, p);
+      right = omega (arith, c, q);
+    })
 
-taken_before : (columns : ℕ) (b : Box2) (free number row stop k : ℕ) (old mid new : List ℕ) → IsRowTaken columns b free number row stop old mid new → k < length old → k < stop → HasBlock b columns k →
+taken_before : (columns : ℕ) (b : Box2) (free number row stop k : ℕ) (old mid new : List ℕ) →
+    IsRowTaken columns b free number row stop old mid new → k < length old → k < stop → HasBlock b columns k →
     (slice_index old k ≡ free) × (slice_index new k ≡ number)
 taken_before columns b free number row stop k old mid new t within lt h = elim (below_or_from k (row * columns)) [
   | inl p ↦ (let g = t.rows.taken k within p h in (g.0, t.before k (omega arith) ∙ g.1))
@@ -150,18 +172,22 @@ taken_before columns b free number row stop k old mid new t within lt h = elim (
       (sym (t.rows.after k p) ∙ g.0, g.1))
 ]
 
-same_before : (columns : ℕ) (b : Box2) (free number row stop k : ℕ) (old mid new : List ℕ) → IsRowTaken columns b free number row stop old mid new → k < length old → k < stop → ¬ HasBlock b columns k →
+same_before : (columns : ℕ) (b : Box2) (free number row stop k : ℕ) (old mid new : List ℕ) →
+    IsRowTaken columns b free number row stop old mid new → k < length old → k < stop → ¬ HasBlock b columns k →
     slice_index new k ≡ slice_index old k
 same_before columns b free number row stop k old mid new t within lt h = elim (below_or_from k (row * columns)) [
   | inl p ↦ t.before k (omega arith) ∙ t.rows.others k within p h
   | inr p ↦ elim (below_or_from k (row * columns + b.x / 2)) [
     | inl q ↦ t.before k q ∙ t.rows.after k p
-    | inr q ↦ absurd (h (in_its_row columns b free number row stop k old mid new t q (let right = t.to_right in omega (arith, right, lt))))
+    | inr q ↦ absurd (h (in_its_row columns b free number row stop k old mid new t q
+        (let right = t.to_right in omega (arith, right, lt))))
   ]
 ]
 
-row_taken : (columns : ℕ) (b : Box2) (free number row end stop : ℕ) (old mid new : List ℕ) → IsEven b → FitsTable columns b → b.y / 2 ≤ row → row < b.y / 2 + b.h / 2 →
-    TakesRows columns b free number (row * columns) old mid → end ≤ row * columns + b.x / 2 + b.w / 2 → TakesRow free number (row * columns + b.x / 2) end stop mid new →
+row_taken : (columns : ℕ) (b : Box2) (free number row end stop : ℕ) (old mid new : List ℕ) → IsEven b →
+    FitsTable columns b → b.y / 2 ≤ row → row < b.y / 2 + b.h / 2 →
+    TakesRows columns b free number (row * columns) old mid → end ≤ row * columns + b.x / 2 + b.w / 2 →
+    TakesRow free number (row * columns + b.x / 2) end stop mid new →
     IsRowTaken columns b free number row stop old mid new
 row_taken columns b free number row end stop old mid new even fits top bottom rows le r = record {
   even = even;
@@ -176,8 +202,10 @@ row_taken columns b free number row end stop old mid new even fits top bottom ro
 }
 
 -- the row ends at a place that is not free
-pub row_stops : (columns : ℕ) (b : Box2) (free number row end stop : ℕ) (old mid new : List ℕ) → IsEven b → FitsTable columns b → b.y / 2 ≤ row → row < b.y / 2 + b.h / 2 →
-    TakesRows columns b free number (row * columns) old mid → end ≤ row * columns + b.x / 2 + b.w / 2 → end ≤ length mid → TakesRow free number (row * columns + b.x / 2) end stop mid new →
+pub row_stops : (columns : ℕ) (b : Box2) (free number row end stop : ℕ) (old mid new : List ℕ) → IsEven b →
+    FitsTable columns b → b.y / 2 ≤ row → row < b.y / 2 + b.h / 2 →
+    TakesRows columns b free number (row * columns) old mid → end ≤ row * columns + b.x / 2 + b.w / 2 →
+    end ≤ length mid → TakesRow free number (row * columns + b.x / 2) end stop mid new →
     stop < end → TakesBox columns b free number stop old new
 row_stops columns b free number row end stop old mid new even fits top bottom rows le within r lt =
     let t = row_taken columns b free number row end stop old mid new even fits top bottom rows le r in
@@ -185,8 +213,10 @@ row_stops columns b free number row end stop old mid new even fits top bottom ro
     record {
       sized = r.sized ∙ long;
       within = omega (arith, long, within, lt);
-      taken = λ k p h. taken_before columns b free number row stop k old mid new t (omega (arith, long, within, lt, p)) p h;
-      others = λ k p h. same_before columns b free number row stop k old mid new t (omega (arith, long, within, lt, p)) p h;
+      taken = λ k p h. taken_before columns b free number row stop k old mid new t
+          (omega (arith, long, within, lt, p)) p h;
+      others = λ k p h. same_before columns b free number row stop k old mid new t
+          (omega (arith, long, within, lt, p)) p h;
       ends = λ p. (
         in_its_row columns b free number row stop stop old mid new t r.from_on (omega (arith, lt, le)),
         λ e. r.ends lt (rows.after stop (let f = r.from_on in omega (arith, f)) ∙ e),
@@ -194,8 +224,11 @@ row_stops columns b free number row end stop old mid new even fits top bottom ro
     }
 
 -- the whole row is taken, as far as the table goes
-pub row_goes_on : (columns : ℕ) (b : Box2) (free number row end stop : ℕ) (old mid new : List ℕ) → IsEven b → FitsTable columns b → b.y / 2 ≤ row → row < b.y / 2 + b.h / 2 →
-    TakesRows columns b free number (row * columns) old mid → end ≡ min (row * columns + b.x / 2 + b.w / 2) (length mid) → TakesRow free number (row * columns + b.x / 2) end stop mid new →
+pub row_goes_on : (columns : ℕ) (b : Box2) (free number row end stop : ℕ) (old mid new : List ℕ) → IsEven b →
+    FitsTable columns b → b.y / 2 ≤ row → row < b.y / 2 + b.h / 2 →
+    TakesRows columns b free number (row * columns) old mid →
+    end ≡ min (row * columns + b.x / 2 + b.w / 2) (length mid) →
+    TakesRow free number (row * columns + b.x / 2) end stop mid new →
     end ≤ stop → TakesRows columns b free number ((row + 1) * columns) old new
 row_goes_on columns b free number row end stop old mid new even fits top bottom rows is r ge =
     let le : end ≤ row * columns + b.x / 2 + b.w / 2 = omega (arith, is) in
@@ -217,5 +250,6 @@ row_goes_on columns b free number row end stop old mid new even fits top bottom 
         | inl q ↦ same_before columns b free number row stop k old mid new t within q h
         | inr q ↦ r.after k q ∙ rows.after k (let f = r.from_on in omega (arith, f, q))
       ];
-      after = λ k p. r.after k (let w = r.within in omega (arith, w, le, next, p, right)) ∙ rows.after k (omega (arith, next, p));
+      after = λ k p. r.after k (let w = r.within in omega (arith, w, le, next, p, right))
+          ∙ rows.after k (omega (arith, next, p));
     }

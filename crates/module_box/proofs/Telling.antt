@@ -1,5 +1,6 @@
 -- Lists of numbers that tell what they were made of
-use Rattle.std.proofs.Common.{◌≡◌, ℕ, zero, suc, ◌+◌, List, [], ◌∷◌, ◌++◌, true, false, length, get_or, nat_eq, refl, sym, ap, ap₂, ◌∙◌, arith}
+use Rattle.std.proofs.Common.{◌≡◌, ℕ, zero, suc, ◌+◌, List, [], ◌∷◌, ◌++◌, true, false, length, get_or, nat_eq, refl}
+use Rattle.std.proofs.Common.{sym, ap, ap₂, ◌∙◌, arith}
 use Rattle.std.specs.List.{flat_map, range_with_len}
 use Rattle.std.proofs.lemmas.List.{append_assoc}
 use Rattle.circuit.specs.Gates.{Rule, Source, Fredkin, Cswap, Interact, Switch, Delay, Unswitch, Uninteract}
@@ -33,27 +34,32 @@ abbrev pub listed : List ℕ → List ℕ
 listed xs = length xs ∷ xs
 
 pub lists_tell : AreTelling listed
-lists_tell xs ys r s e = same_length xs ys r s (same_head (length xs) (length ys) (xs ++ r) (ys ++ s) e) (same_tail (length xs) (length ys) (xs ++ r) (ys ++ s) e)
+lists_tell xs ys r s e = same_length xs ys r s (same_head (length xs) (length ys) (xs ++ r) (ys ++ s) e)
+    (same_tail (length xs) (length ys) (xs ++ r) (ys ++ s) e)
 
-all_tell : {A : Type 0} (f : A → List ℕ) → AreTelling f → (xs ys : List A) (r s : List ℕ) → length xs ≡ length ys → flat_map f xs ++ r ≡ flat_map f ys ++ s → (xs ≡ ys) × (r ≡ s)
+all_tell : {A : Type 0} (f : A → List ℕ) → AreTelling f → (xs ys : List A) (r s : List ℕ) → length xs ≡ length ys →
+    flat_map f xs ++ r ≡ flat_map f ys ++ s → (xs ≡ ys) × (r ≡ s)
 all_tell f tell [] [] r s n e = (refl, e)
 all_tell f tell [] (y ∷ ys) r s n e = absurd (omega (arith, n))
 all_tell f tell (x ∷ xs) [] r s n e = absurd (omega (arith, n))
 all_tell f tell (x ∷ xs) (y ∷ ys) r s n e =
-    let first = tell x y (flat_map f xs ++ r) (flat_map f ys ++ s) (sym (append_assoc (f x) (flat_map f xs) r) ∙ e ∙ append_assoc (f y) (flat_map f ys) s) in
+    let first = tell x y (flat_map f xs ++ r) (flat_map f ys ++ s)
+    (sym (append_assoc (f x) (flat_map f xs) r) ∙ e ∙ append_assoc (f y) (flat_map f ys) s) in
     let rest = all_tell f tell xs ys r s (omega (arith, n)) first.1 in
     (ap₂ (λ z zs. z ∷ zs) first.0 rest.0, rest.1)
 
 pub counted_tell : {A : Type 0} (f : A → List ℕ) → AreTelling f → AreTelling (counted f)
 counted_tell f tell xs ys r s e =
-    all_tell f tell xs ys r s (same_head (length xs) (length ys) (flat_map f xs ++ r) (flat_map f ys ++ s) e) (same_tail (length xs) (length ys) (flat_map f xs ++ r) (flat_map f ys ++ s) e)
+    all_tell f tell xs ys r s (same_head (length xs) (length ys) (flat_map f xs ++ r) (flat_map f ys ++ s) e)
+    (same_tail (length xs) (length ys) (flat_map f xs ++ r) (flat_map f ys ++ s) e)
 
 pub number_tells : AreTelling (λ (n : ℕ). n ∷ [])
 number_tells n m r s e = (same_head n m r s e, same_tail n m r s e)
 
 -- ---- gates
 rule_from : ℕ → ℕ → Rule
-rule_from place detail = get_or (Source (nat_eq detail 1) ∷ Fredkin ∷ Cswap ∷ Interact ∷ Switch ∷ Delay detail ∷ Unswitch ∷ []) place Uninteract
+rule_from place detail = get_or
+    (Source (nat_eq detail 1) ∷ Fredkin ∷ Cswap ∷ Interact ∷ Switch ∷ Delay detail ∷ Unswitch ∷ []) place Uninteract
 
 rule_back : (r : Rule) → rule_from (rule_place r) (rule_detail r) ≡ r
 unfolding rule_from
@@ -70,13 +76,17 @@ rule_back Uninteract = refl
 rules_tell : AreTelling (λ (r : Rule). rule_place r ∷ rule_detail r ∷ [])
 rules_tell a b r s e =
     let place = same_head (rule_place a) (rule_place b) (rule_detail a ∷ r) (rule_detail b ∷ s) e in
-    let rest = same_tail (rule_place a) (rule_place b) (rule_detail a ∷ r) (rule_detail b ∷ s) e in
-    (sym (rule_back a) ∙ ap₂ rule_from place (same_head (rule_detail a) (rule_detail b) r s rest) ∙ rule_back b, same_tail (rule_detail a) (rule_detail b) r s rest)
+    let rest = same_tail (rule_place a) (rule_place b) (rule_detail a ∷ r) (rule_detail b ∷ s) e in (
+      sym (rule_back a) ∙ ap₂ rule_from place (same_head (rule_detail a) (rule_detail b) r s rest) ∙ rule_back b,
+      same_tail (rule_detail a) (rule_detail b) r s rest,
+    )
 
 gates_tell : AreTelling gate_numbers
 gates_tell g h r s e =
-    let kinds = rules_tell g.kind h.kind ((listed g.ins ++ listed g.outs) ++ r) ((listed h.ins ++ listed h.outs) ++ s) e in
-    let ins = lists_tell g.ins h.ins (listed g.outs ++ r) (listed h.outs ++ s) (sym (append_assoc (listed g.ins) (listed g.outs) r) ∙ kinds.1 ∙ append_assoc (listed h.ins) (listed h.outs) s) in
+    let kinds = rules_tell g.kind h.kind ((listed g.ins ++ listed g.outs) ++ r)
+    ((listed h.ins ++ listed h.outs) ++ s) e in
+    let ins = lists_tell g.ins h.ins (listed g.outs ++ r) (listed h.outs ++ s)
+    (sym (append_assoc (listed g.ins) (listed g.outs) r) ∙ kinds.1 ∙ append_assoc (listed h.ins) (listed h.outs) s) in
     let outs = lists_tell g.outs h.outs r s ins.1 in
     (λ i. record { kind = kinds.0 i; ins = ins.0 i; outs = outs.0 i }, outs.1)
 
@@ -84,5 +94,6 @@ pub netlists_tell : NumbersTellGates
 unfolding netlist_numbers
 netlists_tell n m r s e =
     let given = same_head n.given m.given (counted gate_numbers n.gates ++ r) (counted gate_numbers m.gates ++ s) e in
-    let gates = counted_tell gate_numbers gates_tell n.gates m.gates r s (same_tail n.given m.given (counted gate_numbers n.gates ++ r) (counted gate_numbers m.gates ++ s) e) in
+    let gates = counted_tell gate_numbers gates_tell n.gates m.gates r s
+    (same_tail n.given m.given (counted gate_numbers n.gates ++ r) (counted gate_numbers m.gates ++ s) e) in
     (λ i. record { given = given i; gates = gates.0 i }, gates.1)

@@ -1,5 +1,8 @@
 -- The words of a gate's wires: at each bit they are the gate's row
-use Rattle.std.proofs.Common.{◌≡◌, ℕ, ◌+◌, ◌<◌, ◌≤◌, Bool, true, false, ◌&&◌, ◌||◌, not, cond, List, [], ◌∷◌, ◌++◌, map, take, drop, get_or, length, Option, Some, None, refl, sym, ap, ap₂, subst, ◌∙◌, arith, inl, inr, bit_and, bit_or, add-one, drop-cons, drop_of_length-le, length-append, get_or-append-add}
+use Rattle.std.proofs.Common.{◌≡◌, ℕ, ◌+◌, ◌<◌, ◌≤◌, Bool, true, false, ◌&&◌, ◌||◌, not, cond, List, [], ◌∷◌, ◌++◌, map}
+use Rattle.std.proofs.Common.{take, drop, get_or, length, Option, Some, None, refl, sym, ap, ap₂, subst, ◌∙◌, arith}
+use Rattle.std.proofs.Common.{inl, inr, bit_and, bit_or, add-one, drop-cons, drop_of_length-le, length-append}
+use Rattle.std.proofs.Common.{get_or-append-add}
 use Rattle.std.specs.Prelude.{bit_xor, slice_index, slice_index_or, option_and_then, option_map}
 use Rattle.std.proofs.Math.ListN as listn
 use Rattle.std.proofs.lemmas.Bool.{cases_lt, true≢false, eq-eqb, ne_eqb}
@@ -7,7 +10,8 @@ use Rattle.std.proofs.lemmas.List.{map-append, length-map, get_or_append_left}
 use Rattle.bbm_rule.specs.Bits.{bit}
 use Rattle.bbm_rule.proofs.BitLemmas.{bit-and, bit-or, bit-xor, bit-zero, xor}
 use Rattle.circuit.specs.declared.entry.GateKind.{GateKind}
-use Rattle.circuit.specs.declared.entry.GateKind.TheVariants.{Source, Fredkin, Cswap, Interact, Switch, Delay, Unswitch, Uninteract}
+use Rattle.circuit.specs.declared.entry.GateKind.TheVariants.{Source, Fredkin, Cswap, Interact, Switch, Delay, Unswitch}
+use Rattle.circuit.specs.declared.entry.GateKind.TheVariants.{Uninteract}
 use Rattle.circuit.specs.Gates.{row, rule_of, uses, defines}
 use Rattle.circuit.specs.Gates.{Unswitch as Unswitched, Uninteract as Uninteracted}
 use Rattle.circuit.specs.Meaning.{Gate, wires_after}
@@ -15,7 +19,8 @@ use Rattle.circuit.specs.Bridge.{read}
 use Rattle.circuit.specs.Evaluate.{evaluate, first_undefined, undefined_or}
 use Rattle.module_box.specs.declared.locals.LocalGate.{LocalGate}
 use Rattle.module_box.specs.LocalGates.{kept_gate}
-use Rattle.module_box.specs.LocalValues.{lane, word_row, no_row, row_unless, wire_word, AddsRow, SaysColumn, is_none, is_gate}
+use Rattle.module_box.specs.LocalValues.{lane, word_row, no_row, row_unless, wire_word, AddsRow, SaysColumn, is_none}
+use Rattle.module_box.specs.LocalValues.{is_gate}
 use Rattle.module_box.proofs.CutWords.{bit_ones}
 
 -- which of two
@@ -52,10 +57,12 @@ first_only false true = refl
 first_only false false = refl
 
 first_bit : (a x y b : ℕ) → bit (bit_xor y (bit_and a (bit_xor x y))) b ≡ cond (bit a b) (bit x b) (bit y b)
-first_bit a x y b = rw (bit-xor y (bit_and a (bit_xor x y)) b, bit-and a (bit_xor x y) b, bit-xor x y b) (pick_first (bit a b) (bit x b) (bit y b))
+first_bit a x y b = rw (bit-xor y (bit_and a (bit_xor x y)) b, bit-and a (bit_xor x y) b, bit-xor x y b)
+    (pick_first (bit a b) (bit x b) (bit y b))
 
 second_bit : (a x y b : ℕ) → bit (bit_xor x (bit_and a (bit_xor x y))) b ≡ cond (bit a b) (bit y b) (bit x b)
-second_bit a x y b = rw (bit-xor x (bit_and a (bit_xor x y)) b, bit-and a (bit_xor x y) b, bit-xor x y b) (pick_second (bit a b) (bit x b) (bit y b))
+second_bit a x y b = rw (bit-xor x (bit_and a (bit_xor x y)) b, bit-and a (bit_xor x y) b, bit-xor x y b)
+    (pick_second (bit a b) (bit x b) (bit y b))
 
 second_only_bit : (x y b : ℕ) → bit (bit_xor y (bit_and x y)) b ≡ (not (bit x b) && bit y b)
 second_only_bit x y b = rw (bit-xor y (bit_and x y) b, bit-and x y b) (second_only (bit x b) (bit y b))
@@ -78,7 +85,9 @@ unswitch_bits false true false = refl
 unswitch_bits false false true = refl
 unswitch_bits false false false = refl
 
-uninteract_bits : (a b c d : Bool) → row Uninteracted (a ∷ b ∷ c ∷ d ∷ []) ≡ row_unless (xor a d || ((a && (b || c)) || (b && c))) ((a || c) ∷ (a || b) ∷ [])
+uninteract_bits : (a b c d : Bool) →
+    row Uninteracted (a ∷ b ∷ c ∷ d ∷ [])
+    ≡ row_unless (xor a d || ((a && (b || c)) || (b && c))) ((a || c) ∷ (a || b) ∷ [])
 unfolding row
 uninteract_bits false false false false = refl
 uninteract_bits false true false false = refl
@@ -98,26 +107,38 @@ uninteract_bits false false true true = refl
 uninteract_bits false false false true = refl
 
 words_row : (kind : GateKind) (a x y z b : ℕ) → b < 64 →
-    row (rule_of kind) (take (uses (rule_of kind)) (bit a b ∷ bit x b ∷ bit y b ∷ bit z b ∷ [])) ≡ row_unless (bit (no_row kind a x y z) b) (lane b (word_row kind a x y z))
+    row (rule_of kind) (take (uses (rule_of kind)) (bit a b ∷ bit x b ∷ bit y b ∷ bit z b ∷ []))
+    ≡ row_unless (bit (no_row kind a x y z) b) (lane b (word_row kind a x y z))
 unfolding row
 words_row (Source true) a x y z b h = forward _ _ b (ap (λ (v : Bool). Some (v ∷ [])) (sym (bit_ones b h)))
 words_row (Source false) a x y z b h = forward _ _ b (ap (λ (v : Bool). Some (v ∷ [])) (sym (bit-zero b)))
-words_row Fredkin a x y z b h = forward _ _ b (ap₂ (λ (u v : Bool). Some (bit a b ∷ u ∷ v ∷ [])) (sym (first_bit a x y b)) (sym (second_bit a x y b)))
-words_row Cswap a x y z b h = forward _ _ b (ap₂ (λ (u v : Bool). Some (bit a b ∷ u ∷ v ∷ [])) (sym (second_bit a x y b)) (sym (first_bit a x y b)))
+words_row Fredkin a x y z b h =
+    forward _ _ b (ap₂ (λ (u v : Bool). Some (bit a b ∷ u ∷ v ∷ [])) (sym (first_bit a x y b))
+    (sym (second_bit a x y b)))
+words_row Cswap a x y z b h =
+    forward _ _ b (ap₂ (λ (u v : Bool). Some (bit a b ∷ u ∷ v ∷ [])) (sym (second_bit a x y b))
+    (sym (first_bit a x y b)))
 words_row Interact a x y z b h = forward _ _ b (rw (second_only_bit a x b, first_only_bit a x b, bit-and a x b) refl)
-words_row Switch a x y z b h = forward _ _ b (ap₂ (λ (u v : Bool). Some (bit a b ∷ u ∷ v ∷ [])) (sym (bit-and a x b)) (sym (second_only_bit a x b)))
+words_row Switch a x y z b h =
+    forward _ _ b (ap₂ (λ (u v : Bool). Some (bit a b ∷ u ∷ v ∷ [])) (sym (bit-and a x b))
+    (sym (second_only_bit a x b)))
 words_row (Delay n) a x y z b h = forward _ _ b refl
 words_row Unswitch a x y z b h =
-    unswitch_bits (bit a b) (bit x b) (bit y b) ∙ ap₂ (λ (u v : Bool). row_unless u (bit a b ∷ v ∷ [])) (sym (second_bit a x y b)) (sym (bit-or x y b))
+    unswitch_bits (bit a b) (bit x b) (bit y b)
+    ∙ ap₂ (λ (u v : Bool). row_unless u (bit a b ∷ v ∷ [])) (sym (second_bit a x y b)) (sym (bit-or x y b))
 words_row Uninteract a x y z b h =
     uninteract_bits (bit a b) (bit x b) (bit y b) (bit z b)
-    ∙ ap₂ (λ (u : Bool) (l : List Bool). row_unless u l) (sym none) (ap₂ (λ (u v : Bool). u ∷ v ∷ []) (sym (bit-or a y b)) (sym (bit-or a x b)))
+    ∙ ap₂ (λ (u : Bool) (l : List Bool). row_unless u l) (sym none)
+    (ap₂ (λ (u v : Bool). u ∷ v ∷ []) (sym (bit-or a y b)) (sym (bit-or a x b)))
   where
-    none : bit (no_row Uninteract a x y z) b ≡ (xor (bit a b) (bit z b) || ((bit a b && (bit x b || bit y b)) || (bit x b && bit y b)))
+    none : bit (no_row Uninteract a x y z) b
+        ≡ (xor (bit a b) (bit z b) || ((bit a b && (bit x b || bit y b)) || (bit x b && bit y b)))
     none =
         bit-or (bit_xor a z) (bit_or (bit_and a (bit_or x y)) (bit_and x y)) b
         ∙ ap₂ (λ (u v : Bool). u || v) (bit-xor a z b)
-        (bit-or (bit_and a (bit_or x y)) (bit_and x y) b ∙ ap₂ (λ (u v : Bool). u || v) (bit-and a (bit_or x y) b ∙ ap (λ (u : Bool). bit a b && u) (bit-or x y b)) (bit-and x y b))
+        (bit-or (bit_and a (bit_or x y)) (bit_and x y) b
+        ∙ ap₂ (λ (u v : Bool). u || v) (bit-and a (bit_or x y) b ∙ ap (λ (u : Bool). bit a b && u) (bit-or x y b))
+        (bit-and x y b))
 
 -- reading a lane
 pub read_lane : (ws : List ℕ) (b w : ℕ) → read (lane b ws) w ≡ bit (slice_index_or ws w 0) b
@@ -125,7 +146,9 @@ read_lane ws b w = ap (λ (d : Bool). get_or (lane b ws) w d) (sym (bit-zero b))
 
 -- ---- one gate
 front_ins : (kind : GateKind) (f : ℕ → Bool) (ins : List ℕ) → length ins ≡ 4 →
-    map f (take (uses (rule_of kind)) ins) ≡ take (uses (rule_of kind)) (f (get_or ins 0 0) ∷ f (get_or ins 1 0) ∷ f (get_or ins 2 0) ∷ f (get_or ins 3 0) ∷ [])
+    map f (take (uses (rule_of kind)) ins)
+    ≡ take (uses (rule_of kind)) (f (get_or ins 0 0) ∷ f (get_or ins 1 0) ∷ f (get_or ins 2 0) ∷ f (get_or ins 3 0)
+    ∷ [])
 front_ins kind f [] e = absurd (omega arith)
 front_ins kind f (a ∷ []) e = absurd (omega arith)
 front_ins kind f (a ∷ b ∷ []) e = absurd (omega arith)
@@ -147,10 +170,13 @@ abbrev none_of : GateKind → List ℕ → List ℕ → ℕ
 none_of kind ws ins = no_row kind (wire_word ws ins 0) (wire_word ws ins 1) (wire_word ws ins 2) (wire_word ws ins 3)
 
 lane_row : (kind : GateKind) (ins ws : List ℕ) (b : ℕ) → b < 64 → length ins ≡ 4 →
-    row (rule_of kind) (map (read (lane b ws)) (take (uses (rule_of kind)) ins)) ≡ row_unless (bit (none_of kind ws ins) b) (lane b (outs_of kind ws ins))
+    row (rule_of kind) (map (read (lane b ws)) (take (uses (rule_of kind)) ins))
+    ≡ row_unless (bit (none_of kind ws ins) b) (lane b (outs_of kind ws ins))
 lane_row kind ins ws b h e =
     ap (row (rule_of kind)) (front_ins kind (read (lane b ws)) ins e
-    ∙ ap (take (uses (rule_of kind))) (ap₂ (λ (p : Bool) (l : List Bool). p ∷ l) (read_lane ws b (get_or ins 0 0)) (ap₂ (λ (p : Bool) (l : List Bool). p ∷ l) (read_lane ws b (get_or ins 1 0))
+    ∙ ap (take (uses (rule_of kind)))
+    (ap₂ (λ (p : Bool) (l : List Bool). p ∷ l) (read_lane ws b (get_or ins 0 0))
+    (ap₂ (λ (p : Bool) (l : List Bool). p ∷ l) (read_lane ws b (get_or ins 1 0))
     (ap₂ (λ (q r : Bool). q ∷ r ∷ []) (read_lane ws b (get_or ins 2 0)) (read_lane ws b (get_or ins 3 0))))))
     ∙ words_row kind (wire_word ws ins 0) (wire_word ws ins 1) (wire_word ws ins 2) (wire_word ws ins 3) b h
 
@@ -165,12 +191,14 @@ many_outs (Delay n) a x y z = refl
 many_outs Unswitch a x y z = refl
 many_outs Uninteract a x y z = refl
 
-pub gate_done : (ws new : List ℕ) (g : LocalGate) (none : ℕ) → length g.ins ≡ 4 → new ≡ ws ++ outs_of g.kind ws g.ins → none ≡ none_of g.kind ws g.ins → AddsRow (kept_gate g) ws new none
+pub gate_done : (ws new : List ℕ) (g : LocalGate) (none : ℕ) → length g.ins ≡ 4 → new ≡ ws ++ outs_of g.kind ws g.ins →
+    none ≡ none_of g.kind ws g.ins → AddsRow (kept_gate g) ws new none
 unfolding evaluate
 gate_done ws new g none long more is = record {
   long = ap length more ∙ length-append ws outs ∙ ap (λ n. length ws + n) (many_outs g.kind _ _ _ _);
   has = λ b small e.
-      ap (option_and_then (λ (r : List Bool). Some (lane b ws ++ r))) (at b small ∙ ap (λ (v : Bool). row_unless v (lane b outs)) e)
+      ap (option_and_then (λ (r : List Bool). Some (lane b ws ++ r)))
+      (at b small ∙ ap (λ (v : Bool). row_unless v (lane b outs)) e)
       ∙ ap Some (sym (ap (lane b) more ∙ map-append (λ (x : ℕ). bit x b) ws outs));
   lacks = λ b small e. at b small ∙ ap (λ (v : Bool). row_unless v (lane b outs)) e;
 }
@@ -178,7 +206,8 @@ gate_done ws new g none long more is = record {
     outs : List ℕ
     outs = outs_of g.kind ws g.ins
 
-    at : (b : ℕ) → b < 64 → row (rule_of g.kind) (map (read (lane b ws)) (take (uses (rule_of g.kind)) g.ins)) ≡ row_unless (bit none b) (lane b outs)
+    at : (b : ℕ) → b < 64 → row (rule_of g.kind) (map (read (lane b ws)) (take (uses (rule_of g.kind)) g.ins))
+        ≡ row_unless (bit none b) (lane b outs)
     at b small = lane_row g.kind g.ins ws b small long ∙ ap (λ (n : ℕ). row_unless (bit n b) (lane b outs)) (sym is)
 
 -- ---- one gate after another
@@ -188,10 +217,13 @@ shift k o = option_map (λ m. k + m) o
 
 -- the first k gates are done
 pub record InColumn (given : List ℕ) (gs : List LocalGate) (k : ℕ) (words lacking : List ℕ) (whole b : ℕ) : Type 0 where
-  left : bit whole b ≡ true → evaluate (lane b words) (map kept_gate (drop k gs)) ≡ evaluate (lane b given) (map kept_gate gs)
-  later : bit whole b ≡ true → shift k (first_undefined (lane b words) (map kept_gate (drop k gs))) ≡ first_undefined (lane b given) (map kept_gate gs)
+  left : bit whole b ≡ true → evaluate (lane b words) (map kept_gate (drop k gs))
+      ≡ evaluate (lane b given) (map kept_gate gs)
+  later : bit whole b ≡ true → shift k (first_undefined (lane b words) (map kept_gate (drop k gs)))
+      ≡ first_undefined (lane b given) (map kept_gate gs)
   earlier : bit whole b ≡ false → (m : ℕ) × (m < k) × (first_undefined (lane b given) (map kept_gate gs) ≡ Some m)
-  undefined : (j : ℕ) → j < k → bit (slice_index lacking j) b ≡ is_gate (first_undefined (lane b given) (map kept_gate gs)) j
+  undefined : (j : ℕ) → j < k →
+      bit (slice_index lacking j) b ≡ is_gate (first_undefined (lane b given) (map kept_gate gs)) j
 
 shift_none : (o : Option ℕ) → shift 0 o ≡ o
 unfolding shift
@@ -208,7 +240,8 @@ unfolding shift
 not_shifted k None = refl
 not_shifted k (Some m) = ne_eqb (k + 1 + m) k (λ e. omega (arith, e))
 
-pub column_start : (given : List ℕ) (gs : List LocalGate) (undefined : List ℕ) (b : ℕ) → b < 64 → InColumn given gs 0 given undefined 18446744073709551615 b
+pub column_start : (given : List ℕ) (gs : List LocalGate) (undefined : List ℕ) (b : ℕ) → b < 64 →
+    InColumn given gs 0 given undefined 18446744073709551615 b
 column_start given gs undefined b small = record {
   left = λ e. refl;
   later = λ e. shift_none _;
@@ -223,7 +256,8 @@ record IsAfter (g : LocalGate) (old new undefined undefined' : List ℕ) (define
   pub more : undefined' ≡ undefined ++ first ∷ []
   pub fewer : defined' ≡ bit_xor defined first
 
-step_evaluate : (vs new : List Bool) (gs : List Gate) (o : Option (List Bool)) → option_and_then (λ (r : List Bool). Some (vs ++ r)) o ≡ Some new →
+step_evaluate : (vs new : List Bool) (gs : List Gate) (o : Option (List Bool)) →
+    option_and_then (λ (r : List Bool). Some (vs ++ r)) o ≡ Some new →
     option_and_then (λ r. evaluate (vs ++ r) gs) o ≡ evaluate new gs
 step_evaluate vs new gs None e = cc
 step_evaluate vs new gs (Some r) e = ap (λ (l : List Bool). evaluate l gs) (some_is (vs ++ r) new e)
@@ -231,10 +265,12 @@ step_evaluate vs new gs (Some r) e = ap (λ (l : List Bool). evaluate l gs) (som
     some_is : (x y : List Bool) → Some x ≡ Some y → x ≡ y
     some_is x y e = cc
 
-step_undefined : (vs new : List Bool) (gs : List Gate) (o : Option (List Bool)) → option_and_then (λ (r : List Bool). Some (vs ++ r)) o ≡ Some new →
+step_undefined : (vs new : List Bool) (gs : List Gate) (o : Option (List Bool)) →
+    option_and_then (λ (r : List Bool). Some (vs ++ r)) o ≡ Some new →
     undefined_or (λ r. first_undefined (vs ++ r) gs) o ≡ option_map (λ m. m + 1) (first_undefined new gs)
 step_undefined vs new gs None e = cc
-step_undefined vs new gs (Some r) e = ap (λ (l : List Bool). option_map (λ m. m + 1) (first_undefined l gs)) (some_is (vs ++ r) new e)
+step_undefined vs new gs (Some r) e =
+    ap (λ (l : List Bool). option_map (λ m. m + 1) (first_undefined l gs)) (some_is (vs ++ r) new e)
   where
     some_is : (x y : List Bool) → Some x ≡ Some y → x ≡ y
     some_is x y e = cc
@@ -243,11 +279,14 @@ front : (gs : List LocalGate) (k : ℕ) (d : LocalGate) → k < length gs → dr
 front gs k d h = drop-cons gs k d h ∙ ap (λ m. get_or gs k d ∷ drop m gs) (sym (add-one k))
 
 -- one gate more, at a bit
-one_more : (given : List ℕ) (gs : List LocalGate) (k : ℕ) (g : LocalGate) (old new undefined undefined' : List ℕ) (defined defined' none first b : ℕ) (x y : Bool) → b < 64 → k < length gs → length undefined ≡ k →
-    drop k gs ≡ g ∷ drop (k + 1) gs → IsAfter g old new undefined undefined' defined defined' none first → bit defined b ≡ x → bit none b ≡ y →
+one_more : (given : List ℕ) (gs : List LocalGate) (k : ℕ) (g : LocalGate) (old new undefined undefined' : List ℕ)
+    (defined defined' none first b : ℕ) (x y : Bool) → b < 64 → k < length gs → length undefined ≡ k →
+    drop k gs ≡ g ∷ drop (k + 1) gs → IsAfter g old new undefined undefined' defined defined' none first →
+    bit defined b ≡ x → bit none b ≡ y →
     InColumn given gs k old undefined defined b → InColumn given gs (k + 1) new undefined' defined' b
 unfolding evaluate first_undefined shift
-one_more given gs k g old new undefined undefined' defined defined' none first b x y small within many parts is ex ey so_far = go x y ex ey
+one_more given gs k g old new undefined undefined' defined defined' none first b x y small within many parts is ex ey
+    so_far = go x y ex ey
   where
     all : Option ℕ
     all = first_undefined (lane b given) (map kept_gate gs)
@@ -260,12 +299,16 @@ one_more given gs k g old new undefined undefined' defined defined' none first b
 
     told : bit first b ≡ is_gate all k → (j : ℕ) → j < k + 1 → bit (slice_index undefined' j) b ≡ is_gate all j
     told here j h = elim (cases_lt j k) [
-      | inl less ↦ ap (λ (l : List ℕ). bit (slice_index l j) b) is.more ∙ ap (λ n. bit n b) (get_or_append_left undefined (first ∷ []) 0 j (omega (arith, many))) ∙ so_far.undefined j less
+      | inl less ↦ ap (λ (l : List ℕ). bit (slice_index l j) b) is.more
+          ∙ ap (λ n. bit n b) (get_or_append_left undefined (first ∷ []) 0 j (omega (arith, many)))
+          ∙ so_far.undefined j less
       | inr large ↦
           let same : k ≡ j = omega arith in
           let at : length undefined + 0 ≡ k = omega (arith, many) in
           subst (λ j. bit (slice_index undefined' j) b ≡ is_gate all j) same
-          (ap (λ (l : List ℕ). bit (slice_index l k) b) is.more ∙ ap (λ n. bit (slice_index (undefined ++ first ∷ []) n) b) (sym at) ∙ ap (λ n. bit n b) (get_or-append-add undefined (first ∷ []) 0 0) ∙ here)
+          (ap (λ (l : List ℕ). bit (slice_index l k) b) is.more
+          ∙ ap (λ n. bit (slice_index (undefined ++ first ∷ []) n) b) (sym at)
+          ∙ ap (λ n. bit n b) (get_or-append-add undefined (first ∷ []) 0 0) ∙ here)
     ]
 
     go : (x y : Bool) → bit defined b ≡ x → bit none b ≡ y → InColumn given gs (k + 1) new undefined' defined' b
@@ -277,62 +320,79 @@ one_more given gs k g old new undefined undefined' defined defined' none first b
           left = λ e. absurd (true≢false (sym e ∙ still));
           later = λ e. absurd (true≢false (sym e ∙ still));
           earlier = λ e. (done.0, omega (arith, done.1), done.2);
-          undefined = told (first_false ∙ sym (ap (λ (o : Option ℕ). is_gate o k) done.2 ∙ ne_eqb done.0 k (λ e. omega (arith, e, done.1))));
+          undefined = told (first_false
+              ∙ sym (ap (λ (o : Option ℕ). is_gate o k) done.2 ∙ ne_eqb done.0 k (λ e. omega (arith, e, done.1))));
         }
     go true true ex ey =
         let first_true : bit first b ≡ true = first_bits ∙ ap₂ (λ (u v : Bool). u && v) ex ey in
         let now : bit defined' b ≡ false = new_bits ∙ ap₂ xor ex first_true in
         let here : all ≡ Some (k + 0) =
-        sym (so_far.later ex) ∙ ap (λ (l : List LocalGate). option_map (λ m. k + m) (first_undefined (lane b old) (map kept_gate l))) parts
-        ∙ ap (λ (o : Option (List Bool)). option_map (λ m. k + m) (undefined_or (λ r. first_undefined (lane b old ++ r) (map kept_gate (drop (k + 1) gs))) o)) (is.adds.lacks b small ey) in
+        sym (so_far.later ex) ∙ ap (λ (l : List LocalGate).
+        option_map (λ m. k + m) (first_undefined (lane b old) (map kept_gate l))) parts
+        ∙ ap (λ (o : Option (List Bool)).
+        option_map (λ m. k + m) (undefined_or
+        (λ r. first_undefined (lane b old ++ r) (map kept_gate (drop (k + 1) gs))) o)) (is.adds.lacks b small ey) in
         record {
           left = λ e. absurd (true≢false (sym e ∙ now));
           later = λ e. absurd (true≢false (sym e ∙ now));
           earlier = λ e. (k + 0, omega arith, here);
-          undefined = told (first_true ∙ sym (ap (λ (o : Option ℕ). is_gate o k) here ∙ eq-eqb (k + 0) k (omega arith)));
+          undefined = told (first_true ∙ sym
+              (ap (λ (o : Option ℕ). is_gate o k) here ∙ eq-eqb (k + 0) k (omega arith)));
         }
     go true false ex ey =
         let first_false : bit first b ≡ false = first_bits ∙ ap₂ (λ (u v : Bool). u && v) ex ey in
         let has = is.adds.has b small ey in
         let later : option_map (λ m. k + 1 + m) (first_undefined (lane b new) (map kept_gate (drop (k + 1) gs))) ≡ all =
         shift_suc k (first_undefined (lane b new) (map kept_gate (drop (k + 1) gs)))
-        ∙ ap (λ (o : Option ℕ). option_map (λ m. k + m) o) (sym (step_undefined (lane b old) (lane b new) (map kept_gate (drop (k + 1) gs)) _ has))
-        ∙ sym (ap (λ (l : List LocalGate). option_map (λ m. k + m) (first_undefined (lane b old) (map kept_gate l))) parts) ∙ so_far.later ex in
+        ∙ ap (λ (o : Option ℕ). option_map (λ m. k + m) o)
+        (sym (step_undefined (lane b old) (lane b new) (map kept_gate (drop (k + 1) gs)) _ has))
+        ∙ sym (ap (λ (l : List LocalGate). option_map (λ m. k + m) (first_undefined (lane b old) (map kept_gate l)))
+        parts) ∙ so_far.later ex in
         record {
-          left = λ e. sym (step_evaluate (lane b old) (lane b new) (map kept_gate (drop (k + 1) gs)) _ has) ∙ sym (ap (λ (l : List LocalGate). evaluate (lane b old) (map kept_gate l)) parts) ∙ so_far.left ex;
+          left = λ e. sym (step_evaluate (lane b old) (lane b new) (map kept_gate (drop (k + 1) gs)) _ has)
+              ∙ sym (ap (λ (l : List LocalGate). evaluate (lane b old) (map kept_gate l)) parts) ∙ so_far.left ex;
           later = λ e. later;
           earlier = λ e. absurd (true≢false (sym (new_bits ∙ ap₂ xor ex first_false) ∙ e));
           undefined = told (first_false ∙ sym (ap (λ (o : Option ℕ). is_gate o k) (sym later) ∙ not_shifted k _));
         }
 
 -- the first k gates are done at all bits
-pub record AreInColumn (given : List ℕ) (gs : List LocalGate) (k : ℕ) (words undefined : List ℕ) (defined : ℕ) : Type 0 where
+pub record AreInColumn (given : List ℕ) (gs : List LocalGate) (k : ℕ) (words undefined : List ℕ)
+    (defined : ℕ) : Type 0 where
   pub long : wires_after (length words) (map kept_gate (drop k gs)) ≡ wires_after (length given) (map kept_gate gs)
   pub count : length undefined ≡ k
   pub each : (b : ℕ) → b < 64 → InColumn given gs k words undefined defined b
 
-pub column_none : (given : List ℕ) (gs : List LocalGate) (words undefined : List ℕ) → words ≡ given → undefined ≡ [] → AreInColumn given gs 0 words undefined 18446744073709551615
-column_none given gs words undefined same none = subst (λ (ws : List ℕ). AreInColumn given gs 0 ws undefined 18446744073709551615) (sym same) (record {
-  long = refl;
-  count = ap length none;
-  each = λ b small. column_start given gs undefined b small;
-})
+pub column_none : (given : List ℕ) (gs : List LocalGate) (words undefined : List ℕ) → words ≡ given → undefined ≡ [] →
+    AreInColumn given gs 0 words undefined 18446744073709551615
+column_none given gs words undefined same none =
+    subst (λ (ws : List ℕ). AreInColumn given gs 0 ws undefined 18446744073709551615) (sym same) (record {
+      long = refl;
+      count = ap length none;
+      each = λ b small. column_start given gs undefined b small;
+    })
 
-pub column_more : (given : List ℕ) (gs : List LocalGate) (k : ℕ) (d : LocalGate) (old new undefined undefined' : List ℕ) (defined defined' none first : ℕ) → k < length gs →
-    AddsRow (kept_gate (get_or gs k d)) old new none → first ≡ bit_and defined none → undefined' ≡ undefined ++ first ∷ [] → defined' ≡ bit_xor defined first →
+pub column_more : (given : List ℕ) (gs : List LocalGate) (k : ℕ) (d : LocalGate) (old new undefined undefined' : List ℕ)
+    (defined defined' none first : ℕ) → k < length gs →
+    AddsRow (kept_gate (get_or gs k d)) old new none → first ≡ bit_and defined none →
+    undefined' ≡ undefined ++ first ∷ [] → defined' ≡ bit_xor defined first →
     AreInColumn given gs k old undefined defined → AreInColumn given gs (k + 1) new undefined' defined'
 unfolding wires_after
-column_more given gs k d old new undefined undefined' defined defined' none first within adds is_first more fewer so_far =
+column_more given gs k d old new undefined undefined' defined defined' none first within adds is_first more fewer
+    so_far =
     let parts = front gs k d within in
     record {
-      long = ap (λ n. wires_after n (map kept_gate (drop (k + 1) gs))) adds.long ∙ sym (ap (λ (l : List LocalGate). wires_after (length old) (map kept_gate l)) parts) ∙ so_far.long;
+      long = ap (λ n. wires_after n (map kept_gate (drop (k + 1) gs))) adds.long
+          ∙ sym (ap (λ (l : List LocalGate). wires_after (length old) (map kept_gate l)) parts) ∙ so_far.long;
       count = ap length more ∙ length-append undefined (first ∷ []) ∙ ap (λ n. n + 1) so_far.count;
-      each = λ b small. one_more given gs k (get_or gs k d) old new undefined undefined' defined defined' none first b _ _ small within so_far.count parts
+      each = λ b small. one_more given gs k
+          (get_or gs k d) old new undefined undefined' defined defined' none first b _ _ small within so_far.count parts
           (record { adds = adds; is_first = is_first; more = more; fewer = fewer }) refl refl (so_far.each b small);
     }
 
 -- all gates are done
-pub column_says : (given : List ℕ) (gs : List LocalGate) (k : ℕ) (words undefined : List ℕ) (defined b : ℕ) → b < 64 → length gs ≤ k → k ≤ length gs → AreInColumn given gs k words undefined defined →
+pub column_says : (given : List ℕ) (gs : List LocalGate) (k : ℕ) (words undefined : List ℕ) (defined b : ℕ) → b < 64 →
+    length gs ≤ k → k ≤ length gs → AreInColumn given gs k words undefined defined →
     SaysColumn given (map kept_gate gs) words undefined defined b
 unfolding evaluate first_undefined shift
 column_says given gs k words undefined defined b small past within all =
@@ -344,13 +404,17 @@ column_says given gs k words undefined defined b small past within all =
       undefined = λ j h. is.undefined j (omega (arith, length-map gs kept_gate));
     }
   where
-    told : InColumn given gs k words undefined defined b → drop k gs ≡ [] → (v : Bool) → bit defined b ≡ v → bit defined b ≡ is_none (first_undefined (lane b given) (map kept_gate gs))
+    told : InColumn given gs k words undefined defined b → drop k gs ≡ [] → (v : Bool) → bit defined b ≡ v →
+        bit defined b ≡ is_none (first_undefined (lane b given) (map kept_gate gs))
     told is none true e =
-        e ∙ ap is_none (ap (λ (l : List LocalGate). option_map (λ m. k + m) (first_undefined (lane b words) (map kept_gate l))) (sym none) ∙ is.later e)
+        e ∙ ap is_none (ap (λ (l : List LocalGate).
+        option_map (λ m. k + m) (first_undefined (lane b words) (map kept_gate l))) (sym none) ∙ is.later e)
     told is none false e = e ∙ ap is_none (sym (is.earlier e).2)
 
-pub column_long : (given : List ℕ) (gs : List LocalGate) (k : ℕ) (words undefined : List ℕ) (defined : ℕ) → length gs ≤ k → AreInColumn given gs k words undefined defined →
+pub column_long : (given : List ℕ) (gs : List LocalGate) (k : ℕ) (words undefined : List ℕ) (defined : ℕ) →
+    length gs ≤ k → AreInColumn given gs k words undefined defined →
     length words ≡ wires_after (length given) (map kept_gate gs)
 unfolding wires_after
 column_long given gs k words undefined defined past all =
-    ap (λ (l : List LocalGate). wires_after (length words) (map kept_gate l)) (sym (drop_of_length-le gs past)) ∙ all.long
+    ap (λ (l : List LocalGate). wires_after (length words) (map kept_gate l)) (sym (drop_of_length-le gs past))
+    ∙ all.long

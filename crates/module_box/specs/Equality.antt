@@ -1,4 +1,5 @@
--- Whether two values are the same in all that contracts see of them: `equality_is_of_content` is the law that the tests answer this
+-- Whether two values are the same in all that contracts see of them: `equality_is_of_content` is the law that the tests
+-- answer this
 use Rattle.std.specs.Prelude.{ℕ, Bool, true, false, Option, Some, None, nat_eq}
 use Rattle.std.specs.Bool.{beq}
 use Rattle.std.specs.Ordering.{int_eq, on, eq_of_both}
@@ -16,28 +17,36 @@ use Rattle.module_box.specs.Schedules.{Signals}
 use Rattle.module_box.specs.Locals.{LocalNet}
 
 -- ---- schedules
+-- whether the signal is the constant 1
 abbrev pub is_one : Signal → Bool
 is_one Zero = false
 is_one One = true
 is_one (Wire w) = false
 
+-- the wire of a signal, if it has one
 abbrev pub wire_named : Signal → Option ℕ
 wire_named Zero = None
 wire_named One = None
 wire_named (Wire w) = Some w
 
+-- whether two signals are the same
 abbrev pub same_signal : Signal → Signal → Bool
 same_signal = eq_of_both (on is_one beq) (on wire_named (option_eq nat_eq))
 
+-- whether two cells are the same
 abbrev pub same_cell : Cell → Cell → Bool
 same_cell = eq_of_both (on (λ c. c.x) int_eq) (on (λ c. c.y) int_eq)
 
+-- whether two signals at all times are the same
 abbrev pub same_held : Held → Held → Bool
 same_held = eq_of_both (on (λ h. h.cell) same_cell) (on (λ h. h.signal) same_signal)
 
+-- whether two events are the same
 abbrev pub same_event : Event → Event → Bool
-same_event = eq_of_both (on (λ e. e.at.time) nat_eq) (eq_of_both (on (λ e. e.at.cell) same_cell) (on (λ e. e.signal) same_signal))
+same_event = eq_of_both (on (λ e. e.at.time) nat_eq)
+    (eq_of_both (on (λ e. e.at.cell) same_cell) (on (λ e. e.signal) same_signal))
 
+-- whether two schedules are the same
 abbrev pub same_signals : Signals → Signals → Bool
 same_signals = eq_of_both (on (λ s. s.held) (pointwise same_held)) (on (λ s. s.events) (pointwise same_event))
 
@@ -45,19 +54,26 @@ same_signals = eq_of_both (on (λ s. s.held) (pointwise same_held)) (on (λ s. s
 pub signal_equivalence : IsEquivalence same_signal
 signal_equivalence = and_equiv (on_equiv is_one bool_eq_equiv) (on_equiv wire_named (options_equiv nat_eq_equiv))
 
+-- the test on cells is an equivalence
 pub cell_equivalence : IsEquivalence same_cell
 cell_equivalence = and_equiv (on_equiv (λ c. c.x) int_eq_equiv) (on_equiv (λ c. c.y) int_eq_equiv)
 
+-- the test on signals at all times is an equivalence
 held_equivalence : IsEquivalence same_held
 held_equivalence = and_equiv (on_equiv (λ h. h.cell) cell_equivalence) (on_equiv (λ h. h.signal) signal_equivalence)
 
+-- the test on events is an equivalence
 event_equivalence : IsEquivalence same_event
-event_equivalence = and_equiv (on_equiv (λ e. e.at.time) nat_eq_equiv) (and_equiv (on_equiv (λ e. e.at.cell) cell_equivalence) (on_equiv (λ e. e.signal) signal_equivalence))
+event_equivalence = and_equiv (on_equiv (λ e. e.at.time) nat_eq_equiv)
+    (and_equiv (on_equiv (λ e. e.at.cell) cell_equivalence) (on_equiv (λ e. e.signal) signal_equivalence))
 
+-- the test on schedules is an equivalence
 pub signals_equivalence : IsEquivalence same_signals
-signals_equivalence = and_equiv (on_equiv (λ s. s.held) (lists_equiv held_equivalence)) (on_equiv (λ s. s.events) (lists_equiv event_equivalence))
+signals_equivalence = and_equiv (on_equiv (λ s. s.held) (lists_equiv held_equivalence))
+    (on_equiv (λ s. s.events) (lists_equiv event_equivalence))
 
 -- ---- the wires and gates of modules
+-- the number of a rule, whatever its bit or its steps
 abbrev pub rule_place : Rule → ℕ
 rule_place (Source b) = 0
 rule_place Fredkin = 1
@@ -68,6 +84,7 @@ rule_place (Delay n) = 5
 rule_place Unswitch = 6
 rule_place Uninteract = 7
 
+-- the bit of a source
 abbrev pub source_bit : Rule → Option Bool
 source_bit (Source b) = Some b
 source_bit Fredkin = None
@@ -78,6 +95,7 @@ source_bit (Delay n) = None
 source_bit Unswitch = None
 source_bit Uninteract = None
 
+-- the steps of a delay
 abbrev pub delay_number : Rule → Option ℕ
 delay_number (Source b) = None
 delay_number Fredkin = None
@@ -88,31 +106,46 @@ delay_number (Delay n) = Some n
 delay_number Unswitch = None
 delay_number Uninteract = None
 
+-- whether two rules are the same
 abbrev pub same_rule : Rule → Rule → Bool
-same_rule = eq_of_both (on rule_place nat_eq) (eq_of_both (on source_bit (option_eq beq)) (on delay_number (option_eq nat_eq)))
+same_rule = eq_of_both (on rule_place nat_eq)
+    (eq_of_both (on source_bit (option_eq beq)) (on delay_number (option_eq nat_eq)))
 
+-- whether two gates are the same
 abbrev pub same_gate : Gate → Gate → Bool
-same_gate = eq_of_both (on (λ g. g.kind) same_rule) (eq_of_both (on (λ g. g.ins) (pointwise nat_eq)) (on (λ g. g.outs) (pointwise nat_eq)))
+same_gate = eq_of_both (on (λ g. g.kind) same_rule)
+    (eq_of_both (on (λ g. g.ins) (pointwise nat_eq)) (on (λ g. g.outs) (pointwise nat_eq)))
 
+-- whether two netlists are the same
 abbrev pub same_netlist : Netlist → Netlist → Bool
 same_netlist = eq_of_both (on (λ n. n.given) nat_eq) (on (λ n. n.gates) (pointwise same_gate))
 
+-- whether the wires and gates of two modules are the same
 abbrev pub same_locals : LocalNet → LocalNet → Bool
 same_locals =
-    eq_of_both (eq_of_both (eq_of_both (on (λ l. l.netlist.given) nat_eq) (on (λ l. l.netlist.gates) (pointwise same_gate))) (on (λ l. l.circuit_wires) (pointwise nat_eq)))
+    eq_of_both (eq_of_both (eq_of_both (on (λ l. l.netlist.given) nat_eq)
+    (on (λ l. l.netlist.gates) (pointwise same_gate))) (on (λ l. l.circuit_wires) (pointwise nat_eq)))
     (on (λ l. l.circuit_gates) (pointwise nat_eq))
 
 -- these tests are equivalences
 rule_equivalence : IsEquivalence same_rule
-rule_equivalence = and_equiv (on_equiv rule_place nat_eq_equiv) (and_equiv (on_equiv source_bit (options_equiv bool_eq_equiv)) (on_equiv delay_number (options_equiv nat_eq_equiv)))
+rule_equivalence = and_equiv (on_equiv rule_place nat_eq_equiv)
+    (and_equiv (on_equiv source_bit (options_equiv bool_eq_equiv)) (on_equiv delay_number (options_equiv nat_eq_equiv)))
 
+-- the test on gates is an equivalence
 pub gate_equivalence : IsEquivalence same_gate
-gate_equivalence = and_equiv (on_equiv (λ g. g.kind) rule_equivalence) (and_equiv (on_equiv (λ g. g.ins) (lists_equiv nat_eq_equiv)) (on_equiv (λ g. g.outs) (lists_equiv nat_eq_equiv)))
+gate_equivalence = and_equiv (on_equiv (λ g. g.kind) rule_equivalence)
+    (and_equiv (on_equiv (λ g. g.ins) (lists_equiv nat_eq_equiv)) (on_equiv (λ g. g.outs) (lists_equiv nat_eq_equiv)))
 
+-- the test on netlists is an equivalence
 pub netlist_equivalence : IsEquivalence same_netlist
-netlist_equivalence = and_equiv (on_equiv (λ n. n.given) nat_eq_equiv) (on_equiv (λ n. n.gates) (lists_equiv gate_equivalence))
+netlist_equivalence = and_equiv (on_equiv (λ n. n.given) nat_eq_equiv)
+    (on_equiv (λ n. n.gates) (lists_equiv gate_equivalence))
 
+-- the test on the wires and gates of modules is an equivalence
 pub locals_equivalence : IsEquivalence same_locals
 locals_equivalence =
-    and_equiv (and_equiv (and_equiv (on_equiv (λ l. l.netlist.given) nat_eq_equiv) (on_equiv (λ l. l.netlist.gates) (lists_equiv gate_equivalence))) (on_equiv (λ l. l.circuit_wires) (lists_equiv nat_eq_equiv)))
+    and_equiv (and_equiv (and_equiv (on_equiv (λ l. l.netlist.given) nat_eq_equiv)
+    (on_equiv (λ l. l.netlist.gates) (lists_equiv gate_equivalence)))
+    (on_equiv (λ l. l.circuit_wires) (lists_equiv nat_eq_equiv)))
     (on_equiv (λ l. l.circuit_gates) (lists_equiv nat_eq_equiv))

@@ -1,4 +1,4 @@
--- What the laws of this crate say
+-- The statements of this crate's laws
 use Rattle.std.specs.Prelude.{◌≡◌, ◌≢◌, ℕ, ℤ, ◌<◌, ◌%◌, ◌^◌, List, length, slice_get, Some, IsTrue, IsFalse}
 use Rattle.std.specs.Bool.{Decides}
 use Rattle.bbm_rule.specs.Plane.{State, step}
@@ -27,6 +27,7 @@ pub record EvenStep (b : Box2) (t : ℕ) : Type 0 where
   pub stays : (s : State) → LiesInBox b s → LiesInBox b (step t s)
   pub local : (s s' : State) → SameInBox b s s' → SameInBox b (step t s) (step t s')
 
+-- An even step maps the cells of an even box into the box, and the cells after it depend on the box alone.
 abbrev pub EvenStepStaysInBox : Type 0
 EvenStepStaysInBox = (b : Box2) (t : ℕ) → IsEven b → t % 2 ≡ 0 → EvenStep b t
 
@@ -34,9 +35,10 @@ EvenStepStaysInBox = (b : Box2) (t : ℕ) → IsEven b → t % 2 ≡ 0 → EvenS
 abbrev pub SameInHalo : Box2 → State → State → Type 0
 SameInHalo b s s' = (x y : ℤ) → IsTrue (in_halo b x y) → s x y ≡ s' x y
 
--- What a step of either partition makes in a box depends on the box and its halo alone
+-- The cells of a box after a step of either partition depend on the box and its halo alone.
 abbrev pub StepDependsOnBoxAndHalo : Type 0
-StepDependsOnBoxAndHalo = (b : Box2) (t : ℕ) (s s' : State) → SameInBox b s s' → SameInHalo b s s' → SameInBox b (step t s) (step t s')
+StepDependsOnBoxAndHalo = (b : Box2) (t : ℕ) (s s' : State) → SameInBox b s s' → SameInHalo b s s' →
+    SameInBox b (step t s) (step t s')
 
 -- A cell in the halo of box i that box j has is in the ring of box j
 abbrev pub HaloCellIsRingCellOfOwner : Type 0
@@ -44,12 +46,13 @@ HaloCellIsRingCellOfOwner = (rectangle : Box2) (boxes : List Box2) → Tile rect
     (i j : ℕ) (b b' : Box2) (x y : ℤ) → slice_get boxes i ≡ Some b → slice_get boxes j ≡ Some b' →
     IsTrue (in_halo b x y) → IsTrue (in_box b' x y) → IsTrue (in_ring b' x y)
 
--- Where `owner_table` names a fault other than want of memory, the boxes do not tile the rectangle
+-- If `owner_table` names a fault other than out of memory, the boxes do not tile the rectangle.
 abbrev pub FaultMeansNoTiling : Type 0
-FaultMeansNoTiling = (w h : ℕ) (boxes : List Box2) (fault : TileFault) → IsTask w h boxes → IsTileFault w h boxes fault → fault ≢ Memory →
+FaultMeansNoTiling = (w h : ℕ) (boxes : List Box2) (fault : TileFault) → IsTask w h boxes →
+    IsTileFault w h boxes fault → fault ≢ Memory →
     ¬ Tile (rectangle_of w h) boxes
 
--- Two modules' wires and gates are equal by `==` exactly where they are the same
+-- Two modules' wires and gates are equal by `==` exactly if they are the same
 abbrev pub LocalsEqualityDecides : Type 0
 LocalsEqualityDecides = (l m : LocalNet) → Decides (same_locals l m) (l ≡ m)
 
@@ -59,21 +62,25 @@ ScheduleEqualityDecides = (s t : Signals) → Decides (same_signals s t) (s ≡ 
 
 -- every choice of values for some cuts is that of an assignment
 abbrev pub ChoicesAreAssignments : Type 0
-ChoicesAreAssignments = (cuts : ℕ) (values : Valuation) → (a : ℕ) × (a < 2 ^ cuts) × ((i : ℕ) → i < cuts → bit a i ≡ values i)
+ChoicesAreAssignments = (cuts : ℕ) (values : Valuation) →
+    (a : ℕ) × (a < 2 ^ cuts) × ((i : ℕ) → i < cuts → bit a i ≡ values i)
 
 -- under the assignment the values of the circuit's wires are the module's one local valuation
 pub record SeesCircuit (l : LocalNet) (v : Valuation) (a : ℕ) : Type 0 where
   pub is_local : IsLocalValuation l a (seen_by l v)
   pub only : (u : Valuation) → IsLocalValuation l a u → (i : ℕ) → i < wires l.netlist → u i ≡ seen_by l v i
 
--- Where v satisfies the circuit's netlist, and the assignment gives each cut its value in v, each wire of the module has its
--- value in v
+-- If v satisfies the circuit's netlist, and the assignment gives each cut its value in v, each wire of the module has
+-- its value in v.
 abbrev pub LocalValuesAgree : Type 0
-LocalValuesAgree = (n : Netlist) (l : LocalNet) (inputs v : Valuation) (a : ℕ) → AreLocalsOf n l → Satisfies n inputs v →
+LocalValuesAgree = (n : Netlist) (l : LocalNet) (inputs v : Valuation) (a : ℕ) → AreLocalsOf n l →
+    Satisfies n inputs v →
     ((i : ℕ) → i < l.netlist.given → bit a i ≡ seen_by l v i) → SeesCircuit l v a
 
--- Where a gate of the circuit is the first that has no row, so it is in a module that uses it, under the assignment that gives each cut
--- the value that it has up to there
+-- If a gate of the circuit is the first that has no row, it is so in a module that uses it. The assignment gives each
+-- cut the value that it has up to there.
 abbrev pub UndefinedIsSeen : Type 0
-UndefinedIsSeen = (n : Netlist) (l : LocalNet) (inputs : Valuation) (k place a : ℕ) → AreLocalsOf n l → (u : IsUndefined n inputs k) →
-    place < length l.netlist.gates → circuit_gate l place ≡ k → ((i : ℕ) → i < l.netlist.given → bit a i ≡ seen_by l u.values i) → IsLocallyUndefined l a place
+UndefinedIsSeen = (n : Netlist) (l : LocalNet) (inputs : Valuation) (k place a : ℕ) → AreLocalsOf n l →
+    (u : IsUndefined n inputs k) →
+    place < length l.netlist.gates → circuit_gate l place ≡ k →
+    ((i : ℕ) → i < l.netlist.given → bit a i ≡ seen_by l u.values i) → IsLocallyUndefined l a place

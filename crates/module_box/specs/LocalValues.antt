@@ -1,8 +1,10 @@
 -- The values of the wires that a module knows
-use Rattle.std.specs.Prelude.{◌≡◌, ◌==◌, ◌<◌, ◌↔◌, ℕ, ◌+◌, ◌*◌, ◌/◌, ◌%◌, Bool, true, false, List, [], ◌∷◌, map, length, Option, Some, None, slice_index, slice_index_or, bit_and, bit_or, bit_xor}
+use Rattle.std.specs.Prelude.{◌≡◌, ◌==◌, ◌<◌, ◌↔◌, ℕ, ◌+◌, ◌*◌, ◌/◌, ◌%◌, Bool, true, false, List, [], ◌∷◌, map, length}
+use Rattle.std.specs.Prelude.{Option, Some, None, slice_index, slice_index_or, bit_and, bit_or, bit_xor}
 use Rattle.bbm_rule.specs.Bits.{bit}
 use Rattle.circuit.specs.declared.entry.GateKind.{GateKind}
-use Rattle.circuit.specs.declared.entry.GateKind.TheVariants.{Source, Fredkin, Cswap, Interact, Switch, Delay, Unswitch, Uninteract}
+use Rattle.circuit.specs.declared.entry.GateKind.TheVariants.{Source, Fredkin, Cswap, Interact, Switch, Delay, Unswitch}
+use Rattle.circuit.specs.declared.entry.GateKind.TheVariants.{Uninteract}
 use Rattle.circuit.specs.Gates.{row, defines}
 use Rattle.circuit.specs.Meaning.{Gate, Netlist, Valuation, Satisfies, IsUndefined, wires}
 use Rattle.circuit.specs.Bridge.{AreValues, read}
@@ -12,7 +14,8 @@ use Rattle.module_box.specs.declared.values.LocalFault.TheVariants.{NoRow, Memor
 use Rattle.module_box.specs.declared.values.ValueRows.{ValueRows}
 use Rattle.module_box.specs.Locals.{LocalNet, circuit_wire}
 
--- the local valuations of a module under an assignment: cut i has the value of bit i, and the outputs of the gates follow by their rows
+-- the local valuations of a module under an assignment: cut i has the value of bit i, and the outputs of the gates
+-- follow by their rows
 abbrev pub IsLocalValuation : LocalNet → ℕ → Valuation → Type 0
 IsLocalValuation l cut_bits v = Satisfies l.netlist (bit cut_bits) v
 
@@ -28,7 +31,7 @@ seen_by l v i = v (circuit_wire l i)
 abbrev pub AreLocalValues : LocalNet → ℕ → List Bool → Type 0
 AreLocalValues l cut_bits vs = AreValues l.netlist (bit cut_bits) vs
 
--- why there are no local values: a gate without a row, or want of memory, of which nothing is said
+-- the reason why there are no local values: a gate without a row, or out of memory, about which it says no more
 abbrev pub IsLocalFault : Netlist → ℕ → LocalFault → Type 0
 IsLocalFault n cut_bits (NoRow k) = IsUndefined n (bit cut_bits) k
 IsLocalFault n cut_bits Memory = Unit {0}
@@ -41,13 +44,14 @@ value_of words rows a w = bit (slice_index rows (words * w + a / 64)) (a % 64)
 unfoldable pub bit_of_row : List ℕ → ℕ → Bool
 bit_of_row row a = bit (slice_index row (a / 64)) (a % 64)
 
--- Where the bit of an assignment is set, the values are a local valuation. Else some gate is the first that has no row, and its row
--- of words tells it.
+-- If the bit of an assignment is set, the values are a local valuation. Else some gate is the first that has no row,
+-- and its row of words has the bit.
 pub record AreRowsAt (n : Netlist) (words a : ℕ) (values lacking whole : List ℕ) : Type 0 where
   pub local : bit_of_row whole a ≡ true → Satisfies n (bit a) (value_of words values a)
   pub undefined : (k : ℕ) → k < length n.gates → (value_of words lacking a k ≡ true) ↔ IsUndefined n (bit a) k
   pub none : bit_of_row whole a ≡ false → (k : ℕ) × IsUndefined n (bit a) k
 
+-- the values of all wires under 64 times `words` assignments, and the gates without a row, in rows of `words` words
 pub record AreValueRows (n : Netlist) (words : ℕ) (rows : ValueRows) : Type 0 where
   pub long : length rows.values.items ≡ words * wires n
   pub tall : length rows.undefined.items ≡ words * length n.gates
@@ -60,7 +64,8 @@ pub record AreValueRows (n : Netlist) (words : ℕ) (rows : ValueRows) : Type 0 
 abbrev pub lane : ℕ → List ℕ → List Bool
 lane b ws = map (λ word. bit word b) ws
 
--- The words of the wires that a gate defines, from the words of those that it uses. At bits where it has no row they say nothing.
+-- The words of the wires that a gate defines, from the words of those that it uses. At bits where it has no row they
+-- say nothing.
 abbrev pub word_row : GateKind → ℕ → ℕ → ℕ → ℕ → List ℕ
 word_row (Source true) a b c d = 18446744073709551615 ∷ []
 word_row (Source false) a b c d = 0 ∷ []
@@ -88,7 +93,7 @@ abbrev pub row_unless : Bool → List Bool → Option (List Bool)
 row_unless true r = None
 row_unless false r = Some r
 
--- the word of the wire that stands at a place of ins
+-- the word of the wire at a place of ins
 abbrev pub wire_word : List ℕ → List ℕ → ℕ → ℕ
 wire_word words ins place = slice_index_or words (slice_index_or ins place 0) 0
 
@@ -100,6 +105,7 @@ pub record AddsRow (g : Gate) (old new : List ℕ) (none : ℕ) : Type 0 where
 
 -- ---- gate after gate, at one bit
 
+-- whether there is no number
 abbrev pub is_none : Option ℕ → Bool
 is_none None = true
 is_none (Some m) = false
@@ -109,12 +115,13 @@ abbrev pub is_gate : Option ℕ → ℕ → Bool
 is_gate None k = false
 is_gate (Some m) k = m == k
 
--- What words say of the gates at bit b, where the given wires have the words `given`: the values, where all gates have a row; whether
--- they do; and for each gate whether it is the first that has none.
+-- The meaning of words for the gates at bit b, if the given wires have the words `given`: the values, if all gates have
+-- a row; whether they do; and for each gate whether it is the first that has none.
 pub record SaysColumn (given : List ℕ) (gs : List Gate) (words lacking : List ℕ) (whole b : ℕ) : Type 0 where
   pub values : bit whole b ≡ true → evaluate (lane b given) gs ≡ Some (lane b words)
   pub defined : bit whole b ≡ is_none (first_undefined (lane b given) gs)
-  pub undefined : (k : ℕ) → k < length gs → bit (slice_index lacking k) b ≡ is_gate (first_undefined (lane b given) gs) k
+  pub undefined : (k : ℕ) → k < length gs →
+      bit (slice_index lacking k) b ≡ is_gate (first_undefined (lane b given) gs) k
 
 -- the same of a module under an assignment
 pub record IsColumnAt (n : Netlist) (a : ℕ) (words lacking : List ℕ) (whole b : ℕ) : Type 0 where

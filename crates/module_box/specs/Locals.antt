@@ -1,5 +1,6 @@
 -- The wires that a module knows, and the gates that it uses
-use Rattle.std.specs.Prelude.{◌≡◌, ℕ, ◌<◌, ◌≤◌, ◌==◌, Bool, List, [], ◌++◌, map, take, length, Some, slice_get, slice_index, IsTrue}
+use Rattle.std.specs.Prelude.{◌≡◌, ℕ, ◌<◌, ◌≤◌, ◌==◌, Bool, List, [], ◌++◌, map, take, length, Some, slice_get}
+use Rattle.std.specs.Prelude.{slice_index, IsTrue}
 use Rattle.std.specs.List.{All, flat_map, list_any}
 use Rattle.std.specs.Option.{option_map_or}
 use Rattle.circuit.specs.Meaning.{Gate, Netlist, AreOrdered, wires}
@@ -18,7 +19,7 @@ local_wires n cuts gates = cuts ++ flat_map (outs_of n) gates
 abbrev pub is_among : List ℕ → ℕ → Bool
 is_among ws w = list_any (λ v. v == w) ws
 
--- no wire stands twice
+-- no wire is in the list twice
 abbrev pub AreDifferent : List ℕ → Type 0
 AreDifferent ws = (i j w : ℕ) → slice_get ws i ≡ Some w → slice_get ws j ≡ Some w → i ≡ j
 
@@ -32,11 +33,12 @@ pub record IsKnown (n : Netlist) (known : List ℕ) (k : ℕ) : Type 0 where
 abbrev pub cut_limit : ℕ
 cut_limit = 12
 
+-- the most gates that a module may use
 abbrev pub use_limit : ℕ
 use_limit = 64
 
--- The gates are gates of the circuit in their order, and what one uses is cut or defined by one before it. No wire is cut twice,
--- or cut and defined.
+-- The gates are gates of the circuit in their order, and what one uses is cut or defined by one before it. No wire is
+-- cut twice, or cut and defined.
 pub record AreLocalLines (n : Netlist) (cuts gates : List ℕ) : Type 0 where
   pub few_cuts : length cuts ≤ cut_limit
   pub few_gates : length gates ≤ use_limit
@@ -46,16 +48,18 @@ pub record AreLocalLines (n : Netlist) (cuts gates : List ℕ) : Type 0 where
 
 -- ---- the same numbered anew
 
--- The wires of a module and its gates over them, numbered from 0. `circuit_wires` and `circuit_gates` have the number of each wire
--- and of each gate in the circuit.
+-- The wires of a module and its gates over them, numbered from 0. `circuit_wires` and `circuit_gates` have the number
+-- of each wire and of each gate in the circuit.
 pub record LocalNet : Type 0 where
   pub netlist : Netlist
   pub circuit_wires : List ℕ
   pub circuit_gates : List ℕ
 
+-- the wire of the circuit that has number i in the module
 abbrev pub circuit_wire : LocalNet → ℕ → ℕ
 circuit_wire l i = slice_index l.circuit_wires i
 
+-- the gate of the circuit that has place k among the used ones
 abbrev pub circuit_gate : LocalNet → ℕ → ℕ
 circuit_gate l k = slice_index l.circuit_gates k
 
@@ -63,7 +67,8 @@ circuit_gate l k = slice_index l.circuit_gates k
 abbrev pub renumber_gate : (ℕ → ℕ) → Gate → Gate
 renumber_gate f g = record g { ins = map f g.ins; outs = map f g.outs }
 
--- the gates of the module are gates of the circuit, in their order, and each uses wires that are numbered before those that it defines
+-- the gates of the module are gates of the circuit, in their order, and each uses wires that are numbered before those
+-- that it defines
 pub record AreLocalsOf (n : Netlist) (l : LocalNet) : Type 0 where
   pub used : (k : ℕ) (g : Gate) → slice_get l.netlist.gates k ≡ Some g →
       slice_get n.gates (circuit_gate l k) ≡ Some (renumber_gate (circuit_wire l) g)

@@ -1,10 +1,11 @@
--- What the fields of a module's wires and gates stand for
+-- The view of a module's wires and gates, from the fields
 use Rattle.std.specs.Prelude.{◌≡◌, ◌≤◌, map, length}
 use Rattle.circuit.specs.Meaning.{AreOrdered, wires}
 use Rattle.module_box.specs.declared.locals.Locals.TheInside.{Inside}
 use Rattle.module_box.specs.LocalGates.{kept_gate}
 use Rattle.module_box.specs.Locals.{LocalNet, cut_limit, use_limit}
 
+-- the wires and gates of a module, from the fields
 abbrev pub local_net : Inside → LocalNet
 local_net l = record {
   netlist = record { given = l.given; gates = map kept_gate l.gates.items };

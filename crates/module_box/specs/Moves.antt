@@ -12,12 +12,15 @@ use Rattle.module_box.specs.declared.schedules.Held.{Held}
 abbrev pub moved_cell : ℤ → ℤ → Cell → Cell
 moved_cell dx dy c = record { x = c.x +ℤ dx; y = c.y +ℤ dy }
 
+-- a signal at all times, moved by dx columns and dy rows
 abbrev pub moved_held : ℤ → ℤ → Held → Held
 moved_held dx dy h = record { cell = moved_cell dx dy h.cell; signal = h.signal }
 
+-- an event, moved by dx columns and dy rows
 abbrev pub moved_event : ℤ → ℤ → Event → Event
 moved_event dx dy e = record { at = record { time = e.at.time; cell = moved_cell dx dy e.at.cell }; signal = e.signal }
 
+-- the signals of a schedule, moved by dx columns and dy rows
 abbrev pub moved_signals : ℤ → ℤ → Signals → Signals
 moved_signals dx dy s = record { held = map (moved_held dx dy) s.held; events = map (moved_event dx dy) s.events }
 
@@ -44,9 +47,11 @@ pub record BoxMovesAlong (dx dy : ℤ) (b b' : Box2) : Type 0 where
   pub ring : IsMoved dx dy (in_ring b) (in_ring b')
   pub halo : IsMoved dx dy (in_halo b) (in_halo b')
 
+-- The ring and the halo of a box move along with it.
 abbrev pub BoxesMoveAlong : Type 0
 BoxesMoveAlong = (dx dy : ℤ) (b b' : Box2) → IsMovedBox dx dy b b' → BoxMovesAlong dx dy b b'
 
 -- a cell that is moved carries in moved signals what it carried before
 abbrev pub SignalsMoveAlong : Type 0
-SignalsMoveAlong = (dx dy : ℤ) (s : Signals) (t : ℕ) (x y : ℤ) → signal_at (moved_signals dx dy s) t (x +ℤ dx) (y +ℤ dy) ≡ signal_at s t x y
+SignalsMoveAlong = (dx dy : ℤ) (s : Signals) (t : ℕ) (x y : ℤ) →
+    signal_at (moved_signals dx dy s) t (x +ℤ dx) (y +ℤ dy) ≡ signal_at s t x y

@@ -1,4 +1,4 @@
--- Numbers that tell gates over wires apart from all others
+-- Numbers that differ for different gates over wires
 use Rattle.std.specs.Prelude.{◌≡◌, ℕ, List, ◌∷◌, ◌++◌, length}
 use Rattle.std.specs.List.{flat_map}
 use Rattle.bbm_rule.specs.Plane.{one_if}
@@ -10,7 +10,7 @@ use Rattle.module_box.specs.Equality.{rule_place}
 abbrev pub counted : {A : Type 0} → (A → List ℕ) → List A → List ℕ
 counted numbers xs = length xs ∷ flat_map numbers xs
 
--- the numbers of one thing tell it, whatever stands behind them
+-- different things have different numbers, whatever follows these
 abbrev pub AreTelling : {A : Type 0} → (A → List ℕ) → Type 0
 AreTelling {A} numbers = (a b : A) (r s : List ℕ) → numbers a ++ r ≡ numbers b ++ s → (a ≡ b) × (r ≡ s)
 
@@ -29,9 +29,11 @@ rule_detail Uninteract = 0
 abbrev pub gate_numbers : Gate → List ℕ
 gate_numbers g = rule_place g.kind ∷ rule_detail g.kind ∷ (length g.ins ∷ g.ins) ++ (length g.outs ∷ g.outs)
 
+-- the numbers of a netlist: how many wires are given, and then its gates
 unfoldable pub netlist_numbers : Netlist → List ℕ
 netlist_numbers n = n.given ∷ counted gate_numbers n.gates
 
 -- ---- law
+-- Two netlists with the same numbers are the same, also if more numbers follow.
 abbrev pub NumbersTellGates : Type 0
 NumbersTellGates = AreTelling netlist_numbers

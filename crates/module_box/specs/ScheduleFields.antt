@@ -1,8 +1,9 @@
--- What the fields of a schedule stand for
+-- The view of a schedule, from the fields
 use Rattle.module_box.specs.declared.schedules.Schedule.TheInside.{Inside}
 use Rattle.module_box.specs.Moments.{cell_cmp, moment_cmp}
 use Rattle.module_box.specs.Schedules.{Signals, IsRising, cell_of, moment_of}
 
+-- the signals of a schedule, from the fields
 abbrev pub signals : Inside → Signals
 signals s = record { held = s.held.items; events = s.events.items }
 

@@ -1,5 +1,6 @@
 -- Signals at cells and times
-use Rattle.std.specs.Prelude.{◌≡◌, ℕ, ℤ, ◌<◌, ◌&&◌, ◌==◌, Bool, if◌then◌else◌, List, [], ◌∷◌, Option, Some, None, unwrap_or, slice_get}
+use Rattle.std.specs.Prelude.{◌≡◌, ℕ, ℤ, ◌<◌, ◌&&◌, ◌==◌, Bool, if◌then◌else◌, List, [], ◌∷◌, Option, Some, None}
+use Rattle.std.specs.Prelude.{unwrap_or, slice_get}
 use Rattle.std.specs.declared.cmp.Ordering.{Ordering}
 use Rattle.std.specs.declared.cmp.Ordering.TheVariants.{Less}
 use Rattle.bbm_rule.specs.Plane.{is_at}
@@ -35,10 +36,13 @@ signal_at s t x y = unwrap_or (held_at s.held x y) (unwrap_or (event_at s.events
 
 -- each key comes before those after it
 pub record IsRising {A K : Type 0} (cmp : K → K → Ordering) (key : A → K) (xs : List A) : Type 0 where
-  pub rises : (i j : ℕ) (a b : A) → i < j → slice_get xs i ≡ Some a → slice_get xs j ≡ Some b → cmp (key a) (key b) ≡ Less
+  pub rises : (i j : ℕ) (a b : A) → i < j → slice_get xs i ≡ Some a → slice_get xs j ≡ Some b →
+      cmp (key a) (key b) ≡ Less
 
+-- the cell of a signal at all times
 abbrev pub cell_of : Held → Cell
 cell_of h = h.cell
 
+-- the time and the cell of an event
 abbrev pub moment_of : Event → Moment
 moment_of e = e.at

@@ -4,7 +4,8 @@ use Rattle.module_box.specs.Boxes.{in_box}
 use Rattle.module_box.specs.Tiling.{corner_x, corner_y}
 use Rattle.module_box.specs.declared.boxes.Box2.{Box2}
 
--- the places from `from` to before `stop` were free and have the number now, the others are as before; a `stop` before the end is not free
+-- the places from `from` to before `stop` were free and have the number now, the others are as before; a `stop` before
+-- the end is not free
 pub record TakesRow (free number from end stop : ℕ) (old new : List ℕ) : Type 0 where
   pub sized : length new ≡ length old
   pub from_on : from ≤ stop
@@ -14,12 +15,12 @@ pub record TakesRow (free number from end stop : ℕ) (old new : List ℕ) : Typ
   pub after : (k : ℕ) → stop ≤ k → slice_index new k ≡ slice_index old k
   pub ends : stop < end → ¬ (slice_index old stop ≡ free)
 
--- the block at a place, where the blocks are counted row by row, lies in the box
+-- the block at a place, by blocks counted row by row, lies in the box
 abbrev pub HasBlock : Box2 → ℕ → ℕ → Type 0
 HasBlock b columns k = IsTrue (in_box b (corner_x columns k) (corner_y columns k))
 
--- before `stop`, the places of the box's blocks were free and have the number now, and the others are as before; a `stop` before the end of
--- the table is the place of a block of the box and is not free
+-- before `stop`, the places of the box's blocks were free and have the number now, and the others are as before; a
+-- `stop` before the end of the table is the place of a block of the box and is not free
 pub record TakesBox (columns : ℕ) (b : Box2) (free number stop : ℕ) (old new : List ℕ) : Type 0 where
   pub sized : length new ≡ length old
   pub within : stop ≤ length old
@@ -27,7 +28,7 @@ pub record TakesBox (columns : ℕ) (b : Box2) (free number stop : ℕ) (old new
   pub others : (k : ℕ) → k < stop → ¬ HasBlock b columns k → slice_index new k ≡ slice_index old k
   pub ends : stop < length old → HasBlock b columns stop × ¬ (slice_index old stop ≡ free)
 
--- the box lies in a rectangle so many blocks wide, which is at most 256 blocks wide and high
+-- the box lies in a rectangle that is `columns` blocks wide, and at most 256 blocks wide and high
 pub record FitsTable (columns : ℕ) (b : Box2) : Type 0 where
   pub some : 0 < columns
   pub most : columns ≤ 256

@@ -1,5 +1,6 @@
 -- Boxes that tile a rectangle, by its blocks of two by two cells
-use Rattle.std.specs.Prelude.{◌≡◌, ℕ, ℤ, pos, ◌<◌, ◌≤◌, ◌+◌, ◌*◌, ◌/◌, ◌%◌, List, length, Some, slice_get, slice_index, IsTrue}
+use Rattle.std.specs.Prelude.{◌≡◌, ℕ, ℤ, pos, ◌<◌, ◌≤◌, ◌+◌, ◌*◌, ◌/◌, ◌%◌, List, length, Some, slice_get, slice_index}
+use Rattle.std.specs.Prelude.{IsTrue}
 use Rattle.std.specs.Int.RustNames.{unsigned_abs}
 use Rattle.module_box.specs.Boxes.{in_box, IsEven, Tile}
 use Rattle.module_box.specs.declared.boxes.Box2.{Box2}
@@ -7,10 +8,11 @@ use Rattle.bbm_rule.specs.declared.block.Cell.{Cell}
 use Rattle.module_box.specs.declared.tile.TileFault.{TileFault}
 use Rattle.module_box.specs.declared.tile.TileFault.TheVariants.{Outside, Overlap, Gap, Memory}
 
--- the corner of the block at a place, where the blocks are counted row by row
+-- the corner of the block at a place, by blocks counted row by row
 abbrev pub corner_x : ℕ → ℕ → ℤ
 corner_x columns place = pos (2 * (place % columns))
 
+-- the row of the upper left cell of the block at a place
 abbrev pub corner_y : ℕ → ℕ → ℤ
 corner_y columns place = pos (2 * (place / columns))
 
@@ -61,7 +63,8 @@ pub record HeldTwice (boxes : List Box2) (x y : ℤ) : Type 0 where
 
 -- the first box that is not inside, else the first block that lies in two boxes or in none
 abbrev pub IsTileFault : ℕ → ℕ → List Box2 → TileFault → Type 0
-IsTileFault w h boxes (Outside n) = AllInside w h n boxes × ((b : Box2) × (slice_get boxes n ≡ Some b) × ¬ IsInside w h b)
+IsTileFault w h boxes (Outside n) =
+    AllInside w h n boxes × ((b : Box2) × (slice_get boxes n ≡ Some b) × ¬ IsInside w h b)
 IsTileFault w h boxes (Overlap c) = IsBadBlock w h boxes c × HeldTwice boxes c.x c.y
 IsTileFault w h boxes (Gap c) = IsBadBlock w h boxes c × ((i : ℕ) → ¬ Holds boxes c.x c.y i)
 IsTileFault w h boxes Memory = Unit {0}
@@ -100,4 +103,5 @@ pub record IsTable (o : Owning) : Type 0 where
 -- the boxes tile the rectangle, and the number for each of its cells is that of the box that has the cell
 pub record AreOwners (o : Owning) (boxes : List Box2) : Type 0 where
   pub tile : Tile (rectangle o) boxes
-  pub named : (x y : ℤ) → IsTrue (in_box (rectangle o) x y) → (b : Box2) × (slice_get boxes (owner_of o x y) ≡ Some b) × IsTrue (in_box b x y)
+  pub named : (x y : ℤ) → IsTrue (in_box (rectangle o) x y) →
+      (b : Box2) × (slice_get boxes (owner_of o x y) ≡ Some b) × IsTrue (in_box b x y)

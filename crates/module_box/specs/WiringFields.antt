@@ -1,10 +1,11 @@
--- What the fields of a wiring stand for
+-- The view of a wiring, from the fields
 use Rattle.std.specs.Prelude.{◌≡◌, ◌≤◌, map, length}
 use Rattle.circuit.specs.Meaning.{Netlist, AreOrdered, wires}
 use Rattle.module_box.specs.declared.wiring.Wiring.TheInside.{Inside}
 use Rattle.module_box.specs.LocalGates.{kept_gate}
 use Rattle.module_box.specs.Locals.{cut_limit, use_limit}
 
+-- the netlist of a wiring, from the fields
 abbrev pub wiring_net : Inside → Netlist
 wiring_net l = record { given = l.given; gates = map kept_gate l.gates.items }
 

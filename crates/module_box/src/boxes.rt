@@ -8,7 +8,7 @@ use bbm_rule::Cell;
 
 /// A rectangle of cells: its upper left corner (x, y), its width `w` and its height `h` in cells.
 ///
-/// Columns are counted rightwards, rows downwards. A box of no width or no height has no cell.
+/// Columns are counted rightwards, rows downwards. A box without width or height has no cell.
 #[derive(Clone, Copy, Debug, PartialEq, Eq)]
 pub struct Box2 {
     pub x: u32,
@@ -18,7 +18,7 @@ pub struct Box2 {
 }
 
 impl Box2 {
-    /// Whether the cell is in the box.
+    /// Returns whether the cell is in the box.
     #[tactic(auto, unfolding(crate::specs::Boxes::in_box, bbm_rule::specs::Spans::in_span))]
     pub fn holds(self, cell: Cell) -> bool
         ensures { result ≡ in_box self cell.x cell.y }
@@ -30,7 +30,7 @@ impl Box2 {
         left <= x && x < left + self.w as i64 && top <= y && y < top + self.h as i64
     }
 
-    /// Whether the cell is in the ring of the box: in the box, with one of its eight neighbours outside.
+    /// Returns whether the cell is in the ring of the box: in the box, with one of its eight neighbours outside.
     pub fn in_ring(self, cell: Cell) -> bool
         ensures { result ≡ in_ring self cell.x cell.y }
     {
@@ -40,7 +40,7 @@ impl Box2 {
         inside & !(inner_x & inner_y)
     }
 
-    /// Whether the cell is in the halo of the box: outside the box, with one of its eight neighbours inside.
+    /// Returns whether the cell is in the halo of the box: outside the box, with one of its eight neighbours inside.
     pub fn in_halo(self, cell: Cell) -> bool
         ensures { result ≡ in_halo self cell.x cell.y }
     {
@@ -50,7 +50,7 @@ impl Box2 {
         !inside & (near_x & near_y)
     }
 
-    /// Whether the halo of the box may have a cell in the other box, as far as their corners and sides tell.
+    /// Returns whether the halo of the box may have a cell in the other box, to judge by their corners and sides.
     pub fn is_near(self, other: Box2) -> bool
         ensures { result ≡ is_near self other }
     {

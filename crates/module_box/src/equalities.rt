@@ -27,7 +27,7 @@ impl Eq for Schedule {
 }
 
 impl LocalGate {
-    /// The wires that the gate uses.
+    /// Returns the wires that the gate uses.
     pub(crate) fn ins(&self) -> &[u16]
         ensures { result.now ≡ (kept_gate self.now).ins }
     {

@@ -1,15 +1,15 @@
 //! Boxes of cells that tile a rectangle, signals at cells and times, and the wires that a module knows.
 //!
-//! A module of a pattern has a box of cells. The ring of a box is its outermost cells, its halo the cells around it: as
-//! no block of the Margolus neighbourhood is wider than two cells, what a step makes in a box depends on the box and
-//! its halo alone. Boxes with even corners and sides tile a rectangle by its blocks of two by two cells, and an even
-//! step makes each such box by itself.
+//! A module of a layout has a box of cells. The ring of a box is its outermost cells, its halo the cells around it. No
+//! block of the Margolus neighbourhood is wider than two cells, so the cells of a box after a step depend on the box
+//! and its halo alone. Boxes with even corners and sides tile a rectangle by its blocks of two by two cells, and an
+//! even step makes each such box by itself.
 //!
 //! `specs/Boxes.antt` has these definitions, on the unbounded plane.
 //!
 //! A module cuts some wires of a circuit and uses some of its gates. It knows the wires that it cuts and those that
 //! these gates define, by numbers of its own. `specs/Locals.antt` says which lines name such wires and gates, and what
-//! their numbers mean. Where its cuts have values the others follow, as `specs/LocalValues.antt` says.
+//! their numbers mean. If its cuts have values, the others follow, as `specs/LocalValues.antt` says.
 #![tactic(auto)]
 
 mod boxes;

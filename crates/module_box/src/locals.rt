@@ -25,7 +25,8 @@ pub(crate) struct LocalGate {
 }
 
 /// The wires that a module knows: its cuts, then the outputs of the gates that it uses, numbered from 0 in this order.
-/// With them those gates, over these numbers.
+///
+/// It also has those gates, over these numbers.
 #[derive(Debug, Drop)]
 pub struct Locals {
     pub(crate) given: usize,
@@ -126,9 +127,11 @@ fn add_lines(
 }
 
 impl Locals {
-    /// The wires and gates that the lines of a module name: the wires of the circuit that it cuts, at most 12, and the
-    /// gates that it uses, at most 64, in the order of the circuit. Each of them uses wires that are cut or that one
-    /// before it defines, and no wire is cut twice, or cut and defined. `AllocError` is want of memory.
+    /// Creates the wires and gates that the lines of a module name.
+    ///
+    /// They are the wires of the circuit that the module cuts, at most 12, and the gates that it uses, at most 64, in
+    /// the order of the circuit. Each gate uses wires that are cut or that a gate before it defines. No wire is cut
+    /// twice, or cut and defined.
     pub fn new(
         alloc: Global,
         circuit: &Circuit,
@@ -154,8 +157,7 @@ impl Locals {
         })
     }
 
-    /// The gates over the module's own wires; which wires of the circuit these are, by their numbers; and which gates
-    /// of the circuit those are.
+    /// Returns the gates over the module's own wires, and the numbers of these wires and gates in the circuit.
     pub fn into_parts(self) -> (Wiring, IndexSet<u16>, Vec<GateNo>)
         ensures wiring { result.0 ≡ self.netlist }
         ensures wires { result.1.keys ≡ self.circuit_wires }
@@ -171,7 +173,7 @@ impl Locals {
         (wiring, self.circuit_wires, self.circuit_gates)
     }
 
-    /// How many wires the module knows, at most 268: 12 cuts, and 4 wires of each of 64 gates.
+    /// Returns how many wires the module knows, at most 268: 12 cuts, and 4 wires of each of 64 gates.
     pub fn wires(&self) -> usize
         ensures count { result ≡ length self.now.circuit_wires }
         ensures sized { result ≡ wires self.now.netlist }
@@ -180,7 +182,7 @@ impl Locals {
         self.circuit_wires.len()
     }
 
-    /// The number here, below `wires()`, of a wire of the circuit, if the module knows it.
+    /// Returns the module's number, below `wires()`, of a wire of the circuit, if the module knows it.
     pub fn local(&self, wire: WireNo) -> Option<u16>
         ensures place { result ≡ position (λ w. w == wire) self.now.circuit_wires }
         ensures found { is_some result ≡ is_among self.now.circuit_wires wire }
@@ -191,7 +193,7 @@ impl Locals {
         Some(index as u16)
     }
 
-    /// The number in the circuit of the used gate at this place, for a place below `gates()`, and else 0.
+    /// Returns the number in the circuit of the used gate at this place, for a place below `gates()`, and else 0.
     pub fn gate_number(&self, place: usize) -> u16
         ensures { result ≡ circuit_gate self.now place }
     {
@@ -201,7 +203,7 @@ impl Locals {
         }
     }
 
-    /// The wire of the circuit that has this number here, for a number below `wires()`.
+    /// Returns the wire of the circuit that has this number in the module, for a number below `wires()`.
     pub fn wire(&self, number: u16) -> WireNo
         requires { number < length self.now.circuit_wires }
         ensures { result ≡ circuit_wire self.now number }

@@ -8,7 +8,7 @@ use crate::schedules::{Event, Held, Moment, Schedule};
 use bbm_rule::Cell;
 use std::alloc::{AllocError, Global};
 
-/// The cell that lies `dx` columns and `dy` rows further, where all these numbers are from -1024 to 1023.
+/// Returns the cell that lies `dx` columns and `dy` rows further. All these numbers are from -1024 to 1023.
 pub fn moved_cell(cell: Cell, dx: i32, dy: i32) -> Cell
     requires cell { IsNear cell }
     requires by { IsSmall dx × IsSmall dy }
@@ -31,7 +31,8 @@ fn moved_held(held: Held, dx: i32, dy: i32) -> Held
     }
 }
 
-/// The event at the cell that lies `dx` columns and `dy` rows further, where all these numbers are from -1024 to 1023.
+/// Returns the event at the cell that lies `dx` columns and `dy` rows further. All these numbers are from -1024 to
+/// 1023.
 pub fn moved_event(event: Event, dx: i32, dy: i32) -> Event
     requires cell { IsNear event.at.cell }
     requires by { IsSmall dx × IsSmall dy }
@@ -71,8 +72,8 @@ fn moved_events(alloc: Global, events: &[Event], dx: i32, dy: i32) -> Result<Vec
 }
 
 impl Schedule {
-    /// The same signals at the cells that lie `dx` columns and `dy` rows further, where all these numbers are from
-    /// -1024 to 1023. `AllocError` is want of memory.
+    /// Returns the same signals at the cells that lie `dx` columns and `dy` rows further. All these numbers are from
+    /// -1024 to 1023.
     pub fn moved(&self, alloc: Global, dx: i32, dy: i32) -> Result<Schedule, AllocError>
         requires held { All (λ h. IsNear h.cell) self.now.held }
         requires events { All (λ e. IsNear e.at.cell) self.now.events }

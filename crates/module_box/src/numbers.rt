@@ -1,4 +1,4 @@
-//! Numbers that tell the gates of a module apart from all others.
+//! Numbers that differ for modules with different gates.
 
 ghost use Rattle.std.specs.Prelude.{◌≡◌, ◌≤◌, ◌∷◌, ◌++◌, map, length, IfOk, OnOk};
 ghost use Rattle.std.specs.List.{flat_map, range_with_len};
@@ -82,9 +82,10 @@ fn push_gates(numbers: &mut Vec<u64>, gates: &[LocalGate]) -> Result<(), AllocEr
 }
 
 impl Wiring {
-    /// Numbers that tell the wiring: how many wires are given, how many gates there are, and for each what it does, the
-    /// wires that it uses and those that it defines. Two that differ have different numbers. `AllocError` is want of
-    /// memory.
+    /// Returns numbers that determine the wiring: two different wirings have different numbers.
+    ///
+    /// They are how many wires are given, how many gates there are, and for each gate what it does, the wires that it
+    /// uses and those that it defines.
     #[tactic(auto, unfolding(crate::specs::Numbers::netlist_numbers))]
     pub fn numbers(&self, alloc: Global) -> Result<Vec<u64>, AllocError>
         ensures { IfOk result (λ numbers. numbers.items ≡ netlist_numbers self.now) }

@@ -7,7 +7,8 @@ ghost use Rattle.module_box.specs.Tiling.{rectangle, owner_of};
 use bbm_rule::Cell;
 use std::marker::Model;
 
-/// Which box has each cell of a rectangle, whose upper left corner is the cell (0, 0).
+/// A table of the box that has each cell of a rectangle, whose upper left corner is the cell (0, 0).
+///
 /// [`owner_table`](crate::owner_table) makes it.
 // the number of a box for each block of two by two cells, row by row
 #[derive(Drop)]
@@ -30,7 +31,7 @@ impl Model for Owners {
 }
 
 impl Owners {
-    /// The number of the box that has the cell, which is in the rectangle.
+    /// Returns the number of the box that has the cell. The cell is in the rectangle.
     pub fn owner(&self, cell: Cell) -> usize
         requires { IsTrue (in_box (rectangle self.now) cell.x cell.y) }
         ensures { result ≡ owner_of self.now cell.x cell.y }

@@ -6,7 +6,7 @@ ghost use Rattle.module_box.specs.Boxes.{in_box};
 use crate::boxes::Box2;
 use bbm_rule::Cell;
 
-/// The place of a cell of a box, whose cells are counted row by row.
+/// Returns the place of a cell of a box, whose cells are counted row by row.
 pub fn place_in(area: Box2, cell: Cell) -> usize
     requires inside { IsTrue (in_box area cell.x cell.y) }
     requires small { (area.w ≤ 512) × (area.h ≤ 512) }

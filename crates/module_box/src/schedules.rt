@@ -8,14 +8,14 @@ use bbm_rule::Cell;
 use std::cmp::Ordering;
 use std::marker::Model;
 
-/// What stands at a cell. A wire is named by its number among the wires that its module knows.
+/// The signal of a cell. A wire is named by its number among the wires that its module knows.
 #[derive(Clone, Copy, Debug, PartialEq, Eq)]
 pub enum Signal {
     /// Dead.
     Zero,
     /// Live.
     One,
-    /// Live exactly where the wire of this number is true.
+    /// Live exactly if the wire of this number is true.
     Wire(u16),
 }
 
@@ -40,7 +40,7 @@ pub struct Event {
     pub signal: Signal,
 }
 
-/// Signals at cells and times. Where nothing is said of a cell and a time, the signal is [`Signal::Zero`].
+/// A list of signals at cells and times. A cell without a signal at a time has [`Signal::Zero`].
 // The held signals rise strictly by y and x of their cells, the events by time, y and x.
 #[derive(Debug, Drop)]
 pub struct Schedule {
@@ -60,7 +60,7 @@ impl Model for Schedule {
     ghost invariant = { IsSchedule };
 }
 
-/// The order of cells, by y, then x.
+/// Compares cells by y, then x.
 #[tactic(auto, unfolding(crate::specs::Moments::cell_cmp))]
 pub fn compare_cells(a: Cell, b: Cell) -> Ordering
     ensures { result ≡ cell_cmp a b }
@@ -69,7 +69,7 @@ pub fn compare_cells(a: Cell, b: Cell) -> Ordering
 }
 
 impl Moment {
-    /// The order of moments, by time, then y, then x.
+    /// Compares moments by time, then y, then x.
     #[tactic(auto, unfolding(crate::specs::Moments::moment_cmp))]
     pub fn compare(self, other: Moment) -> Ordering
         ensures { result ≡ moment_cmp self other }
@@ -119,8 +119,10 @@ fn find_event(events: &[Event], moment: Moment) -> Option<Signal>
 }
 
 impl Schedule {
-    /// The signals of two lists. The held signals rise strictly by y, then x of their cells; the events rise strictly
-    /// by time, then y, then x. Both lists may be empty.
+    /// Creates the schedule of two lists, which may be empty.
+    ///
+    /// The signals at all times rise strictly by y, then x of their cells. The events rise strictly by time, then y,
+    /// then x.
     pub fn new(held: Vec<Held>, events: Vec<Event>) -> Schedule
         requires held { IsRising cell_cmp cell_of held.items }
         requires events { IsRising moment_cmp moment_of events.items }
@@ -130,7 +132,7 @@ impl Schedule {
         Schedule { held, events }
     }
 
-    /// The held signals, rising strictly by y, then x of their cells.
+    /// Returns the signals at all times, rising strictly by y, then x of their cells.
     pub fn held(&self) -> &[Held]
         ensures same { result.now ≡ self.now.held }
         ensures rising { IsRising cell_cmp cell_of result.now }
@@ -138,7 +140,7 @@ impl Schedule {
         &self.held
     }
 
-    /// The events, rising strictly by time, then y, then x.
+    /// Returns the events, rising strictly by time, then y, then x.
     pub fn events(&self) -> &[Event]
         ensures same { result.now ≡ self.now.events }
         ensures rising { IsRising moment_cmp moment_of result.now }
@@ -146,9 +148,9 @@ impl Schedule {
         &self.events
     }
 
-    /// The signal of the cell at time `t`: what the cell holds, else its event at `t`, else [`Signal::Zero`].
+    /// Returns the signal of the cell at time `t`. It takes no memory.
     ///
-    /// No memory is taken.
+    /// It is the cell's signal at all times, else its event at `t`, else [`Signal::Zero`].
     #[tactic(auto, unfolding(crate::specs::Schedules::signal_at))]
     pub fn at(&self, t: u32, cell: Cell) -> Signal
         ensures { result ≡ signal_at self.now t cell.x cell.y }

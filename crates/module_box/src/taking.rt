@@ -20,8 +20,9 @@ fn take_row(table: &mut [usize], from: usize, end: usize, free: usize, number: u
     end
 }
 
-/// Puts the number at the places of the box's blocks, up to the first that is not free: that one, or the table's
-/// length, is the result. It takes a step for each place that was free, and one.
+/// Puts the number at the places of the box's blocks, up to the first that is not free.
+///
+/// It returns that place, or the table's length. It takes a step for each place that was free, and one.
 pub fn take_box(
     table: &mut [usize],
     columns: usize,

@@ -11,7 +11,7 @@ use crate::taking::take_box;
 use bbm_rule::Cell;
 use std::alloc::{AllocError, Global};
 
-/// Why [`owner_table`] makes no table.
+/// The reason why [`owner_table`] makes no table.
 #[derive(Clone, Copy, Debug, PartialEq, Eq)]
 pub enum TileFault {
     /// The box of this number is the first that has a cell outside the rectangle.
@@ -22,7 +22,7 @@ pub enum TileFault {
     /// The block with this upper left corner lies in no box. All boxes are inside the rectangle, and each block before
     /// it, by y, then x, lies in exactly one.
     Gap(Cell),
-    /// Memory was wanting.
+    /// There is no memory.
     Memory,
 }
 
@@ -85,19 +85,23 @@ fn corner(columns: usize, place: usize) -> Cell
     }
 }
 
-/// Which box has each cell of the rectangle of `width` by `height` cells whose upper left corner is the cell (0, 0), or
-/// why the boxes do not tile it: they tile it where each of its cells lies in exactly one box and no box has a cell
-/// outside.
+/// Returns which box has each cell of a rectangle, whose upper left corner is the cell (0, 0).
 ///
-/// Width and height are even, from 2 to 512. Corners and sides of the boxes are even, and the sides are at least 2.
-/// Boxes are numbered from 0 in the order given.
+/// Width and height are even, from 2 to 512 cells. Corners and sides of the boxes are even, and the sides are at least
+/// 2. Boxes are numbered from 0 in the order given. It takes some steps for each block and for each box, whether there
+/// is a fault or not.
 ///
-/// The error is the first fault: a box that is not inside, by number; else a block of two by two cells that lies in two
-/// boxes or in none, by y, then x; else want of memory, which may also come before a block's fault is seen. By the law
-/// [`fault_means_no_tiling`](crate::laws::fault_means_no_tiling) every fault but want of memory means that the boxes do
-/// not tile.
+/// # Errors
 ///
-/// It takes some steps for each block and for each box, whether there is a fault or not.
+/// The first fault, if the boxes do not tile the rectangle. They tile it if each of its cells lies in exactly one box
+/// and no box has a cell outside. The order is
+///
+/// - a box that is not inside, by number;
+/// - a block of two by two cells that lies in two boxes or in none, by y, then x;
+/// - out of memory, which may also come before a block's fault is seen.
+///
+/// By the law [`fault_means_no_tiling`](crate::laws::fault_means_no_tiling) every fault but out of memory means that
+/// the boxes do not tile.
 pub fn owner_table(
     alloc: Global,
     width: u32,

@@ -188,12 +188,12 @@ fn put_column(rows: &mut [u64], words: usize, place: usize, column: &[u64])
     }
 }
 
-/// Why the wires of a module have no values under an assignment.
+/// The reason why the wires of a module have no values under an assignment.
 #[derive(Clone, Copy, Debug, PartialEq, Eq)]
 pub enum LocalFault {
     /// The gate at this place among those that the module uses is the first that has no row.
     NoRow(usize),
-    /// Want of memory.
+    /// There is no memory.
     Memory,
 }
 
@@ -208,21 +208,25 @@ impl From<AllocError> for LocalFault {
     }
 }
 
-/// What a module's wires and gates have under many assignments, in rows of words: assignment a stands at bit `a % 64`
-/// of the row's word `a / 64`.
+/// The values of a module's wires, and of its gates whether they have a row, under many assignments.
+///
+/// They are in rows of words: the bit of assignment a is bit `a % 64` of the row's word `a / 64`.
 #[derive(Drop)]
 pub struct ValueRows {
     /// For each wire, by its number in the module, a row with its values.
     pub values: Vec<u64>,
-    /// For each used gate, by its place, a row that tells where it is the first that has no row.
+    /// For each used gate, by its place, a row with a bit for each assignment under which it is the first without a
+    /// row.
     pub undefined: Vec<u64>,
-    /// One row, which tells where all used gates have a row. Elsewhere the values say nothing.
+    /// One row, with a bit for each assignment under which all used gates have a row. Under others the values have no
+    /// meaning.
     pub defined: Vec<u64>,
 }
 
 impl Wiring {
-    /// How many wires are given: those that the module cuts, at most 12. They are its first wires, and each gate uses
-    /// wires that are given or that a gate before it defines.
+    /// Returns how many wires are given: those that the module cuts, at most 12.
+    ///
+    /// They are its first wires. Each gate uses wires that are given or that a gate before it defines.
     pub fn cuts(&self) -> usize
         ensures count { result ≡ self.now.given }
         ensures few { result ≤ 12 }
@@ -231,7 +235,7 @@ impl Wiring {
         self.given
     }
 
-    /// How many wires there are, at most 268: 12 cuts, and 4 wires of each of 64 gates.
+    /// Returns how many wires there are, at most 268: 12 cuts, and 4 wires of each of 64 gates.
     pub fn wires(&self) -> usize
         ensures sized { result ≡ wires self.now }
         ensures few { result ≤ 268 }
@@ -239,7 +243,7 @@ impl Wiring {
         self.wires
     }
 
-    /// How many gates the module uses, at most 64.
+    /// Returns how many gates the module uses, at most 64.
     pub fn gates(&self) -> usize
         ensures count { result ≡ length self.now.gates }
         ensures few { result ≤ 64 }
@@ -260,8 +264,9 @@ impl Wiring {
         Ok(column)
     }
 
-    /// Each wire's value, by its number here, where bit i of `cut_bits` is the value of cut i. Bits from `cuts()` on
-    /// are not looked at. Where a used gate has no row there are none.
+    /// Returns each wire's value, by its number in the module, if bit i of `cut_bits` is the value of cut i.
+    ///
+    /// It ignores the bits from `cuts()` on. There are no values if a used gate has no row.
     pub fn local_values(&self, alloc: Global, cut_bits: u32) -> Result<Vec<bool>, LocalFault>
         ensures values { IfOk result (λ vs. AreValues self.now (bit cut_bits) vs.items) }
         ensures fault { IfErr result (λ e. IsLocalFault self.now cut_bits e) }
@@ -276,8 +281,9 @@ impl Wiring {
         }
     }
 
-    /// The values of all wires under the assignments below `64 * words`, where `words` is at most 64, and the gates
-    /// that have no row: rows of `words` words. `AllocError` is want of memory.
+    /// Returns the values of all wires under the assignments below `64 * words`, and the gates without a row.
+    ///
+    /// Each row has `words` words.
     pub fn value_rows(&self, alloc: Global, words: usize) -> Result<ValueRows, AllocError>
         requires { words ≤ 64 }
         ensures { IfOk result (λ rows. AreValueRows self.now words rows) }

@@ -3,9 +3,10 @@
 use crate::locals::LocalGate;
 use std::marker::Model;
 
-/// Wires that are numbered from 0, and gates over them: the first wires are given, each gate uses wires that are given
-/// or that a gate before it defines, and defines the next ones. It knows nothing of the circuit that they come from.
-/// Contracts see it as a `Netlist`.
+/// A list of wires that are numbered from 0, and of gates over them. Contracts see it as a `Netlist`.
+///
+/// The first wires are given. Each gate uses wires that are given or that a gate before it defines, and defines the
+/// next ones. A wiring does not know the circuit that its wires come from.
 #[derive(Debug, Drop)]
 pub struct Wiring {
     pub(crate) given: usize,

@@ -1,8 +1,10 @@
 -- The entries of cells tell what the cells carry, and grow cell by cell.
-use Rattle.std.proofs.Common.{◌≡◌, ℕ, ◌+◌, ◌<◌, ◌≤◌, List, [], ◌∷◌, ◌++◌, true, false, length, map, take, get_or, nat_eq, refl, sym, ap, ap₂, ◌∙◌, arith, inl, inr, ◌⊎◌}
+use Rattle.std.proofs.Common.{◌≡◌, ℕ, ◌+◌, ◌<◌, ◌≤◌, List, [], ◌∷◌, ◌++◌, true, false, length, map, take, get_or}
+use Rattle.std.proofs.Common.{nat_eq, refl, sym, ap, ap₂, ◌∙◌, arith, inl, inr, ◌⊎◌}
 use Rattle.std.proofs.lemmas.Bool.{cases_Bool, cond-true, cond-false}
 use Rattle.std.proofs.lemmas.Bool.Decides.{nat_tests}
-use Rattle.std.proofs.lemmas.List.{append_assoc, append-nil, length-map, length-take-le, map-append, take_all, take_more}
+use Rattle.std.proofs.lemmas.List.{append_assoc, append-nil, length-map, length-take-le, map-append, take_all}
+use Rattle.std.proofs.lemmas.List.{take_more}
 use Rattle.module_box.specs.Numbers.{AreTelling}
 use Rattle.module_box.proofs.Telling.{same_head, same_tail}
 use Rattle.module_job.specs.Keys.{cell_entry, cells_numbers, entries_from}
@@ -29,56 +31,70 @@ begins_above : (place p : ℕ) (ns r : List ℕ) → place ≤ p → BeginsAbove
 unfolding entries_from
 begins_above place p [] r le n s e = inl (sym (same_head 0 n r s e))
 begins_above place p (m ∷ ns) r le n s e = elim (forms p m) [
-  | inl none ↦ begins_above place (p + 1) ns r (omega (arith, le)) n s (sym (ap (λ (l : List ℕ). (l ++ entries_from (p + 1) ns) ++ 0 ∷ r) none.1) ∙ e)
+  | inl none ↦ begins_above place (p + 1) ns r (omega (arith, le)) n s
+      (sym (ap (λ (l : List ℕ). (l ++ entries_from (p + 1) ns) ++ 0 ∷ r) none.1) ∙ e)
   | inr some ↦
-    let head = same_head (p + 1) n _ s (sym (ap (λ (l : List ℕ). (l ++ entries_from (p + 1) ns) ++ 0 ∷ r) some.1) ∙ e) in
-    inr (omega (arith, le, head))
+      let head = same_head (p + 1) n _ s
+      (sym (ap (λ (l : List ℕ). (l ++ entries_from (p + 1) ns) ++ 0 ∷ r) some.1) ∙ e) in
+      inr (omega (arith, le, head))
 ]
 
 -- ---- entries tell their numbers
 
-entries_tell : (p : ℕ) (ns ms r s : List ℕ) → length ns ≡ length ms → entries_from p ns ++ 0 ∷ r ≡ entries_from p ms ++ 0 ∷ s → (ns ≡ ms) × (r ≡ s)
+entries_tell : (p : ℕ) (ns ms r s : List ℕ) → length ns ≡ length ms →
+    entries_from p ns ++ 0 ∷ r ≡ entries_from p ms ++ 0 ∷ s → (ns ≡ ms) × (r ≡ s)
 unfolding entries_from
 entries_tell p [] [] r s same e = (refl, same_tail 0 0 r s e)
 entries_tell p [] (m ∷ ms) r s same e = absurd (omega (arith, same))
 entries_tell p (n ∷ ns) [] r s same e = absurd (omega (arith, same))
 entries_tell p (n ∷ ns) (m ∷ ms) r s same e =
-    let left : (l : List ℕ) → cell_entry p n ≡ l → entries_from p (n ∷ ns) ++ 0 ∷ r ≡ (l ++ entries_from (p + 1) ns) ++ 0 ∷ r
-        = λ l is. ap (λ (k : List ℕ). (k ++ entries_from (p + 1) ns) ++ 0 ∷ r) is in
-    let right : (l : List ℕ) → cell_entry p m ≡ l → entries_from p (m ∷ ms) ++ 0 ∷ s ≡ (l ++ entries_from (p + 1) ms) ++ 0 ∷ s
-        = λ l is. ap (λ (k : List ℕ). (k ++ entries_from (p + 1) ms) ++ 0 ∷ s) is in
+    let left : (l : List ℕ) → cell_entry p n ≡ l →
+    entries_from p (n ∷ ns) ++ 0 ∷ r ≡ (l ++ entries_from (p + 1) ns) ++ 0 ∷ r
+    = λ l is. ap (λ (k : List ℕ). (k ++ entries_from (p + 1) ns) ++ 0 ∷ r) is in
+    let right : (l : List ℕ) → cell_entry p m ≡ l →
+    entries_from p (m ∷ ms) ++ 0 ∷ s ≡ (l ++ entries_from (p + 1) ms) ++ 0 ∷ s
+    = λ l is. ap (λ (k : List ℕ). (k ++ entries_from (p + 1) ms) ++ 0 ∷ s) is in
     let shorter : length ns ≡ length ms = omega (arith, same) in
     elim (forms p n) [
       | inl none ↦ elim (forms p m) [
         | inl none' ↦
-          let rest = entries_tell (p + 1) ns ms r s shorter (sym (left [] none.1) ∙ e ∙ right [] none'.1) in
-          (ap₂ (λ x xs. x ∷ xs) (none.0 ∙ sym none'.0) rest.0, rest.1)
+            let rest = entries_tell (p + 1) ns ms r s shorter (sym (left [] none.1) ∙ e ∙ right [] none'.1) in
+            (ap₂ (λ x xs. x ∷ xs) (none.0 ∙ sym none'.0) rest.0, rest.1)
         | inr some' ↦
-          absurd (elim (begins_above (p + 1) (p + 1) ns r (omega arith) (p + 1) _ (sym (left [] none.1) ∙ e ∙ right ((p + 1) ∷ m ∷ []) some'.1)) [
-            | inl zero ↦ omega (arith, zero)
-            | inr above ↦ omega (arith, above)
-          ])
+            absurd (elim (begins_above (p + 1) (p + 1) ns r (omega arith) (p + 1) _
+            (sym (left [] none.1) ∙ e ∙ right ((p + 1) ∷ m ∷ []) some'.1)) [
+              | inl zero ↦ omega (arith, zero)
+              | inr above ↦ omega (arith, above)
+            ])
       ]
       | inr some ↦ elim (forms p m) [
         | inl none' ↦
-          absurd (elim (begins_above (p + 1) (p + 1) ms s (omega arith) (p + 1) _ (sym (right [] none'.1) ∙ sym e ∙ left ((p + 1) ∷ n ∷ []) some.1)) [
-            | inl zero ↦ omega (arith, zero)
-            | inr above ↦ omega (arith, above)
-          ])
+            absurd (elim (begins_above (p + 1) (p + 1) ms s (omega arith) (p + 1) _
+            (sym (right [] none'.1) ∙ sym e ∙ left ((p + 1) ∷ n ∷ []) some.1)) [
+              | inl zero ↦ omega (arith, zero)
+              | inr above ↦ omega (arith, above)
+            ])
         | inr some' ↦
-          let both = same_tail (p + 1) (p + 1) (n ∷ entries_from (p + 1) ns ++ 0 ∷ r) (m ∷ entries_from (p + 1) ms ++ 0 ∷ s)
-              (sym (left ((p + 1) ∷ n ∷ []) some.1) ∙ e ∙ right ((p + 1) ∷ m ∷ []) some'.1) in
-          let rest = entries_tell (p + 1) ns ms r s shorter (same_tail n m (entries_from (p + 1) ns ++ 0 ∷ r) (entries_from (p + 1) ms ++ 0 ∷ s) both) in
-          (ap₂ (λ x xs. x ∷ xs) (same_head n m (entries_from (p + 1) ns ++ 0 ∷ r) (entries_from (p + 1) ms ++ 0 ∷ s) both) rest.0, rest.1)
+            let both = same_tail (p + 1) (p + 1) (n ∷ entries_from (p + 1) ns ++ 0 ∷ r)
+            (m ∷ entries_from (p + 1) ms ++ 0 ∷ s)
+            (sym (left ((p + 1) ∷ n ∷ []) some.1) ∙ e ∙ right ((p + 1) ∷ m ∷ []) some'.1) in
+            let rest = entries_tell (p + 1) ns ms r s shorter
+            (same_tail n m (entries_from (p + 1) ns ++ 0 ∷ r) (entries_from (p + 1) ms ++ 0 ∷ s) both) in (
+              ap₂ (λ x xs. x ∷ xs) (same_head n m (entries_from (p + 1) ns ++ 0 ∷ r)
+                  (entries_from (p + 1) ms ++ 0 ∷ s) both) rest.0,
+              rest.1,
+            )
       ]
     ]
 
-numbers_told_by : {A : Type 0} (f : A → ℕ) → ((a b : A) → f a ≡ f b → a ≡ b) → (xs ys : List A) → map f xs ≡ map f ys → xs ≡ ys
+numbers_told_by : {A : Type 0} (f : A → ℕ) → ((a b : A) → f a ≡ f b → a ≡ b) → (xs ys : List A) → map f xs ≡ map f ys →
+    xs ≡ ys
 numbers_told_by f tells [] [] e = refl
 numbers_told_by f tells [] (y ∷ ys) e = absurd cc
 numbers_told_by f tells (x ∷ xs) [] e = absurd cc
 numbers_told_by f tells (x ∷ xs) (y ∷ ys) e =
-    ap₂ (λ z zs. z ∷ zs) (tells x y (same_head (f x) (f y) (map f xs) (map f ys) e)) (numbers_told_by f tells xs ys (same_tail (f x) (f y) (map f xs) (map f ys) e))
+    ap₂ (λ z zs. z ∷ zs) (tells x y (same_head (f x) (f y) (map f xs) (map f ys) e))
+    (numbers_told_by f tells xs ys (same_tail (f x) (f y) (map f xs) (map f ys) e))
 
 -- where a number tells what a cell carries, so do the numbers of the cells
 pub cells_tell_all : {A : Type 0} (f : A → ℕ) → ((a b : A) → f a ≡ f b → a ≡ b) → AreTelling (cells_numbers f)
@@ -86,20 +102,24 @@ cells_tell_all f tells xs ys r s e =
     let count = same_head (length xs) (length ys) _ _ e in
     let entries = same_tail (length xs) (length ys) _ _ e in
     let both = entries_tell 0 (map f xs) (map f ys) r s (length-map xs f ∙ count ∙ sym (length-map ys f))
-        (sym (append_assoc (entries_from 0 (map f xs)) (0 ∷ []) r) ∙ entries ∙ append_assoc (entries_from 0 (map f ys)) (0 ∷ []) s) in
+    (sym (append_assoc (entries_from 0 (map f xs)) (0 ∷ []) r) ∙ entries
+    ∙ append_assoc (entries_from 0 (map f ys)) (0 ∷ []) s) in
     (numbers_told_by f tells xs ys both.0, both.1)
 
 -- ---- one cell more
 
-entries_append : (p : ℕ) (ns ms : List ℕ) → entries_from p (ns ++ ms) ≡ entries_from p ns ++ entries_from (p + length ns) ms
+entries_append : (p : ℕ) (ns ms : List ℕ) →
+    entries_from p (ns ++ ms) ≡ entries_from p ns ++ entries_from (p + length ns) ms
 unfolding entries_from
 entries_append p [] ms = ap (λ q. entries_from q ms) (omega arith)
 entries_append p (n ∷ ns) ms =
     let place : (p + 1) + length ns ≡ p + length (n ∷ ns) = omega arith in
-    ap (λ l. cell_entry p n ++ l) (entries_append (p + 1) ns ms ∙ ap (λ q. entries_from (p + 1) ns ++ entries_from q ms) place)
+    ap (λ l. cell_entry p n ++ l)
+    (entries_append (p + 1) ns ms ∙ ap (λ q. entries_from (p + 1) ns ++ entries_from q ms) place)
     ∙ sym (append_assoc (cell_entry p n) (entries_from (p + 1) ns) (entries_from (p + length (n ∷ ns)) ms))
 
-none_entered : {A : Type 0} (f : A → ℕ) (old before : List ℕ) (xs : List A) → before ≡ old ++ length xs ∷ [] → before ≡ old ++ length xs ∷ entries_from 0 (map f (take 0 xs))
+none_entered : {A : Type 0} (f : A → ℕ) (old before : List ℕ) (xs : List A) → before ≡ old ++ length xs ∷ [] →
+    before ≡ old ++ length xs ∷ entries_from 0 (map f (take 0 xs))
 unfolding entries_from
 none_entered f old before xs e = e
 
@@ -119,10 +139,12 @@ one_more f xs i d lt =
 abbrev pub AreEntered : {A : Type 0} → (A → ℕ) → List A → ℕ → List ℕ → List ℕ → Type 0
 AreEntered f xs i old now = now ≡ old ++ length xs ∷ entries_from 0 (map f (take i xs))
 
-pub none_entered_yet : {A : Type 0} (f : A → ℕ) (xs : List A) (old now : List ℕ) → now ≡ old ++ length xs ∷ [] → AreEntered f xs 0 old now
+pub none_entered_yet : {A : Type 0} (f : A → ℕ) (xs : List A) (old now : List ℕ) → now ≡ old ++ length xs ∷ [] →
+    AreEntered f xs 0 old now
 none_entered_yet f xs old now e = none_entered f old now xs e
 
-pub one_more_entered : {A : Type 0} (f : A → ℕ) (xs : List A) (i n : ℕ) (d : A) (old now next : List ℕ) → i < length xs → n ≡ f (get_or xs i d) →
+pub one_more_entered : {A : Type 0} (f : A → ℕ) (xs : List A) (i n : ℕ) (d : A) (old now next : List ℕ) →
+    i < length xs → n ≡ f (get_or xs i d) →
     AreEntered f xs i old now → next ≡ now ++ cell_entry i n → AreEntered f xs (i + 1) old next
 one_more_entered f xs i n d old now next lt is before after =
     after ∙ ap (λ l. l ++ cell_entry i n) before
@@ -130,7 +152,8 @@ one_more_entered f xs i n d old now next lt is before after =
     ∙ ap (λ m. old ++ length xs ∷ (entries_from 0 (map f (take i xs)) ++ cell_entry i m)) is
     ∙ ap (λ l. old ++ length xs ∷ l) (sym (one_more f xs i d lt))
 
-pub all_entered : {A : Type 0} (f : A → ℕ) (xs : List A) (i : ℕ) (old now new : List ℕ) → length xs ≤ i → AreEntered f xs i old now → new ≡ now ++ 0 ∷ [] → new ≡ old ++ cells_numbers f xs
+pub all_entered : {A : Type 0} (f : A → ℕ) (xs : List A) (i : ℕ) (old now new : List ℕ) → length xs ≤ i →
+    AreEntered f xs i old now → new ≡ now ++ 0 ∷ [] → new ≡ old ++ cells_numbers f xs
 all_entered f xs i old now new le before after =
     after ∙ ap (λ l. l ++ 0 ∷ []) (before ∙ ap (λ l. old ++ length xs ∷ entries_from 0 (map f l)) (take_all i xs le))
     ∙ append_assoc old (length xs ∷ entries_from 0 (map f xs)) (0 ∷ [])

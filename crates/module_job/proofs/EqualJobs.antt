@@ -1,9 +1,11 @@
 -- The tests of equality answer whether two jobs are equal.
-use Rattle.std.proofs.Common.{◌≡◌, ℕ, zero, suc, nat_eq, Bool, true, false, ◌&&◌, List, Option, Some, None, refl, sym, ap, ap₂, ◌∙◌}
+use Rattle.std.proofs.Common.{◌≡◌, ℕ, zero, suc, nat_eq, Bool, true, false, ◌&&◌, List, Option, Some, None, refl, sym}
+use Rattle.std.proofs.Common.{ap, ap₂, ◌∙◌}
 use Rattle.std.specs.Bool.{Decides}
 use Rattle.std.specs.Cmp.Lexicographic.{pointwise}
 use Rattle.std.proofs.lemmas.Bool.Decides.{Decides-eqb}
-use Rattle.module_box.proofs.EqualTests.{both, lists, options, signal_decides, cell_decides, signals_decides, locals_decides, netlists_decide}
+use Rattle.module_box.proofs.EqualTests.{both, lists, options, signal_decides, cell_decides, signals_decides}
+use Rattle.module_box.proofs.EqualTests.{locals_decides, netlists_decide}
 use Rattle.module_box.specs.Equality.{same_cell, same_signal}
 use Rattle.module_box.specs.declared.boxes.Box2.{Box2}
 use Rattle.module_box.specs.declared.schedules.Signal.{Signal}
@@ -71,7 +73,8 @@ box_decides : (a b : Box2) → Decides (same_box a b) (a ≡ b)
 box_decides a b =
     both _ _
     (both {R = ((a.x ≡ b.x) × (a.y ≡ b.y)) × (a.w ≡ b.w)} _ _
-    (both {R = (a.x ≡ b.x) × (a.y ≡ b.y)} _ _ (Decides-eqb a.x b.x) (Decides-eqb a.y b.y) (λ x y. (x, y)) (λ p. p.0) (λ p. p.1))
+    (both {R = (a.x ≡ b.x) × (a.y ≡ b.y)} _ _ (Decides-eqb a.x b.x) (Decides-eqb a.y b.y) (λ x y. (x, y)) (λ p. p.0)
+    (λ p. p.1))
     (Decides-eqb a.w b.w) (λ p w. (p, w)) (λ p. p.0) (λ p. p.1))
     (Decides-eqb a.h b.h) (λ p h i. record { x = p.0.0 i; y = p.0.1 i; w = p.1 i; h = h i })
     (λ e. ((ap (λ c. c.x) e, ap (λ c. c.y) e), ap (λ c. c.w) e)) (λ e. ap (λ c. c.h) e)
@@ -93,28 +96,36 @@ demand_back Demanded.Any = refl
 demand_decides : (a b : Demand) → Decides (same_demand a b) (a ≡ b)
 demand_decides a b =
     both _ _ (Decides-eqb (demand_place a) (demand_place b)) (options nat_eq Decides-eqb (wire_asked a) (wire_asked b))
-    (λ place wire. sym (demand_back a) ∙ ap₂ demand_from place wire ∙ demand_back b) (λ e. ap demand_place e) (λ e. ap wire_asked e)
+    (λ place wire. sym (demand_back a) ∙ ap₂ demand_from place wire ∙ demand_back b) (λ e. ap demand_place e)
+    (λ e. ap wire_asked e)
 
 stop_decides : (a b : Stop) → Decides (same_stop a b) (a ≡ b)
 stop_decides a b =
     both _ _ (Decides-eqb a.at.time b.at.time)
-    (both {R = (a.at.cell ≡ b.at.cell) × (a.wire ≡ b.wire)} _ _ (cell_decides a.at.cell b.at.cell) (Decides-eqb a.wire b.wire) (λ cell wire. (cell, wire)) (λ p. p.0) (λ p. p.1))
+    (both {R = (a.at.cell ≡ b.at.cell) × (a.wire ≡ b.wire)} _ _ (cell_decides a.at.cell b.at.cell)
+    (Decides-eqb a.wire b.wire) (λ cell wire. (cell, wire)) (λ p. p.0) (λ p. p.1))
     (λ time rest i. record { at = record { time = time i; cell = rest.0 i }; wire = rest.1 i })
     (λ e. ap (λ s. s.at.time) e) (λ e. (ap (λ s. s.at.cell) e, ap (λ s. s.wire) e))
 
 pub jobs_decide : JobEqualityDecides
 jobs_decide j k =
     both _ _
-    (both {R = ((((j.area ≡ k.area) × (j.steps ≡ k.steps)) × (j.locals ≡ k.locals)) × ((j.starts ≡ k.starts) × (j.demands ≡ k.demands))) × ((j.edges ≡ k.edges) × (j.halos ≡ k.halos))} _ _
-    (both {R = (((j.area ≡ k.area) × (j.steps ≡ k.steps)) × (j.locals ≡ k.locals)) × ((j.starts ≡ k.starts) × (j.demands ≡ k.demands))} _ _
+    (both {R = ((((j.area ≡ k.area) × (j.steps ≡ k.steps)) × (j.locals ≡ k.locals))
+    × ((j.starts ≡ k.starts) × (j.demands ≡ k.demands))) × ((j.edges ≡ k.edges) × (j.halos ≡ k.halos))} _ _
+    (both {R = (((j.area ≡ k.area) × (j.steps ≡ k.steps)) × (j.locals ≡ k.locals))
+    × ((j.starts ≡ k.starts) × (j.demands ≡ k.demands))} _ _
     (both {R = ((j.area ≡ k.area) × (j.steps ≡ k.steps)) × (j.locals ≡ k.locals)} _ _
-    (both {R = (j.area ≡ k.area) × (j.steps ≡ k.steps)} _ _ (box_decides j.area k.area) (Decides-eqb j.steps k.steps) (λ p q. (p, q)) (λ p. p.0) (λ p. p.1))
+    (both {R = (j.area ≡ k.area) × (j.steps ≡ k.steps)} _ _ (box_decides j.area k.area) (Decides-eqb j.steps k.steps)
+    (λ p q. (p, q)) (λ p. p.0) (λ p. p.1))
     (locals_decides j.locals k.locals) (λ p q. (p, q)) (λ p. p.0) (λ p. p.1))
-    (both {R = (j.starts ≡ k.starts) × (j.demands ≡ k.demands)} _ _ (lists same_signal signal_decides j.starts k.starts) (lists same_demand demand_decides j.demands k.demands) (λ p q. (p, q)) (λ p. p.0) (λ p. p.1))
+    (both {R = (j.starts ≡ k.starts) × (j.demands ≡ k.demands)} _ _ (lists same_signal signal_decides j.starts k.starts)
+    (lists same_demand demand_decides j.demands k.demands) (λ p q. (p, q)) (λ p. p.0) (λ p. p.1))
     (λ p q. (p, q)) (λ p. p.0) (λ p. p.1))
-    (both {R = (j.edges ≡ k.edges) × (j.halos ≡ k.halos)} _ _ (signals_decides j.edges k.edges) (signals_decides j.halos k.halos) (λ p q. (p, q)) (λ p. p.0) (λ p. p.1))
+    (both {R = (j.edges ≡ k.edges) × (j.halos ≡ k.halos)} _ _ (signals_decides j.edges k.edges)
+    (signals_decides j.halos k.halos) (λ p q. (p, q)) (λ p. p.0) (λ p. p.1))
     (λ p q. (p, q)) (λ p. p.0) (λ p. p.1))
-    (both {R = (j.stops ≡ k.stops) × (j.kept ≡ k.kept)} _ _ (lists same_stop stop_decides j.stops k.stops) (lists nat_eq Decides-eqb j.kept k.kept) (λ p q. (p, q)) (λ p. p.0) (λ p. p.1))
+    (both {R = (j.stops ≡ k.stops) × (j.kept ≡ k.kept)} _ _ (lists same_stop stop_decides j.stops k.stops)
+    (lists nat_eq Decides-eqb j.kept k.kept) (λ p q. (p, q)) (λ p. p.0) (λ p. p.1))
     (λ p rest i. record {
       area = p.0.0.0.0 i;
       steps = p.0.0.0.1 i;
@@ -126,24 +137,36 @@ jobs_decide j k =
       stops = rest.0 i;
       kept = rest.1 i;
     })
-    (λ e. ((((ap (λ l. l.area) e, ap (λ l. l.steps) e), ap (λ l. l.locals) e), (ap (λ l. l.starts) e, ap (λ l. l.demands) e)), (ap (λ l. l.edges) e, ap (λ l. l.halos) e)))
+    (λ e. (
+      (
+        ((ap (λ l. l.area) e, ap (λ l. l.steps) e), ap (λ l. l.locals) e),
+        (ap (λ l. l.starts) e, ap (λ l. l.demands) e),
+      ),
+      (ap (λ l. l.edges) e, ap (λ l. l.halos) e),
+    ))
     (λ e. (ap (λ l. l.stops) e, ap (λ l. l.kept) e))
 
 pub shapes_decide : ShapeEqualityDecides
 shapes_decide s t =
     both _ _
-    (both {R = (((((s.width ≡ t.width) × (s.height ≡ t.height)) × (s.steps ≡ t.steps)) × (s.netlist ≡ t.netlist)) × ((s.starts ≡ t.starts) × (s.demands ≡ t.demands))) × ((s.edges ≡ t.edges) × (s.halos ≡ t.halos))} _ _
-    (both {R = ((((s.width ≡ t.width) × (s.height ≡ t.height)) × (s.steps ≡ t.steps)) × (s.netlist ≡ t.netlist)) × ((s.starts ≡ t.starts) × (s.demands ≡ t.demands))} _ _
+    (both {R = (((((s.width ≡ t.width) × (s.height ≡ t.height)) × (s.steps ≡ t.steps)) × (s.netlist ≡ t.netlist))
+    × ((s.starts ≡ t.starts) × (s.demands ≡ t.demands))) × ((s.edges ≡ t.edges) × (s.halos ≡ t.halos))} _ _
+    (both {R = ((((s.width ≡ t.width) × (s.height ≡ t.height)) × (s.steps ≡ t.steps)) × (s.netlist ≡ t.netlist))
+    × ((s.starts ≡ t.starts) × (s.demands ≡ t.demands))} _ _
     (both {R = (((s.width ≡ t.width) × (s.height ≡ t.height)) × (s.steps ≡ t.steps)) × (s.netlist ≡ t.netlist)} _ _
     (both {R = ((s.width ≡ t.width) × (s.height ≡ t.height)) × (s.steps ≡ t.steps)} _ _
-    (both {R = (s.width ≡ t.width) × (s.height ≡ t.height)} _ _ (Decides-eqb s.width t.width) (Decides-eqb s.height t.height) (λ p q. (p, q)) (λ p. p.0) (λ p. p.1))
+    (both {R = (s.width ≡ t.width) × (s.height ≡ t.height)} _ _ (Decides-eqb s.width t.width)
+    (Decides-eqb s.height t.height) (λ p q. (p, q)) (λ p. p.0) (λ p. p.1))
     (Decides-eqb s.steps t.steps) (λ p q. (p, q)) (λ p. p.0) (λ p. p.1))
     (netlists_decide s.netlist t.netlist) (λ p q. (p, q)) (λ p. p.0) (λ p. p.1))
-    (both {R = (s.starts ≡ t.starts) × (s.demands ≡ t.demands)} _ _ (lists same_signal signal_decides s.starts t.starts) (lists same_demand demand_decides s.demands t.demands) (λ p q. (p, q)) (λ p. p.0) (λ p. p.1))
+    (both {R = (s.starts ≡ t.starts) × (s.demands ≡ t.demands)} _ _ (lists same_signal signal_decides s.starts t.starts)
+    (lists same_demand demand_decides s.demands t.demands) (λ p q. (p, q)) (λ p. p.0) (λ p. p.1))
     (λ p q. (p, q)) (λ p. p.0) (λ p. p.1))
-    (both {R = (s.edges ≡ t.edges) × (s.halos ≡ t.halos)} _ _ (signals_decides s.edges t.edges) (signals_decides s.halos t.halos) (λ p q. (p, q)) (λ p. p.0) (λ p. p.1))
+    (both {R = (s.edges ≡ t.edges) × (s.halos ≡ t.halos)} _ _ (signals_decides s.edges t.edges)
+    (signals_decides s.halos t.halos) (λ p q. (p, q)) (λ p. p.0) (λ p. p.1))
     (λ p q. (p, q)) (λ p. p.0) (λ p. p.1))
-    (both {R = (s.stops ≡ t.stops) × (s.kept ≡ t.kept)} _ _ (lists same_stop stop_decides s.stops t.stops) (lists nat_eq Decides-eqb s.kept t.kept) (λ p q. (p, q)) (λ p. p.0) (λ p. p.1))
+    (both {R = (s.stops ≡ t.stops) × (s.kept ≡ t.kept)} _ _ (lists same_stop stop_decides s.stops t.stops)
+    (lists nat_eq Decides-eqb s.kept t.kept) (λ p q. (p, q)) (λ p. p.0) (λ p. p.1))
     (λ p rest i. record {
       width = p.0.0.0.0.0 i;
       height = p.0.0.0.0.1 i;
@@ -156,7 +179,13 @@ shapes_decide s t =
       stops = rest.0 i;
       kept = rest.1 i;
     })
-    (λ e. (((((ap (λ l. l.width) e, ap (λ l. l.height) e), ap (λ l. l.steps) e), ap (λ l. l.netlist) e), (ap (λ l. l.starts) e, ap (λ l. l.demands) e)), (ap (λ l. l.edges) e, ap (λ l. l.halos) e)))
+    (λ e. (
+      (
+        (((ap (λ l. l.width) e, ap (λ l. l.height) e), ap (λ l. l.steps) e), ap (λ l. l.netlist) e),
+        (ap (λ l. l.starts) e, ap (λ l. l.demands) e),
+      ),
+      (ap (λ l. l.edges) e, ap (λ l. l.halos) e),
+    ))
     (λ e. (ap (λ l. l.stops) e, ap (λ l. l.kept) e))
 
 -- ---- two jobs are the same exactly where corner, wires, gates and shape are
@@ -175,7 +204,8 @@ one_fact false true d e = absurd (wrong (d.1 (e.0 refl)))
     wrong h = cc
 
 parts_decide : (x y x' y' : ℕ) (ws gs ws' gs' : List ℕ) (s t : ShapeState) →
-    Decides ((((nat_eq x x' && nat_eq y y') && pointwise nat_eq ws ws') && pointwise nat_eq gs gs') && same_shape s t) (placed x y ws gs s ≡ placed x' y' ws' gs' t)
+    Decides ((((nat_eq x x' && nat_eq y y') && pointwise nat_eq ws ws') && pointwise nat_eq gs gs') && same_shape s t)
+    (placed x y ws gs s ≡ placed x' y' ws' gs' t)
 parts_decide x y x' y' ws gs ws' gs' s t =
     both _ _
     (both {R = (((x ≡ x') × (y ≡ y')) × (ws ≡ ws')) × (gs ≡ gs')} _ _
@@ -185,9 +215,14 @@ parts_decide x y x' y' ws gs ws' gs' s t =
     (lists nat_eq Decides-eqb gs gs') (λ p q. (p, q)) (λ p. p.0) (λ p. p.1))
     (shapes_decide s t)
     (λ p shape i. placed (p.0.0.0 i) (p.0.0.1 i) (p.0.1 i) (p.1 i) (shape i))
-    (λ e. (((ap (λ j. j.area.x) e, ap (λ j. j.area.y) e), ap (λ j. j.locals.circuit_wires) e), ap (λ j. j.locals.circuit_gates) e))
+    (λ e. (
+      ((ap (λ j. j.area.x) e, ap (λ j. j.area.y) e), ap (λ j. j.locals.circuit_wires) e),
+      ap (λ j. j.locals.circuit_gates) e,
+    ))
     (λ e. sym (shape_placed x y ws gs s) ∙ ap shape_of e ∙ shape_placed x' y' ws' gs' t)
 
 pub parts_tell : (x y x' y' : ℕ) (ws gs ws' gs' : List ℕ) (s t : ShapeState) →
-    ((((nat_eq x x' && nat_eq y y') && pointwise nat_eq ws ws') && pointwise nat_eq gs gs') && same_shape s t) ≡ same_job (placed x y ws gs s) (placed x' y' ws' gs' t)
-parts_tell x y x' y' ws gs ws' gs' s t = one_fact _ _ (parts_decide x y x' y' ws gs ws' gs' s t) (jobs_decide (placed x y ws gs s) (placed x' y' ws' gs' t))
+    ((((nat_eq x x' && nat_eq y y') && pointwise nat_eq ws ws') && pointwise nat_eq gs gs') && same_shape s t)
+    ≡ same_job (placed x y ws gs s) (placed x' y' ws' gs' t)
+parts_tell x y x' y' ws gs ws' gs' s t =
+    one_fact _ _ (parts_decide x y x' y' ws gs ws' gs' s t) (jobs_decide (placed x y ws gs s) (placed x' y' ws' gs' t))

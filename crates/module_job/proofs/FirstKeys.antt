@@ -1,5 +1,6 @@
 -- The first keys that are the same, as a map has them
-use Rattle.std.proofs.Common.{◌≡◌, ℕ, ◌+◌, ◌<◌, List, Option, Some, None, nat_eq, refl, sym, ap, subst, ◌∙◌, arith, inl, inr}
+use Rattle.std.proofs.Common.{◌≡◌, ℕ, ◌+◌, ◌<◌, List, Option, Some, None, nat_eq, refl, sym, ap, subst, ◌∙◌, arith, inl}
+use Rattle.std.proofs.Common.{inr}
 use Rattle.std.specs.Prelude.{◌≢◌, if◌then◌else◌, slice_get, unwrap_or}
 use Rattle.std.proofs.lemmas.Bool.{cases_Bool, cases_lt, false≢true}
 use Rattle.std.proofs.lemmas.Bool.Decides.{Decides-eqb}
@@ -9,35 +10,44 @@ use Rattle.module_job.specs.Groups.{IsFirstLike, same_key}
 -- what is known of a key after the first n
 abbrev pub IsFirstOf : List (List ℕ) → ℕ → List ℕ → Option ℕ → Type 0
 IsFirstOf keys n key None = (i : ℕ) → i < n → slice_get keys i ≢ Some key
-IsFirstOf keys n key (Some f) = (f < n) × (slice_get keys f ≡ Some key) × ((i : ℕ) → i < f → slice_get keys i ≢ Some key)
+IsFirstOf keys n key (Some f) =
+    (f < n) × (slice_get keys f ≡ Some key) × ((i : ℕ) → i < f → slice_get keys i ≢ Some key)
 
-pub first_found : (keys : List (List ℕ)) (n : ℕ) (key : List ℕ) (o : Option ℕ) → slice_get keys n ≡ Some key → IsFirstOf keys n key o → IsFirstLike keys n (unwrap_or o n)
+pub first_found : (keys : List (List ℕ)) (n : ℕ) (key : List ℕ) (o : Option ℕ) → slice_get keys n ≡ Some key →
+    IsFirstOf keys n key o → IsFirstLike keys n (unwrap_or o n)
 first_found keys n key None there known = record { same = refl; first = λ i lt e. known i lt (e ∙ there) }
-first_found keys n key (Some f) there known = record { same = known.1 ∙ sym there; first = λ i lt e. known.2 i lt (e ∙ there) }
+first_found keys n key (Some f) there known =
+    record { same = known.1 ∙ sym there; first = λ i lt e. known.2 i lt (e ∙ there) }
 
 -- one more key
 same_one : (x y : List ℕ) (o : Option (List ℕ)) → o ≡ Some x → o ≡ Some y → x ≡ y
 same_one x y o e f = cc
 
-its_first : (keys : List (List ℕ)) (n : ℕ) (key : List ℕ) (o : Option ℕ) → slice_get keys n ≡ Some key → IsFirstOf keys n key o → IsFirstOf keys (n + 1) key (Some (unwrap_or o n))
+its_first : (keys : List (List ℕ)) (n : ℕ) (key : List ℕ) (o : Option ℕ) → slice_get keys n ≡ Some key →
+    IsFirstOf keys n key o → IsFirstOf keys (n + 1) key (Some (unwrap_or o n))
 its_first keys n key None there known = (omega arith, there, known)
 its_first keys n key (Some f) there known = let lt = known.0 in (omega (arith, lt), known.1, known.2)
 
-others_first : (keys : List (List ℕ)) (n : ℕ) (key other : List ℕ) (o : Option ℕ) → slice_get keys n ≡ Some key → (key ≡ other → ⊥) → IsFirstOf keys n other o → IsFirstOf keys (n + 1) other o
+others_first : (keys : List (List ℕ)) (n : ℕ) (key other : List ℕ) (o : Option ℕ) → slice_get keys n ≡ Some key →
+    (key ≡ other → ⊥) → IsFirstOf keys n other o → IsFirstOf keys (n + 1) other o
 others_first keys n key other None there apart known = λ i lt e. elim (cases_lt i n) [
   | inl less ↦ known i less e
-  | inr large ↦ let is : n ≡ i = omega (arith, lt, large) in apart (same_one key other (slice_get keys i) (ap (slice_get keys) (sym is) ∙ there) e)
+  | inr large ↦ let is : n ≡ i = omega (arith, lt, large) in
+      apart (same_one key other (slice_get keys i) (ap (slice_get keys) (sym is) ∙ there) e)
 ]
 others_first keys n key other (Some f) there apart known = let lt = known.0 in (omega (arith, lt), known.1, known.2)
 
-pub known_more : (keys : List (List ℕ)) (n : ℕ) (key other : List ℕ) (o p : Option ℕ) (first : ℕ) → slice_get keys n ≡ Some key → IsFirstOf keys n key o → first ≡ unwrap_or o n → IsFirstOf keys n other p →
+pub known_more : (keys : List (List ℕ)) (n : ℕ) (key other : List ℕ) (o p : Option ℕ) (first : ℕ) →
+    slice_get keys n ≡ Some key → IsFirstOf keys n key o → first ≡ unwrap_or o n → IsFirstOf keys n other p →
     IsFirstOf keys (n + 1) other (if same_key key other then Some first else p)
 known_more keys n key other o p first there known is others = elim (cases_Bool (same_key key other)) [
   | inl same ↦
       let one : key ≡ other = (lists nat_eq Decides-eqb key other).0 same in
       subst (λ b. IsFirstOf keys (n + 1) other (if b then Some first else p)) (sym same)
-      (subst (λ k. IsFirstOf keys (n + 1) k (Some first)) one (subst (λ f. IsFirstOf keys (n + 1) key (Some f)) (sym is) (its_first keys n key o there known)))
+      (subst (λ k. IsFirstOf keys (n + 1) k (Some first)) one
+      (subst (λ f. IsFirstOf keys (n + 1) key (Some f)) (sym is) (its_first keys n key o there known)))
   | inr apart ↦
       subst (λ b. IsFirstOf keys (n + 1) other (if b then Some first else p)) (sym apart)
-      (others_first keys n key other p there (λ e. false≢true (sym apart ∙ (lists nat_eq Decides-eqb key other).1 e)) others)
+      (others_first keys n key other p there
+      (λ e. false≢true (sym apart ∙ (lists nat_eq Decides-eqb key other).1 e)) others)
 ]

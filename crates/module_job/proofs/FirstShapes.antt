@@ -1,5 +1,6 @@
 -- Shapes at their places in a list of references.
-use Rattle.std.proofs.Common.{◌≡◌, ℕ, ◌+◌, ◌<◌, List, [], ◌∷◌, ◌++◌, map, length, take, get_or, Option, Some, zero, suc, refl, sym, ap, ap₂, subst, ◌∙◌, arith, inl, inr}
+use Rattle.std.proofs.Common.{◌≡◌, ℕ, ◌+◌, ◌<◌, List, [], ◌∷◌, ◌++◌, map, length, take, get_or, Option, Some, zero, suc}
+use Rattle.std.proofs.Common.{refl, sym, ap, ap₂, subst, ◌∙◌, arith, inl, inr}
 use Rattle.std.specs.Prelude.{slice_get, slice_index, unwrap_or}
 use Rattle.std.specs.Option.{option_map}
 use Rattle.std.proofs.lemmas.Bool.{cases_lt}
@@ -9,20 +10,24 @@ use Rattle.std.proofs.lemmas.Option.{slice_get-map, slice_get-get_or}
 use Rattle.module_job.specs.Groups.{AreGroups, AreKeys, IsFirstLike}
 use Rattle.module_job.specs.Shapes.{ShapeState}
 
-pub value_at : {A B : Type 0} (v : A → B) (xs : List A) (k : ℕ) (d : A) (b : B) → k < length xs → d ≡ get_or xs k d → b ≡ v d → slice_get (map v xs) k ≡ Some b
-value_at v xs k d b lt is e = slice_get-map v xs k ∙ ap (option_map v) (slice_get-get_or xs k d lt ∙ ap Some (sym is)) ∙ ap Some (sym e)
+pub value_at : {A B : Type 0} (v : A → B) (xs : List A) (k : ℕ) (d : A) (b : B) → k < length xs → d ≡ get_or xs k d →
+    b ≡ v d → slice_get (map v xs) k ≡ Some b
+value_at v xs k d b lt is e =
+    slice_get-map v xs k ∙ ap (option_map v) (slice_get-get_or xs k d lt ∙ ap Some (sym is)) ∙ ap Some (sym e)
 
 pub one_value : {A : Type 0} (o p : Option A) (a b : A) → o ≡ Some a → p ≡ Some b → o ≡ p → a ≡ b
 one_value o p a b e f g = cc
 
 -- one more group
-pub group_more : {A : Type 0} (shapes : List A) (groups : List ℕ) (n g : ℕ) → length groups ≡ n → ((k : ℕ) → k < n → IsFirstLike shapes k (slice_index groups k)) → IsFirstLike shapes n g →
+pub group_more : {A : Type 0} (shapes : List A) (groups : List ℕ) (n g : ℕ) → length groups ≡ n →
+    ((k : ℕ) → k < n → IsFirstLike shapes k (slice_index groups k)) → IsFirstLike shapes n g →
     (k : ℕ) → k < n + 1 → IsFirstLike shapes k (slice_index (groups ++ g ∷ []) k)
 group_more shapes groups n g count each here k lt = elim (cases_lt k n) [
   | inl less ↦ subst (IsFirstLike shapes k) (sym (before groups g k (omega (arith, less, count)))) (each k less)
   | inr large ↦
       let is : n ≡ k = omega (arith, lt, large) in
-      subst (λ m. IsFirstLike shapes m (slice_index (groups ++ g ∷ []) m)) is (subst (IsFirstLike shapes n) (sym (last groups g n count)) here)
+      subst (λ m. IsFirstLike shapes m (slice_index (groups ++ g ∷ []) m)) is
+      (subst (IsFirstLike shapes n) (sym (last groups g n count)) here)
 ]
   where
     before : (xs : List ℕ) (y k : ℕ) → k < length xs → slice_index (xs ++ y ∷ []) k ≡ slice_index xs k
@@ -31,8 +36,10 @@ group_more shapes groups n g count each here k lt = elim (cases_lt k n) [
     last : (xs : List ℕ) (y n : ℕ) → length xs ≡ n → slice_index (xs ++ y ∷ []) n ≡ y
     last xs y n e = grind (arith, common_steps)
 
-pub all_groups : {A : Type 0} (shapes : List A) (groups : List ℕ) (n : ℕ) → n ≡ length shapes → length groups ≡ n → ((k : ℕ) → k < n → IsFirstLike shapes k (slice_index groups k)) → AreGroups shapes groups
-all_groups shapes groups n all count each = record { count = count ∙ all; each = λ k lt. each k (omega (arith, lt, all)) }
+pub all_groups : {A : Type 0} (shapes : List A) (groups : List ℕ) (n : ℕ) → n ≡ length shapes → length groups ≡ n →
+    ((k : ℕ) → k < n → IsFirstLike shapes k (slice_index groups k)) → AreGroups shapes groups
+all_groups shapes groups n all count each =
+    record { count = count ∙ all; each = λ k lt. each k (omega (arith, lt, all)) }
 
 -- keys that are made of the shapes
 pub made_keys : (shapes : List ShapeState) (key : ShapeState → List ℕ) → AreKeys shapes (map key shapes)
@@ -42,12 +49,18 @@ made_keys shapes key = record {
 }
 
 -- ---- a list that is made element by element of another
-pub pushed_one : {B C : Type 0} (g : B → C) (new old : List C) (x : C) (xs : List B) (i : ℕ) (d : B) → new ≡ old ++ x ∷ [] → i < length xs → old ≡ map g (take i xs) → x ≡ g (get_or xs i d) → new ≡ map g (take (i + 1) xs)
+pub pushed_one : {B C : Type 0} (g : B → C) (new old : List C) (x : C) (xs : List B) (i : ℕ) (d : B) →
+    new ≡ old ++ x ∷ [] → i < length xs → old ≡ map g (take i xs) → x ≡ g (get_or xs i d) →
+    new ≡ map g (take (i + 1) xs)
 pushed_one g new old x xs i d is lt before here =
-    is ∙ ap₂ (λ l y. l ++ y ∷ []) before here ∙ sym (ap (map g) (take_more xs i d lt) ∙ map-append g (take i xs) (get_or xs i d ∷ []))
+    is ∙ ap₂ (λ l y. l ++ y ∷ []) before here
+    ∙ sym (ap (map g) (take_more xs i d lt) ∙ map-append g (take i xs) (get_or xs i d ∷ []))
 
-pub pushed_value : {A B C : Type 0} (v : A → C) (g : B → C) (new old : List A) (x : A) (xs : List B) (i : ℕ) (d : B) → new ≡ old ++ x ∷ [] → i < length xs → map v old ≡ map g (take i xs) → v x ≡ g (get_or xs i d) → map v new ≡ map g (take (i + 1) xs)
-pushed_value v g new old x xs i d is lt before here = pushed_one g (map v new) (map v old) (v x) xs i d (ap (map v) is ∙ map-append v old (x ∷ [])) lt before here
+pub pushed_value : {A B C : Type 0} (v : A → C) (g : B → C) (new old : List A) (x : A) (xs : List B) (i : ℕ) (d : B) →
+    new ≡ old ++ x ∷ [] → i < length xs → map v old ≡ map g (take i xs) → v x ≡ g (get_or xs i d) →
+    map v new ≡ map g (take (i + 1) xs)
+pushed_value v g new old x xs i d is lt before here =
+    pushed_one g (map v new) (map v old) (v x) xs i d (ap (map v) is ∙ map-append v old (x ∷ [])) lt before here
 
 pub map_twice : {A B C : Type 0} (f : A → B) (g : B → C) (xs : List A) → map g (map f xs) ≡ map (λ x. g (f x)) xs
 map_twice f g [] = refl
@@ -59,5 +72,6 @@ read_is [] i d = refl
 read_is (x ∷ xs) zero d = refl
 read_is (x ∷ xs) (suc i) d = read_is xs i d
 
-pub same_read : {A : Type 0} (xs : List A) (i k : ℕ) (d : A) → slice_get xs i ≡ slice_get xs k → get_or xs i d ≡ get_or xs k d
+pub same_read : {A : Type 0} (xs : List A) (i k : ℕ) (d : A) → slice_get xs i ≡ slice_get xs k →
+    get_or xs i d ≡ get_or xs k d
 same_read xs i k d e = read_is xs i d ∙ ap (λ o. unwrap_or o d) e ∙ sym (read_is xs k d)

@@ -16,10 +16,12 @@ forth_back n = omega (arith, ints)
 pub back_forth : (n : ℕ) → back n +ℤ pos n ≡ pos 0
 back_forth n = omega (arith, ints)
 
-pub stops_back : (dx dy ex ey : ℤ) (ss : List Stop) → dx +ℤ ex ≡ pos 0 → dy +ℤ ey ≡ pos 0 → map (moved_stop ex ey) (map (moved_stop dx dy) ss) ≡ ss
+pub stops_back : (dx dy ex ey : ℤ) (ss : List Stop) → dx +ℤ ex ≡ pos 0 → dy +ℤ ey ≡ pos 0 →
+    map (moved_stop ex ey) (map (moved_stop dx dy) ss) ≡ ss
 stops_back dx dy ex ey [] p q = refl
 stops_back dx dy ex ey (s ∷ ss) p q =
-    let here : moved_stop ex ey (moved_stop dx dy s) ≡ s = λ i. record { at = record { time = s.at.time; cell = cell_back dx dy ex ey s.at.cell p q i }; wire = s.wire } in
+    let here : moved_stop ex ey (moved_stop dx dy s) ≡ s =
+    λ i. record { at = record { time = s.at.time; cell = cell_back dx dy ex ey s.at.cell p q i }; wire = s.wire } in
     ap₂ (λ x xs. x ∷ xs) here (stops_back dx dy ex ey ss p q)
 
 pub placed_again : (x y : ℕ) (s : Signals) → moved_signals (pos x) (pos y) (moved_signals (back x) (back y) s) ≡ s
@@ -43,7 +45,8 @@ shape_placed x y wires gates s =
       kept = s.kept;
     }
 
-pub placed_shape : (j : JobState) → placed j.area.x j.area.y j.locals.circuit_wires j.locals.circuit_gates (shape_of j) ≡ j
+pub placed_shape : (j : JobState) →
+    placed j.area.x j.area.y j.locals.circuit_wires j.locals.circuit_gates (shape_of j) ≡ j
 placed_shape j =
     let x = j.area.x in
     let y = j.area.y in
@@ -69,7 +72,8 @@ shapes_are_parts = record { whole = placed_shape; part = shape_placed }
 there_again : (z : ℤ) (n : ℕ) → (z +ℤ back n) +ℤ pos n ≡ z
 there_again z n = omega (arith, ints)
 
-pub carried : (x y : ℕ) (s : Signals) (t : ℕ) (cx cy : ℤ) → signal_at s t (cx +ℤ back x) (cy +ℤ back y) ≡ signal_at (moved_signals (pos x) (pos y) s) t cx cy
+pub carried : (x y : ℕ) (s : Signals) (t : ℕ) (cx cy : ℤ) →
+    signal_at s t (cx +ℤ back x) (cy +ℤ back y) ≡ signal_at (moved_signals (pos x) (pos y) s) t cx cy
 carried x y s t cx cy =
     sym (signals_moved (pos x) (pos y) s t (cx +ℤ back x) (cy +ℤ back y))
     ∙ ap₂ (λ u v. signal_at (moved_signals (pos x) (pos y) s) t u v) (there_again cx x) (there_again cy y)

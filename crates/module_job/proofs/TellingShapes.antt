@@ -11,8 +11,11 @@ use Rattle.std.proofs.lemmas.Nat.{from_le_bytes-to_le_bytes_2, from_le_bytes-to_
 use Rattle.module_box.specs.Numbers.{AreTelling, counted, netlist_numbers}
 use Rattle.module_box.specs.declared.schedules.Signal.{Signal}
 use Rattle.module_box.specs.declared.schedules.Signal.TheVariants.{Zero, One, Wire}
-use Rattle.module_box.proofs.Telling.{counted_tell, listed, lists_tell, netlists_tell, same_head, same_length, same_tail}
-use Rattle.module_job.specs.Keys.{BytesTellNumbers, NumbersTellShapes, cell_numbers, cells_numbers, demand_number, event_numbers, held_numbers, integer_number, number_bytes, shape_numbers, signal_number, signal_numbers, signals_numbers, stop_numbers}
+use Rattle.module_box.proofs.Telling.{counted_tell, listed, lists_tell, netlists_tell, same_head, same_length}
+use Rattle.module_box.proofs.Telling.{same_tail}
+use Rattle.module_job.specs.Keys.{BytesTellNumbers, NumbersTellShapes, cell_numbers, cells_numbers, demand_number}
+use Rattle.module_job.specs.Keys.{event_numbers, held_numbers, integer_number, number_bytes, shape_numbers}
+use Rattle.module_job.specs.Keys.{signal_number, signal_numbers, signals_numbers, stop_numbers}
 use Rattle.module_job.proofs.CellEntries.{cells_tell_all}
 use Rattle.module_job.specs.Shapes.{ShapeState}
 use Rattle.module_job.specs.declared.job.Demand.{Demand}
@@ -72,14 +75,16 @@ helds_tell h k r s e =
 
 events_tell : AreTelling event_numbers
 events_tell h k r s e =
-    let time = one_tells (λ (n : ℕ). n) (λ n m is. is) h.at.time k.at.time (cell_numbers h.at.cell ++ signal_number h.signal ∷ r) (cell_numbers k.at.cell ++ signal_number k.signal ∷ s) e in
+    let time = one_tells (λ (n : ℕ). n) (λ n m is. is) h.at.time k.at.time
+    (cell_numbers h.at.cell ++ signal_number h.signal ∷ r) (cell_numbers k.at.cell ++ signal_number k.signal ∷ s) e in
     let cell = cells_tell h.at.cell k.at.cell (signal_number h.signal ∷ r) (signal_number k.signal ∷ s) time.1 in
     let signal = one_tells signal_number signal_told h.signal k.signal r s cell.1 in
     (λ i. record { at = record { time = time.0 i; cell = cell.0 i }; signal = signal.0 i }, signal.1)
 
 stops_tell : AreTelling stop_numbers
 stops_tell h k r s e =
-    let time = one_tells (λ (n : ℕ). n) (λ n m is. is) h.at.time k.at.time (cell_numbers h.at.cell ++ h.wire ∷ r) (cell_numbers k.at.cell ++ k.wire ∷ s) e in
+    let time = one_tells (λ (n : ℕ). n) (λ n m is. is) h.at.time k.at.time (cell_numbers h.at.cell ++ h.wire ∷ r)
+    (cell_numbers k.at.cell ++ k.wire ∷ s) e in
     let cell = cells_tell h.at.cell k.at.cell (h.wire ∷ r) (k.wire ∷ s) time.1 in
     let wire = one_tells (λ (n : ℕ). n) (λ n m is. is) h.wire k.wire r s cell.1 in
     (λ i. record { at = record { time = time.0 i; cell = cell.0 i }; wire = wire.0 i }, wire.1)
@@ -88,15 +93,20 @@ signals_tell : AreTelling signals_numbers
 signals_tell a b r s e =
     let apart = append_assoc (counted held_numbers a.held) (counted event_numbers a.events) r in
     let apart' = append_assoc (counted held_numbers b.held) (counted event_numbers b.events) s in
-    let held = counted_tell held_numbers helds_tell a.held b.held (counted event_numbers a.events ++ r) (counted event_numbers b.events ++ s) (sym apart ∙ e ∙ apart') in
+    let held = counted_tell held_numbers helds_tell a.held b.held (counted event_numbers a.events ++ r)
+    (counted event_numbers b.events ++ s) (sym apart ∙ e ∙ apart') in
     let events = counted_tell event_numbers events_tell a.events b.events r s held.1 in
     (λ i. record { held = held.0 i; events = events.0 i }, events.1)
 
 -- ---- shapes
-in_turn : (a b c d e f g h r : List ℕ) → a ++ b ++ c ++ d ++ e ++ f ++ g ++ h ++ r ≡ a ++ (b ++ (c ++ (d ++ (e ++ (f ++ (g ++ (h ++ r)))))))
+in_turn : (a b c d e f g h r : List ℕ) →
+    a ++ b ++ c ++ d ++ e ++ f ++ g ++ h ++ r ≡ a ++ (b ++ (c ++ (d ++ (e ++ (f ++ (g ++ (h ++ r)))))))
 in_turn a b c d e f g h r =
-    append_assoc (a ++ b ++ c ++ d ++ e ++ f ++ g) h r ∙ append_assoc (a ++ b ++ c ++ d ++ e ++ f) g (h ++ r) ∙ append_assoc (a ++ b ++ c ++ d ++ e) f (g ++ (h ++ r))
-    ∙ append_assoc (a ++ b ++ c ++ d) e (f ++ (g ++ (h ++ r))) ∙ append_assoc (a ++ b ++ c) d (e ++ (f ++ (g ++ (h ++ r)))) ∙ append_assoc (a ++ b) c (d ++ (e ++ (f ++ (g ++ (h ++ r)))))
+    append_assoc (a ++ b ++ c ++ d ++ e ++ f ++ g) h r ∙ append_assoc (a ++ b ++ c ++ d ++ e ++ f) g (h ++ r)
+    ∙ append_assoc (a ++ b ++ c ++ d ++ e) f (g ++ (h ++ r))
+    ∙ append_assoc (a ++ b ++ c ++ d) e (f ++ (g ++ (h ++ r)))
+    ∙ append_assoc (a ++ b ++ c) d (e ++ (f ++ (g ++ (h ++ r))))
+    ∙ append_assoc (a ++ b) c (d ++ (e ++ (f ++ (g ++ (h ++ r)))))
     ∙ append_assoc a b (c ++ (d ++ (e ++ (f ++ (g ++ (h ++ r))))))
 
 abbrev sides : ShapeState → List ℕ
@@ -114,8 +124,10 @@ stops s = counted stop_numbers s.stops
 pub shapes_tell : NumbersTellShapes
 unfolding shape_numbers
 shapes_tell a b r s e =
-    let apart = in_turn (netlist_numbers a.netlist) (sides a) (starts a) (demands a) (signals_numbers a.edges) (signals_numbers a.halos) (stops a) (listed a.kept) r in
-    let apart' = in_turn (netlist_numbers b.netlist) (sides b) (starts b) (demands b) (signals_numbers b.edges) (signals_numbers b.halos) (stops b) (listed b.kept) s in
+    let apart = in_turn (netlist_numbers a.netlist) (sides a) (starts a) (demands a) (signals_numbers a.edges)
+    (signals_numbers a.halos) (stops a) (listed a.kept) r in
+    let apart' = in_turn (netlist_numbers b.netlist) (sides b) (starts b) (demands b) (signals_numbers b.edges)
+    (signals_numbers b.halos) (stops b) (listed b.kept) s in
     let net = netlists_tell a.netlist b.netlist _ _ (sym apart ∙ e ∙ apart') in
     let three = same_length (sides a) (sides b) _ _ refl net.1 in
     let start = cells_tell_all signal_number signal_told a.starts b.starts _ _ three.1 in
@@ -143,7 +155,8 @@ shapes_tell a b r s e =
 
 -- ---- bytes
 abbrev Forms : ℕ → Type 0
-Forms n = ((n < 254) × (number_bytes n ≡ n ∷ [])) ⊎ (((n < 2 ^ 16) × (number_bytes n ≡ 254 ∷ to_le_bytes w16 n)) ⊎ (number_bytes n ≡ 255 ∷ to_le_bytes w64 n))
+Forms n = ((n < 254) × (number_bytes n ≡ n ∷ []))
+    ⊎ (((n < 2 ^ 16) × (number_bytes n ≡ 254 ∷ to_le_bytes w16 n)) ⊎ (number_bytes n ≡ 255 ∷ to_le_bytes w64 n))
 
 forms : (n : ℕ) → Forms n
 forms n = elim (cases_Bool (nat_lt n 254)) [
@@ -154,34 +167,50 @@ forms n = elim (cases_Bool (nat_lt n 254)) [
   ]
 ]
 
-two_tell : (n m : ℕ) (r s : List ℕ) → n < 2 ^ 16 → m < 2 ^ 16 → to_le_bytes w16 n ++ r ≡ to_le_bytes w16 m ++ s → (n ≡ m) × (r ≡ s)
+two_tell : (n m : ℕ) (r s : List ℕ) → n < 2 ^ 16 → m < 2 ^ 16 → to_le_bytes w16 n ++ r ≡ to_le_bytes w16 m ++ s →
+    (n ≡ m) × (r ≡ s)
 two_tell n m r s few few' e =
-    let both = same_length (to_le_bytes w16 n) (to_le_bytes w16 m) r s refl e in
-    (sym (from_le_bytes-to_le_bytes_2 n few) ∙ ap (from_le_bytes w16) both.0 ∙ from_le_bytes-to_le_bytes_2 m few', both.1)
+    let both = same_length (to_le_bytes w16 n) (to_le_bytes w16 m) r s refl e in (
+      sym (from_le_bytes-to_le_bytes_2 n few) ∙ ap (from_le_bytes w16) both.0 ∙ from_le_bytes-to_le_bytes_2 m few',
+      both.1,
+    )
 
-eight_tell : (n m : ℕ) (r s : List ℕ) → n < 2 ^ 64 → m < 2 ^ 64 → to_le_bytes w64 n ++ r ≡ to_le_bytes w64 m ++ s → (n ≡ m) × (r ≡ s)
+eight_tell : (n m : ℕ) (r s : List ℕ) → n < 2 ^ 64 → m < 2 ^ 64 → to_le_bytes w64 n ++ r ≡ to_le_bytes w64 m ++ s →
+    (n ≡ m) × (r ≡ s)
 eight_tell n m r s few few' e =
-    let both = same_length (to_le_bytes w64 n) (to_le_bytes w64 m) r s refl e in
-    (sym (from_le_bytes-to_le_bytes_8 n few) ∙ ap (from_le_bytes w64) both.0 ∙ from_le_bytes-to_le_bytes_8 m few', both.1)
+    let both = same_length (to_le_bytes w64 n) (to_le_bytes w64 m) r s refl e in (
+      sym (from_le_bytes-to_le_bytes_8 n few) ∙ ap (from_le_bytes w64) both.0 ∙ from_le_bytes-to_le_bytes_8 m few',
+      both.1,
+    )
 
-bytes_tell : (n m : ℕ) (r s : List ℕ) → Forms n → Forms m → n < 2 ^ 64 → m < 2 ^ 64 → number_bytes n ++ r ≡ number_bytes m ++ s → (n ≡ m) × (r ≡ s)
-bytes_tell n m r s (inl f) (inl g) few few' e = let h = sym (ap (λ l. l ++ r) f.1) ∙ e ∙ ap (λ l. l ++ s) g.1 in (same_head n m r s h, same_tail n m r s h)
+bytes_tell : (n m : ℕ) (r s : List ℕ) → Forms n → Forms m → n < 2 ^ 64 → m < 2 ^ 64 →
+    number_bytes n ++ r ≡ number_bytes m ++ s → (n ≡ m) × (r ≡ s)
+bytes_tell n m r s (inl f) (inl g) few few' e = let h = sym (ap (λ l. l ++ r) f.1) ∙ e ∙ ap (λ l. l ++ s) g.1 in
+    (same_head n m r s h, same_tail n m r s h)
 bytes_tell n m r s (inl f) (inr (inl g)) few few' e =
-    let h = same_head n 254 r (to_le_bytes w16 m ++ s) (sym (ap (λ l. l ++ r) f.1) ∙ e ∙ ap (λ l. l ++ s) g.1) in let lt = f.0 in absurd (omega (arith, h, lt))
+    let h = same_head n 254 r (to_le_bytes w16 m ++ s) (sym (ap (λ l. l ++ r) f.1) ∙ e ∙ ap (λ l. l ++ s) g.1) in
+    let lt = f.0 in absurd (omega (arith, h, lt))
 bytes_tell n m r s (inl f) (inr (inr g)) few few' e =
-    let h = same_head n 255 r (to_le_bytes w64 m ++ s) (sym (ap (λ l. l ++ r) f.1) ∙ e ∙ ap (λ l. l ++ s) g) in let lt = f.0 in absurd (omega (arith, h, lt))
+    let h = same_head n 255 r (to_le_bytes w64 m ++ s) (sym (ap (λ l. l ++ r) f.1) ∙ e ∙ ap (λ l. l ++ s) g) in let lt =
+    f.0 in absurd (omega (arith, h, lt))
 bytes_tell n m r s (inr (inl f)) (inl g) few few' e =
-    let h = same_head 254 m (to_le_bytes w16 n ++ r) s (sym (ap (λ l. l ++ r) f.1) ∙ e ∙ ap (λ l. l ++ s) g.1) in let lt = g.0 in absurd (omega (arith, h, lt))
+    let h = same_head 254 m (to_le_bytes w16 n ++ r) s (sym (ap (λ l. l ++ r) f.1) ∙ e ∙ ap (λ l. l ++ s) g.1) in
+    let lt = g.0 in absurd (omega (arith, h, lt))
 bytes_tell n m r s (inr (inl f)) (inr (inl g)) few few' e =
-    two_tell n m r s f.0 g.0 (same_tail 254 254 (to_le_bytes w16 n ++ r) (to_le_bytes w16 m ++ s) (sym (ap (λ l. l ++ r) f.1) ∙ e ∙ ap (λ l. l ++ s) g.1))
+    two_tell n m r s f.0 g.0 (same_tail 254 254 (to_le_bytes w16 n ++ r) (to_le_bytes w16 m ++ s)
+    (sym (ap (λ l. l ++ r) f.1) ∙ e ∙ ap (λ l. l ++ s) g.1))
 bytes_tell n m r s (inr (inl f)) (inr (inr g)) few few' e =
-    let h = same_head 254 255 (to_le_bytes w16 n ++ r) (to_le_bytes w64 m ++ s) (sym (ap (λ l. l ++ r) f.1) ∙ e ∙ ap (λ l. l ++ s) g) in absurd (omega (arith, h))
+    let h = same_head 254 255 (to_le_bytes w16 n ++ r) (to_le_bytes w64 m ++ s)
+    (sym (ap (λ l. l ++ r) f.1) ∙ e ∙ ap (λ l. l ++ s) g) in absurd (omega (arith, h))
 bytes_tell n m r s (inr (inr f)) (inl g) few few' e =
-    let h = same_head 255 m (to_le_bytes w64 n ++ r) s (sym (ap (λ l. l ++ r) f) ∙ e ∙ ap (λ l. l ++ s) g.1) in let lt = g.0 in absurd (omega (arith, h, lt))
+    let h = same_head 255 m (to_le_bytes w64 n ++ r) s (sym (ap (λ l. l ++ r) f) ∙ e ∙ ap (λ l. l ++ s) g.1) in let lt =
+    g.0 in absurd (omega (arith, h, lt))
 bytes_tell n m r s (inr (inr f)) (inr (inl g)) few few' e =
-    let h = same_head 255 254 (to_le_bytes w64 n ++ r) (to_le_bytes w16 m ++ s) (sym (ap (λ l. l ++ r) f) ∙ e ∙ ap (λ l. l ++ s) g.1) in absurd (omega (arith, h))
+    let h = same_head 255 254 (to_le_bytes w64 n ++ r) (to_le_bytes w16 m ++ s)
+    (sym (ap (λ l. l ++ r) f) ∙ e ∙ ap (λ l. l ++ s) g.1) in absurd (omega (arith, h))
 bytes_tell n m r s (inr (inr f)) (inr (inr g)) few few' e =
-    eight_tell n m r s few few' (same_tail 255 255 (to_le_bytes w64 n ++ r) (to_le_bytes w64 m ++ s) (sym (ap (λ l. l ++ r) f) ∙ e ∙ ap (λ l. l ++ s) g))
+    eight_tell n m r s few few' (same_tail 255 255 (to_le_bytes w64 n ++ r) (to_le_bytes w64 m ++ s)
+    (sym (ap (λ l. l ++ r) f) ∙ e ∙ ap (λ l. l ++ s) g))
 
 empty : (x : ℕ) (xs : List ℕ) → [] ≡ x ∷ xs → ⊥
 empty x xs e = cc
@@ -196,5 +225,7 @@ numbers_told [] [] few few' e = refl
 numbers_told [] (m ∷ ms) few few' e = absurd (some_bytes m (flat_map number_bytes ms) (forms m) e)
 numbers_told (n ∷ ns) [] few few' e = absurd (some_bytes n (flat_map number_bytes ns) (forms n) (sym e))
 numbers_told (n ∷ ns) (m ∷ ms) few few' e =
-    let both = bytes_tell n m (flat_map number_bytes ns) (flat_map number_bytes ms) (forms n) (forms m) (All-head (λ (k : ℕ). k < 2 ^ 64) n ns few) (All-head (λ (k : ℕ). k < 2 ^ 64) m ms few') e in
-    ap₂ (λ x xs. x ∷ xs) both.0 (numbers_told ns ms (All-tail (λ (k : ℕ). k < 2 ^ 64) n ns few) (All-tail (λ (k : ℕ). k < 2 ^ 64) m ms few') both.1)
+    let both = bytes_tell n m (flat_map number_bytes ns) (flat_map number_bytes ms) (forms n) (forms m)
+    (All-head (λ (k : ℕ). k < 2 ^ 64) n ns few) (All-head (λ (k : ℕ). k < 2 ^ 64) m ms few') e in
+    ap₂ (λ x xs. x ∷ xs) both.0 (numbers_told ns ms (All-tail (λ (k : ℕ). k < 2 ^ 64) n ns few)
+    (All-tail (λ (k : ℕ). k < 2 ^ 64) m ms few') both.1)

@@ -1,10 +1,12 @@
--- Whether two jobs are the same in all that contracts see of them
+-- Tests of whether two jobs are the same in all that contracts see of them
 use Rattle.std.specs.Prelude.{ℕ, Bool, Option, Some, None, nat_eq}
 use Rattle.std.specs.Ordering.{on, eq_of_both}
 use Rattle.std.specs.Cmp.{IsEquivalence, and_equiv, on_equiv, nat_eq_equiv}
 use Rattle.std.specs.Cmp.Lexicographic.{pointwise, lists_equiv, options_equiv}
 use Rattle.std.specs.Option.{option_eq}
-use Rattle.module_box.specs.Equality.{same_signal, signal_equivalence, same_cell, cell_equivalence, same_signals, signals_equivalence, same_locals, locals_equivalence, same_netlist, netlist_equivalence}
+use Rattle.module_box.specs.Equality.{same_signal, signal_equivalence, same_cell, cell_equivalence, same_signals}
+use Rattle.module_box.specs.Equality.{signals_equivalence, same_locals, locals_equivalence, same_netlist}
+use Rattle.module_box.specs.Equality.{netlist_equivalence}
 use Rattle.module_box.specs.declared.boxes.Box2.{Box2}
 use Rattle.module_job.specs.Jobs.{JobState}
 use Rattle.module_job.specs.Shapes.{ShapeState}
@@ -12,26 +14,33 @@ use Rattle.module_job.specs.declared.job.Demand.{Demand}
 use Rattle.module_job.specs.declared.job.Demand.TheVariants.{Dead, Live, Wire, Any}
 use Rattle.module_job.specs.declared.job.Stop.{Stop}
 
+-- whether two boxes are the same
 abbrev pub same_box : Box2 → Box2 → Bool
-same_box = eq_of_both (eq_of_both (eq_of_both (on (λ b. b.x) nat_eq) (on (λ b. b.y) nat_eq)) (on (λ b. b.w) nat_eq)) (on (λ b. b.h) nat_eq)
+same_box = eq_of_both (eq_of_both (eq_of_both (on (λ b. b.x) nat_eq) (on (λ b. b.y) nat_eq)) (on (λ b. b.w) nat_eq))
+    (on (λ b. b.h) nat_eq)
 
+-- the number of a demand, whatever its wire
 abbrev pub demand_place : Demand → ℕ
 demand_place Dead = 0
 demand_place Live = 1
 demand_place (Wire w) = 2
 demand_place Any = 3
 
+-- the wire of a demand, if it has one
 abbrev pub wire_asked : Demand → Option ℕ
 wire_asked Dead = None
 wire_asked Live = None
 wire_asked (Wire w) = Some w
 wire_asked Any = None
 
+-- whether two demands are the same
 abbrev pub same_demand : Demand → Demand → Bool
 same_demand = eq_of_both (on demand_place nat_eq) (on wire_asked (option_eq nat_eq))
 
+-- whether two stops are the same
 abbrev pub same_stop : Stop → Stop → Bool
-same_stop = eq_of_both (on (λ s. s.at.time) nat_eq) (eq_of_both (on (λ s. s.at.cell) same_cell) (on (λ s. s.wire) nat_eq))
+same_stop = eq_of_both (on (λ s. s.at.time) nat_eq)
+    (eq_of_both (on (λ s. s.at.cell) same_cell) (on (λ s. s.wire) nat_eq))
 
 -- box and steps; wires and gates; starts and demands; edges and halos; stops and kept gates
 abbrev pub same_job : JobState → JobState → Bool
@@ -56,28 +65,39 @@ same_shape =
 -- these tests are equivalences
 box_equivalence : IsEquivalence same_box
 box_equivalence =
-    and_equiv (and_equiv (and_equiv (on_equiv (λ b. b.x) nat_eq_equiv) (on_equiv (λ b. b.y) nat_eq_equiv)) (on_equiv (λ b. b.w) nat_eq_equiv)) (on_equiv (λ b. b.h) nat_eq_equiv)
+    and_equiv (and_equiv (and_equiv (on_equiv (λ b. b.x) nat_eq_equiv) (on_equiv (λ b. b.y) nat_eq_equiv))
+    (on_equiv (λ b. b.w) nat_eq_equiv)) (on_equiv (λ b. b.h) nat_eq_equiv)
 
+-- the test on demands is an equivalence
 demand_equivalence : IsEquivalence same_demand
 demand_equivalence = and_equiv (on_equiv demand_place nat_eq_equiv) (on_equiv wire_asked (options_equiv nat_eq_equiv))
 
+-- the test on stops is an equivalence
 stop_equivalence : IsEquivalence same_stop
-stop_equivalence = and_equiv (on_equiv (λ s. s.at.time) nat_eq_equiv) (and_equiv (on_equiv (λ s. s.at.cell) cell_equivalence) (on_equiv (λ s. s.wire) nat_eq_equiv))
+stop_equivalence = and_equiv (on_equiv (λ s. s.at.time) nat_eq_equiv)
+    (and_equiv (on_equiv (λ s. s.at.cell) cell_equivalence) (on_equiv (λ s. s.wire) nat_eq_equiv))
 
+-- the test on jobs is an equivalence
 pub job_equivalence : IsEquivalence same_job
 job_equivalence =
     and_equiv (and_equiv (and_equiv (and_equiv
     (and_equiv (on_equiv (λ j. j.area) box_equivalence) (on_equiv (λ j. j.steps) nat_eq_equiv))
     (on_equiv (λ j. j.locals) locals_equivalence))
-    (and_equiv (on_equiv (λ j. j.starts) (lists_equiv signal_equivalence)) (on_equiv (λ j. j.demands) (lists_equiv demand_equivalence))))
+    (and_equiv (on_equiv (λ j. j.starts) (lists_equiv signal_equivalence))
+    (on_equiv (λ j. j.demands) (lists_equiv demand_equivalence))))
     (and_equiv (on_equiv (λ j. j.edges) signals_equivalence) (on_equiv (λ j. j.halos) signals_equivalence)))
-    (and_equiv (on_equiv (λ j. j.stops) (lists_equiv stop_equivalence)) (on_equiv (λ j. j.kept) (lists_equiv nat_eq_equiv)))
+    (and_equiv (on_equiv (λ j. j.stops) (lists_equiv stop_equivalence))
+    (on_equiv (λ j. j.kept) (lists_equiv nat_eq_equiv)))
 
+-- the test on shapes is an equivalence
 pub shape_equivalence : IsEquivalence same_shape
 shape_equivalence =
     and_equiv (and_equiv (and_equiv (and_equiv
-    (and_equiv (and_equiv (on_equiv (λ s. s.width) nat_eq_equiv) (on_equiv (λ s. s.height) nat_eq_equiv)) (on_equiv (λ s. s.steps) nat_eq_equiv))
+    (and_equiv (and_equiv (on_equiv (λ s. s.width) nat_eq_equiv) (on_equiv (λ s. s.height) nat_eq_equiv))
+    (on_equiv (λ s. s.steps) nat_eq_equiv))
     (on_equiv (λ s. s.netlist) netlist_equivalence))
-    (and_equiv (on_equiv (λ s. s.starts) (lists_equiv signal_equivalence)) (on_equiv (λ s. s.demands) (lists_equiv demand_equivalence))))
+    (and_equiv (on_equiv (λ s. s.starts) (lists_equiv signal_equivalence))
+    (on_equiv (λ s. s.demands) (lists_equiv demand_equivalence))))
     (and_equiv (on_equiv (λ s. s.edges) signals_equivalence) (on_equiv (λ s. s.halos) signals_equivalence)))
-    (and_equiv (on_equiv (λ s. s.stops) (lists_equiv stop_equivalence)) (on_equiv (λ s. s.kept) (lists_equiv nat_eq_equiv)))
+    (and_equiv (on_equiv (λ s. s.stops) (lists_equiv stop_equivalence))
+    (on_equiv (λ s. s.kept) (lists_equiv nat_eq_equiv)))

@@ -1,4 +1,4 @@
--- The fields of a job, and what contracts see of them
+-- The fields of a job, and its view
 use Rattle.std.specs.Prelude.{◌≡◌, length}
 use Rattle.std.specs.Arc.{arc_value}
 use Rattle.std.specs.List.{All}
@@ -8,9 +8,11 @@ use Rattle.module_job.specs.Jobs.{JobState, IsJob}
 use Rattle.module_job.specs.Shapes.{ShapeState, placed}
 use Rattle.module_job.specs.declared.job.Job.TheInside.{Inside}
 
+-- the shape of a job, from its fields
 abbrev pub own_shape : Inside → ShapeState
 own_shape a = arc_value a.shape
 
+-- the view of a job: its shape, placed at its corner and over its wires and gates
 abbrev pub job_state : Inside → JobState
 job_state a = placed a.x a.y a.wires.keys a.gates.items (own_shape a)
 

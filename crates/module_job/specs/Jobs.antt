@@ -1,4 +1,4 @@
--- A job: all that the run of a module by itself needs
+-- A job: the data that the run of a module by itself needs
 use Rattle.std.specs.Prelude.{ℕ, ℤ, ◌+◌, ◌<◌, ◌≤◌, if◌then◌else◌, List, unwrap_or, slice_get, IsTrue}
 use Rattle.std.specs.List.{All}
 use Rattle.circuit.specs.Meaning.{wires}
@@ -16,9 +16,9 @@ use Rattle.module_job.specs.declared.job.Demand.TheVariants as Demanded
 use Rattle.module_job.specs.declared.job.Stop.{Stop}
 use Rattle.module_box.specs.Places.{place_in}
 
--- Box and steps; the module's wires and gates by numbers of its own; what each cell of the box carries at time 0, and what it
--- is to be at the last time, row by row; what the cells of ring and halo carry at odd times; its stops; and the gates that it keeps,
--- by their places among those that it uses.
+-- Box and steps; the module's wires and gates by numbers of its own; what each cell of the box carries at time 0, and
+-- what it is to be at the last time, row by row; what the cells of ring and halo carry at odd times; its stops; and the
+-- gates that it keeps, by their places among those that it uses.
 pub record JobState : Type 0 where
   pub area : Box2
   pub steps : ℕ
@@ -30,13 +30,14 @@ pub record JobState : Type 0 where
   pub stops : List Stop
   pub kept : List ℕ
 
--- what the cell (x, y) carries at time 0, where a cell outside the box is dead
+-- what the cell (x, y) carries at time 0, and a cell outside the box is dead
 unfoldable pub job_start : JobState → ℤ → ℤ → Signal
 job_start j x y = if in_box j.area x y then unwrap_or (slice_get j.starts (place_in j.area x y)) Zero else Zero
 
 -- what the cell (x, y) is to be at the last time
 unfoldable pub job_demand : JobState → ℤ → ℤ → Demand
-job_demand j x y = if in_box j.area x y then unwrap_or (slice_get j.demands (place_in j.area x y)) Demanded.Dead else Demanded.Dead
+job_demand j x y = if in_box j.area x y then unwrap_or
+    (slice_get j.demands (place_in j.area x y)) Demanded.Dead else Demanded.Dead
 
 -- each wire that the job names is one of its own
 pub record NamesOwnWires (j : JobState) : Type 0 where
@@ -53,11 +54,12 @@ pub record IsStopOf (j : JobState) (s : Stop) : Type 0 where
   pub time : s.at.time ≤ j.steps
   pub inside : IsTrue (in_box j.area s.at.cell.x s.at.cell.y)
 
+-- the time and the cell of a stop
 abbrev pub stop_moment : Stop → Moment
 stop_moment s = s.at
 
--- A job within the limits of a certificate: its box is even, has sides of 2 to 64 and lies in a rectangle of 512 by 512 cells.
--- It has at most 65,536 steps, it names its own wires, and its stops rise by time, y and x.
+-- A job within the limits of a certificate: its box is even, has sides of 2 to 64 and lies in a rectangle of 512 by 512
+-- cells. It has at most 65,536 steps, it names its own wires, and its stops rise by time, y and x.
 pub record IsJob (j : JobState) : Type 0 where
   pub even : IsEven j.area
   pub width : (2 ≤ j.area.w) × (j.area.w ≤ 64) × (j.area.x + j.area.w ≤ 512)

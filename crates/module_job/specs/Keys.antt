@@ -1,5 +1,6 @@
--- The numbers of a shape, which tell it, and its key
-use Rattle.std.specs.Prelude.{◌≡◌, ℕ, ℤ, pos, negsuc, ◌+◌, ◌*◌, ◌^◌, ◌<◌, nat_eq, nat_lt, if◌then◌else◌, List, [], ◌∷◌, ◌++◌, length, map}
+-- The numbers of a shape, which differ for different shapes, and its key
+use Rattle.std.specs.Prelude.{◌≡◌, ℕ, ℤ, pos, negsuc, ◌+◌, ◌*◌, ◌^◌, ◌<◌, nat_eq, nat_lt, if◌then◌else◌, List, [], ◌∷◌}
+use Rattle.std.specs.Prelude.{◌++◌, length, map}
 use Rattle.std.specs.List.{All, flat_map}
 use Rattle.std.specs.Int.{to_le_bytes, w16, w64}
 use Rattle.sha2.specs.Sha256.{sha256}
@@ -15,17 +16,20 @@ use Rattle.module_job.specs.declared.job.Demand.{Demand}
 use Rattle.module_job.specs.declared.job.Demand.TheVariants as Demanded
 use Rattle.module_job.specs.declared.job.Stop.{Stop}
 
+-- the number of a signal
 abbrev pub signal_number : Signal → ℕ
 signal_number Zero = 0
 signal_number One = 1
 signal_number (Wire w) = w + 2
 
+-- the number of a demand
 abbrev pub demand_number : Demand → ℕ
 demand_number Demanded.Dead = 0
 demand_number Demanded.Live = 1
 demand_number Demanded.Any = 2
 demand_number (Demanded.Wire w) = w + 3
 
+-- a list of the signal's number alone
 abbrev pub signal_numbers : Signal → List ℕ
 signal_numbers s = signal_number s ∷ []
 
@@ -33,7 +37,7 @@ signal_numbers s = signal_number s ∷ []
 abbrev pub cell_entry : ℕ → ℕ → List ℕ
 cell_entry place n = if nat_eq n 0 then [] else ((place + 1) ∷ n ∷ [])
 
--- the entries of cells with these numbers, where the first cell has this place
+-- the entries of cells with these numbers, if the first cell has this place
 unfoldable pub entries_from : ℕ → List ℕ → List ℕ
 entries_from place [] = []
 entries_from place (n ∷ ns) = cell_entry place n ++ entries_from (place + 1) ns
@@ -47,18 +51,23 @@ abbrev pub integer_number : ℤ → ℕ
 integer_number (pos n) = 2 * n
 integer_number (negsuc n) = 2 * n + 1
 
+-- the numbers of a cell
 abbrev pub cell_numbers : Cell → List ℕ
 cell_numbers c = integer_number c.x ∷ integer_number c.y ∷ []
 
+-- the numbers of a signal at all times
 abbrev pub held_numbers : Held → List ℕ
 held_numbers h = cell_numbers h.cell ++ signal_numbers h.signal
 
+-- the numbers of an event
 abbrev pub event_numbers : Event → List ℕ
 event_numbers e = (e.at.time ∷ cell_numbers e.at.cell) ++ signal_numbers e.signal
 
+-- the numbers of a stop
 abbrev pub stop_numbers : Stop → List ℕ
 stop_numbers s = (s.at.time ∷ cell_numbers s.at.cell) ++ s.wire ∷ []
 
+-- the numbers of a schedule
 abbrev pub signals_numbers : Signals → List ℕ
 signals_numbers s = counted held_numbers s.held ++ counted event_numbers s.events
 
@@ -72,15 +81,19 @@ shape_numbers s =
 
 -- A number below 2 ^ 64: one byte, or two or eight behind a byte that says so
 abbrev pub number_bytes : ℕ → List ℕ
-number_bytes n = if nat_lt n 254 then n ∷ [] else (if nat_lt n 65536 then 254 ∷ to_le_bytes w16 n else 255 ∷ to_le_bytes w64 n)
+number_bytes n = if nat_lt n 254 then n
+    ∷ [] else (if nat_lt n 65536 then 254 ∷ to_le_bytes w16 n else 255 ∷ to_le_bytes w64 n)
 
 -- the key of a shape
 abbrev pub shape_key : ShapeState → List ℕ
 shape_key s = sha256 (flat_map number_bytes (shape_numbers s))
 
 -- ---- laws: different shapes have different numbers, and different numbers different bytes
+-- Two shapes with the same numbers are the same, also if more numbers follow.
 abbrev pub NumbersTellShapes : Type 0
 NumbersTellShapes = AreTelling shape_numbers
 
+-- Two lists of numbers with the same bytes are the same.
 abbrev pub BytesTellNumbers : Type 0
-BytesTellNumbers = (ns ms : List ℕ) → All (λ n. n < 2 ^ 64) ns → All (λ n. n < 2 ^ 64) ms → flat_map number_bytes ns ≡ flat_map number_bytes ms → ns ≡ ms
+BytesTellNumbers = (ns ms : List ℕ) → All (λ n. n < 2 ^ 64) ns → All (λ n. n < 2 ^ 64) ms →
+    flat_map number_bytes ns ≡ flat_map number_bytes ms → ns ≡ ms

@@ -1,7 +1,8 @@
--- The fields of a shape, and what contracts see of them
+-- The view of a shape, from the fields
 use Rattle.module_job.specs.Shapes.{ShapeState}
 use Rattle.module_job.specs.declared.shape.Shape.TheInside.{Inside}
 
+-- the view of a shape, from its fields
 abbrev pub shape_state : Inside → ShapeState
 shape_state a = record {
   width = a.width;

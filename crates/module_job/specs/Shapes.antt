@@ -9,9 +9,10 @@ use Rattle.module_job.specs.Jobs.{JobState}
 use Rattle.module_job.specs.declared.job.Demand.{Demand}
 use Rattle.module_job.specs.declared.job.Stop.{Stop}
 
--- All of a job but where its box lies and which wires and gates of the circuit its own are: the box's sides, the steps, the gates
--- over wires of its own, what its cells carry at time 0 and are to be at the last time, row by row, and what the cells of ring and
--- halo carry, its stops, and the gates that it keeps by their places, where the box's corner is at (0, 0)
+-- A job without the place of its box and without the numbers of its wires and gates in the circuit, as if the box's
+-- corner were at (0, 0). It has the box's sides, the steps, and the gates over wires of its own. It has what its cells
+-- carry at time 0 and what they must be at the last time, row by row, and what the cells of ring and halo carry. It has
+-- its stops, and the gates that it keeps by their places.
 pub record ShapeState : Type 0 where
   pub width : ℕ
   pub height : ℕ
@@ -24,6 +25,7 @@ pub record ShapeState : Type 0 where
   pub stops : List Stop
   pub kept : List ℕ
 
+-- a stop, moved by dx columns and dy rows
 abbrev pub moved_stop : ℤ → ℤ → Stop → Stop
 moved_stop dx dy s = record { at = record { time = s.at.time; cell = moved_cell dx dy s.at.cell }; wire = s.wire }
 

@@ -1,4 +1,4 @@
--- What signals and demands say, and the same by other numbers of the wires
+-- The meaning of signals and demands, and their renumbering by other numbers of the wires
 use Rattle.std.specs.Prelude.{◌≡◌, ℕ, ◌<◌, Bool, true, false, map}
 use Rattle.circuit.specs.Meaning.{Valuation}
 use Rattle.module_box.specs.Schedules.{Signals}
@@ -10,7 +10,7 @@ use Rattle.module_job.specs.declared.job.Demand.{Demand}
 use Rattle.module_job.specs.declared.job.Demand.TheVariants as Demanded
 use Rattle.module_job.specs.declared.job.Stop.{Stop}
 
--- whether a cell that carries the signal is live, where the wires have these values
+-- whether a cell that carries the signal is live, if the wires have these values
 abbrev pub is_live : Valuation → Signal → Bool
 is_live v Zero = false
 is_live v One = true
@@ -25,11 +25,13 @@ Meets v Demanded.Any live = Unit {0}
 
 -- ---- the wire that it names, if it names one, is below n
 
+-- the wire of the signal, if it has one, is below n
 abbrev pub IsBelow : ℕ → Signal → Type 0
 IsBelow n Zero = Unit {0}
 IsBelow n One = Unit {0}
 IsBelow n (Wire w) = w < n
 
+-- the wire of the demand, if it has one, is below n
 abbrev pub IsDemandBelow : ℕ → Demand → Type 0
 IsDemandBelow n Demanded.Dead = Unit {0}
 IsDemandBelow n Demanded.Live = Unit {0}
@@ -38,25 +40,31 @@ IsDemandBelow n Demanded.Any = Unit {0}
 
 -- ---- the same by other numbers of the wires
 
+-- the signal with another number for its wire
 abbrev pub renumber_signal : (ℕ → ℕ) → Signal → Signal
 renumber_signal f Zero = Zero
 renumber_signal f One = One
 renumber_signal f (Wire w) = Wire (f w)
 
+-- the demand with another number for its wire
 abbrev pub renumber_demand : (ℕ → ℕ) → Demand → Demand
 renumber_demand f Demanded.Dead = Demanded.Dead
 renumber_demand f Demanded.Live = Demanded.Live
 renumber_demand f (Demanded.Wire w) = Demanded.Wire (f w)
 renumber_demand f Demanded.Any = Demanded.Any
 
+-- the signal at all times with another number for its wire
 abbrev pub renumber_held : (ℕ → ℕ) → Held → Held
 renumber_held f h = record h { signal = renumber_signal f h.signal }
 
+-- the event with another number for its wire
 abbrev pub renumber_event : (ℕ → ℕ) → Event → Event
 renumber_event f e = record e { signal = renumber_signal f e.signal }
 
+-- the stop with another number for its wire
 abbrev pub renumber_stop : (ℕ → ℕ) → Stop → Stop
 renumber_stop f s = record s { wire = f s.wire }
 
+-- the signals with other numbers for their wires
 abbrev pub renumber_signals : (ℕ → ℕ) → Signals → Signals
 renumber_signals f s = record { held = map (renumber_held f) s.held; events = map (renumber_event f) s.events }

@@ -65,12 +65,13 @@ fn first_like(shapes: &[Arc<Shape>], keys: &[[u8; 32]], number: usize, first: us
     number
 }
 
-/// For each shape the number of the first that is the same, by content. There are as many keys as shapes, and shapes
-/// that are the same have the same key; that two have one key is not enough.
+/// Returns for each shape the number of the first that is the same, by content.
 ///
-/// It looks at one earlier shape for each, the first with its key; where two that differ have one key, at all after it
-/// with that key. With the keys of [`Shape::key`] that would be a collision of SHA-256. At worst, whatever the keys,
-/// each pair of shapes is compared once. `AllocError` is want of memory.
+/// Shapes that are the same must have the same key. Two shapes with one key may still differ.
+///
+/// It compares a shape with one earlier shape, the first with its key, and with all after it that have this key if the
+/// two differ. With the keys of [`Shape::key`] that would be a collision of SHA-256. At worst, whatever the keys, it
+/// compares each pair of shapes once.
 pub fn shape_groups(
     alloc: Global,
     shapes: &[Arc<Shape>],
@@ -87,7 +88,7 @@ pub fn shape_groups(
     Ok(groups)
 }
 
-/// For each job the number of the first that has the same shape. `AllocError` is want of memory.
+/// Returns for each job the number of the first that has the same shape.
 pub fn job_groups(alloc: Global, jobs: &[Arc<Job>]) -> Result<Vec<usize>, AllocError>
     ensures { IfOk result (λ groups. AreGroups (map shape_of (map arc_value jobs.now))
         groups.items) }

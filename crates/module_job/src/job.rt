@@ -17,30 +17,35 @@ use module_box::{Box2, Event, Moment, Signal, Wiring, moved_cell, moved_event, p
 use std::marker::Model;
 use std::sync::Arc;
 
-/// What a cell is to be at the last time. A wire is named by its number among the wires that its module knows.
+/// The demand on a cell: what it must be at the last time. A wire is named by its number among the wires that its
+/// module knows.
 #[derive(Clone, Copy, Debug, PartialEq, Eq)]
 pub enum Demand {
     /// Dead.
     Dead,
     /// Live.
     Live,
-    /// Live exactly where the wire of this number is true.
+    /// Live exactly if the wire of this number is true.
     Wire(u16),
     /// Live or dead.
     Any,
 }
 
-/// A cell and a time at which it is to be live exactly where a wire is true.
+/// A cell and a time at which it must be live exactly if a wire is true.
 #[derive(Clone, Copy, Debug, PartialEq, Eq)]
 pub struct Stop {
     pub at: Moment,
     pub wire: u16,
 }
 
-/// All that the run of a module by itself needs: its box, the steps, the wires and gates that it knows, what the cells
-/// of the box carry at time 0 and what they are to be at the last time, what the cells of ring and halo carry at odd
-/// times, its stops, and the gates that it keeps. Contracts see it as a `JobState`; each wire that it names is one of
-/// its own.
+/// The data that the run of a module by itself needs. Contracts see it as a `JobState`.
+///
+/// - its box, the steps, and the wires and gates that it knows;
+/// - what the cells of the box carry at time 0, and what they must be at the last time;
+/// - what the cells of ring and halo carry at odd times;
+/// - its stops, and the gates that it keeps.
+///
+/// Each wire that it names is one of its own.
 // It is kept as the corner of its box, the circuit's numbers of its wires and gates, and its shape, in which the corner
 // is (0, 0).
 #[derive(Drop)]
@@ -53,7 +58,7 @@ pub struct Job {
     pub wires: IndexSet<u16>,
     /// The circuit's gates that are its own.
     pub gates: Vec<GateNo>,
-    /// All of it but where it lies.
+    /// The job without its place.
     pub shape: Arc<Shape>,
 }
 
@@ -69,7 +74,7 @@ impl Model for Job {
     ghost invariant = { IsKeptJob };
 }
 
-/// How far the cells of a box with this corner are moved back, so that its corner comes to (0, 0).
+/// Returns how far to move the cells of a box with this corner so that its corner comes to (0, 0).
 pub fn back(corner: u32) -> i32
     requires { corner ≤ 512 }
     ensures is { result ≡ back corner }
@@ -88,8 +93,9 @@ fn forth(corner: u32) -> i32
 }
 
 impl Job {
-    /// The box of the module: its corner and sides are even, its sides 2 to 64, and it lies in a rectangle of 512 by
-    /// 512 cells.
+    /// Returns the box of the module.
+    ///
+    /// Its corner and sides are even, its sides 2 to 64, and it lies in a rectangle of 512 by 512 cells.
     pub fn area(&self) -> Box2
         ensures area { result ≡ self.now.area }
         ensures good { IsJob self.now }
@@ -102,21 +108,21 @@ impl Job {
         }
     }
 
-    /// The steps of the layout, at most 65,536.
+    /// Returns the steps of the layout, at most 65,536.
     pub fn steps(&self) -> u32
         ensures { result ≡ self.now.steps }
     {
         self.shape.steps()
     }
 
-    /// All of the job but where its box lies and which wires and gates of the circuit its own are.
+    /// Returns the job without the place of its box, and without the numbers of its wires and gates in the circuit.
     pub fn shape(&self) -> &Arc<Shape>
         ensures { arc_value result.now ≡ shape_of self.now }
     {
         &self.shape
     }
 
-    /// The gates that the module knows, over wires of its own.
+    /// Returns the gates that the module knows, over wires of its own.
     pub fn wiring(&self) -> &Wiring
         ensures wiring { result.now ≡ self.now.locals.netlist }
         ensures sized { length self.now.locals.circuit_wires ≡ wires self.now.locals.netlist }
@@ -124,7 +130,7 @@ impl Job {
         self.shape.wiring()
     }
 
-    /// The wire of the circuit that has this number among the module's own, below the count of those.
+    /// Returns the wire of the circuit that has this number among the module's own, below the count of those.
     pub fn wire(&self, number: u16) -> WireNo
         requires { number < wires self.now.locals.netlist }
         ensures { result ≡ circuit_wire self.now.locals number }
@@ -135,7 +141,8 @@ impl Job {
         }
     }
 
-    /// The number in the circuit of the used gate at this place, for a place below the count of those, and else 0.
+    /// Returns the number in the circuit of the used gate at this place, for a place below the count of those, and else
+    /// 0.
     pub fn gate_number(&self, place: usize) -> u16
         ensures { result ≡ circuit_gate self.now.locals place }
     {
@@ -145,7 +152,7 @@ impl Job {
         }
     }
 
-    /// What a cell carries at time 0. Outside the box that is `Zero`.
+    /// Returns what a cell carries at time 0: `Zero` outside the box.
     #[tactic(auto, unfolding(crate::specs::Jobs::job_start))]
     pub fn start(&self, cell: Cell) -> Signal
         ensures { result ≡ job_start self.now cell.x cell.y }
@@ -157,7 +164,7 @@ impl Job {
         self.shape.start(place_in(area, cell))
     }
 
-    /// What a cell of the box is to be at the last time. Outside the box that is `Dead`.
+    /// Returns what a cell of the box must be at the last time: `Dead` outside the box.
     #[tactic(auto, unfolding(crate::specs::Jobs::job_demand))]
     pub fn demand(&self, cell: Cell) -> Demand
         ensures { result ≡ job_demand self.now cell.x cell.y }
@@ -169,7 +176,7 @@ impl Job {
         self.shape.demand(place_in(area, cell))
     }
 
-    /// What a cell of the ring carries at an odd time, for cells with coordinates from -1024 to 1023.
+    /// Returns what a cell of the ring carries at an odd time. Coordinates are from -1024 to 1023.
     pub fn edge(&self, time: u32, cell: Cell) -> Signal
         requires { IsNear cell }
         ensures { result ≡ signal_at self.now.edges time cell.x cell.y }
@@ -178,7 +185,7 @@ impl Job {
         self.shape.edges().at(time, own)
     }
 
-    /// What a cell of the halo carries at an odd time, for cells with coordinates from -1024 to 1023.
+    /// Returns what a cell of the halo carries at an odd time. Coordinates are from -1024 to 1023.
     pub fn halo(&self, time: u32, cell: Cell) -> Signal
         requires { IsNear cell }
         ensures { result ≡ signal_at self.now.halos time cell.x cell.y }
@@ -187,14 +194,14 @@ impl Job {
         self.shape.halos().at(time, own)
     }
 
-    /// How many signals cells of the ring have at single times.
+    /// Returns how many signals cells of the ring have at single times.
     pub fn edge_events(&self) -> usize
         ensures { result ≡ length self.now.edges.events }
     {
         self.shape.edges().events().len()
     }
 
-    /// One of these, in their order.
+    /// Returns one of these signals, by its place in their order.
     pub fn edge_event(&self, place: usize) -> Event
         requires { place < length self.now.edges.events }
         ensures { slice_get self.now.edges.events place ≡ Some result }
@@ -203,14 +210,14 @@ impl Job {
         moved_event(event, forth(self.x), forth(self.y))
     }
 
-    /// How many signals cells of the halo have at single times.
+    /// Returns how many signals cells of the halo have at single times.
     pub fn halo_events(&self) -> usize
         ensures { result ≡ length self.now.halos.events }
     {
         self.shape.halos().events().len()
     }
 
-    /// One of these, in their order.
+    /// Returns one of these signals, by its place in their order.
     pub fn halo_event(&self, place: usize) -> Event
         requires { place < length self.now.halos.events }
         ensures { slice_get self.now.halos.events place ≡ Some result }
@@ -219,14 +226,16 @@ impl Job {
         moved_event(event, forth(self.x), forth(self.y))
     }
 
-    /// How many stops there are.
+    /// Returns how many stops there are.
     pub fn stops(&self) -> usize
         ensures { result ≡ length self.now.stops }
     {
         self.shape.stops().len()
     }
 
-    /// One of the stops, in the order of time, y and x: each is at a time up to the last one, at a cell of the box.
+    /// Returns a stop by its place in the order of time, y and x.
+    ///
+    /// Each stop is at a time up to the last one, at a cell of the box.
     pub fn stop(&self, place: usize) -> Stop
         requires { place < length self.now.stops }
         ensures { slice_get self.now.stops place ≡ Some result }
@@ -235,7 +244,7 @@ impl Job {
         moved_stop(stop, forth(self.x), forth(self.y))
     }
 
-    /// Whether the module keeps the gate at this place among those that it uses.
+    /// Returns whether the module keeps the gate at this place among those that it uses.
     pub fn keeps(&self, place: u16) -> bool
         ensures { result ≡ is_among self.now.kept place }
     {

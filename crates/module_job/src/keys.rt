@@ -1,4 +1,4 @@
-//! The numbers of shapes, which tell them, and their keys.
+//! The numbers of shapes, which differ for different shapes, and their keys.
 ghost use Rattle.std.specs.Prelude.{◌≡◌, ◌+◌, ◌^◌, ◌<◌, ◌++◌, [], ◌∷◌, length, IfOk, OnOk};
 ghost use Rattle.std.specs.List.{All, flat_map};
 ghost use Rattle.module_box.specs.Numbers.{counted};
@@ -224,9 +224,10 @@ impl Shape {
         Ok(numbers)
     }
 
-    /// The SHA-256 of all of the shape. Shapes that are the same have the same key; shapes that differ have different
-    /// numbers, and these different bytes (laws), so one key for both would be a collision of SHA-256. `AllocError` is
-    /// want of memory.
+    /// Returns the SHA-256 of the whole shape.
+    ///
+    /// Shapes that are the same have the same key. Shapes that differ have different numbers, and these different bytes
+    /// (laws). One key for both would be a collision of SHA-256.
     pub fn key(&self, alloc: Global) -> Result<[u8; 32], AllocError>
         ensures key { IfOk result (λ key. key ≡ shape_key self.now) }
         ensures small { IfOk result (λ _. All (λ n. n < 2 ^ 64) (shape_numbers self.now)) }

@@ -1,7 +1,7 @@
-//! The job of a module: all that the run of a module by itself needs.
+//! The job of a module: the data that the run of a module by itself needs.
 //!
 //! A job is kept as the corner of its box, its wires and gates of the circuit, and a shape, which other jobs may share.
-//! `specs/Jobs.antt` says what a job is, and `specs/Shapes.antt` what job a shape becomes where it is placed.
+//! `specs/Jobs.antt` defines jobs, and `specs/Shapes.antt` the job that a shape becomes when it is placed.
 #![tactic(auto)]
 
 mod equality;

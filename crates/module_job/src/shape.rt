@@ -1,4 +1,4 @@
-//! The shape of a job: all of it but where it lies.
+//! The shape of a job: the job without its place.
 ghost use Rattle.std.specs.Prelude.{◌≡◌, slice_get, unwrap_or};
 ghost use Rattle.module_box.specs.Locals.{is_among};
 
@@ -6,9 +6,10 @@ use crate::job::{Demand, Stop};
 use module_box::{Schedule, Signal, Wiring};
 use std::marker::Model;
 
-/// All that the run of a module by itself needs, but where its box lies and which wires and gates of the circuit its
-/// own are: as if the box had its corner at (0, 0). Modules that differ in nothing else have equal shapes. Contracts
-/// see it as a `ShapeState`.
+/// A job without its place and without its names of wires. Contracts see it as a `ShapeState`.
+///
+/// It is all that the run of a module by itself needs, as if the box had its corner at (0, 0). The numbers of its wires
+/// and gates in the circuit are left out. Modules that differ in nothing else have equal shapes.
 #[derive(Drop)]
 pub struct Shape {
     /// The width of the box.
@@ -19,13 +20,13 @@ pub struct Shape {
     pub steps: u32,
     /// The gates, over wires of its own.
     pub wiring: Wiring,
-    /// What the cells carry at time 0, row by row.
+    /// The signals of the cells at time 0, row by row.
     pub starts: Vec<Signal>,
-    /// What they are to be at the last time, row by row.
+    /// The demands on the cells at the last time, row by row.
     pub demands: Vec<Demand>,
-    /// What the cells of the ring carry at odd times.
+    /// The signals of the cells of the ring at odd times.
     pub edges: Schedule,
-    /// What the cells of the halo carry at odd times.
+    /// The signals of the cells of the halo at odd times.
     pub halos: Schedule,
     /// The stops, in their order.
     pub stops: Vec<Stop>,
@@ -44,70 +45,70 @@ impl Model for Shape {
 }
 
 impl Shape {
-    /// The width of the box.
+    /// Returns the width of the box.
     pub fn width(&self) -> u32
         ensures { result ≡ self.now.width }
     {
         self.width
     }
 
-    /// The height of the box.
+    /// Returns the height of the box.
     pub fn height(&self) -> u32
         ensures { result ≡ self.now.height }
     {
         self.height
     }
 
-    /// The steps of the layout.
+    /// Returns the steps of the layout.
     pub fn steps(&self) -> u32
         ensures { result ≡ self.now.steps }
     {
         self.steps
     }
 
-    /// The gates that the module knows, over wires of its own.
+    /// Returns the gates that the module knows, over wires of its own.
     pub fn wiring(&self) -> &Wiring
         ensures { result.now ≡ self.now.netlist }
     {
         &self.wiring
     }
 
-    /// What the cell at a place of the box, whose cells are counted row by row, carries at time 0.
+    /// Returns what the cell at a place of the box, whose cells are counted row by row, carries at time 0.
     pub(crate) fn start(&self, place: usize) -> Signal
         ensures { result ≡ unwrap_or (slice_get self.now.starts place) Signal.Zero }
     {
         self.starts.get(place).copied().unwrap_or(Signal::Zero)
     }
 
-    /// What the cell at a place of the box is to be at the last time.
+    /// Returns what the cell at a place of the box must be at the last time.
     pub(crate) fn demand(&self, place: usize) -> Demand
         ensures { result ≡ unwrap_or (slice_get self.now.demands place) Demand.Dead }
     {
         self.demands.get(place).copied().unwrap_or(Demand::Dead)
     }
 
-    /// What the cells of the ring carry at odd times.
+    /// Returns what the cells of the ring carry at odd times.
     pub fn edges(&self) -> &Schedule
         ensures { result.now ≡ self.now.edges }
     {
         &self.edges
     }
 
-    /// What the cells of the halo carry at odd times.
+    /// Returns what the cells of the halo carry at odd times.
     pub fn halos(&self) -> &Schedule
         ensures { result.now ≡ self.now.halos }
     {
         &self.halos
     }
 
-    /// The stops, in the order of time, y and x.
+    /// Returns the stops, in the order of time, y and x.
     pub fn stops(&self) -> &[Stop]
         ensures { result.now ≡ self.now.stops }
     {
         self.stops.as_slice()
     }
 
-    /// Whether the gate at this place is kept.
+    /// Returns whether the gate at this place is kept.
     pub fn keeps(&self, place: u16) -> bool
         ensures { result ≡ is_among self.now.kept place }
     {

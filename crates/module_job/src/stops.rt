@@ -8,7 +8,7 @@ use crate::job::Stop;
 use module_box::{Moment, moved_cell};
 use std::alloc::{AllocError, Global};
 
-/// The stop at the cell that lies `dx` columns and `dy` rows further, where all these numbers are from -1024 to 1023.
+/// Returns the stop at the cell that lies `dx` columns and `dy` rows further. All these numbers are from -1024 to 1023.
 pub(crate) fn moved_stop(stop: Stop, dx: i32, dy: i32) -> Stop
     requires cell { IsNear stop.at.cell }
     requires by { IsSmall dx × IsSmall dy }
@@ -23,7 +23,7 @@ pub(crate) fn moved_stop(stop: Stop, dx: i32, dy: i32) -> Stop
     }
 }
 
-/// The same stops at the cells that lie so much further.
+/// Returns the same stops at the cells that lie `dx` columns and `dy` rows further.
 pub fn moved_stops(alloc: Global, stops: &[Stop], dx: i32, dy: i32) -> Result<Vec<Stop>, AllocError>
     requires cells { All (λ s. IsNear s.at.cell) stops.now }
     requires by { IsSmall dx × IsSmall dy }

@@ -1,5 +1,6 @@
 -- A layout with one more line.
-use Rattle.std.proofs.Common.{◌≡◌, ℕ, ◌||◌, ◌&&◌, Bool, true, false, not, List, [], ◌∷◌, ◌++◌, length, None, refl, sym, ap, subst, ◌∙◌, arith, append_assoc, append-nil}
+use Rattle.std.proofs.Common.{◌≡◌, ℕ, ◌||◌, ◌&&◌, Bool, true, false, not, List, [], ◌∷◌, ◌++◌, length, None, refl, sym}
+use Rattle.std.proofs.Common.{ap, subst, ◌∙◌, arith, append_assoc, append-nil}
 use Rattle.std.specs.Prelude.{◌==◌, ℤ}
 use Rattle.std.proofs.lemmas.Bool.Decides.{nat_tests}
 use Rattle.std.proofs.lemmas.List.{map-append}
@@ -12,7 +13,8 @@ use Rattle.pattern.specs.declared.parts.Extent.{Extent}
 use Rattle.pattern.specs.declared.parts.Part.{Part}
 use Rattle.pattern.specs.declared.parts.Part.TheVariants.{Mirror, Ball, In, Out, Waste}
 use Rattle.pattern.specs.Layout.{Pattern, parts_of}
-use Rattle.pattern.specs.Lines.{is_late, order_fault, limit_fault, cell_fault, begins, ends, holds, begun, ended, AreGoodAfter}
+use Rattle.pattern.specs.Lines.{is_late, order_fault, limit_fault, cell_fault, begins, ends, holds, begun, ended}
+use Rattle.pattern.specs.Lines.{AreGoodAfter}
 use Rattle.pattern.proofs.Orders.{some, late_mirror, late_ball, late_in, late_out}
 
 -- no code: the test was not failed
@@ -45,67 +47,100 @@ module _ {A B C D : Type 0} (ks : List A) (ls : List B) (ms : List C) (ns : List
   pub are_empty : (some ks || (some ls || (some ms || some ns))) ≡ false → AreEmpty
   are_empty e =
       let none = bits (some ks) (some ls) (some ms) (some ns) e in
-      record { first = none_of ks none.0; second = none_of ls none.1; third = none_of ms none.2; fourth = none_of ns none.3 }
+      record {
+        first = none_of ks none.0;
+        second = none_of ls none.1;
+        third = none_of ms none.2;
+        fourth = none_of ns none.3;
+      }
 
 -- the line stands behind the others of its kind, and no line of a later kind stands
 module _ (p v : Pattern) (same : v ≡ p) (part : Part) (follows : order_fault (parts_of v) part ≡ None) where
   not_late : is_late (parts_of p) part ≡ false
   unfolding order_fault
-  not_late = subst (λ (q : Pattern). is_late (parts_of q) part ≡ false) same (no_code (is_late (parts_of v) part) 6 follows)
+  not_late = subst (λ (q : Pattern). is_late (parts_of q) part ≡ false) same
+      (no_code (is_late (parts_of v) part) 6 follows)
 
   on_old : (q : Pattern) → parts_of q ≡ parts_of p ++ part ∷ [] → parts_of q ≡ parts_of v ++ part ∷ []
   on_old q e = e ∙ ap (λ (u : Pattern). parts_of u ++ part ∷ []) (sym same)
 
-  pub with_mirror : (r : Rectangle) (ms : List Rectangle) → part ≡ Mirror r → ms ≡ p.mirrors ++ r ∷ [] → parts_of (record p { mirrors = ms }) ≡ parts_of v ++ part ∷ []
+  pub with_mirror : (r : Rectangle) (ms : List Rectangle) → part ≡ Mirror r → ms ≡ p.mirrors ++ r ∷ [] →
+      parts_of (record p { mirrors = ms }) ≡ parts_of v ++ part ∷ []
   with_mirror r ms is more =
-      let none = are_empty p.balls p.ins p.outs p.wastes (sym (late_mirror p r) ∙ ap (is_late (parts_of p)) (sym is) ∙ not_late) in
-      on_old (record p { mirrors = ms }) (rw (more, none.first, none.second, none.third, none.fourth, is, map-append Mirror p.mirrors (r ∷ [])) (simp (append-nil) refl))
+      let none = are_empty p.balls p.ins p.outs p.wastes
+      (sym (late_mirror p r) ∙ ap (is_late (parts_of p)) (sym is) ∙ not_late) in
+      on_old (record p { mirrors = ms })
+      (rw (more, none.first, none.second, none.third, none.fourth, is, map-append Mirror p.mirrors (r ∷ []))
+      (simp (append-nil) refl))
 
-  pub with_ball : (c : Cell) (bs : List Cell) → part ≡ Ball c → bs ≡ p.balls ++ c ∷ [] → parts_of (record p { balls = bs }) ≡ parts_of v ++ part ∷ []
+  pub with_ball : (c : Cell) (bs : List Cell) → part ≡ Ball c → bs ≡ p.balls ++ c ∷ [] →
+      parts_of (record p { balls = bs }) ≡ parts_of v ++ part ∷ []
   with_ball c bs is more =
-      let none = are_empty p.ins p.ins p.outs p.wastes (twice (some p.ins) (some p.outs) (some p.wastes) (sym (late_ball p c) ∙ ap (is_late (parts_of p)) (sym is) ∙ not_late)) in
-      on_old (record p { balls = bs }) (rw (more, none.second, none.third, none.fourth, is, map-append Ball p.balls (c ∷ [])) (simp (append-nil, append_assoc) refl))
+      let none = are_empty p.ins p.ins p.outs p.wastes
+      (twice (some p.ins) (some p.outs) (some p.wastes)
+      (sym (late_ball p c) ∙ ap (is_late (parts_of p)) (sym is) ∙ not_late)) in
+      on_old (record p { balls = bs })
+      (rw (more, none.second, none.third, none.fourth, is, map-append Ball p.balls (c ∷ []))
+      (simp (append-nil, append_assoc) refl))
     where
       twice : (a b c : Bool) → (a || (b || c)) ≡ false → (a || (a || (b || c))) ≡ false
       twice a b c e = grind arith
 
-  pub with_in : (q : Port) (is : List Port) → part ≡ In q → is ≡ p.ins ++ q ∷ [] → parts_of (record p { ins = is }) ≡ parts_of v ++ part ∷ []
+  pub with_in : (q : Port) (is : List Port) → part ≡ In q → is ≡ p.ins ++ q ∷ [] →
+      parts_of (record p { ins = is }) ≡ parts_of v ++ part ∷ []
   with_in q ins is more =
-      let none = are_empty p.outs p.outs p.outs p.wastes (thrice (some p.outs) (some p.wastes) (sym (late_in p q) ∙ ap (is_late (parts_of p)) (sym is) ∙ not_late)) in
-      on_old (record p { ins = ins }) (rw (more, none.third, none.fourth, is, map-append In p.ins (q ∷ [])) (simp (append-nil, append_assoc) refl))
+      let none = are_empty p.outs p.outs p.outs p.wastes
+      (thrice (some p.outs) (some p.wastes) (sym (late_in p q) ∙ ap (is_late (parts_of p)) (sym is) ∙ not_late)) in
+      on_old (record p { ins = ins })
+      (rw (more, none.third, none.fourth, is, map-append In p.ins (q ∷ [])) (simp (append-nil, append_assoc) refl))
     where
       thrice : (a b : Bool) → (a || b) ≡ false → (a || (a || (a || b))) ≡ false
       thrice a b e = grind arith
 
-  pub with_out : (q : Port) (os : List Port) → part ≡ Out q → os ≡ p.outs ++ q ∷ [] → parts_of (record p { outs = os }) ≡ parts_of v ++ part ∷ []
+  pub with_out : (q : Port) (os : List Port) → part ≡ Out q → os ≡ p.outs ++ q ∷ [] →
+      parts_of (record p { outs = os }) ≡ parts_of v ++ part ∷ []
   with_out q os is more =
       let none = none_of p.wastes (sym (late_out p q) ∙ ap (is_late (parts_of p)) (sym is) ∙ not_late) in
-      on_old (record p { outs = os }) (rw (more, none, is, map-append Out p.outs (q ∷ [])) (simp (append-nil, append_assoc) refl))
+      on_old (record p { outs = os })
+      (rw (more, none, is, map-append Out p.outs (q ∷ [])) (simp (append-nil, append_assoc) refl))
 
-  pub with_waste : (c : Cell) (ws : List Cell) → part ≡ Waste c → ws ≡ p.wastes ++ c ∷ [] → parts_of (record p { wastes = ws }) ≡ parts_of v ++ part ∷ []
+  pub with_waste : (c : Cell) (ws : List Cell) → part ≡ Waste c → ws ≡ p.wastes ++ c ∷ [] →
+      parts_of (record p { wastes = ws }) ≡ parts_of v ++ part ∷ []
   with_waste c ws is more =
       on_old (record p { wastes = ws }) (rw (more, is, map-append Waste p.wastes (c ∷ [])) (simp (append_assoc) refl))
 
 -- ---- one more good line
 
-good_push : (s : Extent) (before parts : List Part) (part : Part) → AreGoodAfter s before parts → limit_fault part ≡ None → cell_fault s (before ++ parts) part ≡ None → AreGoodAfter s before (parts ++ part ∷ [])
-good_push s before [] part good limit cells = (limit, subst (λ (l : List Part). cell_fault s l part ≡ None) (append-nil before) cells, tt)
-good_push s before (q ∷ parts) part good limit cells =
-    (good.0, good.1, good_push s (before ++ q ∷ []) parts part good.2 limit (subst (λ (l : List Part). cell_fault s l part ≡ None) (sym (append_assoc before (q ∷ []) parts)) cells))
+good_push : (s : Extent) (before parts : List Part) (part : Part) → AreGoodAfter s before parts →
+    limit_fault part ≡ None → cell_fault s (before ++ parts) part ≡ None → AreGoodAfter s before (parts ++ part ∷ [])
+good_push s before [] part good limit cells =
+    (limit, subst (λ (l : List Part). cell_fault s l part ≡ None) (append-nil before) cells, tt)
+good_push s before (q ∷ parts) part good limit cells = (
+  good.0,
+  good.1,
+  good_push s (before ++ q ∷ []) parts part good.2 limit
+      (subst (λ (l : List Part). cell_fault s l part ≡ None) (sym (append_assoc before (q ∷ []) parts)) cells),
+)
 
-pub good_more : (s : Extent) (p v : Pattern) (same : v ≡ p) (q : List Part) (part : Part) → AreGoodAfter s [] (parts_of p) → q ≡ parts_of v ++ part ∷ [] → limit_fault part ≡ None → cell_fault s (parts_of v) part ≡ None → AreGoodAfter s [] q
+pub good_more : (s : Extent) (p v : Pattern) (same : v ≡ p) (q : List Part) (part : Part) →
+    AreGoodAfter s [] (parts_of p) → q ≡ parts_of v ++ part ∷ [] → limit_fault part ≡ None →
+    cell_fault s (parts_of v) part ≡ None → AreGoodAfter s [] q
 good_more s p v same q part good more limit cells =
-    subst (AreGoodAfter s []) (sym more) (good_push s [] (parts_of v) part (subst (λ (u : Pattern). AreGoodAfter s [] (parts_of u)) (sym same) good) limit cells)
+    subst (AreGoodAfter s []) (sym more)
+    (good_push s [] (parts_of v) part
+    (subst (λ (u : Pattern). AreGoodAfter s [] (parts_of u)) (sym same) good) limit cells)
 
 -- ---- the cells that are taken after one more line
 
 or_last : (a b : Bool) → (a || (b || false)) ≡ (a || b)
 or_last a b = grind arith
 
-pub begun_push : (parts : List Part) (part : Part) (x y : ℤ) → begun (parts ++ part ∷ []) x y ≡ (begun parts x y || (begins part && holds part x y))
+pub begun_push : (parts : List Part) (part : Part) (x y : ℤ) →
+    begun (parts ++ part ∷ []) x y ≡ (begun parts x y || (begins part && holds part x y))
 unfolding begun
 begun_push parts part x y = list_any-append (λ b. begins b && holds b x y) parts (part ∷ []) ∙ or_last _ _
 
-pub ended_push : (parts : List Part) (part : Part) (x y : ℤ) → ended (parts ++ part ∷ []) x y ≡ (ended parts x y || (ends part && holds part x y))
+pub ended_push : (parts : List Part) (part : Part) (x y : ℤ) →
+    ended (parts ++ part ∷ []) x y ≡ (ended parts x y || (ends part && holds part x y))
 unfolding ended
 ended_push parts part x y = list_any-append (λ b. ends b && holds b x y) parts (part ∷ []) ∙ or_last _ _

@@ -1,5 +1,6 @@
 -- The cells of rows and rectangles.
-use Rattle.std.proofs.Common.{◌≡◌, ℕ, Bool, cond, ◌+◌, ◌-◌, ◌<◌, ◌≤◌, pos, List, [], ◌∷◌, ◌++◌, arith, ap, ◌∙◌, append-nil, append_assoc, sym, to_z, w32}
+use Rattle.std.proofs.Common.{◌≡◌, ℕ, Bool, cond, ◌+◌, ◌-◌, ◌<◌, ◌≤◌, pos, List, [], ◌∷◌, ◌++◌, arith, ap, ◌∙◌}
+use Rattle.std.proofs.Common.{append-nil, append_assoc, sym, to_z, w32}
 use Rattle.std.proofs.lemmas.Int.{ints}
 use Rattle.std.specs.List.{flat_map, filter, range_with_len}
 use Rattle.std.proofs.lemmas.List.Elements.{filter-append}
@@ -13,10 +14,14 @@ pub row_more : (x n y j : ℕ) → x + n ≡ j → row_cells x (n + 1) y ≡ row
 row_more x n y j e = map-range_with_len_more (λ c. cell c y) x n j e
 
 range_more : (a n j : ℕ) → a + n ≡ j → range_with_len a (n + 1) ≡ range_with_len a n ++ j ∷ []
-range_more a n j e = sym (map-id (range_with_len a (n + 1))) ∙ map-range_with_len_more (λ (k : ℕ). k) a n j e ∙ ap (λ (l : List ℕ). l ++ j ∷ []) (map-id (range_with_len a n))
+range_more a n j e = sym (map-id (range_with_len a (n + 1))) ∙ map-range_with_len_more (λ (k : ℕ). k) a n j e
+    ∙ ap (λ (l : List ℕ). l ++ j ∷ []) (map-id (range_with_len a n))
 
-pub flat_map_range_more : {X : Type 0} (f : ℕ → List X) (a n j : ℕ) → a + n ≡ j → flat_map f (range_with_len a (n + 1)) ≡ flat_map f (range_with_len a n) ++ f j
-flat_map_range_more f a n j e = ap (flat_map f) (range_more a n j e) ∙ flat_map-append f (range_with_len a n) (j ∷ []) ∙ ap (λ (l : List _). flat_map f (range_with_len a n) ++ l) (append-nil (f j))
+pub flat_map_range_more : {X : Type 0} (f : ℕ → List X) (a n j : ℕ) → a + n ≡ j →
+    flat_map f (range_with_len a (n + 1)) ≡ flat_map f (range_with_len a n) ++ f j
+flat_map_range_more f a n j e =
+    ap (flat_map f) (range_more a n j e) ∙ flat_map-append f (range_with_len a n) (j ∷ [])
+    ∙ ap (λ (l : List _). flat_map f (range_with_len a n) ++ l) (append-nil (f j))
 
 -- a cell whose numbers were cast
 pub cast_cell : (x y : ℕ) → x < 512 → y < 512 → record { x = to_z w32 x; y = to_z w32 y } ≡ cell x y
@@ -25,24 +30,42 @@ cast_cell x y a b =
     let q : to_z w32 y ≡ pos y = omega (arith, ints) in
     λ i. record { x = p i; y = q i }
 
-pub row_pushed : (first out out' : List Cell) (x y c : ℕ) → x ≤ c → c < 512 → y < 512 → out ≡ first ++ row_cells x (c - x) y → out' ≡ out ++ record { x = to_z w32 c; y = to_z w32 y } ∷ [] → out' ≡ first ++ row_cells x (c + 1 - x) y
+pub row_pushed : (first out out' : List Cell) (x y c : ℕ) → x ≤ c → c < 512 → y < 512 →
+    out ≡ first ++ row_cells x (c - x) y → out' ≡ out ++ record { x = to_z w32 c; y = to_z w32 y } ∷ [] →
+    out' ≡ first ++ row_cells x (c + 1 - x) y
 row_pushed first out out' x y c from low row before now =
     let n : c + 1 - x ≡ (c - x) + 1 = omega arith in
-    now ∙ ap (λ (d : Cell). out ++ d ∷ []) (cast_cell c y low row) ∙ ap (λ (l : List Cell). l ++ cell c y ∷ []) before ∙ append_assoc first (row_cells x (c - x) y) (cell c y ∷ []) ∙ ap (λ (l : List Cell). first ++ l) (sym (row_more x (c - x) y c (omega arith))) ∙ ap (λ (k : ℕ). first ++ row_cells x k y) (sym n)
+    now ∙ ap (λ (d : Cell). out ++ d ∷ []) (cast_cell c y low row) ∙ ap (λ (l : List Cell). l ++ cell c y ∷ []) before
+    ∙ append_assoc first (row_cells x (c - x) y) (cell c y ∷ [])
+    ∙ ap (λ (l : List Cell). first ++ l) (sym (row_more x (c - x) y c (omega arith)))
+    ∙ ap (λ (k : ℕ). first ++ row_cells x k y) (sym n)
 
-pub rows_pushed : (first out out' : List Cell) (x w y k : ℕ) → y ≤ k → out ≡ first ++ flat_map (row_cells x w) (range_with_len y (k - y)) → out' ≡ out ++ row_cells x w k → out' ≡ first ++ flat_map (row_cells x w) (range_with_len y (k + 1 - y))
+pub rows_pushed : (first out out' : List Cell) (x w y k : ℕ) → y ≤ k →
+    out ≡ first ++ flat_map (row_cells x w) (range_with_len y (k - y)) → out' ≡ out ++ row_cells x w k →
+    out' ≡ first ++ flat_map (row_cells x w) (range_with_len y (k + 1 - y))
 rows_pushed first out out' x w y k from before now =
     let n : k + 1 - y ≡ (k - y) + 1 = omega arith in
-    now ∙ ap (λ (l : List Cell). l ++ row_cells x w k) before ∙ append_assoc first (flat_map (row_cells x w) (range_with_len y (k - y))) (row_cells x w k) ∙ ap (λ (l : List Cell). first ++ l) (sym (flat_map_range_more (row_cells x w) y (k - y) k (omega arith))) ∙ ap (λ (m : ℕ). first ++ flat_map (row_cells x w) (range_with_len y m)) (sym n)
+    now ∙ ap (λ (l : List Cell). l ++ row_cells x w k) before
+    ∙ append_assoc first (flat_map (row_cells x w) (range_with_len y (k - y))) (row_cells x w k)
+    ∙ ap (λ (l : List Cell). first ++ l) (sym (flat_map_range_more (row_cells x w) y (k - y) k (omega arith)))
+    ∙ ap (λ (m : ℕ). first ++ flat_map (row_cells x w) (range_with_len y m)) (sym n)
 
 -- ---- rows that are filtered
 
-pub row_filtered : (test : Cell → Bool) (first out out' : List Cell) (x y : ℕ) (b : Bool) → test (cell x y) ≡ b → out ≡ first ++ filter test (row_cells 0 x y) → out' ≡ out ++ cond b (cell x y ∷ []) [] → out' ≡ first ++ filter test (row_cells 0 (x + 1) y)
+pub row_filtered : (test : Cell → Bool) (first out out' : List Cell) (x y : ℕ) (b : Bool) → test (cell x y) ≡ b →
+    out ≡ first ++ filter test (row_cells 0 x y) → out' ≡ out ++ cond b (cell x y ∷ []) [] →
+    out' ≡ first ++ filter test (row_cells 0 (x + 1) y)
 row_filtered test first out out' x y b passes before now =
-    now ∙ ap (λ (l : List Cell). l ++ cond b (cell x y ∷ []) []) before ∙ append_assoc first (filter test (row_cells 0 x y)) (cond b (cell x y ∷ []) [])
+    now ∙ ap (λ (l : List Cell). l ++ cond b (cell x y ∷ []) []) before
+    ∙ append_assoc first (filter test (row_cells 0 x y)) (cond b (cell x y ∷ []) [])
     ∙ ap (λ (d : Bool). first ++ (filter test (row_cells 0 x y) ++ cond d (cell x y ∷ []) [])) (sym passes)
-    ∙ ap (λ (l : List Cell). first ++ l) (sym (filter_of_map_range_with_len_more test (λ c. cell c y) 0 x x (omega arith)))
+    ∙ ap (λ (l : List Cell). first ++ l)
+    (sym (filter_of_map_range_with_len_more test (λ c. cell c y) 0 x x (omega arith)))
 
-pub rows_filtered : (test : Cell → Bool) (out out' : List Cell) (w y : ℕ) → out ≡ filter test (flat_map (row_cells 0 w) (range_with_len 0 y)) → out' ≡ out ++ filter test (row_cells 0 w y) → out' ≡ filter test (flat_map (row_cells 0 w) (range_with_len 0 (y + 1)))
+pub rows_filtered : (test : Cell → Bool) (out out' : List Cell) (w y : ℕ) →
+    out ≡ filter test (flat_map (row_cells 0 w) (range_with_len 0 y)) → out' ≡ out ++ filter test (row_cells 0 w y) →
+    out' ≡ filter test (flat_map (row_cells 0 w) (range_with_len 0 (y + 1)))
 rows_filtered test out out' w y before now =
-    now ∙ ap (λ (l : List Cell). l ++ filter test (row_cells 0 w y)) before ∙ sym (filter-append test (flat_map (row_cells 0 w) (range_with_len 0 y)) (row_cells 0 w y)) ∙ ap (filter test) (sym (flat_map_range_more (row_cells 0 w) 0 y y (omega arith)))
+    now ∙ ap (λ (l : List Cell). l ++ filter test (row_cells 0 w y)) before
+    ∙ sym (filter-append test (flat_map (row_cells 0 w) (range_with_len 0 y)) (row_cells 0 w y))
+    ∙ ap (filter test) (sym (flat_map_range_more (row_cells 0 w) 0 y y (omega arith)))

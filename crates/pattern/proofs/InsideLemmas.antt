@@ -1,5 +1,6 @@
--- What begins in a good layout lies inside it.
-use Rattle.std.proofs.Common.{◌≡◌, ℕ, zero, suc, ◌+◌, ◌≤◌, ◌<◌, ◌%◌, ℤ, pos, negsuc, Bool, true, false, not, ◌&&◌, ◌||◌, None, List, [], ◌∷◌, ◌++◌, map, length, get_or, refl, arith, ap, ◌∙◌, sym}
+-- The cells that are live at the start of a good layout lie inside it.
+use Rattle.std.proofs.Common.{◌≡◌, ℕ, zero, suc, ◌+◌, ◌≤◌, ◌<◌, ◌%◌, ℤ, pos, negsuc, Bool, true, false, not, ◌&&◌, ◌||◌}
+use Rattle.std.proofs.Common.{None, List, [], ◌∷◌, ◌++◌, map, length, get_or, refl, arith, ap, ◌∙◌, sym}
 use Rattle.std.specs.List.{list_any, list_all}
 use Rattle.std.proofs.lemmas.Bool.Decides.{nat_tests, Decides-int_eq}
 use Rattle.std.proofs.lemmas.List.Folds.{list_all-append, list_all-map}
@@ -12,7 +13,8 @@ use Rattle.pattern.specs.declared.parts.Port.{Port}
 use Rattle.pattern.specs.declared.parts.Extent.{Extent}
 use Rattle.pattern.specs.declared.parts.Part.{Part}
 use Rattle.pattern.specs.declared.parts.Part.TheVariants.{Mirror, Ball, In}
-use Rattle.pattern.specs.Layout.{Pattern, in_rectangle, in_layout, in_cells, in_rectangles, in_ports_on, start, parts_of}
+use Rattle.pattern.specs.Layout.{Pattern, in_rectangle, in_layout, in_cells, in_rectangles, in_ports_on, start}
+use Rattle.pattern.specs.Layout.{parts_of}
 use Rattle.pattern.proofs.TakenLemmas.{mirror_fits}
 use Rattle.pattern.specs.Lines.{size_fault, cell_fault, is_inside, is_taken, is_side, AreGoodAfter}
 
@@ -36,7 +38,8 @@ no_code true n e = refl
 no_code false n e = cc
 
 side_length : (n : ℕ) → is_side n ≡ true → IsSideLength n
-side_length n e = record { least = grind (arith, nat_tests); most = grind (arith, nat_tests); even = grind (arith, nat_tests) }
+side_length n e =
+    record { least = grind (arith, nat_tests); most = grind (arith, nat_tests); even = grind (arith, nat_tests) }
 
 pub size_sides : (s : Extent) → size_fault s ≡ None → IsSideLength s.w × IsSideLength s.h
 unfolding size_fault
@@ -51,13 +54,16 @@ first_holds : (a b : Bool) → code_where (not a || b) 7 ≡ None → a ≡ true
 first_holds true b e = refl
 first_holds false b e = cc
 
-part_inside : (s : Extent) (before : List Part) (part : Part) → cell_fault s before part ≡ None → is_inside s part ≡ true
+part_inside : (s : Extent) (before : List Part) (part : Part) → cell_fault s before part ≡ None →
+    is_inside s part ≡ true
 unfolding cell_fault
 part_inside s before part e = first_holds (is_inside s part) (is_taken before part) e
 
-parts_inside : (s : Extent) (before parts : List Part) → AreGoodAfter s before parts → list_all (is_inside s) parts ≡ true
+parts_inside : (s : Extent) (before parts : List Part) → AreGoodAfter s before parts →
+    list_all (is_inside s) parts ≡ true
 parts_inside s before [] h = refl
-parts_inside s before (part ∷ parts) h = rw (part_inside s before part h.1, parts_inside s (before ++ part ∷ []) parts h.2) refl
+parts_inside s before (part ∷ parts) h =
+    rw (part_inside s before part h.1, parts_inside s (before ++ part ∷ []) parts h.2) refl
 
 pub record BeginsInside (p : Pattern) : Type 0 where
   pub mirrors : list_all (λ r. is_inside p.size (Mirror r)) p.mirrors ≡ true
@@ -77,27 +83,34 @@ begins_inside p h =
       ins = sym (list_all-map test In p.ins) ∙ and_left _ _ three;
     }
 
-pub mirrors_fit : (s : Extent) (rs : List Rectangle) → list_all (λ r. is_inside s (Mirror r)) rs ≡ true → s.w ≤ 512 → s.h ≤ 512 → (k : ℕ) (d : Rectangle) → k < length rs → ((get_or rs k d).x + (get_or rs k d).w ≤ 512) × ((get_or rs k d).y + (get_or rs k d).h ≤ 512)
+pub mirrors_fit : (s : Extent) (rs : List Rectangle) → list_all (λ r. is_inside s (Mirror r)) rs ≡ true → s.w ≤ 512 →
+    s.h ≤ 512 → (k : ℕ) (d : Rectangle) → k < length rs →
+    ((get_or rs k d).x + (get_or rs k d).w ≤ 512) × ((get_or rs k d).y + (get_or rs k d).h ≤ 512)
 mirrors_fit s [] e w h k d lt = absurd (omega arith)
-mirrors_fit s (r ∷ rs) e w h zero d lt = let f = mirror_fits s r (and_left _ _ e) in (omega (arith, f.0), omega (arith, f.1))
+mirrors_fit s (r ∷ rs) e w h zero d lt = let f = mirror_fits s r (and_left _ _ e) in
+    (omega (arith, f.0), omega (arith, f.1))
 mirrors_fit s (r ∷ rs) e w h (suc k) d lt = mirrors_fit s rs (and_right _ _ e) w h k d (omega arith)
 
 -- ---- the start
 
-one_or_rest : (here rest b : Bool) → (here ≡ true → b ≡ true) → (rest ≡ true → b ≡ true) → (here || rest) ≡ true → b ≡ true
+one_or_rest : (here rest b : Bool) → (here ≡ true → b ≡ true) → (rest ≡ true → b ≡ true) → (here || rest) ≡ true →
+    b ≡ true
 one_or_rest true rest b f g h = f refl
 one_or_rest false rest b f g h = g h
 
-any_among : {X : Type 0} (p q : X → Bool) (b : Bool) → ((x : X) → q x ≡ true → p x ≡ true → b ≡ true) → (xs : List X) → list_all q xs ≡ true → list_any p xs ≡ true → b ≡ true
+any_among : {X : Type 0} (p q : X → Bool) (b : Bool) → ((x : X) → q x ≡ true → p x ≡ true → b ≡ true) → (xs : List X) →
+    list_all q xs ≡ true → list_any p xs ≡ true → b ≡ true
 any_among p q b f [] all some = cc
-any_among p q b f (x ∷ xs) all some = one_or_rest (p x) (list_any p xs) b (f x (and_left _ _ all)) (any_among p q b f xs (and_right _ _ all)) some
+any_among p q b f (x ∷ xs) all some =
+    one_or_rest (p x) (list_any p xs) b (f x (and_left _ _ all)) (any_among p q b f xs (and_right _ _ all)) some
 
 span_within : (a n m : ℕ) (x : ℤ) → a + n ≤ m → in_span a n x ≡ true → in_span 0 m x ≡ true
 unfolding in_span
 span_within a n m (pos x) fits e = grind (arith, nat_tests)
 span_within a n m (negsuc x) fits e = cc
 
-rectangle_inside : (s : Extent) (r : Rectangle) (x y : ℤ) → is_inside s (Mirror r) ≡ true → in_rectangle r x y ≡ true → in_layout s x y ≡ true
+rectangle_inside : (s : Extent) (r : Rectangle) (x y : ℤ) → is_inside s (Mirror r) ≡ true → in_rectangle r x y ≡ true →
+    in_layout s x y ≡ true
 rectangle_inside s r x y e h =
     let f = mirror_fits s r e in
     let across : in_span 0 s.w x ≡ true = span_within r.x r.w s.w x f.0 (and_left _ _ h) in
@@ -110,22 +123,28 @@ at_inside s c x y e h =
     let down : c.y ≡ y = (Decides-int_eq c.y y).0 (and_right _ _ h) in
     ap (λ (u : ℤ). in_layout s u y) (sym across) ∙ ap (λ (v : ℤ). in_layout s c.x v) (sym down) ∙ e
 
-ball_inside : (s : Extent) (c : Cell) (x y : ℤ) → is_inside s (Ball c) ≡ true → is_at c x y ≡ true → in_layout s x y ≡ true
+ball_inside : (s : Extent) (c : Cell) (x y : ℤ) → is_inside s (Ball c) ≡ true → is_at c x y ≡ true →
+    in_layout s x y ≡ true
 unfolding is_inside
 ball_inside s c x y e h = at_inside s c x y e h
 
-port_inside : (s : Extent) (b : Bool) (q : Port) (x y : ℤ) → is_inside s (In q) ≡ true → (b && is_at q.cell x y) ≡ true → in_layout s x y ≡ true
+port_inside : (s : Extent) (b : Bool) (q : Port) (x y : ℤ) → is_inside s (In q) ≡ true →
+    (b && is_at q.cell x y) ≡ true → in_layout s x y ≡ true
 unfolding is_inside
 port_inside s b q x y e h = at_inside s q.cell x y e (and_right _ _ h)
 
-or_either : (a b c d : Bool) → (a || b || c) ≡ true → (a ≡ true → d ≡ true) → (b ≡ true → d ≡ true) → (c ≡ true → d ≡ true) → d ≡ true
+or_either : (a b c d : Bool) → (a || b || c) ≡ true → (a ≡ true → d ≡ true) → (b ≡ true → d ≡ true) →
+    (c ≡ true → d ≡ true) → d ≡ true
 or_either true b c d h f g k = f refl
 or_either false b c d h f g k = one_or_rest b c d g k h
 
-pub start_inside : (p : Pattern) (on : List ℕ → Bool) → BeginsInside p → (x y : ℤ) → start p on x y ≡ true → in_layout p.size x y ≡ true
+pub start_inside : (p : Pattern) (on : List ℕ → Bool) → BeginsInside p → (x y : ℤ) → start p on x y ≡ true →
+    in_layout p.size x y ≡ true
 unfolding start
 start_inside p on all x y h =
     or_either (in_rectangles p.mirrors x y) (in_cells p.balls x y) (in_ports_on on p.ins x y) _ h
-    (any_among _ (λ (r : Rectangle). is_inside p.size (Mirror r)) _ (λ r e a. rectangle_inside p.size r x y e a) p.mirrors all.mirrors)
+    (any_among _ (λ (r : Rectangle). is_inside p.size (Mirror r)) _
+    (λ r e a. rectangle_inside p.size r x y e a) p.mirrors all.mirrors)
     (any_among _ (λ (c : Cell). is_inside p.size (Ball c)) _ (λ c e a. ball_inside p.size c x y e a) p.balls all.balls)
-    (any_among _ (λ (q : Port). is_inside p.size (In q)) _ (λ q e a. port_inside p.size (on q.name) q x y e a) p.ins all.ins)
+    (any_among _ (λ (q : Port). is_inside p.size (In q)) _
+    (λ q e a. port_inside p.size (on q.name) q x y e a) p.ins all.ins)

@@ -1,4 +1,4 @@
--- Which names a set has after one more.
+-- The names of a set after one more.
 use Rattle.std.proofs.Common.{◌≡◌, ℕ, ◌||◌, Bool, true, false, List, [], ◌∷◌, ◌++◌, sym, ◌∙◌, inl, inr, subst, arith}
 use Rattle.std.specs.Str.{bytes_eq}
 use Rattle.std.proofs.lemmas.Bool.{cases_Bool}

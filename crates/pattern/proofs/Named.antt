@@ -10,18 +10,22 @@ use Rattle.pattern.specs.Lines.{AreNamed, cell_fault, limit_fault, line_fault, n
 use Rattle.pattern.specs.Grammars.{layout_grammar}
 use Rattle.pattern.proofs.ReadingLemmas.{no_code_first, no_code_second}
 
-named_part : (ports : Option Named) (s : Extent) (before : List Part) (part : Part) → part_fault ports s before part ≡ None → name_fault ports part ≡ None
+named_part : (ports : Option Named) (s : Extent) (before : List Part) (part : Part) →
+    part_fault ports s before part ≡ None → name_fault ports part ≡ None
 unfolding part_fault line_fault
 named_part ports s before part e =
     let line = no_code_first (line_fault ports before part) (cell_fault s before part) e in
     no_code_second (limit_fault part) (name_fault ports part) (no_code_second (order_fault before part) _ line)
 
-named_parts : (ports : Option Named) (s : Extent) (before parts : List Part) → AreFaultless (layout_grammar ports) s before parts → AllByRecursion (λ part. name_fault ports part ≡ None) parts
+named_parts : (ports : Option Named) (s : Extent) (before parts : List Part) →
+    AreFaultless (layout_grammar ports) s before parts → AllByRecursion (λ part. name_fault ports part ≡ None) parts
 named_parts ports s before [] good = tt
-named_parts ports s before (part ∷ parts) good = (named_part ports s before part good.0, named_parts ports s (before ++ part ∷ []) parts good.1)
+named_parts ports s before (part ∷ parts) good =
+    (named_part ports s before part good.0, named_parts ports s (before ++ part ∷ []) parts good.1)
 
 -- where they have no fault
-pub faultless_named : (ports : Option Named) (s : Extent) (parts : List Part) → IsFaultless (layout_grammar ports) s parts → AreNamed ports parts
+pub faultless_named : (ports : Option Named) (s : Extent) (parts : List Part) →
+    IsFaultless (layout_grammar ports) s parts → AreNamed ports parts
 faultless_named ports s parts good = record {
   good = All-from_recursion (λ part. name_fault ports part ≡ None) parts (named_parts ports s [] parts good.each);
   whole = good.end;

@@ -18,17 +18,23 @@ some xs = not (length xs == 0)
 later : ℕ → Part → Bool
 later k b = nat_lt k (rank_of b)
 
-any_map : {X : Type 0} (k : ℕ) (f : X → Part) (v : Bool) → ((x : X) → nat_lt k (rank_of (f x)) ≡ v) → (xs : List X) → list_any (λ b. nat_lt k (rank_of b)) (map f xs) ≡ (v && some xs)
+any_map : {X : Type 0} (k : ℕ) (f : X → Part) (v : Bool) → ((x : X) → nat_lt k (rank_of (f x)) ≡ v) → (xs : List X) →
+    list_any (λ b. nat_lt k (rank_of b)) (map f xs) ≡ (v && some xs)
 any_map k f v same [] = grind arith
 any_map k f v same (x ∷ xs) = rw (same x, any_map k f v same xs) (grind arith)
 
 module _ (p : Pattern) (k : ℕ) where
-  late_by : list_any (λ b. nat_lt k (rank_of b)) (parts_of p) ≡ ((nat_lt k 0 && some p.mirrors) || ((nat_lt k 1 && some p.balls) || ((nat_lt k 2 && some p.ins) || ((nat_lt k 3 && some p.outs) || (nat_lt k 4 && some p.wastes)))))
+  late_by : list_any (λ b. nat_lt k (rank_of b)) (parts_of p)
+      ≡ ((nat_lt k 0 && some p.mirrors)
+      || ((nat_lt k 1 && some p.balls)
+      || ((nat_lt k 2 && some p.ins) || ((nat_lt k 3 && some p.outs) || (nat_lt k 4 && some p.wastes)))))
   unfolding rank_of
   late_by =
       rw (
-        list_any-append (λ b. nat_lt k (rank_of b)) (map Mirror p.mirrors) (map Ball p.balls ++ (map In p.ins ++ (map Out p.outs ++ map Waste p.wastes))),
-        list_any-append (λ b. nat_lt k (rank_of b)) (map Ball p.balls) (map In p.ins ++ (map Out p.outs ++ map Waste p.wastes)),
+        list_any-append (λ b. nat_lt k (rank_of b)) (map Mirror p.mirrors)
+            (map Ball p.balls ++ (map In p.ins ++ (map Out p.outs ++ map Waste p.wastes))),
+        list_any-append (λ b. nat_lt k (rank_of b)) (map Ball p.balls)
+            (map In p.ins ++ (map Out p.outs ++ map Waste p.wastes)),
         list_any-append (λ b. nat_lt k (rank_of b)) (map In p.ins) (map Out p.outs ++ map Waste p.wastes),
         list_any-append (λ b. nat_lt k (rank_of b)) (map Out p.outs) (map Waste p.wastes),
         any_map k Mirror (nat_lt k 0) (λ x. refl) p.mirrors,
@@ -39,7 +45,8 @@ module _ (p : Pattern) (k : ℕ) where
       ) refl
 
 module _ (p : Pattern) where
-  pub late_mirror : (r : Rectangle) → is_late (parts_of p) (Mirror r) ≡ (some p.balls || (some p.ins || (some p.outs || some p.wastes)))
+  pub late_mirror : (r : Rectangle) →
+      is_late (parts_of p) (Mirror r) ≡ (some p.balls || (some p.ins || (some p.outs || some p.wastes)))
   unfolding is_late rank_of
   late_mirror r = late_by p 0
 

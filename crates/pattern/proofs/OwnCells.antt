@@ -1,5 +1,6 @@
 -- The ports of a good layout have cells of their own.
-use Rattle.std.proofs.Common.{◌≡◌, ℕ, zero, suc, ◌||◌, ℤ, Bool, true, false, not, List, [], ◌∷◌, ◌++◌, map, None, Some, refl, sym, ap, subst, ◌∙◌, arith, append_assoc, append-nil}
+use Rattle.std.proofs.Common.{◌≡◌, ℕ, zero, suc, ◌||◌, ℤ, Bool, true, false, not, List, [], ◌∷◌, ◌++◌, map, None, Some}
+use Rattle.std.proofs.Common.{refl, sym, ap, subst, ◌∙◌, arith, append_assoc, append-nil}
 use Rattle.std.specs.Prelude.{slice_get}
 use Rattle.std.proofs.lemmas.Bool.{true≢false}
 use Rattle.std.proofs.lemmas.Option.{same_Some}
@@ -16,12 +17,16 @@ use Rattle.pattern.specs.Lines.{is_inside, is_taken, cell_fault, begins, ends, c
 use Rattle.pattern.proofs.Added.{no_code, begun_push, ended_push}
 
 -- the lines behind others are good after them
-good_behind : (s : Extent) (before front back : List Part) → AreGoodAfter s before (front ++ back) → AreGoodAfter s (before ++ front) back
+good_behind : (s : Extent) (before front back : List Part) → AreGoodAfter s before (front ++ back) →
+    AreGoodAfter s (before ++ front) back
 good_behind s before [] back good = subst (λ (l : List Part). AreGoodAfter s l back) (sym (append-nil before)) good
-good_behind s before (part ∷ front) back good = subst (λ (l : List Part). AreGoodAfter s l back) (append_assoc before (part ∷ []) front) (good_behind s (before ++ part ∷ []) front back good.2)
+good_behind s before (part ∷ front) back good =
+    subst (λ (l : List Part). AreGoodAfter s l back) (append_assoc before (part ∷ []) front)
+    (good_behind s (before ++ part ∷ []) front back good.2)
 
 at_itself : (c : Cell) → is_at c c.x c.y ≡ true
-at_itself c = let across = (Decides-int_eq c.x c.x).1 refl in let down = (Decides-int_eq c.y c.y).1 refl in rw (across, down) refl
+at_itself c = let across = (Decides-int_eq c.x c.x).1 refl in let down = (Decides-int_eq c.y c.y).1 refl in
+    rw (across, down) refl
 
 or_left : (a b : Bool) → (a || b) ≡ false → a ≡ false
 or_left a b e = grind arith
@@ -38,58 +43,79 @@ one_of b e = grind arith
 
 -- ports of one kind, each good after those before it, where `taken` are the cells that lines of their kind may not have
 module _ (make : Port → Part) (taken : List Part → State)
-    (is_free : (s : Extent) (before : List Part) (p : Port) → cell_fault s before (make p) ≡ None → taken before p.cell.x p.cell.y ≡ false)
-    (one_more : (before : List Part) (p : Port) (x y : ℤ) → taken (before ++ make p ∷ []) x y ≡ (taken before x y || (is_at p.cell x y || false)))
+    (is_free : (s : Extent) (before : List Part) (p : Port) → cell_fault s before (make p) ≡ None →
+    taken before p.cell.x p.cell.y ≡ false)
+    (one_more : (before : List Part) (p : Port) (x y : ℤ) →
+    taken (before ++ make p ∷ []) x y ≡ (taken before x y || (is_at p.cell x y || false)))
     (s : Extent) (rest : List Part) where
-  free : (before : List Part) (ports : List Port) → AreGoodAfter s before (map make ports ++ rest) → (i : ℕ) (q : Port) → slice_get ports i ≡ Some q → taken before q.cell.x q.cell.y ≡ false
+  free : (before : List Part) (ports : List Port) → AreGoodAfter s before (map make ports ++ rest) →
+      (i : ℕ) (q : Port) → slice_get ports i ≡ Some q → taken before q.cell.x q.cell.y ≡ false
   free before [] good i q e = absurd cc
-  free before (p ∷ ports) good zero q e = let same : p ≡ q = same_Some p q e in subst (λ (r : Port). taken before r.cell.x r.cell.y ≡ false) same (is_free s before p good.1)
-  free before (p ∷ ports) good (suc i) q e = or_left (taken before q.cell.x q.cell.y) _ (sym (one_more before p q.cell.x q.cell.y) ∙ free (before ++ make p ∷ []) ports good.2 i q e)
+  free before (p ∷ ports) good zero q e = let same : p ≡ q = same_Some p q e in
+      subst (λ (r : Port). taken before r.cell.x r.cell.y ≡ false) same (is_free s before p good.1)
+  free before (p ∷ ports) good (suc i) q e =
+      or_left (taken before q.cell.x q.cell.y) _
+      (sym (one_more before p q.cell.x q.cell.y) ∙ free (before ++ make p ∷ []) ports good.2 i q e)
 
   -- the first port and a later one
-  not_one : (before : List Part) (p : Port) (ports : List Port) → AreGoodAfter s before (map make (p ∷ ports) ++ rest) → (i : ℕ) (q : Port) → slice_get ports i ≡ Some q → p.cell ≡ q.cell → ⊥
+  not_one : (before : List Part) (p : Port) (ports : List Port) → AreGoodAfter s before (map make (p ∷ ports) ++ rest) →
+      (i : ℕ) (q : Port) → slice_get ports i ≡ Some q → p.cell ≡ q.cell → ⊥
   not_one before p ports good i q e same =
-      let none = or_right (taken before q.cell.x q.cell.y) (is_at p.cell q.cell.x q.cell.y) (sym (one_more before p q.cell.x q.cell.y) ∙ free (before ++ make p ∷ []) ports good.2 i q e) in
-      let all : is_at p.cell q.cell.x q.cell.y ≡ true = subst (λ (c : Cell). is_at p.cell c.x c.y ≡ true) same (at_itself p.cell) in
+      let none = or_right (taken before q.cell.x q.cell.y) (is_at p.cell q.cell.x q.cell.y)
+      (sym (one_more before p q.cell.x q.cell.y) ∙ free (before ++ make p ∷ []) ports good.2 i q e) in
+      let all : is_at p.cell q.cell.x q.cell.y ≡ true =
+      subst (λ (c : Cell). is_at p.cell c.x c.y ≡ true) same (at_itself p.cell) in
       true≢false (sym all ∙ none)
 
   own : (before : List Part) (ports : List Port) → AreGoodAfter s before (map make ports ++ rest) → HaveOwnCells ports
   own before [] good i j p q ei ej same = absurd cc
   own before (r ∷ ports) good zero zero p q ei ej same = refl
-  own before (r ∷ ports) good zero (suc j) p q ei ej same = absurd (not_one before r ports good j q ej (ap (λ (k : Port). k.cell) (same_Some r p ei) ∙ same))
-  own before (r ∷ ports) good (suc i) zero p q ei ej same = absurd (not_one before r ports good i p ei (ap (λ (k : Port). k.cell) (same_Some r q ej) ∙ sym same))
-  own before (r ∷ ports) good (suc i) (suc j) p q ei ej same = ap (λ (n : ℕ). suc n) (own (before ++ make r ∷ []) ports good.2 i j p q ei ej same)
+  own before (r ∷ ports) good zero (suc j) p q ei ej same =
+      absurd (not_one before r ports good j q ej (ap (λ (k : Port). k.cell) (same_Some r p ei) ∙ same))
+  own before (r ∷ ports) good (suc i) zero p q ei ej same =
+      absurd (not_one before r ports good i p ei (ap (λ (k : Port). k.cell) (same_Some r q ej) ∙ sym same))
+  own before (r ∷ ports) good (suc i) (suc j) p q ei ej same =
+      ap (λ (n : ℕ). suc n) (own (before ++ make r ∷ []) ports good.2 i j p q ei ej same)
 
-in_free : (s : Extent) (before : List Part) (p : Port) → cell_fault s before (In p) ≡ None → begun before p.cell.x p.cell.y ≡ false
+in_free : (s : Extent) (before : List Part) (p : Port) → cell_fault s before (In p) ≡ None →
+    begun before p.cell.x p.cell.y ≡ false
 unfolding cell_fault is_taken cells_of begins
 in_free s before p e = one_of (begun before p.cell.x p.cell.y) (not_taken (is_inside s (In p)) _ e)
 
-out_free : (s : Extent) (before : List Part) (p : Port) → cell_fault s before (Out p) ≡ None → ended before p.cell.x p.cell.y ≡ false
+out_free : (s : Extent) (before : List Part) (p : Port) → cell_fault s before (Out p) ≡ None →
+    ended before p.cell.x p.cell.y ≡ false
 unfolding cell_fault is_taken cells_of begins
 out_free s before p e = one_of (ended before p.cell.x p.cell.y) (not_taken (is_inside s (Out p)) _ e)
 
-in_more : (before : List Part) (p : Port) (x y : ℤ) → begun (before ++ In p ∷ []) x y ≡ (begun before x y || (is_at p.cell x y || false))
+in_more : (before : List Part) (p : Port) (x y : ℤ) →
+    begun (before ++ In p ∷ []) x y ≡ (begun before x y || (is_at p.cell x y || false))
 unfolding cells_of begins
 in_more before p x y = begun_push before (In p) x y
 
-out_more : (before : List Part) (p : Port) (x y : ℤ) → ended (before ++ Out p ∷ []) x y ≡ (ended before x y || (is_at p.cell x y || false))
+out_more : (before : List Part) (p : Port) (x y : ℤ) →
+    ended (before ++ Out p ∷ []) x y ≡ (ended before x y || (is_at p.cell x y || false))
 unfolding cells_of ends
 out_more before p x y = ended_push before (Out p) x y
 
 module _ (p : Pattern) (good : AreGoodAfter p.size [] (parts_of p)) where
-  from_balls : AreGoodAfter p.size (map Mirror p.mirrors) (map Ball p.balls ++ (map In p.ins ++ (map Out p.outs ++ map Waste p.wastes)))
+  from_balls : AreGoodAfter p.size (map Mirror p.mirrors)
+      (map Ball p.balls ++ (map In p.ins ++ (map Out p.outs ++ map Waste p.wastes)))
   from_balls = good_behind p.size [] (map Mirror p.mirrors) _ good
 
-  from_ins : AreGoodAfter p.size (map Mirror p.mirrors ++ map Ball p.balls) (map In p.ins ++ (map Out p.outs ++ map Waste p.wastes))
+  from_ins : AreGoodAfter p.size (map Mirror p.mirrors ++ map Ball p.balls)
+      (map In p.ins ++ (map Out p.outs ++ map Waste p.wastes))
   from_ins = good_behind p.size (map Mirror p.mirrors) (map Ball p.balls) _ from_balls
 
-  from_outs : AreGoodAfter p.size ((map Mirror p.mirrors ++ map Ball p.balls) ++ map In p.ins) (map Out p.outs ++ map Waste p.wastes)
+  from_outs : AreGoodAfter p.size ((map Mirror p.mirrors ++ map Ball p.balls) ++ map In p.ins)
+      (map Out p.outs ++ map Waste p.wastes)
   from_outs = good_behind p.size (map Mirror p.mirrors ++ map Ball p.balls) (map In p.ins) _ from_ins
 
   -- no two input cells are one
   pub ins_apart : HaveOwnCells p.ins
-  ins_apart = own In begun in_free in_more p.size (map Out p.outs ++ map Waste p.wastes) (map Mirror p.mirrors ++ map Ball p.balls) p.ins from_ins
+  ins_apart = own In begun in_free in_more p.size (map Out p.outs ++ map Waste p.wastes)
+      (map Mirror p.mirrors ++ map Ball p.balls) p.ins from_ins
 
   -- no two output cells are one
   pub outs_apart : HaveOwnCells p.outs
-  outs_apart = own Out ended out_free out_more p.size (map Waste p.wastes) ((map Mirror p.mirrors ++ map Ball p.balls) ++ map In p.ins) p.outs from_outs
+  outs_apart = own Out ended out_free out_more p.size (map Waste p.wastes)
+      ((map Mirror p.mirrors ++ map Ball p.balls) ++ map In p.ins) p.outs from_outs

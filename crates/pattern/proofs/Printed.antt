@@ -28,7 +28,8 @@ module _ (p : Pattern) where
   parts_text : flat_map part_text (parts_of p) ≡ mirrors ++ (balls ++ (ins ++ (outs ++ wastes)))
   unfolding mirrors balls ins outs wastes
   parts_text =
-      flat_map-append part_text (map Mirror p.mirrors) (map Ball p.balls ++ (map In p.ins ++ (map Out p.outs ++ map Waste p.wastes)))
+      flat_map-append part_text (map Mirror p.mirrors)
+      (map Ball p.balls ++ (map In p.ins ++ (map Out p.outs ++ map Waste p.wastes)))
       ∙ ap₂ (λ a b. a ++ b) (flat_map-map part_text Mirror p.mirrors) (
       flat_map-append part_text (map Ball p.balls) (map In p.ins ++ (map Out p.outs ++ map Waste p.wastes))
       ∙ ap₂ (λ a b. a ++ b) (flat_map-map part_text Ball p.balls) (
@@ -37,7 +38,8 @@ module _ (p : Pattern) where
       flat_map-append part_text (map Out p.outs) (map Waste p.wastes)
       ∙ ap₂ (λ a b. a ++ b) (flat_map-map part_text Out p.outs) (flat_map-map part_text Waste p.wastes))))
 
-  regroup : (s m b i o w e : List ℕ) → ((((((s ++ m) ++ b) ++ i) ++ o) ++ w) ++ e) ≡ (s ++ (m ++ (b ++ (i ++ (o ++ w))))) ++ e
+  regroup : (s m b i o w e : List ℕ) →
+      ((((((s ++ m) ++ b) ++ i) ++ o) ++ w) ++ e) ≡ (s ++ (m ++ (b ++ (i ++ (o ++ w))))) ++ e
   regroup s m b i o w e = ap (λ l. l ++ e) (simp append_assoc refl)
 
   pub printed : (a b c d k f g : List ℕ) → a ≡ line_text (codes "layout") (size_words p.size)
@@ -50,6 +52,8 @@ module _ (p : Pattern) where
   unfolding layout_text mirrors balls ins outs wastes
   printed a b c d k f g ea eb ec ed ek ef eg =
       let s = line_text (codes "layout") (size_words p.size) in
-      eg ∙ ap (λ l. l ++ codes "end\n") (ef ∙ ap (λ l. l ++ wastes) (ek ∙ ap (λ l. l ++ outs) (ed ∙ ap (λ l. l ++ ins) (ec ∙ ap (λ l. l ++ balls) (eb ∙ ap (λ l. l ++ mirrors) ea)))))
+      eg ∙ ap (λ l. l ++ codes "end\n")
+      (ef ∙ ap (λ l. l ++ wastes) (ek
+      ∙ ap (λ l. l ++ outs) (ed ∙ ap (λ l. l ++ ins) (ec ∙ ap (λ l. l ++ balls) (eb ∙ ap (λ l. l ++ mirrors) ea)))))
       ∙ regroup s mirrors balls ins outs wastes (codes "end\n")
       ∙ ap (λ l. (s ++ l) ++ codes "end\n") (sym parts_text)

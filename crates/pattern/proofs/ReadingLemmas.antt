@@ -1,4 +1,4 @@
--- What a reader of layouts knows of the lines so far.
+-- The tables of a reader of layouts, for the lines so far.
 use Rattle.std.proofs.Common.{◌≡◌, ℕ, ◌&&◌, Bool, not, List, [], ◌∷◌, Option, None, Some, Vec, refl, sym, ap, ◌∙◌}
 use Rattle.std.specs.List.{list_all, list_any}
 use Rattle.std.specs.Global.{Global}
@@ -25,10 +25,12 @@ module _ (ports : Option Named) (before : List Part) (part : Part) (good : line_
 
   pub in_limits : limit_fault part ≡ None
   unfolding line_fault
-  in_limits = no_code_first (limit_fault part) (name_fault ports part) (no_code_second (order_fault before part) (or_else (limit_fault part) (name_fault ports part)) good)
+  in_limits = no_code_first (limit_fault part) (name_fault ports part)
+      (no_code_second (order_fault before part) (or_else (limit_fault part) (name_fault ports part)) good)
 
 -- the same names pass two tests
-all_same : (p q : List ℕ → Bool) → ((n : List ℕ) → p n ≡ q n) → (names : List (List ℕ)) → list_all p names ≡ list_all q names
+all_same : (p q : List ℕ → Bool) → ((n : List ℕ) → p n ≡ q n) → (names : List (List ℕ)) →
+    list_all p names ≡ list_all q names
 all_same p q same [] = refl
 all_same p q same (n ∷ names) = ap (λ b. b && list_all p names) (same n) ∙ ap (λ b. q n && b) (all_same p q same names)
 
@@ -39,12 +41,18 @@ module _ (ports : PortNames) (parts : List Part) where
   none_missing any = rw any refl
 
   module _ (ins outs : Vec (List ℕ) Global) (seen_ins seen_outs : List (List ℕ)) (only : ports ≡ Only ins outs)
-      (same_ins : (n : List ℕ) → has seen_ins n ≡ list_any (is_in n) parts) (same_outs : (n : List ℕ) → has seen_outs n ≡ list_any (is_out n) parts) where
-    all_seen : (list_all (λ n. has seen_ins n) ins.items && list_all (λ n. has seen_outs n) outs.items) ≡ (list_all (λ n. list_any (is_in n) parts) ins.items && list_all (λ n. list_any (is_out n) parts) outs.items)
+      (same_ins : (n : List ℕ) → has seen_ins n ≡ list_any (is_in n) parts)
+      (same_outs : (n : List ℕ) → has seen_outs n ≡ list_any (is_out n) parts) where
+    all_seen : (list_all (λ n. has seen_ins n) ins.items && list_all (λ n. has seen_outs n) outs.items)
+        ≡ (list_all (λ n. list_any (is_in n) parts) ins.items && list_all (λ n. list_any (is_out n) parts) outs.items)
     all_seen =
-        ap (λ b. b && list_all (λ n. has seen_outs n) outs.items) (all_same (λ n. has seen_ins n) (λ n. list_any (is_in n) parts) same_ins ins.items)
-        ∙ ap (λ b. list_all (λ n. list_any (is_in n) parts) ins.items && b) (all_same (λ n. has seen_outs n) (λ n. list_any (is_out n) parts) same_outs outs.items)
+        ap (λ b. b && list_all (λ n. has seen_outs n) outs.items)
+        (all_same (λ n. has seen_ins n) (λ n. list_any (is_in n) parts) same_ins ins.items)
+        ∙ ap (λ b. list_all (λ n. list_any (is_in n) parts) ins.items && b)
+        (all_same (λ n. has seen_outs n) (λ n. list_any (is_out n) parts) same_outs outs.items)
 
-    pub missing_by : (b : Bool) → (list_all (λ n. has seen_ins n) ins.items && list_all (λ n. has seen_outs n) outs.items) ≡ b → code_where (not b) 11 ≡ missing_fault (named_ports ports) parts
+    pub missing_by : (b : Bool) →
+        (list_all (λ n. has seen_ins n) ins.items && list_all (λ n. has seen_outs n) outs.items) ≡ b →
+        code_where (not b) 11 ≡ missing_fault (named_ports ports) parts
     unfolding missing_fault
     missing_by b e = rw only (ap (λ k. code_where (not k) 11) (sym e ∙ all_seen))

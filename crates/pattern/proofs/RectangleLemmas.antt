@@ -1,4 +1,4 @@
--- Which places the cells of a rectangle are.
+-- The places of the cells of a rectangle.
 use Rattle.std.proofs.Common.{◌≡◌, ℕ, zero, suc, ◌+◌, ℤ, pos, negsuc, false, ◌&&◌, ◌||◌, refl, arith, ◌∙◌}
 use Rattle.std.specs.List.{flat_map, range_with_len}
 use Rattle.std.specs.Ordering.{int_eq}
@@ -24,9 +24,12 @@ in_row : (a n r : ℕ) (x y : ℤ) → in_cells (row_cells a n r) x y ≡ (in_sp
 in_row a zero r x y = rw (span_none a x) refl
 in_row a (suc n) r x y = rw (in_row (a + 1) n r x y, span_more a n x) (grind arith)
 
-in_rows : (a w b n : ℕ) (x y : ℤ) → in_cells (flat_map (row_cells a w) (range_with_len b n)) x y ≡ (in_span a w x && in_span b n y)
+in_rows : (a w b n : ℕ) (x y : ℤ) →
+    in_cells (flat_map (row_cells a w) (range_with_len b n)) x y ≡ (in_span a w x && in_span b n y)
 in_rows a w b zero x y = rw (span_none b y) (grind arith)
-in_rows a w b (suc n) x y = list_any-append (λ (c : Cell). is_at c x y) (row_cells a w b) (flat_map (row_cells a w) (range_with_len (b + 1) n)) ∙ rw (in_row a w b x y, in_rows a w (b + 1) n x y, span_more b n y) (grind arith)
+in_rows a w b (suc n) x y = list_any-append (λ (c : Cell). is_at c x y) (row_cells a w b)
+    (flat_map (row_cells a w) (range_with_len (b + 1) n))
+    ∙ rw (in_row a w b x y, in_rows a w (b + 1) n x y, span_more b n y) (grind arith)
 
 pub in_rectangle_cells : (r : Rectangle) (x y : ℤ) → in_cells (rectangle_cells r) x y ≡ in_rectangle r x y
 unfolding rectangle_cells

@@ -1,5 +1,6 @@
 -- Boards that run on the plane.
-use Rattle.std.proofs.Common.{◌≡◌, ℕ, ◌+◌, ◌≤◌, ◌<◌, ℤ, Bool, true, false, List, length, get_or, refl, arith, ap, ◌∙◌, sym, subst, inl, inr, add-one, Result, Ok, Err, OnOk, OnErr}
+use Rattle.std.proofs.Common.{◌≡◌, ℕ, ◌+◌, ◌≤◌, ◌<◌, ℤ, Bool, true, false, List, length, get_or, refl, arith, ap, ◌∙◌}
+use Rattle.std.proofs.Common.{sym, subst, inl, inr, add-one, Result, Ok, Err, OnOk, OnErr}
 use Rattle.std.specs.Result.{is_err}
 use Rattle.std.proofs.lemmas.Bool.{cases_lt}
 use Rattle.std.proofs.lemmas.Bool.Decides.{Decides-int_eq}
@@ -15,7 +16,8 @@ use Rattle.pattern.specs.Run.{RunsInside, RunLeaves, LeavesAt, EndsWith, live_ce
 pub same_state : {s s' : State} → ((x y : ℤ) → s x y ≡ s' x y) → s ≡ s'
 same_state e = λ i x y. e x y i
 
-pub inside_is_layout : (b : Board) (s : Extent) → b.width ≡ s.w → b.height ≡ s.h → (x y : ℤ) → is_inside b x y ≡ in_layout s x y
+pub inside_is_layout : (b : Board) (s : Extent) → b.width ≡ s.w → b.height ≡ s.h → (x y : ℤ) →
+    is_inside b x y ≡ in_layout s x y
 inside_is_layout b s w h x y = inside_is_span b x y ∙ rw (w, h) refl
 
 pub board_stays : (b : Board) (s : Extent) → b.width ≡ s.w → b.height ≡ s.h → StaysInside s (live b)
@@ -31,37 +33,48 @@ run_more : (s : State) (t : ℕ) → run s (t + 1) ≡ step t (run s t)
 unfolding run
 run_more s t = rw (add-one) refl
 
-pub stepped : (first : State) (t : ℕ) (old new : Board) → ((x y : ℤ) → live old x y ≡ run first t x y) → IsStep t old new → (x y : ℤ) → live new x y ≡ run first (t + 1) x y
+pub stepped : (first : State) (t : ℕ) (old new : Board) → ((x y : ℤ) → live old x y ≡ run first t x y) →
+    IsStep t old new → (x y : ℤ) → live new x y ≡ run first (t + 1) x y
 stepped first t old new same made x y =
     made x y ∙ ap (λ (s : State). step t s x y) (same_state same) ∙ ap (λ (s : State). s x y) (sym (run_more first t))
 
-pub stays_none : (b : Board) (s : Extent) → b.width ≡ s.w → b.height ≡ s.h → (k : ℕ) → k ≤ 0 → StaysInside s (run (live b) k)
+pub stays_none : (b : Board) (s : Extent) → b.width ≡ s.w → b.height ≡ s.h → (k : ℕ) → k ≤ 0 →
+    StaysInside s (run (live b) k)
 stays_none b s w h k le =
     let e : k ≡ 0 = omega arith in
-    subst (λ (m : ℕ). StaysInside s (run (live b) m)) (sym e) (subst (StaysInside s) (sym (run_none (live b))) (board_stays b s w h))
+    subst (λ (m : ℕ). StaysInside s (run (live b) m)) (sym e)
+    (subst (StaysInside s) (sym (run_none (live b))) (board_stays b s w h))
 
-pub stays_more : (first : State) (t : ℕ) (new : Board) (s : Extent) → new.width ≡ s.w → new.height ≡ s.h → ((x y : ℤ) → live new x y ≡ run first (t + 1) x y) → ((k : ℕ) → k ≤ t → StaysInside s (run first k)) → (k : ℕ) → k ≤ t + 1 → StaysInside s (run first k)
+pub stays_more : (first : State) (t : ℕ) (new : Board) (s : Extent) → new.width ≡ s.w → new.height ≡ s.h →
+    ((x y : ℤ) → live new x y ≡ run first (t + 1) x y) → ((k : ℕ) → k ≤ t → StaysInside s (run first k)) → (k : ℕ) →
+    k ≤ t + 1 → StaysInside s (run first k)
 stays_more first t new s w h same stays k le =
     elim (cases_lt k (t + 1)) [
       | inl lt ↦ stays k (omega arith)
       | inr ge ↦
           let e : t + 1 ≡ k = omega arith in
-          subst (λ (m : ℕ). StaysInside s (run first m)) e (subst (StaysInside s) (same_state same) (board_stays new s w h))
+          subst (λ (m : ℕ). StaysInside s (run first m)) e
+          (subst (StaysInside s) (same_state same) (board_stays new s w h))
     ]
 
-pub run_leaves : (first : State) (t : ℕ) (old : Board) (s : Extent) → old.width ≡ s.w → old.height ≡ s.h → t + 1 ≤ s.steps → ((x y : ℤ) → live old x y ≡ run first t x y) → ((k : ℕ) → k ≤ t → StaysInside s (run first k)) → Leaves t old → RunLeaves s first (t + 1)
+pub run_leaves : (first : State) (t : ℕ) (old : Board) (s : Extent) → old.width ≡ s.w → old.height ≡ s.h →
+    t + 1 ≤ s.steps → ((x y : ℤ) → live old x y ≡ run first t x y) → ((k : ℕ) → k ≤ t → StaysInside s (run first k)) →
+    Leaves t old → RunLeaves s first (t + 1)
 run_leaves first t old s w h within same stays leaves = record {
   within = within;
   stays = λ j lt. stays j (omega arith);
   leaves = record {
     x = leaves.x;
     y = leaves.y;
-    lives = ap (λ (f : State). f leaves.x leaves.y) (run_more first t) ∙ ap (λ (f : State). step t f leaves.x leaves.y) (sym (same_state same)) ∙ leaves.becomes_live;
+    lives = ap (λ (f : State). f leaves.x leaves.y) (run_more first t)
+        ∙ ap (λ (f : State). step t f leaves.x leaves.y) (sym (same_state same)) ∙ leaves.becomes_live;
     outside = sym (inside_is_layout old s w h leaves.x leaves.y) ∙ leaves.outside;
   };
 }
 
-pub runs_inside : (first : State) (t : ℕ) (last : Board) (s : Extent) → t ≡ s.steps → ((x y : ℤ) → live last x y ≡ run first t x y) → ((k : ℕ) → k ≤ t → StaysInside s (run first k)) → RunsInside s first (live last)
+pub runs_inside : (first : State) (t : ℕ) (last : Board) (s : Extent) → t ≡ s.steps →
+    ((x y : ℤ) → live last x y ≡ run first t x y) → ((k : ℕ) → k ≤ t → StaysInside s (run first k)) →
+    RunsInside s first (live last)
 runs_inside first t last s e same stays = record {
   stays = λ k le. stays k (omega arith);
   last = λ x y. same x y ∙ ap (λ (k : ℕ). run first k x y) e;
@@ -69,22 +82,28 @@ runs_inside first t last s e same stays = record {
 
 -- ---- the cells that are set
 
-pub among : (cells : List Cell) (i : ℕ) (d : Cell) → i < length cells → in_cells cells (get_or cells i d).x (get_or cells i d).y ≡ true
+pub among : (cells : List Cell) (i : ℕ) (d : Cell) → i < length cells →
+    in_cells cells (get_or cells i d).x (get_or cells i d).y ≡ true
 among cells i d lt =
     let c : Cell = get_or cells i d in
-    list_any_at (λ (e : Cell). is_at e c.x c.y) cells i d lt (rw ((Decides-int_eq c.x c.x).1 refl, (Decides-int_eq c.y c.y).1 refl) refl)
+    list_any_at (λ (e : Cell). is_at e c.x c.y) cells i d lt
+    (rw ((Decides-int_eq c.x c.x).1 refl, (Decides-int_eq c.y c.y).1 refl) refl)
 
 -- ---- the end of the run
 
-pub leaves_at : (p : Pattern) (on : List ℕ → Bool) (g : Board) (k : ℕ) → ((x y : ℤ) → live g x y ≡ start p on x y) → RunLeaves p.size (live g) k → LeavesAt p on k
+pub leaves_at : (p : Pattern) (on : List ℕ → Bool) (g : Board) (k : ℕ) → ((x y : ℤ) → live g x y ≡ start p on x y) →
+    RunLeaves p.size (live g) k → LeavesAt p on k
 leaves_at p on g k same leaves = subst (λ (s : State). RunLeaves p.size s k) (same_state same) leaves
 
-pub ends_with : (p : Pattern) (on : List ℕ → Bool) (g g' : Board) (cells : List Cell) → ((x y : ℤ) → live g x y ≡ start p on x y) → RunsInside p.size (live g) (live g') → cells ≡ live_cells p.size (live g') → EndsWith p on cells
+pub ends_with : (p : Pattern) (on : List ℕ → Bool) (g g' : Board) (cells : List Cell) →
+    ((x y : ℤ) → live g x y ≡ start p on x y) → RunsInside p.size (live g) (live g') →
+    cells ≡ live_cells p.size (live g') → EndsWith p on cells
 ends_with p on g g' cells same runs e =
     let from : live g ≡ start p on = same_state same in
     record {
       stays = subst (λ (s : State). (k : ℕ) → k ≤ p.size.steps → StaysInside p.size (run s k)) from runs.stays;
-      cells = e ∙ ap (live_cells p.size) (same_state runs.last) ∙ ap (λ (s : State). live_cells p.size (run s p.size.steps)) from;
+      cells = e ∙ ap (live_cells p.size) (same_state runs.last)
+          ∙ ap (λ (s : State). live_cells p.size (run s p.size.steps)) from;
     }
 
 -- ---- results

@@ -7,7 +7,8 @@ use Rattle.std.proofs.lemmas.Option.{option_and_then_some, same_Some}
 use Rattle.section_text.specs.Words.{◌>>=◌, words_of, is_word_at, lone, name_at, number_at}
 use Rattle.section_text.specs.Section.{ended_line}
 use Rattle.section_text.specs.declared.section.Form.TheVariants.{Header, Item, End}
-use Rattle.section_text.proofs.Spellings.{chosen, passed, number_at_spelled, one_word, three_words, four_words, five_words}
+use Rattle.section_text.proofs.Spellings.{chosen, passed, number_at_spelled, one_word, three_words, four_words}
+use Rattle.section_text.proofs.Spellings.{five_words}
 use Rattle.section_text.proofs.WordPlaces.{is_at_is, name_at_is, line_from_words}
 use Rattle.bbm_rule.specs.declared.block.Cell.{Cell}
 use Rattle.pattern.specs.declared.parts.Rectangle.{Rectangle}
@@ -15,7 +16,8 @@ use Rattle.pattern.specs.declared.parts.Port.{Port}
 use Rattle.pattern.specs.declared.parts.Extent.{Extent}
 use Rattle.pattern.specs.declared.parts.Part.TheVariants.{Mirror, Ball, In, Out, Waste}
 use Rattle.pattern.specs.Layout.{cell}
-use Rattle.pattern.specs.Forms.{Line, cell_from, lone_cell, named_cell, port_of, corner_and_sides, rectangle_of, sides_and_steps, size_of, form_of}
+use Rattle.pattern.specs.Forms.{Line, cell_from, lone_cell, named_cell, port_of, corner_and_sides, rectangle_of}
+use Rattle.pattern.specs.Forms.{sides_and_steps, size_of, form_of}
 use Rattle.pattern.specs.Text.{coordinate, cell_words, rectangle_words, port_words, size_words, form_text}
 
 -- two words are a cell
@@ -28,45 +30,61 @@ unfolding cell_from
 cell_spelled ws i c e =
     option_and_then_some (λ x. number_at ws (i + 1) >>= λ y. Some (cell x y)) (number_at ws i) c e (λ x first rest.
     option_and_then_some (λ y. Some (cell x y)) (number_at ws (i + 1)) c rest (λ y second made.
-    subst (CellAt ws i (i + 1)) (same_Some (cell x y) c made) (record { column = number_at_spelled ws i x first; row = number_at_spelled ws (i + 1) y second })))
+    subst (CellAt ws i (i + 1)) (same_Some (cell x y) c made)
+    (record { column = number_at_spelled ws i x first; row = number_at_spelled ws (i + 1) y second })))
 
-lone_cell_spelled : (ws : List (List ℕ)) (w : List ℕ) (c : Cell) → is_word_at ws 0 w ≡ true → lone_cell ws ≡ Some c → ws ≡ w ∷ cell_words c
+lone_cell_spelled : (ws : List (List ℕ)) (w : List ℕ) (c : Cell) → is_word_at ws 0 w ≡ true → lone_cell ws ≡ Some c →
+    ws ≡ w ∷ cell_words c
 unfolding lone_cell
 lone_cell_spelled ws w c at e =
     let found = passed (eqb (length ws) 3) (cell_from ws 1) c e in
     let words = cell_spelled ws 1 c found.1 in
-    three_words ws w (decimal (coordinate c.x)) (decimal (coordinate c.y)) (eqb-true _ _ found.0) (is_at_is ws 0 w at) words.column words.row
+    three_words ws w (decimal (coordinate c.x)) (decimal (coordinate c.y)) (eqb-true _ _ found.0)
+    (is_at_is ws 0 w at) words.column words.row
 
-port_spelled : (ws : List (List ℕ)) (w : List ℕ) (p : Port) → is_word_at ws 0 w ≡ true → port_of ws ≡ Some p → ws ≡ w ∷ port_words p
+port_spelled : (ws : List (List ℕ)) (w : List ℕ) (p : Port) → is_word_at ws 0 w ≡ true → port_of ws ≡ Some p →
+    ws ≡ w ∷ port_words p
 unfolding port_of named_cell
 port_spelled ws w p at e =
     let found = passed (eqb (length ws) 4) (named_cell ws) p e in
-    option_and_then_some (λ n. cell_from ws 2 >>= λ c. Some (record { name = n; cell = c })) (name_at ws 1) p found.1 (λ n named rest.
+    option_and_then_some (λ n. cell_from ws 2 >>= λ c. Some (record { name = n; cell = c })) (name_at ws 1) p found.1
+    (λ n named rest.
     option_and_then_some (λ c. Some (record { name = n; cell = c })) (cell_from ws 2) p rest (λ c at_cell made.
     let words = cell_spelled ws 2 c at_cell in
     subst (λ (q : Port). ws ≡ w ∷ port_words q) (same_Some (record { name = n; cell = c }) p made)
-    (four_words ws w n (decimal (coordinate c.x)) (decimal (coordinate c.y)) (eqb-true _ _ found.0) (is_at_is ws 0 w at) (name_at_is ws 1 n named) words.column words.row)))
+    (four_words ws w n (decimal (coordinate c.x)) (decimal (coordinate c.y)) (eqb-true _ _ found.0) (is_at_is ws 0 w at)
+    (name_at_is ws 1 n named) words.column words.row)))
 
-rectangle_spelled : (ws : List (List ℕ)) (v : List ℕ) (r : Rectangle) → is_word_at ws 0 v ≡ true → rectangle_of ws ≡ Some r → ws ≡ v ∷ rectangle_words r
+rectangle_spelled : (ws : List (List ℕ)) (v : List ℕ) (r : Rectangle) → is_word_at ws 0 v ≡ true →
+    rectangle_of ws ≡ Some r → ws ≡ v ∷ rectangle_words r
 unfolding rectangle_of corner_and_sides
 rectangle_spelled ws v r at e =
     let found = passed (eqb (length ws) 5) (corner_and_sides ws) r e in
-    option_and_then_some (λ x. number_at ws 2 >>= λ y. number_at ws 3 >>= λ w. number_at ws 4 >>= λ h. Some (record { x = x; y = y; w = w; h = h })) (number_at ws 1) r found.1 (λ x ex rx.
-    option_and_then_some (λ y. number_at ws 3 >>= λ w. number_at ws 4 >>= λ h. Some (record { x = x; y = y; w = w; h = h })) (number_at ws 2) r rx (λ y ey ry.
-    option_and_then_some (λ w. number_at ws 4 >>= λ h. Some (record { x = x; y = y; w = w; h = h })) (number_at ws 3) r ry (λ w ew rw'.
+    option_and_then_some (λ x. number_at ws 2 >>= λ y. number_at ws 3 >>= λ w. number_at ws 4 >>= λ h.
+    Some (record { x = x; y = y; w = w; h = h })) (number_at ws 1) r found.1 (λ x ex rx.
+    option_and_then_some (λ y. number_at ws 3 >>= λ w. number_at ws 4 >>= λ h.
+    Some (record { x = x; y = y; w = w; h = h })) (number_at ws 2) r rx (λ y ey ry.
+    option_and_then_some (λ w. number_at ws 4 >>= λ h. Some (record { x = x; y = y; w = w; h = h }))
+    (number_at ws 3) r ry (λ w ew rw'.
     option_and_then_some (λ h. Some (record { x = x; y = y; w = w; h = h })) (number_at ws 4) r rw' (λ h eh made.
     subst (λ (q : Rectangle). ws ≡ v ∷ rectangle_words q) (same_Some (record { x = x; y = y; w = w; h = h }) r made)
-    (five_words ws v (decimal x) (decimal y) (decimal w) (decimal h) (eqb-true _ _ found.0) (is_at_is ws 0 v at) (number_at_spelled ws 1 x ex) (number_at_spelled ws 2 y ey) (number_at_spelled ws 3 w ew) (number_at_spelled ws 4 h eh))))))
+    (five_words ws v (decimal x) (decimal y) (decimal w) (decimal h) (eqb-true _ _ found.0) (is_at_is ws 0 v at)
+    (number_at_spelled ws 1 x ex) (number_at_spelled ws 2 y ey) (number_at_spelled ws 3 w ew)
+    (number_at_spelled ws 4 h eh))))))
 
-size_spelled : (ws : List (List ℕ)) (v : List ℕ) (s : Extent) → is_word_at ws 0 v ≡ true → size_of ws ≡ Some s → ws ≡ v ∷ size_words s
+size_spelled : (ws : List (List ℕ)) (v : List ℕ) (s : Extent) → is_word_at ws 0 v ≡ true → size_of ws ≡ Some s →
+    ws ≡ v ∷ size_words s
 unfolding size_of sides_and_steps
 size_spelled ws v s at e =
     let found = passed (eqb (length ws) 4) (sides_and_steps ws) s e in
-    option_and_then_some (λ w. number_at ws 2 >>= λ h. number_at ws 3 >>= λ t. Some (record { w = w; h = h; steps = t })) (number_at ws 1) s found.1 (λ w ew rw'.
-    option_and_then_some (λ h. number_at ws 3 >>= λ t. Some (record { w = w; h = h; steps = t })) (number_at ws 2) s rw' (λ h eh rh.
+    option_and_then_some (λ w. number_at ws 2 >>= λ h. number_at ws 3 >>= λ t.
+    Some (record { w = w; h = h; steps = t })) (number_at ws 1) s found.1 (λ w ew rw'.
+    option_and_then_some (λ h. number_at ws 3 >>= λ t. Some (record { w = w; h = h; steps = t })) (number_at ws 2) s rw'
+    (λ h eh rh.
     option_and_then_some (λ t. Some (record { w = w; h = h; steps = t })) (number_at ws 3) s rh (λ t et made.
     subst (λ (q : Extent). ws ≡ v ∷ size_words q) (same_Some (record { w = w; h = h; steps = t }) s made)
-    (four_words ws v (decimal w) (decimal h) (decimal t) (eqb-true _ _ found.0) (is_at_is ws 0 v at) (number_at_spelled ws 1 w ew) (number_at_spelled ws 2 h eh) (number_at_spelled ws 3 t et)))))
+    (four_words ws v (decimal w) (decimal h) (decimal t) (eqb-true _ _ found.0) (is_at_is ws 0 v at)
+    (number_at_spelled ws 1 w ew) (number_at_spelled ws 2 h eh) (number_at_spelled ws 3 t et)))))
 
 -- the first word of a form, and the others
 first_of : Line → List ℕ
@@ -94,21 +112,34 @@ form_words : (ws : List (List ℕ)) (f : Line) → form_of ws ≡ Some f → Spe
 unfolding form_of lone first_of others_of
 form_words ws f e =
     elim (chosen (is_word_at ws 0 (codes "layout")) _ _ (Some f) e) [
-      | inl p ↦ option_and_then_some (λ s. Some (Header s)) (size_of ws) f p.1 (λ s found made. subst (SpelledAs ws) (same_Some (Header s) f made) (size_spelled ws (codes "layout") s p.0 found))
+      | inl p ↦ option_and_then_some (λ s. Some (Header s)) (size_of ws) f p.1
+          (λ s found made. subst (SpelledAs ws) (same_Some (Header s) f made)
+          (size_spelled ws (codes "layout") s p.0 found))
       | inr p ↦ elim (chosen (is_word_at ws 0 (codes "mirror")) _ _ (Some f) p.1) [
-        | inl q ↦ option_and_then_some (λ r. Some (Item (Mirror r))) (rectangle_of ws) f q.1 (λ r found made. subst (SpelledAs ws) (same_Some (Item (Mirror r)) f made) (rectangle_spelled ws (codes "mirror") r q.0 found))
+        | inl q ↦ option_and_then_some (λ r. Some (Item (Mirror r))) (rectangle_of ws) f q.1
+            (λ r found made. subst (SpelledAs ws) (same_Some (Item (Mirror r)) f made)
+            (rectangle_spelled ws (codes "mirror") r q.0 found))
         | inr q ↦ elim (chosen (is_word_at ws 0 (codes "ball")) _ _ (Some f) q.1) [
-          | inl r ↦ option_and_then_some (λ c. Some (Item (Ball c))) (lone_cell ws) f r.1 (λ c found made. subst (SpelledAs ws) (same_Some (Item (Ball c)) f made) (lone_cell_spelled ws (codes "ball") c r.0 found))
+          | inl r ↦ option_and_then_some (λ c. Some (Item (Ball c))) (lone_cell ws) f r.1
+              (λ c found made. subst (SpelledAs ws) (same_Some (Item (Ball c)) f made)
+              (lone_cell_spelled ws (codes "ball") c r.0 found))
           | inr r ↦ elim (chosen (is_word_at ws 0 (codes "in")) _ _ (Some f) r.1) [
-            | inl s ↦ option_and_then_some (λ k. Some (Item (In k))) (port_of ws) f s.1 (λ k found made. subst (SpelledAs ws) (same_Some (Item (In k)) f made) (port_spelled ws (codes "in") k s.0 found))
+            | inl s ↦ option_and_then_some (λ k. Some (Item (In k))) (port_of ws) f s.1
+                (λ k found made. subst (SpelledAs ws) (same_Some (Item (In k)) f made)
+                (port_spelled ws (codes "in") k s.0 found))
             | inr s ↦ elim (chosen (is_word_at ws 0 (codes "out")) _ _ (Some f) s.1) [
-              | inl t ↦ option_and_then_some (λ k. Some (Item (Out k))) (port_of ws) f t.1 (λ k found made. subst (SpelledAs ws) (same_Some (Item (Out k)) f made) (port_spelled ws (codes "out") k t.0 found))
+              | inl t ↦ option_and_then_some (λ k. Some (Item (Out k))) (port_of ws) f t.1
+                  (λ k found made. subst (SpelledAs ws) (same_Some (Item (Out k)) f made)
+                  (port_spelled ws (codes "out") k t.0 found))
               | inr t ↦ elim (chosen (is_word_at ws 0 (codes "waste")) _ _ (Some f) t.1) [
-                | inl u ↦ option_and_then_some (λ c. Some (Item (Waste c))) (lone_cell ws) f u.1 (λ c found made. subst (SpelledAs ws) (same_Some (Item (Waste c)) f made) (lone_cell_spelled ws (codes "waste") c u.0 found))
+                | inl u ↦ option_and_then_some (λ c. Some (Item (Waste c))) (lone_cell ws) f u.1
+                    (λ c found made. subst (SpelledAs ws) (same_Some (Item (Waste c)) f made)
+                    (lone_cell_spelled ws (codes "waste") c u.0 found))
                 | inr u ↦
                     let at_end = passed (is_word_at ws 0 (codes "end")) (lone ws End) f u.1 in
                     let alone = passed (eqb (length ws) 1) (Some End) f at_end.1 in
-                    subst (SpelledAs ws) (same_Some End f alone.1) (one_word ws (codes "end") (eqb-true _ _ alone.0) (is_at_is ws 0 (codes "end") at_end.0))
+                    subst (SpelledAs ws) (same_Some End f alone.1)
+                    (one_word ws (codes "end") (eqb-true _ _ alone.0) (is_at_is ws 0 (codes "end") at_end.0))
               ]
             ]
           ]
@@ -118,10 +149,16 @@ form_words ws f e =
 
 pub form_line : (l : List ℕ) (f : Line) → form_of (words_of l) ≡ Some f → ended_line l ≡ form_text f
 unfolding first_of others_of
-form_line l (Header s) e = ap ended_line (line_from_words l (codes "layout") (size_words s) (form_words (words_of l) (Header s) e))
-form_line l (Item (Mirror r)) e = ap ended_line (line_from_words l (codes "mirror") (rectangle_words r) (form_words (words_of l) (Item (Mirror r)) e))
-form_line l (Item (Ball c)) e = ap ended_line (line_from_words l (codes "ball") (cell_words c) (form_words (words_of l) (Item (Ball c)) e))
-form_line l (Item (In p)) e = ap ended_line (line_from_words l (codes "in") (port_words p) (form_words (words_of l) (Item (In p)) e))
-form_line l (Item (Out p)) e = ap ended_line (line_from_words l (codes "out") (port_words p) (form_words (words_of l) (Item (Out p)) e))
-form_line l (Item (Waste c)) e = ap ended_line (line_from_words l (codes "waste") (cell_words c) (form_words (words_of l) (Item (Waste c)) e))
+form_line l (Header s) e = ap ended_line
+    (line_from_words l (codes "layout") (size_words s) (form_words (words_of l) (Header s) e))
+form_line l (Item (Mirror r)) e =
+    ap ended_line (line_from_words l (codes "mirror") (rectangle_words r) (form_words (words_of l) (Item (Mirror r)) e))
+form_line l (Item (Ball c)) e =
+    ap ended_line (line_from_words l (codes "ball") (cell_words c) (form_words (words_of l) (Item (Ball c)) e))
+form_line l (Item (In p)) e =
+    ap ended_line (line_from_words l (codes "in") (port_words p) (form_words (words_of l) (Item (In p)) e))
+form_line l (Item (Out p)) e =
+    ap ended_line (line_from_words l (codes "out") (port_words p) (form_words (words_of l) (Item (Out p)) e))
+form_line l (Item (Waste c)) e =
+    ap ended_line (line_from_words l (codes "waste") (cell_words c) (form_words (words_of l) (Item (Waste c)) e))
 form_line l End e = ap ended_line (line_from_words l (codes "end") [] (form_words (words_of l) End e))

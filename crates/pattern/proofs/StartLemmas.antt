@@ -12,15 +12,19 @@ use Rattle.pattern.proofs.RectangleLemmas.{in_rectangle_cells}
 
 in_mirrors : (rs : List Rectangle) (x y : ℤ) → in_cells (flat_map rectangle_cells rs) x y ≡ in_rectangles rs x y
 in_mirrors [] x y = refl
-in_mirrors (r ∷ rs) x y = list_any-append (λ (c : Cell). is_at c x y) (rectangle_cells r) (flat_map rectangle_cells rs) ∙ rw (in_rectangle_cells r x y, in_mirrors rs x y) refl
+in_mirrors (r ∷ rs) x y = list_any-append (λ (c : Cell). is_at c x y) (rectangle_cells r) (flat_map rectangle_cells rs)
+    ∙ rw (in_rectangle_cells r x y, in_mirrors rs x y) refl
 
-in_port : (b : Bool) (q : Port) (qs : List Port) (x y : ℤ) (rest : Bool) → in_cells (map (λ q. q.cell) qs) x y ≡ rest → in_cells (map (λ q. q.cell) (cond b (q ∷ qs) qs)) x y ≡ (b && is_at q.cell x y || rest)
+in_port : (b : Bool) (q : Port) (qs : List Port) (x y : ℤ) (rest : Bool) → in_cells (map (λ q. q.cell) qs) x y ≡ rest →
+    in_cells (map (λ q. q.cell) (cond b (q ∷ qs) qs)) x y ≡ (b && is_at q.cell x y || rest)
 in_port true q qs x y rest e = ap (λ (c : Bool). is_at q.cell x y || c) e
 in_port false q qs x y rest e = e
 
-in_ports : (on : List ℕ → Bool) (qs : List Port) (x y : ℤ) → in_cells (map (λ q. q.cell) (filter (λ q. on q.name) qs)) x y ≡ in_ports_on on qs x y
+in_ports : (on : List ℕ → Bool) (qs : List Port) (x y : ℤ) →
+    in_cells (map (λ q. q.cell) (filter (λ q. on q.name) qs)) x y ≡ in_ports_on on qs x y
 in_ports on [] x y = refl
-in_ports on (q ∷ qs) x y = in_port (on q.name) q (filter (λ (q : Port). on q.name) qs) x y (in_ports_on on qs x y) (in_ports on qs x y)
+in_ports on (q ∷ qs) x y = in_port (on q.name) q (filter (λ (q : Port). on q.name) qs) x y (in_ports_on on qs x y)
+    (in_ports on qs x y)
 
 pub in_start_list : (p : Pattern) (on : List ℕ → Bool) (x y : ℤ) → in_cells (start_list p on) x y ≡ start p on x y
 unfolding start_list start
@@ -32,6 +36,9 @@ in_start_list p on x y =
     ∙ ap (λ (b : Bool). b || in_cells p.balls x y || list_any test ports) (in_mirrors p.mirrors x y)
     ∙ ap (λ (b : Bool). in_rectangles p.mirrors x y || in_cells p.balls x y || b) (in_ports on p.ins x y)
 
-pub start_list_made : (p : Pattern) (on : List ℕ → Bool) (a b c : List Cell) → a ≡ flat_map rectangle_cells p.mirrors → b ≡ a ++ p.balls → c ≡ b ++ map (λ q. q.cell) (filter (λ q. on q.name) p.ins) → c ≡ start_list p on
+pub start_list_made : (p : Pattern) (on : List ℕ → Bool) (a b c : List Cell) → a ≡ flat_map rectangle_cells p.mirrors →
+    b ≡ a ++ p.balls → c ≡ b ++ map (λ q. q.cell) (filter (λ q. on q.name) p.ins) → c ≡ start_list p on
 unfolding start_list
-start_list_made p on a b c e f g = g ∙ ap (λ (l : List Cell). l ++ map (λ (q : Port). q.cell) (filter (λ (q : Port). on q.name) p.ins)) (f ∙ ap (λ (l : List Cell). l ++ p.balls) e)
+start_list_made p on a b c e f g =
+    g ∙ ap (λ (l : List Cell). l ++ map (λ (q : Port). q.cell) (filter (λ (q : Port). on q.name) p.ins))
+    (f ∙ ap (λ (l : List Cell). l ++ p.balls) e)

@@ -1,5 +1,6 @@
 -- The cells of a line, and the cells that are taken.
-use Rattle.std.proofs.Common.{◌≡◌, ℕ, zero, suc, ◌+◌, ◌%◌, ◌<◌, ◌≤◌, ◌||◌, ◌&&◌, ℤ, pos, Bool, true, false, not, List, [], ◌∷◌, ◌++◌, None, Some, if◌then◌else◌, refl, sym, subst, ◌∙◌, arith}
+use Rattle.std.proofs.Common.{◌≡◌, ℕ, zero, suc, ◌+◌, ◌%◌, ◌<◌, ◌≤◌, ◌||◌, ◌&&◌, ℤ, pos, Bool, true, false, not, List}
+use Rattle.std.proofs.Common.{[], ◌∷◌, ◌++◌, None, Some, if◌then◌else◌, refl, sym, subst, ◌∙◌, arith}
 use Rattle.std.specs.Prelude.{All, nat_le}
 use Rattle.std.specs.List.{AllByRecursion, list_any, flat_map, range_with_len}
 use Rattle.std.proofs.lemmas.Bool.Decides.{nat_tests}
@@ -13,7 +14,8 @@ use Rattle.pattern.specs.declared.parts.Extent.{Extent}
 use Rattle.pattern.specs.declared.parts.Part.{Part}
 use Rattle.pattern.specs.declared.parts.Part.TheVariants.{Mirror, Ball, In, Out, Waste}
 use Rattle.pattern.specs.Layout.{cell, row_cells, rectangle_cells, in_cells, in_layout}
-use Rattle.pattern.specs.Lines.{is_side, size_fault, is_inside, cells_of, begins, ends, begun, ended, is_taken, cell_fault}
+use Rattle.pattern.specs.Lines.{is_side, size_fault, is_inside, cells_of, begins, ends, begun, ended, is_taken}
+use Rattle.pattern.specs.Lines.{cell_fault}
 use Rattle.pattern.proofs.Added.{no_code, begun_push, ended_push}
 
 -- ---- a size within its limits
@@ -53,13 +55,17 @@ row_inside s x (suc n) y wide high =
     let here : IsInside s (cell x y) = rw (in_span_of s.w x (omega arith), in_span_of s.h y high) refl in
     (here, row_inside s (x + 1) n y (omega arith) high)
 
-append_inside : (s : Extent) (xs ys : List Cell) → AllByRecursion (IsInside s) xs → AllByRecursion (IsInside s) ys → AllByRecursion (IsInside s) (xs ++ ys)
+append_inside : (s : Extent) (xs ys : List Cell) → AllByRecursion (IsInside s) xs → AllByRecursion (IsInside s) ys →
+    AllByRecursion (IsInside s) (xs ++ ys)
 append_inside s [] ys front back = back
 append_inside s (x ∷ xs) ys front back = (front.0, append_inside s xs ys front.1 back)
 
-rows_inside : (s : Extent) (x w y n : ℕ) → x + w ≤ s.w → y + n ≤ s.h → AllByRecursion (IsInside s) (flat_map (row_cells x w) (range_with_len y n))
+rows_inside : (s : Extent) (x w y n : ℕ) → x + w ≤ s.w → y + n ≤ s.h →
+    AllByRecursion (IsInside s) (flat_map (row_cells x w) (range_with_len y n))
 rows_inside s x w y zero wide high = tt
-rows_inside s x w y (suc n) wide high = append_inside s (row_cells x w y) (flat_map (row_cells x w) (range_with_len (y + 1) n)) (row_inside s x w y wide (omega arith)) (rows_inside s x w (y + 1) n wide (omega arith))
+rows_inside s x w y (suc n) wide high =
+    append_inside s (row_cells x w y) (flat_map (row_cells x w) (range_with_len (y + 1) n))
+    (row_inside s x w y wide (omega arith)) (rows_inside s x w (y + 1) n wide (omega arith))
 
 both : (a b : Bool) → (a && b) ≡ true → (a ≡ true) × (b ≡ true)
 both true true e = (refl, refl)
@@ -72,7 +78,8 @@ at_most a b e = grind (arith, nat_tests)
 -- where the corner of a mirror that lies inside is
 pub mirror_fits : (s : Extent) (r : Rectangle) → is_inside s (Mirror r) ≡ true → (r.x + r.w ≤ s.w) × (r.y + r.h ≤ s.h)
 unfolding is_inside
-mirror_fits s r e = let fits = both (nat_le (r.x + r.w) s.w) (nat_le (r.y + r.h) s.h) e in (at_most _ _ fits.0, at_most _ _ fits.1)
+mirror_fits s r e = let fits = both (nat_le (r.x + r.w) s.w) (nat_le (r.y + r.h) s.h) e in
+    (at_most _ _ fits.0, at_most _ _ fits.1)
 
 cells_inside_by : (s : Extent) (part : Part) → is_inside s part ≡ true → AllByRecursion (IsInside s) (cells_of part)
 unfolding is_inside cells_of rectangle_cells
@@ -82,18 +89,22 @@ cells_inside_by s (In p) e = (e, tt)
 cells_inside_by s (Out p) e = (e, tt)
 cells_inside_by s (Waste c) e = (e, tt)
 
-on_board : (b : Board) (s : Extent) → b.width ≡ s.w → b.height ≡ s.h → (c : Cell) → IsInside s c → is_on_board b c.x c.y ≡ true
+on_board : (b : Board) (s : Extent) → b.width ≡ s.w → b.height ≡ s.h → (c : Cell) → IsInside s c →
+    is_on_board b c.x c.y ≡ true
 on_board b s w h c e = inside_is_span b c.x c.y ∙ rw (w, h) e
 
-all_on_board : (b : Board) (s : Extent) → b.width ≡ s.w → b.height ≡ s.h → (cells : List Cell) → AllByRecursion (IsInside s) cells → AllByRecursion (λ c. is_on_board b c.x c.y ≡ true) cells
+all_on_board : (b : Board) (s : Extent) → b.width ≡ s.w → b.height ≡ s.h → (cells : List Cell) →
+    AllByRecursion (IsInside s) cells → AllByRecursion (λ c. is_on_board b c.x c.y ≡ true) cells
 all_on_board b s w h [] inside = tt
 all_on_board b s w h (c ∷ cells) inside = (on_board b s w h c inside.0, all_on_board b s w h cells inside.1)
 
 -- the cells of a line that lies inside are on a board of the layout's size
-pub cells_on_board : (b : Board) (s : Extent) → b.width ≡ s.w → b.height ≡ s.h → (part : Part) (cells : List Cell) → cells ≡ cells_of part → is_inside s part ≡ true → All (λ c. is_on_board b c.x c.y ≡ true) cells
+pub cells_on_board : (b : Board) (s : Extent) → b.width ≡ s.w → b.height ≡ s.h → (part : Part) (cells : List Cell) →
+    cells ≡ cells_of part → is_inside s part ≡ true → All (λ c. is_on_board b c.x c.y ≡ true) cells
 cells_on_board b s w h part cells same inside =
     let P : List Cell → Type 0 = λ cs. All (λ c. is_on_board b c.x c.y ≡ true) cs in
-    subst P (sym same) (All-from_recursion (λ c. is_on_board b c.x c.y ≡ true) (cells_of part) (all_on_board b s w h (cells_of part) (cells_inside_by s part inside)))
+    subst P (sym same) (All-from_recursion (λ c. is_on_board b c.x c.y ≡ true) (cells_of part)
+    (all_on_board b s w h (cells_of part) (cells_inside_by s part inside)))
 
 -- ---- cells that are taken
 
@@ -101,27 +112,41 @@ any_same : (p q : Cell → Bool) → ((c : Cell) → p c ≡ q c) → (cells : L
 any_same p q same [] = refl
 any_same p q same (c ∷ cells) = rw (same c, any_same p q same cells) refl
 
-pub taken_by : (one other : Board) (parts : List Part) (part : Part) (cells : List Cell) → ((x y : ℤ) → live one x y ≡ begun parts x y) → ((x y : ℤ) → live other x y ≡ ended parts x y) → cells ≡ cells_of part
-    → (if begins part then list_any (λ c. live one c.x c.y) cells else list_any (λ c. live other c.x c.y) cells) ≡ is_taken parts part
+pub taken_by : (one other : Board) (parts : List Part) (part : Part) (cells : List Cell) →
+    ((x y : ℤ) → live one x y ≡ begun parts x y) → ((x y : ℤ) → live other x y ≡ ended parts x y) →
+    cells ≡ cells_of part
+    → (if begins part then list_any (λ c. live one c.x c.y) cells else list_any (λ c. live other c.x c.y) cells)
+    ≡ is_taken parts part
 unfolding is_taken
 taken_by one other parts part cells same_begun same_ended are =
-    rw (are, any_same (λ c. live one c.x c.y) (λ c. begun parts c.x c.y) (λ c. same_begun c.x c.y) (cells_of part), any_same (λ c. live other c.x c.y) (λ c. ended parts c.x c.y) (λ c. same_ended c.x c.y) (cells_of part)) refl
+    rw (
+      are,
+      any_same (λ c. live one c.x c.y) (λ c. begun parts c.x c.y) (λ c. same_begun c.x c.y) (cells_of part),
+      any_same (λ c. live other c.x c.y) (λ c. ended parts c.x c.y) (λ c. same_ended c.x c.y) (cells_of part),
+    ) refl
 
 -- ---- the boards after one more line
 
-module _ (old new : Board) (parts more : List Part) (part : Part) (cells : List Cell) (are : cells ≡ cells_of part) (longer : more ≡ parts ++ part ∷ []) where
-  pub begun_more : ((x y : ℤ) → live old x y ≡ begun parts x y) → ((x y : ℤ) → live new x y ≡ (live old x y || (begins part && in_cells cells x y))) → (x y : ℤ) → live new x y ≡ begun more x y
+module _ (old new : Board) (parts more : List Part) (part : Part) (cells : List Cell) (are : cells ≡ cells_of part)
+    (longer : more ≡ parts ++ part ∷ []) where
+  pub begun_more : ((x y : ℤ) → live old x y ≡ begun parts x y) →
+      ((x y : ℤ) → live new x y ≡ (live old x y || (begins part && in_cells cells x y))) → (x y : ℤ) →
+      live new x y ≡ begun more x y
   begun_more before after x y = after x y ∙ rw (before x y, are, longer, begun_push parts part x y) refl
 
-  pub ended_more : ((x y : ℤ) → live old x y ≡ ended parts x y) → ((x y : ℤ) → live new x y ≡ (live old x y || (ends part && in_cells cells x y))) → (x y : ℤ) → live new x y ≡ ended more x y
+  pub ended_more : ((x y : ℤ) → live old x y ≡ ended parts x y) →
+      ((x y : ℤ) → live new x y ≡ (live old x y || (ends part && in_cells cells x y))) → (x y : ℤ) →
+      live new x y ≡ ended more x y
   ended_more before after x y = after x y ∙ rw (before x y, are, longer, ended_push parts part x y) refl
 
 -- ---- the code for the cells of a line
 
-pub cells_free : (s : Extent) (parts : List Part) (part : Part) → is_inside s part ≡ true → is_taken parts part ≡ false → cell_fault s parts part ≡ None
+pub cells_free : (s : Extent) (parts : List Part) (part : Part) → is_inside s part ≡ true →
+    is_taken parts part ≡ false → cell_fault s parts part ≡ None
 unfolding cell_fault
 cells_free s parts part inside free = rw (inside, free) refl
 
-pub cells_taken : (s : Extent) (parts : List Part) (part : Part) → is_inside s part ≡ true → is_taken parts part ≡ true → cell_fault s parts part ≡ Some 7
+pub cells_taken : (s : Extent) (parts : List Part) (part : Part) → is_inside s part ≡ true →
+    is_taken parts part ≡ true → cell_fault s parts part ≡ Some 7
 unfolding cell_fault
 cells_taken s parts part inside taken = rw (inside, taken) refl

@@ -1,4 +1,4 @@
--- The assign section: which names are on.
+-- The assign section: the names that are on.
 use Rattle.std.specs.Prelude.{ℕ, not, List, Option, Some, None, codes, if◌then◌else◌}
 use Rattle.section_text.specs.Words.{◌>>=◌, is_word_at, has, lone, lone_name}
 use Rattle.section_text.specs.Codes.{code_where, defined_twice, or_else, unknown_name}
@@ -6,9 +6,11 @@ use Rattle.section_text.specs.Section.{Grammar}
 use Rattle.section_text.specs.declared.section.Form.{Form}
 use Rattle.section_text.specs.declared.section.Form.TheVariants.{Header, Item, End}
 
+-- a line of the assign section: its header has no content
 abbrev pub AssignLine : Type 0
 AssignLine = Form (Unit {0}) (List ℕ)
 
+-- the form of a line by its words, if it has one
 unfoldable pub assign_form : List (List ℕ) → Option AssignLine
 assign_form ws =
     if is_word_at ws 0 (codes "assign") then lone ws (Header tt)
@@ -20,7 +22,7 @@ assign_form ws =
 unfoldable pub on_fault : List (List ℕ) → List (List ℕ) → List ℕ → Option ℕ
 on_fault ins before n = or_else (code_where (not (has ins n)) unknown_name) (code_where (has before n) defined_twice)
 
--- the section, where these names may be on
+-- the section, if these names may be on
 abbrev pub assign_grammar : List (List ℕ) → Grammar (Unit {0}) (List ℕ)
 assign_grammar ins = record {
   form = assign_form;

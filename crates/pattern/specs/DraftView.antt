@@ -1,10 +1,11 @@
--- The fields of a draft, and what contracts see of them.
+-- The fields of a draft, and its view.
 use Rattle.std.specs.Prelude.{◌≡◌, ℤ}
 use Rattle.bbm_rule.specs.Board.{live}
 use Rattle.pattern.specs.declared.draft.Draft.TheInside.{Inside}
 use Rattle.pattern.specs.Layout.{Pattern, parts_of}
 use Rattle.pattern.specs.Lines.{begun, ended}
 
+-- the layout of the lines so far
 abbrev pub pattern_of : Inside → Pattern
 pattern_of a = a.layout
 

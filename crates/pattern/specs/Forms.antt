@@ -1,4 +1,4 @@
--- The line forms of the layout section: what the words of a line say.
+-- The line forms of the layout section: the meaning of the words of a line.
 use Rattle.std.specs.Prelude.{ℕ, ◌+◌, List, length, Option, Some, None, codes, ◌==◌, if◌then◌else◌}
 use Rattle.section_text.specs.Words.{◌>>=◌, is_word_at, name_at, number_at, lone}
 use Rattle.section_text.specs.declared.section.Form.{Form}
@@ -11,6 +11,7 @@ use Rattle.pattern.specs.declared.parts.Part.{Part}
 use Rattle.pattern.specs.declared.parts.Part.TheVariants.{Mirror, Ball, In, Out, Waste}
 use Rattle.pattern.specs.Layout.{cell}
 
+-- a line of the layout section
 abbrev pub Line : Type 0
 Line = Form Extent Part
 
@@ -32,6 +33,7 @@ named_cell ws = do
   c ← cell_from ws 2
   Some (record { name = n; cell = c })
 
+-- the port of an `in` or `out` line
 unfoldable pub port_of : List (List ℕ) → Option Port
 port_of ws = if length ws == 4 then named_cell ws else None
 
@@ -44,6 +46,7 @@ corner_and_sides ws = do
   h ← number_at ws 4
   Some (record { x = x; y = y; w = w; h = h })
 
+-- the rectangle of a `mirror` line
 unfoldable pub rectangle_of : List (List ℕ) → Option Rectangle
 rectangle_of ws = if length ws == 5 then corner_and_sides ws else None
 
@@ -55,9 +58,11 @@ sides_and_steps ws = do
   steps ← number_at ws 3
   Some (record { w = w; h = h; steps = steps })
 
+-- the size of a `layout` line
 unfoldable pub size_of : List (List ℕ) → Option Extent
 size_of ws = if length ws == 4 then sides_and_steps ws else None
 
+-- the form of a line by its words, if it has one
 unfoldable pub form_of : List (List ℕ) → Option Line
 form_of ws =
     if is_word_at ws 0 (codes "layout") then (size_of ws >>= λ s. Some (Header s))

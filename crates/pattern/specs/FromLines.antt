@@ -9,6 +9,7 @@ use Rattle.pattern.specs.declared.parts.Part.TheVariants.{Mirror, Ball, In, Out,
 use Rattle.pattern.specs.declared.parts.Port.{Port}
 use Rattle.pattern.specs.declared.parts.Rectangle.{Rectangle}
 
+-- the rectangle of a line, if it is a mirror
 abbrev pub mirror_in : Part → List Rectangle
 mirror_in (Mirror r) = r ∷ []
 mirror_in (Ball c) = []
@@ -16,6 +17,7 @@ mirror_in (In p) = []
 mirror_in (Out p) = []
 mirror_in (Waste c) = []
 
+-- the cell of a line, if it is a ball
 abbrev pub ball_in : Part → List Cell
 ball_in (Mirror r) = []
 ball_in (Ball c) = c ∷ []
@@ -23,6 +25,7 @@ ball_in (In p) = []
 ball_in (Out p) = []
 ball_in (Waste c) = []
 
+-- the port of a line, if it is an input
 abbrev pub input_in : Part → List Port
 input_in (Mirror r) = []
 input_in (Ball c) = []
@@ -30,6 +33,7 @@ input_in (In p) = p ∷ []
 input_in (Out p) = []
 input_in (Waste c) = []
 
+-- the port of a line, if it is an output
 abbrev pub output_in : Part → List Port
 output_in (Mirror r) = []
 output_in (Ball c) = []
@@ -37,6 +41,7 @@ output_in (In p) = []
 output_in (Out p) = p ∷ []
 output_in (Waste c) = []
 
+-- the cell of a line, if it is a waste cell
 abbrev pub waste_in : Part → List Cell
 waste_in (Mirror r) = []
 waste_in (Ball c) = []

@@ -8,7 +8,7 @@ use Rattle.pattern.specs.Layout.{Pattern, parts_of}
 use Rattle.pattern.specs.Forms.{form_of}
 use Rattle.pattern.specs.Lines.{size_fault, part_fault, missing_fault}
 
--- the section, where ports have these names, or any
+-- the section, if ports have these names, or any
 abbrev pub layout_grammar : Option Named → Grammar Extent Part
 layout_grammar ports = record {
   form = form_of;

@@ -14,7 +14,7 @@ PrintsWhatIsRead = (ports : Option Named) (n : ℕ) (ls : List (List ℕ)) (p : 
     section_of (layout_grammar ports) n ls ≡ Ok (layout_value p) →
     flat_map ended_line (take (length (parts_of p) + 2) ls) ≡ layout_text p
 
--- and it is read as the same layout again, wherever it stands
+-- and it is read as the same layout again, wherever it is
 abbrev pub ReadsWhatIsPrinted : Type 0
 ReadsWhatIsPrinted = (ports : Option Named) (text : List ℕ) (from n m : ℕ) (p : Pattern) →
     section_of (layout_grammar ports) n (drop from (lines_of text)) ≡ Ok (layout_value p) →

@@ -1,4 +1,4 @@
--- What a layout says: the size of its rectangle, its steps, and what stands where.
+-- A layout: the size of its rectangle, its steps, and the contents of its cells.
 use Rattle.std.specs.Prelude.{◌≡◌, ◌++◌, ℕ, ℤ, pos, ◌&&◌, ◌||◌, Bool, true, List, map, slice_get, Some}
 use Rattle.std.specs.List.{list_any, flat_map, range_with_len}
 use Rattle.bbm_rule.specs.Plane.{State, is_at, run}
@@ -10,6 +10,7 @@ use Rattle.pattern.specs.declared.parts.Part.TheVariants.{Mirror, Ball, In, Out,
 use Rattle.pattern.specs.declared.parts.Port.{Port}
 use Rattle.pattern.specs.declared.parts.Extent.{Extent}
 
+-- a layout: its size, and the lists of its lines by kind
 pub record Pattern : Type 0 where
   pub size : Extent
   pub mirrors : List Rectangle
@@ -24,6 +25,7 @@ parts_of p = map Mirror p.mirrors ++ (map Ball p.balls ++ (map In p.ins ++ (map 
 
 -- ---- sets of cells
 
+-- whether the cell (x, y) is in the rectangle
 abbrev pub in_rectangle : Rectangle → State
 in_rectangle r x y = in_area r.x r.y r.w r.h x y
 
@@ -31,9 +33,11 @@ in_rectangle r x y = in_area r.x r.y r.w r.h x y
 abbrev pub in_layout : Extent → State
 in_layout s x y = in_area 0 0 s.w s.h x y
 
+-- whether the cell (x, y) is in the list
 abbrev pub in_cells : List Cell → State
 in_cells cells x y = list_any (λ c. is_at c x y) cells
 
+-- whether the cell (x, y) is in one of the rectangles
 abbrev pub in_rectangles : List Rectangle → State
 in_rectangles rectangles x y = list_any (λ r. in_rectangle r x y) rectangles
 
@@ -41,9 +45,10 @@ in_rectangles rectangles x y = list_any (λ r. in_rectangle r x y) rectangles
 abbrev pub in_ports_on : (List ℕ → Bool) → List Port → State
 in_ports_on on ports x y = list_any (λ p. on p.name && is_at p.cell x y) ports
 
--- no two ports stand at one cell
+-- no two ports are at one cell
 abbrev pub HaveOwnCells : List Port → Type 0
-HaveOwnCells ports = (i j : ℕ) (p q : Port) → slice_get ports i ≡ Some p → slice_get ports j ≡ Some q → p.cell ≡ q.cell → i ≡ j
+HaveOwnCells ports = (i j : ℕ) (p q : Port) → slice_get ports i ≡ Some p → slice_get ports j ≡ Some q →
+    p.cell ≡ q.cell → i ≡ j
 
 -- ---- the run
 
@@ -61,9 +66,11 @@ StaysInside s state = (x y : ℤ) → state x y ≡ true → in_layout s x y ≡
 
 -- ---- lists of cells
 
+-- the cell at this column and row
 abbrev pub cell : ℕ → ℕ → Cell
 cell x y = record { x = pos x; y = pos y }
 
+-- n cells of row y from column x on
 abbrev pub row_cells : ℕ → ℕ → ℕ → List Cell
 row_cells x n y = map (λ c. cell c y) (range_with_len x n)
 

@@ -1,9 +1,10 @@
--- The fields of a layout, and what contracts see of them.
+-- The fields of a layout, and its view.
 use Rattle.std.specs.Prelude.{◌≡◌, None, []}
 use Rattle.pattern.specs.declared.layout.Layout.TheInside.{Inside}
 use Rattle.pattern.specs.Layout.{Pattern, parts_of}
 use Rattle.pattern.specs.Lines.{size_fault, AreGoodAfter}
 
+-- the view of a layout, from its fields
 abbrev pub pattern_of : Inside → Pattern
 pattern_of a = record {
   size = a.size;

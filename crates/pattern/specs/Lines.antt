@@ -1,11 +1,14 @@
--- The lines of a layout, and which line is good after which lines. What stands where is read from the lines themselves.
-use Rattle.std.specs.Prelude.{◌≡◌, ℕ, ◌+◌, ◌%◌, ◌==◌, ◌&&◌, ◌||◌, Bool, not, true, false, List, [], ◌∷◌, ◌++◌, nat_lt, nat_le, Option, Some, None, if◌then◌else◌}
+-- The lines of a layout, and which line is good after which lines. The rules read from the lines themselves which cells
+-- are taken.
+use Rattle.std.specs.Prelude.{◌≡◌, ℕ, ◌+◌, ◌%◌, ◌==◌, ◌&&◌, ◌||◌, Bool, not, true, false, List, [], ◌∷◌, ◌++◌, nat_lt}
+use Rattle.std.specs.Prelude.{nat_le, Option, Some, None, if◌then◌else◌}
 use Rattle.std.specs.List.{All, list_any, list_all}
 use Rattle.std.specs.Str.{bytes_eq}
 use Rattle.bbm_rule.specs.Plane.{State, is_at}
 use Rattle.bbm_rule.specs.declared.block.Cell.{Cell}
 use Rattle.section_text.specs.Words.{has}
-use Rattle.section_text.specs.Codes.{code_where, or_else, out_of_order, past_limit, something_missing, taken_cell, unknown_name}
+use Rattle.section_text.specs.Codes.{code_where, or_else, out_of_order, past_limit, something_missing, taken_cell}
+use Rattle.section_text.specs.Codes.{unknown_name}
 use Rattle.section_text.specs.Ports.{Named}
 use Rattle.pattern.specs.declared.parts.Extent.{Extent}
 use Rattle.pattern.specs.declared.parts.Part.{Part}
@@ -14,6 +17,7 @@ use Rattle.pattern.specs.Layout.{in_layout, rectangle_cells}
 
 -- ---- limits
 
+-- whether a side of the rectangle is within its limits
 abbrev pub is_side : ℕ → Bool
 is_side n = nat_le 2 n && nat_le n 512 && (n % 2 == 0)
 
@@ -21,6 +25,7 @@ is_side n = nat_le 2 n && nat_le n 512 && (n % 2 == 0)
 unfoldable pub size_fault : Extent → Option ℕ
 size_fault s = code_where (not (is_side s.w && is_side s.h && nat_le s.steps 65536)) past_limit
 
+-- whether a side of a mirror is within its limits
 abbrev pub is_mirror_side : ℕ → Bool
 is_mirror_side n = nat_le 1 n && nat_le n 512
 
@@ -42,23 +47,27 @@ rank_of (In p) = 2
 rank_of (Out p) = 3
 rank_of (Waste c) = 4
 
--- whether a line of a later kind stands before it
+-- whether a line of a later kind is before it
 unfoldable pub is_late : List Part → Part → Bool
 is_late before part = list_any (λ b. nat_lt (rank_of part) (rank_of b)) before
 
+-- the code of a line after one of a later kind
 unfoldable pub order_fault : List Part → Part → Option ℕ
 order_fault before part = code_where (is_late before part) out_of_order
 
--- ---- names; any is good where no names of ports are given
+-- ---- names; any is good if no names of ports are given
 
+-- whether ports may have any name
 abbrev pub is_any : Option Named → Bool
 is_any None = true
 is_any (Some names) = false
 
+-- whether an input cell may have the name
 abbrev pub is_in_name : Option Named → List ℕ → Bool
 is_in_name None n = true
 is_in_name (Some names) n = has names.ins n
 
+-- whether an output cell may have the name
 abbrev pub is_out_name : Option Named → List ℕ → Bool
 is_out_name None n = true
 is_out_name (Some names) n = has names.outs n
@@ -73,6 +82,7 @@ name_fault ports (Waste c) = None
 
 -- ---- cells
 
+-- the cells of a line
 unfoldable pub cells_of : Part → List Cell
 cells_of (Mirror r) = rectangle_cells r
 cells_of (Ball c) = c ∷ []
@@ -104,6 +114,7 @@ ends (In p) = false
 ends (Out p) = true
 ends (Waste c) = true
 
+-- whether the line has the cell (x, y)
 abbrev pub holds : Part → State
 holds part x y = list_any (λ c. is_at c x y) (cells_of part)
 
@@ -111,15 +122,17 @@ holds part x y = list_any (λ c. is_at c x y) (cells_of part)
 unfoldable pub begun : List Part → State
 begun parts x y = list_any (λ b. begins b && holds b x y) parts
 
+-- whether one of the lines takes the cell (x, y) at the end
 unfoldable pub ended : List Part → State
 ended parts x y = list_any (λ b. ends b && holds b x y) parts
 
--- one of its cells is taken at the start, where it takes them then, or at the end
+-- one of its cells is taken at the start, if it takes them then, or at the end
 unfoldable pub is_taken : List Part → Part → Bool
 is_taken before part =
     if begins part then list_any (λ c. begun before c.x c.y) (cells_of part)
     else list_any (λ c. ended before c.x c.y) (cells_of part)
 
+-- the code of a line with a cell outside the layout, or a cell that is taken
 unfoldable pub cell_fault : Extent → List Part → Part → Option ℕ
 cell_fault s before part = code_where (not (is_inside s part) || is_taken before part) taken_cell
 
@@ -129,6 +142,7 @@ cell_fault s before part = code_where (not (is_inside s part) || is_taken before
 unfoldable pub line_fault : Option Named → List Part → Part → Option ℕ
 line_fault ports before part = or_else (order_fault before part) (or_else (limit_fault part) (name_fault ports part))
 
+-- the code of a line after those before it
 unfoldable pub part_fault : Option Named → Extent → List Part → Part → Option ℕ
 part_fault ports s before part = or_else (line_fault ports before part) (cell_fault s before part)
 
@@ -140,6 +154,7 @@ is_in n (In p) = bytes_eq n p.name
 is_in n (Out p) = false
 is_in n (Waste c) = false
 
+-- whether the line is an output cell of this name
 abbrev pub is_out : List ℕ → Part → Bool
 is_out n (Mirror r) = false
 is_out n (Ball c) = false
@@ -147,10 +162,12 @@ is_out n (In p) = false
 is_out n (Out p) = bytes_eq n p.name
 is_out n (Waste c) = false
 
+-- the code of a layout in which an input or an output has no cell
 unfoldable pub missing_fault : Option Named → List Part → Option ℕ
 missing_fault None parts = None
 missing_fault (Some names) parts =
-    code_where (not (list_all (λ n. list_any (is_in n) parts) names.ins && list_all (λ n. list_any (is_out n) parts) names.outs)) something_missing
+    code_where (not (list_all (λ n. list_any (is_in n) parts) names.ins
+    && list_all (λ n. list_any (is_out n) parts) names.outs)) something_missing
 
 -- the names of the ports are good, and each input and each output that is asked for has a cell
 pub record AreNamed (ports : Option Named) (parts : List Part) : Type 0 where
@@ -160,4 +177,5 @@ pub record AreNamed (ports : Option Named) (parts : List Part) : Type 0 where
 -- each line keeps the limits, and its cells are inside and free after the lines before it
 abbrev pub AreGoodAfter : Extent → List Part → List Part → Type 0
 AreGoodAfter s before [] = Unit {0}
-AreGoodAfter s before (part ∷ parts) = (limit_fault part ≡ None) × (cell_fault s before part ≡ None) × AreGoodAfter s (before ++ part ∷ []) parts
+AreGoodAfter s before (part ∷ parts) =
+    (limit_fault part ≡ None) × (cell_fault s before part ≡ None) × AreGoodAfter s (before ++ part ∷ []) parts

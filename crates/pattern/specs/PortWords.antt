@@ -1,16 +1,18 @@
--- What the words behind the keyword of a port line say
+-- The meaning of the words behind the keyword of a port line
 use Rattle.std.specs.Prelude.{ℕ, List, Option, Some}
 use Rattle.section_text.specs.Words.{number_of, name_of, ◌>>=◌}
 use Rattle.bbm_rule.specs.declared.block.Cell.{Cell}
 use Rattle.pattern.specs.declared.parts.Port.{Port}
 use Rattle.pattern.specs.Layout.{cell}
 
+-- the cell of two words
 unfoldable pub cell_by : List ℕ → List ℕ → Option Cell
 cell_by column row = do
   x ← number_of column
   y ← number_of row
   Some (cell x y)
 
+-- the port of three words
 unfoldable pub port_by : List ℕ → List ℕ → List ℕ → Option Port
 port_by name column row = do
   n ← name_of name

@@ -1,8 +1,9 @@
--- What contracts see of a reader of layouts.
+-- The view of a reader of layouts.
 use Rattle.std.specs.Prelude.{Option}
 use Rattle.section_text.specs.Ports.{Named}
 use Rattle.pattern.specs.Layout.{Pattern}
 
+-- the names that ports may have, and the layout so far
 pub record ReadingState : Type 0 where
   pub ports : Option Named
   -- the layout of the lines so far

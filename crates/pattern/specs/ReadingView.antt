@@ -1,4 +1,4 @@
--- The fields of a reader of layouts, and what contracts see of them.
+-- The fields of a reader of layouts, and its view.
 use Rattle.std.specs.Prelude.{◌≡◌, ◌||◌, ℕ, List, false}
 use Rattle.std.specs.List.{list_any}
 use Rattle.pattern.specs.Layout.{parts_of}
@@ -8,11 +8,17 @@ use Rattle.section_text.specs.Words.{has}
 use Rattle.pattern.specs.Lines.{is_any, is_in, is_in_name, is_out, is_out_name}
 use Rattle.pattern.specs.ReadingState.{ReadingState}
 
+-- the view of a reader, from its fields
 abbrev pub reading_state : Inside → ReadingState
 reading_state a = record { ports = named_ports a.ports.now; layout = a.draft }
 
+-- the fields of every reader: its sets of names are those of its ports and of its lines
 pub record IsReading (a : Inside) : Type 0 where
-  pub known_ins : (n : List ℕ) → is_in_name (named_ports a.ports.now) n ≡ (is_any (named_ports a.ports.now) || has a.known_ins.keys n)
-  pub known_outs : (n : List ℕ) → is_out_name (named_ports a.ports.now) n ≡ (is_any (named_ports a.ports.now) || has a.known_outs.keys n)
-  pub seen_ins : is_any (named_ports a.ports.now) ≡ false → (n : List ℕ) → has a.seen_ins.keys n ≡ list_any (is_in n) (parts_of a.draft)
-  pub seen_outs : is_any (named_ports a.ports.now) ≡ false → (n : List ℕ) → has a.seen_outs.keys n ≡ list_any (is_out n) (parts_of a.draft)
+  pub known_ins : (n : List ℕ) →
+      is_in_name (named_ports a.ports.now) n ≡ (is_any (named_ports a.ports.now) || has a.known_ins.keys n)
+  pub known_outs : (n : List ℕ) →
+      is_out_name (named_ports a.ports.now) n ≡ (is_any (named_ports a.ports.now) || has a.known_outs.keys n)
+  pub seen_ins : is_any (named_ports a.ports.now) ≡ false → (n : List ℕ) →
+      has a.seen_ins.keys n ≡ list_any (is_in n) (parts_of a.draft)
+  pub seen_outs : is_any (named_ports a.ports.now) ≡ false → (n : List ℕ) →
+      has a.seen_outs.keys n ≡ list_any (is_out n) (parts_of a.draft)

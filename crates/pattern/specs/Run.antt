@@ -1,4 +1,4 @@
--- The start of a layout as a list, and how its whole run ends.
+-- The start of a layout as a list, and the end of its whole run.
 use Rattle.std.specs.Prelude.{◌≡◌, ℕ, ℤ, ◌≤◌, ◌<◌, Bool, true, false, List, ◌++◌, map}
 use Rattle.std.specs.List.{flat_map, filter}
 use Rattle.bbm_rule.specs.Plane.{State, run}

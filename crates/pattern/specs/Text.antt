@@ -18,18 +18,23 @@ abbrev pub coordinate : ℤ → ℕ
 coordinate (pos n) = n
 coordinate (negsuc n) = 0
 
+-- the words of a cell
 abbrev pub cell_words : Cell → List (List ℕ)
 cell_words c = decimal (coordinate c.x) ∷ decimal (coordinate c.y) ∷ []
 
+-- the words of a rectangle
 abbrev pub rectangle_words : Rectangle → List (List ℕ)
 rectangle_words r = decimal r.x ∷ decimal r.y ∷ decimal r.w ∷ decimal r.h ∷ []
 
+-- the words of a port
 abbrev pub port_words : Port → List (List ℕ)
 port_words p = p.name ∷ cell_words p.cell
 
+-- the words of a size
 abbrev pub size_words : Extent → List (List ℕ)
 size_words s = decimal s.w ∷ decimal s.h ∷ decimal s.steps ∷ []
 
+-- the line of a part
 abbrev pub part_text : Part → List ℕ
 part_text (Mirror r) = line_text (codes "mirror") (rectangle_words r)
 part_text (Ball c) = line_text (codes "ball") (cell_words c)
@@ -43,5 +48,7 @@ form_text (Header s) = line_text (codes "layout") (size_words s)
 form_text (Item part) = part_text part
 form_text End = line_text (codes "end") []
 
+-- the text of a layout, from its size line to its `end` line
 unfoldable pub layout_text : Pattern → List ℕ
-layout_text p = line_text (codes "layout") (size_words p.size) ++ flat_map part_text (parts_of p) ++ line_text (codes "end") []
+layout_text p = line_text (codes "layout") (size_words p.size) ++ flat_map part_text (parts_of p)
+    ++ line_text (codes "end") []

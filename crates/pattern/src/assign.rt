@@ -89,19 +89,20 @@ fn read_names(
     }
 }
 
-/// Reads an assign section, in which the names of `ins` may be on, each once: the names that are on, in the order of
-/// their lines.
+/// Reads an assign section, in which the names of `ins` may be on, each once.
 ///
-/// The error is want of memory, or the first line that is refused, counted from 1 over the whole feed, with the code of
-/// the first test that it fails:
+/// It returns the names that are on, in the order of their lines.
+///
+/// # Errors
+///
+/// Out of memory, or the first line that is refused, counted from 1 over the whole feed. The feed keeps its fault. The
+/// code is that of the first test that the line fails:
 ///
 /// - 12: it is not there or not ended;
 /// - 1: it has none of the forms of this section;
 /// - 6: it is out of its place;
 /// - 3: the name is none of `ins`;
 /// - 4: the name is on already.
-///
-/// After an error the feed answers it for good.
 pub fn read_assign(alloc: Global, feed: &mut Feed, ins: &[Name]) -> Result<Vec<Name>, ReadFault>
     requires { feed.old.closed ≡ true }
     ensures reads { Reads (assign_grammar ins.now) (λ names. assign_value names.items) feed.old

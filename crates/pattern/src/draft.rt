@@ -53,7 +53,7 @@ fn cells_in(alloc: Global, part: &Part, size: Extent) -> Result<Vec<Cell>, Alloc
 }
 
 impl Draft {
-    /// No lines after the first.
+    /// Creates a draft without lines after the first.
     pub(crate) fn new(alloc: Global, size: Extent) -> Result<Draft, AllocError>
         requires { size_fault size ≡ None }
         ensures size { IfOk result (λ draft. draft.size ≡ size) }
@@ -68,7 +68,7 @@ impl Draft {
         })
     }
 
-    /// The layout of the lines.
+    /// Returns the layout of the lines.
     pub(crate) fn into_layout(self) -> Layout
         ensures { result ≡ self }
     {
@@ -80,7 +80,7 @@ impl Draft {
         layout
     }
 
-    /// Code 6 where a line of a later kind stands already.
+    /// Returns code 6 if there is a line of a later kind already.
     pub(crate) fn order_code(&self, part: &Part) -> Option<u8>
         ensures { result ≡ order_fault (parts_of self.now) part.now }
     {
@@ -109,7 +109,7 @@ impl Draft {
         Ok(cells)
     }
 
-    /// Adds a line that stands in its place and keeps the limits. A fault changes nothing.
+    /// Adds a line that is in its place and keeps the limits. A fault changes nothing.
     pub(crate) fn add(&mut self, alloc: Global, part: Part) -> Result<(), LineFault>
         requires order { order_fault (parts_of self.old) part ≡ None }
         requires limit { limit_fault part ≡ None }

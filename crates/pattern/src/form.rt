@@ -9,8 +9,9 @@ use crate::parts::{Extent, Part, Port, Rectangle};
 use bbm_rule::Cell;
 use section_text::{Feed, Form, FourWords, Line, Name, read_number};
 
-/// The cell that a word of a line and the next one are, by its column and its row, where `index` is at most eight. None
-/// where one of the two is no number, or is not there.
+/// Returns the cell that a word of a line and the next one are, by its column and its row.
+///
+/// It returns `None` if one of the two words is no number, or is not there.
 #[tactic(auto, unfolding(crate::specs::Forms::cell_from))]
 pub fn read_cell(feed: &Feed, line: &Line, index: usize) -> Option<Cell>
     requires line { IsLine feed.now line.now }
@@ -36,7 +37,7 @@ fn lone_cell_on(feed: &Feed, line: &Line) -> Option<Cell>
     read_cell(feed, line, 1)
 }
 
-/// The cell that two words are, by its column and its row. None where one of the two is no number.
+/// Returns the cell that two words are, by its column and its row, or `None` if one of them is no number.
 #[tactic(auto, unfolding(crate::specs::PortWords::cell_by, crate::specs::Layout::cell))]
 pub fn cell_from_words(column: &[u8], row: &[u8]) -> Option<Cell>
     ensures { result ≡ cell_by column.now row.now }
@@ -113,7 +114,7 @@ fn size_on(feed: &Feed, line: &Line) -> Option<Extent>
     sides_and_steps_on(feed, line)
 }
 
-/// The form of a line, if it has one.
+/// Returns the form of a line, if it has one.
 #[tactic(auto, unfolding(crate::specs::Forms::form_of))]
 pub(crate) fn line_form(feed: &Feed, line: &Line) -> Option<Form<Extent, Part>>
     requires { IsLine feed.now line.now }

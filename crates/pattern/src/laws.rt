@@ -1,7 +1,9 @@
 //! Laws of the definitions, each the contract of a function without a body.
 ghost use Rattle.pattern.specs.Laws.{PrintsWhatIsRead, ReadsWhatIsPrinted};
 
-/// The text of a layout that is read is the text of the lines that it is read from, and it is read as the same layout
+/// States that a layout has one text.
+///
+/// The text of a layout that is read is the text of the lines that it is read from. It is read as the same layout
 /// again.
 pub fn one_text()
     ensures printed { PrintsWhatIsRead }

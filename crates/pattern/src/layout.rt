@@ -8,10 +8,10 @@ use bbm_rule::Cell;
 use std::alloc::{AllocError, Global};
 use std::marker::Model;
 
-/// A layout: a rectangle of cells, and what stands in it. Contracts see its size and its lists, as a `Pattern`.
+/// A layout: a rectangle of cells, and its contents. Contracts see its size and its lists, as a `Pattern`.
 ///
-/// Width and height are even, 2 to 512; the steps are at most 65,536. All cells lie inside. Mirrors, balls and
-/// input cells share no cell; mirrors, output cells and waste cells share no cell.
+/// Width and height are even, 2 to 512, and the steps are at most 65,536. All cells lie inside. Mirrors, balls and
+/// input cells share no cell. Mirrors, output cells and waste cells share no cell.
 #[derive(Drop)]
 pub struct Layout {
     pub(crate) size: Extent,
@@ -77,7 +77,7 @@ impl Layout {
         if self.has_later(part) { Some(6) } else { None }
     }
 
-    // Adds a line that is good after the others. Want of memory changes nothing.
+    // Adds a line that is good after the others. Without memory for it nothing changes.
     pub(crate) fn add(&mut self, part: Part) -> Result<(), AllocError>
         requires order { order_fault (parts_of self.old) part ≡ None }
         requires limit { limit_fault part ≡ None }
@@ -96,7 +96,7 @@ impl Layout {
         Ok(())
     }
 
-    /// The width and the height, in cells, and the steps: even sides of 2 to 512, and at most 65,536 steps.
+    /// Returns the width and the height, in cells, and the steps: even sides of 2 to 512, and at most 65,536 steps.
     pub fn size(&self) -> Extent
         ensures size { result ≡ self.now.size }
         ensures limits { size_fault result ≡ None }
@@ -105,21 +105,21 @@ impl Layout {
         self.size
     }
 
-    /// The mirrors, in the order of their lines.
+    /// Returns the mirrors, in the order of their lines.
     pub fn mirrors(&self) -> &[Rectangle]
         ensures { result.now ≡ self.now.mirrors }
     {
         self.mirrors.as_slice()
     }
 
-    /// The cells that are live at the start whatever is on, in the order of their lines.
+    /// Returns the cells that are live at the start whatever is on, in the order of their lines.
     pub fn balls(&self) -> &[Cell]
         ensures { result.now ≡ self.now.balls }
     {
         self.balls.as_slice()
     }
 
-    /// The input cells, in the order of their lines. No two stand at one cell.
+    /// Returns the input cells, in the order of their lines. No two are the same cell.
     pub fn ins(&self) -> &[Port]
         ensures same { result.now ≡ self.now.ins }
         ensures apart { HaveOwnCells result.now }
@@ -127,7 +127,7 @@ impl Layout {
         self.ins.as_slice()
     }
 
-    /// The output cells, in the order of their lines. No two stand at one cell.
+    /// Returns the output cells, in the order of their lines. No two are the same cell.
     pub fn outs(&self) -> &[Port]
         ensures same { result.now ≡ self.now.outs }
         ensures apart { HaveOwnCells result.now }
@@ -135,7 +135,7 @@ impl Layout {
         self.outs.as_slice()
     }
 
-    /// The cells whose end is left open, in the order of their lines.
+    /// Returns the waste cells, which may be live or dead at the end, in the order of their lines.
     pub fn wastes(&self) -> &[Cell]
         ensures { result.now ≡ self.now.wastes }
     {

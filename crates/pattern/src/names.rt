@@ -22,7 +22,7 @@ pub(crate) fn add_name(index: &mut IndexSet<Name, Seed>, name: Name) -> Result<(
     }
 }
 
-/// Adds a name, if it is not there, where there is room.
+/// Adds a name if it is not there and there is room.
 #[tactic(auto, using(crate::proofs::NameSets::has_push, crate::proofs::NameSets::has_again))]
 pub(crate) fn put_name(index: &mut IndexSet<Name, Seed>, name: Name)
     requires { 0 < spare index.old }
@@ -35,7 +35,7 @@ pub(crate) fn put_name(index: &mut IndexSet<Name, Seed>, name: Name)
     }
 }
 
-/// The set of the names of a list. It hashes by the seed of these names.
+/// Returns the set of the names of a list. It hashes by the seed of these names.
 pub(crate) fn index_of(alloc: Global, names: &[Name]) -> Result<IndexSet<Name, Seed>, AllocError>
     ensures { IfOk result (λ index. (n : List ℕ) → has index.keys n ≡ has names.now n) }
 {

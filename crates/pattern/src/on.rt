@@ -21,7 +21,7 @@ fn push_bits(
     Ok(())
 }
 
-/// For each of the names whether it is on, that is, one of the names `on`. The error is want of memory.
+/// Returns for each of the names whether it is on, that is, one of the names `on`.
 pub fn are_on(alloc: Global, names: &[Name], on: &[Name]) -> Result<Vec<bool>, AllocError>
     ensures { IfOk result (λ bits. bits.items ≡ map (λ n. has on.now n) names.now) }
 {

@@ -6,8 +6,9 @@ ghost use Rattle.pattern.specs.Lines.{begins, ends, is_inside, is_side, is_mirro
 use bbm_rule::Cell;
 use section_text::Name;
 
-/// A filled rectangle of cells: the column and the row of its upper left cell, its width and its height, in cells. In a
-/// layout the sides are 1 to 512, and all its cells lie inside.
+/// A filled rectangle of cells: the column and the row of its upper left cell, its width and its height, in cells.
+///
+/// In a layout the sides are 1 to 512, and all its cells lie inside.
 #[derive(Clone, Copy, Debug, PartialEq, Eq)]
 pub struct Rectangle {
     pub x: u32,
@@ -23,8 +24,9 @@ pub struct Port {
     pub cell: Cell,
 }
 
-/// The first line of a layout: its width and its height in cells, and how many steps it runs. In a layout the sides are
-/// even, 2 to 512, and the steps are at most 65,536.
+/// The first line of a layout: its width and its height in cells, and how many steps it runs.
+///
+/// In a layout the sides are even, 2 to 512, and the steps are at most 65,536.
 #[derive(Clone, Copy, Debug, PartialEq, Eq)]
 pub struct Extent {
     pub w: u32,
@@ -39,11 +41,11 @@ pub enum Part {
     Mirror(Rectangle),
     /// A cell that is live at the start.
     Ball(Cell),
-    /// A cell that is live at the start where its input is on.
+    /// A cell that is live at the start if its input is on.
     In(Port),
-    /// A cell that is live at the end where its output is on.
+    /// A cell that is live at the end if its output is on.
     Out(Port),
-    /// A cell whose end is left open.
+    /// A cell that may be live or dead at the end.
     Waste(Cell),
 }
 
@@ -67,7 +69,7 @@ fn fits(r: Rectangle, size: Extent) -> bool
 }
 
 impl Extent {
-    /// Code 2 where a side or the steps are outside their limits.
+    /// Returns code 2 if a side or the steps are outside their limits.
     #[tactic(auto, unfolding(crate::specs::Lines::size_fault))]
     pub(crate) fn limit_code(self) -> Option<u8>
         ensures { result ≡ size_fault self }
@@ -79,8 +81,9 @@ impl Extent {
         }
     }
 
-    /// Whether the cell lies in the rectangle of this size at the origin: its column is 0 to `w` - 1, its row 0 to `h`
-    /// - 1.
+    /// Returns whether the cell lies in the rectangle of this size at the origin.
+    ///
+    /// Its column is then 0 to `w` - 1, and its row 0 to `h` - 1.
     #[tactic(auto, unfolding(bbm_rule::specs::Spans::in_span))]
     pub fn holds(self, cell: Cell) -> bool
         ensures { result ≡ in_layout self cell.x cell.y }
@@ -92,7 +95,7 @@ impl Extent {
 }
 
 impl Part {
-    /// Whether its cells are taken at the start.
+    /// Returns whether its cells are taken at the start.
     #[tactic(auto, unfolding(crate::specs::Lines::begins))]
     pub(crate) fn begins(&self) -> bool
         ensures { result ≡ begins self.now }
@@ -106,7 +109,7 @@ impl Part {
         }
     }
 
-    /// Whether its cells are taken at the end.
+    /// Returns whether its cells are taken at the end.
     #[tactic(auto, unfolding(crate::specs::Lines::ends))]
     pub(crate) fn ends(&self) -> bool
         ensures { result ≡ ends self.now }
@@ -120,7 +123,7 @@ impl Part {
         }
     }
 
-    /// Code 2 where a side of a mirror is outside its limits.
+    /// Returns code 2 if a side of a mirror is outside its limits.
     #[tactic(auto, unfolding(crate::specs::Lines::limit_fault))]
     pub(crate) fn limit_code(&self) -> Option<u8>
         ensures { result ≡ limit_fault self.now }
@@ -131,7 +134,7 @@ impl Part {
         }
     }
 
-    /// Whether all its cells lie inside the layout.
+    /// Returns whether all its cells lie inside the layout.
     #[tactic(auto, unfolding(crate::specs::Lines::is_inside))]
     pub(crate) fn is_inside(&self, size: Extent) -> bool
         ensures { result ≡ is_inside size self.now }

@@ -17,8 +17,13 @@ fn natural(x: i32) -> u32
     if x < 0 { 0 } else { x as u32 }
 }
 
-/// Writes the column and the row of a cell at the end of `out`, each behind a space. A negative one, which no cell of a
-/// layout has, is written as 0. After want of memory a part of them may stand there.
+/// Writes the column and the row of a cell at the end of `out`, each behind a space.
+///
+/// A negative one, which no cell of a layout has, is written as 0.
+///
+/// # Errors
+///
+/// Out of memory. A part of the bytes may then be written.
 pub fn print_cell(out: &mut Vec<u8>, cell: Cell) -> Result<(), AllocError>
     ensures ok { OnOk result (out.new.items ≡ out.old.items ++ flat_map spaced (cell_words cell)) }
     ensures err { OnErr result ((part : List ℕ) × (out.new.items ≡ out.old.items ++ part)) }
@@ -104,8 +109,9 @@ fn print_ports(out: &mut Vec<u8>, word: &[u8], ports: &[Port]) -> Result<(), All
     Ok(())
 }
 
-/// The text of a layout, from its size line to its `end` line. It is the text that the layout was read from, and is
-/// read as the same layout (see the laws of this crate). The error is want of memory.
+/// Returns the text of a layout, from its size line to its `end` line.
+///
+/// It is the text that the layout was read from, and is read as the same layout (see the laws of this crate).
 pub fn print_layout(alloc: Global, layout: &Layout) -> Result<Vec<u8>, AllocError>
     ensures { IfOk result (λ text. text.items ≡ layout_text layout.now) }
 {

@@ -242,9 +242,13 @@ impl<'a> Section for Reading<'a> {
 
 /// Reads a layout section: the size line, mirrors, balls, inputs, outputs and wastes in this order, and `end`.
 ///
-/// Where the names of ports are given, an input cell is named by one of the inputs and an output cell by one of the
-/// outputs, and each of them has a cell. The error is want of memory, or the first line that is refused, counted from 1
-/// over the whole feed, with the code of the first test that it fails:
+/// If the names of ports are given, an input cell has the name of an input, and an output cell that of an output. Each
+/// of them has a cell.
+///
+/// # Errors
+///
+/// Out of memory, or the first line that is refused, counted from 1 over the whole feed. The feed keeps its fault. The
+/// code is that of the first test that the line fails:
 ///
 /// - 12: it is not there or not ended;
 /// - 1: it has none of the forms of this section;
@@ -253,8 +257,6 @@ impl<'a> Section for Reading<'a> {
 /// - 2: a number is outside its limits;
 /// - 3: a port may not have this name;
 /// - 7: a cell is outside the layout, or is taken.
-///
-/// After an error the feed answers it for good.
 pub fn read_layout(alloc: Global, feed: &mut Feed, ports: &PortNames) -> Result<Layout, ReadFault>
     requires { feed.old.closed ≡ true }
     ensures reads { Reads (layout_grammar (named_ports ports.now)) layout_value feed.old feed.new

@@ -20,8 +20,11 @@ fn push_row(out: &mut Vec<Cell>, x: u32, w: u32, y: u32) -> Result<(), AllocErro
     Ok(())
 }
 
-/// Puts the cells of the rectangle, whose columns and rows are below 512, behind the others, row by row. After want of
-/// memory a part of them may stand there.
+/// Appends the cells of the rectangle, row by row. Its columns and rows are below 512.
+///
+/// # Errors
+///
+/// Out of memory. A part of the cells may then be there.
 pub fn push_rectangle(out: &mut Vec<Cell>, r: Rectangle) -> Result<(), AllocError>
     requires columns { r.x + r.w ≤ 512 }
     requires rows { r.y + r.h ≤ 512 }

@@ -16,7 +16,7 @@ use indexmap::IndexSet;
 use section_text::{Name, Seed};
 use std::alloc::{AllocError, Global};
 
-/// How the whole run of a layout ends.
+/// The end of the whole run of a layout.
 #[derive(Debug, PartialEq, Eq, Drop)]
 pub enum RunEnd {
     /// No cell outside the layout was ever live. These cells are live at the end, in order of y and then x.
@@ -65,8 +65,9 @@ fn push_ports_on(
     push_ports_in(out, ports, &on)
 }
 
-/// The cells that are live at the start where the names `on` are on: those of the mirrors, row by row, the balls, and
-/// the input cells whose name is on. The error is want of memory.
+/// Returns the cells that are live at the start if the names `on` are on.
+///
+/// They are those of the mirrors, row by row, the balls, and the input cells whose name is on.
 pub fn start_cells(alloc: Global, layout: &Layout, on: &[Name]) -> Result<Vec<Cell>, AllocError>
     ensures order { IfOk result (λ cells. cells.items ≡ start_list layout.now (λ n. has on.now n)) }
     ensures cells { IfOk result (λ cells. (x y : ℤ) →
@@ -138,11 +139,10 @@ fn live_list(alloc: Global, grid: &Grid, size: Extent) -> Result<Vec<Cell>, Allo
     Ok(cells)
 }
 
-/// Runs the whole layout from the start where the names `on` are on, on the unbounded plane. The error is want of
-/// memory.
+/// Runs the whole layout from the start if the names `on` are on, on the unbounded plane.
 ///
-/// The steps are those of the billiard ball model (Margolus 1984) on the layout's rectangle; the run ends early, and
-/// only then, where a cell outside that rectangle becomes live.
+/// The steps are those of the billiard ball model (Margolus 1984) on the layout's rectangle. The run ends early exactly
+/// if a cell outside that rectangle becomes live.
 pub fn run_plain(alloc: Global, layout: &Layout, on: &[Name]) -> Result<RunEnd, AllocError>
     ensures { IfOk result (λ end. IsRunEnd layout.now (λ n. has on.now n) end) }
 {

@@ -6,7 +6,7 @@ ghost use Rattle.pattern.specs.Layout.{in_cells};
 
 use bbm_rule::{Cell, Grid};
 
-/// Whether one of the cells, which are on the grid, is live.
+/// Returns whether one of the cells is live. All of them are on the grid.
 pub fn is_any_live(grid: &Grid, cells: &[Cell]) -> bool
     requires { All (λ c. is_inside grid.now c.x c.y ≡ true) cells.now }
     ensures { result ≡ list_any (λ c. live grid.now c.x c.y) cells.now }
@@ -19,7 +19,7 @@ pub fn is_any_live(grid: &Grid, cells: &[Cell]) -> bool
     false
 }
 
-/// Makes the cells, which are on the grid, live, and leaves the others as they are.
+/// Makes the cells live, and leaves the others as they are. All of them are on the grid.
 pub fn make_live(grid: &mut Grid, cells: &[Cell])
     requires { All (λ c. is_inside grid.old c.x c.y ≡ true) cells.now }
     ensures taken { (x y : ℤ) → live grid.new x y ≡ (live grid.old x y || in_cells cells.now x y) }
@@ -30,7 +30,7 @@ pub fn make_live(grid: &mut Grid, cells: &[Cell])
     }
 }
 
-/// Whether one of the cells is taken in the first grid, where `first` is true, or in the second.
+/// Returns whether one of the cells is taken: in the first grid if `first` is true, else in the second.
 pub(crate) fn meets_in(first: bool, one: &Grid, other: &Grid, cells: &[Cell]) -> bool
     requires one { All (λ c. is_inside one.now c.x c.y ≡ true) cells.now }
     requires other { All (λ c. is_inside other.now c.x c.y ≡ true) cells.now }
@@ -45,7 +45,7 @@ pub(crate) fn meets_in(first: bool, one: &Grid, other: &Grid, cells: &[Cell]) ->
     }
 }
 
-/// Takes the cells where `takes` is true.
+/// Takes the cells if `takes` is true.
 pub(crate) fn take_where(takes: bool, grid: &mut Grid, cells: &[Cell])
     requires { All (λ c. is_inside grid.old c.x c.y ≡ true) cells.now }
     ensures taken { (x y : ℤ) →

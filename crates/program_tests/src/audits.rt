@@ -1,4 +1,5 @@
-//! Workers that a gate holds back, over the four modules of a worked bundle. What is expected was worked out by hand.
+//! Workers that a gate holds back, over the four modules of a worked bundle. The expected results were worked out by
+//! hand.
 ghost use Rattle.std.specs.Prelude.{◌<◌, ◌≤◌};
 
 use crate::bundles::{NO, YES};
@@ -13,7 +14,7 @@ use std::sync::Wait;
 use std::thread::Threads;
 use test_support::{ALONE, GOOD, fed, sections};
 
-/// Whether `check` ends so over a text, and writes this.
+/// Returns whether `check` ends like this over a text, and writes this.
 fn is_checked<G: Gate + Sync, T: Threads + Wait + Sync>(
     rt: &T,
     alloc: Global,
@@ -46,7 +47,7 @@ fn writes_the_same_for_each_number_of_workers(rt: HostRuntime) {
     }
 }
 
-/// What is held back, from how many workers.
+/// The ways to hold workers back, each with the number of workers.
 const HOLDS: [(Hold, usize); 7] = [
     (Hold::Reverse, 4),
     (Hold::FirstTwo, 2),
@@ -72,7 +73,7 @@ fn writes_the_same_whatever_is_held_back(rt: HostRuntime) {
     }
 }
 
-/// The number of an accepted finding, 4 for a closing entry, and 5 for anything else.
+/// Returns the number of an accepted finding, 4 for a closing entry, and 5 for anything else.
 fn number_of(entry: &Entry) -> usize {
     match entry {
         Entry::Closing => 4,
@@ -88,7 +89,7 @@ fn accepted(filing: &Filing) -> usize {
     }
 }
 
-/// The numbers of a history of five entries.
+/// Returns the numbers of a history of five entries.
 fn numbers_of(history: &[Entry]) -> [usize; 5] {
     let mut numbers = [5; 5];
     for (number, entry) in numbers.iter_mut().zip(history) {
@@ -97,7 +98,7 @@ fn numbers_of(history: &[Entry]) -> [usize; 5] {
     numbers
 }
 
-/// What so many workers file of a bundle.
+/// Returns what the workers file of a bundle.
 pub(crate) fn audited<T: Abort + Threads + Wait + Sync, G: Gate + Sync>(
     rt: &T,
     alloc: Global,
@@ -114,7 +115,7 @@ pub(crate) fn audited<T: Abort + Threads + Wait + Sync, G: Gate + Sync>(
     audit(rt, alloc, &certificate, workers, gate).expect(rt, "an audit")
 }
 
-/// How the numbers of the findings end.
+/// Returns how the numbers of the findings end.
 fn end_of(hold: Hold) -> &'static [usize] {
     match hold {
         Hold::FirstTwo => &[4],

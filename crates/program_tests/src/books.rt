@@ -18,7 +18,7 @@ use std::thread::Threads;
 use test_support::{GOOD, Work, work_of};
 use verdict_book::*;
 
-/// How often each of the four numbers was accepted, and answered `Double` with itself.
+/// The counts of each of the four numbers that was accepted, and that was answered `Double` with itself.
 #[derive(Drop)]
 struct Replies {
     accepted: Counts,
@@ -42,7 +42,7 @@ impl Replies {
     }
 }
 
-/// The finding of a job: that of the second run, if no memory was found for the first.
+/// Returns the finding of a job: that of the second run, if no memory was found for the first.
 fn found(alloc: Global, digest: [u8; 32], number: usize, job: &Arc<Job>) -> Option<Finding> {
     let (once, again) = (job.clone().ok()?, job.clone().ok()?);
     match run_job(alloc, digest, number, once) {
@@ -70,7 +70,7 @@ fn file_all<F: Filings, A: Ledger, R: Wait>(
     }
 }
 
-/// The reply to a finding: to the second filing, where there was no memory for the first.
+/// Returns the reply to a finding: to the second filing, if there was no memory for the first.
 pub(crate) fn filed<F: Filings, A: Ledger, R: Wait>(
     rt: &R,
     book: &Book<F, A>,
@@ -83,7 +83,7 @@ pub(crate) fn filed<F: Filings, A: Ledger, R: Wait>(
     }
 }
 
-/// A book of a bundle's modules, in which nothing is filed.
+/// Returns a book of a bundle's modules, in which nothing is filed.
 pub(crate) fn new_state(rt: &impl Abort, alloc: Global, text: &str) -> BookState
     ensures { result.history ≡ [] }
 {
@@ -93,7 +93,7 @@ pub(crate) fn new_state(rt: &impl Abort, alloc: Global, text: &str) -> BookState
     state
 }
 
-/// As many threads as there are shares each file all findings. `kept_back`: one share is not handed in.
+/// Files all findings in each of as many threads as there are shares. If `kept_back`, one share is not handed in.
 fn filed_by_all<
     F: Filings + Send + Sync,
     A: Ledger + Send + Sync,
@@ -131,8 +131,8 @@ fn filed_by_all<
     gather(book, shares).ok()
 }
 
-/// Whether it is the entry of a finding whose job is the book's, and that was accepted, or answered `Double` with its
-/// number.
+/// Returns whether it is the entry of a finding whose job is the book's, and that was accepted, or answered `Double`
+/// with its number.
 fn is_own(entry: &Entry) -> bool {
     match entry {
         Entry::Filed(filing) => {
@@ -143,7 +143,7 @@ fn is_own(entry: &Entry) -> bool {
     }
 }
 
-/// Four threads each file all findings.
+/// Files all findings in each of four threads.
 fn filed_by_four<R: Abort + Threads + Wait + Sync>(
     rt: &R,
     alloc: Global,
@@ -173,7 +173,7 @@ fn four_threads(rt: HostRuntime) {
     assert!(rt; are_all(&replies.accepted, 1) && are_all(&replies.double, 3));
 }
 
-/// A book with two shares, into one of which all findings are filed. `None`: there was no memory to open it.
+/// Files all findings into one of the two shares of a book. It returns `None` if there was no memory to open the book.
 fn filed_by_one<F: Filings, A: Ledger, R: Abort + Wait>(
     rt: &R,
     alloc: Global,
@@ -198,14 +198,14 @@ fn filed_by_one<F: Filings, A: Ledger, R: Abort + Wait>(
     }
 }
 
-/// The same with a state and shares of its own.
+/// Files all findings in the same way, with a state and shares of its own.
 fn filed_in_new<R: Abort + Wait>(rt: &R, alloc: Global, work: &Work) -> Option<Gathered> {
     let state = new_state(rt, alloc, GOOD);
     let (f, a) = (Blank::new(2), Blank::new(2));
     filed_by_one::<Brand, Brand, R>(rt, alloc, f, a, state, work)
 }
 
-/// Made to be run with each growth of memory refused in turn.
+/// Opens a book. It is made to be run with each growth of memory refused in turn.
 #[test]
 fn a_book_opens_at_the_second_try(rt: HostRuntime) {
     let work = work_of(rt.alloc(), GOOD).expect(&rt, "work");

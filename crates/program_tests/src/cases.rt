@@ -1,4 +1,4 @@
-//! What a file of cases says.
+//! The cases of a file of cases.
 use case_text::{CaseFault, read_cases};
 
 #[test]

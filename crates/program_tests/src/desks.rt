@@ -1,4 +1,4 @@
-//! Desks in one thread and in many. What is expected was worked out by hand.
+//! Desks in one thread and in many. The expected results were worked out by hand.
 ghost use Rattle.std.specs.Prelude.{◌≡◌, ◌<◌, ◌≤◌, All, vec_len};
 ghost use Rattle.job_pool.specs.Seats.{IsSeatOf};
 
@@ -9,7 +9,7 @@ use std::process::Abort;
 use std::thread;
 use std::thread::Threads;
 
-/// What was drawn, where every seat is handed in.
+/// Returns what was drawn, if every seat is handed in.
 fn closed(rt: &impl Abort, alloc: Global, desk: Desk, seats: Vec<DeskSeat>) -> Closed
     requires { All (IsSeatOf desk) seats.items }
 {
@@ -27,7 +27,7 @@ fn draw_all(desk: &Desk, seat: &mut DeskSeat)
     while let Claim::Number(_) = desk.claim(seat) {}
 }
 
-/// Each seat draws in a thread of its own.
+/// Draws with each seat in a thread of its own.
 fn draw_in_threads<R: Threads + Sync>(rt: &R, desk: &Desk, seats: &mut [DeskSeat])
     requires { All (IsSeatOf desk.now) seats.old }
     ensures { All (IsSeatOf desk.now) seats.new }
@@ -36,7 +36,7 @@ fn draw_in_threads<R: Threads + Sync>(rt: &R, desk: &Desk, seats: &mut [DeskSeat
     thread::for_each_mut(rt, seats, threads, &|_, seat| draw_all(desk, seat));
 }
 
-/// Whether two new seats draw three numbers and the end in turn.
+/// Returns whether two new seats draw three numbers and the end in turn.
 fn draw_in_turn(desk: &Desk, first: &mut DeskSeat, second: &mut DeskSeat) -> bool
     requires { IsSeatOf desk.now first.old × IsSeatOf desk.now second.old }
     ensures { IsSeatOf desk.now first.new × IsSeatOf desk.now second.new }
@@ -54,7 +54,7 @@ fn draw_in_turn(desk: &Desk, first: &mut DeskSeat, second: &mut DeskSeat) -> boo
         && [empty, again] == [Claim::Empty, Claim::Empty]
 }
 
-/// Whether two lists of draws are these.
+/// Returns whether two lists of draws are these.
 fn are_draws(draws: &[Vec<usize>], first: &[usize], second: &[usize]) -> bool {
     match draws {
         [one, two] => one.as_slice() == first && two.as_slice() == second,
@@ -81,7 +81,7 @@ fn two_seats_draw_three_numbers(rt: HostRuntime) {
     assert!(rt; are_draws(&draws, &[0, 2], &[1, 3]) && counter == 4);
 }
 
-/// Each of so many seats, in a thread of its own, draws until there is no number left.
+/// Draws with each of the seats, in a thread of its own, until there is no number left.
 fn draw_every_number<R: Abort + Threads + Sync>(
     rt: &R,
     alloc: Global,
@@ -97,7 +97,7 @@ fn draw_every_number<R: Abort + Threads + Sync>(
     assert!(rt; counter == numbers + threads && all.iter().copied().eq(0..counter));
 }
 
-/// All draws, in order.
+/// Returns all draws, in order.
 fn in_order(alloc: Global, draws: &[Vec<usize>]) -> Result<Vec<usize>, AllocError> {
     let mut all = Vec::new(alloc);
     for drawn in draws {
@@ -133,7 +133,7 @@ fn the_largest_desk_hands_out_every_number_once(rt: HostRuntime) {
     draw_every_number(&rt, rt.alloc(), 1024, 64);
 }
 
-/// A desk of two numbers with two seats: that of the second opening, if no memory was found for the first.
+/// Returns a desk of two numbers with two seats: that of the second opening, if no memory was found for the first.
 fn desk_of_two(rt: &impl Abort, alloc: Global) -> (Desk, Vec<DeskSeat>)
     ensures { All (IsSeatOf result.0) result.1.items × (vec_len result.1 ≡ 2) }
 {
@@ -146,8 +146,9 @@ fn desk_of_two(rt: &impl Abort, alloc: Global) -> (Desk, Vec<DeskSeat>)
     }
 }
 
-/// Made to be run with each growth of memory refused in turn: a desk opens whole or not at all, and closes later where
-/// there was no memory for it.
+/// Opens and closes a desk. It is made to be run with each growth of memory refused in turn.
+///
+/// A desk opens whole or not at all, and closes later if there was no memory for it.
 #[test]
 fn a_desk_opens_and_closes_at_the_second_try(rt: HostRuntime) {
     let (desk, mut seats) = desk_of_two(&rt, rt.alloc());

@@ -60,7 +60,7 @@ impl Write for FailingWriter {
     }
 }
 
-/// Gives `a` so many times, in pieces.
+/// A reader that gives `a` a number of times, in pieces.
 #[derive(Drop)]
 pub(crate) struct Letters {
     pub(crate) left: usize,
@@ -92,7 +92,7 @@ impl Seen {
     }
 }
 
-/// What the program does over a reader and a writer, where standard error takes so many bytes and then fails.
+/// Returns what the program does over a reader and a writer, if standard error takes a number of bytes and then fails.
 pub(crate) fn call<'a, T: Threads + Wait + Sync, R: Read + Drop>(
     rt: &T,
     alloc: Global,

@@ -15,7 +15,7 @@ use std::thread::Threads;
 use test_support::{GOOD, Work, work_of};
 use verdict_book::*;
 
-/// How many findings each thread files for another certificate.
+/// The number of findings that each thread files for another certificate.
 const STRANGERS: u32 = 1000;
 
 /// The modules of a bundle, and how often which reply came for the first of them.
@@ -38,7 +38,7 @@ impl Flood {
         counted.fetch_add(1, Ordering::SeqCst);
     }
 
-    /// Whether each reply came so often.
+    /// Returns whether each reply came this often.
     fn has(&self, strangers: u64, accepted: u64, double: u64) -> bool {
         let counts = [&self.strangers, &self.accepted, &self.double];
         let wanted = [strangers, accepted, double];
@@ -86,7 +86,7 @@ fn file_many<F: Filings, A: Ledger, R: Wait>(
     file_first(rt, alloc, flood.work.digest, book, share, flood);
 }
 
-/// What is gathered where eight threads do so.
+/// Returns what is gathered if eight threads do so.
 fn flooded<F: Filings + Send + Sync, A: Ledger + Send + Sync, R: Abort + Threads + Wait + Sync>(
     rt: &R,
     alloc: Global,
@@ -114,7 +114,7 @@ fn flooded<F: Filings + Send + Sync, A: Ledger + Send + Sync, R: Abort + Threads
     gather(book, shares).ok()
 }
 
-/// What is gathered of the bundle's own book.
+/// Returns what is gathered of the bundle's own book.
 fn flooded_book<R: Abort + Threads + Wait + Sync>(
     rt: &R,
     alloc: Global,

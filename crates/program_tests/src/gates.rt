@@ -4,7 +4,7 @@ use job_pool::Gate;
 use std::sync::atomic::{AtomicBool, AtomicU64, Ordering};
 use std::thread;
 
-/// A worker that is held back goes on after so many turns, whatever the others do.
+/// The turns after which a worker that is held back goes on, whatever the others do.
 const MOST_TURNS: u32 = 10_000_000;
 
 /// A count for each of four numbers.
@@ -25,14 +25,14 @@ pub(crate) fn count_one(counts: &Counts, number: usize) {
     }
 }
 
-/// Whether each number is counted so often.
+/// Returns whether each number is counted this often.
 pub(crate) fn are_all(counts: &Counts, wanted: u64) -> bool {
     counts
         .iter()
         .all(|count| count.load(Ordering::SeqCst) == wanted)
 }
 
-/// Whether a number is counted at least once.
+/// Returns whether a number is counted at least once.
 fn is_counted(counts: &Counts, number: usize) -> bool {
     match counts.get(number) {
         Some(count) => count.load(Ordering::SeqCst) > 0,
@@ -54,7 +54,7 @@ pub(crate) enum Hold {
     FirstAlone,
 }
 
-/// Counts what it is told of each of four numbers, and holds numbers back.
+/// A gate that counts what it hears of each of four numbers, and holds numbers back.
 #[derive(Drop)]
 pub(crate) struct Holding {
     hold: Hold,
@@ -73,7 +73,7 @@ impl Holding {
         }
     }
 
-    /// Whether the number may go on.
+    /// Returns whether the number may go on.
     fn lets(&self, number: usize) -> bool {
         match self.hold {
             Hold::FirstTwo => match number {
@@ -95,7 +95,7 @@ impl Holding {
         }
     }
 
-    /// Whether the number may go on from its end.
+    /// Returns whether the number may go on from its end.
     fn lets_end(&self, number: usize) -> bool {
         match self.hold {
             Hold::FirstAlone => number != 0 || (1..4).all(|other| is_counted(&self.ended, other)),
@@ -103,7 +103,7 @@ impl Holding {
         }
     }
 
-    /// Whether each number was told of once before and once after, and none was held too long.
+    /// Returns whether the gate heard of each number once before and once after, and none was held too long.
     pub(crate) fn was_kept(&self) -> bool {
         are_all(&self.begun, 1) && are_all(&self.ended, 1) && !self.late.load(Ordering::SeqCst)
     }
@@ -133,7 +133,7 @@ impl Gate for Holding {
     }
 }
 
-/// Holds each worker back until so many have begun, and counts how often it is told of a number.
+/// A gate that holds each worker back until a number of them have begun, and counts the numbers that it hears of.
 #[derive(Drop)]
 pub(crate) struct Crowd {
     workers: u64,
@@ -152,7 +152,7 @@ impl Crowd {
         }
     }
 
-    /// Whether it was told so often before and after, and no worker was held too long.
+    /// Returns whether the gate heard this often before and after, and no worker was held too long.
     pub(crate) fn was_kept(&self, numbers: u64) -> bool {
         self.begun.load(Ordering::SeqCst) == numbers
             && self.ended.load(Ordering::SeqCst) == numbers

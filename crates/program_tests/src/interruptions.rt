@@ -4,7 +4,7 @@ use check_main::Retrying;
 use std::io;
 use std::io::{ErrorKind, Read, Write};
 
-/// Is interrupted before each call that gives or takes something.
+/// A stream that is interrupted before each call that gives or takes something.
 #[derive(Drop)]
 struct Interrupted<T> {
     inner: T,

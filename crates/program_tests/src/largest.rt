@@ -1,5 +1,5 @@
-//! Bundles at the limits: many modules for many workers, and a module with as many border lines as it may have. What is
-//! expected was worked out by hand from the format, and the digests with `sha256sum`.
+//! Bundles at the limits: many modules for many workers, and a module with as many border lines as it may have. The
+//! expected results were worked out by hand from the format, and the digests with `sha256sum`.
 
 use crate::audits::audited;
 use crate::gates::Crowd;
@@ -9,7 +9,7 @@ use std::alloc::{AllocError, Global};
 use std::sync::Wait;
 use std::thread::Threads;
 
-/// What the layout has on a cell of a module.
+/// The mark of the layout on a cell of a module.
 #[derive(Clone, Copy, PartialEq, Eq)]
 enum Mark {
     Nothing,
@@ -18,8 +18,9 @@ enum Mark {
     Waste,
 }
 
-/// What a module of this number has on one of its four cells: its output on one, and on the others a choice that no
-/// other has.
+/// Returns the mark of a module of this number on one of its four cells.
+///
+/// It is the module's output on one cell, and on the others a choice that no other module has.
 fn mark_of(module: u32, cell: u32) -> Mark {
     let (output, choice) = (module / 27, module % 27);
     let others = if cell < output {
@@ -40,7 +41,7 @@ fn mark_of(module: u32, cell: u32) -> Mark {
     }
 }
 
-/// The places of the cells of 64 modules that have a mark, a line each, between these words.
+/// Adds the places of the cells of 64 modules that have a mark, a line each, between these words.
 fn push_marked(
     alloc: Global,
     text: &mut String,
@@ -59,7 +60,8 @@ fn push_marked(
     Ok(())
 }
 
-/// 64 modules of 2 by 2 cells, each of another shape, in each of which a ball is to be at one cell; none comes.
+/// Returns a text of 64 modules of 2 by 2 cells, each of another shape. A ball must be at one cell of each, and none
+/// comes.
 fn many_modules(alloc: Global) -> Result<String, AllocError> {
     let mut text = format!(in alloc; "circuit\nsource 1 -> a\noutput a\nend\nlayout 16 16 0\n")?;
     push_marked(alloc, &mut text, Mark::Mirror, "mirror", " 1 1")?;
@@ -74,8 +76,9 @@ fn many_modules(alloc: Global) -> Result<String, AllocError> {
     Ok(text)
 }
 
-/// Each module's fault is at its output cell: the first of its cells, from module 27 on the second, from module 54 on
-/// the third.
+/// Returns the report on these modules. The fault of each is at its output cell.
+///
+/// This is the first of its cells, from module 27 on the second, from module 54 on the third.
 fn many_faults(alloc: Global) -> Result<String, AllocError> {
     let mut report = format!(in alloc;
         "bbmcheck 1\ncertificate d703d23eb6b93c49bd0027729197bf8cc495c873ff97d62e612cde71b6dfc028\nmodules 64\nverdict no\n"
@@ -92,7 +95,7 @@ fn many_faults(alloc: Global) -> Result<String, AllocError> {
     Ok(report)
 }
 
-/// The status for words over a text, and what is written, where workers tell a gate.
+/// Returns the status for words over a text, and the output, if workers report to a gate.
 fn answer<T: Threads + Wait + Sync, G: Gate + Sync>(
     rt: &T,
     alloc: Global,
@@ -109,7 +112,7 @@ fn answer<T: Threads + Wait + Sync, G: Gate + Sync>(
     (status, streams.writer.into_inner())
 }
 
-/// How many workers, each of whom begins before the first goes on.
+/// The number of workers, each of which begins before the first goes on.
 const WORKERS: [(&str, u64); 2] = [("8", 8), ("64", 64)];
 
 #[test]
@@ -136,8 +139,9 @@ fn an_audit_of_64_modules(rt: HostRuntime) {
     assert!(rt; state.accepted() == 64 && state.history().len() == 65);
 }
 
-/// A module with an edge line for 32 cells at each odd time below 4096, so 65,536 in all, then this line, and another
-/// module.
+/// Returns a text with a full module, then this line, and another module.
+///
+/// The full module has an edge line for 32 cells at each odd time below 4096, so 65,536 in all.
 fn borders(alloc: Global, line: &str) -> Result<String, AllocError> {
     let mut text = format!(in alloc;
         "circuit\nend\nlayout 66 64 4096\nend\ncertificate 1\nmodule 0 0 64 64\n"
@@ -153,11 +157,11 @@ fn borders(alloc: Global, line: &str) -> Result<String, AllocError> {
 const MOST_LISTED: &str =
     "module 0 0 0 64 64 cuts 0 gates 0 edges 65536 halos 0 stops 0\nmodule 1 64 0 2 64 cuts 0 gates 0 edges 0 halos 0 stops 0\n";
 
-/// No ball comes to the first of these cells, and the other module says nothing of it.
+/// The report of cells of which no ball comes to the first, and the other module has no line for it.
 const MOST_CHECKED: &str =
     "bbmcheck 1\ncertificate e5a9787e1f070f5c041af3b0f2c842ba20c2af6602b49ed9ab25322e05c589a9\nmodules 2\nverdict no\nlocal 0 edge 1 63 1 0\nborder 1 1 63 1\n";
 
-/// The line too many stands after six lines and 65,536 edges.
+/// The refusal of the line too many, which comes after six lines and 65,536 edges.
 const TOO_MANY: &str = "refused 65543 2\n";
 
 /// Words, a line, the status and the answer.

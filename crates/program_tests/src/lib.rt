@@ -1,5 +1,5 @@
 //! The tests of threads and of the program: of `verdict_book`, `job_pool`, `command_line`, `check_main` and
-//! `case_text`. They stand apart, since a crate with tests is proved twice.
+//! `case_text`. They have their own crate, since a crate with tests is proved twice.
 #![tactic(auto)]
 
 #[cfg(test)]

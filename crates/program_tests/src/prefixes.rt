@@ -1,5 +1,5 @@
-//! Every front of a bundle, in pieces of several lengths. What is expected follows from the format: the line behind the
-//! whole ones is not ended.
+//! Every front of a bundle, in pieces of several lengths. The expected results follow from the format: the line behind
+//! the whole ones is not ended.
 
 use crate::devices::{FailingReader, FailingWriter, Seen, call};
 use std::alloc::Global;
@@ -7,7 +7,7 @@ use std::sync::Wait;
 use std::thread::Threads;
 use test_support::GOOD;
 
-/// What `check` does over so many bytes of the bundle, in pieces of so many.
+/// Returns what `check` does over the first `length` bytes of the bundle, in pieces of `piece` bytes.
 fn checked_front<T: Threads + Wait + Sync>(
     rt: &T,
     alloc: Global,

@@ -78,7 +78,7 @@ const COMMANDS: [Command; 4] = [
 // More than any answer here, and more calls than any text here needs.
 const MUCH: usize = 1_000;
 
-/// What a command does where its text comes in pieces of so many bytes, and a read fails after so many.
+/// Returns what a command does if its text comes in pieces of `piece` bytes, and a read fails after `calls_left` calls.
 fn read_in<T: Threads + Wait + Sync>(
     rt: &T,
     alloc: Global,
@@ -121,9 +121,10 @@ fn says_that_a_read_failed(rt: HostRuntime) {
     }
 }
 
-/// How many letters a text has, in pieces of how many, the status and what is written and said: for ever, one more than
-/// a text may have and as many as it may, which are one line that is not ended. In 4096 pieces of 4096 bytes there are
-/// just as many.
+/// The letters of a text, the bytes of its pieces, the status, and what is written and said.
+///
+/// The texts have no end, one letter more than a text may have, and as many as it may, which are one line that is not
+/// ended. In 4096 pieces of 4096 bytes there are exactly as many.
 const LONG_TEXTS: [(usize, usize, u8, &str, &str); 3] = [
     (usize::MAX, 65_536, 4, "", "bbmcheck: text too long\n"),
     (16_777_217, 4096, 4, "", "bbmcheck: text too long\n"),
@@ -141,7 +142,7 @@ fn stops_at_the_limit(rt: HostRuntime) {
     }
 }
 
-/// What a command does where so many bytes can be written.
+/// Returns what a command does if `room` bytes can be written.
 fn written_in<T: Threads + Wait + Sync>(
     rt: &T,
     alloc: Global,
@@ -174,7 +175,7 @@ fn writes_the_front_before_a_write_fails(rt: HostRuntime) {
 const NUMBERS: &str =
     "error: '--workers <N>' takes a whole number from 1 to 64, for example '--workers 4'\n\nUsage: bbmcheck check [--workers N] < BUNDLE\n\nFor more information, try '--help'.\n";
 
-/// Words, the status, and what is said, where nothing can be read.
+/// Words, the status, and what is said, if nothing can be read.
 const UNREAD: [(&[&str], u8, &str, &str); 5] = [
     (&["value", "--help"], 0, HELP, ""),
     (&["check", "--workers", "four"], 2, "", NUMBERS),
@@ -208,7 +209,7 @@ fn reads_nothing_for_wrong_words(rt: HostRuntime) {
     }
 }
 
-/// Words, how many reads go well, and the status, where standard error fails.
+/// Words, how many reads succeed, and the status, if standard error fails.
 const UNHEARD: [(&[&str], u32, u8, &str, &str); 3] = [
     (&["prove"], 0, 2, "", "error: unrecognized subcommand"),
     (&["run"], 3, 4, "", "bbmcheck: read fault\n"),
@@ -247,7 +248,7 @@ fn names_each_fault_in_words(rt: HostRuntime) {
     }
 }
 
-/// Each of two workers waits until the other has begun, so one alone would be late.
+/// Checks that two workers run. Each of them waits until the other has begun, so one alone would be late.
 #[test]
 fn hands_on_the_number_of_workers(rt: HostRuntime) {
     let gate = Holding::new(Hold::FirstTwo);
@@ -262,8 +263,9 @@ fn hands_on_the_number_of_workers(rt: HostRuntime) {
     assert!(rt; gate.was_kept());
 }
 
-/// Each run ends in the whole answer, or in want of memory with nothing written. It passes too where an allocation is
-/// refused.
+/// Checks that each run ends in the whole answer, or out of memory with nothing written.
+///
+/// It passes too if an allocation is refused.
 #[test]
 fn survives_want_of_memory(rt: HostRuntime) {
     for command in &COMMANDS {

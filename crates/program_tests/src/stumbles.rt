@@ -10,7 +10,7 @@ use std::sync::Wait;
 use std::thread::Threads;
 use test_support::{ALONE, GOOD};
 
-/// Gives a text in pieces of eight bytes. One call fails, that after so many, and those after it go on.
+/// A reader that gives a text in pieces of eight bytes. The call after `before` calls fails, and those after it go on.
 #[derive(Drop)]
 struct StumblingReader<'a> {
     text: &'a [u8],
@@ -29,7 +29,8 @@ impl Read for StumblingReader<'_> {
     }
 }
 
-/// Takes so many bytes a call. One call, that after so many, fails or takes none, and those after it go on.
+/// A writer that takes `piece` bytes a call. The call after `before` calls fails or takes none, and those after it go
+/// on.
 #[derive(Drop)]
 struct StumblingWriter {
     taken: Vec<u8>,
@@ -58,7 +59,8 @@ impl Write for StumblingWriter {
     }
 }
 
-/// How `check` ends over a text of which a read fails after so many, what was written, and whether the fault stays.
+/// Returns the end of `check` over a text of which a read fails after `before` reads, how much was written, and whether
+/// the fault stays.
 fn read_with<T: Threads + Wait + Sync>(
     rt: &T,
     alloc: Global,
@@ -89,8 +91,10 @@ fn a_read_that_fails_once_ends_it(rt: HostRuntime) {
     }
 }
 
-/// How `check` ends over the refused bundle where a write fails after so many of seven bytes, or takes none, what was
-/// written, and whether the fault stays.
+/// Returns the end of `check` over the refused bundle if a write fails, or takes none, after `before` writes of seven
+/// bytes.
+///
+/// It also returns what was written, and whether the fault stays.
 fn written_with<T: Threads + Wait + Sync>(
     rt: &T,
     alloc: Global,
@@ -126,7 +130,7 @@ fn a_write_that_fails_once_ends_it(rt: HostRuntime) {
     }
 }
 
-/// What is written of the report on a text, where a write takes so many bytes.
+/// Returns what is written of the report on a text, if a write takes `piece` bytes.
 fn report_by<T: Threads + Wait + Sync>(rt: &T, alloc: Global, text: &str, piece: usize) -> Vec<u8> {
     let mut streams = Streams {
         reader: Over::new(text.as_bytes()),

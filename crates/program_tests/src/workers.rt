@@ -14,7 +14,7 @@ use std::thread::Threads;
 use test_support::{GOOD, Work, work_of};
 use verdict_book::{Book, Filings, Gathered, Share, gather};
 
-/// What the shares counted of the jobs, by one worker a share, and how many jobs were run.
+/// Returns what the shares counted of the jobs, by one worker a share, and how many jobs were run.
 fn worked<F: Filings + Send + Sync, A: Ledger + Send + Sync, R: Abort + Threads + Wait + Sync>(
     rt: &R,
     alloc: Global,
@@ -48,7 +48,7 @@ fn worked<F: Filings + Send + Sync, A: Ledger + Send + Sync, R: Abort + Threads 
     }
 }
 
-/// So many workers file the finding of each job of a bundle once, and run so many jobs.
+/// Checks that `count` workers file the finding of each job of a bundle once, and run `wanted` jobs.
 fn filed_by_workers<R: Abort + Threads + Wait + Sync>(
     rt: &R,
     alloc: Global,
@@ -96,7 +96,7 @@ fn a_group_is_run_once(rt: HostRuntime) {
     }
 }
 
-/// The lines of 1024 modules of two by two cells, in rows of 32.
+/// Adds the lines of 1024 modules of two by two cells, in rows of 32.
 fn push_modules(alloc: Global, text: &mut String) -> Result<(), AllocError> {
     for place in 0..1024_u32 {
         let (x, y) = (place % 32 * 2, place / 32 * 2);

@@ -10,11 +10,15 @@ use Rattle.report.specs.ReportText.{opening_lines}
 piece : List ℕ → List ℕ → List ℕ
 piece h m = codes "bbmcheck 1\ncertificate " ++ (h ++ (codes "\nmodules " ++ (m ++ codes "\n")))
 
-arranged : (h m : List ℕ) → piece h m ≡ line_text (codes "bbmcheck") (codes "1" ∷ []) ++ line_text (codes "certificate") (h ∷ []) ++ line_text (codes "modules") (m ∷ [])
+arranged : (h m : List ℕ) → piece h m
+    ≡ line_text (codes "bbmcheck") (codes "1" ∷ []) ++ line_text (codes "certificate") (h ∷ [])
+    ++ line_text (codes "modules") (m ∷ [])
 unfolding piece
 arranged h m = rw (append-nil h, append-nil m, append_assoc h (10 ∷ []) (codes "modules " ++ (m ++ 10 ∷ []))) refl
 
 pub opening_made : (digest : List ℕ) (modules : ℕ) (digits text : List ℕ) → digits ≡ encode_lower digest →
-    text ≡ codes "bbmcheck 1\ncertificate " ++ (digits ++ (codes "\nmodules " ++ (decimal modules ++ codes "\n"))) → text ≡ opening_lines digest modules
+    text ≡ codes "bbmcheck 1\ncertificate " ++ (digits ++ (codes "\nmodules " ++ (decimal modules ++ codes "\n"))) →
+    text ≡ opening_lines digest modules
 unfolding piece
-opening_made digest modules digits text same made = made ∙ ap (λ h. piece h (decimal modules)) same ∙ arranged (encode_lower digest) (decimal modules)
+opening_made digest modules digits text same made =
+    made ∙ ap (λ h. piece h (decimal modules)) same ∙ arranged (encode_lower digest) (decimal modules)

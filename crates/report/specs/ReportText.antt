@@ -1,4 +1,4 @@
--- What is written of a bundle: the line for its refusal, or the report on its certificate
+-- The output for a bundle: the line for its refusal, or the report on its certificate
 use Rattle.std.specs.Prelude.{ℕ, List, [], ◌∷◌, ◌++◌, length, codes, Option, Some, None}
 use Rattle.std.specs.Fmt.{decimal, signed_decimal}
 use Rattle.std.specs.List.{flat_map}
@@ -37,7 +37,8 @@ kind_word End = codes "end"
 
 -- a fault of a job: its kind, its time, its cell and its assignment
 abbrev pub fault_words : Fault → List (List ℕ)
-fault_words f = kind_word f.kind ∷ decimal f.time ∷ signed_decimal f.cell.x ∷ signed_decimal f.cell.y ∷ decimal f.assignment ∷ []
+fault_words f = kind_word f.kind ∷ decimal f.time ∷ signed_decimal f.cell.x ∷ signed_decimal f.cell.y
+    ∷ decimal f.assignment ∷ []
 
 -- a border fault: its time and its cell
 abbrev pub border_words : BorderFault → List (List ℕ)
@@ -80,4 +81,5 @@ opening_lines digest modules =
 
 -- the report on a certificate
 unfoldable pub report_lines : CertState → Verdict → List ℕ
-report_lines c v = opening_lines (sha256 (certificate_text c)) (length (modules_of c.entries)) ++ verdict_lines (time_lines (circuit_of c.circuit) (modules_in c)) v
+report_lines c v = opening_lines (sha256 (certificate_text c)) (length (modules_of c.entries))
+    ++ verdict_lines (time_lines (circuit_of c.circuit) (modules_in c)) v

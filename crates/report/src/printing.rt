@@ -18,8 +18,8 @@ use local_run::{Fault, KeepFault, Kind};
 use section_text::Refusal;
 use std::alloc::{AllocError, Global};
 
-/// The line for a refusal: `refused`, the number of the refused line and the code, each behind a space, and a line
-/// feed. `AllocError` is want of memory.
+/// Returns the line for a refusal: `refused`, the number of the refused line and the code, each behind a space, and a
+/// line feed.
 pub fn refusal_text(alloc: Global, refusal: Refusal) -> Result<Vec<u8>, AllocError>
     ensures { IfOk result (λ text. text.items ≡ refusal_line refusal) }
 {
@@ -27,9 +27,11 @@ pub fn refusal_text(alloc: Global, refusal: Refusal) -> Result<Vec<u8>, AllocErr
     Ok(line.into_bytes())
 }
 
-/// The report on a certificate with this verdict: the version of reports, the certificate's SHA-256 as 64 digits in
-/// lower case, how many modules it has, the verdict, and then after a no the verdict's lines in their order, after a
-/// yes what the certificate's stops say of delays and meetings. `AllocError` is want of memory.
+/// Returns the report on a certificate with this verdict.
+///
+/// It has the version of reports, the certificate's SHA-256 as 64 digits in lower case, how many modules the
+/// certificate has, and the verdict. After a no the verdict's lines follow, in their order. After a yes the lines on
+/// delays and meetings follow, from the certificate's stops.
 pub fn report_text(alloc: Global, cert: &Cert<'_>, verdict: &Verdict) -> Result<Vec<u8>, AllocError>
     ensures { IfOk result (λ text. text.items ≡ report_lines cert.now verdict.now) }
 {
@@ -37,7 +39,7 @@ pub fn report_text(alloc: Global, cert: &Cert<'_>, verdict: &Verdict) -> Result<
     report_under(alloc, cert, digest, verdict)
 }
 
-/// The same for a caller that has the certificate's digest already, by [`Cert::digest`].
+/// Returns the same report for a caller that has the certificate's digest already, by [`Cert::digest`].
 #[tactic(auto, unfolding(crate::specs::ReportText::report_lines))]
 pub fn report_under(
     alloc: Global,

@@ -1,5 +1,6 @@
--- What was read is good: neither the header, nor an item after those before it, nor the end had a fault.
-use Rattle.std.proofs.Common.{◌≡◌, ℕ, ◌+◌, List, [], ◌∷◌, ◌++◌, Option, Some, None, Result, Ok, refl, sym, ap, subst, ◌∙◌, append_assoc}
+-- A section that was read is good: neither its header, nor an item after those before it, nor its end had a fault.
+use Rattle.std.proofs.Common.{◌≡◌, ℕ, ◌+◌, List, [], ◌∷◌, ◌++◌, Option, Some, None, Result, Ok, refl, sym, ap, subst}
+use Rattle.std.proofs.Common.{◌∙◌, append_assoc}
 use Rattle.std.proofs.lemmas.List.{append-nil}
 use Rattle.section_text.specs.Words.{words_of}
 use Rattle.section_text.specs.declared.section.Form.{Form}
@@ -27,16 +28,19 @@ module _ {H I : Type 0} (g : Grammar H I) where
     pub each : AreFaultless h before more
     pub end : g.end_fault h rows ≡ None
 
-  unless_ok : (n : ℕ) (o : Option ℕ) (r : Result (H × List I) Refusal) (y : H × List I) → unless n o r ≡ Ok y → (o ≡ None) × (r ≡ Ok y)
+  unless_ok : (n : ℕ) (o : Option ℕ) (r : Result (H × List I) Refusal) (y : H × List I) → unless n o r ≡ Ok y →
+      (o ≡ None) × (r ≡ Ok y)
   unless_ok n None r y e = (refl, e)
   unless_ok n (Some code) r y e = absurd cc
 
   ok_is : (x y : H × List I) → ◌≡◌ {A = Result (H × List I) Refusal} (Ok x) (Ok y) → x ≡ y
   ok_is x y e = cc
 
-  line_faultless : (ls : List (List ℕ)) (h : H) (before : List I) (n : ℕ) (h' : H) (rows : List I) (o : Option (Form H I))
+  line_faultless : (ls : List (List ℕ)) (h : H) (before : List I) (n : ℕ) (h' : H) (rows : List I)
+      (o : Option (Form H I))
       → line_after g h before n (λ i. body_of g h (before ++ i ∷ []) (n + 1) ls) o ≡ Ok (h', rows)
-      → ((i : I) → body_of g h (before ++ i ∷ []) (n + 1) ls ≡ Ok (h', rows) → BodyFaultless h (before ++ i ∷ []) h' rows) → BodyFaultless h before h' rows
+      → ((i : I) → body_of g h (before ++ i ∷ []) (n + 1) ls ≡ Ok (h', rows) →
+      BodyFaultless h (before ++ i ∷ []) h' rows) → BodyFaultless h before h' rows
   line_faultless ls h before n h' rows None e rec = absurd cc
   line_faultless ls h before n h' rows (Some (Header k)) e rec = absurd cc
   line_faultless ls h before n h' rows (Some (Item i)) e rec =
@@ -61,12 +65,16 @@ module _ {H I : Type 0} (g : Grammar H I) where
         end = subst (λ (l : List I). g.end_fault h l ≡ None) rows_are good.0;
       }
 
-  body_faultless : (ls : List (List ℕ)) (h : H) (before : List I) (n : ℕ) (h' : H) (rows : List I) → body_of g h before n ls ≡ Ok (h', rows) → BodyFaultless h before h' rows
+  body_faultless : (ls : List (List ℕ)) (h : H) (before : List I) (n : ℕ) (h' : H) (rows : List I) →
+      body_of g h before n ls ≡ Ok (h', rows) → BodyFaultless h before h' rows
   unfolding body_of
   body_faultless [] h before n h' rows e = absurd cc
-  body_faultless (l ∷ ls) h before n h' rows e = line_faultless ls h before n h' rows (g.form (words_of l)) e (λ i. body_faultless ls h (before ++ i ∷ []) (n + 1) h' rows)
+  body_faultless (l ∷ ls) h before n h' rows e =
+      line_faultless ls h before n h' rows (g.form (words_of l)) e
+      (λ i. body_faultless ls h (before ++ i ∷ []) (n + 1) h' rows)
 
-  header_faultless : (ls : List (List ℕ)) (n : ℕ) (h : H) (rows : List I) (o : Option (Form H I)) → header_line g n (λ k. body_of g k [] (n + 1) ls) o ≡ Ok (h, rows) → IsFaultless h rows
+  header_faultless : (ls : List (List ℕ)) (n : ℕ) (h : H) (rows : List I) (o : Option (Form H I)) →
+      header_line g n (λ k. body_of g k [] (n + 1) ls) o ≡ Ok (h, rows) → IsFaultless h rows
   header_faultless ls n h rows None e = absurd cc
   header_faultless ls n h rows (Some (Item i)) e = absurd cc
   header_faultless ls n h rows (Some End) e = absurd cc
@@ -75,17 +83,20 @@ module _ {H I : Type 0} (g : Grammar H I) where
       let t = body_faultless ls k [] (n + 1) h rows good.1 in
       record {
         header = subst (λ (j : H). g.header_fault j ≡ None) (sym t.same) good.0;
-        each = subst (λ (j : H). AreFaultless j [] rows) (sym t.same) (subst (AreFaultless k []) (sym t.rows_are) t.each);
+        each = subst (λ (j : H). AreFaultless j [] rows) (sym t.same)
+            (subst (AreFaultless k []) (sym t.rows_are) t.each);
         end = subst (λ (j : H). g.end_fault j rows ≡ None) (sym t.same) t.end;
       }
 
-  pub read_faultless : (n : ℕ) (ls : List (List ℕ)) (h : H) (rows : List I) → section_of g n ls ≡ Ok (h, rows) → IsFaultless h rows
+  pub read_faultless : (n : ℕ) (ls : List (List ℕ)) (h : H) (rows : List I) → section_of g n ls ≡ Ok (h, rows) →
+      IsFaultless h rows
   unfolding section_of
   read_faultless n [] h rows e = absurd cc
   read_faultless n (l ∷ ls) h rows e = header_faultless ls n h rows (g.form (words_of l)) e
 
   -- what a reader answered is good
-  module _ {A : Type 0} (view : A → H × List I) (old new : FeedState) (a : A) (reads : Reads g view old new (Ok a)) where
+  module _ {A : Type 0} (view : A → H × List I) (old new : FeedState) (a : A)
+      (reads : Reads g view old new (Ok a)) where
     faultless_by : (stop : Option ReadFault) → old.stop ≡ stop → IsFaultless (view a).0 (view a).1
     faultless_by (Some fault) e = absurd (reads.stopped fault e).0
     faultless_by None e = read_faultless old.taken (ahead old) (view a).0 (view a).1 (reads.reads e).gives

@@ -1,5 +1,6 @@
 -- Readers one after the other read sections one after the other.
-use Rattle.std.proofs.Common.{◌≡◌, ℕ, ◌+◌, List, [], ◌∷◌, length, drop, None, Result, Ok, Err, refl, sym, ap, subst, ◌∙◌}
+use Rattle.std.proofs.Common.{◌≡◌, ℕ, ◌+◌, List, [], ◌∷◌, length, drop, None, Result, Ok, Err, refl, sym, ap, subst}
+use Rattle.std.proofs.Common.{◌∙◌}
 use Rattle.std.specs.Prelude.{◌≢◌}
 use Rattle.std.proofs.lemmas.List.{drop-drop}
 use Rattle.section_text.specs.Words.{lines_of}
@@ -11,16 +12,20 @@ use Rattle.section_text.specs.declared.fault.ReadFault.TheVariants.{Refused, Mem
 use Rattle.section_text.specs.Section.{Grammar, section_of, refused_at, Reads, Fails}
 use Rattle.section_text.specs.Sections.{go_on, section_then, finished}
 
-module _ {H I A B : Type 0} (g : Grammar H I) (view : A → H × List I) (old new : FeedState) (going : old.stop ≡ None) (next : H → List I → ℕ → List (List ℕ) → Result B Refusal) where
+module _ {H I A B : Type 0} (g : Grammar H I) (view : A → H × List I) (old new : FeedState) (going : old.stop ≡ None)
+    (next : H → List I → ℕ → List (List ℕ) → Result B Refusal) where
   -- the section was read: what comes of it comes of the feed after it
-  pub section_read : (a : A) → Reads g view old new (Ok a) → section_then g old.taken (ahead old) next ≡ next (view a).0 (view a).1 new.taken (ahead new)
+  pub section_read : (a : A) → Reads g view old new (Ok a) →
+      section_then g old.taken (ahead old) next ≡ next (view a).0 (view a).1 new.taken (ahead new)
   section_read a reads =
       let done = reads.reads going in
       let k = length (view a).1 + 2 in
       let taken : new.taken ≡ old.taken + k = ap (λ (f : FeedState). f.taken) done.after in
       let rest : ahead new ≡ drop k (ahead old) =
       ap ahead done.after ∙ sym (drop-drop k old.taken (lines_of old.text)) in
-      ap (λ (r : Result (H × List I) Refusal). go_on r (λ h items. next h items (old.taken + (length items + 2)) (drop (length items + 2) (ahead old)))) done.gives
+      ap (λ (r : Result (H × List I) Refusal).
+      go_on r (λ h items. next h items (old.taken + (length items + 2)) (drop (length items + 2) (ahead old))))
+      done.gives
       ∙ ap (λ (n : ℕ). next (view a).0 (view a).1 n (drop k (ahead old))) (sym taken)
       ∙ ap (next (view a).0 (view a).1 new.taken) (sym rest)
 
@@ -34,26 +39,34 @@ module _ {H I A B : Type 0} (g : Grammar H I) (view : A → H × List I) (old ne
   still_closed a reads = ap (λ (f : FeedState). f.closed) ((reads.reads going).after)
 
   -- the section was not read: the fault is that of all
-  fails_first : (fault : ReadFault) → Fails fault (section_of g old.taken (ahead old)) → Fails fault (section_then g old.taken (ahead old) next)
+  fails_first : (fault : ReadFault) → Fails fault (section_of g old.taken (ahead old)) →
+      Fails fault (section_then g old.taken (ahead old) next)
   fails_first Memory e = tt
-  fails_first (Refused r) e = ap (λ (k : Result (H × List I) Refusal). go_on k (λ h items. next h items (old.taken + (length items + 2)) (drop (length items + 2) (ahead old)))) e
+  fails_first (Refused r) e = ap
+      (λ (k : Result (H × List I) Refusal).
+      go_on k (λ h items. next h items (old.taken + (length items + 2)) (drop (length items + 2) (ahead old)))) e
 
-  pub section_failed : (fault : ReadFault) → Reads g view old new (Err fault) → Fails fault (section_then g old.taken (ahead old) next)
+  pub section_failed : (fault : ReadFault) → Reads g view old new (Err fault) →
+      Fails fault (section_then g old.taken (ahead old) next)
   section_failed fault reads = fails_first fault ((reads.reads going).gives)
 
 -- a fault of what comes later
-pub fails_along : {B : Type 0} (fault : ReadFault) (early late : Result B Refusal) → early ≡ late → Fails fault late → Fails fault early
+pub fails_along : {B : Type 0} (fault : ReadFault) (early late : Result B Refusal) → early ≡ late → Fails fault late →
+    Fails fault early
 fails_along fault early late e fails = subst (Fails fault) (sym e) fails
 
 -- ---- the end of the text
 
-pub at_the_end : {B : Type 0} (n : ℕ) (ls : List (List ℕ)) (rest : List ℕ) (value : B) → ls ≡ [] → rest ≡ [] → finished n ls rest value ≡ Ok value
+pub at_the_end : {B : Type 0} (n : ℕ) (ls : List (List ℕ)) (rest : List ℕ) (value : B) → ls ≡ [] → rest ≡ [] →
+    finished n ls rest value ≡ Ok value
 at_the_end n ls rest value none nothing = rw (none, nothing) refl
 
-pub goes_on : {B : Type 0} (n : ℕ) (ls : List (List ℕ)) (rest : List ℕ) (value : B) → (ls ≡ [] → rest ≢ []) → finished n ls rest value ≡ refused_at n 12
+pub goes_on : {B : Type 0} (n : ℕ) (ls : List (List ℕ)) (rest : List ℕ) (value : B) → (ls ≡ [] → rest ≢ []) →
+    finished n ls rest value ≡ refused_at n 12
 goes_on n [] [] value more = absurd (more refl refl)
 goes_on n [] (b ∷ rest) value more = refl
 goes_on n (l ∷ ls) rest value more = refl
 
-pub more_fails : {B : Type 0} (n : ℕ) (ls : List (List ℕ)) (rest : List ℕ) (value : B) (fault : ReadFault) → (ls ≡ [] → rest ≢ []) → fault ≡ refusal (n + 1) 12 → Fails fault (finished n ls rest value)
+pub more_fails : {B : Type 0} (n : ℕ) (ls : List (List ℕ)) (rest : List ℕ) (value : B) (fault : ReadFault) →
+    (ls ≡ [] → rest ≢ []) → fault ≡ refusal (n + 1) 12 → Fails fault (finished n ls rest value)
 more_fails n ls rest value fault more is = rw is (goes_on n ls rest value more)

@@ -1,5 +1,6 @@
--- Lines that are a section by their forms, and have no fault, are read as that section; and their text is that of their forms.
-use Rattle.std.proofs.Common.{◌≡◌, ℕ, ◌+◌, List, [], ◌∷◌, ◌++◌, map, Option, Some, None, Ok, refl, sym, ap, ap₂, subst, ◌∙◌, append_assoc}
+-- Lines with the forms of a section and without a fault are read as that section, and their text is that of the forms
+use Rattle.std.proofs.Common.{◌≡◌, ℕ, ◌+◌, List, [], ◌∷◌, ◌++◌, map, Option, Some, None, Ok, refl, sym, ap, ap₂, subst}
+use Rattle.std.proofs.Common.{◌∙◌, append_assoc}
 use Rattle.std.specs.List.{flat_map}
 use Rattle.std.proofs.lemmas.List.{append-nil, append_cancel_left}
 use Rattle.section_text.specs.Words.{words_of, rest_of}
@@ -31,7 +32,8 @@ module _ {H I : Type 0} (form : List (List ℕ) → Option (Form H I)) where
     pub first_form : form (words_of line) ≡ first
     pub other_forms : forms rest ≡ others
 
-  pub one_line : (first : Option (Form H I)) (others : List (Option (Form H I))) (ls : List (List ℕ)) → forms ls ≡ first ∷ others → OneLine first others ls
+  pub one_line : (first : Option (Form H I)) (others : List (Option (Form H I))) (ls : List (List ℕ)) →
+      forms ls ≡ first ∷ others → OneLine first others ls
   one_line first others [] e = absurd cc
   one_line first others (l ∷ ls) e = record { line = l; rest = ls; lines = refl; first_form = cc; other_forms = cc }
 
@@ -42,41 +44,53 @@ module _ {H I : Type 0} (form : List (List ℕ) → Option (Form H I)) where
 -- ---- they are read
 
 module _ {H I : Type 0} (g : Grammar H I) where
-  body_made : (h : H) (before items : List I) (ls others : List (List ℕ)) (n : ℕ) → forms g.form ls ≡ items_said g.form items → AreFaultless g h before items → g.end_fault h (before ++ items) ≡ None
+  body_made : (h : H) (before items : List I) (ls others : List (List ℕ)) (n : ℕ) →
+      forms g.form ls ≡ items_said g.form items → AreFaultless g h before items → g.end_fault h (before ++ items) ≡ None
       → body_of g h before n (ls ++ others) ≡ Ok (h, before ++ items)
   body_made h before [] ls others n e good end =
       let one = one_line g.form (Some End) [] ls e in
-      body_ends g n (ls ++ others) h before one.line (one.rest ++ others) (ap (λ ks. ks ++ others) one.lines) one.first_form (subst (λ is. g.end_fault h is ≡ None) (append-nil before) end)
+      body_ends g n (ls ++ others) h before one.line (one.rest ++ others)
+      (ap (λ ks. ks ++ others) one.lines) one.first_form (subst (λ is. g.end_fault h is ≡ None) (append-nil before) end)
       ∙ ap (λ is. Ok (h, is)) (sym (append-nil before))
   body_made h before (i ∷ items) ls others n e good end =
       let one = one_line g.form (Some (Item i)) (items_said g.form items) ls e in
       let regroup : (before ++ i ∷ []) ++ items ≡ before ++ i ∷ items = append_assoc before (i ∷ []) items in
-      body_more g n (ls ++ others) h before one.line (one.rest ++ others) (ap (λ ks. ks ++ others) one.lines) i one.first_form good.0
-      ∙ body_made h (before ++ i ∷ []) items one.rest others (n + 1) one.other_forms good.1 (subst (λ is. g.end_fault h is ≡ None) (sym regroup) end)
+      body_more g n (ls ++ others) h before one.line (one.rest ++ others)
+      (ap (λ ks. ks ++ others) one.lines) i one.first_form good.0
+      ∙ body_made h (before ++ i ∷ []) items one.rest others (n + 1) one.other_forms good.1
+      (subst (λ is. g.end_fault h is ≡ None) (sym regroup) end)
       ∙ ap (λ is. Ok (h, is)) regroup
 
-  pub section_made : (n : ℕ) (ls others : List (List ℕ)) (h : H) (items : List I) → IsSection g.form ls h items → IsFaultless g h items → section_of g n (ls ++ others) ≡ Ok (h, items)
+  pub section_made : (n : ℕ) (ls others : List (List ℕ)) (h : H) (items : List I) → IsSection g.form ls h items →
+      IsFaultless g h items → section_of g n (ls ++ others) ≡ Ok (h, items)
   section_made n ls others h items e good =
       let one = one_line g.form (Some (Header h)) (items_said g.form items) ls e in
-      section_header g n (ls ++ others) one.line (one.rest ++ others) (ap (λ ks. ks ++ others) one.lines) h one.first_form good.header
+      section_header g n (ls ++ others) one.line (one.rest ++ others)
+      (ap (λ ks. ks ++ others) one.lines) h one.first_form good.header
       ∙ body_made h [] items one.rest others (n + 1) one.other_forms good.each good.end
 
 -- ---- their text
 
-module _ {H I : Type 0} (g : Grammar H I) (text : Form H I → List ℕ) (spelled : (l : List ℕ) (f : Form H I) → g.form (words_of l) ≡ Some f → ended_line l ≡ text f) where
-  body_text : (items : List I) (ls : List (List ℕ)) → forms g.form ls ≡ items_said g.form items → flat_map ended_line ls ≡ items_text g text spelled items
+module _ {H I : Type 0} (g : Grammar H I) (text : Form H I → List ℕ)
+    (spelled : (l : List ℕ) (f : Form H I) → g.form (words_of l) ≡ Some f → ended_line l ≡ text f) where
+  body_text : (items : List I) (ls : List (List ℕ)) → forms g.form ls ≡ items_said g.form items →
+      flat_map ended_line ls ≡ items_text g text spelled items
   body_text [] ls e =
       let one = one_line g.form (Some End) [] ls e in
-      ap (flat_map ended_line) (one.lines ∙ ap (λ ks. one.line ∷ ks) (no_lines g.form one.rest one.other_forms)) ∙ append-nil (ended_line one.line) ∙ spelled one.line End one.first_form
+      ap (flat_map ended_line) (one.lines ∙ ap (λ ks. one.line ∷ ks) (no_lines g.form one.rest one.other_forms))
+      ∙ append-nil (ended_line one.line) ∙ spelled one.line End one.first_form
   body_text (i ∷ items) ls e =
       let one = one_line g.form (Some (Item i)) (items_said g.form items) ls e in
-      ap (flat_map ended_line) one.lines ∙ ap₂ (λ a b. a ++ b) (spelled one.line (Item i) one.first_form) (body_text items one.rest one.other_forms)
+      ap (flat_map ended_line) one.lines
+      ∙ ap₂ (λ a b. a ++ b) (spelled one.line (Item i) one.first_form) (body_text items one.rest one.other_forms)
       ∙ sym (append_assoc (text (Item i)) (flat_map (λ j. text (Item j)) items) (text End))
 
-  pub text_said : (ls : List (List ℕ)) (h : H) (items : List I) → IsSection g.form ls h items → flat_map ended_line ls ≡ text (Header h) ++ items_text g text spelled items
+  pub text_said : (ls : List (List ℕ)) (h : H) (items : List I) → IsSection g.form ls h items →
+      flat_map ended_line ls ≡ text (Header h) ++ items_text g text spelled items
   text_said ls h items e =
       let one = one_line g.form (Some (Header h)) (items_said g.form items) ls e in
-      ap (flat_map ended_line) one.lines ∙ ap₂ (λ a b. a ++ b) (spelled one.line (Header h) one.first_form) (body_text items one.rest one.other_forms)
+      ap (flat_map ended_line) one.lines
+      ∙ ap₂ (λ a b. a ++ b) (spelled one.line (Header h) one.first_form) (body_text items one.rest one.other_forms)
 
 -- ---- lines one after the other
 
@@ -96,4 +110,6 @@ clean_both (l ∷ ls) ks here there = (here.0, clean_both ls ks here.1 there)
 pub nothing_follows : (ls : List (List ℕ)) → AreLines ls → rest_of (flat_map ended_line ls) ≡ []
 nothing_follows ls clean =
     let text = flat_map ended_line ls in
-    append_cancel_left text (rest_of text) [] (ap (λ ks. flat_map ended_line ks ++ rest_of text) (sym (lines_again ls clean)) ∙ whole_text text ∙ sym (append-nil text))
+    append_cancel_left text (rest_of text) []
+    (ap (λ ks. flat_map ended_line ks ++ rest_of text) (sym (lines_again ls clean)) ∙ whole_text text
+    ∙ sym (append-nil text))

@@ -1,11 +1,13 @@
 -- A number has one spelling.
-use Rattle.std.proofs.Common.{◌≡◌, ◌⊎◌, inl, inr, ℕ, zero, suc, ◌<◌, ◌≤◌, ◌^◌, true, List, [], ◌∷◌, length, get_or, Some, sym, ap, ◌∙◌, arith, rules}
+use Rattle.std.proofs.Common.{◌≡◌, ◌⊎◌, inl, inr, ℕ, zero, suc, ◌<◌, ◌≤◌, ◌^◌, true, List, [], ◌∷◌, length, get_or}
+use Rattle.std.proofs.Common.{Some, sym, ap, ◌∙◌, arith, rules}
 use Rattle.std.specs.List.{list_all}
 use Rattle.std.specs.Fmt.{decimal}
 use Rattle.std.proofs.lemmas.Option.{cond_some}
 use Rattle.std.proofs.lemmas.Bool.Decides.{nat_tests}
 use Rattle.std.proofs.lemmas.Str.Parse.{IsNumeralModel, numerals_by_fold, digits_value_short}
-use Rattle.std.proofs.lemmas.Fmt.{decimal-digits_value, digits_decimal, digits_value-decimal, decimal_digit, decimal_nonempty, first_decimal, length-decimal-le}
+use Rattle.std.proofs.lemmas.Fmt.{decimal-digits_value, digits_decimal, digits_value-decimal, decimal_digit}
+use Rattle.std.proofs.lemmas.Fmt.{decimal_nonempty, first_decimal, length-decimal-le}
 use Rattle.section_text.specs.Words.{is_digit, is_number, read_on, number_of}
 
 own : IsNumeralModel (λ ds. list_all is_digit ds ≡ true) (read_on 0)
@@ -41,7 +43,8 @@ pub number_small : (w : List ℕ) → is_number w ≡ true → read_on 0 w < 10 
 number_small w e = let word = number_word w e in digits_value_short own w 9 word.digits word.few
 
 -- a number of at most nine digits can be written
-is_one : (w : List ℕ) → list_all is_digit w ≡ true → 0 < length w → length w ≤ 9 → (length w ≡ 1) ⊎ (48 < get_or w 0 0) → is_number w ≡ true
+is_one : (w : List ℕ) → list_all is_digit w ≡ true → 0 < length w → length w ≤ 9 →
+    (length w ≡ 1) ⊎ (48 < get_or w 0 0) → is_number w ≡ true
 is_one [] digits some few plain = absurd (omega arith)
 is_one (b ∷ bs) digits some few (inl one) = grind (arith, nat_tests)
 is_one (b ∷ bs) digits some few (inr high) = grind (arith, nat_tests)
@@ -54,6 +57,8 @@ pub number_written : (n : ℕ) → n < 10 ^ 9 → number_of (decimal n) ≡ Some
 unfolding number_of
 number_written n small =
     let wide : n < 2 ^ 64 = omega arith in
-    let is : is_number (decimal n) ≡ true = is_one (decimal n) (digits_decimal own n wide) (decimal_nonempty n wide) (length-decimal-le 9 n (omega arith) small wide) (first_digit n small) in
+    let is : is_number (decimal n) ≡ true =
+    is_one (decimal n) (digits_decimal own n wide) (decimal_nonempty n wide)
+    (length-decimal-le 9 n (omega arith) small wide) (first_digit n small) in
     let value : read_on 0 (decimal n) ≡ n = digits_value-decimal own n wide in
     rw is (ap Some value)

@@ -1,5 +1,6 @@
--- What a section says, by the forms of its lines.
-use Rattle.std.proofs.Common.{◌≡◌, ℕ, suc, ◌+◌, List, [], ◌∷◌, ◌++◌, length, map, take, drop, Option, Some, None, Result, Ok, refl, sym, ap, ap₂, ◌∙◌, append_assoc, arith}
+-- The content of a section, by the forms of its lines.
+use Rattle.std.proofs.Common.{◌≡◌, ℕ, suc, ◌+◌, List, [], ◌∷◌, ◌++◌, length, map, take, drop, Option, Some, None}
+use Rattle.std.proofs.Common.{Result, Ok, refl, sym, ap, ap₂, ◌∙◌, append_assoc, arith}
 use Rattle.std.proofs.lemmas.List.{append-nil, length-map, map-append}
 use Rattle.std.proofs.Math.Seq.{drop-append_seam}
 use Rattle.section_text.specs.Words.{words_of}
@@ -29,12 +30,17 @@ module _ {H I : Type 0} (g : Grammar H I) where
   ok_is : (x y : H × List I) → ◌≡◌ {A = Result (H × List I) Refusal} (Ok x) (Ok y) → x ≡ y
   ok_is x y e = cc
 
-  one_more : (l : List ℕ) (ls : List (List ℕ)) (k : ℕ) → map (λ l. g.form (words_of l)) (take (suc k + 1) (l ∷ ls)) ≡ g.form (words_of l) ∷ map (λ l. g.form (words_of l)) (take (k + 1) ls)
-  one_more l ls k = let count : suc k + 1 ≡ suc (k + 1) = omega arith in ap (λ (n : ℕ). map (λ l. g.form (words_of l)) (take n (l ∷ ls))) count
+  one_more : (l : List ℕ) (ls : List (List ℕ)) (k : ℕ) →
+      map (λ l. g.form (words_of l)) (take (suc k + 1) (l ∷ ls))
+      ≡ g.form (words_of l) ∷ map (λ l. g.form (words_of l)) (take (k + 1) ls)
+  one_more l ls k = let count : suc k + 1 ≡ suc (k + 1) = omega arith in
+      ap (λ (n : ℕ). map (λ l. g.form (words_of l)) (take n (l ∷ ls))) count
 
-  line_said : (l : List ℕ) (ls : List (List ℕ)) (h : H) (before : List I) (n : ℕ) (h' : H) (rows : List I) (o : Option (Form H I)) → g.form (words_of l) ≡ o
+  line_said : (l : List ℕ) (ls : List (List ℕ)) (h : H) (before : List I) (n : ℕ) (h' : H) (rows : List I)
+      (o : Option (Form H I)) → g.form (words_of l) ≡ o
       → line_after g h before n (λ i. body_of g h (before ++ i ∷ []) (n + 1) ls) o ≡ Ok (h', rows)
-      → ((i : I) → body_of g h (before ++ i ∷ []) (n + 1) ls ≡ Ok (h', rows) → BodySaid (before ++ i ∷ []) ls h h' rows) → BodySaid before (l ∷ ls) h h' rows
+      → ((i : I) → body_of g h (before ++ i ∷ []) (n + 1) ls ≡ Ok (h', rows) → BodySaid (before ++ i ∷ []) ls h h' rows)
+      → BodySaid before (l ∷ ls) h h' rows
   line_said l ls h before n h' rows None f e rec = absurd cc
   line_said l ls h before n h' rows (Some (Header k)) f e rec = absurd cc
   line_said l ls h before n h' rows (Some (Item i)) f e rec =
@@ -54,23 +60,30 @@ module _ {H I : Type 0} (g : Grammar H I) where
         said = ap (λ a. a ∷ []) f;
       }
 
-  body_said : (ls : List (List ℕ)) (h : H) (before : List I) (n : ℕ) (h' : H) (rows : List I) → body_of g h before n ls ≡ Ok (h', rows) → BodySaid before ls h h' rows
+  body_said : (ls : List (List ℕ)) (h : H) (before : List I) (n : ℕ) (h' : H) (rows : List I) →
+      body_of g h before n ls ≡ Ok (h', rows) → BodySaid before ls h h' rows
   unfolding body_of
   body_said [] h before n h' rows e = absurd cc
-  body_said (l ∷ ls) h before n h' rows e = line_said l ls h before n h' rows (g.form (words_of l)) refl e (λ i. body_said ls h (before ++ i ∷ []) (n + 1) h' rows)
+  body_said (l ∷ ls) h before n h' rows e =
+      line_said l ls h before n h' rows (g.form (words_of l)) refl e
+      (λ i. body_said ls h (before ++ i ∷ []) (n + 1) h' rows)
 
-  header_said : (l : List ℕ) (ls : List (List ℕ)) (n : ℕ) (h : H) (rows : List I) (o : Option (Form H I)) → g.form (words_of l) ≡ o
-      → header_line g n (λ k. body_of g k [] (n + 1) ls) o ≡ Ok (h, rows) → IsSection g.form (take (length rows + 2) (l ∷ ls)) h rows
+  header_said : (l : List ℕ) (ls : List (List ℕ)) (n : ℕ) (h : H) (rows : List I) (o : Option (Form H I)) →
+      g.form (words_of l) ≡ o
+      → header_line g n (λ k. body_of g k [] (n + 1) ls) o ≡ Ok (h, rows) →
+      IsSection g.form (take (length rows + 2) (l ∷ ls)) h rows
   header_said l ls n h rows None f e = absurd cc
   header_said l ls n h rows (Some (Item i)) f e = absurd cc
   header_said l ls n h rows (Some End) f e = absurd cc
   header_said l ls n h rows (Some (Header k)) f e =
-      let t = body_said ls k [] (n + 1) h rows (unless_ok n (g.header_fault k) (body_of g k [] (n + 1) ls) (h, rows) e) in
+      let t = body_said ls k [] (n + 1) h rows
+      (unless_ok n (g.header_fault k) (body_of g k [] (n + 1) ls) (h, rows) e) in
       let count : length rows + 2 ≡ suc (length t.more + 1) = omega (arith, ap length t.rows_are) in
       ap (λ (m : ℕ). map (λ l. g.form (words_of l)) (take m (l ∷ ls))) count
       ∙ ap₂ (λ a b. a ∷ b) (f ∙ ap (λ j. Some (Header j)) (sym t.same)) (t.said ∙ ap items_said (sym t.rows_are))
 
-  pub section_said : (n : ℕ) (ls : List (List ℕ)) (h : H) (rows : List I) → section_of g n ls ≡ Ok (h, rows) → IsSection g.form (take (length rows + 2) ls) h rows
+  pub section_said : (n : ℕ) (ls : List (List ℕ)) (h : H) (rows : List I) → section_of g n ls ≡ Ok (h, rows) →
+      IsSection g.form (take (length rows + 2) ls) h rows
   unfolding section_of
   section_said n [] h rows e = absurd cc
   section_said n (l ∷ ls) h rows e = header_said l ls n h rows (g.form (words_of l)) refl e
@@ -90,7 +103,8 @@ module _ {H I : Type 0} where
       let tails : said xs ++ more ≡ said ys ++ more' = cc in
       ap₂ (λ a b. a ∷ b) heads (same_items xs ys more more' tails)
 
-  same_header : (h k : H) (xs ys : List I) (more more' : List (Option (Form H I))) → (Some (Header h) ∷ said xs) ++ more ≡ (Some (Header k) ∷ said ys) ++ more' → (h ≡ k) × (xs ≡ ys)
+  same_header : (h k : H) (xs ys : List I) (more more' : List (Option (Form H I))) →
+      (Some (Header h) ∷ said xs) ++ more ≡ (Some (Header k) ∷ said ys) ++ more' → (h ≡ k) × (xs ≡ ys)
   same_header h k xs ys more more' e =
       let heads : h ≡ k = cc in
       let tails : said xs ++ more ≡ said ys ++ more' = cc in
@@ -109,13 +123,17 @@ module _ {H I : Type 0} where
     headed j zs = Some (Header j) ∷ said zs
 
     -- two sections at the head of the same lines
-    pub one_section : (a b rest rest' : List (List ℕ)) (h k : H) (xs ys : List I) → a ++ rest ≡ b ++ rest' → IsSection form a h xs → IsSection form b k ys → OneSection h k xs ys rest rest'
+    pub one_section : (a b rest rest' : List (List ℕ)) (h k : H) (xs ys : List I) → a ++ rest ≡ b ++ rest' →
+        IsSection form a h xs → IsSection form b k ys → OneSection h k xs ys rest rest'
     unfolding headed
     one_section a b rest rest' h k xs ys e is is' =
         let both = same_header h k xs ys (forms rest) (forms rest')
-        (ap (λ fs. fs ++ forms rest) (sym is) ∙ sym (map-append _ a rest) ∙ ap forms e ∙ map-append _ b rest' ∙ ap (λ fs. fs ++ forms rest') is') in
+        (ap (λ fs. fs ++ forms rest) (sym is) ∙ sym (map-append _ a rest) ∙ ap forms e ∙ map-append _ b rest'
+        ∙ ap (λ fs. fs ++ forms rest') is') in
         let long : length a ≡ length b =
-        sym (length-map a (λ l. form (words_of l))) ∙ ap length is ∙ ap₂ (λ (j : H) (zs : List I). length (headed j zs)) both.0 both.1 ∙ sym (ap length is') ∙ length-map b (λ l. form (words_of l)) in
+        sym (length-map a (λ l. form (words_of l))) ∙ ap length is
+        ∙ ap₂ (λ (j : H) (zs : List I). length (headed j zs)) both.0 both.1 ∙ sym (ap length is')
+        ∙ length-map b (λ l. form (words_of l)) in
         record {
           header = both.0;
           items = both.1;

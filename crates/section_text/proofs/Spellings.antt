@@ -1,5 +1,6 @@
--- What the words of a line are, from the tests that the line passes.
-use Rattle.std.proofs.Common.{◌≡◌, ◌⊎◌, ℕ, Bool, true, false, cond, List, [], ◌∷◌, length, Option, Some, None, refl, ap, ◌∙◌, arith, inl, inr}
+-- The words of a line, from the tests that the line passes.
+use Rattle.std.proofs.Common.{◌≡◌, ◌⊎◌, ℕ, Bool, true, false, cond, List, [], ◌∷◌, length, Option, Some, None, refl, ap}
+use Rattle.std.proofs.Common.{◌∙◌, arith, inl, inr}
 use Rattle.std.specs.Prelude.{slice_get}
 use Rattle.std.specs.Fmt.{decimal}
 use Rattle.std.proofs.lemmas.Option.{option_and_then_some}
@@ -18,7 +19,8 @@ passed false o y e = absurd cc
 
 pub number_at_spelled : (ws : List (List ℕ)) (i n : ℕ) → number_at ws i ≡ Some n → slice_get ws i ≡ Some (decimal n)
 unfolding number_at
-number_at_spelled ws i n e = option_and_then_some number_of (slice_get ws i) n e (λ w found number. found ∙ ap (λ (x : List ℕ). Some x) (number_spelled w n number).0)
+number_at_spelled ws i n e = option_and_then_some number_of (slice_get ws i) n e
+    (λ w found number. found ∙ ap (λ (x : List ℕ). Some x) (number_spelled w n number).0)
 
 -- ---- a line of a known number of words
 
@@ -27,20 +29,23 @@ one_word [] a len e = absurd (omega arith)
 one_word (v ∷ []) a len e = cc
 one_word (v ∷ w ∷ ws) a len e = absurd (omega arith)
 
-pub two_words : (ws : List (List ℕ)) (a b : List ℕ) → length ws ≡ 2 → slice_get ws 0 ≡ Some a → slice_get ws 1 ≡ Some b → ws ≡ a ∷ b ∷ []
+pub two_words : (ws : List (List ℕ)) (a b : List ℕ) → length ws ≡ 2 → slice_get ws 0 ≡ Some a →
+    slice_get ws 1 ≡ Some b → ws ≡ a ∷ b ∷ []
 two_words [] a b len e f = absurd (omega arith)
 two_words (v ∷ []) a b len e f = absurd (omega arith)
 two_words (v ∷ w ∷ []) a b len e f = cc
 two_words (v ∷ w ∷ x ∷ ws) a b len e f = absurd (omega arith)
 
-pub three_words : (ws : List (List ℕ)) (a b c : List ℕ) → length ws ≡ 3 → slice_get ws 0 ≡ Some a → slice_get ws 1 ≡ Some b → slice_get ws 2 ≡ Some c → ws ≡ a ∷ b ∷ c ∷ []
+pub three_words : (ws : List (List ℕ)) (a b c : List ℕ) → length ws ≡ 3 → slice_get ws 0 ≡ Some a →
+    slice_get ws 1 ≡ Some b → slice_get ws 2 ≡ Some c → ws ≡ a ∷ b ∷ c ∷ []
 three_words [] a b c len e f g = absurd (omega arith)
 three_words (v ∷ []) a b c len e f g = absurd (omega arith)
 three_words (v ∷ w ∷ []) a b c len e f g = absurd (omega arith)
 three_words (v ∷ w ∷ x ∷ []) a b c len e f g = cc
 three_words (v ∷ w ∷ x ∷ y ∷ ws) a b c len e f g = absurd (omega arith)
 
-pub four_words : (ws : List (List ℕ)) (a b c d : List ℕ) → length ws ≡ 4 → slice_get ws 0 ≡ Some a → slice_get ws 1 ≡ Some b → slice_get ws 2 ≡ Some c → slice_get ws 3 ≡ Some d → ws ≡ a ∷ b ∷ c ∷ d ∷ []
+pub four_words : (ws : List (List ℕ)) (a b c d : List ℕ) → length ws ≡ 4 → slice_get ws 0 ≡ Some a →
+    slice_get ws 1 ≡ Some b → slice_get ws 2 ≡ Some c → slice_get ws 3 ≡ Some d → ws ≡ a ∷ b ∷ c ∷ d ∷ []
 four_words [] a b c d len e f g h = absurd (omega arith)
 four_words (v ∷ []) a b c d len e f g h = absurd (omega arith)
 four_words (v ∷ w ∷ []) a b c d len e f g h = absurd (omega arith)
@@ -48,7 +53,9 @@ four_words (v ∷ w ∷ x ∷ []) a b c d len e f g h = absurd (omega arith)
 four_words (v ∷ w ∷ x ∷ y ∷ []) a b c d len e f g h = cc
 four_words (v ∷ w ∷ x ∷ y ∷ z ∷ ws) a b c d len e f g h = absurd (omega arith)
 
-pub five_words : (ws : List (List ℕ)) (a b c d k : List ℕ) → length ws ≡ 5 → slice_get ws 0 ≡ Some a → slice_get ws 1 ≡ Some b → slice_get ws 2 ≡ Some c → slice_get ws 3 ≡ Some d → slice_get ws 4 ≡ Some k → ws ≡ a ∷ b ∷ c ∷ d ∷ k ∷ []
+pub five_words : (ws : List (List ℕ)) (a b c d k : List ℕ) → length ws ≡ 5 → slice_get ws 0 ≡ Some a →
+    slice_get ws 1 ≡ Some b → slice_get ws 2 ≡ Some c → slice_get ws 3 ≡ Some d → slice_get ws 4 ≡ Some k →
+    ws ≡ a ∷ b ∷ c ∷ d ∷ k ∷ []
 five_words [] a b c d k len e f g h i = absurd (omega arith)
 five_words (v ∷ []) a b c d k len e f g h i = absurd (omega arith)
 five_words (v ∷ w ∷ []) a b c d k len e f g h i = absurd (omega arith)

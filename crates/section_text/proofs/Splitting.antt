@@ -1,5 +1,6 @@
 -- The words of a line, one after the other.
-use Rattle.std.proofs.Common.{◌≡◌, ◌==◌, if◌then◌else◌, ℕ, suc, ◌+◌, ◌-◌, ◌<◌, ◌≤◌, Bool, true, false, cond, List, [], ◌∷◌, take, drop, length, Some, None, nat_lt, refl, sym, ap, ◌∙◌, arith}
+use Rattle.std.proofs.Common.{◌≡◌, ◌==◌, if◌then◌else◌, ℕ, suc, ◌+◌, ◌-◌, ◌<◌, ◌≤◌, Bool, true, false, cond, List, []}
+use Rattle.std.proofs.Common.{◌∷◌, take, drop, length, Some, None, nat_lt, refl, sym, ap, ◌∙◌, arith}
 use Rattle.std.specs.List.{position, position_or_len}
 use Rattle.std.proofs.lemmas.List.{length-drop, take_all}
 use Rattle.std.proofs.lemmas.Bool.Decides.{nat_tests}
@@ -23,17 +24,20 @@ below a b e = grind (arith, nat_tests)
 not_below : (a b : ℕ) → nat_lt a b ≡ false → b ≤ a
 not_below a b e = grind (arith, nat_tests)
 
-pub split_some : (line : List ℕ) (i : ℕ) → position is_space line ≡ Some i → words_of line ≡ take i line ∷ words_of (take (length line - (i + 1)) (drop (i + 1) line))
+pub split_some : (line : List ℕ) (i : ℕ) → position is_space line ≡ Some i →
+    words_of line ≡ take i line ∷ words_of (take (length line - (i + 1)) (drop (i + 1) line))
 split_some line i e =
     let at = found_by (nat_lt (position_or_len is_space line) (length line)) (position_or_len is_space line) i e in
     let within = below (position_or_len is_space line) (length line) at.0 in
     slice_split_first is_space line 0 within
     ∙ ap (λ k. take k line ∷ words_of (drop (k + 1) line)) at.1
-    ∙ ap (λ l. take i line ∷ words_of l) (sym (take_all (length line - (i + 1)) (drop (i + 1) line) (let n = length-drop (i + 1) line in omega (arith, n))))
+    ∙ ap (λ l. take i line ∷ words_of l)
+    (sym (take_all (length line - (i + 1)) (drop (i + 1) line) (let n = length-drop (i + 1) line in omega (arith, n))))
 
 pub split_none : (line : List ℕ) → position is_space line ≡ None → words_of line ≡ line ∷ []
 split_none line e =
-    let past = not_below (position_or_len is_space line) (length line) (missed_by (nat_lt (position_or_len is_space line) (length line)) (position_or_len is_space line) e) in
+    let past = not_below (position_or_len is_space line) (length line)
+    (missed_by (nat_lt (position_or_len is_space line) (length line)) (position_or_len is_space line) e) in
     slice_split_none is_space line (λ k d h. fails_before_first is_space line k d (omega (arith, past, h)))
 
 -- a line has a word
@@ -50,22 +54,27 @@ pub two_words : (l w r : List ℕ) → words_of l ≡ w ∷ words_of r → words
 unfolding four
 two_words l w r a b = rw (a, b) refl
 
-pub three_words : (l w r v s : List ℕ) → words_of l ≡ w ∷ words_of r → words_of r ≡ v ∷ words_of s → words_of s ≡ s ∷ [] → None ≡ four (words_of l)
+pub three_words : (l w r v s : List ℕ) → words_of l ≡ w ∷ words_of r → words_of r ≡ v ∷ words_of s →
+    words_of s ≡ s ∷ [] → None ≡ four (words_of l)
 unfolding four
 three_words l w r v s a b c = rw (a, b, c) refl
 
 not_four : (n : ℕ) → (suc (suc (suc (suc (suc n)))) == 4) ≡ false
 not_four n = grind arith
 
-five_or_more : (zs : List (List ℕ)) → 0 < length zs → (ws : List (List ℕ)) → None ≡ (if suc (suc (suc (suc (length zs)))) == 4 then Some ws else None)
+five_or_more : (zs : List (List ℕ)) → 0 < length zs → (ws : List (List ℕ)) →
+    None ≡ (if suc (suc (suc (suc (length zs)))) == 4 then Some ws else None)
 five_or_more [] h ws = absurd (omega arith)
 five_or_more (z ∷ zs) h ws = rw (not_four (length zs)) refl
 
-pub many_words : (l w r v s u t x y : List ℕ) → words_of l ≡ w ∷ words_of r → words_of r ≡ v ∷ words_of s → words_of s ≡ u ∷ words_of t → words_of t ≡ x ∷ words_of y → None ≡ four (words_of l)
+pub many_words : (l w r v s u t x y : List ℕ) → words_of l ≡ w ∷ words_of r → words_of r ≡ v ∷ words_of s →
+    words_of s ≡ u ∷ words_of t → words_of t ≡ x ∷ words_of y → None ≡ four (words_of l)
 unfolding four
-many_words l w r v s u t x y a b c d = rw (a, b, c, d) (five_or_more (words_of y) (some_words y) (w ∷ v ∷ u ∷ x ∷ words_of y))
+many_words l w r v s u t x y a b c d =
+    rw (a, b, c, d) (five_or_more (words_of y) (some_words y) (w ∷ v ∷ u ∷ x ∷ words_of y))
 
-pub four_are : (l w r v s u t : List ℕ) → words_of l ≡ w ∷ words_of r → words_of r ≡ v ∷ words_of s → words_of s ≡ u ∷ words_of t → words_of t ≡ t ∷ [] → Some (w ∷ v ∷ u ∷ t ∷ []) ≡ four (words_of l)
+pub four_are : (l w r v s u t : List ℕ) → words_of l ≡ w ∷ words_of r → words_of r ≡ v ∷ words_of s →
+    words_of s ≡ u ∷ words_of t → words_of t ≡ t ∷ [] → Some (w ∷ v ∷ u ∷ t ∷ []) ≡ four (words_of l)
 unfolding four
 four_are l w r v s u t a b c d = rw (a, b, c, d) refl
 
@@ -91,9 +100,11 @@ lone_word l a = rw a refl
 
 pub no_five : (l w r : List ℕ) → words_of l ≡ w ∷ words_of r → None ≡ four (words_of r) → None ≡ five (words_of l)
 unfolding four five
-no_five l w r a none = rw (a, not_one_more (length (words_of r)) (test_none (length (words_of r) == 4) (words_of r) (sym none))) refl
+no_five l w r a none =
+    rw (a, not_one_more (length (words_of r)) (test_none (length (words_of r) == 4) (words_of r) (sym none))) refl
 
-pub five_are : (l w r : List ℕ) (ws : List (List ℕ)) → words_of l ≡ w ∷ words_of r → Some ws ≡ four (words_of r) → Some (w ∷ ws) ≡ five (words_of l)
+pub five_are : (l w r : List ℕ) (ws : List (List ℕ)) → words_of l ≡ w ∷ words_of r → Some ws ≡ four (words_of r) →
+    Some (w ∷ ws) ≡ five (words_of l)
 unfolding four five
 five_are l w r ws a some =
     let found = test_of (length (words_of r) == 4) (words_of r) ws (sym some) in

@@ -13,9 +13,11 @@ past_limit = 2
 abbrev pub unknown_name : ℕ
 unknown_name = 3
 
+-- a name that is defined already
 abbrev pub defined_twice : ℕ
 defined_twice = 4
 
+-- a wire that is consumed already
 abbrev pub consumed_twice : ℕ
 consumed_twice = 5
 
@@ -52,6 +54,6 @@ abbrev pub or_else : Option ℕ → Option ℕ → Option ℕ
 or_else None other = other
 or_else (Some code) other = Some code
 
--- the code where a test fails
+-- the code of a test that fails
 abbrev pub code_where : Bool → ℕ → Option ℕ
 code_where fails code = if fails then Some code else None

@@ -21,8 +21,9 @@ EachNumberHasASpelling = (n : ℕ) → n < 10 ^ 9 → number_of (decimal n) ≡ 
 abbrev pub NoByteIsLost : Type 0
 NoByteIsLost = (text : List ℕ) → flat_map ended_line (lines_of text) ++ rest_of text ≡ text
 
--- What a section gives is given by its own lines: its header, its items and its end, wherever they stand, and
--- whatever lines follow them.
+-- The header, the items and the end of a section depend on its own lines alone, wherever they are, and whatever lines
+-- follow them.
 abbrev pub IsReadFromItsOwnLines : {H I : Type 0} → Grammar H I → Type 0
-IsReadFromItsOwnLines {H} {I} g = (n m : ℕ) (ls others : List (List ℕ)) (header : H) (items : List I) → section_of g n ls ≡ Ok (header, items)
+IsReadFromItsOwnLines {H} {I} g =
+    (n m : ℕ) (ls others : List (List ℕ)) (header : H) (items : List I) → section_of g n ls ≡ Ok (header, items)
     → section_of g m (take (length items + 2) ls ++ others) ≡ Ok (header, items)

@@ -3,8 +3,10 @@ use Rattle.std.specs.Prelude.{ℕ, List, [], ◌∷◌}
 use Rattle.section_text.specs.declared.feed.FourWords.{FourWords}
 use Rattle.section_text.specs.declared.feed.FiveWords.{FiveWords}
 
+-- the list of four words
 abbrev pub four_listed : FourWords → List (List ℕ)
 four_listed w = w.first.now ∷ w.second.now ∷ w.third.now ∷ w.fourth.now ∷ []
 
+-- the list of five words
 abbrev pub listed : FiveWords → List (List ℕ)
 listed w = w.first.now ∷ w.second.now ∷ w.third.now ∷ w.fourth.now ∷ w.fifth.now ∷ []

@@ -1,4 +1,4 @@
--- Which names the ports of a layout may have, as lists.
+-- The names that the ports of a layout may have, as lists.
 use Rattle.std.specs.Prelude.{ℕ, List, Option, Some, None}
 use Rattle.section_text.specs.declared.ports.PortNames.{PortNames}
 use Rattle.section_text.specs.declared.ports.PortNames.TheVariants.{Any, Only}
@@ -8,7 +8,7 @@ pub record Named : Type 0 where
   pub ins : List (List ℕ)
   pub outs : List (List ℕ)
 
--- what port names say: `None` where any name is good
+-- what port names say: `None` if any name is good
 abbrev pub named_ports : PortNames → Option Named
 named_ports Any = None
 named_ports (Only ins outs) = Some (record { ins = ins.items; outs = outs.items })

@@ -9,12 +9,14 @@ abbrev pub go_on : {H I B : Type 0} → Result (H × List I) Refusal → (H → 
 go_on (Ok read) next = next read.0 read.1
 go_on (Err refusal) next = Err refusal
 
--- A section that begins after n lines, with these lines ahead, and what comes of its header, its items, the number of
--- lines taken by then and the lines that are ahead then.
-abbrev pub section_then : {H I B : Type 0} → Grammar H I → ℕ → List (List ℕ) → (H → List I → ℕ → List (List ℕ) → Result B Refusal) → Result B Refusal
-section_then g n ls next = go_on (section_of g n ls) (λ h items. next h items (n + (length items + 2)) (drop (length items + 2) ls))
+-- A section that begins after n lines, with these lines ahead, and a continuation. It gets the header, the items, the
+-- number of lines taken by then, and the lines that are ahead then.
+abbrev pub section_then : {H I B : Type 0} → Grammar H I → ℕ → List (List ℕ) →
+    (H → List I → ℕ → List (List ℕ) → Result B Refusal) → Result B Refusal
+section_then g n ls next = go_on (section_of g n ls)
+    (λ h items. next h items (n + (length items + 2)) (drop (length items + 2) ls))
 
--- the value, where no line and no byte follows the n lines
+-- the value, if no line and no byte follows the n lines
 abbrev pub finished : {B : Type 0} → ℕ → List (List ℕ) → List ℕ → B → Result B Refusal
 finished n [] [] value = Ok value
 finished n [] (b ∷ rest) value = refused_at n text_cut

@@ -1,4 +1,4 @@
--- What a clause reads of a `Seed`.
+-- The meaning of a `Seed` in clauses.
 use Rattle.std.specs.Prelude.{ℕ, ◌+◌, List, [], ◌∷◌, ◌++◌, Option, Some, None, codes, take}
 use Rattle.std.specs.List.{flat_map}
 use Rattle.std.specs.declared.hash.DefaultHasher.{DefaultHasher}

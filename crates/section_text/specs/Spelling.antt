@@ -1,4 +1,4 @@
--- How a line is spelled.
+-- The spelling of a line.
 use Rattle.std.specs.Prelude.{ℕ, List, [], ◌∷◌, ◌++◌}
 use Rattle.std.specs.List.{flat_map}
 

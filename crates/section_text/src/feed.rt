@@ -19,7 +19,7 @@ use memchr::{memchr, memmem};
 use std::alloc::Global;
 use std::marker::Model;
 
-/// The longest text, in bytes: 16 MiB.
+/// The limit on the length of a text, in bytes: 16 MiB.
 pub const LONGEST: usize = 16_777_216;
 
 // The most bytes of a text that a seed is of: 1 MiB, which is more than the longest circuit section has.
@@ -27,10 +27,12 @@ const SEEDED: usize = 1_048_576;
 
 /// A text that comes in pieces and is then taken line by line.
 ///
-/// Before it is closed it takes pieces, after that readers take its lines. The text is the pieces joined, wherever it
-/// was cut, of at most 16,777,216 bytes. A line ends at a line feed, which is not part of it, and its words are the
-/// parts between spaces: two spaces in a row, and a space at an end, make an empty word. Once a reader has met a
-/// fault, every later one answers that same fault, and the text stays as it is.
+/// It takes pieces until it is closed, and readers take its lines after that. The text is the pieces joined, wherever
+/// it was cut. It has at most 16,777,216 bytes.
+///
+/// A line ends at a line feed, which is not part of it. Its words are the parts between spaces: two spaces in a row,
+/// and a space at an end, make an empty word. After a reader has met a fault, every later one answers that same fault,
+/// and the text stays as it is.
 #[derive(Drop)]
 pub struct Feed {
     bytes: Vec<u8>,
@@ -52,8 +54,9 @@ impl Model for Feed {
     ghost invariant = { IsFeed };
 }
 
-/// A line that a feed gave: its number in the stream, counted from 1, and its place in the text, in bytes. It is read
-/// by the feed that gave it.
+/// A line that a feed gave: its number in the stream, counted from 1, and its place in the text, in bytes.
+///
+/// The feed that gave a line reads it.
 #[derive(Clone, Copy, Debug)]
 pub struct Line {
     number: u32,
@@ -223,7 +226,9 @@ fn read_digits(word: &[u8]) -> u32
     number
 }
 
-/// The number that a word is: `0`, or at most nine digits of which the first is no `0`. None for any other word.
+/// Returns the number that a word is, or `None` for any other word.
+///
+/// A number is `0`, or at most nine digits of which the first is not `0`.
 #[tactic(auto, unfolding(crate::specs::Words::number_of))]
 pub fn read_number(word: &[u8]) -> Option<u32>
     ensures number { result ≡ number_of word.now }
@@ -237,7 +242,7 @@ pub fn read_number(word: &[u8]) -> Option<u32>
 }
 
 impl Feed {
-    /// The empty text, not closed. It takes no memory until the first piece.
+    /// Creates the empty text, not closed. It takes no memory until the first piece.
     pub fn new(alloc: Global) -> Feed
         ensures { result ≡ record { text = []; taken = 0; closed = false; stop = None } }
     {
@@ -250,8 +255,12 @@ impl Feed {
         }
     }
 
-    /// Adds a piece of any length at the end of the text, before the feed is closed. It is `TooLong` exactly where the
-    /// text would pass 16,777,216 bytes, and `Memory` where there is no memory for it. Both change nothing.
+    /// Adds a piece of any length at the end of the text, before the feed is closed.
+    ///
+    /// # Errors
+    ///
+    /// `TooLong` if the text would have more than 16,777,216 bytes, and `Memory` if there is no memory for it. Both
+    /// change nothing.
     pub fn push(&mut self, piece: &[u8]) -> Result<(), PushFault>
         requires { self.old.closed ≡ false }
         ensures ok { OnOk result (self.new
@@ -277,14 +286,14 @@ impl Feed {
         self.is_closed = true;
     }
 
-    /// Whether the text has ended. Pieces come before that, and readers after it.
+    /// Returns whether the text has ended. Pieces come before that, and readers after it.
     pub fn closed(&self) -> bool
         ensures { result ≡ self.now.closed }
     {
         self.is_closed
     }
 
-    /// The fault that the feed answers for good, if a reader met one.
+    /// Returns the fault that a reader met, if there is one. The feed keeps it.
     pub fn fault(&self) -> Option<ReadFault>
         ensures { result ≡ self.now.stop }
     {
@@ -293,16 +302,20 @@ impl Feed {
 
     /// Returns the seed for tables of a circuit's names, if the text begins with the circuit.
     ///
-    /// It is the seed of the text's first section, of at most 1,048,576 bytes. A longer circuit section has a line that
-    /// is refused, by the limits on wires and gates.
+    /// It is the seed of the text's first section, or of its first 1,048,576 bytes. A longer circuit section has a line
+    /// that is refused, by the limits on wires and gates.
     pub fn seed(&self) -> Seed
         ensures { result ≡ seed_of (take 1048576 (first_section self.now.text)) }
     {
         Seed::of(first_bytes(first_section(&self.bytes), SEEDED))
     }
 
-    /// The next line that a line feed ends. Where there is none, code 12 at the line after those taken, for good. A
-    /// feed that has a fault answers that.
+    /// Takes the next line that a line feed ends.
+    ///
+    /// # Errors
+    ///
+    /// Code 12 at the line after those taken, if no such line is left. The feed keeps its fault, and a feed that has
+    /// one answers it.
     pub fn take(&mut self) -> Result<Line, ReadFault>
         requires { self.old.closed ≡ true }
         ensures stopped { ForSome self.old.stop
@@ -351,7 +364,7 @@ impl Feed {
         &self.bytes[line.from..line.to]
     }
 
-    /// How many words a line has: one more than its spaces.
+    /// Returns how many words a line has: one more than its spaces.
     pub fn words(&self, line: &Line) -> usize
         requires { IsLine self.now line.now }
         ensures { result ≡ length (words_of (line_bytes self.now line.now)) }
@@ -359,7 +372,7 @@ impl Feed {
         words_in(self.line(line))
     }
 
-    /// A word of a line by its index from 0, or None past the last one.
+    /// Returns a word of a line by its index from 0, or `None` past the last one.
     pub fn word(&self, line: &Line, index: usize) -> Option<&[u8]>
         requires { IsLine self.now line.now }
         ensures { option_copied result ≡ slice_get (words_of (line_bytes self.now line.now)) index }
@@ -367,8 +380,9 @@ impl Feed {
         word_in(self.line(line), index)
     }
 
-    /// A word of a line as a number: `0`, or at most nine digits of which the first is no `0`. None for any other word,
-    /// and past the last one.
+    /// Returns a word of a line as a number, or `None` for any other word and past the last one.
+    ///
+    /// A number is `0`, or at most nine digits of which the first is not `0`.
     #[tactic(auto, unfolding(crate::specs::Words::number_at))]
     pub fn number(&self, line: &Line, index: usize) -> Option<u32>
         requires { IsLine self.now line.now }
@@ -378,7 +392,7 @@ impl Feed {
         read_number(self.word(line, index)?)
     }
 
-    /// A word of a line as a name. None for a word that is no name, and past the last one.
+    /// Returns a word of a line as a name, or `None` for a word that is no name and past the last one.
     #[tactic(auto, unfolding(crate::specs::Words::name_at))]
     pub fn name(&self, line: &Line, index: usize) -> Option<Name>
         requires { IsLine self.now line.now }
@@ -387,7 +401,7 @@ impl Feed {
         Name::of(self.word(line, index)?)
     }
 
-    /// `said`, where a line has one word. None for any other line.
+    /// Returns `said` if a line has one word, and `None` for any other line.
     #[tactic(auto, unfolding(crate::specs::Words::lone))]
     pub fn lone<A: Drop>(&self, line: &Line, said: A) -> Option<A>
         requires { IsLine self.now line.now }
@@ -399,7 +413,7 @@ impl Feed {
         }
     }
 
-    /// The words of a line of four. None for any other line. It takes one pass over the line.
+    /// Returns the words of a line of four, or `None` for any other line. It passes over the line once.
     pub fn four_words(&self, line: &Line) -> Option<FourWords<'_>>
         requires { IsLine self.now line.now }
         ensures { option_map four_listed result ≡ four (words_of (line_bytes self.now line.now)) }
@@ -407,7 +421,7 @@ impl Feed {
         four_in(self.line(line))
     }
 
-    /// The words of a line of five. None for any other line. It takes one pass over the line.
+    /// Returns the words of a line of five, or `None` for any other line. It passes over the line once.
     pub fn five_words(&self, line: &Line) -> Option<FiveWords<'_>>
         requires { IsLine self.now line.now }
         ensures { option_map listed result ≡ five (words_of (line_bytes self.now line.now)) }
@@ -415,7 +429,7 @@ impl Feed {
         five_in(self.line(line))
     }
 
-    /// The number of a line of two words, a keyword and a number. None for any other line.
+    /// Returns the number of a line of two words, a keyword and a number, or `None` for any other line.
     #[tactic(auto, unfolding(crate::specs::Words::lone_number))]
     pub fn lone_number(&self, line: &Line) -> Option<u32>
         requires { IsLine self.now line.now }
@@ -428,7 +442,7 @@ impl Feed {
         }
     }
 
-    /// The name of a line of two words, a keyword and a name. None for any other line.
+    /// Returns the name of a line of two words, a keyword and a name, or `None` for any other line.
     #[tactic(auto, unfolding(crate::specs::Words::lone_name))]
     pub fn lone_name(&self, line: &Line) -> Option<Name>
         requires { IsLine self.now line.now }
@@ -440,8 +454,9 @@ impl Feed {
         }
     }
 
-    /// As many names as `count`, at most four, from a word of a line on, where `from` is at most eight. None where one
-    /// of these words is no name, or is not there.
+    /// Returns the `count` names that are the words of a line from index `from` on.
+    ///
+    /// It returns `None` if one of these words is no name, or is not there.
     pub fn names(&self, line: &Line, from: usize, count: usize) -> Option<Names>
         requires line { IsLine self.now line.now }
         requires few { count ≤ 4 }
@@ -455,7 +470,7 @@ impl Feed {
         Some(names)
     }
 
-    /// Whether a word of a line is this one. Past the last word it is false.
+    /// Returns whether a word of a line is `expected`. It is false past the last word.
     #[tactic(auto, unfolding(crate::specs::Words::is_word_at))]
     pub fn is(&self, line: &Line, index: usize, expected: &[u8]) -> bool
         requires { IsLine self.now line.now }
@@ -467,7 +482,7 @@ impl Feed {
         }
     }
 
-    /// Refuses a line with a code, for good. A feed that has a fault already answers that one, and keeps it.
+    /// Refuses a line with a code. The feed keeps this refusal, but a feed that has a fault keeps and answers that one.
     pub fn refuse(&mut self, line: &Line, code: u8) -> ReadFault
         ensures answer { result ≡ unwrap_or self.old.stop (refusal line.now.number code) }
         ensures stopped { self.new ≡ record self.old { stop = Some result } }
@@ -480,7 +495,8 @@ impl Feed {
         fault
     }
 
-    /// Says that a reader found no memory, for good. A feed that has a fault already answers that one, and keeps it.
+    /// Records that a reader is out of memory. The feed keeps this fault, but a feed that has one keeps and answers
+    /// that one.
     pub fn starve(&mut self) -> ReadFault
         ensures answer { result ≡ unwrap_or self.old.stop Memory }
         ensures stopped { self.new ≡ record self.old { stop = Some result } }
@@ -490,8 +506,12 @@ impl Feed {
         fault
     }
 
-    /// Whether nothing follows the lines that were taken. Where a line or bytes without a line feed are left, code 12
-    /// at the line after those taken, for good. A feed that has a fault answers that.
+    /// Checks that nothing follows the lines that were taken.
+    ///
+    /// # Errors
+    ///
+    /// Code 12 at the line after those taken, if a line or bytes without a line feed are left. The feed keeps its
+    /// fault, and a feed that has one answers it.
     pub fn finish(&mut self) -> Result<(), ReadFault>
         requires { self.old.closed ≡ true }
         ensures stopped { ForSome self.old.stop

@@ -3,19 +3,19 @@ ghost use Rattle.section_text.specs.Laws.{OneSpelling, NumbersAreShort, EachNumb
 
 use crate::reader::Section;
 
-/// A number has one spelling: no zero stands before it, and it has at most nine digits.
+/// States that each number has one spelling: without a leading zero, and with at most nine digits.
 pub fn one_spelling_of_a_number()
     ensures one { OneSpelling }
     ensures short { NumbersAreShort }
     ensures each { EachNumberHasASpelling }
 {}
 
-/// The lines of a text and the bytes after the last line feed are the whole text.
+/// States that the lines of a text and the bytes after its last line feed are the whole text.
 pub fn lines_lose_no_byte()
     ensures { NoByteIsLost }
 {}
 
-/// What is read of a section depends on no line but its own, nor on where in the stream they stand.
+/// States that reading a section depends on its own lines alone, and not on their place in the stream.
 pub fn reading_is_local<S: Section>(section: &S)
     ensures { IsReadFromItsOwnLines (S.grammar section.now) }
 {

@@ -2,8 +2,9 @@
 
 use crate::name::Name;
 
-/// The names that the ports of a layout may have: any, or only those of a circuit's inputs and outputs. Where they
-/// are given, each of them has a port.
+/// The names that the ports of a layout may have: any, or only those of a circuit's inputs and outputs.
+///
+/// If they are given, each of them has a port.
 #[derive(Drop)]
 pub enum PortNames {
     /// Any name is good, and none has to be there.

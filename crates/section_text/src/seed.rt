@@ -6,22 +6,23 @@ use crate::name::Name;
 use sha2::{Digest, Sha256};
 use std::hash::{BuildHasher, DefaultHasher, Hasher};
 
-/// How a table hashes: by SipHash behind the SHA-256 digest of all that the table may hold. So nobody can choose names
-/// that fall together in it, since with each other choice the hashes are others.
+/// The seed by which a table hashes: SipHash over the SHA-256 digest of all that the table may hold.
+///
+/// Nobody can choose names that fall together in a table, since other names change all hashes.
 #[derive(Clone, Copy)]
 pub struct Seed {
     initial: DefaultHasher,
 }
 
 impl Seed {
-    /// The seed of a text in which all the names stand.
+    /// Returns the seed of a text that contains all the names.
     pub fn of(text: &[u8]) -> Seed
         ensures { result ≡ seed_of text.now }
     {
         Seed::behind(Sha256::digest(text))
     }
 
-    /// The seed of a table that holds no other names than these.
+    /// Returns the seed of a table that holds no other names than these.
     pub fn of_names(names: &[Name]) -> Seed
         ensures { result ≡ seed_of (seed_text names.now) }
     {

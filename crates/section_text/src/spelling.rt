@@ -6,7 +6,11 @@ ghost use Rattle.section_text.specs.Spelling.{spaced};
 use itoa::Buffer;
 use std::alloc::AllocError;
 
-/// Writes a space and a word at the end of `out`. After want of memory a part of them may stand there.
+/// Writes a space and a word at the end of `out`.
+///
+/// # Errors
+///
+/// Out of memory. A part of the bytes may then be written.
 pub fn print_word(out: &mut Vec<u8>, word: &[u8]) -> Result<(), AllocError>
     ensures ok { OnOk result (out.new.items ≡ out.old.items ++ spaced word.now) }
     ensures err { OnErr result ((part : List ℕ) × (out.new.items ≡ out.old.items ++ part)) }
@@ -16,7 +20,11 @@ pub fn print_word(out: &mut Vec<u8>, word: &[u8]) -> Result<(), AllocError>
     Ok(())
 }
 
-/// Writes a space and a number, in decimal, at the end of `out`. After want of memory a part of them may stand there.
+/// Writes a space and a number, in decimal, at the end of `out`.
+///
+/// # Errors
+///
+/// Out of memory. A part of the bytes may then be written.
 pub fn print_number(out: &mut Vec<u8>, number: u32) -> Result<(), AllocError>
     ensures ok { OnOk result (out.new.items ≡ out.old.items ++ spaced (decimal number)) }
     ensures err { OnErr result ((part : List ℕ) × (out.new.items ≡ out.old.items ++ part)) }

@@ -1,5 +1,5 @@
-//! What the test crates share: a worked bundle, and what is made of a text. What a text is made into is said by the
-//! readers below; here is only said what the next call asks for.
+//! The part that the test crates share: a worked bundle, and readers of texts. The contracts of the readers say only
+//! what the next call asks for.
 #![tactic(auto)]
 
 mod bundles;

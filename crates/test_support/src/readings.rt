@@ -1,4 +1,4 @@
-//! What is made of a text. Where a test is to go on only with all of it, it says `expect`.
+//! Readers of texts. A test that can go on only with all of the result uses `expect`.
 ghost use Rattle.std.specs.Prelude.{◌≡◌, true, IfOk};
 
 use certificate::{Job, read_certificate};
@@ -8,7 +8,9 @@ use section_text::{Feed, PortNames, ReadFault};
 use std::alloc::Global;
 use std::sync::Arc;
 
-/// A text that has ended. No test has one of more than 16 MiB, so that a piece is not taken is want of memory.
+/// Returns a feed of a text that has ended.
+///
+/// No test has a text of more than 16 MiB, so a piece that is not taken means out of memory.
 pub fn fed(alloc: Global, text: &[u8]) -> Result<Feed, ReadFault>
     ensures { IfOk result (λ feed. feed.closed ≡ true) }
 {
@@ -22,19 +24,19 @@ pub fn fed(alloc: Global, text: &[u8]) -> Result<Feed, ReadFault>
     }
 }
 
-/// The circuit with which a text begins.
+/// Reads the circuit with which a text begins.
 pub fn circuit_of(alloc: Global, text: &str) -> Result<Circuit, ReadFault> {
     let mut feed = fed(alloc, text.as_bytes())?;
     read_circuit(alloc, &mut feed)
 }
 
-/// The layout with which a text begins, whatever its ports are named.
+/// Reads the layout with which a text begins, whatever its ports are named.
 pub fn layout_of(alloc: Global, text: &[u8]) -> Result<Layout, ReadFault> {
     let mut feed = fed(alloc, text)?;
     read_layout(alloc, &mut feed, &PortNames::Any)
 }
 
-/// The two sections before a certificate.
+/// Reads the two sections before a certificate.
 pub fn sections(alloc: Global, feed: &mut Feed) -> Result<(Circuit, Layout), ReadFault>
     requires { feed.old.closed ≡ true }
     ensures { feed.new.closed ≡ true }
@@ -54,7 +56,7 @@ pub struct Work {
     pub jobs: Vec<Arc<Job>>,
 }
 
-/// What is to be done for a bundle.
+/// Reads a bundle and returns what must be done for it.
 pub fn work_of(alloc: Global, text: &str) -> Result<Work, ReadFault> {
     let mut feed = fed(alloc, text.as_bytes())?;
     let (circuit, layout) = sections(alloc, &mut feed)?;

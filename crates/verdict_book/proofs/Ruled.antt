@@ -9,9 +9,12 @@ use Rattle.audit_core.specs.Replay.{rule}
 use Rattle.audit_core.specs.declared.reply.Reply.{Reply}
 use Rattle.verdict_book.specs.Replies.{IsReplyOf}
 
-pub ruled_by : (b : BookView) (f : Finding) (r : Reply) (digest : List ℕ) (jobs : List JobState) → r ≡ reply_to b f → b.digest ≡ digest → b.jobs ≡ jobs → b.closed ≡ false → IsReplyOf digest jobs (digest_of f) (number_of f) (job_of f) r
+pub ruled_by : (b : BookView) (f : Finding) (r : Reply) (digest : List ℕ) (jobs : List JobState) → r ≡ reply_to b f →
+    b.digest ≡ digest → b.jobs ≡ jobs → b.closed ≡ false →
+    IsReplyOf digest jobs (digest_of f) (number_of f) (job_of f) r
 unfolding reply_to
 ruled_by b f r digest jobs is d j still = record {
   taken = is_some (found_in b (number_of f));
-  ruled = is ∙ (λ i. rule (d i) (length (j i)) (still i) (is_some (found_in b (number_of f))) (digest_of f) (number_of f) (is_job_of (j i) (number_of f) (job_of f)));
+  ruled = is ∙ (λ i. rule (d i) (length (j i)) (still i) (is_some (found_in b (number_of f))) (digest_of f)
+      (number_of f) (is_job_of (j i) (number_of f) (job_of f)));
 }

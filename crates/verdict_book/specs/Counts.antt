@@ -1,4 +1,4 @@
--- What a share counts
+-- The counts of a share
 use Rattle.std.specs.Prelude.{ℕ, ◌+◌}
 use Rattle.audit_core.specs.Book.{count_after}
 use Rattle.audit_core.specs.declared.reply.Reply.{Reply}
@@ -8,6 +8,7 @@ pub record Counts : Type 0 where
   pub filed : ℕ
   pub accepted : ℕ
 
+-- the counts of a share that was given no reply
 abbrev pub no_counts : Counts
 no_counts = record { filed = 0; accepted = 0 }
 

@@ -1,12 +1,13 @@
--- Which replies a finding may get
+-- The replies that a finding may get
 use Rattle.std.specs.Prelude.{◌≡◌, ℕ, Bool, false, List, length}
 use Rattle.module_job.specs.Jobs.{JobState}
 use Rattle.audit_core.specs.Book.{is_job_of}
 use Rattle.audit_core.specs.Replay.{rule}
 use Rattle.audit_core.specs.declared.reply.Reply.{Reply}
 
--- the reply of an open book with this digest and these jobs to a finding of another digest, number and job, where one is held for
--- the number already (`taken`) or not
-pub record IsReplyOf (own : List ℕ) (jobs : List JobState) (digest : List ℕ) (number : ℕ) (job : JobState) (reply : Reply) : Type 0 where
+-- The reply of an open book with this digest and these jobs to a finding of another digest, number and job. `taken`
+-- says whether one is held for the number already.
+pub record IsReplyOf (own : List ℕ) (jobs : List JobState) (digest : List ℕ) (number : ℕ) (job : JobState)
+    (reply : Reply) : Type 0 where
   pub taken : Bool
   pub ruled : reply ≡ rule own (length jobs) false taken digest number (is_job_of jobs number job)

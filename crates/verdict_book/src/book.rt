@@ -15,9 +15,10 @@ use std::marker::Model;
 use std::sync::ledger::{Blank, Ledger};
 use std::sync::{Mutex, Wait};
 
-/// A book that threads share, over a ledger `F` of filings and a ledger `A` of acceptances. Its shares name both, so a
-/// share of another book does not fit. `F` has the digest and the jobs of the book. Contracts see it as the number of
-/// its shares.
+/// A book that threads share, over a ledger `F` of filings and a ledger `A` of acceptances. Contracts see it as the
+/// number of its shares.
+///
+/// Its shares name both ledgers, so a share of another book does not fit. `F` has the digest and the jobs of the book.
 #[derive(Drop)]
 pub struct Book<F: Filings, A: Ledger> {
     pub(crate) kept: Mutex<Kept<F, A>>,
@@ -34,9 +35,14 @@ impl<F: Filings, A: Ledger> Model for Book<F, A> {
 }
 
 impl<F: Filings, A: Ledger> Book<F, A> {
-    /// Puts a state without history under a lock, with 1 to 64 shares, of which none has counted anything. Each blank
-    /// is its ledger's, and has as many parts; the digest and the jobs are those that `F` names. `AllocError` is want
-    /// of memory: all that was given is dropped.
+    /// Puts a state without history under a lock, with 1 to 64 shares, of which none has counted anything.
+    ///
+    /// Each blank is its ledger's, and has as many parts as there are shares. The digest and the jobs are those that
+    /// `F` names.
+    ///
+    /// # Errors
+    ///
+    /// Out of memory. All that was given is dropped.
     pub fn open(
         alloc: Global,
         f: Blank,
@@ -69,18 +75,21 @@ impl<F: Filings, A: Ledger> Book<F, A> {
         Ok((book, parts))
     }
 
-    /// The digest that the book is for.
+    /// Returns the digest that the book is for.
     pub fn digest(&self) -> [u8; 32]
         ensures { result ≡ F.digest }
     {
         self.digest
     }
 
-    /// Files a finding, in one turn under the lock, for which it may wait. The reply is what the finding's digest,
-    /// number and job say beside those of the book: where all agree, `Accepted` or `Double` of its number. The share
-    /// counts it.
+    /// Files a finding, in one turn under the lock, for which it may wait. The share counts the reply.
     ///
-    /// `NotFiled` is want of memory: the finding comes back, and the share is as before.
+    /// The reply compares the finding's digest, number and job with those of the book. If all agree, it is `Accepted`
+    /// or `Double` of its number.
+    ///
+    /// # Errors
+    ///
+    /// `NotFiled` if the book is out of memory. The finding then comes back, and the share is as before.
     pub fn file<R: Wait>(
         &self,
         rt: &R,

@@ -26,10 +26,11 @@ pub struct NotAll<F: Filings, A: Ledger> {
     pub shares: Vec<Share<F, A>>,
 }
 
-/// Takes a book out of its lock, and adds up what all its shares counted.
+/// Takes a book out of its lock, and adds up what all its shares counted. It takes no memory.
 ///
-/// `NotAll` says that a share is missing: it is tested before any is joined, and all that was given comes back. Takes
-/// no memory.
+/// # Errors
+///
+/// `NotAll` if a share is missing. This is tested before any is joined, and all that was given comes back.
 pub fn gather<F: Filings, A: Ledger>(
     book: Book<F, A>,
     shares: Vec<Share<F, A>>,

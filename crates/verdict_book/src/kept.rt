@@ -1,4 +1,4 @@
-//! What lies under the lock.
+//! The value under the lock.
 ghost use Rattle.std.specs.Prelude.{◌≡◌, ◌≢◌, ◌<◌, ◌≤◌, false, [], length, sum_by, vec_len, IfErr, IfOk, OnErr, OnOk};
 ghost use Rattle.audit_core.specs.Book.{IsReplayed, accepted_in, after_filing, reply_to};
 ghost use Rattle.audit_core.specs.Replay.{has_closing};
@@ -12,11 +12,11 @@ use local_run::Finding;
 use std::sync::ledger;
 use std::sync::ledger::Ledger;
 
-/// An open book, and the two ledgers: one has the length of its history for its total, the other how many findings it
-/// holds.
+/// An open book, and its two ledgers.
 ///
-/// By the type of the book its history replays to it, and each finding that it holds is honest. By this type the
-/// history has no closing entry.
+/// One ledger has the length of the book's history for its total. The other has how many findings the book holds. By
+/// the type of the book its history replays to it, and each finding that it holds is honest. By this type the history
+/// has no closing entry.
 #[derive(Drop)]
 pub struct Kept<F: Filings, A: Ledger> {
     pub(crate) state: BookState,
@@ -54,7 +54,7 @@ impl<F: Filings, A: Ledger> Kept<F, A> {
         }
     }
 
-    /// One turn under the lock.
+    /// Files a finding, in one turn under the lock.
     pub(crate) fn file(
         &mut self,
         mine: &mut Share<F, A>,
@@ -94,7 +94,7 @@ impl<F: Filings, A: Ledger> Kept<F, A> {
         Ok(reply)
     }
 
-    /// What all shares counted, with the book.
+    /// Returns what all shares counted, with the book.
     pub(crate) fn total(self, mut shares: Vec<Share<F, A>>) -> Gathered
         requires filings { (0 < F.parts) × (F.parts ≤ vec_len shares) }
         requires acceptances { (0 < A.parts) × (A.parts ≤ vec_len shares) }

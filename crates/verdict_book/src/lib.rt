@@ -1,8 +1,9 @@
 //! A book that threads share under a lock, and the shares by which they file into it.
 //!
-//! Whenever the lock is taken, the history of the book replays to it and has no closing entry, and its digest and its
-//! jobs are those that its ledger of filings names, by the type of what lies there (`src/kept.rt`). Each share counts
-//! its replies; two ledgers tie these counts to the history, so that `gather` can tell that none is missing.
+//! Whenever a thread takes the lock, the history of the book replays to it and has no closing entry. The digest and the
+//! jobs of the book are those that its ledger of filings names. The type of the value under the lock has this
+//! (`src/kept.rt`). Each share counts its replies. Two ledgers tie these counts to the history, so that `gather` can
+//! check that no share is missing.
 #![tactic(auto)]
 
 mod book;

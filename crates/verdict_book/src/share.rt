@@ -6,8 +6,9 @@ use std::marker::Model;
 use std::sync::ledger;
 use std::sync::ledger::Ledger;
 
-/// One part of a book's two ledgers. It counts the replies to what was filed by it, and those of them that were
-/// `Accepted`. Contracts see it as these `Counts`.
+/// A part of a book's two ledgers. Contracts see it as its `Counts`.
+///
+/// It counts the replies to what was filed by it, and those of them that were `Accepted`.
 #[derive(Drop)]
 pub struct Share<F: Ledger, A: Ledger> {
     pub(crate) filed: u64,
@@ -28,7 +29,7 @@ impl<F: Ledger, A: Ledger> Model for Share<F, A> {
 }
 
 impl<F: Ledger, A: Ledger> Share<F, A> {
-    /// A share that counted nothing.
+    /// Creates a share that counted nothing.
     pub(crate) fn new(filings: ledger::Share<F>, acceptances: ledger::Share<A>) -> Share<F, A>
         requires filings { (filings.parts ≡ 1) × (filings.amount ≡ 0) }
         requires acceptances { (acceptances.parts ≡ 1) × (acceptances.amount ≡ 0) }
@@ -42,14 +43,14 @@ impl<F: Ledger, A: Ledger> Share<F, A> {
         }
     }
 
-    /// How many replies it was given.
+    /// Returns how many replies the share was given.
     pub fn filed(&self) -> u64
         ensures { result ≡ self.now.filed }
     {
         self.filed
     }
 
-    /// How many of them were `Accepted`.
+    /// Returns how many of the replies were `Accepted`.
     pub fn accepted(&self) -> u64
         ensures { result ≡ self.now.accepted }
     {

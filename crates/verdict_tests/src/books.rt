@@ -1,8 +1,8 @@
 //! Findings of worked bundles, filed in turn in a book with its history. The replies and the entries were worked out by
 //! hand.
 //!
-//! What finds no memory is tried once more: so each growth can be refused in turn (`rt try --test --fail-alloc N`), and
-//! the sequences are still to end as they should.
+//! A call that finds no memory is made once more. So each growth can be refused in turn (`rt try --test --fail-alloc
+//! N`), and the sequences must still end as they should.
 
 use audit_core::*;
 use certificate::Job;
@@ -12,8 +12,9 @@ use std::process::Abort;
 use std::sync::Arc;
 use test_support::{ALONE, GOOD, Work, work_of};
 
-/// The finding of the job at a place of the list, under a digest and a number: that of the second run, if no memory was
-/// found for the first.
+/// Returns the finding of the job at a place of the list, under a digest and a number.
+///
+/// It is that of the second run, if no memory was found for the first.
 pub(crate) fn finding(
     rt: &impl Abort,
     alloc: Global,
@@ -34,7 +35,7 @@ pub(crate) fn finding(
     }
 }
 
-/// The reply to a finding, which is filed: a second time, if no memory was found for the first.
+/// Files a finding and returns the reply: a second time, if no memory was found for the first.
 fn reply(rt: &impl Abort, book: &mut BookState, finding: Finding) -> Reply {
     let before = (book.history().len(), book.accepted());
     let finding = match book.file(finding) {
@@ -55,7 +56,7 @@ fn last_entry(book: &BookState) -> Option<Entry> {
     book.history().last().copied()
 }
 
-/// Whose digest or job it is.
+/// The owner of a digest or a job.
 #[derive(Clone, Copy)]
 enum Of {
     /// The book's certificate.
@@ -160,7 +161,7 @@ const TURNS: [Turn; 15] = [
     ),
 ];
 
-/// What was filed last is told with this reply, this entry and this count.
+/// Returns whether the last filing has this reply, this entry and this count.
 fn is_told(book: &BookState, told: Reply, entry: Filing, held: usize) -> bool {
     let last = Some(Entry::Filed(entry));
     told == entry.reply && last_entry(book) == last && book.accepted() == held
@@ -181,13 +182,13 @@ fn play(rt: &impl Abort, alloc: Global, works: &Works, book: &mut BookState, tur
     is_told(book, told, entry, held)
 }
 
-/// An open book of the four modules, in which nothing is held.
+/// Returns an open book of the four modules, in which nothing is held.
 fn book_of_four(rt: &impl Abort, alloc: Global) -> BookState {
     let Work { digest, jobs } = work_of(alloc, GOOD).expect(rt, "work");
     BookState::new(alloc, digest, jobs).expect(rt, "a book")
 }
 
-/// A book has this many entries, and is closed or not.
+/// Returns whether a book has this many entries, and is closed or not as `closed` says.
 fn is_at(book: &BookState, entries: usize, closed: bool) -> bool {
     book.history().len() == entries && book.is_closed() == closed
 }
@@ -222,7 +223,7 @@ fn book_with_its_history(rt: HostRuntime) {
     assert!(rt; is_at(&book, 17, true));
 }
 
-/// What a book holds for a number is the finding of that number, which has no fault.
+/// Returns whether the book holds for a number the finding of that number, which has no fault.
 fn holds(book: &BookState, number: usize) -> bool {
     match book.found(number) {
         Some(held) => held.number() == number && held.fault().is_none(),

@@ -1,5 +1,5 @@
-//! A circuit that is printed and asked for its gates and ports, and a draft that is finished too early. What is
-//! expected was worked out by hand from the format.
+//! A circuit that is printed and asked for its gates and ports, and a draft that is finished too early. The expected
+//! results were worked out by hand from the format.
 
 use circuit::*;
 use section_text::{LineFault, Name, PortNames};
@@ -28,7 +28,7 @@ spill o
 end
 ";
 
-/// The wires of gate 3, which is the switch.
+/// Returns whether these are the wires of gate 3, which is the switch.
 fn is_the_switch(circuit: &Circuit) -> bool {
     if circuit.gates() <= 3 {
         return false;
@@ -68,7 +68,7 @@ fn name(rt: &impl Abort, word: &[u8]) -> Name {
     Name::of(word).expect(rt, "a name")
 }
 
-/// An input, a source, and an output of the input.
+/// Returns an input, a source, and an output of the input.
 fn lines(rt: &impl Abort, alloc: Global) -> Draft {
     let (p, q) = (name(rt, b"p"), name(rt, b"q"));
     let mut draft = Draft::new(alloc);
@@ -78,7 +78,7 @@ fn lines(rt: &impl Abort, alloc: Global) -> Draft {
     draft
 }
 
-/// Whether a draft is finished with a wire that is spilled.
+/// Returns whether a draft is finished with a wire that is spilled.
 fn is_finished_by_spilling(mut draft: Draft, wire: Name) -> bool {
     draft.add_spill(wire).is_ok() && draft.finish().is_ok()
 }
@@ -151,7 +151,9 @@ fn add(rt: &impl Abort, draft: &mut Draft, line: Added) {
     }
 }
 
-/// Whether the draft is the circuit of `ADDED_TEXT`. It is printed a second time, if no memory was found for the first.
+/// Returns whether the draft is the circuit of `ADDED_TEXT`.
+///
+/// It is printed a second time, if no memory was found for the first.
 fn is_what_was_added(rt: &impl Abort, alloc: Global, draft: Draft) -> bool {
     let Ok(circuit) = draft.finish() else {
         return false;
@@ -163,7 +165,7 @@ fn is_what_was_added(rt: &impl Abort, alloc: Global, draft: Draft) -> bool {
     printed.expect(rt, "a text").as_slice() == ADDED_TEXT.as_bytes()
 }
 
-/// Made to be run with each growth of memory refused in turn.
+/// Adds lines. It is made to be run with each growth of memory refused in turn.
 #[test]
 fn lines_added_at_the_second_try(rt: HostRuntime) {
     let mut draft = Draft::new(rt.alloc());

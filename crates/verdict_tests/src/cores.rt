@@ -1,7 +1,7 @@
 //! A worked sequence of the core. The answers and the entries were worked out by hand.
 //!
-//! What finds no memory is tried once more: so each growth can be refused in turn (`rt try --test --fail-alloc N`), and
-//! the sequence is still to end as it should.
+//! A call that finds no memory is made once more. So each growth can be refused in turn (`rt try --test --fail-alloc
+//! N`), and the sequence must still end as it should.
 
 use crate::books::finding;
 use crate::verdicts::is_missing;
@@ -10,7 +10,7 @@ use std::alloc::Global;
 use std::process::Abort;
 use test_support::{GOOD, Work, work_of};
 
-/// What the core answers to an event of one of its seats.
+/// Returns the core's answer to an event of one of its seats.
 fn happen(rt: &impl Abort, core: &mut Core, event: Event) -> Result<Answer, NotApplied> {
     match event {
         Event::Claim(seat) => {
@@ -22,7 +22,7 @@ fn happen(rt: &impl Abort, core: &mut Core, event: Event) -> Result<Answer, NotA
     }
 }
 
-/// What the core answers to an event: at the second time, if no memory was found at the first.
+/// Returns the core's answer to an event: the second one, if no memory was found at the first.
 fn answer(rt: &impl Abort, core: &mut Core, event: Event) -> Answer {
     let before = (core.next(), core.book().history().len());
     let event = match happen(rt, core, event) {
@@ -39,7 +39,7 @@ fn answer(rt: &impl Abort, core: &mut Core, event: Event) -> Answer {
     }
 }
 
-/// What happens to the core.
+/// A step of the core.
 #[derive(Clone, Copy)]
 enum Step {
     Claim(usize),
@@ -58,7 +58,7 @@ fn event_of(rt: &impl Abort, alloc: Global, work: &Work, step: Step) -> Event {
     }
 }
 
-/// What happens to a core of two seats for four jobs, with the answers.
+/// The steps of a core of two seats for four jobs, with the answers.
 const STEPS: [(Step, Answer); 11] = [
     (Step::Claim(0), Answer::Number(0)),
     (Step::Claim(1), Answer::Number(1)),
@@ -73,13 +73,13 @@ const STEPS: [(Step, Answer); 11] = [
     (Step::File(0), Answer::Reply(Reply::Accepted)),
 ];
 
-/// A core of two seats for this work.
+/// Returns a core of two seats for this work.
 fn new_core(rt: &impl Abort, alloc: Global, work: Work) -> Core {
     assert!(rt; work.jobs.len() <= 1024, "too many jobs");
     Core::new(alloc, work.digest, work.jobs, 2).expect(rt, "a core")
 }
 
-/// The core of two seats to which all of this happened.
+/// Returns the core of two seats to which all of this happened.
 fn played(rt: &impl Abort, alloc: Global, work: &Work) -> Core {
     let mut core = new_core(rt, alloc, work_of(alloc, GOOD).expect(rt, "work"));
     for (number, (step, wanted)) in STEPS.iter().enumerate() {
@@ -89,7 +89,7 @@ fn played(rt: &impl Abort, alloc: Global, work: &Work) -> Core {
     core
 }
 
-/// The entry of a filing.
+/// Returns the entry of a filing.
 fn filed(digest: [u8; 32], number: usize, reply: Reply) -> Entry {
     Entry::Filed(Filing {
         digest,
@@ -99,7 +99,7 @@ fn filed(digest: [u8; 32], number: usize, reply: Reply) -> Entry {
     })
 }
 
-/// Whether the history has the three filings alone.
+/// Returns whether the history has the three filings alone.
 fn are_filings(history: &[Entry], digest: [u8; 32]) -> bool {
     let filings = [
         filed(digest, 1, Reply::Accepted),

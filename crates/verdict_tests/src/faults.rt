@@ -25,7 +25,7 @@ fn fault(place: usize) -> Option<Fault> {
     })
 }
 
-/// The order of the faults at two places.
+/// Returns the order of the faults at two places.
 fn order(place: usize, other: usize) -> Option<Ordering> {
     Some(fault(place)?.compare(fault(other)?))
 }

@@ -1,7 +1,7 @@
 //! Books that are filled up. The entries were worked out by hand.
 //!
-//! What finds no memory is tried once more: so each growth can be refused in turn (`rt try --test --fail-alloc N`), and
-//! the books are still to be full in the end.
+//! A call that finds no memory is made once more. So each growth can be refused in turn (`rt try --test --fail-alloc
+//! N`), and the books must still be full in the end.
 
 use crate::verdicts::{book_of, is_yes};
 use audit_core::*;
@@ -9,8 +9,9 @@ use std::alloc::Global;
 use std::process::Abort;
 use test_support::{ALONE, GOOD, Work, work_of};
 
-/// Fills a book up: at the second time, if no memory was found at the first. Then no entry is lost of a book that is
-/// not replaced, which has so many.
+/// Fills a book up: by the second call, if no memory was found at the first.
+///
+/// A book that is not replaced, and has `entries` entries, then loses none.
 fn fill_up(rt: &impl Abort, alloc: Global, book: &mut BookState, work: &Work, entries: usize) {
     if fill(alloc, book, work.digest, &work.jobs).is_ok() {
         return;
@@ -22,7 +23,7 @@ fn fill_up(rt: &impl Abort, alloc: Global, book: &mut BookState, work: &Work, en
     );
 }
 
-/// The entry of a finding that was accepted.
+/// Returns the entry of a finding that was accepted.
 fn accepted(digest: [u8; 32], number: usize) -> Entry {
     Entry::Filed(Filing {
         digest,
@@ -32,7 +33,8 @@ fn accepted(digest: [u8; 32], number: usize) -> Entry {
     })
 }
 
-/// Whether findings of these numbers were accepted in this order, and nothing else was filed, in a book that is open.
+/// Returns whether findings of these numbers were accepted in this order, in a book that is open, and nothing else was
+/// filed.
 fn was_filled(book: &BookState, digest: [u8; 32], numbers: &[usize]) -> bool {
     if book.is_closed()
         || book.accepted() != numbers.len()
@@ -48,7 +50,7 @@ fn was_filled(book: &BookState, digest: [u8; 32], numbers: &[usize]) -> bool {
     true
 }
 
-/// The work on the four modules.
+/// Returns the work on the four modules.
 fn work_of_four(rt: &impl Abort, alloc: Global) -> Work {
     work_of(alloc, GOOD).expect(rt, "work")
 }
@@ -73,7 +75,7 @@ fn fills_up_in_place_of_a_closed_book(rt: HostRuntime) {
     assert!(rt; was_filled(&book, work.digest, &[0, 1, 2, 3]));
 }
 
-/// The other book has another digest, or another job 0 under the same digest.
+/// Fills a book up in place of another one, which has another digest, or another job 0 under the same digest.
 #[test]
 fn fills_up_in_place_of_another_book(rt: HostRuntime) {
     let work = work_of_four(&rt, rt.alloc());

@@ -1,4 +1,4 @@
-//! Jobs of modules. What is expected was worked out by hand from the lines.
+//! Jobs of modules. The expected results were worked out by hand from the lines.
 
 ghost use Rattle.module_box.specs.Moves.{IsNear};
 
@@ -9,8 +9,10 @@ use std::alloc::{AllocError, Global};
 use std::sync::Arc;
 use test_support::{GOOD, work_of};
 
-/// The corner of a module's box, the cell of its ports, what is there at the start and to be there at the end, and what
-/// the cells (3, 3) and (4, 4) carry at time 1, as edge and as halo.
+/// The corner of a module's box, the cell of its ports, and the contents of the cells.
+///
+/// The contents are what is there at the start and what must be there at the end. Last comes what the cells (3, 3) and
+/// (4, 4) carry at time 1, as edge and as halo.
 type Quarter = (
     (u32, u32),
     (i32, i32),
@@ -35,12 +37,12 @@ const P: Signal = Signal::Wire(0);
 
 const Q: Signal = Signal::Wire(1);
 
-/// Whether a cell starts and ends like this.
+/// Returns whether a cell starts and ends like this.
 fn is_at(job: &Job, cell: Cell, start: Signal, demand: Demand) -> bool {
     job.start(cell) == start && job.demand(cell) == demand
 }
 
-/// Whether of 8 by 8 cells one starts and ends like this, and the others are dead.
+/// Returns whether one of 8 by 8 cells starts and ends like this, and the others are dead.
 fn is_only_port(job: &Job, port: Cell, start: Signal, demand: Demand) -> bool {
     for y in 0..8 {
         for x in 0..8 {
@@ -53,14 +55,14 @@ fn is_only_port(job: &Job, port: Cell, start: Signal, demand: Demand) -> bool {
     is_at(job, port, start, demand)
 }
 
-/// Whether a cell carries this at a time, as edge and as halo.
+/// Returns whether a cell carries this at a time, as edge and as halo.
 fn has_borders(job: &Job, time: u32, cell: Cell, edge: Signal, halo: Signal) -> bool
     requires { IsNear cell }
 {
     job.edge(time, cell) == edge && job.halo(time, cell) == halo
 }
 
-/// Whether the cells (3, 3) and (4, 4) carry this at time 1, and nothing at time 3.
+/// Returns whether the cells (3, 3) and (4, 4) carry this at time 1, and nothing at time 3.
 fn carries(job: &Job, edges: [Signal; 2], halos: [Signal; 2]) -> bool {
     let first = Cell { x: 3, y: 3 };
     let second = Cell { x: 4, y: 4 };
@@ -70,7 +72,8 @@ fn carries(job: &Job, edges: [Signal; 2], halos: [Signal; 2]) -> bool {
         && has_borders(job, 3, second, ZERO, ZERO)
 }
 
-/// Whether a job is of three steps in a box of 4 by 4 cells, with six wires of which two are cut, and has the rest.
+/// Returns whether a job is of three steps in a box of 4 by 4 cells, with six wires of which two are cut, and has the
+/// rest.
 fn is_quarter(job: &Job, wanted: &Quarter) -> bool {
     let ((x, y), (column, row), start, demand, edges, halos) = *wanted;
     let port = Cell { x: column, y: row };
@@ -82,7 +85,7 @@ fn is_quarter(job: &Job, wanted: &Quarter) -> bool {
         && carries(job, edges, halos)
 }
 
-/// Whether jobs at the same place are equal, and no others.
+/// Returns whether jobs at the same place are equal, and no others.
 fn are_compared(jobs: &[Arc<Job>], again: &[Arc<Job>]) -> bool {
     for (number, job) in jobs.iter().enumerate() {
         for (other, second) in again.iter().enumerate() {
@@ -148,7 +151,7 @@ fn jobs_of_one_shape(rt: HostRuntime) {
     }
 }
 
-/// The shapes of jobs.
+/// Returns the shapes of jobs.
 fn shapes(alloc: Global, jobs: &[Arc<Job>]) -> Result<Vec<Arc<Shape>>, AllocError> {
     let mut shapes = Vec::with_capacity(alloc, jobs.len())?;
     for job in jobs {
@@ -157,7 +160,7 @@ fn shapes(alloc: Global, jobs: &[Arc<Job>]) -> Result<Vec<Arc<Shape>>, AllocErro
     Ok(shapes)
 }
 
-/// The groups of shapes where each is given this key.
+/// Returns the groups of shapes if each is given this key.
 fn groups_of_one_key(
     alloc: Global,
     shapes: &[Arc<Shape>],

@@ -1,4 +1,5 @@
-//! Layouts that are printed, and their cells at the start. What is expected was worked out by hand from the format.
+//! Layouts that are printed, and their cells at the start. The expected results were worked out by hand from the
+//! format.
 
 use bbm_rule::Cell;
 use pattern::*;
@@ -16,14 +17,14 @@ const TEXTS: [&str; 5] = [
     "layout 2 2 1\nin a_name_of_thirty_two_bytes_01234 0 0\nend\n",
 ];
 
-/// Whether a text is printed as it was read.
+/// Returns whether a text is printed as it was read.
 fn is_reprinted(rt: &impl Abort, alloc: Global, text: &[u8]) -> bool {
     let layout = layout_of(alloc, text).expect(rt, "a layout");
     let printed = print_layout(alloc, &layout).expect(rt, "a text");
     printed.as_slice() == text
 }
 
-/// A text whose balls fill the upper half of a layout.
+/// Returns a text whose balls fill the upper half of a layout.
 fn half_full(alloc: Global) -> Result<Vec<u8>, AllocError> {
     let mut text = format!(in alloc; "layout 512 512 0\n")?;
     for place in 0..131_072_u32 {
@@ -76,7 +77,7 @@ fn names(rt: &impl Abort, alloc: Global, words: &[&[u8]]) -> Vec<Name> {
     names
 }
 
-/// Whether these are the cells.
+/// Returns whether these are the cells.
 fn are_cells(cells: &[Cell], wanted: &[(i32, i32)]) -> bool {
     cells
         .iter()

@@ -1,5 +1,5 @@
-//! The tests of the crates from `bbm_rule` to `report`, of what no command shows. They stand apart, since a crate with
-//! tests is proved twice.
+//! The tests of the crates from `bbm_rule` to `report`, of what no command shows. They have their own crate, since a
+//! crate with tests is proved twice.
 #![tactic(auto)]
 
 #[cfg(test)]

@@ -1,4 +1,4 @@
-//! The wires of a module and their values. What is expected follows by the gates' tables.
+//! The wires of a module and their values. The expected results follow from the gates' tables.
 
 ghost use Rattle.std.specs.Prelude.{◌<◌, ◌≤◌};
 

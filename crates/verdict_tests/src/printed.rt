@@ -1,4 +1,4 @@
-//! What a bundle was read as prints its text again.
+//! Bundles that print their text again.
 
 use certificate::{print_certificate, read_certificate};
 use circuit::print_circuit;

@@ -28,7 +28,7 @@ fn local(kind: Kind, time: u32, x: i32, y: i32, assignment: u32) -> ReportLine {
     }
 }
 
-/// A no with these lines, which no bundle has.
+/// Returns a no with these lines, which no bundle has.
 fn verdict(alloc: Global) -> Result<Verdict, AllocError> {
     let border = ReportLine::Border {
         module: 1023,

@@ -1,4 +1,4 @@
-//! What a cell carries at a time, and equal schedules.
+//! Signals of cells at times, and equal schedules.
 
 use bbm_rule::Cell;
 use module_box::{Event, Held, Moment, Schedule, Signal};
@@ -24,7 +24,7 @@ const HELD: Cell = Cell { x: 4, y: 1 };
 
 const APART: Cell = Cell { x: 5, y: 1 };
 
-/// What the cells of a schedule with an event at (5, 1) and time 3 carry.
+/// The signals of the cells of a schedule with an event at (5, 1) and time 3.
 const CARRIED: [(u32, i32, i32, Signal); 7] = [
     (3, 4, 1, Signal::Wire(7)),
     (0, 4, 1, Signal::Wire(7)),

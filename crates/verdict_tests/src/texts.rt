@@ -1,4 +1,4 @@
-//! Lines, words, numbers and names. What is expected was worked out by hand from the format.
+//! Lines, words, numbers and names. The expected results were worked out by hand from the format.
 ghost use Rattle.std.specs.Prelude.{◌≡◌, true, false};
 ghost use Rattle.section_text.specs.FeedState.{IsLine};
 
@@ -21,7 +21,7 @@ fn add(rt: &impl Abort, feed: &mut Feed, piece: &[u8])
     assert!(rt; feed.push(piece).is_ok(), "no memory at the second try");
 }
 
-/// A text that has ended, in pieces of three bytes.
+/// Returns a text that has ended, in pieces of three bytes.
 fn fed(rt: &impl Abort, alloc: Global, text: &[u8]) -> Feed
     ensures { result.closed ≡ true }
 {

@@ -10,7 +10,7 @@ use std::alloc::Global;
 use std::process::Abort;
 use test_support::{ALONE, GOOD, fed, sections, work_of};
 
-/// The conclusion on a certificate, at the second time if no memory was found at the first.
+/// Returns the conclusion on a certificate: the second one, if no memory was found at the first.
 fn concluded(
     rt: &impl Abort,
     alloc: Global,
@@ -25,7 +25,7 @@ fn concluded(
     }
 }
 
-/// The conclusion on a bundle's certificate, by a book.
+/// Returns the conclusion on a bundle's certificate, by a book.
 fn conclusion(
     rt: &impl Abort,
     alloc: Global,
@@ -42,7 +42,7 @@ fn conclusion(
 /// A digest that is none of a text.
 const DIGEST: [u8; 32] = [7; 32];
 
-/// A book of a bundle's jobs under a digest, in which the findings of these numbers are filed in this order.
+/// Returns a book of a bundle's jobs under a digest, in which the findings of these numbers are filed in this order.
 pub(crate) fn book_of(
     rt: &impl Abort,
     alloc: Global,
@@ -60,7 +60,7 @@ pub(crate) fn book_of(
     book
 }
 
-/// Whether this is a no with these lines, or a yes where there are none.
+/// Returns whether this is a no with these lines, or a yes if there are none.
 fn is_verdict(found: &Result<Verdict, Unfinished>, lines: &[ReportLine]) -> bool {
     match found {
         Ok(Verdict::Yes) => lines.is_empty(),
@@ -69,7 +69,7 @@ fn is_verdict(found: &Result<Verdict, Unfinished>, lines: &[ReportLine]) -> bool
     }
 }
 
-/// Whether a book concludes with a yes on a bundle's certificate.
+/// Returns whether a book concludes with a yes on a bundle's certificate.
 pub(crate) fn is_yes(rt: &impl Abort, alloc: Global, text: &str, book: &BookState) -> bool {
     is_verdict(&conclusion(rt, alloc, text, book), &[])
 }
@@ -145,7 +145,7 @@ const MISSING: [(&str, &[usize], usize); 3] = [
     (ALONE, &[0, 1, 2, 3], 0),
 ];
 
-/// Whether the first module without a finding is this one, in the verdict on the four modules by a book.
+/// Returns whether the first module without a finding is this one, in the verdict on the four modules by a book.
 pub(crate) fn is_missing(rt: &impl Abort, alloc: Global, book: &BookState, number: usize) -> bool {
     conclusion(rt, alloc, GOOD, book) == Err(Unfinished::Missing(number))
 }

@@ -1,5 +1,5 @@
-//! Puts the command lines of its files of cases, in the folder where this runs, through the program over memory.
-//! Prints a line for each case that does not hold, and how many of each file held. The status is 0 where all did.
+//! Puts the command lines of its files of cases, in the folder where it runs, through the program over memory.
+//! Prints a line for each case that does not hold, and how many of each file held. The status is 0 if all did.
 //!
 //! `case_text` says what such a file looks like.
 #![tactic(auto)]

@@ -7,7 +7,7 @@ use std::fmt;
 use std::sync::Wait;
 use std::thread::Threads;
 
-/// What a case does that it must not do.
+/// A difference between what a case does and what it must do.
 #[derive(Drop)]
 pub enum Difference {
     Status { wanted: u8, got: u8 },
@@ -31,7 +31,7 @@ impl fmt::Display for Difference {
     }
 }
 
-/// The first thing in which a case does not hold.
+/// Returns the first difference of a case, if there is one.
 pub fn difference_of<R: Threads + Wait + Sync>(
     rt: &R,
     alloc: Global,

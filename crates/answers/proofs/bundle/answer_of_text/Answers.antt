@@ -3,41 +3,72 @@ use Rattle.std.proofs.lemmas.Result.{IfOk-weaker}
 use Rattle.section_text.specs.Ports.{named_ports}
 use Rattle.answers.specs.Questions.{says_of}
 use Rattle.answers.specs.BundleText.{bundle_of}
-use Rattle.answers.proofs.Bundles.{bundle_answers, bundle_goes_on, bundle_read, certificate_failed, circuit_failed, going_3, layout_failed, refusal_answers}
+use Rattle.answers.proofs.Bundles.{bundle_answers, bundle_goes_on, bundle_read, certificate_failed, circuit_failed}
+use Rattle.answers.proofs.Bundles.{going_3, layout_failed, refusal_answers}
 use Rattle.answers.proofs.bundle.answer_of_text.Goals as goal
 
 pub returns-in-Err : goal.returns-in-Err
 returns-in-Err c =
-    let fails = circuit_failed c.args.text.now c.read_circuit.new.feed c.requires.unread c.requires.going c.in-Err.fault c.in-Err.ensures in
-    IfOk-weaker c.refused.result _ _ (λ answered told. refusal_answers (says_of c.args.question) (bundle_of c.args.text.now.text) c.in-Err.fault answered.output.items answered.outcome fails told) c.refused.ensures.told
+    let fails = circuit_failed c.args.text.now c.read_circuit.new.feed c.requires.unread c.requires.going c.in-Err.fault
+    c.in-Err.ensures in
+    IfOk-weaker c.refused.result _ _
+    (λ answered told. refusal_answers (says_of c.args.question)
+    (bundle_of c.args.text.now.text) c.in-Err.fault answered.output.items answered.outcome fails told)
+    c.refused.ensures.told
 
 pub returns-in-Err-read_layout : goal.returns-in-Err-read_layout
 returns-in-Err-read_layout c =
-    let fails = layout_failed c.args.text.now c.read_circuit.new.feed c.requires.unread c.requires.going c.in-Ok.circuit c.in-Ok.ensures (named_ports c.in-Ok-port_names.ports) c.read_layout.new.feed c.in-Ok-port_names.ensures.ports
+    let fails = layout_failed c.args.text.now c.read_circuit.new.feed c.requires.unread c.requires.going c.in-Ok.circuit
+    c.in-Ok.ensures (named_ports c.in-Ok-port_names.ports) c.read_layout.new.feed c.in-Ok-port_names.ensures.ports
     c.in-Err-read_layout.fault c.in-Err-read_layout.ensures.reads in
-    IfOk-weaker c.refused-in-Err-read_layout.result _ _ (λ answered told. refusal_answers (says_of c.args.question) (bundle_of c.args.text.now.text) c.in-Err-read_layout.fault answered.output.items answered.outcome fails told) c.refused-in-Err-read_layout.ensures.told
+    IfOk-weaker c.refused-in-Err-read_layout.result _ _
+    (λ answered told. refusal_answers (says_of c.args.question)
+    (bundle_of c.args.text.now.text) c.in-Err-read_layout.fault answered.output.items answered.outcome fails told)
+    c.refused-in-Err-read_layout.ensures.told
 
 pub returns-in-Err-read_certificate : goal.returns-in-Err-read_certificate
 returns-in-Err-read_certificate c =
-    let fails = certificate_failed c.args.text.now c.read_circuit.new.feed c.requires.unread c.requires.going c.in-Ok.circuit c.in-Ok.ensures (named_ports c.in-Ok-port_names.ports) c.read_layout.new.feed c.in-Ok-port_names.ensures.ports
-    c.in-Ok-read_layout.layout c.in-Ok-read_layout.ensures.reads c.read_certificate.new.feed c.in-Err-read_certificate.fault c.in-Err-read_certificate.ensures.reads in
-    IfOk-weaker c.refused-in-Err-read_certificate.result _ _ (λ answered told. refusal_answers (says_of c.args.question) (bundle_of c.args.text.now.text) c.in-Err-read_certificate.fault answered.output.items answered.outcome fails told) c.refused-in-Err-read_certificate.ensures.told
+    let fails = certificate_failed c.args.text.now c.read_circuit.new.feed c.requires.unread c.requires.going
+    c.in-Ok.circuit c.in-Ok.ensures
+    (named_ports c.in-Ok-port_names.ports) c.read_layout.new.feed c.in-Ok-port_names.ensures.ports
+    c.in-Ok-read_layout.layout c.in-Ok-read_layout.ensures.reads c.read_certificate.new.feed
+    c.in-Err-read_certificate.fault c.in-Err-read_certificate.ensures.reads in
+    IfOk-weaker c.refused-in-Err-read_certificate.result _ _
+    (λ answered told. refusal_answers (says_of c.args.question)
+    (bundle_of c.args.text.now.text) c.in-Err-read_certificate.fault answered.output.items answered.outcome fails told)
+    c.refused-in-Err-read_certificate.ensures.told
 
 pub returns-in-Err-finish : goal.returns-in-Err-finish
 returns-in-Err-finish c =
-    let going = going_3 c.args.text.now c.read_circuit.new.feed c.requires.unread c.requires.going c.in-Ok.circuit c.in-Ok.ensures (named_ports c.in-Ok-port_names.ports) c.read_layout.new.feed c.in-Ok-port_names.ensures.ports
-    c.in-Ok-read_layout.layout c.in-Ok-read_layout.ensures.reads c.read_certificate.new.feed c.in-Ok-read_certificate.cert c.in-Ok-read_certificate.ensures.reads in
-    let fails = bundle_goes_on c.args.text.now c.read_circuit.new.feed c.requires.unread c.requires.going c.in-Ok.circuit c.in-Ok.ensures (named_ports c.in-Ok-port_names.ports) c.read_layout.new.feed c.in-Ok-port_names.ensures.ports
-    c.in-Ok-read_layout.layout c.in-Ok-read_layout.ensures.reads c.read_certificate.new.feed c.in-Ok-read_certificate.cert c.in-Ok-read_certificate.ensures.reads
+    let going = going_3 c.args.text.now c.read_circuit.new.feed c.requires.unread c.requires.going c.in-Ok.circuit
+    c.in-Ok.ensures (named_ports c.in-Ok-port_names.ports) c.read_layout.new.feed c.in-Ok-port_names.ensures.ports
+    c.in-Ok-read_layout.layout c.in-Ok-read_layout.ensures.reads c.read_certificate.new.feed
+    c.in-Ok-read_certificate.cert c.in-Ok-read_certificate.ensures.reads in
+    let fails = bundle_goes_on c.args.text.now c.read_circuit.new.feed c.requires.unread c.requires.going
+    c.in-Ok.circuit c.in-Ok.ensures
+    (named_ports c.in-Ok-port_names.ports) c.read_layout.new.feed c.in-Ok-port_names.ensures.ports
+    c.in-Ok-read_layout.layout c.in-Ok-read_layout.ensures.reads c.read_certificate.new.feed
+    c.in-Ok-read_certificate.cert c.in-Ok-read_certificate.ensures.reads
     c.in-Err-finish.fault (c.in-Err-finish.ensures.more going) (c.in-Err-finish.ensures.fault going).0 in
-    IfOk-weaker c.refused-in-Err-finish.result _ _ (λ answered told. refusal_answers (says_of c.args.question) (bundle_of c.args.text.now.text) c.in-Err-finish.fault answered.output.items answered.outcome fails told) c.refused-in-Err-finish.ensures.told
+    IfOk-weaker c.refused-in-Err-finish.result _ _
+    (λ answered told. refusal_answers (says_of c.args.question)
+    (bundle_of c.args.text.now.text) c.in-Err-finish.fault answered.output.items answered.outcome fails told)
+    c.refused-in-Err-finish.ensures.told
 
 pub returns : goal.returns
 returns c =
-    let going = going_3 c.args.text.now c.read_circuit.new.feed c.requires.unread c.requires.going c.in-Ok.circuit c.in-Ok.ensures (named_ports c.in-Ok-port_names.ports) c.read_layout.new.feed c.in-Ok-port_names.ensures.ports
-    c.in-Ok-read_layout.layout c.in-Ok-read_layout.ensures.reads c.read_certificate.new.feed c.in-Ok-read_certificate.cert c.in-Ok-read_certificate.ensures.reads in
+    let going = going_3 c.args.text.now c.read_circuit.new.feed c.requires.unread c.requires.going c.in-Ok.circuit
+    c.in-Ok.ensures (named_ports c.in-Ok-port_names.ports) c.read_layout.new.feed c.in-Ok-port_names.ensures.ports
+    c.in-Ok-read_layout.layout c.in-Ok-read_layout.ensures.reads c.read_certificate.new.feed
+    c.in-Ok-read_certificate.cert c.in-Ok-read_certificate.ensures.reads in
     let done = c.in_default.ensures.ok going in
-    let was_read = bundle_read c.args.text.now c.read_circuit.new.feed c.requires.unread c.requires.going c.in-Ok.circuit c.in-Ok.ensures (named_ports c.in-Ok-port_names.ports) c.read_layout.new.feed c.in-Ok-port_names.ensures.ports
-    c.in-Ok-read_layout.layout c.in-Ok-read_layout.ensures.reads c.read_certificate.new.feed c.in-Ok-read_certificate.cert c.in-Ok-read_certificate.ensures.reads
+    let was_read = bundle_read c.args.text.now c.read_circuit.new.feed c.requires.unread c.requires.going
+    c.in-Ok.circuit c.in-Ok.ensures
+    (named_ports c.in-Ok-port_names.ports) c.read_layout.new.feed c.in-Ok-port_names.ensures.ports
+    c.in-Ok-read_layout.layout c.in-Ok-read_layout.ensures.reads c.read_certificate.new.feed
+    c.in-Ok-read_certificate.cert c.in-Ok-read_certificate.ensures.reads
     c.in-Ok-read_certificate.ensures.circuit c.in-Ok-read_certificate.ensures.layout done.0 done.1 in
-    IfOk-weaker c.answer.result _ _ (λ answered says. bundle_answers (says_of c.args.question) (bundle_of c.args.text.now.text) c.in-Ok-read_certificate.cert answered.output.items answered.outcome was_read says) c.answer.ensures.says
+    IfOk-weaker c.answer.result _ _
+    (λ answered says. bundle_answers (says_of c.args.question)
+    (bundle_of c.args.text.now.text) c.in-Ok-read_certificate.cert answered.output.items answered.outcome was_read says)
+    c.answer.ensures.says

@@ -8,7 +8,8 @@ use Rattle.answers.specs.BundleReading.{bundle_by}
 use Rattle.answers.specs.MigrateText.{bundle_text, certificate_lines, layout_lines, migrate_of}
 use Rattle.answers.proofs.migration.print_migration.Goals as goal
 
-joined : (c : CertState) → (circuit_text c.circuit ++ layout_text c.layout) ++ certificate_text (migrated c) ≡ migrate_of (bundle_by c)
+joined : (c : CertState) → (circuit_text c.circuit ++ layout_text c.layout) ++ certificate_text (migrated c)
+    ≡ migrate_of (bundle_by c)
 unfolding bundle_text layout_lines certificate_lines layout_text certificate_text
 joined c = refl
 
@@ -17,5 +18,6 @@ returns c =
     let circuit = c.in_ok-text.ensures ∙ ap circuit_text c.circuit.ensures in
     let layout = c.deref.ensures.value ∙ c.in_ok-layout.ensures ∙ ap layout_text c.layout.ensures in
     c.in_ok-print_migrated.ensures
-    ∙ ap (λ a. a ++ certificate_text (migrated c.args.cert.now)) (c.in_ok-extend_from_slice.ensures.items ∙ ap₂ (λ a b. a ++ b) circuit layout)
+    ∙ ap (λ a. a ++ certificate_text (migrated c.args.cert.now))
+    (c.in_ok-extend_from_slice.ensures.items ∙ ap₂ (λ a b. a ++ b) circuit layout)
     ∙ joined c.args.cert.now

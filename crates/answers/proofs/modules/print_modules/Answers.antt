@@ -8,4 +8,6 @@ loop-number-init c = c.new-out.ensures.items ∙ sym no_lines
 
 pub loop-number-preserved : goal.loop-number-preserved
 loop-number-preserved c =
-    one_more_line (map counts_of (modules_of c.args.cert.now.entries)) c.loop-number.number c.counts.result c.loop-number.out.items c.print_module.new.out.items c.counts.ensures c.loop-number.invariant c.in_ok-print_module.ensures
+    one_more_line (map counts_of (modules_of c.args.cert.now.entries)) c.loop-number.number c.counts.result
+    c.loop-number.out.items c.print_module.new.out.items c.counts.ensures c.loop-number.invariant
+    c.in_ok-print_module.ensures

@@ -18,16 +18,21 @@ names size parts = flat_map in_name parts
 
 pub returns-in-Err : goal.returns-in-Err
 unfolding run_asked lines names
-returns-in-Err c = first_failed {A = Pattern} (layout_grammar None) layout_value lines names c.args.feed.now c.read_layout.new.feed c.requires.unread c.requires.going c.in-Err.fault c.in-Err.ensures.reads
+returns-in-Err c = first_failed {A = Pattern}
+    (layout_grammar None) layout_value lines names c.args.feed.now c.read_layout.new.feed c.requires.unread
+    c.requires.going c.in-Err.fault c.in-Err.ensures.reads
 
 pub returns-in-Err-read_names : goal.returns-in-Err-read_names
 unfolding run_asked lines names
 returns-in-Err-read_names c =
-    then_failed {A = Pattern} (layout_grammar None) layout_value lines names c.args.feed.now c.read_layout.new.feed c.requires.unread c.requires.going c.in-Ok.layout c.deref.result.now c.in-Err-read_names.fault c.in-Ok.ensures.reads
+    then_failed {A = Pattern} (layout_grammar None) layout_value lines names c.args.feed.now c.read_layout.new.feed
+    c.requires.unread c.requires.going c.in-Ok.layout c.deref.result.now c.in-Err-read_names.fault c.in-Ok.ensures.reads
     (c.deref.ensures.value ∙ c.in-Ok-in_names.ensures ∙ sym (in_names_are c.in-Ok.layout)) c.in-Err-read_names.ensures
 
 pub returns-in-Ok-read_names : goal.returns-in-Ok-read_names
 unfolding run_asked lines names
 returns-in-Ok-read_names c =
-    then_read {A = Pattern} (layout_grammar None) layout_value lines names c.args.feed.now c.read_layout.new.feed c.requires.unread c.requires.going c.in-Ok.layout c.deref.result.now c.in-Ok-read_names.on.items c.in-Ok.ensures.reads
+    then_read {A = Pattern} (layout_grammar None) layout_value lines names c.args.feed.now c.read_layout.new.feed
+    c.requires.unread c.requires.going c.in-Ok.layout c.deref.result.now c.in-Ok-read_names.on.items
+    c.in-Ok.ensures.reads
     (c.deref.ensures.value ∙ c.in-Ok-in_names.ensures ∙ sym (in_names_are c.in-Ok.layout)) c.in-Ok-read_names.ensures

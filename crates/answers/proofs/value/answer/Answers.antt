@@ -1,4 +1,5 @@
-use Rattle.std.proofs.Common.{arith, rules, ◌≡◌, ◌++◌, ◌∷◌, [], ℕ, Bool, List, map, length, refl, ap, ◌∙◌, subst, inl, inr}
+use Rattle.std.proofs.Common.{arith, rules, ◌≡◌, ◌++◌, ◌∷◌, [], ℕ, Bool, List, map, length, refl, ap, ◌∙◌, subst, inl}
+use Rattle.std.proofs.Common.{inr}
 use Rattle.std.specs.Prelude.{codes}
 use Rattle.std.specs.Fmt.{decimal}
 use Rattle.std.proofs.lemmas.List.{length-map}
@@ -14,26 +15,33 @@ use Rattle.answers.proofs.value.answer.Goals as goal
 pub values-requires : goal.values-requires
 values-requires c =
     let bits = c.deref-2.ensures.value ∙ c.in_ok-bits.ensures in
-    ap length bits ∙ length-map c.deref.result.now _ ∙ ap length (c.deref.ensures.value ∙ c.in_ok-ins.ensures.names) ∙ c.input_list.ensures.count
+    ap length bits ∙ length-map c.deref.result.now _ ∙ ap length (c.deref.ensures.value ∙ c.in_ok-ins.ensures.names)
+    ∙ c.input_list.ensures.count
 
 pub undefined_text-requires : goal.undefined_text-requires
 undefined_text-requires c =
-    let same : c.in-Err-OutOfDomain.field-0 ≡ OutOfDomain c.in-Err-OutOfDomain.gate c.in-Err-OutOfDomain.before = search rules in
-    let stops : StopsAt (netlist_of c.args.circuit.now) (read c.deref-2.result.now) c.in-Err-OutOfDomain.gate c.in-Err-OutOfDomain.before.items =
-    subst (IsValuesFault (netlist_of c.args.circuit.now) (read c.deref-2.result.now)) same c.in-Err-OutOfDomain.ensures.fault in
-    let short = stops_short (netlist_of c.args.circuit.now) (read c.deref-2.result.now) c.in-Err-OutOfDomain.gate c.in-Err-OutOfDomain.before.items stops in
+    let same : c.in-Err-OutOfDomain.field-0 ≡ OutOfDomain c.in-Err-OutOfDomain.gate c.in-Err-OutOfDomain.before =
+    search rules in
+    let stops : StopsAt (netlist_of c.args.circuit.now)
+    (read c.deref-2.result.now) c.in-Err-OutOfDomain.gate c.in-Err-OutOfDomain.before.items =
+    subst (IsValuesFault (netlist_of c.args.circuit.now) (read c.deref-2.result.now)) same
+    c.in-Err-OutOfDomain.ensures.fault in
+    let short = stops_short (netlist_of c.args.circuit.now)
+    (read c.deref-2.result.now) c.in-Err-OutOfDomain.gate c.in-Err-OutOfDomain.before.items stops in
     let long = ap length c.deref-in-Err-OutOfDomain.ensures.value in
     omega (arith, short, long)
 
 pub returns-in-Ok : goal.returns-in-Ok
 returns-in-Ok c =
     let on : List ℕ → Bool = λ n. has c.args.on.now n in
-    let bits = c.deref-2.ensures.value ∙ c.in_ok-bits.ensures ∙ ap (map on) (c.deref.ensures.value ∙ c.in_ok-ins.ensures.names) in
+    let bits = c.deref-2.ensures.value ∙ c.in_ok-bits.ensures
+    ∙ ap (map on) (c.deref.ensures.value ∙ c.in_ok-ins.ensures.names) in
     record {
       ordered = c.gates-gates.ensures.ordered;
       says = inl (record {
         values = c.in-Ok.values.items;
-        are = subst (λ (l : List Bool). AreValues (netlist_of c.args.circuit.now) (read l) c.in-Ok.values.items) bits c.in-Ok.ensures.values;
+        are = subst (λ (l : List Bool). AreValues (netlist_of c.args.circuit.now) (read l) c.in-Ok.values.items) bits
+            c.in-Ok.ensures.values;
         says = c.in_ok-output-in-Ok.ensures ∙ ap (value_lines (defined c.args.circuit.now)) c.deref-in-Ok.ensures.value;
         ends = refl;
       });
@@ -42,17 +50,26 @@ returns-in-Ok c =
 pub returns-in-Err-OutOfDomain : goal.returns-in-Err-OutOfDomain
 returns-in-Err-OutOfDomain c =
     let on : List ℕ → Bool = λ n. has c.args.on.now n in
-    let bits = c.deref-2.ensures.value ∙ c.in_ok-bits.ensures ∙ ap (map on) (c.deref.ensures.value ∙ c.in_ok-ins.ensures.names) in
-    let same : c.in-Err-OutOfDomain.field-0 ≡ OutOfDomain c.in-Err-OutOfDomain.gate c.in-Err-OutOfDomain.before = search rules in
-    let stops : StopsAt (netlist_of c.args.circuit.now) (read c.deref-2.result.now) c.in-Err-OutOfDomain.gate c.in-Err-OutOfDomain.before.items =
-    subst (IsValuesFault (netlist_of c.args.circuit.now) (read c.deref-2.result.now)) same c.in-Err-OutOfDomain.ensures.fault in
+    let bits = c.deref-2.ensures.value ∙ c.in_ok-bits.ensures
+    ∙ ap (map on) (c.deref.ensures.value ∙ c.in_ok-ins.ensures.names) in
+    let same : c.in-Err-OutOfDomain.field-0 ≡ OutOfDomain c.in-Err-OutOfDomain.gate c.in-Err-OutOfDomain.before =
+    search rules in
+    let stops : StopsAt (netlist_of c.args.circuit.now)
+    (read c.deref-2.result.now) c.in-Err-OutOfDomain.gate c.in-Err-OutOfDomain.before.items =
+    subst (IsValuesFault (netlist_of c.args.circuit.now) (read c.deref-2.result.now)) same
+    c.in-Err-OutOfDomain.ensures.fault in
     record {
       ordered = c.gates-gates.ensures.ordered;
       says = inr (record {
         gate = c.in-Err-OutOfDomain.gate;
         values = c.in-Err-OutOfDomain.before.items;
-        stops = subst (λ (l : List Bool). StopsAt (netlist_of c.args.circuit.now) (read l) c.in-Err-OutOfDomain.gate c.in-Err-OutOfDomain.before.items) bits stops;
-        says = c.in_ok-output-in-Err-OutOfDomain.ensures ∙ ap (λ (vs : List Bool). value_lines (defined c.args.circuit.now) vs ++ line_text (codes "undefined") (decimal c.in-Err-OutOfDomain.gate ∷ [])) c.deref-in-Err-OutOfDomain.ensures.value;
+        stops = subst (λ (l : List Bool).
+            StopsAt (netlist_of c.args.circuit.now)
+            (read l) c.in-Err-OutOfDomain.gate c.in-Err-OutOfDomain.before.items) bits stops;
+        says = c.in_ok-output-in-Err-OutOfDomain.ensures
+            ∙ ap (λ (vs : List Bool). value_lines (defined c.args.circuit.now) vs
+            ++ line_text (codes "undefined") (decimal c.in-Err-OutOfDomain.gate ∷ []))
+            c.deref-in-Err-OutOfDomain.ensures.value;
         ends = refl;
       });
     }

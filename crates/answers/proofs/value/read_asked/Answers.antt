@@ -15,16 +15,19 @@ names _ list = input_names list
 
 pub returns-in-Err : goal.returns-in-Err
 unfolding value_asked entries names
-returns-in-Err c = first_failed {A = List Entry} circuit_grammar circuit_value entries names c.args.feed.now c.read_circuit.new.feed c.requires.unread c.requires.going c.in-Err.fault c.in-Err.ensures
+returns-in-Err c = first_failed {A = List Entry} circuit_grammar circuit_value entries names c.args.feed.now
+    c.read_circuit.new.feed c.requires.unread c.requires.going c.in-Err.fault c.in-Err.ensures
 
 pub returns-in-Err-read_names : goal.returns-in-Err-read_names
 unfolding value_asked entries names
 returns-in-Err-read_names c =
-    then_failed {A = List Entry} circuit_grammar circuit_value entries names c.args.feed.now c.read_circuit.new.feed c.requires.unread c.requires.going c.in-Ok.circuit c.deref.result.now c.in-Err-read_names.fault c.in-Ok.ensures
+    then_failed {A = List Entry} circuit_grammar circuit_value entries names c.args.feed.now c.read_circuit.new.feed
+    c.requires.unread c.requires.going c.in-Ok.circuit c.deref.result.now c.in-Err-read_names.fault c.in-Ok.ensures
     (c.deref.ensures.value ∙ c.in-Ok-input_list.ensures.names) c.in-Err-read_names.ensures
 
 pub returns-in-Ok-read_names : goal.returns-in-Ok-read_names
 unfolding value_asked entries names
 returns-in-Ok-read_names c =
-    then_read {A = List Entry} circuit_grammar circuit_value entries names c.args.feed.now c.read_circuit.new.feed c.requires.unread c.requires.going c.in-Ok.circuit c.deref.result.now c.in-Ok-read_names.on.items c.in-Ok.ensures
+    then_read {A = List Entry} circuit_grammar circuit_value entries names c.args.feed.now c.read_circuit.new.feed
+    c.requires.unread c.requires.going c.in-Ok.circuit c.deref.result.now c.in-Ok-read_names.on.items c.in-Ok.ensures
     (c.deref.ensures.value ∙ c.in-Ok-input_list.ensures.names) c.in-Ok-read_names.ensures

@@ -12,7 +12,8 @@ use Rattle.audit_core.proofs.YesMeansCorrect.{IsRead, yes_means-correct, yes_mea
 use Rattle.audit_core.proofs.concluding.conclude.Goals as goal
 use Rattle.audit_core.proofs.concluding.conclude.Goals.{After-is_empty}
 
-all : (c : After-is_empty) → AreAllFaults c.args.cert.now (map arc_value c.args.jobs.now) c.deref.result.now c.args.borders.now
+all : (c : After-is_empty) → AreAllFaults c.args.cert.now
+    (map arc_value c.args.jobs.now) c.deref.result.now c.args.borders.now
 all c =
     let jobs : List JobState = map arc_value c.args.jobs.now in
     record {
@@ -22,12 +23,17 @@ all c =
     }
 
 -- the test of the lines of delays and meetings
-kept_is : (c : After-is_empty) → c.are_all_kept-kept.result ≡ are_all_kept (time_lines (setting c.args.cert.now).circuit (modules c.args.cert.now))
+kept_is : (c : After-is_empty) →
+    c.are_all_kept-kept.result ≡ are_all_kept (time_lines (setting c.args.cert.now).circuit (modules c.args.cert.now))
 kept_is c = c.are_all_kept-kept.ensures ∙ ap are_all_kept (c.deref-3.ensures.value ∙ c.in_ok-times.ensures)
 
 -- the lines on the modules, and on gates that are not kept
-lines_are : (c : After-is_empty) → c.in_ok-lines.lines.items ≡ lines_from 0 c.deref.result.now c.args.borders.now ++ unkept_lines (setting c.args.cert.now) (modules c.args.cert.now)
-lines_are c = c.in_ok-lines.ensures ∙ ap (λ ns. lines_from 0 c.deref.result.now c.args.borders.now ++ map (λ n. Unkept n) ns) (c.deref-2.ensures.value ∙ c.in_ok-unkept.ensures)
+lines_are : (c : After-is_empty) →
+    c.in_ok-lines.lines.items ≡ lines_from 0 c.deref.result.now c.args.borders.now
+    ++ unkept_lines (setting c.args.cert.now) (modules c.args.cert.now)
+lines_are c = c.in_ok-lines.ensures
+    ∙ ap (λ ns. lines_from 0 c.deref.result.now c.args.borders.now ++ map (λ n. Unkept n) ns)
+    (c.deref-2.ensures.value ∙ c.in_ok-unkept.ensures)
 
 pub returns-then-kept-is_empty-clause-verdict : goal.returns-then-kept-is_empty-clause-verdict
 returns-then-kept-is_empty-clause-verdict c =
@@ -35,7 +41,8 @@ returns-then-kept-is_empty-clause-verdict c =
     let parts = and_parts c.are_all_kept-kept.result c.is_empty.result c.if-kept-is_empty.true in
     let empty : c.is_empty.result ≡ true = parts.1 in
     let none : length c.in_ok-lines.lines.items ≡ 0 = search rules in
-    verdict-yes c.args.cert.now (map arc_value c.args.jobs.now) c.deref.result.now c.args.borders.now (all d) (sym (lines_are d) ∙ is_empty_list c.in_ok-lines.lines.items none) (sym (kept_is d) ∙ parts.0)
+    verdict-yes c.args.cert.now (map arc_value c.args.jobs.now) c.deref.result.now c.args.borders.now (all d)
+    (sym (lines_are d) ∙ is_empty_list c.in_ok-lines.lines.items none) (sym (kept_is d) ∙ parts.0)
 
 pub returns-then-kept-is_empty-clause-correct : goal.returns-then-kept-is_empty-clause-correct
 returns-then-kept-is_empty-clause-correct c is named =
@@ -48,7 +55,8 @@ returns-then-kept-is_empty-clause-correct c is named =
       inputs = c.modules-count.ensures.inputs;
       named = named;
     } in
-    yes_means-correct c.args.cert.now c.size-size.result (map arc_value c.args.jobs.now) read c.requires.own (returns-then-kept-is_empty-clause-verdict c)
+    yes_means-correct c.args.cert.now c.size-size.result (map arc_value c.args.jobs.now) read c.requires.own
+    (returns-then-kept-is_empty-clause-verdict c)
 
 pub returns-then-kept-is_empty-clause-on_time : goal.returns-then-kept-is_empty-clause-on_time
 returns-then-kept-is_empty-clause-on_time c is named =
@@ -61,14 +69,17 @@ returns-then-kept-is_empty-clause-on_time c is named =
       inputs = c.modules-count.ensures.inputs;
       named = named;
     } in
-    yes_means-on_time c.args.cert.now c.size-size.result (map arc_value c.args.jobs.now) read c.requires.own (returns-then-kept-is_empty-clause-verdict c)
+    yes_means-on_time c.args.cert.now c.size-size.result (map arc_value c.args.jobs.now) read c.requires.own
+    (returns-then-kept-is_empty-clause-verdict c)
 
 pub returns-clause-verdict : goal.returns-clause-verdict
 returns-clause-verdict c =
     let d = (goal.at.returns-clause-verdict c).After-is_empty in
     let m = map timing (time_lines (setting c.args.cert.now).circuit (modules c.args.cert.now)) in
-    verdict-no c.args.cert.now (map arc_value c.args.jobs.now) c.deref.result.now c.args.borders.now c.push_times.new.lines (all d)
-    (c.in_ok-push_times.ensures ∙ ap (λ ts. c.in_ok-lines.lines.items ++ map timing ts) (c.deref-4.ensures.value ∙ c.in_ok-times.ensures) ∙ ap (λ xs. xs ++ m) (lines_are d))
+    verdict-no c.args.cert.now (map arc_value c.args.jobs.now) c.deref.result.now c.args.borders.now
+    c.push_times.new.lines (all d)
+    (c.in_ok-push_times.ensures ∙ ap (λ ts. c.in_ok-lines.lines.items ++ map timing ts)
+    (c.deref-4.ensures.value ∙ c.in_ok-times.ensures) ∙ ap (λ xs. xs ++ m) (lines_are d))
     (λ e.
     let none : length c.in_ok-lines.lines.items ≡ 0 = ap length (lines_are d ∙ e.0) in
     let len : vec_len c.in_ok-lines.lines ≡ 0 = search rules in

@@ -12,8 +12,10 @@ returns-in_default-clause-missing c = λ number e.
     let n = c.modules.number in
     let same : n ≡ number = cc in
     let at = job-at arc_value c.args.jobs.now n c.index-jobs-number.result c.modules-test.true c.index-jobs-number.is in
-    let missing : ¬ IsHeld b n (arc_value c.index-jobs-number.result) = subst (λ (j : JobState). ¬ IsHeld b n j) c.deref.ensures c.in_default.ensures.missing in
-    subst (λ (k : ℕ). IsFirstMissing b jobs k) same (first-missing b jobs n c.modules.faults.items _ c.modules.invariant at missing)
+    let missing : ¬ IsHeld b n (arc_value c.index-jobs-number.result) =
+    subst (λ (j : JobState). ¬ IsHeld b n j) c.deref.ensures c.in_default.ensures.missing in
+    subst (λ (k : ℕ). IsFirstMissing b jobs k) same
+    (first-missing b jobs n c.modules.faults.items _ c.modules.invariant at missing)
 
 pub modules-preserved : goal.modules-preserved
 modules-preserved c =
@@ -22,5 +24,6 @@ modules-preserved c =
     let n = c.modules.number in
     let fs = c.modules.faults.items in
     let at = job-at arc_value c.args.jobs.now n c.index-jobs-number.result c.modules-test.true c.index-jobs-number.is in
-    let more = one-more b jobs n fs _ c.in-Some.finding.now c.told_of.result c.modules.invariant at c.in-Some.ensures.held.0 (c.in-Some.ensures.held.1 ∙ c.deref.ensures) c.told_of.ensures in
+    let more = one-more b jobs n fs _ c.in-Some.finding.now c.told_of.result c.modules.invariant at
+    c.in-Some.ensures.held.0 (c.in-Some.ensures.held.1 ∙ c.deref.ensures) c.told_of.ensures in
     subst (AreFaultsBelow b jobs (n + 1)) (sym c.in_ok-push.ensures.items) more

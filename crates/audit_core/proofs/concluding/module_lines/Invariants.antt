@@ -4,4 +4,5 @@ use Rattle.audit_core.proofs.concluding.module_lines.Given as goal
 
 -- the lines so far and those on the other modules are all lines
 abbrev pub invariant-modules : goal.invariant-modules
-invariant-modules l = l.lines.items ++ lines_from l.number (drop l.number l.faults) (drop l.number l.borders) ≡ lines_from 0 l.faults l.borders
+invariant-modules l = l.lines.items ++ lines_from l.number (drop l.number l.faults) (drop l.number l.borders)
+    ≡ lines_from 0 l.faults l.borders

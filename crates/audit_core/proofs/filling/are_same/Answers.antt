@@ -8,5 +8,6 @@ returns-clause-same c = (lists-told arc_value c.args.own.now c.args.jobs.now c.e
 
 pub returns-clause-other : goal.returns-clause-other
 returns-clause-other c = λ differs same.
-    let told : c.eq.result ≡ true = (lists-told arc_value c.args.own.now c.args.jobs.now c.eq.result c.eq.ensures).1 same in
+    let told : c.eq.result ≡ true =
+    (lists-told arc_value c.args.own.now c.args.jobs.now c.eq.result c.eq.ensures).1 same in
     cc

@@ -13,9 +13,14 @@ fill_open-requires c =
     elim c.if-not-own.branch [
       | then-not-own+in_ok-to_vec+in_ok-state w ↦
           let same = clones-same arc_value c.args.jobs.now w.in_ok-to_vec.field-0.items w.in_ok-to_vec.ensures.ok in
-          record { own = new-open digest jobs c.if-not-own.state (w.state-is ∙ w.in_ok-state.ensures ∙ ap (new_book digest) same) }
+          record {
+            own = new-open digest jobs c.if-not-own.state
+                (w.state-is ∙ w.in_ok-state.ensures ∙ ap (new_book digest) same);
+          }
       | else-not-own w ↦
-          record { own = subst (IsOpenFor digest jobs) (sym w.state-is) (c.is_open_for-own.ensures.own w.if-not-own.false) }
+          record {
+            own = subst (IsOpenFor digest jobs) (sym w.state-is) (c.is_open_for-own.ensures.own w.if-not-own.false);
+          }
     ]
 
 pub returns-clause-replaced : goal.returns-clause-replaced
@@ -26,7 +31,8 @@ returns-clause-replaced c = λ other.
     elim c.if-not-own.branch [
       | then-not-own+in_ok-to_vec+in_ok-state w ↦
           let same = clones-same arc_value c.args.jobs.now w.in_ok-to_vec.field-0.items w.in_ok-to_vec.ensures.ok in
-          let is : c.if-not-own.state ≡ new_book digest jobs = w.state-is ∙ w.in_ok-state.ensures ∙ ap (new_book digest) same in
+          let is : c.if-not-own.state ≡ new_book digest jobs =
+          w.state-is ∙ w.in_ok-state.ensures ∙ ap (new_book digest) same in
           inr (subst (λ (b : BookView). IsPartlyFilled b after) is c.fill_open.ensures.partly)
       | else-not-own w ↦ absurd (other (c.is_open_for-own.ensures.own w.if-not-own.false))
     ]

@@ -20,7 +20,9 @@ returns-clause-held c =
       | in-Ok w ↦
           let f = c.in_ok-finding.finding in
           let one : IsHeldOrFiled b c.file.new.self c.args.number =
-          filed-for b c.file.new.self f c.args.number (arc_value c.args.job.now) c.requires.still_open c.in_ok-finding.ensures.digest c.in_ok-finding.ensures.number c.in_ok-finding.ensures.job c.requires.job lacks w.in-Ok.ensures.after in
+          filed-for b c.file.new.self f c.args.number
+          (arc_value c.args.job.now) c.requires.still_open c.in_ok-finding.ensures.digest c.in_ok-finding.ensures.number
+          c.in_ok-finding.ensures.job c.requires.job lacks w.in-Ok.ensures.after in
           subst (λ r. OnOk r (IsHeldOrFiled b c.file.new.self c.args.number)) (sym w.result-is) one
       | in-Err w ↦ subst (λ r. OnOk r (IsHeldOrFiled b c.file.new.self c.args.number)) (sym w.result-is) tt
     ]

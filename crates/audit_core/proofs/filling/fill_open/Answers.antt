@@ -14,13 +14,16 @@ use Rattle.audit_core.proofs.filling.fill_open.Goals as goal
 pub returns-then-is_full-clause-full : goal.returns-then-is_full-clause-full
 returns-then-is_full-clause-full c =
     is-full c.args.digest
-    (map arc_value c.args.jobs.now) c.args.state.now c.requires.own c.history-history.ensures.replays c.if-is_full.ensures.book (c.if-is_full.ensures.full refl)
+    (map arc_value c.args.jobs.now) c.args.state.now c.requires.own c.history-history.ensures.replays
+    c.if-is_full.ensures.book (c.if-is_full.ensures.full refl)
 
 pub fill_number-requires-clause-job : goal.fill_number-requires-clause-job
 fill_number-requires-clause-job c =
-    let at = job-at arc_value c.args.jobs.now c.numbers.number c.index-jobs-number.result c.numbers-test.true c.index-jobs-number.is in
+    let at = job-at arc_value c.args.jobs.now c.numbers.number c.index-jobs-number.result c.numbers-test.true
+    c.index-jobs-number.is in
     let own = open-stays c.args.digest
-    (map arc_value c.args.jobs.now) c.args.state.now c.numbers.state c.numbers.number c.requires.own c.numbers.invariant.0.filled in
+    (map arc_value c.args.jobs.now) c.args.state.now c.numbers.state c.numbers.number c.requires.own
+    c.numbers.invariant.0.filled in
     ap (λ js. slice_get js c.numbers.number) own.jobs_are ∙ at
 
 -- each job has a group
@@ -38,7 +41,8 @@ fill_number-requires-clause-alike c = λ other.
     let g = c.in_ok-groups.groups.items in
     let n = c.numbers.number in
     let at = job-at arc_value c.args.jobs.now n c.index-jobs-number.result c.numbers-test.true c.index-jobs-number.is in
-    let own = open-stays c.args.digest jobs c.args.state.now c.numbers.state n c.requires.own c.numbers.invariant.0.filled in
+    let own = open-stays c.args.digest jobs c.args.state.now c.numbers.state n c.requires.own
+    c.numbers.invariant.0.filled in
     let first = first-read g n c.index.result.now
     (within arc_value c.args.jobs.now g n c.in_ok-groups.ensures c.numbers-test.true) c.index.ensures in
     let are = subst (λ js. AreGroups (shapes_of js) g) (sym own.jobs_are) c.in_ok-groups.ensures in
@@ -54,22 +58,27 @@ fill_number-requires-clause-alike c = λ other.
 pub numbers-preserved : goal.numbers-preserved
 numbers-preserved c =
     let first = first-read c.in_ok-groups.groups.items c.numbers.number c.index.result.now
-    (within arc_value c.args.jobs.now c.in_ok-groups.groups.items c.numbers.number c.in_ok-groups.ensures c.numbers-test.true) c.index.ensures in (
-      filling-step c.args.state.now c.numbers.state c.fill_number.new.state c.numbers.number c.numbers.invariant.0 c.in_ok-fill_number.ensures.held,
-      runs_step c.in_ok-groups.groups.items c.numbers.number c.args.runs.now c.numbers.runs c.fill_number.new.runs c.numbers.invariant.1
+    (within arc_value c.args.jobs.now c.in_ok-groups.groups.items c.numbers.number c.in_ok-groups.ensures
+    c.numbers-test.true) c.index.ensures in (
+      filling-step c.args.state.now c.numbers.state c.fill_number.new.state c.numbers.number c.numbers.invariant.0
+          c.in_ok-fill_number.ensures.held,
+      runs_step c.in_ok-groups.groups.items c.numbers.number c.args.runs.now c.numbers.runs c.fill_number.new.runs
+          c.numbers.invariant.1
           (λ other. c.fill_number.ensures.no_run (λ e. other (first ∙ e))) c.fill_number.ensures.one_run,
     )
 
 pub returns-in_err-fill_number-clause-one_run_a_shape : goal.returns-in_err-fill_number-clause-one_run_a_shape
 returns-in_err-fill_number-clause-one_run_a_shape c =
     let first = first-read c.in_ok-groups.groups.items c.numbers.number c.index.result.now
-    (within arc_value c.args.jobs.now c.in_ok-groups.groups.items c.numbers.number c.in_ok-groups.ensures c.numbers-test.true) c.index.ensures in
+    (within arc_value c.args.jobs.now c.in_ok-groups.groups.items c.numbers.number c.in_ok-groups.ensures
+    c.numbers-test.true) c.index.ensures in
     let all = length-map (map arc_value c.args.jobs.now) shape_of in
     let same = length-map c.args.jobs.now arc_value in
     runs_end c.in_ok-groups.groups.items
     (c.numbers.number + 1) c.args.runs.now c.fill_number.new.runs c.in_ok-groups.ensures
     (omega (arith, all, same, c.numbers-test.true))
-    (runs_step c.in_ok-groups.groups.items c.numbers.number c.args.runs.now c.numbers.runs c.fill_number.new.runs c.numbers.invariant.1
+    (runs_step c.in_ok-groups.groups.items c.numbers.number c.args.runs.now c.numbers.runs c.fill_number.new.runs
+    c.numbers.invariant.1
     (λ other. c.fill_number.ensures.no_run (λ e. other (first ∙ e))) c.fill_number.ensures.one_run)
 
 pub returns-clause-full : goal.returns-clause-full

@@ -2,4 +2,9 @@ use Rattle.audit_core.proofs.EventLaws.{accepts-one_for_each, events-replay, hol
 use Rattle.audit_core.proofs.laws.core_holds_what_was_accepted.Goals as goal
 
 pub returns : goal.returns
-returns c = record { accepted = holds-what_was_accepted; one = accepts-one_for_each; honest = holds-honest_own; replays = events-replay }
+returns c = record {
+  accepted = holds-what_was_accepted;
+  one = accepts-one_for_each;
+  honest = holds-honest_own;
+  replays = events-replay;
+}

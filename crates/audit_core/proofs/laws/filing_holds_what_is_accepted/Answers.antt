@@ -2,4 +2,9 @@ use Rattle.audit_core.proofs.BookLaws.{holds-what_is_accepted, holds-nothing_els
 use Rattle.audit_core.proofs.laws.filing_holds_what_is_accepted.Goals as goal
 
 pub returns : goal.returns
-returns c = record { accepted = holds-what_is_accepted; kept = keeps-what_is_held; nothing_else = holds-nothing_else; book = stays-book }
+returns c = record {
+  accepted = holds-what_is_accepted;
+  kept = keeps-what_is_held;
+  nothing_else = holds-nothing_else;
+  book = stays-book;
+}

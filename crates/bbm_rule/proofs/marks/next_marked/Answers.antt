@@ -9,7 +9,8 @@ returns-then-found-end-clause-passed c = λ u l h. by_lt_or_le u c.search.at (c.
 
 pub returns-else-found-end-clause-passed : goal.returns-else-found-end-clause-passed
 returns-else-found-end-clause-passed c = λ u l h. by_lt_or_le u c.search.at (c.search.invariant.passed u l)
-    (λ g. none_before c.args.marks.now c.search.at u c.if-rest-ne0.true (c.type_inv.marks (c.search.at / 64)).fits g (omega (arith, c.if-found-end.false)))
+    (λ g. none_before c.args.marks.now c.search.at u c.if-rest-ne0.true (c.type_inv.marks (c.search.at / 64)).fits g
+    (omega (arith, c.if-found-end.false)))
 
 pub search-preserved : goal.search-preserved
 search-preserved c = record {

@@ -7,4 +7,5 @@ use Rattle.border_match.proofs.borders.halo_signal.Goals as goal
 pub circuit_signal-requires : goal.circuit_signal-requires
 circuit_signal-requires c =
     let j = c.args.job.now in
-    subst (IsBelow (wires j.locals.netlist)) (sym c.halo.ensures) (halo_below j c.args.time c.args.cell.x c.args.cell.y c.area-area.ensures.good.own)
+    subst (IsBelow (wires j.locals.netlist)) (sym c.halo.ensures)
+    (halo_below j c.args.time c.args.cell.x c.args.cell.y c.area-area.ensures.good.own)

@@ -30,8 +30,11 @@ returns-then-version-eq2 c =
     let own = modules_of s.entries in
     let second : s.version ≡ 2 = sym c.version.ensures.version ∙ c.if-version-eq2.true in
     let meant_so : modules_in s ≡ map (with_halos g own) own = ap (λ (v : ℕ). meant v g own) second in
-    told c.no_faults.result (λ faults e. subst (λ (ms : List ModuleLines). AreBorderFaultsOf g ms faults.items) (sym meant_so)
-    (subst (AreBorderFaultsOf g (map (with_halos g own) own)) (sym (e ∙ ap (λ n. replicate n None) c.modules-count.ensures.count)) (none_for_each g own c.modules-count.ensures.written))) c.no_faults.ensures
+    told c.no_faults.result (λ faults e.
+    subst (λ (ms : List ModuleLines). AreBorderFaultsOf g ms faults.items) (sym meant_so)
+    (subst (AreBorderFaultsOf g (map (with_halos g own) own))
+    (sym (e ∙ ap (λ n. replicate n None) c.modules-count.ensures.count))
+    (none_for_each g own c.modules-count.ensures.written))) c.no_faults.ensures
 
 pub least_fault-requires : goal.least_fault-requires
 least_fault-requires c =
@@ -39,10 +42,14 @@ least_fault-requires c =
     let js = map arc_value c.args.jobs.now in
     let o = c.in_ok-owners.owners in
     let good = c.modules-count.ensures.good in
-    let got : slice_get js c.jobs.job-index ≡ Some c.deref-in-jobs.result.now = job_at arc_value c.args.jobs.now c.jobs.job-index _ c.deref-in-jobs.result.now c.jobs-test.true (c.deref-in-jobs.ensures ∙ ap arc_value c.job-item.is) in (
+    let got : slice_get js c.jobs.job-index ≡ Some c.deref-in-jobs.result.now =
+    job_at arc_value c.args.jobs.now c.jobs.job-index _ c.deref-in-jobs.result.now c.jobs-test.true
+    (c.deref-in-jobs.ensures ∙ ap arc_value c.job-item.is) in (
       subst (λ (z : Extent). IsBoard (whole z) o js) (sym c.size-size.ensures.size)
-          (board s.circuit s.layout (modules_in s) js o good c.requires c.in_ok-owners.ensures.owners c.in_ok-owners.ensures.width c.in_ok-owners.ensures.height),
-      quiet_job s.circuit s.layout (modules_in s) js o good c.requires c.in_ok-owners.ensures.owners c.in_ok-owners.ensures.width c.in_ok-owners.ensures.height c.jobs.job-index c.deref-in-jobs.result.now got,
+          (board s.circuit s.layout (modules_in s) js o good c.requires c.in_ok-owners.ensures.owners
+          c.in_ok-owners.ensures.width c.in_ok-owners.ensures.height),
+      quiet_job s.circuit s.layout (modules_in s) js o good c.requires c.in_ok-owners.ensures.owners
+          c.in_ok-owners.ensures.width c.in_ok-owners.ensures.height c.jobs.job-index c.deref-in-jobs.result.now got,
     )
 
 pub jobs-preserved : goal.jobs-preserved
@@ -51,10 +58,17 @@ jobs-preserved c =
     let js = map arc_value c.args.jobs.now in
     let o = c.in_ok-owners.owners in
     let good = c.modules-count.ensures.good in
-    let got : slice_get js c.jobs.job-index ≡ Some c.deref-in-jobs.result.now = job_at arc_value c.args.jobs.now c.jobs.job-index _ c.deref-in-jobs.result.now c.jobs-test.true (c.deref-in-jobs.ensures ∙ ap arc_value c.job-item.is) in
+    let got : slice_get js c.jobs.job-index ≡ Some c.deref-in-jobs.result.now =
+    job_at arc_value c.args.jobs.now c.jobs.job-index _ c.deref-in-jobs.result.now c.jobs-test.true
+    (c.deref-in-jobs.ensures ∙ ap arc_value c.job-item.is) in
     let found : IsLeast (IsJobFault (whole s.layout.size) o js c.deref-in-jobs.result.now) c.in_ok-least_fault.field-0 =
-    subst (λ (z : Extent). IsLeast (IsJobFault (whole z) o js c.deref-in-jobs.result.now) c.in_ok-least_fault.field-0) c.size-size.ensures.size c.in_ok-least_fault.ensures in
-    let least = least_by_lines s.circuit s.layout (modules_in s) js o good c.requires c.in_ok-owners.ensures.owners c.in_ok-owners.ensures.width c.in_ok-owners.ensures.height c.jobs.job-index c.deref-in-jobs.result.now c.in_ok-least_fault.field-0 got found in (
+    subst (λ (z : Extent). IsLeast (IsJobFault (whole z) o js c.deref-in-jobs.result.now) c.in_ok-least_fault.field-0)
+    c.size-size.ensures.size c.in_ok-least_fault.ensures in
+    let least = least_by_lines s.circuit s.layout
+    (modules_in s) js o good c.requires c.in_ok-owners.ensures.owners c.in_ok-owners.ensures.width
+    c.in_ok-owners.ensures.height c.jobs.job-index c.deref-in-jobs.result.now c.in_ok-least_fault.field-0 got found in (
       omega (arith, c.in_ok-push.ensures.len, c.jobs.invariant.0),
-      pushed_more (IsLeastBorderFault (setting_of s.circuit s.layout) (modules_in s)) c.jobs.faults.items _ c.jobs.job-index c.in_ok-least_fault.field-0 (omega (arith, c.jobs.faults.ok, c.jobs.invariant.0)) c.in_ok-push.ensures.items c.jobs.invariant.1 least,
+      pushed_more (IsLeastBorderFault (setting_of s.circuit s.layout) (modules_in s)) c.jobs.faults.items _
+          c.jobs.job-index c.in_ok-least_fault.field-0
+          (omega (arith, c.jobs.faults.ok, c.jobs.invariant.0)) c.in_ok-push.ensures.items c.jobs.invariant.1 least,
     )

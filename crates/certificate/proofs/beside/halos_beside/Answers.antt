@@ -15,6 +15,9 @@ pub returns : goal.returns
 returns c =
     let g = setting_of c.args.plan.now.circuit c.args.plan.now.layout in
     let ms = map part_lines c.args.parts.now in
-    let same : IsPermutation (beside g ms c.args.area) c.sort_by.new.self.items = subst (λ (l : List Border). IsPermutation l c.sort_by.new.self.items) c.in_ok-halos.ensures c.sort_by.ensures.permutation in
+    let same : IsPermutation (beside g ms c.args.area) c.sort_by.new.self.items =
+    subst (λ (l : List Border). IsPermutation l c.sort_by.new.self.items) c.in_ok-halos.ensures
+    c.sort_by.ensures.permutation in
     sorted_lines (beside g ms c.args.area) c.sort_by.new.self.items (distinct_beside g ms c.requires c.args.area) same
-    (c.in_ok-sort_by.ensures.sorted (λ a b. is_lt (line_order a b)) (ranks_by line_total (λ e. e)) (answers_always _ _ _ (λ f a r g k. search rules)))
+    (c.in_ok-sort_by.ensures.sorted (λ a b. is_lt (line_order a b)) (ranks_by line_total (λ e. e))
+    (answers_always _ _ _ (λ f a r g k. search rules)))

@@ -9,4 +9,5 @@ pub push_parts-requires : goal.push_parts-requires
 push_parts-requires c k d lt =
     let g = setting_of c.args.plan.now.circuit c.args.plan.now.layout in
     let parts = c.args.parts.now in
-    own_lines g _ (c.requires.each k _ (slice_get-map part_lines parts k ∙ ap (option_map part_lines) (slice_get-get_or parts k d lt)))
+    own_lines g _ (c.requires.each k _
+    (slice_get-map part_lines parts k ∙ ap (option_map part_lines) (slice_get-get_or parts k d lt)))

@@ -6,4 +6,5 @@ use Rattle.certificate.proofs.beside.push_lines.Given as goal
 
 -- The edge lines so far.
 abbrev pub invariant-lines : goal.invariant-lines
-invariant-lines l = l.halos.items ≡ l.fn.halos.items ++ filter (λ e. in_halo l.area e.cell.x e.cell.y) (flat_map edge_in (take l.line-index l.lines))
+invariant-lines l = l.halos.items
+    ≡ l.fn.halos.items ++ filter (λ e. in_halo l.area e.cell.x e.cell.y) (flat_map edge_in (take l.line-index l.lines))

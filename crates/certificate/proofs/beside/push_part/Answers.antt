@@ -7,5 +7,6 @@ use Rattle.certificate.proofs.beside.push_part.Goals as goal
 pub returns-then-not-is_near : goal.returns-then-not-is_near
 returns-then-not-is_near c =
     let part = c.args.part.now in
-    let none = far_lines c.args.area part.area (edges (part_lines part)) (sym c.is_near.ensures ∙ c.if-not-is_near.true) c.requires in
+    let none = far_lines c.args.area part.area (edges (part_lines part))
+    (sym c.is_near.ensures ∙ c.if-not-is_near.true) c.requires in
     sym (append-nil c.args.halos.now.items) ∙ ap (λ l. c.args.halos.now.items ++ l) (sym none)

@@ -7,4 +7,6 @@ use Rattle.certificate.proofs.beside.push_parts.Given as goal
 
 -- The edge lines of the modules so far.
 abbrev pub invariant-parts : goal.invariant-parts
-invariant-parts l = l.halos.items ≡ l.fn.halos.items ++ filter (λ e. in_halo l.area e.cell.x e.cell.y) (flat_map edges (map part_lines (take l.part-index l.parts)))
+invariant-parts l = l.halos.items
+    ≡ l.fn.halos.items ++ filter (λ e. in_halo l.area e.cell.x e.cell.y)
+    (flat_map edges (map part_lines (take l.part-index l.parts)))

@@ -7,8 +7,10 @@ loop-entry-init c m holds = none_hashed c.args.hasher.now m holds
 
 pub loop-entry-preserved : goal.loop-entry-preserved
 loop-entry-preserved c m holds =
-    one_more_hashed c.args.entries.now c.loop-entry.entry-index c.entry-item.result c.hash_line.new.hasher m c.loop-entry-test.true c.entry-item.is
+    one_more_hashed c.args.entries.now c.loop-entry.entry-index c.entry-item.result c.hash_line.new.hasher m
+    c.loop-entry-test.true c.entry-item.is
     (c.in_ok-hash_line.ensures _ (c.loop-entry.invariant m holds))
 
 pub returns : goal.returns
-returns c m holds = all_hashed c.args.entries.now c.loop-entry.entry-index c.loop-entry.hasher m c.loop-entry-test.false (c.loop-entry.invariant m holds)
+returns c m holds = all_hashed c.args.entries.now c.loop-entry.entry-index c.loop-entry.hasher m c.loop-entry-test.false
+    (c.loop-entry.invariant m holds)

@@ -6,4 +6,5 @@ use Rattle.certificate.specs.Text.{entry_text}
 use Rattle.certificate.proofs.digest.hash_lines.Given as goal
 
 abbrev pub invariant-loop-entry : goal.invariant-loop-entry
-invariant-loop-entry l = (m : List ℕ) → Holds256 l.fn.hasher m → Holds256 l.hasher (m ++ flat_map entry_text (take l.entry-index l.entries))
+invariant-loop-entry l = (m : List ℕ) → Holds256 l.fn.hasher m →
+    Holds256 l.hasher (m ++ flat_map entry_text (take l.entry-index l.entries))

@@ -8,4 +8,5 @@ use Rattle.certificate.proofs.BesideLines.{PartJobs}
 use Rattle.certificate.proofs.jobs.jobs_of_parts.Given as goal
 
 abbrev pub invariant-parts : goal.invariant-parts
-invariant-parts l = PartJobs (circuit_of l.plan.circuit) l.plan.layout (setting_of l.plan.circuit l.plan.layout) (map part_lines l.parts) l.part-index (map arc_value l.jobs.items)
+invariant-parts l = PartJobs (circuit_of l.plan.circuit) l.plan.layout (setting_of l.plan.circuit l.plan.layout)
+    (map part_lines l.parts) l.part-index (map arc_value l.jobs.items)

@@ -22,7 +22,8 @@ jobs_of_parts-requires-clause-complete c =
     let g = setting_of c.args.plan.now.circuit c.args.plan.now.layout in
     let are = sym (ap (map part_lines) c.as_slice.ensures.value ∙ c.in_ok-parts.ensures) in
     let new : is_haloless c.args.version ≡ true = search rules in
-    subst (λ ms. lacks_wire g ms ≡ false) are (ap (λ b. b && lacks_wire g (modules_of c.args.entries.now)) (sym new) ∙ c.requires.complete)
+    subst (λ ms. lacks_wire g ms ≡ false) are
+    (ap (λ b. b && lacks_wire g (modules_of c.args.entries.now)) (sym new) ∙ c.requires.complete)
 
 pub returns-then-version-eq2 : goal.returns-then-version-eq2
 returns-then-version-eq2 c =
@@ -30,12 +31,19 @@ returns-then-version-eq2 c =
     let g = setting_of p.circuit p.layout in
     let are = ap (map part_lines) c.as_slice.ensures.value ∙ c.in_ok-parts.ensures in
     let new : is_haloless c.args.version ≡ true = search rules in
-    subst (λ ms. IfOk c.jobs_of_parts.result (λ js. AreJobsOf (circuit_of p.circuit) p.layout ms (map arc_value js.items))) (sym (meant_new c.args.version g (modules_of c.args.entries.now) new))
-    (subst (λ (ms : List ModuleLines). IfOk c.jobs_of_parts.result (λ js. AreJobsOf (circuit_of p.circuit) p.layout (map (with_halos g ms) ms) (map arc_value js.items))) are c.jobs_of_parts.ensures)
+    subst (λ ms. IfOk c.jobs_of_parts.result
+    (λ js. AreJobsOf (circuit_of p.circuit) p.layout ms (map arc_value js.items)))
+    (sym (meant_new c.args.version g (modules_of c.args.entries.now) new))
+    (subst (λ (ms : List ModuleLines).
+    IfOk c.jobs_of_parts.result (λ js.
+    AreJobsOf (circuit_of p.circuit) p.layout (map (with_halos g ms) ms) (map arc_value js.items))) are
+    c.jobs_of_parts.ensures)
 
 pub returns : goal.returns
 returns c =
     let p = c.args.plan.now in
     let g = setting_of p.circuit p.layout in
     let old : is_haloless c.args.version ≡ false = search rules in
-    subst (λ ms. IfOk c.jobs_of_lines.result (λ js. AreJobsOf (circuit_of p.circuit) p.layout ms (map arc_value js.items))) (sym (meant_old c.args.version g (modules_of c.args.entries.now) old)) c.jobs_of_lines.ensures
+    subst (λ ms. IfOk c.jobs_of_lines.result
+    (λ js. AreJobsOf (circuit_of p.circuit) p.layout ms (map arc_value js.items)))
+    (sym (meant_old c.args.version g (modules_of c.args.entries.now) old)) c.jobs_of_lines.ensures

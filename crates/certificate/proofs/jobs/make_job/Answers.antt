@@ -5,7 +5,8 @@ use Rattle.std.specs.List.{All}
 use Rattle.circuit.specs.Bridge.{circuit_of, netlist_of}
 use Rattle.circuit.specs.Meaning.{Netlist, wires}
 use Rattle.certificate_lines.specs.Entries.{gates, keeps, ModuleLines, edges, halos, stops}
-use Rattle.certificate.proofs.JobLemmas.{keeps_used, within_512, edges_named, halos_named, lists_local, wires_known, cut_count}
+use Rattle.certificate.proofs.JobLemmas.{keeps_used, within_512, edges_named, halos_named, lists_local, wires_known}
+use Rattle.certificate.proofs.JobLemmas.{cut_count}
 use Rattle.module_box.specs.Boxes.{in_box}
 use Rattle.module_box.specs.Locals.{AreLocalsOf}
 use Rattle.module_box.specs.Moves.{IsNear}
@@ -29,7 +30,8 @@ use Rattle.certificate.proofs.jobs.make_job.Goals as goal
 pub named_locals-requires-clause-lines : goal.named_locals-requires-clause-lines
 named_locals-requires-clause-lines c =
     let m : ModuleLines = record { area = c.args.area; lines = c.args.lines.now } in
-    lists_local _ c.args.plan.now.circuit c.args.plan.now.layout m _ _ c.circuit-circuit.ensures refl refl c.requires.module
+    lists_local _ c.args.plan.now.circuit c.args.plan.now.layout m _ _ c.circuit-circuit.ensures refl refl
+    c.requires.module
 
 pub named_locals-requires-clause-kept : goal.named_locals-requires-clause-kept
 named_locals-requires-clause-kept c =
@@ -38,12 +40,14 @@ named_locals-requires-clause-kept c =
 
 pub cell_lists-requires-clause-columns : goal.cell_lists-requires-clause-columns
 cell_lists-requires-clause-columns c =
-    (within_512 (setting_of c.args.plan.now.circuit c.args.plan.now.layout) (record { area = c.args.area; lines = c.args.lines.now }) c.size-size.result
+    (within_512 (setting_of c.args.plan.now.circuit c.args.plan.now.layout)
+    (record { area = c.args.area; lines = c.args.lines.now }) c.size-size.result
     (c.size-size.ensures.size ∙ ap (λ p. p.size) c.layout.ensures) c.size-size.ensures.limits c.requires.module).0
 
 pub cell_lists-requires-clause-rows : goal.cell_lists-requires-clause-rows
 cell_lists-requires-clause-rows c =
-    (within_512 (setting_of c.args.plan.now.circuit c.args.plan.now.layout) (record { area = c.args.area; lines = c.args.lines.now }) c.size-size.result
+    (within_512 (setting_of c.args.plan.now.circuit c.args.plan.now.layout)
+    (record { area = c.args.area; lines = c.args.lines.now }) c.size-size.result
     (c.size-size.ensures.size ∙ ap (λ p. p.size) c.layout.ensures) c.size-size.ensures.limits c.requires.module).1
 
 pub cell_lists-requires-clause-ins : goal.cell_lists-requires-clause-ins
@@ -76,17 +80,20 @@ schedules-requires-clause-halos c =
 
 pub schedules-requires-clause-low_edges : goal.schedules-requires-clause-low_edges
 schedules-requires-clause-low_edges c =
-    low_edges (setting_of c.args.plan.now.circuit c.args.plan.now.layout) (record { area = c.args.area; lines = c.args.lines.now }) c.size-size.result
+    low_edges (setting_of c.args.plan.now.circuit c.args.plan.now.layout)
+    (record { area = c.args.area; lines = c.args.lines.now }) c.size-size.result
     (c.size-size.ensures.size ∙ ap (λ p. p.size) c.layout.ensures) c.size-size.ensures.limits c.requires.module
 
 pub schedules-requires-clause-low_halos : goal.schedules-requires-clause-low_halos
 schedules-requires-clause-low_halos c =
-    low_halos (setting_of c.args.plan.now.circuit c.args.plan.now.layout) (record { area = c.args.area; lines = c.args.lines.now }) c.size-size.result
+    low_halos (setting_of c.args.plan.now.circuit c.args.plan.now.layout)
+    (record { area = c.args.area; lines = c.args.lines.now }) c.size-size.result
     (c.size-size.ensures.size ∙ ap (λ p. p.size) c.layout.ensures) c.size-size.ensures.limits c.requires.module
 
 pub schedules-requires-clause-corner : goal.schedules-requires-clause-corner
 schedules-requires-clause-corner c =
-    let w = within_512 (setting_of c.args.plan.now.circuit c.args.plan.now.layout) (record { area = c.args.area; lines = c.args.lines.now }) c.size-size.result
+    let w = within_512 (setting_of c.args.plan.now.circuit c.args.plan.now.layout)
+    (record { area = c.args.area; lines = c.args.lines.now }) c.size-size.result
     (c.size-size.ensures.size ∙ ap (λ p. p.size) c.layout.ensures) c.size-size.ensures.limits c.requires.module in
     let right = w.0 in
     let bottom = w.1 in
@@ -97,17 +104,20 @@ own_stops-requires-clause-local c =
     let cs = c.args.plan.now.circuit in
     let m : ModuleLines = record { area = c.args.area; lines = c.args.lines.now } in
     let known_wires = wires_known _ cs m _ _ _ c.circuit-circuit.ensures refl refl c.in_ok-locals.ensures.wires in
-    subst (λ ls. All (λ s. is_local (circuit_of ls) c.in_ok-locals.locals.circuit_wires s.wire ≡ true) (stops m)) (sym c.circuit-circuit.ensures)
+    subst (λ ls. All (λ s. is_local (circuit_of ls) c.in_ok-locals.locals.circuit_wires s.wire ≡ true) (stops m))
+    (sym c.circuit-circuit.ensures)
     (stops_named (setting_of cs c.args.plan.now.layout) m c.in_ok-locals.locals known_wires c.requires.module)
 
 pub own_stops-requires-clause-low : goal.own_stops-requires-clause-low
 own_stops-requires-clause-low c =
-    low_stops (setting_of c.args.plan.now.circuit c.args.plan.now.layout) (record { area = c.args.area; lines = c.args.lines.now }) c.size-size.result
+    low_stops (setting_of c.args.plan.now.circuit c.args.plan.now.layout)
+    (record { area = c.args.area; lines = c.args.lines.now }) c.size-size.result
     (c.size-size.ensures.size ∙ ap (λ p. p.size) c.layout.ensures) c.size-size.ensures.limits c.requires.module
 
 pub own_stops-requires-clause-corner : goal.own_stops-requires-clause-corner
 own_stops-requires-clause-corner c =
-    let w = within_512 (setting_of c.args.plan.now.circuit c.args.plan.now.layout) (record { area = c.args.area; lines = c.args.lines.now }) c.size-size.result
+    let w = within_512 (setting_of c.args.plan.now.circuit c.args.plan.now.layout)
+    (record { area = c.args.area; lines = c.args.lines.now }) c.size-size.result
     (c.size-size.ensures.size ∙ ap (λ p. p.size) c.layout.ensures) c.size-size.ensures.limits c.requires.module in
     let right = w.0 in
     let bottom = w.1 in
@@ -131,11 +141,14 @@ shape_with area steps netlist starts demands edges halos stops kept = record {
 pub invariant_of-result : goal.invariant_of-result
 invariant_of-result c =
     let area : Box2 = c.args.area in
-    let limits = within_512 (setting_of c.args.plan.now.circuit c.args.plan.now.layout) (record { area = area; lines = c.args.lines.now }) c.size-size.result
+    let limits = within_512 (setting_of c.args.plan.now.circuit c.args.plan.now.layout)
+    (record { area = area; lines = c.args.lines.now }) c.size-size.result
     (c.size-size.ensures.size ∙ ap (λ p. p.size) c.layout.ensures) c.size-size.ensures.limits c.requires.module in
     let l = c.in_ok-locals.locals in
-    let s = shape_with area c.size-size.result.steps l.netlist c.in_ok-starts.starts.items c.in_ok-starts.demands.items c.in_ok-edges.edges c.in_ok-edges.halos c.in_ok-stops.stops.items c.in_ok-locals.kept.items in
-    let shape_is : arc_value c.in_ok-new.field-0 ≡ s = c.in_ok-new.ensures.ok ∙ (λ i. record s { netlist = c.into_parts-wiring.ensures.wiring i }) in
+    let s = shape_with area c.size-size.result.steps l.netlist c.in_ok-starts.starts.items c.in_ok-starts.demands.items
+    c.in_ok-edges.edges c.in_ok-edges.halos c.in_ok-stops.stops.items c.in_ok-locals.kept.items in
+    let shape_is : arc_value c.in_ok-new.field-0 ≡ s =
+    c.in_ok-new.ensures.ok ∙ (λ i. record s { netlist = c.into_parts-wiring.ensures.wiring i }) in
     let wires_are = c.into_parts-wiring.ensures.wires in
     let gates_are = c.into_parts-wiring.ensures.gates in
     let m : ModuleLines = record { area = area; lines = c.args.lines.now } in
@@ -155,19 +168,27 @@ invariant_of-result c =
         stops = c.in_ok-stops.ensures.said.own;
       };
       stops = λ k d lt. record {
-        time = (stops_stand (λ q. q.time ≤ c.size-size.result.steps) _ l (stops m) placed_stops c.in_ok-stops.ensures.said
-            (λ i r below. subst (λ (n : ℕ). (get_or (stops m) i r).time ≤ n) (sym (ap (λ z. z.steps) (c.size-size.ensures.size ∙ ap (λ p. p.size) c.layout.ensures))) (c.requires.module.stop_lines i r below).time)) k d lt;
-        inside = (stops_stand (λ q. in_box area q.cell.x q.cell.y ≡ true) _ l (stops m) placed_stops c.in_ok-stops.ensures.said
+        time = (stops_stand (λ q. q.time ≤ c.size-size.result.steps) _ l
+            (stops m) placed_stops c.in_ok-stops.ensures.said
+            (λ i r below. subst (λ (n : ℕ). (get_or (stops m) i r).time ≤ n)
+            (sym (ap (λ z. z.steps) (c.size-size.ensures.size ∙ ap (λ p. p.size) c.layout.ensures)))
+            (c.requires.module.stop_lines i r below).time)) k d lt;
+        inside = (stops_stand (λ q. in_box area q.cell.x q.cell.y ≡ true) _ l
+            (stops m) placed_stops c.in_ok-stops.ensures.said
             (λ i r below. (c.requires.module.stop_lines i r below).inside)) k d lt;
       };
       stops_rise = stops_rise _ l c.args.lines.now placed_stops c.requires.module.order c.in_ok-stops.ensures.said;
     } in
     record {
       job = subst IsJob (sym (λ i. placed area.x area.y (wires_are i) (gates_are i) (shape_is i))) job;
-      sized = ap length wires_are ∙ c.into_parts-wiring.ensures.sized ∙ ap (λ (t : ShapeState). wires t.netlist) (sym shape_is);
-      near_edges = subst (λ (t : ShapeState). All (λ e. IsNear e.at.cell) t.edges.events) (sym shape_is) c.in_ok-edges.ensures.near_edges;
-      near_halos = subst (λ (t : ShapeState). All (λ e. IsNear e.at.cell) t.halos.events) (sym shape_is) c.in_ok-edges.ensures.near_halos;
-      near_stops = subst (λ (t : ShapeState). All (λ e. IsNear e.at.cell) t.stops) (sym shape_is) c.in_ok-stops.ensures.near;
+      sized = ap length wires_are ∙ c.into_parts-wiring.ensures.sized
+          ∙ ap (λ (t : ShapeState). wires t.netlist) (sym shape_is);
+      near_edges = subst (λ (t : ShapeState). All (λ e. IsNear e.at.cell) t.edges.events)
+          (sym shape_is) c.in_ok-edges.ensures.near_edges;
+      near_halos = subst (λ (t : ShapeState). All (λ e. IsNear e.at.cell) t.halos.events)
+          (sym shape_is) c.in_ok-edges.ensures.near_halos;
+      near_stops = subst (λ (t : ShapeState). All (λ e. IsNear e.at.cell) t.stops)
+          (sym shape_is) c.in_ok-stops.ensures.near;
     }
 
 pub returns : goal.returns
@@ -178,8 +199,10 @@ returns c =
     let m : ModuleLines = record { area = area; lines = c.args.lines.now } in
     let l = c.in_ok-locals.locals in
     let circuit_is = c.circuit-circuit.ensures in
-    let s = shape_with area c.size-size.result.steps l.netlist c.in_ok-starts.starts.items c.in_ok-starts.demands.items c.in_ok-edges.edges c.in_ok-edges.halos c.in_ok-stops.stops.items c.in_ok-locals.kept.items in
-    let shape_is : arc_value c.in_ok-new.field-0 ≡ s = c.in_ok-new.ensures.ok ∙ (λ i. record s { netlist = c.into_parts-wiring.ensures.wiring i }) in
+    let s = shape_with area c.size-size.result.steps l.netlist c.in_ok-starts.starts.items c.in_ok-starts.demands.items
+    c.in_ok-edges.edges c.in_ok-edges.halos c.in_ok-stops.stops.items c.in_ok-locals.kept.items in
+    let shape_is : arc_value c.in_ok-new.field-0 ≡ s =
+    c.in_ok-new.ensures.ok ∙ (λ i. record s { netlist = c.into_parts-wiring.ensures.wiring i }) in
     let wires_are = c.into_parts-wiring.ensures.wires in
     let gates_are = c.into_parts-wiring.ensures.gates in
     let j = placed area.x area.y l.circuit_wires l.circuit_gates s in
@@ -206,7 +229,10 @@ returns c =
         stops = c.in_ok-stops.ensures.said.own;
       };
       stops = c.in_ok-stops.ensures.said.same ∙ ap (λ ls. line_stops (circuit_of ls) (stops m)) circuit_is;
-      kept = subst (λ (us : List ℕ). map (slice_index us) c.in_ok-locals.kept.items ≡ keeps m) (sym c.in_ok-locals.ensures.gates) c.in_ok-locals.ensures.kept;
-      kept_are_used = subst (λ (u : ℕ). All (λ k. k < u) c.in_ok-locals.kept.items) (sym c.in_ok-locals.ensures.count) c.in_ok-locals.ensures.within;
+      kept = subst (λ (us : List ℕ). map (slice_index us) c.in_ok-locals.kept.items ≡ keeps m)
+          (sym c.in_ok-locals.ensures.gates) c.in_ok-locals.ensures.kept;
+      kept_are_used = subst (λ (u : ℕ). All (λ k. k < u) c.in_ok-locals.kept.items)
+          (sym c.in_ok-locals.ensures.count) c.in_ok-locals.ensures.within;
     } in
-    subst (IsJobOf (circuit_of cs) p m) (sym (λ i. placed area.x area.y (wires_are i) (gates_are i) (shape_is i))) is_job
+    subst (IsJobOf (circuit_of cs) p m)
+    (sym (λ i. placed area.x area.y (wires_are i) (gates_are i) (shape_is i))) is_job

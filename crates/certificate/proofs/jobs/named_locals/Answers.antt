@@ -10,15 +10,18 @@ use Rattle.certificate.proofs.jobs.named_locals.Goals as goal
 pub used_gates-requires : goal.used_gates-requires
 used_gates-requires c =
     let g = c.gates-gate_count in
-    small_gates (netlist_of c.args.circuit.now) _ _ c.requires.lines (few_gates _ c.args.circuit.now g.result refl g.ensures.count g.ensures.few)
+    small_gates (netlist_of c.args.circuit.now) _ _ c.requires.lines
+    (few_gates _ c.args.circuit.now g.result refl g.ensures.count g.ensures.few)
 
 pub kept_places-requires-clause-few : goal.kept_places-requires-clause-few
 kept_places-requires-clause-few c =
-    subst (λ (us : List ℕ). length us ≤ 64) (sym (c.as_slice.ensures.value ∙ c.in_ok-gates.ensures)) c.requires.lines.few_gates
+    subst (λ (us : List ℕ). length us ≤ 64)
+    (sym (c.as_slice.ensures.value ∙ c.in_ok-gates.ensures)) c.requires.lines.few_gates
 
 pub kept_places-requires-clause-used : goal.kept_places-requires-clause-used
 kept_places-requires-clause-used c =
-    subst (λ (us : List ℕ). All (λ k. IsTrue (is_among us k)) (flat_map keep_in c.args.lines.now)) (sym (c.as_slice.ensures.value ∙ c.in_ok-gates.ensures)) c.requires.kept
+    subst (λ (us : List ℕ). All (λ k. IsTrue (is_among us k)) (flat_map keep_in c.args.lines.now))
+    (sym (c.as_slice.ensures.value ∙ c.in_ok-gates.ensures)) c.requires.kept
 
 pub new-requires : goal.new-requires
 new-requires c =
@@ -28,8 +31,10 @@ new-requires c =
 
 pub returns-clause-kept : goal.returns-clause-kept
 returns-clause-kept c =
-    subst (λ (us : List ℕ). map (slice_index us) c.in_ok-kept.kept.items ≡ flat_map keep_in c.args.lines.now) (c.as_slice.ensures.value ∙ c.in_ok-gates.ensures) c.in_ok-kept.ensures.gates
+    subst (λ (us : List ℕ). map (slice_index us) c.in_ok-kept.kept.items ≡ flat_map keep_in c.args.lines.now)
+    (c.as_slice.ensures.value ∙ c.in_ok-gates.ensures) c.in_ok-kept.ensures.gates
 
 pub returns-clause-within : goal.returns-clause-within
 returns-clause-within c =
-    subst (λ (us : List ℕ). All (λ k. k < length us) c.in_ok-kept.kept.items) (c.as_slice.ensures.value ∙ c.in_ok-gates.ensures) c.in_ok-kept.ensures.within
+    subst (λ (us : List ℕ). All (λ k. k < length us) c.in_ok-kept.kept.items)
+    (c.as_slice.ensures.value ∙ c.in_ok-gates.ensures) c.in_ok-kept.ensures.within

@@ -23,17 +23,22 @@ passed z r e small = omega (arith, ints, e, small)
 pub moved-requires-clause-held : goal.moved-requires-clause-held
 moved-requires-clause-held c =
     near_held c.in_ok-signals.signals.held
-    (low_held (circuit_wire c.args.locals.now) (circuit_of c.args.circuit.now) (flat_map (borders_in c.args.side) c.args.lines.now) c.in_ok-signals.signals c.in_ok-signals.ensures.same c.requires.low)
+    (low_held (circuit_wire c.args.locals.now) (circuit_of c.args.circuit.now)
+    (flat_map (borders_in c.args.side) c.args.lines.now) c.in_ok-signals.signals c.in_ok-signals.ensures.same
+    c.requires.low)
 
 pub moved-requires-clause-events : goal.moved-requires-clause-events
 moved-requires-clause-events c =
     near_events c.in_ok-signals.signals.events
-    (low_events (circuit_wire c.args.locals.now) (circuit_of c.args.circuit.now) (flat_map (borders_in c.args.side) c.args.lines.now) c.in_ok-signals.signals c.in_ok-signals.ensures.same c.requires.low)
+    (low_events (circuit_wire c.args.locals.now) (circuit_of c.args.circuit.now)
+    (flat_map (borders_in c.args.side) c.args.lines.now) c.in_ok-signals.signals c.in_ok-signals.ensures.same
+    c.requires.low)
 
 -- what is moved back by these numbers
 moved_back : (x y : ℕ) (dx dy : ℤ) (s own : Signals) → dx ≡ back x → IsSmall dx → dy ≡ back y → IsSmall dy →
     own ≡ moved_signals (to_z w32 (of_z w32 dx)) (to_z w32 (of_z w32 dy)) s → own ≡ moved_signals (back x) (back y) s
-moved_back x y dx dy s own e p f q is = is ∙ ap₂ (λ u v. moved_signals u v s) (passed (back x) dx e p) (passed (back y) dy f q)
+moved_back x y dx dy s own e p f q is =
+    is ∙ ap₂ (λ u v. moved_signals u v s) (passed (back x) dx e p) (passed (back y) dy f q)
 
 -- and so is counted from the corner of the box
 there : (b : Box2) (s own : Signals) → own ≡ moved_signals (back b.x) (back b.y) s → from_corner b own ≡ s
@@ -43,7 +48,9 @@ pub returns-clause-same : goal.returns-clause-same
 returns-clause-same c =
     let s = c.in_ok-signals.signals in
     IfOk-weaker c.moved.result _ _ (λ own is.
-    ap (renumber_signals (circuit_wire c.args.locals.now)) (there c.args.area s own (moved_back c.args.area.x c.args.area.y _ _ s own c.back.ensures.is c.back.ensures.small c.back-2.ensures.is c.back-2.ensures.small is))
+    ap (renumber_signals (circuit_wire c.args.locals.now))
+    (there c.args.area s own (moved_back c.args.area.x c.args.area.y _ _ s own c.back.ensures.is c.back.ensures.small
+    c.back-2.ensures.is c.back-2.ensures.small is))
     ∙ c.in_ok-signals.ensures.same) c.moved.ensures
 
 pub returns-clause-held : goal.returns-clause-held
@@ -51,7 +58,9 @@ returns-clause-held c =
     let s = c.in_ok-signals.signals in
     IfOk-weaker c.moved.result _ _ (λ own is.
     subst (λ (t : Signals). All (λ h. IsBelow (wires c.args.locals.now.netlist) h.signal) t.held)
-    (sym (there c.args.area s own (moved_back c.args.area.x c.args.area.y _ _ s own c.back.ensures.is c.back.ensures.small c.back-2.ensures.is c.back-2.ensures.small is)))
+    (sym (there c.args.area s own
+    (moved_back c.args.area.x c.args.area.y _ _ s own c.back.ensures.is c.back.ensures.small c.back-2.ensures.is
+    c.back-2.ensures.small is)))
     c.in_ok-signals.ensures.held) c.moved.ensures
 
 pub returns-clause-events : goal.returns-clause-events
@@ -59,7 +68,9 @@ returns-clause-events c =
     let s = c.in_ok-signals.signals in
     IfOk-weaker c.moved.result _ _ (λ own is.
     subst (λ (t : Signals). All (λ e. IsBelow (wires c.args.locals.now.netlist) e.signal) t.events)
-    (sym (there c.args.area s own (moved_back c.args.area.x c.args.area.y _ _ s own c.back.ensures.is c.back.ensures.small c.back-2.ensures.is c.back-2.ensures.small is)))
+    (sym (there c.args.area s own
+    (moved_back c.args.area.x c.args.area.y _ _ s own c.back.ensures.is c.back.ensures.small c.back-2.ensures.is
+    c.back-2.ensures.small is)))
     c.in_ok-signals.ensures.events) c.moved.ensures
 
 pub returns-clause-near : goal.returns-clause-near
@@ -67,8 +78,10 @@ returns-clause-near c =
     let s = c.in_ok-signals.signals in
     let x = c.args.area.x in
     let y = c.args.area.y in
-    let low = low_events (circuit_wire c.args.locals.now) (circuit_of c.args.circuit.now) (flat_map (borders_in c.args.side) c.args.lines.now) s c.in_ok-signals.ensures.same c.requires.low in
+    let low = low_events (circuit_wire c.args.locals.now) (circuit_of c.args.circuit.now)
+    (flat_map (borders_in c.args.side) c.args.lines.now) s c.in_ok-signals.ensures.same c.requires.low in
     IfOk-weaker c.moved.result _ _ (λ own is.
     subst (λ (t : Signals). All (λ (e : Event). IsNear e.at.cell) t.events)
-    (sym (moved_back x y _ _ s own c.back.ensures.is c.back.ensures.small c.back-2.ensures.is c.back-2.ensures.small is))
+    (sym (moved_back x y _ _ s own c.back.ensures.is c.back.ensures.small c.back-2.ensures.is c.back-2.ensures.small
+    is))
     (near_moved x y s.events c.requires.corner.0 c.requires.corner.1 low)) c.moved.ensures

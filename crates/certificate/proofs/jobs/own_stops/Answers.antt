@@ -20,20 +20,25 @@ pub moved_stops-requires-clause-cells : goal.moved_stops-requires-clause-cells
 moved_stops-requires-clause-cells c =
     subst (All (λ (s : Stop). IsNear s.at.cell)) (sym c.as_slice.ensures.value)
     (near_stops c.in_ok-stops.stops.items
-    (stops_stand (λ q. IsLow q.cell) (circuit_of c.args.circuit.now) c.args.locals.now (flat_map stop_in c.args.lines.now) c.in_ok-stops.stops.items c.in_ok-stops.ensures c.requires.low))
+    (stops_stand (λ q. IsLow q.cell) (circuit_of c.args.circuit.now) c.args.locals.now
+    (flat_map stop_in c.args.lines.now) c.in_ok-stops.stops.items c.in_ok-stops.ensures c.requires.low))
 
 -- a small number is passed as it is
 passed : (z r : ℤ) → r ≡ z → IsSmall r → to_z w32 (of_z w32 r) ≡ z
 passed z r e small = omega (arith, ints, e, small)
 
 -- what is moved back by these numbers
-moved_back : (x y : ℕ) (dx dy : ℤ) (ss given own : List Stop) → dx ≡ back x → IsSmall dx → dy ≡ back y → IsSmall dy → given ≡ ss →
-    own ≡ map (moved_stop (to_z w32 (of_z w32 dx)) (to_z w32 (of_z w32 dy))) given → own ≡ map (moved_stop (back x) (back y)) ss
-moved_back x y dx dy ss given own e p f q same is = is ∙ (λ i. map (moved_stop (passed (back x) dx e p i) (passed (back y) dy f q i)) (same i))
+moved_back : (x y : ℕ) (dx dy : ℤ) (ss given own : List Stop) → dx ≡ back x → IsSmall dx → dy ≡ back y → IsSmall dy →
+    given ≡ ss →
+    own ≡ map (moved_stop (to_z w32 (of_z w32 dx)) (to_z w32 (of_z w32 dy))) given →
+    own ≡ map (moved_stop (back x) (back y)) ss
+moved_back x y dx dy ss given own e p f q same is =
+    is ∙ (λ i. map (moved_stop (passed (back x) dx e p i) (passed (back y) dy f q i)) (same i))
 
 -- and so is counted from the corner of the box
 there : (b : Box2) (ss own : List Stop) → own ≡ map (moved_stop (back b.x) (back b.y)) ss → stops_from_corner b own ≡ ss
-there b ss own is = ap (stops_from_corner b) is ∙ stops_back (back b.x) (back b.y) (pos b.x) (pos b.y) ss (back_forth b.x) (back_forth b.y)
+there b ss own is = ap (stops_from_corner b) is
+    ∙ stops_back (back b.x) (back b.y) (pos b.x) (pos b.y) ss (back_forth b.x) (back_forth b.y)
 
 pub returns-clause-said : goal.returns-clause-said
 returns-clause-said c =
@@ -41,15 +46,19 @@ returns-clause-said c =
     let area : Box2 = c.args.area in
     IfOk-weaker c.moved_stops.result _ _ (λ own is.
     subst (AreStops (circuit_of c.args.circuit.now) c.args.locals.now (flat_map stop_in c.args.lines.now))
-    (sym (there area ss own.items (moved_back area.x area.y _ _ ss _ own.items c.back.ensures.is c.back.ensures.small c.back-2.ensures.is c.back-2.ensures.small c.as_slice.ensures.value is)))
+    (sym (there area ss own.items
+    (moved_back area.x area.y _ _ ss _ own.items c.back.ensures.is c.back.ensures.small c.back-2.ensures.is
+    c.back-2.ensures.small c.as_slice.ensures.value is)))
     c.in_ok-stops.ensures) c.moved_stops.ensures
 
 pub returns-clause-near : goal.returns-clause-near
 returns-clause-near c =
     let ss = c.in_ok-stops.stops.items in
     let area : Box2 = c.args.area in
-    let low = stops_stand (λ q. IsLow q.cell) (circuit_of c.args.circuit.now) c.args.locals.now (flat_map stop_in c.args.lines.now) ss c.in_ok-stops.ensures c.requires.low in
+    let low = stops_stand (λ q. IsLow q.cell) (circuit_of c.args.circuit.now) c.args.locals.now
+    (flat_map stop_in c.args.lines.now) ss c.in_ok-stops.ensures c.requires.low in
     IfOk-weaker c.moved_stops.result _ _ (λ own is.
     subst (All (λ (s : Stop). IsNear s.at.cell))
-    (sym (moved_back area.x area.y _ _ ss _ own.items c.back.ensures.is c.back.ensures.small c.back-2.ensures.is c.back-2.ensures.small c.as_slice.ensures.value is))
+    (sym (moved_back area.x area.y _ _ ss _ own.items c.back.ensures.is c.back.ensures.small c.back-2.ensures.is
+    c.back-2.ensures.small c.as_slice.ensures.value is))
     (near_moved_stops area.x area.y ss c.requires.corner.0 c.requires.corner.1 low)) c.moved_stops.ensures

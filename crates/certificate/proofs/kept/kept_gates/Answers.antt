@@ -14,12 +14,16 @@ lines-preserved c =
     let p = c.lines.place in
     elim c.if-is_module.branch [
       | then-is_module+in_ok-note_keeps w ↦
-          let lines_are : w.inner_lines.result.now ≡ inner (drop (p + 1) es) = w.inner_lines.ensures ∙ ap inner (rest_of_lines es (p + 1)) in
+          let lines_are : w.inner_lines.result.now ≡ inner (drop (p + 1) es) =
+          w.inner_lines.ensures ∙ ap inner (rest_of_lines es (p + 1)) in
           subst (λ s. AreNoted es (p + 1) s.keys) (sym w.kept-is)
-          (module_noted es p c.index-entries-place.result w.inner_lines.result.now c.lines.kept.keys w.note_keeps.new.kept.keys c.lines-test.true c.index-entries-place.is (sym c.is_module.ensures ∙ w.if-is_module.true) lines_are w.in_ok-note_keeps.ensures c.lines.invariant)
+          (module_noted es p c.index-entries-place.result w.inner_lines.result.now c.lines.kept.keys
+          w.note_keeps.new.kept.keys c.lines-test.true c.index-entries-place.is
+          (sym c.is_module.ensures ∙ w.if-is_module.true) lines_are w.in_ok-note_keeps.ensures c.lines.invariant)
       | else-is_module w ↦
           subst (λ s. AreNoted es (p + 1) s.keys) (sym w.kept-is)
-          (other_noted es p c.index-entries-place.result c.lines.kept.keys c.lines-test.true c.index-entries-place.is (sym c.is_module.ensures ∙ w.if-is_module.false) c.lines.invariant)
+          (other_noted es p c.index-entries-place.result c.lines.kept.keys c.lines-test.true c.index-entries-place.is
+          (sym c.is_module.ensures ∙ w.if-is_module.false) c.lines.invariant)
     ]
 
 pub returns : goal.returns

@@ -6,4 +6,5 @@ use Rattle.certificate_lines.specs.Entries.{keep_in}
 use Rattle.certificate.proofs.kept.note_keeps.Given as goal
 
 abbrev pub invariant-loop-line : goal.invariant-loop-line
-invariant-loop-line l = (n : ℕ) → is_among l.kept.keys n ≡ (is_among l.fn.kept.keys n || is_among (flat_map keep_in (take l.line-index l.lines)) n)
+invariant-loop-line l = (n : ℕ) →
+    is_among l.kept.keys n ≡ (is_among l.fn.kept.keys n || is_among (flat_map keep_in (take l.line-index l.lines)) n)

@@ -7,8 +7,11 @@ use Rattle.certificate.proofs.plan.others_of.Goals as goal
 
 pub grid_of-requires-clause-inside : goal.grid_of-requires-clause-inside
 grid_of-requires-clause-inside c =
-    others_inside c.args.layout.now c.size-size.result c.size-size.ensures.size c.size-size.ensures.good c.deref.result.now (c.deref.ensures.value ∙ c.in_ok-cells.ensures)
+    others_inside c.args.layout.now c.size-size.result c.size-size.ensures.size c.size-size.ensures.good
+    c.deref.result.now (c.deref.ensures.value ∙ c.in_ok-cells.ensures)
 
 pub returns : goal.returns
 returns c = λ x y dead.
-    no_others c.args.layout.now x y (ap (λ (l : List Cell). in_cells l x y) (sym (c.deref.ensures.value ∙ c.in_ok-cells.ensures)) ∙ sym (c.in_ok-grid.ensures x y) ∙ dead)
+    no_others c.args.layout.now x y
+    (ap (λ (l : List Cell). in_cells l x y) (sym (c.deref.ensures.value ∙ c.in_ok-cells.ensures))
+    ∙ sym (c.in_ok-grid.ensures x y) ∙ dead)

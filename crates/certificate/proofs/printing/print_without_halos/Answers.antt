@@ -7,8 +7,11 @@ loop-entry-init c = none_printed c.args.out.now.items
 
 pub loop-entry-preserved : goal.loop-entry-preserved
 loop-entry-preserved c =
-    one_more_printed c.args.entries.now c.loop-entry.entry-index c.entry-item.result c.args.out.now.items c.loop-entry.out.items c.print_unless_halo.new.out.items c.loop-entry-test.true c.entry-item.is c.loop-entry.invariant
+    one_more_printed c.args.entries.now c.loop-entry.entry-index c.entry-item.result c.args.out.now.items
+    c.loop-entry.out.items c.print_unless_halo.new.out.items c.loop-entry-test.true c.entry-item.is
+    c.loop-entry.invariant
     (c.in_ok-print_unless_halo.ensures)
 
 pub returns : goal.returns
-returns c = all_printed c.args.entries.now c.loop-entry.entry-index c.args.out.now.items c.loop-entry.out.items c.loop-entry-test.false c.loop-entry.invariant
+returns c = all_printed c.args.entries.now c.loop-entry.entry-index c.args.out.now.items c.loop-entry.out.items
+    c.loop-entry-test.false c.loop-entry.invariant

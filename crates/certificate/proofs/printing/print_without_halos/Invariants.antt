@@ -6,4 +6,5 @@ use Rattle.certificate_lines.specs.Versions.{without_halos}
 use Rattle.certificate.proofs.printing.print_without_halos.Given as goal
 
 abbrev pub invariant-loop-entry : goal.invariant-loop-entry
-invariant-loop-entry l = l.out.items ≡ l.fn.out.items ++ flat_map entry_text (without_halos (take l.entry-index l.entries))
+invariant-loop-entry l = l.out.items
+    ≡ l.fn.out.items ++ flat_map entry_text (without_halos (take l.entry-index l.entries))

@@ -15,11 +15,21 @@ invariant_of-result c =
     let faultless = reads_faultless _ _ _ _ _ c.in-Ok-read.ensures.reads in
     let read = faultless_modules c.in-Ok.reading.builder.setting _ _ faultless in
     record {
-      counted = c.into_parts-entries.ensures.counts ∙ ap (λ (es : List Entry). map counts_of (modules_of es)) (sym c.into_parts-entries.ensures.entries);
-      good = subst (λ (es : List Entry). AreModules (setting_of c.args.circuit.now c.args.layout.now) (modules_of es)) (sym c.into_parts-entries.ensures.entries) (subst (λ (g : Setting). AreModules g (modules_of c.read_section-read.new.section.builder.entries)) c.in-Ok.ensures.setting read);
-      few_lines = subst (λ (es : List Entry). All HasFewLines (modules_of es)) (sym c.into_parts-entries.ensures.entries) (faultless_lines c.in-Ok.reading.builder.setting _ _ faultless);
+      counted = c.into_parts-entries.ensures.counts
+          ∙ ap (λ (es : List Entry). map counts_of (modules_of es)) (sym c.into_parts-entries.ensures.entries);
+      good = subst (λ (es : List Entry). AreModules (setting_of c.args.circuit.now c.args.layout.now) (modules_of es))
+          (sym c.into_parts-entries.ensures.entries)
+          (subst (λ (g : Setting). AreModules g (modules_of c.read_section-read.new.section.builder.entries))
+          c.in-Ok.ensures.setting read);
+      few_lines = subst (λ (es : List Entry). All HasFewLines (modules_of es))
+          (sym c.into_parts-entries.ensures.entries) (faultless_lines c.in-Ok.reading.builder.setting _ _ faultless);
       known = read_version c.in-Ok.reading.builder.setting _ _ faultless;
-      complete = subst (λ (es : List Entry). (is_haloless c.read_section-read.new.section.version && lacks_wire (setting_of c.args.circuit.now c.args.layout.now) (modules_of es)) ≡ false) (sym c.into_parts-entries.ensures.entries)
-          (subst (λ (g : Setting). (is_haloless c.read_section-read.new.section.version && lacks_wire g (modules_of c.read_section-read.new.section.builder.entries)) ≡ false) c.in-Ok.ensures.setting (read_complete c.in-Ok.reading.builder.setting _ _ faultless));
+      complete = subst (λ (es : List Entry).
+          (is_haloless c.read_section-read.new.section.version
+          && lacks_wire (setting_of c.args.circuit.now c.args.layout.now) (modules_of es)) ≡ false)
+          (sym c.into_parts-entries.ensures.entries)
+          (subst (λ (g : Setting). (is_haloless c.read_section-read.new.section.version
+          && lacks_wire g (modules_of c.read_section-read.new.section.builder.entries)) ≡ false) c.in-Ok.ensures.setting
+          (read_complete c.in-Ok.reading.builder.setting _ _ faultless));
       hashed = tt;
     }

@@ -6,4 +6,5 @@ use Rattle.certificate.specs.StopLists.{AreStops}
 use Rattle.certificate.proofs.stops.stops_of.Given as goal
 
 abbrev pub invariant-lines : goal.invariant-lines
-invariant-lines l = AreStops (circuit_of l.circuit) l.locals (flat_map stop_in (take l.line-index l.lines)) l.stops.items
+invariant-lines l = AreStops (circuit_of l.circuit) l.locals
+    (flat_map stop_in (take l.line-index l.lines)) l.stops.items

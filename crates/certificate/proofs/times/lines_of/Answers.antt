@@ -8,5 +8,7 @@ use Rattle.certificate.proofs.times.lines_of.Goals as goal
 pub returns : goal.returns
 returns c =
     subst (λ xs. IfOk c.lines_by.result (λ lines. lines.items ≡ xs))
-    (lines_told (circuit_of c.args.circuit.now) (modules_of c.args.entries.now) _ c.in_ok-firsts.firsts.items c.in_ok-lasts.lasts.items c.deref.result.now c.deref-2.result.now c.deref.ensures.value c.deref-2.ensures.value
+    (lines_told (circuit_of c.args.circuit.now)
+    (modules_of c.args.entries.now) _ c.in_ok-firsts.firsts.items c.in_ok-lasts.lasts.items c.deref.result.now
+    c.deref-2.result.now c.deref.ensures.value c.deref-2.ensures.value
     c.module_lines-lines.ensures c.in_ok-firsts.ensures c.in_ok-lasts.ensures) c.lines_by.ensures

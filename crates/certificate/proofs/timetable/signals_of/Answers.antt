@@ -15,36 +15,54 @@ lines-init c = no_lines (circuit_of c.args.circuit.now) c.args.locals.now _ c.ne
 
 -- src/timetable.rt:127:9
 pub add_line-requires : goal.add_line-requires
-add_line-requires c = flat_at (IsNamedLocal (circuit_of c.args.circuit.now) c.args.locals.now) (borders_in c.args.side) c.args.lines.now c.requires.local c.lines.line-index c.line-item.result c.lines-test.true c.line-item.is
+add_line-requires c = flat_at (IsNamedLocal (circuit_of c.args.circuit.now) c.args.locals.now)
+    (borders_in c.args.side) c.args.lines.now c.requires.local c.lines.line-index c.line-item.result c.lines-test.true
+    c.line-item.is
 
 -- src/timetable.rt:126:5
 pub lines-preserved : goal.lines-preserved
-lines-preserved c = next_table (circuit_of c.args.circuit.now) c.args.locals.now c.args.side c.args.lines.now c.lines.line-index c.line-item.result _ c.lines-test.true c.line-item.is (c.in_ok-add_line.ensures _ c.lines.invariant)
+lines-preserved c = next_table
+    (circuit_of c.args.circuit.now) c.args.locals.now c.args.side c.args.lines.now c.lines.line-index c.line-item.result
+    _ c.lines-test.true c.line-item.is (c.in_ok-add_line.ensures _ c.lines.invariant)
 
 -- src/timetable.rt:129:8
 pub new-requires-3-clause-held : goal.new-requires-3-clause-held
-new-requires-3-clause-held c = table_held_rises (circuit_of c.args.circuit.now) c.args.locals.now c.args.side c.args.lines.now _ c.requires.order (all_lines (circuit_of c.args.circuit.now) c.args.locals.now c.args.side c.args.lines.now c.lines.line-index _ c.lines-test.false c.lines.invariant)
+new-requires-3-clause-held c =
+    table_held_rises (circuit_of c.args.circuit.now) c.args.locals.now c.args.side c.args.lines.now _ c.requires.order
+    (all_lines (circuit_of c.args.circuit.now) c.args.locals.now c.args.side c.args.lines.now c.lines.line-index _
+    c.lines-test.false c.lines.invariant)
 
 -- src/timetable.rt:129:8
 pub new-requires-3-clause-events : goal.new-requires-3-clause-events
-new-requires-3-clause-events c = table_events_rise (circuit_of c.args.circuit.now) c.args.locals.now c.args.side c.args.lines.now _ c.requires.order (all_lines (circuit_of c.args.circuit.now) c.args.locals.now c.args.side c.args.lines.now c.lines.line-index _ c.lines-test.false c.lines.invariant)
+new-requires-3-clause-events c =
+    table_events_rise (circuit_of c.args.circuit.now) c.args.locals.now c.args.side c.args.lines.now _ c.requires.order
+    (all_lines (circuit_of c.args.circuit.now) c.args.locals.now c.args.side c.args.lines.now c.lines.line-index _
+    c.lines-test.false c.lines.invariant)
 
 -- src/timetable.rt:110:1
 pub returns-clause-same : goal.returns-clause-same
 returns-clause-same c =
-    let t = all_lines (circuit_of c.args.circuit.now) c.args.locals.now c.args.side c.args.lines.now c.lines.line-index _ c.lines-test.false c.lines.invariant in
+    let t = all_lines (circuit_of c.args.circuit.now) c.args.locals.now c.args.side c.args.lines.now c.lines.line-index
+    _ c.lines-test.false c.lines.invariant in
     let f = circuit_wire c.args.locals.now in
-    ap (λ hs. record { held = map (renumber_held f) hs; events = map (renumber_event f) c.new-3.result.events }) c.new-3.ensures.held ∙
-    ap (λ es. record { held = map (renumber_held f) c.lines.table.held.items; events = map (renumber_event f) es }) c.new-3.ensures.events ∙
+    ap (λ hs. record { held = map (renumber_held f) hs; events = map (renumber_event f) c.new-3.result.events })
+    c.new-3.ensures.held ∙
+    ap (λ es. record { held = map (renumber_held f) c.lines.table.held.items; events = map (renumber_event f) es })
+    c.new-3.ensures.events ∙
     ap (λ hs. record { held = hs; events = map (renumber_event f) c.lines.table.events.items }) t.held ∙
-    ap (λ es. record { held = (line_signals (circuit_of c.args.circuit.now) (flat_map (borders_in c.args.side) c.args.lines.now)).held; events = es }) t.events
+    ap (λ es. record {
+      held = (line_signals (circuit_of c.args.circuit.now) (flat_map (borders_in c.args.side) c.args.lines.now)).held;
+      events = es;
+    }) t.events
 
 -- src/timetable.rt:110:1
 pub returns-clause-held : goal.returns-clause-held
 returns-clause-held c =
-    subst (All (λ h. IsBelow (wires c.args.locals.now.netlist) h.signal)) (sym c.new-3.ensures.held) c.lines.invariant.own_held
+    subst (All (λ h. IsBelow (wires c.args.locals.now.netlist) h.signal))
+    (sym c.new-3.ensures.held) c.lines.invariant.own_held
 
 -- src/timetable.rt:110:1
 pub returns-clause-events : goal.returns-clause-events
 returns-clause-events c =
-    subst (All (λ e. IsBelow (wires c.args.locals.now.netlist) e.signal)) (sym c.new-3.ensures.events) c.lines.invariant.own_events
+    subst (All (λ e. IsBelow (wires c.args.locals.now.netlist) e.signal))
+    (sym c.new-3.ensures.events) c.lines.invariant.own_events

@@ -6,4 +6,5 @@ use Rattle.certificate.specs.Timetables.{IsTimetable, borders_in}
 use Rattle.certificate.proofs.timetable.signals_of.Given as goal
 
 abbrev pub invariant-lines : goal.invariant-lines
-invariant-lines l = IsTimetable (circuit_of l.circuit) l.locals (flat_map (borders_in l.side) (take l.line-index l.lines)) l.table
+invariant-lines l = IsTimetable (circuit_of l.circuit) l.locals
+    (flat_map (borders_in l.side) (take l.line-index l.lines)) l.table

@@ -6,9 +6,12 @@ use Rattle.certificate_lines.proofs.BorderLines.{stop_found, stop_missed}
 use Rattle.certificate_lines.proofs.form.stop_in.Goals as goal
 
 pub returns-in_default : goal.returns-in_default
-returns-in_default c = stop_missed (words_of (line_bytes c.args.feed.now c.args.line.now)) (ap (option_map listed) (sym c.in_default.is) ∙ c.five_words.ensures)
+returns-in_default c = stop_missed (words_of (line_bytes c.args.feed.now c.args.line.now))
+    (ap (option_map listed) (sym c.in_default.is) ∙ c.five_words.ensures)
 
 pub returns : goal.returns
 returns c =
     c.stop_of_words.ensures
-    ∙ stop_found (words_of (line_bytes c.args.feed.now c.args.line.now)) c.in-Some.words.first.now c.in-Some.words.second.now c.in-Some.words.third.now c.in-Some.words.fourth.now c.in-Some.words.fifth.now (ap (option_map listed) (sym c.in-Some.is) ∙ c.five_words.ensures)
+    ∙ stop_found (words_of (line_bytes c.args.feed.now c.args.line.now)) c.in-Some.words.first.now
+    c.in-Some.words.second.now c.in-Some.words.third.now c.in-Some.words.fourth.now c.in-Some.words.fifth.now
+    (ap (option_map listed) (sym c.in-Some.is) ∙ c.five_words.ensures)

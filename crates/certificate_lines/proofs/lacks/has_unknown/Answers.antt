@@ -8,5 +8,7 @@ use Rattle.certificate_lines.proofs.lacks.has_unknown.Goals as goal
 
 pub returns-then-is_unknown_line : goal.returns-then-is_unknown_line
 returns-then-is_unknown_line c =
-    sym (any_kept (λ (e : Border). in_halo c.args.area e.cell.x e.cell.y) (λ (e : Border). is_strange c.args.site.now.circuit c.args.known.now.keys e.signal)
-    edge_in c.args.lines.now c.lines.line-index c.line-item.result c.lines-test.true c.line-item.is (sym c.is_unknown_line.ensures ∙ c.if-is_unknown_line.true))
+    sym (any_kept (λ (e : Border). in_halo c.args.area e.cell.x e.cell.y)
+    (λ (e : Border). is_strange c.args.site.now.circuit c.args.known.now.keys e.signal)
+    edge_in c.args.lines.now c.lines.line-index c.line-item.result c.lines-test.true c.line-item.is
+    (sym c.is_unknown_line.ensures ∙ c.if-is_unknown_line.true))

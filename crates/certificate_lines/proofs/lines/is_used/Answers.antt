@@ -7,17 +7,20 @@ loop-back-init c = told_by_all c.args.entries.now c.args.number
 
 pub returns-then-is_module : goal.returns-then-is_module
 returns-then-is_module c =
-    told_false c.args.entries.now c.args.number c.loop-back.back c.index-entries-count.result c.loop-back-test.true c.index-entries-count.is c.loop-back.invariant
+    told_false c.args.entries.now c.args.number c.loop-back.back c.index-entries-count.result c.loop-back-test.true
+    c.index-entries-count.is c.loop-back.invariant
     (sym c.is_module.ensures ∙ c.if-is_module.true)
 
 pub returns-then-uses : goal.returns-then-uses
 returns-then-uses c =
-    told_true c.args.entries.now c.args.number c.loop-back.back c.index-entries-count.result c.loop-back-test.true c.index-entries-count.is c.loop-back.invariant
+    told_true c.args.entries.now c.args.number c.loop-back.back c.index-entries-count.result c.loop-back-test.true
+    c.index-entries-count.is c.loop-back.invariant
     (sym c.is_module.ensures ∙ c.if-is_module.false) (sym c.uses.ensures ∙ c.if-uses.true)
 
 pub loop-back-preserved : goal.loop-back-preserved
 loop-back-preserved c =
-    told_before c.args.entries.now c.args.number c.loop-back.back c.index-entries-count.result c.loop-back-test.true c.index-entries-count.is c.loop-back.invariant
+    told_before c.args.entries.now c.args.number c.loop-back.back c.index-entries-count.result c.loop-back-test.true
+    c.index-entries-count.is c.loop-back.invariant
     (sym c.is_module.ensures ∙ c.if-is_module.false) (sym c.uses.ensures ∙ c.if-uses.false)
 
 pub returns : goal.returns

@@ -14,6 +14,9 @@ loop-line-preserved c =
     let first = c.args.wires.now.items in
     let before = flat_map cut_in (take c.loop-line.line-index c.args.lines.now) in
     let here = cut_in c.line-item.result in
-    let more = ap (flat_map wire) (flat_more cut_in c.args.lines.now c.loop-line.line-index c.line-item.result c.loop-line-test.true c.line-item.is) ∙ flat_map-append wire before here in
-    c.in_ok-push_cut.ensures ∙ ap (λ (l : List ℕ). l ++ flat_map wire here) c.loop-line.invariant ∙ append_assoc first (flat_map wire before) (flat_map wire here)
+    let more = ap (flat_map wire)
+    (flat_more cut_in c.args.lines.now c.loop-line.line-index c.line-item.result c.loop-line-test.true c.line-item.is)
+    ∙ flat_map-append wire before here in
+    c.in_ok-push_cut.ensures ∙ ap (λ (l : List ℕ). l ++ flat_map wire here) c.loop-line.invariant
+    ∙ append_assoc first (flat_map wire before) (flat_map wire here)
     ∙ ap (λ (l : List ℕ). first ++ l) (sym more)

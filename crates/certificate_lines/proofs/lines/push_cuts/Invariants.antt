@@ -8,4 +8,6 @@ use Rattle.certificate_lines.specs.Entries.{cut_in}
 use Rattle.certificate_lines.proofs.lines.push_cuts.Given as goal
 
 abbrev pub invariant-loop-line : goal.invariant-loop-line
-invariant-loop-line l = l.wires.items ≡ l.fn.wires.items ++ flat_map (λ n. option_to_list (wire_of (circuit_of l.circuit) n)) (flat_map cut_in (take l.line-index l.lines))
+invariant-loop-line l = l.wires.items
+    ≡ l.fn.wires.items ++ flat_map (λ n. option_to_list (wire_of (circuit_of l.circuit) n))
+    (flat_map cut_in (take l.line-index l.lines))

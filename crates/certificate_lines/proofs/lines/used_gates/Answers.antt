@@ -4,9 +4,12 @@ use Rattle.certificate_lines.proofs.FlatParts.{flat_at, flat_more}
 use Rattle.certificate_lines.proofs.lines.used_gates.Goals as goal
 
 pub push_use-requires : goal.push_use-requires
-push_use-requires c = flat_at (λ k. k < 2 ^ 16) use_in c.args.lines.now c.requires c.loop-line.line-index c.line-item.result c.loop-line-test.true c.line-item.is
+push_use-requires c = flat_at
+    (λ k. k < 2 ^ 16) use_in c.args.lines.now c.requires c.loop-line.line-index c.line-item.result c.loop-line-test.true
+    c.line-item.is
 
 pub loop-line-preserved : goal.loop-line-preserved
 loop-line-preserved c =
     c.in_ok-push_use.ensures ∙ ap (λ (l : List ℕ). l ++ use_in c.line-item.result) c.loop-line.invariant
-    ∙ sym (flat_more use_in c.args.lines.now c.loop-line.line-index c.line-item.result c.loop-line-test.true c.line-item.is)
+    ∙ sym (flat_more use_in c.args.lines.now c.loop-line.line-index c.line-item.result c.loop-line-test.true
+    c.line-item.is)

@@ -6,4 +6,6 @@ use Rattle.certificate_lines.specs.PortTables.{port_at}
 use Rattle.certificate_lines.proofs.site.push_names.Given as goal
 
 abbrev pub invariant-loop-cell : goal.invariant-loop-cell
-invariant-loop-cell l = (f : List ℕ → Bool) → list_any f l.names.items ≡ (list_any f l.fn.names.items || list_any (λ c. option_map_or f (port_at l.ports c.x c.y) false) (take l.cell-index l.cells))
+invariant-loop-cell l = (f : List ℕ → Bool) →
+    list_any f l.names.items ≡ (list_any f l.fn.names.items
+    || list_any (λ c. option_map_or f (port_at l.ports c.x c.y) false) (take l.cell-index l.cells))

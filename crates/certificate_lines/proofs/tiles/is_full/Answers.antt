@@ -6,10 +6,13 @@ use Rattle.certificate_lines.proofs.TileLemmas.{rows_longer}
 use Rattle.certificate_lines.proofs.tiles.is_full.Goals as goal
 
 pub loop-y-preserved : goal.loop-y-preserved
-loop-y-preserved c = rows_longer (λ d. live c.args.grid.now d.x d.y) c.args.w c.loop-y.y c.loop-y.full c.is_row_full-full.result c.loop-y.invariant c.is_row_full-full.ensures
+loop-y-preserved c = rows_longer
+    (λ d. live c.args.grid.now d.x d.y) c.args.w c.loop-y.y c.loop-y.full c.is_row_full-full.result c.loop-y.invariant
+    c.is_row_full-full.ensures
 
 pub returns : goal.returns
 unfolding rectangle_cells
 returns c =
     let all : c.loop-y.y ≡ c.args.h = omega arith in
-    c.loop-y.invariant ∙ ap (λ (n : ℕ). list_all (λ d. live c.args.grid.now d.x d.y) (flat_map (row_cells 0 c.args.w) (range_with_len 0 n))) all
+    c.loop-y.invariant ∙ ap (λ (n : ℕ).
+    list_all (λ d. live c.args.grid.now d.x d.y) (flat_map (row_cells 0 c.args.w) (range_with_len 0 n))) all

@@ -6,4 +6,5 @@ use Rattle.pattern.specs.Layout.{row_cells}
 use Rattle.certificate_lines.proofs.tiles.is_full.Given as goal
 
 abbrev pub invariant-loop-y : goal.invariant-loop-y
-invariant-loop-y l = l.full ≡ list_all (λ c. live l.fn.grid c.x c.y) (flat_map (λ y. row_cells 0 l.fn.w y) (range_with_len 0 l.y))
+invariant-loop-y l = l.full ≡ list_all (λ c. live l.fn.grid c.x c.y)
+    (flat_map (λ y. row_cells 0 l.fn.w y) (range_with_len 0 l.y))

@@ -12,24 +12,32 @@ audited_by-requires-clause-fresh g c κs within = no_history c.in_ok-state.state
 pub complete-requires : goal.complete-requires
 complete-requires g c =
     let still = c.in_ok-audited.ensures.own in
-    let copied = clones-same arc_value c.in_ok-jobs.jobs.items c.in_ok-copies.copies.items c.in_ok-copies.ensures.cases.0 in
+    let copied = clones-same arc_value c.in_ok-jobs.jobs.items c.in_ok-copies.copies.items
+    c.in_ok-copies.ensures.cases.0 in
     record {
       own = record {
         still_open = still.still_open;
         digest_is = still.digest_is ∙ own_digest c.in_ok-state.state _ _ c.in_ok-state.ensures;
-        jobs_are = still.jobs_are ∙ own_jobs c.in_ok-state.state _ _ c.in_ok-state.ensures ∙ sym (ap (map arc_value) c.deref-4.ensures.value ∙ copied);
+        jobs_are = still.jobs_are ∙ own_jobs c.in_ok-state.state _ _ c.in_ok-state.ensures
+            ∙ sym (ap (map arc_value) c.deref-4.ensures.value ∙ copied);
       };
     }
 
 pub returns-clause-full : goal.returns-clause-full
 returns-clause-full g c =
-    let copied = clones-same arc_value c.in_ok-jobs.jobs.items c.in_ok-copies.copies.items c.in_ok-copies.ensures.cases.0 in
-    let own = subst (AreOwnJobs c.args.cert.now) (sym (ap (map arc_value) c.deref-4.ensures.value ∙ copied)) c.in_ok-jobs.ensures in
-    audit_of c.args.cert.now c.in_ok-digest.digest (map arc_value c.deref-4.result.now) c.in_ok-audited.audited.state c.complete.new.state c.in_ok-digest.ensures own c.in_ok-complete.ensures.completed
+    let copied = clones-same arc_value c.in_ok-jobs.jobs.items c.in_ok-copies.copies.items
+    c.in_ok-copies.ensures.cases.0 in
+    let own = subst (AreOwnJobs c.args.cert.now)
+    (sym (ap (map arc_value) c.deref-4.ensures.value ∙ copied)) c.in_ok-jobs.ensures in
+    audit_of c.args.cert.now c.in_ok-digest.digest
+    (map arc_value c.deref-4.result.now) c.in_ok-audited.audited.state c.complete.new.state c.in_ok-digest.ensures own
+    c.in_ok-complete.ensures.completed
 
 pub returns-clause-closed : goal.returns-clause-closed
 returns-clause-closed g c =
-    completed_closed c.in_ok-digest.digest (map arc_value c.deref-4.result.now) c.in_ok-audited.audited.state c.complete.new.state c.in_ok-complete.ensures.completed
+    completed_closed c.in_ok-digest.digest
+    (map arc_value c.deref-4.result.now) c.in_ok-audited.audited.state c.complete.new.state
+    c.in_ok-complete.ensures.completed
 
 pub returns-clause-filed : goal.returns-clause-filed
 returns-clause-filed g c =

@@ -3,41 +3,79 @@ use Rattle.std.proofs.lemmas.Result.{IfOk-weaker}
 use Rattle.section_text.specs.Ports.{named_ports}
 use Rattle.answers.specs.CheckText.{SaysReport}
 use Rattle.answers.specs.BundleText.{bundle_of}
-use Rattle.answers.proofs.Bundles.{bundle_answers, bundle_goes_on, bundle_read, certificate_failed, circuit_failed, going_3, layout_failed, refusal_answers}
+use Rattle.answers.proofs.Bundles.{bundle_answers, bundle_goes_on, bundle_read, certificate_failed, circuit_failed}
+use Rattle.answers.proofs.Bundles.{going_3, layout_failed, refusal_answers}
 use Rattle.check_main.proofs.bundle.report_of_text.Goals as goal
 
 pub returns-in-Err : goal.returns-in-Err
 returns-in-Err g c =
-    let fails = circuit_failed c.args.feed c.read_circuit.new.feed c.requires.unread c.requires.going c.in-Err.fault c.in-Err.ensures in
-    record { answered = IfOk-weaker c.refused.result _ _ (λ answered told. refusal_answers SaysReport (bundle_of c.args.feed.text) c.in-Err.fault answered.output.items answered.outcome fails told) c.refused.ensures.told }
+    let fails = circuit_failed c.args.feed c.read_circuit.new.feed c.requires.unread c.requires.going c.in-Err.fault
+    c.in-Err.ensures in
+    record {
+      answered = IfOk-weaker c.refused.result _ _
+          (λ answered told. refusal_answers SaysReport
+          (bundle_of c.args.feed.text) c.in-Err.fault answered.output.items answered.outcome fails told)
+          c.refused.ensures.told;
+    }
 
 pub returns-in-Err-read_layout : goal.returns-in-Err-read_layout
 returns-in-Err-read_layout g c =
-    let fails = layout_failed c.args.feed c.read_circuit.new.feed c.requires.unread c.requires.going c.in-Ok.circuit c.in-Ok.ensures (named_ports c.in_ok-ports.ports) c.read_layout.new.feed c.in_ok-ports.ensures.ports
+    let fails = layout_failed c.args.feed c.read_circuit.new.feed c.requires.unread c.requires.going c.in-Ok.circuit
+    c.in-Ok.ensures (named_ports c.in_ok-ports.ports) c.read_layout.new.feed c.in_ok-ports.ensures.ports
     c.in-Err-read_layout.fault c.in-Err-read_layout.ensures.reads in
-    record { answered = IfOk-weaker c.refused-in-Err-read_layout.result _ _ (λ answered told. refusal_answers SaysReport (bundle_of c.args.feed.text) c.in-Err-read_layout.fault answered.output.items answered.outcome fails told) c.refused-in-Err-read_layout.ensures.told }
+    record {
+      answered = IfOk-weaker c.refused-in-Err-read_layout.result _ _
+          (λ answered told. refusal_answers SaysReport
+          (bundle_of c.args.feed.text) c.in-Err-read_layout.fault answered.output.items answered.outcome fails told)
+          c.refused-in-Err-read_layout.ensures.told;
+    }
 
 pub returns-in-Err-read_certificate : goal.returns-in-Err-read_certificate
 returns-in-Err-read_certificate g c =
-    let fails = certificate_failed c.args.feed c.read_circuit.new.feed c.requires.unread c.requires.going c.in-Ok.circuit c.in-Ok.ensures (named_ports c.in_ok-ports.ports) c.read_layout.new.feed c.in_ok-ports.ensures.ports
-    c.in-Ok-read_layout.layout c.in-Ok-read_layout.ensures.reads c.read_certificate.new.feed c.in-Err-read_certificate.fault c.in-Err-read_certificate.ensures.reads in
-    record { answered = IfOk-weaker c.refused-in-Err-read_certificate.result _ _ (λ answered told. refusal_answers SaysReport (bundle_of c.args.feed.text) c.in-Err-read_certificate.fault answered.output.items answered.outcome fails told) c.refused-in-Err-read_certificate.ensures.told }
+    let fails = certificate_failed c.args.feed c.read_circuit.new.feed c.requires.unread c.requires.going
+    c.in-Ok.circuit c.in-Ok.ensures (named_ports c.in_ok-ports.ports) c.read_layout.new.feed c.in_ok-ports.ensures.ports
+    c.in-Ok-read_layout.layout c.in-Ok-read_layout.ensures.reads c.read_certificate.new.feed
+    c.in-Err-read_certificate.fault c.in-Err-read_certificate.ensures.reads in
+    record {
+      answered = IfOk-weaker c.refused-in-Err-read_certificate.result _ _
+          (λ answered told. refusal_answers SaysReport
+          (bundle_of c.args.feed.text) c.in-Err-read_certificate.fault answered.output.items answered.outcome fails
+          told) c.refused-in-Err-read_certificate.ensures.told;
+    }
 
 pub returns-in-Err-finish : goal.returns-in-Err-finish
 returns-in-Err-finish g c =
-    let going = going_3 c.args.feed c.read_circuit.new.feed c.requires.unread c.requires.going c.in-Ok.circuit c.in-Ok.ensures (named_ports c.in_ok-ports.ports) c.read_layout.new.feed c.in_ok-ports.ensures.ports
-    c.in-Ok-read_layout.layout c.in-Ok-read_layout.ensures.reads c.read_certificate.new.feed c.in-Ok-read_certificate.cert c.in-Ok-read_certificate.ensures.reads in
-    let fails = bundle_goes_on c.args.feed c.read_circuit.new.feed c.requires.unread c.requires.going c.in-Ok.circuit c.in-Ok.ensures (named_ports c.in_ok-ports.ports) c.read_layout.new.feed c.in_ok-ports.ensures.ports
-    c.in-Ok-read_layout.layout c.in-Ok-read_layout.ensures.reads c.read_certificate.new.feed c.in-Ok-read_certificate.cert c.in-Ok-read_certificate.ensures.reads
+    let going = going_3 c.args.feed c.read_circuit.new.feed c.requires.unread c.requires.going c.in-Ok.circuit
+    c.in-Ok.ensures (named_ports c.in_ok-ports.ports) c.read_layout.new.feed c.in_ok-ports.ensures.ports
+    c.in-Ok-read_layout.layout c.in-Ok-read_layout.ensures.reads c.read_certificate.new.feed
+    c.in-Ok-read_certificate.cert c.in-Ok-read_certificate.ensures.reads in
+    let fails = bundle_goes_on c.args.feed c.read_circuit.new.feed c.requires.unread c.requires.going c.in-Ok.circuit
+    c.in-Ok.ensures (named_ports c.in_ok-ports.ports) c.read_layout.new.feed c.in_ok-ports.ensures.ports
+    c.in-Ok-read_layout.layout c.in-Ok-read_layout.ensures.reads c.read_certificate.new.feed
+    c.in-Ok-read_certificate.cert c.in-Ok-read_certificate.ensures.reads
     c.in-Err-finish.fault (c.in-Err-finish.ensures.more going) (c.in-Err-finish.ensures.fault going).0 in
-    record { answered = IfOk-weaker c.refused-in-Err-finish.result _ _ (λ answered told. refusal_answers SaysReport (bundle_of c.args.feed.text) c.in-Err-finish.fault answered.output.items answered.outcome fails told) c.refused-in-Err-finish.ensures.told }
+    record {
+      answered = IfOk-weaker c.refused-in-Err-finish.result _ _
+          (λ answered told. refusal_answers SaysReport
+          (bundle_of c.args.feed.text) c.in-Err-finish.fault answered.output.items answered.outcome fails told)
+          c.refused-in-Err-finish.ensures.told;
+    }
 
 pub returns : goal.returns
 returns g c =
-    let going = going_3 c.args.feed c.read_circuit.new.feed c.requires.unread c.requires.going c.in-Ok.circuit c.in-Ok.ensures (named_ports c.in_ok-ports.ports) c.read_layout.new.feed c.in_ok-ports.ensures.ports
-    c.in-Ok-read_layout.layout c.in-Ok-read_layout.ensures.reads c.read_certificate.new.feed c.in-Ok-read_certificate.cert c.in-Ok-read_certificate.ensures.reads in
+    let going = going_3 c.args.feed c.read_circuit.new.feed c.requires.unread c.requires.going c.in-Ok.circuit
+    c.in-Ok.ensures (named_ports c.in_ok-ports.ports) c.read_layout.new.feed c.in_ok-ports.ensures.ports
+    c.in-Ok-read_layout.layout c.in-Ok-read_layout.ensures.reads c.read_certificate.new.feed
+    c.in-Ok-read_certificate.cert c.in-Ok-read_certificate.ensures.reads in
     let done = c.in_default.ensures.ok going in
-    let was_read = bundle_read c.args.feed c.read_circuit.new.feed c.requires.unread c.requires.going c.in-Ok.circuit c.in-Ok.ensures (named_ports c.in_ok-ports.ports) c.read_layout.new.feed c.in_ok-ports.ensures.ports
-    c.in-Ok-read_layout.layout c.in-Ok-read_layout.ensures.reads c.read_certificate.new.feed c.in-Ok-read_certificate.cert c.in-Ok-read_certificate.ensures.reads
+    let was_read = bundle_read c.args.feed c.read_circuit.new.feed c.requires.unread c.requires.going c.in-Ok.circuit
+    c.in-Ok.ensures (named_ports c.in_ok-ports.ports) c.read_layout.new.feed c.in_ok-ports.ensures.ports
+    c.in-Ok-read_layout.layout c.in-Ok-read_layout.ensures.reads c.read_certificate.new.feed
+    c.in-Ok-read_certificate.cert c.in-Ok-read_certificate.ensures.reads
     c.in-Ok-read_certificate.ensures.circuit c.in-Ok-read_certificate.ensures.layout done.0 done.1 in
-    record { answered = IfOk-weaker c.report_on.result _ _ (λ answered says. bundle_answers SaysReport (bundle_of c.args.feed.text) c.in-Ok-read_certificate.cert answered.output.items answered.outcome was_read says) c.report_on.ensures.says }
+    record {
+      answered = IfOk-weaker c.report_on.result _ _
+          (λ answered says. bundle_answers SaysReport
+          (bundle_of c.args.feed.text) c.in-Ok-read_certificate.cert answered.output.items answered.outcome was_read
+          says) c.report_on.ensures.says;
+    }

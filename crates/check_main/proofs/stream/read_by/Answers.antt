@@ -8,5 +8,10 @@ pub returns-in-Err-TooLong-clause-too_long : goal.returns-in-Err-TooLong-clause-
 returns-in-Err-TooLong-clause-too_long g c _ =
     let so_far = c.loop.feed.text in
     let more = take c.in-Ok.count c.read.new.buf in
-    let over : text_limit < length so_far + length more = c.in-Err-TooLong.ensures.too_long.0 (ap (λ e. Err e) c.in-Err-TooLong.field-0-is) in
-    record { text = so_far ++ more; given = Consumes-trans _ _ _ _ _ c.loop.invariant.1 c.in-Ok.ensures.bytes.0; beyond = rw length-append over }
+    let over : text_limit < length so_far + length more =
+    c.in-Err-TooLong.ensures.too_long.0 (ap (λ e. Err e) c.in-Err-TooLong.field-0-is) in
+    record {
+      text = so_far ++ more;
+      given = Consumes-trans _ _ _ _ _ c.loop.invariant.1 c.in-Ok.ensures.bytes.0;
+      beyond = rw length-append over;
+    }

@@ -9,7 +9,10 @@ unfolding value_lines
 loop-i-init c = sym (append-nil c.args.out.now.items)
 
 pub loop-i-preserved : goal.loop-i-preserved
-loop-i-preserved c = printed_more c.args.out.now.items c.loop-i.out.items _ c.args.names.now c.args.values.now c.loop-i.i c.index-names-i.result _ (omega arith) (omega arith) c.index-names-i.is c.loop-i.invariant c.in_ok-print_value.ensures
+loop-i-preserved c = printed_more c.args.out.now.items c.loop-i.out.items _ c.args.names.now c.args.values.now
+    c.loop-i.i c.index-names-i.result _ (omega arith)
+    (omega arith) c.index-names-i.is c.loop-i.invariant c.in_ok-print_value.ensures
 
 pub returns : goal.returns
-returns c = printed_all c.args.out.now.items c.loop-i.out.items c.args.names.now c.args.values.now c.loop-i.i (omega arith) c.loop-i.invariant
+returns c = printed_all c.args.out.now.items c.loop-i.out.items c.args.names.now c.args.values.now c.loop-i.i
+    (omega arith) c.loop-i.invariant

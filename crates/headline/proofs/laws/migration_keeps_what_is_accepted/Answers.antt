@@ -3,4 +3,10 @@ use Rattle.headline.proofs.Migrations.{keeps_version_two, migrates_once, says_th
 use Rattle.headline.proofs.laws.migration_keeps_what_is_accepted.Goals as goal
 
 pub returns : goal.returns
-returns c = record { unchanged = keeps_version_two; same = says_the_same; once = migrates_once; accepted = migration_is-accepted }
+returns c =
+    record {
+      unchanged = keeps_version_two;
+      same = says_the_same;
+      once = migrates_once;
+      accepted = migration_is-accepted;
+    }

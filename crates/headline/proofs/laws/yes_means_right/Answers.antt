@@ -2,4 +2,10 @@ use Rattle.headline.proofs.YesIsRight.{fourth_line-tells, one_valuation, yes_has
 use Rattle.headline.proofs.laws.yes_means_right.Goals as goal
 
 pub returns : goal.returns
-returns c = record { right = yes_is_right; stops = yes_has_right_stops; one_valuation = one_valuation; told = fourth_line-tells }
+returns c =
+    record {
+      right = yes_is_right;
+      stops = yes_has_right_stops;
+      one_valuation = one_valuation;
+      told = fourth_line-tells;
+    }

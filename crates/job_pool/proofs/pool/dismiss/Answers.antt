@@ -11,8 +11,11 @@ loop-worker-preserved g c = let i = c.loop-worker.invariant in let t = c.in-Some
     record {
       next = tt;
       finite = tt;
-      seats = taken (λ (w : Worker g.row.F.Denot g.row.A.Denot). w.seat) c.loop-worker.seats.items c.push_reserved.new.self.items rest _ left _ c.push_reserved.ensures.items t.0 i.seats;
-      shares = taken (λ (w : Worker g.row.F.Denot g.row.A.Denot). w.share) c.loop-worker.shares.items c.push_reserved-in-loop-worker.new.self.items rest _ left _ c.push_reserved-in-loop-worker.ensures.items t.0 i.shares;
+      seats = taken (λ (w : Worker g.row.F.Denot g.row.A.Denot). w.seat) c.loop-worker.seats.items
+          c.push_reserved.new.self.items rest _ left _ c.push_reserved.ensures.items t.0 i.seats;
+      shares = taken (λ (w : Worker g.row.F.Denot g.row.A.Denot). w.share) c.loop-worker.shares.items
+          c.push_reserved-in-loop-worker.new.self.items rest _ left _ c.push_reserved-in-loop-worker.ensures.items t.0
+          i.shares;
       seat_room = omega arith;
       share_room = omega arith;
     }

@@ -1,4 +1,5 @@
-use Rattle.std.proofs.Common.{◌≡◌, ℕ, ◌<◌, ◌≤◌, ◌++◌, List, length, take, drop, map, All, false, arith, rules, ap, sym, ◌∙◌, subst}
+use Rattle.std.proofs.Common.{◌≡◌, ℕ, ◌<◌, ◌≤◌, ◌++◌, List, length, take, drop, map, All, false, arith, rules, ap, sym}
+use Rattle.std.proofs.Common.{◌∙◌, subst}
 use Rattle.std.specs.Arc.{arc_value}
 use Rattle.std.proofs.lemmas.List.{length-map}
 use Rattle.std.proofs.lemmas.List.Elements.{All-same}
@@ -22,15 +23,20 @@ dismiss-seats-requires-clause-room g c = let hired = c.hire-workers.ensures.coun
     (enough _ _ _ _ hired c.len.ensures room.1, enough _ _ _ _ hired c.len.ensures room.2)
 
 pub close-requires : goal.close-requires
-close-requires g c = let desk = c.in-Ok.desk in let before = c.as_mut_slice.result.now in let now = c.run_all.new.workers in
+close-requires g c = let desk = c.in-Ok.desk in let before = c.as_mut_slice.result.now in let now =
+    c.run_all.new.workers in
     let len : length now ≡ length before = search rules in
-    let same : take c.hire-workers.result.len (now ++ drop (length now) c.hire-workers.result.items) ≡ now = whole _ now c.hire-workers.result.items (len ∙ ap length c.as_mut_slice.ensures.value) (search rules) in
-    subst {A = List DeskSeat} (All (IsSeatOf desk)) (sym (c.dismiss-seats.ensures.seats ∙ ap seats_of same)) (all_seats desk c.args.groups.now before now len c.run_all.ensures)
+    let same : take c.hire-workers.result.len (now ++ drop (length now) c.hire-workers.result.items) ≡ now =
+    whole _ now c.hire-workers.result.items (len ∙ ap length c.as_mut_slice.ensures.value) (search rules) in
+    subst {A = List DeskSeat} (All (IsSeatOf desk)) (sym (c.dismiss-seats.ensures.seats ∙ ap seats_of same))
+    (all_seats desk c.args.groups.now before now len c.run_all.ensures)
 
 pub returns-clause-filed : goal.returns-clause-filed
-returns-clause-filed g c = λ fed. let desk = c.in-Ok.desk in let before = c.as_mut_slice.result.now in let now = c.run_all.new.workers in
+returns-clause-filed g c = λ fed. let desk = c.in-Ok.desk in let before = c.as_mut_slice.result.now in let now =
+    c.run_all.new.workers in
     let len : length now ≡ length before = search rules in
-    let same : take c.hire-workers.result.len (now ++ drop (length now) c.hire-workers.result.items) ≡ now = whole _ now c.hire-workers.result.items (len ∙ ap length c.as_mut_slice.ensures.value) (search rules) in
+    let same : take c.hire-workers.result.len (now ++ drop (length now) c.hire-workers.result.items) ≡ now =
+    whole _ now c.hire-workers.result.items (len ∙ ap length c.as_mut_slice.ensures.value) (search rules) in
     let P : Worker g.row.F.Denot g.row.A.Denot → Type 0 = λ w. w.starved ≡ false in
     let quiet : All P now = All-same P _ _ (sym same) (c.dismiss-seats.ensures.starved fed) in
     let some_worker : 0 < length before = search rules in
@@ -38,9 +44,12 @@ returns-clause-filed g c = λ fed. let desk = c.in-Ok.desk in let before = c.as_
     let long = length-map jobs shape_of in
     let many = length-map c.args.jobs.now arc_value in
     let all : length (shapes_of jobs) ≡ desk.numbers = omega (arith, long, many, c.in-Ok.ensures.desk.0) in
-    let below : All (λ k. k < desk.numbers) c.args.groups.now = subst (λ n. All (λ k. k < n) c.args.groups.now) all (groups_below (shapes_of jobs) c.args.groups.now c.requires.groups) in
+    let below : All (λ k. k < desk.numbers) c.args.groups.now =
+    subst (λ n. All (λ k. k < n) c.args.groups.now) all
+    (groups_below (shapes_of jobs) c.args.groups.now c.requires.groups) in
     let closed = c.in-Ok-close.ensures in
-    let sum = every_number_was_filed desk c.args.groups.now before now len c.run_all.ensures _ _ some_worker quiet (closed.draws ∙ ap (map drawn_by) (c.dismiss-seats.ensures.seats ∙ ap seats_of same)) closed.all.drawn below in
+    let sum = every_number_was_filed desk c.args.groups.now before now len c.run_all.ensures _ _ some_worker quiet
+    (closed.draws ∙ ap (map drawn_by) (c.dismiss-seats.ensures.seats ∙ ap seats_of same)) closed.all.drawn below in
     let start = ap filed_by (ap shares_of c.as_mut_slice.ensures.value ∙ c.hire-workers.ensures.shares) in
     let back = ap filed_by (c.dismiss-seats.ensures.shares ∙ ap shares_of same) in
     omega (arith, back, sum, start, long, many, c.requires.groups.count)
@@ -48,9 +57,14 @@ returns-clause-filed g c = λ fed. let desk = c.in-Ok.desk in let before = c.as_
 pub returns-clause-shares : goal.returns-clause-shares
 returns-clause-shares g c = let before = c.as_mut_slice.result.now in let now = c.run_all.new.workers in
     let len : length now ≡ length before = search rules in
-    all_have c.in-Ok.desk c.args.groups.now c.hire-workers.result.len c.hire-workers.result.items before now _ _ c.hire-workers.result.ok.0 c.as_mut_slice.ensures.value len c.hire-workers.ensures.shares c.dismiss-seats.ensures.shares c.run_all.ensures
+    all_have c.in-Ok.desk c.args.groups.now c.hire-workers.result.len c.hire-workers.result.items before now _ _
+    c.hire-workers.result.ok.0 c.as_mut_slice.ensures.value len c.hire-workers.ensures.shares
+    c.dismiss-seats.ensures.shares c.run_all.ensures
 
 pub returns-in_default-close-clause-shares : goal.returns-in_default-close-clause-shares
-returns-in_default-close-clause-shares g c = let before = c.as_mut_slice.result.now in let now = c.run_all.new.workers in
+returns-in_default-close-clause-shares g c = let before = c.as_mut_slice.result.now in let now =
+    c.run_all.new.workers in
     let len : length now ≡ length before = search rules in
-    all_have c.in-Ok.desk c.args.groups.now c.hire-workers.result.len c.hire-workers.result.items before now _ _ c.hire-workers.result.ok.0 c.as_mut_slice.ensures.value len c.hire-workers.ensures.shares c.dismiss-seats.ensures.shares c.run_all.ensures
+    all_have c.in-Ok.desk c.args.groups.now c.hire-workers.result.len c.hire-workers.result.items before now _ _
+    c.hire-workers.result.ok.0 c.as_mut_slice.ensures.value len c.hire-workers.ensures.shares
+    c.dismiss-seats.ensures.shares c.run_all.ensures

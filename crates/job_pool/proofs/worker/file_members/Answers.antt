@@ -22,8 +22,10 @@ file_member-requires g c =
     let many = length-map xs arc_value in
     let lt : c.members.member < length (shapes_of jobs) = omega (arith, long, many, c.members-test.true) in
     record {
-      shape = member_shape jobs c.args.site.now.groups.now c.args.number c.members.member (job_of c.args.finding.now) k c.requires.groups lt c.requires.first
-          (value_at arc_value xs c.members.member _ k c.members-test.true c.index-jobs-member.is refl) c.if-groups-member.true;
+      shape = member_shape jobs c.args.site.now.groups.now c.args.number c.members.member
+          (job_of c.args.finding.now) k c.requires.groups lt c.requires.first
+          (value_at arc_value xs c.members.member _ k c.members-test.true c.index-jobs-member.is refl)
+          c.if-groups-member.true;
       digest = c.requires.digest;
     }
 
@@ -40,7 +42,8 @@ members-preserved g c =
     let long = length-map jobs shape_of in
     let many = length-map xs arc_value in
     let count = c.requires.groups.count in
-    let lt : c.members.member < length c.args.site.now.groups.now = omega (arith, long, many, count, c.members-test.true) in
+    let lt : c.members.member < length c.args.site.now.groups.now =
+    omega (arith, long, many, count, c.members-test.true) in
     let step = times_step c.args.number c.args.site.now.groups.now c.members.member 0 lt in
     let before = c.members.invariant.filed in
     let risen = c.members.invariant.risen in
@@ -56,7 +59,8 @@ members-preserved g c =
           }
       | else-groups-member w ↦
           let s = ap (λ (z : Counts). z.filed) w.share-is in
-          let t = none_if (get_or c.args.site.now.groups.now c.members.member 0) c.args.number w.if-groups-member.false in
+          let t = none_if (get_or c.args.site.now.groups.now c.members.member 0) c.args.number
+          w.if-groups-member.false in
           record {
             filed = omega (arith, s, t, step, before);
             risen = risen_still _ _ _ risen w.share-is;

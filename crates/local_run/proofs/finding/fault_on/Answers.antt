@@ -28,4 +28,9 @@ returns c =
     let ey = ap (λ (q : Cell). q.y) c.moved_cell.ensures in
     let x : c.moved_cell.result.x ≡ cell.x +ℤ columns_between j k = omega (arith, ints, ex, hx, tx, hw, tw) in
     let y : c.moved_cell.result.y ≡ cell.y +ℤ rows_between j k = omega (arith, ints, ey, hy, ty, hh, th) in
-    λ i. record { time = c.args.fault.time; kind = c.args.fault.kind; cell = record { x = x i; y = y i }; assignment = c.args.fault.assignment }
+    λ i. record {
+      time = c.args.fault.time;
+      kind = c.args.fault.kind;
+      cell = record { x = x i; y = y i };
+      assignment = c.args.fault.assignment;
+    }

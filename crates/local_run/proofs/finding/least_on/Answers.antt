@@ -16,4 +16,5 @@ pub returns-in-None-clause-least : goal.returns-in-None-clause-least
 returns-in-None-clause-least c =
     let j = c.args.from.now in
     let k = c.args.to.now in
-    least_moved j k None c.area-from.ensures.good c.area-to.ensures.good c.requires.same (subst (λ (o : Option Fault). IsLeastFault j o) c.in-None.is c.requires.least)
+    least_moved j k None c.area-from.ensures.good c.area-to.ensures.good c.requires.same
+    (subst (λ (o : Option Fault). IsLeastFault j o) c.in-None.is c.requires.least)

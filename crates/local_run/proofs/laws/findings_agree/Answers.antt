@@ -6,7 +6,11 @@ use Rattle.local_run.proofs.Least.{least_unique, least_keep_unique}
 use Rattle.local_run.proofs.laws.findings_agree.Goals as goal
 
 pub returns-clause-faults : goal.returns-clause-faults
-returns-clause-faults c = λ f g e. least_unique (job_of f) (fault_of f) (fault_of g) f.honest (subst (λ (j : JobState). IsLeastFault j (fault_of g)) (sym e) g.honest)
+returns-clause-faults c = λ f g e.
+    least_unique (job_of f) (fault_of f) (fault_of g) f.honest
+    (subst (λ (j : JobState). IsLeastFault j (fault_of g)) (sym e) g.honest)
 
 pub returns-clause-keeps : goal.returns-clause-keeps
-returns-clause-keeps c = λ f g e. least_keep_unique (job_of f) (keep_of f) (keep_of g) f.keeps (subst (λ (j : JobState). IsLeastKeepFault j (keep_of g)) (sym e) g.keeps)
+returns-clause-keeps c = λ f g e.
+    least_keep_unique (job_of f) (keep_of f) (keep_of g) f.keeps
+    (subst (λ (j : JobState). IsLeastKeepFault j (keep_of g)) (sym e) g.keeps)

@@ -11,11 +11,14 @@ returns-clause-edges c =
     let shape : c.deref-shape.result.now ≡ shape_of j = c.deref-shape.ensures ∙ c.shape.ensures in
     let is = c.edges.ensures ∙ ap (λ (s : ShapeState). s.edges) shape in
     less_steady j.edges c.args.time c.steady_until-edges.result _ c.steady_until.ensures.range.1
-    (steady_moved j.edges (back j.area.x) (back j.area.y) c.args.time _ (subst (λ (s : Signals). IsSteady s c.args.time c.steady_until-edges.result) is c.steady_until-edges.ensures.steady))
+    (steady_moved j.edges (back j.area.x) (back j.area.y) c.args.time _
+    (subst (λ (s : Signals). IsSteady s c.args.time c.steady_until-edges.result) is
+    c.steady_until-edges.ensures.steady))
 
 pub returns-clause-halos : goal.returns-clause-halos
 returns-clause-halos c =
     let j = c.args.job.now in
     let shape : c.deref-shape.result.now ≡ shape_of j = c.deref-shape.ensures ∙ c.shape.ensures in
     let is = c.halos.ensures ∙ ap (λ (s : ShapeState). s.halos) shape in
-    steady_moved j.halos (back j.area.x) (back j.area.y) c.args.time _ (subst (λ (s : Signals). IsSteady s c.args.time c.steady_until.result) is c.steady_until.ensures.steady)
+    steady_moved j.halos (back j.area.x) (back j.area.y) c.args.time _
+    (subst (λ (s : Signals). IsSteady s c.args.time c.steady_until.result) is c.steady_until.ensures.steady)

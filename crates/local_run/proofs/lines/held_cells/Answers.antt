@@ -15,10 +15,13 @@ returns c =
     let e = c.area-area.ensures.area in
     let shape : c.deref.result.now ≡ shape_of j = c.deref.ensures ∙ c.shape.ensures in
     let v = c.deref_mut.ensures.value in
-    let items = with_items_is c.in_ok-marks.marks c.mark_all_held.new.marks (omega (arith, ap length v, c.in_ok-marks.marks.ok.0)) in
+    let items = with_items_is c.in_ok-marks.marks c.mark_all_held.new.marks
+    (omega (arith, ap length v, c.in_ok-marks.marks.ok.0)) in
     let m = rw shape at c.mark_all_held.ensures in
-    let long : length c.mark_all_held.new.marks ≡ c.div_ceil.result = omega (arith, c.mark_all_held.auto.marks, ap length v, c.in_ok-marks.marks.ok.0, c.in_ok-marks.ensures.len) in
-    let cells : c.div_ceil.result ≡ div_ceil ((j.area.w / 2 + 1) * (j.area.h / 2 + 1)) 64 = c.div_ceil.ensures ∙ ap (λ (b : Box2). div_ceil ((b.w / 2 + 1) * (b.h / 2 + 1)) 64) e in
+    let long : length c.mark_all_held.new.marks ≡ c.div_ceil.result =
+    omega (arith, c.mark_all_held.auto.marks, ap length v, c.in_ok-marks.marks.ok.0, c.in_ok-marks.ensures.len) in
+    let cells : c.div_ceil.result ≡ div_ceil ((j.area.w / 2 + 1) * (j.area.h / 2 + 1)) 64 =
+    c.div_ceil.ensures ∙ ap (λ (b : Box2). div_ceil ((b.w / 2 + 1) * (b.h / 2 + 1)) 64) e in
     let q = c.requires in
     subst (λ (xs : List ℕ). AreHeld (shape_of j) xs) (sym items)
     (record {

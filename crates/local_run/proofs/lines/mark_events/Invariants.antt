@@ -8,5 +8,6 @@ abbrev pub invariant-loop-k : goal.invariant-loop-k
 invariant-loop-k l = record {
   room : HasRoom l.area l.marks;
   keeps : KeepsMarks l.fn.marks l.marks;
-  marked : (i : ℕ) (e : Event) → l.first ≤ i → i < l.k → slice_get l.list i ≡ Some e → IsCellMarked l.area e.at.cell l.marks;
+  marked : (i : ℕ) (e : Event) → l.first ≤ i → i < l.k → slice_get l.list i ≡ Some e →
+      IsCellMarked l.area e.at.cell l.marks;
 }

@@ -10,6 +10,7 @@ returns c =
     let edges = rw (c.box_of-area.ensures, c.edges.ensures, shape) at c.mark_schedule-places.ensures.quiet in
     let halos = rw (c.box_of-area.ensures, c.halos.ensures, shape) at c.mark_schedule-places-2.ensures.quiet in
     record {
-      edges = still_quiet j.edges j.area c.args.time c.mark_schedule-places.new.marks c.mark_schedule-places-2.new.marks c.mark_schedule-places-2.ensures.keeps (quiet_moved j.edges j.area c.args.time _ edges);
+      edges = still_quiet j.edges j.area c.args.time c.mark_schedule-places.new.marks c.mark_schedule-places-2.new.marks
+          c.mark_schedule-places-2.ensures.keeps (quiet_moved j.edges j.area c.args.time _ edges);
       halos = quiet_moved j.halos j.area c.args.time _ halos;
     }

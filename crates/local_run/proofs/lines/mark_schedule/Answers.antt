@@ -7,4 +7,5 @@ returns-clause-quiet c =
     let b = c.args.area in
     let m = c.mark_events_at.ensures in
     let events = rw c.events.ensures.same at m.marked in
-    quiet_in s b c.args.time c.mark_events_at.new.marks (still_held s b c.args.marks.now c.mark_events_at.new.marks m.keeps c.requires.held) events
+    quiet_in s b c.args.time c.mark_events_at.new.marks
+    (still_held s b c.args.marks.now c.mark_events_at.new.marks m.keeps c.requires.held) events

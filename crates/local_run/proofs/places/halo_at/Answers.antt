@@ -14,8 +14,13 @@ near z a w n e lt few = (omega (arith, ints, e), omega (arith, ints, e, lt, few)
 
 pub halo-requires : goal.halo-requires
 halo-requires c =
-    let is = c.area.ensures.good in
-    (near _ c.args.job.now.area.x c.args.job.now.area.w c.args.x (c.outer_cell.ensures.x ∙ ap (λ (b : Box2). outer b.x c.args.x) c.area.ensures.area) c.requires.0 is.width.2, near _ c.args.job.now.area.y c.args.job.now.area.h c.args.y (c.outer_cell.ensures.y ∙ ap (λ (b : Box2). outer b.y c.args.y) c.area.ensures.area) c.requires.1 is.height.2)
+    let is = c.area.ensures.good in (
+      near _ c.args.job.now.area.x c.args.job.now.area.w c.args.x
+          (c.outer_cell.ensures.x ∙ ap (λ (b : Box2). outer b.x c.args.x) c.area.ensures.area) c.requires.0 is.width.2,
+      near _ c.args.job.now.area.y c.args.job.now.area.h c.args.y
+          (c.outer_cell.ensures.y ∙ ap (λ (b : Box2). outer b.y c.args.y) c.area.ensures.area) c.requires.1 is.height.2,
+    )
 
 pub returns-clause-below : goal.returns-clause-below
-returns-clause-below c = subst (IsBelow (wires c.args.job.now.locals.netlist)) (sym c.halo.ensures) (halo_below c.args.job.now c.args.time _ _ c.area.ensures.good.own)
+returns-clause-below c = subst (IsBelow (wires c.args.job.now.locals.netlist)) (sym c.halo.ensures)
+    (halo_below c.args.job.now c.args.time _ _ c.area.ensures.good.own)

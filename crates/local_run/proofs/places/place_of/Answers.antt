@@ -15,7 +15,8 @@ record IsFrom (first n from a : ℕ) (z : ℤ) : Type 0 where
   is : z ≡ inner first (a - from)
 
 -- the number of a column or row, from the coordinate
-from_abs : (first n from a : ℕ) (z : ℤ) → from ≡ first → in_span first n z ≡ true → a ≡ unsigned_abs z → IsFrom first n from a z
+from_abs : (first n from a : ℕ) (z : ℤ) → from ≡ first → in_span first n z ≡ true → a ≡ unsigned_abs z →
+    IsFrom first n from a z
 unfolding inner
 from_abs first n from a z e h is =
     let p = span_at first n z h in
@@ -35,26 +36,30 @@ pub overflow_sub-x : goal.overflow_sub-x
 overflow_sub-x c =
     let f : SFits w32 c.args.cell.x = search rules in
     let e : c.unsigned_abs.result ≡ unsigned_abs c.args.cell.x = simp to_z-of_z at c.unsigned_abs.ensures.value in
-    let p = from_abs _ _ _ _ _ (ap (λ (b : Box2). b.x) c.area-area.ensures.area) (box_parts c.args.job.now.area c.args.cell.x c.args.cell.y c.requires).0 e in
+    let p = from_abs _ _ _ _ _ (ap (λ (b : Box2). b.x) c.area-area.ensures.area)
+    (box_parts c.args.job.now.area c.args.cell.x c.args.cell.y c.requires).0 e in
     p.late
 
 pub overflow_sub-y : goal.overflow_sub-y
 overflow_sub-y c =
     let f : SFits w32 c.args.cell.y = search rules in
     let e : c.unsigned_abs-2.result ≡ unsigned_abs c.args.cell.y = simp to_z-of_z at c.unsigned_abs-2.ensures.value in
-    let p = from_abs _ _ _ _ _ (ap (λ (b : Box2). b.y) c.area-area.ensures.area) (box_parts c.args.job.now.area c.args.cell.x c.args.cell.y c.requires).1 e in
+    let p = from_abs _ _ _ _ _ (ap (λ (b : Box2). b.y) c.area-area.ensures.area)
+    (box_parts c.args.job.now.area c.args.cell.x c.args.cell.y c.requires).1 e in
     p.late
 
 pub returns-clause-column : goal.returns-clause-column
 returns-clause-column c =
     let f : SFits w32 c.args.cell.x = search rules in
     let e : c.unsigned_abs.result ≡ unsigned_abs c.args.cell.x = simp to_z-of_z at c.unsigned_abs.ensures.value in
-    let p = from_abs _ _ _ _ _ (ap (λ (b : Box2). b.x) c.area-area.ensures.area) (box_parts c.args.job.now.area c.args.cell.x c.args.cell.y c.requires).0 e in
+    let p = from_abs _ _ _ _ _ (ap (λ (b : Box2). b.x) c.area-area.ensures.area)
+    (box_parts c.args.job.now.area c.args.cell.x c.args.cell.y c.requires).0 e in
     (p.below, p.is)
 
 pub returns-clause-row : goal.returns-clause-row
 returns-clause-row c =
     let f : SFits w32 c.args.cell.y = search rules in
     let e : c.unsigned_abs-2.result ≡ unsigned_abs c.args.cell.y = simp to_z-of_z at c.unsigned_abs-2.ensures.value in
-    let p = from_abs _ _ _ _ _ (ap (λ (b : Box2). b.y) c.area-area.ensures.area) (box_parts c.args.job.now.area c.args.cell.x c.args.cell.y c.requires).1 e in
+    let p = from_abs _ _ _ _ _ (ap (λ (b : Box2). b.y) c.area-area.ensures.area)
+    (box_parts c.args.job.now.area c.args.cell.x c.args.cell.y c.requires).1 e in
     (p.below, p.is)

@@ -5,4 +5,5 @@ use Rattle.local_run.proofs.OwnWires.{start_below}
 use Rattle.local_run.proofs.places.start_at.Goals as goal
 
 pub returns-clause-below : goal.returns-clause-below
-returns-clause-below c = subst (IsBelow (wires c.args.job.now.locals.netlist)) (sym c.start.ensures) (start_below c.args.job.now _ _ c.area.ensures.good.own)
+returns-clause-below c = subst (IsBelow (wires c.args.job.now.locals.netlist)) (sym c.start.ensures)
+    (start_below c.args.job.now _ _ c.area.ensures.good.own)

@@ -5,6 +5,10 @@ use Rattle.local_run.proofs.planes.part_changes.Given as goal
 -- where no flip is seen of a diagonal, it stays in the words so far
 abbrev pub invariant-loop-k : goal.invariant-loop-k
 invariant-loop-k l = record {
-  main : l.main ≡ 0 → (k : ℕ) → k < l.k → DiagonalStays (slice_index l.upper_left (l.a + k)) (slice_index l.lower_right (l.d + k)) (slice_index l.upper_right (l.b + k)) (slice_index l.lower_left (l.c + k));
-  anti : l.anti ≡ 0 → (k : ℕ) → k < l.k → DiagonalStays (slice_index l.upper_right (l.b + k)) (slice_index l.lower_left (l.c + k)) (slice_index l.upper_left (l.a + k)) (slice_index l.lower_right (l.d + k));
+  main : l.main ≡ 0 → (k : ℕ) → k < l.k →
+      DiagonalStays (slice_index l.upper_left (l.a + k)) (slice_index l.lower_right (l.d + k))
+      (slice_index l.upper_right (l.b + k)) (slice_index l.lower_left (l.c + k));
+  anti : l.anti ≡ 0 → (k : ℕ) → k < l.k →
+      DiagonalStays (slice_index l.upper_right (l.b + k)) (slice_index l.lower_left (l.c + k))
+      (slice_index l.upper_left (l.a + k)) (slice_index l.lower_right (l.d + k));
 }

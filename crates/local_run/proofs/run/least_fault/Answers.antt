@@ -10,11 +10,14 @@ times-preserved c =
     let one = c.one_step-changed.ensures in
     let next = c.next_time-time.ensures in
     let range = rw c.steps-steps.ensures at next.range in
-    next_run c.args.job.now c.args.values.now c.times.time c.next_time-time.result c.times.next c.time_fault.new.next c.times.field.planes c.one_step-changed.new.field.planes c.times.changed c.one_step-changed.result
-    c.requires c.times.invariant (omega (arith, range)) c.in_default.ensures one.next one.stays range next.leap next.next
+    next_run c.args.job.now c.args.values.now c.times.time c.next_time-time.result c.times.next c.time_fault.new.next
+    c.times.field.planes c.one_step-changed.new.field.planes c.times.changed c.one_step-changed.result
+    c.requires c.times.invariant (omega (arith, range)) c.in_default.ensures one.next one.stays range next.leap
+    next.next
 
 pub returns-in-Some : goal.returns-in-Some
-returns-in-Some c = early_least c.args.job.now c.args.values.now c.times.time c.in-Some.fault c.requires (omega (arith, c.times-test.true, c.steps-steps.ensures)) c.times.invariant.free c.in-Some.ensures
+returns-in-Some c = early_least c.args.job.now c.args.values.now c.times.time c.in-Some.fault c.requires
+    (omega (arith, c.times-test.true, c.steps-steps.ensures)) c.times.invariant.free c.in-Some.ensures
 
 pub first_stop_fault-requires-clause-shows : goal.first_stop_fault-requires-clause-shows
 first_stop_fault-requires-clause-shows c =
@@ -40,8 +43,10 @@ returns-in-Some-first_stop_fault c =
     let vs = c.args.values.now in
     let early = c.times.invariant.early in
     let time : c.times.time ≡ j.steps = omega (arith, c.times-test.false, c.steps-steps.ensures, early) in
-    last_stop_least j vs c.in-Some-first_stop_fault.fault c.requires (subst (AreFreeBefore j vs) time c.times.invariant.free)
-    (subst (λ (n : ℕ). IsFirst j vs n Stop c.in-Some-first_stop_fault.fault) c.steps-steps.ensures c.in-Some-first_stop_fault.ensures)
+    last_stop_least j vs c.in-Some-first_stop_fault.fault c.requires
+    (subst (AreFreeBefore j vs) time c.times.invariant.free)
+    (subst (λ (n : ℕ). IsFirst j vs n Stop c.in-Some-first_stop_fault.fault) c.steps-steps.ensures
+    c.in-Some-first_stop_fault.ensures)
 
 pub returns : goal.returns
 returns c =
@@ -50,4 +55,5 @@ returns c =
     let early = c.times.invariant.early in
     let time : c.times.time ≡ j.steps = omega (arith, c.times-test.false, c.steps-steps.ensures, early) in
     end_least_fault j vs c.first_fault.result c.requires (subst (AreFreeBefore j vs) time c.times.invariant.free)
-    (subst (λ (n : ℕ). IsFree j vs n Stop) c.steps-steps.ensures c.in_default-first_stop_fault.ensures.0) (rw c.steps-steps.ensures at c.first_fault.ensures)
+    (subst (λ (n : ℕ). IsFree j vs n Stop) c.steps-steps.ensures c.in_default-first_stop_fault.ensures.0)
+    (rw c.steps-steps.ensures at c.first_fault.ensures)

@@ -7,7 +7,8 @@ use Rattle.local_run.proofs.scan.are_edges_right.Given as goal
 abbrev pub invariant-border : goal.invariant-border
 invariant-border l = record {
   within : l.u ≤ l.cells;
-  right : (x y : ℕ) → x < l.job.area.w + 2 → y < l.job.area.h + 2 → number_at l.job.area x y < l.u → HasEdgeAt l.job l.values l.time x y;
+  right : (x y : ℕ) → x < l.job.area.w + 2 → y < l.job.area.h + 2 → number_at l.job.area x y < l.u →
+      HasEdgeAt l.job l.values l.time x y;
 }
 
 abbrev pub decreases-border : goal.decreases-border

@@ -9,4 +9,6 @@ returns-then-are_both_right c = λ h.
     let below = c.are_both_right-then-are_both_right.ensures in
     let l = above.left c.if-are_both_right.true in
     let r = above.right c.if-are_both_right.true in
-    λ x y lx ly ex ey. four_cells c.args.column c.args.row (λ (x y : ℕ). HasEdgeAt c.args.job.now c.args.values.now c.args.time x y) l r (below.left h) (below.right h) x y ex ey
+    λ x y lx ly ex ey. four_cells c.args.column c.args.row
+    (λ (x y : ℕ). HasEdgeAt c.args.job.now c.args.values.now c.args.time x y) l r (below.left h)
+    (below.right h) x y ex ey

@@ -7,7 +7,9 @@ use Rattle.local_run.specs.Scans.{IsFound, IsLeastBelow}
 use Rattle.local_run.specs.declared.fault.Kind.TheVariants.{Edge}
 use Rattle.local_run.proofs.Silence.{inner_edge, outer_edge, unsaid_edge}
 use Rattle.local_run.proofs.scan.is_edge_right.Goals as goal
-use Rattle.local_run.proofs.scan.is_edge_right.Goals.{then-x-eq0-via-then-x-eq0, then-x-eq0-via-else-x-eq0+then-y-eq0, then-area-x-via-then-area-x, then-area-x-via-else-area-x+then-area-y}
+use Rattle.local_run.proofs.scan.is_edge_right.Goals.{then-x-eq0-via-then-x-eq0, then-x-eq0-via-else-x-eq0+then-y-eq0}
+use Rattle.local_run.proofs.scan.is_edge_right.Goals.{then-area-x-via-then-area-x}
+use Rattle.local_run.proofs.scan.is_edge_right.Goals.{then-area-x-via-else-area-x+then-area-y}
 
 pub returns-then-x-eq0 : goal.returns-then-x-eq0
 returns-then-x-eq0 c = λ h. outer_edge c.args.job.now c.args.values.now c.args.time c.args.x c.args.y (λ inside.
@@ -32,8 +34,12 @@ returns-then-area-x c = λ h. outer_edge c.args.job.now c.args.values.now c.args
     ])
 
 pub returns-then-not-is_different : goal.returns-then-not-is_different
-returns-then-not-is_different c = λ h. unsaid_edge c.args.job.now c.args.values.now c.args.field.now.planes c.args.time c.args.x c.args.y c.args.field.now.line_marks.items c.requires.ready c.requires.shows c.requires.lines c.requires.place.0 c.requires.place.1
-    (c.has_line.ensures c.if-not-has_line.true) (rw c.planes.ensures at c.is_different.ensures c.if-not-is_different.true)
+returns-then-not-is_different c =
+    λ h. unsaid_edge c.args.job.now c.args.values.now c.args.field.now.planes c.args.time c.args.x c.args.y
+    c.args.field.now.line_marks.items c.requires.ready c.requires.shows c.requires.lines c.requires.place.0
+    c.requires.place.1
+    (c.has_line.ensures c.if-not-has_line.true)
+    (rw c.planes.ensures at c.is_different.ensures c.if-not-is_different.true)
 
 none_from : (n : ℕ) (P : ℕ → Type 0) (o : Option ℕ) → is_some o ≡ not true → IsLeastBelow n P o → IsLeastBelow n P None
 none_from n P None e h = h
@@ -42,5 +48,8 @@ none_from n P (Some a) e h = cc
 pub returns : goal.returns
 returns c = λ h.
     let j = c.args.job.now in
-    inner_edge j c.args.values.now c.args.time c.args.x c.args.y (omega (arith, c.if-x-eq0.false)) (omega (arith, c.if-y-eq0.false))
-    (none_from (assignments j) (λ a. IsFound j c.args.values.now a c.args.time Edge (inner j.area.x (c.args.x - 1)) (inner j.area.y (c.args.y - 1))) c.cell_fault.result (c.is_none.ensures ∙ ap not h) c.cell_fault.ensures)
+    inner_edge j c.args.values.now c.args.time c.args.x c.args.y (omega (arith, c.if-x-eq0.false))
+    (omega (arith, c.if-y-eq0.false))
+    (none_from (assignments j) (λ a.
+    IsFound j c.args.values.now a c.args.time Edge (inner j.area.x (c.args.x - 1)) (inner j.area.y (c.args.y - 1)))
+    c.cell_fault.result (c.is_none.ensures ∙ ap not h) c.cell_fault.ensures)

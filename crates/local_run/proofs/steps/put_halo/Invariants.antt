@@ -9,7 +9,8 @@ invariant-border l = record {
   within : l.u ≤ l.cells;
   shows : Shows l.job l.values l.time l.field.planes;
   lines : l.field.line_marks ≡ l.fn.field.line_marks;
-  halo : (x y : ℕ) → x < l.job.area.w + 2 → y < l.job.area.h + 2 → number_at l.job.area x y < l.u → HasHaloAt l.job l.values l.time l.field.planes x y;
+  halo : (x y : ℕ) → x < l.job.area.w + 2 → y < l.job.area.h + 2 → number_at l.job.area x y < l.u →
+      HasHaloAt l.job l.values l.time l.field.planes x y;
 }
 
 abbrev pub decreases-border : goal.decreases-border

@@ -21,10 +21,14 @@ cells-preserved c =
     let s1 = m.size.1 in
     record {
       size = (h.size.0 ∙ m.size.0, h.size.1 ∙ m.size.1, h.size.2 ∙ m.size.2);
-      above = λ a x y la lx ly. h.rest a (1 + x) (1 + y) (omega arith) (omega arith) (λ e. let e1 = e.1 in omega arith) ∙ m.above a x y la lx ly;
+      above = λ a x y la lx ly. h.rest a (1 + x) (1 + y) (omega arith) (omega arith) (λ e. let e1 = e.1 in omega arith)
+          ∙ m.above a x y la lx ly;
       here = λ a x la lx. by_lt_or_le x c.cells.x
-          (λ l. h.rest a (1 + x) (1 + c.rows.y) (omega arith) (omega arith) (λ e. let e0 = e.0 in omega arith) ∙ m.here a x la l)
+          (λ l. h.rest a (1 + x) (1 + c.rows.y) (omega arith) (omega arith) (λ e. let e0 = e.0 in omega arith)
+          ∙ m.here a x la l)
           (λ g. let e : c.cells.x ≡ x = omega arith in
-          subst (λ (n : ℕ). lane c.put.new.planes a (1 + n) (1 + c.rows.y) ≡ local_run j (valuation c.args.values.now a) 0 (inner j.area.x n) (inner j.area.y c.rows.y)) e
-          (h.there a (omega arith) ∙ ap (is_live (valuation c.args.values.now a)) c.start_at.ensures.is ∙ run_start j (valuation c.args.values.now a) _ _));
+          subst (λ (n : ℕ). lane c.put.new.planes a (1 + n) (1 + c.rows.y)
+          ≡ local_run j (valuation c.args.values.now a) 0 (inner j.area.x n) (inner j.area.y c.rows.y)) e
+          (h.there a (omega arith) ∙ ap (is_live (valuation c.args.values.now a)) c.start_at.ensures.is
+          ∙ run_start j (valuation c.args.values.now a) _ _));
     }

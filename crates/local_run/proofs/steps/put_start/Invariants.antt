@@ -10,14 +10,17 @@ abbrev pub invariant-rows : goal.invariant-rows
 invariant-rows l = record {
   size : HasSize l.values.words (l.job.area.w / 2 + 1) (l.job.area.h / 2 + 1) l.planes;
   above : (a x y : ℕ) → a < assignments l.job → x < l.job.area.w → y < l.y →
-      lane l.planes a (1 + x) (1 + y) ≡ local_run l.job (valuation l.values a) 0 (inner l.job.area.x x) (inner l.job.area.y y);
+      lane l.planes a (1 + x) (1 + y)
+      ≡ local_run l.job (valuation l.values a) 0 (inner l.job.area.x x) (inner l.job.area.y y);
 }
 
 abbrev pub invariant-cells : goal.invariant-cells
 invariant-cells l = record {
   size : HasSize l.values.words (l.job.area.w / 2 + 1) (l.job.area.h / 2 + 1) l.planes;
   above : (a x y : ℕ) → a < assignments l.job → x < l.job.area.w → y < l.y →
-      lane l.planes a (1 + x) (1 + y) ≡ local_run l.job (valuation l.values a) 0 (inner l.job.area.x x) (inner l.job.area.y y);
+      lane l.planes a (1 + x) (1 + y)
+      ≡ local_run l.job (valuation l.values a) 0 (inner l.job.area.x x) (inner l.job.area.y y);
   here : (a x : ℕ) → a < assignments l.job → x < l.x →
-      lane l.planes a (1 + x) (1 + l.y) ≡ local_run l.job (valuation l.values a) 0 (inner l.job.area.x x) (inner l.job.area.y l.y);
+      lane l.planes a (1 + x) (1 + l.y)
+      ≡ local_run l.job (valuation l.values a) 0 (inner l.job.area.x x) (inner l.job.area.y l.y);
 }

@@ -5,4 +5,5 @@ use Rattle.module_box.specs.Numbers.{gate_numbers}
 use Rattle.module_box.proofs.numbers.push_gates.Given as goal
 
 abbrev pub invariant-loop-gate : goal.invariant-loop-gate
-invariant-loop-gate l = l.numbers.items ≡ l.initial.numbers.items ++ flat_map gate_numbers (map kept_gate (take l.gate-index l.gates))
+invariant-loop-gate l = l.numbers.items
+    ≡ l.initial.numbers.items ++ flat_map gate_numbers (map kept_gate (take l.gate-index l.gates))

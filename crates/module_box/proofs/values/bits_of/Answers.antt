@@ -12,4 +12,5 @@ loop-word-preserved c =
     let word : ℕ = get_or words k 0 in
     let more : c.push.new.self.items ≡ c.loop-word.bits.items ++ bit word c.args.place ∷ [] = search rules in
     more ∙ ap (λ (l : List Bool). l ++ bit word c.args.place ∷ []) c.loop-word.invariant
-    ∙ sym (ap (lane c.args.place) (take_more words k 0 c.loop-word-test.true) ∙ map_push (λ x. bit x c.args.place) (take k words) word)
+    ∙ sym (ap (lane c.args.place) (take_more words k 0 c.loop-word-test.true)
+    ∙ map_push (λ x. bit x c.args.place) (take k words) word)

@@ -5,4 +5,5 @@ use Rattle.std.specs.Arc.{arc_value}
 use Rattle.module_job.proofs.groups.first_like.Given as goal
 
 abbrev pub invariant-earlier : goal.invariant-earlier
-invariant-earlier l = (i : ℕ) → i < l.earlier → slice_get (map arc_value l.shapes) i ≢ slice_get (map arc_value l.shapes) l.number
+invariant-earlier l = (i : ℕ) → i < l.earlier →
+    slice_get (map arc_value l.shapes) i ≢ slice_get (map arc_value l.shapes) l.number

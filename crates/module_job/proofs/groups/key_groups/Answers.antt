@@ -16,13 +16,17 @@ keys-preserved c =
     let first : ℕ = c.in_ok-first.first in
     let there = slice_get-get_or keys n _ c.keys-test.true in
     let is = c.in_ok-first.ensures.first in
-    let like : IsFirstLike keys n first = subst (IsFirstLike keys n) (sym is) (first_found keys n _ (get same_key c.keys.firsts _) there (c.keys.invariant.known _)) in
+    let like : IsFirstLike keys n first =
+    subst (IsFirstLike keys n) (sym is)
+    (first_found keys n _ (get same_key c.keys.firsts _) there (c.keys.invariant.known _)) in
     let items = c.in_ok-push.ensures.items in
     let longer = ap length items in
     let sum = length-append old (first ∷ []) in
     record {
       count = omega (arith, longer, sum, c.keys.invariant.count);
-      each = λ k lt. subst (λ (gs : List ℕ). IsFirstLike keys k (slice_index gs k)) (sym items) (group_more keys old n first c.keys.invariant.count c.keys.invariant.each like k lt);
+      each = λ k lt. subst (λ (gs : List ℕ). IsFirstLike keys k (slice_index gs k)) (sym items)
+          (group_more keys old n first c.keys.invariant.count c.keys.invariant.each like k lt);
       known = λ other. subst (IsFirstOf keys (n + 1) other) (sym (c.in_ok-first.ensures.kept other))
-          (known_more keys n _ other (get same_key c.keys.firsts _) (get same_key c.keys.firsts other) first there (c.keys.invariant.known _) is (c.keys.invariant.known other));
+          (known_more keys n _ other (get same_key c.keys.firsts _) (get same_key c.keys.firsts other) first there
+          (c.keys.invariant.known _) is (c.keys.invariant.known other));
     }

@@ -17,10 +17,13 @@ shapes-preserved c =
     let items = c.in_ok-push.ensures.items in
     let longer = ap length items in
     let sum = length-append old (g ∷ []) in
-    let count : length c.push.new.self.items ≡ c.shapes.number + 1 = omega (arith, longer, sum, c.shapes.invariant.count) in
+    let count : length c.push.new.self.items ≡ c.shapes.number + 1 =
+    omega (arith, longer, sum, c.shapes.invariant.count) in
     record {
       count = count;
-      each = λ k lt. subst (λ (gs : List ℕ). IsFirstLike shapes k (slice_index gs k)) (sym items) (group_more shapes old c.shapes.number g c.shapes.invariant.count c.shapes.invariant.each c.first_like.ensures k lt);
+      each = λ k lt. subst (λ (gs : List ℕ). IsFirstLike shapes k (slice_index gs k)) (sym items)
+          (group_more shapes old c.shapes.number g c.shapes.invariant.count c.shapes.invariant.each c.first_like.ensures
+          k lt);
     }
 
 pub returns : goal.returns

@@ -6,9 +6,12 @@ use Rattle.pattern.proofs.PortLines.{port_found, port_missed}
 use Rattle.pattern.proofs.form.port_on.Goals as goal
 
 pub returns-in_default : goal.returns-in_default
-returns-in_default c = port_missed (words_of (line_bytes c.args.feed.now c.args.line.now)) (ap (option_map four_listed) (sym c.in_default.is) ∙ c.four_words.ensures)
+returns-in_default c = port_missed (words_of (line_bytes c.args.feed.now c.args.line.now))
+    (ap (option_map four_listed) (sym c.in_default.is) ∙ c.four_words.ensures)
 
 pub returns : goal.returns
 returns c =
     c.port_of_words.ensures
-    ∙ port_found (words_of (line_bytes c.args.feed.now c.args.line.now)) c.in-Some.words.first.now c.in-Some.words.second.now c.in-Some.words.third.now c.in-Some.words.fourth.now (ap (option_map four_listed) (sym c.in-Some.is) ∙ c.four_words.ensures)
+    ∙ port_found (words_of (line_bytes c.args.feed.now c.args.line.now)) c.in-Some.words.first.now
+    c.in-Some.words.second.now c.in-Some.words.third.now c.in-Some.words.fourth.now
+    (ap (option_map four_listed) (sym c.in-Some.is) ∙ c.four_words.ensures)

@@ -6,4 +6,5 @@ use Rattle.pattern.specs.Text.{port_words}
 use Rattle.pattern.proofs.printing.print_ports.Given as goal
 
 abbrev pub invariant-loop-port : goal.invariant-loop-port
-invariant-loop-port l = l.out.items ≡ l.fn.out.items ++ flat_map (λ p. line_text l.word (port_words p)) (take l.port-index l.ports)
+invariant-loop-port l = l.out.items
+    ≡ l.fn.out.items ++ flat_map (λ p. line_text l.word (port_words p)) (take l.port-index l.ports)

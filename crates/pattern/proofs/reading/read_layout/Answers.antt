@@ -11,4 +11,5 @@ pub returns-in-Ok-read-clause-names : goal.returns-in-Ok-read-clause-names
 returns-in-Ok-read-clause-names c =
     let read = faultless_named _ _ _ (reads_faultless _ _ _ _ _ c.in-Ok-read.ensures.reads) in
     subst (λ (q : Pattern). AreNamed (named_ports c.args.ports.now) (parts_of q)) (sym c.into_layout-layout.ensures)
-    (subst (λ (ports : Option Named). AreNamed ports (parts_of c.read_section-read.new.section.layout)) c.in-Ok.ensures.ports read)
+    (subst (λ (ports : Option Named). AreNamed ports (parts_of c.read_section-read.new.section.layout))
+    c.in-Ok.ensures.ports read)

@@ -14,7 +14,8 @@ loop-x-preserved c =
     elim c.if-get.branch [
       | then-get+in_ok-push w ↦
           row_filtered test _ _ _ c.loop-x.x c.args.y true (tested ∙ w.if-get.true) c.loop-x.invariant
-          (ap (λ (v : Vec Cell Global). v.items) w.out-is ∙ w.in_ok-push.ensures.items ∙ ap (λ (d : Cell). c.loop-x.out.items ++ d ∷ []) cast)
+          (ap (λ (v : Vec Cell Global). v.items) w.out-is ∙ w.in_ok-push.ensures.items
+          ∙ ap (λ (d : Cell). c.loop-x.out.items ++ d ∷ []) cast)
       | else-get w ↦
           row_filtered test _ _ _ c.loop-x.x c.args.y false (tested ∙ w.if-get.false) c.loop-x.invariant
           (ap (λ (v : Vec Cell Global). v.items) w.out-is ∙ sym (append-nil c.loop-x.out.items))

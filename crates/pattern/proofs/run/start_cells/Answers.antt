@@ -16,19 +16,26 @@ push_mirrors-requires c =
     let p : Pattern = pattern_of c.layout.inside in
     let sides = size_sides p.size c.layout.invariant.size in
     let all = begins_inside p c.layout.invariant.parts in
-    subst (λ (rs : List Rectangle). (k : ℕ) (d : Rectangle) → k < length rs → ((get_or rs k d).x + (get_or rs k d).w ≤ 512) × ((get_or rs k d).y + (get_or rs k d).h ≤ 512)) (sym c.as_slice.ensures.value)
+    subst (λ (rs : List Rectangle). (k : ℕ) (d : Rectangle) → k < length rs →
+    ((get_or rs k d).x + (get_or rs k d).w ≤ 512) × ((get_or rs k d).y + (get_or rs k d).h ≤ 512))
+    (sym c.as_slice.ensures.value)
     (mirrors_fit p.size p.mirrors all.mirrors sides.0.most sides.1.most)
 
-listed : (c : goal.In_ok-push_ports_on) → c.push_ports_on.new.out.items ≡ start_list c.args.layout.now (has c.args.on.now)
+listed : (c : goal.In_ok-push_ports_on) →
+    c.push_ports_on.new.out.items ≡ start_list c.args.layout.now (has c.args.on.now)
 listed c =
     let p : Pattern = pattern_of c.layout.inside in
     let ports = λ (qs : List Port). map (λ (q : Port). q.cell) (filter (λ (q : Port). has c.args.on.now q.name) qs) in
     let mirrors : c.push_mirrors.new.out.items ≡ flat_map rectangle_cells p.mirrors =
-    c.in_ok-push_mirrors.ensures ∙ ap (λ (l : List Cell). l ++ flat_map rectangle_cells c.as_slice.result.now) c.new-cells.ensures.items ∙ ap (flat_map rectangle_cells) c.as_slice.ensures.value in
+    c.in_ok-push_mirrors.ensures ∙ ap
+    (λ (l : List Cell). l ++ flat_map rectangle_cells c.as_slice.result.now) c.new-cells.ensures.items
+    ∙ ap (flat_map rectangle_cells) c.as_slice.ensures.value in
     let balls : c.extend_from_slice.new.self.items ≡ c.push_mirrors.new.out.items ++ p.balls =
-    c.in_ok-extend_from_slice.ensures.items ∙ ap (λ (l : List Cell). c.push_mirrors.new.out.items ++ l) c.as_slice-2.ensures.value in
+    c.in_ok-extend_from_slice.ensures.items
+    ∙ ap (λ (l : List Cell). c.push_mirrors.new.out.items ++ l) c.as_slice-2.ensures.value in
     let ins : c.push_ports_on.new.out.items ≡ c.extend_from_slice.new.self.items ++ ports p.ins =
-    c.in_ok-push_ports_on.ensures ∙ ap (λ (l : List Port). c.extend_from_slice.new.self.items ++ ports l) c.as_slice-3.ensures.value in
+    c.in_ok-push_ports_on.ensures
+    ∙ ap (λ (l : List Port). c.extend_from_slice.new.self.items ++ ports l) c.as_slice-3.ensures.value in
     subst (λ (p : Pattern). c.push_ports_on.new.out.items ≡ start_list p (has c.args.on.now)) c.layout.view_is
     (start_list_made p (has c.args.on.now) _ _ _ mirrors balls ins)
 
@@ -36,4 +43,5 @@ pub returns-clause-order : goal.returns-clause-order
 returns-clause-order c = listed c
 
 pub returns-clause-cells : goal.returns-clause-cells
-returns-clause-cells c = λ x y. ap (λ (l : List Cell). in_cells l x y) (listed c) ∙ in_start_list c.args.layout.now (has c.args.on.now) x y
+returns-clause-cells c = λ x y. ap (λ (l : List Cell). in_cells l x y) (listed c)
+    ∙ in_start_list c.args.layout.now (has c.args.on.now) x y

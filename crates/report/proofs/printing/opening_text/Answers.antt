@@ -6,4 +6,6 @@ use Rattle.report.proofs.printing.opening_text.Goals as goal
 pub returns : goal.returns
 returns c =
     let bytes : c.into_bytes.result.items ≡ string_bytes c.in_ok-lines.lines = search rules in
-    opening_made c.args.digest c.args.modules (string_bytes c.in_ok-digits.digits) c.into_bytes.result.items c.in_ok-digits.ensures (bytes ∙ c.in_ok-lines.ensures.ok)
+    opening_made c.args.digest c.args.modules
+    (string_bytes c.in_ok-digits.digits) c.into_bytes.result.items c.in_ok-digits.ensures
+    (bytes ∙ c.in_ok-lines.ensures.ok)

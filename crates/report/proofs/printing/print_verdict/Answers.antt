@@ -18,5 +18,7 @@ returns-in_ok-times-in-Yes c =
     let lines : List TimeLine → List ℕ = λ ts. flat_map (λ t. fault_line (timing t)) ts in
     let times = time_lines (circuit_of c.args.cert.now.circuit) (modules_in c.args.cert.now) in
     subst (λ xs. OnOk c.print_times.result (c.print_times.new.text.items ≡ xs))
-    (ap₂ (λ xs ts. xs ++ lines ts) c.in_ok-extend_from_slice-in-Yes.ensures.items (c.deref.ensures.value ∙ c.in_ok-times-in-Yes.ensures)
-    ∙ append_assoc old yes (lines times) ∙ ap (λ (v : Verdict). old ++ verdict_lines times v) (sym c.in-Yes.is)) c.print_times.ensures
+    (ap₂ (λ xs ts. xs ++ lines ts) c.in_ok-extend_from_slice-in-Yes.ensures.items
+    (c.deref.ensures.value ∙ c.in_ok-times-in-Yes.ensures)
+    ∙ append_assoc old yes (lines times) ∙ ap (λ (v : Verdict). old ++ verdict_lines times v) (sym c.in-Yes.is))
+    c.print_times.ensures

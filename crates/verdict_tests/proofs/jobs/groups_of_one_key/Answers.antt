@@ -10,5 +10,7 @@ shape_groups-requires c =
     let shapes = c.args.shapes.now in
     let all = take_all c.shapes.index shapes c.shapes-test.false in
     let keys : c.as_slice.result.now ≡ map (λ _. c.args.key) (map arc_value shapes) =
-    c.as_slice.ensures.value ∙ c.shapes.invariant ∙ ap (map (λ _. c.args.key)) all ∙ sym (map_twice arc_value (λ _. c.args.key) shapes) in
-    subst (λ (ks : List (List ℕ)). AreKeys (map arc_value shapes) ks) (sym keys) (made_keys (map arc_value shapes) (λ _. c.args.key))
+    c.as_slice.ensures.value ∙ c.shapes.invariant ∙ ap (map (λ _. c.args.key)) all
+    ∙ sym (map_twice arc_value (λ _. c.args.key) shapes) in
+    subst (λ (ks : List (List ℕ)). AreKeys (map arc_value shapes) ks) (sym keys)
+    (made_keys (map arc_value shapes) (λ _. c.args.key))

@@ -4,7 +4,8 @@ use Rattle.audit_core.specs.BookFields.{book_view}
 use Rattle.audit_core.specs.declared.entry.Entry.TheVariants.{Filed}
 use Rattle.audit_core.specs.declared.entry.Filing.{Filing}
 use Rattle.audit_core.specs.declared.reply.Reply.TheVariants.{Accepted}
-use Rattle.audit_core.proofs.Filings.{IsBook-filed, accepted-inside, accepted_in-accepted, accepted_in-filed, accepted_in-other, left-accepted, left-other}
+use Rattle.audit_core.proofs.Filings.{IsBook-filed, accepted-inside, accepted_in-accepted, accepted_in-filed}
+use Rattle.audit_core.proofs.Filings.{accepted_in-other, left-accepted, left-other}
 use Rattle.audit_core.proofs.Replays.{IsReplayed-filed}
 use Rattle.audit_core.proofs.book.BookState.file.Goals as goal
 use Rattle.audit_core.proofs.book.BookState.file.Goals.{After-push_reserved}
@@ -16,20 +17,30 @@ book c = book_view c.self.inside
 filing : (c : After-push_reserved) → c.filing_of-filing.result ≡ filing_of (book c) c.args.finding
 filing c = c.filing_of-filing.ensures ∙ ap (λ (b : BookView). filing_of b c.args.finding) (sym c.self.view_is)
 
-history : (c : After-push_reserved) → c.push_reserved.new.self.items ≡ (book c).history ++ Filed c.filing_of-filing.result ∷ []
-history c = c.push_reserved.ensures.items ∙ ap (λ xs. xs ++ Filed c.filing_of-filing.result ∷ []) c.reserve.ensures.items
+history : (c : After-push_reserved) →
+    c.push_reserved.new.self.items ≡ (book c).history ++ Filed c.filing_of-filing.result ∷ []
+history c = c.push_reserved.ensures.items
+    ∙ ap (λ xs. xs ++ Filed c.filing_of-filing.result ∷ []) c.reserve.ensures.items
 
-accepted : (c : After-push_reserved) → c.filing_of-filing.result.reply ≡ Accepted → reply_to (book c) c.args.finding ≡ Accepted
+accepted : (c : After-push_reserved) → c.filing_of-filing.result.reply ≡ Accepted →
+    reply_to (book c) c.args.finding ≡ Accepted
 accepted c e = sym (ap (λ (x : Filing). x.reply) (filing c)) ∙ e
 
 -- what is left where the finding is accepted, and where it is not
-with_found : (c : After-push_reserved) → c.filing_of-filing.result.reply ≡ Accepted → record (book c) { held = set (book c).held c.filing_of-filing.result.number (Some c.args.finding); history = c.push_reserved.new.self.items } ≡ after_filing (book c) c.args.finding
-with_found c e = left-accepted (book c) c.args.finding c.filing_of-filing.result c.push_reserved.new.self.items (filing c) (history c) e
+with_found : (c : After-push_reserved) → c.filing_of-filing.result.reply ≡ Accepted → record (book c) {
+  held = set (book c).held c.filing_of-filing.result.number (Some c.args.finding);
+  history = c.push_reserved.new.self.items;
+} ≡ after_filing (book c) c.args.finding
+with_found c e = left-accepted (book c) c.args.finding c.filing_of-filing.result c.push_reserved.new.self.items
+    (filing c) (history c) e
 
-without : (c : After-push_reserved) → (c.filing_of-filing.result.reply ≡ Accepted → ⊥) → record (book c) { history = c.push_reserved.new.self.items } ≡ after_filing (book c) c.args.finding
-without c other = left-other (book c) c.args.finding c.filing_of-filing.result c.push_reserved.new.self.items (filing c) (history c) other
+without : (c : After-push_reserved) → (c.filing_of-filing.result.reply ≡ Accepted → ⊥) →
+    record (book c) { history = c.push_reserved.new.self.items } ≡ after_filing (book c) c.args.finding
+without c other = left-other (book c) c.args.finding c.filing_of-filing.result c.push_reserved.new.self.items (filing c)
+    (history c) other
 
-refused : (c : After-push_reserved) → (c.filing_of-filing.result.reply ≡ Accepted → ⊥) → reply_to (book c) c.args.finding ≡ Accepted → ⊥
+refused : (c : After-push_reserved) → (c.filing_of-filing.result.reply ≡ Accepted → ⊥) →
+    reply_to (book c) c.args.finding ≡ Accepted → ⊥
 refused c other e = other (ap (λ (x : Filing). x.reply) (filing c) ∙ e)
 
 pub invariant_of-self-in_default : goal.invariant_of-self-in_default
@@ -40,7 +51,8 @@ invariant_of-self-in_default c =
     record {
       book = subst IsBook left (IsBook-filed (book d) c.args.finding is.book);
       replayed = subst IsReplayed left (IsReplayed-filed (book d) c.args.finding is.book is.replayed);
-      counted = is.counted ∙ sym (accepted_in-other (book d) c.args.finding (refused d c.in_default.not-Accepted)) ∙ ap accepted_in left;
+      counted = is.counted ∙ sym (accepted_in-other (book d) c.args.finding (refused d c.in_default.not-Accepted))
+          ∙ ap accepted_in left;
     }
 
 pub returns-in_default-clause-reply : goal.returns-in_default-clause-reply
@@ -54,14 +66,16 @@ returns-in_default-clause-after c =
 pub returns-in_default-clause-counted : goal.returns-in_default-clause-counted
 returns-in_default-clause-counted c =
     let d = (goal.at.returns-in_default-clause-counted c).After-push_reserved in
-    accepted_in-filed (book d) c.args.self.now _ c.args.finding _ c.self.invariant.book c.self.view_is (ap (λ (x : Filing). x.reply) c.filing_of-filing.ensures)
+    accepted_in-filed (book d) c.args.self.now _ c.args.finding _ c.self.invariant.book c.self.view_is
+    (ap (λ (x : Filing). x.reply) c.filing_of-filing.ensures)
     (without d c.in_default.not-Accepted ∙ ap (λ (b : BookView). after_filing b c.args.finding) c.self.view_is)
 
 pub index_mut-requires : goal.index_mut-requires
 index_mut-requires c =
     let d = (goal.at.index_mut-requires c).After-push_reserved in
     let inside = accepted-inside (book d) c.args.finding c.self.invariant.book (accepted d c.in-Accepted.is) in
-    let below : c.filing_of-filing.result.number < length (book d).held = subst (λ n. n < length (book d).held) (sym (ap (λ (x : Filing). x.number) (filing d))) inside in
+    let below : c.filing_of-filing.result.number < length (book d).held =
+    subst (λ n. n < length (book d).held) (sym (ap (λ (x : Filing). x.number) (filing d))) inside in
     search rules
 
 pub invariant_of-self-2 : goal.invariant_of-self-2
@@ -72,7 +86,9 @@ invariant_of-self-2 c =
     record {
       book = subst IsBook left (IsBook-filed (book d) c.args.finding is.book);
       replayed = subst IsReplayed left (IsReplayed-filed (book d) c.args.finding is.book is.replayed);
-      counted = ap (λ n. n + 1) is.counted ∙ sym (accepted_in-accepted (book d) c.args.finding is.book (accepted d c.in-Accepted.is)) ∙ ap accepted_in left;
+      counted = ap (λ n. n + 1) is.counted
+          ∙ sym (accepted_in-accepted (book d) c.args.finding is.book (accepted d c.in-Accepted.is))
+          ∙ ap accepted_in left;
     }
 
 pub returns-clause-after : goal.returns-clause-after
@@ -83,5 +99,6 @@ returns-clause-after c =
 pub returns-clause-counted : goal.returns-clause-counted
 returns-clause-counted c =
     let d = (goal.at.returns-clause-counted c).After-push_reserved in
-    accepted_in-filed (book d) c.args.self.now _ c.args.finding _ c.self.invariant.book c.self.view_is (ap (λ (x : Filing). x.reply) c.filing_of-filing.ensures)
+    accepted_in-filed (book d) c.args.self.now _ c.args.finding _ c.self.invariant.book c.self.view_is
+    (ap (λ (x : Filing). x.reply) c.filing_of-filing.ensures)
     (with_found d c.in-Accepted.is ∙ ap (λ (b : BookView). after_filing b c.args.finding) c.self.view_is)

@@ -12,7 +12,8 @@ use Rattle.audit_core.proofs.machine.Core.claim.Goals.{After-index_mut, After-cl
 pub claim_from-requires : goal.claim_from-requires
 claim_from-requires c =
     let is = c.self.invariant in
-    let seats : length (lists_of c.self.inside.draws.items) ≡ length c.self.inside.draws.items = length-map c.self.inside.draws.items (λ v. v.items) in
+    let seats : length (lists_of c.self.inside.draws.items) ≡ length c.self.inside.draws.items =
+    length-map c.self.inside.draws.items (λ v. v.items) in
     omega (arith, next-few _ is.core, is.numbers, is.seats, seats)
 
 -- the seat is one of the seats, by the fields
@@ -26,11 +27,14 @@ count : (c : After-index_mut) → length c.jobs-count.result.now ≡ numbers_in 
 count c = sym (length-map c.jobs-count.result.now arc_value) ∙ ap length c.jobs-count.ensures
 
 was : (c : After-index_mut) → c.index_mut.result.now.items ≡ draws_of (core_view c.self.inside) c.args.seat
-was c = drawn-at (λ (v : Vec ℕ Global). v.items) c.self.inside.draws.items c.args.seat c.index_mut.result.now (inside c) c.index_mut.ensures.value
+was c = drawn-at (λ (v : Vec ℕ Global). v.items) c.self.inside.draws.items c.args.seat c.index_mut.result.now
+    (inside c) c.index_mut.ensures.value
 
 -- the lists are as before, where no memory was found
-kept : (c : After-claim_from) → c.claim_from.new.drawn.items ≡ c.index_mut.result.now.items → lists_of (set c.self.inside.draws.items c.args.seat c.claim_from.new.drawn) ≡ lists_of c.self.inside.draws.items
-kept c same = map-set_same (λ (v : Vec ℕ Global). v.items) c.self.inside.draws.items c.args.seat c.claim_from.new.drawn c.index_mut.result.now (same ∙ ap (λ (v : Vec ℕ Global). v.items) c.index_mut.ensures.value)
+kept : (c : After-claim_from) → c.claim_from.new.drawn.items ≡ c.index_mut.result.now.items →
+    lists_of (set c.self.inside.draws.items c.args.seat c.claim_from.new.drawn) ≡ lists_of c.self.inside.draws.items
+kept c same = map-set_same (λ (v : Vec ℕ Global). v.items) c.self.inside.draws.items c.args.seat c.claim_from.new.drawn
+    c.index_mut.result.now (same ∙ ap (λ (v : Vec ℕ Global). v.items) c.index_mut.ensures.value)
 
 abbrev with_draws : CoreView → List (List ℕ) → CoreView
 with_draws v draws = record v { draws = draws }
@@ -40,7 +44,8 @@ invariant_of-self c =
     let is = c.self.invariant in
     let d = (goal.at.invariant_of-self c).After-claim_from in
     record {
-      core = subst (λ (ds : List (List ℕ)). IsCore (with_draws (core_view c.self.inside) ds)) (sym (kept d c.in_default.ensures.unchanged)) is.core;
+      core = subst (λ (ds : List (List ℕ)). IsCore (with_draws (core_view c.self.inside) ds))
+          (sym (kept d c.in_default.ensures.unchanged)) is.core;
       numbers = is.numbers;
       seats = omega (arith, is.seats, length-set c.self.inside.draws.items c.args.seat c.claim_from.new.drawn);
     }
@@ -51,12 +56,18 @@ returns-in_default-clause-unchanged c =
     ap (with_draws (core_view c.self.inside)) (kept d c.in_default.ensures.unchanged) ∙ c.self.view_is
 
 -- what a claim leaves
-left : (c : After-claim_from) (next : ℕ) → next ≡ claim_next (length c.jobs-count.result.now) c.index_mut.result.now.items c.self.inside.next
-    → c.claim_from.new.drawn.items ≡ claim_draws (length c.jobs-count.result.now) c.index_mut.result.now.items c.self.inside.next
-    → record (core_view c.self.inside) { next = next; draws = lists_of (set c.self.inside.draws.items c.args.seat c.claim_from.new.drawn) } ≡ after_claim (core_view c.self.inside) c.args.seat
+left : (c : After-claim_from) (next : ℕ) →
+    next ≡ claim_next (length c.jobs-count.result.now) c.index_mut.result.now.items c.self.inside.next
+    → c.claim_from.new.drawn.items
+    ≡ claim_draws (length c.jobs-count.result.now) c.index_mut.result.now.items c.self.inside.next
+    → record (core_view c.self.inside)
+    { next = next; draws = lists_of (set c.self.inside.draws.items c.args.seat c.claim_from.new.drawn) }
+    ≡ after_claim (core_view c.self.inside) c.args.seat
 left c next next_is drawn_is =
     let d = (at-After-claim_from c).After-index_mut in
-    left-claim (core_view c.self.inside) c.args.seat (length c.jobs-count.result.now) next c.index_mut.result.now.items c.claim_from.new.drawn.items _ (count d) (was d) next_is drawn_is
+    left-claim (core_view c.self.inside) c.args.seat
+    (length c.jobs-count.result.now) next c.index_mut.result.now.items c.claim_from.new.drawn.items _ (count d)
+    (was d) next_is drawn_is
     (map-set (λ (v : Vec ℕ Global). v.items) c.self.inside.draws.items c.args.seat c.claim_from.new.drawn)
 
 pub invariant_of-self-2 : goal.invariant_of-self-2
@@ -65,7 +76,8 @@ invariant_of-self-2 c =
     let d = (goal.at.invariant_of-self-2 c).After-claim_from in
     let e = (goal.at.invariant_of-self-2 c).After-index_mut in
     record {
-      core = subst IsCore (sym (left d c.in-Ok.next c.in-Ok.ensures.next c.in-Ok.ensures.draws)) (claim-core (core_view c.self.inside) c.args.seat (seated e) is.core);
+      core = subst IsCore (sym (left d c.in-Ok.next c.in-Ok.ensures.next c.in-Ok.ensures.draws))
+          (claim-core (core_view c.self.inside) c.args.seat (seated e) is.core);
       numbers = is.numbers;
       seats = omega (arith, is.seats, length-set c.self.inside.draws.items c.args.seat c.claim_from.new.drawn);
     }
@@ -73,4 +85,5 @@ invariant_of-self-2 c =
 pub returns-clause-after : goal.returns-clause-after
 returns-clause-after c =
     let d = (goal.at.returns-clause-after c).After-claim_from in
-    left d c.in-Ok.next c.in-Ok.ensures.next c.in-Ok.ensures.draws ∙ ap (λ (v : CoreView). after_claim v c.args.seat) c.self.view_is
+    left d c.in-Ok.next c.in-Ok.ensures.next c.in-Ok.ensures.draws
+    ∙ ap (λ (v : CoreView). after_claim v c.args.seat) c.self.view_is

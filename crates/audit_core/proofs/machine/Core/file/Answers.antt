@@ -10,9 +10,11 @@ pub invariant_of-self-2 : goal.invariant_of-self-2
 invariant_of-self-2 c =
     let is = c.self.invariant in
     let after : c.file.new.self ≡ after_filing c.self.inside.book c.args.finding = c.in_ok-reply.ensures.after in
-    let with_book : BookView → CoreView = λ b. record { next = c.self.inside.next; draws = lists_of c.self.inside.draws.items; book = b } in
+    let with_book : BookView → CoreView =
+    λ b. record { next = c.self.inside.next; draws = lists_of c.self.inside.draws.items; book = b } in
     record {
-      core = subst (λ (b : BookView). IsCore (with_book b)) (sym after) (event-core (core_view c.self.inside) (File c.args.finding) tt is.core);
+      core = subst (λ (b : BookView). IsCore (with_book b)) (sym after)
+          (event-core (core_view c.self.inside) (File c.args.finding) tt is.core);
       numbers = subst (λ (b : BookView). length b.jobs ≤ 1024) (sym after) is.numbers;
       seats = is.seats;
     }

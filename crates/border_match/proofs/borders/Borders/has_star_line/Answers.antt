@@ -16,6 +16,8 @@ returns-else-not-is_empty c =
           (sym c.held.ensures.same ∙ no_elements c.held.result.now _ c.is_empty.ensures c.if-not-is_empty.false) in
           let edges = unheld_unmoved (back owner.area.x) (back owner.area.y) owner.edges c.edges.result.now
           (c.edges.ensures ∙ ap (λ (s : ShapeState). s.edges) (c.deref-other.ensures ∙ c.shape-2.ensures))
-          (sym c.held-else-not-is_empty.ensures.same ∙ no_elements c.held-else-not-is_empty.result.now _ c.is_empty-else-not-is_empty.ensures none) in
-          absurd (unheld c.args.self.now c.args.cell.x c.args.cell.y owner c.requires.ready c.owner.ensures halos edges differ)
+          (sym c.held-else-not-is_empty.ensures.same
+          ∙ no_elements c.held-else-not-is_empty.result.now _ c.is_empty-else-not-is_empty.ensures none) in
+          absurd (unheld c.args.self.now c.args.cell.x c.args.cell.y owner c.requires.ready c.owner.ensures halos edges
+          differ)
     ]

@@ -20,7 +20,8 @@ pub rows-preserved : goal.rows-preserved
 rows-preserved c =
     let now = c.in_ok-note_row.ensures in
     record {
-      noted = row_more c.args.self.now c.rows.near.items c.note_row.new.near.items c.rows.y c.rows.invariant.noted now.kept now.noted;
+      noted = row_more c.args.self.now c.rows.near.items c.note_row.new.near.items c.rows.y c.rows.invariant.noted
+          now.kept now.noted;
       below = now.below;
     }
 

@@ -16,11 +16,15 @@ returns c =
     let near = c.args.near.now.items in
     let number = c.owner-number.result in
     let items = c.in_ok-push.ensures.items in
-    let both = and_parts (in_box b.whole c.args.cell.x c.args.cell.y) (in_halo b.job.now.area c.args.cell.x c.args.cell.y) (sym c.reaches.ensures ∙ c.if-not-reaches.false) in
+    let both = and_parts (in_box b.whole c.args.cell.x c.args.cell.y)
+    (in_halo b.job.now.area c.args.cell.x c.args.cell.y) (sym c.reaches.ensures ∙ c.if-not-reaches.false) in
     record {
-      noted = λ there. subst (λ (l : List ℕ). is_among l (owner_of b.owners.now c.args.cell.x c.args.cell.y) ≡ true) (sym items) (subst (λ (k : ℕ). is_among (near ++ number ∷ []) k ≡ true) c.owner-number.ensures (last_among near number));
+      noted = λ there. subst (λ (l : List ℕ). is_among l (owner_of b.owners.now c.args.cell.x c.args.cell.y) ≡ true)
+          (sym items) (subst (λ (k : ℕ). is_among (near ++ number ∷ []) k ≡ true) c.owner-number.ensures
+          (last_among near number));
       kept = λ k h. subst (λ (l : List ℕ). is_among l k ≡ true) (sym items) (keeps_more near number k h);
       below = subst (AreNumbers b) (sym items)
           (All-push (λ (k : ℕ). k < length b.jobs.now) near number c.requires.below
-          (subst (λ (k : ℕ). k < length b.jobs.now) (sym c.owner-number.ensures) (owner_within b c.args.cell.x c.args.cell.y c.requires.ready both.0)));
+          (subst (λ (k : ℕ). k < length b.jobs.now) (sym c.owner-number.ensures)
+          (owner_within b c.args.cell.x c.args.cell.y c.requires.ready both.0)));
     }

@@ -11,5 +11,6 @@ pub returns : goal.returns
 returns c =
     let b = c.args.self.now in
     let other = c.deref.result.now in
-    let got : slice_get (jobs_of b) c.args.number ≡ Some other = job_at arc_value b.jobs.now c.args.number _ other c.requires.number c.deref.ensures in
+    let got : slice_get (jobs_of b) c.args.number ≡ Some other =
+    job_at arc_value b.jobs.now c.args.number _ other c.requires.number c.deref.ensures in
     better_for _ _ _ _ _ c.with_edge_events.ensures (λ h f p. edges_named b c.args.number other h got p)

@@ -10,7 +10,8 @@ returns-then-is_fault c =
     c.lesser.ensures.kept c.lesser.ensures.one c.lesser.ensures.covered
 
 pub times-preserved : goal.times-preserved
-times-preserved c = no_fault_step _ c.args.cell c.times.time c.times.invariant (λ f. not_true _ c.if-is_fault.false (c.is_fault.ensures.1 f))
+times-preserved c = no_fault_step _ c.args.cell c.times.time c.times.invariant
+    (λ f. not_true _ c.if-is_fault.false (c.is_fault.ensures.1 f))
 
 pub returns : goal.returns
 returns c = better_same _ _ _ (λ h f same. c.times.invariant h f same (let e = f.early in omega (arith, e)))

@@ -4,7 +4,11 @@ use Rattle.border_match.proofs.Steps.{named_step, named_all}
 use Rattle.border_match.proofs.borders.Borders.with_halo_events.Goals as goal
 
 pub events-preserved : goal.events-preserved
-events-preserved c = better_then _ _ _ _ _ _ _ c.events.invariant c.with_event-least.ensures (λ h f r. named_step c.args.self.now.job.now.halos.events c.events.place c.halo_event.result h c.halo_event.ensures r)
+events-preserved c = better_then _ _ _ _ _ _ _ c.events.invariant c.with_event-least.ensures
+    (λ h f r. named_step c.args.self.now.job.now.halos.events c.events.place c.halo_event.result h c.halo_event.ensures
+    r)
 
 pub returns : goal.returns
-returns c = better_for _ _ _ _ _ c.events.invariant (λ h f r. named_all c.args.self.now.job.now.halos.events c.events.place h (omega (arith, c.events-test.false, c.halo_events-place-end.ensures)) r)
+returns c = better_for _ _ _ _ _ c.events.invariant
+    (λ h f r. named_all c.args.self.now.job.now.halos.events c.events.place h
+    (omega (arith, c.events-test.false, c.halo_events-place-end.ensures)) r)

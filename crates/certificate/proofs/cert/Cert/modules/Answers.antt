@@ -11,17 +11,23 @@ use Rattle.certificate.proofs.cert.Cert.modules.Goals as goal
 
 pub returns-clause-inputs : goal.returns-clause-inputs
 returns-clause-inputs c =
-    subst (λ (s : CertState). take (netlist_of s.circuit).given (defined s.circuit) ≡ input_names s.circuit) c.self.view_is
-    (ap (λ n. take n (defined c.self.inside.circuit.now)) (sym c.inputs-inputs.ensures.count) ∙ c.inputs-inputs.ensures.first)
+    subst (λ (s : CertState). take (netlist_of s.circuit).given (defined s.circuit) ≡ input_names s.circuit)
+    c.self.view_is
+    (ap (λ n. take n (defined c.self.inside.circuit.now)) (sym c.inputs-inputs.ensures.count)
+    ∙ c.inputs-inputs.ensures.first)
 
 pub returns-clause-good : goal.returns-clause-good
 returns-clause-good c =
     let g = setting_of c.self.inside.circuit.now c.self.inside.layout.now in
     subst (λ (s : CertState). AreModules (setting_of s.circuit s.layout) (modules_in s)) c.self.view_is
-    (meant_modules c.self.inside.version g (modules_of c.self.inside.entries.items) c.self.invariant.good c.self.invariant.complete)
+    (meant_modules c.self.inside.version g
+    (modules_of c.self.inside.entries.items) c.self.invariant.good c.self.invariant.complete)
 
 pub returns-clause-lines : goal.returns-clause-lines
-returns-clause-lines c = subst (λ (s : CertState). All HasFewLines (modules_of s.entries)) c.self.view_is c.self.invariant.few_lines
+returns-clause-lines c = subst
+    (λ (s : CertState). All HasFewLines (modules_of s.entries)) c.self.view_is c.self.invariant.few_lines
 
 pub returns-clause-written : goal.returns-clause-written
-returns-clause-written c = subst (λ (s : CertState). AreModules (setting_of s.circuit s.layout) (modules_of s.entries)) c.self.view_is c.self.invariant.good
+returns-clause-written c = subst
+    (λ (s : CertState). AreModules (setting_of s.circuit s.layout) (modules_of s.entries)) c.self.view_is
+    c.self.invariant.good

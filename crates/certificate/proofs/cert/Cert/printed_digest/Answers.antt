@@ -11,4 +11,5 @@ returns c =
     let printed = c.in_ok-print_header.ensures in
     let printed = rw c.new-line.ensures.items at printed in
     c.finalize.ensures _ (c.update-2.ensures _ lines)
-    ∙ ap sha256 (text_told c.args.self.now c.as_slice.result.now c.entries.result.now c.version.result (c.as_slice.ensures.value ∙ printed) c.version.ensures.version c.entries.ensures)
+    ∙ ap sha256 (text_told c.args.self.now c.as_slice.result.now c.entries.result.now c.version.result
+    (c.as_slice.ensures.value ∙ printed) c.version.ensures.version c.entries.ensures)

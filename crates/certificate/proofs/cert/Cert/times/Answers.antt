@@ -11,8 +11,10 @@ use Rattle.certificate.proofs.cert.Cert.times.Goals as goal
 pub returns : goal.returns
 returns c =
     let s : CertState = c.args.self.now in
-    let entries_are : c.as_slice.result.now ≡ s.entries = c.as_slice.ensures.value ∙ ap (λ (t : CertState). t.entries) c.self.view_is in
+    let entries_are : c.as_slice.result.now ≡ s.entries =
+    c.as_slice.ensures.value ∙ ap (λ (t : CertState). t.entries) c.self.view_is in
     let circuit_is = ap (λ (t : CertState). t.circuit) c.self.view_is in
     subst (λ ls. IfOk c.lines_of.result (λ lines. lines.items ≡ ls))
-    (ap₂ (λ cs es. time_lines (circuit_of cs) (modules_of es)) circuit_is entries_are ∙ sym (times_meant s.version (setting_of s.circuit s.layout) (circuit_of s.circuit) (modules_of s.entries)))
+    (ap₂ (λ cs es. time_lines (circuit_of cs) (modules_of es)) circuit_is entries_are
+    ∙ sym (times_meant s.version (setting_of s.circuit s.layout) (circuit_of s.circuit) (modules_of s.entries)))
     c.lines_of.ensures

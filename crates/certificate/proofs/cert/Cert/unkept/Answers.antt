@@ -17,18 +17,28 @@ gates-preserved c =
     let s = c.args.self.now in
     let same = ap (λ s. s.circuit) c.self.view_is in
     let gs : List Gate = (netlist_of s.circuit).gates in
-    let count : c.gates-count.result ≡ length gs = c.gates-count.ensures.count ∙ ap (λ (l : List CircuitLine). length (netlist_of l).gates) same in
+    let count : c.gates-count.result ≡ length gs =
+    c.gates-count.ensures.count ∙ ap (λ (l : List CircuitLine). length (netlist_of l).gates) same in
     let at : slice_get gs c.gates.number ≡ Some (gate_of c.gate-gate.result) =
-    ap (λ n. slice_get gs n) (sym c.of.ensures) ∙ sym (ap (λ (l : List CircuitLine). slice_get (netlist_of l).gates c.of.result) same) ∙ c.gate-gate.ensures in
+    ap (λ n. slice_get gs n) (sym c.of.ensures)
+    ∙ sym (ap (λ (l : List CircuitLine). slice_get (netlist_of l).gates c.of.result) same) ∙ c.gate-gate.ensures in
     let kept : c.is_kept-keeps.result ≡ is_kept (modules_of s.entries) c.gates.number =
-    c.is_kept-keeps.ensures ∙ c.in_ok-kept.ensures c.gates.number ∙ ap (λ (l : List Entry). is_kept (modules_of l) c.gates.number) (c.as_slice.ensures.value ∙ ap (λ s. s.entries) c.self.view_is) in
-    unkept_more (unkept (setting_of s.circuit s.layout) (modules_of s.entries)) c.gates.gates.items c.push_unkept.new.gates.items (modules_of s.entries) gs c.gates.number (gate_of c.gate-gate.result) c.is_inverse.result c.is_kept-keeps.result
-    (let test = c.gates-test.true in omega (arith, test, count)) at (c.is_inverse.ensures ∙ ap is_inverse c.kind.ensures.rule) kept c.in_ok-push_unkept.ensures c.gates.invariant
+    c.is_kept-keeps.ensures ∙ c.in_ok-kept.ensures c.gates.number
+    ∙ ap (λ (l : List Entry). is_kept (modules_of l) c.gates.number)
+    (c.as_slice.ensures.value ∙ ap (λ s. s.entries) c.self.view_is) in
+    unkept_more (unkept (setting_of s.circuit s.layout) (modules_of s.entries)) c.gates.gates.items
+    c.push_unkept.new.gates.items (modules_of s.entries) gs c.gates.number
+    (gate_of c.gate-gate.result) c.is_inverse.result c.is_kept-keeps.result
+    (let test = c.gates-test.true in omega (arith, test, count)) at
+    (c.is_inverse.ensures ∙ ap is_inverse c.kind.ensures.rule) kept c.in_ok-push_unkept.ensures c.gates.invariant
 
 pub returns : goal.returns
 returns c =
     let s = c.args.self.now in
     let same = ap (λ s. s.circuit) c.self.view_is in
-    let count : c.gates-count.result ≡ length (netlist_of s.circuit).gates = c.gates-count.ensures.count ∙ ap (λ (l : List CircuitLine). length (netlist_of l).gates) same in
-    unkept_all (unkept (setting_of s.circuit s.layout) (modules_of s.entries)) c.gates.gates.items (modules_of s.entries) (netlist_of s.circuit).gates c.gates.number (let test = c.gates-test.false in omega (arith, test, count)) c.gates.invariant
+    let count : c.gates-count.result ≡ length (netlist_of s.circuit).gates =
+    c.gates-count.ensures.count ∙ ap (λ (l : List CircuitLine). length (netlist_of l).gates) same in
+    unkept_all (unkept (setting_of s.circuit s.layout) (modules_of s.entries)) c.gates.gates.items
+    (modules_of s.entries) (netlist_of s.circuit).gates c.gates.number
+    (let test = c.gates-test.false in omega (arith, test, count)) c.gates.invariant
     ∙ sym (unkept_meant s.version (setting_of s.circuit s.layout) (modules_of s.entries))

@@ -12,27 +12,37 @@ use Rattle.certificate.proofs.plan.Plan.cell_at.Goals as goal
 pub returns-then-is_live-clause-start : goal.returns-then-is_live-clause-start
 returns-then-is_live-clause-start c =
     let p = c.self.inside.layout.now in
-    let mirror : in_rectangles p.mirrors c.args.cell.x c.args.cell.y ≡ true = sym (c.self.invariant.mirrors c.args.cell.x c.args.cell.y) ∙ sym c.is_live.ensures ∙ c.if-is_live.true in
-    subst (λ (s : PlanState). One ≡ start_signal (circuit_of s.circuit) s.layout c.args.cell.x c.args.cell.y) c.self.view_is
+    let mirror : in_rectangles p.mirrors c.args.cell.x c.args.cell.y ≡ true =
+    sym (c.self.invariant.mirrors c.args.cell.x c.args.cell.y) ∙ sym c.is_live.ensures ∙ c.if-is_live.true in
+    subst (λ (s : PlanState). One ≡ start_signal (circuit_of s.circuit) s.layout c.args.cell.x c.args.cell.y)
+    c.self.view_is
     (start_mirror (circuit_of c.self.inside.circuit.now) p c.args.cell.x c.args.cell.y mirror)
 
 pub returns-then-is_live-clause-demand : goal.returns-then-is_live-clause-demand
 returns-then-is_live-clause-demand c =
-    subst (λ (s : PlanState). Live ≡ end_demand (circuit_of s.circuit) s.layout c.args.cell.x c.args.cell.y) c.self.view_is
-    (end_live (circuit_of c.self.inside.circuit.now) c.self.inside.layout.now c.args.cell.x c.args.cell.y c.is_live.result (c.is_live.ensures ∙ c.self.invariant.mirrors c.args.cell.x c.args.cell.y) c.if-is_live.true)
+    subst (λ (s : PlanState). Live ≡ end_demand (circuit_of s.circuit) s.layout c.args.cell.x c.args.cell.y)
+    c.self.view_is
+    (end_live (circuit_of c.self.inside.circuit.now) c.self.inside.layout.now c.args.cell.x c.args.cell.y
+    c.is_live.result (c.is_live.ensures ∙ c.self.invariant.mirrors c.args.cell.x c.args.cell.y) c.if-is_live.true)
 
 pub returns-then-not-is_live-clause-start : goal.returns-then-not-is_live-clause-start
 returns-then-not-is_live-clause-start c =
     let p = c.self.inside.layout.now in
-    let mirror : in_rectangles p.mirrors c.args.cell.x c.args.cell.y ≡ false = sym (c.self.invariant.mirrors c.args.cell.x c.args.cell.y) ∙ sym c.is_live.ensures ∙ c.if-is_live.false in
-    let nothing = c.self.invariant.others c.args.cell.x c.args.cell.y (sym c.is_live-2.ensures ∙ c.if-not-is_live.true) in
-    subst (λ (s : PlanState). Zero ≡ start_signal (circuit_of s.circuit) s.layout c.args.cell.x c.args.cell.y) c.self.view_is
+    let mirror : in_rectangles p.mirrors c.args.cell.x c.args.cell.y ≡ false =
+    sym (c.self.invariant.mirrors c.args.cell.x c.args.cell.y) ∙ sym c.is_live.ensures ∙ c.if-is_live.false in
+    let nothing = c.self.invariant.others c.args.cell.x c.args.cell.y
+    (sym c.is_live-2.ensures ∙ c.if-not-is_live.true) in
+    subst (λ (s : PlanState). Zero ≡ start_signal (circuit_of s.circuit) s.layout c.args.cell.x c.args.cell.y)
+    c.self.view_is
     (start_nothing (circuit_of c.self.inside.circuit.now) p c.args.cell.x c.args.cell.y mirror nothing)
 
 pub returns-then-not-is_live-clause-demand : goal.returns-then-not-is_live-clause-demand
 returns-then-not-is_live-clause-demand c =
     let p = c.self.inside.layout.now in
-    let mirror : in_rectangles p.mirrors c.args.cell.x c.args.cell.y ≡ false = sym (c.self.invariant.mirrors c.args.cell.x c.args.cell.y) ∙ sym c.is_live.ensures ∙ c.if-is_live.false in
-    let nothing = c.self.invariant.others c.args.cell.x c.args.cell.y (sym c.is_live-2.ensures ∙ c.if-not-is_live.true) in
-    subst (λ (s : PlanState). Dead ≡ end_demand (circuit_of s.circuit) s.layout c.args.cell.x c.args.cell.y) c.self.view_is
+    let mirror : in_rectangles p.mirrors c.args.cell.x c.args.cell.y ≡ false =
+    sym (c.self.invariant.mirrors c.args.cell.x c.args.cell.y) ∙ sym c.is_live.ensures ∙ c.if-is_live.false in
+    let nothing = c.self.invariant.others c.args.cell.x c.args.cell.y
+    (sym c.is_live-2.ensures ∙ c.if-not-is_live.true) in
+    subst (λ (s : PlanState). Dead ≡ end_demand (circuit_of s.circuit) s.layout c.args.cell.x c.args.cell.y)
+    c.self.view_is
     (end_nothing (circuit_of c.self.inside.circuit.now) p c.args.cell.x c.args.cell.y mirror nothing)

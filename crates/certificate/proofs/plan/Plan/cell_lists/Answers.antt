@@ -13,11 +13,13 @@ use Rattle.certificate.proofs.plan.Plan.cell_lists.Goals as goal
 
 pub cell_at-start-requires-clause-ins : goal.cell_at-start-requires-clause-ins
 cell_at-start-requires-clause-ins c =
-    c.requires.ins _ _ (item_inside c.args.area c.as_slice-cell-items.result.now c.loop-cell.cell-index _ (c.as_slice-cell-items.ensures.value ∙ c.in_ok-cells.ensures) c.loop-cell-test.true)
+    c.requires.ins _ _ (item_inside c.args.area c.as_slice-cell-items.result.now c.loop-cell.cell-index _
+    (c.as_slice-cell-items.ensures.value ∙ c.in_ok-cells.ensures) c.loop-cell-test.true)
 
 pub cell_at-start-requires-clause-outs : goal.cell_at-start-requires-clause-outs
 cell_at-start-requires-clause-outs c =
-    c.requires.outs _ _ (item_inside c.args.area c.as_slice-cell-items.result.now c.loop-cell.cell-index _ (c.as_slice-cell-items.ensures.value ∙ c.in_ok-cells.ensures) c.loop-cell-test.true)
+    c.requires.outs _ _ (item_inside c.args.area c.as_slice-cell-items.result.now c.loop-cell.cell-index _
+    (c.as_slice-cell-items.ensures.value ∙ c.in_ok-cells.ensures) c.loop-cell-test.true)
 
 pub loop-cell-preserved : goal.loop-cell-preserved
 loop-cell-preserved c =
@@ -29,12 +31,18 @@ loop-cell-preserved c =
     let i = c.loop-cell.cell-index in
     let both = c.cell_at-start.ensures in
     record {
-      starts_same = pushed_cell (renumber_signal known) (λ (d : Cell). start_signal lines layout d.x d.y) c.loop-cell.starts.items c.push.new.self.items _ cells i _ c.loop-cell-test.true c.in_ok-push.ensures.items
+      starts_same = pushed_cell (renumber_signal known)
+          (λ (d : Cell). start_signal lines layout d.x d.y) c.loop-cell.starts.items c.push.new.self.items _ cells i _
+          c.loop-cell-test.true c.in_ok-push.ensures.items
           c.loop-cell.invariant.starts_same both.start;
-      starts_own = pushed_all (IsBelow own) c.loop-cell.starts.items c.push.new.self.items _ c.in_ok-push.ensures.items c.loop-cell.invariant.starts_own both.start_below;
-      demands_same = pushed_cell (renumber_demand known) (λ (d : Cell). end_demand lines layout d.x d.y) c.loop-cell.demands.items c.push-in-loop-cell.new.self.items _ cells i _ c.loop-cell-test.true c.in_ok-push-2.ensures.items
+      starts_own = pushed_all (IsBelow own) c.loop-cell.starts.items c.push.new.self.items _ c.in_ok-push.ensures.items
+          c.loop-cell.invariant.starts_own both.start_below;
+      demands_same = pushed_cell (renumber_demand known)
+          (λ (d : Cell). end_demand lines layout d.x d.y) c.loop-cell.demands.items c.push-in-loop-cell.new.self.items _
+          cells i _ c.loop-cell-test.true c.in_ok-push-2.ensures.items
           c.loop-cell.invariant.demands_same both.demand;
-      demands_own = pushed_all (IsDemandBelow own) c.loop-cell.demands.items c.push-in-loop-cell.new.self.items _ c.in_ok-push-2.ensures.items c.loop-cell.invariant.demands_own both.demand_below;
+      demands_own = pushed_all (IsDemandBelow own) c.loop-cell.demands.items c.push-in-loop-cell.new.self.items _
+          c.in_ok-push-2.ensures.items c.loop-cell.invariant.demands_own both.demand_below;
     }
 
 pub returns-clause-starts_count : goal.returns-clause-starts_count
@@ -43,7 +51,8 @@ returns-clause-starts_count c =
     let g = renumber_signal (circuit_wire c.args.locals.now) in
     let f = λ (d : Cell). start_signal (circuit_of c.args.self.now.circuit) c.args.self.now.layout d.x d.y in
     same_count g f c.args.area c.loop-cell.starts.items
-    (all_cells g f c.args.area c.loop-cell.starts.items c.as_slice-cell-items.result.now c.loop-cell.cell-index all (c.as_slice-cell-items.ensures.value ∙ c.in_ok-cells.ensures) c.loop-cell.invariant.starts_same)
+    (all_cells g f c.args.area c.loop-cell.starts.items c.as_slice-cell-items.result.now c.loop-cell.cell-index all
+    (c.as_slice-cell-items.ensures.value ∙ c.in_ok-cells.ensures) c.loop-cell.invariant.starts_same)
 
 pub returns-clause-starts : goal.returns-clause-starts
 returns-clause-starts c =
@@ -51,7 +60,8 @@ returns-clause-starts c =
     let g = renumber_signal (circuit_wire c.args.locals.now) in
     let f = λ (d : Cell). start_signal (circuit_of c.args.self.now.circuit) c.args.self.now.layout d.x d.y in
     found_at g f c.args.area c.loop-cell.starts.items Zero
-    (all_cells g f c.args.area c.loop-cell.starts.items c.as_slice-cell-items.result.now c.loop-cell.cell-index all (c.as_slice-cell-items.ensures.value ∙ c.in_ok-cells.ensures) c.loop-cell.invariant.starts_same)
+    (all_cells g f c.args.area c.loop-cell.starts.items c.as_slice-cell-items.result.now c.loop-cell.cell-index all
+    (c.as_slice-cell-items.ensures.value ∙ c.in_ok-cells.ensures) c.loop-cell.invariant.starts_same)
 
 pub returns-clause-demands_count : goal.returns-clause-demands_count
 returns-clause-demands_count c =
@@ -59,7 +69,8 @@ returns-clause-demands_count c =
     let g = renumber_demand (circuit_wire c.args.locals.now) in
     let f = λ (d : Cell). end_demand (circuit_of c.args.self.now.circuit) c.args.self.now.layout d.x d.y in
     same_count g f c.args.area c.loop-cell.demands.items
-    (all_cells g f c.args.area c.loop-cell.demands.items c.as_slice-cell-items.result.now c.loop-cell.cell-index all (c.as_slice-cell-items.ensures.value ∙ c.in_ok-cells.ensures) c.loop-cell.invariant.demands_same)
+    (all_cells g f c.args.area c.loop-cell.demands.items c.as_slice-cell-items.result.now c.loop-cell.cell-index all
+    (c.as_slice-cell-items.ensures.value ∙ c.in_ok-cells.ensures) c.loop-cell.invariant.demands_same)
 
 pub returns-clause-demands : goal.returns-clause-demands
 returns-clause-demands c =
@@ -67,4 +78,5 @@ returns-clause-demands c =
     let g = renumber_demand (circuit_wire c.args.locals.now) in
     let f = λ (d : Cell). end_demand (circuit_of c.args.self.now.circuit) c.args.self.now.layout d.x d.y in
     found_at g f c.args.area c.loop-cell.demands.items Dead
-    (all_cells g f c.args.area c.loop-cell.demands.items c.as_slice-cell-items.result.now c.loop-cell.cell-index all (c.as_slice-cell-items.ensures.value ∙ c.in_ok-cells.ensures) c.loop-cell.invariant.demands_same)
+    (all_cells g f c.args.area c.loop-cell.demands.items c.as_slice-cell-items.result.now c.loop-cell.cell-index all
+    (c.as_slice-cell-items.ensures.value ∙ c.in_ok-cells.ensures) c.loop-cell.invariant.demands_same)

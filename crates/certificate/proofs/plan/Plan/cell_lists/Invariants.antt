@@ -10,8 +10,10 @@ use Rattle.certificate.proofs.plan.Plan.cell_lists.Given as goal
 
 abbrev pub invariant-loop-cell : goal.invariant-loop-cell
 invariant-loop-cell l = record {
-  starts_same : map (renumber_signal (circuit_wire l.locals)) l.starts.items ≡ map (λ c. start_signal (circuit_of l.self.circuit) l.self.layout c.x c.y) (take l.cell-index l.cell-items);
+  starts_same : map (renumber_signal (circuit_wire l.locals)) l.starts.items
+      ≡ map (λ c. start_signal (circuit_of l.self.circuit) l.self.layout c.x c.y) (take l.cell-index l.cell-items);
   starts_own : All (IsBelow (wires l.locals.netlist)) l.starts.items;
-  demands_same : map (renumber_demand (circuit_wire l.locals)) l.demands.items ≡ map (λ c. end_demand (circuit_of l.self.circuit) l.self.layout c.x c.y) (take l.cell-index l.cell-items);
+  demands_same : map (renumber_demand (circuit_wire l.locals)) l.demands.items
+      ≡ map (λ c. end_demand (circuit_of l.self.circuit) l.self.layout c.x c.y) (take l.cell-index l.cell-items);
   demands_own : All (IsDemandBelow (wires l.locals.netlist)) l.demands.items;
 }

@@ -13,27 +13,42 @@ use Rattle.certificate.proofs.plan.Plan.start_at.Goals as goal
 
 pub returns-then-mirror-ball-clause-same : goal.returns-then-mirror-ball-clause-same
 returns-then-mirror-ball-clause-same c =
-    subst (λ (s : PlanState). One ≡ start_signal (circuit_of s.circuit) s.layout c.args.cell.x c.args.cell.y) c.self.view_is
-    (start_one (circuit_of c.self.inside.circuit.now) c.self.inside.layout.now c.args.cell.x c.args.cell.y c.is_live-mirror.result c.is_live-ball.result
-    (c.is_live-mirror.ensures ∙ c.self.invariant.mirrors c.args.cell.x c.args.cell.y) (c.is_live-ball.ensures ∙ c.self.invariant.balls c.args.cell.x c.args.cell.y) c.if-mirror-ball.true)
+    subst (λ (s : PlanState). One ≡ start_signal (circuit_of s.circuit) s.layout c.args.cell.x c.args.cell.y)
+    c.self.view_is
+    (start_one (circuit_of c.self.inside.circuit.now) c.self.inside.layout.now c.args.cell.x c.args.cell.y
+    c.is_live-mirror.result c.is_live-ball.result
+    (c.is_live-mirror.ensures ∙ c.self.invariant.mirrors c.args.cell.x c.args.cell.y)
+    (c.is_live-ball.ensures ∙ c.self.invariant.balls c.args.cell.x c.args.cell.y) c.if-mirror-ball.true)
 
 pub local_name-requires : goal.local_name-requires
 local_name-requires c =
-    let port : Some c.in-Some.name ≡ port_at c.self.inside.layout.now.ins c.args.cell.x c.args.cell.y = c.in-Some.ensures ∙ ap (λ (ps : List Port). port_at ps c.args.cell.x c.args.cell.y) c.self.invariant.ins in
-    subst (λ (o : Option (List ℕ)). IfSome o (λ name. IsTrue (is_local (circuit_of c.self.inside.circuit.now) c.args.locals.now.circuit_wires name))) (sym port)
-    (subst (λ (s : PlanState). KnowsPort (circuit_of s.circuit) c.args.locals.now.circuit_wires s.layout.ins c.args.cell.x c.args.cell.y) (sym c.self.view_is) c.requires)
+    let port : Some c.in-Some.name ≡ port_at c.self.inside.layout.now.ins c.args.cell.x c.args.cell.y =
+    c.in-Some.ensures ∙ ap (λ (ps : List Port). port_at ps c.args.cell.x c.args.cell.y) c.self.invariant.ins in
+    subst (λ (o : Option (List ℕ)).
+    IfSome o (λ name. IsTrue (is_local (circuit_of c.self.inside.circuit.now) c.args.locals.now.circuit_wires name)))
+    (sym port)
+    (subst (λ (s : PlanState). KnowsPort
+    (circuit_of s.circuit) c.args.locals.now.circuit_wires s.layout.ins c.args.cell.x c.args.cell.y)
+    (sym c.self.view_is) c.requires)
 
 pub returns-in-Some-clause-same : goal.returns-in-Some-clause-same
 returns-in-Some-clause-same c =
-    subst (λ (s : PlanState). Wire (circuit_wire c.args.locals.now c.local_name.result) ≡ start_signal (circuit_of s.circuit) s.layout c.args.cell.x c.args.cell.y) c.self.view_is
+    subst (λ (s : PlanState). Wire (circuit_wire c.args.locals.now c.local_name.result)
+    ≡ start_signal (circuit_of s.circuit) s.layout c.args.cell.x c.args.cell.y) c.self.view_is
     (ap signal_of (sym c.local_name.ensures.same)
-    ∙ start_port (circuit_of c.self.inside.circuit.now) c.self.inside.layout.now c.args.cell.x c.args.cell.y c.is_live-mirror.result c.is_live-ball.result
-    (c.is_live-mirror.ensures ∙ c.self.invariant.mirrors c.args.cell.x c.args.cell.y) (c.is_live-ball.ensures ∙ c.self.invariant.balls c.args.cell.x c.args.cell.y) c.if-mirror-ball.false
-    (Some c.in-Some.name) (c.in-Some.ensures ∙ ap (λ (ps : List Port). port_at ps c.args.cell.x c.args.cell.y) c.self.invariant.ins))
+    ∙ start_port (circuit_of c.self.inside.circuit.now) c.self.inside.layout.now c.args.cell.x c.args.cell.y
+    c.is_live-mirror.result c.is_live-ball.result
+    (c.is_live-mirror.ensures ∙ c.self.invariant.mirrors c.args.cell.x c.args.cell.y)
+    (c.is_live-ball.ensures ∙ c.self.invariant.balls c.args.cell.x c.args.cell.y) c.if-mirror-ball.false
+    (Some c.in-Some.name) (c.in-Some.ensures
+    ∙ ap (λ (ps : List Port). port_at ps c.args.cell.x c.args.cell.y) c.self.invariant.ins))
 
 pub returns-in-None-clause-same : goal.returns-in-None-clause-same
 returns-in-None-clause-same c =
-    subst (λ (s : PlanState). Zero ≡ start_signal (circuit_of s.circuit) s.layout c.args.cell.x c.args.cell.y) c.self.view_is
-    (start_port (circuit_of c.self.inside.circuit.now) c.self.inside.layout.now c.args.cell.x c.args.cell.y c.is_live-mirror.result c.is_live-ball.result
-    (c.is_live-mirror.ensures ∙ c.self.invariant.mirrors c.args.cell.x c.args.cell.y) (c.is_live-ball.ensures ∙ c.self.invariant.balls c.args.cell.x c.args.cell.y) c.if-mirror-ball.false
+    subst (λ (s : PlanState). Zero ≡ start_signal (circuit_of s.circuit) s.layout c.args.cell.x c.args.cell.y)
+    c.self.view_is
+    (start_port (circuit_of c.self.inside.circuit.now) c.self.inside.layout.now c.args.cell.x c.args.cell.y
+    c.is_live-mirror.result c.is_live-ball.result
+    (c.is_live-mirror.ensures ∙ c.self.invariant.mirrors c.args.cell.x c.args.cell.y)
+    (c.is_live-ball.ensures ∙ c.self.invariant.balls c.args.cell.x c.args.cell.y) c.if-mirror-ball.false
     None (c.in-None.ensures ∙ ap (λ (ps : List Port). port_at ps c.args.cell.x c.args.cell.y) c.self.invariant.ins))

@@ -8,4 +8,6 @@ returns c =
     let s = c.local_signal-signal in
     let circuit = circuit_of c.args.circuit.now in
     let locals = c.args.locals.now in
-    both_ok c.push.result _ _ _ (λ h e es t. with_border circuit locals es c.args.border.now s.result c.args.self.now c.push.new.self s.ensures.same s.ensures.own h e t) c.push.ensures.held c.push.ensures.events
+    both_ok c.push.result _ _ _ (λ h e es t.
+    with_border circuit locals es c.args.border.now s.result c.args.self.now c.push.new.self s.ensures.same
+    s.ensures.own h e t) c.push.ensures.held c.push.ensures.events

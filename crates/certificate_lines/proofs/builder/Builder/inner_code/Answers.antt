@@ -8,18 +8,27 @@ use Rattle.certificate_lines.proofs.builder.Builder.inner_code.Goals as goal
 pub returns-in_default : goal.returns-in_default
 returns-in_default c =
     subst (λ (s : BuilderState). Some 6 ≡ inner_fault s.setting (present s.entries) c.args.entry.now) c.self.view_is
-    (ap (λ o. inner_fault c.self.inside.site o c.args.entry.now) (sym (no_module _ _ _ _ _ _ _ _ _ c.self.invariant.kept (ap last_of (sym c.deref.ensures.value) ∙ sym c.last_counts.ensures ∙ c.in_default.is))))
+    (ap (λ o. inner_fault c.self.inside.site o c.args.entry.now)
+    (sym (no_module _ _ _ _ _ _ _ _ _ c.self.invariant.kept
+    (ap last_of (sym c.deref.ensures.value) ∙ sym c.last_counts.ensures ∙ c.in_default.is))))
 
 pub returns-then-not-does_follow : goal.returns-then-not-does_follow
 returns-then-not-does_follow c =
     subst (λ (s : BuilderState). Some 6 ≡ inner_fault s.setting (present s.entries) c.args.entry.now) c.self.view_is
-    (too_late _ _ _ _ _ _ _ _ _ c.self.invariant.kept c.in-Some.counts c.args.entry.now c.does_follow.result (ap last_of (sym c.deref.ensures.value) ∙ sym c.last_counts.ensures ∙ c.in-Some.is) c.does_follow.ensures c.if-not-does_follow.true)
+    (too_late _ _ _ _ _ _ _ _ _ c.self.invariant.kept c.in-Some.counts c.args.entry.now c.does_follow.result
+    (ap last_of (sym c.deref.ensures.value) ∙ sym c.last_counts.ensures ∙ c.in-Some.is) c.does_follow.ensures
+    c.if-not-does_follow.true)
 
 pub words_code-requires : goal.words_code-requires
-words_code-requires c = small _ _ _ _ _ _ _ _ _ c.self.invariant.kept c.in-Some.counts (ap last_of (sym c.deref.ensures.value) ∙ sym c.last_counts.ensures ∙ c.in-Some.is)
+words_code-requires c = small _ _ _ _ _ _ _ _ _ c.self.invariant.kept c.in-Some.counts
+    (ap last_of (sym c.deref.ensures.value) ∙ sym c.last_counts.ensures ∙ c.in-Some.is)
 
 pub returns : goal.returns
 returns c =
-    subst (λ (s : BuilderState). c.words_code.result ≡ inner_fault s.setting (present s.entries) c.args.entry.now) c.self.view_is
-    (in_place _ _ _ _ _ _ _ _ _ c.self.invariant.kept c.in-Some.counts c.args.entry.now c.does_follow.result c.words_code.result (ap last_of (sym c.deref.ensures.value) ∙ sym c.last_counts.ensures ∙ c.in-Some.is) c.does_follow.ensures c.if-not-does_follow.false
-    (subst (λ (s : BuilderState). (m : ModuleLines) → present s.entries ≡ Some m → c.in-Some.counts ≡ counts_of m → c.words_code.result ≡ words_fault s.setting m c.args.entry.now) (sym c.self.view_is) c.words_code.ensures))
+    subst (λ (s : BuilderState). c.words_code.result ≡ inner_fault s.setting (present s.entries) c.args.entry.now)
+    c.self.view_is
+    (in_place _ _ _ _ _ _ _ _ _ c.self.invariant.kept c.in-Some.counts c.args.entry.now c.does_follow.result
+    c.words_code.result (ap last_of (sym c.deref.ensures.value) ∙ sym c.last_counts.ensures ∙ c.in-Some.is)
+    c.does_follow.ensures c.if-not-does_follow.false
+    (subst (λ (s : BuilderState). (m : ModuleLines) → present s.entries ≡ Some m → c.in-Some.counts ≡ counts_of m →
+    c.words_code.result ≡ words_fault s.setting m c.args.entry.now) (sym c.self.view_is) c.words_code.ensures))

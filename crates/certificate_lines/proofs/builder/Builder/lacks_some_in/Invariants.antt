@@ -6,4 +6,5 @@ use Rattle.certificate_lines.specs.Entries.{edge_in, modules_of}
 use Rattle.certificate_lines.proofs.builder.Builder.lacks_some_in.Given as goal
 
 abbrev pub invariant-modules : goal.invariant-modules
-invariant-modules l = list_any (lacks_edge l.self.setting.circuit (flat_map edge_in l.lines)) (take l.number (modules_of l.self.entries)) ≡ false
+invariant-modules l = list_any (lacks_edge l.self.setting.circuit (flat_map edge_in l.lines))
+    (take l.number (modules_of l.self.entries)) ≡ false

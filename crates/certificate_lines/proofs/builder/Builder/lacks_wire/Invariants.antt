@@ -6,5 +6,7 @@ use Rattle.certificate_lines.specs.Entries.{edges, modules_of}
 use Rattle.certificate_lines.proofs.builder.Builder.lacks_wire.Given as goal
 
 abbrev pub invariant-lines : goal.invariant-lines
-invariant-lines l = list_any (λ n. list_any (lacks_edge l.self.setting.circuit (edges n)) (modules_of l.self.entries)) (modules_of l.self.entries)
-    ≡ list_any (λ n. list_any (lacks_edge l.self.setting.circuit (edges n)) (modules_of l.self.entries)) (modules_of (drop l.place l.self.entries))
+invariant-lines l = list_any (λ n. list_any (lacks_edge l.self.setting.circuit (edges n)) (modules_of l.self.entries))
+    (modules_of l.self.entries)
+    ≡ list_any (λ n. list_any (lacks_edge l.self.setting.circuit (edges n)) (modules_of l.self.entries))
+    (modules_of (drop l.place l.self.entries))

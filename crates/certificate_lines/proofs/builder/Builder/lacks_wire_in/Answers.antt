@@ -16,20 +16,32 @@ pub returns-then-not-is_near : goal.returns-then-not-is_near
 returns-then-not-is_near c m at =
     let g = c.args.self.now.setting in
     let es = flat_map edge_in c.args.lines.now in
-    let at' = subst (λ (s : BuilderState). slice_get (modules_of s.entries) c.args.number ≡ Some m) (sym c.self.view_is) at in
-    let own : c.index.result.now.area ≡ m.area = area_counted (modules_of c.self.inside.entries.items) c.self.inside.modules.items c.args.number m c.index.result.now c.self.invariant.kept.built.counted at' c.index.ensures in
-    let far : is_near m.area c.args.area ≡ false = ap (λ b. is_near b c.args.area) (sym own) ∙ sym c.is_near.ensures ∙ c.if-not-is_near.true in
-    sym (ap (list_any (λ e. is_strange g.circuit (known g.circuit m) e.signal)) (far_lines m.area c.args.area es far c.requires.inside))
+    let at' = subst (λ (s : BuilderState). slice_get (modules_of s.entries) c.args.number ≡ Some m)
+    (sym c.self.view_is) at in
+    let own : c.index.result.now.area ≡ m.area =
+    area_counted (modules_of c.self.inside.entries.items) c.self.inside.modules.items c.args.number m c.index.result.now
+    c.self.invariant.kept.built.counted at' c.index.ensures in
+    let far : is_near m.area c.args.area ≡ false =
+    ap (λ b. is_near b c.args.area) (sym own) ∙ sym c.is_near.ensures ∙ c.if-not-is_near.true in
+    sym (ap (list_any (λ e. is_strange g.circuit (known g.circuit m) e.signal))
+    (far_lines m.area c.args.area es far c.requires.inside))
 
 pub returns : goal.returns
 returns c m at =
     let g = c.args.self.now.setting in
     let es = flat_map edge_in c.args.lines.now in
-    let at' = subst (λ (s : BuilderState). slice_get (modules_of s.entries) c.args.number ≡ Some m) (sym c.self.view_is) at in
-    let own : c.index.result.now.area ≡ m.area = area_counted (modules_of c.self.inside.entries.items) c.self.inside.modules.items c.args.number m c.index.result.now c.self.invariant.kept.built.counted at' c.index.ensures in
+    let at' = subst (λ (s : BuilderState). slice_get (modules_of s.entries) c.args.number ≡ Some m)
+    (sym c.self.view_is) at in
+    let own : c.index.result.now.area ≡ m.area =
+    area_counted (modules_of c.self.inside.entries.items) c.self.inside.modules.items c.args.number m c.index.result.now
+    c.self.invariant.kept.built.counted at' c.index.ensures in
     let wires : c.wires_of.result.now.keys ≡ known g.circuit m =
-    some_is c.wires_of.result.now.keys (known g.circuit m) (sym c.wires_of.ensures ∙ slice_get-map (known g.circuit) (modules_of c.args.self.now.entries) c.args.number ∙ ap (option_map (known g.circuit)) at) in
+    some_is c.wires_of.result.now.keys (known g.circuit m)
+    (sym c.wires_of.ensures ∙ slice_get-map (known g.circuit) (modules_of c.args.self.now.entries) c.args.number
+    ∙ ap (option_map (known g.circuit)) at) in
     let same : c.self.inside.site.circuit ≡ g.circuit = ap (λ (s : BuilderState). s.setting.circuit) c.self.view_is in
     c.has_unknown.ensures
-    ∙ ap (λ k. list_any (λ e. is_strange k c.wires_of.result.now.keys e.signal) (filter (λ e. in_halo c.index.result.now.area e.cell.x e.cell.y) es)) same
-    ∙ ap₂ (λ k (b : Box2). list_any (λ e. is_strange g.circuit k e.signal) (filter (λ e. in_halo b e.cell.x e.cell.y) es)) wires own
+    ∙ ap (λ k. list_any (λ e. is_strange k c.wires_of.result.now.keys e.signal)
+    (filter (λ e. in_halo c.index.result.now.area e.cell.x e.cell.y) es)) same
+    ∙ ap₂ (λ k (b : Box2). list_any (λ e. is_strange g.circuit k e.signal)
+    (filter (λ e. in_halo b e.cell.x e.cell.y) es)) wires own

@@ -11,20 +11,31 @@ use Rattle.certificate_lines.proofs.BuiltLemmas.{live_gap, missing_none, missing
 use Rattle.certificate_lines.proofs.builder.Builder.missing.Goals as goal
 
 pub is_full-full-requires-clause-small : goal.is_full-full-requires-clause-small
-is_full-full-requires-clause-small c = let s = size_sides c.size-size.result c.size-size.ensures.limits in (s.0.most, s.1.most)
+is_full-full-requires-clause-small c = let s = size_sides c.size-size.result c.size-size.ensures.limits in
+    (s.0.most, s.1.most)
 
 pub returns-then-lacks-full : goal.returns-then-lacks-full
 returns-then-lacks-full c =
     let es = c.self.inside.entries.items in
-    let full = ap not (c.is_full-full.ensures ∙ ap (λ (s : Extent). list_all (λ d. live c.self.inside.covered d.x d.y) (box_cells (rectangle_of s.w s.h))) c.size-size.ensures.size) in
-    let lacks = subst (λ (s : BuilderState). c.lacks_port-lacks.result ≡ is_incomplete s.setting (present s.entries)) (sym c.self.view_is) c.lacks_port-lacks.ensures in
+    let full = ap not (c.is_full-full.ensures
+    ∙ ap (λ (s : Extent). list_all (λ d. live c.self.inside.covered d.x d.y) (box_cells (rectangle_of s.w s.h)))
+    c.size-size.ensures.size) in
+    let lacks = subst (λ (s : BuilderState). c.lacks_port-lacks.result ≡ is_incomplete s.setting (present s.entries))
+    (sym c.self.view_is) c.lacks_port-lacks.ensures in
     subst (λ (s : BuilderState). Some 11 ≡ end_fault s.setting s.entries) c.self.view_is
-    (missing_some c.self.inside.site es c.lacks_port-lacks.result c.is_full-full.result lacks (full ∙ live_gap c.self.inside.site.size (areas (modules_of es)) c.self.inside.covered c.self.invariant.kept.built.cells) c.if-lacks-full.true)
+    (missing_some c.self.inside.site es c.lacks_port-lacks.result c.is_full-full.result lacks
+    (full ∙ live_gap c.self.inside.site.size
+    (areas (modules_of es)) c.self.inside.covered c.self.invariant.kept.built.cells) c.if-lacks-full.true)
 
 pub returns-else-lacks-full : goal.returns-else-lacks-full
 returns-else-lacks-full c =
     let es = c.self.inside.entries.items in
-    let full = ap not (c.is_full-full.ensures ∙ ap (λ (s : Extent). list_all (λ d. live c.self.inside.covered d.x d.y) (box_cells (rectangle_of s.w s.h))) c.size-size.ensures.size) in
-    let lacks = subst (λ (s : BuilderState). c.lacks_port-lacks.result ≡ is_incomplete s.setting (present s.entries)) (sym c.self.view_is) c.lacks_port-lacks.ensures in
+    let full = ap not (c.is_full-full.ensures
+    ∙ ap (λ (s : Extent). list_all (λ d. live c.self.inside.covered d.x d.y) (box_cells (rectangle_of s.w s.h)))
+    c.size-size.ensures.size) in
+    let lacks = subst (λ (s : BuilderState). c.lacks_port-lacks.result ≡ is_incomplete s.setting (present s.entries))
+    (sym c.self.view_is) c.lacks_port-lacks.ensures in
     subst (λ (s : BuilderState). None ≡ end_fault s.setting s.entries) c.self.view_is
-    (missing_none c.self.inside.site es c.lacks_port-lacks.result c.is_full-full.result lacks (full ∙ live_gap c.self.inside.site.size (areas (modules_of es)) c.self.inside.covered c.self.invariant.kept.built.cells) c.if-lacks-full.false)
+    (missing_none c.self.inside.site es c.lacks_port-lacks.result c.is_full-full.result lacks
+    (full ∙ live_gap c.self.inside.site.size
+    (areas (modules_of es)) c.self.inside.covered c.self.invariant.kept.built.cells) c.if-lacks-full.false)

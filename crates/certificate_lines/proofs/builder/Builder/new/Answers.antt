@@ -5,10 +5,22 @@ use Rattle.certificate_lines.proofs.Keeping.{with_none}
 use Rattle.certificate_lines.proofs.builder.Builder.new.Goals as goal
 
 pub new-requires-clause-width : goal.new-requires-clause-width
-new-requires-clause-width c = let s = (size_sides c.size-size.result c.size-size.ensures.limits).0 in let m = s.most in (s.least, omega (arith, m), s.even)
+new-requires-clause-width c = let s = (size_sides c.size-size.result c.size-size.ensures.limits).0 in let m = s.most in
+    (s.least, omega (arith, m), s.even)
 
 pub new-requires-clause-height : goal.new-requires-clause-height
-new-requires-clause-height c = let s = (size_sides c.size-size.result c.size-size.ensures.limits).1 in let m = s.most in (s.least, omega (arith, m), s.even)
+new-requires-clause-height c = let s = (size_sides c.size-size.result c.size-size.ensures.limits).1 in let m = s.most in
+    (s.least, omega (arith, m), s.even)
 
 pub invariant_of-result : goal.invariant_of-result
-invariant_of-result c = rw (c.new-2.ensures.items, c.new-3.ensures.items, c.new-4.ensures.items, c.new-5.ensures.items, c.new-6.ensures.empty) (with_none c.args.site c.in_ok-covered.covered (c.in_ok-covered.ensures.size.0 ∙ ap (λ (s : Extent). s.w) c.size-size.ensures.size) (c.in_ok-covered.ensures.size.1 ∙ ap (λ (s : Extent). s.h) c.size-size.ensures.size) c.in_ok-covered.ensures.dead _ _)
+invariant_of-result c =
+    rw (
+      c.new-2.ensures.items,
+      c.new-3.ensures.items,
+      c.new-4.ensures.items,
+      c.new-5.ensures.items,
+      c.new-6.ensures.empty,
+    ) (with_none c.args.site c.in_ok-covered.covered
+    (c.in_ok-covered.ensures.size.0 ∙ ap (λ (s : Extent). s.w) c.size-size.ensures.size)
+    (c.in_ok-covered.ensures.size.1 ∙ ap (λ (s : Extent). s.h) c.size-size.ensures.size) c.in_ok-covered.ensures.dead _
+    _)

@@ -13,9 +13,12 @@ returns-then-number-last c =
     let keys = map (λ s. s.keys) items in
     let same : length keys ≡ length items = length-map items (λ s. s.keys) in
     let long = c.if-number-last.true in let counted = c.len-last.ensures in
-    let found = slice_get_read items (length items) n c.index.result.now refl (omega (arith, long, counted)) c.index.ensures in
-    subst (λ (s : BuilderState). slice_get (map (known s.setting.circuit) (modules_of s.entries)) c.args.number ≡ Some c.index.result.now.keys) c.self.view_is
-    (earlier_wires g.circuit (modules_of c.self.inside.entries.items) keys c.self.inside.known.keys c.self.invariant.wires c.args.number (omega (arith, long, counted, same))
+    let found = slice_get_read items (length items) n c.index.result.now refl
+    (omega (arith, long, counted)) c.index.ensures in
+    subst (λ (s : BuilderState). slice_get (map (known s.setting.circuit) (modules_of s.entries)) c.args.number
+    ≡ Some c.index.result.now.keys) c.self.view_is
+    (earlier_wires g.circuit (modules_of c.self.inside.entries.items) keys c.self.inside.known.keys
+    c.self.invariant.wires c.args.number (omega (arith, long, counted, same))
     ∙ slice_get-map (λ s. s.keys) items n ∙ ap (option_map (λ s. s.keys)) found)
 
 pub returns-else-number-last : goal.returns-else-number-last
@@ -24,6 +27,9 @@ returns-else-number-last c =
     let keys = map (λ s. s.keys) items in
     let same : length keys ≡ length items = length-map items (λ s. s.keys) in
     let short = c.if-number-last.false in let counted = c.len-last.ensures in
-    let lt = subst (λ (s : BuilderState). c.args.number < length (modules_of s.entries)) (sym c.self.view_is) c.requires in
-    subst (λ (s : BuilderState). slice_get (map (known s.setting.circuit) (modules_of s.entries)) c.args.number ≡ Some c.self.inside.known.keys) c.self.view_is
-    (last_wires g.circuit (modules_of c.self.inside.entries.items) keys c.self.inside.known.keys c.self.invariant.wires c.args.number lt (omega (arith, short, counted, same)))
+    let lt = subst (λ (s : BuilderState). c.args.number < length (modules_of s.entries))
+    (sym c.self.view_is) c.requires in
+    subst (λ (s : BuilderState). slice_get (map (known s.setting.circuit) (modules_of s.entries)) c.args.number
+    ≡ Some c.self.inside.known.keys) c.self.view_is
+    (last_wires g.circuit (modules_of c.self.inside.entries.items) keys c.self.inside.known.keys c.self.invariant.wires
+    c.args.number lt (omega (arith, short, counted, same)))

@@ -10,7 +10,15 @@ use Rattle.certificate_lines.proofs.site.Site.push_ports.Goals as goal
 
 pub returns : goal.returns
 returns c f =
-    subst (λ (g : Setting). list_any f c.push_names-2.new.names.items ≡ (list_any f c.args.names.now.items || list_any (λ p. in_box c.args.area p.cell.x p.cell.y && f p.name) g.ports)) c.self.view_is
-    (ports_pushed c.self.inside.layout.now.ins c.self.inside.layout.now.outs c.self.invariant.ins_apart c.self.invariant.outs_apart c.args.area c.args.cells.now c.requires c.args.names.now.items c.push_names.new.names.items c.push_names-2.new.names.items f
-    (c.in_ok-push_names.ensures f ∙ ap (λ (ps : List Port). list_any f c.args.names.now.items || list_any (λ d. option_map_or f (port_at ps d.x d.y) false) c.args.cells.now) c.self.invariant.ins)
-    (c.in_ok-push_names-2.ensures f ∙ ap (λ (ps : List Port). list_any f c.push_names.new.names.items || list_any (λ d. option_map_or f (port_at ps d.x d.y) false) c.args.cells.now) c.self.invariant.outs))
+    subst (λ (g : Setting). list_any f c.push_names-2.new.names.items
+    ≡ (list_any f c.args.names.now.items || list_any (λ p. in_box c.args.area p.cell.x p.cell.y && f p.name) g.ports))
+    c.self.view_is
+    (ports_pushed c.self.inside.layout.now.ins c.self.inside.layout.now.outs c.self.invariant.ins_apart
+    c.self.invariant.outs_apart c.args.area c.args.cells.now c.requires c.args.names.now.items
+    c.push_names.new.names.items c.push_names-2.new.names.items f
+    (c.in_ok-push_names.ensures f
+    ∙ ap (λ (ps : List Port). list_any f c.args.names.now.items
+    || list_any (λ d. option_map_or f (port_at ps d.x d.y) false) c.args.cells.now) c.self.invariant.ins)
+    (c.in_ok-push_names-2.ensures f
+    ∙ ap (λ (ps : List Port). list_any f c.push_names.new.names.items
+    || list_any (λ d. option_map_or f (port_at ps d.x d.y) false) c.args.cells.now) c.self.invariant.outs))

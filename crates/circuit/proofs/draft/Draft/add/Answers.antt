@@ -11,9 +11,12 @@ invariant_of-self-then-is_gate c =
     let entries : c.keep_line.new.entries.items ≡ c.self.inside.entries.items ++ c.args.entry ∷ [] = search rules in
     let wires : c.take_names.new.wires.keys ≡ c.self.inside.wires.keys ++ c.args.entry.outs = search rules in
     let used : c.take_names.new.consumed.keys ≡ c.self.inside.consumed.keys ++ c.args.entry.ins = search rules in
-    let ins_pass : consume c.self.inside.wires.keys c.self.inside.consumed.keys c.args.entry.ins ≡ None = search rules in
+    let ins_pass : consume c.self.inside.wires.keys c.self.inside.consumed.keys c.args.entry.ins ≡ None =
+    search rules in
     let outs_pass : define c.self.inside.wires.keys c.args.entry.outs ≡ None = search rules in
-    let wired : map gate_of c.keep_line.new.wired.items ≡ map gate_of c.self.inside.wired.items ++ gate_at c.args.entry.kind c.wire_numbers-ins.result (length c.self.inside.wires.keys) = search rules in
+    let wired : map gate_of c.keep_line.new.wired.items
+    ≡ map gate_of c.self.inside.wired.items
+    ++ gate_at c.args.entry.kind c.wire_numbers-ins.result (length c.self.inside.wires.keys) = search rules in
     added c.self.inside _ c.args.entry c.wire_numbers-ins.result c.self.invariant (record {
       entries = entries;
       wires = wires;
@@ -22,7 +25,8 @@ invariant_of-self-then-is_gate c =
       ins_pass = ins_pass;
       outs_pass = outs_pass;
       fits = c.requires.fits;
-      inputs_first = subst (λ (l : List Entry). InputsFirst l c.args.entry) (sym c.self.view_is) c.requires.inputs_first;
+      inputs_first = subst (λ (l : List Entry). InputsFirst l c.args.entry)
+          (sym c.self.view_is) c.requires.inputs_first;
       numbered = search rules;
       wired = wired;
       gates = search rules;
@@ -33,9 +37,12 @@ invariant_of-self-else-is_gate c =
     let entries : c.keep_line.new.entries.items ≡ c.self.inside.entries.items ++ c.args.entry ∷ [] = search rules in
     let wires : c.take_names.new.wires.keys ≡ c.self.inside.wires.keys ++ c.args.entry.outs = search rules in
     let used : c.take_names.new.consumed.keys ≡ c.self.inside.consumed.keys ++ c.args.entry.ins = search rules in
-    let ins_pass : consume c.self.inside.wires.keys c.self.inside.consumed.keys c.args.entry.ins ≡ None = search rules in
+    let ins_pass : consume c.self.inside.wires.keys c.self.inside.consumed.keys c.args.entry.ins ≡ None =
+    search rules in
     let outs_pass : define c.self.inside.wires.keys c.args.entry.outs ≡ None = search rules in
-    let wired : map gate_of c.keep_line.new.wired.items ≡ map gate_of c.self.inside.wired.items ++ gate_at c.args.entry.kind c.wire_numbers-ins.result (length c.self.inside.wires.keys) = search rules in
+    let wired : map gate_of c.keep_line.new.wired.items
+    ≡ map gate_of c.self.inside.wired.items
+    ++ gate_at c.args.entry.kind c.wire_numbers-ins.result (length c.self.inside.wires.keys) = search rules in
     added c.self.inside _ c.args.entry c.wire_numbers-ins.result c.self.invariant (record {
       entries = entries;
       wires = wires;
@@ -44,7 +51,8 @@ invariant_of-self-else-is_gate c =
       ins_pass = ins_pass;
       outs_pass = outs_pass;
       fits = c.requires.fits;
-      inputs_first = subst (λ (l : List Entry). InputsFirst l c.args.entry) (sym c.self.view_is) c.requires.inputs_first;
+      inputs_first = subst (λ (l : List Entry). InputsFirst l c.args.entry)
+          (sym c.self.view_is) c.requires.inputs_first;
       numbered = search rules;
       wired = wired;
       gates = search rules;

@@ -12,8 +12,16 @@ use Rattle.circuit.proofs.netlist.Circuit.gates.Goals as goal
 pub returns-clause-few : goal.returns-clause-few
 returns-clause-few c =
     let entries : List Entry = c.self.inside.entries.items in
-    omega (arith, c.len.ensures, length-map c.self.inside.wired.items gate_of, ap length c.self.invariant.wired, gates_counted (defined entries) entries, c.self.invariant.few_gates)
+    omega (
+      arith,
+      c.len.ensures,
+      length-map c.self.inside.wired.items gate_of,
+      ap length c.self.invariant.wired,
+      gates_counted (defined entries) entries,
+      c.self.invariant.few_gates,
+    )
 
 pub returns-clause-ordered : goal.returns-clause-ordered
 returns-clause-ordered c =
-    subst (λ (l : List Entry). AreOrdered (input_count l) (gates_of (defined l) l)) c.self.view_is (gates_are_ordered c.self.inside.entries.items c.self.invariant.good)
+    subst (λ (l : List Entry). AreOrdered (input_count l) (gates_of (defined l) l)) c.self.view_is
+    (gates_are_ordered c.self.inside.entries.items c.self.invariant.good)

@@ -8,7 +8,8 @@ use Rattle.circuit.proofs.netlist.Circuit.inputs.Goals as goal
 pub returns-clause-first : goal.returns-clause-first
 returns-clause-first c =
     let count = c.count_inputs.ensures ∙ ap input_count (c.as_slice.ensures.value ∙ c.self.view_is) in
-    ap (λ k. take k (defined c.args.self.now)) count ∙ inputs_are_first c.args.self.now (subst AreGood c.self.view_is c.self.invariant.good)
+    ap (λ k. take k (defined c.args.self.now)) count
+    ∙ inputs_are_first c.args.self.now (subst AreGood c.self.view_is c.self.invariant.good)
 
 pub returns-clause-named : goal.returns-clause-named
 returns-clause-named c =

@@ -6,4 +6,5 @@ use Rattle.circuit.proofs.netlist.Circuit.wires.Goals as goal
 
 pub returns-clause-count : goal.returns-clause-count
 returns-clause-count c =
-    c.len.ensures.len ∙ ap length (c.self.invariant.wires ∙ ap defined c.self.view_is) ∙ wires_are_named c.args.self.now (subst AreGood c.self.view_is c.self.invariant.good)
+    c.len.ensures.len ∙ ap length (c.self.invariant.wires ∙ ap defined c.self.view_is)
+    ∙ wires_are_named c.args.self.now (subst AreGood c.self.view_is c.self.invariant.good)

@@ -12,7 +12,8 @@ add-requires c =
     let h : c.args.self.now.rank ≤ rank_of c.args.entry.kind = omega arith in
     record {
       fits = entry_fits c.requires.of_a_line.0 c.args.entry c.requires.of_a_line.1;
-      inputs_first = no_gate_yet c.args.entry.kind c.args.self.now.rank (gate_count c.args.self.now.draft) h c.args.self.now.no_gate;
+      inputs_first = no_gate_yet c.args.entry.kind c.args.self.now.rank
+          (gate_count c.args.self.now.draft) h c.args.self.now.no_gate;
     }
 
 pub invariant_of-self : goal.invariant_of-self
@@ -20,9 +21,11 @@ invariant_of-self c =
     let h : c.args.self.now.rank ≤ rank_of c.args.entry.kind = omega arith in
     let d : List Entry = c.args.self.now.draft in
     let plus : ℕ = gate_count d + cond (is_gate c.args.entry.kind) 1 0 in
-    let more : gate_count (d ++ c.args.entry ∷ []) ≡ plus = count_append (λ (r : Entry). is_gate r.kind) d (c.args.entry ∷ []) ∙ omega arith in
+    let more : gate_count (d ++ c.args.entry ∷ []) ≡ plus =
+    count_append (λ (r : Entry). is_gate r.kind) d (c.args.entry ∷ []) ∙ omega arith in
     record {
-      ranked = c.rank-next.ensures.rank ∙ sym (last_rank_push c.args.self.now.draft c.args.entry) ∙ ap last_rank (sym c.in-Ok.ensures.ok.1);
+      ranked = c.rank-next.ensures.rank ∙ sym (last_rank_push c.args.self.now.draft c.args.entry)
+          ∙ ap last_rank (sym c.in-Ok.ensures.ok.1);
       no_gate = ap (λ (l : List Entry). cond (eqb c.rank-next.result 0) (gate_count l) 0) c.in-Ok.ensures.ok.1
           ∙ ap (λ (n : ℕ). cond (eqb c.rank-next.result 0) n 0) more
           ∙ ap (λ (k : ℕ). cond (eqb k 0) plus 0) c.rank-next.ensures.rank

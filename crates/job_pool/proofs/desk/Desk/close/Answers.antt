@@ -13,8 +13,12 @@ returns-clause-all c = let desk = c.args.self in let j = c.join-seat.ensures in 
     let each : All (λ (s : DeskSeat). top (front (drawn_by s)) ≤ desk.numbers) c.args.seats.items = λ k d below.
     let s : DeskSeat = get_or c.args.seats.items k d in let mine = c.requires k d below in
     let same = ap (λ l. top (front l)) s.same in omega (arith, s.front_below, mine.1) in
-    shares desk.numbers desk.seats c.end-counter.result lists c.join-seat.result.0.me.0 e (j.joined ∙ ap joined (sym j.draws)) (ap length j.draws ∙ (let m : length (map drawn_by c.args.seats.items) ≡ length c.args.seats.items = length-map c.args.seats.items drawn_by in omega arith))
-    (subst (All (λ xs. top (front xs) ≤ desk.numbers)) (sym j.draws) (All-map (λ xs. top (front xs) ≤ desk.numbers) drawn_by c.args.seats.items each))
+    shares desk.numbers desk.seats c.end-counter.result lists c.join-seat.result.0.me.0 e
+    (j.joined ∙ ap joined (sym j.draws))
+    (ap length j.draws ∙ (let m : length (map drawn_by c.args.seats.items) ≡ length c.args.seats.items =
+    length-map c.args.seats.items drawn_by in omega arith))
+    (subst (All (λ xs. top (front xs) ≤ desk.numbers)) (sym j.draws)
+    (All-map (λ xs. top (front xs) ≤ desk.numbers) drawn_by c.args.seats.items each))
 
 pub returns-clause-ended : goal.returns-clause-ended
 returns-clause-ended c = let desk = c.args.self in let j = c.join-seat.ensures in

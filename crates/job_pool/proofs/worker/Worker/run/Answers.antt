@@ -12,7 +12,8 @@ use Rattle.job_pool.proofs.Risen.{risen_on}
 use Rattle.job_pool.proofs.worker.Worker.run.Goals as goal
 
 pub loop-number-smaller : goal.loop-number-smaller
-loop-number-smaller g c = let before = c.loop-number.self.seat in let after = c.claim.new.seat in let a = c.in-Number.ensures.answer in
+loop-number-smaller g c = let before = c.loop-number.self.seat in let after = c.claim.new.seat in let a =
+    c.in-Number.ensures.answer in
     let s = end_of-snoc before.seat.me.0.draws c.in-Number.number in
     let e = ap end_of (sym after.same ∙ a.2) in
     omega arith
@@ -21,7 +22,8 @@ pub loop-number-preserved : goal.loop-number-preserved
 loop-number-preserved g c = let i = c.loop-number.invariant in let a = c.in-Number.ensures.answer in
     let groups = c.args.site.now.groups.now in
     let drawn = due_more groups c.in-Number.number (drawn_by c.loop-number.self.seat) (drawn_by c.claim.new.seat) a.2 in
-    let more : c.run_group.new.share.filed ≡ c.loop-number.self.share.filed + times c.in-Number.number groups = search rules in
+    let more : c.run_group.new.share.filed ≡ c.loop-number.self.share.filed + times c.in-Number.number groups =
+    search rules in
     record {
       seat = c.claim.ensures.seat;
       starved = i.starved;
@@ -37,8 +39,10 @@ returns g c = let i = c.loop-number.invariant in let a = c.in_default.ensures in
     let long = length-map jobs shape_of in
     let many = length-map c.args.site.now.jobs.now arc_value in
     let all : length (shapes_of jobs) ≡ numbers = omega (arith, long, many, c.requires.all) in
-    let below : All (λ k. k < numbers) groups = subst (λ n. All (λ k. k < n) groups) all (groups_below (shapes_of jobs) groups c.requires.groups) in
-    let same = empty_adds_none groups numbers t.next (drawn_by c.loop-number.self.seat) (drawn_by c.claim.new.seat) below t.answers t.draws in
+    let below : All (λ k. k < numbers) groups =
+    subst (λ n. All (λ k. k < n) groups) all (groups_below (shapes_of jobs) groups c.requires.groups) in
+    let same = empty_adds_none groups numbers t.next (drawn_by c.loop-number.self.seat)
+    (drawn_by c.claim.new.seat) below t.answers t.draws in
     let w = i.filed in
     record {
       seat = a.seat;

@@ -13,7 +13,8 @@ marked-init c =
       size = (refl, refl, refl);
       stays = λ e a x y la lx ly. refl;
       within = (omega arith, n.range.1);
-      turned = even_first f.planes f.even_marks.items c.next_marked-u.result f.planes.some.0 f.even_calm (omega arith) passed;
+      turned = even_first f.planes f.even_marks.items c.next_marked-u.result f.planes.some.0 f.even_calm
+          (omega arith) passed;
     }
 
 pub marked-preserved : goal.marked-preserved
@@ -28,19 +29,25 @@ marked-preserved c =
       size = (t.size.0 ∙ m.size.0, t.size.1 ∙ m.size.1, t.size.2 ∙ m.size.2);
       stays = elim c.if-turn_even.branch [
         | then-turn_even w ↦ λ e. let some = w.changed-is in absurd (omega (arith, some, e))
-        | else-turn_even w ↦ λ e. inside_after p c.marked.self.planes r.planes m.size (m.stays (sym w.changed-is ∙ e)) (t.stays w.if-turn_even.false)
+        | else-turn_even w ↦ λ e. inside_after p c.marked.self.planes r.planes m.size (m.stays (sym w.changed-is ∙ e))
+            (t.stays w.if-turn_even.false)
       ];
       within = (omega arith, n.range.1);
-      turned = even_next p c.marked.self.planes r.planes r.even_marks.items c.marked.u c.next_marked-u-in-marked.result m.size t.size p.some.0 m.turned t.part r.even_calm n.range.0 (omega arith) passed;
+      turned = even_next p c.marked.self.planes r.planes r.even_marks.items c.marked.u c.next_marked-u-in-marked.result
+          m.size t.size p.some.0 m.turned t.part r.even_calm n.range.0 (omega arith) passed;
     }
 
 pub returns-then-are_many-clause-turned : goal.returns-then-are_many-clause-turned
 returns-then-are_many-clause-turned c =
-    let m = c.marked.invariant in even_all c.args.self.now.planes c.marked.self.planes c.marked.u m.size (omega arith) (omega (arith, c.args.self.now.planes.even.ok.0, c.args.self.now.planes.even_long)) m.turned
+    let m = c.marked.invariant in
+    even_all c.args.self.now.planes c.marked.self.planes c.marked.u m.size (omega arith)
+    (omega (arith, c.args.self.now.planes.even.ok.0, c.args.self.now.planes.even_long)) m.turned
 
 pub returns-clause-turned : goal.returns-clause-turned
 returns-clause-turned c =
-    let m = c.marked.invariant in even_all c.args.self.now.planes c.marked.self.planes c.marked.u m.size (omega arith) (omega (arith, c.args.self.now.planes.even.ok.0, c.args.self.now.planes.even_long)) m.turned
+    let m = c.marked.invariant in
+    even_all c.args.self.now.planes c.marked.self.planes c.marked.u m.size (omega arith)
+    (omega (arith, c.args.self.now.planes.even.ok.0, c.args.self.now.planes.even_long)) m.turned
 
 pub returns-clause-stays : goal.returns-clause-stays
 returns-clause-stays c e = c.marked.invariant.stays (none_more c.marked.changed e)

@@ -12,7 +12,8 @@ marked-init c =
       size = (refl, refl, refl);
       stays = λ e. refl;
       within = (omega arith, n.range.1);
-      turned = odd_first f.planes f.odd_marks.items c.next_marked-u.result f.planes.some.0 f.odd_calm (omega arith) passed;
+      turned = odd_first f.planes f.odd_marks.items c.next_marked-u.result f.planes.some.0 f.odd_calm
+          (omega arith) passed;
     }
 
 pub marked-preserved : goal.marked-preserved
@@ -30,16 +31,19 @@ marked-preserved c =
         | else-turn_odd w ↦ λ e. t.stays w.if-turn_odd.false ∙ m.stays (sym w.changed-is ∙ e)
       ];
       within = (omega arith, n.range.1);
-      turned = odd_next p c.marked.self.planes r.planes r.odd_marks.items c.marked.u c.next_marked-u-in-marked.result m.size t.size p.some.0 m.turned t.part r.odd_calm n.range.0 (omega arith) passed;
+      turned = odd_next p c.marked.self.planes r.planes r.odd_marks.items c.marked.u c.next_marked-u-in-marked.result
+          m.size t.size p.some.0 m.turned t.part r.odd_calm n.range.0 (omega arith) passed;
     }
 
 pub returns-then-are_many-clause-turned : goal.returns-then-are_many-clause-turned
 returns-then-are_many-clause-turned c =
-    let m = c.marked.invariant in odd_all c.args.self.now.planes c.marked.self.planes c.marked.u m.size (omega arith) m.turned
+    let m = c.marked.invariant in
+    odd_all c.args.self.now.planes c.marked.self.planes c.marked.u m.size (omega arith) m.turned
 
 pub returns-clause-turned : goal.returns-clause-turned
 returns-clause-turned c =
-    let m = c.marked.invariant in odd_all c.args.self.now.planes c.marked.self.planes c.marked.u m.size (omega arith) m.turned
+    let m = c.marked.invariant in
+    odd_all c.args.self.now.planes c.marked.self.planes c.marked.u m.size (omega arith) m.turned
 
 pub returns-clause-stays : goal.returns-clause-stays
 returns-clause-stays c e = c.marked.invariant.stays (none_more c.marked.changed e)

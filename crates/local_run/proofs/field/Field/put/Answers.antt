@@ -12,7 +12,8 @@ invariant_of-self-clause-odd_calm c =
     let marks = rw (v, c.stride-stride.ensures.is) at c.mark.ensures in
     let e = c.put.ensures in
     subst (λ (m : List ℕ). OddCalm m c.put.new.planes) (sym items)
-    (odd_kept_by_odd true true _ f.odd_marks.items c.mark.new.marks f.planes c.put.new.planes e.put.size e.cells marks f.odd_calm)
+    (odd_kept_by_odd true true _ f.odd_marks.items c.mark.new.marks f.planes c.put.new.planes e.put.size e.cells marks
+    f.odd_calm)
 
 pub invariant_of-self-clause-even_calm : goal.invariant_of-self-clause-even_calm
 invariant_of-self-clause-even_calm c =
@@ -22,7 +23,8 @@ invariant_of-self-clause-even_calm c =
     let marks = rw (v, c.stride-stride.ensures.is) at c.mark_around.ensures in
     let e = c.put.ensures in
     subst (λ (m : List ℕ). EvenCalm m c.put.new.planes) (sym items)
-    (even_kept_by_odd true true _ f.even_marks.items c.mark_around.new.marks f.planes c.put.new.planes e.put.size e.cells marks f.even_calm)
+    (even_kept_by_odd true true _ f.even_marks.items c.mark_around.new.marks f.planes c.put.new.planes e.put.size
+    e.cells marks f.even_calm)
 
 pub invariant_of-self-clause-all_dead : goal.invariant_of-self-clause-all_dead
 invariant_of-self-clause-all_dead c =
@@ -32,4 +34,5 @@ invariant_of-self-clause-all_dead c =
     let marks = rw (v, c.stride-stride.ensures.is) at c.mark-2.ensures in
     let e = c.put.ensures in
     subst (λ (m : List ℕ). AllDead m c.put.new.planes) (sym items)
-    (dead_kept_by_odd true true _ f.live_marks.items c.mark-2.new.marks f.planes c.put.new.planes e.put.size e.cells marks f.all_dead)
+    (dead_kept_by_odd true true _ f.live_marks.items c.mark-2.new.marks f.planes c.put.new.planes e.put.size e.cells
+    marks f.all_dead)

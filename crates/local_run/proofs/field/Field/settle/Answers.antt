@@ -26,7 +26,9 @@ pub invariant_of-self-clause-all_dead : goal.invariant_of-self-clause-all_dead
 invariant_of-self-clause-all_dead c =
     let f = c.args.self.now in
     let v = c.deref_mut-then-is_dead.ensures.value in
-    let items = with_items_is f.live_marks c.unmark-then-is_dead.new.marks (omega (arith, ap length v, f.live_marks.ok.0)) in
+    let items = with_items_is f.live_marks c.unmark-then-is_dead.new.marks
+    (omega (arith, ap length v, f.live_marks.ok.0)) in
     let sets = rw v at c.unmark-then-is_dead.ensures in
     subst (λ (m : List ℕ). AllDead m f.planes) (sym items)
-    (dead_unmarked c.args.u f.live_marks.items c.unmark-then-is_dead.new.marks f.planes sets (c.is_dead.ensures c.if-is_dead.true) f.all_dead)
+    (dead_unmarked c.args.u f.live_marks.items c.unmark-then-is_dead.new.marks f.planes sets
+    (c.is_dead.ensures c.if-is_dead.true) f.all_dead)

@@ -2,7 +2,8 @@ use Rattle.std.proofs.Common.{List, ℕ, ◌+◌, length, ap, arith, refl, sym, 
 use Rattle.std.proofs.lemmas.List.{with_items_is}
 use Rattle.local_run.specs.Calm.{OddCalm, EvenCalm, AllDead}
 use Rattle.local_run.proofs.TurnLemmas.{calm_block}
-use Rattle.local_run.proofs.CalmLemmas.{even_cells, even_unmarked, odd_kept_by_even, even_kept_by_even, dead_kept_by_even}
+use Rattle.local_run.proofs.CalmLemmas.{even_cells, even_unmarked, odd_kept_by_even, even_kept_by_even}
+use Rattle.local_run.proofs.CalmLemmas.{dead_kept_by_even}
 use Rattle.local_run.proofs.InsideLemmas.{last_keeps, zero_from}
 use Rattle.local_run.proofs.field.Field.turn_even.Goals as goal
 
@@ -13,12 +14,19 @@ invariant_of-self-clause-even_calm c =
     let items = with_items_is f.even_marks c.unmark.new.marks (omega (arith, ap length v, f.even_marks.ok.0)) in
     let sets = rw v at c.unmark.ensures in
     subst (λ (m : List ℕ). EvenCalm m f.planes) (sym items)
-    (even_unmarked c.args.u f.even_marks.items c.unmark.new.marks f.planes sets (c.even_changes-changes.ensures.main (c.is_none.ensures.main c.if-is_none.true), c.even_changes-changes.ensures.anti (c.is_none.ensures.anti c.if-is_none.true)) f.even_calm)
+    (even_unmarked c.args.u f.even_marks.items c.unmark.new.marks f.planes sets (
+      c.even_changes-changes.ensures.main (c.is_none.ensures.main c.if-is_none.true),
+      c.even_changes-changes.ensures.anti (c.is_none.ensures.anti c.if-is_none.true),
+    ) f.even_calm)
 
 pub returns-then-is_none-clause-part : goal.returns-then-is_none-clause-part
 returns-then-is_none-clause-part c =
     let p = c.args.self.now.planes in
-    calm_block p.words c.args.u (c.args.u + 1) (c.args.u + p.stride) (c.args.u + p.stride + 1) p.even.items p.down.items p.right.items p.odd.items (c.even_changes-changes.ensures.main (c.is_none.ensures.main c.if-is_none.true), c.even_changes-changes.ensures.anti (c.is_none.ensures.anti c.if-is_none.true))
+    calm_block p.words c.args.u (c.args.u + 1) (c.args.u + p.stride)
+    (c.args.u + p.stride + 1) p.even.items p.down.items p.right.items p.odd.items (
+      c.even_changes-changes.ensures.main (c.is_none.ensures.main c.if-is_none.true),
+      c.even_changes-changes.ensures.anti (c.is_none.ensures.anti c.if-is_none.true),
+    )
 
 pub invariant_of-self-2-clause-even_calm : goal.invariant_of-self-2-clause-even_calm
 invariant_of-self-2-clause-even_calm c =
@@ -30,7 +38,9 @@ invariant_of-self-2-clause-even_calm c =
     let main = c.even_changes-changes.result.main in
     let anti = c.even_changes-changes.result.anti in
     subst (λ (m : List ℕ). EvenCalm m c.turn_even.new.self) (sym items)
-    (even_kept_by_even main anti c.args.u f.even_marks.items c.mark.new.marks f.planes c.turn_even.new.self e.size (even_cells main anti c.args.u f.planes c.turn_even.new.self c.even_changes-changes.ensures.main c.even_changes-changes.ensures.anti e.part) marks f.even_calm)
+    (even_kept_by_even main anti c.args.u f.even_marks.items c.mark.new.marks f.planes c.turn_even.new.self e.size
+    (even_cells main anti c.args.u f.planes c.turn_even.new.self c.even_changes-changes.ensures.main
+    c.even_changes-changes.ensures.anti e.part) marks f.even_calm)
 
 pub invariant_of-self-2-clause-odd_calm : goal.invariant_of-self-2-clause-odd_calm
 invariant_of-self-2-clause-odd_calm c =
@@ -42,7 +52,9 @@ invariant_of-self-2-clause-odd_calm c =
     let main = c.even_changes-changes.result.main in
     let anti = c.even_changes-changes.result.anti in
     subst (λ (m : List ℕ). OddCalm m c.turn_even.new.self) (sym items)
-    (odd_kept_by_even main anti c.args.u f.odd_marks.items c.mark_corners.new.marks f.planes c.turn_even.new.self e.size (even_cells main anti c.args.u f.planes c.turn_even.new.self c.even_changes-changes.ensures.main c.even_changes-changes.ensures.anti e.part) marks f.odd_calm)
+    (odd_kept_by_even main anti c.args.u f.odd_marks.items c.mark_corners.new.marks f.planes c.turn_even.new.self e.size
+    (even_cells main anti c.args.u f.planes c.turn_even.new.self c.even_changes-changes.ensures.main
+    c.even_changes-changes.ensures.anti e.part) marks f.odd_calm)
 
 pub invariant_of-self-2-clause-all_dead : goal.invariant_of-self-2-clause-all_dead
 invariant_of-self-2-clause-all_dead c =
@@ -54,7 +66,9 @@ invariant_of-self-2-clause-all_dead c =
     let main = c.even_changes-changes.result.main in
     let anti = c.even_changes-changes.result.anti in
     subst (λ (m : List ℕ). AllDead m c.turn_even.new.self) (sym items)
-    (dead_kept_by_even main anti c.args.u f.live_marks.items c.mark_corners-2.new.marks f.planes c.turn_even.new.self e.size (even_cells main anti c.args.u f.planes c.turn_even.new.self c.even_changes-changes.ensures.main c.even_changes-changes.ensures.anti e.part) marks f.all_dead)
+    (dead_kept_by_even main anti c.args.u f.live_marks.items c.mark_corners-2.new.marks f.planes c.turn_even.new.self
+    e.size (even_cells main anti c.args.u f.planes c.turn_even.new.self c.even_changes-changes.ensures.main
+    c.even_changes-changes.ensures.anti e.part) marks f.all_dead)
 
 pub returns-then-is_none-clause-stays : goal.returns-then-is_none-clause-stays
 returns-then-is_none-clause-stays c e a x y la lx ly = refl
@@ -67,4 +81,6 @@ returns-clause-stays c e =
     let anti = c.even_changes-changes.result.anti in
     let last = zero_from _ e in
     let last = rw c.stride-stride.ensures.is at last in
-    last_keeps main anti c.args.u p c.turn_even.new.self h.size (even_cells main anti c.args.u p c.turn_even.new.self c.even_changes-changes.ensures.main c.even_changes-changes.ensures.anti h.part) last
+    last_keeps main anti c.args.u p c.turn_even.new.self h.size
+    (even_cells main anti c.args.u p c.turn_even.new.self c.even_changes-changes.ensures.main
+    c.even_changes-changes.ensures.anti h.part) last

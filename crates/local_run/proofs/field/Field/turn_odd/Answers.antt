@@ -8,7 +8,11 @@ use Rattle.local_run.proofs.field.Field.turn_odd.Goals as goal
 pub returns-then-is_none-clause-part : goal.returns-then-is_none-clause-part
 returns-then-is_none-clause-part c =
     let p = c.args.self.now.planes in
-    rw c.settle.ensures (calm_block p.words c.args.u c.args.u c.args.u c.args.u p.odd.items p.right.items p.down.items p.even.items (c.odd_changes-changes.ensures.main (c.is_none.ensures.main c.if-is_none.true), c.odd_changes-changes.ensures.anti (c.is_none.ensures.anti c.if-is_none.true)))
+    rw c.settle.ensures (calm_block p.words c.args.u c.args.u c.args.u c.args.u p.odd.items p.right.items p.down.items
+    p.even.items (
+      c.odd_changes-changes.ensures.main (c.is_none.ensures.main c.if-is_none.true),
+      c.odd_changes-changes.ensures.anti (c.is_none.ensures.anti c.if-is_none.true),
+    ))
 
 pub invariant_of-self-clause-odd_calm : goal.invariant_of-self-clause-odd_calm
 invariant_of-self-clause-odd_calm c =
@@ -20,7 +24,9 @@ invariant_of-self-clause-odd_calm c =
     let main = c.odd_changes-changes.result.main in
     let anti = c.odd_changes-changes.result.anti in
     subst (λ (m : List ℕ). OddCalm m c.turn_odd.new.self) (sym items)
-    (odd_kept_by_odd main anti c.args.u f.odd_marks.items c.mark.new.marks f.planes c.turn_odd.new.self e.size (odd_cells main anti c.args.u f.planes c.turn_odd.new.self c.odd_changes-changes.ensures.main c.odd_changes-changes.ensures.anti e.part) marks f.odd_calm)
+    (odd_kept_by_odd main anti c.args.u f.odd_marks.items c.mark.new.marks f.planes c.turn_odd.new.self e.size
+    (odd_cells main anti c.args.u f.planes c.turn_odd.new.self c.odd_changes-changes.ensures.main
+    c.odd_changes-changes.ensures.anti e.part) marks f.odd_calm)
 
 pub invariant_of-self-clause-even_calm : goal.invariant_of-self-clause-even_calm
 invariant_of-self-clause-even_calm c =
@@ -32,7 +38,9 @@ invariant_of-self-clause-even_calm c =
     let main = c.odd_changes-changes.result.main in
     let anti = c.odd_changes-changes.result.anti in
     subst (λ (m : List ℕ). EvenCalm m c.turn_odd.new.self) (sym items)
-    (even_kept_by_odd main anti c.args.u f.even_marks.items c.mark_around.new.marks f.planes c.turn_odd.new.self e.size (odd_cells main anti c.args.u f.planes c.turn_odd.new.self c.odd_changes-changes.ensures.main c.odd_changes-changes.ensures.anti e.part) marks f.even_calm)
+    (even_kept_by_odd main anti c.args.u f.even_marks.items c.mark_around.new.marks f.planes c.turn_odd.new.self e.size
+    (odd_cells main anti c.args.u f.planes c.turn_odd.new.self c.odd_changes-changes.ensures.main
+    c.odd_changes-changes.ensures.anti e.part) marks f.even_calm)
 
 pub invariant_of-self-clause-all_dead : goal.invariant_of-self-clause-all_dead
 invariant_of-self-clause-all_dead c =
@@ -44,4 +52,6 @@ invariant_of-self-clause-all_dead c =
     let main = c.odd_changes-changes.result.main in
     let anti = c.odd_changes-changes.result.anti in
     subst (λ (m : List ℕ). AllDead m c.turn_odd.new.self) (sym items)
-    (dead_kept_by_odd main anti c.args.u f.live_marks.items c.mark-2.new.marks f.planes c.turn_odd.new.self e.size (odd_cells main anti c.args.u f.planes c.turn_odd.new.self c.odd_changes-changes.ensures.main c.odd_changes-changes.ensures.anti e.part) marks f.all_dead)
+    (dead_kept_by_odd main anti c.args.u f.live_marks.items c.mark-2.new.marks f.planes c.turn_odd.new.self e.size
+    (odd_cells main anti c.args.u f.planes c.turn_odd.new.self c.odd_changes-changes.ensures.main
+    c.odd_changes-changes.ensures.anti e.part) marks f.all_dead)

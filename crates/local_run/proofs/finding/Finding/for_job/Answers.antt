@@ -22,7 +22,8 @@ least_on-fault-requires-clause-same c =
     let t = shape_of (arc_value c.args.job) in
     let own : c.deref.result.now ≡ s = c.deref.ensures ∙ c.shape.ensures ∙ ap shape_of c.deref-own.ensures in
     let other : c.deref-3.result.now ≡ t = c.deref-3.ensures ∙ c.shape-2.ensures ∙ ap shape_of c.deref-2.ensures in
-    let same : s ≡ t = (shapes_decide s t).0 (sym (ap₂ same_shape own other) ∙ sym c.eq-same.ensures ∙ c.if-not-same.false) in
+    let same : s ≡ t = (shapes_decide s t).0
+    (sym (ap₂ same_shape own other) ∙ sym c.eq-same.ensures ∙ c.if-not-same.false) in
     ap shape_of c.deref-own.ensures ∙ same ∙ sym (ap shape_of c.deref-4.ensures)
 
 pub returns-clause-shapes : goal.returns-clause-shapes
@@ -42,4 +43,6 @@ new-requires-clause-keep c =
     let t = shape_of (arc_value c.args.job) in
     let own : c.deref.result.now ≡ s = c.deref.ensures ∙ c.shape.ensures ∙ ap shape_of c.deref-own.ensures in
     let other : c.deref-3.result.now ≡ t = c.deref-3.ensures ∙ c.shape-2.ensures ∙ ap shape_of c.deref-2.ensures in
-    least_keep_stays (job_of c.args.self.now) (arc_value c.args.job) (keep_of c.args.self.now) ((shapes_decide s t).0 (sym (ap₂ same_shape own other) ∙ sym c.eq-same.ensures ∙ c.if-not-same.false)) c.args.self.now.keeps
+    least_keep_stays (job_of c.args.self.now) (arc_value c.args.job) (keep_of c.args.self.now)
+    ((shapes_decide s t).0 (sym (ap₂ same_shape own other) ∙ sym c.eq-same.ensures ∙ c.if-not-same.false))
+    c.args.self.now.keeps

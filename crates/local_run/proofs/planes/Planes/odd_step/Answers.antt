@@ -16,4 +16,5 @@ returns-clause-turned c =
     let ed = with_items_is p.down c.turn_lanes.new.lower_left (omega (arith, ap length d, p.down.ok.0)) in
     let ee = with_items_is p.even c.turn_lanes.new.lower_right (omega (arith, ap length e, p.even.ok.0)) in
     let h = rw (a, b, d, e) at h in
-    odd_lane p _ (refl, refl, refl) (λ k l. rw (ea, eb, ed, ee) (h k (omega (arith, ap length a, p.odd.ok.0, p.odd_long))))
+    odd_lane p _ (refl, refl, refl)
+    (λ k l. rw (ea, eb, ed, ee) (h k (omega (arith, ap length a, p.odd.ok.0, p.odd_long))))

@@ -12,25 +12,30 @@ use Rattle.local_run.proofs.values.Values.of.Goals as goal
 shifted : (n : ℕ) → n ≤ 12 → 1 * 2 ^ n % 18446744073709551616 ≡ 2 ^ n
 shifted n few = omega (arith, pow_mono few)
 
-enough : (n w : ℕ) → n ≤ 12 → w ≡ div_ceil (1 * 2 ^ n % 18446744073709551616) 64 → (0 < w) × (w ≤ 64) × (1 * 2 ^ n % 18446744073709551616 ≤ 64 * w)
-enough n w few e = by_size (1 * 2 ^ n % 18446744073709551616) (omega (arith, shifted n few, pow_pos n)) (omega (arith, shifted n few, pow_mono few)) e
+enough : (n w : ℕ) → n ≤ 12 → w ≡ div_ceil (1 * 2 ^ n % 18446744073709551616) 64 →
+    (0 < w) × (w ≤ 64) × (1 * 2 ^ n % 18446744073709551616 ≤ 64 * w)
+enough n w few e = by_size (1 * 2 ^ n % 18446744073709551616) (omega (arith, shifted n few, pow_pos n))
+    (omega (arith, shifted n few, pow_mono few)) e
   where
     by_size : (m : ℕ) → 0 < m → m ≤ 4096 → w ≡ div_ceil m 64 → (0 < w) × (w ≤ 64) × (m ≤ 64 * w)
     by_size m some small h = (omega (arith, h), omega (arith, h), omega (arith, h))
 
 pub value_rows-requires : goal.value_rows-requires
-value_rows-requires c = (enough c.cuts-count.result c.div_ceil-words.result c.cuts-count.ensures.few c.div_ceil-words.ensures).1
+value_rows-requires c = (enough c.cuts-count.result c.div_ceil-words.result c.cuts-count.ensures.few
+    c.div_ceil-words.ensures).1
 
 pub returns : goal.returns
 returns c =
     let e = c.wiring-wiring.ensures.wiring in
     let w = enough c.cuts-count.result c.div_ceil-words.result c.cuts-count.ensures.few c.div_ceil-words.ensures in
     let count : 1 * 2 ^ c.cuts-count.result % 18446744073709551616 ≡ assignments c.args.job.now =
-    shifted c.cuts-count.result c.cuts-count.ensures.few ∙ ap (λ n. 2 ^ n) c.cuts-count.ensures.count ∙ ap (λ (l : Netlist). 2 ^ l.given) e in
+    shifted c.cuts-count.result c.cuts-count.ensures.few ∙ ap (λ n. 2 ^ n) c.cuts-count.ensures.count
+    ∙ ap (λ (l : Netlist). 2 ^ l.given) e in
     let known = c.without_undefined-rows.ensures in
     let rows : AreValueRows c.args.job.now.locals.netlist c.div_ceil-words.result c.without_undefined-rows.result =
     subst (λ (m : Netlist). AreValueRows m c.div_ceil-words.result c.without_undefined-rows.result) e
-    (rows_kept _ c.div_ceil-words.result _ _ known.defined known.undefined known.long known.keeps c.in_ok-value_rows.ensures) in
+    (rows_kept _ c.div_ceil-words.result _ _ known.defined known.undefined known.long known.keeps
+    c.in_ok-value_rows.ensures) in
     record {
       job = c.requires;
       ordered = subst (λ (l : Netlist). AreOrdered l.given l.gates) e c.cuts-count.ensures.ordered;

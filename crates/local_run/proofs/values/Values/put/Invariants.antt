@@ -9,6 +9,7 @@ abbrev pub invariant-loop-k : goal.invariant-loop-k
 invariant-loop-k l = record {
   size : HasSize l.fn.planes.words l.fn.planes.stride l.fn.planes.rows l.planes;
   there : (a : ℕ) → a < 64 * l.k → lane l.planes a l.x l.y ≡ is_live (valuation l.self a) l.signal;
-  rest : (a x' y' : ℕ) → a < 64 * l.self.words → x' / 2 < l.fn.planes.stride → ((x' ≡ l.x) × (y' ≡ l.y) → ⊥) → lane l.planes a x' y' ≡ lane l.fn.planes a x' y';
+  rest : (a x' y' : ℕ) → a < 64 * l.self.words → x' / 2 < l.fn.planes.stride → ((x' ≡ l.x) × (y' ≡ l.y) → ⊥) →
+      lane l.planes a x' y' ≡ lane l.fn.planes a x' y';
   cells : let u = l.fn.planes.stride * (l.y / 2) + l.x / 2 in ChangesCells true true u u u u l.fn.planes l.planes;
 }

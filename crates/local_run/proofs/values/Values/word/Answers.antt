@@ -16,4 +16,5 @@ returns-in-One c = λ b l. bit_ones b l ∙ sym (ap (is_live (valuation c.args.s
 pub returns-in-Wire : goal.returns-in-Wire
 returns-in-Wire c = λ b l.
     let h : HasRow c.args.self.now (Wire c.in-Wire.wire) = subst (HasRow c.args.self.now) c.in-Wire.is c.requires.1 in
-    row_in_word c.args.self.now.words c.args.k b c.in-Wire.wire c.index.result.now _ c.args.self.now.rows.values.items l (omega arith) c.index.ensures ∙ sym (ap (is_live (valuation c.args.self.now (64 * c.args.k + b))) c.in-Wire.is)
+    row_in_word c.args.self.now.words c.args.k b c.in-Wire.wire c.index.result.now _ c.args.self.now.rows.values.items l
+    (omega arith) c.index.ensures ∙ sym (ap (is_live (valuation c.args.self.now (64 * c.args.k + b))) c.in-Wire.is)

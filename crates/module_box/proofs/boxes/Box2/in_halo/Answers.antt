@@ -6,4 +6,5 @@ pub returns : goal.returns
 returns c =
     let fx : SFits w32 c.args.cell.x = search rules in
     let fy : SFits w32 c.args.cell.y = search rules in
-    halo_read c.args.self c.args.cell.x c.args.cell.y _ _ _ c.holds-inside.ensures (simp to_z-of_z at c.is_beside-near_x.ensures) (simp to_z-of_z at c.is_beside-near_y.ensures)
+    halo_read c.args.self c.args.cell.x c.args.cell.y _ _ _ c.holds-inside.ensures
+    (simp to_z-of_z at c.is_beside-near_x.ensures) (simp to_z-of_z at c.is_beside-near_y.ensures)

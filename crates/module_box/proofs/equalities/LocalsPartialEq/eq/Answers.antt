@@ -7,8 +7,12 @@ use Rattle.module_box.proofs.equalities.LocalsPartialEq.eq.Goals as goal
 
 pub returns : goal.returns
 returns c =
-    let gates : c.eq-gates.result ≡ pointwise same_gate (map kept_gate c.self.inside.gates.items) (map kept_gate c.other.inside.gates.items) =
+    let gates : c.eq-gates.result
+    ≡ pointwise same_gate (map kept_gate c.self.inside.gates.items) (map kept_gate c.other.inside.gates.items) =
     c.eq-gates.ensures ∙ same_gates c.self.inside.gates.items c.other.inside.gates.items in
-    let wires : c.eq-wires.result ≡ pointwise nat_eq c.self.inside.circuit_wires.keys c.other.inside.circuit_wires.keys = search rules in
-    let numbers : c.eq-numbers.result ≡ pointwise nat_eq c.self.inside.circuit_gates.items c.other.inside.circuit_gates.items = search rules in
-    (λ i. ((nat_eq c.self.inside.given c.other.inside.given && gates i) && wires i) && numbers i) ∙ ap₂ same_locals c.self.view_is c.other.view_is
+    let wires : c.eq-wires.result
+    ≡ pointwise nat_eq c.self.inside.circuit_wires.keys c.other.inside.circuit_wires.keys = search rules in
+    let numbers : c.eq-numbers.result
+    ≡ pointwise nat_eq c.self.inside.circuit_gates.items c.other.inside.circuit_gates.items = search rules in
+    (λ i. ((nat_eq c.self.inside.given c.other.inside.given && gates i) && wires i) && numbers i)
+    ∙ ap₂ same_locals c.self.view_is c.other.view_is

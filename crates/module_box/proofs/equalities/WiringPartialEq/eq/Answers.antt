@@ -7,6 +7,7 @@ use Rattle.module_box.proofs.equalities.WiringPartialEq.eq.Goals as goal
 
 pub returns : goal.returns
 returns c =
-    let gates : c.eq-gates.result ≡ pointwise same_gate (map kept_gate c.self.inside.gates.items) (map kept_gate c.other.inside.gates.items) =
+    let gates : c.eq-gates.result
+    ≡ pointwise same_gate (map kept_gate c.self.inside.gates.items) (map kept_gate c.other.inside.gates.items) =
     c.eq-gates.ensures ∙ same_gates c.self.inside.gates.items c.other.inside.gates.items in
     (λ i. nat_eq c.self.inside.given c.other.inside.given && gates i) ∙ ap₂ same_netlist c.self.view_is c.other.view_is

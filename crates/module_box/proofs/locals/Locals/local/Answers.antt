@@ -6,4 +6,5 @@ use Rattle.module_box.proofs.locals.Locals.local.Goals as goal
 pub returns-clause-same : goal.returns-clause-same
 returns-clause-same c =
     ap (λ (l : LocalNet). circuit_wire l c.in_ok-index.index) (sym c.self.view_is)
-    ∙ place_same c.self.inside.circuit_wires.keys c.number.result c.in_ok-index.index (sym c.in_ok-index.was ∙ c.get_index_of.ensures.index) ∙ c.number.ensures
+    ∙ place_same c.self.inside.circuit_wires.keys c.number.result c.in_ok-index.index
+    (sym c.in_ok-index.was ∙ c.get_index_of.ensures.index) ∙ c.number.ensures

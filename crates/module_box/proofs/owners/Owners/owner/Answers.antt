@@ -12,8 +12,10 @@ index-requires c =
     let fy : SFits w32 c.args.cell.y = search rules in
     let ex : c.unsigned_abs-2.result ≡ unsigned_abs c.args.cell.x = simp to_z-of_z at c.unsigned_abs-2.ensures.value in
     let ey : c.unsigned_abs.result ≡ unsigned_abs c.args.cell.y = simp to_z-of_z at c.unsigned_abs.ensures.value in
-    let inside : IsTrue (in_box (rectangle (owning c.self.inside)) c.args.cell.x c.args.cell.y) = rw (← c.self.view_is) at c.requires in
-    rw (ex, ey) (let h = owner_in_table (owning c.self.inside) c.args.cell.x c.args.cell.y c.self.invariant inside in omega (arith, h, c.self.inside.numbers.ok))
+    let inside : IsTrue (in_box (rectangle (owning c.self.inside)) c.args.cell.x c.args.cell.y) =
+    rw (← c.self.view_is) at c.requires in
+    rw (ex, ey) (let h = owner_in_table (owning c.self.inside) c.args.cell.x c.args.cell.y c.self.invariant inside in
+    omega (arith, h, c.self.inside.numbers.ok))
 
 pub returns : goal.returns
 returns c =
@@ -21,5 +23,8 @@ returns c =
     let fy : SFits w32 c.args.cell.y = search rules in
     let ex : c.unsigned_abs-2.result ≡ unsigned_abs c.args.cell.x = simp to_z-of_z at c.unsigned_abs-2.ensures.value in
     let ey : c.unsigned_abs.result ≡ unsigned_abs c.args.cell.y = simp to_z-of_z at c.unsigned_abs.ensures.value in
-    let inside : IsTrue (in_box (rectangle (owning c.self.inside)) c.args.cell.x c.args.cell.y) = rw (← c.self.view_is) at c.requires in
-    rw (← c.self.view_is) (owner_read (owning c.self.inside) c.args.cell.x c.args.cell.y _ _ c.index.result.now c.self.invariant inside ey ex c.index.ensures)
+    let inside : IsTrue (in_box (rectangle (owning c.self.inside)) c.args.cell.x c.args.cell.y) =
+    rw (← c.self.view_is) at c.requires in
+    rw (← c.self.view_is) (owner_read
+    (owning c.self.inside) c.args.cell.x c.args.cell.y _ _ c.index.result.now c.self.invariant inside ey ex
+    c.index.ensures)

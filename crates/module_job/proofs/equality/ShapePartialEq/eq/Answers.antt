@@ -10,10 +10,15 @@ returns c =
     let a = c.self.inside in
     let b = c.other.inside in
     let wiring : c.eq-wiring.result ≡ same_netlist a.wiring b.wiring = search rules in
-    let starts : c.eq-starts.result ≡ pointwise same_signal a.starts.items b.starts.items = c.eq-starts.ensures ∙ signal_tests a.starts.items b.starts.items in
-    let demands : c.eq-demands.result ≡ pointwise same_demand a.demands.items b.demands.items = c.eq-demands.ensures ∙ demand_tests a.demands.items b.demands.items in
+    let starts : c.eq-starts.result ≡ pointwise same_signal a.starts.items b.starts.items =
+    c.eq-starts.ensures ∙ signal_tests a.starts.items b.starts.items in
+    let demands : c.eq-demands.result ≡ pointwise same_demand a.demands.items b.demands.items =
+    c.eq-demands.ensures ∙ demand_tests a.demands.items b.demands.items in
     let edges : c.eq-edges.result ≡ same_signals a.edges b.edges = search rules in
     let halos : c.eq-halos.result ≡ same_signals a.halos b.halos = search rules in
-    let stops : c.eq-stops.result ≡ pointwise same_stop a.stops.items b.stops.items = c.eq-stops.ensures ∙ stop_tests a.stops.items b.stops.items in
+    let stops : c.eq-stops.result ≡ pointwise same_stop a.stops.items b.stops.items =
+    c.eq-stops.ensures ∙ stop_tests a.stops.items b.stops.items in
     let kept : c.eq-kept.result ≡ pointwise nat_eq a.kept.items b.kept.items = search rules in
-    (λ i. (((((nat_eq a.width b.width && nat_eq a.height b.height) && nat_eq a.steps b.steps) && wiring i) && (starts i && demands i)) && (edges i && halos i)) && (stops i && kept i)) ∙ ap₂ same_shape c.self.view_is c.other.view_is
+    (λ i. (((((nat_eq a.width b.width && nat_eq a.height b.height) && nat_eq a.steps b.steps) && wiring i)
+    && (starts i && demands i)) && (edges i && halos i)) && (stops i && kept i))
+    ∙ ap₂ same_shape c.self.view_is c.other.view_is

@@ -19,7 +19,8 @@ returns c =
     let ey = ap (λ (q : Cell). q.y) c.moved_cell-own.ensures in
     let x : own.x ≡ cell.x +ℤ back a.x = omega (arith, ints, ex, c.back.ensures.is, c.back.ensures.small) in
     let y : own.y ≡ cell.y +ℤ back a.y = omega (arith, ints, ey, c.back-2.ensures.is, c.back-2.ensures.small) in
-    let signals : c.halos.result.now ≡ (arc_value a.shape).halos = c.halos.ensures ∙ ap (λ (s : ShapeState). s.halos) c.deref.ensures in
+    let signals : c.halos.result.now ≡ (arc_value a.shape).halos =
+    c.halos.ensures ∙ ap (λ (s : ShapeState). s.halos) c.deref.ensures in
     let said : c.at.result ≡ signal_at c.halos.result.now c.args.time own.x own.y = search rules in
     said ∙ (λ i. signal_at (signals i) c.args.time (x i) (y i))
     ∙ carried a.x a.y (arc_value a.shape).halos c.args.time cell.x cell.y

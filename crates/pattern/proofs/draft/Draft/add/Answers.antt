@@ -9,13 +9,19 @@ use Rattle.pattern.proofs.draft.Draft.add.Goals as goal
 
 pub take_where-requires : goal.take_where-requires
 take_where-requires c =
-    let inside = subst (λ (p : Pattern). is_inside p.size c.args.part ≡ true) (sym c.self.view_is) c.in_ok-cells.ensures.inside in
-    cells_on_board c.self.inside.begun c.self.inside.layout.size c.self.invariant.begun_width c.self.invariant.begun_height c.args.part c.deref.result.now (c.deref.ensures.value ∙ c.in_ok-cells.ensures.cells) inside
+    let inside = subst (λ (p : Pattern). is_inside p.size c.args.part ≡ true)
+    (sym c.self.view_is) c.in_ok-cells.ensures.inside in
+    cells_on_board c.self.inside.begun c.self.inside.layout.size c.self.invariant.begun_width
+    c.self.invariant.begun_height c.args.part c.deref.result.now
+    (c.deref.ensures.value ∙ c.in_ok-cells.ensures.cells) inside
 
 pub take_where-requires-2 : goal.take_where-requires-2
 take_where-requires-2 c =
-    let inside = subst (λ (p : Pattern). is_inside p.size c.args.part ≡ true) (sym c.self.view_is) c.in_ok-cells.ensures.inside in
-    cells_on_board c.self.inside.ended c.self.inside.layout.size c.self.invariant.ended_width c.self.invariant.ended_height c.args.part c.deref-2.result.now (c.deref-2.ensures.value ∙ c.in_ok-cells.ensures.cells) inside
+    let inside = subst (λ (p : Pattern). is_inside p.size c.args.part ≡ true)
+    (sym c.self.view_is) c.in_ok-cells.ensures.inside in
+    cells_on_board c.self.inside.ended c.self.inside.layout.size c.self.invariant.ended_width
+    c.self.invariant.ended_height c.args.part c.deref-2.result.now
+    (c.deref-2.ensures.value ∙ c.in_ok-cells.ensures.cells) inside
 
 pub invariant_of-self-2 : goal.invariant_of-self-2
 invariant_of-self-2 c =
@@ -26,8 +32,14 @@ invariant_of-self-2 c =
       begun_height = c.take_where.ensures.size.1 ∙ c.self.invariant.begun_height ∙ high;
       ended_width = c.take_where-2.ensures.size.0 ∙ c.self.invariant.ended_width ∙ size;
       ended_height = c.take_where-2.ensures.size.1 ∙ c.self.invariant.ended_height ∙ high;
-      begun = begun_more c.self.inside.begun c.take_where.new.grid (parts_of c.self.inside.layout) (parts_of c.add.new.self) c.args.part c.deref.result.now (c.deref.ensures.value ∙ c.in_ok-cells.ensures.cells) c.in-Ok.ensures.parts c.self.invariant.begun
-          (λ x y. c.take_where.ensures.taken x y ∙ ap (λ b. live c.self.inside.begun x y || (b && in_cells c.deref.result.now x y)) c.begins-begins.ensures);
-      ended = ended_more c.self.inside.ended c.take_where-2.new.grid (parts_of c.self.inside.layout) (parts_of c.add.new.self) c.args.part c.deref-2.result.now (c.deref-2.ensures.value ∙ c.in_ok-cells.ensures.cells) c.in-Ok.ensures.parts c.self.invariant.ended
-          (λ x y. c.take_where-2.ensures.taken x y ∙ ap (λ b. live c.self.inside.ended x y || (b && in_cells c.deref-2.result.now x y)) c.ends-ends.ensures);
+      begun = begun_more c.self.inside.begun c.take_where.new.grid (parts_of c.self.inside.layout)
+          (parts_of c.add.new.self) c.args.part c.deref.result.now
+          (c.deref.ensures.value ∙ c.in_ok-cells.ensures.cells) c.in-Ok.ensures.parts c.self.invariant.begun
+          (λ x y. c.take_where.ensures.taken x y
+          ∙ ap (λ b. live c.self.inside.begun x y || (b && in_cells c.deref.result.now x y)) c.begins-begins.ensures);
+      ended = ended_more c.self.inside.ended c.take_where-2.new.grid (parts_of c.self.inside.layout)
+          (parts_of c.add.new.self) c.args.part c.deref-2.result.now
+          (c.deref-2.ensures.value ∙ c.in_ok-cells.ensures.cells) c.in-Ok.ensures.parts c.self.invariant.ended
+          (λ x y. c.take_where-2.ensures.taken x y
+          ∙ ap (λ b. live c.self.inside.ended x y || (b && in_cells c.deref-2.result.now x y)) c.ends-ends.ensures);
     }

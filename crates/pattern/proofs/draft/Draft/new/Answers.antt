@@ -7,10 +7,12 @@ use Rattle.pattern.proofs.TakenLemmas.{is_sized}
 use Rattle.pattern.proofs.draft.Draft.new.Goals as goal
 
 pub new-requires-clause-width : goal.new-requires-clause-width
-new-requires-clause-width c = let sized = is_sized c.args.size c.requires in (sized.width.0, omega (arith, sized.width.1), sized.width.2)
+new-requires-clause-width c = let sized = is_sized c.args.size c.requires in
+    (sized.width.0, omega (arith, sized.width.1), sized.width.2)
 
 pub new-requires-clause-height : goal.new-requires-clause-height
-new-requires-clause-height c = let sized = is_sized c.args.size c.requires in (sized.height.0, omega (arith, sized.height.1), sized.height.2)
+new-requires-clause-height c = let sized = is_sized c.args.size c.requires in
+    (sized.height.0, omega (arith, sized.height.1), sized.height.2)
 
 pub invariant_of-result : goal.invariant_of-result
 unfolding begun ended
@@ -19,6 +21,8 @@ invariant_of-result c = record {
   begun_height = c.in_ok-begun.ensures.size.1 ∙ ap (λ (s : Extent). s.h) (sym c.new-3.ensures.size);
   ended_width = c.in_ok-ended.ensures.size.0 ∙ ap (λ (s : Extent). s.w) (sym c.new-3.ensures.size);
   ended_height = c.in_ok-ended.ensures.size.1 ∙ ap (λ (s : Extent). s.h) (sym c.new-3.ensures.size);
-  begun = λ x y. c.in_ok-begun.ensures.dead x y ∙ ap (λ (parts : List Part). begun parts x y) (sym c.new-3.ensures.parts);
-  ended = λ x y. c.in_ok-ended.ensures.dead x y ∙ ap (λ (parts : List Part). ended parts x y) (sym c.new-3.ensures.parts);
+  begun = λ x y. c.in_ok-begun.ensures.dead x y
+      ∙ ap (λ (parts : List Part). begun parts x y) (sym c.new-3.ensures.parts);
+  ended = λ x y. c.in_ok-ended.ensures.dead x y
+      ∙ ap (λ (parts : List Part). ended parts x y) (sym c.new-3.ensures.parts);
 }

@@ -6,4 +6,5 @@ use Rattle.pattern.proofs.OwnCells.{outs_apart}
 use Rattle.pattern.proofs.layout.Layout.outs.Goals as goal
 
 pub returns-clause-apart : goal.returns-clause-apart
-returns-clause-apart c = subst (λ (ports : List Port). HaveOwnCells ports) (sym c.as_slice.ensures.value) (outs_apart (pattern_of c.self.inside) c.self.invariant.parts)
+returns-clause-apart c = subst (λ (ports : List Port). HaveOwnCells ports) (sym c.as_slice.ensures.value)
+    (outs_apart (pattern_of c.self.inside) c.self.invariant.parts)

@@ -10,5 +10,7 @@ use Rattle.section_text.proofs.feed.Feed.taken_text.Goals as goal
 pub returns : goal.returns
 returns c =
     let a = c.self.inside in
-    subst (λ (f : FeedState). take a.at c.deref.result.now ≡ flat_map ended_line (take f.taken (lines_of f.text))) c.self.view_is
-    (ap (take a.at) c.deref.ensures.value ∙ text_before a.bytes.items a.at a.lines c.self.invariant.same_lines c.self.invariant.same_rest)
+    subst (λ (f : FeedState). take a.at c.deref.result.now ≡ flat_map ended_line (take f.taken (lines_of f.text)))
+    c.self.view_is
+    (ap (take a.at) c.deref.ensures.value
+    ∙ text_before a.bytes.items a.at a.lines c.self.invariant.same_lines c.self.invariant.same_rest)

@@ -23,5 +23,6 @@ loop-share-preserved g c =
       no_filings = no_amount _ _ i.no_filings filed.amount_left;
       acceptances = next_part _ _ done _ i.acceptances accepted.parts_left;
       no_acceptances = no_amount _ _ i.no_acceptances accepted.amount_left;
-      shares = c.in_ok-push.ensures.items ∙ ap (λ (l : List Counts). l ++ c.new-share.result ∷ []) i.shares ∙ ap (λ (s : Counts). replicate done no_counts ++ s ∷ []) c.new-share.ensures ∙ replicate_more done no_counts;
+      shares = c.in_ok-push.ensures.items ∙ ap (λ (l : List Counts). l ++ c.new-share.result ∷ []) i.shares
+          ∙ ap (λ (s : Counts). replicate done no_counts ++ s ∷ []) c.new-share.ensures ∙ replicate_more done no_counts;
     }

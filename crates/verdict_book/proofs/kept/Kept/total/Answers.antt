@@ -25,7 +25,8 @@ returns-clause-accepted g c =
     let now = c.loop-share in
     let i = now.invariant in
     let none : vec_len now.shares ≡ 0 = search rules in
-    let whole : now.all_acceptances.parts ≡ g.A.Ledger.parts = omega (arith, i.accepted_parts, i.accepted_within, c.requires.acceptances) in
+    let whole : now.all_acceptances.parts ≡ g.A.Ledger.parts =
+    omega (arith, i.accepted_parts, i.accepted_within, c.requires.acceptances) in
     let total = c.audit-3.ensures.whole whole in
     omega (arith, i.accepted_amount, total, i.accepted_total, c.args.self.accepted)
 
@@ -33,7 +34,8 @@ pub returns-clause-all_accepted : goal.returns-clause-all_accepted
 returns-clause-all_accepted g c =
     let now = c.loop-share in
     let empty : now.shares.items ≡ [] = search rules in
-    let rest : sum_by (λ (s : Counts). s.accepted) now.shares.items ≡ 0 = ap (sum_by (λ (s : Counts). s.accepted)) empty in
+    let rest : sum_by (λ (s : Counts). s.accepted) now.shares.items ≡ 0 =
+    ap (sum_by (λ (s : Counts). s.accepted)) empty in
     omega (arith, now.invariant.accepted_sum, rest)
 
 pub loop-share-preserved : goal.loop-share-preserved
@@ -53,6 +55,7 @@ loop-share-preserved g c =
       accepted_parts = search rules;
       accepted_within = search rules;
       accepted_amount = search rules;
-      accepted_sum = omega (arith, i.accepted_sum, all_accepted, sum_by_push, ap (λ (s : Counts). s.accepted) c.share.view_is);
+      accepted_sum =
+          omega (arith, i.accepted_sum, all_accepted, sum_by_push, ap (λ (s : Counts). s.accepted) c.share.view_is);
       accepted_total = search rules;
     }
