@@ -13,7 +13,7 @@ ghost use Rattle.local_run.specs.Live.{AllDead, AllDead-prop, HasMarks};
 ghost use Rattle.std.specs.Int.{div_ceil};
 ghost use Rattle.std.specs.Prelude.{ℕ, ◌≡◌, ◌+◌, ◌*◌, ◌/◌, ◌%◌, ◌<◌, ◌≤◌, ◌⊎◌, vec_len, IfOk, false};
 
-use crate::lines::{LinePlaces, mark_lines};
+use crate::lines::{CELL_WORDS, LinePlaces, line_number, mark_lines};
 use crate::live::LiveMarks;
 use crate::marks::{is_marked, mark_around, mark_border, mark_corners, next_marked_in};
 use crate::planes::{Changes, Planes};
@@ -34,7 +34,7 @@ pub struct Field {
     live_marks: LiveMarks,
     // and for the numbers of cells of ring and halo
     border_marks: Vec<u64>,
-    // and for those of which an edge or halo line says something at the time that is looked at
+    // and for those of which an edge or halo line says something at the time that is looked at, and for these cells
     line_marks: Vec<u64>,
     // where the search for the next time's lines begins
     line_places: LinePlaces,
@@ -44,7 +44,7 @@ pub struct Field {
     ghost even_room: { planes.stride * planes.rows ≤ 64 * vec_len even_marks },
     ghost live_room: { HasMarks (planes.stride * planes.rows) live_marks },
     ghost border_room: { planes.stride * planes.rows ≤ 64 * vec_len border_marks },
-    ghost line_long: { vec_len line_marks ≡ div_ceil (planes.stride * planes.rows) 64 },
+    ghost line_long: { vec_len line_marks ≡ div_ceil (planes.stride * planes.rows) 64 + 72 },
     ghost odd_calm: { OddCalm odd_marks.items planes } by { OddCalm-prop odd_marks.items planes },
     ghost even_calm: { EvenCalm even_marks.items planes } by { EvenCalm-prop even_marks.items planes },
     ghost all_dead: { AllDead live_marks planes } by { AllDead-prop live_marks planes },
@@ -81,7 +81,7 @@ impl Field {
         let mut even_marks = vec![in alloc; 0u64; long]?;
         let live_marks = LiveMarks::new(alloc, long)?;
         let mut border_marks = vec![in alloc; 0u64; long]?;
-        let line_marks = vec![in alloc; 0u64; long]?;
+        let line_marks = vec![in alloc; 0u64; long + CELL_WORDS]?;
         mark_all(&mut odd_marks);
         mark_all(&mut even_marks);
         mark_border(&mut border_marks, planes.stride(), planes.rows());
@@ -136,12 +136,38 @@ impl Field {
 
     /// Whether an edge or halo line may say something, at the time that was looked at, of a cell, counted from the
     /// halo.
+    #[inline(always)]
     pub fn has_line(&self, x: usize, y: usize) -> bool
         requires { (x / 2 < self.now.planes.stride) × (y / 2 < self.now.planes.rows) }
         ensures { result ≡ false →
-            IsUnmarked self.now.line_marks.items (self.now.planes.stride * (y / 2) + x / 2) }
+            IsUnmarked self.now.line_marks.items
+            (self.now.planes.stride * (y / 2) + x / 2 + 1152 * (1 + 2 * (y % 2) + x % 2)) }
     {
-        is_marked(&self.line_marks, self.planes.number(x, y))
+        is_marked(
+            &self.line_marks,
+            line_number(self.planes.number(x, y), x, y),
+        )
+    }
+
+    /// Whether a cell, counted from the halo, may be live under some assignment.
+    #[inline(always)]
+    pub fn may_be_live(&self, x: usize, y: usize) -> bool
+        requires { (x / 2 < self.now.planes.stride) × (y / 2 < self.now.planes.rows) }
+        ensures { result ≡ false → (a : ℕ) → a < 64 * self.now.planes.words →
+            lane self.now.planes a x y ≡ false }
+    {
+        let u = self.planes.number(x, y);
+        if x % 2 == 0 {
+            if y % 2 == 0 {
+                is_marked(&self.live_marks.odd, u)
+            } else {
+                is_marked(&self.live_marks.down, u)
+            }
+        } else if y % 2 == 0 {
+            is_marked(&self.live_marks.right, u)
+        } else {
+            is_marked(&self.live_marks.even, u)
+        }
     }
 
     // Takes the marks off the cells of a block that are dead.
