@@ -1,4 +1,4 @@
--- The blocks that are still known to stay, after cells or marks changed
+-- Which blocks are still known to stay, after cells or marks changed
 use Rattle.std.proofs.Common.{◌≡◌, ◌≢◌, ℕ, Bool, true, false, ◌<◌, ◌≤◌, ◌+◌, ◌*◌, arith, refl, sym, ◌∙◌, subst, List}
 use Rattle.std.proofs.Common.{get_or, inl, inr}
 use Rattle.std.proofs.lemmas.Bool.{cases_Bool}
@@ -7,13 +7,13 @@ use Rattle.bbm_rule.specs.Rows.{SetsPlace}
 use Rattle.bbm_rule.proofs.BitLemmas.{by_lt_or_le, by_eq_or_not}
 use Rattle.bbm_rule.specs.Marks.{IsUnmarked, MarksOne}
 use Rattle.local_run.specs.Turns.{AntiStays, IsCalmBlock, MainStays, MarksAround, MarksCorners, SameBeside, TurnsPart}
-use Rattle.local_run.specs.Calm.{OddCalm, EvenCalm, AllDead, IsDeadAt, ChangesCells}
+use Rattle.local_run.specs.Calm.{OddCalm, EvenCalm, ChangesCells}
 use Rattle.local_run.specs.Lanes.{HasSize}
 use Rattle.local_run.specs.declared.planes.Planes.{Planes}
 use Rattle.local_run.proofs.TurnLemmas.{anti_words, main_words}
 
 -- ---- cells that a turned part leaves
-other_cell : (w c u k : ℕ) (xs ys : List ℕ) → SameBeside (w * c) w xs ys → k < w → u ≢ c →
+pub other_cell : (w c u k : ℕ) (xs ys : List ℕ) → SameBeside (w * c) w xs ys → k < w → u ≢ c →
     get_or ys (w * u + k) 0 ≡ get_or xs (w * u + k) 0
 other_cell w c u k xs ys same l ne = by_lt_or_le u c
     (λ h. let m : w * (u + 1) ≤ w * c = mul-le-mul_left w (omega arith) in same.below (w * u + k) (omega arith))
@@ -177,33 +177,3 @@ cells_join main anti a b c d p q r e f g = record {
   down_same = λ u k l ne. let h = g.down_same in let h = rw e at h in h u k l ne ∙ f.down_same u k l ne;
   even_same = λ u k l ne. let h = g.even_same in let h = rw e at h in h u k l ne ∙ f.even_same u k l ne;
 }
-
--- ---- dead cells
-dead_kept : (main anti : Bool) (a b c d : ℕ) (m m' : List ℕ) (p q : Planes) → HasSize p.words p.stride p.rows q →
-    ChangesCells main anti a b c d p q → AreOthers main anti a b c d m m' → AllDead m p → AllDead m' q
-dead_kept main anti a b c d m m' p q size ch marks dead = rw (size.0, size.1, size.2) (λ u l free k h.
-    let f = marks u free in
-    let e = dead u l f.0 k h in (
-      ch.odd_same u k h (λ t. (f.1 t).0) ∙ e.0,
-      ch.right_same u k h (λ t. (f.2 t).0) ∙ e.1,
-      ch.down_same u k h (λ t. (f.2 t).1) ∙ e.2,
-      ch.even_same u k h (λ t. (f.1 t).1) ∙ e.3,
-    ))
-
-pub dead_kept_by_odd : (main anti : Bool) (u : ℕ) (m m' : List ℕ) (p q : Planes) → HasSize p.words p.stride p.rows q →
-    ChangesCells main anti u u u u p q → MarksOne u m m' → AllDead m p → AllDead m' q
-dead_kept_by_odd main anti u m m' p q size ch marks dead =
-    dead_kept main anti u u u u m m' p q size ch (others_by_odd main anti u m m' marks) dead
-
-pub dead_kept_by_even : (main anti : Bool) (u : ℕ) (m m' : List ℕ) (p q : Planes) → HasSize p.words p.stride p.rows q →
-    ChangesCells main anti (u + p.stride + 1) (u + p.stride) (u + 1) u p q → MarksCorners main anti p.stride u m m' →
-    AllDead m p → AllDead m' q
-dead_kept_by_even main anti u m m' p q size ch marks dead =
-    dead_kept main anti (u + p.stride + 1) (u + p.stride) (u + 1) u m m' p q size ch
-    (others_by_even main anti p.stride u m m' marks) dead
-
-pub dead_unmarked : (c : ℕ) (m m' : List ℕ) (p : Planes) → SetsPlace c false m m' → IsDeadAt c p → AllDead m p →
-    AllDead m' p
-dead_unmarked c m m' p sets here dead u l free = by_eq_or_not u c
-    (λ e. subst (λ (v : ℕ). IsDeadAt v p) (sym e) here)
-    (λ ne. dead u l (sym (sets.elsewhere u ne) ∙ free))

@@ -9,6 +9,7 @@ pub mod MarkSearch
 pub mod Scans
 pub mod TurnLemmas
 pub mod CalmLemmas
+pub mod LiveLemmas
 pub mod InsideLemmas
 pub mod FieldLemmas
 pub mod QuietLemmas

@@ -1,5 +1,6 @@
 -- Cells of which no line of a module says anything
 use Rattle.std.proofs.Common.{◌≡◌, ℕ, ◌<◌, ◌+◌, ◌*◌, ◌/◌, ◌%◌, ◌≤◌, arith, sym, ◌∙◌, ap, ap₂, List, slice_get, Some}
+use Rattle.std.proofs.Common.{inl, inr}
 use Rattle.std.specs.Prelude.{ℤ, ◌+ℤ◌}
 use Rattle.std.proofs.lemmas.Int.{ints}
 use Rattle.bbm_rule.specs.declared.block.Cell.{Cell}
@@ -15,7 +16,7 @@ use Rattle.module_job.specs.Shapes.{back}
 use Rattle.local_run.specs.Places.{outer}
 use Rattle.bbm_rule.specs.Marks.{MarksOne}
 use Rattle.local_run.specs.Leaps.{IsTimeBetween}
-use Rattle.local_run.specs.Quiet.{AreHeldMarked, IsCellMarked, IsQuietIn, KeepsMarks, number_at}
+use Rattle.local_run.specs.Quiet.{AreHeldMarked, IsCellMarked, IsQuietIn, KeepsMarks, LacksLine, line_at, number_at}
 use Rattle.bbm_rule.proofs.BitLemmas.{by_lt_or_le}
 use Rattle.local_run.proofs.LaneLemmas.{place_below}
 
@@ -29,16 +30,24 @@ number_below b x y ew eh lx ly =
     let h = place_below 1 (b.w / 2 + 1) (b.h / 2 + 1) (x / 2) (y / 2) 0 (omega arith) (omega arith) (omega arith) in
     omega arith
 
-pub cell_marked : (b : Box2) (c : Cell) (x y : ℕ) (old new : List ℕ) → c.x ≡ outer b.x x → c.y ≡ outer b.y y →
-    MarksOne (number_at b x y) old new → IsCellMarked b c new
-cell_marked b c x y old new ex ey one x' y' lx ly ex' ey' free =
+pub cell_marked : (b : Box2) (c : Cell) (x y : ℕ) (old middle new : List ℕ) → c.x ≡ outer b.x x → c.y ≡ outer b.y y →
+    MarksOne (number_at b x y) old middle → MarksOne (line_at b x y) middle new → IsCellMarked b c new
+cell_marked b c x y old middle new ex ey one own x' y' lx ly ex' ey' free =
     let hx : x' ≡ x = outer_same b.x x' x (sym ex' ∙ ex) in
     let hy : y' ≡ y = outer_same b.y y' y (sym ey' ∙ ey) in
-    (one (number_at b x' y') free).1 (ap₂ (number_at b) hx hy)
+    elim free [
+      | inl number ↦ (one (number_at b x' y') (own (number_at b x' y') number).0).1 (ap₂ (number_at b) hx hy)
+      | inr line ↦ (own (line_at b x' y') line).1 (ap₂ (line_at b) hx hy)
+    ]
+
+lacks_line : (b : Box2) (x y : ℕ) (old new : List ℕ) → KeepsMarks old new → LacksLine b x y new → LacksLine b x y old
+lacks_line b x y old new keeps (inl free) = inl (keeps (number_at b x y) free)
+lacks_line b x y old new keeps (inr free) = inr (keeps (line_at b x y) free)
 
 pub still_marked : (b : Box2) (c : Cell) (old new : List ℕ) → KeepsMarks old new → IsCellMarked b c old →
     IsCellMarked b c new
-still_marked b c old new keeps marked x y lx ly ex ey free = marked x y lx ly ex ey (keeps (number_at b x y) free)
+still_marked b c old new keeps marked x y lx ly ex ey free =
+    marked x y lx ly ex ey (lacks_line b x y old new keeps free)
 
 -- where no line names the cell at the time, its signal is `Zero`
 pub zero_signal : (s : Signals) (t : ℕ) (x y : ℤ) →
@@ -68,7 +77,7 @@ quiet_in s b t marks held events x y lx ly free = zero_signal s t (outer b.x x) 
 
 pub still_quiet : (s : Signals) (b : Box2) (t : ℕ) (old new : List ℕ) → KeepsMarks old new → IsQuietIn s b t old →
     IsQuietIn s b t new
-still_quiet s b t old new keeps quiet x y lx ly free = quiet x y lx ly (keeps (number_at b x y) free)
+still_quiet s b t old new keeps quiet x y lx ly free = quiet x y lx ly (lacks_line b x y old new keeps free)
 
 -- the events from the first one of a time up to the first one of the next
 pub events_between : (es : List Event) (t m n : ℕ) (P : Event → Type 0) → IsTimeBetween es t m m →

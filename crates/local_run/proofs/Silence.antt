@@ -22,6 +22,8 @@ use Rattle.local_run.specs.Quiet.{AreLines, number_at}
 use Rattle.local_run.specs.Scans.{HasEdgeAt, HasEdgesIn, HasHaloAt, HasHaloIn, IsFound, IsLeastBelow, IsOuter, IsReady}
 use Rattle.local_run.specs.Scans.{IsShown, IsSilent, Shows, valuation}
 use Rattle.local_run.specs.declared.fault.Kind.TheVariants.{Edge}
+use Rattle.local_run.specs.Live.{AllDead}
+use Rattle.local_run.specs.declared.live.LiveMarks.{LiveMarks}
 use Rattle.local_run.specs.declared.planes.Planes.{Planes}
 use Rattle.local_run.specs.declared.values.Values.{Values}
 use Rattle.local_run.proofs.Scans.{plane_odd, plane_down, plane_right, plane_even}
@@ -95,8 +97,8 @@ pub silent_from : (j : JobState) (p : Planes) (t u : ℕ) (marks : List ℕ) →
 silent_from j p t u marks es dead lines free = record {
   dead = λ a x y l lx ly e. dead_lane p x y a
       (subst (λ n. IsDeadAt n p) (sym e ∙ ap (λ s. s * (y / 2) + x / 2) (sym es)) dead) l;
-  edge = λ x y lx ly e. lines.edges x y lx ly (subst (IsUnmarked marks) (sym e) free);
-  halo = λ x y lx ly e. lines.halos x y lx ly (subst (IsUnmarked marks) (sym e) free);
+  edge = λ x y lx ly e. lines.edges x y lx ly (inl (subst (IsUnmarked marks) (sym e) free));
+  halo = λ x y lx ly e. lines.halos x y lx ly (inl (subst (IsUnmarked marks) (sym e) free));
 }
 
 -- ---- cells outside the box have no edge fault
@@ -120,14 +122,60 @@ inner_edge j vs t x y lx ly none a l f =
 -- nor does a dead cell of which no line says something
 pub unsaid_edge : (j : JobState) (vs : Values) (p : Planes) (t x y : ℕ) (marks : List ℕ) → IsReady j vs →
     Shows j vs t p → AreLines j t marks → x < j.area.w + 2 → y < j.area.h + 2 →
-    IsUnmarked marks (p.stride * (y / 2) + x / 2) → IsShown vs p x y Zero vs.words → HasEdgeAt j vs t x y
+    IsUnmarked marks (p.stride * (y / 2) + x / 2 + 1152 * (1 + 2 * (y % 2) + x % 2)) →
+    ((a : ℕ) → a < 64 * p.words → lane p a x y ≡ false) → HasEdgeAt j vs t x y
 unsaid_edge j vs p t x y marks ready shows lines lx ly free dead a l f =
     let room = ready.room in
     let count = ready.count in
+    let s0 = shows.size.0 in
     let free = rw shows.size.1 at free in
     let inside = ring_in_box j.area _ _ f.1.ring in
     f.1.differs (sym (shown_at j vs p t x y a shows l inside) ∙ dead a (omega arith)
-    ∙ sym (ap (is_live (valuation vs a)) (lines.edges x y lx ly free)))
+    ∙ sym (ap (is_live (valuation vs a)) (lines.edges x y lx ly (inr free))))
+
+-- and it is as a halo signal says
+pub unsaid_halo : (j : JobState) (vs : Values) (p : Planes) (t x y : ℕ) (marks : List ℕ) → IsReady j vs →
+    Shows j vs t p → AreLines j t marks → x < j.area.w + 2 → y < j.area.h + 2 →
+    IsUnmarked marks (p.stride * (y / 2) + x / 2 + 1152 * (1 + 2 * (y % 2) + x % 2)) →
+    ((a : ℕ) → a < 64 * p.words → lane p a x y ≡ false) → HasHaloAt j vs t p x y
+unsaid_halo j vs p t x y marks ready shows lines lx ly free dead a l out =
+    let room = ready.room in
+    let count = ready.count in
+    let s0 = shows.size.0 in
+    let free = rw shows.size.1 at free in
+    dead a (omega arith) ∙ sym (ap (is_live (valuation vs a)) (lines.halos x y lx ly (inr free)))
+
+-- ---- cells that are known to be dead by their mark
+small_number : (s r x y : ℕ) → x / 2 < s → y / 2 < r → s * (y / 2) + x / 2 < s * r
+small_number s r x y lx ly = let m : s * (y / 2 + 1) ≤ s * r = mul-le-mul_left s (omega arith) in omega arith
+
+pub dead_odd : (l : LiveMarks) (p : Planes) (x y a : ℕ) → x % 2 ≡ 0 → y % 2 ≡ 0 → x / 2 < p.stride → y / 2 < p.rows →
+    AllDead l p → IsUnmarked l.odd.items (p.stride * (y / 2) + x / 2) → a < 64 * p.words → lane p a x y ≡ false
+unfolding lane
+dead_odd l p x y a ex ey lx ly dead free la =
+    rw (plane_odd p x y ex ey, dead.0 _ (small_number p.stride p.rows x y lx ly) free (a / 64) (omega arith))
+    (bit-zero (a % 64))
+
+pub dead_down : (l : LiveMarks) (p : Planes) (x y a : ℕ) → x % 2 ≡ 0 → y % 2 ≡ 1 → x / 2 < p.stride → y / 2 < p.rows →
+    AllDead l p → IsUnmarked l.down.items (p.stride * (y / 2) + x / 2) → a < 64 * p.words → lane p a x y ≡ false
+unfolding lane
+dead_down l p x y a ex ey lx ly dead free la =
+    rw (plane_down p x y ex ey, dead.2 _ (small_number p.stride p.rows x y lx ly) free (a / 64) (omega arith))
+    (bit-zero (a % 64))
+
+pub dead_right : (l : LiveMarks) (p : Planes) (x y a : ℕ) → x % 2 ≡ 1 → y % 2 ≡ 0 → x / 2 < p.stride → y / 2 < p.rows →
+    AllDead l p → IsUnmarked l.right.items (p.stride * (y / 2) + x / 2) → a < 64 * p.words → lane p a x y ≡ false
+unfolding lane
+dead_right l p x y a ex ey lx ly dead free la =
+    rw (plane_right p x y ex ey, dead.1 _ (small_number p.stride p.rows x y lx ly) free (a / 64) (omega arith))
+    (bit-zero (a % 64))
+
+pub dead_even : (l : LiveMarks) (p : Planes) (x y a : ℕ) → x % 2 ≡ 1 → y % 2 ≡ 1 → x / 2 < p.stride → y / 2 < p.rows →
+    AllDead l p → IsUnmarked l.even.items (p.stride * (y / 2) + x / 2) → a < 64 * p.words → lane p a x y ≡ false
+unfolding lane
+dead_even l p x y a ex ey lx ly dead free la =
+    rw (plane_even p x y ex ey, dead.3 _ (small_number p.stride p.rows x y lx ly) free (a / 64) (omega arith))
+    (bit-zero (a % 64))
 
 -- the four cells in a column and row of the planes
 pub four_cells : (c r : ℕ) (P : ℕ → ℕ → Type 0) → P (2 * c) (2 * r) → P (2 * c + 1) (2 * r) → P (2 * c) (2 * r + 1) →

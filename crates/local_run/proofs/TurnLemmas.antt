@@ -101,7 +101,7 @@ pub part_after : (a b c d n m t a' b' c' d' : ℕ) (ul ur ll lr ul' ur' ll' lr' 
 part_after a b c d n m t a' b' c' d' ul ur ll lr ul' ur' ll' lr' ul'' ur'' ll'' lr'' ea eb ec ed et f g =
     rw et (parts_join a b c d n m ul ur ll lr ul' ur' ll' lr' ul'' ur'' ll'' lr'' f (rw (ea, eb, ec, ed) at g))
 
-same_beside : (a n : ℕ) (xs : List ℕ) → SameBeside a n xs xs
+pub same_beside : (a n : ℕ) (xs : List ℕ) → SameBeside a n xs xs
 same_beside a n xs = record { below = λ k l. refl; above = λ k l. refl }
 
 pub no_part : (a b c d n : ℕ) (ul ur ll lr : List ℕ) → n ≡ 0 → TurnsPart a b c d n ul ur ll lr ul ur ll lr

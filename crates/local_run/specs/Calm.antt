@@ -21,10 +21,6 @@ IsDeadAt u p = (k : ℕ) → k < p.words →
     (slice_index p.odd.items (p.words * u + k) ≡ 0) × (slice_index p.right.items (p.words * u + k) ≡ 0)
     × (slice_index p.down.items (p.words * u + k) ≡ 0) × (slice_index p.even.items (p.words * u + k) ≡ 0)
 
--- so are those of all numbers, but for those with a mark
-abbrev pub AllDead : List ℕ → Planes → Type 0
-AllDead marks p = (u : ℕ) → u < p.stride * p.rows → IsUnmarked marks u → IsDeadAt u p
-
 -- any two proofs of these are equal
 pub OddCalm-prop : (marks : List ℕ) (p : Planes) → IsProp (OddCalm marks p)
 OddCalm-prop marks p = Prim.hlevel props
@@ -32,10 +28,6 @@ OddCalm-prop marks p = Prim.hlevel props
 -- any two proofs that the blocks of the even partition are calm are equal, as a ghost field needs
 pub EvenCalm-prop : (marks : List ℕ) (p : Planes) → IsProp (EvenCalm marks p)
 EvenCalm-prop marks p = Prim.hlevel props
-
--- any two proofs that cells are dead are equal, as a ghost field needs
-pub AllDead-prop : (marks : List ℕ) (p : Planes) → IsProp (AllDead marks p)
-AllDead-prop marks p = Prim.hlevel props
 
 -- In each plane the words of one cell may change, and no others. Cells are numbered row by row. Those of the planes odd
 -- and even may change only if `main`, those of the other two only if `anti`

@@ -7,6 +7,7 @@ pub mod Across
 pub mod Turns
 pub mod Borders
 pub mod Calm
+pub mod Live
 pub mod Lanes
 pub mod Places
 pub mod Scans

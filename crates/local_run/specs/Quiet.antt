@@ -1,5 +1,5 @@
 -- Cells of which no line of a module says anything
-use Rattle.std.specs.Prelude.{◌≡◌, ℕ, ◌+◌, ◌*◌, ◌/◌, ◌%◌, ◌<◌, ◌≤◌, List, length, slice_get, Some}
+use Rattle.std.specs.Prelude.{◌≡◌, ℕ, ◌+◌, ◌*◌, ◌/◌, ◌%◌, ◌<◌, ◌≤◌, ◌⊎◌, List, length, slice_get, Some}
 use Rattle.std.specs.Int.{div_ceil}
 use Rattle.bbm_rule.specs.declared.block.Cell.{Cell}
 use Rattle.module_box.specs.Schedules.{Signals, signal_at}
@@ -15,15 +15,24 @@ use Rattle.bbm_rule.specs.Marks.{IsUnmarked}
 abbrev pub number_at : Box2 → ℕ → ℕ → ℕ
 number_at b x y = (b.w / 2 + 1) * (y / 2) + x / 2
 
+-- The number of a cell among the marks on lines. These begin with a mark for each number in the planes, and then have
+-- four parts of 1152 marks, one for each plane, by the parities of column and row: no plane has more cells
+abbrev pub line_at : Box2 → ℕ → ℕ → ℕ
+line_at b x y = number_at b x y + 1152 * (1 + 2 * (y % 2) + x % 2)
+
+-- one of the two marks of a cell is missing
+abbrev pub LacksLine : Box2 → ℕ → ℕ → List ℕ → Type 0
+LacksLine b x y marks = IsUnmarked marks (number_at b x y) ⊎ IsUnmarked marks (line_at b x y)
+
 -- there is room for the numbers of all cells of a box and its halo
 abbrev pub HasRoom : Box2 → List ℕ → Type 0
 HasRoom b marks = (b.x ≤ 512) × (b.y ≤ 512) × (b.w ≤ 64) × (b.h ≤ 64) × (b.w % 2 ≡ 0) × (b.h % 2 ≡ 0)
-    × ((b.w / 2 + 1) * (b.h / 2 + 1) ≤ 64 * length marks)
+    × ((b.w / 2 + 1) * (b.h / 2 + 1) + 4608 ≤ 64 * length marks)
 
--- the cell has a mark, if it is in the box or its halo
+-- the cell has both marks, where it is in the box or its halo
 abbrev pub IsCellMarked : Box2 → Cell → List ℕ → Type 0
 IsCellMarked b c marks = (x y : ℕ) → x < b.w + 2 → y < b.h + 2 → c.x ≡ outer b.x x → c.y ≡ outer b.y y →
-    IsUnmarked marks (number_at b x y) → ⊥
+    LacksLine b x y marks → ⊥
 
 -- no mark is taken off
 abbrev pub KeepsMarks : List ℕ → List ℕ → Type 0
@@ -37,16 +46,16 @@ AreHeldMarked s b marks = (i : ℕ) (h : Held) → slice_get s.held i ≡ Some h
 abbrev pub at_corner : ShapeState → Box2
 at_corner s = record { x = 0; y = 0; w = s.width; h = s.height }
 
--- marks, a word for 64 numbers, that leave no cell out of which a line of a shape says something at all times
+-- marks, a word for 64, that leave no cell out of which a line of a shape says something at all times
 pub record AreHeld (s : ShapeState) (marks : List ℕ) : Type 0 where
-  pub long : length marks ≡ div_ceil ((s.width / 2 + 1) * (s.height / 2 + 1)) 64
+  pub long : length marks ≡ div_ceil ((s.width / 2 + 1) * (s.height / 2 + 1)) 64 + 72
   pub room : HasRoom (at_corner s) marks
   pub edges : AreHeldMarked s.edges (at_corner s) marks
   pub halos : AreHeldMarked s.halos (at_corner s) marks
 
--- at cells without a mark the signal of a schedule at time t is `Zero`
+-- at cells that lack a mark the signal of a schedule at time t is `Zero`
 abbrev pub IsQuietIn : Signals → Box2 → ℕ → List ℕ → Type 0
-IsQuietIn s b t marks = (x y : ℕ) → x < b.w + 2 → y < b.h + 2 → IsUnmarked marks (number_at b x y) →
+IsQuietIn s b t marks = (x y : ℕ) → x < b.w + 2 → y < b.h + 2 → LacksLine b x y marks →
     signal_at s t (outer b.x x) (outer b.y y) ≡ Zero
 
 -- marks that leave no cell out of which an edge or halo line of a job says something at time t

@@ -34,6 +34,14 @@ pub record SameBeside (a long : ℕ) (old new : List ℕ) : Type 0 where
   pub below : (n : ℕ) → n < a → slice_index new n ≡ slice_index old n
   pub above : (n : ℕ) → a + long ≤ n → slice_index new n ≡ slice_index old n
 
+-- the words from place a on in one list and those from place b on in another, as many as `long`, change places, and no
+-- others change
+pub record SwapsPart (a b long : ℕ) (xs ys xs' ys' : List ℕ) : Type 0 where
+  pub first : (k : ℕ) → k < long → slice_index xs' (a + k) ≡ slice_index ys (b + k)
+  pub second : (k : ℕ) → k < long → slice_index ys' (b + k) ≡ slice_index xs (a + k)
+  pub first_beside : SameBeside a long xs xs'
+  pub second_beside : SameBeside b long ys ys'
+
 -- the words of four lists, as many as `long` from a place on in each, are the corners of blocks that are turned, and no
 -- others change
 pub record TurnsPart (a b c d long : ℕ) (ul ur ll lr ul' ur' ll' lr' : List ℕ) : Type 0 where

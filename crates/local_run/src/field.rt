@@ -8,11 +8,13 @@
 ghost use Rattle.bbm_rule.specs.Plane.{turned};
 ghost use Rattle.bbm_rule.specs.Rows.{mate};
 ghost use Rattle.local_run.specs.Borders.{AllInner, AllInner-prop, ArePassed};
-ghost use Rattle.local_run.specs.Calm.{OddCalm, OddCalm-prop, EvenCalm, EvenCalm-prop, AllDead, AllDead-prop, IsDeadAt};
+ghost use Rattle.local_run.specs.Calm.{OddCalm, OddCalm-prop, EvenCalm, EvenCalm-prop};
+ghost use Rattle.local_run.specs.Live.{AllDead, AllDead-prop, HasMarks};
 ghost use Rattle.std.specs.Int.{div_ceil};
-ghost use Rattle.std.specs.Prelude.{ℕ, ◌≡◌, ◌+◌, ◌*◌, ◌/◌, ◌<◌, ◌≤◌, ◌⊎◌, vec_len, IfOk, false};
+ghost use Rattle.std.specs.Prelude.{ℕ, ◌≡◌, ◌+◌, ◌*◌, ◌/◌, ◌%◌, ◌<◌, ◌≤◌, ◌⊎◌, vec_len, IfOk, false};
 
-use crate::lines::{LinePlaces, mark_lines};
+use crate::lines::{CELL_WORDS, LinePlaces, line_number, mark_lines};
+use crate::live::LiveMarks;
 use crate::marks::{is_marked, mark_around, mark_border, mark_corners, next_marked_in};
 use crate::planes::{Changes, Planes};
 use crate::values::Values;
@@ -28,11 +30,11 @@ pub struct Field {
     // a bit for each block of the odd partition, and for each block of the even partition
     odd_marks: Vec<u64>,
     even_marks: Vec<u64>,
-    // and for each number of cells: those without a mark are dead
-    live_marks: Vec<u64>,
-    // and those of ring and halo
+    // and for each cell: those without a mark are dead
+    live_marks: LiveMarks,
+    // and for the numbers of cells of ring and halo
     border_marks: Vec<u64>,
-    // and those of which an edge or halo line says something at the time that is looked at
+    // and for those of which an edge or halo line says something at the time that is looked at, and for these cells
     line_marks: Vec<u64>,
     // where the search for the next time's lines begins
     line_places: LinePlaces,
@@ -40,12 +42,12 @@ pub struct Field {
     rush: u32,
     ghost odd_room: { planes.stride * planes.rows ≤ 64 * vec_len odd_marks },
     ghost even_room: { planes.stride * planes.rows ≤ 64 * vec_len even_marks },
-    ghost live_room: { planes.stride * planes.rows ≤ 64 * vec_len live_marks },
+    ghost live_room: { HasMarks (planes.stride * planes.rows) live_marks },
     ghost border_room: { planes.stride * planes.rows ≤ 64 * vec_len border_marks },
-    ghost line_long: { vec_len line_marks ≡ div_ceil (planes.stride * planes.rows) 64 },
+    ghost line_long: { vec_len line_marks ≡ div_ceil (planes.stride * planes.rows) 64 + 72 },
     ghost odd_calm: { OddCalm odd_marks.items planes } by { OddCalm-prop odd_marks.items planes },
     ghost even_calm: { EvenCalm even_marks.items planes } by { EvenCalm-prop even_marks.items planes },
-    ghost all_dead: { AllDead live_marks.items planes } by { AllDead-prop live_marks.items planes },
+    ghost all_dead: { AllDead live_marks planes } by { AllDead-prop live_marks planes },
     ghost all_inner: { AllInner planes.stride planes.rows border_marks.items } by { AllInner-prop planes.stride planes.rows border_marks.items },
 }
 
@@ -64,7 +66,8 @@ fn are_many(changed: usize, cells: usize, words: usize, stride: usize) -> bool
 
 impl Field {
     ghost use Rattle.bbm_rule.specs.Marks.{IsUnmarked};
-    ghost use Rattle.local_run.specs.Turns.{IsCalmBlock, TurnsPart};
+    ghost use Rattle.local_run.specs.Live.{IsLoneAnti, IsLoneMain};
+    ghost use Rattle.local_run.specs.Turns.{TurnsPart};
     ghost use Rattle.local_run.specs.Quiet.{AreLines};
     ghost use Rattle.local_run.specs.Scans.{IsReady};
     ghost use Rattle.local_run.specs.Lanes.{HasSize, SameInside, lane};
@@ -76,12 +79,11 @@ impl Field {
         let long = planes.cells().div_ceil(64);
         let mut odd_marks = vec![in alloc; 0u64; long]?;
         let mut even_marks = vec![in alloc; 0u64; long]?;
-        let mut live_marks = vec![in alloc; 0u64; long]?;
+        let live_marks = LiveMarks::new(alloc, long)?;
         let mut border_marks = vec![in alloc; 0u64; long]?;
-        let line_marks = vec![in alloc; 0u64; long]?;
+        let line_marks = vec![in alloc; 0u64; long + CELL_WORDS]?;
         mark_all(&mut odd_marks);
         mark_all(&mut even_marks);
-        mark_all(&mut live_marks);
         mark_border(&mut border_marks, planes.stride(), planes.rows());
         Ok(Field {
             planes,
@@ -137,29 +139,91 @@ impl Field {
 
     /// Returns whether an edge or halo line may say something of a cell, counted from the halo, at the time that was
     /// looked at.
+    #[inline(always)]
     pub fn has_line(&self, x: usize, y: usize) -> bool
         requires { (x / 2 < self.now.planes.stride) × (y / 2 < self.now.planes.rows) }
         ensures { result ≡ false →
-            IsUnmarked self.now.line_marks.items (self.now.planes.stride * (y / 2) + x / 2) }
+            IsUnmarked self.now.line_marks.items
+            (self.now.planes.stride * (y / 2) + x / 2 + 1152 * (1 + 2 * (y % 2) + x % 2)) }
     {
-        is_marked(&self.line_marks, self.planes.number(x, y))
+        is_marked(
+            &self.line_marks,
+            line_number(self.planes.number(x, y), x, y),
+        )
     }
 
-    // Takes the mark off block u of the odd partition, which stays, and off its cells where they are dead.
-    fn settle(&mut self, u: usize)
-        requires place { u < self.old.planes.stride * self.old.planes.rows }
-        requires calm { IsCalmBlock self.old.planes.words u u u u self.old.planes.odd.items
-            self.old.planes.right.items self.old.planes.down.items self.old.planes.even.items }
-        ensures { self.new.planes ≡ self.old.planes }
+    /// Returns whether a cell, counted from the halo, may be live under some assignment.
+    #[inline(always)]
+    pub fn may_be_live(&self, x: usize, y: usize) -> bool
+        requires { (x / 2 < self.now.planes.stride) × (y / 2 < self.now.planes.rows) }
+        ensures { result ≡ false → (a : ℕ) → a < 64 * self.now.planes.words →
+            lane self.now.planes a x y ≡ false }
     {
-        unmark(&mut self.odd_marks, u);
-        if self.planes.is_dead(u) {
-            unmark(&mut self.live_marks, u);
+        let u = self.planes.number(x, y);
+        if x % 2 == 0 {
+            if y % 2 == 0 {
+                is_marked(&self.live_marks.odd, u)
+            } else {
+                is_marked(&self.live_marks.down, u)
+            }
+        } else if y % 2 == 0 {
+            is_marked(&self.live_marks.right, u)
+        } else {
+            is_marked(&self.live_marks.even, u)
         }
     }
 
+    // Takes the marks off the cells of a block that are dead.
+    fn drop_dead(&mut self, odd: usize, right: usize, down: usize, even: usize)
+        requires main { (odd < self.old.planes.stride * self.old.planes.rows)
+            × (even < self.old.planes.stride * self.old.planes.rows) }
+        requires anti { (right < self.old.planes.stride * self.old.planes.rows)
+            × (down < self.old.planes.stride * self.old.planes.rows) }
+        ensures planes { self.new.planes ≡ self.old.planes }
+        ensures lines { self.new.line_marks ≡ self.old.line_marks }
+    {
+        self.planes
+            .drop_dead(&mut self.live_marks, odd, right, down, even);
+    }
+
+    // Turns block u of the odd partition, of which no cell is live but one of its main diagonal: they change places.
+    fn move_odd_main(&mut self, u: usize)
+        requires place { u < self.old.planes.stride * self.old.planes.rows }
+        requires lone { IsLoneMain self.old.live_marks u u u u }
+        ensures part { let at = self.old.planes.words * u in TurnsPart at at at at
+            self.old.planes.words self.old.planes.odd.items self.old.planes.right.items
+            self.old.planes.down.items self.old.planes.even.items self.new.planes.odd.items
+            self.new.planes.right.items self.new.planes.down.items self.new.planes.even.items }
+        ensures size { HasSize self.old.planes.words self.old.planes.stride self.old.planes.rows
+            self.new.planes }
+    {
+        let stride = self.planes.stride();
+        mark(&mut self.odd_marks, u);
+        mark_around(&mut self.even_marks, u, stride, Changes::MAIN);
+        self.live_marks.swap_main(u, u);
+        self.planes.swap_main(u, u);
+    }
+
+    // The same for one cell of its other diagonal.
+    fn move_odd_anti(&mut self, u: usize)
+        requires place { u < self.old.planes.stride * self.old.planes.rows }
+        requires lone { IsLoneAnti self.old.live_marks u u u u }
+        ensures part { let at = self.old.planes.words * u in TurnsPart at at at at
+            self.old.planes.words self.old.planes.odd.items self.old.planes.right.items
+            self.old.planes.down.items self.old.planes.even.items self.new.planes.odd.items
+            self.new.planes.right.items self.new.planes.down.items self.new.planes.even.items }
+        ensures size { HasSize self.old.planes.words self.old.planes.stride self.old.planes.rows
+            self.new.planes }
+    {
+        let stride = self.planes.stride();
+        mark(&mut self.odd_marks, u);
+        mark_around(&mut self.even_marks, u, stride, Changes::ANTI);
+        self.live_marks.swap_anti(u, u);
+        self.planes.swap_anti(u, u);
+    }
+
     // Turns block u of the odd partition, unless it stays, and tells whether it turned it.
-    fn turn_odd(&mut self, u: usize) -> bool
+    fn turn_odd_words(&mut self, u: usize) -> bool
         requires { u < self.old.planes.stride * self.old.planes.rows }
         ensures part { let at = self.old.planes.words * u in TurnsPart at at at at
             self.old.planes.words self.old.planes.odd.items self.old.planes.right.items
@@ -171,14 +235,117 @@ impl Field {
     {
         let changes = self.planes.odd_changes(u);
         if changes.is_none() {
-            self.settle(u);
+            unmark(&mut self.odd_marks, u);
             return false;
         }
         let stride = self.planes.stride();
         mark(&mut self.odd_marks, u);
-        mark(&mut self.live_marks, u);
         mark_around(&mut self.even_marks, u, stride, changes);
+        self.live_marks.mark_cells(u, u, u, u, changes);
         self.planes.turn_odd(u);
+        true
+    }
+
+    // Turns block u of the odd partition, unless it stays, and tells whether it turned it. Its words are read only if
+    // two of its cells may be live.
+    fn turn_odd(&mut self, u: usize) -> bool
+        requires { u < self.old.planes.stride * self.old.planes.rows }
+        ensures part { let at = self.old.planes.words * u in TurnsPart at at at at
+            self.old.planes.words self.old.planes.odd.items self.old.planes.right.items
+            self.old.planes.down.items self.old.planes.even.items self.new.planes.odd.items
+            self.new.planes.right.items self.new.planes.down.items self.new.planes.even.items }
+        ensures size { HasSize self.old.planes.words self.old.planes.stride self.old.planes.rows
+            self.new.planes }
+        ensures stays { result ≡ false → self.new.planes ≡ self.old.planes }
+    {
+        if self.live_marks.are_dead(u, u, u, u) {
+            unmark(&mut self.odd_marks, u);
+            return false;
+        }
+        if self.live_marks.is_lone_main(u, u, u, u) {
+            self.move_odd_main(u);
+            return true;
+        }
+        if self.live_marks.is_lone_anti(u, u, u, u) {
+            self.move_odd_anti(u);
+            return true;
+        }
+        let is_turned = self.turn_odd_words(u);
+        self.drop_dead(u, u, u, u);
+        is_turned
+    }
+
+    // Turns block u of the even partition, of which no cell is live but one of its main diagonal: they change places.
+    fn move_even_main(&mut self, u: usize)
+        requires place { u + self.old.planes.stride + 1 < self.old.planes.stride
+            * self.old.planes.rows }
+        requires lone { let s = self.old.planes.stride in IsLoneMain self.old.live_marks
+            (u + s + 1) (u + s) (u + 1) u }
+        ensures part { let w = self.old.planes.words in TurnsPart (w * u) (w * (u + 1))
+            (w * (u + self.old.planes.stride)) (w * (u + self.old.planes.stride + 1)) w
+            self.old.planes.even.items self.old.planes.down.items self.old.planes.right.items
+            self.old.planes.odd.items self.new.planes.even.items self.new.planes.down.items
+            self.new.planes.right.items self.new.planes.odd.items }
+        ensures size { HasSize self.old.planes.words self.old.planes.stride self.old.planes.rows
+            self.new.planes }
+        ensures last { (u + 1) % self.old.planes.stride ≡ 0 → SameInside self.old.planes
+            self.new.planes }
+    {
+        let stride = self.planes.stride();
+        mark(&mut self.even_marks, u);
+        mark_corners(&mut self.odd_marks, u, stride, Changes::MAIN);
+        self.live_marks.swap_main(u + stride + 1, u);
+        self.planes.swap_main(u + stride + 1, u);
+    }
+
+    // The same for one cell of its other diagonal.
+    fn move_even_anti(&mut self, u: usize)
+        requires place { u + self.old.planes.stride + 1 < self.old.planes.stride
+            * self.old.planes.rows }
+        requires lone { let s = self.old.planes.stride in IsLoneAnti self.old.live_marks
+            (u + s + 1) (u + s) (u + 1) u }
+        ensures part { let w = self.old.planes.words in TurnsPart (w * u) (w * (u + 1))
+            (w * (u + self.old.planes.stride)) (w * (u + self.old.planes.stride + 1)) w
+            self.old.planes.even.items self.old.planes.down.items self.old.planes.right.items
+            self.old.planes.odd.items self.new.planes.even.items self.new.planes.down.items
+            self.new.planes.right.items self.new.planes.odd.items }
+        ensures size { HasSize self.old.planes.words self.old.planes.stride self.old.planes.rows
+            self.new.planes }
+        ensures last { (u + 1) % self.old.planes.stride ≡ 0 → SameInside self.old.planes
+            self.new.planes }
+    {
+        let stride = self.planes.stride();
+        mark(&mut self.even_marks, u);
+        mark_corners(&mut self.odd_marks, u, stride, Changes::ANTI);
+        self.live_marks.swap_anti(u + stride, u + 1);
+        self.planes.swap_anti(u + stride, u + 1);
+    }
+
+    // Turns block u of the even partition, unless it stays, and tells whether it turned it.
+    fn turn_even_words(&mut self, u: usize) -> bool
+        requires { u + self.old.planes.stride + 1 < self.old.planes.stride * self.old.planes.rows }
+        ensures part { let w = self.old.planes.words in TurnsPart (w * u) (w * (u + 1))
+            (w * (u + self.old.planes.stride)) (w * (u + self.old.planes.stride + 1)) w
+            self.old.planes.even.items self.old.planes.down.items self.old.planes.right.items
+            self.old.planes.odd.items self.new.planes.even.items self.new.planes.down.items
+            self.new.planes.right.items self.new.planes.odd.items }
+        ensures size { HasSize self.old.planes.words self.old.planes.stride self.old.planes.rows
+            self.new.planes }
+        ensures stays { result ≡ false → self.new.planes ≡ self.old.planes }
+        ensures last { (u + 1) % self.old.planes.stride ≡ 0 → SameInside self.old.planes
+            self.new.planes }
+    {
+        let changes = self.planes.even_changes(u);
+        if changes.is_none() {
+            unmark(&mut self.even_marks, u);
+            return false;
+        }
+        let stride = self.planes.stride();
+        mark(&mut self.even_marks, u);
+        mark_corners(&mut self.odd_marks, u, stride, changes);
+        self.live_marks
+            .mark_cells(u + stride + 1, u + stride, u + 1, u, changes);
+        self.planes.turn_even(u);
         true
     }
 
@@ -196,17 +363,24 @@ impl Field {
             self.new.planes }
         ensures stays { result ≡ false → SameInside self.old.planes self.new.planes }
     {
-        let changes = self.planes.even_changes(u);
-        if changes.is_none() {
+        let stride = self.planes.stride();
+        let in_box = (u + 1) % stride != 0;
+        let (odd, right, down) = (u + stride + 1, u + stride, u + 1);
+        if self.live_marks.are_dead(odd, right, down, u) {
             unmark(&mut self.even_marks, u);
             return false;
         }
-        let stride = self.planes.stride();
-        mark(&mut self.even_marks, u);
-        mark_corners(&mut self.odd_marks, u, stride, changes);
-        mark_corners(&mut self.live_marks, u, stride, changes);
-        self.planes.turn_even(u);
-        (u + 1) % stride != 0
+        if self.live_marks.is_lone_main(odd, right, down, u) {
+            self.move_even_main(u);
+            return in_box;
+        }
+        if self.live_marks.is_lone_anti(odd, right, down, u) {
+            self.move_even_anti(u);
+            return in_box;
+        }
+        let is_turned = self.turn_even_words(u);
+        self.drop_dead(odd, right, down, u);
+        is_turned && in_box
     }
 
     /// Turns the blocks whose upper left corner is odd, which fill box and halo. Returns whether a block may have
@@ -225,7 +399,7 @@ impl Field {
             self.rush -= 1;
             mark_all(&mut self.odd_marks);
             mark_all(&mut self.even_marks);
-            mark_all(&mut self.live_marks);
+            self.live_marks.mark_all();
             self.planes.odd_step();
             return true;
         }
@@ -264,7 +438,7 @@ impl Field {
             self.rush -= 1;
             mark_all(&mut self.odd_marks);
             mark_all(&mut self.even_marks);
-            mark_all(&mut self.live_marks);
+            self.live_marks.mark_all();
             self.planes.even_step();
             return true;
         }
@@ -299,12 +473,9 @@ impl Field {
         let stride = self.planes.stride();
         let u = stride * (y / 2) + x / 2;
         mark(&mut self.odd_marks, u);
-        mark(&mut self.live_marks, u);
-        let changes = Changes {
-            main: true,
-            anti: true,
-        };
-        mark_around(&mut self.even_marks, u, stride, changes);
+        self.live_marks.mark_cells(u, u, u, u, Changes::BOTH);
+        mark_around(&mut self.even_marks, u, stride, Changes::BOTH);
         values.put(&mut self.planes, x, y, signal);
+        self.drop_dead(u, u, u, u);
     }
 }

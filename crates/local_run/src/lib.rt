@@ -27,6 +27,7 @@ mod keep;
 pub mod laws;
 mod leaps;
 mod lines;
+mod live;
 mod marks;
 mod places;
 mod planes;

@@ -6,7 +6,7 @@ ghost use Rattle.module_box.specs.Moments.{moment_cmp};
 ghost use Rattle.module_box.specs.Schedules.{IsRising, moment_of};
 ghost use Rattle.local_run.specs.Quiet.{AreHeld, AreHeldMarked, AreLines, at_corner, HasRoom, IsCellMarked, IsQuietIn, KeepsMarks};
 ghost use Rattle.local_run.specs.Places.{outer};
-ghost use Rattle.std.specs.Prelude.{ℕ, ◌≢◌, MatchOption, ◌≡◌, ◌<◌, ◌+◌, ◌*◌, ◌/◌, ◌≤◌, length, slice_index, slice_get, Some, IfOk};
+ghost use Rattle.std.specs.Prelude.{ℕ, ◌≢◌, MatchOption, ◌≡◌, ◌<◌, ◌+◌, ◌*◌, ◌/◌, ◌%◌, ◌^◌, ◌≤◌, length, slice_index, slice_get, Some, IfOk};
 
 use crate::leaps::first_event_from;
 use bbm_rule::Cell;
@@ -29,7 +29,19 @@ fn outer_number(coordinate: i32, first: u32, count: u32) -> Option<usize>
     Some((coordinate - before) as usize)
 }
 
-// Marks the cell, if it is in the box or its halo.
+/// The number of words of marks that single cells have: four planes of at most 1152 cells.
+pub const CELL_WORDS: usize = 72;
+
+/// Returns the number of a cell's own mark, where `number` is that of its cells in the planes.
+#[inline(always)]
+pub fn line_number(number: usize, x: usize, y: usize) -> usize
+    requires { number < 2 ^ 32 }
+    ensures { result ≡ number + 1152 * (1 + 2 * (y % 2) + x % 2) }
+{
+    number + 1152 * (1 + 2 * (y % 2) + x % 2)
+}
+
+// Marks the cell, if it is in the box or its halo: a mark for its number in the planes, and one of its own.
 fn mark_cell(marks: &mut [u64], area: Box2, cell: Cell)
     requires { HasRoom area marks.old }
     ensures keeps { KeepsMarks marks.old marks.new }
@@ -41,8 +53,9 @@ fn mark_cell(marks: &mut [u64], area: Box2, cell: Cell)
     let Some(y) = outer_number(cell.y, area.y, area.h) else {
         return;
     };
-    let stride = area.w as usize / 2 + 1;
-    mark(marks, stride * (y / 2) + x / 2);
+    let number = (area.w as usize / 2 + 1) * (y / 2) + x / 2;
+    mark(marks, number);
+    mark(marks, line_number(number, x, y));
 }
 
 // Marks the cells of held signals.
@@ -157,14 +170,14 @@ fn mark_all_held(marks: &mut [u64], shape: &Shape)
     mark_held(marks, area, shape.halos().held());
 }
 
-/// Marks the numbers of cells, one in each plane, of which an edge or halo line says something at all times.
+/// Marks the cells of which an edge or halo line says something at all times, and their numbers in the planes.
 pub fn held_cells(alloc: Global, job: &Job) -> Result<Vec<u64>, AllocError>
     requires { IsJob job.now }
     ensures { IfOk result (λ m. AreHeld (shape_of job.now) m.items) }
 {
     let area = job.area();
     let cells = (area.w as usize / 2 + 1) * (area.h as usize / 2 + 1);
-    let mut marks = vec![in alloc; 0u64; cells.div_ceil(64)]?;
+    let mut marks = vec![in alloc; 0u64; cells.div_ceil(64) + CELL_WORDS]?;
     mark_all_held(&mut marks, job.shape());
     Ok(marks)
 }

@@ -3,11 +3,13 @@
 ghost use Rattle.bbm_rule.specs.Marks.{IsUnmarked};
 ghost use Rattle.bbm_rule.specs.Rows.{cell_at};
 ghost use Rattle.local_run.specs.Borders.{AllInner};
+ghost use Rattle.local_run.specs.Live.{AreUnmarked, DropsDead, HasMarks, IsDeadCell, MarksCell, TakesMark};
 ghost use Rattle.local_run.specs.Turns.{MarksAround, MarksCorners};
-ghost use Rattle.std.specs.Prelude.{ℕ, ◌≡◌, ◌≢◌, ◌+◌, ◌*◌, ◌/◌, ◌^◌, ◌<◌, ◌≤◌, ◌⊎◌, length};
+ghost use Rattle.std.specs.Prelude.{ℕ, ◌≡◌, ◌≢◌, ◌+◌, ◌*◌, ◌/◌, ◌^◌, ◌<◌, ◌≤◌, ◌⊎◌, length, true, false};
 
+use crate::live::LiveMarks;
 use crate::planes::Changes;
-use bbm_rule::marks::{mark, mark_before};
+use bbm_rule::marks::{mark, mark_before, unmark};
 
 /// Returns whether a number has a mark.
 #[inline(always)]
@@ -16,6 +18,71 @@ pub fn is_marked(marks: &[u64], at: usize) -> bool
     ensures { result ≡ cell_at marks.now at }
 {
     (marks[at / 64] >> (at % 64)) & 1 == 1
+}
+
+/// Marks a number, if it changes.
+#[inline(always)]
+pub fn mark_if(marks: &mut [u64], at: usize, changes: bool)
+    requires { at / 64 < length marks.old }
+    ensures { MarksCell changes at marks.old marks.new }
+{
+    if changes {
+        mark(marks, at);
+    }
+}
+
+// Gives a number a mark, or takes it off.
+#[inline(always)]
+fn set_mark(marks: &mut [u64], at: usize, is_marked: bool)
+    requires { at / 64 < length marks.old }
+    ensures { (u : ℕ) → IsUnmarked marks.new u →
+        ((u ≢ at) × IsUnmarked marks.old u) ⊎ ((u ≡ at) × (is_marked ≡ false)) }
+{
+    if is_marked {
+        mark(marks, at);
+    } else {
+        unmark(marks, at);
+    }
+}
+
+/// Exchanges the marks of a number in one list and of one in another.
+#[inline(always)]
+pub fn swap_marks(first: &mut [u64], second: &mut [u64], a: usize, b: usize)
+    requires { (a / 64 < length first.old) × (b / 64 < length second.old) }
+    ensures first { TakesMark a b first.old second.old first.new }
+    ensures second { TakesMark b a second.old first.old second.new }
+{
+    let is_first = is_marked(first, a);
+    let is_second = is_marked(second, b);
+    set_mark(first, a, is_second);
+    set_mark(second, b, is_first);
+}
+
+// Whether the words of a cell are zero.
+#[inline(always)]
+fn is_dead(cells: &[u64], at: usize, words: usize) -> bool
+    requires { words * at + words ≤ length cells.now }
+    ensures { result ≡ true → IsDeadCell words at cells.now }
+{
+    let first = words * at;
+    for k in 0..words {
+        if cells[first + k] != 0 {
+            return false;
+        }
+    }
+    true
+}
+
+/// Takes the mark off a cell, if it is dead.
+#[inline(always)]
+pub fn drop_if_dead(marks: &mut [u64], at: usize, cells: &[u64], words: usize)
+    requires mark { at / 64 < length marks.old }
+    requires cell { words * at + words ≤ length cells.now }
+    ensures { DropsDead words at cells.now marks.old marks.new }
+{
+    if is_marked(marks, at) && is_dead(cells, at, words) {
+        unmark(marks, at);
+    }
 }
 
 /// Marks the blocks of the even partition that share a cell of a changed diagonal with block `at` of the odd partition.
@@ -64,26 +131,27 @@ pub fn mark_border(marks: &mut [u64], stride: usize, rows: usize)
     }
 }
 
-/// Returns the next number from `from` on that may have a mark in the first list, and one in the second or the third.
+/// Returns the next number from `from` on that may have a mark in the first list, and one among the others or among those
+/// of live cells.
 ///
 /// If there is none below `end`, it returns `end`.
 pub fn next_marked_in(
     first: &[u64],
-    second: &[u64],
-    third: &[u64],
+    live: &LiveMarks,
+    others: &[u64],
     from: usize,
     end: usize,
 ) -> usize
     requires within { (from ≤ end) × (end < 2 ^ 32) }
-    requires room { (end ≤ 64 * length first.now) × (end ≤ 64 * length second.now)
-        × (end ≤ 64 * length third.now) }
+    requires room { (end ≤ 64 * length first.now) × HasMarks end live.now
+        × (end ≤ 64 * length others.now) }
     ensures range { (from ≤ result) × (result ≤ end) }
     ensures passed { (u : ℕ) → from ≤ u → u < result →
-        IsUnmarked first.now u ⊎ (IsUnmarked second.now u × IsUnmarked third.now u) }
+        IsUnmarked first.now u ⊎ (AreUnmarked live.now u u u u × IsUnmarked others.now u) }
 {
     let mut at = from;
     'search: while at < end {
-        let word = first[at / 64] & (second[at / 64] | third[at / 64]);
+        let word = first[at / 64] & (live.word(at / 64) | others[at / 64]);
         let rest = word >> (at % 64);
         if rest != 0 {
             let found = at + rest.trailing_zeros() as usize;

@@ -6,9 +6,11 @@
 ghost use Rattle.bbm_rule.specs.Plane.{turned};
 ghost use Rattle.bbm_rule.specs.Rows.{mate};
 ghost use Rattle.local_run.specs.Across.{TurnsAcross};
-ghost use Rattle.local_run.specs.Turns.{AntiStays, DiagonalStays, MainStays, TurnsPart};
+ghost use Rattle.local_run.specs.Turns.{AntiStays, DiagonalStays, MainStays, SwapsPart, TurnsPart};
 ghost use Rattle.std.specs.Prelude.{ℕ, ◌≡◌, ◌+◌, ◌-◌, ◌*◌, ◌/◌, ◌%◌, ◌<◌, ◌≤◌, ◌⊎◌, length, slice_index, vec_len, IfOk, false, true};
 
+use crate::live::LiveMarks;
+use crate::marks::drop_if_dead;
 use bbm_rule::turn_lanes;
 use std::alloc::{AllocError, Global};
 
@@ -152,6 +154,19 @@ fn turn_part(
     );
 }
 
+// Exchanges the words from a place on in one slice, and as many from a place on in another.
+#[inline(always)]
+fn swap_part(first: &mut [u64], second: &mut [u64], a: usize, b: usize, long: usize)
+    requires { (a + long ≤ length first.old) × (b + long ≤ length second.old) }
+    ensures { SwapsPart a b long first.old second.old first.new second.new }
+{
+    for k in 0..long {
+        let word = first[a + k];
+        first[a + k] = second[b + k];
+        second[b + k] = word;
+    }
+}
+
 // The words that a turn flips of a block's main diagonal, and of the other one.
 #[inline(always)]
 fn flips_of(upper_left: u64, upper_right: u64, lower_left: u64, lower_right: u64) -> (u64, u64)
@@ -176,6 +191,24 @@ pub struct Changes {
 }
 
 impl Changes {
+    /// The turn that changes the main diagonal alone.
+    pub const MAIN: Changes = Changes {
+        main: true,
+        anti: false,
+    };
+
+    /// The turn that changes the other diagonal alone.
+    pub const ANTI: Changes = Changes {
+        main: false,
+        anti: true,
+    };
+
+    /// The turn that changes both diagonals.
+    pub const BOTH: Changes = Changes {
+        main: true,
+        anti: true,
+    };
+
     /// Returns whether the turn changes no diagonal, so that the block stays.
     pub fn is_none(self) -> bool
         ensures main { result ≡ true → self.main ≡ false }
@@ -228,7 +261,6 @@ fn part_changes(
 }
 
 impl Planes {
-    ghost use Rattle.local_run.specs.Calm.{IsDeadAt};
     ghost use Rattle.local_run.specs.Lanes.{HasSize};
 
     /// Returns how many cells a plane has. A block of the odd partition has the number of its cells, counted row by
@@ -306,24 +338,6 @@ impl Planes {
         ensures range { result < self.now.stride * self.now.rows }
     {
         self.stride * (y / 2) + x / 2
-    }
-
-    /// Returns whether the cells with number u are dead under each assignment. Only `true` is proved to be right.
-    pub fn is_dead(&self, u: usize) -> bool
-        requires { u < self.now.stride * self.now.rows }
-        ensures { result ≡ true → IsDeadAt u self.now }
-    {
-        let at = self.words * u;
-        for k in 0..self.words {
-            if self.odd[at + k] != 0
-                || self.right[at + k] != 0
-                || self.down[at + k] != 0
-                || self.even[at + k] != 0
-            {
-                return false;
-            }
-        }
-        true
     }
 
     /// Turns block u of the odd partition.
@@ -444,5 +458,80 @@ impl Planes {
         } else {
             self.even[at] = word;
         }
+    }
+}
+
+impl Planes {
+    ghost use Rattle.local_run.specs.Lanes.{HasSize};
+    ghost use Rattle.local_run.specs.Live.{DropsDead, HasCells, HasSameRoom};
+
+    /// Exchanges the cells with these numbers of the planes `odd` and `even`, which are on the main diagonal of a block.
+    pub fn swap_main(&mut self, odd: usize, even: usize)
+        requires { (odd < self.old.stride * self.old.rows) × (even < self.old.stride
+            * self.old.rows) }
+        ensures swap { let w = self.old.words in SwapsPart (w * odd) (w * even) w
+            self.old.odd.items self.old.even.items self.new.odd.items self.new.even.items }
+        ensures right { self.new.right ≡ self.old.right }
+        ensures down { self.new.down ≡ self.old.down }
+        ensures size { HasSize self.old.words self.old.stride self.old.rows self.new }
+    {
+        let words = self.words;
+        swap_part(
+            &mut self.odd,
+            &mut self.even,
+            words * odd,
+            words * even,
+            words,
+        );
+    }
+
+    /// Exchanges the cells with these numbers of the planes `right` and `down`, which are on the other diagonal.
+    pub fn swap_anti(&mut self, right: usize, down: usize)
+        requires { (right < self.old.stride * self.old.rows) × (down < self.old.stride
+            * self.old.rows) }
+        ensures swap { let w = self.old.words in SwapsPart (w * right) (w * down) w
+            self.old.right.items self.old.down.items self.new.right.items self.new.down.items }
+        ensures odd { self.new.odd ≡ self.old.odd }
+        ensures even { self.new.even ≡ self.old.even }
+        ensures size { HasSize self.old.words self.old.stride self.old.rows self.new }
+    {
+        let words = self.words;
+        swap_part(
+            &mut self.right,
+            &mut self.down,
+            words * right,
+            words * down,
+            words,
+        );
+    }
+
+    /// Takes the marks off the cells of a block that are dead.
+    pub fn drop_dead(
+        &self,
+        live: &mut LiveMarks,
+        odd: usize,
+        right: usize,
+        down: usize,
+        even: usize,
+    )
+        requires marks { HasCells live.old odd right down even }
+        requires main { (odd < self.now.stride * self.now.rows)
+            × (even < self.now.stride * self.now.rows) }
+        requires anti { (right < self.now.stride * self.now.rows)
+            × (down < self.now.stride * self.now.rows) }
+        ensures odd { DropsDead self.now.words odd self.now.odd.items live.old.odd.items
+            live.new.odd.items }
+        ensures right { DropsDead self.now.words right self.now.right.items live.old.right.items
+            live.new.right.items }
+        ensures down { DropsDead self.now.words down self.now.down.items live.old.down.items
+            live.new.down.items }
+        ensures even { DropsDead self.now.words even self.now.even.items live.old.even.items
+            live.new.even.items }
+        ensures room { HasSameRoom live.old live.new }
+    {
+        drop_if_dead(&mut live.odd, odd, &self.odd, self.words);
+        drop_if_dead(&mut live.right, right, &self.right, self.words);
+        drop_if_dead(&mut live.down, down, &self.down, self.words);
+        drop_if_dead(&mut live.even, even, &self.even, self.words);
     }
 }

@@ -104,7 +104,6 @@ pub fn first_fault(
 fn is_edge_right(field: &Field, values: &Values, job: &Job, time: u32, x: usize, y: usize) -> bool
     requires ready { IsReady job.now values.now }
     requires shows { Shows job.now values.now time field.now.planes }
-    requires lines { AreLines job.now time field.now.line_marks.items }
     requires sought { IsSought job.now time Kind.Edge }
     requires place { (x < job.now.area.w + 2) × (y < job.now.area.h + 2) }
     ensures { result ≡ true → HasEdgeAt job.now values.now time x y }
@@ -116,11 +115,24 @@ fn is_edge_right(field: &Field, values: &Values, job: &Job, time: u32, x: usize,
     if area.w as usize <= x - 1 || area.h as usize <= y - 1 {
         return true;
     }
-    // Most cells have no line and are dead.
-    if !field.has_line(x, y) && !values.is_different(field.planes(), x, y, Signal::Zero) {
+    cell_fault(field, values, job, time, Kind::Edge, x - 1, y - 1).is_none()
+}
+
+// The same, where most cells have no line and are dead.
+#[inline(always)]
+fn is_right(field: &Field, values: &Values, job: &Job, time: u32, x: usize, y: usize) -> bool
+    requires ready { IsReady job.now values.now }
+    requires shows { Shows job.now values.now time field.now.planes }
+    requires lines { AreLines job.now time field.now.line_marks.items }
+    requires sought { IsSought job.now time Kind.Edge }
+    requires place { (x < job.now.area.w + 2) × (y < job.now.area.h + 2) }
+    ensures { result ≡ true → HasEdgeAt job.now values.now time x y }
+{
+    let _area = job.area();
+    if !field.has_line(x, y) && !field.may_be_live(x, y) {
         return true;
     }
-    cell_fault(field, values, job, time, Kind::Edge, x - 1, y - 1).is_none()
+    is_edge_right(field, values, job, time, x, y)
 }
 
 // Whether the two cells of a row, counted from the halo, that stand in a column of the planes carry what their edge
@@ -141,8 +153,8 @@ fn are_both_right(
     ensures left { result ≡ true → HasEdgeAt job.now values.now time (2 * column) y }
     ensures right { result ≡ true → HasEdgeAt job.now values.now time (2 * column + 1) y }
 {
-    is_edge_right(field, values, job, time, 2 * column, y)
-        && is_edge_right(field, values, job, time, 2 * column + 1, y)
+    is_right(field, values, job, time, 2 * column, y)
+        && is_right(field, values, job, time, 2 * column + 1, y)
 }
 
 // Whether the cells of the ring in a column and row of the planes carry what their edge signals say.

@@ -51,7 +51,7 @@ fn halo_signal(field: &Field, job: &Job, time: u32, x: usize, y: usize) -> Signa
     }
 }
 
-// A cell of the halo becomes what its signal says, where it is one.
+// A cell of the halo becomes what its signal says, where it is one, has a line or may be live.
 #[tactic(auto, using(crate::proofs::Scans::row_from))]
 fn put_halo_cell(field: &mut Field, values: &Values, job: &Job, time: u32, x: usize, y: usize)
     requires ready { IsReady job.now values.now }
@@ -64,6 +64,9 @@ fn put_halo_cell(field: &mut Field, values: &Values, job: &Job, time: u32, x: us
     ensures rest { SameElsewhere job.now field.old.planes field.new.planes x y }
 {
     let area = job.area();
+    if !field.has_line(x, y) && !field.may_be_live(x, y) {
+        return;
+    }
     if 1 <= x && x <= area.w as usize && 1 <= y && y <= area.h as usize {
         return;
     }

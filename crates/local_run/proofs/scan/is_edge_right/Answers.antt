@@ -5,7 +5,7 @@ use Rattle.local_run.specs.Faults.{assignments}
 use Rattle.local_run.specs.Places.{inner}
 use Rattle.local_run.specs.Scans.{IsFound, IsLeastBelow}
 use Rattle.local_run.specs.declared.fault.Kind.TheVariants.{Edge}
-use Rattle.local_run.proofs.Silence.{inner_edge, outer_edge, unsaid_edge}
+use Rattle.local_run.proofs.Silence.{inner_edge, outer_edge}
 use Rattle.local_run.proofs.scan.is_edge_right.Goals as goal
 use Rattle.local_run.proofs.scan.is_edge_right.Goals.{then-x-eq0-via-then-x-eq0, then-x-eq0-via-else-x-eq0+then-y-eq0}
 use Rattle.local_run.proofs.scan.is_edge_right.Goals.{then-area-x-via-then-area-x}
@@ -32,14 +32,6 @@ returns-then-area-x c = λ h. outer_edge c.args.job.now c.args.values.now c.args
       | then-area-x-via-then-area-x w ↦ let e = w.if-area-x in omega (arith, e)
       | then-area-x-via-else-area-x+then-area-y w ↦ let e = w.if-area-y in omega (arith, e)
     ])
-
-pub returns-then-not-is_different : goal.returns-then-not-is_different
-returns-then-not-is_different c =
-    λ h. unsaid_edge c.args.job.now c.args.values.now c.args.field.now.planes c.args.time c.args.x c.args.y
-    c.args.field.now.line_marks.items c.requires.ready c.requires.shows c.requires.lines c.requires.place.0
-    c.requires.place.1
-    (c.has_line.ensures c.if-not-has_line.true)
-    (rw c.planes.ensures at c.is_different.ensures c.if-not-is_different.true)
 
 none_from : (n : ℕ) (P : ℕ → Type 0) (o : Option ℕ) → is_some o ≡ not true → IsLeastBelow n P o → IsLeastBelow n P None
 none_from n P None e h = h

@@ -1,4 +1,4 @@
-use Rattle.std.proofs.Common.{arith, sym}
+use Rattle.std.proofs.Common.{arith, inr, sym}
 use Rattle.local_run.proofs.steps.halo_signal.Goals as goal
 
 pub has_line-requires : goal.has_line-requires
@@ -12,4 +12,5 @@ has_line-requires c =
 pub returns-else-has_line-clause-is : goal.returns-else-has_line-clause-is
 returns-else-has_line-clause-is c =
     let free = rw c.requires.stride at c.has_line.ensures in
-    sym (c.requires.lines.halos c.args.x c.args.y c.requires.place.0 c.requires.place.1 (free c.if-has_line.false))
+    sym (c.requires.lines.halos c.args.x c.args.y c.requires.place.0 c.requires.place.1
+    (inr (free c.if-has_line.false)))

@@ -1,7 +1,8 @@
 use Rattle.std.proofs.Common.{List, ℕ, true, length, ap, arith, sym, subst}
 use Rattle.std.proofs.lemmas.List.{with_items_is}
-use Rattle.local_run.specs.Calm.{OddCalm, EvenCalm, AllDead}
-use Rattle.local_run.proofs.CalmLemmas.{odd_kept_by_odd, even_kept_by_odd, dead_kept_by_odd}
+use Rattle.local_run.specs.Calm.{OddCalm, EvenCalm}
+use Rattle.local_run.proofs.CalmLemmas.{odd_kept_by_odd, even_kept_by_odd}
+use Rattle.local_run.proofs.LiveLemmas.{cells_dead}
 use Rattle.local_run.proofs.field.Field.put.Goals as goal
 
 pub invariant_of-self-clause-odd_calm : goal.invariant_of-self-clause-odd_calm
@@ -18,7 +19,7 @@ invariant_of-self-clause-odd_calm c =
 pub invariant_of-self-clause-even_calm : goal.invariant_of-self-clause-even_calm
 invariant_of-self-clause-even_calm c =
     let f = c.args.self.now in
-    let v = c.deref_mut-3.ensures.value in
+    let v = c.deref_mut-2.ensures.value in
     let items = with_items_is f.even_marks c.mark_around.new.marks (omega (arith, ap length v, f.even_marks.ok.0)) in
     let marks = rw (v, c.stride-stride.ensures.is) at c.mark_around.ensures in
     let e = c.put.ensures in
@@ -29,10 +30,8 @@ invariant_of-self-clause-even_calm c =
 pub invariant_of-self-clause-all_dead : goal.invariant_of-self-clause-all_dead
 invariant_of-self-clause-all_dead c =
     let f = c.args.self.now in
-    let v = c.deref_mut-2.ensures.value in
-    let items = with_items_is f.live_marks c.mark-2.new.marks (omega (arith, ap length v, f.live_marks.ok.0)) in
-    let marks = rw (v, c.stride-stride.ensures.is) at c.mark-2.ensures in
     let e = c.put.ensures in
-    subst (λ (m : List ℕ). AllDead m c.put.new.planes) (sym items)
-    (dead_kept_by_odd true true _ f.live_marks.items c.mark-2.new.marks f.planes c.put.new.planes e.put.size e.cells
-    marks f.all_dead)
+    let l = c.mark_cells.ensures in
+    let l = rw c.stride-stride.ensures.is at l in
+    cells_dead true true _ _ _ _ f.live_marks c.mark_cells.new.self f.planes c.put.new.planes e.put.size e.cells l.odd
+    l.right l.down l.even f.all_dead

@@ -1,0 +1,269 @@
+-- Cells that are known to be dead, and blocks of which one cell at most is live
+use Rattle.std.proofs.Common.{◌≡◌, ◌≢◌, ℕ, Bool, true, false, ◌<◌, ◌≤◌, ◌+◌, ◌*◌, ◌⊎◌, arith, refl, sym, ◌∙◌, ap, subst}
+use Rattle.std.proofs.Common.{List, get_or, set, length, inl, inr}
+use Rattle.std.proofs.lemmas.List.{get_or-set_other, get_or-set_same}
+use Rattle.bbm_rule.specs.Bits.{bit}
+use Rattle.bbm_rule.specs.Marks.{IsUnmarked}
+use Rattle.bbm_rule.specs.Plane.{turned}
+use Rattle.bbm_rule.specs.Words.{AreTurned}
+use Rattle.bbm_rule.proofs.BitLemmas.{by_eq_or_not, bit-zero}
+use Rattle.local_run.specs.Calm.{ChangesCells, EvenCalm, IsDeadAt, OddCalm}
+use Rattle.local_run.specs.Lanes.{HasSize}
+use Rattle.local_run.specs.Live.{AllDead, AreMarked, AreUnmarked, DeadBut, DropsDead, IsDeadCell, IsLoneAnti}
+use Rattle.local_run.specs.Live.{IsLoneMain, MarksCell, TakesMark}
+use Rattle.local_run.specs.Turns.{DiagonalStays, IsCalmBlock, SameBeside, SwapsPart, TurnsPart}
+use Rattle.local_run.specs.declared.live.LiveMarks.{LiveMarks}
+use Rattle.local_run.specs.declared.planes.Planes.{Planes}
+use Rattle.local_run.proofs.CalmLemmas.{other_cell}
+use Rattle.local_run.proofs.TurnLemmas.{same_beside}
+
+-- ---- words that change places, one after another
+pub swap_none : (a b : ℕ) (xs ys : List ℕ) → SwapsPart a b 0 xs ys xs ys
+swap_none a b xs ys = record {
+  first = λ k l. absurd (omega arith);
+  second = λ k l. absurd (omega arith);
+  first_beside = same_beside a 0 xs;
+  second_beside = same_beside b 0 ys;
+}
+
+set_beside : (a k v : ℕ) (xs xs' : List ℕ) → SameBeside a k xs xs' → SameBeside a (k + 1) xs (set xs' (a + k) v)
+set_beside a k v xs xs' same = record {
+  below = λ n l. get_or-set_other xs' (a + k) n v 0 (λ e. omega (arith, e, l)) ∙ same.below n l;
+  above = λ n l. get_or-set_other xs' (a + k) n v 0 (λ e. omega (arith, e, l)) ∙ same.above n (omega arith);
+}
+
+pub swap_next : (a b k : ℕ) (xs ys xs' ys' : List ℕ) → a + k < length xs' → b + k < length ys' →
+    SwapsPart a b k xs ys xs' ys' →
+    SwapsPart a b (k + 1) xs ys (set xs' (a + k) (get_or ys' (b + k) 0)) (set ys' (b + k) (get_or xs' (a + k) 0))
+swap_next a b k xs ys xs' ys' la lb s = record {
+  first = λ j l. by_eq_or_not j k
+      (λ e. rw e (get_or-set_same xs' (a + k) (get_or ys' (b + k) 0) 0 la
+      ∙ s.second_beside.above (b + k) (omega arith)))
+      (λ ne. get_or-set_other xs' (a + k) (a + j) (get_or ys' (b + k) 0) 0 (λ e. ne (omega (arith, e)))
+      ∙ s.first j (omega (arith, ne, l)));
+  second = λ j l. by_eq_or_not j k
+      (λ e. rw e (get_or-set_same ys' (b + k) (get_or xs' (a + k) 0) 0 lb ∙ s.first_beside.above (a + k) (omega arith)))
+      (λ ne. get_or-set_other ys' (b + k) (b + j) (get_or xs' (a + k) 0) 0 (λ e. ne (omega (arith, e)))
+      ∙ s.second j (omega (arith, ne, l)));
+  first_beside = set_beside a k _ xs xs' s.first_beside;
+  second_beside = set_beside b k _ ys ys' s.second_beside;
+}
+
+-- ---- blocks of which no cell is live
+none_turned : turned false false false false ≡ false
+unfolding turned
+none_turned = refl
+
+none_stays : (a b c d : ℕ) → a ≡ 0 → b ≡ 0 → c ≡ 0 → d ≡ 0 → DiagonalStays a b c d
+none_stays a b c d ea eb ec ed j = rw (ea, eb, ec, ed, bit-zero j) (none_turned, none_turned)
+
+pub dead_calm : (w a b c d : ℕ) (ul ur ll lr : List ℕ) → IsDeadCell w a ul → IsDeadCell w b ur → IsDeadCell w c ll →
+    IsDeadCell w d lr → IsCalmBlock w a b c d ul ur ll lr
+dead_calm w a b c d ul ur ll lr da db dc dd = (
+  (λ k l. none_stays _ _ _ _ (da k l) (dd k l) (db k l) (dc k l)),
+  (λ k l. none_stays _ _ _ _ (db k l) (dc k l) (da k l) (dd k l)),
+)
+
+-- ---- blocks of which one cell at most is live
+lone_here : (a b : Bool) → (a ≡ false) ⊎ (b ≡ false) → turned a b false false ≡ b
+unfolding turned
+lone_here false false e = refl
+lone_here false true e = refl
+lone_here true false e = refl
+lone_here true true (inl e) = sym e
+lone_here true true (inr e) = sym e
+
+lone_beside : (a b : Bool) → (a ≡ false) ⊎ (b ≡ false) → turned false false a b ≡ false
+unfolding turned
+lone_beside false false e = refl
+lone_beside false true e = refl
+lone_beside true false e = refl
+lone_beside true true (inl e) = e
+lone_beside true true (inr e) = e
+
+one_dead : (x y j : ℕ) → (x ≡ 0) ⊎ (y ≡ 0) → (bit x j ≡ false) ⊎ (bit y j ≡ false)
+one_dead x y j (inl e) = inl (ap (λ n. bit n j) e ∙ bit-zero j)
+one_dead x y j (inr e) = inr (ap (λ n. bit n j) e ∙ bit-zero j)
+
+swapped : {A B : Type 0} → A ⊎ B → B ⊎ A
+swapped (inl a) = inr a
+swapped (inr b) = inl b
+
+main_moved : (x y b c x' y' : ℕ) → (x ≡ 0) ⊎ (y ≡ 0) → b ≡ 0 → c ≡ 0 → x' ≡ y → y' ≡ x → AreTurned x b c y x' b c y'
+main_moved x y b c x' y' one eb ec ex ey = rw (eb, ec, ex, ey) (record {
+  upper_left = λ j. rw (bit-zero j) (sym (lone_here (bit x j) (bit y j) (one_dead x y j one)));
+  upper_right = λ j. rw (bit-zero j) (sym (lone_beside (bit x j) (bit y j) (one_dead x y j one)));
+  lower_left = λ j. rw (bit-zero j) (sym (lone_beside (bit y j) (bit x j) (swapped (one_dead x y j one))));
+  lower_right = λ j. rw (bit-zero j) (sym (lone_here (bit y j) (bit x j) (swapped (one_dead x y j one))));
+})
+
+anti_moved : (a x y d x' y' : ℕ) → (x ≡ 0) ⊎ (y ≡ 0) → a ≡ 0 → d ≡ 0 → x' ≡ y → y' ≡ x → AreTurned a x y d a x' y' d
+anti_moved a x y d x' y' one ea ed ex ey = rw (ea, ed, ex, ey) (record {
+  upper_left = λ j. rw (bit-zero j) (sym (lone_beside (bit x j) (bit y j) (one_dead x y j one)));
+  upper_right = λ j. rw (bit-zero j) (sym (lone_here (bit x j) (bit y j) (one_dead x y j one)));
+  lower_left = λ j. rw (bit-zero j) (sym (lone_here (bit y j) (bit x j) (swapped (one_dead x y j one))));
+  lower_right = λ j. rw (bit-zero j) (sym (lone_beside (bit y j) (bit x j) (swapped (one_dead x y j one))));
+})
+
+one_word : (w a b k : ℕ) (xs ys : List ℕ) → k < w → IsDeadCell w a xs ⊎ IsDeadCell w b ys →
+    (get_or xs (w * a + k) 0 ≡ 0) ⊎ (get_or ys (w * b + k) 0 ≡ 0)
+one_word w a b k xs ys l (inl d) = inl (d k l)
+one_word w a b k xs ys l (inr d) = inr (d k l)
+
+pub lone_main : (w a b c d : ℕ) (ul ur ll lr ul' ur' ll' lr' : List ℕ) → SwapsPart (w * a) (w * d) w ul lr ul' lr' →
+    ur' ≡ ur → ll' ≡ ll → IsDeadCell w b ur → IsDeadCell w c ll → IsDeadCell w a ul ⊎ IsDeadCell w d lr →
+    TurnsPart (w * a) (w * b) (w * c) (w * d) w ul ur ll lr ul' ur' ll' lr'
+lone_main w a b c d ul ur ll lr ul' ur' ll' lr' s eb ec db dc one = rw (eb, ec) (record {
+  turned = λ k l. main_moved _ _ _ _ _ _ (one_word w a d k ul lr l one) (db k l) (dc k l) (s.first k l) (s.second k l);
+  upper_left = s.first_beside;
+  upper_right = same_beside (w * b) w ur;
+  lower_left = same_beside (w * c) w ll;
+  lower_right = s.second_beside;
+})
+
+pub lone_anti : (w a b c d : ℕ) (ul ur ll lr ul' ur' ll' lr' : List ℕ) → SwapsPart (w * b) (w * c) w ur ll ur' ll' →
+    ul' ≡ ul → lr' ≡ lr → IsDeadCell w a ul → IsDeadCell w d lr → IsDeadCell w b ur ⊎ IsDeadCell w c ll →
+    TurnsPart (w * a) (w * b) (w * c) (w * d) w ul ur ll lr ul' ur' ll' lr'
+lone_anti w a b c d ul ur ll lr ul' ur' ll' lr' s ea ed da dd one = rw (ea, ed) (record {
+  turned = λ k l. anti_moved _ _ _ _ _ _ (one_word w b c k ur ll l one) (da k l) (dd k l) (s.first k l) (s.second k l);
+  upper_left = same_beside (w * a) w ul;
+  upper_right = s.first_beside;
+  lower_left = s.second_beside;
+  lower_right = same_beside (w * d) w lr;
+})
+
+-- words that change places, the other way round
+pub swap_back : (a b long : ℕ) (xs ys xs' ys' : List ℕ) → SwapsPart a b long xs ys xs' ys' →
+    SwapsPart b a long ys xs ys' xs'
+swap_back a b long xs ys xs' ys' s =
+    record { first = s.second; second = s.first; first_beside = s.second_beside; second_beside = s.first_beside }
+
+-- ---- which cells change
+pub main_cells : (odd right down even : ℕ) (p q : Planes) →
+    SwapsPart (p.words * odd) (p.words * even) p.words p.odd.items p.even.items q.odd.items q.even.items →
+    q.right ≡ p.right → q.down ≡ p.down →
+    ChangesCells true false odd right down even p q
+main_cells odd right down even p q s er ed = record {
+  odd_same = λ v k l ne. other_cell p.words odd v k p.odd.items q.odd.items s.first_beside l (ne refl);
+  right_same = λ v k l ne. ap (λ r. get_or r.items (p.words * v + k) 0) er;
+  down_same = λ v k l ne. ap (λ r. get_or r.items (p.words * v + k) 0) ed;
+  even_same = λ v k l ne. other_cell p.words even v k p.even.items q.even.items s.second_beside l (ne refl);
+}
+
+pub anti_cells : (odd right down even : ℕ) (p q : Planes) →
+    SwapsPart (p.words * right) (p.words * down) p.words p.right.items p.down.items q.right.items q.down.items →
+    q.odd ≡ p.odd → q.even ≡ p.even →
+    ChangesCells false true odd right down even p q
+anti_cells odd right down even p q s eo ee = record {
+  odd_same = λ v k l ne. ap (λ r. get_or r.items (p.words * v + k) 0) eo;
+  right_same = λ v k l ne. other_cell p.words right v k p.right.items q.right.items s.first_beside l (ne refl);
+  down_same = λ v k l ne. other_cell p.words down v k p.down.items q.down.items s.second_beside l (ne refl);
+  even_same = λ v k l ne. ap (λ r. get_or r.items (p.words * v + k) 0) ee;
+}
+
+-- ---- which cells are dead afterwards
+-- those whose marks and words changed places
+swap_dead : (w n a b : ℕ) (m o m' xs ys xs' : List ℕ) → b < n → DeadBut w n m xs → DeadBut w n o ys →
+    TakesMark a b m o m' → SameBeside (w * a) w xs xs' →
+    ((k : ℕ) → k < w → get_or xs' (w * a + k) 0 ≡ get_or ys (w * b + k) 0) → DeadBut w n m' xs'
+swap_dead w n a b m o m' xs ys xs' lb dead others takes beside moved v l free k h = elim (takes v free) [
+  | inl kept ↦ other_cell w a v k xs xs' beside h kept.0 ∙ dead v l kept.1 k h
+  | inr taken ↦ subst (λ (z : ℕ). get_or xs' (w * z + k) 0 ≡ 0) (sym taken.0) (moved k h ∙ others b lb taken.1 k h)
+]
+
+pub main_dead : (odd even : ℕ) (l l' : LiveMarks) (p q : Planes) → HasSize p.words p.stride p.rows q →
+    odd < p.stride * p.rows → even < p.stride * p.rows →
+    SwapsPart (p.words * odd) (p.words * even) p.words p.odd.items p.even.items q.odd.items q.even.items →
+    q.right ≡ p.right → q.down ≡ p.down →
+    TakesMark odd even l.odd.items l.even.items l'.odd.items →
+    TakesMark even odd l.even.items l.odd.items l'.even.items → l'.right ≡ l.right → l'.down ≡ l.down → AllDead l p →
+    AllDead l' q
+main_dead odd even l l' p q size lo le s er ed to te mr md dead = rw (size.0, size.1, size.2, er, ed, mr, md) (
+  swap_dead p.words (p.stride * p.rows) odd even l.odd.items l.even.items l'.odd.items p.odd.items p.even.items
+      q.odd.items le dead.0 dead.3 to s.first_beside s.first,
+  dead.1,
+  dead.2,
+  swap_dead p.words (p.stride * p.rows) even odd l.even.items l.odd.items l'.even.items p.even.items p.odd.items
+      q.even.items lo dead.3 dead.0 te s.second_beside s.second,
+)
+
+pub anti_dead : (right down : ℕ) (l l' : LiveMarks) (p q : Planes) → HasSize p.words p.stride p.rows q →
+    right < p.stride * p.rows → down < p.stride * p.rows →
+    SwapsPart (p.words * right) (p.words * down) p.words p.right.items p.down.items q.right.items q.down.items →
+    q.odd ≡ p.odd → q.even ≡ p.even →
+    TakesMark right down l.right.items l.down.items l'.right.items →
+    TakesMark down right l.down.items l.right.items l'.down.items → l'.odd ≡ l.odd → l'.even ≡ l.even → AllDead l p →
+    AllDead l' q
+anti_dead right down l l' p q size lr ld s eo ee tr td mo me dead = rw (size.0, size.1, size.2, eo, ee, mo, me) (
+  dead.0,
+  swap_dead p.words (p.stride * p.rows) right down l.right.items l.down.items l'.right.items p.right.items p.down.items
+      q.right.items ld dead.1 dead.2 tr s.first_beside s.first,
+  swap_dead p.words (p.stride * p.rows) down right l.down.items l.right.items l'.down.items p.down.items p.right.items
+      q.down.items lr dead.2 dead.1 td s.second_beside s.second,
+  dead.3,
+)
+
+-- those of a block that was turned, where the cells that may have changed have marks
+kept_dead : (changes : Bool) (w n c : ℕ) (m m' xs ys : List ℕ) → MarksCell changes c m m' →
+    ((u k : ℕ) → k < w → (changes ≡ true → u ≢ c) → get_or ys (w * u + k) 0 ≡ get_or xs (w * u + k) 0) →
+    DeadBut w n m xs → DeadBut w n m' ys
+kept_dead changes w n c m m' xs ys marks same dead u l free k h = let f = marks u free in
+    same u k h f.1 ∙ dead u l f.0 k h
+
+pub cells_dead : (main anti : Bool) (odd right down even : ℕ) (l l' : LiveMarks) (p q : Planes) →
+    HasSize p.words p.stride p.rows q → ChangesCells main anti odd right down even p q →
+    MarksCell main odd l.odd.items l'.odd.items → MarksCell anti right l.right.items l'.right.items →
+    MarksCell anti down l.down.items l'.down.items → MarksCell main even l.even.items l'.even.items → AllDead l p →
+    AllDead l' q
+cells_dead main anti odd right down even l l' p q size ch mo mr md me dead = rw (size.0, size.1, size.2) (
+  kept_dead main p.words (p.stride * p.rows) odd l.odd.items l'.odd.items p.odd.items q.odd.items mo ch.odd_same dead.0,
+  kept_dead anti p.words (p.stride * p.rows) right l.right.items l'.right.items p.right.items q.right.items mr
+      ch.right_same dead.1,
+  kept_dead anti p.words (p.stride * p.rows) down l.down.items l'.down.items p.down.items q.down.items md ch.down_same
+      dead.2,
+  kept_dead main p.words (p.stride * p.rows) even l.even.items l'.even.items p.even.items q.even.items me ch.even_same
+      dead.3,
+)
+
+-- those without a mark, after marks were taken off dead ones
+drop_dead : (w n c : ℕ) (m m' xs : List ℕ) → DropsDead w c xs m m' → DeadBut w n m xs → DeadBut w n m' xs
+drop_dead w n c m m' xs drops dead u l free k h = elim (drops u free) [
+  | inl kept ↦ dead u l kept k h
+  | inr dropped ↦ subst (λ (z : ℕ). get_or xs (w * z + k) 0 ≡ 0) (sym dropped.0) (dropped.1 k h)
+]
+
+pub drops_dead : (odd right down even : ℕ) (l l' : LiveMarks) (p : Planes) →
+    DropsDead p.words odd p.odd.items l.odd.items l'.odd.items →
+    DropsDead p.words right p.right.items l.right.items l'.right.items →
+    DropsDead p.words down p.down.items l.down.items l'.down.items →
+    DropsDead p.words even p.even.items l.even.items l'.even.items → AllDead l p → AllDead l' p
+drops_dead odd right down even l l' p od rd dd ed dead = (
+  drop_dead p.words (p.stride * p.rows) odd l.odd.items l'.odd.items p.odd.items od dead.0,
+  drop_dead p.words (p.stride * p.rows) right l.right.items l'.right.items p.right.items rd dead.1,
+  drop_dead p.words (p.stride * p.rows) down l.down.items l'.down.items p.down.items dd dead.2,
+  drop_dead p.words (p.stride * p.rows) even l.even.items l'.even.items p.even.items ed dead.3,
+)
+
+-- none, where all have marks
+pub marked_dead : (n : ℕ) (l : LiveMarks) (p : Planes) → p.stride * p.rows ≤ n → AreMarked n l → AllDead l p
+marked_dead n l p room all = (
+  λ u h free. absurd ((all u (omega (arith, room, h))).0 free),
+  λ u h free. absurd ((all u (omega (arith, room, h))).1 free),
+  λ u h free. absurd ((all u (omega (arith, room, h))).2 free),
+  λ u h free. absurd ((all u (omega (arith, room, h))).3 free),
+)
+
+-- the four cells with a number, where none has a mark
+pub dead_at : (u : ℕ) (l : LiveMarks) (p : Planes) → u < p.stride * p.rows → AllDead l p → AreUnmarked l u u u u →
+    IsDeadAt u p
+dead_at u l p h dead free k i =
+    (dead.0 u h free.0 k i, dead.1 u h free.1 k i, dead.2 u h free.2 k i, dead.3 u h free.3 k i)
+
+-- no block is known to stay, where all have marks
+pub marked_odd : (marks : List ℕ) (p : Planes) → p.stride * p.rows ≤ 64 * length marks →
+    ((u : ℕ) → u < 64 * length marks → IsUnmarked marks u → ⊥) → OddCalm marks p
+marked_odd marks p room all u l free = absurd (all u (omega (arith, room, l)) free)
+
+pub marked_even : (marks : List ℕ) (p : Planes) → p.stride * p.rows ≤ 64 * length marks →
+    ((u : ℕ) → u < 64 * length marks → IsUnmarked marks u → ⊥) → EvenCalm marks p
+marked_even marks p room all u l free = absurd (all u (omega (arith, room, l)) free)

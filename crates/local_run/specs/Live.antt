@@ -1,0 +1,79 @@
+-- Marks on the cells of four planes: those without a mark are dead
+use Rattle.std.specs.Prelude.{◌≡◌, ◌≢◌, Bool, true, ℕ, ◌+◌, ◌*◌, ◌<◌, ◌≤◌, ◌⊎◌, List, slice_index, vec_len}
+use Rattle.std.proofs.Props.{props}
+use Rattle.bbm_rule.specs.Marks.{IsUnmarked}
+use Rattle.local_run.specs.declared.live.LiveMarks.{LiveMarks}
+use Rattle.local_run.specs.declared.planes.Planes.{Planes}
+
+-- there is room for the marks of n cells of each plane
+abbrev pub HasMarks : ℕ → LiveMarks → Type 0
+HasMarks n l = (n ≤ 64 * vec_len l.odd) × (n ≤ 64 * vec_len l.right) × (n ≤ 64 * vec_len l.down)
+    × (n ≤ 64 * vec_len l.even)
+
+-- the marks of each plane have as much room
+abbrev pub HasSameRoom : LiveMarks → LiveMarks → Type 0
+HasSameRoom l l' = (vec_len l'.odd ≡ vec_len l.odd) × (vec_len l'.right ≡ vec_len l.right)
+    × (vec_len l'.down ≡ vec_len l.down) × (vec_len l'.even ≡ vec_len l.even)
+
+-- the first n cells of each plane have marks
+abbrev pub AreMarked : ℕ → LiveMarks → Type 0
+AreMarked n l = (u : ℕ) → u < n →
+    (IsUnmarked l.odd.items u → ⊥) × (IsUnmarked l.right.items u → ⊥) × (IsUnmarked l.down.items u → ⊥)
+    × (IsUnmarked l.even.items u → ⊥)
+
+-- the words of a cell are zero
+abbrev pub IsDeadCell : ℕ → ℕ → List ℕ → Type 0
+IsDeadCell words u cells = (k : ℕ) → k < words → slice_index cells (words * u + k) ≡ 0
+
+-- the cells of a plane are dead, but for those with a mark
+abbrev pub DeadBut : ℕ → ℕ → List ℕ → List ℕ → Type 0
+DeadBut words count marks cells = (u : ℕ) → u < count → IsUnmarked marks u → IsDeadCell words u cells
+
+-- so are those of all planes
+abbrev pub AllDead : LiveMarks → Planes → Type 0
+AllDead l p = DeadBut p.words (p.stride * p.rows) l.odd.items p.odd.items
+    × DeadBut p.words (p.stride * p.rows) l.right.items p.right.items
+    × DeadBut p.words (p.stride * p.rows) l.down.items p.down.items
+    × DeadBut p.words (p.stride * p.rows) l.even.items p.even.items
+
+-- any two proofs of this are equal
+pub AllDead-prop : (l : LiveMarks) (p : Planes) → IsProp (AllDead l p)
+AllDead-prop l p = Prim.hlevel props
+
+-- one more cell is marked, if the diagonal that it is on changes
+abbrev pub MarksCell : Bool → ℕ → List ℕ → List ℕ → Type 0
+MarksCell changes at old new = (u : ℕ) → IsUnmarked new u → IsUnmarked old u × (changes ≡ true → u ≢ at)
+
+-- the mark of one cell becomes what that of another was
+abbrev pub TakesMark : ℕ → ℕ → List ℕ → List ℕ → List ℕ → Type 0
+TakesMark at other old others new =
+    (u : ℕ) → IsUnmarked new u → ((u ≢ at) × IsUnmarked old u) ⊎ ((u ≡ at) × IsUnmarked others other)
+
+-- no mark is taken off, but that of a cell if it is dead
+abbrev pub DropsDead : ℕ → ℕ → List ℕ → List ℕ → List ℕ → Type 0
+DropsDead words at cells old new =
+    (u : ℕ) → IsUnmarked new u → IsUnmarked old u ⊎ ((u ≡ at) × IsDeadCell words at cells)
+
+-- The cells of a block by their numbers in the planes: none but one at most of the diagonal of odd and even has a mark
+abbrev pub IsLoneMain : LiveMarks → ℕ → ℕ → ℕ → ℕ → Type 0
+IsLoneMain l odd right down even =
+    IsUnmarked l.right.items right × IsUnmarked l.down.items down
+    × (IsUnmarked l.odd.items odd ⊎ IsUnmarked l.even.items even)
+
+-- none but one at most of the other diagonal has a mark
+abbrev pub IsLoneAnti : LiveMarks → ℕ → ℕ → ℕ → ℕ → Type 0
+IsLoneAnti l odd right down even =
+    IsUnmarked l.odd.items odd × IsUnmarked l.even.items even
+    × (IsUnmarked l.right.items right ⊎ IsUnmarked l.down.items down)
+
+-- none has a mark
+abbrev pub AreUnmarked : LiveMarks → ℕ → ℕ → ℕ → ℕ → Type 0
+AreUnmarked l odd right down even =
+    IsUnmarked l.odd.items odd × IsUnmarked l.right.items right × IsUnmarked l.down.items down
+    × IsUnmarked l.even.items even
+
+-- the numbers of the cells of a block are among those that have marks
+abbrev pub HasCells : LiveMarks → ℕ → ℕ → ℕ → ℕ → Type 0
+HasCells l odd right down even =
+    (odd < 64 * vec_len l.odd) × (right < 64 * vec_len l.right) × (down < 64 * vec_len l.down)
+    × (even < 64 * vec_len l.even)

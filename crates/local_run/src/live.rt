@@ -1,0 +1,151 @@
+//! Marks on the cells of planes that may be live.
+//!
+//! A cell without a mark is dead, so its words need not be read. The cells of a block are given by their numbers in the
+//! planes `odd`, `right`, `down` and `even`. The first and the last are on one diagonal of the block, its main one, and
+//! the two others on the other one, whichever partition it belongs to.
+
+ghost use Rattle.bbm_rule.specs.Bits.{bit};
+ghost use Rattle.bbm_rule.specs.Marks.{IsUnmarked};
+ghost use Rattle.local_run.specs.Live.{AreMarked, AreUnmarked, HasCells, HasMarks, HasSameRoom, IsLoneAnti, IsLoneMain, MarksCell, TakesMark};
+ghost use Rattle.std.specs.Prelude.{ℕ, ◌≡◌, ◌/◌, ◌<◌, ◌≤◌, ◌%◌, ◌+◌, ◌*◌, ◌⊎◌, length, vec_len, IfOk, true, false};
+
+use crate::marks::{is_marked, mark_if, swap_marks};
+use crate::planes::Changes;
+use bbm_rule::marks::mark_all;
+use std::alloc::{AllocError, Global};
+
+/// For each plane a bit for each of its cells: one without a mark is dead under each assignment.
+#[derive(Drop)]
+pub struct LiveMarks {
+    /// Those of the plane `odd`.
+    pub odd: Vec<u64>,
+    /// Those of the plane `right`.
+    pub right: Vec<u64>,
+    /// Those of the plane `down`.
+    pub down: Vec<u64>,
+    /// Those of the plane `even`.
+    pub even: Vec<u64>,
+}
+
+impl LiveMarks {
+    /// Marks on all cells, in `long` words for each plane.
+    pub fn new(alloc: Global, long: usize) -> Result<LiveMarks, AllocError>
+        requires { long ≤ 64 }
+        ensures size { IfOk result (λ l. HasMarks (64 * long) l) }
+        ensures all { IfOk result (λ l. AreMarked (64 * long) l) }
+    {
+        let mut marks = LiveMarks {
+            odd: vec![in alloc; 0u64; long]?,
+            right: vec![in alloc; 0u64; long]?,
+            down: vec![in alloc; 0u64; long]?,
+            even: vec![in alloc; 0u64; long]?,
+        };
+        marks.mark_all();
+        Ok(marks)
+    }
+
+    /// Marks all cells.
+    pub fn mark_all(&mut self)
+        ensures room { HasSameRoom self.old self.new }
+        ensures all { (n : ℕ) → HasMarks n self.old → AreMarked n self.new }
+    {
+        mark_all(&mut self.odd);
+        mark_all(&mut self.right);
+        mark_all(&mut self.down);
+        mark_all(&mut self.even);
+    }
+
+    /// Returns a word of marks on the numbers of which a cell has a mark.
+    #[inline(always)]
+    pub fn word(&self, k: usize) -> u64
+        requires { HasCells self.now (64 * k) (64 * k) (64 * k) (64 * k) }
+        ensures { (u : ℕ) → u / 64 ≡ k → bit result (u % 64) ≡ false →
+            AreUnmarked self.now u u u u }
+    {
+        (self.odd[k] | self.right[k]) | (self.down[k] | self.even[k])
+    }
+
+    /// Returns whether no cell of a block has a mark.
+    #[inline(always)]
+    pub fn are_dead(&self, odd: usize, right: usize, down: usize, even: usize) -> bool
+        requires { HasCells self.now odd right down even }
+        ensures { result ≡ true → AreUnmarked self.now odd right down even }
+    {
+        !is_marked(&self.odd, odd)
+            && !is_marked(&self.right, right)
+            && !is_marked(&self.down, down)
+            && !is_marked(&self.even, even)
+    }
+
+    /// Returns whether no cell of a block has a mark but one of its main diagonal.
+    #[inline(always)]
+    pub fn is_lone_main(&self, odd: usize, right: usize, down: usize, even: usize) -> bool
+        requires { HasCells self.now odd right down even }
+        ensures { result ≡ true → IsLoneMain self.now odd right down even }
+    {
+        !is_marked(&self.right, right)
+            && !is_marked(&self.down, down)
+            && !(is_marked(&self.odd, odd) && is_marked(&self.even, even))
+    }
+
+    /// Returns whether no cell of a block has a mark but one of its other diagonal.
+    #[inline(always)]
+    pub fn is_lone_anti(&self, odd: usize, right: usize, down: usize, even: usize) -> bool
+        requires { HasCells self.now odd right down even }
+        ensures { result ≡ true → IsLoneAnti self.now odd right down even }
+    {
+        !is_marked(&self.odd, odd)
+            && !is_marked(&self.even, even)
+            && !(is_marked(&self.right, right) && is_marked(&self.down, down))
+    }
+
+    /// Marks the cells of a block that are on a diagonal that changes.
+    pub fn mark_cells(
+        &mut self,
+        odd: usize,
+        right: usize,
+        down: usize,
+        even: usize,
+        changes: Changes,
+    )
+        requires { HasCells self.old odd right down even }
+        ensures odd { MarksCell changes.main odd self.old.odd.items self.new.odd.items }
+        ensures right { MarksCell changes.anti right self.old.right.items self.new.right.items }
+        ensures down { MarksCell changes.anti down self.old.down.items self.new.down.items }
+        ensures even { MarksCell changes.main even self.old.even.items self.new.even.items }
+        ensures room { HasSameRoom self.old self.new }
+    {
+        mark_if(&mut self.odd, odd, changes.main);
+        mark_if(&mut self.right, right, changes.anti);
+        mark_if(&mut self.down, down, changes.anti);
+        mark_if(&mut self.even, even, changes.main);
+    }
+
+    /// Exchanges the marks of the cells of a block's main diagonal.
+    pub fn swap_main(&mut self, odd: usize, even: usize)
+        requires { (odd < 64 * vec_len self.old.odd) × (even < 64 * vec_len self.old.even) }
+        ensures odd { TakesMark odd even self.old.odd.items self.old.even.items
+            self.new.odd.items }
+        ensures right { self.new.right ≡ self.old.right }
+        ensures down { self.new.down ≡ self.old.down }
+        ensures even { TakesMark even odd self.old.even.items self.old.odd.items
+            self.new.even.items }
+        ensures room { HasSameRoom self.old self.new }
+    {
+        swap_marks(&mut self.odd, &mut self.even, odd, even);
+    }
+
+    /// Exchanges the marks of the cells of a block's other diagonal.
+    pub fn swap_anti(&mut self, right: usize, down: usize)
+        requires { (right < 64 * vec_len self.old.right) × (down < 64 * vec_len self.old.down) }
+        ensures odd { self.new.odd ≡ self.old.odd }
+        ensures right { TakesMark right down self.old.right.items self.old.down.items
+            self.new.right.items }
+        ensures down { TakesMark down right self.old.down.items self.old.right.items
+            self.new.down.items }
+        ensures even { self.new.even ≡ self.old.even }
+        ensures room { HasSameRoom self.old self.new }
+    {
+        swap_marks(&mut self.right, &mut self.down, right, down);
+    }
+}
