@@ -218,4 +218,4 @@ pub marked_odd : (marks : List ℕ) (p : Planes) → p.stride * p.rows ≤ 64 * 
 marked_odd marks p room all u l free = absurd (all u (omega (arith, room, l)) free)
 
 pub marked_even : (marks : List ℕ) (p : Planes) → p.stride * p.rows ≤ 64 * length marks → ((u : ℕ) → u < 64 * length marks → IsUnmarked marks u → ⊥) → EvenCalm marks p
-marked_even marks p room all u l free = absurd (all u (omega (arith, room, l)) free)
+marked_even marks p room all u l inside free = absurd (all u (omega (arith, room, l)) free)
