@@ -13,7 +13,7 @@ returns-in-Dead c =
     let j = c.args.job.now in
     end_least j c.args.values.now (assignments j) (λ a. lane c.args.field.now.planes a (1 + c.args.x) (1 + c.args.y)) Zero Demanded.Dead c.args.time c.args.kind _ _ _ (sym c.in-End.is) c.requires.sought
     (inner_in_box j.area c.args.x c.args.y c.requires.place.0 c.requires.place.1) (sym c.demand_at.ensures.is ∙ c.in-Dead.is) (λ v b h. h) (λ v b h. h)
-    (λ a l. c.requires.shows.cells a c.args.x c.args.y l c.requires.place.0 c.requires.place.1) (rw (c.planes-planes.ensures, c.requires.ready.count) at c.first_difference-in-Dead.ensures)
+    (λ a l. c.requires.shows.cells a c.args.x c.args.y l c.requires.place.0 c.requires.place.1) (rw c.requires.ready.count at c.first_live.ensures)
 
 pub returns-in-Live : goal.returns-in-Live
 returns-in-Live c =
