@@ -1,6 +1,6 @@
 -- Which blocks are still known to stay, after cells or marks changed
-use Rattle.std.proofs.Common.{◌≡◌, ◌≢◌, ℕ, Bool, true, false, ◌<◌, ◌≤◌, ◌+◌, ◌*◌, arith, refl, sym, ◌∙◌, subst, List}
-use Rattle.std.proofs.Common.{get_or, inl, inr}
+use Rattle.std.proofs.Common.{◌≡◌, ◌≢◌, ℕ, Bool, true, false, ◌<◌, ◌≤◌, ◌+◌, ◌*◌, ◌%◌, arith, refl, sym, ◌∙◌, ap, subst}
+use Rattle.std.proofs.Common.{List, get_or, inl, inr}
 use Rattle.std.proofs.lemmas.Bool.{cases_Bool}
 use Rattle.std.proofs.Math.Nat.{mul-le-mul_left}
 use Rattle.bbm_rule.specs.Rows.{SetsPlace}
@@ -95,9 +95,9 @@ even_kept : (main anti : Bool) (a b c d : ℕ) (m m' : List ℕ) (p q : Planes) 
     ChangesCells main anti a b c d p q →
     ((u : ℕ) → IsUnmarked m' u → IsUnmarked m u × (main ≡ true → (u ≢ d) × (u + p.stride + 1 ≢ a))
     × (anti ≡ true → (u + 1 ≢ c) × (u + p.stride ≢ b))) → EvenCalm m p → EvenCalm m' q
-even_kept main anti a b c d m m' p q size ch marks calm = rw (size.0, size.1, size.2) (λ u l free.
+even_kept main anti a b c d m m' p q size ch marks calm = rw (size.0, size.1, size.2) (λ u l inside free.
     let f = marks u free in
-    let h = calm u l f.0 in (
+    let h = calm u l inside f.0 in (
       λ k i. rw (
         ch.even_same u k i (λ e. (f.1 e).0),
         ch.down_same (u + 1) k i (λ e. (f.2 e).0),
@@ -155,10 +155,17 @@ odd_unmarked c m m' p sets block calm u l free = by_eq_or_not u c
 pub even_unmarked : (c : ℕ) (m m' : List ℕ) (p : Planes) → SetsPlace c false m m' →
     IsCalmBlock p.words c (c + 1) (c + p.stride)
     (c + p.stride + 1) p.even.items p.down.items p.right.items p.odd.items → EvenCalm m p → EvenCalm m' p
-even_unmarked c m m' p sets block calm u l free = by_eq_or_not u c
+even_unmarked c m m' p sets block calm u l inside free = by_eq_or_not u c
     (λ e. subst (λ (v : ℕ). IsCalmBlock p.words v (v + 1) (v + p.stride)
     (v + p.stride + 1) p.even.items p.down.items p.right.items p.odd.items) (sym e) block)
-    (λ ne. calm u l (sym (sets.elsewhere u ne) ∙ free))
+    (λ ne. calm u l inside (sym (sets.elsewhere u ne) ∙ free))
+
+-- or off the last one of a row, of which nothing is known
+pub last_unmarked : (c : ℕ) (m m' : List ℕ) (p : Planes) → SetsPlace c false m m' → (c + 1) % p.stride ≡ 0 →
+    EvenCalm m p → EvenCalm m' p
+last_unmarked c m m' p sets last calm u l inside free = by_eq_or_not u c
+    (λ e. absurd (inside (ap (λ (n : ℕ). (n + 1) % p.stride) e ∙ last)))
+    (λ ne. calm u l inside (sym (sets.elsewhere u ne) ∙ free))
 
 -- ---- cells that change one after another
 pub no_cells : (main anti : Bool) (a b c d : ℕ) (p : Planes) → ChangesCells main anti a b c d p p

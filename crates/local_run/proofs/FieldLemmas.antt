@@ -1,5 +1,9 @@
 -- Steps that pass over the blocks that stay
-use Rattle.std.proofs.Common.{◌≡◌, ℕ, ◌<◌, ◌≤◌, ◌+◌, ◌-◌, ◌*◌, refl, arith, ◌∙◌, ap, List, length}
+use Rattle.std.proofs.Common.{◌≡◌, ◌≢◌, ℕ, ◌<◌, ◌≤◌, ◌+◌, ◌-◌, ◌*◌, ◌%◌, refl, arith, sym, ◌∙◌, ap, List, length}
+use Rattle.std.proofs.Common.{get_or}
+use Rattle.std.proofs.Math.Nat.{mul-le-mul_left}
+use Rattle.bbm_rule.specs.Words.{AreTurned}
+use Rattle.bbm_rule.proofs.BitLemmas.{by_eq_or_not, by_lt_or_le}
 use Rattle.bbm_rule.specs.Plane.{turned}
 use Rattle.bbm_rule.specs.Rows.{mate}
 use Rattle.bbm_rule.specs.Marks.{IsUnmarked}
@@ -7,8 +11,10 @@ use Rattle.local_run.specs.Turns.{TurnsPart}
 use Rattle.local_run.specs.Calm.{OddCalm, EvenCalm}
 use Rattle.local_run.specs.Lanes.{HasSize, lane}
 use Rattle.local_run.specs.declared.planes.Planes.{Planes}
-use Rattle.local_run.proofs.TurnLemmas.{calm_part, part_after}
-use Rattle.local_run.proofs.LaneLemmas.{odd_lane, even_lane}
+use Rattle.local_run.proofs.TurnLemmas.{calm_part, calm_turned, part_after}
+use Rattle.local_run.proofs.CalmLemmas.{other_cell}
+use Rattle.local_run.proofs.InsideLemmas.{next_in_row}
+use Rattle.local_run.proofs.LaneLemmas.{inner_lane, odd_lane}
 
 by_sum : (u d v w : ℕ) → v ≡ u + d → w * v ≡ w * u + w * d
 by_sum u d v w e = rw e (omega arith)
@@ -83,97 +89,138 @@ pub odd_all : (p q : Planes) (u : ℕ) → HasSize p.words p.stride p.rows q →
 odd_all p q u size e part = odd_lane p q size (λ k l. let h = part.turned k (rw e l) in rw (none_before k) at h)
 
 -- ---- the even partition
-pub even_skip : (p : Planes) (marks : List ℕ) (u v a b c d long : ℕ) → a ≡ p.words * u → b ≡ p.words * (u + 1) →
-    c ≡ p.words * (u + p.stride) → d ≡ p.words * (u + p.stride + 1) → long ≡ p.words * (v - u) →
-    0 < p.words → EvenCalm marks p → u ≤ v → v + p.stride + 1 ≤ p.stride * p.rows →
-    ((n : ℕ) → u ≤ n → n < v → IsUnmarked marks n) → TurnsEven a b c d long p p
-even_skip p marks u v a b c d long ea eb ec ed el some calm le room free =
-    let h = calm_part p.words 0 1 p.stride
-    (p.stride + 1) u v long p.even.items p.down.items p.right.items p.odd.items some el le
-    (λ n l h. let f : n + (p.stride + 1) ≡ n + p.stride + 1 = omega arith in
-    rw (none_more n, f) (calm n (omega arith) (free n l h))) in
-    let f : u + (p.stride + 1) ≡ u + p.stride + 1 = omega arith in
-    let h = rw (none_more u, f) at h in rw (ea, eb, ec, ed) h
+-- The blocks before number u are turned, but for the last ones of the rows, and no cell of the others has changed
+pub record TurnsInside (u : ℕ) (p q : Planes) : Type 0 where
+  pub turned : (n k : ℕ) → n < u → k < p.words → (n + 1) % p.stride ≢ 0 →
+      AreTurned (get_or p.even.items (p.words * n + k) 0) (get_or p.down.items (p.words * (n + 1) + k) 0)
+      (get_or p.right.items (p.words * (n + p.stride) + k) 0) (get_or p.odd.items (p.words * (n + p.stride + 1) + k) 0)
+      (get_or q.even.items (p.words * n + k) 0) (get_or q.down.items (p.words * (n + 1) + k) 0)
+      (get_or q.right.items (p.words * (n + p.stride) + k) 0) (get_or q.odd.items (p.words * (n + p.stride + 1) + k) 0)
+  pub even : (n k : ℕ) → u ≤ n → k < p.words →
+      get_or q.even.items (p.words * n + k) 0 ≡ get_or p.even.items (p.words * n + k) 0
+  pub down : (n k : ℕ) → u ≤ n → k < p.words →
+      get_or q.down.items (p.words * (n + 1) + k) 0 ≡ get_or p.down.items (p.words * (n + 1) + k) 0
+  pub right : (n k : ℕ) → u ≤ n → k < p.words →
+      get_or q.right.items (p.words * (n + p.stride) + k) 0 ≡ get_or p.right.items (p.words * (n + p.stride) + k) 0
+  pub odd : (n k : ℕ) → u ≤ n → k < p.words →
+      get_or q.odd.items (p.words * (n + p.stride + 1) + k) 0 ≡ get_or p.odd.items (p.words * (n + p.stride + 1) + k) 0
 
-pub even_first : (p : Planes) (marks : List ℕ) (v : ℕ) → 0 < p.words → EvenCalm marks p →
-    v + p.stride + 1 ≤ p.stride * p.rows → ((n : ℕ) → 0 ≤ n → n < v → IsUnmarked marks n) →
-    TurnsEven 0 p.words (p.words * p.stride) (p.words * (p.stride + 1)) (p.words * v) p p
-even_first p marks v some calm room free =
-    even_skip p marks 0 v _ _ _ _ (p.words * v) (omega arith) (omega arith) (omega arith) (omega arith)
-    (let e : v - 0 ≡ v = omega arith in rw e refl) some calm (omega arith) room free
+turned_before : (a b c d a' b' c' d' e f g h : ℕ) → a' ≡ a → b' ≡ b → c' ≡ c → d' ≡ d → AreTurned a' b' c' d' e f g h →
+    AreTurned a b c d e f g h
+turned_before a b c d a' b' c' d' e f g h ea eb ec ed t = rw (ea, eb, ec, ed) at t
 
-pub even_next : (p q r : Planes) (marks : List ℕ) (u v : ℕ) → HasSize p.words p.stride p.rows q →
-    HasSize q.words q.stride q.rows r → 0 < p.words →
-    TurnsEven 0 p.words (p.words * p.stride) (p.words * (p.stride + 1)) (p.words * u) p q →
-    TurnsEven (q.words * u) (q.words * (u + 1)) (q.words * (u + q.stride)) (q.words * (u + q.stride + 1)) q.words q r →
-    EvenCalm marks r → u + 1 ≤ v → v + p.stride + 1 ≤ p.stride * p.rows →
-    ((n : ℕ) → u + 1 ≤ n → n < v → IsUnmarked marks n) →
-    TurnsEven 0 p.words (p.words * p.stride) (p.words * (p.stride + 1)) (p.words * v) p r
-even_next p q r marks u v sq sr some first second calm le room free =
-    part_after _ _ _ _ (p.words * (u + 1)) (p.words * (v - (u + 1))) (p.words * v) _ _ _ _ _ _ _ _ _ _ _ _ _ _ _ _
-    refl refl refl refl (long_of v (u + 1) p.words le) both rest
+turned_after : (a b c d e f g h e' f' g' h' : ℕ) → e' ≡ e → f' ≡ f → g' ≡ g → h' ≡ h → AreTurned a b c d e f g h →
+    AreTurned a b c d e' f' g' h'
+turned_after a b c d e f g h e' f' g' h' ee ef eg eh t = rw (ee, ef, eg, eh) t
+
+-- the blocks from number u to below v stay
+inside_skip : (p q : Planes) (marks : List ℕ) (u v : ℕ) → HasSize p.words p.stride p.rows q → EvenCalm marks q →
+    v + p.stride + 1 ≤ p.stride * p.rows → ((n : ℕ) → u ≤ n → n < v → IsUnmarked marks n) →
+    TurnsInside u p q → u ≤ v → TurnsInside v p q
+inside_skip p q marks u v size calm room free t le = record {
+  turned = λ n k l lk inside. by_lt_or_le n u (λ h. t.turned n k h lk inside)
+      (λ h. let c = calm in let c = rw (size.0, size.1, size.2) at c in let b = c n (omega arith) inside (free n h l) in
+      turned_before _ _ _ _ _ _ _ _ _ _ _ _ (t.even n k h lk) (t.down n k h lk) (t.right n k h lk) (t.odd n k h lk)
+      (calm_turned _ _ _ _ (b.0 k lk) (b.1 k lk)));
+  even = λ n k h. t.even n k (omega arith);
+  down = λ n k h. t.down n k (omega arith);
+  right = λ n k h. t.right n k (omega arith);
+  odd = λ n k h. t.odd n k (omega arith);
+}
+
+inside_none : (p : Planes) → TurnsInside 0 p p
+inside_none p = record {
+  turned = λ n k l lk inside. absurd (omega arith);
+  even = λ n k h lk. refl;
+  down = λ n k h lk. refl;
+  right = λ n k h lk. refl;
+  odd = λ n k h lk. refl;
+}
+
+pub inside_first : (p : Planes) (marks : List ℕ) (v : ℕ) → EvenCalm marks p → v + p.stride + 1 ≤ p.stride * p.rows →
+    ((n : ℕ) → 0 ≤ n → n < v → IsUnmarked marks n) → TurnsInside v p p
+inside_first p marks v calm room free =
+    inside_skip p p marks 0 v (refl, refl, refl) calm room free (inside_none p) (omega arith)
+
+-- the last block of a row stays
+inside_last : (u : ℕ) (p q r : Planes) → r ≡ q → (u + 1) % p.stride ≡ 0 → TurnsInside u p q → TurnsInside (u + 1) p r
+inside_last u p q r e last t = rw e (record {
+  turned = λ n k l lk inside. by_eq_or_not n u
+      (λ same. absurd (inside (ap (λ (m : ℕ). (m + 1) % p.stride) same ∙ last)))
+      (λ ne. t.turned n k (omega (arith, ne, l)) lk inside);
+  even = λ n k h. t.even n k (omega arith);
+  down = λ n k h. t.down n k (omega arith);
+  right = λ n k h. t.right n k (omega arith);
+  odd = λ n k h. t.odd n k (omega arith);
+})
+
+inside_turned : (u : ℕ) (p q r : Planes) →
+    TurnsEven (p.words * u) (p.words * (u + 1)) (p.words * (u + p.stride)) (p.words * (u + p.stride + 1)) p.words q r →
+    TurnsInside u p q → TurnsInside (u + 1) p r
+inside_turned u p q r part t = record {
+  turned = λ n k l lk inside. by_eq_or_not n u
+      (λ same. rw same (turned_before _ _ _ _ _ _ _ _ _ _ _ _ (t.even u k (omega arith) lk)
+      (t.down u k (omega arith) lk) (t.right u k (omega arith) lk) (t.odd u k (omega arith) lk) (part.turned k lk)))
+      (λ ne. turned_after _ _ _ _ _ _ _ _ _ _ _ _ (even_same n k lk ne) (down_same n k lk ne) (right_same n k lk ne)
+      (odd_same n k lk ne) (t.turned n k (omega (arith, ne, l)) lk inside));
+  even = λ n k h lk. even_same n k lk (λ e. omega (arith, e, h)) ∙ t.even n k (omega arith) lk;
+  down = λ n k h lk. down_same n k lk (λ e. omega (arith, e, h)) ∙ t.down n k (omega arith) lk;
+  right = λ n k h lk. right_same n k lk (λ e. omega (arith, e, h)) ∙ t.right n k (omega arith) lk;
+  odd = λ n k h lk. odd_same n k lk (λ e. omega (arith, e, h)) ∙ t.odd n k (omega arith) lk;
+}
   where
-    second' : TurnsEven (p.words * u) (p.words * (u + 1)) (p.words * (u + p.stride))
+    even_same : (n k : ℕ) → k < p.words → n ≢ u →
+        get_or r.even.items (p.words * n + k) 0 ≡ get_or q.even.items (p.words * n + k) 0
+    even_same n k lk ne = other_cell p.words u n k q.even.items r.even.items part.upper_left lk ne
+
+    down_same : (n k : ℕ) → k < p.words → n ≢ u →
+        get_or r.down.items (p.words * (n + 1) + k) 0 ≡ get_or q.down.items (p.words * (n + 1) + k) 0
+    down_same n k lk ne = other_cell p.words (u + 1) (n + 1) k q.down.items r.down.items part.upper_right lk
+        (λ e. ne (omega (arith, e)))
+
+    right_same : (n k : ℕ) → k < p.words → n ≢ u →
+        get_or r.right.items (p.words * (n + p.stride) + k) 0 ≡ get_or q.right.items (p.words * (n + p.stride) + k) 0
+    right_same n k lk ne = other_cell p.words (u + p.stride)
+        (n + p.stride) k q.right.items r.right.items part.lower_left lk (λ e. ne (omega (arith, e)))
+
+    odd_same : (n k : ℕ) → k < p.words → n ≢ u →
+        get_or r.odd.items (p.words * (n + p.stride + 1) + k) 0
+        ≡ get_or q.odd.items (p.words * (n + p.stride + 1) + k) 0
+    odd_same n k lk ne = other_cell p.words (u + p.stride + 1)
+        (n + p.stride + 1) k q.odd.items r.odd.items part.lower_right lk (λ e. ne (omega (arith, e)))
+
+pub inside_next : (p q r : Planes) (marks : List ℕ) (u v : ℕ) → HasSize p.words p.stride p.rows q →
+    HasSize q.words q.stride q.rows r → TurnsInside u p q →
+    ((u + 1) % q.stride ≢ 0 → TurnsEven (q.words * u) (q.words * (u + 1)) (q.words * (u + q.stride))
+    (q.words * (u + q.stride + 1)) q.words q r) → ((u + 1) % q.stride ≡ 0 → r ≡ q) →
+    EvenCalm marks r → u + 1 ≤ v → v + p.stride + 1 ≤ p.stride * p.rows →
+    ((n : ℕ) → u + 1 ≤ n → n < v → IsUnmarked marks n) → TurnsInside v p r
+inside_next p q r marks u v sq sr first part last calm le room free =
+    inside_skip p r marks (u + 1) v (sr.0 ∙ sq.0, sr.1 ∙ sq.1, sr.2 ∙ sq.2) calm room free
+    (by_eq_or_not ((u + 1) % p.stride) 0
+    (λ e. inside_last u p q r (last (ap (λ (s : ℕ). (u + 1) % s) sq.1 ∙ e)) e first)
+    (λ ne. inside_turned u p q r (part' (part (λ e. ne (sym (ap (λ (s : ℕ). (u + 1) % s) sq.1) ∙ e)))) first)) le
+  where
+    part' : TurnsEven (q.words * u) (q.words * (u + 1)) (q.words * (u + q.stride))
+        (q.words * (u + q.stride + 1)) q.words q r →
+        TurnsEven (p.words * u) (p.words * (u + 1)) (p.words * (u + p.stride))
         (p.words * (u + p.stride + 1)) p.words q r
-    second' = let h = second in rw (sq.0, sq.1) at h
+    part' h = rw (sq.0, sq.1) at h
 
-    both : TurnsEven 0 p.words (p.words * p.stride) (p.words * (p.stride + 1)) (p.words * (u + 1)) p r
-    both = part_after 0 p.words (p.words * p.stride) (p.words * (p.stride + 1)) (p.words * u) p.words
-        (p.words * (u + 1)) (p.words * u) (p.words * (u + 1)) (p.words * (u + p.stride))
-        (p.words * (u + p.stride + 1)) _ _ _ _ _ _ _ _ _ _ _ _
-        (omega arith) (omega arith) (omega arith) (omega arith) (omega arith) first second'
-
-    calm' : EvenCalm marks r
-    calm' = calm
-
-    rest : TurnsEven (0 + p.words * (u + 1)) (p.words + p.words * (u + 1)) (p.words * p.stride + p.words * (u + 1))
-        (p.words * (p.stride + 1) + p.words * (u + 1)) (p.words * (v - (u + 1))) r r
-    rest = even_skip r marks (u + 1) v _ _ _ _ _ (at 0 (sr.0 ∙ sq.0)) (at_b (sr.0 ∙ sq.0))
-        (at_c (sr.0 ∙ sq.0) (sr.1 ∙ sq.1)) (at_d (sr.0 ∙ sq.0) (sr.1 ∙ sq.1)) (at_long (sr.0 ∙ sq.0))
-        (some_of (sr.0 ∙ sq.0)) calm' le (room_of (sr.1 ∙ sq.1) (sr.2 ∙ sq.2)) free
-      where
-        at : (z : ℕ) → r.words ≡ p.words → 0 + p.words * (u + 1) ≡ r.words * (u + 1)
-        at z e = rw e (omega arith)
-
-        at_b : r.words ≡ p.words → p.words + p.words * (u + 1) ≡ r.words * (u + 1 + 1)
-        at_b e = rw e (omega arith)
-
-        at_c : r.words ≡ p.words → r.stride ≡ p.stride →
-            p.words * p.stride + p.words * (u + 1) ≡ r.words * (u + 1 + r.stride)
-        at_c e f = rw (e, f) (omega arith)
-
-        at_d : r.words ≡ p.words → r.stride ≡ p.stride →
-            p.words * (p.stride + 1) + p.words * (u + 1) ≡ r.words * (u + 1 + r.stride + 1)
-        at_d e f = rw (e, f) (omega arith)
-
-        at_long : r.words ≡ p.words → p.words * (v - (u + 1)) ≡ r.words * (v - (u + 1))
-        at_long e = rw e refl
-
-        some_of : r.words ≡ p.words → 0 < r.words
-        some_of e = rw e some
-
-        room_of : r.stride ≡ p.stride → r.rows ≡ p.rows → v + r.stride + 1 ≤ r.stride * r.rows
-        room_of e f = rw (e, f) room
-
-pub even_all : (p q : Planes) (u : ℕ) → HasSize p.words p.stride p.rows q → u + p.stride + 1 ≡ p.stride * p.rows →
-    p.words * (p.stride * p.rows) ≡ length p.even.items →
-    TurnsEven 0 p.words (p.words * p.stride) (p.words * (p.stride + 1)) (p.words * u) p q →
+pub inside_all : (p q : Planes) (u : ℕ) → HasSize p.words p.stride p.rows q → u + p.stride + 1 ≡ p.stride * p.rows →
+    TurnsInside u p q →
     (a x y : ℕ) → a < 64 * p.words → x + 2 < 2 * p.stride → y + 2 < 2 * p.rows →
     lane q a (1 + x) (1 + y) ≡ turned (lane p a (1 + x) (1 + y)) (lane p a (1 + mate x) (1 + mate y))
     (lane p a (1 + mate x) (1 + y)) (lane p a (1 + x) (1 + mate y))
-even_all p q u size e total part = even_lane p q size total (record {
-  turned = λ k l.
-      let w : p.words * (p.stride * p.rows) ≡ p.words * u + p.words * p.stride + p.words = by_total e in
-      let eb : p.words + k ≡ k + p.words = omega arith in
-      let ec : p.words * p.stride + k ≡ k + p.words * p.stride = omega arith in
-      let ed : p.words * (p.stride + 1) + k ≡ k + p.words * p.stride + p.words = omega arith in
-      let h = part.turned k (omega (arith, w, total, l)) in
-      rw (none_before k, eb, ec, ed) at h;
-})
+inside_all p q u size e t = inner_lane p q size (λ i j k li lj lk.
+    let down : p.stride * j + i + 1 ≡ p.stride * j + (1 + i) = omega arith in
+    let right : p.stride * j + i + p.stride ≡ p.stride * (1 + j) + i = omega arith in
+    let odd : p.stride * j + i + p.stride + 1 ≡ p.stride * (1 + j) + (1 + i) = omega arith in
+    let below : p.stride * (1 + j) + (1 + i) < p.stride * p.rows = let m : p.stride * (1 + j + 1) ≤ p.stride * p.rows =
+    mul-le-mul_left p.stride (omega arith) in omega arith in
+    let h = t.turned (p.stride * j + i) k (omega (arith, below, e)) lk
+    (λ z. zero_not i (sym (next_in_row p.stride j i (omega arith)) ∙ z)) in
+    rw (odd, right, down) at h)
   where
-    by_total : u + p.stride + 1 ≡ p.stride * p.rows →
-        p.words * (p.stride * p.rows) ≡ p.words * u + p.words * p.stride + p.words
-    by_total e = rw (sym' e) (omega arith)
-      where
-        sym' : {a b : ℕ} → a ≡ b → b ≡ a
-        sym' e = omega arith
+    zero_not : (i : ℕ) → i + 1 ≡ 0 → ⊥
+    zero_not i z = omega arith

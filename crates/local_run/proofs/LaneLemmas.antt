@@ -15,7 +15,7 @@ use Rattle.bbm_rule.proofs.PairLemmas.{mate_even, mate_odd}
 use Rattle.local_run.specs.declared.planes.Planes.{Planes}
 use Rattle.local_run.specs.Lanes.{HasSize, lane, plane_of}
 
-abbrev place : Planes → ℕ → ℕ → ℕ → ℕ
+abbrev pub place : Planes → ℕ → ℕ → ℕ → ℕ
 place p i j k = p.words * (p.stride * j + i) + k
 
 lane_ul : (p : Planes) (a i j : ℕ) →
@@ -198,14 +198,16 @@ across_turned across below n n0 n1 n2 n3 ul ur dl dr a b c d e0 e1 e2 e3 total l
 }
 
 -- the same for the blocks between the cells of four planes, where the ring is left out
-pub even_lane : (p q : Planes) → HasSize p.words p.stride p.rows q →
-    p.words * (p.stride * p.rows) ≡ length p.even.items →
-    TurnsAcross p.words (p.words * p.stride) p.even.items p.down.items p.right.items p.odd.items q.even.items
-    q.down.items q.right.items q.odd.items → (a x y : ℕ) → a < 64 * p.words → x + 2 < 2 * p.stride →
-    y + 2 < 2 * p.rows → lane q a (1 + x) (1 + y)
-    ≡ turned (lane p a (1 + x) (1 + y)) (lane p a (1 + mate x) (1 + mate y)) (lane p a (1 + mate x) (1 + y))
-    (lane p a (1 + x) (1 + mate y))
-even_lane p q size total turns a x y la lx ly =
+pub inner_lane : (p q : Planes) → HasSize p.words p.stride p.rows q →
+    ((i j k : ℕ) → 1 + i < p.stride → 1 + j < p.rows → k < p.words →
+    AreTurned (get_or p.even.items (place p i j k) 0) (get_or p.down.items (place p (1 + i) j k) 0)
+    (get_or p.right.items (place p i (1 + j) k) 0) (get_or p.odd.items (place p (1 + i) (1 + j) k) 0)
+    (get_or q.even.items (place p i j k) 0) (get_or q.down.items (place p (1 + i) j k) 0)
+    (get_or q.right.items (place p i (1 + j) k) 0) (get_or q.odd.items (place p (1 + i) (1 + j) k) 0)) → (a x y : ℕ) →
+    a < 64 * p.words → x + 2 < 2 * p.stride → y + 2 < 2 * p.rows →
+    lane q a (1 + x) (1 + y) ≡ turned (lane p a (1 + x) (1 + y)) (lane p a (1 + mate x) (1 + mate y))
+    (lane p a (1 + mate x) (1 + y)) (lane p a (1 + x) (1 + mate y))
+inner_lane p q size turns a x y la lx ly =
     by_eq_or_not (x % 2) 0
     (λ ex. by_eq_or_not (y % 2) 0
     (λ ey. at_ul (x / 2) (y / 2) (omega arith) (omega arith) (omega arith) (omega arith))
@@ -214,25 +216,12 @@ even_lane p q size total turns a x y la lx ly =
     (λ ey. at_ur (x / 2) (y / 2) (omega arith) (omega arith) (omega arith) (omega arith))
     (λ oy. at_dr (x / 2) (y / 2) (omega arith) (omega arith) (omega arith) (omega arith)))
   where
-    right_place : (i j : ℕ) → place p (1 + i) j (a / 64) ≡ place p i j (a / 64) + p.words
-    right_place i j = omega arith
-
-    down_place : (i j : ℕ) → place p i (1 + j) (a / 64) ≡ place p i j (a / 64) + p.words * p.stride
-    down_place i j = omega arith
-
-    both_place : (i j : ℕ) → place p (1 + i) (1 + j) (a / 64) ≡ place p i j (a / 64) + p.words * p.stride + p.words
-    both_place i j = omega arith
-
     turned_at : (i j : ℕ) → 1 + i < p.stride → 1 + j < p.rows →
         AreTurned (get_or p.even.items (place p i j (a / 64)) 0) (get_or p.down.items (place p (1 + i) j (a / 64)) 0)
         (get_or p.right.items (place p i (1 + j) (a / 64)) 0) (get_or p.odd.items (place p (1 + i) (1 + j) (a / 64)) 0)
         (get_or q.even.items (place p i j (a / 64)) 0) (get_or q.down.items (place p (1 + i) j (a / 64)) 0)
         (get_or q.right.items (place p i (1 + j) (a / 64)) 0) (get_or q.odd.items (place p (1 + i) (1 + j) (a / 64)) 0)
-    turned_at i j li lj =
-        let below : place p (1 + i) (1 + j) (a / 64) < p.words * (p.stride * p.rows) =
-        place_below p.words p.stride p.rows (1 + i) (1 + j) (a / 64) li lj (omega arith) in
-        rw (both_place i j, right_place i j, down_place i j)
-        (turns.turned (place p i j (a / 64)) (omega (arith, both_place i j)))
+    turned_at i j li lj = turns i j (a / 64) li lj (omega arith)
 
     same_place : (i j k : ℕ) → place q i j k ≡ place p i j k
     same_place i j k = rw (size.0, size.1) refl
@@ -311,3 +300,33 @@ even_lane p q size total turns a x y la lx ly =
       lane_ur p a i (1 + j),
       lane_ul p a (1 + i) (1 + j),
     ) ((turned_at i j li lj).lower_right (a % 64))
+
+-- where the words of all blocks are turned, one after another
+pub even_lane : (p q : Planes) → HasSize p.words p.stride p.rows q →
+    p.words * (p.stride * p.rows) ≡ length p.even.items →
+    TurnsAcross p.words (p.words * p.stride) p.even.items p.down.items p.right.items p.odd.items q.even.items
+    q.down.items q.right.items q.odd.items → (a x y : ℕ) → a < 64 * p.words → x + 2 < 2 * p.stride →
+    y + 2 < 2 * p.rows → lane q a (1 + x) (1 + y)
+    ≡ turned (lane p a (1 + x) (1 + y)) (lane p a (1 + mate x) (1 + mate y)) (lane p a (1 + mate x) (1 + y))
+    (lane p a (1 + x) (1 + mate y))
+even_lane p q size total turns = inner_lane p q size turned_at
+  where
+    right_place : (i j k : ℕ) → place p (1 + i) j k ≡ place p i j k + p.words
+    right_place i j k = omega arith
+
+    down_place : (i j k : ℕ) → place p i (1 + j) k ≡ place p i j k + p.words * p.stride
+    down_place i j k = omega arith
+
+    both_place : (i j k : ℕ) → place p (1 + i) (1 + j) k ≡ place p i j k + p.words * p.stride + p.words
+    both_place i j k = omega arith
+
+    turned_at : (i j k : ℕ) → 1 + i < p.stride → 1 + j < p.rows → k < p.words →
+        AreTurned (get_or p.even.items (place p i j k) 0) (get_or p.down.items (place p (1 + i) j k) 0)
+        (get_or p.right.items (place p i (1 + j) k) 0) (get_or p.odd.items (place p (1 + i) (1 + j) k) 0)
+        (get_or q.even.items (place p i j k) 0) (get_or q.down.items (place p (1 + i) j k) 0)
+        (get_or q.right.items (place p i (1 + j) k) 0) (get_or q.odd.items (place p (1 + i) (1 + j) k) 0)
+    turned_at i j k li lj lk =
+        let below : place p (1 + i) (1 + j) k < p.words * (p.stride * p.rows) =
+        place_below p.words p.stride p.rows (1 + i) (1 + j) k li lj lk in
+        rw (both_place i j k, right_place i j k, down_place i j k)
+        (turns.turned (place p i j k) (omega (arith, both_place i j k)))

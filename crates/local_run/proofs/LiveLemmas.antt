@@ -266,4 +266,4 @@ marked_odd marks p room all u l free = absurd (all u (omega (arith, room, l)) fr
 
 pub marked_even : (marks : List ℕ) (p : Planes) → p.stride * p.rows ≤ 64 * length marks →
     ((u : ℕ) → u < 64 * length marks → IsUnmarked marks u → ⊥) → EvenCalm marks p
-marked_even marks p room all u l free = absurd (all u (omega (arith, room, l)) free)
+marked_even marks p room all u l inside free = absurd (all u (omega (arith, room, l)) free)

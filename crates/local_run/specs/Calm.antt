@@ -1,5 +1,5 @@
 -- The blocks of four planes that have no mark
-use Rattle.std.specs.Prelude.{◌≡◌, ◌≢◌, Bool, true, ℕ, ◌+◌, ◌*◌, ◌<◌, List, slice_index}
+use Rattle.std.specs.Prelude.{◌≡◌, ◌≢◌, Bool, true, ℕ, ◌+◌, ◌*◌, ◌%◌, ◌<◌, List, slice_index}
 use Rattle.std.proofs.Props.{props}
 use Rattle.bbm_rule.specs.Marks.{IsUnmarked}
 use Rattle.local_run.specs.Turns.{IsCalmBlock}
@@ -10,9 +10,9 @@ abbrev pub OddCalm : List ℕ → Planes → Type 0
 OddCalm marks p = (u : ℕ) → u < p.stride * p.rows → IsUnmarked marks u →
     IsCalmBlock p.words u u u u p.odd.items p.right.items p.down.items p.even.items
 
--- so do those of the even partition inside the box
+-- so do those of the even partition inside the box: the last block of a row is not
 abbrev pub EvenCalm : List ℕ → Planes → Type 0
-EvenCalm marks p = (u : ℕ) → u + p.stride + 1 < p.stride * p.rows → IsUnmarked marks u →
+EvenCalm marks p = (u : ℕ) → u + p.stride + 1 < p.stride * p.rows → (u + 1) % p.stride ≢ 0 → IsUnmarked marks u →
     IsCalmBlock p.words u (u + 1) (u + p.stride) (u + p.stride + 1) p.even.items p.down.items p.right.items p.odd.items
 
 -- the cells with a number are dead under each assignment, one in each plane

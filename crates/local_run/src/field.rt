@@ -11,7 +11,7 @@ ghost use Rattle.local_run.specs.Borders.{AllInner, AllInner-prop, ArePassed};
 ghost use Rattle.local_run.specs.Calm.{OddCalm, OddCalm-prop, EvenCalm, EvenCalm-prop};
 ghost use Rattle.local_run.specs.Live.{AllDead, AllDead-prop, HasMarks};
 ghost use Rattle.std.specs.Int.{div_ceil};
-ghost use Rattle.std.specs.Prelude.{ℕ, ◌≡◌, ◌+◌, ◌*◌, ◌/◌, ◌%◌, ◌<◌, ◌≤◌, ◌⊎◌, vec_len, IfOk, false};
+ghost use Rattle.std.specs.Prelude.{ℕ, ◌≡◌, ◌≢◌, ◌+◌, ◌*◌, ◌/◌, ◌%◌, ◌<◌, ◌≤◌, ◌⊎◌, vec_len, IfOk, false};
 
 use crate::lines::{CELL_WORDS, LinePlaces, line_number, mark_lines};
 use crate::live::LiveMarks;
@@ -32,6 +32,8 @@ pub struct Field {
     even_marks: Vec<u64>,
     // and for each cell: those without a mark are dead
     live_marks: LiveMarks,
+    // whether each cell with a mark is known to be live, so that one that is alone in its block may move unread
+    is_exact: bool,
     // and for the numbers of cells of ring and halo
     border_marks: Vec<u64>,
     // and for those of which an edge or halo line says something at the time that is looked at, and for these cells
@@ -90,6 +92,7 @@ impl Field {
             odd_marks,
             even_marks,
             live_marks,
+            is_exact: false,
             border_marks,
             line_marks,
             line_places: LinePlaces::first(),
@@ -262,11 +265,11 @@ impl Field {
             unmark(&mut self.odd_marks, u);
             return false;
         }
-        if self.live_marks.is_lone_main(u, u, u, u) {
+        if self.is_exact && self.live_marks.is_lone_main(u, u, u, u) {
             self.move_odd_main(u);
             return true;
         }
-        if self.live_marks.is_lone_anti(u, u, u, u) {
+        if self.is_exact && self.live_marks.is_lone_anti(u, u, u, u) {
             self.move_odd_anti(u);
             return true;
         }
@@ -287,8 +290,6 @@ impl Field {
             self.old.planes.odd.items self.new.planes.even.items self.new.planes.down.items
             self.new.planes.right.items self.new.planes.odd.items }
         ensures size { HasSize self.old.planes.words self.old.planes.stride self.old.planes.rows
-            self.new.planes }
-        ensures last { (u + 1) % self.old.planes.stride ≡ 0 → SameInside self.old.planes
             self.new.planes }
     {
         let stride = self.planes.stride();
@@ -311,8 +312,6 @@ impl Field {
             self.new.planes.right.items self.new.planes.odd.items }
         ensures size { HasSize self.old.planes.words self.old.planes.stride self.old.planes.rows
             self.new.planes }
-        ensures last { (u + 1) % self.old.planes.stride ≡ 0 → SameInside self.old.planes
-            self.new.planes }
     {
         let stride = self.planes.stride();
         mark(&mut self.even_marks, u);
@@ -332,8 +331,6 @@ impl Field {
         ensures size { HasSize self.old.planes.words self.old.planes.stride self.old.planes.rows
             self.new.planes }
         ensures stays { result ≡ false → self.new.planes ≡ self.old.planes }
-        ensures last { (u + 1) % self.old.planes.stride ≡ 0 → SameInside self.old.planes
-            self.new.planes }
     {
         let changes = self.planes.even_changes(u);
         if changes.is_none() {
@@ -349,38 +346,43 @@ impl Field {
         true
     }
 
-    // Turns block u of the even partition, unless it stays, and tells whether it turned it and it is in the box. The
-    // last block of a row is not: its cells stand in the halo at the right end of two rows and at the left end of the
+    // Turns block u of the even partition, unless it stays, and tells whether it turned it. The last block of a row is
+    // not in the box and stays: its cells stand in the halo, at the right end of two rows and at the left end of the
     // next two.
     fn turn_even(&mut self, u: usize) -> bool
         requires { u + self.old.planes.stride + 1 < self.old.planes.stride * self.old.planes.rows }
-        ensures part { let w = self.old.planes.words in TurnsPart (w * u) (w * (u + 1))
+        ensures part { (u + 1) % self.old.planes.stride ≢ 0 →
+            let w = self.old.planes.words in TurnsPart (w * u) (w * (u + 1))
             (w * (u + self.old.planes.stride)) (w * (u + self.old.planes.stride + 1)) w
             self.old.planes.even.items self.old.planes.down.items self.old.planes.right.items
             self.old.planes.odd.items self.new.planes.even.items self.new.planes.down.items
             self.new.planes.right.items self.new.planes.odd.items }
         ensures size { HasSize self.old.planes.words self.old.planes.stride self.old.planes.rows
             self.new.planes }
-        ensures stays { result ≡ false → SameInside self.old.planes self.new.planes }
+        ensures last { (u + 1) % self.old.planes.stride ≡ 0 → self.new.planes ≡ self.old.planes }
+        ensures stays { result ≡ false → self.new.planes ≡ self.old.planes }
     {
         let stride = self.planes.stride();
-        let in_box = (u + 1) % stride != 0;
+        if (u + 1) % stride == 0 {
+            unmark(&mut self.even_marks, u);
+            return false;
+        }
         let (odd, right, down) = (u + stride + 1, u + stride, u + 1);
         if self.live_marks.are_dead(odd, right, down, u) {
             unmark(&mut self.even_marks, u);
             return false;
         }
-        if self.live_marks.is_lone_main(odd, right, down, u) {
+        if self.is_exact && self.live_marks.is_lone_main(odd, right, down, u) {
             self.move_even_main(u);
-            return in_box;
+            return true;
         }
-        if self.live_marks.is_lone_anti(odd, right, down, u) {
+        if self.is_exact && self.live_marks.is_lone_anti(odd, right, down, u) {
             self.move_even_anti(u);
-            return in_box;
+            return true;
         }
         let is_turned = self.turn_even_words(u);
         self.drop_dead(odd, right, down, u);
-        is_turned && in_box
+        is_turned
     }
 
     /// Turns the blocks whose upper left corner is odd, which fill box and halo. Returns whether a block may have
@@ -400,6 +402,7 @@ impl Field {
             mark_all(&mut self.odd_marks);
             mark_all(&mut self.even_marks);
             self.live_marks.mark_all();
+            self.is_exact = false;
             self.planes.odd_step();
             return true;
         }
@@ -412,6 +415,8 @@ impl Field {
             }
             u = next_marked(&self.odd_marks, u + 1, cells);
         }
+        // Where nothing was known all blocks had marks, and these fill box and halo.
+        self.is_exact = true;
         if are_many(changed, cells, self.planes.words(), self.planes.stride()) {
             self.rush = RUSH;
             return true;
@@ -439,6 +444,7 @@ impl Field {
             mark_all(&mut self.odd_marks);
             mark_all(&mut self.even_marks);
             self.live_marks.mark_all();
+            self.is_exact = false;
             self.planes.even_step();
             return true;
         }

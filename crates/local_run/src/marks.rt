@@ -131,8 +131,8 @@ pub fn mark_border(marks: &mut [u64], stride: usize, rows: usize)
     }
 }
 
-/// Returns the next number from `from` on that may have a mark in the first list, and one among the others or among those
-/// of live cells.
+/// Returns the next number from `from` on that may have a mark in the first list, and one among the others or among
+/// those of live cells.
 ///
 /// If there is none below `end`, it returns `end`.
 pub fn next_marked_in(

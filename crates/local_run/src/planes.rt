@@ -465,7 +465,8 @@ impl Planes {
     ghost use Rattle.local_run.specs.Lanes.{HasSize};
     ghost use Rattle.local_run.specs.Live.{DropsDead, HasCells, HasSameRoom};
 
-    /// Exchanges the cells with these numbers of the planes `odd` and `even`, which are on the main diagonal of a block.
+    /// Exchanges the cells with these numbers of the planes `odd` and `even`, which are on the main diagonal of a
+    /// block.
     pub fn swap_main(&mut self, odd: usize, even: usize)
         requires { (odd < self.old.stride * self.old.rows) × (even < self.old.stride
             * self.old.rows) }

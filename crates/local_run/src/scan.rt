@@ -1,11 +1,13 @@
 //! The first fault of a kind at a time.
-ghost use Rattle.std.specs.Prelude.{◌≡◌, ◌+◌, ◌*◌, ◌/◌, ◌<◌, ◌≤◌, true, IsTrue, MatchOption};
+ghost use Rattle.std.specs.Prelude.{◌≡◌, ◌≢◌, ◌+◌, ◌*◌, ◌/◌, ◌<◌, ◌≤◌, length, true, IsTrue, MatchOption};
 ghost use Rattle.circuit.specs.Meaning.{wires};
 ghost use Rattle.module_box.specs.Boxes.{in_box};
 ghost use Rattle.local_run.specs.Faults.{assignments};
 ghost use Rattle.local_run.specs.Places.{inner};
 ghost use Rattle.local_run.specs.Quiet.{AreLines};
-ghost use Rattle.local_run.specs.Scans.{HasEdgeAt, HasEdgesIn, IsFirst, IsFound, IsFree, IsLeastBelow, IsMissed, IsNextStop, IsReady, IsSought, IsStride, Shows};
+ghost use Rattle.local_run.specs.Lanes.{lane};
+ghost use Rattle.module_job.specs.Signals.{is_live};
+ghost use Rattle.local_run.specs.Scans.{HasEdgeAt, HasEdgesIn, IsFirst, IsFound, IsFree, IsLeastBelow, IsMissed, IsNextStop, IsReady, IsSought, IsStride, Shows, is_defined, valuation};
 
 use crate::fault::{Fault, Kind};
 use crate::field::Field;
@@ -13,6 +15,22 @@ use crate::places::{demand_at, edge_at, inner_cell, is_ring, place_of};
 use crate::values::Values;
 use module_box::Signal;
 use module_job::{Demand, Job, Stop};
+
+// The least assignment at which each used gate has a row and a cell, counted from the halo, is live.
+fn first_live(field: &Field, values: &Values, x: usize, y: usize) -> Option<u32>
+    requires place { (x / 2 < field.now.planes.stride) × (y / 2 < field.now.planes.rows) }
+    requires words { (values.now.words ≡ field.now.planes.words) × (values.now.words ≤ 64) }
+    requires room { values.now.count ≤ 64 * values.now.words }
+    requires defined { values.now.words ≤ length values.now.rows.defined.items }
+    ensures { IsLeastBelow values.now.count
+        (λ a. (is_defined values.now a ≡ true)
+        × (lane field.now.planes a x y ≢ is_live (valuation values.now a) Signal.Zero)) result }
+{
+    if !field.may_be_live(x, y) {
+        return None;
+    }
+    values.first_difference(field.planes(), x, y, Signal::Zero)
+}
 
 // The least assignment under which the cell at a column and row of the box has a fault of the kind.
 fn cell_fault(
@@ -42,7 +60,7 @@ fn cell_fault(
         }
         Kind::Stop => None,
         Kind::End => match demand_at(job, x, y) {
-            Demand::Dead => values.first_difference(planes, 1 + x, 1 + y, Signal::Zero),
+            Demand::Dead => first_live(field, values, 1 + x, 1 + y),
             Demand::Live => values.first_difference(planes, 1 + x, 1 + y, Signal::One),
             Demand::Wire(wire) => {
                 values.first_difference(planes, 1 + x, 1 + y, Signal::Wire(wire))

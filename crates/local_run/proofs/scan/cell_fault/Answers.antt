@@ -17,7 +17,7 @@ returns-in-Dead c =
     (inner_in_box j.area c.args.x c.args.y c.requires.place.0 c.requires.place.1)
     (sym c.demand_at.ensures.is ∙ c.in-Dead.is) (λ v b h. h) (λ v b h. h)
     (λ a l. c.requires.shows.cells a c.args.x c.args.y l c.requires.place.0 c.requires.place.1)
-    (rw (c.planes-planes.ensures, c.requires.ready.count) at c.first_difference-in-Dead.ensures)
+    (rw c.requires.ready.count at c.first_live.ensures)
 
 pub returns-in-Live : goal.returns-in-Live
 returns-in-Live c =

@@ -1,8 +1,9 @@
-use Rattle.std.proofs.Common.{◌≡◌, ◌*◌, List, ℕ, length, ap, subst, false, ltb, refl, arith, sym, ◌∙◌}
-use Rattle.local_run.proofs.InsideLemmas.{inside_after}
-use Rattle.local_run.proofs.FieldLemmas.{even_first, even_next, even_all}
+use Rattle.std.proofs.Common.{◌≡◌, ◌+◌, ◌*◌, List, ℕ, length, ap, subst, false, ltb, refl, arith, sym, ◌∙◌}
+use Rattle.local_run.proofs.FieldLemmas.{inside_first, inside_next, inside_all}
 use Rattle.std.proofs.lemmas.List.{with_items_is}
 use Rattle.local_run.specs.Calm.{EvenCalm, OddCalm}
+use Rattle.local_run.specs.Lanes.{lane}
+use Rattle.local_run.specs.declared.planes.Planes.{Planes}
 use Rattle.local_run.proofs.LiveLemmas.{marked_dead, marked_even, marked_odd}
 use Rattle.local_run.proofs.field.Field.even_step.Goals as goal
 use Rattle.local_run.proofs.field.Field.even_step.Goals.{then-turn_even, else-turn_even}
@@ -14,10 +15,9 @@ marked-init c =
     let passed = rw c.deref.ensures.value at n.passed in
     record {
       size = (refl, refl, refl);
-      stays = λ e a x y la lx ly. refl;
+      stays = λ e. refl;
       within = (omega arith, n.range.1);
-      turned = even_first f.planes f.even_marks.items c.next_marked-u.result f.planes.some.0 f.even_calm
-          (omega arith) passed;
+      turned = inside_first f.planes f.even_marks.items c.next_marked-u.result f.even_calm (omega arith) passed;
     }
 
 pub marked-preserved : goal.marked-preserved
@@ -32,28 +32,27 @@ marked-preserved c =
       size = (t.size.0 ∙ m.size.0, t.size.1 ∙ m.size.1, t.size.2 ∙ m.size.2);
       stays = elim c.if-turn_even.branch [
         | then-turn_even w ↦ λ e. let some = w.changed-is in absurd (omega (arith, some, e))
-        | else-turn_even w ↦ λ e. inside_after p c.marked.self.planes r.planes m.size (m.stays (sym w.changed-is ∙ e))
-            (t.stays w.if-turn_even.false)
+        | else-turn_even w ↦ λ e. t.stays w.if-turn_even.false ∙ m.stays (sym w.changed-is ∙ e)
       ];
       within = (omega arith, n.range.1);
-      turned = even_next p c.marked.self.planes r.planes r.even_marks.items c.marked.u c.next_marked-u-in-marked.result
-          m.size t.size p.some.0 m.turned t.part r.even_calm n.range.0 (omega arith) passed;
+      turned = inside_next p c.marked.self.planes r.planes r.even_marks.items c.marked.u
+          c.next_marked-u-in-marked.result m.size t.size m.turned t.part t.last r.even_calm n.range.0
+          (omega arith) passed;
     }
 
 pub returns-then-are_many-clause-turned : goal.returns-then-are_many-clause-turned
 returns-then-are_many-clause-turned c =
     let m = c.marked.invariant in
-    even_all c.args.self.now.planes c.marked.self.planes c.marked.u m.size (omega arith)
-    (omega (arith, c.args.self.now.planes.even.ok.0, c.args.self.now.planes.even_long)) m.turned
+    inside_all c.args.self.now.planes c.marked.self.planes c.marked.u m.size (omega arith) m.turned
 
 pub returns-clause-turned : goal.returns-clause-turned
 returns-clause-turned c =
     let m = c.marked.invariant in
-    even_all c.args.self.now.planes c.marked.self.planes c.marked.u m.size (omega arith)
-    (omega (arith, c.args.self.now.planes.even.ok.0, c.args.self.now.planes.even_long)) m.turned
+    inside_all c.args.self.now.planes c.marked.self.planes c.marked.u m.size (omega arith) m.turned
 
 pub returns-clause-stays : goal.returns-clause-stays
-returns-clause-stays c e = c.marked.invariant.stays (none_more c.marked.changed e)
+returns-clause-stays c e a x y la lx ly =
+    ap (λ (p : Planes). lane p a (1 + x) (1 + y)) (c.marked.invariant.stays (none_more c.marked.changed e))
   where
     none_more : (n : ℕ) → ltb 0 n ≡ false → n ≡ 0
     none_more n e = grind arith

@@ -1,19 +1,15 @@
-use Rattle.std.proofs.Common.{◌≡◌, ◌*◌, ◌+◌, ◌-◌, ◌≤◌}
-use Rattle.local_run.specs.Lanes.{HasSize, SameInside}
-use Rattle.local_run.specs.Turns.{TurnsPart}
+use Rattle.std.proofs.Common.{◌≡◌, ◌-◌, ◌≤◌}
+use Rattle.local_run.specs.Lanes.{HasSize}
+use Rattle.local_run.proofs.FieldLemmas.{TurnsInside}
 use Rattle.local_run.proofs.field.Field.even_step.Given as goal
 
 -- the blocks so far are turned
 abbrev pub invariant-marked : goal.invariant-marked
 invariant-marked l = record {
   size : HasSize l.fn.self.planes.words l.fn.self.planes.stride l.fn.self.planes.rows l.self.planes;
-  stays : l.changed ≡ 0 → SameInside l.fn.self.planes l.self.planes;
+  stays : l.changed ≡ 0 → l.self.planes ≡ l.fn.self.planes;
   within : (l.changed ≤ l.u) × (l.u ≤ l.cells);
-  turned : let w = l.fn.self.planes.words in let s = l.fn.self.planes.stride in
-      TurnsPart 0 w (w * s) (w * (s + 1))
-      (w * l.u) l.fn.self.planes.even.items l.fn.self.planes.down.items l.fn.self.planes.right.items
-      l.fn.self.planes.odd.items l.self.planes.even.items l.self.planes.down.items l.self.planes.right.items
-      l.self.planes.odd.items;
+  turned : TurnsInside l.u l.fn.self.planes l.self.planes;
 }
 
 abbrev pub decreases-marked : goal.decreases-marked

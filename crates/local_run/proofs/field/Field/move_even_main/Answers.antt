@@ -2,7 +2,6 @@ use Rattle.std.proofs.Common.{List, ℕ, Bool, true, false, ◌+◌, length, ap,
 use Rattle.std.proofs.lemmas.List.{with_items_is}
 use Rattle.local_run.specs.Calm.{OddCalm, EvenCalm}
 use Rattle.local_run.proofs.CalmLemmas.{odd_kept_by_even, even_kept_by_even}
-use Rattle.local_run.proofs.InsideLemmas.{last_keeps}
 use Rattle.local_run.proofs.LiveLemmas.{lone_main, main_cells, main_dead, swap_back}
 use Rattle.local_run.proofs.field.Field.move_even_main.Goals as goal
 
@@ -23,16 +22,6 @@ returns-clause-part c =
       | inl free ↦ inr (dead.0 (u + p.stride + 1) (omega arith) free)
       | inr free ↦ inl (dead.3 u (omega arith) free)
     ])
-
-pub returns-clause-last : goal.returns-clause-last
-returns-clause-last c last =
-    let p = c.args.self.now.planes in
-    let q = c.swap_main-2.new.self in
-    let s = c.swap_main-2.ensures in
-    let s = rw c.stride-stride.ensures.is at s in
-    let u = c.args.u in
-    last_keeps true false u p q s.size
-    (main_cells (u + p.stride + 1) (u + p.stride) (u + 1) u p q s.swap s.right s.down) last
 
 pub invariant_of-self-clause-even_calm : goal.invariant_of-self-clause-even_calm
 invariant_of-self-clause-even_calm c =

@@ -3,7 +3,6 @@ use Rattle.std.proofs.lemmas.List.{with_items_is}
 use Rattle.local_run.specs.Calm.{OddCalm, EvenCalm}
 use Rattle.local_run.proofs.TurnLemmas.{calm_block}
 use Rattle.local_run.proofs.CalmLemmas.{even_cells, even_unmarked, odd_kept_by_even, even_kept_by_even}
-use Rattle.local_run.proofs.InsideLemmas.{last_keeps}
 use Rattle.local_run.proofs.LiveLemmas.{cells_dead}
 use Rattle.local_run.proofs.field.Field.turn_even_words.Goals as goal
 
@@ -27,9 +26,6 @@ returns-then-is_none-clause-part c =
       c.even_changes-changes.ensures.main (c.is_none.ensures.main c.if-is_none.true),
       c.even_changes-changes.ensures.anti (c.is_none.ensures.anti c.if-is_none.true),
     )
-
-pub returns-then-is_none-clause-last : goal.returns-then-is_none-clause-last
-returns-then-is_none-clause-last c last a x y la lx ly = refl
 
 pub invariant_of-self-2-clause-even_calm : goal.invariant_of-self-2-clause-even_calm
 invariant_of-self-2-clause-even_calm c =
@@ -73,13 +69,3 @@ invariant_of-self-2-clause-all_dead c =
     (u + 1) u f.live_marks c.mark_cells.new.self p c.turn_even.new.self e.size
     (even_cells main anti u p c.turn_even.new.self c.even_changes-changes.ensures.main
     c.even_changes-changes.ensures.anti e.part) l.odd l.right l.down l.even f.all_dead
-
-pub returns-clause-last : goal.returns-clause-last
-returns-clause-last c last =
-    let p = c.args.self.now.planes in
-    let e = c.turn_even.ensures in
-    let main = c.even_changes-changes.result.main in
-    let anti = c.even_changes-changes.result.anti in
-    last_keeps main anti c.args.u p c.turn_even.new.self e.size
-    (even_cells main anti c.args.u p c.turn_even.new.self c.even_changes-changes.ensures.main
-    c.even_changes-changes.ensures.anti e.part) last
