@@ -348,7 +348,8 @@ impl Field {
     // next two.
     fn turn_even(&mut self, u: usize) -> bool
         requires { u + self.old.planes.stride + 1 < self.old.planes.stride * self.old.planes.rows }
-        ensures part { (u + 1) % self.old.planes.stride ≢ 0 → let w = self.old.planes.words in TurnsPart (w * u) (w * (u + 1))
+        ensures part { (u + 1) % self.old.planes.stride ≢ 0 →
+            let w = self.old.planes.words in TurnsPart (w * u) (w * (u + 1))
             (w * (u + self.old.planes.stride)) (w * (u + self.old.planes.stride + 1)) w
             self.old.planes.even.items self.old.planes.down.items self.old.planes.right.items
             self.old.planes.odd.items self.new.planes.even.items self.new.planes.down.items
