@@ -9,8 +9,7 @@ use Rattle.bbm_rule.specs.Words.{AreTurned}
 use Rattle.bbm_rule.proofs.BitLemmas.{by_eq_or_not, bit-zero}
 use Rattle.local_run.specs.Calm.{ChangesCells, EvenCalm, IsDeadAt, OddCalm}
 use Rattle.local_run.specs.Lanes.{HasSize}
-use Rattle.local_run.specs.Live.{AllDead, AreMarked, AreUnmarked, DeadBut, DropsDead, IsDeadCell, IsLoneAnti}
-use Rattle.local_run.specs.Live.{IsLoneMain, MarksCell, TakesMark}
+use Rattle.local_run.specs.Live.{AllDead, AreMarked, AreUnmarked, DeadBut, DropsDead, IsDeadCell, MarksCell, TakesMark}
 use Rattle.local_run.specs.Turns.{DiagonalStays, IsCalmBlock, SameBeside, SwapsPart, TurnsPart}
 use Rattle.local_run.specs.declared.live.LiveMarks.{LiveMarks}
 use Rattle.local_run.specs.declared.planes.Planes.{Planes}
@@ -267,3 +266,44 @@ marked_odd marks p room all u l free = absurd (all u (omega (arith, room, l)) fr
 pub marked_even : (marks : List ℕ) (p : Planes) → p.stride * p.rows ≤ 64 * length marks →
     ((u : ℕ) → u < 64 * length marks → IsUnmarked marks u → ⊥) → EvenCalm marks p
 marked_even marks p room all u l inside free = absurd (all u (omega (arith, room, l)) free)
+
+-- ---- blocks of one word
+pub one_turned : (a b c d a' b' c' d' : ℕ) (ul ur ll lr : List ℕ) → a < length ul → b < length ur → c < length ll →
+    d < length lr → AreTurned (get_or ul a 0) (get_or ur b 0) (get_or ll c 0) (get_or lr d 0) a' b' c' d' →
+    TurnsPart a b c d 1 ul ur ll lr (set ul a a') (set ur b b') (set ll c c') (set lr d d')
+one_turned a b c d a' b' c' d' ul ur ll lr la lb lc ld t = record {
+  turned = λ k l.
+      let ea : a + k ≡ a = omega arith in
+      let eb : b + k ≡ b = omega arith in
+      let ec : c + k ≡ c = omega arith in
+      let ed : d + k ≡ d = omega arith in
+      rw (
+        ea,
+        eb,
+        ec,
+        ed,
+        get_or-set_same ul a a' 0 la,
+        get_or-set_same ur b b' 0 lb,
+        get_or-set_same ll c c' 0 lc,
+        get_or-set_same lr d d' 0 ld,
+      ) t;
+  upper_left = beside_one a a' ul;
+  upper_right = beside_one b b' ur;
+  lower_left = beside_one c c' ll;
+  lower_right = beside_one d d' lr;
+}
+  where
+    beside_one : (a v : ℕ) (xs : List ℕ) → SameBeside a 1 xs (set xs a v)
+    beside_one a v xs = record {
+      below = λ n l. get_or-set_other xs a n v 0 (λ e. omega (arith, e, l));
+      above = λ n l. get_or-set_other xs a n v 0 (λ e. omega (arith, e, l));
+    }
+
+times_one : (w a : ℕ) → w ≡ 1 → w * a ≡ a
+times_one w a e = rw e (omega arith)
+
+pub part_of_one : (w a b c d : ℕ) (ul ur ll lr ul' ur' ll' lr' : List ℕ) → w ≡ 1 →
+    TurnsPart a b c d 1 ul ur ll lr ul' ur' ll' lr' →
+    TurnsPart (w * a) (w * b) (w * c) (w * d) w ul ur ll lr ul' ur' ll' lr'
+part_of_one w a b c d ul ur ll lr ul' ur' ll' lr' e t =
+    rw (times_one w a e, times_one w b e, times_one w c e, times_one w d e, e) t

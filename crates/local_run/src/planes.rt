@@ -5,9 +5,10 @@
 
 ghost use Rattle.bbm_rule.specs.Plane.{turned};
 ghost use Rattle.bbm_rule.specs.Rows.{mate};
+ghost use Rattle.bbm_rule.specs.Words.{AreTurned};
 ghost use Rattle.local_run.specs.Across.{TurnsAcross};
 ghost use Rattle.local_run.specs.Turns.{AntiStays, DiagonalStays, MainStays, SwapsPart, TurnsPart};
-ghost use Rattle.std.specs.Prelude.{ℕ, ◌≡◌, ◌+◌, ◌-◌, ◌*◌, ◌/◌, ◌%◌, ◌<◌, ◌≤◌, ◌⊎◌, length, slice_index, vec_len, IfOk, false, true};
+ghost use Rattle.std.specs.Prelude.{ℕ, ◌≡◌, ◌+◌, ◌-◌, ◌*◌, ◌/◌, ◌%◌, ◌<◌, ◌≤◌, ◌⊎◌, length, bit_xor, slice_index, vec_len, IfOk, false, true};
 
 use crate::live::LiveMarks;
 use crate::marks::drop_if_dead;
@@ -170,6 +171,9 @@ fn swap_part(first: &mut [u64], second: &mut [u64], a: usize, b: usize, long: us
 // The words that a turn flips of a block's main diagonal, and of the other one.
 #[inline(always)]
 fn flips_of(upper_left: u64, upper_right: u64, lower_left: u64, lower_right: u64) -> (u64, u64)
+    ensures turned { AreTurned upper_left upper_right lower_left lower_right
+        (bit_xor upper_left result.0) (bit_xor upper_right result.1) (bit_xor lower_left result.1)
+        (bit_xor lower_right result.0) }
     ensures main { result.0 ≡ 0 → DiagonalStays upper_left lower_right upper_right lower_left }
     ensures anti { result.1 ≡ 0 → DiagonalStays upper_right lower_left upper_left lower_right }
 {
@@ -216,6 +220,45 @@ impl Changes {
         ensures some { result ≡ false → (self.main ≡ true) ⊎ (self.anti ≡ true) }
     {
         !self.main && !self.anti
+    }
+}
+
+// Turns the blocks of one word in each slice.
+#[inline(always)]
+fn turn_word(
+    upper_left: &mut [u64],
+    upper_right: &mut [u64],
+    lower_left: &mut [u64],
+    lower_right: &mut [u64],
+    a: usize,
+    b: usize,
+    c: usize,
+    d: usize,
+)
+    requires upper { (a < length upper_left.old) × (b < length upper_right.old) }
+    requires lower { (c < length lower_left.old) × (d < length lower_right.old) }
+    ensures { TurnsPart a b c d 1 upper_left.old upper_right.old lower_left.old lower_right.old
+        upper_left.new upper_right.new lower_left.new lower_right.new }
+{
+    let (main, anti) = flips_of(upper_left[a], upper_right[b], lower_left[c], lower_right[d]);
+    upper_left[a] ^= main;
+    upper_right[b] ^= anti;
+    lower_left[c] ^= anti;
+    lower_right[d] ^= main;
+}
+
+// Which diagonals a turn of the blocks of one word changes under some assignment.
+#[inline(always)]
+fn word_changes(upper_left: u64, upper_right: u64, lower_left: u64, lower_right: u64) -> Changes
+    ensures main { result.main ≡ false →
+        DiagonalStays upper_left lower_right upper_right lower_left }
+    ensures anti { result.anti ≡ false →
+        DiagonalStays upper_right lower_left upper_left lower_right }
+{
+    let (main, anti) = flips_of(upper_left, upper_right, lower_left, lower_right);
+    Changes {
+        main: main != 0,
+        anti: anti != 0,
     }
 }
 
@@ -299,6 +342,10 @@ impl Planes {
             AntiStays self.now.words u u u u self.now.odd.items self.now.right.items
             self.now.down.items self.now.even.items }
     {
+        // The loop over words costs more than one word.
+        if self.words == 1 {
+            return word_changes(self.odd[u], self.right[u], self.down[u], self.even[u]);
+        }
         let at = self.words * u;
         part_changes(
             &self.odd,
@@ -348,6 +395,19 @@ impl Planes {
             self.new.odd.items self.new.right.items self.new.down.items self.new.even.items }
         ensures size { HasSize self.old.words self.old.stride self.old.rows self.new }
     {
+        if self.words == 1 {
+            turn_word(
+                &mut self.odd,
+                &mut self.right,
+                &mut self.down,
+                &mut self.even,
+                u,
+                u,
+                u,
+                u,
+            );
+            return;
+        }
         let at = self.words * u;
         turn_part(
             &mut self.odd,
@@ -376,6 +436,14 @@ impl Planes {
     {
         let words = self.words;
         let stride = self.stride;
+        if words == 1 {
+            return word_changes(
+                self.even[u],
+                self.down[u + 1],
+                self.right[u + stride],
+                self.odd[u + stride + 1],
+            );
+        }
         part_changes(
             &self.even,
             &self.down,
@@ -400,6 +468,19 @@ impl Planes {
     {
         let words = self.words;
         let stride = self.stride;
+        if words == 1 {
+            turn_word(
+                &mut self.even,
+                &mut self.down,
+                &mut self.right,
+                &mut self.odd,
+                u,
+                u + 1,
+                u + stride,
+                u + stride + 1,
+            );
+            return;
+        }
         turn_part(
             &mut self.even,
             &mut self.down,

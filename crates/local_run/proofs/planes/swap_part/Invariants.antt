@@ -1,4 +1,4 @@
-use Rattle.std.proofs.Common.{ℕ, ◌≡◌, length}
+use Rattle.std.proofs.Common.{◌≡◌, length}
 use Rattle.local_run.specs.Turns.{SwapsPart}
 use Rattle.local_run.proofs.planes.swap_part.Given as goal
 

@@ -1,4 +1,3 @@
-use Rattle.std.proofs.Common.{arith}
 use Rattle.local_run.proofs.Silence.{unsaid_edge}
 use Rattle.local_run.proofs.scan.is_right.Goals as goal
 

@@ -1,4 +1,4 @@
-use Rattle.std.proofs.Common.{List, ℕ, Bool, true, false, ◌+◌, length, ap, arith, refl, sym, subst, inl, inr}
+use Rattle.std.proofs.Common.{List, ℕ, true, false, ◌+◌, length, ap, arith, sym, subst, inl, inr}
 use Rattle.std.proofs.lemmas.List.{with_items_is}
 use Rattle.local_run.specs.Calm.{OddCalm, EvenCalm}
 use Rattle.local_run.proofs.CalmLemmas.{odd_kept_by_even, even_kept_by_even}

@@ -1,4 +1,4 @@
-use Rattle.std.proofs.Common.{List, ℕ, ◌+◌, length, ap, arith, refl, sym, subst}
+use Rattle.std.proofs.Common.{List, ℕ, ◌+◌, length, ap, arith, sym, subst}
 use Rattle.std.proofs.lemmas.List.{with_items_is}
 use Rattle.local_run.specs.Calm.{EvenCalm}
 use Rattle.local_run.proofs.TurnLemmas.{calm_block}
