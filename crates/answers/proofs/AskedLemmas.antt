@@ -2,7 +2,7 @@
 use Rattle.std.proofs.Common.{◌≡◌, ℕ, ◌+◌, List, [], drop, None, Result, Ok, Err, sym, ap, subst, ◌∙◌}
 use Rattle.std.specs.Prelude.{◌≢◌}
 use Rattle.section_text.specs.Words.{lines_of, rest_of}
-use Rattle.section_text.specs.FeedState.{FeedState, ahead}
+use Rattle.section_text.specs.Feeds.{FeedView, ahead}
 use Rattle.section_text.specs.Section.{Grammar, Reads, Fails}
 use Rattle.section_text.specs.Sections.{section_then, finished}
 use Rattle.section_text.specs.Faults.{refusal}
@@ -16,7 +16,7 @@ use Rattle.answers.specs.Answers.{names_read, names_asked, with_value}
 
 -- ---- the names that are on, and the end
 
-module _ {A : Type 0} (view : A → Unit {0} × List (List ℕ)) (names : List (List ℕ)) (old mid : FeedState)
+module _ {A : Type 0} (view : A → Unit {0} × List (List ℕ)) (names : List (List ℕ)) (old mid : FeedView)
     (going : old.stop ≡ None) where
   last : List ℕ → Unit {0} → List (List ℕ) → ℕ → List (List ℕ) → Result (List (List ℕ)) Refusal
   last text _ on m rest = finished m rest (rest_of text) on
@@ -58,7 +58,7 @@ with_fails value Memory read fails = tt
 with_fails value (Refused r) read fails = ap (with_value value) fails
 
 module _ {H I A V : Type 0} (g : Grammar H I) (view : A → H × List I) (value : H → List I → V)
-    (names : H → List I → List (List ℕ)) (old mid : FeedState) (unread : old.taken ≡ 0) (going : old.stop ≡ None) where
+    (names : H → List I → List (List ℕ)) (old mid : FeedView) (unread : old.taken ≡ 0) (going : old.stop ≡ None) where
   abbrev asked : List ℕ → Result (V × List (List ℕ)) Refusal
   asked text = section_then g 0 (lines_of text)
       (λ h items n ahead. names_asked text (value h items) (names h items) n ahead)

@@ -5,7 +5,7 @@ use Rattle.std.specs.Prelude.{◌≢◌}
 use Rattle.std.specs.List.{flat_map}
 use Rattle.std.proofs.lemmas.Grind.{flat_map-append}
 use Rattle.section_text.specs.Words.{lines_of, rest_of}
-use Rattle.section_text.specs.FeedState.{FeedState, ahead}
+use Rattle.section_text.specs.Feeds.{FeedView, ahead}
 use Rattle.section_text.specs.Faults.{refusal}
 use Rattle.section_text.specs.Ports.{Named}
 use Rattle.section_text.specs.Section.{Reads, Fails}
@@ -17,17 +17,17 @@ use Rattle.section_text.proofs.Joined.{section_read, section_failed, same_text, 
 use Rattle.section_text.proofs.Joined.{more_fails}
 use Rattle.circuit.specs.Bridge.{circuit_of}
 use Rattle.circuit.specs.Grammars.{circuit_grammar, circuit_value}
-use Rattle.circuit.specs.declared.entry.Entry.{Entry as CircuitLine}
+use Rattle.circuit.specs.declared.circuit_line.CircuitLine.{CircuitLine}
 use Rattle.pattern.specs.Grammars.{layout_grammar, layout_value}
 use Rattle.pattern.specs.Layout.{Pattern, parts_of}
-use Rattle.pattern.specs.declared.parts.Part.{Part}
-use Rattle.pattern.specs.declared.parts.Part.TheVariants.{Mirror, Ball, In, Out, Waste}
-use Rattle.pattern.specs.declared.parts.Port.{Port}
-use Rattle.pattern.specs.declared.parts.Extent.{Extent}
+use Rattle.pattern.specs.declared.layout_line.LayoutLine.{LayoutLine}
+use Rattle.pattern.specs.declared.layout_line.LayoutLine.TheVariants.{Mirror, Ball, In, Out, Waste}
+use Rattle.pattern.specs.declared.layout_line.Port.{Port}
+use Rattle.pattern.specs.declared.layout_line.LayoutHeader.{LayoutHeader}
 use Rattle.certificate_lines.specs.Entries.{Setting}
-use Rattle.certificate.specs.Grammars.{CertState, certificate_grammar, certificate_value}
+use Rattle.certificate.specs.Grammars.{CertView, certificate_grammar, certificate_value}
 use Rattle.certificate_lines.specs.Settings.{setting_of}
-use Rattle.certificate_lines.specs.declared.entry.Entry.{Entry}
+use Rattle.certificate_lines.specs.declared.certificate_line.CertificateLine.{CertificateLine}
 use Rattle.answers.specs.Answers.{Answered}
 use Rattle.answers.specs.BundleReading.{TellsRefusal, bundle_by}
 use Rattle.audit_core.specs.Concluding.{port_names_of}
@@ -37,17 +37,19 @@ use Rattle.answers.specs.declared.outcome.Outcome.{Outcome}
 
 -- ---- the ports of a layout, by its lines
 
-none_of : {X : Type 0} (f : Part → List Port) (make : X → Part) → ((x : X) → f (make x) ≡ []) → (xs : List X) →
+none_of : {X : Type 0} (f : LayoutLine → List Port) (make : X → LayoutLine) → ((x : X) → f (make x) ≡ []) →
+    (xs : List X) →
     flat_map f (map make xs) ≡ []
 none_of f make none [] = refl
 none_of f make none (x ∷ xs) = rw (none x, none_of f make none xs) refl
 
-all_of : (f : Part → List Port) (make : Port → Part) → ((p : Port) → f (make p) ≡ p ∷ []) → (ports : List Port) →
+all_of : (f : LayoutLine → List Port) (make : Port → LayoutLine) → ((p : Port) → f (make p) ≡ p ∷ []) →
+    (ports : List Port) →
     flat_map f (map make ports) ≡ ports
 all_of f make same [] = refl
 all_of f make same (p ∷ ports) = rw (same p, all_of f make same ports) refl
 
-split_five : (f : Part → List Port) (a b c d e : List Part) →
+split_five : (f : LayoutLine → List Port) (a b c d e : List LayoutLine) →
     flat_map f (a ++ (b ++ (c ++ (d ++ e))))
     ≡ flat_map f a ++ (flat_map f b ++ (flat_map f c ++ (flat_map f d ++ flat_map f e)))
 split_five f a b c d e = rw (
@@ -89,15 +91,16 @@ same_setting circuit p =
 -- ---- the sections of a bundle, one after the other
 
 module _ (text : List ℕ) where
-  whole : List CircuitLine → Extent → List Part → ℕ → List Entry → Bundle
+  whole : List CircuitLine → LayoutHeader → List LayoutLine → ℕ → List CertificateLine → Bundle
   whole circuit size parts version entries =
       record { circuit = circuit; size = size; parts = parts; version = version; entries = entries }
 
-  ended : List CircuitLine → Extent → List Part → ℕ → List Entry → ℕ → List (List ℕ) → Result Bundle Refusal
+  ended : List CircuitLine → LayoutHeader → List LayoutLine → ℕ → List CertificateLine → ℕ → List (List ℕ) →
+      Result Bundle Refusal
   ended circuit size parts version entries k last =
       finished k last (rest_of text) (whole circuit size parts version entries)
 
-  after_layout : List CircuitLine → Extent → List Part → ℕ → List (List ℕ) → Result Bundle Refusal
+  after_layout : List CircuitLine → LayoutHeader → List LayoutLine → ℕ → List (List ℕ) → Result Bundle Refusal
   after_layout circuit size parts m later =
       section_then (certificate_grammar (setting_of circuit (layout_of size parts))) m later (ended circuit size parts)
 
@@ -105,7 +108,7 @@ module _ (text : List ℕ) where
   after_circuit _ circuit n ahead =
       section_then (layout_grammar (Some (port_names_of circuit))) n ahead (after_layout circuit)
 
-module _ (f0 f1 : FeedState) (unread : f0.taken ≡ 0) (going : f0.stop ≡ None) where
+module _ (f0 f1 : FeedView) (unread : f0.taken ≡ 0) (going : f0.stop ≡ None) where
   from_start : section_then circuit_grammar f0.taken (ahead f0) (after_circuit f0.text) ≡ bundle_of f0.text
   unfolding bundle_of after_circuit after_layout ended whole
   from_start = ap (λ n. section_then circuit_grammar n (drop n (lines_of f0.text)) (after_circuit f0.text)) unread
@@ -126,7 +129,7 @@ module _ (f0 f1 : FeedState) (unread : f0.taken ≡ 0) (going : f0.stop ≡ None
     text_1 : f1.text ≡ f0.text
     text_1 = same_text circuit_grammar circuit_value f0 f1 going (after_circuit f0.text) circuit read
 
-    module _ (named : Option Named) (f2 : FeedState) (are : named ≡ Some (port_names_of circuit)) where
+    module _ (named : Option Named) (f2 : FeedView) (are : named ≡ Some (port_names_of circuit)) where
       pub layout_failed : (fault : ReadFault) →
           Reads {A = Pattern} (layout_grammar named) layout_value f1 f2 (Err fault) → Fails fault (bundle_of f0.text)
       unfolding after_circuit
@@ -158,20 +161,20 @@ module _ (f0 f1 : FeedState) (unread : f0.taken ≡ 0) (going : f0.stop ≡ None
         setting : Setting
         setting = setting_of circuit (layout_of layout.size (parts_of layout))
 
-        module _ (f3 : FeedState) where
+        module _ (f3 : FeedView) where
           pub certificate_failed : (fault : ReadFault) →
-              Reads {A = CertState} (certificate_grammar (setting_of circuit layout)) certificate_value f2 f3
+              Reads {A = CertView} (certificate_grammar (setting_of circuit layout)) certificate_value f2 f3
               (Err fault) → Fails fault (bundle_of f0.text)
           unfolding after_layout setting
           certificate_failed fault reads =
-              let right : Reads {A = CertState} (certificate_grammar setting) certificate_value f2 f3 (Err fault) =
-              subst (λ g. Reads {A = CertState} (certificate_grammar g) certificate_value f2 f3 (Err fault))
+              let right : Reads {A = CertView} (certificate_grammar setting) certificate_value f2 f3 (Err fault) =
+              subst (λ g. Reads {A = CertView} (certificate_grammar g) certificate_value f2 f3 (Err fault))
               (sym (same_setting circuit layout)) reads in
               fails_along fault (bundle_of f0.text) _ layout_read
               (section_failed (certificate_grammar setting) certificate_value f2 f3 going_2
               (ended f0.text circuit layout.size (parts_of layout)) fault right)
 
-          module _ (cert : CertState) (read_3 : Reads
+          module _ (cert : CertView) (read_3 : Reads
               (certificate_grammar (setting_of circuit layout)) certificate_value f2 f3 (Ok cert)) where
             right : Reads (certificate_grammar setting) certificate_value f2 f3 (Ok cert)
             unfolding setting
@@ -222,7 +225,7 @@ refusal_answers says read fault output outcome fails told =
     let fails' : Fails (Refused told.refusal) read = subst (λ f. Fails f read) told.refused fails in
     subst (λ r. Answered says r output outcome) (sym fails') (told.says, told.ends)
 
-pub bundle_answers : (says : Bundle → List ℕ → Outcome → Type 0) (read : Result Bundle Refusal) (cert : CertState)
+pub bundle_answers : (says : Bundle → List ℕ → Outcome → Type 0) (read : Result Bundle Refusal) (cert : CertView)
     (output : List ℕ) (outcome : Outcome) → read ≡ Ok (bundle_by cert) → says (bundle_by cert) output outcome →
     Answered says read output outcome
 bundle_answers says read cert output outcome was_read said =

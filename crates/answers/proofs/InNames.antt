@@ -2,13 +2,13 @@
 use Rattle.std.proofs.Common.{◌≡◌, List, [], ◌∷◌, ◌++◌, map, append-nil, refl, ap}
 use Rattle.std.specs.List.{flat_map}
 use Rattle.std.proofs.lemmas.Grind.{flat_map-append}
-use Rattle.pattern.specs.declared.parts.Part.{Part}
-use Rattle.pattern.specs.declared.parts.Part.TheVariants.{Mirror, Ball, In, Out, Waste}
-use Rattle.pattern.specs.declared.parts.Port.{Port}
+use Rattle.pattern.specs.declared.layout_line.LayoutLine.{LayoutLine}
+use Rattle.pattern.specs.declared.layout_line.LayoutLine.TheVariants.{Mirror, Ball, In, Out, Waste}
+use Rattle.pattern.specs.declared.layout_line.Port.{Port}
 use Rattle.pattern.specs.Layout.{Pattern, parts_of}
 use Rattle.answers.specs.RunText.{in_name}
 
-none_of : {X : Type 0} (f : X → Part) → ((x : X) → in_name (f x) ≡ []) → (xs : List X) →
+none_of : {X : Type 0} (f : X → LayoutLine) → ((x : X) → in_name (f x) ≡ []) → (xs : List X) →
     flat_map in_name (map f xs) ≡ []
 none_of f none [] = refl
 none_of f none (x ∷ xs) = rw (none x, none_of f none xs) refl

@@ -8,7 +8,7 @@ use Rattle.std.specs.List.{flat_map}
 use Rattle.std.proofs.Math.Seq.{take-suc}
 use Rattle.std.proofs.lemmas.Grind.{flat_map-append}
 use Rattle.std.proofs.lemmas.Option.{get_or_from_slice_get, slice_get_within}
-use Rattle.certificate_lines.specs.declared.entry.Counts.{Counts}
+use Rattle.certificate_lines.specs.declared.certificate_line.Counts.{Counts}
 use Rattle.answers.specs.ModulesText.{area_words, count_words, module_line, module_lines}
 
 -- ---- lines

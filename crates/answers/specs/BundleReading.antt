@@ -4,14 +4,14 @@ use Rattle.pattern.specs.Layout.{parts_of}
 use Rattle.section_text.specs.declared.fault.ReadFault.{ReadFault}
 use Rattle.section_text.specs.declared.fault.ReadFault.TheVariants as read
 use Rattle.section_text.specs.declared.fault.Refusal.{Refusal}
-use Rattle.certificate.specs.Grammars.{CertState}
+use Rattle.certificate.specs.Grammars.{CertView}
 use Rattle.report.specs.ReportText.{refusal_line}
 use Rattle.answers.specs.declared.outcome.Outcome.{Outcome}
 use Rattle.answers.specs.declared.outcome.Outcome.TheVariants as ended
 use Rattle.answers.specs.BundleText.{Bundle}
 
 -- the bundle of a certificate, its circuit and its layout
-abbrev pub bundle_by : CertState → Bundle
+abbrev pub bundle_by : CertView → Bundle
 bundle_by c =
     record {
       circuit = c.circuit;

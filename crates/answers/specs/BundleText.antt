@@ -4,23 +4,23 @@ use Rattle.section_text.specs.Words.{lines_of, rest_of}
 use Rattle.section_text.specs.Sections.{section_then, finished}
 use Rattle.section_text.specs.declared.fault.Refusal.{Refusal}
 use Rattle.circuit.specs.Grammars.{circuit_grammar}
-use Rattle.circuit.specs.declared.entry.Entry.{Entry as CircuitLine}
+use Rattle.circuit.specs.declared.circuit_line.CircuitLine.{CircuitLine}
 use Rattle.pattern.specs.Grammars.{layout_grammar}
 use Rattle.pattern.specs.FromLines.{layout_of}
-use Rattle.pattern.specs.declared.parts.Part.{Part}
-use Rattle.pattern.specs.declared.parts.Extent.{Extent}
+use Rattle.pattern.specs.declared.layout_line.LayoutLine.{LayoutLine}
+use Rattle.pattern.specs.declared.layout_line.LayoutHeader.{LayoutHeader}
 use Rattle.certificate.specs.Grammars.{certificate_grammar}
 use Rattle.certificate_lines.specs.Settings.{setting_of}
 use Rattle.audit_core.specs.Concluding.{port_names_of}
-use Rattle.certificate_lines.specs.declared.entry.Entry.{Entry}
+use Rattle.certificate_lines.specs.declared.certificate_line.CertificateLine.{CertificateLine}
 
 -- what was read of a bundle: the lines of each section
 pub record Bundle : Type 0 where
   pub circuit : List CircuitLine
-  pub size : Extent
-  pub parts : List Part
+  pub size : LayoutHeader
+  pub parts : List LayoutLine
   pub version : ℕ
-  pub entries : List Entry
+  pub entries : List CertificateLine
 
 -- A circuit section, a layout section whose ports are named as its inputs and outputs, a certificate section for both,
 -- and nothing more.

@@ -2,9 +2,9 @@
 use Rattle.std.specs.Prelude.{◌≡◌, ℕ, List}
 use Rattle.circuit.specs.Bridge.{circuit_of}
 use Rattle.pattern.specs.Grammars.{layout_value}
-use Rattle.certificate.specs.Grammars.{CertState, modules_in}
+use Rattle.certificate.specs.Grammars.{CertView, modules_in}
 use Rattle.certificate_lines.specs.Settings.{setting_of}
-use Rattle.module_job.specs.Jobs.{JobState}
+use Rattle.module_job.specs.Jobs.{JobView}
 use Rattle.certificate.specs.Jobs.{AreJobsOf}
 use Rattle.certificate_lines.specs.Modules.{AreModules}
 use Rattle.audit_core.specs.Verdicts.{IsVerdict}
@@ -17,16 +17,16 @@ use Rattle.answers.specs.Answers.{Answered}
 use Rattle.answers.specs.BundleText.{Bundle, bundle_of}
 
 -- the certificate has the lines of the bundle, and so have its circuit and its layout
-pub record IsCertificateOf (bundle : Bundle) (c : CertState) : Type 0 where
+pub record IsCertificateOf (bundle : Bundle) (c : CertView) : Type 0 where
   pub circuit : c.circuit ≡ bundle.circuit
   pub layout : layout_value c.layout ≡ (bundle.size, bundle.parts)
   pub version : c.version ≡ bundle.version
   pub entries : c.entries ≡ bundle.entries
 
 -- the verdict on a certificate whose modules are as the grammar asks: on their jobs and on their borders
-pub record IsVerdictOn (c : CertState) (v : Verdict) : Type 0 where
+pub record IsVerdictOn (c : CertView) (v : Verdict) : Type 0 where
   pub good : AreModules (setting_of c.circuit c.layout) (modules_in c)
-  pub jobs : List JobState
+  pub jobs : List JobView
   pub are_jobs : AreJobsOf (circuit_of c.circuit) c.layout (modules_in c) jobs
   pub judged : IsVerdict (setting_of c.circuit c.layout) (modules_in c) jobs v
 
@@ -37,7 +37,7 @@ verdict_outcome (verdict.No lines) = No
 
 -- the report on the bundle's certificate
 pub record SaysReport (bundle : Bundle) (output : List ℕ) (outcome : Outcome) : Type 0 where
-  pub certificate : CertState
+  pub certificate : CertView
   pub its_own : IsCertificateOf bundle certificate
   pub verdict : Verdict
   pub is_verdict : IsVerdictOn certificate verdict

@@ -5,23 +5,23 @@ use Rattle.std.specs.Fmt.{decimal}
 use Rattle.section_text.specs.Spelling.{line_text}
 use Rattle.circuit.specs.Text.{circuit_text}
 use Rattle.pattern.specs.Text.{part_text, size_words}
-use Rattle.pattern.specs.declared.parts.Extent.{Extent}
-use Rattle.pattern.specs.declared.parts.Part.{Part}
+use Rattle.pattern.specs.declared.layout_line.LayoutHeader.{LayoutHeader}
+use Rattle.pattern.specs.declared.layout_line.LayoutLine.{LayoutLine}
 use Rattle.certificate.specs.Text.{entry_text}
 use Rattle.certificate_lines.specs.Versions.{without_halos}
-use Rattle.certificate_lines.specs.declared.entry.Entry.{Entry}
+use Rattle.certificate_lines.specs.declared.certificate_line.CertificateLine.{CertificateLine}
 use Rattle.answers.specs.declared.outcome.Outcome.{Outcome}
 use Rattle.answers.specs.declared.outcome.Outcome.TheVariants.{Yes}
 use Rattle.answers.specs.Answers.{Answered}
 use Rattle.answers.specs.BundleText.{Bundle, bundle_of}
 
 -- a layout section of this size and these parts
-unfoldable pub layout_lines : Extent → List Part → List ℕ
+unfoldable pub layout_lines : LayoutHeader → List LayoutLine → List ℕ
 layout_lines size parts = line_text (codes "layout") (size_words size) ++ flat_map part_text parts
     ++ line_text (codes "end") []
 
 -- a certificate section of this version and these lines
-unfoldable pub certificate_lines : ℕ → List Entry → List ℕ
+unfoldable pub certificate_lines : ℕ → List CertificateLine → List ℕ
 certificate_lines version entries =
     line_text (codes "certificate") (decimal version ∷ []) ++ flat_map entry_text entries ++ line_text (codes "end") []
 

@@ -7,9 +7,9 @@ use Rattle.section_text.specs.Spelling.{line_text}
 use Rattle.section_text.specs.Sections.{section_then}
 use Rattle.section_text.specs.declared.fault.Refusal.{Refusal}
 use Rattle.bbm_rule.specs.declared.block.Cell.{Cell}
-use Rattle.pattern.specs.declared.parts.Part.{Part}
-use Rattle.pattern.specs.declared.parts.Part.TheVariants.{Mirror, Ball, In, Out, Waste}
-use Rattle.pattern.specs.declared.parts.Extent.{Extent}
+use Rattle.pattern.specs.declared.layout_line.LayoutLine.{LayoutLine}
+use Rattle.pattern.specs.declared.layout_line.LayoutLine.TheVariants.{Mirror, Ball, In, Out, Waste}
+use Rattle.pattern.specs.declared.layout_line.LayoutHeader.{LayoutHeader}
 use Rattle.pattern.specs.declared.run.RunEnd.{RunEnd}
 use Rattle.pattern.specs.declared.run.RunEnd.TheVariants.{Cells, LeftAt}
 use Rattle.pattern.specs.Layout.{Pattern}
@@ -22,7 +22,7 @@ use Rattle.answers.specs.Answers.{Answered, names_asked}
 -- ---- what is read
 
 -- the name of an input cell
-abbrev pub in_name : Part → List (List ℕ)
+abbrev pub in_name : LayoutLine → List (List ℕ)
 in_name (Mirror r) = []
 in_name (Ball c) = []
 in_name (In p) = p.name ∷ []
@@ -31,7 +31,7 @@ in_name (Waste c) = []
 
 -- the lines of a layout, and the names that are on
 abbrev pub RunAsked : Type 0
-RunAsked = (Extent × List Part) × List (List ℕ)
+RunAsked = (LayoutHeader × List LayoutLine) × List (List ℕ)
 
 -- a layout section, an assign section in which the names of its input cells may be on, and nothing more
 unfoldable pub run_asked : List ℕ → Result RunAsked Refusal

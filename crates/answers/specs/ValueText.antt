@@ -6,7 +6,7 @@ use Rattle.circuit.specs.Entries.{defined}
 use Rattle.section_text.specs.Words.{lines_of, has}
 use Rattle.section_text.specs.Sections.{section_then}
 use Rattle.section_text.specs.declared.fault.Refusal.{Refusal}
-use Rattle.circuit.specs.declared.entry.Entry.{Entry}
+use Rattle.circuit.specs.declared.circuit_line.CircuitLine.{CircuitLine}
 use Rattle.circuit.specs.Grammars.{circuit_grammar}
 use Rattle.circuit.specs.Bridge.{AreValues, StopsAt, input_names, netlist_of, read}
 use Rattle.circuit.specs.Meaning.{AreOrdered, Valuation}
@@ -18,7 +18,7 @@ use Rattle.answers.specs.Answers.{Answered, names_asked}
 
 -- the lines of a circuit, and the names that are on
 abbrev pub ValueAsked : Type 0
-ValueAsked = List Entry × List (List ℕ)
+ValueAsked = List CircuitLine × List (List ℕ)
 
 -- a circuit section, an assign section in which its inputs may be on, and nothing more
 unfoldable pub value_asked : List ℕ → Result ValueAsked Refusal

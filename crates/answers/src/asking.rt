@@ -1,6 +1,6 @@
 //! The part that the commands over two sections have in common.
 ghost use Rattle.std.specs.Prelude.{◌≡◌, true, None};
-ghost use Rattle.section_text.specs.FeedState.{ahead};
+ghost use Rattle.section_text.specs.Feeds.{ahead};
 ghost use Rattle.section_text.specs.Section.{Gives};
 ghost use Rattle.answers.specs.Answers.{names_read};
 

@@ -8,7 +8,7 @@ use Rattle.std.proofs.lemmas.Bool.Decides.{nat_tests}
 use Rattle.std.proofs.lemmas.List.{get_or-set_same, get_or-set_other}
 use Rattle.std.proofs.lemmas.Option.{slice_get_within, same_Some}
 use Rattle.module_job.specs.Equality.{same_job}
-use Rattle.module_job.specs.Jobs.{JobState}
+use Rattle.module_job.specs.Jobs.{JobView}
 use Rattle.module_job.proofs.EqualJobs.{jobs_decide}
 use Rattle.local_run.specs.Faults.{IsLeastFault, IsLeastKeepFault}
 use Rattle.local_run.specs.Shown.{digest_of, number_of, job_of, fault_of, keep_of}
@@ -22,8 +22,10 @@ use Rattle.audit_core.specs.declared.reply.Mismatch.{Mismatch}
 use Rattle.audit_core.specs.declared.reply.Mismatch.TheVariants.{Digest, Number, Content}
 use Rattle.audit_core.specs.declared.reply.Reply.{Reply}
 use Rattle.audit_core.specs.declared.reply.Reply.TheVariants.{Closed, Stranger, Double, Accepted}
-use Rattle.audit_core.proofs.Filings.{IsBook-filed, accepted-inside, accepted-new, accepted-own, held_after-accepted}
-use Rattle.audit_core.proofs.Filings.{held_after-other, is_job_of-true, reply_to-closed, reply_to-held, reply_to-new}
+use Rattle.audit_core.proofs.Filings.{IsBook-filed, accepted-inside, accepted-new, accepted-own}
+use Rattle.audit_core.proofs.Filings.{findings_after-accepted}
+use Rattle.audit_core.proofs.Filings.{findings_after-other, is_job_of-true, reply_to-closed, reply_to-held}
+use Rattle.audit_core.proofs.Filings.{reply_to-new}
 use Rattle.audit_core.proofs.Replays.{IsReplayed-closed, IsReplayed-filed}
 
 pub none_held : (o : Option Finding) → is_some o ≡ false → o ≡ None
@@ -42,7 +44,7 @@ own-number b f own =
 
 pub own-job : (b : BookView) (n : ℕ) (f : Finding) → IsOwn b n f → is_job_of b.jobs n (job_of f) ≡ true
 unfolding is_job_of
-own-job b n f own = ap (λ (o : Option JobState). option_eq same_job o (Some (job_of f))) own.job
+own-job b n f own = ap (λ (o : Option JobView). option_eq same_job o (Some (job_of f))) own.job
     ∙ (jobs_decide (job_of f) (job_of f)).1 refl
 
 pub accepts-its-own : AcceptsItsOwn
@@ -127,8 +129,8 @@ doubles-what_is_held b f k e =
 
 pub holds-what_is_accepted : HoldsWhatIsAccepted
 holds-what_is_accepted b f is e =
-    ap (λ (xs : List (Option Finding)). get_or xs (number_of f) None) (held_after-accepted b f e)
-    ∙ get_or-set_same b.held (number_of f) (Some f) None (accepted-inside b f is e)
+    ap (λ (xs : List (Option Finding)). get_or xs (number_of f) None) (findings_after-accepted b f e)
+    ∙ get_or-set_same b.findings (number_of f) (Some f) None (accepted-inside b f is e)
 
 -- a number whose finding was accepted held none before
 other_number : (b : BookView) (f g : Finding) (k : ℕ) → reply_to b f ≡ Accepted → found_in b k ≡ Some g →
@@ -141,20 +143,20 @@ other_number b f g k e held same =
 keeps : (b : BookView) (f g : Finding) (k : ℕ) (r : Reply) → reply_to b f ≡ r → found_in b k ≡ Some g →
     found_in (after_filing b f) k ≡ Some g
 keeps b f g k Accepted e held =
-    ap (λ (xs : List (Option Finding)). get_or xs k None) (held_after-accepted b f e)
-    ∙ get_or-set_other b.held (number_of f) k (Some f) None (other_number b f g k e held) ∙ held
+    ap (λ (xs : List (Option Finding)). get_or xs k None) (findings_after-accepted b f e)
+    ∙ get_or-set_other b.findings (number_of f) k (Some f) None (other_number b f g k e held) ∙ held
 keeps b f g k Closed e held =
-    ap (λ (xs : List (Option Finding)). get_or xs k None) (held_after-other b.held f _ (λ s. cc)) ∙ held
+    ap (λ (xs : List (Option Finding)). get_or xs k None) (findings_after-other b.findings f _ (λ s. cc)) ∙ held
 keeps b f g k (Stranger mismatch) e held =
-    ap (λ (xs : List (Option Finding)). get_or xs k None) (held_after-other b.held f _ (λ s. cc)) ∙ held
+    ap (λ (xs : List (Option Finding)). get_or xs k None) (findings_after-other b.findings f _ (λ s. cc)) ∙ held
 keeps b f g k (Double n) e held =
-    ap (λ (xs : List (Option Finding)). get_or xs k None) (held_after-other b.held f _ (λ s. cc)) ∙ held
+    ap (λ (xs : List (Option Finding)). get_or xs k None) (findings_after-other b.findings f _ (λ s. cc)) ∙ held
 
 pub keeps-what_is_held : KeepsWhatIsHeld
 keeps-what_is_held b f g k held = keeps b f g k (reply_to b f) refl held
 
 pub holds-nothing_else : HoldsNothingElse
-holds-nothing_else b f other = held_after-other b.held f (reply_to b f) other
+holds-nothing_else b f other = findings_after-other b.findings f (reply_to b f) other
 
 pub stays-book : StaysBook
 stays-book b f is = IsBook-filed b f is
@@ -166,8 +168,8 @@ stays-replayed b book is = ((λ f. IsReplayed-filed b f book is), IsReplayed-clo
 pub held-elsewhere : (b : BookView) (f : Finding) (k : ℕ) → reply_to b f ≡ Accepted → k ≢ number_of f →
     found_in (after_filing b f) k ≡ found_in b k
 held-elsewhere b f k e other =
-    ap (λ (xs : List (Option Finding)). get_or xs k None) (held_after-accepted b f e)
-    ∙ get_or-set_other b.held (number_of f) k (Some f) None other
+    ap (λ (xs : List (Option Finding)). get_or xs k None) (findings_after-accepted b f e)
+    ∙ get_or-set_other b.findings (number_of f) k (Some f) None other
 
 -- ---- two books
 
@@ -177,7 +179,7 @@ books-agree b c k f g is other jobs held there =
     let theirs = (other.own k g there).job in
     let same : job_of f ≡ job_of g = same_Some _ _ (sym mine ∙ ap (λ js. slice_get js k) jobs ∙ theirs) in (
       least_unique (job_of f) (fault_of f) (fault_of g) f.honest
-          (subst (λ (j : JobState). IsLeastFault j (fault_of g)) (sym same) g.honest),
+          (subst (λ (j : JobView). IsLeastFault j (fault_of g)) (sym same) g.honest),
       least_keep_unique (job_of f) (keep_of f) (keep_of g) f.keeps
-          (subst (λ (j : JobState). IsLeastKeepFault j (keep_of g)) (sym same) g.keeps),
+          (subst (λ (j : JobView). IsLeastKeepFault j (keep_of g)) (sym same) g.keeps),
     )

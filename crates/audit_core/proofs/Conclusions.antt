@@ -2,9 +2,9 @@
 use Rattle.std.proofs.Common.{◌≡◌, ◌∙◌, true, List, [], ◌∷◌, ◌++◌, length, map, Option, sym, arith, refl, Vec, Global}
 use Rattle.border_match.specs.BorderFaults.{AreBorderFaultsOf}
 use Rattle.border_match.specs.declared.fault.BorderFault.{BorderFault}
-use Rattle.certificate.specs.Grammars.{CertState}
-use Rattle.module_job.specs.Jobs.{JobState}
-use Rattle.certificate.specs.Times.{are_all_kept, time_lines}
+use Rattle.certificate.specs.Grammars.{CertView}
+use Rattle.module_job.specs.Jobs.{JobView}
+use Rattle.certificate.specs.Times.{are_all_obeyed, time_lines}
 use Rattle.audit_core.specs.Concluding.{AreOwnJobs, modules, setting}
 use Rattle.audit_core.specs.Verdicts.{AreLeastFaults, IsVerdict, lines_from, timing, unkept_lines}
 use Rattle.audit_core.specs.declared.verdict.Reasons.{Reasons}
@@ -17,31 +17,31 @@ is_empty_list [] e = refl
 is_empty_list (x ∷ xs) e = absurd (omega (arith, e))
 
 -- all that was found out: the jobs, their least faults, and those of the borders
-pub record AreAllFaults (s : CertState) (jobs : List JobState) (fs : List Reasons)
+pub record AreAllFaults (s : CertView) (jobs : List JobView) (fs : List Reasons)
     (bs : List (Option BorderFault)) : Type 0 where
   pub own : AreOwnJobs s jobs
   pub least : AreLeastFaults jobs fs
   pub borders : AreBorderFaultsOf (setting s) (modules s) bs
 
-pub same-count : (s : CertState) (jobs : List JobState) (fs : List Reasons) (bs : List (Option BorderFault)) →
+pub same-count : (s : CertView) (jobs : List JobView) (fs : List Reasons) (bs : List (Option BorderFault)) →
     AreAllFaults s jobs fs bs → length fs ≡ length bs
 same-count s jobs fs bs all = all.least.count ∙ all.own.count ∙ sym all.borders.count
 
-pub verdict-yes : (s : CertState) (jobs : List JobState) (fs : List Reasons) (bs : List (Option BorderFault)) →
+pub verdict-yes : (s : CertView) (jobs : List JobView) (fs : List Reasons) (bs : List (Option BorderFault)) →
     AreAllFaults s jobs fs bs → lines_from 0 fs bs ++ unkept_lines (setting s) (modules s) ≡ [] →
-    are_all_kept (time_lines (setting s).circuit (modules s)) ≡ true →
+    are_all_obeyed (time_lines (setting s).circuit (modules s)) ≡ true →
     IsVerdict (setting s) (modules s) jobs Yes
 unfolding IsVerdict
 verdict-yes s jobs fs bs all none kept =
     accepted (setting s) (modules s) jobs fs bs all.least all.borders (same-count s jobs fs bs all) none kept
 
 -- some line on a module or a gate that is not kept, or a rule that is broken
-pub verdict-no : (s : CertState) (jobs : List JobState) (fs : List Reasons) (bs : List (Option BorderFault))
+pub verdict-no : (s : CertView) (jobs : List JobView) (fs : List Reasons) (bs : List (Option BorderFault))
     (lines : Vec ReportLine Global) → AreAllFaults s jobs fs bs →
     lines.items ≡ lines_from 0 fs bs ++ unkept_lines (setting s) (modules s)
     ++ map timing (time_lines (setting s).circuit (modules s)) →
     ¬ ((lines_from 0 fs bs ++ unkept_lines (setting s) (modules s) ≡ [])
-    × (are_all_kept (time_lines (setting s).circuit (modules s)) ≡ true)) →
+    × (are_all_obeyed (time_lines (setting s).circuit (modules s)) ≡ true)) →
     IsVerdict (setting s) (modules s) jobs (No lines)
 unfolding IsVerdict
 verdict-no s jobs fs bs lines all lines_are some = (

@@ -5,7 +5,7 @@ use Rattle.std.specs.Prelude.{if◌then◌else◌, nat_lt}
 use Rattle.std.proofs.lemmas.Bool.Decides.{nat_tests}
 use Rattle.std.proofs.lemmas.List.{length-set, length-replicate}
 use Rattle.std.proofs.lemmas.List.Elements.{All-head, All-tail}
-use Rattle.module_job.specs.Jobs.{JobState}
+use Rattle.module_job.specs.Jobs.{JobView}
 use Rattle.audit_core.specs.Draws.{IsDrawn, total}
 use Rattle.audit_core.specs.Claims.{claim_draws, claim_next, has_ended}
 use Rattle.audit_core.specs.Core.{CoreView, IsCore, IsSeated, after_claim, after_event, after_events, draws_of, ended}
@@ -83,7 +83,7 @@ pub length-events : (es : List Event) (c : CoreView) → length (after_events c 
 length-events [] c = refl
 length-events (e ∷ es) c = length-events es (after_event c e) ∙ length-event c e
 
-pub new-core : (digest : List ℕ) (jobs : List JobState) (seats : ℕ) → IsCore (new_core digest jobs seats)
+pub new-core : (digest : List ℕ) (jobs : List JobView) (seats : ℕ) → IsCore (new_core digest jobs seats)
 unfolding new_core
 new-core digest jobs seats = record {
   drawn = drawn-none seats;
@@ -92,7 +92,7 @@ new-core digest jobs seats = record {
   replayed = IsReplayed-new digest jobs;
 }
 
-pub length-new : (digest : List ℕ) (jobs : List JobState) (seats : ℕ) →
+pub length-new : (digest : List ℕ) (jobs : List JobView) (seats : ℕ) →
     length (new_core digest jobs seats).draws ≡ seats
 unfolding new_core
 length-new digest jobs seats = length-replicate seats []

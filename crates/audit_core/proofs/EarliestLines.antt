@@ -14,7 +14,7 @@ use Rattle.certificate.specs.declared.times.TimeLine.{TimeLine}
 use Rattle.certificate.specs.declared.times.TimeLine.TheVariants as times
 use Rattle.certificate.specs.Times.{time_lines}
 use Rattle.certificate.specs.Keeps.{unkept}
-use Rattle.module_job.specs.Jobs.{JobState}
+use Rattle.module_job.specs.Jobs.{JobView}
 use Rattle.local_run.specs.Faults.{IsFault, IsLeastFault}
 use Rattle.local_run.specs.Order.{fault_cmp}
 use Rattle.local_run.specs.declared.fault.Fault.{Fault}
@@ -189,7 +189,7 @@ no_later_border f g least = by_lt (λ lt. least (border_greater f g lt))
 
 -- ---- the report
 
-module _ (g : Setting) (ms : List ModuleLines) (jobs : List JobState) (report : List ReportLine)
+module _ (g : Setting) (ms : List ModuleLines) (jobs : List JobView) (report : List ReportLine)
     (are : AreReportLines g ms jobs report) (count : length jobs ≡ length ms) where
   same_count : length are.faults ≡ length are.borders
   same_count = are.are_least.count ∙ count ∙ sym are.are_border_faults.count
@@ -212,7 +212,7 @@ module _ (g : Setting) (ms : List ModuleLines) (jobs : List JobState) (report : 
         | inr other ↦ absurd (not_mapped timing (time_lines g.circuit ms) (Local i f) (not_timing i f) other)
       ]
 
-  its_fault : (i : ℕ) (f : Fault) (j : JobState) → Contains report (Local i f) → slice_get jobs i ≡ Some j → IsFault j f
+  its_fault : (i : ℕ) (f : Fault) (j : JobView) → Contains report (Local i f) → slice_get jobs i ≡ Some j → IsFault j f
   its_fault i f j h at =
       let r = local_is i f h in
       let n = r.numbered in
@@ -220,7 +220,7 @@ module _ (g : Setting) (ms : List ModuleLines) (jobs : List JobState) (report : 
       (ap (slice_get are.faults) (omega (arith, n)) ∙ r.listed) in
       (subst (IsLeastFault j) r.fault told.fault).0
 
-  by_least : (n : ℕ) (j : JobState) (r : Reasons) (o : Option Fault) (e : Fault) → slice_get are.faults n ≡ Some r →
+  by_least : (n : ℕ) (j : JobView) (r : Reasons) (o : Option Fault) (e : Fault) → slice_get are.faults n ≡ Some r →
       r.fault ≡ o → IsLeastFault j o → IsFault j e →
       (t : ℕ) → ((n : ℕ) (h : Fault) → Contains report (Local n h) → t ≤ h.time) → t ≤ e.time
   by_least n j r None e at is none fault t least = absurd (none e fault)

@@ -8,7 +8,7 @@ use Rattle.std.proofs.lemmas.List.Elements.{Contains-append_left, Contains-appen
 use Rattle.std.proofs.lemmas.List.Elements.{Contains-push, All-contains}
 use Rattle.std.proofs.lemmas.List.Sums.{sum_by-append}
 use Rattle.std.proofs.lemmas.Option.{same_Some}
-use Rattle.module_job.specs.Jobs.{JobState}
+use Rattle.module_job.specs.Jobs.{JobView}
 use Rattle.local_run.specs.Shown.{number_of}
 use Rattle.local_run.specs.declared.finding.Finding.{Finding}
 use Rattle.audit_core.specs.Draws.{IsDrawn, times, total}
@@ -34,7 +34,7 @@ use Rattle.audit_core.proofs.Replays.{IsBook-new, IsReplayed-filed, IsReplayed-n
 
 -- ---- draws
 
-all-core : (digest : List ℕ) (jobs : List JobState) (seats : ℕ) (es : List Event) → All (IsSeated seats) es →
+all-core : (digest : List ℕ) (jobs : List JobView) (seats : ℕ) (es : List Event) → All (IsSeated seats) es →
     IsCore (core_after digest jobs seats es)
 all-core digest jobs seats es seated =
     events-core seats es (new_core digest jobs seats) (length-new digest jobs seats) seated (new-core digest jobs seats)
@@ -105,15 +105,15 @@ events-replayed [] c book is = is
 events-replayed (e ∷ es) c book is =
     events-replayed es (after_event c e) (event-book c e book) (event-replayed c e book is)
 
-new-book : (digest : List ℕ) (jobs : List JobState) (seats : ℕ) → IsBook (new_core digest jobs seats).book
+new-book : (digest : List ℕ) (jobs : List JobView) (seats : ℕ) → IsBook (new_core digest jobs seats).book
 unfolding new_core
 new-book digest jobs seats = IsBook-new digest jobs
 
-new-replayed : (digest : List ℕ) (jobs : List JobState) (seats : ℕ) → IsReplayed (new_core digest jobs seats).book
+new-replayed : (digest : List ℕ) (jobs : List JobView) (seats : ℕ) → IsReplayed (new_core digest jobs seats).book
 unfolding new_core
 new-replayed digest jobs seats = IsReplayed-new digest jobs
 
-new-nothing : (digest : List ℕ) (jobs : List JobState) (seats : ℕ) (k : ℕ) →
+new-nothing : (digest : List ℕ) (jobs : List JobView) (seats : ℕ) (k : ℕ) →
     found_in (new_core digest jobs seats).book k ≡ None
 unfolding new_core
 new-nothing digest jobs seats k = found_in-new digest jobs k

@@ -10,15 +10,15 @@ use Rattle.bbm_rule.specs.Spans.{in_span}
 use Rattle.bbm_rule.proofs.Steps.{step_same}
 use Rattle.circuit.specs.Bridge.{circuit_of, netlist_of}
 use Rattle.circuit.specs.Meaning.{Gate, Valuation, AreOrdered, place_of, wires_after, number}
-use Rattle.circuit.specs.declared.entry.Entry.{Entry}
-use Rattle.circuit.specs.declared.entry.Kind.TheVariants.{Input, Output}
+use Rattle.circuit.specs.declared.circuit_line.CircuitLine.{CircuitLine}
+use Rattle.circuit.specs.declared.circuit_line.Kind.TheVariants.{Input, Output}
 use Rattle.pattern.specs.Layout.{Pattern}
 use Rattle.pattern.specs.Lines.{size_fault, limit_fault, cell_fault, is_inside, is_taken, begins, ends, cells_of, begun}
 use Rattle.pattern.specs.Lines.{ended}
-use Rattle.pattern.specs.declared.parts.Port.{Port}
+use Rattle.pattern.specs.declared.layout_line.Port.{Port}
 use Rattle.module_box.specs.Boxes.{in_box, some_neighbour, in_ring, in_halo, Tile}
 use Rattle.module_box.specs.Locals.{AreLocalLines, AreLocalsOf, circuit_wire, is_among}
-use Rattle.module_box.specs.Schedules.{held_at, event_at, signal_at}
+use Rattle.module_box.specs.Schedules.{all_times_at, event_at, signal_at}
 use Rattle.module_box.specs.declared.boxes.Box2.{Box2}
 use Rattle.module_box.specs.declared.schedules.Signal.{Signal}
 use Rattle.module_box.specs.declared.schedules.Signal.TheVariants.{Zero, One, Wire}
@@ -26,15 +26,15 @@ use Rattle.module_box.proofs.BoxCells.{in_span_nat, same_some}
 use Rattle.module_box.proofs.Neighbours.{halo_parts}
 use Rattle.certificate_lines.specs.Entries.{ModuleLines, areas, known}
 use Rattle.certificate_lines.specs.Settings.{setting_of}
-use Rattle.module_job.specs.Jobs.{JobState, NamesOwnWires, job_start, job_demand}
+use Rattle.module_job.specs.Jobs.{JobView, NamesOwnWires, job_start, job_demand}
 use Rattle.certificate.specs.Jobs.{IsJobOf, start_signal, end_demand}
 use Rattle.certificate_lines.specs.PortTables.{port_at}
-use Rattle.certificate.specs.Times.{are_all_kept, numbered, time_lines}
+use Rattle.certificate.specs.Times.{are_all_obeyed, numbered, time_lines}
 use Rattle.certificate_lines.specs.Modules.{AreModules, AreUnstarred, HasPorts, IsModule}
 use Rattle.certificate_lines.specs.Orders.{AreInOrder}
 use Rattle.certificate_lines.specs.Rules.{whole, is_local}
 use Rattle.module_job.specs.Signals.{is_live, IsBelow, IsDemandBelow, Meets, renumber_signal, renumber_demand}
-use Rattle.certificate_lines.specs.declared.entry.Entry.TheVariants.{Cut}
+use Rattle.certificate_lines.specs.declared.certificate_line.CertificateLine.TheVariants.{Cut}
 use Rattle.module_job.specs.declared.job.Demand.{Demand}
 use Rattle.module_job.specs.declared.job.Demand.TheVariants as Demanded
 use Rattle.local_run.proofs.OwnWires.{demand_below, start_below}
@@ -52,7 +52,7 @@ abbrev name_p : List ℕ
 name_p = 112 ∷ []
 
 -- the wire `p` is an input and an output
-abbrev lines : List Entry
+abbrev lines : List CircuitLine
 lines = record { kind = Input; ins = []; outs = name_p ∷ [] } ∷ record { kind = Output; ins = name_p ∷ []; outs = [] }
     ∷ []
 
@@ -75,7 +75,7 @@ area = record { x = 0; y = 0; w = 4; h = 4 }
 abbrev one : ModuleLines
 one = record { area = area; lines = Cut name_p ∷ [] }
 
-abbrev job : JobState
+abbrev job : JobView
 job = record {
   area = area;
   steps = 2;
@@ -85,8 +85,8 @@ job = record {
   demands = Demanded.Dead ∷ Demanded.Dead ∷ Demanded.Dead ∷ Demanded.Dead ∷ Demanded.Dead ∷ Demanded.Dead
       ∷ Demanded.Dead ∷ Demanded.Dead ∷ Demanded.Dead ∷ Demanded.Dead ∷ Demanded.Wire 0 ∷ Demanded.Dead
       ∷ Demanded.Dead ∷ Demanded.Dead ∷ Demanded.Dead ∷ Demanded.Dead ∷ [];
-  edges = record { held = []; events = [] };
-  halos = record { held = []; events = [] };
+  edges = record { all_times = []; events = [] };
+  halos = record { all_times = []; events = [] };
   stops = [];
   kept = [];
 }
@@ -131,9 +131,9 @@ own_wires = record {
       (omega arith, (tt, (tt, (tt, (tt, (tt, (tt, (tt, (tt, (tt, (tt, (tt, (tt, (tt, (tt, (tt, tt))))))))))))))));
   demands = All-from_recursion (IsDemandBelow 1) job.demands
       (tt, (tt, (tt, (tt, (tt, (tt, (tt, (tt, (tt, (tt, (omega arith, (tt, (tt, (tt, (tt, (tt, tt))))))))))))))));
-  edge_held = λ k d lt. absurd (omega arith);
+  edge_all_times = λ k d lt. absurd (omega arith);
   edge_events = λ k d lt. absurd (omega arith);
-  halo_held = λ k d lt. absurd (omega arith);
+  halo_all_times = λ k d lt. absurd (omega arith);
   halo_events = λ k d lt. absurd (omega arith);
   stops = λ k d lt. absurd (omega arith);
 }
@@ -150,7 +150,7 @@ same_start u x y = live_below u (job_start job x y) (start_below job x y own_wir
 
 same_halo : (u : Valuation) (t : ℕ) (s s' : State) (x y : ℤ) → s x y ≡ s' x y →
     with_halo job u t s x y ≡ with_halo job (all (u 0)) t s' x y
-unfolding with_halo signal_at held_at event_at
+unfolding with_halo signal_at all_times_at event_at
 same_halo u t s s' x y e = ap (λ b. b || (in_halo area x y && false)) e
 
 same_run : (u : Valuation) (t : ℕ) (x y : ℤ) → local_run job u t x y ≡ local_run job (all (u 0)) t x y
@@ -185,7 +185,7 @@ MetAtEnd b x y = Meets (all b) (job_demand job x y) (local_run job (all b) 2 x y
 
 all_met : (b : Bool) (x y : ℤ) → in_box area x y ≡ true → MetAtEnd b x y
 unfolding in_box some_neighbour in_span in_halo local_run local_step with_halo step partner turned job_start job_demand
-    signal_at held_at event_at
+    signal_at all_times_at event_at
 all_met true = cell_by_cell (MetAtEnd true) refl refl refl refl refl refl refl refl refl refl refl refl refl refl refl
     refl
 all_met false = cell_by_cell (MetAtEnd false) refl refl refl refl refl refl refl refl refl refl refl refl refl refl refl
@@ -194,7 +194,7 @@ all_met false = cell_by_cell (MetAtEnd false) refl refl refl refl refl refl refl
 -- ---- no fault
 
 quiet : (u : Valuation) (t : ℕ) (x y : ℤ) → is_live u (signal_at job.edges t x y) ≡ false
-unfolding signal_at held_at event_at
+unfolding signal_at all_times_at event_at
 quiet u t x y = refl
 
 ring_inside : (x y : ℤ) → in_ring area x y ≡ true → in_box area x y ≡ true
@@ -240,11 +240,11 @@ no_fault f is = ∥∥₁_elim is.shown (λ a b. absurd a) (λ h. under_none h.v
 
 -- ---- the lists of one element
 
-only_job : (i : ℕ) (j : JobState) → slice_get (job ∷ []) i ≡ Some j → job ≡ j
+only_job : (i : ℕ) (j : JobView) → slice_get (job ∷ []) i ≡ Some j → job ≡ j
 only_job zero j e = same_some (Some job) job j refl e
 only_job (suc i) j e = absurd (none_some j e)
   where
-    none_some : (j : JobState) → None ≡ Some j → ⊥
+    none_some : (j : JobView) → None ≡ Some j → ⊥
     none_some j e = cc
 
 only_module : (i : ℕ) (m : ModuleLines) → slice_get (one ∷ []) i ≡ Some m → one ≡ m
@@ -397,7 +397,7 @@ no_border i f is =
     let same : one ≡ is.lines = only_module i is.lines is.numbered in
     true≢false (sym is.inside ∙ ap (λ (m : ModuleLines). in_box m.area f.cell.x f.cell.y) same ∙ out)
 
-times_kept : are_all_kept (time_lines (circuit_of lines) (one ∷ [])) ≡ true
+times_kept : are_all_obeyed (time_lines (circuit_of lines) (one ∷ [])) ≡ true
 unfolding numbered
 times_kept = refl
 
@@ -418,7 +418,7 @@ example = record {
       no_border_fault = no_border;
       on_time = times_kept;
       no_keep_fault = λ number j f e is.
-          absurd (true≢false (sym (subst (λ (j : JobState). is_among j.kept f.gate ≡ true)
+          absurd (true≢false (sym (subst (λ (j : JobView). is_among j.kept f.gate ≡ true)
           (sym (only_job number j e)) is.is_kept)));
       kept = λ number gate e inverse. absurd (no_gate_at number gate e);
     };

@@ -12,15 +12,15 @@ use Rattle.std.proofs.lemmas.List.Sums.{sum_by-set}
 use Rattle.std.specs.List.{sum_by}
 use Rattle.std.proofs.lemmas.Option.{slice_get-map, slice_get_read}
 use Rattle.module_job.specs.Equality.{same_job}
-use Rattle.module_job.specs.Jobs.{JobState}
+use Rattle.module_job.specs.Jobs.{JobView}
 use Rattle.module_job.proofs.EqualJobs.{jobs_decide}
 use Rattle.local_run.specs.Shown.{digest_of, number_of, job_of}
 use Rattle.local_run.specs.declared.finding.Finding.{Finding}
 use Rattle.audit_core.specs.Book.{BookView, IsBook, IsOwn, accepted_in, after_closing, after_filing, count_after}
-use Rattle.audit_core.specs.Book.{filing_of, found_in, held_after, is_job_of, reply_to}
-use Rattle.audit_core.specs.declared.entry.Entry.{Entry}
-use Rattle.audit_core.specs.declared.entry.Entry.TheVariants.{Filed}
-use Rattle.audit_core.specs.declared.entry.Filing.{Filing}
+use Rattle.audit_core.specs.Book.{filing_of, found_in, findings_after, is_job_of, reply_to}
+use Rattle.audit_core.specs.declared.log_entry.LogEntry.{LogEntry}
+use Rattle.audit_core.specs.declared.log_entry.LogEntry.TheVariants.{Filed}
+use Rattle.audit_core.specs.declared.log_entry.Filing.{Filing}
 use Rattle.audit_core.specs.declared.reply.Mismatch.TheVariants.{Digest, Number, Content}
 use Rattle.audit_core.specs.declared.reply.Reply.{Reply}
 use Rattle.audit_core.specs.declared.reply.Reply.TheVariants.{Closed, Stranger, Double, Accepted}
@@ -91,16 +91,16 @@ pub number-within : (b : BookView) (f : Finding) (n count : ℕ) → n ≡ numbe
 number-within b f n count e c below = grind (arith, nat_tests)
 
 -- the job at a place, where the jobs are seen through a function
-pub is_job_of-at : {Y : Type 0} (view : Y → JobState) (ys : List Y) (n : ℕ) (y : Y) (job : JobState) → n < length ys →
+pub is_job_of-at : {Y : Type 0} (view : Y → JobView) (ys : List Y) (n : ℕ) (y : Y) (job : JobView) → n < length ys →
     y ≡ get_or ys n y → is_job_of (map view ys) n job ≡ same_job (view y) job
 unfolding is_job_of
 is_job_of-at view ys n y job below at =
-    ap (λ (o : Option JobState). option_eq same_job o (Some job))
+    ap (λ (o : Option JobView). option_eq same_job o (Some job))
     (slice_get-map view ys n ∙ ap (option_map view) (slice_get_read ys (length ys) n y refl below at))
 
 -- the test of the job, as the code makes it
-pub job-told : {Y : Type 0} (view : Y → JobState) (jobs : List JobState) (ys seen : List Y) (n : ℕ) (y : Y)
-    (own theirs : JobState) (r : Bool) → map view ys ≡ jobs → seen ≡ ys → n < length seen → y ≡ get_or seen n y →
+pub job-told : {Y : Type 0} (view : Y → JobView) (jobs : List JobView) (ys seen : List Y) (n : ℕ) (y : Y)
+    (own theirs : JobView) (r : Bool) → map view ys ≡ jobs → seen ≡ ys → n < length seen → y ≡ get_or seen n y →
     own ≡ view y → r ≡ same_job own theirs → r ≡ is_job_of jobs n theirs
 job-told view jobs ys seen n y own theirs r of_book all below at o e =
     let there : is_job_of (map view seen) n theirs ≡ same_job (view y) theirs =
@@ -108,11 +108,11 @@ job-told view jobs ys seen n y own theirs r of_book all below at o e =
     let whole : map view seen ≡ jobs = ap (map view) all ∙ of_book in
     e ∙ ap (λ x. same_job x theirs) o ∙ sym there ∙ ap (λ js. is_job_of js n theirs) whole
 
-is_job_of-past : {Y : Type 0} (view : Y → JobState) (ys : List Y) (n : ℕ) (job : JobState) → length ys ≤ n →
+is_job_of-past : {Y : Type 0} (view : Y → JobView) (ys : List Y) (n : ℕ) (job : JobView) → length ys ≤ n →
     is_job_of (map view ys) n job ≡ false
 unfolding is_job_of
 is_job_of-past view ys n job past =
-    ap (λ (o : Option JobState). option_eq same_job o (Some job))
+    ap (λ (o : Option JobView). option_eq same_job o (Some job))
     (slice_get-map view ys n ∙ ap (option_map view) (slice_get_past ys n past))
   where
     slice_get_past : {X : Type 0} (xs : List X) (k : ℕ) → length xs ≤ k → slice_get xs k ≡ None
@@ -120,8 +120,8 @@ is_job_of-past view ys n job past =
     slice_get_past (x ∷ xs) zero le = absurd (omega (arith, le))
     slice_get_past (x ∷ xs) (suc k) le = slice_get_past xs k (omega (arith, le))
 
-pub no_job-told : {Y : Type 0} (view : Y → JobState) (jobs : List JobState) (ys seen : List Y) (n : ℕ)
-    (job : JobState) → map view ys ≡ jobs → seen ≡ ys → length seen ≤ n → false ≡ is_job_of jobs n job
+pub no_job-told : {Y : Type 0} (view : Y → JobView) (jobs : List JobView) (ys seen : List Y) (n : ℕ)
+    (job : JobView) → map view ys ≡ jobs → seen ≡ ys → length seen ≤ n → false ≡ is_job_of jobs n job
 no_job-told view jobs ys seen n job of_book all past =
     sym (is_job_of-past view seen n job past) ∙ ap (λ js. is_job_of js n job) (ap (map view) all ∙ of_book)
 
@@ -154,11 +154,11 @@ unfolding reply_to
 accepted-passes b f e = passes _ _ _ _ _ (number_of f) e
 
 -- a job that passes the test is the job of that number
-same_option : (o : Option JobState) (job : JobState) → option_eq same_job o (Some job) ≡ true → o ≡ Some job
+same_option : (o : Option JobView) (job : JobView) → option_eq same_job o (Some job) ≡ true → o ≡ Some job
 same_option None job e = cc
 same_option (Some own) job e = ap Some ((jobs_decide own job).0 e)
 
-pub is_job_of-true : (jobs : List JobState) (n : ℕ) (job : JobState) → is_job_of jobs n job ≡ true →
+pub is_job_of-true : (jobs : List JobView) (n : ℕ) (job : JobView) → is_job_of jobs n job ≡ true →
     slice_get jobs n ≡ Some job
 unfolding is_job_of
 is_job_of-true jobs n job e = same_option (slice_get jobs n) job e
@@ -182,44 +182,46 @@ accepted-new b f e = (accepted-passes b f e).held_is
 
 -- ---- what is held after a filing
 
-pub accepted-inside : (b : BookView) (f : Finding) → IsBook b → reply_to b f ≡ Accepted → number_of f < length b.held
+pub accepted-inside : (b : BookView) (f : Finding) → IsBook b → reply_to b f ≡ Accepted →
+    number_of f < length b.findings
 accepted-inside b f is e =
     let below : number_of f < length b.jobs = accepted-number b f e in
     omega (arith, is.places)
 
-pub held_after-accepted : (b : BookView) (f : Finding) → reply_to b f ≡ Accepted →
-    held_after b.held f (reply_to b f) ≡ set b.held (number_of f) (Some f)
-unfolding held_after
-held_after-accepted b f e = ap (held_after b.held f) e
+pub findings_after-accepted : (b : BookView) (f : Finding) → reply_to b f ≡ Accepted →
+    findings_after b.findings f (reply_to b f) ≡ set b.findings (number_of f) (Some f)
+unfolding findings_after
+findings_after-accepted b f e = ap (findings_after b.findings f) e
 
-pub held_after-other : (held : List (Option Finding)) (f : Finding) (r : Reply) → r ≢ Accepted →
-    held_after held f r ≡ held
-unfolding held_after
-held_after-other held f Accepted other = absurd (other refl)
-held_after-other held f Closed other = refl
-held_after-other held f (Stranger mismatch) other = refl
-held_after-other held f (Double number) other = refl
+pub findings_after-other : (held : List (Option Finding)) (f : Finding) (r : Reply) → r ≢ Accepted →
+    findings_after held f r ≡ held
+unfolding findings_after
+findings_after-other held f Accepted other = absurd (other refl)
+findings_after-other held f Closed other = refl
+findings_after-other held f (Stranger mismatch) other = refl
+findings_after-other held f (Double number) other = refl
 
 -- whose a finding is depends on the digest and the jobs alone
 own-moved : (b c : BookView) (n : ℕ) (f : Finding) → b.digest ≡ c.digest → b.jobs ≡ c.jobs → IsOwn b n f → IsOwn c n f
 own-moved b c n f digest jobs p =
     record { digest = p.digest ∙ digest; number_is = p.number_is; job = ap (λ js. slice_get js n) (sym jobs) ∙ p.job }
 
-own-set : (b : BookView) (n : ℕ) (f : Finding) → n < length b.held → IsOwn b n f → IsBook b → (k : ℕ) (g : Finding) →
-    get_or (set b.held n (Some f)) k None ≡ Some g → IsOwn b k g
+own-set : (b : BookView) (n : ℕ) (f : Finding) → n < length b.findings → IsOwn b n f → IsBook b →
+    (k : ℕ) (g : Finding) →
+    get_or (set b.findings n (Some f)) k None ≡ Some g → IsOwn b k g
 own-set b n f inside own is k g e =
     elim (eqb_tells n k) [
       | inl p ↦
-          let there : get_or (set b.held n (Some f)) k None ≡ Some f =
-          ap (λ (j : ℕ). get_or (set b.held n (Some f)) j None) (sym p.1)
-          ∙ get_or-set_same b.held n (Some f) None inside in
+          let there : get_or (set b.findings n (Some f)) k None ≡ Some f =
+          ap (λ (j : ℕ). get_or (set b.findings n (Some f)) j None) (sym p.1)
+          ∙ get_or-set_same b.findings n (Some f) None inside in
           let same : f ≡ g = cc in
           subst (λ (x : Finding). IsOwn b k x) same (subst (λ (j : ℕ). IsOwn b j f) p.1 own)
-      | inr q ↦ is.own k g (sym (get_or-set_other b.held n k (Some f) None (λ s. q.1 (sym s))) ∙ e)
+      | inr q ↦ is.own k g (sym (get_or-set_other b.findings n k (Some f) None (λ s. q.1 (sym s))) ∙ e)
     ]
 
 -- a book that holds what another one held after a filing
-book-of : (b c : BookView) (held : List (Option Finding)) → b.digest ≡ c.digest → b.jobs ≡ c.jobs → c.held ≡ held →
+book-of : (b c : BookView) (held : List (Option Finding)) → b.digest ≡ c.digest → b.jobs ≡ c.jobs → c.findings ≡ held →
     length held ≡ length b.jobs → ((k : ℕ) (g : Finding) → get_or held k None ≡ Some g → IsOwn b k g) → IsBook c
 book-of b c held digest jobs same places own = record {
   places = ap length same ∙ places ∙ ap length jobs;
@@ -230,21 +232,21 @@ book-of b c held digest jobs same places own = record {
 filed-by : (b : BookView) (f : Finding) (r : Reply) → reply_to b f ≡ r → IsBook b → IsBook (after_filing b f)
 filed-by b f Accepted e is =
     let inside = accepted-inside b f is e in
-    book-of b (after_filing b f) (set b.held (number_of f) (Some f)) refl refl (held_after-accepted b f e)
-    (length-set b.held (number_of f) (Some f) ∙ is.places)
+    book-of b (after_filing b f) (set b.findings (number_of f) (Some f)) refl refl (findings_after-accepted b f e)
+    (length-set b.findings (number_of f) (Some f) ∙ is.places)
     (own-set b (number_of f) f inside (accepted-own b f e) is)
-filed-by b f Closed e is = book-of b (after_filing b f) b.held refl refl
-    (held_after-other b.held f _ (λ s. cc)) is.places is.own
+filed-by b f Closed e is = book-of b (after_filing b f) b.findings refl refl
+    (findings_after-other b.findings f _ (λ s. cc)) is.places is.own
 filed-by b f (Stranger mismatch) e is =
-    book-of b (after_filing b f) b.held refl refl (held_after-other b.held f _ (λ s. cc)) is.places is.own
+    book-of b (after_filing b f) b.findings refl refl (findings_after-other b.findings f _ (λ s. cc)) is.places is.own
 filed-by b f (Double number) e is =
-    book-of b (after_filing b f) b.held refl refl (held_after-other b.held f _ (λ s. cc)) is.places is.own
+    book-of b (after_filing b f) b.findings refl refl (findings_after-other b.findings f _ (λ s. cc)) is.places is.own
 
 pub IsBook-filed : (b : BookView) (f : Finding) → IsBook b → IsBook (after_filing b f)
 IsBook-filed b f is = filed-by b f (reply_to b f) refl is
 
 pub IsBook-closed : (b : BookView) → IsBook b → IsBook (after_closing b)
-IsBook-closed b is = book-of b (after_closing b) b.held refl refl refl is.places is.own
+IsBook-closed b is = book-of b (after_closing b) b.findings refl refl refl is.places is.own
 
 abbrev counted : Option Finding → ℕ
 counted o = cond (is_some o) 1 0
@@ -252,17 +254,17 @@ counted o = cond (is_some o) 1 0
 pub accepted_in-accepted : (b : BookView) (f : Finding) → IsBook b → reply_to b f ≡ Accepted →
     accepted_in (after_filing b f) ≡ accepted_in b + 1
 accepted_in-accepted b f is e =
-    let inside : number_of f < length b.held = accepted-inside b f is e in
-    let sum = sum_by-set counted b.held (number_of f) (Some f) None inside in
-    let none : counted (get_or b.held (number_of f) None) ≡ counted None =
+    let inside : number_of f < length b.findings = accepted-inside b f is e in
+    let sum = sum_by-set counted b.findings (number_of f) (Some f) None inside in
+    let none : counted (get_or b.findings (number_of f) None) ≡ counted None =
     ap (λ (t : Bool). cond t 1 0) (accepted-new b f e) in
-    let one : accepted_in (after_filing b f) ≡ sum_by counted (set b.held (number_of f) (Some f)) =
-    ap (sum_by counted) (held_after-accepted b f e) in
+    let one : accepted_in (after_filing b f) ≡ sum_by counted (set b.findings (number_of f) (Some f)) =
+    ap (sum_by counted) (findings_after-accepted b f e) in
     omega (arith, sum, none, one)
 
 pub accepted_in-other : (b : BookView) (f : Finding) → reply_to b f ≢ Accepted →
     accepted_in (after_filing b f) ≡ accepted_in b
-accepted_in-other b f other = ap (sum_by counted) (held_after-other b.held f (reply_to b f) other)
+accepted_in-other b f other = ap (sum_by counted) (findings_after-other b.findings f (reply_to b f) other)
 
 by_reply : (b : BookView) (f : Finding) (r : Reply) → reply_to b f ≡ r → IsBook b →
     accepted_in (after_filing b f) ≡ count_after (accepted_in b) r
@@ -292,21 +294,22 @@ found-own b n (Some f) is e = is.own n f.now (sym e)
 
 -- ---- what the code leaves
 
-pub left-accepted : (b : BookView) (f : Finding) (filing : Filing) (history : List Entry) → filing ≡ filing_of b f →
+pub left-accepted : (b : BookView) (f : Finding) (filing : Filing) (history : List LogEntry) → filing ≡ filing_of b f →
     history ≡ b.history ++ Filed filing ∷ [] → filing.reply ≡ Accepted
-    → record b { held = set b.held filing.number (Some f); history = history } ≡ after_filing b f
+    → record b { findings = set b.findings filing.number (Some f); history = history } ≡ after_filing b f
 left-accepted b f filing history is entries e =
     let accepted : reply_to b f ≡ Accepted = sym (ap (λ (x : Filing). x.reply) is) ∙ e in
-    let held : set b.held filing.number (Some f) ≡ held_after b.held f (reply_to b f) =
-    ap (λ (k : ℕ). set b.held k (Some f)) (ap (λ (x : Filing). x.number) is) ∙ sym (held_after-accepted b f accepted) in
+    let held : set b.findings filing.number (Some f) ≡ findings_after b.findings f (reply_to b f) =
+    ap (λ (k : ℕ). set b.findings k (Some f)) (ap (λ (x : Filing). x.number) is)
+    ∙ sym (findings_after-accepted b f accepted) in
     let all : history ≡ (after_filing b f).history = entries ∙ ap (λ (x : Filing). b.history ++ Filed x ∷ []) is in
-    (λ i. record b { held = held i; history = all i })
+    (λ i. record b { findings = held i; history = all i })
 
-pub left-other : (b : BookView) (f : Finding) (filing : Filing) (history : List Entry) → filing ≡ filing_of b f →
+pub left-other : (b : BookView) (f : Finding) (filing : Filing) (history : List LogEntry) → filing ≡ filing_of b f →
     history ≡ b.history ++ Filed filing ∷ [] → (filing.reply ≡ Accepted → ⊥)
     → record b { history = history } ≡ after_filing b f
 left-other b f filing history is entries other =
-    let held : b.held ≡ held_after b.held f (reply_to b f) =
-    sym (held_after-other b.held f (reply_to b f) (λ e. other (ap (λ (x : Filing). x.reply) is ∙ e))) in
+    let held : b.findings ≡ findings_after b.findings f (reply_to b f) =
+    sym (findings_after-other b.findings f (reply_to b f) (λ e. other (ap (λ (x : Filing). x.reply) is ∙ e))) in
     let all : history ≡ (after_filing b f).history = entries ∙ ap (λ (x : Filing). b.history ++ Filed x ∷ []) is in
-    (λ i. record b { held = held i; history = all i })
+    (λ i. record b { findings = held i; history = all i })

@@ -9,8 +9,8 @@ use Rattle.std.proofs.lemmas.List.{get_or_default}
 use Rattle.std.proofs.lemmas.Option.{same_Some, slice_get-map}
 use Rattle.std.specs.Option.{option_map}
 use Rattle.module_job.specs.Groups.{AreGroups, IsFirstLike}
-use Rattle.module_job.specs.Jobs.{JobState}
-use Rattle.module_job.specs.Shapes.{ShapeState, shape_of}
+use Rattle.module_job.specs.Jobs.{JobView}
+use Rattle.module_job.specs.Shapes.{ShapeView, shape_of}
 use Rattle.local_run.specs.Shown.{job_of}
 use Rattle.local_run.specs.declared.finding.Finding.{Finding}
 use Rattle.audit_core.specs.Book.{BookView, found_in}
@@ -53,7 +53,7 @@ firsts_grow g n (suc m) le = elim (cases_order n (suc m)) [
 
 -- ---- the first of a group is held before the others
 
-slice_map : (js : List JobState) (k : ℕ) (j : JobState) → slice_get js k ≡ Some j →
+slice_map : (js : List JobView) (k : ℕ) (j : JobView) → slice_get js k ≡ Some j →
     slice_get (shapes_of js) k ≡ Some (shape_of j)
 slice_map js k j e = slice_get-map shape_of js k ∙ ap (option_map shape_of) e
 
@@ -61,7 +61,7 @@ some_of : (o : Option Finding) → IsSome o → (f : Finding) × (o ≡ Some f)
 some_of None h = absurd cc
 some_of (Some f) h = (f, refl)
 
-pub holds_alike : (b c : BookView) (g : List ℕ) (n : ℕ) (job : JobState) → IsFilling b c n →
+pub holds_alike : (b c : BookView) (g : List ℕ) (n : ℕ) (job : JobView) → IsFilling b c n →
     AreGroups (shapes_of c.jobs) g → n < length (shapes_of c.jobs) →
     slice_get c.jobs n ≡ Some job → slice_index g n ≢ n → HoldsAlike c (slice_index g n) job
 holds_alike b c g n job filling are below at other =
@@ -105,7 +105,7 @@ runs_step g n before r r' so_far none one =
     (step_by (slice_index g n == n) (slice_index g n) n before r r' (firsts g n) refl so_far none one)
 
 -- after some numbers, which are no more than there are jobs
-pub runs_end : {shapes : List ShapeState} (g : List ℕ) (n before r : ℕ) → AreGroups shapes g → n ≤ length shapes →
+pub runs_end : {shapes : List ShapeView} (g : List ℕ) (n before r : ℕ) → AreGroups shapes g → n ≤ length shapes →
     r ≤ before + firsts g n → RunsOneForEach shapes before r
 runs_end {shapes = shapes} g n before r of_g le so_far h of_h =
     let same = same_firsts shapes g h of_g of_h (length shapes) (omega arith) in

@@ -10,7 +10,7 @@ use Rattle.std.proofs.lemmas.Bool.Decides.{eqb_tells}
 use Rattle.std.proofs.lemmas.List.{append-nil, append_assoc, map-append}
 use Rattle.std.proofs.lemmas.Slice.Eq.{slice_eq-Decides}
 use Rattle.module_job.specs.Equality.{same_job}
-use Rattle.module_job.specs.Jobs.{JobState}
+use Rattle.module_job.specs.Jobs.{JobView}
 use Rattle.module_job.proofs.EqualJobs.{jobs_decide}
 use Rattle.local_run.specs.Shown.{digest_of, number_of, job_of}
 use Rattle.local_run.specs.declared.finding.Finding.{Finding}
@@ -19,8 +19,8 @@ use Rattle.audit_core.specs.Book.{is_job_of, new_book, reply_to}
 use Rattle.audit_core.specs.Filling.{IsHeldOrFiled, IsFilledTo, IsFull, IsOpenFor, IsPartlyFilled, accepted_entry}
 use Rattle.audit_core.specs.Filling.{lacking}
 use Rattle.audit_core.specs.Verdicts.{AreHeldBelow}
-use Rattle.audit_core.specs.declared.entry.Entry.{Entry}
-use Rattle.audit_core.specs.declared.entry.Entry.TheVariants.{Filed}
+use Rattle.audit_core.specs.declared.log_entry.LogEntry.{LogEntry}
+use Rattle.audit_core.specs.declared.log_entry.LogEntry.TheVariants.{Filed}
 use Rattle.audit_core.specs.declared.reply.Reply.TheVariants.{Accepted}
 use Rattle.audit_core.proofs.BookLaws.{held-elsewhere, holds-what_is_accepted, keeps-what_is_held, own-digest, own-job}
 use Rattle.audit_core.proofs.BookLaws.{own-number}
@@ -30,21 +30,21 @@ use Rattle.audit_core.proofs.FullBooks.{count, full_book_holds-all}
 -- ---- the same jobs
 
 -- whether two lists, seen through a function, are the same, as `==` tells it
-pub lists-told : {Y : Type 0} (view : Y → JobState) (xs ys : List Y) (r : Bool) →
+pub lists-told : {Y : Type 0} (view : Y → JobView) (xs ys : List Y) (r : Bool) →
     r ≡ pointwise (λ a b. same_job (view a) (view b)) xs ys → Decides r (map view xs ≡ map view ys)
 lists-told view xs ys r e = slice_eq-Decides {E = same_job} jobs_decide (map view xs) (map view ys) r
     (e ∙ sym (pointwise-map view same_job xs ys))
 
-pub clones-same : {Y : Type 0} (view : Y → JobState) (xs ys : List Y) → AllZip (λ x y. view y ≡ view x) xs ys →
+pub clones-same : {Y : Type 0} (view : Y → JobView) (xs ys : List Y) → AllZip (λ x y. view y ≡ view x) xs ys →
     map view ys ≡ map view xs
 clones-same view [] [] all = refl
 clones-same view [] (y ∷ ys) all = absurd all
 clones-same view (x ∷ xs) [] all = absurd all
 clones-same view (x ∷ xs) (y ∷ ys) all =
-    ap₂ (λ (j : JobState) (js : List JobState). j ∷ js) all.0 (clones-same view xs ys all.1)
+    ap₂ (λ (j : JobView) (js : List JobView). j ∷ js) all.0 (clones-same view xs ys all.1)
 
 -- a new book of these jobs
-pub new-open : (digest : List ℕ) (jobs : List JobState) (b : BookView) → b ≡ new_book digest jobs →
+pub new-open : (digest : List ℕ) (jobs : List JobView) (b : BookView) → b ≡ new_book digest jobs →
     IsOpenFor digest jobs b
 unfolding new_book
 new-open digest jobs b is = record {
@@ -56,7 +56,7 @@ new-open digest jobs b is = record {
 -- ---- one number
 
 -- a finding of the book's own, for a number that lacks one, is accepted
-pub new-accepted : (b : BookView) (f : Finding) (n : ℕ) (job : JobState) → b.closed ≡ false → digest_of f ≡ b.digest →
+pub new-accepted : (b : BookView) (f : Finding) (n : ℕ) (job : JobView) → b.closed ≡ false → digest_of f ≡ b.digest →
     number_of f ≡ n → job_of f ≡ job → slice_get b.jobs n ≡ Some job → is_some (found_in b n) ≡ false →
     reply_to b f ≡ Accepted
 new-accepted b f n job still_open digest number whole at lacks =
@@ -65,7 +65,7 @@ new-accepted b f n job still_open digest number whole at lacks =
     reply_to-new b f still_open (own-digest b _ f there) (own-number b f there) (own-job b _ f there)
     (ap (λ (k : ℕ). is_some (found_in b k)) number ∙ lacks)
 
-pub filed-for : (b c : BookView) (f : Finding) (n : ℕ) (job : JobState) → b.closed ≡ false → digest_of f ≡ b.digest →
+pub filed-for : (b c : BookView) (f : Finding) (n : ℕ) (job : JobView) → b.closed ≡ false → digest_of f ≡ b.digest →
     number_of f ≡ n → job_of f ≡ job → slice_get b.jobs n ≡ Some job → is_some (found_in b n) ≡ false →
     c ≡ after_filing b f → IsHeldOrFiled b c n
 filed-for b c f n job still_open digest number whole at lacks after =
@@ -131,15 +131,15 @@ history-filed b c f n is lacks number accepted =
     let new : lacking b (suc n) ≡ lacking b n ++ n ∷ [] =
     lacking-new b n (ap is_some (sym (is.rest n (omega arith))) ∙ lacks) in
     let own : c.history ++ Filed (filing_of c f) ∷ [] ≡ c.history ++ entry n ∷ [] =
-    ap (λ (e : Entry). c.history ++ e ∷ []) (entry-accepted b c f n is.digest_stays number accepted) in
+    ap (λ (e : LogEntry). c.history ++ e ∷ []) (entry-accepted b c f n is.digest_stays number accepted) in
     let before : c.history ++ entry n ∷ [] ≡ (b.history ++ map entry (lacking b n)) ++ entry n ∷ [] =
-    ap (λ (es : List Entry). es ++ entry n ∷ []) is.history_grows in
+    ap (λ (es : List LogEntry). es ++ entry n ∷ []) is.history_grows in
     let apart : (b.history ++ map entry (lacking b n)) ++ entry n ∷ []
     ≡ b.history ++ (map entry (lacking b n) ++ entry n ∷ []) =
     append_assoc b.history (map entry (lacking b n)) (entry n ∷ []) in
     let mapped : map entry (lacking b n) ++ entry n ∷ [] ≡ map entry (lacking b n ++ n ∷ []) =
     sym (map-append entry (lacking b n) (n ∷ [])) in
-    own ∙ before ∙ apart ∙ ap (λ (es : List Entry). b.history ++ es) (mapped ∙ ap (map entry) (sym new))
+    own ∙ before ∙ apart ∙ ap (λ (es : List LogEntry). b.history ++ es) (mapped ∙ ap (map entry) (sym new))
 
 step-filed : (b c : BookView) (f : Finding) (n : ℕ) → IsBook c → IsFilledTo b c n → is_some (found_in c n) ≡ false →
     number_of f ≡ n → reply_to c f ≡ Accepted → IsFilledTo b (after_filing c f) (suc n)
@@ -190,7 +190,7 @@ filling-step b c d n is (inr h) =
 pub partly : (b c : BookView) (n : ℕ) → n ≤ length b.jobs → IsFilledTo b c n → IsPartlyFilled b c
 partly b c n most is = record { below = n; at_most = most; filled = is }
 
-pub open-stays : (digest : List ℕ) (jobs : List JobState) (b c : BookView) (n : ℕ) → IsOpenFor digest jobs b →
+pub open-stays : (digest : List ℕ) (jobs : List JobView) (b c : BookView) (n : ℕ) → IsOpenFor digest jobs b →
     IsFilledTo b c n → IsOpenFor digest jobs c
 open-stays digest jobs b c n own is = record {
   still_open = is.closed_stays ∙ own.still_open;
@@ -206,12 +206,12 @@ count-all (o ∷ os) all =
     let one : ◌≡◌ {A = ℕ} (cond (is_some o) 1 0) 1 = ap (λ (t : Bool). cond t 1 0) (all 0 (omega arith)) in
     omega (arith, count o os, rest, one)
 
-pub is-full : (digest : List ℕ) (jobs : List JobState) (b : BookView) → IsOpenFor digest jobs b → IsReplayed b →
+pub is-full : (digest : List ℕ) (jobs : List JobView) (b : BookView) → IsOpenFor digest jobs b → IsReplayed b →
     IsBook b → accepted_in b ≡ length b.jobs → IsFull digest jobs b
 is-full digest jobs b own replays book all = record {
   is_open = own;
   replays = replays;
-  all_held = subst (λ (js : List JobState). AreHeldBelow b js (length js)) own.jobs_are
+  all_held = subst (λ (js : List JobView). AreHeldBelow b js (length js)) own.jobs_are
       (full_book_holds-all b book all);
   all_accepted = all ∙ ap length own.jobs_are;
 }
@@ -219,4 +219,5 @@ is-full digest jobs b own replays book all = record {
 pub filled-all : (b c : BookView) (n : ℕ) → length b.jobs ≤ n → IsFilling b c n → accepted_in c ≡ length c.jobs
 filled-all b c n past is =
     let same : length c.jobs ≡ length b.jobs = ap length is.filled.jobs_stay in
-    count-all c.held (λ k below. is.filled.held k (omega (arith, below, is.book.places, same, past))) ∙ is.book.places
+    count-all c.findings (λ k below. is.filled.held k (omega (arith, below, is.book.places, same, past)))
+    ∙ is.book.places

@@ -16,9 +16,9 @@ use Rattle.bbm_rule.specs.declared.block.Cell.{Cell}
 use Rattle.bbm_rule.proofs.SameCells.{cell_same}
 use Rattle.circuit.specs.Bridge.{circuit_of, netlist_of}
 use Rattle.circuit.specs.Meaning.{Circuit, Satisfies, Valuation, values_by_name, wire_of, wire_value}
-use Rattle.circuit.specs.declared.entry.Entry.{Entry}
+use Rattle.circuit.specs.declared.circuit_line.CircuitLine.{CircuitLine}
 use Rattle.pattern.specs.Layout.{Pattern, in_cells, in_rectangles}
-use Rattle.pattern.specs.declared.parts.Port.{Port}
+use Rattle.pattern.specs.declared.layout_line.Port.{Port}
 use Rattle.module_box.specs.Boxes.{in_box, in_ring}
 use Rattle.module_box.specs.Locals.{LocalNet, circuit_wire}
 use Rattle.module_box.specs.LocalValues.{seen_by}
@@ -28,10 +28,10 @@ use Rattle.certificate_lines.specs.Entries.{ModuleLines, cut_wires, cuts, known,
 use Rattle.certificate_lines.specs.Modules.{IsModule, IsStop}
 use Rattle.certificate_lines.specs.PortTables.{port_at}
 use Rattle.certificate_lines.specs.Settings.{setting_of}
-use Rattle.certificate_lines.specs.declared.entry.StopLine.{StopLine}
+use Rattle.certificate_lines.specs.declared.certificate_line.StopLine.{StopLine}
 use Rattle.certificate_lines.proofs.LayoutPorts.{port_stands, none_stands}
 use Rattle.certificate_lines.proofs.Lists.{kept, passed}
-use Rattle.module_job.specs.Jobs.{JobState, job_demand}
+use Rattle.module_job.specs.Jobs.{JobView, job_demand}
 use Rattle.module_job.specs.Signals.{Meets, renumber_demand, renumber_stop}
 use Rattle.module_job.specs.declared.job.Demand.{Demand}
 use Rattle.module_job.specs.declared.job.Demand.TheVariants as Demanded
@@ -54,7 +54,7 @@ use Rattle.audit_core.proofs.StopParts.{all_flat}
 use Rattle.audit_core.proofs.WholeRuns.{starts, steps_with_good_borders}
 
 -- up to a time before which the borders are good, the plane is the jobs' runs
-pub runs_up_to : (lines : List Entry) (p : Pattern) (ms : List ModuleLines) (jobs : List JobState)
+pub runs_up_to : (lines : List CircuitLine) (p : Pattern) (ms : List ModuleLines) (jobs : List JobView)
     (inputs v : Valuation) (t : ℕ) → BelongTogether lines p ms jobs →
     Satisfies (netlist_of lines) inputs v → t ≤ p.size.steps → ((s : ℕ) → s < t → HasGoodBorders lines p ms jobs v s) →
     IsRunOfJobs lines p jobs v t
@@ -78,7 +78,7 @@ all_numbered : (P : listed.Stop → Type 0) (s : StopLine) (o : Option ℕ) → 
 all_numbered P s None h = All-nil P
 all_numbered P s (Some w) h = All-cons P (stop_at s w) [] (h w refl) (All-nil P)
 
-pub stop_by_lines : (c : Circuit) (p : Pattern) (m : ModuleLines) (j : JobState) (P : listed.Stop → Type 0) →
+pub stop_by_lines : (c : Circuit) (p : Pattern) (m : ModuleLines) (j : JobView) (P : listed.Stop → Type 0) →
     IsJobOf c p m j →
     ((k : ℕ) (s : StopLine) → slice_get (stops m) k ≡ Some s → (w : ℕ) → wire_of c s.wire ≡ Some w → P (stop_at s w)) →
     (s : listed.Stop) → Contains j.stops s → P (renumber_stop (circuit_wire j.locals) s)
@@ -108,8 +108,8 @@ record IsStopThere (p : Pattern) (m : ModuleLines) (v : Valuation) (state : Stat
   inside : in_box m.area r.at.cell.x r.at.cell.y ≡ true
   same : r.at.time ≡ t → r.at.cell.x ≡ x → r.at.cell.y ≡ y → state x y ≡ v r.wire
 
-pub real : (lines : List Entry) (p : Pattern) (ms : List ModuleLines) (jobs : List JobState) (inputs v : Valuation)
-    (i : ℕ) (m : ModuleLines) (j : JobState) (t : ℕ) (kind : Kind) (x y : ℤ) →
+pub real : (lines : List CircuitLine) (p : Pattern) (ms : List ModuleLines) (jobs : List JobView) (inputs v : Valuation)
+    (i : ℕ) (m : ModuleLines) (j : JobView) (t : ℕ) (kind : Kind) (x y : ℤ) →
     BelongTogether lines p ms jobs → slice_get ms i ≡ Some m → slice_get jobs i ≡ Some j →
     Satisfies (netlist_of lines) inputs v →
     ((s : ℕ) → s < t → HasGoodBorders lines p ms jobs v s) → IsFaultUnder j (seen_by j.locals v) t kind x y →
@@ -152,7 +152,7 @@ real lines p ms jobs inputs v i m j t End x y b atm atj s good f said =
 
 -- ---- under any values of the module's wires it is one
 
-pub seen_fault : (lines : List Entry) (p : Pattern) (m : ModuleLines) (inputs v : Valuation) (j : JobState)
+pub seen_fault : (lines : List CircuitLine) (p : Pattern) (m : ModuleLines) (inputs v : Valuation) (j : JobView)
     (f : Fault) → IsJobOf (circuit_of lines) p m j →
     Satisfies (netlist_of lines) inputs v → IsAssignmentOf j v f.assignment → HasFault j f →
     IsFaultUnder j (seen_by j.locals v) f.time f.kind f.cell.x f.cell.y
@@ -209,7 +209,7 @@ asked_meets c p v state x y looks =
       | inr h ↦ subst P (sym h) (off_mirrors c p v state x y _ _ looks h refl refl)
     ]
 
-end_last : (j : JobState) (u : Valuation) (t : ℕ) (kind : Kind) (x y : ℤ) → kind ≡ End → IsFaultUnder j u t kind x y →
+end_last : (j : JobView) (u : Valuation) (t : ℕ) (kind : Kind) (x y : ℤ) → kind ≡ End → IsFaultUnder j u t kind x y →
     t ≡ j.steps
 end_last j u t Edge x y e f = absurd cc
 end_last j u t AtStop x y e f = absurd cc
@@ -222,7 +222,7 @@ end_said c p m v t AtStop x y e h = absurd cc
 end_said c p m v t End x y e h = h
 
 -- what looks as asked has no fault at its end
-asked_at : (lines : List Entry) (p : Pattern) (inputs v : Valuation) (x y : ℤ) → HasInputNames lines p →
+asked_at : (lines : List CircuitLine) (p : Pattern) (inputs v : Valuation) (x y : ℤ) → HasInputNames lines p →
     Satisfies (netlist_of lines) inputs v →
     LooksAsAsked p (values_by_name (circuit_of lines) v) (run_under (circuit_of lines) p inputs p.size.steps) →
     Meets v (end_demand (circuit_of lines) p x y) (run_under (circuit_of lines) p v p.size.steps x y)
@@ -232,19 +232,19 @@ asked_at lines p inputs v x y named s looks =
     subst Q (sym (inputs_decide lines p inputs v p.size.steps x y named s))
     (asked_meets c p v (run_under c p inputs p.size.steps) x y looks)
 
-pub correct_meets : (lines : List Entry) (p : Pattern) (inputs v : Valuation) (x y : ℤ) → HasInputNames lines p →
+pub correct_meets : (lines : List CircuitLine) (p : Pattern) (inputs v : Valuation) (x y : ℤ) → HasInputNames lines p →
     Satisfies (netlist_of lines) inputs v → IsCorrect lines p →
     Meets v (end_demand (circuit_of lines) p x y) (run_under (circuit_of lines) p v p.size.steps x y)
 correct_meets lines p inputs v x y named s correct =
     asked_at lines p inputs v x y named s ((correct.implements inputs).looks v s)
 
 -- a first fault is real
-pub first_means : (lines : List Entry) (p : Pattern) (ms : List ModuleLines) (jobs : List JobState)
+pub first_means : (lines : List CircuitLine) (p : Pattern) (ms : List ModuleLines) (jobs : List JobView)
     (inputs v : Valuation) (i : ℕ) (m : ModuleLines) (f : Fault) → HasInputNames lines p →
     IsFirstFault lines p ms jobs inputs v i m f → IsReal lines p m inputs v f
 first_means lines p ms jobs inputs v i m f named first =
     let c = circuit_of lines in
-    let j : JobState = first.job in
+    let j : JobView = first.job in
     let is : IsJobOf c p m j = first.bundle.are_jobs.each i m j first.lines_are first.numbered in
     let differs = first_is_real lines p ms jobs inputs v i m f first in
     let unasked : f.kind ≡ End → ¬ LooksAsAsked p (values_by_name c v) (run_under c p inputs p.size.steps) =
@@ -308,7 +308,7 @@ placed_wire f (x ∷ ns) n k all at =
     by_wire f x n ns (f x) k refl all at (λ k all at. placed_wire f ns n k all at)
 
 -- what gives the cuts the bits by their names does so by the job's wires
-pub assigned : (lines : List Entry) (p : Pattern) (m : ModuleLines) (j : JobState) (v : Valuation) (a : ℕ) →
+pub assigned : (lines : List CircuitLine) (p : Pattern) (m : ModuleLines) (j : JobView) (v : Valuation) (a : ℕ) →
     IsModule (setting_of lines p) m → IsJobOf (circuit_of lines) p m j → HasAssignment (circuit_of lines) m v a →
     (k : ℕ) → k < j.locals.netlist.given → bit a k ≡ seen_by j.locals v k
 assigned lines p m j v a good is has k lt =

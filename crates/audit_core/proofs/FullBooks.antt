@@ -5,7 +5,7 @@ use Rattle.std.specs.Prelude.{is_some, slice_get}
 use Rattle.std.specs.List.{count_by}
 use Rattle.std.proofs.lemmas.List.Sums.{count_by-le-length, sum_by-cons}
 use Rattle.std.proofs.lemmas.Option.{same_Some}
-use Rattle.module_job.specs.Jobs.{JobState}
+use Rattle.module_job.specs.Jobs.{JobView}
 use Rattle.local_run.specs.declared.finding.Finding.{Finding}
 use Rattle.audit_core.specs.Book.{BookView, IsBook, found_in}
 use Rattle.audit_core.specs.Laws.{FullBookHoldsAll}
@@ -24,13 +24,13 @@ all_there (Some f ∷ os) zero full below = refl
 all_there (Some f ∷ os) (suc k) full below =
     all_there os k (omega (arith, full, count (Some f) os)) (omega (arith, below))
 
-held : (b : BookView) (k : ℕ) (j : JobState) (o : Option Finding) → IsBook b → found_in b k ≡ o → is_some o ≡ true →
+held : (b : BookView) (k : ℕ) (j : JobView) (o : Option Finding) → IsBook b → found_in b k ≡ o → is_some o ≡ true →
     slice_get b.jobs k ≡ Some j → IsHeld b k j
 held b k j None is e some at = cc
 held b k j (Some f) is e some at = record { finding = f; held = e; whole = same_Some _ _ (sym (is.own k f e).job ∙ at) }
 
 pub full_book_holds-all : FullBookHoldsAll
 full_book_holds-all b is full k j below at =
-    let inside : k < length b.held = omega (arith, is.places, below) in
-    let there : is_some (found_in b k) ≡ true = all_there b.held k (full ∙ sym is.places) inside in
+    let inside : k < length b.findings = omega (arith, is.places, below) in
+    let there : is_some (found_in b k) ≡ true = all_there b.findings k (full ∙ sym is.places) inside in
     held b k j (found_in b k) is refl there at

@@ -17,9 +17,9 @@ use Rattle.circuit.specs.Bridge.{circuit_of, input_names, netlist_of, output_nam
 use Rattle.circuit.specs.Meaning.{Valuation, number, place_of, wire_of, wire_value}
 use Rattle.pattern.specs.Layout.{Pattern, in_cells, in_ports_on, in_rectangles, start, parts_of}
 use Rattle.pattern.specs.Lines.{name_fault}
-use Rattle.pattern.specs.declared.parts.Part.{Part}
-use Rattle.pattern.specs.declared.parts.Part.TheVariants.{Mirror, Ball, In, Out, Waste}
-use Rattle.pattern.specs.declared.parts.Port.{Port}
+use Rattle.pattern.specs.declared.layout_line.LayoutLine.{LayoutLine}
+use Rattle.pattern.specs.declared.layout_line.LayoutLine.TheVariants.{Mirror, Ball, In, Out, Waste}
+use Rattle.pattern.specs.declared.layout_line.Port.{Port}
 use Rattle.certificate_lines.proofs.BoxPlaces.{skipped}
 use Rattle.certificate_lines.proofs.Lists.{kept}
 use Rattle.audit_core.specs.HeadlineLaws.{InputsDecideTheRun, IsInputName, ReadLayoutHasInputNames}
@@ -87,7 +87,7 @@ pub read_layout-names : ReadLayoutHasInputNames
 read_layout-names lines p first named i q e =
     let names : Named = record { ins = input_names lines; outs = output_names lines } in
     let known = in_known (input_names lines) (output_names lines) q
-    (at_place (λ (part : Part). name_fault (Some names) part ≡ None) (parts_of p) _ (In q) named.good
+    (at_place (λ (part : LayoutLine). name_fault (Some names) part ≡ None) (parts_of p) _ (In q) named.good
     (in_stands p i q e)) in
     let is : IsPlaced q.name (defined lines) (netlist_of lines).given =
     placed q.name (defined lines) _ (ap (λ (ns : List (List ℕ)). has ns q.name) first ∙ known) in

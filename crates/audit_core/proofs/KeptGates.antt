@@ -12,7 +12,7 @@ use Rattle.module_box.specs.Locals.{circuit_gate, is_among}
 use Rattle.module_box.specs.LocalValues.{seen_by}
 use Rattle.module_box.proofs.SeenValues.{choices_are_assignments, undefined_is_seen}
 use Rattle.certificate_lines.specs.Entries.{ModuleLines, keeps}
-use Rattle.module_job.specs.Jobs.{JobState}
+use Rattle.module_job.specs.Jobs.{JobView}
 use Rattle.certificate.specs.Jobs.{IsJobOf}
 use Rattle.certificate.specs.Keeps.{is_kept}
 use Rattle.border_match.proofs.Modules.{there}
@@ -79,7 +79,7 @@ none_is_undefined lines p ms jobs inputs k all u =
     let by : Keeper ms k = keeper ms k kept in
     let j = there jobs by.number (let lt = slice_get_within ms by.number by.lines by.numbered in let n =
     b.are_jobs.count in omega (arith, lt, n)) in
-    let job : JobState = j.0 in
+    let job : JobView = j.0 in
     let is_job : IsJobOf (circuit_of lines) p by.lines job = b.are_jobs.each by.number by.lines job by.numbered j.1 in
     let at : PlaceOf (circuit_gate job.locals) job.kept (length job.locals.netlist.gates) k =
     place_of (circuit_gate job.locals) job.kept (length job.locals.netlist.gates) k is_job.kept_are_used

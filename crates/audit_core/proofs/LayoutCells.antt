@@ -12,11 +12,11 @@ use Rattle.pattern.specs.Layout.{Pattern, HaveOwnCells, in_cells, in_layout, in_
 use Rattle.pattern.specs.Layout.{start, parts_of}
 use Rattle.pattern.specs.Lines.{AreGoodAfter, begins, cell_fault, cells_of, ended, ends, holds, is_inside, is_taken}
 use Rattle.pattern.specs.Lines.{size_fault}
-use Rattle.pattern.specs.declared.parts.Part.{Part}
-use Rattle.pattern.specs.declared.parts.Part.TheVariants.{Mirror, Ball, In, Out, Waste}
-use Rattle.pattern.specs.declared.parts.Port.{Port}
-use Rattle.pattern.specs.declared.parts.Rectangle.{Rectangle}
-use Rattle.pattern.specs.declared.parts.Extent.{Extent}
+use Rattle.pattern.specs.declared.layout_line.LayoutLine.{LayoutLine}
+use Rattle.pattern.specs.declared.layout_line.LayoutLine.TheVariants.{Mirror, Ball, In, Out, Waste}
+use Rattle.pattern.specs.declared.layout_line.Port.{Port}
+use Rattle.pattern.specs.declared.layout_line.Rectangle.{Rectangle}
+use Rattle.pattern.specs.declared.layout_line.LayoutHeader.{LayoutHeader}
 use Rattle.pattern.proofs.Added.{ended_push}
 use Rattle.pattern.proofs.InsideLemmas.{begins_inside, start_inside}
 use Rattle.pattern.proofs.OwnCells.{ins_apart, outs_apart}
@@ -113,11 +113,11 @@ live_start c p v x y good =
     ∙ ap (λ b. in_rectangles p.mirrors x y || in_cells p.balls x y || b)
     (sym (on_by (values_by_name c v) p.ins x y _ (ins_apart p good) refl))
 
-pub whole_inside : (s : Extent) (x y : ℤ) → in_box (whole s) x y ≡ in_layout s x y
+pub whole_inside : (s : LayoutHeader) (x y : ℤ) → in_box (whole s) x y ≡ in_layout s x y
 unfolding in_box
 whole_inside s x y = refl
 
-pub whole_even : (s : Extent) → size_fault s ≡ None → IsEven (whole s)
+pub whole_even : (s : LayoutHeader) → size_fault s ≡ None → IsEven (whole s)
 whole_even s limits = let sized = is_sized s limits in
     record { x = refl; y = refl; w = sized.width.2; h = sized.height.2 }
 
@@ -143,14 +143,15 @@ mirror_inside p x y good h = whole_inside p.size x y
 
 -- ---- output cells are inside, and no mirror has them
 
-good_behind : (s : Extent) (before front back : List Part) → AreGoodAfter s before (front ++ back) →
+good_behind : (s : LayoutHeader) (before front back : List LayoutLine) → AreGoodAfter s before (front ++ back) →
     AreGoodAfter s (before ++ front) back
-good_behind s before [] back good = subst (λ (l : List Part). AreGoodAfter s l back) (sym (append-nil before)) good
+good_behind s before [] back good =
+    subst (λ (l : List LayoutLine). AreGoodAfter s l back) (sym (append-nil before)) good
 good_behind s before (part ∷ front) back good =
-    subst (λ (l : List Part). AreGoodAfter s l back) (append_assoc before (part ∷ []) front)
+    subst (λ (l : List LayoutLine). AreGoodAfter s l back) (append_assoc before (part ∷ []) front)
     (good_behind s (before ++ part ∷ []) front back good.2)
 
-record IsFree (s : Extent) (before : List Part) (q : Port) : Type 0 where
+record IsFree (s : LayoutHeader) (before : List LayoutLine) (q : Port) : Type 0 where
   inside : in_layout s q.cell.x q.cell.y ≡ true
   free : ended before q.cell.x q.cell.y ≡ false
 
@@ -159,7 +160,8 @@ two_tests true true e = absurd cc
 two_tests true false e = (refl, refl)
 two_tests false b e = absurd cc
 
-free_here : (s : Extent) (before : List Part) (q : Port) → cell_fault s before (Out q) ≡ None → IsFree s before q
+free_here : (s : LayoutHeader) (before : List LayoutLine) (q : Port) → cell_fault s before (Out q) ≡ None →
+    IsFree s before q
 unfolding cell_fault is_taken cells_of begins is_inside
 free_here s before q e =
     let r = two_tests (in_layout s q.cell.x q.cell.y) (ended before q.cell.x q.cell.y) e in
@@ -169,7 +171,7 @@ or_left : (a b : Bool) → (a || b) ≡ false → a ≡ false
 or_left true b e = e
 or_left false b e = refl
 
-all_free : (s : Extent) (before : List Part) (ports : List Port) (rest : List Part) →
+all_free : (s : LayoutHeader) (before : List LayoutLine) (ports : List Port) (rest : List LayoutLine) →
     AreGoodAfter s before (map Out ports ++ rest) →
     (i : ℕ) (q : Port) → slice_get ports i ≡ Some q → IsFree s before q
 all_free s before [] rest good i q e = absurd cc
@@ -182,14 +184,14 @@ all_free s before (p ∷ ports) rest good (suc i) q e =
       free = or_left _ _ (sym (ended_push before (Out p) q.cell.x q.cell.y) ∙ later.free);
     }
 
-before_outs : Pattern → List Part
+before_outs : Pattern → List LayoutLine
 before_outs p = (map Mirror p.mirrors ++ map Ball p.balls) ++ map In p.ins
 
 output_free : (p : Pattern) → AreGoodAfter p.size [] (parts_of p) → (i : ℕ) (q : Port) → slice_get p.outs i ≡ Some q →
     IsFree p.size (before_outs p) q
 unfolding before_outs
 output_free p good i q e =
-    let outs : List Part = map Out p.outs ++ map Waste p.wastes in
+    let outs : List LayoutLine = map Out p.outs ++ map Waste p.wastes in
     let balls = good_behind p.size [] (map Mirror p.mirrors) (map Ball p.balls ++ (map In p.ins ++ outs)) good in
     let ins = good_behind p.size (map Mirror p.mirrors) (map Ball p.balls) (map In p.ins ++ outs) balls in
     all_free p.size _ p.outs (map Waste p.wastes)
@@ -205,7 +207,7 @@ mirror_ended p x y h =
     let s = passed (λ (r : Rectangle). in_rectangle r x y) p.mirrors h in
     let at : slice_get (map Mirror p.mirrors) s.place ≡ Some (Mirror s.element) =
     slice_get-map Mirror p.mirrors s.place ∙ ap (option_map Mirror) s.stands in
-    any_at (λ (b : Part). ends b && holds b x y) _ s.place (Mirror s.element)
+    any_at (λ (b : LayoutLine). ends b && holds b x y) _ s.place (Mirror s.element)
     (kept (map Mirror p.mirrors ++ map Ball p.balls) (map In p.ins) s.place (Mirror s.element)
     (kept (map Mirror p.mirrors) (map Ball p.balls) s.place (Mirror s.element) at))
     (mirror_ends s.element x y s.passes)

@@ -10,7 +10,7 @@ use Rattle.std.proofs.lemmas.List.{length-map}
 use Rattle.bbm_rule.specs.declared.block.Cell.{Cell}
 use Rattle.circuit.specs.Bridge.{circuit_of}
 use Rattle.circuit.specs.Meaning.{Circuit, wire_of, wires}
-use Rattle.circuit.specs.declared.entry.Entry.{Entry}
+use Rattle.circuit.specs.declared.circuit_line.CircuitLine.{CircuitLine}
 use Rattle.pattern.specs.Layout.{Pattern}
 use Rattle.module_box.specs.Boxes.{in_box, in_halo}
 use Rattle.module_box.specs.Locals.{AreDifferent, circuit_wire, is_among}
@@ -20,14 +20,14 @@ use Rattle.module_box.specs.declared.schedules.Signal.{Signal}
 use Rattle.module_box.specs.declared.schedules.Signal.TheVariants.{Zero, One, Wire}
 use Rattle.certificate_lines.specs.Entries.{Setting, ModuleLines, edges, halos, stops, known, modules_of}
 use Rattle.certificate_lines.specs.Settings.{setting_of}
-use Rattle.module_job.specs.Jobs.{JobState, job_demand, job_start}
+use Rattle.module_job.specs.Jobs.{JobView, job_demand, job_start}
 use Rattle.certificate.specs.Jobs.{IsJobOf, AreJobsOf, line_signal, line_signals, line_stops, signal_of}
 use Rattle.certificate_lines.specs.Modules.{AreModules, IsModule}
 use Rattle.certificate_lines.specs.Rules.{is_local, is_local_wire, whole}
 use Rattle.module_job.specs.Signals.{IsBelow, renumber_signal, renumber_signals}
-use Rattle.certificate.specs.Times.{are_all_kept, first_seen, last_seen, lines_by}
+use Rattle.certificate.specs.Times.{are_all_obeyed, first_seen, last_seen, lines_by}
 use Rattle.certificate_lines.specs.Versions.{beside, is_haloless, is_strange, lacks_wire, with_halos}
-use Rattle.certificate_lines.specs.declared.entry.Border.{Border}
+use Rattle.certificate_lines.specs.declared.certificate_line.Border.{Border}
 use Rattle.certificate.proofs.FullModules.{edge_cell, edge_of, edges_rising, full_cuts, full_gates, full_keeps}
 use Rattle.certificate.proofs.FullModules.{full_edges, full_stops, full_known, full_modules, in_beside, mapped_at}
 use Rattle.certificate.proofs.FullModules.{mapped_from, meant_old}
@@ -92,7 +92,7 @@ among_at : (ws : List ℕ) (i w : ℕ) → i < length ws → slice_index ws i �
 among_at ws i w lt e = any_at (λ v. v == w) ws i (slice_index ws i) (slice_get-get_or ws i 0 lt)
     (same_number (slice_index ws i) w e)
 
-module _ (lines : List Entry) (p : Pattern) (ms : List ModuleLines) (jobs : List JobState)
+module _ (lines : List CircuitLine) (p : Pattern) (ms : List ModuleLines) (jobs : List JobView)
     (good : AreModules (setting_of lines p) ms) (own : AreJobsOf (circuit_of lines) p ms jobs)
     (ok : Accepts (setting_of lines p) ms jobs) where
   abbrev g : Setting
@@ -123,7 +123,7 @@ module _ (lines : List Entry) (p : Pattern) (ms : List ModuleLines) (jobs : List
 
   -- ---- the wires of the edge lines beside a module are local in it
 
-  the_job : (i : ℕ) (m : ModuleLines) → slice_get ms i ≡ Some m → (j : JobState) × (slice_get jobs i ≡ Some j)
+  the_job : (i : ℕ) (m : ModuleLines) → slice_get ms i ≡ Some m → (j : JobView) × (slice_get jobs i ≡ Some j)
   the_job i m at = there jobs i (let lt = slice_get_within ms i m at in let n = own.count in omega (arith, lt, n))
 
   -- a wire that the halo of a job is said to carry is local in the module
@@ -185,7 +185,7 @@ module _ (lines : List Entry) (p : Pattern) (ms : List ModuleLines) (jobs : List
       other_cell _ x y (λ same. true≢false
       (sym (is.halo_lines n d lt).inside ∙ ap (λ (c : Cell). in_box (whole p.size) c.x c.y) same ∙ out)))
 
-  module _ (i : ℕ) (m : ModuleLines) (j k : JobState) (at : slice_get ms i ≡ Some m) (of_j : IsJobOf c p m j)
+  module _ (i : ℕ) (m : ModuleLines) (j k : JobView) (at : slice_get ms i ≡ Some m) (of_j : IsJobOf c p m j)
       (of_k : IsJobOf c p (with_halos g ms m) k) where
     abbrev full : ModuleLines
     full = with_halos g ms m
@@ -197,7 +197,7 @@ module _ (lines : List Entry) (p : Pattern) (ms : List ModuleLines) (jobs : List
     many = sym of_j.locals.sized ∙ ap length (sym same_wires) ∙ of_k.locals.sized
 
     -- the second job with the halos of the first
-    abbrev between : JobState
+    abbrev between : JobView
     between = record k { halos = j.halos }
 
     of_between : IsJobOf c p m between
@@ -218,9 +218,9 @@ module _ (lines : List Entry) (p : Pattern) (ms : List ModuleLines) (jobs : List
       own = record {
         starts = of_k.own.starts;
         demands = of_k.own.demands;
-        edge_held = of_k.own.edge_held;
+        edge_all_times = of_k.own.edge_all_times;
         edge_events = of_k.own.edge_events;
-        halo_held = subst (λ n. All (λ h. IsBelow n h.signal) j.halos.held) many of_j.own.halo_held;
+        halo_all_times = subst (λ n. All (λ h. IsBelow n h.signal) j.halos.all_times) many of_j.own.halo_all_times;
         halo_events = subst (λ n. All (λ e. IsBelow n e.signal) j.halos.events) many of_j.own.halo_events;
         stops = of_k.own.stops;
       };
@@ -273,11 +273,11 @@ module _ (lines : List Entry) (p : Pattern) (ms : List ModuleLines) (jobs : List
     between_is = one_job c p m between j (good.each i m at).local.different of_between of_j
 
     fault_kept : (f : Fault) → IsFault k f → IsFault j f
-    fault_kept f is = subst (λ (l : JobState). IsFault l f) between_is
+    fault_kept f is = subst (λ (l : JobView). IsFault l f) between_is
         (same_halos_agree k j.halos f early_stops say_the_same is)
 
     keep_fault_kept : (f : KeepFault) → IsKeepFault k f → IsKeepFault j f
-    keep_fault_kept f is = subst (λ (l : JobState). IsKeepFault l f) between_is
+    keep_fault_kept f is = subst (λ (l : JobView). IsKeepFault l f) between_is
         (record { in_range = is.in_range; is_kept = is.is_kept; shown = is.shown })
 
   pub accepted_without : IsAcceptedWithout lines p ms
@@ -299,7 +299,7 @@ module _ (lines : List Entry) (p : Pattern) (ms : List ModuleLines) (jobs : List
           (keep_fault_kept number m.0 j.0 k m.1 (own.each number m.0 j.0 m.1 j.1)
           (are.each number (with_halos g ms m.0) k (mapped_at (with_halos g ms) ms number m.0 m.1) at) f is);
       kept = λ number gate at inverse. kept_of_all g ms ms number ∙ ok.kept number gate at inverse;
-      on_time = subst (λ ss. IsTrue (are_all_kept (lines_by (first_seen c ss) (last_seen c ss) c.netlist.gates)))
+      on_time = subst (λ ss. IsTrue (are_all_obeyed (lines_by (first_seen c ss) (last_seen c ss) c.netlist.gates)))
           (sym (stops_of_all g ms ms)) ok.on_time;
     };
   }

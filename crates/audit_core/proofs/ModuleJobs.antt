@@ -15,13 +15,13 @@ use Rattle.module_box.specs.Places.{place_in}
 use Rattle.module_box.specs.Schedules.{Signals}
 use Rattle.module_box.specs.declared.boxes.Box2.{Box2}
 use Rattle.module_box.specs.declared.schedules.Event.{Event}
-use Rattle.module_box.specs.declared.schedules.Held.{Held}
+use Rattle.module_box.specs.declared.schedules.AllTimes.{AllTimes}
 use Rattle.module_box.specs.declared.schedules.Signal.{Signal}
 use Rattle.module_box.specs.declared.schedules.Signal.TheVariants.{Zero, One, Wire}
 use Rattle.certificate_lines.specs.Entries.{ModuleLines, known}
-use Rattle.module_job.specs.Jobs.{JobState, job_demand, job_start}
+use Rattle.module_job.specs.Jobs.{JobView, job_demand, job_start}
 use Rattle.certificate.specs.Jobs.{IsJobOf}
-use Rattle.module_job.specs.Signals.{IsBelow, IsDemandBelow, renumber_demand, renumber_event, renumber_held}
+use Rattle.module_job.specs.Signals.{IsBelow, IsDemandBelow, renumber_demand, renumber_event, renumber_all_times}
 use Rattle.module_job.specs.Signals.{renumber_signal, renumber_signals, renumber_stop}
 use Rattle.module_job.specs.declared.job.Demand.{Demand}
 use Rattle.module_job.specs.declared.job.Demand.TheVariants as Demanded
@@ -98,11 +98,11 @@ module _ (ws : List ℕ) (different : AreDifferent ws) where
   demand_back Demanded.Any (Demanded.Wire w) a b e = absurd cc
   demand_back Demanded.Any Demanded.Any a b e = refl
 
-  held_back : (s t : Held) → IsBelow (length ws) s.signal → IsBelow (length ws) t.signal →
-      renumber_held f s ≡ renumber_held f t → s ≡ t
-  held_back s t a b e =
-      let signal = signal_back s.signal t.signal a b (ap (λ (h : Held). h.signal) e) in
-      λ i. record { cell = ap (λ (h : Held). h.cell) e i; signal = signal i }
+  all_times_back : (s t : AllTimes) → IsBelow (length ws) s.signal → IsBelow (length ws) t.signal →
+      renumber_all_times f s ≡ renumber_all_times f t → s ≡ t
+  all_times_back s t a b e =
+      let signal = signal_back s.signal t.signal a b (ap (λ (h : AllTimes). h.signal) e) in
+      λ i. record { cell = ap (λ (h : AllTimes). h.cell) e i; signal = signal i }
 
   event_back : (s t : Event) → IsBelow (length ws) s.signal → IsBelow (length ws) t.signal →
       renumber_event f s ≡ renumber_event f t → s ≡ t
@@ -110,17 +110,18 @@ module _ (ws : List ℕ) (different : AreDifferent ws) where
       let signal = signal_back s.signal t.signal a b (ap (λ (h : Event). h.signal) e) in
       λ i. record { at = ap (λ (h : Event). h.at) e i; signal = signal i }
 
-  signals_back : (s t : Signals) → All (λ h. IsBelow (length ws) h.signal) s.held →
-      All (λ h. IsBelow (length ws) h.signal) s.events → All (λ h. IsBelow (length ws) h.signal) t.held →
+  signals_back : (s t : Signals) → All (λ h. IsBelow (length ws) h.signal) s.all_times →
+      All (λ h. IsBelow (length ws) h.signal) s.events → All (λ h. IsBelow (length ws) h.signal) t.all_times →
       All (λ h. IsBelow (length ws) h.signal) t.events →
       renumber_signals f s ≡ renumber_signals f t → s ≡ t
   signals_back s t sh se th te e =
-      let held = map_back (renumber_held f) (λ (h : Held). IsBelow (length ws) h.signal) held_back s.held t.held sh th
-      (ap (λ (r : Signals). r.held) e) in
+      let all_times = map_back (renumber_all_times f)
+      (λ (h : AllTimes). IsBelow (length ws) h.signal) all_times_back s.all_times t.all_times sh th
+      (ap (λ (r : Signals). r.all_times) e) in
       let events = map_back (renumber_event f)
       (λ (h : Event). IsBelow (length ws) h.signal) event_back s.events t.events se te
       (ap (λ (r : Signals). r.events) e) in
-      λ i. record { held = held i; events = events i }
+      λ i. record { all_times = all_times i; events = events i }
 
   stop_back : (s t : listed.Stop) → s.wire < length ws → t.wire < length ws → renumber_stop f s ≡ renumber_stop f t →
       s ≡ t
@@ -207,7 +208,7 @@ locals_back n l m a b same_wires same_gates same_given different =
 
 -- ---- two jobs of a module
 
-module _ (c : Circuit) (p : Pattern) (m : ModuleLines) (j k : JobState) (different : AreDifferent (known c m))
+module _ (c : Circuit) (p : Pattern) (m : ModuleLines) (j k : JobView) (different : AreDifferent (known c m))
     (of_j : IsJobOf c p m j) (of_k : IsJobOf c p m k) where
   abbrev ws : List ℕ
   ws = j.locals.circuit_wires
@@ -266,17 +267,17 @@ module _ (c : Circuit) (p : Pattern) (m : ModuleLines) (j k : JobState) (differe
 
   same_edges : j.edges ≡ k.edges
   same_edges = signals_back ws apart j.edges k.edges
-      (all_j (λ (h : Held). h.signal) j.edges.held of_j.own.edge_held)
+      (all_j (λ (h : AllTimes). h.signal) j.edges.all_times of_j.own.edge_all_times)
       (all_j (λ (h : Event). h.signal) j.edges.events of_j.own.edge_events)
-      (all_k (λ (h : Held). h.signal) k.edges.held of_k.own.edge_held)
+      (all_k (λ (h : AllTimes). h.signal) k.edges.all_times of_k.own.edge_all_times)
       (all_k (λ (h : Event). h.signal) k.edges.events of_k.own.edge_events)
       (of_j.edges ∙ sym of_k.edges ∙ ap (λ g. renumber_signals g k.edges) wire_k)
 
   same_halos : j.halos ≡ k.halos
   same_halos = signals_back ws apart j.halos k.halos
-      (all_j (λ (h : Held). h.signal) j.halos.held of_j.own.halo_held)
+      (all_j (λ (h : AllTimes). h.signal) j.halos.all_times of_j.own.halo_all_times)
       (all_j (λ (h : Event). h.signal) j.halos.events of_j.own.halo_events)
-      (all_k (λ (h : Held). h.signal) k.halos.held of_k.own.halo_held)
+      (all_k (λ (h : AllTimes). h.signal) k.halos.all_times of_k.own.halo_all_times)
       (all_k (λ (h : Event). h.signal) k.halos.events of_k.own.halo_events)
       (of_j.halos ∙ sym of_k.halos ∙ ap (λ g. renumber_signals g k.halos) wire_k)
 
@@ -308,12 +309,12 @@ module _ (c : Circuit) (p : Pattern) (m : ModuleLines) (j k : JobState) (differe
       (of_j.kept ∙ sym of_k.kept ∙ ap (λ (l : LocalNet). map (circuit_gate l) k.kept) (sym same_locals))
 
   -- where a cell of the box is, a list says what the job says
-  start_inside : (i : JobState) (x y : ℤ) → in_box i.area x y ≡ true →
+  start_inside : (i : JobView) (x y : ℤ) → in_box i.area x y ≡ true →
       job_start i x y ≡ unwrap_or (slice_get i.starts (place_in i.area x y)) Zero
   unfolding job_start
   start_inside i x y h = cond-true _ _ _ h
 
-  demand_inside : (i : JobState) (x y : ℤ) → in_box i.area x y ≡ true
+  demand_inside : (i : JobView) (x y : ℤ) → in_box i.area x y ≡ true
       → job_demand i x y ≡ unwrap_or (slice_get i.demands (place_in i.area x y)) Demanded.Dead
   unfolding job_demand
   demand_inside i x y h = cond-true _ _ _ h

@@ -8,13 +8,13 @@ use Rattle.circuit.specs.Meaning.{Circuit, wire_of}
 use Rattle.module_box.specs.Locals.{is_among}
 use Rattle.module_box.specs.Schedules.{Signals}
 use Rattle.module_box.specs.declared.schedules.Event.{Event}
-use Rattle.module_box.specs.declared.schedules.Held.{Held}
+use Rattle.module_box.specs.declared.schedules.AllTimes.{AllTimes}
 use Rattle.module_box.specs.declared.schedules.Signal.{Signal}
 use Rattle.module_box.specs.declared.schedules.Signal.TheVariants.{Zero, One, Wire}
-use Rattle.certificate.specs.Jobs.{event_by, held_by, line_signal, line_signals, signal_of}
+use Rattle.certificate.specs.Jobs.{event_by, all_times_by, line_signal, line_signals, signal_of}
 use Rattle.certificate_lines.specs.Rules.{is_local, is_local_wire}
-use Rattle.module_job.specs.Signals.{IsBelow, renumber_event, renumber_held, renumber_signal}
-use Rattle.certificate_lines.specs.declared.entry.Border.{Border}
+use Rattle.module_job.specs.Signals.{IsBelow, renumber_event, renumber_all_times, renumber_signal}
+use Rattle.certificate_lines.specs.declared.certificate_line.Border.{Border}
 use Rattle.certificate_lines.proofs.Pairs.{Each}
 
 -- ---- the number of a wire in a list of wires
@@ -72,41 +72,42 @@ module _ (c : Circuit) (ws : List ℕ) where
   signal_numbered None h = record { back = refl; below = tt }
   signal_numbered (Some name) h = wire_numbered (wire_of c name) h
 
-  unfoldable pub numbered_held : Held → Held
-  numbered_held h = record h { signal = numbered ws h.signal }
+  unfoldable pub numbered_all_times : AllTimes → AllTimes
+  numbered_all_times h = record h { signal = numbered ws h.signal }
 
   unfoldable pub numbered_event : Event → Event
   numbered_event e = record e { signal = numbered ws e.signal }
 
   -- what lines say, over those wires
   unfoldable pub numbered_signals : Signals → Signals
-  numbered_signals s = record { held = map numbered_held s.held; events = map numbered_event s.events }
+  numbered_signals s = record { all_times = map numbered_all_times s.all_times; events = map numbered_event s.events }
 
   -- what one line says comes back, and names no other wires
-  pub record IsBack (hs : List Held) (es : List Event) : Type 0 where
-    pub held : map (renumber_held (slice_index ws)) (map numbered_held hs) ≡ hs
+  pub record IsBack (hs : List AllTimes) (es : List Event) : Type 0 where
+    pub all_times : map (renumber_all_times (slice_index ws)) (map numbered_all_times hs) ≡ hs
     pub events : map (renumber_event (slice_index ws)) (map numbered_event es) ≡ es
-    pub held_below : Each (λ h. IsBelow (length ws) h.signal) (map numbered_held hs)
+    pub all_times_below : Each (λ h. IsBelow (length ws) h.signal) (map numbered_all_times hs)
     pub events_below : Each (λ e. IsBelow (length ws) e.signal) (map numbered_event es)
 
-  back_from : (e : Border) (time : Option ℕ) (s : Signal) (hs : List Held) (es : List Event) → IsNumbered ws s →
-      IsBack hs es → IsBack (held_by e time s ++ hs) (event_by e time s ++ es)
-  unfolding numbered_held numbered_event Each
+  back_from : (e : Border) (time : Option ℕ) (s : Signal) (hs : List AllTimes) (es : List Event) → IsNumbered ws s →
+      IsBack hs es → IsBack (all_times_by e time s ++ hs) (event_by e time s ++ es)
+  unfolding numbered_all_times numbered_event Each
   back_from e None s hs es is more = record {
-    held = ap₂ (λ a l. record { cell = e.cell; signal = a } ∷ l) is.back more.held;
+    all_times = ap₂ (λ a l. record { cell = e.cell; signal = a } ∷ l) is.back more.all_times;
     events = more.events;
-    held_below = (is.below, more.held_below);
+    all_times_below = (is.below, more.all_times_below);
     events_below = more.events_below;
   }
   back_from e (Some t) s hs es is more = record {
-    held = more.held;
+    all_times = more.all_times;
     events = ap₂ (λ a l. record { at = record { time = t; cell = e.cell }; signal = a } ∷ l) is.back more.events;
-    held_below = more.held_below;
+    all_times_below = more.all_times_below;
     events_below = (is.below, more.events_below);
   }
 
-  pub lines_back : (es : List Border) → Each IsNamed es → IsBack (line_signals c es).held (line_signals c es).events
+  pub lines_back : (es : List Border) → Each IsNamed es →
+      IsBack (line_signals c es).all_times (line_signals c es).events
   unfolding Each
-  lines_back [] h = record { held = refl; events = refl; held_below = tt; events_below = tt }
+  lines_back [] h = record { all_times = refl; events = refl; all_times_below = tt; events_below = tt }
   lines_back (e ∷ es) h = back_from e e.time (line_signal c e.signal) _ _ (signal_numbered e.signal h.0)
       (lines_back es h.1)

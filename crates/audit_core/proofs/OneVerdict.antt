@@ -6,7 +6,7 @@ use Rattle.std.specs.Option.{option_map}
 use Rattle.std.proofs.lemmas.List.{same_lists}
 use Rattle.std.proofs.lemmas.Option.{slice_get-get_or, slice_get_within}
 use Rattle.certificate_lines.specs.Entries.{Setting, ModuleLines}
-use Rattle.module_job.specs.Jobs.{JobState}
+use Rattle.module_job.specs.Jobs.{JobView}
 use Rattle.certificate.specs.Times.{time_lines}
 use Rattle.local_run.proofs.Least.{least_unique, least_keep_unique}
 use Rattle.border_match.specs.BorderFaults.{AreBorderFaultsOf}
@@ -30,7 +30,7 @@ none-past [] k e = omega arith
 none-past (x ∷ xs) zero e = absurd cc
 none-past (x ∷ xs) (suc k) e = let rest = none-past xs k e in omega (arith, rest)
 
-told_unique : (j : JobState) (x y : Reasons) → IsToldOf j x → IsToldOf j y → x ≡ y
+told_unique : (j : JobView) (x y : Reasons) → IsToldOf j x → IsToldOf j y → x ≡ y
 told_unique j x y a b =
     let fault : x.fault ≡ y.fault = least_unique j x.fault y.fault a.fault b.fault in
     let keep : x.keep ≡ y.keep = a.same
@@ -38,13 +38,13 @@ told_unique j x y a b =
     ∙ sym b.same in
     λ i. record { fault = fault i; keep = keep i }
 
-faults-same : (jobs : List JobState) (fs gs : List Reasons) → AreLeastFaults jobs fs → AreLeastFaults jobs gs → fs ≡ gs
+faults-same : (jobs : List JobView) (fs gs : List Reasons) → AreLeastFaults jobs fs → AreLeastFaults jobs gs → fs ≡ gs
 faults-same jobs fs gs a b = same-elements fs gs (a.count ∙ sym b.count) each
   where
     each : (k : ℕ) (x y : Reasons) → slice_get fs k ≡ Some x → slice_get gs k ≡ Some y → x ≡ y
     each k x y hx hy = by_job (slice_get jobs k) refl
       where
-        by_job : (o : Option JobState) → slice_get jobs k ≡ o → x ≡ y
+        by_job : (o : Option JobView) → slice_get jobs k ≡ o → x ≡ y
         by_job None e = let past = none-past jobs k e in let below : k < length fs = slice_get_within fs k x hx in
             absurd (omega (arith, past, below, a.count))
         by_job (Some j) e = told_unique j x y (a.each k j x e hx) (b.each k j y e hy)
@@ -55,7 +55,7 @@ borders-same g ms fs gs a b =
     same-elements fs gs (a.count ∙ sym b.count)
     (λ k x y hx hy. least_border_unique g ms k x y (a.each k x hx) (b.each k y hy))
 
-lines-same : (g : Setting) (ms : List ModuleLines) (jobs : List JobState) (xs ys : List ReportLine) →
+lines-same : (g : Setting) (ms : List ModuleLines) (jobs : List JobView) (xs ys : List ReportLine) →
     AreReportLines g ms jobs xs → AreReportLines g ms jobs ys → xs ≡ ys
 lines-same g ms jobs xs ys a b =
     a.lines_are ∙ (λ i. lines_from 0 (faults-same jobs a.faults b.faults a.are_least b.are_least i)

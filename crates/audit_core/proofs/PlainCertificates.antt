@@ -17,7 +17,7 @@ use Rattle.bbm_rule.specs.Bits.{bit}
 use Rattle.circuit.specs.Bridge.{circuit_of, netlist_of}
 use Rattle.circuit.specs.Gates.{Delay, defines, uses, is_inverse}
 use Rattle.circuit.specs.Meaning.{AreOrdered, Circuit, Gate, Satisfies, Valuation, wire_of, wire_value}
-use Rattle.circuit.specs.declared.entry.Entry.{Entry}
+use Rattle.circuit.specs.declared.circuit_line.CircuitLine.{CircuitLine}
 use Rattle.circuit.proofs.Undefined.{has_valuation, undefined_has_none, only_inverse}
 use Rattle.pattern.specs.Layout.{Pattern}
 use Rattle.module_box.specs.Boxes.{in_box, in_ring}
@@ -31,19 +31,19 @@ use Rattle.module_box.proofs.SeenValues.{local_values_agree, undefined_is_seen}
 use Rattle.certificate_lines.specs.Entries.{ModuleLines, cut_wires, cuts, known, stops, keeps}
 use Rattle.certificate_lines.specs.Rules.{whole}
 use Rattle.certificate_lines.specs.Settings.{setting_of}
-use Rattle.certificate_lines.specs.declared.entry.Border.{Border}
-use Rattle.certificate_lines.specs.declared.entry.StopLine.{StopLine}
+use Rattle.certificate_lines.specs.declared.certificate_line.Border.{Border}
+use Rattle.certificate_lines.specs.declared.certificate_line.StopLine.{StopLine}
 use Rattle.certificate_lines.proofs.Lists.{kept}
 use Rattle.certificate.specs.Jobs.{IsJobOf, line_signals}
 use Rattle.certificate.specs.Arrivals.{AreOnTime, IsFirstTime, IsLastTime, TakesSteps, Tells, TellsOfDelay}
-use Rattle.certificate.specs.Times.{all_stops, are_all_kept, is_kept, time_lines, times_of}
-use Rattle.certificate.specs.declared.times.Gap.{Gap}
-use Rattle.certificate.specs.declared.times.Gap.TheVariants.{Steps, Missing, Before}
+use Rattle.certificate.specs.Times.{all_stops, are_all_obeyed, is_obeyed, time_lines, times_of}
+use Rattle.certificate.specs.declared.times.StopGap.{StopGap}
+use Rattle.certificate.specs.declared.times.StopGap.TheVariants.{Steps, NoStop, Before}
 use Rattle.certificate.specs.declared.times.TimeLine.{TimeLine}
 use Rattle.certificate.specs.declared.times.TimeLine.TheVariants as times
 use Rattle.certificate.proofs.ArrivalLemmas.{lines_tell}
 use Rattle.certificate_lines.specs.Modules.{IsStop}
-use Rattle.module_job.specs.Jobs.{JobState}
+use Rattle.module_job.specs.Jobs.{JobView}
 use Rattle.module_job.specs.Signals.{is_live}
 use Rattle.module_job.specs.declared.job.Stop as listed
 use Rattle.local_run.specs.Faults.{IsEdgeFault, IsFault, IsFaultUnder, IsKeepFault, IsLeastFault, IsLeastKeepFault}
@@ -121,7 +121,7 @@ some_wire : (P : ℕ → Type 0) (o : Option ℕ) (w : ℕ) → o ≡ Some w →
 some_wire P None w e h = absurd cc
 some_wire P (Some u) w e h = All-cons P u [] (subst P (sym (same_Some u w e)) h) (All-nil P)
 
-cuts_are_inputs : (lines : List Entry) (m : ModuleLines) → All (IsInputName lines) (cuts m) →
+cuts_are_inputs : (lines : List CircuitLine) (m : ModuleLines) → All (IsInputName lines) (cuts m) →
     All (λ w. w < (netlist_of lines).given) (cut_wires (circuit_of lines) m)
 cuts_are_inputs lines m all =
     all_flat (λ w. w < (netlist_of lines).given) (λ n. option_to_list (wire_of (circuit_of lines) n)) (cuts m)
@@ -185,18 +185,18 @@ not_before c ss n a b s t takes last first lt =
     let to = first_one c ss b t (takes.leaves + n) first takes.first in
     omega (arith, from, to, lt)
 
-kept_gap : (c : Circuit) (ss : List StopLine) (k n a b : ℕ) (gap : Gap) → TakesSteps c ss n a b →
-    TellsOfDelay c ss gap a b → is_kept (times.Delay k n gap) ≡ true
+kept_gap : (c : Circuit) (ss : List StopLine) (k n a b : ℕ) (gap : StopGap) → TakesSteps c ss n a b →
+    TellsOfDelay c ss gap a b → is_obeyed (times.Delay k n gap) ≡ true
 kept_gap c ss k n a b (Steps m) takes tells = eq-eqb m n (same_steps c ss m n a b tells takes)
-kept_gap c ss k n a b Missing takes tells = absurd (tells takes.leaves (takes.leaves + n) takes.last takes.first)
+kept_gap c ss k n a b NoStop takes tells = absurd (tells takes.leaves (takes.leaves + n) takes.last takes.first)
 kept_gap c ss k n a b Before takes tells = absurd (not_before c ss n a b tells.0 tells.1 takes tells.2 tells.3 tells.4)
 
 same_gate : (o : Option Gate) (g h : Gate) → o ≡ Some g → g ≡ h → o ≡ Some h
 same_gate o g h e same = e ∙ ap Some same
 
-kept_line : (lines : List Entry) (ss : List StopLine) (l : TimeLine) → AreOrdered (netlist_of lines).given
+kept_line : (lines : List CircuitLine) (ss : List StopLine) (l : TimeLine) → AreOrdered (netlist_of lines).given
     (netlist_of lines).gates → AreOnTime (circuit_of lines) ss →
-    Tells (circuit_of lines) ss l → is_kept l ≡ true
+    Tells (circuit_of lines) ss l → is_obeyed l ≡ true
 kept_line lines ss (times.Delay k n gap) ordered timed (g, at, is, tells) =
     let w = delay_wires (netlist_of lines).given n (netlist_of lines).gates k g ordered at is in
     let a = w.used in let b = w.made in
@@ -216,11 +216,11 @@ all_true P test [] h all = refl
 all_true P test (l ∷ ls) h all = and_from (test l) (list_all test ls) (h l (All-head P l ls all))
     (all_true P test ls h (All-tail P l ls all))
 
-timed_is_kept : (lines : List Entry) (ms : List ModuleLines) → AreOrdered (netlist_of lines).given
+timed_is_kept : (lines : List CircuitLine) (ms : List ModuleLines) → AreOrdered (netlist_of lines).given
     (netlist_of lines).gates → AreOnTime (circuit_of lines) (all_stops ms) →
-    are_all_kept (time_lines (circuit_of lines) ms) ≡ true
+    are_all_obeyed (time_lines (circuit_of lines) ms) ≡ true
 timed_is_kept lines ms ordered timed =
-    all_true (Tells (circuit_of lines) (all_stops ms)) is_kept (time_lines (circuit_of lines) ms) (λ l.
+    all_true (Tells (circuit_of lines) (all_stops ms)) is_obeyed (time_lines (circuit_of lines) ms) (λ l.
     kept_line lines (all_stops ms) l ordered timed) (lines_tell (circuit_of lines) ms)
 
 -- ---- the lines of a report
@@ -290,18 +290,19 @@ only_number : (m k : ModuleLines) (n : ℕ) → slice_get (m ∷ []) n ≡ Some 
 only_number m k zero e = refl
 only_number m k (suc n) e = absurd cc
 
-module _ (lines : List Entry) (p : Pattern) (m : ModuleLines) (jobs : List JobState) (named : HasInputNames lines p)
+module _ (lines : List CircuitLine) (p : Pattern) (m : ModuleLines) (jobs : List JobView)
+    (named : HasInputNames lines p)
     (b : BelongTogether lines p (m ∷ []) jobs) (plain : IsPlain lines p m) where
   abbrev c : Circuit
   c = circuit_of lines
 
   -- the job of the module
-  record IsItsJob (n : ℕ) (j : JobState) : Type 0 where
+  record IsItsJob (n : ℕ) (j : JobView) : Type 0 where
     at : slice_get jobs n ≡ Some j
     first : n ≡ 0
     is : IsJobOf c p m j
 
-  its_job : (n : ℕ) (j : JobState) → slice_get jobs n ≡ Some j → IsItsJob n j
+  its_job : (n : ℕ) (j : JobView) → slice_get jobs n ≡ Some j → IsItsJob n j
   its_job n j at =
       let k = there (m ∷ []) n (let lt = slice_get_within jobs n j at in let count = b.are_jobs.count in
       omega (arith, lt, count)) in
@@ -325,7 +326,7 @@ module _ (lines : List Entry) (p : Pattern) (m : ModuleLines) (jobs : List JobSt
       ∙ value_there (known c m) a k w.wire good.local.different (kept (cut_wires c m) _ k w.wire w.placed)
 
   -- values that agree with these on the inputs have the assignment too
-  agreed : (j : JobState) (a : ℕ) (v : Valuation) → IsJobOf c p m j → a < assignments j →
+  agreed : (j : JobView) (a : ℕ) (v : Valuation) → IsJobOf c p m j → a < assignments j →
       ((w : ℕ) → w < (netlist_of lines).given → v w ≡ its_inputs a w) → IsAssignmentOf j v a
   agreed j a v is small same = record {
     in_range = small;
@@ -335,7 +336,7 @@ module _ (lines : List Entry) (p : Pattern) (m : ModuleLines) (jobs : List JobSt
         ∙ sym (ap (λ o. wire_value o (its_inputs a)) is_input.named) ∙ its_assignment a k n at);
   }
 
-  induced : (j : JobState) (a : ℕ) (v : Valuation) → IsJobOf c p m j → a < assignments j →
+  induced : (j : JobView) (a : ℕ) (v : Valuation) → IsJobOf c p m j → a < assignments j →
       Satisfies (netlist_of lines) (its_inputs a) v → IsAssignmentOf j v a
   induced j a v is small s = agreed j a v is small s.given
 
@@ -349,7 +350,7 @@ module _ (lines : List Entry) (p : Pattern) (m : ModuleLines) (jobs : List JobSt
   no_edge_signal t x y = ap (λ (es : List Border). signal_at (line_signals c es) t x y) plain.no_edge ∙
       no_signal c [] t x y (All-nil _)
 
-  edge_touches : (inputs v : Valuation) (t n : ℕ) (j : JobState) (x y : ℤ) → Satisfies (netlist_of lines) inputs v →
+  edge_touches : (inputs v : Valuation) (t n : ℕ) (j : JobView) (x y : ℤ) → Satisfies (netlist_of lines) inputs v →
       IsRunOfJobs lines p jobs v t → IsItsJob n j → IsEdgeFault j (seen_by j.locals v) t x y →
       IsLiveOnRim lines p inputs t x y
   edge_touches inputs v t n j x y s now it f =
@@ -379,7 +380,7 @@ module _ (lines : List Entry) (p : Pattern) (m : ModuleLines) (jobs : List JobSt
       true≢false (sym fault.inside ∙ ap (λ a. in_box a f.cell.x f.cell.y) (sym box) ∙
       (halo_parts fault.lines.area f.cell.x f.cell.y fault.halo).0)
 
-  edge_of : (j : JobState) (u : Valuation) (t : ℕ) (kind : Kind) (x y : ℤ) → kind ≡ Edge → IsFaultUnder j u t kind x y →
+  edge_of : (j : JobView) (u : Valuation) (t : ℕ) (kind : Kind) (x y : ℤ) → kind ≡ Edge → IsFaultUnder j u t kind x y →
       IsEdgeFault j u t x y
   edge_of j u t Edge x y e f = f
   edge_of j u t AtStop x y e f = absurd cc
@@ -407,7 +408,7 @@ module _ (lines : List Entry) (p : Pattern) (m : ModuleLines) (jobs : List JobSt
 
   -- ---- no fault
 
-  in_time : (j : JobState) → IsJobOf c p m j → (s : listed.Stop) → Contains j.stops s → s.at.time ≤ p.size.steps
+  in_time : (j : JobView) → IsJobOf c p m j → (s : listed.Stop) → Contains j.stops s → s.at.time ≤ p.size.steps
   in_time j is s has = stop_by_lines c p m j (λ r. r.at.time ≤ p.size.steps) is (λ k s at w e.
       (at_place (IsStop (setting_of lines p) m.area (known c m)) (stops m) k s (b.are_modules.each 0 m refl).stop_lines
       at).time) s has
@@ -425,7 +426,7 @@ module _ (lines : List Entry) (p : Pattern) (m : ModuleLines) (jobs : List JobSt
       ∙ ap (λ n. run_under c p inputs n x y) (sym time) ∙ ap₂ (run_under c p inputs line.time) (sym column) (sym row) ∙
       holds inputs v s
 
-  none_under : (inputs v : Valuation) (t n : ℕ) (kind : Kind) (x y : ℤ) (j : JobState) → IsCorrect lines p → AreHeld →
+  none_under : (inputs v : Valuation) (t n : ℕ) (kind : Kind) (x y : ℤ) (j : JobView) → IsCorrect lines p → AreHeld →
       ¬ TouchesRim lines p → Satisfies (netlist_of lines) inputs v → IsItsJob n j →
       ¬ IsFaultUnder j (seen_by j.locals v) t kind x y
   none_under inputs v t n Edge x y j right held off s it f =
@@ -443,7 +444,7 @@ module _ (lines : List Entry) (p : Pattern) (m : ModuleLines) (jobs : List JobSt
       (λ r lt. good inputs v r off s (all_runs inputs v r off s (omega (arith, last, lt)))) f
       (subst (λ t. IsAsCertified c p m v t End x y) (sym last) (correct_meets lines p inputs v x y named s right))
 
-  no_fault : IsCorrect lines p → AreHeld → ¬ TouchesRim lines p → (n : ℕ) (j : JobState) (f : Fault) →
+  no_fault : IsCorrect lines p → AreHeld → ¬ TouchesRim lines p → (n : ℕ) (j : JobView) (f : Fault) →
       slice_get jobs n ≡ Some j → ¬ IsFault j f
   no_fault right held off n j f at fault =
       let it = its_job n j at in
@@ -455,7 +456,7 @@ module _ (lines : List Entry) (p : Pattern) (m : ModuleLines) (jobs : List JobSt
 
   -- ---- nor any other line
 
-  no_values : (j : JobState) (f : KeepFault) → IsJobOf c p m j → IsKeepFault j f → (v : Valuation) →
+  no_values : (j : JobView) (f : KeepFault) → IsJobOf c p m j → IsKeepFault j f → (v : Valuation) →
       ¬ Satisfies (netlist_of lines) (its_inputs f.assignment) v
   no_values j f is fault v s =
       let under = induced j f.assignment v is fault.in_range s in
@@ -464,7 +465,7 @@ module _ (lines : List Entry) (p : Pattern) (m : ModuleLines) (jobs : List JobSt
       ∥∥₁_elim fault.shown nothing_prop (λ u. undefined_has_none j.locals.netlist (bit f.assignment)
       (seen_by j.locals v) f.gate is.locals.ordered u agree.is_local)
 
-  lacks : (j : JobState) (f : KeepFault) → IsJobOf c p m j → IsKeepFault j f → LacksValues lines p m f.assignment
+  lacks : (j : JobView) (f : KeepFault) → IsJobOf c p m j → IsKeepFault j f → LacksValues lines p m f.assignment
   lacks j f is fault = record {
     inputs = its_inputs f.assignment;
     under = its_assignment f.assignment;
@@ -474,12 +475,12 @@ module _ (lines : List Entry) (p : Pattern) (m : ModuleLines) (jobs : List JobSt
         no_values j f is fault v.0 v.1;
   }
 
-  no_keep : IsCorrect lines p → (n : ℕ) (j : JobState) (f : KeepFault) → slice_get jobs n ≡ Some j → ¬ IsKeepFault j f
+  no_keep : IsCorrect lines p → (n : ℕ) (j : JobView) (f : KeepFault) → slice_get jobs n ≡ Some j → ¬ IsKeepFault j f
   no_keep right n j f at fault = (lacks j f (its_job n j at).is fault).incorrect right
 
-  accepts : ((n : ℕ) (j : JobState) (f : Fault) → slice_get jobs n ≡ Some j → ¬ IsFault j f) →
-      ((n : ℕ) (j : JobState) (f : KeepFault) → slice_get jobs n ≡ Some j → ¬ IsKeepFault j f) →
-      are_all_kept (time_lines c (m ∷ [])) ≡ true → Accepts (setting_of lines p) (m ∷ []) jobs
+  accepts : ((n : ℕ) (j : JobView) (f : Fault) → slice_get jobs n ≡ Some j → ¬ IsFault j f) →
+      ((n : ℕ) (j : JobView) (f : KeepFault) → slice_get jobs n ≡ Some j → ¬ IsKeepFault j f) →
+      are_all_obeyed (time_lines c (m ∷ [])) ≡ true → Accepts (setting_of lines p) (m ∷ []) jobs
   accepts none no_keep timed = record {
     no_fault = none;
     no_border_fault = no_border;
@@ -490,7 +491,7 @@ module _ (lines : List Entry) (p : Pattern) (m : ModuleLines) (jobs : List JobSt
 
   -- ---- what the least fault says
 
-  before : (f : Fault) (j : JobState) → IsItsJob 0 j → ((g : Fault) → IsFault j g → fault_cmp f g ≢ Greater) →
+  before : (f : Fault) (j : JobView) → IsItsJob 0 j → ((g : Fault) → IsFault j g → fault_cmp f g ≢ Greater) →
       (v : Valuation) (s : ℕ) → s < f.time → HasGoodBorders lines p (m ∷ []) jobs v s
   before f j it least v s lt = record {
     of_jobs = λ n k g at kind time under fault.
@@ -499,10 +500,10 @@ module _ (lines : List Entry) (p : Pattern) (m : ModuleLines) (jobs : List JobSt
     of_modules = λ n g time. no_border n g;
   }
 
-  edge_prop : (j : JobState) (u : Valuation) (t : ℕ) (x y : ℤ) → IsProp (IsEdgeFault j u t x y)
+  edge_prop : (j : JobView) (u : Valuation) (t : ℕ) (x y : ℤ) → IsProp (IsEdgeFault j u t x y)
   edge_prop j u t x y = Prim.hlevel props
 
-  edge_seen : (f : Fault) (j : JobState) (v : Valuation) → f.kind ≡ Edge → IsItsJob 0 j → IsFault j f →
+  edge_seen : (f : Fault) (j : JobView) (v : Valuation) → f.kind ≡ Edge → IsItsJob 0 j → IsFault j f →
       Satisfies (netlist_of lines) (its_inputs f.assignment) v →
       IsEdgeFault j (seen_by j.locals v) f.time f.cell.x f.cell.y
   edge_seen f j v e it fault s =
@@ -511,7 +512,7 @@ module _ (lines : List Entry) (p : Pattern) (m : ModuleLines) (jobs : List JobSt
       (seen_fault lines p m (its_inputs f.assignment) v j f it.is s (induced j f.assignment v it.is fault.in_range s)
       h))
 
-  its_first : (f : Fault) (j : JobState) (v : Valuation) → IsItsJob 0 j → IsFault j f →
+  its_first : (f : Fault) (j : JobView) (v : Valuation) → IsItsJob 0 j → IsFault j f →
       ((g : Fault) → IsFault j g → fault_cmp f g ≢ Greater) →
       Satisfies (netlist_of lines) (its_inputs f.assignment) v → IsFirstFault lines p (m ∷ []) jobs
       (its_inputs f.assignment) v 0 m f
@@ -527,7 +528,7 @@ module _ (lines : List Entry) (p : Pattern) (m : ModuleLines) (jobs : List JobSt
   }
 
   -- a fault has local values, so no inverse gate lacks a row
-  has_values : (f : Fault) (j : JobState) → IsItsJob 0 j → IsFault j f →
+  has_values : (f : Fault) (j : JobView) → IsItsJob 0 j → IsFault j f →
       (v : Valuation) × Satisfies (netlist_of lines) (its_inputs f.assignment) v
   has_values f j it fault = has_valuation (netlist_of lines) (its_inputs f.assignment) b.ordered (λ k u.
       let kept = plain.inverses k u.gate u.numbered
@@ -541,7 +542,7 @@ module _ (lines : List Entry) (p : Pattern) (m : ModuleLines) (jobs : List JobSt
       (undefined_is_seen (netlist_of lines) j.locals (its_inputs f.assignment) k at.place f.assignment it.is.locals u
       at.below at.same under.bits) h.local))
 
-  on_rim : (f : Fault) (j : JobState) (v : Valuation) → f.kind ≡ Edge → IsItsJob 0 j → IsFault j f →
+  on_rim : (f : Fault) (j : JobView) (v : Valuation) → f.kind ≡ Edge → IsItsJob 0 j → IsFault j f →
       ((g : Fault) → IsFault j g → fault_cmp f g ≢ Greater) → Satisfies (netlist_of lines) (its_inputs f.assignment) v →
       IsLiveOnRim lines p (its_inputs f.assignment) f.time f.cell.x f.cell.y
   on_rim f j v e it fault least s =
@@ -551,7 +552,7 @@ module _ (lines : List Entry) (p : Pattern) (m : ModuleLines) (jobs : List JobSt
       edge_touches inputs v f.time 0 j f.cell.x f.cell.y s
       (runs_up_to lines p (m ∷ []) jobs inputs v f.time b s (omega (arith, early)) (before f j it least v)) it edge
 
-  shows : (f : Fault) (j : JobState) → IsItsJob 0 j → IsFault j f →
+  shows : (f : Fault) (j : JobView) → IsItsJob 0 j → IsFault j f →
       ((g : Fault) → IsFault j g → fault_cmp f g ≢ Greater) → Shows lines p m f
   shows f j it fault least =
       let inputs = its_inputs f.assignment in
@@ -577,11 +578,11 @@ module _ (lines : List Entry) (p : Pattern) (m : ModuleLines) (jobs : List JobSt
       inr (inl (λ timed. shown.wrong_stop e (subst (All (StopHolds c p)) (append-nil (stops m)) timed.stops)))
   by_kind f End e shown = inl (shown.real.incorrect e)
 
-  its_own : (n : ℕ) (j k : JobState) → IsItsJob 0 j → slice_get jobs n ≡ Some k → k ≡ j
+  its_own : (n : ℕ) (j k : JobView) → IsItsJob 0 j → slice_get jobs n ≡ Some k → k ≡ j
   its_own n j k it at = same_Some k j (sym at ∙ ap (slice_get jobs) (its_job n k at).first ∙ it.at)
 
-  decide : (o : Option Fault) (q : Option KeepFault) (timed : Bool) (j : JobState) → IsItsJob 0 j → IsLeastFault j o →
-      IsLeastKeepFault j q → are_all_kept (time_lines c (m ∷ [])) ≡ timed →
+  decide : (o : Option Fault) (q : Option KeepFault) (timed : Bool) (j : JobView) → IsItsJob 0 j → IsLeastFault j o →
+      IsLeastKeepFault j q → are_all_obeyed (time_lines c (m ∷ [])) ≡ timed →
       ¬ Accepts (setting_of lines p) (m ∷ []) jobs → IsWrongDesign lines p m
   decide (Some f) q timed j it least least_keep e not = by_kind f f.kind refl (shows f j it least.0 least.1)
   decide None (Some g) timed j it least least_keep e not = inl (λ right. no_keep right 0 j g it.at least_keep.0)
@@ -601,9 +602,9 @@ module _ (lines : List Entry) (p : Pattern) (m : ModuleLines) (jobs : List JobSt
   timed_by : AreOnTime c (stops m) → AreOnTime c (all_stops (m ∷ []))
   timed_by timed = subst (AreOnTime c) (sym (append-nil (stops m))) timed
 
-  gap_is : (k n : ℕ) (gap : Gap) → is_kept (times.Delay k n gap) ≡ true → gap ≡ Steps n
+  gap_is : (k n : ℕ) (gap : StopGap) → is_obeyed (times.Delay k n gap) ≡ true → gap ≡ Steps n
   gap_is k n (Steps s) e = ap Steps (eqb-true s n e)
-  gap_is k n Missing e = absurd (false≢true e)
+  gap_is k n NoStop e = absurd (false≢true e)
   gap_is k n Before e = absurd (false≢true e)
 
   time_means : (l : TimeLine) → Tells c (all_stops (m ∷ [])) l → Means (timing l)
@@ -614,7 +615,7 @@ module _ (lines : List Entry) (p : Pattern) (m : ModuleLines) (jobs : List JobSt
   time_means (times.Meet k None) tells = λ timed.
       false≢true (kept_line lines (all_stops (m ∷ [])) (times.Meet k None) b.ordered (timed_by timed) tells)
 
-  keep_means : (n : ℕ) (j : JobState) (o : Option KeepFault) (f : KeepFault) → IsJobOf c p m j → IsLeastKeepFault j o →
+  keep_means : (n : ℕ) (j : JobView) (o : Option KeepFault) (f : KeepFault) → IsJobOf c p m j → IsLeastKeepFault j o →
       option_map (renumber_keep j) o ≡ Some f → Means (line.Keep n f)
   keep_means n j None f is least e = absurd cc
   keep_means n j (Some q) f is least e =

@@ -14,9 +14,9 @@ use Rattle.section_text.specs.Words.{has}
 use Rattle.circuit.specs.Bridge.{input_names, output_names}
 use Rattle.pattern.specs.Layout.{Pattern, parts_of}
 use Rattle.pattern.specs.Lines.{is_in, is_out, missing_fault, name_fault}
-use Rattle.pattern.specs.declared.parts.Part.{Part}
-use Rattle.pattern.specs.declared.parts.Part.TheVariants.{Mirror, Ball, In, Out, Waste}
-use Rattle.pattern.specs.declared.parts.Port.{Port}
+use Rattle.pattern.specs.declared.layout_line.LayoutLine.{LayoutLine}
+use Rattle.pattern.specs.declared.layout_line.LayoutLine.TheVariants.{Mirror, Ball, In, Out, Waste}
+use Rattle.pattern.specs.declared.layout_line.Port.{Port}
 use Rattle.certificate_lines.proofs.BoxPlaces.{skipped}
 use Rattle.certificate_lines.proofs.Lists.{kept}
 use Rattle.audit_core.specs.HeadlineLaws.{ReadLayoutIsNamed}
@@ -56,18 +56,20 @@ ports_known names (q ∷ ports) n all h = elim (cases_Bool (bytes_eq n q.name)) 
 
 -- ---- the lines that have a name
 
-none_in : {X : Type 0} (f : Part → Bool) (make : X → Part) → ((x : X) → f (make x) ≡ false) → (xs : List X) →
+none_in : {X : Type 0} (f : LayoutLine → Bool) (make : X → LayoutLine) → ((x : X) → f (make x) ≡ false) →
+    (xs : List X) →
     list_any f (map make xs) ≡ false
 none_in f make never [] = refl
 none_in f make never (x ∷ xs) = ap₂ (λ a b. a || b) (never x) (none_in f make never xs)
 
-all_in : (f : Part → Bool) (make : Port → Part) (n : List ℕ) → ((q : Port) → f (make q) ≡ bytes_eq n q.name) →
+all_in : (f : LayoutLine → Bool) (make : Port → LayoutLine) (n : List ℕ) →
+    ((q : Port) → f (make q) ≡ bytes_eq n q.name) →
     (ports : List Port) →
     list_any f (map make ports) ≡ has (map (λ q. q.name) ports) n
 all_in f make n same [] = refl
 all_in f make n same (q ∷ ports) = ap₂ (λ a b. a || b) (same q) (all_in f make n same ports)
 
-five_parts : (f : Part → Bool) (a b c d e : List Part) →
+five_parts : (f : LayoutLine → Bool) (a b c d e : List LayoutLine) →
     list_any f (a ++ (b ++ (c ++ (d ++ e))))
     ≡ (list_any f a || (list_any f b || (list_any f c || (list_any f d || list_any f e))))
 five_parts f a b c d e =
@@ -119,7 +121,7 @@ out_stands p i q e =
 
 -- ---- the whole
 
-all_stand : (names : Named) (parts : List Part) → missing_fault (Some names) parts ≡ None →
+all_stand : (names : Named) (parts : List LayoutLine) → missing_fault (Some names) parts ≡ None →
     (list_all (λ n. list_any (is_in n) parts) names.ins ≡ true)
     × (list_all (λ n. list_any (is_out n) parts) names.outs ≡ true)
 unfolding missing_fault
@@ -135,12 +137,13 @@ read_layout-is_named lines p named =
       ins = λ n. same_bool _ _
           (ports_known names.ins p.ins n
           (λ i q e. in_known names.ins names.outs q
-          (at_place (λ (part : Part). name_fault (Some names) part ≡ None) (parts_of p) _ (In q) named.good
+          (at_place (λ (part : LayoutLine). name_fault (Some names) part ≡ None) (parts_of p) _ (In q) named.good
           (in_stands p i q e))))
           (λ h. sym (in_lines p n) ∙ all_have (λ n. list_any (is_in n) (parts_of p)) names.ins n all.0 h);
       outs = λ n. same_bool _ _
           (ports_known names.outs p.outs n
-          (λ i q e. out_known names q (at_place (λ (part : Part). name_fault (Some names) part ≡ None) (parts_of p)
+          (λ i q e. out_known names q (at_place (λ (part : LayoutLine). name_fault (Some names) part ≡ None)
+          (parts_of p)
           (out_place p i) (Out q) named.good (out_stands p i q e))))
           (λ h. sym (out_lines p n) ∙ all_have (λ n. list_any (is_out n) (parts_of p)) names.outs n all.1 h);
     }

@@ -7,29 +7,29 @@ use Rattle.std.proofs.lemmas.Grind.{common_steps}
 use Rattle.std.proofs.lemmas.List.{get_or-set_same, get_or-set_other, length-replicate}
 use Rattle.std.proofs.lemmas.List.Folds.{list_any-append}
 use Rattle.std.specs.List.{count_by}
-use Rattle.module_job.specs.Jobs.{JobState}
+use Rattle.module_job.specs.Jobs.{JobView}
 use Rattle.local_run.specs.Shown.{digest_of, number_of, job_of}
 use Rattle.local_run.specs.declared.finding.Finding.{Finding}
 use Rattle.audit_core.specs.Replay.{Replayed, AreDue, IsDue, accepted_after, after_entry, beginning, has_closing}
 use Rattle.audit_core.specs.Replay.{has_number, replay, replay_from, rule}
 use Rattle.audit_core.specs.Book.{BookView, IsBook, IsReplayed, accepted_in, after_closing, after_filing, filing_of}
-use Rattle.audit_core.specs.Book.{held_after, is_job_of, new_book, reply_to, found_in}
-use Rattle.audit_core.specs.declared.entry.Entry.{Entry}
-use Rattle.audit_core.specs.declared.entry.Entry.TheVariants.{Filed, Closing}
-use Rattle.audit_core.specs.declared.entry.Filing.{Filing}
+use Rattle.audit_core.specs.Book.{findings_after, is_job_of, new_book, reply_to, found_in}
+use Rattle.audit_core.specs.declared.log_entry.LogEntry.{LogEntry}
+use Rattle.audit_core.specs.declared.log_entry.LogEntry.TheVariants.{Filed, Closing}
+use Rattle.audit_core.specs.declared.log_entry.Filing.{Filing}
 use Rattle.audit_core.specs.declared.reply.Reply.{Reply}
 use Rattle.audit_core.specs.declared.reply.Reply.TheVariants.{Closed, Stranger, Double, Accepted}
-use Rattle.audit_core.proofs.Filings.{accepted-inside, accepted_in-accepted, accepted_in-other, held_after-accepted}
-use Rattle.audit_core.proofs.Filings.{held_after-other}
+use Rattle.audit_core.proofs.Filings.{accepted-inside, accepted_in-accepted, accepted_in-other, findings_after-accepted}
+use Rattle.audit_core.proofs.Filings.{findings_after-other}
 
 -- ---- one entry more
 
-replay_from-push : (p : Replayed) (es : List Entry) (e : Entry) →
+replay_from-push : (p : Replayed) (es : List LogEntry) (e : LogEntry) →
     replay_from p (es ++ e ∷ []) ≡ after_entry (replay_from p es) e
 replay_from-push p [] e = refl
 replay_from-push p (x ∷ es) e = replay_from-push (after_entry p x) es e
 
-AreDue-push : (own : List ℕ) (count : ℕ) (p : Replayed) (es : List Entry) (e : Entry) → AreDue own count p es →
+AreDue-push : (own : List ℕ) (count : ℕ) (p : Replayed) (es : List LogEntry) (e : LogEntry) → AreDue own count p es →
     IsDue own count (replay_from p es) e → AreDue own count p (es ++ e ∷ [])
 AreDue-push own count p [] e h due = (due, tt)
 AreDue-push own count p (x ∷ es) e h due = (h.0, AreDue-push own count (after_entry p x) es e h.1 due)
@@ -62,11 +62,11 @@ number-more ks held n f inside h k =
 -- the book after a filing, by the numbers that were accepted then and what is held then
 by-reply : (b : BookView) (f : Finding) (ks : List ℕ) (held : List (Option Finding)) → IsReplayed b →
     accepted_after (replay b.history).accepted (number_of f) (reply_to b f) ≡ ks →
-    held_after b.held f (reply_to b f) ≡ held →
+    findings_after b.findings f (reply_to b f) ≡ held →
     length ks ≡ accepted_in (after_filing b f) → ((k : ℕ) → has_number ks k ≡ is_some (get_or held k None)) →
     IsReplayed (after_filing b f)
 by-reply b f ks held is numbers same count each =
-    let e : Entry = Filed (filing_of b f) in
+    let e : LogEntry = Filed (filing_of b f) in
     let push = replay_from-push beginning b.history e in
     let now : (replay (b.history ++ e ∷ [])).accepted ≡ ks = ap (λ (p : Replayed). p.accepted) push ∙ numbers in
     record {
@@ -81,19 +81,19 @@ filed-by : (b : BookView) (f : Finding) (r : Reply) → reply_to b f ≡ r → I
     IsReplayed (after_filing b f)
 filed-by b f Accepted e book is =
     let ks = (replay b.history).accepted in
-    by-reply b f (ks ++ number_of f ∷ []) (set b.held (number_of f) (Some f)) is
-    (ap (accepted_after ks (number_of f)) e) (held_after-accepted b f e)
+    by-reply b f (ks ++ number_of f ∷ []) (set b.findings (number_of f) (Some f)) is
+    (ap (accepted_after ks (number_of f)) e) (findings_after-accepted b f e)
     (length-append ks (number_of f ∷ []) ∙ ap (λ (n : ℕ). n + 1) is.count ∙ sym (accepted_in-accepted b f book e))
-    (number-more ks b.held (number_of f) f (accepted-inside b f book e) is.accepted)
+    (number-more ks b.findings (number_of f) f (accepted-inside b f book e) is.accepted)
 filed-by b f Closed e book is =
-    by-reply b f _ b.held is (ap (accepted_after (replay b.history).accepted (number_of f)) e)
-    (held_after-other b.held f _ (λ s. cc)) (is.count ∙ sym (accepted_in-other b f (λ s. cc))) is.accepted
+    by-reply b f _ b.findings is (ap (accepted_after (replay b.history).accepted (number_of f)) e)
+    (findings_after-other b.findings f _ (λ s. cc)) (is.count ∙ sym (accepted_in-other b f (λ s. cc))) is.accepted
 filed-by b f (Stranger mismatch) e book is =
-    by-reply b f _ b.held is (ap (accepted_after (replay b.history).accepted (number_of f)) e)
-    (held_after-other b.held f _ (λ s. cc)) (is.count ∙ sym (accepted_in-other b f (λ s. cc))) is.accepted
+    by-reply b f _ b.findings is (ap (accepted_after (replay b.history).accepted (number_of f)) e)
+    (findings_after-other b.findings f _ (λ s. cc)) (is.count ∙ sym (accepted_in-other b f (λ s. cc))) is.accepted
 filed-by b f (Double number) e book is =
-    by-reply b f _ b.held is (ap (accepted_after (replay b.history).accepted (number_of f)) e)
-    (held_after-other b.held f _ (λ s. cc)) (is.count ∙ sym (accepted_in-other b f (λ s. cc))) is.accepted
+    by-reply b f _ b.findings is (ap (accepted_after (replay b.history).accepted (number_of f)) e)
+    (findings_after-other b.findings f _ (λ s. cc)) (is.count ∙ sym (accepted_in-other b f (λ s. cc))) is.accepted
 
 pub IsReplayed-filed : (b : BookView) (f : Finding) → IsBook b → IsReplayed b → IsReplayed (after_filing b f)
 IsReplayed-filed b f book is = filed-by b f (reply_to b f) refl book is
@@ -124,7 +124,7 @@ none-counted : (n : ℕ) → 0 ≡ count_by is_some (nothing n)
 none-counted zero = refl
 none-counted (suc n) = none-counted n
 
-pub IsReplayed-new : (digest : List ℕ) (jobs : List JobState) → IsReplayed (new_book digest jobs)
+pub IsReplayed-new : (digest : List ℕ) (jobs : List JobView) → IsReplayed (new_book digest jobs)
 unfolding new_book
 IsReplayed-new digest jobs =
     record { due = tt; accepted = none-there (length jobs); count = none-counted (length jobs); closed_is = refl }
@@ -134,19 +134,20 @@ none-found zero k f e = cc
 none-found (suc n) zero f e = cc
 none-found (suc n) (suc k) f e = none-found n k f e
 
-pub IsBook-new : (digest : List ℕ) (jobs : List JobState) → IsBook (new_book digest jobs)
+pub IsBook-new : (digest : List ℕ) (jobs : List JobView) → IsBook (new_book digest jobs)
 unfolding new_book
 IsBook-new digest jobs =
     record { places = length-replicate (length jobs) None; own = λ k f e. absurd (none-found (length jobs) k f e) }
 
 -- ---- closing entries
 
-pub has_closing-push : (es : List Entry) (f : Filing) → has_closing (es ++ Filed f ∷ []) ≡ has_closing es
+pub has_closing-push : (es : List LogEntry) (f : Filing) → has_closing (es ++ Filed f ∷ []) ≡ has_closing es
 has_closing-push [] f = refl
 has_closing-push (Filed x ∷ es) f = has_closing-push es f
 has_closing-push (Closing ∷ es) f = refl
 
-closed-from : (p : Replayed) (es : List Entry) → (replay_from p es).closed ≡ (if p.closed then true else has_closing es)
+closed-from : (p : Replayed) (es : List LogEntry) →
+    (replay_from p es).closed ≡ (if p.closed then true else has_closing es)
 closed-from p [] = by_case p.closed
   where
     by_case : (b : Bool) → b ≡ (if b then true else false)
@@ -167,6 +168,6 @@ found-nothing zero k = refl
 found-nothing (suc n) zero = refl
 found-nothing (suc n) (suc k) = found-nothing n k
 
-pub found_in-new : (digest : List ℕ) (jobs : List JobState) (k : ℕ) → found_in (new_book digest jobs) k ≡ None
+pub found_in-new : (digest : List ℕ) (jobs : List JobView) (k : ℕ) → found_in (new_book digest jobs) k ≡ None
 unfolding new_book
 found_in-new digest jobs k = found-nothing (length jobs) k

@@ -10,9 +10,9 @@ use Rattle.std.proofs.lemmas.Option.{same_Some, slice_get_cases, slice_get_withi
 use Rattle.circuit.specs.Gates.{is_inverse}
 use Rattle.circuit.specs.Meaning.{Gate}
 use Rattle.certificate_lines.specs.Entries.{Setting, ModuleLines}
-use Rattle.module_job.specs.Jobs.{JobState}
+use Rattle.module_job.specs.Jobs.{JobView}
 use Rattle.certificate.specs.Keeps.{is_kept, unkept_from}
-use Rattle.certificate.specs.Times.{are_all_kept, time_lines}
+use Rattle.certificate.specs.Times.{are_all_obeyed, time_lines}
 use Rattle.local_run.specs.Faults.{IsFault, IsKeepFault, IsLeastFault, IsLeastKeepFault}
 use Rattle.local_run.specs.declared.fault.Fault.{Fault}
 use Rattle.local_run.specs.declared.fault.KeepFault.{KeepFault}
@@ -145,9 +145,9 @@ from_none k = omega arith
 
 -- ---- what is accepted has no lines, and only that
 
-pub accepted : (g : Setting) (ms : List ModuleLines) (jobs : List JobState) (fs : List Reasons)
+pub accepted : (g : Setting) (ms : List ModuleLines) (jobs : List JobView) (fs : List Reasons)
     (bs : List (Option BorderFault)) → AreLeastFaults jobs fs → AreBorderFaultsOf g ms bs → length fs ≡ length bs →
-    lines_from 0 fs bs ++ unkept_lines g ms ≡ [] → are_all_kept (time_lines g.circuit ms) ≡ true → Accepts g ms jobs
+    lines_from 0 fs bs ++ unkept_lines g ms ≡ [] → are_all_obeyed (time_lines g.circuit ms) ≡ true → Accepts g ms jobs
 accepted g ms jobs fs bs least borders len e rules = record {
   no_fault = λ k j f at.
       let t = told k j at in
@@ -171,7 +171,7 @@ accepted g ms jobs fs bs least borders len e rules = record {
     nothing : Reasons
     nothing = record { fault = None; keep = None }
 
-    told : (k : ℕ) (j : JobState) → slice_get jobs k ≡ Some j →
+    told : (k : ℕ) (j : JobView) → slice_get jobs k ≡ Some j →
         IsToldOf j (get_or fs k nothing) × IsClear (get_or fs k nothing)
     told k j at =
         let below : k < length jobs = slice_get_within jobs k j at in
@@ -184,11 +184,11 @@ accepted g ms jobs fs bs least borders len e rules = record {
     unmapped f (Some x) e = absurd cc
 
 -- a job with a least fault has a fault
-no_least : (j : JobState) (f : Option Fault) → IsLeastFault j f → ((x : Fault) → ¬ IsFault j x) → f ≡ None
+no_least : (j : JobView) (f : Option Fault) → IsLeastFault j f → ((x : Fault) → ¬ IsFault j x) → f ≡ None
 no_least j None least none = refl
 no_least j (Some x) least none = absurd (none x least.0)
 
-no_least_keep : (j : JobState) (f : Option KeepFault) → IsLeastKeepFault j f → ((x : KeepFault) → ¬ IsKeepFault j x) →
+no_least_keep : (j : JobView) (f : Option KeepFault) → IsLeastKeepFault j f → ((x : KeepFault) → ¬ IsKeepFault j x) →
     f ≡ None
 no_least_keep j None least none = refl
 no_least_keep j (Some x) least none = absurd (none x least.0)
@@ -198,7 +198,7 @@ no_least_border : (g : Setting) (ms : List ModuleLines) (k : ℕ) (b : Option Bo
 no_least_border g ms k None least none = refl
 no_least_border g ms k (Some x) least none = absurd (none x least.0)
 
-pub accepted-no_lines : (g : Setting) (ms : List ModuleLines) (jobs : List JobState) (fs : List Reasons)
+pub accepted-no_lines : (g : Setting) (ms : List ModuleLines) (jobs : List JobView) (fs : List Reasons)
     (bs : List (Option BorderFault)) → AreLeastFaults jobs fs → AreBorderFaultsOf g ms bs → Accepts g ms jobs →
     lines_from 0 fs bs ++ unkept_lines g ms ≡ []
 accepted-no_lines g ms jobs fs bs least borders is = ap₂ (λ (x y : List ReportLine). x ++ y)

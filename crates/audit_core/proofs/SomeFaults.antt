@@ -27,7 +27,7 @@ use Rattle.certificate_lines.specs.Rules.{box_cells, whole}
 use Rattle.certificate_lines.proofs.BoxPlaces.{box_place}
 use Rattle.certificate_lines.proofs.LineOrder.{In, flat_in}
 use Rattle.certificate.proofs.FullModules.{stands}
-use Rattle.module_job.specs.Jobs.{IsJob, IsStopOf, JobState, job_demand}
+use Rattle.module_job.specs.Jobs.{IsJob, IsStopOf, JobView, job_demand}
 use Rattle.module_job.specs.Signals.{Meets, is_live}
 use Rattle.module_job.specs.declared.job.Demand.{Demand}
 use Rattle.module_job.specs.declared.job.Demand.TheVariants as Demanded
@@ -70,7 +70,7 @@ in_cells_of_box b d h = stands (box_cells b) _ d (box_place b d.x d.y h)
 
 -- ---- whether a job has a fault, where its wires have these values
 
-module _ (j : JobState) (u : Valuation) (t : ℕ) (x y : ℤ) where
+module _ (j : JobView) (u : Valuation) (t : ℕ) (x y : ℤ) where
   meets_decided : (d : Demand) (live : Bool) → Decided (Meets u d live)
   meets_decided Demanded.Dead live = bools_decided live false
   meets_decided Demanded.Live live = bools_decided live true
@@ -128,7 +128,7 @@ ring_inside : (b : Box2) (x y : ℤ) → in_ring b x y ≡ true → in_box b x y
 unfolding in_ring
 ring_inside b x y h = (and_parts (in_box b x y) _ h).0
 
-module _ (j : JobState) (is : IsJob j) (ordered : AreOrdered j.locals.netlist.given j.locals.netlist.gates) where
+module _ (j : JobView) (is : IsJob j) (ordered : AreOrdered j.locals.netlist.given j.locals.netlist.gates) where
   abbrev Bounded : Fault → Type 0
   Bounded f = (f.time < j.steps + 1) × (in_box j.area f.cell.x f.cell.y ≡ true)
 

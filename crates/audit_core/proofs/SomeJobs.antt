@@ -9,7 +9,7 @@ use Rattle.bbm_rule.specs.declared.block.Cell.{Cell}
 use Rattle.circuit.specs.Bridge.{circuit_of, netlist_of}
 use Rattle.circuit.specs.Gates.{defines}
 use Rattle.circuit.specs.Meaning.{AreOrdered, Circuit, Gate, Netlist, wire_of, wires}
-use Rattle.circuit.specs.declared.entry.Entry.{Entry}
+use Rattle.circuit.specs.declared.circuit_line.CircuitLine.{CircuitLine}
 use Rattle.pattern.specs.Layout.{Pattern, in_cells, in_rectangles}
 use Rattle.module_box.specs.Boxes.{in_box}
 use Rattle.module_box.specs.Locals.{AreLocalLines, AreLocalsOf, LocalNet, is_among, local_wires}
@@ -21,10 +21,10 @@ use Rattle.certificate_lines.specs.Modules.{HasPorts, IsModule}
 use Rattle.certificate_lines.specs.PortTables.{port_at}
 use Rattle.certificate_lines.specs.Rules.{box_cells, is_local, is_local_wire}
 use Rattle.certificate_lines.specs.Settings.{setting_of}
-use Rattle.certificate_lines.specs.declared.entry.StopLine.{StopLine}
+use Rattle.certificate_lines.specs.declared.certificate_line.StopLine.{StopLine}
 use Rattle.certificate_lines.proofs.BoxPlaces.{cells_inside, found_at, same_count}
 use Rattle.certificate_lines.proofs.Pairs.{Each, each_of_all}
-use Rattle.module_job.specs.Jobs.{JobState}
+use Rattle.module_job.specs.Jobs.{JobView}
 use Rattle.module_job.specs.Signals.{IsBelow, IsDemandBelow, renumber_demand, renumber_signal, renumber_stop}
 use Rattle.module_job.specs.declared.job.Demand.{Demand}
 use Rattle.module_job.specs.declared.job.Demand.TheVariants as Demanded
@@ -33,7 +33,7 @@ use Rattle.certificate.specs.Jobs.{IsJobOf, demand_elsewhere, demand_of, end_dem
 use Rattle.certificate.specs.Jobs.{named_wire, numbered_stop, signal_of, start_signal}
 use Rattle.certificate.proofs.FullModules.{all_of_each}
 use Rattle.certificate.proofs.JobPlaces.{demand_found, start_found}
-use Rattle.certificate.proofs.PlanLemmas.{cells_have_ports}
+use Rattle.certificate.proofs.LayoutTableLemmas.{cells_have_ports}
 use Rattle.audit_core.specs.ModuleLaws.{ModuleHasSomeJob}
 use Rattle.audit_core.proofs.NumberedSignals.{IsBack, IsNamed, IsNumbered, is_place, lines_back, numbered}
 use Rattle.audit_core.proofs.NumberedSignals.{numbered_signals, place_among, wire_numbered}
@@ -208,7 +208,7 @@ each_at_place P (x ∷ xs) h = (h 0 x refl, each_at_place P xs (λ k. h (suc k))
 
 -- ---- the job
 
-module _ (lines : List Entry) (p : Pattern) (m : ModuleLines)
+module _ (lines : List CircuitLine) (p : Pattern) (m : ModuleLines)
     (ordered : AreOrdered (netlist_of lines).given (netlist_of lines).gates)
     (is : IsModule (setting_of lines p) m) (ports : HasPorts (setting_of lines p) m) where
   abbrev c : Circuit
@@ -280,11 +280,11 @@ module _ (lines : List Entry) (p : Pattern) (m : ModuleLines)
 
   -- its lines
 
-  edges_back : IsBack c ws (line_signals c (edges m)).held (line_signals c (edges m)).events
+  edges_back : IsBack c ws (line_signals c (edges m)).all_times (line_signals c (edges m)).events
   edges_back = lines_back c ws (edges m)
       (each_of_all (IsNamed c ws) (edges m) (λ k d lt. (is.edge_lines k d lt).border.signal))
 
-  halos_back : IsBack c ws (line_signals c (halos m)).held (line_signals c (halos m)).events
+  halos_back : IsBack c ws (line_signals c (halos m)).all_times (line_signals c (halos m)).events
   halos_back = lines_back c ws (halos m)
       (each_of_all (IsNamed c ws) (halos m) (λ k d lt. (is.halo_lines k d lt).border.signal))
 
@@ -295,7 +295,7 @@ module _ (lines : List Entry) (p : Pattern) (m : ModuleLines)
   own_keeps : ArePlaces (gates m) (keeps m)
   own_keeps = are_places (gates m) (keeps m) (λ k d lt. (is.keep_lines k d lt).among)
 
-  abbrev job : JobState
+  abbrev job : JobView
   job = record {
     area = m.area;
     steps = p.size.steps;
@@ -327,15 +327,15 @@ module _ (lines : List Entry) (p : Pattern) (m : ModuleLines)
         (found_at (renumber_signal (slice_index ws)) starts m.area job.starts Zero starts_back.back);
     demand = demand_found c p m.area job refl
         (found_at (renumber_demand (slice_index ws)) demands m.area job.demands Demanded.Dead ends_back.back);
-    edges = ap₂ (λ a b. record { held = a; events = b }) edges_back.held edges_back.events;
-    halos = ap₂ (λ a b. record { held = a; events = b }) halos_back.held halos_back.events;
+    edges = ap₂ (λ a b. record { all_times = a; events = b }) edges_back.all_times edges_back.events;
+    halos = ap₂ (λ a b. record { all_times = a; events = b }) halos_back.all_times halos_back.events;
     stops = own_stops.back;
     own = record {
       starts = subst (λ n. All (IsBelow n) job.starts) sized starts_back.below;
       demands = subst (λ n. All (IsDemandBelow n) job.demands) sized ends_back.below;
-      edge_held = signals_below _ _ edges_back.held_below;
+      edge_all_times = signals_below _ _ edges_back.all_times_below;
       edge_events = signals_below _ _ edges_back.events_below;
-      halo_held = signals_below _ _ halos_back.held_below;
+      halo_all_times = signals_below _ _ halos_back.all_times_below;
       halo_events = signals_below _ _ halos_back.events_below;
       stops = subst (λ n. All (λ (s : listed.Stop). s.wire < n) job.stops) sized own_stops.below;
     };

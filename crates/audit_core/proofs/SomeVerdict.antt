@@ -15,7 +15,7 @@ use Rattle.circuit.specs.Entries.{defined}
 use Rattle.circuit.specs.Gates.{is_inverse, Rule, Source, Fredkin, Cswap, Interact, Switch, Delay, Unswitch, Uninteract}
 use Rattle.circuit.specs.Meaning.{AreOrdered, Gate}
 use Rattle.circuit.specs.Rules.{add_fault, gate_count, is_gate, is_wrong_delay, passes_limit}
-use Rattle.circuit.specs.declared.entry.Entry.{Entry}
+use Rattle.circuit.specs.declared.circuit_line.CircuitLine.{CircuitLine}
 use Rattle.circuit.proofs.Bridging.{count_append, gates_are_ordered}
 use Rattle.circuit.proofs.Naming.{gates_counted}
 use Rattle.pattern.specs.Layout.{Pattern}
@@ -25,13 +25,13 @@ use Rattle.certificate_lines.specs.Modules.{AreModules, HasPorts, IsModule}
 use Rattle.certificate_lines.specs.Settings.{setting_of}
 use Rattle.module_box.specs.Boxes.{in_box, IsEven}
 use Rattle.module_box.specs.declared.boxes.Box2.{Box2}
-use Rattle.module_job.specs.Jobs.{IsJob, JobState}
+use Rattle.module_job.specs.Jobs.{IsJob, JobView}
 use Rattle.certificate.specs.Jobs.{AreJobsOf, IsJobOf}
 use Rattle.certificate.specs.Keeps.{is_kept, unkept_from}
 use Rattle.certificate.specs.StopLists.{AreStops}
-use Rattle.certificate.specs.Times.{agreed, all_stops, are_all_kept, delay_by, delay_line, first_seen, gap_between}
+use Rattle.certificate.specs.Times.{agreed, all_stops, are_all_obeyed, delay_by, delay_line, first_seen, gap_between}
 use Rattle.certificate.specs.Times.{last_seen, last_times, lines_by, meet_by, meet_line, numbered, of_wire, time_lines}
-use Rattle.certificate.specs.declared.times.Gap.{Gap}
+use Rattle.certificate.specs.declared.times.StopGap.{StopGap}
 use Rattle.certificate.specs.declared.times.TimeLine.{TimeLine}
 use Rattle.certificate.specs.declared.times.TimeLine.TheVariants.{Meet}
 use Rattle.certificate.proofs.JobLemmas.{within_512}
@@ -101,7 +101,7 @@ line_each f few k (g ∷ gs) =
     let here = few k g in
     omega (arith, more, sum, here)
 
-few_delays : (k : ℕ) (rule : Rule) (gap : Gap) → length (delay_by k rule gap) ≤ 1
+few_delays : (k : ℕ) (rule : Rule) (gap : StopGap) → length (delay_by k rule gap) ≤ 1
 few_delays k (Source b) gap = omega arith
 few_delays k Fredkin gap = omega arith
 few_delays k Cswap gap = omega arith
@@ -143,7 +143,7 @@ one_gate_more : (b : Bool) (n : ℕ) → (b && nat_le 1024 n) ≡ false → n �
 one_gate_more true n e le = grind (arith, nat_tests)
 one_gate_more false n e le = omega (arith, le)
 
-gates_below : (before rest : List Entry) → AreGoodAfter before rest → gate_count before ≤ 1024 →
+gates_below : (before rest : List CircuitLine) → AreGoodAfter before rest → gate_count before ≤ 1024 →
     gate_count (before ++ rest) ≤ 1024
 unfolding AreGoodAfter add_fault
 gates_below before [] good h = subst (λ l. gate_count l ≤ 1024) (sym (append-nil before)) h
@@ -152,7 +152,7 @@ gates_below before (r ∷ rest) good h =
     let last = last_false (is_wrong_delay r.kind) (nat_lt 4096 (length (defined before) + length r.outs))
     (is_gate r.kind && nat_le 1024 (gate_count before)) passes in
     let count : gate_count (before ++ r ∷ []) ≡ gate_count before + cond (is_gate r.kind) 1 0 =
-    count_append (λ (r : Entry). is_gate r.kind) before (r ∷ []) ∙ omega arith in
+    count_append (λ (r : CircuitLine). is_gate r.kind) before (r ∷ []) ∙ omega arith in
     let turned : gate_count before + cond (is_gate r.kind) 1 0 ≡ cond
     (is_gate r.kind) 1 0 + gate_count before = omega arith in
     let more : gate_count (before ++ r ∷ []) ≤ 1024 =
@@ -160,7 +160,7 @@ gates_below before (r ∷ rest) good h =
     subst (λ l. gate_count l ≤ 1024) (append_assoc before (r ∷ []) rest)
     (gates_below (before ++ r ∷ []) rest good.1 more)
 
-few_gates : (lines : List Entry) → AreGood lines → length (netlist_of lines).gates ≤ 1024
+few_gates : (lines : List CircuitLine) → AreGood lines → length (netlist_of lines).gates ≤ 1024
 few_gates lines good =
     let all = gates_below [] lines good (omega arith) in
     subst (λ n. n ≤ 1024) (sym (gates_counted (defined lines) lines)) all
@@ -190,11 +190,11 @@ vec_of xs small = record {
 nothing : {A : Type 0} (k : ℕ) (a : A) → slice_get {X = A} [] k ≡ Some a → ⊥
 nothing k a at = cc
 
-all_jobs : (lines : List Entry) (p : Pattern) (ms : List ModuleLines) →
+all_jobs : (lines : List CircuitLine) (p : Pattern) (ms : List ModuleLines) →
     AreOrdered (netlist_of lines).given (netlist_of lines).gates →
     ((k : ℕ) (m : ModuleLines) → slice_get ms k ≡ Some m →
     IsModule (setting_of lines p) m × HasPorts (setting_of lines p) m) →
-    (js : List JobState) × AreJobsOf (circuit_of lines) p ms js
+    (js : List JobView) × AreJobsOf (circuit_of lines) p ms js
 all_jobs lines p [] ordered each = ([], record { count = refl; each = λ k m j at. absurd (nothing k m at) })
 all_jobs lines p (m ∷ ms) ordered each =
     let own = each 0 m refl in
@@ -202,9 +202,9 @@ all_jobs lines p (m ∷ ms) ordered each =
     let more = all_jobs lines p ms ordered (λ k. each (suc k)) in
     (one.0 ∷ more.0, record { count = ap suc more.1.count; each = at_each one.0 one.1 more.0 more.1 })
   where
-    at_each : (j : JobState) → IsJobOf (circuit_of lines) p m j → (js : List JobState) →
+    at_each : (j : JobView) → IsJobOf (circuit_of lines) p m j → (js : List JobView) →
         AreJobsOf (circuit_of lines) p ms js →
-        (k : ℕ) (n : ModuleLines) (i : JobState) → slice_get (m ∷ ms) k ≡ Some n → slice_get (j ∷ js) k ≡ Some i →
+        (k : ℕ) (n : ModuleLines) (i : JobView) → slice_get (m ∷ ms) k ≡ Some n → slice_get (j ∷ js) k ≡ Some i →
         IsJobOf (circuit_of lines) p n i
     at_each j is js are zero n i at there =
         let same : m ≡ n = cc in
@@ -212,8 +212,8 @@ all_jobs lines p (m ∷ ms) ordered each =
         subst (λ n. IsJobOf (circuit_of lines) p n i) same (subst (IsJobOf (circuit_of lines) p m) alike is)
     at_each j is js are (suc k) n i at there = are.each k n i at there
 
-all_reasons : (js : List JobState) →
-    ((k : ℕ) (j : JobState) → slice_get js k ≡ Some j →
+all_reasons : (js : List JobView) →
+    ((k : ℕ) (j : JobView) → slice_get js k ≡ Some j →
     IsJob j × AreOrdered j.locals.netlist.given j.locals.netlist.gates) →
     (fs : List Reasons) × AreLeastFaults js fs
 all_reasons [] each = ([], record { count = refl; each = λ k j f at. absurd (nothing k j at) })
@@ -227,7 +227,7 @@ all_reasons (j ∷ js) each =
     (reasons ∷ more.0, record { count = ap suc more.1.count; each = at_each reasons told more.0 more.1 })
   where
     at_each : (r : Reasons) → IsToldOf j r → (fs : List Reasons) → AreLeastFaults js fs →
-        (k : ℕ) (i : JobState) (f : Reasons) → slice_get (j ∷ js) k ≡ Some i → slice_get (r ∷ fs) k ≡ Some f →
+        (k : ℕ) (i : JobView) (f : Reasons) → slice_get (j ∷ js) k ≡ Some i → slice_get (r ∷ fs) k ≡ Some f →
         IsToldOf i f
     at_each r is fs are zero i f at there =
         let same : j ≡ i = cc in
@@ -260,7 +260,7 @@ all_borders g ms (suc count) n =
 
 -- ---- a job of a module is a good one
 
-job_good : (lines : List Entry) (p : Pattern) (m : ModuleLines) (j : JobState) → size_fault p.size ≡ None →
+job_good : (lines : List CircuitLine) (p : Pattern) (m : ModuleLines) (j : JobView) → size_fault p.size ≡ None →
     IsModule (setting_of lines p) m →
     IsJobOf (circuit_of lines) p m j → IsJob j
 job_good lines p m j limits own is =
@@ -291,7 +291,7 @@ empty_decided : {A : Type 0} (xs : List A) → Decided (xs ≡ [])
 empty_decided [] = inl refl
 empty_decided (x ∷ xs) = inr (λ e. cc)
 
-module _ (lines : List Entry) (p : Pattern) (ms : List ModuleLines) (good : AreGood lines)
+module _ (lines : List CircuitLine) (p : Pattern) (ms : List ModuleLines) (good : AreGood lines)
     (limits : size_fault p.size ≡ None)
     (are : AreModules (setting_of lines p) ms) where
   abbrev g : Setting
@@ -300,13 +300,13 @@ module _ (lines : List Entry) (p : Pattern) (ms : List ModuleLines) (good : AreG
   ordered : AreOrdered (netlist_of lines).given (netlist_of lines).gates
   ordered = gates_are_ordered lines good
 
-  own_jobs : (js : List JobState) × AreJobsOf (circuit_of lines) p ms js
+  own_jobs : (js : List JobView) × AreJobsOf (circuit_of lines) p ms js
   own_jobs = all_jobs lines p ms ordered (λ k m at. (are.each k m at, are.ports k m at))
 
-  abbrev js : List JobState
+  abbrev js : List JobView
   js = own_jobs.0
 
-  good_at : (k : ℕ) (j : JobState) → slice_get js k ≡ Some j →
+  good_at : (k : ℕ) (j : JobView) → slice_get js k ≡ Some j →
       IsJob j × AreOrdered j.locals.netlist.given j.locals.netlist.gates
   good_at k j at = by (slice_get ms k) refl
     where
@@ -366,7 +366,7 @@ module _ (lines : List Entry) (p : Pattern) (ms : List ModuleLines) (good : AreG
   verdict : (v : Verdict) × IsVerdict g ms js v
   unfolding IsVerdict
   verdict = elim (both_decided (empty_decided (lines_from 0 fs bs ++ unkept_lines g ms))
-      (λ _. true_decided (are_all_kept (time_lines g.circuit ms)))) [
+      (λ _. true_decided (are_all_obeyed (time_lines g.circuit ms)))) [
         | inl h ↦ (Yes, accepted g ms js fs bs reasons.1 are_borders same_count h.0 h.1)
         | inr not_so ↦
             let v = vec_of all_lines few_lines in (

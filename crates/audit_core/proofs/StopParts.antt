@@ -6,7 +6,7 @@ use Rattle.std.proofs.lemmas.List.Elements.{All-nil, All-cons, All-append, All-h
 use Rattle.std.proofs.lemmas.Option.{same_Some}
 use Rattle.certificate.specs.Jobs.{numbered_stop}
 use Rattle.certificate_lines.specs.Rules.{is_local_wire}
-use Rattle.certificate_lines.specs.declared.entry.StopLine.{StopLine}
+use Rattle.certificate_lines.specs.declared.certificate_line.StopLine.{StopLine}
 use Rattle.module_job.specs.declared.job.Stop as listed
 
 pub all_map : {X Y : Type 0} (P : Y → Type 0) (f : X → Y) (xs : List X) → All (λ x. P (f x)) xs → All P (map f xs)

@@ -10,7 +10,7 @@ use Rattle.bbm_rule.specs.Plane.{State, step, run}
 use Rattle.bbm_rule.proofs.Steps.{step_dead}
 use Rattle.circuit.specs.Bridge.{circuit_of, netlist_of}
 use Rattle.circuit.specs.Meaning.{Satisfies, Valuation, wire_value, values_by_name, wire_of}
-use Rattle.circuit.specs.declared.entry.Entry.{Entry}
+use Rattle.circuit.specs.declared.circuit_line.CircuitLine.{CircuitLine}
 use Rattle.pattern.specs.Layout.{Pattern}
 use Rattle.module_box.specs.Boxes.{in_box, some_neighbour, in_ring, in_halo}
 use Rattle.module_box.specs.Laws.{LiesInBox, SameInBox}
@@ -24,11 +24,11 @@ use Rattle.certificate.proofs.ArrivalLemmas.{kept_is_on_time}
 use Rattle.certificate_lines.specs.Entries.{ModuleLines, areas, known, stops}
 use Rattle.certificate_lines.specs.Settings.{setting_of}
 use Rattle.certificate_lines.specs.Modules.{IsStop}
-use Rattle.certificate_lines.specs.declared.entry.StopLine.{StopLine}
+use Rattle.certificate_lines.specs.declared.certificate_line.StopLine.{StopLine}
 use Rattle.module_job.specs.declared.job.Stop as listed
 use Rattle.certificate_lines.proofs.FlatParts.{flat_part}
 use Rattle.module_box.specs.Locals.{circuit_wire}
-use Rattle.module_job.specs.Jobs.{JobState, job_start, job_demand}
+use Rattle.module_job.specs.Jobs.{JobView, job_start, job_demand}
 use Rattle.certificate.specs.Jobs.{IsJobOf, end_demand, numbered_stop}
 use Rattle.certificate_lines.specs.Rules.{whole}
 use Rattle.module_job.specs.Signals.{is_live, Meets, renumber_stop}
@@ -75,14 +75,15 @@ stable_meets v (Demanded.Wire w) b n = stable b (v w) n
 stable_meets v Demanded.Any b n = tt
 
 -- what the laws on a step share
-record Setting (lines : List Entry) (p : Pattern) (ms : List ModuleLines) (jobs : List JobState) (inputs v : Valuation)
+record Setting (lines : List CircuitLine) (p : Pattern) (ms : List ModuleLines) (jobs : List JobView)
+    (inputs v : Valuation)
     (t : ℕ) : Type 0 where
   bundle : BelongTogether lines p ms jobs
   right : HasGoodBorders lines p ms jobs v t
   satisfied : Satisfies (netlist_of lines) inputs v
 
 -- what is accepted has no fault
-right_of : (lines : List Entry) (p : Pattern) (ms : List ModuleLines) (jobs : List JobState) →
+right_of : (lines : List CircuitLine) (p : Pattern) (ms : List ModuleLines) (jobs : List JobView) →
     IsAcceptedBundle lines p ms jobs → HasNoFault lines p ms jobs
 right_of lines p ms jobs all = record { of_jobs = all.accepted.no_fault; of_borders = all.accepted.no_border_fault }
 
@@ -105,12 +106,13 @@ abbrev fault_at : ℕ → Kind → ℤ → ℤ → ℕ → Fault
 fault_at t kind x y a = record { time = t; kind = kind; cell = record { x = x; y = y }; assignment = a }
 
 -- every job has an assignment of v
-pub its_assignment : (j : JobState) (v : Valuation) → (a : ℕ) × IsAssignmentOf j v a
+pub its_assignment : (j : JobView) (v : Valuation) → (a : ℕ) × IsAssignmentOf j v a
 its_assignment j v = let a = choices_are_assignments j.locals.netlist.given (seen_by j.locals v) in
     (a.0, record { in_range = a.1; bits = a.2 })
 
 -- and under it, where the wires have their values in v, its faults are those of the job
-own_fault : (lines : List Entry) (p : Pattern) (ms : List ModuleLines) (inputs v : Valuation) (i t a : ℕ) (j : JobState)
+own_fault : (lines : List CircuitLine) (p : Pattern) (ms : List ModuleLines) (inputs v : Valuation) (i t a : ℕ)
+    (j : JobView)
     (kind : Kind) (x y : ℤ) → Known lines p ms i j →
     Satisfies (netlist_of lines) inputs v → IsAssignmentOf j v a → IsFaultUnder j (seen_by j.locals v) t kind x y →
     IsFault j (fault_at t kind x y a)
@@ -121,8 +123,9 @@ own_fault lines p ms inputs v i t a j kind x y k s is differs =
       shown = ∣ record { values = seen_by j.locals v; local = agree.is_local; differs = differs } ∣₁;
     }
 
-no_edge_fault : (lines : List Entry) (p : Pattern) (ms : List ModuleLines) (jobs : List JobState) (inputs v : Valuation)
-    (i t : ℕ) (j : JobState) (x y : ℤ) →
+no_edge_fault : (lines : List CircuitLine) (p : Pattern) (ms : List ModuleLines) (jobs : List JobView)
+    (inputs v : Valuation)
+    (i t : ℕ) (j : JobView) (x y : ℤ) →
     Setting lines p ms jobs inputs v t → slice_get jobs i ≡ Some j → t % 2 ≡ 1 → t < p.size.steps →
     in_ring j.area x y ≡ true →
     local_run j (seen_by j.locals v) t x y ≡ is_live (seen_by j.locals v) (signal_at j.edges t x y)
@@ -137,8 +140,9 @@ no_edge_fault lines p ms jobs inputs v i t j x y set e odd early ring =
       differs = differ;
     })))
 
-no_end_fault : (lines : List Entry) (p : Pattern) (ms : List ModuleLines) (jobs : List JobState) (inputs v : Valuation)
-    (i : ℕ) (j : JobState) (x y : ℤ) →
+no_end_fault : (lines : List CircuitLine) (p : Pattern) (ms : List ModuleLines) (jobs : List JobView)
+    (inputs v : Valuation)
+    (i : ℕ) (j : JobView) (x y : ℤ) →
     BelongTogether lines p ms jobs → HasNoEndFault jobs → Satisfies (netlist_of lines) inputs v →
     slice_get jobs i ≡ Some j → in_box j.area x y ≡ true →
     Meets (seen_by j.locals v) (job_demand j x y) (local_run j (seen_by j.locals v) p.size.steps x y)
@@ -151,7 +155,7 @@ no_end_fault lines p ms jobs inputs v i j x y b right s e h =
 
 -- ---- local runs stay in their boxes
 
-local_stays : (lines : List Entry) (p : Pattern) (ms : List ModuleLines) (i : ℕ) (j : JobState) (u : Valuation)
+local_stays : (lines : List CircuitLine) (p : Pattern) (ms : List ModuleLines) (i : ℕ) (j : JobView) (u : Valuation)
     (t : ℕ) → Known lines p ms i j → LiesInBox j.area (local_run j u t)
 unfolding local_run
 local_stays lines p ms i j u zero k x y out = ap (is_live u) (own.start_outside j x y out)
@@ -163,7 +167,8 @@ local_stays lines p ms i j u (suc t) k x y out = elim (even_or_odd t) [
 
 -- ---- an even step
 
-even_outside : (lines : List Entry) (p : Pattern) (ms : List ModuleLines) (jobs : List JobState) (inputs v : Valuation)
+even_outside : (lines : List CircuitLine) (p : Pattern) (ms : List ModuleLines) (jobs : List JobView)
+    (inputs v : Valuation)
     (t : ℕ) →
     Setting lines p ms jobs inputs v t → t % 2 ≡ 0 → IsRunOfJobs lines p jobs v t →
     LiesInBox (whole p.size) (run_under (circuit_of lines) p v (suc t))
@@ -171,8 +176,9 @@ unfolding run
 even_outside lines p ms jobs inputs v t set e now =
     even_stays (whole p.size) t (run_under (circuit_of lines) p v t) (whole_even p.size set.bundle.limits) e now.outside
 
-even_inside : (lines : List Entry) (p : Pattern) (ms : List ModuleLines) (jobs : List JobState) (inputs v : Valuation)
-    (t i : ℕ) (j : JobState) →
+even_inside : (lines : List CircuitLine) (p : Pattern) (ms : List ModuleLines) (jobs : List JobView)
+    (inputs v : Valuation)
+    (t i : ℕ) (j : JobView) →
     Setting lines p ms jobs inputs v t → t % 2 ≡ 0 → IsRunOfJobs lines p jobs v t → slice_get jobs i ≡ Some j →
     SameInBox j.area (run_under (circuit_of lines) p v (suc t)) (local_run j (seen_by j.locals v) (suc t))
 unfolding run local_run
@@ -185,7 +191,7 @@ even_inside lines p ms jobs inputs v t i j set e now at x y h =
 -- ---- an odd step
 
 -- what is outside the rectangle is outside every box
-outer : (lines : List Entry) (p : Pattern) (ms : List ModuleLines) (jobs : List JobState) (x y : ℤ)
+outer : (lines : List CircuitLine) (p : Pattern) (ms : List ModuleLines) (jobs : List JobView) (x y : ℤ)
     (o : Owner lines p ms jobs x y) → BelongTogether lines p ms jobs → (x' y' : ℤ) →
     not (in_box (whole p.size) x' y') ≡ true → not (in_box o.job.area x' y') ≡ true
 outer lines p ms jobs x y o b x' y' out = elim (cases_Bool (in_box o.job.area x' y')) [
@@ -196,7 +202,7 @@ outer lines p ms jobs x y o b x' y' out = elim (cases_Bool (in_box o.job.area x'
 ]
 
 -- a cell with a neighbour outside the rectangle is dead
-rim_dead : (lines : List Entry) (p : Pattern) (ms : List ModuleLines) (jobs : List JobState) (inputs v : Valuation)
+rim_dead : (lines : List CircuitLine) (p : Pattern) (ms : List ModuleLines) (jobs : List JobView) (inputs v : Valuation)
     (t : ℕ) (x y : ℤ) →
     Setting lines p ms jobs inputs v t → t % 2 ≡ 1 → t < p.size.steps → IsRunOfJobs lines p jobs v t →
     some_neighbour (λ x' y'. not (in_box (whole p.size) x' y')) x y ≡ true →
@@ -213,7 +219,8 @@ rim_dead lines p ms jobs inputs v t x y set odd early now near = elim (cases_Boo
       ∙ rim_edge_dead lines p ms o.number o.job v t x y o.known (ring_from (whole p.size) x y h near)
 ]
 
-odd_outside : (lines : List Entry) (p : Pattern) (ms : List ModuleLines) (jobs : List JobState) (inputs v : Valuation)
+odd_outside : (lines : List CircuitLine) (p : Pattern) (ms : List ModuleLines) (jobs : List JobView)
+    (inputs v : Valuation)
     (t : ℕ) →
     Setting lines p ms jobs inputs v t → t % 2 ≡ 1 → t < p.size.steps → IsRunOfJobs lines p jobs v t →
     LiesInBox (whole p.size) (run_under (circuit_of lines) p v (suc t))
@@ -227,21 +234,22 @@ odd_outside lines p ms jobs inputs v t set odd early now x y out =
     (rim_dead lines p ms jobs inputs v t _ _ set odd early now (block_y q t x y h))
 
 -- what stands in the box and its halo before an odd step
-with_halo_inside : (j : JobState) (u : Valuation) (t : ℕ) (s : State) (x y : ℤ) → in_box j.area x y ≡ true →
+with_halo_inside : (j : JobView) (u : Valuation) (t : ℕ) (s : State) (x y : ℤ) → in_box j.area x y ≡ true →
     with_halo j u t s x y ≡ s x y
 unfolding with_halo in_halo
 with_halo_inside j u t s x y h =
     ap (λ q. s x y || ((not q && some_neighbour (in_box j.area) x y) && is_live u (signal_at j.halos t x y))) h
     ∙ or-false (s x y)
 
-with_halo_outside : (j : JobState) (u : Valuation) (t : ℕ) (s : State) (x y : ℤ) → s x y ≡ false →
+with_halo_outside : (j : JobView) (u : Valuation) (t : ℕ) (s : State) (x y : ℤ) → s x y ≡ false →
     in_halo j.area x y ≡ true → with_halo j u t s x y ≡ is_live u (signal_at j.halos t x y)
 unfolding with_halo
 with_halo_outside j u t s x y dead h = ap₂ (λ q r. q || (r && is_live u (signal_at j.halos t x y))) dead h
 
 -- a cell of the halo is what the halo lines say
-halo_agrees : (lines : List Entry) (p : Pattern) (ms : List ModuleLines) (jobs : List JobState) (inputs v : Valuation)
-    (t i : ℕ) (j : JobState) (x y : ℤ) →
+halo_agrees : (lines : List CircuitLine) (p : Pattern) (ms : List ModuleLines) (jobs : List JobView)
+    (inputs v : Valuation)
+    (t i : ℕ) (j : JobView) (x y : ℤ) →
     Setting lines p ms jobs inputs v t → t % 2 ≡ 1 → t < p.size.steps → IsRunOfJobs lines p jobs v t →
     slice_get jobs i ≡ Some j → in_halo j.area x y ≡ true →
     run_under (circuit_of lines) p v t x y ≡ is_live (seen_by j.locals v) (signal_at j.halos t x y)
@@ -273,8 +281,9 @@ halo_agrees lines p ms jobs inputs v t i j x y set odd early now at halo =
           ∙ sym (halo_by_circuit lines p ms i j v t x y k)
     ]
 
-odd_inside : (lines : List Entry) (p : Pattern) (ms : List ModuleLines) (jobs : List JobState) (inputs v : Valuation)
-    (t i : ℕ) (j : JobState) →
+odd_inside : (lines : List CircuitLine) (p : Pattern) (ms : List ModuleLines) (jobs : List JobView)
+    (inputs v : Valuation)
+    (t i : ℕ) (j : JobView) →
     Setting lines p ms jobs inputs v t → t % 2 ≡ 1 → t < p.size.steps → IsRunOfJobs lines p jobs v t →
     slice_get jobs i ≡ Some j →
     SameInBox j.area (run_under (circuit_of lines) p v (suc t)) (local_run j (seen_by j.locals v) (suc t))
@@ -306,7 +315,8 @@ steps_with_good_borders lines p ms jobs inputs v t b s early right now =
     ]
 
 -- where there is no fault, borders are good at all times
-pub good_borders : (lines : List Entry) (p : Pattern) (ms : List ModuleLines) (jobs : List JobState) (v : Valuation)
+pub good_borders : (lines : List CircuitLine) (p : Pattern) (ms : List ModuleLines) (jobs : List JobView)
+    (v : Valuation)
     (t : ℕ) → HasNoFault lines p ms jobs → HasGoodBorders lines p ms jobs v t
 good_borders lines p ms jobs v t right =
     record { of_jobs = λ n j f at kind time is. right.of_jobs n j f at; of_modules = λ n f time. right.of_borders n f }
@@ -317,7 +327,7 @@ steps lines p ms jobs inputs v t b right s early now =
 
 -- ---- the end
 
-met : (lines : List Entry) (p : Pattern) (ms : List ModuleLines) (jobs : List JobState) (inputs v : Valuation)
+met : (lines : List CircuitLine) (p : Pattern) (ms : List ModuleLines) (jobs : List JobView) (inputs v : Valuation)
     (x y : ℤ) →
     BelongTogether lines p ms jobs → HasNoEndFault jobs → Satisfies (netlist_of lines) inputs v →
     IsRunOfJobs lines p jobs v p.size.steps → in_box (whole p.size) x y ≡ true →
@@ -350,7 +360,8 @@ ends lines p ms jobs inputs v b right s now =
 
 -- ---- all times
 
-all_times : (lines : List Entry) (p : Pattern) (ms : List ModuleLines) (jobs : List JobState) (inputs v : Valuation)
+all_times : (lines : List CircuitLine) (p : Pattern) (ms : List ModuleLines) (jobs : List JobView)
+    (inputs v : Valuation)
     (t : ℕ) → IsAcceptedBundle lines p ms jobs →
     Satisfies (netlist_of lines) inputs v → t ≤ p.size.steps → IsRunOfJobs lines p jobs v t
 all_times lines p ms jobs inputs v zero all s h = starts lines p ms jobs v all.bundle
@@ -412,14 +423,15 @@ off_rim lines p ms jobs named b accepted t =
 -- ---- stops
 
 -- a bundle without a fault
-record Faultless (lines : List Entry) (p : Pattern) (ms : List ModuleLines) (jobs : List JobState)
+record Faultless (lines : List CircuitLine) (p : Pattern) (ms : List ModuleLines) (jobs : List JobView)
     (inputs v : Valuation) : Type 0 where
   bundle : BelongTogether lines p ms jobs
   right : HasNoFault lines p ms jobs
   satisfied : Satisfies (netlist_of lines) inputs v
 
-no_stop_fault : (lines : List Entry) (p : Pattern) (ms : List ModuleLines) (jobs : List JobState) (inputs v : Valuation)
-    (i : ℕ) (j : JobState) (s : listed.Stop) → Faultless lines p ms jobs inputs v →
+no_stop_fault : (lines : List CircuitLine) (p : Pattern) (ms : List ModuleLines) (jobs : List JobView)
+    (inputs v : Valuation)
+    (i : ℕ) (j : JobView) (s : listed.Stop) → Faultless lines p ms jobs inputs v →
     slice_get jobs i ≡ Some j → Contains j.stops s →
     local_run j (seen_by j.locals v) s.at.time s.at.cell.x s.at.cell.y ≡ seen_by j.locals v s.wire
 no_stop_fault lines p ms jobs inputs v i j s set e has =
@@ -436,11 +448,12 @@ no_stop_fault lines p ms jobs inputs v i j s set e has =
     })))
 
 -- the same by the wires of the circuit
-abbrev IsAsWire : JobState → Valuation → listed.Stop → Type 0
+abbrev IsAsWire : JobView → Valuation → listed.Stop → Type 0
 IsAsWire j v r = local_run j (seen_by j.locals v) r.at.time r.at.cell.x r.at.cell.y ≡ v r.wire
 
-no_line_fault : (lines : List Entry) (p : Pattern) (ms : List ModuleLines) (jobs : List JobState) (inputs v : Valuation)
-    (i : ℕ) (m : ModuleLines) (j : JobState) (k w : ℕ) (s : StopLine) → Faultless lines p ms jobs inputs v →
+no_line_fault : (lines : List CircuitLine) (p : Pattern) (ms : List ModuleLines) (jobs : List JobView)
+    (inputs v : Valuation)
+    (i : ℕ) (m : ModuleLines) (j : JobView) (k w : ℕ) (s : StopLine) → Faultless lines p ms jobs inputs v →
     slice_get jobs i ≡ Some j → IsJobOf (circuit_of lines) p m j → slice_get (stops m) k ≡ Some s →
     wire_of (circuit_of lines) s.wire ≡ Some w → local_run j (seen_by j.locals v) s.time s.cell.x s.cell.y ≡ v w
 no_line_fault lines p ms jobs inputs v i m j k w s set e is at named =
@@ -450,7 +463,8 @@ no_line_fault lines p ms jobs inputs v i m j k w s set e is at named =
     (flat_part (IsAsWire j v) (λ r. numbered_stop r (wire_of (circuit_of lines) r.wire)) (stops m)
     (subst (All (IsAsWire j v)) is.stops own) k s at)
 
-stop_holds : (lines : List Entry) (p : Pattern) (ms : List ModuleLines) (jobs : List JobState) → HasInputNames lines p →
+stop_holds : (lines : List CircuitLine) (p : Pattern) (ms : List ModuleLines) (jobs : List JobView) →
+    HasInputNames lines p →
     IsAcceptedBundle lines p ms jobs →
     (i k : ℕ) (m : ModuleLines) (s : StopLine) → slice_get ms i ≡ Some m → slice_get (stops m) k ≡ Some s →
     IsStop (setting_of lines p) m.area (known (circuit_of lines) m) s → StopHolds (circuit_of lines) p s

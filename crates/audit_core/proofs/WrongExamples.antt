@@ -5,17 +5,17 @@ use Rattle.std.proofs.lemmas.Bool.{false≢true}
 use Rattle.bbm_rule.specs.Plane.{run}
 use Rattle.circuit.specs.Bridge.{circuit_of}
 use Rattle.circuit.specs.Meaning.{Valuation, place_of, values_by_name, number}
-use Rattle.circuit.specs.declared.entry.Entry.{Entry}
-use Rattle.circuit.specs.declared.entry.Kind.TheVariants.{Input, Output}
+use Rattle.circuit.specs.declared.circuit_line.CircuitLine.{CircuitLine}
+use Rattle.circuit.specs.declared.circuit_line.Kind.TheVariants.{Input, Output}
 use Rattle.pattern.specs.Layout.{Pattern, start}
-use Rattle.pattern.specs.declared.parts.Port.{Port}
+use Rattle.pattern.specs.declared.layout_line.Port.{Port}
 use Rattle.audit_core.specs.HeadlineLaws.{WrongExample}
 use Rattle.audit_core.specs.Implements.{IsCorrect, run_under}
 
 abbrev name_a : List ℕ
 name_a = 97 ∷ []
 
-abbrev lines : List Entry
+abbrev lines : List CircuitLine
 lines = record { kind = Input; ins = []; outs = name_a ∷ [] } ∷ record { kind = Output; ins = name_a ∷ []; outs = [] }
     ∷ []
 

@@ -5,9 +5,9 @@ use Rattle.pattern.specs.Layout.{parts_of}
 use Rattle.circuit.specs.Bridge.{circuit_of, input_names, netlist_of}
 use Rattle.circuit.specs.Meaning.{AreOrdered}
 use Rattle.pattern.specs.Lines.{AreGoodAfter, AreNamed, size_fault}
-use Rattle.pattern.specs.declared.parts.Extent.{Extent}
-use Rattle.certificate.specs.Grammars.{CertState}
-use Rattle.module_job.specs.Jobs.{JobState}
+use Rattle.pattern.specs.declared.layout_line.LayoutHeader.{LayoutHeader}
+use Rattle.certificate.specs.Grammars.{CertView}
+use Rattle.module_job.specs.Jobs.{JobView}
 use Rattle.certificate_lines.specs.Modules.{AreModules}
 use Rattle.audit_core.specs.Concluding.{AreOwnJobs, modules, port_names_of, setting}
 use Rattle.audit_core.specs.HeadlineLaws.{BelongTogether, IsAcceptedBundle}
@@ -20,7 +20,7 @@ use Rattle.audit_core.proofs.PortNames.{read_layout-is_named}
 use Rattle.audit_core.proofs.WholeRuns.{correct, on_time}
 
 -- what a certificate says of its circuit, its layout and its modules
-pub record IsRead (s : CertState) (size : Extent) : Type 0 where
+pub record IsRead (s : CertView) (size : LayoutHeader) : Type 0 where
   pub ordered : AreOrdered (netlist_of s.circuit).given (netlist_of s.circuit).gates
   pub same : size ≡ s.layout.size
   pub limits : size_fault size ≡ None
@@ -30,30 +30,30 @@ pub record IsRead (s : CertState) (size : Extent) : Type 0 where
   pub named : AreNamed (Some (port_names_of s.circuit)) (parts_of s.layout)
 
 -- it belongs together with the jobs of its modules
-pub bundle_read : (s : CertState) (size : Extent) (jobs : List JobState) → IsRead s size → AreOwnJobs s jobs →
+pub bundle_read : (s : CertView) (size : LayoutHeader) (jobs : List JobView) → IsRead s size → AreOwnJobs s jobs →
     BelongTogether s.circuit s.layout (modules s) jobs
 bundle_read s size jobs is own = record {
   ordered = is.ordered;
-  limits = subst (λ (z : Extent). size_fault z ≡ None) is.same is.limits;
-  laid_out = subst (λ (z : Extent). AreGoodAfter z [] (parts_of s.layout)) is.same is.laid_out;
+  limits = subst (λ (z : LayoutHeader). size_fault z ≡ None) is.same is.limits;
+  laid_out = subst (λ (z : LayoutHeader). AreGoodAfter z [] (parts_of s.layout)) is.same is.laid_out;
   are_modules = is.are_modules;
   are_jobs = own;
 }
 
-accepted_bundle : (s : CertState) (size : Extent) (jobs : List JobState) → IsRead s size → AreOwnJobs s jobs →
+accepted_bundle : (s : CertView) (size : LayoutHeader) (jobs : List JobView) → IsRead s size → AreOwnJobs s jobs →
     IsVerdict (setting s) (modules s) jobs Yes →
     IsAcceptedBundle s.circuit s.layout (modules s) jobs
 unfolding IsVerdict
 accepted_bundle s size jobs is own accepted = record { bundle = bundle_read s size jobs is own; accepted = accepted }
 
-pub yes_means-correct : (s : CertState) (size : Extent) (jobs : List JobState) → IsRead s size → AreOwnJobs s jobs →
+pub yes_means-correct : (s : CertView) (size : LayoutHeader) (jobs : List JobView) → IsRead s size → AreOwnJobs s jobs →
     IsVerdict (setting s) (modules s) jobs Yes →
     IsCorrect s.circuit s.layout
 yes_means-correct s size jobs is own judged =
     correct s.circuit s.layout (modules s) jobs (read_layout-names s.circuit s.layout is.inputs is.named)
     (read_layout-is_named s.circuit s.layout is.named) (accepted_bundle s size jobs is own judged)
 
-pub yes_means-on_time : (s : CertState) (size : Extent) (jobs : List JobState) → IsRead s size → AreOwnJobs s jobs →
+pub yes_means-on_time : (s : CertView) (size : LayoutHeader) (jobs : List JobView) → IsRead s size → AreOwnJobs s jobs →
     IsVerdict (setting s) (modules s) jobs Yes →
     IsOnTime (circuit_of s.circuit) s.layout (modules s)
 yes_means-on_time s size jobs is own judged =

@@ -4,13 +4,13 @@ use Rattle.std.specs.Prelude.{None, is_some, slice_get, slice_index_or, slice_se
 use Rattle.std.specs.List.{count_by}
 use Rattle.std.specs.Option.{option_eq}
 use Rattle.module_job.specs.Equality.{same_job}
-use Rattle.module_job.specs.Jobs.{JobState}
+use Rattle.module_job.specs.Jobs.{JobView}
 use Rattle.local_run.specs.Shown.{digest_of, number_of, job_of}
 use Rattle.local_run.specs.declared.finding.Finding.{Finding}
 use Rattle.audit_core.specs.Replay.{rule, replay, beginning, has_number, AreDue}
-use Rattle.audit_core.specs.declared.entry.Entry.{Entry}
-use Rattle.audit_core.specs.declared.entry.Entry.TheVariants.{Filed, Closing}
-use Rattle.audit_core.specs.declared.entry.Filing.{Filing}
+use Rattle.audit_core.specs.declared.log_entry.LogEntry.{LogEntry}
+use Rattle.audit_core.specs.declared.log_entry.LogEntry.TheVariants.{Filed, Closing}
+use Rattle.audit_core.specs.declared.log_entry.Filing.{Filing}
 use Rattle.audit_core.specs.declared.reply.Reply.{Reply}
 use Rattle.audit_core.specs.declared.reply.Reply.TheVariants.{Closed, Stranger, Double, Accepted}
 
@@ -19,26 +19,26 @@ use Rattle.audit_core.specs.declared.reply.Reply.TheVariants.{Closed, Stranger, 
 -- so far.
 pub record BookView : Type 0 where
   pub digest : List ℕ
-  pub jobs : List JobState
-  pub held : List (Option Finding)
+  pub jobs : List JobView
+  pub findings : List (Option Finding)
   pub closed : Bool
-  pub history : List Entry
+  pub history : List LogEntry
 
 -- an open book in which nothing is held, without history
-unfoldable pub new_book : List ℕ → List JobState → BookView
+unfoldable pub new_book : List ℕ → List JobView → BookView
 new_book digest jobs =
-    record { digest = digest; jobs = jobs; held = replicate (length jobs) None; closed = false; history = [] }
+    record { digest = digest; jobs = jobs; findings = replicate (length jobs) None; closed = false; history = [] }
 
 -- the finding that is held for a number
 abbrev pub found_in : BookView → ℕ → Option Finding
-found_in b number = slice_index_or b.held number None
+found_in b number = slice_index_or b.findings number None
 
 -- for how many numbers one is held
 abbrev pub accepted_in : BookView → ℕ
-accepted_in b = count_by is_some b.held
+accepted_in b = count_by is_some b.findings
 
 -- whether this is the job of that number
-unfoldable pub is_job_of : List JobState → ℕ → JobState → Bool
+unfoldable pub is_job_of : List JobView → ℕ → JobView → Bool
 is_job_of jobs number job = option_eq same_job (slice_get jobs number) (Some job)
 
 -- the reply to a finding: the first that applies
@@ -57,11 +57,11 @@ filing_of b f = record {
 }
 
 -- what is held after a reply
-unfoldable pub held_after : List (Option Finding) → Finding → Reply → List (Option Finding)
-held_after held f Accepted = slice_set held (number_of f) (Some f)
-held_after held f Closed = held
-held_after held f (Stranger mismatch) = held
-held_after held f (Double number) = held
+unfoldable pub findings_after : List (Option Finding) → Finding → Reply → List (Option Finding)
+findings_after held f Accepted = slice_set held (number_of f) (Some f)
+findings_after held f Closed = held
+findings_after held f (Stranger mismatch) = held
+findings_after held f (Double number) = held
 
 -- for how many numbers a finding is held after a reply, if one was held for n
 abbrev pub count_after : ℕ → Reply → ℕ
@@ -73,7 +73,8 @@ count_after count (Double number) = count
 -- the book after a filing
 abbrev pub after_filing : BookView → Finding → BookView
 after_filing b f =
-    record b { held = held_after b.held f (reply_to b f); history = b.history ++ Filed (filing_of b f) ∷ [] }
+    record b
+    { findings = findings_after b.findings f (reply_to b f); history = b.history ++ Filed (filing_of b f) ∷ [] }
 
 -- the book after it is closed
 abbrev pub after_closing : BookView → BookView
@@ -87,7 +88,7 @@ pub record IsOwn (b : BookView) (number : ℕ) (f : Finding) : Type 0 where
 
 -- a book has a place for each job, and each finding in it is its own
 pub record IsBook (b : BookView) : Type 0 where
-  pub places : length b.held ≡ length b.jobs
+  pub places : length b.findings ≡ length b.jobs
   pub own : (number : ℕ) (f : Finding) → found_in b number ≡ Some f → IsOwn b number f
 
 -- The history replays to what the book is. Each stored reply is the one that the rule gives there. The numbers that

@@ -1,7 +1,7 @@
 -- The core: the numbers that seats drew, and a book. The state after each event, and the answer to it
 use Rattle.std.specs.Prelude.{ℕ, ◌+◌, ◌<◌, ◌≤◌, List, [], ◌∷◌, length, replicate, slice_index_or, slice_set}
 use Rattle.std.specs.Prelude.{if◌then◌else◌, ⊤}
-use Rattle.module_job.specs.Jobs.{JobState}
+use Rattle.module_job.specs.Jobs.{JobView}
 use Rattle.audit_core.specs.Draws.{IsDrawn, total}
 use Rattle.audit_core.specs.Claims.{claim_answer, claim_draws, claim_next, has_ended}
 use Rattle.audit_core.specs.Book.{BookView, IsBook, IsReplayed, after_filing, new_book, reply_to}
@@ -19,7 +19,7 @@ pub record CoreView : Type 0 where
   pub book : BookView
 
 -- nothing was drawn, and nothing filed
-unfoldable pub new_core : List ℕ → List JobState → ℕ → CoreView
+unfoldable pub new_core : List ℕ → List JobView → ℕ → CoreView
 new_core digest jobs seats = record { next = 0; draws = replicate seats []; book = new_book digest jobs }
 
 -- how many numbers there are: one for each job

@@ -2,25 +2,25 @@
 use Rattle.std.specs.Prelude.{◌≡◌, ℕ, zero, suc, ◌<◌, ◌≤◌, ◌⊎◌, true, false, if◌then◌else◌, List, [], ◌∷◌, ◌++◌, length}
 use Rattle.std.specs.Prelude.{map, Some, IsSome, is_some, ◌+◌, ◌-◌, ◌^◌, ◌==◌, slice_index}
 use Rattle.module_job.specs.Groups.{AreGroups}
-use Rattle.module_job.specs.Jobs.{JobState}
-use Rattle.module_job.specs.Shapes.{ShapeState, shape_of}
+use Rattle.module_job.specs.Jobs.{JobView}
+use Rattle.module_job.specs.Shapes.{ShapeView, shape_of}
 use Rattle.local_run.specs.Shown.{job_of, number_of}
 use Rattle.local_run.specs.declared.finding.Finding.{Finding}
 use Rattle.audit_core.specs.Book.{BookView, IsReplayed, accepted_in, after_filing, found_in, reply_to}
 use Rattle.audit_core.specs.Verdicts.{AreHeldBelow}
-use Rattle.audit_core.specs.declared.entry.Entry.{Entry}
-use Rattle.audit_core.specs.declared.entry.Entry.TheVariants.{Filed}
+use Rattle.audit_core.specs.declared.log_entry.LogEntry.{LogEntry}
+use Rattle.audit_core.specs.declared.log_entry.LogEntry.TheVariants.{Filed}
 use Rattle.audit_core.specs.declared.reply.Reply.TheVariants.{Accepted}
 
 -- the book is open, and of this digest and these jobs
-pub record IsOpenFor (digest : List ℕ) (jobs : List JobState) (b : BookView) : Type 0 where
+pub record IsOpenFor (digest : List ℕ) (jobs : List JobView) (b : BookView) : Type 0 where
   pub still_open : b.closed ≡ false
   pub digest_is : b.digest ≡ digest
   pub jobs_are : b.jobs ≡ jobs
 
 -- such a book, to which its history replays, and which holds a finding of each job: as many were accepted as there are
 -- jobs
-pub record IsFull (digest : List ℕ) (jobs : List JobState) (b : BookView) : Type 0 where
+pub record IsFull (digest : List ℕ) (jobs : List JobView) (b : BookView) : Type 0 where
   pub is_open : IsOpenFor digest jobs b
   pub replays : IsReplayed b
   pub all_held : AreHeldBelow b jobs (length jobs)
@@ -32,7 +32,7 @@ lacking b zero = []
 lacking b (suc n) = lacking b n ++ (if is_some (found_in b n) then [] else n ∷ [])
 
 -- the entry of a finding of this number that the book accepts
-abbrev pub accepted_entry : List ℕ → ℕ → Entry
+abbrev pub accepted_entry : List ℕ → ℕ → LogEntry
 accepted_entry digest number = Filed (record { digest = digest; number = number; same = true; reply = Accepted })
 
 -- The second book is the first one after a finding was filed for each number below this one that lacked one, in order,
@@ -67,7 +67,7 @@ IsHeldOrFiled b c number = ((is_some (found_in b number) ≡ true) × (c ≡ b))
 -- ---- how many jobs are run
 
 -- the shapes of jobs
-abbrev pub shapes_of : List JobState → List ShapeState
+abbrev pub shapes_of : List JobView → List ShapeView
 shapes_of jobs = map shape_of jobs
 
 -- A count after one more; the count stops at the greatest number that it can hold.
@@ -75,7 +75,7 @@ abbrev pub IsOneMore : ℕ → ℕ → Type 0
 IsOneMore before after = before < 2 ^ 64 - 1 → after ≡ before + 1
 
 -- the book holds a finding for this number, and of a job of the same shape
-pub record HoldsAlike (b : BookView) (number : ℕ) (job : JobState) : Type 0 where
+pub record HoldsAlike (b : BookView) (number : ℕ) (job : JobView) : Type 0 where
   pub finding : Finding
   pub held : found_in b number ≡ Some finding
   pub alike : shape_of (job_of finding) ≡ shape_of job
@@ -86,6 +86,6 @@ firsts groups zero = 0
 firsts groups (suc n) = firsts groups n + (if slice_index groups n == n then 1 else 0)
 
 -- a count of runs after at most one for each shape
-abbrev pub RunsOneForEach : List ShapeState → ℕ → ℕ → Type 0
+abbrev pub RunsOneForEach : List ShapeView → ℕ → ℕ → Type 0
 RunsOneForEach shapes before after = (groups : List ℕ) → AreGroups shapes groups →
     after ≤ before + firsts groups (length shapes)

@@ -11,9 +11,9 @@ use Rattle.bbm_rule.specs.Plane.{State, is_at}
 use Rattle.section_text.specs.Words.{has}
 use Rattle.circuit.specs.Bridge.{circuit_of, input_names, output_names}
 use Rattle.circuit.specs.Meaning.{Circuit, Valuation, Satisfies, values_by_name}
-use Rattle.circuit.specs.declared.entry.Entry.{Entry}
+use Rattle.circuit.specs.declared.circuit_line.CircuitLine.{CircuitLine}
 use Rattle.pattern.specs.Layout.{Pattern, in_cells, in_rectangles, plane_at, StaysInside}
-use Rattle.pattern.specs.declared.parts.Port.{Port}
+use Rattle.pattern.specs.declared.layout_line.Port.{Port}
 
 -- ---- names
 
@@ -22,7 +22,7 @@ abbrev pub HaveNames : List Port → List (List ℕ) → Type 0
 HaveNames ports names = (n : List ℕ) → has (map (λ q. q.name) ports) n ≡ has names n
 
 -- the input cells have the names of the inputs, and the output cells those of the outputs
-pub record IsNamed (lines : List Entry) (p : Pattern) : Type 0 where
+pub record IsNamed (lines : List CircuitLine) (p : Pattern) : Type 0 where
   pub ins : HaveNames p.ins (input_names lines)
   pub outs : HaveNames p.outs (output_names lines)
 
@@ -61,7 +61,7 @@ Implements c p = (inputs : Valuation) → Computes c p inputs
 
 -- The layout computes the circuit of these lines. Its ports are named as the inputs and outputs, and it computes the
 -- circuit for all values of the inputs. At no time up to the last step there is a live cell outside the rectangle.
-pub record IsCorrect (lines : List Entry) (p : Pattern) : Type 0 where
+pub record IsCorrect (lines : List CircuitLine) (p : Pattern) : Type 0 where
   pub named : IsNamed lines p
   pub implements : Implements (circuit_of lines) p
   pub stays : (inputs : Valuation) (t : ℕ) → t ≤ p.size.steps →

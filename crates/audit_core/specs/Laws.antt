@@ -40,7 +40,7 @@ KeepsWhatIsHeld = (b : BookView) (f g : Finding) (number : ℕ) → found_in b n
 
 -- if a finding is not accepted, what is held stays
 abbrev pub HoldsNothingElse : Type 0
-HoldsNothingElse = (b : BookView) (f : Finding) → reply_to b f ≢ Accepted → (after_filing b f).held ≡ b.held
+HoldsNothingElse = (b : BookView) (f : Finding) → reply_to b f ≢ Accepted → (after_filing b f).findings ≡ b.findings
 
 -- a filing leaves a book
 abbrev pub StaysBook : Type 0

@@ -2,9 +2,9 @@ pub mod Draws
 pub mod Claims
 pub mod Replay
 pub mod Book
-pub mod BookFields
+pub mod BookView
 pub mod Core
-pub mod CoreFields
+pub mod CoreView
 pub mod Laws
 pub mod Verdicts
 pub mod Filling

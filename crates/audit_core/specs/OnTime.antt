@@ -6,7 +6,7 @@ use Rattle.pattern.specs.Layout.{Pattern}
 use Rattle.certificate_lines.specs.Entries.{ModuleLines}
 use Rattle.certificate.specs.Arrivals.{AreOnTime}
 use Rattle.certificate.specs.Times.{all_stops}
-use Rattle.certificate_lines.specs.declared.entry.StopLine.{StopLine}
+use Rattle.certificate_lines.specs.declared.certificate_line.StopLine.{StopLine}
 use Rattle.audit_core.specs.Implements.{run_under}
 
 -- for all values of the inputs, the cell of the stop is live at its time exactly if its wire is true

@@ -8,16 +8,16 @@ use Rattle.std.specs.declared.alloc.Global.{Global}
 use Rattle.circuit.specs.Gates.{Delay, is_inverse}
 use Rattle.circuit.specs.Bridge.{circuit_of, netlist_of}
 use Rattle.circuit.specs.Meaning.{Gate, Satisfies, Valuation}
-use Rattle.circuit.specs.declared.entry.Entry.{Entry}
+use Rattle.circuit.specs.declared.circuit_line.CircuitLine.{CircuitLine}
 use Rattle.pattern.specs.Layout.{Pattern}
 use Rattle.module_box.specs.Boxes.{in_ring}
 use Rattle.module_box.specs.Locals.{is_among}
 use Rattle.certificate_lines.specs.Entries.{ModuleLines, cuts, edges, keeps, stops}
 use Rattle.certificate_lines.specs.Rules.{whole}
 use Rattle.certificate_lines.specs.Settings.{setting_of}
-use Rattle.module_job.specs.Jobs.{JobState}
+use Rattle.module_job.specs.Jobs.{JobView}
 use Rattle.certificate.specs.Arrivals.{AreOnTime}
-use Rattle.certificate.specs.declared.times.Gap.TheVariants.{Steps}
+use Rattle.certificate.specs.declared.times.StopGap.TheVariants.{Steps}
 use Rattle.local_run.specs.declared.fault.Fault.{Fault}
 use Rattle.local_run.specs.declared.fault.Kind.TheVariants.{Edge, Stop}
 use Rattle.audit_core.specs.FirstFaults.{HasAssignment, IsReal}
@@ -34,7 +34,7 @@ use Rattle.audit_core.specs.declared.verdict.ReportLine.TheVariants.{Meet}
 
 -- The one module of a certificate is plain: its box is the whole rectangle, it cuts inputs of the circuit alone, it
 -- keeps each inverse gate of the circuit, and it has no edge line.
-pub record IsPlain (lines : List Entry) (p : Pattern) (m : ModuleLines) : Type 0 where
+pub record IsPlain (lines : List CircuitLine) (p : Pattern) (m : ModuleLines) : Type 0 where
   pub box : m.area ≡ whole p.size
   pub inputs : All (IsInputName lines) (cuts m)
   pub inverses : (number : ℕ) (gate : Gate) → slice_get (netlist_of lines).gates number ≡ Some gate →
@@ -43,14 +43,14 @@ pub record IsPlain (lines : List Entry) (p : Pattern) (m : ModuleLines) : Type 0
 
 -- The inputs have these values. Then the cell (x, y) of the rim is live at this odd time below the steps. The rim is
 -- the outermost cells of the rectangle.
-pub record IsLiveOnRim (lines : List Entry) (p : Pattern) (inputs : Valuation) (time : ℕ) (x y : ℤ) : Type 0 where
+pub record IsLiveOnRim (lines : List CircuitLine) (p : Pattern) (inputs : Valuation) (time : ℕ) (x y : ℤ) : Type 0 where
   pub odd : time % 2 ≡ 1
   pub early : time < p.size.steps
   pub rim : IsTrue (in_ring (whole p.size) x y)
   pub live : IsTrue (run_under (circuit_of lines) p inputs time x y)
 
 -- for some values of the inputs a cell of the rim is live at an odd time below the steps
-pub record TouchesRim (lines : List Entry) (p : Pattern) : Type 0 where
+pub record TouchesRim (lines : List CircuitLine) (p : Pattern) : Type 0 where
   pub inputs : Valuation
   pub time : ℕ
   pub x : ℤ
@@ -59,24 +59,24 @@ pub record TouchesRim (lines : List Entry) (p : Pattern) : Type 0 where
 
 -- what is accepted, plain or not, keeps off its rim
 abbrev pub AcceptedKeepsOffRim : Type 0
-AcceptedKeepsOffRim = (lines : List Entry) (p : Pattern) (ms : List ModuleLines) (jobs : List JobState) →
+AcceptedKeepsOffRim = (lines : List CircuitLine) (p : Pattern) (ms : List ModuleLines) (jobs : List JobView) →
     HasInputNames lines p → BelongTogether lines p ms jobs → Accepts (setting_of lines p) ms jobs → ¬ TouchesRim lines p
 
 -- A plain certificate is accepted exactly if the layout computes the circuit and keeps off its rim, and the stops,
 -- delays and meetings are right on the whole plane.
 abbrev pub PlainCertificateDecides : Type 0
-PlainCertificateDecides = (lines : List Entry) (p : Pattern) (m : ModuleLines) (jobs : List JobState) →
+PlainCertificateDecides = (lines : List CircuitLine) (p : Pattern) (m : ModuleLines) (jobs : List JobView) →
     HasInputNames lines p → IsNamed lines p → BelongTogether lines p (m ∷ []) jobs → IsPlain lines p m →
     Accepts (setting_of lines p) (m ∷ []) jobs ↔ (IsCorrect lines p × IsOnTime (circuit_of lines) p
     (m ∷ []) × ¬ TouchesRim lines p)
 
 -- what is wrong if the verdict is no: the layout, the stops, or the rim
-abbrev pub IsWrongDesign : List Entry → Pattern → ModuleLines → Type 0
+abbrev pub IsWrongDesign : List CircuitLine → Pattern → ModuleLines → Type 0
 IsWrongDesign lines p m = (¬ IsCorrect lines p) ⊎ ((¬ IsOnTime (circuit_of lines) p (m ∷ [])) ⊎ TouchesRim lines p)
 
 -- so a verdict of no on a plain certificate says that one of these is
 abbrev pub PlainNoMeansWrong : Type 0
-PlainNoMeansWrong = (lines : List Entry) (p : Pattern) (m : ModuleLines) (jobs : List JobState)
+PlainNoMeansWrong = (lines : List CircuitLine) (p : Pattern) (m : ModuleLines) (jobs : List JobView)
     (report : Vec ReportLine Global) →
     HasInputNames lines p → BelongTogether lines p (m ∷ []) jobs → IsPlain lines p m → IsVerdict (setting_of lines p)
     (m ∷ []) jobs (No report) →
@@ -87,7 +87,7 @@ PlainNoMeansWrong = (lines : List Entry) (p : Pattern) (m : ModuleLines) (jobs :
 -- The meaning of a `local` line: there are inputs that have its assignment, and values of the wires for these, under
 -- which its fault is real. If it is an edge line, its cell of the rim is live at its time. If it is a stop line, some
 -- stop is wrong. If it is an end line, the layout does not compute the circuit (`IsReal`).
-pub record Shows (lines : List Entry) (p : Pattern) (m : ModuleLines) (f : Fault) : Type 0 where
+pub record Shows (lines : List CircuitLine) (p : Pattern) (m : ModuleLines) (f : Fault) : Type 0 where
   pub inputs : Valuation
   pub under : HasAssignment (circuit_of lines) m inputs f.assignment
   pub values : Valuation
@@ -98,7 +98,7 @@ pub record Shows (lines : List Entry) (p : Pattern) (m : ModuleLines) (f : Fault
 
 -- The meaning of a `keep` line: there are inputs that have its assignment, for which the circuit has no values. So the
 -- layout does not compute it.
-pub record LacksValues (lines : List Entry) (p : Pattern) (m : ModuleLines) (assignment : ℕ) : Type 0 where
+pub record LacksValues (lines : List CircuitLine) (p : Pattern) (m : ModuleLines) (assignment : ℕ) : Type 0 where
   pub inputs : Valuation
   pub under : HasAssignment (circuit_of lines) m inputs assignment
   pub lacks : (v : Valuation) → ¬ Satisfies (netlist_of lines) inputs v
@@ -106,7 +106,7 @@ pub record LacksValues (lines : List Entry) (p : Pattern) (m : ModuleLines) (ass
 
 -- The meaning of each line of a report. No `border` and no `unkept` line occurs. If a `delay` line has another number
 -- of steps than it must have, or a `meet` line has no time, the stops are not on time.
-abbrev pub LineMeans : List Entry → Pattern → ModuleLines → ReportLine → Type 0
+abbrev pub LineMeans : List CircuitLine → Pattern → ModuleLines → ReportLine → Type 0
 LineMeans lines p m (Local i f) = Shows lines p m f
 LineMeans lines p m (Keep i f) = LacksValues lines p m f.assignment
 LineMeans lines p m (Border i f) = ⊥
@@ -117,13 +117,13 @@ LineMeans lines p m (Meet gate None) = ¬ AreOnTime (circuit_of lines) (stops m)
 
 -- It means so in every report on a plain certificate.
 abbrev pub PlainLinesMean : Type 0
-PlainLinesMean = (lines : List Entry) (p : Pattern) (m : ModuleLines) (jobs : List JobState)
+PlainLinesMean = (lines : List CircuitLine) (p : Pattern) (m : ModuleLines) (jobs : List JobView)
     (report : Vec ReportLine Global) → HasInputNames lines p → BelongTogether lines p (m ∷ []) jobs →
     IsPlain lines p m →
     IsVerdict (setting_of lines p) (m ∷ []) jobs (No report) → All (LineMeans lines p m) report.items
 
 -- if the module has no stop and the circuit no delay, nothing is asked of times
 abbrev pub UntimedIsOnTime : Type 0
-UntimedIsOnTime = (lines : List Entry) (p : Pattern) (m : ModuleLines) →
+UntimedIsOnTime = (lines : List CircuitLine) (p : Pattern) (m : ModuleLines) →
     stops m ≡ [] → All (λ g. (n : ℕ) → ¬ (g.kind ≡ Delay n)) (netlist_of lines).gates → IsOnTime (circuit_of lines) p
     (m ∷ [])

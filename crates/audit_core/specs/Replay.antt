@@ -2,8 +2,8 @@
 use Rattle.std.specs.Prelude.{◌≡◌, ℕ, List, [], ◌∷◌, ◌++◌, Bool, true, false, not, if◌then◌else◌, nat_eq, nat_lt, ⊤}
 use Rattle.std.specs.Cmp.Lexicographic.{pointwise}
 use Rattle.std.specs.List.{list_any}
-use Rattle.audit_core.specs.declared.entry.Entry.{Entry}
-use Rattle.audit_core.specs.declared.entry.Entry.TheVariants.{Filed, Closing}
+use Rattle.audit_core.specs.declared.log_entry.LogEntry.{LogEntry}
+use Rattle.audit_core.specs.declared.log_entry.LogEntry.TheVariants.{Filed, Closing}
 use Rattle.audit_core.specs.declared.reply.Mismatch.TheVariants.{Digest, Number, Content}
 use Rattle.audit_core.specs.declared.reply.Reply.{Reply}
 use Rattle.audit_core.specs.declared.reply.Reply.TheVariants.{Closed, Stranger, Double, Accepted}
@@ -41,32 +41,32 @@ accepted_after ks k (Stranger mismatch) = ks
 accepted_after ks k (Double number) = ks
 
 -- after one entry
-abbrev pub after_entry : Replayed → Entry → Replayed
+abbrev pub after_entry : Replayed → LogEntry → Replayed
 after_entry p (Filed f) = record p { accepted = accepted_after p.accepted f.number f.reply }
 after_entry p Closing = record p { closed = true }
 
 -- after all of these entries
-abbrev pub replay_from : Replayed → List Entry → Replayed
+abbrev pub replay_from : Replayed → List LogEntry → Replayed
 replay_from p [] = p
 replay_from p (e ∷ es) = replay_from (after_entry p e) es
 
 -- after a whole history
-abbrev pub replay : List Entry → Replayed
+abbrev pub replay : List LogEntry → Replayed
 replay history = replay_from beginning history
 
 -- whether a history has a closing entry
-abbrev pub has_closing : List Entry → Bool
+abbrev pub has_closing : List LogEntry → Bool
 has_closing [] = false
 has_closing (Filed f ∷ es) = has_closing es
 has_closing (Closing ∷ es) = true
 
 -- the stored reply is the one that the rule gives there
-abbrev pub IsDue : List ℕ → ℕ → Replayed → Entry → Type 0
+abbrev pub IsDue : List ℕ → ℕ → Replayed → LogEntry → Type 0
 IsDue own count p (Filed f) =
     f.reply ≡ rule own count p.closed (has_number p.accepted f.number) f.digest f.number f.same
 IsDue own count p Closing = ⊤
 
 -- so is each of these, entry after entry
-abbrev pub AreDue : List ℕ → ℕ → Replayed → List Entry → Type 0
+abbrev pub AreDue : List ℕ → ℕ → Replayed → List LogEntry → Type 0
 AreDue own count p [] = ⊤
 AreDue own count p (e ∷ es) = IsDue own count p e × AreDue own count (after_entry p e) es

@@ -2,7 +2,7 @@
 ghost use Rattle.std.specs.Prelude.{◌≡◌, ◌<◌, ◌≤◌, ◌^◌, true, length, map, IfOk, IfErr, IfNone, IfSome, OnErr, OnOk, replicate, None, Some, option_copied};
 ghost use Rattle.std.specs.Arc.{arc_value};
 
-use crate::entry::{Entry, Filing};
+use crate::log_entry::{Filing, LogEntry};
 use crate::reply::{Mismatch, Reply};
 use certificate::Job;
 use local_run::Finding;
@@ -24,7 +24,7 @@ pub struct BookState {
     found: Vec<Option<Finding>>,
     accepted: usize,
     closed: bool,
-    history: Vec<Entry>,
+    history: Vec<LogEntry>,
 }
 
 impl Model for BookState {
@@ -37,11 +37,11 @@ impl Model for BookState {
 
     ghost coded = { Prim.hlevel (codes, finding.the_row.coded) };
 
-    ghost use Rattle.audit_core.specs.BookFields.{book_view, IsKeptBook};
+    ghost use Rattle.audit_core.specs.BookView.{book_view, IsStoredBook};
 
     ghost view = { book_view };
 
-    ghost invariant = { IsKeptBook };
+    ghost invariant = { IsStoredBook };
 }
 
 /// The finding that could not be filed, since the book was out of memory.
@@ -87,7 +87,7 @@ impl BookState {
         ensures after { IfOk result (λ _. self.new ≡ after_filing self.old finding) }
         ensures counted { IfOk result (λ r. accepted_in self.new
             ≡ count_after (accepted_in self.old) r) }
-        ensures room { OnOk result (length self.new.history < 2 ^ 64) }
+        ensures history_fits { OnOk result (length self.new.history < 2 ^ 64) }
         ensures unchanged { OnErr result (self.new ≡ self.old) }
         ensures returned { IfErr result (λ e. e.finding ≡ finding) }
     {
@@ -95,7 +95,7 @@ impl BookState {
         if self.history.reserve(1).is_err() {
             return Err(NotFiled { finding });
         }
-        self.history.push_reserved(Entry::Filed(filing));
+        self.history.push_reserved(LogEntry::Filed(filing));
         let Reply::Accepted = filing.reply else {
             return Ok(filing.reply);
         };
@@ -161,7 +161,7 @@ impl BookState {
         ensures after { OnOk result (self.new ≡ after_closing self.old) }
         ensures unchanged { OnErr result (self.new ≡ self.old) }
     {
-        self.history.push(Entry::Closing)?;
+        self.history.push(LogEntry::Closing)?;
         self.closed = true;
         Ok(())
     }
@@ -176,7 +176,7 @@ impl BookState {
     /// Returns the filings and closings so far, in this order.
     ///
     /// They replay to what the book holds and to whether it is closed.
-    pub fn history(&self) -> &[Entry]
+    pub fn history(&self) -> &[LogEntry]
         ensures entries { result.now ≡ self.now.history }
         ensures replays { IsReplayed self.now }
     {
@@ -189,7 +189,7 @@ impl BookState {
     /// It was made for the book's digest, for this number and for the book's job of it.
     pub fn found(&self, number: usize) -> Option<&Finding>
         ensures held { option_copied result ≡ found_in self.now number }
-        ensures own { IfSome result (λ f. IsOwn self.now number f.now) }
+        ensures finding_is_own { IfSome result (λ f. IsOwn self.now number f.now) }
     {
         match self.found.get(number) {
             Some(held) => held.as_ref(),

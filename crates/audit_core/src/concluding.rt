@@ -6,7 +6,7 @@ ghost use Rattle.circuit.specs.Bridge.{circuit_of};
 ghost use Rattle.pattern.specs.Layout.{parts_of};
 ghost use Rattle.pattern.specs.Lines.{AreNamed};
 ghost use Rattle.border_match.specs.BorderFaults.{AreBorderFaultsOf};
-ghost use Rattle.certificate.specs.Times.{are_all_kept};
+ghost use Rattle.certificate.specs.Times.{are_all_obeyed};
 ghost use Rattle.audit_core.specs.Concluding.{AreOwnJobs, modules, port_names_of, setting};
 ghost use Rattle.audit_core.specs.Implements.{IsCorrect};
 ghost use Rattle.audit_core.specs.OnTime.{IsOnTime};
@@ -47,7 +47,7 @@ pub fn conclude(
     borders: &[Option<BorderFault>],
     book: &BookState,
 ) -> Result<Verdict, Unfinished>
-    requires own { AreOwnJobs cert.now (map arc_value jobs.now) }
+    requires own_jobs { AreOwnJobs cert.now (map arc_value jobs.now) }
     requires borders { AreBorderFaultsOf (setting cert.now) (modules cert.now) borders.now }
     ensures held { OnOk result (AreHeldBelow book.now (map arc_value jobs.now) (length jobs.now)) }
     ensures verdict { IfOk result (λ v. IsVerdict (setting cert.now) (modules cert.now)
@@ -68,8 +68,8 @@ pub fn conclude(
     let unkept = cert.unkept(alloc)?;
     let times = cert.times(alloc)?;
     let mut lines = report_lines(alloc, &faults, borders, &unkept)?;
-    let kept = are_all_kept(&times);
-    if kept & lines.is_empty() {
+    let obeyed = are_all_obeyed(&times);
+    if obeyed & lines.is_empty() {
         return Ok(Verdict::Yes);
     }
     push_times(&mut lines, &times)?;
@@ -77,10 +77,10 @@ pub fn conclude(
 }
 
 // Whether all delays take as many steps as they say, and all inputs meet.
-fn are_all_kept(times: &[TimeLine]) -> bool
-    ensures { result ≡ are_all_kept times.now }
+fn are_all_obeyed(times: &[TimeLine]) -> bool
+    ensures { result ≡ are_all_obeyed times.now }
 {
-    times.iter().all(|line| line.is_kept())
+    times.iter().all(|line| line.is_obeyed())
 }
 
 // What stops say of a gate, as a line of the report.

@@ -26,7 +26,7 @@ pub fn fill(
     jobs: &[Arc<Job>],
 ) -> Result<(), AllocError>
     ensures full { OnOk result (IsFull digest (map arc_value jobs.now) state.new) }
-    ensures kept { IsOpenFor digest (map arc_value jobs.now) state.old →
+    ensures partly_filled { IsOpenFor digest (map arc_value jobs.now) state.old →
         IsPartlyFilled state.old state.new }
     ensures replaced { ¬ IsOpenFor digest (map arc_value jobs.now) state.old →
         (IsErr result × (state.new ≡ state.old))
@@ -41,7 +41,7 @@ pub fn fill(
 
 // Whether a state is open, and of this digest and these jobs.
 fn is_open_for(state: &BookState, digest: [u8; 32], jobs: &[Arc<Job>]) -> bool
-    ensures own { result ≡ true → IsOpenFor digest (map arc_value jobs.now) state.now }
+    ensures open_for_jobs { result ≡ true → IsOpenFor digest (map arc_value jobs.now) state.now }
     ensures other { result ≡ false → ¬ IsOpenFor digest (map arc_value jobs.now) state.now }
 {
     !state.is_closed() && state.digest() == digest && are_same(state.jobs(), jobs)
@@ -49,7 +49,7 @@ fn is_open_for(state: &BookState, digest: [u8; 32], jobs: &[Arc<Job>]) -> bool
 
 // Whether two lists have the same jobs.
 fn are_same(own: &[Arc<Job>], jobs: &[Arc<Job>]) -> bool
-    ensures same { result ≡ true → map arc_value own.now ≡ map arc_value jobs.now }
+    ensures same_jobs { result ≡ true → map arc_value own.now ≡ map arc_value jobs.now }
     ensures other { result ≡ false → map arc_value own.now ≢ map arc_value jobs.now }
 {
     own == jobs
@@ -63,7 +63,7 @@ fn fill_open(
     jobs: &[Arc<Job>],
     runs: &mut usize,
 ) -> Result<(), AllocError>
-    requires own { IsOpenFor digest (map arc_value jobs.now) state.old }
+    requires open_for_jobs { IsOpenFor digest (map arc_value jobs.now) state.old }
     ensures full { OnOk result (IsFull digest (map arc_value jobs.now) state.new) }
     ensures partly { IsPartlyFilled state.old state.new }
     ensures one_run_a_shape { RunsOneForEach (shapes_of (map arc_value jobs.now)) runs.old

@@ -29,7 +29,7 @@ pub fn core_holds_what_was_accepted()
 ///
 /// No claim, no loss and no filing that is not answered `Accepted` changes what is held.
 pub fn events_keep_what_is_held()
-    ensures kept { EventsKeepWhatIsHeld }
+    ensures keeps_findings { EventsKeepWhatIsHeld }
     ensures only { OnlyAcceptedChangesWhatIsHeld }
 {}
 
@@ -61,7 +61,7 @@ pub fn history_replays()
 pub fn replies_tell_whose_a_finding_is()
     ensures accepted { AcceptsItsOwn }
     ensures double { DoublesWhatIsHeld }
-    ensures own { KnowsItsOwn }
+    ensures knows_its_own { KnowsItsOwn }
 {}
 
 /// States what a book holds after a filing.
@@ -71,7 +71,7 @@ pub fn replies_tell_whose_a_finding_is()
 /// - Each finding that is held is still the book's own.
 pub fn filing_holds_what_is_accepted()
     ensures accepted { HoldsWhatIsAccepted }
-    ensures kept { KeepsWhatIsHeld }
+    ensures keeps_findings { KeepsWhatIsHeld }
     ensures nothing_else { HoldsNothingElse }
     ensures book { StaysBook }
 {}

@@ -2,7 +2,7 @@
 ghost use Rattle.std.specs.Prelude.{◌≡◌, ◌<◌, ◌≤◌, ◌^◌, IfErr, IfOk, OnErr, OnOk, [], length, map, nat_lt, replicate, vec_len};
 ghost use Rattle.std.specs.Arc.{arc_value};
 ghost use Rattle.audit_core.specs.Claims.{claim_answer, claim_draws, claim_next, claim_of_draw, has_ended};
-ghost use Rattle.audit_core.specs.CoreFields.{lists_of};
+ghost use Rattle.audit_core.specs.CoreView.{lists_of};
 
 use crate::book::{BookState, NotFiled};
 use crate::claim::Claim;
@@ -63,11 +63,11 @@ impl Model for Core {
 
     ghost coded = { Prim.hlevel (codes, finding.the_row.coded) };
 
-    ghost use Rattle.audit_core.specs.CoreFields.{core_view, IsKeptCore};
+    ghost use Rattle.audit_core.specs.CoreView.{core_view, IsStoredCore};
 
     ghost view = { core_view };
 
-    ghost invariant = { IsKeptCore };
+    ghost invariant = { IsStoredCore };
 }
 
 impl Core {

@@ -1,7 +1,7 @@
 //! Verdicts, and the lines that give reasons for a no.
 
 use border_match::BorderFault;
-use certificate::Gap;
+use certificate::StopGap;
 use local_run::{Fault, KeepFault};
 use std::alloc::{AllocError, AllocFailed};
 
@@ -11,17 +11,35 @@ use std::alloc::{AllocError, AllocFailed};
 #[derive(Clone, Copy, Debug, PartialEq, Eq)]
 pub enum ReportLine {
     /// The least fault of the module's job.
-    Local { module: usize, fault: Fault },
+    Local {
+        module: usize,
+        fault: Fault,
+    },
     /// Its least keep fault, by the number of the gate in the circuit.
-    Keep { module: usize, fault: KeepFault },
+    Keep {
+        module: usize,
+        fault: KeepFault,
+    },
     /// The module's least border fault.
-    Border { module: usize, fault: BorderFault },
+    Border {
+        module: usize,
+        fault: BorderFault,
+    },
     /// An inverse gate of the circuit that no module keeps, by its number.
-    Unkept { gate: usize },
+    Unkept {
+        gate: usize,
+    },
     /// How many steps a delay takes, and how many it must take.
-    Delay { gate: usize, wanted: u32, gap: Gap },
+    Delay {
+        gate: usize,
+        wanted: u32,
+        gap: StopGap,
+    },
     /// The time at which inputs of a gate meet, or `None` if they do not.
-    Meet { gate: usize, at: Option<u32> },
+    Meet {
+        gate: usize,
+        at: Option<u32>,
+    },
 }
 
 /// The part of a job's finding that a verdict uses: its least fault, and its least keep fault by the number of the gate

@@ -10,7 +10,7 @@ use Rattle.std.proofs.Math.Nat.{mul-le-mul_right, div-add-mod, mul-le-mul_left}
 use Rattle.bbm_rule.specs.Plane.{step, turned}
 use Rattle.bbm_rule.specs.Rows.{cell_at, mate, TurnsRows, is_inner, HasLiveMargin, HasDeadMargin}
 use Rattle.bbm_rule.specs.Board.{Board, live, is_inside, IsStep, Leaves}
-use Rattle.bbm_rule.specs.GridFields.{board}
+use Rattle.bbm_rule.specs.GridView.{board}
 use Rattle.bbm_rule.proofs.BitLemmas.{by_lt_or_le, by_eq_or_not}
 use Rattle.bbm_rule.proofs.PairLemmas.{mate_even, mate_odd}
 use Rattle.bbm_rule.proofs.RunLemmas.{mate_lt}

@@ -6,6 +6,6 @@ pub mod Rows
 pub mod Marks
 pub mod Bands
 pub mod Board
-pub mod GridFields
+pub mod GridView
 pub mod Laws
 pub mod Moves

@@ -63,7 +63,7 @@ pub(crate) fn has_live_margin(
 ) -> bool
     requires width { (width + 2 ≤ 64 * stride) × (stride ≤ 17) }
     requires height { (height ≤ 1024) × (height % 2 ≡ 0) }
-    requires room { length words.now ≡ stride * (height + 2) }
+    requires word_count { length words.now ≡ stride * (height + 2) }
     requires marks { height / 2 + 1 ≤ 64 * length marks.now }
     requires unmarked { (y : ℕ) → y < height + 2 → IsUnmarked marks.now (y / 2) →
         IsDeadMarginIn width height (64 * stride) y words.now }
@@ -89,7 +89,7 @@ fn is_margin_live(words: &[u64], stride: usize, width: usize, height: usize, y: 
     requires width { (width + 2 ≤ 64 * stride) × (stride ≤ 17) }
     requires height { height ≤ 1024 }
     requires row { y < height + 2 }
-    requires room { length words.now ≡ stride * (height + 2) }
+    requires word_count { length words.now ≡ stride * (height + 2) }
     ensures live { OnTrue result (HasLiveMargin width height (64 * stride) words.now) }
     ensures dead { result ≡ false → IsDeadMarginIn width height (64 * stride) y words.now }
 {

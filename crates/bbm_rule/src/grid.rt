@@ -40,7 +40,7 @@ impl Model for Grid {
 
     ghost Value = { Board };
 
-    ghost use Rattle.bbm_rule.specs.GridFields.{board_of, IsGrid};
+    ghost use Rattle.bbm_rule.specs.GridView.{board_of, IsGrid};
 
     ghost view = { board_of };
 

@@ -53,10 +53,10 @@ fn put_window(words: &mut [u64], i: usize, cells: u64)
 // Turns the blocks of two rows of words, whose blocks begin at the first cell of each. Answers whether a cell changed.
 #[inline(always)]
 fn turn_aligned(words: &mut [u64], upper: usize, stride: usize) -> bool
-    requires room { upper + stride + stride ≤ length words.old }
+    requires rows_inside { upper + stride + stride ≤ length words.old }
     requires wide { 0 < stride }
     ensures turned { TurnsRun (64 * upper) (64 * stride) (64 * stride) words.old words.new }
-    ensures same { result ≡ false → AreSameCells words.old words.new }
+    ensures same_cells { result ≡ false → AreSameCells words.old words.new }
 {
     let mut changed = 0;
     for k in 0..stride {
@@ -72,10 +72,10 @@ fn turn_aligned(words: &mut [u64], upper: usize, stride: usize) -> bool
 // The same, where the blocks begin at the second cell of each.
 #[inline(always)]
 fn turn_shifted(words: &mut [u64], upper: usize, stride: usize) -> bool
-    requires room { upper + stride + stride < length words.old }
+    requires rows_inside { upper + stride + stride < length words.old }
     requires wide { 0 < stride }
     ensures turned { TurnsRun (64 * upper + 1) (64 * stride) (64 * stride) words.old words.new }
-    ensures same { result ≡ false → AreSameCells words.old words.new }
+    ensures same_cells { result ≡ false → AreSameCells words.old words.new }
 {
     let mut changed = 0;
     for k in 0..stride {
@@ -97,14 +97,14 @@ pub(crate) fn turn_all_aligned(
     stride: usize,
     pairs: usize,
 )
-    requires room { 2 * (pairs * stride) ≤ length words.old }
+    requires pairs_inside { 2 * (pairs * stride) ≤ length words.old }
     requires wide { 0 < stride }
     requires small { length words.old < 2 ^ 32 }
     requires marks { (pairs ≤ 64 * length own.old) × (pairs ≤ 64 * length others.old) }
-    requires own { AreCalm 0 (64 * stride) pairs own.old words.old }
+    requires own_calm { AreCalm 0 (64 * stride) pairs own.old words.old }
     requires others { AreCalm (64 * stride + 1) (64 * stride) (pairs - 1) others.old words.old }
     ensures turned { TurnsRows 0 (64 * stride) pairs words.old words.new }
-    ensures own { AreCalm 0 (64 * stride) pairs own.new words.new }
+    ensures own_calm { AreCalm 0 (64 * stride) pairs own.new words.new }
     ensures others { AreCalm (64 * stride + 1) (64 * stride) (pairs - 1) others.new words.new }
 {
     let mut pair = next_marked(own, 0, pairs);
@@ -128,14 +128,14 @@ pub(crate) fn turn_all_shifted(
     stride: usize,
     pairs: usize,
 )
-    requires room { stride + 2 * (pairs * stride) < length words.old }
+    requires pairs_inside { stride + 2 * (pairs * stride) < length words.old }
     requires wide { 0 < stride }
     requires small { length words.old < 2 ^ 32 }
     requires marks { (pairs ≤ 64 * length own.old) × (pairs + 1 ≤ 64 * length others.old) }
-    requires own { AreCalm (64 * stride + 1) (64 * stride) pairs own.old words.old }
+    requires own_calm { AreCalm (64 * stride + 1) (64 * stride) pairs own.old words.old }
     requires others { AreCalm 0 (64 * stride) (pairs + 1) others.old words.old }
     ensures turned { TurnsRows (64 * stride + 1) (64 * stride) pairs words.old words.new }
-    ensures own { AreCalm (64 * stride + 1) (64 * stride) pairs own.new words.new }
+    ensures own_calm { AreCalm (64 * stride + 1) (64 * stride) pairs own.new words.new }
     ensures others { AreCalm 0 (64 * stride) (pairs + 1) others.new words.new }
 {
     let mut pair = next_marked(own, 0, pairs);

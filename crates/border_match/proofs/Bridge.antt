@@ -4,7 +4,7 @@ use Rattle.std.specs.Prelude.{ℤ, slice_get, IfSome}
 use Rattle.std.specs.List.{All}
 use Rattle.std.proofs.lemmas.Option.{slice_get_within}
 use Rattle.circuit.specs.Bridge.{circuit_of}
-use Rattle.circuit.specs.declared.entry.Entry.{Entry as CircuitLine}
+use Rattle.circuit.specs.declared.circuit_line.CircuitLine.{CircuitLine}
 use Rattle.pattern.specs.Layout.{Pattern}
 use Rattle.module_box.specs.Boxes.{in_box, in_halo}
 use Rattle.module_box.specs.Locals.{circuit_wire}
@@ -14,12 +14,12 @@ use Rattle.module_box.specs.declared.boxes.Box2.{Box2}
 use Rattle.module_box.proofs.BoxCells.{same_some}
 use Rattle.certificate_lines.specs.Entries.{ModuleLines, areas, edges, halos}
 use Rattle.certificate_lines.specs.Settings.{setting_of}
-use Rattle.module_job.specs.Jobs.{JobState}
+use Rattle.module_job.specs.Jobs.{JobView}
 use Rattle.certificate.specs.Jobs.{AreJobsOf, IsJobOf, line_signal, line_signals}
 use Rattle.certificate_lines.specs.Modules.{AreModules, IsModule}
 use Rattle.certificate_lines.specs.Rules.{whole}
 use Rattle.module_job.specs.Signals.{renumber_signals}
-use Rattle.certificate_lines.specs.declared.entry.Border.{Border}
+use Rattle.certificate_lines.specs.declared.certificate_line.Border.{Border}
 use Rattle.border_match.specs.BorderFaults.{halo_signal, edge_signal, IsBorderFault, IsLeastBorderFault}
 use Rattle.border_match.specs.Boards.{job_halo, job_edge, IsJobFault, IsQuiet, IsBoard}
 use Rattle.border_match.specs.Candidates.{IsLeast}
@@ -28,18 +28,18 @@ use Rattle.border_match.proofs.Modules.{there, value_of, area_at}
 use Rattle.border_match.proofs.Renumbered.{signal_renumbered, no_event_back, lines_quiet}
 
 module _ (cs : List CircuitLine) (p : Pattern) where
-  pub halo_same : (m : ModuleLines) (j : JobState) (t : ℕ) (x y : ℤ) → IsJobOf (circuit_of cs) p m j →
+  pub halo_same : (m : ModuleLines) (j : JobView) (t : ℕ) (x y : ℤ) → IsJobOf (circuit_of cs) p m j →
       job_halo j t x y ≡ halo_signal (circuit_of cs) m t x y
   halo_same m j t x y is = signal_renumbered (circuit_wire j.locals) j.halos t x y
       ∙ ap (λ (s : Signals). signal_at s t x y) is.halos
 
-  pub edge_same : (m : ModuleLines) (j : JobState) (t : ℕ) (x y : ℤ) → IsJobOf (circuit_of cs) p m j →
+  pub edge_same : (m : ModuleLines) (j : JobView) (t : ℕ) (x y : ℤ) → IsJobOf (circuit_of cs) p m j →
       job_edge j t x y ≡ edge_signal (circuit_of cs) m t x y
   edge_same m j t x y is = signal_renumbered (circuit_wire j.locals) j.edges t x y
       ∙ ap (λ (s : Signals). signal_at s t x y) is.edges
 
   -- no line names the time 0
-  signals_quiet : (j : JobState) (s : Signals) (es : List Border) (x y : ℤ) →
+  signals_quiet : (j : JobView) (s : Signals) (es : List Border) (x y : ℤ) →
       renumber_signals (circuit_wire j.locals) s ≡ line_signals (circuit_of cs) es →
       All (λ e. IfSome e.time (λ t. (t % 2 ≡ 1) × (t < p.size.steps))) es → event_at s.events 0 x y ≡ None
   signals_quiet j s es x y same odd =
@@ -47,23 +47,23 @@ module _ (cs : List CircuitLine) (p : Pattern) where
       (ap (λ (s : Signals). event_at s.events 0 x y) same
       ∙ lines_quiet p.size.steps (λ e. line_signal (circuit_of cs) e.signal) es x y odd)
 
-  pub quiet : (m : ModuleLines) (j : JobState) → IsModule (setting_of cs p) m → IsJobOf (circuit_of cs) p m j →
+  pub quiet : (m : ModuleLines) (j : JobView) → IsModule (setting_of cs p) m → IsJobOf (circuit_of cs) p m j →
       IsQuiet j
   quiet m j good is = record {
     halos = λ x y. signals_quiet j j.halos (halos m) x y is.halos (λ k d lt. (good.halo_lines k d lt).border.time);
     edges = λ x y. signals_quiet j j.edges (edges m) x y is.edges (λ k d lt. (good.edge_lines k d lt).border.time);
   }
 
-  module _ (ms : List ModuleLines) (js : List JobState) (o : Owning) (good : AreModules (setting_of cs p) ms)
+  module _ (ms : List ModuleLines) (js : List JobView) (o : Owning) (good : AreModules (setting_of cs p) ms)
       (made : AreJobsOf (circuit_of cs) p ms js) (owners : AreOwners o (areas ms))
       (w : o.width ≡ p.size.w) (h : o.height ≡ p.size.h) where
     same_rectangle : whole p.size ≡ rectangle o
     same_rectangle = ap₂ rectangle_of (sym w) (sym h)
 
-    job_of : (k : ℕ) (m : ModuleLines) → slice_get ms k ≡ Some m → (j : JobState) × (slice_get js k ≡ Some j)
+    job_of : (k : ℕ) (m : ModuleLines) → slice_get ms k ≡ Some m → (j : JobView) × (slice_get js k ≡ Some j)
     job_of k m e = there js k (let lt = slice_get_within ms k m e in let n = made.count in omega (arith, lt, n))
 
-    lines_of : (k : ℕ) (j : JobState) → slice_get js k ≡ Some j → (m : ModuleLines) × (slice_get ms k ≡ Some m)
+    lines_of : (k : ℕ) (j : JobView) → slice_get js k ≡ Some j → (m : ModuleLines) × (slice_get ms k ≡ Some m)
     lines_of k j e = there ms k (let lt = slice_get_within js k j e in let n = made.count in omega (arith, lt, n))
 
     -- the module that has a cell of the rectangle
@@ -78,7 +78,7 @@ module _ (cs : List CircuitLine) (p : Pattern) where
         let m = value_of (λ (m : ModuleLines). m.area) ms (owner_of o x y) b.0 b.1 in
         record { lines = m.0; numbered = m.1; has = ap (λ (b : Box2). in_box b x y) m.2 ∙ b.2 }
 
-    pub quiet_job : (k : ℕ) (j : JobState) → slice_get js k ≡ Some j → IsQuiet j
+    pub quiet_job : (k : ℕ) (j : JobView) → slice_get js k ≡ Some j → IsQuiet j
     quiet_job k j e = let m = lines_of k j e in quiet m.0 j (good.each k m.0 m.1) (made.each k m.0 j m.1 e)
 
     pub board : IsBoard (whole p.size) o js
@@ -93,7 +93,7 @@ module _ (cs : List CircuitLine) (p : Pattern) where
 
     -- ---- border faults by jobs are border faults
 
-    fault_by_lines : (i : ℕ) (j : JobState) (f : BorderFault) → slice_get js i ≡ Some j →
+    fault_by_lines : (i : ℕ) (j : JobView) (f : BorderFault) → slice_get js i ≡ Some j →
         IsJobFault (whole p.size) o js j f → IsBorderFault (setting_of cs p) ms i f
     fault_by_lines i j f e g =
         let x = f.cell.x in let y = f.cell.y in
@@ -117,7 +117,7 @@ module _ (cs : List CircuitLine) (p : Pattern) where
               ∙ sym (edge_same n.lines d.owner f.time x y by));
         }
 
-    fault_by_jobs : (i : ℕ) (j : JobState) (f : BorderFault) → slice_get js i ≡ Some j →
+    fault_by_jobs : (i : ℕ) (j : JobView) (f : BorderFault) → slice_get js i ≡ Some j →
         IsBorderFault (setting_of cs p) ms i f → IsJobFault (whole p.size) o js j f
     fault_by_jobs i j f e g =
         let x = f.cell.x in let y = f.cell.y in
@@ -145,7 +145,7 @@ module _ (cs : List CircuitLine) (p : Pattern) where
           };
         }
 
-    pub least_by_lines : (i : ℕ) (j : JobState) (r : Option BorderFault) → slice_get js i ≡ Some j →
+    pub least_by_lines : (i : ℕ) (j : JobView) (r : Option BorderFault) → slice_get js i ≡ Some j →
         IsLeast (IsJobFault (whole p.size) o js j) r → IsLeastBorderFault (setting_of cs p) ms i r
     least_by_lines i j None e least = λ f g. least.least f (fault_by_jobs i j f e g)
     least_by_lines i j (Some m) e least =

@@ -13,7 +13,7 @@ use Rattle.module_box.specs.Tiling.{owner_of}
 use Rattle.module_box.specs.declared.schedules.Signal.{Signal}
 use Rattle.module_box.proofs.BoxCells.{in_span_nat, in_box_nats, same_some}
 use Rattle.module_box.proofs.NearBoxes.{near_one, near_parts}
-use Rattle.module_job.specs.Jobs.{JobState}
+use Rattle.module_job.specs.Jobs.{JobView}
 use Rattle.border_match.proofs.Modules.{there}
 use Rattle.border_match.specs.Boards.{job_halo, job_edge, jobs_of, IsReady, Faults, Differ}
 use Rattle.border_match.specs.declared.borders.Borders.{Borders}
@@ -21,7 +21,7 @@ use Rattle.border_match.specs.declared.fault.BorderFault.{BorderFault}
 
 -- ---- jobs and owners
 
-pub job_at : {A : Type 0} (v : A → JobState) (xs : List A) (k : ℕ) (d : A) (j : JobState) → k < length xs →
+pub job_at : {A : Type 0} (v : A → JobView) (xs : List A) (k : ℕ) (d : A) (j : JobView) → k < length xs →
     j ≡ v (get_or xs k d) → slice_get (map v xs) k ≡ Some j
 job_at v xs k d j lt same = slice_get-map v xs k ∙ ap (option_map v) (slice_get-get_or xs k d lt) ∙ ap Some (sym same)
 
@@ -32,13 +32,13 @@ owner_within b x y ready h =
     subst (λ n. owner_of b.owners.now x y < n) (length-map b.jobs.now arc_value)
     (slice_get_within (jobs_of b) (owner_of b.owners.now x y) m.0 m.1)
 
-pub differ_is : (b : Borders) (t : ℕ) (x y : ℤ) (owner : JobState) (halo edge : Signal) (r : Bool) →
+pub differ_is : (b : Borders) (t : ℕ) (x y : ℤ) (owner : JobView) (halo edge : Signal) (r : Bool) →
     slice_get (jobs_of b) (owner_of b.owners.now x y) ≡ Some owner →
     halo ≡ job_halo b.job.now t x y → edge ≡ job_edge owner t x y → IsTrue r ↔ (halo ≢ edge) → IsTrue r ↔ Differ b t x y
 differ_is b t x y owner halo edge r numbered e f h = (
   λ yes. record { owner = owner; numbered = numbered; differ = λ same. h.0 yes (e ∙ same ∙ sym f) },
   λ d. h.1 (λ same. d.differ (sym e ∙ same ∙ f
-      ∙ ap (λ (z : JobState). job_edge z t x y)
+      ∙ ap (λ (z : JobView). job_edge z t x y)
       (same_some (slice_get (jobs_of b) (owner_of b.owners.now x y)) owner d.owner numbered d.numbered))),
 )
 

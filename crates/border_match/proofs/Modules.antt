@@ -13,11 +13,11 @@ use Rattle.module_box.proofs.NoTilings.{no_tiling}
 use Rattle.module_box.proofs.BoxCells.{same_some}
 use Rattle.module_box.proofs.Rising.{pushed}
 use Rattle.pattern.specs.Lines.{size_fault}
-use Rattle.pattern.specs.declared.parts.Extent.{Extent}
+use Rattle.pattern.specs.declared.layout_line.LayoutHeader.{LayoutHeader}
 use Rattle.pattern.proofs.TakenLemmas.{is_sized}
 use Rattle.certificate_lines.specs.Entries.{Setting, ModuleLines, areas, counts_of}
 use Rattle.certificate_lines.specs.Modules.{AreModules}
-use Rattle.certificate_lines.specs.declared.entry.Counts.{Counts}
+use Rattle.certificate_lines.specs.declared.certificate_line.Counts.{Counts}
 
 -- an element that there is
 pub there : {A : Type 0} (xs : List A) (k : ℕ) → k < length xs → (a : A) × (slice_get xs k ≡ Some a)
@@ -75,7 +75,7 @@ areas_more ms k c some more e before now =
     ∙ ap (λ b. take k (areas ms) ++ b ∷ []) (sym (get_or_from_slice_get (areas ms) k c.area c.area got))
     ∙ sym (take_more (areas ms) k c.area lt)
 
-pub is_task : (g : Setting) (ms : List ModuleLines) (s : Extent) (boxes : List Box2) → s ≡ g.size →
+pub is_task : (g : Setting) (ms : List ModuleLines) (s : LayoutHeader) (boxes : List Box2) → s ≡ g.size →
     size_fault s ≡ None → AreModules g ms → boxes ≡ areas ms → IsTask s.w s.h boxes
 is_task g ms s boxes same limits good are =
     let sized = is_sized s limits in

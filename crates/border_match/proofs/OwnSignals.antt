@@ -5,12 +5,12 @@ use Rattle.std.specs.List.{All}
 use Rattle.std.proofs.lemmas.Bool.{cases_Bool}
 use Rattle.bbm_rule.specs.Plane.{is_at}
 use Rattle.circuit.specs.Meaning.{wires}
-use Rattle.module_box.specs.Schedules.{Signals, is_then, held_at, event_at, signal_at}
+use Rattle.module_box.specs.Schedules.{Signals, is_then, all_times_at, event_at, signal_at}
 use Rattle.module_box.specs.declared.schedules.Event.{Event}
-use Rattle.module_box.specs.declared.schedules.Held.{Held}
+use Rattle.module_box.specs.declared.schedules.AllTimes.{AllTimes}
 use Rattle.module_box.specs.declared.schedules.Signal.{Signal}
 use Rattle.module_box.specs.declared.schedules.Signal.TheVariants.{Zero}
-use Rattle.module_job.specs.Jobs.{JobState, NamesOwnWires}
+use Rattle.module_job.specs.Jobs.{JobView, NamesOwnWires}
 use Rattle.module_job.specs.Signals.{IsBelow}
 
 all_tail : {A : Type 0} (P : A → Type 0) (x : A) (xs : List A) → All P (x ∷ xs) → All P xs
@@ -19,13 +19,13 @@ all_tail P x xs all = λ k d h. all (suc k) d (omega arith)
 all_head : {A : Type 0} (P : A → Type 0) (x : A) (xs : List A) → All P (x ∷ xs) → P x
 all_head P x xs all = all 0 x (omega arith)
 
-held_below : (n : ℕ) (hs : List Held) (x y : ℤ) (d : Signal) → All (λ h. IsBelow n h.signal) hs → IsBelow n d →
-    IsBelow n (unwrap_or (held_at hs x y) d)
-unfolding held_at
-held_below n [] x y d all b = b
-held_below n (h ∷ hs) x y d all b = elim (cases_Bool (is_at h.cell x y)) [
-  | inl e ↦ rw e (all_head (λ (g : Held). IsBelow n g.signal) h hs all)
-  | inr e ↦ rw e (held_below n hs x y d (all_tail (λ (g : Held). IsBelow n g.signal) h hs all) b)
+all_times_below : (n : ℕ) (hs : List AllTimes) (x y : ℤ) (d : Signal) → All (λ h. IsBelow n h.signal) hs → IsBelow n d →
+    IsBelow n (unwrap_or (all_times_at hs x y) d)
+unfolding all_times_at
+all_times_below n [] x y d all b = b
+all_times_below n (h ∷ hs) x y d all b = elim (cases_Bool (is_at h.cell x y)) [
+  | inl e ↦ rw e (all_head (λ (g : AllTimes). IsBelow n g.signal) h hs all)
+  | inr e ↦ rw e (all_times_below n hs x y d (all_tail (λ (g : AllTimes). IsBelow n g.signal) h hs all) b)
 ]
 
 event_below : (n : ℕ) (es : List Event) (t : ℕ) (x y : ℤ) (d : Signal) → All (λ e. IsBelow n e.signal) es →
@@ -37,16 +37,17 @@ event_below n (e ∷ es) t x y d all b = elim (cases_Bool (is_then e.at t x y)) 
   | inr h ↦ rw h (event_below n es t x y d (all_tail (λ (g : Event). IsBelow n g.signal) e es all) b)
 ]
 
-signal_below : (n : ℕ) (s : Signals) (t : ℕ) (x y : ℤ) → All (λ h. IsBelow n h.signal) s.held →
+signal_below : (n : ℕ) (s : Signals) (t : ℕ) (x y : ℤ) → All (λ h. IsBelow n h.signal) s.all_times →
     All (λ e. IsBelow n e.signal) s.events → IsBelow n (signal_at s t x y)
 unfolding signal_at
 signal_below n s t x y hs es =
-    held_below n s.held x y (unwrap_or (event_at s.events t x y) Zero) hs (event_below n s.events t x y Zero es tt)
+    all_times_below n s.all_times x y (unwrap_or (event_at s.events t x y) Zero) hs
+    (event_below n s.events t x y Zero es tt)
 
-pub edge_below : (j : JobState) (t : ℕ) (x y : ℤ) → NamesOwnWires j →
+pub edge_below : (j : JobView) (t : ℕ) (x y : ℤ) → NamesOwnWires j →
     IsBelow (wires j.locals.netlist) (signal_at j.edges t x y)
-edge_below j t x y own = signal_below (wires j.locals.netlist) j.edges t x y own.edge_held own.edge_events
+edge_below j t x y own = signal_below (wires j.locals.netlist) j.edges t x y own.edge_all_times own.edge_events
 
-pub halo_below : (j : JobState) (t : ℕ) (x y : ℤ) → NamesOwnWires j →
+pub halo_below : (j : JobView) (t : ℕ) (x y : ℤ) → NamesOwnWires j →
     IsBelow (wires j.locals.netlist) (signal_at j.halos t x y)
-halo_below j t x y own = signal_below (wires j.locals.netlist) j.halos t x y own.halo_held own.halo_events
+halo_below j t x y own = signal_below (wires j.locals.netlist) j.halos t x y own.halo_all_times own.halo_events

@@ -6,23 +6,23 @@ use Rattle.std.specs.List.{All, flat_map}
 use Rattle.std.proofs.lemmas.Bool.{cases_Bool, cond-true, cond-false}
 use Rattle.std.proofs.lemmas.Bool.Decides.{nat_tests}
 use Rattle.bbm_rule.specs.Plane.{is_at}
-use Rattle.module_box.specs.Schedules.{Signals, is_then, held_at, event_at, signal_at}
+use Rattle.module_box.specs.Schedules.{Signals, is_then, all_times_at, event_at, signal_at}
 use Rattle.module_box.specs.declared.schedules.Event.{Event}
-use Rattle.module_box.specs.declared.schedules.Held.{Held}
+use Rattle.module_box.specs.declared.schedules.AllTimes.{AllTimes}
 use Rattle.module_box.specs.declared.schedules.Signal.{Signal}
 use Rattle.module_box.specs.declared.schedules.Signal.TheVariants.{Zero}
 use Rattle.certificate.specs.Jobs.{event_by}
-use Rattle.module_job.specs.Signals.{renumber_signal, renumber_held, renumber_event, renumber_signals}
-use Rattle.certificate_lines.specs.declared.entry.Border.{Border}
+use Rattle.module_job.specs.Signals.{renumber_signal, renumber_all_times, renumber_event, renumber_signals}
+use Rattle.certificate_lines.specs.declared.certificate_line.Border.{Border}
 
 module _ (f : ℕ → ℕ) where
-  held_renumbered : (hs : List Held) (x y : ℤ) →
-      held_at (map (renumber_held f) hs) x y ≡ option_map (renumber_signal f) (held_at hs x y)
-  unfolding held_at
-  held_renumbered [] x y = refl
-  held_renumbered (h ∷ hs) x y = elim (cases_Bool (is_at h.cell x y)) [
+  all_times_renumbered : (hs : List AllTimes) (x y : ℤ) →
+      all_times_at (map (renumber_all_times f) hs) x y ≡ option_map (renumber_signal f) (all_times_at hs x y)
+  unfolding all_times_at
+  all_times_renumbered [] x y = refl
+  all_times_renumbered (h ∷ hs) x y = elim (cases_Bool (is_at h.cell x y)) [
     | inl e ↦ cond-true _ _ _ e ∙ ap (option_map (renumber_signal f)) (sym (cond-true _ _ _ e))
-    | inr e ↦ cond-false _ _ _ e ∙ held_renumbered hs x y
+    | inr e ↦ cond-false _ _ _ e ∙ all_times_renumbered hs x y
         ∙ ap (option_map (renumber_signal f)) (sym (cond-false _ _ _ e))
   ]
 
@@ -47,8 +47,8 @@ module _ (f : ℕ → ℕ) where
       renumber_signal f (signal_at s t x y) ≡ signal_at (renumber_signals f s) t x y
   unfolding signal_at
   signal_renumbered s t x y =
-      sym (either (held_at s.held x y) (event_at s.events t x y)) ∙
-      ap₂ (λ a b. unwrap_or a (unwrap_or b Zero)) (sym (held_renumbered s.held x y))
+      sym (either (all_times_at s.all_times x y) (event_at s.events t x y)) ∙
+      ap₂ (λ a b. unwrap_or a (unwrap_or b Zero)) (sym (all_times_renumbered s.all_times x y))
       (sym (event_renumbered s.events t x y))
 
   none_back : (o : Option Signal) → option_map (renumber_signal f) o ≡ None → o ≡ None

@@ -13,7 +13,7 @@ use Rattle.std.proofs.lemmas.Cmp.{tied_itself}
 use Rattle.bbm_rule.specs.declared.block.Cell.{Cell}
 use Rattle.module_box.specs.Boxes.{in_box, is_near}
 use Rattle.module_box.specs.Locals.{circuit_wire, is_among}
-use Rattle.module_box.specs.Schedules.{Signals, held_at, event_at, signal_at, is_then}
+use Rattle.module_box.specs.Schedules.{Signals, all_times_at, event_at, signal_at, is_then}
 use Rattle.module_box.specs.Tiling.{owner_of}
 use Rattle.module_box.specs.declared.schedules.Event.{Event}
 use Rattle.module_box.specs.declared.schedules.Moment.{Moment}
@@ -21,7 +21,7 @@ use Rattle.module_box.specs.declared.schedules.Signal.TheVariants.{Zero}
 use Rattle.module_box.proofs.BoxCells.{same_some}
 use Rattle.module_box.proofs.NearBoxes.{near_boxes}
 use Rattle.module_box.proofs.Rising.{then_moment}
-use Rattle.module_job.specs.Jobs.{JobState}
+use Rattle.module_job.specs.Jobs.{JobView}
 use Rattle.module_job.specs.Signals.{renumber_signal}
 use Rattle.border_match.specs.BorderFaults.{border_cmp}
 use Rattle.border_match.specs.Boards.{AreOwnersNoted, jobs_of, IsReady, Faults, IsNamed, IsNamedBelow, IsEdgeNamed}
@@ -79,15 +79,15 @@ edges_all b ks i f le noted g h = (
       ∙ noted f.cell.x f.cell.y (reached b f g),
 )
 
-other_is : (b : Borders) (k : ℕ) (other : JobState) (f : BorderFault) → slice_get (jobs_of b) k ≡ Some other →
+other_is : (b : Borders) (k : ℕ) (other : JobView) (f : BorderFault) → slice_get (jobs_of b) k ≡ Some other →
     (h : IsEdgeNamedAt k b f) → h.0.owner ≡ other
 other_is b k other f e h = same_some (slice_get (jobs_of b) k) h.0.owner other
     (ap (slice_get (jobs_of b)) (sym h.1) ∙ h.0.numbered) e
 
-pub edges_named : (b : Borders) (k : ℕ) (other : JobState) (f : BorderFault) → slice_get (jobs_of b) k ≡ Some other →
+pub edges_named : (b : Borders) (k : ℕ) (other : JobView) (f : BorderFault) → slice_get (jobs_of b) k ≡ Some other →
     IsEdgeNamedAt k b f → IsNamed other.edges.events f
 edges_named b k other f e h =
-    let P : JobState → Type 0 = λ j. IsNamed j.edges.events f in
+    let P : JobView → Type 0 = λ j. IsNamed j.edges.events f in
     subst P (other_is b k other f e h) h.0.named
 
 -- ---- times
@@ -158,7 +158,7 @@ event_named (e ∷ es) f = elim (cases_Bool (is_then e.at f.time f.cell.x f.cell
 same_without : (s : Signals) (t t' : ℕ) (x y : ℤ) → event_at s.events t x y ≡ None → event_at s.events t' x y ≡ None →
     signal_at s t x y ≡ signal_at s t' x y
 unfolding signal_at
-same_without s t t' x y e e' = ap (λ z. unwrap_or (held_at s.held x y) (unwrap_or z Zero)) (e ∙ sym e')
+same_without s t t' x y e e' = ap (λ z. unwrap_or (all_times_at s.all_times x y) (unwrap_or z Zero)) (e ∙ sym e')
 
 pub fault_covered : (b : Borders) (f : BorderFault) → IsReady b → Faults b f →
     IsNamed b.job.now.halos.events f ⊎ (IsEdgeNamed b f ⊎ DiffersAlways b f)

@@ -2,13 +2,13 @@
 use Rattle.std.proofs.Common.{◌≡◌, Bool, true, ◌==◌, List, [], map, length, Some, None, sym, ap, ap₂, ◌∙◌, arith}
 use Rattle.std.proofs.lemmas.Bool.Decides.{nat_tests}
 use Rattle.std.proofs.lemmas.List.{length-map, nil_from_length}
-use Rattle.module_box.specs.Moves.{moved_held, moved_signals}
+use Rattle.module_box.specs.Moves.{moved_all_times, moved_signals}
 use Rattle.std.specs.Prelude.{ℤ, slice_get, unwrap_or}
-use Rattle.module_box.specs.Schedules.{Signals, held_at, event_at, signal_at}
+use Rattle.module_box.specs.Schedules.{Signals, all_times_at, event_at, signal_at}
 use Rattle.module_box.specs.Tiling.{owner_of}
 use Rattle.module_box.specs.declared.schedules.Signal.TheVariants.{Zero}
 use Rattle.module_box.proofs.BoxCells.{same_some}
-use Rattle.module_job.specs.Jobs.{JobState}
+use Rattle.module_job.specs.Jobs.{JobView}
 use Rattle.module_job.specs.Signals.{renumber_signal}
 use Rattle.module_box.specs.Locals.{circuit_wire}
 use Rattle.border_match.specs.Boards.{jobs_of, job_edge, IsReady, Differ}
@@ -20,22 +20,24 @@ no_elements xs r is holds = nil_from_length xs (grind (arith, nat_tests))
 none_mapped : {A B : Type 0} (f : A → B) (xs : List A) → map f xs ≡ [] → xs ≡ []
 none_mapped f xs e = nil_from_length xs (sym (length-map xs f) ∙ ap length e)
 
--- where a schedule that was moved has no held signals, it had none
-pub unheld_unmoved : (dx dy : ℤ) (s moved : Signals) → moved ≡ moved_signals dx dy s → moved.held ≡ [] → s.held ≡ []
+-- where a schedule that was moved has no signals at all times, it had none
+pub unheld_unmoved : (dx dy : ℤ) (s moved : Signals) → moved ≡ moved_signals dx dy s → moved.all_times ≡ [] →
+    s.all_times ≡ []
 unheld_unmoved dx dy s moved is none =
-    none_mapped (moved_held dx dy) s.held (sym (ap (λ (m : Signals). m.held) is) ∙ none)
+    none_mapped (moved_all_times dx dy) s.all_times (sym (ap (λ (m : Signals). m.all_times) is) ∙ none)
 
-unheld_signal : (s : Signals) (x y : ℤ) → s.held ≡ [] → event_at s.events 0 x y ≡ None → signal_at s 0 x y ≡ Zero
-unfolding signal_at held_at
-unheld_signal s x y none quiet = ap₂ (λ h z. unwrap_or (held_at h x y) (unwrap_or z Zero)) none quiet
+unheld_signal : (s : Signals) (x y : ℤ) → s.all_times ≡ [] → event_at s.events 0 x y ≡ None → signal_at s 0 x y ≡ Zero
+unfolding signal_at all_times_at
+unheld_signal s x y none quiet = ap₂ (λ h z. unwrap_or (all_times_at h x y) (unwrap_or z Zero)) none quiet
 
-pub unheld : (b : Borders) (x y : ℤ) (owner : JobState) → IsReady b →
-    slice_get (jobs_of b) (owner_of b.owners.now x y) ≡ Some owner → b.job.now.halos.held ≡ [] → owner.edges.held ≡ [] →
+pub unheld : (b : Borders) (x y : ℤ) (owner : JobView) → IsReady b →
+    slice_get (jobs_of b) (owner_of b.owners.now x y) ≡ Some owner → b.job.now.halos.all_times ≡ [] →
+    owner.edges.all_times ≡ [] →
     Differ b 0 x y → ⊥
 unheld b x y owner ready got halo edge d =
     let same = same_some (slice_get (jobs_of b) (owner_of b.owners.now x y)) d.owner owner d.numbered got in
     d.differ (ap (renumber_signal (circuit_wire b.job.now.locals))
     (unheld_signal b.job.now.halos x y halo (ready.1.halos x y))
-    ∙ sym (ap (λ (j : JobState). job_edge j 0 x y) same
+    ∙ sym (ap (λ (j : JobView). job_edge j 0 x y) same
     ∙ ap (renumber_signal (circuit_wire owner.locals))
     (unheld_signal owner.edges x y edge ((ready.0.quiet _ owner got).edges x y))))

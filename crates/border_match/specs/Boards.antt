@@ -11,7 +11,7 @@ use Rattle.module_box.specs.Tiling.{Owning, rectangle, owner_of}
 use Rattle.module_box.specs.declared.boxes.Box2.{Box2}
 use Rattle.module_box.specs.declared.schedules.Event.{Event}
 use Rattle.module_box.specs.declared.schedules.Signal.{Signal}
-use Rattle.module_job.specs.Jobs.{JobState}
+use Rattle.module_job.specs.Jobs.{JobView}
 use Rattle.module_job.specs.Signals.{renumber_signal}
 use Rattle.border_match.specs.declared.borders.Borders.{Borders}
 use Rattle.border_match.specs.declared.fault.BorderFault.{BorderFault}
@@ -19,21 +19,21 @@ use Rattle.border_match.specs.declared.fault.BorderFault.{BorderFault}
 -- ---- border faults by jobs
 
 -- what a job says of a cell of its halo, by the wires of the circuit
-abbrev pub job_halo : JobState → ℕ → ℤ → ℤ → Signal
+abbrev pub job_halo : JobView → ℕ → ℤ → ℤ → Signal
 job_halo j t x y = renumber_signal (circuit_wire j.locals) (signal_at j.halos t x y)
 
 -- and of a cell of its ring
-abbrev pub job_edge : JobState → ℕ → ℤ → ℤ → Signal
+abbrev pub job_edge : JobView → ℕ → ℤ → ℤ → Signal
 job_edge j t x y = renumber_signal (circuit_wire j.locals) (signal_at j.edges t x y)
 
 -- the job says another thing of the cell (x, y) of its halo than the job of the module that has the cell
-pub record AreDifferent (o : Owning) (jobs : List JobState) (j : JobState) (t : ℕ) (x y : ℤ) : Type 0 where
-  pub owner : JobState
+pub record AreDifferent (o : Owning) (jobs : List JobView) (j : JobView) (t : ℕ) (x y : ℤ) : Type 0 where
+  pub owner : JobView
   pub numbered : slice_get jobs (owner_of o x y) ≡ Some owner
   pub differ : job_halo j t x y ≢ job_edge owner t x y
 
 -- a border fault of the module with the job j
-pub record IsJobFault (w : Box2) (o : Owning) (jobs : List JobState) (j : JobState) (f : BorderFault) : Type 0 where
+pub record IsJobFault (w : Box2) (o : Owning) (jobs : List JobView) (j : JobView) (f : BorderFault) : Type 0 where
   pub odd : f.time % 2 ≡ 1
   pub early : f.time < j.steps
   pub inside : IsTrue (in_box w f.cell.x f.cell.y)
@@ -41,21 +41,21 @@ pub record IsJobFault (w : Box2) (o : Owning) (jobs : List JobState) (j : JobSta
   pub different : AreDifferent o jobs j f.time f.cell.x f.cell.y
 
 -- the job has no edge event and no halo event at time 0
-pub record IsQuiet (j : JobState) : Type 0 where
+pub record IsQuiet (j : JobView) : Type 0 where
   pub halos : (x y : ℤ) → event_at j.halos.events 0 x y ≡ None
   pub edges : (x y : ℤ) → event_at j.edges.events 0 x y ≡ None
 
 -- the owner of each cell of the rectangle is the number of a job whose box has the cell
-pub record IsBoard (w : Box2) (o : Owning) (jobs : List JobState) : Type 0 where
+pub record IsBoard (w : Box2) (o : Owning) (jobs : List JobView) : Type 0 where
   pub same : w ≡ rectangle o
   pub holder : (x y : ℤ) → IsTrue (in_box w x y) →
-      (j : JobState) × (slice_get jobs (owner_of o x y) ≡ Some j) × IsTrue (in_box j.area x y)
-  pub quiet : (k : ℕ) (j : JobState) → slice_get jobs k ≡ Some j → IsQuiet j
+      (j : JobView) × (slice_get jobs (owner_of o x y) ≡ Some j) × IsTrue (in_box j.area x y)
+  pub quiet : (k : ℕ) (j : JobView) → slice_get jobs k ≡ Some j → IsQuiet j
 
 -- ---- the same of a module among its neighbours
 
 -- the jobs of the modules
-abbrev pub jobs_of : Borders → List JobState
+abbrev pub jobs_of : Borders → List JobView
 jobs_of b = map arc_value b.jobs.now
 
 -- the owner of each cell is a job whose box has it, and no job has an event at time 0
@@ -87,7 +87,7 @@ pub record IsNamedBelow (k : ℕ) (events : List Event) (f : BorderFault) : Type
 
 -- an event of the edges of the module that has f's cell is at the time and cell of f
 pub record IsEdgeNamed (b : Borders) (f : BorderFault) : Type 0 where
-  pub owner : JobState
+  pub owner : JobView
   pub numbered : slice_get (jobs_of b) (owner_of b.owners.now f.cell.x f.cell.y) ≡ Some owner
   pub named : IsNamed owner.edges.events f
 

@@ -100,7 +100,7 @@ impl<'a> Borders<'a> {
     {
         let own: &Shape = self.job.shape();
         let other: &Shape = self.owner(cell).shape();
-        !own.halos().held().is_empty() || !other.edges().held().is_empty()
+        !own.halos().all_times().is_empty() || !other.edges().all_times().is_empty()
     }
 
     // Whether this is a border fault of the module.

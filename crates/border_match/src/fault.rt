@@ -34,7 +34,7 @@ impl BorderFault {
 
 // The lesser of a candidate, if there is one, and a fault.
 pub(crate) fn lesser(best: Option<BorderFault>, fault: BorderFault) -> Option<BorderFault>
-    ensures kept { (h : BorderFault) → Covers best h → Covers result h }
+    ensures covers_as_before { (h : BorderFault) → Covers best h → Covers result h }
     ensures covered { Covers result fault }
     ensures one { (result ≡ best) ⊎ (result ≡ Some fault) }
 {

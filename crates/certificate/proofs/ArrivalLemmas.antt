@@ -15,11 +15,12 @@ use Rattle.circuit.specs.Meaning.{Circuit, Gate}
 use Rattle.certificate.specs.Arrivals.{AreOnTime, IsFirstTime, IsLastTime, MeetAt, TakesSteps, Tells, TellsOfDelay}
 use Rattle.certificate.specs.Arrivals.{TellsOfMeeting}
 use Rattle.certificate.specs.Laws.{KeptIsOnTime, LinesTell}
-use Rattle.certificate.specs.Times.{agreed, all_stops, delay_by, delay_line, earlier, first_seen, gap_between, is_kept}
+use Rattle.certificate.specs.Times.{agreed, all_stops, delay_by, delay_line, earlier, first_seen, gap_between}
+use Rattle.certificate.specs.Times.{is_obeyed}
 use Rattle.certificate.specs.Times.{last_seen, last_times, later, meet_by, meet_line, numbered, of_wire, times_of}
-use Rattle.certificate_lines.specs.declared.entry.StopLine.{StopLine}
-use Rattle.certificate.specs.declared.times.Gap.{Gap}
-use Rattle.certificate.specs.declared.times.Gap.TheVariants.{Steps, Missing, Before}
+use Rattle.certificate_lines.specs.declared.certificate_line.StopLine.{StopLine}
+use Rattle.certificate.specs.declared.times.StopGap.{StopGap}
+use Rattle.certificate.specs.declared.times.StopGap.TheVariants.{Steps, NoStop, Before}
 use Rattle.certificate.specs.declared.times.TimeLine.{TimeLine}
 use Rattle.certificate.specs.declared.times.TimeLine.TheVariants as line
 use Rattle.certificate.proofs.SeenLaws.{first_is_least, last_is_greatest}
@@ -85,12 +86,12 @@ gap_steps (Some l) None m e = absurd cc
 gap_steps (Some l) (Some f) m e = let parts = if_before (nat_lt f l) (f - l) m e in
     (l, refl, ap Some (later_by l f m parts.0 parts.1))
 
-gap_missing : (last first : Option ℕ) (l f : ℕ) → gap_between last first ≡ Missing → last ≡ Some l → first ≡ Some f → ⊥
+gap_missing : (last first : Option ℕ) (l f : ℕ) → gap_between last first ≡ NoStop → last ≡ Some l → first ≡ Some f → ⊥
 gap_missing None first l f e p q = absurd cc
 gap_missing (Some k) None l f e p q = absurd cc
 gap_missing (Some k) (Some g) l f e p q = by_case (nat_lt g k) e
   where
-    by_case : (b : Bool) → (if b then Before else Steps (g - k)) ≡ Missing → ⊥
+    by_case : (b : Bool) → (if b then Before else Steps (g - k)) ≡ NoStop → ⊥
     by_case true e = cc
     by_case false e = cc
 
@@ -109,7 +110,7 @@ gap_before (Some k) (Some g) e = by_case (nat_lt g k) refl e
     by_case false less e = absurd cc
 
 -- the gap of a gate with one wire on each side
-own_gap : (c : Circuit) (ss : List StopLine) (ins outs : List ℕ) (a b : ℕ) (gap : Gap) →
+own_gap : (c : Circuit) (ss : List StopLine) (ins outs : List ℕ) (a b : ℕ) (gap : StopGap) →
     gap_between (of_wire (last_seen c ss) ins) (of_wire (first_seen c ss) outs) ≡ gap →
     ins ≡ a ∷ [] → outs ≡ b ∷ [] → gap_between (last_seen c ss a) (first_seen c ss b) ≡ gap
 own_gap c ss ins outs a b gap e one_in one_out =
@@ -122,10 +123,10 @@ takes c ss m a b e =
     let h = gap_steps (last_seen c ss a) (first_seen c ss b) m e in
     record { leaves = h.0; last = is_last c ss a h.0 h.1; first = is_first c ss b (h.0 + m) h.2 }
 
-gap_tells : (c : Circuit) (ss : List StopLine) (a b : ℕ) (gap : Gap) →
+gap_tells : (c : Circuit) (ss : List StopLine) (a b : ℕ) (gap : StopGap) →
     gap_between (last_seen c ss a) (first_seen c ss b) ≡ gap → TellsOfDelay c ss gap a b
 gap_tells c ss a b (Steps m) e = takes c ss m a b e
-gap_tells c ss a b Missing e = λ s t last first. gap_missing _ _ s t e (last_is c ss a s last) (first_is c ss b t first)
+gap_tells c ss a b NoStop e = λ s t last first. gap_missing _ _ s t e (last_is c ss a s last) (first_is c ss b t first)
 gap_tells c ss a b Before e =
     let h = gap_before (last_seen c ss a) (first_seen c ss b) e in
     (h.0, h.1, is_last c ss a h.0 h.2, is_first c ss b h.1 h.3, h.4)
@@ -269,36 +270,37 @@ lines_tell c ms =
 -- ---- where all are kept
 
 kept_at : (f : ℕ → Gate → List TimeLine) (j : ℕ) (gates : List Gate) (i : ℕ) (g : Gate) →
-    list_all is_kept (numbered f j gates) ≡ true → slice_get gates i ≡ Some g → list_all is_kept (f (j + i) g) ≡ true
+    list_all is_obeyed (numbered f j gates) ≡ true → slice_get gates i ≡ Some g →
+    list_all is_obeyed (f (j + i) g) ≡ true
 unfolding numbered
 kept_at f j [] i g e at = absurd cc
 kept_at f j (h ∷ gates) zero g e at =
-    let p = and_parts (list_all is_kept (f j h)) (list_all is_kept (numbered f (j + 1) gates))
-    (sym (list_all-append is_kept (f j h) (numbered f (j + 1) gates)) ∙ e) in
+    let p = and_parts (list_all is_obeyed (f j h)) (list_all is_obeyed (numbered f (j + 1) gates))
+    (sym (list_all-append is_obeyed (f j h) (numbered f (j + 1) gates)) ∙ e) in
     let same : h ≡ g = same_Some h g at in
-    subst (λ (r : Gate). list_all is_kept (f (j + 0) r) ≡ true) same
-    (subst (λ n. list_all is_kept (f n h) ≡ true) (omega arith) p.0)
+    subst (λ (r : Gate). list_all is_obeyed (f (j + 0) r) ≡ true) same
+    (subst (λ n. list_all is_obeyed (f n h) ≡ true) (omega arith) p.0)
 kept_at f j (h ∷ gates) (suc i) g e at =
-    let p = and_parts (list_all is_kept (f j h)) (list_all is_kept (numbered f (j + 1) gates))
-    (sym (list_all-append is_kept (f j h) (numbered f (j + 1) gates)) ∙ e) in
-    subst (λ n. list_all is_kept (f n g) ≡ true) (omega arith) (kept_at f (j + 1) gates i g p.1 at)
+    let p = and_parts (list_all is_obeyed (f j h)) (list_all is_obeyed (numbered f (j + 1) gates))
+    (sym (list_all-append is_obeyed (f j h) (numbered f (j + 1) gates)) ∙ e) in
+    subst (λ n. list_all is_obeyed (f n g) ≡ true) (omega arith) (kept_at f (j + 1) gates i g p.1 at)
 
-kept_gap : (k n : ℕ) (gap : Gap) → list_all is_kept (line.Delay k n gap ∷ []) ≡ true → gap ≡ Steps n
+kept_gap : (k n : ℕ) (gap : StopGap) → list_all is_obeyed (line.Delay k n gap ∷ []) ≡ true → gap ≡ Steps n
 kept_gap k n (Steps m) e = ap Steps (eqb-true m n (and_parts (m == n) true e).0)
-kept_gap k n Missing e = absurd cc
+kept_gap k n NoStop e = absurd cc
 kept_gap k n Before e = absurd cc
 
-meeting_of : (k : ℕ) (ts : List ℕ) → list_all is_kept (meet_by k ts) ≡ true → (t : ℕ) × All (λ u. u ≡ t) ts
+meeting_of : (k : ℕ) (ts : List ℕ) → list_all is_obeyed (meet_by k ts) ≡ true → (t : ℕ) × All (λ u. u ≡ t) ts
 meeting_of k [] e = (0, All-nil (λ u. u ≡ 0))
 meeting_of k (a ∷ []) e = (a, All-cons (λ u. u ≡ a) a [] refl (All-nil (λ u. u ≡ a)))
 meeting_of k (a ∷ b ∷ ts) e =
     by_case (agreed (a ∷ b ∷ ts)) refl
-    (sym (ap (λ (two : Bool). list_all is_kept (if two then line.Meet k (agreed (a ∷ b ∷ ts)) ∷ [] else [])) two) ∙ e)
+    (sym (ap (λ (two : Bool). list_all is_obeyed (if two then line.Meet k (agreed (a ∷ b ∷ ts)) ∷ [] else [])) two) ∙ e)
   where
     two : nat_le 2 (length (a ∷ b ∷ ts)) ≡ true
     two = grind (arith, nat_tests)
 
-    by_case : (o : Option ℕ) → agreed (a ∷ b ∷ ts) ≡ o → list_all is_kept (line.Meet k o ∷ []) ≡ true →
+    by_case : (o : Option ℕ) → agreed (a ∷ b ∷ ts) ≡ o → list_all is_obeyed (line.Meet k o ∷ []) ≡ true →
         (t : ℕ) × All (λ u. u ≡ t) (a ∷ b ∷ ts)
     by_case (Some t) is kept = (t, agreed_all (a ∷ b ∷ ts) t is)
     by_case None is kept = absurd cc
@@ -308,8 +310,8 @@ kept_is_on_time c ms kept =
     let ss = all_stops ms in
     let delays = numbered (delay_line (first_seen c ss) (last_seen c ss)) 0 c.netlist.gates in
     let meetings = numbered (meet_line (last_seen c ss)) 0 c.netlist.gates in
-    let p = and_parts (list_all is_kept delays) (list_all is_kept meetings)
-    (sym (list_all-append is_kept delays meetings) ∙ kept) in
+    let p = and_parts (list_all is_obeyed delays) (list_all is_obeyed meetings)
+    (sym (list_all-append is_obeyed delays meetings) ∙ kept) in
     record {
       delays = λ k n a b is. takes c ss n a b
           (kept_gap (0 + k) n _ (kept_at (delay_line (first_seen c ss) (last_seen c ss)) 0 c.netlist.gates k _ p.0 is));

@@ -11,13 +11,13 @@ use Rattle.module_box.proofs.Rising.{pushed}
 use Rattle.module_box.specs.declared.boxes.Box2.{Box2}
 use Rattle.certificate_lines.specs.Entries.{ModuleLines, Setting, modules_of}
 use Rattle.certificate.specs.Jobs.{AreJobsOf, IsJobOf}
-use Rattle.module_job.specs.Jobs.{JobState}
+use Rattle.module_job.specs.Jobs.{JobView}
 use Rattle.certificate_lines.specs.ModuleParts.{inner, is_module}
-use Rattle.certificate.specs.PartLines.{part_lines}
+use Rattle.certificate.specs.SliceLines.{slice_lines}
 use Rattle.certificate_lines.specs.Versions.{with_halos}
-use Rattle.certificate.specs.declared.beside.Part.{Part}
-use Rattle.certificate_lines.specs.declared.entry.Entry.{Entry}
-use Rattle.certificate_lines.specs.declared.entry.Entry.TheVariants.{Module}
+use Rattle.certificate.specs.declared.beside.ModuleSlice.{ModuleSlice}
+use Rattle.certificate_lines.specs.declared.certificate_line.CertificateLine.{CertificateLine}
+use Rattle.certificate_lines.specs.declared.certificate_line.CertificateLine.TheVariants.{Module}
 use Rattle.certificate.proofs.FullModules.{mapped_at, mapped_from}
 use Rattle.certificate_lines.proofs.Lists.{some_is}
 use Rattle.certificate_lines.proofs.ModuleSplit.{split_module, split_other}
@@ -54,54 +54,56 @@ all_passed test f xs i old now le h = h ∙ ap (λ l. old ++ filter test (flat_m
 
 -- ---- the modules of lines
 
-pub no_parts : (es : List Entry) → map part_lines [] ++ modules_of (drop 0 es) ≡ modules_of es
+pub no_parts : (es : List CertificateLine) → map slice_lines [] ++ modules_of (drop 0 es) ≡ modules_of es
 no_parts es = refl
 
-pub other_line_on : (es : List Entry) (place : ℕ) (e : Entry) (ps : List Part) → place < length es →
+pub other_line_on : (es : List CertificateLine) (place : ℕ) (e : CertificateLine) (ps : List ModuleSlice) →
+    place < length es →
     e ≡ get_or es place e → is_module e ≡ false →
-    map part_lines ps ++ modules_of (drop place es) ≡ modules_of es →
-    map part_lines ps ++ modules_of (drop (place + 1) es) ≡ modules_of es
+    map slice_lines ps ++ modules_of (drop place es) ≡ modules_of es →
+    map slice_lines ps ++ modules_of (drop (place + 1) es) ≡ modules_of es
 other_line_on es place e ps lt at other h =
-    ap (λ ms. map part_lines ps ++ ms)
+    ap (λ ms. map slice_lines ps ++ ms)
     (sym (split_other e (drop (place + 1) es) other) ∙ sym (ap modules_of (line_here es place e lt at))) ∙ h
 
-pub one_part : (es : List Entry) (place : ℕ) (area : Box2) (part : Part) (ps qs : List Part) → place < length es →
+pub one_part : (es : List CertificateLine) (place : ℕ) (area : Box2) (part : ModuleSlice) (ps qs : List ModuleSlice) →
+    place < length es →
     Module area ≡ get_or es place (Module area) →
-    part_lines part ≡ record { area = area; lines = inner (drop (place + 1) es) } → qs ≡ ps ++ part ∷ [] →
-    map part_lines ps ++ modules_of (drop place es) ≡ modules_of es →
-    map part_lines qs ++ modules_of (drop (place + 1) es) ≡ modules_of es
+    slice_lines part ≡ record { area = area; lines = inner (drop (place + 1) es) } → qs ≡ ps ++ part ∷ [] →
+    map slice_lines ps ++ modules_of (drop place es) ≡ modules_of es →
+    map slice_lines qs ++ modules_of (drop (place + 1) es) ≡ modules_of es
 one_part es place area part ps qs lt at is grown h =
-    ap (λ l. map part_lines l ++ modules_of (drop (place + 1) es)) grown
-    ∙ ap (λ l. l ++ modules_of (drop (place + 1) es)) (map-append part_lines ps (part ∷ []))
-    ∙ append_assoc (map part_lines ps) (part_lines part ∷ []) (modules_of (drop (place + 1) es))
-    ∙ ap (λ m. map part_lines ps ++ m ∷ modules_of (drop (place + 1) es)) is
-    ∙ ap (λ ms. map part_lines ps ++ ms)
+    ap (λ l. map slice_lines l ++ modules_of (drop (place + 1) es)) grown
+    ∙ ap (λ l. l ++ modules_of (drop (place + 1) es)) (map-append slice_lines ps (part ∷ []))
+    ∙ append_assoc (map slice_lines ps) (slice_lines part ∷ []) (modules_of (drop (place + 1) es))
+    ∙ ap (λ m. map slice_lines ps ++ m ∷ modules_of (drop (place + 1) es)) is
+    ∙ ap (λ ms. map slice_lines ps ++ ms)
     (sym (split_module area (drop (place + 1) es)) ∙ sym (ap modules_of (line_here es place (Module area) lt at)))
     ∙ h
 
-pub all_parts : (es : List Entry) (place : ℕ) (ps : List Part) → length es ≤ place →
-    map part_lines ps ++ modules_of (drop place es) ≡ modules_of es → map part_lines ps ≡ modules_of es
-all_parts es place ps le h = sym (append-nil (map part_lines ps))
-    ∙ ap (λ ms. map part_lines ps ++ ms) (sym (ap modules_of (drop_all place es le) ∙ nothing_left)) ∙ h
+pub all_parts : (es : List CertificateLine) (place : ℕ) (ps : List ModuleSlice) → length es ≤ place →
+    map slice_lines ps ++ modules_of (drop place es) ≡ modules_of es → map slice_lines ps ≡ modules_of es
+all_parts es place ps le h = sym (append-nil (map slice_lines ps))
+    ∙ ap (λ ms. map slice_lines ps ++ ms) (sym (ap modules_of (drop_all place es le) ∙ nothing_left)) ∙ h
 
 -- ---- the jobs of the modules before a module
 
-pub part_at : (parts : List Part) (i : ℕ) (part : Part) → i < length parts → part ≡ get_or parts i part →
-    slice_get (map part_lines parts) i ≡ Some (part_lines part)
-part_at parts i part lt is = mapped_at part_lines parts i part (slice_get_read parts (length parts) i part refl lt is)
+pub part_at : (parts : List ModuleSlice) (i : ℕ) (part : ModuleSlice) → i < length parts → part ≡ get_or parts i part →
+    slice_get (map slice_lines parts) i ≡ Some (slice_lines part)
+part_at parts i part lt is = mapped_at slice_lines parts i part (slice_get_read parts (length parts) i part refl lt is)
 
 pub record PartJobs (c : Circuit) (p : Pattern) (g : Setting) (ms : List ModuleLines) (done : ℕ)
-    (js : List JobState) : Type 0 where
+    (js : List JobView) : Type 0 where
   pub count : length js ≡ done
   pub few : done ≤ length ms
-  pub each : (i : ℕ) (m : ModuleLines) (j : JobState) → slice_get ms i ≡ Some m → slice_get js i ≡ Some j →
+  pub each : (i : ℕ) (m : ModuleLines) (j : JobView) → slice_get ms i ≡ Some m → slice_get js i ≡ Some j →
       IsJobOf c p (with_halos g ms m) j
 
 module _ (c : Circuit) (p : Pattern) (g : Setting) (ms : List ModuleLines) where
   pub no_part_jobs : PartJobs c p g ms 0 []
   no_part_jobs = record { count = refl; few = omega arith; each = λ i m j a b. absurd cc }
 
-  pub one_part_more : (done : ℕ) (js : List JobState) (m : ModuleLines) (j : JobState) → slice_get ms done ≡ Some m →
+  pub one_part_more : (done : ℕ) (js : List JobView) (m : ModuleLines) (j : JobView) → slice_get ms done ≡ Some m →
       IsJobOf c p (with_halos g ms m) j → PartJobs c p g ms done js →
       PartJobs c p g ms (done + 1) (js ++ j ∷ [])
   one_part_more done js m j at is h = record {
@@ -115,7 +117,7 @@ module _ (c : Circuit) (p : Pattern) (g : Setting) (ms : List ModuleLines) where
     ];
   }
 
-  pub parts_done : (done : ℕ) (js : List JobState) → length ms ≤ done → PartJobs c p g ms done js →
+  pub parts_done : (done : ℕ) (js : List JobView) → length ms ≤ done → PartJobs c p g ms done js →
       AreJobsOf c p (map (with_halos g ms) ms) js
   parts_done done js le h = record {
     count = let a = h.count in let f = h.few in let l = length-map ms (with_halos g ms) in omega (arith, a, f, l, le);

@@ -5,18 +5,19 @@ use Rattle.std.specs.List.{flat_map, list_all}
 use Rattle.std.specs.Ordering.{nat_cmp, is_lt, ordering_then}
 use Rattle.std.proofs.lemmas.Bool.{and_parts}
 use Rattle.module_box.specs.Moments.{cell_cmp, moment_cmp}
-use Rattle.module_box.specs.Schedules.{IsRising, moment_of, cell_of as held_cell}
+use Rattle.module_box.specs.Schedules.{IsRising, moment_of, cell_of as all_times_cell}
 use Rattle.module_box.specs.declared.schedules.Event.{Event}
-use Rattle.module_box.specs.declared.schedules.Held.{Held}
+use Rattle.module_box.specs.declared.schedules.AllTimes.{AllTimes}
 use Rattle.module_box.specs.declared.schedules.Signal.{Signal}
 use Rattle.certificate_lines.specs.Entries.{edge_in, halo_in}
-use Rattle.certificate.specs.Jobs.{held_by, event_by}
+use Rattle.certificate.specs.Jobs.{all_times_by, event_by}
 use Rattle.certificate_lines.specs.Orders.{AreInOrder, rank_of, number_of, cell_of, line_cmp, is_cut, may_precede}
 use Rattle.certificate_lines.specs.Orders.{time_rank}
-use Rattle.module_job.specs.Signals.{renumber_held, renumber_event}
-use Rattle.certificate_lines.specs.declared.entry.Border.{Border}
-use Rattle.certificate_lines.specs.declared.entry.Entry.{Entry}
-use Rattle.certificate_lines.specs.declared.entry.Entry.TheVariants.{Module, Cut, Use, Keep, Edge, Halo, Stop}
+use Rattle.module_job.specs.Signals.{renumber_all_times, renumber_event}
+use Rattle.certificate_lines.specs.declared.certificate_line.Border.{Border}
+use Rattle.certificate_lines.specs.declared.certificate_line.CertificateLine.{CertificateLine}
+use Rattle.certificate_lines.specs.declared.certificate_line.CertificateLine.TheVariants.{Module, Cut, Use, Keep, Edge}
+use Rattle.certificate_lines.specs.declared.certificate_line.CertificateLine.TheVariants.{Halo, Stop}
 use Rattle.certificate_lines.proofs.Lists.{some_is}
 use Rattle.certificate_lines.proofs.Pairs.{Each, Pairs, pairs_flat, rising_of}
 
@@ -24,14 +25,15 @@ use Rattle.certificate_lines.proofs.Pairs.{Each, Pairs, pairs_flat, rising_of}
 abbrev pub Before : Border → Border → Type 0
 Before d e = ordering_then (nat_cmp (time_rank d.time) (time_rank e.time)) (cell_cmp d.cell e.cell) ≡ Less
 
-each_of_test : (test : Entry → Bool) (lines : List Entry) → list_all test lines ≡ true → Each (λ j. test j ≡ true) lines
+each_of_test : (test : CertificateLine → Bool) (lines : List CertificateLine) → list_all test lines ≡ true →
+    Each (λ j. test j ≡ true) lines
 unfolding Each
 each_of_test test [] h = tt
 each_of_test test (j ∷ lines) h =
     let both = and_parts (test j) (list_all test lines) h in
     (both.0, each_of_test test lines both.1)
 
-pub pairs_of_order : (lines : List Entry) → AreInOrder lines → Pairs (λ i j. may_precede i j ≡ true) lines
+pub pairs_of_order : (lines : List CertificateLine) → AreInOrder lines → Pairs (λ i j. may_precede i j ≡ true) lines
 unfolding AreInOrder Pairs
 pairs_of_order [] h = tt
 pairs_of_order (i ∷ lines) h = (each_of_test (may_precede i) lines h.0, pairs_of_order lines h.1)
@@ -49,7 +51,7 @@ halo_before : (d e : Border) → may_precede (Halo d) (Halo e) ≡ true → Befo
 unfolding may_precede line_cmp rank_of number_of cell_of is_cut
 halo_before d e h = is_less _ false refl h
 
-edge_first : (d : Border) (j : Entry) → may_precede (Edge d) j ≡ true → Each (Before d) (edge_in j)
+edge_first : (d : Border) (j : CertificateLine) → may_precede (Edge d) j ≡ true → Each (Before d) (edge_in j)
 unfolding Each
 edge_first d (Module b) h = tt
 edge_first d (Cut n) h = tt
@@ -59,7 +61,7 @@ edge_first d (Edge e) h = (edge_before d e h, tt)
 edge_first d (Halo e) h = tt
 edge_first d (Stop s) h = tt
 
-halo_first : (d : Border) (j : Entry) → may_precede (Halo d) j ≡ true → Each (Before d) (halo_in j)
+halo_first : (d : Border) (j : CertificateLine) → may_precede (Halo d) j ≡ true → Each (Before d) (halo_in j)
 unfolding Each
 halo_first d (Module b) h = tt
 halo_first d (Cut n) h = tt
@@ -69,7 +71,8 @@ halo_first d (Edge e) h = tt
 halo_first d (Halo e) h = (halo_before d e h, tt)
 halo_first d (Stop s) h = tt
 
-edges_between : (i : Entry) → Each (λ d. (j : Entry) → may_precede i j ≡ true → Each (Before d) (edge_in j)) (edge_in i)
+edges_between : (i : CertificateLine) →
+    Each (λ d. (j : CertificateLine) → may_precede i j ≡ true → Each (Before d) (edge_in j)) (edge_in i)
 unfolding Each
 edges_between (Module b) = tt
 edges_between (Cut n) = tt
@@ -79,7 +82,8 @@ edges_between (Edge d) = (edge_first d, tt)
 edges_between (Halo e) = tt
 edges_between (Stop s) = tt
 
-halos_between : (i : Entry) → Each (λ d. (j : Entry) → may_precede i j ≡ true → Each (Before d) (halo_in j)) (halo_in i)
+halos_between : (i : CertificateLine) →
+    Each (λ d. (j : CertificateLine) → may_precede i j ≡ true → Each (Before d) (halo_in j)) (halo_in i)
 unfolding Each
 halos_between (Module b) = tt
 halos_between (Cut n) = tt
@@ -89,7 +93,7 @@ halos_between (Edge e) = tt
 halos_between (Halo d) = (halo_first d, tt)
 halos_between (Stop s) = tt
 
-edge_alone : (i : Entry) → Pairs Before (edge_in i)
+edge_alone : (i : CertificateLine) → Pairs Before (edge_in i)
 unfolding Each Pairs
 edge_alone (Module b) = tt
 edge_alone (Cut n) = tt
@@ -99,7 +103,7 @@ edge_alone (Edge e) = (tt, tt)
 edge_alone (Halo e) = tt
 edge_alone (Stop s) = tt
 
-halo_alone : (i : Entry) → Pairs Before (halo_in i)
+halo_alone : (i : CertificateLine) → Pairs Before (halo_in i)
 unfolding Each Pairs
 halo_alone (Module b) = tt
 halo_alone (Cut n) = tt
@@ -109,17 +113,17 @@ halo_alone (Edge e) = tt
 halo_alone (Halo e) = (tt, tt)
 halo_alone (Stop s) = tt
 
-pub edges_rise : (lines : List Entry) → AreInOrder lines → Pairs Before (flat_map edge_in lines)
+pub edges_rise : (lines : List CertificateLine) → AreInOrder lines → Pairs Before (flat_map edge_in lines)
 edges_rise lines o = pairs_flat (λ i j. may_precede i j ≡ true) Before edge_in edges_between edge_alone lines
     (pairs_of_order lines o)
 
-pub halos_rise : (lines : List Entry) → AreInOrder lines → Pairs Before (flat_map halo_in lines)
+pub halos_rise : (lines : List CertificateLine) → AreInOrder lines → Pairs Before (flat_map halo_in lines)
 halos_rise lines o = pairs_flat (λ i j. may_precede i j ≡ true) Before halo_in halos_between halo_alone lines
     (pairs_of_order lines o)
 
 -- ---- what the lines say
 
-abbrev HeldBefore : Held → Held → Type 0
+abbrev HeldBefore : AllTimes → AllTimes → Type 0
 HeldBefore a b = cell_cmp a.cell b.cell ≡ Less
 
 abbrev EventBefore : Event → Event → Type 0
@@ -146,12 +150,12 @@ both_timed None b t v c s u h = absurd cc
 both_timed (Some a) None t v c s u h = absurd cc
 
 module _ (σ : Border → Signal) where
-  held_first : (d : Border) (t : Option ℕ) → d.time ≡ t → (e : Border) (u : Option ℕ) → e.time ≡ u → Before d e →
-      Each (λ a. Each (HeldBefore a) (held_by e u (σ e))) (held_by d t (σ d))
+  all_times_first : (d : Border) (t : Option ℕ) → d.time ≡ t → (e : Border) (u : Option ℕ) → e.time ≡ u → Before d e →
+      Each (λ a. Each (HeldBefore a) (all_times_by e u (σ e))) (all_times_by d t (σ d))
   unfolding Each
-  held_first d None s e None u h = ((both_starred d.time e.time (cell_cmp d.cell e.cell) s u h, tt), tt)
-  held_first d None s e (Some v) u h = (tt, tt)
-  held_first d (Some t) s e u v h = tt
+  all_times_first d None s e None u h = ((both_starred d.time e.time (cell_cmp d.cell e.cell) s u h, tt), tt)
+  all_times_first d None s e (Some v) u h = (tt, tt)
+  all_times_first d (Some t) s e u v h = tt
 
   event_first : (d : Border) (t : Option ℕ) → d.time ≡ t → (e : Border) (u : Option ℕ) → e.time ≡ u → Before d e →
       Each (λ a. Each (EventBefore a) (event_by e u (σ e))) (event_by d t (σ d))
@@ -160,11 +164,11 @@ module _ (σ : Border → Signal) where
   event_first d (Some t) s e None u h = (tt, tt)
   event_first d (Some t) s e (Some v) u h = ((both_timed d.time e.time t v (cell_cmp d.cell e.cell) s u h, tt), tt)
 
-  held_by_time : (d : Border) (t : Option ℕ) → d.time ≡ t →
-      Each (λ a. (e : Border) → Before d e → Each (HeldBefore a) (held_by e e.time (σ e))) (held_by d t (σ d))
+  all_times_by_time : (d : Border) (t : Option ℕ) → d.time ≡ t →
+      Each (λ a. (e : Border) → Before d e → Each (HeldBefore a) (all_times_by e e.time (σ e))) (all_times_by d t (σ d))
   unfolding Each
-  held_by_time d None s = ((λ e h. (held_first d None s e e.time refl h).0), tt)
-  held_by_time d (Some t) s = tt
+  all_times_by_time d None s = ((λ e h. (all_times_first d None s e e.time refl h).0), tt)
+  all_times_by_time d (Some t) s = tt
 
   event_by_time : (d : Border) (t : Option ℕ) → d.time ≡ t →
       Each (λ a. (e : Border) → Before d e → Each (EventBefore a) (event_by e e.time (σ e))) (event_by d t (σ d))
@@ -172,29 +176,32 @@ module _ (σ : Border → Signal) where
   event_by_time d None s = tt
   event_by_time d (Some t) s = ((λ e h. (event_first d (Some t) s e e.time refl h).0), tt)
 
-  held_alone : (d : Border) (t : Option ℕ) → Pairs HeldBefore (held_by d t (σ d))
+  all_times_alone : (d : Border) (t : Option ℕ) → Pairs HeldBefore (all_times_by d t (σ d))
   unfolding Each Pairs
-  held_alone d None = (tt, tt)
-  held_alone d (Some t) = tt
+  all_times_alone d None = (tt, tt)
+  all_times_alone d (Some t) = tt
 
   event_alone : (d : Border) (t : Option ℕ) → Pairs EventBefore (event_by d t (σ d))
   unfolding Each Pairs
   event_alone d None = tt
   event_alone d (Some t) = (tt, tt)
 
-  held_pairs : (es : List Border) → Pairs Before es → Pairs HeldBefore (flat_map (λ e. held_by e e.time (σ e)) es)
-  held_pairs es p = pairs_flat Before HeldBefore (λ e. held_by e e.time (σ e)) (λ d. held_by_time d d.time refl)
-      (λ d. held_alone d d.time) es p
+  all_times_pairs : (es : List Border) → Pairs Before es →
+      Pairs HeldBefore (flat_map (λ e. all_times_by e e.time (σ e)) es)
+  all_times_pairs es p = pairs_flat Before HeldBefore (λ e. all_times_by e e.time (σ e))
+      (λ d. all_times_by_time d d.time refl)
+      (λ d. all_times_alone d d.time) es p
 
   event_pairs : (es : List Border) → Pairs Before es → Pairs EventBefore (flat_map (λ e. event_by e e.time (σ e)) es)
   event_pairs es p = pairs_flat Before EventBefore (λ e. event_by e e.time (σ e)) (λ d. event_by_time d d.time refl)
       (λ d. event_alone d d.time) es p
 
   -- also by other numbers of the wires
-  pub held_rises : (f : ℕ → ℕ) (es : List Border) → Pairs Before es → (hs : List Held) →
-      map (renumber_held f) hs ≡ flat_map (λ e. held_by e e.time (σ e)) es →
-      IsRising cell_cmp held_cell hs
-  held_rises f es p hs e = rising_of cell_cmp held_cell (renumber_held f) (λ a. refl) hs _ e (held_pairs es p)
+  pub all_times_rises : (f : ℕ → ℕ) (es : List Border) → Pairs Before es → (hs : List AllTimes) →
+      map (renumber_all_times f) hs ≡ flat_map (λ e. all_times_by e e.time (σ e)) es →
+      IsRising cell_cmp all_times_cell hs
+  all_times_rises f es p hs e =
+      rising_of cell_cmp all_times_cell (renumber_all_times f) (λ a. refl) hs _ e (all_times_pairs es p)
 
   pub events_rise : (f : ℕ → ℕ) (es : List Border) → Pairs Before es → (hs : List Event) →
       map (renumber_event f) hs ≡ flat_map (λ e. event_by e e.time (σ e)) es →

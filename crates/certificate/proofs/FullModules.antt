@@ -26,10 +26,11 @@ use Rattle.certificate_lines.specs.Orders.{AreInOrder, cell_of, line_cmp, may_pr
 use Rattle.certificate_lines.specs.Rules.{is_local, whole}
 use Rattle.certificate_lines.specs.Versions.{beside, in_order, is_early, is_halo, is_haloless, is_strange, lacks_wire}
 use Rattle.certificate_lines.specs.Versions.{line_order, meant, with_halos, without_halos}
-use Rattle.certificate_lines.specs.declared.entry.Border.{Border}
-use Rattle.certificate_lines.specs.declared.entry.Entry.{Entry}
-use Rattle.certificate_lines.specs.declared.entry.StopLine.{StopLine}
-use Rattle.certificate_lines.specs.declared.entry.Entry.TheVariants.{Module, Cut, Use, Keep, Edge, Halo, Stop}
+use Rattle.certificate_lines.specs.declared.certificate_line.Border.{Border}
+use Rattle.certificate_lines.specs.declared.certificate_line.CertificateLine.{CertificateLine}
+use Rattle.certificate_lines.specs.declared.certificate_line.StopLine.{StopLine}
+use Rattle.certificate_lines.specs.declared.certificate_line.CertificateLine.TheVariants.{Module, Cut, Use, Keep, Edge}
+use Rattle.certificate_lines.specs.declared.certificate_line.CertificateLine.TheVariants.{Halo, Stop}
 use Rattle.certificate.proofs.BorderOrder.{Before, edges_rise, pairs_of_order}
 use Rattle.certificate_lines.proofs.LineOrder.{AreDistinct, In, Rises, each_in, filter_in, in_each, in_filter, in_flat}
 use Rattle.certificate_lines.proofs.LineOrder.{in_ordered, ordered_rises, pairs_filter, pairs_each, rising_distinct}
@@ -80,7 +81,8 @@ mapped_at f xs k x e = slice_get-map f xs k ∙ ap (option_map f) e
 -- ---- the lines of a module with other halo lines
 
 -- what lines other than halo lines say is said without these
-pub without_same : {X : Type 0} (f : Entry → List X) → ((e : Border) → f (Halo e) ≡ []) → (lines : List Entry) →
+pub without_same : {X : Type 0} (f : CertificateLine → List X) → ((e : Border) → f (Halo e) ≡ []) →
+    (lines : List CertificateLine) →
     flat_map f (without_halos lines) ≡ flat_map f lines
 unfolding without_halos is_halo
 without_same f none [] = refl
@@ -92,7 +94,7 @@ without_same f none (Edge e ∷ lines) = ap (λ xs. f (Edge e) ++ xs) (without_s
 without_same f none (Halo e ∷ lines) = without_same f none lines ∙ ap (λ xs. xs ++ flat_map f lines) (sym (none e))
 without_same f none (Stop s ∷ lines) = ap (λ xs. f (Stop s) ++ xs) (without_same f none lines)
 
-pub no_halo_left : (lines : List Entry) → flat_map halo_in (without_halos lines) ≡ []
+pub no_halo_left : (lines : List CertificateLine) → flat_map halo_in (without_halos lines) ≡ []
 unfolding without_halos is_halo
 no_halo_left [] = refl
 no_halo_left (Module b ∷ lines) = no_halo_left lines
@@ -104,12 +106,12 @@ no_halo_left (Halo e ∷ lines) = no_halo_left lines
 no_halo_left (Stop s ∷ lines) = no_halo_left lines
 
 -- a function of lines that finds nothing in halo lines and stops
-pub record IsOfEarly {X : Type 0} (f : Entry → List X) : Type 0 where
+pub record IsOfEarly {X : Type 0} (f : CertificateLine → List X) : Type 0 where
   pub halo : (e : Border) → f (Halo e) ≡ []
   pub stop : (s : StopLine) → f (Stop s) ≡ []
 
 -- finds all that it finds in the early lines
-early_same : {X : Type 0} (f : Entry → List X) → IsOfEarly f → (lines : List Entry) →
+early_same : {X : Type 0} (f : CertificateLine → List X) → IsOfEarly f → (lines : List CertificateLine) →
     flat_map f (filter is_early lines) ≡ flat_map f lines
 unfolding is_early
 early_same f none [] = refl
@@ -122,7 +124,7 @@ early_same f none (Halo e ∷ lines) = early_same f none lines ∙ ap (λ xs. xs
 early_same f none (Stop s ∷ lines) = early_same f none lines ∙ ap (λ xs. xs ++ flat_map f lines) (sym (none.stop s))
 
 -- the early lines have neither halo lines nor stops
-early_halos : (lines : List Entry) → flat_map halo_in (filter is_early lines) ≡ []
+early_halos : (lines : List CertificateLine) → flat_map halo_in (filter is_early lines) ≡ []
 unfolding is_early
 early_halos [] = refl
 early_halos (Module b ∷ lines) = early_halos lines
@@ -133,7 +135,7 @@ early_halos (Edge e ∷ lines) = early_halos lines
 early_halos (Halo e ∷ lines) = early_halos lines
 early_halos (Stop s ∷ lines) = early_halos lines
 
-early_stops : (lines : List Entry) → flat_map stop_in (filter is_early lines) ≡ []
+early_stops : (lines : List CertificateLine) → flat_map stop_in (filter is_early lines) ≡ []
 unfolding is_early
 early_stops [] = refl
 early_stops (Module b ∷ lines) = early_stops lines
@@ -159,10 +161,10 @@ append_none [] = refl
 append_none (x ∷ xs) = ap (λ l. x ∷ l) (append_none xs)
 
 -- the lines of a module with these halo lines
-abbrev pub full_lines : List Entry → List Border → List Entry
+abbrev pub full_lines : List CertificateLine → List Border → List CertificateLine
 full_lines lines hs = filter is_early lines ++ map Halo hs ++ map Stop (flat_map stop_in lines)
 
-full_parts : {X : Type 0} (f : Entry → List X) (lines : List Entry) (hs : List Border) →
+full_parts : {X : Type 0} (f : CertificateLine → List X) (lines : List CertificateLine) (hs : List Border) →
     flat_map f (full_lines lines hs)
     ≡ flat_map f (filter is_early lines) ++ flat_map f (map Halo hs) ++ flat_map f (map Stop (flat_map stop_in lines))
 full_parts f lines hs =
@@ -170,7 +172,8 @@ full_parts f lines hs =
     ∙ ap (λ l. l ++ flat_map f (map Stop (flat_map stop_in lines)))
     (flat_map-append f (filter is_early lines) (map Halo hs))
 
-pub other_lines : {X : Type 0} (f : Entry → List X) → IsOfEarly f → (lines : List Entry) (hs : List Border) →
+pub other_lines : {X : Type 0} (f : CertificateLine → List X) → IsOfEarly f →
+    (lines : List CertificateLine) (hs : List Border) →
     flat_map f (full_lines lines hs) ≡ flat_map f lines
 other_lines f none lines hs =
     full_parts f lines hs
@@ -179,14 +182,14 @@ other_lines f none lines hs =
     ∙ append_none (flat_map f (filter is_early lines) ++ []) ∙ append_none (flat_map f (filter is_early lines))
     ∙ early_same f none lines
 
-pub halo_lines : (lines : List Entry) (hs : List Border) → flat_map halo_in (full_lines lines hs) ≡ hs
+pub halo_lines : (lines : List CertificateLine) (hs : List Border) → flat_map halo_in (full_lines lines hs) ≡ hs
 halo_lines lines hs =
     full_parts halo_in lines hs
     ∙ ap₂ (λ xs ys. xs ++ flat_map halo_in (map Halo hs) ++ ys) (early_halos lines)
     (nothing_in halo_in Stop (λ s. refl) (flat_map stop_in lines))
     ∙ append_none (flat_map halo_in (map Halo hs)) ∙ one_each halo_in Halo (λ e. refl) hs
 
-pub stop_lines : (lines : List Entry) (hs : List Border) →
+pub stop_lines : (lines : List CertificateLine) (hs : List Border) →
     flat_map stop_in (full_lines lines hs) ≡ flat_map stop_in lines
 stop_lines lines hs =
     full_parts stop_in lines hs
@@ -196,12 +199,13 @@ stop_lines lines hs =
 
 -- ---- their order
 
-all_of_tests : (test : Entry → Bool) (lines : List Entry) → Each (λ j. test j ≡ true) lines → list_all test lines ≡ true
+all_of_tests : (test : CertificateLine → Bool) (lines : List CertificateLine) → Each (λ j. test j ≡ true) lines →
+    list_all test lines ≡ true
 unfolding Each
 all_of_tests test [] e = refl
 all_of_tests test (j ∷ lines) e = rw (e.0, all_of_tests test lines e.1) refl
 
-order_of_pairs : (lines : List Entry) → Pairs (λ i j. may_precede i j ≡ true) lines → AreInOrder lines
+order_of_pairs : (lines : List CertificateLine) → Pairs (λ i j. may_precede i j ≡ true) lines → AreInOrder lines
 unfolding AreInOrder Pairs
 order_of_pairs [] p = tt
 order_of_pairs (i ∷ lines) p = (all_of_tests (may_precede i) lines p.0, order_of_pairs lines p.1)
@@ -215,7 +219,7 @@ halos_follow : (d e : Border) → line_order d e ≡ Less → may_precede (Halo 
 unfolding may_precede line_cmp rank_of number_of cell_of line_order
 halos_follow d e h = less_is _ _ h
 
-before_halo : (i : Entry) (e : Border) → is_early i ≡ true → may_precede i (Halo e) ≡ true
+before_halo : (i : CertificateLine) (e : Border) → is_early i ≡ true → may_precede i (Halo e) ≡ true
 unfolding may_precede line_cmp rank_of is_early
 before_halo (Module b) e h = refl
 before_halo (Cut n) e h = refl
@@ -225,7 +229,7 @@ before_halo (Edge d) e h = refl
 before_halo (Halo d) e h = absurd cc
 before_halo (Stop s) e h = absurd cc
 
-before_stop : (i : Entry) (s : StopLine) → is_early i ≡ true → may_precede i (Stop s) ≡ true
+before_stop : (i : CertificateLine) (s : StopLine) → is_early i ≡ true → may_precede i (Stop s) ≡ true
 unfolding may_precede line_cmp rank_of is_early
 before_stop (Module b) s h = refl
 before_stop (Cut n) s h = refl
@@ -239,7 +243,8 @@ halo_before_stop : (e : Border) (s : StopLine) → may_precede (Halo e) (Stop s)
 unfolding may_precede line_cmp rank_of
 halo_before_stop e s = refl
 
-each_mapped : {X : Type 0} (P : Entry → Type 0) (to : X → Entry) (xs : List X) → ((x : X) → In x xs → P (to x)) →
+each_mapped : {X : Type 0} (P : CertificateLine → Type 0) (to : X → CertificateLine) (xs : List X) →
+    ((x : X) → In x xs → P (to x)) →
     Each P (map to xs)
 unfolding Each In
 each_mapped P to [] h = tt
@@ -255,7 +260,7 @@ halo_pairs (d ∷ hs) p = (
 )
 
 -- the stops among lines
-unfoldable is_stop : Entry → Bool
+unfoldable is_stop : CertificateLine → Bool
 is_stop (Module b) = false
 is_stop (Cut n) = false
 is_stop (Use k) = false
@@ -264,7 +269,7 @@ is_stop (Edge e) = false
 is_stop (Halo e) = false
 is_stop (Stop s) = true
 
-stops_among : (lines : List Entry) → filter is_stop lines ≡ map Stop (flat_map stop_in lines)
+stops_among : (lines : List CertificateLine) → filter is_stop lines ≡ map Stop (flat_map stop_in lines)
 unfolding is_stop
 stops_among [] = refl
 stops_among (Module b ∷ lines) = stops_among lines
@@ -275,14 +280,14 @@ stops_among (Edge e ∷ lines) = stops_among lines
 stops_among (Halo e ∷ lines) = stops_among lines
 stops_among (Stop s ∷ lines) = ap (λ l. Stop s ∷ l) (stops_among lines)
 
-pub full_order : (lines : List Entry) (hs : List Border) → AreInOrder lines → Rises hs →
+pub full_order : (lines : List CertificateLine) (hs : List Border) → AreInOrder lines → Rises hs →
     AreInOrder (full_lines lines hs)
 full_order lines hs o p =
-    let may = λ (i j : Entry). may_precede i j ≡ true in
+    let may = λ (i j : CertificateLine). may_precede i j ≡ true in
     let early = filter is_early lines in
     let ss = flat_map stop_in lines in
     let pairs = pairs_of_order lines o in
-    let is_early_one = λ (i : Entry) (at : In i early). (in_filter is_early i lines at).1 in
+    let is_early_one = λ (i : CertificateLine) (at : In i early). (in_filter is_early i lines at).1 in
     order_of_pairs (full_lines lines hs)
     (pairs_append may (early ++ map Halo hs) (map Stop ss)
     (pairs_append may early (map Halo hs)
@@ -317,7 +322,7 @@ same_place d e h = cell_exact d.cell e.cell
     (equal_parts (nat_cmp (time_rank d.time) (time_rank e.time)) (cell_cmp d.cell e.cell) h)
 
 -- the edge lines of a module, as its lines are in order
-pub edges_rising : (lines : List Entry) → AreInOrder lines → Rises (flat_map edge_in lines)
+pub edges_rising : (lines : List CertificateLine) → AreInOrder lines → Rises (flat_map edge_in lines)
 unfolding line_order
 edges_rising lines o = pairs_each Before (λ d e. line_order d e ≡ Less) (λ d e h. h) (flat_map edge_in lines)
     (edges_rise lines o)

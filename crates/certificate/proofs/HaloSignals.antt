@@ -10,18 +10,18 @@ use Rattle.bbm_rule.specs.Plane.{is_at}
 use Rattle.bbm_rule.specs.declared.block.Cell.{Cell}
 use Rattle.circuit.specs.Meaning.{Circuit}
 use Rattle.module_box.specs.Boxes.{in_box, in_halo}
-use Rattle.module_box.specs.Schedules.{event_at, held_at, is_then, signal_at}
+use Rattle.module_box.specs.Schedules.{event_at, all_times_at, is_then, signal_at}
 use Rattle.module_box.specs.declared.boxes.Box2.{Box2}
 use Rattle.module_box.specs.declared.schedules.Event.{Event}
-use Rattle.module_box.specs.declared.schedules.Held.{Held}
+use Rattle.module_box.specs.declared.schedules.AllTimes.{AllTimes}
 use Rattle.module_box.specs.declared.schedules.Signal.{Signal}
 use Rattle.module_box.specs.declared.schedules.Signal.TheVariants.{Zero}
 use Rattle.certificate_lines.specs.Entries.{Setting, ModuleLines, edges, halos}
-use Rattle.certificate.specs.Jobs.{event_by, held_by, line_signal, line_signals}
+use Rattle.certificate.specs.Jobs.{event_by, all_times_by, line_signal, line_signals}
 use Rattle.certificate.specs.Laws.{HaloIsEdgeBeside}
 use Rattle.certificate_lines.specs.Modules.{AreModules}
 use Rattle.certificate_lines.specs.Versions.{beside, in_order, line_order, with_halos}
-use Rattle.certificate_lines.specs.declared.entry.Border.{Border}
+use Rattle.certificate_lines.specs.declared.certificate_line.Border.{Border}
 use Rattle.certificate.proofs.FullModules.{beside_in, edge_cell, edges_rising, full_halos, full_rises, in_beside}
 use Rattle.certificate.proofs.FullModules.{mapped_at, stands}
 use Rattle.certificate_lines.proofs.InList.{placed}
@@ -39,11 +39,12 @@ both_false : (b : Bool) → (b && false) ≡ false
 both_false true = refl
 both_false false = refl
 
-pub held_past : (e : Border) (time : Option ℕ) (s : Signal) (rest : List Held) (x y : ℤ) → is_at e.cell x y ≡ false →
-    held_at (held_by e time s ++ rest) x y ≡ held_at rest x y
-unfolding held_at
-held_past e None s rest x y h = cond-false _ _ _ h
-held_past e (Some t) s rest x y h = refl
+pub all_times_past : (e : Border) (time : Option ℕ) (s : Signal) (rest : List AllTimes) (x y : ℤ) →
+    is_at e.cell x y ≡ false →
+    all_times_at (all_times_by e time s ++ rest) x y ≡ all_times_at rest x y
+unfolding all_times_at
+all_times_past e None s rest x y h = cond-false _ _ _ h
+all_times_past e (Some t) s rest x y h = refl
 
 pub event_past : (e : Border) (time : Option ℕ) (s : Signal) (rest : List Event) (t : ℕ) (x y : ℤ) →
     is_at e.cell x y ≡ false → event_at (event_by e time s ++ rest) t x y ≡ event_at rest t x y
@@ -51,12 +52,12 @@ unfolding event_at
 event_past e None s rest t x y h = refl
 event_past e (Some u) s rest t x y h = cond-false _ _ _ (ap (λ b. (u == t) && b) h ∙ both_false (u == t))
 
-held_on : (e : Border) (time : Option ℕ) (s : Signal) (rest other : List Held) (x y : ℤ) →
-    held_at rest x y ≡ held_at other x y →
-    held_at (held_by e time s ++ rest) x y ≡ held_at (held_by e time s ++ other) x y
-unfolding held_at
-held_on e None s rest other x y h = ap (λ o. if is_at e.cell x y then Some s else o) h
-held_on e (Some t) s rest other x y h = h
+all_times_on : (e : Border) (time : Option ℕ) (s : Signal) (rest other : List AllTimes) (x y : ℤ) →
+    all_times_at rest x y ≡ all_times_at other x y →
+    all_times_at (all_times_by e time s ++ rest) x y ≡ all_times_at (all_times_by e time s ++ other) x y
+unfolding all_times_at
+all_times_on e None s rest other x y h = ap (λ o. if is_at e.cell x y then Some s else o) h
+all_times_on e (Some t) s rest other x y h = h
 
 event_on : (e : Border) (time : Option ℕ) (s : Signal) (rest other : List Event) (t : ℕ) (x y : ℤ) →
     event_at rest t x y ≡ event_at other t x y →
@@ -67,22 +68,24 @@ event_on e (Some u) s rest other t x y h =
     ap (λ o. if is_then (record { time = u; cell = e.cell }) t x y then Some s else o) h
 
 module _ (c : Circuit) (x y : ℤ) where
-  abbrev held_of : List Border → List Held
-  held_of es = flat_map (λ e. held_by e e.time (line_signal c e.signal)) es
+  abbrev all_times_of : List Border → List AllTimes
+  all_times_of es = flat_map (λ e. all_times_by e e.time (line_signal c e.signal)) es
 
   abbrev events_of : List Border → List Event
   events_of es = flat_map (λ e. event_by e e.time (line_signal c e.signal)) es
 
-  held_there : (es : List Border) → held_at (held_of es) x y ≡ held_at (held_of (at_cell x y es)) x y
+  all_times_there : (es : List Border) →
+      all_times_at (all_times_of es) x y ≡ all_times_at (all_times_of (at_cell x y es)) x y
   unfolding at_cell
-  held_there [] = refl
-  held_there (e ∷ es) = elim (cases_Bool (is_at e.cell x y)) [
+  all_times_there [] = refl
+  all_times_there (e ∷ es) = elim (cases_Bool (is_at e.cell x y)) [
     | inl here ↦
-        held_on e e.time (line_signal c e.signal) (held_of es) (held_of (at_cell x y es)) x y (held_there es)
-        ∙ ap (λ ds. held_at (held_of ds) x y) (sym (cond-true _ (e ∷ at_cell x y es) (at_cell x y es) here))
+        all_times_on e e.time (line_signal c e.signal) (all_times_of es) (all_times_of (at_cell x y es)) x y
+        (all_times_there es)
+        ∙ ap (λ ds. all_times_at (all_times_of ds) x y) (sym (cond-true _ (e ∷ at_cell x y es) (at_cell x y es) here))
     | inr other ↦
-        held_past e e.time (line_signal c e.signal) (held_of es) x y other ∙ held_there es
-        ∙ ap (λ ds. held_at (held_of ds) x y) (sym (cond-false _ (e ∷ at_cell x y es) (at_cell x y es) other))
+        all_times_past e e.time (line_signal c e.signal) (all_times_of es) x y other ∙ all_times_there es
+        ∙ ap (λ ds. all_times_at (all_times_of ds) x y) (sym (cond-false _ (e ∷ at_cell x y es) (at_cell x y es) other))
   ]
 
   events_there : (t : ℕ) (es : List Border) →
@@ -101,7 +104,7 @@ module _ (c : Circuit) (x y : ℤ) where
   signal_there : (t : ℕ) (es : List Border) →
       signal_at (line_signals c es) t x y ≡ signal_at (line_signals c (at_cell x y es)) t x y
   unfolding signal_at
-  signal_there t es = ap₂ (λ h e. unwrap_or h (unwrap_or e Zero)) (held_there es) (events_there t es)
+  signal_there t es = ap₂ (λ h e. unwrap_or h (unwrap_or e Zero)) (all_times_there es) (events_there t es)
 
   same_there : (t : ℕ) (es ds : List Border) → at_cell x y es ≡ at_cell x y ds →
       signal_at (line_signals c es) t x y ≡ signal_at (line_signals c ds) t x y

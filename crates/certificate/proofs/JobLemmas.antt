@@ -5,10 +5,10 @@ use Rattle.std.specs.List.{All}
 use Rattle.std.proofs.lemmas.Option.{slice_get-get_or, slice_get_within}
 use Rattle.circuit.specs.Bridge.{circuit_of, netlist_of}
 use Rattle.circuit.specs.Meaning.{Netlist}
-use Rattle.circuit.specs.declared.entry.Entry.{Entry as CircuitLine}
+use Rattle.circuit.specs.declared.circuit_line.CircuitLine.{CircuitLine}
 use Rattle.pattern.specs.Layout.{Pattern}
 use Rattle.pattern.specs.Lines.{size_fault}
-use Rattle.pattern.specs.declared.parts.Extent.{Extent}
+use Rattle.pattern.specs.declared.layout_line.LayoutHeader.{LayoutHeader}
 use Rattle.pattern.proofs.TakenLemmas.{is_sized}
 use Rattle.module_box.specs.Locals.{AreLocalLines, LocalNet, is_among, local_wires}
 use Rattle.certificate_lines.specs.Entries.{Setting, ModuleLines, cuts, cut_wires, gates, keeps, known, edges, halos}
@@ -25,11 +25,11 @@ small_gates n cw gs h few k d lt =
     omega (arith, within, few)
 
 -- a box inside a layout lies within 512 cells, and a layout has at most 65,536 steps
-pub within_512 : (g : Setting) (m : ModuleLines) (s : Extent) → s ≡ g.size → size_fault s ≡ None → IsModule g m →
+pub within_512 : (g : Setting) (m : ModuleLines) (s : LayoutHeader) → s ≡ g.size → size_fault s ≡ None → IsModule g m →
     (m.area.x + m.area.w ≤ 512) × (m.area.y + m.area.h ≤ 512) × (s.steps ≤ 65536)
 within_512 g m s is limits h =
     let sized = is_sized s limits in
-    let inside = subst (λ (t : Extent). (m.area.x + m.area.w ≤ t.w) × (m.area.y + m.area.h ≤ t.h)) (sym is)
+    let inside = subst (λ (t : LayoutHeader). (m.area.x + m.area.w ≤ t.w) × (m.area.y + m.area.h ≤ t.h)) (sym is)
     (h.inside.right, h.inside.bottom) in
     let wide = sized.width.1 in
     let high = sized.height.1 in

@@ -9,11 +9,11 @@ use Rattle.circuit.specs.Meaning.{Circuit}
 use Rattle.pattern.specs.Layout.{Pattern}
 use Rattle.module_box.specs.declared.boxes.Box2.{Box2}
 use Rattle.certificate_lines.specs.Entries.{ModuleLines, modules_of}
-use Rattle.module_job.specs.Jobs.{JobState}
+use Rattle.module_job.specs.Jobs.{JobView}
 use Rattle.certificate.specs.Jobs.{IsJobOf, AreJobsOf}
 use Rattle.certificate_lines.specs.ModuleParts.{inner, is_module}
-use Rattle.certificate_lines.specs.declared.entry.Entry.{Entry}
-use Rattle.certificate_lines.specs.declared.entry.Entry.TheVariants.{Module}
+use Rattle.certificate_lines.specs.declared.certificate_line.CertificateLine.{CertificateLine}
+use Rattle.certificate_lines.specs.declared.certificate_line.CertificateLine.TheVariants.{Module}
 use Rattle.certificate_lines.proofs.Lists.{some_is}
 use Rattle.certificate_lines.proofs.ModuleSplit.{split_module, split_other}
 
@@ -48,27 +48,28 @@ none_left n xs e =
 
 -- ---- the modules before a line have their jobs
 
-pub record HaveJobs (c : Circuit) (p : Pattern) (es : List Entry) (place : ℕ) (js : List JobState) : Type 0 where
+pub record HaveJobs (c : Circuit) (p : Pattern) (es : List CertificateLine) (place : ℕ)
+    (js : List JobView) : Type 0 where
   pub rest : drop (length js) (modules_of es) ≡ modules_of (drop place es)
   pub few : length js ≤ length (modules_of es)
-  pub each : (k : ℕ) (m : ModuleLines) (j : JobState) → slice_get (modules_of es) k ≡ Some m → slice_get js k ≡ Some j →
+  pub each : (k : ℕ) (m : ModuleLines) (j : JobView) → slice_get (modules_of es) k ≡ Some m → slice_get js k ≡ Some j →
       IsJobOf c p m j
 
 length_one_more : {X : Type 0} (xs : List X) (x : X) → length (xs ++ x ∷ []) ≡ suc (length xs)
 length_one_more [] x = refl
 length_one_more (y ∷ xs) x = ap suc (length_one_more xs x)
 
-module _ (c : Circuit) (p : Pattern) (es : List Entry) where
+module _ (c : Circuit) (p : Pattern) (es : List CertificateLine) where
   pub no_jobs : HaveJobs c p es 0 []
   no_jobs = record { rest = refl; few = omega arith; each = λ k m j a b. absurd cc }
 
-  pub here : (place : ℕ) (e : Entry) → place < length es → e ≡ get_or es place e →
+  pub here : (place : ℕ) (e : CertificateLine) → place < length es → e ≡ get_or es place e →
       drop place es ≡ e ∷ drop (place + 1) es
   here place e lt g =
       let n : place + 1 ≡ suc place = omega arith in
       drop-cons es place e lt ∙ ap (λ x. x ∷ drop (suc place) es) (sym g) ∙ ap (λ k. e ∷ drop k es) (sym n)
 
-  pub other_line : (place : ℕ) (e : Entry) (js : List JobState) → place < length es → e ≡ get_or es place e →
+  pub other_line : (place : ℕ) (e : CertificateLine) (js : List JobView) → place < length es → e ≡ get_or es place e →
       is_module e ≡ false →
       HaveJobs c p es place js → HaveJobs c p es (place + 1) js
   other_line place e js lt g o h = record {
@@ -78,7 +79,7 @@ module _ (c : Circuit) (p : Pattern) (es : List Entry) where
   }
 
   -- the module of a module line, and those behind it
-  pub next_module : (place : ℕ) (b : Box2) (js : List JobState) → place < length es →
+  pub next_module : (place : ℕ) (b : Box2) (js : List JobView) → place < length es →
       Module b ≡ get_or es place (Module b) → HaveJobs c p es place js →
       (slice_get (modules_of es) (length js) ≡ Some (record { area = b; lines = inner (drop (place + 1) es) }))
       × (drop (suc (length js)) (modules_of es) ≡ modules_of (drop (place + 1) es))
@@ -86,7 +87,7 @@ module _ (c : Circuit) (p : Pattern) (es : List Entry) where
       first_left (length js) (modules_of es) _ _
       (h.rest ∙ ap modules_of (here place (Module b) lt g) ∙ split_module b (drop (place + 1) es))
 
-  pub one_job_more : (place : ℕ) (b : Box2) (js : List JobState) (j : JobState) → place < length es →
+  pub one_job_more : (place : ℕ) (b : Box2) (js : List JobView) (j : JobView) → place < length es →
       Module b ≡ get_or es place (Module b) →
       IsJobOf c p (record { area = b; lines = inner (drop (place + 1) es) }) j → HaveJobs c p es place js →
       HaveJobs c p es (place + 1) (js ++ j ∷ [])
@@ -104,7 +105,7 @@ module _ (c : Circuit) (p : Pattern) (es : List Entry) where
         ];
       }
 
-  pub all_jobs : (place : ℕ) (js : List JobState) → length es ≤ place → HaveJobs c p es place js →
+  pub all_jobs : (place : ℕ) (js : List JobView) → length es ≤ place → HaveJobs c p es place js →
       AreJobsOf c p (modules_of es) js
   all_jobs place js le h =
       let none : drop (length js) (modules_of es) ≡ [] = h.rest ∙ ap modules_of (drop_all place es le) ∙ no_modules in

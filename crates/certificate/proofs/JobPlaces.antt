@@ -7,7 +7,7 @@ use Rattle.module_box.specs.Boxes.{in_box}
 use Rattle.module_box.specs.declared.boxes.Box2.{Box2}
 use Rattle.module_box.specs.Locals.{circuit_wire}
 use Rattle.module_box.specs.declared.schedules.Signal.TheVariants.{Zero}
-use Rattle.module_job.specs.Jobs.{JobState, job_start, job_demand}
+use Rattle.module_job.specs.Jobs.{JobView, job_start, job_demand}
 use Rattle.module_box.specs.Places.{place_in}
 use Rattle.certificate.specs.Jobs.{start_signal, end_demand}
 use Rattle.module_job.specs.Signals.{renumber_signal, renumber_demand}
@@ -17,7 +17,7 @@ if_true : {A : Type 0} (b : Bool) (u v : A) → b ≡ true → (if b then u else
 if_true true u v h = refl
 if_true false u v h = absurd cc
 
-pub start_found : (c : Circuit) (p : Pattern) (b : Box2) (j : JobState) → j.area ≡ b
+pub start_found : (c : Circuit) (p : Pattern) (b : Box2) (j : JobView) → j.area ≡ b
     → ((x y : ℤ) → IsTrue (in_box b x y) →
     renumber_signal (circuit_wire j.locals) (unwrap_or (slice_get j.starts (place_in b x y)) Zero)
     ≡ start_signal c p x y)
@@ -30,7 +30,7 @@ start_found c p b j is each x y h =
     (if_true (in_box j.area x y) _ Zero inside
     ∙ ap (λ (a : Box2). unwrap_or (slice_get j.starts (place_in a x y)) Zero) is) ∙ each x y h
 
-pub demand_found : (c : Circuit) (p : Pattern) (b : Box2) (j : JobState) → j.area ≡ b
+pub demand_found : (c : Circuit) (p : Pattern) (b : Box2) (j : JobView) → j.area ≡ b
     → ((x y : ℤ) → IsTrue (in_box b x y) →
     renumber_demand (circuit_wire j.locals) (unwrap_or (slice_get j.demands (place_in b x y)) Demanded.Dead)
     ≡ end_demand c p x y)

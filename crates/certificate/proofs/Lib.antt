@@ -1,6 +1,6 @@
 pub mod JobLemmas
 pub mod KeepLemmas
-pub mod PlanLemmas
+pub mod LayoutTableLemmas
 pub mod JobLists
 pub mod TimetableLemmas
 pub mod StopLemmas

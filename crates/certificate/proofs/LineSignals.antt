@@ -10,20 +10,20 @@ use Rattle.bbm_rule.specs.Plane.{is_at}
 use Rattle.bbm_rule.specs.declared.block.Cell.{Cell}
 use Rattle.circuit.specs.Meaning.{Circuit}
 use Rattle.module_box.specs.Moments.{cell_cmp}
-use Rattle.module_box.specs.Schedules.{event_at, held_at, is_then, signal_at}
+use Rattle.module_box.specs.Schedules.{event_at, all_times_at, is_then, signal_at}
 use Rattle.module_box.specs.declared.schedules.Event.{Event}
-use Rattle.module_box.specs.declared.schedules.Held.{Held}
+use Rattle.module_box.specs.declared.schedules.AllTimes.{AllTimes}
 use Rattle.module_box.specs.declared.schedules.Signal.{Signal}
 use Rattle.module_box.specs.declared.schedules.Signal.TheVariants.{Zero}
 use Rattle.module_box.proofs.Rising.{cell_total}
 use Rattle.std.proofs.lemmas.Cmp.{tied_itself, nat_cmp_total}
-use Rattle.certificate.specs.Jobs.{event_by, held_by, line_signal, line_signals}
+use Rattle.certificate.specs.Jobs.{event_by, all_times_by, line_signal, line_signals}
 use Rattle.certificate_lines.specs.Modules.{AreUnstarred}
 use Rattle.certificate_lines.specs.Orders.{time_rank}
 use Rattle.certificate_lines.specs.Rules.{is_star, is_starred, same_cell}
 use Rattle.certificate_lines.specs.Versions.{line_order}
-use Rattle.certificate_lines.specs.declared.entry.Border.{Border}
-use Rattle.certificate.proofs.HaloSignals.{event_past, held_past}
+use Rattle.certificate_lines.specs.declared.certificate_line.Border.{Border}
+use Rattle.certificate.proofs.HaloSignals.{event_past, all_times_past}
 use Rattle.certificate_lines.proofs.LineOrder.{In, Rises, each_in, line_total, not_itself}
 use Rattle.certificate_lines.proofs.Pairs.{Each, Pairs}
 use Rattle.bbm_rule.proofs.SameCells.{cell_itself, cell_same}
@@ -58,45 +58,47 @@ timed_first d e t dt et less =
     (ap₂ (λ a b. ordering_then (nat_cmp (time_rank a) (time_rank b)) (cell_cmp d.cell e.cell)) (sym dt) (sym et) ∙ less)
 
 module _ (c : Circuit) where
-  abbrev held_of : List Border → List Held
-  held_of es = flat_map (λ e. held_by e e.time (line_signal c e.signal)) es
+  abbrev all_times_of : List Border → List AllTimes
+  all_times_of es = flat_map (λ e. all_times_by e e.time (line_signal c e.signal)) es
 
   abbrev events_of : List Border → List Event
   events_of es = flat_map (λ e. event_by e e.time (line_signal c e.signal)) es
 
   -- ---- a line with a `*`
 
-  held_first : (e : Border) (time : Option ℕ) (s : Signal) (rest : List Held) → time ≡ None →
-      held_at (held_by e time s ++ rest) e.cell.x e.cell.y ≡ Some s
-  unfolding held_at
-  held_first e None s rest none = cond-true _ _ _ (cell_itself e.cell)
-  held_first e (Some t) s rest none = absurd cc
+  all_times_first : (e : Border) (time : Option ℕ) (s : Signal) (rest : List AllTimes) → time ≡ None →
+      all_times_at (all_times_by e time s ++ rest) e.cell.x e.cell.y ≡ Some s
+  unfolding all_times_at
+  all_times_first e None s rest none = cond-true _ _ _ (cell_itself e.cell)
+  all_times_first e (Some t) s rest none = absurd cc
 
-  held_skips : (d e : Border) (time : Option ℕ) → d.time ≡ time → e.time ≡ None → line_order d e ≡ Less →
-      (s : Signal) (rest : List Held) →
-      held_at (held_by d time s ++ rest) e.cell.x e.cell.y ≡ held_at rest e.cell.x e.cell.y
-  held_skips d e None dt et less s rest = held_past d None s rest e.cell.x e.cell.y (other_cell d e (dt ∙ sym et) less)
-  held_skips d e (Some t) dt et less s rest = refl
+  all_times_skips : (d e : Border) (time : Option ℕ) → d.time ≡ time → e.time ≡ None → line_order d e ≡ Less →
+      (s : Signal) (rest : List AllTimes) →
+      all_times_at (all_times_by d time s ++ rest) e.cell.x e.cell.y ≡ all_times_at rest e.cell.x e.cell.y
+  all_times_skips d e None dt et less s rest =
+      all_times_past d None s rest e.cell.x e.cell.y (other_cell d e (dt ∙ sym et) less)
+  all_times_skips d e (Some t) dt et less s rest = refl
 
-  held_there : (e : Border) (es : List Border) → Rises es → In e es → e.time ≡ None →
-      held_at (held_of es) e.cell.x e.cell.y ≡ Some (line_signal c e.signal)
+  all_times_there : (e : Border) (es : List Border) → Rises es → In e es → e.time ≡ None →
+      all_times_at (all_times_of es) e.cell.x e.cell.y ≡ Some (line_signal c e.signal)
   unfolding Pairs In
-  held_there e [] r i none = absurd i
-  held_there e (d ∷ es) r (inl same) none =
-      subst (λ x. held_at (held_by x x.time (line_signal c x.signal) ++ held_of es) e.cell.x e.cell.y
+  all_times_there e [] r i none = absurd i
+  all_times_there e (d ∷ es) r (inl same) none =
+      subst (λ x. all_times_at (all_times_by x x.time (line_signal c x.signal) ++ all_times_of es) e.cell.x e.cell.y
       ≡ Some (line_signal c e.signal)) (sym same)
-      (held_first e e.time (line_signal c e.signal) (held_of es) none)
-  held_there e (d ∷ es) r (inr later) none =
-      held_skips d e d.time refl none (each_in (λ x. line_order d x ≡ Less) es r.0 e later) (line_signal c d.signal)
-      (held_of es) ∙ held_there e es r.1 later none
+      (all_times_first e e.time (line_signal c e.signal) (all_times_of es) none)
+  all_times_there e (d ∷ es) r (inr later) none =
+      all_times_skips d e d.time refl none (each_in (λ x. line_order d x ≡ Less) es r.0 e later)
+      (line_signal c d.signal)
+      (all_times_of es) ∙ all_times_there e es r.1 later none
 
   -- ---- a line with a time
 
   not_starred : (e d : Border) (time : Option ℕ) → d.time ≡ time → is_starred e.cell d ≡ false →
-      (s : Signal) (rest : List Held) →
-      held_at (held_by d time s ++ rest) e.cell.x e.cell.y ≡ held_at rest e.cell.x e.cell.y
+      (s : Signal) (rest : List AllTimes) →
+      all_times_at (all_times_by d time s ++ rest) e.cell.x e.cell.y ≡ all_times_at rest e.cell.x e.cell.y
   not_starred e d None dt other s rest =
-      held_past d None s rest e.cell.x e.cell.y
+      all_times_past d None s rest e.cell.x e.cell.y
       (sym (turned_cell d.cell e.cell) ∙ ap (λ t. is_star t && same_cell e.cell d.cell) (sym dt) ∙ other)
     where
       turned_cell : (a b : Cell) → same_cell b a ≡ is_at a b.x b.y
@@ -135,26 +137,26 @@ module _ (c : Circuit) where
   timed_itself e t et = ap (λ x. is_star x && same_cell e.cell e.cell) et
 
   none_after : (e : Border) (t : ℕ) (es : List Border) → e.time ≡ Some t → Each (λ d. line_order e d ≡ Less) es →
-      held_at (held_of es) e.cell.x e.cell.y ≡ None
-  unfolding Each held_at
+      all_times_at (all_times_of es) e.cell.x e.cell.y ≡ None
+  unfolding Each all_times_at
   none_after e t [] et a = refl
   none_after e t (d ∷ es) et a =
-      not_starred e d d.time refl (after_timed e d t et a.0) (line_signal c d.signal) (held_of es)
+      not_starred e d d.time refl (after_timed e d t et a.0) (line_signal c d.signal) (all_times_of es)
       ∙ none_after e t es et a.1
 
-  none_held : (e : Border) (t : ℕ) (es : List Border) → e.time ≡ Some t → Rises es → AreUnstarred es → In e es →
-      held_at (held_of es) e.cell.x e.cell.y ≡ None
+  none_all_times : (e : Border) (t : ℕ) (es : List Border) → e.time ≡ Some t → Rises es → AreUnstarred es → In e es →
+      all_times_at (all_times_of es) e.cell.x e.cell.y ≡ None
   unfolding Pairs In AreUnstarred
-  none_held e t [] et r u i = absurd i
-  none_held e t (d ∷ es) et r u (inl same) =
+  none_all_times e t [] et r u i = absurd i
+  none_all_times e t (d ∷ es) et r u (inl same) =
       not_starred e d d.time refl (subst (λ x. is_starred e.cell x ≡ false) (sym same) (timed_itself e t et))
-      (line_signal c d.signal) (held_of es)
+      (line_signal c d.signal) (all_times_of es)
       ∙ none_after e t es et (subst (λ x. Each (λ f. line_order x f ≡ Less) es) same r.0)
-  none_held e t (d ∷ es) et r u (inr later) =
+  none_all_times e t (d ∷ es) et r u (inr later) =
       not_starred e d d.time refl (free_head (is_star e.time) (is_starred e.cell d) (star_of e.time t et)
       (all_test (λ e. is_star e.time || not (is_starred e.cell d)) es u.0 e later)) (line_signal c d.signal)
-      (held_of es)
-      ∙ none_held e t es et r.1 u.1 later
+      (all_times_of es)
+      ∙ none_all_times e t es et r.1 u.1 later
 
   event_first : (e : Border) (time : Option ℕ) (t : ℕ) (s : Signal) (rest : List Event) → time ≡ Some t →
       event_at (event_by e time s ++ rest) t e.cell.x e.cell.y ≡ Some s
@@ -199,10 +201,11 @@ module _ (c : Circuit) where
       signal_at (line_signals c es) t e.cell.x e.cell.y ≡ line_signal c e.signal
   unfolding signal_at
   said_by e None t es et says r u i =
-      ap (λ o. unwrap_or o (unwrap_or (event_at (events_of es) t e.cell.x e.cell.y) Zero)) (held_there e es r i et)
+      ap (λ o. unwrap_or o (unwrap_or (event_at (events_of es) t e.cell.x e.cell.y) Zero)) (all_times_there e es r i et)
   said_by e (Some v) t es et says r u i =
       let time : e.time ≡ Some t = et ∙ ap Some says in
-      ap (λ o. unwrap_or o (unwrap_or (event_at (events_of es) t e.cell.x e.cell.y) Zero)) (none_held e t es time r u i)
+      ap (λ o. unwrap_or o (unwrap_or (event_at (events_of es) t e.cell.x e.cell.y) Zero))
+      (none_all_times e t es time r u i)
       ∙ ap (λ (o : Option Signal). unwrap_or o Zero) (event_there e t es r i time)
 
   -- a line of lines in order says the signal of its cell

@@ -14,7 +14,8 @@ use Rattle.module_box.specs.Boxes.{in_box, in_halo}
 use Rattle.module_box.specs.Locals.{local_wires}
 use Rattle.module_box.specs.declared.boxes.Box2.{Box2}
 use Rattle.certificate_lines.specs.Entries.{Setting, ModuleLines, add_line, areas, change_last, cut_in, cut_wires, cuts}
-use Rattle.certificate_lines.specs.Entries.{edge_in, edges, gates, halo_in, halos, known, last_of, modules_of, present}
+use Rattle.certificate_lines.specs.Entries.{edge_in, edges, gates, halo_in, halos, known, last_of, modules_of}
+use Rattle.certificate_lines.specs.Entries.{last_module}
 use Rattle.certificate_lines.specs.Entries.{stop_in, stops, use_in, with_line}
 use Rattle.certificate.specs.Laws.{AreFaultlessLines, GoodWithoutHalos, IsSectionOf, SectionWithoutHalos}
 use Rattle.certificate.specs.Grammars.{certificate_grammar}
@@ -26,16 +27,17 @@ use Rattle.certificate_lines.specs.Rules.{is_incomplete, is_local, lacks_port, l
 use Rattle.certificate_lines.specs.Rules.{box_fault, is_misplaced, is_wrong_side, overlaps, words_fault}
 use Rattle.certificate_lines.specs.Versions.{AreGoodLines, beside, in_order, is_early, is_halo, is_haloless, is_strange}
 use Rattle.certificate_lines.specs.Versions.{lacks_wire, meant, stripped, with_halos, without_halos}
-use Rattle.certificate_lines.specs.declared.entry.Border.{Border}
-use Rattle.certificate_lines.specs.declared.entry.Entry.{Entry}
-use Rattle.certificate_lines.specs.declared.entry.Entry.TheVariants.{Module, Cut, Use, Keep, Edge, Halo, Stop}
+use Rattle.certificate_lines.specs.declared.certificate_line.Border.{Border}
+use Rattle.certificate_lines.specs.declared.certificate_line.CertificateLine.{CertificateLine}
+use Rattle.certificate_lines.specs.declared.certificate_line.CertificateLine.TheVariants.{Module, Cut, Use, Keep, Edge}
+use Rattle.certificate_lines.specs.declared.certificate_line.CertificateLine.TheVariants.{Halo, Stop}
 use Rattle.certificate.proofs.FullModules.{meant_new, no_halo_left, without_same}
 use Rattle.certificate_lines.proofs.Growing.{map_changed, unchanged}
 use Rattle.certificate_lines.proofs.ModulePushes.{both_none, no_code}
 use Rattle.certificate.proofs.Soundness.{faultless_modules}
 use Rattle.section_text.proofs.Good.{AreFaultless}
 
-pub without_append : (xs ys : List Entry) → without_halos (xs ++ ys) ≡ without_halos xs ++ without_halos ys
+pub without_append : (xs ys : List CertificateLine) → without_halos (xs ++ ys) ≡ without_halos xs ++ without_halos ys
 unfolding without_halos is_halo
 without_append [] ys = refl
 without_append (Module b ∷ xs) ys = ap (λ l. Module b ∷ l) (without_append xs ys)
@@ -48,7 +50,7 @@ without_append (Stop s ∷ xs) ys = ap (λ l. Stop s ∷ l) (without_append xs y
 
 -- ---- the modules of lines without halo lines
 
-alone : (i : Entry) → is_halo i ≡ false → without_halos (i ∷ []) ≡ i ∷ []
+alone : (i : CertificateLine) → is_halo i ≡ false → without_halos (i ∷ []) ≡ i ∷ []
 unfolding without_halos is_halo
 alone (Module b) o = refl
 alone (Cut n) o = refl
@@ -58,7 +60,8 @@ alone (Edge e) o = refl
 alone (Halo e) o = absurd cc
 alone (Stop s) o = refl
 
-kept_line : (i : Entry) → is_halo i ≡ false → (m : ModuleLines) → stripped (with_line i m) ≡ with_line i (stripped m)
+kept_line : (i : CertificateLine) → is_halo i ≡ false → (m : ModuleLines) →
+    stripped (with_line i m) ≡ with_line i (stripped m)
 unfolding stripped without_halos is_halo
 kept_line i other m = ap (λ l. record m { lines = l })
     (without_append m.lines (i ∷ []) ∙ ap (λ l. without_halos m.lines ++ l) (alone i other))
@@ -68,7 +71,7 @@ unfolding stripped without_halos is_halo
 dropped_line e m = ap (λ l. record m { lines = l })
     (without_append m.lines (Halo e ∷ []) ∙ append-nil (without_halos m.lines))
 
-inner_step : (i : Entry) → is_halo i ≡ false → (ms : List ModuleLines) →
+inner_step : (i : CertificateLine) → is_halo i ≡ false → (ms : List ModuleLines) →
     map stripped (change_last (with_line i) ms) ≡ change_last (with_line i) (map stripped ms)
 inner_step i other ms = map_changed stripped (with_line i) (with_line i) (kept_line i other) ms
 
@@ -80,7 +83,7 @@ module_step : (b : Box2) (ms : List ModuleLines) →
 unfolding stripped without_halos
 module_step b ms = map-append stripped ms (record { area = b; lines = [] } ∷ [])
 
-modules_on : (es : List Entry) (ms : List ModuleLines) →
+modules_on : (es : List CertificateLine) (ms : List ModuleLines) →
     fold add_line (map stripped ms) (without_halos es) ≡ map stripped (fold add_line ms es)
 unfolding without_halos is_halo add_line
 modules_on [] ms = refl
@@ -104,7 +107,7 @@ modules_on (Stop s ∷ es) ms =
     ap (λ l. fold add_line l (without_halos es)) (sym (inner_step (Stop s) refl ms))
     ∙ modules_on es (change_last (with_line (Stop s)) ms)
 
-pub modules_without : (es : List Entry) → modules_of (without_halos es) ≡ map stripped (modules_of es)
+pub modules_without : (es : List CertificateLine) → modules_of (without_halos es) ≡ map stripped (modules_of es)
 unfolding modules_of
 modules_without es = modules_on es []
 
@@ -164,7 +167,8 @@ incomplete_kept g (Some m) = lacks_kept g m
 
 -- ---- lines that may follow more may follow less
 
-follow_less : (lines : List Entry) (i : Entry) → may_follow lines i ≡ true → may_follow (without_halos lines) i ≡ true
+follow_less : (lines : List CertificateLine) (i : CertificateLine) → may_follow lines i ≡ true →
+    may_follow (without_halos lines) i ≡ true
 unfolding may_follow without_halos is_halo
 follow_less [] i h = refl
 follow_less (Module b ∷ lines) i h = let both =
@@ -210,7 +214,7 @@ border_less c n k local placed s le h =
     let parts = both_none _ _ h in
     none_both _ _ (coded _ 2 (smaller border_limit n k le (no_code _ 2 parts.0))) parts.1
 
-words_kept : (g : Setting) (m : ModuleLines) (i : Entry) → is_halo i ≡ false → words_fault g m i ≡ None →
+words_kept : (g : Setting) (m : ModuleLines) (i : CertificateLine) → is_halo i ≡ false → words_fault g m i ≡ None →
     words_fault g (stripped m) i ≡ None
 unfolding is_halo stripped
 words_kept g m (Module b) o h = refl
@@ -229,7 +233,7 @@ words_kept g m (Stop s) o h =
     (ap (λ ws. border_fault g.circuit (border_count m) ws (is_stop_place g.size m.area s) (Some s.wire))
     (known_kept g m) ∙ h)
 
-line_kept : (g : Setting) (m : ModuleLines) (i : Entry) → is_halo i ≡ false → line_fault g m i ≡ None →
+line_kept : (g : Setting) (m : ModuleLines) (i : CertificateLine) → is_halo i ≡ false → line_fault g m i ≡ None →
     line_fault g (stripped m) i ≡ None
 unfolding stripped
 line_kept g m i o h =
@@ -238,36 +242,37 @@ line_kept g m i o h =
     (ap (λ b. code_where (not b) 6) (follow_less m.lines i (true_of _ (no_code _ 6 parts.0))))
     (words_kept g m i o parts.1)
 
-inner_kept : (g : Setting) (p : Option ModuleLines) (i : Entry) → is_halo i ≡ false → inner_fault g p i ≡ None →
+inner_kept : (g : Setting) (p : Option ModuleLines) (i : CertificateLine) → is_halo i ≡ false →
+    inner_fault g p i ≡ None →
     inner_fault g (option_map stripped p) i ≡ None
 inner_kept g None i o h = absurd cc
 inner_kept g (Some m) i o h = line_kept g m i o h
 
-module _ (g : Setting) (before : List Entry) where
-  present_without : present (without_halos before) ≡ option_map stripped (present before)
+module _ (g : Setting) (before : List CertificateLine) where
+  present_without : last_module (without_halos before) ≡ option_map stripped (last_module before)
   present_without = ap last_of (modules_without before) ∙ last_stripped (modules_of before)
 
-  module_kept : (b : Box2) → module_fault g (modules_of before) (present before) b ≡ None →
-      module_fault g (modules_of (without_halos before)) (present (without_halos before)) b ≡ None
+  module_kept : (b : Box2) → module_fault g (modules_of before) (last_module before) b ≡ None →
+      module_fault g (modules_of (without_halos before)) (last_module (without_halos before)) b ≡ None
   unfolding module_fault box_fault
   module_kept b h =
       ap (λ a. or_else (or_else (code_where a 11)
       (or_else (code_where (is_wrong_side b.w || is_wrong_side b.h
       || nat_le 1024 (length (modules_of (without_halos before)))) 2) (code_where (is_misplaced g.size b) 8)))
       (code_where (overlaps (areas (modules_of (without_halos before))) b) 8))
-      (ap (is_incomplete g) present_without ∙ incomplete_kept g (present before))
-      ∙ ap₂ (λ n bs. or_else (or_else (code_where (is_incomplete g (present before)) 11)
+      (ap (is_incomplete g) present_without ∙ incomplete_kept g (last_module before))
+      ∙ ap₂ (λ n bs. or_else (or_else (code_where (is_incomplete g (last_module before)) 11)
       (or_else (code_where (is_wrong_side b.w || is_wrong_side b.h || nat_le 1024 n) 2)
       (code_where (is_misplaced g.size b) 8))) (code_where (overlaps bs b) 8))
       (ap length (modules_without before) ∙ length-map (modules_of before) stripped)
       (ap areas (modules_without before) ∙ areas_stripped (modules_of before))
       ∙ h
 
-  inner_line : (i : Entry) → is_halo i ≡ false → inner_fault g (present before) i ≡ None →
-      inner_fault g (present (without_halos before)) i ≡ None
-  inner_line i o h = ap (λ p. inner_fault g p i) present_without ∙ inner_kept g (present before) i o h
+  inner_line : (i : CertificateLine) → is_halo i ≡ false → inner_fault g (last_module before) i ≡ None →
+      inner_fault g (last_module (without_halos before)) i ≡ None
+  inner_line i o h = ap (λ p. inner_fault g p i) present_without ∙ inner_kept g (last_module before) i o h
 
-  entry_kept : (i : Entry) → is_halo i ≡ false → entry_fault g before i ≡ None →
+  entry_kept : (i : CertificateLine) → is_halo i ≡ false → entry_fault g before i ≡ None →
       entry_fault g (without_halos before) i ≡ None
   unfolding entry_fault is_halo
   entry_kept (Module b) o h = module_kept b h
@@ -282,12 +287,12 @@ module _ (g : Setting) (before : List Entry) where
   unfolding end_fault
   end_kept h =
       ap₂ (λ a bs. code_where (a || leaves_gap g.size bs) 11)
-      (ap (is_incomplete g) present_without ∙ incomplete_kept g (present before))
+      (ap (is_incomplete g) present_without ∙ incomplete_kept g (last_module before))
       (ap areas (modules_without before) ∙ areas_stripped (modules_of before)) ∙ h
 
 -- ---- all lines
 
-without_one : (before : List Entry) (i : Entry) → is_halo i ≡ false →
+without_one : (before : List CertificateLine) (i : CertificateLine) → is_halo i ≡ false →
     without_halos (before ++ i ∷ []) ≡ without_halos before ++ i ∷ []
 unfolding is_halo without_halos
 without_one before (Module b) o = without_append before (Module b ∷ [])
@@ -298,17 +303,19 @@ without_one before (Edge e) o = without_append before (Edge e ∷ [])
 without_one before (Halo e) o = absurd cc
 without_one before (Stop s) o = without_append before (Stop s ∷ [])
 
-without_last : (before : List Entry) (e : Border) → without_halos (before ++ Halo e ∷ []) ≡ without_halos before
+without_last : (before : List CertificateLine) (e : Border) →
+    without_halos (before ++ Halo e ∷ []) ≡ without_halos before
 unfolding is_halo without_halos
 without_last before e = without_append before (Halo e ∷ []) ∙ append-nil (without_halos before)
 
-good_more : (g : Setting) (i : Entry) (es before : List Entry) → is_halo i ≡ false → entry_fault g before i ≡ None →
+good_more : (g : Setting) (i : CertificateLine) (es before : List CertificateLine) → is_halo i ≡ false →
+    entry_fault g before i ≡ None →
     AreGoodLines g (without_halos (before ++ i ∷ [])) (without_halos es) →
     AreGoodLines g (without_halos before) (i ∷ without_halos es)
 good_more g i es before o good later =
     (entry_kept g before i o good, subst (λ bs. AreGoodLines g bs (without_halos es)) (without_one before i o) later)
 
-pub good_on : (g : Setting) (es before : List Entry) → AreGoodLines g before es →
+pub good_on : (g : Setting) (es before : List CertificateLine) → AreGoodLines g before es →
     AreGoodLines g (without_halos before) (without_halos es)
 unfolding without_halos is_halo
 good_on g [] before good = tt
@@ -348,7 +355,7 @@ beside_stripped g ms area = ap
     (λ es. if nat_lt 1 g.size.steps then filter (λ (e : Border). in_halo area e.cell.x e.cell.y) es else [])
     (edges_stripped g ms)
 
-early_without : (lines : List Entry) → filter is_early (without_halos lines) ≡ filter is_early lines
+early_without : (lines : List CertificateLine) → filter is_early (without_halos lines) ≡ filter is_early lines
 unfolding without_halos is_halo is_early
 early_without [] = refl
 early_without (Module b ∷ lines) = ap (λ l. Module b ∷ l) (early_without lines)
@@ -363,7 +370,7 @@ full_same : (g : Setting) (ms : List ModuleLines) (m : ModuleLines) →
     with_halos g (map stripped ms) (stripped m) ≡ with_halos g ms m
 unfolding with_halos stripped
 full_same g ms m =
-    ap₂ (λ (lines : List Entry) (hs : List Border).
+    ap₂ (λ (lines : List CertificateLine) (hs : List Border).
     record m { lines = lines ++ map Halo (in_order hs) ++ map Stop (stops (stripped m)) }) (early_without m.lines)
     (beside_stripped g ms m.area)
     ∙ ap (λ ss. record m { lines = filter is_early m.lines ++ map Halo (in_order (beside g ms m.area)) ++ map Stop ss })
@@ -374,7 +381,7 @@ fulls_same : (g : Setting) (ms ns : List ModuleLines) →
 fulls_same g ms [] = refl
 fulls_same g ms (n ∷ ns) = ap₂ (λ x xs. x ∷ xs) (full_same g ms n) (fulls_same g ms ns)
 
-pub migrated_modules : (g : Setting) (es : List Entry) →
+pub migrated_modules : (g : Setting) (es : List CertificateLine) →
     meant 2 g (modules_of (without_halos es)) ≡ map (with_halos g (modules_of es)) (modules_of es)
 migrated_modules g es = meant_new 2 g (modules_of (without_halos es)) refl
     ∙ ap (λ ms. map (with_halos g ms) ms) (modules_without es) ∙ fulls_same g (modules_of es) (modules_of es)
@@ -394,21 +401,21 @@ lacks_all : (g : Setting) (ms ns : List ModuleLines) →
 lacks_all g ms [] = refl
 lacks_all g ms (n ∷ ns) = ap₂ (λ a b. a || b) (lacks_one g ms n) (lacks_all g ms ns)
 
-pub migrated_lacks : (g : Setting) (es : List Entry) →
+pub migrated_lacks : (g : Setting) (es : List CertificateLine) →
     lacks_wire g (modules_of (without_halos es)) ≡ lacks_wire g (modules_of es)
 unfolding lacks_wire
 migrated_lacks g es = ap (lacks_wire g) (modules_without es) ∙ lacks_all g (modules_of es) (modules_of es)
 
 -- ---- sections of either version
 
-good_of : (g : Setting) (es before : List Entry) → AreFaultlessLines g 1 before es → AreGoodLines g before es
+good_of : (g : Setting) (es before : List CertificateLine) → AreFaultlessLines g 1 before es → AreGoodLines g before es
 good_of g [] before h = tt
 good_of g (i ∷ es) before h = (
   (both_none (code_where (is_haloless 1 && is_halo i) 1) (entry_fault g before i) h.0).1,
   good_of g es (before ++ i ∷ []) h.1,
 )
 
-faultless_two : (g : Setting) (es before : List Entry) → AreGoodLines g before (without_halos es) →
+faultless_two : (g : Setting) (es before : List CertificateLine) → AreGoodLines g before (without_halos es) →
     AreFaultlessLines g 2 before (without_halos es)
 unfolding without_halos is_halo
 faultless_two g [] before h = tt
@@ -434,11 +441,12 @@ section_without_halos g es is knows =
           (coded _ 11 (migrated_lacks g es ∙ knows));
     }
 
-faultless_lines : (g : Setting) (v : ℕ) (es before : List Entry) → AreFaultlessLines g v before es →
+faultless_lines : (g : Setting) (v : ℕ) (es before : List CertificateLine) → AreFaultlessLines g v before es →
     AreFaultless (certificate_grammar g) v before es
 faultless_lines g v [] before h = tt
 faultless_lines g v (i ∷ es) before h = (h.0, faultless_lines g v es (before ++ i ∷ []) h.1)
 
-pub section_modules : (g : Setting) (v : ℕ) (es : List Entry) → IsSectionOf g v es → AreModules g (modules_of es)
+pub section_modules : (g : Setting) (v : ℕ) (es : List CertificateLine) → IsSectionOf g v es →
+    AreModules g (modules_of es)
 section_modules g v es is = faultless_modules g v es
     (record { header = is.header; each = faultless_lines g v es [] is.lines; end = is.end })

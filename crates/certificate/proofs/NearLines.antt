@@ -8,7 +8,7 @@ use Rattle.std.proofs.lemmas.Int.{ints}
 use Rattle.std.proofs.lemmas.List.Elements.{All-nil, All-cons, All-head, All-tail, All-append, All-map, All-weaker}
 use Rattle.bbm_rule.specs.declared.block.Cell.{Cell}
 use Rattle.circuit.specs.Meaning.{Circuit}
-use Rattle.pattern.specs.declared.parts.Extent.{Extent}
+use Rattle.pattern.specs.declared.layout_line.LayoutHeader.{LayoutHeader}
 use Rattle.pattern.specs.Lines.{size_fault}
 use Rattle.pattern.proofs.TakenLemmas.{is_sized}
 use Rattle.module_box.specs.Boxes.{in_box, in_ring}
@@ -16,17 +16,17 @@ use Rattle.module_box.specs.Moves.{IsNear, IsSmall, moved_event}
 use Rattle.module_box.specs.Schedules.{Signals}
 use Rattle.module_box.specs.declared.boxes.Box2.{Box2}
 use Rattle.module_box.specs.declared.schedules.Event.{Event}
-use Rattle.module_box.specs.declared.schedules.Held.{Held}
+use Rattle.module_box.specs.declared.schedules.AllTimes.{AllTimes}
 use Rattle.module_box.specs.declared.schedules.Signal.{Signal}
 use Rattle.module_box.proofs.BoxCells.{in_box_nats}
 use Rattle.certificate_lines.specs.Entries.{Setting, ModuleLines, edges, halos, stops}
-use Rattle.certificate.specs.Jobs.{held_by, event_by, line_signal, line_signals}
+use Rattle.certificate.specs.Jobs.{all_times_by, event_by, line_signal, line_signals}
 use Rattle.certificate_lines.specs.Modules.{IsModule}
 use Rattle.certificate_lines.specs.Rules.{whole}
-use Rattle.module_job.specs.Shapes.{back, moved_stop}
-use Rattle.module_job.specs.Signals.{renumber_held, renumber_event, renumber_signals}
+use Rattle.module_job.specs.Shapes.{shift_to_origin, moved_stop}
+use Rattle.module_job.specs.Signals.{renumber_all_times, renumber_event, renumber_signals}
 use Rattle.certificate.specs.Timetables.{IsLow}
-use Rattle.certificate_lines.specs.declared.entry.Border.{Border}
+use Rattle.certificate_lines.specs.declared.certificate_line.Border.{Border}
 use Rattle.module_job.specs.declared.job.Stop.{Stop}
 use Rattle.certificate.proofs.JobLemmas.{within_512}
 
@@ -48,14 +48,14 @@ ring_inside : (b : Box2) (x y : ℤ) → in_ring b x y ≡ true → in_box b x y
 unfolding in_ring
 ring_inside b x y h = (and_parts _ _ h).0
 
-pub low_edges : (g : Setting) (m : ModuleLines) (s : Extent) → s ≡ g.size → size_fault s ≡ None → IsModule g m →
+pub low_edges : (g : Setting) (m : ModuleLines) (s : LayoutHeader) → s ≡ g.size → size_fault s ≡ None → IsModule g m →
     All (λ e. IsLow e.cell) (edges m)
 low_edges g m s is limits h k d lt =
     let w = within_512 g m s is limits h in
     let e = get_or (edges m) k d in
     low_in_box m.area e.cell w.0 w.1 (ring_inside m.area e.cell.x e.cell.y (h.edge_lines k d lt).ring)
 
-pub low_halos : (g : Setting) (m : ModuleLines) (s : Extent) → s ≡ g.size → size_fault s ≡ None → IsModule g m →
+pub low_halos : (g : Setting) (m : ModuleLines) (s : LayoutHeader) → s ≡ g.size → size_fault s ≡ None → IsModule g m →
     All (λ e. IsLow e.cell) (halos m)
 low_halos g m s is limits h k d lt =
     let sized = is_sized s limits in
@@ -63,9 +63,9 @@ low_halos g m s is limits h k d lt =
     let high = sized.height.1 in
     let e = get_or (halos m) k d in
     low_in_box (whole s) e.cell (omega (arith, wide)) (omega (arith, high))
-    (ap (λ (t : Extent). in_box (whole t) e.cell.x e.cell.y) is ∙ (h.halo_lines k d lt).inside)
+    (ap (λ (t : LayoutHeader). in_box (whole t) e.cell.x e.cell.y) is ∙ (h.halo_lines k d lt).inside)
 
-pub low_stops : (g : Setting) (m : ModuleLines) (s : Extent) → s ≡ g.size → size_fault s ≡ None → IsModule g m →
+pub low_stops : (g : Setting) (m : ModuleLines) (s : LayoutHeader) → s ≡ g.size → size_fault s ≡ None → IsModule g m →
     All (λ e. IsLow e.cell) (stops m)
 low_stops g m s is limits h k d lt =
     let w = within_512 g m s is limits h in
@@ -84,22 +84,25 @@ unmapped P f [] all = All-nil (λ x. P (f x))
 unmapped P f (x ∷ xs) all = All-cons (λ x. P (f x)) x xs (All-head P (f x) (map f xs) all)
     (unmapped P f xs (All-tail P (f x) (map f xs) all))
 
-held_low : (e : Border) (t : Option ℕ) (s : Signal) → IsLow e.cell → All (λ (h : Held). IsLow h.cell) (held_by e t s)
-held_low e None s low = All-cons (λ (h : Held). IsLow h.cell) _ [] low (All-nil _)
-held_low e (Some t) s low = All-nil _
+all_times_low : (e : Border) (t : Option ℕ) (s : Signal) → IsLow e.cell →
+    All (λ (h : AllTimes). IsLow h.cell) (all_times_by e t s)
+all_times_low e None s low = All-cons (λ (h : AllTimes). IsLow h.cell) _ [] low (All-nil _)
+all_times_low e (Some t) s low = All-nil _
 
 event_low : (e : Border) (t : Option ℕ) (s : Signal) → IsLow e.cell →
     All (λ (h : Event). IsLow h.at.cell) (event_by e t s)
 event_low e None s low = All-nil _
 event_low e (Some t) s low = All-cons (λ (h : Event). IsLow h.at.cell) _ [] low (All-nil _)
 
-pub low_held : (f : ℕ → ℕ) (c : Circuit) (es : List Border) (s : Signals) → renumber_signals f s ≡ line_signals c es →
-    All (λ e. IsLow e.cell) es → All (λ (h : Held). IsLow h.cell) s.held
-low_held f c es s same all =
-    unmapped (λ (h : Held). IsLow h.cell) (renumber_held f) s.held
-    (subst (λ (hs : List Held). All (λ (h : Held). IsLow h.cell) hs) (sym (ap (λ (r : Signals). r.held) same))
-    (flat_all (λ (h : Held). IsLow h.cell) (λ e. held_by e e.time (line_signal c e.signal)) (λ e. IsLow e.cell)
-    (λ e low. held_low e e.time (line_signal c e.signal) low) es all))
+pub low_all_times : (f : ℕ → ℕ) (c : Circuit) (es : List Border) (s : Signals) →
+    renumber_signals f s ≡ line_signals c es →
+    All (λ e. IsLow e.cell) es → All (λ (h : AllTimes). IsLow h.cell) s.all_times
+low_all_times f c es s same all =
+    unmapped (λ (h : AllTimes). IsLow h.cell) (renumber_all_times f) s.all_times
+    (subst (λ (hs : List AllTimes). All (λ (h : AllTimes). IsLow h.cell) hs)
+    (sym (ap (λ (r : Signals). r.all_times) same))
+    (flat_all (λ (h : AllTimes). IsLow h.cell) (λ e. all_times_by e e.time (line_signal c e.signal)) (λ e. IsLow e.cell)
+    (λ e low. all_times_low e e.time (line_signal c e.signal) low) es all))
 
 pub low_events : (f : ℕ → ℕ) (c : Circuit) (es : List Border) (s : Signals) → renumber_signals f s ≡ line_signals c es →
     All (λ e. IsLow e.cell) es → All (λ (h : Event). IsLow h.at.cell) s.events
@@ -113,23 +116,25 @@ low_events f c es s same all =
 small_low : (z : ℤ) → (pos 0 ≤ℤ z) → (z ≤ℤ pos 511) → IsSmall z
 small_low z low high = (omega (arith, ints, low), omega (arith, ints, high))
 
-small_back : (z : ℤ) (n : ℕ) → n ≤ 512 → (pos 0 ≤ℤ z) → (z ≤ℤ pos 511) → IsSmall (z +ℤ back n)
+small_back : (z : ℤ) (n : ℕ) → n ≤ 512 → (pos 0 ≤ℤ z) → (z ≤ℤ pos 511) → IsSmall (z +ℤ shift_to_origin n)
 small_back z n few low high = (omega (arith, ints, low, few), omega (arith, ints, high))
 
 near_low : (c : Cell) → IsLow c → IsNear c
 near_low c l = (small_low c.x l.column.0 l.column.1, small_low c.y l.row.0 l.row.1)
 
-pub near_held : (hs : List Held) → All (λ (h : Held). IsLow h.cell) hs → All (λ (h : Held). IsNear h.cell) hs
-near_held hs all = All-weaker _ _ (λ (h : Held) l. near_low h.cell l) hs all
+pub near_all_times : (hs : List AllTimes) → All (λ (h : AllTimes). IsLow h.cell) hs →
+    All (λ (h : AllTimes). IsNear h.cell) hs
+near_all_times hs all = All-weaker _ _ (λ (h : AllTimes) l. near_low h.cell l) hs all
 
 pub near_events : (es : List Event) → All (λ (e : Event). IsLow e.at.cell) es → All (λ (e : Event). IsNear e.at.cell) es
 near_events es all = All-weaker _ _ (λ (e : Event) l. near_low e.at.cell l) es all
 
 pub near_moved : (x y : ℕ) (es : List Event) → x ≤ 512 → y ≤ 512 → All (λ (e : Event). IsLow e.at.cell) es →
-    All (λ (e : Event). IsNear e.at.cell) (map (moved_event (back x) (back y)) es)
+    All (λ (e : Event). IsNear e.at.cell) (map (moved_event (shift_to_origin x) (shift_to_origin y)) es)
 near_moved x y es few low all =
-    All-map (λ (e : Event). IsNear e.at.cell) (moved_event (back x) (back y)) es
-    (All-weaker (λ (e : Event). IsLow e.at.cell) (λ (e : Event). IsNear (moved_event (back x) (back y) e).at.cell)
+    All-map (λ (e : Event). IsNear e.at.cell) (moved_event (shift_to_origin x) (shift_to_origin y)) es
+    (All-weaker (λ (e : Event). IsLow e.at.cell)
+    (λ (e : Event). IsNear (moved_event (shift_to_origin x) (shift_to_origin y) e).at.cell)
     (λ (e : Event) l.
     (small_back e.at.cell.x x few l.column.0 l.column.1, small_back e.at.cell.y y low l.row.0 l.row.1)) es all)
 
@@ -137,9 +142,10 @@ pub near_stops : (ss : List Stop) → All (λ (s : Stop). IsLow s.at.cell) ss �
 near_stops ss all = All-weaker _ _ (λ (s : Stop) l. near_low s.at.cell l) ss all
 
 pub near_moved_stops : (x y : ℕ) (ss : List Stop) → x ≤ 512 → y ≤ 512 → All (λ (s : Stop). IsLow s.at.cell) ss →
-    All (λ (s : Stop). IsNear s.at.cell) (map (moved_stop (back x) (back y)) ss)
+    All (λ (s : Stop). IsNear s.at.cell) (map (moved_stop (shift_to_origin x) (shift_to_origin y)) ss)
 near_moved_stops x y ss few low all =
-    All-map (λ (s : Stop). IsNear s.at.cell) (moved_stop (back x) (back y)) ss
-    (All-weaker (λ (s : Stop). IsLow s.at.cell) (λ (s : Stop). IsNear (moved_stop (back x) (back y) s).at.cell)
+    All-map (λ (s : Stop). IsNear s.at.cell) (moved_stop (shift_to_origin x) (shift_to_origin y)) ss
+    (All-weaker (λ (s : Stop). IsLow s.at.cell)
+    (λ (s : Stop). IsNear (moved_stop (shift_to_origin x) (shift_to_origin y) s).at.cell)
     (λ (s : Stop) l. (small_back s.at.cell.x x few l.column.0 l.column.1, small_back s.at.cell.y y low l.row.0 l.row.1))
     ss all)

@@ -6,14 +6,15 @@ use Rattle.std.proofs.lemmas.Grind.{flat_map-append}
 use Rattle.std.proofs.lemmas.List.{take_all, take_more}
 use Rattle.certificate.specs.Text.{entry_text}
 use Rattle.certificate_lines.specs.Versions.{without_halos}
-use Rattle.certificate_lines.specs.declared.entry.Entry.{Entry}
+use Rattle.certificate_lines.specs.declared.certificate_line.CertificateLine.{CertificateLine}
 use Rattle.certificate.proofs.Migrated.{without_append}
 
 pub none_printed : (old : List ℕ) → old ≡ old ++ flat_map entry_text (without_halos [])
 unfolding without_halos
 none_printed old = sym (append-nil old)
 
-pub one_more_printed : (es : List Entry) (i : ℕ) (e : Entry) (old now next : List ℕ) → i < length es →
+pub one_more_printed : (es : List CertificateLine) (i : ℕ) (e : CertificateLine) (old now next : List ℕ) →
+    i < length es →
     e ≡ get_or es i e →
     now ≡ old ++ flat_map entry_text (without_halos (take i es)) →
     next ≡ now ++ flat_map entry_text (without_halos (e ∷ [])) →
@@ -26,6 +27,6 @@ one_more_printed es i e old now next lt is before after =
     ∙ ap (λ l. old ++ flat_map entry_text l) (sym (without_append (take i es) (e ∷ [])))
     ∙ ap (λ l. old ++ flat_map entry_text (without_halos l)) (sym grown)
 
-pub all_printed : (es : List Entry) (i : ℕ) (old now : List ℕ) → length es ≤ i →
+pub all_printed : (es : List CertificateLine) (i : ℕ) (old now : List ℕ) → length es ≤ i →
     now ≡ old ++ flat_map entry_text (without_halos (take i es)) → now ≡ old ++ flat_map entry_text (without_halos es)
 all_printed es i old now le h = h ∙ ap (λ l. old ++ flat_map entry_text (without_halos l)) (take_all i es le)

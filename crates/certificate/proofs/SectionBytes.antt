@@ -5,28 +5,28 @@ use Rattle.std.specs.List.{flat_map}
 use Rattle.std.proofs.Math.Seq.{drop-append_seam, take-add}
 use Rattle.std.proofs.lemmas.Grind.{flat_map-append}
 use Rattle.std.proofs.lemmas.List.{length-append}
-use Rattle.section_text.specs.FeedState.{FeedState}
+use Rattle.section_text.specs.Feeds.{FeedView}
 use Rattle.section_text.specs.Section.{Reads, ReadsSection, ended_line}
 use Rattle.section_text.specs.Words.{lines_of}
 use Rattle.section_text.specs.declared.fault.ReadFault.{ReadFault}
 use Rattle.certificate_lines.specs.Entries.{Setting}
-use Rattle.certificate.specs.Grammars.{CertState, certificate_grammar, certificate_value}
+use Rattle.certificate.specs.Grammars.{CertView, certificate_grammar, certificate_value}
 use Rattle.certificate.specs.Text.{certificate_text}
 use Rattle.certificate.proofs.RoundTrip.{prints_what_is_read}
 
 -- the text of the lines that were taken
-abbrev pub taken : FeedState → List ℕ
+abbrev pub taken : FeedView → List ℕ
 taken f = flat_map ended_line (take f.taken (lines_of f.text))
 
 -- a feed that has a fault gives no certificate, so this one has read the section
-section_read : (g : Setting) (old new : FeedState) (c : CertState) (o : Option ReadFault) → old.stop ≡ o →
-    Reads (certificate_grammar g) (λ (d : CertState). certificate_value d) old new (Ok c) →
-    ReadsSection (certificate_grammar g) (λ (d : CertState). certificate_value d) old new (Ok c)
+section_read : (g : Setting) (old new : FeedView) (c : CertView) (o : Option ReadFault) → old.stop ≡ o →
+    Reads (certificate_grammar g) (λ (d : CertView). certificate_value d) old new (Ok c) →
+    ReadsSection (certificate_grammar g) (λ (d : CertView). certificate_value d) old new (Ok c)
 section_read g old new c None e r = r.reads e
 section_read g old new c (Some fault) e r = absurd ((r.stopped fault e).0)
 
-pub text_taken : (g : Setting) (old new : FeedState) (c : CertState) →
-    Reads (certificate_grammar g) (λ (d : CertState). certificate_value d) old new (Ok c) →
+pub text_taken : (g : Setting) (old new : FeedView) (c : CertView) →
+    Reads (certificate_grammar g) (λ (d : CertView). certificate_value d) old new (Ok c) →
     taken new ≡ taken old ++ certificate_text c
 text_taken g old new c r =
     let s = section_read g old new c old.stop refl r in

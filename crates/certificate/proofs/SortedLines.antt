@@ -11,7 +11,7 @@ use Rattle.std.proofs.lemmas.List.Sorted.{sum_by-IsPermutation}
 use Rattle.std.proofs.lemmas.List.Sums.{sum_by-cons}
 use Rattle.std.proofs.lemmas.Option.{get_or_from_slice_get, slice_get_within}
 use Rattle.certificate_lines.specs.Versions.{in_order, line_order}
-use Rattle.certificate_lines.specs.declared.entry.Border.{Border}
+use Rattle.certificate_lines.specs.declared.certificate_line.Border.{Border}
 use Rattle.certificate_lines.proofs.InList.{all_in}
 use Rattle.certificate.proofs.FullModules.{in_all, pairs_by_place}
 use Rattle.certificate_lines.proofs.LineOrder.{AreDistinct, In, Rises, in_each, each_in, in_ordered, line_total}

@@ -11,22 +11,23 @@ use Rattle.std.proofs.lemmas.Option.{slice_get-get_or, slice_get_within}
 use Rattle.bbm_rule.specs.Plane.{is_at}
 use Rattle.bbm_rule.specs.declared.block.Cell.{Cell}
 use Rattle.pattern.specs.Layout.{in_cells}
-use Rattle.pattern.specs.declared.parts.Port.{Port}
-use Rattle.pattern.specs.declared.parts.Extent.{Extent}
+use Rattle.pattern.specs.declared.layout_line.Port.{Port}
+use Rattle.pattern.specs.declared.layout_line.LayoutHeader.{LayoutHeader}
 use Rattle.section_text.proofs.Good.{AreFaultless, IsFaultless}
 use Rattle.module_box.specs.Boxes.{in_box, Tile}
 use Rattle.module_box.specs.Tiling.{IsInside}
 use Rattle.module_box.specs.declared.boxes.Box2.{Box2}
 use Rattle.certificate_lines.specs.Entries.{Setting, ModuleLines, with_line, change_last, last_of, add_line, modules_of}
-use Rattle.certificate_lines.specs.Entries.{present, areas, known}
+use Rattle.certificate_lines.specs.Entries.{last_module, areas, known}
 use Rattle.certificate_lines.specs.Rules.{whole, box_cells, in_boxes, is_local, is_incomplete, lacks_port, leaves_gap}
 use Rattle.certificate_lines.specs.Rules.{entry_fault, end_fault}
 use Rattle.certificate.specs.Grammars.{certificate_grammar}
 use Rattle.certificate_lines.specs.Versions.{is_haloless, lacks_wire}
 use Rattle.certificate_lines.specs.Modules.{HasFewLines, HasPorts, AreModules}
 use Rattle.certificate_lines.specs.BuilderView.{AreSound, IsWritten}
-use Rattle.certificate_lines.specs.declared.entry.Entry.{Entry}
-use Rattle.certificate_lines.specs.declared.entry.Entry.TheVariants.{Module, Cut, Use, Keep, Edge, Halo, Stop}
+use Rattle.certificate_lines.specs.declared.certificate_line.CertificateLine.{CertificateLine}
+use Rattle.certificate_lines.specs.declared.certificate_line.CertificateLine.TheVariants.{Module, Cut, Use, Keep, Edge}
+use Rattle.certificate_lines.specs.declared.certificate_line.CertificateLine.TheVariants.{Halo, Stop}
 use Rattle.certificate_lines.proofs.BuiltLemmas.{good_module, line_sound, module_sound, sound_none, or_false, last_is}
 use Rattle.certificate_lines.proofs.Growing.{modules_push}
 use Rattle.certificate_lines.proofs.Keeping.{good_line, IsGoodLine}
@@ -36,9 +37,9 @@ use Rattle.certificate_lines.proofs.ModulePushes.{keep_pushed, edge_pushed, halo
 use Rattle.bbm_rule.proofs.SameCells.{cell_same}
 use Rattle.certificate_lines.proofs.PortLemmas.{in_box_cells}
 
-module _ (g : Setting) (es : List Entry) (sound : AreSound g (modules_of es)) where
+module _ (g : Setting) (es : List CertificateLine) (sound : AreSound g (modules_of es)) where
   -- one more line of the last module
-  inner_sound : (i : Entry) → add_line (modules_of es) i ≡ change_last (with_line i) (modules_of es) →
+  inner_sound : (i : CertificateLine) → add_line (modules_of es) i ≡ change_last (with_line i) (modules_of es) →
       (good : IsGoodLine g es i) → (IsWritten g good.module_lines → IsWritten g (with_line i good.module_lines)) →
       AreSound g (modules_of (es ++ i ∷ []))
   inner_sound i step good grows =
@@ -47,11 +48,11 @@ module _ (g : Setting) (es : List Entry) (sound : AreSound g (modules_of es)) wh
       (λ m some. subst (λ k. IsWritten g k → IsWritten g (with_line i k))
       (some_is good.module_lines m (sym good.last ∙ some)) grows))
 
-  sound_push : (i : Entry) → entry_fault g es i ≡ None → AreSound g (modules_of (es ++ i ∷ []))
+  sound_push : (i : CertificateLine) → entry_fault g es i ≡ None → AreSound g (modules_of (es ++ i ∷ []))
   unfolding entry_fault add_line
   sound_push (Module b) e =
       subst (AreSound g) (sym (modules_push es (Module b)))
-      (module_sound g (modules_of es) b sound (good_module g (modules_of es) (present es) b e))
+      (module_sound g (modules_of es) b sound (good_module g (modules_of es) (last_module es) b e))
   sound_push (Cut n) e =
       let good = good_line g es (Cut n) e in
       let words = new_wire g.circuit _ _ n good.words in
@@ -74,7 +75,7 @@ module _ (g : Setting) (es : List Entry) (sound : AreSound g (modules_of es)) wh
       let good = good_line g es (Stop s) e in
       inner_sound (Stop s) refl good (λ is. stop_pushed g good.module_lines is.good s good.follows good.words)
 
-sound_all : (g : Setting) (v : ℕ) (more before : List Entry) → AreSound g (modules_of before) →
+sound_all : (g : Setting) (v : ℕ) (more before : List CertificateLine) → AreSound g (modules_of before) →
     AreFaultless (certificate_grammar g) v before more → AreSound g (modules_of (before ++ more))
 sound_all g v [] before sound good = subst (λ l. AreSound g (modules_of l)) (sym (append-nil before)) sound
 sound_all g v (i ∷ more) before sound good =
@@ -108,7 +109,8 @@ unfolding in_span
 span_inside a n m (pos x) fits e = grind (arith, nat_tests)
 span_inside a n m (negsuc x) fits e = cc
 
-box_inside : (s : Extent) (b : Box2) (x y : ℤ) → IsInside s.w s.h b → in_box b x y ≡ true → in_box (whole s) x y ≡ true
+box_inside : (s : LayoutHeader) (b : Box2) (x y : ℤ) → IsInside s.w s.h b → in_box b x y ≡ true →
+    in_box (whole s) x y ≡ true
 unfolding in_box
 box_inside s b x y fits h =
     let both = and_parts (in_span b.x b.w x) (in_span b.y b.h y) h in
@@ -177,26 +179,26 @@ one_or_two v e = elim (or_parts (v == 1) (v == 2) e) [
 ]
 
 -- the version of what was read
-pub read_version : (g : Setting) (v : ℕ) (es : List Entry) → IsFaultless (certificate_grammar g) v es →
+pub read_version : (g : Setting) (v : ℕ) (es : List CertificateLine) → IsFaultless (certificate_grammar g) v es →
     (1 ≤ v) × (v ≤ 2)
 read_version g v es good = one_or_two v (not_false _ (no_code _ 2 good.header))
 
 -- and in version 2 each module knows the wires of the edge lines beside it
-pub read_complete : (g : Setting) (v : ℕ) (es : List Entry) → IsFaultless (certificate_grammar g) v es →
+pub read_complete : (g : Setting) (v : ℕ) (es : List CertificateLine) → IsFaultless (certificate_grammar g) v es →
     (is_haloless v && lacks_wire g (modules_of es)) ≡ false
 read_complete g v es good = no_code _ 11 (both_none (end_fault g es) _ good.end).1
 
-pub faultless_modules : (g : Setting) (v : ℕ) (es : List Entry) → IsFaultless (certificate_grammar g) v es →
+pub faultless_modules : (g : Setting) (v : ℕ) (es : List CertificateLine) → IsFaultless (certificate_grammar g) v es →
     AreModules g (modules_of es)
 unfolding end_fault
 faultless_modules g v es good =
     let sound = sound_all g v es [] (none_sound g) good.each in
-    let parts = or_false (is_incomplete g (present es)) (leaves_gap g.size (areas (modules_of es)))
+    let parts = or_false (is_incomplete g (last_module es)) (leaves_gap g.size (areas (modules_of es)))
     (no_code _ 11 (both_none (end_fault g es) _ good.end).0) in
     good_modules g (modules_of es) sound parts.0 parts.1
 
 -- and each has few lines
-pub faultless_lines : (g : Setting) (v : ℕ) (es : List Entry) → IsFaultless (certificate_grammar g) v es →
+pub faultless_lines : (g : Setting) (v : ℕ) (es : List CertificateLine) → IsFaultless (certificate_grammar g) v es →
     All HasFewLines (modules_of es)
 faultless_lines g v es good =
     let sound = sound_all g v es [] (none_sound g) good.each in

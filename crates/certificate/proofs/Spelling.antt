@@ -14,9 +14,10 @@ use Rattle.module_box.specs.declared.boxes.Box2.{Box2}
 use Rattle.pattern.specs.Layout.{cell}
 use Rattle.pattern.specs.Forms.{cell_from}
 use Rattle.pattern.specs.Text.{coordinate}
-use Rattle.certificate_lines.specs.declared.entry.Border.{Border}
-use Rattle.certificate_lines.specs.declared.entry.StopLine.{StopLine}
-use Rattle.certificate_lines.specs.declared.entry.Entry.TheVariants.{Module, Cut, Use, Keep, Edge, Halo, Stop}
+use Rattle.certificate_lines.specs.declared.certificate_line.Border.{Border}
+use Rattle.certificate_lines.specs.declared.certificate_line.StopLine.{StopLine}
+use Rattle.certificate_lines.specs.declared.certificate_line.CertificateLine.TheVariants.{Module, Cut, Use, Keep, Edge}
+use Rattle.certificate_lines.specs.declared.certificate_line.CertificateLine.TheVariants.{Halo, Stop}
 use Rattle.certificate_lines.specs.Forms.{Line, corner_and_sides, area_of, time_at, signal_at, timed_cell, border_of}
 use Rattle.certificate_lines.specs.Forms.{timed_wire, stop_of, form_of}
 use Rattle.certificate.specs.Text.{area_words, time_word, signal_word, border_words, stop_words, form_text}

@@ -19,9 +19,10 @@ use Rattle.certificate_lines.specs.Orders.{AreInOrder, rank_of, number_of, cell_
 use Rattle.certificate_lines.specs.Rules.{is_local}
 use Rattle.module_job.specs.Signals.{renumber_stop}
 use Rattle.certificate.specs.StopLists.{AreStops}
-use Rattle.certificate_lines.specs.declared.entry.Entry.{Entry}
-use Rattle.certificate_lines.specs.declared.entry.Entry.TheVariants.{Module, Cut, Use, Keep, Edge, Halo, Stop}
-use Rattle.certificate_lines.specs.declared.entry.StopLine.{StopLine}
+use Rattle.certificate_lines.specs.declared.certificate_line.CertificateLine.{CertificateLine}
+use Rattle.certificate_lines.specs.declared.certificate_line.CertificateLine.TheVariants.{Module, Cut, Use, Keep, Edge}
+use Rattle.certificate_lines.specs.declared.certificate_line.CertificateLine.TheVariants.{Halo, Stop}
+use Rattle.certificate_lines.specs.declared.certificate_line.StopLine.{StopLine}
 use Rattle.module_job.specs.declared.job.Stop as listed
 use Rattle.certificate.proofs.BorderOrder.{is_less, pairs_of_order}
 use Rattle.certificate_lines.proofs.Pairs.{Each, Pairs, pairs_flat, rising_of}
@@ -54,13 +55,14 @@ pub without_stop : (c : Circuit) (l : LocalNet) (lines : List StopLine) (old new
 without_stop c l lines old new same are =
     subst (λ xs. AreStops c l xs new) (sym (append-nil lines)) (subst (AreStops c l lines) (sym same) are)
 
-pub next_stops : (c : Circuit) (l : LocalNet) (lines : List Entry) (i : ℕ) (line : Entry) (ss : List listed.Stop) →
+pub next_stops : (c : Circuit) (l : LocalNet) (lines : List CertificateLine) (i : ℕ) (line : CertificateLine)
+    (ss : List listed.Stop) →
     i < length lines → line ≡ get_or lines i line →
     AreStops c l (flat_map stop_in (take i lines) ++ stop_in line) ss →
     AreStops c l (flat_map stop_in (take (i + 1) lines)) ss
 next_stops c l lines i line ss lt e h = subst (λ xs. AreStops c l xs ss) (next_line stop_in lines i line lt e) h
 
-pub all_stops_said : (c : Circuit) (l : LocalNet) (lines : List Entry) (i : ℕ) (ss : List listed.Stop) →
+pub all_stops_said : (c : Circuit) (l : LocalNet) (lines : List CertificateLine) (i : ℕ) (ss : List listed.Stop) →
     length lines ≤ i → AreStops c l (flat_map stop_in (take i lines)) ss → AreStops c l (flat_map stop_in lines) ss
 all_stops_said c l lines i ss le h = subst (λ xs. AreStops c l (flat_map stop_in xs) ss) (take_all i lines le) h
 
@@ -73,7 +75,7 @@ stop_before : (s t : StopLine) → may_precede (Stop s) (Stop t) ≡ true → St
 unfolding may_precede line_cmp rank_of number_of cell_of is_cut
 stop_before s t h = is_less _ false refl h
 
-stop_first : (s : StopLine) (j : Entry) → may_precede (Stop s) j ≡ true → Each (StopBefore s) (stop_in j)
+stop_first : (s : StopLine) (j : CertificateLine) → may_precede (Stop s) j ≡ true → Each (StopBefore s) (stop_in j)
 unfolding Each
 stop_first s (Module b) h = tt
 stop_first s (Cut n) h = tt
@@ -83,8 +85,8 @@ stop_first s (Edge e) h = tt
 stop_first s (Halo e) h = tt
 stop_first s (Stop t) h = (stop_before s t h, tt)
 
-stops_between : (i : Entry) →
-    Each (λ s. (j : Entry) → may_precede i j ≡ true → Each (StopBefore s) (stop_in j)) (stop_in i)
+stops_between : (i : CertificateLine) →
+    Each (λ s. (j : CertificateLine) → may_precede i j ≡ true → Each (StopBefore s) (stop_in j)) (stop_in i)
 unfolding Each
 stops_between (Module b) = tt
 stops_between (Cut n) = tt
@@ -94,7 +96,7 @@ stops_between (Edge e) = tt
 stops_between (Halo e) = tt
 stops_between (Stop s) = (stop_first s, tt)
 
-stop_alone : (i : Entry) → Pairs StopBefore (stop_in i)
+stop_alone : (i : CertificateLine) → Pairs StopBefore (stop_in i)
 unfolding Each Pairs
 stop_alone (Module b) = tt
 stop_alone (Cut n) = tt
@@ -104,7 +106,7 @@ stop_alone (Edge e) = tt
 stop_alone (Halo e) = tt
 stop_alone (Stop s) = (tt, tt)
 
-stop_lines_rise : (lines : List Entry) → AreInOrder lines → Pairs StopBefore (flat_map stop_in lines)
+stop_lines_rise : (lines : List CertificateLine) → AreInOrder lines → Pairs StopBefore (flat_map stop_in lines)
 stop_lines_rise lines o = pairs_flat (λ i j. may_precede i j ≡ true) StopBefore stop_in stops_between stop_alone lines
     (pairs_of_order lines o)
 
@@ -129,7 +131,8 @@ unfolding Each Pairs
 numbered_alone s None = tt
 numbered_alone s (Some w) = (tt, tt)
 
-pub stops_rise : (c : Circuit) (l : LocalNet) (lines : List Entry) (ss : List listed.Stop) → AreInOrder lines →
+pub stops_rise : (c : Circuit) (l : LocalNet) (lines : List CertificateLine) (ss : List listed.Stop) →
+    AreInOrder lines →
     AreStops c l (flat_map stop_in lines) ss → IsRising moment_cmp stop_moment ss
 stops_rise c l lines ss o are =
     rising_of moment_cmp stop_moment (renumber_stop (circuit_wire l)) (λ a. refl) ss _ are.same

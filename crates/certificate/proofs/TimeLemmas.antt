@@ -16,9 +16,10 @@ use Rattle.certificate.specs.Times.{all_stops, lines_by, numbered, time_lines}
 use Rattle.certificate.specs.SeenTimes.{IsTable, seen, told_by}
 use Rattle.certificate.specs.declared.times.Choice.{Choice}
 use Rattle.certificate.specs.declared.times.Choice.TheVariants.{First, Last}
-use Rattle.certificate_lines.specs.declared.entry.StopLine.{StopLine}
-use Rattle.certificate_lines.specs.declared.entry.Entry.{Entry}
-use Rattle.certificate_lines.specs.declared.entry.Entry.TheVariants.{Module, Cut, Use, Keep, Edge, Halo, Stop}
+use Rattle.certificate_lines.specs.declared.certificate_line.StopLine.{StopLine}
+use Rattle.certificate_lines.specs.declared.certificate_line.CertificateLine.{CertificateLine}
+use Rattle.certificate_lines.specs.declared.certificate_line.CertificateLine.TheVariants.{Module, Cut, Use, Keep, Edge}
+use Rattle.certificate_lines.specs.declared.certificate_line.CertificateLine.TheVariants.{Halo, Stop}
 use Rattle.certificate.specs.declared.times.TimeLine.{TimeLine}
 use Rattle.certificate_lines.proofs.InnerLines.{inner_module, inner_other}
 use Rattle.certificate_lines.proofs.ModulePushes.{both_none}
@@ -26,16 +27,16 @@ use Rattle.certificate_lines.proofs.ModuleSplit.{split_module, split_other}
 
 -- ---- the stops of all lines from the first module line on are those of all modules
 
-abbrev Splits : List Entry → Type 0
+abbrev Splits : List CertificateLine → Type 0
 Splits es = flat_map stop_in es ≡ flat_map stop_in (inner es) ++ all_stops (modules_of es)
 
-splits_other : (e : Entry) (es : List Entry) → is_module e ≡ false → Splits es → Splits (e ∷ es)
+splits_other : (e : CertificateLine) (es : List CertificateLine) → is_module e ≡ false → Splits es → Splits (e ∷ es)
 splits_other e es o h =
     ap (λ xs. stop_in e ++ xs) h ∙ sym
     (append_assoc (stop_in e) (flat_map stop_in (inner es)) (all_stops (modules_of es)))
     ∙ ap₂ (λ xs ms. flat_map stop_in xs ++ all_stops ms) (sym (inner_other e es o)) (sym (split_other e es o))
 
-splits_step : (e : Entry) (es : List Entry) → Splits es → Splits (e ∷ es)
+splits_step : (e : CertificateLine) (es : List CertificateLine) → Splits es → Splits (e ∷ es)
 splits_step (Module b) es h =
     h ∙ ap all_stops (sym (split_module b es))
     ∙ ap (λ xs. flat_map stop_in xs ++ all_stops (modules_of (Module b ∷ es))) (sym (inner_module (Module b) es refl))
@@ -50,12 +51,12 @@ splits_none : Splits []
 unfolding inner modules_of
 splits_none = refl
 
-splits : (es : List Entry) → Splits es
+splits : (es : List CertificateLine) → Splits es
 splits [] = splits_none
 splits (e ∷ es) = splits_step e es (splits es)
 
 -- and where the lines were read, they are those of all lines: the first is a module line
-starts_with_module : (g : Setting) (v : ℕ) (es : List Entry) → AreFaultless (certificate_grammar g) v [] es →
+starts_with_module : (g : Setting) (v : ℕ) (es : List CertificateLine) → AreFaultless (certificate_grammar g) v [] es →
     inner es ≡ []
 unfolding inner entry_fault modules_of last_of
 starts_with_module g v [] good = refl
@@ -71,19 +72,19 @@ starts_with_module g v (Halo e ∷ es) good =
 starts_with_module g v (Stop s ∷ es) good =
     absurd (let first = (both_none _ (entry_fault g [] (Stop s)) good.0).1 in cc)
 
-pub all_in_modules : (g : Setting) (v : ℕ) (es : List Entry) → IsFaultless (certificate_grammar g) v es →
+pub all_in_modules : (g : Setting) (v : ℕ) (es : List CertificateLine) → IsFaultless (certificate_grammar g) v es →
     all_stops (modules_of es) ≡ flat_map stop_in es
 all_in_modules g v es good = sym
     (splits es ∙ ap (λ xs. flat_map stop_in xs ++ all_stops (modules_of es)) (starts_with_module g v es good.each))
 
-abbrev Begins : List Entry → Type 0
+abbrev Begins : List CertificateLine → Type 0
 Begins es = flat_map stop_in (drop (length (inner es)) es) ≡ all_stops (modules_of es)
 
-begins_other : (e : Entry) (es : List Entry) → is_module e ≡ false → Begins es → Begins (e ∷ es)
+begins_other : (e : CertificateLine) (es : List CertificateLine) → is_module e ≡ false → Begins es → Begins (e ∷ es)
 begins_other e es o h = ap (λ xs. flat_map stop_in (drop (length xs) (e ∷ es))) (inner_other e es o) ∙ h
     ∙ ap all_stops (sym (split_other e es o))
 
-begins_step : (e : Entry) (es : List Entry) → Begins es → Begins (e ∷ es)
+begins_step : (e : CertificateLine) (es : List CertificateLine) → Begins es → Begins (e ∷ es)
 begins_step (Module b) es h =
     ap (λ xs. flat_map stop_in (drop (length xs) (Module b ∷ es))) (inner_module (Module b) es refl)
     ∙ splits (Module b ∷ es)
@@ -99,7 +100,7 @@ begins_none : Begins []
 unfolding inner modules_of
 begins_none = refl
 
-pub from_module : (es : List Entry) → Begins es
+pub from_module : (es : List CertificateLine) → Begins es
 from_module [] = begins_none
 from_module (e ∷ es) = begins_step e es (from_module es)
 
@@ -134,11 +135,12 @@ all_gates f all lines n gates past so_far =
 
 -- ---- the first lines are not too many
 
-length_other : (e : Entry) (es : List Entry) → is_module e ≡ false → length (inner es) ≤ length es →
+length_other : (e : CertificateLine) (es : List CertificateLine) → is_module e ≡ false → length (inner es) ≤ length es →
     length (inner (e ∷ es)) ≤ length (e ∷ es)
 length_other e es o h = let n = ap length (inner_other e es o) in omega (arith, n, h)
 
-length_step : (e : Entry) (es : List Entry) → length (inner es) ≤ length es → length (inner (e ∷ es)) ≤ length (e ∷ es)
+length_step : (e : CertificateLine) (es : List CertificateLine) → length (inner es) ≤ length es →
+    length (inner (e ∷ es)) ≤ length (e ∷ es)
 length_step (Module b) es h = let n = ap length (inner_module (Module b) es refl) in omega (arith, n)
 length_step (Cut n) es h = length_other (Cut n) es refl h
 length_step (Use k) es h = length_other (Use k) es refl h
@@ -147,15 +149,15 @@ length_step (Edge e) es h = length_other (Edge e) es refl h
 length_step (Halo e) es h = length_other (Halo e) es refl h
 length_step (Stop s) es h = length_other (Stop s) es refl h
 
-within_none : length (inner []) ≤ length {A = Entry} []
+within_none : length (inner []) ≤ length {A = CertificateLine} []
 unfolding inner
 within_none = omega arith
 
-pub inner_within : (es : List Entry) → length (inner es) ≤ length es
+pub inner_within : (es : List CertificateLine) → length (inner es) ≤ length es
 inner_within [] = within_none
 inner_within (e ∷ es) = length_step e es (inner_within es)
 
-pub stops_from : (es before : List Entry) → before ≡ inner es →
+pub stops_from : (es before : List CertificateLine) → before ≡ inner es →
     flat_map stop_in (take (length es - length before) (drop (length before) es)) ≡ all_stops (modules_of es)
 stops_from es before e =
     ap (flat_map stop_in) (take_all (length es - length before) (drop (length before) es)

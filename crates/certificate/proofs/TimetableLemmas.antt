@@ -13,18 +13,18 @@ use Rattle.module_box.specs.Locals.{LocalNet, circuit_wire}
 use Rattle.module_box.specs.Moments.{cell_cmp, moment_cmp}
 use Rattle.module_box.specs.Schedules.{IsRising, moment_of, cell_of}
 use Rattle.module_box.specs.declared.schedules.Event.{Event}
-use Rattle.module_box.specs.declared.schedules.Held.{Held}
+use Rattle.module_box.specs.declared.schedules.AllTimes.{AllTimes}
 use Rattle.module_box.specs.declared.schedules.Signal.{Signal}
-use Rattle.certificate.specs.Jobs.{held_by, event_by, line_signal}
+use Rattle.certificate.specs.Jobs.{all_times_by, event_by, line_signal}
 use Rattle.certificate_lines.specs.Orders.{AreInOrder}
-use Rattle.module_job.specs.Signals.{IsBelow, renumber_signal, renumber_held, renumber_event}
+use Rattle.module_job.specs.Signals.{IsBelow, renumber_signal, renumber_all_times, renumber_event}
 use Rattle.certificate.specs.Timetables.{IsTimetable, borders_in}
-use Rattle.certificate_lines.specs.declared.entry.Border.{Border}
-use Rattle.certificate_lines.specs.declared.entry.Entry.{Entry}
+use Rattle.certificate_lines.specs.declared.certificate_line.Border.{Border}
+use Rattle.certificate_lines.specs.declared.certificate_line.CertificateLine.{CertificateLine}
 use Rattle.certificate.specs.declared.timetable.Side.{Side}
 use Rattle.certificate.specs.declared.timetable.Side.TheVariants.{Ring, Halo}
 use Rattle.certificate.specs.declared.timetable.Timetable.{Timetable}
-use Rattle.certificate.proofs.BorderOrder.{Before, edges_rise, halos_rise, held_rises, events_rise}
+use Rattle.certificate.proofs.BorderOrder.{Before, edges_rise, halos_rise, all_times_rises, events_rise}
 use Rattle.certificate_lines.proofs.Pairs.{Pairs}
 
 pub both_ok : {T E : Type 0} (r : Result T E) (P Q R : Type 0) → (P → Q → R) → OnOk r P → OnOk r Q → OnOk r R
@@ -36,20 +36,20 @@ one_flat f x = append-nil (f x)
 
 -- ---- one line
 
-renumbered_held : (f : ℕ → ℕ) (e : Border) (t : Option ℕ) (s : Signal) →
-    map (renumber_held f) (held_by e t s) ≡ held_by e t (renumber_signal f s)
-renumbered_held f e None s = refl
-renumbered_held f e (Some t) s = refl
+renumbered_all_times : (f : ℕ → ℕ) (e : Border) (t : Option ℕ) (s : Signal) →
+    map (renumber_all_times f) (all_times_by e t s) ≡ all_times_by e t (renumber_signal f s)
+renumbered_all_times f e None s = refl
+renumbered_all_times f e (Some t) s = refl
 
 renumbered_event : (f : ℕ → ℕ) (e : Border) (t : Option ℕ) (s : Signal) →
     map (renumber_event f) (event_by e t s) ≡ event_by e t (renumber_signal f s)
 renumbered_event f e None s = refl
 renumbered_event f e (Some t) s = refl
 
-own_held : (n : ℕ) (e : Border) (t : Option ℕ) (s : Signal) → IsBelow n s →
-    All (λ h. IsBelow n h.signal) (held_by e t s)
-own_held n e None s b = All-cons (λ h. IsBelow n h.signal) _ [] b (All-nil (λ h. IsBelow n h.signal))
-own_held n e (Some t) s b = All-nil (λ h. IsBelow n h.signal)
+own_all_times : (n : ℕ) (e : Border) (t : Option ℕ) (s : Signal) → IsBelow n s →
+    All (λ h. IsBelow n h.signal) (all_times_by e t s)
+own_all_times n e None s b = All-cons (λ h. IsBelow n h.signal) _ [] b (All-nil (λ h. IsBelow n h.signal))
+own_all_times n e (Some t) s b = All-nil (λ h. IsBelow n h.signal)
 
 own_event : (n : ℕ) (e : Border) (t : Option ℕ) (s : Signal) → IsBelow n s →
     All (λ h. IsBelow n h.signal) (event_by e t s)
@@ -62,17 +62,18 @@ next_line f xs i x lt e = flat_map_more f [] (take i xs) x
     ∙ ap (flat_map f) (sym (take_more xs i x lt ∙ ap (λ y. take i xs ++ y ∷ []) (sym e)))
 
 module _ (c : Circuit) (l : LocalNet) where
-  more_held : (es : List Border) (e : Border) (s : Signal) (hs ns : List Held) →
-      renumber_signal (circuit_wire l) s ≡ line_signal c e.signal → ns ≡ hs ++ held_by e e.time s →
-      map (renumber_held (circuit_wire l)) hs ≡ flat_map (λ d. held_by d d.time (line_signal c d.signal)) es →
-      map (renumber_held (circuit_wire l)) ns ≡ flat_map (λ d. held_by d d.time (line_signal c d.signal)) (es ++ e ∷ [])
-  more_held es e s hs ns same grown h =
-      let by : Border → List Held = λ d. held_by d d.time (line_signal c d.signal) in
-      ap (map (renumber_held (circuit_wire l))) grown
-      ∙ map-append (renumber_held (circuit_wire l)) hs (held_by e e.time s) ∙
-      ap (λ xs. xs ++ map (renumber_held (circuit_wire l)) (held_by e e.time s)) h ∙
+  more_all_times : (es : List Border) (e : Border) (s : Signal) (hs ns : List AllTimes) →
+      renumber_signal (circuit_wire l) s ≡ line_signal c e.signal → ns ≡ hs ++ all_times_by e e.time s →
+      map (renumber_all_times (circuit_wire l)) hs ≡ flat_map (λ d. all_times_by d d.time (line_signal c d.signal)) es →
+      map (renumber_all_times (circuit_wire l)) ns
+      ≡ flat_map (λ d. all_times_by d d.time (line_signal c d.signal)) (es ++ e ∷ [])
+  more_all_times es e s hs ns same grown h =
+      let by : Border → List AllTimes = λ d. all_times_by d d.time (line_signal c d.signal) in
+      ap (map (renumber_all_times (circuit_wire l))) grown
+      ∙ map-append (renumber_all_times (circuit_wire l)) hs (all_times_by e e.time s) ∙
+      ap (λ xs. xs ++ map (renumber_all_times (circuit_wire l)) (all_times_by e e.time s)) h ∙
       ap (λ xs. flat_map by es ++ xs)
-      (renumbered_held (circuit_wire l) e e.time s ∙ ap (held_by e e.time) same ∙ sym (one_flat by e)) ∙
+      (renumbered_all_times (circuit_wire l) e e.time s ∙ ap (all_times_by e e.time) same ∙ sym (one_flat by e)) ∙
       sym (flat_map-append by es (e ∷ []))
 
   more_events : (es : List Border) (e : Border) (s : Signal) (hs ns : List Event) →
@@ -91,38 +92,39 @@ module _ (c : Circuit) (l : LocalNet) where
 
   pub with_border : (es : List Border) (e : Border) (s : Signal) (old new : Timetable) →
       renumber_signal (circuit_wire l) s ≡ line_signal c e.signal → IsBelow (wires l.netlist) s →
-      new.held.items ≡ old.held.items ++ held_by e e.time s →
+      new.all_times.items ≡ old.all_times.items ++ all_times_by e e.time s →
       new.events.items ≡ old.events.items ++ event_by e e.time s →
       IsTimetable c l es old → IsTimetable c l (es ++ e ∷ []) new
-  with_border es e s old new same own held events t = record {
-    held = more_held es e s old.held.items new.held.items same held t.held;
+  with_border es e s old new same own all_times events t = record {
+    all_times = more_all_times es e s old.all_times.items new.all_times.items same all_times t.all_times;
     events = more_events es e s old.events.items new.events.items same events t.events;
-    own_held = subst (All (λ h. IsBelow (wires l.netlist) h.signal)) (sym held)
-        (All-append (λ h. IsBelow (wires l.netlist) h.signal) old.held.items _ t.own_held
-        (own_held (wires l.netlist) e e.time s own));
+    own_all_times = subst (All (λ h. IsBelow (wires l.netlist) h.signal)) (sym all_times)
+        (All-append (λ h. IsBelow (wires l.netlist) h.signal) old.all_times.items _ t.own_all_times
+        (own_all_times (wires l.netlist) e e.time s own));
     own_events = subst (All (λ h. IsBelow (wires l.netlist) h.signal)) (sym events)
         (All-append (λ h. IsBelow (wires l.netlist) h.signal) old.events.items _ t.own_events
         (own_event (wires l.netlist) e e.time s own));
   }
 
-  pub no_lines : (t : Timetable) → t.held.items ≡ [] → t.events.items ≡ [] → IsTimetable c l [] t
+  pub no_lines : (t : Timetable) → t.all_times.items ≡ [] → t.events.items ≡ [] → IsTimetable c l [] t
   no_lines t h e = record {
-    held = ap (map (renumber_held (circuit_wire l))) h;
+    all_times = ap (map (renumber_all_times (circuit_wire l))) h;
     events = ap (map (renumber_event (circuit_wire l))) e;
-    own_held = subst (All (λ h. IsBelow (wires l.netlist) h.signal)) (sym h)
+    own_all_times = subst (All (λ h. IsBelow (wires l.netlist) h.signal)) (sym h)
         (All-nil (λ h. IsBelow (wires l.netlist) h.signal));
     own_events = subst (All (λ h. IsBelow (wires l.netlist) h.signal)) (sym e)
         (All-nil (λ h. IsBelow (wires l.netlist) h.signal));
   }
 
-  pub next_table : (side : Side) (lines : List Entry) (i : ℕ) (line : Entry) (t : Timetable) → i < length lines →
+  pub next_table : (side : Side) (lines : List CertificateLine) (i : ℕ) (line : CertificateLine) (t : Timetable) →
+      i < length lines →
       line ≡ get_or lines i line →
       IsTimetable c l (flat_map (borders_in side) (take i lines) ++ borders_in side line) t →
       IsTimetable c l (flat_map (borders_in side) (take (i + 1) lines)) t
   next_table side lines i line t lt e h =
       subst (λ es. IsTimetable c l es t) (next_line (borders_in side) lines i line lt e) h
 
-  pub all_lines : (side : Side) (lines : List Entry) (i : ℕ) (t : Timetable) → length lines ≤ i →
+  pub all_lines : (side : Side) (lines : List CertificateLine) (i : ℕ) (t : Timetable) → length lines ≤ i →
       IsTimetable c l (flat_map (borders_in side) (take i lines)) t →
       IsTimetable c l (flat_map (borders_in side) lines) t
   all_lines side lines i t le h =
@@ -130,19 +132,19 @@ module _ (c : Circuit) (l : LocalNet) where
 
 -- ---- all lines
 
-pub borders_rise : (side : Side) (lines : List Entry) → AreInOrder lines →
+pub borders_rise : (side : Side) (lines : List CertificateLine) → AreInOrder lines →
     Pairs Before (flat_map (borders_in side) lines)
 borders_rise Ring lines o = edges_rise lines o
 borders_rise Halo lines o = halos_rise lines o
 
-pub table_held_rises : (c : Circuit) (l : LocalNet) (side : Side) (lines : List Entry) (t : Timetable) →
+pub table_all_times_rises : (c : Circuit) (l : LocalNet) (side : Side) (lines : List CertificateLine) (t : Timetable) →
     AreInOrder lines → IsTimetable c l (flat_map (borders_in side) lines) t →
-    IsRising cell_cmp cell_of t.held.items
-table_held_rises c l side lines t o h =
-    held_rises (λ e. line_signal c e.signal) (circuit_wire l) (flat_map (borders_in side) lines)
-    (borders_rise side lines o) t.held.items h.held
+    IsRising cell_cmp cell_of t.all_times.items
+table_all_times_rises c l side lines t o h =
+    all_times_rises (λ e. line_signal c e.signal) (circuit_wire l) (flat_map (borders_in side) lines)
+    (borders_rise side lines o) t.all_times.items h.all_times
 
-pub table_events_rise : (c : Circuit) (l : LocalNet) (side : Side) (lines : List Entry) (t : Timetable) →
+pub table_events_rise : (c : Circuit) (l : LocalNet) (side : Side) (lines : List CertificateLine) (t : Timetable) →
     AreInOrder lines → IsTimetable c l (flat_map (borders_in side) lines) t →
     IsRising moment_cmp moment_of t.events.items
 table_events_rise c l side lines t o h =

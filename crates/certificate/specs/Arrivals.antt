@@ -4,9 +4,9 @@ use Rattle.std.specs.List.{All}
 use Rattle.circuit.specs.Gates.{Delay}
 use Rattle.circuit.specs.Meaning.{Circuit, Gate}
 use Rattle.certificate.specs.Times.{times_of}
-use Rattle.certificate_lines.specs.declared.entry.StopLine.{StopLine}
-use Rattle.certificate.specs.declared.times.Gap.{Gap}
-use Rattle.certificate.specs.declared.times.Gap.TheVariants.{Steps, Missing, Before}
+use Rattle.certificate_lines.specs.declared.certificate_line.StopLine.{StopLine}
+use Rattle.certificate.specs.declared.times.StopGap.{StopGap}
+use Rattle.certificate.specs.declared.times.StopGap.TheVariants.{Steps, NoStop, Before}
 use Rattle.certificate.specs.declared.times.TimeLine.{TimeLine}
 use Rattle.certificate.specs.declared.times.TimeLine.TheVariants as line
 
@@ -41,9 +41,9 @@ pub record AreOnTime (c : Circuit) (ss : List StopLine) : Type 0 where
 
 -- what is told of a delay by its two wires, the one that it uses and the one that it defines: how many steps it takes,
 -- that one of them has no stop, or that the first time of the second comes before the last of the first
-abbrev pub TellsOfDelay : Circuit → List StopLine → Gap → (a b : ℕ) → Type 0
+abbrev pub TellsOfDelay : Circuit → List StopLine → StopGap → (a b : ℕ) → Type 0
 TellsOfDelay c ss (Steps m) a b = TakesSteps c ss m a b
-TellsOfDelay c ss Missing a b = (s t : ℕ) → IsLastTime c ss a s → ¬ IsFirstTime c ss b t
+TellsOfDelay c ss NoStop a b = (s t : ℕ) → IsLastTime c ss a s → ¬ IsFirstTime c ss b t
 TellsOfDelay c ss Before a b = (s : ℕ) × (t : ℕ) × IsLastTime c ss a s × IsFirstTime c ss b t × (t < s)
 
 -- what is told of a gate's inputs: the time at which they meet, or that there is none

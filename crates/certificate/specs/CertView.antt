@@ -3,7 +3,7 @@ use Rattle.std.specs.Prelude.{◌≡◌, ◌≤◌, ◌&&◌, false, map, IfSome
 use Rattle.std.specs.List.{All}
 use Rattle.sha2.specs.Sha256.{sha256}
 use Rattle.certificate_lines.specs.Entries.{modules_of, counts_of}
-use Rattle.certificate.specs.Grammars.{CertState}
+use Rattle.certificate.specs.Grammars.{CertView}
 use Rattle.certificate_lines.specs.Settings.{setting_of}
 use Rattle.certificate_lines.specs.Modules.{AreModules, HasFewLines}
 use Rattle.certificate_lines.specs.Versions.{is_haloless, lacks_wire}
@@ -11,8 +11,8 @@ use Rattle.certificate.specs.Text.{certificate_text}
 use Rattle.certificate.specs.declared.cert.Cert.TheInside.{Inside}
 
 -- the view of a certificate, from its fields
-abbrev pub cert_state : Inside → CertState
-cert_state a = record { circuit = a.circuit.now; layout = a.layout.now; version = a.version; entries = a.entries.items }
+abbrev pub cert_view : Inside → CertView
+cert_view a = record { circuit = a.circuit.now; layout = a.layout.now; version = a.version; entries = a.entries.items }
 
 -- the fields of every certificate: its modules are counted and good, and its version is 1 or 2
 pub record IsCert (a : Inside) : Type 0 where
@@ -22,4 +22,4 @@ pub record IsCert (a : Inside) : Type 0 where
   pub known : (1 ≤ a.version) × (a.version ≤ 2)
   pub complete : (is_haloless a.version
       && lacks_wire (setting_of a.circuit.now a.layout.now) (modules_of a.entries.items)) ≡ false
-  pub hashed : IfSome a.digest (λ digest. digest ≡ sha256 (certificate_text (cert_state a)))
+  pub hashed : IfSome a.digest (λ digest. digest ≡ sha256 (certificate_text (cert_view a)))

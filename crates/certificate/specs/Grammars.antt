@@ -7,13 +7,13 @@ use Rattle.certificate_lines.specs.Entries.{Setting, ModuleLines, modules_of}
 use Rattle.certificate_lines.specs.Forms.{form_of}
 use Rattle.certificate_lines.specs.Rules.{entry_fault, end_fault}
 use Rattle.certificate_lines.specs.Versions.{is_halo, is_haloless, lacks_wire, meant, without_halos}
-use Rattle.certificate_lines.specs.declared.entry.Entry.{Entry}
-use Rattle.circuit.specs.declared.entry.Entry.{Entry as CircuitLine}
+use Rattle.certificate_lines.specs.declared.certificate_line.CertificateLine.{CertificateLine}
+use Rattle.circuit.specs.declared.circuit_line.CircuitLine.{CircuitLine}
 use Rattle.certificate_lines.specs.Settings.{setting_of}
 
 -- The section, for a circuit and a layout. The version is 1 or 2. In version 2 a halo line has no form of the section,
 -- and at the end each module knows the wires of the edge lines beside it.
-abbrev pub certificate_grammar : Setting → Grammar ℕ Entry
+abbrev pub certificate_grammar : Setting → Grammar ℕ CertificateLine
 certificate_grammar g = record {
   form = form_of;
   header_fault = λ version. code_where (not (version == 1 || version == 2)) past_limit;
@@ -26,20 +26,20 @@ certificate_grammar g = record {
 
 -- a certificate as contracts see it: the lines of its circuit, its layout, its version, and its lines between the
 -- header and the end
-pub record CertState : Type 0 where
+pub record CertView : Type 0 where
   pub circuit : List CircuitLine
   pub layout : Pattern
   pub version : ℕ
-  pub entries : List Entry
+  pub entries : List CertificateLine
 
 -- what the section gives
-abbrev pub certificate_value : CertState → ℕ × List Entry
+abbrev pub certificate_value : CertView → ℕ × List CertificateLine
 certificate_value c = (c.version, c.entries)
 
 -- the modules of a certificate, with the halo lines that it has or that its edge lines mean
-abbrev pub modules_in : CertState → List ModuleLines
+abbrev pub modules_in : CertView → List ModuleLines
 modules_in c = meant c.version (setting_of c.circuit c.layout) (modules_of c.entries)
 
 -- a certificate written in version 2: without its halo lines
-abbrev pub migrated : CertState → CertState
+abbrev pub migrated : CertView → CertView
 migrated c = record c { version = 2; entries = without_halos c.entries }

@@ -8,17 +8,17 @@ use Rattle.module_box.specs.Boxes.{in_box}
 use Rattle.module_box.specs.Locals.{AreLocalsOf, circuit_gate, circuit_wire}
 use Rattle.module_box.specs.Schedules.{Signals}
 use Rattle.module_box.specs.declared.schedules.Event.{Event}
-use Rattle.module_box.specs.declared.schedules.Held.{Held}
+use Rattle.module_box.specs.declared.schedules.AllTimes.{AllTimes}
 use Rattle.module_box.specs.declared.schedules.Signal.{Signal}
 use Rattle.module_box.specs.declared.schedules.Signal.TheVariants.{Zero, One, Wire}
 use Rattle.certificate_lines.specs.Entries.{ModuleLines, cuts, gates, keeps, edges, halos, stops, known}
 use Rattle.module_job.specs.Signals.{renumber_signal, renumber_demand, renumber_signals, renumber_stop}
-use Rattle.certificate_lines.specs.declared.entry.Border.{Border}
-use Rattle.certificate_lines.specs.declared.entry.StopLine.{StopLine}
+use Rattle.certificate_lines.specs.declared.certificate_line.Border.{Border}
+use Rattle.certificate_lines.specs.declared.certificate_line.StopLine.{StopLine}
 use Rattle.module_job.specs.declared.job.Demand.{Demand}
 use Rattle.module_job.specs.declared.job.Demand.TheVariants as Demanded
 use Rattle.module_job.specs.declared.job.Stop.{Stop}
-use Rattle.module_job.specs.Jobs.{JobState, job_start, job_demand, NamesOwnWires}
+use Rattle.module_job.specs.Jobs.{JobView, job_start, job_demand, NamesOwnWires}
 use Rattle.certificate_lines.specs.PortTables.{port_at}
 
 -- ---- what a layout and the lines of a module ask for, by the wires of the circuit
@@ -61,9 +61,9 @@ line_signal c None = One
 line_signal c (Some n) = signal_of (wire_of c n)
 
 -- a line with a `*` holds for all odd times
-abbrev pub held_by : Border → Option ℕ → Signal → List Held
-held_by e None signal = record { cell = e.cell; signal = signal } ∷ []
-held_by e (Some t) signal = []
+abbrev pub all_times_by : Border → Option ℕ → Signal → List AllTimes
+all_times_by e None signal = record { cell = e.cell; signal = signal } ∷ []
+all_times_by e (Some t) signal = []
 
 -- and a line with a time for that time
 abbrev pub event_by : Border → Option ℕ → Signal → List Event
@@ -73,7 +73,7 @@ event_by e (Some t) signal = record { at = record { time = t; cell = e.cell }; s
 -- what edge or halo lines say, one after the other
 abbrev pub line_signals : Circuit → List Border → Signals
 line_signals c es = record {
-  held = flat_map (λ e. held_by e e.time (line_signal c e.signal)) es;
+  all_times = flat_map (λ e. all_times_by e e.time (line_signal c e.signal)) es;
   events = flat_map (λ e. event_by e e.time (line_signal c e.signal)) es;
 }
 
@@ -89,7 +89,7 @@ line_stops c ss = flat_map (λ s. numbered_stop s (wire_of c s.wire)) ss
 -- ---- the job of a module of a circuit and a layout, by the lines of the module
 -- the job of a module: its box, the layout's steps, and the wires and gates that the module knows, with what its lines,
 -- the circuit and the layout say of its cells
-pub record IsJobOf (c : Circuit) (p : Pattern) (m : ModuleLines) (j : JobState) : Type 0 where
+pub record IsJobOf (c : Circuit) (p : Pattern) (m : ModuleLines) (j : JobView) : Type 0 where
   pub area : j.area ≡ m.area
   pub steps : j.steps ≡ p.size.steps
   pub locals : AreLocalsOf c.netlist j.locals
@@ -112,7 +112,7 @@ pub record IsJobOf (c : Circuit) (p : Pattern) (m : ModuleLines) (j : JobState) 
   pub kept_are_used : All (λ k. k < length j.locals.netlist.gates) j.kept
 
 -- the jobs of modules, one for each
-pub record AreJobsOf (c : Circuit) (p : Pattern) (ms : List ModuleLines) (js : List JobState) : Type 0 where
+pub record AreJobsOf (c : Circuit) (p : Pattern) (ms : List ModuleLines) (js : List JobView) : Type 0 where
   pub count : length js ≡ length ms
-  pub each : (k : ℕ) (m : ModuleLines) (j : JobState) → slice_get ms k ≡ Some m → slice_get js k ≡ Some j →
+  pub each : (k : ℕ) (m : ModuleLines) (j : JobView) → slice_get ms k ≡ Some m → slice_get js k ≡ Some j →
       IsJobOf c p m j

@@ -7,27 +7,27 @@ use Rattle.section_text.specs.Section.{section_of, ended_line}
 use Rattle.module_box.specs.Boxes.{in_box, in_halo}
 use Rattle.module_box.specs.Schedules.{signal_at}
 use Rattle.certificate_lines.specs.Entries.{ModuleLines, Setting, edges, halos, modules_of}
-use Rattle.certificate.specs.Grammars.{CertState, certificate_grammar, certificate_value}
+use Rattle.certificate.specs.Grammars.{CertView, certificate_grammar, certificate_value}
 use Rattle.certificate.specs.Jobs.{line_signals}
 use Rattle.certificate_lines.specs.Modules.{AreModules}
 use Rattle.certificate_lines.specs.Rules.{end_fault}
 use Rattle.certificate_lines.specs.Versions.{AreGoodLines, is_haloless, lacks_wire, meant, with_halos, without_halos}
-use Rattle.certificate_lines.specs.declared.entry.Entry.{Entry}
+use Rattle.certificate_lines.specs.declared.certificate_line.CertificateLine.{CertificateLine}
 use Rattle.certificate.specs.Text.{certificate_text}
 use Rattle.certificate.specs.Arrivals.{AreOnTime, Tells}
-use Rattle.certificate.specs.Times.{all_stops, are_all_kept, first_seen, last_seen, time_lines, times_of}
-use Rattle.certificate_lines.specs.declared.entry.StopLine.{StopLine}
+use Rattle.certificate.specs.Times.{all_stops, are_all_obeyed, first_seen, last_seen, time_lines, times_of}
+use Rattle.certificate_lines.specs.declared.certificate_line.StopLine.{StopLine}
 use Rattle.circuit.specs.Meaning.{Circuit}
 
 -- the text of a certificate that is read is the text of the lines that it is read from
 abbrev pub PrintsWhatIsRead : Type 0
-PrintsWhatIsRead = (g : Setting) (n : ℕ) (ls : List (List ℕ)) (c : CertState) →
+PrintsWhatIsRead = (g : Setting) (n : ℕ) (ls : List (List ℕ)) (c : CertView) →
     section_of (certificate_grammar g) n ls ≡ Ok (certificate_value c) →
     flat_map ended_line (take (length c.entries + 2) ls) ≡ certificate_text c
 
 -- and it is read as the same certificate again, wherever it is
 abbrev pub ReadsWhatIsPrinted : Type 0
-ReadsWhatIsPrinted = (g : Setting) (text : List ℕ) (from n m : ℕ) (c : CertState) →
+ReadsWhatIsPrinted = (g : Setting) (text : List ℕ) (from n m : ℕ) (c : CertView) →
     section_of (certificate_grammar g) n (drop from (lines_of text)) ≡ Ok (certificate_value c) →
     section_of (certificate_grammar g) m (lines_of (certificate_text c)) ≡ Ok (certificate_value c)
 
@@ -48,7 +48,7 @@ LinesTell = (c : Circuit) (ms : List ModuleLines) → All (Tells c (all_stops ms
 -- if all rules are kept, each delay takes as many steps as it says, and for each gate there is a time at which its
 -- inputs meet
 abbrev pub KeptIsOnTime : Type 0
-KeptIsOnTime = (c : Circuit) (ms : List ModuleLines) → IsTrue (are_all_kept (time_lines c ms)) →
+KeptIsOnTime = (c : Circuit) (ms : List ModuleLines) → IsTrue (are_all_obeyed (time_lines c ms)) →
     AreOnTime c (all_stops ms)
 
 -- if no edge line names a wire that a module beside it lacks, the modules of either version are modules of version 1
@@ -67,22 +67,22 @@ HaloIsEdgeBeside = (g : Setting) (ms : List ModuleLines) → AreModules g ms →
     ≡ signal_at (line_signals g.circuit (edges owner)) t x y
 
 -- the lines between a header and an end are good, and the end after them
-pub record IsGoodText (g : Setting) (es : List Entry) : Type 0 where
+pub record IsGoodText (g : Setting) (es : List CertificateLine) : Type 0 where
   pub lines : AreGoodLines g [] es
   pub end : end_fault g es ≡ None
 
 -- good lines are good without the halo lines
 abbrev pub GoodWithoutHalos : Type 0
-GoodWithoutHalos = (g : Setting) (es : List Entry) → IsGoodText g es → IsGoodText g (without_halos es)
+GoodWithoutHalos = (g : Setting) (es : List CertificateLine) → IsGoodText g es → IsGoodText g (without_halos es)
 
 -- each line passes the tests of a section of this version after those before it
-abbrev pub AreFaultlessLines : Setting → ℕ → List Entry → List Entry → Type 0
+abbrev pub AreFaultlessLines : Setting → ℕ → List CertificateLine → List CertificateLine → Type 0
 AreFaultlessLines g version before [] = Unit {0}
 AreFaultlessLines g version before (i ∷ es) =
     ((certificate_grammar g).item_fault version before i ≡ None) × AreFaultlessLines g version (before ++ i ∷ []) es
 
 -- the lines are what a section of this version has between its header and its end
-pub record IsSectionOf (g : Setting) (version : ℕ) (es : List Entry) : Type 0 where
+pub record IsSectionOf (g : Setting) (version : ℕ) (es : List CertificateLine) : Type 0 where
   pub header : (certificate_grammar g).header_fault version ≡ None
   pub lines : AreFaultlessLines g version [] es
   pub end : (certificate_grammar g).end_fault version es ≡ None
@@ -90,5 +90,6 @@ pub record IsSectionOf (g : Setting) (version : ℕ) (es : List Entry) : Type 0 
 -- So a section of version 1 is one of version 2 without its halo lines, if each module knows the wires of the edge
 -- lines beside it.
 abbrev pub SectionWithoutHalos : Type 0
-SectionWithoutHalos = (g : Setting) (es : List Entry) → IsSectionOf g 1 es → lacks_wire g (modules_of es) ≡ false →
+SectionWithoutHalos = (g : Setting) (es : List CertificateLine) → IsSectionOf g 1 es →
+    lacks_wire g (modules_of es) ≡ false →
     IsSectionOf g 2 (without_halos es)

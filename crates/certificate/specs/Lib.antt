@@ -9,5 +9,5 @@ pub mod Times
 pub mod Arrivals
 pub mod SeenTimes
 pub mod Laws
-pub mod PlanView
-pub mod PartLines
+pub mod LayoutTablesView
+pub mod SliceLines

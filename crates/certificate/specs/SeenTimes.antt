@@ -3,7 +3,7 @@ use Rattle.std.specs.Prelude.{◌≡◌, ℕ, List, Option, None, slice_index_or
 use Rattle.std.specs.List.{fold}
 use Rattle.circuit.specs.Meaning.{Circuit}
 use Rattle.certificate.specs.Times.{earlier, later, times_of}
-use Rattle.certificate_lines.specs.declared.entry.StopLine.{StopLine}
+use Rattle.certificate_lines.specs.declared.certificate_line.StopLine.{StopLine}
 use Rattle.certificate.specs.declared.times.Choice.{Choice}
 use Rattle.certificate.specs.declared.times.Choice.TheVariants.{First, Last}
 

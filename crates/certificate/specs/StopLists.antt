@@ -5,7 +5,7 @@ use Rattle.circuit.specs.Meaning.{Circuit, wires}
 use Rattle.module_box.specs.Locals.{LocalNet, circuit_wire}
 use Rattle.certificate.specs.Jobs.{line_stops}
 use Rattle.module_job.specs.Signals.{renumber_stop}
-use Rattle.certificate_lines.specs.declared.entry.StopLine.{StopLine}
+use Rattle.certificate_lines.specs.declared.certificate_line.StopLine.{StopLine}
 use Rattle.module_job.specs.declared.job.Stop.{Stop}
 
 -- the stops are what the lines say, and each wire is one of the module's

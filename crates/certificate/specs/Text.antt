@@ -6,12 +6,13 @@ use Rattle.section_text.specs.Spelling.{line_text}
 use Rattle.section_text.specs.declared.section.Form.TheVariants.{Header, Item, End}
 use Rattle.pattern.specs.Text.{cell_words}
 use Rattle.module_box.specs.declared.boxes.Box2.{Box2}
-use Rattle.certificate_lines.specs.declared.entry.Border.{Border}
-use Rattle.certificate_lines.specs.declared.entry.Entry.{Entry}
-use Rattle.certificate_lines.specs.declared.entry.StopLine.{StopLine}
-use Rattle.certificate_lines.specs.declared.entry.Entry.TheVariants.{Module, Cut, Use, Keep, Edge, Halo, Stop}
+use Rattle.certificate_lines.specs.declared.certificate_line.Border.{Border}
+use Rattle.certificate_lines.specs.declared.certificate_line.CertificateLine.{CertificateLine}
+use Rattle.certificate_lines.specs.declared.certificate_line.StopLine.{StopLine}
+use Rattle.certificate_lines.specs.declared.certificate_line.CertificateLine.TheVariants.{Module, Cut, Use, Keep, Edge}
+use Rattle.certificate_lines.specs.declared.certificate_line.CertificateLine.TheVariants.{Halo, Stop}
 use Rattle.certificate_lines.specs.Forms.{Line}
-use Rattle.certificate.specs.Grammars.{CertState}
+use Rattle.certificate.specs.Grammars.{CertView}
 
 -- the words of a box: its corner and its sides
 abbrev pub area_words : Box2 → List (List ℕ)
@@ -36,7 +37,7 @@ abbrev pub stop_words : StopLine → List (List ℕ)
 stop_words s = decimal s.time ∷ s.wire ∷ cell_words s.cell
 
 -- the line of an entry
-abbrev pub entry_text : Entry → List ℕ
+abbrev pub entry_text : CertificateLine → List ℕ
 entry_text (Module b) = line_text (codes "module") (area_words b)
 entry_text (Cut name) = line_text (codes "cut") (name ∷ [])
 entry_text (Use number) = line_text (codes "use") (decimal number ∷ [])
@@ -52,6 +53,6 @@ form_text (Item entry) = entry_text entry
 form_text End = line_text (codes "end") []
 
 -- the text of a certificate, from its header line to its `end` line
-unfoldable pub certificate_text : CertState → List ℕ
+unfoldable pub certificate_text : CertView → List ℕ
 certificate_text c = line_text (codes "certificate") (decimal c.version ∷ []) ++ flat_map entry_text c.entries
     ++ line_text (codes "end") []

@@ -6,9 +6,9 @@ use Rattle.std.specs.Option.{option_to_list, option_eq}
 use Rattle.circuit.specs.Gates.{Rule, Source, Fredkin, Cswap, Interact, Switch, Delay, Unswitch, Uninteract}
 use Rattle.circuit.specs.Meaning.{Circuit, Gate, wire_of}
 use Rattle.certificate_lines.specs.Entries.{ModuleLines, stops}
-use Rattle.certificate_lines.specs.declared.entry.StopLine.{StopLine}
-use Rattle.certificate.specs.declared.times.Gap.{Gap}
-use Rattle.certificate.specs.declared.times.Gap.TheVariants.{Steps, Missing, Before}
+use Rattle.certificate_lines.specs.declared.certificate_line.StopLine.{StopLine}
+use Rattle.certificate.specs.declared.times.StopGap.{StopGap}
+use Rattle.certificate.specs.declared.times.StopGap.TheVariants.{Steps, NoStop, Before}
 use Rattle.certificate.specs.declared.times.TimeLine.{TimeLine}
 use Rattle.certificate.specs.declared.times.TimeLine.TheVariants as line
 
@@ -47,9 +47,9 @@ last_seen c ss w = fold later None (times_of c ss w)
 -- ---- delays
 
 -- from the last time of one wire to the first time of another
-abbrev pub gap_between : Option ℕ → Option ℕ → Gap
-gap_between None first = Missing
-gap_between (Some last) None = Missing
+abbrev pub gap_between : Option ℕ → Option ℕ → StopGap
+gap_between None first = NoStop
+gap_between (Some last) None = NoStop
 gap_between (Some last) (Some first) = if nat_lt first last then Before else Steps (first - last)
 
 -- the time of the first of these wires
@@ -58,7 +58,7 @@ of_wire seen [] = None
 of_wire seen (w ∷ ws) = seen w
 
 -- the line for a gate that is a delay, and none for another gate
-abbrev pub delay_by : ℕ → Rule → Gap → List TimeLine
+abbrev pub delay_by : ℕ → Rule → StopGap → List TimeLine
 delay_by k (Source b) gap = []
 delay_by k Fredkin gap = []
 delay_by k Cswap gap = []
@@ -111,13 +111,13 @@ time_lines c ms = lines_by (first_seen c (all_stops ms)) (last_seen c (all_stops
 -- ---- the rules
 
 -- a delay takes as many steps as it says, and inputs meet at one time
-abbrev pub is_kept : TimeLine → Bool
-is_kept (line.Delay k n (Steps m)) = m == n
-is_kept (line.Delay k n Missing) = false
-is_kept (line.Delay k n Before) = false
-is_kept (line.Meet k (Some t)) = true
-is_kept (line.Meet k None) = false
+abbrev pub is_obeyed : TimeLine → Bool
+is_obeyed (line.Delay k n (Steps m)) = m == n
+is_obeyed (line.Delay k n NoStop) = false
+is_obeyed (line.Delay k n Before) = false
+is_obeyed (line.Meet k (Some t)) = true
+is_obeyed (line.Meet k None) = false
 
 -- each line of a certificate says so
-abbrev pub are_all_kept : List TimeLine → Bool
-are_all_kept lines = list_all is_kept lines
+abbrev pub are_all_obeyed : List TimeLine → Bool
+are_all_obeyed lines = list_all is_obeyed lines

@@ -7,15 +7,15 @@ use Rattle.module_box.specs.Locals.{LocalNet, circuit_wire}
 use Rattle.certificate_lines.specs.Entries.{edge_in, halo_in}
 use Rattle.certificate.specs.Jobs.{line_signals}
 use Rattle.certificate_lines.specs.Rules.{is_local}
-use Rattle.module_job.specs.Signals.{IsBelow, renumber_held, renumber_event}
-use Rattle.certificate_lines.specs.declared.entry.Border.{Border}
-use Rattle.certificate_lines.specs.declared.entry.Entry.{Entry}
+use Rattle.module_job.specs.Signals.{IsBelow, renumber_all_times, renumber_event}
+use Rattle.certificate_lines.specs.declared.certificate_line.Border.{Border}
+use Rattle.certificate_lines.specs.declared.certificate_line.CertificateLine.{CertificateLine}
 use Rattle.certificate.specs.declared.timetable.Side.{Side}
 use Rattle.certificate.specs.declared.timetable.Side.TheVariants.{Ring, Halo}
 use Rattle.certificate.specs.declared.timetable.Timetable.{Timetable}
 
 -- what a line says of cells of this side
-abbrev pub borders_in : Side → Entry → List Border
+abbrev pub borders_in : Side → CertificateLine → List Border
 borders_in Ring i = edge_in i
 borders_in Halo i = halo_in i
 
@@ -30,7 +30,7 @@ pub record IsLow (c : Cell) : Type 0 where
 
 -- what is held and what happens is what the lines say, and each wire is one of the module's
 pub record IsTimetable (c : Circuit) (l : LocalNet) (es : List Border) (t : Timetable) : Type 0 where
-  pub held : map (renumber_held (circuit_wire l)) t.held.items ≡ (line_signals c es).held
+  pub all_times : map (renumber_all_times (circuit_wire l)) t.all_times.items ≡ (line_signals c es).all_times
   pub events : map (renumber_event (circuit_wire l)) t.events.items ≡ (line_signals c es).events
-  pub own_held : All (λ h. IsBelow (wires l.netlist) h.signal) t.held.items
+  pub own_all_times : All (λ h. IsBelow (wires l.netlist) h.signal) t.all_times.items
   pub own_events : All (λ e. IsBelow (wires l.netlist) e.signal) t.events.items

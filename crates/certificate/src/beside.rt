@@ -6,30 +6,33 @@ ghost use Rattle.certificate_lines.specs.Entries.{ModuleLines, edge_in, edges, m
 ghost use Rattle.certificate_lines.specs.Settings.{setting_of};
 ghost use Rattle.certificate_lines.specs.Modules.{AreModules};
 ghost use Rattle.certificate_lines.specs.ModuleParts.{AreInBox};
-ghost use Rattle.certificate.specs.PartLines.{part_lines};
+ghost use Rattle.certificate.specs.SliceLines.{slice_lines};
 ghost use Rattle.certificate_lines.specs.Versions.{beside, in_order, is_early, is_halo, with_halos};
-ghost use Rattle.certificate_lines.specs.declared.entry.Entry.TheVariants.{Halo, Stop};
+ghost use Rattle.certificate_lines.specs.declared.certificate_line.CertificateLine.TheVariants.{Halo, Stop};
 
-use crate::plan::Plan;
-use certificate_lines::{Border, Entry, compare_borders, inner_lines, push_entry};
+use crate::layout_tables::LayoutTables;
+use certificate_lines::{Border, CertificateLine, compare_borders, inner_lines, push_entry};
 use module_box::Box2;
 use std::alloc::{AllocError, Global};
 
 /// A module: its box, and its lines after the `module` line.
 #[derive(Clone, Copy)]
-pub(crate) struct Part<'a> {
+pub(crate) struct ModuleSlice<'a> {
     pub(crate) area: Box2,
-    pub(crate) lines: &'a [Entry],
+    pub(crate) lines: &'a [CertificateLine],
 }
 
 /// Returns the modules of lines.
-pub(crate) fn parts_of(alloc: Global, entries: &[Entry]) -> Result<Vec<Part>, AllocError>
-    ensures { IfOk result (λ parts. map part_lines parts.items ≡ modules_of entries.now) }
+pub(crate) fn module_slices(
+    alloc: Global,
+    entries: &[CertificateLine],
+) -> Result<Vec<ModuleSlice>, AllocError>
+    ensures { IfOk result (λ parts. map slice_lines parts.items ≡ modules_of entries.now) }
 {
     let mut parts = Vec::new(alloc);
     'lines: for (place, entry) in entries.iter().enumerate() {
-        if let Entry::Module(area) = entry {
-            parts.push(Part {
+        if let CertificateLine::Module(area) = entry {
+            parts.push(ModuleSlice {
                 area: *area,
                 lines: inner_lines(&entries[place + 1..]),
             })?;
@@ -47,17 +50,21 @@ fn push_border(halos: &mut Vec<Border>, border: Border) -> Result<(), AllocError
 }
 
 // Adds an edge line for a cell in the halo of the box.
-fn push_line(halos: &mut Vec<Border>, area: Box2, line: &Entry) -> Result<(), AllocError>
+fn push_line(halos: &mut Vec<Border>, area: Box2, line: &CertificateLine) -> Result<(), AllocError>
     ensures { OnOk result (halos.new.items
         ≡ halos.old.items ++ filter (λ e. in_halo area e.cell.x e.cell.y) (edge_in line.now)) }
 {
     match line {
-        Entry::Edge(border) if area.in_halo(border.cell) => push_border(halos, *border),
+        CertificateLine::Edge(border) if area.in_halo(border.cell) => push_border(halos, *border),
         _ => Ok(()),
     }
 }
 
-fn push_lines(halos: &mut Vec<Border>, area: Box2, lines: &[Entry]) -> Result<(), AllocError>
+fn push_lines(
+    halos: &mut Vec<Border>,
+    area: Box2,
+    lines: &[CertificateLine],
+) -> Result<(), AllocError>
     ensures { OnOk result (halos.new.items
         ≡ halos.old.items ++ filter (λ e. in_halo area e.cell.x e.cell.y)
         (flat_map edge_in lines.now)) }
@@ -69,11 +76,11 @@ fn push_lines(halos: &mut Vec<Border>, area: Box2, lines: &[Entry]) -> Result<()
 }
 
 // Adds the edge lines of a module, which are for cells of its box.
-fn push_part(halos: &mut Vec<Border>, area: Box2, part: &Part) -> Result<(), AllocError>
-    requires { AreInBox part.now.area (edges (part_lines part.now)) }
+fn push_slice(halos: &mut Vec<Border>, area: Box2, part: &ModuleSlice) -> Result<(), AllocError>
+    requires { AreInBox part.now.area (edges (slice_lines part.now)) }
     ensures { OnOk result (halos.new.items
         ≡ halos.old.items ++ filter (λ e. in_halo area e.cell.x e.cell.y)
-        (edges (part_lines part.now))) }
+        (edges (slice_lines part.now))) }
 {
     if !area.is_near(part.area) {
         return Ok(());
@@ -81,14 +88,14 @@ fn push_part(halos: &mut Vec<Border>, area: Box2, part: &Part) -> Result<(), All
     push_lines(halos, area, part.lines)
 }
 
-fn push_parts(halos: &mut Vec<Border>, area: Box2, parts: &[Part]) -> Result<(), AllocError>
-    requires { All (λ p. AreInBox p.area (edges (part_lines p))) parts.now }
+fn push_slices(halos: &mut Vec<Border>, area: Box2, parts: &[ModuleSlice]) -> Result<(), AllocError>
+    requires { All (λ p. AreInBox p.area (edges (slice_lines p))) parts.now }
     ensures { OnOk result (halos.new.items
         ≡ halos.old.items ++ filter (λ e. in_halo area e.cell.x e.cell.y)
-        (flat_map edges (map part_lines parts.now))) }
+        (flat_map edges (map slice_lines parts.now))) }
 {
     'parts: for part in parts {
-        push_part(halos, area, part)?;
+        push_slice(halos, area, part)?;
     }
     Ok(())
 }
@@ -97,64 +104,67 @@ fn push_parts(halos: &mut Vec<Border>, area: Box2, parts: &[Part]) -> Result<(),
 #[tactic(auto, unfolding(certificate_lines::specs::Versions::beside))]
 fn lines_beside(
     alloc: Global,
-    plan: &Plan,
-    parts: &[Part],
+    tables: &LayoutTables,
+    parts: &[ModuleSlice],
     area: Box2,
 ) -> Result<Vec<Border>, AllocError>
-    requires { AreModules (setting_of plan.now.circuit plan.now.layout) (map part_lines parts.now) }
+    requires { AreModules (setting_of tables.now.circuit tables.now.layout)
+        (map slice_lines parts.now) }
     ensures { IfOk result (λ halos. halos.items
-        ≡ beside (setting_of plan.now.circuit plan.now.layout) (map part_lines parts.now) area) }
+        ≡ beside (setting_of tables.now.circuit tables.now.layout) (map slice_lines parts.now)
+        area) }
 {
     let mut halos = Vec::new(alloc);
-    let size = plan.layout().size();
+    let size = tables.layout().size();
     if size.steps <= 1 {
         return Ok(halos);
     }
-    push_parts(&mut halos, area, parts)?;
+    push_slices(&mut halos, area, parts)?;
     Ok(halos)
 }
 
 // The same in order.
 fn halos_beside(
     alloc: Global,
-    plan: &Plan,
-    parts: &[Part],
+    tables: &LayoutTables,
+    parts: &[ModuleSlice],
     area: Box2,
 ) -> Result<Vec<Border>, AllocError>
-    requires { AreModules (setting_of plan.now.circuit plan.now.layout) (map part_lines parts.now) }
+    requires { AreModules (setting_of tables.now.circuit tables.now.layout)
+        (map slice_lines parts.now) }
     ensures { IfOk result (λ halos. halos.items
-        ≡ in_order (beside (setting_of plan.now.circuit plan.now.layout) (map part_lines parts.now)
-        area)) }
+        ≡ in_order (beside (setting_of tables.now.circuit tables.now.layout)
+        (map slice_lines parts.now) area)) }
 {
-    let mut halos = lines_beside(alloc, plan, parts, area)?;
+    let mut halos = lines_beside(alloc, tables, parts, area)?;
     halos.sort_by(|a, b| compare_borders(a, b))?;
     Ok(halos)
 }
 
 /// Returns whether a line is a halo line.
 #[tactic(auto, unfolding(certificate_lines::specs::Versions::is_halo))]
-pub(crate) fn is_halo(line: &Entry) -> bool
+pub(crate) fn is_halo(line: &CertificateLine) -> bool
     ensures { result ≡ is_halo line.now }
 {
     match line {
-        Entry::Halo(_) => true,
+        CertificateLine::Halo(_) => true,
         _ => false,
     }
 }
 
 // Whether a line stands before the halo lines of its module.
 #[tactic(auto, unfolding(certificate_lines::specs::Versions::is_early))]
-fn is_early(line: &Entry) -> bool
+fn is_early(line: &CertificateLine) -> bool
     ensures { result ≡ is_early line.now }
 {
     match line {
-        Entry::Halo(_) => false,
-        Entry::Stop(_) => false,
+        CertificateLine::Halo(_) => false,
+        CertificateLine::Stop(_) => false,
         _ => true,
     }
 }
 
-fn push_line_of(full: &mut Vec<Entry>, line: Entry) -> Result<(), AllocError>
+fn push_line_of(full: &mut Vec<CertificateLine>, line: CertificateLine) -> Result<(), AllocError>
     ensures { OnOk result (full.new.items ≡ full.old.items ++ line ∷ []) }
 {
     match push_entry(full, line) {
@@ -164,7 +174,7 @@ fn push_line_of(full: &mut Vec<Entry>, line: Entry) -> Result<(), AllocError>
 }
 
 // Adds the lines that stand before the halo lines.
-fn push_early(full: &mut Vec<Entry>, lines: &[Entry]) -> Result<(), AllocError>
+fn push_early(full: &mut Vec<CertificateLine>, lines: &[CertificateLine]) -> Result<(), AllocError>
     ensures { OnOk result (full.new.items ≡ full.old.items ++ filter is_early lines.now) }
 {
     'lines: for line in lines {
@@ -175,27 +185,27 @@ fn push_early(full: &mut Vec<Entry>, lines: &[Entry]) -> Result<(), AllocError>
     Ok(())
 }
 
-fn push_halos(full: &mut Vec<Entry>, halos: &[Border]) -> Result<(), AllocError>
+fn push_halos(full: &mut Vec<CertificateLine>, halos: &[Border]) -> Result<(), AllocError>
     ensures { OnOk result (full.new.items ≡ full.old.items ++ map Halo halos.now) }
 {
     'halos: for halo in halos {
-        push_line_of(full, Entry::Halo(*halo))?;
+        push_line_of(full, CertificateLine::Halo(*halo))?;
     }
     Ok(())
 }
 
 // Adds a line that is a stop.
-fn push_stop(full: &mut Vec<Entry>, line: &Entry) -> Result<(), AllocError>
+fn push_stop(full: &mut Vec<CertificateLine>, line: &CertificateLine) -> Result<(), AllocError>
     ensures { OnOk result (full.new.items ≡ full.old.items ++ map Stop (stop_in line.now)) }
 {
     match line {
-        Entry::Stop(_) => push_line_of(full, *line),
+        CertificateLine::Stop(_) => push_line_of(full, *line),
         _ => Ok(()),
     }
 }
 
 // Adds the stops.
-fn push_stops(full: &mut Vec<Entry>, lines: &[Entry]) -> Result<(), AllocError>
+fn push_stops(full: &mut Vec<CertificateLine>, lines: &[CertificateLine]) -> Result<(), AllocError>
     ensures { OnOk result (full.new.items
         ≡ full.old.items ++ map Stop (flat_map stop_in lines.now)) }
 {
@@ -209,16 +219,17 @@ fn push_stops(full: &mut Vec<Entry>, lines: &[Entry]) -> Result<(), AllocError>
 #[tactic(auto, unfolding(certificate_lines::specs::Versions::with_halos))]
 pub(crate) fn full_lines(
     alloc: Global,
-    plan: &Plan,
-    parts: &[Part],
-    part: &Part,
-) -> Result<Vec<Entry>, AllocError>
-    requires { AreModules (setting_of plan.now.circuit plan.now.layout) (map part_lines parts.now) }
+    tables: &LayoutTables,
+    parts: &[ModuleSlice],
+    part: &ModuleSlice,
+) -> Result<Vec<CertificateLine>, AllocError>
+    requires { AreModules (setting_of tables.now.circuit tables.now.layout)
+        (map slice_lines parts.now) }
     ensures { IfOk result (λ lines. record { area = part.now.area; lines = lines.items }
-        ≡ with_halos (setting_of plan.now.circuit plan.now.layout) (map part_lines parts.now)
-        (part_lines part.now)) }
+        ≡ with_halos (setting_of tables.now.circuit tables.now.layout) (map slice_lines parts.now)
+        (slice_lines part.now)) }
 {
-    let halos = halos_beside(alloc, plan, parts, part.area)?;
+    let halos = halos_beside(alloc, tables, parts, part.area)?;
     let mut full = Vec::new(alloc);
     push_early(&mut full, part.lines)?;
     push_halos(&mut full, halos.as_slice())?;

@@ -11,33 +11,33 @@ ghost use Rattle.certificate.specs.Grammars.{modules_in};
 ghost use Rattle.certificate_lines.specs.Settings.{setting_of};
 ghost use Rattle.certificate_lines.specs.Modules.{AreModules, HasFewLines};
 
-use certificate_lines::{Counts, Entry};
+use certificate_lines::{CertificateLine, Counts};
 use circuit::Circuit;
-use pattern::{Extent, Layout};
+use pattern::{Layout, LayoutHeader};
 use std::marker::Model;
 
 /// A certificate, which cuts a layout of a circuit into modules.
 ///
-/// Contracts see what it is for, its version and its lines, as a `CertState`.
+/// Contracts see what it is for, its version and its lines, as a `CertView`.
 #[derive(Drop)]
 pub struct Cert<'a> {
     pub(crate) circuit: &'a Circuit,
     pub(crate) layout: &'a Layout,
     pub(crate) version: u32,
-    pub(crate) entries: Vec<Entry>,
+    pub(crate) entries: Vec<CertificateLine>,
     pub(crate) modules: Vec<Counts>,
     // the digest of its text, if it was taken from the bytes that were read
     pub(crate) digest: Option<[u8; 32]>,
 }
 
 impl<'a> Model for Cert<'a> {
-    ghost use Rattle.certificate.specs.Grammars.{CertState};
+    ghost use Rattle.certificate.specs.Grammars.{CertView};
 
-    ghost Value = { CertState };
+    ghost Value = { CertView };
 
-    ghost use Rattle.certificate.specs.CertView.{cert_state, IsCert};
+    ghost use Rattle.certificate.specs.CertView.{cert_view, IsCert};
 
-    ghost view = { cert_state };
+    ghost view = { cert_view };
 
     ghost invariant = { IsCert };
 }
@@ -66,7 +66,7 @@ impl<'a> Cert<'a> {
     }
 
     // The lines between the header and the end.
-    pub(crate) fn entries(&self) -> &[Entry]
+    pub(crate) fn entries(&self) -> &[CertificateLine]
         ensures { result.now ≡ self.now.entries }
     {
         self.entries.as_slice()
@@ -75,7 +75,7 @@ impl<'a> Cert<'a> {
     /// Returns the width, the height and the steps of the layout: even sides of 2 to 512, and at most 65,536 steps.
     ///
     /// The whole contents of the layout are inside. No cell is taken twice at the start, or twice at the end.
-    pub fn size(&self) -> Extent
+    pub fn size(&self) -> LayoutHeader
         ensures size { result ≡ self.now.layout.size }
         ensures limits { size_fault result ≡ None }
         ensures good { AreGoodAfter result [] (parts_of self.now.layout) }

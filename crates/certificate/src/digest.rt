@@ -7,12 +7,16 @@ ghost use Rattle.certificate.specs.Text.{certificate_text, entry_text};
 
 use crate::cert::Cert;
 use crate::printing::{print_entry, print_header};
-use certificate_lines::Entry;
+use certificate_lines::CertificateLine;
 use sha2::{Digest, Sha256};
 use std::alloc::{AllocError, Global};
 
 // Hashes the text of a line, which is printed in place of the one before it.
-fn hash_line(hasher: &mut Sha256, line: &mut Vec<u8>, entry: &Entry) -> Result<(), AllocError>
+fn hash_line(
+    hasher: &mut Sha256,
+    line: &mut Vec<u8>,
+    entry: &CertificateLine,
+) -> Result<(), AllocError>
     ensures { OnOk result ((m : List ℕ) → Holds256 hasher.old m →
         Holds256 hasher.new (m ++ entry_text entry.now)) }
 {
@@ -23,7 +27,11 @@ fn hash_line(hasher: &mut Sha256, line: &mut Vec<u8>, entry: &Entry) -> Result<(
 }
 
 // Hashes the text of lines.
-fn hash_lines(hasher: &mut Sha256, line: &mut Vec<u8>, entries: &[Entry]) -> Result<(), AllocError>
+fn hash_lines(
+    hasher: &mut Sha256,
+    line: &mut Vec<u8>,
+    entries: &[CertificateLine],
+) -> Result<(), AllocError>
     ensures { OnOk result ((m : List ℕ) → Holds256 hasher.old m →
         Holds256 hasher.new (m ++ flat_map entry_text entries.now)) }
 {

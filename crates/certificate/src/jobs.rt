@@ -11,7 +11,7 @@ ghost use Rattle.certificate_lines.specs.Entries.{cut_in, keep_in, modules_of, s
 ghost use Rattle.certificate.specs.Grammars.{modules_in};
 ghost use Rattle.certificate_lines.specs.Settings.{setting_of};
 ghost use Rattle.certificate.specs.Jobs.{AreJobsOf, IsJobOf, line_signals};
-ghost use Rattle.certificate.specs.PartLines.{part_lines};
+ghost use Rattle.certificate.specs.SliceLines.{slice_lines};
 ghost use Rattle.certificate_lines.specs.Modules.{AreModules, HasPorts, IsModule};
 ghost use Rattle.certificate_lines.specs.Orders.{AreInOrder};
 ghost use Rattle.certificate_lines.specs.Rules.{is_local};
@@ -21,15 +21,15 @@ ghost use Rattle.certificate.specs.StopLists.{AreStops};
 ghost use Rattle.certificate.specs.Timetables.{IsLow, IsNamedLocal, borders_in};
 ghost use Rattle.certificate_lines.specs.Versions.{is_haloless, lacks_wire, meant, with_halos};
 
-use crate::beside::{Part, full_lines, parts_of};
+use crate::beside::{ModuleSlice, full_lines, module_slices};
 use crate::cert::Cert;
-use crate::plan::Plan;
+use crate::layout_tables::LayoutTables;
 use crate::stops::stops_of;
 use crate::timetable::{Side, signals_of};
-use certificate_lines::{Entry, cut_list, inner_lines, kept_places, used_gates};
+use certificate_lines::{CertificateLine, cut_list, inner_lines, kept_places, used_gates};
 use circuit::Circuit;
 use module_box::{Box2, Locals, Schedule};
-use module_job::{Job, Shape, Stop, back, moved_stops};
+use module_job::{Job, Shape, Stop, moved_stops, shift_to_origin};
 use std::alloc::{AllocError, Global};
 use std::sync::Arc;
 
@@ -37,7 +37,7 @@ use std::sync::Arc;
 fn named_locals(
     alloc: Global,
     circuit: &Circuit,
-    lines: &[Entry],
+    lines: &[CertificateLine],
 ) -> Result<(Locals, Vec<u16>), AllocError>
     requires lines { AreLocalLines (netlist_of circuit.now)
         (flat_map (λ n. option_to_list (wire_of (circuit_of circuit.now) n))
@@ -76,23 +76,24 @@ fn own_signals(
     locals: &Locals,
     side: Side,
     area: Box2,
-    lines: &[Entry],
+    lines: &[CertificateLine],
 ) -> Result<Schedule, AllocError>
     requires order { AreInOrder lines.now }
     requires local { All (IsNamedLocal (circuit_of circuit.now) locals.now)
         (flat_map (borders_in side) lines.now) }
     requires low { All (λ e. IsLow e.cell) (flat_map (borders_in side) lines.now) }
     requires corner { (area.x ≤ 512) × (area.y ≤ 512) }
-    ensures same { IfOk result (λ s. renumber_signals (circuit_wire locals.now) (from_corner area s)
+    ensures same_signals { IfOk result (λ s. renumber_signals (circuit_wire locals.now)
+        (from_corner area s)
         ≡ line_signals (circuit_of circuit.now) (flat_map (borders_in side) lines.now)) }
-    ensures held { IfOk result (λ s. All (λ h. IsBelow (wires locals.now.netlist) h.signal)
-        (from_corner area s).held) }
+    ensures all_times { IfOk result (λ s. All (λ h. IsBelow (wires locals.now.netlist) h.signal)
+        (from_corner area s).all_times) }
     ensures events { IfOk result (λ s. All (λ e. IsBelow (wires locals.now.netlist) e.signal)
         (from_corner area s).events) }
     ensures near { IfOk result (λ s. All (λ e. IsNear e.at.cell) s.events) }
 {
     let signals = signals_of(alloc, circuit, locals, side, lines)?;
-    signals.moved(alloc, back(area.x), back(area.y))
+    signals.moved(alloc, shift_to_origin(area.x), shift_to_origin(area.y))
 }
 
 // These signals of both sides: of the lines about cells of the ring, and of those about cells of the halo.
@@ -101,7 +102,7 @@ fn schedules(
     circuit: &Circuit,
     locals: &Locals,
     area: Box2,
-    lines: &[Entry],
+    lines: &[CertificateLine],
 ) -> Result<(Schedule, Schedule), AllocError>
     requires order { AreInOrder lines.now }
     requires edges { All (IsNamedLocal (circuit_of circuit.now) locals.now)
@@ -114,16 +115,16 @@ fn schedules(
     ensures edges { IfOk result (λ sides. renumber_signals (circuit_wire locals.now)
         (from_corner area sides.0)
         ≡ line_signals (circuit_of circuit.now) (flat_map (borders_in Side.Ring) lines.now)) }
-    ensures edges_held { IfOk result (λ sides. All
-        (λ h. IsBelow (wires locals.now.netlist) h.signal) (from_corner area sides.0).held) }
+    ensures edges_all_times { IfOk result (λ sides. All
+        (λ h. IsBelow (wires locals.now.netlist) h.signal) (from_corner area sides.0).all_times) }
     ensures edge_events { IfOk result (λ sides. All
         (λ e. IsBelow (wires locals.now.netlist) e.signal) (from_corner area sides.0).events) }
     ensures near_edges { IfOk result (λ sides. All (λ e. IsNear e.at.cell) sides.0.events) }
     ensures halos { IfOk result (λ sides. renumber_signals (circuit_wire locals.now)
         (from_corner area sides.1)
         ≡ line_signals (circuit_of circuit.now) (flat_map (borders_in Side.Halo) lines.now)) }
-    ensures halos_held { IfOk result (λ sides. All
-        (λ h. IsBelow (wires locals.now.netlist) h.signal) (from_corner area sides.1).held) }
+    ensures halos_all_times { IfOk result (λ sides. All
+        (λ h. IsBelow (wires locals.now.netlist) h.signal) (from_corner area sides.1).all_times) }
     ensures halo_events { IfOk result (λ sides. All
         (λ e. IsBelow (wires locals.now.netlist) e.signal) (from_corner area sides.1).events) }
     ensures near_halos { IfOk result (λ sides. All (λ e. IsNear e.at.cell) sides.1.events) }
@@ -139,7 +140,7 @@ fn own_stops(
     circuit: &Circuit,
     locals: &Locals,
     area: Box2,
-    lines: &[Entry],
+    lines: &[CertificateLine],
 ) -> Result<Vec<Stop>, AllocError>
     requires local { All
         (λ s. IsTrue (is_local (circuit_of circuit.now) locals.now.circuit_wires s.wire))
@@ -151,22 +152,32 @@ fn own_stops(
     ensures near { IfOk result (λ stops. All (λ s. IsNear s.at.cell) stops.items) }
 {
     let stops = stops_of(alloc, circuit, locals, lines)?;
-    moved_stops(alloc, stops.as_slice(), back(area.x), back(area.y))
+    moved_stops(
+        alloc,
+        stops.as_slice(),
+        shift_to_origin(area.x),
+        shift_to_origin(area.y),
+    )
 }
 
 // The job of the module that has this box and these lines.
-fn make_job(alloc: Global, plan: &Plan, area: Box2, lines: &[Entry]) -> Result<Job, AllocError>
-    requires module { IsModule (setting_of plan.now.circuit plan.now.layout)
+fn make_job(
+    alloc: Global,
+    tables: &LayoutTables,
+    area: Box2,
+    lines: &[CertificateLine],
+) -> Result<Job, AllocError>
+    requires module { IsModule (setting_of tables.now.circuit tables.now.layout)
         (record { area = area; lines = lines.now }) }
-    requires ports { HasPorts (setting_of plan.now.circuit plan.now.layout)
+    requires ports { HasPorts (setting_of tables.now.circuit tables.now.layout)
         (record { area = area; lines = lines.now }) }
-    ensures { IfOk result (λ j. IsJobOf (circuit_of plan.now.circuit) plan.now.layout
+    ensures { IfOk result (λ j. IsJobOf (circuit_of tables.now.circuit) tables.now.layout
         (record { area = area; lines = lines.now }) j) }
 {
-    let circuit = plan.circuit();
-    let size = plan.layout().size();
+    let circuit = tables.circuit();
+    let size = tables.layout().size();
     let (locals, kept) = named_locals(alloc, circuit, lines)?;
-    let (starts, demands) = plan.cell_lists(alloc, area, &locals)?;
+    let (starts, demands) = tables.cell_lists(alloc, area, &locals)?;
     let (edges, halos) = schedules(alloc, circuit, &locals, area, lines)?;
     let stops = own_stops(alloc, circuit, &locals, area, lines)?;
     let (wiring, wires, gates) = locals.into_parts();
@@ -192,15 +203,20 @@ fn make_job(alloc: Global, plan: &Plan, area: Box2, lines: &[Entry]) -> Result<J
 }
 
 // The jobs of the modules that have these lines.
-fn jobs_of_lines(alloc: Global, plan: &Plan, entries: &[Entry]) -> Result<Vec<Arc<Job>>, AllocError>
-    requires { AreModules (setting_of plan.now.circuit plan.now.layout) (modules_of entries.now) }
-    ensures { IfOk result (λ js. AreJobsOf (circuit_of plan.now.circuit) plan.now.layout
+fn jobs_of_lines(
+    alloc: Global,
+    tables: &LayoutTables,
+    entries: &[CertificateLine],
+) -> Result<Vec<Arc<Job>>, AllocError>
+    requires { AreModules (setting_of tables.now.circuit tables.now.layout)
+        (modules_of entries.now) }
+    ensures { IfOk result (λ js. AreJobsOf (circuit_of tables.now.circuit) tables.now.layout
         (modules_of entries.now) (map arc_value js.items)) }
 {
     let mut jobs = Vec::new(alloc);
     'lines: for (place, entry) in entries.iter().enumerate() {
-        if let Entry::Module(area) = entry {
-            let job = make_job(alloc, plan, *area, inner_lines(&entries[place + 1..]))?;
+        if let CertificateLine::Module(area) = entry {
+            let job = make_job(alloc, tables, *area, inner_lines(&entries[place + 1..]))?;
             jobs.push(Arc::new(alloc, job)?)?;
         }
     }
@@ -208,19 +224,23 @@ fn jobs_of_lines(alloc: Global, plan: &Plan, entries: &[Entry]) -> Result<Vec<Ar
 }
 
 // The jobs of modules without halo lines, by the edge lines beside them.
-fn jobs_of_parts(alloc: Global, plan: &Plan, parts: &[Part]) -> Result<Vec<Arc<Job>>, AllocError>
-    requires modules { AreModules (setting_of plan.now.circuit plan.now.layout)
-        (map part_lines parts.now) }
-    requires complete { lacks_wire (setting_of plan.now.circuit plan.now.layout)
-        (map part_lines parts.now) ≡ false }
-    ensures { IfOk result (λ js. AreJobsOf (circuit_of plan.now.circuit) plan.now.layout
-        (map (with_halos (setting_of plan.now.circuit plan.now.layout) (map part_lines parts.now))
-        (map part_lines parts.now)) (map arc_value js.items)) }
+fn jobs_of_parts(
+    alloc: Global,
+    tables: &LayoutTables,
+    parts: &[ModuleSlice],
+) -> Result<Vec<Arc<Job>>, AllocError>
+    requires modules { AreModules (setting_of tables.now.circuit tables.now.layout)
+        (map slice_lines parts.now) }
+    requires complete { lacks_wire (setting_of tables.now.circuit tables.now.layout)
+        (map slice_lines parts.now) ≡ false }
+    ensures { IfOk result (λ js. AreJobsOf (circuit_of tables.now.circuit) tables.now.layout
+        (map (with_halos (setting_of tables.now.circuit tables.now.layout)
+        (map slice_lines parts.now)) (map slice_lines parts.now)) (map arc_value js.items)) }
 {
     let mut jobs = Vec::new(alloc);
     'parts: for part in parts {
-        let lines = full_lines(alloc, plan, parts, part)?;
-        let made = make_job(alloc, plan, part.area, lines.as_slice())?;
+        let lines = full_lines(alloc, tables, parts, part)?;
+        let made = make_job(alloc, tables, part.area, lines.as_slice())?;
         let job = Arc::new(alloc, made)?;
         jobs.push(job)?;
     }
@@ -230,24 +250,24 @@ fn jobs_of_parts(alloc: Global, plan: &Plan, parts: &[Part]) -> Result<Vec<Arc<J
 // The jobs of a certificate of this version that has these lines.
 fn jobs_of_version(
     alloc: Global,
-    plan: &Plan,
+    tables: &LayoutTables,
     version: u32,
-    entries: &[Entry],
+    entries: &[CertificateLine],
 ) -> Result<Vec<Arc<Job>>, AllocError>
-    requires modules { AreModules (setting_of plan.now.circuit plan.now.layout)
+    requires modules { AreModules (setting_of tables.now.circuit tables.now.layout)
         (modules_of entries.now) }
     requires complete { (is_haloless version
-        && lacks_wire (setting_of plan.now.circuit plan.now.layout) (modules_of entries.now))
+        && lacks_wire (setting_of tables.now.circuit tables.now.layout) (modules_of entries.now))
         ≡ false }
-    ensures { IfOk result (λ js. AreJobsOf (circuit_of plan.now.circuit) plan.now.layout
-        (meant version (setting_of plan.now.circuit plan.now.layout) (modules_of entries.now))
+    ensures { IfOk result (λ js. AreJobsOf (circuit_of tables.now.circuit) tables.now.layout
+        (meant version (setting_of tables.now.circuit tables.now.layout) (modules_of entries.now))
         (map arc_value js.items)) }
 {
     if version == 2 {
-        let parts = parts_of(alloc, entries)?;
-        return jobs_of_parts(alloc, plan, parts.as_slice());
+        let parts = module_slices(alloc, entries)?;
+        return jobs_of_parts(alloc, tables, parts.as_slice());
     }
-    jobs_of_lines(alloc, plan, entries)
+    jobs_of_lines(alloc, tables, entries)
 }
 
 impl<'a> Cert<'a> {
@@ -259,7 +279,7 @@ impl<'a> Cert<'a> {
         ensures { IfOk result (λ js. AreJobsOf (circuit_of self.now.circuit) self.now.layout
             (modules_in self.now) (map arc_value js.items)) }
     {
-        let plan = Plan::new(alloc, self.circuit, self.layout)?;
-        jobs_of_version(alloc, &plan, self.version, self.entries.as_slice())
+        let tables = LayoutTables::new(alloc, self.circuit, self.layout)?;
+        jobs_of_version(alloc, &tables, self.version, self.entries.as_slice())
     }
 }

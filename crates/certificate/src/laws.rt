@@ -29,7 +29,7 @@ pub fn seen_first_and_last()
 /// So if all rules are kept, each delay takes as many steps as it says, and inputs meet.
 pub fn lines_tell_of_gates()
     ensures each { LinesTell }
-    ensures kept { KeptIsOnTime }
+    ensures obeyed_is_on_time { KeptIsOnTime }
 {}
 
 /// States that the modules of a certificate of version 2 are modules of version 1, whose halo lines are the edge lines

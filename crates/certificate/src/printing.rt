@@ -9,7 +9,7 @@ ghost use Rattle.certificate_lines.specs.Versions.{without_halos};
 
 use crate::beside::is_halo;
 use crate::cert::Cert;
-use certificate_lines::{Border, Entry, StopLine};
+use certificate_lines::{Border, CertificateLine, StopLine};
 use module_box::Box2;
 use pattern::print_cell;
 use section_text::{Name, print_number, print_word};
@@ -113,21 +113,21 @@ fn print_stop(out: &mut Vec<u8>, stop: &StopLine) -> Result<(), AllocError>
 }
 
 /// Prints a line between the header and the end.
-pub(crate) fn print_entry(out: &mut Vec<u8>, entry: &Entry) -> Result<(), AllocError>
+pub(crate) fn print_entry(out: &mut Vec<u8>, entry: &CertificateLine) -> Result<(), AllocError>
     ensures { OnOk result (out.new.items ≡ out.old.items ++ entry_text entry.now) }
 {
     match entry {
-        Entry::Module(area) => print_module(out, *area),
-        Entry::Cut(name) => print_cut(out, *name),
-        Entry::Use(number) => print_use(out, *number),
-        Entry::Keep(number) => print_keep(out, *number),
-        Entry::Edge(border) => print_border(out, b"edge", border),
-        Entry::Halo(border) => print_border(out, b"halo", border),
-        Entry::Stop(stop) => print_stop(out, stop),
+        CertificateLine::Module(area) => print_module(out, *area),
+        CertificateLine::Cut(name) => print_cut(out, *name),
+        CertificateLine::Use(number) => print_use(out, *number),
+        CertificateLine::Keep(number) => print_keep(out, *number),
+        CertificateLine::Edge(border) => print_border(out, b"edge", border),
+        CertificateLine::Halo(border) => print_border(out, b"halo", border),
+        CertificateLine::Stop(stop) => print_stop(out, stop),
     }
 }
 
-fn print_entries(out: &mut Vec<u8>, entries: &[Entry]) -> Result<(), AllocError>
+fn print_entries(out: &mut Vec<u8>, entries: &[CertificateLine]) -> Result<(), AllocError>
     ensures { OnOk result (out.new.items ≡ out.old.items ++ flat_map entry_text entries.now) }
 {
     for entry in entries {
@@ -138,7 +138,7 @@ fn print_entries(out: &mut Vec<u8>, entries: &[Entry]) -> Result<(), AllocError>
 
 // A line, unless it is a halo line.
 #[tactic(auto, unfolding(certificate_lines::specs::Versions::without_halos))]
-fn print_unless_halo(out: &mut Vec<u8>, entry: &Entry) -> Result<(), AllocError>
+fn print_unless_halo(out: &mut Vec<u8>, entry: &CertificateLine) -> Result<(), AllocError>
     ensures { OnOk result (out.new.items
         ≡ out.old.items ++ flat_map entry_text (without_halos (entry.now ∷ []))) }
 {
@@ -149,7 +149,7 @@ fn print_unless_halo(out: &mut Vec<u8>, entry: &Entry) -> Result<(), AllocError>
 }
 
 // The lines other than halo lines.
-fn print_without_halos(out: &mut Vec<u8>, entries: &[Entry]) -> Result<(), AllocError>
+fn print_without_halos(out: &mut Vec<u8>, entries: &[CertificateLine]) -> Result<(), AllocError>
     ensures { OnOk result (out.new.items
         ≡ out.old.items ++ flat_map entry_text (without_halos entries.now)) }
 {

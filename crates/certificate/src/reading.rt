@@ -6,7 +6,7 @@ ghost use Rattle.certificate_lines.specs.Settings.{setting_of};
 
 use crate::beside::is_halo;
 use crate::cert::Cert;
-use certificate_lines::{Builder, Entry, Site, line_form};
+use certificate_lines::{Builder, CertificateLine, LineTables, line_form};
 use circuit::Circuit;
 use pattern::Layout;
 use section_text::{Feed, Form, Line, LineFault, ReadFault, Section, read_section};
@@ -14,9 +14,9 @@ use sha2::{Digest, Sha256};
 use std::alloc::{AllocError, Global};
 
 // The version with halo lines, and the one without.
-const FIRST: u32 = 1;
+const VERSION_WITH_HALOS: u32 = 1;
 
-const SECOND: u32 = 2;
+const VERSION_WITHOUT_HALOS: u32 = 2;
 
 // A certificate that is read: its version, and its lines so far.
 #[derive(Drop)]
@@ -29,7 +29,7 @@ struct Reading<'a> {
 impl<'a> Section for Reading<'a> {
     type Header = u32;
 
-    type Item = Entry;
+    type Item = CertificateLine;
 
     ghost grammar = { λ r. certificate_grammar r.builder.setting };
 
@@ -37,20 +37,20 @@ impl<'a> Section for Reading<'a> {
 
     ghost items = { λ r. r.builder.entries };
 
-    fn form(&self, feed: &Feed, line: &Line) -> Option<Form<u32, Entry>> {
+    fn form(&self, feed: &Feed, line: &Line) -> Option<Form<u32, CertificateLine>> {
         line_form(feed, line)
     }
 
     fn begin(&mut self, version: u32) -> Result<(), LineFault> {
-        if (version != FIRST) & (version != SECOND) {
+        if (version != VERSION_WITH_HALOS) & (version != VERSION_WITHOUT_HALOS) {
             return Err(LineFault::Code(2));
         }
         self.version = version;
         Ok(())
     }
 
-    fn add(&mut self, entry: Entry) -> Result<(), LineFault> {
-        if (self.version == SECOND) & is_halo(&entry) {
+    fn add(&mut self, entry: CertificateLine) -> Result<(), LineFault> {
+        if (self.version == VERSION_WITHOUT_HALOS) & is_halo(&entry) {
             return Err(LineFault::Code(1));
         }
         self.builder.add(self.alloc, entry)
@@ -60,7 +60,7 @@ impl<'a> Section for Reading<'a> {
         if let Some(code) = self.builder.missing() {
             return Some(code);
         }
-        if self.version == SECOND && self.builder.lacks_wire() {
+        if self.version == VERSION_WITHOUT_HALOS && self.builder.lacks_wire() {
             return Some(11);
         }
         None
@@ -75,11 +75,11 @@ fn begin_reading<'a>(
     ensures setting { IfOk result (λ r. r.builder.setting ≡ setting_of circuit.now layout.now) }
     ensures entries { IfOk result (λ r. r.builder.entries ≡ []) }
 {
-    let site = Site::new(alloc, circuit, layout)?;
-    let builder = Builder::new(alloc, site)?;
+    let tables = LineTables::new(alloc, circuit, layout)?;
+    let builder = Builder::new(alloc, tables)?;
     Ok(Reading {
         alloc,
-        version: FIRST,
+        version: VERSION_WITH_HALOS,
         builder,
     })
 }

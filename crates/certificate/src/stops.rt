@@ -9,10 +9,10 @@ ghost use Rattle.certificate.specs.Jobs.{line_stops};
 ghost use Rattle.certificate_lines.specs.Rules.{is_local};
 ghost use Rattle.module_job.specs.Signals.{renumber_stop};
 ghost use Rattle.certificate.specs.StopLists.{AreStops};
-ghost use Rattle.certificate_lines.specs.declared.entry.StopLine.{StopLine as Line};
+ghost use Rattle.certificate_lines.specs.declared.certificate_line.StopLine.{StopLine as Line};
 
-use crate::plan::local_name;
-use certificate_lines::{Entry, StopLine};
+use crate::layout_tables::local_name;
+use certificate_lines::{CertificateLine, StopLine};
 use circuit::Circuit;
 use module_box::{Locals, Moment};
 use module_job::Stop;
@@ -21,9 +21,9 @@ use std::alloc::{AllocError, Global};
 // A stop line over the wires that the module knows.
 fn local_stop(circuit: &Circuit, locals: &Locals, line: &StopLine) -> Stop
     requires { IsTrue (is_local (circuit_of circuit.now) locals.now.circuit_wires line.now.wire) }
-    ensures same { renumber_stop (circuit_wire locals.now) result ∷ []
+    ensures same_stop { renumber_stop (circuit_wire locals.now) result ∷ []
         ≡ line_stops (circuit_of circuit.now) (line.now ∷ []) }
-    ensures own { result.wire < wires locals.now.netlist }
+    ensures own_wire { result.wire < wires locals.now.netlist }
 {
     let at = Moment {
         time: line.time,
@@ -38,7 +38,7 @@ fn push_stop(
     stops: &mut Vec<Stop>,
     circuit: &Circuit,
     locals: &Locals,
-    line: &Entry,
+    line: &CertificateLine,
 ) -> Result<(), AllocError>
     requires { All (λ s. IsTrue (is_local (circuit_of circuit.now) locals.now.circuit_wires s.wire))
         (stop_in line.now) }
@@ -46,7 +46,7 @@ fn push_stop(
         AreStops (circuit_of circuit.now) locals.now ss stops.old.items →
         AreStops (circuit_of circuit.now) locals.now (ss ++ stop_in line.now) stops.new.items) }
 {
-    if let Entry::Stop(stop) = line {
+    if let CertificateLine::Stop(stop) = line {
         stops.push(local_stop(circuit, locals, stop))?;
     }
     Ok(())
@@ -57,7 +57,7 @@ pub(crate) fn stops_of(
     alloc: Global,
     circuit: &Circuit,
     locals: &Locals,
-    lines: &[Entry],
+    lines: &[CertificateLine],
 ) -> Result<Vec<Stop>, AllocError>
     requires { All (λ s. IsTrue (is_local (circuit_of circuit.now) locals.now.circuit_wires s.wire))
         (flat_map stop_in lines.now) }

@@ -6,22 +6,22 @@ ghost use Rattle.circuit.specs.Meaning.{wires};
 ghost use Rattle.circuit.specs.Wiring.{gate_of};
 ghost use Rattle.certificate_lines.specs.Entries.{modules_of, stop_in};
 ghost use Rattle.certificate.specs.Grammars.{modules_in};
-ghost use Rattle.certificate.specs.Times.{agreed, all_stops, delay_line, gap_between, is_kept, last_times, lines_by, meet_by, meet_line, of_wire, time_lines};
+ghost use Rattle.certificate.specs.Times.{agreed, all_stops, delay_line, gap_between, is_obeyed, last_times, lines_by, meet_by, meet_line, of_wire, time_lines};
 ghost use Rattle.certificate.specs.SeenTimes.{IsTable, chosen, told_by};
-ghost use Rattle.certificate_lines.specs.declared.entry.StopLine.{StopLine as Line};
+ghost use Rattle.certificate_lines.specs.declared.certificate_line.StopLine.{StopLine as Line};
 
 use crate::cert::Cert;
-use certificate_lines::{Entry, StopLine, inner_lines};
+use certificate_lines::{CertificateLine, StopLine, inner_lines};
 use circuit::{Circuit, GateKind, GateNo, GateWires, WireNo};
 use std::alloc::{AllocError, Global};
 
 /// The time from the last stop of the wire that a delay uses to the first stop of the one that it defines.
 #[derive(Clone, Copy, Debug, PartialEq, Eq)]
-pub enum Gap {
+pub enum StopGap {
     /// The number of steps.
     Steps(u32),
     /// One of the two wires has no stop.
-    Missing,
+    NoStop,
     /// The first stop comes before the last one.
     Before,
 }
@@ -30,22 +30,29 @@ pub enum Gap {
 #[derive(Clone, Copy, Debug, PartialEq, Eq)]
 pub enum TimeLine {
     /// The time that a delay takes, and the steps that it must take.
-    Delay { gate: usize, wanted: u32, gap: Gap },
+    Delay {
+        gate: usize,
+        wanted: u32,
+        gap: StopGap,
+    },
     /// The time at which all inputs of a gate that have stops are seen last, or `None` if these times differ. Two
     /// inputs or more have stops.
-    Meet { gate: usize, at: Option<u32> },
+    Meet {
+        gate: usize,
+        at: Option<u32>,
+    },
 }
 
 impl TimeLine {
     /// Returns whether the delay takes as many steps as it says, or the inputs meet.
-    pub fn is_kept(&self) -> bool
-        ensures { result ≡ is_kept self.now }
+    pub fn is_obeyed(&self) -> bool
+        ensures { result ≡ is_obeyed self.now }
     {
         match self {
             TimeLine::Delay {
                 gate: _,
                 wanted,
-                gap: Gap::Steps(steps),
+                gap: StopGap::Steps(steps),
             } => steps == wanted,
             TimeLine::Delay { .. } => false,
             TimeLine::Meet { gate: _, at } => at.is_some(),
@@ -84,13 +91,13 @@ fn note_stop(table: &mut [Option<u32>], circuit: &Circuit, choice: Choice, stop:
 }
 
 // Takes a line into it, if it is a stop.
-fn note_line(table: &mut [Option<u32>], circuit: &Circuit, choice: Choice, line: &Entry)
+fn note_line(table: &mut [Option<u32>], circuit: &Circuit, choice: Choice, line: &CertificateLine)
     requires { length table.old ≡ wires (netlist_of circuit.now) }
     ensures table { (ss : List Line) → IsTable choice (circuit_of circuit.now) ss table.old →
         IsTable choice (circuit_of circuit.now) (ss ++ stop_in line.now) table.new }
     ensures long { length table.new ≡ length table.old }
 {
-    if let Entry::Stop(stop) = line {
+    if let CertificateLine::Stop(stop) = line {
         note_stop(table, circuit, choice, stop);
     }
 }
@@ -100,7 +107,7 @@ fn table_of(
     alloc: Global,
     circuit: &Circuit,
     choice: Choice,
-    lines: &[Entry],
+    lines: &[CertificateLine],
 ) -> Result<Vec<Option<u32>>, AllocError>
     ensures { IfOk result (λ table. IsTable choice (circuit_of circuit.now)
         (flat_map stop_in lines.now) table.items) }
@@ -129,13 +136,13 @@ fn time_of_first(table: &[Option<u32>], wires: &[WireNo]) -> Option<u32>
     }
 }
 
-fn gap_between(last: Option<u32>, first: Option<u32>) -> Gap
+fn gap_between(last: Option<u32>, first: Option<u32>) -> StopGap
     ensures { result ≡ gap_between last first }
 {
     match (last, first) {
-        (Some(last), Some(first)) if first < last => Gap::Before,
-        (Some(last), Some(first)) => Gap::Steps(first - last),
-        _ => Gap::Missing,
+        (Some(last), Some(first)) if first < last => StopGap::Before,
+        (Some(last), Some(first)) => StopGap::Steps(first - last),
+        _ => StopGap::NoStop,
     }
 }
 
@@ -242,7 +249,7 @@ fn lines_by(
 
 // The lines from the first `module` line on.
 #[tactic(auto, using(crate::proofs::TimeLemmas::inner_within))]
-fn module_lines(entries: &[Entry]) -> &[Entry]
+fn module_lines(entries: &[CertificateLine]) -> &[CertificateLine]
     ensures { flat_map stop_in result.now ≡ all_stops (modules_of entries.now) }
 {
     let before = inner_lines(entries).len();
@@ -253,7 +260,7 @@ fn module_lines(entries: &[Entry]) -> &[Entry]
 fn lines_of(
     alloc: Global,
     circuit: &Circuit,
-    entries: &[Entry],
+    entries: &[CertificateLine],
 ) -> Result<Vec<TimeLine>, AllocError>
     ensures { IfOk result (λ lines. lines.items
         ≡ time_lines (circuit_of circuit.now) (modules_of entries.now)) }

@@ -4,17 +4,17 @@ ghost use Rattle.std.specs.List.{All, flat_map};
 ghost use Rattle.circuit.specs.Bridge.{circuit_of};
 ghost use Rattle.circuit.specs.Meaning.{wires};
 ghost use Rattle.module_box.specs.Locals.{circuit_wire};
-ghost use Rattle.certificate.specs.Jobs.{event_by, held_by, line_signal, line_signals};
+ghost use Rattle.certificate.specs.Jobs.{event_by, all_times_by, line_signal, line_signals};
 ghost use Rattle.certificate_lines.specs.Orders.{AreInOrder};
 ghost use Rattle.certificate_lines.specs.Rules.{is_local};
 ghost use Rattle.module_job.specs.Signals.{IsBelow, renumber_signal, renumber_signals};
 ghost use Rattle.certificate.specs.Timetables.{IsTimetable, borders_in, IsNamedLocal};
-ghost use Rattle.certificate_lines.specs.declared.entry.Border.{Border};
+ghost use Rattle.certificate_lines.specs.declared.certificate_line.Border.{Border};
 
-use crate::plan::local_name;
-use certificate_lines::{Border, Entry};
+use crate::layout_tables::local_name;
+use certificate_lines::{Border, CertificateLine};
 use circuit::Circuit;
-use module_box::{Event, Held, Locals, Moment, Schedule, Signal};
+use module_box::{AllTimes, Event, Locals, Moment, Schedule, Signal};
 use section_text::Name;
 use std::alloc::{AllocError, Global};
 
@@ -28,16 +28,16 @@ pub(crate) enum Side {
 // What the lines so far say: at all odd times, and at single ones.
 #[derive(Drop)]
 struct Timetable {
-    held: Vec<Held>,
+    all_times: Vec<AllTimes>,
     events: Vec<Event>,
 }
 
 fn local_signal(circuit: &Circuit, locals: &Locals, signal: &Option<Name>) -> Signal
     requires { IfSome signal.now
         (λ name. IsTrue (is_local (circuit_of circuit.now) locals.now.circuit_wires name)) }
-    ensures same { renumber_signal (circuit_wire locals.now) result
+    ensures same_signal { renumber_signal (circuit_wire locals.now) result
         ≡ line_signal (circuit_of circuit.now) signal.now }
-    ensures own { IsBelow (wires locals.now.netlist) result }
+    ensures own_wire { IsBelow (wires locals.now.netlist) result }
 {
     match signal {
         None => Signal::One,
@@ -47,14 +47,14 @@ fn local_signal(circuit: &Circuit, locals: &Locals, signal: &Option<Name>) -> Si
 
 impl Timetable {
     fn push(&mut self, border: &Border, signal: Signal) -> Result<(), AllocError>
-        ensures held { OnOk result (self.new.held.items
-            ≡ self.old.held.items ++ held_by border.now border.now.time signal) }
+        ensures all_times { OnOk result (self.new.all_times.items
+            ≡ self.old.all_times.items ++ all_times_by border.now border.now.time signal) }
         ensures events { OnOk result (self.new.events.items
             ≡ self.old.events.items ++ event_by border.now border.now.time signal) }
     {
         let cell = border.cell;
         match border.time {
-            None => self.held.push(Held { cell, signal })?,
+            None => self.all_times.push(AllTimes { cell, signal })?,
             Some(time) => self.events.push(Event {
                 at: Moment { time, cell },
                 signal,
@@ -80,7 +80,7 @@ impl Timetable {
         circuit: &Circuit,
         locals: &Locals,
         side: Side,
-        line: &Entry,
+        line: &CertificateLine,
     ) -> Result<(), AllocError>
         requires { All (IsNamedLocal (circuit_of circuit.now) locals.now)
             (borders_in side line.now) }
@@ -90,8 +90,8 @@ impl Timetable {
             self.new) }
     {
         match (side, line) {
-            (Side::Ring, Entry::Edge(border)) => self.add(circuit, locals, border),
-            (Side::Halo, Entry::Halo(border)) => self.add(circuit, locals, border),
+            (Side::Ring, CertificateLine::Edge(border)) => self.add(circuit, locals, border),
+            (Side::Halo, CertificateLine::Halo(border)) => self.add(circuit, locals, border),
             _ => Ok(()),
         }
     }
@@ -103,24 +103,24 @@ pub(crate) fn signals_of(
     circuit: &Circuit,
     locals: &Locals,
     side: Side,
-    lines: &[Entry],
+    lines: &[CertificateLine],
 ) -> Result<Schedule, AllocError>
     requires order { AreInOrder lines.now }
     requires local { All (IsNamedLocal (circuit_of circuit.now) locals.now)
         (flat_map (borders_in side) lines.now) }
-    ensures same { IfOk result (λ s. renumber_signals (circuit_wire locals.now) s
+    ensures same_signals { IfOk result (λ s. renumber_signals (circuit_wire locals.now) s
         ≡ line_signals (circuit_of circuit.now) (flat_map (borders_in side) lines.now)) }
-    ensures held { IfOk result (λ s. All (λ h. IsBelow (wires locals.now.netlist) h.signal)
-        s.held) }
+    ensures all_times { IfOk result (λ s. All (λ h. IsBelow (wires locals.now.netlist) h.signal)
+        s.all_times) }
     ensures events { IfOk result (λ s. All (λ e. IsBelow (wires locals.now.netlist) e.signal)
         s.events) }
 {
     let mut table = Timetable {
-        held: Vec::new(alloc),
+        all_times: Vec::new(alloc),
         events: Vec::new(alloc),
     };
     'lines: for line in lines {
         table.add_line(circuit, locals, side, line)?;
     }
-    Ok(Schedule::new(table.held, table.events))
+    Ok(Schedule::new(table.all_times, table.events))
 }

@@ -7,8 +7,8 @@ use Rattle.std.proofs.lemmas.List.{drop_all}
 use Rattle.module_box.specs.declared.boxes.Box2.{Box2}
 use Rattle.certificate_lines.specs.Entries.{ModuleLines, modules_of}
 use Rattle.certificate_lines.specs.ModuleParts.{inner, is_module}
-use Rattle.certificate_lines.specs.declared.entry.Entry.{Entry}
-use Rattle.certificate_lines.specs.declared.entry.Entry.TheVariants.{Module}
+use Rattle.certificate_lines.specs.declared.certificate_line.CertificateLine.{CertificateLine}
+use Rattle.certificate_lines.specs.declared.certificate_line.CertificateLine.TheVariants.{Module}
 use Rattle.certificate_lines.proofs.LinesLeft.{line_here, nothing_left}
 use Rattle.certificate_lines.proofs.ModuleSplit.{split_module, split_other}
 
@@ -50,8 +50,8 @@ any_kept keep test f xs i x lt is h =
 
 -- ---- of the modules of lines
 
-module _ (test : ModuleLines → Bool) (es : List Entry) (place : ℕ) where
-  pub any_other : (e : Entry) → place < length es → e ≡ get_or es place e → is_module e ≡ false →
+module _ (test : ModuleLines → Bool) (es : List CertificateLine) (place : ℕ) where
+  pub any_other : (e : CertificateLine) → place < length es → e ≡ get_or es place e → is_module e ≡ false →
       list_any test (modules_of (drop place es)) ≡ list_any test (modules_of (drop (place + 1) es))
   any_other e lt at other = ap (list_any test)
       (ap modules_of (line_here es place e lt at) ∙ split_other e (drop (place + 1) es) other)

@@ -12,12 +12,12 @@ use Rattle.std.proofs.lemmas.Option.{slice_get_within}
 use Rattle.bbm_rule.specs.Board.{Board, live, HasSameSize, is_inside as is_on_board}
 use Rattle.section_text.specs.Codes.{code_where}
 use Rattle.pattern.specs.Lines.{cells_of, is_inside, size_fault}
-use Rattle.pattern.specs.declared.parts.Part.TheVariants.{Mirror}
+use Rattle.pattern.specs.declared.layout_line.LayoutLine.TheVariants.{Mirror}
 use Rattle.pattern.proofs.InsideLemmas.{size_sides}
 use Rattle.pattern.proofs.TakenLemmas.{cells_on_board}
 use Rattle.bbm_rule.specs.declared.block.Cell.{Cell}
 use Rattle.pattern.specs.Layout.{in_cells}
-use Rattle.pattern.specs.declared.parts.Extent.{Extent}
+use Rattle.pattern.specs.declared.layout_line.LayoutHeader.{LayoutHeader}
 use Rattle.module_box.specs.Boxes.{in_box, IsEven}
 use Rattle.module_box.specs.Tiling.{IsInside}
 use Rattle.module_box.specs.declared.boxes.Box2.{Box2}
@@ -29,8 +29,8 @@ use Rattle.certificate_lines.specs.Rules.{is_odd, is_wrong_side, is_misplaced, i
 use Rattle.certificate_lines.specs.Rules.{module_fault, end_fault, leaves_gap, overlaps, in_boxes, box_cells, whole}
 use Rattle.certificate_lines.specs.Modules.{AreUnstarred, IsModule}
 use Rattle.certificate_lines.specs.BuilderView.{AreApart, AreBuilt, AreSound, IsWritten}
-use Rattle.certificate_lines.specs.declared.entry.Counts.{Counts}
-use Rattle.certificate_lines.specs.declared.entry.Entry.{Entry}
+use Rattle.certificate_lines.specs.declared.certificate_line.Counts.{Counts}
+use Rattle.certificate_lines.specs.declared.certificate_line.CertificateLine.{CertificateLine}
 use Rattle.certificate_lines.proofs.Growing.{areas_changed, length_changed, changed_at, last_at, last_by_place}
 use Rattle.certificate_lines.proofs.Growing.{map_changed}
 use Rattle.certificate_lines.proofs.Lists.{any_at}
@@ -39,7 +39,7 @@ use Rattle.certificate_lines.proofs.PortLemmas.{has_cell, in_box_cells}
 
 -- ---- a box that is good
 
-pub record IsGoodBox (s : Extent) (b : Box2) : Type 0 where
+pub record IsGoodBox (s : LayoutHeader) (b : Box2) : Type 0 where
   pub even : IsEven b
   pub wide : (2 ≤ b.w) × (b.w ≤ 64)
   pub high : (2 ≤ b.h) × (b.h ≤ 64)
@@ -58,7 +58,8 @@ even_by n e = grind (arith, nat_tests)
 at_most : (a b : ℕ) → nat_lt a b ≡ false → b ≤ a
 at_most a b e = grind (arith, nat_tests)
 
-box_good : (s : Extent) (b : Box2) → is_wrong_side b.w ≡ false → is_wrong_side b.h ≡ false → is_misplaced s b ≡ false →
+box_good : (s : LayoutHeader) (b : Box2) → is_wrong_side b.w ≡ false → is_wrong_side b.h ≡ false →
+    is_misplaced s b ≡ false →
     IsGoodBox s b
 box_good s b wide high placed =
     let w = side b.w wide in
@@ -114,7 +115,7 @@ inside_both : (a b c d : ℕ) → a ≤ b → c ≤ d → (nat_le a b && nat_le 
 inside_both a b c d h k = grind (arith, nat_tests)
 
 -- where its cells are
-pub record IsNear (s : Extent) (b : Box2) : Type 0 where
+pub record IsNear (s : LayoutHeader) (b : Box2) : Type 0 where
   pub right : b.x + b.w ≤ 512
   pub bottom : b.y + b.h ≤ 512
 
@@ -151,7 +152,7 @@ all_same : (p q : Cell → Bool) → ((c : Cell) → p c ≡ q c) → (cells : L
 all_same p q same [] = refl
 all_same p q same (c ∷ cells) = ap₂ (λ a b. a && b) (same c) (all_same p q same cells)
 
-pub live_gap : (s : Extent) (boxes : List Box2) (covered : Board) →
+pub live_gap : (s : LayoutHeader) (boxes : List Box2) (covered : Board) →
     ((x y : ℤ) → live covered x y ≡ in_boxes boxes x y) →
     not (list_all (λ c. live covered c.x c.y) (box_cells (whole s))) ≡ leaves_gap s boxes
 live_gap s boxes covered same = ap not (all_same _ _ (λ c. same c.x c.y) (box_cells (whole s)))
@@ -172,13 +173,13 @@ pub early_fault : (g : Setting) (ms : List ModuleLines) (before : Option ModuleL
 unfolding module_fault
 early_fault g ms before b code e = rw e refl
 
-pub missing_some : (g : Setting) (entries : List Entry) (lacks full : Bool) →
+pub missing_some : (g : Setting) (entries : List CertificateLine) (lacks full : Bool) →
     lacks ≡ is_incomplete g (last_of (modules_of entries)) → not full ≡ leaves_gap g.size (areas (modules_of entries)) →
     (lacks || not full) ≡ true → Some 11 ≡ end_fault g entries
 unfolding end_fault
 missing_some g entries lacks full p q h = ap (λ b. code_where b 11) (sym h ∙ ap₂ (λ a b. a || b) p q)
 
-pub missing_none : (g : Setting) (entries : List Entry) (lacks full : Bool) →
+pub missing_none : (g : Setting) (entries : List CertificateLine) (lacks full : Bool) →
     lacks ≡ is_incomplete g (last_of (modules_of entries)) → not full ≡ leaves_gap g.size (areas (modules_of entries)) →
     (lacks || not full) ≡ false → None ≡ end_fault g entries
 unfolding end_fault
@@ -324,7 +325,7 @@ module _ (g : Setting) (ms : List ModuleLines) where
   }
 
   -- one more line of the last module
-  pub line_sound : (i : Entry) → AreSound g ms →
+  pub line_sound : (i : CertificateLine) → AreSound g ms →
       ((m : ModuleLines) → last_of ms ≡ Some m → IsWritten g m → IsWritten g (with_line i m)) →
       AreSound g (change_last (with_line i) ms)
   line_sound i sound grows = record {
@@ -341,7 +342,7 @@ module _ (g : Setting) (ms : List ModuleLines) where
     ];
   }
 
-  pub line_built : (i : Entry) (covered : Board) (counts more : List Counts) (count : Counts → Counts) →
+  pub line_built : (i : CertificateLine) (covered : Board) (counts more : List Counts) (count : Counts → Counts) →
       AreBuilt g ms covered counts →
       ((m : ModuleLines) → last_of ms ≡ Some m → IsWritten g m → IsWritten g (with_line i m))
       → ((m : ModuleLines) → counts_of (with_line i m) ≡ count (counts_of m)) → more ≡ change_last count counts →
@@ -354,7 +355,7 @@ module _ (g : Setting) (ms : List ModuleLines) where
     counted = now ∙ ap (change_last count) built.counted ∙ sym (map_changed counts_of (with_line i) count counted ms);
   }
 
-pub near_by : (s : Extent) (b : Box2) → size_fault s ≡ None → is_misplaced s b ≡ false → IsNear s b
+pub near_by : (s : LayoutHeader) (b : Box2) → size_fault s ≡ None → is_misplaced s b ≡ false → IsNear s b
 near_by s b sized placed =
     let sides = size_sides s sized in
     let bottom = or_false _ (nat_lt s.h (b.y + b.h)) placed in

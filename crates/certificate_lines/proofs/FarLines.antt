@@ -9,7 +9,7 @@ use Rattle.module_box.proofs.NearBoxes.{near_boxes}
 use Rattle.certificate_lines.specs.Entries.{ModuleLines, Setting, edges}
 use Rattle.certificate_lines.specs.ModuleParts.{AreInBox}
 use Rattle.certificate_lines.specs.Modules.{IsModule}
-use Rattle.certificate_lines.specs.declared.entry.Border.{Border}
+use Rattle.certificate_lines.specs.declared.certificate_line.Border.{Border}
 use Rattle.certificate_lines.proofs.InList.{all_in}
 use Rattle.certificate_lines.proofs.LineOrder.{In}
 

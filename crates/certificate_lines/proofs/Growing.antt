@@ -6,10 +6,11 @@ use Rattle.std.specs.List.{flat_map}
 use Rattle.std.proofs.lemmas.List.Sums.{fold_push}
 use Rattle.std.proofs.lemmas.Grind.{flat_map-append}
 use Rattle.certificate_lines.specs.Entries.{ModuleLines, with_line, change_last, last_of, add_line, modules_of, areas}
-use Rattle.certificate_lines.specs.declared.entry.Entry.{Entry}
+use Rattle.certificate_lines.specs.declared.certificate_line.CertificateLine.{CertificateLine}
 use Rattle.certificate_lines.proofs.Lists.{some_is}
 
-pub modules_push : (es : List Entry) (i : Entry) → modules_of (es ++ i ∷ []) ≡ add_line (modules_of es) i
+pub modules_push : (es : List CertificateLine) (i : CertificateLine) →
+    modules_of (es ++ i ∷ []) ≡ add_line (modules_of es) i
 unfolding modules_of
 modules_push es i = fold_push add_line [] es i
 
@@ -47,7 +48,7 @@ unchanged (x ∷ []) = refl
 unchanged (x ∷ y ∷ xs) = ap (λ l. x ∷ l) (unchanged (y ∷ xs))
 
 -- a line more leaves the boxes
-pub areas_changed : (i : Entry) (ms : List ModuleLines) → areas (change_last (with_line i) ms) ≡ areas ms
+pub areas_changed : (i : CertificateLine) (ms : List ModuleLines) → areas (change_last (with_line i) ms) ≡ areas ms
 areas_changed i ms = map_changed (λ (m : ModuleLines). m.area) (with_line i) (λ b. b) (λ m. refl) ms
     ∙ unchanged (areas ms)
 

@@ -4,27 +4,30 @@ use Rattle.std.proofs.Common.{sym, ap, ◌∙◌, arith, get_or}
 use Rattle.std.proofs.Math.Seq.{drop-cons}
 use Rattle.std.proofs.lemmas.List.{append-nil, append_assoc, drop_all, take_all, take_more}
 use Rattle.certificate_lines.specs.ModuleParts.{inner, is_module}
-use Rattle.certificate_lines.specs.declared.entry.Entry.{Entry}
+use Rattle.certificate_lines.specs.declared.certificate_line.CertificateLine.{CertificateLine}
 
-pub inner_module : (e : Entry) (es : List Entry) → is_module e ≡ true → inner (e ∷ es) ≡ []
+pub inner_module : (e : CertificateLine) (es : List CertificateLine) → is_module e ≡ true → inner (e ∷ es) ≡ []
 unfolding inner
 inner_module e es m = rw m refl
 
-pub inner_other : (e : Entry) (es : List Entry) → is_module e ≡ false → inner (e ∷ es) ≡ e ∷ inner es
+pub inner_other : (e : CertificateLine) (es : List CertificateLine) → is_module e ≡ false →
+    inner (e ∷ es) ≡ e ∷ inner es
 unfolding inner
 inner_other e es m = rw m refl
 
-here : (es : List Entry) (p : ℕ) (e : Entry) → p < length es → e ≡ get_or es p e →
+here : (es : List CertificateLine) (p : ℕ) (e : CertificateLine) → p < length es → e ≡ get_or es p e →
     inner (drop p es) ≡ inner (e ∷ drop (suc p) es)
 here es p e lt ge = ap inner (drop-cons es p e lt) ∙ ap (λ x. inner (x ∷ drop (suc p) es)) (sym ge)
 
-pub inner_found : (es : List Entry) (p : ℕ) (e : Entry) → p < length es → e ≡ get_or es p e → is_module e ≡ true →
+pub inner_found : (es : List CertificateLine) (p : ℕ) (e : CertificateLine) → p < length es → e ≡ get_or es p e →
+    is_module e ≡ true →
     inner es ≡ take p es ++ inner (drop p es) → take p es ≡ inner es
 inner_found es p e lt ge m h =
     sym (h ∙ ap (λ xs. take p es ++ xs) (here es p e lt ge ∙ inner_module e (drop (suc p) es) m)
     ∙ append-nil (take p es))
 
-pub inner_more : (es : List Entry) (p : ℕ) (e : Entry) → p < length es → e ≡ get_or es p e → is_module e ≡ false →
+pub inner_more : (es : List CertificateLine) (p : ℕ) (e : CertificateLine) → p < length es → e ≡ get_or es p e →
+    is_module e ≡ false →
     inner es ≡ take p es ++ inner (drop p es) → inner es ≡ take (p + 1) es ++ inner (drop (p + 1) es)
 inner_more es p e lt ge m h =
     let n : p + 1 ≡ suc p = omega arith in
@@ -34,11 +37,12 @@ inner_more es p e lt ge m h =
     h ∙ ap (λ xs. take p es ++ xs) d
     ∙ sym (ap (λ xs. xs ++ inner (drop (p + 1) es)) t ∙ append_assoc (take p es) (e ∷ []) (inner (drop (p + 1) es)))
 
-nothing : (xs : List Entry) → xs ++ inner [] ≡ xs
+nothing : (xs : List CertificateLine) → xs ++ inner [] ≡ xs
 unfolding inner
 nothing xs = append-nil xs
 
-pub inner_all : (es : List Entry) (p : ℕ) → length es ≤ p → inner es ≡ take p es ++ inner (drop p es) → es ≡ inner es
+pub inner_all : (es : List CertificateLine) (p : ℕ) → length es ≤ p → inner es ≡ take p es ++ inner (drop p es) →
+    es ≡ inner es
 inner_all es p le h = sym (h ∙ ap (λ xs. take p es ++ inner xs) (drop_all p es le) ∙ nothing (take p es)
     ∙ take_all p es le)
 

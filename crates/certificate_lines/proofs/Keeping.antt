@@ -13,19 +13,22 @@ use Rattle.module_box.specs.Locals.{is_among}
 use Rattle.module_box.specs.declared.boxes.Box2.{Box2}
 use Rattle.pattern.specs.Layout.{in_cells}
 use Rattle.certificate_lines.specs.Entries.{Setting, ModuleLines, with_line, change_last, last_of, add_line, modules_of}
-use Rattle.certificate_lines.specs.Entries.{present, counts_of, cut_in, use_in, edge_in, halo_in, stop_in, cuts, gates}
+use Rattle.certificate_lines.specs.Entries.{last_module, counts_of, cut_in, use_in, edge_in, halo_in, stop_in, cuts}
+use Rattle.certificate_lines.specs.Entries.{gates}
 use Rattle.certificate_lines.specs.Entries.{edges, halos, stops, known}
 use Rattle.certificate_lines.specs.Orders.{AreInOrder, may_follow}
 use Rattle.certificate_lines.specs.Rules.{same_cell, is_starred, are_new, box_cells, is_incomplete, is_local}
 use Rattle.certificate_lines.specs.Rules.{lacks_port, words_fault, line_fault, inner_fault, module_fault}
 use Rattle.certificate_lines.specs.Modules.{IsModule}
-use Rattle.certificate_lines.specs.BuilderView.{AreBuilt, AreWires, IsInner, IsPresent, IsKept, IsKeptWith, IsWritten}
+use Rattle.certificate_lines.specs.BuilderView.{AreBuilt, AreWires, IsInner, IsLastModule, IsTracked, IsTrackedWith}
+use Rattle.certificate_lines.specs.BuilderView.{IsWritten}
 use Rattle.certificate_lines.specs.BuilderView.{counted, IsSmall, outs_at, wires_in}
-use Rattle.certificate_lines.specs.declared.entry.Border.{Border}
-use Rattle.certificate_lines.specs.declared.entry.Counts.{Counts}
-use Rattle.certificate_lines.specs.declared.entry.Entry.{Entry}
-use Rattle.certificate_lines.specs.declared.entry.StopLine.{StopLine}
-use Rattle.certificate_lines.specs.declared.entry.Entry.TheVariants.{Module, Cut, Use, Keep, Edge, Halo, Stop}
+use Rattle.certificate_lines.specs.declared.certificate_line.Border.{Border}
+use Rattle.certificate_lines.specs.declared.certificate_line.Counts.{Counts}
+use Rattle.certificate_lines.specs.declared.certificate_line.CertificateLine.{CertificateLine}
+use Rattle.certificate_lines.specs.declared.certificate_line.StopLine.{StopLine}
+use Rattle.certificate_lines.specs.declared.certificate_line.CertificateLine.TheVariants.{Module, Cut, Use, Keep, Edge}
+use Rattle.certificate_lines.specs.declared.certificate_line.CertificateLine.TheVariants.{Halo, Stop}
 use Rattle.certificate_lines.proofs.BuiltLemmas.{built_none, module_built, line_built, good_module}
 use Rattle.certificate_lines.proofs.Growing.{modules_push, flat_push, flat_same, last_at, last_pushed, last_changed}
 use Rattle.certificate_lines.proofs.Growing.{last_mapped}
@@ -42,12 +45,12 @@ no_last x e = cc
 
 pub kept_none : (g : Setting) (covered : Board) → covered.width ≡ g.size.w → covered.height ≡ g.size.h →
     ((x y : ℤ) → live covered x y ≡ false) → (local : List ℕ) (e h : List Cell) →
-    IsKept g [] covered [] None [] local e h
+    IsTracked g [] covered [] None [] local e h
 unfolding modules_of last_of
 kept_none g covered w h dead local e f = record {
   built = built_none g [] covered w h dead;
   none = λ _. refl;
-  present = λ m e. absurd (no_last m e);
+  last_module = λ m e. absurd (no_last m e);
 }
 
 -- ---- the last module and its counts
@@ -76,24 +79,25 @@ pub record IsLast (ms : List ModuleLines) (k : Counts) : Type 0 where
   pub last : last_of ms ≡ Some module_lines
   pub counted : k ≡ counts_of module_lines
 
-module _ (g : Setting) (es : List Entry) (covered : Board) (counts : List Counts) (last : Option Entry)
+module _ (g : Setting) (es : List CertificateLine) (covered : Board) (counts : List Counts)
+    (last : Option CertificateLine)
     (names : List (List ℕ)) (local : List ℕ) (e h : List Cell)
-    (kept : IsKept g es covered counts last names local e h) where
-  counts_last : last_of counts ≡ option_map counts_of (present es)
+    (kept : IsTracked g es covered counts last names local e h) where
+  counts_last : last_of counts ≡ option_map counts_of (last_module es)
   counts_last = ap last_of kept.built.counted ∙ last_mapped counts_of (modules_of es)
 
-  pub no_module : last_of counts ≡ None → present es ≡ None
-  no_module none = mapped_none counts_of (present es) (sym counts_last ∙ none)
+  pub no_module : last_of counts ≡ None → last_module es ≡ None
+  no_module none = mapped_none counts_of (last_module es) (sym counts_last ∙ none)
 
   pub the_last : (k : Counts) → last_of counts ≡ Some k → IsLast (modules_of es) k
   the_last k some =
-      let r = mapped_some counts_of (present es) k (sym counts_last ∙ some) in
+      let r = mapped_some counts_of (last_module es) k (sym counts_last ∙ some) in
       record { module_lines = r.0; last = r.1; counted = r.2 }
 
-  pub last_written : (m : ModuleLines) → present es ≡ Some m → IsWritten g m
+  pub last_written : (m : ModuleLines) → last_module es ≡ Some m → IsWritten g m
   last_written m some = let at = last_at (modules_of es) m some in kept.built.sound.each at.0 m at.2
 
-  pub last_good : (m : ModuleLines) → present es ≡ Some m → IsModule g m
+  pub last_good : (m : ModuleLines) → last_module es ≡ Some m → IsModule g m
   last_good m some = (last_written m some).good
 
   few_lines : (m : ModuleLines) → IsModule g m → length (cuts m) ≤ 12
@@ -111,40 +115,41 @@ module _ (g : Setting) (es : List Entry) (covered : Board) (counts : List Counts
         few_borders = written.few_borders;
       })
 
-  lacks_by : (o : Option ModuleLines) → present es ≡ o →
+  lacks_by : (o : Option ModuleLines) → last_module es ≡ o →
       list_any (λ n. not (is_local g.circuit local n)) names ≡ is_incomplete g o
   unfolding lacks_port
   lacks_by None none = ap (list_any (λ n. not (is_local g.circuit local n)))
       (kept.none (last_none (modules_of es) none))
   lacks_by (Some m) some =
-      let p = kept.present m some in
+      let p = kept.last_module m some in
       p.ports (λ n. not (is_local g.circuit local n))
       ∙ ap (λ l. list_any (λ q. in_box m.area q.cell.x q.cell.y && not (is_local g.circuit l q.name)) g.ports) p.wires
 
-  pub lacks : list_any (λ n. not (is_local g.circuit local n)) names ≡ is_incomplete g (present es)
-  lacks = lacks_by (present es) refl
+  pub lacks : list_any (λ n. not (is_local g.circuit local n)) names ≡ is_incomplete g (last_module es)
+  lacks = lacks_by (last_module es) refl
 
-  follows_by : (m : ModuleLines) (i : Entry) (b : Bool) → present es ≡ Some m →
-      ((lines : List Entry) → AreInOrder lines → last_of lines ≡ last → b ≡ may_follow lines i) →
+  follows_by : (m : ModuleLines) (i : CertificateLine) (b : Bool) → last_module es ≡ Some m →
+      ((lines : List CertificateLine) → AreInOrder lines → last_of lines ≡ last → b ≡ may_follow lines i) →
       b ≡ may_follow m.lines i
-  follows_by m i b some f = f m.lines (last_good m some).order (kept.present m some).final
+  follows_by m i b some f = f m.lines (last_good m some).order (kept.last_module m some).final
 
-  inner_is : (m : ModuleLines) (i : Entry) → present es ≡ Some m → line_fault g m i ≡ inner_fault g (present es) i
+  inner_is : (m : ModuleLines) (i : CertificateLine) → last_module es ≡ Some m →
+      line_fault g m i ≡ inner_fault g (last_module es) i
   inner_is m i some = ap (λ o. inner_fault g o i) (sym some)
 
-  pub too_late : (k : Counts) (i : Entry) (b : Bool) → last_of counts ≡ Some k →
-      ((lines : List Entry) → AreInOrder lines → last_of lines ≡ last → b ≡ may_follow lines i) → b ≡ false →
-      Some 6 ≡ inner_fault g (present es) i
+  pub too_late : (k : Counts) (i : CertificateLine) (b : Bool) → last_of counts ≡ Some k →
+      ((lines : List CertificateLine) → AreInOrder lines → last_of lines ≡ last → b ≡ may_follow lines i) → b ≡ false →
+      Some 6 ≡ inner_fault g (last_module es) i
   too_late k i b some f late =
       let l = the_last k some in
       let m = l.module_lines in
       let not_after : may_follow m.lines i ≡ false = sym (follows_by m i b l.last f) ∙ late in
       ap (λ a. or_else (code_where (not a) 6) (words_fault g m i)) (sym not_after) ∙ inner_is m i l.last
 
-  pub in_place : (k : Counts) (i : Entry) (b : Bool) (code : Option ℕ) → last_of counts ≡ Some k →
-      ((lines : List Entry) → AreInOrder lines → last_of lines ≡ last → b ≡ may_follow lines i) → b ≡ true
-      → ((m : ModuleLines) → present es ≡ Some m → k ≡ counts_of m → code ≡ words_fault g m i) →
-      code ≡ inner_fault g (present es) i
+  pub in_place : (k : Counts) (i : CertificateLine) (b : Bool) (code : Option ℕ) → last_of counts ≡ Some k →
+      ((lines : List CertificateLine) → AreInOrder lines → last_of lines ≡ last → b ≡ may_follow lines i) → b ≡ true
+      → ((m : ModuleLines) → last_module es ≡ Some m → k ≡ counts_of m → code ≡ words_fault g m i) →
+      code ≡ inner_fault g (last_module es) i
   in_place k i b code some f good words =
       let l = the_last k some in
       let m = l.module_lines in
@@ -155,21 +160,23 @@ module _ (g : Setting) (es : List Entry) (covered : Board) (counts : List Counts
 -- ---- one more line of the last module
 
 -- what the tests of a line of a module say
-pub record IsGoodLine (g : Setting) (es : List Entry) (i : Entry) : Type 0 where
+pub record IsGoodLine (g : Setting) (es : List CertificateLine) (i : CertificateLine) : Type 0 where
   pub module_lines : ModuleLines
-  pub last : present es ≡ Some module_lines
+  pub last : last_module es ≡ Some module_lines
   pub follows : may_follow module_lines.lines i ≡ true
   pub words : words_fault g module_lines i ≡ None
 
-good_by : (g : Setting) (es : List Entry) (i : Entry) (o : Option ModuleLines) → present es ≡ o →
+good_by : (g : Setting) (es : List CertificateLine) (i : CertificateLine) (o : Option ModuleLines) →
+    last_module es ≡ o →
     inner_fault g o i ≡ None → IsGoodLine g es i
 good_by g es i None is e = absurd cc
 good_by g es i (Some m) is e =
     let parts = both_none _ (words_fault g m i) e in
     record { module_lines = m; last = is; follows = not_false _ (no_code _ 6 parts.0); words = parts.1 }
 
-pub good_line : (g : Setting) (es : List Entry) (i : Entry) → inner_fault g (present es) i ≡ None → IsGoodLine g es i
-good_line g es i e = good_by g es i (present es) refl e
+pub good_line : (g : Setting) (es : List CertificateLine) (i : CertificateLine) →
+    inner_fault g (last_module es) i ≡ None → IsGoodLine g es i
+good_line g es i e = good_by g es i (last_module es) refl e
 
 same_counts : (area : Box2) (c c' u u' e e' h h' s s' : ℕ) → c ≡ c' → u ≡ u' → e ≡ e' → h ≡ h' → s ≡ s'
     → ◌≡◌ {A = Counts} (record { area = area; cuts = c; gates = u; edges = e; halos = h; stops = s })
@@ -228,41 +235,43 @@ some_gone f (x ∷ y ∷ xs) e = absurd (filled' e)
     filled' : {A : Type 0} {y : A} {ys : List A} → y ∷ ys ≡ [] → ⊥
     filled' e = cc
 
-module _ (g : Setting) (es : List Entry) (covered : Board) (counts : List Counts) (last : Option Entry)
-    (names : List (List ℕ)) (local : List ℕ) (e h : List Cell) (kept : IsKept g es covered counts last names local e h)
-    (i : Entry) (good : IsGoodLine g es i)
+module _ (g : Setting) (es : List CertificateLine) (covered : Board) (counts : List Counts)
+    (last : Option CertificateLine)
+    (names : List (List ℕ)) (local : List ℕ) (e h : List Cell)
+    (kept : IsTracked g es covered counts last names local e h)
+    (i : CertificateLine) (good : IsGoodLine g es i)
     (step : add_line (modules_of es) i ≡ change_last (with_line i) (modules_of es))
     (are : (m : ModuleLines) → counts_of (with_line i m) ≡ counted i (counts_of m)) (after : List Counts)
     (now : after ≡ change_last (counted i) counts) where
   after_line : modules_of (es ++ i ∷ []) ≡ change_last (with_line i) (modules_of es)
   after_line = modules_push es i ∙ step
 
-  the_same : (m : ModuleLines) → present es ≡ Some m → good.module_lines ≡ m
+  the_same : (m : ModuleLines) → last_module es ≡ Some m → good.module_lines ≡ m
   the_same m some = some_is good.module_lines m (sym good.last ∙ some)
 
   pub kept_line : (IsWritten g good.module_lines → IsWritten g (with_line i good.module_lines)) →
       (local' : List ℕ) (e' h' : List Cell)
-      → (IsPresent g good.module_lines last names local e h →
-      IsPresent g (with_line i good.module_lines) (Some i) names local' e' h') →
-      IsKept g (es ++ i ∷ []) covered after (Some i) names local' e' h'
+      → (IsLastModule g good.module_lines last names local e h →
+      IsLastModule g (with_line i good.module_lines) (Some i) names local' e' h') →
+      IsTracked g (es ++ i ∷ []) covered after (Some i) names local' e' h'
   kept_line grows local' e' h' shows = record {
     built = subst (λ ms. AreBuilt g ms covered after) (sym after_line)
         (line_built g (modules_of es) i covered counts after (counted i) kept.built
         (λ m some. subst (λ k. IsWritten g k → IsWritten g (with_line i k)) (the_same m some) grows) are now);
     none = λ gone. kept.none (some_gone (with_line i) (modules_of es) (sym after_line ∙ gone));
-    present = λ m' some.
-        let r = mapped_some (with_line i) (present es) m'
+    last_module = λ m' some.
+        let r = mapped_some (with_line i) (last_module es) m'
         (sym (ap last_of after_line ∙ last_changed (with_line i) (modules_of es)) ∙ some) in
-        subst (λ k. IsPresent g k (Some i) names local' e' h') (sym r.2)
-        (subst (λ k. IsPresent g (with_line i k) (Some i) names local' e' h') (the_same r.0 r.1)
-        (shows (kept.present good.module_lines good.last)));
+        subst (λ k. IsLastModule g k (Some i) names local' e' h') (sym r.2)
+        (subst (λ k. IsLastModule g (with_line i k) (Some i) names local' e' h') (the_same r.0 r.1)
+        (shows (kept.last_module good.module_lines good.last)));
   }
 
 -- ---- what is kept of the last module after one more line
 
-module _ (g : Setting) (m : ModuleLines) (last : Option Entry) (names : List (List ℕ)) (local : List ℕ)
-    (e h : List Cell) (p : IsPresent g m last names local e h) where
-  more_stars : (c : Cell) (f : Entry → List Border) (i : Entry) (old new : List Cell) →
+module _ (g : Setting) (m : ModuleLines) (last : Option CertificateLine) (names : List (List ℕ)) (local : List ℕ)
+    (e h : List Cell) (p : IsLastModule g m last names local e h) where
+  more_stars : (c : Cell) (f : CertificateLine → List Border) (i : CertificateLine) (old new : List Cell) →
       list_any (same_cell c) old ≡ list_any (is_starred c) (flat_map f m.lines)
       → list_any (same_cell c) new ≡ (list_any (same_cell c) old || list_any (is_starred c) (f i)) →
       list_any (same_cell c) new ≡ list_any (is_starred c) (flat_map f (m.lines ++ i ∷ []))
@@ -271,11 +280,12 @@ module _ (g : Setting) (m : ModuleLines) (last : Option Entry) (names : List (Li
       ∙ sym (list_any-append (is_starred c) (flat_map f m.lines) (f i))
       ∙ ap (list_any (is_starred c)) (sym (flat_push f m.lines i))
 
-  pub present_line : (i : Entry) → known g.circuit (with_line i m) ≡ known g.circuit m ++ wires_in g.circuit i →
+  pub present_line : (i : CertificateLine) →
+      known g.circuit (with_line i m) ≡ known g.circuit m ++ wires_in g.circuit i →
       (e' h' : List Cell)
       → ((c : Cell) → list_any (same_cell c) e' ≡ (list_any (same_cell c) e || list_any (is_starred c) (edge_in i)))
       → ((c : Cell) → list_any (same_cell c) h' ≡ (list_any (same_cell c) h || list_any (is_starred c) (halo_in i)))
-      → IsPresent g (with_line i m) (Some i) names (local ++ wires_in g.circuit i) e' h'
+      → IsLastModule g (with_line i m) (Some i) names (local ++ wires_in g.circuit i) e' h'
   present_line i wires e' h' stars halo_stars = record {
     final = last_pushed m.lines i;
     ports = p.ports;
@@ -287,14 +297,14 @@ module _ (g : Setting) (m : ModuleLines) (last : Option Entry) (names : List (Li
 -- ---- each kind of line
 
 -- what a line does to the last module
-pub record DoesLine (g : Setting) (es : List Entry) (i : Entry) (m : ModuleLines) : Type 0 where
+pub record DoesLine (g : Setting) (es : List CertificateLine) (i : CertificateLine) (m : ModuleLines) : Type 0 where
   pub line : add_line (modules_of es) i ≡ change_last (with_line i) (modules_of es)
   pub counts : (n : ModuleLines) → counts_of (with_line i n) ≡ counted i (counts_of n)
   pub grows : IsWritten g m → IsWritten g (with_line i m)
   pub wires : known g.circuit (with_line i m) ≡ known g.circuit m ++ wires_in g.circuit i
   pub new : are_new (known g.circuit m) (wires_in g.circuit i) ≡ true
 
-no_wires : (g : Setting) (m : ModuleLines) (i : Entry) → cut_in i ≡ [] → use_in i ≡ [] →
+no_wires : (g : Setting) (m : ModuleLines) (i : CertificateLine) → cut_in i ≡ [] → use_in i ≡ [] →
     known g.circuit (with_line i m) ≡ known g.circuit m ++ []
 no_wires g m i no_cut no_use = known_same g m i no_cut no_use ∙ sym (append-nil (known g.circuit m))
 
@@ -302,7 +312,8 @@ cut_is_new : (local : List ℕ) (w : ℕ) → is_among local w ≡ false → are
 unfolding are_new
 cut_is_new local w new = rw new refl
 
-pub does_line : (g : Setting) (es : List Entry) (i : Entry) → IsInner i → (good : IsGoodLine g es i) →
+pub does_line : (g : Setting) (es : List CertificateLine) (i : CertificateLine) → IsInner i →
+    (good : IsGoodLine g es i) →
     IsModule g good.module_lines → DoesLine g es i good.module_lines
 unfolding add_line
 does_line g es (Module b) inner good is = absurd inner
@@ -357,22 +368,24 @@ does_line g es (Stop s) inner good is = record {
   new = none_new (known g.circuit good.module_lines);
 }
 
-module _ (g : Setting) (es : List Entry) (covered : Board) (counts : List Counts) (last : Option Entry)
-    (names : List (List ℕ)) (local : List ℕ) (e h : List Cell) (kept : IsKept g es covered counts last names local e h)
-    (i : Entry) (inner : IsInner i) (good : IsGoodLine g es i) where
+module _ (g : Setting) (es : List CertificateLine) (covered : Board) (counts : List Counts)
+    (last : Option CertificateLine)
+    (names : List (List ℕ)) (local : List ℕ) (e h : List Cell)
+    (kept : IsTracked g es covered counts last names local e h)
+    (i : CertificateLine) (inner : IsInner i) (good : IsGoodLine g es i) where
   the_line : DoesLine g es i good.module_lines
   the_line = does_line g es i inner good
       (last_good g es covered counts last names local e h kept good.module_lines good.last)
 
   -- the wires that the line makes local are not local before it
   pub inner_new : are_new local (wires_in g.circuit i) ≡ true
-  inner_new = ap (λ l. are_new l (wires_in g.circuit i)) ((kept.present good.module_lines good.last).wires)
+  inner_new = ap (λ l. are_new l (wires_in g.circuit i)) ((kept.last_module good.module_lines good.last).wires)
       ∙ the_line.new
 
   pub kept_inner : (after : List Counts) → after ≡ change_last (counted i) counts → (e' h' : List Cell)
       → ((c : Cell) → list_any (same_cell c) e' ≡ (list_any (same_cell c) e || list_any (is_starred c) (edge_in i)))
       → ((c : Cell) → list_any (same_cell c) h' ≡ (list_any (same_cell c) h || list_any (is_starred c) (halo_in i)))
-      → IsKept g (es ++ i ∷ []) covered after (Some i) names (local ++ wires_in g.circuit i) e' h'
+      → IsTracked g (es ++ i ∷ []) covered after (Some i) names (local ++ wires_in g.circuit i) e' h'
   kept_inner after now e' h' stars halo_stars =
       kept_line g es covered counts last names local e h kept i good the_line.line the_line.counts after now
       the_line.grows (local ++ wires_in g.circuit i) e' h'
@@ -384,16 +397,17 @@ pushed_some : {X : Type 0} (xs : List X) (x : X) → xs ++ x ∷ [] ≡ [] → �
 pushed_some [] x e = cc
 pushed_some (y ∷ xs) x e = cc
 
-module _ (g : Setting) (es : List Entry) (covered new_covered : Board) (counts : List Counts) (last : Option Entry)
+module _ (g : Setting) (es : List CertificateLine) (covered new_covered : Board) (counts : List Counts)
+    (last : Option CertificateLine)
     (names new_names : List (List ℕ)) (local : List ℕ) (e h : List Cell)
-    (kept : IsKept g es covered counts last names local e h)
+    (kept : IsTracked g es covered counts last names local e h)
     (b : Box2) (cells : List Cell) (are : cells ≡ box_cells b) where
   begun_lines : ModuleLines
   begun_lines = record { area = b; lines = [] }
 
   begun_present : ((f : List ℕ → Bool) →
       list_any f new_names ≡ list_any (λ p. in_box b p.cell.x p.cell.y && f p.name) g.ports) →
-      IsPresent g begun_lines None new_names [] [] []
+      IsLastModule g begun_lines None new_names [] [] []
   unfolding begun_lines last_of
   begun_present ports = record {
     final = refl;
@@ -403,10 +417,10 @@ module _ (g : Setting) (es : List Entry) (covered new_covered : Board) (counts :
     halo_stars = λ c. refl;
   }
 
-  pub kept_module : module_fault g (modules_of es) (present es) b ≡ None →
+  pub kept_module : module_fault g (modules_of es) (last_module es) b ≡ None →
       ((x y : ℤ) → live new_covered x y ≡ (live covered x y || in_cells cells x y)) → HasSameSize covered new_covered
       → ((f : List ℕ → Bool) → list_any f new_names ≡ list_any (λ p. in_box b p.cell.x p.cell.y && f p.name) g.ports)
-      → IsKept g (es ++ Module b ∷ []) new_covered
+      → IsTracked g (es ++ Module b ∷ []) new_covered
       (counts ++ record { area = b; cuts = 0; gates = 0; edges = 0; halos = 0; stops = 0 } ∷ []) None new_names [] [] []
   unfolding begun_lines add_line
   kept_module good after size ports =
@@ -414,9 +428,9 @@ module _ (g : Setting) (es : List Entry) (covered new_covered : Board) (counts :
       record {
         built = subst (λ ms. AreBuilt g ms new_covered (counts ++ counts_of begun_lines ∷ [])) (sym more)
             (module_built g (modules_of es) b covered new_covered counts cells kept.built
-            (good_module g (modules_of es) (present es) b good) are after size);
+            (good_module g (modules_of es) (last_module es) b good) are after size);
         none = λ gone. absurd (pushed_some (modules_of es) begun_lines (sym more ∙ gone));
-        present = λ m some. subst (λ k. IsPresent g k None new_names [] [] [])
+        last_module = λ m some. subst (λ k. IsLastModule g k None new_names [] [] [])
             (some_is begun_lines m (sym (ap last_of more ∙ last_pushed (modules_of es) begun_lines) ∙ some))
             (begun_present ports);
       }
@@ -424,18 +438,19 @@ module _ (g : Setting) (es : List Entry) (covered new_covered : Board) (counts :
 -- ---- with the wires of all modules
 
 pub with_none : (g : Setting) (covered : Board) → covered.width ≡ g.size.w → covered.height ≡ g.size.h →
-    ((x y : ℤ) → live covered x y ≡ false) → (e h : List Cell) → IsKeptWith g [] covered [] None [] [] [] e h
+    ((x y : ℤ) → live covered x y ≡ false) → (e h : List Cell) → IsTrackedWith g [] covered [] None [] [] [] e h
 unfolding modules_of
 with_none g covered w high dead e h = record { kept = kept_none g covered w high dead [] e h; wires = refl }
 
-module _ (g : Setting) (es : List Entry) (covered : Board) (counts : List Counts) (last : Option Entry)
+module _ (g : Setting) (es : List CertificateLine) (covered : Board) (counts : List Counts)
+    (last : Option CertificateLine)
     (names : List (List ℕ)) (earlier : List (List ℕ)) (local : List ℕ) (e h : List Cell)
-    (was : IsKeptWith g es covered counts last names earlier local e h) where
-  pub with_inner : (i : Entry) → IsInner i → (good : IsGoodLine g es i) → (after : List Counts) →
+    (was : IsTrackedWith g es covered counts last names earlier local e h) where
+  pub with_inner : (i : CertificateLine) → IsInner i → (good : IsGoodLine g es i) → (after : List Counts) →
       after ≡ change_last (counted i) counts → (e' h' : List Cell)
       → ((c : Cell) → list_any (same_cell c) e' ≡ (list_any (same_cell c) e || list_any (is_starred c) (edge_in i)))
       → ((c : Cell) → list_any (same_cell c) h' ≡ (list_any (same_cell c) h || list_any (is_starred c) (halo_in i)))
-      → IsKeptWith g (es ++ i ∷ []) covered after (Some i) names earlier (local ++ wires_in g.circuit i) e' h'
+      → IsTrackedWith g (es ++ i ∷ []) covered after (Some i) names earlier (local ++ wires_in g.circuit i) e' h'
   with_inner i inner good after now e' h' stars halo_stars =
       let line = does_line g es i inner good
       (last_good g es covered counts last names local e h was.kept good.module_lines good.last) in
@@ -449,10 +464,10 @@ module _ (g : Setting) (es : List Entry) (covered : Board) (counts : List Counts
       }
 
   pub with_module : (new_covered : Board) (new_names : List (List ℕ)) (b : Box2) (cells : List Cell) →
-      cells ≡ box_cells b → module_fault g (modules_of es) (present es) b ≡ None →
+      cells ≡ box_cells b → module_fault g (modules_of es) (last_module es) b ≡ None →
       ((x y : ℤ) → live new_covered x y ≡ (live covered x y || in_cells cells x y)) → HasSameSize covered new_covered
       → ((f : List ℕ → Bool) → list_any f new_names ≡ list_any (λ p. in_box b p.cell.x p.cell.y && f p.name) g.ports)
-      → IsKeptWith g (es ++ Module b ∷ []) new_covered
+      → IsTrackedWith g (es ++ Module b ∷ []) new_covered
       (counts ++ record { area = b; cuts = 0; gates = 0; edges = 0; halos = 0; stops = 0 } ∷ []) None new_names
       (earlier ++ local ∷ []) [] [] []
   unfolding add_line

@@ -16,10 +16,11 @@ use Rattle.certificate_lines.specs.Entries.{ModuleLines, Setting, change_last, c
 use Rattle.certificate_lines.specs.Entries.{last_of, modules_of}
 use Rattle.certificate_lines.specs.ModuleParts.{AreInBox, inner}
 use Rattle.certificate_lines.specs.Versions.{beside, is_strange, lacks_wire}
-use Rattle.certificate_lines.specs.declared.entry.Border.{Border}
-use Rattle.certificate_lines.specs.declared.entry.Counts.{Counts}
-use Rattle.certificate_lines.specs.declared.entry.Entry.{Entry}
-use Rattle.certificate_lines.specs.declared.entry.Entry.TheVariants.{Module, Cut, Use, Keep, Edge, Halo, Stop}
+use Rattle.certificate_lines.specs.declared.certificate_line.Border.{Border}
+use Rattle.certificate_lines.specs.declared.certificate_line.Counts.{Counts}
+use Rattle.certificate_lines.specs.declared.certificate_line.CertificateLine.{CertificateLine}
+use Rattle.certificate_lines.specs.declared.certificate_line.CertificateLine.TheVariants.{Module, Cut, Use, Keep, Edge}
+use Rattle.certificate_lines.specs.declared.certificate_line.CertificateLine.TheVariants.{Halo, Stop}
 use Rattle.certificate_lines.proofs.AnyLines.{any_filter, any_flat}
 use Rattle.certificate_lines.proofs.LinesLeft.{line_here}
 use Rattle.certificate_lines.proofs.FarLines.{own_lines}
@@ -164,7 +165,8 @@ area_counted ms counts k m of are at is =
 
 -- ---- a module that is read
 
-in_rest : (es : List Entry) (place : ℕ) (m : ModuleLines) → In m (modules_of (drop place es)) → In m (modules_of es)
+in_rest : (es : List CertificateLine) (place : ℕ) (m : ModuleLines) → In m (modules_of (drop place es)) →
+    In m (modules_of es)
 unfolding In
 in_rest es zero m i = i
 in_rest [] (suc n) m i = i
@@ -177,7 +179,7 @@ in_rest (Halo e ∷ es) (suc n) m i = subst (In m) (sym (split_other (Halo e) es
 in_rest (Stop s ∷ es) (suc n) m i = subst (In m) (sym (split_other (Stop s) es refl)) (in_rest es n m i)
 
 -- its edge lines are for cells of its box
-pub lines_inside : (g : Setting) (es : List Entry) (place : ℕ) (area : Box2) → AreSound g (modules_of es) →
+pub lines_inside : (g : Setting) (es : List CertificateLine) (place : ℕ) (area : Box2) → AreSound g (modules_of es) →
     place < length es → Module area ≡ get_or es place (Module area) →
     AreInBox area (flat_map edge_in (inner (drop (place + 1) es)))
 unfolding In

@@ -8,11 +8,11 @@ use Rattle.std.proofs.lemmas.Bool.{and_parts}
 use Rattle.bbm_rule.specs.Plane.{is_at}
 use Rattle.bbm_rule.specs.declared.block.Cell.{Cell}
 use Rattle.pattern.specs.Layout.{Pattern, in_layout, parts_of}
-use Rattle.pattern.specs.declared.parts.Port.{Port}
-use Rattle.pattern.specs.declared.parts.Extent.{Extent}
+use Rattle.pattern.specs.declared.layout_line.Port.{Port}
+use Rattle.pattern.specs.declared.layout_line.LayoutHeader.{LayoutHeader}
 use Rattle.pattern.specs.Lines.{AreGoodAfter, cell_fault, is_inside, is_taken}
-use Rattle.pattern.specs.declared.parts.Part.{Part}
-use Rattle.pattern.specs.declared.parts.Part.TheVariants.{Mirror, Ball, In, Out, Waste}
+use Rattle.pattern.specs.declared.layout_line.LayoutLine.{LayoutLine}
+use Rattle.pattern.specs.declared.layout_line.LayoutLine.TheVariants.{Mirror, Ball, In, Out, Waste}
 use Rattle.section_text.specs.Codes.{code_where}
 use Rattle.certificate_lines.specs.PortTables.{port_at, AreOnBoard}
 use Rattle.certificate_lines.proofs.Lists.{some_is}
@@ -72,12 +72,12 @@ no_code : (a b : Bool) → code_where (not a || b) 7 ≡ None → a ≡ true
 no_code true b e = refl
 no_code false b e = cc
 
-part_inside : (s : Extent) (before : List Part) (part : Part) → cell_fault s before part ≡ None →
+part_inside : (s : LayoutHeader) (before : List LayoutLine) (part : LayoutLine) → cell_fault s before part ≡ None →
     is_inside s part ≡ true
 unfolding cell_fault
 part_inside s before part e = no_code (is_inside s part) (is_taken before part) e
 
-parts_inside : (s : Extent) (before parts : List Part) → AreGoodAfter s before parts →
+parts_inside : (s : LayoutHeader) (before parts : List LayoutLine) → AreGoodAfter s before parts →
     list_all (is_inside s) parts ≡ true
 parts_inside s before [] h = refl
 parts_inside s before (part ∷ parts) h =
@@ -93,7 +93,7 @@ pub record LieInside (p : Pattern) : Type 0 where
 pub lie_inside : (p : Pattern) → AreGoodAfter p.size [] (parts_of p) → LieInside p
 unfolding is_inside
 lie_inside p h =
-    let test : Part → Bool = is_inside p.size in
+    let test : LayoutLine → Bool = is_inside p.size in
     let one = and_parts _ _ (sym (list_all-append test (map Mirror p.mirrors) _)
     ∙ parts_inside p.size [] (parts_of p) h) in
     let two = and_parts _ _ (sym (list_all-append test (map Ball p.balls) _) ∙ one.1) in
@@ -106,35 +106,35 @@ lie_inside p h =
       wastes = sym (list_all-map test Waste p.wastes) ∙ four.1;
     }
 
-ports_on_board : (s : Extent) (ports : List Port) → list_all (λ q. in_layout s q.cell.x q.cell.y) ports ≡ true →
+ports_on_board : (s : LayoutHeader) (ports : List Port) → list_all (λ q. in_layout s q.cell.x q.cell.y) ports ≡ true →
     AreOnBoard s ports
 ports_on_board s [] h i p e = absurd cc
 ports_on_board s (q ∷ ports) h zero p e =
     ap (λ (r : Port). in_layout s r.cell.x r.cell.y) (sym (some_is q p e)) ∙ (and_parts _ _ h).0
 ports_on_board s (q ∷ ports) h (suc i) p e = ports_on_board s ports (and_parts _ _ h).1 i p e
 
-abbrev pub AllInLayout : Extent → List Cell → Type 0
+abbrev pub AllInLayout : LayoutHeader → List Cell → Type 0
 AllInLayout s cells = (k : ℕ) (d : Cell) → k < length cells →
     in_layout s (get_or cells k d).x (get_or cells k d).y ≡ true
 
-cells_on_board : (s : Extent) (cells : List Cell) → list_all (λ c. in_layout s c.x c.y) cells ≡ true →
+cells_on_board : (s : LayoutHeader) (cells : List Cell) → list_all (λ c. in_layout s c.x c.y) cells ≡ true →
     AllInLayout s cells
 cells_on_board s [] h k d lt = absurd (omega arith)
 cells_on_board s (c ∷ cells) h zero d lt = (and_parts _ _ h).0
 cells_on_board s (c ∷ cells) h (suc k) d lt = cells_on_board s cells (and_parts _ _ h).1 k d (omega arith)
 
-module _ (p : Pattern) (s : Extent) (is : s ≡ p.size) (good : AreGoodAfter s [] (parts_of p)) where
+module _ (p : Pattern) (s : LayoutHeader) (is : s ≡ p.size) (good : AreGoodAfter s [] (parts_of p)) where
   all_inside : LieInside p
-  all_inside = lie_inside p (subst (λ (t : Extent). AreGoodAfter t [] (parts_of p)) is good)
+  all_inside = lie_inside p (subst (λ (t : LayoutHeader). AreGoodAfter t [] (parts_of p)) is good)
 
   pub ports_on_layout : AreOnBoard s p.ins × AreOnBoard s p.outs
-  ports_on_layout = subst (λ (t : Extent). AreOnBoard t p.ins × AreOnBoard t p.outs) (sym is)
+  ports_on_layout = subst (λ (t : LayoutHeader). AreOnBoard t p.ins × AreOnBoard t p.outs) (sym is)
       (ports_on_board p.size p.ins all_inside.ins, ports_on_board p.size p.outs all_inside.outs)
 
   pub balls_on_layout : AllInLayout s p.balls
-  balls_on_layout = subst (λ (t : Extent). AllInLayout t p.balls) (sym is)
+  balls_on_layout = subst (λ (t : LayoutHeader). AllInLayout t p.balls) (sym is)
       (cells_on_board p.size p.balls all_inside.balls)
 
   pub wastes_on_layout : AllInLayout s p.wastes
-  wastes_on_layout = subst (λ (t : Extent). AllInLayout t p.wastes) (sym is)
+  wastes_on_layout = subst (λ (t : LayoutHeader). AllInLayout t p.wastes) (sym is)
       (cells_on_board p.size p.wastes all_inside.wastes)

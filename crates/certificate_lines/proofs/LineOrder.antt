@@ -10,7 +10,7 @@ use Rattle.std.proofs.lemmas.Cmp.{then_total, on_total, nat_cmp_total}
 use Rattle.module_box.proofs.Rising.{cell_total}
 use Rattle.certificate_lines.specs.Orders.{time_rank}
 use Rattle.certificate_lines.specs.Versions.{line_order, put_line, in_order}
-use Rattle.certificate_lines.specs.declared.entry.Border.{Border}
+use Rattle.certificate_lines.specs.declared.certificate_line.Border.{Border}
 use Rattle.certificate_lines.proofs.Pairs.{Each, Pairs, each_map}
 
 -- ---- which elements a list has

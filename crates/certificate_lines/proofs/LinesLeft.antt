@@ -3,7 +3,7 @@ use Rattle.std.proofs.Common.{◌≡◌, ℕ, suc, ◌+◌, ◌<◌, List, [], �
 use Rattle.std.proofs.Common.{◌-◌, take}
 use Rattle.std.proofs.Math.Seq.{drop-cons}
 use Rattle.certificate_lines.specs.Entries.{modules_of}
-use Rattle.certificate_lines.specs.declared.entry.Entry.{Entry}
+use Rattle.certificate_lines.specs.declared.certificate_line.CertificateLine.{CertificateLine}
 use Rattle.std.proofs.lemmas.List.{length-drop, take_all}
 
 -- the part of a list from a place on
@@ -12,7 +12,8 @@ rest_of_lines xs n =
     let h = length-drop n xs in
     take_all (length xs - n) (drop n xs) (omega (arith, h))
 
-pub line_here : (es : List Entry) (place : ℕ) (e : Entry) → place < length es → e ≡ get_or es place e →
+pub line_here : (es : List CertificateLine) (place : ℕ) (e : CertificateLine) → place < length es →
+    e ≡ get_or es place e →
     drop place es ≡ e ∷ drop (place + 1) es
 line_here es place e lt g =
     let n : place + 1 ≡ suc place = omega arith in

@@ -10,16 +10,17 @@ use Rattle.module_box.specs.Moments.{cell_cmp}
 use Rattle.certificate_lines.specs.Entries.{use_in, keep_in, edge_in, halo_in, stop_in}
 use Rattle.certificate_lines.specs.Orders.{AreInOrder, rank_of, number_of, cell_of, line_cmp, is_cut, may_precede}
 use Rattle.certificate_lines.specs.Orders.{may_follow}
-use Rattle.certificate_lines.specs.declared.entry.Border.{Border}
-use Rattle.certificate_lines.specs.declared.entry.Entry.{Entry}
-use Rattle.certificate_lines.specs.declared.entry.StopLine.{StopLine}
-use Rattle.certificate_lines.specs.declared.entry.Entry.TheVariants.{Module, Cut, Use, Keep, Edge, Halo, Stop}
+use Rattle.certificate_lines.specs.declared.certificate_line.Border.{Border}
+use Rattle.certificate_lines.specs.declared.certificate_line.CertificateLine.{CertificateLine}
+use Rattle.certificate_lines.specs.declared.certificate_line.StopLine.{StopLine}
+use Rattle.certificate_lines.specs.declared.certificate_line.CertificateLine.TheVariants.{Module, Cut, Use, Keep, Edge}
+use Rattle.certificate_lines.specs.declared.certificate_line.CertificateLine.TheVariants.{Halo, Stop}
 
 -- ---- what comes before a line
 
-module _ {A : Type 0} (f : Entry → List A) (k : Entry) where
+module _ {A : Type 0} (f : CertificateLine → List A) (k : CertificateLine) where
   -- where no line that may precede k has any, lines that k may follow have none
-  pub none_before : ((j : Entry) → may_precede j k ≡ true → f j ≡ []) → (lines : List Entry) →
+  pub none_before : ((j : CertificateLine) → may_precede j k ≡ true → f j ≡ []) → (lines : List CertificateLine) →
       may_follow lines k ≡ true → flat_map f lines ≡ []
   unfolding may_follow
   none_before none [] h = refl
@@ -27,7 +28,8 @@ module _ {A : Type 0} (f : Entry → List A) (k : Entry) where
       let both = and_parts (may_precede j k) (list_all (λ i. may_precede i k) lines) h in
       ap₂ (λ xs ys. xs ++ ys) (none j both.0) (none_before none lines both.1)
 
-  pub all_before : (P : A → Type 0) → ((j : Entry) → may_precede j k ≡ true → All P (f j)) → (lines : List Entry) →
+  pub all_before : (P : A → Type 0) → ((j : CertificateLine) → may_precede j k ≡ true → All P (f j)) →
+      (lines : List CertificateLine) →
       may_follow lines k ≡ true → All P (flat_map f lines)
   unfolding may_follow
   all_before P each [] h = All-nil P
@@ -41,7 +43,8 @@ false_or false true h k e = cc
 false_or false false h k e = cc
 
 -- a line of a later kind does not precede
-later_kind : (i j : Entry) → is_lt (line_cmp i j) ≡ false → (is_cut i && is_cut j) ≡ false → may_precede i j ≡ true → ⊥
+later_kind : (i j : CertificateLine) → is_lt (line_cmp i j) ≡ false → (is_cut i && is_cut j) ≡ false →
+    may_precede i j ≡ true → ⊥
 unfolding may_precede
 later_kind i j h k e = false_or (is_lt (line_cmp i j)) (is_cut i && is_cut j) h k e
 
@@ -87,7 +90,7 @@ stop_then_use s g e = later_kind (Stop s) (Use g) refl refl e
 
 -- ---- no line of a kind stands before a line of an earlier kind
 
-pub no_use_before_cut : (n : List ℕ) (j : Entry) → may_precede j (Cut n) ≡ true → use_in j ≡ []
+pub no_use_before_cut : (n : List ℕ) (j : CertificateLine) → may_precede j (Cut n) ≡ true → use_in j ≡ []
 no_use_before_cut n (Module b) h = refl
 no_use_before_cut n (Cut m) h = refl
 no_use_before_cut n (Use g) h = absurd (use_then_cut g n h)
@@ -96,7 +99,7 @@ no_use_before_cut n (Edge d) h = refl
 no_use_before_cut n (Halo d) h = refl
 no_use_before_cut n (Stop s) h = refl
 
-pub no_keep_before_cut : (n : List ℕ) (j : Entry) → may_precede j (Cut n) ≡ true → keep_in j ≡ []
+pub no_keep_before_cut : (n : List ℕ) (j : CertificateLine) → may_precede j (Cut n) ≡ true → keep_in j ≡ []
 no_keep_before_cut n (Module b) h = refl
 no_keep_before_cut n (Cut m) h = refl
 no_keep_before_cut n (Use g) h = refl
@@ -105,7 +108,7 @@ no_keep_before_cut n (Edge d) h = refl
 no_keep_before_cut n (Halo d) h = refl
 no_keep_before_cut n (Stop s) h = refl
 
-pub no_keep_before_use : (g : ℕ) (j : Entry) → may_precede j (Use g) ≡ true → keep_in j ≡ []
+pub no_keep_before_use : (g : ℕ) (j : CertificateLine) → may_precede j (Use g) ≡ true → keep_in j ≡ []
 no_keep_before_use g (Module b) h = refl
 no_keep_before_use g (Cut m) h = refl
 no_keep_before_use g (Use k) h = refl
@@ -114,7 +117,7 @@ no_keep_before_use g (Edge d) h = refl
 no_keep_before_use g (Halo d) h = refl
 no_keep_before_use g (Stop s) h = refl
 
-pub no_edge_before_cut : (n : List ℕ) (j : Entry) → may_precede j (Cut n) ≡ true → edge_in j ≡ []
+pub no_edge_before_cut : (n : List ℕ) (j : CertificateLine) → may_precede j (Cut n) ≡ true → edge_in j ≡ []
 no_edge_before_cut n (Module b) h = refl
 no_edge_before_cut n (Cut m) h = refl
 no_edge_before_cut n (Use g) h = refl
@@ -123,7 +126,7 @@ no_edge_before_cut n (Edge d) h = absurd (edge_then_cut d n h)
 no_edge_before_cut n (Halo d) h = refl
 no_edge_before_cut n (Stop s) h = refl
 
-pub no_halo_before_cut : (n : List ℕ) (j : Entry) → may_precede j (Cut n) ≡ true → halo_in j ≡ []
+pub no_halo_before_cut : (n : List ℕ) (j : CertificateLine) → may_precede j (Cut n) ≡ true → halo_in j ≡ []
 no_halo_before_cut n (Module b) h = refl
 no_halo_before_cut n (Cut m) h = refl
 no_halo_before_cut n (Use g) h = refl
@@ -132,7 +135,7 @@ no_halo_before_cut n (Edge d) h = refl
 no_halo_before_cut n (Halo d) h = absurd (halo_then_cut d n h)
 no_halo_before_cut n (Stop s) h = refl
 
-pub no_edge_before_use : (g : ℕ) (j : Entry) → may_precede j (Use g) ≡ true → edge_in j ≡ []
+pub no_edge_before_use : (g : ℕ) (j : CertificateLine) → may_precede j (Use g) ≡ true → edge_in j ≡ []
 no_edge_before_use g (Module b) h = refl
 no_edge_before_use g (Cut m) h = refl
 no_edge_before_use g (Use k) h = refl
@@ -141,7 +144,7 @@ no_edge_before_use g (Edge d) h = absurd (edge_then_use d g h)
 no_edge_before_use g (Halo d) h = refl
 no_edge_before_use g (Stop s) h = refl
 
-pub no_halo_before_use : (g : ℕ) (j : Entry) → may_precede j (Use g) ≡ true → halo_in j ≡ []
+pub no_halo_before_use : (g : ℕ) (j : CertificateLine) → may_precede j (Use g) ≡ true → halo_in j ≡ []
 no_halo_before_use g (Module b) h = refl
 no_halo_before_use g (Cut m) h = refl
 no_halo_before_use g (Use k) h = refl
@@ -150,7 +153,7 @@ no_halo_before_use g (Edge d) h = refl
 no_halo_before_use g (Halo d) h = absurd (halo_then_use d g h)
 no_halo_before_use g (Stop s) h = refl
 
-pub no_halo_before_edge : (e : Border) (j : Entry) → may_precede j (Edge e) ≡ true → halo_in j ≡ []
+pub no_halo_before_edge : (e : Border) (j : CertificateLine) → may_precede j (Edge e) ≡ true → halo_in j ≡ []
 no_halo_before_edge e (Module b) h = refl
 no_halo_before_edge e (Cut m) h = refl
 no_halo_before_edge e (Use k) h = refl
@@ -159,7 +162,7 @@ no_halo_before_edge e (Edge d) h = refl
 no_halo_before_edge e (Halo d) h = absurd (halo_then_edge d e h)
 no_halo_before_edge e (Stop s) h = refl
 
-pub no_stop_before_cut : (n : List ℕ) (j : Entry) → may_precede j (Cut n) ≡ true → stop_in j ≡ []
+pub no_stop_before_cut : (n : List ℕ) (j : CertificateLine) → may_precede j (Cut n) ≡ true → stop_in j ≡ []
 no_stop_before_cut n (Module b) h = refl
 no_stop_before_cut n (Cut m) h = refl
 no_stop_before_cut n (Use k) h = refl
@@ -168,7 +171,7 @@ no_stop_before_cut n (Edge d) h = refl
 no_stop_before_cut n (Halo d) h = refl
 no_stop_before_cut n (Stop s) h = absurd (stop_then_cut s n h)
 
-pub no_stop_before_use : (g : ℕ) (j : Entry) → may_precede j (Use g) ≡ true → stop_in j ≡ []
+pub no_stop_before_use : (g : ℕ) (j : CertificateLine) → may_precede j (Use g) ≡ true → stop_in j ≡ []
 no_stop_before_use g (Module b) h = refl
 no_stop_before_use g (Cut m) h = refl
 no_stop_before_use g (Use k) h = refl
@@ -195,7 +198,7 @@ use_then_use : (g k : ℕ) → may_precede (Use g) (Use k) ≡ true → g < k
 unfolding may_precede line_cmp rank_of number_of cell_of is_cut cell_cmp
 use_then_use g k h = lower g k (less_by (nat_cmp g k) (or_false _ h))
 
-pub lower_uses : (k : ℕ) (j : Entry) → may_precede j (Use k) ≡ true → All (λ g. g < k) (use_in j)
+pub lower_uses : (k : ℕ) (j : CertificateLine) → may_precede j (Use k) ≡ true → All (λ g. g < k) (use_in j)
 lower_uses k (Module b) h = All-nil (λ (g : ℕ). g < k)
 lower_uses k (Cut m) h = All-nil (λ (g : ℕ). g < k)
 lower_uses k (Use g) h = All-push (λ (x : ℕ). x < k) [] g (All-nil (λ (x : ℕ). x < k)) (use_then_use g k h)
@@ -206,11 +209,12 @@ lower_uses k (Stop s) h = All-nil (λ (g : ℕ). g < k)
 
 -- ---- order
 
-list_all_push : (i j : Entry) (lines : List Entry) → list_all (may_precede i) lines ≡ true → may_precede i j ≡ true →
+list_all_push : (i j : CertificateLine) (lines : List CertificateLine) → list_all (may_precede i) lines ≡ true →
+    may_precede i j ≡ true →
     list_all (may_precede i) (lines ++ j ∷ []) ≡ true
 list_all_push i j lines h k = list_all-append (may_precede i) lines (j ∷ []) ∙ rw (h, k) refl
 
-pub order_push : (lines : List Entry) (j : Entry) → AreInOrder lines → may_follow lines j ≡ true →
+pub order_push : (lines : List CertificateLine) (j : CertificateLine) → AreInOrder lines → may_follow lines j ≡ true →
     AreInOrder (lines ++ j ∷ [])
 unfolding AreInOrder may_follow
 order_push [] j order h = (refl, tt)

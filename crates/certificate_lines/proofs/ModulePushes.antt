@@ -22,10 +22,11 @@ use Rattle.certificate_lines.specs.Rules.{is_stop_place, signal_fault, wire_faul
 use Rattle.certificate_lines.specs.Rules.{border_limit, edge_fault, halo_fault, stop_fault}
 use Rattle.certificate_lines.specs.Modules.{AreUnstarred, IsEdge, IsHalo, IsKeep, IsModule, IsStop}
 use Rattle.certificate_lines.specs.BuilderView.{IsWritten}
-use Rattle.certificate_lines.specs.declared.entry.Border.{Border}
-use Rattle.certificate_lines.specs.declared.entry.Entry.{Entry}
-use Rattle.certificate_lines.specs.declared.entry.StopLine.{StopLine}
-use Rattle.certificate_lines.specs.declared.entry.Entry.TheVariants.{Cut, Use, Keep, Edge, Halo, Stop}
+use Rattle.certificate_lines.specs.declared.certificate_line.Border.{Border}
+use Rattle.certificate_lines.specs.declared.certificate_line.CertificateLine.{CertificateLine}
+use Rattle.certificate_lines.specs.declared.certificate_line.StopLine.{StopLine}
+use Rattle.certificate_lines.specs.declared.certificate_line.CertificateLine.TheVariants.{Cut, Use, Keep, Edge, Halo}
+use Rattle.certificate_lines.specs.declared.certificate_line.CertificateLine.TheVariants.{Stop}
 use Rattle.certificate_lines.proofs.Growing.{flat_push, flat_same}
 use Rattle.certificate_lines.proofs.ModuleLemmas.{none_before, all_before, no_use_before_cut, no_keep_before_cut}
 use Rattle.certificate_lines.proofs.ModuleLemmas.{no_keep_before_use, no_edge_before_cut, no_halo_before_cut}
@@ -384,7 +385,7 @@ pub stops_stop : (m : ModuleLines) (s : StopLine) → stops (with_line (Stop s) 
 stops_stop m s = flat_push stop_in m.lines (Stop s)
 
 -- a line that cuts and uses nothing leaves the local wires
-module _ (g : Setting) (m : ModuleLines) (i : Entry) (no_cut : cut_in i ≡ []) (no_use : use_in i ≡ []) where
+module _ (g : Setting) (m : ModuleLines) (i : CertificateLine) (no_cut : cut_in i ≡ []) (no_use : use_in i ≡ []) where
   cuts_same : cuts (with_line i m) ≡ cuts m
   cuts_same = flat_same cut_in m.lines i no_cut
 

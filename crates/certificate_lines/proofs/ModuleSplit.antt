@@ -5,12 +5,13 @@ use Rattle.std.proofs.lemmas.List.{append-nil, append_assoc}
 use Rattle.module_box.specs.declared.boxes.Box2.{Box2}
 use Rattle.certificate_lines.specs.Entries.{ModuleLines, add_line, change_last, with_line, modules_of}
 use Rattle.certificate_lines.specs.ModuleParts.{inner, is_module}
-use Rattle.certificate_lines.specs.declared.entry.Entry.{Entry}
-use Rattle.certificate_lines.specs.declared.entry.Entry.TheVariants.{Module, Cut, Use, Keep, Edge, Halo, Stop}
+use Rattle.certificate_lines.specs.declared.certificate_line.CertificateLine.{CertificateLine}
+use Rattle.certificate_lines.specs.declared.certificate_line.CertificateLine.TheVariants.{Module, Cut, Use, Keep, Edge}
+use Rattle.certificate_lines.specs.declared.certificate_line.CertificateLine.TheVariants.{Halo, Stop}
 use Rattle.certificate_lines.proofs.InnerLines.{inner_module, inner_other}
 
 -- the modules of further lines after some
-abbrev onward : List ModuleLines → List Entry → List ModuleLines
+abbrev onward : List ModuleLines → List CertificateLine → List ModuleLines
 onward ms es = fold add_line ms es
 
 last_changed : {X : Type 0} (f : X → X) (xs : List X) (x : X) → change_last f (xs ++ x ∷ []) ≡ xs ++ f x ∷ []
@@ -20,7 +21,7 @@ last_changed f (y ∷ []) x = refl
 last_changed f (y ∷ z ∷ xs) x = ap (λ ys. y ∷ ys) (last_changed f (z ∷ xs) x)
 
 -- a line leaves all modules but the last as they are
-before_last : (ms : List ModuleLines) (m : ModuleLines) (e : Entry) →
+before_last : (ms : List ModuleLines) (m : ModuleLines) (e : CertificateLine) →
     add_line (ms ++ m ∷ []) e ≡ ms ++ add_line (m ∷ []) e
 unfolding add_line change_last
 before_last ms m (Module b) = append_assoc ms (m ∷ []) (record { area = b; lines = [] } ∷ [])
@@ -32,10 +33,10 @@ before_last ms m (Halo b) = last_changed (with_line (Halo b)) ms m
 before_last ms m (Stop s) = last_changed (with_line (Stop s)) ms m
 
 -- further lines leave them too
-abbrev Apart : List Entry → Type 0
+abbrev Apart : List CertificateLine → Type 0
 Apart es = (ms : List ModuleLines) (m : ModuleLines) → onward (ms ++ m ∷ []) es ≡ ms ++ onward (m ∷ []) es
 
-apart_after : (e : Entry) (es : List Entry) → Apart es → (ms : List ModuleLines) (m : ModuleLines) →
+apart_after : (e : CertificateLine) (es : List CertificateLine) → Apart es → (ms : List ModuleLines) (m : ModuleLines) →
     onward (ms ++ add_line (m ∷ []) e) es ≡ ms ++ onward (add_line (m ∷ []) e) es
 unfolding add_line change_last
 apart_after (Module b) es h ms m =
@@ -50,17 +51,18 @@ apart_after (Edge b) es h ms m = h ms (with_line (Edge b) m)
 apart_after (Halo b) es h ms m = h ms (with_line (Halo b) m)
 apart_after (Stop s) es h ms m = h ms (with_line (Stop s) m)
 
-pub apart : (es : List Entry) (ms : List ModuleLines) (m : ModuleLines) →
+pub apart : (es : List CertificateLine) (ms : List ModuleLines) (m : ModuleLines) →
     onward (ms ++ m ∷ []) es ≡ ms ++ onward (m ∷ []) es
 apart [] ms m = refl
 apart (e ∷ es) ms m = ap (λ ns. onward ns es) (before_last ms m e) ∙ apart_after e es (apart es) ms m
 
 -- a module with further lines
-abbrev extended : ModuleLines → List Entry → ModuleLines
+abbrev extended : ModuleLines → List CertificateLine → ModuleLines
 extended m es = record m { lines = m.lines ++ es }
 
 -- lines before any module line belong to none
-other_first : (e : Entry) (es : List Entry) → is_module e ≡ false → modules_of (e ∷ es) ≡ modules_of es
+other_first : (e : CertificateLine) (es : List CertificateLine) → is_module e ≡ false →
+    modules_of (e ∷ es) ≡ modules_of es
 unfolding modules_of add_line change_last
 other_first (Module b) es h = absurd cc
 other_first (Cut n) es h = refl
@@ -70,15 +72,15 @@ other_first (Edge b) es h = refl
 other_first (Halo b) es h = refl
 other_first (Stop s) es h = refl
 
-module_first : (b : Box2) (es : List Entry) →
+module_first : (b : Box2) (es : List CertificateLine) →
     modules_of (Module b ∷ es) ≡ onward (record { area = b; lines = [] } ∷ []) es
 unfolding modules_of add_line
 module_first b es = refl
 
-abbrev Extends : List Entry → Type 0
+abbrev Extends : List CertificateLine → Type 0
 Extends es = (m : ModuleLines) → onward (m ∷ []) es ≡ extended m (inner es) ∷ modules_of es
 
-extends_more : (m : ModuleLines) (e : Entry) (es : List Entry) → is_module e ≡ false → Extends es →
+extends_more : (m : ModuleLines) (e : CertificateLine) (es : List CertificateLine) → is_module e ≡ false → Extends es →
     onward (with_line e m ∷ []) es ≡ extended m (inner (e ∷ es)) ∷ modules_of (e ∷ es)
 extends_more m e es o h =
     h (with_line e m) ∙
@@ -90,7 +92,7 @@ extends_none : Extends []
 unfolding inner modules_of
 extends_none m = ap (λ xs. record m { lines = xs } ∷ []) (sym (append-nil m.lines))
 
-extends_step : (e : Entry) (es : List Entry) → Extends es → (m : ModuleLines) →
+extends_step : (e : CertificateLine) (es : List CertificateLine) → Extends es → (m : ModuleLines) →
     onward (add_line (m ∷ []) e) es ≡ extended m (inner (e ∷ es)) ∷ modules_of (e ∷ es)
 unfolding add_line change_last
 extends_step (Module b) es h m =
@@ -106,19 +108,20 @@ extends_step (Halo b) es h m = extends_more m (Halo b) es refl h
 extends_step (Stop s) es h m = extends_more m (Stop s) es refl h
 
 -- the lines before the next module line are of the last module
-extends : (es : List Entry) → Extends es
+extends : (es : List CertificateLine) → Extends es
 extends [] m = extends_none m
 extends (e ∷ es) m = extends_step e es (extends es) m
 
 -- the modules of lines from a module line on
-pub split_module : (b : Box2) (es : List Entry) →
+pub split_module : (b : Box2) (es : List CertificateLine) →
     modules_of (Module b ∷ es) ≡ record { area = b; lines = inner es } ∷ modules_of es
 split_module b es = module_first b es ∙ extends es (record { area = b; lines = [] })
 
-pub split_other : (e : Entry) (es : List Entry) → is_module e ≡ false → modules_of (e ∷ es) ≡ modules_of es
+pub split_other : (e : CertificateLine) (es : List CertificateLine) → is_module e ≡ false →
+    modules_of (e ∷ es) ≡ modules_of es
 split_other e es h = other_first e es h
 
-pub no_module : (e : Entry) → ((b : Box2) → e ≡ Module b → ⊥) → is_module e ≡ false
+pub no_module : (e : CertificateLine) → ((b : Box2) → e ≡ Module b → ⊥) → is_module e ≡ false
 no_module (Module b) h = absurd (h b refl)
 no_module (Cut n) h = refl
 no_module (Use k) h = refl

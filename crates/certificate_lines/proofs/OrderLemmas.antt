@@ -7,8 +7,9 @@ use Rattle.std.specs.Ordering.{is_lt}
 use Rattle.std.proofs.lemmas.Bool.{and_parts}
 use Rattle.std.proofs.lemmas.Cmp.{then_total, on_total, nat_cmp_total}
 use Rattle.module_box.proofs.Rising.{cell_total}
-use Rattle.certificate_lines.specs.declared.entry.Entry.{Entry}
-use Rattle.certificate_lines.specs.declared.entry.Entry.TheVariants.{Module, Cut, Use, Keep, Edge, Halo, Stop}
+use Rattle.certificate_lines.specs.declared.certificate_line.CertificateLine.{CertificateLine}
+use Rattle.certificate_lines.specs.declared.certificate_line.CertificateLine.TheVariants.{Module, Cut, Use, Keep, Edge}
+use Rattle.certificate_lines.specs.declared.certificate_line.CertificateLine.TheVariants.{Halo, Stop}
 use Rattle.certificate_lines.specs.Entries.{last_of}
 use Rattle.certificate_lines.specs.Orders.{AreInOrder, rank_of, number_of, cell_of, line_cmp, is_cut, may_precede}
 use Rattle.certificate_lines.specs.Orders.{may_follow}
@@ -25,11 +26,11 @@ is_less Equal h = cc
 is_less Greater h = cc
 
 -- what a cut is
-record IsCut (i : Entry) : Type 0 where
+record IsCut (i : CertificateLine) : Type 0 where
   name : List ℕ
   same : i ≡ Cut name
 
-cut_is : (i : Entry) → is_cut i ≡ true → IsCut i
+cut_is : (i : CertificateLine) → is_cut i ≡ true → IsCut i
 unfolding is_cut
 cut_is (Module b) h = absurd cc
 cut_is (Cut n) h = record { name = n; same = refl }
@@ -40,44 +41,48 @@ cut_is (Halo e) h = absurd cc
 cut_is (Stop s) h = absurd cc
 
 -- a cut stands where any other stands
-after_cut : (m n : List ℕ) (i : Entry) → line_cmp (Cut m) i ≡ line_cmp (Cut n) i
+after_cut : (m n : List ℕ) (i : CertificateLine) → line_cmp (Cut m) i ≡ line_cmp (Cut n) i
 unfolding line_cmp rank_of number_of cell_of
 after_cut m n i = refl
 
-before_cut : (m n : List ℕ) (i : Entry) → line_cmp i (Cut m) ≡ line_cmp i (Cut n)
+before_cut : (m n : List ℕ) (i : CertificateLine) → line_cmp i (Cut m) ≡ line_cmp i (Cut n)
 unfolding line_cmp rank_of number_of cell_of
 before_cut m n i = refl
 
-by_less : (i j : Entry) → line_cmp i j ≡ Less → may_precede i j ≡ true
+by_less : (i j : CertificateLine) → line_cmp i j ≡ Less → may_precede i j ≡ true
 unfolding may_precede
 by_less i j h = rw h refl
 
-by_cuts : (i j : Entry) → is_cut i ≡ true → is_cut j ≡ true → may_precede i j ≡ true
+by_cuts : (i j : CertificateLine) → is_cut i ≡ true → is_cut j ≡ true → may_precede i j ≡ true
 unfolding may_precede
 by_cuts i j h k = or_right _ (is_cut i && is_cut j) (rw (h, k) refl)
 
 -- how two lines may stand one before the other
-precede_parts : (i j : Entry) → may_precede i j ≡ true → (line_cmp i j ≡ Less) ⊎ ((is_cut i ≡ true) × (is_cut j ≡ true))
+precede_parts : (i j : CertificateLine) → may_precede i j ≡ true →
+    (line_cmp i j ≡ Less) ⊎ ((is_cut i ≡ true) × (is_cut j ≡ true))
 unfolding may_precede
 precede_parts i j h = elim (or_parts (is_lt (line_cmp i j)) _ h) [
   | inl less ↦ inl (is_less _ less)
   | inr cuts ↦ inr (and_parts (is_cut i) (is_cut j) cuts)
 ]
 
-less_then_cut : (i j k : Entry) → line_cmp i j ≡ Less → is_cut j ≡ true → is_cut k ≡ true → line_cmp i k ≡ Less
+less_then_cut : (i j k : CertificateLine) → line_cmp i j ≡ Less → is_cut j ≡ true → is_cut k ≡ true →
+    line_cmp i k ≡ Less
 less_then_cut i j k less cj ck =
     let p = cut_is j cj in
     let q = cut_is k ck in
     ap (line_cmp i) q.same ∙ before_cut q.name p.name i ∙ ap (line_cmp i) (sym p.same) ∙ less
 
-cut_then_less : (i j k : Entry) → line_cmp j k ≡ Less → is_cut i ≡ true → is_cut j ≡ true → line_cmp i k ≡ Less
+cut_then_less : (i j k : CertificateLine) → line_cmp j k ≡ Less → is_cut i ≡ true → is_cut j ≡ true →
+    line_cmp i k ≡ Less
 cut_then_less i j k less ci cj =
     let p = cut_is i ci in
     let q = cut_is j cj in
-    ap (λ (z : Entry). line_cmp z k) p.same ∙ after_cut p.name q.name k ∙ ap (λ (z : Entry). line_cmp z k) (sym q.same)
+    ap (λ (z : CertificateLine). line_cmp z k) p.same ∙ after_cut p.name q.name k
+    ∙ ap (λ (z : CertificateLine). line_cmp z k) (sym q.same)
     ∙ less
 
-precede_trans : (i j k : Entry) → may_precede i j ≡ true → may_precede j k ≡ true → may_precede i k ≡ true
+precede_trans : (i j k : CertificateLine) → may_precede i j ≡ true → may_precede j k ≡ true → may_precede i k ≡ true
 precede_trans i j k h h' = elim (precede_parts i j h) [
   | inl less ↦ elim (precede_parts j k h') [
     | inl less' ↦ by_less i k (line_total.trans i j k less less')
@@ -89,7 +94,8 @@ precede_trans i j k h h' = elim (precede_parts i j h) [
   ]
 ]
 
-last_passes : (p : Entry → Bool) (i : Entry) (lines : List Entry) (l : Entry) → list_all p (i ∷ lines) ≡ true →
+last_passes : (p : CertificateLine → Bool) (i : CertificateLine) (lines : List CertificateLine) (l : CertificateLine) →
+    list_all p (i ∷ lines) ≡ true →
     last_of (i ∷ lines) ≡ Some l → p l ≡ true
 unfolding last_of
 last_passes p i [] l all last =
@@ -106,30 +112,32 @@ and_same a true h = rw (h refl) refl
 and_same true false h = refl
 and_same false false h = refl
 
-follows : (x : Entry) (lines : List Entry) (l i : Entry) → AreInOrder (x ∷ lines) → last_of (x ∷ lines) ≡ Some l →
+follows : (x : CertificateLine) (lines : List CertificateLine) (l i : CertificateLine) → AreInOrder (x ∷ lines) →
+    last_of (x ∷ lines) ≡ Some l →
     may_follow (x ∷ lines) i ≡ may_precede l i
 unfolding AreInOrder may_follow last_of
 follows x [] l i order last =
     let same : x ≡ l = cc in
-    and_true (may_precede x i) ∙ ap (λ (z : Entry). may_precede z i) same
+    and_true (may_precede x i) ∙ ap (λ (z : CertificateLine). may_precede z i) same
 follows x (y ∷ lines) l i order last =
     let rest : may_follow (y ∷ lines) i ≡ may_precede l i = follows y lines l i order.1 last in
     let first : may_precede x l ≡ true = last_passes (may_precede x) y lines l order.0 last in
     ap (λ (b : Bool). may_precede x i && b) rest
     ∙ and_same (may_precede x i) (may_precede l i) (precede_trans x l i first)
 
-pub follows_last : (lines : List Entry) (l i : Entry) → AreInOrder lines → last_of lines ≡ Some l →
+pub follows_last : (lines : List CertificateLine) (l i : CertificateLine) → AreInOrder lines → last_of lines ≡ Some l →
     may_precede l i ≡ may_follow lines i
 unfolding last_of
 follows_last [] l i order last = absurd cc
 follows_last (x ∷ lines) l i order last = sym (follows x lines l i order last)
 
-has_last : (x : Entry) (lines : List Entry) → last_of (x ∷ lines) ≡ None → ⊥
+has_last : (x : CertificateLine) (lines : List CertificateLine) → last_of (x ∷ lines) ≡ None → ⊥
 unfolding last_of
 has_last x [] e = cc
 has_last x (y ∷ lines) e = has_last y lines e
 
-pub follows_none : (lines : List Entry) (i : Entry) → last_of lines ≡ None → true ≡ may_follow lines i
+pub follows_none : (lines : List CertificateLine) (i : CertificateLine) → last_of lines ≡ None →
+    true ≡ may_follow lines i
 unfolding may_follow
 follows_none [] i none = refl
 follows_none (x ∷ lines) i none = absurd (has_last x lines none)

@@ -6,7 +6,7 @@ use Rattle.std.specs.List.{list_any}
 use Rattle.std.proofs.lemmas.List.Folds.{list_any-append}
 use Rattle.bbm_rule.specs.declared.block.Cell.{Cell}
 use Rattle.certificate_lines.specs.Rules.{same_cell, is_star, is_starred}
-use Rattle.certificate_lines.specs.declared.entry.Border.{Border}
+use Rattle.certificate_lines.specs.declared.certificate_line.Border.{Border}
 use Rattle.bbm_rule.proofs.SameCells.{cell_same}
 
 pub or_none : (a : Bool) → (a || false) ≡ a

@@ -14,8 +14,8 @@ use Rattle.std.proofs.lemmas.Option.{slice_get-get_or, slice_get_within}
 use Rattle.bbm_rule.specs.Plane.{is_at}
 use Rattle.bbm_rule.specs.declared.block.Cell.{Cell}
 use Rattle.pattern.specs.Layout.{HaveOwnCells}
-use Rattle.pattern.specs.declared.parts.Extent.{Extent}
-use Rattle.pattern.specs.declared.parts.Port.{Port}
+use Rattle.pattern.specs.declared.layout_line.LayoutHeader.{LayoutHeader}
+use Rattle.pattern.specs.declared.layout_line.Port.{Port}
 use Rattle.module_box.specs.Boxes.{in_box}
 use Rattle.module_box.specs.declared.boxes.Box2.{Box2}
 use Rattle.module_box.specs.Places.{place_in}
@@ -261,7 +261,7 @@ no_ports b ports n is = record {
 abbrev pub AreInBox : Box2 → List Port → Type 0
 AreInBox b ports = (i : ℕ) (p : Port) → slice_get ports i ≡ Some p → in_box b p.cell.x p.cell.y ≡ true
 
-pub in_whole : (s : Extent) (b : Box2) → b ≡ whole s → (ports : List Port) → AreOnBoard s ports → AreInBox b ports
+pub in_whole : (s : LayoutHeader) (b : Box2) → b ≡ whole s → (ports : List Port) → AreOnBoard s ports → AreInBox b ports
 unfolding in_box
 in_whole s b is ports on_board i p at = ap (λ (a : Box2). in_box a p.cell.x p.cell.y) is ∙ on_board i p at
 

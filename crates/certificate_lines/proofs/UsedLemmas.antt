@@ -4,45 +4,47 @@ use Rattle.std.proofs.Common.{take, get_or, Some, refl, sym, ap, subst, ◌∙�
 use Rattle.std.proofs.lemmas.List.{take_all, take_more}
 use Rattle.std.proofs.lemmas.List.Folds.{list_any-append}
 use Rattle.module_box.specs.Locals.{is_among}
-use Rattle.certificate_lines.specs.Entries.{ModuleLines, with_line, add_line, last_of, modules_of, present, gates}
+use Rattle.certificate_lines.specs.Entries.{ModuleLines, with_line, add_line, last_of, modules_of, last_module, gates}
 use Rattle.certificate_lines.specs.Entries.{use_in}
 use Rattle.certificate_lines.specs.ModuleParts.{is_module}
-use Rattle.certificate_lines.specs.declared.entry.Entry.{Entry}
-use Rattle.certificate_lines.specs.declared.entry.Entry.TheVariants.{Module, Cut, Use, Keep, Edge, Halo, Stop}
+use Rattle.certificate_lines.specs.declared.certificate_line.CertificateLine.{CertificateLine}
+use Rattle.certificate_lines.specs.declared.certificate_line.CertificateLine.TheVariants.{Module, Cut, Use, Keep, Edge}
+use Rattle.certificate_lines.specs.declared.certificate_line.CertificateLine.TheVariants.{Halo, Stop}
 use Rattle.certificate_lines.proofs.Growing.{modules_push, flat_push, last_pushed, last_changed}
 use Rattle.certificate_lines.proofs.Keeping.{mapped_some}
 use Rattle.certificate_lines.proofs.Lists.{some_is}
 
 -- whether the last module of the lines uses the gate
-abbrev pub Tells : List Entry → ℕ → Bool → Type 0
-Tells es k b = (m : ModuleLines) → present es ≡ Some m → b ≡ is_among (gates m) k
+abbrev pub Tells : List CertificateLine → ℕ → Bool → Type 0
+Tells es k b = (m : ModuleLines) → last_module es ≡ Some m → b ≡ is_among (gates m) k
 
 pub none_told : (k : ℕ) (b : Bool) → Tells [] k b
 unfolding modules_of last_of
 none_told k b m e = absurd cc
 
 -- a line that begins no module
-other_line : (es : List Entry) (i : Entry) → is_module i ≡ false → (m : ModuleLines) → present (es ++ i ∷ []) ≡ Some m →
-    (l : ModuleLines) × (present es ≡ Some l) × (m ≡ with_line i l)
+other_line : (es : List CertificateLine) (i : CertificateLine) → is_module i ≡ false → (m : ModuleLines) →
+    last_module (es ++ i ∷ []) ≡ Some m →
+    (l : ModuleLines) × (last_module es ≡ Some l) × (m ≡ with_line i l)
 unfolding add_line
 other_line es (Module b) other m e = absurd cc
 other_line es (Cut n) other m e =
-    mapped_some (with_line (Cut n)) (present es) m
+    mapped_some (with_line (Cut n)) (last_module es) m
     (sym (ap last_of (modules_push es (Cut n)) ∙ last_changed (with_line (Cut n)) (modules_of es)) ∙ e)
 other_line es (Use n) other m e =
-    mapped_some (with_line (Use n)) (present es) m
+    mapped_some (with_line (Use n)) (last_module es) m
     (sym (ap last_of (modules_push es (Use n)) ∙ last_changed (with_line (Use n)) (modules_of es)) ∙ e)
 other_line es (Keep n) other m e =
-    mapped_some (with_line (Keep n)) (present es) m
+    mapped_some (with_line (Keep n)) (last_module es) m
     (sym (ap last_of (modules_push es (Keep n)) ∙ last_changed (with_line (Keep n)) (modules_of es)) ∙ e)
 other_line es (Edge n) other m e =
-    mapped_some (with_line (Edge n)) (present es) m
+    mapped_some (with_line (Edge n)) (last_module es) m
     (sym (ap last_of (modules_push es (Edge n)) ∙ last_changed (with_line (Edge n)) (modules_of es)) ∙ e)
 other_line es (Halo n) other m e =
-    mapped_some (with_line (Halo n)) (present es) m
+    mapped_some (with_line (Halo n)) (last_module es) m
     (sym (ap last_of (modules_push es (Halo n)) ∙ last_changed (with_line (Halo n)) (modules_of es)) ∙ e)
 other_line es (Stop n) other m e =
-    mapped_some (with_line (Stop n)) (present es) m
+    mapped_some (with_line (Stop n)) (last_module es) m
     (sym (ap last_of (modules_push es (Stop n)) ∙ last_changed (with_line (Stop n)) (modules_of es)) ∙ e)
 
 or_true : (a : Bool) → true ≡ (a || true)
@@ -54,26 +56,29 @@ or_none true = refl
 or_none false = refl
 
 -- the gates with one more line
-one_line : (m : ModuleLines) (i : Entry) (k : ℕ) →
+one_line : (m : ModuleLines) (i : CertificateLine) (k : ℕ) →
     is_among (gates (with_line i m)) k ≡ (is_among (gates m) k || is_among (use_in i) k)
 one_line m i k = ap (λ gs. is_among gs k) (flat_push use_in m.lines i)
     ∙ list_any-append (λ v. v == k) (gates m) (use_in i)
 
-told_more : (es : List Entry) (i : Entry) (k : ℕ) (b : Bool) → is_module i ≡ false → is_among (use_in i) k ≡ false →
+told_more : (es : List CertificateLine) (i : CertificateLine) (k : ℕ) (b : Bool) → is_module i ≡ false →
+    is_among (use_in i) k ≡ false →
     Tells es k b → Tells (es ++ i ∷ []) k b
 told_more es i k b other unused h m e =
     let p = other_line es i other m e in
     h p.0 p.1 ∙ or_none _ ∙ sym (ap (λ (l : ModuleLines). is_among (gates l) k) p.2 ∙ one_line p.0 i k
     ∙ ap (λ (u : Bool). is_among (gates p.0) k || u) unused)
 
-told_used : (es : List Entry) (i : Entry) (k : ℕ) → is_module i ≡ false → is_among (use_in i) k ≡ true →
+told_used : (es : List CertificateLine) (i : CertificateLine) (k : ℕ) → is_module i ≡ false →
+    is_among (use_in i) k ≡ true →
     Tells (es ++ i ∷ []) k true
 told_used es i k other used m e =
     let p = other_line es i other m e in
     or_true _ ∙ sym (ap (λ (l : ModuleLines). is_among (gates l) k) p.2 ∙ one_line p.0 i k
     ∙ ap (λ (u : Bool). is_among (gates p.0) k || u) used)
 
-told_module : (es : List Entry) (i : Entry) (k : ℕ) → is_module i ≡ true → Tells (es ++ i ∷ []) k false
+told_module : (es : List CertificateLine) (i : CertificateLine) (k : ℕ) → is_module i ≡ true →
+    Tells (es ++ i ∷ []) k false
 unfolding add_line
 told_module es (Module b) k is m e =
     let begun : ModuleLines = record { area = b; lines = [] } in
@@ -89,13 +94,13 @@ told_module es (Stop n) k is m e = absurd cc
 -- ---- the lines from the last one on
 
 -- what the lines before the last `back` ones tell is what all tell
-abbrev pub IsToldBefore : List Entry → ℕ → ℕ → Type 0
+abbrev pub IsToldBefore : List CertificateLine → ℕ → ℕ → Type 0
 IsToldBefore es k back = (b : Bool) → Tells (take (length es - back) es) k b → Tells es k b
 
-pub told_by_all : (es : List Entry) (k : ℕ) → IsToldBefore es k 0
+pub told_by_all : (es : List CertificateLine) (k : ℕ) → IsToldBefore es k 0
 told_by_all es k b h = subst (λ l. Tells l k b) (take_all (length es - 0) es (omega arith)) h
 
-module _ (es : List Entry) (k back : ℕ) (i : Entry) (within : back < length es)
+module _ (es : List CertificateLine) (k back : ℕ) (i : CertificateLine) (within : back < length es)
     (is : i ≡ get_or es (length es - 1 - back) i) (so_far : IsToldBefore es k back) where
   place : ℕ
   place = length es - 1 - back
@@ -124,7 +129,7 @@ module _ (es : List Entry) (k back : ℕ) (i : Entry) (within : back < length es
   told_false begins = so_far false
       (subst (λ l. Tells l k false) (sym one_less) (told_module (take place es) i k begins))
 
-pub told_all : (es : List Entry) (k back : ℕ) → length es ≤ back → IsToldBefore es k back → Tells es k false
+pub told_all : (es : List CertificateLine) (k back : ℕ) → length es ≤ back → IsToldBefore es k back → Tells es k false
 told_all es k back past so_far =
     let none : length es - back ≡ 0 = omega (arith, past) in
     so_far false (subst (λ n. Tells (take n es) k false) (sym none) (none_told k false))

@@ -13,23 +13,25 @@ use Rattle.certificate_lines.specs.Entries.{halos}
 use Rattle.certificate_lines.specs.Rules.{in_boxes, is_starred, same_cell, lacks_port}
 use Rattle.certificate_lines.specs.Modules.{HasFewLines, IsModule}
 use Rattle.certificate_lines.specs.Versions.{is_strange}
-use Rattle.certificate_lines.specs.declared.entry.Border.{Border}
-use Rattle.certificate_lines.specs.declared.entry.Counts.{Counts}
-use Rattle.certificate_lines.specs.declared.entry.Entry.{Entry}
-use Rattle.certificate_lines.specs.declared.entry.Entry.TheVariants.{Module, Cut, Use, Keep, Edge, Halo, Stop}
+use Rattle.certificate_lines.specs.declared.certificate_line.Border.{Border}
+use Rattle.certificate_lines.specs.declared.certificate_line.Counts.{Counts}
+use Rattle.certificate_lines.specs.declared.certificate_line.CertificateLine.{CertificateLine}
+use Rattle.certificate_lines.specs.declared.certificate_line.CertificateLine.TheVariants.{Module, Cut, Use, Keep, Edge}
+use Rattle.certificate_lines.specs.declared.certificate_line.CertificateLine.TheVariants.{Halo, Stop}
 use Rattle.certificate_lines.specs.declared.builder.Builder.TheInside.{Inside}
 
 -- what the certificate is for, and the lines so far
-pub record BuilderState : Type 0 where
+pub record BuilderView : Type 0 where
   pub setting : Setting
-  pub entries : List Entry
+  pub entries : List CertificateLine
 
 -- the view of a builder, from its fields
-abbrev pub builder_state : Inside → BuilderState
-builder_state a = record { setting = a.site; entries = a.entries.items }
+abbrev pub builder_view : Inside → BuilderView
+builder_view a = record { setting = a.tables; entries = a.entries.items }
 
 -- what is kept of the last module is what its lines say
-pub record IsPresent (g : Setting) (m : ModuleLines) (last : Option Entry) (names : List (List ℕ)) (local : List ℕ)
+pub record IsLastModule (g : Setting) (m : ModuleLines) (last : Option CertificateLine) (names : List (List ℕ))
+    (local : List ℕ)
     (e h : List Cell) : Type 0 where
   pub final : last_of m.lines ≡ last
   pub ports : (f : List ℕ → Bool) →
@@ -66,11 +68,12 @@ pub record AreBuilt (g : Setting) (ms : List ModuleLines) (covered : Board) (cou
   pub counted : counts ≡ map counts_of ms
 
 -- what is kept of the lines is what they say
-pub record IsKept (g : Setting) (es : List Entry) (covered : Board) (counts : List Counts) (last : Option Entry)
+pub record IsTracked (g : Setting) (es : List CertificateLine) (covered : Board) (counts : List Counts)
+    (last : Option CertificateLine)
     (names : List (List ℕ)) (local : List ℕ) (e h : List Cell) : Type 0 where
   pub built : AreBuilt g (modules_of es) covered counts
   pub none : modules_of es ≡ [] → names ≡ []
-  pub present : (m : ModuleLines) → last_of (modules_of es) ≡ Some m → IsPresent g m last names local e h
+  pub last_module : (m : ModuleLines) → last_of (modules_of es) ≡ Some m → IsLastModule g m last names local e h
 
 -- one of these edge lines is for a cell in the halo of the module, and names a wire that is not local there
 abbrev pub lacks_edge : Circuit → List Border → ModuleLines → Bool
@@ -82,20 +85,21 @@ abbrev pub AreWires : Circuit → List ModuleLines → List (List ℕ) → List 
 AreWires c ms earlier local = earlier ++ local ∷ [] ≡ [] ∷ map (known c) ms
 
 -- what is kept of the lines, and of the wires of all modules
-pub record IsKeptWith (g : Setting) (es : List Entry) (covered : Board) (counts : List Counts) (last : Option Entry)
+pub record IsTrackedWith (g : Setting) (es : List CertificateLine) (covered : Board) (counts : List Counts)
+    (last : Option CertificateLine)
     (names : List (List ℕ)) (earlier : List (List ℕ)) (local : List ℕ) (e h : List Cell) : Type 0 where
-  pub kept : IsKept g es covered counts last names local e h
+  pub kept : IsTracked g es covered counts last names local e h
   pub wires : AreWires g.circuit (modules_of es) earlier local
 
 -- the fields of every builder: its tables are those of its lines
 abbrev pub IsBuilder : Inside → Type 0
-IsBuilder a = IsKeptWith a.site a.entries.items a.covered a.modules.items a.last a.names.items
+IsBuilder a = IsTrackedWith a.tables a.entries.items a.covered a.modules.items a.last a.names.items
     (map (λ s. s.keys) a.earlier.items) a.known.keys a.edges.keys a.halos.keys
 
 -- ---- the counts of a module with one more line
 
 -- the counts of a module with one line more
-unfoldable pub counted : Entry → Counts → Counts
+unfoldable pub counted : CertificateLine → Counts → Counts
 counted (Module b) k = k
 counted (Cut n) k = record k { cuts = k.cuts + 1 }
 counted (Use g) k = record k { gates = k.gates + 1 }
@@ -111,7 +115,7 @@ pub record IsSmall (k : Counts) : Type 0 where
   pub few_borders : k.edges + k.halos + k.stops ≤ 65536
 
 -- the line is no `module` line
-abbrev pub IsInner : Entry → Type 0
+abbrev pub IsInner : CertificateLine → Type 0
 IsInner (Module b) = ⊥
 IsInner (Cut n) = Unit {0}
 IsInner (Use k) = Unit {0}
@@ -128,7 +132,7 @@ outs_at None = []
 outs_at (Some gate) = gate.outs
 
 -- the wire that is cut, or what the gate that is used defines
-abbrev pub wires_in : Circuit → Entry → List ℕ
+abbrev pub wires_in : Circuit → CertificateLine → List ℕ
 wires_in c (Module b) = []
 wires_in c (Cut n) = option_to_list (wire_of c n)
 wires_in c (Use k) = outs_at (slice_get c.netlist.gates k)

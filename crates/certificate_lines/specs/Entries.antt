@@ -3,20 +3,21 @@ use Rattle.std.specs.Prelude.{ℕ, List, [], ◌∷◌, ◌++◌, map, length, O
 use Rattle.std.specs.List.{fold, flat_map}
 use Rattle.std.specs.Option.{option_to_list}
 use Rattle.circuit.specs.Meaning.{Circuit, wire_of}
-use Rattle.pattern.specs.declared.parts.Port.{Port}
-use Rattle.pattern.specs.declared.parts.Extent.{Extent}
+use Rattle.pattern.specs.declared.layout_line.Port.{Port}
+use Rattle.pattern.specs.declared.layout_line.LayoutHeader.{LayoutHeader}
 use Rattle.module_box.specs.Locals.{local_wires}
 use Rattle.module_box.specs.declared.boxes.Box2.{Box2}
-use Rattle.certificate_lines.specs.declared.entry.Border.{Border}
-use Rattle.certificate_lines.specs.declared.entry.Counts.{Counts}
-use Rattle.certificate_lines.specs.declared.entry.Entry.{Entry}
-use Rattle.certificate_lines.specs.declared.entry.StopLine.{StopLine}
-use Rattle.certificate_lines.specs.declared.entry.Entry.TheVariants.{Module, Cut, Use, Keep, Edge, Halo, Stop}
+use Rattle.certificate_lines.specs.declared.certificate_line.Border.{Border}
+use Rattle.certificate_lines.specs.declared.certificate_line.Counts.{Counts}
+use Rattle.certificate_lines.specs.declared.certificate_line.CertificateLine.{CertificateLine}
+use Rattle.certificate_lines.specs.declared.certificate_line.StopLine.{StopLine}
+use Rattle.certificate_lines.specs.declared.certificate_line.CertificateLine.TheVariants.{Module, Cut, Use, Keep, Edge}
+use Rattle.certificate_lines.specs.declared.certificate_line.CertificateLine.TheVariants.{Halo, Stop}
 
 -- what a certificate is for: a circuit, and of a layout its size and its ports
 pub record Setting : Type 0 where
   pub circuit : Circuit
-  pub size : Extent
+  pub size : LayoutHeader
   pub ports : List Port
 
 -- ---- modules
@@ -24,10 +25,10 @@ pub record Setting : Type 0 where
 -- a module as its lines say it: the box of its `module` line, and the lines after that
 pub record ModuleLines : Type 0 where
   pub area : Box2
-  pub lines : List Entry
+  pub lines : List CertificateLine
 
 -- a module with one line more
-abbrev pub with_line : Entry → ModuleLines → ModuleLines
+abbrev pub with_line : CertificateLine → ModuleLines → ModuleLines
 with_line i m = record m { lines = m.lines ++ i ∷ [] }
 
 -- a list with its last element changed
@@ -43,7 +44,7 @@ last_of (x ∷ []) = Some x
 last_of (x ∷ y ∷ xs) = last_of (y ∷ xs)
 
 -- a `module` line begins a module, and every other line is one of the last module
-unfoldable pub add_line : List ModuleLines → Entry → List ModuleLines
+unfoldable pub add_line : List ModuleLines → CertificateLine → List ModuleLines
 add_line ms (Module b) = ms ++ record { area = b; lines = [] } ∷ []
 add_line ms (Cut n) = change_last (with_line (Cut n)) ms
 add_line ms (Use k) = change_last (with_line (Use k)) ms
@@ -53,12 +54,12 @@ add_line ms (Halo e) = change_last (with_line (Halo e)) ms
 add_line ms (Stop s) = change_last (with_line (Stop s)) ms
 
 -- the modules of lines
-unfoldable pub modules_of : List Entry → List ModuleLines
+unfoldable pub modules_of : List CertificateLine → List ModuleLines
 modules_of entries = fold add_line [] entries
 
 -- the last module
-abbrev pub present : List Entry → Option ModuleLines
-present entries = last_of (modules_of entries)
+abbrev pub last_module : List CertificateLine → Option ModuleLines
+last_module entries = last_of (modules_of entries)
 
 -- the boxes of modules
 abbrev pub areas : List ModuleLines → List Box2
@@ -67,7 +68,7 @@ areas ms = map (λ m. m.area) ms
 -- ---- the lines of a module by their kinds
 
 -- the name that a line cuts, if it is a cut line
-abbrev pub cut_in : Entry → List (List ℕ)
+abbrev pub cut_in : CertificateLine → List (List ℕ)
 cut_in (Module b) = []
 cut_in (Cut n) = n ∷ []
 cut_in (Use k) = []
@@ -77,7 +78,7 @@ cut_in (Halo e) = []
 cut_in (Stop s) = []
 
 -- the gate that a line uses, if it is a use line
-abbrev pub use_in : Entry → List ℕ
+abbrev pub use_in : CertificateLine → List ℕ
 use_in (Module b) = []
 use_in (Cut n) = []
 use_in (Use k) = k ∷ []
@@ -87,7 +88,7 @@ use_in (Halo e) = []
 use_in (Stop s) = []
 
 -- an edge line, and no other line
-abbrev pub edge_in : Entry → List Border
+abbrev pub edge_in : CertificateLine → List Border
 edge_in (Module b) = []
 edge_in (Cut n) = []
 edge_in (Use k) = []
@@ -97,7 +98,7 @@ edge_in (Halo e) = []
 edge_in (Stop s) = []
 
 -- a halo line, and no other line
-abbrev pub halo_in : Entry → List Border
+abbrev pub halo_in : CertificateLine → List Border
 halo_in (Module b) = []
 halo_in (Cut n) = []
 halo_in (Use k) = []
@@ -107,7 +108,7 @@ halo_in (Halo e) = e ∷ []
 halo_in (Stop s) = []
 
 -- a stop line, and no other line
-abbrev pub stop_in : Entry → List StopLine
+abbrev pub stop_in : CertificateLine → List StopLine
 stop_in (Module b) = []
 stop_in (Cut n) = []
 stop_in (Use k) = []
@@ -117,7 +118,7 @@ stop_in (Halo e) = []
 stop_in (Stop s) = s ∷ []
 
 -- the gate that a line keeps, if it is a keep line
-abbrev pub keep_in : Entry → List ℕ
+abbrev pub keep_in : CertificateLine → List ℕ
 keep_in (Module b) = []
 keep_in (Cut n) = []
 keep_in (Use k) = []

@@ -2,11 +2,11 @@ pub mod BorderWords
 pub mod BuilderView
 pub mod Entries
 pub mod Forms
+pub mod LineTablesView
 pub mod ModuleParts
 pub mod Modules
 pub mod Orders
 pub mod PortTables
 pub mod Rules
 pub mod Settings
-pub mod SiteView
 pub mod Versions

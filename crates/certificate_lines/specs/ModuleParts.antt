@@ -3,12 +3,13 @@ use Rattle.std.specs.Prelude.{Bool, true, false, if◌then◌else◌, IsTrue, Li
 use Rattle.std.specs.List.{All}
 use Rattle.module_box.specs.Boxes.{in_box}
 use Rattle.module_box.specs.declared.boxes.Box2.{Box2}
-use Rattle.certificate_lines.specs.declared.entry.Border.{Border}
-use Rattle.certificate_lines.specs.declared.entry.Entry.{Entry}
-use Rattle.certificate_lines.specs.declared.entry.Entry.TheVariants.{Module, Cut, Use, Keep, Edge, Halo, Stop}
+use Rattle.certificate_lines.specs.declared.certificate_line.Border.{Border}
+use Rattle.certificate_lines.specs.declared.certificate_line.CertificateLine.{CertificateLine}
+use Rattle.certificate_lines.specs.declared.certificate_line.CertificateLine.TheVariants.{Module, Cut, Use, Keep, Edge}
+use Rattle.certificate_lines.specs.declared.certificate_line.CertificateLine.TheVariants.{Halo, Stop}
 
 -- whether the line begins a module
-abbrev pub is_module : Entry → Bool
+abbrev pub is_module : CertificateLine → Bool
 is_module (Module b) = true
 is_module (Cut n) = false
 is_module (Use k) = false
@@ -18,7 +19,7 @@ is_module (Halo e) = false
 is_module (Stop s) = false
 
 -- the lines before the next `module` line
-unfoldable pub inner : List Entry → List Entry
+unfoldable pub inner : List CertificateLine → List CertificateLine
 inner [] = []
 inner (i ∷ entries) = if is_module i then [] else i ∷ inner entries
 

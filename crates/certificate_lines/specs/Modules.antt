@@ -6,14 +6,14 @@ use Rattle.module_box.specs.Boxes.{in_box, in_ring, in_halo, IsEven, Tile}
 use Rattle.module_box.specs.Locals.{AreLocalLines, is_among}
 use Rattle.module_box.specs.Tiling.{IsInside}
 use Rattle.module_box.specs.declared.boxes.Box2.{Box2}
-use Rattle.pattern.specs.declared.parts.Port.{Port}
+use Rattle.pattern.specs.declared.layout_line.Port.{Port}
 use Rattle.certificate_lines.specs.Entries.{Setting, ModuleLines, areas, cuts, gates, keeps, edges, halos, stops}
 use Rattle.certificate_lines.specs.Entries.{cut_wires, known}
 use Rattle.certificate_lines.specs.Orders.{AreInOrder}
 use Rattle.certificate_lines.specs.Rules.{whole, is_local, is_inverse_gate, is_star, is_starred, border_count}
 use Rattle.certificate_lines.specs.Rules.{border_limit}
-use Rattle.certificate_lines.specs.declared.entry.Border.{Border}
-use Rattle.certificate_lines.specs.declared.entry.StopLine.{StopLine}
+use Rattle.certificate_lines.specs.declared.certificate_line.Border.{Border}
+use Rattle.certificate_lines.specs.declared.certificate_line.StopLine.{StopLine}
 
 -- the time of an edge or halo line is odd and below the steps, and its signal is `1` or a local wire
 pub record IsBorder (g : Setting) (local : List ℕ) (e : Border) : Type 0 where

@@ -5,11 +5,12 @@ use Rattle.std.specs.declared.cmp.Ordering.{Ordering}
 use Rattle.std.specs.Ordering.{nat_cmp, ordering_then, is_lt}
 use Rattle.bbm_rule.specs.declared.block.Cell.{Cell}
 use Rattle.module_box.specs.Moments.{cell_cmp}
-use Rattle.certificate_lines.specs.declared.entry.Entry.{Entry}
-use Rattle.certificate_lines.specs.declared.entry.Entry.TheVariants.{Module, Cut, Use, Keep, Edge, Halo, Stop}
+use Rattle.certificate_lines.specs.declared.certificate_line.CertificateLine.{CertificateLine}
+use Rattle.certificate_lines.specs.declared.certificate_line.CertificateLine.TheVariants.{Module, Cut, Use, Keep, Edge}
+use Rattle.certificate_lines.specs.declared.certificate_line.CertificateLine.TheVariants.{Halo, Stop}
 
 -- the order of the kinds of line
-unfoldable pub rank_of : Entry → ℕ
+unfoldable pub rank_of : CertificateLine → ℕ
 rank_of (Module b) = 0
 rank_of (Cut n) = 1
 rank_of (Use k) = 2
@@ -24,7 +25,7 @@ time_rank None = 0
 time_rank (Some t) = t + 1
 
 -- within a kind the number of the gate, or the time of the line, comes first
-unfoldable pub number_of : Entry → ℕ
+unfoldable pub number_of : CertificateLine → ℕ
 number_of (Module b) = 0
 number_of (Cut n) = 0
 number_of (Use k) = k
@@ -38,7 +39,7 @@ abbrev pub origin : Cell
 origin = record { x = pos 0; y = pos 0 }
 
 -- then the cell of the line
-unfoldable pub cell_of : Entry → Cell
+unfoldable pub cell_of : CertificateLine → Cell
 cell_of (Module b) = origin
 cell_of (Cut n) = origin
 cell_of (Use k) = origin
@@ -48,13 +49,13 @@ cell_of (Halo e) = e.cell
 cell_of (Stop s) = s.cell
 
 -- by kind, then by number or time, then by y and x
-unfoldable pub line_cmp : Entry → Entry → Ordering
+unfoldable pub line_cmp : CertificateLine → CertificateLine → Ordering
 line_cmp i j =
     ordering_then (nat_cmp (rank_of i) (rank_of j))
     (ordering_then (nat_cmp (number_of i) (number_of j)) (cell_cmp (cell_of i) (cell_of j)))
 
 -- whether the line is a cut line
-unfoldable pub is_cut : Entry → Bool
+unfoldable pub is_cut : CertificateLine → Bool
 is_cut (Module b) = false
 is_cut (Cut n) = true
 is_cut (Use k) = false
@@ -64,14 +65,14 @@ is_cut (Halo e) = false
 is_cut (Stop s) = false
 
 -- whether the first line may come before the second in a module: the cuts come in any order
-unfoldable pub may_precede : Entry → Entry → Bool
+unfoldable pub may_precede : CertificateLine → CertificateLine → Bool
 may_precede i j = is_lt (line_cmp i j) || (is_cut i && is_cut j)
 
 -- whether all these lines may come before the line
-unfoldable pub may_follow : List Entry → Entry → Bool
+unfoldable pub may_follow : List CertificateLine → CertificateLine → Bool
 may_follow lines j = list_all (λ i. may_precede i j) lines
 
 -- each line may come before all later ones
-unfoldable pub AreInOrder : List Entry → Type 0
+unfoldable pub AreInOrder : List CertificateLine → Type 0
 AreInOrder [] = Unit {0}
 AreInOrder (i ∷ lines) = (list_all (may_precede i) lines ≡ true) × AreInOrder lines

@@ -3,8 +3,8 @@ use Rattle.std.specs.Prelude.{◌≡◌, ℕ, zero, suc, ℤ, ◌*◌, ◌≤◌
 use Rattle.std.specs.Prelude.{Some, None, slice_get, Option}
 use Rattle.bbm_rule.specs.Plane.{is_at}
 use Rattle.pattern.specs.Layout.{in_layout}
-use Rattle.pattern.specs.declared.parts.Extent.{Extent}
-use Rattle.pattern.specs.declared.parts.Port.{Port}
+use Rattle.pattern.specs.declared.layout_line.LayoutHeader.{LayoutHeader}
+use Rattle.pattern.specs.declared.layout_line.Port.{Port}
 use Rattle.module_box.specs.Boxes.{in_box}
 use Rattle.module_box.specs.Places.{place_in}
 use Rattle.certificate_lines.specs.declared.ports.PortTable.TheInside.{Inside}
@@ -15,7 +15,7 @@ port_at [] x y = None
 port_at (p ∷ ps) x y = if is_at p.cell x y then Some p.name else port_at ps x y
 
 -- the ports are inside the layout
-abbrev pub AreOnBoard : Extent → List Port → Type 0
+abbrev pub AreOnBoard : LayoutHeader → List Port → Type 0
 AreOnBoard s ports = (i : ℕ) (p : Port) → slice_get ports i ≡ Some p → in_layout s p.cell.x p.cell.y ≡ true
 
 -- the number of a port in a list with one port more in front, and 0 for no port

@@ -10,21 +10,23 @@ use Rattle.section_text.specs.Codes.{out_of_order, past_limit, something_missing
 use Rattle.circuit.specs.Gates.{is_inverse}
 use Rattle.circuit.specs.Meaning.{Circuit, Gate, wire_of}
 use Rattle.pattern.specs.Layout.{rectangle_cells}
-use Rattle.pattern.specs.declared.parts.Extent.{Extent}
+use Rattle.pattern.specs.declared.layout_line.LayoutHeader.{LayoutHeader}
 use Rattle.module_box.specs.Boxes.{in_box, in_ring, in_halo}
 use Rattle.module_box.specs.Locals.{is_among, cut_limit, use_limit}
 use Rattle.module_box.specs.Tiling.{rectangle_of}
 use Rattle.module_box.specs.declared.boxes.Box2.{Box2}
-use Rattle.certificate_lines.specs.declared.entry.Border.{Border}
-use Rattle.certificate_lines.specs.declared.entry.Entry.{Entry}
-use Rattle.certificate_lines.specs.declared.entry.StopLine.{StopLine}
-use Rattle.certificate_lines.specs.declared.entry.Entry.TheVariants.{Module, Cut, Use, Keep, Edge, Halo, Stop}
-use Rattle.certificate_lines.specs.Entries.{Setting, ModuleLines, modules_of, present, areas, cuts, gates, edges, halos}
+use Rattle.certificate_lines.specs.declared.certificate_line.Border.{Border}
+use Rattle.certificate_lines.specs.declared.certificate_line.CertificateLine.{CertificateLine}
+use Rattle.certificate_lines.specs.declared.certificate_line.StopLine.{StopLine}
+use Rattle.certificate_lines.specs.declared.certificate_line.CertificateLine.TheVariants.{Module, Cut, Use, Keep, Edge}
+use Rattle.certificate_lines.specs.declared.certificate_line.CertificateLine.TheVariants.{Halo, Stop}
+use Rattle.certificate_lines.specs.Entries.{Setting, ModuleLines, modules_of, last_module, areas, cuts, gates, edges}
+use Rattle.certificate_lines.specs.Entries.{halos}
 use Rattle.certificate_lines.specs.Entries.{stops, known}
 use Rattle.certificate_lines.specs.Orders.{may_follow}
 
 -- the whole rectangle of the layout
-abbrev pub whole : Extent → Box2
+abbrev pub whole : LayoutHeader → Box2
 whole s = rectangle_of s.w s.h
 
 -- ---- local wires
@@ -59,7 +61,7 @@ abbrev pub is_wrong_side : ℕ → Bool
 is_wrong_side n = is_odd n || nat_lt n 2 || nat_lt 64 n
 
 -- a corner is even, and the box is inside the rectangle
-abbrev pub is_misplaced : Extent → Box2 → Bool
+abbrev pub is_misplaced : LayoutHeader → Box2 → Bool
 is_misplaced s b = is_odd b.x || is_odd b.y || nat_lt s.w (b.x + b.w) || nat_lt s.h (b.y + b.h)
 
 -- whether one of the boxes has the cell (x, y)
@@ -151,17 +153,17 @@ is_time steps starred None = true
 is_time steps starred (Some t) = is_odd t && nat_lt t steps && not starred
 
 -- an edge is in the box's ring, and not on the rim of the rectangle, which is the rectangle's ring
-unfoldable pub is_edge_place : Extent → Box2 → Bool → Border → Bool
+unfoldable pub is_edge_place : LayoutHeader → Box2 → Bool → Border → Bool
 is_edge_place s area starred e =
     in_ring area e.cell.x e.cell.y && not (in_ring (whole s) e.cell.x e.cell.y) && is_time s.steps starred e.time
 
 -- a halo line is in the box's halo, and inside the rectangle
-unfoldable pub is_halo_place : Extent → Box2 → Bool → Border → Bool
+unfoldable pub is_halo_place : LayoutHeader → Box2 → Bool → Border → Bool
 is_halo_place s area starred e =
     in_halo area e.cell.x e.cell.y && in_box (whole s) e.cell.x e.cell.y && is_time s.steps starred e.time
 
 -- a stop is in the box, at a time up to the last one
-unfoldable pub is_stop_place : Extent → Box2 → StopLine → Bool
+unfoldable pub is_stop_place : LayoutHeader → Box2 → StopLine → Bool
 is_stop_place size area s = in_box area s.cell.x s.cell.y && nat_le s.time size.steps
 
 -- a signal is `1`, or a wire of the circuit, 3, that is local, 9
@@ -206,7 +208,7 @@ stop_fault g m s = border_fault g.circuit (border_count m) (known g.circuit m) (
     (Some s.wire)
 
 -- the code of a line of a module, but for its order
-abbrev pub words_fault : Setting → ModuleLines → Entry → Option ℕ
+abbrev pub words_fault : Setting → ModuleLines → CertificateLine → Option ℕ
 words_fault g m (Module b) = None
 words_fault g m (Cut n) = cut_fault g.circuit (length (cuts m)) (known g.circuit m) n
 words_fault g m (Use k) = use_fault g.circuit (length (gates m)) (known g.circuit m) k
@@ -216,31 +218,31 @@ words_fault g m (Halo e) = halo_fault g m e
 words_fault g m (Stop s) = stop_fault g m s
 
 -- a line of a module after those before it: its order first, 6
-abbrev pub line_fault : Setting → ModuleLines → Entry → Option ℕ
+abbrev pub line_fault : Setting → ModuleLines → CertificateLine → Option ℕ
 line_fault g m i = or_else (code_where (not (may_follow m.lines i)) out_of_order) (words_fault g m i)
 
 -- a line that is no `module` line belongs to a module
-abbrev pub inner_fault : Setting → Option ModuleLines → Entry → Option ℕ
+abbrev pub inner_fault : Setting → Option ModuleLines → CertificateLine → Option ℕ
 inner_fault g None i = Some out_of_order
 inner_fault g (Some m) i = line_fault g m i
 
 -- the code of the first test that a line fails
-unfoldable pub entry_fault : Setting → List Entry → Entry → Option ℕ
-entry_fault g before (Module b) = module_fault g (modules_of before) (present before) b
-entry_fault g before (Cut n) = inner_fault g (present before) (Cut n)
-entry_fault g before (Use k) = inner_fault g (present before) (Use k)
-entry_fault g before (Keep k) = inner_fault g (present before) (Keep k)
-entry_fault g before (Edge e) = inner_fault g (present before) (Edge e)
-entry_fault g before (Halo e) = inner_fault g (present before) (Halo e)
-entry_fault g before (Stop s) = inner_fault g (present before) (Stop s)
+unfoldable pub entry_fault : Setting → List CertificateLine → CertificateLine → Option ℕ
+entry_fault g before (Module b) = module_fault g (modules_of before) (last_module before) b
+entry_fault g before (Cut n) = inner_fault g (last_module before) (Cut n)
+entry_fault g before (Use k) = inner_fault g (last_module before) (Use k)
+entry_fault g before (Keep k) = inner_fault g (last_module before) (Keep k)
+entry_fault g before (Edge e) = inner_fault g (last_module before) (Edge e)
+entry_fault g before (Halo e) = inner_fault g (last_module before) (Halo e)
+entry_fault g before (Stop s) = inner_fault g (last_module before) (Stop s)
 
 -- ---- the end
 
 -- some cell of the rectangle lies in no box
-abbrev pub leaves_gap : Extent → List Box2 → Bool
+abbrev pub leaves_gap : LayoutHeader → List Box2 → Bool
 leaves_gap s boxes = not (list_all (λ c. in_boxes boxes c.x c.y) (box_cells (whole s)))
 
 -- the ports of the last module are local, and the boxes leave no gap
-unfoldable pub end_fault : Setting → List Entry → Option ℕ
+unfoldable pub end_fault : Setting → List CertificateLine → Option ℕ
 end_fault g entries = code_where
-    (is_incomplete g (present entries) || leaves_gap g.size (areas (modules_of entries))) something_missing
+    (is_incomplete g (last_module entries) || leaves_gap g.size (areas (modules_of entries))) something_missing

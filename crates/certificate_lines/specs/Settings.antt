@@ -3,7 +3,7 @@ use Rattle.std.specs.Prelude.{◌++◌, List}
 use Rattle.circuit.specs.Bridge.{circuit_of}
 use Rattle.pattern.specs.Layout.{Pattern}
 use Rattle.certificate_lines.specs.Entries.{Setting}
-use Rattle.circuit.specs.declared.entry.Entry.{Entry as CircuitLine}
+use Rattle.circuit.specs.declared.circuit_line.CircuitLine.{CircuitLine}
 
 -- a circuit of these lines, and a layout
 abbrev pub setting_of : List CircuitLine → Pattern → Setting

@@ -14,9 +14,10 @@ use Rattle.circuit.specs.Meaning.{Circuit}
 use Rattle.certificate_lines.specs.Entries.{Setting, ModuleLines, edges, known, stops}
 use Rattle.certificate_lines.specs.Orders.{time_rank}
 use Rattle.certificate_lines.specs.Rules.{entry_fault, is_local}
-use Rattle.certificate_lines.specs.declared.entry.Border.{Border}
-use Rattle.certificate_lines.specs.declared.entry.Entry.{Entry}
-use Rattle.certificate_lines.specs.declared.entry.Entry.TheVariants.{Module, Cut, Use, Keep, Edge, Halo, Stop}
+use Rattle.certificate_lines.specs.declared.certificate_line.Border.{Border}
+use Rattle.certificate_lines.specs.declared.certificate_line.CertificateLine.{CertificateLine}
+use Rattle.certificate_lines.specs.declared.certificate_line.CertificateLine.TheVariants.{Module, Cut, Use, Keep, Edge}
+use Rattle.certificate_lines.specs.declared.certificate_line.CertificateLine.TheVariants.{Halo, Stop}
 
 -- ---- the order of edge and of halo lines
 
@@ -42,7 +43,7 @@ beside g ms area = if nat_lt 1 g.size.steps then filter (λ e. in_halo area e.ce
     (flat_map edges ms) else []
 
 -- whether a line is a halo line
-unfoldable pub is_halo : Entry → Bool
+unfoldable pub is_halo : CertificateLine → Bool
 is_halo (Module b) = false
 is_halo (Cut n) = false
 is_halo (Use k) = false
@@ -52,7 +53,7 @@ is_halo (Halo e) = true
 is_halo (Stop s) = false
 
 -- the lines other than halo lines
-unfoldable pub without_halos : List Entry → List Entry
+unfoldable pub without_halos : List CertificateLine → List CertificateLine
 without_halos lines = filter (λ i. not (is_halo i)) lines
 
 -- a module without them
@@ -60,7 +61,7 @@ unfoldable pub stripped : ModuleLines → ModuleLines
 stripped m = record m { lines = without_halos m.lines }
 
 -- whether a line is before the halo lines of its module
-unfoldable pub is_early : Entry → Bool
+unfoldable pub is_early : CertificateLine → Bool
 is_early (Module b) = true
 is_early (Cut n) = true
 is_early (Use k) = true
@@ -97,6 +98,6 @@ lacks_wire g ms = list_any (λ m. list_any (λ e. is_strange g.circuit (known g.
 -- ---- good lines
 
 -- each of these lines is good after those before it
-abbrev pub AreGoodLines : Setting → List Entry → List Entry → Type 0
+abbrev pub AreGoodLines : Setting → List CertificateLine → List CertificateLine → Type 0
 AreGoodLines g before [] = Unit {0}
 AreGoodLines g before (i ∷ es) = (entry_fault g before i ≡ None) × AreGoodLines g (before ++ i ∷ []) es

@@ -3,25 +3,25 @@ ghost use Rattle.std.specs.Prelude.{◌≡◌, ◌+◌, ◌≤◌, ◌<◌, ◌+
 ghost use Rattle.section_text.specs.Adding.{FaultIs};
 ghost use Rattle.pattern.specs.Lines.{size_fault};
 ghost use Rattle.std.specs.List.{flat_map, list_any};
-ghost use Rattle.certificate_lines.specs.Entries.{ModuleLines, counts_of, edge_in, known, modules_of, present};
+ghost use Rattle.certificate_lines.specs.Entries.{ModuleLines, counts_of, edge_in, known, modules_of, last_module};
 ghost use Rattle.certificate_lines.specs.ModuleParts.{AreInBox};
 ghost use Rattle.certificate_lines.specs.Rules.{entry_fault, end_fault, box_fault, module_fault, inner_fault, words_fault, is_incomplete, is_local, leaves_gap, box_cells};
 ghost use Rattle.module_box.specs.Boxes.{in_box};
-ghost use Rattle.certificate_lines.specs.BuilderView.{BuilderState, IsInner, IsSmall, lacks_edge};
+ghost use Rattle.certificate_lines.specs.BuilderView.{BuilderView, IsInner, IsSmall, lacks_edge};
 ghost use Rattle.certificate_lines.specs.Versions.{lacks_wire};
-ghost use Rattle.certificate_lines.specs.declared.entry.Entry.TheVariants.{Module};
+ghost use Rattle.certificate_lines.specs.declared.certificate_line.CertificateLine.TheVariants.{Module};
 
+use crate::certificate_line::{CertificateLine, Counts};
 use crate::counts::{count_in_last, last_counts, pop_module, push_entry, push_module};
-use crate::entry::{Counts, Entry};
 use crate::known::{learn_line, make_room_for_wires, put_away};
 use crate::lacks::has_unknown;
+use crate::line_tables::LineTables;
 use crate::lines::inner_lines;
 use crate::order::does_follow;
 use crate::rules::{
     border_code, cut_code, is_bad_place, is_bad_side, is_local_name, keep_code, may_be_edge,
     may_be_halo, may_be_stop, use_code,
 };
-use crate::site::Site;
 use crate::stars::{has_star, make_room_for_stars, note_stars};
 use crate::tiles::{cells_of_box, is_full};
 use bbm_rule::{Cell, Grid};
@@ -33,7 +33,7 @@ use std::alloc::{AllocError, Global};
 use std::marker::Model;
 
 // The most modules.
-const MODULES: usize = 1024;
+const MAX_MODULES: usize = 1024;
 
 /// A certificate to which lines are added.
 ///
@@ -41,15 +41,15 @@ const MODULES: usize = 1024;
 /// and of the last one.
 #[derive(Drop)]
 pub struct Builder<'a> {
-    site: Site<'a>,
-    entries: Vec<Entry>,
+    tables: LineTables<'a>,
+    entries: Vec<CertificateLine>,
     modules: Vec<Counts>,
     // the cells of all boxes
     covered: Grid,
     // the wires that are local in each module before the last, behind none
     earlier: Vec<IndexSet<u16>>,
     // of the last module: its last line, the names of its ports, its local wires, and its cells with a `*`
-    last: Option<Entry>,
+    last: Option<CertificateLine>,
     names: Vec<Name>,
     known: IndexSet<u16>,
     edges: IndexSet<Cell>,
@@ -57,33 +57,34 @@ pub struct Builder<'a> {
 }
 
 impl<'a> Model for Builder<'a> {
-    ghost use Rattle.certificate_lines.specs.BuilderView.{BuilderState};
+    ghost use Rattle.certificate_lines.specs.BuilderView.{BuilderView};
 
-    ghost Value = { BuilderState };
+    ghost Value = { BuilderView };
 
-    ghost use Rattle.certificate_lines.specs.BuilderView.{builder_state, IsBuilder};
+    ghost use Rattle.certificate_lines.specs.BuilderView.{builder_view, IsBuilder};
 
-    ghost view = { builder_state };
+    ghost view = { builder_view };
 
     ghost invariant = { IsBuilder };
 }
 
 // Whether some of the names is not that of a local wire.
-fn lacks_some(site: &Site, known: &IndexSet<u16>, names: &[Name]) -> bool
-    ensures { result ≡ list_any (λ n. not (is_local site.now.circuit known.now.keys n)) names.now }
+fn lacks_some(tables: &LineTables, known: &IndexSet<u16>, names: &[Name]) -> bool
+    ensures { result
+        ≡ list_any (λ n. not (is_local tables.now.circuit known.now.keys n)) names.now }
 {
-    names.iter().any(|name| !is_local_name(site, known, name))
+    names.iter().any(|name| !is_local_name(tables, known, name))
 }
 
 impl<'a> Builder<'a> {
     /// Creates a builder without lines.
-    pub fn new(alloc: Global, site: Site<'a>) -> Result<Builder<'a>, AllocError>
-        ensures { IfOk result (λ b. b ≡ record { setting = site.entry; entries = [] }) }
+    pub fn new(alloc: Global, tables: LineTables<'a>) -> Result<Builder<'a>, AllocError>
+        ensures { IfOk result (λ b. b ≡ record { setting = tables.entry; entries = [] }) }
     {
-        let size = site.size();
+        let size = tables.size();
         let covered = Grid::new(alloc, size.w, size.h)?;
         Ok(Builder {
-            site,
+            tables,
             entries: Vec::new(alloc),
             modules: Vec::new(alloc),
             covered,
@@ -98,44 +99,53 @@ impl<'a> Builder<'a> {
 
     // Whether a port in the box of the last module has a wire that is not local.
     fn lacks_port(&self) -> bool
-        ensures { result ≡ is_incomplete self.now.setting (present self.now.entries) }
+        ensures { result ≡ is_incomplete self.now.setting (last_module self.now.entries) }
     {
-        lacks_some(&self.site, &self.known, &self.names)
+        lacks_some(&self.tables, &self.known, &self.names)
     }
 
     // The code of the tests that come after that of the order, where these are the counts of the last module.
-    fn words_code(&self, counts: Counts, entry: &Entry) -> Option<u8>
+    fn words_code(&self, counts: Counts, entry: &CertificateLine) -> Option<u8>
         requires { IsSmall counts }
-        ensures { (m : ModuleLines) → present self.now.entries ≡ Some m → counts ≡ counts_of m →
+        ensures { (m : ModuleLines) → last_module self.now.entries ≡ Some m → counts ≡ counts_of m →
             result ≡ words_fault self.now.setting m entry.now }
     {
-        let size = self.site.size();
+        let size = self.tables.size();
         let borders = counts.edges + counts.halos + counts.stops;
         match entry {
-            Entry::Module(_) => None,
-            Entry::Cut(name) => cut_code(&self.site, counts.cuts, &self.known, name),
-            Entry::Use(number) => use_code(&self.site, counts.gates, &self.known, *number),
-            Entry::Keep(number) => keep_code(&self.site, self.entries.as_slice(), *number),
-            Entry::Edge(border) => {
+            CertificateLine::Module(_) => None,
+            CertificateLine::Cut(name) => cut_code(&self.tables, counts.cuts, &self.known, name),
+            CertificateLine::Use(number) => use_code(
+                &self.tables,
+                counts.gates,
+                &self.known,
+                *number,
+            ),
+            CertificateLine::Keep(number) => keep_code(
+                &self.tables,
+                self.entries.as_slice(),
+                *number,
+            ),
+            CertificateLine::Edge(border) => {
                 let starred = has_star(&self.edges, border.cell);
                 let placed = may_be_edge(size, counts.area, starred, border);
-                border_code(&self.site, borders, &self.known, placed, border.signal)
+                border_code(&self.tables, borders, &self.known, placed, border.signal)
             }
-            Entry::Halo(border) => {
+            CertificateLine::Halo(border) => {
                 let starred = has_star(&self.halos, border.cell);
                 let placed = may_be_halo(size, counts.area, starred, border);
-                border_code(&self.site, borders, &self.known, placed, border.signal)
+                border_code(&self.tables, borders, &self.known, placed, border.signal)
             }
-            Entry::Stop(stop) => {
+            CertificateLine::Stop(stop) => {
                 let placed = may_be_stop(size, counts.area, stop);
-                border_code(&self.site, borders, &self.known, placed, Some(stop.wire))
+                border_code(&self.tables, borders, &self.known, placed, Some(stop.wire))
             }
         }
     }
 
     // The code of a line of a module.
-    fn inner_code(&self, entry: &Entry) -> Option<u8>
-        ensures { result ≡ inner_fault self.now.setting (present self.now.entries) entry.now }
+    fn inner_code(&self, entry: &CertificateLine) -> Option<u8>
+        ensures { result ≡ inner_fault self.now.setting (last_module self.now.entries) entry.now }
     {
         let Some(counts) = last_counts(&self.modules) else {
             return Some(6);
@@ -149,24 +159,24 @@ impl<'a> Builder<'a> {
 
 impl<'a> Builder<'a> {
     // Adds a line of a module, or answers the code of the first test that it fails.
-    fn add_inner(&mut self, entry: Entry) -> Result<(), LineFault>
+    fn add_inner(&mut self, entry: CertificateLine) -> Result<(), LineFault>
         requires { IsInner entry }
-        ensures ok { OnOk result ((inner_fault self.old.setting (present self.old.entries) entry
+        ensures ok { OnOk result ((inner_fault self.old.setting (last_module self.old.entries) entry
             ≡ None) × (self.new ≡ record self.old { entries = self.old.entries ++ entry ∷ [] })) }
         ensures fault { IfErr result (λ e. FaultIs e
-            (inner_fault self.old.setting (present self.old.entries) entry)) }
+            (inner_fault self.old.setting (last_module self.old.entries) entry)) }
     {
         if let Some(code) = self.inner_code(&entry) {
             return Err(LineFault::Code(code));
         }
-        if make_room_for_wires(&mut self.known, &self.site, &entry).is_err() {
+        if make_room_for_wires(&mut self.known, &self.tables, &entry).is_err() {
             return Err(LineFault::Memory);
         }
         if make_room_for_stars(&mut self.edges, &mut self.halos, &entry).is_err() {
             return Err(LineFault::Memory);
         }
         push_entry(&mut self.entries, entry)?;
-        learn_line(&mut self.known, &self.site, &entry);
+        learn_line(&mut self.known, &self.tables, &entry);
         note_stars(&mut self.edges, &mut self.halos, &entry);
         count_in_last(&mut self.modules, &entry);
         self.last = Some(entry);
@@ -183,7 +193,7 @@ impl<'a> Builder<'a> {
             ≡ list_any (λ p. in_box area p.cell.x p.cell.y && f p.name) self.now.setting.ports) }
     {
         let mut names = Vec::new(alloc);
-        self.site.push_ports(&mut names, area, cells)?;
+        self.tables.push_ports(&mut names, area, cells)?;
         Ok(names)
     }
 
@@ -199,17 +209,17 @@ impl<'a> Builder<'a> {
     fn box_code(&self, area: Box2) -> Option<u8>
         ensures code { result
             ≡ box_fault self.now.setting (length (modules_of self.now.entries))
-            (present self.now.entries) area }
+            (last_module self.now.entries) area }
         ensures right { result ≡ None → area.x + area.w ≤ 512 }
         ensures bottom { result ≡ None → area.y + area.h ≤ 512 }
     {
-        let size = self.site.size();
+        let size = self.tables.size();
         if self.lacks_port() {
             return Some(11);
         }
         let bad_width = is_bad_side(area.w);
         let bad_height = is_bad_side(area.h);
-        if bad_width | bad_height | (self.count() >= MODULES) {
+        if bad_width | bad_height | (self.count() >= MAX_MODULES) {
             return Some(2);
         }
         if is_bad_place(size, area) {
@@ -222,12 +232,12 @@ impl<'a> Builder<'a> {
     fn free_cells(&self, alloc: Global, area: Box2) -> Result<Vec<Cell>, LineFault>
         ensures cells { IfOk result (λ cells. cells.items ≡ box_cells area) }
         ensures alone { OnOk result (box_fault self.now.setting
-            (length (modules_of self.now.entries)) (present self.now.entries) area ≡ None) }
+            (length (modules_of self.now.entries)) (last_module self.now.entries) area ≡ None) }
         ensures free { OnOk result (module_fault self.now.setting (modules_of self.now.entries)
-            (present self.now.entries) area ≡ None) }
+            (last_module self.now.entries) area ≡ None) }
         ensures fault { IfErr result (λ e. FaultIs e
-            (module_fault self.now.setting (modules_of self.now.entries) (present self.now.entries)
-            area)) }
+            (module_fault self.now.setting (modules_of self.now.entries)
+            (last_module self.now.entries) area)) }
     {
         if let Some(code) = self.box_code(area) {
             return Err(LineFault::Code(code));
@@ -243,11 +253,11 @@ impl<'a> Builder<'a> {
 
     fn add_module(&mut self, alloc: Global, area: Box2) -> Result<(), LineFault>
         ensures ok { OnOk result ((module_fault self.old.setting (modules_of self.old.entries)
-            (present self.old.entries) area ≡ None)
+            (last_module self.old.entries) area ≡ None)
             × (self.new ≡ record self.old { entries = self.old.entries ++ Module area ∷ [] })) }
         ensures fault { IfErr result (λ e. FaultIs e
-            (module_fault self.old.setting (modules_of self.old.entries) (present self.old.entries)
-            area)) }
+            (module_fault self.old.setting (modules_of self.old.entries)
+            (last_module self.old.entries) area)) }
     {
         let cells = self.free_cells(alloc, area)?;
         let Ok(names) = self.names_in(alloc, area, &cells) else {
@@ -272,14 +282,14 @@ impl<'a> Builder<'a> {
     ///
     /// Out of memory, or the code of the first test that the line fails.
     #[tactic(auto, unfolding(crate::specs::Rules::entry_fault))]
-    pub fn add(&mut self, alloc: Global, entry: Entry) -> Result<(), LineFault>
+    pub fn add(&mut self, alloc: Global, entry: CertificateLine) -> Result<(), LineFault>
         ensures ok { OnOk result ((entry_fault self.old.setting self.old.entries entry ≡ None)
             × (self.new ≡ record self.old { entries = self.old.entries ++ entry ∷ [] })) }
         ensures fault { IfErr result (λ e. FaultIs e
             (entry_fault self.old.setting self.old.entries entry)) }
     {
         match entry {
-            Entry::Module(area) => self.add_module(alloc, area),
+            CertificateLine::Module(area) => self.add_module(alloc, area),
             _ => self.add_inner(entry),
         }
     }
@@ -288,19 +298,19 @@ impl<'a> Builder<'a> {
     pub fn missing(&self) -> Option<u8>
         ensures { result ≡ end_fault self.now.setting self.now.entries }
     {
-        let size = self.site.size();
+        let size = self.tables.size();
         let lacks = self.lacks_port();
         let full = is_full(&self.covered, size.w, size.h);
         if lacks | !full { Some(11) } else { None }
     }
 
     /// Returns the lines, and the counts of the modules.
-    pub fn into_parts(self) -> (Vec<Entry>, Vec<Counts>)
+    pub fn into_parts(self) -> (Vec<CertificateLine>, Vec<Counts>)
         ensures entries { result.0.items ≡ self.entry.entries }
         ensures counts { result.1.items ≡ map counts_of (modules_of self.entry.entries) }
     {
         let Builder {
-            site: _,
+            tables: _,
             entries,
             modules,
             covered: _,
@@ -332,7 +342,7 @@ impl<'a> Builder<'a> {
 
     // Whether one of the edge lines of a module names a wire that is not local in the module of this number, which is
     // beside it.
-    fn lacks_wire_in(&self, number: usize, area: Box2, lines: &[Entry]) -> bool
+    fn lacks_wire_in(&self, number: usize, area: Box2, lines: &[CertificateLine]) -> bool
         requires number { number < length (modules_of self.now.entries) }
         requires inside { AreInBox area (flat_map edge_in lines.now) }
         ensures { (m : ModuleLines) → slice_get (modules_of self.now.entries) number ≡ Some m →
@@ -342,11 +352,11 @@ impl<'a> Builder<'a> {
         if !own.is_near(area) {
             return false;
         }
-        has_unknown(&self.site, self.wires_of(number), own, lines)
+        has_unknown(&self.tables, self.wires_of(number), own, lines)
     }
 
     // The same of some module.
-    fn lacks_some_in(&self, area: Box2, lines: &[Entry]) -> bool
+    fn lacks_some_in(&self, area: Box2, lines: &[CertificateLine]) -> bool
         requires inside { AreInBox area (flat_map edge_in lines.now) }
         ensures { result
             ≡ list_any (lacks_edge self.now.setting.circuit (flat_map edge_in lines.now))
@@ -364,12 +374,12 @@ impl<'a> Builder<'a> {
     pub fn lacks_wire(&self) -> bool
         ensures { result ≡ lacks_wire self.now.setting (modules_of self.now.entries) }
     {
-        let size = self.site.size();
+        let size = self.tables.size();
         if size.steps <= 1 {
             return false;
         }
         'lines: for (place, entry) in self.entries.iter().enumerate() {
-            if let Entry::Module(area) = entry {
+            if let CertificateLine::Module(area) = entry {
                 if self.lacks_some_in(*area, inner_lines(&self.entries[place + 1..])) {
                     return true;
                 }

@@ -3,28 +3,28 @@ ghost use Rattle.std.specs.Prelude.{◌≡◌, ◌+◌, ◌-◌, ◌<◌, ◌≤
 ghost use Rattle.section_text.specs.declared.section.LineFault.TheVariants.{Memory};
 ghost use Rattle.certificate_lines.specs.Entries.{change_last, last_of};
 ghost use Rattle.certificate_lines.specs.BuilderView.{counted, IsSmall};
-ghost use Rattle.certificate_lines.specs.declared.entry.Counts.{Counts};
-ghost use Rattle.certificate_lines.specs.declared.entry.Entry.TheVariants.{Module};
+ghost use Rattle.certificate_lines.specs.declared.certificate_line.Counts.{Counts};
+ghost use Rattle.certificate_lines.specs.declared.certificate_line.CertificateLine.TheVariants.{Module};
 
-use crate::entry::{Border, Counts, Entry, StopLine};
+use crate::certificate_line::{Border, CertificateLine, Counts, StopLine};
 use module_box::Box2;
 use section_text::{LineFault, Name};
 
 // One more line of a module.
 #[tactic(auto, unfolding(crate::specs::BuilderView::counted))]
-fn count_line(counts: Counts, entry: &Entry) -> Counts
+fn count_line(counts: Counts, entry: &CertificateLine) -> Counts
     requires { IsSmall counts }
     ensures { result ≡ counted entry.now counts }
 {
     let mut counts = counts;
     match entry {
-        Entry::Module(_) => {}
-        Entry::Cut(_) => counts.cuts += 1,
-        Entry::Use(_) => counts.gates += 1,
-        Entry::Keep(_) => {}
-        Entry::Edge(_) => counts.edges += 1,
-        Entry::Halo(_) => counts.halos += 1,
-        Entry::Stop(_) => counts.stops += 1,
+        CertificateLine::Module(_) => {}
+        CertificateLine::Cut(_) => counts.cuts += 1,
+        CertificateLine::Use(_) => counts.gates += 1,
+        CertificateLine::Keep(_) => {}
+        CertificateLine::Edge(_) => counts.edges += 1,
+        CertificateLine::Halo(_) => counts.halos += 1,
+        CertificateLine::Stop(_) => counts.stops += 1,
     }
     counts
 }
@@ -37,7 +37,7 @@ pub(crate) fn last_counts(modules: &[Counts]) -> Option<Counts>
 }
 
 /// Counts one more line of the last module.
-pub(crate) fn count_in_last(modules: &mut Vec<Counts>, entry: &Entry)
+pub(crate) fn count_in_last(modules: &mut Vec<Counts>, entry: &CertificateLine)
     requires { (k : Counts) → last_of modules.old.items ≡ Some k → IsSmall k }
     ensures { modules.new.items ≡ change_last (counted entry.now) modules.old.items }
 {
@@ -49,17 +49,17 @@ pub(crate) fn count_in_last(modules: &mut Vec<Counts>, entry: &Entry)
 }
 
 // These three name the types inside an entry, which the borrow checker wants to see where an entry is moved.
-fn border_of(entry: &Entry) -> Option<Border> {
+fn border_of(entry: &CertificateLine) -> Option<Border> {
     match entry {
-        Entry::Edge(border) => Some(*border),
-        Entry::Halo(border) => Some(*border),
+        CertificateLine::Edge(border) => Some(*border),
+        CertificateLine::Halo(border) => Some(*border),
         _ => None,
     }
 }
 
-fn stop_of(entry: &Entry) -> Option<StopLine> {
+fn stop_of(entry: &CertificateLine) -> Option<StopLine> {
     match entry {
-        Entry::Stop(stop) => Some(*stop),
+        CertificateLine::Stop(stop) => Some(*stop),
         _ => None,
     }
 }
@@ -69,7 +69,10 @@ fn signal_of(border: Option<Border>) -> Option<Name> {
 }
 
 /// Adds a line at the end.
-pub fn push_entry(entries: &mut Vec<Entry>, entry: Entry) -> Result<(), LineFault>
+pub fn push_entry(
+    entries: &mut Vec<CertificateLine>,
+    entry: CertificateLine,
+) -> Result<(), LineFault>
     ensures ok { OnOk result (entries.new.items ≡ entries.old.items ++ entry ∷ []) }
     ensures err { OnErr result (entries.new.items ≡ entries.old.items) }
     ensures memory { IfErr result (λ e. e ≡ Memory) }
@@ -85,7 +88,7 @@ pub fn push_entry(entries: &mut Vec<Entry>, entry: Entry) -> Result<(), LineFaul
 
 /// Adds a `module` line, and its counts, or leaves both as they are.
 pub(crate) fn push_module(
-    entries: &mut Vec<Entry>,
+    entries: &mut Vec<CertificateLine>,
     modules: &mut Vec<Counts>,
     area: Box2,
 ) -> Result<(), LineFault>
@@ -93,7 +96,7 @@ pub(crate) fn push_module(
     ensures modules { OnOk result (modules.new.items
         ≡ modules.old.items ++
         (record { area = area; cuts = 0; gates = 0; edges = 0; halos = 0; stops = 0 }) ∷ []) }
-    ensures same { OnErr result ((entries.new.items ≡ entries.old.items)
+    ensures unchanged_on_error { OnErr result ((entries.new.items ≡ entries.old.items)
         × (modules.new.items ≡ modules.old.items)) }
     ensures memory { IfErr result (λ e. e ≡ Memory) }
 {
@@ -101,7 +104,7 @@ pub(crate) fn push_module(
     let Ok(()) = modules.push(Counts::new(area)) else {
         return Err(LineFault::Memory);
     };
-    if let Err(fault) = push_entry(entries, Entry::Module(area)) {
+    if let Err(fault) = push_entry(entries, CertificateLine::Module(area)) {
         modules.truncate(before);
         return Err(fault);
     }
@@ -109,7 +112,7 @@ pub(crate) fn push_module(
 }
 
 /// Takes the last line, and the last counts, away.
-pub(crate) fn pop_module(entries: &mut Vec<Entry>, modules: &mut Vec<Counts>)
+pub(crate) fn pop_module(entries: &mut Vec<CertificateLine>, modules: &mut Vec<Counts>)
     requires lines { 0 < length entries.old.items }
     requires modules { 0 < length modules.old.items }
     ensures entries { entries.new.items ≡ take (length entries.old.items - 1) entries.old.items }

@@ -1,11 +1,11 @@
 //! The line forms of the certificate section.
 ghost use Rattle.std.specs.Prelude.{◌≡◌, ◌+◌, ◌≤◌};
 ghost use Rattle.section_text.specs.Words.{words_of, lone};
-ghost use Rattle.section_text.specs.FeedState.{IsLine, line_bytes};
+ghost use Rattle.section_text.specs.Feeds.{IsLine, line_bytes};
 ghost use Rattle.certificate_lines.specs.Forms.{Line as FormLine, corner_and_sides, area_of, border_of, form_of, stop_of};
 ghost use Rattle.certificate_lines.specs.BorderWords.{border_by, signal_by, stop_by, time_by};
 
-use crate::entry::{Border, Entry, StopLine};
+use crate::certificate_line::{Border, CertificateLine, StopLine};
 use module_box::Box2;
 use pattern::cell_from_words;
 use section_text::{Feed, FiveWords, Form, Line, Name, read_number};
@@ -98,7 +98,7 @@ fn stop_in(feed: &Feed, line: &Line) -> Option<StopLine>
 }
 
 #[tactic(auto, unfolding(section_text::specs::Words::lone))]
-fn end_in(feed: &Feed, line: &Line) -> Option<Form<u32, Entry>>
+fn end_in(feed: &Feed, line: &Line) -> Option<Form<u32, CertificateLine>>
     requires { IsLine feed.now line.now }
     ensures { result ≡ lone {A = FormLine} (words_of (line_bytes feed.now line.now)) Form.End }
 {
@@ -111,24 +111,24 @@ fn end_in(feed: &Feed, line: &Line) -> Option<Form<u32, Entry>>
 
 /// Returns the form of a line, if it has one.
 #[tactic(auto, unfolding(crate::specs::Forms::form_of))]
-pub fn line_form(feed: &Feed, line: &Line) -> Option<Form<u32, Entry>>
+pub fn line_form(feed: &Feed, line: &Line) -> Option<Form<u32, CertificateLine>>
     requires { IsLine feed.now line.now }
     ensures { result ≡ form_of (words_of (line_bytes feed.now line.now)) }
 {
     if feed.is(line, 0, b"edge") {
-        Some(Form::Item(Entry::Edge(border_in(feed, line)?)))
+        Some(Form::Item(CertificateLine::Edge(border_in(feed, line)?)))
     } else if feed.is(line, 0, b"halo") {
-        Some(Form::Item(Entry::Halo(border_in(feed, line)?)))
+        Some(Form::Item(CertificateLine::Halo(border_in(feed, line)?)))
     } else if feed.is(line, 0, b"stop") {
-        Some(Form::Item(Entry::Stop(stop_in(feed, line)?)))
+        Some(Form::Item(CertificateLine::Stop(stop_in(feed, line)?)))
     } else if feed.is(line, 0, b"cut") {
-        Some(Form::Item(Entry::Cut(feed.lone_name(line)?)))
+        Some(Form::Item(CertificateLine::Cut(feed.lone_name(line)?)))
     } else if feed.is(line, 0, b"use") {
-        Some(Form::Item(Entry::Use(feed.lone_number(line)?)))
+        Some(Form::Item(CertificateLine::Use(feed.lone_number(line)?)))
     } else if feed.is(line, 0, b"keep") {
-        Some(Form::Item(Entry::Keep(feed.lone_number(line)?)))
+        Some(Form::Item(CertificateLine::Keep(feed.lone_number(line)?)))
     } else if feed.is(line, 0, b"module") {
-        Some(Form::Item(Entry::Module(area_in(feed, line)?)))
+        Some(Form::Item(CertificateLine::Module(area_in(feed, line)?)))
     } else if feed.is(line, 0, b"certificate") {
         Some(Form::Header(feed.lone_number(line)?))
     } else if feed.is(line, 0, b"end") {

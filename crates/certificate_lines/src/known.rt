@@ -6,8 +6,8 @@ ghost use Rattle.module_box.specs.Locals.{is_among};
 ghost use Rattle.certificate_lines.specs.BuilderView.{wires_in};
 ghost use Rattle.certificate_lines.specs.Rules.{are_new};
 
-use crate::entry::Entry;
-use crate::site::Site;
+use crate::certificate_line::CertificateLine;
+use crate::line_tables::LineTables;
 use circuit::WireNo;
 use indexmap::IndexSet;
 use std::alloc::{AllocError, Global};
@@ -56,10 +56,10 @@ pub(crate) fn are_all_new(known: &IndexSet<u16>, wires: &[WireNo]) -> bool
 
 // Makes a wire local that is not, where there is room.
 fn learn(known: &mut IndexSet<u16>, wire: u16)
-    requires room { 0 < spare known.old }
+    requires room_for_wire { 0 < spare known.old }
     requires new { is_among known.old.keys wire ≡ false }
     ensures keys { known.new.keys ≡ known.old.keys ++ wire ∷ [] }
-    ensures room { spare known.old ≤ spare known.new + 1 }
+    ensures at_most_one_taken { spare known.old ≤ spare known.new + 1 }
 {
     match known.insert(wire) {
         Ok(_) => {}
@@ -69,7 +69,7 @@ fn learn(known: &mut IndexSet<u16>, wire: u16)
 
 // Makes wires local that are not, where there is room for them.
 fn learn_all(known: &mut IndexSet<u16>, wires: &[WireNo])
-    requires room { length wires.now ≤ spare known.old }
+    requires room_for_wires { length wires.now ≤ spare known.old }
     requires new { are_new known.old.keys wires.now ≡ true }
     ensures { known.new.keys ≡ known.old.keys ++ wires.now }
 {
@@ -81,15 +81,16 @@ fn learn_all(known: &mut IndexSet<u16>, wires: &[WireNo])
 /// Makes room for the wires that a line of a module makes local.
 pub(crate) fn make_room_for_wires(
     known: &mut IndexSet<u16>,
-    site: &Site,
-    entry: &Entry,
+    tables: &LineTables,
+    entry: &CertificateLine,
 ) -> Result<(), AllocError>
     ensures keys { known.new.keys ≡ known.old.keys }
-    ensures room { OnOk result (length (wires_in site.now.circuit entry.now) ≤ spare known.new) }
+    ensures room_for_wires { OnOk result (length (wires_in tables.now.circuit entry.now) ≤ spare
+        known.new) }
 {
     match entry {
-        Entry::Cut(_) => known.reserve(1),
-        Entry::Use(number) => match site.gate(*number) {
+        CertificateLine::Cut(_) => known.reserve(1),
+        CertificateLine::Use(number) => match tables.gate(*number) {
             Some(gate) => known.reserve(gate.outs().len()),
             None => Ok(()),
         },
@@ -98,19 +99,19 @@ pub(crate) fn make_room_for_wires(
 }
 
 /// Makes these wires local, which are not, if there is room for them.
-pub(crate) fn learn_line(known: &mut IndexSet<u16>, site: &Site, entry: &Entry)
-    requires room { length (wires_in site.now.circuit entry.now) ≤ spare known.old }
-    requires new { are_new known.old.keys (wires_in site.now.circuit entry.now) ≡ true }
-    ensures { known.new.keys ≡ known.old.keys ++ wires_in site.now.circuit entry.now }
+pub(crate) fn learn_line(known: &mut IndexSet<u16>, tables: &LineTables, entry: &CertificateLine)
+    requires room_for_wires { length (wires_in tables.now.circuit entry.now) ≤ spare known.old }
+    requires new { are_new known.old.keys (wires_in tables.now.circuit entry.now) ≡ true }
+    ensures { known.new.keys ≡ known.old.keys ++ wires_in tables.now.circuit entry.now }
 {
     match entry {
-        Entry::Cut(name) => {
-            if let Some(wire) = site.wire(name) {
+        CertificateLine::Cut(name) => {
+            if let Some(wire) = tables.wire(name) {
                 learn(known, wire);
             }
         }
-        Entry::Use(number) => {
-            if let Some(gate) = site.gate(*number) {
+        CertificateLine::Use(number) => {
+            if let Some(gate) = tables.gate(*number) {
                 learn_all(known, gate.outs());
             }
         }
@@ -127,7 +128,7 @@ pub(crate) fn put_away(
     ensures earlier { OnOk result (map (λ s. s.keys) earlier.new.items
         ≡ map (λ s. s.keys) earlier.old.items ++ known.old.keys ∷ []) }
     ensures known { OnOk result (known.new.keys ≡ []) }
-    ensures same { OnErr result ((earlier.new.items ≡ earlier.old.items)
+    ensures unchanged_on_error { OnErr result ((earlier.new.items ≡ earlier.old.items)
         × (known.new ≡ known.old)) }
 {
     earlier.push(IndexSet::new(alloc))?;

@@ -5,25 +5,25 @@
 #![tactic(auto)]
 
 mod builder;
+mod certificate_line;
 mod counts;
-mod entry;
 mod form;
 mod known;
 mod lacks;
+mod line_tables;
 mod lines;
 mod order;
 mod ports;
 mod rules;
-mod site;
 mod stars;
 mod tiles;
 
 pub use builder::Builder;
+pub use certificate_line::{Border, CertificateLine, Counts, StopLine};
 pub use counts::push_entry;
-pub use entry::{Border, Counts, Entry, StopLine};
 pub use form::line_form;
+pub use line_tables::LineTables;
 pub use lines::{cut_list, inner_lines, is_module, kept_places, used_gates};
 pub use order::compare_borders;
 pub use ports::{PortTable, port_tables};
-pub use site::Site;
 pub use tiles::{cells_of_box, is_live};

@@ -5,25 +5,25 @@ ghost use Rattle.std.specs.Option.{option_to_list};
 ghost use Rattle.circuit.specs.Bridge.{circuit_of};
 ghost use Rattle.circuit.specs.Meaning.{wire_of};
 ghost use Rattle.module_box.specs.Locals.{is_among};
-ghost use Rattle.certificate_lines.specs.Entries.{ModuleLines, cut_in, use_in, keep_in, gates, present};
+ghost use Rattle.certificate_lines.specs.Entries.{ModuleLines, cut_in, use_in, keep_in, gates, last_module};
 ghost use Rattle.certificate_lines.specs.ModuleParts.{inner, is_module};
 
-use crate::entry::Entry;
+use crate::certificate_line::CertificateLine;
 use circuit::{Circuit, GateNo, WireNo};
 use std::alloc::{AllocError, Global};
 
 /// Returns whether the line begins a module.
-pub fn is_module(entry: &Entry) -> bool
+pub fn is_module(entry: &CertificateLine) -> bool
     ensures { result ≡ is_module entry.now }
 {
     match entry {
-        Entry::Module(_) => true,
+        CertificateLine::Module(_) => true,
         _ => false,
     }
 }
 
 /// Returns the lines before the next `module` line.
-pub fn inner_lines(entries: &[Entry]) -> &[Entry]
+pub fn inner_lines(entries: &[CertificateLine]) -> &[CertificateLine]
     ensures { result.now ≡ inner entries.now }
 {
     for (place, entry) in entries.iter().enumerate() {
@@ -35,19 +35,19 @@ pub fn inner_lines(entries: &[Entry]) -> &[Entry]
 }
 
 // Whether the line uses the gate of this number.
-fn uses(entry: &Entry, number: u32) -> bool
+fn uses(entry: &CertificateLine, number: u32) -> bool
     ensures { result ≡ is_among (use_in entry.now) number }
 {
     match entry {
-        Entry::Use(gate) => *gate == number,
+        CertificateLine::Use(gate) => *gate == number,
         _ => false,
     }
 }
 
 /// Returns whether the last module of the lines uses the gate of this number. It looks back as far as that module's
 /// `module` line.
-pub(crate) fn is_used(entries: &[Entry], number: u32) -> bool
-    ensures { (m : ModuleLines) → present entries.now ≡ Some m →
+pub(crate) fn is_used(entries: &[CertificateLine], number: u32) -> bool
+    ensures { (m : ModuleLines) → last_module entries.now ≡ Some m →
         result ≡ is_among (gates m) number }
 {
     let count = entries.len();
@@ -63,12 +63,16 @@ pub(crate) fn is_used(entries: &[Entry], number: u32) -> bool
     false
 }
 
-fn push_cut(wires: &mut Vec<WireNo>, circuit: &Circuit, line: &Entry) -> Result<(), AllocError>
+fn push_cut(
+    wires: &mut Vec<WireNo>,
+    circuit: &Circuit,
+    line: &CertificateLine,
+) -> Result<(), AllocError>
     ensures { OnOk result (wires.new.items
         ≡ wires.old.items ++ flat_map (λ n. option_to_list (wire_of (circuit_of circuit.now) n))
         (cut_in line.now)) }
 {
-    if let Entry::Cut(name) = line {
+    if let CertificateLine::Cut(name) = line {
         if let Some(wire) = circuit.wire(name) {
             wires.push(wire)?;
         }
@@ -76,7 +80,11 @@ fn push_cut(wires: &mut Vec<WireNo>, circuit: &Circuit, line: &Entry) -> Result<
     Ok(())
 }
 
-fn push_cuts(wires: &mut Vec<WireNo>, circuit: &Circuit, lines: &[Entry]) -> Result<(), AllocError>
+fn push_cuts(
+    wires: &mut Vec<WireNo>,
+    circuit: &Circuit,
+    lines: &[CertificateLine],
+) -> Result<(), AllocError>
     ensures { OnOk result (wires.new.items
         ≡ wires.old.items ++ flat_map (λ n. option_to_list (wire_of (circuit_of circuit.now) n))
         (flat_map cut_in lines.now)) }
@@ -91,7 +99,7 @@ fn push_cuts(wires: &mut Vec<WireNo>, circuit: &Circuit, lines: &[Entry]) -> Res
 pub fn cut_list(
     alloc: Global,
     circuit: &Circuit,
-    lines: &[Entry],
+    lines: &[CertificateLine],
 ) -> Result<Vec<WireNo>, AllocError>
     ensures { IfOk result (λ wires. wires.items
         ≡ flat_map (λ n. option_to_list (wire_of (circuit_of circuit.now) n))
@@ -102,18 +110,18 @@ pub fn cut_list(
     Ok(wires)
 }
 
-fn push_use(gates: &mut Vec<GateNo>, line: &Entry) -> Result<(), AllocError>
+fn push_use(gates: &mut Vec<GateNo>, line: &CertificateLine) -> Result<(), AllocError>
     requires { All (λ k. k < 2 ^ 16) (use_in line.now) }
     ensures { OnOk result (gates.new.items ≡ gates.old.items ++ use_in line.now) }
 {
-    if let Entry::Use(number) = line {
+    if let CertificateLine::Use(number) = line {
         gates.push(GateNo::of(*number as u16))?;
     }
     Ok(())
 }
 
 /// Returns the gates that the lines use.
-pub fn used_gates(alloc: Global, lines: &[Entry]) -> Result<Vec<GateNo>, AllocError>
+pub fn used_gates(alloc: Global, lines: &[CertificateLine]) -> Result<Vec<GateNo>, AllocError>
     requires { All (λ k. k < 2 ^ 16) (flat_map use_in lines.now) }
     ensures { IfOk result (λ gates. gates.items ≡ flat_map use_in lines.now) }
 {
@@ -126,7 +134,7 @@ pub fn used_gates(alloc: Global, lines: &[Entry]) -> Result<Vec<GateNo>, AllocEr
 
 // The place of a gate among the used ones.
 fn place_of(gates: &[GateNo], number: u32) -> u16
-    requires few { length gates.now ≤ 64 }
+    requires at_most_64 { length gates.now ≤ 64 }
     requires used { IsTrue (is_among gates.now number) }
     ensures within { result < length gates.now }
     ensures gate { slice_index gates.now result ≡ number }
@@ -139,23 +147,31 @@ fn place_of(gates: &[GateNo], number: u32) -> u16
     unreachable!()
 }
 
-fn push_keep(places: &mut Vec<u16>, gates: &[GateNo], line: &Entry) -> Result<(), AllocError>
-    requires few { length gates.now ≤ 64 }
+fn push_keep(
+    places: &mut Vec<u16>,
+    gates: &[GateNo],
+    line: &CertificateLine,
+) -> Result<(), AllocError>
+    requires at_most_64 { length gates.now ≤ 64 }
     requires used { All (λ k. IsTrue (is_among gates.now k)) (keep_in line.now) }
     requires within { All (λ place. place < length gates.now) places.old.items }
     ensures gates { OnOk result (map (slice_index gates.now) places.new.items
         ≡ map (slice_index gates.now) places.old.items ++ keep_in line.now) }
     ensures within { OnOk result (All (λ place. place < length gates.now) places.new.items) }
 {
-    if let Entry::Keep(number) = line {
+    if let CertificateLine::Keep(number) = line {
         places.push(place_of(gates, *number))?;
     }
     Ok(())
 }
 
 /// Returns the gates that the lines keep, by their places among the used ones.
-pub fn kept_places(alloc: Global, gates: &[GateNo], lines: &[Entry]) -> Result<Vec<u16>, AllocError>
-    requires few { length gates.now ≤ 64 }
+pub fn kept_places(
+    alloc: Global,
+    gates: &[GateNo],
+    lines: &[CertificateLine],
+) -> Result<Vec<u16>, AllocError>
+    requires at_most_64 { length gates.now ≤ 64 }
     requires used { All (λ k. IsTrue (is_among gates.now k)) (flat_map keep_in lines.now) }
     ensures gates { IfOk result (λ places. map (slice_index gates.now) places.items
         ≡ flat_map keep_in lines.now) }

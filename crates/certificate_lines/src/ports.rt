@@ -7,7 +7,7 @@ ghost use Rattle.certificate_lines.specs.PortTables.{port_at, AreOnBoard};
 use crate::tiles::whole_of;
 use bbm_rule::Cell;
 use module_box::{Box2, place_in};
-use pattern::{Extent, Layout, Port};
+use pattern::{Layout, LayoutHeader, Port};
 use section_text::Name;
 use std::alloc::{AllocError, Global};
 use std::marker::Model;
@@ -24,7 +24,7 @@ pub struct PortTable<'a> {
 
 impl<'a> Model for PortTable<'a> {
     ghost use Rattle.std.specs.Prelude.{List};
-    ghost use Rattle.pattern.specs.declared.parts.Port.{Port as SomePort};
+    ghost use Rattle.pattern.specs.declared.layout_line.Port.{Port as SomePort};
 
     ghost Value = { List SomePort };
 
@@ -38,7 +38,7 @@ impl<'a> Model for PortTable<'a> {
 // The table of some ports, of which no two stand at one cell.
 fn index_ports<'a>(
     alloc: Global,
-    size: Extent,
+    size: LayoutHeader,
     ports: &'a [Port],
 ) -> Result<PortTable<'a>, AllocError>
     requires limits { size_fault size ≡ None }

@@ -4,25 +4,25 @@ ghost use Rattle.std.specs.List.{list_all};
 ghost use Rattle.circuit.specs.Meaning.{wire_of};
 ghost use Rattle.circuit.specs.Wiring.{gate_of};
 ghost use Rattle.module_box.specs.Locals.{is_among};
-ghost use Rattle.certificate_lines.specs.Entries.{ModuleLines, gates, present};
+ghost use Rattle.certificate_lines.specs.Entries.{ModuleLines, gates, last_module};
 ghost use Rattle.certificate_lines.specs.Rules.{is_wrong_side, is_misplaced, is_odd, whole, is_local, is_local_wire, are_new, cut_fault, cut_wire_fault, gate_fault, use_fault, keep_fault, is_time, is_edge_place, is_halo_place, is_stop_place, signal_fault, wire_fault, border_fault};
 
-use crate::entry::{Border, Entry, StopLine};
+use crate::certificate_line::{Border, CertificateLine, StopLine};
 use crate::known::{are_all_new, knows, knows_all};
+use crate::line_tables::LineTables;
 use crate::lines::is_used;
-use crate::site::Site;
 use crate::tiles::whole_of;
 use indexmap::IndexSet;
 use module_box::Box2;
-use pattern::Extent;
+use pattern::LayoutHeader;
 use section_text::Name;
 
 // The most cuts of a module, the most gates that it uses, and the most edge, halo and stop lines.
-const CUTS: usize = 12;
+const MAX_CUTS: usize = 12;
 
-const GATES: usize = 64;
+const MAX_USED_GATES: usize = 64;
 
-const BORDERS: usize = 65_536;
+const MAX_TIMED_LINES: usize = 65_536;
 
 fn is_odd_number(n: u32) -> bool
     ensures { result ≡ is_odd n }
@@ -38,7 +38,7 @@ pub(crate) fn is_bad_side(n: u32) -> bool
 }
 
 /// Returns whether a box has an odd corner, or a cell outside the rectangle.
-pub(crate) fn is_bad_place(size: Extent, area: Box2) -> bool
+pub(crate) fn is_bad_place(size: LayoutHeader, area: Box2) -> bool
     ensures { result ≡ is_misplaced size area }
 {
     let right = u64::from(area.x) + u64::from(area.w);
@@ -50,10 +50,10 @@ pub(crate) fn is_bad_place(size: Extent, area: Box2) -> bool
 }
 
 /// Returns whether the name is that of a wire that is local.
-pub(crate) fn is_local_name(site: &Site, known: &IndexSet<u16>, name: &Name) -> bool
-    ensures { result ≡ is_local site.now.circuit known.now.keys name.now }
+pub(crate) fn is_local_name(tables: &LineTables, known: &IndexSet<u16>, name: &Name) -> bool
+    ensures { result ≡ is_local tables.now.circuit known.now.keys name.now }
 {
-    match site.wire(name) {
+    match tables.wire(name) {
         Some(wire) => knows(known, wire),
         None => false,
     }
@@ -61,13 +61,18 @@ pub(crate) fn is_local_name(site: &Site, known: &IndexSet<u16>, name: &Name) -> 
 
 /// Returns the code of a cut, if `count` wires are cut already.
 #[tactic(auto, unfolding(crate::specs::Rules::cut_fault))]
-pub(crate) fn cut_code(site: &Site, count: usize, known: &IndexSet<u16>, name: &Name) -> Option<u8>
-    ensures { result ≡ cut_fault site.now.circuit count known.now.keys name.now }
+pub(crate) fn cut_code(
+    tables: &LineTables,
+    count: usize,
+    known: &IndexSet<u16>,
+    name: &Name,
+) -> Option<u8>
+    ensures { result ≡ cut_fault tables.now.circuit count known.now.keys name.now }
 {
-    if count >= CUTS {
+    if count >= MAX_CUTS {
         return Some(2);
     }
-    match site.wire(name) {
+    match tables.wire(name) {
         None => Some(3),
         Some(wire) if knows(known, wire) => Some(4),
         Some(_) => None,
@@ -76,13 +81,18 @@ pub(crate) fn cut_code(site: &Site, count: usize, known: &IndexSet<u16>, name: &
 
 /// Returns the code of a used gate, if `count` gates are used already.
 #[tactic(auto, unfolding(crate::specs::Rules::use_fault, crate::specs::Rules::gate_fault))]
-pub(crate) fn use_code(site: &Site, count: usize, known: &IndexSet<u16>, number: u32) -> Option<u8>
-    ensures { result ≡ use_fault site.now.circuit count known.now.keys number }
+pub(crate) fn use_code(
+    tables: &LineTables,
+    count: usize,
+    known: &IndexSet<u16>,
+    number: u32,
+) -> Option<u8>
+    ensures { result ≡ use_fault tables.now.circuit count known.now.keys number }
 {
-    if count >= GATES {
+    if count >= MAX_USED_GATES {
         return Some(2);
     }
-    let Some(gate) = site.gate(number) else {
+    let Some(gate) = tables.gate(number) else {
         return Some(3);
     };
     if !knows_all(known, gate.ins()) {
@@ -96,11 +106,11 @@ pub(crate) fn use_code(site: &Site, count: usize, known: &IndexSet<u16>, number:
 
 /// Returns the code of a kept gate. `lines` are the lines before it.
 #[tactic(auto, unfolding(crate::specs::Rules::keep_fault))]
-pub(crate) fn keep_code(site: &Site, entries: &[Entry], number: u32) -> Option<u8>
-    ensures { (m : ModuleLines) → present entries.now ≡ Some m →
-        result ≡ keep_fault site.now.circuit (gates m) number }
+pub(crate) fn keep_code(tables: &LineTables, entries: &[CertificateLine], number: u32) -> Option<u8>
+    ensures { (m : ModuleLines) → last_module entries.now ≡ Some m →
+        result ≡ keep_fault tables.now.circuit (gates m) number }
 {
-    if !site.is_inverse(number) {
+    if !tables.is_inverse(number) {
         return Some(3);
     }
     if !is_used(entries, number) {
@@ -110,11 +120,11 @@ pub(crate) fn keep_code(site: &Site, entries: &[Entry], number: u32) -> Option<u
 }
 
 #[tactic(auto, unfolding(crate::specs::Rules::signal_fault))]
-fn signal_code(site: &Site, known: &IndexSet<u16>, signal: Option<Name>) -> Option<u8>
-    ensures { result ≡ signal_fault site.now.circuit known.now.keys signal }
+fn signal_code(tables: &LineTables, known: &IndexSet<u16>, signal: Option<Name>) -> Option<u8>
+    ensures { result ≡ signal_fault tables.now.circuit known.now.keys signal }
 {
     let name = signal?;
-    match site.wire(&name) {
+    match tables.wire(&name) {
         None => Some(3),
         Some(wire) if knows(known, wire) => None,
         Some(_) => Some(9),
@@ -126,21 +136,21 @@ fn signal_code(site: &Site, known: &IndexSet<u16>, signal: Option<Name>) -> Opti
 /// `placed` says whether the line may have its cell and time.
 #[tactic(auto, unfolding(crate::specs::Rules::border_fault))]
 pub(crate) fn border_code(
-    site: &Site,
+    tables: &LineTables,
     count: usize,
     known: &IndexSet<u16>,
     placed: bool,
     signal: Option<Name>,
 ) -> Option<u8>
-    ensures { result ≡ border_fault site.now.circuit count known.now.keys placed signal }
+    ensures { result ≡ border_fault tables.now.circuit count known.now.keys placed signal }
 {
-    if count >= BORDERS {
+    if count >= MAX_TIMED_LINES {
         return Some(2);
     }
     if !placed {
         return Some(10);
     }
-    signal_code(site, known, signal)
+    signal_code(tables, known, signal)
 }
 
 // Whether a line may have its time, where its cell has a `*` or has none.
@@ -156,7 +166,7 @@ fn is_good_time(steps: u32, starred: bool, time: Option<u32>) -> bool
 
 /// Returns whether an edge line may have its cell and time.
 #[tactic(auto, unfolding(crate::specs::Rules::is_edge_place))]
-pub(crate) fn may_be_edge(size: Extent, area: Box2, starred: bool, border: &Border) -> bool
+pub(crate) fn may_be_edge(size: LayoutHeader, area: Box2, starred: bool, border: &Border) -> bool
     ensures { result ≡ is_edge_place size area starred border.now }
 {
     let in_ring = area.in_ring(border.cell);
@@ -167,7 +177,7 @@ pub(crate) fn may_be_edge(size: Extent, area: Box2, starred: bool, border: &Bord
 
 /// Returns whether a halo line may have its cell and time.
 #[tactic(auto, unfolding(crate::specs::Rules::is_halo_place))]
-pub(crate) fn may_be_halo(size: Extent, area: Box2, starred: bool, border: &Border) -> bool
+pub(crate) fn may_be_halo(size: LayoutHeader, area: Box2, starred: bool, border: &Border) -> bool
     ensures { result ≡ is_halo_place size area starred border.now }
 {
     let in_halo = area.in_halo(border.cell);
@@ -178,7 +188,7 @@ pub(crate) fn may_be_halo(size: Extent, area: Box2, starred: bool, border: &Bord
 
 /// Returns whether a stop may have its cell and time.
 #[tactic(auto, unfolding(crate::specs::Rules::is_stop_place))]
-pub(crate) fn may_be_stop(size: Extent, area: Box2, stop: &StopLine) -> bool
+pub(crate) fn may_be_stop(size: LayoutHeader, area: Box2, stop: &StopLine) -> bool
     ensures { result ≡ is_stop_place size area stop.now }
 {
     let inside = area.holds(stop.cell);

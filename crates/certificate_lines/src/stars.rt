@@ -6,7 +6,7 @@ ghost use Rattle.certificate_lines.specs.Entries.{edge_in, halo_in};
 ghost use Rattle.certificate_lines.specs.Rules.{same_cell, is_starred};
 ghost use Rattle.bbm_rule.specs.declared.block.Cell.{Cell};
 
-use crate::entry::{Border, Entry};
+use crate::certificate_line::{Border, CertificateLine};
 use bbm_rule::Cell;
 use indexmap::IndexSet;
 use std::alloc::AllocError;
@@ -39,7 +39,7 @@ fn note_star(stars: &mut IndexSet<Cell>, border: &Border)
 pub(crate) fn make_room_for_stars(
     edges: &mut IndexSet<Cell>,
     halos: &mut IndexSet<Cell>,
-    entry: &Entry,
+    entry: &CertificateLine,
 ) -> Result<(), AllocError>
     ensures edges { edges.new.keys ≡ edges.old.keys }
     ensures halos { halos.new.keys ≡ halos.old.keys }
@@ -47,14 +47,18 @@ pub(crate) fn make_room_for_stars(
     ensures halo_room { OnOk result (length (halo_in entry.now) ≤ spare halos.new) }
 {
     match entry {
-        Entry::Edge(_) => edges.reserve(1),
-        Entry::Halo(_) => halos.reserve(1),
+        CertificateLine::Edge(_) => edges.reserve(1),
+        CertificateLine::Halo(_) => halos.reserve(1),
         _ => Ok(()),
     }
 }
 
 /// Notes the cell of an edge or halo line that has a `*`, if there is room.
-pub(crate) fn note_stars(edges: &mut IndexSet<Cell>, halos: &mut IndexSet<Cell>, entry: &Entry)
+pub(crate) fn note_stars(
+    edges: &mut IndexSet<Cell>,
+    halos: &mut IndexSet<Cell>,
+    entry: &CertificateLine,
+)
     requires edges { length (edge_in entry.now) ≤ spare edges.old }
     requires halos { length (halo_in entry.now) ≤ spare halos.old }
     ensures edges { (c : Cell) →
@@ -65,8 +69,8 @@ pub(crate) fn note_stars(edges: &mut IndexSet<Cell>, halos: &mut IndexSet<Cell>,
         ≡ (list_any (same_cell c) halos.old.keys || list_any (is_starred c) (halo_in entry.now)) }
 {
     match entry {
-        Entry::Edge(border) => note_star(edges, border),
-        Entry::Halo(border) => note_star(halos, border),
+        CertificateLine::Edge(border) => note_star(edges, border),
+        CertificateLine::Halo(border) => note_star(halos, border),
         _ => {}
     }
 }

@@ -8,11 +8,11 @@ ghost use Rattle.module_box.specs.Tiling.{rectangle_of};
 
 use bbm_rule::{Cell, Grid};
 use module_box::Box2;
-use pattern::{Extent, Rectangle, push_rectangle};
+use pattern::{LayoutHeader, Rectangle, push_rectangle};
 use std::alloc::{AllocError, Global};
 
 /// Returns the whole rectangle of a layout.
-pub(crate) fn whole_of(size: Extent) -> Box2
+pub(crate) fn whole_of(size: LayoutHeader) -> Box2
     ensures { result ≡ whole size }
 {
     Box2 {
@@ -61,7 +61,7 @@ fn is_row_full(grid: &Grid, w: u32, y: u32) -> bool
 
 /// Returns whether all cells of a rectangle from the cell (0, 0) on, as wide and as high as the grid, are live.
 pub(crate) fn is_full(grid: &Grid, w: u32, h: u32) -> bool
-    requires same { (grid.now.width ≡ w) × (grid.now.height ≡ h) }
+    requires same_size { (grid.now.width ≡ w) × (grid.now.height ≡ h) }
     requires small { (w ≤ 512) × (h ≤ 512) }
     ensures { result ≡ list_all (λ c. live grid.now c.x c.y) (box_cells (rectangle_of w h)) }
 {

@@ -4,7 +4,7 @@ use Rattle.std.proofs.Common.{arith, subst, length-append}
 use Rattle.std.proofs.lemmas.Option.{slice_get_within}
 use Rattle.std.specs.Prelude.{replicate}
 use Rattle.sha2.specs.Sha256.{sha256}
-use Rattle.certificate.specs.Grammars.{CertState}
+use Rattle.certificate.specs.Grammars.{CertView}
 use Rattle.certificate.specs.Text.{certificate_text}
 use Rattle.audit_core.specs.Book.{BookView, IsReplayed, accepted_in, after_closing, new_book}
 use Rattle.audit_core.specs.Concluding.{AreOwnJobs}
@@ -13,32 +13,32 @@ use Rattle.audit_core.specs.Verdicts.{AreHeldBelow, IsFirstMissing}
 use Rattle.audit_core.specs.declared.reply.Reply.{Reply}
 use Rattle.audit_core.specs.declared.reply.Reply.TheVariants as reply
 use Rattle.audit_core.proofs.Replays.{closed-by_its_history}
-use Rattle.audit_core.specs.declared.entry.Entry.{Entry}
-use Rattle.audit_core.specs.declared.entry.Entry.TheVariants.{Filed, Closing}
-use Rattle.module_job.specs.Jobs.{JobState}
+use Rattle.audit_core.specs.declared.log_entry.LogEntry.{LogEntry}
+use Rattle.audit_core.specs.declared.log_entry.LogEntry.TheVariants.{Filed, Closing}
+use Rattle.module_job.specs.Jobs.{JobView}
 use Rattle.verdict_book.specs.Counts.{no_counts}
 use Rattle.job_pool.specs.Work.{filed_by}
 use Rattle.check_main.specs.Audits.{IsAuditOf, IsClosedOnce, IsCompleted, filings_in}
 
-pub no_history : (b : BookView) (digest : List ℕ) (jobs : List JobState) → b ≡ new_book digest jobs → b.history ≡ []
+pub no_history : (b : BookView) (digest : List ℕ) (jobs : List JobView) → b ≡ new_book digest jobs → b.history ≡ []
 unfolding new_book
 no_history b digest jobs is = ap (λ (v : BookView). v.history) is
 
-pub own_digest : (b : BookView) (digest : List ℕ) (jobs : List JobState) → b ≡ new_book digest jobs → b.digest ≡ digest
+pub own_digest : (b : BookView) (digest : List ℕ) (jobs : List JobView) → b ≡ new_book digest jobs → b.digest ≡ digest
 unfolding new_book
 own_digest b digest jobs is = ap (λ (v : BookView). v.digest) is
 
-pub own_jobs : (b : BookView) (digest : List ℕ) (jobs : List JobState) → b ≡ new_book digest jobs → b.jobs ≡ jobs
+pub own_jobs : (b : BookView) (digest : List ℕ) (jobs : List JobView) → b ≡ new_book digest jobs → b.jobs ≡ jobs
 unfolding new_book
 own_jobs b digest jobs is = ap (λ (v : BookView). v.jobs) is
 
 -- without a closing entry there are only filings
-all_filings : (es : List Entry) → has_closing es ≡ false → es ≡ map Filed (filings_in es)
+all_filings : (es : List LogEntry) → has_closing es ≡ false → es ≡ map Filed (filings_in es)
 all_filings [] still = refl
 all_filings (Filed f ∷ es) still = ap (λ l. Filed f ∷ l) (all_filings es still)
 all_filings (Closing ∷ es) still = absurd cc
 
-filings_closed : (es : List Entry) → filings_in (es ++ Closing ∷ []) ≡ filings_in es
+filings_closed : (es : List LogEntry) → filings_in (es ++ Closing ∷ []) ≡ filings_in es
 filings_closed [] = refl
 filings_closed (Filed f ∷ es) = ap (λ l. f ∷ l) (filings_closed es)
 filings_closed (Closing ∷ es) = filings_closed es
@@ -51,7 +51,7 @@ closed_once old new still is =
     same ∙ ap (λ l. l ++ Closing ∷ [])
     (all_filings old.history still ∙ ap (map Filed) (sym (filings_closed old.history) ∙ ap filings_in (sym same)))
 
-pub completed_closed : (digest : List ℕ) (jobs : List JobState) (b c : BookView) → IsCompleted digest jobs b c →
+pub completed_closed : (digest : List ℕ) (jobs : List JobView) (b c : BookView) → IsCompleted digest jobs b c →
     IsClosedOnce c.history
 completed_closed digest jobs b c is =
     let still : has_closing is.full.history ≡ false =
@@ -61,7 +61,7 @@ completed_closed digest jobs b c is =
 -- ---- a full book that is closed
 
 -- at least as many filings as numbers that were accepted
-accepted_filed : (p : Replayed) (es : List Entry) →
+accepted_filed : (p : Replayed) (es : List LogEntry) →
     length (replay_from p es).accepted ≤ length p.accepted + length (filings_in es)
 accepted_filed p [] = omega arith
 accepted_filed p (Closing ∷ es) = accepted_filed (after_entry p Closing) es
@@ -82,13 +82,13 @@ many_filings b is =
     let most = accepted_filed beginning b.history in
     omega (arith, count, most)
 
-held_closed : (b : BookView) (jobs : List JobState) (n : ℕ) → AreHeldBelow b jobs n →
+held_closed : (b : BookView) (jobs : List JobView) (n : ℕ) → AreHeldBelow b jobs n →
     AreHeldBelow (after_closing b) jobs n
 held_closed b jobs n held k j below at =
     let h = held k j below at in
     record { finding = h.finding; held = h.held; whole = h.whole }
 
-pub audit_of : (s : CertState) (digest : List ℕ) (jobs : List JobState) (b c : BookView) →
+pub audit_of : (s : CertView) (digest : List ℕ) (jobs : List JobView) (b c : BookView) →
     digest ≡ sha256 (certificate_text s) → AreOwnJobs s jobs → IsCompleted digest jobs b c → IsAuditOf s c
 audit_of s digest jobs b c of_text own is =
     let full = is.is_full in
@@ -97,12 +97,12 @@ audit_of s digest jobs b c of_text own is =
       digest_is = full.is_open.digest_is ∙ of_text;
       jobs_are = subst (AreOwnJobs s) same own;
       all_held = held_closed is.full is.full.jobs (length is.full.jobs)
-          (subst (λ (js : List JobState). AreHeldBelow is.full js (length js)) same full.all_held);
+          (subst (λ (js : List JobView). AreHeldBelow is.full js (length js)) same full.all_held);
       all_accepted = full.all_accepted ∙ ap length same;
     })
 
 -- no number is missing
-pub none_missing : (b : BookView) (jobs : List JobState) (n : ℕ) → AreHeldBelow b jobs (length jobs) →
+pub none_missing : (b : BookView) (jobs : List JobView) (n : ℕ) → AreHeldBelow b jobs (length jobs) →
     IsFirstMissing b jobs n → ⊥
 none_missing b jobs n held first =
     first.missing (held n first.job (slice_get_within jobs n first.job first.numbered) first.numbered)

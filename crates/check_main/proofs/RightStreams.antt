@@ -30,9 +30,9 @@ given : (P : List ℕ → Type 0) (left left' : Option (List ℕ)) (text : List 
     Gives P left
 given P left left' text read right known e = subst P (all_read left left' text known e read.given read.ended) right
 
-taken_is : (held held' : Option (List ℕ)) (before more taken : List ℕ) → held ≡ Some before →
-    held' ≡ Some (before ++ more) → Appends held held' taken → more ≡ taken
-taken_is None held' before more taken e f appended = absurd cc
+taken_is : (written_bytes written_bytes' : Option (List ℕ)) (before more taken : List ℕ) → written_bytes ≡ Some before →
+    written_bytes' ≡ Some (before ++ more) → Appends written_bytes written_bytes' taken → more ≡ taken
+taken_is None written_bytes' before more taken e f appended = absurd cc
 taken_is (Some xs) None before more taken e f appended = absurd appended
 taken_is (Some xs) (Some ys) before more taken e f appended =
     let own : xs ≡ before = cc in
@@ -41,43 +41,50 @@ taken_is (Some xs) (Some ys) before more taken e f appended =
 
 -- the first bytes of a report were written, or all of them
 said_right : (P : List ℕ → Type 0) → Holds P →
-    (left left' held held' : Option (List ℕ)) (text output taken rest : List ℕ) (outcome : Outcome) →
+    (left left' written_bytes written_bytes' : Option (List ℕ)) (text output taken rest : List ℕ) (outcome : Outcome) →
     ReadsAll left left' text → IsReportOf text output outcome
-    → output ≡ taken ++ rest → Appends held held' taken → YesMeans P left held held'
-said_right P holds left left' held held' text output taken rest outcome read says whole appended known before more e f g
+    → output ≡ taken ++ rest → Appends written_bytes written_bytes' taken → YesMeans P left written_bytes written_bytes'
+said_right P holds left left' written_bytes written_bytes' text output taken rest outcome read says whole appended known
+    before more e f g
     line =
-    let is = taken_is held held' before more taken f g appended in
+    let is = taken_is written_bytes written_bytes' before more taken f g appended in
     given P left left' text read (holds text output
     (by_line text output outcome says (subst SaysYes (sym whole) (says_on taken rest (subst SaysYes is line))))) known e
 
 -- all of it was
 all_said_right : (P : List ℕ → Type 0) → Holds P →
-    (left left' held held' : Option (List ℕ)) (text output : List ℕ) (outcome : Outcome) → ReadsAll left left' text →
-    IsReportOf text output outcome → Appends held held' output → YesMeans P left held held'
-all_said_right P holds left left' held held' text output outcome read says appended =
-    said_right P holds left left' held held' text output output [] outcome read says (sym (append-nil output)) appended
+    (left left' written_bytes written_bytes' : Option (List ℕ)) (text output : List ℕ) (outcome : Outcome) →
+    ReadsAll left left' text →
+    IsReportOf text output outcome → Appends written_bytes written_bytes' output →
+    YesMeans P left written_bytes written_bytes'
+all_said_right P holds left left' written_bytes written_bytes' text output outcome read says appended =
+    said_right P holds left left' written_bytes written_bytes' text output output [] outcome read says
+    (sym (append-nil output)) appended
 
 nothing_says : SaysYes [] → ⊥
 unfolding lines_of
 nothing_says e = cc
 
 -- nothing was
-pub nothing_said : (P : List ℕ → Type 0) (left held held' : Option (List ℕ)) → held' ≡ held → YesMeans P left held held'
-nothing_said P left held held' same text before more e f g line =
+pub nothing_said : (P : List ℕ → Type 0) (left written_bytes written_bytes' : Option (List ℕ)) →
+    written_bytes' ≡ written_bytes → YesMeans P left written_bytes written_bytes'
+nothing_said P left written_bytes written_bytes' same text before more e f g line =
     let both : ◌≡◌ {A = Option (List ℕ)} (Some (before ++ more)) (Some before) = sym g ∙ same ∙ f in
     let own : before ++ more ≡ before = cc in
     absurd (nothing_says (subst SaysYes (append_cancel_left before more [] (own ∙ sym (append-nil before))) line))
 
 -- a writer was told the report, or its first bytes
 pub written_right : {E : Type 0} (P : List ℕ → Type 0) → Holds P →
-    (left left' held held' : Option (List ℕ)) (text output : List ℕ) (outcome : Outcome) → ReadsAll left left' text →
+    (left left' written_bytes written_bytes' : Option (List ℕ)) (text output : List ℕ) (outcome : Outcome) →
+    ReadsAll left left' text →
     IsReportOf text output outcome →
-    (result : Result Outcome E) → OnOk result (Appends held held' output) →
-    IfErr result (λ e. TakesPrefix held held' output) → YesMeans P left held held'
-written_right P holds left left' held held' text output outcome read says (Ok o) all front =
-    all_said_right P holds left left' held held' text output outcome read says all
-written_right P holds left left' held held' text output outcome read says (Err e) all front =
-    said_right P holds left left' held held' text output front.taken front.rest outcome read says front.whole
+    (result : Result Outcome E) → OnOk result (Appends written_bytes written_bytes' output) →
+    IfErr result (λ e. TakesPrefix written_bytes written_bytes' output) → YesMeans P left written_bytes written_bytes'
+written_right P holds left left' written_bytes written_bytes' text output outcome read says (Ok o) all front =
+    all_said_right P holds left left' written_bytes written_bytes' text output outcome read says all
+written_right P holds left left' written_bytes written_bytes' text output outcome read says (Err e) all front =
+    said_right P holds left left' written_bytes written_bytes' text output front.taken front.rest outcome read says
+    front.whole
     front.appended
 
 -- and it ended as the report does, of which P is known
@@ -101,14 +108,16 @@ outcome_right P holds left left' text output outcome read says result is same =
 -- and all of the report was written, which P relates to the text
 pub outcome_tells : {E : Type 0} (P : List ℕ → List ℕ → Type 0) (wanted : Outcome) →
     ((text output : List ℕ) → IsReportOf text output wanted → P text output) →
-    (left left' held held' : Option (List ℕ)) (text output : List ℕ) (outcome : Outcome) → ReadsAll left left' text →
+    (left left' written_bytes written_bytes' : Option (List ℕ)) (text output : List ℕ) (outcome : Outcome) →
+    ReadsAll left left' text →
     IsReportOf text output outcome → (result : Result Outcome E) → result ≡ Ok wanted →
-    IfOk result (λ o. o ≡ outcome) → OnOk result (Appends held held' output) → Relates P left held held'
-outcome_tells P wanted holds left left' held held' text output outcome read says (Ok o) is same all
+    IfOk result (λ o. o ≡ outcome) → OnOk result (Appends written_bytes written_bytes' output) →
+    Relates P left written_bytes written_bytes'
+outcome_tells P wanted holds left left' written_bytes written_bytes' text output outcome read says (Ok o) is same all
     known before more e f g =
     let wanted_is : o ≡ wanted = cc in
-    let own : more ≡ output = taken_is held held' before more output f g all in
+    let own : more ≡ output = taken_is written_bytes written_bytes' before more output f g all in
     subst (λ t. P t more) (all_read left left' text known e read.given read.ended)
     (subst (P text) (sym own) (holds text output (subst (λ o. IsReportOf text output o) (sym same ∙ wanted_is) says)))
-outcome_tells P wanted holds left left' held held' text output outcome read says (Err e') is same all
+outcome_tells P wanted holds left left' written_bytes written_bytes' text output outcome read says (Err e') is same all
     known before more e f g = absurd cc

@@ -1,36 +1,36 @@
 -- The book of an audit, and its history.
 use Rattle.std.specs.Prelude.{◌≡◌, ℕ, List, [], ◌∷◌, ◌++◌, length, map}
 use Rattle.sha2.specs.Sha256.{sha256}
-use Rattle.certificate.specs.Grammars.{CertState}
-use Rattle.module_job.specs.Jobs.{JobState}
+use Rattle.certificate.specs.Grammars.{CertView}
+use Rattle.module_job.specs.Jobs.{JobView}
 use Rattle.certificate.specs.Text.{certificate_text}
 use Rattle.audit_core.specs.Book.{BookView, accepted_in, after_closing}
 use Rattle.audit_core.specs.Concluding.{AreOwnJobs}
 use Rattle.audit_core.specs.Filling.{IsFull, IsPartlyFilled}
 use Rattle.audit_core.specs.Verdicts.{AreHeldBelow}
-use Rattle.audit_core.specs.declared.entry.Entry.{Entry}
-use Rattle.audit_core.specs.declared.entry.Entry.TheVariants.{Filed, Closing}
-use Rattle.audit_core.specs.declared.entry.Filing.{Filing}
+use Rattle.audit_core.specs.declared.log_entry.LogEntry.{LogEntry}
+use Rattle.audit_core.specs.declared.log_entry.LogEntry.TheVariants.{Filed, Closing}
+use Rattle.audit_core.specs.declared.log_entry.Filing.{Filing}
 
 -- the filings of a history
-abbrev pub filings_in : List Entry → List Filing
+abbrev pub filings_in : List LogEntry → List Filing
 filings_in [] = []
 filings_in (Filed f ∷ es) = f ∷ filings_in es
 filings_in (Closing ∷ es) = filings_in es
 
 -- filings, and behind them the only closing entry
-abbrev pub IsClosedOnce : List Entry → Type 0
+abbrev pub IsClosedOnce : List LogEntry → Type 0
 IsClosedOnce history = history ≡ map Filed (filings_in history) ++ Closing ∷ []
 
 -- the book is of the certificate's digest and jobs, and a finding of each job was accepted
-pub record IsAuditOf (c : CertState) (b : BookView) : Type 0 where
+pub record IsAuditOf (c : CertView) (b : BookView) : Type 0 where
   pub digest_is : b.digest ≡ sha256 (certificate_text c)
   pub jobs_are : AreOwnJobs c b.jobs
   pub all_held : AreHeldBelow b b.jobs (length b.jobs)
   pub all_accepted : accepted_in b ≡ length b.jobs
 
 -- the first book was filled up, and closed then
-pub record IsCompleted (digest : List ℕ) (jobs : List JobState) (b c : BookView) : Type 0 where
+pub record IsCompleted (digest : List ℕ) (jobs : List JobView) (b c : BookView) : Type 0 where
   pub full : BookView
   pub is_full : IsFull digest jobs full
   pub filled : IsPartlyFilled b full

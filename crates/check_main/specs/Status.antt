@@ -29,4 +29,5 @@ line_for fault = codes "bbmcheck: " ++ text_of fault ++ codes "\n"
 
 -- the line for a fault was written to a writer, unless that failed
 abbrev pub Says : Option (List ℕ) → Option (List ℕ) → Bool → CheckFault → Type 0
-Says held held' has_failed fault = has_failed ≡ false → Appends held held' (line_for fault)
+Says written_bytes written_bytes' has_failed fault =
+    has_failed ≡ false → Appends written_bytes written_bytes' (line_for fault)

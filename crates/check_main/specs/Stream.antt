@@ -3,7 +3,7 @@ use Rattle.std.specs.Prelude.{◌≡◌, ◌≢◌, ◌<◌, ◌≤◌, ◌++◌
 use Rattle.std.specs.Prelude.{OnOk, length}
 use Rattle.std.specs.declared.option.Option.{Option}
 use Rattle.std.specs.Io.KnownBytes.{Consumes, IsAtEnd, Appends}
-use Rattle.section_text.specs.FeedState.{FeedState, text_limit}
+use Rattle.section_text.specs.Feeds.{FeedView, text_limit}
 use Rattle.answers.specs.declared.outcome.Outcome.{Outcome}
 use Rattle.check_main.specs.declared.fault.CheckFault.{CheckFault}
 use Rattle.check_main.specs.declared.fault.CheckFault.TheVariants.{Read, Write, TooLong}
@@ -21,7 +21,7 @@ pub record GivesTooMuch (old new : Option (List ℕ)) : Type 0 where
   pub beyond : text_limit < length text
 
 -- the feed is all of a text, of which no line is taken
-abbrev pub whole_text : List ℕ → FeedState
+abbrev pub whole_text : List ℕ → FeedView
 whole_text text = record { text = text; taken = 0; closed = true; stop = None }
 
 -- the writer took the first bytes of the output, and not all of them
@@ -35,33 +35,35 @@ pub record TakesPrefix (old new : Option (List ℕ)) (output : List ℕ) : Type 
 -- A command is a relation: which output, with which outcome, is right for a text.
 
 -- a text was read whole, and an output that is right for it was written, with its outcome
-pub record Answers (R : List ℕ → List ℕ → Outcome → Type 0) (left left' held held' : Option (List ℕ))
+pub record Answers (R : List ℕ → List ℕ → Outcome → Type 0) (left left' written_bytes written_bytes' : Option (List ℕ))
     (outcome : Outcome) : Type 0 where
   pub text : List ℕ
   pub output : List ℕ
   pub read : ReadsAll left left' text
   pub right : R text output outcome
-  pub written : Appends held held' output
+  pub written : Appends written_bytes written_bytes' output
 
 -- a text was read whole, and the first bytes of an output that is right for it were written, and not all of them
-pub record BreaksOff (R : List ℕ → List ℕ → Outcome → Type 0) (left left' held held' : Option (List ℕ)) : Type 0 where
+pub record BreaksOff (R : List ℕ → List ℕ → Outcome → Type 0)
+    (left left' written_bytes written_bytes' : Option (List ℕ)) : Type 0 where
   pub text : List ℕ
   pub output : List ℕ
   pub outcome : Outcome
   pub read : ReadsAll left left' text
   pub right : R text output outcome
-  pub written : TakesPrefix held held' output
+  pub written : TakesPrefix written_bytes written_bytes' output
 
 -- The effect of a call of the command `R` on a reader and a writer that had not failed, and its end. `left` is what a
--- reader has still to give and `held` what a writer took, if it is known.
+-- reader has still to give and `written_bytes` what a writer took, if it is known.
 pub record Serves {X Y : Type 0} (R : List ℕ → List ℕ → Outcome → Type 0) (left : X → Option (List ℕ))
     (reader_failed : X → Bool) (reader reader' : X)
-    (held : Y → Option (List ℕ)) (writer_failed : Y → Bool) (writer writer' : Y)
+    (written_bytes : Y → Option (List ℕ)) (writer_failed : Y → Bool) (writer writer' : Y)
     (result : Result Outcome CheckFault) : Type 0 where
-  pub answered : IfOk result (Answers R (left reader) (left reader') (held writer) (held writer'))
+  pub answered : IfOk result (Answers R (left reader) (left reader') (written_bytes writer) (written_bytes writer'))
   pub works : OnOk result ((reader_failed reader' ≡ false) × (writer_failed writer' ≡ false))
   pub read : IsErrOf result Read → reader_failed reader' ≡ true
   pub too_long : IsErrOf result TooLong → GivesTooMuch (left reader) (left reader')
   pub write : IsErrOf result Write → writer_failed writer' ≡ true
-  pub prefix : IsErrOf result Write → BreaksOff R (left reader) (left reader') (held writer) (held writer')
+  pub prefix : IsErrOf result Write →
+      BreaksOff R (left reader) (left reader') (written_bytes writer) (written_bytes writer')
   pub unwritten : IfErr result (λ fault. fault ≢ Write → writer' ≡ writer)

@@ -62,14 +62,14 @@ pub fn audit<G: Gate + Sync, R: Threads + Wait + Sync>(
     let copies = jobs.clone()?;
     let groups = job_groups(alloc, &copies)?;
     let state = BookState::new(alloc, digest, jobs)?;
-    let beginning = Beginning {
+    let unopened = UnopenedBook {
         state,
         filings: Blank::new(workers as u64),
         acceptances: Blank::new(workers as u64),
         workers,
     };
     let mut audited = audited_by::<Brand, Brand, G, R>(
-        rt, alloc, gate, &copies, &groups, beginning,
+        rt, alloc, gate, &copies, &groups, unopened,
     )?;
     complete(alloc, &mut audited.state, digest, &copies)?;
     Ok(audited)
@@ -82,7 +82,7 @@ fn complete(
     digest: [u8; 32],
     jobs: &[Arc<Job>],
 ) -> Result<(), AllocError>
-    requires own { IsOpenFor digest (map arc_value jobs.now) state.old }
+    requires open_for_jobs { IsOpenFor digest (map arc_value jobs.now) state.old }
     ensures completed { OnOk result (IsCompleted digest (map arc_value jobs.now) state.old
         state.new) }
     ensures replays { OnOk result (IsReplayed state.new) }
@@ -96,7 +96,7 @@ fn complete(
 
 // A state without history, and the blanks of two ledgers with a part for each worker.
 #[derive(Drop)]
-struct Beginning {
+struct UnopenedBook {
     state: BookState,
     filings: Blank,
     acceptances: Blank,
@@ -110,29 +110,30 @@ fn audited_by<F: Filings + Sync, A: Ledger + Sync, G: Gate + Sync, R: Threads + 
     gate: &G,
     jobs: &[Arc<Job>],
     groups: &[usize],
-    beginning: Beginning,
+    unopened: UnopenedBook,
 ) -> Result<Audited, AllocError>
-    requires filings { (beginning.filings.name ≡ F.name) × (beginning.filings.parts ≡ F.parts)
-        × (beginning.filings.parts ≡ beginning.workers) }
-    requires acceptances { (beginning.acceptances.name ≡ A.name)
-        × (beginning.acceptances.parts ≡ A.parts)
-        × (beginning.acceptances.parts ≡ beginning.workers) }
-    requires workers { (0 < beginning.workers) × (beginning.workers ≤ 64) }
+    requires filings { (unopened.filings.name ≡ F.name) × (unopened.filings.parts ≡ F.parts)
+        × (unopened.filings.parts ≡ unopened.workers) }
+    requires acceptances { (unopened.acceptances.name ≡ A.name)
+        × (unopened.acceptances.parts ≡ A.parts)
+        × (unopened.acceptances.parts ≡ unopened.workers) }
+    requires workers { (0 < unopened.workers) × (unopened.workers ≤ 64) }
     requires jobs { length jobs.now ≤ 1024 }
     requires groups { AreGroups (shapes_of (map arc_value jobs.now)) groups.now }
-    requires own { (beginning.state.digest ≡ F.digest) × (beginning.state.jobs ≡ F.jobs) }
-    requires fresh { beginning.state.history ≡ [] }
-    ensures own { IfOk result (λ audited. IsOpenFor F.digest F.jobs audited.state) }
+    requires ledger_names_book { (unopened.state.digest ≡ F.digest)
+        × (unopened.state.jobs ≡ F.jobs) }
+    requires fresh { unopened.state.history ≡ [] }
+    ensures open_for_jobs { IfOk result (λ audited. IsOpenFor F.digest F.jobs audited.state) }
     ensures no_closing { IfOk result (λ audited. has_closing audited.state.history ≡ false) }
     ensures filed { IfOk result (λ audited. audited.memory ≡ false →
         length audited.state.history ≡ length jobs.now) }
 {
-    let Beginning {
+    let UnopenedBook {
         state,
         filings,
         acceptances,
         workers,
-    } = beginning;
+    } = unopened;
     let (book, shares): (Book<F, A>, Vec<Share<F, A>>) = Book::open(
         alloc,
         filings,

@@ -88,7 +88,7 @@ where
     ensures yes { IsAccepted (map (λ s. s.now) words.entry.now) → result ≡ 0
         → Answers (IsAnswerTo (asked_by (map (λ s. s.now) words.entry.now)))
         (R.left streams.old.reader) (R.left streams.new.reader)
-        (W.held streams.old.writer) (W.held streams.new.writer) Outcome.Yes }
+        (W.written_bytes streams.old.writer) (W.written_bytes streams.new.writer) Outcome.Yes }
 
     // What a yes of `check` means, by the status and by what is written.
     ensures correct { IsAccepted (map (λ s. s.now) words.entry.now) →
@@ -96,46 +96,46 @@ where
         Gives IsRight (R.left streams.old.reader) }
     ensures says_yes { IsAccepted (map (λ s. s.now) words.entry.now) →
         asked_by (map (λ s. s.now) words.entry.now) ≡ Request.Check →
-        YesMeans IsRight (R.left streams.old.reader) (W.held streams.old.writer)
-        (W.held streams.new.writer) }
+        YesMeans IsRight (R.left streams.old.reader) (W.written_bytes streams.old.writer)
+        (W.written_bytes streams.new.writer) }
     // And of its stops.
     ensures stops { IsAccepted (map (λ s. s.now) words.entry.now) →
         asked_by (map (λ s. s.now) words.entry.now) ≡ Request.Check → result ≡ 0 →
         Gives HasRightStops (R.left streams.old.reader) }
     ensures says_yes_of_stops { IsAccepted (map (λ s. s.now) words.entry.now) →
         asked_by (map (λ s. s.now) words.entry.now) ≡ Request.Check →
-        YesMeans HasRightStops (R.left streams.old.reader) (W.held streams.old.writer)
-        (W.held streams.new.writer) }
+        YesMeans HasRightStops (R.left streams.old.reader) (W.written_bytes streams.old.writer)
+        (W.written_bytes streams.new.writer) }
 
     // What a no of `check` means if the certificate is plain, and what its lines mean.
     ensures wrong { asked_by (map (λ s. s.now) words.entry.now) ≡ Request.Check → result ≡ 1
         → Gives IsWrongIfPlain (R.left streams.old.reader) }
     ensures lines { asked_by (map (λ s. s.now) words.entry.now) ≡ Request.Check → result ≡ 1
         → Relates LinesTell (R.left streams.old.reader)
-        (W.held streams.old.writer) (W.held streams.new.writer) }
+        (W.written_bytes streams.old.writer) (W.written_bytes streams.new.writer) }
     // The plain text of a small design is not refused.
     ensures small { asked_by (map (λ s. s.now) words.entry.now) ≡ Request.Check → result ≡ 3
         → Gives IsNoSmallDesign (R.left streams.old.reader) }
 
     ensures no { result ≡ 1 → Answers (IsAnswerTo (asked_by (map (λ s. s.now) words.entry.now)))
         (R.left streams.old.reader) (R.left streams.new.reader)
-        (W.held streams.old.writer) (W.held streams.new.writer) Outcome.No }
+        (W.written_bytes streams.old.writer) (W.written_bytes streams.new.writer) Outcome.No }
     ensures words { result ≡ 2 →
         (streams.new.reader ≡ streams.old.reader) × (streams.new.writer ≡ streams.old.writer) }
     ensures refused { result ≡ 3 →
         Answers (IsAnswerTo (asked_by (map (λ s. s.now) words.entry.now)))
-        (R.left streams.old.reader) (R.left streams.new.reader) (W.held streams.old.writer)
-        (W.held streams.new.writer) Outcome.Refused }
+        (R.left streams.old.reader) (R.left streams.new.reader) (W.written_bytes streams.old.writer)
+        (W.written_bytes streams.new.writer) Outcome.Refused }
     // Each fault comes only where it is one, and its line is said.
     ensures device { result ≡ 4 →
         ((R.has_failed streams.new.reader ≡ true)
-        × Says (E.held streams.old.errors) (E.held streams.new.errors)
+        × Says (E.written_bytes streams.old.errors) (E.written_bytes streams.new.errors)
         (E.has_failed streams.new.errors) CheckFault.Read)
         ⊎ ((W.has_failed streams.new.writer ≡ true)
-        × Says (E.held streams.old.errors) (E.held streams.new.errors)
+        × Says (E.written_bytes streams.old.errors) (E.written_bytes streams.new.errors)
         (E.has_failed streams.new.errors) CheckFault.Write)
         ⊎ (GivesTooMuch (R.left streams.old.reader) (R.left streams.new.reader)
-        × Says (E.held streams.old.errors) (E.held streams.new.errors)
+        × Says (E.written_bytes streams.old.errors) (E.written_bytes streams.new.errors)
         (E.has_failed streams.new.errors) CheckFault.TooLong) }
     ensures works { result ≢ 4 → W.has_failed streams.new.writer ≡ false }
     ensures unwritten { result ≡ 4 → W.has_failed streams.new.writer ≡ false →
@@ -145,11 +145,11 @@ where
         → result ≡ 4 → W.has_failed streams.new.writer ≡ true
         → BreaksOff (IsAnswerTo (asked_by (map (λ s. s.now) words.entry.now)))
         (R.left streams.old.reader) (R.left streams.new.reader)
-        (W.held streams.old.writer) (W.held streams.new.writer) }
+        (W.written_bytes streams.old.writer) (W.written_bytes streams.new.writer) }
 
     ensures not_decided { result ≡ 5 →
         (streams.new.writer ≡ streams.old.writer)
-        × Says (E.held streams.old.errors) (E.held streams.new.errors)
+        × Says (E.written_bytes streams.old.errors) (E.written_bytes streams.new.errors)
         (E.has_failed streams.new.errors) CheckFault.Memory }
 
     // Where an answer or help was written, nothing is said.
@@ -184,19 +184,22 @@ fn serve<T: Threads + Wait + Sync, R: Source, W: Sink, G: Gate + Sync>(
     requires reader_works { R.has_failed reader.old ≡ false }
     requires writer_works { W.has_failed writer.old ≡ false }
     ensures serves { Serves (IsAnswerTo asked.request) R.left R.has_failed reader.old reader.new
-        W.held W.has_failed writer.old writer.new result }
+        W.written_bytes W.has_failed writer.old writer.new result }
     ensures correct { asked.request ≡ Request.Check → result ≡ Ok Outcome.Yes →
         Gives IsRight (R.left reader.old) }
     ensures says_yes { asked.request ≡ Request.Check →
-        YesMeans IsRight (R.left reader.old) (W.held writer.old) (W.held writer.new) }
+        YesMeans IsRight (R.left reader.old) (W.written_bytes writer.old)
+        (W.written_bytes writer.new) }
     ensures stops { asked.request ≡ Request.Check → result ≡ Ok Outcome.Yes →
         Gives HasRightStops (R.left reader.old) }
     ensures says_yes_of_stops { asked.request ≡ Request.Check →
-        YesMeans HasRightStops (R.left reader.old) (W.held writer.old) (W.held writer.new) }
+        YesMeans HasRightStops (R.left reader.old) (W.written_bytes writer.old)
+        (W.written_bytes writer.new) }
     ensures wrong { asked.request ≡ Request.Check → result ≡ Ok Outcome.No →
         Gives IsWrongIfPlain (R.left reader.old) }
     ensures lines { asked.request ≡ Request.Check → result ≡ Ok Outcome.No →
-        Relates LinesTell (R.left reader.old) (W.held writer.old) (W.held writer.new) }
+        Relates LinesTell (R.left reader.old) (W.written_bytes writer.old)
+        (W.written_bytes writer.new) }
     ensures small { asked.request ≡ Request.Check → result ≡ Ok Outcome.Refused →
         Gives IsNoSmallDesign (R.left reader.old) }
 {
@@ -213,7 +216,7 @@ fn serve<T: Threads + Wait + Sync, R: Source, W: Sink, G: Gate + Sync>(
 pub fn status_of<E: Sink>(ended: Result<Outcome, CheckFault>, errors: &mut E) -> u8
     ensures status { result ≡ status_for ended }
     ensures quiet { OnOk ended (errors.new ≡ errors.old) }
-    ensures said { IfErr ended (Says (E.held errors.old) (E.held errors.new)
+    ensures said { IfErr ended (Says (E.written_bytes errors.old) (E.written_bytes errors.new)
         (E.has_failed errors.new)) }
 {
     match ended {
@@ -240,11 +243,15 @@ fn explain<W: Sink, E: Sink>(alloc: Global, error: &Error, writer: &mut W, error
     ensures told { (kind_of error.now ≡ ErrorKind.DisplayHelp)
         ⊎ (kind_of error.now ≡ ErrorKind.DisplayVersion) → result ≢ 2 }
     ensures words { result ≡ 2 → writer.new ≡ writer.old }
-    ensures device { result ≡ 4 → (W.has_failed writer.new ≡ true)
-        × Says (E.held errors.old) (E.held errors.new) (E.has_failed errors.new) CheckFault.Write }
+    ensures device { result ≡ 4 →
+        (W.has_failed writer.new ≡ true)
+        × Says (E.written_bytes errors.old) (E.written_bytes errors.new) (E.has_failed errors.new)
+        CheckFault.Write }
     ensures works { result ≢ 4 → W.has_failed writer.new ≡ false }
-    ensures not_decided { result ≡ 5 → (writer.new ≡ writer.old)
-        × Says (E.held errors.old) (E.held errors.new) (E.has_failed errors.new) CheckFault.Memory }
+    ensures not_decided { result ≡ 5 →
+        (writer.new ≡ writer.old)
+        × Says (E.written_bytes errors.old) (E.written_bytes errors.new) (E.has_failed errors.new)
+        CheckFault.Memory }
     ensures quiet { result ≡ 0 → errors.new ≡ errors.old }
     ensures memory { kind_of error.now ≡ ErrorKind.OutOfMemory → result ≡ 5 }
 {
@@ -269,8 +276,10 @@ fn explain<W: Sink, E: Sink>(alloc: Global, error: &Error, writer: &mut W, error
 fn show<W: Sink, E: Sink>(text: &str, writer: &mut W, errors: &mut E) -> u8
     requires { W.has_failed writer.old ≡ false }
     ensures range { (result ≡ 0) ⊎ (result ≡ 4) }
-    ensures device { result ≡ 4 → (W.has_failed writer.new ≡ true)
-        × Says (E.held errors.old) (E.held errors.new) (E.has_failed errors.new) CheckFault.Write }
+    ensures device { result ≡ 4 →
+        (W.has_failed writer.new ≡ true)
+        × Says (E.written_bytes errors.old) (E.written_bytes errors.new) (E.has_failed errors.new)
+        CheckFault.Write }
     ensures quiet { result ≡ 0 → errors.new ≡ errors.old }
     ensures works { result ≡ 0 → W.has_failed writer.new ≡ false }
 {
@@ -284,7 +293,8 @@ fn show<W: Sink, E: Sink>(text: &str, writer: &mut W, errors: &mut E) -> u8
 // Says the one line for a fault, without memory.
 #[tactic(auto, unfolding(crate::specs::Status::line_for))]
 fn say<E: Sink>(errors: &mut E, fault: CheckFault)
-    ensures { Says (E.held errors.old) (E.held errors.new) (E.has_failed errors.new) fault }
+    ensures { Says (E.written_bytes errors.old) (E.written_bytes errors.new)
+        (E.has_failed errors.new) fault }
 {
     let _ = write_whole(errors, b"bbmcheck: ")
         && write_whole(errors, fault.text().as_bytes())

@@ -18,13 +18,13 @@ use crate::bundle::report_of_text;
 use answers::{Answered, Outcome, migrate_text, modules_text, run_text, value_text};
 use device::{Sink, Source};
 use job_pool::Gate;
-use section_text::{Feed, LONGEST, PushFault};
+use section_text::{Feed, MAX_TEXT_BYTES, PushFault};
 use std::alloc::Global;
 use std::sync::Wait;
 use std::thread::Threads;
 
 // What one read asks for, in bytes.
-const BLOCK: usize = 65_536;
+const MAX_READ_BYTES: usize = 65_536;
 
 /// Checks a bundle.
 ///
@@ -57,17 +57,18 @@ where
     requires workers { (0 < workers) × (workers ≤ 64) }
     requires reader_works { R.has_failed reader.old ≡ false }
     requires writer_works { W.has_failed writer.old ≡ false }
-    ensures serves { Serves IsReportOf R.left R.has_failed reader.old reader.new W.held W.has_failed
-        writer.old writer.new result }
+    ensures serves { Serves IsReportOf R.left R.has_failed reader.old reader.new W.written_bytes
+        W.has_failed writer.old writer.new result }
     ensures correct { result ≡ Ok Outcome.Yes → Gives IsRight (R.left reader.old) }
-    ensures says_yes { YesMeans IsRight (R.left reader.old) (W.held writer.old)
-        (W.held writer.new) }
+    ensures says_yes { YesMeans IsRight (R.left reader.old) (W.written_bytes writer.old)
+        (W.written_bytes writer.new) }
     ensures stops { result ≡ Ok Outcome.Yes → Gives HasRightStops (R.left reader.old) }
-    ensures says_yes_of_stops { YesMeans HasRightStops (R.left reader.old) (W.held writer.old)
-        (W.held writer.new) }
+    ensures says_yes_of_stops { YesMeans HasRightStops (R.left reader.old)
+        (W.written_bytes writer.old) (W.written_bytes writer.new) }
     ensures wrong { result ≡ Ok Outcome.No → Gives IsWrongIfPlain (R.left reader.old) }
     ensures lines { result ≡ Ok Outcome.No →
-        Relates LinesTell (R.left reader.old) (W.held writer.old) (W.held writer.new) }
+        Relates LinesTell (R.left reader.old) (W.written_bytes writer.old)
+        (W.written_bytes writer.new) }
     ensures small { result ≡ Ok Outcome.Refused → Gives IsNoSmallDesign (R.left reader.old) }
 {
     let feed = read_text(alloc, reader)?;
@@ -86,8 +87,8 @@ pub fn run_stream<R: Source, W: Sink>(
 ) -> Result<Outcome, CheckFault>
     requires reader_works { R.has_failed reader.old ≡ false }
     requires writer_works { W.has_failed writer.old ≡ false }
-    ensures serves { Serves IsRunOf R.left R.has_failed reader.old reader.new W.held W.has_failed
-        writer.old writer.new result }
+    ensures serves { Serves IsRunOf R.left R.has_failed reader.old reader.new W.written_bytes
+        W.has_failed writer.old writer.new result }
 {
     let mut feed = read_text(alloc, reader)?;
     let answered = run_text(alloc, &mut feed).map_err(|_| CheckFault::Memory)?;
@@ -105,8 +106,8 @@ pub fn value_stream<R: Source, W: Sink>(
 ) -> Result<Outcome, CheckFault>
     requires reader_works { R.has_failed reader.old ≡ false }
     requires writer_works { W.has_failed writer.old ≡ false }
-    ensures serves { Serves IsValueOf R.left R.has_failed reader.old reader.new W.held W.has_failed
-        writer.old writer.new result }
+    ensures serves { Serves IsValueOf R.left R.has_failed reader.old reader.new W.written_bytes
+        W.has_failed writer.old writer.new result }
 {
     let mut feed = read_text(alloc, reader)?;
     let answered = value_text(alloc, &mut feed).map_err(|_| CheckFault::Memory)?;
@@ -124,7 +125,7 @@ pub fn modules_stream<R: Source, W: Sink>(
 ) -> Result<Outcome, CheckFault>
     requires reader_works { R.has_failed reader.old ≡ false }
     requires writer_works { W.has_failed writer.old ≡ false }
-    ensures serves { Serves IsModulesOf R.left R.has_failed reader.old reader.new W.held
+    ensures serves { Serves IsModulesOf R.left R.has_failed reader.old reader.new W.written_bytes
         W.has_failed writer.old writer.new result }
 {
     let mut feed = read_text(alloc, reader)?;
@@ -144,7 +145,7 @@ pub fn migrate_stream<R: Source, W: Sink>(
 ) -> Result<Outcome, CheckFault>
     requires reader_works { R.has_failed reader.old ≡ false }
     requires writer_works { W.has_failed writer.old ≡ false }
-    ensures serves { Serves IsMigrationOf R.left R.has_failed reader.old reader.new W.held
+    ensures serves { Serves IsMigrationOf R.left R.has_failed reader.old reader.new W.written_bytes
         W.has_failed writer.old writer.new result }
 {
     let mut feed = read_text(alloc, reader)?;
@@ -165,7 +166,7 @@ fn read_text<R: Source>(alloc: Global, reader: &mut R) -> Result<Feed, CheckFaul
     ensures no_write { IfErr result (λ fault. fault ≢ CheckFault.Write) }
 {
     // On the heap, so that a small stack is enough.
-    let Ok(mut block) = vec![in alloc; 0u8; BLOCK] else {
+    let Ok(mut block) = vec![in alloc; 0u8; MAX_READ_BYTES] else {
         return Err(CheckFault::Memory);
     };
     read_by(alloc, reader, &mut block)
@@ -174,7 +175,7 @@ fn read_text<R: Source>(alloc: Global, reader: &mut R) -> Result<Feed, CheckFaul
 // The same, by reads that ask for as many bytes as the block has.
 fn read_by<R: Source>(alloc: Global, reader: &mut R, block: &mut [u8]) -> Result<Feed, CheckFault>
     requires works { R.has_failed reader.old ≡ false }
-    requires room { 0 < length block.old }
+    requires block_has_room { 0 < length block.old }
     ensures read_all { IfOk result (λ feed. ReadsAll (R.left reader.old) (R.left reader.new)
         feed.text) }
     ensures whole { IfOk result (λ feed. feed ≡ whole_text feed.text) }
@@ -186,7 +187,7 @@ fn read_by<R: Source>(alloc: Global, reader: &mut R, block: &mut [u8]) -> Result
 {
     let mut feed = Feed::new(alloc);
     // Each read but the last gives a byte, and no text has so many.
-    for _ in 0..LONGEST + 1 {
+    for _ in 0..MAX_TEXT_BYTES + 1 {
         let Ok(count) = reader.read(block) else {
             return Err(CheckFault::Read);
         };
@@ -207,13 +208,13 @@ fn read_by<R: Source>(alloc: Global, reader: &mut R, block: &mut [u8]) -> Result
 fn write_answer<W: Sink>(writer: &mut W, answered: &Answered) -> Result<Outcome, CheckFault>
     requires { W.has_failed writer.old ≡ false }
     ensures outcome { IfOk result (λ outcome. outcome ≡ answered.now.outcome) }
-    ensures all { OnOk result (Appends (W.held writer.old) (W.held writer.new)
+    ensures all { OnOk result (Appends (W.written_bytes writer.old) (W.written_bytes writer.new)
         answered.now.output.items) }
     ensures works { OnOk result (W.has_failed writer.new ≡ false) }
     ensures only { IfErr result (λ fault. fault ≡ CheckFault.Write) }
     ensures fails { IfErr result (λ fault. W.has_failed writer.new ≡ true) }
-    ensures prefix { IfErr result (λ fault.
-        TakesPrefix (W.held writer.old) (W.held writer.new) answered.now.output.items) }
+    ensures prefix { IfErr result (λ fault. TakesPrefix (W.written_bytes writer.old)
+        (W.written_bytes writer.new) answered.now.output.items) }
 {
     if write_whole(writer, &answered.output) {
         Ok(answered.outcome)
@@ -224,11 +225,12 @@ fn write_answer<W: Sink>(writer: &mut W, answered: &Answered) -> Result<Outcome,
 
 /// Writes all of `bytes`, or returns false if the writer failed.
 pub(crate) fn write_whole<W: Sink>(writer: &mut W, bytes: &[u8]) -> bool
-    ensures all { result ≡ true → Appends (W.held writer.old) (W.held writer.new) bytes.now }
+    ensures all { result ≡ true →
+        Appends (W.written_bytes writer.old) (W.written_bytes writer.new) bytes.now }
     ensures works { result ≡ true → W.has_failed writer.new ≡ W.has_failed writer.old }
     ensures fails { result ≡ false → W.has_failed writer.new ≡ true }
     ensures prefix { result ≡ false →
-        TakesPrefix (W.held writer.old) (W.held writer.new) bytes.now }
+        TakesPrefix (W.written_bytes writer.old) (W.written_bytes writer.new) bytes.now }
 {
     let mut rest = bytes;
     while !rest.is_empty() {

@@ -7,11 +7,11 @@ use Rattle.std.proofs.lemmas.Grind.{flat_map-append}
 use Rattle.std.proofs.lemmas.List.Sums.{sum_by-append, sum_by-cons}
 use Rattle.std.proofs.lemmas.Bool.{cases_Bool, true≢false}
 use Rattle.circuit.specs.Entries.{defined}
-use Rattle.circuit.specs.declared.entry.GateKind.{GateKind}
-use Rattle.circuit.specs.declared.entry.Kind.{Kind}
-use Rattle.circuit.specs.declared.entry.Kind.TheVariants.{Input, Output, Spill}
-use Rattle.circuit.specs.declared.entry.Kind.TheVariants.{Gate as GateLine}
-use Rattle.circuit.specs.declared.entry.Entry.{Entry}
+use Rattle.circuit.specs.declared.circuit_line.GateKind.{GateKind}
+use Rattle.circuit.specs.declared.circuit_line.Kind.{Kind}
+use Rattle.circuit.specs.declared.circuit_line.Kind.TheVariants.{Input, Output, Spill}
+use Rattle.circuit.specs.declared.circuit_line.Kind.TheVariants.{Gate as GateLine}
+use Rattle.circuit.specs.declared.circuit_line.CircuitLine.{CircuitLine}
 use Rattle.section_text.specs.Words.{has}
 use Rattle.circuit.specs.Rules.{consumed, consume, define, is_gate, gate_count, add_fault, limit_fault, name_fault}
 use Rattle.section_text.specs.Codes.{or_else}
@@ -30,7 +30,7 @@ or_else_none (Some c) b e = absurd (clash c e)
     clash : (c : ℕ) → ◌≡◌ {A = Option ℕ} (Some c) None → ⊥
     clash c e = cc
 
-pub names_pass : (before : List Entry) (r : Entry) → add_fault before r ≡ None →
+pub names_pass : (before : List CircuitLine) (r : CircuitLine) → add_fault before r ≡ None →
     (consume (defined before) (consumed before) r.ins ≡ None) × (define (defined before) r.outs ≡ None)
 unfolding add_fault
 names_pass before r e = or_else_none _ _ (or_else_none (limit_fault before r) (name_fault before r) e).1
@@ -58,23 +58,24 @@ numbers_new d (n ∷ ns) e h =
     ∙ ap (λ k. range_with_len k (length ns)) (length-append d (n ∷ [])))
 
 -- ---- defined, counts, one line at a time
-pub defined_push : (before : List Entry) (r : Entry) → defined (before ++ r ∷ []) ≡ defined before ++ r.outs
-defined_push before r = flat_map-append (λ (r : Entry). r.outs) before (r ∷ [])
+pub defined_push : (before : List CircuitLine) (r : CircuitLine) → defined (before ++ r ∷ []) ≡ defined before ++ r.outs
+defined_push before r = flat_map-append (λ (r : CircuitLine). r.outs) before (r ∷ [])
     ∙ ap (λ l. defined before ++ l) (append-nil r.outs)
 
-defined_cons : (before : List Entry) (r : Entry) (rest : List Entry) →
+defined_cons : (before : List CircuitLine) (r : CircuitLine) (rest : List CircuitLine) →
     defined (before ++ r ∷ rest) ≡ defined before ++ (r.outs ++ defined rest)
-defined_cons before r rest = flat_map-append (λ (r : Entry). r.outs) before (r ∷ rest)
+defined_cons before r rest = flat_map-append (λ (r : CircuitLine). r.outs) before (r ∷ rest)
 
-pub push_cons : (before : List Entry) (r : Entry) (rest : List Entry) → (before ++ r ∷ []) ++ rest ≡ before ++ r ∷ rest
+pub push_cons : (before : List CircuitLine) (r : CircuitLine) (rest : List CircuitLine) →
+    (before ++ r ∷ []) ++ rest ≡ before ++ r ∷ rest
 push_cons before r rest = append_assoc before (r ∷ []) rest
 
 pub count_append : {X : Type 0} (p : X → Bool) (xs ys : List X) → count_by p (xs ++ ys) ≡ count_by p xs + count_by p ys
 count_append p xs ys = sum_by-append (λ x. cond (p x) 1 0) xs ys
 
-pub input_cons : (r : Entry) (rest : List Entry) →
+pub input_cons : (r : CircuitLine) (rest : List CircuitLine) →
     input_count (r ∷ rest) ≡ cond (is_input r.kind) 1 0 + input_count rest
-input_cons r rest = sum_by-cons (λ (r : Entry). cond (is_input r.kind) 1 0) r rest
+input_cons r rest = sum_by-cons (λ (r : CircuitLine). cond (is_input r.kind) 1 0) r rest
 
 -- a line's kind, its ins and its outs, taken apart
 length_0 : (l : List (List ℕ)) → length l ≡ 0 → l ≡ []
@@ -82,12 +83,13 @@ length_0 [] h = refl
 length_0 (a ∷ l) h = absurd (omega arith)
 
 -- after a gate there is no input
-pub no_inputs : (before rest : List Entry) → AreGoodAfter before rest → 0 < gate_count before → input_count rest ≡ 0
+pub no_inputs : (before rest : List CircuitLine) → AreGoodAfter before rest → 0 < gate_count before →
+    input_count rest ≡ 0
 unfolding AreGoodAfter
 no_inputs before [] good some = refl
 no_inputs before (r ∷ rest) good some =
     let more : gate_count (before ++ r ∷ []) ≡ gate_count before + gate_count (r ∷ []) =
-    count_append (λ (r : Entry). is_gate r.kind) before (r ∷ []) in
+    count_append (λ (r : CircuitLine). is_gate r.kind) before (r ∷ []) in
     let later = no_inputs (before ++ r ∷ []) rest good.1 (omega arith) in
     elim (cases_Bool (is_input r.kind)) [
       | inl e ↦ absurd (omega (arith, good.0.inputs_first e))
@@ -95,7 +97,7 @@ no_inputs before (r ∷ rest) good some =
     ]
 
 -- lines without inputs
-ordered_line : (names : List (List ℕ)) (before rest : List Entry) (kind : Kind) (ins outs : List (List ℕ)) →
+ordered_line : (names : List (List ℕ)) (before rest : List CircuitLine) (kind : Kind) (ins outs : List (List ℕ)) →
     IsGoodAfter before (record { kind = kind; ins = ins; outs = outs }) →
     AreOrdered (length (defined before ++ outs)) (gates_of names rest) →
     names ≡ defined before ++ (outs ++ defined rest) → is_input kind ≡ false →
@@ -123,14 +125,14 @@ ordered_line names before rest Spill ins outs good later e f =
     subst (λ m. AreOrdered m (gates_of names rest))
     (length-append (defined before) outs ∙ omega (arith, good.fits.1)) later
 
-not_input : (r : Entry) (rest : List Entry) → input_count (r ∷ rest) ≡ 0 →
+not_input : (r : CircuitLine) (rest : List CircuitLine) → input_count (r ∷ rest) ≡ 0 →
     (is_input r.kind ≡ false) × (input_count rest ≡ 0)
 not_input r rest e = elim (cases_Bool (is_input r.kind)) [
   | inl i ↦ absurd (omega (arith, sym (input_cons r rest) ∙ e, ap {B = ℕ} (λ b. cond b 1 0) i))
   | inr i ↦ (i, omega (arith, sym (input_cons r rest) ∙ e))
 ]
 
-ordered_gates : (names : List (List ℕ)) (before rest : List Entry) → AreGoodAfter before rest →
+ordered_gates : (names : List (List ℕ)) (before rest : List CircuitLine) → AreGoodAfter before rest →
     names ≡ defined (before ++ rest) → input_count rest ≡ 0 →
     AreOrdered (length (defined before)) (gates_of names rest)
 unfolding AreOrdered AreGoodAfter
@@ -144,43 +146,45 @@ ordered_gates names before (r ∷ rest) good e none =
     (e ∙ defined_cons before r rest) n.0
 
 -- lines that begin with the inputs
-record Far (names : List (List ℕ)) (before : List Entry) (rest : List Entry) : Type 0 where
+record Far (names : List (List ℕ)) (before : List CircuitLine) (rest : List CircuitLine) : Type 0 where
   all : names ≡ defined (before ++ rest)
   no_gate : gate_count before ≡ 0
   only_inputs : length (defined before) ≡ input_count before
 
-far_next : (names : List (List ℕ)) (before rest : List Entry) (kind : Kind) (ins outs : List (List ℕ)) →
+far_next : (names : List (List ℕ)) (before rest : List CircuitLine) (kind : Kind) (ins outs : List (List ℕ)) →
     Far names before (record { kind = kind; ins = ins; outs = outs } ∷ rest) → length outs ≡ cond (is_input kind) 1 0 →
     is_gate kind ≡ false →
     Far names (before ++ record { kind = kind; ins = ins; outs = outs } ∷ []) rest
 far_next names before rest kind ins outs far e f =
-    let r : Entry = record { kind = kind; ins = ins; outs = outs } in
+    let r : CircuitLine = record { kind = kind; ins = ins; outs = outs } in
     record {
       all = far.all ∙ ap defined (sym (push_cons before r rest));
-      no_gate = count_append (λ (r : Entry). is_gate r.kind) before (r ∷ [])
+      no_gate = count_append (λ (r : CircuitLine). is_gate r.kind) before (r ∷ [])
           ∙ omega (arith, far.no_gate, ap {B = ℕ} (λ b. cond b 1 0) f);
       only_inputs = ap length (defined_push before r) ∙ length-append (defined before) outs
-          ∙ omega (arith, far.only_inputs, e) ∙ sym (count_append (λ (r : Entry). is_input r.kind) before (r ∷ []));
+          ∙ omega (arith, far.only_inputs, e)
+          ∙ sym (count_append (λ (r : CircuitLine). is_input r.kind) before (r ∷ []));
     }
 
-gate_first : (names : List (List ℕ)) (before rest : List Entry) (k : GateKind) (ins outs : List (List ℕ)) →
+gate_first : (names : List (List ℕ)) (before rest : List CircuitLine) (k : GateKind) (ins outs : List (List ℕ)) →
     AreGoodAfter before (record { kind = GateLine k; ins = ins; outs = outs } ∷ rest) →
     Far names before (record { kind = GateLine k; ins = ins; outs = outs } ∷ rest) →
     AreOrdered (input_count (before ++ record { kind = GateLine k; ins = ins; outs = outs } ∷ rest))
     (gates_of names (record { kind = GateLine k; ins = ins; outs = outs } ∷ rest))
 unfolding AreGoodAfter
 gate_first names before rest k ins outs good far =
-    let r : Entry = record { kind = GateLine k; ins = ins; outs = outs } in
+    let r : CircuitLine = record { kind = GateLine k; ins = ins; outs = outs } in
     let here : gate_count (before ++ r ∷ []) ≡ gate_count before + 1 =
-    count_append (λ (r : Entry). is_gate r.kind) before (r ∷ []) in
+    count_append (λ (r : CircuitLine). is_gate r.kind) before (r ∷ []) in
     let none = no_inputs (before ++ r ∷ []) rest good.1 (omega arith) in
     let zero_inputs : input_count (r ∷ rest) ≡ 0 = input_cons r rest ∙ omega (arith, none) in
     let same : length (defined before) ≡ input_count (before ++ r ∷ rest) =
-    far.only_inputs ∙ omega (arith, zero_inputs, count_append (λ (r : Entry). is_input r.kind) before (r ∷ rest)) in
+    far.only_inputs
+    ∙ omega (arith, zero_inputs, count_append (λ (r : CircuitLine). is_input r.kind) before (r ∷ rest)) in
     subst (λ m. AreOrdered m (gates_of names (r ∷ rest))) same
     (ordered_gates names before (r ∷ rest) good far.all zero_inputs)
 
-ordered_rest : (names : List (List ℕ)) (before rest : List Entry) (kind : Kind) (ins outs : List (List ℕ)) →
+ordered_rest : (names : List (List ℕ)) (before rest : List CircuitLine) (kind : Kind) (ins outs : List (List ℕ)) →
     AreGoodAfter before (record { kind = kind; ins = ins; outs = outs } ∷ rest) →
     Far names before (record { kind = kind; ins = ins; outs = outs } ∷ rest) →
     (AreGoodAfter (before ++ record { kind = kind; ins = ins; outs = outs } ∷ []) rest →
@@ -191,17 +195,18 @@ ordered_rest : (names : List (List ℕ)) (before rest : List Entry) (kind : Kind
     (gates_of names (record { kind = kind; ins = ins; outs = outs } ∷ rest))
 unfolding AreGoodAfter
 ordered_rest names before rest Input ins outs good far later =
-    subst (λ (l : List Entry). AreOrdered (input_count l) (gates_of names rest)) (push_cons before _ rest)
+    subst (λ (l : List CircuitLine). AreOrdered (input_count l) (gates_of names rest)) (push_cons before _ rest)
     (later good.1 (far_next names before rest Input ins outs far good.0.fits.1 refl))
 ordered_rest names before rest (GateLine k) ins outs good far later = gate_first names before rest k ins outs good far
 ordered_rest names before rest Output ins outs good far later =
-    subst (λ (l : List Entry). AreOrdered (input_count l) (gates_of names rest)) (push_cons before _ rest)
+    subst (λ (l : List CircuitLine). AreOrdered (input_count l) (gates_of names rest)) (push_cons before _ rest)
     (later good.1 (far_next names before rest Output ins outs far good.0.fits.1 refl))
 ordered_rest names before rest Spill ins outs good far later =
-    subst (λ (l : List Entry). AreOrdered (input_count l) (gates_of names rest)) (push_cons before _ rest)
+    subst (λ (l : List CircuitLine). AreOrdered (input_count l) (gates_of names rest)) (push_cons before _ rest)
     (later good.1 (far_next names before rest Spill ins outs far good.0.fits.1 refl))
 
-ordered_lines : (names : List (List ℕ)) (before rest : List Entry) → AreGoodAfter before rest → Far names before rest →
+ordered_lines : (names : List (List ℕ)) (before rest : List CircuitLine) → AreGoodAfter before rest →
+    Far names before rest →
     AreOrdered (input_count (before ++ rest)) (gates_of names rest)
 unfolding AreOrdered
 ordered_lines names before [] good far = tt
@@ -213,18 +218,19 @@ gates_are_ordered entries good =
     ordered_lines (defined entries) [] entries good (record { all = refl; no_gate = refl; only_inputs = refl })
 
 -- ---- one more line
-pub good_push : (before rest : List Entry) (r : Entry) → AreGoodAfter before rest → IsGoodAfter (before ++ rest) r →
+pub good_push : (before rest : List CircuitLine) (r : CircuitLine) → AreGoodAfter before rest →
+    IsGoodAfter (before ++ rest) r →
     AreGoodAfter before (rest ++ r ∷ [])
 unfolding AreGoodAfter
-good_push before [] r good next = (subst (λ (l : List Entry). IsGoodAfter l r) (append-nil before) next, tt)
+good_push before [] r good next = (subst (λ (l : List CircuitLine). IsGoodAfter l r) (append-nil before) next, tt)
 good_push before (a ∷ rest) r good next = (
   good.0,
   good_push (before ++ a ∷ []) rest r good.1
-      (subst (λ (l : List Entry). IsGoodAfter l r) (sym (push_cons before a rest)) next),
+      (subst (λ (l : List CircuitLine). IsGoodAfter l r) (sym (push_cons before a rest)) next),
 )
 
 -- more names leave the gates as they are
-line_keeps : (before rest : List Entry) (e : List (List ℕ)) (kind : Kind) (ins outs : List (List ℕ)) →
+line_keeps : (before rest : List CircuitLine) (e : List (List ℕ)) (kind : Kind) (ins outs : List (List ℕ)) →
     IsGoodAfter before (record { kind = kind; ins = ins; outs = outs }) →
     gate_in ((defined before ++ (outs ++ defined rest)) ++ e) ins outs kind
     ≡ gate_in (defined before ++ (outs ++ defined rest)) ins outs kind
@@ -247,7 +253,7 @@ line_keeps before rest e (GateLine k) ins outs good =
     ∙ sym (numbers_new d outs (defined rest) pass.1) in
     ap₂ (λ (i o : List ℕ). record { kind = rule_of k; ins = i; outs = o } ∷ []) ins_same outs_same
 
-gates_keep : (names e : List (List ℕ)) (before rest : List Entry) → AreGoodAfter before rest →
+gates_keep : (names e : List (List ℕ)) (before rest : List CircuitLine) → AreGoodAfter before rest →
     names ≡ defined (before ++ rest) → gates_of (names ++ e) rest ≡ gates_of names rest
 unfolding AreGoodAfter
 gates_keep names e before [] good is = refl
@@ -260,7 +266,7 @@ gates_keep names e before (r ∷ rest) good is =
     (gates_keep names e (before ++ r ∷ []) rest good.1 (is ∙ ap defined (sym (push_cons before r rest))))
 
 -- the gate that is added
-line_added : (entries : List Entry) (numbers : List ℕ) (kind : Kind) (ins outs : List (List ℕ)) →
+line_added : (entries : List CircuitLine) (numbers : List ℕ) (kind : Kind) (ins outs : List (List ℕ)) →
     IsGoodAfter entries (record { kind = kind; ins = ins; outs = outs }) →
     take (length ins) numbers ≡ map (number (defined entries)) ins →
     gate_in (defined entries ++ outs) ins outs kind ≡ gate_at kind numbers (length (defined entries))
@@ -275,12 +281,13 @@ line_added entries numbers (GateLine k) ins outs good same =
     (ap (λ (l : List (List ℕ)). map (number (defined entries ++ l)) outs) (sym (append-nil outs))
     ∙ numbers_new (defined entries) outs [] pass.1 ∙ ap (range_with_len (length (defined entries))) good.fits.1)
 
-pub gates_push : (entries : List Entry) (r : Entry) (numbers : List ℕ) → AreGood entries → IsGoodAfter entries r →
+pub gates_push : (entries : List CircuitLine) (r : CircuitLine) (numbers : List ℕ) → AreGood entries →
+    IsGoodAfter entries r →
     take (length r.ins) numbers ≡ map (number (defined entries)) r.ins →
     gates_of (defined (entries ++ r ∷ [])) (entries ++ r ∷ [])
     ≡ gates_of (defined entries) entries ++ gate_at r.kind numbers (length (defined entries))
 gates_push entries r numbers good next same =
     ap (λ (l : List (List ℕ)). gates_of l (entries ++ r ∷ [])) (defined_push entries r)
-    ∙ flat_map-append (λ (s : Entry). gate_in (defined entries ++ r.outs) s.ins s.outs s.kind) entries (r ∷ [])
+    ∙ flat_map-append (λ (s : CircuitLine). gate_in (defined entries ++ r.outs) s.ins s.outs s.kind) entries (r ∷ [])
     ∙ ap₂ (λ (a b : List Gate). a ++ b) (gates_keep (defined entries) r.outs [] entries good refl)
     (append-nil _ ∙ line_added entries numbers r.kind r.ins r.outs next same)

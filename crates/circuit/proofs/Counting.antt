@@ -1,9 +1,9 @@
 -- There are as many names of inputs as inputs.
 use Rattle.std.proofs.Common.{◌≡◌, ℕ, List, [], ◌∷◌, ◌++◌, length, cond, refl, sym, ◌∙◌, arith, length-append}
-use Rattle.circuit.specs.declared.entry.Entry.{Entry}
-use Rattle.circuit.specs.declared.entry.Kind.{Kind}
-use Rattle.circuit.specs.declared.entry.Kind.TheVariants.{Input, Output, Spill}
-use Rattle.circuit.specs.declared.entry.Kind.TheVariants.{Gate as GateLine}
+use Rattle.circuit.specs.declared.circuit_line.CircuitLine.{CircuitLine}
+use Rattle.circuit.specs.declared.circuit_line.Kind.{Kind}
+use Rattle.circuit.specs.declared.circuit_line.Kind.TheVariants.{Input, Output, Spill}
+use Rattle.circuit.specs.declared.circuit_line.Kind.TheVariants.{Gate as GateLine}
 use Rattle.circuit.specs.Bridge.{AreGood, AreGoodAfter, FitsKind, is_input, input_count, input_names}
 use Rattle.circuit.proofs.Bridging.{input_cons}
 
@@ -14,7 +14,7 @@ line_counted (GateLine k) ins outs fits = refl
 line_counted Output ins outs fits = refl
 line_counted Spill ins outs fits = refl
 
-counted : (before rest : List Entry) → AreGoodAfter before rest → length (input_names rest) ≡ input_count rest
+counted : (before rest : List CircuitLine) → AreGoodAfter before rest → length (input_names rest) ≡ input_count rest
 unfolding AreGoodAfter
 counted before [] good = refl
 counted before (r ∷ rest) good =
@@ -23,5 +23,5 @@ counted before (r ∷ rest) good =
     length-append (cond (is_input r.kind) r.outs []) (input_names rest) ∙ omega (arith, here, more)
     ∙ sym (input_cons r rest)
 
-pub inputs_counted : (entries : List Entry) → AreGood entries → length (input_names entries) ≡ input_count entries
+pub inputs_counted : (entries : List CircuitLine) → AreGood entries → length (input_names entries) ≡ input_count entries
 inputs_counted entries good = counted [] entries good

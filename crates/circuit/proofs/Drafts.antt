@@ -6,7 +6,7 @@ use Rattle.std.proofs.lemmas.List.{append-nil}
 use Rattle.std.proofs.lemmas.Grind.{flat_map-append}
 use Rattle.std.proofs.lemmas.Bool.{true≢false, ltb-false, leb-false}
 use Rattle.circuit.specs.Entries.{defined}
-use Rattle.circuit.specs.declared.entry.Entry.{Entry}
+use Rattle.circuit.specs.declared.circuit_line.CircuitLine.{CircuitLine}
 use Rattle.circuit.specs.Rules.{consumed, consume, define, is_gate, gate_count, add_fault, passes_limit, is_wrong_delay}
 use Rattle.circuit.specs.Bridge.{gates_of, FitsKind, InputsFirst, IsGoodAfter, AreGood}
 use Rattle.circuit.specs.Meaning.{Gate, number}
@@ -19,14 +19,14 @@ or_false : (a b : Bool) → (a || b) ≡ false → (a ≡ false) × (b ≡ false
 or_false true b e = absurd (true≢false e)
 or_false false b e = (refl, e)
 
-no_fault : (entries : List Entry) (r : Entry) → passes_limit entries r ≡ false →
+no_fault : (entries : List CircuitLine) (r : CircuitLine) → passes_limit entries r ≡ false →
     consume (defined entries) (consumed entries) r.ins ≡ None → define (defined entries) r.outs ≡ None →
     add_fault entries r ≡ None
 unfolding add_fault
 no_fault entries r limit ins outs = rw (limit, ins) outs
 
 -- what is known of the new fields
-pub record Added (a b : Inside) (r : Entry) (numbers : List ℕ) : Type 0 where
+pub record Added (a b : Inside) (r : CircuitLine) (numbers : List ℕ) : Type 0 where
   pub entries : b.entries.items ≡ a.entries.items ++ r ∷ []
   pub wires : b.wires.keys ≡ a.wires.keys ++ r.outs
   pub used : b.consumed.keys ≡ a.consumed.keys ++ r.ins
@@ -39,7 +39,7 @@ pub record Added (a b : Inside) (r : Entry) (numbers : List ℕ) : Type 0 where
   pub wired : map gate_of b.wired.items ≡ map gate_of a.wired.items ++ gate_at r.kind numbers (length a.wires.keys)
   pub gates : b.gates ≡ a.gates + cond (is_gate r.kind) 1 0
 
-few : (entries : List Entry) (r : Entry) → passes_limit entries r ≡ false →
+few : (entries : List CircuitLine) (r : CircuitLine) → passes_limit entries r ≡ false →
     (length (defined entries) + length r.outs ≤ 4096) × ((is_gate r.kind && nat_le 1024 (gate_count entries)) ≡ false)
 few entries r e =
     let limits = (or_false (is_wrong_delay r.kind) _ e).1 in
@@ -50,16 +50,16 @@ few_more : (b : Bool) (n : ℕ) → (b && nat_le 1024 n) ≡ false → n ≤ 102
 few_more true n e h = let l = leb-false 1024 n e in omega arith
 few_more false n e h = omega arith
 
-pub added : (a b : Inside) (r : Entry) (numbers : List ℕ) → IsDraft a → Added a b r numbers → IsDraft b
+pub added : (a b : Inside) (r : CircuitLine) (numbers : List ℕ) → IsDraft a → Added a b r numbers → IsDraft b
 added a b r numbers is new =
-    let entries : List Entry = a.entries.items in
+    let entries : List CircuitLine = a.entries.items in
     let faultless : add_fault entries r ≡ None = no_fault entries r new.limit
     (ap₂ (λ (d c : List (List ℕ)). consume d c r.ins) (sym is.wires) (sym is.consumed) ∙ new.ins_pass)
     (ap (λ (d : List (List ℕ)). define d r.outs) (sym is.wires) ∙ new.outs_pass) in
     let good : IsGoodAfter entries r = record { adds = faultless; fits = new.fits; inputs_first = new.inputs_first } in
     let here = few entries r new.limit in
     let count : gate_count (entries ++ r ∷ []) ≡ gate_count entries + cond (is_gate r.kind) 1 0 =
-    count_append (λ (r : Entry). is_gate r.kind) entries (r ∷ []) ∙ omega arith in
+    count_append (λ (r : CircuitLine). is_gate r.kind) entries (r ∷ []) ∙ omega arith in
     let gates : b.gates ≡ gate_count (entries ++ r ∷ []) =
     new.gates ∙ ap (λ (n : ℕ). n + cond (is_gate r.kind) 1 0) is.gates ∙ sym count in
     let longer : length (defined (entries ++ r ∷ [])) ≡ length (defined entries) + length r.outs =
@@ -76,15 +76,16 @@ added a b r numbers is new =
         count,
         few_more (is_gate r.kind) (gate_count entries) here.1 (omega (arith, is.few_gates, is.gates)),
       );
-      few_wires = omega (arith, longer, here.0, ap (λ (l : List Entry). length (defined l)) new.entries);
+      few_wires = omega (arith, longer, here.0, ap (λ (l : List CircuitLine). length (defined l)) new.entries);
       good = subst AreGood (sym new.entries) (good_push [] entries r is.good good);
       wired = new.wired ∙ ap₂ (λ (x y : List Gate). x ++ y) is.wired
           (ap (λ (d : List (List ℕ)). gate_at r.kind numbers (length d)) is.wires)
           ∙ sym (gates_push entries r numbers is.good good
           (new.numbered ∙ ap (λ (d : List (List ℕ)). map (number d) r.ins) is.wires))
-          ∙ ap (λ (l : List Entry). gates_of (defined l) l) (sym new.entries);
+          ∙ ap (λ (l : List CircuitLine). gates_of (defined l) l) (sym new.entries);
     }
   where
-    consumed_push : (before : List Entry) (r : Entry) → consumed (before ++ r ∷ []) ≡ consumed before ++ r.ins
-    consumed_push before r = flat_map-append (λ (r : Entry). r.ins) before (r ∷ [])
+    consumed_push : (before : List CircuitLine) (r : CircuitLine) →
+        consumed (before ++ r ∷ []) ≡ consumed before ++ r.ins
+    consumed_push before r = flat_map-append (λ (r : CircuitLine). r.ins) before (r ∷ [])
         ∙ ap (λ l. consumed before ++ l) (append-nil r.ins)

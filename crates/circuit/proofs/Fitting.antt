@@ -5,9 +5,9 @@ use Rattle.std.specs.Prelude.{codes}
 use Rattle.std.proofs.lemmas.Option.{cond_some, option_and_then_some, same_Some}
 use Rattle.section_text.specs.Words.{◌>>=◌, is_word_at, name_at, names_at, lone, lone_name}
 use Rattle.section_text.specs.declared.section.Form.TheVariants.{Header, Item, End}
-use Rattle.circuit.specs.declared.entry.Kind.TheVariants.{Input, Gate, Output, Spill}
-use Rattle.circuit.specs.declared.entry.Entry.{Entry}
-use Rattle.circuit.specs.declared.entry.Kind.{Kind}
+use Rattle.circuit.specs.declared.circuit_line.Kind.TheVariants.{Input, Gate, Output, Spill}
+use Rattle.circuit.specs.declared.circuit_line.CircuitLine.{CircuitLine}
+use Rattle.circuit.specs.declared.circuit_line.Kind.{Kind}
 use Rattle.circuit.specs.Rules.{is_gate}
 use Rattle.std.proofs.lemmas.Bool.{true≢false}
 use Rattle.circuit.specs.Entries.{entry, rank_of}
@@ -26,7 +26,7 @@ names_length ws i (suc n) ns e =
     let l = names_length ws (i + 1) n others more in
     ap length (sym (same_Some (first ∷ others) ns made)) ∙ omega (arith, l)))
 
-gate_fits : (ws : List (List ℕ)) (r : Entry) → gate_entry ws ≡ Some r → FitsKind r
+gate_fits : (ws : List (List ℕ)) (r : CircuitLine) → gate_entry ws ≡ Some r → FitsKind r
 unfolding gate_entry gate_names
 gate_fits ws r e =
     option_and_then_some (λ kind.
@@ -80,7 +80,7 @@ form_fits ws f e =
       ]
     ]
 
-pub entry_fits : (ws : List (List ℕ)) (r : Entry) → form_of ws ≡ Some (Item r) → FitsKind r
+pub entry_fits : (ws : List (List ℕ)) (r : CircuitLine) → form_of ws ≡ Some (Item r) → FitsKind r
 unfolding OfForm
 entry_fits ws r e = form_fits ws (Item r) e
 

@@ -10,10 +10,10 @@ use Rattle.std.proofs.lemmas.List.Sums.{sum_by-cons}
 use Rattle.std.proofs.lemmas.Bool.{cases_Bool, cases_lt, le-ltb}
 use Rattle.std.proofs.lemmas.List.Folds.{list_any-append}
 use Rattle.circuit.specs.Entries.{defined}
-use Rattle.circuit.specs.declared.entry.Kind.{Kind}
-use Rattle.circuit.specs.declared.entry.Kind.TheVariants.{Input, Output, Spill}
-use Rattle.circuit.specs.declared.entry.Kind.TheVariants.{Gate as GateLine}
-use Rattle.circuit.specs.declared.entry.Entry.{Entry}
+use Rattle.circuit.specs.declared.circuit_line.Kind.{Kind}
+use Rattle.circuit.specs.declared.circuit_line.Kind.TheVariants.{Input, Output, Spill}
+use Rattle.circuit.specs.declared.circuit_line.Kind.TheVariants.{Gate as GateLine}
+use Rattle.circuit.specs.declared.circuit_line.CircuitLine.{CircuitLine}
 use Rattle.circuit.specs.Gates.{rule_of, defines}
 use Rattle.section_text.specs.Words.{has}
 use Rattle.circuit.specs.Rules.{define, gate_count, is_gate}
@@ -50,7 +50,7 @@ place_position d n = elim (cases_Bool (has d n)) [
 
 -- ---- each wire has a name
 
-wires_line : (names : List (List ℕ)) (n : ℕ) (kind : Kind) (ins outs : List (List ℕ)) (rest : List Entry) →
+wires_line : (names : List (List ℕ)) (n : ℕ) (kind : Kind) (ins outs : List (List ℕ)) (rest : List CircuitLine) →
     FitsKind (record { kind = kind; ins = ins; outs = outs }) →
     ((m : ℕ) → wires_after m (gates_of names rest) + input_count rest ≡ m + length (defined rest)) →
     wires_after n (gate_in names ins outs kind ++ gates_of names rest) + input_count
@@ -89,7 +89,7 @@ wires_line names n Spill ins outs rest fits more =
       more n,
     )
 
-wires_more : (names : List (List ℕ)) (n : ℕ) (before rest : List Entry) → AreGoodAfter before rest →
+wires_more : (names : List (List ℕ)) (n : ℕ) (before rest : List CircuitLine) → AreGoodAfter before rest →
     wires_after n (gates_of names rest) + input_count rest ≡ n + length (defined rest)
 unfolding AreGoodAfter wires_after
 wires_more names n before [] good = refl
@@ -109,18 +109,18 @@ counted_line names (GateLine k) ins outs gates = omega arith
 counted_line names Output ins outs gates = omega arith
 counted_line names Spill ins outs gates = omega arith
 
-pub gates_counted : (names : List (List ℕ)) (entries : List Entry) →
+pub gates_counted : (names : List (List ℕ)) (entries : List CircuitLine) →
     length (gates_of names entries) ≡ gate_count entries
 gates_counted names [] = refl
 gates_counted names (r ∷ entries) =
     let more : gate_count (r ∷ entries) ≡ cond (is_gate r.kind) 1 0 + gate_count entries =
-    sum_by-cons (λ (r : Entry). cond (is_gate r.kind) 1 0) r entries in
+    sum_by-cons (λ (r : CircuitLine). cond (is_gate r.kind) 1 0) r entries in
     counted_line names r.kind r.ins r.outs (gates_of names entries)
     ∙ ap (λ n. cond (is_gate r.kind) 1 0 + n) (gates_counted names entries) ∙ sym more
 
 -- ---- the inputs are the first wires
 
-no_names : (rest : List Entry) → input_count rest ≡ 0 → input_names rest ≡ []
+no_names : (rest : List CircuitLine) → input_count rest ≡ 0 → input_names rest ≡ []
 no_names [] e = refl
 no_names (r ∷ rest) e = elim (cases_Bool (is_input r.kind)) [
   | inl i ↦ absurd (omega (arith, sym (input_cons r rest) ∙ e, ap {B = ℕ} (λ b. cond b 1 0) i))
@@ -128,7 +128,7 @@ no_names (r ∷ rest) e = elim (cases_Bool (is_input r.kind)) [
       ∙ no_names rest (omega (arith, sym (input_cons r rest) ∙ e))
 ]
 
-inputs_line : (before rest : List Entry) (kind : Kind) (ins outs : List (List ℕ)) →
+inputs_line : (before rest : List CircuitLine) (kind : Kind) (ins outs : List (List ℕ)) →
     AreGoodAfter before (record { kind = kind; ins = ins; outs = outs } ∷ rest) →
     take (input_count rest) (defined rest) ≡ input_names rest →
     take (input_count (record { kind = kind; ins = ins; outs = outs } ∷ rest)) (outs ++ defined rest)
@@ -141,9 +141,9 @@ inputs_line before rest Input ins (n ∷ []) good same =
     ap (λ k. take k (n ∷ defined rest)) more ∙ ap (λ (l : List (List ℕ)). n ∷ l) same
 inputs_line before rest Input ins (n ∷ m ∷ outs) good same = absurd (omega (arith, good.0.fits.1))
 inputs_line before rest (GateLine k) ins outs good same =
-    let r : Entry = record { kind = GateLine k; ins = ins; outs = outs } in
+    let r : CircuitLine = record { kind = GateLine k; ins = ins; outs = outs } in
     let here : gate_count (before ++ r ∷ []) ≡ gate_count before + 1 =
-    count_append (λ (r : Entry). is_gate r.kind) before (r ∷ []) in
+    count_append (λ (r : CircuitLine). is_gate r.kind) before (r ∷ []) in
     let none = no_inputs (before ++ r ∷ []) rest good.1 (omega (arith, here)) in
     let zero_inputs : input_count (r ∷ rest) ≡ 0 = input_cons r rest ∙ omega (arith, none) in
     ap (λ k. take k (outs ++ defined rest)) zero_inputs ∙ sym (no_names rest none)
@@ -158,7 +158,7 @@ inputs_line before rest Spill ins [] good same =
     ap (λ k. take k (defined rest)) less ∙ same
 inputs_line before rest Spill ins (n ∷ outs) good same = absurd (omega (arith, good.0.fits.1))
 
-inputs_lead : (before rest : List Entry) → AreGoodAfter before rest →
+inputs_lead : (before rest : List CircuitLine) → AreGoodAfter before rest →
     take (input_count rest) (defined rest) ≡ input_names rest
 unfolding AreGoodAfter
 inputs_lead before [] good = refl
@@ -211,15 +211,15 @@ own_all d (n ∷ ns) own h =
     let first = define_first d n ns h in
     subst AreOwn (append_assoc d (n ∷ []) ns) (own_all (d ++ n ∷ []) ns (own_push d n own first.0) first.1)
 
-own_good : (before rest : List Entry) → AreGoodAfter before rest → AreOwn (defined before) →
+own_good : (before rest : List CircuitLine) → AreGoodAfter before rest → AreOwn (defined before) →
     AreOwn (defined (before ++ rest))
 unfolding AreGoodAfter
-own_good before [] good own = subst (λ (l : List Entry). AreOwn (defined l)) (sym (append-nil before)) own
+own_good before [] good own = subst (λ (l : List CircuitLine). AreOwn (defined l)) (sym (append-nil before)) own
 own_good before (r ∷ rest) good own =
     let pass = names_pass before r good.0.adds in
     let here : AreOwn (defined (before ++ r ∷ [])) =
     subst AreOwn (sym (defined_push before r)) (own_all (defined before) r.outs own pass.1) in
-    subst (λ (l : List Entry). AreOwn (defined l)) (push_cons before r rest)
+    subst (λ (l : List CircuitLine). AreOwn (defined l)) (push_cons before r rest)
     (own_good (before ++ r ∷ []) rest good.1 here)
 
 pub names_are_own : NamesAreOwn

@@ -1,20 +1,20 @@
 -- The first test that a line fails, from the tests of its order and of its names.
 use Rattle.std.proofs.Common.{◌≡◌, ℕ, ◌<◌, ◌≤◌, List, [], ◌∷◌, ◌++◌, Option, Some, refl}
 use Rattle.std.proofs.lemmas.Bool.{lt-ltb, le-ltb}
-use Rattle.circuit.specs.declared.entry.Entry.{Entry}
+use Rattle.circuit.specs.declared.circuit_line.CircuitLine.{CircuitLine}
 use Rattle.section_text.specs.Codes.{or_else}
 use Rattle.circuit.specs.Entries.{rank_of}
 use Rattle.circuit.specs.Rules.{order_fault, add_fault, last_rank}
 
-pub out_of_order : (entries : List Entry) (r : Entry) → rank_of r.kind < last_rank entries →
+pub out_of_order : (entries : List CircuitLine) (r : CircuitLine) → rank_of r.kind < last_rank entries →
     or_else (order_fault entries r) (add_fault entries r) ≡ Some 6
 out_of_order entries r h = rw (lt-ltb _ _ h) refl
 
-pub in_order : (entries : List Entry) (r : Entry) (code : Option ℕ) → last_rank entries ≤ rank_of r.kind →
+pub in_order : (entries : List CircuitLine) (r : CircuitLine) (code : Option ℕ) → last_rank entries ≤ rank_of r.kind →
     add_fault entries r ≡ code → or_else (order_fault entries r) (add_fault entries r) ≡ code
 in_order entries r code h e = rw (le-ltb _ _ h) e
 
-pub last_rank_push : (entries : List Entry) (r : Entry) → last_rank (entries ++ r ∷ []) ≡ rank_of r.kind
+pub last_rank_push : (entries : List CircuitLine) (r : CircuitLine) → last_rank (entries ++ r ∷ []) ≡ rank_of r.kind
 last_rank_push [] r = refl
 last_rank_push (a ∷ []) r = refl
 last_rank_push (a ∷ b ∷ entries) r = last_rank_push (b ∷ entries) r

@@ -9,11 +9,12 @@ use Rattle.section_text.specs.Words.{◌>>=◌, words_of, is_word_at, name_at, n
 use Rattle.section_text.specs.Section.{ended_line}
 use Rattle.section_text.specs.declared.section.Form.TheVariants.{Header, Item, End}
 use Rattle.section_text.proofs.WordPlaces.{is_at_is, name_at_is, names_at_are, assembled, line_from_words}
-use Rattle.circuit.specs.declared.entry.GateKind.{GateKind}
-use Rattle.circuit.specs.declared.entry.GateKind.TheVariants.{Source, Fredkin, Cswap, Interact, Switch, Delay, Unswitch}
-use Rattle.circuit.specs.declared.entry.GateKind.TheVariants.{Uninteract}
-use Rattle.circuit.specs.declared.entry.Kind.TheVariants.{Input, Gate, Output, Spill}
-use Rattle.circuit.specs.declared.entry.Entry.{Entry}
+use Rattle.circuit.specs.declared.circuit_line.GateKind.{GateKind}
+use Rattle.circuit.specs.declared.circuit_line.GateKind.TheVariants.{Source, Fredkin, Cswap, Interact, Switch, Delay}
+use Rattle.circuit.specs.declared.circuit_line.GateKind.TheVariants.{Unswitch}
+use Rattle.circuit.specs.declared.circuit_line.GateKind.TheVariants.{Uninteract}
+use Rattle.circuit.specs.declared.circuit_line.Kind.TheVariants.{Input, Gate, Output, Spill}
+use Rattle.circuit.specs.declared.circuit_line.CircuitLine.{CircuitLine}
 use Rattle.circuit.specs.Entries.{entry}
 use Rattle.circuit.specs.Gates.{rule_of, uses, defines}
 use Rattle.section_text.proofs.Spellings.{chosen, passed, one_word, two_words, number_at_spelled}
@@ -113,7 +114,7 @@ head_spelled ws kind e =
     ]
 
 -- a gate's entry
-gate_spelled : (ws : List (List ℕ)) (r : Entry) → gate_entry ws ≡ Some r → ws ≡ first_word r.kind ∷ more_words r
+gate_spelled : (ws : List (List ℕ)) (r : CircuitLine) → gate_entry ws ≡ Some r → ws ≡ first_word r.kind ∷ more_words r
 unfolding gate_entry gate_names first_word more_words
 gate_spelled ws r e =
     option_and_then_some (λ kind.
@@ -133,7 +134,7 @@ gate_spelled ws r e =
     let whole = assembled ws (gate_word kind ∷ gate_number kind) ins outs (codes "->") (words_before kind)
     (uses (rule_of kind)) (defines (rule_of kind)) (head_spelled ws kind known) (names_at_are ws _ _ ins some_ins)
     (is_at_is ws _ (codes "->") arrow.0) (names_at_are ws _ _ outs some_outs) (eqb-true _ _ count.0) in
-    subst (λ (x : Entry). ws ≡ first_word x.kind ∷ words_by x.ins x.outs x.kind)
+    subst (λ (x : CircuitLine). ws ≡ first_word x.kind ∷ words_by x.ins x.outs x.kind)
     (same_Some (entry (Gate kind) ins outs) r made) whole)))
 
 abbrev SpelledAs : List (List ℕ) → Line → Type 0

@@ -3,10 +3,10 @@ use Rattle.std.specs.Prelude.{◌≡◌, ℕ, ◌<◌, Bool, true, false, if◌t
 use Rattle.std.specs.Prelude.{Some, ⊤, slice_get, slice_index_or}
 use Rattle.std.specs.List.{flat_map, count_by}
 use Rattle.circuit.specs.Entries.{defined}
-use Rattle.circuit.specs.declared.entry.Kind.{Kind}
-use Rattle.circuit.specs.declared.entry.Kind.TheVariants.{Input, Output, Spill}
-use Rattle.circuit.specs.declared.entry.Kind.TheVariants.{Gate as GateLine}
-use Rattle.circuit.specs.declared.entry.Entry.{Entry}
+use Rattle.circuit.specs.declared.circuit_line.Kind.{Kind}
+use Rattle.circuit.specs.declared.circuit_line.Kind.TheVariants.{Input, Output, Spill}
+use Rattle.circuit.specs.declared.circuit_line.Kind.TheVariants.{Gate as GateLine}
+use Rattle.circuit.specs.declared.circuit_line.CircuitLine.{CircuitLine}
 use Rattle.circuit.specs.declared.netlist.ValuesFault.{ValuesFault}
 use Rattle.circuit.specs.declared.netlist.ValuesFault.TheVariants.{OutOfDomain, Memory}
 use Rattle.circuit.specs.Gates.{row, rule_of, uses, defines}
@@ -21,7 +21,7 @@ is_input Output = false
 is_input Spill = false
 
 -- how many inputs there are
-abbrev pub input_count : List Entry → ℕ
+abbrev pub input_count : List CircuitLine → ℕ
 input_count entries = count_by (λ r. is_input r.kind) entries
 
 -- the gate of a line, if the wires have these names
@@ -33,19 +33,19 @@ gate_in names ins outs Output = []
 gate_in names ins outs Spill = []
 
 -- the gates of lines, over the numbers of names
-abbrev pub gates_of : List (List ℕ) → List Entry → List Gate
+abbrev pub gates_of : List (List ℕ) → List CircuitLine → List Gate
 gates_of names entries = flat_map (λ r. gate_in names r.ins r.outs r.kind) entries
 
 -- the gates of a circuit, over its inputs
-abbrev pub netlist_of : List Entry → Netlist
+abbrev pub netlist_of : List CircuitLine → Netlist
 netlist_of entries = record { given = input_count entries; gates = gates_of (defined entries) entries }
 
 -- the circuit of lines
-abbrev pub circuit_of : List Entry → Circuit
+abbrev pub circuit_of : List CircuitLine → Circuit
 circuit_of entries = record { netlist = netlist_of entries; names = defined entries }
 
 -- the names of the inputs, in the order of their lines
-abbrev pub input_names : List Entry → List (List ℕ)
+abbrev pub input_names : List CircuitLine → List (List ℕ)
 input_names entries = flat_map (λ r. if is_input r.kind then r.outs else []) entries
 
 -- the names of the outputs, in the order of their lines
@@ -56,7 +56,7 @@ is_output Output = true
 is_output Spill = false
 
 -- the names of the outputs, in the order of their lines
-abbrev pub output_names : List Entry → List (List ℕ)
+abbrev pub output_names : List CircuitLine → List (List ℕ)
 output_names entries = flat_map (λ r. if is_output r.kind then r.ins else []) entries
 
 -- ---- which lines make a circuit
@@ -75,26 +75,26 @@ kind_outs Output = 0
 kind_outs Spill = 0
 
 -- the line has as many names as its kind
-abbrev pub FitsKind : Entry → Type 0
+abbrev pub FitsKind : CircuitLine → Type 0
 FitsKind r = (length r.ins ≡ kind_ins r.kind) × (length r.outs ≡ kind_outs r.kind)
 
 -- no input comes after a gate
-abbrev pub InputsFirst : List Entry → Entry → Type 0
+abbrev pub InputsFirst : List CircuitLine → CircuitLine → Type 0
 InputsFirst before r = is_input r.kind ≡ true → gate_count before ≡ 0
 
 -- the line is good after those before it
-pub record IsGoodAfter (before : List Entry) (r : Entry) : Type 0 where
+pub record IsGoodAfter (before : List CircuitLine) (r : CircuitLine) : Type 0 where
   pub adds : add_fault before r ≡ None
   pub fits : FitsKind r
   pub inputs_first : InputsFirst before r
 
 -- each line is good after those before it
-unfoldable pub AreGoodAfter : List Entry → List Entry → Type 0
+unfoldable pub AreGoodAfter : List CircuitLine → List CircuitLine → Type 0
 AreGoodAfter before [] = ⊤
 AreGoodAfter before (r ∷ rest) = IsGoodAfter before r × AreGoodAfter (before ++ r ∷ []) rest
 
 -- each line is good after those before it
-abbrev pub AreGood : List Entry → Type 0
+abbrev pub AreGood : List CircuitLine → Type 0
 AreGood entries = AreGoodAfter [] entries
 
 -- the values of wires that are listed, and false for all others

@@ -1,14 +1,14 @@
 -- The fields of a circuit, and its view: the lines.
 use Rattle.std.specs.Prelude.{◌≡◌, ◌≤◌, List, None, length, map}
 use Rattle.circuit.specs.Entries.{defined}
-use Rattle.circuit.specs.declared.entry.Entry.{Entry}
+use Rattle.circuit.specs.declared.circuit_line.CircuitLine.{CircuitLine}
 use Rattle.circuit.specs.declared.netlist.Circuit.TheInside.{Inside}
 use Rattle.circuit.specs.Rules.{consumed, gate_count, unused}
 use Rattle.circuit.specs.Bridge.{AreGood, gates_of}
 use Rattle.circuit.specs.Wiring.{gate_of}
 
 -- the lines of a circuit, from its fields
-abbrev pub circuit_entries : Inside → List Entry
+abbrev pub circuit_entries : Inside → List CircuitLine
 circuit_entries a = a.entries.items
 
 -- the fields of every circuit: good lines, of which each wire is consumed, within the limits

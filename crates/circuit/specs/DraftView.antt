@@ -1,14 +1,14 @@
 -- The fields of a draft, and its view: the lines.
 use Rattle.std.specs.Prelude.{◌≡◌, ◌≤◌, List, length, map}
 use Rattle.circuit.specs.Entries.{defined}
-use Rattle.circuit.specs.declared.entry.Entry.{Entry}
+use Rattle.circuit.specs.declared.circuit_line.CircuitLine.{CircuitLine}
 use Rattle.circuit.specs.declared.draft.Draft.TheInside.{Inside}
 use Rattle.circuit.specs.Rules.{consumed, gate_count}
 use Rattle.circuit.specs.Bridge.{AreGood, gates_of}
 use Rattle.circuit.specs.Wiring.{gate_of}
 
 -- the lines of a draft, from its fields
-abbrev pub draft_entries : Inside → List Entry
+abbrev pub draft_entries : Inside → List CircuitLine
 draft_entries a = a.entries.items
 
 -- the fields of every draft: good lines within the limits, with the names that they define and consume

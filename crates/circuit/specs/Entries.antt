@@ -1,9 +1,9 @@
 -- The lines of a circuit.
 use Rattle.std.specs.Prelude.{ℕ, List}
 use Rattle.std.specs.List.{flat_map}
-use Rattle.circuit.specs.declared.entry.Kind.{Kind}
-use Rattle.circuit.specs.declared.entry.Kind.TheVariants.{Input, Gate, Output, Spill}
-use Rattle.circuit.specs.declared.entry.Entry.{Entry}
+use Rattle.circuit.specs.declared.circuit_line.Kind.{Kind}
+use Rattle.circuit.specs.declared.circuit_line.Kind.TheVariants.{Input, Gate, Output, Spill}
+use Rattle.circuit.specs.declared.circuit_line.CircuitLine.{CircuitLine}
 
 -- the order of the kinds of line
 abbrev pub rank_of : Kind → ℕ
@@ -13,9 +13,9 @@ rank_of Output = 2
 rank_of Spill = 3
 
 -- a line of this kind, with the wires that it consumes and those that it defines
-abbrev pub entry : Kind → List (List ℕ) → List (List ℕ) → Entry
+abbrev pub entry : Kind → List (List ℕ) → List (List ℕ) → CircuitLine
 entry kind ins outs = record { kind = kind; ins = ins; outs = outs }
 
 -- the wires that lines define, in order
-abbrev pub defined : List Entry → List (List ℕ)
+abbrev pub defined : List CircuitLine → List (List ℕ)
 defined entries = flat_map (λ r. r.outs) entries

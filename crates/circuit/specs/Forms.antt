@@ -4,11 +4,12 @@ use Rattle.std.specs.Prelude.{if◌then◌else◌}
 use Rattle.section_text.specs.Words.{◌>>=◌, is_word_at, names_at, number_at, lone, lone_name}
 use Rattle.section_text.specs.declared.section.Form.{Form}
 use Rattle.section_text.specs.declared.section.Form.TheVariants.{Header, Item, End}
-use Rattle.circuit.specs.declared.entry.GateKind.{GateKind}
-use Rattle.circuit.specs.declared.entry.GateKind.TheVariants.{Source, Fredkin, Cswap, Interact, Switch, Delay, Unswitch}
-use Rattle.circuit.specs.declared.entry.GateKind.TheVariants.{Uninteract}
-use Rattle.circuit.specs.declared.entry.Kind.TheVariants.{Input, Gate, Output, Spill}
-use Rattle.circuit.specs.declared.entry.Entry.{Entry}
+use Rattle.circuit.specs.declared.circuit_line.GateKind.{GateKind}
+use Rattle.circuit.specs.declared.circuit_line.GateKind.TheVariants.{Source, Fredkin, Cswap, Interact, Switch, Delay}
+use Rattle.circuit.specs.declared.circuit_line.GateKind.TheVariants.{Unswitch}
+use Rattle.circuit.specs.declared.circuit_line.GateKind.TheVariants.{Uninteract}
+use Rattle.circuit.specs.declared.circuit_line.Kind.TheVariants.{Input, Gate, Output, Spill}
+use Rattle.circuit.specs.declared.circuit_line.CircuitLine.{CircuitLine}
 use Rattle.circuit.specs.Entries.{entry}
 use Rattle.circuit.specs.Gates.{rule_of, uses, defines}
 
@@ -42,14 +43,14 @@ words_before Unswitch = 1
 words_before Uninteract = 1
 
 -- the gate line of this kind by its words
-unfoldable pub gate_names : List (List ℕ) → GateKind → Option Entry
+unfoldable pub gate_names : List (List ℕ) → GateKind → Option CircuitLine
 gate_names ws kind = do
   ins ← names_at ws (words_before kind) (uses (rule_of kind))
   outs ← names_at ws (words_before kind + uses (rule_of kind) + 1) (defines (rule_of kind))
   Some (entry (Gate kind) ins outs)
 
 -- a gate: its kind, the names that it consumes, an arrow, the names that it defines
-unfoldable pub gate_entry : List (List ℕ) → Option Entry
+unfoldable pub gate_entry : List (List ℕ) → Option CircuitLine
 gate_entry ws = do
   kind ← gate_kind ws
   if length ws == words_before kind + uses (rule_of kind) + 1 + defines (rule_of kind) then
@@ -58,7 +59,7 @@ gate_entry ws = do
 
 -- a line of the circuit section: its header has no content
 abbrev pub Line : Type 0
-Line = Form (Unit {0}) Entry
+Line = Form (Unit {0}) CircuitLine
 
 -- the form of a line by its words, if it has one
 unfoldable pub form_of : List (List ℕ) → Option Line

@@ -1,7 +1,7 @@
 -- The gates of conservative logic (Fredkin and Toffoli 1982), and the inverses of two of them.
 use Rattle.std.specs.Prelude.{ℕ, ◌&&◌, ◌||◌, Bool, true, false, not, if◌then◌else◌, List, [], ◌∷◌, Option, Some, None}
-use Rattle.circuit.specs.declared.entry.GateKind.{GateKind}
-use Rattle.circuit.specs.declared.entry.GateKind.TheVariants as Kept
+use Rattle.circuit.specs.declared.circuit_line.GateKind.{GateKind}
+use Rattle.circuit.specs.declared.circuit_line.GateKind.TheVariants as Kept
 
 -- what a gate does: a source has its bit, a delay its number
 pub data Rule : Type 0 where

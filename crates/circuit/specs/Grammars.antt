@@ -2,7 +2,7 @@
 use Rattle.std.specs.Prelude.{ℕ, List, Option, Some, None}
 use Rattle.circuit.specs.Entries.{defined}
 use Rattle.section_text.specs.Section.{Grammar}
-use Rattle.circuit.specs.declared.entry.Entry.{Entry}
+use Rattle.circuit.specs.declared.circuit_line.CircuitLine.{CircuitLine}
 use Rattle.section_text.specs.Codes.{or_else, something_missing}
 use Rattle.circuit.specs.Forms.{form_of}
 use Rattle.circuit.specs.Rules.{order_fault, add_fault, unused, consumed}
@@ -13,7 +13,7 @@ missing_code None = None
 missing_code (Some n) = Some something_missing
 
 -- the grammar of the circuit section
-abbrev pub circuit_grammar : Grammar (Unit {0}) Entry
+abbrev pub circuit_grammar : Grammar (Unit {0}) CircuitLine
 circuit_grammar = record {
   form = form_of;
   header_fault = λ h. None;
@@ -22,5 +22,5 @@ circuit_grammar = record {
 }
 
 -- what the section of a circuit gives
-abbrev pub circuit_value : List Entry → Unit {0} × List Entry
+abbrev pub circuit_value : List CircuitLine → Unit {0} × List CircuitLine
 circuit_value entries = (tt, entries)

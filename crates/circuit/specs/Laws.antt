@@ -5,7 +5,7 @@ use Rattle.circuit.specs.Gates.{Rule, Source, Switch, Unswitch, Interact, Uninte
 use Rattle.std.specs.List.{count_by, flat_map, range_with_len}
 use Rattle.circuit.specs.Entries.{defined}
 use Rattle.section_text.specs.Section.{section_of, ended_line}
-use Rattle.circuit.specs.declared.entry.Entry.{Entry}
+use Rattle.circuit.specs.declared.circuit_line.CircuitLine.{CircuitLine}
 use Rattle.circuit.specs.Grammars.{circuit_grammar}
 use Rattle.circuit.specs.Text.{circuit_text}
 use Rattle.circuit.specs.Meaning.{Netlist, Valuation, Satisfies, AreOrdered, AreForward, IsUndefined, wires, wire_of}
@@ -14,19 +14,19 @@ use Rattle.circuit.specs.Bridge.{circuit_of}
 
 -- the text of a circuit that is read is the text of the lines that it is read from
 abbrev pub PrintsWhatIsRead : Type 0
-PrintsWhatIsRead = (n : ℕ) (ls : List (List ℕ)) (entries : List Entry) →
+PrintsWhatIsRead = (n : ℕ) (ls : List (List ℕ)) (entries : List CircuitLine) →
     section_of circuit_grammar n ls ≡ Ok (tt, entries) →
     flat_map ended_line (take (length entries + 2) ls) ≡ circuit_text entries
 
 -- and it is read as the same circuit again, wherever it is
 abbrev pub ReadsWhatIsPrinted : Type 0
-ReadsWhatIsPrinted = (text : List ℕ) (from n m : ℕ) (entries : List Entry) →
+ReadsWhatIsPrinted = (text : List ℕ) (from n m : ℕ) (entries : List CircuitLine) →
     section_of circuit_grammar n (drop from (lines_of text)) ≡ Ok (tt, entries) →
     section_of circuit_grammar m (lines_of (circuit_text entries)) ≡ Ok (tt, entries)
 
 -- the gates of a good list of lines are ordered
 abbrev pub GatesAreOrdered : Type 0
-GatesAreOrdered = (entries : List Entry) → AreGood entries →
+GatesAreOrdered = (entries : List CircuitLine) → AreGood entries →
     AreOrdered (input_count entries) (gates_of (defined entries) entries)
 
 -- ordered gates have a valuation if none of them is undefined
@@ -61,7 +61,8 @@ HasAtMostOneValuation = (n : Netlist) (a u v : Valuation) → AreOrdered n.given
 
 -- a circuit of good lines without inverse gates has one valuation, whatever its inputs are
 abbrev pub HasOneValuation : Type 0
-HasOneValuation = (entries : List Entry) (a : Valuation) → AreGood entries → AreForward (netlist_of entries).gates →
+HasOneValuation = (entries : List CircuitLine) (a : Valuation) → AreGood entries →
+    AreForward (netlist_of entries).gates →
     (v : Valuation) × Satisfies (netlist_of entries) a v
     × ((u : Valuation) → Satisfies (netlist_of entries) a u → (w : ℕ) → w < wires (netlist_of entries) → u w ≡ v w)
 
@@ -72,16 +73,16 @@ ListsValues = (n : Netlist) (a v : Valuation) (vs : List Bool) → AreValues n a
 
 -- the wires of a circuit have names of their own: the wire of the name of a wire is that wire
 abbrev pub NamesAreOwn : Type 0
-NamesAreOwn = (entries : List Entry) (w : ℕ) (name : List ℕ) → AreGood entries →
+NamesAreOwn = (entries : List CircuitLine) (w : ℕ) (name : List ℕ) → AreGood entries →
     slice_get (defined entries) w ≡ Some name → wire_of (circuit_of entries) name ≡ Some w
 
 -- each wire has a name
 abbrev pub WiresAreNamed : Type 0
-WiresAreNamed = (entries : List Entry) → AreGood entries → length (defined entries) ≡ wires (netlist_of entries)
+WiresAreNamed = (entries : List CircuitLine) → AreGood entries → length (defined entries) ≡ wires (netlist_of entries)
 
 -- the inputs are the first wires
 abbrev pub InputsAreFirst : Type 0
-InputsAreFirst = (entries : List Entry) → AreGood entries →
+InputsAreFirst = (entries : List CircuitLine) → AreGood entries →
     take (input_count entries) (defined entries) ≡ input_names entries
 
 -- how many of the bits are true

@@ -2,18 +2,19 @@
 use Rattle.std.specs.Prelude.{ℕ, ◌+◌, Bool, true, false, ◌&&◌, ◌||◌, List, [], ◌∷◌, ◌++◌, length, Option, Some, None}
 use Rattle.std.specs.Prelude.{nat_lt, nat_le, ◌==◌, if◌then◌else◌}
 use Rattle.std.specs.List.{flat_map, count_by}
-use Rattle.circuit.specs.declared.entry.GateKind.TheVariants.{Source, Fredkin, Cswap, Interact, Switch, Delay, Unswitch}
-use Rattle.circuit.specs.declared.entry.GateKind.TheVariants.{Uninteract}
-use Rattle.circuit.specs.declared.entry.Kind.{Kind}
-use Rattle.circuit.specs.declared.entry.Kind.TheVariants.{Input, Gate, Output, Spill}
-use Rattle.circuit.specs.declared.entry.Entry.{Entry}
+use Rattle.circuit.specs.declared.circuit_line.GateKind.TheVariants.{Source, Fredkin, Cswap, Interact, Switch, Delay}
+use Rattle.circuit.specs.declared.circuit_line.GateKind.TheVariants.{Unswitch}
+use Rattle.circuit.specs.declared.circuit_line.GateKind.TheVariants.{Uninteract}
+use Rattle.circuit.specs.declared.circuit_line.Kind.{Kind}
+use Rattle.circuit.specs.declared.circuit_line.Kind.TheVariants.{Input, Gate, Output, Spill}
+use Rattle.circuit.specs.declared.circuit_line.CircuitLine.{CircuitLine}
 use Rattle.section_text.specs.Words.{has}
 use Rattle.section_text.specs.Codes.{code_where, consumed_twice, defined_twice, or_else, out_of_order, past_limit}
 use Rattle.section_text.specs.Codes.{unknown_name}
 use Rattle.circuit.specs.Entries.{defined, rank_of}
 
 -- the wires that lines consume, in order
-abbrev pub consumed : List Entry → List (List ℕ)
+abbrev pub consumed : List CircuitLine → List (List ℕ)
 consumed entries = flat_map (λ r. r.ins) entries
 
 -- whether the line is a gate
@@ -24,7 +25,7 @@ is_gate Output = false
 is_gate Spill = false
 
 -- how many gates there are, sources among them
-abbrev pub gate_count : List Entry → ℕ
+abbrev pub gate_count : List CircuitLine → ℕ
 gate_count entries = count_by (λ r. is_gate r.kind) entries
 
 -- ---- codes 3, 4 and 5, from left to right; a line's own names count as they are passed
@@ -41,7 +42,7 @@ define d [] = None
 define d (n ∷ ns) = if has d n then Some defined_twice else define (d ++ n ∷ []) ns
 
 -- the code of the first wire that the line may not consume, else of the first that it may not define
-abbrev pub name_fault : List Entry → Entry → Option ℕ
+abbrev pub name_fault : List CircuitLine → CircuitLine → Option ℕ
 name_fault entries r = or_else (consume (defined entries) (consumed entries) r.ins) (define (defined entries) r.outs)
 
 -- ---- code 2
@@ -61,28 +62,28 @@ is_wrong_delay Output = false
 is_wrong_delay Spill = false
 
 -- whether a delay, the count of wires or the count of gates is outside its limits
-abbrev pub passes_limit : List Entry → Entry → Bool
+abbrev pub passes_limit : List CircuitLine → CircuitLine → Bool
 passes_limit entries r = is_wrong_delay r.kind
     || (nat_lt 4096 (length (defined entries) + length r.outs) || (is_gate r.kind && nat_le 1024 (gate_count entries)))
 
 -- the code of a line outside the limits
-abbrev pub limit_fault : List Entry → Entry → Option ℕ
+abbrev pub limit_fault : List CircuitLine → CircuitLine → Option ℕ
 limit_fault entries r = code_where (passes_limit entries r) past_limit
 
 -- the first of codes 2 to 5
-unfoldable pub add_fault : List Entry → Entry → Option ℕ
+unfoldable pub add_fault : List CircuitLine → CircuitLine → Option ℕ
 add_fault entries r = or_else (limit_fault entries r) (name_fault entries r)
 
 -- ---- codes 6 and 11
 
 -- the rank of the last line, or 0
-abbrev pub last_rank : List Entry → ℕ
+abbrev pub last_rank : List CircuitLine → ℕ
 last_rank [] = 0
 last_rank (r ∷ []) = rank_of r.kind
 last_rank (r ∷ s ∷ entries) = last_rank (s ∷ entries)
 
 -- the code of a line of an earlier kind than the last one
-abbrev pub order_fault : List Entry → Entry → Option ℕ
+abbrev pub order_fault : List CircuitLine → CircuitLine → Option ℕ
 order_fault entries r = code_where (nat_lt (rank_of r.kind) (last_rank entries)) out_of_order
 
 -- the first wire that nobody consumes

@@ -2,12 +2,13 @@
 use Rattle.std.specs.Prelude.{ℕ, Bool, true, false, List, [], ◌∷◌, ◌++◌, codes}
 use Rattle.std.specs.List.{flat_map}
 use Rattle.std.specs.Fmt.{decimal}
-use Rattle.circuit.specs.declared.entry.GateKind.{GateKind}
-use Rattle.circuit.specs.declared.entry.GateKind.TheVariants.{Source, Fredkin, Cswap, Interact, Switch, Delay, Unswitch}
-use Rattle.circuit.specs.declared.entry.GateKind.TheVariants.{Uninteract}
-use Rattle.circuit.specs.declared.entry.Kind.{Kind}
-use Rattle.circuit.specs.declared.entry.Kind.TheVariants.{Input, Gate, Output, Spill}
-use Rattle.circuit.specs.declared.entry.Entry.{Entry}
+use Rattle.circuit.specs.declared.circuit_line.GateKind.{GateKind}
+use Rattle.circuit.specs.declared.circuit_line.GateKind.TheVariants.{Source, Fredkin, Cswap, Interact, Switch, Delay}
+use Rattle.circuit.specs.declared.circuit_line.GateKind.TheVariants.{Unswitch}
+use Rattle.circuit.specs.declared.circuit_line.GateKind.TheVariants.{Uninteract}
+use Rattle.circuit.specs.declared.circuit_line.Kind.{Kind}
+use Rattle.circuit.specs.declared.circuit_line.Kind.TheVariants.{Input, Gate, Output, Spill}
+use Rattle.circuit.specs.declared.circuit_line.CircuitLine.{CircuitLine}
 use Rattle.section_text.specs.declared.section.Form.TheVariants.{Header, Item, End}
 use Rattle.section_text.specs.Spelling.{line_text}
 use Rattle.circuit.specs.Forms.{Line}
@@ -54,15 +55,15 @@ words_by ins outs Output = ins
 words_by ins outs Spill = ins
 
 -- the words of a line behind the first
-unfoldable pub more_words : Entry → List (List ℕ)
+unfoldable pub more_words : CircuitLine → List (List ℕ)
 more_words r = words_by r.ins r.outs r.kind
 
 -- the line of an entry
-unfoldable pub entry_text : Entry → List ℕ
+unfoldable pub entry_text : CircuitLine → List ℕ
 entry_text r = line_text (first_word r.kind) (more_words r)
 
 -- the text of a circuit, from its header line to its `end` line
-unfoldable pub circuit_text : List Entry → List ℕ
+unfoldable pub circuit_text : List CircuitLine → List ℕ
 circuit_text entries = line_text (codes "circuit") [] ++ flat_map entry_text entries ++ line_text (codes "end") []
 
 -- the text of a line, by its form

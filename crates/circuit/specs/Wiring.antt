@@ -1,9 +1,9 @@
 -- The gates as the code keeps them.
 use Rattle.std.specs.Prelude.{ℕ, List, [], ◌∷◌, take}
 use Rattle.std.specs.List.{range_with_len}
-use Rattle.circuit.specs.declared.entry.Kind.{Kind}
-use Rattle.circuit.specs.declared.entry.Kind.TheVariants.{Input, Output, Spill}
-use Rattle.circuit.specs.declared.entry.Kind.TheVariants.{Gate as GateLine}
+use Rattle.circuit.specs.declared.circuit_line.Kind.{Kind}
+use Rattle.circuit.specs.declared.circuit_line.Kind.TheVariants.{Input, Output, Spill}
+use Rattle.circuit.specs.declared.circuit_line.Kind.TheVariants.{Gate as GateLine}
 use Rattle.circuit.specs.declared.wiring.GateWires.{GateWires}
 use Rattle.circuit.specs.Gates.{rule_of, uses, defines}
 use Rattle.circuit.specs.Meaning.{Gate}

@@ -2,15 +2,15 @@
 ghost use Rattle.std.specs.Prelude.{◌≡◌, ◌==◌, ◌+◌, ◌-◌, true, [], ◌∷◌, ◌++◌, ◌≤◌, map, length, Option, None, Some, OnOk, OnErr, IfOk, IfErr};
 ghost use Rattle.circuit.specs.Entries.{entry, defined};
 ghost use Rattle.circuit.specs.Gates.{rule_of, uses, defines};
-ghost use Rattle.circuit.specs.declared.entry.Kind.TheVariants.{Input, Gate, Output, Spill};
-ghost use Rattle.circuit.specs.declared.entry.GateKind.TheVariants.{Source};
+ghost use Rattle.circuit.specs.declared.circuit_line.Kind.TheVariants.{Input, Gate, Output, Spill};
+ghost use Rattle.circuit.specs.declared.circuit_line.GateKind.TheVariants.{Source};
 ghost use Rattle.circuit.specs.Rules.{add_fault, passes_limit, is_wrong_delay, is_gate, gate_count, consumed, consume, define, unused};
 ghost use Rattle.circuit.specs.Wiring.{gate_of, gate_at};
 ghost use Rattle.section_text.specs.Codes.{or_else};
 ghost use Rattle.section_text.specs.Adding.{FaultIs};
 ghost use Rattle.circuit.specs.Bridge.{FitsKind, InputsFirst};
 
-use crate::entry::{Entry, GateKind, Kind};
+use crate::circuit_line::{CircuitLine, GateKind, Kind};
 use crate::netlist::Circuit;
 use crate::number::WireNo;
 use crate::sets::{consume_all, define_all};
@@ -21,26 +21,26 @@ use std::alloc::{AllocError, Global};
 use std::marker::Model;
 
 // The most wires of a circuit.
-const WIRES: usize = 4096;
+const MAX_WIRES: usize = 4096;
 
 // The most gates of a circuit.
-const GATES: usize = 1024;
+const MAX_GATES: usize = 1024;
 
 /// A circuit to which lines are added: inputs, then gates, outputs and spills. Contracts see the lines so far.
 #[derive(Drop)]
 pub struct Draft {
     wires: IndexSet<Name, Seed>,
     consumed: IndexSet<Name, Seed>,
-    entries: Vec<Entry>,
+    entries: Vec<CircuitLine>,
     wired: Vec<GateWires>,
     gates: usize,
 }
 
 impl Model for Draft {
     ghost use Rattle.std.specs.Prelude.{List};
-    ghost use Rattle.circuit.specs.declared.entry.Entry.{Entry};
+    ghost use Rattle.circuit.specs.declared.circuit_line.CircuitLine.{CircuitLine};
 
-    ghost Value = { List Entry };
+    ghost Value = { List CircuitLine };
 
     ghost use Rattle.circuit.specs.DraftView.{draft_entries, IsDraft};
 
@@ -90,7 +90,7 @@ fn first_unused(wires: &[Name], consumed: &IndexSet<Name, Seed>) -> Option<Name>
 fn take_names(
     wires: &mut IndexSet<Name, Seed>,
     consumed: &mut IndexSet<Name, Seed>,
-    entry: &Entry,
+    entry: &CircuitLine,
 ) -> Result<(), LineFault>
     ensures ins { OnOk result ((consume wires.old.keys consumed.old.keys entry.now.ins ≡ None)
         × (consumed.new.keys ≡ consumed.old.keys ++ entry.now.ins)) }
@@ -113,9 +113,9 @@ fn take_names(
 
 // Keeps a line and its gate. An error changes nothing.
 fn keep_line(
-    entries: &mut Vec<Entry>,
+    entries: &mut Vec<CircuitLine>,
     wired: &mut Vec<GateWires>,
-    entry: Entry,
+    entry: CircuitLine,
     ins: [WireNo; 4],
     first: u16,
 ) -> Result<(), AllocError>
@@ -157,17 +157,17 @@ impl Draft {
     }
 
     // Whether the line would pass a limit.
-    fn passes(&self, entry: &Entry) -> bool
+    fn passes(&self, entry: &CircuitLine) -> bool
         ensures { result ≡ passes_limit self.now entry.now }
     {
         is_wrong(entry.kind)
-            || self.wires.len() + entry.outs.as_slice().len() > WIRES
-            || (is_gate_kind(entry.kind) && self.gates >= GATES)
+            || self.wires.len() + entry.outs.as_slice().len() > MAX_WIRES
+            || (is_gate_kind(entry.kind) && self.gates >= MAX_GATES)
     }
 
     // Adds a line, whatever the kinds of the lines before it. A fault changes nothing.
     #[tactic(auto, unfolding(crate::specs::Rules::add_fault))]
-    pub(crate) fn add(&mut self, entry: Entry) -> Result<(), LineFault>
+    pub(crate) fn add(&mut self, entry: CircuitLine) -> Result<(), LineFault>
         requires fits { FitsKind entry }
         requires inputs_first { InputsFirst self.old entry }
         ensures ok { OnOk result ((add_fault self.old entry ≡ None)
@@ -217,7 +217,7 @@ impl Draft {
         ensures fault { IfErr result (λ e. FaultIs e
             (add_fault self.old (entry Input [] (name ∷ [])))) }
     {
-        self.add(Entry::input(name))
+        self.add(CircuitLine::input(name))
     }
 
     /// Adds a source, a gate without inputs whose wire has the value `bit`.
@@ -235,7 +235,7 @@ impl Draft {
         ensures fault { IfErr result (λ e. FaultIs e
             (add_fault self.old (entry (Gate (Source bit)) [] (name ∷ [])))) }
     {
-        self.add(Entry::source(bit, name))
+        self.add(CircuitLine::source(bit, name))
     }
 
     /// Adds a gate, which consumes the wires `ins` and defines the wires `outs`, as many as its kind has.
@@ -259,7 +259,7 @@ impl Draft {
         let few_ins = kind.ins();
         let few_outs = kind.outs();
         prove!(few_ins <= 4 && few_outs <= 4);
-        self.add(Entry {
+        self.add(CircuitLine {
             kind: Kind::Gate(kind),
             ins: Names::of(ins),
             outs: Names::of(outs),
@@ -281,7 +281,7 @@ impl Draft {
         ensures fault { IfErr result (λ e. FaultIs e
             (add_fault self.old (entry Output (name ∷ []) []))) }
     {
-        self.add(Entry::output(name))
+        self.add(CircuitLine::output(name))
     }
 
     /// Adds a spill, which consumes a wire that is no output.
@@ -299,7 +299,7 @@ impl Draft {
         ensures fault { IfErr result (λ e. FaultIs e
             (add_fault self.old (entry Spill (name ∷ []) []))) }
     {
-        self.add(Entry::spill(name))
+        self.add(CircuitLine::spill(name))
     }
 
     // The first wire that nobody consumes.

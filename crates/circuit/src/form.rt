@@ -1,10 +1,10 @@
 //! The line forms of the circuit section.
 ghost use Rattle.std.specs.Prelude.{◌≡◌, ◌+◌, ◌≤◌};
 ghost use Rattle.section_text.specs.Words.{words_of};
-ghost use Rattle.section_text.specs.FeedState.{IsLine, line_bytes};
+ghost use Rattle.section_text.specs.Feeds.{IsLine, line_bytes};
 ghost use Rattle.circuit.specs.Forms.{bit_at, gate_kind, words_before, gate_names, gate_entry, form_of};
 
-use crate::entry::{Entry, GateKind, Kind};
+use crate::circuit_line::{CircuitLine, GateKind, Kind};
 use section_text::{Feed, Form, Line};
 
 #[tactic(auto, unfolding(crate::specs::Forms::bit_at))]
@@ -49,7 +49,7 @@ fn gate_kind_of(feed: &Feed, line: &Line) -> Option<GateKind>
 
 fn words_before_names(kind: GateKind) -> usize
     ensures count { result ≡ words_before kind }
-    ensures few { result ≤ 2 }
+    ensures at_most_2 { result ≤ 2 }
 {
     match kind {
         GateKind::Source(_) => 2,
@@ -64,7 +64,7 @@ fn words_before_names(kind: GateKind) -> usize
 }
 
 #[tactic(auto, unfolding(crate::specs::Forms::gate_names))]
-fn gate_names_of(feed: &Feed, line: &Line, kind: GateKind) -> Option<Entry>
+fn gate_names_of(feed: &Feed, line: &Line, kind: GateKind) -> Option<CircuitLine>
     requires { IsLine feed.now line.now }
     ensures { result ≡ gate_names (words_of (line_bytes feed.now line.now)) kind }
 {
@@ -72,7 +72,7 @@ fn gate_names_of(feed: &Feed, line: &Line, kind: GateKind) -> Option<Entry>
     let count = kind.ins();
     let ins = feed.names(line, first, count)?;
     let outs = feed.names(line, first + count + 1, kind.outs())?;
-    Some(Entry {
+    Some(CircuitLine {
         kind: Kind::Gate(kind),
         ins,
         outs,
@@ -80,7 +80,7 @@ fn gate_names_of(feed: &Feed, line: &Line, kind: GateKind) -> Option<Entry>
 }
 
 #[tactic(auto, unfolding(crate::specs::Forms::gate_entry))]
-fn gate_entry_of(feed: &Feed, line: &Line) -> Option<Entry>
+fn gate_entry_of(feed: &Feed, line: &Line) -> Option<CircuitLine>
     requires { IsLine feed.now line.now }
     ensures { result ≡ gate_entry (words_of (line_bytes feed.now line.now)) }
 {
@@ -97,7 +97,7 @@ fn gate_entry_of(feed: &Feed, line: &Line) -> Option<Entry>
 
 /// Returns the form of a line, if it has one.
 #[tactic(auto, unfolding(crate::specs::Forms::form_of))]
-pub fn line_form(feed: &Feed, line: &Line) -> Option<Form<(), Entry>>
+pub fn line_form(feed: &Feed, line: &Line) -> Option<Form<(), CircuitLine>>
     requires { IsLine feed.now line.now }
     ensures { result ≡ form_of (words_of (line_bytes feed.now line.now)) }
 {
@@ -106,11 +106,11 @@ pub fn line_form(feed: &Feed, line: &Line) -> Option<Form<(), Entry>>
     } else if feed.is(line, 0, b"end") {
         feed.lone(line, Form::End)
     } else if feed.is(line, 0, b"input") {
-        Some(Form::Item(Entry::input(feed.lone_name(line)?)))
+        Some(Form::Item(CircuitLine::input(feed.lone_name(line)?)))
     } else if feed.is(line, 0, b"output") {
-        Some(Form::Item(Entry::output(feed.lone_name(line)?)))
+        Some(Form::Item(CircuitLine::output(feed.lone_name(line)?)))
     } else if feed.is(line, 0, b"spill") {
-        Some(Form::Item(Entry::spill(feed.lone_name(line)?)))
+        Some(Form::Item(CircuitLine::spill(feed.lone_name(line)?)))
     } else {
         Some(Form::Item(gate_entry_of(feed, line)?))
     }

@@ -48,7 +48,7 @@ pub fn lists_values()
 /// States that wires are numbered in order of definition, inputs first, and that each has a name of its own.
 pub fn wires_are_named()
     ensures named { WiresAreNamed }
-    ensures own { NamesAreOwn }
+    ensures own_names { NamesAreOwn }
     ensures first { InputsAreFirst }
 {}
 

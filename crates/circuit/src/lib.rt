@@ -2,8 +2,8 @@
 //! evaluated.
 #![tactic(auto)]
 
+mod circuit_line;
 mod draft;
-mod entry;
 mod form;
 pub mod laws;
 mod netlist;
@@ -14,8 +14,8 @@ mod reading;
 mod sets;
 mod wiring;
 
+pub use circuit_line::GateKind;
 pub use draft::{Draft, Unused};
-pub use entry::GateKind;
 pub use netlist::{Circuit, ValuesFault};
 pub use number::{GateNo, WireNo};
 pub use ports::port_names;

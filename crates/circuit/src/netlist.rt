@@ -5,7 +5,7 @@ ghost use Rattle.circuit.specs.Bridge.{AreValues, IsValuesFault, circuit_of, inp
 ghost use Rattle.circuit.specs.Meaning.{AreOrdered, wire_of, wires};
 ghost use Rattle.circuit.specs.Wiring.{gate_of};
 
-use crate::entry::{Entry, Kind};
+use crate::circuit_line::{CircuitLine, Kind};
 use crate::number::{GateNo, WireNo};
 use crate::wiring::{GateWires, values_of};
 use indexmap::IndexSet;
@@ -20,15 +20,15 @@ use std::marker::Model;
 #[derive(Drop)]
 pub struct Circuit {
     pub(crate) wires: IndexSet<Name, Seed>,
-    pub(crate) entries: Vec<Entry>,
+    pub(crate) entries: Vec<CircuitLine>,
     pub(crate) wired: Vec<GateWires>,
 }
 
 impl Model for Circuit {
     ghost use Rattle.std.specs.Prelude.{List};
-    ghost use Rattle.circuit.specs.declared.entry.Entry.{Entry};
+    ghost use Rattle.circuit.specs.declared.circuit_line.CircuitLine.{CircuitLine};
 
-    ghost Value = { List Entry };
+    ghost Value = { List CircuitLine };
 
     ghost use Rattle.circuit.specs.CircuitView.{circuit_entries, IsCircuit};
 
@@ -66,7 +66,7 @@ fn is_input_kind(kind: Kind) -> bool
     }
 }
 
-fn count_inputs(entries: &[Entry]) -> usize
+fn count_inputs(entries: &[CircuitLine]) -> usize
     ensures { result ≡ input_count entries.now }
 {
     entries
@@ -77,7 +77,7 @@ fn count_inputs(entries: &[Entry]) -> usize
 
 impl Circuit {
     // The lines of the circuit.
-    pub(crate) fn entries(&self) -> &[Entry]
+    pub(crate) fn entries(&self) -> &[CircuitLine]
         ensures { result.now ≡ self.now }
     {
         self.entries.as_slice()
@@ -104,7 +104,7 @@ impl Circuit {
     pub fn wires(&self) -> usize
         ensures count { result ≡ wires (netlist_of self.now) }
         ensures named { result ≡ length (defined self.now) }
-        ensures few { result ≤ 4096 }
+        ensures at_most_4096 { result ≤ 4096 }
     {
         self.wires.len()
     }
@@ -122,7 +122,7 @@ impl Circuit {
     pub fn name(&self, wire: WireNo) -> Name
         requires { wire < length (defined self.now) }
         ensures name { slice_get (defined self.now) wire ≡ Some result }
-        ensures own { wire_of (circuit_of self.now) result ≡ Some wire }
+        ensures own_wire { wire_of (circuit_of self.now) result ≡ Some wire }
     {
         self.wires.as_slice()[wire.number() as usize]
     }
@@ -133,7 +133,7 @@ impl Circuit {
     /// define.
     pub fn gates(&self) -> usize
         ensures count { result ≡ length (netlist_of self.now).gates }
-        ensures few { result ≤ 1024 }
+        ensures at_most_1024 { result ≤ 1024 }
         ensures ordered { AreOrdered (netlist_of self.now).given (netlist_of self.now).gates }
     {
         self.wired.len()

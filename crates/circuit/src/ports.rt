@@ -3,12 +3,12 @@ ghost use Rattle.std.specs.Prelude.{◌≡◌, [], ◌∷◌, ◌++◌, length, 
 ghost use Rattle.section_text.specs.Ports.{named_ports};
 ghost use Rattle.circuit.specs.Bridge.{input_names, netlist_of, output_names};
 
-use crate::entry::{Entry, Kind};
+use crate::circuit_line::{CircuitLine, Kind};
 use crate::netlist::Circuit;
 use section_text::{Name, PortNames};
 use std::alloc::{AllocError, Global};
 
-fn add_inputs(names: &mut Vec<Name>, entry: &Entry) -> Result<(), AllocError>
+fn add_inputs(names: &mut Vec<Name>, entry: &CircuitLine) -> Result<(), AllocError>
     ensures { OnOk result (names.new.items ≡ names.old.items ++ input_names (entry.now ∷ [])) }
 {
     match entry.kind {
@@ -17,7 +17,7 @@ fn add_inputs(names: &mut Vec<Name>, entry: &Entry) -> Result<(), AllocError>
     }
 }
 
-fn add_outputs(names: &mut Vec<Name>, entry: &Entry) -> Result<(), AllocError>
+fn add_outputs(names: &mut Vec<Name>, entry: &CircuitLine) -> Result<(), AllocError>
     ensures { OnOk result (names.new.items ≡ names.old.items ++ output_names (entry.now ∷ [])) }
 {
     match entry.kind {
@@ -26,7 +26,11 @@ fn add_outputs(names: &mut Vec<Name>, entry: &Entry) -> Result<(), AllocError>
     }
 }
 
-fn ports_of(ins: &mut Vec<Name>, outs: &mut Vec<Name>, entries: &[Entry]) -> Result<(), AllocError>
+fn ports_of(
+    ins: &mut Vec<Name>,
+    outs: &mut Vec<Name>,
+    entries: &[CircuitLine],
+) -> Result<(), AllocError>
     ensures ins { OnOk result (ins.new.items ≡ ins.old.items ++ input_names entries.now) }
     ensures outs { OnOk result (outs.new.items ≡ outs.old.items ++ output_names entries.now) }
 {

@@ -7,7 +7,7 @@ ghost use Rattle.circuit.specs.Bridge.{netlist_of};
 ghost use Rattle.circuit.specs.Meaning.{wires};
 ghost use Rattle.circuit.specs.Text.{value_line, value_lines, gate_word, gate_number, first_word, more_words, entry_text, circuit_text};
 
-use crate::entry::{Entry, GateKind, Kind};
+use crate::circuit_line::{CircuitLine, GateKind, Kind};
 use crate::netlist::Circuit;
 use section_text::{Name, print_number, print_word};
 use std::alloc::{AllocError, Global};
@@ -43,7 +43,7 @@ fn print_gate(out: &mut Vec<u8>, kind: GateKind) -> Result<(), AllocError>
 }
 
 #[tactic(auto, unfolding(crate::specs::Text::entry_text, crate::specs::Text::first_word, crate::specs::Text::more_words))]
-fn print_entry(out: &mut Vec<u8>, entry: &Entry) -> Result<(), AllocError>
+fn print_entry(out: &mut Vec<u8>, entry: &CircuitLine) -> Result<(), AllocError>
     ensures { OnOk result (out.new.items ≡ out.old.items ++ entry_text entry.now) }
 {
     match entry.kind {
@@ -70,7 +70,7 @@ fn print_entry(out: &mut Vec<u8>, entry: &Entry) -> Result<(), AllocError>
     Ok(())
 }
 
-fn print_entries(out: &mut Vec<u8>, entries: &[Entry]) -> Result<(), AllocError>
+fn print_entries(out: &mut Vec<u8>, entries: &[CircuitLine]) -> Result<(), AllocError>
     ensures { OnOk result (out.new.items ≡ out.old.items ++ flat_map entry_text entries.now) }
 {
     for entry in entries {

@@ -4,8 +4,8 @@ ghost use Rattle.section_text.specs.Section.{Reads};
 ghost use Rattle.circuit.specs.Rules.{last_rank, gate_count};
 ghost use Rattle.circuit.specs.Grammars.{circuit_grammar, circuit_value};
 
+use crate::circuit_line::CircuitLine;
 use crate::draft::Draft;
-use crate::entry::Entry;
 use crate::form::line_form;
 use crate::netlist::Circuit;
 use section_text::{Feed, Form, Line, LineFault, ReadFault, Section, read_section};
@@ -23,7 +23,7 @@ struct Reading {
 impl Section for Reading {
     type Header = ();
 
-    type Item = Entry;
+    type Item = CircuitLine;
 
     ghost grammar = { λ _. circuit_grammar };
 
@@ -31,7 +31,7 @@ impl Section for Reading {
 
     ghost items = { λ r. r.draft };
 
-    fn form(&self, feed: &Feed, line: &Line) -> Option<Form<(), Entry>> {
+    fn form(&self, feed: &Feed, line: &Line) -> Option<Form<(), CircuitLine>> {
         line_form(feed, line)
     }
 
@@ -39,7 +39,7 @@ impl Section for Reading {
         Ok(())
     }
 
-    fn add(&mut self, entry: Entry) -> Result<(), LineFault> {
+    fn add(&mut self, entry: CircuitLine) -> Result<(), LineFault> {
         let next = entry.kind.rank();
         if next < self.rank {
             return Err(LineFault::Code(6));

@@ -7,7 +7,7 @@ ghost use Rattle.circuit.specs.Bridge.{read};
 ghost use Rattle.circuit.specs.Evaluate.{evaluate, IsEvaluateFault};
 ghost use Rattle.circuit.specs.Wiring.{gate_of, gate_at};
 
-use crate::entry::{GateKind, Kind};
+use crate::circuit_line::{GateKind, Kind};
 use crate::netlist::ValuesFault;
 use crate::number::WireNo;
 use indexmap::IndexSet;
@@ -58,7 +58,7 @@ fn wire_number(wires: &IndexSet<Name, Seed>, name: Name) -> WireNo
 
 /// Returns the numbers of wires that are named.
 pub(crate) fn wire_numbers(wires: &IndexSet<Name, Seed>, names: &[Name]) -> [WireNo; 4]
-    requires few { length names.now ≤ 4 }
+    requires at_most_4 { length names.now ≤ 4 }
     requires fits { length wires.now.keys ≤ 4096 }
     ensures { take (length names.now) result ≡ map (number wires.now.keys) names.now }
 {
@@ -107,7 +107,8 @@ pub(crate) fn add_wires(
     requires { first ≤ 4096 }
     ensures ok { OnOk result (map gate_of gates.new.items
         ≡ map gate_of gates.old.items ++ gate_at kind ins first) }
-    ensures kept { OnOk result (take (length gates.old.items) gates.new.items ≡ gates.old.items) }
+    ensures earlier_gates_stay { OnOk result (take (length gates.old.items) gates.new.items
+        ≡ gates.old.items) }
     ensures err { OnErr result (gates.new.items ≡ gates.old.items) }
 {
     match kind {
@@ -137,7 +138,7 @@ fn push_outs(values: &mut Vec<bool>, gate: GateWires) -> Result<bool, AllocError
     ensures none { result ≡ Ok false →
         row (rule_of gate.kind)
         (map (read values.old.items) (take (uses (rule_of gate.kind)) gate.ins)) ≡ None }
-    ensures kept { result ≡ Ok false → values.new.items ≡ values.old.items }
+    ensures values_unchanged { result ≡ Ok false → values.new.items ≡ values.old.items }
 {
     let [x, y, z, w] = gate.ins;
     let a = value_at(values.as_slice(), x);

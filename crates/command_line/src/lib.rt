@@ -124,7 +124,7 @@ fn check<'a>(alloc: Global) -> Result<Command<'a>, AllocError>
 // Its option.
 fn workers<'a>(alloc: Global) -> Arg<'a>
     ensures rule { rule_of result ≡ workers_rule }
-    ensures own { result.global ≡ false }
+    ensures not_global { result.global ≡ false }
 {
     Arg::new(alloc, "workers")
         .long("workers")

@@ -65,7 +65,7 @@ impl<R: Read> Source for Over<R> {
 impl<W: Write> Sink for Over<W> {
     ghost use Rattle.device.specs.Over.{inner_of, failed_of};
 
-    ghost held = { λ s. W.contents (inner_of s) };
+    ghost written_bytes = { λ s. W.contents (inner_of s) };
 
     ghost has_failed = { λ s. failed_of s };
 

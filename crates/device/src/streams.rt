@@ -28,7 +28,7 @@ pub trait Source {
 /// The sink of an answer's bytes.
 pub trait Sink {
     // The bytes that the writer holds, where they are known.
-    ghost held: { Self → Option (List ℕ) };
+    ghost written_bytes: { Self → Option (List ℕ) };
 
     // Whether a write has failed.
     ghost has_failed: { Self → Bool };
@@ -36,7 +36,8 @@ pub trait Sink {
     /// Takes some bytes from the front of `piece`. To take none of a piece that is not empty is a failure.
     fn write(&mut self, piece: &[u8]) -> io::Result<usize>
         ensures bound { WritesAtMost result piece.now }
-        ensures bytes { WriteAppends (held self.old) (held self.new) result piece.now }
+        ensures bytes { WriteAppends (written_bytes self.old) (written_bytes self.new) result
+            piece.now }
         ensures failure { has_failed self.new
             ≡ (has_failed self.old || write_fails result piece.now) };
 

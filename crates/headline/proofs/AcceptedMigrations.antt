@@ -5,19 +5,19 @@ use Rattle.std.proofs.lemmas.Bool.Decides.{nat_tests}
 use Rattle.section_text.specs.declared.fault.Refusal.{Refusal}
 use Rattle.section_text.proofs.Good.{AreFaultless, IsFaultless}
 use Rattle.circuit.specs.Bridge.{circuit_of}
-use Rattle.circuit.specs.declared.entry.Entry.{Entry as CircuitLine}
+use Rattle.circuit.specs.declared.circuit_line.CircuitLine.{CircuitLine}
 use Rattle.pattern.specs.FromLines.{layout_of}
 use Rattle.pattern.specs.Grammars.{layout_value}
 use Rattle.pattern.specs.Layout.{Pattern}
-use Rattle.pattern.specs.declared.parts.Extent.{Extent}
-use Rattle.pattern.specs.declared.parts.Part.{Part}
+use Rattle.pattern.specs.declared.layout_line.LayoutHeader.{LayoutHeader}
+use Rattle.pattern.specs.declared.layout_line.LayoutLine.{LayoutLine}
 use Rattle.certificate_lines.specs.Entries.{ModuleLines, Setting, modules_of}
-use Rattle.certificate.specs.Grammars.{CertState, certificate_grammar, migrated, modules_in}
+use Rattle.certificate.specs.Grammars.{CertView, certificate_grammar, migrated, modules_in}
 use Rattle.certificate_lines.specs.Settings.{setting_of}
 use Rattle.certificate.specs.Jobs.{AreJobsOf}
 use Rattle.certificate.specs.Laws.{AreFaultlessLines, IsSectionOf}
 use Rattle.certificate_lines.specs.Versions.{is_haloless, lacks_wire, without_halos}
-use Rattle.certificate_lines.specs.declared.entry.Entry.{Entry}
+use Rattle.certificate_lines.specs.declared.certificate_line.CertificateLine.{CertificateLine}
 use Rattle.certificate.proofs.FullModules.{meant_modules, meant_old}
 use Rattle.certificate.proofs.Migrated.{migrated_lacks, migrated_modules}
 use Rattle.certificate.proofs.Soundness.{faultless_modules, read_complete, read_version}
@@ -40,12 +40,12 @@ use Rattle.headline.proofs.YesIsRight.{by_outcome}
 
 -- ---- two words for good lines
 
-as_lines : (g : Setting) (v : ℕ) (es before : List Entry) → AreFaultless (certificate_grammar g) v before es →
+as_lines : (g : Setting) (v : ℕ) (es before : List CertificateLine) → AreFaultless (certificate_grammar g) v before es →
     AreFaultlessLines g v before es
 as_lines g v [] before h = tt
 as_lines g v (i ∷ es) before h = (h.0, as_lines g v es (before ++ i ∷ []) h.1)
 
-from_lines : (g : Setting) (v : ℕ) (es before : List Entry) → AreFaultlessLines g v before es →
+from_lines : (g : Setting) (v : ℕ) (es before : List CertificateLine) → AreFaultlessLines g v before es →
     AreFaultless (certificate_grammar g) v before es
 from_lines g v [] before h = tt
 from_lines g v (i ∷ es) before h = (h.0, from_lines g v es (before ++ i ∷ []) h.1)
@@ -56,7 +56,8 @@ from_lines g v (i ∷ es) before h = (h.0, from_lines g v es (before ++ i ∷ []
 own_setting : (b : Bundle) (circuit : List CircuitLine) (p : Pattern) → circuit ≡ b.circuit →
     layout_value p ≡ (b.size, b.parts) → setting_of b.circuit (layout_of b.size b.parts) ≡ setting_of circuit p
 own_setting b circuit p lines same =
-    ap (λ (q : Extent × List Part). setting_of b.circuit (layout_of q.0 q.1)) (sym same) ∙ same_setting b.circuit p
+    ap (λ (q : LayoutHeader × List LayoutLine). setting_of b.circuit (layout_of q.0 q.1)) (sym same)
+    ∙ same_setting b.circuit p
     ∙ ap (λ cs. setting_of cs p) (sym lines)
 
 -- what is reported of the migrated text
@@ -66,7 +67,7 @@ record IsReportedYes (output : List ℕ) : Type 0 where
 
 module _ (text report output : List ℕ) (b : Bundle) (read : bundle_of text ≡ Ok b) (says : SaysReport b report Yes)
     (is : says.verdict ≡ verdict.Yes) (one : b.version ≡ 1) (written : output ≡ migrate_of b) where
-  abbrev c : CertState
+  abbrev c : CertView
   c = says.certificate
 
   abbrev g : Setting

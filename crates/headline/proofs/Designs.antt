@@ -7,7 +7,7 @@ use Rattle.section_text.specs.Ports.{Named}
 use Rattle.section_text.proofs.SaidSections.{one_section, section_said}
 use Rattle.circuit.specs.Forms.{form_of as circuit_form}
 use Rattle.circuit.specs.Grammars.{circuit_grammar}
-use Rattle.circuit.specs.declared.entry.Entry.{Entry}
+use Rattle.circuit.specs.declared.circuit_line.CircuitLine.{CircuitLine}
 use Rattle.pattern.specs.Grammars.{layout_grammar, layout_value}
 use Rattle.pattern.specs.Forms.{form_of as layout_form}
 use Rattle.pattern.specs.Layout.{Pattern, parts_of}
@@ -15,14 +15,14 @@ use Rattle.headline.specs.Design.{SaysDesign}
 use Rattle.certificate_lines.specs.Entries.{Setting}
 use Rattle.certificate_lines.specs.Forms.{form_of as certificate_form}
 use Rattle.certificate.specs.Grammars.{certificate_grammar}
-use Rattle.certificate_lines.specs.declared.entry.Entry.{Entry as CertificateLine}
+use Rattle.certificate_lines.specs.declared.certificate_line.CertificateLine.{CertificateLine}
 use Rattle.headline.specs.Stops.{SaysBundle}
 use Rattle.headline.specs.Laws.{SaysOneCertificate, SaysOneDesign}
 use Rattle.headline.proofs.OneAnswer.{one_layout}
 
 -- ---- the two sections of a design
 
-pub design_said : (text : List ℕ) (circuit : List Entry) (named : Option Named) (n : ℕ) (layout : Pattern)
+pub design_said : (text : List ℕ) (circuit : List CircuitLine) (named : Option Named) (n : ℕ) (layout : Pattern)
     → section_of circuit_grammar 0 (lines_of text) ≡ Ok (tt, circuit)
     → section_of (layout_grammar named) n (drop (length circuit + 2) (lines_of text)) ≡ Ok (layout_value layout)
     → SaysDesign text circuit layout
@@ -41,7 +41,8 @@ design_said text circuit named n layout first second =
     }
 
 -- and the section after them
-pub bundle_said : (text : List ℕ) (circuit : List Entry) (named : Option Named) (n : ℕ) (layout : Pattern) (g : Setting)
+pub bundle_said : (text : List ℕ) (circuit : List CircuitLine) (named : Option Named) (n : ℕ) (layout : Pattern)
+    (g : Setting)
     (m version : ℕ) (lines : List CertificateLine)
     → section_of circuit_grammar 0 (lines_of text) ≡ Ok (tt, circuit)
     → section_of (layout_grammar named) n (drop (length circuit + 2) (lines_of text)) ≡ Ok (layout_value layout)

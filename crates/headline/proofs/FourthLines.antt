@@ -19,7 +19,7 @@ use Rattle.section_text.proofs.Lines.{ended-cons, some_part}
 use Rattle.certificate.specs.declared.times.TimeLine.{TimeLine}
 use Rattle.audit_core.specs.Verdicts.{timing}
 use Rattle.certificate_lines.specs.Entries.{modules_of}
-use Rattle.certificate.specs.Grammars.{CertState}
+use Rattle.certificate.specs.Grammars.{CertView}
 use Rattle.certificate.specs.Text.{certificate_text}
 use Rattle.certificate_lines.proofs.Lists.{kept}
 use Rattle.audit_core.specs.declared.verdict.Verdict.{Verdict}
@@ -129,7 +129,7 @@ fourth_by digest count times (verdict.No lines) clean = ap (λ ls. slice_get ls 
     refl (ap is_clean (append-nil digest) ∙ clean)
     (ap is_clean (append-nil (decimal count)) ∙ clean_decimal count) refl)
 
-pub fourth_line : (c : CertState) (v : Verdict) → slice_get (lines_of (report_lines c v)) 3 ≡ Some (verdict_word v)
+pub fourth_line : (c : CertView) (v : Verdict) → slice_get (lines_of (report_lines c v)) 3 ≡ Some (verdict_word v)
 unfolding report_lines
 fourth_line c v = fourth_by (encode_lower (sha256 (certificate_text c))) (length (modules_of c.entries)) _ v
     (clean_hex (sha256 (certificate_text c)))
@@ -138,11 +138,11 @@ yes_is_not_no : ◌≡◌ {A = Option (List ℕ)} (Some (codes "verdict no")) (S
 yes_is_not_no e = cc
 
 -- a report that says yes is one of a yes
-pub says_yes : (c : CertState) (v : Verdict) → SaysYes (report_lines c v) → v ≡ verdict.Yes
+pub says_yes : (c : CertView) (v : Verdict) → SaysYes (report_lines c v) → v ≡ verdict.Yes
 says_yes c verdict.Yes e = refl
 says_yes c (verdict.No lines) e = absurd (yes_is_not_no (sym (fourth_line c (verdict.No lines)) ∙ e))
 
-pub yes_says : (c : CertState) → SaysYes (report_lines c verdict.Yes)
+pub yes_says : (c : CertView) → SaysYes (report_lines c verdict.Yes)
 yes_says c = fourth_line c verdict.Yes
 
 -- and the line for a refusal does not say yes

@@ -5,11 +5,11 @@ use Rattle.std.specs.Prelude.{slice_get}
 use Rattle.std.proofs.lemmas.List.{length-map}
 use Rattle.circuit.specs.Bridge.{circuit_of}
 use Rattle.circuit.specs.Meaning.{Circuit}
-use Rattle.circuit.specs.declared.entry.Entry.{Entry}
+use Rattle.circuit.specs.declared.circuit_line.CircuitLine.{CircuitLine}
 use Rattle.pattern.specs.Layout.{Pattern}
 use Rattle.certificate_lines.specs.Entries.{Setting, ModuleLines, halos, known}
 use Rattle.certificate_lines.specs.Settings.{setting_of}
-use Rattle.module_job.specs.Jobs.{JobState, job_demand, job_start}
+use Rattle.module_job.specs.Jobs.{JobView, job_demand, job_start}
 use Rattle.certificate.specs.Jobs.{IsJobOf, AreJobsOf, line_signals, line_stops}
 use Rattle.certificate_lines.specs.Modules.{AreModules, IsHalo}
 use Rattle.module_job.specs.Signals.{IsBelow}
@@ -18,16 +18,16 @@ use Rattle.certificate_lines.proofs.InList.{all_in}
 use Rattle.certificate.proofs.FullModules.{all_of_each, full_cuts, full_edges, full_gates, full_keeps, full_known}
 use Rattle.certificate.proofs.FullModules.{full_modules, full_stops, mapped_at, mapped_from}
 use Rattle.certificate_lines.proofs.LineOrder.{in_each}
-use Rattle.audit_core.proofs.NumberedSignals.{IsNamed, lines_back, numbered_event, numbered_held, numbered_signals}
+use Rattle.audit_core.proofs.NumberedSignals.{IsNamed, lines_back, numbered_event, numbered_all_times, numbered_signals}
 use Rattle.certificate_lines.proofs.Pairs.{Each}
 
 -- ---- the job of a module with the edge lines beside it
 
-new_job : Circuit → Setting → List ModuleLines → ModuleLines → JobState → JobState
+new_job : Circuit → Setting → List ModuleLines → ModuleLines → JobView → JobView
 new_job c g ms m j = record j
     { halos = numbered_signals c j.locals.circuit_wires (line_signals c (halos (with_halos g ms m))) }
 
-module _ (lines : List Entry) (p : Pattern) (ms : List ModuleLines) (good : AreModules (setting_of lines p) ms)
+module _ (lines : List CircuitLine) (p : Pattern) (ms : List ModuleLines) (good : AreModules (setting_of lines p) ms)
     (complete : lacks_wire (setting_of lines p) ms ≡ false) where
   abbrev g : Setting
   g = setting_of lines p
@@ -35,7 +35,7 @@ module _ (lines : List Entry) (p : Pattern) (ms : List ModuleLines) (good : AreM
   abbrev c : Circuit
   c = circuit_of lines
 
-  new_is : (k : ℕ) (m : ModuleLines) (j : JobState) → slice_get ms k ≡ Some m → IsJobOf c p m j →
+  new_is : (k : ℕ) (m : ModuleLines) (j : JobView) → slice_get ms k ≡ Some m → IsJobOf c p m j →
       IsJobOf c p (with_halos g ms m) (new_job c g ms m j)
   unfolding with_halos job_start job_demand new_job numbered_signals
   new_is k m j at is =
@@ -60,15 +60,16 @@ module _ (lines : List Entry) (p : Pattern) (ms : List ModuleLines) (good : AreM
         start = is.start;
         demand = is.demand;
         edges = is.edges ∙ ap (line_signals c) (sym (full_edges g ms good m));
-        halos = ap₂ (λ a b. record { held = a; events = b }) back.held back.events;
+        halos = ap₂ (λ a b. record { all_times = a; events = b }) back.all_times back.events;
         own = record {
           starts = is.own.starts;
           demands = is.own.demands;
-          edge_held = is.own.edge_held;
+          edge_all_times = is.own.edge_all_times;
           edge_events = is.own.edge_events;
-          halo_held = all_of_each _ _ (subst
-              (λ n. Each (λ h. IsBelow n h.signal) (map (numbered_held c ws) (line_signals c (halos full)).held))
-              is.locals.sized back.held_below);
+          halo_all_times = all_of_each _ _ (subst
+              (λ n. Each (λ h. IsBelow n h.signal)
+              (map (numbered_all_times c ws) (line_signals c (halos full)).all_times))
+              is.locals.sized back.all_times_below);
           halo_events = all_of_each _ _
               (subst (λ n. Each (λ e. IsBelow n e.signal)
               (map (numbered_event c ws) (line_signals c (halos full)).events)) is.locals.sized back.events_below);
@@ -81,23 +82,23 @@ module _ (lines : List Entry) (p : Pattern) (ms : List ModuleLines) (good : AreM
 
   -- ---- and the jobs of all
 
-  new_jobs : List ModuleLines → List JobState → List JobState
+  new_jobs : List ModuleLines → List JobView → List JobView
   new_jobs [] js = []
   new_jobs (m ∷ ns) [] = []
   new_jobs (m ∷ ns) (j ∷ js) = new_job c g ms m j ∷ new_jobs ns js
 
-  new_count : (ns : List ModuleLines) (js : List JobState) → length js ≡ length ns → length (new_jobs ns js) ≡ length ns
+  new_count : (ns : List ModuleLines) (js : List JobView) → length js ≡ length ns → length (new_jobs ns js) ≡ length ns
   unfolding new_jobs
   new_count [] js e = refl
   new_count (m ∷ ns) [] e = absurd (omega (arith, e))
   new_count (m ∷ ns) (j ∷ js) e = let less : length js ≡ length ns = omega (arith, e) in ap suc (new_count ns js less)
 
-  record IsNew (ns : List ModuleLines) (js : List JobState) (k : ℕ) (m : ModuleLines) (new : JobState) : Type 0 where
-    pub job : JobState
+  record IsNew (ns : List ModuleLines) (js : List JobView) (k : ℕ) (m : ModuleLines) (new : JobView) : Type 0 where
+    pub job : JobView
     pub at : slice_get js k ≡ Some job
     pub is : new_job c g ms m job ≡ new
 
-  new_at : (ns : List ModuleLines) (js : List JobState) (k : ℕ) (m : ModuleLines) (new : JobState) →
+  new_at : (ns : List ModuleLines) (js : List JobView) (k : ℕ) (m : ModuleLines) (new : JobView) →
       slice_get ns k ≡ Some m → slice_get (new_jobs ns js) k ≡ Some new → IsNew ns js k m new
   unfolding new_jobs
   new_at [] js k m new at e = absurd cc
@@ -110,8 +111,8 @@ module _ (lines : List Entry) (p : Pattern) (ms : List ModuleLines) (good : AreM
       let t = new_at ns js k m new at e in
       record { job = t.job; at = t.at; is = t.is }
 
-  pub full_jobs : (js : List JobState) → AreJobsOf c p ms js →
-      (others : List JobState) × AreJobsOf c p (map (with_halos g ms) ms) others
+  pub full_jobs : (js : List JobView) → AreJobsOf c p ms js →
+      (others : List JobView) × AreJobsOf c p (map (with_halos g ms) ms) others
   full_jobs js own = (
     new_jobs ms js,
     record {

@@ -25,15 +25,15 @@ use Rattle.section_text.proofs.SaidSections.{one_section, section_said}
 use Rattle.circuit.specs.Forms.{form_of as circuit_form}
 use Rattle.circuit.specs.Grammars.{circuit_grammar}
 use Rattle.circuit.specs.Text.{circuit_text, form_text as circuit_line}
-use Rattle.circuit.specs.declared.entry.Entry.{Entry as CircuitLine}
+use Rattle.circuit.specs.declared.circuit_line.CircuitLine.{CircuitLine}
 use Rattle.circuit.proofs.Spelling.{form_line as circuit_spelled}
 use Rattle.pattern.specs.Forms.{form_of as layout_form}
 use Rattle.pattern.specs.FromLines.{layout_of}
 use Rattle.pattern.specs.Grammars.{layout_grammar}
 use Rattle.pattern.specs.Layout.{Pattern, parts_of}
 use Rattle.pattern.specs.Text.{form_text as layout_line}
-use Rattle.pattern.specs.declared.parts.Extent.{Extent}
-use Rattle.pattern.specs.declared.parts.Part.{Part}
+use Rattle.pattern.specs.declared.layout_line.LayoutHeader.{LayoutHeader}
+use Rattle.pattern.specs.declared.layout_line.LayoutLine.{LayoutLine}
 use Rattle.pattern.proofs.Spelling.{form_line as layout_spelled}
 use Rattle.certificate_lines.specs.Entries.{Setting}
 use Rattle.certificate_lines.specs.Forms.{form_of as certificate_form}
@@ -41,7 +41,7 @@ use Rattle.certificate.specs.Grammars.{certificate_grammar}
 use Rattle.certificate_lines.specs.Settings.{setting_of}
 use Rattle.certificate.specs.Text.{form_text as certificate_line}
 use Rattle.certificate_lines.specs.Versions.{is_halo, is_haloless, without_halos}
-use Rattle.certificate_lines.specs.declared.entry.Entry.{Entry}
+use Rattle.certificate_lines.specs.declared.certificate_line.CertificateLine.{CertificateLine}
 use Rattle.certificate.proofs.Spelling.{form_line as certificate_spelled}
 use Rattle.audit_core.specs.Concluding.{port_names_of}
 use Rattle.answers.specs.Answers.{Answered}
@@ -145,12 +145,13 @@ then_made g n ls others lines h items next e is good =
     (ap (λ k. drop k (ls ++ others)) (sym (section_length g ls h items is)) ∙ drop-append_seam ls others)
 
 module _ (text : List ℕ) where
-  abbrev ended : List CircuitLine → Extent → List Part → ℕ → List Entry → ℕ → List (List ℕ) → Result Bundle Refusal
+  abbrev ended : List CircuitLine → LayoutHeader → List LayoutLine → ℕ → List CertificateLine → ℕ → List (List ℕ) →
+      Result Bundle Refusal
   ended circuit size parts version entries k last =
       finished k last (rest_of text)
       (record { circuit = circuit; size = size; parts = parts; version = version; entries = entries })
 
-  abbrev after_layout : List CircuitLine → Extent → List Part → ℕ → List (List ℕ) → Result Bundle Refusal
+  abbrev after_layout : List CircuitLine → LayoutHeader → List LayoutLine → ℕ → List (List ℕ) → Result Bundle Refusal
   after_layout circuit size parts m later =
       section_then (certificate_grammar (setting_of circuit (layout_of size parts))) m later (ended circuit size parts)
 
@@ -192,14 +193,15 @@ one_bundle text b d s t =
 
 -- what the text of a bundle says is what the bundle has
 pub record IsSaid (b : Bundle) (circuit : List CircuitLine) (layout : Pattern) (version : ℕ)
-    (certificate : List Entry) : Type 0 where
+    (certificate : List CertificateLine) : Type 0 where
   pub circuit_is : b.circuit ≡ circuit
   pub size_is : b.size ≡ layout.size
   pub parts_are : b.parts ≡ parts_of layout
   pub version_is : b.version ≡ version
   pub entries_are : b.entries ≡ certificate
 
-pub said_so : (text : List ℕ) (b : Bundle) (circuit : List CircuitLine) (layout : Pattern) (certificate : List Entry) →
+pub said_so : (text : List ℕ) (b : Bundle) (circuit : List CircuitLine) (layout : Pattern)
+    (certificate : List CertificateLine) →
     HasSections text b → (says : SaysBundle text circuit layout certificate) →
     IsSaid b circuit layout says.version certificate
 said_so text b circuit layout certificate s says =
@@ -249,20 +251,22 @@ text_is text b s =
 
 -- ---- the lines of a certificate other than its halo lines
 
-record Kept (items : List Entry) : Type 0 where
+record Kept (items : List CertificateLine) : Type 0 where
   pub lines : List (List ℕ)
   pub said : forms certificate_form lines ≡ items_said certificate_form (without_halos items)
   pub clean : AreLines lines
 
-without_halo : (i : Entry) (items : List Entry) → is_halo i ≡ true → without_halos (i ∷ items) ≡ without_halos items
+without_halo : (i : CertificateLine) (items : List CertificateLine) → is_halo i ≡ true →
+    without_halos (i ∷ items) ≡ without_halos items
 unfolding without_halos
 without_halo i items e = ap (λ b. if not b then i ∷ without_halos items else without_halos items) e
 
-with_other : (i : Entry) (items : List Entry) → is_halo i ≡ false → without_halos (i ∷ items) ≡ i ∷ without_halos items
+with_other : (i : CertificateLine) (items : List CertificateLine) → is_halo i ≡ false →
+    without_halos (i ∷ items) ≡ i ∷ without_halos items
 unfolding without_halos
 with_other i items e = ap (λ b. if not b then i ∷ without_halos items else without_halos items) e
 
-keep : (i : Entry) (items : List Entry) (line : List ℕ) (b : Bool) → is_halo i ≡ b →
+keep : (i : CertificateLine) (items : List CertificateLine) (line : List ℕ) (b : Bool) → is_halo i ≡ b →
     certificate_form (words_of line) ≡ Some (Item i) → AreLines (line ∷ []) → Kept items → Kept (i ∷ items)
 keep i items line true e is clean more =
     record {
@@ -276,7 +280,8 @@ keep i items line false e is clean more = record {
   clean = (clean.0, more.clean);
 }
 
-kept : (items : List Entry) (ls : List (List ℕ)) → forms certificate_form ls ≡ items_said certificate_form items →
+kept : (items : List CertificateLine) (ls : List (List ℕ)) →
+    forms certificate_form ls ≡ items_said certificate_form items →
     AreLines ls → Kept items
 unfolding without_halos
 kept [] ls e clean = record { lines = ls; said = e; clean = clean }
@@ -347,14 +352,14 @@ was_migrated text output says = by (bundle_of text) refl says
     by (Ok b) e says = record { bundle = b; read = e; says = says.says }
     by (Err refusal) e told = absurd (not_refused told.1)
 
-twice_on : (i : Entry) (es : List Entry) (b : Bool) → is_halo i ≡ b →
+twice_on : (i : CertificateLine) (es : List CertificateLine) (b : Bool) → is_halo i ≡ b →
     without_halos (without_halos es) ≡ without_halos es →
     without_halos (without_halos (i ∷ es)) ≡ without_halos (i ∷ es)
 twice_on i es true e more = ap without_halos (without_halo i es e) ∙ more ∙ sym (without_halo i es e)
 twice_on i es false e more = ap without_halos (with_other i es e) ∙ with_other i (without_halos es) e
     ∙ ap (λ l. i ∷ l) more ∙ sym (with_other i es e)
 
-without_twice : (es : List Entry) → without_halos (without_halos es) ≡ without_halos es
+without_twice : (es : List CertificateLine) → without_halos (without_halos es) ≡ without_halos es
 unfolding without_halos
 without_twice [] = refl
 without_twice (i ∷ es) = twice_on i es (is_halo i) refl (without_twice es)
@@ -376,7 +381,7 @@ no_code : (b : Bool) (code : ℕ) (more : Option ℕ) → or_else (code_where b 
 no_code true code more e = absurd cc
 no_code false code more e = refl
 
-no_halos : (g : Setting) (before es : List Entry) → AreFaultless (certificate_grammar g) 2 before es →
+no_halos : (g : Setting) (before es : List CertificateLine) → AreFaultless (certificate_grammar g) 2 before es →
     without_halos es ≡ es
 unfolding without_halos
 no_halos g before [] good = refl

@@ -10,11 +10,11 @@ use Rattle.std.proofs.lemmas.List.Elements.{filter_map-append}
 use Rattle.section_text.specs.Spelling.{line_text}
 use Rattle.section_text.specs.declared.fault.Refusal.{Refusal}
 use Rattle.bbm_rule.specs.declared.block.Cell.{Cell}
-use Rattle.pattern.specs.declared.parts.Rectangle.{Rectangle}
-use Rattle.pattern.specs.declared.parts.Port.{Port}
-use Rattle.pattern.specs.declared.parts.Part.{Part}
-use Rattle.pattern.specs.declared.parts.Part.TheVariants.{Mirror, Ball, In, Out, Waste}
-use Rattle.pattern.specs.declared.parts.Extent.{Extent}
+use Rattle.pattern.specs.declared.layout_line.Rectangle.{Rectangle}
+use Rattle.pattern.specs.declared.layout_line.Port.{Port}
+use Rattle.pattern.specs.declared.layout_line.LayoutLine.{LayoutLine}
+use Rattle.pattern.specs.declared.layout_line.LayoutLine.TheVariants.{Mirror, Ball, In, Out, Waste}
+use Rattle.pattern.specs.declared.layout_line.LayoutHeader.{LayoutHeader}
 use Rattle.pattern.specs.declared.run.RunEnd.{RunEnd}
 use Rattle.pattern.specs.declared.run.RunEnd.TheVariants.{Cells, LeftAt}
 use Rattle.pattern.specs.Layout.{Pattern, parts_of, StaysInside}
@@ -28,18 +28,18 @@ use Rattle.headline.specs.Laws.{HasOneAnswer}
 
 -- ---- a layout from its lines
 
-module _ {X : Type 0} (pick : Part → Option X) where
-  picks_all : {Y : Type 0} (f : Y → Part) (g : Y → X) → ((y : Y) → pick (f y) ≡ Some (g y)) → (ys : List Y) →
+module _ {X : Type 0} (pick : LayoutLine → Option X) where
+  picks_all : {Y : Type 0} (f : Y → LayoutLine) (g : Y → X) → ((y : Y) → pick (f y) ≡ Some (g y)) → (ys : List Y) →
       filter_map pick (map f ys) ≡ map g ys
   picks_all f g same [] = refl
   picks_all f g same (y ∷ ys) = rw (same y, picks_all f g same ys) refl
 
-  picks_none : {Y : Type 0} (f : Y → Part) → ((y : Y) → pick (f y) ≡ None) → (ys : List Y) →
+  picks_none : {Y : Type 0} (f : Y → LayoutLine) → ((y : Y) → pick (f y) ≡ None) → (ys : List Y) →
       filter_map pick (map f ys) ≡ []
   picks_none f none [] = refl
   picks_none f none (y ∷ ys) = rw (none y, picks_none f none ys) refl
 
-  split_five : (a b c d e : List Part) →
+  split_five : (a b c d e : List LayoutLine) →
       filter_map pick (a ++ (b ++ (c ++ (d ++ e))))
       ≡ filter_map pick a ++ (filter_map pick b ++ (filter_map pick c ++ (filter_map pick d ++ filter_map pick e)))
   split_five a b c d e =
@@ -54,35 +54,35 @@ map_same : {X : Type 0} (xs : List X) → map (λ x. x) xs ≡ xs
 map_same [] = refl
 map_same (x ∷ xs) = ap (λ ys. x ∷ ys) (map_same xs)
 
-mirror_of : Part → Option Rectangle
+mirror_of : LayoutLine → Option Rectangle
 mirror_of (Mirror r) = Some r
 mirror_of (Ball c) = None
 mirror_of (In q) = None
 mirror_of (Out q) = None
 mirror_of (Waste c) = None
 
-ball_of : Part → Option Cell
+ball_of : LayoutLine → Option Cell
 ball_of (Mirror r) = None
 ball_of (Ball c) = Some c
 ball_of (In q) = None
 ball_of (Out q) = None
 ball_of (Waste c) = None
 
-in_of : Part → Option Port
+in_of : LayoutLine → Option Port
 in_of (Mirror r) = None
 in_of (Ball c) = None
 in_of (In q) = Some q
 in_of (Out q) = None
 in_of (Waste c) = None
 
-out_of : Part → Option Port
+out_of : LayoutLine → Option Port
 out_of (Mirror r) = None
 out_of (Ball c) = None
 out_of (In q) = None
 out_of (Out q) = Some q
 out_of (Waste c) = None
 
-waste_of : Part → Option Cell
+waste_of : LayoutLine → Option Cell
 waste_of (Mirror r) = None
 waste_of (Ball c) = None
 waste_of (In q) = None
@@ -157,8 +157,8 @@ module _ (p : Pattern) where
 
 pub one_layout : (p q : Pattern) → layout_value p ≡ layout_value q → p ≡ q
 one_layout p q e =
-    let s = ap (λ (v : Extent × List Part). v.0) e in
-    let parts = ap (λ (v : Extent × List Part). v.1) e in
+    let s = ap (λ (v : LayoutHeader × List LayoutLine). v.0) e in
+    let parts = ap (λ (v : LayoutHeader × List LayoutLine). v.1) e in
     let m = sym (mirrors_are p) ∙ ap (filter_map mirror_of) parts ∙ mirrors_are q in
     let b = sym (balls_are p) ∙ ap (filter_map ball_of) parts ∙ balls_are q in
     let i = sym (ins_are p) ∙ ap (filter_map in_of) parts ∙ ins_are q in
@@ -171,7 +171,7 @@ one_layout p q e =
 abbrev SameEnd : RunEnd → RunEnd → Type 0
 SameEnd e e' = (end_text e ≡ end_text e') × (end_outcome e ≡ end_outcome e')
 
-clash : (s : Extent) (state : State) → StaysInside s state → GoesOutside s state → ⊥
+clash : (s : LayoutHeader) (state : State) → StaysInside s state → GoesOutside s state → ⊥
 clash s state stays goes = true≢false (sym (stays goes.x goes.y goes.lives) ∙ goes.outside)
 
 one_end : (p : Pattern) (on : List ℕ → Bool) (e e' : RunEnd) → IsRunEnd p on e → IsRunEnd p on e' → SameEnd e e'

@@ -8,9 +8,9 @@ use Rattle.sha2.specs.Sha256.{sha256}
 use Rattle.section_text.specs.Spelling.{line_text}
 use Rattle.circuit.specs.Bridge.{circuit_of}
 use Rattle.certificate_lines.specs.Entries.{ModuleLines, modules_of}
-use Rattle.certificate.specs.Grammars.{CertState, modules_in}
+use Rattle.certificate.specs.Grammars.{CertView, modules_in}
 use Rattle.certificate_lines.specs.Settings.{setting_of}
-use Rattle.module_job.specs.Jobs.{JobState}
+use Rattle.module_job.specs.Jobs.{JobView}
 use Rattle.certificate.specs.Jobs.{AreJobsOf}
 use Rattle.certificate_lines.specs.Modules.{AreModules}
 use Rattle.certificate.specs.Text.{certificate_text}
@@ -29,11 +29,11 @@ use Rattle.headline.proofs.OneAnswer.{answered_once, one_layout}
 
 -- ---- modules have one list of jobs
 
-module _ (c : CertState) (good : AreModules (setting_of c.circuit c.layout) (modules_in c)) where
-  abbrev AreOwn : List JobState → Type 0
+module _ (c : CertView) (good : AreModules (setting_of c.circuit c.layout) (modules_in c)) where
+  abbrev AreOwn : List JobView → Type 0
   AreOwn js = AreJobsOf (circuit_of c.circuit) c.layout (modules_in c) js
 
-  same_job_at : (js ks : List JobState) → AreOwn js → AreOwn ks → (k : ℕ) (j i : JobState) → slice_get js k ≡ Some j →
+  same_job_at : (js ks : List JobView) → AreOwn js → AreOwn ks → (k : ℕ) (j i : JobView) → slice_get js k ≡ Some j →
       slice_get ks k ≡ Some i → j ≡ i
   same_job_at js ks own_j own_k k j i at_j at_k = by_module (slice_get (modules_in c) k) refl
     where
@@ -46,25 +46,25 @@ module _ (c : CertState) (good : AreModules (setting_of c.circuit c.layout) (mod
           one_job (circuit_of c.circuit) c.layout m j i (good.each k m e).local.different (own_j.each k m j e at_j)
           (own_k.each k m i e at_k)
 
-  one_list_of_jobs : (js ks : List JobState) → AreOwn js → AreOwn ks → js ≡ ks
+  one_list_of_jobs : (js ks : List JobView) → AreOwn js → AreOwn ks → js ≡ ks
   one_list_of_jobs js ks own_j own_k =
       same-elements js ks (own_j.count ∙ sym own_k.count) (same_job_at js ks own_j own_k)
 
-  verdict_over : (js ks : List JobState) (v : Verdict) → AreOwn js → AreOwn ks →
+  verdict_over : (js ks : List JobView) (v : Verdict) → AreOwn js → AreOwn ks →
       IsVerdict (setting_of c.circuit c.layout) (modules_in c) js v →
       IsVerdict (setting_of c.circuit c.layout) (modules_in c) ks v
   verdict_over js ks v own_j own_k is =
-      subst (λ (l : List JobState). IsVerdict (setting_of c.circuit c.layout) (modules_in c) l v)
+      subst (λ (l : List JobView). IsVerdict (setting_of c.circuit c.layout) (modules_in c) l v)
       (one_list_of_jobs js ks own_j own_k) is
 
-pub one_verdict : (c : CertState) (v w : Verdict) → IsVerdictOn c v → IsVerdictOn c w → SaysTheSame v w
+pub one_verdict : (c : CertView) (v w : Verdict) → IsVerdictOn c v → IsVerdictOn c w → SaysTheSame v w
 one_verdict c v w a b =
     verdict-is-one (setting_of c.circuit c.layout) (modules_in c) a.jobs v w a.judged
     (verdict_over c a.good b.jobs a.jobs w b.are_jobs a.are_jobs b.judged)
 
 -- ---- what is written of it
 
-same_lines : (c : CertState) (v w : Verdict) → SaysTheSame v w → report_lines c v ≡ report_lines c w
+same_lines : (c : CertView) (v w : Verdict) → SaysTheSame v w → report_lines c v ≡ report_lines c w
 unfolding report_lines
 same_lines c verdict.Yes verdict.Yes same = refl
 same_lines c verdict.Yes (verdict.No lines) same = absurd same
@@ -79,7 +79,7 @@ same_outcome verdict.Yes (verdict.No lines) same = absurd same
 same_outcome (verdict.No lines) verdict.Yes same = absurd same
 same_outcome (verdict.No lines) (verdict.No others) same = refl
 
-same_certificate : (bundle : Bundle) (c d : CertState) → IsCertificateOf bundle c → IsCertificateOf bundle d → c ≡ d
+same_certificate : (bundle : Bundle) (c d : CertView) → IsCertificateOf bundle c → IsCertificateOf bundle d → c ≡ d
 same_certificate bundle c d a b =
     let circuit = a.circuit ∙ sym b.circuit in
     let layout = one_layout c.layout d.layout (a.layout ∙ sym b.layout) in

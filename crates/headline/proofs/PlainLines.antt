@@ -12,7 +12,7 @@ use Rattle.std.proofs.lemmas.Option.{slice_get_within}
 use Rattle.section_text.specs.Words.{has}
 use Rattle.circuit.specs.Bridge.{AreGood, input_names, netlist_of}
 use Rattle.circuit.specs.Entries.{defined}
-use Rattle.circuit.specs.declared.entry.Entry.{Entry as CircuitLine}
+use Rattle.circuit.specs.declared.circuit_line.CircuitLine.{CircuitLine}
 use Rattle.circuit.proofs.Naming.{inputs_are_first}
 use Rattle.circuit.proofs.Places.{bytes_same}
 use Rattle.pattern.specs.Layout.{Pattern}
@@ -23,8 +23,9 @@ use Rattle.certificate_lines.specs.Entries.{keeps}
 use Rattle.certificate_lines.specs.Entries.{modules_of}
 use Rattle.certificate_lines.specs.ModuleParts.{is_module}
 use Rattle.certificate_lines.specs.Rules.{is_inverse_gate, whole}
-use Rattle.certificate_lines.specs.declared.entry.Entry.{Entry}
-use Rattle.certificate_lines.specs.declared.entry.Entry.TheVariants.{Module, Cut, Use, Keep, Edge, Halo, Stop}
+use Rattle.certificate_lines.specs.declared.certificate_line.CertificateLine.{CertificateLine}
+use Rattle.certificate_lines.specs.declared.certificate_line.CertificateLine.TheVariants.{Module, Cut, Use, Keep, Edge}
+use Rattle.certificate_lines.specs.declared.certificate_line.CertificateLine.TheVariants.{Halo, Stop}
 use Rattle.certificate_lines.proofs.Lists.{any_at}
 use Rattle.audit_core.specs.HeadlineLaws.{IsInputName}
 use Rattle.audit_core.specs.PlainCertificates.{IsPlain}
@@ -38,7 +39,7 @@ use Rattle.headline.proofs.YesIsRight.{good_designs}
 
 -- ---- lines that begin no module belong to the one before
 
-one_more : (b : Box2) (ms : List Entry) (i : Entry) → is_module i ≡ false →
+one_more : (b : Box2) (ms : List CertificateLine) (i : CertificateLine) → is_module i ≡ false →
     add_line (record { area = b; lines = ms } ∷ []) i ≡ record { area = b; lines = ms ++ i ∷ [] } ∷ []
 unfolding add_line change_last
 one_more b ms (Module x) h = absurd cc
@@ -53,40 +54,41 @@ not_false : (a : Bool) → not a ≡ true → a ≡ false
 not_false true h = sym h
 not_false false h = refl
 
-pub all_inner : (b : Box2) (ms ls : List Entry) → list_all (λ i. not (is_module i)) ls ≡ true →
+pub all_inner : (b : Box2) (ms ls : List CertificateLine) → list_all (λ i. not (is_module i)) ls ≡ true →
     fold add_line (record { area = b; lines = ms } ∷ []) ls ≡ record { area = b; lines = ms ++ ls } ∷ []
-all_inner b ms [] h = ap (λ (l : List Entry). (record { area = b; lines = l }) ∷ []) (sym (append-nil ms))
+all_inner b ms [] h = ap (λ (l : List CertificateLine). (record { area = b; lines = l }) ∷ []) (sym (append-nil ms))
 all_inner b ms (i ∷ ls) h =
     let both = and_parts (not (is_module i)) (list_all (λ i. not (is_module i)) ls) h in
     ap (λ s. fold add_line s ls) (one_more b ms i (not_false (is_module i) both.0))
     ∙ all_inner b (ms ++ i ∷ []) ls both.1
-    ∙ ap (λ (l : List Entry). (record { area = b; lines = l }) ∷ []) (append_assoc ms (i ∷ []) ls)
+    ∙ ap (λ (l : List CertificateLine). (record { area = b; lines = l }) ∷ []) (append_assoc ms (i ∷ []) ls)
 
 -- ---- lines of one kind after another
 
-module _ {X : Type 0} (mk : X → Entry) where
+module _ {X : Type 0} (mk : X → CertificateLine) where
   pub all_mapped : ((x : X) → is_module (mk x) ≡ false) → (xs : List X) → list_all (λ i. not (is_module i))
       (map mk xs) ≡ true
   all_mapped h [] = refl
   all_mapped h (x ∷ xs) = ap₂ (λ a b. not a && b) (h x) (all_mapped h xs)
 
-  pub none_of : {Y : Type 0} (f : Entry → List Y) → ((x : X) → f (mk x) ≡ []) → (xs : List X) →
+  pub none_of : {Y : Type 0} (f : CertificateLine → List Y) → ((x : X) → f (mk x) ≡ []) → (xs : List X) →
       flat_map f (map mk xs) ≡ []
   none_of f h [] = refl
   none_of f h (x ∷ xs) = ap₂ (λ a b. a ++ b) (h x) (none_of f h xs)
 
-  pub own_of : (f : Entry → List X) → ((x : X) → f (mk x) ≡ x ∷ []) → (xs : List X) → flat_map f (map mk xs) ≡ xs
+  pub own_of : (f : CertificateLine → List X) → ((x : X) → f (mk x) ≡ x ∷ []) → (xs : List X) →
+      flat_map f (map mk xs) ≡ xs
   own_of f h [] = refl
   own_of f h (x ∷ xs) = ap₂ (λ a b. a ++ b) (h x) (own_of f h xs)
 
-pub both_true : (xs ys : List Entry) → list_all (λ i. not (is_module i)) xs ≡ true →
+pub both_true : (xs ys : List CertificateLine) → list_all (λ i. not (is_module i)) xs ≡ true →
     list_all (λ i. not (is_module i)) ys ≡ true → list_all (λ i. not (is_module i)) (xs ++ ys) ≡ true
 both_true [] ys h k = k
 both_true (x ∷ xs) ys h k =
     let both = and_parts (not (is_module x)) (list_all (λ i. not (is_module i)) xs) h in
     ap₂ (λ a b. a && b) both.0 (both_true xs ys both.1 k)
 
-three_parts : {Y : Type 0} (f : Entry → List Y) (xs ys zs : List Entry) →
+three_parts : {Y : Type 0} (f : CertificateLine → List Y) (xs ys zs : List CertificateLine) →
     flat_map f (xs ++ ys ++ zs) ≡ flat_map f xs ++ flat_map f ys ++ flat_map f zs
 three_parts f xs ys zs =
     flat_map-append f (xs ++ ys) zs ∙ ap (λ l. l ++ flat_map f zs) (flat_map-append f xs ys)
@@ -130,13 +132,13 @@ module _ (circuit : List CircuitLine) (p : Pattern) (good : AreGood circuit) whe
   abbrev kept : List ℕ
   kept = filter (λ k. is_inverse_gate (slice_get (netlist_of circuit).gates k)) (gate_numbers circuit)
 
-  abbrev cut_lines : List Entry
+  abbrev cut_lines : List CertificateLine
   cut_lines = map Cut (input_names circuit)
 
-  abbrev use_lines : List Entry
+  abbrev use_lines : List CertificateLine
   use_lines = map Use (gate_numbers circuit)
 
-  abbrev keep_lines : List Entry
+  abbrev keep_lines : List CertificateLine
   keep_lines = map Keep kept
 
   abbrev one : ModuleLines

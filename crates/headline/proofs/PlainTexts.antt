@@ -5,16 +5,16 @@ use Rattle.std.specs.List.{All, flat_map}
 use Rattle.std.proofs.lemmas.Bool.{cases_Bool}
 use Rattle.section_text.specs.declared.fault.Refusal.{Refusal}
 use Rattle.circuit.specs.Bridge.{circuit_of, netlist_of}
-use Rattle.circuit.specs.declared.entry.Entry.{Entry as CircuitLine}
+use Rattle.circuit.specs.declared.circuit_line.CircuitLine.{CircuitLine}
 use Rattle.pattern.specs.Layout.{Pattern}
 use Rattle.module_box.specs.Locals.{is_among}
 use Rattle.certificate_lines.specs.Entries.{ModuleLines, Setting, cut_in, edge_in, keep_in, modules_of, stop_in, cuts}
 use Rattle.certificate_lines.specs.Entries.{edges, stops}
 use Rattle.certificate_lines.specs.Settings.{setting_of}
 use Rattle.certificate_lines.specs.Versions.{beside, in_order, is_haloless, meant, with_halos}
-use Rattle.certificate_lines.specs.declared.entry.Entry.{Entry}
+use Rattle.certificate_lines.specs.declared.certificate_line.CertificateLine.{CertificateLine}
 use Rattle.certificate.specs.Arrivals.{AreOnTime}
-use Rattle.certificate.specs.Grammars.{CertState, modules_in}
+use Rattle.certificate.specs.Grammars.{CertView, modules_in}
 use Rattle.certificate.specs.Times.{all_stops}
 use Rattle.certificate.proofs.FullModules.{meant_new, meant_old, other_lines, stop_lines}
 use Rattle.certificate.proofs.MeantLines.{stops_meant}
@@ -207,7 +207,7 @@ is_no (verdict.No lines) e = record { lines = lines; is = refl }
 
 module _ (text : List ℕ) (b : Bundle) (output : List ℕ) (outcome : Outcome) (reads : bundle_of text ≡ Ok b)
     (says : SaysReport b output outcome) where
-  abbrev c : CertState
+  abbrev c : CertView
   c = says.certificate
 
   read : IsRead c c.layout.size
@@ -241,7 +241,7 @@ module _ (text : List ℕ) (b : Bundle) (output : List ℕ) (outcome : Outcome) 
   own_stops : all_stops (modules_in c) ≡ flat_map stop_in b.entries
   own_stops =
       stops_meant c.version (setting_of c.circuit c.layout) (modules_of c.entries) ∙
-      ap (λ (es : List Entry). all_stops (modules_of es)) says.its_own.entries
+      ap (λ (es : List CertificateLine). all_stops (modules_of es)) says.its_own.entries
       ∙ all_in_modules (setting_of b.circuit c.layout) b.version b.entries
       (certificate_faultless text b c.layout reads says.its_own.layout)
 
@@ -324,7 +324,7 @@ module _ (text : List ℕ) (b : Bundle) (output : List ℕ) (outcome : Outcome) 
     }
 
     -- what is said of the earliest line, of a design and the lines of a certificate
-    abbrev Earliest : List CircuitLine → Pattern → List Entry → Type 0
+    abbrev Earliest : List CircuitLine → Pattern → List CertificateLine → Type 0
     Earliest circuit layout certificate = (i : ℕ) (m : ModuleLines) (f : Fault) (inputs v : Valuation) →
         IsEarliestLine its_no.lines.items i f → slice_get (modules_of certificate) i ≡ Some m →
         Satisfies (netlist_of circuit) inputs v → HasAssignment (circuit_of circuit) m v f.assignment →

@@ -19,7 +19,7 @@ use Rattle.circuit.specs.Entries.{defined}
 use Rattle.circuit.specs.Gates.{defines}
 use Rattle.circuit.specs.Meaning.{AreOrdered, Circuit, Gate, number, place_of, wire_of, wires, wires_after}
 use Rattle.circuit.specs.Rules.{define, consumed}
-use Rattle.circuit.specs.declared.entry.Entry.{Entry as CircuitLine}
+use Rattle.circuit.specs.declared.circuit_line.CircuitLine.{CircuitLine}
 use Rattle.circuit.proofs.Bridging.{define_first, defined_push, gates_are_ordered, names_pass, numbers_new, push_cons}
 use Rattle.circuit.proofs.Naming.{inputs_are_first, wires_are_named}
 use Rattle.circuit.proofs.Places.{bytes_same, Have, consume_have, have_left}
@@ -35,8 +35,9 @@ use Rattle.certificate_lines.specs.Rules.{is_inverse_gate, keep_fault, line_faul
 use Rattle.certificate_lines.specs.Rules.{box_fault, end_fault, is_incomplete, is_local, is_local_wire, is_odd}
 use Rattle.certificate_lines.specs.Rules.{is_wrong_side, lacks_port, leaves_gap, module_fault, whole}
 use Rattle.certificate_lines.specs.Settings.{setting_of}
-use Rattle.certificate_lines.specs.declared.entry.Entry.{Entry}
-use Rattle.certificate_lines.specs.declared.entry.Entry.TheVariants.{Module, Cut, Use, Keep, Edge, Halo, Stop}
+use Rattle.certificate_lines.specs.declared.certificate_line.CertificateLine.{CertificateLine}
+use Rattle.certificate_lines.specs.declared.certificate_line.CertificateLine.TheVariants.{Module, Cut, Use, Keep, Edge}
+use Rattle.certificate_lines.specs.declared.certificate_line.CertificateLine.TheVariants.{Halo, Stop}
 use Rattle.certificate_lines.proofs.Lists.{any_at, kept}
 use Rattle.certificate_lines.proofs.LocalLemmas.{local_more}
 use Rattle.certificate.specs.Grammars.{certificate_grammar}
@@ -47,7 +48,7 @@ use Rattle.std.proofs.lemmas.List.Folds.{list_any-append}
 use Rattle.circuit.specs.Grammars.{circuit_grammar}
 use Rattle.pattern.specs.Grammars.{layout_grammar}
 use Rattle.pattern.specs.Lines.{AreNamed, is_side, size_fault}
-use Rattle.pattern.specs.declared.parts.Port.{Port}
+use Rattle.pattern.specs.declared.layout_line.Port.{Port}
 use Rattle.pattern.proofs.Named.{faultless_named}
 use Rattle.module_box.specs.Boxes.{in_box}
 use Rattle.certificate_lines.proofs.BoxPlaces.{cells_inside}
@@ -153,12 +154,12 @@ module _ (circuit : List CircuitLine) (good : AreGood circuit) where
 -- ---- the lines of one module
 
 -- each of these lines may stand in the module after those before it
-pub Inner : Setting → Box2 → List Entry → List Entry → Type 0
+pub Inner : Setting → Box2 → List CertificateLine → List CertificateLine → Type 0
 Inner g b ms [] = Unit {0}
 Inner g b ms (i ∷ ls) =
     (is_module i ≡ false) × (line_fault g (record { area = b; lines = ms }) i ≡ None) × Inner g b (ms ++ i ∷ []) ls
 
-inner_append : (g : Setting) (b : Box2) (ms xs ys : List Entry) → Inner g b ms xs → Inner g b (ms ++ xs) ys →
+inner_append : (g : Setting) (b : Box2) (ms xs ys : List CertificateLine) → Inner g b ms xs → Inner g b (ms ++ xs) ys →
     Inner g b ms (xs ++ ys)
 unfolding Inner
 inner_append g b ms [] ys h k = subst (λ l. Inner g b l ys) (append-nil ms) k
@@ -168,7 +169,8 @@ inner_append g b ms (x ∷ xs) ys h k = (
   inner_append g b (ms ++ x ∷ []) xs ys h.2 (subst (λ l. Inner g b l ys) (sym (append_assoc ms (x ∷ []) xs)) k),
 )
 
-in_module : (g : Setting) (before : List Entry) (m : ModuleLines) (i : Entry) → last_of (modules_of before) ≡ Some m →
+in_module : (g : Setting) (before : List CertificateLine) (m : ModuleLines) (i : CertificateLine) →
+    last_of (modules_of before) ≡ Some m →
     is_module i ≡ false → line_fault g m i ≡ None → entry_fault g before i ≡ None
 unfolding entry_fault
 in_module g before m (Module b) e h f = absurd cc
@@ -179,19 +181,21 @@ in_module g before m (Edge x) e h f = ap (λ o. inner_fault g o (Edge x)) e ∙ 
 in_module g before m (Halo x) e h f = ap (λ o. inner_fault g o (Halo x)) e ∙ f
 in_module g before m (Stop s) e h f = ap (λ o. inner_fault g o (Stop s)) e ∙ f
 
-present_one : (b : Box2) (ms : List Entry) → list_all (λ i. not (is_module i)) ms ≡ true →
+present_one : (b : Box2) (ms : List CertificateLine) → list_all (λ i. not (is_module i)) ms ≡ true →
     last_of (modules_of (Module b ∷ ms)) ≡ Some (record { area = b; lines = ms })
 unfolding modules_of last_of add_line
 present_one b ms inner = ap last_of (all_inner b [] ms inner)
 
-all_push : (ms : List Entry) (i : Entry) → list_all (λ i. not (is_module i)) ms ≡ true → is_module i ≡ false →
+all_push : (ms : List CertificateLine) (i : CertificateLine) → list_all (λ i. not (is_module i)) ms ≡ true →
+    is_module i ≡ false →
     list_all (λ i. not (is_module i)) (ms ++ i ∷ []) ≡ true
 all_push [] i h k = ap (λ b. not b && true) k
 all_push (m ∷ ms) i h k =
     let both = and_parts (not (is_module m)) (list_all (λ i. not (is_module i)) ms) h in
     ap₂ (λ a b. a && b) both.0 (all_push ms i both.1 k)
 
-inner_faultless : (g : Setting) (b : Box2) (ms ls : List Entry) → list_all (λ i. not (is_module i)) ms ≡ true →
+inner_faultless : (g : Setting) (b : Box2) (ms ls : List CertificateLine) →
+    list_all (λ i. not (is_module i)) ms ≡ true →
     Inner g b ms ls → AreFaultless (certificate_grammar g) 1 (Module b ∷ ms) ls
 unfolding Inner
 inner_faultless g b ms [] all h = tt
@@ -202,13 +206,14 @@ inner_faultless g b ms (i ∷ ls) all h = (
 
 -- ---- the order of lines
 
-follow_mapped : {X : Type 0} (mk : X → Entry) (j : Entry) (P : X → Type 0) (xs : List X) → All P xs →
+follow_mapped : {X : Type 0} (mk : X → CertificateLine) (j : CertificateLine) (P : X → Type 0) (xs : List X) →
+    All P xs →
     ((x : X) → P x → may_precede (mk x) j ≡ true) → list_all (λ i. may_precede i j) (map mk xs) ≡ true
 follow_mapped mk j P [] all h = refl
 follow_mapped mk j P (x ∷ xs) all h =
     ap₂ (λ a b. a && b) (h x (All-head P x xs all)) (follow_mapped mk j P xs (All-tail P x xs all) h)
 
-follow_both : (j : Entry) (xs ys : List Entry) → list_all (λ i. may_precede i j) xs ≡ true →
+follow_both : (j : CertificateLine) (xs ys : List CertificateLine) → list_all (λ i. may_precede i j) xs ≡ true →
     list_all (λ i. may_precede i j) ys ≡ true → list_all (λ i. may_precede i j) (xs ++ ys) ≡ true
 follow_both j [] ys h k = k
 follow_both j (x ∷ xs) ys h k =
@@ -252,7 +257,8 @@ unfolding may_precede is_cut line_cmp rank_of number_of
 keep_keep j k lt =
     ap (λ o. is_lt (ordering_then o (cell_cmp (cell_of (Keep j)) (cell_of (Keep k)))) || false) (less j k lt)
 
-follow_by : (g : Setting) (m : ModuleLines) (i : Entry) → may_follow m.lines i ≡ true → words_fault g m i ≡ None →
+follow_by : (g : Setting) (m : ModuleLines) (i : CertificateLine) → may_follow m.lines i ≡ true →
+    words_fault g m i ≡ None →
     line_fault g m i ≡ None
 follow_by g m i f w = ap₂ or_else (ap (λ b. code_where (not b) 6) f) w
 
@@ -330,7 +336,7 @@ module _ (circuit : List CircuitLine) (good : AreGood circuit) (p : Pattern) (b 
   abbrev all_gates : List Gate
   all_gates = (netlist_of circuit).gates
 
-  abbrev module_of : List Entry → ModuleLines
+  abbrev module_of : List CertificateLine → ModuleLines
   module_of ls = record { area = b; lines = ls }
 
   cuts_known : (done todo : List (List ℕ)) → done ++ todo ≡ ins →
@@ -368,7 +374,7 @@ module _ (circuit : List CircuitLine) (good : AreGood circuit) (p : Pattern) (b 
       )
 
   -- the lines before a use
-  abbrev front : List ℕ → List Entry
+  abbrev front : List ℕ → List CertificateLine
   front ks = map Cut ins ++ map Use ks
 
   front_cuts : (ks : List ℕ) → cuts (module_of (front ks)) ≡ ins
@@ -431,7 +437,7 @@ module _ (circuit : List CircuitLine) (good : AreGood circuit) (p : Pattern) (b 
             (ap after_gates longer ∙ more_known k n x at now ordered.2))),
       )
 
-  abbrev uses : List Entry
+  abbrev uses : List CertificateLine
   uses = front (range_with_len 0 (length all_gates))
 
   abbrev is_inverse_number : ℕ → Bool

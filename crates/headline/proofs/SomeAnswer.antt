@@ -12,7 +12,7 @@ use Rattle.circuit.specs.Entries.{defined}
 use Rattle.circuit.specs.Grammars.{circuit_grammar}
 use Rattle.circuit.specs.Meaning.{AreOrdered}
 use Rattle.circuit.specs.Text.{value_lines}
-use Rattle.circuit.specs.declared.entry.Entry.{Entry}
+use Rattle.circuit.specs.declared.circuit_line.CircuitLine.{CircuitLine}
 use Rattle.circuit.proofs.Bridging.{gates_are_ordered}
 use Rattle.audit_core.proofs.SomeValues.{HasStop, HasValues, values_or_stop}
 use Rattle.report.specs.ReportText.{refusal_line}
@@ -69,7 +69,7 @@ says_values asked ordered (inr s) = record {
 }
 
 -- what is asked has the lines of a circuit that was read
-asked_first : (entries : List Entry) (read : Result (List (List ℕ)) Refusal) (asked : ValueAsked)
+asked_first : (entries : List CircuitLine) (read : Result (List (List ℕ)) Refusal) (asked : ValueAsked)
     → with_value entries read ≡ Ok asked → entries ≡ asked.0
 asked_first entries (Ok on) asked e = cc
 asked_first entries (Err refusal) asked e = absurd cc

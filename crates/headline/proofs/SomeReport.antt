@@ -7,11 +7,11 @@ use Rattle.section_text.specs.Ports.{Named}
 use Rattle.pattern.specs.Grammars.{layout_grammar, layout_value}
 use Rattle.pattern.specs.Layout.{Pattern, parts_of}
 use Rattle.pattern.specs.Lines.{line_fault, order_fault, part_fault, size_fault}
-use Rattle.pattern.specs.declared.parts.Extent.{Extent}
-use Rattle.pattern.specs.declared.parts.Part.{Part}
-use Rattle.pattern.specs.declared.parts.Part.TheVariants.{Mirror, Ball, In, Out, Waste}
+use Rattle.pattern.specs.declared.layout_line.LayoutHeader.{LayoutHeader}
+use Rattle.pattern.specs.declared.layout_line.LayoutLine.{LayoutLine}
+use Rattle.pattern.specs.declared.layout_line.LayoutLine.TheVariants.{Mirror, Ball, In, Out, Waste}
 use Rattle.pattern.proofs.Added.{with_ball, with_in, with_mirror, with_out, with_waste}
-use Rattle.certificate.specs.Grammars.{CertState, certificate_grammar, modules_in}
+use Rattle.certificate.specs.Grammars.{CertView, certificate_grammar, modules_in}
 use Rattle.certificate_lines.specs.Entries.{Setting, modules_of}
 use Rattle.certificate_lines.specs.Modules.{AreModules}
 use Rattle.certificate_lines.specs.Settings.{setting_of}
@@ -30,12 +30,12 @@ use Rattle.headline.proofs.YesIsRight.{bundle_good, certificate_faultless}
 -- ---- a layout from its lines
 
 -- a layout of this size with these lines
-record HasLines (s : Extent) (parts : List Part) : Type 0 where
+record HasLines (s : LayoutHeader) (parts : List LayoutLine) : Type 0 where
   pub layout : Pattern
   pub size : layout.size ≡ s
   pub are : parts_of layout ≡ parts
 
-with_part : (p : Pattern) (part : Part) → order_fault (parts_of p) part ≡ None →
+with_part : (p : Pattern) (part : LayoutLine) → order_fault (parts_of p) part ≡ None →
     HasLines p.size (parts_of p ++ part ∷ [])
 with_part p (Mirror r) follows = record {
   layout = record p { mirrors = p.mirrors ++ r ∷ [] };
@@ -67,12 +67,12 @@ first_none : (a b : Option ℕ) → or_else a b ≡ None → a ≡ None
 first_none None b e = refl
 first_none (Some code) b e = absurd cc
 
-follows : (ports : Option Named) (s : Extent) (before : List Part) (part : Part) →
+follows : (ports : Option Named) (s : LayoutHeader) (before : List LayoutLine) (part : LayoutLine) →
     part_fault ports s before part ≡ None → order_fault before part ≡ None
 unfolding part_fault line_fault
 follows ports s before part e = first_none (order_fault before part) _ (first_none _ _ e)
 
-more_parts : (ports : Option Named) (s : Extent) (before parts : List Part) → HasLines s before →
+more_parts : (ports : Option Named) (s : LayoutHeader) (before parts : List LayoutLine) → HasLines s before →
     AreFaultless (layout_grammar ports) s before parts →
     HasLines s (before ++ parts)
 more_parts ports s before [] has good = subst (HasLines s) (sym (append-nil before)) has
@@ -89,7 +89,8 @@ more_parts ports s before (part ∷ parts) has good =
     subst (HasLines s) (append_assoc before (part ∷ []) parts)
     (more_parts ports s (before ++ part ∷ []) parts more good.1)
 
-pub some_layout : (ports : Option Named) (s : Extent) (parts : List Part) → IsFaultless (layout_grammar ports) s parts →
+pub some_layout : (ports : Option Named) (s : LayoutHeader) (parts : List LayoutLine) →
+    IsFaultless (layout_grammar ports) s parts →
     (p : Pattern) × (layout_value p ≡ (s, parts))
 some_layout ports s parts good =
     let empty : Pattern = record { size = s; mirrors = []; balls = []; ins = []; outs = []; wastes = [] } in
@@ -102,7 +103,7 @@ module _ (text : List ℕ) (b : Bundle) (e : bundle_of text ≡ Ok b) where
   own_layout : (p : Pattern) × (layout_value p ≡ (b.size, b.parts))
   own_layout = some_layout (Some (port_names_of b.circuit)) b.size b.parts (bundle_good text b e).layout
 
-  abbrev c : CertState
+  abbrev c : CertView
   c = record { circuit = b.circuit; layout = own_layout.0; version = b.version; entries = b.entries }
 
   abbrev g : Setting
@@ -116,7 +117,7 @@ module _ (text : List ℕ) (b : Bundle) (e : bundle_of text ≡ Ok b) where
       (read_complete g b.version b.entries faultless)
 
   limits : size_fault own_layout.0.size ≡ None
-  limits = subst (λ (q : Extent × List Part). size_fault q.0 ≡ None) (sym own_layout.1)
+  limits = subst (λ (q : LayoutHeader × List LayoutLine). size_fault q.0 ≡ None) (sym own_layout.1)
       (bundle_good text b e).layout.header
 
   judged : HasVerdict b.circuit own_layout.0 (modules_in c)

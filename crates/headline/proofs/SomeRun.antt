@@ -17,8 +17,8 @@ use Rattle.pattern.specs.Grammars.{layout_grammar}
 use Rattle.pattern.specs.Layout.{Pattern, StaysInside, in_layout, parts_of, plane_at, start}
 use Rattle.pattern.specs.Lines.{size_fault}
 use Rattle.pattern.specs.Run.{GoesOutside, IsRunEnd, RunLeaves, live_cells}
-use Rattle.pattern.specs.declared.parts.Extent.{Extent}
-use Rattle.pattern.specs.declared.parts.Part.{Part}
+use Rattle.pattern.specs.declared.layout_line.LayoutHeader.{LayoutHeader}
+use Rattle.pattern.specs.declared.layout_line.LayoutLine.{LayoutLine}
 use Rattle.pattern.specs.declared.run.RunEnd.{RunEnd}
 use Rattle.pattern.specs.declared.run.RunEnd.TheVariants.{Cells, LeftAt}
 use Rattle.pattern.proofs.InsideLemmas.{begins_inside, size_sides, start_inside}
@@ -39,7 +39,7 @@ use Rattle.headline.proofs.YesIsRight.{laid_out, went_on}
 
 -- ---- whether a step leaves the layout
 
-module _ (s : Extent) where
+module _ (s : LayoutHeader) where
   in_whole : (x y : ℤ) → in_layout s x y ≡ true → In (record { x = x; y = y }) (box_cells (whole s))
   unfolding in_box
   in_whole x y h = stands (box_cells (whole s)) _ (record { x = x; y = y }) (box_place (whole s) x y h)
@@ -149,7 +149,7 @@ filter_few test (x ∷ xs) = one (test x) (filter_few test xs)
     one true h = omega (arith, h)
     one false h = omega (arith, h)
 
-few_cells : (s : Extent) (state : State) → size_fault s ≡ None → length (live_cells s state) < 2 ^ 63
+few_cells : (s : LayoutHeader) (state : State) → size_fault s ≡ None → length (live_cells s state) < 2 ^ 63
 unfolding live_cells
 few_cells s state limits =
     let sides = size_sides s limits in
@@ -174,12 +174,12 @@ some_end p on limits inside = elim (run_to p.size (start p on) inside p.size.ste
 
 -- what is asked has the lines of a layout that was read
 record IsAskedLayout (asked : RunAsked) : Type 0 where
-  pub size : Extent
-  pub parts : List Part
+  pub size : LayoutHeader
+  pub parts : List LayoutLine
   pub good : IsFaultless (layout_grammar None) size parts
   pub same : (size, parts) ≡ asked.0
 
-asked_first : (lines : Extent × List Part) (read : Result (List (List ℕ)) Refusal) (asked : RunAsked) →
+asked_first : (lines : LayoutHeader × List LayoutLine) (read : Result (List (List ℕ)) Refusal) (asked : RunAsked) →
     with_value lines read ≡ Ok asked → lines ≡ asked.0
 asked_first lines (Ok on) asked e = cc
 asked_first lines (Err refusal) asked e = absurd cc
@@ -199,7 +199,7 @@ says_end : (asked : RunAsked) → IsAskedLayout asked → SaysSomething SaysRunE
 says_end asked a =
     let p = some_layout None a.size a.parts a.good in
     let whole : IsFaultless (layout_grammar None) p.0.size (parts_of p.0) =
-    subst (λ (q : Extent × List Part). IsFaultless (layout_grammar None) q.0 q.1) (sym p.1) a.good in
+    subst (λ (q : LayoutHeader × List LayoutLine). IsFaultless (layout_grammar None) q.0 q.1) (sym p.1) a.good in
     let begins = begins_inside p.0 (laid_out None p.0.size [] (parts_of p.0) whole.each) in
     let end = some_end p.0 (has asked.1) whole.header (start_inside p.0 (has asked.1) begins) in
     record {

@@ -23,15 +23,15 @@ use Rattle.certificate_lines.specs.Rules as rules
 use Rattle.circuit.specs.Bridge.{circuit_of, netlist_of, read}
 use Rattle.circuit.specs.Gates.{is_inverse, row, Switch as Switches, Unswitch as Unswitches}
 use Rattle.circuit.specs.Meaning.{AreOrdered, Gate as NetGate, HasRow, Valuation, place_of, wires_after, number}
-use Rattle.circuit.specs.declared.entry.Entry.{Entry as CircuitLine}
-use Rattle.circuit.specs.declared.entry.GateKind.TheVariants.{Switch, Unswitch}
-use Rattle.circuit.specs.declared.entry.Kind.TheVariants.{Input, Gate, Output}
+use Rattle.circuit.specs.declared.circuit_line.CircuitLine.{CircuitLine}
+use Rattle.circuit.specs.declared.circuit_line.GateKind.TheVariants.{Switch, Unswitch}
+use Rattle.circuit.specs.declared.circuit_line.Kind.TheVariants.{Input, Gate, Output}
 use Rattle.circuit.proofs.Undefined.{undefined_has_none}
 use Rattle.pattern.specs.Layout.{Pattern, rectangle_cells}
-use Rattle.pattern.specs.declared.parts.Part.{Part}
-use Rattle.pattern.specs.declared.parts.Part.TheVariants.{In, Out}
-use Rattle.pattern.specs.declared.parts.Port.{Port}
-use Rattle.pattern.specs.declared.parts.Extent.{Extent}
+use Rattle.pattern.specs.declared.layout_line.LayoutLine.{LayoutLine}
+use Rattle.pattern.specs.declared.layout_line.LayoutLine.TheVariants.{In, Out}
+use Rattle.pattern.specs.declared.layout_line.Port.{Port}
+use Rattle.pattern.specs.declared.layout_line.LayoutHeader.{LayoutHeader}
 use Rattle.module_box.specs.Boxes.{in_box, in_halo, in_ring, some_neighbour}
 use Rattle.module_box.specs.LocalValues.{IsLocalValuation}
 use Rattle.module_box.specs.Locals.{AreLocalsOf, LocalNet, circuit_gate, circuit_wire, is_among, renumber_gate}
@@ -41,18 +41,18 @@ use Rattle.module_box.specs.declared.schedules.Signal.TheVariants.{Zero, Wire}
 use Rattle.module_box.proofs.BoxCells.{same_some}
 use Rattle.certificate_lines.specs.Entries as entries
 use Rattle.certificate_lines.specs.Entries.{ModuleLines, keeps, modules_of}
-use Rattle.certificate.specs.Grammars.{CertState, modules_in}
+use Rattle.certificate.specs.Grammars.{CertView, modules_in}
 use Rattle.certificate_lines.specs.Settings.{setting_of}
 use Rattle.certificate_lines.specs.Modules.{AreModules}
 use Rattle.certificate.specs.Jobs.{AreJobsOf, IsJobOf, end_demand, start_signal}
-use Rattle.module_job.specs.Jobs.{IsJob, JobState, NamesOwnWires, job_demand, job_start, stop_moment}
+use Rattle.module_job.specs.Jobs.{IsJob, JobView, NamesOwnWires, job_demand, job_start, stop_moment}
 use Rattle.certificate_lines.specs.PortTables.{port_at}
 use Rattle.certificate.specs.Keeps.{is_kept}
-use Rattle.certificate.specs.Times.{are_all_kept, numbered, time_lines}
+use Rattle.certificate.specs.Times.{are_all_obeyed, numbered, time_lines}
 use Rattle.module_job.specs.Signals.{IsBelow, IsDemandBelow, renumber_demand, renumber_signal}
 use Rattle.module_job.specs.declared.job.Demand.TheVariants as Demanded
 use Rattle.module_job.specs.declared.job.Stop.{Stop}
-use Rattle.certificate_lines.specs.declared.entry.Entry.TheVariants.{Module, Cut, Use, Keep}
+use Rattle.certificate_lines.specs.declared.certificate_line.CertificateLine.TheVariants.{Module, Cut, Use, Keep}
 use Rattle.certificate.proofs.FullModules.{meant_old}
 use Rattle.certificate.proofs.Soundness.{faultless_modules}
 use Rattle.local_run.specs.Faults.{IsFault, IsKeepFault}
@@ -87,7 +87,7 @@ circuit =
     ∷ record { kind = Output; ins = codes "e" ∷ []; outs = [] }
     ∷ record { kind = Output; ins = codes "w" ∷ []; outs = [] } ∷ []
 
-abbrev size : Extent
+abbrev size : LayoutHeader
 size = record { w = 2; h = 2; steps = 0 }
 
 abbrev port_c : Port
@@ -102,7 +102,7 @@ port_e = record { name = codes "e"; cell = at 0 0 }
 abbrev port_w : Port
 port_w = record { name = codes "w"; cell = at 1 0 }
 
-abbrev parts : List Part
+abbrev parts : List LayoutLine
 parts = In port_c ∷ In port_x ∷ Out port_e ∷ Out port_w ∷ []
 
 abbrev only : ModuleLines
@@ -148,15 +148,15 @@ net = record {
   circuit_gates = 0 ∷ 1 ∷ [];
 }
 
-abbrev job : JobState
+abbrev job : JobView
 job = record {
   area = only.area;
   steps = 0;
   locals = net;
   starts = Wire 0 ∷ Wire 1 ∷ Zero ∷ Zero ∷ [];
   demands = Demanded.Wire 5 ∷ Demanded.Wire 6 ∷ Demanded.Dead ∷ Demanded.Dead ∷ [];
-  edges = record { held = []; events = [] };
-  halos = record { held = []; events = [] };
+  edges = record { all_times = []; events = [] };
+  halos = record { all_times = []; events = [] };
   stops = [];
   kept = 1 ∷ [];
 }
@@ -256,9 +256,9 @@ own = record {
       (omega arith, (omega arith, (tt, (tt, tt))));
   demands = All-from_recursion (IsDemandBelow 7) job.demands
       (omega arith, (omega arith, (tt, (tt, tt))));
-  edge_held = λ k d lt. absurd (omega arith);
+  edge_all_times = λ k d lt. absurd (omega arith);
   edge_events = λ k d lt. absurd (omega arith);
-  halo_held = λ k d lt. absurd (omega arith);
+  halo_all_times = λ k d lt. absurd (omega arith);
   halo_events = λ k d lt. absurd (omega arith);
   stops = λ k d lt. absurd (omega arith);
 }
@@ -334,30 +334,30 @@ no_keep_fault f is = ∥∥₁_elim is.shown (λ x y. absurd x)
 abbrev modules : List ModuleLines
 modules = only ∷ []
 
-abbrev jobs : List JobState
+abbrev jobs : List JobView
 jobs = job ∷ []
 
-times_kept : are_all_kept (time_lines (circuit_of circuit) modules) ≡ true
+times_kept : are_all_obeyed (time_lines (circuit_of circuit) modules) ≡ true
 unfolding numbered place_of number
 times_kept = refl
 
-no_more : (i : ℕ) (j : JobState) → slice_get [] i ≡ Some j → ⊥
+no_more : (i : ℕ) (j : JobView) → slice_get [] i ≡ Some j → ⊥
 no_more i j e = cc
 
-each_job : (k : ℕ) (m : ModuleLines) (j : JobState) → slice_get modules k ≡ Some m → slice_get jobs k ≡ Some j →
+each_job : (k : ℕ) (m : ModuleLines) (j : JobView) → slice_get modules k ≡ Some m → slice_get jobs k ≡ Some j →
     IsJobOf (circuit_of circuit) layout m j
 each_job zero m j e f =
-    subst (λ (j : JobState). IsJobOf (circuit_of circuit) layout m j) (same_some (Some job) job j refl f)
+    subst (λ (j : JobView). IsJobOf (circuit_of circuit) layout m j) (same_some (Some job) job j refl f)
     (subst (λ (m : ModuleLines). IsJobOf (circuit_of circuit) layout m job)
     (same_some (Some only) only m refl e) is_job_of)
 each_job (suc k) m j e f = absurd (no_more k j f)
 
-each_faultless : (k : ℕ) (j : JobState) (f : Fault) → slice_get jobs k ≡ Some j → ¬ IsFault j f
-each_faultless zero j f e = subst (λ (j : JobState). ¬ IsFault j f) (same_some (Some job) job j refl e) (no_fault f)
+each_faultless : (k : ℕ) (j : JobView) (f : Fault) → slice_get jobs k ≡ Some j → ¬ IsFault j f
+each_faultless zero j f e = subst (λ (j : JobView). ¬ IsFault j f) (same_some (Some job) job j refl e) (no_fault f)
 each_faultless (suc k) j f e = absurd (no_more k j e)
 
-each_in_domain : (k : ℕ) (j : JobState) (f : KeepFault) → slice_get jobs k ≡ Some j → ¬ IsKeepFault j f
-each_in_domain zero j f e = subst (λ (j : JobState). ¬ IsKeepFault j f) (same_some (Some job) job j refl e)
+each_in_domain : (k : ℕ) (j : JobView) (f : KeepFault) → slice_get jobs k ≡ Some j → ¬ IsKeepFault j f
+each_in_domain zero j f e = subst (λ (j : JobView). ¬ IsKeepFault j f) (same_some (Some job) job j refl e)
     (no_keep_fault f)
 each_in_domain (suc k) j f e = absurd (no_more k j e)
 
@@ -384,7 +384,7 @@ modules_are : modules_of bundle.entries ≡ modules
 unfolding entries.modules_of entries.add_line entries.change_last
 modules_are = refl
 
-abbrev certificate : CertState
+abbrev certificate : CertView
 certificate = record { circuit = circuit; layout = layout; version = 1; entries = bundle.entries }
 
 -- version 1 has the modules that its lines make

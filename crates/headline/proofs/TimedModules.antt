@@ -17,35 +17,35 @@ use Rattle.circuit.specs.Meaning as meaning
 use Rattle.circuit.specs.Bridge.{circuit_of, netlist_of, read}
 use Rattle.circuit.specs.Gates.{is_inverse, row, Interact as Interacts, Delay as Delays}
 use Rattle.circuit.specs.Meaning.{AreOrdered, Gate as NetGate, HasRow, Valuation, place_of, wires_after, number}
-use Rattle.circuit.specs.declared.entry.Entry.{Entry as CircuitLine}
-use Rattle.circuit.specs.declared.entry.GateKind.TheVariants.{Delay, Interact}
-use Rattle.circuit.specs.declared.entry.Kind.TheVariants.{Input, Gate, Output}
+use Rattle.circuit.specs.declared.circuit_line.CircuitLine.{CircuitLine}
+use Rattle.circuit.specs.declared.circuit_line.GateKind.TheVariants.{Delay, Interact}
+use Rattle.circuit.specs.declared.circuit_line.Kind.TheVariants.{Input, Gate, Output}
 use Rattle.pattern.specs.Forms as layout_forms
 use Rattle.pattern.specs.Lines as layout_rules
 use Rattle.pattern.specs.Layout as layouts
 use Rattle.pattern.specs.Layout.{Pattern, rectangle_cells}
-use Rattle.pattern.specs.declared.parts.Part.{Part}
-use Rattle.pattern.specs.declared.parts.Part.TheVariants.{In, Out}
-use Rattle.pattern.specs.declared.parts.Port.{Port}
-use Rattle.pattern.specs.declared.parts.Extent.{Extent}
+use Rattle.pattern.specs.declared.layout_line.LayoutLine.{LayoutLine}
+use Rattle.pattern.specs.declared.layout_line.LayoutLine.TheVariants.{In, Out}
+use Rattle.pattern.specs.declared.layout_line.Port.{Port}
+use Rattle.pattern.specs.declared.layout_line.LayoutHeader.{LayoutHeader}
 use Rattle.module_box.specs.Boxes as boxes
 use Rattle.module_box.specs.Moments.{cell_cmp, moment_cmp}
 use Rattle.module_box.specs.Boxes.{in_box, in_halo, in_ring, some_neighbour}
 use Rattle.module_box.specs.LocalValues.{IsLocalValuation}
 use Rattle.module_box.specs.Locals.{AreLocalsOf, LocalNet, circuit_gate, circuit_wire, is_among, renumber_gate}
-use Rattle.module_box.specs.Schedules.{IsRising, event_at, held_at, signal_at}
+use Rattle.module_box.specs.Schedules.{IsRising, event_at, all_times_at, signal_at}
 use Rattle.module_box.specs.declared.schedules.Event.{Event}
 use Rattle.module_box.specs.declared.schedules.Signal.TheVariants.{Zero, Wire}
 use Rattle.module_box.proofs.BoxCells.{same_some}
 use Rattle.certificate_lines.specs.Entries as entries
 use Rattle.certificate_lines.specs.Entries.{ModuleLines, modules_of}
-use Rattle.certificate.specs.Grammars.{CertState, modules_in}
+use Rattle.certificate.specs.Grammars.{CertView, modules_in}
 use Rattle.certificate_lines.specs.Settings.{setting_of}
 use Rattle.certificate_lines.specs.Modules.{AreModules}
 use Rattle.certificate.specs.Jobs.{AreJobsOf, IsJobOf, end_demand, start_signal}
-use Rattle.module_job.specs.Jobs.{IsJob, JobState, NamesOwnWires, IsStopOf, job_demand, job_start, stop_moment}
+use Rattle.module_job.specs.Jobs.{IsJob, JobView, NamesOwnWires, IsStopOf, job_demand, job_start, stop_moment}
 use Rattle.certificate_lines.specs.PortTables.{port_at}
-use Rattle.certificate.specs.Times.{are_all_kept, numbered, time_lines}
+use Rattle.certificate.specs.Times.{are_all_obeyed, numbered, time_lines}
 use Rattle.module_job.specs.Signals.{IsBelow, IsDemandBelow, renumber_demand, renumber_signal}
 use Rattle.module_job.specs.declared.job.Demand.TheVariants as Demanded
 use Rattle.certificate.proofs.FullModules.{meant_old}
@@ -60,11 +60,12 @@ use Rattle.section_text.specs.declared.fault.Refusal.{Refusal}
 use Rattle.certificate_lines.specs.Forms as forms
 use Rattle.certificate_lines.specs.Orders as orders
 use Rattle.certificate_lines.specs.Rules as rules
-use Rattle.certificate_lines.specs.declared.entry.Border.{Border}
-use Rattle.certificate_lines.specs.declared.entry.StopLine.{StopLine}
+use Rattle.certificate_lines.specs.declared.certificate_line.Border.{Border}
+use Rattle.certificate_lines.specs.declared.certificate_line.StopLine.{StopLine}
 use Rattle.module_job.specs.declared.job.Stop.{Stop}
-use Rattle.certificate_lines.specs.declared.entry.Entry.{Entry}
-use Rattle.certificate_lines.specs.declared.entry.Entry.TheVariants.{Module, Cut, Use, Edge, Halo, Stop as AtStop}
+use Rattle.certificate_lines.specs.declared.certificate_line.CertificateLine.{CertificateLine}
+use Rattle.certificate_lines.specs.declared.certificate_line.CertificateLine.TheVariants.{Module, Cut, Use, Edge, Halo}
+use Rattle.certificate_lines.specs.declared.certificate_line.CertificateLine.TheVariants.{Stop as AtStop}
 use Rattle.answers.specs.BundleText.{Bundle, bundle_of}
 use Rattle.answers.specs.Answers.{Answered}
 use Rattle.answers.specs.CheckText.{IsVerdictOn, SaysReport}
@@ -101,7 +102,7 @@ circuit =
     ∷ record { kind = Output; ins = codes "d" ∷ []; outs = [] }
     ∷ record { kind = Output; ins = codes "s" ∷ []; outs = [] } ∷ []
 
-abbrev pub size : Extent
+abbrev pub size : LayoutHeader
 size = record { w = 8; h = 8; steps = 3 }
 
 abbrev port_p : Port
@@ -128,7 +129,7 @@ port_c = record { name = codes "c"; cell = at 5 5 }
 abbrev port_d : Port
 port_d = record { name = codes "d"; cell = at 2 5 }
 
-abbrev pub parts : List Part
+abbrev pub parts : List LayoutLine
 parts =
     In port_p
     ∷ In port_q
@@ -167,7 +168,7 @@ fourth = record {
       ∷ AtStop (stop 0 (codes "q") 5 5) ∷ [];
 }
 
-abbrev lines_in : ModuleLines → List Entry
+abbrev lines_in : ModuleLines → List CertificateLine
 lines_in m = Module m.area ∷ m.lines
 
 abbrev pub bundle : Bundle
@@ -232,7 +233,7 @@ third_net = record {
 abbrev stands : ℕ → ℕ → ℕ → ℕ → Stop
 stands t x y w = record { at = record { time = t; cell = at x y }; wire = w }
 
-abbrev first_job : JobState
+abbrev first_job : JobView
 first_job = record {
   area = first.area;
   steps = 3;
@@ -242,13 +243,13 @@ first_job = record {
   demands = Demanded.Dead ∷ Demanded.Dead ∷ Demanded.Dead ∷ Demanded.Dead ∷ Demanded.Dead ∷ Demanded.Dead
       ∷ Demanded.Dead ∷ Demanded.Dead ∷ Demanded.Dead ∷ Demanded.Dead ∷ Demanded.Wire 3 ∷ Demanded.Dead
       ∷ Demanded.Dead ∷ Demanded.Dead ∷ Demanded.Dead ∷ Demanded.Dead ∷ [];
-  edges = record { held = []; events = event 3 3 0 ∷ [] };
-  halos = record { held = []; events = event 4 4 1 ∷ [] };
+  edges = record { all_times = []; events = event 3 3 0 ∷ [] };
+  halos = record { all_times = []; events = event 4 4 1 ∷ [] };
   stops = stands 0 2 2 0 ∷ [];
   kept = [];
 }
 
-abbrev second_job : JobState
+abbrev second_job : JobView
 second_job = record {
   area = second.area;
   steps = 3;
@@ -258,13 +259,13 @@ second_job = record {
   demands = Demanded.Dead ∷ Demanded.Dead ∷ Demanded.Dead ∷ Demanded.Dead ∷ Demanded.Dead ∷ Demanded.Dead
       ∷ Demanded.Dead ∷ Demanded.Dead ∷ Demanded.Dead ∷ Demanded.Wire 2 ∷ Demanded.Dead ∷ Demanded.Dead
       ∷ Demanded.Dead ∷ Demanded.Dead ∷ Demanded.Dead ∷ Demanded.Dead ∷ [];
-  edges = record { held = []; events = [] };
-  halos = record { held = []; events = event 3 3 0 ∷ event 4 4 1 ∷ [] };
+  edges = record { all_times = []; events = [] };
+  halos = record { all_times = []; events = event 3 3 0 ∷ event 4 4 1 ∷ [] };
   stops = [];
   kept = [];
 }
 
-abbrev third_job : JobState
+abbrev third_job : JobView
 third_job = record {
   area = third.area;
   steps = 3;
@@ -274,13 +275,13 @@ third_job = record {
   demands = Demanded.Dead ∷ Demanded.Dead ∷ Demanded.Dead ∷ Demanded.Dead ∷ Demanded.Dead ∷ Demanded.Dead
       ∷ Demanded.Wire 6 ∷ Demanded.Dead ∷ Demanded.Dead ∷ Demanded.Dead ∷ Demanded.Dead ∷ Demanded.Dead
       ∷ Demanded.Dead ∷ Demanded.Dead ∷ Demanded.Dead ∷ Demanded.Wire 7 ∷ [];
-  edges = record { held = []; events = [] };
-  halos = record { held = []; events = event 3 3 0 ∷ event 4 4 1 ∷ [] };
+  edges = record { all_times = []; events = [] };
+  halos = record { all_times = []; events = event 3 3 0 ∷ event 4 4 1 ∷ [] };
   stops = stands 0 0 4 2 ∷ stands 3 3 7 7 ∷ [];
   kept = [];
 }
 
-abbrev fourth_job : JobState
+abbrev fourth_job : JobView
 fourth_job = record {
   area = fourth.area;
   steps = 3;
@@ -290,8 +291,8 @@ fourth_job = record {
   demands = Demanded.Dead ∷ Demanded.Dead ∷ Demanded.Dead ∷ Demanded.Dead ∷ Demanded.Dead ∷ Demanded.Wire 4
       ∷ Demanded.Dead ∷ Demanded.Dead ∷ Demanded.Dead ∷ Demanded.Dead ∷ Demanded.Dead ∷ Demanded.Dead
       ∷ Demanded.Dead ∷ Demanded.Dead ∷ Demanded.Dead ∷ Demanded.Dead ∷ [];
-  edges = record { held = []; events = event 4 4 1 ∷ [] };
-  halos = record { held = []; events = event 3 3 0 ∷ [] };
+  edges = record { all_times = []; events = event 4 4 1 ∷ [] };
+  halos = record { all_times = []; events = event 3 3 0 ∷ [] };
   stops = stands 0 5 5 1 ∷ [];
   kept = [];
 }
@@ -299,7 +300,7 @@ fourth_job = record {
 abbrev modules : List ModuleLines
 modules = first ∷ second ∷ third ∷ fourth ∷ []
 
-abbrev jobs : List JobState
+abbrev jobs : List JobView
 jobs = first_job ∷ second_job ∷ third_job ∷ fourth_job ∷ []
 
 abbrev pub layout : Pattern
@@ -504,9 +505,9 @@ first_own = record {
       (tt, (tt, (tt, (tt, (tt, (tt, (tt, (tt, (tt, (tt, (omega arith, (tt, (tt, (tt, (tt, (tt, tt))))))))))))))));
   demands = All-from_recursion (IsDemandBelow 6) first_job.demands
       (tt, (tt, (tt, (tt, (tt, (tt, (tt, (tt, (tt, (tt, (omega arith, (tt, (tt, (tt, (tt, (tt, tt))))))))))))))));
-  edge_held = λ k d lt. absurd (omega arith);
+  edge_all_times = λ k d lt. absurd (omega arith);
   edge_events = All-from_recursion (λ (e : Event). IsBelow 6 e.signal) first_job.edges.events (omega arith, tt);
-  halo_held = λ k d lt. absurd (omega arith);
+  halo_all_times = λ k d lt. absurd (omega arith);
   halo_events = All-from_recursion (λ (e : Event). IsBelow 6 e.signal) first_job.halos.events (omega arith, tt);
   stops = All-from_recursion (λ (s : Stop). s.wire < 6) first_job.stops (omega arith, tt);
 }
@@ -562,17 +563,17 @@ first_whole = record {
 
 first_edges : (a : ℕ) → a < 4 → edge_test first_job (values a) 1 ≡ true
 unfolding values rectangle_cells job_start in_ring in_halo some_neighbour in_box in_span local_run local_step with_halo
-    step partner turned signal_at held_at event_at
+    step partner turned signal_at all_times_at event_at
 first_edges = below_four (λ a. edge_test first_job (values a) 1 ≡ true) refl refl refl refl
 
 first_ends : (a : ℕ) → a < 4 → end_test first_job (values a) ≡ true
 unfolding values rectangle_cells job_start job_demand in_ring in_halo some_neighbour in_box in_span local_run local_step
-    with_halo step partner turned signal_at held_at event_at
+    with_halo step partner turned signal_at all_times_at event_at
 first_ends = below_four (λ a. end_test first_job (values a) ≡ true) refl refl refl refl
 
 first_stops : (a : ℕ) → a < 4 → stop_test first_job (values a) ≡ true
 unfolding values rectangle_cells job_start in_ring in_halo some_neighbour in_box in_span local_run local_step with_halo
-    step partner turned signal_at held_at event_at
+    step partner turned signal_at all_times_at event_at
 first_stops = below_four (λ a. stop_test first_job (values a) ≡ true) refl refl refl refl
 
 first_faultless : (f : Fault) → ¬ IsFault first_job f
@@ -594,9 +595,9 @@ second_own = record {
       (tt, (tt, (tt, (tt, (tt, (tt, (tt, (tt, (tt, (tt, (tt, (tt, (tt, (tt, (tt, (tt, tt))))))))))))))));
   demands = All-from_recursion (IsDemandBelow 6) second_job.demands
       (tt, (tt, (tt, (tt, (tt, (tt, (tt, (tt, (tt, (omega arith, (tt, (tt, (tt, (tt, (tt, (tt, tt))))))))))))))));
-  edge_held = λ k d lt. absurd (omega arith);
+  edge_all_times = λ k d lt. absurd (omega arith);
   edge_events = All-from_recursion (λ (e : Event). IsBelow 6 e.signal) second_job.edges.events tt;
-  halo_held = λ k d lt. absurd (omega arith);
+  halo_all_times = λ k d lt. absurd (omega arith);
   halo_events = All-from_recursion (λ (e : Event). IsBelow 6 e.signal) second_job.halos.events
       (omega arith, (omega arith, tt));
   stops = λ k d lt. absurd (omega arith);
@@ -654,17 +655,17 @@ second_whole = record {
 
 second_edges : (a : ℕ) → a < 4 → edge_test second_job (values a) 1 ≡ true
 unfolding values rectangle_cells job_start in_ring in_halo some_neighbour in_box in_span local_run local_step with_halo
-    step partner turned signal_at held_at event_at
+    step partner turned signal_at all_times_at event_at
 second_edges = below_four (λ a. edge_test second_job (values a) 1 ≡ true) refl refl refl refl
 
 second_ends : (a : ℕ) → a < 4 → end_test second_job (values a) ≡ true
 unfolding values rectangle_cells job_start job_demand in_ring in_halo some_neighbour in_box in_span local_run local_step
-    with_halo step partner turned signal_at held_at event_at
+    with_halo step partner turned signal_at all_times_at event_at
 second_ends = below_four (λ a. end_test second_job (values a) ≡ true) refl refl refl refl
 
 second_stops : (a : ℕ) → a < 4 → stop_test second_job (values a) ≡ true
 unfolding values rectangle_cells job_start in_ring in_halo some_neighbour in_box in_span local_run local_step with_halo
-    step partner turned signal_at held_at event_at
+    step partner turned signal_at all_times_at event_at
 second_stops = below_four (λ a. stop_test second_job (values a) ≡ true) refl refl refl refl
 
 second_faultless : (f : Fault) → ¬ IsFault second_job f
@@ -685,9 +686,9 @@ third_own = record {
     tt,
     (tt, (tt, (tt, (tt, (tt, (omega arith, (tt, (tt, (tt, (tt, (tt, (tt, (tt, (tt, (omega arith, tt))))))))))))))),
   );
-  edge_held = λ k d lt. absurd (omega arith);
+  edge_all_times = λ k d lt. absurd (omega arith);
   edge_events = All-from_recursion (λ (e : Event). IsBelow 8 e.signal) third_job.edges.events tt;
-  halo_held = λ k d lt. absurd (omega arith);
+  halo_all_times = λ k d lt. absurd (omega arith);
   halo_events = All-from_recursion (λ (e : Event). IsBelow 8 e.signal) third_job.halos.events
       (omega arith, (omega arith, tt));
   stops = All-from_recursion (λ (s : Stop). s.wire < 8) third_job.stops (omega arith, (omega arith, tt));
@@ -745,17 +746,17 @@ third_whole = record {
 
 third_edges : (a : ℕ) → a < 8 → edge_test third_job (third_values a) 1 ≡ true
 unfolding third_values rectangle_cells job_start in_ring in_halo some_neighbour in_box in_span local_run local_step
-    with_halo step partner turned signal_at held_at event_at
+    with_halo step partner turned signal_at all_times_at event_at
 third_edges = below_eight (λ a. edge_test third_job (third_values a) 1 ≡ true) refl refl refl refl refl refl refl refl
 
 third_ends : (a : ℕ) → a < 8 → end_test third_job (third_values a) ≡ true
 unfolding third_values rectangle_cells job_start job_demand in_ring in_halo some_neighbour in_box in_span local_run
-    local_step with_halo step partner turned signal_at held_at event_at
+    local_step with_halo step partner turned signal_at all_times_at event_at
 third_ends = below_eight (λ a. end_test third_job (third_values a) ≡ true) refl refl refl refl refl refl refl refl
 
 third_stops : (a : ℕ) → a < 8 → stop_test third_job (third_values a) ≡ true
 unfolding third_values rectangle_cells job_start in_ring in_halo some_neighbour in_box in_span local_run local_step
-    with_halo step partner turned signal_at held_at event_at
+    with_halo step partner turned signal_at all_times_at event_at
 third_stops = below_eight (λ a. stop_test third_job (third_values a) ≡ true) refl refl refl refl refl refl refl refl
 
 third_faultless : (f : Fault) → ¬ IsFault third_job f
@@ -774,9 +775,9 @@ fourth_own = record {
       (tt, (tt, (tt, (tt, (tt, (omega arith, (tt, (tt, (tt, (tt, (tt, (tt, (tt, (tt, (tt, (tt, tt))))))))))))))));
   demands = All-from_recursion (IsDemandBelow 6) fourth_job.demands
       (tt, (tt, (tt, (tt, (tt, (omega arith, (tt, (tt, (tt, (tt, (tt, (tt, (tt, (tt, (tt, (tt, tt))))))))))))))));
-  edge_held = λ k d lt. absurd (omega arith);
+  edge_all_times = λ k d lt. absurd (omega arith);
   edge_events = All-from_recursion (λ (e : Event). IsBelow 6 e.signal) fourth_job.edges.events (omega arith, tt);
-  halo_held = λ k d lt. absurd (omega arith);
+  halo_all_times = λ k d lt. absurd (omega arith);
   halo_events = All-from_recursion (λ (e : Event). IsBelow 6 e.signal) fourth_job.halos.events (omega arith, tt);
   stops = All-from_recursion (λ (s : Stop). s.wire < 6) fourth_job.stops (omega arith, tt);
 }
@@ -834,17 +835,17 @@ fourth_whole = record {
 
 fourth_edges : (a : ℕ) → a < 4 → edge_test fourth_job (values a) 1 ≡ true
 unfolding values rectangle_cells job_start in_ring in_halo some_neighbour in_box in_span local_run local_step with_halo
-    step partner turned signal_at held_at event_at
+    step partner turned signal_at all_times_at event_at
 fourth_edges = below_four (λ a. edge_test fourth_job (values a) 1 ≡ true) refl refl refl refl
 
 fourth_ends : (a : ℕ) → a < 4 → end_test fourth_job (values a) ≡ true
 unfolding values rectangle_cells job_start job_demand in_ring in_halo some_neighbour in_box in_span local_run local_step
-    with_halo step partner turned signal_at held_at event_at
+    with_halo step partner turned signal_at all_times_at event_at
 fourth_ends = below_four (λ a. end_test fourth_job (values a) ≡ true) refl refl refl refl
 
 fourth_stops : (a : ℕ) → a < 4 → stop_test fourth_job (values a) ≡ true
 unfolding values rectangle_cells job_start in_ring in_halo some_neighbour in_box in_span local_run local_step with_halo
-    step partner turned signal_at held_at event_at
+    step partner turned signal_at all_times_at event_at
 fourth_stops = below_four (λ a. stop_test fourth_job (values a) ≡ true) refl refl refl refl
 
 fourth_faultless : (f : Fault) → ¬ IsFault fourth_job f
@@ -857,24 +858,24 @@ fourth_faultless = faultless fourth_job values fourth_whole is_ordered are_local
 -- ---- all of it
 
 borders : border_test (setting_of circuit layout) modules 1 ≡ true
-unfolding rectangle_cells in_halo some_neighbour in_box in_span signal_at held_at event_at place_of number
+unfolding rectangle_cells in_halo some_neighbour in_box in_span signal_at all_times_at event_at place_of number
 borders = refl
 
-times_kept : are_all_kept (time_lines (circuit_of circuit) modules) ≡ true
+times_kept : are_all_obeyed (time_lines (circuit_of circuit) modules) ≡ true
 unfolding numbered place_of number
 times_kept = refl
 
-no_more : (i : ℕ) (j : JobState) → slice_get [] i ≡ Some j → ⊥
+no_more : (i : ℕ) (j : JobView) → slice_get [] i ≡ Some j → ⊥
 no_more i j e = cc
 
-own_job : (m : ModuleLines) (j : JobState) (n : ModuleLines) (l : JobState) →
-    ◌≡◌ {A = Option ModuleLines} (Some m) (Some n) → ◌≡◌ {A = Option JobState} (Some j) (Some l) →
+own_job : (m : ModuleLines) (j : JobView) (n : ModuleLines) (l : JobView) →
+    ◌≡◌ {A = Option ModuleLines} (Some m) (Some n) → ◌≡◌ {A = Option JobView} (Some j) (Some l) →
     IsJobOf (circuit_of circuit) layout m j → IsJobOf (circuit_of circuit) layout n l
-own_job m j n l e f is = subst (λ (k : JobState). IsJobOf (circuit_of circuit) layout n k)
+own_job m j n l e f is = subst (λ (k : JobView). IsJobOf (circuit_of circuit) layout n k)
     (same_some (Some j) j l refl f)
     (subst (λ (k : ModuleLines). IsJobOf (circuit_of circuit) layout k j) (same_some (Some m) m n refl e) is)
 
-each_job : (k : ℕ) (m : ModuleLines) (j : JobState) → slice_get modules k ≡ Some m → slice_get jobs k ≡ Some j →
+each_job : (k : ℕ) (m : ModuleLines) (j : JobView) → slice_get modules k ≡ Some m → slice_get jobs k ≡ Some j →
     IsJobOf (circuit_of circuit) layout m j
 each_job zero m j e f = own_job first first_job m j e f first_is
 each_job (suc zero) m j e f = own_job second second_job m j e f second_is
@@ -882,26 +883,26 @@ each_job (suc (suc zero)) m j e f = own_job third third_job m j e f third_is
 each_job (suc (suc (suc zero))) m j e f = own_job fourth fourth_job m j e f fourth_is
 each_job (suc (suc (suc (suc k)))) m j e f = absurd (no_more k j f)
 
-each_faultless : (k : ℕ) (j : JobState) (f : Fault) → slice_get jobs k ≡ Some j → ¬ IsFault j f
-each_faultless zero j f e = subst (λ (j : JobState). ¬ IsFault j f) (same_some (Some first_job) first_job j refl e)
+each_faultless : (k : ℕ) (j : JobView) (f : Fault) → slice_get jobs k ≡ Some j → ¬ IsFault j f
+each_faultless zero j f e = subst (λ (j : JobView). ¬ IsFault j f) (same_some (Some first_job) first_job j refl e)
     (first_faultless f)
 each_faultless (suc zero) j f e =
-    subst (λ (j : JobState). ¬ IsFault j f) (same_some (Some second_job) second_job j refl e) (second_faultless f)
+    subst (λ (j : JobView). ¬ IsFault j f) (same_some (Some second_job) second_job j refl e) (second_faultless f)
 each_faultless (suc (suc zero)) j f e =
-    subst (λ (j : JobState). ¬ IsFault j f) (same_some (Some third_job) third_job j refl e) (third_faultless f)
+    subst (λ (j : JobView). ¬ IsFault j f) (same_some (Some third_job) third_job j refl e) (third_faultless f)
 each_faultless (suc (suc (suc zero))) j f e =
-    subst (λ (j : JobState). ¬ IsFault j f) (same_some (Some fourth_job) fourth_job j refl e) (fourth_faultless f)
+    subst (λ (j : JobView). ¬ IsFault j f) (same_some (Some fourth_job) fourth_job j refl e) (fourth_faultless f)
 each_faultless (suc (suc (suc (suc k)))) j f e = absurd (no_more k j e)
 
-keeps_none : (k g : ℕ) (j : JobState) → slice_get jobs k ≡ Some j → is_among j.kept g ≡ false
-keeps_none zero g j e = subst (λ (j : JobState). is_among j.kept g ≡ false)
+keeps_none : (k g : ℕ) (j : JobView) → slice_get jobs k ≡ Some j → is_among j.kept g ≡ false
+keeps_none zero g j e = subst (λ (j : JobView). is_among j.kept g ≡ false)
     (same_some (Some first_job) first_job j refl e) refl
 keeps_none (suc zero) g j e =
-    subst (λ (j : JobState). is_among j.kept g ≡ false) (same_some (Some second_job) second_job j refl e) refl
+    subst (λ (j : JobView). is_among j.kept g ≡ false) (same_some (Some second_job) second_job j refl e) refl
 keeps_none (suc (suc zero)) g j e =
-    subst (λ (j : JobState). is_among j.kept g ≡ false) (same_some (Some third_job) third_job j refl e) refl
+    subst (λ (j : JobView). is_among j.kept g ≡ false) (same_some (Some third_job) third_job j refl e) refl
 keeps_none (suc (suc (suc zero))) g j e =
-    subst (λ (j : JobState). is_among j.kept g ≡ false) (same_some (Some fourth_job) fourth_job j refl e) refl
+    subst (λ (j : JobView). is_among j.kept g ≡ false) (same_some (Some fourth_job) fourth_job j refl e) refl
 keeps_none (suc (suc (suc (suc k)))) g j e = absurd (no_more k j e)
 
 -- neither gate is an inverse one
@@ -927,7 +928,7 @@ modules_are : modules_of bundle.entries ≡ modules
 unfolding entries.modules_of entries.add_line entries.change_last
 modules_are = refl
 
-abbrev certificate : CertState
+abbrev certificate : CertView
 certificate = record { circuit = circuit; layout = layout; version = 1; entries = bundle.entries }
 
 -- version 1 has the modules that its lines make

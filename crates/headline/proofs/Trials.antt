@@ -16,7 +16,7 @@ use Rattle.module_box.specs.declared.boxes.Box2.{Box2}
 use Rattle.module_box.specs.declared.schedules.Signal.{Signal}
 use Rattle.module_box.specs.declared.schedules.Signal.TheVariants.{Zero, One, Wire}
 use Rattle.certificate_lines.specs.Entries.{ModuleLines, Setting}
-use Rattle.module_job.specs.Jobs.{IsJob, JobState, job_demand}
+use Rattle.module_job.specs.Jobs.{IsJob, JobView, job_demand}
 use Rattle.certificate_lines.specs.Rules.{box_cells, whole}
 use Rattle.module_job.specs.Signals.{is_live, Meets}
 use Rattle.module_job.specs.declared.job.Demand.{Demand}
@@ -139,14 +139,14 @@ at_every b test all x y h = cell_passes (λ c. test c.x c.y) (box_cells b) (reco
 
 -- ---- the faults of a job
 
-abbrev pub edge_test : JobState → Valuation → ℕ → Bool
+abbrev pub edge_test : JobView → Valuation → ℕ → Bool
 edge_test j u t = every_cell j.area
     (λ x y. not (in_ring j.area x y) || agree (local_run j u t x y) (is_live u (signal_at j.edges t x y)))
 
-abbrev pub end_test : JobState → Valuation → Bool
+abbrev pub end_test : JobView → Valuation → Bool
 end_test j u = every_cell j.area (λ x y. meets u (job_demand j x y) (local_run j u j.steps x y))
 
-abbrev pub stop_test : JobState → Valuation → Bool
+abbrev pub stop_test : JobView → Valuation → Bool
 stop_test j u = list_all (λ s. agree (local_run j u s.at.time s.at.cell.x s.at.cell.y) (u s.wire)) j.stops
 
 ring_inside : (b : Box2) (x y : ℤ) → in_ring b x y ≡ true → in_box b x y ≡ true
@@ -154,12 +154,12 @@ unfolding in_ring
 ring_inside b x y h = (and_parts (in_box b x y) _ h).0
 
 -- it passes the tests at all odd times, at its stops, and at the last time
-pub record Passes (j : JobState) (u : Valuation) : Type 0 where
+pub record Passes (j : JobView) (u : Valuation) : Type 0 where
   pub edges : (t : ℕ) → t % 2 ≡ 1 → t < j.steps → edge_test j u t ≡ true
   pub stops : stop_test j u ≡ true
   pub end : end_test j u ≡ true
 
-no_fault_under : (j : JobState) (u : Valuation) (t : ℕ) (kind : Kind) (x y : ℤ) → IsJob j → Passes j u →
+no_fault_under : (j : JobView) (u : Valuation) (t : ℕ) (kind : Kind) (x y : ℤ) → IsJob j → Passes j u →
     IsFaultUnder j u t kind x y → ⊥
 no_fault_under j u t Edge x y is p f =
     f.differs (agree_is _ _ (implied (in_ring j.area x y) _
@@ -174,7 +174,7 @@ no_fault_under j u t End x y is p f =
     f.differs (subst (λ n. Meets u (job_demand j x y) (local_run j u n x y)) (sym f.last)
     (meets_is u _ _ (at_every j.area _ p.end x y f.inside)))
 
-pub faultless : (j : JobState) (u : ℕ → Valuation) → IsJob j →
+pub faultless : (j : JobView) (u : ℕ → Valuation) → IsJob j →
     AreOrdered j.locals.netlist.given j.locals.netlist.gates →
     ((a : ℕ) → a < assignments j → IsLocalValuation j.locals a (u a)) → ((a : ℕ) → a < assignments j → Passes j (u a)) →
     (f : Fault) → ¬ IsFault j f

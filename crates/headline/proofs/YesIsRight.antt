@@ -24,7 +24,7 @@ use Rattle.circuit.specs.Entries.{rank_of}
 use Rattle.circuit.specs.Forms.{Line, form_of}
 use Rattle.circuit.specs.Grammars.{circuit_grammar}
 use Rattle.circuit.specs.Rules.{add_fault, gate_count, is_gate, last_rank, order_fault}
-use Rattle.circuit.specs.declared.entry.Entry.{Entry as CircuitLine}
+use Rattle.circuit.specs.declared.circuit_line.CircuitLine.{CircuitLine}
 use Rattle.circuit.proofs.Valuations.{at_most_one}
 use Rattle.circuit.proofs.Bridging.{count_append, gates_are_ordered}
 use Rattle.circuit.proofs.Fitting.{entry_fits, no_gate_still, no_gate_yet}
@@ -33,17 +33,17 @@ use Rattle.circuit.proofs.Orders.{last_rank_push}
 use Rattle.pattern.specs.Grammars.{layout_grammar, layout_value}
 use Rattle.pattern.specs.Layout.{Pattern, parts_of}
 use Rattle.pattern.specs.Lines as lines
-use Rattle.pattern.specs.declared.parts.Part.{Part}
-use Rattle.pattern.specs.declared.parts.Extent.{Extent}
+use Rattle.pattern.specs.declared.layout_line.LayoutLine.{LayoutLine}
+use Rattle.pattern.specs.declared.layout_line.LayoutHeader.{LayoutHeader}
 use Rattle.pattern.proofs.Named.{faultless_named}
 use Rattle.section_text.specs.Ports.{Named}
-use Rattle.certificate.specs.Grammars.{CertState, certificate_grammar, modules_in}
+use Rattle.certificate.specs.Grammars.{CertView, certificate_grammar, modules_in}
 use Rattle.certificate_lines.specs.Settings.{setting_of}
 use Rattle.certificate.specs.Arrivals.{AreOnTime}
 use Rattle.certificate_lines.specs.Entries.{modules_of, stop_in}
 use Rattle.certificate.specs.Times.{all_stops}
-use Rattle.certificate_lines.specs.declared.entry.Entry.{Entry}
-use Rattle.certificate_lines.specs.declared.entry.StopLine.{StopLine}
+use Rattle.certificate_lines.specs.declared.certificate_line.CertificateLine.{CertificateLine}
+use Rattle.certificate_lines.specs.declared.certificate_line.StopLine.{StopLine}
 use Rattle.certificate.proofs.MeantLines.{stops_meant}
 use Rattle.certificate.proofs.TimeLemmas.{all_in_modules}
 use Rattle.audit_core.specs.OnTime.{StopHolds}
@@ -171,7 +171,7 @@ circuit_good n (l ∷ ls) h rows e = header_good ls n rows (form_of (words_of l)
 
 -- ---- and so are those of a layout
 
-pub laid_out : (ports : Option Named) (s : Extent) (before parts : List Part) →
+pub laid_out : (ports : Option Named) (s : LayoutHeader) (before parts : List LayoutLine) →
     AreFaultless (layout_grammar ports) s before parts → lines.AreGoodAfter s before parts
 unfolding lines.part_fault lines.line_fault
 laid_out ports s before [] good = tt
@@ -255,7 +255,7 @@ bundle_good text b e =
       begins = λ p same. spelled text c.items (Some (port_names_of c.items)) _ p c.was (l.was ∙ ap Ok (sym same));
       says_all = λ p same. bundle_said text c.items (Some (port_names_of c.items)) _ p
           (setting_of c.items (layout_of l.header l.items)) m k.header k.items c.was (l.was ∙ ap Ok (sym same))
-          (subst (λ (q : Extent × List Part).
+          (subst (λ (q : LayoutHeader × List LayoutLine).
           section_of (certificate_grammar (setting_of c.items (layout_of l.header l.items))) m
           (drop (length q.1 + 2) (drop (length c.items + 2) (lines_of text))) ≡ Ok (k.header, k.items))
           (sym same) k.was);
@@ -276,7 +276,7 @@ certificate_faultless text b p e same =
     let good : P b = subst P whole
     (read_faultless (certificate_grammar (setting_of c.items (layout_of l.header l.items))) _ _ k.header k.items
     k.was) in
-    let Q : Extent × List Part → Type 0 =
+    let Q : LayoutHeader × List LayoutLine → Type 0 =
     λ q. IsFaultless (certificate_grammar (setting_of b.circuit (layout_of q.0 q.1))) b.version b.entries in
     subst (λ g. IsFaultless (certificate_grammar g) b.version b.entries) (same_setting b.circuit p)
     (subst Q (sym same) good)
@@ -289,11 +289,12 @@ own_design : (text : List ℕ) (b : Bundle) (output : List ℕ) (outcome : Outco
     SaysDesign text circuit layout → IsGoodDesign text circuit layout
 own_design text b output outcome circuit layout reads says said =
     let good = bundle_good text b reads in
-    let c : CertState = says.certificate in
+    let c : CertView = says.certificate in
     let p : Pattern = c.layout in
     let same = says.its_own in
     let whole : IsFaultless (layout_grammar (Some (port_names_of b.circuit))) p.size (parts_of p) =
-    subst (λ (q : Extent × List Part). IsFaultless (layout_grammar (Some (port_names_of b.circuit))) q.0 q.1)
+    subst (λ (q : LayoutHeader × List LayoutLine).
+    IsFaultless (layout_grammar (Some (port_names_of b.circuit))) q.0 q.1)
     (sym same.layout) good.layout in
     let begins = good.begins p same.layout in
     let one = one_design text b.circuit circuit p layout (good.says p same.layout) said in
@@ -329,11 +330,12 @@ pub known : (text : List ℕ) (b : Bundle) (output : List ℕ) (outcome : Outcom
     (says : SaysReport b output outcome) → IsRead says.certificate says.certificate.layout.size
 known text b output outcome reads says =
     let good = bundle_good text b reads in
-    let c : CertState = says.certificate in
+    let c : CertView = says.certificate in
     let same = says.its_own in
     let circuit : AreGood c.circuit = subst AreGood (sym same.circuit) good.circuit in
     let whole : IsFaultless (layout_grammar (Some (port_names_of c.circuit))) c.layout.size (parts_of c.layout) =
-    subst (λ (q : Extent × List Part). IsFaultless (layout_grammar (Some (port_names_of c.circuit))) q.0 q.1)
+    subst (λ (q : LayoutHeader × List LayoutLine).
+    IsFaultless (layout_grammar (Some (port_names_of c.circuit))) q.0 q.1)
     (sym same.layout)
     (subst (λ (cs : List CircuitLine). IsFaultless (layout_grammar (Some (port_names_of cs))) b.size b.parts)
     (sym same.circuit) good.layout) in
@@ -351,7 +353,7 @@ known text b output outcome reads says =
 judged_yes : (text : List ℕ) (b : Bundle) (output : List ℕ) (outcome : Outcome) → bundle_of text ≡ Ok b →
     (says : SaysReport b output outcome) → says.verdict ≡ verdict.Yes → IsRight text
 judged_yes text b output outcome reads says is =
-    let c : CertState = says.certificate in
+    let c : CertView = says.certificate in
     let same = says.its_own in
     let v = says.is_verdict in
     let judged = subst (λ (w : Verdict). IsVerdict (setting_of c.circuit c.layout) (modules_in c) v.jobs w) is
@@ -368,7 +370,7 @@ judged_yes text b output outcome reads says is =
 judged_stops : (text : List ℕ) (b : Bundle) (output : List ℕ) (outcome : Outcome) → bundle_of text ≡ Ok b →
     (says : SaysReport b output outcome) → says.verdict ≡ verdict.Yes → HasRightStops text
 judged_stops text b output outcome reads says is =
-    let c : CertState = says.certificate in
+    let c : CertView = says.certificate in
     let same = says.its_own in
     let v = says.is_verdict in
     let judged = subst (λ (w : Verdict). IsVerdict (setting_of c.circuit c.layout) (modules_in c) v.jobs w) is
@@ -376,7 +378,7 @@ judged_stops text b output outcome reads says is =
     let right = yes_means-on_time c c.layout.size v.jobs (known text b output outcome reads says) v.are_jobs judged in
     let own : all_stops (modules_in c) ≡ flat_map stop_in b.entries =
     stops_meant c.version (setting_of c.circuit c.layout) (modules_of c.entries)
-    ∙ ap (λ (es : List Entry). all_stops (modules_of es)) same.entries
+    ∙ ap (λ (es : List CertificateLine). all_stops (modules_of es)) same.entries
     ∙ all_in_modules (setting_of b.circuit c.layout) b.version b.entries
     (certificate_faultless text b c.layout reads same.layout) in
     record {

@@ -5,18 +5,18 @@
 -- circuit/specs/{Entries,Gates,Meaning,Bridge}.antt (the lines of a circuit, its gates, valuations);
 -- audit_core/specs/Implements.antt (a layout computes a circuit); section_text/specs/SaidSection.antt,
 -- circuit/specs/Forms.antt and pattern/specs/Forms.antt (a section, and what its lines say); Design.antt (what a text
--- says). The types that they name are in circuit/src/entry.rt, bbm_rule/src/block.rt, pattern/src/parts.rt and
--- section_text/src/section.rt. `tools/reading_list.py --definitions` prints which definitions of them are meant.
+-- says). The types that they name are in circuit/src/circuit_line.rt, bbm_rule/src/block.rt, pattern/src/layout_line.rt
+-- and section_text/src/section.rt. `tools/reading_list.py --definitions` prints which definitions of them are meant.
 use Rattle.std.specs.Prelude.{◌≡◌, ℕ, List, ◌++◌, Option, Some, slice_get, codes}
 use Rattle.section_text.specs.Words.{lines_of}
-use Rattle.circuit.specs.declared.entry.Entry.{Entry}
+use Rattle.circuit.specs.declared.circuit_line.CircuitLine.{CircuitLine}
 use Rattle.pattern.specs.Layout.{Pattern}
 use Rattle.audit_core.specs.Implements.{IsCorrect}
 use Rattle.headline.specs.Design.{SaysDesign}
 
 -- the text says a circuit and then a layout, and the layout computes the circuit
 pub record IsRight (text : List ℕ) : Type 0 where
-  pub circuit : List Entry
+  pub circuit : List CircuitLine
   pub layout : Pattern
   pub says : SaysDesign text circuit layout
   pub correct : IsCorrect circuit layout
@@ -28,8 +28,9 @@ SaysYes output = slice_get (lines_of output) 3 ≡ Some (codes "verdict yes")
 -- The bytes of a reader are known, and so are those of a writer before and after: if the output says yes, P
 -- holds of what there was to read.
 abbrev pub YesMeans : (List ℕ → Type 0) → Option (List ℕ) → Option (List ℕ) → Option (List ℕ) → Type 0
-YesMeans P left held held' = (text before output : List ℕ) → left ≡ Some text → held ≡ Some before →
-    held' ≡ Some (before ++ output) → SaysYes output → P text
+YesMeans P left written_bytes written_bytes' =
+    (text before output : List ℕ) → left ≡ Some text → written_bytes ≡ Some before →
+    written_bytes' ≡ Some (before ++ output) → SaysYes output → P text
 
 -- P holds of what there is to read, if that is known
 abbrev pub Gives : (List ℕ → Type 0) → Option (List ℕ) → Type 0

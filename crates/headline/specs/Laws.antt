@@ -3,8 +3,8 @@ use Rattle.std.specs.Prelude.{◌≡◌, ◌≢◌, ◌<◌, ℕ, List, [], ◌+
 use Rattle.circuit.specs.Bridge.{AreGood, netlist_of}
 use Rattle.circuit.specs.Meaning.{Satisfies, Valuation, wires}
 use Rattle.circuit.specs.Text.{circuit_text}
-use Rattle.circuit.specs.declared.entry.Entry.{Entry}
-use Rattle.certificate_lines.specs.declared.entry.Entry.{Entry as CertificateLine}
+use Rattle.circuit.specs.declared.circuit_line.CircuitLine.{CircuitLine}
+use Rattle.certificate_lines.specs.declared.certificate_line.CertificateLine.{CertificateLine}
 use Rattle.pattern.specs.Layout.{Pattern, parts_of}
 use Rattle.pattern.specs.Lines.{AreGoodAfter, size_fault}
 use Rattle.pattern.specs.Text.{layout_text}
@@ -36,7 +36,7 @@ YesMeansRightStops = (text output : List ℕ) → IsReportOf text output Yes →
 
 -- and its circuit has one valuation for each choice of values of the inputs: two of them agree on each wire
 abbrev pub YesHasOneValuation : Type 0
-YesHasOneValuation = (text output : List ℕ) (circuit : List Entry) (layout : Pattern) (inputs u v : Valuation) →
+YesHasOneValuation = (text output : List ℕ) (circuit : List CircuitLine) (layout : Pattern) (inputs u v : Valuation) →
     IsReportOf text output Yes → SaysDesign text circuit layout →
     Satisfies (netlist_of circuit) inputs u → Satisfies (netlist_of circuit) inputs v →
     (w : ℕ) → w < wires (netlist_of circuit) → u w ≡ v w
@@ -48,20 +48,20 @@ FourthLineTells = (text output : List ℕ) (outcome : Outcome) → IsReportOf te
 
 -- a text says one circuit and one layout at most
 abbrev pub SaysOneDesign : Type 0
-SaysOneDesign = (text : List ℕ) (circuit circuit' : List Entry) (layout layout' : Pattern) →
+SaysOneDesign = (text : List ℕ) (circuit circuit' : List CircuitLine) (layout layout' : Pattern) →
     SaysDesign text circuit layout → SaysDesign text circuit' layout' →
     (circuit ≡ circuit') × (layout ≡ layout')
 
 -- and the lines of one certificate
 abbrev pub SaysOneCertificate : Type 0
-SaysOneCertificate = (text : List ℕ) (circuit circuit' : List Entry) (layout layout' : Pattern)
+SaysOneCertificate = (text : List ℕ) (circuit circuit' : List CircuitLine) (layout layout' : Pattern)
     (certificate certificate' : List CertificateLine) →
     SaysBundle text circuit layout certificate → SaysBundle text circuit' layout' certificate' →
     certificate ≡ certificate'
 
 -- The design of a text that is not refused is good: each of its lines is good after those before it, by names, limits
 -- and cells. The text begins with the lines of both sections in their one spelling.
-pub record IsGoodDesign (text : List ℕ) (circuit : List Entry) (layout : Pattern) : Type 0 where
+pub record IsGoodDesign (text : List ℕ) (circuit : List CircuitLine) (layout : Pattern) : Type 0 where
   pub circuit_lines : AreGood circuit
   pub size : size_fault layout.size ≡ None
   pub layout_lines : AreGoodAfter layout.size [] (parts_of layout)
@@ -71,7 +71,7 @@ pub record IsGoodDesign (text : List ℕ) (circuit : List Entry) (layout : Patte
 -- In a text that is not refused, each line of the circuit and of the layout is good after those before it, and has its
 -- one spelling.
 abbrev pub ReportsOnGoodDesigns : Type 0
-ReportsOnGoodDesigns = (text output : List ℕ) (outcome : Outcome) (circuit : List Entry) (layout : Pattern) →
+ReportsOnGoodDesigns = (text output : List ℕ) (outcome : Outcome) (circuit : List CircuitLine) (layout : Pattern) →
     IsReportOf text output outcome → outcome ≢ Refused →
     SaysDesign text circuit layout → IsGoodDesign text circuit layout
 

@@ -1,9 +1,9 @@
 -- The facts that `migrate` keeps, of texts alone.
 use Rattle.std.specs.Prelude.{◌≡◌, ℕ, List}
-use Rattle.circuit.specs.declared.entry.Entry.{Entry as CircuitLine}
+use Rattle.circuit.specs.declared.circuit_line.CircuitLine.{CircuitLine}
 use Rattle.pattern.specs.Layout.{Pattern}
 use Rattle.certificate_lines.specs.Versions.{without_halos}
-use Rattle.certificate_lines.specs.declared.entry.Entry.{Entry}
+use Rattle.certificate_lines.specs.declared.certificate_line.CertificateLine.{CertificateLine}
 use Rattle.answers.specs.declared.outcome.Outcome.TheVariants.{Yes}
 use Rattle.answers.specs.CheckText.{IsReportOf}
 use Rattle.answers.specs.MigrateText.{IsMigrationOf}
@@ -12,20 +12,21 @@ use Rattle.headline.specs.Stops.{SaysBundle}
 
 -- the text says this circuit, this layout and these lines of a certificate of this version
 pub record SaysInVersion (version : ℕ) (text : List ℕ) (circuit : List CircuitLine) (layout : Pattern)
-    (certificate : List Entry) : Type 0 where
+    (certificate : List CertificateLine) : Type 0 where
   pub says : SaysBundle text circuit layout certificate
   pub of_version : says.version ≡ version
 
 -- a text of version 2 is written as it is, byte for byte
 abbrev pub KeepsVersionTwo : Type 0
-KeepsVersionTwo = (text output : List ℕ) (circuit : List CircuitLine) (layout : Pattern) (certificate : List Entry) →
+KeepsVersionTwo = (text output : List ℕ) (circuit : List CircuitLine) (layout : Pattern)
+    (certificate : List CertificateLine) →
     IsMigrationOf text output Yes → SaysInVersion 2 text circuit layout certificate → output ≡ text
 
 -- The text that `migrate` writes is of version 2. It says the circuit and the layout that were read, and the lines of
 -- the certificate other than its halo lines.
 abbrev pub MigrationSaysTheSame : Type 0
 MigrationSaysTheSame = (text output : List ℕ) (circuit : List CircuitLine) (layout : Pattern)
-    (certificate : List Entry) →
+    (certificate : List CertificateLine) →
     IsMigrationOf text output Yes → SaysBundle text circuit layout certificate →
     SaysInVersion 2 output circuit layout (without_halos certificate)
 

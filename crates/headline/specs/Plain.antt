@@ -3,10 +3,10 @@
 -- Read before: all that Headline.antt and Stops.antt name; certificate_lines/specs/Entries.antt up to `keep_in` (the
 -- lines of a module); audit_core/specs/PlainCertificates.antt from `IsPlain` to `TouchesRim`.
 use Rattle.std.specs.Prelude.{◌≡◌, ◌⊎◌, ℕ, List, [], ◌∷◌}
-use Rattle.circuit.specs.declared.entry.Entry.{Entry as CircuitLine}
+use Rattle.circuit.specs.declared.circuit_line.CircuitLine.{CircuitLine}
 use Rattle.pattern.specs.Layout.{Pattern}
 use Rattle.certificate_lines.specs.Entries.{ModuleLines, modules_of}
-use Rattle.certificate_lines.specs.declared.entry.Entry.{Entry}
+use Rattle.certificate_lines.specs.declared.certificate_line.CertificateLine.{CertificateLine}
 use Rattle.audit_core.specs.PlainCertificates.{IsPlain, TouchesRim}
 use Rattle.headline.specs.Design.{SaysDesign}
 use Rattle.headline.specs.Headline.{IsRight}
@@ -16,7 +16,7 @@ use Rattle.headline.specs.Stops.{HasRightStops, SaysBundle}
 pub record SaysPlain (text : List ℕ) : Type 0 where
   pub circuit : List CircuitLine
   pub layout : Pattern
-  pub certificate : List Entry
+  pub certificate : List CertificateLine
   pub says : SaysBundle text circuit layout certificate
   pub one : ModuleLines
   pub modules : modules_of certificate ≡ one ∷ []

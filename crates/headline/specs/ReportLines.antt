@@ -6,10 +6,10 @@
 use Rattle.std.specs.Prelude.{◌≡◌, ℕ, List, [], ◌∷◌, ◌++◌, slice_get, Some, Option, codes}
 use Rattle.std.specs.List.{All, flat_map}
 use Rattle.circuit.specs.Bridge.{netlist_of, circuit_of}
-use Rattle.circuit.specs.declared.entry.Entry.{Entry as CircuitLine}
+use Rattle.circuit.specs.declared.circuit_line.CircuitLine.{CircuitLine}
 use Rattle.pattern.specs.Layout.{Pattern}
 use Rattle.certificate_lines.specs.Entries.{ModuleLines, modules_of}
-use Rattle.certificate_lines.specs.declared.entry.Entry.{Entry}
+use Rattle.certificate_lines.specs.declared.certificate_line.CertificateLine.{CertificateLine}
 use Rattle.audit_core.specs.PlainCertificates.{LineMeans}
 use Rattle.headline.specs.Stops.{SaysBundle}
 use Rattle.section_text.specs.Spelling.{line_text}
@@ -31,7 +31,7 @@ pub record SaysNoWith (output : List ℕ) (lines : List ReportLine) : Type 0 whe
 -- and the values v of the wires for them. If v gives the module of the line the line's assignment, its fault is one of
 -- the whole plane.
 abbrev pub EarliestIsReal : List ℕ → List ReportLine → Type 0
-EarliestIsReal text lines = (circuit : List CircuitLine) (layout : Pattern) (certificate : List Entry) →
+EarliestIsReal text lines = (circuit : List CircuitLine) (layout : Pattern) (certificate : List CertificateLine) →
     SaysBundle text circuit layout certificate →
     (i : ℕ) (m : ModuleLines) (f : Fault) (inputs v : Valuation) → IsEarliestLine lines i f →
     slice_get (modules_of certificate) i ≡ Some m → Satisfies (netlist_of circuit) inputs v →
@@ -52,5 +52,6 @@ pub record LinesTell (text output : List ℕ) : Type 0 where
 -- The bytes of a reader are known, and so are those of a writer before and after: P holds of what there was to read and
 -- of what was written.
 abbrev pub Relates : (List ℕ → List ℕ → Type 0) → Option (List ℕ) → Option (List ℕ) → Option (List ℕ) → Type 0
-Relates P left held held' = (text before output : List ℕ) → left ≡ Some text → held ≡ Some before →
-    held' ≡ Some (before ++ output) → P text output
+Relates P left written_bytes written_bytes' =
+    (text before output : List ℕ) → left ≡ Some text → written_bytes ≡ Some before →
+    written_bytes' ≡ Some (before ++ output) → P text output

@@ -14,11 +14,11 @@ use Rattle.pattern.specs.Forms.{form_of as layout_form}
 use Rattle.pattern.specs.Grammars.{layout_grammar, layout_value}
 use Rattle.certificate_lines.specs.Forms.{form_of as certificate_form}
 use Rattle.audit_core.specs.Concluding.{port_names_of}
-use Rattle.circuit.specs.declared.entry.Entry.{Entry as CircuitLine}
+use Rattle.circuit.specs.declared.circuit_line.CircuitLine.{CircuitLine}
 use Rattle.pattern.specs.Layout.{Pattern, parts_of}
 use Rattle.certificate_lines.specs.Rules.{is_inverse_gate, whole}
-use Rattle.certificate_lines.specs.declared.entry.Entry.{Entry}
-use Rattle.certificate_lines.specs.declared.entry.Entry.TheVariants.{Module, Cut, Use, Keep}
+use Rattle.certificate_lines.specs.declared.certificate_line.CertificateLine.{CertificateLine}
+use Rattle.certificate_lines.specs.declared.certificate_line.CertificateLine.TheVariants.{Module, Cut, Use, Keep}
 
 -- the numbers of the gates of a circuit
 abbrev pub gate_numbers : List CircuitLine → List ℕ
@@ -31,7 +31,7 @@ inverse_numbers circuit =
 
 -- The lines of the plain certificate: one module, the whole rectangle, which cuts each input, uses each gate and keeps
 -- each inverse gate.
-abbrev pub plain_lines : List CircuitLine → Pattern → List Entry
+abbrev pub plain_lines : List CircuitLine → Pattern → List CertificateLine
 plain_lines circuit layout = Module (whole layout.size)
     ∷ (map Cut (input_names circuit) ++ map Use (gate_numbers circuit) ++ map Keep (inverse_numbers circuit))
 

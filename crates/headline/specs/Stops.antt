@@ -8,18 +8,18 @@ use Rattle.std.specs.Prelude.{◌≡◌, ℕ, List, ◌++◌}
 use Rattle.std.specs.List.{All, flat_map}
 use Rattle.section_text.specs.SaidSection.{IsSection}
 use Rattle.circuit.specs.Bridge.{circuit_of}
-use Rattle.circuit.specs.declared.entry.Entry.{Entry as CircuitLine}
+use Rattle.circuit.specs.declared.circuit_line.CircuitLine.{CircuitLine}
 use Rattle.pattern.specs.Layout.{Pattern}
 use Rattle.certificate.specs.Arrivals.{AreOnTime}
 use Rattle.certificate_lines.specs.Entries.{stop_in}
 use Rattle.certificate_lines.specs.Forms.{form_of as certificate_form}
-use Rattle.certificate_lines.specs.declared.entry.Entry.{Entry}
+use Rattle.certificate_lines.specs.declared.certificate_line.CertificateLine.{CertificateLine}
 use Rattle.audit_core.specs.OnTime.{StopHolds}
 use Rattle.headline.specs.Design.{SaysDesign}
 
 -- The text says this circuit and this layout, and goes on with the lines of this certificate.
 pub record SaysBundle (text : List ℕ) (circuit : List CircuitLine) (layout : Pattern)
-    (certificate : List Entry) : Type 0 where
+    (certificate : List CertificateLine) : Type 0 where
   pub design : SaysDesign text circuit layout
   pub version : ℕ
   pub third : List (List ℕ)
@@ -33,7 +33,7 @@ pub record SaysBundle (text : List ℕ) (circuit : List CircuitLine) (layout : P
 pub record HasRightStops (text : List ℕ) : Type 0 where
   pub circuit : List CircuitLine
   pub layout : Pattern
-  pub certificate : List Entry
+  pub certificate : List CertificateLine
   pub says : SaysBundle text circuit layout certificate
   pub stops : All (StopHolds (circuit_of circuit) layout) (flat_map stop_in certificate)
   pub on_time : AreOnTime (circuit_of circuit) (flat_map stop_in certificate)

@@ -47,7 +47,7 @@ pub fn migrate_has_one_answer()
 /// - A text that is reported with a yes is reported so too after it is migrated.
 pub fn migration_keeps_what_is_accepted()
     ensures unchanged { KeepsVersionTwo }
-    ensures same { MigrationSaysTheSame }
+    ensures says_the_same { MigrationSaysTheSame }
     ensures once { MigratesOnce }
     ensures accepted { MigrationIsAccepted }
 {}

@@ -10,8 +10,8 @@ use Rattle.std.proofs.lemmas.List.Elements.{All-head, All-tail}
 use Rattle.std.proofs.lemmas.Option.{slice_get-map, slice_get_within}
 use Rattle.audit_core.specs.Draws.{total, times, IsDrawn}
 use Rattle.module_job.specs.Groups.{AreGroups, IsFirstLike}
-use Rattle.module_job.specs.Jobs.{JobState}
-use Rattle.module_job.specs.Shapes.{ShapeState, shape_of}
+use Rattle.module_job.specs.Jobs.{JobView}
+use Rattle.module_job.specs.Shapes.{ShapeView, shape_of}
 use Rattle.audit_core.specs.Filling.{shapes_of}
 use Rattle.job_pool.specs.Work.{due}
 use Rattle.job_pool.proofs.Sums.{times-append, total-add, total_same}
@@ -27,13 +27,13 @@ read_any [] k d lt = absurd (omega (arith, lt))
 read_any (x ∷ xs) zero d lt = refl
 read_any (x ∷ xs) (suc k) d lt = read_any xs k d (omega (arith, lt))
 
-first_below : (shapes : List ShapeState) (groups : List ℕ) → AreGroups shapes groups → (k : ℕ) → k < length shapes →
+first_below : (shapes : List ShapeView) (groups : List ℕ) → AreGroups shapes groups → (k : ℕ) → k < length shapes →
     slice_index groups k < length shapes
 first_below shapes groups h k lt =
     let x = some_at shapes k lt in
     slice_get_within shapes (slice_index groups k) x.0 ((h.each k lt).same ∙ x.1)
 
-pub groups_below : (shapes : List ShapeState) (groups : List ℕ) → AreGroups shapes groups →
+pub groups_below : (shapes : List ShapeView) (groups : List ℕ) → AreGroups shapes groups →
     All (λ g. g < length shapes) groups
 groups_below shapes groups h k d lt =
     let count = h.count in
@@ -41,7 +41,7 @@ groups_below shapes groups h k d lt =
     (first_below shapes groups h k (omega (arith, lt, count)))
 
 -- the first of a group is in its own group
-own_first : (shapes : List ShapeState) (groups : List ℕ) → AreGroups shapes groups → (k g : ℕ) → k < length shapes →
+own_first : (shapes : List ShapeView) (groups : List ℕ) → AreGroups shapes groups → (k g : ℕ) → k < length shapes →
     slice_index groups k ≡ g → slice_index groups g ≡ g
 own_first shapes groups h k g lt is =
     let hk : IsFirstLike shapes k g = subst (IsFirstLike shapes k) is (h.each k lt) in
@@ -61,14 +61,14 @@ times_absent x (g ∷ gs) all = let h = times_absent x gs (All-tail (λ g. g ≢
     All-head (λ g. g ≢ x) g gs all in grind (arith, nat_tests)
 
 -- who is not the first of a group has no members
-pub not_first : (shapes : List ShapeState) (groups : List ℕ) (number : ℕ) → AreGroups shapes groups →
+pub not_first : (shapes : List ShapeView) (groups : List ℕ) (number : ℕ) → AreGroups shapes groups →
     slice_index groups number ≢ number → times number groups ≡ 0
 not_first shapes groups number h other = times_absent number groups (λ k d lt is.
     let count = h.count in
     other (own_first shapes groups h k number (omega (arith, lt, count)) (sym (read_any groups k d lt) ∙ is)))
 
 -- a member has the shape of the first
-pub member_shape : (jobs : List JobState) (groups : List ℕ) (number member : ℕ) (j k : JobState) →
+pub member_shape : (jobs : List JobView) (groups : List ℕ) (number member : ℕ) (j k : JobView) →
     AreGroups (shapes_of jobs) groups → member < length (shapes_of jobs) → slice_get jobs number ≡ Some j →
     slice_get jobs member ≡ Some k →
     slice_index groups member ≡ number → shape_of j ≡ shape_of k

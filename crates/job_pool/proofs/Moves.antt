@@ -13,7 +13,7 @@ use Rattle.job_pool.specs.declared.rule.View.{View}
 use Rattle.job_pool.specs.declared.rule.Size.{Size}
 use Rattle.audit_core.specs.Draws.{total, times, IsDrawn}
 use Rattle.job_pool.specs.Lists.{late}
-use Rattle.job_pool.specs.Rule.{Fits, IsDealt, IsKept, lists_of, view, drew, saw, Drew, Saw, fewer, one_place, both}
+use Rattle.job_pool.specs.Rule.{Fits, IsDealt, MeetsRule, lists_of, view, drew, saw, Drew, Saw, fewer, one_place, both}
 use Rattle.job_pool.specs.Rule.{spent, IsWhole}
 use Rattle.job_pool.proofs.Sums.{total_set, total_snoc, total-map, total_le, at_le, late-append, top-append, front-snoc}
 use Rattle.job_pool.proofs.Sums.{late_in_all, draw_keeps, merge_keeps, empty_keeps}
@@ -80,7 +80,7 @@ claim_keeps n seats word id views v at one clear r = let w = drew v word in reco
 module _ {S : Type 0} where
   pub claims : (size : Size) (slots id : ℕ) (me : Me S View) → size.numbers + size.seats < 2 ^ 63 → me.0.places ≡ 1 →
       late size.numbers me.0.draws ≡ 0
-      → Allows {S = S} (IsKept size) slots id me 0 (λ n. (n + 1) % 2 ^ 64) (Drew (step slots 0 1 0 none) me)
+      → Allows {S = S} (MeetsRule size) slots id me 0 (λ n. (n + 1) % 2 ^ 64) (Drew (step slots 0 1 0 none) me)
   claims size slots id me small one clear s r wide at fits =
       let word : ℕ = get_or s.words 0 0 in
       let w : View = drew me.0 word in
@@ -101,14 +101,14 @@ module _ {S : Type 0} where
         (f, refl, refl),
       )
 
-  unmoved : (size : Size) (s : State S View) (views : List View) → IsKept size s →
+  unmoved : (size : Size) (s : State S View) (views : List View) → MeetsRule size s →
       ((word : ℕ) → word ≡ get_or s.words 0 0 → IsDealt size.numbers size.seats word s.views →
       IsDealt size.numbers size.seats word views) →
       (length s.words ≡ 1) × IsDealt size.numbers size.seats (get_or s.words 0 0) views
   unmoved size s views r step = (r.0, step (get_or s.words 0 0) refl r.1)
 
   pub looks : (size : Size) (slots id : ℕ) (me : Me S View) → me.0.places ≡ 1 →
-      Allows {S = S} (IsKept size) slots id me 0 (λ n. n) (Saw (step slots 0 0 0 none) me)
+      Allows {S = S} (MeetsRule size) slots id me 0 (λ n. n) (Saw (step slots 0 0 0 none) me)
   looks size slots id me one s r wide at fits =
       let word : ℕ = get_or s.words 0 0 in
       let w : View = saw me.0 word in
@@ -204,17 +204,17 @@ join_keeps n seats word id other views v w at apart there some_place other_place
 
 module _ {S : Type 0} where
   pub splits : (size : Size) (id p : ℕ) → 0 < p →
-      Splits {S = S} (IsKept size) id (view [] 0 p) (fewer (view [] 0 p)) (one_place (view [] 0 p))
+      Splits {S = S} (MeetsRule size) id (view [] 0 p) (fewer (view [] 0 p)) (one_place (view [] 0 p))
   splits size id p some_place s r at =
       (r.0, split_keeps size.numbers size.seats (get_or s.words 0 0) id p s.views at some_place r.1)
 
   pub splits_as : (size : Size) (id p : ℕ) (v : View) → v ≡ view [] 0 p → 0 < p →
-      Splits {S = S} (IsKept size) id v (fewer v) (one_place v)
+      Splits {S = S} (MeetsRule size) id v (fewer v) (one_place v)
   splits_as size id p v is some_place =
-      subst (λ u. Splits {S = S} (IsKept size) id u (fewer u) (one_place u)) (sym is) (splits size id p some_place)
+      subst (λ u. Splits {S = S} (MeetsRule size) id u (fewer u) (one_place u)) (sym is) (splits size id p some_place)
 
   pub joins : (size : Size) (id : ℕ) (v : View) (other : ℕ) (w : View) → 0 < v.places → 0 < w.places →
-      Joins {S = S} (IsKept size) id v other w (both v w) spent
+      Joins {S = S} (MeetsRule size) id v other w (both v w) spent
   joins size id v other w some_place other_place s r at apart there = (
     r.0,
     join_keeps size.numbers size.seats

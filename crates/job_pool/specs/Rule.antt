@@ -32,8 +32,8 @@ pub record IsDealt (n seats word : ℕ) (views : List View) : Type 0 where
   pub each : (seat : ℕ) (v : View) → get_elem? views seat ≡ some v → Fits n word v
 
 -- a desk has one word
-abbrev pub IsKept : {S : Type 0} → Size → State S View → Type 0
-IsKept size s = (length s.words ≡ 1) × IsDealt size.numbers size.seats (slice_index s.words 0) s.views
+abbrev pub MeetsRule : {S : Type 0} → Size → State S View → Type 0
+MeetsRule size s = (length s.words ≡ 1) × IsDealt size.numbers size.seats (slice_index s.words 0) s.views
 
 -- ---- views
 

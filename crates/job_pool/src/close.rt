@@ -72,7 +72,7 @@ impl Desk {
         requires seats { All (IsSeatOf self.now) seats.items }
         requires some { 0 < vec_len seats }
         requires empty { draws.items ≡ [] }
-        requires room { vec_len seats ≤ vec_capacity draws }
+        requires room_for_draws { vec_len seats ≤ vec_capacity draws }
         ensures seat { (result.0.table_id ≡ self.now.table.shared.table_id)
             × (result.0.me.0.places ≡ vec_len seats) }
         ensures draws { map (λ v. v.items) result.1.items ≡ map drawn_by seats.items }

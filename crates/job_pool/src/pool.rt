@@ -8,7 +8,7 @@ ghost use Rattle.job_pool.specs.Work.{HasWorked, HaveRisen, IsReady, filed_by, s
 
 use crate::desk::{Desk, DeskSeat};
 use crate::gate::Gate;
-use crate::worker::{Site, Worker};
+use crate::worker::{SharedWork, Worker};
 use certificate::Job;
 use std::alloc::{AllocError, Global};
 use std::sync::ledger::Ledger;
@@ -75,14 +75,14 @@ pub fn work<F: Filings + Sync, A: Ledger + Sync, G: Gate + Sync, R: Threads + Wa
         shares: returned,
     } = rooms;
     let mut workers = hire(seats, shares, workers, &desk);
-    let site = Site {
+    let shared_work = SharedWork {
         gate,
         jobs,
         groups,
         desk: &desk,
         book,
     };
-    run_all(rt, alloc, &site, workers.as_mut_slice());
+    run_all(rt, alloc, &shared_work, workers.as_mut_slice());
     let (seats, shares, starved, runs) = dismiss(workers, ended, returned);
     let Ok(_closed) = desk.close(alloc, seats) else {
         return WorkEnd {
@@ -110,7 +110,7 @@ fn prepare<F: Filings, A: Ledger>(
     ensures seats { IfOk result (λ p. All (IsNewSeatOf p.0) p.1.items) }
     ensures empty { IfOk result (λ p. (p.2.workers.items ≡ []) × (p.2.seats.items ≡ [])
         × (p.2.shares.items ≡ [])) }
-    ensures room { IfOk result (λ p. (count ≤ vec_capacity p.2.workers)
+    ensures room_for_all { IfOk result (λ p. (count ≤ vec_capacity p.2.workers)
         × (count ≤ vec_capacity p.2.seats) × (count ≤ vec_capacity p.2.shares)) }
 {
     let workers = Vec::with_capacity(alloc, count)?;
@@ -135,7 +135,7 @@ fn hire<F: Filings, A: Ledger>(
     requires seats { All (IsNewSeatOf desk.now) seats.items }
     requires count { vec_len seats ≡ vec_len shares }
     requires empty { workers.items ≡ [] }
-    requires room { vec_len shares ≤ vec_capacity workers }
+    requires room_for_workers { vec_len shares ≤ vec_capacity workers }
     ensures count { vec_len result ≡ vec_len shares }
     ensures shares { shares_of result.items ≡ shares.items }
     ensures ready { All (IsReady desk.now) result.items }
@@ -158,23 +158,24 @@ fn hire<F: Filings, A: Ledger>(
 fn run_all<F: Filings + Sync, A: Ledger + Sync, G: Gate + Sync, R: Threads + Wait + Sync>(
     rt: &R,
     alloc: Global,
-    site: &Site<'_, F, A, G>,
+    shared_work: &SharedWork<'_, F, A, G>,
     workers: &mut [Worker<F, A>],
 )
     requires some { 0 < length workers.old }
-    requires ready { All (IsReady site.now.desk.now) workers.old }
-    requires all { numbers_of site.now.desk.now ≡ length site.now.jobs.now }
-    requires groups { AreGroups (shapes_of (map arc_value site.now.jobs.now)) site.now.groups.now }
+    requires ready { All (IsReady shared_work.now.desk.now) workers.old }
+    requires all { numbers_of shared_work.now.desk.now ≡ length shared_work.now.jobs.now }
+    requires groups { AreGroups (shapes_of (map arc_value shared_work.now.jobs.now))
+        shared_work.now.groups.now }
     ensures { (i : ℕ) (d : _) → i < length workers.old →
-        HasWorked site.now.desk.now site.now.groups.now (slice_index_or workers.old i d)
-        (slice_index_or workers.new i d) }
+        HasWorked shared_work.now.desk.now shared_work.now.groups.now
+        (slice_index_or workers.old i d) (slice_index_or workers.new i d) }
 {
     let threads = workers.len();
     thread::for_each_mut(
         rt,
         workers,
         threads,
-        &|_, worker| worker.run(rt, alloc, site),
+        &|_, worker| worker.run(rt, alloc, shared_work),
     );
 }
 
@@ -185,7 +186,7 @@ fn dismiss<F: Filings, A: Ledger>(
     mut shares: Vec<Share<F, A>>,
 ) -> (Vec<DeskSeat>, Vec<Share<F, A>>, bool, usize)
     requires empty { (seats.items ≡ []) × (shares.items ≡ []) }
-    requires room { (vec_len workers ≤ vec_capacity seats)
+    requires room_for_seats { (vec_len workers ≤ vec_capacity seats)
         × (vec_len workers ≤ vec_capacity shares) }
     ensures seats { result.0.items ≡ seats_of workers.items }
     ensures shares { result.1.items ≡ shares_of workers.items }

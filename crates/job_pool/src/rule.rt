@@ -23,9 +23,9 @@ pub struct Size {
 pub struct Numbered;
 
 impl<S> TableRule<S, View, Size> for Numbered {
-    ghost use Rattle.job_pool.specs.Rule.{IsKept, opener};
+    ghost use Rattle.job_pool.specs.Rule.{MeetsRule, opener};
 
-    ghost holds = { IsKept };
+    ghost holds = { MeetsRule };
 
     ghost first = { opener };
 }

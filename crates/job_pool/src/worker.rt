@@ -23,7 +23,7 @@ use verdict_book::{Book, Filings, Share};
 
 /// The state that all workers share.
 #[derive(Drop)]
-pub struct Site<'a, F: Filings, A: Ledger, G> {
+pub struct SharedWork<'a, F: Filings, A: Ledger, G> {
     pub(crate) gate: &'a G,
     pub(crate) jobs: &'a [Arc<Job>],
     /// For each job the number of the first of its shape.
@@ -46,19 +46,24 @@ impl<F: Filings, A: Ledger> Worker<F, A> {
     /// Draws numbers until none is left or there is no memory.
     ///
     /// If a number is the first of its group, it runs the job and files the findings of all members.
-    pub(crate) fn run<G: Gate, R: Wait>(&mut self, rt: &R, alloc: Global, site: &Site<'_, F, A, G>)
-        requires ready { IsReady site.now.desk.now self.old }
-        requires all { numbers_of site.now.desk.now ≡ length site.now.jobs.now }
-        requires groups { AreGroups (shapes_of (map arc_value site.now.jobs.now))
-            site.now.groups.now }
-        ensures { HasWorked site.now.desk.now site.now.groups.now self.old self.new }
+    pub(crate) fn run<G: Gate, R: Wait>(
+        &mut self,
+        rt: &R,
+        alloc: Global,
+        shared_work: &SharedWork<'_, F, A, G>,
+    )
+        requires ready { IsReady shared_work.now.desk.now self.old }
+        requires all { numbers_of shared_work.now.desk.now ≡ length shared_work.now.jobs.now }
+        requires groups { AreGroups (shapes_of (map arc_value shared_work.now.jobs.now))
+            shared_work.now.groups.now }
+        ensures { HasWorked shared_work.now.desk.now shared_work.now.groups.now self.old self.new }
     {
-        while let Claim::Number(number) = site.desk.claim(&mut self.seat) {
-            site.gate.before(number);
+        while let Claim::Number(number) = shared_work.desk.claim(&mut self.seat) {
+            shared_work.gate.before(number);
             let share = &mut self.share;
             let runs = &mut self.runs;
-            match run_group(rt, alloc, site, number, share, runs) {
-                Ok(()) => site.gate.after(number),
+            match run_group(rt, alloc, shared_work, number, share, runs) {
+                Ok(()) => shared_work.gate.after(number),
                 Err(_) => {
                     self.starved = true;
                     return;
@@ -73,27 +78,28 @@ impl<F: Filings, A: Ledger> Worker<F, A> {
 fn run_group<F: Filings, A: Ledger, G, R: Wait>(
     rt: &R,
     alloc: Global,
-    site: &Site<'_, F, A, G>,
+    shared_work: &SharedWork<'_, F, A, G>,
     number: usize,
     share: &mut Share<F, A>,
     runs: &mut usize,
 ) -> Result<(), AllocError>
-    requires number { number < length site.now.jobs.now }
-    requires groups { AreGroups (shapes_of (map arc_value site.now.jobs.now)) site.now.groups.now }
+    requires number { number < length shared_work.now.jobs.now }
+    requires groups { AreGroups (shapes_of (map arc_value shared_work.now.jobs.now))
+        shared_work.now.groups.now }
     ensures filed { OnOk result (share.new.filed
-        ≡ share.old.filed + times number site.now.groups.now) }
+        ≡ share.old.filed + times number shared_work.now.groups.now) }
     ensures risen { HasRisen share.old share.new }
-    ensures no_run { slice_index site.now.groups.now number ≢ number → runs.new ≡ runs.old }
-    ensures one_run { slice_index site.now.groups.now number ≡ number →
+    ensures no_run { slice_index shared_work.now.groups.now number ≢ number → runs.new ≡ runs.old }
+    ensures one_run { slice_index shared_work.now.groups.now number ≡ number →
         IsOneMore runs.old runs.new }
 {
-    let (jobs, groups) = (site.jobs, site.groups);
+    let (jobs, groups) = (shared_work.jobs, shared_work.groups);
     if groups[number] != number {
         return Ok(());
     }
-    let digest = site.book.digest();
+    let digest = shared_work.book.digest();
     let finding = run_counted(alloc, digest, number, &jobs[number], runs)?;
-    file_members(rt, site, &finding, number, share)
+    file_members(rt, shared_work, &finding, number, share)
 }
 
 // Runs a job and counts the run, also one that finds no memory. No other function of this crate runs jobs.
@@ -115,23 +121,24 @@ fn run_counted(
 // Files the findings of all members of a group, by that of its first number.
 fn file_members<F: Filings, A: Ledger, G, R: Wait>(
     rt: &R,
-    site: &Site<'_, F, A, G>,
+    shared_work: &SharedWork<'_, F, A, G>,
     finding: &Finding,
     number: usize,
     share: &mut Share<F, A>,
 ) -> Result<(), AllocError>
-    requires groups { AreGroups (shapes_of (map arc_value site.now.jobs.now)) site.now.groups.now }
-    requires first { slice_get (map arc_value site.now.jobs.now) number
+    requires groups { AreGroups (shapes_of (map arc_value shared_work.now.jobs.now))
+        shared_work.now.groups.now }
+    requires first { slice_get (map arc_value shared_work.now.jobs.now) number
         ≡ Some (job_of finding.now) }
     requires digest { digest_of finding.now ≡ F.digest }
     ensures filed { OnOk result (share.new.filed
-        ≡ share.old.filed + times number site.now.groups.now) }
+        ≡ share.old.filed + times number shared_work.now.groups.now) }
     ensures risen { HasRisen share.old share.new }
 {
-    let (jobs, groups) = (site.jobs, site.groups);
+    let (jobs, groups) = (shared_work.jobs, shared_work.groups);
     'members: for member in 0..jobs.len() {
         if groups[member] == number {
-            file_member(rt, site.book, finding, member, &jobs[member], share)?;
+            file_member(rt, shared_work.book, finding, member, &jobs[member], share)?;
         }
     }
     Ok(())

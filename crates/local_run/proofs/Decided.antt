@@ -15,7 +15,7 @@ use Rattle.module_box.specs.Schedules.{is_then}
 use Rattle.module_box.specs.declared.schedules.Moment.{Moment}
 use Rattle.module_box.proofs.Rising.{is_first, moment_total}
 use Rattle.bbm_rule.proofs.SameCells.{cell_same, cell_itself}
-use Rattle.module_job.specs.Jobs.{JobState, IsJob, NamesOwnWires, job_demand, stop_moment}
+use Rattle.module_job.specs.Jobs.{JobView, IsJob, NamesOwnWires, job_demand, stop_moment}
 use Rattle.module_job.specs.Signals.{Meets, IsDemandBelow}
 use Rattle.module_job.specs.declared.job.Demand.{Demand}
 use Rattle.module_job.specs.declared.job.Demand.TheVariants as Demanded
@@ -38,10 +38,10 @@ meets_same n u u' Demanded.Live b same below h = h
 meets_same n u u' (Demanded.Wire w) b same below h = h ∙ same w below
 meets_same n u u' Demanded.Any b same below h = tt
 
-own_stop : (j : JobState) (s : listed.Stop) → NamesOwnWires j → Contains j.stops s → s.wire < wires j.locals.netlist
+own_stop : (j : JobView) (s : listed.Stop) → NamesOwnWires j → Contains j.stops s → s.wire < wires j.locals.netlist
 own_stop j s own h = subst (λ (r : listed.Stop). r.wire < wires j.locals.netlist) h.2 (own.stops h.0 s h.1)
 
-pub fault_same : (j : JobState) (u u' : Valuation) (t : ℕ) (kind : Kind) (x y : ℤ) → NamesOwnWires j →
+pub fault_same : (j : JobView) (u u' : Valuation) (t : ℕ) (kind : Kind) (x y : ℤ) → NamesOwnWires j →
     AgreeBelow (wires j.locals.netlist) u u' →
     IsFaultUnder j u t kind x y → IsFaultUnder j u' t kind x y
 fault_same j u u' t Edge x y own same f = record {
@@ -69,7 +69,7 @@ fault_same j u u' t End x y own same f = record {
 }
 
 -- ---- so any local valuation tells
-not_prop : (j : JobState) (u : Valuation) (t w : ℕ) (x y : ℤ) → IsProp (local_run j u t x y ≢ u w)
+not_prop : (j : JobView) (u : Valuation) (t w : ℕ) (x y : ℤ) → IsProp (local_run j u t x y ≢ u w)
 not_prop j u t w x y = Prim.hlevel props
 
 nothing_prop : IsProp ⊥
@@ -94,7 +94,7 @@ found_stop (r ∷ stops) t x y = elim (cases_Bool (is_then r.at t x y)) [
     later s (suc k, lt, is) e n none = none s (k, omega (arith, lt), is) e
 
 -- stops at one moment are one stop
-one_stop : (j : JobState) (r s : listed.Stop) → IsJob j → Contains j.stops r → Contains j.stops s → r.at ≡ s.at → r ≡ s
+one_stop : (j : JobView) (r s : listed.Stop) → IsJob j → Contains j.stops r → Contains j.stops s → r.at ≡ s.at → r ≡ s
 one_stop j r s is hr hs same =
     let er : slice_get j.stops hr.0 ≡ Some r = slice_get-get_or j.stops hr.0 r hr.1 ∙ ap Some hr.2 in
     let es : slice_get j.stops hs.0 ≡ Some s = slice_get-get_or j.stops hs.0 s hs.1 ∙ ap Some hs.2 in
@@ -113,16 +113,16 @@ is_moment m t x y h =
     let cell = cell_same m.cell (record { x = x; y = y }) p.1 in
     λ i. record { time = time i; cell = cell i }
 
-then_moment : (j : JobState) (u : Valuation) (t : ℕ) (x y : ℤ) (f : IsStopFault j u t x y) →
+then_moment : (j : JobView) (u : Valuation) (t : ℕ) (x y : ℤ) (f : IsStopFault j u t x y) →
     f.stop.at ≡ record { time = t; cell = record { x = x; y = y } }
 then_moment j u t x y f i = record { time = f.time i; cell = record { x = f.column i; y = f.row i } }
 
-its_then : (j : JobState) (u : Valuation) (t : ℕ) (x y : ℤ) (f : IsStopFault j u t x y) → is_then f.stop.at t x y ≡ true
+its_then : (j : JobView) (u : Valuation) (t : ℕ) (x y : ℤ) (f : IsStopFault j u t x y) → is_then f.stop.at t x y ≡ true
 its_then j u t x y f = ap (λ m. is_then m t x y) (then_moment j u t x y f)
     ∙ and_from _ _ (eq-eqb t t refl) (cell_itself (record { x = x; y = y }))
 
 -- so a fault of a stop that there is can be found
-stop_told : (j : JobState) (u : Valuation) (t : ℕ) (x y : ℤ) → IsJob j → ∥ IsStopFault j u t x y ∥₁ →
+stop_told : (j : JobView) (u : Valuation) (t : ℕ) (x y : ℤ) → IsJob j → ∥ IsStopFault j u t x y ∥₁ →
     IsStopFault j u t x y
 stop_told j u t x y is some = elim (found_stop j.stops t x y) [
   | inl f ↦
@@ -140,13 +140,13 @@ stop_told j u t x y is some = elim (found_stop j.stops t x y) [
   | inr none ↦ absurd (∥∥₁_elim some nothing_prop (λ g. none g.stop g.is_listed (its_then j u t x y g)))
 ]
 
-told : (j : JobState) (u : Valuation) (t : ℕ) (kind : Kind) (x y : ℤ) → IsJob j → ∥ IsFaultUnder j u t kind x y ∥₁ →
+told : (j : JobView) (u : Valuation) (t : ℕ) (kind : Kind) (x y : ℤ) → IsJob j → ∥ IsFaultUnder j u t kind x y ∥₁ →
     IsFaultUnder j u t kind x y
 told j u t Edge x y is some = ∥∥₁_elim some (Prim.hlevel props) (λ f. f)
 told j u t Stop x y is some = stop_told j u t x y is some
 told j u t End x y is some = ∥∥₁_elim some (Prim.hlevel props) (λ f. f)
 
-moved : (j : JobState) (f : Fault) (u : Valuation) → IsJob j →
+moved : (j : JobView) (f : Fault) (u : Valuation) → IsJob j →
     AreOrdered j.locals.netlist.given j.locals.netlist.gates → IsLocalValuation j.locals f.assignment u →
     HasFault j f → IsFaultUnder j u f.time f.kind f.cell.x f.cell.y
 moved j f u is ordered local h =

@@ -11,7 +11,7 @@ use Rattle.module_box.specs.declared.boxes.Box2.{Box2}
 use Rattle.bbm_rule.proofs.Spans.{span_parts, span_from, in_span-negsuc}
 use Rattle.circuit.specs.Meaning.{Valuation}
 use Rattle.module_job.specs.Signals.{is_live, Meets}
-use Rattle.module_job.specs.Jobs.{JobState, job_demand}
+use Rattle.module_job.specs.Jobs.{JobView, job_demand}
 use Rattle.local_run.specs.Runs.{local_run}
 use Rattle.local_run.specs.Faults.{IsEdgeFault, IsFaultUnder, assignments}
 use Rattle.module_box.specs.declared.schedules.Signal.{Signal}
@@ -55,14 +55,14 @@ least_map n P Q f g None h = λ a l q. h a l (g a l q)
 least_map n P Q f g (Some a) h = (h.0, f a h.0 h.1, λ b l q. h.2 b l (g b (omega (arith, l, h.0)) q))
 
 -- no cell but those of the ring has a fault of its edge
-pub edge_none : (j : JobState) (n : ℕ) (u : ℕ → Valuation) (t : ℕ) (k : Kind) (x y : ℤ) → Edge ≡ k →
+pub edge_none : (j : JobView) (n : ℕ) (u : ℕ → Valuation) (t : ℕ) (k : Kind) (x y : ℤ) → Edge ≡ k →
     in_ring j.area x y ≡ false →
     IsLeastBelow n (λ a. IsFaultUnder j (u a) t k x y) None
 edge_none j n u t k x y e out a l f =
     let g : IsEdgeFault j (u a) t x y = subst (λ (k' : Kind). IsFaultUnder j (u a) t k' x y) (sym e) f in
     false≢true (sym out ∙ g.ring)
 
-pub end_least : (j : JobState) (vs : Values) (n : ℕ) (f : ℕ → Bool) (s : Signal) (d : Demand) (t : ℕ) (k : Kind)
+pub end_least : (j : JobView) (vs : Values) (n : ℕ) (f : ℕ → Bool) (s : Signal) (d : Demand) (t : ℕ) (k : Kind)
     (x y : ℤ) (r : Option ℕ) → End ≡ k → IsSought j t k →
     in_box j.area x y ≡ true → job_demand j x y ≡ d → ((v : Valuation) (b : Bool) → Meets v d b → b ≡ is_live v s) →
     ((v : Valuation) (b : Bool) → b ≡ is_live v s → Meets v d b) →
@@ -92,7 +92,7 @@ end_least j vs n f s d t k x y r e sought inside ed to from same h =
     at_end : t ≡ j.steps
     at_end = subst (λ (k' : Kind). IsSought j t k') (sym e) sought
 
-pub edge_least : (j : JobState) (vs : Values) (n : ℕ) (f : ℕ → Bool) (s : Signal) (t : ℕ) (k : Kind) (x y : ℤ)
+pub edge_least : (j : JobView) (vs : Values) (n : ℕ) (f : ℕ → Bool) (s : Signal) (t : ℕ) (k : Kind) (x y : ℤ)
     (r : Option ℕ) → Edge ≡ k → IsSought j t k → in_ring j.area x y ≡ true →
     s ≡ signal_at j.edges t x y → ((a : ℕ) → a < n → f a ≡ local_run j (valuation vs a) t x y) →
     IsLeastBelow n (λ a. (is_defined vs a ≡ true) × (f a ≢ is_live (valuation vs a) s)) r →
@@ -116,22 +116,22 @@ edge_least j vs n f s t k x y r e sought ring es same h =
     at = subst (λ (k' : Kind). IsSought j t k') (sym e) sought
 
 -- no cell but those of the ring is found
-pub edge_not_found : (j : JobState) (vs : Values) (n t : ℕ) (k : Kind) (x y : ℤ) → Edge ≡ k →
+pub edge_not_found : (j : JobView) (vs : Values) (n t : ℕ) (k : Kind) (x y : ℤ) → Edge ≡ k →
     in_ring j.area x y ≡ false → IsLeastBelow n (λ a. IsFound j vs a t k x y) None
 edge_not_found j vs n t k x y e out a l f = edge_none j n (λ a. valuation vs a) t k x y e out a l f.1
 
 -- ---- cells in order
-fault_in_box : (j : JobState) (v : Valuation) (t : ℕ) (kind : Kind) (x y : ℤ) → IsSought j t kind →
+fault_in_box : (j : JobView) (v : Valuation) (t : ℕ) (kind : Kind) (x y : ℤ) → IsSought j t kind →
     IsFaultUnder j v t kind x y → in_box j.area x y ≡ true
 unfolding in_ring
 fault_in_box j v t Edge x y s f = (and_parts _ _ f.ring).0
 fault_in_box j v t Stop x y s f = absurd s
 fault_in_box j v t End x y s f = f.inside
 
-abbrev pub FreeAt : JobState → Values → ℕ → Kind → ℕ → ℕ → ℕ → Type 0
+abbrev pub FreeAt : JobView → Values → ℕ → Kind → ℕ → ℕ → ℕ → Type 0
 FreeAt j vs t kind x y a = ¬ IsFound j vs a t kind (inner j.area.x x) (inner j.area.y y)
 
-pub free_from : (j : JobState) (vs : Values) (t : ℕ) (kind : Kind) → IsSought j t kind →
+pub free_from : (j : JobView) (vs : Values) (t : ℕ) (kind : Kind) → IsSought j t kind →
     ((x y a : ℕ) → x < j.area.w → y < j.area.h → a < assignments j → FreeAt j vs t kind x y a) → IsFree j vs t kind
 unfolding in_box
 free_from j vs t kind s free x y a l f =
@@ -142,7 +142,7 @@ free_from j vs t kind s free x y a l f =
     (subst (λ (z : ℤ). IsFound j vs a t kind z (inner j.area.y py.number)) px.is
     (subst (λ (z : ℤ). IsFound j vs a t kind x z) py.is f))
 
-pub first_from : (j : JobState) (vs : Values) (t : ℕ) (kind : Kind) (x y a : ℕ) (cx cy : ℤ) → IsSought j t kind →
+pub first_from : (j : JobView) (vs : Values) (t : ℕ) (kind : Kind) (x y a : ℕ) (cx cy : ℤ) → IsSought j t kind →
     cx ≡ inner j.area.x x → cy ≡ inner j.area.y y →
     x < j.area.w → y < j.area.h →
     ((x' y' a' : ℕ) → x' < j.area.w → y' < y → a' < assignments j → FreeAt j vs t kind x' y' a') →
@@ -214,7 +214,7 @@ still_at_end kind w h y x stride s at = elim s.2 [
   ]
 ]
 
-pub passed_over : (j : JobState) (u : Valuation) (t : ℕ) (kind : Kind) (x x' y stride : ℕ) →
+pub passed_over : (j : JobView) (u : Valuation) (t : ℕ) (kind : Kind) (x x' y stride : ℕ) →
     IsStride kind j.area.w j.area.h y stride → IsAtEnd j.area.w x stride →
     x < x' → x' < x + stride → x' < j.area.w → ¬ IsFaultUnder j u t kind (inner j.area.x x') (inner j.area.y y)
 passed_over j u t kind x x' y stride s at after before within f = elim s.2 [

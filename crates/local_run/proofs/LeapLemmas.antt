@@ -9,14 +9,14 @@ use Rattle.bbm_rule.proofs.BitLemmas.{by_lt_or_le}
 use Rattle.circuit.specs.Meaning.{Valuation}
 use Rattle.module_box.specs.Boxes.{in_box, in_halo}
 use Rattle.module_box.specs.Moments.{cell_cmp, moment_cmp}
-use Rattle.module_box.specs.Schedules.{IsRising, Signals, event_at, held_at, moment_of, signal_at}
+use Rattle.module_box.specs.Schedules.{IsRising, Signals, event_at, all_times_at, moment_of, signal_at}
 use Rattle.module_box.specs.declared.schedules.Event.{Event}
 use Rattle.module_box.specs.declared.schedules.Moment.{Moment}
 use Rattle.module_box.specs.declared.schedules.Signal.TheVariants.{Zero}
 use Rattle.module_box.specs.Moves.{moved_signals}
 use Rattle.module_box.proofs.MovedBoxes.{signals_moved}
 use Rattle.module_box.proofs.Rising.{event_none}
-use Rattle.module_job.specs.Jobs.{JobState}
+use Rattle.module_job.specs.Jobs.{JobView}
 use Rattle.module_job.specs.Signals.{is_live}
 use Rattle.local_run.specs.Laws.{QuietRunsStay, NoNewEdgeFaults}
 use Rattle.local_run.specs.Leaps.{HasNoEvents, IsOddOf, IsSteady, IsTimeBetween, StaysUpTo}
@@ -33,14 +33,14 @@ unfolding step
 step_alike k m s x y e = ap₂ (λ px py. turned (s x y) (s px py) (s px y) (s x py)) (partner_alike k m x e)
     (partner_alike k m y e)
 
-with_halo_alike : (j : JobState) (u : Valuation) (k m : ℕ) (s s' : State) (x y : ℤ) → s x y ≡ s' x y →
+with_halo_alike : (j : JobView) (u : Valuation) (k m : ℕ) (s s' : State) (x y : ℤ) → s x y ≡ s' x y →
     signal_at j.halos k x y ≡ signal_at j.halos m x y →
     with_halo j u k s x y ≡ with_halo j u m s' x y
 unfolding with_halo
 with_halo_alike j u k m s s' x y e h = ap₂ (λ p q. p || (in_halo j.area x y && is_live u q)) e h
 
 -- ---- one more time
-even_next : (j : JobState) (u : Valuation) (k m : ℕ) (x y : ℤ) → k % 2 ≡ 0 → m % 2 ≡ 0 →
+even_next : (j : JobView) (u : Valuation) (k m : ℕ) (x y : ℤ) → k % 2 ≡ 0 → m % 2 ≡ 0 →
     ((x' y' : ℤ) → local_run j u k x' y' ≡ local_run j u m x' y') →
     local_run j u (suc k) x y ≡ local_run j u (suc m) x y
 unfolding local_run
@@ -48,7 +48,7 @@ even_next j u k m x y ek em same =
     local_even j u k _ x y ek ∙ step_alike k m _ x y (ek ∙ sym em) ∙ step_all_same m _ _ x y same
     ∙ sym (local_even j u m _ x y em)
 
-odd_next : (j : JobState) (u : Valuation) (k m : ℕ) (x y : ℤ) → k % 2 ≡ 1 → m % 2 ≡ 1 →
+odd_next : (j : JobView) (u : Valuation) (k m : ℕ) (x y : ℤ) → k % 2 ≡ 1 → m % 2 ≡ 1 →
     ((x' y' : ℤ) → local_run j u k x' y' ≡ local_run j u m x' y') →
     ((x' y' : ℤ) → signal_at j.halos k x' y' ≡ signal_at j.halos m x' y') →
     local_run j u (suc k) x y ≡ local_run j u (suc m) x y
@@ -66,7 +66,7 @@ even_of t = elim (even_or_odd t) [
   | inr h ↦ (t + 1, omega arith, omega arith, omega arith)
 ]
 
-after_same : (j : JobState) (u : Valuation) (t o n k : ℕ) → IsOddOf t o → StaysUpTo j u t (t + 2) →
+after_same : (j : JobView) (u : Valuation) (t o n k : ℕ) → IsOddOf t o → StaysUpTo j u t (t + 2) →
     IsSteady j.halos o n → t ≤ k → k < n →
     ((x y : ℤ) → local_run j u k x y ≡ local_run j u t x y) → (x y : ℤ) →
     local_run j u (suc k) x y ≡ local_run j u t x y
@@ -85,7 +85,7 @@ after_same j u t o n k of stays steady from l same x y =
     ]
 
 -- ---- and so on
-stays_by : (j : JobState) (u : Valuation) (t o n d : ℕ) → IsOddOf t o → StaysUpTo j u t (t + 2) → IsSteady j.halos o n →
+stays_by : (j : JobView) (u : Valuation) (t o n d : ℕ) → IsOddOf t o → StaysUpTo j u t (t + 2) → IsSteady j.halos o n →
     t + d ≤ n →
     (x y : ℤ) → local_run j u (t + d) x y ≡ local_run j u t x y
 stays_by j u t o n zero of stays steady l x y = let e : t + 0 ≡ t = omega arith in ap (λ k. local_run j u k x y) e
@@ -205,7 +205,8 @@ steady s t n none k x y from to odd =
     let at : (m : ℕ) → t ≤ m → m < n → event_at s.events m x y ≡ None =
     λ m h l. event_none s.events (record { time = m; cell = record { x = x; y = y } }) (λ i e ei same.
     let et : e.at.time ≡ m = ap (λ w. w.time) same in none i e ei (omega arith) (omega arith)) in
-    ap (λ o. unwrap_or (held_at s.held x y) (unwrap_or o Zero)) (at k from to ∙ sym (at t (omega arith) (omega arith)))
+    ap (λ o. unwrap_or (all_times_at s.all_times x y) (unwrap_or o Zero))
+    (at k from to ∙ sym (at t (omega arith) (omega arith)))
 
 pub less_steady : (s : Signals) (t n m : ℕ) → m ≤ n → IsSteady s t n → IsSteady s t m
 less_steady s t n m l h k x y from to odd = h k x y from (omega arith) odd

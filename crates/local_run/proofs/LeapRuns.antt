@@ -6,7 +6,7 @@ use Rattle.std.proofs.lemmas.Bool.{and_parts, cases_Bool, false≢true}
 use Rattle.bbm_rule.specs.Spans.{in_span}
 use Rattle.bbm_rule.proofs.BitLemmas.{by_lt_or_le, by_eq_or_not}
 use Rattle.module_box.specs.Boxes.{in_box}
-use Rattle.module_job.specs.Jobs.{JobState, IsJob}
+use Rattle.module_job.specs.Jobs.{JobView, IsJob}
 use Rattle.local_run.specs.Faults.{assignments}
 use Rattle.local_run.specs.Leaps.{IsLeap, IsOddOf, IsSteady, StaysUpTo}
 use Rattle.local_run.specs.Runs.{local_run}
@@ -21,12 +21,12 @@ use Rattle.local_run.proofs.LocalRuns.{stays}
 use Rattle.local_run.proofs.StopScans.{none_between}
 
 -- the runs at two times are the same, under each assignment
-abbrev pub SameRuns : JobState → Values → ℕ → ℕ → Type 0
+abbrev pub SameRuns : JobView → Values → ℕ → ℕ → Type 0
 SameRuns j vs k m = (a : ℕ) → a < assignments j → (x y : ℤ) →
     local_run j (valuation vs a) k x y ≡ local_run j (valuation vs a) m x y
 
 -- planes that show both show it
-same_runs : (j : JobState) (vs : Values) (k m : ℕ) (p : Planes) → IsJob j → Shows j vs k p → Shows j vs m p →
+same_runs : (j : JobView) (vs : Values) (k m : ℕ) (p : Planes) → IsJob j → Shows j vs k p → Shows j vs m p →
     SameRuns j vs k m
 unfolding in_box
 same_runs j vs k m p is sk sm a la x y = elim (cases_Bool (in_box j.area x y)) [
@@ -41,14 +41,14 @@ same_runs j vs k m p is sk sm a la x y = elim (cases_Bool (in_box j.area x y)) [
       (sym (sk.cells a px.number py.number la px.below py.below) ∙ sm.cells a px.number py.number la px.below py.below))
 ]
 
-shows_same : (j : JobState) (vs : Values) (k m : ℕ) (p : Planes) → Shows j vs m p → SameRuns j vs k m → Shows j vs k p
+shows_same : (j : JobView) (vs : Values) (k m : ℕ) (p : Planes) → Shows j vs m p → SameRuns j vs k m → Shows j vs k p
 shows_same j vs k m p shows same = record {
   size = shows.size;
   cells = λ a x y la lx ly. shows.cells a x y la lx ly ∙ sym (same a la _ _);
 }
 
 -- a run that did not change at the odd time o and at the even time after it
-stays_both : (j : JobState) (vs : Values) (o a : ℕ) → a < assignments j → SameRuns j vs (o + 1) o →
+stays_both : (j : JobView) (vs : Values) (o a : ℕ) → a < assignments j → SameRuns j vs (o + 1) o →
     SameRuns j vs (o + 2) (o + 1) → StaysUpTo j (valuation vs a) o (o + 2)
 stays_both j vs o a la first second k x y from to = by_eq_or_not k o
     (λ e. ap (λ m. local_run j (valuation vs a) m x y) e)
@@ -67,14 +67,14 @@ is_odd_of o odd = record {
 -- ---- where a run has come to
 -- No time before has a fault, the planes show time t, and the place is that of the next stop. Unless something changed,
 -- the time before was the same
-pub record InRun (j : JobState) (vs : Values) (t place : ℕ) (p : Planes) (changed : Bool) : Type 0 where
+pub record InRun (j : JobView) (vs : Values) (t place : ℕ) (p : Planes) (changed : Bool) : Type 0 where
   pub shows : Shows j vs t p
   pub early : t ≤ j.steps
   pub next : IsNextStop j t place
   pub free : AreFreeBefore j vs t
   pub still : changed ≡ false → (1 ≤ t) × SameRuns j vs t (t - 1)
 
-one_next : (j : JobState) (vs : Values) (t old place : ℕ) (p q : Planes) (before changed : Bool) → IsReady j vs →
+one_next : (j : JobView) (vs : Values) (t old place : ℕ) (p q : Planes) (before changed : Bool) → IsReady j vs →
     InRun j vs t old p before → t < j.steps → IsPassed j vs t place →
     Shows j vs (t + 1) q → (changed ≡ false → Shows j vs t q) → InRun j vs (t + 1) place q changed
 one_next j vs t old place p q before changed ready run l passed next same = record {
@@ -90,7 +90,7 @@ one_next j vs t old place p q before changed ready run l passed next same = reco
         subst (SameRuns j vs (t + 1)) back (same_runs j vs (t + 1) t q ready.job next (same e))
 
 -- a leap from the odd time o, where the two steps from it on changed nothing
-leap_next : (j : JobState) (vs : Values) (o n place : ℕ) (q : Planes) (changed : Bool) → o % 2 ≡ 1 →
+leap_next : (j : JobView) (vs : Values) (o n place : ℕ) (q : Planes) (changed : Bool) → o % 2 ≡ 1 →
     SameRuns j vs (o + 1) o → SameRuns j vs (o + 2) (o + 1) →
     AreFreeBefore j vs (o + 2) → Shows j vs (o + 2) q → IsNextStop j (o + 2) place → IsNextStop j n place →
     IsSteady j.edges o n → IsSteady j.halos o n → o + 1 < n → n ≤ j.steps → InRun j vs n place q changed
@@ -124,7 +124,7 @@ none_or : (a b : Bool) → (a || b) ≡ false → (a ≡ false) × (b ≡ false)
 none_or true b e = absurd (false≢true (sym e))
 none_or false b e = (refl, e)
 
-pub next_run : (j : JobState) (vs : Values) (t n old place : ℕ) (p q : Planes) (before changed : Bool) → IsReady j vs →
+pub next_run : (j : JobView) (vs : Values) (t n old place : ℕ) (p q : Planes) (before changed : Bool) → IsReady j vs →
     InRun j vs t old p before → t < j.steps → IsPassed j vs t place →
     Shows j vs (t + 1) q → (changed ≡ false → Shows j vs t q) → (t < n) × (n ≤ j.steps) →
     (n ≡ t + 1) ⊎ IsLeap j t (before || changed) n → IsNextStop j n place → InRun j vs n place q changed
@@ -152,7 +152,7 @@ next_run j vs t n old place p q before changed ready run l passed next same rang
     back = omega arith
 
 -- it begins at time 0
-pub first_run : (j : JobState) (vs : Values) (p : Planes) → Shows j vs 0 p → InRun j vs 0 0 p true
+pub first_run : (j : JobView) (vs : Values) (p : Planes) → Shows j vs 0 p → InRun j vs 0 0 p true
 first_run j vs p shows = record {
   shows = shows;
   early = omega arith;

@@ -15,7 +15,7 @@ use Rattle.bbm_rule.proofs.BitLemmas.{by_lt_or_le}
 use Rattle.std.specs.Ordering.{nat_cmp, int_cmp, ordering_then}
 use Rattle.module_box.specs.Moments.{cell_cmp}
 use Rattle.circuit.specs.Meaning.{IsUndefined}
-use Rattle.module_job.specs.Jobs.{JobState}
+use Rattle.module_job.specs.Jobs.{JobView}
 use Rattle.module_job.specs.declared.job.Stop as listed
 use Rattle.local_run.specs.Order.{kind_number, fault_cmp, keep_cmp}
 use Rattle.local_run.specs.Faults.{IsFault, IsKeepFault, IsLeastFault, IsLeastKeepFault, assignments}
@@ -92,13 +92,13 @@ undefined_no_fault j f k ordered u h =
     ∥∥₁_elim h.shown (λ x y. absurd x)
     (λ s. undefined_has_none j.locals.netlist (bit f.assignment) s.values k ordered u s.local)
 
-rows_at : (j : JobState) (vs : Values) (a : ℕ) → IsReady j vs → a < assignments j →
+rows_at : (j : JobView) (vs : Values) (a : ℕ) → IsReady j vs → a < assignments j →
     AreRowsAt j.locals.netlist vs.words a vs.rows.values.items vs.rows.undefined.items vs.rows.defined.items
 rows_at j vs a ready small = ready.rows.each a
     (let count = ready.count in let room = ready.room in omega (arith, small, count, room))
 
 -- what a fault is under the values that are given
-pub under : (j : JobState) (vs : Values) (f : Fault) → IsReady j vs → IsFault j f →
+pub under : (j : JobView) (vs : Values) (f : Fault) → IsReady j vs → IsFault j f →
     IsFound j vs f.assignment f.time f.kind f.cell.x f.cell.y
 under j vs f ready h =
     let rows = rows_at j vs f.assignment ready h.in_range in
@@ -108,12 +108,12 @@ under j vs f ready h =
     ]
 
 -- and from them
-shown : (j : JobState) (vs : Values) (f : Fault) → IsReady j vs → f.assignment < assignments j →
+shown : (j : JobView) (vs : Values) (f : Fault) → IsReady j vs → f.assignment < assignments j →
     IsFound j vs f.assignment f.time f.kind f.cell.x f.cell.y → IsFault j f
 shown j vs f ready small h = (decided j f (valuation vs f.assignment) ready.job ready.ordered small
     ((rows_at j vs f.assignment ready small).local h.0)).1 h.1
 
-first_least : (j : JobState) (vs : Values) (f : Fault) → IsReady j vs → IsFirst j vs f.time f.kind f →
+first_least : (j : JobView) (vs : Values) (f : Fault) → IsReady j vs → IsFirst j vs f.time f.kind f →
     ((g : Fault) → IsFault j g → ¬ (g.time < f.time)) →
     ((g : Fault) → IsFault j g → f.time ≡ g.time → ¬ (kind_number g.kind < kind_number f.kind)) →
     IsLeastFault j (Some f)
@@ -136,11 +136,11 @@ first_least j vs f ready first earlier lower = (
         (under j vs g ready h))
 
 -- no time before t has a fault of an edge or of a stop
-pub record AreFreeBefore (j : JobState) (vs : Values) (t : ℕ) : Type 0 where
+pub record AreFreeBefore (j : JobView) (vs : Values) (t : ℕ) : Type 0 where
   pub edges : (s : ℕ) → s < t → s % 2 ≡ 1 → IsFree j vs s Edge
   pub stops : (s : ℕ) → s < t → IsFree j vs s Stop
 
-pub free_more : (j : JobState) (vs : Values) (t : ℕ) → AreFreeBefore j vs t → HasNoEdgeFault j vs t →
+pub free_more : (j : JobView) (vs : Values) (t : ℕ) → AreFreeBefore j vs t → HasNoEdgeFault j vs t →
     IsFree j vs t Stop → AreFreeBefore j vs (t + 1)
 free_more j vs t free edges stops = record {
   edges = λ s l odd. by_lt_or_le s t (λ h. free.edges s h odd)
@@ -151,25 +151,25 @@ free_more j vs t free edges stops = record {
 }
 
 -- then there is no fault before t, where the last time is not before
-before_free : (j : JobState) (vs : Values) (t : ℕ) → t ≤ j.steps → AreFreeBefore j vs t →
+before_free : (j : JobView) (vs : Values) (t : ℕ) → t ≤ j.steps → AreFreeBefore j vs t →
     (s : ℕ) (k : Kind) (x y : ℤ) (a : ℕ) → a < assignments j → IsFound j vs a s k x y → ¬ (s < t)
 before_free j vs t early free s Edge x y a small d l = free.edges s l d.1.odd x y a small d
 before_free j vs t early free s Stop x y a small d l = free.stops s l x y a small d
 before_free j vs t early free s End x y a small d l = let e = d.1.last in omega arith
 
-none_before : (j : JobState) (vs : Values) (t : ℕ) → IsReady j vs → t ≤ j.steps → AreFreeBefore j vs t → (f : Fault) →
+none_before : (j : JobView) (vs : Values) (t : ℕ) → IsReady j vs → t ≤ j.steps → AreFreeBefore j vs t → (f : Fault) →
     IsFault j f → ¬ (f.time < t)
 none_before j vs t ready early free f h l =
     before_free j vs t early free f.time f.kind f.cell.x f.cell.y f.assignment h.in_range (under j vs f ready h) l
 
-is_first : (j : JobState) (vs : Values) (t : ℕ) (k : Kind) (f : Fault) → IsFirst j vs t k f →
+is_first : (j : JobView) (vs : Values) (t : ℕ) (k : Kind) (f : Fault) → IsFirst j vs t k f →
     IsFirst j vs f.time f.kind f
 is_first j vs t k f first =
     subst (λ (t' : ℕ). IsFirst j vs t' f.kind f) (sym first.at_time)
     (subst (λ (k' : Kind). IsFirst j vs t k' f) (sym first.same_kind) first)
 
 -- from the first fault of a kind at a time, where the kinds before it have no fault at the time
-least_at : (j : JobState) (vs : Values) (t : ℕ) (k : Kind) (f : Fault) → IsReady j vs → t ≤ j.steps →
+least_at : (j : JobView) (vs : Values) (t : ℕ) (k : Kind) (f : Fault) → IsReady j vs → t ≤ j.steps →
     AreFreeBefore j vs t → IsFirst j vs t k f →
     ((l : Kind) (x y : ℤ) (a : ℕ) → a < assignments j → IsFound j vs a t l x y → ¬ (kind_number l < kind_number k)) →
     IsLeastFault j (Some f)
@@ -180,28 +180,28 @@ least_at j vs t k f ready early free first lower = first_least j vs f ready (is_
     (under j vs g ready h))
     (subst (λ (q : Kind). kind_number g.kind < kind_number q) first.same_kind l))
 
-none_below_edge : (j : JobState) (vs : Values) (t : ℕ) (l : Kind) (x y : ℤ) (a : ℕ) → a < assignments j →
+none_below_edge : (j : JobView) (vs : Values) (t : ℕ) (l : Kind) (x y : ℤ) (a : ℕ) → a < assignments j →
     IsFound j vs a t l x y → ¬ (kind_number l < 0)
 none_below_edge j vs t l x y a small d h = omega (arith, h)
 
-none_below_stop : (j : JobState) (vs : Values) (t : ℕ) → HasNoEdgeFault j vs t → (l : Kind) (x y : ℤ) (a : ℕ) →
+none_below_stop : (j : JobView) (vs : Values) (t : ℕ) → HasNoEdgeFault j vs t → (l : Kind) (x y : ℤ) (a : ℕ) →
     a < assignments j → IsFound j vs a t l x y → ¬ (kind_number l < 1)
 none_below_stop j vs t edges Edge x y a small d h = edges d.1.odd x y a small d
 none_below_stop j vs t edges Stop x y a small d h = omega (arith, h)
 none_below_stop j vs t edges End x y a small d h = omega (arith, h)
 
 -- at the last time no edge is looked at
-no_last_edge : (j : JobState) (vs : Values) → HasNoEdgeFault j vs j.steps
+no_last_edge : (j : JobView) (vs : Values) → HasNoEdgeFault j vs j.steps
 no_last_edge j vs odd x y a small d = let e = d.1.early in omega (arith, e)
 
-none_below_end : (j : JobState) (vs : Values) → IsFree j vs j.steps Stop → (l : Kind) (x y : ℤ) (a : ℕ) →
+none_below_end : (j : JobView) (vs : Values) → IsFree j vs j.steps Stop → (l : Kind) (x y : ℤ) (a : ℕ) →
     a < assignments j → IsFound j vs a j.steps l x y → ¬ (kind_number l < 2)
 none_below_end j vs stops Edge x y a small d h = no_last_edge j vs d.1.odd x y a small d
 none_below_end j vs stops Stop x y a small d h = stops x y a small d
 none_below_end j vs stops End x y a small d h = omega (arith, h)
 
 -- the first fault at a time before the last
-pub early_least : (j : JobState) (vs : Values) (t : ℕ) (f : Fault) → IsReady j vs → t < j.steps → AreFreeBefore j vs t →
+pub early_least : (j : JobView) (vs : Values) (t : ℕ) (f : Fault) → IsReady j vs → t < j.steps → AreFreeBefore j vs t →
     IsFirstAt j vs t f → IsLeastFault j (Some f)
 early_least j vs t f ready early free (inl edge) =
     least_at j vs t Edge f ready (omega (arith, early)) free edge.1 (none_below_edge j vs t)
@@ -209,13 +209,13 @@ early_least j vs t f ready early free (inr stop) =
     least_at j vs t Stop f ready (omega (arith, early)) free stop.1 (none_below_stop j vs t stop.0)
 
 -- the first fault of a stop at the last time
-pub last_stop_least : (j : JobState) (vs : Values) (f : Fault) → IsReady j vs → AreFreeBefore j vs j.steps →
+pub last_stop_least : (j : JobView) (vs : Values) (f : Fault) → IsReady j vs → AreFreeBefore j vs j.steps →
     IsFirst j vs j.steps Stop f → IsLeastFault j (Some f)
 last_stop_least j vs f ready free first =
     least_at j vs j.steps Stop f ready (omega arith) free first (none_below_stop j vs j.steps (no_last_edge j vs))
 
 -- no fault at all
-none_left : (j : JobState) (vs : Values) → AreFreeBefore j vs j.steps → IsFree j vs j.steps Stop →
+none_left : (j : JobView) (vs : Values) → AreFreeBefore j vs j.steps → IsFree j vs j.steps Stop →
     IsFree j vs j.steps End → All (λ s. s.at.time ≤ j.steps) j.stops →
     (t : ℕ) (k : Kind) (x y : ℤ) (a : ℕ) → a < assignments j → ¬ IsFound j vs a t k x y
 none_left j vs free stops ends timed t Edge x y a small d = free.edges t d.1.early d.1.odd x y a small d
@@ -231,7 +231,7 @@ none_left j vs free stops ends timed t End x y a small d =
     ends x y a small (subst (λ (n : ℕ). IsFound j vs a n End x y) d.1.last d)
 
 -- the first fault of a demand, or none
-pub end_least_fault : (j : JobState) (vs : Values) (o : Option Fault) → IsReady j vs → AreFreeBefore j vs j.steps →
+pub end_least_fault : (j : JobView) (vs : Values) (o : Option Fault) → IsReady j vs → AreFreeBefore j vs j.steps →
     IsFree j vs j.steps Stop →
     MatchOption o (IsFree j vs j.steps End) (λ f. IsFirst j vs j.steps End f) → IsLeastFault j o
 end_least_fault j vs (Some f) ready free stops first =
@@ -242,7 +242,7 @@ end_least_fault j vs None ready free stops ends = λ g h.
     (under j vs g ready h)
 
 -- where each assignment lacks the row of a used gate, there is no fault
-pub none_undefined : (j : JobState) (vs : Values) → IsReady j vs → ((a : ℕ) → a < vs.count → is_defined vs a ≡ false) →
+pub none_undefined : (j : JobView) (vs : Values) → IsReady j vs → ((a : ℕ) → a < vs.count → is_defined vs a ≡ false) →
     IsLeastFault j None
 none_undefined j vs ready none f h =
     true≢false (sym (under j vs f ready h).0
@@ -250,7 +250,7 @@ none_undefined j vs ready none f h =
 
 -- ---- keep faults
 -- a gate's row tells its keep faults
-keep_tells : (j : JobState) (vs : Values) (a gate : ℕ) → IsReady j vs → a < assignments j →
+keep_tells : (j : JobView) (vs : Values) (a gate : ℕ) → IsReady j vs → a < assignments j →
     gate < length j.locals.netlist.gates → IsTrue (is_among j.kept gate) →
     value_of vs.words vs.rows.undefined.items a gate ≡ true ↔ IsKeepFault j (record { gate = gate; assignment = a })
 keep_tells j vs a gate ready small below kept = (
@@ -263,19 +263,19 @@ keep_tells j vs a gate ready small below kept = (
   (λ h. ∥∥₁_elim h.shown (Prim.hlevel props) (λ u. ((rows_at j vs a ready small).undefined gate below).1 u)),
 )
 
-keep_below : (j : JobState) (f : KeepFault) → IsKeepFault j f → f.gate < length j.locals.netlist.gates
+keep_below : (j : JobView) (f : KeepFault) → IsKeepFault j f → f.gate < length j.locals.netlist.gates
 keep_below j f h = ∥∥₁_elim h.shown (Prim.hlevel props)
     (λ (u : IsUndefined j.locals.netlist (bit f.assignment) f.gate).
     slice_get_within j.locals.netlist.gates f.gate u.gate u.numbered)
 
 -- no gate before this one has a keep fault
-abbrev pub IsKeepFree : JobState → ℕ → Type 0
+abbrev pub IsKeepFree : JobView → ℕ → Type 0
 IsKeepFree j gates = (f : KeepFault) → f.gate < gates → ¬ IsKeepFault j f
 
-abbrev pub IsLeastRow : JobState → Values → ℕ → Option ℕ → Type 0
+abbrev pub IsLeastRow : JobView → Values → ℕ → Option ℕ → Type 0
 IsLeastRow j vs gate r = IsLeastBelow vs.count (λ a. value_of vs.words vs.rows.undefined.items a gate ≡ true) r
 
-pub keep_found : (j : JobState) (vs : Values) (gate a : ℕ) → IsReady j vs → gate < length j.locals.netlist.gates →
+pub keep_found : (j : JobView) (vs : Values) (gate a : ℕ) → IsReady j vs → gate < length j.locals.netlist.gates →
     IsTrue (is_among j.kept gate) → IsKeepFree j gate → IsLeastRow j vs gate (Some a) →
     IsLeastKeepFault j (Some (record { gate = gate; assignment = a }))
 unfolding keep_cmp
@@ -293,7 +293,7 @@ keep_found j vs gate a ready below kept free least =
       ]),
     )
 
-pub keep_free_more : (j : JobState) (vs : Values) (gate : ℕ) → IsReady j vs → gate < length j.locals.netlist.gates →
+pub keep_free_more : (j : JobView) (vs : Values) (gate : ℕ) → IsReady j vs → gate < length j.locals.netlist.gates →
     IsKeepFree j gate → (IsTrue (is_among j.kept gate) → IsLeastRow j vs gate None) →
     IsKeepFree j (gate + 1)
 keep_free_more j vs gate ready below free none f h is = elim (cases_lt f.gate gate) [
@@ -307,6 +307,6 @@ keep_free_more j vs gate ready below free none f h is = elim (cases_lt f.gate ga
       ((keep_tells j vs f.assignment gate ready is.in_range below kept).1 moved)
 ]
 
-pub keep_none : (j : JobState) (gates : ℕ) → length j.locals.netlist.gates ≤ gates → IsKeepFree j gates →
+pub keep_none : (j : JobView) (gates : ℕ) → length j.locals.netlist.gates ≤ gates → IsKeepFree j gates →
     IsLeastKeepFault j None
 keep_none j gates all free f h = free f (let below = keep_below j f h in omega (arith, below, all)) h

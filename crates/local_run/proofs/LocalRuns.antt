@@ -11,7 +11,7 @@ use Rattle.module_box.specs.Schedules.{signal_at}
 use Rattle.module_box.specs.declared.schedules.Signal.{Signal}
 use Rattle.module_box.specs.declared.schedules.Signal.TheVariants.{Zero, One, Wire}
 use Rattle.module_box.proofs.BoxSteps.{even_stays}
-use Rattle.module_job.specs.Jobs.{JobState, NamesOwnWires}
+use Rattle.module_job.specs.Jobs.{JobView, NamesOwnWires}
 use Rattle.module_job.specs.Signals.{is_live, IsBelow}
 use Rattle.local_run.specs.Runs.{with_halo, local_step, local_run}
 use Rattle.local_run.specs.Laws.{StaysInBox}
@@ -20,12 +20,12 @@ use Rattle.local_run.proofs.OwnWires.{start_below, halo_below, start_outside}
 pub even_or_odd : (t : ℕ) → (t % 2 ≡ 0) ⊎ (t % 2 ≡ 1)
 even_or_odd t = elim (cases_eq (t % 2) 0) [ inl e ↦ inl e | inr n ↦ inr (omega arith) ]
 
-pub local_even : (j : JobState) (u : Valuation) (t : ℕ) (s : State) (x y : ℤ) → t % 2 ≡ 0 →
+pub local_even : (j : JobView) (u : Valuation) (t : ℕ) (s : State) (x y : ℤ) → t % 2 ≡ 0 →
     local_step j u t s x y ≡ step t s x y
 unfolding local_step
 local_even j u t s x y e = cond-true _ _ _ (eq-eqb (t % 2) 0 e)
 
-pub local_odd : (j : JobState) (u : Valuation) (t : ℕ) (s : State) (x y : ℤ) → t % 2 ≡ 1 →
+pub local_odd : (j : JobView) (u : Valuation) (t : ℕ) (s : State) (x y : ℤ) → t % 2 ≡ 1 →
     local_step j u t s x y ≡ (in_box j.area x y && step t (with_halo j u t s) x y)
 unfolding local_step
 local_odd j u t s x y e = cond-false _ _ _ (ne_eqb (t % 2) 0 (λ h. omega arith))
@@ -53,13 +53,13 @@ live_same n u u' (Wire w) same b = same w b
 pub step_all_same : (t : ℕ) (s s' : State) (x y : ℤ) → ((x' y' : ℤ) → s x' y' ≡ s' x' y') → step t s x y ≡ step t s' x y
 step_all_same t s s' x y same = step_same t s s' x y (same _ _) (same _ _) (same _ _) (same _ _)
 
-with_halo_same : (j : JobState) (n : ℕ) (u u' : Valuation) (t : ℕ) (s s' : State) (x y : ℤ) → AgreeBelow n u u' →
+with_halo_same : (j : JobView) (n : ℕ) (u u' : Valuation) (t : ℕ) (s s' : State) (x y : ℤ) → AgreeBelow n u u' →
     IsBelow n (signal_at j.halos t x y) →
     s x y ≡ s' x y → with_halo j u t s x y ≡ with_halo j u' t s' x y
 unfolding with_halo
 with_halo_same j n u u' t s s' x y same b e = ap₂ (λ p q. p || (in_halo j.area x y && q)) e (live_same n u u' _ same b)
 
-pub run_same : (j : JobState) (u u' : Valuation) (t : ℕ) → NamesOwnWires j → AgreeBelow (wires j.locals.netlist) u u' →
+pub run_same : (j : JobView) (u u' : Valuation) (t : ℕ) → NamesOwnWires j → AgreeBelow (wires j.locals.netlist) u u' →
     (x y : ℤ) → local_run j u t x y ≡ local_run j u' t x y
 unfolding local_run
 run_same j u u' zero own same x y = live_same (wires j.locals.netlist) u u' _ same (start_below j x y own)

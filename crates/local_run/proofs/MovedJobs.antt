@@ -20,9 +20,9 @@ use Rattle.module_box.specs.declared.boxes.Box2.{Box2}
 use Rattle.module_box.specs.declared.schedules.Signal.TheVariants.{Zero}
 use Rattle.module_box.proofs.BoxCells.{in_box_nats}
 use Rattle.module_box.proofs.MovedBoxes.{boxes_moved, cell_back, cell_cmp_moved, signals_moved}
-use Rattle.module_job.specs.Jobs.{JobState, IsJob, job_demand, job_start}
+use Rattle.module_job.specs.Jobs.{JobView, IsJob, job_demand, job_start}
 use Rattle.module_box.specs.Places.{place_in}
-use Rattle.module_job.specs.Shapes.{ShapeState, back, moved_stop, shape_of}
+use Rattle.module_job.specs.Shapes.{ShapeView, shift_to_origin, moved_stop, shape_of}
 use Rattle.module_job.specs.Signals.{Meets, is_live}
 use Rattle.module_job.specs.declared.job.Demand.TheVariants as Demanded
 use Rattle.module_job.specs.declared.job.Stop as listed
@@ -39,7 +39,7 @@ use Rattle.local_run.specs.declared.fault.Kind.TheVariants.{Edge, Stop, End}
 use Rattle.local_run.proofs.LocalRuns.{even_or_odd, local_even, local_odd}
 
 -- ---- what is alike in two jobs where the faults of one are those of the other, moved
-record AreAlike (dx dy : ℤ) (j k : JobState) : Type 0 where
+record AreAlike (dx dy : ℤ) (j k : JobView) : Type 0 where
   even_x : parity dx ≡ 0
   even_y : parity dy ≡ 0
   area : BoxMovesAlong dx dy j.area k.area
@@ -51,12 +51,12 @@ record AreAlike (dx dy : ℤ) (j k : JobState) : Type 0 where
   halos : (t : ℕ) (x y : ℤ) → signal_at k.halos t (x +ℤ dx) (y +ℤ dy) ≡ signal_at j.halos t x y
   stops : k.stops ≡ map (moved_stop dx dy) j.stops
 
-halo_alike : (dx dy : ℤ) (j k : JobState) → AreAlike dx dy j k → (u : Valuation) (t : ℕ) (s s' : State) →
+halo_alike : (dx dy : ℤ) (j k : JobView) → AreAlike dx dy j k → (u : Valuation) (t : ℕ) (s s' : State) →
     IsMoved dx dy s s' → IsMoved dx dy (with_halo j u t s) (with_halo k u t s')
 unfolding with_halo
 halo_alike dx dy j k a u t s s' m x y = λ i. m x y i || (a.area.halo x y i && is_live u (a.halos t x y i))
 
-run_alike : (dx dy : ℤ) (j k : JobState) → AreAlike dx dy j k → (u : Valuation) (t : ℕ) →
+run_alike : (dx dy : ℤ) (j k : JobView) → AreAlike dx dy j k → (u : Valuation) (t : ℕ) →
     IsMoved dx dy (local_run j u t) (local_run k u t)
 unfolding local_run
 run_alike dx dy j k a u zero x y = ap (is_live u) (a.start x y)
@@ -84,7 +84,7 @@ contains_mapped f xs x h = (h.0, here xs h.0 h.1, there xs h.0 h.1 ∙ ap f h.2)
     there (z ∷ zs) zero lt = refl
     there (z ∷ zs) (suc k) lt = there zs k (omega (arith, lt))
 
-under_alike : (dx dy : ℤ) (j k : JobState) → AreAlike dx dy j k → (u : Valuation) (t : ℕ) (kind : Kind) (x y : ℤ) →
+under_alike : (dx dy : ℤ) (j k : JobView) → AreAlike dx dy j k → (u : Valuation) (t : ℕ) (kind : Kind) (x y : ℤ) →
     IsFaultUnder j u t kind x y → IsFaultUnder k u t kind (x +ℤ dx) (y +ℤ dy)
 under_alike dx dy j k a u t Edge x y f = record {
   odd = f.odd;
@@ -111,7 +111,7 @@ under_alike dx dy j k a u t End x y f = record {
 moved_fault : ℤ → ℤ → Fault → Fault
 moved_fault dx dy f = record { time = f.time; kind = f.kind; cell = moved_cell dx dy f.cell; assignment = f.assignment }
 
-fault_alike : (dx dy : ℤ) (j k : JobState) → AreAlike dx dy j k → (f : Fault) → IsFault j f →
+fault_alike : (dx dy : ℤ) (j k : JobView) → AreAlike dx dy j k → (f : Fault) → IsFault j f →
     IsFault k (moved_fault dx dy f)
 unfolding moved_fault
 fault_alike dx dy j k a f is = record {
@@ -136,10 +136,10 @@ apart_forth a b = omega (arith, ints)
 apart_even : (a b : ℕ) → a % 2 ≡ 0 → b % 2 ≡ 0 → parity (pos b -ℤ pos a) ≡ 0
 apart_even a b e f = sym (parity_moved (pos b -ℤ pos a) (pos a) e) ∙ ap parity (apart_back a b) ∙ f
 
-same_way : (z : ℤ) (a b : ℕ) → z +ℤ back a ≡ (z +ℤ (pos b -ℤ pos a)) +ℤ back b
+same_way : (z : ℤ) (a b : ℕ) → z +ℤ shift_to_origin a ≡ (z +ℤ (pos b -ℤ pos a)) +ℤ shift_to_origin b
 same_way z a b = omega (arith, ints)
 
-twice : (z : ℤ) (a b : ℕ) → (z +ℤ back a) +ℤ pos b ≡ z +ℤ (pos b -ℤ pos a)
+twice : (z : ℤ) (a b : ℕ) → (z +ℤ shift_to_origin a) +ℤ pos b ≡ z +ℤ (pos b -ℤ pos a)
 twice z a b = omega (arith, ints)
 
 place_number : (f f' n m : ℕ) (z d : ℤ) → pos f' ≡ pos f +ℤ d → z ≡ pos n → z +ℤ d ≡ pos m → f ≤ n → f' ≤ m →
@@ -182,21 +182,23 @@ looked_up dx dy b b' other xs xs' m along same x y = elim (cases_Bool (in_box b 
     if_not false u v h = refl
     if_not true u v h = absurd cc
 
-carried_on : (a b c d : ℕ) (s s' : Signals) → moved_signals (back a) (back c) s ≡ moved_signals (back b) (back d) s' →
+carried_on : (a b c d : ℕ) (s s' : Signals) →
+    moved_signals (shift_to_origin a) (shift_to_origin c) s ≡ moved_signals (shift_to_origin b) (shift_to_origin d) s' →
     (t : ℕ) (x y : ℤ) →
     signal_at s' t (x +ℤ (pos b -ℤ pos a)) (y +ℤ (pos d -ℤ pos c)) ≡ signal_at s t x y
 carried_on a b c d s s' e t x y =
-    sym (signals_moved (back b) (back d) s' t (x +ℤ (pos b -ℤ pos a)) (y +ℤ (pos d -ℤ pos c)))
-    ∙ ap₂ (λ p q. signal_at (moved_signals (back b) (back d) s') t p q) (sym (same_way x a b)) (sym (same_way y c d))
-    ∙ ap (λ r. signal_at r t (x +ℤ back a) (y +ℤ back c)) (sym e)
-    ∙ signals_moved (back a) (back c) s t x y
+    sym (signals_moved (shift_to_origin b) (shift_to_origin d) s' t (x +ℤ (pos b -ℤ pos a)) (y +ℤ (pos d -ℤ pos c)))
+    ∙ ap₂ (λ p q. signal_at (moved_signals (shift_to_origin b) (shift_to_origin d) s') t p q) (sym (same_way x a b))
+    (sym (same_way y c d))
+    ∙ ap (λ r. signal_at r t (x +ℤ shift_to_origin a) (y +ℤ shift_to_origin c)) (sym e)
+    ∙ signals_moved (shift_to_origin a) (shift_to_origin c) s t x y
 
 stops_twice : (a b c d : ℕ) (ss : List listed.Stop) →
-    map (moved_stop (pos b) (pos d)) (map (moved_stop (back a) (back c)) ss)
+    map (moved_stop (pos b) (pos d)) (map (moved_stop (shift_to_origin a) (shift_to_origin c)) ss)
     ≡ map (moved_stop (pos b -ℤ pos a) (pos d -ℤ pos c)) ss
 stops_twice a b c d [] = refl
 stops_twice a b c d (s ∷ ss) =
-    let here : moved_stop (pos b) (pos d) (moved_stop (back a) (back c) s)
+    let here : moved_stop (pos b) (pos d) (moved_stop (shift_to_origin a) (shift_to_origin c) s)
     ≡ moved_stop (pos b -ℤ pos a) (pos d -ℤ pos c) s =
     λ i. record {
       at = record { time = s.at.time; cell = record { x = twice s.at.cell.x a b i; y = twice s.at.cell.y c d i } };
@@ -204,7 +206,7 @@ stops_twice a b c d (s ∷ ss) =
     } in
     ap₂ (λ z zs. z ∷ zs) here (stops_twice a b c d ss)
 
-alike : (j k : JobState) → IsEven j.area → IsEven k.area → shape_of j ≡ shape_of k →
+alike : (j k : JobView) → IsEven j.area → IsEven k.area → shape_of j ≡ shape_of k →
     AreAlike (columns_between j k) (rows_between j k) j k
 unfolding job_start job_demand
 alike j k ej ek same =
@@ -213,26 +215,27 @@ alike j k ej ek same =
     let box : IsMovedBox dx dy j.area k.area = record {
       x = apart_forth j.area.x k.area.x;
       y = apart_forth j.area.y k.area.y;
-      w = ap (λ (s : ShapeState). s.width) (sym same);
-      h = ap (λ (s : ShapeState). s.height) (sym same);
+      w = ap (λ (s : ShapeView). s.width) (sym same);
+      h = ap (λ (s : ShapeView). s.height) (sym same);
     } in
     let along : BoxMovesAlong dx dy j.area k.area = boxes_moved dx dy j.area k.area box in
     record {
       even_x = apart_even j.area.x k.area.x ej.x ek.x;
       even_y = apart_even j.area.y k.area.y ej.y ek.y;
       area = along;
-      steps = ap (λ (s : ShapeState). s.steps) same;
-      netlist = ap (λ (s : ShapeState). s.netlist) same;
+      steps = ap (λ (s : ShapeView). s.steps) same;
+      netlist = ap (λ (s : ShapeView). s.netlist) same;
       start = looked_up dx dy j.area k.area Zero j.starts k.starts box along
-          (ap (λ (s : ShapeState). s.starts) (sym same));
+          (ap (λ (s : ShapeView). s.starts) (sym same));
       demand = looked_up dx dy j.area k.area Demanded.Dead j.demands k.demands box along
-          (ap (λ (s : ShapeState). s.demands) (sym same));
-      edges = carried_on j.area.x k.area.x j.area.y k.area.y j.edges k.edges (ap (λ (s : ShapeState). s.edges) same);
-      halos = carried_on j.area.x k.area.x j.area.y k.area.y j.halos k.halos (ap (λ (s : ShapeState). s.halos) same);
+          (ap (λ (s : ShapeView). s.demands) (sym same));
+      edges = carried_on j.area.x k.area.x j.area.y k.area.y j.edges k.edges (ap (λ (s : ShapeView). s.edges) same);
+      halos = carried_on j.area.x k.area.x j.area.y k.area.y j.halos k.halos (ap (λ (s : ShapeView). s.halos) same);
       stops =
-          sym (stops_back (back k.area.x) (back k.area.y) (pos k.area.x) (pos k.area.y) k.stops (back_forth k.area.x)
+          sym (stops_back (shift_to_origin k.area.x) (shift_to_origin k.area.y) (pos k.area.x) (pos k.area.y) k.stops
+          (back_forth k.area.x)
           (back_forth k.area.y))
-          ∙ ap (map (moved_stop (pos k.area.x) (pos k.area.y))) (ap (λ (s : ShapeState). s.stops) (sym same))
+          ∙ ap (map (moved_stop (pos k.area.x) (pos k.area.y))) (ap (λ (s : ShapeView). s.stops) (sym same))
           ∙ stops_twice j.area.x k.area.x j.area.y k.area.y j.stops;
     }
 
@@ -245,7 +248,7 @@ faults_moved j k f is_j is_k same is =
 there_and_back : (a b : ℕ) → (pos b -ℤ pos a) +ℤ (pos a -ℤ pos b) ≡ pos 0
 there_and_back a b = omega (arith, ints)
 
-fault_back : (j k : JobState) (f : Fault) → fault_on j k (fault_on k j f) ≡ f
+fault_back : (j k : JobView) (f : Fault) → fault_on j k (fault_on k j f) ≡ f
 fault_back j k f = λ i. record {
   time = f.time;
   kind = f.kind;
@@ -254,7 +257,7 @@ fault_back j k f = λ i. record {
   assignment = f.assignment;
 }
 
-cmp_on : (j k : JobState) (f g : Fault) → fault_cmp (fault_on j k f) (fault_on j k g) ≡ fault_cmp f g
+cmp_on : (j k : JobView) (f g : Fault) → fault_cmp (fault_on j k f) (fault_on j k g) ≡ fault_cmp f g
 unfolding fault_cmp
 cmp_on j k f g = λ i.
     ordering_then (nat_cmp f.time g.time) (ordering_then (nat_cmp (kind_number f.kind) (kind_number g.kind))
@@ -270,10 +273,10 @@ least_moved j k (Some f) is_j is_k same least = (
 )
 
 -- ---- keep faults say nothing of places
-keep_stays : (j k : JobState) (f : KeepFault) → shape_of j ≡ shape_of k → IsKeepFault j f → IsKeepFault k f
+keep_stays : (j k : JobView) (f : KeepFault) → shape_of j ≡ shape_of k → IsKeepFault j f → IsKeepFault k f
 keep_stays j k f same is =
-    let netlist : j.locals.netlist ≡ k.locals.netlist = ap (λ (s : ShapeState). s.netlist) same in
-    let kept : j.kept ≡ k.kept = ap (λ (s : ShapeState). s.kept) same in
+    let netlist : j.locals.netlist ≡ k.locals.netlist = ap (λ (s : ShapeView). s.netlist) same in
+    let kept : j.kept ≡ k.kept = ap (λ (s : ShapeView). s.kept) same in
     record {
       in_range = subst (λ (n : Netlist). f.assignment < 2 ^ n.given) netlist is.in_range;
       is_kept = subst (λ (l : List ℕ). is_among l f.gate ≡ true) kept is.is_kept;
@@ -286,7 +289,7 @@ least_keep_stays j k (Some f) same least =
     (keep_stays j k f same least.0, λ g is. least.1 g (keep_stays k j g (sym same) is))
 
 -- ---- the cell of a fault is in the box, and so near
-under_inside : (j : JobState) (u : Valuation) (t : ℕ) (kind : Kind) (x y : ℤ) → IsJob j → IsFaultUnder j u t kind x y →
+under_inside : (j : JobView) (u : Valuation) (t : ℕ) (kind : Kind) (x y : ℤ) → IsJob j → IsFaultUnder j u t kind x y →
     in_box j.area x y ≡ true
 unfolding in_ring
 under_inside j u t Edge x y is f = (and_parts _ _ f.ring).0
@@ -297,14 +300,14 @@ under_inside j u t Stop x y is f =
     ap₂ (in_box j.area) (sym f.column) (sym f.row) ∙ here
 under_inside j u t End x y is f = f.inside
 
-fault_inside : (j : JobState) (f : Fault) → IsJob j → IsFault j f → in_box j.area f.cell.x f.cell.y ≡ true
+fault_inside : (j : JobView) (f : Fault) → IsJob j → IsFault j f → in_box j.area f.cell.x f.cell.y ≡ true
 fault_inside j f is fault = ∥∥₁_elim fault.shown (Prim.hlevel props)
     (λ h. under_inside j h.values f.time f.kind f.cell.x f.cell.y is h.differs)
 
 small_number : (z : ℤ) (n m w : ℕ) → z ≡ pos n → n < m + w → m + w ≤ 512 → IsSmall z
 small_number z n m w e lt few = (omega (arith, ints, e), omega (arith, ints, e, lt, few))
 
-pub fault_near : (j : JobState) (f : Fault) → IsJob j → IsFault j f → IsNear f.cell
+pub fault_near : (j : JobView) (f : Fault) → IsJob j → IsFault j f → IsNear f.cell
 fault_near j f is fault =
     let p = in_box_nats j.area f.cell.x f.cell.y (fault_inside j f is fault) in
     let px = p.0 in let py = p.1 in (

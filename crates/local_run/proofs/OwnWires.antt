@@ -6,12 +6,12 @@ use Rattle.std.proofs.lemmas.Bool.{cases_Bool, cond-false}
 use Rattle.bbm_rule.specs.Plane.{is_at}
 use Rattle.circuit.specs.Meaning.{wires}
 use Rattle.module_box.specs.Boxes.{in_box}
-use Rattle.module_box.specs.Schedules.{Signals, is_then, held_at, event_at, signal_at}
+use Rattle.module_box.specs.Schedules.{Signals, is_then, all_times_at, event_at, signal_at}
 use Rattle.module_box.specs.declared.schedules.Event.{Event}
-use Rattle.module_box.specs.declared.schedules.Held.{Held}
+use Rattle.module_box.specs.declared.schedules.AllTimes.{AllTimes}
 use Rattle.module_box.specs.declared.schedules.Signal.{Signal}
 use Rattle.module_box.specs.declared.schedules.Signal.TheVariants.{Zero}
-use Rattle.module_job.specs.Jobs.{JobState, NamesOwnWires, job_start, job_demand}
+use Rattle.module_job.specs.Jobs.{JobView, NamesOwnWires, job_start, job_demand}
 use Rattle.module_box.specs.Places.{place_in}
 use Rattle.module_job.specs.Signals.{IsBelow, IsDemandBelow}
 use Rattle.module_job.specs.declared.job.Demand.TheVariants as Demanded
@@ -33,13 +33,13 @@ chosen : {A : Type 0} (P : A → Type 0) (b : Bool) (x y : A) → P x → P y �
 chosen P true x y h k = h
 chosen P false x y h k = k
 
-held : (n : ℕ) (hs : List Held) (x y : ℤ) (d : Signal) → All (λ h. IsBelow n h.signal) hs → IsBelow n d →
-    IsBelow n (unwrap_or (held_at hs x y) d)
-unfolding held_at
-held n [] x y d all b = b
-held n (h ∷ hs) x y d all b = elim (cases_Bool (is_at h.cell x y)) [
-  | inl e ↦ rw e (all_head (λ (g : Held). IsBelow n g.signal) h hs all)
-  | inr e ↦ rw e (held n hs x y d (all_tail (λ (g : Held). IsBelow n g.signal) h hs all) b)
+all_times : (n : ℕ) (hs : List AllTimes) (x y : ℤ) (d : Signal) → All (λ h. IsBelow n h.signal) hs → IsBelow n d →
+    IsBelow n (unwrap_or (all_times_at hs x y) d)
+unfolding all_times_at
+all_times n [] x y d all b = b
+all_times n (h ∷ hs) x y d all b = elim (cases_Bool (is_at h.cell x y)) [
+  | inl e ↦ rw e (all_head (λ (g : AllTimes). IsBelow n g.signal) h hs all)
+  | inr e ↦ rw e (all_times n hs x y d (all_tail (λ (g : AllTimes). IsBelow n g.signal) h hs all) b)
 ]
 
 event : (n : ℕ) (es : List Event) (t : ℕ) (x y : ℤ) (d : Signal) → All (λ e. IsBelow n e.signal) es → IsBelow n d →
@@ -51,37 +51,37 @@ event n (e ∷ es) t x y d all b = elim (cases_Bool (is_then e.at t x y)) [
   | inr h ↦ rw h (event n es t x y d (all_tail (λ (g : Event). IsBelow n g.signal) e es all) b)
 ]
 
-scheduled : (n : ℕ) (s : Signals) (t : ℕ) (x y : ℤ) → All (λ h. IsBelow n h.signal) s.held →
+scheduled : (n : ℕ) (s : Signals) (t : ℕ) (x y : ℤ) → All (λ h. IsBelow n h.signal) s.all_times →
     All (λ e. IsBelow n e.signal) s.events → IsBelow n (signal_at s t x y)
 unfolding signal_at
-scheduled n s t x y hs es = held n s.held x y (unwrap_or (event_at s.events t x y) Zero) hs
+scheduled n s t x y hs es = all_times n s.all_times x y (unwrap_or (event_at s.events t x y) Zero) hs
     (event n s.events t x y Zero es tt)
 
-pub start_below : (j : JobState) (x y : ℤ) → NamesOwnWires j → IsBelow (wires j.locals.netlist) (job_start j x y)
+pub start_below : (j : JobView) (x y : ℤ) → NamesOwnWires j → IsBelow (wires j.locals.netlist) (job_start j x y)
 unfolding job_start
 start_below j x y own = chosen (IsBelow (wires j.locals.netlist)) (in_box j.area x y) _ Zero
     (item (IsBelow (wires j.locals.netlist)) j.starts (place_in j.area x y) Zero own.starts tt) tt
 
-pub demand_below : (j : JobState) (x y : ℤ) → NamesOwnWires j →
+pub demand_below : (j : JobView) (x y : ℤ) → NamesOwnWires j →
     IsDemandBelow (wires j.locals.netlist) (job_demand j x y)
 unfolding job_demand
 demand_below j x y own = chosen (IsDemandBelow (wires j.locals.netlist)) (in_box j.area x y) _ Demanded.Dead
     (item (IsDemandBelow (wires j.locals.netlist)) j.demands (place_in j.area x y) Demanded.Dead own.demands tt) tt
 
-pub edge_below : (j : JobState) (t : ℕ) (x y : ℤ) → NamesOwnWires j →
+pub edge_below : (j : JobView) (t : ℕ) (x y : ℤ) → NamesOwnWires j →
     IsBelow (wires j.locals.netlist) (signal_at j.edges t x y)
-edge_below j t x y own = scheduled (wires j.locals.netlist) j.edges t x y own.edge_held own.edge_events
+edge_below j t x y own = scheduled (wires j.locals.netlist) j.edges t x y own.edge_all_times own.edge_events
 
-pub halo_below : (j : JobState) (t : ℕ) (x y : ℤ) → NamesOwnWires j →
+pub halo_below : (j : JobView) (t : ℕ) (x y : ℤ) → NamesOwnWires j →
     IsBelow (wires j.locals.netlist) (signal_at j.halos t x y)
-halo_below j t x y own = scheduled (wires j.locals.netlist) j.halos t x y own.halo_held own.halo_events
+halo_below j t x y own = scheduled (wires j.locals.netlist) j.halos t x y own.halo_all_times own.halo_events
 
 -- a cell outside the box is dead at time 0
-pub start_outside : (j : JobState) (x y : ℤ) → in_box j.area x y ≡ false → job_start j x y ≡ Zero
+pub start_outside : (j : JobView) (x y : ℤ) → in_box j.area x y ≡ false → job_start j x y ≡ Zero
 unfolding job_start
 start_outside j x y out = cond-false _ _ _ out
 
 -- and nothing but that is asked of it
-pub demand_outside : (j : JobState) (x y : ℤ) → in_box j.area x y ≡ false → job_demand j x y ≡ Demanded.Dead
+pub demand_outside : (j : JobView) (x y : ℤ) → in_box j.area x y ≡ false → job_demand j x y ≡ Demanded.Dead
 unfolding job_demand
 demand_outside j x y out = cond-false _ _ _ out

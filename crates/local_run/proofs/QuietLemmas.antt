@@ -6,17 +6,17 @@ use Rattle.std.proofs.lemmas.Int.{ints}
 use Rattle.bbm_rule.specs.declared.block.Cell.{Cell}
 use Rattle.module_box.specs.Schedules.{Signals, signal_at}
 use Rattle.module_box.specs.declared.boxes.Box2.{Box2}
-use Rattle.module_box.specs.declared.schedules.Held.{Held}
+use Rattle.module_box.specs.declared.schedules.AllTimes.{AllTimes}
 use Rattle.module_box.specs.declared.schedules.Event.{Event}
 use Rattle.module_box.specs.declared.schedules.Signal.TheVariants.{Zero}
 use Rattle.module_box.specs.Moves.{moved_signals}
 use Rattle.module_box.proofs.MovedBoxes.{signals_moved}
-use Rattle.module_box.proofs.Rising.{held_none, event_none}
-use Rattle.module_job.specs.Shapes.{back}
+use Rattle.module_box.proofs.Rising.{all_times_none, event_none}
+use Rattle.module_job.specs.Shapes.{shift_to_origin}
 use Rattle.local_run.specs.Places.{outer}
 use Rattle.bbm_rule.specs.Marks.{MarksOne}
 use Rattle.local_run.specs.Leaps.{IsTimeBetween}
-use Rattle.local_run.specs.Quiet.{AreHeldMarked, IsCellMarked, IsQuietIn, KeepsMarks, LacksLine, line_at, number_at}
+use Rattle.local_run.specs.Quiet.{AreAllTimesMarked, IsCellMarked, IsQuietIn, KeepsMarks, LacksLine, line_at, number_at}
 use Rattle.bbm_rule.proofs.BitLemmas.{by_lt_or_le}
 use Rattle.local_run.proofs.LaneLemmas.{place_below}
 
@@ -51,13 +51,13 @@ still_marked b c old new keeps marked x y lx ly ex ey free =
 
 -- where no line names the cell at the time, its signal is `Zero`
 pub zero_signal : (s : Signals) (t : ℕ) (x y : ℤ) →
-    ((i : ℕ) (h : Held) → slice_get s.held i ≡ Some h → (h.cell.x ≡ x) × (h.cell.y ≡ y) → ⊥) →
+    ((i : ℕ) (h : AllTimes) → slice_get s.all_times i ≡ Some h → (h.cell.x ≡ x) × (h.cell.y ≡ y) → ⊥) →
     ((i : ℕ) (e : Event) → slice_get s.events i ≡ Some e → e.at.time ≡ t → (e.at.cell.x ≡ x) × (e.at.cell.y ≡ y) → ⊥) →
     signal_at s t x y ≡ Zero
 unfolding signal_at
-zero_signal s t x y held events =
-    let h = held_none s.held (record { x = x; y = y })
-    (λ i h at e. held i h at (ap (λ (c : Cell). c.x) e, ap (λ (c : Cell). c.y) e)) in
+zero_signal s t x y all_times events =
+    let h = all_times_none s.all_times (record { x = x; y = y })
+    (λ i h at e. all_times i h at (ap (λ (c : Cell). c.x) e, ap (λ (c : Cell). c.y) e)) in
     let v = event_none s.events (record { time = t; cell = record { x = x; y = y } })
     (λ i e at same. events i e at (ap (λ m. m.time) same) (ap (λ m. m.cell.x) same, ap (λ m. m.cell.y) same)) in
     rw (h, v) refl'
@@ -65,15 +65,15 @@ zero_signal s t x y held events =
     refl' : Zero ≡ Zero
     refl' = cc
 
-pub still_held : (s : Signals) (b : Box2) (old new : List ℕ) → KeepsMarks old new → AreHeldMarked s b old →
-    AreHeldMarked s b new
-still_held s b old new keeps held i h at = still_marked b h.cell old new keeps (held i h at)
+pub still_all_times : (s : Signals) (b : Box2) (old new : List ℕ) → KeepsMarks old new → AreAllTimesMarked s b old →
+    AreAllTimesMarked s b new
+still_all_times s b old new keeps all_times i h at = still_marked b h.cell old new keeps (all_times i h at)
 
-pub quiet_in : (s : Signals) (b : Box2) (t : ℕ) (marks : List ℕ) → AreHeldMarked s b marks →
+pub quiet_in : (s : Signals) (b : Box2) (t : ℕ) (marks : List ℕ) → AreAllTimesMarked s b marks →
     ((i : ℕ) (e : Event) → slice_get s.events i ≡ Some e → e.at.time ≡ t → IsCellMarked b e.at.cell marks) →
     IsQuietIn s b t marks
-quiet_in s b t marks held events x y lx ly free = zero_signal s t (outer b.x x) (outer b.y y)
-    (λ i h at e. held i h at x y lx ly e.0 e.1 free) (λ i v at same e. events i v at same x y lx ly e.0 e.1 free)
+quiet_in s b t marks all_times events x y lx ly free = zero_signal s t (outer b.x x) (outer b.y y)
+    (λ i h at e. all_times i h at x y lx ly e.0 e.1 free) (λ i v at same e. events i v at same x y lx ly e.0 e.1 free)
 
 pub still_quiet : (s : Signals) (b : Box2) (t : ℕ) (old new : List ℕ) → KeepsMarks old new → IsQuietIn s b t old →
     IsQuietIn s b t new
@@ -89,14 +89,16 @@ events_between es t m n P from to have i e at same =
     by_lt_or_le i n (λ l. have i e after l at) (λ past. let h = to.above i e past at in absurd (omega arith)))
 
 -- ---- signals counted from the corner of the box
-outer_back : (c k : ℕ) → outer c k +ℤ back c ≡ outer 0 k
+outer_back : (c k : ℕ) → outer c k +ℤ shift_to_origin c ≡ outer 0 k
 unfolding outer
 outer_back c k = omega (arith, ints)
 
 pub quiet_moved : (s : Signals) (b : Box2) (t : ℕ) (marks : List ℕ) →
-    IsQuietIn (moved_signals (back b.x) (back b.y) s) (record { x = 0; y = 0; w = b.w; h = b.h }) t marks →
+    IsQuietIn (moved_signals (shift_to_origin b.x) (shift_to_origin b.y) s)
+    (record { x = 0; y = 0; w = b.w; h = b.h }) t marks →
     IsQuietIn s b t marks
 quiet_moved s b t marks quiet x y lx ly free =
-    sym (signals_moved (back b.x) (back b.y) s t (outer b.x x) (outer b.y y))
-    ∙ ap₂ (signal_at (moved_signals (back b.x) (back b.y) s) t) (outer_back b.x x) (outer_back b.y y)
+    sym (signals_moved (shift_to_origin b.x) (shift_to_origin b.y) s t (outer b.x x) (outer b.y y))
+    ∙ ap₂ (signal_at (moved_signals (shift_to_origin b.x) (shift_to_origin b.y) s) t) (outer_back b.x x)
+    (outer_back b.y y)
     ∙ quiet x y lx ly free

@@ -9,7 +9,7 @@ use Rattle.bbm_rule.specs.Plane.{State}
 use Rattle.circuit.specs.Meaning.{Valuation}
 use Rattle.module_box.specs.Boxes.{in_box, in_halo}
 use Rattle.module_box.specs.Schedules.{Signals, signal_at}
-use Rattle.module_job.specs.Jobs.{JobState, job_demand, job_start}
+use Rattle.module_job.specs.Jobs.{JobView, job_demand, job_start}
 use Rattle.module_job.specs.Signals.{Meets, is_live}
 use Rattle.module_job.specs.declared.job.Stop as listed
 use Rattle.local_run.specs.Faults.{HasFault, IsFaultUnder}
@@ -20,12 +20,12 @@ use Rattle.local_run.specs.declared.fault.Kind.TheVariants.{Edge, Stop, End}
 use Rattle.local_run.proofs.LocalRuns.{even_or_odd, local_even, local_odd, step_all_same}
 
 -- a stop that is listed is at a time up to the last one
-stop_time : (j : JobState) (ss : List listed.Stop) (s : listed.Stop) → All (λ s. s.at.time ≤ j.steps) ss →
+stop_time : (j : JobView) (ss : List listed.Stop) (s : listed.Stop) → All (λ s. s.at.time ≤ j.steps) ss →
     Contains ss s → s.at.time ≤ j.steps
 stop_time j ss s all (k, lt, is) = subst (λ (x : listed.Stop). x.at.time ≤ j.steps) is (all k s lt)
 
-module _ (j : JobState) (halos : Signals) (same : SayTheSame j halos) where
-  abbrev k : JobState
+module _ (j : JobView) (halos : Signals) (same : SayTheSame j halos) where
+  abbrev k : JobView
   k = record j { halos = halos }
 
   halo_same : (u : Valuation) (t : ℕ) (s s' : State) (x y : ℤ) → t % 2 ≡ 1 → t < j.steps → s x y ≡ s' x y →

@@ -8,7 +8,7 @@ use Rattle.module_box.specs.Boxes.{in_box, in_ring}
 use Rattle.module_box.specs.declared.boxes.Box2.{Box2}
 use Rattle.std.proofs.Math.Nat.{mul-le-mul_left}
 use Rattle.bbm_rule.proofs.BitLemmas.{by_eq_or_not, by_lt_or_le, bit-zero}
-use Rattle.module_job.specs.Jobs.{JobState}
+use Rattle.module_job.specs.Jobs.{JobView}
 use Rattle.module_job.specs.Signals.{is_live}
 use Rattle.local_run.specs.Borders.{ArePassed}
 use Rattle.local_run.specs.Calm.{IsDeadAt}
@@ -45,7 +45,7 @@ dead_lane p x y a dead l =
     (λ oy. rw (plane_even p x y (omega arith) (omega arith), d.3) (bit-zero (a % 64))))
 
 -- a cell of the box is in the planes as in the run
-shown_at : (j : JobState) (vs : Values) (p : Planes) (t x y a : ℕ) → Shows j vs t p → a < assignments j →
+shown_at : (j : JobView) (vs : Values) (p : Planes) (t x y a : ℕ) → Shows j vs t p → a < assignments j →
     in_box j.area (outer j.area.x x) (outer j.area.y y) ≡ true →
     lane p a x y ≡ local_run j (valuation vs a) t (outer j.area.x x) (outer j.area.y y)
 unfolding in_box
@@ -68,7 +68,7 @@ unfolding in_ring
 ring_in_box b x y h = (and_parts _ _ h).0
 
 -- silent cells have no edge fault
-pub silent_edges : (j : JobState) (vs : Values) (p : Planes) (t column row : ℕ) → IsReady j vs → Shows j vs t p →
+pub silent_edges : (j : JobView) (vs : Values) (p : Planes) (t column row : ℕ) → IsReady j vs → Shows j vs t p →
     column < p.stride → IsSilent j t p (p.stride * row + column) → HasEdgesIn j vs t column row
 silent_edges j vs p t column row ready shows lc silent x y lx ly ex ey a l f =
     let room = ready.room in
@@ -81,7 +81,7 @@ silent_edges j vs p t column row ready shows lc silent x y lx ly ex ey a l f =
     ∙ sym (ap (is_live (valuation vs a)) (silent.edge x y lx ly number)))
 
 -- and what their signals say comes to those of them in the halo
-pub silent_halo : (j : JobState) (vs : Values) (p : Planes) (t column row : ℕ) → IsReady j vs → Shows j vs t p →
+pub silent_halo : (j : JobView) (vs : Values) (p : Planes) (t column row : ℕ) → IsReady j vs → Shows j vs t p →
     IsSilent j t p (p.stride * row + column) → HasHaloIn j vs t p column row
 silent_halo j vs p t column row ready shows silent x y lx ly ex ey a l outside =
     let room = ready.room in
@@ -91,7 +91,7 @@ silent_halo j vs p t column row ready shows silent x y lx ly ex ey a l outside =
     ap₂ (λ r c. (j.area.w / 2 + 1) * r + c) ey ex ∙ ap (λ s. s * row + column) (sym shows.size.1) in
     silent.dead a x y (omega arith) lx ly number ∙ sym (ap (is_live (valuation vs a)) (silent.halo x y lx ly number))
 
-pub silent_from : (j : JobState) (p : Planes) (t u : ℕ) (marks : List ℕ) → p.stride ≡ j.area.w / 2 + 1 → IsDeadAt u p →
+pub silent_from : (j : JobView) (p : Planes) (t u : ℕ) (marks : List ℕ) → p.stride ≡ j.area.w / 2 + 1 → IsDeadAt u p →
     AreLines j t marks → IsUnmarked marks u → IsSilent j t p u
 silent_from j p t u marks es dead lines free = record {
   dead = λ a x y l lx ly e. dead_lane p x y a
@@ -101,10 +101,10 @@ silent_from j p t u marks es dead lines free = record {
 }
 
 -- ---- cells outside the box have no edge fault
-pub outer_edge : (j : JobState) (vs : Values) (t x y : ℕ) → IsOuter j.area x y → HasEdgeAt j vs t x y
+pub outer_edge : (j : JobView) (vs : Values) (t x y : ℕ) → IsOuter j.area x y → HasEdgeAt j vs t x y
 outer_edge j vs t x y out a l f = false≢true (sym (box_out j.area x y out) ∙ ring_in_box j.area _ _ f.1.ring)
 
-pub inner_edge : (j : JobState) (vs : Values) (t x y : ℕ) → 1 ≤ x → 1 ≤ y →
+pub inner_edge : (j : JobView) (vs : Values) (t x y : ℕ) → 1 ≤ x → 1 ≤ y →
     IsLeastBelow (assignments j) (λ a. IsFound j vs a t Edge (inner j.area.x (x - 1)) (inner j.area.y (y - 1))) None →
     HasEdgeAt j vs t x y
 inner_edge j vs t x y lx ly none a l f =
@@ -119,7 +119,7 @@ inner_edge j vs t x y lx ly none a l f =
     next k l = omega arith
 
 -- nor does a dead cell of which no line says something
-pub unsaid_edge : (j : JobState) (vs : Values) (p : Planes) (t x y : ℕ) (marks : List ℕ) → IsReady j vs →
+pub unsaid_edge : (j : JobView) (vs : Values) (p : Planes) (t x y : ℕ) (marks : List ℕ) → IsReady j vs →
     Shows j vs t p → AreLines j t marks → x < j.area.w + 2 → y < j.area.h + 2 →
     IsUnmarked marks (p.stride * (y / 2) + x / 2 + 1152 * (1 + 2 * (y % 2) + x % 2)) →
     ((a : ℕ) → a < 64 * p.words → lane p a x y ≡ false) → HasEdgeAt j vs t x y
@@ -133,7 +133,7 @@ unsaid_edge j vs p t x y marks ready shows lines lx ly free dead a l f =
     ∙ sym (ap (is_live (valuation vs a)) (lines.edges x y lx ly (inr free))))
 
 -- and it is as a halo signal says
-pub unsaid_halo : (j : JobState) (vs : Values) (p : Planes) (t x y : ℕ) (marks : List ℕ) → IsReady j vs →
+pub unsaid_halo : (j : JobView) (vs : Values) (p : Planes) (t x y : ℕ) (marks : List ℕ) → IsReady j vs →
     Shows j vs t p → AreLines j t marks → x < j.area.w + 2 → y < j.area.h + 2 →
     IsUnmarked marks (p.stride * (y / 2) + x / 2 + 1152 * (1 + 2 * (y % 2) + x % 2)) →
     ((a : ℕ) → a < 64 * p.words → lane p a x y ≡ false) → HasHaloAt j vs t p x y
@@ -188,7 +188,7 @@ four_cells c r P first second third fourth x y ex ey = by_eq_or_not x (2 * c)
     (λ m. let f : y ≡ 2 * r + 1 = omega arith in subst (λ m. P m y) (sym e) (subst (P (2 * c + 1)) (sym f) fourth)))
 
 -- nor have cells between the ring's columns and rows
-pub between_edges : (j : JobState) (vs : Values) (t x y : ℕ) → 2 ≤ x → x < j.area.w → 2 ≤ y → y < j.area.h →
+pub between_edges : (j : JobView) (vs : Values) (t x y : ℕ) → 2 ≤ x → x < j.area.w → 2 ≤ y → y < j.area.h →
     HasEdgeAt j vs t x y
 between_edges j vs t x y lx hx ly hy a l f =
     let ex : outer j.area.x x ≡ inner j.area.x (x - 1) =
@@ -202,11 +202,11 @@ between_edges j vs t x y lx hx ly hy a l f =
     next k l = omega arith
 
 -- ---- the numbers that a look at ring and halo passes
-number_in : (j : JobState) (vs : Values) (t : ℕ) (p : Planes) (x y : ℕ) → Shows j vs t p →
+number_in : (j : JobView) (vs : Values) (t : ℕ) (p : Planes) (x y : ℕ) → Shows j vs t p →
     number_at j.area x y ≡ p.stride * (y / 2) + x / 2
 number_in j vs t p x y shows = ap (λ s. s * (y / 2) + x / 2) (sym shows.size.1)
 
-pub passed_edges : (j : JobState) (vs : Values) (p : Planes) (t from to x y : ℕ) (marks : List ℕ) → IsReady j vs →
+pub passed_edges : (j : JobView) (vs : Values) (p : Planes) (t from to x y : ℕ) (marks : List ℕ) → IsReady j vs →
     Shows j vs t p → AreLines j t marks → ArePassed from to marks p →
     x < j.area.w + 2 → y < j.area.h + 2 → from ≤ number_at j.area x y → number_at j.area x y < to → HasEdgeAt j vs t x y
 passed_edges j vs p t from to x y marks ready shows lines passed lx ly after before =
@@ -222,7 +222,7 @@ passed_edges j vs p t from to x y marks ready shows lines passed lx ly after bef
           (silent_from j p t (p.stride * (y / 2) + x / 2) marks s1 silent.0 lines silent.1) x y lx ly refl refl
     ]
 
-pub passed_halo : (j : JobState) (vs : Values) (p : Planes) (t from to x y : ℕ) (marks : List ℕ) → IsReady j vs →
+pub passed_halo : (j : JobView) (vs : Values) (p : Planes) (t from to x y : ℕ) (marks : List ℕ) → IsReady j vs →
     Shows j vs t p → AreLines j t marks → ArePassed from to marks p →
     x < j.area.w + 2 → y < j.area.h + 2 → from ≤ number_at j.area x y → number_at j.area x y < to →
     HasHaloAt j vs t p x y

@@ -16,7 +16,7 @@ use Rattle.module_box.proofs.RingTests.{halo_read}
 use Rattle.circuit.specs.Meaning.{Valuation}
 use Rattle.module_job.specs.Signals.{is_live}
 use Rattle.module_box.specs.Schedules.{signal_at}
-use Rattle.module_job.specs.Jobs.{JobState, job_start}
+use Rattle.module_job.specs.Jobs.{JobView, job_start}
 use Rattle.local_run.specs.Runs.{with_halo, local_run}
 use Rattle.local_run.specs.Places.{inner, outer}
 use Rattle.local_run.specs.Lanes.{lane, HasSize, SameInside}
@@ -91,19 +91,19 @@ unfolding outer inner
 outer_inner c x = omega (arith, ints)
 
 -- ---- the run of the definition
-run_even : (j : JobState) (u : Valuation) (t : ℕ) (x y : ℤ) → t % 2 ≡ 0 →
+run_even : (j : JobView) (u : Valuation) (t : ℕ) (x y : ℤ) → t % 2 ≡ 0 →
     local_run j u (t + 1) x y ≡ step t (local_run j u t) x y
 unfolding local_run
 run_even j u t x y e = ap (λ n. local_run j u n x y) (add-one t) ∙ local_even j u t _ x y e
 
-run_odd : (j : JobState) (u : Valuation) (t : ℕ) (x y : ℤ) → t % 2 ≡ 1 → in_box j.area x y ≡ true →
+run_odd : (j : JobView) (u : Valuation) (t : ℕ) (x y : ℤ) → t % 2 ≡ 1 → in_box j.area x y ≡ true →
     local_run j u (t + 1) x y ≡ step t (with_halo j u t (local_run j u t)) x y
 unfolding local_run
 run_odd j u t x y e h = ap (λ n. local_run j u n x y) (add-one t) ∙ local_odd j u t _ x y e
     ∙ ap (λ p. p && step t (with_halo j u t (local_run j u t)) x y) h
 
 -- ---- an even step
-pub even_shows : (j : JobState) (vs : Values) (t : ℕ) (p q : Planes) → IsReady j vs → t % 2 ≡ 0 → Shows j vs t p →
+pub even_shows : (j : JobView) (vs : Values) (t : ℕ) (p q : Planes) → IsReady j vs → t % 2 ≡ 0 → Shows j vs t p →
     HasSize p.words p.stride p.rows q →
     ((a x y : ℕ) → a < 64 * p.words → x + 2 < 2 * p.stride → y + 2 < 2 * p.rows →
     lane q a (1 + x) (1 + y) ≡ turned (lane p a (1 + x) (1 + y)) (lane p a (1 + mate x) (1 + mate y))
@@ -132,7 +132,7 @@ even_shows j vs t p q ready even shows size turns = record {
 }
 
 -- the cells of the box stayed
-pub inside_shows : (j : JobState) (vs : Values) (t : ℕ) (p q : Planes) → IsReady j vs → Shows j vs t p →
+pub inside_shows : (j : JobView) (vs : Values) (t : ℕ) (p q : Planes) → IsReady j vs → Shows j vs t p →
     HasSize p.words p.stride p.rows q → SameInside p q → Shows j vs t q
 inside_shows j vs t p q ready shows size same = record {
   size = (size.0 ∙ shows.size.0, size.1 ∙ shows.size.1, size.2 ∙ shows.size.2);
@@ -148,7 +148,7 @@ inside_shows j vs t p q ready shows size same = record {
 }
 
 -- ---- an odd step
-pub odd_shows : (j : JobState) (vs : Values) (t : ℕ) (p q : Planes) → IsReady j vs → t % 2 ≡ 1 →
+pub odd_shows : (j : JobView) (vs : Values) (t : ℕ) (p q : Planes) → IsReady j vs → t % 2 ≡ 1 →
     HasSize vs.words (j.area.w / 2 + 1) (j.area.h / 2 + 1) p →
     ((a x y : ℕ) → a < assignments j → x < j.area.w + 2 → y < j.area.h + 2 →
     lane p a x y ≡ with_halo j (valuation vs a) t (local_run j (valuation vs a) t) (outer j.area.x x)
@@ -249,20 +249,20 @@ or-false : (b : Bool) → (b || false) ≡ b
 or-false true = refl
 or-false false = refl
 
-with_halo_inside : (j : JobState) (u : Valuation) (t : ℕ) (s : State) (x y : ℤ) → in_box j.area x y ≡ true →
+with_halo_inside : (j : JobView) (u : Valuation) (t : ℕ) (s : State) (x y : ℤ) → in_box j.area x y ≡ true →
     with_halo j u t s x y ≡ s x y
 unfolding with_halo in_halo
 with_halo_inside j u t s x y h =
     ap (λ p. s x y || ((not p && some_neighbour (in_box j.area) x y) && is_live u (signal_at j.halos t x y))) h
     ∙ or-false (s x y)
 
-with_halo_outside : (j : JobState) (u : Valuation) (t : ℕ) (s : State) (x y : ℤ) → s x y ≡ false →
+with_halo_outside : (j : JobView) (u : Valuation) (t : ℕ) (s : State) (x y : ℤ) → s x y ≡ false →
     in_halo j.area x y ≡ true → with_halo j u t s x y ≡ is_live u (signal_at j.halos t x y)
 unfolding with_halo
 with_halo_outside j u t s x y dead h =
     ap₂ (λ p q. p || (q && is_live u (signal_at j.halos t x y))) dead h
 
-pub halo_cells : (j : JobState) (vs : Values) (t : ℕ) (p : Planes) → IsReady j vs → Shows j vs t p → HasHalo j vs t p →
+pub halo_cells : (j : JobView) (vs : Values) (t : ℕ) (p : Planes) → IsReady j vs → Shows j vs t p → HasHalo j vs t p →
     (a x y : ℕ) → a < assignments j → x < j.area.w + 2 → y < j.area.h + 2 →
     lane p a x y ≡ with_halo j (valuation vs a) t (local_run j (valuation vs a) t) (outer j.area.x x) (outer j.area.y y)
 halo_cells j vs t p ready shows halo a x y la lx ly =
@@ -296,6 +296,6 @@ halo_cells j vs t p ready shows halo a x y la lx ly =
         ∙ sym (with_halo_inside j u t (local_run j u t) _ _ (inner_in_box j.area x0 y0 l0 l1))
         ∙ sym (ap₂ s (outer_inner j.area.x x0) (outer_inner j.area.y y0))
 
-pub run_start : (j : JobState) (u : Valuation) (x y : ℤ) → is_live u (job_start j x y) ≡ local_run j u 0 x y
+pub run_start : (j : JobView) (u : Valuation) (x y : ℤ) → is_live u (job_start j x y) ≡ local_run j u 0 x y
 unfolding local_run
 run_start j u x y = refl

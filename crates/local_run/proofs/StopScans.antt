@@ -10,7 +10,7 @@ use Rattle.circuit.specs.Meaning.{Valuation}
 use Rattle.module_box.specs.Moments.{cell_cmp, moment_cmp}
 use Rattle.module_box.specs.Schedules.{IsRising}
 use Rattle.module_box.specs.declared.schedules.Moment.{Moment}
-use Rattle.module_job.specs.Jobs.{JobState, stop_moment}
+use Rattle.module_job.specs.Jobs.{JobView, stop_moment}
 use Rattle.module_job.specs.declared.job.Stop as listed
 use Rattle.local_run.specs.Faults.{IsStopFault, assignments}
 use Rattle.local_run.specs.Runs.{local_run}
@@ -58,7 +58,7 @@ later_moment m n h = elim (then_less _ _ h) [
 -- ---- the stops that were looked at
 
 -- No stop at time t before this place has a fault, and those from it on are not earlier.
-pub record AreTried (j : JobState) (vs : Values) (t place : ℕ) : Type 0 where
+pub record AreTried (j : JobView) (vs : Values) (t place : ℕ) : Type 0 where
   pub within : place ≤ length j.stops
   pub before : (k : ℕ) (s : listed.Stop) → k < place → slice_get j.stops k ≡ Some s → s.at.time ≤ t
   pub from : (k : ℕ) (s : listed.Stop) → place ≤ k → slice_get j.stops k ≡ Some s → t ≤ s.at.time
@@ -66,7 +66,7 @@ pub record AreTried (j : JobState) (vs : Values) (t place : ℕ) : Type 0 where
       a < assignments j →
       ¬ IsMissed j vs a s
 
-pub none_tried : (j : JobState) (vs : Values) (t place : ℕ) → IsNextStop j t place → AreTried j vs t place
+pub none_tried : (j : JobView) (vs : Values) (t place : ℕ) → IsNextStop j t place → AreTried j vs t place
 none_tried j vs t place next = record {
   within = next.within;
   before = λ k s l e. (let lt = next.before k s l e in omega (arith, lt));
@@ -78,7 +78,7 @@ below_or_there : (k n : ℕ) → k < n + 1 → (k < n) ⊎ (k ≡ n)
 below_or_there k n l = grind arith
 
 -- a stop more
-pub one_more : (j : JobState) (vs : Values) (t place : ℕ) (s : listed.Stop) → AreTried j vs t place →
+pub one_more : (j : JobView) (vs : Values) (t place : ℕ) (s : listed.Stop) → AreTried j vs t place →
     slice_get j.stops place ≡ Some s → s.at.time ≡ t →
     IsLeastBelow (assignments j) (λ b. IsMissed j vs b s) None → AreTried j vs t (place + 1)
 one_more j vs t place s tried e at none = record {
@@ -98,12 +98,12 @@ one_more j vs t place s tried e at none = record {
 }
 
 -- the stop of a fault stands in the list
-stop_at : (j : JobState) (u : Valuation) (t : ℕ) (x y : ℤ) (f : IsStopFault j u t x y) →
+stop_at : (j : JobView) (u : Valuation) (t : ℕ) (x y : ℤ) (f : IsStopFault j u t x y) →
     slice_get j.stops f.is_listed.0 ≡ Some f.stop
 stop_at j u t x y f = slice_get-get_or j.stops f.is_listed.0 f.stop f.is_listed.1 ∙ ap Some f.is_listed.2
 
 -- where no stop before this place has a fault, one that has stands at it or later, and then so does its cell
-where_it_is : (j : JobState) (vs : Values) (t place a : ℕ) (s : listed.Stop) (x y : ℤ) →
+where_it_is : (j : JobView) (vs : Values) (t place a : ℕ) (s : listed.Stop) (x y : ℤ) →
     IsRising moment_cmp stop_moment j.stops → AreTried j vs t place → slice_get j.stops place ≡ Some s →
     s.at.time ≡ t → a < assignments j → is_defined vs a ≡ true → (f : IsStopFault j (valuation vs a) t x y) →
     (f.stop ≡ s) ⊎ IsLater s.at.cell.x s.at.cell.y x y
@@ -142,7 +142,7 @@ not_itself : (x y : ℤ) → ¬ IsLater x y x y
 not_itself x y (inl l) = less_itself y l
 not_itself x y (inr p) = less_itself x p.1
 
-pub stop_first : (j : JobState) (vs : Values) (t place a : ℕ) (s : listed.Stop) →
+pub stop_first : (j : JobView) (vs : Values) (t place a : ℕ) (s : listed.Stop) →
     IsRising moment_cmp stop_moment j.stops → AreTried j vs t place → slice_get j.stops place ≡ Some s →
     s.at.time ≡ t → IsLeastBelow (assignments j) (λ b. IsMissed j vs b s) (Some a) →
     IsFirst j vs t Stop (record { time = t; kind = Stop; cell = s.at.cell; assignment = a })
@@ -188,13 +188,13 @@ stop_first j vs t place a s rising tried e at least = record {
 
 -- ---- no stop at the time is left
 
-abbrev NoneLeft : JobState → ℕ → ℕ → Type 0
+abbrev NoneLeft : JobView → ℕ → ℕ → Type 0
 NoneLeft j t place = (k : ℕ) (s : listed.Stop) → place ≤ k → slice_get j.stops k ≡ Some s → t < s.at.time
 
-at_end : (j : JobState) (t place : ℕ) → length j.stops ≤ place → NoneLeft j t place
+at_end : (j : JobView) (t place : ℕ) → length j.stops ≤ place → NoneLeft j t place
 at_end j t place past k s l e = absurd (let lt = slice_get_within j.stops k s e in omega (arith, lt, past, l))
 
-before_later : (j : JobState) (vs : Values) (t place : ℕ) (s : listed.Stop) → IsRising moment_cmp stop_moment j.stops →
+before_later : (j : JobView) (vs : Values) (t place : ℕ) (s : listed.Stop) → IsRising moment_cmp stop_moment j.stops →
     AreTried j vs t place → slice_get j.stops place ≡ Some s → s.at.time ≢ t → NoneLeft j t place
 before_later j vs t place s rising tried e other k r l h = elim (three_ways k place) [
   | inl lt ↦ absurd (omega (arith, lt, l))
@@ -211,11 +211,11 @@ before_later j vs t place s rising tried e other k r l h = elim (three_ways k pl
       ]
 ]
 
-pub record AreAllTried (j : JobState) (vs : Values) (t place : ℕ) : Type 0 where
+pub record AreAllTried (j : JobView) (vs : Values) (t place : ℕ) : Type 0 where
   pub free : IsFree j vs t Stop
   pub next : IsNextStop j (t + 1) place
 
-all_tried : (j : JobState) (vs : Values) (t place : ℕ) → AreTried j vs t place → NoneLeft j t place →
+all_tried : (j : JobView) (vs : Values) (t place : ℕ) → AreTried j vs t place → NoneLeft j t place →
     AreAllTried j vs t place
 all_tried j vs t place tried left = record {
   free = λ x y a la found. let f : IsStopFault j (valuation vs a) t x y = found.1 in
@@ -239,11 +239,11 @@ all_tried j vs t place tried left = record {
         late x y a f ge = (let lt = left f.is_listed.0 f.stop ge (stop_at j (valuation vs a) t x y f) in let time =
             f.time in omega (arith, lt, time))
 
-pub past_all : (j : JobState) (vs : Values) (t place : ℕ) → AreTried j vs t place → length j.stops ≤ place →
+pub past_all : (j : JobView) (vs : Values) (t place : ℕ) → AreTried j vs t place → length j.stops ≤ place →
     AreAllTried j vs t place
 past_all j vs t place tried past = all_tried j vs t place tried (at_end j t place past)
 
-pub past_these : (j : JobState) (vs : Values) (t place : ℕ) (s : listed.Stop) →
+pub past_these : (j : JobView) (vs : Values) (t place : ℕ) (s : listed.Stop) →
     IsRising moment_cmp stop_moment j.stops → AreTried j vs t place → slice_get j.stops place ≡ Some s → s.at.time ≢ t →
     AreAllTried j vs t place
 past_these j vs t place s rising tried e other =
@@ -251,7 +251,7 @@ past_these j vs t place s rising tried e other =
 
 -- ---- times without stops
 -- where a place is that of the next stop at two times there is none between them
-pub none_between : (j : JobState) (vs : Values) (t n place k : ℕ) → IsNextStop j t place → IsNextStop j n place →
+pub none_between : (j : JobView) (vs : Values) (t n place k : ℕ) → IsNextStop j t place → IsNextStop j n place →
     t ≤ k → k < n → IsFree j vs k Stop
 none_between j vs t n place k low high from to x y a la found =
     let f : IsStopFault j (valuation vs a) k x y = found.1 in
@@ -262,7 +262,7 @@ none_between j vs t n place k low high from to x y a la found =
       | inr g ↦ let h = high.from f.is_listed.0 f.stop g at in omega (arith, h, time, to)
     ]
 
-later_stop : (j : JobState) (i k : ℕ) (s r : listed.Stop) → IsRising moment_cmp stop_moment j.stops → i ≤ k →
+later_stop : (j : JobView) (i k : ℕ) (s r : listed.Stop) → IsRising moment_cmp stop_moment j.stops → i ≤ k →
     slice_get j.stops i ≡ Some s → slice_get j.stops k ≡ Some r → s.at.time ≤ r.at.time
 later_stop j i k s r rising le e h = elim (three_ways k i) [
   | inl lt ↦ absurd (omega (arith, lt, le))
@@ -277,7 +277,7 @@ later_stop j i k s r rising le e h = elim (three_ways k i) [
 ]
 
 -- a place is that of the next stop also at later times, up to that of the stop
-pub next_later : (j : JobState) (t n place : ℕ) (s : listed.Stop) → IsRising moment_cmp stop_moment j.stops →
+pub next_later : (j : JobView) (t n place : ℕ) (s : listed.Stop) → IsRising moment_cmp stop_moment j.stops →
     IsNextStop j t place → slice_get j.stops place ≡ Some s → t ≤ n → n ≤ s.at.time → IsNextStop j n place
 next_later j t n place s rising next e from to = record {
   within = next.within;
@@ -285,7 +285,7 @@ next_later j t n place s rising next e from to = record {
   from = λ k r ge h. (let le = later_stop j place k s r rising ge e h in omega (arith, le, to));
 }
 
-pub next_at_end : (j : JobState) (t n place : ℕ) → IsNextStop j t place → length j.stops ≤ place → t ≤ n →
+pub next_at_end : (j : JobView) (t n place : ℕ) → IsNextStop j t place → length j.stops ≤ place → t ≤ n →
     IsNextStop j n place
 next_at_end j t n place next past from = record {
   within = next.within;

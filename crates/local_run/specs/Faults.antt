@@ -7,7 +7,7 @@ use Rattle.module_box.specs.Boxes.{in_box, in_ring}
 use Rattle.module_box.specs.Locals.{is_among}
 use Rattle.module_box.specs.LocalValues.{IsLocalValuation, IsLocallyUndefined}
 use Rattle.module_box.specs.Schedules.{signal_at}
-use Rattle.module_job.specs.Jobs.{JobState, job_demand}
+use Rattle.module_job.specs.Jobs.{JobView, job_demand}
 use Rattle.module_job.specs.Signals.{is_live, Meets}
 use Rattle.module_job.specs.declared.job.Stop as listed
 use Rattle.local_run.specs.Order.{fault_cmp, keep_cmp}
@@ -18,14 +18,14 @@ use Rattle.local_run.specs.declared.fault.Kind.{Kind}
 use Rattle.local_run.specs.declared.fault.Kind.TheVariants.{Edge, Stop, End}
 
 -- at an odd time below the steps, a cell of the ring is not as its edge signal says
-pub record IsEdgeFault (j : JobState) (u : Valuation) (t : ℕ) (x y : ℤ) : Type 0 where
+pub record IsEdgeFault (j : JobView) (u : Valuation) (t : ℕ) (x y : ℤ) : Type 0 where
   pub odd : t % 2 ≡ 1
   pub early : t < j.steps
   pub ring : IsTrue (in_ring j.area x y)
   pub differs : local_run j u t x y ≢ is_live u (signal_at j.edges t x y)
 
 -- at the time of a stop, its cell is not as its wire says
-pub record IsStopFault (j : JobState) (u : Valuation) (t : ℕ) (x y : ℤ) : Type 0 where
+pub record IsStopFault (j : JobView) (u : Valuation) (t : ℕ) (x y : ℤ) : Type 0 where
   pub stop : listed.Stop
   pub is_listed : Contains j.stops stop
   pub time : stop.at.time ≡ t
@@ -34,39 +34,39 @@ pub record IsStopFault (j : JobState) (u : Valuation) (t : ℕ) (x y : ℤ) : Ty
   pub differs : local_run j u t x y ≢ u stop.wire
 
 -- at the last time, a cell of the box does not meet its demand
-pub record IsEndFault (j : JobState) (u : Valuation) (t : ℕ) (x y : ℤ) : Type 0 where
+pub record IsEndFault (j : JobView) (u : Valuation) (t : ℕ) (x y : ℤ) : Type 0 where
   pub last : t ≡ j.steps
   pub inside : IsTrue (in_box j.area x y)
   pub differs : ¬ Meets u (job_demand j x y) (local_run j u t x y)
 
 -- the cell (x, y) has a fault of the kind at time t, if the wires have these values
-abbrev pub IsFaultUnder : JobState → Valuation → ℕ → Kind → ℤ → ℤ → Type 0
+abbrev pub IsFaultUnder : JobView → Valuation → ℕ → Kind → ℤ → ℤ → Type 0
 IsFaultUnder j u t Edge x y = IsEdgeFault j u t x y
 IsFaultUnder j u t Stop x y = IsStopFault j u t x y
 IsFaultUnder j u t End x y = IsEndFault j u t x y
 
 -- how many assignments there are: one for each choice of the values of the cuts
-abbrev pub assignments : JobState → ℕ
+abbrev pub assignments : JobView → ℕ
 assignments j = 2 ^ j.locals.netlist.given
 
 -- a local valuation under the fault's assignment that has it
-pub record HasFault (j : JobState) (f : Fault) : Type 0 where
+pub record HasFault (j : JobView) (f : Fault) : Type 0 where
   pub values : Valuation
   pub local : IsLocalValuation j.locals f.assignment values
   pub differs : IsFaultUnder j values f.time f.kind f.cell.x f.cell.y
 
 -- a fault of the job: there is such a valuation
-pub record IsFault (j : JobState) (f : Fault) : Type 0 where
+pub record IsFault (j : JobView) (f : Fault) : Type 0 where
   pub in_range : f.assignment < assignments j
   pub shown : ∥ HasFault j f ∥₁
 
 -- the job's least fault, or `None` if it has no fault
-abbrev pub IsLeastFault : JobState → Option Fault → Type 0
+abbrev pub IsLeastFault : JobView → Option Fault → Type 0
 IsLeastFault j None = (f : Fault) → ¬ IsFault j f
 IsLeastFault j (Some f) = IsFault j f × ((g : Fault) → IsFault j g → fault_cmp f g ≢ Greater)
 
 -- any two proofs of it are equal
-pub IsLeastFault-prop : (j : JobState) (o : Option Fault) → IsProp (IsLeastFault j o)
+pub IsLeastFault-prop : (j : JobView) (o : Option Fault) → IsProp (IsLeastFault j o)
 IsLeastFault-prop j None = Prim.hlevel props
 IsLeastFault-prop j (Some f) = Prim.hlevel props
 
@@ -74,17 +74,17 @@ IsLeastFault-prop j (Some f) = Prim.hlevel props
 
 -- Under the assignment the gate at this place among the used ones is the first that has no row, and the module keeps
 -- it. The assignment is any at all: also one under which the run looks for no faults.
-pub record IsKeepFault (j : JobState) (f : KeepFault) : Type 0 where
+pub record IsKeepFault (j : JobView) (f : KeepFault) : Type 0 where
   pub in_range : f.assignment < assignments j
   pub is_kept : IsTrue (is_among j.kept f.gate)
   pub shown : ∥ IsLocallyUndefined j.locals f.assignment f.gate ∥₁
 
 -- the job's least keep fault, or `None` if it has none
-abbrev pub IsLeastKeepFault : JobState → Option KeepFault → Type 0
+abbrev pub IsLeastKeepFault : JobView → Option KeepFault → Type 0
 IsLeastKeepFault j None = (f : KeepFault) → ¬ IsKeepFault j f
 IsLeastKeepFault j (Some f) = IsKeepFault j f × ((g : KeepFault) → IsKeepFault j g → keep_cmp f g ≢ Greater)
 
 -- any two proofs of it are equal
-pub IsLeastKeepFault-prop : (j : JobState) (o : Option KeepFault) → IsProp (IsLeastKeepFault j o)
+pub IsLeastKeepFault-prop : (j : JobView) (o : Option KeepFault) → IsProp (IsLeastKeepFault j o)
 IsLeastKeepFault-prop j None = Prim.hlevel props
 IsLeastKeepFault-prop j (Some f) = Prim.hlevel props

@@ -6,7 +6,7 @@ use Rattle.module_box.specs.LocalValues.{IsLocalValuation, IsLocallyUndefined}
 use Rattle.module_box.specs.Laws.{LiesInBox}
 use Rattle.module_box.specs.Boxes.{in_halo}
 use Rattle.module_box.specs.Schedules.{Signals, signal_at}
-use Rattle.module_job.specs.Jobs.{JobState, IsJob}
+use Rattle.module_job.specs.Jobs.{JobView, IsJob}
 use Rattle.local_run.specs.Faults.{IsEdgeFault, IsFault, IsFaultUnder, IsKeepFault, IsLeastFault, IsLeastKeepFault}
 use Rattle.local_run.specs.Faults.{assignments}
 use Rattle.local_run.specs.Leaps.{IsOddOf, IsSteady, StaysUpTo}
@@ -34,47 +34,47 @@ NoneMeansNoKeepFault = (f : Finding) (x : KeepFault) → keep_of f ≡ None → 
 
 -- a job has one least keep fault, or none
 abbrev pub LeastKeepFaultIsUnique : Type 0
-LeastKeepFaultIsUnique = (j : JobState) (f g : Option KeepFault) → IsLeastKeepFault j f → IsLeastKeepFault j g → f ≡ g
+LeastKeepFaultIsUnique = (j : JobView) (f g : Option KeepFault) → IsLeastKeepFault j f → IsLeastKeepFault j g → f ≡ g
 
 -- if some used gate has no row under an assignment, the job has no fault under it
 abbrev pub UndefinedHasNoFault : Type 0
-UndefinedHasNoFault = (j : JobState) (f : Fault) (k : ℕ) → AreOrdered j.locals.netlist.given j.locals.netlist.gates →
+UndefinedHasNoFault = (j : JobView) (f : Fault) (k : ℕ) → AreOrdered j.locals.netlist.given j.locals.netlist.gates →
     IsLocallyUndefined j.locals f.assignment k → ¬ IsFault j f
 
 -- a job has one least fault, or none
 abbrev pub LeastFaultIsUnique : Type 0
-LeastFaultIsUnique = (j : JobState) (f g : Option Fault) → IsLeastFault j f → IsLeastFault j g → f ≡ g
+LeastFaultIsUnique = (j : JobView) (f g : Option Fault) → IsLeastFault j f → IsLeastFault j g → f ≡ g
 
 -- If no gate uses a wire before it is defined, any one local valuation under an assignment decides whether the job has
 -- a fault under it.
 abbrev pub FaultsAreDecided : Type 0
-FaultsAreDecided = (j : JobState) (f : Fault) (u : Valuation) → IsJob j →
+FaultsAreDecided = (j : JobView) (f : Fault) (u : Valuation) → IsJob j →
     AreOrdered j.locals.netlist.given j.locals.netlist.gates →
     f.assignment < assignments j → IsLocalValuation j.locals f.assignment u →
     IsFault j f ↔ IsFaultUnder j u f.time f.kind f.cell.x f.cell.y
 
 -- at each odd time below the steps these say the same of each cell of the halo as the job
-abbrev pub SayTheSame : JobState → Signals → Type 0
+abbrev pub SayTheSame : JobView → Signals → Type 0
 SayTheSame j halos = (t : ℕ) (x y : ℤ) → t % 2 ≡ 1 → t < j.steps → IsTrue (in_halo j.area x y) →
     signal_at j.halos t x y ≡ signal_at halos t x y
 
 -- so the job has the same faults if they are its halos, if its stops are at times up to the last one
 abbrev pub JobsWithSameHalosAgree : Type 0
-JobsWithSameHalosAgree = (j : JobState) (halos : Signals) (f : Fault) → All (λ s. s.at.time ≤ j.steps) j.stops →
+JobsWithSameHalosAgree = (j : JobView) (halos : Signals) (f : Fault) → All (λ s. s.at.time ≤ j.steps) j.stops →
     SayTheSame j halos → IsFault j f → IsFault (record j { halos = halos }) f
 
 -- no cell outside the box is ever live
 abbrev pub StaysInBox : Type 0
-StaysInBox = (j : JobState) (u : Valuation) (t : ℕ) → IsJob j → LiesInBox j.area (local_run j u t)
+StaysInBox = (j : JobView) (u : Valuation) (t : ℕ) → IsJob j → LiesInBox j.area (local_run j u t)
 
 -- A run that does not change in two steps does not change until time n, if the signals of the halo do not either
 abbrev pub QuietRunsStay : Type 0
-QuietRunsStay = (j : JobState) (u : Valuation) (t o n : ℕ) → IsOddOf t o → StaysUpTo j u t (t + 2) →
+QuietRunsStay = (j : JobView) (u : Valuation) (t o n : ℕ) → IsOddOf t o → StaysUpTo j u t (t + 2) →
     IsSteady j.halos o n → StaysUpTo j u t n
 
 -- If the signals of the ring do not change either, an edge fault before time n was there at the odd one of the two
 -- times.
 abbrev pub NoNewEdgeFaults : Type 0
-NoNewEdgeFaults = (j : JobState) (u : Valuation) (t o n k : ℕ) (x y : ℤ) → IsOddOf t o → StaysUpTo j u t (t + 2) →
+NoNewEdgeFaults = (j : JobView) (u : Valuation) (t o n k : ℕ) (x y : ℤ) → IsOddOf t o → StaysUpTo j u t (t + 2) →
     IsSteady j.halos o n → IsSteady j.edges o n →
     t ≤ k → k < n → IsEdgeFault j u k x y → IsEdgeFault j u o x y

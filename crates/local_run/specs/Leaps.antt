@@ -3,11 +3,11 @@ use Rattle.std.specs.Prelude.{◌≡◌, ℕ, ℤ, ◌+◌, ◌-◌, ◌%◌, Bo
 use Rattle.circuit.specs.Meaning.{Valuation}
 use Rattle.module_box.specs.Schedules.{Signals, signal_at}
 use Rattle.module_box.specs.declared.schedules.Event.{Event}
-use Rattle.module_job.specs.Jobs.{JobState}
+use Rattle.module_job.specs.Jobs.{JobView}
 use Rattle.local_run.specs.Runs.{local_run}
 
 -- the run at each time from t up to n is that at time t
-abbrev pub StaysUpTo : JobState → Valuation → ℕ → ℕ → Type 0
+abbrev pub StaysUpTo : JobView → Valuation → ℕ → ℕ → Type 0
 StaysUpTo j u t n = (k : ℕ) (x y : ℤ) → t ≤ k → k ≤ n → local_run j u k x y ≡ local_run j u t x y
 
 -- the signals of a schedule at each odd time from t on, before n, are those at time t
@@ -31,7 +31,7 @@ HasNoEvents events t n = (i : ℕ) (e : Event) → slice_get events i ≡ Some e
 
 -- Nothing changed at the even time t and at the odd one before. The signals of ring and halo stay as they were at the
 -- odd one until time n
-pub record IsLeap (j : JobState) (t : ℕ) (changed : Bool) (n : ℕ) : Type 0 where
+pub record IsLeap (j : JobView) (t : ℕ) (changed : Bool) (n : ℕ) : Type 0 where
   pub unchanged : changed ≡ false
   pub even : t % 2 ≡ 0
   pub later : 1 ≤ t

@@ -4,10 +4,10 @@ use Rattle.std.specs.Int.{div_ceil}
 use Rattle.bbm_rule.specs.declared.block.Cell.{Cell}
 use Rattle.module_box.specs.Schedules.{Signals, signal_at}
 use Rattle.module_box.specs.declared.boxes.Box2.{Box2}
-use Rattle.module_box.specs.declared.schedules.Held.{Held}
+use Rattle.module_box.specs.declared.schedules.AllTimes.{AllTimes}
 use Rattle.module_box.specs.declared.schedules.Signal.TheVariants.{Zero}
-use Rattle.module_job.specs.Jobs.{JobState}
-use Rattle.module_job.specs.Shapes.{ShapeState}
+use Rattle.module_job.specs.Jobs.{JobView}
+use Rattle.module_job.specs.Shapes.{ShapeView}
 use Rattle.local_run.specs.Places.{outer}
 use Rattle.bbm_rule.specs.Marks.{IsUnmarked}
 
@@ -38,20 +38,20 @@ IsCellMarked b c marks = (x y : ℕ) → x < b.w + 2 → y < b.h + 2 → c.x ≡
 abbrev pub KeepsMarks : List ℕ → List ℕ → Type 0
 KeepsMarks old new = (u : ℕ) → IsUnmarked new u → IsUnmarked old u
 
--- the cells of held signals have marks
-abbrev pub AreHeldMarked : Signals → Box2 → List ℕ → Type 0
-AreHeldMarked s b marks = (i : ℕ) (h : Held) → slice_get s.held i ≡ Some h → IsCellMarked b h.cell marks
+-- the cells of signals at all times have marks
+abbrev pub AreAllTimesMarked : Signals → Box2 → List ℕ → Type 0
+AreAllTimesMarked s b marks = (i : ℕ) (h : AllTimes) → slice_get s.all_times i ≡ Some h → IsCellMarked b h.cell marks
 
 -- the box of a shape, with its corner at (0, 0)
-abbrev pub at_corner : ShapeState → Box2
+abbrev pub at_corner : ShapeView → Box2
 at_corner s = record { x = 0; y = 0; w = s.width; h = s.height }
 
 -- marks, a word for 64, that leave no cell out of which a line of a shape says something at all times
-pub record AreHeld (s : ShapeState) (marks : List ℕ) : Type 0 where
+pub record AreAllTimesMarks (s : ShapeView) (marks : List ℕ) : Type 0 where
   pub long : length marks ≡ div_ceil ((s.width / 2 + 1) * (s.height / 2 + 1)) 64 + 72
   pub room : HasRoom (at_corner s) marks
-  pub edges : AreHeldMarked s.edges (at_corner s) marks
-  pub halos : AreHeldMarked s.halos (at_corner s) marks
+  pub edges : AreAllTimesMarked s.edges (at_corner s) marks
+  pub halos : AreAllTimesMarked s.halos (at_corner s) marks
 
 -- at cells that lack a mark the signal of a schedule at time t is `Zero`
 abbrev pub IsQuietIn : Signals → Box2 → ℕ → List ℕ → Type 0
@@ -59,6 +59,6 @@ IsQuietIn s b t marks = (x y : ℕ) → x < b.w + 2 → y < b.h + 2 → LacksLin
     signal_at s t (outer b.x x) (outer b.y y) ≡ Zero
 
 -- marks that leave no cell out of which an edge or halo line of a job says something at time t
-pub record AreLines (j : JobState) (t : ℕ) (marks : List ℕ) : Type 0 where
+pub record AreLines (j : JobView) (t : ℕ) (marks : List ℕ) : Type 0 where
   pub edges : IsQuietIn j.edges j.area t marks
   pub halos : IsQuietIn j.halos j.area t marks

@@ -7,14 +7,14 @@ use Rattle.module_box.specs.Schedules.{signal_at}
 use Rattle.module_box.specs.declared.boxes.Box2.{Box2}
 use Rattle.module_box.specs.declared.schedules.Signal.{Signal}
 use Rattle.module_box.specs.declared.schedules.Signal.TheVariants.{Zero, One, Wire}
-use Rattle.module_job.specs.Jobs.{JobState, IsJob}
+use Rattle.module_job.specs.Jobs.{JobView, IsJob}
 use Rattle.module_job.specs.Shapes.{shape_of}
 use Rattle.module_job.specs.Signals.{is_live}
 use Rattle.module_job.specs.declared.job.Stop as listed
 use Rattle.local_run.specs.Faults.{IsFaultUnder, assignments}
 use Rattle.local_run.specs.Lanes.{HasSize, lane}
 use Rattle.local_run.specs.Places.{inner, outer}
-use Rattle.local_run.specs.Quiet.{AreHeld, number_at}
+use Rattle.local_run.specs.Quiet.{AreAllTimesMarks, number_at}
 use Rattle.local_run.specs.Runs.{local_run}
 use Rattle.local_run.specs.declared.fault.Fault.{Fault}
 use Rattle.local_run.specs.declared.fault.Kind.{Kind}
@@ -43,11 +43,11 @@ KeepsDefined defined old new =
     value_of (length defined) new a w ≡ value_of (length defined) old a w
 
 -- each used gate has a row under assignment a, and the job has the fault
-abbrev pub IsFound : JobState → Values → ℕ → ℕ → Kind → ℤ → ℤ → Type 0
+abbrev pub IsFound : JobView → Values → ℕ → ℕ → Kind → ℤ → ℤ → Type 0
 IsFound j vs a t kind x y = (is_defined vs a ≡ true) × IsFaultUnder j (valuation vs a) t kind x y
 
 -- each used gate has a row under assignment a, and at the stop's time its cell is not as its wire
-abbrev pub IsMissed : JobState → Values → ℕ → listed.Stop → Type 0
+abbrev pub IsMissed : JobView → Values → ℕ → listed.Stop → Type 0
 IsMissed j vs a s = (is_defined vs a ≡ true)
     × (local_run j (valuation vs a) s.at.time s.at.cell.x s.at.cell.y ≢ valuation vs a s.wire)
 
@@ -58,7 +58,7 @@ HasRow vs One = Unit {0}
 HasRow vs (Wire w) = vs.words * w + vs.words ≤ length vs.rows.values.items
 
 -- what a run needs of a job and of the values of its wires
-pub record IsReady (j : JobState) (vs : Values) : Type 0 where
+pub record IsReady (j : JobView) (vs : Values) : Type 0 where
   pub job : IsJob j
   pub ordered : AreOrdered j.locals.netlist.given j.locals.netlist.gates
   pub wide : (0 < vs.words) × (vs.words ≤ 64)
@@ -66,16 +66,16 @@ pub record IsReady (j : JobState) (vs : Values) : Type 0 where
   pub room : vs.count ≤ 64 * vs.words
   pub long : vs.words * wires j.locals.netlist ≤ length vs.rows.values.items
   pub rows : AreValueRows j.locals.netlist vs.words vs.rows
-  pub held : AreHeld (shape_of j) vs.held.items
+  pub all_times_marks : AreAllTimesMarks (shape_of j) vs.all_times_marks.items
 
 -- the cells of the box are those of the run at time t, under each assignment
-pub record Shows (j : JobState) (vs : Values) (t : ℕ) (p : Planes) : Type 0 where
+pub record Shows (j : JobView) (vs : Values) (t : ℕ) (p : Planes) : Type 0 where
   pub size : HasSize vs.words (j.area.w / 2 + 1) (j.area.h / 2 + 1) p
   pub cells : (a x y : ℕ) → a < assignments j → x < j.area.w → y < j.area.h →
       lane p a (1 + x) (1 + y) ≡ local_run j (valuation vs a) t (inner j.area.x x) (inner j.area.y y)
 
 -- whether faults of the kind are sought at the time, cell by cell
-abbrev pub IsSought : JobState → ℕ → Kind → Type 0
+abbrev pub IsSought : JobView → ℕ → Kind → Type 0
 IsSought j t Edge = (t % 2 ≡ 1) × (t < j.steps)
 IsSought j t Stop = ⊥
 IsSought j t End = t ≡ j.steps
@@ -92,7 +92,7 @@ abbrev pub IsStride : Kind → ℕ → ℕ → ℕ → ℕ → Type 0
 IsStride kind w h y stride = (1 ≤ stride) × (stride ≤ 64) × ((stride ≡ 1) ⊎ HasBothEnds kind w h y stride)
 
 -- f comes first among the faults of a kind at a time
-pub record IsFirst (j : JobState) (vs : Values) (t : ℕ) (kind : Kind) (f : Fault) : Type 0 where
+pub record IsFirst (j : JobView) (vs : Values) (t : ℕ) (kind : Kind) (f : Fault) : Type 0 where
   pub at_time : f.time ≡ t
   pub same_kind : f.kind ≡ kind
   pub small : f.assignment < assignments j
@@ -102,7 +102,7 @@ pub record IsFirst (j : JobState) (vs : Values) (t : ℕ) (kind : Kind) (f : Fau
   pub assignment : (a : ℕ) → a < f.assignment → ¬ IsFound j vs a t kind f.cell.x f.cell.y
 
 -- there is no fault of the kind at the time
-abbrev pub IsFree : JobState → Values → ℕ → Kind → Type 0
+abbrev pub IsFree : JobView → Values → ℕ → Kind → Type 0
 IsFree j vs t kind = (x y : ℤ) (a : ℕ) → a < assignments j → ¬ IsFound j vs a t kind x y
 
 -- a cell, counted from the halo, is what the signal says under the assignments of this many words
@@ -121,42 +121,42 @@ abbrev pub IsOuter : Box2 → ℕ → ℕ → Type 0
 IsOuter b x y = (1 ≤ x) × (x ≤ b.w) × (1 ≤ y) × (y ≤ b.h) → ⊥
 
 -- the cell of the halo is what its signal says, under each assignment
-abbrev pub HasHaloAt : JobState → Values → ℕ → Planes → ℕ → ℕ → Type 0
+abbrev pub HasHaloAt : JobView → Values → ℕ → Planes → ℕ → ℕ → Type 0
 HasHaloAt j vs t p x y = (a : ℕ) → a < assignments j → IsOuter j.area x y →
     lane p a x y ≡ is_live (valuation vs a) (signal_at j.halos t (outer j.area.x x) (outer j.area.y y))
 
 -- all cells of the halo are
-abbrev pub HasHalo : JobState → Values → ℕ → Planes → Type 0
+abbrev pub HasHalo : JobView → Values → ℕ → Planes → Type 0
 HasHalo j vs t p = (x y : ℕ) → x < j.area.w + 2 → y < j.area.h + 2 → HasHaloAt j vs t p x y
 
 -- no cell changes but the one at (x, y), counted from the halo
-abbrev pub SameElsewhere : JobState → Planes → Planes → ℕ → ℕ → Type 0
+abbrev pub SameElsewhere : JobView → Planes → Planes → ℕ → ℕ → Type 0
 SameElsewhere j p q x y = (a x' y' : ℕ) → a < assignments j → x' < j.area.w + 2 → ((x' ≡ x) × (y' ≡ y) → ⊥) →
     lane q a x' y' ≡ lane p a x' y'
 
 -- the stops before this place are at earlier times than t, and all others are not
-pub record IsNextStop (j : JobState) (t place : ℕ) : Type 0 where
+pub record IsNextStop (j : JobView) (t place : ℕ) : Type 0 where
   pub within : place ≤ length j.stops
   pub before : (k : ℕ) (s : listed.Stop) → k < place → slice_get j.stops k ≡ Some s → s.at.time < t
   pub from : (k : ℕ) (s : listed.Stop) → place ≤ k → slice_get j.stops k ≡ Some s → t ≤ s.at.time
 
 -- a cell has a fault of its edge at the time if that is odd; so it has none if the time is even
-abbrev pub HasNoEdgeFault : JobState → Values → ℕ → Type 0
+abbrev pub HasNoEdgeFault : JobView → Values → ℕ → Type 0
 HasNoEdgeFault j vs t = t % 2 ≡ 1 → IsFree j vs t Edge
 
 -- f comes first among all faults at a time before the last
-abbrev pub IsFirstAt : JobState → Values → ℕ → Fault → Type 0
+abbrev pub IsFirstAt : JobView → Values → ℕ → Fault → Type 0
 IsFirstAt j vs t f = ((t % 2 ≡ 1) × IsFirst j vs t Edge f) ⊎ (HasNoEdgeFault j vs t × IsFirst j vs t Stop f)
 
 -- a time before the last without a fault: the place is that of the next stop after it
-pub record IsPassed (j : JobState) (vs : Values) (t place : ℕ) : Type 0 where
+pub record IsPassed (j : JobView) (vs : Values) (t place : ℕ) : Type 0 where
   pub next : IsNextStop j (t + 1) place
   pub edges : HasNoEdgeFault j vs t
   pub stops : IsFree j vs t Stop
 
 -- The cells of box and halo with this number, one in each plane, are dead under each assignment, and their signals at
 -- time t are `Zero`
-pub record IsSilent (j : JobState) (t : ℕ) (p : Planes) (u : ℕ) : Type 0 where
+pub record IsSilent (j : JobView) (t : ℕ) (p : Planes) (u : ℕ) : Type 0 where
   pub dead : (a x y : ℕ) → a < 64 * p.words → x < j.area.w + 2 → y < j.area.h + 2 → number_at j.area x y ≡ u →
       lane p a x y ≡ false
   pub edge : (x y : ℕ) → x < j.area.w + 2 → y < j.area.h + 2 → number_at j.area x y ≡ u →
@@ -165,20 +165,20 @@ pub record IsSilent (j : JobState) (t : ℕ) (p : Planes) (u : ℕ) : Type 0 whe
       signal_at j.halos t (outer j.area.x x) (outer j.area.y y) ≡ Zero
 
 -- the cells of the halo in this column and row of the planes are what their signals say
-abbrev pub HasHaloIn : JobState → Values → ℕ → Planes → ℕ → ℕ → Type 0
+abbrev pub HasHaloIn : JobView → Values → ℕ → Planes → ℕ → ℕ → Type 0
 HasHaloIn j vs t p column row =
     (x y : ℕ) → x < j.area.w + 2 → y < j.area.h + 2 → x / 2 ≡ column → y / 2 ≡ row → HasHaloAt j vs t p x y
 
 -- no cell changes but those in this column and row of the planes
-abbrev pub SameButIn : JobState → Planes → Planes → ℕ → ℕ → Type 0
+abbrev pub SameButIn : JobView → Planes → Planes → ℕ → ℕ → Type 0
 SameButIn j p q column row = (a x y : ℕ) → a < assignments j → x < j.area.w + 2 →
     ((x / 2 ≡ column) × (y / 2 ≡ row) → ⊥) → lane q a x y ≡ lane p a x y
 
 -- a cell, counted from the halo, is outside the ring or carries what its signal says, wherever each used gate has a row
-abbrev pub HasEdgeAt : JobState → Values → ℕ → ℕ → ℕ → Type 0
+abbrev pub HasEdgeAt : JobView → Values → ℕ → ℕ → ℕ → Type 0
 HasEdgeAt j vs t x y = (a : ℕ) → a < assignments j → ¬ IsFound j vs a t Edge (outer j.area.x x) (outer j.area.y y)
 
 -- so do the cells in this column and row of the planes
-abbrev pub HasEdgesIn : JobState → Values → ℕ → ℕ → ℕ → Type 0
+abbrev pub HasEdgesIn : JobView → Values → ℕ → ℕ → ℕ → Type 0
 HasEdgesIn j vs t column row =
     (x y : ℕ) → x < j.area.w + 2 → y < j.area.h + 2 → x / 2 ≡ column → y / 2 ≡ row → HasEdgeAt j vs t x y

@@ -1,7 +1,7 @@
 -- The view of a finding
 use Rattle.std.specs.Prelude.{ℕ, List, Option}
 use Rattle.std.specs.Arc.{arc_value}
-use Rattle.module_job.specs.Jobs.{JobState}
+use Rattle.module_job.specs.Jobs.{JobView}
 use Rattle.local_run.specs.declared.fault.Fault.{Fault}
 use Rattle.local_run.specs.declared.fault.KeepFault.{KeepFault}
 use Rattle.local_run.specs.declared.finding.Finding.{Finding}
@@ -15,7 +15,7 @@ abbrev pub number_of : Finding → ℕ
 number_of f = f.number
 
 -- the job of a finding
-abbrev pub job_of : Finding → JobState
+abbrev pub job_of : Finding → JobView
 job_of f = arc_value f.job
 
 -- the fault of a finding, if it has one

@@ -47,7 +47,7 @@ fn fault_on(from: &Job, to: &Job, fault: Fault) -> Fault
 // The least fault of a job is that of each job of the same shape, moved.
 fn least_on(from: &Job, to: &Job, fault: Option<Fault>) -> Option<Fault>
     requires least { IsLeastFault from.now fault }
-    requires same { shape_of from.now ≡ shape_of to.now }
+    requires same_shape { shape_of from.now ≡ shape_of to.now }
     ensures moved { result ≡ option_map (fault_on from.now to.now) fault }
     ensures least { IsLeastFault to.now result }
 {

@@ -21,13 +21,13 @@
 #![tactic(auto)]
 
 mod fault;
-mod field;
 mod finding;
 mod keep;
 pub mod laws;
 mod leaps;
 mod lines;
 mod live;
+mod marked_planes;
 mod marks;
 mod places;
 mod planes;

@@ -4,14 +4,14 @@ ghost use Rattle.module_job.specs.Jobs.{IsJob};
 ghost use Rattle.module_job.specs.Shapes.{shape_of};
 ghost use Rattle.module_box.specs.Moments.{moment_cmp};
 ghost use Rattle.module_box.specs.Schedules.{IsRising, moment_of};
-ghost use Rattle.local_run.specs.Quiet.{AreHeld, AreHeldMarked, AreLines, at_corner, HasRoom, IsCellMarked, IsQuietIn, KeepsMarks};
+ghost use Rattle.local_run.specs.Quiet.{AreAllTimesMarks, AreAllTimesMarked, AreLines, at_corner, HasRoom, IsCellMarked, IsQuietIn, KeepsMarks};
 ghost use Rattle.local_run.specs.Places.{outer};
 ghost use Rattle.std.specs.Prelude.{ℕ, ◌≢◌, MatchOption, ◌≡◌, ◌<◌, ◌+◌, ◌*◌, ◌/◌, ◌%◌, ◌^◌, ◌≤◌, length, slice_index, slice_get, Some, IfOk};
 
 use crate::leaps::first_event_from;
 use bbm_rule::Cell;
 use bbm_rule::marks::mark;
-use module_box::{Box2, Event, Held, Schedule};
+use module_box::{AllTimes, Box2, Event, Schedule};
 use module_job::{Job, Shape};
 use std::alloc::{AllocError, Global};
 
@@ -58,21 +58,21 @@ fn mark_cell(marks: &mut [u64], area: Box2, cell: Cell)
     mark(marks, line_number(number, x, y));
 }
 
-// Marks the cells of held signals.
-fn mark_held(marks: &mut [u64], area: Box2, list: &[Held])
+// Marks the cells of signals at all times.
+fn mark_all_times(marks: &mut [u64], area: Box2, list: &[AllTimes])
     requires { HasRoom area marks.old }
     ensures keeps { KeepsMarks marks.old marks.new }
-    ensures marked { (i : ℕ) (h : Held) → slice_get list.now i ≡ Some h →
+    ensures marked { (i : ℕ) (h : AllTimes) → slice_get list.now i ≡ Some h →
         IsCellMarked area h.cell marks.new }
 {
-    for held in list {
-        mark_cell(marks, area, held.cell);
+    for all_times in list {
+        mark_cell(marks, area, all_times.cell);
     }
 }
 
 // Marks the cells of the events from place `first` up to place `end`.
 fn mark_events(marks: &mut [u64], area: Box2, list: &[Event], first: usize, end: usize)
-    requires room { HasRoom area marks.old }
+    requires room_for_marks { HasRoom area marks.old }
     requires range { end ≤ length list.now }
     ensures keeps { KeepsMarks marks.old marks.new }
     ensures marked { (i : ℕ) (e : Event) → first ≤ i → i < end → slice_get list.now i ≡ Some e →
@@ -85,7 +85,7 @@ fn mark_events(marks: &mut [u64], area: Box2, list: &[Event], first: usize, end:
 
 // Marks the cells of the events of a time, which are sought from a place on, and tells their place.
 fn mark_events_at(marks: &mut [u64], area: Box2, list: &[Event], place: usize, time: u32) -> usize
-    requires room { HasRoom area marks.old }
+    requires room_for_marks { HasRoom area marks.old }
     requires rising { IsRising moment_cmp moment_of list.now }
     requires range { time < 65536 }
     ensures keeps { KeepsMarks marks.old marks.new }
@@ -98,8 +98,8 @@ fn mark_events_at(marks: &mut [u64], area: Box2, list: &[Event], place: usize, t
     end
 }
 
-// Marks the cells of which a schedule says something at the time, where those of its held signals have marks. Its
-// events are sought from a place on, and it tells that of the first later one.
+// Marks the cells of which a schedule says something at the time, where those of its signals at all times have marks.
+// Its events are sought from a place on, and it tells that of the first later one.
 fn mark_schedule(
     marks: &mut [u64],
     area: Box2,
@@ -107,9 +107,9 @@ fn mark_schedule(
     place: usize,
     time: u32,
 ) -> usize
-    requires room { HasRoom area marks.old }
+    requires room_for_marks { HasRoom area marks.old }
     requires range { time < 65536 }
-    requires held { AreHeldMarked schedule.now area marks.old }
+    requires all_times { AreAllTimesMarked schedule.now area marks.old }
     ensures keeps { KeepsMarks marks.old marks.new }
     ensures quiet { IsQuietIn schedule.now area time marks.new }
 {
@@ -148,7 +148,7 @@ impl LinePlaces {
 ///
 /// Those of which a line says something at all times have marks before.
 pub fn mark_lines(marks: &mut [u64], places: &mut LinePlaces, job: &Job, time: u32)
-    requires held { AreHeld (shape_of job.now) marks.old }
+    requires all_times { AreAllTimesMarks (shape_of job.now) marks.old }
     requires range { time < 65536 }
     ensures { AreLines job.now time marks.new }
 {
@@ -159,25 +159,25 @@ pub fn mark_lines(marks: &mut [u64], places: &mut LinePlaces, job: &Job, time: u
 }
 
 // Marks the cells of which an edge or halo line says something at all times.
-fn mark_all_held(marks: &mut [u64], shape: &Shape)
+fn mark_all_all_times(marks: &mut [u64], shape: &Shape)
     requires { HasRoom (at_corner shape.now) marks.old }
     ensures keeps { KeepsMarks marks.old marks.new }
-    ensures edges { AreHeldMarked shape.now.edges (at_corner shape.now) marks.new }
-    ensures halos { AreHeldMarked shape.now.halos (at_corner shape.now) marks.new }
+    ensures edges { AreAllTimesMarked shape.now.edges (at_corner shape.now) marks.new }
+    ensures halos { AreAllTimesMarked shape.now.halos (at_corner shape.now) marks.new }
 {
     let area = box_of(shape);
-    mark_held(marks, area, shape.edges().held());
-    mark_held(marks, area, shape.halos().held());
+    mark_all_times(marks, area, shape.edges().all_times());
+    mark_all_times(marks, area, shape.halos().all_times());
 }
 
 /// Marks the cells of which an edge or halo line says something at all times, and their numbers in the planes.
-pub fn held_cells(alloc: Global, job: &Job) -> Result<Vec<u64>, AllocError>
+pub fn all_times_cells(alloc: Global, job: &Job) -> Result<Vec<u64>, AllocError>
     requires { IsJob job.now }
-    ensures { IfOk result (λ m. AreHeld (shape_of job.now) m.items) }
+    ensures { IfOk result (λ m. AreAllTimesMarks (shape_of job.now) m.items) }
 {
     let area = job.area();
     let cells = (area.w as usize / 2 + 1) * (area.h as usize / 2 + 1);
     let mut marks = vec![in alloc; 0u64; cells.div_ceil(64) + CELL_WORDS]?;
-    mark_all_held(&mut marks, job.shape());
+    mark_all_all_times(&mut marks, job.shape());
     Ok(marks)
 }

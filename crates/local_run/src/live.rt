@@ -46,7 +46,7 @@ impl LiveMarks {
 
     /// Marks all cells.
     pub fn mark_all(&mut self)
-        ensures room { HasSameRoom self.old self.new }
+        ensures same_room { HasSameRoom self.old self.new }
         ensures all { (n : ℕ) → HasMarks n self.old → AreMarked n self.new }
     {
         mark_all(&mut self.odd);
@@ -113,7 +113,7 @@ impl LiveMarks {
         ensures right { MarksCell changes.anti right self.old.right.items self.new.right.items }
         ensures down { MarksCell changes.anti down self.old.down.items self.new.down.items }
         ensures even { MarksCell changes.main even self.old.even.items self.new.even.items }
-        ensures room { HasSameRoom self.old self.new }
+        ensures same_room { HasSameRoom self.old self.new }
     {
         mark_if(&mut self.odd, odd, changes.main);
         mark_if(&mut self.right, right, changes.anti);
@@ -130,7 +130,7 @@ impl LiveMarks {
         ensures down { self.new.down ≡ self.old.down }
         ensures even { TakesMark even odd self.old.even.items self.old.odd.items
             self.new.even.items }
-        ensures room { HasSameRoom self.old self.new }
+        ensures same_room { HasSameRoom self.old self.new }
     {
         swap_marks(&mut self.odd, &mut self.even, odd, even);
     }
@@ -144,7 +144,7 @@ impl LiveMarks {
         ensures down { TakesMark down right self.old.down.items self.old.right.items
             self.new.down.items }
         ensures even { self.new.even ≡ self.old.even }
-        ensures room { HasSameRoom self.old self.new }
+        ensures same_room { HasSameRoom self.old self.new }
     {
         swap_marks(&mut self.right, &mut self.down, right, down);
     }

@@ -117,7 +117,7 @@ pub fn mark_corners(marks: &mut [u64], at: usize, stride: usize, changes: Change
 
 /// Marks the numbers of the cells of ring and halo, for planes of this many columns and rows.
 pub fn mark_border(marks: &mut [u64], stride: usize, rows: usize)
-    requires room { stride * rows ≤ 64 * length marks.old }
+    requires room_for_marks { stride * rows ≤ 64 * length marks.old }
     requires size { (2 ≤ stride) × (stride ≤ 64) × (2 ≤ rows) × (rows ≤ 64) }
     ensures { AllInner stride rows marks.new }
 {
@@ -143,7 +143,7 @@ pub fn next_marked_in(
     end: usize,
 ) -> usize
     requires within { (from ≤ end) × (end < 2 ^ 32) }
-    requires room { (end ≤ 64 * length first.now) × HasMarks end live.now
+    requires marks_reach_end { (end ≤ 64 * length first.now) × HasMarks end live.now
         × (end ≤ 64 * length others.now) }
     ensures range { (from ≤ result) × (result ≤ end) }
     ensures passed { (u : ℕ) → from ≤ u → u < result →

@@ -42,7 +42,8 @@ pub fn outer_cell(area: Box2, x: usize, y: usize) -> Cell
 /// Returns what the cell at a column and row of the box carries at time 0.
 pub fn start_at(job: &Job, x: usize, y: usize) -> Signal
     requires { (x < job.now.area.w) × (y < job.now.area.h) }
-    ensures is { result ≡ job_start job.now (inner job.now.area.x x) (inner job.now.area.y y) }
+    ensures start_is_exact { result
+        ≡ job_start job.now (inner job.now.area.x x) (inner job.now.area.y y) }
     ensures below { IsBelow (wires job.now.locals.netlist) result }
 {
     job.start(inner_cell(job.area(), x, y))
@@ -51,7 +52,8 @@ pub fn start_at(job: &Job, x: usize, y: usize) -> Signal
 /// Returns what the cell at a column and row of the box must be at the last time.
 pub fn demand_at(job: &Job, x: usize, y: usize) -> Demand
     requires { (x < job.now.area.w) × (y < job.now.area.h) }
-    ensures is { result ≡ job_demand job.now (inner job.now.area.x x) (inner job.now.area.y y) }
+    ensures demand_is_exact { result
+        ≡ job_demand job.now (inner job.now.area.x x) (inner job.now.area.y y) }
     ensures below { IsDemandBelow (wires job.now.locals.netlist) result }
 {
     job.demand(inner_cell(job.area(), x, y))
@@ -60,7 +62,7 @@ pub fn demand_at(job: &Job, x: usize, y: usize) -> Demand
 /// Returns what the cell at a column and row of the box carries at an odd time, if it is in the ring.
 pub fn edge_at(job: &Job, time: u32, x: usize, y: usize) -> Signal
     requires { (x < job.now.area.w) × (y < job.now.area.h) }
-    ensures is { result
+    ensures signal_is_exact { result
         ≡ signal_at job.now.edges time (inner job.now.area.x x) (inner job.now.area.y y) }
     ensures below { IsBelow (wires job.now.locals.netlist) result }
 {
@@ -70,7 +72,7 @@ pub fn edge_at(job: &Job, time: u32, x: usize, y: usize) -> Signal
 /// Returns what the cell at a column and row, counted from the halo, carries at an odd time, if it is in the halo.
 pub fn halo_at(job: &Job, time: u32, x: usize, y: usize) -> Signal
     requires { (x < job.now.area.w + 2) × (y < job.now.area.h + 2) }
-    ensures is { result
+    ensures signal_is_exact { result
         ≡ signal_at job.now.halos time (outer job.now.area.x x) (outer job.now.area.y y) }
     ensures below { IsBelow (wires job.now.locals.netlist) result }
 {

@@ -116,7 +116,7 @@ fn turn_across(
     requires down { length down.old ≡ length even.old }
     requires right { length right.old ≡ length even.old }
     requires odd { length odd.old ≡ length even.old }
-    requires room { below + across ≤ length even.old }
+    requires cells_inside { below + across ≤ length even.old }
     ensures { TurnsAcross across below even.old down.old right.old odd.old even.new down.new
         right.new odd.new }
 {
@@ -309,8 +309,8 @@ impl Planes {
     /// Returns how many cells a plane has. A block of the odd partition has the number of its cells, counted row by
     /// row.
     pub fn cells(&self) -> usize
-        ensures is { result ≡ self.now.stride * self.now.rows }
-        ensures few { (4 ≤ result) × (result ≤ 4096)
+        ensures count_is_exact { result ≡ self.now.stride * self.now.rows }
+        ensures between_4_and_4096 { (4 ≤ result) × (result ≤ 4096)
             × (self.now.stride + self.now.stride ≤ result) }
     {
         self.stride * self.rows
@@ -318,16 +318,16 @@ impl Planes {
 
     /// Returns how many words a cell has.
     pub fn words(&self) -> usize
-        ensures is { result ≡ self.now.words }
-        ensures few { (0 < result) × (result ≤ 64) }
+        ensures count_is_exact { result ≡ self.now.words }
+        ensures between_1_and_64 { (0 < result) × (result ≤ 64) }
     {
         self.words
     }
 
     /// Returns how many cells a row of a plane has.
     pub fn stride(&self) -> usize
-        ensures is { result ≡ self.now.stride }
-        ensures few { (2 ≤ result) × (result ≤ 64) }
+        ensures stride_is_exact { result ≡ self.now.stride }
+        ensures between_2_and_64 { (2 ≤ result) × (result ≤ 64) }
     {
         self.stride
     }
@@ -362,8 +362,8 @@ impl Planes {
 
     /// Returns how many rows a plane has.
     pub fn rows(&self) -> usize
-        ensures is { result ≡ self.now.rows }
-        ensures few { (2 ≤ result) × (result ≤ 64) }
+        ensures count_is_exact { result ≡ self.now.rows }
+        ensures between_2_and_64 { (2 ≤ result) × (result ≤ 64) }
     {
         self.rows
     }
@@ -373,7 +373,7 @@ impl Planes {
         requires { u < self.now.stride * self.now.rows }
         ensures column { result.0 < self.now.stride }
         ensures row { result.1 < self.now.rows }
-        ensures is { self.now.stride * result.1 + result.0 ≡ u }
+        ensures place_is_exact { self.now.stride * result.1 + result.0 ≡ u }
     {
         (u % self.stride, u / self.stride)
     }
@@ -381,7 +381,7 @@ impl Planes {
     /// Returns the number of a cell, counted from the halo.
     pub fn number(&self, x: usize, y: usize) -> usize
         requires { (x / 2 < self.now.stride) × (y / 2 < self.now.rows) }
-        ensures is { result ≡ self.now.stride * (y / 2) + x / 2 }
+        ensures number_is_exact { result ≡ self.now.stride * (y / 2) + x / 2 }
         ensures range { result < self.now.stride * self.now.rows }
     {
         self.stride * (y / 2) + x / 2
@@ -609,7 +609,7 @@ impl Planes {
             live.new.down.items }
         ensures even { DropsDead self.now.words even self.now.even.items live.old.even.items
             live.new.even.items }
-        ensures room { HasSameRoom live.old live.new }
+        ensures same_room { HasSameRoom live.old live.new }
     {
         drop_if_dead(&mut live.odd, odd, &self.odd, self.words);
         drop_if_dead(&mut live.right, right, &self.right, self.words);

@@ -7,10 +7,10 @@ ghost use Rattle.local_run.specs.Scans.{IsFirstAt, IsNextStop, IsPassed, IsReady
 ghost use Rattle.local_run.specs.Shown.{digest_of, number_of, job_of, fault_of, keep_of};
 
 use crate::fault::{Fault, KeepFault, Kind};
-use crate::field::Field;
 use crate::finding::Finding;
 use crate::keep::least_keep;
 use crate::leaps::next_time;
+use crate::marked_planes::MarkedPlanes;
 use crate::planes::Planes;
 use crate::scan::{are_edges_right, first_fault, first_stop_fault};
 use crate::steps::{even_time, odd_time, put_start};
@@ -22,7 +22,7 @@ use std::sync::Arc;
 // The first fault of a time before the last, where `next` is the place of the first stop that is not earlier. Where
 // there is none, `next` is then the place of the first later stop.
 fn time_fault(
-    field: &Field,
+    marked_planes: &MarkedPlanes,
     values: &Values,
     job: &Job,
     time: u32,
@@ -30,32 +30,32 @@ fn time_fault(
 ) -> Option<Fault>
     requires ready { IsReady job.now values.now }
     requires early { time < job.now.steps }
-    requires shows { Shows job.now values.now time field.now.planes }
-    requires lines { time % 2 ≡ 1 → AreLines job.now time field.now.line_marks.items }
+    requires shows { Shows job.now values.now time marked_planes.now.planes }
+    requires lines { time % 2 ≡ 1 → AreLines job.now time marked_planes.now.line_marks.items }
     requires next { IsNextStop job.now time next.old }
     ensures { MatchOption result (IsPassed job.now values.now time next.new)
         (λ f. IsFirstAt job.now values.now time f) }
 {
-    if time % 2 == 1 && !are_edges_right(field, values, job, time) {
-        if let Some(fault) = first_fault(field, values, job, time, Kind::Edge) {
+    if time % 2 == 1 && !are_edges_right(marked_planes, values, job, time) {
+        if let Some(fault) = first_fault(marked_planes, values, job, time, Kind::Edge) {
             return Some(fault);
         }
     }
-    first_stop_fault(field, values, job, time, next)
+    first_stop_fault(marked_planes, values, job, time, next)
 }
 
 // One step. Tells whether a cell of the box may have changed.
-fn one_step(field: &mut Field, values: &Values, job: &Job, time: u32) -> bool
+fn one_step(marked_planes: &mut MarkedPlanes, values: &Values, job: &Job, time: u32) -> bool
     requires ready { IsReady job.now values.now }
-    requires shows { Shows job.now values.now time field.old.planes }
-    requires lines { time % 2 ≡ 1 → AreLines job.now time field.old.line_marks.items }
-    ensures next { Shows job.now values.now (time + 1) field.new.planes }
-    ensures stays { result ≡ false → Shows job.now values.now time field.new.planes }
+    requires shows { Shows job.now values.now time marked_planes.old.planes }
+    requires lines { time % 2 ≡ 1 → AreLines job.now time marked_planes.old.line_marks.items }
+    ensures next { Shows job.now values.now (time + 1) marked_planes.new.planes }
+    ensures stays { result ≡ false → Shows job.now values.now time marked_planes.new.planes }
 {
     if time % 2 == 0 {
-        even_time(field, values, job, time)
+        even_time(marked_planes, values, job, time)
     } else {
-        odd_time(field, values, job, time)
+        odd_time(marked_planes, values, job, time)
     }
 }
 
@@ -69,26 +69,26 @@ fn least_fault(alloc: Global, values: &Values, job: &Job) -> Result<Option<Fault
     let area = job.area();
     let mut planes = Planes::new(alloc, area.w as usize, area.h as usize, values.words())?;
     put_start(&mut planes, values, job);
-    let mut field = Field::new(alloc, planes)?;
+    let mut marked_planes = MarkedPlanes::new(alloc, planes)?;
     let steps = job.steps();
     let mut next = 0;
     let mut time = 0;
     let mut changed = true;
     'times: while time < steps {
         if time % 2 == 1 {
-            field.look_at(values, job, time);
+            marked_planes.look_at(values, job, time);
         }
-        if let Some(fault) = time_fault(&field, values, job, time, &mut next) {
+        if let Some(fault) = time_fault(&marked_planes, values, job, time, &mut next) {
             return Ok(Some(fault));
         }
         let before = changed;
-        changed = one_step(&mut field, values, job, time);
+        changed = one_step(&mut marked_planes, values, job, time);
         time = next_time(job, time, steps, before | changed, next);
     }
-    if let Some(fault) = first_stop_fault(&field, values, job, steps, &mut next) {
+    if let Some(fault) = first_stop_fault(&marked_planes, values, job, steps, &mut next) {
         return Ok(Some(fault));
     }
-    Ok(first_fault(&field, values, job, steps, Kind::End))
+    Ok(first_fault(&marked_planes, values, job, steps, Kind::End))
 }
 
 // The least fault of the job. If a used gate lacks a row under every assignment, the job has no fault and is not run.

@@ -10,31 +10,33 @@ ghost use Rattle.module_job.specs.Signals.{is_live};
 ghost use Rattle.local_run.specs.Scans.{HasEdgeAt, HasEdgesIn, IsFirst, IsFound, IsFree, IsLeastBelow, IsMissed, IsNextStop, IsReady, IsSought, IsStride, Shows, is_defined, valuation};
 
 use crate::fault::{Fault, Kind};
-use crate::field::Field;
+use crate::marked_planes::MarkedPlanes;
 use crate::places::{demand_at, edge_at, inner_cell, is_ring, place_of};
 use crate::values::Values;
 use module_box::Signal;
 use module_job::{Demand, Job, Stop};
 
 // The least assignment at which each used gate has a row and a cell, counted from the halo, is live.
-fn first_live(field: &Field, values: &Values, x: usize, y: usize) -> Option<u32>
-    requires place { (x / 2 < field.now.planes.stride) × (y / 2 < field.now.planes.rows) }
-    requires words { (values.now.words ≡ field.now.planes.words) × (values.now.words ≤ 64) }
-    requires room { values.now.count ≤ 64 * values.now.words }
+fn first_live(marked_planes: &MarkedPlanes, values: &Values, x: usize, y: usize) -> Option<u32>
+    requires place { (x / 2 < marked_planes.now.planes.stride)
+        × (y / 2 < marked_planes.now.planes.rows) }
+    requires words { (values.now.words ≡ marked_planes.now.planes.words) × (values.now.words ≤ 64) }
+    requires room_for_assignments { values.now.count ≤ 64 * values.now.words }
     requires defined { values.now.words ≤ length values.now.rows.defined.items }
     ensures { IsLeastBelow values.now.count
         (λ a. (is_defined values.now a ≡ true)
-        × (lane field.now.planes a x y ≢ is_live (valuation values.now a) Signal.Zero)) result }
+        × (lane marked_planes.now.planes a x y ≢ is_live (valuation values.now a) Signal.Zero))
+        result }
 {
-    if !field.may_be_live(x, y) {
+    if !marked_planes.may_be_live(x, y) {
         return None;
     }
-    values.first_difference(field.planes(), x, y, Signal::Zero)
+    values.first_difference(marked_planes.planes(), x, y, Signal::Zero)
 }
 
 // The least assignment under which the cell at a column and row of the box has a fault of the kind.
 fn cell_fault(
-    field: &Field,
+    marked_planes: &MarkedPlanes,
     values: &Values,
     job: &Job,
     time: u32,
@@ -43,14 +45,14 @@ fn cell_fault(
     y: usize,
 ) -> Option<u32>
     requires ready { IsReady job.now values.now }
-    requires shows { Shows job.now values.now time field.now.planes }
+    requires shows { Shows job.now values.now time marked_planes.now.planes }
     requires sought { IsSought job.now time kind }
     requires place { (x < job.now.area.w) × (y < job.now.area.h) }
     ensures { IsLeastBelow (assignments job.now)
         (λ a. IsFound job.now values.now a time kind (inner job.now.area.x x)
         (inner job.now.area.y y)) result }
 {
-    let planes = field.planes();
+    let planes = marked_planes.planes();
     match kind {
         Kind::Edge => {
             if !is_ring(job, x, y) {
@@ -60,7 +62,7 @@ fn cell_fault(
         }
         Kind::Stop => None,
         Kind::End => match demand_at(job, x, y) {
-            Demand::Dead => first_live(field, values, 1 + x, 1 + y),
+            Demand::Dead => first_live(marked_planes, values, 1 + x, 1 + y),
             Demand::Live => values.first_difference(planes, 1 + x, 1 + y, Signal::One),
             Demand::Wire(wire) => {
                 values.first_difference(planes, 1 + x, 1 + y, Signal::Wire(wire))
@@ -84,14 +86,14 @@ fn stride_of(kind: Kind, width: usize, height: usize, y: usize) -> usize
 
 /// Returns the first fault of the kind at the time, by row, column and assignment, if there is one.
 pub fn first_fault(
-    field: &Field,
+    marked_planes: &MarkedPlanes,
     values: &Values,
     job: &Job,
     time: u32,
     kind: Kind,
 ) -> Option<Fault>
     requires ready { IsReady job.now values.now }
-    requires shows { Shows job.now values.now time field.now.planes }
+    requires shows { Shows job.now values.now time marked_planes.now.planes }
     requires sought { IsSought job.now time kind }
     ensures { MatchOption result (IsFree job.now values.now time kind)
         (λ f. IsFirst job.now values.now time kind f) }
@@ -103,7 +105,7 @@ pub fn first_fault(
         let stride = stride_of(kind, width, height, y);
         let mut x = 0;
         'cells: while x < width {
-            if let Some(assignment) = cell_fault(field, values, job, time, kind, x, y) {
+            if let Some(assignment) = cell_fault(marked_planes, values, job, time, kind, x, y) {
                 let cell = inner_cell(area, x, y);
                 return Some(Fault {
                     time,
@@ -119,9 +121,16 @@ pub fn first_fault(
 }
 
 // Whether a cell, counted from the halo, carries what its edge signal says, where it is in the ring.
-fn is_edge_right(field: &Field, values: &Values, job: &Job, time: u32, x: usize, y: usize) -> bool
+fn is_edge_right(
+    marked_planes: &MarkedPlanes,
+    values: &Values,
+    job: &Job,
+    time: u32,
+    x: usize,
+    y: usize,
+) -> bool
     requires ready { IsReady job.now values.now }
-    requires shows { Shows job.now values.now time field.now.planes }
+    requires shows { Shows job.now values.now time marked_planes.now.planes }
     requires sought { IsSought job.now time Kind.Edge }
     requires place { (x < job.now.area.w + 2) × (y < job.now.area.h + 2) }
     ensures { result ≡ true → HasEdgeAt job.now values.now time x y }
@@ -133,30 +142,37 @@ fn is_edge_right(field: &Field, values: &Values, job: &Job, time: u32, x: usize,
     if area.w as usize <= x - 1 || area.h as usize <= y - 1 {
         return true;
     }
-    cell_fault(field, values, job, time, Kind::Edge, x - 1, y - 1).is_none()
+    cell_fault(marked_planes, values, job, time, Kind::Edge, x - 1, y - 1).is_none()
 }
 
 // The same, where most cells have no line and are dead.
 #[inline(always)]
-fn is_right(field: &Field, values: &Values, job: &Job, time: u32, x: usize, y: usize) -> bool
+fn is_right(
+    marked_planes: &MarkedPlanes,
+    values: &Values,
+    job: &Job,
+    time: u32,
+    x: usize,
+    y: usize,
+) -> bool
     requires ready { IsReady job.now values.now }
-    requires shows { Shows job.now values.now time field.now.planes }
-    requires lines { AreLines job.now time field.now.line_marks.items }
+    requires shows { Shows job.now values.now time marked_planes.now.planes }
+    requires lines { AreLines job.now time marked_planes.now.line_marks.items }
     requires sought { IsSought job.now time Kind.Edge }
     requires place { (x < job.now.area.w + 2) × (y < job.now.area.h + 2) }
     ensures { result ≡ true → HasEdgeAt job.now values.now time x y }
 {
     let _area = job.area();
-    if !field.has_line(x, y) && !field.may_be_live(x, y) {
+    if !marked_planes.has_line(x, y) && !marked_planes.may_be_live(x, y) {
         return true;
     }
-    is_edge_right(field, values, job, time, x, y)
+    is_edge_right(marked_planes, values, job, time, x, y)
 }
 
 // Whether the two cells of a row, counted from the halo, that stand in a column of the planes carry what their edge
 // signals say, where they are in the ring.
 fn are_both_right(
-    field: &Field,
+    marked_planes: &MarkedPlanes,
     values: &Values,
     job: &Job,
     time: u32,
@@ -164,20 +180,20 @@ fn are_both_right(
     y: usize,
 ) -> bool
     requires ready { IsReady job.now values.now }
-    requires shows { Shows job.now values.now time field.now.planes }
-    requires lines { AreLines job.now time field.now.line_marks.items }
+    requires shows { Shows job.now values.now time marked_planes.now.planes }
+    requires lines { AreLines job.now time marked_planes.now.line_marks.items }
     requires sought { IsSought job.now time Kind.Edge }
     requires place { (column < job.now.area.w / 2 + 1) × (y < job.now.area.h + 2) }
     ensures left { result ≡ true → HasEdgeAt job.now values.now time (2 * column) y }
     ensures right { result ≡ true → HasEdgeAt job.now values.now time (2 * column + 1) y }
 {
-    is_right(field, values, job, time, 2 * column, y)
-        && is_right(field, values, job, time, 2 * column + 1, y)
+    is_right(marked_planes, values, job, time, 2 * column, y)
+        && is_right(marked_planes, values, job, time, 2 * column + 1, y)
 }
 
 // Whether the cells of the ring in a column and row of the planes carry what their edge signals say.
 fn are_edges_right_in(
-    field: &Field,
+    marked_planes: &MarkedPlanes,
     values: &Values,
     job: &Job,
     time: u32,
@@ -185,48 +201,53 @@ fn are_edges_right_in(
     row: usize,
 ) -> bool
     requires ready { IsReady job.now values.now }
-    requires shows { Shows job.now values.now time field.now.planes }
-    requires lines { AreLines job.now time field.now.line_marks.items }
+    requires shows { Shows job.now values.now time marked_planes.now.planes }
+    requires lines { AreLines job.now time marked_planes.now.line_marks.items }
     requires sought { IsSought job.now time Kind.Edge }
     requires place { (column < job.now.area.w / 2 + 1) × (row < job.now.area.h / 2 + 1) }
     ensures { result ≡ true → HasEdgesIn job.now values.now time column row }
 {
-    are_both_right(field, values, job, time, column, 2 * row)
-        && are_both_right(field, values, job, time, column, 2 * row + 1)
+    are_both_right(marked_planes, values, job, time, column, 2 * row)
+        && are_both_right(marked_planes, values, job, time, column, 2 * row + 1)
 }
 
 /// Returns whether the cells of the ring carry what their edge signals say. Only `true` is proved to be right.
-pub fn are_edges_right(field: &Field, values: &Values, job: &Job, time: u32) -> bool
+pub fn are_edges_right(marked_planes: &MarkedPlanes, values: &Values, job: &Job, time: u32) -> bool
     requires ready { IsReady job.now values.now }
-    requires shows { Shows job.now values.now time field.now.planes }
-    requires lines { AreLines job.now time field.now.line_marks.items }
+    requires shows { Shows job.now values.now time marked_planes.now.planes }
+    requires lines { AreLines job.now time marked_planes.now.line_marks.items }
     requires sought { IsSought job.now time Kind.Edge }
     ensures { result ≡ true → IsFree job.now values.now time Kind.Edge }
 {
     let _area = job.area();
-    let planes = field.planes();
+    let planes = marked_planes.planes();
     let cells = planes.cells();
-    let mut u = field.next_border(0);
+    let mut u = marked_planes.next_border(0);
     'border: while u < cells {
         let (column, row) = planes.place(u);
-        if !are_edges_right_in(field, values, job, time, column, row) {
+        if !are_edges_right_in(marked_planes, values, job, time, column, row) {
             return false;
         }
-        u = field.next_border(u + 1);
+        u = marked_planes.next_border(u + 1);
     }
     true
 }
 
 // The least assignment under which the cell of a stop is not as its wire, at the stop's time.
-fn stop_fault(field: &Field, values: &Values, job: &Job, stop: Stop) -> Option<u32>
+fn stop_fault(marked_planes: &MarkedPlanes, values: &Values, job: &Job, stop: Stop) -> Option<u32>
     requires ready { IsReady job.now values.now }
-    requires shows { Shows job.now values.now stop.at.time field.now.planes }
+    requires shows { Shows job.now values.now stop.at.time marked_planes.now.planes }
     requires inside { IsTrue (in_box job.now.area stop.at.cell.x stop.at.cell.y) }
-    requires own { stop.wire < wires job.now.locals.netlist }
+    requires own_wire { stop.wire < wires job.now.locals.netlist }
     ensures { IsLeastBelow (assignments job.now) (λ a. IsMissed job.now values.now a stop) result }
 {
     let (x, y) = place_of(job, stop.at.cell);
-    values.first_difference(field.planes(), 1 + x, 1 + y, Signal::Wire(stop.wire))
+    values.first_difference(
+        marked_planes.planes(),
+        1 + x,
+        1 + y,
+        Signal::Wire(stop.wire),
+    )
 }
 
 /// Returns the first fault of a stop at the time, if there is one.
@@ -234,14 +255,14 @@ fn stop_fault(field: &Field, values: &Values, job: &Job, stop: Stop) -> Option<u
 /// `next` is the place of the first stop that is not earlier. If there is no fault, `next` is then the place of the
 /// first later stop.
 pub fn first_stop_fault(
-    field: &Field,
+    marked_planes: &MarkedPlanes,
     values: &Values,
     job: &Job,
     time: u32,
     next: &mut usize,
 ) -> Option<Fault>
     requires ready { IsReady job.now values.now }
-    requires shows { Shows job.now values.now time field.now.planes }
+    requires shows { Shows job.now values.now time marked_planes.now.planes }
     requires next { IsNextStop job.now time next.old }
     ensures { MatchOption result
         (IsFree job.now values.now time Kind.Stop × IsNextStop job.now (time + 1) next.new)
@@ -253,7 +274,7 @@ pub fn first_stop_fault(
         if stop.at.time != time {
             break;
         }
-        if let Some(assignment) = stop_fault(field, values, job, stop) {
+        if let Some(assignment) = stop_fault(marked_planes, values, job, stop) {
             return Some(Fault {
                 time,
                 kind: Kind::Stop,

@@ -8,7 +8,7 @@ ghost use Rattle.local_run.specs.Lanes.{lane};
 ghost use Rattle.local_run.specs.Scans.{HasRow, IsLeastBelow, IsReady, IsShown, KeepsDefined, PutsCell, is_defined, valuation};
 ghost use Rattle.module_box.specs.LocalValues.{value_of};
 
-use crate::lines::held_cells;
+use crate::lines::all_times_cells;
 use crate::planes::Planes;
 use module_box::{Signal, ValueRows};
 use module_job::Job;
@@ -65,7 +65,7 @@ pub struct Values {
     count: usize,
     rows: ValueRows,
     // marks on the numbers of cells of which an edge or halo line says something at all times
-    held: Vec<u64>,
+    all_times_marks: Vec<u64>,
 }
 
 impl Values {
@@ -78,20 +78,20 @@ impl Values {
         let count = 1usize << wiring.cuts();
         let words = count.div_ceil(64);
         let rows = without_undefined(wiring.value_rows(alloc, words)?);
-        let held = held_cells(alloc, job)?;
+        let all_times_marks = all_times_cells(alloc, job)?;
         Ok(Values {
             words,
             count,
             rows,
-            held,
+            all_times_marks,
         })
     }
 
     /// Returns marks on the numbers of cells of which an edge or halo line says something at all times.
-    pub fn held(&self) -> &[u64]
-        ensures { result.now ≡ self.now.held.items }
+    pub fn all_times_marks(&self) -> &[u64]
+        ensures { result.now ≡ self.now.all_times_marks.items }
     {
-        &self.held
+        &self.all_times_marks
     }
 
     /// Returns how many words a wire has.
@@ -126,7 +126,7 @@ impl Values {
     ) -> Option<u32>
         requires place { (x / 2 < planes.now.stride) × (y / 2 < planes.now.rows) }
         requires words { (self.now.words ≡ planes.now.words) × (self.now.words ≤ 64) }
-        requires room { self.now.count ≤ 64 * self.now.words }
+        requires room_for_assignments { self.now.count ≤ 64 * self.now.words }
         requires row { HasRow self.now signal }
         requires defined { self.now.words ≤ length self.now.rows.defined.items }
         ensures { IsLeastBelow self.now.count
@@ -172,7 +172,7 @@ impl Values {
     /// Returns whether each used gate has a row under some assignment. Only `false` is proved to be right.
     pub fn is_some_defined(&self) -> bool
         requires defined { self.now.words ≤ length self.now.rows.defined.items }
-        requires room { self.now.count ≤ 64 * self.now.words }
+        requires room_for_assignments { self.now.count ≤ 64 * self.now.words }
         ensures { result ≡ false → (a : ℕ) → a < self.now.count → is_defined self.now a ≡ false }
     {
         for k in 0..self.words {
@@ -186,8 +186,8 @@ impl Values {
     /// Returns the least assignment under which a used gate is the first without a row, if there is one.
     pub fn first_undefined(&self, gate: usize) -> Option<u32>
         requires words { self.now.words ≤ 64 }
-        requires few { gate < 64 }
-        requires room { self.now.count ≤ 64 * self.now.words }
+        requires gate_below_64 { gate < 64 }
+        requires room_for_assignments { self.now.count ≤ 64 * self.now.words }
         requires row { self.now.words * gate + self.now.words ≤ length
             self.now.rows.undefined.items }
         ensures { IsLeastBelow self.now.count

@@ -12,7 +12,7 @@ use Rattle.std.proofs.lemmas.Slice.Eq.{slice_eq-Decides}
 use Rattle.bbm_rule.specs.declared.block.Cell.{Cell}
 use Rattle.circuit.specs.Gates.{Rule, Source, Fredkin, Cswap, Interact, Switch, Delay, Unswitch, Uninteract}
 use Rattle.circuit.specs.Meaning.{Gate, Netlist}
-use Rattle.module_box.specs.declared.schedules.Held.{Held}
+use Rattle.module_box.specs.declared.schedules.AllTimes.{AllTimes}
 use Rattle.module_box.specs.declared.schedules.Event.{Event}
 use Rattle.module_box.specs.declared.schedules.Signal.{Signal}
 use Rattle.module_box.specs.declared.schedules.Signal.TheVariants.{Zero, One, Wire}
@@ -20,7 +20,8 @@ use Rattle.std.specs.Ordering.{on}
 use Rattle.module_box.specs.declared.locals.LocalGate.{LocalGate}
 use Rattle.module_box.specs.LocalGates.{kept_gate}
 use Rattle.module_box.specs.Laws.{LocalsEqualityDecides, ScheduleEqualityDecides}
-use Rattle.module_box.specs.Equality.{is_one, wire_named, same_signal, same_cell, same_held, same_event, rule_place}
+use Rattle.module_box.specs.Equality.{is_one, wire_named, same_signal, same_cell, same_all_times, same_event}
+use Rattle.module_box.specs.Equality.{rule_place}
 use Rattle.module_box.specs.Equality.{source_bit, delay_number, same_rule, same_gate, same_netlist}
 
 -- two tests, of two parts
@@ -67,8 +68,8 @@ pub cell_decides : (a b : Cell) → Decides (same_cell a b) (a ≡ b)
 cell_decides a b = both _ _ (signed_Decides a.x b.x) (signed_Decides a.y b.y) (λ x y i. record { x = x i; y = y i })
     (λ e. ap (λ c. c.x) e) (λ e. ap (λ c. c.y) e)
 
-pub held_decides : (a b : Held) → Decides (same_held a b) (a ≡ b)
-held_decides a b =
+pub all_times_decides : (a b : AllTimes) → Decides (same_all_times a b) (a ≡ b)
+all_times_decides a b =
     both _ _ (cell_decides a.cell b.cell) (signal_decides a.signal b.signal)
     (λ cell signal i. record { cell = cell i; signal = signal i }) (λ e. ap (λ h. h.cell) e) (λ e. ap (λ h. h.signal) e)
 
@@ -82,8 +83,10 @@ event_decides a b =
 
 pub signals_decides : ScheduleEqualityDecides
 signals_decides s t =
-    both _ _ (lists same_held held_decides s.held t.held) (lists same_event event_decides s.events t.events)
-    (λ held events i. record { held = held i; events = events i }) (λ e. ap (λ s. s.held) e) (λ e. ap (λ s. s.events) e)
+    both _ _ (lists same_all_times all_times_decides s.all_times t.all_times)
+    (lists same_event event_decides s.events t.events)
+    (λ all_times events i. record { all_times = all_times i; events = events i }) (λ e. ap (λ s. s.all_times) e)
+    (λ e. ap (λ s. s.events) e)
 
 -- ---- gates
 source_of : Option Bool → Rule

@@ -10,12 +10,12 @@ use Rattle.bbm_rule.specs.Spans.{in_span}
 use Rattle.bbm_rule.specs.declared.block.Cell.{Cell}
 use Rattle.module_box.specs.Boxes.{in_box, in_ring, in_halo, some_neighbour}
 use Rattle.module_box.specs.Moments.{cell_cmp, moment_cmp}
-use Rattle.module_box.specs.Moves.{moved_cell, moved_held, moved_event, moved_signals, IsMovedBox, BoxesMoveAlong}
+use Rattle.module_box.specs.Moves.{moved_cell, moved_all_times, moved_event, moved_signals, IsMovedBox, BoxesMoveAlong}
 use Rattle.module_box.specs.Moves.{SignalsMoveAlong}
-use Rattle.module_box.specs.Schedules.{IsRising, Signals, cell_of, moment_of, held_at, event_at, signal_at}
+use Rattle.module_box.specs.Schedules.{IsRising, Signals, cell_of, moment_of, all_times_at, event_at, signal_at}
 use Rattle.module_box.specs.declared.boxes.Box2.{Box2}
 use Rattle.module_box.specs.declared.schedules.Event.{Event}
-use Rattle.module_box.specs.declared.schedules.Held.{Held}
+use Rattle.module_box.specs.declared.schedules.AllTimes.{AllTimes}
 use Rattle.module_box.specs.declared.schedules.Signal.TheVariants.{Zero}
 
 -- ---- comparisons of numbers that are moved alike
@@ -81,11 +81,12 @@ boxes_moved dx dy b b' m =
 at_moved : (dx dy : ℤ) (c : Cell) (x y : ℤ) → is_at (moved_cell dx dy c) (x +ℤ dx) (y +ℤ dy) ≡ is_at c x y
 at_moved dx dy c x y = ap₂ (λ p q. p && q) (eq_moved c.x x dx) (eq_moved c.y y dy)
 
-held_moved : (dx dy : ℤ) (hs : List Held) (x y : ℤ) →
-    held_at (map (moved_held dx dy) hs) (x +ℤ dx) (y +ℤ dy) ≡ held_at hs x y
-unfolding held_at
-held_moved dx dy [] x y = refl
-held_moved dx dy (h ∷ hs) x y = λ i. if at_moved dx dy h.cell x y i then Some h.signal else held_moved dx dy hs x y i
+all_times_moved : (dx dy : ℤ) (hs : List AllTimes) (x y : ℤ) →
+    all_times_at (map (moved_all_times dx dy) hs) (x +ℤ dx) (y +ℤ dy) ≡ all_times_at hs x y
+unfolding all_times_at
+all_times_moved dx dy [] x y = refl
+all_times_moved dx dy (h ∷ hs) x y =
+    λ i. if at_moved dx dy h.cell x y i then Some h.signal else all_times_moved dx dy hs x y i
 
 event_moved : (dx dy : ℤ) (es : List Event) (t : ℕ) (x y : ℤ) →
     event_at (map (moved_event dx dy) es) t (x +ℤ dx) (y +ℤ dy) ≡ event_at es t x y
@@ -97,7 +98,7 @@ event_moved dx dy (e ∷ es) t x y =
 pub signals_moved : SignalsMoveAlong
 unfolding signal_at
 signals_moved dx dy s t x y =
-    λ i. unwrap_or (held_moved dx dy s.held x y i) (unwrap_or (event_moved dx dy s.events t x y i) Zero)
+    λ i. unwrap_or (all_times_moved dx dy s.all_times x y i) (unwrap_or (event_moved dx dy s.events t x y i) Zero)
 
 -- ---- moved back
 sum_back : (a d e : ℤ) → d +ℤ e ≡ pos 0 → (a +ℤ d) +ℤ e ≡ a
@@ -114,13 +115,13 @@ map_back f g back (x ∷ xs) = ap₂ (λ y ys. y ∷ ys) (back x) (map_back f g 
 pub signals_back : (dx dy ex ey : ℤ) (s : Signals) → dx +ℤ ex ≡ pos 0 → dy +ℤ ey ≡ pos 0 →
     moved_signals ex ey (moved_signals dx dy s) ≡ s
 signals_back dx dy ex ey s p q =
-    let held = map_back (moved_held dx dy) (moved_held ex ey)
-    (λ h i. record { cell = cell_back dx dy ex ey h.cell p q i; signal = h.signal }) s.held in
+    let all_times = map_back (moved_all_times dx dy) (moved_all_times ex ey)
+    (λ h i. record { cell = cell_back dx dy ex ey h.cell p q i; signal = h.signal }) s.all_times in
     let events = map_back (moved_event dx dy) (moved_event ex ey)
     (λ e i.
     record { at = record { time = e.at.time; cell = cell_back dx dy ex ey e.at.cell p q i }; signal = e.signal })
     s.events in
-    λ i. record { held = held i; events = events i }
+    λ i. record { all_times = all_times i; events = events i }
 
 -- ---- the order of cells and moments
 pub cell_cmp_moved : (dx dy : ℤ) (a b : Cell) → cell_cmp (moved_cell dx dy a) (moved_cell dx dy b) ≡ cell_cmp a b
@@ -150,10 +151,10 @@ rising_mapped cmp key f same xs rising = record {
       ∙ rising.rises i j from.0 to.0 lt from.1 to.1;
 }
 
-pub held_rising : (dx dy : ℤ) (hs : List Held) → IsRising cell_cmp cell_of hs →
-    IsRising cell_cmp cell_of (map (moved_held dx dy) hs)
-held_rising dx dy hs rising =
-    rising_mapped cell_cmp cell_of (moved_held dx dy) (λ a b. cell_cmp_moved dx dy a.cell b.cell) hs rising
+pub all_times_rising : (dx dy : ℤ) (hs : List AllTimes) → IsRising cell_cmp cell_of hs →
+    IsRising cell_cmp cell_of (map (moved_all_times dx dy) hs)
+all_times_rising dx dy hs rising =
+    rising_mapped cell_cmp cell_of (moved_all_times dx dy) (λ a b. cell_cmp_moved dx dy a.cell b.cell) hs rising
 
 pub events_rising : (dx dy : ℤ) (es : List Event) → IsRising moment_cmp moment_of es →
     IsRising moment_cmp moment_of (map (moved_event dx dy) es)

@@ -11,10 +11,10 @@ use Rattle.std.proofs.lemmas.Bool.{and_parts, cases_Bool, cond-true, cond-false,
 use Rattle.bbm_rule.specs.Plane.{is_at}
 use Rattle.bbm_rule.specs.declared.block.Cell.{Cell}
 use Rattle.module_box.specs.declared.schedules.Moment.{Moment}
-use Rattle.module_box.specs.declared.schedules.Held.{Held}
+use Rattle.module_box.specs.declared.schedules.AllTimes.{AllTimes}
 use Rattle.module_box.specs.declared.schedules.Event.{Event}
 use Rattle.module_box.specs.Moments.{cell_cmp, moment_cmp}
-use Rattle.module_box.specs.Schedules.{IsRising, is_then, held_at, event_at}
+use Rattle.module_box.specs.Schedules.{IsRising, is_then, all_times_at, event_at}
 
 -- ---- the two orders
 pub cell_total : IsTotalOrder cell_cmp
@@ -139,30 +139,30 @@ then_moment m n h =
 then_own_moment : (m : Moment) → is_then m m.time m.cell.x m.cell.y ≡ true
 then_own_moment m = rw (eqb_itself m.time, at_own_cell m.cell)
 
-pub held_none : (hs : List Held) (c : Cell) → ((i : ℕ) (h : Held) → slice_get hs i ≡ Some h → h.cell ≢ c) →
-    held_at hs c.x c.y ≡ None
-unfolding held_at
-held_none [] c f = refl
-held_none (h ∷ hs) c f = elim (cases_Bool (is_at h.cell c.x c.y)) [
+pub all_times_none : (hs : List AllTimes) (c : Cell) → ((i : ℕ) (h : AllTimes) → slice_get hs i ≡ Some h → h.cell ≢ c) →
+    all_times_at hs c.x c.y ≡ None
+unfolding all_times_at
+all_times_none [] c f = refl
+all_times_none (h ∷ hs) c f = elim (cases_Bool (is_at h.cell c.x c.y)) [
   | inl e ↦ absurd (f 0 h refl (at_cell h.cell c e))
-  | inr e ↦ cond-false _ _ _ e ∙ held_none hs c (λ i h'. f (suc i) h')
+  | inr e ↦ cond-false _ _ _ e ∙ all_times_none hs c (λ i h'. f (suc i) h')
 ]
 
-pub held_some : (hs : List Held) (i : ℕ) (h : Held) → slice_get hs i ≡ Some h →
-    ((j : ℕ) (h' : Held) → j < i → slice_get hs j ≡ Some h' → h'.cell ≢ h.cell) →
-    held_at hs h.cell.x h.cell.y ≡ Some h.signal
-unfolding held_at
-held_some [] i h e f = absurd (none_some e)
+pub all_times_some : (hs : List AllTimes) (i : ℕ) (h : AllTimes) → slice_get hs i ≡ Some h →
+    ((j : ℕ) (h' : AllTimes) → j < i → slice_get hs j ≡ Some h' → h'.cell ≢ h.cell) →
+    all_times_at hs h.cell.x h.cell.y ≡ Some h.signal
+unfolding all_times_at
+all_times_some [] i h e f = absurd (none_some e)
   where
     none_some : {A : Type 0} {a : A} → None ≡ Some a → ⊥
     none_some e = cc
-held_some (g ∷ hs) zero h e f =
+all_times_some (g ∷ hs) zero h e f =
     let same : g ≡ h = same_some (Some g) g h refl e in
-    subst (λ h. (if is_at g.cell h.cell.x h.cell.y then Some g.signal else held_at hs h.cell.x h.cell.y)
+    subst (λ h. (if is_at g.cell h.cell.x h.cell.y then Some g.signal else all_times_at hs h.cell.x h.cell.y)
     ≡ Some h.signal) same (cond-true _ _ _ (at_own_cell g.cell))
-held_some (g ∷ hs) (suc i) h e f = elim (cases_Bool (is_at g.cell h.cell.x h.cell.y)) [
+all_times_some (g ∷ hs) (suc i) h e f = elim (cases_Bool (is_at g.cell h.cell.x h.cell.y)) [
   | inl t ↦ absurd (f 0 g (omega arith) refl (at_cell g.cell h.cell t))
-  | inr n ↦ cond-false _ _ _ n ∙ held_some hs i h e (λ j h' lt. f (suc j) h' (omega arith))
+  | inr n ↦ cond-false _ _ _ n ∙ all_times_some hs i h e (λ j h' lt. f (suc j) h' (omega arith))
 ]
 
 pub event_none : (es : List Event) (m : Moment) → ((i : ℕ) (e : Event) → slice_get es i ≡ Some e → e.at ≢ m) →
@@ -191,10 +191,11 @@ event_some (g ∷ hs) (suc i) h e f = elim (cases_Bool (is_then g.at h.at.time h
   | inr n ↦ cond-false _ _ _ n ∙ event_some hs i h e (λ j h' lt. f (suc j) h' (omega arith))
 ]
 
-pub held_found : (hs : List Held) (i : ℕ) (h : Held) (c : Cell) → h.cell ≡ c → slice_get hs i ≡ Some h →
-    ((j : ℕ) (h' : Held) → j < i → slice_get hs j ≡ Some h' → h'.cell ≢ h.cell) →
-    held_at hs c.x c.y ≡ Some h.signal
-held_found hs i h c same e f = subst (λ (c : Cell). held_at hs c.x c.y ≡ Some h.signal) same (held_some hs i h e f)
+pub all_times_found : (hs : List AllTimes) (i : ℕ) (h : AllTimes) (c : Cell) → h.cell ≡ c → slice_get hs i ≡ Some h →
+    ((j : ℕ) (h' : AllTimes) → j < i → slice_get hs j ≡ Some h' → h'.cell ≢ h.cell) →
+    all_times_at hs c.x c.y ≡ Some h.signal
+all_times_found hs i h c same e f =
+    subst (λ (c : Cell). all_times_at hs c.x c.y ≡ Some h.signal) same (all_times_some hs i h e f)
 
 pub event_found : (es : List Event) (i : ℕ) (h : Event) (m : Moment) → h.at ≡ m → slice_get es i ≡ Some h →
     ((j : ℕ) (h' : Event) → j < i → slice_get es j ≡ Some h' → h'.at ≢ h.at) →

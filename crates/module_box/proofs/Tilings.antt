@@ -186,10 +186,10 @@ holder_at columns blocks k boxes table t lt f = record {
   only = λ j h. t.only k j lt f (slice_get_within boxes j h.area h.numbered) h;
 }
 
-pub taken_held : (columns blocks place : ℕ) (boxes : List Box2) (table : List ℕ) →
+pub taken_all_times : (columns blocks place : ℕ) (boxes : List Box2) (table : List ℕ) →
     IsTakenBy columns blocks (length boxes) boxes table → place ≤ length table →
     ((k : ℕ) → k < place → ¬ (slice_index table k ≡ length boxes)) → AllHeld columns place boxes
-taken_held columns blocks place boxes table t le full k lt =
+taken_all_times columns blocks place boxes table t le full k lt =
     (slice_index table k, holder_at columns blocks k boxes table t (omega arith) (full k lt))
 
 pub taken_gap : (columns blocks place : ℕ) (boxes : List Box2) (table : List ℕ) (c : Cell) →

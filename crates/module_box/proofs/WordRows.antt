@@ -9,9 +9,10 @@ use Rattle.std.proofs.lemmas.Bool.{cases_lt, true≢false, eq-eqb, ne_eqb}
 use Rattle.std.proofs.lemmas.List.{map-append, length-map, get_or_append_left}
 use Rattle.bbm_rule.specs.Bits.{bit}
 use Rattle.bbm_rule.proofs.BitLemmas.{bit-and, bit-or, bit-xor, bit-zero, xor}
-use Rattle.circuit.specs.declared.entry.GateKind.{GateKind}
-use Rattle.circuit.specs.declared.entry.GateKind.TheVariants.{Source, Fredkin, Cswap, Interact, Switch, Delay, Unswitch}
-use Rattle.circuit.specs.declared.entry.GateKind.TheVariants.{Uninteract}
+use Rattle.circuit.specs.declared.circuit_line.GateKind.{GateKind}
+use Rattle.circuit.specs.declared.circuit_line.GateKind.TheVariants.{Source, Fredkin, Cswap, Interact, Switch, Delay}
+use Rattle.circuit.specs.declared.circuit_line.GateKind.TheVariants.{Unswitch}
+use Rattle.circuit.specs.declared.circuit_line.GateKind.TheVariants.{Uninteract}
 use Rattle.circuit.specs.Gates.{row, rule_of, uses, defines}
 use Rattle.circuit.specs.Gates.{Unswitch as Unswitched, Uninteract as Uninteracted}
 use Rattle.circuit.specs.Meaning.{Gate, wires_after}

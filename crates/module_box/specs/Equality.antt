@@ -9,7 +9,7 @@ use Rattle.std.specs.Option.{option_eq}
 use Rattle.bbm_rule.specs.declared.block.Cell.{Cell}
 use Rattle.circuit.specs.Gates.{Rule, Source, Fredkin, Cswap, Interact, Switch, Delay, Unswitch, Uninteract}
 use Rattle.circuit.specs.Meaning.{Gate, Netlist}
-use Rattle.module_box.specs.declared.schedules.Held.{Held}
+use Rattle.module_box.specs.declared.schedules.AllTimes.{AllTimes}
 use Rattle.module_box.specs.declared.schedules.Event.{Event}
 use Rattle.module_box.specs.declared.schedules.Signal.{Signal}
 use Rattle.module_box.specs.declared.schedules.Signal.TheVariants.{Zero, One, Wire}
@@ -38,8 +38,8 @@ abbrev pub same_cell : Cell → Cell → Bool
 same_cell = eq_of_both (on (λ c. c.x) int_eq) (on (λ c. c.y) int_eq)
 
 -- whether two signals at all times are the same
-abbrev pub same_held : Held → Held → Bool
-same_held = eq_of_both (on (λ h. h.cell) same_cell) (on (λ h. h.signal) same_signal)
+abbrev pub same_all_times : AllTimes → AllTimes → Bool
+same_all_times = eq_of_both (on (λ h. h.cell) same_cell) (on (λ h. h.signal) same_signal)
 
 -- whether two events are the same
 abbrev pub same_event : Event → Event → Bool
@@ -48,7 +48,7 @@ same_event = eq_of_both (on (λ e. e.at.time) nat_eq)
 
 -- whether two schedules are the same
 abbrev pub same_signals : Signals → Signals → Bool
-same_signals = eq_of_both (on (λ s. s.held) (pointwise same_held)) (on (λ s. s.events) (pointwise same_event))
+same_signals = eq_of_both (on (λ s. s.all_times) (pointwise same_all_times)) (on (λ s. s.events) (pointwise same_event))
 
 -- these tests are equivalences
 pub signal_equivalence : IsEquivalence same_signal
@@ -59,8 +59,9 @@ pub cell_equivalence : IsEquivalence same_cell
 cell_equivalence = and_equiv (on_equiv (λ c. c.x) int_eq_equiv) (on_equiv (λ c. c.y) int_eq_equiv)
 
 -- the test on signals at all times is an equivalence
-held_equivalence : IsEquivalence same_held
-held_equivalence = and_equiv (on_equiv (λ h. h.cell) cell_equivalence) (on_equiv (λ h. h.signal) signal_equivalence)
+all_times_equivalence : IsEquivalence same_all_times
+all_times_equivalence = and_equiv (on_equiv (λ h. h.cell) cell_equivalence)
+    (on_equiv (λ h. h.signal) signal_equivalence)
 
 -- the test on events is an equivalence
 event_equivalence : IsEquivalence same_event
@@ -69,7 +70,7 @@ event_equivalence = and_equiv (on_equiv (λ e. e.at.time) nat_eq_equiv)
 
 -- the test on schedules is an equivalence
 pub signals_equivalence : IsEquivalence same_signals
-signals_equivalence = and_equiv (on_equiv (λ s. s.held) (lists_equiv held_equivalence))
+signals_equivalence = and_equiv (on_equiv (λ s. s.all_times) (lists_equiv all_times_equivalence))
     (on_equiv (λ s. s.events) (lists_equiv event_equivalence))
 
 -- ---- the wires and gates of modules

@@ -6,15 +6,15 @@ use Rattle.module_box.specs.Boxes.{in_box, in_ring, in_halo}
 use Rattle.module_box.specs.Schedules.{Signals, signal_at}
 use Rattle.module_box.specs.declared.boxes.Box2.{Box2}
 use Rattle.module_box.specs.declared.schedules.Event.{Event}
-use Rattle.module_box.specs.declared.schedules.Held.{Held}
+use Rattle.module_box.specs.declared.schedules.AllTimes.{AllTimes}
 
 -- by dx columns and dy rows
 abbrev pub moved_cell : ℤ → ℤ → Cell → Cell
 moved_cell dx dy c = record { x = c.x +ℤ dx; y = c.y +ℤ dy }
 
 -- a signal at all times, moved by dx columns and dy rows
-abbrev pub moved_held : ℤ → ℤ → Held → Held
-moved_held dx dy h = record { cell = moved_cell dx dy h.cell; signal = h.signal }
+abbrev pub moved_all_times : ℤ → ℤ → AllTimes → AllTimes
+moved_all_times dx dy h = record { cell = moved_cell dx dy h.cell; signal = h.signal }
 
 -- an event, moved by dx columns and dy rows
 abbrev pub moved_event : ℤ → ℤ → Event → Event
@@ -22,7 +22,8 @@ moved_event dx dy e = record { at = record { time = e.at.time; cell = moved_cell
 
 -- the signals of a schedule, moved by dx columns and dy rows
 abbrev pub moved_signals : ℤ → ℤ → Signals → Signals
-moved_signals dx dy s = record { held = map (moved_held dx dy) s.held; events = map (moved_event dx dy) s.events }
+moved_signals dx dy s =
+    record { all_times = map (moved_all_times dx dy) s.all_times; events = map (moved_event dx dy) s.events }
 
 -- b' is b moved
 pub record IsMovedBox (dx dy : ℤ) (b b' : Box2) : Type 0 where

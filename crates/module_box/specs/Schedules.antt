@@ -6,14 +6,14 @@ use Rattle.std.specs.declared.cmp.Ordering.TheVariants.{Less}
 use Rattle.bbm_rule.specs.Plane.{is_at}
 use Rattle.bbm_rule.specs.declared.block.Cell.{Cell}
 use Rattle.module_box.specs.declared.schedules.Moment.{Moment}
-use Rattle.module_box.specs.declared.schedules.Held.{Held}
+use Rattle.module_box.specs.declared.schedules.AllTimes.{AllTimes}
 use Rattle.module_box.specs.declared.schedules.Event.{Event}
 use Rattle.module_box.specs.declared.schedules.Signal.{Signal}
 use Rattle.module_box.specs.declared.schedules.Signal.TheVariants.{Zero}
 
--- the held signals and the events of a schedule
+-- the signals at all times and the events of a schedule
 pub record Signals : Type 0 where
-  pub held : List Held
+  pub all_times : List AllTimes
   pub events : List Event
 
 -- whether the moment is time t at the cell (x, y)
@@ -21,18 +21,18 @@ abbrev pub is_then : Moment → ℕ → ℤ → ℤ → Bool
 is_then m t x y = (m.time == t) && is_at m.cell x y
 
 -- the signal of the first element with the cell (x, y)
-unfoldable pub held_at : List Held → ℤ → ℤ → Option Signal
-held_at [] x y = None
-held_at (h ∷ hs) x y = if is_at h.cell x y then Some h.signal else held_at hs x y
+unfoldable pub all_times_at : List AllTimes → ℤ → ℤ → Option Signal
+all_times_at [] x y = None
+all_times_at (h ∷ hs) x y = if is_at h.cell x y then Some h.signal else all_times_at hs x y
 
 -- the signal of the first element with the time t and the cell (x, y)
 unfoldable pub event_at : List Event → ℕ → ℤ → ℤ → Option Signal
 event_at [] t x y = None
 event_at (e ∷ es) t x y = if is_then e.at t x y then Some e.signal else event_at es t x y
 
--- the held signal of the cell, else its event at t, else `Zero`
+-- the signal at all times of the cell, else its event at t, else `Zero`
 unfoldable pub signal_at : Signals → ℕ → ℤ → ℤ → Signal
-signal_at s t x y = unwrap_or (held_at s.held x y) (unwrap_or (event_at s.events t x y) Zero)
+signal_at s t x y = unwrap_or (all_times_at s.all_times x y) (unwrap_or (event_at s.events t x y) Zero)
 
 -- each key comes before those after it
 pub record IsRising {A K : Type 0} (cmp : K → K → Ordering) (key : A → K) (xs : List A) : Type 0 where
@@ -40,7 +40,7 @@ pub record IsRising {A K : Type 0} (cmp : K → K → Ordering) (key : A → K) 
       cmp (key a) (key b) ≡ Less
 
 -- the cell of a signal at all times
-abbrev pub cell_of : Held → Cell
+abbrev pub cell_of : AllTimes → Cell
 cell_of h = h.cell
 
 -- the time and the cell of an event

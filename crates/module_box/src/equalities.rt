@@ -16,9 +16,9 @@ impl PartialEq for Schedule {
     ghost laws = { partial_equiv_from_equiv signals_equivalence };
 
     fn eq(&self, other: &Schedule) -> bool {
-        let held = self.held() == other.held();
+        let all_times = self.all_times() == other.all_times();
         let events = self.events() == other.events();
-        held & events
+        all_times & events
     }
 }
 

@@ -40,7 +40,7 @@ impl Model for Locals {
 
     ghost Value = { LocalNet };
 
-    ghost use Rattle.module_box.specs.LocalsFields.{local_net, IsLocalNet};
+    ghost use Rattle.module_box.specs.LocalsView.{local_net, IsLocalNet};
 
     ghost view = { local_net };
 
@@ -60,7 +60,7 @@ fn add_wires(known: &mut IndexSet<u16>, wires: &[WireNo]) -> Result<(), AllocErr
 
 // The number here of a wire that is known.
 fn local_number(known: &IndexSet<u16>, wire: WireNo) -> u16
-    requires few { length known.now.keys ≤ 2 ^ 16 }
+    requires at_most_65536 { length known.now.keys ≤ 2 ^ 16 }
     requires known { IsTrue (is_among known.now.keys wire) }
     ensures within { result < length known.now.keys }
     ensures wire { slice_index known.now.keys result ≡ wire }
@@ -73,7 +73,7 @@ fn local_number(known: &IndexSet<u16>, wire: WireNo) -> u16
 
 // The gate over the wires that are known. Those that it defines come next.
 fn local_gate(known: &IndexSet<u16>, gate: GateWires) -> LocalGate
-    requires few { length known.now.keys < 2 ^ 16 }
+    requires below_65536 { length known.now.keys < 2 ^ 16 }
     requires known { All (λ w. IsTrue (is_among known.now.keys w)) (gate_of gate).ins }
     requires fits { length (gate_of gate).ins ≡ uses (gate_of gate).kind }
     ensures kind { (kept_gate result).kind ≡ (gate_of gate).kind }
@@ -111,7 +111,7 @@ fn add_lines(
     ensures wires { IfOk result (λ made. known.new.keys
         ≡ local_wires (netlist_of circuit.now) cuts.now gates.now) }
     ensures count { IfOk result (λ made. length made.items ≡ length gates.now) }
-    ensures few { IfOk result (λ made. length known.new.keys ≤ 268) }
+    ensures at_most_268 { IfOk result (λ made. length known.new.keys ≤ 268) }
 {
     let gate_count = circuit.gates();
     add_wires(known, cuts)?;
@@ -177,7 +177,7 @@ impl Locals {
     pub fn wires(&self) -> usize
         ensures count { result ≡ length self.now.circuit_wires }
         ensures sized { result ≡ wires self.now.netlist }
-        ensures few { result ≤ 268 }
+        ensures at_most_268 { result ≤ 268 }
     {
         self.circuit_wires.len()
     }
@@ -187,7 +187,7 @@ impl Locals {
         ensures place { result ≡ position (λ w. w == wire) self.now.circuit_wires }
         ensures found { is_some result ≡ is_among self.now.circuit_wires wire }
         ensures within { IfSome result (λ i. i < length self.now.circuit_wires) }
-        ensures same { IfSome result (λ i. circuit_wire self.now i ≡ wire) }
+        ensures same_wire { IfSome result (λ i. circuit_wire self.now i ≡ wire) }
     {
         let index = self.circuit_wires.get_index_of(&wire.number())?;
         Some(index as u16)

@@ -2,9 +2,9 @@
 
 ghost use Rattle.std.specs.Prelude.{◌≡◌, IfOk, OnOk, map};
 ghost use Rattle.std.specs.List.{All};
-ghost use Rattle.module_box.specs.Moves.{IsNear, IsSmall, moved_cell, moved_event, moved_held, moved_signals};
+ghost use Rattle.module_box.specs.Moves.{IsNear, IsSmall, moved_cell, moved_event, moved_all_times, moved_signals};
 
-use crate::schedules::{Event, Held, Moment, Schedule};
+use crate::schedules::{AllTimes, Event, Moment, Schedule};
 use bbm_rule::Cell;
 use std::alloc::{AllocError, Global};
 
@@ -20,14 +20,14 @@ pub fn moved_cell(cell: Cell, dx: i32, dy: i32) -> Cell
     }
 }
 
-fn moved_held(held: Held, dx: i32, dy: i32) -> Held
-    requires cell { IsNear held.cell }
+fn moved_all_times(all_times: AllTimes, dx: i32, dy: i32) -> AllTimes
+    requires cell { IsNear all_times.cell }
     requires by { IsSmall dx × IsSmall dy }
-    ensures { result ≡ moved_held dx dy held }
+    ensures { result ≡ moved_all_times dx dy all_times }
 {
-    Held {
-        cell: moved_cell(held.cell, dx, dy),
-        signal: held.signal,
+    AllTimes {
+        cell: moved_cell(all_times.cell, dx, dy),
+        signal: all_times.signal,
     }
 }
 
@@ -47,14 +47,19 @@ pub fn moved_event(event: Event, dx: i32, dy: i32) -> Event
     }
 }
 
-fn moved_helds(alloc: Global, held: &[Held], dx: i32, dy: i32) -> Result<Vec<Held>, AllocError>
-    requires cells { All (λ h. IsNear h.cell) held.now }
+fn moved_all_times_list(
+    alloc: Global,
+    all_times: &[AllTimes],
+    dx: i32,
+    dy: i32,
+) -> Result<Vec<AllTimes>, AllocError>
+    requires cells { All (λ h. IsNear h.cell) all_times.now }
     requires by { IsSmall dx × IsSmall dy }
-    ensures { IfOk result (λ v. v.items ≡ map (moved_held dx dy) held.now) }
+    ensures { IfOk result (λ v. v.items ≡ map (moved_all_times dx dy) all_times.now) }
 {
-    let mut moved = Vec::with_capacity(alloc, held.len())?;
-    for signal in held {
-        moved.push(moved_held(*signal, dx, dy))?;
+    let mut moved = Vec::with_capacity(alloc, all_times.len())?;
+    for signal in all_times {
+        moved.push(moved_all_times(*signal, dx, dy))?;
     }
     Ok(moved)
 }
@@ -75,13 +80,13 @@ impl Schedule {
     /// Returns the same signals at the cells that lie `dx` columns and `dy` rows further. All these numbers are from
     /// -1024 to 1023.
     pub fn moved(&self, alloc: Global, dx: i32, dy: i32) -> Result<Schedule, AllocError>
-        requires held { All (λ h. IsNear h.cell) self.now.held }
+        requires all_times { All (λ h. IsNear h.cell) self.now.all_times }
         requires events { All (λ e. IsNear e.at.cell) self.now.events }
         requires by { IsSmall dx × IsSmall dy }
         ensures { IfOk result (λ s. s ≡ moved_signals dx dy self.now) }
     {
-        let held = moved_helds(alloc, self.held(), dx, dy)?;
+        let all_times = moved_all_times_list(alloc, self.all_times(), dx, dy)?;
         let events = moved_events(alloc, self.events(), dx, dy)?;
-        Ok(Schedule::new(held, events))
+        Ok(Schedule::new(all_times, events))
     }
 }

@@ -23,7 +23,7 @@ impl Model for Owners {
 
     ghost Value = { Owning };
 
-    ghost use Rattle.module_box.specs.OwnersFields.{owning, IsOwners};
+    ghost use Rattle.module_box.specs.OwnersView.{owning, IsOwners};
 
     ghost view = { owning };
 

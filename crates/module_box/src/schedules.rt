@@ -2,7 +2,7 @@
 
 ghost use Rattle.std.specs.Prelude.{◌≡◌};
 ghost use Rattle.module_box.specs.Moments.{cell_cmp, moment_cmp};
-ghost use Rattle.module_box.specs.Schedules.{IsRising, cell_of, moment_of, held_at, event_at, signal_at};
+ghost use Rattle.module_box.specs.Schedules.{IsRising, cell_of, moment_of, all_times_at, event_at, signal_at};
 
 use bbm_rule::Cell;
 use std::cmp::Ordering;
@@ -28,7 +28,7 @@ pub struct Moment {
 
 /// A signal that a cell has at all times.
 #[derive(Clone, Copy, Debug, PartialEq, Eq)]
-pub struct Held {
+pub struct AllTimes {
     pub cell: Cell,
     pub signal: Signal,
 }
@@ -41,10 +41,10 @@ pub struct Event {
 }
 
 /// A list of signals at cells and times. A cell without a signal at a time has [`Signal::Zero`].
-// The held signals rise strictly by y and x of their cells, the events by time, y and x.
+// The signals at all times rise strictly by y and x of their cells, the events by time, y and x.
 #[derive(Debug, Drop)]
 pub struct Schedule {
-    held: Vec<Held>,
+    all_times: Vec<AllTimes>,
     events: Vec<Event>,
 }
 
@@ -53,7 +53,7 @@ impl Model for Schedule {
 
     ghost Value = { Signals };
 
-    ghost use Rattle.module_box.specs.ScheduleFields.{signals, IsSchedule};
+    ghost use Rattle.module_box.specs.ScheduleView.{signals, IsSchedule};
 
     ghost view = { signals };
 
@@ -81,15 +81,15 @@ impl Moment {
 }
 
 // the signal that the list holds for the cell.
-fn find_held(held: &[Held], cell: Cell) -> Option<Signal>
-    requires { IsRising cell_cmp cell_of held.now }
-    ensures { result ≡ held_at held.now cell.x cell.y }
+fn find_all_times(all_times: &[AllTimes], cell: Cell) -> Option<Signal>
+    requires { IsRising cell_cmp cell_of all_times.now }
+    ensures { result ≡ all_times_at all_times.now cell.x cell.y }
 {
     let mut low = 0;
-    let mut high = held.len();
+    let mut high = all_times.len();
     'search: while low < high {
         let middle = low + (high - low) / 2;
-        let found = held[middle];
+        let found = all_times[middle];
         match compare_cells(found.cell, cell) {
             Ordering::Less => low = middle + 1,
             Ordering::Greater => high = middle,
@@ -123,26 +123,26 @@ impl Schedule {
     ///
     /// The signals at all times rise strictly by y, then x of their cells. The events rise strictly by time, then y,
     /// then x.
-    pub fn new(held: Vec<Held>, events: Vec<Event>) -> Schedule
-        requires held { IsRising cell_cmp cell_of held.items }
+    pub fn new(all_times: Vec<AllTimes>, events: Vec<Event>) -> Schedule
+        requires all_times { IsRising cell_cmp cell_of all_times.items }
         requires events { IsRising moment_cmp moment_of events.items }
-        ensures held { result.held ≡ held.items }
+        ensures all_times { result.all_times ≡ all_times.items }
         ensures events { result.events ≡ events.items }
     {
-        Schedule { held, events }
+        Schedule { all_times, events }
     }
 
     /// Returns the signals at all times, rising strictly by y, then x of their cells.
-    pub fn held(&self) -> &[Held]
-        ensures same { result.now ≡ self.now.held }
+    pub fn all_times(&self) -> &[AllTimes]
+        ensures same_list { result.now ≡ self.now.all_times }
         ensures rising { IsRising cell_cmp cell_of result.now }
     {
-        &self.held
+        &self.all_times
     }
 
     /// Returns the events, rising strictly by time, then y, then x.
     pub fn events(&self) -> &[Event]
-        ensures same { result.now ≡ self.now.events }
+        ensures same_list { result.now ≡ self.now.events }
         ensures rising { IsRising moment_cmp moment_of result.now }
     {
         &self.events
@@ -155,7 +155,7 @@ impl Schedule {
     pub fn at(&self, t: u32, cell: Cell) -> Signal
         ensures { result ≡ signal_at self.now t cell.x cell.y }
     {
-        if let Some(signal) = find_held(&self.held, cell) {
+        if let Some(signal) = find_all_times(&self.all_times, cell) {
             return signal;
         }
         match find_event(&self.events, Moment { time: t, cell }) {

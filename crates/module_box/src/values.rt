@@ -173,14 +173,14 @@ fn first_with(words: &[u64], place: u32) -> Option<usize>
 
 // Writes the words into rows of `words` words each, one into each row.
 fn put_column(rows: &mut [u64], words: usize, place: usize, column: &[u64])
-    requires few { words ≤ 64 }
+    requires at_most_64 { words ≤ 64 }
     requires short { length column.now ≤ 268 }
     requires place { place < words }
     requires long { length rows.old ≡ words * length column.now }
     ensures long { length rows.new ≡ length rows.old }
     ensures put { (w : ℕ) → w < length column.now →
         slice_index rows.new (words * w + place) ≡ slice_index column.now w }
-    ensures kept { (w k : ℕ) → w < length column.now → k < words → k ≢ place →
+    ensures others_unchanged { (w k : ℕ) → w < length column.now → k < words → k ≢ place →
         slice_index rows.new (words * w + k) ≡ slice_index rows.old (words * w + k) }
 {
     for (wire, word) in column.iter().enumerate() {
@@ -229,7 +229,7 @@ impl Wiring {
     /// They are its first wires. Each gate uses wires that are given or that a gate before it defines.
     pub fn cuts(&self) -> usize
         ensures count { result ≡ self.now.given }
-        ensures few { result ≤ 12 }
+        ensures at_most_12 { result ≤ 12 }
         ensures ordered { AreOrdered self.now.given self.now.gates }
     {
         self.given
@@ -238,7 +238,7 @@ impl Wiring {
     /// Returns how many wires there are, at most 268: 12 cuts, and 4 wires of each of 64 gates.
     pub fn wires(&self) -> usize
         ensures sized { result ≡ wires self.now }
-        ensures few { result ≤ 268 }
+        ensures at_most_268 { result ≤ 268 }
     {
         self.wires
     }
@@ -246,7 +246,7 @@ impl Wiring {
     /// Returns how many gates the module uses, at most 64.
     pub fn gates(&self) -> usize
         ensures count { result ≡ length self.now.gates }
-        ensures few { result ≤ 64 }
+        ensures at_most_64 { result ≤ 64 }
     {
         self.gates.len()
     }

@@ -19,7 +19,7 @@ impl Model for Wiring {
 
     ghost Value = { Netlist };
 
-    ghost use Rattle.module_box.specs.WiringFields.{wiring_net, IsWiring};
+    ghost use Rattle.module_box.specs.WiringView.{wiring_net, IsWiring};
 
     ghost view = { wiring_net };
 

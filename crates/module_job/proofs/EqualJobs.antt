@@ -13,7 +13,7 @@ use Rattle.module_box.specs.declared.schedules.Signal.TheVariants.{Zero, One, Wi
 use Rattle.module_box.specs.contracts.schedules.SignalPartialEq.TheImpl as signals
 use Rattle.module_job.specs.Equality.{same_box, demand_place, wire_asked, same_demand, same_job, same_shape, same_stop}
 use Rattle.module_job.specs.Laws.{JobEqualityDecides, ShapeEqualityDecides}
-use Rattle.module_job.specs.Shapes.{ShapeState, placed, shape_of}
+use Rattle.module_job.specs.Shapes.{ShapeView, placed, shape_of}
 use Rattle.module_job.specs.declared.job.Demand.{Demand}
 use Rattle.module_job.specs.declared.job.Demand.TheVariants as Demanded
 use Rattle.module_job.specs.declared.job.Stop.{Stop}
@@ -203,7 +203,7 @@ one_fact false true d e = absurd (wrong (d.1 (e.0 refl)))
     wrong : false ≡ true → ⊥
     wrong h = cc
 
-parts_decide : (x y x' y' : ℕ) (ws gs ws' gs' : List ℕ) (s t : ShapeState) →
+parts_decide : (x y x' y' : ℕ) (ws gs ws' gs' : List ℕ) (s t : ShapeView) →
     Decides ((((nat_eq x x' && nat_eq y y') && pointwise nat_eq ws ws') && pointwise nat_eq gs gs') && same_shape s t)
     (placed x y ws gs s ≡ placed x' y' ws' gs' t)
 parts_decide x y x' y' ws gs ws' gs' s t =
@@ -221,7 +221,7 @@ parts_decide x y x' y' ws gs ws' gs' s t =
     ))
     (λ e. sym (shape_placed x y ws gs s) ∙ ap shape_of e ∙ shape_placed x' y' ws' gs' t)
 
-pub parts_tell : (x y x' y' : ℕ) (ws gs ws' gs' : List ℕ) (s t : ShapeState) →
+pub parts_tell : (x y x' y' : ℕ) (ws gs ws' gs' : List ℕ) (s t : ShapeView) →
     ((((nat_eq x x' && nat_eq y y') && pointwise nat_eq ws ws') && pointwise nat_eq gs gs') && same_shape s t)
     ≡ same_job (placed x y ws gs s) (placed x' y' ws' gs' t)
 parts_tell x y x' y' ws gs ws' gs' s t =

@@ -8,7 +8,7 @@ use Rattle.std.proofs.lemmas.Grind.{common_steps}
 use Rattle.std.proofs.lemmas.List.{length-map, map-append, take_more}
 use Rattle.std.proofs.lemmas.Option.{slice_get-map, slice_get-get_or}
 use Rattle.module_job.specs.Groups.{AreGroups, AreKeys, IsFirstLike}
-use Rattle.module_job.specs.Shapes.{ShapeState}
+use Rattle.module_job.specs.Shapes.{ShapeView}
 
 pub value_at : {A B : Type 0} (v : A → B) (xs : List A) (k : ℕ) (d : A) (b : B) → k < length xs → d ≡ get_or xs k d →
     b ≡ v d → slice_get (map v xs) k ≡ Some b
@@ -42,7 +42,7 @@ all_groups shapes groups n all count each =
     record { count = count ∙ all; each = λ k lt. each k (omega (arith, lt, all)) }
 
 -- keys that are made of the shapes
-pub made_keys : (shapes : List ShapeState) (key : ShapeState → List ℕ) → AreKeys shapes (map key shapes)
+pub made_keys : (shapes : List ShapeView) (key : ShapeView → List ℕ) → AreKeys shapes (map key shapes)
 made_keys shapes key = record {
   count = length-map shapes key;
   same = λ i k e. slice_get-map key shapes i ∙ ap (option_map key) e ∙ sym (slice_get-map key shapes k);

@@ -5,15 +5,15 @@ use Rattle.std.proofs.lemmas.Int.{ints}
 use Rattle.module_box.specs.Moves.{moved_signals}
 use Rattle.module_box.specs.Schedules.{Signals, signal_at}
 use Rattle.module_box.proofs.MovedBoxes.{cell_back, signals_back, signals_moved}
-use Rattle.module_job.specs.Jobs.{JobState}
+use Rattle.module_job.specs.Jobs.{JobView}
 use Rattle.module_job.specs.Laws.{ShapesAreParts}
-use Rattle.module_job.specs.Shapes.{ShapeState, back, moved_stop, placed, shape_of}
+use Rattle.module_job.specs.Shapes.{ShapeView, shift_to_origin, moved_stop, placed, shape_of}
 use Rattle.module_job.specs.declared.job.Stop.{Stop}
 
-pub forth_back : (n : ℕ) → pos n +ℤ back n ≡ pos 0
+pub forth_back : (n : ℕ) → pos n +ℤ shift_to_origin n ≡ pos 0
 forth_back n = omega (arith, ints)
 
-pub back_forth : (n : ℕ) → back n +ℤ pos n ≡ pos 0
+pub back_forth : (n : ℕ) → shift_to_origin n +ℤ pos n ≡ pos 0
 back_forth n = omega (arith, ints)
 
 pub stops_back : (dx dy ex ey : ℤ) (ss : List Stop) → dx +ℤ ex ≡ pos 0 → dy +ℤ ey ≡ pos 0 →
@@ -24,14 +24,19 @@ stops_back dx dy ex ey (s ∷ ss) p q =
     λ i. record { at = record { time = s.at.time; cell = cell_back dx dy ex ey s.at.cell p q i }; wire = s.wire } in
     ap₂ (λ x xs. x ∷ xs) here (stops_back dx dy ex ey ss p q)
 
-pub placed_again : (x y : ℕ) (s : Signals) → moved_signals (pos x) (pos y) (moved_signals (back x) (back y) s) ≡ s
-placed_again x y s = signals_back (back x) (back y) (pos x) (pos y) s (back_forth x) (back_forth y)
+pub placed_again : (x y : ℕ) (s : Signals) →
+    moved_signals (pos x) (pos y) (moved_signals (shift_to_origin x) (shift_to_origin y) s) ≡ s
+placed_again x y s = signals_back (shift_to_origin x) (shift_to_origin y) (pos x) (pos y) s (back_forth x)
+    (back_forth y)
 
-pub shape_placed : (x y : ℕ) (wires gates : List ℕ) (s : ShapeState) → shape_of (placed x y wires gates s) ≡ s
+pub shape_placed : (x y : ℕ) (wires gates : List ℕ) (s : ShapeView) → shape_of (placed x y wires gates s) ≡ s
 shape_placed x y wires gates s =
-    let edges = signals_back (pos x) (pos y) (back x) (back y) s.edges (forth_back x) (forth_back y) in
-    let halos = signals_back (pos x) (pos y) (back x) (back y) s.halos (forth_back x) (forth_back y) in
-    let stops = stops_back (pos x) (pos y) (back x) (back y) s.stops (forth_back x) (forth_back y) in
+    let edges = signals_back (pos x) (pos y) (shift_to_origin x) (shift_to_origin y) s.edges (forth_back x)
+    (forth_back y) in
+    let halos = signals_back (pos x) (pos y) (shift_to_origin x) (shift_to_origin y) s.halos (forth_back x)
+    (forth_back y) in
+    let stops = stops_back (pos x) (pos y) (shift_to_origin x) (shift_to_origin y) s.stops (forth_back x)
+    (forth_back y) in
     λ i. record {
       width = s.width;
       height = s.height;
@@ -45,14 +50,15 @@ shape_placed x y wires gates s =
       kept = s.kept;
     }
 
-pub placed_shape : (j : JobState) →
+pub placed_shape : (j : JobView) →
     placed j.area.x j.area.y j.locals.circuit_wires j.locals.circuit_gates (shape_of j) ≡ j
 placed_shape j =
     let x = j.area.x in
     let y = j.area.y in
     let edges = placed_again x y j.edges in
     let halos = placed_again x y j.halos in
-    let stops = stops_back (back x) (back y) (pos x) (pos y) j.stops (back_forth x) (back_forth y) in
+    let stops = stops_back (shift_to_origin x) (shift_to_origin y) (pos x) (pos y) j.stops (back_forth x)
+    (back_forth y) in
     λ i. record {
       area = j.area;
       steps = j.steps;
@@ -69,11 +75,12 @@ pub shapes_are_parts : ShapesAreParts
 shapes_are_parts = record { whole = placed_shape; part = shape_placed }
 
 -- what a shape carries at a cell that is moved back is what the job carries at the cell
-there_again : (z : ℤ) (n : ℕ) → (z +ℤ back n) +ℤ pos n ≡ z
+there_again : (z : ℤ) (n : ℕ) → (z +ℤ shift_to_origin n) +ℤ pos n ≡ z
 there_again z n = omega (arith, ints)
 
 pub carried : (x y : ℕ) (s : Signals) (t : ℕ) (cx cy : ℤ) →
-    signal_at s t (cx +ℤ back x) (cy +ℤ back y) ≡ signal_at (moved_signals (pos x) (pos y) s) t cx cy
+    signal_at s t (cx +ℤ shift_to_origin x) (cy +ℤ shift_to_origin y)
+    ≡ signal_at (moved_signals (pos x) (pos y) s) t cx cy
 carried x y s t cx cy =
-    sym (signals_moved (pos x) (pos y) s t (cx +ℤ back x) (cy +ℤ back y))
+    sym (signals_moved (pos x) (pos y) s t (cx +ℤ shift_to_origin x) (cy +ℤ shift_to_origin y))
     ∙ ap₂ (λ u v. signal_at (moved_signals (pos x) (pos y) s) t u v) (there_again cx x) (there_again cy y)

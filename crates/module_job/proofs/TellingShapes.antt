@@ -14,10 +14,10 @@ use Rattle.module_box.specs.declared.schedules.Signal.TheVariants.{Zero, One, Wi
 use Rattle.module_box.proofs.Telling.{counted_tell, listed, lists_tell, netlists_tell, same_head, same_length}
 use Rattle.module_box.proofs.Telling.{same_tail}
 use Rattle.module_job.specs.Keys.{BytesTellNumbers, NumbersTellShapes, cell_numbers, cells_numbers, demand_number}
-use Rattle.module_job.specs.Keys.{event_numbers, held_numbers, integer_number, number_bytes, shape_numbers}
+use Rattle.module_job.specs.Keys.{event_numbers, all_times_numbers, integer_number, number_bytes, shape_numbers}
 use Rattle.module_job.specs.Keys.{signal_number, signal_numbers, signals_numbers, stop_numbers}
 use Rattle.module_job.proofs.CellEntries.{cells_tell_all}
-use Rattle.module_job.specs.Shapes.{ShapeState}
+use Rattle.module_job.specs.Shapes.{ShapeView}
 use Rattle.module_job.specs.declared.job.Demand.{Demand}
 use Rattle.module_job.specs.declared.job.Demand.TheVariants as Demanded
 
@@ -67,8 +67,8 @@ cells_tell c d r s e =
     let y = one_tells integer_number integer_told c.y d.y r s x.1 in
     (λ i. record { x = x.0 i; y = y.0 i }, y.1)
 
-helds_tell : AreTelling held_numbers
-helds_tell h k r s e =
+all_times_list_tell : AreTelling all_times_numbers
+all_times_list_tell h k r s e =
     let cell = cells_tell h.cell k.cell (signal_number h.signal ∷ r) (signal_number k.signal ∷ s) e in
     let signal = one_tells signal_number signal_told h.signal k.signal r s cell.1 in
     (λ i. record { cell = cell.0 i; signal = signal.0 i }, signal.1)
@@ -91,12 +91,13 @@ stops_tell h k r s e =
 
 signals_tell : AreTelling signals_numbers
 signals_tell a b r s e =
-    let apart = append_assoc (counted held_numbers a.held) (counted event_numbers a.events) r in
-    let apart' = append_assoc (counted held_numbers b.held) (counted event_numbers b.events) s in
-    let held = counted_tell held_numbers helds_tell a.held b.held (counted event_numbers a.events ++ r)
+    let apart = append_assoc (counted all_times_numbers a.all_times) (counted event_numbers a.events) r in
+    let apart' = append_assoc (counted all_times_numbers b.all_times) (counted event_numbers b.events) s in
+    let all_times = counted_tell all_times_numbers all_times_list_tell a.all_times b.all_times
+    (counted event_numbers a.events ++ r)
     (counted event_numbers b.events ++ s) (sym apart ∙ e ∙ apart') in
-    let events = counted_tell event_numbers events_tell a.events b.events r s held.1 in
-    (λ i. record { held = held.0 i; events = events.0 i }, events.1)
+    let events = counted_tell event_numbers events_tell a.events b.events r s all_times.1 in
+    (λ i. record { all_times = all_times.0 i; events = events.0 i }, events.1)
 
 -- ---- shapes
 in_turn : (a b c d e f g h r : List ℕ) →
@@ -109,16 +110,16 @@ in_turn a b c d e f g h r =
     ∙ append_assoc (a ++ b) c (d ++ (e ++ (f ++ (g ++ (h ++ r)))))
     ∙ append_assoc a b (c ++ (d ++ (e ++ (f ++ (g ++ (h ++ r))))))
 
-abbrev sides : ShapeState → List ℕ
+abbrev sides : ShapeView → List ℕ
 sides s = s.width ∷ s.height ∷ s.steps ∷ []
 
-abbrev starts : ShapeState → List ℕ
+abbrev starts : ShapeView → List ℕ
 starts s = cells_numbers signal_number s.starts
 
-abbrev demands : ShapeState → List ℕ
+abbrev demands : ShapeView → List ℕ
 demands s = cells_numbers demand_number s.demands
 
-abbrev stops : ShapeState → List ℕ
+abbrev stops : ShapeView → List ℕ
 stops s = counted stop_numbers s.stops
 
 pub shapes_tell : NumbersTellShapes

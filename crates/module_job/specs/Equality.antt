@@ -8,8 +8,8 @@ use Rattle.module_box.specs.Equality.{same_signal, signal_equivalence, same_cell
 use Rattle.module_box.specs.Equality.{signals_equivalence, same_locals, locals_equivalence, same_netlist}
 use Rattle.module_box.specs.Equality.{netlist_equivalence}
 use Rattle.module_box.specs.declared.boxes.Box2.{Box2}
-use Rattle.module_job.specs.Jobs.{JobState}
-use Rattle.module_job.specs.Shapes.{ShapeState}
+use Rattle.module_job.specs.Jobs.{JobView}
+use Rattle.module_job.specs.Shapes.{ShapeView}
 use Rattle.module_job.specs.declared.job.Demand.{Demand}
 use Rattle.module_job.specs.declared.job.Demand.TheVariants.{Dead, Live, Wire, Any}
 use Rattle.module_job.specs.declared.job.Stop.{Stop}
@@ -43,7 +43,7 @@ same_stop = eq_of_both (on (λ s. s.at.time) nat_eq)
     (eq_of_both (on (λ s. s.at.cell) same_cell) (on (λ s. s.wire) nat_eq))
 
 -- box and steps; wires and gates; starts and demands; edges and halos; stops and kept gates
-abbrev pub same_job : JobState → JobState → Bool
+abbrev pub same_job : JobView → JobView → Bool
 same_job =
     eq_of_both (eq_of_both (eq_of_both (eq_of_both
     (eq_of_both (on (λ j. j.area) same_box) (on (λ j. j.steps) nat_eq))
@@ -53,7 +53,7 @@ same_job =
     (eq_of_both (on (λ j. j.stops) (pointwise same_stop)) (on (λ j. j.kept) (pointwise nat_eq)))
 
 -- sides and steps; gates; starts and demands; edges and halos; stops and kept gates
-abbrev pub same_shape : ShapeState → ShapeState → Bool
+abbrev pub same_shape : ShapeView → ShapeView → Bool
 same_shape =
     eq_of_both (eq_of_both (eq_of_both (eq_of_both
     (eq_of_both (eq_of_both (on (λ s. s.width) nat_eq) (on (λ s. s.height) nat_eq)) (on (λ s. s.steps) nat_eq))

@@ -1,7 +1,7 @@
 -- Groups of things that are the same
 use Rattle.std.specs.Prelude.{◌≡◌, ◌≢◌, ℕ, ◌<◌, Bool, List, length, nat_eq, slice_get, slice_index}
 use Rattle.std.specs.Cmp.Lexicographic.{pointwise}
-use Rattle.module_job.specs.Shapes.{ShapeState}
+use Rattle.module_job.specs.Shapes.{ShapeView}
 
 -- number g is the first of those that are as number k is
 pub record IsFirstLike {A : Type 0} (xs : List A) (k g : ℕ) : Type 0 where
@@ -18,6 +18,6 @@ abbrev pub same_key : List ℕ → List ℕ → Bool
 same_key = pointwise nat_eq
 
 -- shapes that are the same have the same key
-pub record AreKeys (shapes : List ShapeState) (keys : List (List ℕ)) : Type 0 where
+pub record AreKeys (shapes : List ShapeView) (keys : List (List ℕ)) : Type 0 where
   pub count : length keys ≡ length shapes
   pub same : (i k : ℕ) → slice_get shapes i ≡ slice_get shapes k → slice_get keys i ≡ slice_get keys k

@@ -19,7 +19,7 @@ use Rattle.module_box.specs.Places.{place_in}
 -- Box and steps; the module's wires and gates by numbers of its own; what each cell of the box carries at time 0, and
 -- what it is to be at the last time, row by row; what the cells of ring and halo carry at odd times; its stops; and the
 -- gates that it keeps, by their places among those that it uses.
-pub record JobState : Type 0 where
+pub record JobView : Type 0 where
   pub area : Box2
   pub steps : ℕ
   pub locals : LocalNet
@@ -31,26 +31,26 @@ pub record JobState : Type 0 where
   pub kept : List ℕ
 
 -- what the cell (x, y) carries at time 0, and a cell outside the box is dead
-unfoldable pub job_start : JobState → ℤ → ℤ → Signal
+unfoldable pub job_start : JobView → ℤ → ℤ → Signal
 job_start j x y = if in_box j.area x y then unwrap_or (slice_get j.starts (place_in j.area x y)) Zero else Zero
 
 -- what the cell (x, y) is to be at the last time
-unfoldable pub job_demand : JobState → ℤ → ℤ → Demand
+unfoldable pub job_demand : JobView → ℤ → ℤ → Demand
 job_demand j x y = if in_box j.area x y then unwrap_or
     (slice_get j.demands (place_in j.area x y)) Demanded.Dead else Demanded.Dead
 
 -- each wire that the job names is one of its own
-pub record NamesOwnWires (j : JobState) : Type 0 where
+pub record NamesOwnWires (j : JobView) : Type 0 where
   pub starts : All (IsBelow (wires j.locals.netlist)) j.starts
   pub demands : All (IsDemandBelow (wires j.locals.netlist)) j.demands
-  pub edge_held : All (λ h. IsBelow (wires j.locals.netlist) h.signal) j.edges.held
+  pub edge_all_times : All (λ h. IsBelow (wires j.locals.netlist) h.signal) j.edges.all_times
   pub edge_events : All (λ e. IsBelow (wires j.locals.netlist) e.signal) j.edges.events
-  pub halo_held : All (λ h. IsBelow (wires j.locals.netlist) h.signal) j.halos.held
+  pub halo_all_times : All (λ h. IsBelow (wires j.locals.netlist) h.signal) j.halos.all_times
   pub halo_events : All (λ e. IsBelow (wires j.locals.netlist) e.signal) j.halos.events
   pub stops : All (λ s. s.wire < wires j.locals.netlist) j.stops
 
 -- a stop is at a time up to the last one, and at a cell of the box
-pub record IsStopOf (j : JobState) (s : Stop) : Type 0 where
+pub record IsStopOf (j : JobView) (s : Stop) : Type 0 where
   pub time : s.at.time ≤ j.steps
   pub inside : IsTrue (in_box j.area s.at.cell.x s.at.cell.y)
 
@@ -60,7 +60,7 @@ stop_moment s = s.at
 
 -- A job within the limits of a certificate: its box is even, has sides of 2 to 64 and lies in a rectangle of 512 by 512
 -- cells. It has at most 65,536 steps, it names its own wires, and its stops rise by time, y and x.
-pub record IsJob (j : JobState) : Type 0 where
+pub record IsJob (j : JobView) : Type 0 where
   pub even : IsEven j.area
   pub width : (2 ≤ j.area.w) × (j.area.w ≤ 64) × (j.area.x + j.area.w ≤ 512)
   pub height : (2 ≤ j.area.h) × (j.area.h ≤ 64) × (j.area.y + j.area.h ≤ 512)

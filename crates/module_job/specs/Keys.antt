@@ -8,10 +8,10 @@ use Rattle.bbm_rule.specs.declared.block.Cell.{Cell}
 use Rattle.module_box.specs.Numbers.{AreTelling, counted, netlist_numbers}
 use Rattle.module_box.specs.Schedules.{Signals}
 use Rattle.module_box.specs.declared.schedules.Event.{Event}
-use Rattle.module_box.specs.declared.schedules.Held.{Held}
+use Rattle.module_box.specs.declared.schedules.AllTimes.{AllTimes}
 use Rattle.module_box.specs.declared.schedules.Signal.{Signal}
 use Rattle.module_box.specs.declared.schedules.Signal.TheVariants.{Zero, One, Wire}
-use Rattle.module_job.specs.Shapes.{ShapeState}
+use Rattle.module_job.specs.Shapes.{ShapeView}
 use Rattle.module_job.specs.declared.job.Demand.{Demand}
 use Rattle.module_job.specs.declared.job.Demand.TheVariants as Demanded
 use Rattle.module_job.specs.declared.job.Stop.{Stop}
@@ -56,8 +56,8 @@ abbrev pub cell_numbers : Cell → List ℕ
 cell_numbers c = integer_number c.x ∷ integer_number c.y ∷ []
 
 -- the numbers of a signal at all times
-abbrev pub held_numbers : Held → List ℕ
-held_numbers h = cell_numbers h.cell ++ signal_numbers h.signal
+abbrev pub all_times_numbers : AllTimes → List ℕ
+all_times_numbers h = cell_numbers h.cell ++ signal_numbers h.signal
 
 -- the numbers of an event
 abbrev pub event_numbers : Event → List ℕ
@@ -69,11 +69,11 @@ stop_numbers s = (s.at.time ∷ cell_numbers s.at.cell) ++ s.wire ∷ []
 
 -- the numbers of a schedule
 abbrev pub signals_numbers : Signals → List ℕ
-signals_numbers s = counted held_numbers s.held ++ counted event_numbers s.events
+signals_numbers s = counted all_times_numbers s.all_times ++ counted event_numbers s.events
 
 -- Gates, sides and steps, starts, demands, edges, halos, stops and kept gates: all of the shape. Most cells are dead at
 -- the start and to be dead at the end, so starts and demands have entries for the other cells alone.
-unfoldable pub shape_numbers : ShapeState → List ℕ
+unfoldable pub shape_numbers : ShapeView → List ℕ
 shape_numbers s =
     netlist_numbers s.netlist ++ (s.width ∷ s.height ∷ s.steps ∷ [])
     ++ cells_numbers signal_number s.starts ++ cells_numbers demand_number s.demands
@@ -85,7 +85,7 @@ number_bytes n = if nat_lt n 254 then n
     ∷ [] else (if nat_lt n 65536 then 254 ∷ to_le_bytes w16 n else 255 ∷ to_le_bytes w64 n)
 
 -- the key of a shape
-abbrev pub shape_key : ShapeState → List ℕ
+abbrev pub shape_key : ShapeView → List ℕ
 shape_key s = sha256 (flat_map number_bytes (shape_numbers s))
 
 -- ---- laws: different shapes have different numbers, and different numbers different bytes

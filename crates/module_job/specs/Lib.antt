@@ -1,9 +1,9 @@
 pub mod Equality
 pub mod Groups
-pub mod JobFields
+pub mod JobView
 pub mod Jobs
 pub mod Keys
 pub mod Laws
-pub mod ShapeFields
+pub mod ShapeView
 pub mod Shapes
 pub mod Signals

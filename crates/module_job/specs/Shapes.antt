@@ -5,7 +5,7 @@ use Rattle.module_box.specs.Moves.{moved_cell, moved_signals}
 use Rattle.module_box.specs.Schedules.{Signals}
 use Rattle.module_box.specs.declared.boxes.Box2.{Box2}
 use Rattle.module_box.specs.declared.schedules.Signal.{Signal}
-use Rattle.module_job.specs.Jobs.{JobState}
+use Rattle.module_job.specs.Jobs.{JobView}
 use Rattle.module_job.specs.declared.job.Demand.{Demand}
 use Rattle.module_job.specs.declared.job.Stop.{Stop}
 
@@ -13,7 +13,7 @@ use Rattle.module_job.specs.declared.job.Stop.{Stop}
 -- corner were at (0, 0). It has the box's sides, the steps, and the gates over wires of its own. It has what its cells
 -- carry at time 0 and what they must be at the last time, row by row, and what the cells of ring and halo carry. It has
 -- its stops, and the gates that it keeps by their places.
-pub record ShapeState : Type 0 where
+pub record ShapeView : Type 0 where
   pub width : ℕ
   pub height : ℕ
   pub steps : ℕ
@@ -38,11 +38,11 @@ abbrev pub stops_from_corner : Box2 → List Stop → List Stop
 stops_from_corner b ss = map (moved_stop (pos b.x) (pos b.y)) ss
 
 -- as far as n, but the other way
-abbrev pub back : ℕ → ℤ
-back n = pos 0 -ℤ pos n
+abbrev pub shift_to_origin : ℕ → ℤ
+shift_to_origin n = pos 0 -ℤ pos n
 
 -- the job of this shape whose box has its corner at (x, y), and whose wires and gates are these of the circuit
-abbrev pub placed : ℕ → ℕ → List ℕ → List ℕ → ShapeState → JobState
+abbrev pub placed : ℕ → ℕ → List ℕ → List ℕ → ShapeView → JobView
 placed x y wires gates s = record {
   area = record { x = x; y = y; w = s.width; h = s.height };
   steps = s.steps;
@@ -56,7 +56,7 @@ placed x y wires gates s = record {
 }
 
 -- the shape of a job
-abbrev pub shape_of : JobState → ShapeState
+abbrev pub shape_of : JobView → ShapeView
 shape_of j = record {
   width = j.area.w;
   height = j.area.h;
@@ -64,8 +64,8 @@ shape_of j = record {
   netlist = j.locals.netlist;
   starts = j.starts;
   demands = j.demands;
-  edges = moved_signals (back j.area.x) (back j.area.y) j.edges;
-  halos = moved_signals (back j.area.x) (back j.area.y) j.halos;
-  stops = map (moved_stop (back j.area.x) (back j.area.y)) j.stops;
+  edges = moved_signals (shift_to_origin j.area.x) (shift_to_origin j.area.y) j.edges;
+  halos = moved_signals (shift_to_origin j.area.x) (shift_to_origin j.area.y) j.halos;
+  stops = map (moved_stop (shift_to_origin j.area.x) (shift_to_origin j.area.y)) j.stops;
   kept = j.kept;
 }

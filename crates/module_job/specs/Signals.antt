@@ -3,7 +3,7 @@ use Rattle.std.specs.Prelude.{◌≡◌, ℕ, ◌<◌, Bool, true, false, map}
 use Rattle.circuit.specs.Meaning.{Valuation}
 use Rattle.module_box.specs.Schedules.{Signals}
 use Rattle.module_box.specs.declared.schedules.Event.{Event}
-use Rattle.module_box.specs.declared.schedules.Held.{Held}
+use Rattle.module_box.specs.declared.schedules.AllTimes.{AllTimes}
 use Rattle.module_box.specs.declared.schedules.Signal.{Signal}
 use Rattle.module_box.specs.declared.schedules.Signal.TheVariants.{Zero, One, Wire}
 use Rattle.module_job.specs.declared.job.Demand.{Demand}
@@ -54,8 +54,8 @@ renumber_demand f (Demanded.Wire w) = Demanded.Wire (f w)
 renumber_demand f Demanded.Any = Demanded.Any
 
 -- the signal at all times with another number for its wire
-abbrev pub renumber_held : (ℕ → ℕ) → Held → Held
-renumber_held f h = record h { signal = renumber_signal f h.signal }
+abbrev pub renumber_all_times : (ℕ → ℕ) → AllTimes → AllTimes
+renumber_all_times f h = record h { signal = renumber_signal f h.signal }
 
 -- the event with another number for its wire
 abbrev pub renumber_event : (ℕ → ℕ) → Event → Event
@@ -67,4 +67,5 @@ renumber_stop f s = record s { wire = f s.wire }
 
 -- the signals with other numbers for their wires
 abbrev pub renumber_signals : (ℕ → ℕ) → Signals → Signals
-renumber_signals f s = record { held = map (renumber_held f) s.held; events = map (renumber_event f) s.events }
+renumber_signals f s =
+    record { all_times = map (renumber_all_times f) s.all_times; events = map (renumber_event f) s.events }

@@ -18,7 +18,7 @@ fn first_with(
     number: usize,
 ) -> Result<usize, AllocError>
     ensures first { IfOk result (λ first. first ≡ unwrap_or (get same_key firsts.old key) number) }
-    ensures kept { IfOk result (λ first. (other : List ℕ) →
+    ensures first_is_added { IfOk result (λ first. (other : List ℕ) →
         get same_key firsts.new other
         ≡ (if same_key key other then Some first else get same_key firsts.old other)) }
 {

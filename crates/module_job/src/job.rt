@@ -6,7 +6,7 @@ ghost use Rattle.module_box.specs.Locals.{circuit_gate, circuit_wire, is_among};
 ghost use Rattle.module_box.specs.Moves.{IsNear, IsSmall};
 ghost use Rattle.module_box.specs.Schedules.{signal_at};
 ghost use Rattle.module_job.specs.Jobs.{IsJob, job_demand, job_start};
-ghost use Rattle.module_job.specs.Shapes.{back, shape_of};
+ghost use Rattle.module_job.specs.Shapes.{shift_to_origin, shape_of};
 
 use crate::shape::Shape;
 use crate::stops::moved_stop;
@@ -38,7 +38,7 @@ pub struct Stop {
     pub wire: u16,
 }
 
-/// The data that the run of a module by itself needs. Contracts see it as a `JobState`.
+/// The data that the run of a module by itself needs. Contracts see it as a `JobView`.
 ///
 /// - its box, the steps, and the wires and gates that it knows;
 /// - what the cells of the box carry at time 0, and what they must be at the last time;
@@ -63,30 +63,30 @@ pub struct Job {
 }
 
 impl Model for Job {
-    ghost use Rattle.module_job.specs.Jobs.{JobState};
+    ghost use Rattle.module_job.specs.Jobs.{JobView};
 
-    ghost Value = { JobState };
+    ghost Value = { JobView };
 
-    ghost use Rattle.module_job.specs.JobFields.{job_state, IsKeptJob};
+    ghost use Rattle.module_job.specs.JobView.{job_view, IsStoredJob};
 
-    ghost view = { job_state };
+    ghost view = { job_view };
 
-    ghost invariant = { IsKeptJob };
+    ghost invariant = { IsStoredJob };
 }
 
 /// Returns how far to move the cells of a box with this corner so that its corner comes to (0, 0).
-pub fn back(corner: u32) -> i32
+pub fn shift_to_origin(corner: u32) -> i32
     requires { corner ≤ 512 }
-    ensures is { result ≡ back corner }
+    ensures distance_is_exact { result ≡ shift_to_origin corner }
     ensures small { IsSmall result }
 {
     0 - corner as i32
 }
 
 // How far they are moved to come from there to the box.
-fn forth(corner: u32) -> i32
+fn shift_from_origin(corner: u32) -> i32
     requires { corner ≤ 512 }
-    ensures is { result ≡ pos corner }
+    ensures distance_is_exact { result ≡ pos corner }
     ensures small { IsSmall result }
 {
     corner as i32
@@ -181,7 +181,7 @@ impl Job {
         requires { IsNear cell }
         ensures { result ≡ signal_at self.now.edges time cell.x cell.y }
     {
-        let own = moved_cell(cell, back(self.x), back(self.y));
+        let own = moved_cell(cell, shift_to_origin(self.x), shift_to_origin(self.y));
         self.shape.edges().at(time, own)
     }
 
@@ -190,7 +190,7 @@ impl Job {
         requires { IsNear cell }
         ensures { result ≡ signal_at self.now.halos time cell.x cell.y }
     {
-        let own = moved_cell(cell, back(self.x), back(self.y));
+        let own = moved_cell(cell, shift_to_origin(self.x), shift_to_origin(self.y));
         self.shape.halos().at(time, own)
     }
 
@@ -207,7 +207,7 @@ impl Job {
         ensures { slice_get self.now.edges.events place ≡ Some result }
     {
         let event = self.shape.edges().events()[place];
-        moved_event(event, forth(self.x), forth(self.y))
+        moved_event(event, shift_from_origin(self.x), shift_from_origin(self.y))
     }
 
     /// Returns how many signals cells of the halo have at single times.
@@ -223,7 +223,7 @@ impl Job {
         ensures { slice_get self.now.halos.events place ≡ Some result }
     {
         let event = self.shape.halos().events()[place];
-        moved_event(event, forth(self.x), forth(self.y))
+        moved_event(event, shift_from_origin(self.x), shift_from_origin(self.y))
     }
 
     /// Returns how many stops there are.
@@ -241,7 +241,7 @@ impl Job {
         ensures { slice_get self.now.stops place ≡ Some result }
     {
         let stop = self.shape.stops()[place];
-        moved_stop(stop, forth(self.x), forth(self.y))
+        moved_stop(stop, shift_from_origin(self.x), shift_from_origin(self.y))
     }
 
     /// Returns whether the module keeps the gate at this place among those that it uses.

@@ -2,12 +2,12 @@
 ghost use Rattle.std.specs.Prelude.{◌≡◌, ◌+◌, ◌^◌, ◌<◌, ◌++◌, [], ◌∷◌, length, IfOk, OnOk};
 ghost use Rattle.std.specs.List.{All, flat_map};
 ghost use Rattle.module_box.specs.Numbers.{counted};
-ghost use Rattle.module_job.specs.Keys.{cell_entry, cell_numbers, cells_numbers, demand_number, event_numbers, held_numbers, integer_number, number_bytes, shape_key, shape_numbers, signal_number, signal_numbers, signals_numbers, stop_numbers};
+ghost use Rattle.module_job.specs.Keys.{cell_entry, cell_numbers, cells_numbers, demand_number, event_numbers, all_times_numbers, integer_number, number_bytes, shape_key, shape_numbers, signal_number, signal_numbers, signals_numbers, stop_numbers};
 
 use crate::job::{Demand, Stop};
 use crate::shape::Shape;
 use bbm_rule::Cell;
-use module_box::{Event, Held, Schedule, Signal};
+use module_box::{AllTimes, Event, Schedule, Signal};
 use sha2::{Digest, Sha256};
 use std::alloc::{AllocError, Global};
 
@@ -50,11 +50,11 @@ fn push_cell(numbers: &mut Vec<u64>, cell: Cell) -> Result<(), AllocError>
     Ok(())
 }
 
-fn push_held(numbers: &mut Vec<u64>, held: Held) -> Result<(), AllocError>
-    ensures { OnOk result (numbers.new.items ≡ numbers.old.items ++ held_numbers held) }
+fn push_all_times(numbers: &mut Vec<u64>, all_times: AllTimes) -> Result<(), AllocError>
+    ensures { OnOk result (numbers.new.items ≡ numbers.old.items ++ all_times_numbers all_times) }
 {
-    push_cell(numbers, held.cell)?;
-    numbers.push(signal_number(held.signal))?;
+    push_cell(numbers, all_times.cell)?;
+    numbers.push(signal_number(all_times.signal))?;
     Ok(())
 }
 
@@ -115,12 +115,15 @@ fn push_demands(numbers: &mut Vec<u64>, demands: &[Demand]) -> Result<(), AllocE
     Ok(())
 }
 
-fn push_helds(numbers: &mut Vec<u64>, helds: &[Held]) -> Result<(), AllocError>
+fn push_all_times_list(
+    numbers: &mut Vec<u64>,
+    all_times_list: &[AllTimes],
+) -> Result<(), AllocError>
     ensures { OnOk result (numbers.new.items
-        ≡ numbers.old.items ++ flat_map held_numbers helds.now) }
+        ≡ numbers.old.items ++ flat_map all_times_numbers all_times_list.now) }
 {
-    for held in helds {
-        push_held(numbers, *held)?;
+    for all_times in all_times_list {
+        push_all_times(numbers, *all_times)?;
     }
     Ok(())
 }
@@ -159,8 +162,8 @@ fn push_kept(numbers: &mut Vec<u64>, kept: &[u16]) -> Result<(), AllocError>
 fn push_schedule(numbers: &mut Vec<u64>, schedule: &Schedule) -> Result<(), AllocError>
     ensures { OnOk result (numbers.new.items ≡ numbers.old.items ++ signals_numbers schedule.now) }
 {
-    numbers.push(schedule.held().len() as u64)?;
-    push_helds(numbers, schedule.held())?;
+    numbers.push(schedule.all_times().len() as u64)?;
+    push_all_times_list(numbers, schedule.all_times())?;
     numbers.push(schedule.events().len() as u64)?;
     push_events(numbers, schedule.events())
 }

@@ -13,6 +13,6 @@ mod shape;
 mod stops;
 
 pub use groups::{job_groups, shape_groups};
-pub use job::{Demand, Job, Stop, back};
+pub use job::{Demand, Job, Stop, shift_to_origin};
 pub use shape::Shape;
 pub use stops::moved_stops;

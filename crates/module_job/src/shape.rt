@@ -6,7 +6,7 @@ use crate::job::{Demand, Stop};
 use module_box::{Schedule, Signal, Wiring};
 use std::marker::Model;
 
-/// A job without its place and without its names of wires. Contracts see it as a `ShapeState`.
+/// A job without its place and without its names of wires. Contracts see it as a `ShapeView`.
 ///
 /// It is all that the run of a module by itself needs, as if the box had its corner at (0, 0). The numbers of its wires
 /// and gates in the circuit are left out. Modules that differ in nothing else have equal shapes.
@@ -35,13 +35,13 @@ pub struct Shape {
 }
 
 impl Model for Shape {
-    ghost use Rattle.module_job.specs.Shapes.{ShapeState};
+    ghost use Rattle.module_job.specs.Shapes.{ShapeView};
 
-    ghost Value = { ShapeState };
+    ghost Value = { ShapeView };
 
-    ghost use Rattle.module_job.specs.ShapeFields.{shape_state};
+    ghost use Rattle.module_job.specs.ShapeView.{shape_view};
 
-    ghost view = { shape_state };
+    ghost view = { shape_view };
 }
 
 impl Shape {

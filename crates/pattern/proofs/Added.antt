@@ -7,11 +7,11 @@ use Rattle.std.proofs.lemmas.List.{map-append}
 use Rattle.std.proofs.lemmas.List.Folds.{list_any-append}
 use Rattle.bbm_rule.specs.declared.block.Cell.{Cell}
 use Rattle.section_text.specs.Codes.{code_where}
-use Rattle.pattern.specs.declared.parts.Rectangle.{Rectangle}
-use Rattle.pattern.specs.declared.parts.Port.{Port}
-use Rattle.pattern.specs.declared.parts.Extent.{Extent}
-use Rattle.pattern.specs.declared.parts.Part.{Part}
-use Rattle.pattern.specs.declared.parts.Part.TheVariants.{Mirror, Ball, In, Out, Waste}
+use Rattle.pattern.specs.declared.layout_line.Rectangle.{Rectangle}
+use Rattle.pattern.specs.declared.layout_line.Port.{Port}
+use Rattle.pattern.specs.declared.layout_line.LayoutHeader.{LayoutHeader}
+use Rattle.pattern.specs.declared.layout_line.LayoutLine.{LayoutLine}
+use Rattle.pattern.specs.declared.layout_line.LayoutLine.TheVariants.{Mirror, Ball, In, Out, Waste}
 use Rattle.pattern.specs.Layout.{Pattern, parts_of}
 use Rattle.pattern.specs.Lines.{is_late, order_fault, limit_fault, cell_fault, begins, ends, holds, begun, ended}
 use Rattle.pattern.specs.Lines.{AreGoodAfter}
@@ -55,7 +55,7 @@ module _ {A B C D : Type 0} (ks : List A) (ls : List B) (ms : List C) (ns : List
       }
 
 -- the line stands behind the others of its kind, and no line of a later kind stands
-module _ (p v : Pattern) (same : v ≡ p) (part : Part) (follows : order_fault (parts_of v) part ≡ None) where
+module _ (p v : Pattern) (same : v ≡ p) (part : LayoutLine) (follows : order_fault (parts_of v) part ≡ None) where
   not_late : is_late (parts_of p) part ≡ false
   unfolding order_fault
   not_late = subst (λ (q : Pattern). is_late (parts_of q) part ≡ false) same
@@ -111,18 +111,18 @@ module _ (p v : Pattern) (same : v ≡ p) (part : Part) (follows : order_fault (
 
 -- ---- one more good line
 
-good_push : (s : Extent) (before parts : List Part) (part : Part) → AreGoodAfter s before parts →
+good_push : (s : LayoutHeader) (before parts : List LayoutLine) (part : LayoutLine) → AreGoodAfter s before parts →
     limit_fault part ≡ None → cell_fault s (before ++ parts) part ≡ None → AreGoodAfter s before (parts ++ part ∷ [])
 good_push s before [] part good limit cells =
-    (limit, subst (λ (l : List Part). cell_fault s l part ≡ None) (append-nil before) cells, tt)
+    (limit, subst (λ (l : List LayoutLine). cell_fault s l part ≡ None) (append-nil before) cells, tt)
 good_push s before (q ∷ parts) part good limit cells = (
   good.0,
   good.1,
   good_push s (before ++ q ∷ []) parts part good.2 limit
-      (subst (λ (l : List Part). cell_fault s l part ≡ None) (sym (append_assoc before (q ∷ []) parts)) cells),
+      (subst (λ (l : List LayoutLine). cell_fault s l part ≡ None) (sym (append_assoc before (q ∷ []) parts)) cells),
 )
 
-pub good_more : (s : Extent) (p v : Pattern) (same : v ≡ p) (q : List Part) (part : Part) →
+pub good_more : (s : LayoutHeader) (p v : Pattern) (same : v ≡ p) (q : List LayoutLine) (part : LayoutLine) →
     AreGoodAfter s [] (parts_of p) → q ≡ parts_of v ++ part ∷ [] → limit_fault part ≡ None →
     cell_fault s (parts_of v) part ≡ None → AreGoodAfter s [] q
 good_more s p v same q part good more limit cells =
@@ -135,12 +135,12 @@ good_more s p v same q part good more limit cells =
 or_last : (a b : Bool) → (a || (b || false)) ≡ (a || b)
 or_last a b = grind arith
 
-pub begun_push : (parts : List Part) (part : Part) (x y : ℤ) →
+pub begun_push : (parts : List LayoutLine) (part : LayoutLine) (x y : ℤ) →
     begun (parts ++ part ∷ []) x y ≡ (begun parts x y || (begins part && holds part x y))
 unfolding begun
 begun_push parts part x y = list_any-append (λ b. begins b && holds b x y) parts (part ∷ []) ∙ or_last _ _
 
-pub ended_push : (parts : List Part) (part : Part) (x y : ℤ) →
+pub ended_push : (parts : List LayoutLine) (part : LayoutLine) (x y : ℤ) →
     ended (parts ++ part ∷ []) x y ≡ (ended parts x y || (ends part && holds part x y))
 unfolding ended
 ended_push parts part x y = list_any-append (λ b. ends b && holds b x y) parts (part ∷ []) ∙ or_last _ _

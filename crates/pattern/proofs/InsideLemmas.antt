@@ -8,11 +8,11 @@ use Rattle.bbm_rule.specs.Plane.{is_at}
 use Rattle.bbm_rule.specs.Spans.{in_span}
 use Rattle.bbm_rule.specs.declared.block.Cell.{Cell}
 use Rattle.section_text.specs.Codes.{code_where}
-use Rattle.pattern.specs.declared.parts.Rectangle.{Rectangle}
-use Rattle.pattern.specs.declared.parts.Port.{Port}
-use Rattle.pattern.specs.declared.parts.Extent.{Extent}
-use Rattle.pattern.specs.declared.parts.Part.{Part}
-use Rattle.pattern.specs.declared.parts.Part.TheVariants.{Mirror, Ball, In}
+use Rattle.pattern.specs.declared.layout_line.Rectangle.{Rectangle}
+use Rattle.pattern.specs.declared.layout_line.Port.{Port}
+use Rattle.pattern.specs.declared.layout_line.LayoutHeader.{LayoutHeader}
+use Rattle.pattern.specs.declared.layout_line.LayoutLine.{LayoutLine}
+use Rattle.pattern.specs.declared.layout_line.LayoutLine.TheVariants.{Mirror, Ball, In}
 use Rattle.pattern.specs.Layout.{Pattern, in_rectangle, in_layout, in_cells, in_rectangles, in_ports_on, start}
 use Rattle.pattern.specs.Layout.{parts_of}
 use Rattle.pattern.proofs.TakenLemmas.{mirror_fits}
@@ -41,7 +41,7 @@ side_length : (n : ℕ) → is_side n ≡ true → IsSideLength n
 side_length n e =
     record { least = grind (arith, nat_tests); most = grind (arith, nat_tests); even = grind (arith, nat_tests) }
 
-pub size_sides : (s : Extent) → size_fault s ≡ None → IsSideLength s.w × IsSideLength s.h
+pub size_sides : (s : LayoutHeader) → size_fault s ≡ None → IsSideLength s.w × IsSideLength s.h
 unfolding size_fault
 size_sides s e =
     let good : (is_side s.w && is_side s.h && _) ≡ true = no_code _ 2 e in
@@ -54,12 +54,12 @@ first_holds : (a b : Bool) → code_where (not a || b) 7 ≡ None → a ≡ true
 first_holds true b e = refl
 first_holds false b e = cc
 
-part_inside : (s : Extent) (before : List Part) (part : Part) → cell_fault s before part ≡ None →
+part_inside : (s : LayoutHeader) (before : List LayoutLine) (part : LayoutLine) → cell_fault s before part ≡ None →
     is_inside s part ≡ true
 unfolding cell_fault
 part_inside s before part e = first_holds (is_inside s part) (is_taken before part) e
 
-parts_inside : (s : Extent) (before parts : List Part) → AreGoodAfter s before parts →
+parts_inside : (s : LayoutHeader) (before parts : List LayoutLine) → AreGoodAfter s before parts →
     list_all (is_inside s) parts ≡ true
 parts_inside s before [] h = refl
 parts_inside s before (part ∷ parts) h =
@@ -73,7 +73,7 @@ pub record BeginsInside (p : Pattern) : Type 0 where
 pub begins_inside : (p : Pattern) → AreGoodAfter p.size [] (parts_of p) → BeginsInside p
 begins_inside p h =
     let all = parts_inside p.size [] (parts_of p) h in
-    let test : Part → Bool = is_inside p.size in
+    let test : LayoutLine → Bool = is_inside p.size in
     let one = sym (list_all-append test (map Mirror p.mirrors) _) ∙ all in
     let two = sym (list_all-append test (map Ball p.balls) _) ∙ and_right _ _ one in
     let three = sym (list_all-append test (map In p.ins) _) ∙ and_right _ _ two in
@@ -83,7 +83,8 @@ begins_inside p h =
       ins = sym (list_all-map test In p.ins) ∙ and_left _ _ three;
     }
 
-pub mirrors_fit : (s : Extent) (rs : List Rectangle) → list_all (λ r. is_inside s (Mirror r)) rs ≡ true → s.w ≤ 512 →
+pub mirrors_fit : (s : LayoutHeader) (rs : List Rectangle) → list_all (λ r. is_inside s (Mirror r)) rs ≡ true →
+    s.w ≤ 512 →
     s.h ≤ 512 → (k : ℕ) (d : Rectangle) → k < length rs →
     ((get_or rs k d).x + (get_or rs k d).w ≤ 512) × ((get_or rs k d).y + (get_or rs k d).h ≤ 512)
 mirrors_fit s [] e w h k d lt = absurd (omega arith)
@@ -109,7 +110,8 @@ unfolding in_span
 span_within a n m (pos x) fits e = grind (arith, nat_tests)
 span_within a n m (negsuc x) fits e = cc
 
-rectangle_inside : (s : Extent) (r : Rectangle) (x y : ℤ) → is_inside s (Mirror r) ≡ true → in_rectangle r x y ≡ true →
+rectangle_inside : (s : LayoutHeader) (r : Rectangle) (x y : ℤ) → is_inside s (Mirror r) ≡ true →
+    in_rectangle r x y ≡ true →
     in_layout s x y ≡ true
 rectangle_inside s r x y e h =
     let f = mirror_fits s r e in
@@ -117,18 +119,19 @@ rectangle_inside s r x y e h =
     let down : in_span 0 s.h y ≡ true = span_within r.y r.h s.h y f.1 (and_right _ _ h) in
     rw (across, down) refl
 
-at_inside : (s : Extent) (c : Cell) (x y : ℤ) → in_layout s c.x c.y ≡ true → is_at c x y ≡ true → in_layout s x y ≡ true
+at_inside : (s : LayoutHeader) (c : Cell) (x y : ℤ) → in_layout s c.x c.y ≡ true → is_at c x y ≡ true →
+    in_layout s x y ≡ true
 at_inside s c x y e h =
     let across : c.x ≡ x = (Decides-int_eq c.x x).0 (and_left _ _ h) in
     let down : c.y ≡ y = (Decides-int_eq c.y y).0 (and_right _ _ h) in
     ap (λ (u : ℤ). in_layout s u y) (sym across) ∙ ap (λ (v : ℤ). in_layout s c.x v) (sym down) ∙ e
 
-ball_inside : (s : Extent) (c : Cell) (x y : ℤ) → is_inside s (Ball c) ≡ true → is_at c x y ≡ true →
+ball_inside : (s : LayoutHeader) (c : Cell) (x y : ℤ) → is_inside s (Ball c) ≡ true → is_at c x y ≡ true →
     in_layout s x y ≡ true
 unfolding is_inside
 ball_inside s c x y e h = at_inside s c x y e h
 
-port_inside : (s : Extent) (b : Bool) (q : Port) (x y : ℤ) → is_inside s (In q) ≡ true →
+port_inside : (s : LayoutHeader) (b : Bool) (q : Port) (x y : ℤ) → is_inside s (In q) ≡ true →
     (b && is_at q.cell x y) ≡ true → in_layout s x y ≡ true
 unfolding is_inside
 port_inside s b q x y e h = at_inside s q.cell x y e (and_right _ _ h)

@@ -4,27 +4,27 @@ use Rattle.std.specs.List.{AllByRecursion}
 use Rattle.std.proofs.lemmas.List.Elements.{All-from_recursion}
 use Rattle.section_text.specs.Ports.{Named}
 use Rattle.section_text.proofs.Good.{AreFaultless, IsFaultless}
-use Rattle.pattern.specs.declared.parts.Extent.{Extent}
-use Rattle.pattern.specs.declared.parts.Part.{Part}
+use Rattle.pattern.specs.declared.layout_line.LayoutHeader.{LayoutHeader}
+use Rattle.pattern.specs.declared.layout_line.LayoutLine.{LayoutLine}
 use Rattle.pattern.specs.Lines.{AreNamed, cell_fault, limit_fault, line_fault, name_fault, order_fault, part_fault}
 use Rattle.pattern.specs.Grammars.{layout_grammar}
 use Rattle.pattern.proofs.ReadingLemmas.{no_code_first, no_code_second}
 
-named_part : (ports : Option Named) (s : Extent) (before : List Part) (part : Part) →
+named_part : (ports : Option Named) (s : LayoutHeader) (before : List LayoutLine) (part : LayoutLine) →
     part_fault ports s before part ≡ None → name_fault ports part ≡ None
 unfolding part_fault line_fault
 named_part ports s before part e =
     let line = no_code_first (line_fault ports before part) (cell_fault s before part) e in
     no_code_second (limit_fault part) (name_fault ports part) (no_code_second (order_fault before part) _ line)
 
-named_parts : (ports : Option Named) (s : Extent) (before parts : List Part) →
+named_parts : (ports : Option Named) (s : LayoutHeader) (before parts : List LayoutLine) →
     AreFaultless (layout_grammar ports) s before parts → AllByRecursion (λ part. name_fault ports part ≡ None) parts
 named_parts ports s before [] good = tt
 named_parts ports s before (part ∷ parts) good =
     (named_part ports s before part good.0, named_parts ports s (before ++ part ∷ []) parts good.1)
 
 -- where they have no fault
-pub faultless_named : (ports : Option Named) (s : Extent) (parts : List Part) →
+pub faultless_named : (ports : Option Named) (s : LayoutHeader) (parts : List LayoutLine) →
     IsFaultless (layout_grammar ports) s parts → AreNamed ports parts
 faultless_named ports s parts good = record {
   good = All-from_recursion (λ part. name_fault ports part ≡ None) parts (named_parts ports s [] parts good.each);

@@ -4,10 +4,10 @@ use Rattle.std.specs.Prelude.{nat_lt, ◌==◌}
 use Rattle.std.specs.List.{list_any}
 use Rattle.std.proofs.lemmas.List.Folds.{list_any-append}
 use Rattle.bbm_rule.specs.declared.block.Cell.{Cell}
-use Rattle.pattern.specs.declared.parts.Rectangle.{Rectangle}
-use Rattle.pattern.specs.declared.parts.Port.{Port}
-use Rattle.pattern.specs.declared.parts.Part.{Part}
-use Rattle.pattern.specs.declared.parts.Part.TheVariants.{Mirror, Ball, In, Out, Waste}
+use Rattle.pattern.specs.declared.layout_line.Rectangle.{Rectangle}
+use Rattle.pattern.specs.declared.layout_line.Port.{Port}
+use Rattle.pattern.specs.declared.layout_line.LayoutLine.{LayoutLine}
+use Rattle.pattern.specs.declared.layout_line.LayoutLine.TheVariants.{Mirror, Ball, In, Out, Waste}
 use Rattle.pattern.specs.Layout.{Pattern, parts_of}
 use Rattle.pattern.specs.Lines.{rank_of, is_late}
 
@@ -15,10 +15,11 @@ use Rattle.pattern.specs.Lines.{rank_of, is_late}
 abbrev pub some : {X : Type 0} → List X → Bool
 some xs = not (length xs == 0)
 
-later : ℕ → Part → Bool
+later : ℕ → LayoutLine → Bool
 later k b = nat_lt k (rank_of b)
 
-any_map : {X : Type 0} (k : ℕ) (f : X → Part) (v : Bool) → ((x : X) → nat_lt k (rank_of (f x)) ≡ v) → (xs : List X) →
+any_map : {X : Type 0} (k : ℕ) (f : X → LayoutLine) (v : Bool) → ((x : X) → nat_lt k (rank_of (f x)) ≡ v) →
+    (xs : List X) →
     list_any (λ b. nat_lt k (rank_of b)) (map f xs) ≡ (v && some xs)
 any_map k f v same [] = grind arith
 any_map k f v same (x ∷ xs) = rw (same x, any_map k f v same xs) (grind arith)

@@ -8,20 +8,21 @@ use Rattle.std.proofs.lemmas.Bool.Decides.{Decides-int_eq}
 use Rattle.bbm_rule.specs.Plane.{State, is_at}
 use Rattle.bbm_rule.specs.declared.block.Cell.{Cell}
 use Rattle.section_text.specs.Codes.{code_where}
-use Rattle.pattern.specs.declared.parts.Port.{Port}
-use Rattle.pattern.specs.declared.parts.Extent.{Extent}
-use Rattle.pattern.specs.declared.parts.Part.{Part}
-use Rattle.pattern.specs.declared.parts.Part.TheVariants.{Mirror, Ball, In, Out, Waste}
+use Rattle.pattern.specs.declared.layout_line.Port.{Port}
+use Rattle.pattern.specs.declared.layout_line.LayoutHeader.{LayoutHeader}
+use Rattle.pattern.specs.declared.layout_line.LayoutLine.{LayoutLine}
+use Rattle.pattern.specs.declared.layout_line.LayoutLine.TheVariants.{Mirror, Ball, In, Out, Waste}
 use Rattle.pattern.specs.Layout.{Pattern, HaveOwnCells, parts_of}
 use Rattle.pattern.specs.Lines.{is_inside, is_taken, cell_fault, begins, ends, cells_of, begun, ended, AreGoodAfter}
 use Rattle.pattern.proofs.Added.{no_code, begun_push, ended_push}
 
 -- the lines behind others are good after them
-good_behind : (s : Extent) (before front back : List Part) → AreGoodAfter s before (front ++ back) →
+good_behind : (s : LayoutHeader) (before front back : List LayoutLine) → AreGoodAfter s before (front ++ back) →
     AreGoodAfter s (before ++ front) back
-good_behind s before [] back good = subst (λ (l : List Part). AreGoodAfter s l back) (sym (append-nil before)) good
+good_behind s before [] back good =
+    subst (λ (l : List LayoutLine). AreGoodAfter s l back) (sym (append-nil before)) good
 good_behind s before (part ∷ front) back good =
-    subst (λ (l : List Part). AreGoodAfter s l back) (append_assoc before (part ∷ []) front)
+    subst (λ (l : List LayoutLine). AreGoodAfter s l back) (append_assoc before (part ∷ []) front)
     (good_behind s (before ++ part ∷ []) front back good.2)
 
 at_itself : (c : Cell) → is_at c c.x c.y ≡ true
@@ -42,13 +43,13 @@ one_of : (b : Bool) → (b || false) ≡ false → b ≡ false
 one_of b e = grind arith
 
 -- ports of one kind, each good after those before it, where `taken` are the cells that lines of their kind may not have
-module _ (make : Port → Part) (taken : List Part → State)
-    (is_free : (s : Extent) (before : List Part) (p : Port) → cell_fault s before (make p) ≡ None →
+module _ (make : Port → LayoutLine) (taken : List LayoutLine → State)
+    (is_free : (s : LayoutHeader) (before : List LayoutLine) (p : Port) → cell_fault s before (make p) ≡ None →
     taken before p.cell.x p.cell.y ≡ false)
-    (one_more : (before : List Part) (p : Port) (x y : ℤ) →
+    (one_more : (before : List LayoutLine) (p : Port) (x y : ℤ) →
     taken (before ++ make p ∷ []) x y ≡ (taken before x y || (is_at p.cell x y || false)))
-    (s : Extent) (rest : List Part) where
-  free : (before : List Part) (ports : List Port) → AreGoodAfter s before (map make ports ++ rest) →
+    (s : LayoutHeader) (rest : List LayoutLine) where
+  free : (before : List LayoutLine) (ports : List Port) → AreGoodAfter s before (map make ports ++ rest) →
       (i : ℕ) (q : Port) → slice_get ports i ≡ Some q → taken before q.cell.x q.cell.y ≡ false
   free before [] good i q e = absurd cc
   free before (p ∷ ports) good zero q e = let same : p ≡ q = same_Some p q e in
@@ -58,7 +59,8 @@ module _ (make : Port → Part) (taken : List Part → State)
       (sym (one_more before p q.cell.x q.cell.y) ∙ free (before ++ make p ∷ []) ports good.2 i q e)
 
   -- the first port and a later one
-  not_one : (before : List Part) (p : Port) (ports : List Port) → AreGoodAfter s before (map make (p ∷ ports) ++ rest) →
+  not_one : (before : List LayoutLine) (p : Port) (ports : List Port) →
+      AreGoodAfter s before (map make (p ∷ ports) ++ rest) →
       (i : ℕ) (q : Port) → slice_get ports i ≡ Some q → p.cell ≡ q.cell → ⊥
   not_one before p ports good i q e same =
       let none = or_right (taken before q.cell.x q.cell.y) (is_at p.cell q.cell.x q.cell.y)
@@ -67,7 +69,8 @@ module _ (make : Port → Part) (taken : List Part → State)
       subst (λ (c : Cell). is_at p.cell c.x c.y ≡ true) same (at_itself p.cell) in
       true≢false (sym all ∙ none)
 
-  own : (before : List Part) (ports : List Port) → AreGoodAfter s before (map make ports ++ rest) → HaveOwnCells ports
+  own : (before : List LayoutLine) (ports : List Port) → AreGoodAfter s before (map make ports ++ rest) →
+      HaveOwnCells ports
   own before [] good i j p q ei ej same = absurd cc
   own before (r ∷ ports) good zero zero p q ei ej same = refl
   own before (r ∷ ports) good zero (suc j) p q ei ej same =
@@ -77,22 +80,22 @@ module _ (make : Port → Part) (taken : List Part → State)
   own before (r ∷ ports) good (suc i) (suc j) p q ei ej same =
       ap (λ (n : ℕ). suc n) (own (before ++ make r ∷ []) ports good.2 i j p q ei ej same)
 
-in_free : (s : Extent) (before : List Part) (p : Port) → cell_fault s before (In p) ≡ None →
+in_free : (s : LayoutHeader) (before : List LayoutLine) (p : Port) → cell_fault s before (In p) ≡ None →
     begun before p.cell.x p.cell.y ≡ false
 unfolding cell_fault is_taken cells_of begins
 in_free s before p e = one_of (begun before p.cell.x p.cell.y) (not_taken (is_inside s (In p)) _ e)
 
-out_free : (s : Extent) (before : List Part) (p : Port) → cell_fault s before (Out p) ≡ None →
+out_free : (s : LayoutHeader) (before : List LayoutLine) (p : Port) → cell_fault s before (Out p) ≡ None →
     ended before p.cell.x p.cell.y ≡ false
 unfolding cell_fault is_taken cells_of begins
 out_free s before p e = one_of (ended before p.cell.x p.cell.y) (not_taken (is_inside s (Out p)) _ e)
 
-in_more : (before : List Part) (p : Port) (x y : ℤ) →
+in_more : (before : List LayoutLine) (p : Port) (x y : ℤ) →
     begun (before ++ In p ∷ []) x y ≡ (begun before x y || (is_at p.cell x y || false))
 unfolding cells_of begins
 in_more before p x y = begun_push before (In p) x y
 
-out_more : (before : List Part) (p : Port) (x y : ℤ) →
+out_more : (before : List LayoutLine) (p : Port) (x y : ℤ) →
     ended (before ++ Out p ∷ []) x y ≡ (ended before x y || (is_at p.cell x y || false))
 unfolding cells_of ends
 out_more before p x y = ended_push before (Out p) x y

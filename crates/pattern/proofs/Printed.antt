@@ -5,7 +5,7 @@ use Rattle.std.specs.List.{flat_map}
 use Rattle.std.proofs.lemmas.Grind.{flat_map-append}
 use Rattle.std.proofs.lemmas.List.Folds.{flat_map-map}
 use Rattle.section_text.specs.Spelling.{line_text}
-use Rattle.pattern.specs.declared.parts.Part.TheVariants.{Mirror, Ball, In, Out, Waste}
+use Rattle.pattern.specs.declared.layout_line.LayoutLine.TheVariants.{Mirror, Ball, In, Out, Waste}
 use Rattle.pattern.specs.Layout.{Pattern, parts_of}
 use Rattle.pattern.specs.Text.{cell_words, rectangle_words, port_words, size_words, part_text, layout_text}
 

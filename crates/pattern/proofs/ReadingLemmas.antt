@@ -6,7 +6,7 @@ use Rattle.section_text.specs.Codes.{or_else, code_where}
 use Rattle.section_text.specs.Ports.{Named, named_ports}
 use Rattle.section_text.specs.declared.ports.PortNames.{PortNames}
 use Rattle.section_text.specs.declared.ports.PortNames.TheVariants.{Any, Only}
-use Rattle.pattern.specs.declared.parts.Part.{Part}
+use Rattle.pattern.specs.declared.layout_line.LayoutLine.{LayoutLine}
 use Rattle.section_text.specs.Words.{has}
 use Rattle.pattern.specs.Lines.{is_in, is_out, order_fault, limit_fault, name_fault, line_fault, missing_fault}
 
@@ -18,7 +18,8 @@ pub no_code_second : (a b : Option ℕ) → or_else a b ≡ None → b ≡ None
 no_code_second None b e = e
 no_code_second (Some code) b e = absurd cc
 
-module _ (ports : Option Named) (before : List Part) (part : Part) (good : line_fault ports before part ≡ None) where
+module _ (ports : Option Named) (before : List LayoutLine) (part : LayoutLine)
+    (good : line_fault ports before part ≡ None) where
   pub in_order : order_fault before part ≡ None
   unfolding line_fault
   in_order = no_code_first (order_fault before part) (or_else (limit_fault part) (name_fault ports part)) good
@@ -35,7 +36,7 @@ all_same p q same [] = refl
 all_same p q same (n ∷ names) = ap (λ b. b && list_all p names) (same n) ∙ ap (λ b. q n && b) (all_same p q same names)
 
 -- what is missing at the end
-module _ (ports : PortNames) (parts : List Part) where
+module _ (ports : PortNames) (parts : List LayoutLine) where
   pub none_missing : ports ≡ Any → None ≡ missing_fault (named_ports ports) parts
   unfolding missing_fault
   none_missing any = rw any refl

@@ -7,7 +7,7 @@ use Rattle.std.proofs.lemmas.List.Folds.{list_any-append}
 use Rattle.bbm_rule.specs.Plane.{is_at}
 use Rattle.bbm_rule.specs.Spans.{in_span}
 use Rattle.bbm_rule.specs.declared.block.Cell.{Cell}
-use Rattle.pattern.specs.declared.parts.Rectangle.{Rectangle}
+use Rattle.pattern.specs.declared.layout_line.Rectangle.{Rectangle}
 use Rattle.pattern.specs.Layout.{row_cells, rectangle_cells, in_cells, in_rectangle}
 
 span_none : (a : ℕ) (x : ℤ) → in_span a 0 x ≡ false

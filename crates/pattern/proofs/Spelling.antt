@@ -11,10 +11,10 @@ use Rattle.section_text.proofs.Spellings.{chosen, passed, number_at_spelled, one
 use Rattle.section_text.proofs.Spellings.{five_words}
 use Rattle.section_text.proofs.WordPlaces.{is_at_is, name_at_is, line_from_words}
 use Rattle.bbm_rule.specs.declared.block.Cell.{Cell}
-use Rattle.pattern.specs.declared.parts.Rectangle.{Rectangle}
-use Rattle.pattern.specs.declared.parts.Port.{Port}
-use Rattle.pattern.specs.declared.parts.Extent.{Extent}
-use Rattle.pattern.specs.declared.parts.Part.TheVariants.{Mirror, Ball, In, Out, Waste}
+use Rattle.pattern.specs.declared.layout_line.Rectangle.{Rectangle}
+use Rattle.pattern.specs.declared.layout_line.Port.{Port}
+use Rattle.pattern.specs.declared.layout_line.LayoutHeader.{LayoutHeader}
+use Rattle.pattern.specs.declared.layout_line.LayoutLine.TheVariants.{Mirror, Ball, In, Out, Waste}
 use Rattle.pattern.specs.Layout.{cell}
 use Rattle.pattern.specs.Forms.{Line, cell_from, lone_cell, named_cell, port_of, corner_and_sides, rectangle_of}
 use Rattle.pattern.specs.Forms.{sides_and_steps, size_of, form_of}
@@ -72,7 +72,7 @@ rectangle_spelled ws v r at e =
     (number_at_spelled ws 1 x ex) (number_at_spelled ws 2 y ey) (number_at_spelled ws 3 w ew)
     (number_at_spelled ws 4 h eh))))))
 
-size_spelled : (ws : List (List ℕ)) (v : List ℕ) (s : Extent) → is_word_at ws 0 v ≡ true → size_of ws ≡ Some s →
+size_spelled : (ws : List (List ℕ)) (v : List ℕ) (s : LayoutHeader) → is_word_at ws 0 v ≡ true → size_of ws ≡ Some s →
     ws ≡ v ∷ size_words s
 unfolding size_of sides_and_steps
 size_spelled ws v s at e =
@@ -82,7 +82,7 @@ size_spelled ws v s at e =
     option_and_then_some (λ h. number_at ws 3 >>= λ t. Some (record { w = w; h = h; steps = t })) (number_at ws 2) s rw'
     (λ h eh rh.
     option_and_then_some (λ t. Some (record { w = w; h = h; steps = t })) (number_at ws 3) s rh (λ t et made.
-    subst (λ (q : Extent). ws ≡ v ∷ size_words q) (same_Some (record { w = w; h = h; steps = t }) s made)
+    subst (λ (q : LayoutHeader). ws ≡ v ∷ size_words q) (same_Some (record { w = w; h = h; steps = t }) s made)
     (four_words ws v (decimal w) (decimal h) (decimal t) (eqb-true _ _ found.0) (is_at_is ws 0 v at)
     (number_at_spelled ws 1 w ew) (number_at_spelled ws 2 h eh) (number_at_spelled ws 3 t et)))))
 

@@ -4,8 +4,8 @@ use Rattle.std.specs.List.{flat_map, filter, list_any}
 use Rattle.std.proofs.lemmas.List.Folds.{list_any-append}
 use Rattle.bbm_rule.specs.Plane.{is_at}
 use Rattle.bbm_rule.specs.declared.block.Cell.{Cell}
-use Rattle.pattern.specs.declared.parts.Rectangle.{Rectangle}
-use Rattle.pattern.specs.declared.parts.Port.{Port}
+use Rattle.pattern.specs.declared.layout_line.Rectangle.{Rectangle}
+use Rattle.pattern.specs.declared.layout_line.Port.{Port}
 use Rattle.pattern.specs.Layout.{Pattern, in_cells, in_rectangles, in_ports_on, rectangle_cells, start}
 use Rattle.pattern.specs.Run.{start_list}
 use Rattle.pattern.proofs.RectangleLemmas.{in_rectangle_cells}

@@ -9,10 +9,10 @@ use Rattle.bbm_rule.specs.Board.{Board, live, is_inside as is_on_board}
 use Rattle.bbm_rule.specs.Spans.{in_span}
 use Rattle.bbm_rule.proofs.Boards.{inside_is_span}
 use Rattle.bbm_rule.specs.declared.block.Cell.{Cell}
-use Rattle.pattern.specs.declared.parts.Rectangle.{Rectangle}
-use Rattle.pattern.specs.declared.parts.Extent.{Extent}
-use Rattle.pattern.specs.declared.parts.Part.{Part}
-use Rattle.pattern.specs.declared.parts.Part.TheVariants.{Mirror, Ball, In, Out, Waste}
+use Rattle.pattern.specs.declared.layout_line.Rectangle.{Rectangle}
+use Rattle.pattern.specs.declared.layout_line.LayoutHeader.{LayoutHeader}
+use Rattle.pattern.specs.declared.layout_line.LayoutLine.{LayoutLine}
+use Rattle.pattern.specs.declared.layout_line.LayoutLine.TheVariants.{Mirror, Ball, In, Out, Waste}
 use Rattle.pattern.specs.Layout.{cell, row_cells, rectangle_cells, in_cells, in_layout}
 use Rattle.pattern.specs.Lines.{is_side, size_fault, is_inside, cells_of, begins, ends, begun, ended, is_taken}
 use Rattle.pattern.specs.Lines.{cell_fault}
@@ -20,7 +20,7 @@ use Rattle.pattern.proofs.Added.{no_code, begun_push, ended_push}
 
 -- ---- a size within its limits
 
-pub record IsSized (s : Extent) : Type 0 where
+pub record IsSized (s : LayoutHeader) : Type 0 where
   pub width : (2 ≤ s.w) × (s.w ≤ 512) × (s.w % 2 ≡ 0)
   pub height : (2 ≤ s.h) × (s.h ≤ 512) × (s.h % 2 ≡ 0)
   pub steps : s.steps ≤ 65536
@@ -34,7 +34,7 @@ all_three false b c e = absurd cc
 side : (n : ℕ) → is_side n ≡ true → (2 ≤ n) × (n ≤ 512) × (n % 2 ≡ 0)
 side n e = grind (arith, nat_tests)
 
-pub is_sized : (s : Extent) → size_fault s ≡ None → IsSized s
+pub is_sized : (s : LayoutHeader) → size_fault s ≡ None → IsSized s
 unfolding size_fault
 is_sized s e =
     let good = all_three (is_side s.w) (is_side s.h) (nat_le s.steps 65536) (no_code _ 2 e) in
@@ -42,25 +42,26 @@ is_sized s e =
 
 -- ---- cells that lie inside
 
-abbrev IsInside : Extent → Cell → Type 0
+abbrev IsInside : LayoutHeader → Cell → Type 0
 IsInside s c = in_layout s c.x c.y ≡ true
 
 in_span_of : (n x : ℕ) → x < n → in_span 0 n (pos x) ≡ true
 unfolding in_span
 in_span_of n x h = grind (arith, nat_tests)
 
-row_inside : (s : Extent) (x n y : ℕ) → x + n ≤ s.w → y < s.h → AllByRecursion (IsInside s) (row_cells x n y)
+row_inside : (s : LayoutHeader) (x n y : ℕ) → x + n ≤ s.w → y < s.h → AllByRecursion (IsInside s) (row_cells x n y)
 row_inside s x zero y wide high = tt
 row_inside s x (suc n) y wide high =
     let here : IsInside s (cell x y) = rw (in_span_of s.w x (omega arith), in_span_of s.h y high) refl in
     (here, row_inside s (x + 1) n y (omega arith) high)
 
-append_inside : (s : Extent) (xs ys : List Cell) → AllByRecursion (IsInside s) xs → AllByRecursion (IsInside s) ys →
+append_inside : (s : LayoutHeader) (xs ys : List Cell) → AllByRecursion (IsInside s) xs →
+    AllByRecursion (IsInside s) ys →
     AllByRecursion (IsInside s) (xs ++ ys)
 append_inside s [] ys front back = back
 append_inside s (x ∷ xs) ys front back = (front.0, append_inside s xs ys front.1 back)
 
-rows_inside : (s : Extent) (x w y n : ℕ) → x + w ≤ s.w → y + n ≤ s.h →
+rows_inside : (s : LayoutHeader) (x w y n : ℕ) → x + w ≤ s.w → y + n ≤ s.h →
     AllByRecursion (IsInside s) (flat_map (row_cells x w) (range_with_len y n))
 rows_inside s x w y zero wide high = tt
 rows_inside s x w y (suc n) wide high =
@@ -76,12 +77,14 @@ at_most : (a b : ℕ) → nat_le a b ≡ true → a ≤ b
 at_most a b e = grind (arith, nat_tests)
 
 -- where the corner of a mirror that lies inside is
-pub mirror_fits : (s : Extent) (r : Rectangle) → is_inside s (Mirror r) ≡ true → (r.x + r.w ≤ s.w) × (r.y + r.h ≤ s.h)
+pub mirror_fits : (s : LayoutHeader) (r : Rectangle) → is_inside s (Mirror r) ≡ true →
+    (r.x + r.w ≤ s.w) × (r.y + r.h ≤ s.h)
 unfolding is_inside
 mirror_fits s r e = let fits = both (nat_le (r.x + r.w) s.w) (nat_le (r.y + r.h) s.h) e in
     (at_most _ _ fits.0, at_most _ _ fits.1)
 
-cells_inside_by : (s : Extent) (part : Part) → is_inside s part ≡ true → AllByRecursion (IsInside s) (cells_of part)
+cells_inside_by : (s : LayoutHeader) (part : LayoutLine) → is_inside s part ≡ true →
+    AllByRecursion (IsInside s) (cells_of part)
 unfolding is_inside cells_of rectangle_cells
 cells_inside_by s (Mirror r) e = let fits = mirror_fits s r e in rows_inside s r.x r.w r.y r.h fits.0 fits.1
 cells_inside_by s (Ball c) e = (e, tt)
@@ -89,17 +92,18 @@ cells_inside_by s (In p) e = (e, tt)
 cells_inside_by s (Out p) e = (e, tt)
 cells_inside_by s (Waste c) e = (e, tt)
 
-on_board : (b : Board) (s : Extent) → b.width ≡ s.w → b.height ≡ s.h → (c : Cell) → IsInside s c →
+on_board : (b : Board) (s : LayoutHeader) → b.width ≡ s.w → b.height ≡ s.h → (c : Cell) → IsInside s c →
     is_on_board b c.x c.y ≡ true
 on_board b s w h c e = inside_is_span b c.x c.y ∙ rw (w, h) e
 
-all_on_board : (b : Board) (s : Extent) → b.width ≡ s.w → b.height ≡ s.h → (cells : List Cell) →
+all_on_board : (b : Board) (s : LayoutHeader) → b.width ≡ s.w → b.height ≡ s.h → (cells : List Cell) →
     AllByRecursion (IsInside s) cells → AllByRecursion (λ c. is_on_board b c.x c.y ≡ true) cells
 all_on_board b s w h [] inside = tt
 all_on_board b s w h (c ∷ cells) inside = (on_board b s w h c inside.0, all_on_board b s w h cells inside.1)
 
 -- the cells of a line that lies inside are on a board of the layout's size
-pub cells_on_board : (b : Board) (s : Extent) → b.width ≡ s.w → b.height ≡ s.h → (part : Part) (cells : List Cell) →
+pub cells_on_board : (b : Board) (s : LayoutHeader) → b.width ≡ s.w → b.height ≡ s.h →
+    (part : LayoutLine) (cells : List Cell) →
     cells ≡ cells_of part → is_inside s part ≡ true → All (λ c. is_on_board b c.x c.y ≡ true) cells
 cells_on_board b s w h part cells same inside =
     let P : List Cell → Type 0 = λ cs. All (λ c. is_on_board b c.x c.y ≡ true) cs in
@@ -112,7 +116,7 @@ any_same : (p q : Cell → Bool) → ((c : Cell) → p c ≡ q c) → (cells : L
 any_same p q same [] = refl
 any_same p q same (c ∷ cells) = rw (same c, any_same p q same cells) refl
 
-pub taken_by : (one other : Board) (parts : List Part) (part : Part) (cells : List Cell) →
+pub taken_by : (one other : Board) (parts : List LayoutLine) (part : LayoutLine) (cells : List Cell) →
     ((x y : ℤ) → live one x y ≡ begun parts x y) → ((x y : ℤ) → live other x y ≡ ended parts x y) →
     cells ≡ cells_of part
     → (if begins part then list_any (λ c. live one c.x c.y) cells else list_any (λ c. live other c.x c.y) cells)
@@ -127,7 +131,8 @@ taken_by one other parts part cells same_begun same_ended are =
 
 -- ---- the boards after one more line
 
-module _ (old new : Board) (parts more : List Part) (part : Part) (cells : List Cell) (are : cells ≡ cells_of part)
+module _ (old new : Board) (parts more : List LayoutLine) (part : LayoutLine) (cells : List Cell)
+    (are : cells ≡ cells_of part)
     (longer : more ≡ parts ++ part ∷ []) where
   pub begun_more : ((x y : ℤ) → live old x y ≡ begun parts x y) →
       ((x y : ℤ) → live new x y ≡ (live old x y || (begins part && in_cells cells x y))) → (x y : ℤ) →
@@ -141,12 +146,12 @@ module _ (old new : Board) (parts more : List Part) (part : Part) (cells : List 
 
 -- ---- the code for the cells of a line
 
-pub cells_free : (s : Extent) (parts : List Part) (part : Part) → is_inside s part ≡ true →
+pub cells_free : (s : LayoutHeader) (parts : List LayoutLine) (part : LayoutLine) → is_inside s part ≡ true →
     is_taken parts part ≡ false → cell_fault s parts part ≡ None
 unfolding cell_fault
 cells_free s parts part inside free = rw (inside, free) refl
 
-pub cells_taken : (s : Extent) (parts : List Part) (part : Part) → is_inside s part ≡ true →
+pub cells_taken : (s : LayoutHeader) (parts : List LayoutLine) (part : LayoutLine) → is_inside s part ≡ true →
     is_taken parts part ≡ true → cell_fault s parts part ≡ Some 7
 unfolding cell_fault
 cells_taken s parts part inside taken = rw (inside, taken) refl

@@ -4,16 +4,16 @@ use Rattle.section_text.specs.Words.{◌>>=◌, is_word_at, name_at, number_at, 
 use Rattle.section_text.specs.declared.section.Form.{Form}
 use Rattle.section_text.specs.declared.section.Form.TheVariants.{Header, Item, End}
 use Rattle.bbm_rule.specs.declared.block.Cell.{Cell}
-use Rattle.pattern.specs.declared.parts.Rectangle.{Rectangle}
-use Rattle.pattern.specs.declared.parts.Port.{Port}
-use Rattle.pattern.specs.declared.parts.Extent.{Extent}
-use Rattle.pattern.specs.declared.parts.Part.{Part}
-use Rattle.pattern.specs.declared.parts.Part.TheVariants.{Mirror, Ball, In, Out, Waste}
+use Rattle.pattern.specs.declared.layout_line.Rectangle.{Rectangle}
+use Rattle.pattern.specs.declared.layout_line.Port.{Port}
+use Rattle.pattern.specs.declared.layout_line.LayoutHeader.{LayoutHeader}
+use Rattle.pattern.specs.declared.layout_line.LayoutLine.{LayoutLine}
+use Rattle.pattern.specs.declared.layout_line.LayoutLine.TheVariants.{Mirror, Ball, In, Out, Waste}
 use Rattle.pattern.specs.Layout.{cell}
 
 -- a line of the layout section
 abbrev pub Line : Type 0
-Line = Form Extent Part
+Line = Form LayoutHeader LayoutLine
 
 -- the cell that word i and the next one are
 unfoldable pub cell_from : List (List ℕ) → ℕ → Option Cell
@@ -51,7 +51,7 @@ unfoldable pub rectangle_of : List (List ℕ) → Option Rectangle
 rectangle_of ws = if length ws == 5 then corner_and_sides ws else None
 
 -- a keyword and three numbers
-unfoldable pub sides_and_steps : List (List ℕ) → Option Extent
+unfoldable pub sides_and_steps : List (List ℕ) → Option LayoutHeader
 sides_and_steps ws = do
   w ← number_at ws 1
   h ← number_at ws 2
@@ -59,7 +59,7 @@ sides_and_steps ws = do
   Some (record { w = w; h = h; steps = steps })
 
 -- the size of a `layout` line
-unfoldable pub size_of : List (List ℕ) → Option Extent
+unfoldable pub size_of : List (List ℕ) → Option LayoutHeader
 size_of ws = if length ws == 4 then sides_and_steps ws else None
 
 -- the form of a line by its words, if it has one

@@ -3,14 +3,14 @@ use Rattle.std.specs.Prelude.{List, [], ◌∷◌}
 use Rattle.std.specs.List.{flat_map}
 use Rattle.bbm_rule.specs.declared.block.Cell.{Cell}
 use Rattle.pattern.specs.Layout.{Pattern}
-use Rattle.pattern.specs.declared.parts.Extent.{Extent}
-use Rattle.pattern.specs.declared.parts.Part.{Part}
-use Rattle.pattern.specs.declared.parts.Part.TheVariants.{Mirror, Ball, In, Out, Waste}
-use Rattle.pattern.specs.declared.parts.Port.{Port}
-use Rattle.pattern.specs.declared.parts.Rectangle.{Rectangle}
+use Rattle.pattern.specs.declared.layout_line.LayoutHeader.{LayoutHeader}
+use Rattle.pattern.specs.declared.layout_line.LayoutLine.{LayoutLine}
+use Rattle.pattern.specs.declared.layout_line.LayoutLine.TheVariants.{Mirror, Ball, In, Out, Waste}
+use Rattle.pattern.specs.declared.layout_line.Port.{Port}
+use Rattle.pattern.specs.declared.layout_line.Rectangle.{Rectangle}
 
 -- the rectangle of a line, if it is a mirror
-abbrev pub mirror_in : Part → List Rectangle
+abbrev pub mirror_in : LayoutLine → List Rectangle
 mirror_in (Mirror r) = r ∷ []
 mirror_in (Ball c) = []
 mirror_in (In p) = []
@@ -18,7 +18,7 @@ mirror_in (Out p) = []
 mirror_in (Waste c) = []
 
 -- the cell of a line, if it is a ball
-abbrev pub ball_in : Part → List Cell
+abbrev pub ball_in : LayoutLine → List Cell
 ball_in (Mirror r) = []
 ball_in (Ball c) = c ∷ []
 ball_in (In p) = []
@@ -26,7 +26,7 @@ ball_in (Out p) = []
 ball_in (Waste c) = []
 
 -- the port of a line, if it is an input
-abbrev pub input_in : Part → List Port
+abbrev pub input_in : LayoutLine → List Port
 input_in (Mirror r) = []
 input_in (Ball c) = []
 input_in (In p) = p ∷ []
@@ -34,7 +34,7 @@ input_in (Out p) = []
 input_in (Waste c) = []
 
 -- the port of a line, if it is an output
-abbrev pub output_in : Part → List Port
+abbrev pub output_in : LayoutLine → List Port
 output_in (Mirror r) = []
 output_in (Ball c) = []
 output_in (In p) = []
@@ -42,7 +42,7 @@ output_in (Out p) = p ∷ []
 output_in (Waste c) = []
 
 -- the cell of a line, if it is a waste cell
-abbrev pub waste_in : Part → List Cell
+abbrev pub waste_in : LayoutLine → List Cell
 waste_in (Mirror r) = []
 waste_in (Ball c) = []
 waste_in (In p) = []
@@ -50,7 +50,7 @@ waste_in (Out p) = []
 waste_in (Waste c) = c ∷ []
 
 -- the layout of this extent that these lines make
-abbrev pub layout_of : Extent → List Part → Pattern
+abbrev pub layout_of : LayoutHeader → List LayoutLine → Pattern
 layout_of extent parts = record {
   size = extent;
   mirrors = flat_map mirror_in parts;

@@ -2,14 +2,14 @@
 use Rattle.std.specs.Prelude.{List, Option}
 use Rattle.section_text.specs.Section.{Grammar}
 use Rattle.section_text.specs.Ports.{Named}
-use Rattle.pattern.specs.declared.parts.Extent.{Extent}
-use Rattle.pattern.specs.declared.parts.Part.{Part}
+use Rattle.pattern.specs.declared.layout_line.LayoutHeader.{LayoutHeader}
+use Rattle.pattern.specs.declared.layout_line.LayoutLine.{LayoutLine}
 use Rattle.pattern.specs.Layout.{Pattern, parts_of}
 use Rattle.pattern.specs.Forms.{form_of}
 use Rattle.pattern.specs.Lines.{size_fault, part_fault, missing_fault}
 
 -- the section, if ports have these names, or any
-abbrev pub layout_grammar : Option Named → Grammar Extent Part
+abbrev pub layout_grammar : Option Named → Grammar LayoutHeader LayoutLine
 layout_grammar ports = record {
   form = form_of;
   header_fault = size_fault;
@@ -18,5 +18,5 @@ layout_grammar ports = record {
 }
 
 -- what the section of a layout gives: its first line and the others
-abbrev pub layout_value : Pattern → Extent × List Part
+abbrev pub layout_value : Pattern → LayoutHeader × List LayoutLine
 layout_value p = (p.size, parts_of p)

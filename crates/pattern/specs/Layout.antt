@@ -4,15 +4,15 @@ use Rattle.std.specs.List.{list_any, flat_map, range_with_len}
 use Rattle.bbm_rule.specs.Plane.{State, is_at, run}
 use Rattle.bbm_rule.specs.Spans.{in_area}
 use Rattle.bbm_rule.specs.declared.block.Cell.{Cell}
-use Rattle.pattern.specs.declared.parts.Rectangle.{Rectangle}
-use Rattle.pattern.specs.declared.parts.Part.{Part}
-use Rattle.pattern.specs.declared.parts.Part.TheVariants.{Mirror, Ball, In, Out, Waste}
-use Rattle.pattern.specs.declared.parts.Port.{Port}
-use Rattle.pattern.specs.declared.parts.Extent.{Extent}
+use Rattle.pattern.specs.declared.layout_line.Rectangle.{Rectangle}
+use Rattle.pattern.specs.declared.layout_line.LayoutLine.{LayoutLine}
+use Rattle.pattern.specs.declared.layout_line.LayoutLine.TheVariants.{Mirror, Ball, In, Out, Waste}
+use Rattle.pattern.specs.declared.layout_line.Port.{Port}
+use Rattle.pattern.specs.declared.layout_line.LayoutHeader.{LayoutHeader}
 
 -- a layout: its size, and the lists of its lines by kind
 pub record Pattern : Type 0 where
-  pub size : Extent
+  pub size : LayoutHeader
   pub mirrors : List Rectangle
   pub balls : List Cell
   pub ins : List Port
@@ -20,7 +20,7 @@ pub record Pattern : Type 0 where
   pub wastes : List Cell
 
 -- the lines of a layout between its first and its last
-abbrev pub parts_of : Pattern → List Part
+abbrev pub parts_of : Pattern → List LayoutLine
 parts_of p = map Mirror p.mirrors ++ (map Ball p.balls ++ (map In p.ins ++ (map Out p.outs ++ map Waste p.wastes)))
 
 -- ---- sets of cells
@@ -30,7 +30,7 @@ abbrev pub in_rectangle : Rectangle → State
 in_rectangle r x y = in_area r.x r.y r.w r.h x y
 
 -- the whole rectangle of the layout, whose upper left cell is the origin of the plane
-abbrev pub in_layout : Extent → State
+abbrev pub in_layout : LayoutHeader → State
 in_layout s x y = in_area 0 0 s.w s.h x y
 
 -- whether the cell (x, y) is in the list
@@ -61,7 +61,7 @@ abbrev pub plane_at : Pattern → (List ℕ → Bool) → ℕ → State
 plane_at p on t = run (start p on) t
 
 -- no live cell lies outside the layout
-abbrev pub StaysInside : Extent → State → Type 0
+abbrev pub StaysInside : LayoutHeader → State → Type 0
 StaysInside s state = (x y : ℤ) → state x y ≡ true → in_layout s x y ≡ true
 
 -- ---- lists of cells

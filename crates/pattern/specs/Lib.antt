@@ -6,7 +6,7 @@ pub mod PortWords
 pub mod Assign
 pub mod DraftView
 pub mod Grammars
-pub mod ReadingState
+pub mod Readings
 pub mod ReadingView
 pub mod Text
 pub mod Run

@@ -10,9 +10,9 @@ use Rattle.section_text.specs.Words.{has}
 use Rattle.section_text.specs.Codes.{code_where, or_else, out_of_order, past_limit, something_missing, taken_cell}
 use Rattle.section_text.specs.Codes.{unknown_name}
 use Rattle.section_text.specs.Ports.{Named}
-use Rattle.pattern.specs.declared.parts.Extent.{Extent}
-use Rattle.pattern.specs.declared.parts.Part.{Part}
-use Rattle.pattern.specs.declared.parts.Part.TheVariants.{Mirror, Ball, In, Out, Waste}
+use Rattle.pattern.specs.declared.layout_line.LayoutHeader.{LayoutHeader}
+use Rattle.pattern.specs.declared.layout_line.LayoutLine.{LayoutLine}
+use Rattle.pattern.specs.declared.layout_line.LayoutLine.TheVariants.{Mirror, Ball, In, Out, Waste}
 use Rattle.pattern.specs.Layout.{in_layout, rectangle_cells}
 
 -- ---- limits
@@ -22,7 +22,7 @@ abbrev pub is_side : ℕ → Bool
 is_side n = nat_le 2 n && nat_le n 512 && (n % 2 == 0)
 
 -- width and height even, 2 to 512; at most 65,536 steps
-unfoldable pub size_fault : Extent → Option ℕ
+unfoldable pub size_fault : LayoutHeader → Option ℕ
 size_fault s = code_where (not (is_side s.w && is_side s.h && nat_le s.steps 65536)) past_limit
 
 -- whether a side of a mirror is within its limits
@@ -30,7 +30,7 @@ abbrev pub is_mirror_side : ℕ → Bool
 is_mirror_side n = nat_le 1 n && nat_le n 512
 
 -- the sides of a mirror are 1 to 512
-unfoldable pub limit_fault : Part → Option ℕ
+unfoldable pub limit_fault : LayoutLine → Option ℕ
 limit_fault (Mirror r) = code_where (not (is_mirror_side r.w && is_mirror_side r.h)) past_limit
 limit_fault (Ball c) = None
 limit_fault (In p) = None
@@ -40,7 +40,7 @@ limit_fault (Waste c) = None
 -- ---- order
 
 -- the kinds of line come in this order
-unfoldable pub rank_of : Part → ℕ
+unfoldable pub rank_of : LayoutLine → ℕ
 rank_of (Mirror r) = 0
 rank_of (Ball c) = 1
 rank_of (In p) = 2
@@ -48,11 +48,11 @@ rank_of (Out p) = 3
 rank_of (Waste c) = 4
 
 -- whether a line of a later kind is before it
-unfoldable pub is_late : List Part → Part → Bool
+unfoldable pub is_late : List LayoutLine → LayoutLine → Bool
 is_late before part = list_any (λ b. nat_lt (rank_of part) (rank_of b)) before
 
 -- the code of a line after one of a later kind
-unfoldable pub order_fault : List Part → Part → Option ℕ
+unfoldable pub order_fault : List LayoutLine → LayoutLine → Option ℕ
 order_fault before part = code_where (is_late before part) out_of_order
 
 -- ---- names; any is good if no names of ports are given
@@ -73,7 +73,7 @@ is_out_name None n = true
 is_out_name (Some names) n = has names.outs n
 
 -- the name of an input cell is one of the inputs, that of an output cell one of the outputs
-unfoldable pub name_fault : Option Named → Part → Option ℕ
+unfoldable pub name_fault : Option Named → LayoutLine → Option ℕ
 name_fault ports (Mirror r) = None
 name_fault ports (Ball c) = None
 name_fault ports (In p) = code_where (not (is_in_name ports p.name)) unknown_name
@@ -83,7 +83,7 @@ name_fault ports (Waste c) = None
 -- ---- cells
 
 -- the cells of a line
-unfoldable pub cells_of : Part → List Cell
+unfoldable pub cells_of : LayoutLine → List Cell
 cells_of (Mirror r) = rectangle_cells r
 cells_of (Ball c) = c ∷ []
 cells_of (In p) = p.cell ∷ []
@@ -91,7 +91,7 @@ cells_of (Out p) = p.cell ∷ []
 cells_of (Waste c) = c ∷ []
 
 -- whether all its cells lie inside the layout
-unfoldable pub is_inside : Extent → Part → Bool
+unfoldable pub is_inside : LayoutHeader → LayoutLine → Bool
 is_inside s (Mirror r) = nat_le (r.x + r.w) s.w && nat_le (r.y + r.h) s.h
 is_inside s (Ball c) = in_layout s c.x c.y
 is_inside s (In p) = in_layout s p.cell.x p.cell.y
@@ -99,7 +99,7 @@ is_inside s (Out p) = in_layout s p.cell.x p.cell.y
 is_inside s (Waste c) = in_layout s c.x c.y
 
 -- mirrors, balls and input cells take their cells at the start
-unfoldable pub begins : Part → Bool
+unfoldable pub begins : LayoutLine → Bool
 begins (Mirror r) = true
 begins (Ball c) = true
 begins (In p) = true
@@ -107,7 +107,7 @@ begins (Out p) = false
 begins (Waste c) = false
 
 -- mirrors, output cells and waste cells take theirs at the end
-unfoldable pub ends : Part → Bool
+unfoldable pub ends : LayoutLine → Bool
 ends (Mirror r) = true
 ends (Ball c) = false
 ends (In p) = false
@@ -115,39 +115,39 @@ ends (Out p) = true
 ends (Waste c) = true
 
 -- whether the line has the cell (x, y)
-abbrev pub holds : Part → State
+abbrev pub holds : LayoutLine → State
 holds part x y = list_any (λ c. is_at c x y) (cells_of part)
 
 -- the cells that are taken at the start, and at the end
-unfoldable pub begun : List Part → State
+unfoldable pub begun : List LayoutLine → State
 begun parts x y = list_any (λ b. begins b && holds b x y) parts
 
 -- whether one of the lines takes the cell (x, y) at the end
-unfoldable pub ended : List Part → State
+unfoldable pub ended : List LayoutLine → State
 ended parts x y = list_any (λ b. ends b && holds b x y) parts
 
 -- one of its cells is taken at the start, if it takes them then, or at the end
-unfoldable pub is_taken : List Part → Part → Bool
+unfoldable pub is_taken : List LayoutLine → LayoutLine → Bool
 is_taken before part =
     if begins part then list_any (λ c. begun before c.x c.y) (cells_of part)
     else list_any (λ c. ended before c.x c.y) (cells_of part)
 
 -- the code of a line with a cell outside the layout, or a cell that is taken
-unfoldable pub cell_fault : Extent → List Part → Part → Option ℕ
+unfoldable pub cell_fault : LayoutHeader → List LayoutLine → LayoutLine → Option ℕ
 cell_fault s before part = code_where (not (is_inside s part) || is_taken before part) taken_cell
 
 -- ---- a line after the lines before it
 
 -- the code of the tests that come before those of the cells
-unfoldable pub line_fault : Option Named → List Part → Part → Option ℕ
+unfoldable pub line_fault : Option Named → List LayoutLine → LayoutLine → Option ℕ
 line_fault ports before part = or_else (order_fault before part) (or_else (limit_fault part) (name_fault ports part))
 
 -- the code of a line after those before it
-unfoldable pub part_fault : Option Named → Extent → List Part → Part → Option ℕ
+unfoldable pub part_fault : Option Named → LayoutHeader → List LayoutLine → LayoutLine → Option ℕ
 part_fault ports s before part = or_else (line_fault ports before part) (cell_fault s before part)
 
 -- each input and each output has a cell
-abbrev pub is_in : List ℕ → Part → Bool
+abbrev pub is_in : List ℕ → LayoutLine → Bool
 is_in n (Mirror r) = false
 is_in n (Ball c) = false
 is_in n (In p) = bytes_eq n p.name
@@ -155,7 +155,7 @@ is_in n (Out p) = false
 is_in n (Waste c) = false
 
 -- whether the line is an output cell of this name
-abbrev pub is_out : List ℕ → Part → Bool
+abbrev pub is_out : List ℕ → LayoutLine → Bool
 is_out n (Mirror r) = false
 is_out n (Ball c) = false
 is_out n (In p) = false
@@ -163,19 +163,19 @@ is_out n (Out p) = bytes_eq n p.name
 is_out n (Waste c) = false
 
 -- the code of a layout in which an input or an output has no cell
-unfoldable pub missing_fault : Option Named → List Part → Option ℕ
+unfoldable pub missing_fault : Option Named → List LayoutLine → Option ℕ
 missing_fault None parts = None
 missing_fault (Some names) parts =
     code_where (not (list_all (λ n. list_any (is_in n) parts) names.ins
     && list_all (λ n. list_any (is_out n) parts) names.outs)) something_missing
 
 -- the names of the ports are good, and each input and each output that is asked for has a cell
-pub record AreNamed (ports : Option Named) (parts : List Part) : Type 0 where
+pub record AreNamed (ports : Option Named) (parts : List LayoutLine) : Type 0 where
   pub good : All (λ part. name_fault ports part ≡ None) parts
   pub whole : missing_fault ports parts ≡ None
 
 -- each line keeps the limits, and its cells are inside and free after the lines before it
-abbrev pub AreGoodAfter : Extent → List Part → List Part → Type 0
+abbrev pub AreGoodAfter : LayoutHeader → List LayoutLine → List LayoutLine → Type 0
 AreGoodAfter s before [] = Unit {0}
 AreGoodAfter s before (part ∷ parts) =
     (limit_fault part ≡ None) × (cell_fault s before part ≡ None) × AreGoodAfter s (before ++ part ∷ []) parts

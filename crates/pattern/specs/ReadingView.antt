@@ -6,11 +6,11 @@ use Rattle.section_text.specs.Ports.{named_ports}
 use Rattle.pattern.specs.declared.reading.Reading.TheInside.{Inside}
 use Rattle.section_text.specs.Words.{has}
 use Rattle.pattern.specs.Lines.{is_any, is_in, is_in_name, is_out, is_out_name}
-use Rattle.pattern.specs.ReadingState.{ReadingState}
+use Rattle.pattern.specs.Readings.{ReadingView}
 
 -- the view of a reader, from its fields
-abbrev pub reading_state : Inside → ReadingState
-reading_state a = record { ports = named_ports a.ports.now; layout = a.draft }
+abbrev pub reading_view : Inside → ReadingView
+reading_view a = record { ports = named_ports a.ports.now; layout = a.draft }
 
 -- the fields of every reader: its sets of names are those of its ports and of its lines
 pub record IsReading (a : Inside) : Type 0 where

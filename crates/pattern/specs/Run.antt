@@ -3,25 +3,25 @@ use Rattle.std.specs.Prelude.{◌≡◌, ℕ, ℤ, ◌≤◌, ◌<◌, Bool, tru
 use Rattle.std.specs.List.{flat_map, filter}
 use Rattle.bbm_rule.specs.Plane.{State, run}
 use Rattle.bbm_rule.specs.declared.block.Cell.{Cell}
-use Rattle.pattern.specs.declared.parts.Extent.{Extent}
+use Rattle.pattern.specs.declared.layout_line.LayoutHeader.{LayoutHeader}
 use Rattle.pattern.specs.declared.run.RunEnd.{RunEnd}
 use Rattle.pattern.specs.declared.run.RunEnd.TheVariants.{Cells, LeftAt}
 use Rattle.pattern.specs.Layout.{Pattern, StaysInside, in_layout, start, plane_at, rectangle_cells}
 
 -- some live cell lies outside the layout
-pub record GoesOutside (s : Extent) (state : State) : Type 0 where
+pub record GoesOutside (s : LayoutHeader) (state : State) : Type 0 where
   pub x : ℤ
   pub y : ℤ
   pub lives : state x y ≡ true
   pub outside : in_layout s x y ≡ false
 
 -- the run that begins with `first` stays inside up to the last step, and `final` is its state then
-pub record RunsInside (s : Extent) (first final : State) : Type 0 where
+pub record RunsInside (s : LayoutHeader) (first final : State) : Type 0 where
   pub stays : (k : ℕ) → k ≤ s.steps → StaysInside s (run first k)
   pub last : (x y : ℤ) → final x y ≡ run first s.steps x y
 
 -- in the run that begins with `first`, the step to time k is the first that leaves the layout
-pub record RunLeaves (s : Extent) (first : State) (k : ℕ) : Type 0 where
+pub record RunLeaves (s : LayoutHeader) (first : State) (k : ℕ) : Type 0 where
   pub within : k ≤ s.steps
   pub stays : (j : ℕ) → j < k → StaysInside s (run first j)
   pub leaves : GoesOutside s (run first k)
@@ -31,7 +31,7 @@ unfoldable pub start_list : Pattern → (List ℕ → Bool) → List Cell
 start_list p on = flat_map rectangle_cells p.mirrors ++ p.balls ++ map (λ q. q.cell) (filter (λ q. on q.name) p.ins)
 
 -- the live cells of the layout, in order of y and then x
-unfoldable pub live_cells : Extent → State → List Cell
+unfoldable pub live_cells : LayoutHeader → State → List Cell
 live_cells s state = filter (λ c. state c.x c.y) (rectangle_cells (record { x = 0; y = 0; w = s.w; h = s.h }))
 
 -- the plane stays inside up to the last step, and these are its live cells then

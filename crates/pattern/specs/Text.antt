@@ -5,11 +5,11 @@ use Rattle.std.specs.Fmt.{decimal}
 use Rattle.section_text.specs.Spelling.{line_text}
 use Rattle.section_text.specs.declared.section.Form.TheVariants.{Header, Item, End}
 use Rattle.bbm_rule.specs.declared.block.Cell.{Cell}
-use Rattle.pattern.specs.declared.parts.Rectangle.{Rectangle}
-use Rattle.pattern.specs.declared.parts.Port.{Port}
-use Rattle.pattern.specs.declared.parts.Extent.{Extent}
-use Rattle.pattern.specs.declared.parts.Part.{Part}
-use Rattle.pattern.specs.declared.parts.Part.TheVariants.{Mirror, Ball, In, Out, Waste}
+use Rattle.pattern.specs.declared.layout_line.Rectangle.{Rectangle}
+use Rattle.pattern.specs.declared.layout_line.Port.{Port}
+use Rattle.pattern.specs.declared.layout_line.LayoutHeader.{LayoutHeader}
+use Rattle.pattern.specs.declared.layout_line.LayoutLine.{LayoutLine}
+use Rattle.pattern.specs.declared.layout_line.LayoutLine.TheVariants.{Mirror, Ball, In, Out, Waste}
 use Rattle.pattern.specs.Layout.{Pattern, parts_of}
 use Rattle.pattern.specs.Forms.{Line}
 
@@ -31,11 +31,11 @@ abbrev pub port_words : Port → List (List ℕ)
 port_words p = p.name ∷ cell_words p.cell
 
 -- the words of a size
-abbrev pub size_words : Extent → List (List ℕ)
+abbrev pub size_words : LayoutHeader → List (List ℕ)
 size_words s = decimal s.w ∷ decimal s.h ∷ decimal s.steps ∷ []
 
 -- the line of a part
-abbrev pub part_text : Part → List ℕ
+abbrev pub part_text : LayoutLine → List ℕ
 part_text (Mirror r) = line_text (codes "mirror") (rectangle_words r)
 part_text (Ball c) = line_text (codes "ball") (cell_words c)
 part_text (In p) = line_text (codes "in") (port_words p)

@@ -1,7 +1,7 @@
 //! The assign section: which names are on.
 ghost use Rattle.std.specs.Prelude.{◌≡◌, ℕ, true, [], List};
 ghost use Rattle.section_text.specs.Words.{words_of, has};
-ghost use Rattle.section_text.specs.FeedState.{IsLine, line_bytes};
+ghost use Rattle.section_text.specs.Feeds.{IsLine, line_bytes};
 ghost use Rattle.section_text.specs.Section.{Reads};
 ghost use Rattle.pattern.specs.Assign.{assign_form, assign_grammar, assign_value, on_fault};
 

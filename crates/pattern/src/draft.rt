@@ -6,7 +6,7 @@ ghost use Rattle.pattern.specs.Layout.{parts_of};
 ghost use Rattle.pattern.specs.Lines.{cells_of, cell_fault, is_inside, limit_fault, order_fault, size_fault};
 
 use crate::layout::Layout;
-use crate::parts::{Extent, Part};
+use crate::layout_line::{LayoutHeader, LayoutLine};
 use crate::rectangle::push_rectangle;
 use crate::taken::{meets_in, take_where};
 use bbm_rule::{Cell, Grid};
@@ -36,25 +36,25 @@ impl Model for Draft {
 
 // The cells of a line that lies inside.
 #[tactic(auto, unfolding(crate::specs::Lines::cells_of, crate::specs::Lines::is_inside))]
-fn cells_in(alloc: Global, part: &Part, size: Extent) -> Result<Vec<Cell>, AllocError>
+fn cells_in(alloc: Global, part: &LayoutLine, size: LayoutHeader) -> Result<Vec<Cell>, AllocError>
     requires inside { is_inside size part.now ≡ true }
     requires good { size_fault size ≡ None }
     ensures { IfOk result (λ cells. cells.items ≡ cells_of part.now) }
 {
     let mut cells = Vec::new(alloc);
     match part {
-        Part::Mirror(r) => push_rectangle(&mut cells, *r)?,
-        Part::Ball(cell) => cells.push(*cell)?,
-        Part::In(port) => cells.push(port.cell)?,
-        Part::Out(port) => cells.push(port.cell)?,
-        Part::Waste(cell) => cells.push(*cell)?,
+        LayoutLine::Mirror(r) => push_rectangle(&mut cells, *r)?,
+        LayoutLine::Ball(cell) => cells.push(*cell)?,
+        LayoutLine::In(port) => cells.push(port.cell)?,
+        LayoutLine::Out(port) => cells.push(port.cell)?,
+        LayoutLine::Waste(cell) => cells.push(*cell)?,
     }
     Ok(cells)
 }
 
 impl Draft {
     /// Creates a draft without lines after the first.
-    pub(crate) fn new(alloc: Global, size: Extent) -> Result<Draft, AllocError>
+    pub(crate) fn new(alloc: Global, size: LayoutHeader) -> Result<Draft, AllocError>
         requires { size_fault size ≡ None }
         ensures size { IfOk result (λ draft. draft.size ≡ size) }
         ensures parts { IfOk result (λ draft. parts_of draft ≡ []) }
@@ -81,7 +81,7 @@ impl Draft {
     }
 
     /// Returns code 6 if there is a line of a later kind already.
-    pub(crate) fn order_code(&self, part: &Part) -> Option<u8>
+    pub(crate) fn order_code(&self, part: &LayoutLine) -> Option<u8>
         ensures { result ≡ order_fault (parts_of self.now) part.now }
     {
         self.layout.order_code(part)
@@ -89,7 +89,7 @@ impl Draft {
 
     // The cells of a line, where they are inside and free.
     #[tactic(auto, unfolding(crate::specs::Lines::cell_fault))]
-    fn free_cells(&self, alloc: Global, part: &Part) -> Result<Vec<Cell>, LineFault>
+    fn free_cells(&self, alloc: Global, part: &LayoutLine) -> Result<Vec<Cell>, LineFault>
         ensures cells { IfOk result (λ cells. cells.items ≡ cells_of part.now) }
         ensures inside { OnOk result (is_inside self.now.size part.now ≡ true) }
         ensures free { OnOk result (cell_fault self.now.size (parts_of self.now) part.now ≡ None) }
@@ -110,7 +110,7 @@ impl Draft {
     }
 
     /// Adds a line that is in its place and keeps the limits. A fault changes nothing.
-    pub(crate) fn add(&mut self, alloc: Global, part: Part) -> Result<(), LineFault>
+    pub(crate) fn add(&mut self, alloc: Global, part: LayoutLine) -> Result<(), LineFault>
         requires order { order_fault (parts_of self.old) part ≡ None }
         requires limit { limit_fault part ≡ None }
         ensures free { OnOk result (cell_fault self.old.size (parts_of self.old) part ≡ None) }

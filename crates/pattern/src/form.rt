@@ -1,11 +1,11 @@
 //! The line forms of the layout section.
 ghost use Rattle.std.specs.Prelude.{◌≡◌, ◌≤◌};
 ghost use Rattle.section_text.specs.Words.{words_of};
-ghost use Rattle.section_text.specs.FeedState.{IsLine, line_bytes};
+ghost use Rattle.section_text.specs.Feeds.{IsLine, line_bytes};
 ghost use Rattle.pattern.specs.PortWords.{cell_by, port_by};
 ghost use Rattle.pattern.specs.Forms.{cell_from, lone_cell, port_of, corner_and_sides, rectangle_of, sides_and_steps, size_of, form_of};
 
-use crate::parts::{Extent, Part, Port, Rectangle};
+use crate::layout_line::{LayoutHeader, LayoutLine, Port, Rectangle};
 use bbm_rule::Cell;
 use section_text::{Feed, Form, FourWords, Line, Name, read_number};
 
@@ -93,18 +93,18 @@ fn rectangle_on(feed: &Feed, line: &Line) -> Option<Rectangle>
 }
 
 #[tactic(auto, unfolding(crate::specs::Forms::sides_and_steps))]
-fn sides_and_steps_on(feed: &Feed, line: &Line) -> Option<Extent>
+fn sides_and_steps_on(feed: &Feed, line: &Line) -> Option<LayoutHeader>
     requires { IsLine feed.now line.now }
     ensures { result ≡ sides_and_steps (words_of (line_bytes feed.now line.now)) }
 {
     let w = feed.number(line, 1)?;
     let h = feed.number(line, 2)?;
     let steps = feed.number(line, 3)?;
-    Some(Extent { w, h, steps })
+    Some(LayoutHeader { w, h, steps })
 }
 
 #[tactic(auto, unfolding(crate::specs::Forms::size_of))]
-fn size_on(feed: &Feed, line: &Line) -> Option<Extent>
+fn size_on(feed: &Feed, line: &Line) -> Option<LayoutHeader>
     requires { IsLine feed.now line.now }
     ensures { result ≡ size_of (words_of (line_bytes feed.now line.now)) }
 {
@@ -116,22 +116,22 @@ fn size_on(feed: &Feed, line: &Line) -> Option<Extent>
 
 /// Returns the form of a line, if it has one.
 #[tactic(auto, unfolding(crate::specs::Forms::form_of))]
-pub(crate) fn line_form(feed: &Feed, line: &Line) -> Option<Form<Extent, Part>>
+pub(crate) fn line_form(feed: &Feed, line: &Line) -> Option<Form<LayoutHeader, LayoutLine>>
     requires { IsLine feed.now line.now }
     ensures { result ≡ form_of (words_of (line_bytes feed.now line.now)) }
 {
     if feed.is(line, 0, b"layout") {
         Some(Form::Header(size_on(feed, line)?))
     } else if feed.is(line, 0, b"mirror") {
-        Some(Form::Item(Part::Mirror(rectangle_on(feed, line)?)))
+        Some(Form::Item(LayoutLine::Mirror(rectangle_on(feed, line)?)))
     } else if feed.is(line, 0, b"ball") {
-        Some(Form::Item(Part::Ball(lone_cell_on(feed, line)?)))
+        Some(Form::Item(LayoutLine::Ball(lone_cell_on(feed, line)?)))
     } else if feed.is(line, 0, b"in") {
-        Some(Form::Item(Part::In(port_on(feed, line)?)))
+        Some(Form::Item(LayoutLine::In(port_on(feed, line)?)))
     } else if feed.is(line, 0, b"out") {
-        Some(Form::Item(Part::Out(port_on(feed, line)?)))
+        Some(Form::Item(LayoutLine::Out(port_on(feed, line)?)))
     } else if feed.is(line, 0, b"waste") {
-        Some(Form::Item(Part::Waste(lone_cell_on(feed, line)?)))
+        Some(Form::Item(LayoutLine::Waste(lone_cell_on(feed, line)?)))
     } else if feed.is(line, 0, b"end") {
         feed.lone(line, Form::End)
     } else {

@@ -3,7 +3,7 @@ ghost use Rattle.std.specs.Prelude.{◌≡◌, ◌++◌, [], ◌∷◌, None, On
 ghost use Rattle.pattern.specs.Layout.{HaveOwnCells, parts_of};
 ghost use Rattle.pattern.specs.Lines.{AreGoodAfter, cell_fault, limit_fault, is_late, order_fault, size_fault};
 
-use crate::parts::{Extent, Part, Port, Rectangle};
+use crate::layout_line::{LayoutHeader, LayoutLine, Port, Rectangle};
 use bbm_rule::Cell;
 use std::alloc::{AllocError, Global};
 use std::marker::Model;
@@ -14,7 +14,7 @@ use std::marker::Model;
 /// input cells share no cell. Mirrors, output cells and waste cells share no cell.
 #[derive(Drop)]
 pub struct Layout {
-    pub(crate) size: Extent,
+    pub(crate) size: LayoutHeader,
     pub(crate) mirrors: Vec<Rectangle>,
     pub(crate) balls: Vec<Cell>,
     pub(crate) ins: Vec<Port>,
@@ -36,7 +36,7 @@ impl Model for Layout {
 
 impl Layout {
     // A layout in which nothing stands.
-    pub(crate) fn new(alloc: Global, size: Extent) -> Layout
+    pub(crate) fn new(alloc: Global, size: LayoutHeader) -> Layout
         requires { size_fault size ≡ None }
         ensures size { result.size ≡ size }
         ensures parts { parts_of result ≡ [] }
@@ -53,7 +53,7 @@ impl Layout {
 
     // Whether a line of a later kind stands already.
     #[tactic(auto, using(crate::proofs::Orders::late_mirror, crate::proofs::Orders::late_ball, crate::proofs::Orders::late_in, crate::proofs::Orders::late_out, crate::proofs::Orders::late_waste))]
-    fn has_later(&self, part: &Part) -> bool
+    fn has_later(&self, part: &LayoutLine) -> bool
         ensures { result ≡ is_late (parts_of self.now) part.now }
     {
         let waste = !self.wastes.is_empty();
@@ -61,24 +61,24 @@ impl Layout {
         let input = !self.ins.is_empty() | output;
         let ball = !self.balls.is_empty() | input;
         match part {
-            Part::Mirror(_) => ball,
-            Part::Ball(_) => input,
-            Part::In(_) => output,
-            Part::Out(_) => waste,
-            Part::Waste(_) => false,
+            LayoutLine::Mirror(_) => ball,
+            LayoutLine::Ball(_) => input,
+            LayoutLine::In(_) => output,
+            LayoutLine::Out(_) => waste,
+            LayoutLine::Waste(_) => false,
         }
     }
 
     // Code 6 where a line of a later kind stands already.
     #[tactic(auto, unfolding(crate::specs::Lines::order_fault))]
-    pub(crate) fn order_code(&self, part: &Part) -> Option<u8>
+    pub(crate) fn order_code(&self, part: &LayoutLine) -> Option<u8>
         ensures { result ≡ order_fault (parts_of self.now) part.now }
     {
         if self.has_later(part) { Some(6) } else { None }
     }
 
     // Adds a line that is good after the others. Without memory for it nothing changes.
-    pub(crate) fn add(&mut self, part: Part) -> Result<(), AllocError>
+    pub(crate) fn add(&mut self, part: LayoutLine) -> Result<(), AllocError>
         requires order { order_fault (parts_of self.old) part ≡ None }
         requires limit { limit_fault part ≡ None }
         requires cells { cell_fault self.old.size (parts_of self.old) part ≡ None }
@@ -87,17 +87,17 @@ impl Layout {
         ensures err { OnErr result (self.new ≡ self.old) }
     {
         match part {
-            Part::Mirror(rectangle) => self.mirrors.push(rectangle)?,
-            Part::Ball(cell) => self.balls.push(cell)?,
-            Part::In(port) => self.ins.push(port)?,
-            Part::Out(port) => self.outs.push(port)?,
-            Part::Waste(cell) => self.wastes.push(cell)?,
+            LayoutLine::Mirror(rectangle) => self.mirrors.push(rectangle)?,
+            LayoutLine::Ball(cell) => self.balls.push(cell)?,
+            LayoutLine::In(port) => self.ins.push(port)?,
+            LayoutLine::Out(port) => self.outs.push(port)?,
+            LayoutLine::Waste(cell) => self.wastes.push(cell)?,
         }
         Ok(())
     }
 
     /// Returns the width and the height, in cells, and the steps: even sides of 2 to 512, and at most 65,536 steps.
-    pub fn size(&self) -> Extent
+    pub fn size(&self) -> LayoutHeader
         ensures size { result ≡ self.now.size }
         ensures limits { size_fault result ≡ None }
         ensures good { AreGoodAfter result [] (parts_of self.now) }
@@ -121,7 +121,7 @@ impl Layout {
 
     /// Returns the input cells, in the order of their lines. No two are the same cell.
     pub fn ins(&self) -> &[Port]
-        ensures same { result.now ≡ self.now.ins }
+        ensures same_ports { result.now ≡ self.now.ins }
         ensures apart { HaveOwnCells result.now }
     {
         self.ins.as_slice()
@@ -129,7 +129,7 @@ impl Layout {
 
     /// Returns the output cells, in the order of their lines. No two are the same cell.
     pub fn outs(&self) -> &[Port]
-        ensures same { result.now ≡ self.now.outs }
+        ensures same_ports { result.now ≡ self.now.outs }
         ensures apart { HaveOwnCells result.now }
     {
         self.outs.as_slice()

@@ -5,7 +5,7 @@ ghost use Rattle.section_text.specs.Spelling.{spaced, line_text};
 ghost use Rattle.pattern.specs.Text.{cell_words, coordinate, layout_text, port_words, rectangle_words, size_words};
 
 use crate::layout::Layout;
-use crate::parts::{Extent, Port, Rectangle};
+use crate::layout_line::{LayoutHeader, Port, Rectangle};
 use bbm_rule::Cell;
 use section_text::{print_number, print_word};
 use std::alloc::{AllocError, Global};
@@ -33,7 +33,7 @@ pub fn print_cell(out: &mut Vec<u8>, cell: Cell) -> Result<(), AllocError>
     Ok(())
 }
 
-fn print_size(out: &mut Vec<u8>, size: Extent) -> Result<(), AllocError>
+fn print_size(out: &mut Vec<u8>, size: LayoutHeader) -> Result<(), AllocError>
     ensures { OnOk result (out.new.items
         ≡ out.old.items ++ line_text (codes "layout") (size_words size)) }
 {

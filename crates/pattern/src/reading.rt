@@ -12,8 +12,8 @@ ghost use Rattle.pattern.specs.Grammars.{layout_grammar, layout_value};
 use crate::draft::Draft;
 use crate::form::line_form;
 use crate::layout::Layout;
+use crate::layout_line::{LayoutHeader, LayoutLine};
 use crate::names::{index_of, put_name};
-use crate::parts::{Extent, Part};
 use indexmap::IndexSet;
 use section_text::{
     Feed, Form, Line, LineFault, Name, PortNames, ReadFault, Section, Seed, read_section,
@@ -36,13 +36,13 @@ struct Reading<'a> {
 }
 
 impl<'a> Model for Reading<'a> {
-    ghost use Rattle.pattern.specs.ReadingState.{ReadingState};
+    ghost use Rattle.pattern.specs.Readings.{ReadingView};
 
-    ghost Value = { ReadingState };
+    ghost Value = { ReadingView };
 
-    ghost use Rattle.pattern.specs.ReadingView.{reading_state, IsReading};
+    ghost use Rattle.pattern.specs.ReadingView.{reading_view, IsReading};
 
-    ghost view = { reading_state };
+    ghost view = { reading_view };
 
     ghost invariant = { IsReading };
 }
@@ -69,18 +69,18 @@ fn has_all(set: &IndexSet<Name, Seed>, names: &[Name]) -> bool
 }
 
 // Notes that the name of a port has one.
-fn note_port(ins: &mut IndexSet<Name, Seed>, outs: &mut IndexSet<Name, Seed>, part: &Part)
+fn note_port(ins: &mut IndexSet<Name, Seed>, outs: &mut IndexSet<Name, Seed>, part: &LayoutLine)
     requires room_in { 0 < spare ins.old }
     requires room_out { 0 < spare outs.old }
     ensures ins { (n : List ℕ) → has ins.new.keys n ≡ (has ins.old.keys n || is_in n part.now) }
     ensures outs { (n : List ℕ) → has outs.new.keys n ≡ (has outs.old.keys n || is_out n part.now) }
 {
     match part {
-        Part::In(port) => put_name(ins, port.name),
-        Part::Out(port) => put_name(outs, port.name),
-        Part::Mirror(_) => {}
-        Part::Ball(_) => {}
-        Part::Waste(_) => {}
+        LayoutLine::In(port) => put_name(ins, port.name),
+        LayoutLine::Out(port) => put_name(outs, port.name),
+        LayoutLine::Mirror(_) => {}
+        LayoutLine::Ball(_) => {}
+        LayoutLine::Waste(_) => {}
     }
 }
 
@@ -94,7 +94,7 @@ impl<'a> Reading<'a> {
         let (known_ins, known_outs) = known_names(alloc, ports)?;
         let seen_ins = IndexSet::with_hasher(alloc, *known_ins.hasher());
         let seen_outs = IndexSet::with_hasher(alloc, *known_outs.hasher());
-        let smallest = Extent {
+        let smallest = LayoutHeader {
             w: 2,
             h: 2,
             steps: 0,
@@ -128,18 +128,18 @@ impl<'a> Reading<'a> {
 
     // Code 3 where a port may not have its name.
     #[tactic(auto, unfolding(crate::specs::Lines::name_fault))]
-    fn name_code(&self, part: &Part) -> Option<u8>
+    fn name_code(&self, part: &LayoutLine) -> Option<u8>
         ensures { result ≡ name_fault self.now.ports part.now }
     {
         let any = are_any(self.ports);
         match part {
-            Part::In(port) => {
+            LayoutLine::In(port) => {
                 if any || self.known_ins.contains(&port.name) {
                     return None;
                 }
                 Some(3)
             }
-            Part::Out(port) => {
+            LayoutLine::Out(port) => {
                 if any || self.known_outs.contains(&port.name) {
                     return None;
                 }
@@ -151,7 +151,7 @@ impl<'a> Reading<'a> {
 
     // The code of the first test that a line fails before those of its cells.
     #[tactic(auto, unfolding(crate::specs::Lines::line_fault))]
-    fn line_code(&self, part: &Part) -> Option<u8>
+    fn line_code(&self, part: &LayoutLine) -> Option<u8>
         ensures { result ≡ line_fault self.now.ports (parts_of self.now.layout) part.now }
     {
         if let Some(code) = self.draft.order_code(part) {
@@ -187,9 +187,9 @@ fn known_names(
 }
 
 impl<'a> Section for Reading<'a> {
-    type Header = Extent;
+    type Header = LayoutHeader;
 
-    type Item = Part;
+    type Item = LayoutLine;
 
     ghost grammar = { λ r. layout_grammar r.ports };
 
@@ -197,11 +197,11 @@ impl<'a> Section for Reading<'a> {
 
     ghost items = { λ r. parts_of r.layout };
 
-    fn form(&self, feed: &Feed, line: &Line) -> Option<Form<Extent, Part>> {
+    fn form(&self, feed: &Feed, line: &Line) -> Option<Form<LayoutHeader, LayoutLine>> {
         line_form(feed, line)
     }
 
-    fn begin(&mut self, size: Extent) -> Result<(), LineFault> {
+    fn begin(&mut self, size: LayoutHeader) -> Result<(), LineFault> {
         if let Some(code) = size.limit_code() {
             return Err(LineFault::Code(code));
         }
@@ -213,7 +213,7 @@ impl<'a> Section for Reading<'a> {
     }
 
     #[tactic(auto, using(crate::proofs::ReadingLemmas::in_order, crate::proofs::ReadingLemmas::in_limits), unfolding(crate::specs::Lines::part_fault))]
-    fn add(&mut self, part: Part) -> Result<(), LineFault> {
+    fn add(&mut self, part: LayoutLine) -> Result<(), LineFault> {
         if let Some(code) = self.line_code(&part) {
             return Err(LineFault::Code(code));
         }

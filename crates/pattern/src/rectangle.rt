@@ -2,7 +2,7 @@
 ghost use Rattle.std.specs.Prelude.{◌≡◌, ◌+◌, ◌≤◌, ◌<◌, ◌++◌, OnOk};
 ghost use Rattle.pattern.specs.Layout.{row_cells, rectangle_cells};
 
-use crate::parts::Rectangle;
+use crate::layout_line::Rectangle;
 use bbm_rule::Cell;
 use std::alloc::AllocError;
 

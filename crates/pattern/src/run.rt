@@ -7,8 +7,8 @@ ghost use Rattle.section_text.specs.Words.{has};
 ghost use Rattle.pattern.specs.Run.{IsRunEnd, RunLeaves, RunsInside, live_cells, start_list};
 
 use crate::layout::Layout;
+use crate::layout_line::{LayoutHeader, Port, Rectangle};
 use crate::names::index_of;
-use crate::parts::{Extent, Port, Rectangle};
 use crate::rectangle::push_rectangle;
 use crate::taken::make_live;
 use bbm_rule::{Cell, Grid};
@@ -93,7 +93,7 @@ fn start_grid(alloc: Global, layout: &Layout, on: &[Name]) -> Result<Grid, Alloc
 }
 
 // Makes every step, or all before the first that leaves the layout, and answers the number of that one.
-fn run_all(grid: &mut Grid, size: Extent) -> Option<u32>
+fn run_all(grid: &mut Grid, size: LayoutHeader) -> Option<u32>
     requires { (grid.old.width ≡ size.w) × (grid.old.height ≡ size.h) }
     ensures run { MatchOption result (RunsInside size (live grid.old) (live grid.new))
         (λ k. RunLeaves size (live grid.old) k) }
@@ -127,8 +127,8 @@ fn push_live_row(out: &mut Vec<Cell>, grid: &Grid, w: u32, y: u32) -> Result<(),
 }
 
 // The live cells in order of y and then x.
-fn live_list(alloc: Global, grid: &Grid, size: Extent) -> Result<Vec<Cell>, AllocError>
-    requires same { (grid.now.width ≡ size.w) × (grid.now.height ≡ size.h) }
+fn live_list(alloc: Global, grid: &Grid, size: LayoutHeader) -> Result<Vec<Cell>, AllocError>
+    requires same_size { (grid.now.width ≡ size.w) × (grid.now.height ≡ size.h) }
     requires small { (size.w ≤ 512) × (size.h ≤ 512) }
     ensures { IfOk result (λ cells. cells.items ≡ live_cells size (live grid.now)) }
 {

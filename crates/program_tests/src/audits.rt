@@ -4,7 +4,7 @@ ghost use Rattle.std.specs.Prelude.{◌<◌, ◌≤◌};
 
 use crate::bundles::{NO, YES};
 use crate::gates::{Hold, Holding};
-use audit_core::{Entry, Filing, Reply};
+use audit_core::{Filing, LogEntry, Reply};
 use certificate::read_certificate;
 use check_main::{Audited, Outcome, Over, audit, check_stream};
 use job_pool::{Gate, OpenGate};
@@ -74,10 +74,10 @@ fn writes_the_same_whatever_is_held_back(rt: HostRuntime) {
 }
 
 /// Returns the number of an accepted finding, 4 for a closing entry, and 5 for anything else.
-fn number_of(entry: &Entry) -> usize {
+fn number_of(entry: &LogEntry) -> usize {
     match entry {
-        Entry::Closing => 4,
-        Entry::Filed(filing) => accepted(filing),
+        LogEntry::Closing => 4,
+        LogEntry::Filed(filing) => accepted(filing),
     }
 }
 
@@ -90,7 +90,7 @@ fn accepted(filing: &Filing) -> usize {
 }
 
 /// Returns the numbers of a history of five entries.
-fn numbers_of(history: &[Entry]) -> [usize; 5] {
+fn numbers_of(history: &[LogEntry]) -> [usize; 5] {
     let mut numbers = [5; 5];
     for (number, entry) in numbers.iter_mut().zip(history) {
         *number = number_of(entry);

@@ -5,7 +5,7 @@
 ghost use Rattle.std.specs.Prelude.{◌≡◌, []};
 
 use crate::gates::{Counts, are_all, count_one, no_counts};
-use audit_core::{BookState, Entry, NotFiled, Reply};
+use audit_core::{BookState, LogEntry, NotFiled, Reply};
 use certificate::Job;
 use local_run::{Finding, run_job};
 use std::alloc::{AllocError, Global};
@@ -109,7 +109,7 @@ fn filed_by_all<
 ) -> Option<Gathered>
     requires filings { (f.name ≡ F.name) × (f.parts ≡ F.parts) × (f.parts ≡ 4) }
     requires acceptances { (a.name ≡ A.name) × (a.parts ≡ A.parts) × (a.parts ≡ 4) }
-    requires own { (state.digest ≡ F.digest) × (state.jobs ≡ F.jobs) }
+    requires ledger_names_book { (state.digest ≡ F.digest) × (state.jobs ≡ F.jobs) }
     requires fresh { state.history ≡ [] }
 {
     let work = work_of(alloc, GOOD).expect(rt, "work");
@@ -133,13 +133,13 @@ fn filed_by_all<
 
 /// Returns whether it is the entry of a finding whose job is the book's, and that was accepted, or answered `Double`
 /// with its number.
-fn is_own(entry: &Entry) -> bool {
+fn is_own(entry: &LogEntry) -> bool {
     match entry {
-        Entry::Filed(filing) => {
+        LogEntry::Filed(filing) => {
             filing.same
                 && (filing.reply == Reply::Accepted || filing.reply == Reply::Double(filing.number))
         }
-        Entry::Closing => false,
+        LogEntry::Closing => false,
     }
 }
 
@@ -184,7 +184,7 @@ fn filed_by_one<F: Filings, A: Ledger, R: Abort + Wait>(
 ) -> Option<Gathered>
     requires filings { (f.name ≡ F.name) × (f.parts ≡ F.parts) × (f.parts ≡ 2) }
     requires acceptances { (a.name ≡ A.name) × (a.parts ≡ A.parts) × (a.parts ≡ 2) }
-    requires own { (state.digest ≡ F.digest) × (state.jobs ≡ F.jobs) }
+    requires ledger_names_book { (state.digest ≡ F.digest) × (state.jobs ≡ F.jobs) }
     requires fresh { state.history ≡ [] }
 {
     let opened: Result<(Book<F, A>, Vec<Share<F, A>>), AllocError> = Book::open(

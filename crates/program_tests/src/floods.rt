@@ -97,7 +97,7 @@ fn flooded<F: Filings + Send + Sync, A: Ledger + Send + Sync, R: Abort + Threads
 ) -> Option<Gathered>
     requires filings { (f.name ≡ F.name) × (f.parts ≡ F.parts) × (f.parts ≡ 8) }
     requires acceptances { (a.name ≡ A.name) × (a.parts ≡ A.parts) × (a.parts ≡ 8) }
-    requires own { (state.digest ≡ F.digest) × (state.jobs ≡ F.jobs) }
+    requires ledger_names_book { (state.digest ≡ F.digest) × (state.jobs ≡ F.jobs) }
     requires fresh { state.history ≡ [] }
 {
     let opened: (Book<F, A>, Vec<Share<F, A>>) = Book::open(alloc, f, a, state, 8).expect(

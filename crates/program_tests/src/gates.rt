@@ -5,7 +5,7 @@ use std::sync::atomic::{AtomicBool, AtomicU64, Ordering};
 use std::thread;
 
 /// The turns after which a worker that is held back goes on, whatever the others do.
-const MOST_TURNS: u32 = 10_000_000;
+const MAX_TURNS: u32 = 10_000_000;
 
 /// A count for each of four numbers.
 pub(crate) type Counts = [AtomicU64; 4];
@@ -112,7 +112,7 @@ impl Holding {
 impl Gate for Holding {
     fn before(&self, number: usize) {
         count_one(&self.begun, number);
-        for _ in 0..MOST_TURNS {
+        for _ in 0..MAX_TURNS {
             if self.lets(number) {
                 return;
             }
@@ -123,7 +123,7 @@ impl Gate for Holding {
 
     fn after(&self, number: usize) {
         count_one(&self.ended, number);
-        for _ in 0..MOST_TURNS {
+        for _ in 0..MAX_TURNS {
             if self.lets_end(number) {
                 return;
             }
@@ -163,7 +163,7 @@ impl Crowd {
 impl Gate for Crowd {
     fn before(&self, _number: usize) {
         self.begun.fetch_add(1, Ordering::SeqCst);
-        for _ in 0..MOST_TURNS {
+        for _ in 0..MAX_TURNS {
             if self.begun.load(Ordering::SeqCst) >= self.workers {
                 return;
             }

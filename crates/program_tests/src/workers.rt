@@ -28,7 +28,7 @@ fn worked<F: Filings + Send + Sync, A: Ledger + Send + Sync, R: Abort + Threads 
     requires acceptances { (a.name ≡ A.name) × (a.parts ≡ A.parts) × (a.parts ≡ count) }
     requires count { (0 < count) × (count ≤ 64) }
     requires jobs { length jobs.now ≤ 1024 }
-    requires own { (state.digest ≡ F.digest) × (state.jobs ≡ F.jobs) }
+    requires ledger_names_book { (state.digest ≡ F.digest) × (state.jobs ≡ F.jobs) }
     requires fresh { state.history ≡ [] }
 {
     let groups = job_groups(alloc, jobs).expect(rt, "groups");

@@ -8,11 +8,11 @@ use Rattle.section_text.specs.Spelling.{line_text}
 use Rattle.section_text.specs.declared.fault.Refusal.{Refusal}
 use Rattle.circuit.specs.Bridge.{circuit_of}
 use Rattle.certificate_lines.specs.Entries.{modules_of}
-use Rattle.certificate.specs.Grammars.{CertState, modules_in}
+use Rattle.certificate.specs.Grammars.{CertView, modules_in}
 use Rattle.certificate.specs.Text.{certificate_text}
 use Rattle.certificate.specs.Times.{time_lines}
-use Rattle.certificate.specs.declared.times.Gap.{Gap}
-use Rattle.certificate.specs.declared.times.Gap.TheVariants.{Steps, Missing, Before}
+use Rattle.certificate.specs.declared.times.StopGap.{StopGap}
+use Rattle.certificate.specs.declared.times.StopGap.TheVariants.{Steps, NoStop, Before}
 use Rattle.certificate.specs.declared.times.TimeLine.{TimeLine}
 use Rattle.local_run.specs.declared.fault.Fault.{Fault}
 use Rattle.local_run.specs.declared.fault.KeepFault.{KeepFault}
@@ -45,9 +45,9 @@ abbrev pub border_words : BorderFault → List (List ℕ)
 border_words f = decimal f.time ∷ signed_decimal f.cell.x ∷ signed_decimal f.cell.y ∷ []
 
 -- how many steps a delay takes, if that can be said
-abbrev pub gap_word : Gap → List ℕ
+abbrev pub gap_word : StopGap → List ℕ
 gap_word (Steps m) = decimal m
-gap_word Missing = codes "missing"
+gap_word NoStop = codes "missing"
 gap_word Before = codes "before"
 
 -- when inputs meet, if they do
@@ -80,6 +80,6 @@ opening_lines digest modules =
     ++ line_text (codes "modules") (decimal modules ∷ [])
 
 -- the report on a certificate
-unfoldable pub report_lines : CertState → Verdict → List ℕ
+unfoldable pub report_lines : CertView → Verdict → List ℕ
 report_lines c v = opening_lines (sha256 (certificate_text c)) (length (modules_of c.entries))
     ++ verdict_lines (time_lines (circuit_of c.circuit) (modules_in c)) v

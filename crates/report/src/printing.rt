@@ -13,7 +13,7 @@ ghost use Rattle.report.specs.ReportText.{fault_line, kind_word, opening_lines, 
 
 use audit_core::{ReportLine, Verdict};
 use border_match::BorderFault;
-use certificate::{Cert, Gap, TimeLine};
+use certificate::{Cert, StopGap, TimeLine};
 use local_run::{Fault, KeepFault, Kind};
 use section_text::Refusal;
 use std::alloc::{AllocError, Global};
@@ -167,13 +167,13 @@ fn border_line(alloc: Global, number: usize, fault: BorderFault) -> Result<Strin
     Ok(line)
 }
 
-fn delay_line(alloc: Global, number: usize, wanted: u32, gap: Gap) -> Result<String, AllocError>
+fn delay_line(alloc: Global, number: usize, wanted: u32, gap: StopGap) -> Result<String, AllocError>
     ensures { IfOk result (λ line. string_bytes line ≡ fault_line (Delay number wanted gap)) }
 {
     let line = match gap {
-        Gap::Steps(steps) => format!(in alloc; "delay {number} {wanted} {steps}\n")?,
-        Gap::Missing => format!(in alloc; "delay {number} {wanted} missing\n")?,
-        Gap::Before => format!(in alloc; "delay {number} {wanted} before\n")?,
+        StopGap::Steps(steps) => format!(in alloc; "delay {number} {wanted} {steps}\n")?,
+        StopGap::NoStop => format!(in alloc; "delay {number} {wanted} missing\n")?,
+        StopGap::Before => format!(in alloc; "delay {number} {wanted} before\n")?,
     };
     Ok(line)
 }

@@ -7,7 +7,7 @@ use Rattle.section_text.specs.declared.section.Form.{Form}
 use Rattle.section_text.specs.declared.section.Form.TheVariants.{Header, Item, End}
 use Rattle.section_text.specs.declared.fault.Refusal.{Refusal}
 use Rattle.section_text.specs.declared.fault.ReadFault.{ReadFault}
-use Rattle.section_text.specs.FeedState.{FeedState, ahead}
+use Rattle.section_text.specs.Feeds.{FeedView, ahead}
 use Rattle.section_text.specs.Section.{Grammar, unless, line_after, header_line, section_of, body_of, Reads}
 
 module _ {H I : Type 0} (g : Grammar H I) where
@@ -95,7 +95,7 @@ module _ {H I : Type 0} (g : Grammar H I) where
   read_faultless n (l ∷ ls) h rows e = header_faultless ls n h rows (g.form (words_of l)) e
 
   -- what a reader answered is good
-  module _ {A : Type 0} (view : A → H × List I) (old new : FeedState) (a : A)
+  module _ {A : Type 0} (view : A → H × List I) (old new : FeedView) (a : A)
       (reads : Reads g view old new (Ok a)) where
     faultless_by : (stop : Option ReadFault) → old.stop ≡ stop → IsFaultless (view a).0 (view a).1
     faultless_by (Some fault) e = absurd (reads.stopped fault e).0

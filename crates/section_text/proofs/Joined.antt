@@ -5,14 +5,14 @@ use Rattle.std.specs.Prelude.{◌≢◌}
 use Rattle.std.proofs.lemmas.List.{drop-drop}
 use Rattle.section_text.specs.Words.{lines_of}
 use Rattle.section_text.specs.Faults.{refusal}
-use Rattle.section_text.specs.FeedState.{FeedState, ahead}
+use Rattle.section_text.specs.Feeds.{FeedView, ahead}
 use Rattle.section_text.specs.declared.fault.Refusal.{Refusal}
 use Rattle.section_text.specs.declared.fault.ReadFault.{ReadFault}
 use Rattle.section_text.specs.declared.fault.ReadFault.TheVariants.{Refused, Memory}
 use Rattle.section_text.specs.Section.{Grammar, section_of, refused_at, Reads, Fails}
 use Rattle.section_text.specs.Sections.{go_on, section_then, finished}
 
-module _ {H I A B : Type 0} (g : Grammar H I) (view : A → H × List I) (old new : FeedState) (going : old.stop ≡ None)
+module _ {H I A B : Type 0} (g : Grammar H I) (view : A → H × List I) (old new : FeedView) (going : old.stop ≡ None)
     (next : H → List I → ℕ → List (List ℕ) → Result B Refusal) where
   -- the section was read: what comes of it comes of the feed after it
   pub section_read : (a : A) → Reads g view old new (Ok a) →
@@ -20,7 +20,7 @@ module _ {H I A B : Type 0} (g : Grammar H I) (view : A → H × List I) (old ne
   section_read a reads =
       let done = reads.reads going in
       let k = length (view a).1 + 2 in
-      let taken : new.taken ≡ old.taken + k = ap (λ (f : FeedState). f.taken) done.after in
+      let taken : new.taken ≡ old.taken + k = ap (λ (f : FeedView). f.taken) done.after in
       let rest : ahead new ≡ drop k (ahead old) =
       ap ahead done.after ∙ sym (drop-drop k old.taken (lines_of old.text)) in
       ap (λ (r : Result (H × List I) Refusal).
@@ -30,13 +30,13 @@ module _ {H I A B : Type 0} (g : Grammar H I) (view : A → H × List I) (old ne
       ∙ ap (next (view a).0 (view a).1 new.taken) (sym rest)
 
   pub still_going : (a : A) → Reads g view old new (Ok a) → new.stop ≡ None
-  still_going a reads = ap (λ (f : FeedState). f.stop) ((reads.reads going).after) ∙ going
+  still_going a reads = ap (λ (f : FeedView). f.stop) ((reads.reads going).after) ∙ going
 
   pub same_text : (a : A) → Reads g view old new (Ok a) → new.text ≡ old.text
-  same_text a reads = ap (λ (f : FeedState). f.text) ((reads.reads going).after)
+  same_text a reads = ap (λ (f : FeedView). f.text) ((reads.reads going).after)
 
   pub still_closed : (a : A) → Reads g view old new (Ok a) → new.closed ≡ old.closed
-  still_closed a reads = ap (λ (f : FeedState). f.closed) ((reads.reads going).after)
+  still_closed a reads = ap (λ (f : FeedView). f.closed) ((reads.reads going).after)
 
   -- the section was not read: the fault is that of all
   fails_first : (fault : ReadFault) → Fails fault (section_of g old.taken (ahead old)) →

@@ -1,6 +1,6 @@
 pub mod Words
 pub mod Faults
-pub mod FeedState
+pub mod Feeds
 pub mod FeedView
 pub mod NameView
 pub mod Section

@@ -9,7 +9,7 @@ ghost use Rattle.section_text.specs.Listed.{four_listed, listed};
 ghost use Rattle.section_text.specs.Faults.{refusal};
 ghost use Rattle.section_text.specs.Section.{ended_line};
 ghost use Rattle.section_text.specs.Seeding.{first_section, seed_of};
-ghost use Rattle.section_text.specs.FeedState.{FeedState, ahead, after_lines, IsLine, line_bytes, text_limit, TakesLine, RunsOut};
+ghost use Rattle.section_text.specs.Feeds.{FeedView, ahead, after_lines, IsLine, line_bytes, text_limit, TakesLine, RunsOut};
 
 use crate::fault::{PushFault, ReadFault, Refusal};
 use crate::name::Name;
@@ -20,10 +20,10 @@ use std::alloc::Global;
 use std::marker::Model;
 
 /// The limit on the length of a text, in bytes: 16 MiB.
-pub const LONGEST: usize = 16_777_216;
+pub const MAX_TEXT_BYTES: usize = 16_777_216;
 
 // The most bytes of a text that a seed is of: 1 MiB, which is more than the longest circuit section has.
-const SEEDED: usize = 1_048_576;
+const MAX_SEEDED_BYTES: usize = 1_048_576;
 
 /// A text that comes in pieces and is then taken line by line.
 ///
@@ -43,13 +43,13 @@ pub struct Feed {
 }
 
 impl Model for Feed {
-    ghost use Rattle.section_text.specs.FeedState.{FeedState};
+    ghost use Rattle.section_text.specs.Feeds.{FeedView};
 
-    ghost Value = { FeedState };
+    ghost Value = { FeedView };
 
-    ghost use Rattle.section_text.specs.FeedView.{feed_state, IsFeed};
+    ghost use Rattle.section_text.specs.FeedView.{feed_view, IsFeed};
 
-    ghost view = { feed_state };
+    ghost view = { feed_view };
 
     ghost invariant = { IsFeed };
 }
@@ -216,7 +216,7 @@ fn are_digits(word: &[u8]) -> bool
 // What at most nine digits spell.
 fn read_digits(word: &[u8]) -> u32
     requires digits { list_all is_digit word.now ≡ true }
-    requires few { length word.now ≤ 9 }
+    requires at_most_9 { length word.now ≤ 9 }
     ensures { result ≡ read_on 0 word.now }
 {
     let mut number = 0u32;
@@ -270,7 +270,7 @@ impl Feed {
             ↔ (text_limit < length self.old.text + length piece.now) }
         ensures within { length self.new.text ≤ text_limit }
     {
-        if piece.len() > LONGEST - self.bytes.len() {
+        if piece.len() > MAX_TEXT_BYTES - self.bytes.len() {
             return Err(PushFault::TooLong);
         }
         match self.bytes.extend_from_slice(piece) {
@@ -307,7 +307,7 @@ impl Feed {
     pub fn seed(&self) -> Seed
         ensures { result ≡ seed_of (take 1048576 (first_section self.now.text)) }
     {
-        Seed::of(first_bytes(first_section(&self.bytes), SEEDED))
+        Seed::of(first_bytes(first_section(&self.bytes), MAX_SEEDED_BYTES))
     }
 
     /// Takes the next line that a line feed ends.
@@ -459,7 +459,7 @@ impl Feed {
     /// It returns `None` if one of these words is no name, or is not there.
     pub fn names(&self, line: &Line, from: usize, count: usize) -> Option<Names>
         requires line { IsLine self.now line.now }
-        requires few { count ≤ 4 }
+        requires at_most_4 { count ≤ 4 }
         requires near { from ≤ 8 }
         ensures { result ≡ names_at (words_of (line_bytes self.now line.now)) from count }
     {

@@ -1,7 +1,7 @@
 -- A reply tells of the book's digest and jobs alone, and of whether a finding is held.
 use Rattle.std.proofs.Common.{◌≡◌, ◌∙◌, ℕ, List, false, length}
 use Rattle.std.specs.Prelude.{is_some}
-use Rattle.module_job.specs.Jobs.{JobState}
+use Rattle.module_job.specs.Jobs.{JobView}
 use Rattle.local_run.specs.Shown.{digest_of, number_of, job_of}
 use Rattle.local_run.specs.declared.finding.Finding.{Finding}
 use Rattle.audit_core.specs.Book.{BookView, found_in, is_job_of, reply_to}
@@ -9,7 +9,7 @@ use Rattle.audit_core.specs.Replay.{rule}
 use Rattle.audit_core.specs.declared.reply.Reply.{Reply}
 use Rattle.verdict_book.specs.Replies.{IsReplyOf}
 
-pub ruled_by : (b : BookView) (f : Finding) (r : Reply) (digest : List ℕ) (jobs : List JobState) → r ≡ reply_to b f →
+pub ruled_by : (b : BookView) (f : Finding) (r : Reply) (digest : List ℕ) (jobs : List JobView) → r ≡ reply_to b f →
     b.digest ≡ digest → b.jobs ≡ jobs → b.closed ≡ false →
     IsReplyOf digest jobs (digest_of f) (number_of f) (job_of f) r
 unfolding reply_to

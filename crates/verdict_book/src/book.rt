@@ -6,7 +6,7 @@ ghost use Rattle.verdict_book.specs.Counts.{counted, no_counts};
 ghost use Rattle.verdict_book.specs.Replies.{IsReplyOf};
 
 use crate::filings::Filings;
-use crate::kept::Kept;
+use crate::locked::LockedBook;
 use crate::share::Share;
 use audit_core::{BookState, NotFiled, Reply};
 use local_run::Finding;
@@ -21,7 +21,7 @@ use std::sync::{Mutex, Wait};
 /// Its shares name both ledgers, so a share of another book does not fit. `F` has the digest and the jobs of the book.
 #[derive(Drop)]
 pub struct Book<F: Filings, A: Ledger> {
-    pub(crate) kept: Mutex<Kept<F, A>>,
+    pub(crate) locked: Mutex<LockedBook<F, A>>,
     pub(crate) shares: usize,
     pub(crate) digest: [u8; 32],
 }
@@ -53,7 +53,7 @@ impl<F: Filings, A: Ledger> Book<F, A> {
         requires filings { (f.name ≡ F.name) × (f.parts ≡ F.parts) × (f.parts ≡ shares) }
         requires acceptances { (a.name ≡ A.name) × (a.parts ≡ A.parts) × (a.parts ≡ shares) }
         requires count { (0 < shares) × (shares ≤ 64) }
-        requires own { (state.digest ≡ F.digest) × (state.jobs ≡ F.jobs) }
+        requires ledger_names_book { (state.digest ≡ F.digest) × (state.jobs ≡ F.jobs) }
         requires fresh { state.history ≡ [] }
         ensures book { IfOk result (λ r. r.0 ≡ shares) }
         ensures shares { IfOk result (λ r. r.1.items ≡ replicate shares no_counts) }
@@ -66,9 +66,9 @@ impl<F: Filings, A: Ledger> Book<F, A> {
             parts.push(share)?;
         }
         let digest = state.digest();
-        let kept = Mutex::new(Kept::new(state, filings, acceptances));
+        let locked = Mutex::new(LockedBook::new(state, filings, acceptances));
         let book = Book {
-            kept,
+            locked,
             shares,
             digest,
         };
@@ -103,6 +103,6 @@ impl<F: Filings, A: Ledger> Book<F, A> {
         ensures unchanged { OnErr result (mine.new ≡ mine.old) }
         ensures returned { IfErr result (λ e. e.finding ≡ finding) }
     {
-        self.kept.lock(rt).file(mine, finding)
+        self.locked.lock(rt).file(mine, finding)
     }
 }

@@ -37,7 +37,8 @@ pub fn gather<F: Filings, A: Ledger>(
 ) -> Result<Gathered, NotAll<F, A>>
     ensures missing { IsErr result ↔ (vec_len shares < book) }
     ensures returned { IfErr result (λ e. (e.book ≡ book) × (e.shares ≡ shares)) }
-    ensures own { IfOk result (λ g. (g.state.digest ≡ F.digest) × (g.state.jobs ≡ F.jobs)) }
+    ensures ledger_names_book { IfOk result (λ g. (g.state.digest ≡ F.digest)
+        × (g.state.jobs ≡ F.jobs)) }
     ensures replays { IfOk result (λ g. IsReplayed g.state) }
     ensures no_closing { IfOk result (λ g. has_closing g.state.history ≡ false) }
     ensures still_open { IfOk result (λ g. g.state.closed ≡ false) }
@@ -49,6 +50,6 @@ pub fn gather<F: Filings, A: Ledger>(
     if shares.len() < book.shares {
         return Err(NotAll { book, shares });
     }
-    let Book { kept, .. } = book;
-    Ok(kept.into_inner().total(shares))
+    let Book { locked, .. } = book;
+    Ok(locked.into_inner().total(shares))
 }

@@ -52,7 +52,7 @@ fn reply(rt: &impl Abort, book: &mut BookState, finding: Finding) -> Reply {
     }
 }
 
-fn last_entry(book: &BookState) -> Option<Entry> {
+fn last_entry(book: &BookState) -> Option<LogEntry> {
     book.history().last().copied()
 }
 
@@ -163,7 +163,7 @@ const TURNS: [Turn; 15] = [
 
 /// Returns whether the last filing has this reply, this entry and this count.
 fn is_told(book: &BookState, told: Reply, entry: Filing, held: usize) -> bool {
-    let last = Some(Entry::Filed(entry));
+    let last = Some(LogEntry::Filed(entry));
     told == entry.reply && last_entry(book) == last && book.accepted() == held
 }
 
@@ -217,7 +217,7 @@ fn played(rt: &impl Abort, alloc: Global, works: &Works) -> BookState {
 fn book_with_its_history(rt: HostRuntime) {
     let works = Works::new(&rt, rt.alloc());
     let mut book = played(&rt, rt.alloc(), &works);
-    assert!(rt; is_at(&book, 16, true) && last_entry(&book) == Some(Entry::Closing));
+    assert!(rt; is_at(&book, 16, true) && last_entry(&book) == Some(LogEntry::Closing));
     let late = ((Of::Own, 0), (Of::Own, 0), true, Reply::Closed, 4);
     assert!(rt; play(&rt, rt.alloc(), &works, &mut book, &late));
     assert!(rt; is_at(&book, 17, true));

@@ -90,8 +90,8 @@ fn played(rt: &impl Abort, alloc: Global, work: &Work) -> Core {
 }
 
 /// Returns the entry of a filing.
-fn filed(digest: [u8; 32], number: usize, reply: Reply) -> Entry {
-    Entry::Filed(Filing {
+fn filed(digest: [u8; 32], number: usize, reply: Reply) -> LogEntry {
+    LogEntry::Filed(Filing {
         digest,
         number,
         same: true,
@@ -100,7 +100,7 @@ fn filed(digest: [u8; 32], number: usize, reply: Reply) -> Entry {
 }
 
 /// Returns whether the history has the three filings alone.
-fn are_filings(history: &[Entry], digest: [u8; 32]) -> bool {
+fn are_filings(history: &[LogEntry], digest: [u8; 32]) -> bool {
     let filings = [
         filed(digest, 1, Reply::Accepted),
         filed(digest, 1, Reply::Double(1)),

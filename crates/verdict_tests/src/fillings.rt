@@ -24,8 +24,8 @@ fn fill_up(rt: &impl Abort, alloc: Global, book: &mut BookState, work: &Work, en
 }
 
 /// Returns the entry of a finding that was accepted.
-fn accepted(digest: [u8; 32], number: usize) -> Entry {
-    Entry::Filed(Filing {
+fn accepted(digest: [u8; 32], number: usize) -> LogEntry {
+    LogEntry::Filed(Filing {
         digest,
         number,
         same: true,

@@ -1,7 +1,7 @@
 //! A grid that a ball leaves, and the largest grid.
 
 use bbm_rule::{Cell, Grid, Left};
-use pattern::Extent;
+use pattern::LayoutHeader;
 
 fn is_live(grid: &Grid, x: i32, y: i32) -> bool {
     let cell = Cell { x, y };
@@ -56,7 +56,7 @@ fn the_largest_grid_steps(rt: HostRuntime) {
 #[test]
 fn holds_its_cells_alone(rt: HostRuntime) {
     let grid = Grid::new(rt.alloc(), 6, 4).expect(&rt, "a grid");
-    let size = Extent {
+    let size = LayoutHeader {
         w: 6,
         h: 4,
         steps: 7,

@@ -1,14 +1,14 @@
 //! Signals of cells at times, and equal schedules.
 
 use bbm_rule::Cell;
-use module_box::{Event, Held, Moment, Schedule, Signal};
+use module_box::{AllTimes, Event, Moment, Schedule, Signal};
 use std::alloc::Global;
 use std::process::Abort;
 
 // a cell that holds wire 7, and a cell that is live at a time
 fn schedule(rt: &impl Abort, alloc: Global, time: u32, live: Cell) -> Schedule {
     let (mut signals, mut events) = (Vec::new(alloc), Vec::new(alloc));
-    let held = Held {
+    let all_times = AllTimes {
         cell: HELD,
         signal: Signal::Wire(7),
     };
@@ -16,7 +16,7 @@ fn schedule(rt: &impl Abort, alloc: Global, time: u32, live: Cell) -> Schedule {
         at: Moment { time, cell: live },
         signal: Signal::One,
     };
-    assert!(rt; signals.push(held).is_ok() && events.push(event).is_ok());
+    assert!(rt; signals.push(all_times).is_ok() && events.push(event).is_ok());
     Schedule::new(signals, events)
 }
 
@@ -36,7 +36,7 @@ const CARRIED: [(u32, i32, i32, Signal); 7] = [
 ];
 
 #[test]
-fn held_event_or_zero(rt: HostRuntime) {
+fn all_times_event_or_zero(rt: HostRuntime) {
     let apart = schedule(&rt, rt.alloc(), 3, APART);
     for (t, x, y, signal) in CARRIED {
         assert!(rt; apart.at(t, Cell { x, y }) == signal, "at {t}, {x}, {y}");

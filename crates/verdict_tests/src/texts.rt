@@ -1,6 +1,6 @@
 //! Lines, words, numbers and names. The expected results were worked out by hand from the format.
 ghost use Rattle.std.specs.Prelude.{◌≡◌, true, false};
-ghost use Rattle.section_text.specs.FeedState.{IsLine};
+ghost use Rattle.section_text.specs.Feeds.{IsLine};
 
 use section_text::{
     Feed, Line, Name, PushFault, ReadFault, Refusal, print_number, print_word, read_number,

@@ -1,8 +1,8 @@
 -- The layout, the names that are on, and the end of the text.
 use Rattle.std.proofs.Common.{ℕ, List, None, sym, ◌∙◌}
 use Rattle.std.specs.List.{flat_map}
-use Rattle.pattern.specs.declared.parts.Part.{Part}
-use Rattle.pattern.specs.declared.parts.Extent.{Extent}
+use Rattle.pattern.specs.declared.layout_line.LayoutLine.{LayoutLine}
+use Rattle.pattern.specs.declared.layout_line.LayoutHeader.{LayoutHeader}
 use Rattle.pattern.specs.Layout.{Pattern}
 use Rattle.pattern.specs.Grammars.{layout_grammar, layout_value}
 use Rattle.answers.specs.RunText.{in_name, run_asked}
@@ -10,10 +10,10 @@ use Rattle.answers.proofs.AskedLemmas.{first_failed, then_failed, then_read}
 use Rattle.answers.proofs.InNames.{in_names_are}
 use Rattle.answers.proofs.run.read_asked.Goals as goal
 
-lines : Extent → List Part → Extent × List Part
+lines : LayoutHeader → List LayoutLine → LayoutHeader × List LayoutLine
 lines size parts = (size, parts)
 
-names : Extent → List Part → List (List ℕ)
+names : LayoutHeader → List LayoutLine → List (List ℕ)
 names size parts = flat_map in_name parts
 
 pub returns-in-Err : goal.returns-in-Err

@@ -1,33 +1,34 @@
 -- The circuit, the names that are on, and the end of the text.
 use Rattle.std.proofs.Common.{ℕ, List, ◌∙◌}
-use Rattle.circuit.specs.declared.entry.Entry.{Entry}
+use Rattle.circuit.specs.declared.circuit_line.CircuitLine.{CircuitLine}
 use Rattle.circuit.specs.Bridge.{input_names}
 use Rattle.circuit.specs.Grammars.{circuit_grammar, circuit_value}
 use Rattle.answers.specs.ValueText.{value_asked}
 use Rattle.answers.proofs.AskedLemmas.{first_failed, then_failed, then_read}
 use Rattle.answers.proofs.value.read_asked.Goals as goal
 
-entries : Unit {0} → List Entry → List Entry
+entries : Unit {0} → List CircuitLine → List CircuitLine
 entries _ list = list
 
-names : Unit {0} → List Entry → List (List ℕ)
+names : Unit {0} → List CircuitLine → List (List ℕ)
 names _ list = input_names list
 
 pub returns-in-Err : goal.returns-in-Err
 unfolding value_asked entries names
-returns-in-Err c = first_failed {A = List Entry} circuit_grammar circuit_value entries names c.args.feed.now
+returns-in-Err c = first_failed {A = List CircuitLine} circuit_grammar circuit_value entries names c.args.feed.now
     c.read_circuit.new.feed c.requires.unread c.requires.going c.in-Err.fault c.in-Err.ensures
 
 pub returns-in-Err-read_names : goal.returns-in-Err-read_names
 unfolding value_asked entries names
 returns-in-Err-read_names c =
-    then_failed {A = List Entry} circuit_grammar circuit_value entries names c.args.feed.now c.read_circuit.new.feed
+    then_failed {A = List CircuitLine} circuit_grammar circuit_value entries names c.args.feed.now
+    c.read_circuit.new.feed
     c.requires.unread c.requires.going c.in-Ok.circuit c.deref.result.now c.in-Err-read_names.fault c.in-Ok.ensures
     (c.deref.ensures.value ∙ c.in-Ok-input_list.ensures.names) c.in-Err-read_names.ensures
 
 pub returns-in-Ok-read_names : goal.returns-in-Ok-read_names
 unfolding value_asked entries names
 returns-in-Ok-read_names c =
-    then_read {A = List Entry} circuit_grammar circuit_value entries names c.args.feed.now c.read_circuit.new.feed
+    then_read {A = List CircuitLine} circuit_grammar circuit_value entries names c.args.feed.now c.read_circuit.new.feed
     c.requires.unread c.requires.going c.in-Ok.circuit c.deref.result.now c.in-Ok-read_names.on.items c.in-Ok.ensures
     (c.deref.ensures.value ∙ c.in-Ok-input_list.ensures.names) c.in-Ok-read_names.ensures

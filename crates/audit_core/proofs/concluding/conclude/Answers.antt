@@ -2,8 +2,8 @@ use Rattle.std.proofs.Common.{◌≡◌, ◌∙◌, ◌==◌, ◌++◌, true, Li
 use Rattle.std.specs.Vec.{vec_len}
 use Rattle.std.specs.Arc.{arc_value}
 use Rattle.std.proofs.lemmas.Bool.{and_from, and_parts}
-use Rattle.module_job.specs.Jobs.{JobState}
-use Rattle.certificate.specs.Times.{are_all_kept, time_lines}
+use Rattle.module_job.specs.Jobs.{JobView}
+use Rattle.certificate.specs.Times.{are_all_obeyed, time_lines}
 use Rattle.audit_core.specs.Concluding.{modules, setting}
 use Rattle.audit_core.specs.Verdicts.{AreLeastFaults, lines_from, timing, unkept_lines}
 use Rattle.audit_core.specs.declared.verdict.ReportLine.TheVariants.{Unkept}
@@ -15,17 +15,18 @@ use Rattle.audit_core.proofs.concluding.conclude.Goals.{After-is_empty}
 all : (c : After-is_empty) → AreAllFaults c.args.cert.now
     (map arc_value c.args.jobs.now) c.deref.result.now c.args.borders.now
 all c =
-    let jobs : List JobState = map arc_value c.args.jobs.now in
+    let jobs : List JobView = map arc_value c.args.jobs.now in
     record {
-      own = c.requires.own;
+      own = c.requires.own_jobs;
       least = subst (AreLeastFaults jobs) (sym c.deref.ensures.value) c.in_ok-faults.ensures.least;
       borders = c.requires.borders;
     }
 
 -- the test of the lines of delays and meetings
 kept_is : (c : After-is_empty) →
-    c.are_all_kept-kept.result ≡ are_all_kept (time_lines (setting c.args.cert.now).circuit (modules c.args.cert.now))
-kept_is c = c.are_all_kept-kept.ensures ∙ ap are_all_kept (c.deref-3.ensures.value ∙ c.in_ok-times.ensures)
+    c.are_all_obeyed-obeyed.result
+    ≡ are_all_obeyed (time_lines (setting c.args.cert.now).circuit (modules c.args.cert.now))
+kept_is c = c.are_all_obeyed-obeyed.ensures ∙ ap are_all_obeyed (c.deref-3.ensures.value ∙ c.in_ok-times.ensures)
 
 -- the lines on the modules, and on gates that are not kept
 lines_are : (c : After-is_empty) →
@@ -35,17 +36,17 @@ lines_are c = c.in_ok-lines.ensures
     ∙ ap (λ ns. lines_from 0 c.deref.result.now c.args.borders.now ++ map (λ n. Unkept n) ns)
     (c.deref-2.ensures.value ∙ c.in_ok-unkept.ensures)
 
-pub returns-then-kept-is_empty-clause-verdict : goal.returns-then-kept-is_empty-clause-verdict
-returns-then-kept-is_empty-clause-verdict c =
-    let d = (goal.at.returns-then-kept-is_empty-clause-verdict c).After-is_empty in
-    let parts = and_parts c.are_all_kept-kept.result c.is_empty.result c.if-kept-is_empty.true in
+pub returns-then-obeyed-is_empty-clause-verdict : goal.returns-then-obeyed-is_empty-clause-verdict
+returns-then-obeyed-is_empty-clause-verdict c =
+    let d = (goal.at.returns-then-obeyed-is_empty-clause-verdict c).After-is_empty in
+    let parts = and_parts c.are_all_obeyed-obeyed.result c.is_empty.result c.if-obeyed-is_empty.true in
     let empty : c.is_empty.result ≡ true = parts.1 in
     let none : length c.in_ok-lines.lines.items ≡ 0 = search rules in
     verdict-yes c.args.cert.now (map arc_value c.args.jobs.now) c.deref.result.now c.args.borders.now (all d)
     (sym (lines_are d) ∙ is_empty_list c.in_ok-lines.lines.items none) (sym (kept_is d) ∙ parts.0)
 
-pub returns-then-kept-is_empty-clause-correct : goal.returns-then-kept-is_empty-clause-correct
-returns-then-kept-is_empty-clause-correct c is named =
+pub returns-then-obeyed-is_empty-clause-correct : goal.returns-then-obeyed-is_empty-clause-correct
+returns-then-obeyed-is_empty-clause-correct c is named =
     let read : IsRead c.args.cert.now c.size-size.result = record {
       ordered = c.modules-count.ensures.ordered;
       same = c.size-size.ensures.size;
@@ -55,11 +56,11 @@ returns-then-kept-is_empty-clause-correct c is named =
       inputs = c.modules-count.ensures.inputs;
       named = named;
     } in
-    yes_means-correct c.args.cert.now c.size-size.result (map arc_value c.args.jobs.now) read c.requires.own
-    (returns-then-kept-is_empty-clause-verdict c)
+    yes_means-correct c.args.cert.now c.size-size.result (map arc_value c.args.jobs.now) read c.requires.own_jobs
+    (returns-then-obeyed-is_empty-clause-verdict c)
 
-pub returns-then-kept-is_empty-clause-on_time : goal.returns-then-kept-is_empty-clause-on_time
-returns-then-kept-is_empty-clause-on_time c is named =
+pub returns-then-obeyed-is_empty-clause-on_time : goal.returns-then-obeyed-is_empty-clause-on_time
+returns-then-obeyed-is_empty-clause-on_time c is named =
     let read : IsRead c.args.cert.now c.size-size.result = record {
       ordered = c.modules-count.ensures.ordered;
       same = c.size-size.ensures.size;
@@ -69,8 +70,8 @@ returns-then-kept-is_empty-clause-on_time c is named =
       inputs = c.modules-count.ensures.inputs;
       named = named;
     } in
-    yes_means-on_time c.args.cert.now c.size-size.result (map arc_value c.args.jobs.now) read c.requires.own
-    (returns-then-kept-is_empty-clause-verdict c)
+    yes_means-on_time c.args.cert.now c.size-size.result (map arc_value c.args.jobs.now) read c.requires.own_jobs
+    (returns-then-obeyed-is_empty-clause-verdict c)
 
 pub returns-clause-verdict : goal.returns-clause-verdict
 returns-clause-verdict c =
@@ -84,6 +85,6 @@ returns-clause-verdict c =
     let none : length c.in_ok-lines.lines.items ≡ 0 = ap length (lines_are d ∙ e.0) in
     let len : vec_len c.in_ok-lines.lines ≡ 0 = search rules in
     let empty : c.is_empty.result ≡ true = c.is_empty.ensures ∙ ap (λ n. n == 0) len in
-    let kept : c.are_all_kept-kept.result ≡ true = kept_is d ∙ e.1 in
-    let both = and_from c.are_all_kept-kept.result c.is_empty.result kept empty in
+    let obeyed : c.are_all_obeyed-obeyed.result ≡ true = kept_is d ∙ e.1 in
+    let both = and_from c.are_all_obeyed-obeyed.result c.is_empty.result obeyed empty in
     cc)

@@ -1,6 +1,6 @@
 use Rattle.std.proofs.Common.{◌≡◌, ◌∙◌, ◌+◌, ℕ, sym, subst, map}
 use Rattle.std.specs.Arc.{arc_value}
-use Rattle.module_job.specs.Jobs.{JobState}
+use Rattle.module_job.specs.Jobs.{JobView}
 use Rattle.audit_core.specs.Verdicts.{IsFirstMissing, IsHeld}
 use Rattle.audit_core.proofs.HeldJobs.{AreFaultsBelow, first-missing, job-at, one-more}
 use Rattle.audit_core.proofs.concluding.held_faults.Goals as goal
@@ -13,7 +13,7 @@ returns-in_default-clause-missing c = λ number e.
     let same : n ≡ number = cc in
     let at = job-at arc_value c.args.jobs.now n c.index-jobs-number.result c.modules-test.true c.index-jobs-number.is in
     let missing : ¬ IsHeld b n (arc_value c.index-jobs-number.result) =
-    subst (λ (j : JobState). ¬ IsHeld b n j) c.deref.ensures c.in_default.ensures.missing in
+    subst (λ (j : JobView). ¬ IsHeld b n j) c.deref.ensures c.in_default.ensures.missing in
     subst (λ (k : ℕ). IsFirstMissing b jobs k) same
     (first-missing b jobs n c.modules.faults.items _ c.modules.invariant at missing)
 

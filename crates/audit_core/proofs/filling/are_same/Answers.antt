@@ -3,8 +3,8 @@ use Rattle.audit_core.proofs.Fillings.{lists-told}
 use Rattle.audit_core.proofs.filling.are_same.Goals as goal
 use Rattle.std.proofs.Common.{◌≡◌, true}
 
-pub returns-clause-same : goal.returns-clause-same
-returns-clause-same c = (lists-told arc_value c.args.own.now c.args.jobs.now c.eq.result c.eq.ensures).0
+pub returns-clause-same_jobs : goal.returns-clause-same_jobs
+returns-clause-same_jobs c = (lists-told arc_value c.args.own.now c.args.jobs.now c.eq.result c.eq.ensures).0
 
 pub returns-clause-other : goal.returns-clause-other
 returns-clause-other c = λ differs same.

@@ -19,7 +19,8 @@ fill_open-requires c =
           }
       | else-not-own w ↦
           record {
-            own = subst (IsOpenFor digest jobs) (sym w.state-is) (c.is_open_for-own.ensures.own w.if-not-own.false);
+            own = subst (IsOpenFor digest jobs) (sym w.state-is)
+                (c.is_open_for-own.ensures.open_for_jobs w.if-not-own.false);
           }
     ]
 
@@ -34,5 +35,5 @@ returns-clause-replaced c = λ other.
           let is : c.if-not-own.state ≡ new_book digest jobs =
           w.state-is ∙ w.in_ok-state.ensures ∙ ap (new_book digest) same in
           inr (subst (λ (b : BookView). IsPartlyFilled b after) is c.fill_open.ensures.partly)
-      | else-not-own w ↦ absurd (other (c.is_open_for-own.ensures.own w.if-not-own.false))
+      | else-not-own w ↦ absurd (other (c.is_open_for-own.ensures.open_for_jobs w.if-not-own.false))
     ]

@@ -6,7 +6,7 @@ use Rattle.audit_core.proofs.Fillings.{filled-all, filling-step, is-full, open-s
 use Rattle.audit_core.proofs.FillingRuns.{first-read, holds_alike, runs_end, runs_step}
 use Rattle.audit_core.proofs.HeldJobs.{job-at}
 use Rattle.module_job.specs.Groups.{AreGroups}
-use Rattle.module_job.specs.Jobs.{JobState}
+use Rattle.module_job.specs.Jobs.{JobView}
 use Rattle.module_job.specs.Shapes.{shape_of}
 use Rattle.audit_core.specs.Filling.{HoldsAlike, shapes_of}
 use Rattle.audit_core.proofs.filling.fill_open.Goals as goal
@@ -14,7 +14,7 @@ use Rattle.audit_core.proofs.filling.fill_open.Goals as goal
 pub returns-then-is_full-clause-full : goal.returns-then-is_full-clause-full
 returns-then-is_full-clause-full c =
     is-full c.args.digest
-    (map arc_value c.args.jobs.now) c.args.state.now c.requires.own c.history-history.ensures.replays
+    (map arc_value c.args.jobs.now) c.args.state.now c.requires.open_for_jobs c.history-history.ensures.replays
     c.if-is_full.ensures.book (c.if-is_full.ensures.full refl)
 
 pub fill_number-requires-clause-job : goal.fill_number-requires-clause-job
@@ -22,12 +22,12 @@ fill_number-requires-clause-job c =
     let at = job-at arc_value c.args.jobs.now c.numbers.number c.index-jobs-number.result c.numbers-test.true
     c.index-jobs-number.is in
     let own = open-stays c.args.digest
-    (map arc_value c.args.jobs.now) c.args.state.now c.numbers.state c.numbers.number c.requires.own
+    (map arc_value c.args.jobs.now) c.args.state.now c.numbers.state c.numbers.number c.requires.open_for_jobs
     c.numbers.invariant.0.filled in
     ap (λ js. slice_get js c.numbers.number) own.jobs_are ∙ at
 
 -- each job has a group
-within : {Y : Type 0} (view : Y → JobState) (jobs : List Y) (g : List ℕ) (n : ℕ) →
+within : {Y : Type 0} (view : Y → JobView) (jobs : List Y) (g : List ℕ) (n : ℕ) →
     AreGroups (shapes_of (map view jobs)) g → n < length jobs → n < length g
 within view jobs g n are lt =
     let count = are.count in
@@ -41,7 +41,7 @@ fill_number-requires-clause-alike c = λ other.
     let g = c.in_ok-groups.groups.items in
     let n = c.numbers.number in
     let at = job-at arc_value c.args.jobs.now n c.index-jobs-number.result c.numbers-test.true c.index-jobs-number.is in
-    let own = open-stays c.args.digest jobs c.args.state.now c.numbers.state n c.requires.own
+    let own = open-stays c.args.digest jobs c.args.state.now c.numbers.state n c.requires.open_for_jobs
     c.numbers.invariant.0.filled in
     let first = first-read g n c.index.result.now
     (within arc_value c.args.jobs.now g n c.in_ok-groups.ensures c.numbers-test.true) c.index.ensures in
@@ -85,10 +85,11 @@ pub returns-clause-full : goal.returns-clause-full
 returns-clause-full c =
     let b = c.args.state.now in
     let all = length-map c.args.jobs.now arc_value in
-    let own = ap length c.requires.own.jobs_are in
+    let own = ap length c.requires.open_for_jobs.jobs_are in
     let past : length b.jobs ≤ c.numbers.number = omega (arith, all, own, c.numbers-test.false) in
     is-full c.args.digest (map arc_value c.args.jobs.now) c.numbers.state
     (open-stays c.args.digest
-    (map arc_value c.args.jobs.now) b c.numbers.state c.numbers.number c.requires.own c.numbers.invariant.0.filled)
+    (map arc_value c.args.jobs.now) b c.numbers.state c.numbers.number c.requires.open_for_jobs
+    c.numbers.invariant.0.filled)
     c.history-history-2.ensures.replays c.numbers.invariant.0.book
     (filled-all b c.numbers.state c.numbers.number past c.numbers.invariant.0)

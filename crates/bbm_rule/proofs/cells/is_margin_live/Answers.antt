@@ -9,13 +9,13 @@ pub cell_bit-requires : goal.cell_bit-requires
 cell_bit-requires c =
     let m : c.args.stride * (c.args.y + 1) ≤ c.args.stride * (c.args.height + 2) =
     mul-le-mul_left c.args.stride (omega (arith, c.requires.row)) in
-    omega (arith, c.requires.room, c.requires.width)
+    omega (arith, c.requires.word_count, c.requires.width)
 
 pub cell_bit-requires-else-cell_bit : goal.cell_bit-requires-else-cell_bit
 cell_bit-requires-else-cell_bit c =
     let m : c.args.stride * (c.args.y + 1) ≤ c.args.stride * (c.args.height + 2) =
     mul-le-mul_left c.args.stride (omega (arith, c.requires.row)) in
-    omega (arith, c.requires.room, c.requires.width)
+    omega (arith, c.requires.word_count, c.requires.width)
 
 pub returns-then-cell_bit-clause-live : goal.returns-then-cell_bit-clause-live
 returns-then-cell_bit-clause-live c = elim c.then-cell_bit.branch [

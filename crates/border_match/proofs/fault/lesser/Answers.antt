@@ -1,8 +1,8 @@
 use Rattle.border_match.proofs.Least.{lesser_kept, at_most_itself}
 use Rattle.border_match.proofs.fault.lesser.Goals as goal
 
-pub returns-in-Greater-clause-kept : goal.returns-in-Greater-clause-kept
-returns-in-Greater-clause-kept c =
+pub returns-in-Greater-clause-covers_as_before : goal.returns-in-Greater-clause-covers_as_before
+returns-in-Greater-clause-covers_as_before c =
     lesser_kept c.in-Some.other c.args.fault c.args.best c.in-Some.is c.in-Greater.ensures
 
 pub returns-in-Greater-clause-covered : goal.returns-in-Greater-clause-covered

@@ -1,7 +1,7 @@
 use Rattle.std.proofs.Common.{◌≡◌, ◌∙◌, ℕ, List, sym, ap, subst, map, replicate, None, Some, arith}
 use Rattle.std.specs.Prelude.{slice_get, IfOk, Result, Ok, Err}
 use Rattle.std.specs.Arc.{arc_value}
-use Rattle.pattern.specs.declared.parts.Extent.{Extent}
+use Rattle.pattern.specs.declared.layout_line.LayoutHeader.{LayoutHeader}
 use Rattle.certificate_lines.specs.Entries.{ModuleLines, modules_of}
 use Rattle.certificate.specs.Grammars.{modules_in}
 use Rattle.certificate_lines.specs.Settings.{setting_of}
@@ -45,7 +45,7 @@ least_fault-requires c =
     let got : slice_get js c.jobs.job-index ≡ Some c.deref-in-jobs.result.now =
     job_at arc_value c.args.jobs.now c.jobs.job-index _ c.deref-in-jobs.result.now c.jobs-test.true
     (c.deref-in-jobs.ensures ∙ ap arc_value c.job-item.is) in (
-      subst (λ (z : Extent). IsBoard (whole z) o js) (sym c.size-size.ensures.size)
+      subst (λ (z : LayoutHeader). IsBoard (whole z) o js) (sym c.size-size.ensures.size)
           (board s.circuit s.layout (modules_in s) js o good c.requires c.in_ok-owners.ensures.owners
           c.in_ok-owners.ensures.width c.in_ok-owners.ensures.height),
       quiet_job s.circuit s.layout (modules_in s) js o good c.requires c.in_ok-owners.ensures.owners
@@ -62,7 +62,8 @@ jobs-preserved c =
     job_at arc_value c.args.jobs.now c.jobs.job-index _ c.deref-in-jobs.result.now c.jobs-test.true
     (c.deref-in-jobs.ensures ∙ ap arc_value c.job-item.is) in
     let found : IsLeast (IsJobFault (whole s.layout.size) o js c.deref-in-jobs.result.now) c.in_ok-least_fault.field-0 =
-    subst (λ (z : Extent). IsLeast (IsJobFault (whole z) o js c.deref-in-jobs.result.now) c.in_ok-least_fault.field-0)
+    subst (λ (z : LayoutHeader). IsLeast
+    (IsJobFault (whole z) o js c.deref-in-jobs.result.now) c.in_ok-least_fault.field-0)
     c.size-size.ensures.size c.in_ok-least_fault.ensures in
     let least = least_by_lines s.circuit s.layout
     (modules_in s) js o good c.requires c.in_ok-owners.ensures.owners c.in_ok-owners.ensures.width

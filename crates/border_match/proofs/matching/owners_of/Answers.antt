@@ -1,7 +1,7 @@
 use Rattle.std.proofs.Common.{◌≡◌, ◌∙◌, sym, subst}
 use Rattle.std.specs.Prelude.{List}
 use Rattle.std.proofs.lemmas.Bool.{false≢true}
-use Rattle.pattern.specs.declared.parts.Extent.{Extent}
+use Rattle.pattern.specs.declared.layout_line.LayoutHeader.{LayoutHeader}
 use Rattle.module_box.specs.Boxes.{Tile}
 use Rattle.module_box.specs.Tiling.{AreOwners, rectangle_of}
 use Rattle.module_box.specs.declared.boxes.Box2.{Box2}
@@ -32,7 +32,7 @@ prove-unreachable-requires c =
     let task = is_task (setting_of s.circuit s.layout)
     (modules_in s) size c.args.boxes.now c.size-size.ensures.size c.size-size.ensures.limits good boxes_are in
     let tile : Tile (rectangle_of size.w size.h) c.args.boxes.now =
-    subst (λ (z : Extent). Tile (whole z) c.args.boxes.now) (sym c.size-size.ensures.size)
+    subst (λ (z : LayoutHeader). Tile (whole z) c.args.boxes.now) (sym c.size-size.ensures.size)
     (subst (λ (bs : List Box2). Tile (whole s.layout.size) bs) (sym boxes_are) good.tile) in
     let memory : c.in-Err.fault ≡ Memory =
     only_memory size.w size.h c.args.boxes.now c.in-Err.fault task c.in-Err.ensures tile in

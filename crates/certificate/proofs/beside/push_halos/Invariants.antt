@@ -1,5 +1,5 @@
 use Rattle.std.proofs.Common.{◌≡◌, ◌++◌, map, take}
-use Rattle.certificate_lines.specs.declared.entry.Entry.TheVariants.{Halo}
+use Rattle.certificate_lines.specs.declared.certificate_line.CertificateLine.TheVariants.{Halo}
 use Rattle.certificate.proofs.beside.push_halos.Given as goal
 
 -- The halo lines so far.

@@ -6,8 +6,8 @@ use Rattle.certificate_lines.specs.Settings.{setting_of}
 use Rattle.certificate.specs.Jobs.{IsJobOf}
 use Rattle.certificate_lines.specs.ModuleParts.{inner}
 use Rattle.certificate_lines.specs.Modules.{HasPorts, IsModule}
-use Rattle.certificate.specs.PlanView.{PlanState}
-use Rattle.certificate_lines.specs.declared.entry.Entry.TheVariants.{Module}
+use Rattle.certificate.specs.LayoutTablesView.{LayoutTablesView}
+use Rattle.certificate_lines.specs.declared.certificate_line.CertificateLine.TheVariants.{Module}
 use Rattle.certificate.proofs.JobLists.{HaveJobs, no_jobs, other_line, next_module, one_job_more, all_jobs}
 use Rattle.certificate_lines.proofs.LinesLeft.{rest_of_lines}
 use Rattle.certificate_lines.proofs.ModuleSplit.{no_module}
@@ -16,14 +16,14 @@ use Rattle.certificate.proofs.jobs.jobs_of_lines.Goals as goal
 
 pub lines-init : goal.lines-init
 lines-init c =
-    let p : PlanState = c.args.plan.now in
+    let p : LayoutTablesView = c.args.tables.now in
     let es = c.args.entries.now in
     subst (λ vs. HaveJobs (circuit_of p.circuit) p.layout es 0 (map arc_value vs)) (sym c.new-jobs.ensures.items)
     (no_jobs (circuit_of p.circuit) p.layout es)
 
 pub make_job-requires-clause-module : goal.make_job-requires-clause-module
 make_job-requires-clause-module c =
-    let p : PlanState = c.args.plan.now in
+    let p : LayoutTablesView = c.args.tables.now in
     let es = c.args.entries.now in
     let line_is : Module c.in-Module.area ≡ get_or es c.lines.place (Module c.in-Module.area) =
     subst (λ e. e ≡ get_or es c.lines.place e) c.in-Module.is c.index-entries-place.is in
@@ -36,7 +36,7 @@ make_job-requires-clause-module c =
 
 pub make_job-requires-clause-ports : goal.make_job-requires-clause-ports
 make_job-requires-clause-ports c =
-    let p : PlanState = c.args.plan.now in
+    let p : LayoutTablesView = c.args.tables.now in
     let es = c.args.entries.now in
     let line_is : Module c.in-Module.area ≡ get_or es c.lines.place (Module c.in-Module.area) =
     subst (λ e. e ≡ get_or es c.lines.place e) c.in-Module.is c.index-entries-place.is in
@@ -49,7 +49,7 @@ make_job-requires-clause-ports c =
 
 pub lines-preserved : goal.lines-preserved
 lines-preserved c =
-    let p : PlanState = c.args.plan.now in
+    let p : LayoutTablesView = c.args.tables.now in
     let es = c.args.entries.now in
     let b = circuit_of p.circuit in
     elim c.match-entry.branch [
@@ -82,5 +82,5 @@ lines-preserved c =
 
 pub returns : goal.returns
 returns c =
-    let p : PlanState = c.args.plan.now in
+    let p : LayoutTablesView = c.args.tables.now in
     all_jobs (circuit_of p.circuit) p.layout c.args.entries.now c.lines.place _ c.lines-test.false c.lines.invariant

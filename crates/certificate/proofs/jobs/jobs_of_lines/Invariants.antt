@@ -6,4 +6,5 @@ use Rattle.certificate.proofs.JobLists.{HaveJobs}
 use Rattle.certificate.proofs.jobs.jobs_of_lines.Given as goal
 
 abbrev pub invariant-lines : goal.invariant-lines
-invariant-lines l = HaveJobs (circuit_of l.plan.circuit) l.plan.layout l.entries l.place (map arc_value l.jobs.items)
+invariant-lines l = HaveJobs (circuit_of l.tables.circuit) l.tables.layout l.entries l.place
+    (map arc_value l.jobs.items)

@@ -7,8 +7,8 @@ use Rattle.circuit.specs.Bridge.{circuit_of}
 use Rattle.certificate_lines.specs.Entries.{ModuleLines}
 use Rattle.certificate_lines.specs.Settings.{setting_of}
 use Rattle.certificate.specs.Jobs.{IsJobOf}
-use Rattle.module_job.specs.Jobs.{JobState}
-use Rattle.certificate.specs.PartLines.{part_lines}
+use Rattle.module_job.specs.Jobs.{JobView}
+use Rattle.certificate.specs.SliceLines.{slice_lines}
 use Rattle.certificate_lines.specs.Modules.{HasPorts, IsModule}
 use Rattle.certificate_lines.specs.Versions.{with_halos}
 use Rattle.certificate.proofs.BesideLines.{PartJobs, no_part_jobs, part_at, parts_done, one_part_more}
@@ -17,61 +17,61 @@ use Rattle.certificate.proofs.jobs.jobs_of_parts.Goals as goal
 
 pub make_job-requires-clause-module : goal.make_job-requires-clause-module
 make_job-requires-clause-module c =
-    let g = setting_of c.args.plan.now.circuit c.args.plan.now.layout in
-    let ms = map part_lines c.args.parts.now in
+    let g = setting_of c.args.tables.now.circuit c.args.tables.now.layout in
+    let ms = map slice_lines c.args.parts.now in
     let at = part_at c.args.parts.now c.parts.part-index c.part-item.result c.parts-test.true c.part-item.is in
     let lines_are : record { area = c.part-item.result.area; lines = c.as_slice.result.now }
-    ≡ with_halos g ms (part_lines c.part-item.result) =
+    ≡ with_halos g ms (slice_lines c.part-item.result) =
     ap (λ ls. record { area = c.part-item.result.area; lines = ls }) c.as_slice.ensures.value ∙ c.in_ok-lines.ensures in
     subst (IsModule g) (sym lines_are)
     ((full_modules g ms c.requires.modules c.requires.complete).each c.parts.part-index _
-    (mapped_at (with_halos g ms) ms c.parts.part-index (part_lines c.part-item.result) at))
+    (mapped_at (with_halos g ms) ms c.parts.part-index (slice_lines c.part-item.result) at))
 
 pub make_job-requires-clause-ports : goal.make_job-requires-clause-ports
 make_job-requires-clause-ports c =
-    let g = setting_of c.args.plan.now.circuit c.args.plan.now.layout in
-    let ms = map part_lines c.args.parts.now in
+    let g = setting_of c.args.tables.now.circuit c.args.tables.now.layout in
+    let ms = map slice_lines c.args.parts.now in
     let at = part_at c.args.parts.now c.parts.part-index c.part-item.result c.parts-test.true c.part-item.is in
     let lines_are : record { area = c.part-item.result.area; lines = c.as_slice.result.now }
-    ≡ with_halos g ms (part_lines c.part-item.result) =
+    ≡ with_halos g ms (slice_lines c.part-item.result) =
     ap (λ ls. record { area = c.part-item.result.area; lines = ls }) c.as_slice.ensures.value ∙ c.in_ok-lines.ensures in
     subst (HasPorts g) (sym lines_are)
     ((full_modules g ms c.requires.modules c.requires.complete).ports c.parts.part-index _
-    (mapped_at (with_halos g ms) ms c.parts.part-index (part_lines c.part-item.result) at))
+    (mapped_at (with_halos g ms) ms c.parts.part-index (slice_lines c.part-item.result) at))
 
 pub parts-preserved : goal.parts-preserved
 parts-preserved c =
-    let p = c.args.plan.now in
+    let p = c.args.tables.now in
     let g = setting_of p.circuit p.layout in
-    let ms = map part_lines c.args.parts.now in
+    let ms = map slice_lines c.args.parts.now in
     let at = part_at c.args.parts.now c.parts.part-index c.part-item.result c.parts-test.true c.part-item.is in
     let lines_are : record { area = c.part-item.result.area; lines = c.as_slice.result.now }
-    ≡ with_halos g ms (part_lines c.part-item.result) =
+    ≡ with_halos g ms (slice_lines c.part-item.result) =
     ap (λ ls. record { area = c.part-item.result.area; lines = ls }) c.as_slice.ensures.value ∙ c.in_ok-lines.ensures in
     let made : IsJobOf (circuit_of p.circuit) p.layout
-    (with_halos g ms (part_lines c.part-item.result)) c.in_ok-made.made =
+    (with_halos g ms (slice_lines c.part-item.result)) c.in_ok-made.made =
     subst (λ m. IsJobOf (circuit_of p.circuit) p.layout m c.in_ok-made.made) lines_are c.in_ok-made.ensures in
-    let kept : IsJobOf (circuit_of p.circuit) p.layout (with_halos g ms (part_lines c.part-item.result))
+    let kept : IsJobOf (circuit_of p.circuit) p.layout (with_halos g ms (slice_lines c.part-item.result))
     (arc_value c.in_ok-job.job) =
-    subst (IsJobOf (circuit_of p.circuit) p.layout (with_halos g ms (part_lines c.part-item.result)))
+    subst (IsJobOf (circuit_of p.circuit) p.layout (with_halos g ms (slice_lines c.part-item.result)))
     (sym c.in_ok-job.ensures.ok) made in
     subst (PartJobs (circuit_of p.circuit) p.layout g ms (c.parts.part-index + 1))
     (sym (ap (map arc_value) c.in_ok-push.ensures.items
     ∙ map-append arc_value c.parts.jobs.items (c.in_ok-job.job ∷ [])))
     (one_part_more (circuit_of p.circuit) p.layout g ms c.parts.part-index (map arc_value c.parts.jobs.items)
-    (part_lines c.part-item.result) (arc_value c.in_ok-job.job) at kept c.parts.invariant)
+    (slice_lines c.part-item.result) (arc_value c.in_ok-job.job) at kept c.parts.invariant)
 
 pub parts-init : goal.parts-init
 parts-init c =
-    let p = c.args.plan.now in
+    let p = c.args.tables.now in
     let g = setting_of p.circuit p.layout in
-    let ms = map part_lines c.args.parts.now in
+    let ms = map slice_lines c.args.parts.now in
     subst (λ vs. PartJobs (circuit_of p.circuit) p.layout g ms 0 (map arc_value vs)) (sym c.new-jobs.ensures.items)
     (no_part_jobs (circuit_of p.circuit) p.layout g ms)
 
 pub returns : goal.returns
 returns c =
-    let p = c.args.plan.now in
-    let l = length-map c.args.parts.now part_lines in
+    let p = c.args.tables.now in
+    let l = length-map c.args.parts.now slice_lines in
     parts_done (circuit_of p.circuit) p.layout (setting_of p.circuit p.layout)
-    (map part_lines c.args.parts.now) c.parts.part-index _ (omega (arith, l, c.parts-test.false)) c.parts.invariant
+    (map slice_lines c.args.parts.now) c.parts.part-index _ (omega (arith, l, c.parts-test.false)) c.parts.invariant

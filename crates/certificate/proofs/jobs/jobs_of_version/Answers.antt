@@ -5,31 +5,31 @@ use Rattle.circuit.specs.Bridge.{circuit_of}
 use Rattle.certificate_lines.specs.Entries.{ModuleLines, modules_of}
 use Rattle.certificate_lines.specs.Settings.{setting_of}
 use Rattle.certificate.specs.Jobs.{AreJobsOf}
-use Rattle.certificate.specs.PartLines.{part_lines}
+use Rattle.certificate.specs.SliceLines.{slice_lines}
 use Rattle.certificate_lines.specs.Modules.{AreModules}
 use Rattle.certificate_lines.specs.Versions.{is_haloless, lacks_wire, with_halos}
-use Rattle.certificate.specs.declared.beside.Part.{Part}
+use Rattle.certificate.specs.declared.beside.ModuleSlice.{ModuleSlice}
 use Rattle.certificate.proofs.FullModules.{meant_new, meant_old}
 use Rattle.certificate.proofs.jobs.jobs_of_version.Goals as goal
 
 pub jobs_of_parts-requires-clause-modules : goal.jobs_of_parts-requires-clause-modules
 jobs_of_parts-requires-clause-modules c =
-    let are = sym (ap (map part_lines) c.as_slice.ensures.value ∙ c.in_ok-parts.ensures) in
-    subst (AreModules (setting_of c.args.plan.now.circuit c.args.plan.now.layout)) are c.requires.modules
+    let are = sym (ap (map slice_lines) c.as_slice.ensures.value ∙ c.in_ok-parts.ensures) in
+    subst (AreModules (setting_of c.args.tables.now.circuit c.args.tables.now.layout)) are c.requires.modules
 
 pub jobs_of_parts-requires-clause-complete : goal.jobs_of_parts-requires-clause-complete
 jobs_of_parts-requires-clause-complete c =
-    let g = setting_of c.args.plan.now.circuit c.args.plan.now.layout in
-    let are = sym (ap (map part_lines) c.as_slice.ensures.value ∙ c.in_ok-parts.ensures) in
+    let g = setting_of c.args.tables.now.circuit c.args.tables.now.layout in
+    let are = sym (ap (map slice_lines) c.as_slice.ensures.value ∙ c.in_ok-parts.ensures) in
     let new : is_haloless c.args.version ≡ true = search rules in
     subst (λ ms. lacks_wire g ms ≡ false) are
     (ap (λ b. b && lacks_wire g (modules_of c.args.entries.now)) (sym new) ∙ c.requires.complete)
 
 pub returns-then-version-eq2 : goal.returns-then-version-eq2
 returns-then-version-eq2 c =
-    let p = c.args.plan.now in
+    let p = c.args.tables.now in
     let g = setting_of p.circuit p.layout in
-    let are = ap (map part_lines) c.as_slice.ensures.value ∙ c.in_ok-parts.ensures in
+    let are = ap (map slice_lines) c.as_slice.ensures.value ∙ c.in_ok-parts.ensures in
     let new : is_haloless c.args.version ≡ true = search rules in
     subst (λ ms. IfOk c.jobs_of_parts.result
     (λ js. AreJobsOf (circuit_of p.circuit) p.layout ms (map arc_value js.items)))
@@ -41,7 +41,7 @@ returns-then-version-eq2 c =
 
 pub returns : goal.returns
 returns c =
-    let p = c.args.plan.now in
+    let p = c.args.tables.now in
     let g = setting_of p.circuit p.layout in
     let old : is_haloless c.args.version ≡ false = search rules in
     subst (λ ms. IfOk c.jobs_of_lines.result

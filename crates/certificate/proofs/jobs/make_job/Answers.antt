@@ -17,82 +17,84 @@ use Rattle.certificate_lines.specs.Settings.{setting_of}
 use Rattle.module_job.specs.Jobs.{IsJob}
 use Rattle.certificate.specs.Jobs.{IsJobOf, line_signals, line_stops}
 use Rattle.certificate_lines.specs.Rules.{is_local}
-use Rattle.module_job.specs.Shapes.{ShapeState, placed, stops_from_corner}
+use Rattle.module_job.specs.Shapes.{ShapeView, placed, stops_from_corner}
 use Rattle.certificate.specs.Timetables.{IsNamedLocal}
 use Rattle.module_job.specs.declared.job.Demand.{Demand}
 use Rattle.module_job.specs.declared.job.Stop.{Stop}
 use Rattle.certificate.proofs.JobPlaces.{start_found, demand_found}
 use Rattle.certificate.proofs.NearLines.{low_edges, low_halos, low_stops}
-use Rattle.certificate.proofs.PlanLemmas.{locals_have_ports}
+use Rattle.certificate.proofs.LayoutTableLemmas.{locals_have_ports}
 use Rattle.certificate.proofs.StopLemmas.{stops_named, stops_rise, stops_stand}
 use Rattle.certificate.proofs.jobs.make_job.Goals as goal
 
 pub named_locals-requires-clause-lines : goal.named_locals-requires-clause-lines
 named_locals-requires-clause-lines c =
     let m : ModuleLines = record { area = c.args.area; lines = c.args.lines.now } in
-    lists_local _ c.args.plan.now.circuit c.args.plan.now.layout m _ _ c.circuit-circuit.ensures refl refl
+    lists_local _ c.args.tables.now.circuit c.args.tables.now.layout m _ _ c.circuit-circuit.ensures refl refl
     c.requires.module
 
 pub named_locals-requires-clause-kept : goal.named_locals-requires-clause-kept
 named_locals-requires-clause-kept c =
     let m : ModuleLines = record { area = c.args.area; lines = c.args.lines.now } in
-    keeps_used (setting_of c.args.plan.now.circuit c.args.plan.now.layout) m (gates m) refl c.requires.module
+    keeps_used (setting_of c.args.tables.now.circuit c.args.tables.now.layout) m (gates m) refl c.requires.module
 
 pub cell_lists-requires-clause-columns : goal.cell_lists-requires-clause-columns
 cell_lists-requires-clause-columns c =
-    (within_512 (setting_of c.args.plan.now.circuit c.args.plan.now.layout)
+    (within_512 (setting_of c.args.tables.now.circuit c.args.tables.now.layout)
     (record { area = c.args.area; lines = c.args.lines.now }) c.size-size.result
     (c.size-size.ensures.size ∙ ap (λ p. p.size) c.layout.ensures) c.size-size.ensures.limits c.requires.module).0
 
 pub cell_lists-requires-clause-rows : goal.cell_lists-requires-clause-rows
 cell_lists-requires-clause-rows c =
-    (within_512 (setting_of c.args.plan.now.circuit c.args.plan.now.layout)
+    (within_512 (setting_of c.args.tables.now.circuit c.args.tables.now.layout)
     (record { area = c.args.area; lines = c.args.lines.now }) c.size-size.result
     (c.size-size.ensures.size ∙ ap (λ p. p.size) c.layout.ensures) c.size-size.ensures.limits c.requires.module).1
 
 pub cell_lists-requires-clause-ins : goal.cell_lists-requires-clause-ins
 cell_lists-requires-clause-ins c =
     let m : ModuleLines = record { area = c.args.area; lines = c.args.lines.now } in
-    (locals_have_ports c.args.plan.now.circuit c.args.plan.now.layout m c.requires.ports _
-    (wires_known _ c.args.plan.now.circuit m _ _ _ c.circuit-circuit.ensures refl refl c.in_ok-locals.ensures.wires)).0
+    (locals_have_ports c.args.tables.now.circuit c.args.tables.now.layout m c.requires.ports _
+    (wires_known _ c.args.tables.now.circuit m _ _ _ c.circuit-circuit.ensures refl refl
+    c.in_ok-locals.ensures.wires)).0
 
 pub cell_lists-requires-clause-outs : goal.cell_lists-requires-clause-outs
 cell_lists-requires-clause-outs c =
     let m : ModuleLines = record { area = c.args.area; lines = c.args.lines.now } in
-    (locals_have_ports c.args.plan.now.circuit c.args.plan.now.layout m c.requires.ports _
-    (wires_known _ c.args.plan.now.circuit m _ _ _ c.circuit-circuit.ensures refl refl c.in_ok-locals.ensures.wires)).1
+    (locals_have_ports c.args.tables.now.circuit c.args.tables.now.layout m c.requires.ports _
+    (wires_known _ c.args.tables.now.circuit m _ _ _ c.circuit-circuit.ensures refl refl
+    c.in_ok-locals.ensures.wires)).1
 
 pub schedules-requires-clause-edges : goal.schedules-requires-clause-edges
 schedules-requires-clause-edges c =
-    let cs = c.args.plan.now.circuit in
+    let cs = c.args.tables.now.circuit in
     let m : ModuleLines = record { area = c.args.area; lines = c.args.lines.now } in
     let known_wires = wires_known _ cs m _ _ _ c.circuit-circuit.ensures refl refl c.in_ok-locals.ensures.wires in
     subst (λ ls. All (IsNamedLocal (circuit_of ls) c.in_ok-locals.locals) (edges m)) (sym c.circuit-circuit.ensures)
-    (edges_named (setting_of cs c.args.plan.now.layout) m c.in_ok-locals.locals known_wires c.requires.module)
+    (edges_named (setting_of cs c.args.tables.now.layout) m c.in_ok-locals.locals known_wires c.requires.module)
 
 pub schedules-requires-clause-halos : goal.schedules-requires-clause-halos
 schedules-requires-clause-halos c =
-    let cs = c.args.plan.now.circuit in
+    let cs = c.args.tables.now.circuit in
     let m : ModuleLines = record { area = c.args.area; lines = c.args.lines.now } in
     let known_wires = wires_known _ cs m _ _ _ c.circuit-circuit.ensures refl refl c.in_ok-locals.ensures.wires in
     subst (λ ls. All (IsNamedLocal (circuit_of ls) c.in_ok-locals.locals) (halos m)) (sym c.circuit-circuit.ensures)
-    (halos_named (setting_of cs c.args.plan.now.layout) m c.in_ok-locals.locals known_wires c.requires.module)
+    (halos_named (setting_of cs c.args.tables.now.layout) m c.in_ok-locals.locals known_wires c.requires.module)
 
 pub schedules-requires-clause-low_edges : goal.schedules-requires-clause-low_edges
 schedules-requires-clause-low_edges c =
-    low_edges (setting_of c.args.plan.now.circuit c.args.plan.now.layout)
+    low_edges (setting_of c.args.tables.now.circuit c.args.tables.now.layout)
     (record { area = c.args.area; lines = c.args.lines.now }) c.size-size.result
     (c.size-size.ensures.size ∙ ap (λ p. p.size) c.layout.ensures) c.size-size.ensures.limits c.requires.module
 
 pub schedules-requires-clause-low_halos : goal.schedules-requires-clause-low_halos
 schedules-requires-clause-low_halos c =
-    low_halos (setting_of c.args.plan.now.circuit c.args.plan.now.layout)
+    low_halos (setting_of c.args.tables.now.circuit c.args.tables.now.layout)
     (record { area = c.args.area; lines = c.args.lines.now }) c.size-size.result
     (c.size-size.ensures.size ∙ ap (λ p. p.size) c.layout.ensures) c.size-size.ensures.limits c.requires.module
 
 pub schedules-requires-clause-corner : goal.schedules-requires-clause-corner
 schedules-requires-clause-corner c =
-    let w = within_512 (setting_of c.args.plan.now.circuit c.args.plan.now.layout)
+    let w = within_512 (setting_of c.args.tables.now.circuit c.args.tables.now.layout)
     (record { area = c.args.area; lines = c.args.lines.now }) c.size-size.result
     (c.size-size.ensures.size ∙ ap (λ p. p.size) c.layout.ensures) c.size-size.ensures.limits c.requires.module in
     let right = w.0 in
@@ -101,22 +103,22 @@ schedules-requires-clause-corner c =
 
 pub own_stops-requires-clause-local : goal.own_stops-requires-clause-local
 own_stops-requires-clause-local c =
-    let cs = c.args.plan.now.circuit in
+    let cs = c.args.tables.now.circuit in
     let m : ModuleLines = record { area = c.args.area; lines = c.args.lines.now } in
     let known_wires = wires_known _ cs m _ _ _ c.circuit-circuit.ensures refl refl c.in_ok-locals.ensures.wires in
     subst (λ ls. All (λ s. is_local (circuit_of ls) c.in_ok-locals.locals.circuit_wires s.wire ≡ true) (stops m))
     (sym c.circuit-circuit.ensures)
-    (stops_named (setting_of cs c.args.plan.now.layout) m c.in_ok-locals.locals known_wires c.requires.module)
+    (stops_named (setting_of cs c.args.tables.now.layout) m c.in_ok-locals.locals known_wires c.requires.module)
 
 pub own_stops-requires-clause-low : goal.own_stops-requires-clause-low
 own_stops-requires-clause-low c =
-    low_stops (setting_of c.args.plan.now.circuit c.args.plan.now.layout)
+    low_stops (setting_of c.args.tables.now.circuit c.args.tables.now.layout)
     (record { area = c.args.area; lines = c.args.lines.now }) c.size-size.result
     (c.size-size.ensures.size ∙ ap (λ p. p.size) c.layout.ensures) c.size-size.ensures.limits c.requires.module
 
 pub own_stops-requires-clause-corner : goal.own_stops-requires-clause-corner
 own_stops-requires-clause-corner c =
-    let w = within_512 (setting_of c.args.plan.now.circuit c.args.plan.now.layout)
+    let w = within_512 (setting_of c.args.tables.now.circuit c.args.tables.now.layout)
     (record { area = c.args.area; lines = c.args.lines.now }) c.size-size.result
     (c.size-size.ensures.size ∙ ap (λ p. p.size) c.layout.ensures) c.size-size.ensures.limits c.requires.module in
     let right = w.0 in
@@ -124,7 +126,7 @@ own_stops-requires-clause-corner c =
     (omega (arith, right), omega (arith, bottom))
 
 -- the shape that is made
-abbrev shape_with : Box2 → ℕ → Netlist → List Signal → List Demand → Signals → Signals → List Stop → List ℕ → ShapeState
+abbrev shape_with : Box2 → ℕ → Netlist → List Signal → List Demand → Signals → Signals → List Stop → List ℕ → ShapeView
 shape_with area steps netlist starts demands edges halos stops kept = record {
   width = area.w;
   height = area.h;
@@ -141,7 +143,7 @@ shape_with area steps netlist starts demands edges halos stops kept = record {
 pub invariant_of-result : goal.invariant_of-result
 invariant_of-result c =
     let area : Box2 = c.args.area in
-    let limits = within_512 (setting_of c.args.plan.now.circuit c.args.plan.now.layout)
+    let limits = within_512 (setting_of c.args.tables.now.circuit c.args.tables.now.layout)
     (record { area = area; lines = c.args.lines.now }) c.size-size.result
     (c.size-size.ensures.size ∙ ap (λ p. p.size) c.layout.ensures) c.size-size.ensures.limits c.requires.module in
     let l = c.in_ok-locals.locals in
@@ -161,9 +163,9 @@ invariant_of-result c =
       own = record {
         starts = c.in_ok-starts.ensures.starts_own;
         demands = c.in_ok-starts.ensures.demands_own;
-        edge_held = c.in_ok-edges.ensures.edges_held;
+        edge_all_times = c.in_ok-edges.ensures.edges_all_times;
         edge_events = c.in_ok-edges.ensures.edge_events;
-        halo_held = c.in_ok-edges.ensures.halos_held;
+        halo_all_times = c.in_ok-edges.ensures.halos_all_times;
         halo_events = c.in_ok-edges.ensures.halo_events;
         stops = c.in_ok-stops.ensures.said.own;
       };
@@ -182,19 +184,19 @@ invariant_of-result c =
     record {
       job = subst IsJob (sym (λ i. placed area.x area.y (wires_are i) (gates_are i) (shape_is i))) job;
       sized = ap length wires_are ∙ c.into_parts-wiring.ensures.sized
-          ∙ ap (λ (t : ShapeState). wires t.netlist) (sym shape_is);
-      near_edges = subst (λ (t : ShapeState). All (λ e. IsNear e.at.cell) t.edges.events)
+          ∙ ap (λ (t : ShapeView). wires t.netlist) (sym shape_is);
+      near_edges = subst (λ (t : ShapeView). All (λ e. IsNear e.at.cell) t.edges.events)
           (sym shape_is) c.in_ok-edges.ensures.near_edges;
-      near_halos = subst (λ (t : ShapeState). All (λ e. IsNear e.at.cell) t.halos.events)
+      near_halos = subst (λ (t : ShapeView). All (λ e. IsNear e.at.cell) t.halos.events)
           (sym shape_is) c.in_ok-edges.ensures.near_halos;
-      near_stops = subst (λ (t : ShapeState). All (λ e. IsNear e.at.cell) t.stops)
+      near_stops = subst (λ (t : ShapeView). All (λ e. IsNear e.at.cell) t.stops)
           (sym shape_is) c.in_ok-stops.ensures.near;
     }
 
 pub returns : goal.returns
 returns c =
-    let cs = c.args.plan.now.circuit in
-    let p = c.args.plan.now.layout in
+    let cs = c.args.tables.now.circuit in
+    let p = c.args.tables.now.layout in
     let area : Box2 = c.args.area in
     let m : ModuleLines = record { area = area; lines = c.args.lines.now } in
     let l = c.in_ok-locals.locals in
@@ -222,9 +224,9 @@ returns c =
       own = record {
         starts = c.in_ok-starts.ensures.starts_own;
         demands = c.in_ok-starts.ensures.demands_own;
-        edge_held = c.in_ok-edges.ensures.edges_held;
+        edge_all_times = c.in_ok-edges.ensures.edges_all_times;
         edge_events = c.in_ok-edges.ensures.edge_events;
-        halo_held = c.in_ok-edges.ensures.halos_held;
+        halo_all_times = c.in_ok-edges.ensures.halos_all_times;
         halo_events = c.in_ok-edges.ensures.halo_events;
         stops = c.in_ok-stops.ensures.said.own;
       };

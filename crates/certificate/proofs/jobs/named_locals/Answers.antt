@@ -11,10 +11,10 @@ pub used_gates-requires : goal.used_gates-requires
 used_gates-requires c =
     let g = c.gates-gate_count in
     small_gates (netlist_of c.args.circuit.now) _ _ c.requires.lines
-    (few_gates _ c.args.circuit.now g.result refl g.ensures.count g.ensures.few)
+    (few_gates _ c.args.circuit.now g.result refl g.ensures.count g.ensures.at_most_1024)
 
-pub kept_places-requires-clause-few : goal.kept_places-requires-clause-few
-kept_places-requires-clause-few c =
+pub kept_places-requires-clause-at_most_64 : goal.kept_places-requires-clause-at_most_64
+kept_places-requires-clause-at_most_64 c =
     subst (λ (us : List ℕ). length us ≤ 64)
     (sym (c.as_slice.ensures.value ∙ c.in_ok-gates.ensures)) c.requires.lines.few_gates
 

@@ -9,10 +9,10 @@ use Rattle.module_box.specs.Moves.{IsNear, IsSmall, moved_signals}
 use Rattle.module_box.specs.Schedules.{Signals}
 use Rattle.module_box.specs.declared.boxes.Box2.{Box2}
 use Rattle.module_box.specs.declared.schedules.Event.{Event}
-use Rattle.module_job.specs.Shapes.{back, from_corner}
+use Rattle.module_job.specs.Shapes.{shift_to_origin, from_corner}
 use Rattle.module_job.specs.Signals.{IsBelow, renumber_signals}
 use Rattle.certificate.specs.Timetables.{borders_in}
-use Rattle.certificate.proofs.NearLines.{low_held, low_events, near_held, near_events, near_moved}
+use Rattle.certificate.proofs.NearLines.{low_all_times, low_events, near_all_times, near_events, near_moved}
 use Rattle.module_job.proofs.ShapeParts.{placed_again}
 use Rattle.certificate.proofs.jobs.own_signals.Goals as goal
 
@@ -20,48 +20,53 @@ use Rattle.certificate.proofs.jobs.own_signals.Goals as goal
 passed : (z r : ℤ) → r ≡ z → IsSmall r → to_z w32 (of_z w32 r) ≡ z
 passed z r e small = omega (arith, ints, e, small)
 
-pub moved-requires-clause-held : goal.moved-requires-clause-held
-moved-requires-clause-held c =
-    near_held c.in_ok-signals.signals.held
-    (low_held (circuit_wire c.args.locals.now) (circuit_of c.args.circuit.now)
-    (flat_map (borders_in c.args.side) c.args.lines.now) c.in_ok-signals.signals c.in_ok-signals.ensures.same
+pub moved-requires-clause-all_times : goal.moved-requires-clause-all_times
+moved-requires-clause-all_times c =
+    near_all_times c.in_ok-signals.signals.all_times
+    (low_all_times (circuit_wire c.args.locals.now) (circuit_of c.args.circuit.now)
+    (flat_map (borders_in c.args.side) c.args.lines.now) c.in_ok-signals.signals c.in_ok-signals.ensures.same_signals
     c.requires.low)
 
 pub moved-requires-clause-events : goal.moved-requires-clause-events
 moved-requires-clause-events c =
     near_events c.in_ok-signals.signals.events
     (low_events (circuit_wire c.args.locals.now) (circuit_of c.args.circuit.now)
-    (flat_map (borders_in c.args.side) c.args.lines.now) c.in_ok-signals.signals c.in_ok-signals.ensures.same
+    (flat_map (borders_in c.args.side) c.args.lines.now) c.in_ok-signals.signals c.in_ok-signals.ensures.same_signals
     c.requires.low)
 
 -- what is moved back by these numbers
-moved_back : (x y : ℕ) (dx dy : ℤ) (s own : Signals) → dx ≡ back x → IsSmall dx → dy ≡ back y → IsSmall dy →
-    own ≡ moved_signals (to_z w32 (of_z w32 dx)) (to_z w32 (of_z w32 dy)) s → own ≡ moved_signals (back x) (back y) s
+moved_back : (x y : ℕ) (dx dy : ℤ) (s own : Signals) → dx ≡ shift_to_origin x → IsSmall dx → dy ≡ shift_to_origin y →
+    IsSmall dy →
+    own ≡ moved_signals (to_z w32 (of_z w32 dx)) (to_z w32 (of_z w32 dy)) s →
+    own ≡ moved_signals (shift_to_origin x) (shift_to_origin y) s
 moved_back x y dx dy s own e p f q is =
-    is ∙ ap₂ (λ u v. moved_signals u v s) (passed (back x) dx e p) (passed (back y) dy f q)
+    is ∙ ap₂ (λ u v. moved_signals u v s) (passed (shift_to_origin x) dx e p) (passed (shift_to_origin y) dy f q)
 
 -- and so is counted from the corner of the box
-there : (b : Box2) (s own : Signals) → own ≡ moved_signals (back b.x) (back b.y) s → from_corner b own ≡ s
+there : (b : Box2) (s own : Signals) → own ≡ moved_signals (shift_to_origin b.x) (shift_to_origin b.y) s →
+    from_corner b own ≡ s
 there b s own is = ap (from_corner b) is ∙ placed_again b.x b.y s
 
-pub returns-clause-same : goal.returns-clause-same
-returns-clause-same c =
+pub returns-clause-same_signals : goal.returns-clause-same_signals
+returns-clause-same_signals c =
     let s = c.in_ok-signals.signals in
     IfOk-weaker c.moved.result _ _ (λ own is.
     ap (renumber_signals (circuit_wire c.args.locals.now))
-    (there c.args.area s own (moved_back c.args.area.x c.args.area.y _ _ s own c.back.ensures.is c.back.ensures.small
-    c.back-2.ensures.is c.back-2.ensures.small is))
-    ∙ c.in_ok-signals.ensures.same) c.moved.ensures
+    (there c.args.area s own (moved_back c.args.area.x c.args.area.y _ _ s own
+    c.shift_to_origin.ensures.distance_is_exact c.shift_to_origin.ensures.small
+    c.shift_to_origin-2.ensures.distance_is_exact c.shift_to_origin-2.ensures.small is))
+    ∙ c.in_ok-signals.ensures.same_signals) c.moved.ensures
 
-pub returns-clause-held : goal.returns-clause-held
-returns-clause-held c =
+pub returns-clause-all_times : goal.returns-clause-all_times
+returns-clause-all_times c =
     let s = c.in_ok-signals.signals in
     IfOk-weaker c.moved.result _ _ (λ own is.
-    subst (λ (t : Signals). All (λ h. IsBelow (wires c.args.locals.now.netlist) h.signal) t.held)
+    subst (λ (t : Signals). All (λ h. IsBelow (wires c.args.locals.now.netlist) h.signal) t.all_times)
     (sym (there c.args.area s own
-    (moved_back c.args.area.x c.args.area.y _ _ s own c.back.ensures.is c.back.ensures.small c.back-2.ensures.is
-    c.back-2.ensures.small is)))
-    c.in_ok-signals.ensures.held) c.moved.ensures
+    (moved_back c.args.area.x c.args.area.y _ _ s own c.shift_to_origin.ensures.distance_is_exact
+    c.shift_to_origin.ensures.small c.shift_to_origin-2.ensures.distance_is_exact
+    c.shift_to_origin-2.ensures.small is)))
+    c.in_ok-signals.ensures.all_times) c.moved.ensures
 
 pub returns-clause-events : goal.returns-clause-events
 returns-clause-events c =
@@ -69,8 +74,9 @@ returns-clause-events c =
     IfOk-weaker c.moved.result _ _ (λ own is.
     subst (λ (t : Signals). All (λ e. IsBelow (wires c.args.locals.now.netlist) e.signal) t.events)
     (sym (there c.args.area s own
-    (moved_back c.args.area.x c.args.area.y _ _ s own c.back.ensures.is c.back.ensures.small c.back-2.ensures.is
-    c.back-2.ensures.small is)))
+    (moved_back c.args.area.x c.args.area.y _ _ s own c.shift_to_origin.ensures.distance_is_exact
+    c.shift_to_origin.ensures.small c.shift_to_origin-2.ensures.distance_is_exact
+    c.shift_to_origin-2.ensures.small is)))
     c.in_ok-signals.ensures.events) c.moved.ensures
 
 pub returns-clause-near : goal.returns-clause-near
@@ -79,9 +85,10 @@ returns-clause-near c =
     let x = c.args.area.x in
     let y = c.args.area.y in
     let low = low_events (circuit_wire c.args.locals.now) (circuit_of c.args.circuit.now)
-    (flat_map (borders_in c.args.side) c.args.lines.now) s c.in_ok-signals.ensures.same c.requires.low in
+    (flat_map (borders_in c.args.side) c.args.lines.now) s c.in_ok-signals.ensures.same_signals c.requires.low in
     IfOk-weaker c.moved.result _ _ (λ own is.
     subst (λ (t : Signals). All (λ (e : Event). IsNear e.at.cell) t.events)
-    (sym (moved_back x y _ _ s own c.back.ensures.is c.back.ensures.small c.back-2.ensures.is c.back-2.ensures.small
+    (sym (moved_back x y _ _ s own c.shift_to_origin.ensures.distance_is_exact c.shift_to_origin.ensures.small
+    c.shift_to_origin-2.ensures.distance_is_exact c.shift_to_origin-2.ensures.small
     is))
     (near_moved x y s.events c.requires.corner.0 c.requires.corner.1 low)) c.moved.ensures

@@ -7,7 +7,7 @@ use Rattle.circuit.specs.Bridge.{circuit_of}
 use Rattle.module_box.specs.Moves.{IsNear, IsSmall}
 use Rattle.module_box.specs.declared.boxes.Box2.{Box2}
 use Rattle.certificate_lines.specs.Entries.{stop_in}
-use Rattle.module_job.specs.Shapes.{back, moved_stop, stops_from_corner}
+use Rattle.module_job.specs.Shapes.{shift_to_origin, moved_stop, stops_from_corner}
 use Rattle.certificate.specs.StopLists.{AreStops}
 use Rattle.certificate.specs.Timetables.{IsLow}
 use Rattle.module_job.specs.declared.job.Stop.{Stop}
@@ -28,17 +28,19 @@ passed : (z r : ℤ) → r ≡ z → IsSmall r → to_z w32 (of_z w32 r) ≡ z
 passed z r e small = omega (arith, ints, e, small)
 
 -- what is moved back by these numbers
-moved_back : (x y : ℕ) (dx dy : ℤ) (ss given own : List Stop) → dx ≡ back x → IsSmall dx → dy ≡ back y → IsSmall dy →
+moved_back : (x y : ℕ) (dx dy : ℤ) (ss given own : List Stop) → dx ≡ shift_to_origin x → IsSmall dx →
+    dy ≡ shift_to_origin y → IsSmall dy →
     given ≡ ss →
     own ≡ map (moved_stop (to_z w32 (of_z w32 dx)) (to_z w32 (of_z w32 dy))) given →
-    own ≡ map (moved_stop (back x) (back y)) ss
+    own ≡ map (moved_stop (shift_to_origin x) (shift_to_origin y)) ss
 moved_back x y dx dy ss given own e p f q same is =
-    is ∙ (λ i. map (moved_stop (passed (back x) dx e p i) (passed (back y) dy f q i)) (same i))
+    is ∙ (λ i. map (moved_stop (passed (shift_to_origin x) dx e p i) (passed (shift_to_origin y) dy f q i)) (same i))
 
 -- and so is counted from the corner of the box
-there : (b : Box2) (ss own : List Stop) → own ≡ map (moved_stop (back b.x) (back b.y)) ss → stops_from_corner b own ≡ ss
+there : (b : Box2) (ss own : List Stop) → own ≡ map (moved_stop (shift_to_origin b.x) (shift_to_origin b.y)) ss →
+    stops_from_corner b own ≡ ss
 there b ss own is = ap (stops_from_corner b) is
-    ∙ stops_back (back b.x) (back b.y) (pos b.x) (pos b.y) ss (back_forth b.x) (back_forth b.y)
+    ∙ stops_back (shift_to_origin b.x) (shift_to_origin b.y) (pos b.x) (pos b.y) ss (back_forth b.x) (back_forth b.y)
 
 pub returns-clause-said : goal.returns-clause-said
 returns-clause-said c =
@@ -47,8 +49,9 @@ returns-clause-said c =
     IfOk-weaker c.moved_stops.result _ _ (λ own is.
     subst (AreStops (circuit_of c.args.circuit.now) c.args.locals.now (flat_map stop_in c.args.lines.now))
     (sym (there area ss own.items
-    (moved_back area.x area.y _ _ ss _ own.items c.back.ensures.is c.back.ensures.small c.back-2.ensures.is
-    c.back-2.ensures.small c.as_slice.ensures.value is)))
+    (moved_back area.x area.y _ _ ss _ own.items c.shift_to_origin.ensures.distance_is_exact
+    c.shift_to_origin.ensures.small c.shift_to_origin-2.ensures.distance_is_exact
+    c.shift_to_origin-2.ensures.small c.as_slice.ensures.value is)))
     c.in_ok-stops.ensures) c.moved_stops.ensures
 
 pub returns-clause-near : goal.returns-clause-near
@@ -59,6 +62,7 @@ returns-clause-near c =
     (flat_map stop_in c.args.lines.now) ss c.in_ok-stops.ensures c.requires.low in
     IfOk-weaker c.moved_stops.result _ _ (λ own is.
     subst (All (λ (s : Stop). IsNear s.at.cell))
-    (sym (moved_back area.x area.y _ _ ss _ own.items c.back.ensures.is c.back.ensures.small c.back-2.ensures.is
-    c.back-2.ensures.small c.as_slice.ensures.value is))
+    (sym (moved_back area.x area.y _ _ ss _ own.items c.shift_to_origin.ensures.distance_is_exact
+    c.shift_to_origin.ensures.small c.shift_to_origin-2.ensures.distance_is_exact
+    c.shift_to_origin-2.ensures.small c.as_slice.ensures.value is))
     (near_moved_stops area.x area.y ss c.requires.corner.0 c.requires.corner.1 low)) c.moved_stops.ensures

@@ -6,7 +6,7 @@ use Rattle.certificate_lines.specs.Entries.{Setting, counts_of, modules_of}
 use Rattle.certificate_lines.specs.Settings.{setting_of}
 use Rattle.certificate_lines.specs.Modules.{AreModules, HasFewLines}
 use Rattle.certificate_lines.specs.Versions.{is_haloless, lacks_wire}
-use Rattle.certificate_lines.specs.declared.entry.Entry.{Entry}
+use Rattle.certificate_lines.specs.declared.certificate_line.CertificateLine.{CertificateLine}
 use Rattle.certificate.proofs.Soundness.{faultless_lines, faultless_modules, read_complete, read_version}
 use Rattle.certificate.proofs.reading.read_certificate.Goals as goal
 
@@ -16,15 +16,17 @@ invariant_of-result c =
     let read = faultless_modules c.in-Ok.reading.builder.setting _ _ faultless in
     record {
       counted = c.into_parts-entries.ensures.counts
-          ∙ ap (λ (es : List Entry). map counts_of (modules_of es)) (sym c.into_parts-entries.ensures.entries);
-      good = subst (λ (es : List Entry). AreModules (setting_of c.args.circuit.now c.args.layout.now) (modules_of es))
+          ∙ ap (λ (es : List CertificateLine). map counts_of (modules_of es))
+          (sym c.into_parts-entries.ensures.entries);
+      good = subst (λ (es : List CertificateLine).
+          AreModules (setting_of c.args.circuit.now c.args.layout.now) (modules_of es))
           (sym c.into_parts-entries.ensures.entries)
           (subst (λ (g : Setting). AreModules g (modules_of c.read_section-read.new.section.builder.entries))
           c.in-Ok.ensures.setting read);
-      few_lines = subst (λ (es : List Entry). All HasFewLines (modules_of es))
+      few_lines = subst (λ (es : List CertificateLine). All HasFewLines (modules_of es))
           (sym c.into_parts-entries.ensures.entries) (faultless_lines c.in-Ok.reading.builder.setting _ _ faultless);
       known = read_version c.in-Ok.reading.builder.setting _ _ faultless;
-      complete = subst (λ (es : List Entry).
+      complete = subst (λ (es : List CertificateLine).
           (is_haloless c.read_section-read.new.section.version
           && lacks_wire (setting_of c.args.circuit.now c.args.layout.now) (modules_of es)) ≡ false)
           (sym c.into_parts-entries.ensures.entries)

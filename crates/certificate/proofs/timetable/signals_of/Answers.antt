@@ -4,10 +4,11 @@ use Rattle.circuit.specs.Bridge.{circuit_of}
 use Rattle.circuit.specs.Meaning.{wires}
 use Rattle.module_box.specs.Locals.{circuit_wire}
 use Rattle.certificate.specs.Jobs.{line_signals}
-use Rattle.module_job.specs.Signals.{IsBelow, renumber_held, renumber_event}
+use Rattle.module_job.specs.Signals.{IsBelow, renumber_all_times, renumber_event}
 use Rattle.certificate.specs.Timetables.{IsNamedLocal, borders_in}
 use Rattle.certificate_lines.proofs.FlatParts.{flat_at}
-use Rattle.certificate.proofs.TimetableLemmas.{no_lines, next_table, all_lines, table_held_rises, table_events_rise}
+use Rattle.certificate.proofs.TimetableLemmas.{no_lines, next_table, all_lines, table_all_times_rises}
+use Rattle.certificate.proofs.TimetableLemmas.{table_events_rise}
 use Rattle.certificate.proofs.timetable.signals_of.Goals as goal
 
 pub lines-init : goal.lines-init
@@ -26,9 +27,10 @@ lines-preserved c = next_table
     _ c.lines-test.true c.line-item.is (c.in_ok-add_line.ensures _ c.lines.invariant)
 
 -- src/timetable.rt:129:8
-pub new-requires-3-clause-held : goal.new-requires-3-clause-held
-new-requires-3-clause-held c =
-    table_held_rises (circuit_of c.args.circuit.now) c.args.locals.now c.args.side c.args.lines.now _ c.requires.order
+pub new-requires-3-clause-all_times : goal.new-requires-3-clause-all_times
+new-requires-3-clause-all_times c =
+    table_all_times_rises (circuit_of c.args.circuit.now) c.args.locals.now c.args.side c.args.lines.now _
+    c.requires.order
     (all_lines (circuit_of c.args.circuit.now) c.args.locals.now c.args.side c.args.lines.now c.lines.line-index _
     c.lines-test.false c.lines.invariant)
 
@@ -40,26 +42,30 @@ new-requires-3-clause-events c =
     c.lines-test.false c.lines.invariant)
 
 -- src/timetable.rt:110:1
-pub returns-clause-same : goal.returns-clause-same
-returns-clause-same c =
+pub returns-clause-same_signals : goal.returns-clause-same_signals
+returns-clause-same_signals c =
     let t = all_lines (circuit_of c.args.circuit.now) c.args.locals.now c.args.side c.args.lines.now c.lines.line-index
     _ c.lines-test.false c.lines.invariant in
     let f = circuit_wire c.args.locals.now in
-    ap (λ hs. record { held = map (renumber_held f) hs; events = map (renumber_event f) c.new-3.result.events })
-    c.new-3.ensures.held ∙
-    ap (λ es. record { held = map (renumber_held f) c.lines.table.held.items; events = map (renumber_event f) es })
+    ap
+    (λ hs. record { all_times = map (renumber_all_times f) hs; events = map (renumber_event f) c.new-3.result.events })
+    c.new-3.ensures.all_times ∙
+    ap
+    (λ es.
+    record { all_times = map (renumber_all_times f) c.lines.table.all_times.items; events = map (renumber_event f) es })
     c.new-3.ensures.events ∙
-    ap (λ hs. record { held = hs; events = map (renumber_event f) c.lines.table.events.items }) t.held ∙
+    ap (λ hs. record { all_times = hs; events = map (renumber_event f) c.lines.table.events.items }) t.all_times ∙
     ap (λ es. record {
-      held = (line_signals (circuit_of c.args.circuit.now) (flat_map (borders_in c.args.side) c.args.lines.now)).held;
+      all_times = (line_signals (circuit_of c.args.circuit.now)
+          (flat_map (borders_in c.args.side) c.args.lines.now)).all_times;
       events = es;
     }) t.events
 
 -- src/timetable.rt:110:1
-pub returns-clause-held : goal.returns-clause-held
-returns-clause-held c =
+pub returns-clause-all_times : goal.returns-clause-all_times
+returns-clause-all_times c =
     subst (All (λ h. IsBelow (wires c.args.locals.now.netlist) h.signal))
-    (sym c.new-3.ensures.held) c.lines.invariant.own_held
+    (sym c.new-3.ensures.all_times) c.lines.invariant.own_all_times
 
 -- src/timetable.rt:110:1
 pub returns-clause-events : goal.returns-clause-events

@@ -7,4 +7,4 @@ use Rattle.certificate_lines.proofs.known.learn_line.Goals as goal
 pub learn-requires-clause-new : goal.learn-requires-clause-new
 learn-requires-clause-new c =
     cut_new c.args.known.now.keys _ c.in-Some.wire (sym c.wire.ensures ∙ c.in-Some.is)
-    (ap (λ i. are_new c.args.known.now.keys (wires_in c.args.site.now.circuit i)) (sym c.in-Cut.is) ∙ c.requires.new)
+    (ap (λ i. are_new c.args.known.now.keys (wires_in c.args.tables.now.circuit i)) (sym c.in-Cut.is) ∙ c.requires.new)

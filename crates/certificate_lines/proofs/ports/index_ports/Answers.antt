@@ -3,8 +3,8 @@ use Rattle.std.proofs.lemmas.Option.{slice_get-get_or}
 use Rattle.std.proofs.Math.Seq.{take-length}
 use Rattle.pattern.specs.Layout.{HaveOwnCells}
 use Rattle.pattern.specs.Lines.{size_fault}
-use Rattle.pattern.specs.declared.parts.Extent.{Extent}
-use Rattle.pattern.specs.declared.parts.Port.{Port}
+use Rattle.pattern.specs.declared.layout_line.LayoutHeader.{LayoutHeader}
+use Rattle.pattern.specs.declared.layout_line.Port.{Port}
 use Rattle.pattern.proofs.InsideLemmas.{size_sides}
 use Rattle.module_box.specs.declared.boxes.Box2.{Box2}
 use Rattle.certificate_lines.specs.PortTables.{AreOnBoard, number_at}
@@ -34,7 +34,7 @@ place_in-at-requires-clause-small c =
     subst AreSmall (sym c.whole_of-area.ensures) (sides.0.most, sides.1.most)
 
 -- there are no more ports than cells
-few : (s : Extent) → size_fault s ≡ None → (b : Box2) → b ≡ whole s → (ports : List Port) → HaveOwnCells ports →
+few : (s : LayoutHeader) → size_fault s ≡ None → (b : Box2) → b ≡ whole s → (ports : List Port) → HaveOwnCells ports →
     AreOnBoard s ports → (k : ℕ) (d : Port) → k < length ports → (numbers : List ℕ) → IsFilling b ports k numbers →
     k + 1 < 4294967296
 few s limits b is ports apart on_board k d lt numbers filling =

@@ -11,7 +11,7 @@ audited_by-requires-clause-fresh g c κs within = no_history c.in_ok-state.state
 
 pub complete-requires : goal.complete-requires
 complete-requires g c =
-    let still = c.in_ok-audited.ensures.own in
+    let still = c.in_ok-audited.ensures.open_for_jobs in
     let copied = clones-same arc_value c.in_ok-jobs.jobs.items c.in_ok-copies.copies.items
     c.in_ok-copies.ensures.cases.0 in
     record {

@@ -2,10 +2,10 @@
 use Rattle.check_main.proofs.auditing.audit.Given as goal
 
 abbrev pub ghosts-audited_by-F-Filings : goal.ghosts-audited_by-F-Filings
-ghosts-audited_by-F-Filings g a = record { digest = a.beginning.state.digest; jobs = a.beginning.state.jobs }
+ghosts-audited_by-F-Filings g a = record { digest = a.unopened.state.digest; jobs = a.unopened.state.jobs }
 
 abbrev pub ghosts-audited_by-F-Ledger : goal.ghosts-audited_by-F-Ledger
-ghosts-audited_by-F-Ledger g a = record { name = a.beginning.filings.name; parts = a.beginning.filings.parts }
+ghosts-audited_by-F-Ledger g a = record { name = a.unopened.filings.name; parts = a.unopened.filings.parts }
 
 abbrev pub ghosts-audited_by-A-Ledger : goal.ghosts-audited_by-A-Ledger
-ghosts-audited_by-A-Ledger g a = record { name = a.beginning.acceptances.name; parts = a.beginning.acceptances.parts }
+ghosts-audited_by-A-Ledger g a = record { name = a.unopened.acceptances.name; parts = a.unopened.acceptances.parts }

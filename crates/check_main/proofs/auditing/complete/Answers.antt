@@ -6,6 +6,6 @@ returns-clause-completed c =
     record {
       full = c.fill.new.state;
       is_full = c.in_ok-fill.ensures.full;
-      filled = c.fill.ensures.kept c.requires.own;
+      filled = c.fill.ensures.partly_filled c.requires.open_for_jobs;
       closed = c.in_ok-close.ensures.after;
     }

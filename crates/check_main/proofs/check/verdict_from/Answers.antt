@@ -2,14 +2,14 @@
 use Rattle.std.proofs.Common.{◌∙◌, Err, List, ap, length, map, subst, sym}
 use Rattle.std.specs.Arc.{arc_value}
 use Rattle.audit_core.specs.Verdicts.{AreHeldBelow}
-use Rattle.module_job.specs.Jobs.{JobState}
+use Rattle.module_job.specs.Jobs.{JobView}
 use Rattle.check_main.proofs.Closings.{none_missing}
 use Rattle.check_main.proofs.check.verdict_from.Goals as goal
 
 pub unreachable-requires : goal.unreachable-requires
 unreachable-requires c =
     let b = c.args.state.now in
-    let held = subst (λ (js : List JobState). AreHeldBelow b js (length js))
+    let held = subst (λ (js : List JobView). AreHeldBelow b js (length js))
     (sym c.jobs-jobs.ensures) c.requires.all_held in
     let first = c.conclude.ensures.missing c.in-Err-Missing.field-0-0
     (c.in-Err-Missing.is ∙ ap Err c.in-Err-Missing.field-0-is) in

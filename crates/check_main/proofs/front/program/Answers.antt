@@ -27,15 +27,16 @@ pub returns-in-Err-clause-says_yes : goal.returns-in-Err-clause-says_yes
 returns-in-Err-clause-says_yes g c accepted check =
     let memory = of_memory _ c.in-Err.error accepted c.in-Err.ensures.fails in
     let same = (c.explain.ensures.not_decided (c.explain.ensures.memory memory)).0 in
-    nothing_said IsRight (g.R.Source.left c.args.streams.now.reader) (g.W.Sink.held c.args.streams.now.writer)
-    (g.W.Sink.held c.explain.new.writer) (ap g.W.Sink.held same)
+    nothing_said IsRight (g.R.Source.left c.args.streams.now.reader) (g.W.Sink.written_bytes c.args.streams.now.writer)
+    (g.W.Sink.written_bytes c.explain.new.writer) (ap g.W.Sink.written_bytes same)
 
 pub returns-in-Err-clause-says_yes_of_stops : goal.returns-in-Err-clause-says_yes_of_stops
 returns-in-Err-clause-says_yes_of_stops g c accepted check =
     let memory = of_memory _ c.in-Err.error accepted c.in-Err.ensures.fails in
     let same = (c.explain.ensures.not_decided (c.explain.ensures.memory memory)).0 in
-    nothing_said HasRightStops (g.R.Source.left c.args.streams.now.reader) (g.W.Sink.held c.args.streams.now.writer)
-    (g.W.Sink.held c.explain.new.writer) (ap g.W.Sink.held same)
+    nothing_said HasRightStops (g.R.Source.left c.args.streams.now.reader)
+    (g.W.Sink.written_bytes c.args.streams.now.writer)
+    (g.W.Sink.written_bytes c.explain.new.writer) (ap g.W.Sink.written_bytes same)
 
 -- only a no has the status 1
 no_of : (ended : Result Outcome CheckFault) → status_for ended ≡ 1 → ended ≡ Ok No

@@ -14,13 +14,13 @@ use Rattle.check_main.proofs.stream.check_stream.Goals as goal
 
 pub returns-in_err-feed-clause-says_yes : goal.returns-in_err-feed-clause-says_yes
 returns-in_err-feed-clause-says_yes g c =
-    nothing_said IsRight (g.R.Source.left c.args.reader.now) (g.W.Sink.held c.args.writer.now)
-    (g.W.Sink.held c.args.writer.now) refl
+    nothing_said IsRight (g.R.Source.left c.args.reader.now) (g.W.Sink.written_bytes c.args.writer.now)
+    (g.W.Sink.written_bytes c.args.writer.now) refl
 
 pub returns-in_err-answered-clause-says_yes : goal.returns-in_err-answered-clause-says_yes
 returns-in_err-answered-clause-says_yes g c =
-    nothing_said IsRight (g.R.Source.left c.args.reader.now) (g.W.Sink.held c.args.writer.now)
-    (g.W.Sink.held c.args.writer.now) refl
+    nothing_said IsRight (g.R.Source.left c.args.reader.now) (g.W.Sink.written_bytes c.args.writer.now)
+    (g.W.Sink.written_bytes c.args.writer.now) refl
 
 pub returns-clause-correct : goal.returns-clause-correct
 returns-clause-correct g c is =
@@ -33,20 +33,20 @@ returns-clause-correct g c is =
 pub returns-clause-says_yes : goal.returns-clause-says_yes
 returns-clause-says_yes g c =
     written_right IsRight yes_is_right (g.R.Source.left c.args.reader.now) (g.R.Source.left c.read_text.new.reader)
-    (g.W.Sink.held c.args.writer.now) (g.W.Sink.held c.write_answer.new.writer)
+    (g.W.Sink.written_bytes c.args.writer.now) (g.W.Sink.written_bytes c.write_answer.new.writer)
     c.in_ok-feed.feed.text c.in_ok-answered.answered.output.items c.in_ok-answered.answered.outcome
     c.in_ok-feed.ensures.read_all c.in_ok-answered.ensures.answered c.write_answer.result c.write_answer.ensures.all
     c.write_answer.ensures.prefix
 
 pub returns-in_err-feed-clause-says_yes_of_stops : goal.returns-in_err-feed-clause-says_yes_of_stops
 returns-in_err-feed-clause-says_yes_of_stops g c =
-    nothing_said HasRightStops (g.R.Source.left c.args.reader.now) (g.W.Sink.held c.args.writer.now)
-    (g.W.Sink.held c.args.writer.now) refl
+    nothing_said HasRightStops (g.R.Source.left c.args.reader.now) (g.W.Sink.written_bytes c.args.writer.now)
+    (g.W.Sink.written_bytes c.args.writer.now) refl
 
 pub returns-in_err-answered-clause-says_yes_of_stops : goal.returns-in_err-answered-clause-says_yes_of_stops
 returns-in_err-answered-clause-says_yes_of_stops g c =
-    nothing_said HasRightStops (g.R.Source.left c.args.reader.now) (g.W.Sink.held c.args.writer.now)
-    (g.W.Sink.held c.args.writer.now) refl
+    nothing_said HasRightStops (g.R.Source.left c.args.reader.now) (g.W.Sink.written_bytes c.args.writer.now)
+    (g.W.Sink.written_bytes c.args.writer.now) refl
 
 pub returns-clause-stops : goal.returns-clause-stops
 returns-clause-stops g c is =
@@ -59,7 +59,8 @@ returns-clause-stops g c is =
 pub returns-clause-says_yes_of_stops : goal.returns-clause-says_yes_of_stops
 returns-clause-says_yes_of_stops g c =
     written_right HasRightStops yes_has_right_stops (g.R.Source.left c.args.reader.now)
-    (g.R.Source.left c.read_text.new.reader) (g.W.Sink.held c.args.writer.now) (g.W.Sink.held c.write_answer.new.writer)
+    (g.R.Source.left c.read_text.new.reader) (g.W.Sink.written_bytes c.args.writer.now)
+    (g.W.Sink.written_bytes c.write_answer.new.writer)
     c.in_ok-feed.feed.text c.in_ok-answered.answered.output.items c.in_ok-answered.answered.outcome
     c.in_ok-feed.ensures.read_all c.in_ok-answered.ensures.answered c.write_answer.result c.write_answer.ensures.all
     c.write_answer.ensures.prefix
@@ -76,7 +77,7 @@ pub returns-clause-lines : goal.returns-clause-lines
 returns-clause-lines g c is =
     outcome_tells LinesTell No no_lines_tell (g.R.Source.left c.args.reader.now)
     (g.R.Source.left c.read_text.new.reader)
-    (g.W.Sink.held c.args.writer.now) (g.W.Sink.held c.write_answer.new.writer)
+    (g.W.Sink.written_bytes c.args.writer.now) (g.W.Sink.written_bytes c.write_answer.new.writer)
     c.in_ok-feed.feed.text c.in_ok-answered.answered.output.items c.in_ok-answered.answered.outcome
     c.in_ok-feed.ensures.read_all c.in_ok-answered.ensures.answered c.write_answer.result is
     c.write_answer.ensures.outcome c.write_answer.ensures.all

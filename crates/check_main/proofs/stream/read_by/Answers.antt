@@ -1,7 +1,7 @@
 -- The piece that does not fit has the byte past the limit.
 use Rattle.std.proofs.Common.{◌+◌, ◌<◌, ◌++◌, Err, length, take, ap, length-append}
 use Rattle.std.proofs.KnownBytes.{Consumes-trans}
-use Rattle.section_text.specs.FeedState.{text_limit}
+use Rattle.section_text.specs.Feeds.{text_limit}
 use Rattle.check_main.proofs.stream.read_by.Goals as goal
 
 pub returns-in-Err-TooLong-clause-too_long : goal.returns-in-Err-TooLong-clause-too_long

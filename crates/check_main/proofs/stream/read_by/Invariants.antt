@@ -1,7 +1,7 @@
 -- The text so far is what the reader gave, at least one byte a turn.
 use Rattle.std.proofs.Common.{◌≡◌, ◌≤◌, false, None, length}
 use Rattle.std.specs.Io.KnownBytes.{Consumes}
-use Rattle.section_text.specs.FeedState.{text_limit}
+use Rattle.section_text.specs.Feeds.{text_limit}
 use Rattle.check_main.proofs.stream.read_by.Given as goal
 
 abbrev pub invariant-loop : goal.invariant-loop

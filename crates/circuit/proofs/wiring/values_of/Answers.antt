@@ -17,7 +17,8 @@ returns-then-not-branch-clause-fault c =
     let none : c.in_ok-push_outs.field-0 ≡ false = search rules in
     values_stop c.args.given.now c.loop-number.values.items c.push_outs.new.values.items c.args.gates.now
     c.loop-number.number c.index-gates-number.result (omega arith) c.index-gates-number.is
-    (c.in_ok-push_outs.ensures.kept (ap Ok none)) (c.in_ok-push_outs.ensures.none (ap Ok none)) c.loop-number.invariant
+    (c.in_ok-push_outs.ensures.values_unchanged (ap Ok none))
+    (c.in_ok-push_outs.ensures.none (ap Ok none)) c.loop-number.invariant
 
 pub returns-clause-values : goal.returns-clause-values
 returns-clause-values c = values_all c.args.given.now c.loop-number.values.items c.args.gates.now c.loop-number.number

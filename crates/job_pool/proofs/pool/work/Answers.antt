@@ -18,8 +18,9 @@ use Rattle.job_pool.proofs.pool.work.Goals as goal
 enough : (n count all room : ℕ) → n ≡ all → count ≡ all → count ≤ room → n ≤ room
 enough n count all room is asked fits = omega arith
 
-pub dismiss-seats-requires-clause-room : goal.dismiss-seats-requires-clause-room
-dismiss-seats-requires-clause-room g c = let hired = c.hire-workers.ensures.count in let room = c.in-Ok.ensures.room in
+pub dismiss-seats-requires-clause-room_for_seats : goal.dismiss-seats-requires-clause-room_for_seats
+dismiss-seats-requires-clause-room_for_seats g c = let hired = c.hire-workers.ensures.count in let room =
+    c.in-Ok.ensures.room_for_all in
     (enough _ _ _ _ hired c.len.ensures room.1, enough _ _ _ _ hired c.len.ensures room.2)
 
 pub close-requires : goal.close-requires

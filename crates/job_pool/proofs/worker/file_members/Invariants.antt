@@ -6,6 +6,6 @@ use Rattle.job_pool.proofs.worker.file_members.Given as goal
 
 abbrev pub invariant-members : goal.invariant-members
 invariant-members g l = record {
-  filed : l.share.filed ≡ l.initial.share.filed + times l.number (take l.member l.site.groups.now);
+  filed : l.share.filed ≡ l.initial.share.filed + times l.number (take l.member l.shared_work.groups.now);
   risen : HasRisen l.initial.share l.share;
 }

@@ -9,12 +9,12 @@ returns-in-Some-clause-least c =
     let j = c.args.from.now in
     let k = c.args.to.now in
     subst (λ (f : Fault). IsLeastFault k (Some f)) (sym c.fault_on.ensures)
-    (least_moved j k (Some c.in-Some.fault) c.area-from.ensures.good c.area-to.ensures.good c.requires.same
+    (least_moved j k (Some c.in-Some.fault) c.area-from.ensures.good c.area-to.ensures.good c.requires.same_shape
     (subst (λ (o : Option Fault). IsLeastFault j o) c.in-Some.is c.requires.least))
 
 pub returns-in-None-clause-least : goal.returns-in-None-clause-least
 returns-in-None-clause-least c =
     let j = c.args.from.now in
     let k = c.args.to.now in
-    least_moved j k None c.area-from.ensures.good c.area-to.ensures.good c.requires.same
+    least_moved j k None c.area-from.ensures.good c.area-to.ensures.good c.requires.same_shape
     (subst (λ (o : Option Fault). IsLeastFault j o) c.in-None.is c.requires.least)

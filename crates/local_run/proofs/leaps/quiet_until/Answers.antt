@@ -1,6 +1,6 @@
 use Rattle.std.proofs.Common.{◌≡◌, ◌∙◌, ap, subst}
 use Rattle.module_box.specs.Schedules.{Signals}
-use Rattle.module_job.specs.Shapes.{ShapeState, back, shape_of}
+use Rattle.module_job.specs.Shapes.{ShapeView, shift_to_origin, shape_of}
 use Rattle.local_run.specs.Leaps.{IsSteady}
 use Rattle.local_run.proofs.LeapLemmas.{less_steady, steady_moved}
 use Rattle.local_run.proofs.leaps.quiet_until.Goals as goal
@@ -9,9 +9,9 @@ pub returns-clause-edges : goal.returns-clause-edges
 returns-clause-edges c =
     let j = c.args.job.now in
     let shape : c.deref-shape.result.now ≡ shape_of j = c.deref-shape.ensures ∙ c.shape.ensures in
-    let is = c.edges.ensures ∙ ap (λ (s : ShapeState). s.edges) shape in
+    let is = c.edges.ensures ∙ ap (λ (s : ShapeView). s.edges) shape in
     less_steady j.edges c.args.time c.steady_until-edges.result _ c.steady_until.ensures.range.1
-    (steady_moved j.edges (back j.area.x) (back j.area.y) c.args.time _
+    (steady_moved j.edges (shift_to_origin j.area.x) (shift_to_origin j.area.y) c.args.time _
     (subst (λ (s : Signals). IsSteady s c.args.time c.steady_until-edges.result) is
     c.steady_until-edges.ensures.steady))
 
@@ -19,6 +19,6 @@ pub returns-clause-halos : goal.returns-clause-halos
 returns-clause-halos c =
     let j = c.args.job.now in
     let shape : c.deref-shape.result.now ≡ shape_of j = c.deref-shape.ensures ∙ c.shape.ensures in
-    let is = c.halos.ensures ∙ ap (λ (s : ShapeState). s.halos) shape in
-    steady_moved j.halos (back j.area.x) (back j.area.y) c.args.time _
+    let is = c.halos.ensures ∙ ap (λ (s : ShapeView). s.halos) shape in
+    steady_moved j.halos (shift_to_origin j.area.x) (shift_to_origin j.area.y) c.args.time _
     (subst (λ (s : Signals). IsSteady s c.args.time c.steady_until.result) is c.steady_until.ensures.steady)

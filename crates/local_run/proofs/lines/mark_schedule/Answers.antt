@@ -1,4 +1,4 @@
-use Rattle.local_run.proofs.QuietLemmas.{quiet_in, still_held}
+use Rattle.local_run.proofs.QuietLemmas.{quiet_in, still_all_times}
 use Rattle.local_run.proofs.lines.mark_schedule.Goals as goal
 
 pub returns-clause-quiet : goal.returns-clause-quiet
@@ -6,6 +6,6 @@ returns-clause-quiet c =
     let s = c.args.schedule.now in
     let b = c.args.area in
     let m = c.mark_events_at.ensures in
-    let events = rw c.events.ensures.same at m.marked in
+    let events = rw c.events.ensures.same_list at m.marked in
     quiet_in s b c.args.time c.mark_events_at.new.marks
-    (still_held s b c.args.marks.now c.mark_events_at.new.marks m.keeps c.requires.held) events
+    (still_all_times s b c.args.marks.now c.mark_events_at.new.marks m.keeps c.requires.all_times) events

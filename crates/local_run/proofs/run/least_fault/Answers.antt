@@ -11,7 +11,7 @@ times-preserved c =
     let next = c.next_time-time.ensures in
     let range = rw c.steps-steps.ensures at next.range in
     next_run c.args.job.now c.args.values.now c.times.time c.next_time-time.result c.times.next c.time_fault.new.next
-    c.times.field.planes c.one_step-changed.new.field.planes c.times.changed c.one_step-changed.result
+    c.times.marked_planes.planes c.one_step-changed.new.marked_planes.planes c.times.changed c.one_step-changed.result
     c.requires c.times.invariant (omega (arith, range)) c.in_default.ensures one.next one.stays range next.leap
     next.next
 

@@ -14,9 +14,13 @@ use Rattle.local_run.proofs.scan.are_edges_right.Goals as goal
 
 pub border-init : goal.border-init
 border-init c = record {
-  within = omega (arith, c.cells-cells.ensures.is, ap (λ (p : Planes). p.stride * p.rows) c.planes-planes.ensures);
-  right = λ x y lx ly before. passed_edges c.args.job.now c.args.values.now c.args.field.now.planes c.args.time 0
-      c.next_border-u.result x y c.args.field.now.line_marks.items c.requires.ready c.requires.shows c.requires.lines
+  within =
+      omega
+      (arith, c.cells-cells.ensures.count_is_exact, ap (λ (p : Planes). p.stride * p.rows) c.planes-planes.ensures);
+  right = λ x y lx ly before. passed_edges c.args.job.now c.args.values.now c.args.marked_planes.now.planes c.args.time
+      0
+      c.next_border-u.result x y c.args.marked_planes.now.line_marks.items c.requires.ready c.requires.shows
+      c.requires.lines
       c.next_border-u.ensures.passed lx ly (omega arith) before;
 }
 
@@ -31,7 +35,9 @@ border-preserved c =
     let number : (j.area.w / 2 + 1) * c.place-column.result.1 + c.place-column.result.0 ≡ c.border.u =
     ap (λ s. s * c.place-column.result.1 + c.place-column.result.0) (sym stride) ∙ at.is in
     record {
-      within = omega (arith, c.cells-cells.ensures.is, ap (λ (p : Planes). p.stride * p.rows) c.planes-planes.ensures);
+      within =
+          omega
+          (arith, c.cells-cells.ensures.count_is_exact, ap (λ (p : Planes). p.stride * p.rows) c.planes-planes.ensures);
       right = λ x y lx ly before. by_lt_or_le (number_at j.area x y) c.border.u
           (λ h. m.right x y lx ly h)
           (λ g. by_eq_or_not (number_at j.area x y) c.border.u
@@ -39,8 +45,9 @@ border-preserved c =
           let h = same_place (j.area.w / 2 + 1) c.place-column.result.0 c.place-column.result.1 x y
           (omega (arith, at.column, stride)) (omega arith) (number ∙ sym e) in
           c.if-not-are_edges_right_in.ensures refl x y lx ly h.0 h.1)
-          (λ ne. passed_edges j c.args.values.now c.args.field.now.planes c.args.time
-          (c.border.u + 1) c.next_border-u-in-border.result x y c.args.field.now.line_marks.items c.requires.ready
+          (λ ne. passed_edges j c.args.values.now c.args.marked_planes.now.planes c.args.time
+          (c.border.u + 1) c.next_border-u-in-border.result x y c.args.marked_planes.now.line_marks.items
+          c.requires.ready
           c.requires.shows c.requires.lines c.next_border-u-in-border.ensures.passed lx ly (omega arith) before));
     }
 
@@ -58,7 +65,7 @@ returns c = λ h.
         number_at c.args.job.now.area x y < c.border.u
     below x y lx ly =
         let long : c.cells-cells.result ≡ (c.args.job.now.area.w / 2 + 1) * (c.args.job.now.area.h / 2 + 1) =
-        c.cells-cells.ensures.is ∙ ap (λ (p : Planes). p.stride * p.rows) c.planes-planes.ensures
+        c.cells-cells.ensures.count_is_exact ∙ ap (λ (p : Planes). p.stride * p.rows) c.planes-planes.ensures
         ∙ ap₂ (λ s r. s * r) c.requires.shows.size.1 c.requires.shows.size.2 in
         omega (
           arith,

@@ -12,10 +12,11 @@ pub returns-in-Dead : goal.returns-in-Dead
 returns-in-Dead c =
     let j = c.args.job.now in
     end_least j c.args.values.now (assignments j)
-    (λ a. lane c.args.field.now.planes a (1 + c.args.x) (1 + c.args.y)) Zero Demanded.Dead c.args.time c.args.kind _ _ _
+    (λ a. lane c.args.marked_planes.now.planes a (1 + c.args.x) (1 + c.args.y)) Zero Demanded.Dead c.args.time
+    c.args.kind _ _ _
     (sym c.in-End.is) c.requires.sought
     (inner_in_box j.area c.args.x c.args.y c.requires.place.0 c.requires.place.1)
-    (sym c.demand_at.ensures.is ∙ c.in-Dead.is) (λ v b h. h) (λ v b h. h)
+    (sym c.demand_at.ensures.demand_is_exact ∙ c.in-Dead.is) (λ v b h. h) (λ v b h. h)
     (λ a l. c.requires.shows.cells a c.args.x c.args.y l c.requires.place.0 c.requires.place.1)
     (rw c.requires.ready.count at c.first_live.ensures)
 
@@ -23,21 +24,23 @@ pub returns-in-Live : goal.returns-in-Live
 returns-in-Live c =
     let j = c.args.job.now in
     end_least j c.args.values.now (assignments j)
-    (λ a. lane c.args.field.now.planes a (1 + c.args.x) (1 + c.args.y)) One Demanded.Live c.args.time c.args.kind _ _ _
+    (λ a. lane c.args.marked_planes.now.planes a (1 + c.args.x) (1 + c.args.y)) One Demanded.Live c.args.time
+    c.args.kind _ _ _
     (sym c.in-End.is) c.requires.sought
     (inner_in_box j.area c.args.x c.args.y c.requires.place.0 c.requires.place.1)
-    (sym c.demand_at.ensures.is ∙ c.in-Live.is) (λ v b h. h) (λ v b h. h)
+    (sym c.demand_at.ensures.demand_is_exact ∙ c.in-Live.is) (λ v b h. h) (λ v b h. h)
     (λ a l. c.requires.shows.cells a c.args.x c.args.y l c.requires.place.0 c.requires.place.1)
     (rw (c.planes-planes.ensures, c.requires.ready.count) at c.first_difference-in-Live.ensures)
 
 pub returns-in-Wire : goal.returns-in-Wire
 returns-in-Wire c =
     let j = c.args.job.now in
-    end_least j c.args.values.now (assignments j) (λ a. lane c.args.field.now.planes a (1 + c.args.x) (1 + c.args.y))
+    end_least j c.args.values.now (assignments j)
+    (λ a. lane c.args.marked_planes.now.planes a (1 + c.args.x) (1 + c.args.y))
     (Wire c.in-Wire.wire) (Demanded.Wire c.in-Wire.wire) c.args.time c.args.kind _ _ _
     (sym c.in-End.is) c.requires.sought
     (inner_in_box j.area c.args.x c.args.y c.requires.place.0 c.requires.place.1)
-    (sym c.demand_at.ensures.is ∙ c.in-Wire.is) (λ v b h. h) (λ v b h. h)
+    (sym c.demand_at.ensures.demand_is_exact ∙ c.in-Wire.is) (λ v b h. h) (λ v b h. h)
     (λ a l. c.requires.shows.cells a c.args.x c.args.y l c.requires.place.0 c.requires.place.1)
     (rw (c.planes-planes.ensures, c.requires.ready.count) at c.first_difference-in-Wire.ensures)
 

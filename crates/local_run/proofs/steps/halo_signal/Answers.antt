@@ -9,8 +9,8 @@ has_line-requires c =
     let even_h = c.requires.job.even.h in
     (omega arith, omega arith)
 
-pub returns-else-has_line-clause-is : goal.returns-else-has_line-clause-is
-returns-else-has_line-clause-is c =
+pub returns-else-has_line-clause-signal_is_exact : goal.returns-else-has_line-clause-signal_is_exact
+returns-else-has_line-clause-signal_is_exact c =
     let free = rw c.requires.stride at c.has_line.ensures in
     sym (c.requires.lines.halos c.args.x c.args.y c.requires.place.0 c.requires.place.1
     (inr (free c.if-has_line.false)))

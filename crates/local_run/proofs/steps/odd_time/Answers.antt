@@ -7,8 +7,9 @@ pub returns-clause-next : goal.returns-clause-next
 returns-clause-next c =
     let j = c.args.job.now in
     let h = c.put_halo.ensures in
-    odd_shows j c.args.values.now c.args.time c.put_halo.new.field.planes _ c.requires.ready c.requires.odd h.shows.size
-    (halo_cells j c.args.values.now c.args.time c.put_halo.new.field.planes c.requires.ready h.shows h.halo)
+    odd_shows j c.args.values.now c.args.time c.put_halo.new.marked_planes.planes _ c.requires.ready c.requires.odd
+    h.shows.size
+    (halo_cells j c.args.values.now c.args.time c.put_halo.new.marked_planes.planes c.requires.ready h.shows h.halo)
     c.odd_step.ensures.size c.odd_step.ensures.turned
 
 pub returns-clause-stays : goal.returns-clause-stays

@@ -8,11 +8,12 @@ use Rattle.local_run.proofs.steps.put_halo.Goals as goal
 
 pub border-init : goal.border-init
 border-init c = record {
-  within = omega (arith, c.cells-cells.ensures.is, ap (λ (p : Planes). p.stride * p.rows) c.planes.ensures);
+  within = omega (arith, c.cells-cells.ensures.count_is_exact, ap (λ (p : Planes). p.stride * p.rows) c.planes.ensures);
   shows = c.requires.shows;
   lines = refl;
-  halo = λ x y lx ly before. passed_halo c.args.job.now c.args.values.now c.args.field.now.planes c.args.time 0
-      c.next_border-u.result x y c.args.field.now.line_marks.items c.requires.ready c.requires.shows c.requires.lines
+  halo = λ x y lx ly before. passed_halo c.args.job.now c.args.values.now c.args.marked_planes.now.planes c.args.time 0
+      c.next_border-u.result x y c.args.marked_planes.now.line_marks.items c.requires.ready c.requires.shows
+      c.requires.lines
       c.next_border-u.ensures.passed lx ly (omega arith) before;
 }
 
@@ -28,7 +29,7 @@ border-preserved c =
     let number : (j.area.w / 2 + 1) * c.place-column.result.1 + c.place-column.result.0 ≡ c.border.u =
     ap (λ s. s * c.place-column.result.1 + c.place-column.result.0) (sym stride) ∙ at.is in
     let old : c.cells-cells.result ≡ (j.area.w / 2 + 1) * (j.area.h / 2 + 1) =
-    c.cells-cells.ensures.is ∙ ap (λ (p : Planes). p.stride * p.rows) c.planes.ensures
+    c.cells-cells.ensures.count_is_exact ∙ ap (λ (p : Planes). p.stride * p.rows) c.planes.ensures
     ∙ ap₂ (λ s r. s * r) c.requires.shows.size.1 c.requires.shows.size.2 in
     let new = ap₂ (λ s r. s * r) e.shows.size.1 e.shows.size.2 in
     record {
@@ -45,8 +46,8 @@ border-preserved c =
           let h = same_place (j.area.w / 2 + 1) c.place-column.result.0 c.place-column.result.1 x y
           (omega (arith, at.column, stride)) (omega arith) (number ∙ sym here) in
           e.here x y lx ly h.0 h.1)
-          (λ ne. passed_halo j c.args.values.now c.put_halo_in.new.field.planes c.args.time
-          (c.border.u + 1) c.next_border-u-in-border.result x y c.put_halo_in.new.field.line_marks.items
+          (λ ne. passed_halo j c.args.values.now c.put_halo_in.new.marked_planes.planes c.args.time
+          (c.border.u + 1) c.next_border-u-in-border.result x y c.put_halo_in.new.marked_planes.line_marks.items
           c.requires.ready e.shows (subst (λ m. AreLines j c.args.time (vec_items m))
           (sym (e.lines ∙ m.lines)) c.requires.lines) c.next_border-u-in-border.ensures.passed lx ly
           (omega arith) before));
@@ -57,7 +58,8 @@ returns-clause-halo c = λ x y lx ly.
     let s1 = c.requires.shows.size.1 in
     let s2 = c.requires.shows.size.2 in
     let long : c.cells-cells.result ≡ (c.args.job.now.area.w / 2 + 1) * (c.args.job.now.area.h / 2 + 1) =
-    c.cells-cells.ensures.is ∙ ap (λ (p : Planes). p.stride * p.rows) c.planes.ensures ∙ ap₂ (λ s r. s * r) s1 s2 in
+    c.cells-cells.ensures.count_is_exact ∙ ap (λ (p : Planes). p.stride * p.rows) c.planes.ensures
+    ∙ ap₂ (λ s r. s * r) s1 s2 in
     c.border.invariant.halo x y lx ly
     (omega
     (arith, number_below c.args.job.now.area x y c.requires.ready.job.even.w c.requires.ready.job.even.h lx ly, long))

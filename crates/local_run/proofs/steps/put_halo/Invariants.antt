@@ -7,10 +7,10 @@ use Rattle.local_run.proofs.steps.put_halo.Given as goal
 abbrev pub invariant-border : goal.invariant-border
 invariant-border l = record {
   within : l.u ≤ l.cells;
-  shows : Shows l.job l.values l.time l.field.planes;
-  lines : l.field.line_marks ≡ l.fn.field.line_marks;
+  shows : Shows l.job l.values l.time l.marked_planes.planes;
+  lines : l.marked_planes.line_marks ≡ l.fn.marked_planes.line_marks;
   halo : (x y : ℕ) → x < l.job.area.w + 2 → y < l.job.area.h + 2 → number_at l.job.area x y < l.u →
-      HasHaloAt l.job l.values l.time l.field.planes x y;
+      HasHaloAt l.job l.values l.time l.marked_planes.planes x y;
 }
 
 abbrev pub decreases-border : goal.decreases-border

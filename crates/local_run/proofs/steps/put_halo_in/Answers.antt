@@ -10,7 +10,7 @@ returns-clause-here c =
     let e3 = c.put_halo_cell-3.ensures in
     let e4 = c.put_halo_cell-4.ensures in
     λ x y lx ly ex ey. four_cells c.args.column c.args.row
-    (λ (x y : ℕ). HasHaloAt c.args.job.now c.args.values.now c.args.time c.put_halo_cell-4.new.field.planes x y)
+    (λ (x y : ℕ). HasHaloAt c.args.job.now c.args.values.now c.args.time c.put_halo_cell-4.new.marked_planes.planes x y)
     (λ a l out. e4.rest a _ _ l (omega arith) (λ s. let s0 = s.0 in omega arith)
     ∙ e3.rest a _ _ l (omega arith) (λ s. let s1 = s.1 in omega arith)
     ∙ e2.rest a _ _ l (omega arith) (λ s. let s0 = s.0 in omega arith) ∙ e1.here a l out)

@@ -29,6 +29,6 @@ cells-preserved c =
           (λ g. let e : c.cells.x ≡ x = omega arith in
           subst (λ (n : ℕ). lane c.put.new.planes a (1 + n) (1 + c.rows.y)
           ≡ local_run j (valuation c.args.values.now a) 0 (inner j.area.x n) (inner j.area.y c.rows.y)) e
-          (h.there a (omega arith) ∙ ap (is_live (valuation c.args.values.now a)) c.start_at.ensures.is
+          (h.there a (omega arith) ∙ ap (is_live (valuation c.args.values.now a)) c.start_at.ensures.start_is_exact
           ∙ run_start j (valuation c.args.values.now a) _ _));
     }

@@ -4,7 +4,7 @@ use Rattle.std.proofs.lemmas.List.{with_items_is}
 use Rattle.std.proofs.lemmas.Option.{slice_get-get_or}
 use Rattle.module_box.specs.Tiling.{Owning, IsTable}
 use Rattle.module_box.proofs.Tilings.{all_inside, bad_block, filled_from, owners_from, taken_by_all, taken_by_next}
-use Rattle.module_box.proofs.Tilings.{taken_gap, taken_held, taken_twice}
+use Rattle.module_box.proofs.Tilings.{taken_gap, taken_all_times, taken_twice}
 use Rattle.module_box.proofs.tile.owner_table.Goals as goal
 
 pub take_box-kept-requires-clause-even : goal.take_box-kept-requires-clause-even
@@ -49,7 +49,8 @@ returns-then-gap-len c =
     let within : place < blocks = (let b = t.bound in omega (arith, b, lt)) in (
       bad_block c.args.width c.args.height _ place c.args.boxes.now c.corner.result
           c.first_outside-outside.ensures.before c.if-outside-boxes.false within
-          (taken_held columns blocks place c.args.boxes.now table t (omega (arith, lt)) free.before) c.corner.ensures,
+          (taken_all_times columns blocks place c.args.boxes.now table t (omega (arith, lt)) free.before)
+          c.corner.ensures,
       taken_gap columns blocks place c.args.boxes.now table c.corner.result t lt (free.found lt) c.corner.ensures,
     )
 
@@ -67,7 +68,7 @@ returns-then-len-blocks c =
     λ k p. free.before k (omega arith) in (
       bad_block c.args.width c.args.height _ place c.args.boxes.now c.corner-then-len-blocks.result
           c.first_outside-outside.ensures.before c.if-outside-boxes.false within
-          (taken_held columns blocks place c.args.boxes.now table t (omega (arith, long)) full)
+          (taken_all_times columns blocks place c.args.boxes.now table t (omega (arith, long)) full)
           c.corner-then-len-blocks.ensures,
       taken_twice columns blocks place c.args.boxes.now table c.corner-then-len-blocks.result t long within
           c.corner-then-len-blocks.ensures,

@@ -3,7 +3,7 @@ use Rattle.std.specs.Arc.{arc_value}
 use Rattle.std.proofs.lemmas.List.{take_all}
 use Rattle.module_job.specs.Groups.{AreKeys}
 use Rattle.module_job.specs.Keys.{shape_key}
-use Rattle.module_job.specs.Shapes.{ShapeState, shape_of}
+use Rattle.module_job.specs.Shapes.{ShapeView, shape_of}
 use Rattle.module_job.proofs.FirstShapes.{made_keys, map_twice, pushed_one, pushed_value}
 use Rattle.module_job.proofs.groups.job_groups.Goals as goal
 
@@ -36,7 +36,7 @@ shape_groups-requires c =
     c.deref-3.ensures.value ∙ c.jobs.invariant.keys ∙ ap (map (λ j. shape_key (shape_of (arc_value j)))) all
     ∙ sym (ap (map shape_key) (map_twice arc_value shape_of jobs)
     ∙ map_twice (λ j. shape_of (arc_value j)) shape_key jobs) in
-    subst (λ (ss : List ShapeState). AreKeys ss c.deref-3.result.now) (sym shapes)
+    subst (λ (ss : List ShapeView). AreKeys ss c.deref-3.result.now) (sym shapes)
     (subst (λ (ks : List (List ℕ)). AreKeys (map shape_of (map arc_value jobs)) ks) (sym keys)
     (made_keys (map shape_of (map arc_value jobs)) shape_key))
 

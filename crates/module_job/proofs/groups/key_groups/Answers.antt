@@ -26,7 +26,7 @@ keys-preserved c =
       count = omega (arith, longer, sum, c.keys.invariant.count);
       each = λ k lt. subst (λ (gs : List ℕ). IsFirstLike keys k (slice_index gs k)) (sym items)
           (group_more keys old n first c.keys.invariant.count c.keys.invariant.each like k lt);
-      known = λ other. subst (IsFirstOf keys (n + 1) other) (sym (c.in_ok-first.ensures.kept other))
+      known = λ other. subst (IsFirstOf keys (n + 1) other) (sym (c.in_ok-first.ensures.first_is_added other))
           (known_more keys n _ other (get same_key c.keys.firsts _) (get same_key c.keys.firsts other) first there
           (c.keys.invariant.known _) is (c.keys.invariant.known other));
     }

@@ -1,5 +1,5 @@
 use Rattle.std.proofs.Common.{◌∙◌, ap, sym, option_map}
-use Rattle.section_text.specs.FeedState.{line_bytes}
+use Rattle.section_text.specs.Feeds.{line_bytes}
 use Rattle.section_text.specs.Listed.{four_listed}
 use Rattle.section_text.specs.Words.{words_of}
 use Rattle.pattern.proofs.PortLines.{port_found, port_missed}

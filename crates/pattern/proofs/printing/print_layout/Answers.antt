@@ -3,9 +3,9 @@ use Rattle.std.specs.Prelude.{codes}
 use Rattle.std.specs.List.{flat_map}
 use Rattle.section_text.specs.Spelling.{line_text}
 use Rattle.bbm_rule.specs.declared.block.Cell.{Cell}
-use Rattle.pattern.specs.declared.parts.Rectangle.{Rectangle}
-use Rattle.pattern.specs.declared.parts.Port.{Port}
-use Rattle.pattern.specs.declared.parts.Extent.{Extent}
+use Rattle.pattern.specs.declared.layout_line.Rectangle.{Rectangle}
+use Rattle.pattern.specs.declared.layout_line.Port.{Port}
+use Rattle.pattern.specs.declared.layout_line.LayoutHeader.{LayoutHeader}
 use Rattle.pattern.specs.Text.{cell_words, rectangle_words, port_words, size_words}
 use Rattle.pattern.proofs.Printed.{printed}
 use Rattle.pattern.proofs.printing.print_layout.Goals as goal
@@ -16,7 +16,7 @@ returns c = printed c.args.layout.now c.print_size.new.out.items c.print_mirrors
     c.extend_from_slice.new.self.items
     (c.in_ok-print_size.ensures ∙ ap
     (λ (l : List ℕ). l ++ line_text (codes "layout") (size_words c.size.result)) c.new-out.ensures.items
-    ∙ ap (λ (s : Extent). line_text (codes "layout") (size_words s)) c.size.ensures.size)
+    ∙ ap (λ (s : LayoutHeader). line_text (codes "layout") (size_words s)) c.size.ensures.size)
     (c.in_ok-print_mirrors.ensures
     ∙ ap (λ (l : List Rectangle).
     c.print_size.new.out.items ++ flat_map (λ (r : Rectangle). line_text (codes "mirror") (rectangle_words r)) l)
@@ -26,10 +26,10 @@ returns c = printed c.args.layout.now c.print_size.new.out.items c.print_mirrors
     ++ flat_map (λ (k : Cell). line_text (codes "ball") (cell_words k)) l) c.balls.ensures)
     (c.in_ok-print_ports.ensures ∙ ap
     (λ (l : List Port). c.print_cells.new.out.items ++ flat_map (λ (q : Port). line_text (codes "in") (port_words q)) l)
-    c.ins.ensures.same)
+    c.ins.ensures.same_ports)
     (c.in_ok-print_ports-2.ensures
     ∙ ap (λ (l : List Port). c.print_ports.new.out.items
-    ++ flat_map (λ (q : Port). line_text (codes "out") (port_words q)) l) c.outs.ensures.same)
+    ++ flat_map (λ (q : Port). line_text (codes "out") (port_words q)) l) c.outs.ensures.same_ports)
     (c.in_ok-print_cells-2.ensures
     ∙ ap (λ (l : List Cell). c.print_ports-2.new.out.items
     ++ flat_map (λ (k : Cell). line_text (codes "waste") (cell_words k)) l) c.wastes.ensures)

@@ -1,8 +1,8 @@
 use Rattle.std.proofs.Common.{◌≡◌, ℕ, ◌<◌, ◌≤◌, ◌+◌, List, ◌++◌, map, length, get_or, subst, sym, ap, ◌∙◌}
 use Rattle.std.specs.List.{flat_map, filter}
 use Rattle.bbm_rule.specs.declared.block.Cell.{Cell}
-use Rattle.pattern.specs.declared.parts.Rectangle.{Rectangle}
-use Rattle.pattern.specs.declared.parts.Port.{Port}
+use Rattle.pattern.specs.declared.layout_line.Rectangle.{Rectangle}
+use Rattle.pattern.specs.declared.layout_line.Port.{Port}
 use Rattle.pattern.specs.Layout.{Pattern, in_cells, rectangle_cells}
 use Rattle.pattern.specs.LayoutView.{pattern_of}
 use Rattle.section_text.specs.Words.{has}

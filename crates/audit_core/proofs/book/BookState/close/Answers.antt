@@ -1,6 +1,6 @@
 use Rattle.std.proofs.Common.{◌≡◌, sym, subst, true}
 use Rattle.audit_core.specs.Book.{BookView, IsBook, IsReplayed, after_closing}
-use Rattle.audit_core.specs.BookFields.{book_view}
+use Rattle.audit_core.specs.BookView.{book_view}
 use Rattle.audit_core.proofs.Filings.{IsBook-closed}
 use Rattle.audit_core.proofs.Replays.{IsReplayed-closed}
 use Rattle.audit_core.proofs.book.BookState.close.Goals as goal

@@ -1,8 +1,8 @@
 use Rattle.std.proofs.Common.{◌≡◌, ◌∙◌, ◌+◌, ◌<◌, ◌++◌, ◌∷◌, [], Some, set, ap, sym, subst, length, rules}
 use Rattle.audit_core.specs.Book.{BookView, IsBook, IsReplayed, accepted_in, after_filing, filing_of, reply_to}
-use Rattle.audit_core.specs.BookFields.{book_view}
-use Rattle.audit_core.specs.declared.entry.Entry.TheVariants.{Filed}
-use Rattle.audit_core.specs.declared.entry.Filing.{Filing}
+use Rattle.audit_core.specs.BookView.{book_view}
+use Rattle.audit_core.specs.declared.log_entry.LogEntry.TheVariants.{Filed}
+use Rattle.audit_core.specs.declared.log_entry.Filing.{Filing}
 use Rattle.audit_core.specs.declared.reply.Reply.TheVariants.{Accepted}
 use Rattle.audit_core.proofs.Filings.{IsBook-filed, accepted-inside, accepted_in-accepted, accepted_in-filed}
 use Rattle.audit_core.proofs.Filings.{accepted_in-other, left-accepted, left-other}
@@ -28,7 +28,7 @@ accepted c e = sym (ap (λ (x : Filing). x.reply) (filing c)) ∙ e
 
 -- what is left where the finding is accepted, and where it is not
 with_found : (c : After-push_reserved) → c.filing_of-filing.result.reply ≡ Accepted → record (book c) {
-  held = set (book c).held c.filing_of-filing.result.number (Some c.args.finding);
+  findings = set (book c).findings c.filing_of-filing.result.number (Some c.args.finding);
   history = c.push_reserved.new.self.items;
 } ≡ after_filing (book c) c.args.finding
 with_found c e = left-accepted (book c) c.args.finding c.filing_of-filing.result c.push_reserved.new.self.items
@@ -74,8 +74,8 @@ pub index_mut-requires : goal.index_mut-requires
 index_mut-requires c =
     let d = (goal.at.index_mut-requires c).After-push_reserved in
     let inside = accepted-inside (book d) c.args.finding c.self.invariant.book (accepted d c.in-Accepted.is) in
-    let below : c.filing_of-filing.result.number < length (book d).held =
-    subst (λ n. n < length (book d).held) (sym (ap (λ (x : Filing). x.number) (filing d))) inside in
+    let below : c.filing_of-filing.result.number < length (book d).findings =
+    subst (λ n. n < length (book d).findings) (sym (ap (λ (x : Filing). x.number) (filing d))) inside in
     search rules
 
 pub invariant_of-self-2 : goal.invariant_of-self-2

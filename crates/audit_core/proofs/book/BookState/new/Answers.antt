@@ -15,7 +15,7 @@ returns c =
     (λ i. record {
       digest = c.args.digest;
       jobs = map arc_value c.args.jobs.items;
-      held = held i;
+      findings = held i;
       closed = false;
       history = c.new.ensures.items i;
     })

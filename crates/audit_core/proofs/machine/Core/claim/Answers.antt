@@ -4,7 +4,7 @@ use Rattle.std.proofs.lemmas.List.{length-map, length-set, map-set}
 use Rattle.std.proofs.Math.Seq.{map-set_same}
 use Rattle.audit_core.specs.Claims.{claim_draws, claim_next}
 use Rattle.audit_core.specs.Core.{CoreView, IsCore, after_claim, draws_of, numbers_in}
-use Rattle.audit_core.specs.CoreFields.{core_view, lists_of}
+use Rattle.audit_core.specs.CoreView.{core_view, lists_of}
 use Rattle.audit_core.proofs.CoreSteps.{claim-core, drawn-at, left-claim, next-few}
 use Rattle.audit_core.proofs.machine.Core.claim.Goals as goal
 use Rattle.audit_core.proofs.machine.Core.claim.Goals.{After-index_mut, After-claim_from, at-After-claim_from}

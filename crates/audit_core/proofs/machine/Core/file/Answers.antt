@@ -1,7 +1,7 @@
 use Rattle.std.proofs.Common.{◌≡◌, ◌≤◌, sym, subst, length}
 use Rattle.audit_core.specs.Book.{BookView, after_filing}
 use Rattle.audit_core.specs.Core.{CoreView, IsCore}
-use Rattle.audit_core.specs.CoreFields.{core_view, lists_of}
+use Rattle.audit_core.specs.CoreView.{core_view, lists_of}
 use Rattle.audit_core.specs.declared.machine.Event.TheVariants.{File}
 use Rattle.audit_core.proofs.CoreSteps.{event-core}
 use Rattle.audit_core.proofs.machine.Core.file.Goals as goal

@@ -3,7 +3,7 @@ use Rattle.std.specs.Arc.{arc_value}
 use Rattle.std.proofs.lemmas.List.{length-map, length-replicate}
 use Rattle.audit_core.specs.Book.{new_book}
 use Rattle.audit_core.specs.Core.{IsCore, new_core}
-use Rattle.audit_core.specs.CoreFields.{lists_of}
+use Rattle.audit_core.specs.CoreView.{lists_of}
 use Rattle.audit_core.proofs.CoreSteps.{new-core}
 use Rattle.audit_core.proofs.machine.Core.new.Goals as goal
 use Rattle.audit_core.proofs.machine.Core.new.Goals.{In_ok-book}

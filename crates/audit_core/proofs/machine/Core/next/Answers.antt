@@ -1,6 +1,6 @@
 use Rattle.std.proofs.Common.{◌≡◌, length, arith}
 use Rattle.std.proofs.lemmas.List.{length-map}
-use Rattle.audit_core.specs.CoreFields.{lists_of}
+use Rattle.audit_core.specs.CoreView.{lists_of}
 use Rattle.audit_core.proofs.CoreSteps.{next-few}
 use Rattle.audit_core.proofs.machine.Core.next.Goals as goal
 

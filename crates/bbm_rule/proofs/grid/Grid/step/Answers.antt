@@ -6,8 +6,8 @@ use Rattle.bbm_rule.proofs.BoardLemmas.{even_plane, even_step, odd_plane, odd_st
 use Rattle.bbm_rule.proofs.BoardLemmas.{plane_same}
 use Rattle.bbm_rule.proofs.grid.Grid.step.Goals as goal
 
-pub turn_all_shifted-requires-clause-room : goal.turn_all_shifted-requires-clause-room
-turn_all_shifted-requires-clause-room c =
+pub turn_all_shifted-requires-clause-pairs_inside : goal.turn_all_shifted-requires-clause-pairs_inside
+turn_all_shifted-requires-clause-pairs_inside c =
     let g = c.self.inside in let ok = c.self.invariant in
     omega (
       arith,
@@ -33,7 +33,7 @@ invariant_of-self c =
     long long_e long_o
     (even_plane g.width g.height (64 * g.stride) (g.height / 2) g.words.items _ (plane_of g ok) rows
     (omega (arith, ok.height.2)))
-    c.turn_all_shifted.ensures.own c.turn_all_shifted.ensures.others
+    c.turn_all_shifted.ensures.own_calm c.turn_all_shifted.ensures.others
 
 pub returns-then-t-eq0-clause-stepped : goal.returns-then-t-eq0-clause-stepped
 returns-then-t-eq0-clause-stepped c =
@@ -50,8 +50,8 @@ returns-then-t-eq0-clause-stepped c =
     ) (even_step c.args.t g.width g.height (64 * g.stride) (g.height / 2) g.words.items _ c.if-t-eq0.true
     (plane_of g ok) rows (omega (arith, ok.height.2)))
 
-pub turn_all_aligned-requires-clause-room : goal.turn_all_aligned-requires-clause-room
-turn_all_aligned-requires-clause-room c =
+pub turn_all_aligned-requires-clause-pairs_inside : goal.turn_all_aligned-requires-clause-pairs_inside
+turn_all_aligned-requires-clause-pairs_inside c =
     let g = c.self.inside in let ok = c.self.invariant in
     omega (arith, ap length c.deref_mut-2.ensures.value, aligned_room g.height g.stride ok.height.2, ok.words)
 
@@ -67,11 +67,11 @@ has_live_margin-requires-clause-unmarked c =
     (omega (arith, g.odd_marks.ok.0, c.turn_all_aligned.auto.own, ap length c.deref_mut-3.ensures.value)) in
     rw (c.deref.ensures.value, items, c.deref-2.ensures.value, items_o)
     (margin_kept g.width g.height (64 * g.stride) (g.height / 2 + 1) _ g.words.items first (plane_of g ok)
-    (omega (arith, ok.height.2)) rows c.turn_all_aligned.ensures.own)
+    (omega (arith, ok.height.2)) rows c.turn_all_aligned.ensures.own_calm)
 
-pub turn_all_aligned-requires-then-has_live_margin-clause-room :
-    goal.turn_all_aligned-requires-then-has_live_margin-clause-room
-turn_all_aligned-requires-then-has_live_margin-clause-room c =
+pub turn_all_aligned-requires-then-has_live_margin-clause-pairs_inside :
+    goal.turn_all_aligned-requires-then-has_live_margin-clause-pairs_inside
+turn_all_aligned-requires-then-has_live_margin-clause-pairs_inside c =
     let g = c.self.inside in let ok = c.self.invariant in
     let first = c.turn_all_aligned.new.words in
     let rows = rw c.deref_mut-2.ensures.value at c.turn_all_aligned.ensures.turned in
@@ -148,7 +148,7 @@ invariant_of-self-then-has_live_margin c =
     long' again_e again_o
     (plane_same g.width g.height (64 * g.stride) g.words.items second same plane)
     (rw whole at c.turn_all_aligned-then-has_live_margin.ensures.others)
-    c.turn_all_aligned-then-has_live_margin.ensures.own
+    c.turn_all_aligned-then-has_live_margin.ensures.own_calm
 
 pub returns-then-has_live_margin-clause-unchanged : goal.returns-then-has_live_margin-clause-unchanged
 returns-then-has_live_margin-clause-unchanged c =
@@ -197,7 +197,7 @@ invariant_of-self-else-has_live_margin c =
     long_o
     (odd_plane g.width g.height (64 * g.stride) (g.height / 2 + 1) g.words.items first (plane_of g ok) rows
     (omega (arith, ok.height.2)) dead)
-    (rw whole at c.turn_all_aligned.ensures.others) c.turn_all_aligned.ensures.own
+    (rw whole at c.turn_all_aligned.ensures.others) c.turn_all_aligned.ensures.own_calm
 
 pub returns-clause-stepped : goal.returns-clause-stepped
 returns-clause-stepped c =

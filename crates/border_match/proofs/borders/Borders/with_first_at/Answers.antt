@@ -7,7 +7,7 @@ pub returns-then-is_fault : goal.returns-then-is_fault
 returns-then-is_fault c =
     better_with _ _ _ _ _ (c.is_fault.ensures.0 c.if-is_fault.true)
     (λ h f same. first_is_least c.times.time c.args.cell h (not_before _ _ (c.times.invariant h f same)) same)
-    c.lesser.ensures.kept c.lesser.ensures.one c.lesser.ensures.covered
+    c.lesser.ensures.covers_as_before c.lesser.ensures.one c.lesser.ensures.covered
 
 pub times-preserved : goal.times-preserved
 times-preserved c = no_fault_step _ c.args.cell c.times.time c.times.invariant

@@ -3,56 +3,56 @@ use Rattle.std.specs.Prelude.{IfOk}
 use Rattle.std.specs.Arc.{arc_value}
 use Rattle.circuit.specs.Bridge.{circuit_of}
 use Rattle.certificate_lines.specs.Entries.{modules_of}
-use Rattle.certificate.specs.Grammars.{CertState}
+use Rattle.certificate.specs.Grammars.{CertView}
 use Rattle.certificate_lines.specs.Settings.{setting_of}
 use Rattle.certificate.specs.Jobs.{AreJobsOf}
 use Rattle.certificate_lines.specs.Modules.{AreModules}
-use Rattle.certificate.specs.PlanView.{PlanState}
+use Rattle.certificate.specs.LayoutTablesView.{LayoutTablesView}
 use Rattle.certificate_lines.specs.Versions.{is_haloless, lacks_wire, meant}
 use Rattle.certificate.proofs.cert.Cert.jobs.Goals as goal
 
 pub jobs_of_version-requires-clause-modules : goal.jobs_of_version-requires-clause-modules
 jobs_of_version-requires-clause-modules c =
-    let s : CertState = c.args.self.now in
+    let s : CertView = c.args.self.now in
     let entries_are : c.as_slice.result.now ≡ s.entries =
-    c.as_slice.ensures.value ∙ ap (λ (t : CertState). t.entries) c.self.view_is in
-    let plan_is : c.in_ok-plan.plan ≡ record { circuit = s.circuit; layout = s.layout } =
-    c.in_ok-plan.ensures ∙ ap (λ (t : CertState). record { circuit = t.circuit; layout = t.layout }) c.self.view_is in
-    subst (λ (q : PlanState). AreModules (setting_of q.circuit q.layout) (modules_of c.as_slice.result.now))
+    c.as_slice.ensures.value ∙ ap (λ (t : CertView). t.entries) c.self.view_is in
+    let plan_is : c.in_ok-tables.tables ≡ record { circuit = s.circuit; layout = s.layout } =
+    c.in_ok-tables.ensures ∙ ap (λ (t : CertView). record { circuit = t.circuit; layout = t.layout }) c.self.view_is in
+    subst (λ (q : LayoutTablesView). AreModules (setting_of q.circuit q.layout) (modules_of c.as_slice.result.now))
     (sym plan_is)
     (subst (λ xs. AreModules (setting_of s.circuit s.layout) (modules_of xs)) (sym entries_are)
-    (subst (λ (t : CertState). AreModules (setting_of t.circuit t.layout) (modules_of t.entries)) c.self.view_is
+    (subst (λ (t : CertView). AreModules (setting_of t.circuit t.layout) (modules_of t.entries)) c.self.view_is
     c.self.invariant.good))
 
 pub jobs_of_version-requires-clause-complete : goal.jobs_of_version-requires-clause-complete
 jobs_of_version-requires-clause-complete c =
-    let s : CertState = c.args.self.now in
+    let s : CertView = c.args.self.now in
     let entries_are : c.as_slice.result.now ≡ s.entries =
-    c.as_slice.ensures.value ∙ ap (λ (t : CertState). t.entries) c.self.view_is in
-    let plan_is : c.in_ok-plan.plan ≡ record { circuit = s.circuit; layout = s.layout } =
-    c.in_ok-plan.ensures ∙ ap (λ (t : CertState). record { circuit = t.circuit; layout = t.layout }) c.self.view_is in
-    subst (λ (q : PlanState). (is_haloless c.self.inside.version
+    c.as_slice.ensures.value ∙ ap (λ (t : CertView). t.entries) c.self.view_is in
+    let plan_is : c.in_ok-tables.tables ≡ record { circuit = s.circuit; layout = s.layout } =
+    c.in_ok-tables.ensures ∙ ap (λ (t : CertView). record { circuit = t.circuit; layout = t.layout }) c.self.view_is in
+    subst (λ (q : LayoutTablesView). (is_haloless c.self.inside.version
     && lacks_wire (setting_of q.circuit q.layout) (modules_of c.as_slice.result.now)) ≡ false) (sym plan_is)
     (subst (λ xs. (is_haloless c.self.inside.version && lacks_wire (setting_of s.circuit s.layout) (modules_of xs))
     ≡ false) (sym entries_are)
-    (subst (λ (t : CertState). (is_haloless c.self.inside.version
+    (subst (λ (t : CertView). (is_haloless c.self.inside.version
     && lacks_wire (setting_of t.circuit t.layout) (modules_of t.entries)) ≡ false) c.self.view_is
     c.self.invariant.complete))
 
 pub returns : goal.returns
 returns c =
-    let s : CertState = c.args.self.now in
+    let s : CertView = c.args.self.now in
     let entries_are : c.as_slice.result.now ≡ s.entries =
-    c.as_slice.ensures.value ∙ ap (λ (t : CertState). t.entries) c.self.view_is in
-    let plan_is : c.in_ok-plan.plan ≡ record { circuit = s.circuit; layout = s.layout } =
-    c.in_ok-plan.ensures ∙ ap (λ (t : CertState). record { circuit = t.circuit; layout = t.layout }) c.self.view_is in
+    c.as_slice.ensures.value ∙ ap (λ (t : CertView). t.entries) c.self.view_is in
+    let plan_is : c.in_ok-tables.tables ≡ record { circuit = s.circuit; layout = s.layout } =
+    c.in_ok-tables.ensures ∙ ap (λ (t : CertView). record { circuit = t.circuit; layout = t.layout }) c.self.view_is in
     subst (λ v. IfOk c.jobs_of_version.result
     (λ js. AreJobsOf (circuit_of s.circuit) s.layout (meant v (setting_of s.circuit s.layout) (modules_of s.entries))
-    (map arc_value js.items))) (ap (λ (t : CertState). t.version) c.self.view_is)
+    (map arc_value js.items))) (ap (λ (t : CertView). t.version) c.self.view_is)
     (subst (λ xs. IfOk c.jobs_of_version.result
     (λ js. AreJobsOf (circuit_of s.circuit) s.layout
     (meant c.self.inside.version (setting_of s.circuit s.layout) (modules_of xs)) (map arc_value js.items))) entries_are
-    (subst (λ (q : PlanState). IfOk c.jobs_of_version.result
+    (subst (λ (q : LayoutTablesView). IfOk c.jobs_of_version.result
     (λ js. AreJobsOf (circuit_of q.circuit) q.layout
     (meant c.self.inside.version (setting_of q.circuit q.layout) (modules_of c.as_slice.result.now))
     (map arc_value js.items))) plan_is c.jobs_of_version.ensures))

@@ -9,5 +9,5 @@ returns c =
     let circuit = circuit_of c.args.circuit.now in
     let locals = c.args.locals.now in
     both_ok c.push.result _ _ _ (λ h e es t.
-    with_border circuit locals es c.args.border.now s.result c.args.self.now c.push.new.self s.ensures.same
-    s.ensures.own h e t) c.push.ensures.held c.push.ensures.events
+    with_border circuit locals es c.args.border.now s.result c.args.self.now c.push.new.self s.ensures.same_signal
+    s.ensures.own_wire h e t) c.push.ensures.all_times c.push.ensures.events

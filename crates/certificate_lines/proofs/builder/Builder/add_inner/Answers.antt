@@ -1,18 +1,19 @@
 use Rattle.std.proofs.Common.{◌≡◌, ◌∙◌, None, ℕ, List, ◌||◌, subst, sym, ap}
 use Rattle.std.specs.List.{list_any}
 use Rattle.bbm_rule.specs.declared.block.Cell.{Cell}
-use Rattle.certificate_lines.specs.Entries.{edge_in, halo_in, present}
+use Rattle.certificate_lines.specs.Entries.{edge_in, halo_in, last_module}
 use Rattle.certificate_lines.specs.Rules.{are_new, inner_fault, is_starred, same_cell}
-use Rattle.certificate_lines.specs.BuilderView.{BuilderState, wires_in}
+use Rattle.certificate_lines.specs.BuilderView.{BuilderView, wires_in}
 use Rattle.certificate_lines.proofs.Keeping.{small, good_line, inner_new, with_inner}
 use Rattle.certificate_lines.proofs.builder.Builder.add_inner.Goals as goal
 
 pub learn_line-requires-clause-new : goal.learn_line-requires-clause-new
 learn_line-requires-clause-new c =
-    let good = good_line c.self.inside.site c.self.inside.entries.items c.args.entry
-    (subst (λ (s : BuilderState). inner_fault s.setting (present s.entries) c.args.entry ≡ None) (sym c.self.view_is)
+    let good = good_line c.self.inside.tables c.self.inside.entries.items c.args.entry
+    (subst (λ (s : BuilderView). inner_fault s.setting (last_module s.entries) c.args.entry ≡ None) (sym c.self.view_is)
     (sym c.inner_code.ensures ∙ c.in_default.is)) in
-    ap (λ (l : List ℕ). are_new l (wires_in c.self.inside.site.circuit c.args.entry)) c.make_room_for_wires.ensures.keys
+    ap (λ (l : List ℕ). are_new l (wires_in c.self.inside.tables.circuit c.args.entry))
+    c.make_room_for_wires.ensures.keys
     ∙ inner_new _ _ _ _ _ _ _ _ _ c.self.invariant.kept c.args.entry c.requires good
 
 pub count_in_last-requires : goal.count_in_last-requires
@@ -20,8 +21,8 @@ count_in_last-requires c = small _ _ _ _ _ _ _ _ _ c.self.invariant.kept
 
 pub invariant_of-self-2 : goal.invariant_of-self-2
 invariant_of-self-2 c =
-    let good = good_line c.self.inside.site c.self.inside.entries.items c.args.entry
-    (subst (λ (s : BuilderState). inner_fault s.setting (present s.entries) c.args.entry ≡ None) (sym c.self.view_is)
+    let good = good_line c.self.inside.tables c.self.inside.entries.items c.args.entry
+    (subst (λ (s : BuilderView). inner_fault s.setting (last_module s.entries) c.args.entry ≡ None) (sym c.self.view_is)
     (sym c.inner_code.ensures ∙ c.in_default.is)) in
     rw (c.in_ok-push_entry.ensures.ok, c.learn_line.ensures, c.make_room_for_wires.ensures.keys)
     (with_inner _ _ _ _ _ _ _ _ _ _ c.self.invariant c.args.entry c.requires good c.count_in_last.new.modules.items

@@ -1,20 +1,20 @@
 use Rattle.std.proofs.Common.{◌≡◌, ◌∙◌, subst, ap, sym, Some}
-use Rattle.certificate_lines.specs.Entries.{ModuleLines, counts_of, last_of, present}
+use Rattle.certificate_lines.specs.Entries.{ModuleLines, counts_of, last_of, last_module}
 use Rattle.certificate_lines.specs.Rules.{inner_fault, words_fault}
-use Rattle.certificate_lines.specs.BuilderView.{BuilderState}
+use Rattle.certificate_lines.specs.BuilderView.{BuilderView}
 use Rattle.certificate_lines.proofs.Keeping.{no_module, small, too_late, in_place}
 use Rattle.certificate_lines.proofs.builder.Builder.inner_code.Goals as goal
 
 pub returns-in_default : goal.returns-in_default
 returns-in_default c =
-    subst (λ (s : BuilderState). Some 6 ≡ inner_fault s.setting (present s.entries) c.args.entry.now) c.self.view_is
-    (ap (λ o. inner_fault c.self.inside.site o c.args.entry.now)
+    subst (λ (s : BuilderView). Some 6 ≡ inner_fault s.setting (last_module s.entries) c.args.entry.now) c.self.view_is
+    (ap (λ o. inner_fault c.self.inside.tables o c.args.entry.now)
     (sym (no_module _ _ _ _ _ _ _ _ _ c.self.invariant.kept
     (ap last_of (sym c.deref.ensures.value) ∙ sym c.last_counts.ensures ∙ c.in_default.is))))
 
 pub returns-then-not-does_follow : goal.returns-then-not-does_follow
 returns-then-not-does_follow c =
-    subst (λ (s : BuilderState). Some 6 ≡ inner_fault s.setting (present s.entries) c.args.entry.now) c.self.view_is
+    subst (λ (s : BuilderView). Some 6 ≡ inner_fault s.setting (last_module s.entries) c.args.entry.now) c.self.view_is
     (too_late _ _ _ _ _ _ _ _ _ c.self.invariant.kept c.in-Some.counts c.args.entry.now c.does_follow.result
     (ap last_of (sym c.deref.ensures.value) ∙ sym c.last_counts.ensures ∙ c.in-Some.is) c.does_follow.ensures
     c.if-not-does_follow.true)
@@ -25,10 +25,10 @@ words_code-requires c = small _ _ _ _ _ _ _ _ _ c.self.invariant.kept c.in-Some.
 
 pub returns : goal.returns
 returns c =
-    subst (λ (s : BuilderState). c.words_code.result ≡ inner_fault s.setting (present s.entries) c.args.entry.now)
+    subst (λ (s : BuilderView). c.words_code.result ≡ inner_fault s.setting (last_module s.entries) c.args.entry.now)
     c.self.view_is
     (in_place _ _ _ _ _ _ _ _ _ c.self.invariant.kept c.in-Some.counts c.args.entry.now c.does_follow.result
     c.words_code.result (ap last_of (sym c.deref.ensures.value) ∙ sym c.last_counts.ensures ∙ c.in-Some.is)
     c.does_follow.ensures c.if-not-does_follow.false
-    (subst (λ (s : BuilderState). (m : ModuleLines) → present s.entries ≡ Some m → c.in-Some.counts ≡ counts_of m →
+    (subst (λ (s : BuilderView). (m : ModuleLines) → last_module s.entries ≡ Some m → c.in-Some.counts ≡ counts_of m →
     c.words_code.result ≡ words_fault s.setting m c.args.entry.now) (sym c.self.view_is) c.words_code.ensures))

@@ -1,13 +1,13 @@
 use Rattle.std.proofs.Common.{◌≡◌, ◌∙◌, subst, ap, not}
 use Rattle.std.specs.List.{list_any}
-use Rattle.certificate_lines.specs.Entries.{present}
+use Rattle.certificate_lines.specs.Entries.{last_module}
 use Rattle.certificate_lines.specs.Rules.{is_incomplete, is_local}
-use Rattle.certificate_lines.specs.BuilderView.{BuilderState}
+use Rattle.certificate_lines.specs.BuilderView.{BuilderView}
 use Rattle.certificate_lines.proofs.Keeping.{lacks}
 use Rattle.certificate_lines.proofs.builder.Builder.lacks_port.Goals as goal
 
 pub returns : goal.returns
 returns c =
-    subst (λ (s : BuilderState). c.lacks_some.result ≡ is_incomplete s.setting (present s.entries)) c.self.view_is
-    (c.lacks_some.ensures ∙ ap (list_any (λ n. not (is_local c.self.inside.site.circuit c.self.inside.known.keys n)))
+    subst (λ (s : BuilderView). c.lacks_some.result ≡ is_incomplete s.setting (last_module s.entries)) c.self.view_is
+    (c.lacks_some.ensures ∙ ap (list_any (λ n. not (is_local c.self.inside.tables.circuit c.self.inside.known.keys n)))
     c.deref.ensures.value ∙ lacks _ _ _ _ _ _ _ _ _ c.self.invariant.kept)

@@ -6,7 +6,7 @@ use Rattle.std.proofs.Math.Seq.{take-suc}
 use Rattle.std.proofs.lemmas.List.{length-map}
 use Rattle.std.proofs.lemmas.List.Folds.{list_any-append, list_any_at}
 use Rattle.std.proofs.lemmas.Option.{slice_get-get_or}
-use Rattle.certificate_lines.specs.BuilderView.{BuilderState, lacks_edge}
+use Rattle.certificate_lines.specs.BuilderView.{BuilderView, lacks_edge}
 use Rattle.certificate_lines.specs.Entries.{ModuleLines, counts_of, edge_in, modules_of}
 use Rattle.certificate_lines.proofs.builder.Builder.lacks_some_in.Goals as goal
 
@@ -17,7 +17,7 @@ returns-then-lacks_wire_in c =
     let none : ModuleLines = record { area = c.args.area; lines = [] } in
     let counted : length c.self.inside.modules.items ≡ length ms =
     ap length c.self.invariant.kept.built.counted ∙ length-map (modules_of c.self.inside.entries.items) counts_of
-    ∙ ap (λ (s : BuilderState). length (modules_of s.entries)) c.self.view_is in
+    ∙ ap (λ (s : BuilderView). length (modules_of s.entries)) c.self.view_is in
     let below = c.modules-test.true in let count = c.len-number-end.ensures in
     let lt : k < length ms = omega (arith, below, count, counted) in
     sym (list_any_at (lacks_edge c.args.self.now.setting.circuit (flat_map edge_in c.args.lines.now)) ms k none lt
@@ -31,7 +31,7 @@ modules-preserved c =
     let test = lacks_edge c.args.self.now.setting.circuit (flat_map edge_in c.args.lines.now) in
     let counted : length c.self.inside.modules.items ≡ length ms =
     ap length c.self.invariant.kept.built.counted ∙ length-map (modules_of c.self.inside.entries.items) counts_of
-    ∙ ap (λ (s : BuilderState). length (modules_of s.entries)) c.self.view_is in
+    ∙ ap (λ (s : BuilderView). length (modules_of s.entries)) c.self.view_is in
     let below = c.modules-test.true in let count = c.len-number-end.ensures in
     let lt : k < length ms = omega (arith, below, count, counted) in
     let one : k + 1 ≡ suc k = omega arith in

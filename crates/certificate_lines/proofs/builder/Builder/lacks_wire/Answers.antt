@@ -3,12 +3,12 @@ use Rattle.std.proofs.Common.{sym, ap, subst, arith}
 use Rattle.std.specs.Prelude.{nat_lt}
 use Rattle.std.specs.List.{flat_map, list_any}
 use Rattle.std.proofs.lemmas.Bool.Decides.{nat_tests}
-use Rattle.pattern.specs.declared.parts.Extent.{Extent}
-use Rattle.certificate_lines.specs.BuilderView.{BuilderState, lacks_edge}
+use Rattle.pattern.specs.declared.layout_line.LayoutHeader.{LayoutHeader}
+use Rattle.certificate_lines.specs.BuilderView.{BuilderView, lacks_edge}
 use Rattle.certificate_lines.specs.Entries.{ModuleLines, edge_in, edges, modules_of}
 use Rattle.certificate_lines.specs.ModuleParts.{AreInBox, inner}
-use Rattle.certificate_lines.specs.declared.entry.Entry.{Entry}
-use Rattle.certificate_lines.specs.declared.entry.Entry.TheVariants.{Module}
+use Rattle.certificate_lines.specs.declared.certificate_line.CertificateLine.{CertificateLine}
+use Rattle.certificate_lines.specs.declared.certificate_line.CertificateLine.TheVariants.{Module}
 use Rattle.certificate_lines.proofs.AnyLines.{any_end, any_module, any_other}
 use Rattle.certificate_lines.proofs.LinesLeft.{rest_of_lines}
 use Rattle.certificate_lines.proofs.LackedWires.{lacked, lines_inside, none_lacked}
@@ -17,7 +17,7 @@ use Rattle.certificate_lines.proofs.builder.Builder.lacks_wire.Goals.{in-Module+
 use Rattle.certificate_lines.proofs.builder.Builder.lacks_wire.Goals as goal
 
 -- some module lacks a wire of this module
-abbrev lacks : BuilderState → ModuleLines → Bool
+abbrev lacks : BuilderView → ModuleLines → Bool
 lacks b n = list_any (lacks_edge b.setting.circuit (edges n)) (modules_of b.entries)
 
 long : (steps : ℕ) → 1 < steps → nat_lt 1 steps ≡ true
@@ -34,8 +34,8 @@ pub returns-then-size-le1 : goal.returns-then-size-le1
 returns-then-size-le1 c =
     let v = c.args.self.now in
     let steps : c.size-size.result.steps ≡ v.setting.size.steps =
-    ap (λ (s : Extent). s.steps) c.size-size.ensures.size
-    ∙ ap (λ (s : BuilderState). s.setting.size.steps) c.self.view_is in
+    ap (λ (s : LayoutHeader). s.steps) c.size-size.ensures.size
+    ∙ ap (λ (s : BuilderView). s.setting.size.steps) c.self.view_is in
     none_lacked v.setting (modules_of v.entries)
     (short v.setting.size.steps (subst (λ n. n ≤ 1) steps c.if-size-le1.true))
 
@@ -51,14 +51,14 @@ lacks_some_in-requires c =
     ∙ ap (λ l. inner (drop (c.lines.place + 1) l)) c.deref.ensures.value in
     record {
       inside = subst (λ ls. AreInBox c.in-Module.area (flat_map edge_in ls)) (sym inner_is)
-          (lines_inside c.self.inside.site es c.lines.place c.in-Module.area c.self.invariant.kept.built.sound
+          (lines_inside c.self.inside.tables es c.lines.place c.in-Module.area c.self.invariant.kept.built.sound
           (subst (λ l. c.lines.place < length l) here c.lines-test.true) line_is);
     }
 
 pub returns-then-lacks_some_in : goal.returns-then-lacks_some_in
 returns-then-lacks_some_in c =
     let v = c.args.self.now in let es = v.entries in
-    let same : c.self.inside.entries.items ≡ es = ap (λ (s : BuilderState). s.entries) c.self.view_is in
+    let same : c.self.inside.entries.items ≡ es = ap (λ (s : BuilderView). s.entries) c.self.view_is in
     let here : c.deref-entry-items.result.now ≡ es = c.deref-entry-items.ensures.value ∙ same in
     let line_is : Module c.in-Module.area ≡ get_or es c.lines.place (Module c.in-Module.area) =
     subst (λ e. e ≡ get_or es c.lines.place e) c.in-Module.is
@@ -67,8 +67,8 @@ returns-then-lacks_some_in c =
     c.inner_lines.ensures ∙ ap inner (rest_of_lines c.deref.result.now (c.lines.place + 1))
     ∙ ap (λ l. inner (drop (c.lines.place + 1) l)) (c.deref.ensures.value ∙ same) in
     let steps : c.size-size.result.steps ≡ v.setting.size.steps =
-    ap (λ (s : Extent). s.steps) c.size-size.ensures.size
-    ∙ ap (λ (s : BuilderState). s.setting.size.steps) c.self.view_is in
+    ap (λ (s : LayoutHeader). s.steps) c.size-size.ensures.size
+    ∙ ap (λ (s : BuilderView). s.setting.size.steps) c.self.view_is in
     let more = c.if-size-le1.false in
     let many : nat_lt 1 v.setting.size.steps ≡ true =
     long v.setting.size.steps (subst (λ n. 1 < n) steps (omega (arith, more))) in
@@ -82,7 +82,7 @@ returns-then-lacks_some_in c =
 pub lines-preserved : goal.lines-preserved
 lines-preserved c =
     let v = c.args.self.now in let es = v.entries in
-    let same : c.self.inside.entries.items ≡ es = ap (λ (s : BuilderState). s.entries) c.self.view_is in
+    let same : c.self.inside.entries.items ≡ es = ap (λ (s : BuilderView). s.entries) c.self.view_is in
     let here : c.deref-entry-items.result.now ≡ es = c.deref-entry-items.ensures.value ∙ same in
     let lt = subst (λ l. c.lines.place < length l) here c.lines-test.true in
     c.lines.invariant ∙ (elim c.match-entry.branch [
@@ -107,10 +107,10 @@ pub returns : goal.returns
 returns c =
     let v = c.args.self.now in let es = v.entries in
     let here : c.deref-entry-items.result.now ≡ es =
-    c.deref-entry-items.ensures.value ∙ ap (λ (s : BuilderState). s.entries) c.self.view_is in
+    c.deref-entry-items.ensures.value ∙ ap (λ (s : BuilderView). s.entries) c.self.view_is in
     let steps : c.size-size.result.steps ≡ v.setting.size.steps =
-    ap (λ (s : Extent). s.steps) c.size-size.ensures.size
-    ∙ ap (λ (s : BuilderState). s.setting.size.steps) c.self.view_is in
+    ap (λ (s : LayoutHeader). s.steps) c.size-size.ensures.size
+    ∙ ap (λ (s : BuilderView). s.setting.size.steps) c.self.view_is in
     let more = c.if-size-le1.false in
     let many : nat_lt 1 v.setting.size.steps ≡ true =
     long v.setting.size.steps (subst (λ n. 1 < n) steps (omega (arith, more))) in

@@ -4,7 +4,7 @@ use Rattle.std.specs.List.{filter, flat_map, list_any}
 use Rattle.std.proofs.lemmas.Option.{slice_get-map}
 use Rattle.module_box.specs.Boxes.{in_halo, is_near}
 use Rattle.module_box.specs.declared.boxes.Box2.{Box2}
-use Rattle.certificate_lines.specs.BuilderView.{BuilderState}
+use Rattle.certificate_lines.specs.BuilderView.{BuilderView}
 use Rattle.certificate_lines.specs.Entries.{edge_in, known, modules_of}
 use Rattle.certificate_lines.specs.Versions.{is_strange}
 use Rattle.certificate_lines.proofs.FarLines.{far_lines}
@@ -16,7 +16,7 @@ pub returns-then-not-is_near : goal.returns-then-not-is_near
 returns-then-not-is_near c m at =
     let g = c.args.self.now.setting in
     let es = flat_map edge_in c.args.lines.now in
-    let at' = subst (λ (s : BuilderState). slice_get (modules_of s.entries) c.args.number ≡ Some m)
+    let at' = subst (λ (s : BuilderView). slice_get (modules_of s.entries) c.args.number ≡ Some m)
     (sym c.self.view_is) at in
     let own : c.index.result.now.area ≡ m.area =
     area_counted (modules_of c.self.inside.entries.items) c.self.inside.modules.items c.args.number m c.index.result.now
@@ -30,7 +30,7 @@ pub returns : goal.returns
 returns c m at =
     let g = c.args.self.now.setting in
     let es = flat_map edge_in c.args.lines.now in
-    let at' = subst (λ (s : BuilderState). slice_get (modules_of s.entries) c.args.number ≡ Some m)
+    let at' = subst (λ (s : BuilderView). slice_get (modules_of s.entries) c.args.number ≡ Some m)
     (sym c.self.view_is) at in
     let own : c.index.result.now.area ≡ m.area =
     area_counted (modules_of c.self.inside.entries.items) c.self.inside.modules.items c.args.number m c.index.result.now
@@ -39,7 +39,7 @@ returns c m at =
     some_is c.wires_of.result.now.keys (known g.circuit m)
     (sym c.wires_of.ensures ∙ slice_get-map (known g.circuit) (modules_of c.args.self.now.entries) c.args.number
     ∙ ap (option_map (known g.circuit)) at) in
-    let same : c.self.inside.site.circuit ≡ g.circuit = ap (λ (s : BuilderState). s.setting.circuit) c.self.view_is in
+    let same : c.self.inside.tables.circuit ≡ g.circuit = ap (λ (s : BuilderView). s.setting.circuit) c.self.view_is in
     c.has_unknown.ensures
     ∙ ap (λ k. list_any (λ e. is_strange k c.wires_of.result.now.keys e.signal)
     (filter (λ e. in_halo c.index.result.now.area e.cell.x e.cell.y) es)) same

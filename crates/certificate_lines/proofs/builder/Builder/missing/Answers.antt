@@ -2,11 +2,11 @@ use Rattle.std.proofs.Common.{◌≡◌, ◌∙◌, None, Some, not, subst, sym,
 use Rattle.std.specs.List.{list_all}
 use Rattle.bbm_rule.specs.Board.{live}
 use Rattle.pattern.proofs.InsideLemmas.{size_sides}
-use Rattle.pattern.specs.declared.parts.Extent.{Extent}
+use Rattle.pattern.specs.declared.layout_line.LayoutHeader.{LayoutHeader}
 use Rattle.module_box.specs.Tiling.{rectangle_of}
-use Rattle.certificate_lines.specs.Entries.{modules_of, areas, present}
+use Rattle.certificate_lines.specs.Entries.{modules_of, areas, last_module}
 use Rattle.certificate_lines.specs.Rules.{box_cells, end_fault, is_incomplete}
-use Rattle.certificate_lines.specs.BuilderView.{BuilderState}
+use Rattle.certificate_lines.specs.BuilderView.{BuilderView}
 use Rattle.certificate_lines.proofs.BuiltLemmas.{live_gap, missing_none, missing_some}
 use Rattle.certificate_lines.proofs.builder.Builder.missing.Goals as goal
 
@@ -18,24 +18,24 @@ pub returns-then-lacks-full : goal.returns-then-lacks-full
 returns-then-lacks-full c =
     let es = c.self.inside.entries.items in
     let full = ap not (c.is_full-full.ensures
-    ∙ ap (λ (s : Extent). list_all (λ d. live c.self.inside.covered d.x d.y) (box_cells (rectangle_of s.w s.h)))
+    ∙ ap (λ (s : LayoutHeader). list_all (λ d. live c.self.inside.covered d.x d.y) (box_cells (rectangle_of s.w s.h)))
     c.size-size.ensures.size) in
-    let lacks = subst (λ (s : BuilderState). c.lacks_port-lacks.result ≡ is_incomplete s.setting (present s.entries))
+    let lacks = subst (λ (s : BuilderView). c.lacks_port-lacks.result ≡ is_incomplete s.setting (last_module s.entries))
     (sym c.self.view_is) c.lacks_port-lacks.ensures in
-    subst (λ (s : BuilderState). Some 11 ≡ end_fault s.setting s.entries) c.self.view_is
-    (missing_some c.self.inside.site es c.lacks_port-lacks.result c.is_full-full.result lacks
-    (full ∙ live_gap c.self.inside.site.size
+    subst (λ (s : BuilderView). Some 11 ≡ end_fault s.setting s.entries) c.self.view_is
+    (missing_some c.self.inside.tables es c.lacks_port-lacks.result c.is_full-full.result lacks
+    (full ∙ live_gap c.self.inside.tables.size
     (areas (modules_of es)) c.self.inside.covered c.self.invariant.kept.built.cells) c.if-lacks-full.true)
 
 pub returns-else-lacks-full : goal.returns-else-lacks-full
 returns-else-lacks-full c =
     let es = c.self.inside.entries.items in
     let full = ap not (c.is_full-full.ensures
-    ∙ ap (λ (s : Extent). list_all (λ d. live c.self.inside.covered d.x d.y) (box_cells (rectangle_of s.w s.h)))
+    ∙ ap (λ (s : LayoutHeader). list_all (λ d. live c.self.inside.covered d.x d.y) (box_cells (rectangle_of s.w s.h)))
     c.size-size.ensures.size) in
-    let lacks = subst (λ (s : BuilderState). c.lacks_port-lacks.result ≡ is_incomplete s.setting (present s.entries))
+    let lacks = subst (λ (s : BuilderView). c.lacks_port-lacks.result ≡ is_incomplete s.setting (last_module s.entries))
     (sym c.self.view_is) c.lacks_port-lacks.ensures in
-    subst (λ (s : BuilderState). None ≡ end_fault s.setting s.entries) c.self.view_is
-    (missing_none c.self.inside.site es c.lacks_port-lacks.result c.is_full-full.result lacks
-    (full ∙ live_gap c.self.inside.site.size
+    subst (λ (s : BuilderView). None ≡ end_fault s.setting s.entries) c.self.view_is
+    (missing_none c.self.inside.tables es c.lacks_port-lacks.result c.is_full-full.result lacks
+    (full ∙ live_gap c.self.inside.tables.size
     (areas (modules_of es)) c.self.inside.covered c.self.invariant.kept.built.cells) c.if-lacks-full.false)

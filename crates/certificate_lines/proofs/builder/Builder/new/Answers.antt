@@ -1,5 +1,5 @@
 use Rattle.std.proofs.Common.{arith, ap, ◌∙◌}
-use Rattle.pattern.specs.declared.parts.Extent.{Extent}
+use Rattle.pattern.specs.declared.layout_line.LayoutHeader.{LayoutHeader}
 use Rattle.pattern.proofs.InsideLemmas.{size_sides}
 use Rattle.certificate_lines.proofs.Keeping.{with_none}
 use Rattle.certificate_lines.proofs.builder.Builder.new.Goals as goal
@@ -20,7 +20,8 @@ invariant_of-result c =
       c.new-4.ensures.items,
       c.new-5.ensures.items,
       c.new-6.ensures.empty,
-    ) (with_none c.args.site c.in_ok-covered.covered
-    (c.in_ok-covered.ensures.size.0 ∙ ap (λ (s : Extent). s.w) c.size-size.ensures.size)
-    (c.in_ok-covered.ensures.size.1 ∙ ap (λ (s : Extent). s.h) c.size-size.ensures.size) c.in_ok-covered.ensures.dead _
+    ) (with_none c.args.tables c.in_ok-covered.covered
+    (c.in_ok-covered.ensures.size.0 ∙ ap (λ (s : LayoutHeader). s.w) c.size-size.ensures.size)
+    (c.in_ok-covered.ensures.size.1 ∙ ap (λ (s : LayoutHeader). s.h) c.size-size.ensures.size)
+    c.in_ok-covered.ensures.dead _
     _)

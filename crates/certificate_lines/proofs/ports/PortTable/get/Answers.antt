@@ -1,6 +1,6 @@
 use Rattle.std.proofs.Common.{◌≡◌, ◌∙◌, List, Some, None, get_or, ℕ, zero, suc, true, ◌<◌, ◌-◌, refl, ap, sym, subst}
 use Rattle.std.proofs.Common.{arith}
-use Rattle.pattern.specs.declared.parts.Port.{Port}
+use Rattle.pattern.specs.declared.layout_line.Port.{Port}
 use Rattle.module_box.specs.Places.{place_in}
 use Rattle.certificate_lines.specs.PortTables.{port_at, IsPortTable, number_at}
 use Rattle.certificate_lines.specs.declared.ports.PortTable.TheInside.{Inside}

@@ -1,5 +1,5 @@
 use Rattle.std.proofs.Common.{rules, ◌≡◌, sym, ap, ◌∙◌, List, [], ◌∷◌, ◌++◌, length, map, subst, None}
-use Rattle.circuit.specs.declared.entry.Entry.{Entry}
+use Rattle.circuit.specs.declared.circuit_line.CircuitLine.{CircuitLine}
 use Rattle.circuit.specs.Rules.{consume, define, passes_limit}
 use Rattle.circuit.specs.Bridge.{InputsFirst}
 use Rattle.circuit.specs.Wiring.{gate_of, gate_at}
@@ -21,11 +21,11 @@ invariant_of-self-then-is_gate c =
       entries = entries;
       wires = wires;
       used = used;
-      limit = ap (λ (l : List Entry). passes_limit l c.args.entry) c.self.view_is ∙ sym c.if-passes.ensures;
+      limit = ap (λ (l : List CircuitLine). passes_limit l c.args.entry) c.self.view_is ∙ sym c.if-passes.ensures;
       ins_pass = ins_pass;
       outs_pass = outs_pass;
       fits = c.requires.fits;
-      inputs_first = subst (λ (l : List Entry). InputsFirst l c.args.entry)
+      inputs_first = subst (λ (l : List CircuitLine). InputsFirst l c.args.entry)
           (sym c.self.view_is) c.requires.inputs_first;
       numbered = search rules;
       wired = wired;
@@ -47,11 +47,11 @@ invariant_of-self-else-is_gate c =
       entries = entries;
       wires = wires;
       used = used;
-      limit = ap (λ (l : List Entry). passes_limit l c.args.entry) c.self.view_is ∙ sym c.if-passes.ensures;
+      limit = ap (λ (l : List CircuitLine). passes_limit l c.args.entry) c.self.view_is ∙ sym c.if-passes.ensures;
       ins_pass = ins_pass;
       outs_pass = outs_pass;
       fits = c.requires.fits;
-      inputs_first = subst (λ (l : List Entry). InputsFirst l c.args.entry)
+      inputs_first = subst (λ (l : List CircuitLine). InputsFirst l c.args.entry)
           (sym c.self.view_is) c.requires.inputs_first;
       numbered = search rules;
       wired = wired;

@@ -1,6 +1,6 @@
 use Rattle.std.proofs.Common.{◌≡◌, sym, ap, ◌∙◌, List, [], length, arith, map, subst}
 use Rattle.circuit.specs.Entries.{defined}
-use Rattle.circuit.specs.declared.entry.Entry.{Entry}
+use Rattle.circuit.specs.declared.circuit_line.CircuitLine.{CircuitLine}
 use Rattle.circuit.specs.Wiring.{gate_of}
 use Rattle.circuit.specs.Rules.{consumed, gate_count}
 use Rattle.circuit.specs.Bridge.{AreGood, AreGoodAfter, gates_of}
@@ -16,7 +16,7 @@ invariant_of-result c =
       consumed = c.with_hasher-2.ensures.empty ∙ ap consumed entries;
       gates = ap gate_count entries;
       few_gates = omega arith;
-      few_wires = omega (arith, ap (λ (l : List Entry). length (defined l)) entries);
+      few_wires = omega (arith, ap (λ (l : List CircuitLine). length (defined l)) entries);
       good = subst AreGood entries tt;
-      wired = ap (map gate_of) wired ∙ ap (λ (l : List Entry). gates_of (defined l) l) entries;
+      wired = ap (map gate_of) wired ∙ ap (λ (l : List CircuitLine). gates_of (defined l) l) entries;
     }

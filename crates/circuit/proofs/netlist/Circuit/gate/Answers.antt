@@ -1,5 +1,5 @@
 use Rattle.std.proofs.Common.{◌≡◌, ◌<◌, ◌∙◌, List, Option, length, map, get_or, slice_get, sym, ap, ap₂, refl, arith}
-use Rattle.circuit.specs.declared.entry.Entry.{Entry}
+use Rattle.circuit.specs.declared.circuit_line.CircuitLine.{CircuitLine}
 use Rattle.std.specs.Prelude.{option_map}
 use Rattle.std.proofs.lemmas.List.{length-map}
 use Rattle.std.proofs.lemmas.Option.{slice_get-map, slice_get_read}
@@ -13,7 +13,7 @@ use Rattle.circuit.proofs.netlist.Circuit.gate.Goals as goal
 pub bounds-as_slice-number : goal.bounds-as_slice-number
 bounds-as_slice-number c =
     let same : map gate_of c.self.inside.wired.items ≡ gates_of (defined c.args.self.now) c.args.self.now =
-    c.self.invariant.wired ∙ ap (λ (l : List Entry). gates_of (defined l) l) c.self.view_is in
+    c.self.invariant.wired ∙ ap (λ (l : List CircuitLine). gates_of (defined l) l) c.self.view_is in
     omega (
       arith,
       c.number.ensures,
@@ -27,7 +27,7 @@ pub returns : goal.returns
 returns c =
     let kept : List GateWires = c.self.inside.wired.items in
     let same : map gate_of kept ≡ gates_of (defined c.args.self.now) c.args.self.now =
-    c.self.invariant.wired ∙ ap (λ (l : List Entry). gates_of (defined l) l) c.self.view_is in
+    c.self.invariant.wired ∙ ap (λ (l : List CircuitLine). gates_of (defined l) l) c.self.view_is in
     let within : c.args.gate < length kept = omega (arith, c.requires, length-map kept gate_of, ap length same) in
     let is : c.index-as_slice-number.result ≡ get_or kept c.args.gate c.index-as_slice-number.result =
     c.index-as_slice-number.is ∙ ap₂

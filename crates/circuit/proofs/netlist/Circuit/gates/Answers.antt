@@ -1,5 +1,5 @@
 use Rattle.std.proofs.Common.{List, length, subst, ap, arith}
-use Rattle.circuit.specs.declared.entry.Entry.{Entry}
+use Rattle.circuit.specs.declared.circuit_line.CircuitLine.{CircuitLine}
 use Rattle.std.proofs.lemmas.List.{length-map}
 use Rattle.circuit.specs.Entries.{defined}
 use Rattle.circuit.specs.Bridge.{gates_of, input_count}
@@ -9,9 +9,9 @@ use Rattle.circuit.proofs.Bridging.{gates_are_ordered}
 use Rattle.circuit.proofs.Naming.{gates_counted}
 use Rattle.circuit.proofs.netlist.Circuit.gates.Goals as goal
 
-pub returns-clause-few : goal.returns-clause-few
-returns-clause-few c =
-    let entries : List Entry = c.self.inside.entries.items in
+pub returns-clause-at_most_1024 : goal.returns-clause-at_most_1024
+returns-clause-at_most_1024 c =
+    let entries : List CircuitLine = c.self.inside.entries.items in
     omega (
       arith,
       c.len.ensures,
@@ -23,5 +23,5 @@ returns-clause-few c =
 
 pub returns-clause-ordered : goal.returns-clause-ordered
 returns-clause-ordered c =
-    subst (λ (l : List Entry). AreOrdered (input_count l) (gates_of (defined l) l)) c.self.view_is
+    subst (λ (l : List CircuitLine). AreOrdered (input_count l) (gates_of (defined l) l)) c.self.view_is
     (gates_are_ordered c.self.inside.entries.items c.self.invariant.good)

@@ -6,8 +6,8 @@ use Rattle.circuit.specs.Bridge.{AreGood}
 use Rattle.circuit.proofs.Naming.{names_are_own}
 use Rattle.circuit.proofs.netlist.Circuit.name.Goals as goal
 
-pub returns-clause-own : goal.returns-clause-own
-returns-clause-own c =
+pub returns-clause-own_wire : goal.returns-clause-own_wire
+returns-clause-own_wire c =
     let names : List (List ℕ) = defined c.args.self.now in
     let same : c.as_slice.result.now ≡ names =
     c.as_slice.ensures.keys ∙ c.self.invariant.wires ∙ ap defined c.self.view_is in

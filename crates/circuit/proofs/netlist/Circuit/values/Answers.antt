@@ -1,6 +1,6 @@
 use Rattle.std.proofs.Common.{◌≡◌, subst, sym, ap, ◌∙◌, List, length, refl, Some, map}
 use Rattle.circuit.specs.Entries.{defined}
-use Rattle.circuit.specs.declared.entry.Entry.{Entry}
+use Rattle.circuit.specs.declared.circuit_line.CircuitLine.{CircuitLine}
 use Rattle.circuit.specs.Meaning.{Gate}
 use Rattle.circuit.specs.Bridge.{AreValues, IsValuesFault, netlist_of, read, input_count, gates_of}
 use Rattle.circuit.specs.Evaluate.{evaluate, IsEvaluateFault}
@@ -12,24 +12,24 @@ use Rattle.circuit.proofs.netlist.Circuit.values.Goals as goal
 
 pub returns-in-Ok-clause-values : goal.returns-in-Ok-clause-values
 returns-in-Ok-clause-values c =
-    let entries : List Entry = c.self.inside.entries.items in
+    let entries : List CircuitLine = c.self.inside.entries.items in
     let same : length c.args.inputs.now ≡ input_count entries = c.requires ∙ ap input_count (sym c.self.view_is) in
     let found : evaluate c.args.inputs.now (gates_of (defined entries) entries) ≡ Some c.in-Ok.values.items =
     ap (evaluate c.args.inputs.now) (sym (ap (map gate_of) c.as_slice.ensures.value ∙ c.self.invariant.wired))
     ∙ c.in-Ok.ensures.values in
-    subst (λ (entries : List Entry). AreValues (netlist_of entries) (read c.args.inputs.now) c.in-Ok.values.items)
+    subst (λ (entries : List CircuitLine). AreValues (netlist_of entries) (read c.args.inputs.now) c.in-Ok.values.items)
     c.self.view_is
     (evaluated (netlist_of entries) (read c.args.inputs.now) c.args.inputs.now c.in-Ok.values.items
     (gates_are_ordered entries c.self.invariant.good) same (λ i h. refl) found)
 
 pub returns-in-Err-clause-fault : goal.returns-in-Err-clause-fault
 returns-in-Err-clause-fault c =
-    let entries : List Entry = c.self.inside.entries.items in
+    let entries : List CircuitLine = c.self.inside.entries.items in
     let same : length c.args.inputs.now ≡ input_count entries = c.requires ∙ ap input_count (sym c.self.view_is) in
     let at : IsEvaluateFault c.args.inputs.now (gates_of (defined entries) entries) c.in-Err.fault =
     subst (λ (gs : List Gate). IsEvaluateFault c.args.inputs.now gs c.in-Err.fault)
     (ap (map gate_of) c.as_slice.ensures.value ∙ c.self.invariant.wired) c.in-Err.ensures.fault in
-    subst (λ (entries : List Entry). IsValuesFault (netlist_of entries) (read c.args.inputs.now) c.in-Err.fault)
+    subst (λ (entries : List CircuitLine). IsValuesFault (netlist_of entries) (read c.args.inputs.now) c.in-Err.fault)
     c.self.view_is
     (fault_stops (netlist_of entries) (read c.args.inputs.now) c.args.inputs.now c.in-Err.fault
     (gates_are_ordered entries c.self.invariant.good) same (λ i h. refl) at)

@@ -20,7 +20,7 @@ loop-number-smaller g c = let before = c.loop-number.self.seat in let after = c.
 
 pub loop-number-preserved : goal.loop-number-preserved
 loop-number-preserved g c = let i = c.loop-number.invariant in let a = c.in-Number.ensures.answer in
-    let groups = c.args.site.now.groups.now in
+    let groups = c.args.shared_work.now.groups.now in
     let drawn = due_more groups c.in-Number.number (drawn_by c.loop-number.self.seat) (drawn_by c.claim.new.seat) a.2 in
     let more : c.run_group.new.share.filed ≡ c.loop-number.self.share.filed + times c.in-Number.number groups =
     search rules in
@@ -33,11 +33,11 @@ loop-number-preserved g c = let i = c.loop-number.invariant in let a = c.in-Numb
 
 pub returns : goal.returns
 returns g c = let i = c.loop-number.invariant in let a = c.in_default.ensures in let t = a.claim in
-    let groups = c.args.site.now.groups.now in
-    let numbers = c.args.site.now.desk.now.numbers in
-    let jobs = map arc_value c.args.site.now.jobs.now in
+    let groups = c.args.shared_work.now.groups.now in
+    let numbers = c.args.shared_work.now.desk.now.numbers in
+    let jobs = map arc_value c.args.shared_work.now.jobs.now in
     let long = length-map jobs shape_of in
-    let many = length-map c.args.site.now.jobs.now arc_value in
+    let many = length-map c.args.shared_work.now.jobs.now arc_value in
     let all : length (shapes_of jobs) ≡ numbers = omega (arith, long, many, c.requires.all) in
     let below : All (λ k. k < numbers) groups =
     subst (λ n. All (λ k. k < n) groups) all (groups_below (shapes_of jobs) groups c.requires.groups) in

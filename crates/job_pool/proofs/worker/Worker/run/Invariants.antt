@@ -7,11 +7,11 @@ use Rattle.job_pool.proofs.worker.Worker.run.Given as goal
 -- so far as many findings were filed as were due
 abbrev pub invariant-loop-number : goal.invariant-loop-number
 invariant-loop-number g l = record {
-  seat : IsSeatOf l.site.desk.now l.self.seat;
+  seat : IsSeatOf l.shared_work.desk.now l.self.seat;
   starved : l.self.starved ≡ false;
   risen : HasRisen l.initial.self.share l.self.share;
-  filed : l.self.share.filed ≡ l.initial.self.share.filed + due l.site.groups.now (drawn_by l.self.seat);
+  filed : l.self.share.filed ≡ l.initial.self.share.filed + due l.shared_work.groups.now (drawn_by l.self.seat);
 }
 
 abbrev pub decreases-loop-number : goal.decreases-loop-number
-decreases-loop-number g l = l.site.desk.now.numbers - end_of l.self.seat.drawn.items
+decreases-loop-number g l = l.shared_work.desk.now.numbers - end_of l.self.seat.drawn.items

@@ -21,15 +21,16 @@ enough n w few e = by_size (1 * 2 ^ n % 18446744073709551616) (omega (arith, shi
     by_size m some small h = (omega (arith, h), omega (arith, h), omega (arith, h))
 
 pub value_rows-requires : goal.value_rows-requires
-value_rows-requires c = (enough c.cuts-count.result c.div_ceil-words.result c.cuts-count.ensures.few
+value_rows-requires c = (enough c.cuts-count.result c.div_ceil-words.result c.cuts-count.ensures.at_most_12
     c.div_ceil-words.ensures).1
 
 pub returns : goal.returns
 returns c =
     let e = c.wiring-wiring.ensures.wiring in
-    let w = enough c.cuts-count.result c.div_ceil-words.result c.cuts-count.ensures.few c.div_ceil-words.ensures in
+    let w = enough c.cuts-count.result c.div_ceil-words.result c.cuts-count.ensures.at_most_12
+    c.div_ceil-words.ensures in
     let count : 1 * 2 ^ c.cuts-count.result % 18446744073709551616 ≡ assignments c.args.job.now =
-    shifted c.cuts-count.result c.cuts-count.ensures.few ∙ ap (λ n. 2 ^ n) c.cuts-count.ensures.count
+    shifted c.cuts-count.result c.cuts-count.ensures.at_most_12 ∙ ap (λ n. 2 ^ n) c.cuts-count.ensures.count
     ∙ ap (λ (l : Netlist). 2 ^ l.given) e in
     let known = c.without_undefined-rows.ensures in
     let rows : AreValueRows c.args.job.now.locals.netlist c.div_ceil-words.result c.without_undefined-rows.result =
@@ -44,5 +45,5 @@ returns c =
       room = w.2;
       long = (let h = rows.long in omega (arith, h));
       rows = rows;
-      held = c.in_ok-held.ensures;
+      all_times_marks = c.in_ok-all_times_marks.ensures;
     }

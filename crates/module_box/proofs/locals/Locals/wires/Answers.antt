@@ -7,5 +7,5 @@ returns-clause-count c = search rules
 pub returns-clause-sized : goal.returns-clause-sized
 returns-clause-sized c = search rules
 
-pub returns-clause-few : goal.returns-clause-few
-returns-clause-few c = search rules
+pub returns-clause-at_most_268 : goal.returns-clause-at_most_268
+returns-clause-at_most_268 c = search rules

@@ -2,7 +2,7 @@ use Rattle.std.proofs.Common.{◌≡◌, IsTrue, arith, rules, SFits, w32, to_z-
 use Rattle.std.specs.Int.RustNames.{unsigned_abs}
 use Rattle.module_box.specs.Boxes.{in_box}
 use Rattle.module_box.specs.Tiling.{rectangle}
-use Rattle.module_box.specs.OwnersFields.{owning}
+use Rattle.module_box.specs.OwnersView.{owning}
 use Rattle.module_box.proofs.BoxCells.{owner_in_table, owner_read}
 use Rattle.module_box.proofs.owners.Owners.owner.Goals as goal
 

@@ -1,8 +1,8 @@
 use Rattle.std.proofs.Common.{rules}
 use Rattle.module_box.proofs.schedules.Schedule.events.Goals as goal
 
-pub returns-clause-same : goal.returns-clause-same
-returns-clause-same c = search
+pub returns-clause-same_list : goal.returns-clause-same_list
+returns-clause-same_list c = search
 
 pub returns-clause-rising : goal.returns-clause-rising
 returns-clause-rising c = search rules

@@ -2,7 +2,7 @@ use Rattle.std.proofs.Common.{◌≡◌, ℕ, ◌+◌, ◌*◌, subst, sym, ap, 
 use Rattle.std.proofs.lemmas.List.{length-map}
 use Rattle.circuit.specs.Meaning.{Gate, Netlist, wires, wires_after}
 use Rattle.module_box.specs.LocalGates.{kept_gate}
-use Rattle.module_box.specs.WiringFields.{wiring_net}
+use Rattle.module_box.specs.WiringView.{wiring_net}
 use Rattle.module_box.specs.LocalValues.{IsColumnAt, SaysColumn}
 use Rattle.module_box.proofs.LocalRows.{column_at}
 use Rattle.module_box.proofs.wiring.Wiring.column.Goals as goal

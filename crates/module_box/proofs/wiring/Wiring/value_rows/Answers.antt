@@ -27,12 +27,12 @@ chunks-preserved c =
     (written c.args.words c.chunks.chunk
     (wires l) c.in_ok-column.column.words.items values values' c.deref.result.now c.deref_mut.result.now
     c.deref.ensures.value c.deref_mut.ensures.value c.in_ok-column.ensures.count c.put_column.ensures.put
-    c.put_column.ensures.kept)
+    c.put_column.ensures.others_unchanged)
     (written c.args.words c.chunks.chunk
     (length l.gates) c.in_ok-column.column.undefined.items gaps gaps' c.deref-in-chunks.result.now
     c.deref_mut-in-chunks.result.now c.deref-in-chunks.ensures.value c.deref_mut-in-chunks.ensures.value
     c.in_ok-column.ensures.gates
-    c.put_column-in-chunks.ensures.put c.put_column-in-chunks.ensures.kept)
+    c.put_column-in-chunks.ensures.put c.put_column-in-chunks.ensures.others_unchanged)
     (c.put_column.ensures.long ∙ ap length c.deref_mut.ensures.value)
     (c.put_column-in-chunks.ensures.long ∙ ap length c.deref_mut-in-chunks.ensures.value)
     (search rules) c.in_ok-column.ensures.values c.chunks.invariant in

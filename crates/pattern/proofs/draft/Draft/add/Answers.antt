@@ -1,6 +1,6 @@
 -- The grids hold the cells that are taken, those of the line among them.
 use Rattle.std.proofs.Common.{◌≡◌, ◌||◌, ◌&&◌, true, sym, ap, subst, ◌∙◌}
-use Rattle.pattern.specs.declared.parts.Extent.{Extent}
+use Rattle.pattern.specs.declared.layout_line.LayoutHeader.{LayoutHeader}
 use Rattle.bbm_rule.specs.Board.{live}
 use Rattle.pattern.specs.Layout.{Pattern, in_cells, parts_of}
 use Rattle.pattern.specs.Lines.{is_inside}
@@ -25,8 +25,8 @@ take_where-requires-2 c =
 
 pub invariant_of-self-2 : goal.invariant_of-self-2
 invariant_of-self-2 c =
-    let size = ap (λ (s : Extent). s.w) (sym c.in-Ok.ensures.size) in
-    let high = ap (λ (s : Extent). s.h) (sym c.in-Ok.ensures.size) in
+    let size = ap (λ (s : LayoutHeader). s.w) (sym c.in-Ok.ensures.size) in
+    let high = ap (λ (s : LayoutHeader). s.h) (sym c.in-Ok.ensures.size) in
     record {
       begun_width = c.take_where.ensures.size.0 ∙ c.self.invariant.begun_width ∙ size;
       begun_height = c.take_where.ensures.size.1 ∙ c.self.invariant.begun_height ∙ high;

@@ -2,7 +2,7 @@
 use Rattle.std.proofs.Common.{◌≡◌, true, if◌then◌else◌, None, Some, sym, ap, subst, ◌∙◌}
 use Rattle.std.specs.List.{list_any}
 use Rattle.bbm_rule.specs.Board.{live}
-use Rattle.pattern.specs.declared.parts.Extent.{Extent}
+use Rattle.pattern.specs.declared.layout_line.LayoutHeader.{LayoutHeader}
 use Rattle.pattern.specs.Layout.{Pattern, parts_of}
 use Rattle.pattern.specs.Lines.{is_inside, is_taken, cells_of, cell_fault}
 use Rattle.pattern.proofs.TakenLemmas.{cells_on_board, taken_by, cells_free, cells_taken}
@@ -10,7 +10,8 @@ use Rattle.pattern.proofs.draft.Draft.free_cells.Goals as goal
 use Rattle.bbm_rule.specs.declared.block.Cell.{Cell}
 
 all_inside : (c : goal.After-deref) → is_inside c.self.inside.layout.size c.args.part.now ≡ true
-all_inside c = ap (λ (s : Extent). is_inside s c.args.part.now) (sym c.size-size.ensures.size) ∙ sym c.is_inside.ensures
+all_inside c = ap (λ (s : LayoutHeader). is_inside s c.args.part.now) (sym c.size-size.ensures.size)
+    ∙ sym c.is_inside.ensures
     ∙ c.if-not-is_inside.false
 
 these_cells : (c : goal.After-deref) → c.deref.result.now ≡ cells_of c.args.part.now
@@ -36,7 +37,7 @@ taken_here c =
     (c.deref.ensures.value ∙ c.in-Ok.ensures)
 
 inside_here : (c : goal.After-drop-cells) → is_inside c.self.inside.layout.size c.args.part.now ≡ true
-inside_here c = ap (λ (s : Extent). is_inside s c.args.part.now) (sym c.size-size.ensures.size)
+inside_here c = ap (λ (s : LayoutHeader). is_inside s c.args.part.now) (sym c.size-size.ensures.size)
     ∙ sym c.is_inside.ensures ∙ c.if-not-is_inside.false
 
 taken_else : (c : goal.Else-meets_in) → c.meets_in.result ≡ is_taken (parts_of c.self.inside.layout) c.args.part.now
@@ -49,7 +50,7 @@ taken_else c =
     (c.deref.ensures.value ∙ c.in-Ok.ensures)
 
 inside_else : (c : goal.Else-meets_in) → is_inside c.self.inside.layout.size c.args.part.now ≡ true
-inside_else c = ap (λ (s : Extent). is_inside s c.args.part.now) (sym c.size-size.ensures.size)
+inside_else c = ap (λ (s : LayoutHeader). is_inside s c.args.part.now) (sym c.size-size.ensures.size)
     ∙ sym c.is_inside.ensures ∙ c.if-not-is_inside.false
 
 pub returns-then-meets_in-clause-fault : goal.returns-then-meets_in-clause-fault

@@ -1,7 +1,7 @@
 use Rattle.std.proofs.Common.{◌∙◌, sym, ap, arith}
 use Rattle.std.specs.Prelude.{List}
-use Rattle.pattern.specs.declared.parts.Part.{Part}
-use Rattle.pattern.specs.declared.parts.Extent.{Extent}
+use Rattle.pattern.specs.declared.layout_line.LayoutLine.{LayoutLine}
+use Rattle.pattern.specs.declared.layout_line.LayoutHeader.{LayoutHeader}
 use Rattle.pattern.specs.Lines.{begun, ended}
 use Rattle.pattern.proofs.TakenLemmas.{is_sized}
 use Rattle.pattern.proofs.draft.Draft.new.Goals as goal
@@ -17,12 +17,12 @@ new-requires-clause-height c = let sized = is_sized c.args.size c.requires in
 pub invariant_of-result : goal.invariant_of-result
 unfolding begun ended
 invariant_of-result c = record {
-  begun_width = c.in_ok-begun.ensures.size.0 ∙ ap (λ (s : Extent). s.w) (sym c.new-3.ensures.size);
-  begun_height = c.in_ok-begun.ensures.size.1 ∙ ap (λ (s : Extent). s.h) (sym c.new-3.ensures.size);
-  ended_width = c.in_ok-ended.ensures.size.0 ∙ ap (λ (s : Extent). s.w) (sym c.new-3.ensures.size);
-  ended_height = c.in_ok-ended.ensures.size.1 ∙ ap (λ (s : Extent). s.h) (sym c.new-3.ensures.size);
+  begun_width = c.in_ok-begun.ensures.size.0 ∙ ap (λ (s : LayoutHeader). s.w) (sym c.new-3.ensures.size);
+  begun_height = c.in_ok-begun.ensures.size.1 ∙ ap (λ (s : LayoutHeader). s.h) (sym c.new-3.ensures.size);
+  ended_width = c.in_ok-ended.ensures.size.0 ∙ ap (λ (s : LayoutHeader). s.w) (sym c.new-3.ensures.size);
+  ended_height = c.in_ok-ended.ensures.size.1 ∙ ap (λ (s : LayoutHeader). s.h) (sym c.new-3.ensures.size);
   begun = λ x y. c.in_ok-begun.ensures.dead x y
-      ∙ ap (λ (parts : List Part). begun parts x y) (sym c.new-3.ensures.parts);
+      ∙ ap (λ (parts : List LayoutLine). begun parts x y) (sym c.new-3.ensures.parts);
   ended = λ x y. c.in_ok-ended.ensures.dead x y
-      ∙ ap (λ (parts : List Part). ended parts x y) (sym c.new-3.ensures.parts);
+      ∙ ap (λ (parts : List LayoutLine). ended parts x y) (sym c.new-3.ensures.parts);
 }

@@ -1,5 +1,5 @@
 use Rattle.std.proofs.Common.{List, sym, subst}
-use Rattle.pattern.specs.declared.parts.Port.{Port}
+use Rattle.pattern.specs.declared.layout_line.Port.{Port}
 use Rattle.pattern.specs.Layout.{HaveOwnCells}
 use Rattle.pattern.specs.LayoutView.{pattern_of}
 use Rattle.pattern.proofs.OwnCells.{ins_apart}

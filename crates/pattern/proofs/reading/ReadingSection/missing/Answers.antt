@@ -2,7 +2,7 @@
 use Rattle.std.proofs.Common.{◌≡◌, ◌&&◌, true, false, None, Some, List, ℕ, sym, ap, ap₂, subst, ◌∙◌}
 use Rattle.std.specs.List.{list_all}
 use Rattle.pattern.specs.Layout.{parts_of}
-use Rattle.pattern.specs.ReadingState.{ReadingState}
+use Rattle.pattern.specs.Readings.{ReadingView}
 use Rattle.section_text.specs.Words.{has}
 use Rattle.section_text.specs.Ports.{named_ports}
 use Rattle.pattern.specs.Lines.{is_any, missing_fault}
@@ -10,7 +10,7 @@ use Rattle.pattern.proofs.ReadingLemmas.{none_missing, missing_by}
 use Rattle.pattern.proofs.reading.ReadingSection.missing.Goals as goal
 
 pub returns-in-Any : goal.returns-in-Any
-returns-in-Any c = subst (λ (r : ReadingState). None ≡ missing_fault r.ports (parts_of r.layout)) c.self.view_is
+returns-in-Any c = subst (λ (r : ReadingView). None ≡ missing_fault r.ports (parts_of r.layout)) c.self.view_is
     (none_missing c.self.inside.ports.now (parts_of c.self.inside.draft) c.in-Any.is)
 
 pub returns-then-has_ins-has_outs : goal.returns-then-has_ins-has_outs
@@ -21,7 +21,7 @@ returns-then-has_ins-has_outs c =
     ∙ ap (list_all (λ (n : List ℕ). has c.self.inside.seen_outs.keys n)) c.deref-in-Only.ensures.value in
     let only = ap (λ p. is_any (named_ports p)) c.in-Only.is in
     let both = sym (ap₂ (λ a b. a && b) ins outs) ∙ c.if-has_ins-has_outs.true in
-    subst (λ (r : ReadingState). None ≡ missing_fault r.ports (parts_of r.layout)) c.self.view_is
+    subst (λ (r : ReadingView). None ≡ missing_fault r.ports (parts_of r.layout)) c.self.view_is
     (missing_by c.self.inside.ports.now
     (parts_of c.self.inside.draft) c.in-Only.ins c.in-Only.outs c.self.inside.seen_ins.keys c.self.inside.seen_outs.keys
     c.in-Only.is (c.self.invariant.seen_ins only) (c.self.invariant.seen_outs only) true both)
@@ -34,7 +34,7 @@ returns-else-has_ins-has_outs c =
     ∙ ap (list_all (λ (n : List ℕ). has c.self.inside.seen_outs.keys n)) c.deref-in-Only.ensures.value in
     let only = ap (λ p. is_any (named_ports p)) c.in-Only.is in
     let both = sym (ap₂ (λ a b. a && b) ins outs) ∙ c.if-has_ins-has_outs.false in
-    subst (λ (r : ReadingState). Some 11 ≡ missing_fault r.ports (parts_of r.layout)) c.self.view_is
+    subst (λ (r : ReadingView). Some 11 ≡ missing_fault r.ports (parts_of r.layout)) c.self.view_is
     (missing_by c.self.inside.ports.now
     (parts_of c.self.inside.draft) c.in-Only.ins c.in-Only.outs c.self.inside.seen_ins.keys c.self.inside.seen_outs.keys
     c.in-Only.is (c.self.invariant.seen_ins only) (c.self.invariant.seen_outs only) false both)

@@ -1,0 +1,301 @@
+//! The cells of a module: what they carry at time 0, and what they must be at the last time.
+ghost use Rattle.std.specs.Prelude.{◌≡◌, ◌+◌, ◌*◌, ◌<◌, ◌≤◌, ◌++◌, ℤ, false, true, None, Some, All, length, map, unwrap_or, slice_get, IsTrue, IfOk, OnOk};
+ghost use Rattle.std.specs.List.{flat_map};
+ghost use Rattle.bbm_rule.specs.Board.{live};
+ghost use Rattle.circuit.specs.Bridge.{circuit_of};
+ghost use Rattle.circuit.specs.Meaning.{wire_of, wires};
+ghost use Rattle.pattern.specs.Layout.{rectangle_cells, in_cells, in_layout, in_rectangles};
+ghost use Rattle.pattern.specs.Lines.{size_fault};
+ghost use Rattle.module_box.specs.Boxes.{in_box};
+ghost use Rattle.module_box.specs.Locals.{circuit_wire, is_among};
+ghost use Rattle.certificate.specs.Jobs.{end_demand, start_signal};
+ghost use Rattle.module_box.specs.Places.{place_in};
+ghost use Rattle.certificate.specs.LayoutTablesView.{HasMirrorOrNothing, KnowsPort, KnowsPorts, cells_of_others};
+ghost use Rattle.certificate_lines.specs.Rules.{is_local};
+ghost use Rattle.module_job.specs.Signals.{IsBelow, IsDemandBelow, renumber_demand, renumber_signal};
+
+use bbm_rule::{Cell, Grid};
+use certificate_lines::{PortTable, cells_of_box, is_live, port_tables};
+use circuit::{Circuit, WireNo};
+use module_box::{Box2, Locals, Signal};
+use module_job::Demand;
+use pattern::{Layout, LayoutHeader, Port, Rectangle, make_live, push_rectangle};
+use section_text::Name;
+use std::alloc::{AllocError, Global};
+use std::marker::Model;
+
+/// A circuit and a layout, with tables by which each cell of the layout is looked up in constant time. Contracts see
+/// the circuit and the layout, as a `LayoutTablesView`.
+// The mirrors' cells, the balls and the waste cells are the live cells of grids. `others` has the cells of all that is
+// no mirror: most cells are dead in it, and need no other look.
+#[derive(Drop)]
+pub(crate) struct LayoutTables<'a> {
+    circuit: &'a Circuit,
+    layout: &'a Layout,
+    mirrors: Grid,
+    balls: Grid,
+    wastes: Grid,
+    others: Grid,
+    ins: PortTable<'a>,
+    outs: PortTable<'a>,
+}
+
+impl<'a> Model for LayoutTables<'a> {
+    ghost use Rattle.certificate.specs.LayoutTablesView.{LayoutTablesView};
+
+    ghost Value = { LayoutTablesView };
+
+    ghost use Rattle.certificate.specs.LayoutTablesView.{layout_tables_view, AreLayoutTables};
+
+    ghost view = { layout_tables_view };
+
+    ghost invariant = { AreLayoutTables };
+}
+
+// A grid of the layout's size on which these cells are live.
+fn grid_of(alloc: Global, size: LayoutHeader, cells: &[Cell]) -> Result<Grid, AllocError>
+    requires limits { size_fault size ≡ None }
+    requires inside { All (λ c. in_layout size c.x c.y ≡ true) cells.now }
+    ensures { IfOk result (λ grid. (x y : ℤ) → live grid x y ≡ in_cells cells.now x y) }
+{
+    let mut grid = Grid::new(alloc, size.w, size.h)?;
+    make_live(&mut grid, cells);
+    Ok(grid)
+}
+
+// The cells of rectangles, one after the other.
+fn cells_of_mirrors(alloc: Global, mirrors: &[Rectangle]) -> Result<Vec<Cell>, AllocError>
+    requires { All (λ r. (r.x + r.w ≤ 512) × (r.y + r.h ≤ 512)) mirrors.now }
+    ensures { IfOk result (λ cells. cells.items ≡ flat_map rectangle_cells mirrors.now) }
+{
+    let mut cells = Vec::new(alloc);
+    for mirror in mirrors {
+        push_rectangle(&mut cells, *mirror)?;
+    }
+    Ok(cells)
+}
+
+// Adds the cells of ports.
+fn push_port_cells(cells: &mut Vec<Cell>, ports: &[Port]) -> Result<(), AllocError>
+    ensures { OnOk result (cells.new.items ≡ cells.old.items ++ map (λ p. p.cell) ports.now) }
+{
+    for port in ports {
+        cells.push(port.cell)?;
+    }
+    Ok(())
+}
+
+// The cells of balls, the waste cells and the cells of ports.
+fn other_cells(alloc: Global, layout: &Layout) -> Result<Vec<Cell>, AllocError>
+    ensures { IfOk result (λ cells. cells.items ≡ cells_of_others layout.now) }
+{
+    let mut cells = Vec::new(alloc);
+    cells.extend_from_slice(layout.balls())?;
+    cells.extend_from_slice(layout.wastes())?;
+    push_port_cells(&mut cells, layout.ins())?;
+    push_port_cells(&mut cells, layout.outs())?;
+    Ok(cells)
+}
+
+// A grid on which the cells of balls, waste cells and ports are live.
+fn others_of(alloc: Global, layout: &Layout) -> Result<Grid, AllocError>
+    ensures { IfOk result (λ grid. (x y : ℤ) →
+        live grid x y ≡ false → HasMirrorOrNothing layout.now x y) }
+{
+    let size = layout.size();
+    let cells = other_cells(alloc, layout)?;
+    let grid = grid_of(alloc, size, &cells)?;
+    Ok(grid)
+}
+
+// The grids of a layout's mirrors, of its balls and of its wastes.
+fn grids_of(alloc: Global, layout: &Layout) -> Result<(Grid, Grid, Grid), AllocError>
+    ensures mirrors { IfOk result (λ grids. (x y : ℤ) →
+        live grids.0 x y ≡ in_rectangles layout.now.mirrors x y) }
+    ensures balls { IfOk result (λ grids. (x y : ℤ) →
+        live grids.1 x y ≡ in_cells layout.now.balls x y) }
+    ensures wastes { IfOk result (λ grids. (x y : ℤ) →
+        live grids.2 x y ≡ in_cells layout.now.wastes x y) }
+{
+    let size = layout.size();
+    let cells = cells_of_mirrors(alloc, layout.mirrors())?;
+    let mirrors = grid_of(alloc, size, &cells)?;
+    let balls = grid_of(alloc, size, layout.balls())?;
+    let wastes = grid_of(alloc, size, layout.wastes())?;
+    Ok((mirrors, balls, wastes))
+}
+
+/// Returns the number among a module's wires of a wire of the circuit that the module knows.
+pub(crate) fn local_wire(locals: &Locals, wire: WireNo) -> u16
+    requires { IsTrue (is_among locals.now.circuit_wires wire) }
+    ensures same_wire { circuit_wire locals.now result ≡ wire }
+    ensures below { result < wires locals.now.netlist }
+{
+    let count = locals.wires();
+    match locals.local(wire) {
+        Some(number) => {
+            prove!((number as usize) < count);
+            number
+        }
+        None => unreachable!(),
+    }
+}
+
+/// Returns the number among a module's wires of the wire of this name, which the module knows.
+pub(crate) fn local_name(circuit: &Circuit, locals: &Locals, name: &Name) -> u16
+    requires { IsTrue (is_local (circuit_of circuit.now) locals.now.circuit_wires name.now) }
+    ensures same_wire { wire_of (circuit_of circuit.now) name.now
+        ≡ Some (circuit_wire locals.now result) }
+    ensures below { result < wires locals.now.netlist }
+{
+    match circuit.wire(name) {
+        Some(wire) => local_wire(locals, wire),
+        None => unreachable!(),
+    }
+}
+
+impl<'a> LayoutTables<'a> {
+    /// Creates the tables, once for a circuit and a layout.
+    pub(crate) fn new(
+        alloc: Global,
+        circuit: &'a Circuit,
+        layout: &'a Layout,
+    ) -> Result<LayoutTables<'a>, AllocError>
+        ensures { IfOk result (λ tables. tables
+            ≡ record { circuit = circuit.now; layout = layout.now }) }
+    {
+        let (ins, outs) = port_tables(alloc, layout)?;
+        let (mirrors, balls, wastes) = grids_of(alloc, layout)?;
+        let others = others_of(alloc, layout)?;
+        Ok(LayoutTables {
+            circuit,
+            layout,
+            mirrors,
+            balls,
+            wastes,
+            others,
+            ins,
+            outs,
+        })
+    }
+
+    /// Returns the circuit.
+    pub(crate) fn circuit(&self) -> &Circuit
+        ensures { result.now ≡ self.now.circuit }
+    {
+        self.circuit
+    }
+
+    /// Returns the layout.
+    pub(crate) fn layout(&self) -> &Layout
+        ensures { result.now ≡ self.now.layout }
+    {
+        self.layout
+    }
+
+    // What a cell carries at time 0, where the module knows the wire of an input there.
+    fn start_at(&self, locals: &Locals, cell: Cell) -> Signal
+        requires { KnowsPort (circuit_of self.now.circuit) locals.now.circuit_wires
+            self.now.layout.ins cell.x cell.y }
+        ensures same_signal { renumber_signal (circuit_wire locals.now) result
+            ≡ start_signal (circuit_of self.now.circuit) self.now.layout cell.x cell.y }
+        ensures below { IsBelow (wires locals.now.netlist) result }
+    {
+        let mirror = is_live(&self.mirrors, cell);
+        let ball = is_live(&self.balls, cell);
+        if mirror | ball {
+            return Signal::One;
+        }
+        match self.ins.get(cell) {
+            Some(name) => Signal::Wire(local_name(self.circuit, locals, &name)),
+            None => Signal::Zero,
+        }
+    }
+
+    // What a cell is to be at the last time, where the module knows the wire of an output there.
+    fn demand_at(&self, locals: &Locals, cell: Cell) -> Demand
+        requires { KnowsPort (circuit_of self.now.circuit) locals.now.circuit_wires
+            self.now.layout.outs cell.x cell.y }
+        ensures same_demand { renumber_demand (circuit_wire locals.now) result
+            ≡ end_demand (circuit_of self.now.circuit) self.now.layout cell.x cell.y }
+        ensures below { IsDemandBelow (wires locals.now.netlist) result }
+    {
+        if is_live(&self.mirrors, cell) {
+            return Demand::Live;
+        }
+        match self.outs.get(cell) {
+            Some(name) => Demand::Wire(local_name(self.circuit, locals, &name)),
+            None => {
+                if is_live(&self.wastes, cell) {
+                    Demand::Any
+                } else {
+                    Demand::Dead
+                }
+            }
+        }
+    }
+
+    // What a cell carries at time 0, and what it is to be at the last time, where the module knows the wires of ports
+    // there.
+    fn cell_at(&self, locals: &Locals, cell: Cell) -> (Signal, Demand)
+        requires ins { KnowsPort (circuit_of self.now.circuit) locals.now.circuit_wires
+            self.now.layout.ins cell.x cell.y }
+        requires outs { KnowsPort (circuit_of self.now.circuit) locals.now.circuit_wires
+            self.now.layout.outs cell.x cell.y }
+        ensures start { renumber_signal (circuit_wire locals.now) result.0
+            ≡ start_signal (circuit_of self.now.circuit) self.now.layout cell.x cell.y }
+        ensures start_below { IsBelow (wires locals.now.netlist) result.0 }
+        ensures demand { renumber_demand (circuit_wire locals.now) result.1
+            ≡ end_demand (circuit_of self.now.circuit) self.now.layout cell.x cell.y }
+        ensures demand_below { IsDemandBelow (wires locals.now.netlist) result.1 }
+    {
+        if is_live(&self.mirrors, cell) {
+            return (Signal::One, Demand::Live);
+        }
+        if !is_live(&self.others, cell) {
+            return (Signal::Zero, Demand::Dead);
+        }
+        (self.start_at(locals, cell), self.demand_at(locals, cell))
+    }
+
+    /// Returns what the cells of a box carry at time 0, and what they must be at the last time, row by row.
+    ///
+    /// The module knows the wires of the ports there.
+    pub(crate) fn cell_lists(
+        &self,
+        alloc: Global,
+        area: Box2,
+        locals: &Locals,
+    ) -> Result<(Vec<Signal>, Vec<Demand>), AllocError>
+        requires columns { area.x + area.w ≤ 512 }
+        requires rows { area.y + area.h ≤ 512 }
+        requires ins { KnowsPorts (circuit_of self.now.circuit) locals.now.circuit_wires
+            self.now.layout.ins area }
+        requires outs { KnowsPorts (circuit_of self.now.circuit) locals.now.circuit_wires
+            self.now.layout.outs area }
+        ensures starts_count { IfOk result (λ lists. length lists.0.items ≡ area.w * area.h) }
+        ensures starts_own { IfOk result (λ lists. All (IsBelow (wires locals.now.netlist))
+            lists.0.items) }
+        ensures starts { IfOk result (λ lists. (x y : ℤ) → IsTrue (in_box area x y) →
+            renumber_signal (circuit_wire locals.now)
+            (unwrap_or (slice_get lists.0.items (place_in area x y)) Signal.Zero)
+            ≡ start_signal (circuit_of self.now.circuit) self.now.layout x y) }
+        ensures demands_count { IfOk result (λ lists. length lists.1.items ≡ area.w * area.h) }
+        ensures demands_own { IfOk result (λ lists. All (IsDemandBelow (wires locals.now.netlist))
+            lists.1.items) }
+        ensures demands { IfOk result (λ lists. (x y : ℤ) → IsTrue (in_box area x y) →
+            renumber_demand (circuit_wire locals.now)
+            (unwrap_or (slice_get lists.1.items (place_in area x y)) Demand.Dead)
+            ≡ end_demand (circuit_of self.now.circuit) self.now.layout x y) }
+    {
+        let cells = cells_of_box(alloc, area)?;
+        let mut starts = Vec::with_capacity(alloc, cells.len())?;
+        let mut demands = Vec::with_capacity(alloc, cells.len())?;
+        for cell in cells.as_slice() {
+            let (start, demand) = self.cell_at(locals, *cell);
+            starts.push(start)?;
+            demands.push(demand)?;
+        }
+        Ok((starts, demands))
+    }
+}

@@ -1,0 +1,72 @@
+//! The lines of a certificate, and how many of each kind a module has.
+ghost use Rattle.std.specs.Prelude.{◌≡◌};
+
+use bbm_rule::Cell;
+use module_box::Box2;
+use section_text::Name;
+
+/// An edge or halo line: its time, its cell and its signal.
+///
+/// The time is `None` if the line has a `*`, for every odd time below the steps. The signal is a wire's name, or `None`
+/// for the constant `1`.
+#[derive(Clone, Copy)]
+pub struct Border {
+    pub time: Option<u32>,
+    pub cell: Cell,
+    pub signal: Option<Name>,
+}
+
+/// A stop: a time, and a cell that is live then exactly if the wire of this name is true.
+#[derive(Clone, Copy)]
+pub struct StopLine {
+    pub time: u32,
+    pub wire: Name,
+    pub cell: Cell,
+}
+
+/// A line of a certificate between the header and the end.
+#[derive(Clone, Copy)]
+pub enum CertificateLine {
+    /// The beginning of a module: its box.
+    Module(Box2),
+    /// A wire that the module cuts: its run tries both values.
+    Cut(Name),
+    /// The number of a gate that the module uses: its run computes the outputs.
+    Use(u32),
+    /// The number of an inverse gate that the module answers for: a keep fault is an assignment without a row.
+    Keep(u32),
+    /// The signal of a cell of the box's ring.
+    Edge(Border),
+    /// The signal of a cell of the box's halo.
+    Halo(Border),
+    /// A time at which a cell of the box is live exactly if a wire is true.
+    Stop(StopLine),
+}
+
+/// A module's box, and how many lines of each kind the module has. Keep lines are not counted.
+#[derive(Clone, Copy, Debug, PartialEq, Eq)]
+pub struct Counts {
+    pub area: Box2,
+    pub cuts: usize,
+    pub gates: usize,
+    pub edges: usize,
+    pub halos: usize,
+    pub stops: usize,
+}
+
+impl Counts {
+    // A module without lines.
+    pub(crate) fn new(area: Box2) -> Counts
+        ensures { result
+            ≡ record { area = area; cuts = 0; gates = 0; edges = 0; halos = 0; stops = 0 } }
+    {
+        Counts {
+            area,
+            cuts: 0,
+            gates: 0,
+            edges: 0,
+            halos: 0,
+            stops: 0,
+        }
+    }
+}

@@ -1,5 +1,0 @@
-use Rattle.std.proofs.Common.{rules}
-use Rattle.circuit.proofs.entry.GateKind.outs.Goals as goal
-
-pub returns-in-Interact-clause-count : goal.returns-in-Interact-clause-count
-returns-in-Interact-clause-count c = search rules

@@ -1,0 +1,165 @@
+//! The lines of a circuit.
+ghost use Rattle.std.specs.Prelude.{◌≡◌, ◌≤◌, [], ◌∷◌};
+ghost use Rattle.circuit.specs.Entries.{rank_of, entry};
+ghost use Rattle.circuit.specs.Gates.{is_inverse, rule_of, uses, defines};
+ghost use Rattle.circuit.specs.declared.circuit_line.Kind.TheVariants.{Input, Gate, Output, Spill};
+ghost use Rattle.circuit.specs.declared.circuit_line.GateKind.TheVariants.{Source};
+
+use section_text::{Name, Names};
+
+/// The kind of a gate (Fredkin and Toffoli 1982), with the order of its wires.
+///
+/// A source has no input, and all others keep the number of ones. The last two are inverse gates: they have no row at
+/// some inputs.
+#[derive(Clone, Copy, Debug, PartialEq, Eq)]
+pub enum GateKind {
+    /// One wire, which has this value.
+    Source(bool),
+    /// `c x y -> d u v`: d is c; if c is true u is x and v is y, else u is y and v is x.
+    Fredkin,
+    /// `c x y -> d u v`: d is c; if c is true u is y and v is x, else u is x and v is y.
+    Cswap,
+    /// `p q -> a b c d`: a and d are p and q; b is q without p; c is p without q.
+    Interact,
+    /// `c x -> d y z`: d is c; y is x if c is true, z is x if it is false; the other one is false.
+    Switch,
+    /// `a -> b`: b is a. The number, 1..4096, is the delay in steps.
+    Delay(u32),
+    /// `c y z -> d x`: undoes `switch`. d is c, and x is y if c is true, z if it is false. There is no row if the other
+    /// one of y and z is true.
+    Unswitch,
+    /// `a b c d -> p q`: undoes `interact`. There is no row at inputs that `interact` never gives.
+    Uninteract,
+}
+
+/// The kind of a circuit's line.
+#[derive(Clone, Copy, Debug, PartialEq, Eq)]
+pub enum Kind {
+    Input,
+    Gate(GateKind),
+    Output,
+    Spill,
+}
+
+/// A line of a circuit: its kind, the wires that it consumes, and the wires that it defines.
+#[derive(Drop)]
+pub struct CircuitLine {
+    pub kind: Kind,
+    pub ins: Names,
+    pub outs: Names,
+}
+
+impl GateKind {
+    /// Returns how many wires a gate of this kind consumes.
+    pub fn ins(self) -> usize
+        ensures count { result ≡ uses (rule_of self) }
+        ensures at_most_4 { result ≤ 4 }
+    {
+        match self {
+            GateKind::Source(_) => 0,
+            GateKind::Fredkin => 3,
+            GateKind::Cswap => 3,
+            GateKind::Interact => 2,
+            GateKind::Switch => 2,
+            GateKind::Delay(_) => 1,
+            GateKind::Unswitch => 3,
+            GateKind::Uninteract => 4,
+        }
+    }
+
+    /// Returns whether a gate of this kind has no row at some inputs.
+    pub fn is_inverse(self) -> bool
+        ensures { result ≡ is_inverse (rule_of self) }
+    {
+        match self {
+            GateKind::Unswitch => true,
+            GateKind::Uninteract => true,
+            _ => false,
+        }
+    }
+
+    /// Returns how many wires a gate of this kind defines.
+    pub fn outs(self) -> usize
+        ensures count { result ≡ defines (rule_of self) }
+        ensures at_most_4 { result ≤ 4 }
+    {
+        match self {
+            GateKind::Source(_) => 1,
+            GateKind::Fredkin => 3,
+            GateKind::Cswap => 3,
+            GateKind::Interact => 4,
+            GateKind::Switch => 3,
+            GateKind::Delay(_) => 1,
+            GateKind::Unswitch => 2,
+            GateKind::Uninteract => 2,
+        }
+    }
+}
+
+impl Kind {
+    /// Returns the place of the kind in the order of a circuit's lines.
+    pub fn rank(self) -> u8
+        ensures rank { result ≡ rank_of self }
+    {
+        match self {
+            Kind::Input => 0,
+            Kind::Gate(_) => 1,
+            Kind::Output => 2,
+            Kind::Spill => 3,
+        }
+    }
+}
+
+fn one(name: Name) -> Names
+    ensures { result ≡ name ∷ [] }
+{
+    let mut names = Names::new();
+    names.push(name);
+    names
+}
+
+impl CircuitLine {
+    /// Creates the line of an input, which defines a wire.
+    pub fn input(name: Name) -> CircuitLine
+        ensures { result ≡ entry Input [] (name ∷ []) }
+    {
+        CircuitLine {
+            kind: Kind::Input,
+            ins: Names::new(),
+            outs: one(name),
+        }
+    }
+
+    /// Creates the line of a source, which defines a wire.
+    pub fn source(bit: bool, name: Name) -> CircuitLine
+        ensures { result ≡ entry (Gate (Source bit)) [] (name ∷ []) }
+    {
+        CircuitLine {
+            kind: Kind::Gate(GateKind::Source(bit)),
+            ins: Names::new(),
+            outs: one(name),
+        }
+    }
+
+    /// Creates the line of an output, which consumes a wire.
+    pub fn output(name: Name) -> CircuitLine
+        ensures { result ≡ entry Output (name ∷ []) [] }
+    {
+        CircuitLine {
+            kind: Kind::Output,
+            ins: one(name),
+            outs: Names::new(),
+        }
+    }
+
+    /// Creates the line of a spill, which consumes a wire.
+    pub fn spill(name: Name) -> CircuitLine
+        ensures { result ≡ entry Spill (name ∷ []) [] }
+    {
+        CircuitLine {
+            kind: Kind::Spill,
+            ins: one(name),
+            outs: Names::new(),
+        }
+    }
+}

@@ -1,0 +1,497 @@
+//! Planes whose steps pass over the blocks that are known to stay.
+//!
+//! A block stays if under no assignment exactly one of its diagonals has a live cell: an empty one, one in a mirror,
+//! one with two balls side by side. A block that was seen to stay does so until one of its cells changes, so a step
+//! looks only at the blocks near cells that changed. After a step in which many blocks change, some steps turn whole
+//! planes.
+
+ghost use Rattle.bbm_rule.specs.Plane.{turned};
+ghost use Rattle.bbm_rule.specs.Rows.{mate};
+ghost use Rattle.local_run.specs.Borders.{AllInner, AllInner-prop, ArePassed};
+ghost use Rattle.local_run.specs.Calm.{OddCalm, OddCalm-prop, EvenCalm, EvenCalm-prop};
+ghost use Rattle.local_run.specs.Live.{AllDead, AllDead-prop, HasMarks};
+ghost use Rattle.std.specs.Int.{div_ceil};
+ghost use Rattle.std.specs.Prelude.{ℕ, ◌≡◌, ◌≢◌, ◌+◌, ◌*◌, ◌/◌, ◌%◌, ◌<◌, ◌≤◌, ◌⊎◌, vec_len, IfOk, false};
+
+use crate::lines::{CELL_WORDS, LinePlaces, line_number, mark_lines};
+use crate::live::LiveMarks;
+use crate::marks::{is_marked, mark_around, mark_border, mark_corners, next_marked_in};
+use crate::planes::{Changes, Planes};
+use crate::values::Values;
+use bbm_rule::marks::{mark, mark_all, next_marked, unmark};
+use module_box::Signal;
+use module_job::Job;
+use std::alloc::{AllocError, Global};
+
+/// The planes of a run, with marks on the blocks that a turn may change.
+#[derive(Drop)]
+pub struct MarkedPlanes {
+    planes: Planes,
+    // a bit for each block of the odd partition, and for each block of the even partition
+    odd_marks: Vec<u64>,
+    even_marks: Vec<u64>,
+    // and for each cell: those without a mark are dead
+    live_marks: LiveMarks,
+    // whether each cell with a mark is known to be live, so that one that is alone in its block may move unread
+    is_exact: bool,
+    // and for the numbers of cells of ring and halo
+    border_marks: Vec<u64>,
+    // and for those of which an edge or halo line says something at the time that is looked at, and for these cells
+    line_marks: Vec<u64>,
+    // where the search for the next time's lines begins
+    line_places: LinePlaces,
+    // how many of the next steps turn whole planes
+    whole_plane_steps: u32,
+    ghost odd_room: { planes.stride * planes.rows ≤ 64 * vec_len odd_marks },
+    ghost even_room: { planes.stride * planes.rows ≤ 64 * vec_len even_marks },
+    ghost live_room: { HasMarks (planes.stride * planes.rows) live_marks },
+    ghost border_room: { planes.stride * planes.rows ≤ 64 * vec_len border_marks },
+    ghost line_long: { vec_len line_marks ≡ div_ceil (planes.stride * planes.rows) 64 + 72 },
+    ghost odd_calm: { OddCalm odd_marks.items planes } by { OddCalm-prop odd_marks.items planes },
+    ghost even_calm: { EvenCalm even_marks.items planes } by { EvenCalm-prop even_marks.items planes },
+    ghost all_dead: { AllDead live_marks planes } by { AllDead-prop live_marks planes },
+    ghost all_inner: { AllInner planes.stride planes.rows border_marks.items } by { AllInner-prop planes.stride planes.rows border_marks.items },
+}
+
+// How many steps turn whole planes after one in which many blocks changed.
+const WHOLE_PLANE_STEPS: u32 = 62;
+
+// What a block that changes costs in a step by marks, in turns of a word, and what it costs more for each word of a
+// cell.
+const MARKED_BLOCK_COST: usize = 40;
+
+const MARKED_WORD_COST: usize = 5;
+
+// What a step that turns whole planes costs more for each cell of a row and each row.
+const WHOLE_ROW_COST: usize = 48;
+
+// Whether it costs less to turn all blocks, with that many words a cell and cells a row, than to go by marks where so
+// many change. A block that changes has up to four others looked at, two for each of its diagonals that changes. Where
+// all are turned no cell of ring and halo is known to be dead, and at odd times each is looked up.
+fn are_many(changed: usize, cells: usize, words: usize, stride: usize) -> bool
+    requires { (changed ≤ 4096) × (cells ≤ 4096) × (words ≤ 64) × (0 < stride) × (stride ≤ 4096) }
+{
+    let around = stride + cells / stride;
+    changed * (MARKED_BLOCK_COST + MARKED_WORD_COST * words)
+        > cells * words + WHOLE_ROW_COST * around
+}
+
+impl MarkedPlanes {
+    ghost use Rattle.bbm_rule.specs.Marks.{IsUnmarked};
+    ghost use Rattle.local_run.specs.Live.{IsLoneAnti, IsLoneMain};
+    ghost use Rattle.local_run.specs.Turns.{TurnsPart};
+    ghost use Rattle.local_run.specs.Quiet.{AreLines};
+    ghost use Rattle.local_run.specs.Scans.{IsReady};
+    ghost use Rattle.local_run.specs.Lanes.{HasSize, SameInside, lane};
+
+    /// Creates a field of planes. Each block has a mark, since nothing is known of it.
+    pub fn new(alloc: Global, planes: Planes) -> Result<MarkedPlanes, AllocError>
+        ensures { IfOk result (λ f. f.planes ≡ planes) }
+    {
+        let long = planes.cells().div_ceil(64);
+        let mut odd_marks = vec![in alloc; 0u64; long]?;
+        let mut even_marks = vec![in alloc; 0u64; long]?;
+        let live_marks = LiveMarks::new(alloc, long)?;
+        let mut border_marks = vec![in alloc; 0u64; long]?;
+        let line_marks = vec![in alloc; 0u64; long + CELL_WORDS]?;
+        mark_all(&mut odd_marks);
+        mark_all(&mut even_marks);
+        mark_border(&mut border_marks, planes.stride(), planes.rows());
+        Ok(MarkedPlanes {
+            planes,
+            odd_marks,
+            even_marks,
+            live_marks,
+            is_exact: false,
+            border_marks,
+            line_marks,
+            line_places: LinePlaces::first(),
+            whole_plane_steps: 0,
+        })
+    }
+
+    /// Returns the planes.
+    pub fn planes(&self) -> &Planes
+        ensures { result.now ≡ self.now.planes }
+    {
+        &self.planes
+    }
+
+    /// Marks the cells of which an edge or halo line of the job says something at a time.
+    pub fn look_at(&mut self, values: &Values, job: &Job, time: u32)
+        requires ready { IsReady job.now values.now }
+        requires size { HasSize values.now.words (job.now.area.w / 2 + 1) (job.now.area.h / 2 + 1)
+            self.old.planes }
+        requires range { time < 65536 }
+        ensures planes { self.new.planes ≡ self.old.planes }
+        ensures lines { AreLines job.now time self.new.line_marks.items }
+    {
+        self.line_marks.copy_from_slice(values.all_times_marks());
+        mark_lines(&mut self.line_marks, &mut self.line_places, job, time);
+    }
+
+    /// Returns the next number from `from` on whose cells of ring and halo must be looked at, or how many numbers there
+    /// are.
+    ///
+    /// Such a cell may be live, or a line says something of it at the time that was looked at. The function passes a
+    /// number only if its cells are neither in the ring nor in the halo, or dead under each assignment and without a
+    /// line.
+    pub fn next_border(&self, from: usize) -> usize
+        requires { from ≤ self.now.planes.stride * self.now.planes.rows }
+        ensures range { (from ≤ result) × (result ≤ self.now.planes.stride * self.now.planes.rows) }
+        ensures passed { ArePassed from result self.now.line_marks.items self.now.planes }
+    {
+        next_marked_in(
+            &self.border_marks,
+            &self.live_marks,
+            &self.line_marks,
+            from,
+            self.planes.cells(),
+        )
+    }
+
+    /// Returns whether an edge or halo line may say something of a cell, counted from the halo, at the time that was
+    /// looked at.
+    #[inline(always)]
+    pub fn has_line(&self, x: usize, y: usize) -> bool
+        requires { (x / 2 < self.now.planes.stride) × (y / 2 < self.now.planes.rows) }
+        ensures { result ≡ false →
+            IsUnmarked self.now.line_marks.items
+            (self.now.planes.stride * (y / 2) + x / 2 + 1152 * (1 + 2 * (y % 2) + x % 2)) }
+    {
+        is_marked(
+            &self.line_marks,
+            line_number(self.planes.number(x, y), x, y),
+        )
+    }
+
+    /// Returns whether a cell, counted from the halo, may be live under some assignment.
+    #[inline(always)]
+    pub fn may_be_live(&self, x: usize, y: usize) -> bool
+        requires { (x / 2 < self.now.planes.stride) × (y / 2 < self.now.planes.rows) }
+        ensures { result ≡ false → (a : ℕ) → a < 64 * self.now.planes.words →
+            lane self.now.planes a x y ≡ false }
+    {
+        let u = self.planes.number(x, y);
+        if x % 2 == 0 {
+            if y % 2 == 0 {
+                is_marked(&self.live_marks.odd, u)
+            } else {
+                is_marked(&self.live_marks.down, u)
+            }
+        } else if y % 2 == 0 {
+            is_marked(&self.live_marks.right, u)
+        } else {
+            is_marked(&self.live_marks.even, u)
+        }
+    }
+
+    // Takes the marks off the cells of a block that are dead.
+    fn drop_dead(&mut self, odd: usize, right: usize, down: usize, even: usize)
+        requires main { (odd < self.old.planes.stride * self.old.planes.rows)
+            × (even < self.old.planes.stride * self.old.planes.rows) }
+        requires anti { (right < self.old.planes.stride * self.old.planes.rows)
+            × (down < self.old.planes.stride * self.old.planes.rows) }
+        ensures planes { self.new.planes ≡ self.old.planes }
+        ensures lines { self.new.line_marks ≡ self.old.line_marks }
+    {
+        self.planes
+            .drop_dead(&mut self.live_marks, odd, right, down, even);
+    }
+
+    // Turns block u of the odd partition, of which no cell is live but one of its main diagonal: they change places.
+    fn move_odd_main(&mut self, u: usize)
+        requires place { u < self.old.planes.stride * self.old.planes.rows }
+        requires lone { IsLoneMain self.old.live_marks u u u u }
+        ensures part { let at = self.old.planes.words * u in TurnsPart at at at at
+            self.old.planes.words self.old.planes.odd.items self.old.planes.right.items
+            self.old.planes.down.items self.old.planes.even.items self.new.planes.odd.items
+            self.new.planes.right.items self.new.planes.down.items self.new.planes.even.items }
+        ensures size { HasSize self.old.planes.words self.old.planes.stride self.old.planes.rows
+            self.new.planes }
+    {
+        let stride = self.planes.stride();
+        mark(&mut self.odd_marks, u);
+        mark_around(&mut self.even_marks, u, stride, Changes::MAIN);
+        self.live_marks.swap_main(u, u);
+        self.planes.swap_main(u, u);
+    }
+
+    // The same for one cell of its other diagonal.
+    fn move_odd_anti(&mut self, u: usize)
+        requires place { u < self.old.planes.stride * self.old.planes.rows }
+        requires lone { IsLoneAnti self.old.live_marks u u u u }
+        ensures part { let at = self.old.planes.words * u in TurnsPart at at at at
+            self.old.planes.words self.old.planes.odd.items self.old.planes.right.items
+            self.old.planes.down.items self.old.planes.even.items self.new.planes.odd.items
+            self.new.planes.right.items self.new.planes.down.items self.new.planes.even.items }
+        ensures size { HasSize self.old.planes.words self.old.planes.stride self.old.planes.rows
+            self.new.planes }
+    {
+        let stride = self.planes.stride();
+        mark(&mut self.odd_marks, u);
+        mark_around(&mut self.even_marks, u, stride, Changes::ANTI);
+        self.live_marks.swap_anti(u, u);
+        self.planes.swap_anti(u, u);
+    }
+
+    // Turns block u of the odd partition, unless it stays, and tells whether it turned it.
+    fn turn_odd_words(&mut self, u: usize) -> bool
+        requires { u < self.old.planes.stride * self.old.planes.rows }
+        ensures part { let at = self.old.planes.words * u in TurnsPart at at at at
+            self.old.planes.words self.old.planes.odd.items self.old.planes.right.items
+            self.old.planes.down.items self.old.planes.even.items self.new.planes.odd.items
+            self.new.planes.right.items self.new.planes.down.items self.new.planes.even.items }
+        ensures size { HasSize self.old.planes.words self.old.planes.stride self.old.planes.rows
+            self.new.planes }
+        ensures stays { result ≡ false → self.new.planes ≡ self.old.planes }
+    {
+        let changes = self.planes.odd_changes(u);
+        if changes.is_none() {
+            unmark(&mut self.odd_marks, u);
+            return false;
+        }
+        let stride = self.planes.stride();
+        mark(&mut self.odd_marks, u);
+        mark_around(&mut self.even_marks, u, stride, changes);
+        self.live_marks.mark_cells(u, u, u, u, changes);
+        self.planes.turn_odd(u);
+        true
+    }
+
+    // Turns block u of the odd partition, unless it stays, and tells whether it turned it. Its words are read only if
+    // two of its cells may be live.
+    fn turn_odd(&mut self, u: usize) -> bool
+        requires { u < self.old.planes.stride * self.old.planes.rows }
+        ensures part { let at = self.old.planes.words * u in TurnsPart at at at at
+            self.old.planes.words self.old.planes.odd.items self.old.planes.right.items
+            self.old.planes.down.items self.old.planes.even.items self.new.planes.odd.items
+            self.new.planes.right.items self.new.planes.down.items self.new.planes.even.items }
+        ensures size { HasSize self.old.planes.words self.old.planes.stride self.old.planes.rows
+            self.new.planes }
+        ensures stays { result ≡ false → self.new.planes ≡ self.old.planes }
+    {
+        if self.live_marks.are_dead(u, u, u, u) {
+            unmark(&mut self.odd_marks, u);
+            return false;
+        }
+        if self.is_exact && self.live_marks.is_lone_main(u, u, u, u) {
+            self.move_odd_main(u);
+            return true;
+        }
+        if self.is_exact && self.live_marks.is_lone_anti(u, u, u, u) {
+            self.move_odd_anti(u);
+            return true;
+        }
+        let is_turned = self.turn_odd_words(u);
+        self.drop_dead(u, u, u, u);
+        is_turned
+    }
+
+    // Turns block u of the even partition, of which no cell is live but one of its main diagonal: they change places.
+    fn move_even_main(&mut self, u: usize)
+        requires place { u + self.old.planes.stride + 1 < self.old.planes.stride
+            * self.old.planes.rows }
+        requires lone { let s = self.old.planes.stride in IsLoneMain self.old.live_marks
+            (u + s + 1) (u + s) (u + 1) u }
+        ensures part { let w = self.old.planes.words in TurnsPart (w * u) (w * (u + 1))
+            (w * (u + self.old.planes.stride)) (w * (u + self.old.planes.stride + 1)) w
+            self.old.planes.even.items self.old.planes.down.items self.old.planes.right.items
+            self.old.planes.odd.items self.new.planes.even.items self.new.planes.down.items
+            self.new.planes.right.items self.new.planes.odd.items }
+        ensures size { HasSize self.old.planes.words self.old.planes.stride self.old.planes.rows
+            self.new.planes }
+    {
+        let stride = self.planes.stride();
+        mark(&mut self.even_marks, u);
+        mark_corners(&mut self.odd_marks, u, stride, Changes::MAIN);
+        self.live_marks.swap_main(u + stride + 1, u);
+        self.planes.swap_main(u + stride + 1, u);
+    }
+
+    // The same for one cell of its other diagonal.
+    fn move_even_anti(&mut self, u: usize)
+        requires place { u + self.old.planes.stride + 1 < self.old.planes.stride
+            * self.old.planes.rows }
+        requires lone { let s = self.old.planes.stride in IsLoneAnti self.old.live_marks
+            (u + s + 1) (u + s) (u + 1) u }
+        ensures part { let w = self.old.planes.words in TurnsPart (w * u) (w * (u + 1))
+            (w * (u + self.old.planes.stride)) (w * (u + self.old.planes.stride + 1)) w
+            self.old.planes.even.items self.old.planes.down.items self.old.planes.right.items
+            self.old.planes.odd.items self.new.planes.even.items self.new.planes.down.items
+            self.new.planes.right.items self.new.planes.odd.items }
+        ensures size { HasSize self.old.planes.words self.old.planes.stride self.old.planes.rows
+            self.new.planes }
+    {
+        let stride = self.planes.stride();
+        mark(&mut self.even_marks, u);
+        mark_corners(&mut self.odd_marks, u, stride, Changes::ANTI);
+        self.live_marks.swap_anti(u + stride, u + 1);
+        self.planes.swap_anti(u + stride, u + 1);
+    }
+
+    // Turns block u of the even partition, unless it stays, and tells whether it turned it.
+    fn turn_even_words(&mut self, u: usize) -> bool
+        requires { u + self.old.planes.stride + 1 < self.old.planes.stride * self.old.planes.rows }
+        ensures part { let w = self.old.planes.words in TurnsPart (w * u) (w * (u + 1))
+            (w * (u + self.old.planes.stride)) (w * (u + self.old.planes.stride + 1)) w
+            self.old.planes.even.items self.old.planes.down.items self.old.planes.right.items
+            self.old.planes.odd.items self.new.planes.even.items self.new.planes.down.items
+            self.new.planes.right.items self.new.planes.odd.items }
+        ensures size { HasSize self.old.planes.words self.old.planes.stride self.old.planes.rows
+            self.new.planes }
+        ensures stays { result ≡ false → self.new.planes ≡ self.old.planes }
+    {
+        let changes = self.planes.even_changes(u);
+        if changes.is_none() {
+            unmark(&mut self.even_marks, u);
+            return false;
+        }
+        let stride = self.planes.stride();
+        mark(&mut self.even_marks, u);
+        mark_corners(&mut self.odd_marks, u, stride, changes);
+        self.live_marks
+            .mark_cells(u + stride + 1, u + stride, u + 1, u, changes);
+        self.planes.turn_even(u);
+        true
+    }
+
+    // Turns block u of the even partition, unless it stays, and tells whether it turned it. The last block of a row is
+    // not in the box and stays: its cells stand in the halo, at the right end of two rows and at the left end of the
+    // next two.
+    fn turn_even(&mut self, u: usize) -> bool
+        requires { u + self.old.planes.stride + 1 < self.old.planes.stride * self.old.planes.rows }
+        ensures part { (u + 1) % self.old.planes.stride ≢ 0 →
+            let w = self.old.planes.words in TurnsPart (w * u) (w * (u + 1))
+            (w * (u + self.old.planes.stride)) (w * (u + self.old.planes.stride + 1)) w
+            self.old.planes.even.items self.old.planes.down.items self.old.planes.right.items
+            self.old.planes.odd.items self.new.planes.even.items self.new.planes.down.items
+            self.new.planes.right.items self.new.planes.odd.items }
+        ensures size { HasSize self.old.planes.words self.old.planes.stride self.old.planes.rows
+            self.new.planes }
+        ensures last { (u + 1) % self.old.planes.stride ≡ 0 → self.new.planes ≡ self.old.planes }
+        ensures stays { result ≡ false → self.new.planes ≡ self.old.planes }
+    {
+        let stride = self.planes.stride();
+        if (u + 1) % stride == 0 {
+            unmark(&mut self.even_marks, u);
+            return false;
+        }
+        let (odd, right, down) = (u + stride + 1, u + stride, u + 1);
+        if self.live_marks.are_dead(odd, right, down, u) {
+            unmark(&mut self.even_marks, u);
+            return false;
+        }
+        if self.is_exact && self.live_marks.is_lone_main(odd, right, down, u) {
+            self.move_even_main(u);
+            return true;
+        }
+        if self.is_exact && self.live_marks.is_lone_anti(odd, right, down, u) {
+            self.move_even_anti(u);
+            return true;
+        }
+        let is_turned = self.turn_even_words(u);
+        self.drop_dead(odd, right, down, u);
+        is_turned
+    }
+
+    /// Turns the blocks whose upper left corner is odd, which fill box and halo. Returns whether a block may have
+    /// changed.
+    pub fn odd_step(&mut self) -> bool
+        ensures turned { (a x y : ℕ) → a < 64 * self.old.planes.words →
+            x < 2 * self.old.planes.stride → y < 2 * self.old.planes.rows →
+            lane self.new.planes a x y
+            ≡ turned (lane self.old.planes a x y) (lane self.old.planes a (mate x) (mate y))
+            (lane self.old.planes a (mate x) y) (lane self.old.planes a x (mate y)) }
+        ensures size { HasSize self.old.planes.words self.old.planes.stride self.old.planes.rows
+            self.new.planes }
+        ensures stays { result ≡ false → self.new.planes ≡ self.old.planes }
+    {
+        if self.whole_plane_steps > 0 {
+            self.whole_plane_steps -= 1;
+            mark_all(&mut self.odd_marks);
+            mark_all(&mut self.even_marks);
+            self.live_marks.mark_all();
+            self.is_exact = false;
+            self.planes.odd_step();
+            return true;
+        }
+        let cells = self.planes.cells();
+        let mut changed = 0;
+        let mut u = next_marked(&self.odd_marks, 0, cells);
+        'marked: while u < cells {
+            if self.turn_odd(u) {
+                changed += 1;
+            }
+            u = next_marked(&self.odd_marks, u + 1, cells);
+        }
+        // Where nothing was known all blocks had marks, and these fill box and halo.
+        self.is_exact = true;
+        if are_many(changed, cells, self.planes.words(), self.planes.stride()) {
+            self.whole_plane_steps = WHOLE_PLANE_STEPS;
+            return true;
+        }
+        changed > 0
+    }
+
+    /// Turns the blocks of the box whose upper left corner is even. Returns whether a cell of the box may have changed.
+    ///
+    /// It does not read the cells of the halo.
+    pub fn even_step(&mut self) -> bool
+        ensures turned { (a x y : ℕ) → a < 64 * self.old.planes.words →
+            x + 2 < 2 * self.old.planes.stride → y + 2 < 2 * self.old.planes.rows →
+            lane self.new.planes a (1 + x) (1 + y)
+            ≡ turned (lane self.old.planes a (1 + x) (1 + y))
+            (lane self.old.planes a (1 + mate x) (1 + mate y))
+            (lane self.old.planes a (1 + mate x) (1 + y))
+            (lane self.old.planes a (1 + x) (1 + mate y)) }
+        ensures size { HasSize self.old.planes.words self.old.planes.stride self.old.planes.rows
+            self.new.planes }
+        ensures stays { result ≡ false → SameInside self.old.planes self.new.planes }
+    {
+        if self.whole_plane_steps > 0 {
+            self.whole_plane_steps -= 1;
+            mark_all(&mut self.odd_marks);
+            mark_all(&mut self.even_marks);
+            self.live_marks.mark_all();
+            self.is_exact = false;
+            self.planes.even_step();
+            return true;
+        }
+        let cells = self.planes.cells() - self.planes.stride() - 1;
+        let mut changed = 0;
+        let mut u = next_marked(&self.even_marks, 0, cells);
+        'marked: while u < cells {
+            if self.turn_even(u) {
+                changed += 1;
+            }
+            u = next_marked(&self.even_marks, u + 1, cells);
+        }
+        if are_many(changed, cells, self.planes.words(), self.planes.stride()) {
+            self.whole_plane_steps = WHOLE_PLANE_STEPS;
+            return true;
+        }
+        changed > 0
+    }
+}
+
+impl MarkedPlanes {
+    ghost use Rattle.local_run.specs.Scans.{HasRow, PutsCell};
+
+    /// Sets a cell, counted from the halo, to what the signal says.
+    pub fn put(&mut self, values: &Values, x: usize, y: usize, signal: Signal)
+        requires place { (x / 2 < self.old.planes.stride) × (y / 2 < self.old.planes.rows) }
+        requires words { (values.now.words ≡ self.old.planes.words) × (values.now.words ≤ 64) }
+        requires row { HasRow values.now signal }
+        ensures put { PutsCell values.now x y signal self.old.planes self.new.planes }
+        ensures lines { self.new.line_marks ≡ self.old.line_marks }
+    {
+        let stride = self.planes.stride();
+        let u = stride * (y / 2) + x / 2;
+        mark(&mut self.odd_marks, u);
+        self.live_marks.mark_cells(u, u, u, u, Changes::BOTH);
+        mark_around(&mut self.even_marks, u, stride, Changes::BOTH);
+        values.put(&mut self.planes, x, y, signal);
+        self.drop_dead(u, u, u, u);
+    }
+}

@@ -1,0 +1,11 @@
+use Rattle.std.proofs.Common.{◌-◌, ◌≤◌, length}
+use Rattle.module_box.specs.Moments.{cell_cmp}
+use Rattle.module_box.specs.Schedules.{cell_of}
+use Rattle.module_box.proofs.Rising.{IsBetween}
+use Rattle.module_box.proofs.schedules.find_all_times.Given as goal
+
+abbrev pub invariant-search : goal.invariant-search
+invariant-search l = (l.high ≤ length l.all_times) × IsBetween cell_cmp cell_of l.all_times l.cell l.low l.high
+
+abbrev pub decreases-search : goal.decreases-search
+decreases-search l = l.high - l.low

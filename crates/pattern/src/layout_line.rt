@@ -1,0 +1,150 @@
+//! The parts of a layout: rectangles, ports, and its lines.
+ghost use Rattle.std.specs.Prelude.{◌≡◌, ◌+◌, ◌&&◌, nat_le};
+ghost use Rattle.pattern.specs.Layout.{in_layout};
+ghost use Rattle.pattern.specs.Lines.{begins, ends, is_inside, is_side, is_mirror_side, limit_fault, size_fault};
+
+use bbm_rule::Cell;
+use section_text::Name;
+
+/// A filled rectangle of cells: the column and the row of its upper left cell, its width and its height, in cells.
+///
+/// In a layout the sides are 1 to 512, and all its cells lie inside.
+#[derive(Clone, Copy, Debug, PartialEq, Eq)]
+pub struct Rectangle {
+    pub x: u32,
+    pub y: u32,
+    pub w: u32,
+    pub h: u32,
+}
+
+/// A cell of an input or of an output, with the name of its wire. Several cells may have one name.
+#[derive(Clone, Copy)]
+pub struct Port {
+    pub name: Name,
+    pub cell: Cell,
+}
+
+/// The first line of a layout: its width and its height in cells, and how many steps it runs.
+///
+/// In a layout the sides are even, 2 to 512, and the steps are at most 65,536.
+#[derive(Clone, Copy, Debug, PartialEq, Eq)]
+pub struct LayoutHeader {
+    pub w: u32,
+    pub h: u32,
+    pub steps: u32,
+}
+
+/// A line of a layout between its first and its last.
+#[derive(Clone, Copy)]
+pub enum LayoutLine {
+    /// Cells that are live at the start and at the end.
+    Mirror(Rectangle),
+    /// A cell that is live at the start.
+    Ball(Cell),
+    /// A cell that is live at the start if its input is on.
+    In(Port),
+    /// A cell that is live at the end if its output is on.
+    Out(Port),
+    /// A cell that may be live or dead at the end.
+    Waste(Cell),
+}
+
+fn is_even_side(n: u32) -> bool
+    ensures { result ≡ is_side n }
+{
+    2 <= n && n <= 512 && n % 2 == 0
+}
+
+fn has_mirror_sides(r: Rectangle) -> bool
+    ensures { result ≡ (is_mirror_side r.w && is_mirror_side r.h) }
+{
+    1 <= r.w && r.w <= 512 && 1 <= r.h && r.h <= 512
+}
+
+fn fits(r: Rectangle, size: LayoutHeader) -> bool
+    ensures { result ≡ (nat_le (r.x + r.w) size.w && nat_le (r.y + r.h) size.h) }
+{
+    u64::from(r.x) + u64::from(r.w) <= u64::from(size.w)
+        && u64::from(r.y) + u64::from(r.h) <= u64::from(size.h)
+}
+
+impl LayoutHeader {
+    /// Returns code 2 if a side or the steps are outside their limits.
+    #[tactic(auto, unfolding(crate::specs::Lines::size_fault))]
+    pub(crate) fn limit_code(self) -> Option<u8>
+        ensures { result ≡ size_fault self }
+    {
+        if is_even_side(self.w) && is_even_side(self.h) && self.steps <= 65_536 {
+            None
+        } else {
+            Some(2)
+        }
+    }
+
+    /// Returns whether the cell lies in the rectangle of this size at the origin.
+    ///
+    /// Its column is then 0 to `w` - 1, and its row 0 to `h` - 1.
+    #[tactic(auto, unfolding(bbm_rule::specs::Spans::in_span))]
+    pub fn holds(self, cell: Cell) -> bool
+        ensures { result ≡ in_layout self cell.x cell.y }
+    {
+        let x = i64::from(cell.x);
+        let y = i64::from(cell.y);
+        0 <= x && x < i64::from(self.w) && 0 <= y && y < i64::from(self.h)
+    }
+}
+
+impl LayoutLine {
+    /// Returns whether its cells are taken at the start.
+    #[tactic(auto, unfolding(crate::specs::Lines::begins))]
+    pub(crate) fn begins(&self) -> bool
+        ensures { result ≡ begins self.now }
+    {
+        match self {
+            LayoutLine::Mirror(_) => true,
+            LayoutLine::Ball(_) => true,
+            LayoutLine::In(_) => true,
+            LayoutLine::Out(_) => false,
+            LayoutLine::Waste(_) => false,
+        }
+    }
+
+    /// Returns whether its cells are taken at the end.
+    #[tactic(auto, unfolding(crate::specs::Lines::ends))]
+    pub(crate) fn ends(&self) -> bool
+        ensures { result ≡ ends self.now }
+    {
+        match self {
+            LayoutLine::Mirror(_) => true,
+            LayoutLine::Ball(_) => false,
+            LayoutLine::In(_) => false,
+            LayoutLine::Out(_) => true,
+            LayoutLine::Waste(_) => true,
+        }
+    }
+
+    /// Returns code 2 if a side of a mirror is outside its limits.
+    #[tactic(auto, unfolding(crate::specs::Lines::limit_fault))]
+    pub(crate) fn limit_code(&self) -> Option<u8>
+        ensures { result ≡ limit_fault self.now }
+    {
+        match self {
+            LayoutLine::Mirror(r) => { if has_mirror_sides(*r) { None } else { Some(2) } }
+            _ => None,
+        }
+    }
+
+    /// Returns whether all its cells lie inside the layout.
+    #[tactic(auto, unfolding(crate::specs::Lines::is_inside))]
+    pub(crate) fn is_inside(&self, size: LayoutHeader) -> bool
+        ensures { result ≡ is_inside size self.now }
+    {
+        match self {
+            LayoutLine::Mirror(r) => fits(*r, size),
+            LayoutLine::Ball(cell) => size.holds(*cell),
+            LayoutLine::In(port) => size.holds(port.cell),
+            LayoutLine::Out(port) => size.holds(port.cell),
+            LayoutLine::Waste(cell) => size.holds(*cell),
+        }
+    }
+}
