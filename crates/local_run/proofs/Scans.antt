@@ -1,13 +1,13 @@
 -- Words of assignments, and the first that differs
-use Rattle.std.proofs.Common.{◌≡◌, ◌≢◌, ℕ, Bool, true, false, ◌<◌, ◌≤◌, ◌+◌, ◌-◌, ◌*◌, ◌/◌, ◌%◌, ◌^◌, refl, arith, sym}
-use Rattle.std.proofs.Common.{◌∙◌, ap, ap₂, subst, List, [], ◌∷◌, ◌&&◌, zero, suc, length, get_or, set, get_or-set_same}
+use Rattle.std.proofs.Common.{◌≡◌, ◌≢◌, ℕ, Bool, true, false, ◌<◌, ◌≤◌, ◌+◌, ◌*◌, ◌/◌, ◌%◌, ◌^◌, refl, arith, sym, ◌∙◌}
+use Rattle.std.proofs.Common.{ap, ap₂, subst, List, [], ◌∷◌, ◌&&◌, zero, suc, length, get_or, set, get_or-set_same}
 use Rattle.std.proofs.Common.{get_or-set_other, w64, bit_and}
 use Rattle.std.specs.Prelude.{bit_xor}
 use Rattle.std.specs.Int.{bit_at, trailing_zeros}
 use Rattle.std.proofs.lemmas.Nat.Bits.{bit_at-trailing_zeros}
 use Rattle.std.proofs.lemmas.Bool.{and_parts}
 use Rattle.std.proofs.lemmas.Nat.{xor_lt}
-use Rattle.std.specs.Int.Bits.{and_lt, and_zero_l, xor_self}
+use Rattle.std.specs.Int.Bits.{and_lt}
 use Rattle.bbm_rule.specs.Bits.{bit}
 use Rattle.bbm_rule.proofs.BitLemmas.{by_lt_or_le, by_eq_or_not, xor, bit-and, bit-xor, bit-zero}
 use Rattle.module_job.specs.Signals.{IsBelow, is_live}
@@ -130,29 +130,13 @@ differs_bits vs p x y k s cells wanted defined d are should room is b l =
     bit-and (bit_xor cells wanted) defined b
     ∙ ap₂ (λ (u v : Bool). u && v) (bit-xor cells wanted b ∙ ap₂ xor (are b l) (should b l)) whole
 
--- where all cells are as they should be, none differs
-pub same_clear : (vs : Values) (p : Planes) (x y k : ℕ) (s : Signal) (cells wanted : ℕ) →
-    ((b : ℕ) → b < 64 → bit cells b ≡ lane p (64 * k + b) x y) →
-    ((b : ℕ) → b < 64 → bit wanted b ≡ is_live (valuation vs (64 * k + b)) s) →
-    k < length vs.rows.defined.items → cells ≡ wanted → ((a : ℕ) → a < 64 * k → differs vs p x y s a ≡ false) →
-    (a : ℕ) → a < 64 * (k + 1) → differs vs p x y s a ≡ false
-same_clear vs p x y k s cells wanted are should room same before =
-    let defined = get_or vs.rows.defined.items k 0 in
-    block_clear (differs vs p x y s) k (bit_and (bit_xor cells wanted) defined)
-    (differs_bits vs p x y k s cells wanted defined 0 are should room refl) before
-    (ap (λ (n : ℕ). bit_and n defined) (ap (λ (n : ℕ). bit_xor n wanted) same ∙ xor_self wanted) ∙ and_zero_l defined)
-
--- one more word is as the signal says
-pub shown_more : (vs : Values) (p : Planes) (x y k : ℕ) (s : Signal) (cells wanted : ℕ) →
-    ((b : ℕ) → b < 64 → bit cells b ≡ lane p (64 * k + b) x y) →
-    ((b : ℕ) → b < 64 → bit wanted b ≡ is_live (valuation vs (64 * k + b)) s) →
-    cells ≡ wanted → IsShown vs p x y s k → IsShown vs p x y s (k + 1)
-shown_more vs p x y k s cells wanted are should same before a l = by_lt_or_le a (64 * k)
-    (λ h. before a h)
-    (λ g. let e : 64 * k + (a - 64 * k) ≡ a = omega arith in
-    subst (λ (n : ℕ). lane p n x y ≡ is_live (valuation vs n) s) e
-    (sym (are (a - 64 * k) (omega arith)) ∙ ap (λ (n : ℕ). bit n (a - 64 * k)) same
-    ∙ should (a - 64 * k) (omega arith)))
+-- a cell is as the signal says, where each of its words is
+pub shown_all : (vs : Values) (p : Planes) (x y : ℕ) (s : Signal) (n : ℕ) →
+    ((k b : ℕ) → k < n → b < 64 → lane p (64 * k + b) x y ≡ is_live (valuation vs (64 * k + b)) s) →
+    IsShown vs p x y s n
+shown_all vs p x y s n same a l =
+    let e : 64 * (a / 64) + a % 64 ≡ a = omega arith in
+    subst (λ (m : ℕ). lane p m x y ≡ is_live (valuation vs m) s) e (same (a / 64) (a % 64) (omega arith) (omega arith))
 
 -- bit b of word k of the defined row
 pub defined_in_word : (vs : Values) (k b v d : ℕ) → b < 64 → k < length vs.rows.defined.items →

@@ -97,7 +97,7 @@ impl MarkedPlanes {
         mark_all(&mut odd_marks);
         mark_all(&mut even_marks);
         mark_border(&mut border_marks, planes.stride(), planes.rows());
-        Ok(MarkedPlanes {
+        let mut marked_planes = MarkedPlanes {
             planes,
             odd_marks,
             even_marks,
@@ -107,7 +107,9 @@ impl MarkedPlanes {
             line_marks,
             line_places: LinePlaces::first(),
             whole_plane_steps: 0,
-        })
+        };
+        marked_planes.drop_all();
+        Ok(marked_planes)
     }
 
     /// Returns the planes.
@@ -197,6 +199,16 @@ impl MarkedPlanes {
     {
         self.planes
             .drop_dead(&mut self.live_marks, odd, right, down, even);
+    }
+
+    // Takes the marks off all cells that are dead.
+    fn drop_all(&mut self)
+        ensures planes { self.new.planes ≡ self.old.planes }
+    {
+        for u in 0..self.planes.cells() {
+            self.drop_dead(u, u, u, u);
+        }
+        self.is_exact = true;
     }
 
     // Turns block u of the odd partition, of which no cell is live but one of its main diagonal: they change places.

@@ -185,6 +185,35 @@ fn flips_of(upper_left: u64, upper_right: u64, lower_left: u64, lower_right: u64
     )
 }
 
+// Whether some word from a place on in one slice is not that from a place on in another.
+#[inline(always)]
+fn are_different(first: &[u64], a: usize, second: &[u64], b: usize, long: usize) -> bool
+    requires { (a + long ≤ length first.now) × (b + long ≤ length second.now) }
+    ensures { result ≡ false → (k : ℕ) → k < long →
+        slice_index first.now (a + k) ≡ slice_index second.now (b + k) }
+{
+    for k in 0..long {
+        if first[a + k] != second[b + k] {
+            return true;
+        }
+    }
+    false
+}
+
+// Whether some word from a place on is not the given one.
+#[inline(always)]
+fn is_some_other(words: &[u64], a: usize, word: u64, long: usize) -> bool
+    requires { a + long ≤ length words.now }
+    ensures { result ≡ false → (k : ℕ) → k < long → slice_index words.now (a + k) ≡ word }
+{
+    for k in 0..long {
+        if words[a + k] != word {
+            return true;
+        }
+    }
+    false
+}
+
 /// The diagonals of a block that a turn changes: that of its upper left and lower right cells, and the other one.
 #[derive(Clone, Copy)]
 pub struct Changes {
@@ -516,6 +545,49 @@ impl Planes {
             self.right[at]
         } else {
             self.even[at]
+        }
+    }
+
+    /// Whether some word of a cell, counted from the halo, is not that of a row of words from a place on.
+    pub fn differs_from_row(&self, x: usize, y: usize, row: &[u64], from: usize) -> bool
+        requires place { (x / 2 < self.now.stride) × (y / 2 < self.now.rows) }
+        requires row { from + self.now.words ≤ length row.now }
+        ensures { result ≡ false → (k b : ℕ) → k < self.now.words → b < 64 →
+            bit (slice_index row.now (from + k)) b ≡ lane self.now (64 * k + b) x y }
+    {
+        let words = self.words;
+        let at = words * (self.stride * (y / 2) + x / 2);
+        if x % 2 == 0 {
+            if y % 2 == 0 {
+                are_different(&self.odd, at, row, from, words)
+            } else {
+                are_different(&self.down, at, row, from, words)
+            }
+        } else if y % 2 == 0 {
+            are_different(&self.right, at, row, from, words)
+        } else {
+            are_different(&self.even, at, row, from, words)
+        }
+    }
+
+    /// Whether some word of a cell, counted from the halo, is not the given one.
+    pub fn differs_from_word(&self, x: usize, y: usize, word: u64) -> bool
+        requires { (x / 2 < self.now.stride) × (y / 2 < self.now.rows) }
+        ensures { result ≡ false → (k b : ℕ) → k < self.now.words → b < 64 →
+            bit word b ≡ lane self.now (64 * k + b) x y }
+    {
+        let words = self.words;
+        let at = words * (self.stride * (y / 2) + x / 2);
+        if x % 2 == 0 {
+            if y % 2 == 0 {
+                is_some_other(&self.odd, at, word, words)
+            } else {
+                is_some_other(&self.down, at, word, words)
+            }
+        } else if y % 2 == 0 {
+            is_some_other(&self.right, at, word, words)
+        } else {
+            is_some_other(&self.even, at, word, words)
         }
     }
 

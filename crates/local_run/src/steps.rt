@@ -51,9 +51,9 @@ fn halo_signal(marked_planes: &MarkedPlanes, job: &Job, time: u32, x: usize, y: 
     }
 }
 
-// A cell of the halo becomes what its signal says, where it is one, has a line or may be live.
+// A cell of the halo becomes what its signal says, where it is one.
 #[tactic(auto, using(crate::proofs::Scans::row_from))]
-fn put_halo_cell(
+fn put_signal(
     marked_planes: &mut MarkedPlanes,
     values: &Values,
     job: &Job,
@@ -71,9 +71,6 @@ fn put_halo_cell(
     ensures rest { SameElsewhere job.now marked_planes.old.planes marked_planes.new.planes x y }
 {
     let area = job.area();
-    if !marked_planes.has_line(x, y) && !marked_planes.may_be_live(x, y) {
-        return;
-    }
     if 1 <= x && x <= area.w as usize && 1 <= y && y <= area.h as usize {
         return;
     }
@@ -81,6 +78,32 @@ fn put_halo_cell(
     if values.is_different(marked_planes.planes(), x, y, signal) {
         marked_planes.put(values, x, y, signal);
     }
+}
+
+// The same, where most cells have no line and are dead.
+#[inline(always)]
+fn put_halo_cell(
+    marked_planes: &mut MarkedPlanes,
+    values: &Values,
+    job: &Job,
+    time: u32,
+    x: usize,
+    y: usize,
+)
+    requires ready { IsReady job.now values.now }
+    requires shows { Shows job.now values.now time marked_planes.old.planes }
+    requires lines { AreLines job.now time marked_planes.old.line_marks.items }
+    requires place { (x < job.now.area.w + 2) × (y < job.now.area.h + 2) }
+    ensures shows { Shows job.now values.now time marked_planes.new.planes }
+    ensures lines { marked_planes.new.line_marks ≡ marked_planes.old.line_marks }
+    ensures here { HasHaloAt job.now values.now time marked_planes.new.planes x y }
+    ensures rest { SameElsewhere job.now marked_planes.old.planes marked_planes.new.planes x y }
+{
+    let _area = job.area();
+    if !marked_planes.has_line(x, y) && !marked_planes.may_be_live(x, y) {
+        return;
+    }
+    put_signal(marked_planes, values, job, time, x, y);
 }
 
 // The cells of the halo in a column and row of the planes become what their signals say.

@@ -133,13 +133,13 @@ impl Values {
             (λ a. (is_defined self.now a ≡ true)
             × (lane planes.now a x y ≢ is_live (valuation self.now a) signal)) result }
     {
+        // Most cells are as they should be.
+        if !self.is_different(planes, x, y, signal) {
+            return None;
+        }
         for k in 0..self.words {
             let cells = planes.word(x, y, k);
             let wanted = self.word(signal, k);
-            // Most words are as they should be.
-            if cells == wanted {
-                continue;
-            }
             let difference = (cells ^ wanted) & self.rows.defined[k];
             if difference != 0 {
                 let a = 64 * k as u32 + difference.trailing_zeros();
@@ -161,12 +161,13 @@ impl Values {
         requires row { HasRow self.now signal }
         ensures { result ≡ false → IsShown self.now planes.now x y signal self.now.words }
     {
-        for k in 0..self.words {
-            if planes.word(x, y, k) != self.word(signal, k) {
-                return true;
+        match signal {
+            Signal::Zero => planes.differs_from_word(x, y, 0),
+            Signal::One => planes.differs_from_word(x, y, 0xFFFF_FFFF_FFFF_FFFF),
+            Signal::Wire(wire) => {
+                planes.differs_from_row(x, y, &self.rows.values, self.words * wire as usize)
             }
         }
-        false
     }
 
     /// Returns whether each used gate has a row under some assignment. Only `false` is proved to be right.

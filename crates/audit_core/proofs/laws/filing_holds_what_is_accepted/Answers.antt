@@ -4,7 +4,7 @@ use Rattle.audit_core.proofs.laws.filing_holds_what_is_accepted.Goals as goal
 pub returns : goal.returns
 returns c = record {
   accepted = holds-what_is_accepted;
-  kept = keeps-what_is_held;
+  keeps_findings = keeps-what_is_held;
   nothing_else = holds-nothing_else;
   book = stays-book;
 }

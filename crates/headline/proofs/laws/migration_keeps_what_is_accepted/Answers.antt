@@ -6,7 +6,7 @@ pub returns : goal.returns
 returns c =
     record {
       unchanged = keeps_version_two;
-      same = says_the_same;
+      says_the_same = says_the_same;
       once = migrates_once;
       accepted = migration_is-accepted;
     }

@@ -2,7 +2,7 @@ use Rattle.std.proofs.Common.{◌≡◌, ◌<◌, ◌+◌, ◌*◌, arith, ℕ, 
 use Rattle.std.specs.Prelude.{bit_xor}
 use Rattle.bbm_rule.specs.Bits.{bit}
 use Rattle.local_run.proofs.Scans.{block_clear, block_first, difference_small, differs, differs_bits, differs_is}
-use Rattle.local_run.proofs.Scans.{differs_not, same_clear}
+use Rattle.local_run.proofs.Scans.{differs_not}
 use Rattle.local_run.proofs.values.Values.first_difference.Goals as goal
 
 pub returns-then-difference-ne0 : goal.returns-then-difference-ne0
@@ -17,12 +17,6 @@ returns-then-difference-ne0 c = λ a l.
     (difference_small c.word-cells.result c.word-wanted.result c.index.result.now (omega arith) (omega arith)
     (omega arith)) bits c.loop-k.invariant c.if-difference-ne0.true in
     differs_not c.args.self.now c.args.planes.now c.args.x c.args.y c.args.signal a (d.1 a (omega arith))
-
-pub loop-k-preserved-then-cells-wanted : goal.loop-k-preserved-then-cells-wanted
-loop-k-preserved-then-cells-wanted c =
-    same_clear c.args.self.now c.args.planes.now c.args.x c.args.y c.loop-k.k c.args.signal c.word-cells.result
-    c.word-wanted.result c.word-cells.ensures c.word-wanted.ensures
-    (omega arith) c.if-cells-wanted.true c.loop-k.invariant
 
 pub loop-k-preserved : goal.loop-k-preserved
 loop-k-preserved c =
@@ -53,3 +47,6 @@ returns-then-a-self c =
 pub returns : goal.returns
 returns c = λ a l. differs_not c.args.self.now c.args.planes.now c.args.x c.args.y c.args.signal a
     (c.loop-k.invariant a (omega arith))
+
+pub returns-then-not-is_different : goal.returns-then-not-is_different
+returns-then-not-is_different c = λ a l f. f.1 (c.is_different.ensures c.if-not-is_different.true a (omega arith))

@@ -1,7 +1,33 @@
-use Rattle.local_run.proofs.Scans.{shown_more}
+use Rattle.std.proofs.Common.{refl, arith, subst, sym, ◌∙◌}
+use Rattle.bbm_rule.proofs.BitLemmas.{bit-zero}
+use Rattle.bbm_rule.proofs.MarkLemmas.{bit_ones}
+use Rattle.module_box.specs.declared.schedules.Signal.{Signal}
+use Rattle.module_box.specs.declared.schedules.Signal.TheVariants.{One, Wire, Zero}
+use Rattle.local_run.specs.Scans.{HasRow, IsShown}
+use Rattle.local_run.proofs.Scans.{row_in_word, shown_all}
 use Rattle.local_run.proofs.values.Values.is_different.Goals as goal
 
-pub loop-k-preserved : goal.loop-k-preserved
-loop-k-preserved c =
-    shown_more c.args.self.now c.args.planes.now c.args.x c.args.y c.loop-k.k c.args.signal c.word.result
-    c.word-in-loop-k.result c.word.ensures c.word-in-loop-k.ensures c.if-word.false c.loop-k.invariant
+pub returns-in-Zero : goal.returns-in-Zero
+returns-in-Zero c = λ same.
+    let vs = c.args.self.now in
+    subst (λ (s : Signal). IsShown vs c.args.planes.now c.args.x c.args.y s vs.words) (sym c.in-Zero.is)
+    (shown_all vs c.args.planes.now c.args.x c.args.y Zero vs.words
+    (λ k b lk l. sym (c.differs_from_word.ensures same k b (omega arith) l) ∙ bit-zero b))
+
+pub returns-in-One : goal.returns-in-One
+returns-in-One c = λ same.
+    let vs = c.args.self.now in
+    subst (λ (s : Signal). IsShown vs c.args.planes.now c.args.x c.args.y s vs.words) (sym c.in-One.is)
+    (shown_all vs c.args.planes.now c.args.x c.args.y One vs.words
+    (λ k b lk l. sym (c.differs_from_word-in-One.ensures same k b (omega arith) l) ∙ bit_ones b l))
+
+pub returns-in-Wire : goal.returns-in-Wire
+returns-in-Wire c = λ same.
+    let vs = c.args.self.now in
+    let w = c.in-Wire.wire in
+    let row = rw c.deref.ensures.value at c.differs_from_row.ensures in
+    let h : HasRow vs (Wire w) = subst (HasRow vs) c.in-Wire.is c.requires.row in
+    subst (λ (s : Signal). IsShown vs c.args.planes.now c.args.x c.args.y s vs.words) (sym c.in-Wire.is)
+    (shown_all vs c.args.planes.now c.args.x c.args.y (Wire w) vs.words
+    (λ k b lk l. sym (row same k b (omega arith) l)
+    ∙ row_in_word vs.words k b w _ 0 vs.rows.values.items l (omega arith) refl))
