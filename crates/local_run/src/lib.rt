@@ -9,13 +9,14 @@
 //! All assignments are run at once: each cell has a bit for each of them, and the cells lie in planes whose words are
 //! turned together. The search goes through faults in their order, so the first one that it finds is the least.
 //!
-//! The run passes over
+//! A run skips:
 //!
-//! - a block until one of its cells changes,
-//! - a cell of ring and halo that is dead and has no line,
-//! - and the times up to the next line or stop if two steps changed nothing.
+//! - a block until one of its cells changes;
+//! - a cell of ring or halo that is dead and has no line;
+//! - the times up to the next line or stop, if two steps changed nothing.
 //!
-//! If many blocks change, it turns whole planes.
+//! Cells that may be live have marks, and the words of the other cells are not read: the only live cell of a block
+//! changes places with the opposite one. If many blocks change, whole planes are turned.
 //!
 //! The step is that of Norman Margolus's billiard ball model (Physics-like Models of Computation, 1984).
 #![tactic(auto)]

@@ -2,8 +2,8 @@
 //!
 //! A block stays if under no assignment exactly one of its diagonals has a live cell: an empty one, one in a mirror,
 //! one with two balls side by side. A block that was seen to stay does so until one of its cells changes, so a step
-//! looks only at the blocks near cells that changed. After a step in which many blocks change, some steps turn whole
-//! planes.
+//! looks only at the blocks near cells that changed. It turns word by word only blocks in which two cells may be live.
+//! After a step in which many blocks change, some steps turn whole planes.
 
 ghost use Rattle.bbm_rule.specs.Plane.{turned};
 ghost use Rattle.bbm_rule.specs.Rows.{mate};
@@ -34,6 +34,10 @@ pub struct MarkedPlanes {
     live_marks: LiveMarks,
     // whether each cell with a mark is known to be live, so that one that is alone in its block may move unread
     is_exact: bool,
+    // up to how many odd times the words of all blocks are read that are looked at, and how many more blocks had two
+    // live cells, up to now, than one or none
+    busy: u32,
+    crowd: u32,
     // and for the numbers of cells of ring and halo
     border_marks: Vec<u64>,
     // and for those of which an edge or halo line says something at the time that is looked at, and for these cells
@@ -64,6 +68,12 @@ const MARKED_WORD_COST: usize = 5;
 
 // What a step that turns whole planes costs more for each cell of a row and each row.
 const WHOLE_ROW_COST: usize = 48;
+
+// For how many odd times the words of all blocks are read, after that many more blocks with two live cells than with
+// one or none.
+const BUSY: u32 = 31;
+
+const CROWD: u32 = 64;
 
 // Whether it costs less to turn all blocks, with that many words a cell and cells a row, than to go by marks where so
 // many change. A block that changes has up to four others looked at, two for each of its diagonals that changes. Where
@@ -103,6 +113,8 @@ impl MarkedPlanes {
             even_marks,
             live_marks,
             is_exact: false,
+            busy: 0,
+            crowd: 0,
             border_marks,
             line_marks,
             line_places: LinePlaces::first(),
@@ -128,8 +140,22 @@ impl MarkedPlanes {
         ensures planes { self.new.planes ≡ self.old.planes }
         ensures lines { AreLines job.now time self.new.line_marks.items }
     {
+        self.count_down();
         self.line_marks.copy_from_slice(values.all_times_marks());
         mark_lines(&mut self.line_marks, &mut self.line_places, job, time);
+    }
+
+    // Counts the times at which the words of all blocks are read.
+    fn count_down(&mut self)
+        ensures { self.new.planes ≡ self.old.planes }
+    {
+        if self.busy == 0 {
+            return;
+        }
+        self.busy -= 1;
+        if self.busy == 0 {
+            self.drop_all();
+        }
     }
 
     /// Returns the next number from `from` on whose cells of ring and halo must be looked at, or how many numbers there
@@ -199,6 +225,25 @@ impl MarkedPlanes {
     {
         self.planes
             .drop_dead(&mut self.live_marks, odd, right, down, even);
+    }
+
+    // Counts a block, that may have two live cells or has fewer. Where most have two, it costs less to read their words
+    // at once.
+    fn count_block(&mut self, is_full: bool)
+        ensures planes { self.new.planes ≡ self.old.planes }
+        ensures odd { self.new.odd_marks ≡ self.old.odd_marks }
+        ensures even { self.new.even_marks ≡ self.old.even_marks }
+        ensures live { self.new.live_marks ≡ self.old.live_marks }
+    {
+        if !is_full {
+            self.crowd = self.crowd.saturating_sub(1);
+        } else if self.crowd < CROWD {
+            self.crowd += 1;
+        } else {
+            self.crowd = 0;
+            self.busy = BUSY;
+            self.is_exact = false;
+        }
     }
 
     // Takes the marks off all cells that are dead.
@@ -273,7 +318,7 @@ impl MarkedPlanes {
 
     // Turns block u of the odd partition, unless it stays, and tells whether it turned it. Its words are read only if
     // two of its cells may be live.
-    fn turn_odd(&mut self, u: usize) -> bool
+    fn turn_odd_by_marks(&mut self, u: usize) -> bool
         requires { u < self.old.planes.stride * self.old.planes.rows }
         ensures part { let at = self.old.planes.words * u in TurnsPart at at at at
             self.old.planes.words self.old.planes.odd.items self.old.planes.right.items
@@ -285,18 +330,43 @@ impl MarkedPlanes {
     {
         if self.live_marks.are_dead(u, u, u, u) {
             unmark(&mut self.odd_marks, u);
+            self.count_block(false);
             return false;
         }
         if self.is_exact && self.live_marks.is_lone_main(u, u, u, u) {
             self.move_odd_main(u);
+            self.count_block(false);
             return true;
         }
         if self.is_exact && self.live_marks.is_lone_anti(u, u, u, u) {
             self.move_odd_anti(u);
+            self.count_block(false);
             return true;
         }
         let is_turned = self.turn_odd_words(u);
         self.drop_dead(u, u, u, u);
+        self.count_block(true);
+        is_turned
+    }
+
+    // Turns block u of the odd partition, unless it stays, and tells whether it turned it.
+    fn turn_odd(&mut self, u: usize) -> bool
+        requires { u < self.old.planes.stride * self.old.planes.rows }
+        ensures part { let at = self.old.planes.words * u in TurnsPart at at at at
+            self.old.planes.words self.old.planes.odd.items self.old.planes.right.items
+            self.old.planes.down.items self.old.planes.even.items self.new.planes.odd.items
+            self.new.planes.right.items self.new.planes.down.items self.new.planes.even.items }
+        ensures size { HasSize self.old.planes.words self.old.planes.stride self.old.planes.rows
+            self.new.planes }
+        ensures stays { result ≡ false → self.new.planes ≡ self.old.planes }
+    {
+        if self.busy == 0 {
+            return self.turn_odd_by_marks(u);
+        }
+        let is_turned = self.turn_odd_words(u);
+        if !is_turned && !self.planes.is_live_at_first(u) {
+            self.drop_dead(u, u, u, u);
+        }
         is_turned
     }
 
@@ -368,6 +438,42 @@ impl MarkedPlanes {
         true
     }
 
+    // Turns block u of the even partition, unless it stays, and tells whether it turned it. Its words are read only if
+    // two of its cells may be live.
+    fn turn_even_by_marks(&mut self, u: usize) -> bool
+        requires { u + self.old.planes.stride + 1 < self.old.planes.stride * self.old.planes.rows }
+        ensures part { let w = self.old.planes.words in TurnsPart (w * u) (w * (u + 1))
+            (w * (u + self.old.planes.stride)) (w * (u + self.old.planes.stride + 1)) w
+            self.old.planes.even.items self.old.planes.down.items self.old.planes.right.items
+            self.old.planes.odd.items self.new.planes.even.items self.new.planes.down.items
+            self.new.planes.right.items self.new.planes.odd.items }
+        ensures size { HasSize self.old.planes.words self.old.planes.stride self.old.planes.rows
+            self.new.planes }
+        ensures stays { result ≡ false → self.new.planes ≡ self.old.planes }
+    {
+        let stride = self.planes.stride();
+        let (odd, right, down) = (u + stride + 1, u + stride, u + 1);
+        if self.live_marks.are_dead(odd, right, down, u) {
+            unmark(&mut self.even_marks, u);
+            self.count_block(false);
+            return false;
+        }
+        if self.is_exact && self.live_marks.is_lone_main(odd, right, down, u) {
+            self.move_even_main(u);
+            self.count_block(false);
+            return true;
+        }
+        if self.is_exact && self.live_marks.is_lone_anti(odd, right, down, u) {
+            self.move_even_anti(u);
+            self.count_block(false);
+            return true;
+        }
+        let is_turned = self.turn_even_words(u);
+        self.drop_dead(odd, right, down, u);
+        self.count_block(true);
+        is_turned
+    }
+
     // Turns block u of the even partition, unless it stays, and tells whether it turned it. The last block of a row is
     // not in the box and stays: its cells stand in the halo, at the right end of two rows and at the left end of the
     // next two.
@@ -384,27 +490,14 @@ impl MarkedPlanes {
         ensures last { (u + 1) % self.old.planes.stride ≡ 0 → self.new.planes ≡ self.old.planes }
         ensures stays { result ≡ false → self.new.planes ≡ self.old.planes }
     {
-        let stride = self.planes.stride();
-        if (u + 1) % stride == 0 {
+        if (u + 1) % self.planes.stride() == 0 {
             unmark(&mut self.even_marks, u);
             return false;
         }
-        let (odd, right, down) = (u + stride + 1, u + stride, u + 1);
-        if self.live_marks.are_dead(odd, right, down, u) {
-            unmark(&mut self.even_marks, u);
-            return false;
+        if self.busy > 0 {
+            return self.turn_even_words(u);
         }
-        if self.is_exact && self.live_marks.is_lone_main(odd, right, down, u) {
-            self.move_even_main(u);
-            return true;
-        }
-        if self.is_exact && self.live_marks.is_lone_anti(odd, right, down, u) {
-            self.move_even_anti(u);
-            return true;
-        }
-        let is_turned = self.turn_even_words(u);
-        self.drop_dead(odd, right, down, u);
-        is_turned
+        self.turn_even_by_marks(u)
     }
 
     /// Turns the blocks whose upper left corner is odd, which fill box and halo. Returns whether a block may have

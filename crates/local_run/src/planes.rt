@@ -416,6 +416,14 @@ impl Planes {
         self.stride * (y / 2) + x / 2
     }
 
+    /// Returns whether some cell with number u is live under one of the first 64 assignments.
+    pub fn is_live_at_first(&self, u: usize) -> bool
+        requires { u < self.now.stride * self.now.rows }
+    {
+        let at = self.words * u;
+        (self.odd[at] | self.right[at] | self.down[at] | self.even[at]) != 0
+    }
+
     /// Turns block u of the odd partition.
     pub fn turn_odd(&mut self, u: usize)
         requires { u < self.old.stride * self.old.rows }
@@ -548,7 +556,7 @@ impl Planes {
         }
     }
 
-    /// Whether some word of a cell, counted from the halo, is not that of a row of words from a place on.
+    /// Returns whether some word of a cell, counted from the halo, is not that of a row of words from a place on.
     pub fn differs_from_row(&self, x: usize, y: usize, row: &[u64], from: usize) -> bool
         requires place { (x / 2 < self.now.stride) × (y / 2 < self.now.rows) }
         requires row { from + self.now.words ≤ length row.now }
@@ -570,7 +578,7 @@ impl Planes {
         }
     }
 
-    /// Whether some word of a cell, counted from the halo, is not the given one.
+    /// Returns whether some word of a cell, counted from the halo, is not the given one.
     pub fn differs_from_word(&self, x: usize, y: usize, word: u64) -> bool
         requires { (x / 2 < self.now.stride) × (y / 2 < self.now.rows) }
         ensures { result ≡ false → (k b : ℕ) → k < self.now.words → b < 64 →

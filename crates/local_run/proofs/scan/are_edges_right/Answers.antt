@@ -33,7 +33,7 @@ border-preserved c =
     let stride : c.planes-planes.result.now.stride ≡ j.area.w / 2 + 1 =
     ap (λ (p : Planes). p.stride) p ∙ c.requires.shows.size.1 in
     let number : (j.area.w / 2 + 1) * c.place-column.result.1 + c.place-column.result.0 ≡ c.border.u =
-    ap (λ s. s * c.place-column.result.1 + c.place-column.result.0) (sym stride) ∙ at.is in
+    ap (λ s. s * c.place-column.result.1 + c.place-column.result.0) (sym stride) ∙ at.place_is_exact in
     record {
       within =
           omega

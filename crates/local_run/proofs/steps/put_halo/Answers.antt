@@ -27,7 +27,7 @@ border-preserved c =
     let stride : c.planes-in-border.result.now.stride ≡ j.area.w / 2 + 1 =
     ap (λ (p : Planes). p.stride) p ∙ m.shows.size.1 in
     let number : (j.area.w / 2 + 1) * c.place-column.result.1 + c.place-column.result.0 ≡ c.border.u =
-    ap (λ s. s * c.place-column.result.1 + c.place-column.result.0) (sym stride) ∙ at.is in
+    ap (λ s. s * c.place-column.result.1 + c.place-column.result.0) (sym stride) ∙ at.place_is_exact in
     let old : c.cells-cells.result ≡ (j.area.w / 2 + 1) * (j.area.h / 2 + 1) =
     c.cells-cells.ensures.count_is_exact ∙ ap (λ (p : Planes). p.stride * p.rows) c.planes.ensures
     ∙ ap₂ (λ s r. s * r) c.requires.shows.size.1 c.requires.shows.size.2 in

@@ -4,7 +4,7 @@ use Rattle.local_run.specs.Calm.{OddCalm}
 use Rattle.local_run.proofs.TurnLemmas.{calm_block}
 use Rattle.local_run.proofs.CalmLemmas.{odd_unmarked}
 use Rattle.local_run.proofs.LiveLemmas.{dead_calm}
-use Rattle.local_run.proofs.marked_planes.MarkedPlanes.turn_odd.Goals as goal
+use Rattle.local_run.proofs.marked_planes.MarkedPlanes.turn_odd_by_marks.Goals as goal
 
 pub invariant_of-self-clause-odd_calm : goal.invariant_of-self-clause-odd_calm
 invariant_of-self-clause-odd_calm c =
@@ -28,6 +28,7 @@ returns-then-are_dead-clause-part c =
     let u = c.args.u in
     let free = c.are_dead.ensures c.if-are_dead.true in
     let dead = f.all_dead in
-    calm_block p.words u u u u p.odd.items p.right.items p.down.items p.even.items
+    rw c.count_block.ensures.planes
+    (calm_block p.words u u u u p.odd.items p.right.items p.down.items p.even.items
     (dead_calm p.words u u u u p.odd.items p.right.items p.down.items p.even.items (dead.0 u c.requires free.0)
-    (dead.1 u c.requires free.1) (dead.2 u c.requires free.2) (dead.3 u c.requires free.3))
+    (dead.1 u c.requires free.1) (dead.2 u c.requires free.2) (dead.3 u c.requires free.3)))
