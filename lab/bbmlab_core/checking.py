@@ -18,6 +18,9 @@ from .terminal import LabError, painted, read_bytes
 WORDS = {"yes": "yes", "no": "no", "refused": "refused", "timeout": "time-out", "missing": "missing", "error": "error"}
 COLOURS = {"yes": "green", "no": "red", "refused": "red"}
 
+# The status with which the program ends after each kind of report.
+STATUS_OF = {"yes": 0, "no": 1, "refused": 3}
+
 
 @dataclass
 class Result:
@@ -64,6 +67,9 @@ def check_file(program: str, file: str, timeout: float | None) -> Result:
         return result("timeout", str(error))
     except (ProgramError, ReportError) as error:
         return result("error", str(error))
+    word = "refused" if report.refused else report.verdict
+    if answer.status != STATUS_OF[word]:
+        return result("error", f"the report says {word}, and the status is {answer.status}")
     if report.refused:
         return result("refused", answer.output.strip(), output=answer.output)
     faults = report.faults

@@ -45,7 +45,8 @@ class Check(unittest.TestCase):
         """A time-out, a crash and a program that is not there are no noes."""
         with tempfile.TemporaryDirectory() as room:
             file = support.example("gate_and_mirror")
-            for body, word in [("exec sleep 5\n", "time-out"), ("exit 70\n", "error"), ("echo hello\n", "error")]:
+            yes = r"printf 'bbmcheck 1\ncertificate %064d\nmodules 1\nverdict yes\n' 0; exit 1" + "\n"
+            for body, word in [("exec sleep 5\n", "time-out"), ("exit 70\n", "error"), ("echo hello\n", "error"), (yes, "error")]:
                 ended = support.lab("check", "--program", fake_program(room, body), "--timeout", "0.3", file)
                 with self.subTest(word):
                     self.assertEqual(ended.returncode, 4)
