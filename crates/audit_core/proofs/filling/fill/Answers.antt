@@ -14,12 +14,12 @@ fill_open-requires c =
       | then-not-own+in_ok-to_vec+in_ok-state w ↦
           let same = clones-same arc_value c.args.jobs.now w.in_ok-to_vec.field-0.items w.in_ok-to_vec.ensures.ok in
           record {
-            own = new-open digest jobs c.if-not-own.state
+            open_for_jobs = new-open digest jobs c.if-not-own.state
                 (w.state-is ∙ w.in_ok-state.ensures ∙ ap (new_book digest) same);
           }
       | else-not-own w ↦
           record {
-            own = subst (IsOpenFor digest jobs) (sym w.state-is)
+            open_for_jobs = subst (IsOpenFor digest jobs) (sym w.state-is)
                 (c.is_open_for-own.ensures.open_for_jobs w.if-not-own.false);
           }
     ]
