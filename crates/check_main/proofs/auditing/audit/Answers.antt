@@ -15,7 +15,7 @@ complete-requires g c =
     let copied = clones-same arc_value c.in_ok-jobs.jobs.items c.in_ok-copies.copies.items
     c.in_ok-copies.ensures.cases.0 in
     record {
-      own = record {
+      open_for_jobs = record {
         still_open = still.still_open;
         digest_is = still.digest_is ∙ own_digest c.in_ok-state.state _ _ c.in_ok-state.ensures;
         jobs_are = still.jobs_are ∙ own_jobs c.in_ok-state.state _ _ c.in_ok-state.ensures
