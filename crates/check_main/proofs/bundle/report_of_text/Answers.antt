@@ -30,29 +30,30 @@ returns-in-Err-read_layout g c =
           c.refused-in-Err-read_layout.ensures.told;
     }
 
-pub returns-in-Err-read_certificate : goal.returns-in-Err-read_certificate
-returns-in-Err-read_certificate g c =
+pub returns-in-Err-read_certificate_with_digest : goal.returns-in-Err-read_certificate_with_digest
+returns-in-Err-read_certificate_with_digest g c =
     let fails = certificate_failed c.args.feed c.read_circuit.new.feed c.requires.unread c.requires.going
     c.in-Ok.circuit c.in-Ok.ensures (named_ports c.in_ok-ports.ports) c.read_layout.new.feed c.in_ok-ports.ensures.ports
-    c.in-Ok-read_layout.layout c.in-Ok-read_layout.ensures.reads c.read_certificate.new.feed
-    c.in-Err-read_certificate.fault c.in-Err-read_certificate.ensures.reads in
+    c.in-Ok-read_layout.layout c.in-Ok-read_layout.ensures.reads c.read_certificate_with_digest.new.feed
+    c.in-Err-read_certificate_with_digest.fault c.in-Err-read_certificate_with_digest.ensures.reads in
     record {
-      answered = IfOk-weaker c.refused-in-Err-read_certificate.result _ _
+      answered = IfOk-weaker c.refused-in-Err-read_certificate_with_digest.result _ _
           (λ answered told. refusal_answers SaysReport
-          (bundle_of c.args.feed.text) c.in-Err-read_certificate.fault answered.output.items answered.outcome fails
-          told) c.refused-in-Err-read_certificate.ensures.told;
+          (bundle_of c.args.feed.text) c.in-Err-read_certificate_with_digest.fault answered.output.items
+          answered.outcome fails
+          told) c.refused-in-Err-read_certificate_with_digest.ensures.told;
     }
 
 pub returns-in-Err-finish : goal.returns-in-Err-finish
 returns-in-Err-finish g c =
     let going = going_3 c.args.feed c.read_circuit.new.feed c.requires.unread c.requires.going c.in-Ok.circuit
     c.in-Ok.ensures (named_ports c.in_ok-ports.ports) c.read_layout.new.feed c.in_ok-ports.ensures.ports
-    c.in-Ok-read_layout.layout c.in-Ok-read_layout.ensures.reads c.read_certificate.new.feed
-    c.in-Ok-read_certificate.cert c.in-Ok-read_certificate.ensures.reads in
+    c.in-Ok-read_layout.layout c.in-Ok-read_layout.ensures.reads c.read_certificate_with_digest.new.feed
+    c.in-Ok-read_certificate_with_digest.cert c.in-Ok-read_certificate_with_digest.ensures.reads in
     let fails = bundle_goes_on c.args.feed c.read_circuit.new.feed c.requires.unread c.requires.going c.in-Ok.circuit
     c.in-Ok.ensures (named_ports c.in_ok-ports.ports) c.read_layout.new.feed c.in_ok-ports.ensures.ports
-    c.in-Ok-read_layout.layout c.in-Ok-read_layout.ensures.reads c.read_certificate.new.feed
-    c.in-Ok-read_certificate.cert c.in-Ok-read_certificate.ensures.reads
+    c.in-Ok-read_layout.layout c.in-Ok-read_layout.ensures.reads c.read_certificate_with_digest.new.feed
+    c.in-Ok-read_certificate_with_digest.cert c.in-Ok-read_certificate_with_digest.ensures.reads
     c.in-Err-finish.fault (c.in-Err-finish.ensures.more going) (c.in-Err-finish.ensures.fault going).0 in
     record {
       answered = IfOk-weaker c.refused-in-Err-finish.result _ _
@@ -65,17 +66,19 @@ pub returns : goal.returns
 returns g c =
     let going = going_3 c.args.feed c.read_circuit.new.feed c.requires.unread c.requires.going c.in-Ok.circuit
     c.in-Ok.ensures (named_ports c.in_ok-ports.ports) c.read_layout.new.feed c.in_ok-ports.ensures.ports
-    c.in-Ok-read_layout.layout c.in-Ok-read_layout.ensures.reads c.read_certificate.new.feed
-    c.in-Ok-read_certificate.cert c.in-Ok-read_certificate.ensures.reads in
+    c.in-Ok-read_layout.layout c.in-Ok-read_layout.ensures.reads c.read_certificate_with_digest.new.feed
+    c.in-Ok-read_certificate_with_digest.cert c.in-Ok-read_certificate_with_digest.ensures.reads in
     let done = c.in_default.ensures.ok going in
     let was_read = bundle_read c.args.feed c.read_circuit.new.feed c.requires.unread c.requires.going c.in-Ok.circuit
     c.in-Ok.ensures (named_ports c.in_ok-ports.ports) c.read_layout.new.feed c.in_ok-ports.ensures.ports
-    c.in-Ok-read_layout.layout c.in-Ok-read_layout.ensures.reads c.read_certificate.new.feed
-    c.in-Ok-read_certificate.cert c.in-Ok-read_certificate.ensures.reads
-    c.in-Ok-read_certificate.ensures.circuit c.in-Ok-read_certificate.ensures.layout done.0 done.1 in
+    c.in-Ok-read_layout.layout c.in-Ok-read_layout.ensures.reads c.read_certificate_with_digest.new.feed
+    c.in-Ok-read_certificate_with_digest.cert c.in-Ok-read_certificate_with_digest.ensures.reads
+    c.in-Ok-read_certificate_with_digest.ensures.circuit c.in-Ok-read_certificate_with_digest.ensures.layout done.0
+    done.1 in
     record {
       answered = IfOk-weaker c.report_on.result _ _
           (λ answered says. bundle_answers SaysReport
-          (bundle_of c.args.feed.text) c.in-Ok-read_certificate.cert answered.output.items answered.outcome was_read
+          (bundle_of c.args.feed.text) c.in-Ok-read_certificate_with_digest.cert answered.output.items answered.outcome
+          was_read
           says) c.report_on.ensures.says;
     }
